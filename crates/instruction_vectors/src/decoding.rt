@@ -1,3 +1,4 @@
+use crate::spelled::Spelled;
 use ia32_decode::{Decoded, decode};
 use ia32_types::{Insn, same_insn};
 use std::process::Abort;
@@ -9,14 +10,13 @@ mod refusals;
 mod sites;
 mod unary;
 
-/// The bytes of one instruction, how GNU objdump shows them, and the instruction.
+/// The bytes of one instruction, and the instruction.
 struct Spelling {
-    text: &'static str,
-    bytes: &'static [u8],
+    bytes: Spelled,
     insn: Insn,
 }
 
-// Text, bytes; name, size, destination, source, immediate, selector or condition, and whether it repeats.
+// How GNU objdump shows the bytes, which is for the reader; the bytes; name, size, destination, source, immediate, selector or condition, and whether it repeats.
 macro_rules! spelling {
     (@ (-)) => { ia32_types::Operand::Absent };
     (@ (reg $number:literal)) => { ia32_types::Operand::Register($number) };
@@ -37,8 +37,7 @@ macro_rules! spelling {
     };
     ($text:literal, [$($byte:literal),*], $op:ident $size:ident $a:tt $b:tt $imm:literal $sel:literal $rep:literal) => {
         Spelling {
-            text: $text,
-            bytes: &[$($byte),*],
+            bytes: crate::spelled::bytes!($($byte),*),
             insn: ia32_types::Insn {
                 op: ia32_types::Op::$op,
                 size: ia32_types::Size::$size,
@@ -56,9 +55,9 @@ use spelling;
 
 /// The bytes are decoded to the instruction, and to their number.
 fn is_decoded(spelling: &Spelling) -> bool {
-    match decode(spelling.bytes) {
+    match decode(spelling.bytes.as_slice()) {
         Decoded::Insn(insn, len) => {
-            same_insn(&insn, &spelling.insn) && usize::from(len) == spelling.bytes.len()
+            same_insn(&insn, &spelling.insn) && usize::from(len) == spelling.bytes.len
         }
         Decoded::Short | Decoded::Outside => false,
     }
@@ -66,7 +65,7 @@ fn is_decoded(spelling: &Spelling) -> bool {
 
 /// Each of these is decoded.
 fn are_decoded(rt: &impl Abort, spellings: &[Spelling]) {
-    for spelling in spellings {
-        assert!(rt; is_decoded(spelling), "{}", spelling.text);
+    for (k, spelling) in spellings.iter().enumerate() {
+        assert!(rt; is_decoded(spelling), "row {k}");
     }
 }

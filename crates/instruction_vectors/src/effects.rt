@@ -144,17 +144,19 @@ fn step(insn: &Insn, len: u8, regs: &mut Regs, mem: &mut Flat) -> Option<Effect>
     Some(exec(insn, len, regs, mem))
 }
 
+const AT_START: [u32; 8] = [
+    1,
+    2,
+    3,
+    4,
+    BASE + 0x80,
+    BASE + 0x90,
+    BASE + 0x20,
+    BASE + 0x30,
+];
+
 const START: Regs = Regs {
-    r: [
-        1,
-        2,
-        3,
-        4,
-        BASE + 0x80,
-        BASE + 0x90,
-        BASE + 0x20,
-        BASE + 0x30,
-    ],
+    r: AT_START,
     eip: 0x1000,
     flags: Flags { bits: 2 },
 };
@@ -322,7 +324,6 @@ const REGISTERS: [u32; 8] = [
 ];
 
 /// An instruction, the registers and flags before and after it, and a sum of the memory after it.
-#[derive(Clone, Copy, Debug)]
 struct Case {
     op: Op,
     size: Size,
@@ -367,7 +368,8 @@ fn turns(insn: &Insn, regs: &mut Regs, mem: &mut Flat) {
     }
 }
 
-fn check_against(rt: &impl Abort, case: &Case) {
+/// The instruction passes, and does what the case says.
+fn agrees(case: &Case) -> bool {
     let insn = Insn {
         op: case.op,
         size: case.size,
@@ -385,14 +387,15 @@ fn check_against(rt: &impl Abort, case: &Case) {
     };
     let mut mem = filled();
     turns(&insn, &mut regs, &mut mem);
-    assert_eq!(rt; regs.eip, 1, "{case:?}");
-    assert_eq!(rt; regs.r, case.after, "{case:?}");
-    assert_eq!(rt; regs.flags.bits, case.flags_after, "{case:?}");
-    assert_eq!(rt; sum_of(&mem), case.memory, "{case:?}");
+    regs.eip == 1
+        && regs.r == case.after
+        && regs.flags.bits == case.flags_after
+        && sum_of(&mem) == case.memory
 }
 
-fn check_all(rt: &impl Abort, cases: &[Case]) {
-    for case in cases {
-        check_against(rt, case);
+/// Each case does.
+fn agree(rt: &impl Abort, cases: &[Case]) {
+    for (k, case) in cases.iter().enumerate() {
+        assert!(rt; agrees(case), "case {k}");
     }
 }

@@ -1,3 +1,4 @@
+use crate::spelled::Spelled;
 use ia32_decode::{Decoded, decode};
 use ia32_encode::{ArrayBytes, NoForm, Wide, encode};
 use ia32_types::Insn;
@@ -18,14 +19,17 @@ const BEFORE: ArrayBytes = ArrayBytes {
 
 /// The bytes of an instruction, and its chosen spelling.
 struct Choice {
-    text: &'static str,
-    spelled: &'static [u8],
-    chosen: &'static [u8],
+    spelled: Spelled,
+    chosen: Spelled,
 }
 
+// The text is for the reader.
 macro_rules! choice {
     ($text:literal, [$($byte:literal),*] [$($chosen:literal),*]) => {
-        Choice { text: $text, spelled: &[$($byte),*], chosen: &[$($chosen),*] }
+        Choice {
+            spelled: crate::spelled::bytes!($($byte),*),
+            chosen: crate::spelled::bytes!($($chosen),*),
+        }
     };
 }
 
@@ -33,18 +37,17 @@ use choice;
 
 /// The chosen spelling of an instruction, which fields name a symbol, and where the fields stand.
 struct Placed {
-    text: &'static str,
-    bytes: &'static [u8],
+    bytes: Spelled,
     wide: Wide,
     disp_at: u8,
     imm_at: u8,
 }
 
+// The text is for the reader.
 macro_rules! placed {
     ($text:literal, [$($byte:literal),*], $disp:literal $imm:literal, $disp_at:literal $imm_at:literal) => {
         Placed {
-            text: $text,
-            bytes: &[$($byte),*],
+            bytes: crate::spelled::bytes!($($byte),*),
             wide: Wide { disp: $disp, imm: $imm },
             disp_at: $disp_at,
             imm_at: $imm_at,
@@ -99,16 +102,17 @@ fn is_kept(bytes: &[u8]) -> bool {
 }
 
 fn is_chosen(choice: &Choice) -> bool {
-    match written(choice.spelled, NARROW) {
-        Some(into) => are_written(&into, choice.chosen),
+    match written(choice.spelled.as_slice(), NARROW) {
+        Some(into) => are_written(&into, choice.chosen.as_slice()),
         None => false,
     }
 }
 
-fn are_placed(placed: &Placed) -> bool {
-    match written(placed.bytes, placed.wide) {
+fn is_placed(placed: &Placed) -> bool {
+    let bytes = placed.bytes.as_slice();
+    match written(bytes, placed.wide) {
         Some(into) => {
-            are_written(&into, placed.bytes)
+            are_written(&into, bytes)
                 && into.disp_at == placed.disp_at
                 && into.imm_at == placed.imm_at
         }
@@ -122,16 +126,16 @@ fn has_no_form(insn: &Insn, wide: Wide) -> bool {
     encode(insn, wide, &mut into) == Err(NoForm) && into == BEFORE
 }
 
-/// Each of these is its own chosen spelling.
-fn are_kept(rt: &impl Abort, rows: &[&[u8]]) {
-    for bytes in rows {
-        assert!(rt; is_kept(bytes), "{bytes:?}");
+/// Each of these has its chosen spelling.
+fn are_chosen(rt: &impl Abort, choices: &[Choice]) {
+    for (k, choice) in choices.iter().enumerate() {
+        assert!(rt; is_chosen(choice), "row {k}");
     }
 }
 
-/// Each of these has its chosen spelling.
-fn are_chosen(rt: &impl Abort, choices: &[Choice]) {
-    for choice in choices {
-        assert!(rt; is_chosen(choice), "{}", choice.text);
+/// Each of these is written so.
+fn are_placed(rt: &impl Abort, rows: &[Placed]) {
+    for (k, placed) in rows.iter().enumerate() {
+        assert!(rt; is_placed(placed), "row {k}");
     }
 }

@@ -14,3 +14,5 @@ mod encoding;
 mod named;
 #[cfg(test)]
 mod numbers;
+#[cfg(test)]
+mod spelled;

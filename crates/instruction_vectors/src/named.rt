@@ -92,20 +92,23 @@ fn named(op: Op) -> Insn {
     }
 }
 
+fn is_made(op: Op, kind: SiteKind, number: u8) -> bool {
+    sensitive(&named(op)) == Some(kind) && kind as u8 == number
+}
+
 #[test]
 fn sites_have_kinds_and_numbers(rt: HostRuntime) {
     for row in &SITES {
         let (number, kind, op) = *row;
-        assert!(rt; sensitive(&named(op)) == Some(kind), "{op:?}");
-        assert!(rt; kind as u8 == number, "{kind:?}");
+        assert!(rt; is_made(op, kind, number), "{number}");
     }
     assert!(rt; SiteKind::StiHlt as u8 == 3);
 }
 
 #[test]
 fn other_instructions_make_no_site(rt: HostRuntime) {
-    for op in &PLAIN {
-        assert!(rt; sensitive(&named(*op)) == None, "{op:?}");
+    for (k, op) in PLAIN.iter().enumerate() {
+        assert!(rt; sensitive(&named(*op)).is_none(), "row {k}");
     }
 }
 
@@ -131,13 +134,17 @@ const STOPS: [(u8, Stop); 5] = [
 ];
 
 #[test]
-fn numbers_are_the_documented_ones(rt: HostRuntime) {
+fn registers_have_the_documented_numbers(rt: HostRuntime) {
     for row in &REGISTERS {
         let (number, reg) = *row;
-        assert!(rt; reg.number() == number, "{reg:?}");
+        assert!(rt; reg.number() == number, "{number}");
     }
+}
+
+#[test]
+fn stops_have_the_documented_numbers(rt: HostRuntime) {
     for row in &STOPS {
         let (number, stop) = *row;
-        assert!(rt; stop as u8 == number, "{stop:?}");
+        assert!(rt; stop as u8 == number, "{number}");
     }
 }

@@ -30,25 +30,30 @@ fn outcome(op: Op, size: Size, a: u32, b: u32, bits: u32) -> Option<(u32, u32)> 
     Some((value, after.bits))
 }
 
-/// Each row is the instruction's outcome.
+/// The row is the instruction's outcome.
+fn agrees(row: &Row) -> bool {
+    let (op, size, a, b, bits, value, after) = *row;
+    match outcome(op, size, a, b, bits) {
+        Some((found, flags)) => found == value && flags == after,
+        None => false,
+    }
+}
+
+/// Each row is.
 fn agree(rt: &impl Abort, rows: &[Row]) {
-    for row in rows {
-        let (op, size, a, b, bits, value, after) = *row;
-        assert_eq!(rt;
-            outcome(op, size, a, b, bits),
-            Some((value, after)),
-            "{row:?}"
-        );
+    for (k, row) in rows.iter().enumerate() {
+        assert!(rt; agrees(row), "row {k}");
     }
 }
 
 #[test]
 fn a_quotient_that_does_not_fit(rt: HostRuntime) {
-    assert_eq!(rt; divide(false, Size::Long, 1, 0, 1), None);
+    assert!(rt; divide(false, Size::Long, 1, 0, 1).is_none());
 }
+
+const WRAPS: Row = (Op::Add, Size::Byte, 0xff, 1, 2, 0, 0x57);
 
 #[test]
 fn a_sum_that_wraps(rt: HostRuntime) {
-    let (value, flags) = alu(Op::Add, Size::Byte, 0xff, 1, Flags { bits: 2 });
-    assert_eq!(rt; (value, flags.bits), (0, 0x57));
+    assert!(rt; agrees(&WRAPS));
 }

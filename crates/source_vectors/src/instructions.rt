@@ -1,6 +1,8 @@
 use asm_instruction::{Assembled, Named, Refusal, assemble};
 use asm_parse::{Body, SourceItem, parse};
-use std::test::*;
+use std::alloc::Global;
+use std::fmt;
+use std::process::Abort;
 
 mod arithmetic;
 mod control;
@@ -11,54 +13,37 @@ mod refusals;
 mod shifts;
 mod stack;
 
-/// A line of a source, its bytes, and the fields that name symbols.
-struct Line {
-    text: &'static str,
-    bytes: &'static [u8],
-    disp: Option<Named>,
-    imm: Option<Named>,
+// A row is a statement, the bytes that it comes to, and the fields that name symbols: the field, its place, the number of
+// its argument, and whether it is relative.
+
+/// What stands behind the arrow of a row.
+#[derive(Drop)]
+struct Listed<'a>(&'a Assembled);
+
+fn list_named<W: fmt::Write>(
+    f: &mut fmt::Formatter<W>,
+    field: &str,
+    named: &Option<Named>,
+) -> fmt::Result {
+    match named {
+        None => Ok(()),
+        Some(named) => {
+            let relative = if named.relative { " relative" } else { "" };
+            write!(f, " {field} {} {}{relative}", named.at, named.argument)
+        }
+    }
 }
 
-// A field is written as its place and the number of its argument.
-macro_rules! assembles {
-    ($text:literal, [$($byte:literal),*]) => {
-        Line { text: $text, bytes: &[$($byte),*], disp: None, imm: None }
-    };
-    ($text:literal, [$($byte:literal),*], disp $at:literal $argument:literal) => {
-        Line {
-            text: $text,
-            bytes: &[$($byte),*],
-            disp: Some(Named { at: $at, argument: $argument, relative: false }),
-            imm: None,
+impl fmt::Display for Listed<'_> {
+    fn fmt<W: fmt::Write>(&self, f: &mut fmt::Formatter<W>) -> fmt::Result {
+        let spelling = &self.0.spelling;
+        for byte in spelling.bytes.iter().take(usize::from(spelling.len)) {
+            write!(f, " {byte:02x}")?;
         }
-    };
-    ($text:literal, [$($byte:literal),*], imm $at:literal $argument:literal) => {
-        Line {
-            text: $text,
-            bytes: &[$($byte),*],
-            disp: None,
-            imm: Some(Named { at: $at, argument: $argument, relative: false }),
-        }
-    };
-    ($text:literal, [$($byte:literal),*], distance $at:literal $argument:literal) => {
-        Line {
-            text: $text,
-            bytes: &[$($byte),*],
-            disp: None,
-            imm: Some(Named { at: $at, argument: $argument, relative: true }),
-        }
-    };
-    ($text:literal, [$($byte:literal),*], disp $at:literal $argument:literal, imm $place:literal $number:literal) => {
-        Line {
-            text: $text,
-            bytes: &[$($byte),*],
-            disp: Some(Named { at: $at, argument: $argument, relative: false }),
-            imm: Some(Named { at: $place, argument: $number, relative: false }),
-        }
-    };
+        list_named(f, "disp", &self.0.disp)?;
+        list_named(f, "imm", &self.0.imm)
+    }
 }
-
-use assembles;
 
 fn answer(items: &[SourceItem]) -> Option<Result<Assembled, Refusal>> {
     match items {
@@ -75,42 +60,33 @@ fn answer(items: &[SourceItem]) -> Option<Result<Assembled, Refusal>> {
 }
 
 /// What is answered for the only statement of a source.
-fn assembled(rt: &HostRuntime, text: &str) -> Option<Result<Assembled, Refusal>> {
-    match parse(rt.alloc(), text.as_bytes()) {
+fn assembled(alloc: Global, text: &str) -> Option<Result<Assembled, Refusal>> {
+    match parse(alloc, text.as_bytes()) {
         Ok(source) => answer(&source.items),
         Err(_) => None,
     }
 }
 
-fn is_assembled(rt: &HostRuntime, line: &Line) -> bool {
-    match assembled(rt, line.text) {
-        Some(Ok(whole)) => {
-            usize::from(whole.spelling.len) == line.bytes.len()
-                && whole.spelling.bytes.as_slice().starts_with(line.bytes)
-                && whole.disp == line.disp
-                && whole.imm == line.imm
-        }
+fn is_listed(alloc: Global, text: &str, listed: &str) -> bool {
+    match assembled(alloc, text) {
+        Some(Ok(whole)) => match format!(in alloc; "{}", Listed(&whole)) {
+            Ok(found) => found.as_str() == listed,
+            Err(_) => false,
+        },
         _ => false,
     }
 }
 
-/// The first line that is not assembled so.
-fn first_wrong(rt: &HostRuntime, lines: &[Line]) -> Option<&'static str> {
-    for line in lines {
-        if !is_assembled(rt, line) {
-            return Some(line.text);
-        }
+fn is_assembled(alloc: Global, row: &str) -> bool {
+    match row.split_once(" =>") {
+        Some((text, listed)) => is_listed(alloc, text, listed),
+        None => false,
     }
-    None
 }
 
-fn is_refused(rt: &HostRuntime, text: &str, refusal: Refusal) -> bool {
-    assembled(rt, text) == Some(Err(refusal))
-}
-
-fn is_taken(rt: &HostRuntime, text: &str) -> bool {
-    match assembled(rt, text) {
-        Some(Ok(_)) => true,
-        _ => false,
+/// Each row is assembled so.
+fn are_assembled(rt: &impl Abort, alloc: Global, rows: &str) {
+    for row in rows.lines() {
+        assert!(rt; is_assembled(alloc, row), "{row}");
     }
 }

@@ -1,21 +1,21 @@
 use asm_lex::SourceFault;
-use asm_parse::{Body, Form, parse};
+use asm_parse::{Body, Form, SourceItem, parse};
 use std::alloc::{AllocError, Global};
 use std::test::*;
 
-/// The line and the number of a refusal.
-fn fault(rt: &HostRuntime, text: &[u8]) -> Option<(u32, u8)> {
+/// Whether a source is refused at this line, by this number.
+fn is_refused(rt: &HostRuntime, text: &[u8], line: u32, number: u8) -> bool {
     match parse(rt.alloc(), text) {
-        Err(SourceFault::At { line, cause }) => Some((line, cause.number())),
-        _ => None,
+        Err(SourceFault::At { line: at, cause }) => at == line && cause.number() == number,
+        _ => false,
     }
 }
 
-/// The number of items.
-fn items(rt: &HostRuntime, text: &[u8]) -> Option<usize> {
+/// Whether a source has so many items.
+fn has_items(rt: &HostRuntime, text: &[u8], count: usize) -> bool {
     match parse(rt.alloc(), text) {
-        Ok(source) => Some(source.items.len()),
-        Err(_) => None,
+        Ok(source) => source.items.len() == count,
+        Err(_) => false,
     }
 }
 
@@ -54,7 +54,7 @@ const READ: [(&str, usize); 22] = [
 #[test]
 fn each_directive_is_read(rt: HostRuntime) {
     for (text, count) in READ.iter() {
-        assert_eq!(rt; items(&rt, text.as_bytes()), Some(*count));
+        assert!(rt; has_items(&rt, text.as_bytes(), *count), "{text}");
     }
 }
 
@@ -119,8 +119,8 @@ const FAULTS: [(&str, u32, u8); 55] = [
 
 #[test]
 fn faults_have_their_lines_and_causes(rt: HostRuntime) {
-    for (text, line, cause) in FAULTS.iter() {
-        assert_eq!(rt; fault(&rt, text.as_bytes()), Some((*line, *cause)));
+    for (text, line, number) in FAULTS.iter() {
+        assert!(rt; is_refused(&rt, text.as_bytes(), *line, *number), "{text}");
     }
 }
 
@@ -136,9 +136,9 @@ fn newlines(alloc: Global, count: usize) -> Result<Vec<u8>, AllocError> {
 #[test]
 fn longest_source_is_read(rt: HostRuntime) {
     let text = newlines(rt.alloc(), 4194304).expect(&rt, "memory");
-    assert_eq!(rt; items(&rt, &text), Some(0));
+    assert!(rt; has_items(&rt, &text, 0));
     let text = newlines(rt.alloc(), 4194305).expect(&rt, "memory");
-    assert_eq!(rt; fault(&rt, &text), Some((1, 13)));
+    assert!(rt; is_refused(&rt, &text, 1, 13));
 }
 
 /// A label for each number below this, each in a line.
@@ -156,9 +156,9 @@ fn labels(alloc: Global, count: u32) -> Result<Vec<u8>, AllocError> {
 #[test]
 fn symbols_are_limited(rt: HostRuntime) {
     let text = labels(rt.alloc(), 65536).expect(&rt, "memory");
-    assert_eq!(rt; items(&rt, &text), Some(65536));
+    assert!(rt; has_items(&rt, &text, 65536));
     let text = labels(rt.alloc(), 65537).expect(&rt, "memory");
-    assert_eq!(rt; fault(&rt, &text), Some((65537, 14)));
+    assert!(rt; is_refused(&rt, &text, 65537, 14));
 }
 
 /// A source in whose first 65,536 lines as many names are defined.
@@ -179,72 +179,77 @@ const LAST_LINES: [(&str, u32, u8); 3] = [
 
 #[test]
 fn no_name_is_left(rt: HostRuntime) {
-    for (end, line, cause) in LAST_LINES.iter() {
+    for (end, line, number) in LAST_LINES.iter() {
         let text = behind_all(rt.alloc(), end).expect(&rt, "memory");
-        assert_eq!(rt; fault(&rt, &text), Some((*line, *cause)));
+        assert!(rt; is_refused(&rt, &text, *line, *number), "{end}");
     }
 }
 
-/// The number, the base and the scale of the first argument.
-fn address(rt: &HostRuntime, text: &[u8]) -> Option<(i64, bool, u8)> {
-    let Ok(source) = parse(rt.alloc(), text) else {
-        return None;
-    };
-    let Some(item) = source.items.first() else {
-        return None;
-    };
-    let Body::Instruction {
-        rep: _,
-        name: _,
-        arguments,
-    } = &item.body
-    else {
-        return None;
-    };
-    let Some(argument) = arguments.list.first() else {
-        return None;
-    };
-    match &argument.form {
-        Form::Memory {
-            value: Some(value),
-            base,
-            index: _,
-            scale,
-        } => { Some((value.number, base.is_some(), *scale)) }
+/// The first argument of an instruction that is the first item.
+fn operand(items: &[SourceItem]) -> Option<&Form> {
+    match &items.first()?.body {
+        Body::Instruction {
+            rep: _,
+            name: _,
+            arguments,
+        } => Some(&arguments.list.first()?.form),
         _ => None,
+    }
+}
+
+/// An operand, its number, whether it has a base, and its scale.
+type Address = (&'static str, i64, bool, u8);
+
+const ADDRESSES: [Address; 3] = [
+    ("push a--5(%eax,%ebx,8)", 5, true, 8),
+    ("push -0x80000000(,%eax)", -2147483648, false, 1),
+    ("push 037777777777", 4294967295, false, 1),
+];
+
+fn is_address(form: Option<&Form>, row: &Address) -> bool {
+    match form {
+        Some(
+            Form::Memory {
+                value: Some(value),
+                base,
+                index: _,
+                scale,
+            },
+        ) => value.number == row.1 && base.is_some() == row.2 && *scale == row.3,
+        _ => false,
+    }
+}
+
+fn has_address(rt: &HostRuntime, row: &Address) -> bool {
+    match parse(rt.alloc(), row.0.as_bytes()) {
+        Ok(source) => is_address(operand(&source.items), row),
+        Err(_) => false,
     }
 }
 
 #[test]
 fn operands_have_their_numbers(rt: HostRuntime) {
-    assert_eq!(rt; address(&rt, b"push a--5(%eax,%ebx,8)"), Some((5, true, 8)));
-    assert_eq!(rt;
-        address(&rt, b"push -0x80000000(,%eax)"),
-        Some((-2147483648, false, 1))
-    );
-    assert_eq!(rt;
-        address(&rt, b"push 037777777777"),
-        Some((4294967295, false, 1))
-    );
+    for row in &ADDRESSES {
+        assert!(rt; has_address(&rt, row), "{}", row.0);
+    }
 }
 
-/// The bytes of the first argument of the first directive.
-fn text(rt: &HostRuntime, source: &[u8]) -> Option<Vec<u8>> {
-    let Ok(source) = parse(rt.alloc(), source) else {
-        return None;
-    };
-    let Some(item) = source.items.first() else {
-        return None;
-    };
-    let Body::Directive { name: _, arguments } = &item.body else {
-        return None;
-    };
-    let Some(argument) = arguments.list.first() else {
-        return None;
-    };
-    match &argument.form {
-        Form::Text(text) => Vec::from_slice(rt.alloc(), &text.bytes).ok(),
+/// The first argument of a directive that is the first item.
+fn argument(items: &[SourceItem]) -> Option<&Form> {
+    match &items.first()?.body {
+        Body::Directive { name: _, arguments } => Some(&arguments.list.first()?.form),
         _ => None,
+    }
+}
+
+/// Whether that has these bytes.
+fn has_bytes(rt: &HostRuntime, source: &str, bytes: &[u8]) -> bool {
+    match parse(rt.alloc(), source.as_bytes()) {
+        Ok(source) => match argument(&source.items) {
+            Some(Form::Text(text)) => text.bytes.as_slice() == bytes,
+            _ => false,
+        },
+        Err(_) => false,
     }
 }
 
@@ -264,11 +269,6 @@ const BYTES: [(&str, &str); 9] = [
 #[test]
 fn strings_and_sections_have_their_bytes(rt: HostRuntime) {
     for (source, bytes) in BYTES.iter() {
-        assert!(rt;
-            text(&rt, source.as_bytes())
-                .expect(&rt, "memory")
-                .as_slice()
-                == bytes.as_bytes()
-        );
+        assert!(rt; has_bytes(&rt, source, bytes.as_bytes()), "{source}");
     }
 }

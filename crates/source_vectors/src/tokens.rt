@@ -27,30 +27,23 @@ const LEXED: [Token; 12] = [
 
 #[test]
 fn tokens_have_their_kinds_and_places(rt: HostRuntime) {
-    let tokens = lex(rt.alloc(), b"a:\t.long 'b, \"c;\" # d\n-08$/* \n */").err();
-    assert_eq!(rt;
-        tokens,
-        Some(SourceFault::At {
-            line: 2,
-            cause: SourceCause::BadNumber
-        })
-    );
     let tokens = lex(rt.alloc(), b"a:\t.long 'b, \"c;\" # d\n-0x8F,a/* \n */;").expect(
         &rt, "memory",
     );
     assert!(rt; tokens.as_slice() == LEXED.as_slice());
 }
 
-/// The line and the number of a refusal.
-fn fault(rt: &HostRuntime, text: &[u8]) -> Option<(u32, u8)> {
+/// Whether a text is refused at this line, by this number.
+fn is_refused(rt: &HostRuntime, text: &[u8], line: u32, number: u8) -> bool {
     match lex(rt.alloc(), text) {
-        Err(SourceFault::At { line, cause }) => Some((line, cause.number())),
-        _ => None,
+        Err(SourceFault::At { line: at, cause }) => at == line && cause.number() == number,
+        _ => false,
     }
 }
 
 /// A text, and the line and the number of its refusal.
-const REFUSED: [(&str, u32, u8); 12] = [
+const REFUSED: [(&str, u32, u8); 13] = [
+    ("a:\t.long 'b, \"c;\" # d\n-08$/* \n */", 2, 6),
     ("a\n\u{7f}", 2, 1),
     ("# \u{1}", 1, 1),
     ("a !", 1, 2),
@@ -67,8 +60,8 @@ const REFUSED: [(&str, u32, u8); 12] = [
 
 #[test]
 fn refusals_have_their_lines(rt: HostRuntime) {
-    for (text, line, cause) in REFUSED.iter() {
-        assert_eq!(rt; fault(&rt, text.as_bytes()), Some((*line, *cause)));
+    for (text, line, number) in REFUSED.iter() {
+        assert!(rt; is_refused(&rt, text.as_bytes(), *line, *number), "{text}");
     }
 }
 
@@ -79,7 +72,7 @@ fn refusals_show_their_numbers(rt: HostRuntime) {
         cause: SourceCause::TooLong,
     };
     let text = format!(in rt.alloc(); "{fault}").expect(&rt, "memory");
-    assert_eq!(rt; text.as_str(), "refused 13 line 7");
+    assert!(rt; text.as_str() == "refused 13 line 7");
 }
 
 /// A text of this many lines with one instruction each.
@@ -95,9 +88,8 @@ fn long_text(rt: &HostRuntime, lines: usize) -> Result<Vec<u8>, AllocError> {
 fn long_texts_have_all_their_tokens(rt: HostRuntime) {
     let text = long_text(&rt, 1000).expect(&rt, "memory");
     let tokens = lex(rt.alloc(), &text).expect(&rt, "memory");
-    assert_eq!(rt; tokens.len(), 2000);
-    let last = tokens.last().copied();
-    assert_eq!(rt; last, Some(token!(TokenKind::End, 3999, 1)));
+    assert!(rt; tokens.len() == 2000);
+    assert!(rt; tokens[1999] == token!(TokenKind::End, 3999, 1));
     let source = parse(rt.alloc(), &text).expect(&rt, "memory");
-    assert_eq!(rt; source.items.len(), 1000);
+    assert!(rt; source.items.len() == 1000);
 }

@@ -1,7 +1,7 @@
 use super::{Spelling, are_decoded, spelling};
 
 /// ADD to CMP, as GNU objdump reads the bytes.
-const ARITHMETIC_1: [Spelling; 56] = [
+const ARITHMETIC: [Spelling; 115] = [
     spelling!("addb %cl,%bl", [0x00, 0xcb], Add Byte (reg 3) (reg 1) 0 0 false),
     spelling!("addb %cl,(%eax)", [0x00, 0x08], Add Byte (mem Eax - 1 0) (reg 1) 0 0 false),
     spelling!("addl %ebx,%esi", [0x01, 0xde], Add Long (reg 6) (reg 3) 0 0 false),
@@ -58,10 +58,6 @@ const ARITHMETIC_1: [Spelling; 56] = [
     spelling!("andb %ch,(%ebx,%edx,2)", [0x20, 0x2c, 0x53], And Byte (mem Ebx Edx 2 0) (reg 5) 0 0 false),
     spelling!("andl %edi,%eax", [0x21, 0xf8], And Long (reg 0) (reg 7) 0 0 false),
     spelling!("andl %edi,(%edi,%esi,4)", [0x21, 0x3c, 0xb7], And Long (mem Edi Esi 4 0) (reg 7) 0 0 false),
-];
-
-/// ADD to CMP, as GNU objdump reads the bytes.
-const ARITHMETIC_2: [Spelling; 56] = [
     spelling!("andb.s %bl,%cl", [0x22, 0xcb], And Byte (reg 1) (reg 3) 0 0 false),
     spelling!("andb (%ecx,%ebp,8),%cl", [0x22, 0x0c, 0xe9], And Byte (reg 1) (mem Ecx Ebp 8 0) 0 0 false),
     spelling!("andl (%esp),%edx", [0x23, 0x14, 0x24], And Long (reg 2) (mem Esp - 1 0) 0 0 false),
@@ -118,26 +114,12 @@ const ARITHMETIC_2: [Spelling; 56] = [
     spelling!("cmpl $0x1,0x0(%ebp)", [0x81, 0x7d, 0x00, 0x01, 0x00, 0x00, 0x00], Cmp Long (mem Ebp - 1 0) (-) 1 0 false),
     spelling!("addb $0x33,%al", [0x80, 0xc0, 0x33], Add Byte (reg 0) (-) 0x33 0 false),
     spelling!("subb $0xff,%cl", [0x80, 0xe9, 0xff], Sub Byte (reg 1) (-) 0xff 0 false),
-];
-
-/// ADD to CMP, as GNU objdump reads the bytes.
-const ARITHMETIC_3: [Spelling; 3] = [
     spelling!("addl $0x7f,%eax", [0x83, 0xc0, 0x7f], Add Long (reg 0) (-) 0x7f 0 false),
     spelling!("addl $0xffffff80,%ecx", [0x83, 0xc1, 0x80], Add Long (reg 1) (-) 0xffffff80 0 false),
     spelling!("addl (%esp),%eax", [0x03, 0x04, 0x24], Add Long (reg 0) (mem Esp - 1 0) 0 0 false),
 ];
 
 #[test]
-fn arithmetic_1_are_decoded(rt: HostRuntime) {
-    are_decoded(&rt, &ARITHMETIC_1);
-}
-
-#[test]
-fn arithmetic_2_are_decoded(rt: HostRuntime) {
-    are_decoded(&rt, &ARITHMETIC_2);
-}
-
-#[test]
-fn arithmetic_3_are_decoded(rt: HostRuntime) {
-    are_decoded(&rt, &ARITHMETIC_3);
+fn arithmetic_is_decoded(rt: HostRuntime) {
+    are_decoded(&rt, &ARITHMETIC);
 }

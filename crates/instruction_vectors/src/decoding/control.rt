@@ -1,7 +1,7 @@
 use super::{Spelling, are_decoded, spelling};
 
 /// Branches, SETcc, interrupts, strings and single bytes, as GNU objdump reads the bytes.
-const CONTROL_1: [Spelling; 56] = [
+const CONTROL: [Spelling; 75] = [
     spelling!("cwtl", [0x98], Cwde Long (-) (-) 0 0 false),
     spelling!("cltd", [0x99], Cdq Long (-) (-) 0 0 false),
     spelling!("leavel", [0xc9], Leave Long (-) (-) 0 0 false),
@@ -58,10 +58,6 @@ const CONTROL_1: [Spelling; 56] = [
     spelling!("jmp +127", [0xeb, 0x7f], Jmp Long (-) (-) 0x7f 0 false),
     spelling!("jmpl -5", [0xe9, 0xfb, 0xff, 0xff, 0xff], Jmp Long (-) (-) 0xfffffffb 0 false),
     spelling!("calll +4660", [0xe8, 0x34, 0x12, 0x00, 0x00], Call Long (-) (-) 0x1234 0 false),
-];
-
-/// Branches, SETcc, interrupts, strings and single bytes, as GNU objdump reads the bytes.
-const CONTROL_2: [Spelling; 19] = [
     spelling!("int $0x80", [0xcd, 0x80], Int Long (-) (-) 0x80 0 false),
     spelling!("int3", [0xcc], Int3 Long (-) (-) 0 0 false),
     spelling!("ud2", [0x0f, 0x0b], Ud2 Long (-) (-) 0 0 false),
@@ -84,11 +80,6 @@ const CONTROL_2: [Spelling; 19] = [
 ];
 
 #[test]
-fn control_1_are_decoded(rt: HostRuntime) {
-    are_decoded(&rt, &CONTROL_1);
-}
-
-#[test]
-fn control_2_are_decoded(rt: HostRuntime) {
-    are_decoded(&rt, &CONTROL_2);
+fn control_is_decoded(rt: HostRuntime) {
+    are_decoded(&rt, &CONTROL);
 }

@@ -1,7 +1,7 @@
 use super::{Spelling, are_decoded, spelling};
 
 /// MOV, LEA, XCHG, PUSH and POP, as GNU objdump reads the bytes.
-const MOVES_1: [Spelling; 56] = [
+const MOVES: [Spelling; 157] = [
     spelling!("movb %ch,%al", [0x88, 0xe8], Mov Byte (reg 0) (reg 5) 0 0 false),
     spelling!("movb %ch,-0x80(%ebp,%ebx,1)", [0x88, 0x6c, 0x1d, 0x80], Mov Byte (mem Ebp Ebx 1 0xffffff80) (reg 5) 0 0 false),
     spelling!("movl %esp,%ebx", [0x89, 0xe3], Mov Long (reg 3) (reg 4) 0 0 false),
@@ -58,10 +58,6 @@ const MOVES_1: [Spelling; 56] = [
     spelling!("movl.s %esp,%ebx", [0x8b, 0xdc], Mov Long (reg 3) (reg 4) 0 0 false),
     spelling!("movl.s %ebp,%edx", [0x8b, 0xd5], Mov Long (reg 2) (reg 5) 0 0 false),
     spelling!("movl.s %esi,%ecx", [0x8b, 0xce], Mov Long (reg 1) (reg 6) 0 0 false),
-];
-
-/// MOV, LEA, XCHG, PUSH and POP, as GNU objdump reads the bytes.
-const MOVES_2: [Spelling; 56] = [
     spelling!("movl.s %edi,%eax", [0x8b, 0xc7], Mov Long (reg 0) (reg 7) 0 0 false),
     spelling!("movb $0x80,%al", [0xb0, 0x80], Mov Byte (reg 0) (-) 0x80 0 false),
     spelling!("movb $0x81,%cl", [0xb1, 0x81], Mov Byte (reg 1) (-) 0x81 0 false),
@@ -118,10 +114,6 @@ const MOVES_2: [Spelling; 56] = [
     spelling!("xchgl %eax,%esp", [0x94], Xchg Long (reg 0) (reg 4) 0 0 false),
     spelling!("xchgl %eax,%edi", [0x97], Xchg Long (reg 0) (reg 7) 0 0 false),
     spelling!("pushl %eax", [0x50], Push Long (reg 0) (-) 0 0 false),
-];
-
-/// MOV, LEA, XCHG, PUSH and POP, as GNU objdump reads the bytes.
-const MOVES_3: [Spelling; 45] = [
     spelling!("popl %eax", [0x58], Pop Long (reg 0) (-) 0 0 false),
     spelling!("pushl %esp", [0x54], Push Long (reg 4) (-) 0 0 false),
     spelling!("popl %esp", [0x5c], Pop Long (reg 4) (-) 0 0 false),
@@ -170,16 +162,6 @@ const MOVES_3: [Spelling; 45] = [
 ];
 
 #[test]
-fn moves_1_are_decoded(rt: HostRuntime) {
-    are_decoded(&rt, &MOVES_1);
-}
-
-#[test]
-fn moves_2_are_decoded(rt: HostRuntime) {
-    are_decoded(&rt, &MOVES_2);
-}
-
-#[test]
-fn moves_3_are_decoded(rt: HostRuntime) {
-    are_decoded(&rt, &MOVES_3);
+fn moves_are_decoded(rt: HostRuntime) {
+    are_decoded(&rt, &MOVES);
 }

@@ -1,7 +1,7 @@
 use super::{Spelling, are_decoded, spelling};
 
 /// TEST, products, INC, DEC, shifts and rotations, as GNU objdump reads the bytes.
-const UNARY_1: [Spelling; 56] = [
+const UNARY: [Spelling; 86] = [
     spelling!("testb %ah,%bh", [0x84, 0xe7], Test Byte (reg 7) (reg 4) 0 0 false),
     spelling!("testb %ah,(%ecx)", [0x84, 0x21], Test Byte (mem Ecx - 1 0) (reg 4) 0 0 false),
     spelling!("testl %edi,%edx", [0x85, 0xfa], Test Long (reg 2) (reg 7) 0 0 false),
@@ -58,10 +58,6 @@ const UNARY_1: [Spelling; 56] = [
     spelling!("rorl $0x1e,(%ecx,%ebp,8)", [0xc1, 0x0c, 0xe9, 0x1e], Ror Long (mem Ecx Ebp 8 0) (-) 0x1e 0 false),
     spelling!("rorb (%esp)", [0xd0, 0x0c, 0x24], Ror Byte (mem Esp - 1 0) (-) 1 0 false),
     spelling!("rorl %edi", [0xd1, 0xcf], Ror Long (reg 7) (-) 1 0 false),
-];
-
-/// TEST, products, INC, DEC, shifts and rotations, as GNU objdump reads the bytes.
-const UNARY_2: [Spelling; 30] = [
     spelling!("rorb %cl,0x201000(,%eax,1)", [0xd2, 0x0c, 0x05, 0x00, 0x10, 0x20, 0x00], Ror Byte (mem - Eax 1 0x201000) (reg 1) 0 0 false),
     spelling!("rorl %cl,%edx", [0xd3, 0xca], Ror Long (reg 2) (reg 1) 0 0 false),
     spelling!("shlb $0x1d,0x201000(,%edi,4)", [0xc0, 0x24, 0xbd, 0x00, 0x10, 0x20, 0x00, 0x1d], Shl Byte (mem - Edi 4 0x201000) (-) 0x1d 0 false),
@@ -95,11 +91,6 @@ const UNARY_2: [Spelling; 30] = [
 ];
 
 #[test]
-fn unary_1_are_decoded(rt: HostRuntime) {
-    are_decoded(&rt, &UNARY_1);
-}
-
-#[test]
-fn unary_2_are_decoded(rt: HostRuntime) {
-    are_decoded(&rt, &UNARY_2);
+fn unary_are_decoded(rt: HostRuntime) {
+    are_decoded(&rt, &UNARY);
 }

@@ -1,6 +1,6 @@
 use super::{
     AT_EBP_PLUS_4, AT_EBP_PLUS_8, AT_EDI, AT_EDI_PLUS_2, AT_EDI_PLUS_3, AT_ESI,
-    AT_ESI_ECX_BY_2_PLUS_4, AT_ESI_PLUS_1, AT_ESI_PLUS_12, AT_ESP, Case, REGISTERS, check_all,
+    AT_ESI_ECX_BY_2_PLUS_4, AT_ESI_PLUS_1, AT_ESI_PLUS_12, AT_ESP, Case, REGISTERS, agree,
 };
 use ia32_types::{Op, Operand, Size};
 
@@ -335,5 +335,5 @@ const CASES: [Case; 23] = [
 
 #[test]
 fn arithmetic_agrees_with_a_processor(rt: HostRuntime) {
-    check_all(&rt, &CASES);
+    agree(&rt, &CASES);
 }

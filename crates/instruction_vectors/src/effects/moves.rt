@@ -1,6 +1,6 @@
 use super::{
     AT_10010, AT_EAX_ECX_BY_8_LESS_4, AT_EDI, AT_ESI, AT_ESI_PLUS_2, AT_ESI_PLUS_6, AT_ESI_PLUS_85,
-    AT_ESP_ECX_BY_8, Case, REGISTERS, check_all,
+    AT_ESP_ECX_BY_8, Case, REGISTERS, agree,
 };
 use ia32_types::{Op, Operand, Size};
 
@@ -329,5 +329,5 @@ const CASES: [Case; 22] = [
 
 #[test]
 fn moves_and_flags_agree_with_a_processor(rt: HostRuntime) {
-    check_all(&rt, &CASES);
+    agree(&rt, &CASES);
 }

@@ -1,4 +1,4 @@
-use super::{AT_EDI, AT_ESI, AT_ESI_PLUS_4, Case, REGISTERS, check_all};
+use super::{AT_EDI, AT_ESI, AT_ESI_PLUS_4, Case, REGISTERS, agree};
 use ia32_types::{Op, Operand, Size};
 
 const CASES: [Case; 11] = [
@@ -174,5 +174,5 @@ const CASES: [Case; 11] = [
 
 #[test]
 fn products_and_quotients_agree_with_a_processor(rt: HostRuntime) {
-    check_all(&rt, &CASES);
+    agree(&rt, &CASES);
 }

@@ -1,4 +1,4 @@
-use super::{AT_ESP_PLUS_4, AT_ESP_PLUS_8, Case, REGISTERS, check_all};
+use super::{AT_ESP_PLUS_4, AT_ESP_PLUS_8, Case, REGISTERS, agree};
 use ia32_types::{Op, Operand, Size};
 
 const CASES: [Case; 11] = [
@@ -167,5 +167,5 @@ const CASES: [Case; 11] = [
 
 #[test]
 fn the_stack_agrees_with_a_processor(rt: HostRuntime) {
-    check_all(&rt, &CASES);
+    agree(&rt, &CASES);
 }

@@ -1,127 +1,195 @@
-use super::{BASE, Flat, PLAIN, START, step, word_of};
+//! Single instructions, step by step, over memory that is filled with one byte.
+
+use super::{AT_START, BASE, Flat, PLAIN, START, step, word_of};
 use ia32_exec::{Effect, ranges};
-use ia32_types::{Address, Insn, Op, Operand, Reg, Size};
+use ia32_types::{Address, Insn, Op, Operand, Reg, Regs, Size};
+use std::process::Abort;
+
+/// An instruction of so many bytes, and what it comes to; a register that is set; or what is seen: registers, EIP, flags,
+/// a word of the memory, and where an instruction is going to write.
+#[derive(Clone, Copy)]
+enum Step {
+    Done(Insn, u8, Effect),
+    Set(usize, u32),
+    Register(usize, u32),
+    Registers([u32; 8]),
+    Eip(u32),
+    Flags(u32),
+    Word(u32, u32),
+    Writes(Insn, u32),
+}
+
+fn is_written_at(insn: &Insn, regs: &Regs, at: u32) -> bool {
+    match ranges(insn, regs).write {
+        Some(range) => range.at == at,
+        None => false,
+    }
+}
+
+/// Whether a step comes to what it says.
+fn holds(regs: &mut Regs, mem: &mut Flat, row: &Step) -> bool {
+    match *row {
+        Step::Done(insn, len, effect) => step(&insn, len, regs, mem) == Some(effect),
+        Step::Set(k, v) => {
+            regs.r[k % 8] = v;
+            true
+        }
+        Step::Register(k, v) => regs.r[k % 8] == v,
+        Step::Registers(r) => regs.r == r,
+        Step::Eip(at) => regs.eip == at,
+        Step::Flags(bits) => regs.flags.bits == bits,
+        Step::Word(at, v) => word_of(mem, at) == v,
+        Step::Writes(insn, at) => is_written_at(&insn, regs, at),
+    }
+}
+
+fn follow(rt: &impl Abort, fill: u8, steps: &[Step]) {
+    let mut regs = START;
+    let mut mem = Flat { bytes: [fill; 256] };
+    for (k, row) in steps.iter().enumerate() {
+        assert!(rt; holds(&mut regs, &mut mem, row), "step {k}");
+    }
+}
+
+const ADD_TO_AH: Insn = Insn {
+    op: Op::Add,
+    size: Size::Byte,
+    a: Operand::Register(4),
+    imm: 0xff,
+    ..PLAIN
+};
+
+const ADDED: [Step; 4] = [
+    Step::Done(ADD_TO_AH, 3, Effect::Next),
+    Step::Register(0, 0xff01),
+    Step::Eip(0x1003),
+    Step::Flags(0x86),
+];
 
 #[test]
 fn adds_to_the_second_byte(rt: HostRuntime) {
-    let mut regs = START;
-    let mut mem = Flat { bytes: [0; 256] };
-    let insn = Insn {
-        op: Op::Add,
-        size: Size::Byte,
-        a: Operand::Register(4),
-        imm: 0xff,
-        ..PLAIN
-    };
-    let effect = step(&insn, 3, &mut regs, &mut mem);
-    assert_eq!(rt; effect, Some(Effect::Next));
-    assert_eq!(rt; regs.r[0], 0xff01);
-    assert_eq!(rt; regs.eip, 0x1003);
-    assert_eq!(rt; regs.flags.bits, 0x86);
+    follow(&rt, 0, &ADDED);
 }
+
+const PUSH_ALL: Insn = Insn {
+    op: Op::Pusha,
+    ..PLAIN
+};
+
+const POP_ALL: Insn = Insn {
+    op: Op::Popa,
+    ..PLAIN
+};
+
+const PUSHED_AND_POPPED: [Step; 10] = [
+    Step::Done(PUSH_ALL, 1, Effect::Next),
+    Step::Register(4, BASE + 0x60),
+    Step::Word(BASE + 0x60, BASE + 0x30),
+    Step::Word(BASE + 0x6c, BASE + 0x80),
+    Step::Word(BASE + 0x7c, 1),
+    Step::Set(0, 0),
+    Step::Set(7, 0),
+    Step::Done(POP_ALL, 1, Effect::Next),
+    Step::Registers(AT_START),
+    Step::Eip(0x1002),
+];
 
 #[test]
 fn pushes_all_and_pops_all(rt: HostRuntime) {
-    let mut regs = START;
-    let mut mem = Flat { bytes: [0; 256] };
-    let push = Insn {
-        op: Op::Pusha,
-        ..PLAIN
-    };
-    let pop = Insn {
-        op: Op::Popa,
-        ..PLAIN
-    };
-    assert_eq!(rt; step(&push, 1, &mut regs, &mut mem), Some(Effect::Next));
-    assert_eq!(rt; regs.r[4], BASE + 0x60);
-    assert_eq!(rt; word_of(&mem, BASE + 0x60), BASE + 0x30);
-    assert_eq!(rt; word_of(&mem, BASE + 0x6c), BASE + 0x80);
-    assert_eq!(rt; word_of(&mem, BASE + 0x7c), 1);
-    regs.r[0] = 0;
-    regs.r[7] = 0;
-    assert_eq!(rt; step(&pop, 1, &mut regs, &mut mem), Some(Effect::Next));
-    assert_eq!(rt; regs.r, START.r);
-    assert_eq!(rt; regs.eip, 0x1002);
+    follow(&rt, 0, &PUSHED_AND_POPPED);
 }
 
-#[test]
-fn pops_to_an_address_above_the_risen_stack(rt: HostRuntime) {
-    let mut regs = START;
-    let mut mem = Flat { bytes: [7; 256] };
-    let at = Address {
+const POP_AT_ESP_PLUS_8: Insn = Insn {
+    op: Op::Pop,
+    a: Operand::Memory(Address {
         base: Some(Reg::Esp),
         index: None,
         scale: 1,
         disp: 8,
-    };
-    let pop = Insn {
-        op: Op::Pop,
-        a: Operand::Memory(at),
-        ..PLAIN
-    };
-    let ranges = ranges(&pop, &regs);
-    let written_at = match ranges.write {
-        Some(range) => range.at,
-        None => 0,
-    };
-    assert_eq!(rt; written_at, BASE + 0x8c);
-    assert_eq!(rt; step(&pop, 4, &mut regs, &mut mem), Some(Effect::Next));
-    assert_eq!(rt; word_of(&mem, BASE + 0x8c), 0x0707_0707);
-    assert_eq!(rt; regs.r[4], BASE + 0x84);
+    }),
+    ..PLAIN
+};
+
+const POPPED: [Step; 4] = [
+    Step::Writes(POP_AT_ESP_PLUS_8, BASE + 0x8c),
+    Step::Done(POP_AT_ESP_PLUS_8, 4, Effect::Next),
+    Step::Word(BASE + 0x8c, 0x0707_0707),
+    Step::Register(4, BASE + 0x84),
+];
+
+#[test]
+fn pops_to_an_address_above_the_risen_stack(rt: HostRuntime) {
+    follow(&rt, 7, &POPPED);
 }
+
+const REPEAT_STOSB: Insn = Insn {
+    op: Op::Stos,
+    size: Size::Byte,
+    rep: true,
+    ..PLAIN
+};
+
+const REPEATED: [Step; 13] = [
+    Step::Done(REPEAT_STOSB, 2, Effect::Next),
+    Step::Register(1, 1),
+    Step::Register(7, BASE + 0x31),
+    Step::Eip(0x1000),
+    Step::Done(REPEAT_STOSB, 2, Effect::Next),
+    Step::Register(1, 0),
+    Step::Register(7, BASE + 0x32),
+    Step::Eip(0x1002),
+    Step::Done(REPEAT_STOSB, 2, Effect::Next),
+    Step::Register(1, 0),
+    Step::Register(7, BASE + 0x32),
+    Step::Eip(0x1004),
+    Step::Word(BASE + 0x30, 0x0000_0101),
+];
 
 #[test]
 fn repeats_one_turn_at_a_time(rt: HostRuntime) {
-    let mut regs = START;
-    let mut mem = Flat { bytes: [0; 256] };
-    let stos = Insn {
-        op: Op::Stos,
-        size: Size::Byte,
-        rep: true,
-        ..PLAIN
-    };
-    assert_eq!(rt; step(&stos, 2, &mut regs, &mut mem), Some(Effect::Next));
-    assert_eq!(rt; (regs.r[1], regs.r[7], regs.eip), (1, BASE + 0x31, 0x1000));
-    assert_eq!(rt; step(&stos, 2, &mut regs, &mut mem), Some(Effect::Next));
-    assert_eq!(rt; (regs.r[1], regs.r[7], regs.eip), (0, BASE + 0x32, 0x1002));
-    assert_eq!(rt; step(&stos, 2, &mut regs, &mut mem), Some(Effect::Next));
-    assert_eq!(rt; (regs.r[1], regs.r[7], regs.eip), (0, BASE + 0x32, 0x1004));
-    assert_eq!(rt; word_of(&mem, BASE + 0x30), 0x0000_0101);
+    follow(&rt, 0, &REPEATED);
 }
+
+const DIVIDE_BY_EDX: Insn = Insn {
+    op: Op::Div,
+    a: Operand::Register(2),
+    ..PLAIN
+};
+
+const RAISED: [Step; 4] = [
+    Step::Done(DIVIDE_BY_EDX, 2, Effect::Raise(0, 0)),
+    Step::Registers(AT_START),
+    Step::Eip(START.eip),
+    Step::Flags(START.flags.bits),
+];
 
 #[test]
 fn raises_a_divide_error_and_changes_nothing(rt: HostRuntime) {
-    let mut regs = START;
-    let mut mem = Flat { bytes: [0; 256] };
-    let div = Insn {
-        op: Op::Div,
-        a: Operand::Register(2),
-        ..PLAIN
-    };
-    assert_eq!(rt;
-        step(&div, 2, &mut regs, &mut mem),
-        Some(Effect::Raise(0, 0))
-    );
-    assert_eq!(rt; regs, START);
+    follow(&rt, 0, &RAISED);
 }
+
+const CALL_BACK: Insn = Insn {
+    op: Op::Call,
+    imm: 0xffff_fff0,
+    ..PLAIN
+};
+
+const JUMP_ON: Insn = Insn {
+    op: Op::Jmp,
+    imm: 0x20,
+    ..PLAIN
+};
+
+const CALLED_AND_JUMPED: [Step; 6] = [
+    Step::Done(CALL_BACK, 5, Effect::Next),
+    Step::Eip(0xff5),
+    Step::Register(4, BASE + 0x7c),
+    Step::Word(BASE + 0x7c, 0x1005),
+    Step::Done(JUMP_ON, 2, Effect::Next),
+    Step::Eip(0x1017),
+];
 
 #[test]
 fn calls_and_jumps_by_distance(rt: HostRuntime) {
-    let mut regs = START;
-    let mut mem = Flat { bytes: [0; 256] };
-    let call = Insn {
-        op: Op::Call,
-        imm: 0xffff_fff0,
-        ..PLAIN
-    };
-    let jump = Insn {
-        op: Op::Jmp,
-        imm: 0x20,
-        ..PLAIN
-    };
-    assert_eq!(rt; step(&call, 5, &mut regs, &mut mem), Some(Effect::Next));
-    assert_eq!(rt; (regs.eip, regs.r[4]), (0xff5, BASE + 0x7c));
-    assert_eq!(rt; word_of(&mem, BASE + 0x7c), 0x1005);
-    assert_eq!(rt; step(&jump, 2, &mut regs, &mut mem), Some(Effect::Next));
-    assert_eq!(rt; regs.eip, 0x1017);
+    follow(&rt, 0, &CALLED_AND_JUMPED);
 }

@@ -1,4 +1,4 @@
-use super::{Case, REGISTERS, check_all};
+use super::{Case, REGISTERS, agree};
 use ia32_types::{Op, Operand, Size};
 
 const CASES: [Case; 20] = [
@@ -286,5 +286,5 @@ const CASES: [Case; 20] = [
 
 #[test]
 fn strings_agree_with_a_processor(rt: HostRuntime) {
-    check_all(&rt, &CASES);
+    agree(&rt, &CASES);
 }

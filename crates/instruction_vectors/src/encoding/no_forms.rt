@@ -1,4 +1,5 @@
 use super::{NARROW, has_no_form};
+use crate::spelled::{Spelled, bytes};
 use ia32_decode::{Decoded, decode};
 use ia32_encode::Wide;
 use ia32_types::{Address, Insn, Op, Operand, Reg, Seg, Size};
@@ -70,13 +71,13 @@ const UNSPELLED: [Insn; 38] = [
 
 /// Spellings of instructions that have no field of four bytes: for a displacement, for an immediate.
 struct Narrow {
-    bytes: &'static [u8],
+    bytes: Spelled,
     wide: Wide,
 }
 
 macro_rules! narrow {
     ([$($byte:literal),*] $disp:literal $imm:literal) => {
-        Narrow { bytes: &[$($byte),*], wide: Wide { disp: $disp, imm: $imm } }
+        Narrow { bytes: bytes!($($byte),*), wide: Wide { disp: $disp, imm: $imm } }
     };
 }
 
@@ -110,13 +111,13 @@ const WITHOUT: [Narrow; 22] = [
 
 #[test]
 fn nothing_spells_these(rt: HostRuntime) {
-    for insn in &UNSPELLED {
-        assert!(rt; has_no_form(insn, NARROW), "{insn:?}");
+    for (k, insn) in UNSPELLED.iter().enumerate() {
+        assert!(rt; has_no_form(insn, NARROW), "row {k}");
     }
 }
 
 fn has_no_wide_form(narrow: &Narrow) -> bool {
-    match decode(narrow.bytes) {
+    match decode(narrow.bytes.as_slice()) {
         Decoded::Insn(insn, _) => has_no_form(&insn, narrow.wide),
         Decoded::Short | Decoded::Outside => false,
     }
@@ -124,7 +125,7 @@ fn has_no_wide_form(narrow: &Narrow) -> bool {
 
 #[test]
 fn nothing_spells_these_in_four_bytes(rt: HostRuntime) {
-    for narrow in &WITHOUT {
-        assert!(rt; has_no_wide_form(narrow), "{:?}", narrow.bytes);
+    for (k, narrow) in WITHOUT.iter().enumerate() {
+        assert!(rt; has_no_wide_form(narrow), "row {k}");
     }
 }

@@ -2,7 +2,7 @@ use super::{Choice, are_chosen, choice};
 
 /// Instructions in another spelling, and the chosen one: that of GNU as, but for direct branches, which always
 /// have the long form, two registers of XCHG, of which the lower is the r/m operand, and RET with 0.
-const OTHERS_1: [Choice; 64] = [
+const OTHERS: [Choice; 106] = [
     choice!("addb.s %cl,%ch", [0x02, 0xe9] [0x00, 0xcd]),
     choice!("orb.s %al,%al", [0x0a, 0xc0] [0x08, 0xc0]),
     choice!("orl.s %ebx,%ecx", [0x0b, 0xcb] [0x09, 0xd9]),
@@ -67,11 +67,6 @@ const OTHERS_1: [Choice; 64] = [
     choice!("jp -6", [0x7a, 0xfa] [0x0f, 0x8a, 0xfa, 0xff, 0xff, 0xff]),
     choice!("jnp +11", [0x7b, 0x0b] [0x0f, 0x8b, 0x0b, 0x00, 0x00, 0x00]),
     choice!("jl -4", [0x7c, 0xfc] [0x0f, 0x8c, 0xfc, 0xff, 0xff, 0xff]),
-];
-
-/// Instructions in another spelling, and the chosen one: that of GNU as, but for direct branches, which always
-/// have the long form, two registers of XCHG, of which the lower is the r/m operand, and RET with 0.
-const OTHERS_2: [Choice; 42] = [
     choice!("jge +13", [0x7d, 0x0d] [0x0f, 0x8d, 0x0d, 0x00, 0x00, 0x00]),
     choice!("jle -2", [0x7e, 0xfe] [0x0f, 0x8e, 0xfe, 0xff, 0xff, 0xff]),
     choice!("jg +15", [0x7f, 0x0f] [0x0f, 0x8f, 0x0f, 0x00, 0x00, 0x00]),
@@ -117,11 +112,6 @@ const OTHERS_2: [Choice; 42] = [
 ];
 
 #[test]
-fn others_1_are_chosen(rt: HostRuntime) {
-    are_chosen(&rt, &OTHERS_1);
-}
-
-#[test]
-fn others_2_are_chosen(rt: HostRuntime) {
-    are_chosen(&rt, &OTHERS_2);
+fn others_are_chosen(rt: HostRuntime) {
+    are_chosen(&rt, &OTHERS);
 }

@@ -97,14 +97,10 @@ const PLAIN: [Placed; 25] = [
 
 #[test]
 fn wide_fields_are_placed(rt: HostRuntime) {
-    for placed in &WIDE {
-        assert!(rt; are_placed(placed), "{}", placed.text);
-    }
+    are_placed(&rt, &WIDE);
 }
 
 #[test]
 fn plain_fields_are_placed(rt: HostRuntime) {
-    for placed in &PLAIN {
-        assert!(rt; are_placed(placed), "{}", placed.text);
-    }
+    are_placed(&rt, &PLAIN);
 }

@@ -2,7 +2,9 @@ use ia32_alu::multiply;
 use ia32_types::{Flags, Size};
 
 /// Signed or not, size, factors and flags; the product with twice the bits and the flags after it.
-const ROWS: [(bool, Size, u32, u32, u32, u64, u32); 54] = [
+type Row = (bool, Size, u32, u32, u32, u64, u32);
+
+const ROWS: [Row; 54] = [
     (false, Size::Byte, 0x0, 0xff, 0x2, 0x0, 0x2),
     (false, Size::Byte, 0x1, 0xff, 0x8d7, 0xff, 0xd6),
     (false, Size::Byte, 0xff, 0xff, 0x3, 0xfe01, 0x803),
@@ -139,11 +141,15 @@ const ROWS: [(bool, Size, u32, u32, u32, u64, u32); 54] = [
     ),
 ];
 
+fn agrees(row: &Row) -> bool {
+    let (signed, size, a, b, bits, value, after) = *row;
+    let (product, flags) = multiply(signed, size, a, b, Flags { bits });
+    product == value && flags.bits == after
+}
+
 #[test]
 fn products_are_those_of_a_processor(rt: HostRuntime) {
-    for row in &ROWS {
-        let (signed, size, a, b, bits, value, after) = *row;
-        let (product, flags) = multiply(signed, size, a, b, Flags { bits });
-        assert_eq!(rt; (product, flags.bits), (value, after), "{row:?}");
+    for (k, row) in ROWS.iter().enumerate() {
+        assert!(rt; agrees(row), "row {k}");
     }
 }

@@ -3,7 +3,9 @@ use ia32_types::Size;
 
 /// Signed or not, size, the halves of the dividend and the divisor; the quotient and the remainder,
 /// or none where the processor raised a divide error.
-const ROWS: [(bool, Size, u32, u32, u32, Option<(u32, u32)>); 93] = [
+type Row = (bool, Size, u32, u32, u32, Option<(u32, u32)>);
+
+const ROWS: [Row; 93] = [
     (false, Size::Byte, 0x1, 0x0, 0x1, None),
     (false, Size::Byte, 0x0, 0x5, 0x0, None),
     (false, Size::Byte, 0x0, 0xff, 0xff, Some((0x1, 0x0))),
@@ -232,10 +234,14 @@ const ROWS: [(bool, Size, u32, u32, u32, Option<(u32, u32)>); 93] = [
     ),
 ];
 
+fn agrees(row: &Row) -> bool {
+    let (signed, size, high, low, by, shared) = *row;
+    divide(signed, size, high, low, by) == shared
+}
+
 #[test]
 fn quotients_are_those_of_a_processor(rt: HostRuntime) {
-    for row in &ROWS {
-        let (signed, size, high, low, by, shared) = *row;
-        assert_eq!(rt; divide(signed, size, high, low, by), shared, "{row:?}");
+    for (k, row) in ROWS.iter().enumerate() {
+        assert!(rt; agrees(row), "row {k}");
     }
 }

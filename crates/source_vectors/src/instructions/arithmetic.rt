@@ -1,100 +1,80 @@
-use super::{Line, assembles, first_wrong};
-use asm_instruction::Named;
-use std::test::*;
+use super::are_assembled;
 
 /// As GNU as assembles them.
-static ARITHMETIC: [Line; 70] = [
-    assembles!("addb %cl,%bl", [0x00, 0xcb]),
-    assembles!("addb %cl,(%eax)", [0x00, 0x08]),
-    assembles!("add %ebx,%esi", [0x01, 0xde]),
-    assembles!("addl %ebx,(%ecx)", [0x01, 0x19]),
-    assembles!("addb (%edx),%ch", [0x02, 0x2a]),
-    assembles!("add (%ebx),%esi", [0x03, 0x33]),
-    assembles!("addb $0x9c,%al", [0x04, 0x9c]),
-    assembles!("add $0x12345678,%eax", [0x05, 0x78, 0x56, 0x34, 0x12]),
-    assembles!("addb $-10,%ah", [0x80, 0xc4, 0xf6]),
-    assembles!(
-        "addb $255,3222274052",
-        [0x80, 0x05, 0x04, 0x00, 0x10, 0xc0, 0xff]
-    ),
-    assembles!(
-        "addl $0x87654321,%edi",
-        [0x81, 0xc7, 0x21, 0x43, 0x65, 0x87]
-    ),
-    assembles!("addl $-1,%edx", [0x83, 0xc2, 0xff]),
-    assembles!("addl $4294967295,%edx", [0x83, 0xc2, 0xff]),
-    assembles!("addl $128,%edx", [0x81, 0xc2, 0x80, 0x00, 0x00, 0x00]),
-    assembles!("orl %esi,0x7c(%eax)", [0x09, 0x70, 0x7c]),
-    assembles!("or 0x7c(%ecx),%ecx", [0x0b, 0x49, 0x7c]),
-    assembles!("orl $-128,0x7c(%ebx)", [0x83, 0x4b, 0x7c, 0x80]),
-    assembles!("adcb %bh,%ah", [0x10, 0xfc]),
-    assembles!(
-        "adc %esp,0x12345678(%eax)",
-        [0x11, 0xa0, 0x78, 0x56, 0x34, 0x12]
-    ),
-    assembles!("adcl $1,(%edx)", [0x83, 0x12, 0x01]),
-    assembles!("sbb %dl,%dh", [0x18, 0xd6]),
-    assembles!(
-        "sbbl %esp,0x12345678(%ebp)",
-        [0x19, 0xa5, 0x78, 0x56, 0x34, 0x12]
-    ),
-    assembles!("sbbl $-128,(%eax,%ecx,1)", [0x83, 0x1c, 0x08, 0x80]),
-    assembles!("and %ch,(%ebx,%edx,2)", [0x20, 0x2c, 0x53]),
-    assembles!("andl %edi,(%edi,%esi,4)", [0x21, 0x3c, 0xb7]),
-    assembles!("and (%ecx,%ebp,8),%cl", [0x22, 0x0c, 0xe9]),
-    assembles!("and (%esp),%edx", [0x23, 0x14, 0x24]),
-    assembles!(
-        "andb $0xf6,0x201000(,%eax,1)",
-        [0x80, 0x24, 0x05, 0x00, 0x10, 0x20, 0x00, 0xf6]
-    ),
-    assembles!("subl $'a,%esp", [0x83, 0xec, 0x61]),
-    assembles!("sub $foo,%esp", [0x81, 0xec, 0x00, 0x00, 0x00, 0x00], imm 2 0),
-    assembles!("subl $017,foo+4", [0x83, 0x2d, 0x04, 0x00, 0x00, 0x00, 0x0f], disp 2 1),
-    assembles!("xorl %eax,%eax", [0x31, 0xc0]),
-    assembles!("xor foo-8(,%ecx,4),%edx", [0x33, 0x14, 0x8d, 0xf8, 0xff, 0xff, 0xff], disp 3 0),
-    assembles!("cmpb $0,(%esi)", [0x80, 0x3e, 0x00]),
-    assembles!("cmpl $foo+1,4(%ebp)", [0x81, 0x7d, 0x04, 0x01, 0x00, 0x00, 0x00], imm 3 0),
-    assembles!("cmp %ah,foo", [0x38, 0x25, 0x00, 0x00, 0x00, 0x00], disp 2 1),
-    assembles!("testb %al,%bl", [0x84, 0xc3]),
-    assembles!("test %ecx,(%edx)", [0x85, 0x0a]),
-    assembles!("test (%edx),%ecx", [0x85, 0x0a]),
-    assembles!("testl %ecx,%edx", [0x85, 0xca]),
-    assembles!("testb $1,%al", [0xa8, 0x01]),
-    assembles!("testl $1,%eax", [0xa9, 0x01, 0x00, 0x00, 0x00]),
-    assembles!("testb $-1,%cl", [0xf6, 0xc1, 0xff]),
-    assembles!("test $1,%ecx", [0xf7, 0xc1, 0x01, 0x00, 0x00, 0x00]),
-    assembles!("testl $foo,(%eax)", [0xf7, 0x00, 0x00, 0x00, 0x00, 0x00], imm 2 0),
-    assembles!("notb %al", [0xf6, 0xd0]),
-    assembles!("not %ecx", [0xf7, 0xd1]),
-    assembles!("notl (%eax)", [0xf7, 0x10]),
-    assembles!("negb (%eax)", [0xf6, 0x18]),
-    assembles!("neg %edx", [0xf7, 0xda]),
-    assembles!("mulb %cl", [0xf6, 0xe1]),
-    assembles!("mul %ecx", [0xf7, 0xe1]),
-    assembles!("imulb (%ecx)", [0xf6, 0x29]),
-    assembles!("imul %esi", [0xf7, 0xee]),
-    assembles!("imull (%ecx)", [0xf7, 0x29]),
-    assembles!("divb %bh", [0xf6, 0xf7]),
-    assembles!("div %ecx", [0xf7, 0xf1]),
-    assembles!("idivb 1(%ecx)", [0xf6, 0x79, 0x01]),
-    assembles!("idivl -129(%ecx)", [0xf7, 0xb9, 0x7f, 0xff, 0xff, 0xff]),
-    assembles!("imul %eax,%ecx", [0x0f, 0xaf, 0xc8]),
-    assembles!("imull foo,%ecx", [0x0f, 0xaf, 0x0d, 0x00, 0x00, 0x00, 0x00], disp 3 0),
-    assembles!("imul $3,%eax,%ecx", [0x6b, 0xc8, 0x03]),
-    assembles!(
-        "imull $1000,(%eax),%ecx",
-        [0x69, 0x08, 0xe8, 0x03, 0x00, 0x00]
-    ),
-    assembles!("imul $foo,%edx,%edx", [0x69, 0xd2, 0x00, 0x00, 0x00, 0x00], imm 2 0),
-    assembles!("inc %eax", [0x40]),
-    assembles!("incb %al", [0xfe, 0xc0]),
-    assembles!("incl (%eax)", [0xff, 0x00]),
-    assembles!("dec %edi", [0x4f]),
-    assembles!("decb (%edi)", [0xfe, 0x0f]),
-    assembles!("decl foo", [0xff, 0x0d, 0x00, 0x00, 0x00, 0x00], disp 2 0),
-];
+const ARITHMETIC: &str = "\
+addb %cl,%bl => 00 cb
+addb %cl,(%eax) => 00 08
+add %ebx,%esi => 01 de
+addl %ebx,(%ecx) => 01 19
+addb (%edx),%ch => 02 2a
+add (%ebx),%esi => 03 33
+addb $0x9c,%al => 04 9c
+add $0x12345678,%eax => 05 78 56 34 12
+addb $-10,%ah => 80 c4 f6
+addb $255,3222274052 => 80 05 04 00 10 c0 ff
+addl $0x87654321,%edi => 81 c7 21 43 65 87
+addl $-1,%edx => 83 c2 ff
+addl $4294967295,%edx => 83 c2 ff
+addl $128,%edx => 81 c2 80 00 00 00
+orl %esi,0x7c(%eax) => 09 70 7c
+or 0x7c(%ecx),%ecx => 0b 49 7c
+orl $-128,0x7c(%ebx) => 83 4b 7c 80
+adcb %bh,%ah => 10 fc
+adc %esp,0x12345678(%eax) => 11 a0 78 56 34 12
+adcl $1,(%edx) => 83 12 01
+sbb %dl,%dh => 18 d6
+sbbl %esp,0x12345678(%ebp) => 19 a5 78 56 34 12
+sbbl $-128,(%eax,%ecx,1) => 83 1c 08 80
+and %ch,(%ebx,%edx,2) => 20 2c 53
+andl %edi,(%edi,%esi,4) => 21 3c b7
+and (%ecx,%ebp,8),%cl => 22 0c e9
+and (%esp),%edx => 23 14 24
+andb $0xf6,0x201000(,%eax,1) => 80 24 05 00 10 20 00 f6
+subl $'a,%esp => 83 ec 61
+sub $foo,%esp => 81 ec 00 00 00 00 imm 2 0
+subl $017,foo+4 => 83 2d 04 00 00 00 0f disp 2 1
+xorl %eax,%eax => 31 c0
+xor foo-8(,%ecx,4),%edx => 33 14 8d f8 ff ff ff disp 3 0
+cmpb $0,(%esi) => 80 3e 00
+cmpl $foo+1,4(%ebp) => 81 7d 04 01 00 00 00 imm 3 0
+cmp %ah,foo => 38 25 00 00 00 00 disp 2 1
+testb %al,%bl => 84 c3
+test %ecx,(%edx) => 85 0a
+test (%edx),%ecx => 85 0a
+testl %ecx,%edx => 85 ca
+testb $1,%al => a8 01
+testl $1,%eax => a9 01 00 00 00
+testb $-1,%cl => f6 c1 ff
+test $1,%ecx => f7 c1 01 00 00 00
+testl $foo,(%eax) => f7 00 00 00 00 00 imm 2 0
+notb %al => f6 d0
+not %ecx => f7 d1
+notl (%eax) => f7 10
+negb (%eax) => f6 18
+neg %edx => f7 da
+mulb %cl => f6 e1
+mul %ecx => f7 e1
+imulb (%ecx) => f6 29
+imul %esi => f7 ee
+imull (%ecx) => f7 29
+divb %bh => f6 f7
+div %ecx => f7 f1
+idivb 1(%ecx) => f6 79 01
+idivl -129(%ecx) => f7 b9 7f ff ff ff
+imul %eax,%ecx => 0f af c8
+imull foo,%ecx => 0f af 0d 00 00 00 00 disp 3 0
+imul $3,%eax,%ecx => 6b c8 03
+imull $1000,(%eax),%ecx => 69 08 e8 03 00 00
+imul $foo,%edx,%edx => 69 d2 00 00 00 00 imm 2 0
+inc %eax => 40
+incb %al => fe c0
+incl (%eax) => ff 00
+dec %edi => 4f
+decb (%edi) => fe 0f
+decl foo => ff 0d 00 00 00 00 disp 2 0
+";
 
 #[test]
 fn arithmetic_is_assembled(rt: HostRuntime) {
-    assert_eq!(rt; first_wrong(&rt, &ARITHMETIC), None);
+    are_assembled(&rt, rt.alloc(), ARITHMETIC);
 }

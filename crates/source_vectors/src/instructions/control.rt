@@ -1,76 +1,71 @@
-use super::{Line, assembles, first_wrong};
-use asm_instruction::Named;
-use std::test::*;
+use super::are_assembled;
 
 /// As GNU as assembles them.
-static CONTROL: [Line; 61] = [
-    assembles!("jmp foo", [0xe9, 0xfc, 0xff, 0xff, 0xff], distance 1 0),
-    assembles!("call foo", [0xe8, 0xfc, 0xff, 0xff, 0xff], distance 1 0),
-    assembles!("calll foo+0x7fffffff", [0xe8, 0xfb, 0xff, 0xff, 0x7f], distance 1 0),
-    assembles!("jo foo", [0x0f, 0x80, 0xfc, 0xff, 0xff, 0xff], distance 2 0),
-    assembles!("jno foo", [0x0f, 0x81, 0xfc, 0xff, 0xff, 0xff], distance 2 0),
-    assembles!("jb foo", [0x0f, 0x82, 0xfc, 0xff, 0xff, 0xff], distance 2 0),
-    assembles!("jnae foo", [0x0f, 0x82, 0xfc, 0xff, 0xff, 0xff], distance 2 0),
-    assembles!("jc foo", [0x0f, 0x82, 0xfc, 0xff, 0xff, 0xff], distance 2 0),
-    assembles!("jae foo", [0x0f, 0x83, 0xfc, 0xff, 0xff, 0xff], distance 2 0),
-    assembles!("jnb foo", [0x0f, 0x83, 0xfc, 0xff, 0xff, 0xff], distance 2 0),
-    assembles!("jnc foo", [0x0f, 0x83, 0xfc, 0xff, 0xff, 0xff], distance 2 0),
-    assembles!("je foo", [0x0f, 0x84, 0xfc, 0xff, 0xff, 0xff], distance 2 0),
-    assembles!("jz foo", [0x0f, 0x84, 0xfc, 0xff, 0xff, 0xff], distance 2 0),
-    assembles!("jne foo", [0x0f, 0x85, 0xfc, 0xff, 0xff, 0xff], distance 2 0),
-    assembles!("jnz foo", [0x0f, 0x85, 0xfc, 0xff, 0xff, 0xff], distance 2 0),
-    assembles!("jbe foo", [0x0f, 0x86, 0xfc, 0xff, 0xff, 0xff], distance 2 0),
-    assembles!("jna foo", [0x0f, 0x86, 0xfc, 0xff, 0xff, 0xff], distance 2 0),
-    assembles!("ja foo", [0x0f, 0x87, 0xfc, 0xff, 0xff, 0xff], distance 2 0),
-    assembles!("jnbe foo", [0x0f, 0x87, 0xfc, 0xff, 0xff, 0xff], distance 2 0),
-    assembles!("js foo", [0x0f, 0x88, 0xfc, 0xff, 0xff, 0xff], distance 2 0),
-    assembles!("jns foo", [0x0f, 0x89, 0xfc, 0xff, 0xff, 0xff], distance 2 0),
-    assembles!("jp foo", [0x0f, 0x8a, 0xfc, 0xff, 0xff, 0xff], distance 2 0),
-    assembles!("jpe foo", [0x0f, 0x8a, 0xfc, 0xff, 0xff, 0xff], distance 2 0),
-    assembles!("jnp foo", [0x0f, 0x8b, 0xfc, 0xff, 0xff, 0xff], distance 2 0),
-    assembles!("jpo foo", [0x0f, 0x8b, 0xfc, 0xff, 0xff, 0xff], distance 2 0),
-    assembles!("jl foo", [0x0f, 0x8c, 0xfc, 0xff, 0xff, 0xff], distance 2 0),
-    assembles!("jnge foo", [0x0f, 0x8c, 0xfc, 0xff, 0xff, 0xff], distance 2 0),
-    assembles!("jge foo", [0x0f, 0x8d, 0xfc, 0xff, 0xff, 0xff], distance 2 0),
-    assembles!("jnl foo", [0x0f, 0x8d, 0xfc, 0xff, 0xff, 0xff], distance 2 0),
-    assembles!("jle foo", [0x0f, 0x8e, 0xfc, 0xff, 0xff, 0xff], distance 2 0),
-    assembles!("jng foo", [0x0f, 0x8e, 0xfc, 0xff, 0xff, 0xff], distance 2 0),
-    assembles!("jg foo", [0x0f, 0x8f, 0xfc, 0xff, 0xff, 0xff], distance 2 0),
-    assembles!("jnle foo+16", [0x0f, 0x8f, 0x0c, 0x00, 0x00, 0x00], distance 2 0),
-    assembles!("seto %al", [0x0f, 0x90, 0xc0]),
-    assembles!("setnc (%eax)", [0x0f, 0x93, 0x00]),
-    assembles!("sete %dl", [0x0f, 0x94, 0xc2]),
-    assembles!("setne foo", [0x0f, 0x95, 0x05, 0x00, 0x00, 0x00, 0x00], disp 3 0),
-    assembles!("seta %bh", [0x0f, 0x97, 0xc7]),
-    assembles!("sets %cl", [0x0f, 0x98, 0xc1]),
-    assembles!("setpo %cl", [0x0f, 0x9b, 0xc1]),
-    assembles!("setnge %cl", [0x0f, 0x9c, 0xc1]),
-    assembles!("setge %cl", [0x0f, 0x9d, 0xc1]),
-    assembles!("setng 1(%ecx,%edx,2)", [0x0f, 0x9e, 0x44, 0x51, 0x01]),
-    assembles!("setg %cl", [0x0f, 0x9f, 0xc1]),
-    assembles!("int $128", [0xcd, 0x80]),
-    assembles!("int $-1", [0xcd, 0xff]),
-    assembles!("int3", [0xcc]),
-    assembles!("ud2", [0x0f, 0x0b]),
-    assembles!("iret", [0xcf]),
-    assembles!("ljmp $8,$foo", [0xea, 0x00, 0x00, 0x00, 0x00, 0x08, 0x00], imm 1 1),
-    assembles!(
-        "ljmp $0x10,$0x100000",
-        [0xea, 0x00, 0x00, 0x10, 0x00, 0x10, 0x00]
-    ),
-    assembles!("ret", [0xc3]),
-    assembles!("retl", [0xc3]),
-    assembles!("ret $4", [0xc2, 0x04, 0x00]),
-    assembles!("ret $-1", [0xc2, 0xff, 0xff]),
-    assembles!("jmp *%eax", [0xff, 0xe0]),
-    assembles!("jmp *foo(,%eax,4)", [0xff, 0x24, 0x85, 0x00, 0x00, 0x00, 0x00], disp 3 0),
-    assembles!("jmpl *(%ebx)", [0xff, 0x23]),
-    assembles!("call *%ecx", [0xff, 0xd1]),
-    assembles!("call *foo", [0xff, 0x15, 0x00, 0x00, 0x00, 0x00], disp 2 0),
-    assembles!("calll *4(%edx)", [0xff, 0x52, 0x04]),
-];
+const CONTROL: &str = "\
+jmp foo => e9 fc ff ff ff imm 1 0 relative
+call foo => e8 fc ff ff ff imm 1 0 relative
+calll foo+0x7fffffff => e8 fb ff ff 7f imm 1 0 relative
+jo foo => 0f 80 fc ff ff ff imm 2 0 relative
+jno foo => 0f 81 fc ff ff ff imm 2 0 relative
+jb foo => 0f 82 fc ff ff ff imm 2 0 relative
+jnae foo => 0f 82 fc ff ff ff imm 2 0 relative
+jc foo => 0f 82 fc ff ff ff imm 2 0 relative
+jae foo => 0f 83 fc ff ff ff imm 2 0 relative
+jnb foo => 0f 83 fc ff ff ff imm 2 0 relative
+jnc foo => 0f 83 fc ff ff ff imm 2 0 relative
+je foo => 0f 84 fc ff ff ff imm 2 0 relative
+jz foo => 0f 84 fc ff ff ff imm 2 0 relative
+jne foo => 0f 85 fc ff ff ff imm 2 0 relative
+jnz foo => 0f 85 fc ff ff ff imm 2 0 relative
+jbe foo => 0f 86 fc ff ff ff imm 2 0 relative
+jna foo => 0f 86 fc ff ff ff imm 2 0 relative
+ja foo => 0f 87 fc ff ff ff imm 2 0 relative
+jnbe foo => 0f 87 fc ff ff ff imm 2 0 relative
+js foo => 0f 88 fc ff ff ff imm 2 0 relative
+jns foo => 0f 89 fc ff ff ff imm 2 0 relative
+jp foo => 0f 8a fc ff ff ff imm 2 0 relative
+jpe foo => 0f 8a fc ff ff ff imm 2 0 relative
+jnp foo => 0f 8b fc ff ff ff imm 2 0 relative
+jpo foo => 0f 8b fc ff ff ff imm 2 0 relative
+jl foo => 0f 8c fc ff ff ff imm 2 0 relative
+jnge foo => 0f 8c fc ff ff ff imm 2 0 relative
+jge foo => 0f 8d fc ff ff ff imm 2 0 relative
+jnl foo => 0f 8d fc ff ff ff imm 2 0 relative
+jle foo => 0f 8e fc ff ff ff imm 2 0 relative
+jng foo => 0f 8e fc ff ff ff imm 2 0 relative
+jg foo => 0f 8f fc ff ff ff imm 2 0 relative
+jnle foo+16 => 0f 8f 0c 00 00 00 imm 2 0 relative
+seto %al => 0f 90 c0
+setnc (%eax) => 0f 93 00
+sete %dl => 0f 94 c2
+setne foo => 0f 95 05 00 00 00 00 disp 3 0
+seta %bh => 0f 97 c7
+sets %cl => 0f 98 c1
+setpo %cl => 0f 9b c1
+setnge %cl => 0f 9c c1
+setge %cl => 0f 9d c1
+setng 1(%ecx,%edx,2) => 0f 9e 44 51 01
+setg %cl => 0f 9f c1
+int $128 => cd 80
+int $-1 => cd ff
+int3 => cc
+ud2 => 0f 0b
+iret => cf
+ljmp $8,$foo => ea 00 00 00 00 08 00 imm 1 1
+ljmp $0x10,$0x100000 => ea 00 00 10 00 10 00
+ret => c3
+retl => c3
+ret $4 => c2 04 00
+ret $-1 => c2 ff ff
+jmp *%eax => ff e0
+jmp *foo(,%eax,4) => ff 24 85 00 00 00 00 disp 3 0
+jmpl *(%ebx) => ff 23
+call *%ecx => ff d1
+call *foo => ff 15 00 00 00 00 disp 2 0
+calll *4(%edx) => ff 52 04
+";
 
 #[test]
 fn jumps_calls_and_interrupts_are_assembled(rt: HostRuntime) {
-    assert_eq!(rt; first_wrong(&rt, &CONTROL), None);
+    are_assembled(&rt, rt.alloc(), CONTROL);
 }

@@ -1,50 +1,48 @@
-use super::{Line, assembles, first_wrong};
-use asm_instruction::Named;
-use std::test::*;
+use super::are_assembled;
 
 /// As GNU as assembles them.
-static MOVES: [Line; 38] = [
-    assembles!("mov %al,%bl", [0x88, 0xc3]),
-    assembles!("movb %al,(%ebx)", [0x88, 0x03]),
-    assembles!("mov %eax,%ebx", [0x89, 0xc3]),
-    assembles!("movl %eax,4(%ebx)", [0x89, 0x43, 0x04]),
-    assembles!("movb (%ebx),%al", [0x8a, 0x03]),
-    assembles!("mov 4(%esp),%ebx", [0x8b, 0x5c, 0x24, 0x04]),
-    assembles!("movb $5,%cl", [0xb1, 0x05]),
-    assembles!("movl $5,%ecx", [0xb9, 0x05, 0x00, 0x00, 0x00]),
-    assembles!("mov $foo,%ecx", [0xb9, 0x00, 0x00, 0x00, 0x00], imm 1 0),
-    assembles!("movb $5,(%ecx)", [0xc6, 0x01, 0x05]),
-    assembles!("movl $foo+5,foo+9(%ecx)", [0xc7, 0x81, 0x09, 0x00, 0x00, 0x00, 0x05, 0x00, 0x00, 0x00], disp 2 1, imm 6 0),
-    assembles!("movb foo,%al", [0xa0, 0x00, 0x00, 0x00, 0x00], disp 1 0),
-    assembles!("movl foo,%eax", [0xa1, 0x00, 0x00, 0x00, 0x00], disp 1 0),
-    assembles!("mov %al,foo+1", [0xa2, 0x01, 0x00, 0x00, 0x00], disp 1 1),
-    assembles!("movl %eax,4096", [0xa3, 0x00, 0x10, 0x00, 0x00]),
-    assembles!("mov %ebx,4096", [0x89, 0x1d, 0x00, 0x10, 0x00, 0x00]),
-    assembles!("mov %ax,(%ebx)", [0x66, 0x89, 0x03]),
-    assembles!("movw %ax,%bx", [0x66, 0x89, 0xc3]),
-    assembles!("mov (%ebx),%ax", [0x66, 0x8b, 0x03]),
-    assembles!("movw $5,(%ebx)", [0x66, 0xc7, 0x03, 0x05, 0x00]),
-    assembles!("movw $-5,%bx", [0x66, 0xbb, 0xfb, 0xff]),
-    assembles!("movw foo,%ax", [0x66, 0xa1, 0x00, 0x00, 0x00, 0x00], disp 2 0),
-    assembles!("mov %ax,foo", [0x66, 0xa3, 0x00, 0x00, 0x00, 0x00], disp 2 1),
-    assembles!("movzbl %al,%ecx", [0x0f, 0xb6, 0xc8]),
-    assembles!("movzbl foo,%ecx", [0x0f, 0xb6, 0x0d, 0x00, 0x00, 0x00, 0x00], disp 3 0),
-    assembles!("movzwl %ax,%ecx", [0x0f, 0xb7, 0xc8]),
-    assembles!("movzwl (%eax),%ecx", [0x0f, 0xb7, 0x08]),
-    assembles!("movsbl %ah,%ecx", [0x0f, 0xbe, 0xcc]),
-    assembles!("movswl 2(%eax),%ecx", [0x0f, 0xbf, 0x48, 0x02]),
-    assembles!("lea (%eax,%eax,4),%edx", [0x8d, 0x14, 0x80]),
-    assembles!("leal foo(,%ecx,8),%ebp", [0x8d, 0x2c, 0xcd, 0x00, 0x00, 0x00, 0x00], disp 3 0),
-    assembles!("lea 4(%ebp),%esp", [0x8d, 0x65, 0x04]),
-    assembles!("lea foo,%eax", [0x8d, 0x05, 0x00, 0x00, 0x00, 0x00], disp 2 0),
-    assembles!("xchg %ecx,%eax", [0x91]),
-    assembles!("xchgl %eax,%esi", [0x96]),
-    assembles!("xchg %edx,%ecx", [0x87, 0xd1]),
-    assembles!("xchgb (%eax),%cl", [0x86, 0x08]),
-    assembles!("xchgl %ecx,(%eax)", [0x87, 0x08]),
-];
+const MOVES: &str = "\
+mov %al,%bl => 88 c3
+movb %al,(%ebx) => 88 03
+mov %eax,%ebx => 89 c3
+movl %eax,4(%ebx) => 89 43 04
+movb (%ebx),%al => 8a 03
+mov 4(%esp),%ebx => 8b 5c 24 04
+movb $5,%cl => b1 05
+movl $5,%ecx => b9 05 00 00 00
+mov $foo,%ecx => b9 00 00 00 00 imm 1 0
+movb $5,(%ecx) => c6 01 05
+movl $foo+5,foo+9(%ecx) => c7 81 09 00 00 00 05 00 00 00 disp 2 1 imm 6 0
+movb foo,%al => a0 00 00 00 00 disp 1 0
+movl foo,%eax => a1 00 00 00 00 disp 1 0
+mov %al,foo+1 => a2 01 00 00 00 disp 1 1
+movl %eax,4096 => a3 00 10 00 00
+mov %ebx,4096 => 89 1d 00 10 00 00
+mov %ax,(%ebx) => 66 89 03
+movw %ax,%bx => 66 89 c3
+mov (%ebx),%ax => 66 8b 03
+movw $5,(%ebx) => 66 c7 03 05 00
+movw $-5,%bx => 66 bb fb ff
+movw foo,%ax => 66 a1 00 00 00 00 disp 2 0
+mov %ax,foo => 66 a3 00 00 00 00 disp 2 1
+movzbl %al,%ecx => 0f b6 c8
+movzbl foo,%ecx => 0f b6 0d 00 00 00 00 disp 3 0
+movzwl %ax,%ecx => 0f b7 c8
+movzwl (%eax),%ecx => 0f b7 08
+movsbl %ah,%ecx => 0f be cc
+movswl 2(%eax),%ecx => 0f bf 48 02
+lea (%eax,%eax,4),%edx => 8d 14 80
+leal foo(,%ecx,8),%ebp => 8d 2c cd 00 00 00 00 disp 3 0
+lea 4(%ebp),%esp => 8d 65 04
+lea foo,%eax => 8d 05 00 00 00 00 disp 2 0
+xchg %ecx,%eax => 91
+xchgl %eax,%esi => 96
+xchg %edx,%ecx => 87 d1
+xchgb (%eax),%cl => 86 08
+xchgl %ecx,(%eax) => 87 08
+";
 
 #[test]
 fn moves_are_assembled(rt: HostRuntime) {
-    assert_eq!(rt; first_wrong(&rt, &MOVES), None);
+    are_assembled(&rt, rt.alloc(), MOVES);
 }

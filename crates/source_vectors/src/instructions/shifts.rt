@@ -1,29 +1,27 @@
-use super::{Line, assembles, first_wrong};
-use asm_instruction::Named;
-use std::test::*;
+use super::are_assembled;
 
 /// As GNU as assembles them.
-static SHIFTS: [Line; 17] = [
-    assembles!("rolb $1,%al", [0xd0, 0xc0]),
-    assembles!("rol %eax", [0xd1, 0xc0]),
-    assembles!("rorb $3,%cl", [0xc0, 0xc9, 0x03]),
-    assembles!("rorl $3,%ecx", [0xc1, 0xc9, 0x03]),
-    assembles!("shlb %cl,%dl", [0xd2, 0xe2]),
-    assembles!("shll %cl,(%edx)", [0xd3, 0x22]),
-    assembles!("sall $1,(%edx)", [0xd1, 0x22]),
-    assembles!("sal $5,%edx", [0xc1, 0xe2, 0x05]),
-    assembles!("salb %dl", [0xd0, 0xe2]),
-    assembles!("shrb (%eax)", [0xd0, 0x28]),
-    assembles!("shr $-1,%eax", [0xc1, 0xe8, 0xff]),
-    assembles!("shrl %cl,%ebx", [0xd3, 0xeb]),
-    assembles!("sarl %eax", [0xd1, 0xf8]),
-    assembles!("sarb $255,%al", [0xc0, 0xf8, 0xff]),
-    assembles!("sar %cl,%bh", [0xd2, 0xff]),
-    assembles!("rol %cl,%esi", [0xd3, 0xc6]),
-    assembles!("rorl foo", [0xd1, 0x0d, 0x00, 0x00, 0x00, 0x00], disp 2 0),
-];
+const SHIFTS: &str = "\
+rolb $1,%al => d0 c0
+rol %eax => d1 c0
+rorb $3,%cl => c0 c9 03
+rorl $3,%ecx => c1 c9 03
+shlb %cl,%dl => d2 e2
+shll %cl,(%edx) => d3 22
+sall $1,(%edx) => d1 22
+sal $5,%edx => c1 e2 05
+salb %dl => d0 e2
+shrb (%eax) => d0 28
+shr $-1,%eax => c1 e8 ff
+shrl %cl,%ebx => d3 eb
+sarl %eax => d1 f8
+sarb $255,%al => c0 f8 ff
+sar %cl,%bh => d2 ff
+rol %cl,%esi => d3 c6
+rorl foo => d1 0d 00 00 00 00 disp 2 0
+";
 
 #[test]
 fn shifts_are_assembled(rt: HostRuntime) {
-    assert_eq!(rt; first_wrong(&rt, &SHIFTS), None);
+    are_assembled(&rt, rt.alloc(), SHIFTS);
 }
