@@ -1,6 +1,6 @@
 //! A halted processor that waits.
 
-ghost use Rattle.std.specs.Prelude.{◌≡◌, ◌-◌, ◌≤◌, ◌<◌, true, false, None};
+ghost use Rattle.std.specs.Prelude.{◌≡◌, ◌+◌, ◌-◌, ◌≤◌, ◌<◌, true, false, None};
 ghost use Rattle.board.specs.Boards.{comes_within};
 ghost use Rattle.board.specs.Scripts.{is_script};
 ghost use Rattle.machine_model.specs.Step.{interrupt_of};
@@ -29,6 +29,8 @@ pub fn quiet_steps(board: &Board, script: &Script, step: u64, most: u64) -> u64
     requires begun { 0 < step }
     ensures most { result ≤ most }
     ensures quiet { 0 < result → comes_within board.now script.now.list (step - 1) result ≡ false }
+    // Fewer than that number only where something comes in the next step.
+    ensures furthest { result < most → comes_within board.now script.now.list (step - 1) (result + 1) ≡ true }
 {
     match board.next_event(script, step - 1) {
         None => most,
