@@ -3,12 +3,12 @@ use Rattle.std.proofs.Common.{◌≡◌, ℕ, zero, suc, ◌+◌, ◌-◌, ◌<�
 use Rattle.std.specs.Prelude.{slice_get, filter, sum_by, max, replicate, ◌==◌, codes}
 use Rattle.std.specs.Bool.{then_some}
 use Rattle.std.specs.List.{flat_map, enumerate_from, All, AllByRecursion, Contains}
+use Rattle.std.specs.Option.{option_or}
 use Rattle.std.proofs.lemmas.Bool.Decides.{nat_tests}
 use Rattle.std.proofs.lemmas.List.{append-nil, length-append, length-replicate, length-take, take_all}
 use Rattle.std.proofs.lemmas.List.Sums.{sum_by-cons}
 use Rattle.std.proofs.lemmas.List.Elements.{All-nil, All-append, All-weaker, All-filter, All-contains, All-contains_itself}
 use Rattle.guest_ram.specs.Bytes.{word32}
-use Rattle.guest_ram.specs.Places.{◌or_else◌}
 use Rattle.ia32_rows.proofs.TableLaws.{at_most_eleven, not_empty}
 use Rattle.sites.specs.declared.limits.TheConstants.{TEXT_LIMIT}
 use Rattle.elf_form.specs.declared.object.Reloc.{Reloc}
@@ -52,7 +52,7 @@ use Rattle.built_images.proofs.LinkedTexts.{ObjectsRight, FromObject, from_objec
 
 -- ---- what is not refused
 
-none_or : {X : Type 0} (a b : Option X) → (a or_else b) ≡ None → (a ≡ None) × (b ≡ None)
+none_or : {X : Type 0} (a b : Option X) → option_or a b ≡ None → (a ≡ None) × (b ≡ None)
 none_or (Some x) b e = absurd cc
 none_or None b e = (refl, e)
 
@@ -90,7 +90,7 @@ pub record IsLinkedWell (os : List ObjectParts) : Type 0 where
 well : (os : List ObjectParts) → refusal os ≡ None → IsLinkedWell os
 unfolding refusal
 well os e =
-    let a = none_or (first_some (object_refusal os) (numbered os)) (first_some (relocs_refusal os) (numbered os) or_else start_refusal (start os)) e in
+    let a = none_or (first_some (object_refusal os) (numbered os)) (option_or (first_some (relocs_refusal os) (numbered os)) (start_refusal (start os))) e in
     let b = none_or (first_some (relocs_refusal os) (numbered os)) (start_refusal (start os)) a.1 in
     record { objects = a.0; relocs = b.0; starts = b.1 }
 
