@@ -37,8 +37,8 @@ use Rattle.elf_link.specs.Linked.{texts, linked_text, linked_init, entry_at, ima
 use Rattle.image_check.specs.Sweep.{Swept}
 use Rattle.image_check.specs.Pieces.{target_of}
 use Rattle.built_images.specs.Joined.{jump_to_itself}
-use Rattle.afterburner.specs.Instructions.{nops_behind}
-use Rattle.built_images.specs.Chunks.{Coded, insn_in, IsCoded, Chunk, Alone, Pair, AreChunks, padding, chunk_text, chunks_text, site_by, chunk_site, chunk_sites, chunks_swept, Begins}
+use Rattle.afterburner.specs.Instructions.{nops_behind, site_at}
+use Rattle.built_images.specs.Chunks.{Coded, insn_in, IsCoded, Chunk, Alone, Pair, AreChunks, padding, chunk_text, chunks_text, chunk_site, chunk_sites, chunks_swept, Begins}
 use Rattle.built_images.specs.Filled.{chunks_relocs}
 use Rattle.built_images.specs.Padded.{IsEdge, IsPadded, ArePadded, AreAlone, AnyChunks}
 use Rattle.built_images.specs.Built.{IsBuilt, LeadsRight}
@@ -244,7 +244,7 @@ anywhere_right made base at (Pair ∷ cs) = (tt, anywhere_right made base (at + 
 
 -- ---- annotations
 
-site_count : (at len : ℕ) (k : Option SiteKind) → length (site_by at len k) ≤ 1
+site_count : (at len : ℕ) (k : Option SiteKind) → length (site_at at k len) ≤ 1
 site_count at len None = omega arith
 site_count at len (Some k) = omega arith
 
@@ -256,7 +256,7 @@ sites_few at (Alone c ∷ cs) h =
     let some = chunk_has_bytes (Alone c) h.0 in
     let one = site_count at (length c.bytes) (sensitive_kind (insn_in c)) in
     let more = sites_few (at + length (chunk_text (Alone c))) cs h.1 in
-    let m = length-append (site_by at (length c.bytes) (sensitive_kind (insn_in c))) (chunk_sites (at + length (chunk_text (Alone c))) cs) in
+    let m = length-append (site_at at (sensitive_kind (insn_in c)) (length c.bytes)) (chunk_sites (at + length (chunk_text (Alone c))) cs) in
     omega (arith, l, some, one, more, m)
 sites_few at (Pair ∷ cs) h =
     let l = length-append (chunk_text Pair) (chunks_text cs) in
@@ -264,7 +264,7 @@ sites_few at (Pair ∷ cs) h =
     omega (arith, l, more)
 
 gaps_by : (at len from : ℕ) (k : Option SiteKind) (size : ℕ) (more : List Site) → from ≤ at → at + size ≤ 2 ^ 24 → 1 ≤ len → len ≤ 11 → size ≡ len + nops_behind k len → ((next : ℕ) → next ≤ at + size → AreInGaps next more)
-    → AreInGaps from (site_by at len k ++ more)
+    → AreInGaps from (site_at at k len ++ more)
 gaps_by at len from None size more le room some few is h = h from (omega arith)
 gaps_by at len from (Some k) size more le room some few is h = (le, omega (arith, is), some, few, refl, omega (arith, is), h (at + max 5 len) (omega (arith, is)))
 
