@@ -165,7 +165,7 @@ cause_is : (a b : ElfCause) → a_cause a ≡ a_cause b → a ≡ b
 cause_is a b e = cc
 
 module _ (bytes : List ℕ) (place_of : ElfCause → Option ℕ) (bad_by : ElfCause → ℕ → Type 0) (meets : (c : ElfCause) → Meets bytes (place_of c) (HasPlace bad_by bytes c) (bad_by c)) where
-  first_so : (cs : List ElfCause) (at : ℕ) (cause : ElfCause) → IsFirstOf place_of cs (record { at = at; cause = cause }) → IsRefused bad_by cs bytes at cause
+  first_so : (cs : List ElfCause) (at : ℕ) (cause : ElfCause) → IsFirstOf place_of cs at cause → IsRefused bad_by cs bytes at cause
   first_so [] at cause h = absurd h
   first_so (c ∷ cs) at cause (inl here) = record {
     index = 0;
@@ -180,13 +180,13 @@ module _ (bytes : List ℕ) (place_of : ElfCause → Option ℕ) (bad_by : ElfCa
         step more zero d k lt there = let same : c ≡ d = cause_is c d there in (meets d).none.0 (ap place_of (sym same) ∙ later.0) k
         step more (suc j) d k lt there = more.before j d k (omega (arith, lt)) there
 
-  so_first : (cs : List ElfCause) (at : ℕ) (cause : ElfCause) (index : ℕ) → slice_get cs index ≡ Some cause → HasPlace bad_by bytes cause at → ((j : ℕ) (c : ElfCause) (k : ℕ) → j < index → slice_get cs j ≡ Some c → bad_by c k → ⊥) → IsFirstOf place_of cs (record { at = at; cause = cause })
+  so_first : (cs : List ElfCause) (at : ℕ) (cause : ElfCause) (index : ℕ) → slice_get cs index ≡ Some cause → HasPlace bad_by bytes cause at → ((j : ℕ) (c : ElfCause) (k : ℕ) → j < index → slice_get cs j ≡ Some c → bad_by c k → ⊥) → IsFirstOf place_of cs at cause
   so_first [] at cause index there place before = absurd cc
   so_first (c ∷ cs) at cause zero there place before = let same : c ≡ cause = cause_is c cause there in inl (ap place_of same ∙ ((meets cause).exact at).1 place, sym same)
   so_first (c ∷ cs) at cause (suc i) there place before =
       inr ((meets c).none.1 (λ k. before 0 c k (omega arith) refl), so_first cs at cause i there place (λ j d k lt there2. before (suc j) d k (omega (arith, lt)) there2))
 
-  pub refused_exact : (cs : List ElfCause) (at : ℕ) (cause : ElfCause) → IsFirstOf place_of cs (record { at = at; cause = cause }) ↔ IsRefused bad_by cs bytes at cause
+  pub refused_exact : (cs : List ElfCause) (at : ℕ) (cause : ElfCause) → IsFirstOf place_of cs at cause ↔ IsRefused bad_by cs bytes at cause
   refused_exact cs at cause = (first_so cs at cause, λ h. so_first cs at cause h.index h.there h.place h.before)
 
 -- ---- the readers
