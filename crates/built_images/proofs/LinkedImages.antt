@@ -31,7 +31,7 @@ use Rattle.elf_link.specs.Symbols.{is_text, globals, address}
 use Rattle.elf_link.specs.Relocations.{reloc_cause, field_at, address_by, sum_of, target_by, relocated}
 use Rattle.elf_link.specs.Sites.{linked_sites}
 use Rattle.elf_form.specs.Tables.{first_some}
-use Rattle.elf_form.proofs.FormLaws.{then_none}
+use Rattle.elf_form.proofs.FormLaws.{then_none, else_none}
 use Rattle.elf_link.specs.Refusals.{Refused, object_cause, refused, object_refusal, relocs_refusal, start, start_refusal, refusal, unless}
 use Rattle.elf_link.specs.Linked.{texts, linked_text, linked_init, entry_at, image, linked_image}
 use Rattle.image_check.specs.Sweep.{Swept}
@@ -52,15 +52,11 @@ use Rattle.built_images.proofs.LinkedTexts.{ObjectsRight, FromObject, from_objec
 
 -- ---- what is not refused
 
-none_or : {X : Type 0} (a b : Option X) → option_or a b ≡ None → (a ≡ None) × (b ≡ None)
-none_or (Some x) b e = absurd cc
-none_or None b e = (refl, e)
-
 first_none : {X Y : Type 0} (f : X → Option Y) (xs : List X) (k : ℕ) (x : X) → first_some f xs ≡ None → slice_get xs k ≡ Some x → f x ≡ None
 unfolding first_some
 first_none f [] k x e got = absurd cc
-first_none f (y ∷ xs) zero x e got = let same : y ≡ x = cc in ap f (sym same) ∙ (none_or (f y) (first_some f xs) e).0
-first_none f (y ∷ xs) (suc k) x e got = first_none f xs k x (none_or (f y) (first_some f xs) e).1 got
+first_none f (y ∷ xs) zero x e got = let same : y ≡ x = cc in ap f (sym same) ∙ (else_none (f y) (first_some f xs) e).0
+first_none f (y ∷ xs) (suc k) x e got = first_none f xs k x (else_none (f y) (first_some f xs) e).1 got
 
 contains_got : {X : Type 0} (xs : List X) (k : ℕ) (x : X) → k < length xs → Rattle.std.specs.Prelude.slice_index_or xs k x ≡ x → slice_get xs k ≡ Some x
 contains_got [] k x lt e = absurd (omega arith)
@@ -90,8 +86,8 @@ pub record IsLinkedWell (os : List ObjectParts) : Type 0 where
 well : (os : List ObjectParts) → refusal os ≡ None → IsLinkedWell os
 unfolding refusal
 well os e =
-    let a = none_or (first_some (object_refusal os) (numbered os)) (option_or (first_some (relocs_refusal os) (numbered os)) (start_refusal (start os))) e in
-    let b = none_or (first_some (relocs_refusal os) (numbered os)) (start_refusal (start os)) a.1 in
+    let a = else_none (first_some (object_refusal os) (numbered os)) (option_or (first_some (relocs_refusal os) (numbered os)) (start_refusal (start os))) e in
+    let b = else_none (first_some (relocs_refusal os) (numbered os)) (start_refusal (start os)) a.1 in
     record { objects = a.0; relocs = b.0; starts = b.1 }
 
 abbrev ok_parts : ImageParts → Result ImageParts Refused
@@ -121,8 +117,8 @@ pub record IsWithin (os : List ObjectParts) : Type 0 where
 object_within : (os : List ObjectParts) (k : ℕ) (o : ObjectParts) → take (k + 1) os ≡ os → object_cause os (k, o) ≡ None → IsWithin os
 unfolding object_cause
 object_within os k o all e =
-    let a = none_or (then_some (nat_lt TEXT_LIMIT (text_end (take (k + 1) os) + 2)) TextTooLarge) _ e in
-    let b = none_or (then_some (nat_lt 33554432 (memory_end (take (k + 1) os))) InitTooLarge) _ a.1 in
+    let a = else_none (then_some (nat_lt TEXT_LIMIT (text_end (take (k + 1) os) + 2)) TextTooLarge) _ e in
+    let b = else_none (then_some (nat_lt 33554432 (memory_end (take (k + 1) os))) InitTooLarge) _ a.1 in
     record {
       text = not_more TEXT_LIMIT (text_end os + 2) (then_none _ TextTooLarge (subst (λ (xs : List ObjectParts). then_some (nat_lt TEXT_LIMIT (text_end xs + 2)) TextTooLarge ≡ None) all a.0));
       memory = not_more 33554432 (memory_end os) (then_none _ InitTooLarge (subst (λ (xs : List ObjectParts). then_some (nat_lt 33554432 (memory_end xs)) InitTooLarge ≡ None) all b.0));

@@ -11,6 +11,7 @@ use Rattle.elf_link.specs.declared.target.Target.{Target}
 use Rattle.elf_link.specs.declared.fault.LinkCause.TheVariants.{NoSymbol, NotText}
 use Rattle.elf_link.specs.Symbols.{is_exported, is_text, target, exports, definitions, lookup, target_of, globals}
 use Rattle.elf_link.specs.Relocations.{reloc_cause, symbol_cause, target_cause}
+use Rattle.elf_form.proofs.FormLaws.{else_none}
 use Rattle.elf_link.proofs.ExportLaws.{entries}
 
 lookup-append : (name : List ℕ) (xs ys : List (List ℕ × Target)) → lookup name (xs ++ ys) ≡ option_or (lookup name xs) (lookup name ys)
@@ -20,14 +21,6 @@ lookup-append name (x ∷ xs) ys = by (bytes_eq name x.0) (lookup-append name xs
   by : (b : Bool) → lookup name (xs ++ ys) ≡ option_or (lookup name xs) (lookup name ys) → cond b (Some x.1) (lookup name (xs ++ ys)) ≡ option_or (cond b (Some x.1) (lookup name xs)) (lookup name ys)
   by true ih = refl
   by false ih = ih
-
-none_left : (a b : Option Target) → option_or a b ≡ None → a ≡ None
-none_left None b h = refl
-none_left (Some t) b h = absurd (cc)
-
-none_right : (a b : Option Target) → option_or a b ≡ None → b ≡ None
-none_right None b h = h
-none_right (Some t) b h = absurd (cc)
 
 -- a name that isn't found in the entries of an object is no exported name of it
 own-nowhere : (name : List ℕ) (n : ℕ) (symbols : List Symbol) (k : ℕ) (s : Symbol) → lookup name (entries n symbols) ≡ None → slice_get symbols k ≡ Some s → is_exported s ≡ true → bytes_eq name s.name ≡ false
@@ -70,10 +63,10 @@ nowhere_in name n [] j k o s none there listed e = absurd (cc)
 nowhere_in name n (x ∷ xs) zero k o s none there listed e =
     let same : x ≡ o = cc in
     let parts = sym (lookup-append name (exports (n, x)) (flat_map exports (enumerate_from (n + 1) xs))) ∙ none in
-    own-nowhere name n x.symbols k s (none_left (lookup name (exports (n, x))) (lookup name (flat_map exports (enumerate_from (n + 1) xs))) parts) (ap (λ (p : ObjectParts). slice_get p.symbols k) same ∙ listed) e
+    own-nowhere name n x.symbols k s (else_none (lookup name (exports (n, x))) (lookup name (flat_map exports (enumerate_from (n + 1) xs))) parts).0 (ap (λ (p : ObjectParts). slice_get p.symbols k) same ∙ listed) e
 nowhere_in name n (x ∷ xs) (suc j) k o s none there listed e =
     let parts = sym (lookup-append name (exports (n, x)) (flat_map exports (enumerate_from (n + 1) xs))) ∙ none in
-    nowhere_in name (n + 1) xs j k o s (none_right (lookup name (exports (n, x))) (lookup name (flat_map exports (enumerate_from (n + 1) xs))) parts) there listed e
+    nowhere_in name (n + 1) xs j k o s (else_none (lookup name (exports (n, x))) (lookup name (flat_map exports (enumerate_from (n + 1) xs))) parts).1 there listed e
 
 found_in : (name : List ℕ) (n : ℕ) (os : List ObjectParts) (t : Target) → lookup name (definitions (enumerate_from n os)) ≡ Some t → (j : ℕ) × (k : ℕ) × (o : ObjectParts) × (s : Symbol) × (slice_get os j ≡ Some o) × (slice_get o.symbols k ≡ Some s) × (is_exported s ≡ true) × (bytes_eq name s.name ≡ true) × (t ≡ target (n + j) s)
 unfolding definitions lookup
