@@ -1,8 +1,9 @@
 -- The symbols of an object and its relocations (System V ABI, chapter 4, Symbol Table and Relocation, with the relocation types of its i386 supplement).
 use Rattle.std.specs.Prelude.{ℕ, ◌≤◌, ◌+◌, ◌*◌, ◌-◌, ◌/◌, ◌%◌, ◌^◌, Bool, true, not, ◌&&◌, ◌||◌, List, [], ◌∷◌, length, map, filter, fold, drop, Option, None, nat_lt, ◌==◌, slice_index, if◌then◌else◌}
 use Rattle.std.specs.Bool.{then_some}
-use Rattle.std.specs.List.{list_any, before_first, flat_map}
+use Rattle.std.specs.List.{before_first, flat_map}
 use Rattle.std.specs.Option.{option_or}
+use Rattle.guest_ram.specs.Among.{is_among}
 use Rattle.guest_ram.specs.Bytes.{byte, word16, word32}
 use Rattle.elf_form.specs.declared.roles.Role.{Role}
 use Rattle.elf_form.specs.declared.roles.Role.TheVariants as role
@@ -133,7 +134,7 @@ sections_fault test table names bytes = first_some (section_test test table name
 
 -- no zero byte ends the name within the string table
 abbrev pub is_unnamed : List ℕ → List ℕ → ℕ → Bool
-is_unnamed strings bytes y = not (list_any (λ b. b == 0) (drop (word32 bytes y) strings))
+is_unnamed strings bytes y = not (is_among 0 (drop (word32 bytes y) strings))
 
 abbrev pub symbol_test : SymbolTest → List ℕ → List ℕ → List ℕ → ℕ → Option ℕ
 symbol_test Names strings names bytes y = then_some (is_unnamed strings bytes y) y
