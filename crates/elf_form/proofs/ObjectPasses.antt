@@ -18,7 +18,7 @@ use Rattle.elf_form.specs.Symbols.{section_test, sections_fault}
 use Rattle.elf_form.specs.ObjectReading.{has_strings, table_of, link_of, table_fault, inner_sizes, object_sizes, object_form, section_names_fault}
 use Rattle.elf_form.specs.ObjectLayout.{layout, is_of, object_names}
 use Rattle.elf_form.proofs.FileWords.{IsRow}
-use Rattle.elf_form.proofs.RoundTrip.{neither_first, is_good}
+use Rattle.elf_form.proofs.RoundTrip.{neither_first, is_good, bss_stays}
 use Rattle.elf_form.proofs.ObjectFile.{IsFileOf}
 use Rattle.elf_form.proofs.ObjectSections.{rows, headers-are, sections-are, names-are, HasRoles, with-role, table-is, text_target, data_target, role_at-symbols}
 
@@ -34,9 +34,6 @@ both false b e = refl
 
 stays : (f : List ℕ) (s n k g o z : ℕ) → IsRow f s n k g o z → o + z ≤ length f → section_passes f s ≡ false
 stays f s n k g o z row le = rw (row.offset, row.size) (both _ _ (le-ltb (length f) (o + z) le))
-
-bss_stays : (f : List ℕ) (s n g o z : ℕ) → IsRow f s n 8 g o z → section_passes f s ≡ false
-bss_stays f s n g o z row = rw row.kind refl
 
 pub not_cut : (f : List ℕ) (o : ObjectParts) → IsFileOf f o → cut f ≡ None
 unfolding cut

@@ -64,25 +64,25 @@ headers-are : (f : List ℕ) (p : ImageParts) → IsFileOf f p → headers f ≡
 unfolding entries
 headers-are f p is = rw (is.header.headers, is.header.programs) refl
 
-rows : ℕ → List ℕ
-rows s = s ∷ (s + 40) ∷ (s + 40 + 40) ∷ (s + 40 + 40 + 40) ∷ (s + 40 + 40 + 40 + 40) ∷ (s + 40 + 40 + 40 + 40 + 40) ∷ []
+six_rows : ℕ → List ℕ
+six_rows s = s ∷ (s + 40) ∷ (s + 40 + 40) ∷ (s + 40 + 40 + 40) ∷ (s + 40 + 40 + 40 + 40) ∷ (s + 40 + 40 + 40 + 40 + 40) ∷ []
 
-sections-are : (f : List ℕ) (p : ImageParts) → IsFileOf f p → sections f ≡ rows (sections_from p)
-unfolding entries rows
+sections-are : (f : List ℕ) (p : ImageParts) → IsFileOf f p → sections f ≡ six_rows (sections_from p)
+unfolding entries six_rows
 sections-are f p is = rw (is.header.sections, is.header.section_count) refl
 
 pub not_first : (p : ℕ → Bool) (x : ℕ) (xs : List ℕ) → p x ≡ false → find p xs ≡ None → find p (x ∷ xs) ≡ None
 not_first p x xs not_here none = cond-false _ _ _ not_here ∙ none
 
-none_of_rows : (p : ℕ → Bool) (s : ℕ) → p s ≡ false → p (s + 40) ≡ false → p (s + 40 + 40) ≡ false → p (s + 40 + 40 + 40) ≡ false → p (s + 40 + 40 + 40 + 40) ≡ false → p (s + 40 + 40 + 40 + 40 + 40) ≡ false → find p (rows s) ≡ None
-unfolding rows
+none_of_rows : (p : ℕ → Bool) (s : ℕ) → p s ≡ false → p (s + 40) ≡ false → p (s + 40 + 40) ≡ false → p (s + 40 + 40 + 40) ≡ false → p (s + 40 + 40 + 40 + 40) ≡ false → p (s + 40 + 40 + 40 + 40 + 40) ≡ false → find p (six_rows s) ≡ None
+unfolding six_rows
 none_of_rows p s a b c d e g = rw (a, b, c, d, e, g) refl
 
 kept : (p : ℕ → Bool) (x : ℕ) (xs ys : List ℕ) → p x ≡ true → filter p xs ≡ ys → filter p (x ∷ xs) ≡ x ∷ ys
 kept p x xs ys here rest = cond-true _ _ _ here ∙ ap (λ (r : List ℕ). x ∷ r) rest
 
-fourth_of_rows : (p : ℕ → Bool) (s : ℕ) → p s ≡ false → p (s + 40) ≡ false → p (s + 40 + 40) ≡ false → p (s + 40 + 40 + 40) ≡ false → p (s + 40 + 40 + 40 + 40) ≡ true → p (s + 40 + 40 + 40 + 40 + 40) ≡ false → filter p (rows s) ≡ (s + 40 + 40 + 40 + 40) ∷ []
-unfolding rows
+fourth_of_rows : (p : ℕ → Bool) (s : ℕ) → p s ≡ false → p (s + 40) ≡ false → p (s + 40 + 40) ≡ false → p (s + 40 + 40 + 40) ≡ false → p (s + 40 + 40 + 40 + 40) ≡ true → p (s + 40 + 40 + 40 + 40 + 40) ≡ false → filter p (six_rows s) ≡ (s + 40 + 40 + 40 + 40) ∷ []
+unfolding six_rows
 fourth_of_rows p s a b c d e g = rw (a, b, c, d, e, g) refl
 
 -- ---- no part passes the end
@@ -99,7 +99,7 @@ is_good is_bad at e = rw e refl
 null_stays : (f : List ℕ) (s n g o z : ℕ) → IsRow f s n 0 g o z → section_passes f s ≡ false
 null_stays f s n g o z row = rw row.kind refl
 
-bss_stays : (f : List ℕ) (s n g o z : ℕ) → IsRow f s n 8 g o z → section_passes f s ≡ false
+pub bss_stays : (f : List ℕ) (s n g o z : ℕ) → IsRow f s n 8 g o z → section_passes f s ≡ false
 bss_stays f s n g o z row = rw row.kind refl
 
 bytes_stay : (f : List ℕ) (s n g o z : ℕ) → IsRow f s n 1 g o z → o + z ≤ length f → section_passes f s ≡ false

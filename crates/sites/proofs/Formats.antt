@@ -13,7 +13,8 @@ use Rattle.sites.specs.Spelling.{site, placed, gaps, gapped, spelling, IsInForm}
 use Rattle.sites.specs.Reading.{head_fault, sites_fault, sites_at, placed_in, Gives}
 use Rattle.sites.specs.Gapped.{end_at, gaps_fault, gap_sites, gapped_in}
 use Rattle.sites.specs.Formats.{told_format, told_count, sites_in, list_of, listed}
-use Rattle.sites.proofs.Inverse.{unless_ok, else_none, head_was, in_first, placed_read, placed_was, length-sites}
+use Rattle.sites.proofs.Walk.{in_first}
+use Rattle.sites.proofs.Inverse.{unless_ok, else_none, head_was, placed_read, placed_was, length-sites}
 use Rattle.sites.proofs.GapWalk.{in_second}
 use Rattle.sites.proofs.GapInverse.{gapped_read, gapped_was, length-gaps}
 

@@ -17,6 +17,7 @@ use Rattle.sites.specs.Kinds.{kinds, number, kind_numbered}
 use Rattle.sites.specs.Spelling.{site, placed, AreInForm}
 use Rattle.sites.specs.SitesParts.{SitesParts}
 use Rattle.sites.specs.Reading.{differs, cut_before, falls, has_no_kind, has_wrong_total, unless, head_fault, site_fault, sites_fault, site_at, sites_at, placed_in}
+use Rattle.sites.proofs.Walk.{in_first}
 
 -- ---- kinds
 
@@ -134,9 +135,6 @@ head_good bytes v room b0 b1 b2 b3 =
 
 pub unless_none : (place : Option ℕ) (v : SitesParts) → place ≡ None → unless place v ≡ Ok v
 unless_none place v e = rw e refl
-
-abbrev pub in_first : List Site → SitesParts
-in_first sites = record { list = sites; format = 1 }
 
 pub placed_read : (sites : List Site) → AreInForm 0 sites → length sites < 2 ^ 32 → placed_in (placed sites) ≡ Ok (in_first sites)
 unfolding placed byte word32 part placed_in
