@@ -10,3 +10,4 @@ pub mod Statements
 pub mod Reasons
 pub mod Lowest
 pub mod Refusal
+pub mod FieldBytes

@@ -3,7 +3,7 @@ use Rattle.std.proofs.Common.{◌≡◌, ℕ, ◌+◌, Bool, true, false, not, c
 use Rattle.std.specs.Prelude.{slice_get, ◌==◌, is_some, is_none}
 use Rattle.std.specs.Option.{option_or}
 use Rattle.std.specs.List.{list_all, Contains}
-use Rattle.std.proofs.lemmas.Bool.{eqb-true}
+use Rattle.std.proofs.lemmas.Bool.{eqb-true, and_parts}
 use Rattle.std.proofs.lemmas.List.Sums.{AllPass-from_list_all}
 use Rattle.ia32_types.specs.Shape.{is_direct_branch}
 use Rattle.ia32_types.specs.declared.insn.Op.{Op}
@@ -48,7 +48,7 @@ use Rattle.asm_instruction.specs.Assembled.{named_field, widths, whole, with_spe
 use Rattle.afterburner.specs.Arguments.{number_in as constant_in}
 use Rattle.built_images.specs.Fields.{imm_size, disp_place, imm_place}
 use Rattle.built_images.proofs.Drafts.{IsBranch, meant_sound}
-use Rattle.built_images.proofs.ChosenRows.{IsKnown, both, known, some_bytes}
+use Rattle.built_images.proofs.ChosenRows.{IsKnown, known, some_bytes}
 
 -- ---- what is assembled
 
@@ -263,7 +263,7 @@ some_name (Some n) h = (n, refl)
 some_name None h = absurd cc
 
 first_of : (a b c : Bool) → (a && b && c) ≡ true → a ≡ true
-first_of a b c e = (both a b (both (a && b) c e).0).0
+first_of a b c e = (and_parts a b (and_parts (a && b) c e).0).0
 
 symbol_disp : (o : Op) (c : ℕ) (m : Memory) → (to_symbol o c m).disp ≡ None
 unfolding to_symbol instruction

@@ -30,7 +30,7 @@ use Rattle.asm_instruction.specs.Field.{field}
 use Rattle.asm_instruction.specs.Control.{distance}
 use Rattle.afterburner.specs.Sections.{is_text}
 use Rattle.afterburner.specs.Instructions.{nops, nops_behind, site_at, reloc_of, field_reloc, is_sti, is_hlt, added, pair_site, no_site, paired, placed, in_text, instruction}
-use Rattle.built_images.specs.Chunks.{Coded, insn_in, Chunk, Alone, Pair, IsChunk, AreChunks, padding, chunk_text, chunks_text, site_by, chunk_site, chunk_sites}
+use Rattle.built_images.specs.Chunks.{Coded, insn_in, Chunk, Alone, Pair, IsChunk, AreChunks, padding, chunk_text, chunks_text, chunk_site, chunk_sites}
 use Rattle.built_images.specs.Filled.{IsField, HasFields, HaveFields, reloc_later, chunk_relocs, chunks_relocs}
 use Rattle.built_images.specs.Padded.{IsEdge, IsLinkedBranch, IsAlone, AreAlone}
 use Rattle.built_images.specs.Sources.{NamesNoNumber}
@@ -170,10 +170,6 @@ module _ (Plain : Type 0) where
 
   -- ---- an instruction
 
-  site_same : (at len : ℕ) (o : Option SiteKind) → site_at at o len ≡ site_by at len o
-  site_same at len None = refl
-  site_same at len (Some k) = refl
-
   reloc_same : (names : List (List ℕ)) (at : ℕ) (f : Named) (name : Option (List ℕ)) → map (reloc_later at) (reloc_of names 0 f name) ≡ reloc_of names at f name
   reloc_same names at f None = refl
   reloc_same names at f (Some name) = let e : at + (0 + f.at) ≡ at + f.at = omega arith in ap (λ (n : ℕ). record { in_text = true; at = n; symbol = name_number names name; relative = f.relative } ∷ []) e
@@ -273,7 +269,7 @@ module _ (Plain : Type 0) where
             ∙ sym (text_append cs (Alone c ∷ []));
         sites =
             ap (λ ss. ss ++ site_at (length st.text) (sensitive_kind a.insn) a.spelling.len) h.sites
-            ∙ ap (λ ss. chunk_sites 0 cs ++ ss) (site_same (length st.text) a.spelling.len (sensitive_kind a.insn) ∙ ap (λ n. site_by n a.spelling.len (sensitive_kind a.insn)) (sym at) ∙ ap (λ n. site_by (0 + length (chunks_text cs)) n (sensitive_kind a.insn)) (sym len) ∙ ap (site_by (0 + length (chunks_text cs)) (length (spelling_bytes a))) (sym kind) ∙ sym (append-nil (chunk_site (0 + length (chunks_text cs)) (Alone c))))
+            ∙ ap (λ ss. chunk_sites 0 cs ++ ss) (ap (λ n. site_at n (sensitive_kind a.insn) a.spelling.len) (sym at) ∙ ap (site_at (0 + length (chunks_text cs)) (sensitive_kind a.insn)) (sym len) ∙ ap (λ o. site_at (0 + length (chunks_text cs)) o (length (spelling_bytes a))) (sym kind) ∙ sym (append-nil (chunk_site (0 + length (chunks_text cs)) (Alone c))))
             ∙ sym (sites_append 0 cs (Alone c ∷ []));
         relocs =
             append_assoc st.text_relocs (field_reloc names (length st.text) args a.disp) (field_reloc names (length st.text) args a.imm)
@@ -318,7 +314,7 @@ module _ (Plain : Type 0) where
       ap (λ n. c.bytes ++ replicate n 0x90) pad ∙ ap (λ bs. bs ++ replicate 4 0x90) b
 
   sti_site : (at : ℕ) (c : Coded) → IsReadCoded c → sensitive_kind (insn_in c) ≡ Some site.Sti → chunk_site at (Alone c) ≡ record { at = at; kind = site.Sti; len = 1; total = 5 } ∷ []
-  sti_site at c h e = ap (site_by at (length c.bytes)) e ∙ ap (λ (bs : List ℕ). site_by at (length bs) (Some site.Sti)) (sti_chunk c h e)
+  sti_site at c h e = ap (λ o. site_at at o (length c.bytes)) e ∙ ap (λ (bs : List ℕ). site_at at (Some site.Sti) (length bs)) (sti_chunk c h e)
 
   -- an edge stays where the last chunk is exchanged for one as long
   abbrev Edges : List Chunk → List Chunk → Type 0

@@ -2,6 +2,7 @@
 use Rattle.std.proofs.Common.{◌≡◌, ℕ, suc, ◌+◌, ◌-◌, Bool, true, false, not, cond, ◌&&◌, ◌||◌, List, [], ◌∷◌, length, take, Option, Some, Ok, refl, sym, ap, ◌∙◌, arith}
 use Rattle.std.specs.Prelude.{replicate, ◌==◌}
 use Rattle.std.specs.List.{Contains}
+use Rattle.std.proofs.lemmas.Bool.{and_parts}
 use Rattle.std.proofs.lemmas.List.{append-nil, length-append, take_at}
 use Rattle.std.proofs.Common.{rules}
 use denote.Enum.Bare.{same_true}
@@ -24,10 +25,6 @@ use Rattle.ia32_encode.specs.Chosen.{widths_fit, does_suit, chosen_from, chosen}
 use Rattle.ia32_encode.proofs.Back.{form_back}
 use Rattle.ia32_encode.proofs.Laid.{parts_len, width_of}
 use Rattle.built_images.specs.Fields.{imm_size, disp_place, imm_place}
-
-pub both : (a b : Bool) → (a && b) ≡ true → (a ≡ true) × (b ≡ true)
-both true b e = (refl, e)
-both false b e = absurd cc
 
 -- ---- the chosen row
 
@@ -65,12 +62,12 @@ laid_row wide insn s e = let f = found_row rows wide insn s e in record { row = 
 same_ops : (i j : Insn) → same_insn i j ≡ true → i.op ≡ j.op
 unfolding same_insn
 same_ops i j h =
-    let f = both (same_op i.op j.op && same_size i.size j.size && same_operand i.a j.a && same_operand i.b j.b && i.imm == j.imm && i.sel == j.sel) (same_flag i.rep j.rep) h in
-    let s = both (same_op i.op j.op && same_size i.size j.size && same_operand i.a j.a && same_operand i.b j.b && i.imm == j.imm) (i.sel == j.sel) f.0 in
-    let n = both (same_op i.op j.op && same_size i.size j.size && same_operand i.a j.a && same_operand i.b j.b) (i.imm == j.imm) s.0 in
-    let b = both (same_op i.op j.op && same_size i.size j.size && same_operand i.a j.a) (same_operand i.b j.b) n.0 in
-    let a = both (same_op i.op j.op && same_size i.size j.size) (same_operand i.a j.a) b.0 in
-    let o = both (same_op i.op j.op) (same_size i.size j.size) a.0 in
+    let f = and_parts (same_op i.op j.op && same_size i.size j.size && same_operand i.a j.a && same_operand i.b j.b && i.imm == j.imm && i.sel == j.sel) (same_flag i.rep j.rep) h in
+    let s = and_parts (same_op i.op j.op && same_size i.size j.size && same_operand i.a j.a && same_operand i.b j.b && i.imm == j.imm) (i.sel == j.sel) f.0 in
+    let n = and_parts (same_op i.op j.op && same_size i.size j.size && same_operand i.a j.a && same_operand i.b j.b) (i.imm == j.imm) s.0 in
+    let b = and_parts (same_op i.op j.op && same_size i.size j.size && same_operand i.a j.a) (same_operand i.b j.b) n.0 in
+    let a = and_parts (same_op i.op j.op && same_size i.size j.size) (same_operand i.a j.a) b.0 in
+    let o = and_parts (same_op i.op j.op) (same_size i.size j.size) a.0 in
     same_true the_type (search rules) i.op j.op o.0
 
 -- ---- what is laid out
@@ -121,9 +118,9 @@ known wide insn s e =
     let bytes = form_bytes row.form p in
     let head = head_bytes row.form p in
     let imms = immediate_bytes row.form.immediate p in
-    let a = both (same_insn (insn_of row p) insn && form_fits row.form p) (widths_fit wide p.disp_len (imm_len row.form.immediate)) l.suits in
-    let b = both (same_insn (insn_of row p) insn) (form_fits row.form p) a.0 in
-    let w = both (not wide.disp || p.disp_len == 4) (not wide.imm || imm_len row.form.immediate == 4) a.1 in
+    let a = and_parts (same_insn (insn_of row p) insn && form_fits row.form p) (widths_fit wide p.disp_len (imm_len row.form.immediate)) l.suits in
+    let b = and_parts (same_insn (insn_of row p) insn) (form_fits row.form p) a.0 in
+    let w = and_parts (not wide.disp || p.disp_len == 4) (not wide.imm || imm_len row.form.immediate == 4) a.1 in
     let text : take s.len s.bytes ≡ bytes = ap (λ (t : ArrayBytes). take t.len t.bytes) l.text ∙ take_at bytes (replicate (16 - length bytes) 0) (length bytes) refl in
     let len : s.len ≡ length bytes = ap (λ (t : ArrayBytes). t.len) l.text in
     let size = imm_bytes_size row.form.immediate p in

@@ -18,8 +18,8 @@ use Rattle.image_check.specs.Sweep.{SweepsTo, Sweep}
 use Rattle.image_check.specs.Pieces.{is_nop, target_of, site_role, role_of, piece_of}
 use Rattle.image_check.specs.TextSites.{has_nops, has_hlt, is_sti, by_role, single, pair, begun_by, Found, with_site, found_by, found_behind, unless_lacking, sites_of}
 use Rattle.built_images.specs.Joined.{sti, hlt, nops_at}
-use Rattle.afterburner.specs.Instructions.{nops_behind}
-use Rattle.built_images.specs.Chunks.{Coded, insn_in, IsCoded, Chunk, Alone, Pair, IsChunk, AreChunks, padding, chunk_text, chunks_text, site_by, chunk_site, chunk_sites, chunk_swept, chunks_swept}
+use Rattle.afterburner.specs.Instructions.{nops_behind, site_at}
+use Rattle.built_images.specs.Chunks.{Coded, insn_in, IsCoded, Chunk, Alone, Pair, IsChunk, AreChunks, padding, chunk_text, chunks_text, chunk_site, chunk_sites, chunk_swept, chunks_swept}
 use Rattle.built_images.proofs.SweepJoins.{to_append, one_sweeps, nops_sweep, sti_spelled, hlt_spelled}
 use Rattle.built_images.proofs.Sensitive.{branch_plain, nop_plain, sti_bytes}
 
@@ -169,7 +169,7 @@ sti_len c h k e is =
     let l = ap length (sti_bytes c.row c.parts c.bytes h.listed h.spelled (e ∙ ap (λ (j : SiteKind). Some j) is)) in
     omega (arith, l)
 
-alone_found : (at : ℕ) (c : Coded) → IsCoded c → (o : Option SiteKind) → sensitive_kind (insn_in c) ≡ o → (ps : List Piece) → found_behind 0 (piece_of (record { at = at; len = length c.bytes; insn = insn_in c }) ∷ (map piece_of (nops_at (at + length c.bytes) (nops_behind o (length c.bytes))) ++ ps)) ≡ found_with (site_by at (length c.bytes) o) ps
+alone_found : (at : ℕ) (c : Coded) → IsCoded c → (o : Option SiteKind) → sensitive_kind (insn_in c) ≡ o → (ps : List Piece) → found_behind 0 (piece_of (record { at = at; len = length c.bytes; insn = insn_in c }) ∷ (map piece_of (nops_at (at + length c.bytes) (nops_behind o (length c.bytes))) ++ ps)) ≡ found_with (site_at at o (length c.bytes)) ps
 unfolding nops_at
 alone_found at c h None e ps =
     let p = piece_of (record { at = at; len = length c.bytes; insn = insn_in c }) in

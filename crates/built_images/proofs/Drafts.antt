@@ -4,6 +4,7 @@ use Rattle.std.specs.Prelude.{slice_index, ◌==◌}
 use Rattle.std.specs.Option.{option_or}
 use Rattle.std.specs.List.{list_all}
 use Rattle.std.specs.Str.{bytes_eq}
+use Rattle.std.proofs.lemmas.Bool.{and_parts}
 use Rattle.ia32_types.specs.Shape.{is_direct_branch}
 use Rattle.ia32_types.specs.declared.insn.Op.{Op}
 use Rattle.ia32_types.specs.declared.insn.Op.TheVariants as op
@@ -176,16 +177,12 @@ abbrev AllFine : Option Family → Type 0
 AllFine None = Unit {0}
 AllFine (Some f) = is_fine f ≡ true
 
-both : (a b : Bool) → (a && b) ≡ true → (a ≡ true) × (b ≡ true)
-both true b e = (refl, e)
-both false b e = absurd cc
-
 abbrev entry_fine : List ℕ × Family → Bool
 entry_fine e = is_fine e.1
 
 found_fine : (table : Table Family) (name : List ℕ) → list_all entry_fine table ≡ true → AllFine (found table name)
 found_fine [] name e = tt
-found_fine (x ∷ table) name e = by_name (bytes_eq name x.0) (both (is_fine x.1) (list_all entry_fine table) e).0 (found_fine table name (both (is_fine x.1) (list_all entry_fine table) e).1) where
+found_fine (x ∷ table) name e = by_name (bytes_eq name x.0) (and_parts (is_fine x.1) (list_all entry_fine table) e).0 (found_fine table name (and_parts (is_fine x.1) (list_all entry_fine table) e).1) where
   by_name : (b : Bool) → is_fine x.1 ≡ true → AllFine (found table name) → AllFine (cond b (Some x.1) (found table name))
   by_name true h k = h
   by_name false h k = k

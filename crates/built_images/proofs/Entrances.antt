@@ -11,8 +11,8 @@ use Rattle.sites.specs.declared.site.Site.{Site}
 use Rattle.image_check.specs.Sweep.{Swept}
 use Rattle.image_check.specs.Accepts.{IsEntrance}
 use Rattle.built_images.specs.Joined.{nops_at}
-use Rattle.afterburner.specs.Instructions.{nops_behind}
-use Rattle.built_images.specs.Chunks.{Coded, insn_in, Chunk, Alone, Pair, AreChunks, padding, chunk_text, chunks_text, site_by, chunk_site, chunk_sites, chunk_swept, chunks_swept, Begins}
+use Rattle.afterburner.specs.Instructions.{nops_behind, site_at}
+use Rattle.built_images.specs.Chunks.{Coded, insn_in, Chunk, Alone, Pair, AreChunks, padding, chunk_text, chunks_text, chunk_site, chunk_sites, chunk_swept, chunks_swept, Begins}
 
 pub text_append : (a b : List Chunk) → chunks_text (a ++ b) ≡ chunks_text a ++ chunks_text b
 text_append a b = flat_map-append chunk_text a b
@@ -51,11 +51,11 @@ EndsBy to s = s.at + s.total ≤ to
 abbrev BeginsFrom : ℕ → Site → Type 0
 BeginsFrom from s = from ≤ s.at
 
-site_ends : (at len : ℕ) (o : Option SiteKind) (to : ℕ) → at + (len + nops_behind o len) ≤ to → All (EndsBy to) (site_by at len o)
+site_ends : (at len : ℕ) (o : Option SiteKind) (to : ℕ) → at + (len + nops_behind o len) ≤ to → All (EndsBy to) (site_at at o len)
 site_ends at len None to le = All-nil (EndsBy to)
 site_ends at len (Some k) to le = All-cons (EndsBy to) (record { at = at; kind = k; len = len; total = max 5 len }) [] (omega arith) (All-nil (EndsBy to))
 
-site_begins : (at len : ℕ) (o : Option SiteKind) (from : ℕ) → from ≤ at → All (BeginsFrom from) (site_by at len o)
+site_begins : (at len : ℕ) (o : Option SiteKind) (from : ℕ) → from ≤ at → All (BeginsFrom from) (site_at at o len)
 site_begins at len None from le = All-nil (BeginsFrom from)
 site_begins at len (Some k) from le = All-cons (BeginsFrom from) (record { at = at; kind = k; len = len; total = max 5 len }) [] le (All-nil (BeginsFrom from))
 

@@ -14,8 +14,8 @@ use Rattle.ia32_rows.specs.Spelling.{insn_of}
 use Rattle.ia32_rows.specs.Spells.{SpellsBy}
 use Rattle.elf_form.specs.declared.object.Reloc.{Reloc}
 use Rattle.built_images.specs.Fields.{imm_size, disp_place, imm_place, with_disp, with_imm}
-use Rattle.afterburner.specs.Instructions.{nops_behind}
-use Rattle.built_images.specs.Chunks.{Coded, insn_in, IsCoded, Chunk, Alone, Pair, AreChunks, padding, chunk_text, chunks_text, site_by, chunk_site, chunk_sites}
+use Rattle.afterburner.specs.Instructions.{nops_behind, site_at}
+use Rattle.built_images.specs.Chunks.{Coded, insn_in, IsCoded, Chunk, Alone, Pair, AreChunks, padding, chunk_text, chunks_text, chunk_site, chunk_sites}
 use Rattle.built_images.specs.Filled.{IsField, HaveFields, reloc_later, chunks_relocs, fill, fill_at, MakesWords, IsFilledChunk, AreFilled}
 use Rattle.built_images.proofs.FieldLaws.{disp_law, imm_law, disp_held, imm_held}
 use Rattle.built_images.proofs.WordLaws.{written_among, read_among}
@@ -215,7 +215,7 @@ filled_length made at (Alone c) Pair h = absurd h
 filled_length made at Pair (Alone d) h = absurd h
 
 filled_site : (made : Reloc → ℕ → ℕ) (at from : ℕ) (c d : Chunk) → IsFilledChunk made at c d → chunk_site from d ≡ chunk_site from c
-filled_site made at from (Alone c) (Alone d) h = ap (λ n. site_by from n (sensitive_kind (insn_in d))) h.len ∙ ap (site_by from (length c.bytes)) (kind_like c d h.row)
+filled_site made at from (Alone c) (Alone d) h = ap (site_at from (sensitive_kind (insn_in d))) h.len ∙ ap (λ o. site_at from o (length c.bytes)) (kind_like c d h.row)
 filled_site made at from Pair Pair h = refl
 filled_site made at from (Alone c) Pair h = absurd h
 filled_site made at from Pair (Alone d) h = absurd h

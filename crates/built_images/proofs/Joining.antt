@@ -11,8 +11,8 @@ use Rattle.ia32_rows.specs.Spells.{Spells}
 use Rattle.image_check.specs.Sweep.{Swept}
 use Rattle.image_check.specs.Pieces.{target_of}
 use Rattle.built_images.specs.Joined.{nop, sti, hlt, jump_to_itself, nops_at}
-use Rattle.afterburner.specs.Instructions.{nops_behind}
-use Rattle.built_images.specs.Chunks.{Coded, insn_in, IsCoded, Chunk, Alone, Pair, AreChunks, padding, chunk_text, chunks_text, site_by, chunk_site, chunk_sites, chunk_swept, chunks_swept, Begins}
+use Rattle.afterburner.specs.Instructions.{nops_behind, site_at}
+use Rattle.built_images.specs.Chunks.{Coded, insn_in, IsCoded, Chunk, Alone, Pair, AreChunks, padding, chunk_text, chunks_text, chunk_site, chunk_sites, chunk_swept, chunks_swept, Begins}
 use Rattle.built_images.specs.Filled.{HasFields, HaveFields, chunk_relocs, chunks_relocs}
 use Rattle.built_images.specs.Padded.{IsEdge, IsLinkedBranch, IsAlone}
 use Rattle.built_images.proofs.SweepJoins.{nop_spelled, jump_spelled}
@@ -68,10 +68,10 @@ pub nop_text : chunk_text (Alone nop_coded) ≡ 0x90 ∷ []
 nop_text = ap (λ n. nop_coded.bytes ++ replicate n 0x90) nop_padding ∙ append-nil nop_coded.bytes ∙ nop_bytes
 
 nop_site : (at : ℕ) → chunk_site at (Alone nop_coded) ≡ []
-nop_site at = ap (λ (i : Insn). site_by at (length nop_coded.bytes) (sensitive_kind i)) nop_insn
+nop_site at = ap (λ (i : Insn). site_at at (sensitive_kind i) (length nop_coded.bytes)) nop_insn
 
 jump_site : (at : ℕ) → chunk_site at (Alone jump_coded) ≡ []
-jump_site at = ap (λ (i : Insn). site_by at (length jump_coded.bytes) (sensitive_kind i)) jump_means
+jump_site at = ap (λ (i : Insn). site_at at (sensitive_kind i) (length jump_coded.bytes)) jump_means
 
 -- ---- several NOPs
 

@@ -3,12 +3,12 @@ use Rattle.std.proofs.Common.{◌≡◌, ℕ, zero, suc, ◌+◌, ◌-◌, ◌<�
 use Rattle.std.specs.Prelude.{slice_get, filter, sum_by, max, replicate, ◌==◌, codes}
 use Rattle.std.specs.Bool.{then_some}
 use Rattle.std.specs.List.{flat_map, enumerate_from, All, AllByRecursion, Contains}
+use Rattle.std.specs.Option.{option_or}
 use Rattle.std.proofs.lemmas.Bool.Decides.{nat_tests}
 use Rattle.std.proofs.lemmas.List.{append-nil, length-append, length-replicate, length-take, take_all}
 use Rattle.std.proofs.lemmas.List.Sums.{sum_by-cons}
 use Rattle.std.proofs.lemmas.List.Elements.{All-nil, All-append, All-weaker, All-filter, All-contains, All-contains_itself}
 use Rattle.guest_ram.specs.Bytes.{word32}
-use Rattle.guest_ram.specs.Places.{◌or_else◌}
 use Rattle.ia32_rows.proofs.TableLaws.{at_most_eleven, not_empty}
 use Rattle.sites.specs.declared.limits.TheConstants.{TEXT_LIMIT}
 use Rattle.elf_form.specs.declared.object.Reloc.{Reloc}
@@ -31,14 +31,14 @@ use Rattle.elf_link.specs.Symbols.{is_text, globals, address}
 use Rattle.elf_link.specs.Relocations.{reloc_cause, field_at, address_by, sum_of, target_by, relocated}
 use Rattle.elf_link.specs.Sites.{linked_sites}
 use Rattle.elf_form.specs.Tables.{first_some}
-use Rattle.elf_form.proofs.FormLaws.{then_none}
+use Rattle.elf_form.proofs.FormLaws.{then_none, else_none}
 use Rattle.elf_link.specs.Refusals.{Refused, object_cause, refused, object_refusal, relocs_refusal, start, start_refusal, refusal, unless}
 use Rattle.elf_link.specs.Linked.{texts, linked_text, linked_init, entry_at, image, linked_image}
 use Rattle.image_check.specs.Sweep.{Swept}
 use Rattle.image_check.specs.Pieces.{target_of}
 use Rattle.built_images.specs.Joined.{jump_to_itself}
-use Rattle.afterburner.specs.Instructions.{nops_behind}
-use Rattle.built_images.specs.Chunks.{Coded, insn_in, IsCoded, Chunk, Alone, Pair, AreChunks, padding, chunk_text, chunks_text, site_by, chunk_site, chunk_sites, chunks_swept, Begins}
+use Rattle.afterburner.specs.Instructions.{nops_behind, site_at}
+use Rattle.built_images.specs.Chunks.{Coded, insn_in, IsCoded, Chunk, Alone, Pair, AreChunks, padding, chunk_text, chunks_text, chunk_site, chunk_sites, chunks_swept, Begins}
 use Rattle.built_images.specs.Filled.{chunks_relocs}
 use Rattle.built_images.specs.Padded.{IsEdge, IsPadded, ArePadded, AreAlone, AnyChunks}
 use Rattle.built_images.specs.Built.{IsBuilt, LeadsRight}
@@ -52,15 +52,11 @@ use Rattle.built_images.proofs.LinkedTexts.{ObjectsRight, FromObject, from_objec
 
 -- ---- what is not refused
 
-none_or : {X : Type 0} (a b : Option X) → (a or_else b) ≡ None → (a ≡ None) × (b ≡ None)
-none_or (Some x) b e = absurd cc
-none_or None b e = (refl, e)
-
 first_none : {X Y : Type 0} (f : X → Option Y) (xs : List X) (k : ℕ) (x : X) → first_some f xs ≡ None → slice_get xs k ≡ Some x → f x ≡ None
 unfolding first_some
 first_none f [] k x e got = absurd cc
-first_none f (y ∷ xs) zero x e got = let same : y ≡ x = cc in ap f (sym same) ∙ (none_or (f y) (first_some f xs) e).0
-first_none f (y ∷ xs) (suc k) x e got = first_none f xs k x (none_or (f y) (first_some f xs) e).1 got
+first_none f (y ∷ xs) zero x e got = let same : y ≡ x = cc in ap f (sym same) ∙ (else_none (f y) (first_some f xs) e).0
+first_none f (y ∷ xs) (suc k) x e got = first_none f xs k x (else_none (f y) (first_some f xs) e).1 got
 
 contains_got : {X : Type 0} (xs : List X) (k : ℕ) (x : X) → k < length xs → Rattle.std.specs.Prelude.slice_index_or xs k x ≡ x → slice_get xs k ≡ Some x
 contains_got [] k x lt e = absurd (omega arith)
@@ -90,8 +86,8 @@ pub record IsLinkedWell (os : List ObjectParts) : Type 0 where
 well : (os : List ObjectParts) → refusal os ≡ None → IsLinkedWell os
 unfolding refusal
 well os e =
-    let a = none_or (first_some (object_refusal os) (numbered os)) (first_some (relocs_refusal os) (numbered os) or_else start_refusal (start os)) e in
-    let b = none_or (first_some (relocs_refusal os) (numbered os)) (start_refusal (start os)) a.1 in
+    let a = else_none (first_some (object_refusal os) (numbered os)) (option_or (first_some (relocs_refusal os) (numbered os)) (start_refusal (start os))) e in
+    let b = else_none (first_some (relocs_refusal os) (numbered os)) (start_refusal (start os)) a.1 in
     record { objects = a.0; relocs = b.0; starts = b.1 }
 
 abbrev ok_parts : ImageParts → Result ImageParts Refused
@@ -121,8 +117,8 @@ pub record IsWithin (os : List ObjectParts) : Type 0 where
 object_within : (os : List ObjectParts) (k : ℕ) (o : ObjectParts) → take (k + 1) os ≡ os → object_cause os (k, o) ≡ None → IsWithin os
 unfolding object_cause
 object_within os k o all e =
-    let a = none_or (then_some (nat_lt TEXT_LIMIT (text_end (take (k + 1) os) + 2)) TextTooLarge) _ e in
-    let b = none_or (then_some (nat_lt 33554432 (memory_end (take (k + 1) os))) InitTooLarge) _ a.1 in
+    let a = else_none (then_some (nat_lt TEXT_LIMIT (text_end (take (k + 1) os) + 2)) TextTooLarge) _ e in
+    let b = else_none (then_some (nat_lt 33554432 (memory_end (take (k + 1) os))) InitTooLarge) _ a.1 in
     record {
       text = not_more TEXT_LIMIT (text_end os + 2) (then_none _ TextTooLarge (subst (λ (xs : List ObjectParts). then_some (nat_lt TEXT_LIMIT (text_end xs + 2)) TextTooLarge ≡ None) all a.0));
       memory = not_more 33554432 (memory_end os) (then_none _ InitTooLarge (subst (λ (xs : List ObjectParts). then_some (nat_lt 33554432 (memory_end xs)) InitTooLarge ≡ None) all b.0));
@@ -244,7 +240,7 @@ anywhere_right made base at (Pair ∷ cs) = (tt, anywhere_right made base (at + 
 
 -- ---- annotations
 
-site_count : (at len : ℕ) (k : Option SiteKind) → length (site_by at len k) ≤ 1
+site_count : (at len : ℕ) (k : Option SiteKind) → length (site_at at k len) ≤ 1
 site_count at len None = omega arith
 site_count at len (Some k) = omega arith
 
@@ -256,7 +252,7 @@ sites_few at (Alone c ∷ cs) h =
     let some = chunk_has_bytes (Alone c) h.0 in
     let one = site_count at (length c.bytes) (sensitive_kind (insn_in c)) in
     let more = sites_few (at + length (chunk_text (Alone c))) cs h.1 in
-    let m = length-append (site_by at (length c.bytes) (sensitive_kind (insn_in c))) (chunk_sites (at + length (chunk_text (Alone c))) cs) in
+    let m = length-append (site_at at (sensitive_kind (insn_in c)) (length c.bytes)) (chunk_sites (at + length (chunk_text (Alone c))) cs) in
     omega (arith, l, some, one, more, m)
 sites_few at (Pair ∷ cs) h =
     let l = length-append (chunk_text Pair) (chunks_text cs) in
@@ -264,7 +260,7 @@ sites_few at (Pair ∷ cs) h =
     omega (arith, l, more)
 
 gaps_by : (at len from : ℕ) (k : Option SiteKind) (size : ℕ) (more : List Site) → from ≤ at → at + size ≤ 2 ^ 24 → 1 ≤ len → len ≤ 11 → size ≡ len + nops_behind k len → ((next : ℕ) → next ≤ at + size → AreInGaps next more)
-    → AreInGaps from (site_by at len k ++ more)
+    → AreInGaps from (site_at at k len ++ more)
 gaps_by at len from None size more le room some few is h = h from (omega arith)
 gaps_by at len from (Some k) size more le room some few is h = (le, omega (arith, is), some, few, refl, omega (arith, is), h (at + max 5 len) (omega (arith, is)))
 

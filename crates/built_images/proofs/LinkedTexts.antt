@@ -21,7 +21,8 @@ use Rattle.elf_link.specs.Relocations.{sum_of, relocated, filled, with_fields}
 use Rattle.elf_link.specs.Sites.{or_none, sites_of, moved, moved_sites}
 use Rattle.elf_link.specs.Linked.{padded, texts}
 use Rattle.image_check.specs.Sweep.{Swept}
-use Rattle.built_images.specs.Chunks.{Chunk, Alone, Pair, AreChunks, chunk_text, chunks_text, site_by, chunk_site, chunk_sites, chunks_swept}
+use Rattle.afterburner.specs.Instructions.{site_at}
+use Rattle.built_images.specs.Chunks.{Chunk, Alone, Pair, AreChunks, chunk_text, chunks_text, chunk_site, chunk_sites, chunks_swept}
 use Rattle.built_images.specs.Filled.{chunks_relocs, fill, MakesWords, AreFilled}
 use Rattle.built_images.specs.Padded.{IsEdge, IsPadded, ArePadded}
 use Rattle.built_images.proofs.Entrances.{text_append, text_length, sites_append, swept_append}
@@ -63,7 +64,7 @@ filled_text os i o cs h =
 
 -- ---- sites and edges further on
 
-later_site : (n at len : ℕ) (k : Option Rattle.ia32_types.specs.declared.site.SiteKind.SiteKind) → site_by (n + at) len k ≡ map (moved n) (site_by at len k)
+later_site : (n at len : ℕ) (k : Option Rattle.ia32_types.specs.declared.site.SiteKind.SiteKind) → site_at (n + at) k len ≡ map (moved n) (site_at at k len)
 later_site n at len None = refl
 later_site n at len (Some k) = let e : n + at ≡ at + n = omega arith in ap (λ (m : ℕ). record { at = m; kind = k; len = len; total = Rattle.std.specs.Prelude.max 5 len } ∷ []) e
 

@@ -2,6 +2,7 @@
 use Rattle.std.proofs.Common.{◌≡◌, ℕ, Bool, true, false, not, ◌&&◌, ◌||◌, List, [], ◌∷◌, ◌++◌, Some, None, Ok, refl, sym, ap, subst, ◌∙◌, arith}
 use Rattle.std.specs.Prelude.{◌==◌, nat_le}
 use Rattle.std.specs.List.{list_all, Contains}
+use Rattle.std.proofs.lemmas.Bool.{and_parts}
 use Rattle.std.proofs.lemmas.Bool.Decides.{nat_tests}
 use Rattle.std.proofs.lemmas.List.Sums.{AllPass-from_list_all}
 use Rattle.ia32_types.specs.Shape.{is_direct_branch}
@@ -89,19 +90,15 @@ is_bare f = no_lead f.lead && (f.opcode == 0xFB && (no_plus f.plus && (no_addres
 abbrev sti_form : Form
 sti_form = form_with lead.Nothing 0xFB plus.Nothing addressing.Nothing immediate.Nothing
 
-both : (a b : Bool) → (a && b) ≡ true → (a ≡ true) × (b ≡ true)
-both true b e = (refl, e)
-both false b e = absurd cc
-
 equal : (m n : ℕ) → (m == n) ≡ true → m ≡ n
 equal m n e = grind (arith, nat_tests)
 
 bare_is : (f : Form) → is_bare f ≡ true → f ≡ sti_form
 bare_is f e =
-    let a = both (no_lead f.lead) (f.opcode == 0xFB && (no_plus f.plus && (no_address f.addressing && no_immediate f.immediate))) e in
-    let b = both (f.opcode == 0xFB) (no_plus f.plus && (no_address f.addressing && no_immediate f.immediate)) a.1 in
-    let c = both (no_plus f.plus) (no_address f.addressing && no_immediate f.immediate) b.1 in
-    let d = both (no_address f.addressing) (no_immediate f.immediate) c.1 in
+    let a = and_parts (no_lead f.lead) (f.opcode == 0xFB && (no_plus f.plus && (no_address f.addressing && no_immediate f.immediate))) e in
+    let b = and_parts (f.opcode == 0xFB) (no_plus f.plus && (no_address f.addressing && no_immediate f.immediate)) a.1 in
+    let c = and_parts (no_plus f.plus) (no_address f.addressing && no_immediate f.immediate) b.1 in
+    let d = and_parts (no_address f.addressing) (no_immediate f.immediate) c.1 in
     ap (λ l. form_with l f.opcode f.plus f.addressing f.immediate) (lead_none f.lead a.0)
     ∙ ap (λ n. form_with lead.Nothing n f.plus f.addressing f.immediate) (equal f.opcode 0xFB b.0)
     ∙ ap (λ p. form_with lead.Nothing 0xFB p f.addressing f.immediate) (plus_none f.plus c.0)

@@ -1,9 +1,8 @@
 -- Texts as burning makes them: instructions, of which the sensitive ones are followed by NOPs up to five bytes; and STI with
 -- HLT behind it.
-use Rattle.std.specs.Prelude.{◌≡◌, ℕ, ◌+◌, max, List, [], ◌∷◌, ◌++◌, length, replicate, Option, Some, None}
+use Rattle.std.specs.Prelude.{◌≡◌, ℕ, ◌+◌, List, [], ◌∷◌, ◌++◌, length, replicate}
 use Rattle.std.specs.List.{flat_map, AllByRecursion, Contains}
 use Rattle.ia32_types.specs.declared.insn.Insn.{Insn}
-use Rattle.ia32_types.specs.declared.site.SiteKind.{SiteKind}
 use Rattle.ia32_types.specs.declared.site.SiteKind.TheVariants.{StiHlt}
 use Rattle.ia32_types.specs.Site.{sensitive_kind}
 use Rattle.ia32_rows.specs.declared.row.Row.{Row}
@@ -14,7 +13,7 @@ use Rattle.ia32_rows.specs.Rows.{rows}
 use Rattle.elf_form.specs.declared.object.Reloc.{Reloc}
 use Rattle.sites.specs.declared.site.Site.{Site}
 use Rattle.image_check.specs.Sweep.{Swept}
-use Rattle.afterburner.specs.Instructions.{nops_behind}
+use Rattle.afterburner.specs.Instructions.{nops_behind, site_at}
 use Rattle.built_images.specs.Joined.{sti, hlt, nops_at}
 
 -- an instruction by the row and the parts that spell it, its bytes, and the relocations of its fields, with places from its
@@ -56,12 +55,8 @@ abbrev pub chunks_text : List Chunk → List ℕ
 chunks_text cs = flat_map chunk_text cs
 
 -- the site of a chunk that stands at an offset
-abbrev pub site_by : ℕ → ℕ → Option SiteKind → List Site
-site_by at len None = []
-site_by at len (Some kind) = record { at = at; kind = kind; len = len; total = max 5 len } ∷ []
-
 abbrev pub chunk_site : ℕ → Chunk → List Site
-chunk_site at (Alone c) = site_by at (length c.bytes) (sensitive_kind (insn_in c))
+chunk_site at (Alone c) = site_at at (sensitive_kind (insn_in c)) (length c.bytes)
 chunk_site at Pair = record { at = at; kind = StiHlt; len = 2; total = 5 } ∷ []
 
 -- the sites of chunks from an offset on

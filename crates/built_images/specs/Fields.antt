@@ -1,6 +1,6 @@
 -- The displacement and the immediate of a spelling where they have four bytes (SDM volume 2, section 2.1), and the
 -- spelling with another number in their place.
-use Rattle.std.specs.Prelude.{ℕ, ◌-◌, List, length}
+use Rattle.std.specs.Prelude.{ℕ, ◌+◌, ◌-◌, List, length}
 use Rattle.ia32_types.specs.declared.insn.Insn.{Insn}
 use Rattle.ia32_types.specs.declared.insn.Operand.{Operand}
 use Rattle.ia32_types.specs.declared.insn.Operand.TheVariants.{Memory}
@@ -8,16 +8,12 @@ use Rattle.ia32_rows.specs.declared.row.Row.{Row}
 use Rattle.ia32_rows.specs.declared.row.Parts.{Parts}
 use Rattle.ia32_rows.specs.declared.row.Immediate.{Immediate}
 use Rattle.ia32_rows.specs.declared.row.Immediate.TheVariants as immediate
+use Rattle.ia32_rows.specs.Fields.{imm_len}
 
 -- how many bytes the immediate takes, with the selector of a far jump
 abbrev pub imm_size : Immediate → ℕ
-imm_size immediate.Nothing = 0
-imm_size immediate.One = 0
-imm_size immediate.Byte = 1
-imm_size immediate.SignedByte = 1
-imm_size immediate.Word = 2
-imm_size immediate.Long = 4
-imm_size immediate.Far = 6
+imm_size immediate.Far = imm_len immediate.Far + 2
+imm_size i = imm_len i
 
 -- The immediate comes last, and the displacement before it.
 abbrev pub imm_place : Row → List ℕ → ℕ

@@ -53,11 +53,11 @@ form_of bytes e = lower_none (order bytes (loads bytes)) (one_of (sites_sections
 
 -- ---- the public laws
 
-pub read_first : (bytes : List ℕ) (e : Fault) → image_in bytes ≡ Err e → IsFirstOf (wrong_image bytes) causes e
+pub read_first : (bytes : List ℕ) (e : Fault) → image_in bytes ≡ Err e → IsFirstOf (wrong_image bytes) causes e.at e.cause
 unfolding image_in
 read_first bytes e h = tested-err ImageParts (wrong_image bytes) causes (image_at bytes) e h
 
-pub read_by_first : (bytes : List ℕ) (e : Fault) → IsFirstOf (wrong_image bytes) causes e → image_in bytes ≡ Err e
+pub read_by_first : (bytes : List ℕ) (e : Fault) → IsFirstOf (wrong_image bytes) causes e.at e.cause → image_in bytes ≡ Err e
 unfolding image_in
 read_by_first bytes e h = first_tested ImageParts (wrong_image bytes) causes (image_at bytes) e h
 
@@ -109,5 +109,5 @@ if_read bytes (Err e) given = tt
 pub if_as : (bytes : List ℕ) (r : Result ImageParts ElfFault) → Gives (λ image. image) r (image_in bytes) → (image : ImageParts) → ImageAs bytes image → Gives (λ image. image) r (Ok image)
 if_as bytes r given image is = subst (λ (read : Result ImageParts Fault). Gives (λ image. image) r read) (as_read bytes image is) given
 
-pub if_first : (bytes : List ℕ) (r : Result ImageParts ElfFault) → Gives (λ image. image) r (image_in bytes) → (at : ℕ) (cause : ElfCause) → r ≡ Err (faults.At at cause) → IsFirstOf (wrong_image bytes) causes (record { at = at; cause = cause })
+pub if_first : (bytes : List ℕ) (r : Result ImageParts ElfFault) → Gives (λ image. image) r (image_in bytes) → (at : ℕ) (cause : ElfCause) → r ≡ Err (faults.At at cause) → IsFirstOf (wrong_image bytes) causes at cause
 if_first bytes r given at cause e = read_first bytes (record { at = at; cause = cause }) (subst (λ (s : Result ImageParts ElfFault). Gives (λ image. image) s (image_in bytes)) e given)

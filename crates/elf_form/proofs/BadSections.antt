@@ -1,8 +1,9 @@
 -- Where sections and their names are bad: what is computed finds the lowest place at which the condition holds.
-use Rattle.std.proofs.Common.{◌≡◌, ℕ, ◌+◌, ◌<◌, true, false, not, ◌||◌, List, [], ◌∷◌, Option, Some, None, refl, ap, subst, inl, inr, ◌⊎◌, arith}
+use Rattle.std.proofs.Common.{◌≡◌, ℕ, ◌+◌, ◌<◌, true, false, not, ◌||◌, List, [], ◌∷◌, Option, Some, None, refl, sym, ap, subst, inl, inr, ◌⊎◌, arith}
 use Rattle.std.specs.Prelude.{◌==◌, filter}
-use Rattle.std.specs.List.{Contains, list_any, find}
+use Rattle.std.specs.List.{Contains, find}
 use Rattle.std.proofs.lemmas.Bool.{eqb-true, eqb-false, eq-eqb, ne_eqb, or_cases, or_left, or_right, and_parts, and_from, not-true, not_from_false, or_parts, or_from}
+use Rattle.guest_ram.specs.Among.{is_among}
 use Rattle.elf_form.specs.declared.roles.Role.{Role}
 use Rattle.elf_form.specs.declared.roles.Role.TheVariants as role
 use Rattle.elf_form.specs.declared.segments.Found.{Found}
@@ -38,15 +39,15 @@ is_role r ns bytes s e = eq-eqb (role_number (role_of ns bytes s)) (role_number 
 
 -- ---- alignments
 
-any_so : (xs : List ℕ) (v : ℕ) → list_any (λ a. a == v) xs ≡ false → Contains xs v → ⊥
+any_so : (xs : List ℕ) (v : ℕ) → is_among v xs ≡ false → Contains xs v → ⊥
 any_so [] v e h = has_none v h
 any_so (x ∷ xs) v e h =
-    let both = or_parts (x == v) (list_any (λ a. a == v) xs) e in
-    elim (first_or_later x v xs h) [ inl same ↦ eqb-false x v both.0 same | inr later ↦ any_so xs v both.1 later ]
+    let both = or_parts (v == x) (is_among v xs) e in
+    elim (first_or_later x v xs h) [ inl same ↦ eqb-false v x both.0 (sym same) | inr later ↦ any_so xs v both.1 later ]
 
-so_any : (xs : List ℕ) (v : ℕ) → (Contains xs v → ⊥) → list_any (λ a. a == v) xs ≡ false
+so_any : (xs : List ℕ) (v : ℕ) → (Contains xs v → ⊥) → is_among v xs ≡ false
 so_any [] v never = refl
-so_any (x ∷ xs) v never = or_from (x == v) (list_any (λ a. a == v) xs) (ne_eqb x v (λ e. never (subst (Contains (x ∷ xs)) e (has_first x xs)))) (so_any xs v (λ h. never (has_later x v xs h)))
+so_any (x ∷ xs) v never = or_from (v == x) (is_among v xs) (ne_eqb v x (λ e. never (subst (Contains (x ∷ xs)) (sym e) (has_first x xs)))) (so_any xs v (λ h. never (has_later x v xs h)))
 
 -- ---- the sections of an object
 
@@ -83,19 +84,19 @@ module _ (bytes : List ℕ) where
       to from (finds_first (is_misaligned (names bytes) bytes) 32 (section_table bytes) 40 (section_count bytes) (omega arith)) where
         to : (k : ℕ) → (s : ℕ) × Contains (sections bytes) s × (is_misaligned (names bytes) bytes s ≡ true) × (k ≡ s + 32) → Misaligned k
         to k (s, there, wrong, e) =
-            let both = and_parts (has_role role.Init (names bytes) bytes s || has_role role.Bss (names bytes) bytes s) (not (list_any (λ a. a == alignment bytes s) alignments)) wrong in
-            let never : Contains alignments (alignment bytes s) → ⊥ = any_so alignments (alignment bytes s) (not-true (list_any (λ a. a == alignment bytes s) alignments) both.1) in
+            let both = and_parts (has_role role.Init (names bytes) bytes s || has_role role.Bss (names bytes) bytes s) (not (is_among (alignment bytes s) alignments)) wrong in
+            let never : Contains alignments (alignment bytes s) → ⊥ = any_so alignments (alignment bytes s) (not-true (is_among (alignment bytes s) alignments) both.1) in
             elim (or_cases (has_role role.Init (names bytes) bytes s) (has_role role.Bss (names bytes) bytes s) both.0) [
               | inl has ↦ (s, inl (there, role_is role.Init (names bytes) bytes s has), never, e)
               | inr has ↦ (s, inr (there, role_is role.Bss (names bytes) bytes s has), never, e)
             ]
 
-        test : (s : ℕ) → (Contains alignments (alignment bytes s) → ⊥) → not (list_any (λ a. a == alignment bytes s) alignments) ≡ true
-        test s never = not_from_false (list_any (λ a. a == alignment bytes s) alignments) (so_any alignments (alignment bytes s) never)
+        test : (s : ℕ) → (Contains alignments (alignment bytes s) → ⊥) → not (is_among (alignment bytes s) alignments) ≡ true
+        test s never = not_from_false (is_among (alignment bytes s) alignments) (so_any alignments (alignment bytes s) never)
 
         from : (k : ℕ) → Misaligned k → (s : ℕ) × Contains (sections bytes) s × (is_misaligned (names bytes) bytes s ≡ true) × (k ≡ s + 32)
-        from k (s, inl (there, has), never, e) = (s, there, and_from (has_role role.Init (names bytes) bytes s || has_role role.Bss (names bytes) bytes s) (not (list_any (λ a. a == alignment bytes s) alignments)) (or_left (has_role role.Init (names bytes) bytes s) (has_role role.Bss (names bytes) bytes s) (is_role role.Init (names bytes) bytes s has)) (test s never), e)
-        from k (s, inr (there, has), never, e) = (s, there, and_from (has_role role.Init (names bytes) bytes s || has_role role.Bss (names bytes) bytes s) (not (list_any (λ a. a == alignment bytes s) alignments)) (or_right (has_role role.Init (names bytes) bytes s) (has_role role.Bss (names bytes) bytes s) (is_role role.Bss (names bytes) bytes s has)) (test s never), e)
+        from k (s, inl (there, has), never, e) = (s, there, and_from (has_role role.Init (names bytes) bytes s || has_role role.Bss (names bytes) bytes s) (not (is_among (alignment bytes s) alignments)) (or_left (has_role role.Init (names bytes) bytes s) (has_role role.Bss (names bytes) bytes s) (is_role role.Init (names bytes) bytes s has)) (test s never), e)
+        from k (s, inr (there, has), never, e) = (s, there, and_from (has_role role.Init (names bytes) bytes s || has_role role.Bss (names bytes) bytes s) (not (is_among (alignment bytes s) alignments)) (or_right (has_role role.Init (names bytes) bytes s) (has_role role.Bss (names bytes) bytes s) (is_role role.Bss (names bytes) bytes s has)) (test s never), e)
 
   abbrev ForeignAt : ℕ → Type 0
   ForeignAt k = (s : ℕ) × IsOf role.Foreign bytes s × (k ≡ s + 4)

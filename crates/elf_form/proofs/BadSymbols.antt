@@ -3,6 +3,7 @@ use Rattle.std.proofs.Common.{◌≡◌, ◌≢◌, ℕ, ◌+◌, ◌-◌, ◌<�
 use Rattle.std.specs.Prelude.{◌==◌, filter}
 use Rattle.std.specs.Bool.{then_some}
 use Rattle.std.specs.List.{Contains, flat_map, find}
+use Rattle.std.specs.Option.{option_or}
 use Rattle.std.proofs.lemmas.Bool.{eqb-true, eqb-false, eq-eqb, ne_eqb, or_cases, or_left, or_right, and_parts, and_from, not-true, not_from_false}
 use Rattle.std.proofs.lemmas.List.Elements.{Contains-append_left, Contains-append_right, Contains-append_cases}
 use Rattle.std.proofs.lemmas.List.Concat.{flat_map-cons}
@@ -14,7 +15,6 @@ use Rattle.elf_form.specs.declared.symbols.SectionTest.TheVariants.{Links}
 use Rattle.elf_form.specs.declared.symbols.SymbolTest.TheVariants.{Names, Globals}
 use Rattle.elf_form.specs.declared.symbols.RelocTest.{RelocTest}
 use Rattle.elf_form.specs.declared.symbols.RelocTest.TheVariants.{Named, Form}
-use Rattle.guest_ram.specs.Places.{◌or_else◌}
 use Rattle.elf_form.specs.Tables.{entries, found}
 use Rattle.elf_form.specs.Header.{section_table, section_count, sections}
 use Rattle.elf_form.specs.Sections.{names, nameless}
@@ -272,9 +272,9 @@ module _ (bytes : List ℕ) where
   symbol_finds : (y : ℕ) → Finds (symbol_fault (names bytes) bytes y) (SymbolBad y)
   unfolding symbol_fault
   symbol_finds y = by (is_file bytes y) refl where
-    by : (t : Bool) → is_file bytes y ≡ t → Finds (cond t None (then_some (not (has_binding bytes y)) (y + 12) or_else then_some (not (has_place (names bytes) bytes y)) (y + 14))) (SymbolBad y)
+    by : (t : Bool) → is_file bytes y ≡ t → Finds (cond t None (option_or (then_some (not (has_binding bytes y)) (y + 12)) (then_some (not (has_place (names bytes) bytes y)) (y + 14)))) (SymbolBad y)
     by true is = λ k h. both_ways is h.0
-    by false is = finds_as (then_some (not (has_binding bytes y)) (y + 12) or_else then_some (not (has_place (names bytes) bytes y)) (y + 14)) (λ k. ((has_binding bytes y ≡ false) × (k ≡ y + 12)) ⊎ ((has_place (names bytes) bytes y ≡ false) × (k ≡ y + 14))) (SymbolBad y)
+    by false is = finds_as (option_or (then_some (not (has_binding bytes y)) (y + 12)) (then_some (not (has_place (names bytes) bytes y)) (y + 14))) (λ k. ((has_binding bytes y ≡ false) × (k ≡ y + 12)) ⊎ ((has_place (names bytes) bytes y ≡ false) × (k ≡ y + 14))) (SymbolBad y)
         (λ k h. (is, h)) (λ k h. h.1)
         (finds_else (then_some (not (has_binding bytes y)) (y + 12)) (then_some (not (has_place (names bytes) bytes y)) (y + 14)) (λ k. (has_binding bytes y ≡ false) × (k ≡ y + 12)) (λ k. (has_place (names bytes) bytes y ≡ false) × (k ≡ y + 14)) (λ i j a b. omega (arith, a.1, b.1))
         (finds_not (has_binding bytes y) (y + 12)) (finds_not (has_place (names bytes) bytes y) (y + 14)))

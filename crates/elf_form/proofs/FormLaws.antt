@@ -2,9 +2,9 @@
 use Rattle.std.proofs.Common.{◌≡◌, ◌≤◌, ◌+◌, ℕ, List, Bool, true, false, cond, ltb, Option, Some, None, Ok, refl}
 use Rattle.std.specs.Prelude.{IfNone}
 use Rattle.std.specs.Bool.{then_some}
+use Rattle.std.specs.Option.{option_or}
 use Rattle.std.proofs.lemmas.Bool.{ltb-false}
 use Rattle.guest_ram.specs.Bytes.{word32}
-use Rattle.guest_ram.specs.Places.{◌or_else◌}
 use Rattle.elf_form.specs.declared.cause.ElfCause.{ElfCause}
 use Rattle.elf_form.specs.declared.segments.Found.{Found}
 use Rattle.elf_form.specs.declared.segments.Found.TheVariants.{Nothing, One, Two, More}
@@ -24,7 +24,7 @@ then_none true x h = absurd cc
 then_none false x h = refl
 
 -- neither of two places
-pub else_none : {A : Type 0} (a b : Option A) → (a or_else b) ≡ None → (a ≡ None) × (b ≡ None)
+pub else_none : {A : Type 0} (a b : Option A) → option_or a b ≡ None → (a ≡ None) × (b ≡ None)
 else_none None b h = (refl, h)
 else_none (Some x) b h = absurd cc
 

@@ -30,3 +30,4 @@ pub mod BadSections
 pub mod BadSizes
 pub mod BadSymbols
 pub mod ReasonLaws
+pub mod FirstCauses

@@ -3,6 +3,7 @@ use Rattle.std.proofs.Common.{Result, Ok, Err, IfOk, ◌≡◌, ◌⊎◌, inl, 
 use Rattle.std.specs.Prelude.{filter, ◌==◌}
 use Rattle.std.specs.Bool.{then_some}
 use Rattle.std.specs.List.{flat_map}
+use Rattle.std.specs.Option.{option_or}
 use Rattle.std.proofs.lemmas.Bool.Decides.{nat_tests}
 use Rattle.std.proofs.lemmas.List.{length-map, length-replicate}
 use Rattle.std.proofs.lemmas.Grind.{common_steps}
@@ -19,7 +20,6 @@ use Rattle.elf_form.specs.declared.symbols.Entry.{Entry}
 use Rattle.elf_form.specs.declared.symbols.RelocTest.TheVariants.{Named, Form}
 use Rattle.elf_form.specs.declared.symbols.Table.{Table}
 use Rattle.elf_form.specs.ObjectParts.{ObjectParts}
-use Rattle.guest_ram.specs.Places.{◌or_else◌}
 use Rattle.elf_form.specs.Tables.{entries, found}
 use Rattle.elf_form.specs.Header.{header_table, section_table, section_count, sections, passes, has_contents, part_begins, header_cut, header_table_cut, section_table_cut, header_part_cut, section_part_cut, cut, IsSection, IsWhole}
 use Rattle.elf_form.specs.Sections.{contents, is_index, names, is_null, is_sites}
@@ -67,7 +67,7 @@ number_in names bytes [] n i lt is = absurd (omega arith)
 number_in names bytes (y ∷ ys) n zero lt is = listed_first (is_listed names bytes y) n y (filter (is_listed names bytes) ys) is
 number_in names bytes (y ∷ ys) n (suc i) lt is = number_on (is_listed names bytes y) names bytes ys n y i (λ m. number_in names bytes ys m i (omega arith) is)
 
-listed_by : (file binding place : Bool) (y : ℕ) → file ≡ false → cond file None (then_some (not binding) (y + 12) or_else then_some (not place) (y + 14)) ≡ None → (not file && binding && place) ≡ true
+listed_by : (file binding place : Bool) (y : ℕ) → file ≡ false → cond file None (option_or (then_some (not binding) (y + 12)) (then_some (not place) (y + 14))) ≡ None → (not file && binding && place) ≡ true
 listed_by true binding place y is h = cc
 listed_by false binding place y is h =
     let both = else_none (then_some (not binding) (y + 12)) (then_some (not place) (y + 14)) h in

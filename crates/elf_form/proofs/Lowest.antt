@@ -3,9 +3,9 @@ use Rattle.std.proofs.Common.{◌≡◌, ◌≢◌, ℕ, zero, suc, ◌+◌, ◌
 use Rattle.std.specs.Prelude.{◌==◌, filter, fold}
 use Rattle.std.specs.Bool.{then_some}
 use Rattle.std.specs.List.{Contains, find}
+use Rattle.std.specs.Option.{option_or}
 use Rattle.std.proofs.lemmas.Bool.{cases_lt, le-ltb, lt-ltb, eqb-false, ne_eqb}
 use Rattle.elf_form.specs.Faults.{◌or_lower◌}
-use Rattle.guest_ram.specs.Places.{◌or_else◌}
 use Rattle.elf_form.specs.Tables.{entries, found, first_some, further}
 use Rattle.elf_form.specs.ObjectReading.{first_field, second_field}
 use Rattle.elf_form.specs.Order.{IsLowest}
@@ -83,7 +83,7 @@ finds_lower (Some a) (Some b) P Q h g = elim (cases_lt b a) [
       (inl h.0, λ k e. elim e [ inl p ↦ h.1 k p | inr q ↦ omega (arith, g.1 k q, le) ])
 ]
 
-pub finds_else : (a b : Option ℕ) (P Q : ℕ → Type 0) → ((i j : ℕ) → P i → Q j → i ≤ j) → Finds a P → Finds b Q → Finds (a or_else b) (λ k. P k ⊎ Q k)
+pub finds_else : (a b : Option ℕ) (P Q : ℕ → Type 0) → ((i j : ℕ) → P i → Q j → i ≤ j) → Finds a P → Finds b Q → Finds (option_or a b) (λ k. P k ⊎ Q k)
 finds_else None b P Q below h g = finds_as b Q (λ k. P k ⊎ Q k) (λ k q. inr q) (λ k e. elim e [ inl p ↦ absurd (h k p) | inr q ↦ q ]) g
 finds_else (Some a) b P Q below h g = (inl h.0, λ k e. elim e [ inl p ↦ h.1 k p | inr q ↦ below a k h.0 q ])
 
@@ -129,7 +129,7 @@ some_first : (p : ℕ → Bool) (field : ℕ) (xs : List ℕ) → first_some (λ
 unfolding first_some
 some_first p field [] = refl
 some_first p field (x ∷ xs) = by (p x) (some_first p field xs) where
-  by : (b : Bool) → first_some (λ y. then_some (p y) (y + field)) xs ≡ further field (find p xs) → (then_some b (x + field) or_else first_some (λ y. then_some (p y) (y + field)) xs) ≡ further field (cond b (Some x) (find p xs))
+  by : (b : Bool) → first_some (λ y. then_some (p y) (y + field)) xs ≡ further field (find p xs) → option_or (then_some b (x + field)) (first_some (λ y. then_some (p y) (y + field)) xs) ≡ further field (cond b (Some x) (find p xs))
   by true e = refl
   by false e = e
 

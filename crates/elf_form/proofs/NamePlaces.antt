@@ -1,7 +1,7 @@
 -- Each name of a symbol is read at its place in the string table.
 use Rattle.std.proofs.Common.{◌≡◌, ◌≢◌, ℕ, ◌+◌, ◌-◌, ◌<◌, Bool, true, false, cond, eqb, List, [], ◌∷◌, ◌++◌, length, get_or, drop, take, fold, Option, Some, None, refl, sym, ap, ◌∙◌, arith, append_assoc}
 use Rattle.std.specs.Prelude.{All}
-use Rattle.std.specs.List.{list_any, before_first, position_or_len, AllByRecursion}
+use Rattle.std.specs.List.{before_first, position_or_len, AllByRecursion}
 use Rattle.std.specs.Str.{bytes_eq}
 use Rattle.std.proofs.Math.ListN.{get_or-append}
 use Rattle.std.proofs.Math.Seq.{get_or-append_seam, drop-append-add}
@@ -9,6 +9,7 @@ use Rattle.std.proofs.lemmas.List.{length-append, length-drop, take_at}
 use Rattle.std.proofs.lemmas.List.Folds.{list_any-append}
 use Rattle.std.proofs.lemmas.List.Sums.{position_or_len_is}
 use Rattle.std.proofs.lemmas.Slice.Eq.{bytes_eq-Decides}
+use Rattle.guest_ram.specs.Among.{is_among}
 use Rattle.elf_form.specs.declared.object.Symbol.{Symbol}
 use Rattle.elf_form.specs.Tables.{further}
 use Rattle.elf_form.specs.StringTable.{place_in, unless_placed, with_name, table_bytes, name_place}
@@ -85,13 +86,13 @@ before_zero name rest none =
     (λ lt. ap (λ (b : ℕ). eqb b 0) (get_or-append_seam name 0 rest 0)) in
     ap (λ (n : ℕ). take n (name ++ (0 ∷ rest))) at ∙ take_at name (0 ∷ rest) (length name) refl
 
-some_zero : (name rest : List ℕ) → list_any (λ b. eqb b 0) (name ++ (0 ∷ rest)) ≡ true
-some_zero name rest = list_any-append (λ b. eqb b 0) name (0 ∷ rest) ∙ grind arith
+some_zero : (name rest : List ℕ) → is_among 0 (name ++ (0 ∷ rest)) ≡ true
+some_zero name rest = list_any-append (eqb 0) name (0 ∷ rest) ∙ grind arith
 
 -- what is known of a name in the string table
 pub record IsRead (names : List (List ℕ)) (name : List ℕ) : Type 0 where
   pub inside : name_place names name < length (table_bytes names)
-  pub ended : list_any (λ b. eqb b 0) (drop (name_place names name) (table_bytes names)) ≡ true
+  pub ended : is_among 0 (drop (name_place names name) (table_bytes names)) ≡ true
   pub read : name_in (table_bytes names) (name_place names name) ≡ name
 
 pub name_read : (names : List (List ℕ)) (name : List ℕ) → HasPlace names name → All (λ b. b ≢ 0) name → IsRead names name
@@ -103,6 +104,6 @@ name_read names name has none =
     let left : length (table_bytes names) - name_place names name ≡ length name + (length known.rest + 1) = sym (length-drop (name_place names name) (table_bytes names)) ∙ ap length split ∙ length-append name (0 ∷ known.rest) ∙ omega arith in
     record {
       inside = omega arith;
-      ended = ap (list_any (λ b. eqb b 0)) split ∙ some_zero name known.rest;
+      ended = ap (is_among 0) split ∙ some_zero name known.rest;
       read = ap (before_first (λ b. eqb b 0)) split ∙ before_zero name known.rest none;
     }

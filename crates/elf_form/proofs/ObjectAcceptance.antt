@@ -24,13 +24,13 @@ if_read bytes (Err e) given = tt
 pub if_as : (bytes : List ℕ) (r : Result ObjectParts ElfFault) → Gives (λ o. o) r (object_in bytes) → (object : ObjectParts) → ObjectAs bytes object → Gives (λ o. o) r (Ok object)
 if_as bytes r given object is = subst (λ (read : Result ObjectParts Fault). Gives (λ o. o) r read) (as_read bytes object is) given
 
-pub object_first : (bytes : List ℕ) (e : Fault) → object_in bytes ≡ Err e → IsFirstOf (wrong_object bytes) causes e
+pub object_first : (bytes : List ℕ) (e : Fault) → object_in bytes ≡ Err e → IsFirstOf (wrong_object bytes) causes e.at e.cause
 unfolding object_in
 object_first bytes e h = tested-err ObjectParts (wrong_object bytes) causes (object_at bytes) e h
 
-pub object_by_first : (bytes : List ℕ) (e : Fault) → IsFirstOf (wrong_object bytes) causes e → object_in bytes ≡ Err e
+pub object_by_first : (bytes : List ℕ) (e : Fault) → IsFirstOf (wrong_object bytes) causes e.at e.cause → object_in bytes ≡ Err e
 unfolding object_in
 object_by_first bytes e h = first_tested ObjectParts (wrong_object bytes) causes (object_at bytes) e h
 
-pub if_first : (bytes : List ℕ) (r : Result ObjectParts ElfFault) → Gives (λ o. o) r (object_in bytes) → (at : ℕ) (cause : ElfCause) → r ≡ Err (faults.At at cause) → IsFirstOf (wrong_object bytes) causes (record { at = at; cause = cause })
+pub if_first : (bytes : List ℕ) (r : Result ObjectParts ElfFault) → Gives (λ o. o) r (object_in bytes) → (at : ℕ) (cause : ElfCause) → r ≡ Err (faults.At at cause) → IsFirstOf (wrong_object bytes) causes at cause
 if_first bytes r given at cause e = object_first bytes (record { at = at; cause = cause }) (subst (λ (s : Result ObjectParts ElfFault). Gives (λ o. o) s (object_in bytes)) e given)

@@ -2,6 +2,7 @@
 use Rattle.std.proofs.Common.{◌≡◌, ℕ, ◌+◌, ◌*◌, ◌%◌, ◌<◌, ◌≤◌, Bool, true, false, ltb, List, length, None, refl, ap, ◌∙◌, arith, eq-eqb}
 use Rattle.std.specs.Prelude.{◌&&◌, count_by}
 use Rattle.std.specs.List.{find}
+use Rattle.std.specs.Option.{option_or}
 use Rattle.std.proofs.lemmas.Bool.{le-ltb, lt-ltb}
 use Rattle.guest_ram.specs.Bytes.{word32}
 use Rattle.elf_form.specs.declared.roles.Role.TheVariants as role
@@ -9,7 +10,6 @@ use Rattle.elf_form.specs.declared.symbols.Table.{Table}
 use Rattle.elf_form.specs.declared.symbols.SectionTest.TheVariants.{EntrySizes, Links}
 use Rattle.elf_form.specs.ObjectParts.{ObjectParts}
 use Rattle.elf_form.specs.Output.{pad}
-use Rattle.guest_ram.specs.Places.{◌or_else◌}
 use Rattle.elf_form.specs.Tables.{found, first_some, further}
 use Rattle.elf_form.specs.Header.{passes, header_passes, section_passes, header_table, section_table, header_count, section_count, part_begins, header_cut, header_table_cut, section_table_cut, header_part_cut, section_part_cut, cut}
 use Rattle.elf_form.specs.Sections.{is_nameless, is_compressed, compressed, nameless}
@@ -18,7 +18,7 @@ use Rattle.elf_form.specs.Symbols.{section_test, sections_fault}
 use Rattle.elf_form.specs.ObjectReading.{has_strings, table_of, link_of, table_fault, inner_sizes, object_sizes, object_form, section_names_fault}
 use Rattle.elf_form.specs.ObjectLayout.{layout, is_of, object_names}
 use Rattle.elf_form.proofs.FileWords.{IsRow}
-use Rattle.elf_form.proofs.RoundTrip.{neither_first, is_good}
+use Rattle.elf_form.proofs.RoundTrip.{neither_first, is_good, bss_stays}
 use Rattle.elf_form.proofs.ObjectFile.{IsFileOf}
 use Rattle.elf_form.proofs.ObjectSections.{rows, headers-are, sections-are, names-are, HasRoles, with-role, table-is, text_target, data_target, role_at-symbols}
 
@@ -35,9 +35,6 @@ both false b e = refl
 stays : (f : List ℕ) (s n k g o z : ℕ) → IsRow f s n k g o z → o + z ≤ length f → section_passes f s ≡ false
 stays f s n k g o z row le = rw (row.offset, row.size) (both _ _ (le-ltb (length f) (o + z) le))
 
-bss_stays : (f : List ℕ) (s n g o z : ℕ) → IsRow f s n 8 g o z → section_passes f s ≡ false
-bss_stays f s n g o z row = rw row.kind refl
-
 pub not_cut : (f : List ℕ) (o : ObjectParts) → IsFileOf f o → cut f ≡ None
 unfolding cut
 not_cut f o is =
@@ -49,7 +46,7 @@ not_cut f o is =
     let d : header_part_cut f ≡ None = ap (part_begins f 4) (ap (find (header_passes f)) (headers-are f o is)) in
     let e : section_part_cut f ≡ None = ap (part_begins f 16) (ap (find (section_passes f)) (sections-are f o is)
     ∙ none_of_ten (section_passes f) s (stays f _ _ _ _ _ _ is.null (omega arith)) (stays f _ _ _ _ _ _ is.text (omega arith)) (stays f _ _ _ _ _ _ is.init (omega arith)) (bss_stays f _ _ _ _ _ is.bss) (stays f _ _ _ _ _ _ is.sites (omega arith)) (stays f _ _ _ _ _ _ is.text_relocs (omega arith)) (stays f _ _ _ _ _ _ is.data_relocs (omega arith)) (stays f _ _ _ _ _ _ is.symbols (omega arith)) (stays f _ _ _ _ _ _ is.strings (omega arith)) (stays f _ _ _ _ _ _ is.names (omega arith))) in
-    neither_first (header_cut f) (header_table_cut f or_else (section_table_cut f or_else (header_part_cut f or_else section_part_cut f))) a (neither_first (header_table_cut f) (section_table_cut f or_else (header_part_cut f or_else section_part_cut f)) b (neither_first (section_table_cut f) (header_part_cut f or_else section_part_cut f) c (neither_first (header_part_cut f) (section_part_cut f) d e)))
+    neither_first (header_cut f) (option_or (header_table_cut f) (option_or (section_table_cut f) (option_or (header_part_cut f) (section_part_cut f)))) a (neither_first (header_table_cut f) (option_or (section_table_cut f) (option_or (header_part_cut f) (section_part_cut f))) b (neither_first (section_table_cut f) (option_or (header_part_cut f) (section_part_cut f)) c (neither_first (header_part_cut f) (section_part_cut f) d e)))
 
 -- ---- sizes
 

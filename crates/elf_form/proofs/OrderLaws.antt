@@ -3,9 +3,9 @@ use Rattle.std.specs.List.{Contains, find}
 use Rattle.std.proofs.Common.{◌≡◌, ℕ, zero, suc, ◌+◌, ◌*◌, ◌<◌, ◌≤◌, Bool, true, false, ◌&&◌, cond, List, [], ◌∷◌, ◌++◌, length, map, filter, nat_lt, Option, Some, None, refl, sym, ap, ◌∙◌, inl, inr, subst, slice_get, arith}
 use Rattle.std.specs.Prelude.{◌↔◌}
 use Rattle.std.specs.Bool.{then_some}
+use Rattle.std.specs.Option.{option_or}
 use Rattle.std.proofs.lemmas.Bool.{cases_lt, le-ltb, lt-ltb}
 use Rattle.guest_ram.specs.Bytes.{word32}
-use Rattle.guest_ram.specs.Places.{◌or_else◌}
 use Rattle.elf_form.specs.Header.{header_table, section_table, header_count, section_count, headers, sections, passes, has_contents, header_passes, section_passes, part_begins, cut}
 use Rattle.elf_form.specs.Order.{named_by_header, named_by_section, named_parts, IsPast, IsFirstPast}
 use Rattle.elf_form.proofs.Lowest.{some, has_first, has_later, first_or_later, has_none}
@@ -15,22 +15,22 @@ past_in : ℕ → List (ℕ × ℕ) → Option ℕ
 past_in size [] = None
 past_in size (p ∷ ps) = cond (nat_lt size (p.0 + p.1)) (Some p.0) (past_in size ps)
 
-one_more : (size : ℕ) (p : ℕ × ℕ) (ps : List (ℕ × ℕ)) → past_in size (p ∷ ps) ≡ (then_some (nat_lt size (p.0 + p.1)) p.0 or_else past_in size ps)
+one_more : (size : ℕ) (p : ℕ × ℕ) (ps : List (ℕ × ℕ)) → past_in size (p ∷ ps) ≡ option_or (then_some (nat_lt size (p.0 + p.1)) p.0) (past_in size ps)
 unfolding past_in
 one_more size p ps = by (nat_lt size (p.0 + p.1)) where
-  by : (b : Bool) → cond b (Some p.0) (past_in size ps) ≡ (then_some b p.0 or_else past_in size ps)
+  by : (b : Bool) → cond b (Some p.0) (past_in size ps) ≡ option_or (then_some b p.0) (past_in size ps)
   by true = refl
   by false = refl
 
-else_nothing : (a : Option ℕ) → (a or_else None) ≡ a
+else_nothing : (a : Option ℕ) → option_or a None ≡ a
 else_nothing None = refl
 else_nothing (Some at) = refl
 
-past_append : (size : ℕ) (ps qs : List (ℕ × ℕ)) → past_in size (ps ++ qs) ≡ (past_in size ps or_else past_in size qs)
+past_append : (size : ℕ) (ps qs : List (ℕ × ℕ)) → past_in size (ps ++ qs) ≡ option_or (past_in size ps) (past_in size qs)
 unfolding past_in
 past_append size [] qs = refl
 past_append size (p ∷ ps) qs = by (nat_lt size (p.0 + p.1)) (past_append size ps qs) where
-  by : (b : Bool) → past_in size (ps ++ qs) ≡ (past_in size ps or_else past_in size qs) → cond b (Some p.0) (past_in size (ps ++ qs)) ≡ (cond b (Some p.0) (past_in size ps) or_else past_in size qs)
+  by : (b : Bool) → past_in size (ps ++ qs) ≡ option_or (past_in size ps) (past_in size qs) → cond b (Some p.0) (past_in size (ps ++ qs)) ≡ option_or (cond b (Some p.0) (past_in size ps)) (past_in size qs)
   by true e = refl
   by false e = e
 
@@ -59,14 +59,14 @@ module _ (bytes : List ℕ) where
   cut_past =
       sym (
       one_more (length bytes) (0, 52) _
-      ∙ ap (λ (o : Option ℕ). then_some (passes bytes 0 52) 0 or_else o) (
+      ∙ ap (λ (o : Option ℕ). option_or (then_some (passes bytes 0 52) 0) o) (
       one_more (length bytes) (header_table bytes, 32 * header_count bytes) _
-      ∙ ap (λ (o : Option ℕ). then_some (passes bytes (header_table bytes) (32 * header_count bytes)) (header_table bytes) or_else o) (
+      ∙ ap (λ (o : Option ℕ). option_or (then_some (passes bytes (header_table bytes) (32 * header_count bytes)) (header_table bytes)) o) (
       one_more (length bytes) (section_table bytes, 40 * section_count bytes) _
-      ∙ ap (λ (o : Option ℕ). then_some (passes bytes (section_table bytes) (40 * section_count bytes)) (section_table bytes) or_else o) (
+      ∙ ap (λ (o : Option ℕ). option_or (then_some (passes bytes (section_table bytes) (40 * section_count bytes)) (section_table bytes)) o) (
       past_append (length bytes) (map (named_by_header bytes) (headers bytes)) (map (named_by_section bytes) (filter (has_contents bytes) (sections bytes)))
-      ∙ ap (λ (o : Option ℕ). o or_else past_in (length bytes) (map (named_by_section bytes) (filter (has_contents bytes) (sections bytes)))) (sym (headers_past (headers bytes)))
-      ∙ ap (λ (o : Option ℕ). part_begins bytes 4 (find (header_passes bytes) (headers bytes)) or_else o) (sym (sections_past (sections bytes)))))))
+      ∙ ap (λ (o : Option ℕ). option_or o (past_in (length bytes) (map (named_by_section bytes) (filter (has_contents bytes) (sections bytes))))) (sym (headers_past (headers bytes)))
+      ∙ ap (λ (o : Option ℕ). option_or (part_begins bytes 4 (find (header_passes bytes) (headers bytes))) o) (sym (sections_past (sections bytes)))))))
 
 module _ (size : ℕ) where
   past_so : (parts : List (ℕ × ℕ)) (at : ℕ) → past_in size parts ≡ Some at → IsFirstPast size parts at

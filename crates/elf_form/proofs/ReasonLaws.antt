@@ -1,5 +1,5 @@
 -- Each cause holds exactly where its condition does, and a refusal is the first cause that holds.
-use Rattle.std.proofs.Common.{◌≡◌, ◌≢◌, ℕ, zero, suc, ◌+◌, ◌%◌, ◌<◌, Bool, true, false, not, ◌&&◌, List, [], ◌∷◌, length, Option, Some, None, Result, Err, refl, sym, ap, ◌∙◌, subst, inl, inr, ◌⊎◌, slice_get, arith}
+use Rattle.std.proofs.Common.{◌≡◌, ◌≢◌, ℕ, ◌+◌, ◌%◌, Bool, true, false, not, ◌&&◌, List, [], ◌∷◌, length, Option, Some, None, Result, Err, refl, sym, ◌∙◌, subst, inl, inr, ◌⊎◌, arith}
 use Rattle.std.specs.Prelude.{◌↔◌, ◌==◌}
 use Rattle.std.specs.Bool.{then_some}
 use Rattle.std.proofs.lemmas.Bool.{eqb-true, eqb-false, eq-eqb, ne_eqb, and_parts, and_from, not-true, not_from_false}
@@ -24,6 +24,7 @@ use Rattle.elf_form.proofs.Lowest.{Finds, finds_so, so_finds, finds_none, none_f
 use Rattle.elf_form.proofs.BadSections.{object_form_finds, compressed_finds, nameless_finds, SitesPart, sites_finds}
 use Rattle.elf_form.proofs.BadSizes.{object_sizes_finds, image_sizes_finds}
 use Rattle.elf_form.proofs.BadSymbols.{string_places_finds, symbol_form_finds, reloc_form_finds}
+use Rattle.elf_form.proofs.FirstCauses.{first_in_list, list_first}
 use Rattle.elf_form.proofs.Acceptance.{if_first, read_by_first}
 use Rattle.elf_form.proofs.ObjectAcceptance.{if_first as object_first, object_by_first}
 
@@ -158,36 +159,18 @@ image_none bytes cause = (image_meets bytes cause).none
 
 -- ---- the order
 
-abbrev a_cause : ElfCause → Option ElfCause
-a_cause c = Some c
-
-cause_is : (a b : ElfCause) → a_cause a ≡ a_cause b → a ≡ b
-cause_is a b e = cc
-
 module _ (bytes : List ℕ) (place_of : ElfCause → Option ℕ) (bad_by : ElfCause → ℕ → Type 0) (meets : (c : ElfCause) → Meets bytes (place_of c) (HasPlace bad_by bytes c) (bad_by c)) where
-  first_so : (cs : List ElfCause) (at : ℕ) (cause : ElfCause) → IsFirstOf place_of cs (record { at = at; cause = cause }) → IsRefused bad_by cs bytes at cause
-  first_so [] at cause h = absurd h
-  first_so (c ∷ cs) at cause (inl here) = record {
-    index = 0;
-    there = ap a_cause (sym here.1);
-    place = ((meets cause).exact at).0 (ap place_of here.1 ∙ here.0);
-    before = λ j d k lt there. absurd (omega (arith, lt));
-  }
-  first_so (c ∷ cs) at cause (inr later) =
-      let more = first_so cs at cause later.1 in
-      record { index = suc more.index; there = more.there; place = more.place; before = step more } where
-        step : (more : IsRefused bad_by cs bytes at cause) (j : ℕ) (d : ElfCause) (k : ℕ) → j < suc more.index → slice_get (c ∷ cs) j ≡ Some d → bad_by d k → ⊥
-        step more zero d k lt there = let same : c ≡ d = cause_is c d there in (meets d).none.0 (ap place_of (sym same) ∙ later.0) k
-        step more (suc j) d k lt there = more.before j d k (omega (arith, lt)) there
+  first_so : (cs : List ElfCause) (at : ℕ) (cause : ElfCause) → IsFirstOf place_of cs at cause → IsRefused bad_by cs bytes at cause
+  first_so cs at cause h =
+      let f = first_in_list ElfCause place_of cs at cause h in
+      record { index = f.index; there = f.there; place = ((meets cause).exact at).0 f.is; before = λ j c k lt there. (meets c).none.0 (f.before j c lt there) k }
 
-  so_first : (cs : List ElfCause) (at : ℕ) (cause : ElfCause) (index : ℕ) → slice_get cs index ≡ Some cause → HasPlace bad_by bytes cause at → ((j : ℕ) (c : ElfCause) (k : ℕ) → j < index → slice_get cs j ≡ Some c → bad_by c k → ⊥) → IsFirstOf place_of cs (record { at = at; cause = cause })
-  so_first [] at cause index there place before = absurd cc
-  so_first (c ∷ cs) at cause zero there place before = let same : c ≡ cause = cause_is c cause there in inl (ap place_of same ∙ ((meets cause).exact at).1 place, sym same)
-  so_first (c ∷ cs) at cause (suc i) there place before =
-      inr ((meets c).none.1 (λ k. before 0 c k (omega arith) refl), so_first cs at cause i there place (λ j d k lt there2. before (suc j) d k (omega (arith, lt)) there2))
+  so_first : (cs : List ElfCause) (at : ℕ) (cause : ElfCause) → IsRefused bad_by cs bytes at cause → IsFirstOf place_of cs at cause
+  so_first cs at cause h =
+      list_first ElfCause place_of cs at cause h.index h.there (((meets cause).exact at).1 h.place) (λ j c lt there. (meets c).none.1 (λ k. h.before j c k lt there))
 
-  pub refused_exact : (cs : List ElfCause) (at : ℕ) (cause : ElfCause) → IsFirstOf place_of cs (record { at = at; cause = cause }) ↔ IsRefused bad_by cs bytes at cause
-  refused_exact cs at cause = (first_so cs at cause, λ h. so_first cs at cause h.index h.there h.place h.before)
+  pub refused_exact : (cs : List ElfCause) (at : ℕ) (cause : ElfCause) → IsFirstOf place_of cs at cause ↔ IsRefused bad_by cs bytes at cause
+  refused_exact cs at cause = (first_so cs at cause, so_first cs at cause)
 
 -- ---- the readers
 

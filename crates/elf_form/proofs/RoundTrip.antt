@@ -3,12 +3,12 @@ use Rattle.std.proofs.Common.{◌≡◌, ℕ, ◌+◌, ◌*◌, ◌-◌, ◌≤�
 use Rattle.std.specs.Prelude.{filter}
 use Rattle.std.specs.Bool.{then_some}
 use Rattle.std.specs.List.{find}
+use Rattle.std.specs.Option.{option_or}
 use Rattle.std.proofs.lemmas.Bool.{cond-true, cond-false, le-ltb}
 use Rattle.guest_ram.specs.Bytes.{part, word32}
 use Rattle.elf_form.specs.declared.segments.Found.TheVariants.{One, Two}
 use Rattle.elf_form.specs.ImageParts.{ImageParts}
 use Rattle.elf_form.specs.Faults.{tested, causes, ◌or_lower◌}
-use Rattle.guest_ram.specs.Places.{◌or_else◌}
 use Rattle.elf_form.specs.Tables.{entries, found, further}
 use Rattle.elf_form.specs.Header.{headers, sections, passes, header_passes, section_passes, header_table, section_table, header_count, section_count, part_begins, header_cut, header_table_cut, section_table_cut, header_part_cut, section_part_cut, cut}
 use Rattle.elf_form.specs.Segments.{is_load, loads, memory_sizes, sizes, order}
@@ -64,30 +64,30 @@ headers-are : (f : List ℕ) (p : ImageParts) → IsFileOf f p → headers f ≡
 unfolding entries
 headers-are f p is = rw (is.header.headers, is.header.programs) refl
 
-rows : ℕ → List ℕ
-rows s = s ∷ (s + 40) ∷ (s + 40 + 40) ∷ (s + 40 + 40 + 40) ∷ (s + 40 + 40 + 40 + 40) ∷ (s + 40 + 40 + 40 + 40 + 40) ∷ []
+six_rows : ℕ → List ℕ
+six_rows s = s ∷ (s + 40) ∷ (s + 40 + 40) ∷ (s + 40 + 40 + 40) ∷ (s + 40 + 40 + 40 + 40) ∷ (s + 40 + 40 + 40 + 40 + 40) ∷ []
 
-sections-are : (f : List ℕ) (p : ImageParts) → IsFileOf f p → sections f ≡ rows (sections_from p)
-unfolding entries rows
+sections-are : (f : List ℕ) (p : ImageParts) → IsFileOf f p → sections f ≡ six_rows (sections_from p)
+unfolding entries six_rows
 sections-are f p is = rw (is.header.sections, is.header.section_count) refl
 
 pub not_first : (p : ℕ → Bool) (x : ℕ) (xs : List ℕ) → p x ≡ false → find p xs ≡ None → find p (x ∷ xs) ≡ None
 not_first p x xs not_here none = cond-false _ _ _ not_here ∙ none
 
-none_of_rows : (p : ℕ → Bool) (s : ℕ) → p s ≡ false → p (s + 40) ≡ false → p (s + 40 + 40) ≡ false → p (s + 40 + 40 + 40) ≡ false → p (s + 40 + 40 + 40 + 40) ≡ false → p (s + 40 + 40 + 40 + 40 + 40) ≡ false → find p (rows s) ≡ None
-unfolding rows
+none_of_rows : (p : ℕ → Bool) (s : ℕ) → p s ≡ false → p (s + 40) ≡ false → p (s + 40 + 40) ≡ false → p (s + 40 + 40 + 40) ≡ false → p (s + 40 + 40 + 40 + 40) ≡ false → p (s + 40 + 40 + 40 + 40 + 40) ≡ false → find p (six_rows s) ≡ None
+unfolding six_rows
 none_of_rows p s a b c d e g = rw (a, b, c, d, e, g) refl
 
 kept : (p : ℕ → Bool) (x : ℕ) (xs ys : List ℕ) → p x ≡ true → filter p xs ≡ ys → filter p (x ∷ xs) ≡ x ∷ ys
 kept p x xs ys here rest = cond-true _ _ _ here ∙ ap (λ (r : List ℕ). x ∷ r) rest
 
-fourth_of_rows : (p : ℕ → Bool) (s : ℕ) → p s ≡ false → p (s + 40) ≡ false → p (s + 40 + 40) ≡ false → p (s + 40 + 40 + 40) ≡ false → p (s + 40 + 40 + 40 + 40) ≡ true → p (s + 40 + 40 + 40 + 40 + 40) ≡ false → filter p (rows s) ≡ (s + 40 + 40 + 40 + 40) ∷ []
-unfolding rows
+fourth_of_rows : (p : ℕ → Bool) (s : ℕ) → p s ≡ false → p (s + 40) ≡ false → p (s + 40 + 40) ≡ false → p (s + 40 + 40 + 40) ≡ false → p (s + 40 + 40 + 40 + 40) ≡ true → p (s + 40 + 40 + 40 + 40 + 40) ≡ false → filter p (six_rows s) ≡ (s + 40 + 40 + 40 + 40) ∷ []
+unfolding six_rows
 fourth_of_rows p s a b c d e g = rw (a, b, c, d, e, g) refl
 
 -- ---- no part passes the end
 
-pub neither_first : (a b : Option ℕ) → a ≡ None → b ≡ None → (a or_else b) ≡ None
+pub neither_first : (a b : Option ℕ) → a ≡ None → b ≡ None → option_or a b ≡ None
 neither_first a b e g = rw (e, g) refl
 
 pub neither_lower : (a b : Option ℕ) → a ≡ None → b ≡ None → (a or_lower b) ≡ None
@@ -99,7 +99,7 @@ is_good is_bad at e = rw e refl
 null_stays : (f : List ℕ) (s n g o z : ℕ) → IsRow f s n 0 g o z → section_passes f s ≡ false
 null_stays f s n g o z row = rw row.kind refl
 
-bss_stays : (f : List ℕ) (s n g o z : ℕ) → IsRow f s n 8 g o z → section_passes f s ≡ false
+pub bss_stays : (f : List ℕ) (s n g o z : ℕ) → IsRow f s n 8 g o z → section_passes f s ≡ false
 bss_stays f s n g o z row = rw row.kind refl
 
 bytes_stay : (f : List ℕ) (s n g o z : ℕ) → IsRow f s n 1 g o z → o + z ≤ length f → section_passes f s ≡ false
@@ -122,7 +122,7 @@ not_cut f p is =
     let d : header_part_cut f ≡ None = ap (part_begins f 4) (ap (find (header_passes f)) (headers-are f p is) ∙ not_first (header_passes f) 52 (84 ∷ []) (program_stays f 52 _ _ _ _ _ is.text (omega arith)) (not_first (header_passes f) 84 [] (program_stays f 84 _ _ _ _ _ is.init (omega arith)) refl)) in
     let e : section_part_cut f ≡ None = ap (part_begins f 16) (ap (find (section_passes f)) (sections-are f p is)
     ∙ none_of_rows (section_passes f) s (null_stays f _ _ _ _ _ is.row0) (bytes_stay f _ _ _ _ _ is.row1 (omega arith)) (bytes_stay f _ _ _ _ _ is.row2 (omega arith)) (bss_stays f _ _ _ _ _ is.row3) (bytes_stay f _ _ _ _ _ is.row4 (omega arith)) (names_stay f _ _ _ _ _ is.row5 (omega arith))) in
-    neither_first (header_cut f) (header_table_cut f or_else (section_table_cut f or_else (header_part_cut f or_else section_part_cut f))) a (neither_first (header_table_cut f) (section_table_cut f or_else (header_part_cut f or_else section_part_cut f)) b (neither_first (section_table_cut f) (header_part_cut f or_else section_part_cut f) c (neither_first (header_part_cut f) (section_part_cut f) d e)))
+    neither_first (header_cut f) (option_or (header_table_cut f) (option_or (section_table_cut f) (option_or (header_part_cut f) (section_part_cut f)))) a (neither_first (header_table_cut f) (option_or (section_table_cut f) (option_or (header_part_cut f) (section_part_cut f))) b (neither_first (section_table_cut f) (option_or (header_part_cut f) (section_part_cut f)) c (neither_first (header_part_cut f) (section_part_cut f) d e)))
 
 -- ---- program headers
 

@@ -2,11 +2,11 @@
 use Rattle.std.proofs.Common.{◌≡◌, ℕ, zero, suc, ◌+◌, ◌-◌, ◌*◌, ◌<◌, ◌≤◌, Bool, true, false, cond, List, [], ◌∷◌, Option, Some, None, refl, ap, ◌∙◌, arith}
 use Rattle.std.specs.Prelude.{filter}
 use Rattle.std.specs.List.{find}
+use Rattle.std.specs.Option.{option_or}
 use Rattle.std.proofs.lemmas.Bool.{cond-true, cond-false}
 use Rattle.elf_form.specs.declared.segments.Found.{Found}
 use Rattle.elf_form.specs.declared.segments.Found.TheVariants.{Nothing, One, Two, More}
 use Rattle.elf_form.specs.Tables.{entries, found, with_one, AllFound, first_some}
-use Rattle.guest_ram.specs.Places.{◌or_else◌}
 
 -- what is left at the entry i, and one further on
 pub entries-more : (at k n i : ℕ) → i < n → entries (at + k * i) k (n - i) ≡ (at + k * i) ∷ entries (at + k * (i + 1)) k (n - (i + 1))
@@ -90,11 +90,11 @@ AllFound-with P (More a b) at all here = all
 
 pub first_some-here : (f : ℕ → Option ℕ) (at k n i place : ℕ) → i < n → f (at + k * i) ≡ Some place → first_some f (entries (at + k * i) k (n - i)) ≡ Some place
 unfolding first_some
-first_some-here f at k n i place lt is = ap (first_some f) (entries-more at k n i lt) ∙ ap (λ o. o or_else first_some f (entries (at + k * (i + 1)) k (n - (i + 1)))) is
+first_some-here f at k n i place lt is = ap (first_some f) (entries-more at k n i lt) ∙ ap (λ o. option_or o (first_some f (entries (at + k * (i + 1)) k (n - (i + 1))))) is
 
 pub first_some-next : (f : ℕ → Option ℕ) (at k n i : ℕ) → i < n → f (at + k * i) ≡ None → first_some f (entries (at + k * i) k (n - i)) ≡ first_some f (entries (at + k * (i + 1)) k (n - (i + 1)))
 unfolding first_some
-first_some-next f at k n i lt is = ap (first_some f) (entries-more at k n i lt) ∙ ap (λ o. o or_else first_some f (entries (at + k * (i + 1)) k (n - (i + 1)))) is
+first_some-next f at k n i lt is = ap (first_some f) (entries-more at k n i lt) ∙ ap (λ o. option_or o (first_some f (entries (at + k * (i + 1)) k (n - (i + 1))))) is
 
 pub first_some-end : (f : ℕ → Option ℕ) (at k n i : ℕ) → n ≤ i → first_some f (entries (at + k * i) k (n - i)) ≡ None
 unfolding first_some

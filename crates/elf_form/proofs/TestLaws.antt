@@ -27,7 +27,7 @@ bind_ok A B (Ok x) f y h = (x, refl, h)
 bind_ok A B (Err d) f y h = absurd cc
 
 module _ (A : Type 0) (wrong : ElfCause → Option ℕ) where
-  pub tested-err : (cs : List ElfCause) (x : A) (e : Fault) → tested wrong cs x ≡ failed A e → IsFirstOf wrong cs e
+  pub tested-err : (cs : List ElfCause) (x : A) (e : Fault) → tested wrong cs x ≡ failed A e → IsFirstOf wrong cs e.at e.cause
   unfolding tested
   tested-err [] x e h = absurd cc
   tested-err (c ∷ cs) x e h =
@@ -36,7 +36,7 @@ module _ (A : Type 0) (wrong : ElfCause → Option ℕ) where
         | inr goes ↦ inr (tested_none c (wrong c) goes.1, tested-err cs x e goes.2)
       ]
 
-  pub first_tested : (cs : List ElfCause) (x : A) (e : Fault) → IsFirstOf wrong cs e → tested wrong cs x ≡ failed A e
+  pub first_tested : (cs : List ElfCause) (x : A) (e : Fault) → IsFirstOf wrong cs e.at e.cause → tested wrong cs x ≡ failed A e
   unfolding tested
   first_tested [] x e h = absurd h
   first_tested (c ∷ cs) x e (inl (here, same)) =

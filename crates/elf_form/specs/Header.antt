@@ -2,8 +2,8 @@
 use Rattle.std.specs.Prelude.{◌≡◌, ◌≤◌, ℕ, ◌+◌, ◌*◌, Bool, false, not, ◌&&◌, List, length, Option, Some, None, Result, nat_lt, ◌==◌}
 use Rattle.std.specs.Bool.{then_some}
 use Rattle.std.specs.List.{find}
+use Rattle.std.specs.Option.{option_or}
 use Rattle.guest_ram.specs.Bytes.{byte, word16, word32}
-use Rattle.guest_ram.specs.Places.{◌or_else◌}
 use Rattle.elf_form.specs.declared.cause.ElfCause.{ElfCause}
 use Rattle.elf_form.specs.declared.cause.ElfCause.TheVariants.{Truncated, Magic, Class, Encoding, Version, FileType, Machine}
 use Rattle.elf_form.specs.Faults.{Fault, tested, header_causes, ◌or_lower◌}
@@ -65,7 +65,11 @@ section_part_cut bytes = part_begins bytes 16 (find (section_passes bytes) (sect
 
 -- The first part that passes the end: the header, the tables, what the program headers name, the contents of sections.
 unfoldable pub cut : List ℕ → Option ℕ
-cut bytes = header_cut bytes or_else (header_table_cut bytes or_else (section_table_cut bytes or_else (header_part_cut bytes or_else section_part_cut bytes)))
+cut bytes =
+    option_or (header_cut bytes)
+    (option_or (header_table_cut bytes)
+    (option_or (section_table_cut bytes)
+    (option_or (header_part_cut bytes) (section_part_cut bytes))))
 
 -- What a file has in which no part passes the end.
 pub record IsWhole (bytes : List ℕ) : Type 0 where

@@ -1,6 +1,7 @@
 -- What each section of an object is read as, by its type and its flags (System V ABI, chapter 4, Sections). What is joined and how is the profile's.
 use Rattle.std.specs.Prelude.{ℕ, ◌+◌, ◌-◌, ◌/◌, ◌%◌, ◌^◌, Bool, true, false, not, ◌&&◌, ◌||◌, List, [], ◌∷◌, ◌++◌, length, filter, replicate, Option, Some, None, nat_lt, ◌==◌, if◌then◌else◌}
-use Rattle.std.specs.List.{list_any, find}
+use Rattle.std.specs.List.{find}
+use Rattle.guest_ram.specs.Among.{is_among}
 use Rattle.guest_ram.specs.Bytes.{word32}
 use Rattle.elf_form.specs.declared.roles.Role.{Role}
 use Rattle.elf_form.specs.declared.roles.Role.TheVariants.{Ignored, Sites, Text, Init, Bss, Foreign, Symbols, Relocs}
@@ -70,7 +71,7 @@ abbrev pub alignments : List ℕ
 alignments = 0 ∷ 1 ∷ 2 ∷ 4 ∷ 8 ∷ 16 ∷ 32 ∷ 64 ∷ 128 ∷ 256 ∷ 512 ∷ 1024 ∷ 2048 ∷ 4096 ∷ []
 
 abbrev pub is_misaligned : List ℕ → List ℕ → ℕ → Bool
-is_misaligned names bytes s = (has_role Init names bytes s || has_role Bss names bytes s) && not (list_any (λ a. a == alignment bytes s) alignments)
+is_misaligned names bytes s = (has_role Init names bytes s || has_role Bss names bytes s) && not (is_among (alignment bytes s) alignments)
 
 unfoldable pub misaligned : List ℕ → List ℕ → Option ℕ
 misaligned names bytes = further 32 (find (is_misaligned names bytes) (sections bytes))

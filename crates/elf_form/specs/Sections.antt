@@ -1,6 +1,7 @@
 -- The names of sections (System V ABI, chapter 4, Sections and String Table), and the one section that is asked for.
 use Rattle.std.specs.Prelude.{ℕ, ◌+◌, ◌*◌, ◌%◌, ◌/◌, Bool, not, ◌&&◌, List, [], ◌∷◌, drop, filter, Option, Some, None, nat_lt, nat_eq, ◌==◌, codes, ◌++◌, if◌then◌else◌}
-use Rattle.std.specs.List.{list_any, starts_with, find}
+use Rattle.std.specs.List.{starts_with, find}
+use Rattle.guest_ram.specs.Among.{is_among}
 use Rattle.guest_ram.specs.Bytes.{word16, word32, part}
 use Rattle.elf_form.specs.declared.segments.Found.{Found}
 use Rattle.elf_form.specs.declared.segments.Found.TheVariants.{Nothing, One, Two, More}
@@ -27,7 +28,7 @@ is_null bytes s = word32 bytes (s + 4) == 0
 
 -- A section has a name where a zero byte ends it within the names.
 abbrev pub is_nameless : List ℕ → List ℕ → ℕ → Bool
-is_nameless names bytes s = not (is_null bytes s) && not (list_any (λ b. b == 0) (drop (word32 bytes s) names))
+is_nameless names bytes s = not (is_null bytes s) && not (is_among 0 (drop (word32 bytes s) names))
 
 -- ".pv_sites", with the zero byte that ends it
 abbrev pub sites_name : List ℕ

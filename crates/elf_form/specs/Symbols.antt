@@ -1,7 +1,9 @@
 -- The symbols of an object and its relocations (System V ABI, chapter 4, Symbol Table and Relocation, with the relocation types of its i386 supplement).
 use Rattle.std.specs.Prelude.{ℕ, ◌≤◌, ◌+◌, ◌*◌, ◌-◌, ◌/◌, ◌%◌, ◌^◌, Bool, true, not, ◌&&◌, ◌||◌, List, [], ◌∷◌, length, map, filter, fold, drop, Option, None, nat_lt, ◌==◌, slice_index, if◌then◌else◌}
 use Rattle.std.specs.Bool.{then_some}
-use Rattle.std.specs.List.{list_any, before_first, flat_map}
+use Rattle.std.specs.List.{before_first, flat_map}
+use Rattle.std.specs.Option.{option_or}
+use Rattle.guest_ram.specs.Among.{is_among}
 use Rattle.guest_ram.specs.Bytes.{byte, word16, word32}
 use Rattle.elf_form.specs.declared.roles.Role.{Role}
 use Rattle.elf_form.specs.declared.roles.Role.TheVariants as role
@@ -20,7 +22,6 @@ use Rattle.elf_form.specs.declared.symbols.SymbolTest.TheVariants.{Names, Global
 use Rattle.elf_form.specs.declared.symbols.RelocTest.{RelocTest}
 use Rattle.elf_form.specs.declared.symbols.RelocTest.TheVariants.{Named, Form}
 use Rattle.elf_form.specs.Faults.{◌or_lower◌}
-use Rattle.guest_ram.specs.Places.{◌or_else◌}
 use Rattle.elf_form.specs.Tables.{entries, first_some}
 use Rattle.elf_form.specs.Header.{section_table, section_count, sections}
 use Rattle.elf_form.specs.Sections.{contents, is_index}
@@ -79,7 +80,7 @@ is_listed names bytes y = not (is_file bytes y) && has_binding bytes y && has_pl
 unfoldable pub symbol_fault : List ℕ → List ℕ → ℕ → Option ℕ
 symbol_fault names bytes y =
     if is_file bytes y then None
-    else (then_some (not (has_binding bytes y)) (y + 12) or_else then_some (not (has_place names bytes y)) (y + 14))
+    else option_or (then_some (not (has_binding bytes y)) (y + 12)) (then_some (not (has_place names bytes y)) (y + 14))
 
 -- one that isn't local is needed
 abbrev pub global_fault : List ℕ → List ℕ → ℕ → Option ℕ
@@ -118,7 +119,7 @@ pub record IsEntry (bytes : List ℕ) (e : Entry) : Type 0 where
 
 -- a size that is no multiple of that of an entry, or another size of entries
 abbrev pub entries_fault : ℕ → List ℕ → ℕ → Option ℕ
-entries_fault entry bytes s = then_some (not (size bytes s % entry == 0)) (s + 20) or_else then_some (not (word32 bytes (s + 36) == entry)) (s + 36)
+entries_fault entry bytes s = option_or (then_some (not (size bytes s % entry == 0)) (s + 20)) (then_some (not (word32 bytes (s + 36) == entry)) (s + 36))
 
 -- the section that a section names is the symbol table
 abbrev pub is_linked : Table → List ℕ → List ℕ → ℕ → Bool
@@ -133,7 +134,7 @@ sections_fault test table names bytes = first_some (section_test test table name
 
 -- no zero byte ends the name within the string table
 abbrev pub is_unnamed : List ℕ → List ℕ → ℕ → Bool
-is_unnamed strings bytes y = not (list_any (λ b. b == 0) (drop (word32 bytes y) strings))
+is_unnamed strings bytes y = not (is_among 0 (drop (word32 bytes y) strings))
 
 abbrev pub symbol_test : SymbolTest → List ℕ → List ℕ → List ℕ → ℕ → Option ℕ
 symbol_test Names strings names bytes y = then_some (is_unnamed strings bytes y) y
@@ -171,7 +172,7 @@ abbrev pub named_fault : Table → List ℕ → List ℕ → ℕ → Option ℕ
 named_fault table names bytes y = if has_symbol table bytes y then symbol_fault names bytes (symbol_of table bytes y) else None
 
 abbrev pub form_fault : Table → List ℕ → List ℕ → Entry → Option ℕ
-form_fault table names bytes e = then_some (is_outside names bytes e) e.at or_else then_some (not (has_kind bytes e.at) || names_none table bytes e.at) (e.at + 4)
+form_fault table names bytes e = option_or (then_some (is_outside names bytes e) e.at) (then_some (not (has_kind bytes e.at) || names_none table bytes e.at) (e.at + 4))
 
 abbrev pub reloc_test : RelocTest → Table → List ℕ → List ℕ → Entry → Option ℕ
 reloc_test Named table names bytes e = named_fault table names bytes e.at

@@ -2,8 +2,8 @@
 use Rattle.std.proofs.Common.{◌≡◌, ℕ, zero, suc, ◌+◌, Bool, true, false, cond, List, [], ◌∷◌, ◌++◌, Option, Some, None, refl, ap, sym, ◌∙◌, subst, slice_get, arith}
 use Rattle.std.specs.Prelude.{map, filter, not, ◌&&◌}
 use Rattle.std.specs.List.{flat_map, enumerate_from}
+use Rattle.std.specs.Option.{option_or}
 use Rattle.std.specs.Str.{bytes_eq}
-use Rattle.guest_ram.specs.Places.{◌or_else◌}
 use Rattle.elf_form.specs.declared.object.Symbol.{Symbol}
 use Rattle.elf_form.specs.declared.object.Reloc.{Reloc}
 use Rattle.elf_form.specs.ObjectParts.{ObjectParts}
@@ -11,23 +11,16 @@ use Rattle.elf_link.specs.declared.target.Target.{Target}
 use Rattle.elf_link.specs.declared.fault.LinkCause.TheVariants.{NoSymbol, NotText}
 use Rattle.elf_link.specs.Symbols.{is_exported, is_text, target, exports, definitions, lookup, target_of, globals}
 use Rattle.elf_link.specs.Relocations.{reloc_cause, symbol_cause, target_cause}
+use Rattle.elf_form.proofs.FormLaws.{else_none}
 use Rattle.elf_link.proofs.ExportLaws.{entries}
 
-lookup-append : (name : List ℕ) (xs ys : List (List ℕ × Target)) → lookup name (xs ++ ys) ≡ (lookup name xs or_else lookup name ys)
+lookup-append : (name : List ℕ) (xs ys : List (List ℕ × Target)) → lookup name (xs ++ ys) ≡ option_or (lookup name xs) (lookup name ys)
 unfolding lookup
 lookup-append name [] ys = refl
 lookup-append name (x ∷ xs) ys = by (bytes_eq name x.0) (lookup-append name xs ys) where
-  by : (b : Bool) → lookup name (xs ++ ys) ≡ (lookup name xs or_else lookup name ys) → cond b (Some x.1) (lookup name (xs ++ ys)) ≡ (cond b (Some x.1) (lookup name xs) or_else lookup name ys)
+  by : (b : Bool) → lookup name (xs ++ ys) ≡ option_or (lookup name xs) (lookup name ys) → cond b (Some x.1) (lookup name (xs ++ ys)) ≡ option_or (cond b (Some x.1) (lookup name xs)) (lookup name ys)
   by true ih = refl
   by false ih = ih
-
-none_left : (a b : Option Target) → (a or_else b) ≡ None → a ≡ None
-none_left None b h = refl
-none_left (Some t) b h = absurd (cc)
-
-none_right : (a b : Option Target) → (a or_else b) ≡ None → b ≡ None
-none_right None b h = h
-none_right (Some t) b h = absurd (cc)
 
 -- a name that isn't found in the entries of an object is no exported name of it
 own-nowhere : (name : List ℕ) (n : ℕ) (symbols : List Symbol) (k : ℕ) (s : Symbol) → lookup name (entries n symbols) ≡ None → slice_get symbols k ≡ Some s → is_exported s ≡ true → bytes_eq name s.name ≡ false
@@ -70,16 +63,16 @@ nowhere_in name n [] j k o s none there listed e = absurd (cc)
 nowhere_in name n (x ∷ xs) zero k o s none there listed e =
     let same : x ≡ o = cc in
     let parts = sym (lookup-append name (exports (n, x)) (flat_map exports (enumerate_from (n + 1) xs))) ∙ none in
-    own-nowhere name n x.symbols k s (none_left (lookup name (exports (n, x))) (lookup name (flat_map exports (enumerate_from (n + 1) xs))) parts) (ap (λ (p : ObjectParts). slice_get p.symbols k) same ∙ listed) e
+    own-nowhere name n x.symbols k s (else_none (lookup name (exports (n, x))) (lookup name (flat_map exports (enumerate_from (n + 1) xs))) parts).0 (ap (λ (p : ObjectParts). slice_get p.symbols k) same ∙ listed) e
 nowhere_in name n (x ∷ xs) (suc j) k o s none there listed e =
     let parts = sym (lookup-append name (exports (n, x)) (flat_map exports (enumerate_from (n + 1) xs))) ∙ none in
-    nowhere_in name (n + 1) xs j k o s (none_right (lookup name (exports (n, x))) (lookup name (flat_map exports (enumerate_from (n + 1) xs))) parts) there listed e
+    nowhere_in name (n + 1) xs j k o s (else_none (lookup name (exports (n, x))) (lookup name (flat_map exports (enumerate_from (n + 1) xs))) parts).1 there listed e
 
 found_in : (name : List ℕ) (n : ℕ) (os : List ObjectParts) (t : Target) → lookup name (definitions (enumerate_from n os)) ≡ Some t → (j : ℕ) × (k : ℕ) × (o : ObjectParts) × (s : Symbol) × (slice_get os j ≡ Some o) × (slice_get o.symbols k ≡ Some s) × (is_exported s ≡ true) × (bytes_eq name s.name ≡ true) × (t ≡ target (n + j) s)
 unfolding definitions lookup
 found_in name n [] t h = absurd (cc)
 found_in name n (x ∷ xs) t h = by (found_in name (n + 1) xs t) (lookup name (exports (n, x))) refl (sym (lookup-append name (exports (n, x)) (flat_map exports (enumerate_from (n + 1) xs))) ∙ h) where
-  by : (lookup name (flat_map exports (enumerate_from (n + 1) xs)) ≡ Some t → (j : ℕ) × (k : ℕ) × (o : ObjectParts) × (s : Symbol) × (slice_get xs j ≡ Some o) × (slice_get o.symbols k ≡ Some s) × (is_exported s ≡ true) × (bytes_eq name s.name ≡ true) × (t ≡ target (n + 1 + j) s)) → (r : Option Target) → lookup name (exports (n, x)) ≡ r → (r or_else lookup name (flat_map exports (enumerate_from (n + 1) xs))) ≡ Some t → (j : ℕ) × (k : ℕ) × (o : ObjectParts) × (s : Symbol) × (slice_get (x ∷ xs) j ≡ Some o) × (slice_get o.symbols k ≡ Some s) × (is_exported s ≡ true) × (bytes_eq name s.name ≡ true) × (t ≡ target (n + j) s)
+  by : (lookup name (flat_map exports (enumerate_from (n + 1) xs)) ≡ Some t → (j : ℕ) × (k : ℕ) × (o : ObjectParts) × (s : Symbol) × (slice_get xs j ≡ Some o) × (slice_get o.symbols k ≡ Some s) × (is_exported s ≡ true) × (bytes_eq name s.name ≡ true) × (t ≡ target (n + 1 + j) s)) → (r : Option Target) → lookup name (exports (n, x)) ≡ r → option_or r (lookup name (flat_map exports (enumerate_from (n + 1) xs))) ≡ Some t → (j : ℕ) × (k : ℕ) × (o : ObjectParts) × (s : Symbol) × (slice_get (x ∷ xs) j ≡ Some o) × (slice_get o.symbols k ≡ Some s) × (is_exported s ≡ true) × (bytes_eq name s.name ≡ true) × (t ≡ target (n + j) s)
   by ih (Some u) e h =
       let own = own-found name n x.symbols t (e ∙ h) in
       let zeroth : n ≡ n + 0 = omega arith in

@@ -1,7 +1,7 @@
 -- The steps of a search for the first answer.
 use Rattle.std.proofs.Common.{◌≡◌, ℕ, ◌+◌, ◌<◌, ◌≤◌, true, false, List, length, get_or, drop, Option, Some, None, Ok, is_some, refl, ap, sym, ◌∙◌, subst}
 use Rattle.std.proofs.lemmas.List.{at_drop_more, at_drop_all, get_or_default}
-use Rattle.guest_ram.specs.Places.{◌or_else◌}
+use Rattle.std.specs.Option.{option_or}
 use Rattle.elf_link.specs.declared.fault.LinkFault.{LinkFault}
 use Rattle.elf_link.specs.declared.fault.LinkFault.TheVariants as faults
 use Rattle.elf_form.specs.Tables.{first_some}
@@ -14,16 +14,16 @@ module _ {X Y : Type 0} (f : X → Option Y) (xs : List X) (i : ℕ) where
   abbrev pub Passed : Type 0
   Passed = first_some f (drop i xs) ≡ first_some f xs
 
-  first_at : (x : X) → i < length xs → get_or xs i x ≡ x → first_some f (drop i xs) ≡ (f x or_else first_some f (drop (i + 1) xs))
+  first_at : (x : X) → i < length xs → get_or xs i x ≡ x → first_some f (drop i xs) ≡ option_or (f x) (first_some f (drop (i + 1) xs))
   unfolding first_some
-  first_at x lt e = at_drop_more (first_some f) xs i x lt ∙ ap (λ (y : X). f y or_else first_some f (drop (i + 1) xs)) e
+  first_at x lt e = at_drop_more (first_some f) xs i x lt ∙ ap (λ (y : X). option_or (f y) (first_some f (drop (i + 1) xs))) e
 
   pub first_here : (x : X) (y : Option Y) → i < length xs → get_or xs i x ≡ x → Passed → f x ≡ y → is_some y ≡ true → first_some f xs ≡ y
-  first_here x (Some y) lt e passed found some = sym passed ∙ (first_at x lt e ∙ ap (λ (o : Option Y). o or_else first_some f (drop (i + 1) xs)) found)
+  first_here x (Some y) lt e passed found some = sym passed ∙ (first_at x lt e ∙ ap (λ (o : Option Y). option_or o (first_some f (drop (i + 1) xs))) found)
   first_here x None lt e passed found some = absurd (cc)
 
   pub first_next : (x : X) → i < length xs → get_or xs i x ≡ x → Passed → f x ≡ None → first_some f (drop (i + 1) xs) ≡ first_some f xs
-  first_next x lt e passed none = ap (λ (o : Option Y). o or_else first_some f (drop (i + 1) xs)) (sym none) ∙ (sym (first_at x lt e) ∙ passed)
+  first_next x lt e passed none = ap (λ (o : Option Y). option_or o (first_some f (drop (i + 1) xs))) (sym none) ∙ (sym (first_at x lt e) ∙ passed)
 
   pub first_end : length xs ≤ i → Passed → first_some f xs ≡ None
   unfolding first_some

@@ -3,10 +3,10 @@ use Rattle.std.proofs.Common.{◌≡◌, ℕ, ◌+◌, ◌<◌, ◌≤◌, Bool,
 use Rattle.std.specs.Prelude.{sum_by, map, nat_lt, not, ◌||◌, ◌&&◌}
 use Rattle.std.specs.Bool.{then_some}
 use Rattle.std.specs.List.{flat_map}
+use Rattle.std.specs.Option.{option_or}
 use Rattle.std.proofs.lemmas.List.{take_all, length-append, length-map, append-nil}
 use Rattle.std.proofs.lemmas.List.Concat.{flat_map-append}
 use Rattle.std.proofs.lemmas.Bool.{ltb-false, lt-ltb}
-use Rattle.guest_ram.specs.Places.{◌or_else◌}
 use Rattle.elf_form.specs.ObjectParts.{ObjectParts}
 use Rattle.sites.specs.declared.site.Site.{Site}
 use Rattle.sites.specs.declared.limits.TheConstants.{TEXT_LIMIT, SHORT_TEXT, SITE_LIMIT}
@@ -36,12 +36,12 @@ use Rattle.elf_link.proofs.SiteLaws.{below_next}
 totals_is : (t u : Totals) → t.text ≡ u.text → t.memory ≡ u.memory → t.symbols ≡ u.symbols → t.sites ≡ u.sites → t ≡ u
 totals_is t u p q r s = λ j. record { text = p j; memory = q j; symbols = r j; sites = s j }
 
-or_assoc : (a b c d : Option LinkCause) → ((a or_else (b or_else c)) or_else d) ≡ (a or_else (b or_else (c or_else d)))
+or_assoc : (a b c d : Option LinkCause) → option_or (option_or a (option_or b c)) d ≡ option_or a (option_or b (option_or c d))
 or_assoc (Some x) b c d = refl
 or_assoc None (Some y) c d = refl
 or_assoc None None c d = refl
 
-passed : (b : Bool) (cause : LinkCause) (later : Option LinkCause) → (then_some b cause or_else later) ≡ None → (b ≡ false) × (later ≡ None)
+passed : (b : Bool) (cause : LinkCause) (later : Option LinkCause) → option_or (then_some b cause) later ≡ None → (b ≡ false) × (later ≡ None)
 passed b cause later h = let both = else_none (then_some b cause) later h in (then_none b cause both.0, both.1)
 
 or_second : (a b : Bool) → (a || b) ≡ false → b ≡ false
@@ -57,7 +57,7 @@ not_not true h = refl
 not_not false h = cc
 
 abbrev chain : Bool → Bool → Bool → Bool → Option LinkCause → Option LinkCause
-chain a b c d e = then_some a TextTooLarge or_else (then_some b InitTooLarge or_else (then_some c TooManySymbols or_else (then_some d SitesForm or_else e)))
+chain a b c d e = option_or (then_some a TextTooLarge) (option_or (then_some b InitTooLarge) (option_or (then_some c TooManySymbols) (option_or (then_some d SitesForm) e)))
 
 module _ (os : List ObjectParts) (i : ℕ) (o : ObjectParts) (lt : i < length os) (is : get_or os i o ≡ o) where
   pub totals_next : totals (take (i + 1) os) ≡ with_object (totals (take i os)) o
@@ -102,7 +102,7 @@ module _ (os : List ObjectParts) (i : ℕ) (o : ObjectParts) (lt : i < length os
   pub cause_is : step_cause (totals (take i os)) (first_sites os i) (definitions (take i (numbered os))) (i, o) ≡ object_cause os (i, o)
   unfolding step_cause size_cause object_cause
   cause_is =
-      or_assoc (then_some (nat_lt TEXT_LIMIT ((totals (take i os)).text + length o.text + 2)) TextTooLarge) (then_some (nat_lt 33554432 ((totals (take i os)).memory + init_room o + bss_room o)) InitTooLarge) (then_some (nat_lt 65536 ((totals (take i os)).symbols + length o.symbols)) TooManySymbols) (then_some (sites_wrong_by (totals (take i os)) (first_sites os i) o) SitesForm or_else doubled_cause (doubled os (i, o)))
+      or_assoc (then_some (nat_lt TEXT_LIMIT ((totals (take i os)).text + length o.text + 2)) TextTooLarge) (then_some (nat_lt 33554432 ((totals (take i os)).memory + init_room o + bss_room o)) InitTooLarge) (then_some (nat_lt 65536 ((totals (take i os)).symbols + length o.symbols)) TooManySymbols) (option_or (then_some (sites_wrong_by (totals (take i os)) (first_sites os i) o) SitesForm) (doubled_cause (doubled os (i, o))))
       ∙ (λ j. chain (text_same j) (memory_same j) (symbols_same j) (sites_same j) (doubled_cause (doubled os (i, o))))
 
 -- what is known after i objects

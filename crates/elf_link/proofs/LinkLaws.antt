@@ -2,9 +2,9 @@
 use Rattle.std.proofs.Common.{◌≡◌, ℕ, suc, ◌+◌, ◌-◌, ◌<◌, ◌≤◌, Bool, true, false, List, [], ◌∷◌, length, take, replicate, Option, Some, None, Ok, Err, refl, ap, sym, ◌∙◌, arith}
 use Rattle.std.specs.Prelude.{sum_by, All}
 use Rattle.std.specs.List.{flat_map, enumerate_from}
+use Rattle.std.specs.Option.{option_or}
 use Rattle.std.proofs.lemmas.List.{length-append, length-replicate, length-take-le}
 use Rattle.std.proofs.lemmas.List.Sums.{sum_by-cons}
-use Rattle.guest_ram.specs.Places.{◌or_else◌}
 use Rattle.elf_form.specs.ObjectParts.{ObjectParts}
 use Rattle.elf_form.specs.ImageParts.{ImageParts}
 use Rattle.elf_form.specs.Output.{pad}
@@ -34,20 +34,20 @@ module _ (os : List ObjectParts) where
   first_fails : (w : Refused) (o : Option Refused) → first_some (object_refusal os) (numbered os) ≡ o → tested o ≡ Err w → linked_image os ≡ Err w
   unfolding linked_image refusal
   first_fails w None p h = absurd (cc)
-  first_fails w (Some r) p h = ap (λ (o : Option Refused). unless (o or_else (first_some (relocs_refusal os) (numbered os) or_else start_refusal (start os))) (image os)) p ∙ cc
+  first_fails w (Some r) p h = ap (λ (o : Option Refused). unless (option_or o (option_or (first_some (relocs_refusal os) (numbered os)) (start_refusal (start os)))) (image os)) p ∙ cc
 
   pub objects_fail : (e : LinkFault) → Fails e (tested (first_some (object_refusal os) (numbered os))) → Fails e (linked_image os)
   objects_fail faults.Memory h = tt
   objects_fail (faults.At object cause) h = first_fails (record { object = object; cause = cause }) (first_some (object_refusal os) (numbered os)) refl h
 
   module _ (passed : tested (first_some (object_refusal os) (numbered os)) ≡ Ok tt) where
-    second : linked_image os ≡ unless (first_some (relocs_refusal os) (numbered os) or_else start_refusal (start os)) (image os)
+    second : linked_image os ≡ unless (option_or (first_some (relocs_refusal os) (numbered os)) (start_refusal (start os))) (image os)
     unfolding linked_image refusal
-    second = ap (λ (o : Option Refused). unless (o or_else (first_some (relocs_refusal os) (numbered os) or_else start_refusal (start os))) (image os)) (none_from_tested _ passed)
+    second = ap (λ (o : Option Refused). unless (option_or o (option_or (first_some (relocs_refusal os) (numbered os)) (start_refusal (start os)))) (image os)) (none_from_tested _ passed)
 
     second_fails : (w : Refused) (o : Option Refused) → first_some (relocs_refusal os) (numbered os) ≡ o → tested o ≡ Err w → linked_image os ≡ Err w
     second_fails w None p h = absurd (cc)
-    second_fails w (Some r) p h = second ∙ (ap (λ (o : Option Refused). unless (o or_else start_refusal (start os)) (image os)) p ∙ cc)
+    second_fails w (Some r) p h = second ∙ (ap (λ (o : Option Refused). unless (option_or o (start_refusal (start os))) (image os)) p ∙ cc)
 
     pub relocs_fail_all : (e : LinkFault) → Fails e (tested (first_some (relocs_refusal os) (numbered os))) → Fails e (linked_image os)
     relocs_fail_all faults.Memory h = tt
@@ -55,7 +55,7 @@ module _ (os : List ObjectParts) where
 
     module _ (named : tested (first_some (relocs_refusal os) (numbered os)) ≡ Ok tt) where
       third : linked_image os ≡ unless (start_refusal (start os)) (image os)
-      third = second ∙ ap (λ (o : Option Refused). unless (o or_else start_refusal (start os)) (image os)) (none_from_tested _ named)
+      third = second ∙ ap (λ (o : Option Refused). unless (option_or o (start_refusal (start os))) (image os)) (none_from_tested _ named)
 
       third_fails : (w : Refused) (o : Option Refused) → start_refusal (start os) ≡ o → unless o (entry_at (bases os) (start os)) ≡ Err w → linked_image os ≡ Err w
       third_fails w None p h = absurd (cc)

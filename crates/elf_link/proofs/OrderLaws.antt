@@ -2,8 +2,8 @@
 use Rattle.std.proofs.Common.{◌≡◌, ℕ, zero, suc, ◌+◌, ◌<◌, ◌≤◌, Bool, true, false, List, [], ◌∷◌, length, Option, Some, None, Ok, Err, refl, ap, sym, ◌∙◌, subst, slice_get, ◌||◌, arith}
 use Rattle.std.specs.Prelude.{sum_by, nat_lt}
 use Rattle.std.specs.List.{enumerate_from, list_any}
+use Rattle.std.specs.Option.{option_or}
 use Rattle.std.proofs.lemmas.Bool.{le-ltb, lt-ltb}
-use Rattle.guest_ram.specs.Places.{◌or_else◌}
 use Rattle.elf_form.specs.ObjectParts.{ObjectParts}
 use Rattle.elf_form.specs.declared.object.Reloc.{Reloc}
 use Rattle.sites.specs.declared.limits.TheConstants.{TEXT_LIMIT, SITE_LIMIT}
@@ -46,7 +46,7 @@ module _ (test : ℕ × ObjectParts → Option LinkCause) where
   unfolding first_some
   first_from n [] r h = absurd (cc)
   first_from n (x ∷ xs) r h = by (first_from (n + 1) xs r) (test (n, x)) refl h where
-    by : (first_some (λ p. refused p.0 (test p)) (enumerate_from (n + 1) xs) ≡ Some r → IsFrom test (n + 1) xs r) → (c : Option LinkCause) → test (n, x) ≡ c → (refused n c or_else first_some (λ p. refused p.0 (test p)) (enumerate_from (n + 1) xs)) ≡ Some r → IsFrom test n (x ∷ xs) r
+    by : (first_some (λ p. refused p.0 (test p)) (enumerate_from (n + 1) xs) ≡ Some r → IsFrom test (n + 1) xs r) → (c : Option LinkCause) → test (n, x) ≡ c → option_or (refused n c) (first_some (λ p. refused p.0 (test p)) (enumerate_from (n + 1) xs)) ≡ Some r → IsFrom test n (x ∷ xs) r
     by ih (Some c) e h =
         let same : record { object = n; cause = c } ≡ r = cc in
         record {
@@ -72,7 +72,7 @@ module _ (test : ℕ × ObjectParts → Option LinkCause) where
   unfolding first_some
   none_from n [] h i o at = absurd (cc)
   none_from n (x ∷ xs) h i o at = by (none_from (n + 1) xs) (test (n, x)) refl h i at where
-    by : (first_some (λ p. refused p.0 (test p)) (enumerate_from (n + 1) xs) ≡ None → (i : ℕ) (o : ObjectParts) → slice_get xs i ≡ Some o → test (n + 1 + i, o) ≡ None) → (c : Option LinkCause) → test (n, x) ≡ c → (refused n c or_else first_some (λ p. refused p.0 (test p)) (enumerate_from (n + 1) xs)) ≡ None → (i : ℕ) → slice_get (x ∷ xs) i ≡ Some o → test (n + i, o) ≡ None
+    by : (first_some (λ p. refused p.0 (test p)) (enumerate_from (n + 1) xs) ≡ None → (i : ℕ) (o : ObjectParts) → slice_get xs i ≡ Some o → test (n + 1 + i, o) ≡ None) → (c : Option LinkCause) → test (n, x) ≡ c → option_or (refused n c) (first_some (λ p. refused p.0 (test p)) (enumerate_from (n + 1) xs)) ≡ None → (i : ℕ) → slice_get (x ∷ xs) i ≡ Some o → test (n + i, o) ≡ None
     by ih (Some c) e h i at = absurd (cc)
     by ih None e h zero at =
         let same : x ≡ o = cc in
@@ -109,7 +109,7 @@ module _ (test : Reloc → Option LinkCause) where
     at rest none zero r lt here = let same : x ≡ r = cc in ap test (sym same) ∙ none
     at rest none (suc j) r lt here = rest.before j r (omega arith) here
 
-    by : (first_some test xs ≡ Some cause → IsFirstCause test xs cause) → (c : Option LinkCause) → test x ≡ c → (c or_else first_some test xs) ≡ Some cause → IsFirstCause test (x ∷ xs) cause
+    by : (first_some test xs ≡ Some cause → IsFirstCause test xs cause) → (c : Option LinkCause) → test x ≡ c → option_or c (first_some test xs) ≡ Some cause → IsFirstCause test (x ∷ xs) cause
     by ih (Some c) e h = record { index = 0; reloc = x; there = refl; caused = e ∙ h; before = λ j r lt here. absurd (omega arith) }
     by ih None e h =
         let rest = ih h in
@@ -119,7 +119,7 @@ module _ (test : Reloc → Option LinkCause) where
   unfolding first_some
   no_cause [] h k r at = absurd (cc)
   no_cause (x ∷ xs) h k r at = by (no_cause xs) (test x) refl h k at where
-    by : (first_some test xs ≡ None → (k : ℕ) (r : Reloc) → slice_get xs k ≡ Some r → test r ≡ None) → (c : Option LinkCause) → test x ≡ c → (c or_else first_some test xs) ≡ None → (k : ℕ) → slice_get (x ∷ xs) k ≡ Some r → test r ≡ None
+    by : (first_some test xs ≡ None → (k : ℕ) (r : Reloc) → slice_get xs k ≡ Some r → test r ≡ None) → (c : Option LinkCause) → test x ≡ c → option_or c (first_some test xs) ≡ None → (k : ℕ) → slice_get (x ∷ xs) k ≡ Some r → test r ≡ None
     by ih (Some c) e h k at = absurd (cc)
     by ih None e h zero at = let same : x ≡ r = cc in ap test (sym same) ∙ e
     by ih None e h (suc k) at = ih h k r at

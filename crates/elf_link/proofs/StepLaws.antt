@@ -1,7 +1,7 @@
 -- One object tested.
 use Rattle.std.proofs.Common.{◌≡◌, ℕ, Bool, true, false, cond, List, Option, Some, None, Result, Ok, Err, IsErrAnd, refl, ap, sym, ◌∙◌, subst}
 use Rattle.std.specs.Bool.{then_some}
-use Rattle.guest_ram.specs.Places.{◌or_else◌}
+use Rattle.std.specs.Option.{option_or}
 use Rattle.elf_form.specs.ObjectParts.{ObjectParts}
 use Rattle.sites.specs.declared.site.Site.{Site}
 use Rattle.elf_link.specs.declared.target.Target.{Target}
@@ -28,11 +28,11 @@ module _ (n : ℕ) (t : Totals) (before : List Site) (gs : List (List ℕ × Tar
   own : Option LinkCause
   own = doubled_cause (first_doubled (keys gs) (exported_names (n, o)))
 
-  step_at : (b : Bool) → sites_wrong_by t before o ≡ b → step_cause t before gs (n, o) ≡ (then_some b SitesForm or_else own)
+  step_at : (b : Bool) → sites_wrong_by t before o ≡ b → step_cause t before gs (n, o) ≡ option_or (then_some b SitesForm) own
   unfolding step_cause own
   step_at b e =
-      ap (λ (c : Option LinkCause). c or_else (then_some (sites_wrong_by t before o) SitesForm or_else doubled_cause (first_doubled (keys gs) (exported_names (n, o))))) none
-      ∙ ap (λ (x : Bool). then_some x SitesForm or_else doubled_cause (first_doubled (keys gs) (exported_names (n, o)))) e
+      ap (λ (c : Option LinkCause). option_or c (option_or (then_some (sites_wrong_by t before o) SitesForm) (doubled_cause (first_doubled (keys gs) (exported_names (n, o)))))) none
+      ∙ ap (λ (x : Bool). option_or (then_some x SitesForm) (doubled_cause (first_doubled (keys gs) (exported_names (n, o))))) e
 
   pub sites_fail : (e : LinkFault) → Fails e (placed_sites n t before o) → Fails e (tested (refused n (step_cause t before gs (n, o))))
   unfolding placed_sites

@@ -2,8 +2,8 @@
 use Rattle.std.specs.Prelude.{ℕ, ◌+◌, Bool, List, [], ◌∷◌, ◌++◌, length, map, take, filter, sum_by, nat_lt, codes, Option, Some, None, Result, Ok, Err, if◌then◌else◌}
 use Rattle.std.specs.Bool.{then_some}
 use Rattle.std.specs.List.{list_any}
+use Rattle.std.specs.Option.{option_or}
 use Rattle.std.specs.Str.{bytes_eq}
-use Rattle.guest_ram.specs.Places.{◌or_else◌}
 use Rattle.elf_form.specs.ObjectParts.{ObjectParts}
 use Rattle.elf_form.specs.Tables.{first_some}
 use Rattle.sites.specs.declared.limits.TheConstants.{TEXT_LIMIT}
@@ -44,11 +44,10 @@ doubled_cause (Some name) = Some (Doubled name)
 unfoldable pub object_cause : List ObjectParts → ℕ × ObjectParts → Option LinkCause
 object_cause os p =
     let os' = take (p.0 + 1) os in
-    then_some (nat_lt TEXT_LIMIT (text_end os' + 2)) TextTooLarge
-    or_else (then_some (nat_lt 33554432 (memory_end os')) InitTooLarge
-    or_else (then_some (nat_lt 65536 (sum_by (λ o. length o.symbols) os')) TooManySymbols
-    or_else (then_some (sites_wrong os p) SitesForm
-    or_else doubled_cause (doubled os p))))
+    option_or (then_some (nat_lt TEXT_LIMIT (text_end os' + 2)) TextTooLarge)
+    (option_or (then_some (nat_lt 33554432 (memory_end os')) InitTooLarge)
+    (option_or (then_some (nat_lt 65536 (sum_by (λ o. length o.symbols) os')) TooManySymbols)
+    (option_or (then_some (sites_wrong os p) SitesForm) (doubled_cause (doubled os p)))))
 
 abbrev pub refused : ℕ → Option LinkCause → Option Refused
 refused i None = None
@@ -71,9 +70,8 @@ start_refusal (Some t) = if is_text t.place then None else Some (record { object
 -- each object; then the relocations of each object; then the entry
 unfoldable pub refusal : List ObjectParts → Option Refused
 refusal os =
-    first_some (object_refusal os) (numbered os)
-    or_else (first_some (relocs_refusal os) (numbered os)
-    or_else start_refusal (start os))
+    option_or (first_some (object_refusal os) (numbered os))
+    (option_or (first_some (relocs_refusal os) (numbered os)) (start_refusal (start os)))
 
 -- a value, unless something is refused
 abbrev pub unless : {X : Type 0} → Option Refused → X → Result X Refused

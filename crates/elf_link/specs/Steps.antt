@@ -1,7 +1,7 @@
 -- What is asked of an object, by the sums over the objects before it.
 use Rattle.std.specs.Prelude.{ℕ, ◌+◌, ◌≤◌, ◌<◌, ◌||◌, ◌&&◌, ◌++◌, Bool, not, All, List, length, map, codes, sum_by, nat_lt, Option, Result, Ok, Err, if◌then◌else◌}
 use Rattle.std.specs.Bool.{then_some}
-use Rattle.guest_ram.specs.Places.{◌or_else◌}
+use Rattle.std.specs.Option.{option_or}
 use Rattle.elf_form.specs.ObjectParts.{ObjectParts}
 use Rattle.sites.specs.declared.site.Site.{Site}
 use Rattle.sites.specs.declared.limits.TheConstants.{TEXT_LIMIT, SHORT_TEXT, SITE_LIMIT}
@@ -40,9 +40,9 @@ pub record HasRoom (t : Totals) (o : ObjectParts) : Type 0 where
 
 unfoldable pub size_cause : Totals → ObjectParts → Option LinkCause
 size_cause t o =
-    then_some (nat_lt TEXT_LIMIT (t.text + length o.text + 2)) TextTooLarge
-    or_else (then_some (nat_lt 33554432 (t.memory + init_room o + bss_room o)) InitTooLarge
-    or_else then_some (nat_lt 65536 (t.symbols + length o.symbols)) TooManySymbols)
+    option_or (then_some (nat_lt TEXT_LIMIT (t.text + length o.text + 2)) TextTooLarge)
+    (option_or (then_some (nat_lt 33554432 (t.memory + init_room o + bss_room o)) InitTooLarge)
+    (then_some (nat_lt 65536 (t.symbols + length o.symbols)) TooManySymbols))
 
 -- sites behind others, in a text that wants format 2 and in which they can't be written so
 abbrev pub is_crowded : Totals → List Site → ℕ → List Site → Bool
@@ -58,9 +58,9 @@ sites_wrong_by t before o = own_sites_wrong t.sites o || is_crowded t before (le
 
 unfoldable pub step_cause : Totals → List Site → List (List ℕ × Target) → ℕ × ObjectParts → Option LinkCause
 step_cause t before gs p =
-    size_cause t p.1
-    or_else (then_some (sites_wrong_by t before p.1) SitesForm
-    or_else doubled_cause (first_doubled (map (λ d. d.0) gs) (exported_names p)))
+    option_or (size_cause t p.1)
+    (option_or (then_some (sites_wrong_by t before p.1) SitesForm)
+    (doubled_cause (first_doubled (map (λ d. d.0) gs) (exported_names p))))
 
 -- a test that passes where nothing is refused
 abbrev pub tested : Option Refused → Result (Unit {0}) Refused

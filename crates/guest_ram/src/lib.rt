@@ -161,8 +161,8 @@ fn put_in(memory: &mut [u8], at: usize, bytes: &[u8])
     memory[at..at + bytes.len()].copy_from_slice(bytes);
 }
 
-// How many there are, each a byte.
-fn count(bytes: &[u8]) -> usize
+/// How many there are. Each of them is a byte, which a contract does not see in a list of numbers.
+pub fn count(bytes: &[u8]) -> usize
     ensures count { result ≡ length bytes.now }
     ensures bytes { AreBytes bytes.now }
 {

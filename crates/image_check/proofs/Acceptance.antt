@@ -1,9 +1,9 @@
 -- An image passes the tests exactly where it is accepted.
-use Rattle.std.proofs.Common.{◌≡◌, ℕ, zero, suc, ◌+◌, ◌<◌, ◌≤◌, Bool, true, false, not, ◌&&◌, ◌||◌, cond, min, List, [], ◌∷◌, length, map, nat_lt, Option, Some, None, Result, Ok, Err, refl, sym, ap, subst, ◌∙◌, inl, inr, ◌⊎◌, arith}
+use Rattle.std.proofs.Common.{◌≡◌, ℕ, zero, suc, ◌+◌, ◌<◌, ◌≤◌, Bool, true, false, not, ◌&&◌, ◌||◌, cond, min, List, [], ◌∷◌, length, map, nat_lt, Option, Some, None, Result, Ok, Err, refl, sym, ap, subst, ◌∙◌, inl, inr, arith}
 use Rattle.std.specs.Prelude.{◌==◌, slice_index_or}
 use Rattle.std.specs.Bool.{then_some}
 use Rattle.std.specs.List.{list_any, Contains}
-use Rattle.std.proofs.lemmas.Bool.{cases_lt}
+use Rattle.std.proofs.lemmas.Bool.{cases_lt, and_parts, cases_Bool, eqb-true, not-true}
 use Rattle.std.proofs.lemmas.Bool.Decides.{nat_tests}
 use Rattle.std.proofs.lemmas.List.Folds.{Any-from_list_any, list_any-from_Any}
 use Rattle.ia32_types.specs.Shape.{is_direct_branch}
@@ -73,25 +73,18 @@ some_kind k = Some k
 same_kind : (j k : SiteKind) → number j ≡ number k → j ≡ k
 same_kind j k e = let h : some_kind j ≡ some_kind k = sym (number_known j) ∙ ap kind_numbered e ∙ number_known k in cc
 
-both : (a b : Bool) → (a && b) ≡ true → (a ≡ true) × (b ≡ true)
-both true b e = (refl, e)
-both false b e = absurd cc
-
-equal : (m n : ℕ) → (m == n) ≡ true → m ≡ n
-equal m n e = grind (arith, nat_tests)
-
 itself : (n : ℕ) → (n == n) ≡ true
 itself n = grind (arith, nat_tests)
 
 pub same_site : (s t : Site) → is_same s t ≡ true → s ≡ t
 same_site s t e =
-    let a = both (s.at == t.at && number s.kind == number t.kind && s.len == t.len) (s.total == t.total) e in
-    let b = both (s.at == t.at && number s.kind == number t.kind) (s.len == t.len) a.0 in
-    let d = both (s.at == t.at) (number s.kind == number t.kind) b.0 in
-    let at = equal s.at t.at d.0 in
-    let kind = same_kind s.kind t.kind (equal (number s.kind) (number t.kind) d.1) in
-    let len = equal s.len t.len b.1 in
-    let total = equal s.total t.total a.1 in
+    let a = and_parts (s.at == t.at && number s.kind == number t.kind && s.len == t.len) (s.total == t.total) e in
+    let b = and_parts (s.at == t.at && number s.kind == number t.kind) (s.len == t.len) a.0 in
+    let d = and_parts (s.at == t.at) (number s.kind == number t.kind) b.0 in
+    let at = eqb-true s.at t.at d.0 in
+    let kind = same_kind s.kind t.kind (eqb-true (number s.kind) (number t.kind) d.1) in
+    let len = eqb-true s.len t.len b.1 in
+    let total = eqb-true s.total t.total a.1 in
     ap (λ n. record { at = n; kind = s.kind; len = s.len; total = s.total }) at
     ∙ ap (λ k. record { at = t.at; kind = k; len = s.len; total = s.total }) kind
     ∙ ap (λ n. record { at = t.at; kind = t.kind; len = n; total = s.total }) len
@@ -142,10 +135,6 @@ sites_right sites ps e =
 
 -- ---- where control comes in
 
-turned : (b : Bool) → not b ≡ true → b ≡ false
-turned true e = absurd cc
-turned false e = refl
-
 pub not_false : (b : Bool) → not b ≡ false → b ≡ true
 not_false true e = refl
 not_false false e = absurd cc
@@ -155,7 +144,7 @@ inside_is at s lt gt = grind (arith, nat_tests)
 
 is_inside_so : (at : ℕ) (s : Site) → is_inside at s ≡ true → (s.at < at) × (at < s.at + s.total)
 is_inside_so at s e =
-    let h = both (nat_lt s.at at) (nat_lt at (s.at + s.total)) e in
+    let h = and_parts (nat_lt s.at at) (nat_lt at (s.at + s.total)) e in
     let lt = h.0 in
     let gt = h.1 in
     (grind (arith, nat_tests), grind (arith, nat_tests))
@@ -165,8 +154,8 @@ true_not_false e = cc
 
 pub entrance_is : (swept : List Swept) (sites : List Site) (at : ℕ) → is_entrance (map piece_of swept) sites at ≡ true → IsEntrance swept sites at
 entrance_is swept sites at e =
-    let h = both (is_piece_start (map piece_of swept) at) (not (list_any (is_inside at) sites)) e in
-    let none = turned (list_any (is_inside at) sites) h.1 in
+    let h = and_parts (is_piece_start (map piece_of swept) at) (not (list_any (is_inside at) sites)) e in
+    let none = not-true (list_any (is_inside at) sites) h.1 in
     record {
       start = any_contains (map (λ (s : Swept). s.at) swept) at (sym (any_at swept at) ∙ h.0);
       outside = λ s there before.
@@ -176,14 +165,10 @@ entrance_is swept sites at e =
           ];
     }
 
-true_or_false : (b : Bool) → (b ≡ true) ⊎ (b ≡ false)
-true_or_false true = inl refl
-true_or_false false = inr refl
-
 pub is_entrance_so : (swept : List Swept) (sites : List Site) (at : ℕ) → IsEntrance swept sites at → is_entrance (map piece_of swept) sites at ≡ true
 is_entrance_so swept sites at h =
     let start : is_piece_start (map piece_of swept) at ≡ true = any_at swept at ∙ contains_any (map (λ (s : Swept). s.at) swept) at h.start in
-    elim (true_or_false (list_any (is_inside at) sites)) [
+    elim (cases_Bool (list_any (is_inside at) sites)) [
       | inl any ↦
           let one = Any-from_list_any (is_inside at) sites any in
           let in_it = is_inside_so at one.1 one.4 in
@@ -223,7 +208,7 @@ other_leads entrance false o = site_leads entrance o
 
 one_right : (entrance : ℕ → Bool) (s : Swept) → (is_direct_branch s.insn.op ≡ true → entrance (target_of s.at s.len s.insn) ≡ true) → leads_wrong entrance (piece_of s).role ≡ false
 one_right entrance s h =
-    elim (true_or_false (is_direct_branch s.insn.op)) [
+    elim (cases_Bool (is_direct_branch s.insn.op)) [
       | inl e ↦ ap (leads_wrong entrance) (branch_role s e) ∙ ap not (h e)
       | inr e ↦ ap (λ b. leads_wrong entrance (cond b (role.Branch (target_of s.at s.len s.insn)) (cond (is_nop s.insn.op) role.Nop (site_role (sensitive_kind s.insn))))) e ∙ other_leads entrance (is_nop s.insn.op) (sensitive_kind s.insn)
     ]
@@ -329,7 +314,7 @@ form_read (Ok p) parts e = cc
 form_read (Err f) parts e = absurd cc
 
 placed_text : (parts : ImageParts) → IsPlaced parts → (parts.text_at ≡ 0x10000000) × (parts.init_at ≡ 0x11000000)
-placed_text parts p = (equal parts.text_at 0x10000000 (not_false _ (then_none _ 0 p.text_at)), equal parts.init_at 0x11000000 (not_false _ (then_none _ 0 p.init_at)))
+placed_text parts p = (eqb-true parts.text_at 0x10000000 (not_false _ (then_none _ 0 p.text_at)), eqb-true parts.init_at 0x11000000 (not_false _ (then_none _ 0 p.init_at)))
 
 abbrev ok_sites : List Site → ℕ → Result SitesParts ℕ
 ok_sites sites format = Ok (of_format sites format)

@@ -1,6 +1,6 @@
 -- What the check's answer says of the file.
 use Rattle.std.proofs.Common.{◌≡◌, ℕ, List, Result, Ok, Err, refl, subst, ap, inl, inr, ◌⊎◌}
-use Rattle.elf_form.specs.Faults.{Fault}
+use Rattle.elf_form.specs.Faults.{Fault, IsFirstOf}
 use Rattle.elf_form.specs.ImageParts.{ImageParts}
 use Rattle.elf_form.specs.Reading.{image_in}
 use Rattle.elf_form.specs.Accepted.{ImageAs}
@@ -14,7 +14,7 @@ use Rattle.image_check.specs.Image.{Image}
 use Rattle.image_check.specs.Refusals.{Refusal, Form, Wrong, Gives, ◌>>=◌}
 use Rattle.image_check.specs.Checking.{as_form, image_from, image_of}
 use Rattle.image_check.specs.Accepts.{Accepts}
-use Rattle.image_check.specs.Causes.{causes, IsFirst}
+use Rattle.image_check.specs.Causes.{wrong, causes}
 use Rattle.image_check.specs.Reasons.{IsRefused}
 use Rattle.image_check.proofs.CauseLaws.{first_exact, not_image}
 use Rattle.image_check.proofs.FileLimits.{text_bytes}
@@ -43,7 +43,7 @@ form_read : (read : Result ImageParts Fault) (parts : ImageParts) → as_form re
 form_read (Ok p) parts e = cc
 form_read (Err f) parts e = absurd cc
 
-refused_first : (bytes : List ℕ) (at : ℕ) (cause : CheckCause) → image_of bytes ≡ not_image (Wrong at cause) → (parts : ImageParts) × ImageAs bytes parts × IsFirst causes parts at cause
+refused_first : (bytes : List ℕ) (at : ℕ) (cause : CheckCause) → image_of bytes ≡ not_image (Wrong at cause) → (parts : ImageParts) × ImageAs bytes parts × IsFirstOf (wrong parts) causes at cause
 unfolding image_of
 refused_first bytes at cause e =
     elim (bind_err (as_form (image_in bytes)) (Wrong at cause) e) [
@@ -51,14 +51,14 @@ refused_first bytes at cause e =
       | inr goes ↦ (goes.0, read_as bytes goes.0 (form_read (image_in bytes) goes.0 goes.1), (first_exact goes.0 at cause).0 goes.2)
     ]
 
-pub if_first : (bytes : List ℕ) (r : Result Image CheckFault) → Gives (λ image. image) r (image_of bytes) → (at : ℕ) (cause : CheckCause) → r ≡ Err (faults.At at cause) → (parts : ImageParts) × ImageAs bytes parts × IsFirst causes parts at cause
+pub if_first : (bytes : List ℕ) (r : Result Image CheckFault) → Gives (λ image. image) r (image_of bytes) → (at : ℕ) (cause : CheckCause) → r ≡ Err (faults.At at cause) → (parts : ImageParts) × ImageAs bytes parts × IsFirstOf (wrong parts) causes at cause
 if_first bytes r given at cause e = refused_first bytes at cause (subst (λ (s : Result Image CheckFault). Gives (λ image. image) s (image_of bytes)) e given)
 
-first_refused : (bytes : List ℕ) (parts : ImageParts) (at : ℕ) (cause : CheckCause) → ImageAs bytes parts → IsFirst causes parts at cause → image_of bytes ≡ not_image (Wrong at cause)
+first_refused : (bytes : List ℕ) (parts : ImageParts) (at : ℕ) (cause : CheckCause) → ImageAs bytes parts → IsFirstOf (wrong parts) causes at cause → image_of bytes ≡ not_image (Wrong at cause)
 unfolding image_of
 first_refused bytes parts at cause form first = rw (as_read bytes parts form) ((first_exact parts at cause).1 first)
 
-pub if_first_only : (bytes : List ℕ) (r : Result Image CheckFault) → Gives (λ image. image) r (image_of bytes) → (parts : ImageParts) (at : ℕ) (cause : CheckCause) → ImageAs bytes parts → IsFirst causes parts at cause → Gives (λ image. image) r (not_image (Wrong at cause))
+pub if_first_only : (bytes : List ℕ) (r : Result Image CheckFault) → Gives (λ image. image) r (image_of bytes) → (parts : ImageParts) (at : ℕ) (cause : CheckCause) → ImageAs bytes parts → IsFirstOf (wrong parts) causes at cause → Gives (λ image. image) r (not_image (Wrong at cause))
 if_first_only bytes r given parts at cause form first = as_given bytes r given (not_image (Wrong at cause)) (first_refused bytes parts at cause form first)
 
 pub if_refused : (bytes : List ℕ) (r : Result Image CheckFault) → AreBytes bytes → Gives (λ image. image) r (image_of bytes) → (at : ℕ) (cause : CheckCause) → r ≡ Err (faults.At at cause) → (parts : ImageParts) × ImageAs bytes parts × IsRefused parts at cause

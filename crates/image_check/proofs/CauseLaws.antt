@@ -2,6 +2,7 @@
 use Rattle.std.proofs.Common.{◌≡◌, ℕ, Bool, true, false, cond, List, [], ◌∷◌, drop, map, Option, Some, None, Result, Ok, Err, refl, sym, ap, ◌∙◌, inl, inr, ◌⊎◌}
 use Rattle.std.specs.Prelude.{◌↔◌}
 use Rattle.elf_form.specs.ImageParts.{ImageParts}
+use Rattle.elf_form.specs.Faults.{IsFirstOf}
 use Rattle.sites.specs.declared.site.Site.{Site}
 use Rattle.sites.specs.Formats.{listed}
 use Rattle.image_check.specs.declared.fault.CheckCause.{CheckCause}
@@ -14,7 +15,7 @@ use Rattle.image_check.specs.Pieces.{is_refused, piece_of, pieces_of, pieces_in}
 use Rattle.image_check.specs.Targets.{is_entrance, wrong_target}
 use Rattle.image_check.specs.Conditions.{text_place, init_place, text_size, init_size, entry_place, text_end, site_wrong, entry_start}
 use Rattle.image_check.specs.Checking.{as_sites, placed, annotated, entered, image_with, image_from}
-use Rattle.image_check.specs.Causes.{wrong_by, wrong, causes, IsFirst}
+use Rattle.image_check.specs.Causes.{wrong_by, wrong, causes}
 
 abbrev Told : Type 0
 Told = Result (Unit {0}) Refusal
@@ -110,16 +111,16 @@ test_err c (Some p) k at cause e =
     let by : c ≡ cause = cc in
     inl (ap (λ n. Some n) place, sym by)
 
-chain_first : (cs : List CheckCause) (parts : ImageParts) (at : ℕ) (cause : CheckCause) → chain cs parts (sweep parts.text) (listed parts.sites) ≡ refusal_is (Wrong at cause) → IsFirst cs parts at cause
+chain_first : (cs : List CheckCause) (parts : ImageParts) (at : ℕ) (cause : CheckCause) → chain cs parts (sweep parts.text) (listed parts.sites) ≡ refusal_is (Wrong at cause) → IsFirstOf (wrong parts) cs at cause
 unfolding chain
 chain_first [] parts at cause e = absurd cc
 chain_first (c ∷ cs) parts at cause e =
-    elim (test_err c (wrong c parts) (chain cs parts (sweep parts.text) (listed parts.sites)) at cause e) [
+    elim (test_err c (wrong parts c) (chain cs parts (sweep parts.text) (listed parts.sites)) at cause e) [
       | inl here ↦ inl here
       | inr later ↦ inr (later.0, chain_first cs parts at cause later.1)
     ]
 
-first_chain : (cs : List CheckCause) (parts : ImageParts) (at : ℕ) (cause : CheckCause) → IsFirst cs parts at cause → chain cs parts (sweep parts.text) (listed parts.sites) ≡ refusal_is (Wrong at cause)
+first_chain : (cs : List CheckCause) (parts : ImageParts) (at : ℕ) (cause : CheckCause) → IsFirstOf (wrong parts) cs at cause → chain cs parts (sweep parts.text) (listed parts.sites) ≡ refusal_is (Wrong at cause)
 unfolding chain
 first_chain [] parts at cause h = absurd h
 first_chain (c ∷ cs) parts at cause (inl here) =
@@ -134,7 +135,7 @@ was_told : (r : Result Image Refusal) (refusal : Refusal) → told r ≡ refusal
 was_told (Ok image) refusal e = absurd cc
 was_told (Err d) refusal e = let same : d ≡ refusal = cc in ap not_image same
 
-pub first_exact : (parts : ImageParts) (at : ℕ) (cause : CheckCause) → (image_from parts ≡ not_image (Wrong at cause)) ↔ IsFirst causes parts at cause
+pub first_exact : (parts : ImageParts) (at : ℕ) (cause : CheckCause) → (image_from parts ≡ not_image (Wrong at cause)) ↔ IsFirstOf (wrong parts) causes at cause
 first_exact parts at cause = (
   (λ e. chain_first causes parts at cause (sym (image_chain parts) ∙ ap told e)),
   (λ h. was_told (image_from parts) (Wrong at cause) (image_chain parts ∙ first_chain causes parts at cause h)),

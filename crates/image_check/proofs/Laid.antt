@@ -2,6 +2,7 @@
 use Rattle.std.proofs.Common.{◌≡◌, ℕ, zero, suc, ◌+◌, ◌-◌, ◌<◌, ◌≤◌, Bool, true, false, ◌&&◌, cond, max, List, [], ◌∷◌, length, drop, map, Option, Some, None, refl, sym, ap, subst, ◌∙◌, inl, inr, ◌⊎◌, arith}
 use Rattle.std.specs.Prelude.{slice_index_or}
 use Rattle.std.specs.List.{Contains}
+use Rattle.std.proofs.lemmas.Bool.{and_parts, cases_Bool}
 use Rattle.ia32_types.specs.Shape.{is_direct_branch}
 use Rattle.ia32_types.specs.declared.insn.Op.{Op}
 use Rattle.ia32_types.specs.declared.insn.Op.TheVariants as op
@@ -21,7 +22,7 @@ use Rattle.image_check.specs.Pieces.{piece_of, target_of, site_role}
 use Rattle.image_check.specs.TextSites.{is_nop_role, is_sti, is_hlt, has_nops, has_hlt, pair, single, padded, by_role, begun_by, Found, found_by, found_behind}
 use Rattle.image_check.specs.Layout.{AreApart, PartOf, Alone, PairSti, PairHlt, Padding, BeginsSite}
 use Rattle.image_check.proofs.Begun.{begun_has_byte}
-use Rattle.image_check.proofs.Room.{begun_one, nop_piece, hlt_piece, sti_piece, both, true_or_false}
+use Rattle.image_check.proofs.Room.{begun_one, nop_piece, hlt_piece, sti_piece}
 
 -- ---- elements of a list
 
@@ -42,9 +43,6 @@ pub none_in : {X : Type 0} (y : X) → Contains {X = X} [] y → ⊥
 none_in y c = let lt = c.1 in omega (arith, lt)
 
 -- ---- what an instruction is to the check, and what it is
-
-role_by : ℕ → Op → Role
-role_by target o = cond (is_direct_branch o) (role.Branch target) (cond (pieces.is_nop o) role.Nop (site_role (kind_of o)))
 
 branch_kind : (o : Op) → is_direct_branch o ≡ true → kind_of o ≡ None
 branch_kind op.Jmp e = refl
@@ -125,7 +123,7 @@ BeginsAs s swept (here.Makes site) = IsSingle s swept site ⊎ IsPair s swept si
 
 padded_as : (s : Swept) (swept : List Swept) (kind : SiteKind) → (piece_of s).role ≡ role.Site kind → BeginsAs s swept (padded (piece_of s) (map piece_of swept) kind)
 padded_as s swept kind e =
-    elim (true_or_false (has_nops (max 5 s.len - s.len) (map piece_of swept))) [
+    elim (cases_Bool (has_nops (max 5 s.len - s.len) (map piece_of swept))) [
       | inl good ↦ subst (λ b. BeginsAs s swept (cond b (here.Makes (single (piece_of s) kind)) here.Lacks)) (sym good) (inl (kind, refl, is_sensitive s kind e, good))
       | inr bad ↦ subst (λ b. BeginsAs s swept (cond b (here.Makes (single (piece_of s) kind)) here.Lacks)) (sym bad) tt
     ]
@@ -140,9 +138,9 @@ role_as s swept (role.Branch target) e = is_insensitive s (ap not_site e)
 begun_as : (bytes : List ℕ) (s : Swept) (swept : List Swept) → Begins bytes s.insn s.len → BeginsAs s swept (begun_by (piece_of s) (map piece_of swept))
 unfolding begun_by
 begun_as bytes s swept h =
-    elim (true_or_false (is_sti (piece_of s).role && has_hlt (map piece_of swept))) [
+    elim (cases_Bool (is_sti (piece_of s).role && has_hlt (map piece_of swept))) [
       | inl good ↦
-          let two = both (is_sti (piece_of s).role) (has_hlt (map piece_of swept)) good in
+          let two = and_parts (is_sti (piece_of s).role) (has_hlt (map piece_of swept)) good in
           subst (λ b. BeginsAs s swept (cond b (here.Makes (pair (piece_of s))) (by_role (piece_of s) (map piece_of swept) (piece_of s).role))) (sym good)
           (inr (refl, is_sensitive s Sti (sti_role (piece_of s).role two.0), begun_one bytes s.insn s.len h (sti_piece s two.0), two.1))
       | inr bad ↦
@@ -406,11 +404,11 @@ laid_behind false zero from bytes [] to left h f none = record {
 laid_behind false (suc n) from bytes [] to left h f none = absurd cc
 laid_behind true (suc n) from bytes [] to left h f none = absurd (let e = f.1 in cc)
 laid_behind false (suc n) from bytes (s ∷ swept) to left h f none =
-    let two = both (is_nop_role (piece_of s).role) (has_nops n (map piece_of swept)) f in
+    let two = and_parts (is_nop_role (piece_of s).role) (has_nops n (map piece_of swept)) f in
     filler_first false n from s swept _ to h.0 (begun_one bytes s.insn s.len h.1 (nop_piece s two.0)) (is_padding s two.0)
     (laid_behind false n (from + s.len) (drop s.len bytes) swept to left h.2 two.1 none)
 laid_behind true (suc n) from bytes (s ∷ swept) to left h f none =
-    let two = both (is_hlt (piece_of s).role) (has_nops 3 (map piece_of swept)) f.1 in
+    let two = and_parts (is_hlt (piece_of s).role) (has_nops 3 (map piece_of swept)) f.1 in
     let e = f.0 in
     let three : 3 ≡ n = omega (arith, e) in
     filler_first true n from s swept _ to h.0 (begun_one bytes s.insn s.len h.1 (hlt_piece s two.0)) (inr (h.0, is_sensitive s Hlt (hlt_role (piece_of s).role two.0)))

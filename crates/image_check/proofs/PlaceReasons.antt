@@ -2,7 +2,7 @@
 use Rattle.std.proofs.Common.{◌≡◌, ◌≢◌, ℕ, ◌+◌, ◌<◌, ◌≤◌, Bool, true, false, not, ◌&&◌, ◌||◌, cond, List, [], ◌∷◌, length, drop, map, nat_lt, Option, Some, None, Result, Ok, Err, refl, sym, ap, ◌∙◌, inl, inr, ◌⊎◌, length-drop, arith}
 use Rattle.std.specs.Prelude.{◌↔◌, ◌==◌, slice_index}
 use Rattle.std.specs.Bool.{then_some}
-use Rattle.std.proofs.lemmas.Bool.{cases_lt}
+use Rattle.std.proofs.lemmas.Bool.{cases_lt, and_parts, eqb-true, not-true}
 use Rattle.std.proofs.lemmas.List.{drop_all}
 use Rattle.std.proofs.lemmas.Bool.Decides.{nat_tests}
 use Rattle.ia32_rows.specs.Spells.{AreBytes}
@@ -154,23 +154,16 @@ two_left text at e =
     next_of text at 0 (omega arith)
     ∙ ap (front (slice_index text at)) (next_of text (at + 1) 0 (omega arith) ∙ ap (front (slice_index text (at + 1))) (drop_all (at + 1 + 1) text (omega arith)))
 
-both : (a b : Bool) → (a && b) ≡ true → (a ≡ true) × (b ≡ true)
-both true b e = (refl, e)
-both false b e = absurd cc
-
-equal : (m n : ℕ) → (m == n) ≡ true → m ≡ n
-equal m n e = grind (arith, nat_tests)
-
 so_equal : (m n : ℕ) → m ≡ n → (m == n) ≡ true
 so_equal m n e = grind (arith, nat_tests)
 
 ends_so : (text : List ℕ) (at : ℕ) → ends_at text at ≡ true → drop at text ≡ 0xEB ∷ 0xFE ∷ []
 ends_so text at e =
-    let h = both (at + 2 == length text && slice_index text at == 0xEB) (slice_index text (at + 1) == 0xFE) e in
-    let g = both (at + 2 == length text) (slice_index text at == 0xEB) h.0 in
-    two_left text at (equal (at + 2) (length text) g.0)
-    ∙ ap (λ b. b ∷ slice_index text (at + 1) ∷ []) (equal (slice_index text at) 0xEB g.1)
-    ∙ ap (λ b. 0xEB ∷ b ∷ []) (equal (slice_index text (at + 1)) 0xFE h.1)
+    let h = and_parts (at + 2 == length text && slice_index text at == 0xEB) (slice_index text (at + 1) == 0xFE) e in
+    let g = and_parts (at + 2 == length text) (slice_index text at == 0xEB) h.0 in
+    two_left text at (eqb-true (at + 2) (length text) g.0)
+    ∙ ap (λ b. b ∷ slice_index text (at + 1) ∷ []) (eqb-true (slice_index text at) 0xEB g.1)
+    ∙ ap (λ b. 0xEB ∷ b ∷ []) (eqb-true (slice_index text (at + 1)) 0xFE h.1)
 
 so_ends : (text : List ℕ) (at : ℕ) → drop at text ≡ 0xEB ∷ 0xFE ∷ [] → ends_at text at ≡ true
 so_ends text at e =
@@ -185,10 +178,6 @@ swept_so : (r : Result (List Swept) ℕ) (f : List Piece → Option ℕ) (at : �
 swept_so (Ok swept) f at e = (swept, refl, e)
 swept_so (Err k) f at e = absurd cc
 
-pub turned : (b : Bool) → not b ≡ true → b ≡ false
-turned true e = absurd cc
-turned false e = refl
-
 module _ (text : List ℕ) (fit : AreBytes text) (at : ℕ) where
   pub text_end_so : of_swept (sweep text) (text_end text) ≡ Some at → EndsOtherwise text at
   text_end_so e =
@@ -198,7 +187,7 @@ module _ (text : List ℕ) (fit : AreBytes text) (at : ℕ) where
         swept = s.0;
         sweep = (sweep_exact text fit s.0).0 s.1;
         last = h.1;
-        other = λ is. not_both (ends_at text (last_at (map piece_of s.0))) (ap (ends_at text) (sym h.1) ∙ so_ends text at is) (turned _ h.0);
+        other = λ is. not_both (ends_at text (last_at (map piece_of s.0))) (ap (ends_at text) (sym h.1) ∙ so_ends text at is) (not-true _ h.0);
       }
 
   pub so_text_end : EndsOtherwise text at → of_swept (sweep text) (text_end text) ≡ Some at

@@ -1,8 +1,9 @@
 -- Each cause holds exactly where its condition does, and a refusal is the first cause that holds.
-use Rattle.std.proofs.Common.{◌≡◌, ℕ, zero, suc, ◌<◌, List, [], ◌∷◌, map, Option, Some, None, Result, Ok, Err, refl, sym, ap, ◌∙◌, inl, inr, slice_get, arith}
+use Rattle.std.proofs.Common.{◌≡◌, ℕ, List, map, Option, Some, None, Result, Ok, Err, refl, sym, ap, ◌∙◌}
 use Rattle.std.specs.Prelude.{◌↔◌}
 use Rattle.ia32_rows.specs.Spells.{AreBytes}
 use Rattle.elf_form.specs.ImageParts.{ImageParts}
+use Rattle.elf_form.specs.Faults.{IsFirstOf}
 use Rattle.sites.specs.declared.site.Site.{Site}
 use Rattle.sites.specs.Formats.{listed}
 use Rattle.image_check.specs.declared.fault.CheckCause.{CheckCause}
@@ -16,9 +17,10 @@ use Rattle.image_check.specs.Refusals.{Refusal, Wrong}
 use Rattle.image_check.specs.Conditions.{site_wrong, entry_at, entry_start}
 use Rattle.image_check.specs.Checking.{image_from}
 use Rattle.image_check.specs.Accepts.{IsEntrance}
-use Rattle.image_check.specs.Causes.{form_stop, of_both, wrong, causes, IsFirst}
+use Rattle.image_check.specs.Causes.{form_stop, of_both, wrong, causes}
 use Rattle.image_check.specs.Reasons.{BothRead, IsWrongAt, LeadsAstray, IsWrong, IsRefused}
 use Rattle.elf_form.specs.Order.{IsLowest}
+use Rattle.elf_form.proofs.FirstCauses.{first_in_list, list_first}
 use Rattle.image_check.proofs.CauseLaws.{first_exact}
 use Rattle.image_check.proofs.SweepLaws.{sweep_exact}
 use Rattle.image_check.proofs.PlaceReasons.{some, text_place_is, init_place_is, text_size_is, init_size_is, entry_place_is, refused_stop_is, bad_stop_is, text_end_so, so_text_end}
@@ -50,7 +52,7 @@ module _ (parts : ImageParts) (fit : AreBytes parts.text) (at : ℕ) (f : List P
 
 -- ---- all causes
 
-pub wrong_is : (parts : ImageParts) → AreBytes parts.text → (cause : CheckCause) (at : ℕ) → (wrong cause parts ≡ Some at) ↔ IsWrong cause parts at
+pub wrong_is : (parts : ImageParts) → AreBytes parts.text → (cause : CheckCause) (at : ℕ) → (wrong parts cause ≡ Some at) ↔ IsWrong cause parts at
 wrong_is parts fit TextPlace at = text_place_is parts at
 wrong_is parts fit InitPlace at = init_place_is parts at
 wrong_is parts fit TextSize at = text_size_is parts at
@@ -76,35 +78,6 @@ wrong_is parts fit EntryStart at =
 
 -- ---- the order
 
-record FirstIn (cs : List CheckCause) (parts : ImageParts) (at : ℕ) (cause : CheckCause) : Type 0 where
-  index : ℕ
-  there : slice_get cs index ≡ Some cause
-  is : wrong cause parts ≡ Some at
-  before : (j : ℕ) (c : CheckCause) → j < index → slice_get cs j ≡ Some c → wrong c parts ≡ None
-
-abbrev a_cause : CheckCause → Option CheckCause
-a_cause c = Some c
-
-first_in_list : (cs : List CheckCause) (parts : ImageParts) (at : ℕ) (cause : CheckCause) → IsFirst cs parts at cause → FirstIn cs parts at cause
-first_in_list [] parts at cause h = absurd h
-first_in_list (c ∷ cs) parts at cause (inl here) = record {
-  index = 0;
-  there = ap a_cause (sym here.1);
-  is = ap (λ (d : CheckCause). wrong d parts) here.1 ∙ here.0;
-  before = λ j d lt there. absurd (omega arith);
-}
-first_in_list (c ∷ cs) parts at cause (inr later) =
-    let more = first_in_list cs parts at cause later.1 in
-    record { index = suc more.index; there = more.there; is = more.is; before = step more } where
-      step : (more : FirstIn cs parts at cause) (j : ℕ) (d : CheckCause) → j < suc more.index → slice_get (c ∷ cs) j ≡ Some d → wrong d parts ≡ None
-      step more zero d lt there = let same : c ≡ d = cc in ap (λ (e : CheckCause). wrong e parts) (sym same) ∙ later.0
-      step more (suc j) d lt there = more.before j d (omega arith) there
-
-list_first : (cs : List CheckCause) (parts : ImageParts) (at : ℕ) (cause : CheckCause) (index : ℕ) → slice_get cs index ≡ Some cause → wrong cause parts ≡ Some at → ((j : ℕ) (c : CheckCause) → j < index → slice_get cs j ≡ Some c → wrong c parts ≡ None) → IsFirst cs parts at cause
-list_first [] parts at cause index there is before = absurd cc
-list_first (c ∷ cs) parts at cause zero there is before = let same : c ≡ cause = cc in inl (ap (λ (e : CheckCause). wrong e parts) same ∙ is, sym same)
-list_first (c ∷ cs) parts at cause (suc k) there is before = inr (before 0 c (omega arith) refl, list_first cs parts at cause k there is (λ j d lt there'. before (suc j) d (omega arith) there'))
-
 none_so : (o : Option ℕ) (at : ℕ) → o ≡ None → o ≡ Some at → ⊥
 none_so o at none is = let h : none_of ≡ some at = sym none ∙ is in cc where
   none_of : Option ℕ
@@ -115,18 +88,18 @@ so_none None h = refl
 so_none (Some at) h = absurd (h at refl)
 
 module _ (parts : ImageParts) (fit : AreBytes parts.text) (at : ℕ) (cause : CheckCause) where
-  pub refused_so : IsFirst causes parts at cause → IsRefused parts at cause
+  pub refused_so : IsFirstOf (wrong parts) causes at cause → IsRefused parts at cause
   refused_so h =
-      let f = first_in_list causes parts at cause h in
+      let f = first_in_list CheckCause (wrong parts) causes at cause h in
       record {
         index = f.index;
         there = f.there;
         wrong = (wrong_is parts fit cause at).0 f.is;
-        before = λ j c place lt there is. none_so (wrong c parts) place (f.before j c lt there) ((wrong_is parts fit c place).1 is);
+        before = λ j c place lt there is. none_so (wrong parts c) place (f.before j c lt there) ((wrong_is parts fit c place).1 is);
       }
 
-  pub so_refused : IsRefused parts at cause → IsFirst causes parts at cause
-  so_refused h = list_first causes parts at cause h.index h.there ((wrong_is parts fit cause at).1 h.wrong) (λ j c lt there. so_none (wrong c parts) (λ place is. h.before j c place lt there ((wrong_is parts fit c place).0 is)))
+  pub so_refused : IsRefused parts at cause → IsFirstOf (wrong parts) causes at cause
+  so_refused h = list_first CheckCause (wrong parts) causes at cause h.index h.there ((wrong_is parts fit cause at).1 h.wrong) (λ j c lt there. so_none (wrong parts c) (λ place is. h.before j c place lt there ((wrong_is parts fit c place).0 is)))
 
 abbrev no_image : Refusal → Result Image Refusal
 no_image refusal = Err refusal

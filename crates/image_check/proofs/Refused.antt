@@ -1,6 +1,7 @@
 -- The names of refused instructions, and the test of their rows.
-use Rattle.std.proofs.Common.{◌≡◌, ℕ, Bool, true, false, List, Option, Some, None, Result, Ok, Err, is_some, is_ok, refl, sym, ap, inl, inr, ◌⊎◌}
+use Rattle.std.proofs.Common.{◌≡◌, ℕ, Bool, true, false, List, Option, Some, None, Result, Ok, Err, is_some, is_ok, refl, sym, ap, inl, inr}
 use Rattle.std.specs.Prelude.{◌↔◌}
+use Rattle.std.proofs.lemmas.Bool.{cases_Bool}
 use Rattle.std.proofs.lemmas.List.Folds.{Any-from_list_any, list_any-from_Any}
 use Rattle.ia32_types.specs.declared.site.Refused.{Refused}
 use Rattle.ia32_rows.specs.declared.row.Miss.{Miss}
@@ -30,13 +31,9 @@ begins_refused bytes h =
     let is = ok_is (parts_at any.1.form bytes) any.4 in
     (any.1.name, record { row = any.1; listed = (any.0, any.2, any.3); parts = is.0.0; rest = is.0.1; read = is.1; named = refl })
 
-true_or_false : (b : Bool) → (b ≡ true) ⊎ (b ≡ false)
-true_or_false true = inl refl
-true_or_false false = inr refl
-
 unnamed_is_not : (bytes : List ℕ) → ((name : Refused) → BeginsRefused bytes name → ⊥) → is_refused bytes ≡ false
 unnamed_is_not bytes h =
-    elim (true_or_false (is_refused bytes)) [
+    elim (cases_Bool (is_refused bytes)) [
       | inl e ↦ absurd (h (begins_refused bytes e).0 (begins_refused bytes e).1)
       | inr e ↦ e
     ]

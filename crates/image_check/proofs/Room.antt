@@ -1,6 +1,7 @@
 -- NOP, STI and HLT are one byte each, so the sites lie in the text.
-use Rattle.std.proofs.Common.{◌≡◌, ℕ, zero, suc, ◌+◌, ◌-◌, ◌≤◌, Bool, true, false, ◌&&◌, cond, max, List, [], ◌∷◌, ◌++◌, length, drop, take, map, Option, Some, None, Ok, refl, sym, ap, subst, ◌∙◌, inl, inr, ◌⊎◌, arith}
+use Rattle.std.proofs.Common.{◌≡◌, ℕ, zero, suc, ◌+◌, ◌-◌, ◌≤◌, Bool, true, false, ◌&&◌, cond, max, List, [], ◌∷◌, ◌++◌, length, drop, take, map, Ok, refl, sym, ap, subst, ◌∙◌, inl, inr, arith}
 use Rattle.std.specs.List.{list_all, Contains}
+use Rattle.std.proofs.lemmas.Bool.{and_parts, cases_Bool}
 use Rattle.std.proofs.lemmas.List.{length-append, length-take}
 use Rattle.std.proofs.lemmas.List.Sums.{AllPass-from_list_all}
 use Rattle.ia32_types.specs.Shape.{is_direct_branch}
@@ -35,9 +36,10 @@ use Rattle.image_check.specs.declared.site.Here.TheVariants as here
 use Rattle.image_check.specs.Sweep.{Swept, SweepsTo}
 use Rattle.image_check.specs.Pieces as pieces
 use Rattle.image_check.specs.Pieces.{piece_of, target_of, site_role}
-use Rattle.image_check.specs.TextSites.{is_nop_role, is_sti, is_hlt, has_nops, has_hlt, pair, single, padded, by_role, begun_by, Found, found_by, found_behind, unless_lacking}
+use Rattle.image_check.specs.TextSites.{is_nop_role, is_sti, is_hlt, has_nops, has_hlt, pair, single, padded, by_role, begun_by, Found, found_by, found_behind}
 use Rattle.image_check.specs.Image.{Image}
 use Rattle.image_check.specs.Accepts.{IsAccepted}
+use Rattle.image_check.proofs.Acceptance.{were_found}
 
 -- ---- one byte
 
@@ -95,10 +97,6 @@ immediate_none immediate.Word bytes x n e = absurd cc
 immediate_none immediate.Long bytes x n e = absurd cc
 immediate_none immediate.Far bytes x n e = absurd cc
 
-pub both : (a b : Bool) → (a && b) ≡ true → (a ≡ true) × (b ≡ true)
-both true b e = (refl, e)
-both false b e = absurd cc
-
 op_is : (r : Row) (p : Parts) → (insn_of r p).op ≡ r.op
 unfolding insn_of
 op_is r p = refl
@@ -106,8 +104,8 @@ op_is r p = refl
 one_byte : (bytes : List ℕ) (insn : Insn) → Spells bytes insn → is_single insn.op ≡ true → length bytes ≡ 1
 one_byte bytes insn s e =
     let named : is_single s.row.op ≡ true = ap is_single (sym (ap (λ (i : Insn). i.op) s.by_row.means ∙ op_is s.row s.parts)) ∙ e in
-    let a = both (no_lead s.row.form.lead && no_address s.row.form.addressing) (no_immediate s.row.form.immediate) (row_fits s.row s.listed named) in
-    let b = both (no_lead s.row.form.lead) (no_address s.row.form.addressing) a.0 in
+    let a = and_parts (no_lead s.row.form.lead && no_address s.row.form.addressing) (no_immediate s.row.form.immediate) (row_fits s.row s.listed named) in
+    let b = and_parts (no_lead s.row.form.lead) (no_address s.row.form.addressing) a.0 in
     let laid = (in_pieces s.row s.listed s.parts bytes).0 s.by_row.read in
     let x = ap (length {A = ℕ}) (lead_none s.row.form.lead laid.lead laid.lead_byte b.0 laid.lead_is) in
     let y = ap (length {A = ℕ}) (address_none s.row.form.addressing laid.address _ b.1 laid.address_is) in
@@ -152,9 +150,6 @@ pub sti_piece : (s : Swept) → is_sti (piece_of s).role ≡ true → is_single 
 unfolding role_by
 sti_piece s e = sti_single (target_of s.at s.len s.insn) s.insn.op e
 
-abbrev some_sites : List Site → Option (List Site)
-some_sites sites = Some sites
-
 -- ---- room
 
 goes_up : (from : ℕ) (bytes : List ℕ) (swept : List Swept) (to : ℕ) (left : List ℕ) → SweepsTo from bytes swept to left → from ≤ to
@@ -166,7 +161,7 @@ unfolding has_nops
 nops_room zero from bytes swept to left h e = let up = goes_up from bytes swept to left h in omega (arith, up)
 nops_room (suc n) from bytes [] to left h e = absurd cc
 nops_room (suc n) from bytes (s ∷ swept) to left h e =
-    let nop = both (is_nop_role (piece_of s).role) (has_nops n (map piece_of swept)) e in
+    let nop = and_parts (is_nop_role (piece_of s).role) (has_nops n (map piece_of swept)) e in
     let one = begun_one bytes s.insn s.len h.1 (nop_piece s nop.0) in
     let later = nops_room n (from + s.len) (drop s.len bytes) swept to left h.2 nop.1 in
     omega (arith, one, later)
@@ -174,7 +169,7 @@ nops_room (suc n) from bytes (s ∷ swept) to left h e =
 hlt_room : (from : ℕ) (bytes : List ℕ) (swept : List Swept) (to : ℕ) (left : List ℕ) → SweepsTo from bytes swept to left → has_hlt (map piece_of swept) ≡ true → from + 4 ≤ to
 hlt_room from bytes [] to left h e = absurd cc
 hlt_room from bytes (s ∷ swept) to left h e =
-    let hlt = both (is_hlt (piece_of s).role) (has_nops 3 (map piece_of swept)) e in
+    let hlt = and_parts (is_hlt (piece_of s).role) (has_nops 3 (map piece_of swept)) e in
     let one = begun_one bytes s.insn s.len h.1 (hlt_piece s hlt.0) in
     let later = nops_room 3 (from + s.len) (drop s.len bytes) swept to left h.2 hlt.1 in
     omega (arith, one, later)
@@ -183,10 +178,6 @@ abbrev Fit : ℕ → Here → Type 0
 Fit to here.Nothing = Unit {0}
 Fit to here.Lacks = Unit {0}
 Fit to (here.Makes s) = (5 ≤ s.total) × (s.at + s.total ≤ to)
-
-pub true_or_false : (b : Bool) → (b ≡ true) ⊎ (b ≡ false)
-true_or_false true = inl refl
-true_or_false false = inr refl
 
 module _ (from : ℕ) (bytes : List ℕ) (s : Swept) (swept : List Swept) (to : ℕ) (left : List ℕ) (h : SweepsTo from bytes (s ∷ swept) to left) where
   pair_fits : is_sti (piece_of s).role ≡ true → has_hlt (map piece_of swept) ≡ true → Fit to (here.Makes (pair (piece_of s)))
@@ -198,7 +189,7 @@ module _ (from : ℕ) (bytes : List ℕ) (s : Swept) (swept : List Swept) (to : 
 
   padded_fits : (kind : SiteKind) → Fit to (padded (piece_of s) (map piece_of swept) kind)
   padded_fits kind =
-      elim (true_or_false (has_nops (max 5 s.len - s.len) (map piece_of swept))) [
+      elim (cases_Bool (has_nops (max 5 s.len - s.len) (map piece_of swept))) [
         | inl e ↦
             let room = nops_room (max 5 s.len - s.len) (from + s.len) (drop s.len bytes) swept to left h.2 e in
             let at = h.0 in
@@ -215,9 +206,9 @@ module _ (from : ℕ) (bytes : List ℕ) (s : Swept) (swept : List Swept) (to : 
   begun_fits : Fit to (begun_by (piece_of s) (map piece_of swept))
   unfolding begun_by
   begun_fits =
-      elim (true_or_false (is_sti (piece_of s).role && has_hlt (map piece_of swept))) [
+      elim (cases_Bool (is_sti (piece_of s).role && has_hlt (map piece_of swept))) [
         | inl e ↦
-            let two = both (is_sti (piece_of s).role) (has_hlt (map piece_of swept)) e in
+            let two = and_parts (is_sti (piece_of s).role) (has_hlt (map piece_of swept)) e in
             subst (λ b. Fit to (cond b (here.Makes (pair (piece_of s))) (by_role (piece_of s) (map piece_of swept) (piece_of s).role))) (sym e) (pair_fits two.0 two.1)
         | inr e ↦ subst (λ b. Fit to (cond b (here.Makes (pair (piece_of s))) (by_role (piece_of s) (map piece_of swept) (piece_of s).role))) (sym e) (role_fits (piece_of s).role)
       ]
@@ -238,13 +229,9 @@ found_inside zero from bytes (s ∷ swept) to left h =
     found_fits to (piece_of s) (λ n. found_behind n (map piece_of swept)) (begun_by (piece_of s) (map piece_of swept)) (begun_fits from bytes s swept to left h)
     (λ n. found_inside n (from + s.len) (drop s.len bytes) swept to left h.2)
 
-were_found : (found : List Site) (lacking : Option ℕ) (sites : List Site) → unless_lacking found lacking ≡ some_sites sites → found ≡ sites
-were_found found None sites e = cc
-were_found found (Some at) sites e = absurd cc
-
 -- the sites of an accepted image lie in its text
 pub sites_inside : (image : Image) → IsAccepted image → AreInside (length image.text) 0 image.sites
 sites_inside image h =
     let ps = map piece_of h.swept in
-    let same = were_found (found_behind 0 ps).sites (found_behind 0 ps).lacking image.sites h.sites in
+    let same = (were_found image.sites (found_behind 0 ps).sites (found_behind 0 ps).lacking h.sites).1 in
     subst (AreInside (length image.text) 0) same (found_inside 0 0 image.text h.swept (length image.text) [] h.sweep)

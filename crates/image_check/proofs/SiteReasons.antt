@@ -1,6 +1,6 @@
 -- Where the annotations and the sites of a text differ, or a sensitive instruction lacks its NOPs.
-use Rattle.std.proofs.Common.{◌≡◌, ◌≢◌, ℕ, ◌≤◌, Bool, true, false, cond, min, List, [], ◌∷◌, ◌++◌, map, Option, Some, None, refl, sym, ap, ◌∙◌, inl, inr, ◌⊎◌, arith}
-use Rattle.std.proofs.lemmas.Bool.{cases_lt, le-ltb, lt-ltb}
+use Rattle.std.proofs.Common.{◌≡◌, ◌≢◌, ℕ, ◌≤◌, false, cond, min, List, [], ◌∷◌, ◌++◌, map, Option, Some, None, refl, sym, ap, ◌∙◌, inl, inr, ◌⊎◌, arith}
+use Rattle.std.proofs.lemmas.Bool.{cases_lt, le-ltb, lt-ltb, cases_Bool}
 use Rattle.elf_form.specs.Faults.{◌or_lower◌}
 use Rattle.sites.specs.declared.site.Site.{Site}
 use Rattle.image_check.specs.Sweep.{Swept}
@@ -13,10 +13,6 @@ use Rattle.image_check.proofs.Acceptance.{same_site, is_itself}
 use Rattle.image_check.proofs.PlaceReasons.{some, not_both, not_true}
 
 -- ---- two lists of sites
-
-pub true_or_false : (b : Bool) → (b ≡ true) ⊎ (b ≡ false)
-true_or_false true = inl refl
-true_or_false false = inr refl
 
 is_same_not : (s t : Site) → is_same s t ≡ false → s ≢ t
 is_same_not s t differs same = not_both (is_same s t) (ap (is_same s) (sym same) ∙ is_itself s) differs
@@ -33,7 +29,7 @@ differ_so [] [] at e = absurd cc
 differ_so [] (t ∷ ts) at e = record { both = []; rest_a = []; rest_b = t ∷ ts; first = refl; second = refl; differ = cc }
 differ_so (s ∷ ss) [] at e = record { both = []; rest_a = s ∷ ss; rest_b = []; first = refl; second = refl; differ = cc }
 differ_so (s ∷ ss) (t ∷ ts) at e =
-    elim (true_or_false (is_same s t)) [
+    elim (cases_Bool (is_same s t)) [
       | inl is ↦
           let more = differ_so ss ts at (sym (ap (λ b. cond b (differ ss ts) (Some (min s.at t.at))) is) ∙ e) in
           record { both = s ∷ more.both; rest_a = more.rest_a; rest_b = more.rest_b; first = ap (join s) more.first; second = ap (λ (u : Site). u ∷ ts) (sym (same_site s t is)) ∙ ap (join s) more.second; differ = more.differ }

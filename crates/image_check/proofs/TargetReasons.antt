@@ -1,6 +1,7 @@
 -- Where control comes in at no entrance.
 use Rattle.std.proofs.Common.{◌≡◌, ℕ, Bool, true, false, not, ◌&&◌, cond, List, [], ◌∷◌, ◌++◌, map, Some, refl, sym, ap, ◌∙◌, inl, inr}
 use Rattle.std.specs.List.{Contains}
+use Rattle.std.proofs.lemmas.Bool.{cases_Bool, not-true}
 use Rattle.elf_form.specs.ImageParts.{ImageParts}
 use Rattle.sites.specs.declared.site.Site.{Site}
 use Rattle.image_check.specs.Sweep.{Swept}
@@ -13,8 +14,7 @@ use Rattle.image_check.proofs.Acceptance.{entrance_is, is_entrance_so, branch_ro
 use Rattle.image_check.proofs.Laid.{first_in, later_in, first_or_later, none_in}
 use Rattle.ia32_types.specs.Shape.{is_direct_branch}
 use Rattle.ia32_types.specs.Site.{sensitive_kind}
-use Rattle.image_check.proofs.PlaceReasons.{some, bad_so, so_bad, not_both, not_true, turned}
-use Rattle.image_check.proofs.SiteReasons.{true_or_false}
+use Rattle.image_check.proofs.PlaceReasons.{some, bad_so, so_bad, not_both, not_true}
 use Rattle.image_check.specs.declared.piece.Role.TheVariants as role
 
 -- ---- branches
@@ -45,7 +45,7 @@ module _ (entrance : ℕ → Bool) where
   unfolding wrong_target
   wrong_target_so [] at e = absurd cc
   wrong_target_so (t ∷ rest) at e =
-      elim (true_or_false (leads_wrong entrance (piece_of t).role)) [
+      elim (cases_Bool (leads_wrong entrance (piece_of t).role)) [
         | inl is ↦
             let e' : some t.at ≡ Some at = sym (ap (λ b. cond b (Some t.at) (wrong_target entrance (map piece_of rest))) is) ∙ e in
             let d = wrong_branch t is in
@@ -66,7 +66,7 @@ module _ (entrance : ℕ → Bool) where
         wrong_branch : (s : Swept) → leads_wrong entrance (piece_of s).role ≡ true → (is_direct_branch s.insn.op ≡ true) × (entrance (target_of s.at s.len s.insn) ≡ false)
         wrong_branch s is = by (is_direct_branch s.insn.op) refl where
           by : (b : Bool) → is_direct_branch s.insn.op ≡ b → (is_direct_branch s.insn.op ≡ true) × (entrance (target_of s.at s.len s.insn) ≡ false)
-          by true e = (e, turned _ (sym (leads_by s true e) ∙ is))
+          by true e = (e, not-true _ (sym (leads_by s true e) ∙ is))
           by false e = absurd (not_both _ is (leads_by s false e))
 
   astray_first : (before : List Swept) (branch : Swept) (later : List Swept) → is_direct_branch branch.insn.op ≡ true → entrance (target_of branch.at branch.len branch.insn) ≡ false → ((s : Swept) → Contains before s → is_direct_branch s.insn.op ≡ true → entrance (target_of s.at s.len s.insn) ≡ true) → wrong_target entrance (map piece_of (before ++ branch ∷ later)) ≡ Some branch.at
@@ -110,7 +110,7 @@ module _ (parts : ImageParts) (swept : List Swept) (sites : List Site) (at : ℕ
   pub entry_so : entry_start parts (map piece_of swept) sites ≡ Some at → (IsEntrance swept sites (entry_at parts) → ⊥) × (at ≡ entry_at parts)
   entry_so e =
       let h = bad_so _ (entry_at parts) at e in
-      ((λ is. not_both _ (is_entrance_so swept sites (entry_at parts) is) (turned _ h.0)), h.1)
+      ((λ is. not_both _ (is_entrance_so swept sites (entry_at parts) is) (not-true _ h.0)), h.1)
 
   pub so_entry : (IsEntrance swept sites (entry_at parts) → ⊥) × (at ≡ entry_at parts) → entry_start parts (map piece_of swept) sites ≡ Some at
   so_entry h = so_bad _ (entry_at parts) at (ap not (not_true _ (λ is. h.0 (entrance_is swept sites (entry_at parts) is)))) h.1

@@ -1,5 +1,5 @@
 -- The causes in the order in which they count, each with the place at which an image is wrong by it.
-use Rattle.std.specs.Prelude.{◌≡◌, ◌⊎◌, ℕ, List, [], ◌∷◌, drop, map, Option, Some, None, Result, Ok, Err, if◌then◌else◌}
+use Rattle.std.specs.Prelude.{ℕ, List, [], ◌∷◌, drop, map, Option, Some, None, Result, Ok, Err, if◌then◌else◌}
 use Rattle.elf_form.specs.ImageParts.{ImageParts}
 use Rattle.sites.specs.declared.site.Site.{Site}
 use Rattle.sites.specs.Formats.{listed}
@@ -49,13 +49,8 @@ wrong_by Target parts swept sites = of_both swept sites (λ ps ss. wrong_target 
 wrong_by EntryStart parts swept sites = of_both swept sites (entry_start parts)
 
 -- where an image is wrong by a cause, if it is
-abbrev pub wrong : CheckCause → ImageParts → Option ℕ
-wrong cause parts = wrong_by cause parts (sweep parts.text) (listed parts.sites)
+abbrev pub wrong : ImageParts → CheckCause → Option ℕ
+wrong parts cause = wrong_by cause parts (sweep parts.text) (listed parts.sites)
 
 abbrev pub causes : List CheckCause
 causes = TextPlace ∷ InitPlace ∷ TextSize ∷ InitSize ∷ EntryPlace ∷ RefusedCode ∷ BadCode ∷ TextEnd ∷ SitesForm ∷ SiteWrong ∷ Target ∷ EntryStart ∷ []
-
--- The image is wrong at a place by the first cause of a list by which it is wrong at all.
-abbrev pub IsFirst : List CheckCause → ImageParts → ℕ → CheckCause → Type 0
-IsFirst [] parts at cause = ⊥
-IsFirst (c ∷ later) parts at cause = ((wrong c parts ≡ Some at) × (cause ≡ c)) ⊎ ((wrong c parts ≡ None) × IsFirst later parts at cause)

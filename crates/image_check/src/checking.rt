@@ -4,7 +4,7 @@ ghost use Rattle.std.specs.Prelude.{◌≡◌, ℕ, ◌≤◌, ◌<◌, ◌+◌,
 ghost use Rattle.std.specs.List.{list_any};
 ghost use Rattle.ia32_rows.specs.Spells.{AreBytes};
 ghost use Rattle.elf_form.specs.Accepted.{ImageAs};
-ghost use Rattle.elf_form.specs.Faults.{Fault, ◌or_lower◌};
+ghost use Rattle.elf_form.specs.Faults.{Fault, IsFirstOf, ◌or_lower◌};
 ghost use Rattle.elf_form.specs.ImageParts.{ImageParts};
 ghost use Rattle.elf_form.specs.Reading.{image_in};
 ghost use Rattle.sites.specs.Formats.{told_format, listed};
@@ -14,7 +14,7 @@ ghost use Rattle.image_check.specs.Targets.{is_entrance, wrong_target};
 ghost use Rattle.image_check.specs.Conditions.{last_at, ends_at, text_end, site_wrong, entry_start_by};
 ghost use Rattle.image_check.specs.Checking.{as_form, as_sites, annotated, entered, image_from, image_of, image_with};
 ghost use Rattle.image_check.specs.Accepts.{AreStarts, Accepts};
-ghost use Rattle.image_check.specs.Causes.{causes, IsFirst};
+ghost use Rattle.image_check.specs.Causes.{wrong, causes};
 ghost use Rattle.image_check.specs.Reasons.{IsRefused};
 ghost use Rattle.image_check.specs.Image.{Image as Accepted};
 ghost use Rattle.image_check.specs.declared.fault.CheckCause.{CheckCause};
@@ -173,8 +173,8 @@ pub fn check(alloc: Global, bytes: &[u8]) -> Result<Checked, CheckFault>
     // Where the file is an accepted image, it is given, unless memory runs out.
     ensures only { (image : Accepted) → Accepts bytes.now image → Gives (λ checked. checked) result (Ok image) }
     // A refusal is the first cause by which the file's image is wrong, at its place.
-    ensures first { (at : ℕ) (cause : CheckCause) → result ≡ Err (CheckFault.At at cause) → (parts : ImageParts) × ImageAs bytes.now parts × IsFirst causes parts at cause }
-    ensures first_only { (parts : ImageParts) (at : ℕ) (cause : CheckCause) → ImageAs bytes.now parts → IsFirst causes parts at cause → Gives (λ checked. checked) result (Err (Wrong at cause)) }
+    ensures first { (at : ℕ) (cause : CheckCause) → result ≡ Err (CheckFault.At at cause) → (parts : ImageParts) × ImageAs bytes.now parts × IsFirstOf (wrong parts) causes at cause }
+    ensures first_only { (parts : ImageParts) (at : ℕ) (cause : CheckCause) → ImageAs bytes.now parts → IsFirstOf (wrong parts) causes at cause → Gives (λ checked. checked) result (Err (Wrong at cause)) }
     // The same by the causes' conditions: the cause's holds there, and none before it in their order.
     ensures refused { (at : ℕ) (cause : CheckCause) → result ≡ Err (CheckFault.At at cause) → (parts : ImageParts) × ImageAs bytes.now parts × IsRefused parts at cause }
     ensures refused_only { (parts : ImageParts) (at : ℕ) (cause : CheckCause) → ImageAs bytes.now parts → IsRefused parts at cause → Gives (λ checked. checked) result (Err (Wrong at cause)) }

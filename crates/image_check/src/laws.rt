@@ -3,12 +3,13 @@
 ghost use Rattle.std.specs.Prelude.{◌≡◌, ◌≢◌, ◌↔◌, ◌-◌, ◌&&◌, ℕ, true, false, max, List, [], ◌∷◌, drop, Some, None, Ok, Err};
 ghost use Rattle.ia32_types.specs.declared.site.SiteKind.{SiteKind as KindView};
 ghost use Rattle.elf_form.specs.ImageParts.{ImageParts};
+ghost use Rattle.elf_form.specs.Faults.{IsFirstOf};
 ghost use Rattle.ia32_rows.specs.Spells.{AreBytes};
 ghost use Rattle.image_check.specs.Sweep.{Swept, Sweep, SweepStops, sweep};
 ghost use Rattle.image_check.specs.Refusals.{Wrong};
 ghost use Rattle.image_check.specs.Checking.{image_from};
 ghost use Rattle.image_check.specs.TextSites.{is_sti, has_nops, has_hlt, pair, single, found_in, with_site};
-ghost use Rattle.image_check.specs.Causes.{wrong, causes, IsFirst};
+ghost use Rattle.image_check.specs.Causes.{wrong, causes};
 ghost use Rattle.image_check.specs.Reasons.{IsWrong, IsRefused};
 ghost use Rattle.image_check.specs.declared.piece.Piece.{Piece as PieceView};
 ghost use Rattle.image_check.specs.declared.piece.Role.TheVariants as role;
@@ -24,12 +25,12 @@ pub fn one_sweep()
 /// What is said of an image that is not accepted is the first cause by which it is wrong, at its
 /// place.
 pub fn first_cause()
-    ensures { (parts : ImageParts) (at : ℕ) (cause : CheckCause) → (image_from parts ≡ Err (Wrong at cause)) ↔ IsFirst causes parts at cause }
+    ensures { (parts : ImageParts) (at : ℕ) (cause : CheckCause) → (image_from parts ≡ Err (Wrong at cause)) ↔ IsFirstOf (wrong parts) causes at cause }
 {}
 
 /// An image is wrong by a cause, at a place, exactly where the condition of that cause holds there.
 pub fn causes_are_conditions()
-    ensures { (parts : ImageParts) → AreBytes parts.text → (cause : CheckCause) (at : ℕ) → (wrong cause parts ≡ Some at) ↔ IsWrong cause parts at }
+    ensures { (parts : ImageParts) → AreBytes parts.text → (cause : CheckCause) (at : ℕ) → (wrong parts cause ≡ Some at) ↔ IsWrong cause parts at }
 {}
 
 /// An image is refused, by a cause and at a place, exactly where the condition of that cause holds

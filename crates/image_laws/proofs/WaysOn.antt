@@ -2,7 +2,7 @@
 use Rattle.std.proofs.Common.{◌≡◌, ℕ, ◌+◌, ◌-◌, ◌%◌, ◌^◌, ◌<◌, ◌≤◌, Bool, true, false, ◌&&◌, cond, nat_lt, Option, None, List, [], ◌∷◌, length, take, drop, map, Some, refl, sym, ap, subst, ◌∙◌, inl, inr, ◌⊎◌, arith}
 use Rattle.std.specs.Prelude.{slice_index, ◌==◌, ◌↔◌, ◌||◌, nat_le, not}
 use Rattle.std.specs.List.{list_any, Contains}
-use Rattle.std.proofs.lemmas.Bool.{cases_lt}
+use Rattle.std.proofs.lemmas.Bool.{cases_lt, and_parts}
 use Rattle.std.proofs.lemmas.Bool.Decides.{nat_tests}
 use Rattle.std.proofs.lemmas.List.{places, same_lists, append-nil}
 use Rattle.ia32_types.specs.Shape.{is_direct_branch}
@@ -26,7 +26,6 @@ use Rattle.image_check.specs.Conditions.{last_at, ends_at}
 use Rattle.image_check.specs.Accepts.{IsEntrance, IsAccepted}
 use Rattle.image_check.specs.Places.{swept_of, is_start, lies_in, site_at, is_in_site, is_start_at, is_site_at, by_site, place_of, place_at, linear, StandsOutside, StandsInside}
 use Rattle.image_check.specs.Layout.{BeginsSite}
-use Rattle.image_check.proofs.Room.{both}
 use Rattle.image_check.proofs.Laid.{apart_bounds}
 use Rattle.image_check.proofs.Layouts.{site_any, apart, sweeps, swept_is, starts_are, start_exact, started, starts, site_listed}
 use Rattle.image_laws.specs.WaysIn.{IsWayIn, IsLast}
@@ -124,8 +123,8 @@ module _ (image : Image) (h : IsAccepted image) where
   ends_there : (s : Swept) → last_at (map piece_of h.swept) ≡ s.at → (s.at + 2 ≡ length image.text) × (slice_index image.text s.at ≡ 0xEB) × (slice_index image.text (s.at + 1) ≡ 0xFE)
   ends_there s e =
       let is : ends_at image.text s.at ≡ true = ap (ends_at image.text) (sym e) ∙ h.ends in
-      let a = both (s.at + 2 == length image.text && slice_index image.text s.at == 0xEB) (slice_index image.text (s.at + 1) == 0xFE) is in
-      let b = both (s.at + 2 == length image.text) (slice_index image.text s.at == 0xEB) a.0 in
+      let a = and_parts (s.at + 2 == length image.text && slice_index image.text s.at == 0xEB) (slice_index image.text (s.at + 1) == 0xFE) is in
+      let b = and_parts (s.at + 2 == length image.text) (slice_index image.text s.at == 0xEB) a.0 in
       (equal (s.at + 2) (length image.text) b.0, equal (slice_index image.text s.at) 0xEB b.1, equal (slice_index image.text (s.at + 1)) 0xFE a.1)
 
   pub is_last : (s : Swept) → Contains (swept_of image.text) s → s.at + s.len ≡ length image.text → IsLast image s

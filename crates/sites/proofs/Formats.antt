@@ -3,6 +3,7 @@ use Rattle.std.proofs.Common.{◌≡◌, ℕ, zero, suc, ◌+◌, ◌*◌, ◌<�
 use Rattle.std.specs.Prelude.{IfOk, cond}
 use Rattle.std.specs.List.{flat_map}
 use Rattle.std.specs.Int.{w32, to_le_bytes}
+use Rattle.std.specs.Option.{option_or}
 use Rattle.std.proofs.lemmas.Bool.{le-ltb}
 use Rattle.guest_ram.specs.Bytes.{byte, word32, AreBytes}
 use Rattle.sites.specs.declared.site.Site.{Site}
@@ -10,10 +11,10 @@ use Rattle.sites.specs.declared.site.SitesFault.{SitesFault}
 use Rattle.sites.specs.SitesParts.{SitesParts}
 use Rattle.sites.specs.Spelling.{site, placed, gaps, gapped, spelling, IsInForm}
 use Rattle.sites.specs.Reading.{head_fault, sites_fault, sites_at, placed_in, Gives}
-use Rattle.guest_ram.specs.Places.{◌or_else◌}
 use Rattle.sites.specs.Gapped.{end_at, gaps_fault, gap_sites, gapped_in}
 use Rattle.sites.specs.Formats.{told_format, told_count, sites_in, list_of, listed}
-use Rattle.sites.proofs.Inverse.{unless_ok, else_none, head_was, in_first, placed_read, placed_was, length-sites}
+use Rattle.sites.proofs.Walk.{in_first}
+use Rattle.sites.proofs.Inverse.{unless_ok, else_none, head_was, placed_read, placed_was, length-sites}
 use Rattle.sites.proofs.GapWalk.{in_second}
 use Rattle.sites.proofs.GapInverse.{gapped_read, gapped_was, length-gaps}
 
@@ -117,13 +118,13 @@ length-gap_sites bytes from (suc n) a = ap suc (length-gap_sites bytes (end_at b
 first_count : (bytes : List ℕ) (s : SitesParts) → placed_in bytes ≡ Ok s → (8 ≤ length bytes) × (length s.list ≡ word32 bytes 4)
 unfolding placed_in
 first_count bytes s e =
-    let ok = unless_ok (head_fault bytes 49 or_else sites_fault bytes 0 (word32 bytes 4) 8) (in_first (sites_at bytes (word32 bytes 4) 8)) s e in
+    let ok = unless_ok (option_or (head_fault bytes 49) (sites_fault bytes 0 (word32 bytes 4) 8)) (in_first (sites_at bytes (word32 bytes 4) 8)) s e in
     ((head_was bytes 49 (else_none (head_fault bytes 49) (sites_fault bytes 0 (word32 bytes 4) 8) ok.0).0).0, ap (λ (x : SitesParts). length x.list) (sym ok.1) ∙ length-sites_at bytes (word32 bytes 4) 8)
 
 second_count : (bytes : List ℕ) (s : SitesParts) → gapped_in bytes ≡ Ok s → (8 ≤ length bytes) × (length s.list ≡ word32 bytes 4)
 unfolding gapped_in
 second_count bytes s e =
-    let ok = unless_ok (head_fault bytes 50 or_else gaps_fault bytes 0 (word32 bytes 4) 8) (in_second (gap_sites bytes 0 (word32 bytes 4) 8)) s e in
+    let ok = unless_ok (option_or (head_fault bytes 50) (gaps_fault bytes 0 (word32 bytes 4) 8)) (in_second (gap_sites bytes 0 (word32 bytes 4) 8)) s e in
     ((head_was bytes 50 (else_none (head_fault bytes 50) (gaps_fault bytes 0 (word32 bytes 4) 8) ok.0).0).0, ap (λ (x : SitesParts). length x.list) (sym ok.1) ∙ length-gap_sites bytes 0 (word32 bytes 4) 8)
 
 counted_on : (b : Bool) (n m : ℕ) → b ≡ false → m ≡ n → m ≡ cond b 0 n

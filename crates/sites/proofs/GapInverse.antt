@@ -3,6 +3,7 @@ use Rattle.std.proofs.Common.{◌≡◌, ℕ, zero, suc, ◌+◌, ◌-◌, ◌*�
 use Rattle.std.specs.Prelude.{not, ◌&&◌, max, is_none, unwrap_or}
 use Rattle.std.specs.Bool.{then_some}
 use Rattle.std.specs.Int.{w32, to_le_bytes}
+use Rattle.std.specs.Option.{option_or}
 use Rattle.std.proofs.lemmas.Bool.{lt-ltb, le-ltb, ltb-false, ltb-true, not-false}
 use Rattle.std.proofs.lemmas.List.{drop-drop, take-append-drop, length-append, drop_all}
 use Rattle.std.proofs.lemmas.Nat.{from_le_bytes-to_le_bytes_4}
@@ -15,7 +16,6 @@ use Rattle.sites.specs.Kinds.{number, kind_numbered}
 use Rattle.sites.specs.Spelling.{gap, gaps, gapped, AreInGaps}
 use Rattle.sites.specs.SitesParts.{SitesParts}
 use Rattle.sites.specs.Reading.{cut_before, has_no_kind, head_fault}
-use Rattle.guest_ram.specs.Places.{◌or_else◌}
 use Rattle.sites.specs.Gapped.{gap_at, end_at, passes, has_wrong_length, gap_fault, gaps_fault, gap_site, gap_sites, gapped_in}
 use Rattle.sites.proofs.GapWalk.{in_second}
 use Rattle.sites.proofs.Inverse.{kind_numbered-number, number-kind, byte-behind, head_good, head_was, unless_none, unless_ok, else_none, then_none, second_false, part-word, drop-eight}
@@ -63,7 +63,7 @@ no_kind_there bytes at k is =
     and_false false = refl
 
 good_parts : (p k l : Bool) (bytes : List ℕ) (a : ℕ) → p ≡ false → k ≡ false → l ≡ false → a + 5 ≤ length bytes
-    → (then_some p a or_else (then_some k (a + 3) or_else (then_some l (a + 4) or_else cut_before bytes (a + 5)))) ≡ None
+    → option_or (then_some p a) (option_or (then_some k (a + 3)) (option_or (then_some l (a + 4)) (cut_before bytes (a + 5)))) ≡ None
 good_parts p k l bytes a p_not k_not l_not room = rw (p_not, k_not, l_not, le-ltb (length bytes) (a + 5) room) refl
 
 not_bad_there : (bytes : List ℕ) (from a : ℕ) (s : Site) → Follows bytes from a s → 1 ≤ s.len → s.len ≤ 11 → s.total ≡ max 5 s.len → s.at + s.total < 2 ^ 32 → gap_fault bytes from a ≡ None
@@ -103,9 +103,9 @@ gapped_read sites are lt =
     let count : word32 (gapped sites) 4 ≡ length sites = from_le_bytes-to_le_bytes_4 (length sites) lt in
     let head : head_fault (gapped sites) 50 ≡ None = head_good (gapped sites) 50 (omega (arith, length-append front (gaps 0 sites))) refl refl refl refl in
     let rest = gaps_read sites front 0 8 refl are in
-    let none : (head_fault (gapped sites) 50 or_else gaps_fault (gapped sites) 0 (word32 (gapped sites) 4) 8) ≡ None = rw (head, count) rest.0 in
+    let none : option_or (head_fault (gapped sites) 50) (gaps_fault (gapped sites) 0 (word32 (gapped sites) 4) 8) ≡ None = rw (head, count) rest.0 in
     let all : gap_sites (gapped sites) 0 (word32 (gapped sites) 4) 8 ≡ sites = rw count rest.1 in
-    unless_none (head_fault (gapped sites) 50 or_else gaps_fault (gapped sites) 0 (word32 (gapped sites) 4) 8) (in_second (gap_sites (gapped sites) 0 (word32 (gapped sites) 4) 8)) none ∙ ap (λ (v : List Site). Ok (in_second v)) all
+    unless_none (option_or (head_fault (gapped sites) 50) (gaps_fault (gapped sites) 0 (word32 (gapped sites) 4) 8)) (in_second (gap_sites (gapped sites) 0 (word32 (gapped sites) 4) 8)) none ∙ ap (λ (v : List Site). Ok (in_second v)) all
 
 -- ---- what is read is spelled so
 
@@ -136,8 +136,8 @@ was_gap bytes from a e =
     let f1 = then_some (has_no_kind bytes (a + 3)) (a + 3) in
     let f2 = then_some (has_wrong_length bytes (a + 4)) (a + 4) in
     let f3 = cut_before bytes (a + 5) in
-    let n0 = else_none f0 (f1 or_else (f2 or_else f3)) e in
-    let n1 = else_none f1 (f2 or_else f3) n0.1 in
+    let n0 = else_none f0 (option_or f1 (option_or f2 f3)) e in
+    let n1 = else_none f1 (option_or f2 f3) n0.1 in
     let n2 = else_none f2 f3 n1.1 in
     let room : a + 5 ≤ length bytes = ltb-false _ _ (then_none (ltb (length bytes) (a + 5)) (length bytes) n2.1) in
     let here : not (ltb (length bytes) (a + 3)) ≡ true = ap not (le-ltb (length bytes) (a + 3) (omega arith)) in
@@ -229,7 +229,7 @@ pub gapped_was : (bytes : List ℕ) (sites : SitesParts) → AreBytes bytes → 
 unfolding gapped_in gapped
 gapped_was bytes sites fits e =
     let n = word32 bytes 4 in
-    let ok = unless_ok (head_fault bytes 50 or_else gaps_fault bytes 0 n 8) (in_second (gap_sites bytes 0 n 8)) sites e in
+    let ok = unless_ok (option_or (head_fault bytes 50) (gaps_fault bytes 0 n 8)) (in_second (gap_sites bytes 0 n 8)) sites e in
     let both = else_none (head_fault bytes 50) (gaps_fault bytes 0 n 8) ok.0 in
     let head = head_was bytes 50 both.0 in
     let room : 8 ≤ length bytes = head.0 in

@@ -4,6 +4,7 @@ use Rattle.std.specs.Prelude.{◌*◌, not, ◌&&◌, ◌||◌, max, is_none, un
 use Rattle.std.specs.Bool.{then_some}
 use Rattle.std.specs.List.{flat_map}
 use Rattle.std.specs.Int.{w32, to_le_bytes, from_le_bytes}
+use Rattle.std.specs.Option.{option_or}
 use Rattle.std.proofs.lemmas.Bool.{lt-ltb, le-ltb, ltb-false, eqb-true, not-false, or_cases, cases_Bool, agree_below_at, both_ways, or_parts, cond-true, cond-false}
 use Rattle.std.proofs.lemmas.List.{drop_at, drop-drop, take-append-drop, length-append, get_or-append-add, drop_all}
 use Rattle.std.proofs.lemmas.Nat.{from_le_bytes-to_le_bytes_4, le_bytes_4}
@@ -16,7 +17,7 @@ use Rattle.sites.specs.Kinds.{kinds, number, kind_numbered}
 use Rattle.sites.specs.Spelling.{site, placed, AreInForm}
 use Rattle.sites.specs.SitesParts.{SitesParts}
 use Rattle.sites.specs.Reading.{differs, cut_before, falls, has_no_kind, has_wrong_total, unless, head_fault, site_fault, sites_fault, site_at, sites_at, placed_in}
-use Rattle.guest_ram.specs.Places.{◌or_else◌}
+use Rattle.sites.proofs.Walk.{in_first}
 
 -- ---- kinds
 
@@ -135,9 +136,6 @@ head_good bytes v room b0 b1 b2 b3 =
 pub unless_none : (place : Option ℕ) (v : SitesParts) → place ≡ None → unless place v ≡ Ok v
 unless_none place v e = rw e refl
 
-abbrev pub in_first : List Site → SitesParts
-in_first sites = record { list = sites; format = 1 }
-
 pub placed_read : (sites : List Site) → AreInForm 0 sites → length sites < 2 ^ 32 → placed_in (placed sites) ≡ Ok (in_first sites)
 unfolding placed byte word32 part placed_in
 placed_read sites are lt =
@@ -145,13 +143,13 @@ placed_read sites are lt =
     let count : word32 (placed sites) 4 ≡ length sites = from_le_bytes-to_le_bytes_4 (length sites) lt in
     let head : head_fault (placed sites) 49 ≡ None = head_good (placed sites) 49 (omega (arith, length-append front (flat_map site sites))) refl refl refl refl in
     let rest = sites_read sites front 0 8 refl are in
-    let none : (head_fault (placed sites) 49 or_else sites_fault (placed sites) 0 (word32 (placed sites) 4) 8) ≡ None = rw (head, count) rest.0 in
+    let none : option_or (head_fault (placed sites) 49) (sites_fault (placed sites) 0 (word32 (placed sites) 4) 8) ≡ None = rw (head, count) rest.0 in
     let all : sites_at (placed sites) (word32 (placed sites) 4) 8 ≡ sites = rw count rest.1 in
-    unless_none (head_fault (placed sites) 49 or_else sites_fault (placed sites) 0 (word32 (placed sites) 4) 8) (in_first (sites_at (placed sites) (word32 (placed sites) 4) 8)) none ∙ ap (λ (v : List Site). Ok (in_first v)) all
+    unless_none (option_or (head_fault (placed sites) 49) (sites_fault (placed sites) 0 (word32 (placed sites) 4) 8)) (in_first (sites_at (placed sites) (word32 (placed sites) 4) 8)) none ∙ ap (λ (v : List Site). Ok (in_first v)) all
 
 -- ---- what is read is spelled so
 
-pub else_none : (a b : Option ℕ) → (a or_else b) ≡ None → (a ≡ None) × (b ≡ None)
+pub else_none : (a b : Option ℕ) → option_or a b ≡ None → (a ≡ None) × (b ≡ None)
 else_none None b e = (refl, e)
 else_none (Some a) b e = absurd cc
 
@@ -181,9 +179,9 @@ was_site bytes least a e =
     let f2 = then_some (has_wrong_total bytes a) (a + 6) in
     let f3 = then_some (differs bytes (a + 7) 0) (a + 7) in
     let f4 = cut_before bytes (a + 8) in
-    let n0 = else_none f0 (f1 or_else (f2 or_else (f3 or_else f4))) e in
-    let n1 = else_none f1 (f2 or_else (f3 or_else f4)) n0.1 in
-    let n2 = else_none f2 (f3 or_else f4) n1.1 in
+    let n0 = else_none f0 (option_or f1 (option_or f2 (option_or f3 f4))) e in
+    let n1 = else_none f1 (option_or f2 (option_or f3 f4)) n0.1 in
+    let n2 = else_none f2 (option_or f3 f4) n1.1 in
     let n3 = else_none f3 f4 n2.1 in
     let room : a + 8 ≤ length bytes = ltb-false _ _ (then_none (ltb (length bytes) (a + 8)) (length bytes) n3.1) in
     let here : not (ltb (length bytes) (a + 4)) ≡ true = ap not (le-ltb (length bytes) (a + 4) (omega arith)) in
@@ -263,9 +261,9 @@ head_was bytes v e =
     let f2 = then_some (differs bytes 2 83) 2 in
     let f3 = then_some (differs bytes 3 v) 3 in
     let f4 = cut_before bytes 8 in
-    let n0 = else_none f0 (f1 or_else (f2 or_else (f3 or_else f4))) e in
-    let n1 = else_none f1 (f2 or_else (f3 or_else f4)) n0.1 in
-    let n2 = else_none f2 (f3 or_else f4) n1.1 in
+    let n0 = else_none f0 (option_or f1 (option_or f2 (option_or f3 f4))) e in
+    let n1 = else_none f1 (option_or f2 (option_or f3 f4)) n0.1 in
+    let n2 = else_none f2 (option_or f3 f4) n1.1 in
     let n3 = else_none f3 f4 n2.1 in
     let room : 8 ≤ length bytes = ltb-false _ _ (then_none (ltb (length bytes) 8) (length bytes) n3.1) in
     let b0 = same_byte bytes 0 80 (omega arith) (then_none (differs bytes 0 80) 0 n0.0) in
@@ -278,7 +276,7 @@ pub placed_was : (bytes : List ℕ) (sites : SitesParts) → AreBytes bytes → 
 unfolding placed_in placed
 placed_was bytes sites fits e =
     let n = word32 bytes 4 in
-    let ok = unless_ok (head_fault bytes 49 or_else sites_fault bytes 0 n 8) (in_first (sites_at bytes n 8)) sites e in
+    let ok = unless_ok (option_or (head_fault bytes 49) (sites_fault bytes 0 n 8)) (in_first (sites_at bytes n 8)) sites e in
     let both = else_none (head_fault bytes 49) (sites_fault bytes 0 n 8) ok.0 in
     let head = head_was bytes 49 both.0 in
     let room : 8 ≤ length bytes = head.0 in

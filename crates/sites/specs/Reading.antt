@@ -1,6 +1,7 @@
 -- What is read of a list of sites in format 1, or the first bad byte.
 use Rattle.std.specs.Prelude.{◌≡◌, ℕ, zero, suc, ◌+◌, max, Bool, not, ◌&&◌, List, [], ◌∷◌, length, Option, Some, None, Result, Ok, Err, is_none, unwrap_or, nat_lt, ◌==◌}
 use Rattle.std.specs.Bool.{then_some}
+use Rattle.std.specs.Option.{option_or}
 use Rattle.guest_ram.specs.Bytes.{byte, word32}
 use Rattle.sites.specs.declared.site.Site.{Site}
 use Rattle.sites.specs.declared.site.SitesFault.{SitesFault}
@@ -8,7 +9,6 @@ use Rattle.sites.specs.declared.site.SitesFault.TheVariants as faults
 use Rattle.ia32_types.specs.declared.site.SiteKind.TheVariants.{Cli}
 use Rattle.sites.specs.SitesParts.{SitesParts}
 use Rattle.sites.specs.Kinds.{kind_numbered}
-use Rattle.guest_ram.specs.Places.{◌or_else◌}
 
 -- a byte that is there, and isn't v
 abbrev pub differs : List ℕ → ℕ → ℕ → Bool
@@ -21,11 +21,11 @@ cut_before bytes end = then_some (nat_lt (length bytes) end) (length bytes)
 -- The first bad byte of the eight at the front: "PVS", the format's byte, and a count.
 unfoldable pub head_fault : List ℕ → ℕ → Option ℕ
 head_fault bytes format =
-    then_some (differs bytes 0 80) 0
-    or_else (then_some (differs bytes 1 86) 1
-    or_else (then_some (differs bytes 2 83) 2
-    or_else (then_some (differs bytes 3 format) 3
-    or_else cut_before bytes 8)))
+    option_or (then_some (differs bytes 0 80) 0)
+    (option_or (then_some (differs bytes 1 86) 1)
+    (option_or (then_some (differs bytes 2 83) 2)
+    (option_or (then_some (differs bytes 3 format) 3)
+    (cut_before bytes 8))))
 
 -- the bad byte of each field of the site at a, whose offset is to be least or more
 abbrev pub falls : List ℕ → ℕ → ℕ → Bool
@@ -40,16 +40,16 @@ has_wrong_total bytes a = differs bytes (a + 6) (max 5 (byte bytes (a + 5)))
 -- The first bad byte of the site at a.
 unfoldable pub site_fault : List ℕ → ℕ → ℕ → Option ℕ
 site_fault bytes least a =
-    then_some (falls bytes least a) a
-    or_else (then_some (has_no_kind bytes (a + 4)) (a + 4)
-    or_else (then_some (has_wrong_total bytes a) (a + 6)
-    or_else (then_some (differs bytes (a + 7) 0) (a + 7)
-    or_else cut_before bytes (a + 8))))
+    option_or (then_some (falls bytes least a) a)
+    (option_or (then_some (has_no_kind bytes (a + 4)) (a + 4))
+    (option_or (then_some (has_wrong_total bytes a) (a + 6))
+    (option_or (then_some (differs bytes (a + 7) 0) (a + 7))
+    (cut_before bytes (a + 8)))))
 
 -- the first bad byte of n sites from a on, with which the bytes end
 unfoldable pub sites_fault : List ℕ → ℕ → ℕ → ℕ → Option ℕ
 sites_fault bytes least zero a = then_some (nat_lt a (length bytes)) a
-sites_fault bytes least (suc n) a = site_fault bytes least a or_else sites_fault bytes (word32 bytes a + 1) n (a + 8)
+sites_fault bytes least (suc n) a = option_or (site_fault bytes least a) (sites_fault bytes (word32 bytes a + 1) n (a + 8))
 
 unfoldable pub site_at : List ℕ → ℕ → Site
 site_at bytes a = record { at = word32 bytes a; kind = unwrap_or (kind_numbered (byte bytes (a + 4))) Cli; len = byte bytes (a + 5); total = byte bytes (a + 6) }
@@ -64,7 +64,7 @@ unless (Some at) sites = Err at
 
 -- format 1
 unfoldable pub placed_in : List ℕ → Result SitesParts ℕ
-placed_in bytes = unless (head_fault bytes 49 or_else sites_fault bytes 0 (word32 bytes 4) 8) (record { list = sites_at bytes (word32 bytes 4) 8; format = 1 })
+placed_in bytes = unless (option_or (head_fault bytes 49) (sites_fault bytes 0 (word32 bytes 4) 8)) (record { list = sites_at bytes (word32 bytes 4) 8; format = 1 })
 
 -- What `read_sites` returned is what reading gives, unless memory ran out.
 abbrev pub Fails : SitesFault → Result SitesParts ℕ → Type 0
