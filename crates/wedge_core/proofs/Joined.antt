@@ -1,15 +1,11 @@
 -- Runs, one behind the other: their steps, what was seen in them, and how many of their instructions were direct.
 use Rattle.std.proofs.Common.{◌≡◌, ℕ, ◌+◌, List, [], ◌++◌, length, sym, ap, ◌∙◌, length-append, refl, arith}
-use Rattle.machine_model.specs.State.{Setting, State}
-use Rattle.machine_model.specs.Step.{Report, Went}
+use Rattle.machine_model.specs.State.{Setting}
+use Rattle.machine_model.specs.Step.{Report}
 use Rattle.machine_model.specs.Counts.{direct_addresses, passed_on}
 use Rattle.machine_model.proofs.Runs.{addresses_join, passed_join}
 pub use Rattle.machine_model.proofs.Runs.{steps_join, no_steps, steps_one, trace_join}
 use Rattle.wedge_core.specs.Slices.{Counts, CountsOn}
-
--- a step leads to one state
-pub went_there : (a b : Report) (x y : State) → Went a x ≡ Went b y → x ≡ y
-went_there a b x y is = cc
 
 pub counts_join : (m : Setting) (reports later : List Report) (a b c : Counts) → CountsOn m reports a b → CountsOn m later b c → CountsOn m (reports ++ later) a c
 counts_join m reports later a b c p q =

@@ -24,7 +24,7 @@ use Rattle.machine_model.specs.Resting.{resting, nothing}
 use Rattle.native_steps.specs.Stretch.{IsQuiet}
 use Rattle.wedge_core.specs.Slices.{Counts, CountsOn}
 use Rattle.wedge_core.specs.Stepping.{Passes}
-use Rattle.wedge_core.proofs.Joined.{went_there}
+use Rattle.machine_model.proofs.Runs.{went_there}
 
 neither : (a b : Bool) → (a || b) ≡ false → (a ≡ false) × (b ≡ false)
 neither false b h = (refl, h)

@@ -12,7 +12,7 @@ use Rattle.machine_model.specs.Notes.{AreTold, AreLeft, set_told}
 use Rattle.machine_model.proofs.Counting.{each_counts}
 use Rattle.wedge_core.specs.Noted.{emptied_if}
 use Rattle.wedge_core.proofs.EmptiedNotes.{IsUpTo, told_none, told_before}
-use Rattle.wedge_core.proofs.Joined.{went_there}
+use Rattle.machine_model.proofs.Runs.{went_there}
 
 -- before each step the translations are those that the one before left, but for what the notes tell
 pub ToldBy : Setting → State → List Set → List Note → Type 0

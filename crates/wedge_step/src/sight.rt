@@ -7,18 +7,10 @@ ghost use Rattle.native_steps.specs.Mirrors.{shown};
 ghost use Rattle.wedge_step.specs.Standing.{ground};
 
 use crate::opened::TEXT_FRAME;
-use guest_ram::Ram;
+use guest_ram::{Ram, count};
 use image_check::Checked;
 use paging::{Walk, Words};
 use step_mem::read_laid;
-
-/// How many there are, each a byte.
-fn count(bytes: &[u8]) -> usize
-    ensures count { result ≡ length bytes.now }
-    ensures bytes { AreBytes bytes.now }
-{
-    bytes.len()
-}
 
 /// Memory, as the guest sees it, is bytes, in so many frames.
 pub fn are_bytes(ram: &Ram, image: &Checked, frames: u32)
