@@ -1,8 +1,14 @@
 //! Worked annotations, as bytes and in memory.
 
+ghost use Rattle.std.specs.Prelude.{◌<◌, ◌^◌, length};
+
+use crate::agree::are_bytes;
+use crate::vectors::WORKED_SITES;
 use guest_ram::Ram;
 use ia32_types::SiteKind;
 use sites::{Site, Sites, SitesFault, are_gapped, patch, read_sites, write_sites};
+use std::alloc::{AllocError, Global};
+use std::process::Abort;
 use std::test::Fail;
 
 /// OUT at 7 and HLT at 12, each with four NOPs behind it.
@@ -21,9 +27,15 @@ const OUT_AND_HLT: [Site; 2] = [
     },
 ];
 
-const BYTES: [u8; 24] = [
-    0x50, 0x56, 0x53, 0x31, 2, 0, 0, 0, 7, 0, 0, 0, 20, 1, 5, 0, 12, 0, 0, 0, 4, 1, 5, 0,
-];
+/// The bytes are read as those sites in that format.
+fn is_worked(rt: &impl Abort, alloc: Global, bytes: &[u8], format: u8) -> Result<(), Fail>
+    requires { length bytes.now < 2 ^ 32 }
+{
+    let sites = read_sites(alloc, bytes)?;
+    assert!(rt; sites.format == format);
+    assert!(rt; sites.list.as_slice() == OUT_AND_HLT.as_slice());
+    Ok(())
+}
 
 #[test]
 fn writes_the_worked_annotations(rt: HostRuntime) -> Result<(), Fail> {
@@ -31,23 +43,17 @@ fn writes_the_worked_annotations(rt: HostRuntime) -> Result<(), Fail> {
         list: Vec::from_slice(rt.alloc(), &OUT_AND_HLT)?,
         format: 1,
     };
-    let bytes = write_sites(rt.alloc(), &sites)?;
-    assert_eq!(rt; bytes.as_slice(), BYTES.as_slice());
+    are_bytes(&rt, &write_sites(rt.alloc(), &sites)?, WORKED_SITES);
     Ok(())
 }
 
 #[test]
 fn reads_the_worked_annotations(rt: HostRuntime) -> Result<(), Fail> {
-    let sites = read_sites(rt.alloc(), &BYTES)?;
-    assert_eq!(rt; sites.list.as_slice(), OUT_AND_HLT.as_slice());
-    assert_eq!(rt; sites.format, 1);
-    Ok(())
+    is_worked(&rt, rt.alloc(), WORKED_SITES, 1)
 }
 
 /// The same sites by their gaps.
-const GAPS: [u8; 18] = [
-    0x50, 0x56, 0x53, 0x32, 2, 0, 0, 0, 7, 0, 0, 20, 1, 0, 0, 0, 4, 1,
-];
+const GAPS: &[u8] = b"PVS2\x02\0\0\0\x07\0\0\x14\x01\0\0\0\x04\x01";
 
 #[test]
 fn writes_and_reads_the_gaps(rt: HostRuntime) -> Result<(), Fail> {
@@ -56,12 +62,8 @@ fn writes_and_reads_the_gaps(rt: HostRuntime) -> Result<(), Fail> {
         format: 2,
     };
     assert!(rt; are_gapped(&sites.list));
-    let bytes = write_sites(rt.alloc(), &sites)?;
-    assert_eq!(rt; bytes.as_slice(), GAPS.as_slice());
-    let again = read_sites(rt.alloc(), &GAPS)?;
-    assert_eq!(rt; again.list.as_slice(), OUT_AND_HLT.as_slice());
-    assert_eq!(rt; again.format, 2);
-    Ok(())
+    are_bytes(&rt, &write_sites(rt.alloc(), &sites)?, GAPS);
+    is_worked(&rt, rt.alloc(), GAPS, 2)
 }
 
 /// A number of sites, the head that tells it, and what read_sites answers.
@@ -73,29 +75,40 @@ const COUNTED: [Counted; 2] = [
     (256, b"PVS2\0\x01\0\0", Err(1283)),
 ];
 
-#[test]
-fn ends_have_four_bytes(rt: HostRuntime) -> Result<(), Fail> {
-    for row in &COUNTED {
-        let (count, head, want) = *row;
-        let mut bytes = Vec::from_slice(rt.alloc(), head)?;
-        for _ in 0..count {
-            bytes.extend_from_slice(&[0xFF, 0xFF, 0xFF, 1, 1])?;
-        }
-        assert_eq!(rt; answer(&rt, &bytes), want);
-    }
-    Ok(())
-}
-
 /// What read_sites answers: the number of sites, or the place of the fault.
-fn answer(rt: &HostRuntime, bytes: &[u8]) -> Result<usize, u32> {
+fn answer(alloc: Global, bytes: &[u8]) -> Result<usize, u32> {
     if bytes.len() >= 2000 {
         return Err(u32::MAX);
     }
-    match read_sites(rt.alloc(), bytes) {
+    match read_sites(alloc, bytes) {
         Ok(sites) => Ok(sites.list.len()),
         Err(SitesFault::Form { at }) => Err(at),
         Err(SitesFault::Memory) => Err(u32::MAX),
     }
+}
+
+/// The bytes are answered so. `row` names them where they aren't.
+fn is_answered(rt: &impl Abort, alloc: Global, row: usize, bytes: &[u8], want: Result<usize, u32>) {
+    assert_eq!(rt; answer(alloc, bytes), want, "row {row}");
+}
+
+/// That head, and so many times CLI behind the longest gap.
+fn counted(alloc: Global, head: &[u8], count: u32) -> Result<Vec<u8>, AllocError> {
+    let mut bytes = Vec::from_slice(alloc, head)?;
+    for _ in 0..count {
+        bytes.extend_from_slice(&[0xFF, 0xFF, 0xFF, 1, 1])?;
+    }
+    Ok(bytes)
+}
+
+#[test]
+fn ends_have_four_bytes(rt: HostRuntime) -> Result<(), Fail> {
+    for (k, row) in COUNTED.iter().enumerate() {
+        let (count, head, want) = *row;
+        let bytes = counted(rt.alloc(), head, count)?;
+        is_answered(&rt, rt.alloc(), k, &bytes, want);
+    }
+    Ok(())
 }
 
 // An absent section counts as the first of these.
@@ -120,9 +133,9 @@ const ANSWERS: [(&[u8], Result<usize, u32>); 16] = [
 
 #[test]
 fn names_the_first_bad_byte(rt: HostRuntime) {
-    for row in &ANSWERS {
+    for (k, row) in ANSWERS.iter().enumerate() {
         let (bytes, want) = *row;
-        assert_eq!(rt; answer(&rt, bytes), want);
+        is_answered(&rt, rt.alloc(), k, bytes, want);
     }
 }
 
@@ -158,11 +171,9 @@ fn patches_the_text_in_memory(rt: HostRuntime) -> Result<(), Fail> {
         list: Vec::from_slice(rt.alloc(), &CLI_AND_LIDT)?,
         format: 1,
     };
-    assert_eq!(rt; ram.len(), 4096);
-    if ram.len() == 4096 {
-        ram.put(256, &UNPATCHED);
-        patch(&mut ram, 256, &sites);
-        assert_eq!(rt; ram.part(256, 14), PATCHED.as_slice());
-    }
+    assert!(rt; ram.len() == 4096);
+    ram.put(256, &UNPATCHED);
+    patch(&mut ram, 256, &sites);
+    are_bytes(&rt, ram.part(256, 14), &PATCHED);
     Ok(())
 }

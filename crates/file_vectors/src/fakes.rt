@@ -4,6 +4,7 @@ use crate::agree::are_bytes;
 use pv_io::{DiskFiles, Files, IoAnswer, MemFiles, MemSink, Sink, StdSink, SureFiles, SureSink};
 use std::alloc::Global;
 use std::fs;
+use std::process::Abort;
 use std::test::Fail;
 
 fn is_failed(answer: &Result<(), IoAnswer>) -> bool {
@@ -26,12 +27,12 @@ const PIECES: [(&[u8], bool); 6] = [
 #[test]
 fn a_sink_in_memory_fails_by_its_list_and_its_room(rt: HostRuntime) -> Result<(), Fail> {
     let mut out = MemSink::new(rt.alloc(), 8, Vec::from_slice(rt.alloc(), &[1])?)?;
-    for row in &PIECES {
+    for (k, row) in PIECES.iter().enumerate() {
         let (piece, taken) = *row;
-        assert_eq!(rt; out.put(piece).is_ok(), taken);
+        assert!(rt; out.put(piece).is_ok() == taken, "{k}");
     }
     are_bytes(&rt, out.bytes(), b"abcdefgh");
-    assert_eq!(rt; out.faults(), 3);
+    assert!(rt; out.faults() == 3);
     Ok(())
 }
 
@@ -44,23 +45,31 @@ fn a_sure_sink_takes_all(rt: HostRuntime) {
 /// A file's name, the bytes that are stored in it or none where it is loaded, and whether that is done.
 type Call = (&'static str, Option<&'static [u8]>, bool);
 
-/// Whether each call is answered so.
-fn are_answered(files: &mut impl Files, alloc: Global, into: &mut Vec<u8>, calls: &[Call]) -> bool {
-    for call in calls {
-        let (name, bytes, done) = *call;
-        let answer = match bytes {
-            Some(bytes) => files.store(name, bytes),
-            None => files.load(alloc, name, into),
-        };
-        if !(if done {
-            answer.is_ok()
-        } else {
-            is_failed(&answer)
-        }) {
-            return false;
-        }
+/// Whether the call is answered so.
+fn is_answered(files: &mut impl Files, alloc: Global, into: &mut Vec<u8>, call: &Call) -> bool {
+    let (name, bytes, done) = *call;
+    let answer = match bytes {
+        Some(bytes) => files.store(name, bytes),
+        None => files.load(alloc, name, into),
+    };
+    if done {
+        answer.is_ok()
+    } else {
+        is_failed(&answer)
     }
-    true
+}
+
+/// Each call is answered so.
+fn are_answered(
+    rt: &impl Abort,
+    files: &mut impl Files,
+    alloc: Global,
+    into: &mut Vec<u8>,
+    calls: &[Call],
+) {
+    for (k, call) in calls.iter().enumerate() {
+        assert!(rt; is_answered(files, alloc, into, call), "call {k}");
+    }
 }
 
 const FIRST: [Call; 4] = [
@@ -82,11 +91,11 @@ fn files_in_memory_fail_by_their_list(rt: HostRuntime) -> Result<(), Fail> {
     let alloc = rt.alloc();
     let mut files = MemFiles::new(alloc, Vec::from_slice(alloc, &[1, 4])?)?;
     let mut into = Vec::from_slice(alloc, b"> ")?;
-    assert!(rt; are_answered(&mut files, alloc, &mut into, &FIRST));
+    are_answered(&rt, &mut files, alloc, &mut into, &FIRST);
     are_bytes(&rt, &into, b"> one");
-    assert!(rt; are_answered(&mut files, alloc, &mut into, &SECOND));
+    are_answered(&rt, &mut files, alloc, &mut into, &SECOND);
     are_bytes(&rt, &into, b"> oneonethree");
-    assert_eq!(rt; (files.load_faults, files.store_faults), (2, 1));
+    assert!(rt; files.load_faults == 2 && files.store_faults == 1);
     Ok(())
 }
 
@@ -102,7 +111,7 @@ fn sure_files_lack_only_names_that_were_not_stored(rt: HostRuntime) -> Result<()
     let alloc = rt.alloc();
     let mut files = SureFiles::new(alloc)?;
     let mut into = Vec::new(alloc);
-    assert!(rt; are_answered(&mut files, alloc, &mut into, &STORED_TWICE));
+    are_answered(&rt, &mut files, alloc, &mut into, &STORED_TWICE);
     are_bytes(&rt, &into, b"two");
     Ok(())
 }
@@ -123,9 +132,9 @@ fn files_of_the_system_are_read_and_written(rt: HostRuntime) -> Result<(), Fail>
     let alloc = rt.alloc();
     let mut files = DiskFiles::new(&rt);
     let mut into = Vec::from_slice(alloc, b"> ")?;
-    assert!(rt; are_answered(&mut files, alloc, &mut into, &WRITTEN));
+    are_answered(&rt, &mut files, alloc, &mut into, &WRITTEN);
     fs::remove_file(&rt, "stored.bin")?;
-    assert!(rt; are_answered(&mut files, alloc, &mut into, &REMOVED));
+    are_answered(&rt, &mut files, alloc, &mut into, &REMOVED);
     are_bytes(&rt, &into, b"> new\x00\xff");
     Ok(())
 }

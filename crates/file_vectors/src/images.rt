@@ -1,5 +1,6 @@
 //! Images made by hand, and how they are checked.
 
+use crate::vectors::{NO_SITES, WORKED_ENDED, WORKED_SITES};
 use ia32_types::SiteKind;
 use image_check::{AtOffset, CheckFault, Checked, check};
 use sites::Site;
@@ -93,61 +94,87 @@ pub fn answer(alloc: Global, parts: Parts<'_>) -> Result<(u32, u32), AllocError>
     })
 }
 
+/// An image is answered so. `row` names it where it isn't.
+pub fn is_told(
+    rt: &impl Abort,
+    alloc: Global,
+    row: usize,
+    parts: Parts<'_>,
+    want: (u32, u32),
+) -> Result<(), Fail> {
+    assert_eq!(rt; answer(alloc, parts)?, want, "row {row}");
+    Ok(())
+}
+
 /// A text, its annotations, and the answer.
 pub type Told = (&'static [u8], &'static [u8], u32, u32);
 
 /// Each text is answered so.
 pub fn are_told(rt: &impl Abort, alloc: Global, rows: &[Told]) -> Result<(), Fail> {
-    for row in rows {
+    for (k, row) in rows.iter().enumerate() {
         let (text, sites, number, at) = *row;
-        assert_eq!(rt;
-            answer(alloc, image(text, sites))?,
-            (number, at),
-            "{text:?}"
-        );
+        is_told(rt, alloc, k, image(text, sites), (number, at))?;
     }
     Ok(())
 }
 
-// movl $0x3f8,%edx; movb $0x48,%al; outb %al,%dx; hlt, with its end.
-const HELLO: [u8; 19] = [
-    0xBA, 0xF8, 0x03, 0, 0, 0xB0, 0x48, 0xEE, 0x90, 0x90, 0x90, 0x90, 0xF4, 0x90, 0x90, 0x90, 0x90,
-    0xEB, 0xFE,
-];
-
-const HELLO_SITES: [u8; 24] = [
-    0x50, 0x56, 0x53, 0x31, 2, 0, 0, 0, 7, 0, 0, 0, 0x14, 1, 5, 0, 12, 0, 0, 0, 4, 1, 5, 0,
-];
-
-pub const NO_SITES: [u8; 8] = [0x50, 0x56, 0x53, 0x31, 0, 0, 0, 0];
-
 // One site of CLI at offset 5.
-pub const CLI_SITES: [u8; 16] = [0x50, 0x56, 0x53, 0x31, 1, 0, 0, 0, 5, 0, 0, 0, 1, 1, 5, 0];
+pub const CLI_SITES: &[u8] = b"PVS1\x01\0\0\0\x05\0\0\0\x01\x01\x05\0";
 
-/// An offset of that text, and whether it is a start.
-const STARTS: [(u32, bool); 7] = [
-    (0, true),
-    (1, false),
-    (5, true),
-    (7, true),
-    (8, true),
-    (18, false),
-    (19, false),
+// What an accepted image holds.
+#[derive(Clone, Copy)]
+enum Held {
+    Text(&'static [u8]),
+    InitLength(usize),
+    Bss(u32),
+    Entry(u32),
+    Sites(usize),
+    Start(u32, bool),
+    Place(u32, AtOffset),
+    PlaceAt(u32, AtOffset),
+}
+
+fn is_held(image: &Checked, held: Held) -> bool {
+    match held {
+        Held::Text(bytes) => image.text() == bytes,
+        Held::InitLength(len) => image.init().len() == len,
+        Held::Bss(len) => image.bss() == len,
+        Held::Entry(at) => image.entry() == at,
+        Held::Sites(count) => image.sites().list.len() == count,
+        Held::Start(at, wanted) => image.is_start(at) == wanted,
+        Held::Place(at, wanted) => image.place(at) == wanted,
+        Held::PlaceAt(at, wanted) => image.place_at(at) == wanted,
+    }
+}
+
+/// The worked image is accepted, and holds all of these.
+fn are_held(rt: &impl Abort, alloc: Global, all: &[Held]) -> Result<(), Fail> {
+    let file = file(alloc, image(WORKED_ENDED, WORKED_SITES))?;
+    let image = check(alloc, &file)?;
+    for (k, held) in all.iter().enumerate() {
+        assert!(rt; is_held(&image, *held), "{k}");
+    }
+    Ok(())
+}
+
+const ACCEPTED: [Held; 12] = [
+    Held::Text(WORKED_ENDED),
+    Held::InitLength(0),
+    Held::Bss(0),
+    Held::Entry(0x1000_0000),
+    Held::Sites(2),
+    Held::Start(0, true),
+    Held::Start(1, false),
+    Held::Start(5, true),
+    Held::Start(7, true),
+    Held::Start(8, true),
+    Held::Start(18, false),
+    Held::Start(19, false),
 ];
 
 #[test]
 fn an_image_is_accepted(rt: HostRuntime) -> Result<(), Fail> {
-    let file = file(rt.alloc(), image(&HELLO, &HELLO_SITES))?;
-    let image: Checked = check(rt.alloc(), &file)?;
-    assert_eq!(rt; image.text(), HELLO.as_slice());
-    assert_eq!(rt; image.init().len(), 0);
-    assert_eq!(rt; (image.bss(), image.entry()), (0, 0x1000_0000));
-    assert_eq!(rt; image.sites().list.len(), 2);
-    for row in &STARTS {
-        let (at, wanted) = *row;
-        assert_eq!(rt; image.is_start(at), wanted, "at {at}");
-    }
-    Ok(())
+    are_held(&rt, rt.alloc(), &ACCEPTED)
 }
 
 const OUT: AtOffset = AtOffset::Inside(Site {
@@ -164,59 +191,52 @@ const HLT: AtOffset = AtOffset::Inside(Site {
     total: 5,
 });
 
-/// An offset of that text, and what stands there.
-const PLACES: [(u32, AtOffset); 11] = [
-    (0, AtOffset::Outside),
-    (1, AtOffset::NotAStart),
-    (5, AtOffset::Outside),
-    (6, AtOffset::NotAStart),
-    (7, OUT),
-    (11, OUT),
-    (12, HLT),
-    (16, HLT),
-    (17, AtOffset::Outside),
-    (18, AtOffset::NotAStart),
-    (19, AtOffset::NotAStart),
+const PLACES: [Held; 13] = [
+    Held::Place(0, AtOffset::Outside),
+    Held::Place(1, AtOffset::NotAStart),
+    Held::Place(5, AtOffset::Outside),
+    Held::Place(6, AtOffset::NotAStart),
+    Held::Place(7, OUT),
+    Held::Place(11, OUT),
+    Held::Place(12, HLT),
+    Held::Place(16, HLT),
+    Held::Place(17, AtOffset::Outside),
+    Held::Place(18, AtOffset::NotAStart),
+    Held::Place(19, AtOffset::NotAStart),
+    Held::PlaceAt(0x1000_0007, OUT),
+    Held::PlaceAt(7, AtOffset::NotAStart),
 ];
 
 #[test]
 fn an_offset_is_no_start_or_outside_sites_or_in_one(rt: HostRuntime) -> Result<(), Fail> {
-    let file = file(rt.alloc(), image(&HELLO, &HELLO_SITES))?;
-    let image: Checked = check(rt.alloc(), &file)?;
-    for row in &PLACES {
-        let (at, wanted) = *row;
-        assert_eq!(rt; image.place(at), wanted, "at {at}");
-    }
-    assert_eq!(rt; image.place_at(0x1000_0007), OUT);
-    assert_eq!(rt; image.place_at(7), AtOffset::NotAStart);
-    Ok(())
+    are_held(&rt, rt.alloc(), &PLACES)
 }
 
 const FIRST_FAULTS: [Told; 9] = [
     // an empty source
-    (&[0xEB, 0xFE], &NO_SITES, 0, 0),
+    (&[0xEB, 0xFE], NO_SITES, 0, 0),
     // RDTSC; bytes that are no instruction; a cut one
-    (&[0x0F, 0x31, 0xEB, 0xFE], &NO_SITES, 65, 0),
-    (&[0x90, 0x0F, 0xFF, 0xEB, 0xFE], &NO_SITES, 66, 1),
-    (&[0x90, 0xB8, 0, 0], &NO_SITES, 66, 1),
+    (&[0x0F, 0x31, 0xEB, 0xFE], NO_SITES, 65, 0),
+    (&[0x90, 0x0F, 0xFF, 0xEB, 0xFE], NO_SITES, 66, 1),
+    (&[0x90, 0xB8, 0, 0], NO_SITES, 66, 1),
     // no end; nothing at all
-    (&[0x90, 0x90], &NO_SITES, 67, 1),
-    (&[], &NO_SITES, 62, 0),
+    (&[0x90, 0x90], NO_SITES, 67, 1),
+    (&[], NO_SITES, 62, 0),
     // a branch to the second byte of a site, and to the site
     (
         &[0xE9, 1, 0, 0, 0, 0xFA, 0x90, 0x90, 0x90, 0x90, 0xEB, 0xFE],
-        &CLI_SITES,
+        CLI_SITES,
         70,
         0,
     ),
     (
         &[0xE9, 0, 0, 0, 0, 0xFA, 0x90, 0x90, 0x90, 0x90, 0xEB, 0xFE],
-        &CLI_SITES,
+        CLI_SITES,
         0,
         0,
     ),
     // a branch into an instruction
-    (&[0xEB, 1, 0xB8, 0, 0, 0, 0, 0xEB, 0xFE], &NO_SITES, 70, 0),
+    (&[0xEB, 1, 0xB8, 0, 0, 0, 0, 0xEB, 0xFE], NO_SITES, 70, 0),
 ];
 
 #[test]
@@ -227,16 +247,14 @@ fn texts_are_refused_at_their_first_fault(rt: HostRuntime) -> Result<(), Fail> {
 // The first site alone; its head, cut; no site; a site too many, below the first one.
 const WRONG_SITES: [Told; 4] = [
     (
-        &HELLO,
-        &[
-            0x50, 0x56, 0x53, 0x31, 1, 0, 0, 0, 7, 0, 0, 0, 0x14, 1, 5, 0,
-        ],
+        WORKED_ENDED,
+        b"PVS1\x01\0\0\0\x07\0\0\0\x14\x01\x05\0",
         68,
         12,
     ),
-    (&HELLO, b"PV", 69, 2),
-    (&HELLO, &NO_SITES, 68, 7),
-    (&HELLO, &CLI_SITES, 68, 5),
+    (WORKED_ENDED, b"PV", 69, 2),
+    (WORKED_ENDED, NO_SITES, 68, 7),
+    (WORKED_ENDED, CLI_SITES, 68, 5),
 ];
 
 #[test]
@@ -244,29 +262,34 @@ fn annotations_are_those_of_the_sites(rt: HostRuntime) -> Result<(), Fail> {
     are_told(&rt, rt.alloc(), &WRONG_SITES)
 }
 
-/// An entry's offset, and the answer: behind the text, in an instruction, in padding, and a start.
-const ENTRIES: [(u32, u32, u32); 4] = [(19, 64, 0), (1, 71, 1), (9, 71, 9), (7, 0, 0)];
+/// Where the text and the data are, the count of zeroed bytes, the entry's offset, and the answer.
+type Placed = (u32, u32, u32, u32, (u32, u32));
+
+// The entries are behind the text, in an instruction, in padding, and at a start.
+const PLACED: [Placed; 8] = [
+    (0x1000_1000, 0, 0, 0, (60, 0)),
+    (0x1000_0000, 0, 0, 0, (61, 0)),
+    (0x1000_0000, 0x1100_0000, 33_554_432, 0, (0, 0)),
+    (0x1000_0000, 0x1100_0000, 33_554_433, 0, (63, 0)),
+    (0x1000_0000, 0x1100_0000, 0, 19, (64, 0)),
+    (0x1000_0000, 0x1100_0000, 0, 1, (71, 1)),
+    (0x1000_0000, 0x1100_0000, 0, 9, (71, 9)),
+    (0x1000_0000, 0x1100_0000, 0, 7, (0, 0)),
+];
 
 #[test]
 fn parts_stand_in_their_places(rt: HostRuntime) -> Result<(), Fail> {
-    let alloc = rt.alloc();
-    let hello = image(&HELLO, &HELLO_SITES);
-    let mut parts = hello;
-    parts.text_at = 0x1000_1000;
-    parts.init_at = 0;
-    assert_eq!(rt; answer(alloc, parts)?, (60, 0));
-    parts.text_at = 0x1000_0000;
-    assert_eq!(rt; answer(alloc, parts)?, (61, 0));
-    parts = hello;
-    parts.bss = 33_554_432;
-    assert_eq!(rt; answer(alloc, parts)?, (0, 0));
-    parts.bss = 33_554_433;
-    assert_eq!(rt; answer(alloc, parts)?, (63, 0));
-    for row in &ENTRIES {
-        let (entry, number, at) = *row;
-        parts = hello;
-        parts.entry = 0x1000_0000 + entry;
-        assert_eq!(rt; answer(alloc, parts)?, (number, at), "at {entry}");
+    for (k, row) in PLACED.iter().enumerate() {
+        let (text_at, init_at, bss, entry, want) = *row;
+        let parts = Parts {
+            text: WORKED_ENDED,
+            sites: WORKED_SITES,
+            text_at,
+            init_at,
+            bss,
+            entry: entry.wrapping_add(0x1000_0000),
+        };
+        is_told(&rt, rt.alloc(), k, parts, want)?;
     }
     Ok(())
 }

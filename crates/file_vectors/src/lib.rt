@@ -17,6 +17,8 @@ mod links;
 #[cfg(test)]
 mod loaded;
 #[cfg(test)]
+mod object_rows;
+#[cfg(test)]
 mod objects;
 #[cfg(test)]
 mod refusals;

@@ -1,5 +1,7 @@
 //! Items and ends, and their lines.
 
+ghost use Rattle.std.specs.Prelude.{◌≡◌};
+
 use crate::agree::are_bytes;
 use ia32_types::Stop;
 use pv_io::MemSink;
@@ -37,10 +39,25 @@ const STOPS: [(Stop, &str); 16] = [
     (Stop::CodeIsTable, "end steps 15 stop 16 CodeIsTable\n"),
 ];
 
-/// The line of an item.
-fn is_line(rt: &impl Abort, alloc: Global, item: &Item, text: &[u8]) -> Result<(), AllocError> {
+/// What has a line.
+#[derive(Clone, Copy)]
+enum Line {
+    Item(Item),
+    End(Ended),
+}
+
+/// Whether the line is taken.
+fn is_taken(out: &mut MemSink, line: &Line) -> bool {
+    match line {
+        Line::Item(item) => put_item(item, out).is_ok(),
+        Line::End(ended) => put_end(ended, out).is_ok(),
+    }
+}
+
+/// The line is this one.
+fn is_line(rt: &impl Abort, alloc: Global, line: &Line, text: &[u8]) -> Result<(), AllocError> {
     let mut out = MemSink::new(alloc, 64, Vec::new(alloc))?;
-    assert!(rt; put_item(item, &mut out).is_ok());
+    assert!(rt; is_taken(&mut out, line));
     are_bytes(rt, out.bytes(), text);
     Ok(())
 }
@@ -49,35 +66,32 @@ fn is_line(rt: &impl Abort, alloc: Global, item: &Item, text: &[u8]) -> Result<(
 fn items_have_their_lines(rt: HostRuntime) -> Result<(), Fail> {
     for row in &ITEMS {
         let (step, what, text) = *row;
-        is_line(&rt, rt.alloc(), &Item { step, what }, text.as_bytes())?;
+        let line = Line::Item(Item { step, what });
+        is_line(&rt, rt.alloc(), &line, text.as_bytes())?;
     }
-    Ok(())
-}
-
-/// The line of an end.
-fn is_end(rt: &impl Abort, alloc: Global, ended: &Ended, text: &[u8]) -> Result<(), AllocError> {
-    let mut out = MemSink::new(alloc, 64, Vec::new(alloc))?;
-    assert!(rt; put_end(ended, &mut out).is_ok());
-    are_bytes(rt, out.bytes(), text);
     Ok(())
 }
 
 #[test]
 fn ends_have_their_lines(rt: HostRuntime) -> Result<(), Fail> {
-    let mut ended = Ended {
-        steps: 0,
-        end: End::Bound,
-        fills: 7,
-    };
+    let mut steps = 0u64;
     for row in &STOPS {
         let (stop, text) = *row;
-        ended.end = End::Stopped(stop);
-        is_end(&rt, rt.alloc(), &ended, text.as_bytes())?;
-        ended.steps = ended.steps.saturating_add(1);
+        let end = End::Stopped(stop);
+        let line = Line::End(Ended {
+            steps,
+            end,
+            fills: 7,
+        });
+        is_line(&rt, rt.alloc(), &line, text.as_bytes())?;
+        steps = steps.saturating_add(1);
     }
-    ended.end = End::Bound;
-    ended.fills = 0;
-    is_end(&rt, rt.alloc(), &ended, b"end steps 16\n")?;
+    let line = Line::End(Ended {
+        steps,
+        end: End::Bound,
+        fills: 0,
+    });
+    is_line(&rt, rt.alloc(), &line, b"end steps 16\n")?;
     Ok(())
 }
 
@@ -85,31 +99,24 @@ fn ends_have_their_lines(rt: HostRuntime) -> Result<(), Fail> {
 fn a_line_is_one_call_of_the_sink(rt: HostRuntime) -> Result<(), Fail> {
     let mut out = MemSink::new(rt.alloc(), 64, Vec::from_slice(rt.alloc(), &[1])?)?;
     let what = What::Irq(0x2f);
-    assert!(rt; put_item(&Item { step: 3, what }, &mut out).is_ok());
-    assert!(rt; put_item(&Item { step: 4, what }, &mut out).is_err());
-    let end = End::Bound;
-    assert!(rt;
-        put_end(
-            &Ended {
-                steps: 5,
-                end,
-                fills: 0
-            },
-            &mut out
-        )
-        .is_ok()
-    );
+    let end = Line::End(Ended {
+        steps: 5,
+        end: End::Bound,
+        fills: 0,
+    });
+    assert!(rt; is_taken(&mut out, &Line::Item(Item { step: 3, what })));
+    assert!(rt; !is_taken(&mut out, &Line::Item(Item { step: 4, what })));
+    assert!(rt; is_taken(&mut out, &end));
     are_bytes(&rt, out.bytes(), b"3 irq 2f\nend steps 5\n");
-    assert_eq!(rt; out.faults(), 1);
+    assert!(rt; out.faults() == 1);
     Ok(())
 }
 
-#[test]
-fn a_step_has_a_line_for_each_item(rt: HostRuntime) -> Result<(), Fail> {
-    let mut out = MemSink::new(rt.alloc(), 64, Vec::new(rt.alloc()))?;
+/// A write of a port, and the byte that it sends.
+fn out_and_sent() -> StepItems
+    ensures { result.len ≡ 2 }
+{
     let mut items = StepItems::new();
-    assert!(rt; put_step(&items, &mut out).is_ok());
-    are_bytes(&rt, out.bytes(), b"");
     items.add(Item {
         step: 2,
         what: What::Out8(0x3f8, 0x48),
@@ -118,7 +125,15 @@ fn a_step_has_a_line_for_each_item(rt: HostRuntime) -> Result<(), Fail> {
         step: 2,
         what: What::Sent(0x48),
     });
-    assert!(rt; put_step(&items, &mut out).is_ok());
+    items
+}
+
+#[test]
+fn a_step_has_a_line_for_each_item(rt: HostRuntime) -> Result<(), Fail> {
+    let mut out = MemSink::new(rt.alloc(), 64, Vec::new(rt.alloc()))?;
+    assert!(rt; put_step(&StepItems::new(), &mut out).is_ok());
+    are_bytes(&rt, out.bytes(), b"");
+    assert!(rt; put_step(&out_and_sent(), &mut out).is_ok());
     are_bytes(&rt, out.bytes(), b"2 out8 03f8 48\n2 tx 48\n");
     Ok(())
 }
@@ -126,18 +141,9 @@ fn a_step_has_a_line_for_each_item(rt: HostRuntime) -> Result<(), Fail> {
 #[test]
 fn a_step_ends_at_a_line_that_is_not_taken(rt: HostRuntime) -> Result<(), Fail> {
     let mut out = MemSink::new(rt.alloc(), 64, Vec::from_slice(rt.alloc(), &[1])?)?;
-    let mut items = StepItems::new();
-    items.add(Item {
-        step: 2,
-        what: What::Out8(0x3f8, 0x48),
-    });
-    items.add(Item {
-        step: 2,
-        what: What::Sent(0x48),
-    });
-    assert!(rt; put_step(&items, &mut out).is_err());
+    assert!(rt; put_step(&out_and_sent(), &mut out).is_err());
     are_bytes(&rt, out.bytes(), b"2 out8 03f8 48\n");
-    assert_eq!(rt; out.faults(), 1);
+    assert!(rt; out.faults() == 1);
     Ok(())
 }
 

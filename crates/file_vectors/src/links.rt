@@ -1,80 +1,25 @@
 //! Objects made by hand, and the images that they make.
 
-use crate::agree::are_bytes;
-use elf_form::{Bytes, DefinedIn, Image, Object, Reloc, Symbol};
+use crate::agree::{Held, are_held};
+use crate::object_rows::{EMPTY, Parts, WORKED, object, objects, symbol};
+use crate::vectors::{WORKED_ENDED, WORKED_SITES};
+use elf_form::{DefinedIn, Image, Object, Reloc};
 use elf_link::{LinkCause, LinkFault, are_linkable, link, linked};
 use std::alloc::{AllocError, Global};
+use std::process::Abort;
 use std::test::Fail;
 
-/// A symbol's name, place and value, and whether it is global.
-type Named = (&'static [u8], DefinedIn, u32, bool);
-
-/// What an object has.
-#[derive(Clone, Copy)]
-struct Parts {
-    text: &'static [u8],
-    init: &'static [u8],
-    bss: u32,
-    sites: &'static [u8],
-    symbols: &'static [Named],
-    relocs: &'static [Reloc],
-}
-
-/// Nothing, and annotations without sites.
-const EMPTY: Parts = Parts {
-    text: b"",
-    init: b"",
-    bss: 0,
-    sites: b"PVS1\0\0\0\0",
-    symbols: &[],
-    relocs: &[],
-};
-
-fn symbol(alloc: Global, row: &Named) -> Result<Symbol, AllocError> {
-    let (name, place, value, global) = *row;
-    Ok(Symbol {
-        name: Bytes {
-            list: Vec::from_slice(alloc, name)?,
-        },
-        place,
-        value,
-        global,
-    })
-}
-
-fn symbols(alloc: Global, rows: &[Named]) -> Result<Vec<Symbol>, AllocError> {
-    let mut list = Vec::new(alloc);
-    for row in rows {
-        list.push(symbol(alloc, row)?)?;
+/// What is told of the objects, if they can be linked at all.
+fn outcome(alloc: Global, objects: &Vec<Object>) -> Option<Result<Image, LinkFault>> {
+    if objects.len() > 64 || !are_linkable(objects) {
+        return None;
     }
-    Ok(list)
-}
-
-fn object(alloc: Global, parts: &Parts) -> Result<Object, AllocError> {
-    Ok(Object {
-        text: Vec::from_slice(alloc, parts.text)?,
-        init: Vec::from_slice(alloc, parts.init)?,
-        bss: parts.bss,
-        sites: Vec::from_slice(alloc, parts.sites)?,
-        symbols: symbols(alloc, parts.symbols)?,
-        relocs: Vec::from_slice(alloc, parts.relocs)?,
-    })
-}
-
-fn objects(alloc: Global, list: &[Parts]) -> Result<Vec<Object>, AllocError> {
-    let mut objects = Vec::new(alloc);
-    for parts in list {
-        objects.push(object(alloc, parts)?)?;
-    }
-    Ok(objects)
+    Some(linked(alloc, objects))
 }
 
 /// The image that the objects make, if they do.
 fn made(alloc: Global, objects: &Vec<Object>) -> Option<Image> {
-    if objects.len() > 64 || !are_linkable(objects) {
-        return None;
-    }
-    linked(alloc, objects).ok()
+    outcome(alloc, objects)?.ok()
 }
 
 /// The file that the objects make, if they do.
@@ -87,10 +32,7 @@ fn written(alloc: Global, objects: &Vec<Object>) -> Option<Vec<u8>> {
 
 /// The object and the cause of a refusal.
 fn refusal(alloc: Global, objects: &Vec<Object>) -> Option<(u32, LinkCause)> {
-    if objects.len() > 64 || !are_linkable(objects) {
-        return None;
-    }
-    match linked(alloc, objects) {
+    match outcome(alloc, objects)? {
         Err(LinkFault::At { object, cause }) => Some((object, cause)),
         Ok(_) | Err(LinkFault::Memory) => None,
     }
@@ -104,65 +46,75 @@ fn numbered(alloc: Global, objects: &Vec<Object>) -> Option<(u32, u8)> {
     }
 }
 
-/// The object and the place of a refusal that has one.
-fn placed(alloc: Global, objects: &Vec<Object>) -> Option<(u32, u32)> {
-    match refusal(alloc, objects) {
-        Some((object, LinkCause::NotText(at))) => Some((object, at)),
-        Some(_) | None => None,
-    }
+/// What the cause of a refusal tells.
+#[derive(Clone, Copy)]
+enum Told {
+    Number(u8),
+    Name(&'static [u8]),
+    Place(u32),
 }
 
-/// Whether the refusal has this name.
-fn names(alloc: Global, objects: &Vec<Object>, want: &[u8]) -> bool {
-    match refusal(alloc, objects) {
-        Some((_, LinkCause::NoSymbol(name) | LinkCause::Doubled(name))) => {
+fn tells(cause: &LinkCause, told: Told) -> bool {
+    match (cause, told) {
+        (cause, Told::Number(number)) => cause.number() == number,
+        (LinkCause::NoSymbol(name) | LinkCause::Doubled(name), Told::Name(want)) => {
             name.list.as_slice() == want
         }
-        Some(_) | None => false,
+        (LinkCause::NotText(at), Told::Place(want)) => *at == want,
+        _ => false,
     }
 }
 
-/// The image of objects that make one.
-fn image(alloc: Global, list: &[Parts]) -> Result<Image, Fail> {
+/// The objects are refused at one of them, by a cause that tells all of these.
+fn are_refused(
+    rt: &impl Abort,
+    alloc: Global,
+    list: &[Parts],
+    object: u32,
+    all: &[Told],
+) -> Result<(), Fail> {
     let objects = objects(alloc, list)?;
-    Ok(made(alloc, &objects).ok_or("refused")?)
+    let (at, cause) = refusal(alloc, &objects).ok_or("linked")?;
+    assert!(rt; at == object);
+    for (k, told) in all.iter().enumerate() {
+        assert!(rt; tells(&cause, *told), "{k}");
+    }
+    Ok(())
 }
 
-/// OUT and HLT with their NOPs.
-const WORKED: Parts = Parts {
-    text: b"\xBA\xF8\x03\0\0\xB0\x48\xEE\x90\x90\x90\x90\xF4\x90\x90\x90\x90",
-    sites: b"PVS1\x02\0\0\0\x07\0\0\0\x14\x01\x05\0\x0C\0\0\0\x04\x01\x05\0",
-    symbols: &[(b"_start", DefinedIn::Text, 0, true)],
-    ..EMPTY
-};
+/// The objects make an image that holds all of these.
+fn make(rt: &impl Abort, alloc: Global, list: &[Parts], all: &[Held]) -> Result<(), Fail> {
+    let objects = objects(alloc, list)?;
+    let image = made(alloc, &objects).ok_or("refused")?;
+    are_held(rt, &image, all);
+    Ok(())
+}
 
-/// The worked text and its end.
-const WORKED_TEXT: &[u8] =
-    b"\xBA\xF8\x03\0\0\xB0\x48\xEE\x90\x90\x90\x90\xF4\x90\x90\x90\x90\xEB\xFE";
+const WORKED_IMAGE: [Held; 5] = [
+    Held::Text(WORKED_ENDED),
+    Held::Sites(WORKED_SITES),
+    Held::Init(b""),
+    Held::Entry(0x1000_0000),
+    Held::Bss(0),
+];
 
 #[test]
 fn links_the_worked_object(rt: HostRuntime) -> Result<(), Fail> {
-    let image = image(rt.alloc(), &[WORKED])?;
-    are_bytes(&rt, &image.text, WORKED_TEXT);
-    are_bytes(&rt, &image.sites, WORKED.sites);
-    are_bytes(&rt, &image.init, b"");
-    assert_eq!(rt; (image.entry, image.bss), (0x1000_0000, 0));
-    Ok(())
+    make(&rt, rt.alloc(), &[WORKED], &WORKED_IMAGE)
 }
+
+const END_ALONE: [Held; 2] = [Held::Text(b"\xEB\xFE"), Held::Entry(0x1000_0000)];
 
 #[test]
 fn makes_an_image_of_no_object(rt: HostRuntime) -> Result<(), Fail> {
-    let image = image(rt.alloc(), &[])?;
-    are_bytes(&rt, &image.text, b"\xEB\xFE");
-    assert_eq!(rt; image.entry, 0x1000_0000);
-    Ok(())
+    make(&rt, rt.alloc(), &[], &END_ALONE)
 }
 
 #[test]
 fn writes_the_file_of_no_object(rt: HostRuntime) -> Result<(), Fail> {
     let objects: Vec<Object> = Vec::new(rt.alloc());
     let file = written(rt.alloc(), &objects).ok_or("refused")?;
-    assert_eq!(rt; file.len() % 4, 0);
+    assert!(rt; file.len() % 4 == 0);
     assert!(rt; file.len() > 4096);
     assert!(rt; file.starts_with(b"\x7FELF"));
     Ok(())
@@ -174,12 +126,11 @@ const RETURNS: Parts = Parts {
     ..EMPTY
 };
 
+const DOUBLED: [Told; 2] = [Told::Number(31), Told::Name(b"f")];
+
 #[test]
 fn refuses_a_name_that_is_defined_twice(rt: HostRuntime) -> Result<(), Fail> {
-    let objects = objects(rt.alloc(), &[RETURNS, RETURNS])?;
-    assert_eq!(rt; numbered(rt.alloc(), &objects), Some((1, 31)));
-    assert!(rt; names(rt.alloc(), &objects, b"f"));
-    Ok(())
+    are_refused(&rt, rt.alloc(), &[RETURNS, RETURNS], 1, &DOUBLED)
 }
 
 /// A call of a name, as GCC writes it: the addend is -4.
@@ -195,12 +146,11 @@ const CALLS: Parts = Parts {
     ..EMPTY
 };
 
+const NOWHERE: [Told; 2] = [Told::Number(30), Told::Name(b"foo")];
+
 #[test]
 fn refuses_a_name_that_is_defined_nowhere(rt: HostRuntime) -> Result<(), Fail> {
-    let objects = objects(rt.alloc(), &[CALLS])?;
-    assert_eq!(rt; numbered(rt.alloc(), &objects), Some((0, 30)));
-    assert!(rt; names(rt.alloc(), &objects, b"foo"));
-    Ok(())
+    are_refused(&rt, rt.alloc(), &[CALLS], 0, &NOWHERE)
 }
 
 /// A call, and what is called.
@@ -221,14 +171,14 @@ static CALL_AND_CALLED: [Parts; 2] = [
 const CALLED_TEXT: &[u8] =
     b"\xE8\x0B\0\0\0\x90\x90\x90\x90\x90\x90\x90\x90\x90\x90\x90\xF4\x90\x90\x90\x90\xC3\xEB\xFE";
 
-const CALLED_SITE: &[u8] = b"PVS1\x01\0\0\0\x10\0\0\0\x04\x01\x05\0";
+const CALLED: [Held; 2] = [
+    Held::Text(CALLED_TEXT),
+    Held::Sites(b"PVS1\x01\0\0\0\x10\0\0\0\x04\x01\x05\0"),
+];
 
 #[test]
 fn calls_across_objects_and_moves_sites(rt: HostRuntime) -> Result<(), Fail> {
-    let image = image(rt.alloc(), &CALL_AND_CALLED)?;
-    are_bytes(&rt, &image.text, CALLED_TEXT);
-    are_bytes(&rt, &image.sites, CALLED_SITE);
-    Ok(())
+    make(&rt, rt.alloc(), &CALL_AND_CALLED, &CALLED)
 }
 
 /// A move of the place of zeroed bytes.
@@ -246,13 +196,15 @@ const ZEROED: Parts = Parts {
     ..EMPTY
 };
 
+const ZEROED_IMAGE: [Held; 3] = [
+    Held::Text(b"\xB8\0\x10\0\x11\xEB\xFE"),
+    Held::Init(b"\x01"),
+    Held::Bss(8191),
+];
+
 #[test]
 fn places_zeroed_bytes_behind_all_data(rt: HostRuntime) -> Result<(), Fail> {
-    let image = image(rt.alloc(), &[ZEROED])?;
-    are_bytes(&rt, &image.text, b"\xB8\0\x10\0\x11\xEB\xFE");
-    are_bytes(&rt, &image.init, b"\x01");
-    assert_eq!(rt; image.bss, 8191);
-    Ok(())
+    make(&rt, rt.alloc(), &[ZEROED], &ZEROED_IMAGE)
 }
 
 static DATA: [Parts; 3] = [
@@ -267,15 +219,17 @@ static DATA: [Parts; 3] = [
     },
 ];
 
+const ALIGNED: [Held; 5] = [
+    Held::InitLength(4098),
+    Held::InitByte(0, 1),
+    Held::InitByte(4095, 0),
+    Held::InitByte(4096, 2),
+    Held::Bss(4094 + 7),
+];
+
 #[test]
 fn aligns_the_data_of_each_object(rt: HostRuntime) -> Result<(), Fail> {
-    let image = image(rt.alloc(), &DATA)?;
-    assert_eq!(rt; image.init.len(), 4098);
-    assert_eq!(rt; image.init.first().copied(), Some(1));
-    assert_eq!(rt; image.init.get(4095).copied(), Some(0));
-    assert_eq!(rt; image.init.get(4096).copied(), Some(2));
-    assert_eq!(rt; image.bss, 4094 + 7);
-    Ok(())
+    make(&rt, rt.alloc(), &DATA, &ALIGNED)
 }
 
 /// The table of a switch, as GCC makes it.
@@ -303,12 +257,14 @@ const SWITCH: Parts = Parts {
     ..EMPTY
 };
 
+const SWITCHED: [Held; 2] = [
+    Held::TextLength(33),
+    Held::Init(b"\x1A\0\0\x10\x10\0\0\x10"),
+];
+
 #[test]
 fn fills_the_table_of_a_gcc_switch(rt: HostRuntime) -> Result<(), Fail> {
-    let image = image(rt.alloc(), &[SWITCH])?;
-    assert_eq!(rt; image.text.len(), 33);
-    are_bytes(&rt, &image.init, b"\x1A\0\0\x10\x10\0\0\x10");
-    Ok(())
+    make(&rt, rt.alloc(), &[SWITCH], &SWITCHED)
 }
 
 /// A call of data.
@@ -335,11 +291,8 @@ static START_IN_DATA: [Parts; 2] = [
 
 #[test]
 fn refuses_branches_and_a_start_outside_text(rt: HostRuntime) -> Result<(), Fail> {
-    let branch = objects(rt.alloc(), &CALL_OF_DATA)?;
-    assert_eq!(rt; placed(rt.alloc(), &branch), Some((1, 1)));
-    let start = objects(rt.alloc(), &START_IN_DATA)?;
-    assert_eq!(rt; placed(rt.alloc(), &start), Some((1, 4)));
-    Ok(())
+    are_refused(&rt, rt.alloc(), &CALL_OF_DATA, 1, &[Told::Place(1)])?;
+    are_refused(&rt, rt.alloc(), &START_IN_DATA, 1, &[Told::Place(4)])
 }
 
 /// Whether the objects make an image, or are refused so.
@@ -459,9 +412,7 @@ static PAST: [Parts; 2] = [
 
 #[test]
 fn refuses_a_site_past_its_text(rt: HostRuntime) -> Result<(), Fail> {
-    let past = objects(rt.alloc(), &PAST)?;
-    assert_eq!(rt; numbered(rt.alloc(), &past), Some((1, 36)));
-    Ok(())
+    are_refused(&rt, rt.alloc(), &PAST, 1, &[Told::Number(36)])
 }
 
 /// An object of so much text that has two sites, at 0 and at an offset.
@@ -474,34 +425,38 @@ fn annotated(alloc: Global, text: usize, second: u8) -> Result<Object, AllocErro
     Ok(object)
 }
 
-/// How much text, the second site's offset, and how the annotations begin; nothing where the text is refused.
-type Gapped = (usize, u8, &'static [u8]);
+/// How much text, the second site's offset, and how the annotations begin; none where the text is refused.
+type Gapped = (usize, u8, Option<&'static [u8]>);
 
 // Sites that overlap can be written by their offsets alone.
 static GAPPED: [Gapped; 4] = [
-    (4_194_302, 1, b"PVS1"),
-    (4_194_302, 9, b"PVS1"),
-    (4_194_303, 1, b""),
+    (4_194_302, 1, Some(b"PVS1")),
+    (4_194_302, 9, Some(b"PVS1")),
+    (4_194_303, 1, None),
     (
         4_194_303,
         9,
-        b"PVS2\x02\0\0\0\0\0\0\x01\x01\x04\0\0\x01\x01",
+        Some(b"PVS2\x02\0\0\0\0\0\0\x01\x01\x04\0\0\x01\x01"),
     ),
 ];
+
+/// Whether the annotations of the object's image begin so, or where none do, whether it is refused for them.
+fn is_gapped(alloc: Global, object: Object, want: Option<&[u8]>) -> Result<bool, AllocError> {
+    let objects = vec![in alloc; object]?;
+    Ok(match (made(alloc, &objects), want) {
+        (Some(image), Some(front)) => image.sites.starts_with(front),
+        (None, None) => numbered(alloc, &objects) == Some((0, 36)),
+        _ => false,
+    })
+}
 
 #[test]
 fn long_texts_have_gaps(rt: HostRuntime) -> Result<(), Fail> {
     let alloc = rt.alloc();
     for row in &GAPPED {
         let (text, second, want) = *row;
-        let objects = vec![in alloc; annotated(alloc, text, second)?]?;
-        match made(alloc, &objects) {
-            Some(image) => assert!(rt; image.sites.starts_with(want) && want.len() > 0),
-            None => {
-                assert_eq!(rt; numbered(alloc, &objects), Some((0, 36)));
-                assert_eq!(rt; want.len(), 0);
-            }
-        }
+        let object = annotated(alloc, text, second)?;
+        assert!(rt; is_gapped(alloc, object, want)?, "{text} {second}");
     }
     Ok(())
 }

@@ -1,109 +1,87 @@
 //! Objects that other tools made, and worked examples.
 
-use crate::agree::are_bytes;
-use crate::vectors::{GCC_OBJECT, WORKED_OBJECT};
-use elf_form::{DefinedIn, ElfCause, ElfFault, Object, Reloc, Symbol, read_object};
+use crate::object_rows::{EMPTY, Parts, WORKED, is_object};
+use crate::vectors::{GCC_OBJECT, NO_SITES, WORKED_OBJECT};
+use elf_form::{DefinedIn, ElfCause, ElfFault, Reloc, read_object};
 use std::alloc::{AllocError, Global};
 use std::process::Abort;
 use std::test::Fail;
 
-const TEXT: &[u8] = b"\xBA\xF8\x03\0\0\xB0\x48\xEE\x90\x90\x90\x90\xF4\x90\x90\x90\x90";
-
-const SITES: &[u8] = b"PVS1\x02\0\0\0\x07\0\0\0\x14\x01\x05\0\x0C\0\0\0\x04\x01\x05\0";
-
-/// The text of the GCC object by objdump -d.
-const GCC_TEXT: &[u8] = b"\x8B\x44\x24\x04\x01\x05\0\0\0\0\xA1\0\0\0\0\x03\x05\0\0\0\0\xC3";
-
-#[test]
-fn reads_the_parts_of_a_gcc_object(rt: HostRuntime) -> Result<(), Fail> {
-    let object = read_object(rt.alloc(), &GCC_OBJECT)?;
-    are_bytes(&rt, &object.text, GCC_TEXT);
-    are_bytes(&rt, &object.init, b"\x07\0\0\0");
-    are_bytes(&rt, &object.sites, b"PVS1\0\0\0\0");
-    assert_eq!(rt; object.bss, 4);
-    Ok(())
-}
-
-/// A symbol's name, place and value, and whether it is global.
-type SymbolRow = (&'static [u8], DefinedIn, u32, bool);
-
-// readelf -s, without the null symbol and that of the source file; a section has no name
-const GCC_SYMBOLS: [SymbolRow; 5] = [
-    (b"", DefinedIn::Bss, 0, false),
-    (b"zeroed", DefinedIn::Bss, 0, false),
-    (b"add", DefinedIn::Text, 0, true),
-    (b"far_away", DefinedIn::Undefined, 0, true),
-    (b"near", DefinedIn::Init, 0, true),
-];
-
-/// The symbol is this one.
-fn is_symbol(rt: &impl Abort, symbol: &Symbol, row: &SymbolRow) {
-    let (name, place, value, global) = *row;
-    are_bytes(rt, &symbol.name.list, name);
-    assert_eq!(rt; symbol.place, place);
-    assert_eq!(rt; (symbol.value, symbol.global), (value, global));
-}
-
-/// These are all the symbols of an object.
-fn are_symbols(rt: &impl Abort, object: &Object, rows: &[SymbolRow]) {
-    assert_eq!(rt; object.symbols.len(), rows.len());
-    for (symbol, row) in object.symbols.iter().zip(rows) {
-        is_symbol(rt, symbol, row);
-    }
-}
+/// The object of GCC: the text by objdump -d; the symbols by readelf -s, without the null one and that of the source file,
+/// where a section has no name; the relocations by readelf -r, of .bss, far_away and near, each R_386_32.
+const GCC: Parts = Parts {
+    text: b"\x8B\x44\x24\x04\x01\x05\0\0\0\0\xA1\0\0\0\0\x03\x05\0\0\0\0\xC3",
+    init: b"\x07\0\0\0",
+    bss: 4,
+    sites: NO_SITES,
+    symbols: &[
+        (b"", DefinedIn::Bss, 0, false),
+        (b"zeroed", DefinedIn::Bss, 0, false),
+        (b"add", DefinedIn::Text, 0, true),
+        (b"far_away", DefinedIn::Undefined, 0, true),
+        (b"near", DefinedIn::Init, 0, true),
+    ],
+    relocs: &[
+        Reloc {
+            in_text: true,
+            at: 6,
+            symbol: 0,
+            relative: false,
+        },
+        Reloc {
+            in_text: true,
+            at: 11,
+            symbol: 3,
+            relative: false,
+        },
+        Reloc {
+            in_text: true,
+            at: 17,
+            symbol: 4,
+            relative: false,
+        },
+    ],
+};
 
 #[test]
-fn reads_the_symbols_of_a_gcc_object(rt: HostRuntime) -> Result<(), Fail> {
+fn reads_an_object_of_gcc(rt: HostRuntime) -> Result<(), Fail> {
     let object = read_object(rt.alloc(), &GCC_OBJECT)?;
-    are_symbols(&rt, &object, &GCC_SYMBOLS);
-    Ok(())
-}
-
-// readelf -r: .bss, far_away, near, each R_386_32
-const GCC_RELOCS: [Reloc; 3] = [
-    Reloc {
-        in_text: true,
-        at: 6,
-        symbol: 0,
-        relative: false,
-    },
-    Reloc {
-        in_text: true,
-        at: 11,
-        symbol: 3,
-        relative: false,
-    },
-    Reloc {
-        in_text: true,
-        at: 17,
-        symbol: 4,
-        relative: false,
-    },
-];
-
-#[test]
-fn reads_the_relocations_of_a_gcc_object(rt: HostRuntime) -> Result<(), Fail> {
-    let object = read_object(rt.alloc(), &GCC_OBJECT)?;
-    assert_eq!(rt; object.relocs.as_slice(), GCC_RELOCS.as_slice());
+    is_object(&rt, &object, &GCC);
     Ok(())
 }
 
 #[test]
 fn reads_a_worked_object(rt: HostRuntime) -> Result<(), Fail> {
     let object = read_object(rt.alloc(), &WORKED_OBJECT)?;
-    are_bytes(&rt, &object.text, TEXT);
-    are_bytes(&rt, &object.sites, SITES);
-    are_symbols(&rt, &object, &[(b"_start", DefinedIn::Text, 0, true)]);
+    is_object(&rt, &object, &WORKED);
     Ok(())
 }
 
-/// The place and the cause of a fault; none where the file was read.
-fn fault<T: Drop>(answer: Result<T, ElfFault>) -> Option<(u32, ElfCause)> {
-    match answer {
+/// The place and the cause of the fault by which a file is refused; none where it is read.
+fn fault(alloc: Global, bytes: &[u8]) -> Option<(u32, ElfCause)> {
+    match read_object(alloc, bytes) {
         Ok(_) => None,
         Err(ElfFault::At { at, cause }) => Some((at, cause)),
         Err(ElfFault::Memory) => Some((u32::MAX, ElfCause::Magic)),
     }
+}
+
+/// The file is refused so. `row` names it where it isn't.
+fn is_refused(rt: &impl Abort, alloc: Global, row: usize, bytes: &[u8], want: (u32, ElfCause)) {
+    assert_eq!(rt; fault(alloc, bytes), Some(want), "row {row}");
+}
+
+/// The worked object with other bytes at some places.
+fn changed(alloc: Global, changes: &[(usize, &[u8])]) -> Result<Vec<u8>, AllocError> {
+    let mut bytes = Vec::from_slice(alloc, &WORKED_OBJECT)?;
+    for (at, with) in changes {
+        for (index, byte) in with.iter().enumerate() {
+            if let Some(place) = bytes.get_mut(at.wrapping_add(index)) {
+                *place = *byte;
+            }
+        }
+    }
+    Ok(bytes)
 }
 
 /// A byte of the worked object that is changed, and the fault.
@@ -127,34 +105,26 @@ const SPOILED: [Spoiled; 12] = [
 
 #[test]
 fn names_the_first_fault(rt: HostRuntime) -> Result<(), Fail> {
-    for row in &SPOILED {
+    for (k, row) in SPOILED.iter().enumerate() {
         let (index, byte, at, cause) = *row;
-        let mut bytes = Vec::from_slice(rt.alloc(), &WORKED_OBJECT)?;
-        if let Some(b) = bytes.get_mut(index) {
-            *b = byte;
-        }
-        assert_eq!(rt;
-            fault(read_object(rt.alloc(), &bytes)),
-            Some((at, cause)),
-            "byte {index}"
-        );
+        let bytes = changed(rt.alloc(), &[(index, [byte].as_slice())])?;
+        is_refused(&rt, rt.alloc(), k, &bytes, (at, cause));
     }
     Ok(())
+}
+
+/// Whether the file is refused as one that ends too early.
+fn is_cut(alloc: Global, bytes: &[u8]) -> bool {
+    match fault(alloc, bytes) {
+        Some((_, cause)) => cause == ElfCause::Truncated,
+        None => false,
+    }
 }
 
 #[test]
 fn reads_no_cut_object(rt: HostRuntime) {
     for len in 0..WORKED_OBJECT.len() {
-        assert!(rt;
-            matches!(
-                read_object(rt.alloc(), &WORKED_OBJECT[..len]),
-                Err(ElfFault::At {
-                    cause: ElfCause::Truncated,
-                    ..
-                })
-            ),
-            "{len}"
-        );
+        assert!(rt; is_cut(rt.alloc(), &WORKED_OBJECT[..len]), "{len}");
     }
 }
 
@@ -182,12 +152,16 @@ fn with_text_first(alloc: Global) -> Result<Vec<u8>, AllocError> {
     )
 }
 
+const UNDEFINED: Parts = Parts {
+    symbols: &[(b"_start", DefinedIn::Undefined, 0, true)],
+    ..WORKED
+};
+
 #[test]
 fn index_zero_names_no_section(rt: HostRuntime) -> Result<(), Fail> {
     let bytes = with_text_first(rt.alloc())?;
     let object = read_object(rt.alloc(), &bytes)?;
-    are_bytes(&rt, &object.text, TEXT);
-    are_symbols(&rt, &object, &[(b"_start", DefinedIn::Undefined, 0, true)]);
+    is_object(&rt, &object, &UNDEFINED);
     Ok(())
 }
 
@@ -214,24 +188,8 @@ fn with_all_headers(alloc: Global) -> Result<Vec<u8>, AllocError> {
 #[test]
 fn reserved_indices_name_no_section(rt: HostRuntime) -> Result<(), Fail> {
     let bytes = with_all_headers(rt.alloc())?;
-    assert_eq!(rt;
-        fault(read_object(rt.alloc(), &bytes)),
-        Some((126, ElfCause::SymbolForm))
-    );
+    is_refused(&rt, rt.alloc(), 0, &bytes, (126, ElfCause::SymbolForm));
     Ok(())
-}
-
-/// The worked object with other bytes at some places.
-fn changed(alloc: Global, changes: &[(usize, &[u8])]) -> Result<Vec<u8>, AllocError> {
-    let mut bytes = Vec::from_slice(alloc, &WORKED_OBJECT)?;
-    for (at, with) in changes {
-        for (index, byte) in with.iter().enumerate() {
-            if let Some(place) = bytes.get_mut(at.wrapping_add(index)) {
-                *place = *byte;
-            }
-        }
-    }
-    Ok(bytes)
 }
 
 /// A field, its index, where the string table has its header, how many headers there are, and the fault's place.
@@ -265,28 +223,27 @@ fn with_index(alloc: Global, row: &Index) -> Result<Vec<u8>, Fail> {
 
 #[test]
 fn indices_of_no_section_name_no_string_table(rt: HostRuntime) -> Result<(), Fail> {
-    for row in &INDICES {
+    for (k, row) in INDICES.iter().enumerate() {
         let bytes = with_index(rt.alloc(), row)?;
-        let at = row.4;
-        assert_eq!(rt;
-            fault(read_object(rt.alloc(), &bytes)),
-            Some((at, ElfCause::StringPlace)),
-            "{at}"
-        );
+        is_refused(&rt, rt.alloc(), k, &bytes, (row.4, ElfCause::StringPlace));
     }
     Ok(())
 }
 
-#[test]
-fn an_object_without_sections_is_read(rt: HostRuntime) -> Result<(), Fail> {
-    // Its header names no section table, and a table of names that isn't there.
+/// The worked object's header alone, which names no section table, and a table of names that isn't there.
+fn without_sections(alloc: Global) -> Result<Vec<u8>, AllocError> {
     let mut bytes = changed(
-        rt.alloc(),
+        alloc,
         &[(32, [0, 0, 0, 0].as_slice()), (48, [0, 0, 7, 0].as_slice())],
     )?;
     bytes.truncate(52);
+    Ok(bytes)
+}
+
+#[test]
+fn an_object_without_sections_is_read(rt: HostRuntime) -> Result<(), Fail> {
+    let bytes = without_sections(rt.alloc())?;
     let object = read_object(rt.alloc(), &bytes)?;
-    assert_eq!(rt; (object.text.len(), object.symbols.len()), (0, 0));
-    are_bytes(&rt, &object.sites, b"PVS1\0\0\0\0");
+    is_object(&rt, &object, &EMPTY);
     Ok(())
 }

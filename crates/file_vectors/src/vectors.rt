@@ -31,7 +31,21 @@ pub static GCC_OBJECT: [u8; 672] = [
     0, 0, 1, 0, 0, 0, 0, 0, 0, 0,
 ];
 
-/// An object with the text of a worked example and its annotations, and the global symbol
+/// The worked example's text: `movl $0x3f8,%edx`, `movb $0x48,%al`, OUT at 7 and HLT at 12, each of
+/// these two with four NOPs behind it.
+pub const WORKED_TEXT: &[u8] = b"\xBA\xF8\x03\0\0\xB0\x48\xEE\x90\x90\x90\x90\xF4\x90\x90\x90\x90";
+
+/// The same with the end of an image behind it.
+pub const WORKED_ENDED: &[u8] =
+    b"\xBA\xF8\x03\0\0\xB0\x48\xEE\x90\x90\x90\x90\xF4\x90\x90\x90\x90\xEB\xFE";
+
+/// Its annotations.
+pub const WORKED_SITES: &[u8] = b"PVS1\x02\0\0\0\x07\0\0\0\x14\x01\x05\0\x0C\0\0\0\x04\x01\x05\0";
+
+/// Annotations without sites.
+pub const NO_SITES: &[u8] = b"PVS1\0\0\0\0";
+
+/// An object with that text and those annotations, and the global symbol
 /// `_start` at its beginning. `readelf -a` shows it with no warning, and GNU `ld -r` links it.
 pub static WORKED_OBJECT: [u8; 612] = [
     127, 69, 76, 70, 1, 1, 1, 0, 0, 0, 0, 0, 0, 0, 0, 0, 1, 0, 3, 0, 1, 0, 0, 0, 0, 0, 0, 0, 0, 0,

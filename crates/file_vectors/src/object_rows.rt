@@ -1,0 +1,114 @@
+//! Objects as rows of their parts.
+
+ghost use Rattle.std.specs.Prelude.{◌≡◌, length, IfOk};
+
+use crate::agree::are_bytes;
+use crate::vectors::{NO_SITES, WORKED_SITES, WORKED_TEXT};
+use elf_form::{Bytes, DefinedIn, Object, Reloc, Symbol};
+use std::alloc::{AllocError, Global};
+use std::process::Abort;
+
+/// A symbol's name, place and value, and whether it is global.
+pub type Named = (&'static [u8], DefinedIn, u32, bool);
+
+/// What an object has.
+#[derive(Clone, Copy)]
+pub struct Parts {
+    pub text: &'static [u8],
+    pub init: &'static [u8],
+    pub bss: u32,
+    pub sites: &'static [u8],
+    pub symbols: &'static [Named],
+    pub relocs: &'static [Reloc],
+}
+
+/// Nothing, and annotations without sites.
+pub const EMPTY: Parts = Parts {
+    text: b"",
+    init: b"",
+    bss: 0,
+    sites: NO_SITES,
+    symbols: &[],
+    relocs: &[],
+};
+
+/// The worked object, with its symbol.
+pub const WORKED: Parts = Parts {
+    text: WORKED_TEXT,
+    sites: WORKED_SITES,
+    symbols: &[(b"_start", DefinedIn::Text, 0, true)],
+    ..EMPTY
+};
+
+pub fn symbol(alloc: Global, row: &Named) -> Result<Symbol, AllocError>
+    ensures { IfOk result (λ s. length s.name ≡ length row.now.0.now) }
+{
+    let (name, place, value, global) = *row;
+    Ok(Symbol {
+        name: Bytes {
+            list: Vec::from_slice(alloc, name)?,
+        },
+        place,
+        value,
+        global,
+    })
+}
+
+fn symbols(alloc: Global, rows: &[Named]) -> Result<Vec<Symbol>, AllocError> {
+    let mut list = Vec::new(alloc);
+    for row in rows {
+        list.push(symbol(alloc, row)?)?;
+    }
+    Ok(list)
+}
+
+pub fn object(alloc: Global, parts: &Parts) -> Result<Object, AllocError> {
+    Ok(Object {
+        text: Vec::from_slice(alloc, parts.text)?,
+        init: Vec::from_slice(alloc, parts.init)?,
+        bss: parts.bss,
+        sites: Vec::from_slice(alloc, parts.sites)?,
+        symbols: symbols(alloc, parts.symbols)?,
+        relocs: Vec::from_slice(alloc, parts.relocs)?,
+    })
+}
+
+pub fn objects(alloc: Global, list: &[Parts]) -> Result<Vec<Object>, AllocError> {
+    let mut objects = Vec::new(alloc);
+    for parts in list {
+        objects.push(object(alloc, parts)?)?;
+    }
+    Ok(objects)
+}
+
+/// Whether the object's symbol of that number is this one.
+fn is_symbol(object: &Object, number: usize, row: &Named) -> bool {
+    let (name, place, value, global) = *row;
+    match object.symbols.get(number) {
+        None => false,
+        Some(symbol) => {
+            symbol.name.list.as_slice() == name
+                && symbol.place == place
+                && symbol.value == value
+                && symbol.global == global
+        }
+    }
+}
+
+/// These are all the symbols of the object.
+fn are_symbols(rt: &impl Abort, object: &Object, rows: &[Named]) {
+    assert!(rt; object.symbols.len() == rows.len());
+    for (k, row) in rows.iter().enumerate() {
+        assert!(rt; is_symbol(object, k, row), "symbol {k}");
+    }
+}
+
+/// The object has these parts, and nothing else.
+pub fn is_object(rt: &impl Abort, object: &Object, parts: &Parts) {
+    are_bytes(rt, &object.text, parts.text);
+    are_bytes(rt, &object.init, parts.init);
+    are_bytes(rt, &object.sites, parts.sites);
+    assert!(rt; object.bss == parts.bss);
+    are_symbols(rt, object, parts.symbols);
+    assert_eq!(rt; object.relocs.as_slice(), parts.relocs);
+}
