@@ -258,9 +258,13 @@ fn becomes_a_kernel(rt: &impl Abort, alloc: Global, row: usize, kernel: &Kernel<
     follow(rt, alloc, row, &steps);
 }
 
+fn all_become_kernels(rt: &impl Abort, alloc: Global, kernels: &[Kernel<'_>]) {
+    for (row, kernel) in kernels.iter().enumerate() {
+        becomes_a_kernel(rt, alloc, row, kernel);
+    }
+}
+
 #[test]
 fn sources_become_kernels_that_run(rt: HostRuntime) {
-    for (row, kernel) in KERNELS.iter().enumerate() {
-        becomes_a_kernel(&rt, rt.alloc(), row, kernel);
-    }
+    all_become_kernels(&rt, rt.alloc(), &KERNELS);
 }

@@ -248,11 +248,15 @@ fn prints_from_start(
     builds_and_prints(rt, alloc, row, &whole, "12", prints);
 }
 
+fn all_print(rt: &impl Abort, alloc: Global, rows: &[Hostile<'_>]) {
+    for (row, hostile) in rows.iter().enumerate() {
+        prints_from_start(rt, alloc, row, hostile.source, hostile.prints);
+    }
+}
+
 #[test]
 fn stops_end_hostile_kernels(rt: HostRuntime) {
-    for (row, hostile) in ROWS.iter().enumerate() {
-        prints_from_start(&rt, rt.alloc(), row, hostile.source, hostile.prints);
-    }
+    all_print(&rt, rt.alloc(), &ROWS);
 }
 
 #[test]
