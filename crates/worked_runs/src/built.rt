@@ -1,12 +1,11 @@
 //! Kernels from their sources: `burn`, `link`, `check`, and runs of the image on both machines.
 
-use crate::machines::{Prints, both_print};
-use host_cpl3::Machine;
+use crate::commands::{Step, Words, file, follow};
+use crate::machines::Prints;
 use image_check::{Checked, check};
-use pv_io::{Files, IoAnswer, MemFiles, MemSink};
-use pv_tool::{Status, top};
-use std::alloc::{AllocError, Global};
-use std::test::Fail;
+use pv_io::MemFiles;
+use std::alloc::Global;
+use std::process::Abort;
 
 /// A source, what `burn`, `link` and `check` print of it, and runs of its image.
 #[derive(Clone, Copy)]
@@ -20,42 +19,47 @@ struct Kernel<'a> {
     prints: Prints<'a>,
 }
 
-pub fn words(alloc: Global, all: &[&str]) -> Result<Vec<String>, AllocError> {
-    let mut words = Vec::new(alloc);
-    for word in all {
-        words.push(String::from_str(alloc, word)?)?;
-    }
-    Ok(words)
-}
+pub const BURN: Words<'static> = &["burn", "S", "O"];
 
-/// The status and the output of a list of words.
-pub fn answer(
-    alloc: Global,
-    files: &mut MemFiles,
-    all: &[&str],
-) -> Result<(Status, MemSink), IoAnswer> {
-    let mut out = MemSink::new(alloc, 4096, Vec::new(alloc))?;
-    let words = words(alloc, all)?;
-    let status = top(alloc, &words, files, &mut out, &mut Machine::new());
-    Ok((status, out))
-}
+pub const LINK: Words<'static> = &["link", "I", "O"];
+
+pub const CHECK: Words<'static> = &["check", "I"];
 
 /// Files with a source S, its object O and image I, and an empty script B.
-pub fn linked(alloc: Global, source: &[u8]) -> Result<MemFiles, IoAnswer> {
-    let mut files = MemFiles::new(alloc, Vec::new(alloc))?;
-    files.store("S", source)?;
-    files.store("B", b"")?;
-    answer(alloc, &mut files, &["burn", "S", "O"])?;
-    answer(alloc, &mut files, &["link", "I", "O"])?;
-    Ok(files)
+pub fn linked(rt: &impl Abort, alloc: Global, source: &[u8]) -> MemFiles {
+    let steps = [
+        Step::Store("S", source),
+        Step::Store("B", b""),
+        Step::Do(BURN),
+        Step::Do(LINK),
+    ];
+    follow(rt, alloc, 0, &steps)
 }
 
 /// The image of a source.
-pub fn image_of(alloc: Global, source: &[u8]) -> Result<Checked, Fail> {
-    let mut files = linked(alloc, source)?;
-    let mut bytes = Vec::new(alloc);
-    files.load(alloc, "I", &mut bytes)?;
-    Ok(check(alloc, &bytes)?)
+pub fn image_of(rt: &impl Abort, alloc: Global, source: &[u8]) -> Checked {
+    let mut files = linked(rt, alloc, source);
+    let bytes = file(rt, alloc, &mut files, "I");
+    check(alloc, &bytes).expect(rt, "an image")
+}
+
+/// Each machine prints what is wanted of the image of a source, with an empty script.
+pub fn builds_and_prints<'x>(
+    rt: &impl Abort,
+    alloc: Global,
+    row: usize,
+    source: &'x [u8],
+    n: &'x str,
+    prints: Prints<'x>,
+) {
+    let steps = [
+        Step::Store("S", source),
+        Step::Store("B", b""),
+        Step::Do(BURN),
+        Step::Do(LINK),
+        Step::Print(n, prints),
+    ];
+    follow(rt, alloc, row, &steps);
 }
 
 const SENDS_A_BYTE: Kernel<'static> = Kernel {
@@ -222,37 +226,45 @@ const ZEROED_PAGE: Kernel<'static> = Kernel {
     prints: Prints::Alike((0, b"end steps 2\n")),
 };
 
-#[test]
-fn sources_become_kernels_that_run(rt: HostRuntime) -> Result<(), Fail> {
-    let alloc = rt.alloc();
-    for kernel in [
-        &SENDS_A_BYTE,
-        &NO_STEP,
-        &EMPTY_SOURCE,
-        &CALL_THROUGH_A_REGISTER,
-        &RETURN_INTO_AN_IMMEDIATE,
-        &TEXT_IS_READ,
-        &TEXT_IS_READ_IN_THE_DIRECT_MAP,
-        &WEDGE_IS_READ,
-        &FLAGS_OF_A_PAGE,
-        &BY_GCC,
-        &SERIAL_LINE,
-        &HALTS_FOR_LONG,
-        &LOADS_CR3,
-        &REPEATED_STORE,
-        &ALIGNED_TEXT,
-        &ZEROED_PAGE,
-    ] {
-        let mut files = MemFiles::new(alloc, Vec::new(alloc))?;
-        files.store("S", kernel.source)?;
-        files.store("B", kernel.script)?;
-        let (_, out) = answer(alloc, &mut files, &["burn", "S", "O"])?;
-        assert_eq!(rt; out.bytes(), kernel.object);
-        let (_, out) = answer(alloc, &mut files, &["link", "I", "O"])?;
-        assert_eq!(rt; out.bytes(), kernel.image);
-        let (_, out) = answer(alloc, &mut files, &["check", "I"])?;
-        assert_eq!(rt; out.bytes(), kernel.accepted);
-        both_print(&rt, alloc, &mut files, kernel.bound, &kernel.prints)?;
+static KERNELS: [Kernel<'static>; 16] = [
+    SENDS_A_BYTE,
+    NO_STEP,
+    EMPTY_SOURCE,
+    CALL_THROUGH_A_REGISTER,
+    RETURN_INTO_AN_IMMEDIATE,
+    TEXT_IS_READ,
+    TEXT_IS_READ_IN_THE_DIRECT_MAP,
+    WEDGE_IS_READ,
+    FLAGS_OF_A_PAGE,
+    BY_GCC,
+    SERIAL_LINE,
+    HALTS_FOR_LONG,
+    LOADS_CR3,
+    REPEATED_STORE,
+    ALIGNED_TEXT,
+    ZEROED_PAGE,
+];
+
+/// A source is burnt, linked and checked, and its image runs, each with what is printed.
+fn becomes_a_kernel(rt: &impl Abort, alloc: Global, row: usize, kernel: &Kernel<'_>) {
+    let steps = [
+        Step::Store("S", kernel.source),
+        Step::Store("B", kernel.script),
+        Step::Tell(BURN, (0, kernel.object)),
+        Step::Tell(LINK, (0, kernel.image)),
+        Step::Tell(CHECK, (0, kernel.accepted)),
+        Step::Print(kernel.bound, kernel.prints),
+    ];
+    follow(rt, alloc, row, &steps);
+}
+
+fn all_become_kernels(rt: &impl Abort, alloc: Global, kernels: &[Kernel<'_>]) {
+    for (row, kernel) in kernels.iter().enumerate() {
+        becomes_a_kernel(rt, alloc, row, kernel);
     }
-    Ok(())
+}
+
+#[test]
+fn sources_become_kernels_that_run(rt: HostRuntime) {
+    all_become_kernels(&rt, rt.alloc(), &KERNELS);
 }

@@ -1,94 +1,112 @@
 //! Damaged files: a small object and its image cut at every length and with every field of their headers spoiled, and a
 //! script cut and spoiled at every byte.
 
-use crate::built::answer;
-use pv_io::{Files, IoAnswer, MemFiles};
+use crate::built::linked;
+use crate::commands::{Step, Words, file, follow};
 use std::alloc::{AllocError, Global};
-use std::test::Fail;
+use std::process::Abort;
 
 const SOURCE: &[u8] = b"_start: movl $0x3f8,%edx; movb $0x48,%al; outb %al,%dx; hlt";
 
 /// The object (`O`) or the image (`I`) of that source.
-fn file(alloc: Global, name: &str) -> Result<Vec<u8>, IoAnswer> {
-    let mut files = MemFiles::new(alloc, Vec::new(alloc))?;
-    files.store("S", SOURCE)?;
-    answer(alloc, &mut files, &["burn", "S", "O"])?;
-    answer(alloc, &mut files, &["link", "I", "O"])?;
-    let mut bytes = Vec::new(alloc);
-    files.load(alloc, name, &mut bytes)?;
-    Ok(bytes)
+fn file_of(rt: &impl Abort, alloc: Global, name: &str) -> Vec<u8> {
+    let mut files = linked(rt, alloc, SOURCE);
+    file(rt, alloc, &mut files, name)
 }
 
-/// The status of `link` of these bytes as an object, its line, and whether it stored an image.
-fn linked(alloc: Global, bytes: &[u8]) -> Result<(u8, Vec<u8>, bool), IoAnswer> {
-    let mut files = MemFiles::new(alloc, Vec::new(alloc))?;
-    files.store("C", bytes)?;
-    let (status, out) = answer(alloc, &mut files, &["link", "J", "C"])?;
-    let mut image = Vec::new(alloc);
-    let stored = files.load(alloc, "J", &mut image).is_ok();
-    Ok((
-        status.number(),
-        Vec::from_slice(alloc, out.bytes())?,
-        stored,
-    ))
+/// The status of a command that prints this line.
+fn status_of(line: &[u8]) -> u8 {
+    if line.starts_with(b"refused ") { 3 } else { 0 }
 }
 
-/// The status of `check` of these bytes as an image, and its line.
-fn checked(alloc: Global, bytes: &[u8]) -> Result<(u8, Vec<u8>), IoAnswer> {
-    let mut files = MemFiles::new(alloc, Vec::new(alloc))?;
-    files.store("C", bytes)?;
-    let (status, out) = answer(alloc, &mut files, &["check", "C"])?;
-    Ok((status.number(), Vec::from_slice(alloc, out.bytes())?))
+/// A command that reads a damaged file as D.
+struct Reader {
+    words: Words<'static>,
+    /// Whether an image is stored as J where it is done.
+    stores: bool,
+    /// What a refusal names.
+    named: &'static str,
+    /// The fields by which a file is refused.
+    fields: &'static [Refusal],
+    /// What is printed where only other fields are spoiled.
+    good: &'static str,
+}
+
+static LINKS: Reader = Reader {
+    words: &["link", "J", "D"],
+    stores: true,
+    named: " object 0",
+    fields: &OBJECT_FIELDS,
+    good: "image text 19 data 0 bss 0 sites 2\n",
+};
+
+static CHECKS: Reader = Reader {
+    words: &["check", "D"],
+    stores: false,
+    named: "",
+    fields: &IMAGE_FIELDS,
+    good: "accepted text 19 data 0 bss 0 sites 2 format 1\n",
+};
+
+/// The command prints this line of these bytes, which are told by their place.
+fn reads_as<'x>(
+    rt: &impl Abort,
+    alloc: Global,
+    reader: &Reader,
+    at: usize,
+    bytes: &'x [u8],
+    line: &'x [u8],
+) {
+    let status = status_of(line);
+    let steps = [
+        Step::Store("D", bytes),
+        Step::Tell(reader.words, (status, line)),
+        Step::Hold("J", reader.stores && status == 0),
+    ];
+    follow(rt, alloc, at, &steps);
 }
 
 /// The lengths or places from one up to another, and the line that is printed for each.
 type Stretch<'a> = (usize, usize, &'a [u8]);
 
+/// The file is cut at each length of a row.
+fn cut_reads_as(rt: &impl Abort, alloc: Global, reader: &Reader, file: &[u8], row: &Stretch<'_>) {
+    let (from, to, line) = *row;
+    for len in from..to {
+        let cut = file.get(..len).expect(rt, "short");
+        reads_as(rt, alloc, reader, len, cut, line);
+    }
+}
+
 // The object's section table begins at 212 and ends the file.
-const CUT_OBJECTS: [Stretch<'static>; 2] = [
+static CUT_OBJECTS: [Stretch<'static>; 2] = [
     (0, 52, b"refused 40 object 0 at 0\n"),
     (52, 612, b"refused 40 object 0 at 212\n"),
 ];
 
 #[test]
-fn cut_objects_are_refused_by_the_part_that_is_cut(rt: HostRuntime) -> Result<(), Fail> {
-    let alloc = rt.alloc();
-    let object = file(alloc, "O")?;
+fn cut_objects_are_refused_by_the_part_that_is_cut(rt: HostRuntime) {
+    let object = file_of(&rt, rt.alloc(), "O");
     assert_eq!(rt; object.len(), 612);
     for row in &CUT_OBJECTS {
-        let (from, to, line) = *row;
-        for len in from..to {
-            let cut = object.as_slice().get(..len).ok_or("short")?;
-            let (status, told, stored) = linked(alloc, cut)?;
-            assert_eq!(rt; told.as_slice(), line, "{len}");
-            assert!(rt; status == 3 && !stored);
-        }
+        cut_reads_as(&rt, rt.alloc(), &LINKS, &object, row);
     }
-    Ok(())
 }
 
 // The image's program headers begin at 52, and its section table ends the file at 8,496.
-const CUT_IMAGES: [Stretch<'static>; 3] = [
+static CUT_IMAGES: [Stretch<'static>; 3] = [
     (0, 52, b"refused 40 at 0\n"),
     (52, 116, b"refused 40 at 52\n"),
     (116, 8496, b"refused 40 at 8256\n"),
 ];
 
 #[test]
-fn cut_images_are_refused_by_the_part_that_is_cut(rt: HostRuntime) -> Result<(), Fail> {
-    let alloc = rt.alloc();
-    let image = file(alloc, "I")?;
+fn cut_images_are_refused_by_the_part_that_is_cut(rt: HostRuntime) {
+    let image = file_of(&rt, rt.alloc(), "I");
     assert_eq!(rt; image.len(), 8496);
     for row in &CUT_IMAGES {
-        let (from, to, line) = *row;
-        for len in from..to {
-            let cut = image.as_slice().get(..len).ok_or("short")?;
-            let (status, told) = checked(alloc, cut)?;
-            assert_eq!(rt; told.as_slice(), line, "{len}");
-            assert_eq!(rt; status, 3);
-        }
+        cut_reads_as(&rt, rt.alloc(), &CHECKS, &image, row);
     }
-    Ok(())
 }
 
 /// The file with 0xFFFFFFFF at a place.
@@ -227,57 +245,50 @@ const IMAGE_FIELDS: [Refusal; 34] = [
     (8476, 40, 8216),
 ];
 
-#[test]
-fn spoiled_fields_of_objects_are_refused_or_ignored(rt: HostRuntime) -> Result<(), Fail> {
-    let alloc = rt.alloc();
-    let object = file(alloc, "O")?;
-    let good = b"image text 19 data 0 bss 0 sites 2\n".as_slice();
-    for row in &[(20, 5), (212, 100)] {
-        let (from, count) = *row;
-        for index in 0..count {
-            let at = from + 4 * index;
-            let (status, told, stored) = linked(alloc, &spoiled(alloc, &object, at)?)?;
-            match refusal(&OBJECT_FIELDS, at) {
-                Some((cause, place)) => {
-                    let line = format!(in alloc; "refused {cause} object 0 at {place}\n")?;
-                    assert_eq!(rt; told.as_slice(), line.as_bytes(), "{at}");
-                    assert_eq!(rt; status, 3);
-                    assert!(rt; !stored);
-                }
-                None => {
-                    assert_eq!(rt; told.as_slice(), good, "{at}");
-                    assert!(rt; status == 0 && stored);
-                }
-            }
+/// The line of a file that is spoiled at a place.
+fn line_of(alloc: Global, reader: &Reader, at: usize) -> Result<String, AllocError> {
+    match refusal(reader.fields, at) {
+        Some((cause, place)) => {
+            format!(in alloc; "refused {cause}{} at {place}\n", reader.named)
         }
+        None => String::from_str(alloc, reader.good),
     }
-    Ok(())
+}
+
+fn spoiled_reads_as(rt: &impl Abort, alloc: Global, reader: &Reader, file: &[u8], at: usize) {
+    let bytes = spoiled(alloc, file, at).expect(rt, "memory");
+    let line = line_of(alloc, reader, at).expect(rt, "memory");
+    reads_as(rt, alloc, reader, at, &bytes, line.as_bytes());
+}
+
+/// The fields from one place up to another are spoiled, each in turn.
+fn fields_read_as(
+    rt: &impl Abort,
+    alloc: Global,
+    reader: &Reader,
+    file: &[u8],
+    row: (usize, usize),
+) {
+    let (from, to) = row;
+    for at in (from..to).step_by(4) {
+        spoiled_reads_as(rt, alloc, reader, file, at);
+    }
 }
 
 #[test]
-fn spoiled_fields_of_images_are_refused_or_ignored(rt: HostRuntime) -> Result<(), Fail> {
-    let alloc = rt.alloc();
-    let image = file(alloc, "I")?;
-    let good = b"accepted text 19 data 0 bss 0 sites 2 format 1\n".as_slice();
-    for row in &[(20, 5), (52, 16), (8256, 60)] {
-        let (from, count) = *row;
-        for index in 0..count {
-            let at = from + 4 * index;
-            let (status, told) = checked(alloc, &spoiled(alloc, &image, at)?)?;
-            match refusal(&IMAGE_FIELDS, at) {
-                Some((cause, place)) => {
-                    let line = format!(in alloc; "refused {cause} at {place}\n")?;
-                    assert_eq!(rt; told.as_slice(), line.as_bytes(), "{at}");
-                    assert_eq!(rt; status, 3);
-                }
-                None => {
-                    assert_eq!(rt; told.as_slice(), good, "{at}");
-                    assert_eq!(rt; status, 0);
-                }
-            }
-        }
+fn spoiled_fields_of_objects_are_refused_or_ignored(rt: HostRuntime) {
+    let object = file_of(&rt, rt.alloc(), "O");
+    for row in [(20, 40), (212, 612)] {
+        fields_read_as(&rt, rt.alloc(), &LINKS, &object, row);
     }
-    Ok(())
+}
+
+#[test]
+fn spoiled_fields_of_images_are_refused_or_ignored(rt: HostRuntime) {
+    let image = file_of(&rt, rt.alloc(), "I");
+    for row in [(20, 40), (52, 116), (8256, 8496)] {
+        fields_read_as(&rt, rt.alloc(), &CHECKS, &image, row);
+    }
 }
 
 const SCRIPT: &[u8] = b"4 rx 41\n\n#x\n5 line 12";
@@ -285,7 +296,7 @@ const SCRIPT: &[u8] = b"4 rx 41\n\n#x\n5 line 12";
 const READ: &[u8] = b"end steps 0\n";
 
 // The script up to each length.
-const CUT: [Stretch<'static>; 6] = [
+static CUT: [Stretch<'static>; 6] = [
     (0, 1, READ),
     (1, 6, b"refused 80 line 1\n"),
     (6, 7, b"refused 81 line 1\n"),
@@ -295,7 +306,7 @@ const CUT: [Stretch<'static>; 6] = [
 ];
 
 // A byte that is no ASCII in the place of each; in that of a newline it belongs to the line that goes on.
-const NOT_ASCII: [Stretch<'static>; 4] = [
+static NOT_ASCII: [Stretch<'static>; 4] = [
     (0, 8, b"refused 84 line 1\n"),
     (8, 9, b"refused 84 line 2\n"),
     (9, 12, b"refused 84 line 3\n"),
@@ -303,7 +314,7 @@ const NOT_ASCII: [Stretch<'static>; 4] = [
 ];
 
 // An A in the place of each byte: it is a hexadecimal digit, and no decimal one.
-const LETTER: [Stretch<'static>; 10] = [
+static LETTER: [Stretch<'static>; 10] = [
     (0, 1, b"refused 81 line 1\n"),
     (1, 5, b"refused 80 line 1\n"),
     (5, 7, READ),
@@ -316,13 +327,32 @@ const LETTER: [Stretch<'static>; 10] = [
     (19, 21, b"refused 81 line 4\n"),
 ];
 
-/// What a run of no step prints under this script.
-fn run(alloc: Global, image: &[u8], script: &[u8]) -> Result<Vec<u8>, IoAnswer> {
-    let mut files = MemFiles::new(alloc, Vec::new(alloc))?;
-    files.store("I", image)?;
-    files.store("B", script)?;
-    let (_, out) = answer(alloc, &mut files, &["run", "--bare", "I", "B", "2048", "0"])?;
-    Ok(Vec::from_slice(alloc, out.bytes())?)
+/// A run of no step prints this line under a script, which is told by its length or by the place where it is changed.
+fn script_reads_as<'x>(
+    rt: &impl Abort,
+    alloc: Global,
+    image: &'x [u8],
+    at: usize,
+    script: &'x [u8],
+    line: &'x [u8],
+) {
+    let steps = [
+        Step::Store("I", image),
+        Step::Store("B", script),
+        Step::Tell(
+            &["run", "--bare", "I", "B", "2048", "0"],
+            (status_of(line), line),
+        ),
+    ];
+    follow(rt, alloc, at, &steps);
+}
+
+fn cut_script_reads_as(rt: &impl Abort, alloc: Global, image: &[u8], row: &Stretch<'_>) {
+    let (from, to, line) = *row;
+    for len in from..to {
+        let script = SCRIPT.get(..len).expect(rt, "short");
+        script_reads_as(rt, alloc, image, len, script, line);
+    }
 }
 
 /// The script with this byte at a place.
@@ -334,24 +364,30 @@ fn changed(alloc: Global, at: usize, byte: u8) -> Result<Vec<u8>, AllocError> {
     Ok(script)
 }
 
+fn changed_script_reads_as(
+    rt: &impl Abort,
+    alloc: Global,
+    image: &[u8],
+    byte: u8,
+    row: &Stretch<'_>,
+) {
+    let (from, to, line) = *row;
+    for at in from..to {
+        let script = changed(alloc, at, byte).expect(rt, "memory");
+        script_reads_as(rt, alloc, image, at, &script, line);
+    }
+}
+
 #[test]
-fn damaged_scripts_are_refused_by_their_line(rt: HostRuntime) -> Result<(), Fail> {
-    let alloc = rt.alloc();
-    let image = file(alloc, "I")?;
+fn damaged_scripts_are_refused_by_their_line(rt: HostRuntime) {
+    let image = file_of(&rt, rt.alloc(), "I");
     for row in &CUT {
-        let (from, to, line) = *row;
-        for len in from..to {
-            let script = SCRIPT.get(..len).ok_or("short")?;
-            assert_eq!(rt; run(alloc, &image, script)?.as_slice(), line, "{len}");
-        }
+        cut_script_reads_as(&rt, rt.alloc(), &image, row);
     }
-    for (rows, byte) in [(NOT_ASCII.as_slice(), 0xFF), (LETTER.as_slice(), b'A')] {
-        for (from, to, line) in rows {
-            for at in *from..*to {
-                let script = changed(alloc, at, byte)?;
-                assert_eq!(rt; run(alloc, &image, &script)?.as_slice(), *line, "{at}");
-            }
-        }
+    for row in &NOT_ASCII {
+        changed_script_reads_as(&rt, rt.alloc(), &image, 0xFF, row);
     }
-    Ok(())
+    for row in &LETTER {
+        changed_script_reads_as(&rt, rt.alloc(), &image, b'A', row);
+    }
 }

@@ -1,8 +1,7 @@
 //! Interrupts, holds, halts and the serial line.
 
-use crate::kernel::{Kernel, runs};
+use crate::kernel::{Kernel, all_run};
 use crate::machines::Prints;
-use std::test::Fail;
 
 // a request waits before STI; the interrupt comes after HLT, and the saved EIP is behind it
 const STI_THEN_HLT: Kernel<'static> = Kernel {
@@ -129,18 +128,16 @@ const HALTED_FOR_EVER: Kernel<'static> = Kernel {
     ..HALTED_FOR_LONG
 };
 
+static KERNELS: [Kernel<'static>; 6] = [
+    STI_THEN_HLT,
+    INTERRUPT_INSIDE_PADDING,
+    POPF_LETS_INTERRUPTS_IN,
+    SERIAL_LINE,
+    HALTED_FOR_LONG,
+    HALTED_FOR_EVER,
+];
+
 #[test]
-fn events_come_at_their_step(rt: HostRuntime) -> Result<(), Fail> {
-    let alloc = rt.alloc();
-    for kernel in [
-        &STI_THEN_HLT,
-        &INTERRUPT_INSIDE_PADDING,
-        &POPF_LETS_INTERRUPTS_IN,
-        &SERIAL_LINE,
-        &HALTED_FOR_LONG,
-        &HALTED_FOR_EVER,
-    ] {
-        runs(&rt, alloc, kernel)?;
-    }
-    Ok(())
+fn events_come_at_their_step(rt: HostRuntime) {
+    all_run(&rt, rt.alloc(), &KERNELS);
 }

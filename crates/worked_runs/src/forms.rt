@@ -1,7 +1,6 @@
 //! The forms of descriptors and gates.
 
 use descriptors::{Descriptor, Gate, descriptor, gate};
-use std::test::Fail;
 
 // A descriptor of code, and of other plain segments: its level, whether it is present, and whether it was used.
 macro_rules! code {
@@ -18,7 +17,7 @@ macro_rules! plain {
 
 // Bytes 0 to 3 and 4 to 7 as two words; the forms are those of the SDM, volume 3, "Segment descriptors" and "TSS
 // descriptor".
-const DESCRIPTORS: [(u32, u32, Descriptor); 17] = [
+static DESCRIPTORS: [(u32, u32, Descriptor); 17] = [
     (0x0000_FFFF, 0x00CF_9B00, code!(0, true, true)),
     (0x0000_FFFF, 0x00CF_9A00, code!(0, true, false)),
     (0x0000_FFFF, 0x00CF_FA00, code!(3, true, false)),
@@ -58,13 +57,15 @@ const DESCRIPTORS: [(u32, u32, Descriptor); 17] = [
     ),
 ];
 
+fn is_descriptor(low: u32, high: u32, form: Descriptor) -> bool {
+    descriptor(low, high) == form
+}
+
 #[test]
-fn descriptors_have_their_forms(rt: HostRuntime) -> Result<(), Fail> {
-    for row in &DESCRIPTORS {
-        let (low, high, form) = *row;
-        assert_eq!(rt; descriptor(low, high), form);
+fn descriptors_have_their_forms(rt: HostRuntime) {
+    for (low, high, form) in &DESCRIPTORS {
+        assert!(rt; is_descriptor(*low, *high, *form), "{low:#x} {high:#x}");
     }
-    Ok(())
 }
 
 const INTERRUPT: Gate = Gate::Handler {
@@ -82,7 +83,7 @@ const TRAP: Gate = Gate::Handler {
 };
 
 /// Bytes 4 to 7 of a gate, and its form.
-const GATES: [(u32, Gate); 7] = [
+static GATES: [(u32, Gate); 7] = [
     // byte 4 is ignored
     (0x5678_8E00, INTERRUPT),
     (0x5678_8E55, INTERRUPT),
@@ -94,11 +95,13 @@ const GATES: [(u32, Gate); 7] = [
     (0x5678_C600, Gate::Wrong { dpl: 2 }),
 ];
 
+fn is_gate(high: u32, form: Gate) -> bool {
+    gate(0x0008_1234, high) == form
+}
+
 #[test]
-fn gates_have_their_forms(rt: HostRuntime) -> Result<(), Fail> {
-    for row in &GATES {
-        let (high, form) = *row;
-        assert_eq!(rt; gate(0x0008_1234, high), form);
+fn gates_have_their_forms(rt: HostRuntime) {
+    for (high, form) in &GATES {
+        assert!(rt; is_gate(*high, *form), "{high:#x}");
     }
-    Ok(())
 }

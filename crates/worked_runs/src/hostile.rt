@@ -1,11 +1,11 @@
 //! Kernels that use the machine wrongly, a row for each stop, each from its source with the machine's 2,048 frames, an empty
 //! script and 12 steps.
 
-use crate::built::linked;
-use crate::machines::{Prints, both_print};
-use pv_io::{IoAnswer, MemFiles};
+use crate::built::builds_and_prints;
+use crate::commands::joined;
+use crate::machines::Prints;
 use std::alloc::Global;
-use std::test::Fail;
+use std::process::Abort;
 
 /// What follows `_start:`, and what the machines print.
 struct Hostile<'a> {
@@ -13,7 +13,7 @@ struct Hostile<'a> {
     prints: Prints<'a>,
 }
 
-const ROWS: [Hostile<'static>; 31] = [
+static ROWS: [Hostile<'static>; 31] = [
     // A RET to the bytes of RDTSC, which no sweep of the text meets.
     Hostile {
         source: b"pushl $bad+1; ret; bad: movl $0x310f,%eax",
@@ -216,7 +216,7 @@ const ROWS: [Hostile<'static>; 31] = [
 ];
 
 /// The first and last bytes of what a monitor keeps for itself, and of what lies beside it, none of which is mapped.
-const BORDERS: [(&[u8], &[u8]); 8] = [
+static BORDERS: [(&[u8], &[u8]); 8] = [
     (b"movb 0,%al", b"end steps 0 stop 11 LowTouched\n"),
     (b"movb 0x03FFFFFF,%al", b"end steps 0 stop 11 LowTouched\n"),
     (
@@ -236,34 +236,36 @@ const BORDERS: [(&[u8], &[u8]); 8] = [
     ),
 ];
 
-/// Files with the image of what follows `_start:`.
-fn built(alloc: Global, source: &[u8]) -> Result<MemFiles, IoAnswer> {
-    let mut whole = Vec::from_slice(alloc, b"_start: ")?;
-    whole.extend_from_slice(source)?;
-    linked(alloc, &whole)
+/// Each machine prints what is wanted of what follows `_start:`.
+fn prints_from_start(
+    rt: &impl Abort,
+    alloc: Global,
+    row: usize,
+    source: &[u8],
+    prints: Prints<'_>,
+) {
+    let whole = joined(rt, alloc, &[b"_start: ", source]);
+    builds_and_prints(rt, alloc, row, &whole, "12", prints);
 }
 
-#[test]
-fn stops_end_hostile_kernels(rt: HostRuntime) -> Result<(), Fail> {
-    let alloc = rt.alloc();
-    for row in &ROWS {
-        let mut files = built(alloc, row.source)?;
-        both_print(&rt, alloc, &mut files, "12", &row.prints)?;
+fn all_print(rt: &impl Abort, alloc: Global, rows: &[Hostile<'_>]) {
+    for (row, hostile) in rows.iter().enumerate() {
+        prints_from_start(rt, alloc, row, hostile.source, hostile.prints);
     }
-    Ok(())
 }
 
 #[test]
-fn a_monitor_keeps_its_windows(rt: HostRuntime) -> Result<(), Fail> {
-    let alloc = rt.alloc();
-    for row in &BORDERS {
-        let (source, text) = *row;
-        let mut files = built(alloc, source)?;
+fn stops_end_hostile_kernels(rt: HostRuntime) {
+    all_print(&rt, rt.alloc(), &ROWS);
+}
+
+#[test]
+fn a_monitor_keeps_its_windows(rt: HostRuntime) {
+    for (row, (source, text)) in BORDERS.iter().enumerate() {
         let prints = Prints::Apart {
             bare: (4, b"end steps 0 stop 4 DeliveryFailed\n"),
-            wedge: (4, text),
+            wedge: (4, *text),
         };
-        both_print(&rt, alloc, &mut files, "12", &prints)?;
+        prints_from_start(&rt, rt.alloc(), row, source, prints);
     }
-    Ok(())
 }

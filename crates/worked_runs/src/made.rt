@@ -1,42 +1,41 @@
 //! Kernels that are made of numbers, by the commands.
 
-use crate::built::answer;
+use crate::built::{BURN, LINK};
+use crate::commands::{Step, answer, follow};
 use kernel_gen::kernel;
-use pv_io::{Files, MemFiles};
-use std::test::Fail;
+use pv_io::{MemFiles, MemSink};
+use std::alloc::Global;
+use std::process::Abort;
 
-#[test]
-fn work_tells_the_same_lines_twice(rt: HostRuntime) -> Result<(), Fail> {
-    let alloc = rt.alloc();
-    let mut files = MemFiles::new(alloc, Vec::new(alloc))?;
-    let (status, first) = answer(alloc, &mut files, &["work", "7"])?;
-    assert_eq!(rt; status.number(), 0);
-    let (status, second) = answer(alloc, &mut files, &["work", "7"])?;
-    assert_eq!(rt; status.number(), 0);
-    assert_eq!(rt; second.bytes(), first.bytes());
-    assert!(rt; first.bytes().starts_with(b"work 7 text "));
-    assert!(rt; first.bytes().ends_with(b"\nsame\n"));
-    Ok(())
+/// What `work 7` prints.
+fn worked(rt: &impl Abort, alloc: Global) -> MemSink {
+    let mut files = MemFiles::new(alloc, Vec::new(alloc)).expect(rt, "memory");
+    let (number, out) = answer(rt, alloc, &mut files, &["work", "7"], &[]);
+    assert_eq!(rt; number, 0);
+    out
 }
 
 #[test]
-fn a_kernel_shows_its_number_first_on_both_machines(rt: HostRuntime) -> Result<(), Fail> {
-    let alloc = rt.alloc();
-    let mut files = MemFiles::new(alloc, Vec::new(alloc))?;
-    let source = kernel(alloc, 0)?;
-    files.store("S", &source)?;
-    files.store("B", b"")?;
-    let (status, _) = answer(alloc, &mut files, &["burn", "S", "O"])?;
-    assert_eq!(rt; status.number(), 0);
-    let (status, _) = answer(alloc, &mut files, &["link", "I", "O"])?;
-    assert_eq!(rt; status.number(), 0);
-    for mode in ["--bare", "--wedge"] {
-        let (status, out) = answer(alloc, &mut files, &["run", mode, "I", "B", "4096", "2"])?;
-        assert_eq!(rt; status.number(), 0);
-        assert_eq!(rt;
-            out.bytes(),
-            b"1 out32 0080 3c6ef35f\nend steps 2\n".as_slice()
-        );
-    }
-    Ok(())
+fn work_tells_the_same_lines_twice(rt: HostRuntime) {
+    let first = worked(&rt, rt.alloc());
+    let second = worked(&rt, rt.alloc());
+    assert_eq!(rt; second.bytes(), first.bytes());
+    assert!(rt; first.bytes().starts_with(b"work 7 text "));
+    assert!(rt; first.bytes().ends_with(b"\nsame\n"));
+}
+
+const SHOWN: &[u8] = b"1 out32 0080 3c6ef35f\nend steps 2\n";
+
+#[test]
+fn a_kernel_shows_its_number_first_on_both_machines(rt: HostRuntime) {
+    let source = kernel(rt.alloc(), 0).expect(&rt, "memory");
+    let steps = [
+        Step::Store("S", &source),
+        Step::Store("B", b""),
+        Step::Do(BURN),
+        Step::Do(LINK),
+        Step::Tell(&["run", "--bare", "I", "B", "4096", "2"], (0, SHOWN)),
+        Step::Tell(&["run", "--wedge", "I", "B", "4096", "2"], (0, SHOWN)),
+    ];
+    follow(&rt, rt.alloc(), 0, &steps);
 }

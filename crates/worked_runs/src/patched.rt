@@ -1,21 +1,21 @@
 //! What a patched run does beside what it prints: which instructions the host does, what it leaves in memory, and which
 //! translations it keeps.
 
-ghost use Rattle.std.specs.Prelude.{◌≡◌, ◌≤◌, ◌^◌};
+ghost use Rattle.std.specs.Prelude.{◌≤◌, ◌^◌};
 
-use crate::built::{answer, image_of, linked};
-use crate::machines::run_on;
-use crate::slices::SENDS_A_BYTE;
+use crate::built::{image_of, linked};
+use crate::commands::{Step, answer, go_on, sink, status, took};
+use crate::guests::{goes_on, started};
+use crate::slices::{SENDS_A_BYTE, SENT, no_event};
 use crate::watched::Watched;
-use board::read_script;
+use guest_ram::Ram;
 use host_cpl3::{Exit, Host, Machine};
 use ia32_types::{Flags, Regs};
 use image_check::Checked;
-use pv_io::MemSink;
-use run_trace::{NoNotes, Pause};
+use pv_io::MemFiles;
 use std::alloc::Global;
-use std::test::Fail;
-use wedge_core::{Guest, run_wedge};
+use std::process::Abort;
+use wedge_core::run_wedge;
 
 const COPIES_WITHIN_A_STALE_PAGE: &[u8] = b"\
 movl $1,0xC0400000\n\
@@ -78,72 +78,88 @@ const BOOTED: Regs = Regs {
     flags: Flags { bits: 2 },
 };
 
-#[test]
-fn the_host_does_two_instructions_of_four(rt: HostRuntime) -> Result<(), Fail> {
-    let alloc = rt.alloc();
-    let mut files = linked(alloc, SENDS_A_BYTE)?;
+/// Behind its first MOV, and behind both.
+const MOVED: Regs = Regs {
+    r: [0x80_0000, 0, 0x3F8, 0x10_1000, 0xC010_0000, 0, 0, 0],
+    eip: 0x1000_0005,
+    ..BOOTED
+};
+
+const MOVED_TWICE: Regs = Regs {
+    r: [0x80_0048, 0, 0x3F8, 0x10_1000, 0xC010_0000, 0, 0, 0],
+    eip: 0x1000_0007,
+    ..BOOTED
+};
+
+/// A host on which that byte was sent.
+fn watched(rt: &impl Abort, alloc: Global) -> Watched {
+    let mut files = linked(rt, alloc, SENDS_A_BYTE);
     let mut host = Watched::new();
-    let mut out = MemSink::new(alloc, 4096, Vec::new(alloc))?;
-    let status = run_on(
-        alloc, &mut files, "--wedge", "2048", "8", &mut host, &mut out,
-    )?;
-    assert_eq!(rt;
-        out.bytes(),
-        b"2 out8 03f8 48\n2 tx 48\nend steps 8\n".as_slice()
-    );
-    assert_eq!(rt; status.number(), 0);
+    let mut out = sink(rt, alloc);
+    let run = ["run", "--wedge", "I", "B", "2048", "8"];
+    let number = status(alloc, &run, &mut files, &mut out, &mut host).expect(rt, "memory");
+    took(rt, &out, SENT);
+    assert_eq!(rt; number, 0);
+    host
+}
+
+/// Whether the kernel stands behind none, one or both of its two MOVs.
+fn is_within(regs: &Regs) -> bool {
+    *regs == BOOTED || *regs == MOVED || *regs == MOVED_TWICE
+}
+
+fn begins_booted(host: &Watched) -> bool {
+    match host.begun().first() {
+        Some(regs) => *regs == BOOTED,
+        None => false,
+    }
+}
+
+#[test]
+fn the_host_does_two_instructions_of_four(rt: HostRuntime) {
+    let host = watched(&rt, rt.alloc());
     assert_eq!(rt; Host::retired(&host), 2);
     assert_eq!(rt; Host::passed(&host), 8_589_934_597);
-    // Each run of the host begins as the kernel stands behind none, one or both of its two MOVs.
-    let moved = Regs {
-        r: [0x80_0000, 0, 0x3F8, 0x10_1000, 0xC010_0000, 0, 0, 0],
-        eip: 0x1000_0005,
-        ..BOOTED
-    };
-    let both = Regs {
-        r: [0x80_0048, 0, 0x3F8, 0x10_1000, 0xC010_0000, 0, 0, 0],
-        eip: 0x1000_0007,
-        ..BOOTED
-    };
-    assert_eq!(rt; host.begun().first(), Some(&BOOTED));
+    assert!(rt; begins_booted(&host));
     for regs in host.begun() {
-        assert!(rt; [BOOTED, moved, both].contains(regs), "{regs:?}");
+        assert!(rt; is_within(regs), "{regs:?}");
     }
     // Behind them stands the patched OUT.
     assert_eq!(rt; host.last_exit(), Exit::Entry(0x04F4_F500));
-    Ok(())
 }
 
-// The bytes of the host's memory there, after a patched run of so many steps.
-fn memory_after(alloc: Global, image: &Checked, n: u64, at: u32, len: u32) -> Result<Vec<u8>, Fail>
+fn part(rt: &impl Abort, alloc: Global, ram: &Ram, at: u32, len: u32) -> Vec<u8> {
+    assert!(rt; at <= ram.len() && len <= ram.len() - at);
+    Vec::from_slice(alloc, ram.part(at, len)).expect(rt, "memory")
+}
+
+/// The bytes of the host's memory there, after a patched run of so many steps.
+fn memory_after(
+    rt: &impl Abort,
+    alloc: Global,
+    image: &Checked,
+    n: u64,
+    at: u32,
+    len: u32,
+) -> Vec<u8>
     requires { n ≤ 2 ^ 40 }
 {
-    let script = read_script(alloc, b"")?;
-    let mut out = MemSink::new(alloc, 4096, Vec::new(alloc))?;
+    let script = no_event(rt, alloc);
+    let mut out = sink(rt, alloc);
     let mut host = Machine::new();
-    let (guest, pool) = Guest::start(alloc, image, 2048, 512, &mut host)?;
+    let (guest, pool) = started(rt, alloc, image, &mut host);
     let mut guest = guest;
     let mut pool = pool;
-    match guest.slice(
-        image,
-        &script,
-        n,
-        &mut pool,
-        &mut host,
-        &mut out,
-        &mut NoNotes,
-    ) {
-        Ok(Pause::Reached) if at.saturating_add(len) <= host.ram().len() => {
-            Ok(Vec::from_slice(alloc, host.ram().part(at, len))?)
-        }
-        _ => Ok(Vec::new(alloc)),
-    }
+    goes_on(
+        rt, &mut guest, image, &script, n, &mut pool, &mut host, &mut out,
+    );
+    part(rt, alloc, host.ram(), at, len)
 }
 
 /// A source, and its text in memory before the first step.
 type Patched = (&'static [u8], [u8; 9]);
 
-const PATCHED: [Patched; 2] = [
+static PATCHED: [Patched; 2] = [
     (b"cli\n", [0xE9, 0xF4, 0xF4, 0xF4, 0xF4, 0xEB, 0xFE, 0, 0]),
     (
         b"lidt 0x11000010\n",
@@ -151,71 +167,75 @@ const PATCHED: [Patched; 2] = [
     ),
 ];
 
-#[test]
-fn sites_are_patched_in_memory(rt: HostRuntime) -> Result<(), Fail> {
-    let alloc = rt.alloc();
-    for row in &PATCHED {
-        let (source, patched) = *row;
-        let image = image_of(alloc, source)?;
-        let bytes = memory_after(alloc, &image, 0, 0x10_0000, 9)?;
-        assert_eq!(rt; bytes.as_slice(), patched.as_slice());
-    }
-    Ok(())
+fn is_patched(rt: &impl Abort, alloc: Global, patched: &Patched) {
+    let (source, want) = *patched;
+    let image = image_of(rt, alloc, source);
+    let bytes = memory_after(rt, alloc, &image, 0, 0x10_0000, 9);
+    assert_eq!(rt; bytes.as_slice(), want.as_slice());
 }
 
 #[test]
-fn a_step_that_clashes_begins_with_no_translation(rt: HostRuntime) -> Result<(), Fail> {
-    let alloc = rt.alloc();
-    let image = image_of(alloc, COPIES_WITHIN_A_STALE_PAGE)?;
-    let word = memory_after(alloc, &image, 9, 0x40_1004, 4)?;
+fn sites_are_patched_in_memory(rt: HostRuntime) {
+    for patched in &PATCHED {
+        is_patched(&rt, rt.alloc(), patched);
+    }
+}
+
+#[test]
+fn a_step_that_clashes_begins_with_no_translation(rt: HostRuntime) {
+    let image = image_of(&rt, rt.alloc(), COPIES_WITHIN_A_STALE_PAGE);
+    let word = memory_after(&rt, rt.alloc(), &image, 9, 0x40_1004, 4);
     assert_eq!(rt; word.as_slice(), [2, 0, 0, 0].as_slice());
-    Ok(())
+}
+
+/// A run of 40 steps prints one of these.
+fn prints_one_of(
+    rt: &impl Abort,
+    alloc: Global,
+    files: &mut MemFiles,
+    machine: &str,
+    may_be: &[&[u8]],
+) {
+    let run = ["run", machine, "I", "B", "2048", "40"];
+    let (number, out) = answer(rt, alloc, files, &run, &[]);
+    assert!(rt;
+        number == 0 && may_be.contains(&out.bytes()),
+        "run {machine}"
+    );
 }
 
 #[test]
-fn a_page_stays_stale_until_invlpg(rt: HostRuntime) -> Result<(), Fail> {
-    let alloc = rt.alloc();
-    let mut files = linked(alloc, READS_A_STALE_PAGE)?;
-    for (machine, may_be) in [("--bare", [OLD, NEW]), ("--wedge", [OLD, OLD])] {
-        let mut host = Machine::new();
-        let mut out = MemSink::new(alloc, 4096, Vec::new(alloc))?;
-        let status = run_on(
-            alloc, &mut files, machine, "2048", "40", &mut host, &mut out,
-        )?;
-        assert!(rt; may_be.contains(&out.bytes()), "run {machine}");
-        assert_eq!(rt; status.number(), 0);
-    }
-    Ok(())
+fn a_page_stays_stale_until_invlpg(rt: HostRuntime) {
+    let mut files = linked(&rt, rt.alloc(), READS_A_STALE_PAGE);
+    prints_one_of(&rt, rt.alloc(), &mut files, "--bare", &[OLD, NEW]);
+    prints_one_of(&rt, rt.alloc(), &mut files, "--wedge", &[OLD]);
 }
 
-/// What a patched run of 2,000 steps with so many frames of a pool prints, and how many pages it fills.
-pub fn with_pool(alloc: Global, source: &[u8], pool: u32) -> Result<(MemSink, u64), Fail>
+/// How many pages a patched run of 2,000 steps with so many frames of a pool fills, which prints this.
+pub fn fills_of(rt: &impl Abort, alloc: Global, source: &[u8], pool: u32, text: &[u8]) -> u64
     requires { (16 ≤ pool) × (pool ≤ 512) }
 {
-    let image = image_of(alloc, source)?;
-    let script = read_script(alloc, b"")?;
-    let mut out = MemSink::new(alloc, 4096, Vec::new(alloc))?;
+    let image = image_of(rt, alloc, source);
+    let script = no_event(rt, alloc);
+    let mut out = sink(rt, alloc);
     let mut host = Machine::new();
     let ended = run_wedge(
         alloc, &image, &script, 2048, 2000, pool, &mut host, &mut out,
-    )?;
-    Ok((out, ended.fills))
+    )
+    .expect(rt, "an end");
+    took(rt, &out, text);
+    ended.fills
 }
 
+/// What that kernel shows in 2,000 steps.
+const SHOWN: &[u8] = b"658 out32 0080 00000078\nend steps 2000\n";
+
 #[test]
-fn a_small_pool_fills_more_and_prints_the_same(rt: HostRuntime) -> Result<(), Fail> {
-    let alloc = rt.alloc();
-    let (large, large_fills) = with_pool(alloc, GOES_OVER_FORTY_TABLES, 512)?;
-    let (small, small_fills) = with_pool(alloc, GOES_OVER_FORTY_TABLES, 16)?;
-    assert_eq!(rt;
-        large.bytes(),
-        b"658 out32 0080 00000078\nend steps 2000\n".as_slice()
-    );
-    assert_eq!(rt; small.bytes(), large.bytes());
-    assert!(rt; large_fills < small_fills);
-    let mut files = linked(alloc, GOES_OVER_FORTY_TABLES)?;
-    let run = ["run", "--bare", "I", "B", "2048", "2000"];
-    let (_, bare) = answer(alloc, &mut files, &run)?;
-    assert_eq!(rt; bare.bytes(), large.bytes());
-    Ok(())
+fn a_small_pool_fills_more_and_prints_the_same(rt: HostRuntime) {
+    let large = fills_of(&rt, rt.alloc(), GOES_OVER_FORTY_TABLES, 512, SHOWN);
+    let small = fills_of(&rt, rt.alloc(), GOES_OVER_FORTY_TABLES, 16, SHOWN);
+    assert!(rt; large < small);
+    let mut files = linked(&rt, rt.alloc(), GOES_OVER_FORTY_TABLES);
+    let bare = Step::Tell(&["run", "--bare", "I", "B", "2048", "2000"], (0, SHOWN));
+    go_on(&rt, rt.alloc(), &mut files, 0, &[bare]);
 }

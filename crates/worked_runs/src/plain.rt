@@ -1,8 +1,7 @@
 //! Kernels at level 0 that run to their bound.
 
-use crate::kernel::{Kernel, runs};
+use crate::kernel::{Kernel, all_run};
 use crate::machines::Prints;
-use std::test::Fail;
 
 // movl $0x3f8,%edx; movb $0x48,%al; outb %al,%dx; hlt
 const A_BYTE_IS_SENT: Kernel<'static> = Kernel {
@@ -199,24 +198,22 @@ const CR3_IS_LOADED: Kernel<'static> = Kernel {
     prints: Prints::Alike((0, b"7 out8 0080 01\nend steps 12\n")),
 };
 
+static KERNELS: [Kernel<'static>; 12] = [
+    A_BYTE_IS_SENT,
+    NO_STEP,
+    NO_INSTRUCTION_OF_ITS_OWN,
+    ACCESSED_FLAG_IS_SEEN,
+    FLAGS_ARE_PUSHED,
+    CALL_THROUGH_A_REGISTER,
+    RETURN_INTO_AN_IMMEDIATE,
+    TEXT_IS_READ,
+    TEXT_IS_READ_IN_THE_DIRECT_MAP,
+    FLAGS_OF_A_PAGE,
+    REPEATED_STORE,
+    CR3_IS_LOADED,
+];
+
 #[test]
-fn kernels_run_to_their_bound(rt: HostRuntime) -> Result<(), Fail> {
-    let alloc = rt.alloc();
-    for kernel in [
-        &A_BYTE_IS_SENT,
-        &NO_STEP,
-        &NO_INSTRUCTION_OF_ITS_OWN,
-        &ACCESSED_FLAG_IS_SEEN,
-        &FLAGS_ARE_PUSHED,
-        &CALL_THROUGH_A_REGISTER,
-        &RETURN_INTO_AN_IMMEDIATE,
-        &TEXT_IS_READ,
-        &TEXT_IS_READ_IN_THE_DIRECT_MAP,
-        &FLAGS_OF_A_PAGE,
-        &REPEATED_STORE,
-        &CR3_IS_LOADED,
-    ] {
-        runs(&rt, alloc, kernel)?;
-    }
-    Ok(())
+fn kernels_run_to_their_bound(rt: HostRuntime) {
+    all_run(&rt, rt.alloc(), &KERNELS);
 }

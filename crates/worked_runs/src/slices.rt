@@ -1,16 +1,19 @@
 //! Runs of the bare machine that pause and go on.
 
-ghost use Rattle.std.specs.Prelude.{◌≤◌, ◌^◌};
+ghost use Rattle.std.specs.Prelude.{◌≡◌, ◌+◌, ◌≤◌, ◌^◌, true};
+ghost use Rattle.bare_machine.specs.Machine.{state_of, IsKept};
+ghost use Rattle.board.specs.Scripts.{is_script};
 
 use crate::built::image_of;
+use crate::commands::{sink, took};
 use bare_machine::{Bare, run_fresh};
-use board::read_script;
+use board::{Script, read_script};
 use image_check::Checked;
 use kernel_gen::kernel;
 use pv_io::MemSink;
 use run_trace::{End, Ended, Pause, put_end};
 use std::alloc::Global;
-use std::test::Fail;
+use std::process::Abort;
 use xlate_buffer::Buffer;
 
 pub const SENDS_A_BYTE: &[u8] = b"_start:\nmovl $0x3f8,%edx\nmovb $0x48,%al\noutb %al,%dx\nhlt\n";
@@ -71,107 +74,122 @@ outl %eax,$0x80\n\
 pushl %eax\n\
 iret\n";
 
-// What a run of at most `n` steps prints that pauses after the first `first` steps, and then after each `each` of them.
-fn prints(alloc: Global, image: &Checked, first: u64, each: u64, n: u64) -> Result<MemSink, Fail>
+/// What is sent of that byte.
+pub const SENT: &[u8] = b"2 out8 03f8 48\n2 tx 48\nend steps 8\n";
+
+/// The last lines of a run of 80 steps of that kernel.
+pub const INTERRUPTED: &[u8] =
+    b"65 irq 20\n67 out32 0080 10000075\n76 out8 0080 55\nend steps 80\n";
+
+/// A script of no event.
+pub fn no_event(rt: &impl Abort, alloc: Global) -> Script
+    ensures { is_script result.list ≡ true }
+{
+    read_script(alloc, b"").expect(rt, "memory")
+}
+
+/// The machine, with 2,048 frames, in the state in which every run begins.
+pub fn begun(rt: &impl Abort, alloc: Global, image: &Checked) -> Bare<Buffer>
+    ensures kept { IsKept result.frames (state_of (λ buffer. buffer) result) }
+    ensures step { result.step ≡ 0 }
+{
+    match Bare::start(alloc, image, 2048, Buffer::new()) {
+        Ok(machine) => machine,
+        Err(_) => panic!(rt; "no machine"),
+    }
+}
+
+/// The machine makes `k` steps.
+pub fn steps_on(
+    rt: &impl Abort,
+    machine: &mut Bare<Buffer>,
+    script: &Script,
+    k: u64,
+    out: &mut MemSink,
+)
+    requires script { is_script script.now.list ≡ true }
+    requires kept { IsKept machine.old.frames (state_of (λ buffer. buffer) machine.old) }
+    requires bound { machine.old.step + k ≤ 2 ^ 40 }
+    ensures kept { IsKept machine.new.frames (state_of (λ buffer. buffer) machine.new) }
+    ensures step { machine.new.step ≡ machine.old.step + k }
+{
+    match machine.slice(script, k, out) {
+        Ok(Pause::Reached) => {}
+        _ => panic!(rt; "the machine stops"),
+    }
+}
+
+/// The line of a run that made all its steps.
+pub fn put_bound(rt: &impl Abort, steps: u64, fills: u64, out: &mut MemSink) {
+    let ended = Ended {
+        steps,
+        end: End::Bound,
+        fills,
+    };
+    assert!(rt; put_end(&ended, out).is_ok());
+}
+
+/// What a run of at most `n` steps prints that pauses after the first `first` steps, and then after each `each` of them.
+fn prints(rt: &impl Abort, alloc: Global, image: &Checked, first: u64, each: u64, n: u64) -> MemSink
     requires { n ≤ 2 ^ 40 }
 {
-    let script = read_script(alloc, b"")?;
-    let mut out = MemSink::new(alloc, 4096, Vec::new(alloc))?;
-    match Bare::start(alloc, image, 2048, Buffer::new()) {
-        Err(_) => {}
-        Ok(machine) => {
-            let mut machine = machine;
-            let mut k = first;
-            for _ in 0..100u64 {
-                let left = n.saturating_sub(machine.step());
-                match machine.slice(&script, k.min(left), &mut out) {
-                    Ok(Pause::Reached) => {}
-                    _ => return Ok(out),
-                }
-                k = each;
-            }
-            let ended = Ended {
-                steps: machine.step(),
-                end: End::Bound,
-                fills: 0,
-            };
-            match put_end(&ended, &mut out) {
-                Ok(()) => {}
-                Err(_) => {}
-            }
-        }
+    let script = no_event(rt, alloc);
+    let mut out = sink(rt, alloc);
+    let mut machine = begun(rt, alloc, image);
+    let mut k = first;
+    for _ in 0..100u64 {
+        let left = n.saturating_sub(machine.step());
+        steps_on(rt, &mut machine, &script, k.min(left), &mut out);
+        k = each;
     }
-    Ok(out)
+    put_bound(rt, machine.step(), 0, &mut out);
+    out
 }
 
 #[test]
-fn slices_of_one_step_print_the_same(rt: HostRuntime) -> Result<(), Fail> {
-    let alloc = rt.alloc();
-    let image = image_of(alloc, SENDS_A_BYTE)?;
-    let out = prints(alloc, &image, 1, 1, 8)?;
-    assert_eq!(rt;
-        out.bytes(),
-        b"2 out8 03f8 48\n2 tx 48\nend steps 8\n".as_slice()
-    );
-    Ok(())
+fn slices_of_one_step_print_the_same(rt: HostRuntime) {
+    let image = image_of(&rt, rt.alloc(), SENDS_A_BYTE);
+    let out = prints(&rt, rt.alloc(), &image, 1, 1, 8);
+    took(&rt, &out, SENT);
 }
 
 #[test]
-fn a_pause_at_any_step_changes_nothing(rt: HostRuntime) -> Result<(), Fail> {
-    let alloc = rt.alloc();
-    let image = image_of(alloc, IS_INTERRUPTED)?;
-    let whole = prints(alloc, &image, 80, 80, 80)?;
-    assert!(rt;
-        whole.bytes().ends_with(
-            b"65 irq 20\n67 out32 0080 10000075\n76 out8 0080 55\nend steps 80\n"
-        )
-    );
+fn a_pause_at_any_step_changes_nothing(rt: HostRuntime) {
+    let image = image_of(&rt, rt.alloc(), IS_INTERRUPTED);
+    let whole = prints(&rt, rt.alloc(), &image, 80, 80, 80);
+    assert!(rt; whole.bytes().ends_with(INTERRUPTED));
     for pause in 40..80u64 {
-        let parts = prints(alloc, &image, pause, 80, 80)?;
+        let parts = prints(&rt, rt.alloc(), &image, pause, 80, 80);
         assert_eq!(rt; parts.bytes(), whole.bytes(), "a pause at {pause}");
     }
-    Ok(())
 }
 
-// What a run of at most `n` steps prints, before each of which nothing is cached.
-fn prints_fresh(alloc: Global, source: &[u8], n: u64) -> Result<MemSink, Fail>
+/// What a run of at most `n` steps prints, before each of which nothing is cached.
+fn prints_fresh(rt: &impl Abort, alloc: Global, image: &Checked, n: u64) -> MemSink
     requires { n ≤ 2 ^ 40 }
 {
-    let image = image_of(alloc, source)?;
-    let script = read_script(alloc, b"")?;
-    let mut out = MemSink::new(alloc, 4096, Vec::new(alloc))?;
-    match run_fresh(alloc, &image, &script, 2048, n, &mut out) {
-        Ok(_) => {}
-        Err(_) => {}
-    }
-    Ok(out)
+    let script = no_event(rt, alloc);
+    let mut out = sink(rt, alloc);
+    let ended = run_fresh(alloc, image, &script, 2048, n, &mut out);
+    assert!(rt; ended.is_ok());
+    out
 }
 
 #[test]
-fn fresh_runs_print_the_same_where_nothing_is_stale(rt: HostRuntime) -> Result<(), Fail> {
-    let alloc = rt.alloc();
-    let sent = prints_fresh(alloc, SENDS_A_BYTE, 8)?;
-    assert_eq!(rt;
-        sent.bytes(),
-        b"2 out8 03f8 48\n2 tx 48\nend steps 8\n".as_slice()
-    );
-    let interrupted = prints_fresh(alloc, IS_INTERRUPTED, 80)?;
-    let image = image_of(alloc, IS_INTERRUPTED)?;
-    assert_eq!(rt;
-        interrupted.bytes(),
-        prints(alloc, &image, 80, 80, 80)?.bytes()
-    );
-    Ok(())
+fn fresh_runs_print_the_same_where_nothing_is_stale(rt: HostRuntime) {
+    let image = image_of(&rt, rt.alloc(), SENDS_A_BYTE);
+    let sent = prints_fresh(&rt, rt.alloc(), &image, 8);
+    took(&rt, &sent, SENT);
+    let image = image_of(&rt, rt.alloc(), IS_INTERRUPTED);
+    let fresh = prints_fresh(&rt, rt.alloc(), &image, 80);
+    let cached = prints(&rt, rt.alloc(), &image, 80, 80, 80);
+    took(&rt, &fresh, cached.bytes());
 }
 
 #[test]
-fn a_generated_kernel_shows_its_number_first(rt: HostRuntime) -> Result<(), Fail> {
-    let alloc = rt.alloc();
-    let source = kernel(alloc, 0)?;
-    let out = prints_fresh(alloc, source.as_slice(), 2)?;
-    assert_eq!(rt;
-        out.bytes(),
-        b"1 out32 0080 3c6ef35f\nend steps 2\n".as_slice()
-    );
-    Ok(())
+fn a_generated_kernel_shows_its_number_first(rt: HostRuntime) {
+    let source = kernel(rt.alloc(), 0).expect(&rt, "memory");
+    let image = image_of(&rt, rt.alloc(), &source);
+    let out = prints_fresh(&rt, rt.alloc(), &image, 2);
+    took(&rt, &out, b"1 out32 0080 3c6ef35f\nend steps 2\n");
 }

@@ -1,10 +1,11 @@
 //! A kernel that goes round three address spaces, whose translations a patched run keeps while it is in another one.
 
-use crate::built::linked;
-use crate::machines::{Prints, both_print};
-use crate::patched::with_pool;
-use std::alloc::{AllocError, Global};
-use std::test::Fail;
+use crate::built::builds_and_prints;
+use crate::commands::joined;
+use crate::machines::Prints;
+use crate::patched::fills_of;
+use std::alloc::Global;
+use std::process::Abort;
 
 /// Three directories, in the frames 0x20 to 0x22, map the text and the first 4 MB by the tables that the boot made, and the
 /// page at 0x20000000 by a table of their own, in the frames 0x23 to 0x25, to a frame of their own, 0x30 to 0x32. Three times
@@ -80,21 +81,17 @@ const SHOWN: &[u8] = b"\
 end steps 2000\n";
 
 /// The kernel whose rounds end so.
-fn going(alloc: Global, on: &[u8]) -> Result<Vec<u8>, AllocError> {
-    let mut source = Vec::from_slice(alloc, GOES_ROUND_THREE_SPACES)?;
-    source.extend_from_slice(on)?;
-    source.extend_from_slice(SHARES_A_PAGE)?;
-    Ok(source)
+fn going(rt: &impl Abort, alloc: Global, on: &[u8]) -> Vec<u8> {
+    joined(rt, alloc, &[GOES_ROUND_THREE_SPACES, on, SHARES_A_PAGE])
 }
 
 #[test]
-fn spaces_keep_their_pages_over_loads(rt: HostRuntime) -> Result<(), Fail> {
-    let alloc = rt.alloc();
-    for on in [TO_THE_SAME, TO_A_NEW_VALUE] {
-        let mut files = linked(alloc, &going(alloc, on)?)?;
-        both_print(&rt, alloc, &mut files, "2000", &Prints::Alike((0, SHOWN)))?;
+fn spaces_keep_their_pages_over_loads(rt: HostRuntime) {
+    for (row, on) in [TO_THE_SAME, TO_A_NEW_VALUE].iter().enumerate() {
+        let source = going(&rt, rt.alloc(), on);
+        let prints = Prints::Alike((0, SHOWN));
+        builds_and_prints(&rt, rt.alloc(), row, &source, "2000", prints);
     }
-    Ok(())
 }
 
 // A step that the wedge does itself, at a site or inside one, fills each page that it uses, and so does an instruction that
@@ -103,16 +100,13 @@ fn spaces_keep_their_pages_over_loads(rt: HostRuntime) -> Result<(), Fail> {
 // 2, and so does the first space's turn behind it, whose pages have left by then. These are 103. A turn in a round fills 2
 // more where its page isn't kept: in three turns, or in all nine and for both reads of the third space at the end.
 #[test]
-fn a_space_that_comes_back_fills_less(rt: HostRuntime) -> Result<(), Fail> {
+fn a_space_that_comes_back_fills_less(rt: HostRuntime) {
     let alloc = rt.alloc();
-    let source = going(alloc, TO_THE_SAME)?;
-    let (same, same_fills) = with_pool(alloc, &source, 512)?;
-    let (new, new_fills) = with_pool(alloc, &going(alloc, TO_A_NEW_VALUE)?, 512)?;
-    let (small, small_fills) = with_pool(alloc, &source, 16)?;
-    assert_eq!(rt; same.bytes(), SHOWN);
-    assert_eq!(rt; new.bytes(), SHOWN);
-    assert_eq!(rt; small.bytes(), SHOWN);
-    assert_eq!(rt; (same_fills, new_fills), (103 + 3 * 2, 103 + 11 * 2));
-    assert!(rt; same_fills < small_fills);
-    Ok(())
+    let source = going(&rt, alloc, TO_THE_SAME);
+    let new_source = going(&rt, alloc, TO_A_NEW_VALUE);
+    let same = fills_of(&rt, alloc, &source, 512, SHOWN);
+    let new = fills_of(&rt, alloc, &new_source, 512, SHOWN);
+    let small = fills_of(&rt, alloc, &source, 16, SHOWN);
+    assert_eq!(rt; (same, new), (103 + 3 * 2, 103 + 11 * 2));
+    assert!(rt; same < small);
 }

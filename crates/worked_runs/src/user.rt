@@ -1,8 +1,7 @@
 //! Code at level 3: what it may not do, and the gates that it may use.
 
-use crate::kernel::{Kernel, runs};
+use crate::kernel::{Kernel, all_run};
 use crate::machines::Prints;
-use std::test::Fail;
 
 // CLI, INT 0x80 through a gate of level 3, INT 0x20 through one of level 0, and a read of the text
 const USER_CODE: Kernel<'static> = Kernel {
@@ -50,11 +49,9 @@ const USER_CODE: Kernel<'static> = Kernel {
     )),
 };
 
+static KERNELS: [Kernel<'static>; 1] = [USER_CODE];
+
 #[test]
-fn user_code_is_held_back(rt: HostRuntime) -> Result<(), Fail> {
-    let alloc = rt.alloc();
-    for kernel in [&USER_CODE] {
-        runs(&rt, alloc, kernel)?;
-    }
-    Ok(())
+fn user_code_is_held_back(rt: HostRuntime) {
+    all_run(&rt, rt.alloc(), &KERNELS);
 }

@@ -1,13 +1,6 @@
-use Rattle.std.proofs.Common.{◌≡◌, ◌≤◌, true}
-use Rattle.std.specs.Prelude.{is_some}
-use Rattle.host_cpl3.specs.Hosts.{held}
-use Rattle.shadow_cache.specs.Views as roots
-use Rattle.wedge_step.specs.Ready.{IsReady}
-use Rattle.wedge_step.specs.Standing.{IsHeld, IsAble, ground}
+use Rattle.std.proofs.Common.{◌≤◌}
+use Rattle.worked_runs.specs.Going.{IsGoing}
 use Rattle.worked_runs.proofs.guests.prints.Given as goal
 
 abbrev pub invariant-loop : goal.invariant-loop
-invariant-loop l =
-    (is_some l.host.ram ≡ true) × IsHeld roots.stands roots.frames roots.slots (ground l.image l.guest.running.frames) l.guest.running l.pool (held l.host.ram)
-    × IsReady roots.slots roots.noted roots.marked roots.value roots.asides (ground l.image l.guest.running.frames) l.guest.running.cpu l.guest.running.shadows (held l.host.ram)
-    × IsAble l.guest.running.cpu × (l.guest.running.step ≤ l.n)
+invariant-loop l = IsGoing l.image l.guest l.pool l.host.ram × (l.guest.running.step ≤ l.n)

@@ -1,0 +1,18 @@
+-- A guest that may go on, on a host with this memory.
+use Rattle.std.specs.Prelude.{◌≡◌, ℕ, List, Bool, true, Option, is_some}
+use Rattle.frame_pool.specs.declared.Pool.{Pool}
+use Rattle.host_cpl3.specs.Hosts.{held}
+use Rattle.image_check.specs.Image.{Image}
+use Rattle.shadow_cache.specs.Views as roots
+use Rattle.wedge_step.specs.Ready.{IsReady}
+use Rattle.wedge_step.specs.Standing.{IsHeld, IsAble, ground}
+use Rattle.wedge_core.specs.declared.guest.Guest.{Guest}
+
+-- The host is started, the guest's frames and its shadows' lie in its memory, what the shadows keep may be used, and the
+-- processor is able to go on.
+abbrev pub IsGoing : Image → Guest → Pool → Option (List ℕ) → Type 0
+IsGoing image guest pool ram =
+    (is_some ram ≡ true)
+    × IsHeld roots.stands roots.frames roots.slots (ground image guest.running.frames) guest.running pool (held ram)
+    × IsReady roots.slots roots.noted roots.marked roots.value roots.asides (ground image guest.running.frames) guest.running.cpu guest.running.shadows (held ram)
+    × IsAble guest.running.cpu

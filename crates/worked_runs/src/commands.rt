@@ -1,0 +1,193 @@
+//! Commands over files in memory, in steps, and what they come to.
+
+ghost use Rattle.std.specs.Prelude.{◌≤◌, ◌^◌};
+
+use crate::machines::{Prints, Told};
+use host_cpl3::{Host, Machine};
+use pv_io::{Files, MemFiles, MemSink, Sink};
+use pv_tool::top;
+use std::alloc::{AllocError, Global};
+use std::process::Abort;
+
+/// The words of a command.
+pub type Words<'a> = &'a [&'a str];
+
+/// The row of a table, and the step of that row.
+type Place = (usize, usize);
+
+/// What is done to files, or found of them.
+#[derive(Clone, Copy)]
+pub enum Step<'a> {
+    /// A name holds these bytes from here on.
+    Store(&'a str, &'a [u8]),
+    /// A command is done, whatever it prints.
+    Do(Words<'a>),
+    /// A command comes to a status, and prints this.
+    Tell(Words<'a>, Told<'a>),
+    /// A command of which one put fails, counted from 0, comes to a status, and the sink takes this.
+    Cut(Words<'a>, u64, Told<'a>),
+    /// Each machine prints what is wanted of the image I and the script B, with 2,048 frames and at most so many steps.
+    Print(&'a str, Prints<'a>),
+    /// A name is held, or isn't.
+    Hold(&'a str, bool),
+}
+
+/// A sink in which all that is put has room.
+pub fn sink(rt: &impl Abort, alloc: Global) -> MemSink {
+    MemSink::new(alloc, 4096, Vec::new(alloc)).expect(rt, "memory")
+}
+
+/// The sink took this.
+pub fn took(rt: &impl Abort, out: &MemSink, text: &[u8]) {
+    assert_eq!(rt; out.bytes(), text);
+}
+
+fn owned(alloc: Global, all: Words<'_>) -> Result<Vec<String>, AllocError> {
+    let mut words = Vec::new(alloc);
+    for word in all {
+        words.push(String::from_str(alloc, word)?)?;
+    }
+    Ok(words)
+}
+
+/// The number of the status of a command.
+pub fn status<F: Files, S: Sink, H: Host>(
+    alloc: Global,
+    all: Words<'_>,
+    files: &mut F,
+    out: &mut S,
+    host: &mut H,
+) -> Result<u8, AllocError>
+    requires room { H.retired host.old ≤ 2 ^ 63 }
+{
+    let words = owned(alloc, all)?;
+    Ok(top(alloc, &words, files, out, host).number())
+}
+
+/// The number of the status of a command, and its sink, of whose puts those of a list fail.
+pub fn answer(
+    rt: &impl Abort,
+    alloc: Global,
+    files: &mut MemFiles,
+    all: Words<'_>,
+    fail: &[u64],
+) -> (u8, MemSink) {
+    let fail = Vec::from_slice(alloc, fail).expect(rt, "memory");
+    let mut out = MemSink::new(alloc, 4096, fail).expect(rt, "memory");
+    let number = status(alloc, all, files, &mut out, &mut Machine::new()).expect(rt, "memory");
+    (number, out)
+}
+
+/// A command of whose puts those of a list fail comes to a status, and its sink takes this. One put has failed where the
+/// status says so.
+fn tells(
+    rt: &impl Abort,
+    alloc: Global,
+    files: &mut MemFiles,
+    all: Words<'_>,
+    fail: &[u64],
+    told: Told<'_>,
+    place: Place,
+) {
+    let (number, out) = answer(rt, alloc, files, all, fail);
+    assert_eq!(rt; (number, out.bytes()), told, "{all:?} at {place:?}");
+    assert!(rt;
+        out.faults() == u64::from(number == 6),
+        "{all:?} at {place:?}"
+    );
+}
+
+fn run_tells(
+    rt: &impl Abort,
+    alloc: Global,
+    files: &mut MemFiles,
+    machine: &str,
+    n: &str,
+    told: Told<'_>,
+    place: Place,
+) {
+    let run = ["run", machine, "I", "B", "2048", n];
+    tells(rt, alloc, files, &run, &[], told, place);
+}
+
+fn both_print(
+    rt: &impl Abort,
+    alloc: Global,
+    files: &mut MemFiles,
+    n: &str,
+    prints: &Prints<'_>,
+    place: Place,
+) {
+    for (machine, told) in prints.each() {
+        run_tells(rt, alloc, files, machine, n, told, place);
+    }
+}
+
+/// Whether a name holds something.
+fn holds(alloc: Global, files: &mut MemFiles, name: &str) -> bool {
+    let mut bytes = Vec::new(alloc);
+    files.load(alloc, name, &mut bytes).is_ok()
+}
+
+fn is_held(
+    rt: &impl Abort,
+    alloc: Global,
+    files: &mut MemFiles,
+    name: &str,
+    held: bool,
+    place: Place,
+) {
+    assert!(rt; holds(alloc, files, name) == held, "{name} at {place:?}");
+}
+
+fn is_done(rt: &impl Abort, alloc: Global, files: &mut MemFiles, all: Words<'_>, place: Place) {
+    let (number, _out) = answer(rt, alloc, files, all, &[]);
+    assert!(rt; number == 0, "{all:?} at {place:?}");
+}
+
+fn stores(rt: &impl Abort, files: &mut MemFiles, name: &str, bytes: &[u8]) {
+    files.store(name, bytes).expect(rt, "memory");
+}
+
+fn does(rt: &impl Abort, alloc: Global, files: &mut MemFiles, step: Step<'_>, place: Place) {
+    match step {
+        Step::Store(name, bytes) => stores(rt, files, name, bytes),
+        Step::Do(all) => is_done(rt, alloc, files, all, place),
+        Step::Tell(all, told) => tells(rt, alloc, files, all, &[], told, place),
+        Step::Cut(all, put, told) => tells(rt, alloc, files, all, &[put], told, place),
+        Step::Print(n, prints) => both_print(rt, alloc, files, n, &prints, place),
+        Step::Hold(name, held) => is_held(rt, alloc, files, name, held, place),
+    }
+}
+
+/// Does the steps over these files. Where one comes to something else, the row and its own number are told.
+pub fn go_on(rt: &impl Abort, alloc: Global, files: &mut MemFiles, row: usize, steps: &[Step<'_>]) {
+    for (k, step) in steps.iter().enumerate() {
+        does(rt, alloc, files, *step, (row, k));
+    }
+}
+
+/// The same over no files, and what is held behind it.
+pub fn follow(rt: &impl Abort, alloc: Global, row: usize, steps: &[Step<'_>]) -> MemFiles {
+    let mut files = MemFiles::new(alloc, Vec::new(alloc)).expect(rt, "memory");
+    go_on(rt, alloc, &mut files, row, steps);
+    files
+}
+
+/// The bytes that a name holds.
+pub fn file(rt: &impl Abort, alloc: Global, files: &mut MemFiles, name: &str) -> Vec<u8> {
+    let mut bytes = Vec::new(alloc);
+    files
+        .load(alloc, name, &mut bytes)
+        .expect(rt, "a name that is held");
+    bytes
+}
+
+/// The pieces, one behind the other.
+pub fn joined(rt: &impl Abort, alloc: Global, pieces: &[&[u8]]) -> Vec<u8> {
+    let mut bytes = Vec::new(alloc);
+    for piece in pieces {
+        bytes.extend_from_slice(piece).expect(rt, "memory");
+    }
+    bytes
+}
