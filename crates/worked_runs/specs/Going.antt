@@ -1,5 +1,5 @@
 -- A guest that may go on, on a host with this memory.
-use Rattle.std.specs.Prelude.{◌≡◌, ℕ, List, Bool, true, Option, is_some}
+use Rattle.std.specs.Prelude.{◌≡◌, ℕ, List, true, Option, is_some}
 use Rattle.frame_pool.specs.declared.Pool.{Pool}
 use Rattle.host_cpl3.specs.Hosts.{held}
 use Rattle.image_check.specs.Image.{Image}
