@@ -1,5 +1,5 @@
 -- A terminal within an argument: the argument grows, and then its name is noted.
-use Rattle.std.proofs.Common.{◌≡◌, ℕ, List, Option, Some, None, Result, Ok, Err, length, refl, ap, tt}
+use Rattle.std.proofs.Common.{◌≡◌, ℕ, List, Option, Some, None, Result, Ok, Err, length, refl, ap}
 use Rattle.asm_lex.specs.declared.fault.SourceCause.{SourceCause}
 use Rattle.asm_argument.specs.declared.terminal.Terminal.{Terminal}
 use Rattle.asm_argument.specs.declared.operand.Shape.{Shape}

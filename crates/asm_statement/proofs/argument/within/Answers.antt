@@ -1,4 +1,4 @@
-use Rattle.std.proofs.Common.{◌≡◌, Result, Ok, Err, sym, ap, ◌∙◌, subst}
+use Rattle.std.proofs.Common.{Result, Err, sym, ap, ◌∙◌, subst}
 use Rattle.asm_lex.specs.declared.fault.SourceCause.{SourceCause}
 use Rattle.asm_statement.specs.declared.state.StatementState.{StatementState}
 use Rattle.asm_statement.specs.ScopeView.{ScopeView}
