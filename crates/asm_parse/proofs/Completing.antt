@@ -32,7 +32,7 @@ use Rattle.asm_statement.specs.ScopeView.{ScopeView}
 use Rattle.asm_source.specs.Names.{holds}
 use Rattle.asm_statement.specs.Scope.{has_room, is_spent, pushed, noted, defined_too}
 use Rattle.asm_argument.specs.Operand.{finished, is_nothing}
-use Rattle.asm_argument.specs.Shapes.{is_operand, takes_numbers, fits, is_register, signed, named, plain, of_memory}
+use Rattle.asm_argument.specs.Shapes.{is_operand, takes_numbers, fits, is_register, is_byte_register, signed, named, plain, of_memory}
 use Rattle.asm_argument.specs.Grammar.{IsValue, IsForm}
 use Rattle.asm_argument.specs.Escapes.{opening, string_text}
 use Rattle.asm_argument.specs.Terminals.{terminal_of}
@@ -60,7 +60,7 @@ pub record Finish (sh : Shape) (p : Partial) : Type 0 where
   pub names : named_in last ≡ named_in p
 
 low_register : is_register low ≡ true
-unfolding is_register
+unfolding is_register is_byte_register
 low_register = refl
 
 done : (sh : Shape) (p : Partial) (f : Form) → finished p ≡ Some f → Finish sh p

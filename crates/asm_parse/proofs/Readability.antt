@@ -5,7 +5,7 @@ use Rattle.std.proofs.lemmas.List.Sums.{fold-append}
 use Rattle.std.proofs.lemmas.List.Elements.{All-nil, All-cons, All-push}
 use Rattle.std.proofs.lemmas.Grind.{flat_map-append}
 use Rattle.std.proofs.lemmas.Bool.{ltb-true}
-use Rattle.std.specs.Prelude.{◌&&◌, ◌||◌, ◌==◌, ◌^◌, nat_lt, fold, All, IfOk, Result, Ok, Err}
+use Rattle.std.specs.Prelude.{◌||◌, ◌==◌, ◌^◌, nat_lt, fold, All, IfOk, Result, Ok, Err}
 use Rattle.std.specs.Option.{option_to_list}
 use Rattle.std.specs.List.{flat_map, list_all}
 use Rattle.asm_lex.specs.declared.lexing.TheConstants.{LIMIT}
