@@ -13,7 +13,7 @@ use guest_ram::{half, word};
 
 /// What a section is read as: ignored, or the annotations, the text, a part of the data or of the
 /// zeroed bytes, one that is not allowed, the symbol table, or relocations.
-#[derive(Clone, Copy, Debug, PartialEq, Eq)]
+#[derive(Clone, Copy)]
 pub enum Role {
     Ignored,
     Sites,

@@ -13,7 +13,7 @@ use guest_ram::{half, word};
 pub const LIMIT: usize = 33_554_432;
 
 /// The first two of the entries that were looked for.
-#[derive(Clone, Copy, Debug, PartialEq, Eq)]
+#[derive(Clone, Copy)]
 pub enum Found {
     Nothing,
     One(usize),

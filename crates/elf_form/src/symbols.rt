@@ -14,7 +14,7 @@ use guest_ram::{byte, half, word};
 
 /// The symbol table: its section, where its entries begin, and how many it has with the null one
 /// (0 where there is no table).
-#[derive(Clone, Copy, Debug, PartialEq, Eq)]
+#[derive(Clone, Copy)]
 pub struct Table {
     pub section: usize,
     pub at: usize,
@@ -22,28 +22,28 @@ pub struct Table {
 }
 
 /// A relocation: the section that it stands in, and where.
-#[derive(Clone, Copy, Debug, PartialEq, Eq)]
+#[derive(Clone, Copy)]
 pub struct Entry {
     pub section: usize,
     pub at: usize,
 }
 
 /// What is tested of the sections of relocations.
-#[derive(Clone, Copy, Debug, PartialEq, Eq)]
+#[derive(Clone, Copy)]
 pub enum SectionTest {
     EntrySizes,
     Links,
 }
 
 /// What is tested of symbols.
-#[derive(Clone, Copy, Debug, PartialEq, Eq)]
+#[derive(Clone, Copy)]
 pub enum SymbolTest {
     Names,
     Globals,
 }
 
 /// What is tested of relocations: the symbol that one names, or its own form.
-#[derive(Clone, Copy, Debug, PartialEq, Eq)]
+#[derive(Clone, Copy)]
 pub enum RelocTest {
     Named,
     Form,

@@ -1,7 +1,7 @@
 //! Where the parts of an object stand.
 
 /// The linear addresses at which the text, the data and the zeroed bytes of an object begin.
-#[derive(Clone, Copy, Debug, PartialEq, Eq)]
+#[derive(Clone, Copy)]
 pub struct Base {
     pub text: u32,
     pub init: u32,

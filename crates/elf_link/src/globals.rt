@@ -12,7 +12,7 @@ use std::marker::Model;
 
 /// What each global name stands for, in the order in which they were added. No call searches
 /// them one by one.
-#[derive(Debug, Drop)]
+#[derive(Drop)]
 pub struct Globals {
     map: IndexMap<Vec<u8>, Target>,
 }

@@ -15,7 +15,7 @@ pub const TEXT_AT: u32 = 0x1000_0000;
 pub const INIT_AT: u32 = 0x1100_0000;
 
 /// The room of some parts, each at a multiple of 4,096, and where the last that isn't empty ends.
-#[derive(Clone, Copy, Debug)]
+#[derive(Clone, Copy)]
 struct Span {
     room: usize,
     end: usize,

@@ -3,7 +3,7 @@
 use elf_form::DefinedIn;
 
 /// A place that a symbol stands for: `value` is an offset in a part of an object.
-#[derive(Clone, Copy, Debug, PartialEq, Eq)]
+#[derive(Clone, Copy)]
 pub struct Target {
     pub object: u32,
     pub place: DefinedIn,

@@ -15,7 +15,7 @@ const SYMBOL_LIMIT: usize = 65_536;
 
 /// What some objects take: bytes of text and of data with zeroed bytes, each with the gap behind
 /// it, and numbers of symbols and sites.
-#[derive(Clone, Copy, Debug)]
+#[derive(Clone, Copy)]
 pub struct Totals {
     pub text: usize,
     pub memory: usize,

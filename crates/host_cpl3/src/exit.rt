@@ -20,7 +20,7 @@ pub enum Exit {
 }
 
 /// How an instruction is completed.
-#[derive(Clone, Copy, Debug, PartialEq, Eq)]
+#[derive(Clone, Copy)]
 pub enum Completion {
     /// It counts, and leaves these registers.
     Completed(Regs),

@@ -7,7 +7,7 @@ ghost use Rattle.image_check.specs.Pieces.{is_nop, role_of};
 use ia32_types::{Insn, Op, SiteKind, sensitive};
 
 /// What an instruction is to the check. A direct branch has the offset in the text to which it leads.
-#[derive(Clone, Copy, Debug, PartialEq, Eq)]
+#[derive(Clone, Copy)]
 pub enum Role {
     Plain,
     Nop,
@@ -16,7 +16,7 @@ pub enum Role {
 }
 
 /// An instruction: its offset in the text, its length, and what it is to the check.
-#[derive(Clone, Copy, Debug)]
+#[derive(Clone, Copy)]
 pub struct Piece {
     pub at: u32,
     pub len: u8,

@@ -9,7 +9,7 @@ use sites::Site;
 use std::alloc::{AllocError, Global};
 
 /// What an instruction begins: no site, none for want of its NOPs, or a site.
-#[derive(Clone, Copy, Debug)]
+#[derive(Clone, Copy)]
 pub enum Here {
     Nothing,
     Lacks,
