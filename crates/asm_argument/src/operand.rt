@@ -13,7 +13,7 @@ use asm_lex::SourceCause;
 use asm_source::{Form, Name, Value};
 
 /// What may stand in an argument's place.
-#[derive(Clone, Copy, Debug, PartialEq, Eq)]
+#[derive(Clone, Copy)]
 pub enum Shape {
     /// An operand of an instruction.
     Operand,
@@ -33,14 +33,14 @@ pub enum Shape {
 }
 
 /// Where a value stands.
-#[derive(Clone, Copy, Debug, PartialEq, Eq)]
+#[derive(Clone, Copy)]
 pub enum ValuePlace {
     Immediate,
     Memory,
 }
 
 /// An argument as far as it has been read.
-#[derive(Debug, Drop)]
+#[derive(Drop)]
 pub enum Partial {
     Nothing,
     /// The same, where the argument may be absent.

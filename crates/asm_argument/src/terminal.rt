@@ -9,7 +9,7 @@ use asm_lex::TokenKind;
 use asm_source::Name;
 use std::alloc::{AllocError, Global};
 
-#[derive(Debug, Drop)]
+#[derive(Drop)]
 pub enum Terminal {
     Percent,
     Dollar,

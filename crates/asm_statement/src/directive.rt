@@ -8,7 +8,7 @@ use asm_argument::Shape;
 use asm_source::{DirectiveName, Name, begins, directive_name, is_text};
 
 /// What a directive's arguments are.
-#[derive(Clone, Copy, Debug, PartialEq, Eq)]
+#[derive(Clone, Copy)]
 pub enum Directive {
     /// A change of the section, without an argument.
     Plain,
@@ -27,7 +27,7 @@ pub enum Directive {
 }
 
 /// What a directive or an instruction begins with.
-#[derive(Debug, Drop)]
+#[derive(Drop)]
 pub enum Head {
     Instruction { rep: bool, name: Name },
     Directive { kind: Directive, name: Name },

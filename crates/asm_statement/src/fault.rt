@@ -6,7 +6,7 @@ ghost use Rattle.asm_statement.specs.declared.fault.StepFault.TheVariants.{Memor
 use asm_lex::SourceCause;
 use std::alloc::{AllocError, AllocFailed};
 
-#[derive(Debug, Drop)]
+#[derive(Drop)]
 pub enum StepFault {
     Cause(SourceCause),
     Memory,

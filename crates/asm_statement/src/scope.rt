@@ -10,7 +10,7 @@ use std::marker::Model;
 
 /// The items so far, the names so far in the order in which they were first seen, which of them are
 /// defined, and whether statements are skipped.
-#[derive(Debug, Drop)]
+#[derive(Drop)]
 pub struct Scope {
     items: Vec<SourceItem>,
     names: Names,

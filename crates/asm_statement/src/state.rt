@@ -6,7 +6,7 @@ use asm_lex::SourceCause;
 use asm_source::{Arguments, Name};
 
 /// A directive or an instruction as far as it has been read.
-#[derive(Debug, Drop)]
+#[derive(Drop)]
 pub struct Open {
     pub line: u32,
     pub head: Head,
@@ -16,7 +16,7 @@ pub struct Open {
 }
 
 /// What a statement has left open.
-#[derive(Debug, Drop)]
+#[derive(Drop)]
 pub enum StatementState {
     Start,
     /// A name, which may be a label or begin a directive or an instruction, and its line.

@@ -10,7 +10,7 @@ use ia32_types::{Insn, Stop};
 use run_trace::{Item, StepItems, What};
 
 /// What one step lets be seen.
-#[derive(Clone, Copy, Debug)]
+#[derive(Clone, Copy)]
 pub enum Seen {
     Nothing,
     One(What),
@@ -18,7 +18,7 @@ pub enum Seen {
 }
 
 /// What leaves the cached translations at the end of a step.
-#[derive(Clone, Copy, Debug)]
+#[derive(Clone, Copy)]
 pub enum Dropped {
     Nothing,
     Page(u32),
@@ -28,7 +28,7 @@ pub enum Dropped {
 }
 
 /// An instruction that completed, with the EIP at which it began, and whether it began at level 3.
-#[derive(Clone, Copy, Debug)]
+#[derive(Clone, Copy)]
 pub struct Completed {
     pub insn: Insn,
     pub eip: u32,
@@ -37,7 +37,7 @@ pub struct Completed {
 
 /// A step that went: what was seen, the instruction that completed, the processor, and what is dropped. What it changed
 /// of the translations, and the pages that it went through, stand in the step's state.
-#[derive(Clone, Copy, Debug)]
+#[derive(Clone, Copy)]
 pub struct Worked {
     pub seen: Seen,
     pub completed: Option<Completed>,
@@ -47,7 +47,7 @@ pub struct Worked {
 
 /// How a step begins: it went, or an instruction was fetched and nothing of it is done. The processor is that of the
 /// fetch.
-#[derive(Clone, Copy, Debug)]
+#[derive(Clone, Copy)]
 pub enum Begun {
     Worked(Worked),
     Fetched { insn: Insn, len: u8, cpu: Cpu },

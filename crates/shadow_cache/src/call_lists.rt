@@ -20,7 +20,7 @@ use shadow_tables::Call;
 use std::alloc::{AllocError, Global};
 
 /// A call that changes what is kept or tracked.
-#[derive(Clone, Copy, Debug, PartialEq, Eq)]
+#[derive(Clone, Copy)]
 pub enum RootsCall {
     /// One that all shadows have, on the present pair.
     Shared(Call),

@@ -15,7 +15,7 @@ use guest_ram::Ram;
 use paging::Entry;
 
 /// A call that changes what is kept or tracked.
-#[derive(Clone, Copy, Debug, PartialEq, Eq)]
+#[derive(Clone, Copy)]
 pub enum Call {
     Fill(Side, Entry, bool),
     DropPage(u32),
