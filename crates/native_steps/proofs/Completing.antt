@@ -4,6 +4,7 @@ use Rattle.std.specs.Prelude.{nat_le, nat_lt}
 use Rattle.std.specs.List.{Contains}
 use Rattle.std.specs.FinMap.{FinMap, get}
 use Rattle.std.specs.Ordering.{nat_cmp}
+use Rattle.guest_ram.specs.Among.{is_among}
 use Rattle.guest_ram.specs.Bytes.{frame}
 use Rattle.ia32_types.specs.declared.flags.Regs.{Regs}
 use Rattle.ia32_types.specs.declared.insn.Insn.{Insn}
@@ -83,8 +84,8 @@ module _ (image : Image) (laws : TextLaws image) where
   unfolding places.is_start
   start_at at e =
       let back : linear at - 0x10000000 ≡ at = omega arith in
-      ap (λ x. x && Rattle.std.specs.List.list_any (λ k. k == linear at - 0x10000000) (Rattle.image_check.specs.Sweep.starts_of image.text)) (le_true 0x10000000 (linear at) (omega arith))
-      ∙ ap (λ n. Rattle.std.specs.List.list_any (λ k. k == n) (Rattle.image_check.specs.Sweep.starts_of image.text)) back
+      ap (λ x. x && is_among (linear at - 0x10000000) (Rattle.image_check.specs.Sweep.starts_of image.text)) (le_true 0x10000000 (linear at) (omega arith))
+      ∙ ap (λ n. is_among n (Rattle.image_check.specs.Sweep.starts_of image.text)) back
       ∙ e
 
   entrance : (at : ℕ) → IsWayIn image at → IsEntrance image (linear at)
