@@ -5,7 +5,7 @@ use Rattle.pv_io.specs.Sink.{Appends, AppendsFront}
 use Rattle.run_trace.specs.declared.items.Item.{Item}
 use Rattle.run_trace.specs.declared.items.What.{What}
 use Rattle.run_trace.specs.Text.{item_line, lines_of}
-use Rattle.bare_mem.specs.Part.{IsPartOf}
+use Rattle.paging.specs.Part.{IsPartOf}
 use Rattle.machine_model.specs.State.{Setting, State}
 use Rattle.machine_model.specs.Step.{Report, Went, step_of, items_at}
 use Rattle.machine_model.specs.Run.{Set, Steps, trace_of, with_set}

@@ -11,7 +11,7 @@ use Rattle.paging.specs.Uses.{with_entry, without_dir}
 use Rattle.xlate_buffer.proofs.Caching.{dir_gone, dir_other}
 use Rattle.step_mem.specs.Changes.{AreWithin}
 use Rattle.step_mem.proofs.Changed.{Within_with}
-use Rattle.bare_mem.specs.Part.{IsPartOf}
+use Rattle.paging.specs.Part.{IsPartOf}
 use Rattle.machine_model.specs.State.{Setting, State}
 use Rattle.machine_model.specs.Step.{worked, begins_next}
 use Rattle.machine_step.specs.declared.worked.Dropped.{Dropped}

@@ -10,7 +10,7 @@ use Rattle.xlate_buffer.proofs.Caching.{dir_gone, dir_other}
 use Rattle.xlate_buffer.specs.Caches.{IsSameOrGone}
 use Rattle.step_mem.proofs.Changed.{get_with_same, get_with_other}
 use Rattle.step_mem.specs.Changes.{AreWithin}
-use Rattle.bare_mem.specs.Part.{IsPartOf}
+use Rattle.paging.specs.Part.{IsPartOf}
 
 none_some : (x : Entry) → None ≡ Some x → ⊥
 none_some x e = cc
