@@ -11,7 +11,7 @@ use Rattle.machine_model.specs.Step.{Report, Went, step_of, items_at}
 use Rattle.machine_model.specs.Run.{Set, Steps, trace_of, with_set}
 use Rattle.bare_machine.specs.Machine.{translations_of, Goes, Rests, Passes, StepsBy, FirstIs}
 use Rattle.bare_machine.proofs.Runs.{part_allowed, part_same, same_step, no_steps, steps_on, steps_join, by_none, by_on, by_join, trace_on, trace_join}
-use Rattle.bare_machine.proofs.Texts.{appends_both, front_of, appends_none}
+use Rattle.pv_io.proofs.Pieces.{appends_both, front_of, appends_none}
 
 -- some steps were done, the next one goes by what is cached, and the lines were put
 pub record Going (s : Setting) (exact : Bool) (old now : State) (told tells : Option (List ℕ)) : Type 0 where
