@@ -46,7 +46,7 @@ use Rattle.machine_model.specs.Rules as rules
 use Rattle.machine_model.specs.Step as step
 use Rattle.machine_model.specs.Taken.{is_load, is_control_3, is_write}
 use Rattle.native_steps.specs.Lends.{IsUnlent}
-use Rattle.native_steps.specs.Mirrors.{IsWedge, IsLevel, Sees, Mirrors, shown}
+use Rattle.native_steps.specs.Mirrors.{IsWedge, IsLevelOf, Sees, Mirrors, shown}
 use Rattle.native_steps.specs.Native.{byte_of, effect_of, IsNative}
 use Rattle.native_steps.specs.Forward.{IsEntrance, IsNext, Follows}
 use Rattle.native_steps.specs.Backward.{Completes}
@@ -222,7 +222,7 @@ module _ (flags : EffectLaws) (m : Setting) (w : IsWedge m) (laws : TextLaws m.i
       report : step.Report
       report = record { items = []; completed = Some (step.begun b insn); pages = end.visited; tables = end.tables; wrote = end.wrote }
 
-      stays_there : (mode : Mode) (cpl : ℕ) (k : Bool) → IsLevel k cpl → (x : Bool) → cond {A = Bool} true (not (cpl == 0 && cpl == 3) || x) true ≡ true
+      stays_there : (mode : Mode) (cpl : ℕ) (k : Bool) → IsLevelOf k cpl → (x : Bool) → cond {A = Bool} true (not (cpl == 0 && cpl == 3) || x) true ≡ true
       stays_there mode cpl true l x = ap (λ y. not (y == 0 && y == 3) || x) l
       stays_there mode cpl false l x = ap (λ y. not (y == 0 && y == 3) || x) l
 

@@ -34,7 +34,7 @@ use Rattle.machine_model.specs.Rules as rules
 use Rattle.machine_model.specs.State.{Setting, State, space_at_start}
 use Rattle.machine_model.specs.Instruction.{fetched, instructed, is_plain}
 use Rattle.machine_model.specs.Step.{after_instruction, begun, by_op, after_fetch, fetches_next, begins_next, worked, by_interrupt, unheld, stepped}
-use Rattle.native_steps.specs.Mirrors.{IsWedge, IsLevel, Sees, Mirrors}
+use Rattle.native_steps.specs.Mirrors.{IsWedge, IsLevelOf, Sees, Mirrors}
 use Rattle.image_check.specs.Places.{is_site_at}
 use Rattle.machine_model.specs.Counts.{is_software, needs_descriptor, is_direct}
 use Rattle.native_steps.proofs.Inside.{not_inside}
@@ -52,11 +52,11 @@ use Rattle.native_steps.proofs.GuestRanges.{reached_comes}
 
 -- ---- the level
 
-pub level_user : (kernel : Bool) (cpl : ℕ) → IsLevel kernel cpl → (cpl == 3) ≡ not kernel
+pub level_user : (kernel : Bool) (cpl : ℕ) → IsLevelOf kernel cpl → (cpl == 3) ≡ not kernel
 level_user true cpl e = ap (λ c. c == 3) e
 level_user false cpl e = ap (λ c. c == 3) e
 
-pub level_kernel : (kernel : Bool) (cpl : ℕ) → IsLevel kernel cpl → (cpl == 0) ≡ kernel
+pub level_kernel : (kernel : Bool) (cpl : ℕ) → IsLevelOf kernel cpl → (cpl == 0) ≡ kernel
 level_kernel true cpl e = ap (λ c. c == 0) e
 level_kernel false cpl e = ap (λ c. c == 0) e
 
@@ -105,12 +105,12 @@ begins_well image eip (Rattle.paging.specs.Space.Wedge text count own) false h =
     or_true true = refl
     or_true false = refl
 
-stands_well : (m : Setting) (kernel : Bool) (b : State) → IsLevel kernel b.cpu.cpl → IsNext m kernel b → rules.stands_well m b.cpu ≡ true
+stands_well : (m : Setting) (kernel : Bool) (b : State) → IsLevelOf kernel b.cpu.cpl → IsNext m kernel b → rules.stands_well m b.cpu ≡ true
 stands_well m kernel b level next =
     ap (λ k. rules.may_begin m.mode m.image b.cpu.regs.eip || not k) (level_kernel kernel b.cpu.cpl level) ∙ begins_well m.image b.cpu.regs.eip m.mode kernel next.start
 
 -- the step is its fetch, and what comes of it
-pub stepped_by : (m : Setting) (kernel : Bool) (b : State) → IsLevel kernel b.cpu.cpl → IsNext m kernel b
+pub stepped_by : (m : Setting) (kernel : Bool) (b : State) → IsLevelOf kernel b.cpu.cpl → IsNext m kernel b
     → stepped m b ≡ after_fetch m (unheld b) (fetched (b.cpu.cpl == 3) b.cpu.regs.eip (space_at_start m.mode m.frames b.cpu b.ram b.set))
 unfolding worked
 stepped_by m kernel b level next =
@@ -128,7 +128,7 @@ selects_by v cpu s Ds = s.ds
 -- a user's rights
 pub without_rights : (v : View) (cpu : Cpu) → Sees v cpu → v.kernel ≡ false → IsUser cpu
 without_rights v cpu s k =
-    let level : cpu.cpl ≡ 3 = subst (λ (x : Bool). IsLevel x cpu.cpl) k s.level in
+    let level : cpu.cpl ≡ 3 = subst (λ (x : Bool). IsLevelOf x cpu.cpl) k s.level in
     let p = both (Rattle.paging.specs.Fresh.has cpu.regs.flags.bits 512) (cpu.regs.flags.bits / 4096 % 4 == 0) (s.user_flags k) in
     let zero : cpu.regs.flags.bits / 4096 % 4 ≡ 0 = Rattle.native_steps.proofs.Choices.eq_told _ 0 p.1 in
     record {

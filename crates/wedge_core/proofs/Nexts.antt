@@ -24,7 +24,7 @@ use Rattle.machine_model.specs.Run.{Set}
 use Rattle.machine_model.specs.Step.{Went, stepped, fetches_next, items_at, interrupt_of, unheld}
 use Rattle.native_steps.specs.Again as again
 use Rattle.native_steps.specs.Forward.{IsNext}
-use Rattle.native_steps.specs.Mirrors.{IsWedge, IsHost, IsLevel, shown}
+use Rattle.native_steps.specs.Mirrors.{IsWedge, IsHost, IsLevelOf, shown}
 use Rattle.native_steps.specs.TextLaws.{TextLaws}
 use Rattle.native_steps.proofs.Together.{stepped_by}
 use Rattle.wedge_core.specs.Attempts.{Idle}
@@ -100,7 +100,7 @@ others_users m w memory host b ram_is room fit sound small laws next able insn l
 pub starts : (m : Setting) (b : State) (mode : Mode) (s : Space) → m.mode ≡ mode → (laid : List ℕ) → laid ≡ b.ram → s ≡ space_at_start mode m.frames b.cpu laid b.set → s ≡ space_at_start m.mode m.frames b.cpu b.ram b.set
 starts m b mode s mode_is laid laid_is e = e ∙ (λ i. space_at_start (sym mode_is i) m.frames b.cpu (laid_is i) b.set)
 
-pub step_is : (m : Setting) (b : State) → IsLevel (not (b.cpu.cpl == 3)) b.cpu.cpl → IsNext m (not (b.cpu.cpl == 3)) b → stepped m b ≡ fetches_next m (unheld b) (space_at_start m.mode m.frames b.cpu b.ram b.set)
+pub step_is : (m : Setting) (b : State) → IsLevelOf (not (b.cpu.cpl == 3)) b.cpu.cpl → IsNext m (not (b.cpu.cpl == 3)) b → stepped m b ≡ fetches_next m (unheld b) (space_at_start m.mode m.frames b.cpu b.ram b.set)
 step_is m b level next = stepped_by m (not (b.cpu.cpl == 3)) b level next
 
 pub idle : (m : Setting) (b : State) (lost : Lost) (worked : Worked) (board : Board) (t : Space) (new : State) → stepped m b ≡ went_as b worked board t → new.cpu ≡ worked.cpu → new.ram ≡ t.ram → new.board ≡ board_step board → new.step ≡ b.step + 1
