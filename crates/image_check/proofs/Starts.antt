@@ -30,7 +30,7 @@ mark_more starts ps p at i e lt so_far =
 equal_numbers : (k at : ℕ) → (at == k) ≡ true → k ≡ at
 equal_numbers k at e = grind (arith, nat_tests)
 
-same_number : (at : ℕ) → (at == at) ≡ true
+pub same_number : (at : ℕ) → (at == at) ≡ true
 same_number at = grind (arith, nat_tests)
 
 pub contains_any : (starts : List ℕ) (at : ℕ) → Contains starts at → is_among at starts ≡ true
