@@ -138,7 +138,7 @@ opened : (image : Image) (side : Side) (page frame : ℕ) → IsOpen (is_kernel 
 opened image User page frame h = ap not h
 opened image Kernel page frame (inl g) = ap (λ (b : Bool). b || (nat_le 0x11000 page && not (is_text (wedge_mode image) frame))) g
 opened image Kernel page frame (inr p) =
-    ap (λ (b : Bool). is_given (wedge_mode image) page frame || (b && not (is_text (wedge_mode image) frame))) (Rattle.native_steps.proofs.Choices.le_true 0x11000 page p.0)
+    ap (λ (b : Bool). is_given (wedge_mode image) page frame || (b && not (is_text (wedge_mode image) frame))) (Rattle.std.proofs.lemmas.Bool.le-leb 0x11000 page p.0)
     ∙ ap (λ (b : Bool). is_given (wedge_mode image) page frame || not b) p.1
     ∙ or_true (is_given (wedge_mode image) page frame)
   where

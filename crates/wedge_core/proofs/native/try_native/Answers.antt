@@ -1,7 +1,8 @@
 use Rattle.std.proofs.Common.{Bool, ◌==◌, sym, ◌∙◌}
 use Rattle.step_mem.specs.Sound.{space_at}
-use Rattle.machine_step.proofs.Used.{if_ok_on, uses_on}
+use Rattle.machine_step.proofs.Used.{if_ok_on}
 use Rattle.wedge_core.proofs.Trying.{tried_err, refused_next, tried_refusal, tried_prepared, tried_other}
+use Rattle.machine_model.proofs.Using.{uses_on}
 use Rattle.wedge_core.proofs.native.try_native.Goals as goal
 
 pub returns-in_ok-refuse-in-Err-clause-tries : goal.returns-in_ok-refuse-in-Err-clause-tries

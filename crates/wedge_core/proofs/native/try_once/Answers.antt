@@ -11,7 +11,7 @@ use Rattle.frame_pool.specs.declared.Pool.{Pool}
 use Rattle.image_check.specs.Image.{Image}
 use Rattle.image_load.specs.Boot.{text_pages}
 use Rattle.paging.specs.declared.entry.Entry.{Entry}
-use Rattle.paging.specs.Space.{Wedge, Space}
+use Rattle.paging.specs.Space.{Wedge, no_own, Space}
 use Rattle.shadow_tables.specs.Entries.{entries_of}
 use Rattle.shadow_tables.specs.declared.words.Side.{Side}
 use Rattle.step_mem.specs.Changes.{AreWithin, changed}
@@ -236,7 +236,7 @@ returns-in-Some-clause-carried g c = λ script steps t unwanted free roomy taken
     let sound = c.try_native.ensures.sound in
     let pages = sound.noted in
     let most = sound.few in
-    let mode_is : wedge_mode image ≡ Wedge o.result.first o.result.count (record { front = 0; front_len = 0; back = 0; back_len = 0 }) = λ i. Wedge (sym o.ensures.first i) (sym o.ensures.count i) (record { front = 0; front_len = 0; back = 0; back_len = 0 }) in
+    let mode_is : wedge_mode image ≡ Wedge o.result.first o.result.count no_own = λ i. Wedge (sym o.ensures.first i) (sym o.ensures.count i) no_own in
     let r = rw c.in-Some.is at c.in_ok-worked.ensures.roots in
     let bytes = c.are_bytes-in-Some.ensures in
     let ram_is : last.ram ≡ shown (ground image running.frames) c.try_native.new.ram = k.ram1_is script ∙ any_script image script running.frames c.try_native.new.ram in
