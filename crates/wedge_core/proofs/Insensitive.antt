@@ -26,7 +26,7 @@ use Rattle.native_steps.specs.Mirrors.{IsWedge, IsHost, shown}
 use Rattle.native_steps.specs.Forward.{IsNext}
 use Rattle.native_steps.specs.TextLaws.{TextLaws}
 use Rattle.native_steps.specs.Again as again
-use Rattle.native_steps.proofs.Choices.{both, clash, eq_told, eq_true, le_told, le_true, lt_true}
+use Rattle.native_steps.proofs.Choices.{clash, eq_told, eq_true, le_told, le_true, lt_true}
 use Rattle.native_steps.proofs.Completing.{start_there}
 use Rattle.native_steps.proofs.Fetching.{Fetches, IsFetch, IsIn, IsPast, fetch_parts, by_parts}
 use Rattle.native_steps.proofs.Marks.{flagged_kept}
@@ -37,7 +37,7 @@ use Rattle.native_steps.proofs.Through.{Through, through_same, within_as, taken_
 use Rattle.native_steps.proofs.Walking.{IsWithin, IsServed, decided_readied}
 use Rattle.native_steps.proofs.Walks.{IsWalk, ByTable, Large, walk_parts, walk_in}
 use Rattle.native_steps.proofs.Ways.{Way}
-use Rattle.std.proofs.lemmas.Bool.{not-false, or_parts}
+use Rattle.std.proofs.lemmas.Bool.{and_parts, not-false, or_parts}
 
 -- ---- the frames of the text stay
 
@@ -150,8 +150,8 @@ module _ (m : Setting) (b : State) where
 -- the frame that the loader gave
 given : (image : Image) (page frame : ℕ) → is_given (wedge_mode image) page frame ≡ true → (65536 ≤ page) × (frame ≡ 0x100 + (page - 65536))
 given image page frame e =
-    let p = both (nat_le 65536 page && nat_lt page (65536 + text_pages image)) (frame == 0x100 + (page - 65536)) e in
-    let q = both (nat_le 65536 page) (nat_lt page (65536 + text_pages image)) p.0 in
+    let p = and_parts (nat_le 65536 page && nat_lt page (65536 + text_pages image)) (frame == 0x100 + (page - 65536)) e in
+    let q = and_parts (nat_le 65536 page) (nat_lt page (65536 + text_pages image)) p.0 in
     (le_told 65536 page q.0, eq_told frame (0x100 + (page - 65536)) p.1)
 
 module _ (m : Setting) (w : IsWedge m) (memory : List ℕ) (host : IsHost m memory) (b : State) (ram_is : b.ram ≡ shown m memory) (room : 4096 * m.frames ≤ length b.ram) (fit : AreBytes b.ram) (sound : again.AreWithin m b.set)
