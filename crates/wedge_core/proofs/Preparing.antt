@@ -2,8 +2,8 @@
 use Rattle.std.proofs.Common.{◌≡◌, ◌⊎◌, inl, inr, ℕ, ◌/◌, ◌%◌, ◌==◌, nat_le, Bool, true, false, cond, not, ◌||◌, refl, sym, ap, subst, ◌∙◌, List, Option, Some, None, Ok, Err}
 use Rattle.std.specs.FinMap.{FinMap, get}
 use Rattle.std.specs.Prelude.{Result}
-use Rattle.std.specs.Result.{IsErrAnd}
 use Rattle.std.specs.Ordering.{nat_cmp}
+use Rattle.std.proofs.lemmas.Bool.{and_parts}
 use Rattle.guest_ram.specs.Bytes as bytes
 use Rattle.ia32_types.specs.declared.flags.Regs.{Regs}
 use Rattle.ia32_types.specs.declared.insn.Insn.{Insn}
@@ -45,7 +45,7 @@ use Rattle.machine_model.specs.Step as steps
 use Rattle.machine_model.specs.Step.{after_instruction, after_refusal, begun, by_decoded}
 use Rattle.machine_step.specs.declared.worked.Worked.{Worked}
 use Rattle.machine_step.proofs.Refused.{refused_same}
-use Rattle.native_steps.proofs.Choices.{both, clash, eq_told}
+use Rattle.native_steps.proofs.Choices.{clash, eq_told}
 use Rattle.native_steps.proofs.Doing.{plain_effect}
 use Rattle.native_steps.proofs.Together.{by_op_is, not_soft}
 use Rattle.native_steps.proofs.Uses.{reaching_earlier}
@@ -106,7 +106,7 @@ user_cpu : (cpu : Cpu) → IsAble cpu → (cpu.cpl == 3) ≡ true → IsUser cpu
 user_cpu cpu able three =
     let user : cpu.cpl ≡ 3 = eq_told cpu.cpl 3 three in
     let level : ℕ = cpu.regs.flags.bits / 4096 % 4 in
-    let zero : level ≡ 0 = eq_told level 0 (both (has cpu.regs.flags.bits 512) (level == 0) (able.users user)).1 in
+    let zero : level ≡ 0 = eq_told level 0 (and_parts (has cpu.regs.flags.bits 512) (level == 0) (able.users user)).1 in
     record {
       level = ap (λ (x : ℕ). x == 0) user;
       rights = ap (λ (x : ℕ). nat_le x level) user ∙ ap (λ (x : ℕ). nat_le 3 x) zero;
@@ -294,10 +294,3 @@ prepared_is b s fetch t insn len fetches native e =
       writes = r.writes;
       effect = subst (λ (u : Space). effect_in insn len b.cpu u ≡ outcomes.Done q.1.0 q.1.1.0) q.0 q.1.1.1;
     }
-
--- ---- an error that is handed on
-
-pub prepares_err : (m : Setting) (b : State) (insn : Insn) (len : ℕ) (s t : Space) (stop : Stop) (r : Result (Option Worked) Stop) → IsErrAnd r (λ e. e ≡ stop)
-    → by_decoded m b (begins.Insn insn len) s ≡ steps.Halts stop → PreparesAs m b insn len s r t
-prepares_err m b insn len s t stop (Ok x) is e = absurd is
-prepares_err m b insn len s t stop (Err d) is e = e ∙ ap steps.Halts (sym is)
