@@ -36,7 +36,7 @@ use Rattle.native_steps.proofs.Through.{Through, through_same, within_as, taken_
 use Rattle.native_steps.proofs.Walking.{IsWithin, IsServed, decided_readied}
 use Rattle.native_steps.proofs.Walks.{IsWalk, ByTable, Large, walk_parts, walk_in}
 use Rattle.native_steps.proofs.Ways.{Way}
-use Rattle.std.proofs.lemmas.Bool.{not-false, or_parts, and_parts, le-leb, lt-ltb, leb-true, eqb-true, eq-eqb, both_ways}
+use Rattle.std.proofs.lemmas.Bool.{and_parts, not-false, or_parts, both_ways, eqb-true, eq-eqb, leb-true, le-leb, lt-ltb}
 
 -- ---- the frames of the text stay
 

@@ -2,6 +2,7 @@
 use Rattle.std.proofs.Common.{◌≡◌, ℕ, ◌+◌, ◌-◌, ◌*◌, ◌^◌, ◌<◌, ◌≤◌, List, [], length, Bool, true, false, cond, ◌&&◌, ◌||◌, not, ◌==◌, inl, inr, Option, Some, None, Ok, is_none, refl, sym, ap, subst, ◌∙◌, arith}
 use Rattle.std.specs.Prelude.{nat_le, nat_lt}
 use Rattle.std.proofs.lemmas.Bool.Decides.{nat_tests}
+use Rattle.std.proofs.lemmas.Bool.{and_parts}
 use Rattle.guest_ram.specs.Bytes.{AreBytes}
 use Rattle.ia32_types.specs.Site.{kind_of}
 use Rattle.ia32_types.specs.declared.insn.Op.{Op}
@@ -32,7 +33,7 @@ use Rattle.wedge_step.specs.Parts.{IsLeft}
 use Rattle.wedge_step.specs.declared.running.Lost.{Lost}
 use Rattle.wedge_core.specs.Tries.{OthersAreUsers}
 use Rattle.wedge_core.specs.Views.{is_outside, may_run}
-use Rattle.wedge_step.proofs.Bools.{both, is_not, none_of}
+use Rattle.wedge_step.proofs.Bools.{is_not, none_of}
 use Rattle.wedge_core.proofs.Insensitive.{insensitive}
 
 stands_out : (low start : Bool) (site : Option Site) → is_outside (cond low NotAStart (cond start (by_site site) NotAStart)) ≡ true → (low ≡ false) × (start ≡ true) × (site ≡ None)
@@ -51,8 +52,8 @@ out_of false out h k = h
 pub next_from : (m : Setting) (b : State) → may_run b.cpu b.board m.image ≡ true → b.cpu.regs.eip < 2 ^ 32 → IsNext m (not (b.cpu.cpl == 3)) b
 next_from m b may small =
     let eip : ℕ = b.cpu.regs.eip in
-    let p = both (not b.cpu.halted && is_none (interrupt_of b.cpu b.board)) (b.cpu.cpl == 3 || is_outside (place_at m.image b.cpu.regs.eip)) may in
-    let q = both (not b.cpu.halted) (is_none (interrupt_of b.cpu b.board)) p.0 in
+    let p = and_parts (not b.cpu.halted && is_none (interrupt_of b.cpu b.board)) (b.cpu.cpl == 3 || is_outside (place_at m.image b.cpu.regs.eip)) may in
+    let q = and_parts (not b.cpu.halted) (is_none (interrupt_of b.cpu b.board)) p.0 in
     record {
       awake = is_not b.cpu.halted q.0;
       quiet = none_of (interrupt_of b.cpu b.board) q.1;

@@ -2,9 +2,8 @@
 use Rattle.std.proofs.Common.{◌≡◌, ◌⊎◌, inl, inr, ℕ, ◌/◌, ◌%◌, ◌==◌, nat_le, Bool, true, false, cond, not, ◌||◌, refl, sym, ap, subst, ◌∙◌, List, Option, Some, None, Ok, Err}
 use Rattle.std.specs.FinMap.{FinMap, get}
 use Rattle.std.specs.Prelude.{Result}
-use Rattle.std.specs.Result.{IsErrAnd}
 use Rattle.std.specs.Ordering.{nat_cmp}
-use Rattle.std.proofs.lemmas.Bool.{and_parts, eqb-true, both_ways}
+use Rattle.std.proofs.lemmas.Bool.{and_parts, both_ways, eqb-true}
 use Rattle.guest_ram.specs.Bytes as bytes
 use Rattle.ia32_types.specs.declared.flags.Regs.{Regs}
 use Rattle.ia32_types.specs.declared.insn.Insn.{Insn}
@@ -294,10 +293,3 @@ prepared_is b s fetch t insn len fetches native e =
       writes = r.writes;
       effect = subst (λ (u : Space). effect_in insn len b.cpu u ≡ outcomes.Done q.1.0 q.1.1.0) q.0 q.1.1.1;
     }
-
--- ---- an error that is handed on
-
-pub prepares_err : (m : Setting) (b : State) (insn : Insn) (len : ℕ) (s t : Space) (stop : Stop) (r : Result (Option Worked) Stop) → IsErrAnd r (λ e. e ≡ stop)
-    → by_decoded m b (begins.Insn insn len) s ≡ steps.Halts stop → PreparesAs m b insn len s r t
-prepares_err m b insn len s t stop (Ok x) is e = absurd is
-prepares_err m b insn len s t stop (Err d) is e = e ∙ ap steps.Halts (sym is)
