@@ -1,7 +1,7 @@
 -- Of the causes whose conditions hold of an item the lowest is told.
 use Rattle.std.proofs.Common.{◌≡◌, ℕ, ◌+◌, ◌<◌, ◌≤◌, Bool, true, false, List, length, Some, Result, Ok, Err, refl, sym, ap, subst, ◌∙◌, arith}
 use Rattle.std.specs.Prelude.{nat_lt}
-use Rattle.std.proofs.lemmas.Bool.Decides.{nat_tests}
+use Rattle.std.proofs.lemmas.Bool.{lt-ltb}
 use Rattle.asm_source.specs.declared.tree.Argument.{Argument}
 use Rattle.asm_source.specs.declared.tree.Body.{Body}
 use Rattle.asm_source.specs.declared.tree.Body.TheVariants as body
@@ -43,12 +43,9 @@ made_limited names st new b d m t = rw m t
 
 -- ---- what is too large
 
-above : (limit n : ℕ) → limit < n → nat_lt limit n ≡ true
-above limit n lt = grind (arith, nat_tests)
-
 text_told : (new : ObjectSoFar) → TEXT_LIMIT < length new.text → Told (limited new) cause.TextTooLarge
 unfolding limited
-text_told new lt = (cause.TextTooLarge, rw (above TEXT_LIMIT (length new.text) lt) refl, omega arith)
+text_told new lt = (cause.TextTooLarge, rw (lt-ltb TEXT_LIMIT (length new.text) lt) refl, omega arith)
 
 data_told : (new : ObjectSoFar) → 33554432 < length new.init + new.bss → Told (limited new) cause.InitTooLarge
 unfolding limited
@@ -56,7 +53,7 @@ data_told new lt = by_text (nat_lt TEXT_LIMIT (length new.text)) refl
   where
     by_text : (t : Bool) → nat_lt TEXT_LIMIT (length new.text) ≡ t → Told (limited new) cause.InitTooLarge
     by_text true e = (cause.TextTooLarge, rw e refl, omega arith)
-    by_text false e = (cause.InitTooLarge, rw (e, above 33554432 (length new.init + new.bss) lt) refl, omega arith)
+    by_text false e = (cause.InitTooLarge, rw (e, lt-ltb 33554432 (length new.init + new.bss) lt) refl, omega arith)
 
 sites_told : (new : ObjectSoFar) → SITE_LIMIT < length new.sites → Told (limited new) cause.TooManySites
 unfolding limited
@@ -65,7 +62,7 @@ sites_told new lt = by_text (nat_lt TEXT_LIMIT (length new.text)) refl (nat_lt 3
     by_text : (t : Bool) → nat_lt TEXT_LIMIT (length new.text) ≡ t → (u : Bool) → nat_lt 33554432 (length new.init + new.bss) ≡ u → Told (limited new) cause.TooManySites
     by_text true e u f = (cause.TextTooLarge, rw e refl, omega arith)
     by_text false e true f = (cause.InitTooLarge, rw (e, f) refl, omega arith)
-    by_text false e false f = (cause.TooManySites, rw (e, f, above SITE_LIMIT (length new.sites) lt) refl, omega arith)
+    by_text false e false f = (cause.TooManySites, rw (e, f, lt-ltb SITE_LIMIT (length new.sites) lt) refl, omega arith)
 
 -- ---- instructions
 
@@ -135,7 +132,7 @@ module _ (names : List (List ℕ)) (st : ObjectSoFar) (args : List Argument) whe
 
   many_told : (s : Section) → is_init s ≡ true → 33554432 < length st.init + st.bss + count_at args 0 → Told (zeros_in (parted st) s (count_at args 0)) cause.InitTooLarge
   many_told section.Text q lt = absurd cc
-  many_told section.Init q lt = (cause.InitTooLarge, rw (above 33554432 (length st.init + st.bss + count_at args 0) lt) refl, omega arith)
+  many_told section.Init q lt = (cause.InitTooLarge, rw (lt-ltb 33554432 (length st.init + st.bss + count_at args 0) lt) refl, omega arith)
   many_told section.Bss q lt = absurd cc
 
   zeros_directed : (d : BurnCause) → Told (zeros_in (parted st) st.section (count_at args 0)) d → Told (directed names (parted st) directive.Zeros args) d

@@ -1,11 +1,12 @@
 -- Instructions: spelled, padded and annotated.
-use Rattle.std.specs.Prelude.{ℕ, ◌+◌, ◌-◌, max, Bool, true, false, ◌&&◌, List, [], ◌∷◌, ◌++◌, length, take, replicate, Option, Some, None, Result, Ok, Err, slice_set, slice_index_or, if◌then◌else◌}
+use Rattle.std.specs.Prelude.{ℕ, ◌+◌, ◌-◌, Bool, true, false, ◌&&◌, List, [], ◌∷◌, ◌++◌, length, take, replicate, Option, Some, None, Result, Ok, Err, slice_set, slice_index_or, if◌then◌else◌}
 use Rattle.asm_source.specs.declared.tree.Argument.{Argument}
 use Rattle.ia32_types.specs.declared.site.SiteKind.{SiteKind}
 use Rattle.ia32_types.specs.declared.site.SiteKind.TheVariants as site
 use Rattle.ia32_types.specs.Site.{sensitive_kind}
 use Rattle.elf_form.specs.declared.object.Reloc.{Reloc}
 use Rattle.sites.specs.declared.site.Site.{Site}
+use Rattle.sites.specs.Padded.{padded_site}
 use Rattle.asm_instruction.specs.declared.assembled.Assembled.{Assembled}
 use Rattle.asm_instruction.specs.declared.assembled.Named.{Named}
 use Rattle.asm_instruction.specs.declared.assembled.Refusal.{Refusal}
@@ -28,7 +29,7 @@ nops_behind (Some kind) len = 5 - len
 
 abbrev pub site_at : ℕ → Option SiteKind → ℕ → List Site
 site_at at None len = []
-site_at at (Some kind) len = record { at = at; kind = kind; len = len; total = max 5 len } ∷ []
+site_at at (Some kind) len = padded_site at kind len ∷ []
 
 abbrev pub reloc_of : List (List ℕ) → ℕ → Named → Option (List ℕ) → List Reloc
 reloc_of names at field None = []

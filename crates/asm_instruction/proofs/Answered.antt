@@ -33,7 +33,7 @@ fitting_is : (b : Bool) (x a : Assembled) → (if b then Ok x else Err refusal.V
 fitting_is true x a e = cc
 fitting_is false x a e = absurd cc
 
-spelling_is : (d : Draft) (w : Wide) (o : Option ArrayBytes) (a : Assembled) → with_spelling d w o ≡ Ok a → (s : ArrayBytes) × (o ≡ Some s) × (a ≡ whole d w s)
+pub spelling_is : (d : Draft) (w : Wide) (o : Option ArrayBytes) (a : Assembled) → with_spelling d w o ≡ Ok a → (s : ArrayBytes) × (o ≡ Some s) × (a ≡ whole d w s)
 spelling_is d w None a e = absurd cc
 spelling_is d w (Some s) a e = (s, refl, fitting_is d.fits (whole d w s) a e)
 

@@ -1,13 +1,12 @@
 -- The same of jumps, calls and returns.
 use Rattle.std.proofs.Common.{◌≡◌, ℕ, ◌<◌, Bool, true, false, List, Option, Some, None, refl, ap, ◌∙◌, arith}
 use Rattle.std.specs.Prelude.{◌&&◌, is_none, if◌then◌else◌}
-use Rattle.std.proofs.lemmas.Bool.{ltb-true}
+use Rattle.std.proofs.lemmas.Bool.{ltb-true, both_ways, and_parts}
 use Rattle.ia32_types.specs.declared.insn.Op.{Op}
 use Rattle.ia32_types.specs.declared.insn.Op.TheVariants as op
 use Rattle.ia32_types.specs.declared.size.Size.{Size}
 use Rattle.ia32_types.specs.declared.size.Size.TheVariants as size
 use Rattle.ia32_types.specs.Shape.{is_direct_branch}
-use Rattle.ia32_rows.proofs.Fields.{both}
 use Rattle.asm_source.specs.declared.tree.Argument.{Argument}
 use Rattle.asm_instruction.specs.declared.argument.Number.{Number}
 use Rattle.asm_instruction.specs.declared.argument.Memory.{Memory}
@@ -23,7 +22,7 @@ use Rattle.asm_instruction.specs.Sizes.{agreed}
 use Rattle.asm_instruction.specs.Draft.{nothing, register_or_memory, said, instruction, with_number, alone}
 use Rattle.asm_instruction.specs.Arithmetic.{one}
 use Rattle.asm_instruction.specs.Control.{distance, to_symbol, is_symbol, to_operand, direct, indirect, return_of, returned, with_selector, far, with_condition, set, control_draft}
-use Rattle.asm_instruction.proofs.Goods.{When, bind_from, bind_any, choice, word_below, distance_below, PlaceGood, MemoryGood, GivenGood, OperandsGood, DraftGood, opposite, family_good, branch_direct, branch_indirect}
+use Rattle.asm_instruction.proofs.Goods.{When, bind_from, bind_any, choice, word_below, distance_below, PlaceGood, MemoryGood, GivenGood, OperandsGood, DraftGood, family_good, branch_direct, branch_indirect}
 use Rattle.asm_instruction.proofs.Goods.{Good, instruction_good, instruction_op, instruction_numbered, rom_good, Plain}
 
 module _ (args : List Argument) where
@@ -34,7 +33,7 @@ module _ (args : List Argument) where
   pub symbol_good : (o : Op) (c : ℕ) (m : Memory) → is_direct_branch o ≡ true → c < 16 → is_symbol m ≡ true → MemoryGood args m → DraftGood args (to_symbol o c m)
   unfolding to_symbol instruction
   symbol_good o c m e lt s h =
-      let named = both (m.displacement.named) (is_none m.address.base) (both (m.displacement.named && is_none m.address.base) (is_none m.address.index) s).0 in
+      let named = and_parts (m.displacement.named) (is_none m.address.base) (and_parts (m.displacement.named && is_none m.address.base) (is_none m.address.index) s).0 in
       record {
         bounded = record { a = tt; b = tt; imm = distance_below m.address.disp; sel = omega arith };
         direct = λ t. record { argument = m.displacement.argument; is = refl; named = h.named named.0; relative = refl; constant = ap distance h.constant };
@@ -80,7 +79,7 @@ module _ (args : List Argument) where
   pub selector_good : (d : Draft) (n : Number) → is_direct_branch d.insn.op ≡ false → DraftGood args d → DraftGood args (with_selector d n)
   selector_good d n e g = record {
     bounded = record { a = g.bounded.a; b = g.bounded.b; imm = g.bounded.imm; sel = word_below n.value };
-    direct = λ t. absurd (opposite (is_direct_branch d.insn.op) e t);
+    direct = λ t. absurd (both_ways (is_direct_branch d.insn.op) e t);
     relative = g.relative;
   }
 
@@ -97,7 +96,7 @@ module _ (args : List Argument) where
   pub condition_good : (d : Draft) (c : ℕ) → c < 16 → is_direct_branch d.insn.op ≡ false → DraftGood args d → DraftGood args (with_condition d c)
   condition_good d c lt e g = record {
     bounded = record { a = g.bounded.a; b = g.bounded.b; imm = g.bounded.imm; sel = omega arith };
-    direct = λ t. absurd (opposite (is_direct_branch d.insn.op) e t);
+    direct = λ t. absurd (both_ways (is_direct_branch d.insn.op) e t);
     relative = g.relative;
   }
 

@@ -1,6 +1,7 @@
 -- The same of the others, and of every family.
 use Rattle.std.proofs.Common.{◌≡◌, Bool, true, false, List, Option, Some, None, refl, ap, ◌∙◌}
 use Rattle.std.specs.Prelude.{◌==◌}
+use Rattle.std.proofs.lemmas.Bool.{both_ways}
 use Rattle.ia32_types.specs.declared.insn.Op.{Op}
 use Rattle.ia32_types.specs.declared.insn.Op.TheVariants as op
 use Rattle.ia32_types.specs.declared.size.Size.{Size}
@@ -23,7 +24,7 @@ use Rattle.asm_instruction.specs.Strings.{as_string, string_draft}
 use Rattle.asm_instruction.specs.Flags.{without_operands, plain_draft}
 use Rattle.asm_instruction.specs.System.{through, between, ported, memory_alone, of_memory, task, system_draft}
 use Rattle.asm_instruction.specs.Mnemonic.{by_family, repeated, drafted, without_repeat}
-use Rattle.asm_instruction.proofs.Goods.{When, bind_from, bind_any, choice, PlaceGood, GivenGood, OperandsGood, DraftGood, opposite, family_good, not_direct}
+use Rattle.asm_instruction.proofs.Goods.{When, bind_from, bind_any, choice, PlaceGood, GivenGood, OperandsGood, DraftGood, family_good, not_direct}
 use Rattle.asm_instruction.proofs.Goods.{Good, instruction_good, instruction_op, instruction_numbered, rom_good, arithmetic_good, shift_good}
 use Rattle.asm_instruction.proofs.MovesGood.{move_good, stack_good}
 use Rattle.asm_instruction.proofs.ControlGood.{control_good}
@@ -32,7 +33,7 @@ module _ (args : List Argument) where
   pub repeated_good : (d : Draft) (s : Size) (r : Bool) → is_direct_branch d.insn.op ≡ false → DraftGood args d → DraftGood args (as_string d s r)
   repeated_good d s r e g = record {
     bounded = record { a = g.bounded.a; b = g.bounded.b; imm = g.bounded.imm; sel = g.bounded.sel };
-    direct = λ t. absurd (opposite (is_direct_branch d.insn.op) e t);
+    direct = λ t. absurd (both_ways (is_direct_branch d.insn.op) e t);
     relative = g.relative;
   }
 

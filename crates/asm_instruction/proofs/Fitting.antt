@@ -4,10 +4,10 @@ use Rattle.std.specs.Prelude.{ℤ, ◌&&◌, All}
 use Rattle.std.specs.Option.{option_or}
 use Rattle.std.specs.List.{Contains}
 use Rattle.std.proofs.lemmas.List.Elements.{All-nil, All-cons, All-contains, Contains-append_right}
+use Rattle.std.proofs.lemmas.Bool.{and_parts}
 use Rattle.ia32_types.specs.declared.insn.Op.{Op}
 use Rattle.ia32_types.specs.declared.size.Size.{Size}
 use Rattle.ia32_types.specs.declared.size.Size.TheVariants as size
-use Rattle.ia32_rows.proofs.Fields.{both}
 use Rattle.asm_instruction.specs.declared.argument.Number.{Number}
 use Rattle.asm_instruction.specs.declared.argument.Given.{Given}
 use Rattle.asm_instruction.specs.declared.argument.Given.TheVariants as given
@@ -157,7 +157,7 @@ one_unfit (x ∷ xs) h = by_first (fits_field x.0 x.1) refl (one_unfit xs)
 
 each_fits : (xs : Numbers) → all_fit xs ≡ true → All (λ (y : Size × ℤ). fits_field y.0 y.1 ≡ true) xs
 each_fits [] h = All-nil _
-each_fits (x ∷ xs) h = let p = both (fits_field x.0 x.1) (all_fit xs) h in All-cons (λ (y : Size × ℤ). fits_field y.0 y.1 ≡ true) x xs p.0 (each_fits xs p.1)
+each_fits (x ∷ xs) h = let p = and_parts (fits_field x.0 x.1) (all_fit xs) h in All-cons (λ (y : Size × ℤ). fits_field y.0 y.1 ≡ true) x xs p.0 (each_fits xs p.1)
 
 pub unfit_all : (xs : List (Size × ℤ)) (x : Size × ℤ) → Contains xs x → fits_field x.0 x.1 ≡ false → all_fit xs ≡ false
 unfit_all xs x c e = by_all (all_fit xs) refl

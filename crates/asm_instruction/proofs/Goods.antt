@@ -1,13 +1,13 @@
 -- Each draft has numbers within their bounds, and is relative exactly where it is a direct branch to a symbol: arithmetic.
-use Rattle.std.proofs.Common.{◌≡◌, ℕ, ◌^◌, ◌<◌, Bool, true, false, List, Option, Some, None, refl, sym, ap, ◌∙◌, arith}
+use Rattle.std.proofs.Common.{◌≡◌, ℕ, ◌^◌, ◌<◌, Bool, true, false, List, Option, Some, None, refl, ap, ◌∙◌, arith}
 use Rattle.std.specs.Prelude.{ℤ, ◌==◌, ◌&&◌, not, nat_lt, if◌then◌else◌}
 use Rattle.std.specs.Option.{option_or}
+use Rattle.std.proofs.lemmas.Bool.{both_ways, not-true, and_parts}
 use Rattle.ia32_types.specs.declared.insn.Op.{Op}
 use Rattle.ia32_types.specs.declared.insn.Op.TheVariants as op
 use Rattle.ia32_types.specs.declared.size.Size.{Size}
 use Rattle.ia32_types.specs.declared.size.Size.TheVariants as size
 use Rattle.ia32_types.specs.Shape.{is_direct_branch}
-use Rattle.ia32_rows.proofs.Fields.{both}
 use Rattle.ia32_encode.specs.Chosen.{IsOperandBounded, IsBounded}
 use Rattle.asm_source.specs.declared.tree.Argument.{Argument}
 use Rattle.asm_instruction.specs.declared.argument.Number.{Number}
@@ -109,9 +109,6 @@ pub record DraftGood (args : List Argument) (d : Draft) : Type 0 where
   pub direct : is_direct_branch d.insn.op ≡ true → IsDistanceOf args d
   pub relative : d.relative ≡ true → is_direct_branch d.insn.op ≡ true
 
-pub opposite : (b : Bool) → b ≡ false → b ≡ true → ⊥
-opposite b f t = cc
-
 -- ---- what is known of the names
 
 abbrev pub no_direct : Op → Bool
@@ -130,18 +127,14 @@ family_good (family.Plain o) = no_direct o
 family_good (family.System (system.Memory o)) = no_direct o
 family_good _ = true
 
-pub not_true : (b : Bool) → not b ≡ true → b ≡ false
-not_true true h = sym h
-not_true false h = refl
-
 pub not_direct : (o : Op) → no_direct o ≡ true → is_direct_branch o ≡ false
-not_direct o h = not_true (is_direct_branch o) h
+not_direct o h = not-true (is_direct_branch o) h
 
 pub branch_direct : (x y : Op) → (is_direct_branch x && no_direct y) ≡ true → is_direct_branch x ≡ true
-branch_direct x y h = (both (is_direct_branch x) (no_direct y) h).0
+branch_direct x y h = (and_parts (is_direct_branch x) (no_direct y) h).0
 
 pub branch_indirect : (x y : Op) → (is_direct_branch x && no_direct y) ≡ true → is_direct_branch y ≡ false
-branch_indirect x y h = not_true (is_direct_branch y) (both (is_direct_branch x) (no_direct y) h).1
+branch_indirect x y h = not-true (is_direct_branch y) (and_parts (is_direct_branch x) (no_direct y) h).1
 
 module _ (args : List Argument) where
   abbrev pub Good : Option Draft → Type 0
@@ -151,7 +144,7 @@ module _ (args : List Argument) where
   unfolding instruction
   instruction_good o s a b e p q = record {
     bounded = record { a = p; b = q; imm = omega arith; sel = omega arith };
-    direct = λ t. absurd (opposite (is_direct_branch o) e t);
+    direct = λ t. absurd (both_ways (is_direct_branch o) e t);
     relative = λ t. absurd cc;
   }
 
@@ -163,7 +156,7 @@ module _ (args : List Argument) where
   unfolding with_number
   numbered_good d s n e g = record {
     bounded = record { a = g.bounded.a; b = g.bounded.b; imm = field_below s n.value; sel = g.bounded.sel };
-    direct = λ t. absurd (opposite (is_direct_branch d.insn.op) e t);
+    direct = λ t. absurd (both_ways (is_direct_branch d.insn.op) e t);
     relative = g.relative;
   }
 
@@ -282,7 +275,7 @@ module _ (args : List Argument) where
   pub of_one_good : (d : Draft) → is_direct_branch d.insn.op ≡ false → DraftGood args d → DraftGood args (of_one d)
   of_one_good d e g = record {
     bounded = record { a = g.bounded.a; b = g.bounded.b; imm = omega arith; sel = g.bounded.sel };
-    direct = λ t. absurd (opposite (is_direct_branch d.insn.op) e t);
+    direct = λ t. absurd (both_ways (is_direct_branch d.insn.op) e t);
     relative = g.relative;
   }
 

@@ -4,14 +4,13 @@ use Rattle.std.specs.Prelude.{codes, ◌==◌, ◌&&◌, All, take, slice_index,
 use Rattle.std.specs.Option.{option_or}
 use Rattle.std.specs.List.{Contains}
 use Rattle.std.specs.Str.{bytes_eq}
-use Rattle.std.proofs.lemmas.Bool.{eqb-true}
+use Rattle.std.proofs.lemmas.Bool.{eqb-true, and_parts}
 use Rattle.std.proofs.lemmas.List.{take_more, take_all}
 use Rattle.std.proofs.lemmas.List.Elements.{All-nil, All-cons, All-contains, Contains-append_left, Contains-append_right}
 use Rattle.std.proofs.lemmas.Slice.Eq.{bytes_eq-Decides}
 use Rattle.ia32_types.specs.declared.site.Refused.{Refused}
 use Rattle.ia32_types.specs.declared.size.Size.{Size}
 use Rattle.ia32_types.specs.declared.size.Size.TheVariants as size
-use Rattle.ia32_rows.proofs.Fields.{both}
 use Rattle.asm_instruction.specs.declared.control.Control.TheVariants as control
 use Rattle.asm_instruction.specs.declared.mnemonic.Family.{Family}
 use Rattle.asm_instruction.specs.declared.mnemonic.Family.TheVariants as family
@@ -122,8 +121,8 @@ set_named name rest e = bind_from (Lists conditions rest) (IsBare name) (conditi
 
 begins_with_set : (s e t : ℕ) (rest : List ℕ) → ((s == 115) && (e == 101) && (t == 116)) ≡ true → s ∷ e ∷ t ∷ rest ≡ 115 ∷ 101 ∷ 116 ∷ rest
 begins_with_set s e t rest h =
-    let p = both ((s == 115) && (e == 101)) (t == 116) h in
-    let q = both (s == 115) (e == 101) p.0 in
+    let p = and_parts ((s == 115) && (e == 101)) (t == 116) h in
+    let q = and_parts (s == 115) (e == 101) p.0 in
     let first = eqb-true s 115 q.0 in
     let second = eqb-true e 101 q.1 in
     let third = eqb-true t 116 p.1 in

@@ -3,11 +3,10 @@ use Rattle.std.proofs.Common.{◌≡◌, ℕ, ◌-◌, ◌<◌, Bool, true, fals
 use Rattle.std.specs.Prelude.{◌==◌, ◌&&◌, nat_lt, is_none, slice_get, slice_index, take}
 use Rattle.std.specs.Option.{option_or}
 use Rattle.std.specs.Str.{bytes_eq}
-use Rattle.std.proofs.lemmas.Bool.{ltb-true, lt-ltb}
+use Rattle.std.proofs.lemmas.Bool.{ltb-true, lt-ltb, and_parts}
 use Rattle.ia32_types.specs.declared.register.Reg.{Reg}
 use Rattle.ia32_types.specs.Register.{number_of}
 use Rattle.ia32_types.specs.declared.size.Size.TheVariants as size
-use Rattle.ia32_rows.proofs.Fields.{both}
 use Rattle.asm_source.specs.declared.tree.Value.{Value}
 use Rattle.asm_source.specs.declared.tree.Form.{Form}
 use Rattle.asm_source.specs.declared.tree.Form.TheVariants as form
@@ -124,7 +123,7 @@ all_good (e ∷ table) = family_good e.1 && all_good table
 found_good : (table : Table Family) → all_good table ≡ true → (name : List ℕ) → When FamilyGood (found table name)
 found_good [] h name = tt
 found_good (e ∷ table) h name =
-    let p = both (family_good e.1) (all_good table) h in
+    let p = and_parts (family_good e.1) (all_good table) h in
     choice FamilyGood (bytes_eq name e.0) (Some e.1) (found table name) p.0 (found_good table p.1 name)
 
 abbrev Below : ℕ → Type 0
@@ -137,7 +136,7 @@ all_below (e ∷ table) = nat_lt e.1 16 && all_below table
 found_below : (table : Table ℕ) → all_below table ≡ true → (name : List ℕ) → When Below (found table name)
 found_below [] h name = tt
 found_below (e ∷ table) h name =
-    let p = both (nat_lt e.1 16) (all_below table) h in
+    let p = and_parts (nat_lt e.1 16) (all_below table) h in
     choice Below (bytes_eq name e.0) (Some e.1) (found table name) (ltb-true e.1 16 p.0) (found_below table p.1 name)
 
 condition_below : (name : List ℕ) → When Below (condition name)

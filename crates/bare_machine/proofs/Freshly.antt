@@ -1,9 +1,9 @@
 -- Runs before each step of which nothing is cached.
-use Rattle.std.proofs.Common.{◌≡◌, ℕ, zero, suc, ◌+◌, ◌-◌, ◌≤◌, ◌<◌, Bool, List, [], ◌∷◌, ◌++◌, length, replicate, Option, Result, Ok, Err, None, Some, refl, sym, ap, subst, ◌∙◌, append_assoc, arith}
+use Rattle.std.proofs.Common.{◌≡◌, ℕ, zero, suc, ◌+◌, ◌-◌, ◌≤◌, ◌<◌, Bool, List, [], ◌∷◌, ◌++◌, length, replicate, Option, Result, Ok, Err, refl, sym, ap, subst, ◌∙◌, append_assoc, arith}
 use Rattle.std.proofs.lemmas.List.{append-nil}
 use Rattle.std.specs.FinMap.{get, empty, get-empty}
 use Rattle.std.specs.Ordering.{nat_cmp}
-use Rattle.paging.specs.declared.entry.Entry.{Entry}
+use Rattle.std.proofs.lemmas.Option.{none-some}
 use Rattle.pv_io.specs.declared.answer.Failed.{Failed}
 use Rattle.pv_io.specs.Causes.{Rose}
 use Rattle.pv_io.specs.Sink.{Appends, AppendsFront}
@@ -35,7 +35,7 @@ use Rattle.bare_machine.proofs.Runs.{same_step, trace_join}
 use Rattle.bare_machine.proofs.Going.{lines_join}
 use Rattle.bare_machine.proofs.Ones.{steps_counted}
 use Rattle.bare_machine.proofs.Wholes.{answered}
-use Rattle.bare_machine.proofs.Texts.{appends_both, appends_none, front_of, rose_later}
+use Rattle.pv_io.proofs.Pieces.{appends_both, appends_none, front_of, rose_later}
 
 -- a course with reports before it
 abbrev pub behind : List Report → Course → Course
@@ -222,12 +222,9 @@ course_ended x count end a b c before mid now (Err fault.Write) h le e = course_
 course_ended x count end a b c before mid now (Err (fault.TooSmall small)) h le e = absurd e
 course_ended x count end a b c before mid now (Err fault.Memory) h le e = absurd e
 
-none_some : (e : Entry) → None ≡ Some e → ⊥
-none_some e h = cc
-
 -- nothing is cached
 empty_allowed : (s : Setting) (b : State) → Loosened s b empty
-empty_allowed s b = record { each = λ page e is. absurd (none_some e (sym (get-empty nat_cmp page) ∙ is)) }
+empty_allowed s b = record { each = λ page e is. absurd (none-some e (sym (get-empty nat_cmp page) ∙ is)) }
 
 run_from : (k : ℕ) (s : Setting) (n : ℕ) (b : State) (r : steps.Result) → step_of s b empty ≡ r → StepsTo (b.step + 1) r → b.step + suc k ≡ n
     → ((mid : State) → mid.step + k ≡ n → IsFreshRun s n mid (fresh_course s k mid)) → IsFreshRun s n b (after_step b r (λ mid. fresh_course s k mid))

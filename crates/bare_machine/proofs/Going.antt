@@ -5,13 +5,13 @@ use Rattle.pv_io.specs.Sink.{Appends, AppendsFront}
 use Rattle.run_trace.specs.declared.items.Item.{Item}
 use Rattle.run_trace.specs.declared.items.What.{What}
 use Rattle.run_trace.specs.Text.{item_line, lines_of}
-use Rattle.bare_mem.specs.Part.{IsPartOf}
+use Rattle.paging.specs.Part.{IsPartOf}
 use Rattle.machine_model.specs.State.{Setting, State}
 use Rattle.machine_model.specs.Step.{Report, Went, step_of, items_at}
 use Rattle.machine_model.specs.Run.{Set, Steps, trace_of, with_set}
 use Rattle.bare_machine.specs.Machine.{translations_of, Goes, Rests, Passes, StepsBy, FirstIs}
 use Rattle.bare_machine.proofs.Runs.{part_allowed, part_same, same_step, no_steps, steps_on, steps_join, by_none, by_on, by_join, trace_on, trace_join}
-use Rattle.bare_machine.proofs.Texts.{appends_both, front_of, appends_none}
+use Rattle.pv_io.proofs.Pieces.{appends_both, front_of, appends_none}
 
 -- some steps were done, the next one goes by what is cached, and the lines were put
 pub record Going (s : Setting) (exact : Bool) (old now : State) (told tells : Option (List ℕ)) : Type 0 where

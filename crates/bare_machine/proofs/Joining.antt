@@ -6,7 +6,7 @@ use Rattle.std.specs.FinMap.{get}
 use Rattle.paging.specs.declared.entry.Entry.{Entry}
 use Rattle.run_trace.specs.declared.pause.Pause.{Pause}
 use Rattle.run_trace.specs.declared.pause.Pause.TheVariants.{Reached, Stopped}
-use Rattle.bare_mem.specs.Part.{IsPartOf}
+use Rattle.paging.specs.Part.{IsPartOf}
 use Rattle.machine_model.specs.State.{Setting, State, Loosened, IsCacheable}
 use Rattle.machine_model.specs.Step.{Report, Went, step_of}
 use Rattle.machine_model.specs.Run.{Set, Steps, Run, with_set}

@@ -1,5 +1,4 @@
 pub mod Begun
-pub mod Texts
 pub mod Runs
 pub mod Steps
 pub mod Resting

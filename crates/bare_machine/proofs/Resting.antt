@@ -7,7 +7,7 @@ use Rattle.machine_model.specs.State.{Setting, State}
 use Rattle.machine_model.specs.Step.{interrupt_of}
 use Rattle.machine_model.specs.Run.{Set, with_set}
 use Rattle.machine_model.specs.Resting.{IsResting, resting, nothing, HaltedSteps}
-use Rattle.bare_mem.specs.Part.{IsPartOf}
+use Rattle.paging.specs.Part.{IsPartOf}
 use Rattle.bare_machine.specs.Machine.{Rests, StepsBy, translations_of}
 use Rattle.bare_machine.proofs.Runs.{part_same, no_steps, by_none}
 

@@ -1,8 +1,9 @@
 -- What a step comes to, from what its parts did.
-use Rattle.std.proofs.Common.{◌≡◌, ℕ, ◌/◌, [], Bool, true, cond, None, Some, refl, sym, ap, ◌∙◌, inl, inr}
+use Rattle.std.proofs.Common.{◌≡◌, ℕ, ◌/◌, [], Bool, true, cond, None, refl, sym, ap, ◌∙◌, inl, inr}
 use Rattle.std.proofs.lemmas.Bool.Decides.{eqb_tells}
 use Rattle.std.specs.FinMap.{FinMap, empty}
 use Rattle.std.specs.Ordering.{nat_cmp}
+use Rattle.std.proofs.lemmas.Option.{none-some}
 use Rattle.board.specs.declared.devices.Board.{Board}
 use Rattle.board.specs.Boards.{board_step, board_steps}
 use Rattle.paging.specs.declared.entry.Entry.{Entry}
@@ -11,7 +12,7 @@ use Rattle.paging.specs.Uses.{with_entry, without_dir}
 use Rattle.xlate_buffer.proofs.Caching.{dir_gone, dir_other}
 use Rattle.step_mem.specs.Changes.{AreWithin}
 use Rattle.step_mem.proofs.Changed.{Within_with}
-use Rattle.bare_mem.specs.Part.{IsPartOf}
+use Rattle.paging.specs.Part.{IsPartOf}
 use Rattle.machine_model.specs.State.{Setting, State}
 use Rattle.machine_model.specs.Step.{worked, begins_next}
 use Rattle.machine_step.specs.declared.worked.Dropped.{Dropped}
@@ -23,13 +24,10 @@ use Rattle.bare_machine.proofs.Begun.{none_within}
 part_within : (frames : ℕ) (whole part : FinMap nat_cmp Entry) → AreWithin frames whole → IsPartOf part whole → AreWithin frames part
 part_within frames whole part h p = λ page e is. h page e (p.each page e is)
 
-none_some : (x : Entry) → None ≡ Some x → ⊥
-none_some x e = cc
-
 dir_within : (frames index : ℕ) (set : FinMap nat_cmp Entry) → AreWithin frames set → AreWithin frames (without_dir set index)
 dir_within frames index set h = λ page x is.
     elim (eqb_tells (page / 1024) index) [
-      | inl t ↦ absurd (none_some x (sym (dir_gone set index page t.1) ∙ is))
+      | inl t ↦ absurd (none-some x (sym (dir_gone set index page t.1) ∙ is))
       | inr f ↦ h page x (sym (dir_other set index page f.1) ∙ is)
     ]
 

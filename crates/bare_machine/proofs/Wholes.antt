@@ -26,7 +26,7 @@ use Rattle.bare_machine.specs.Starts.{NotBegun}
 use Rattle.run_trace.specs.Pauses.{end_of}
 use Rattle.bare_machine.proofs.Runs.{part_allowed, same_step, steps_join, trace_join}
 use Rattle.bare_machine.proofs.Going.{lines_join}
-use Rattle.bare_machine.proofs.Texts.{appends_both, appends_none, front_of}
+use Rattle.pv_io.proofs.Pieces.{appends_both, appends_none, front_of}
 
 text_is : (reports : List Report) (count : ℕ) (end : End) → lines_of (trace_of reports) ++ end_line count end ≡ text_of (trace_of reports) count end
 unfolding text_of

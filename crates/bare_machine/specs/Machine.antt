@@ -6,7 +6,7 @@ use Rattle.board.specs.Scripts.{Events}
 use Rattle.image_check.specs.Image.{Image}
 use Rattle.run_trace.specs.declared.items.What.{What}
 use Rattle.step_mem.specs.Changes.{AreWithin}
-use Rattle.bare_mem.specs.Part.{IsPartOf}
+use Rattle.paging.specs.Part.{IsPartOf}
 use Rattle.machine_model.specs.State.{Setting, State}
 use Rattle.machine_model.specs.Step as steps
 use Rattle.machine_model.specs.Run.{Set, Steps, trace_of, with_set}

@@ -5,7 +5,7 @@ ghost use Rattle.std.specs.FinMap.{FinMap};
 ghost use Rattle.std.specs.Ordering.{nat_cmp};
 ghost use Rattle.paging.specs.Space.{Space};
 ghost use Rattle.paging.specs.declared.entry.Entry.{Entry};
-ghost use Rattle.bare_mem.specs.Part.{IsPartOf};
+ghost use Rattle.paging.specs.Part.{IsPartOf};
 ghost use Rattle.step_mem.specs.Changes.{AreWithin, changed};
 ghost use Rattle.machine_model.specs.Step.{Completed, concluded};
 ghost use Rattle.machine_step.specs.Worked.{dropping, IsDropped};

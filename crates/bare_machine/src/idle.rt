@@ -4,7 +4,7 @@ ghost use Rattle.std.specs.Prelude.{◌≡◌, ◌≤◌, ◌<◌, ◌^◌, true
 ghost use Rattle.board.specs.Scripts.{is_script};
 ghost use Rattle.image_check.specs.Image.{Image};
 ghost use Rattle.machine_model.specs.Run.{Set};
-ghost use Rattle.bare_mem.specs.Part.{IsPartOf};
+ghost use Rattle.paging.specs.Part.{IsPartOf};
 ghost use Rattle.bare_machine.specs.Machine.{bare, state_of, IsKept, Rests};
 
 use crate::machine::Bare;

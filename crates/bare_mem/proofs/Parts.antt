@@ -4,20 +4,18 @@ use Rattle.std.proofs.lemmas.Bool.Decides.{eqb_tells}
 use Rattle.std.proofs.lemmas.Cmp.{nat_cmp_total}
 use Rattle.std.specs.FinMap.{FinMap, get, empty, get-empty, same_map, nat_cmp-IsAntisymmetric}
 use Rattle.std.specs.Ordering.{nat_cmp}
+use Rattle.std.proofs.lemmas.Option.{none-some}
 use Rattle.paging.specs.declared.entry.Entry.{Entry}
 use Rattle.paging.specs.Uses.{with_entry, without_dir}
 use Rattle.xlate_buffer.proofs.Caching.{dir_gone, dir_other}
 use Rattle.xlate_buffer.specs.Caches.{IsSameOrGone}
 use Rattle.step_mem.proofs.Changed.{get_with_same, get_with_other}
 use Rattle.step_mem.specs.Changes.{AreWithin}
-use Rattle.bare_mem.specs.Part.{IsPartOf}
-
-none_some : (x : Entry) → None ≡ Some x → ⊥
-none_some x e = cc
+use Rattle.paging.specs.Part.{IsPartOf}
 
 found_before : (old new : Option Entry) (x : Entry) → IsSameOrGone old new → new ≡ Some x → old ≡ Some x
 found_before old new x h is =
-    elim h [ inl same ↦ sym same ∙ is | inr gone ↦ absurd (none_some x (sym gone ∙ is)) ]
+    elim h [ inl same ↦ sym same ∙ is | inr gone ↦ absurd (none-some x (sym gone ∙ is)) ]
 
 -- the page's entry is this one, and others are as before or gone
 pub part_turned : (old new whole : FinMap nat_cmp Entry) (page : ℕ) (entry : Option Entry) → get new page ≡ entry → ((q : ℕ) → q ≢ page → IsSameOrGone (get old q) (get new q)) → IsPartOf old whole → IsPartOf new (with_entry whole page entry)
@@ -50,7 +48,7 @@ pub dir_part : (part whole : FinMap nat_cmp Entry) (index : ℕ) → IsPartOf pa
 dir_part part whole index h = record {
   each = λ q x is.
       elim (eqb_tells (q / 1024) index) [
-        | inl t ↦ absurd (none_some x (sym (dir_gone part index q t.1) ∙ is))
+        | inl t ↦ absurd (none-some x (sym (dir_gone part index q t.1) ∙ is))
         | inr f ↦ dir_other whole index q f.1 ∙ h.each q x (sym (dir_other part index q f.1) ∙ is)
       ];
 }

@@ -4,7 +4,7 @@ use Rattle.std.specs.Prelude.{◌&&◌, ◌||◌, ◌==◌, nat_le, nat_lt, ◌%
 use Rattle.std.proofs.lemmas.List.Folds.{list_all-append}
 use Rattle.std.proofs.lemmas.List.{length-take}
 use Rattle.std.proofs.Math.Nat.{min-le_left}
-use Rattle.std.proofs.lemmas.Bool.{leb-true, le-leb}
+use Rattle.std.proofs.lemmas.Bool.{leb-true, le-leb, and_parts, and_from}
 use Rattle.std.proofs.lemmas.Bool.Decides.{eqb_tells}
 use Rattle.pic8259.specs.Phases.{phase_fits}
 use Rattle.pic8259.specs.Requests.{chip_fits, pair_fits, stands_for_slave}
@@ -45,36 +45,29 @@ pub last_decides : (a b c d e : Bool) → a ≡ true → b ≡ true → c ≡ tr
     (a && (b && (c && (d && (e && true))))) ≡ e
 last_decides a b c d e is_a is_b is_c is_d = rw (is_a, is_b, is_c, is_d) (and_true e)
 
-both : (a b : Bool) → (a && b) ≡ true → (a ≡ true) × (b ≡ true)
-both true b h = (refl, h)
-both false b h = cc
-
-join : (a b : Bool) → a ≡ true → b ≡ true → (a && b) ≡ true
-join a b is_a is_b = rw (is_a, is_b) refl
-
 part_facts : (bytes : List ℕ) → board_form bytes ≡ true →
     (all_met (chip_demands bytes 0) ≡ true) × (all_met (chip_demands bytes 7) ≡ true)
     × (stands_for_slave (controllers_at bytes) ≡ true) × (all_met (timer_demands bytes) ≡ true) × (all_met (port_demands bytes) ≡ true)
 part_facts bytes form =
-    let e = both _ (all_met (port_demands bytes)) (sym (form_is bytes) ∙ form) in
-    let d = both _ (all_met (timer_demands bytes)) e.0 in
-    let c = both _ (stands_for_slave (controllers_at bytes)) d.0 in
-    let b = both (all_met (chip_demands bytes 0)) (all_met (chip_demands bytes 7)) c.0 in
+    let e = and_parts _ (all_met (port_demands bytes)) (sym (form_is bytes) ∙ form) in
+    let d = and_parts _ (all_met (timer_demands bytes)) e.0 in
+    let c = and_parts _ (stands_for_slave (controllers_at bytes)) d.0 in
+    let b = and_parts (all_met (chip_demands bytes 0)) (all_met (chip_demands bytes 7)) c.0 in
     (b.0, b.1, c.1, d.1, e.1)
 
 chip_facts : (bytes : List ℕ) (o : ℕ) → all_met (chip_demands bytes o) ≡ true → chip_fits (chip_at bytes o) ≡ true
 chip_facts bytes o met =
-    let a = both (nat_le (slice_index bytes o) 4) _ met in
-    let b = both (nat_le (slice_index bytes (o + 1)) 1) _ a.1 in
-    let c = both (phase_fits (phase_of (slice_index bytes o)) (slice_index bytes (o + 1) == 1)) _ b.1 in
-    let d = both (slice_index bytes (o + 5) % 8 == 0) _ c.1 in
-    join (slice_index bytes (o + 5) % 8 == 0) _ d.0 c.0
+    let a = and_parts (nat_le (slice_index bytes o) 4) _ met in
+    let b = and_parts (nat_le (slice_index bytes (o + 1)) 1) _ a.1 in
+    let c = and_parts (phase_fits (phase_of (slice_index bytes o)) (slice_index bytes (o + 1) == 1)) _ b.1 in
+    let d = and_parts (slice_index bytes (o + 5) % 8 == 0) _ c.1 in
+    and_from (slice_index bytes (o + 5) % 8 == 0) _ d.0 c.0
 
 pub form_pics : (bytes : List ℕ) → board_form bytes ≡ true → pair_fits (controllers_at bytes) ≡ true
 form_pics bytes form =
     let facts = part_facts bytes form in
-    join _ (stands_for_slave (controllers_at bytes))
-    (join (chip_fits (chip_at bytes 0)) (chip_fits (chip_at bytes 7)) (chip_facts bytes 0 facts.0) (chip_facts bytes 7 facts.1))
+    and_from _ (stands_for_slave (controllers_at bytes))
+    (and_from (chip_fits (chip_at bytes 0)) (chip_fits (chip_at bytes 7)) (chip_facts bytes 0 facts.0) (chip_facts bytes 7 facts.1))
     facts.2
 
 next_fits : (next : ℕ) → is_period_or_none next ≡ true → is_next_period (period_of next) ≡ true
@@ -93,27 +86,27 @@ count_fits period next left is_p is_n is_l =
       | inr (e, _) ↦
           let p : is_period period ≡ true = rw e at is_p in
           let l : (nat_lt 0 left && nat_le left (8 * period)) ≡ true = rw e at is_l in
-          let each = both (nat_lt 0 left) (nat_le left (8 * period)) l in
-          rw e (join _ (nat_le left (8 * period)) (join _ (nat_lt 0 left) (join (is_period period) (is_next_period (period_of next)) p (next_fits next is_n)) each.0) each.1)
+          let each = and_parts (nat_lt 0 left) (nat_le left (8 * period)) l in
+          rw e (and_from _ (nat_le left (8 * period)) (and_from _ (nat_lt 0 left) (and_from (is_period period) (is_next_period (period_of next)) p (next_fits next is_n)) each.0) each.1)
     ]
 
 pub form_count : (bytes : List ℕ) → board_form bytes ≡ true → is_count (timer_at bytes).count ≡ true
 form_count bytes form =
-    let a = both (nat_le (slice_index bytes 14) 2) _ (part_facts bytes form).3 in
-    let b = both (slice_index bytes 14 == 2 || slice_index bytes 15 == 0) _ a.1 in
-    let c = both (is_period_or_none (four_at bytes 16)) _ b.1 in
-    let d = both (is_period_or_none (four_at bytes 20)) _ c.1 in
-    let e = both (if four_at bytes 16 == 0 then four_at bytes 20 == 0 else true) _ d.1 in
-    let f = both (if four_at bytes 16 == 0 then eight_at bytes 24 == 0 else nat_lt 0 (eight_at bytes 24) && nat_le (eight_at bytes 24) (8 * four_at bytes 16)) true e.1 in
+    let a = and_parts (nat_le (slice_index bytes 14) 2) _ (part_facts bytes form).3 in
+    let b = and_parts (slice_index bytes 14 == 2 || slice_index bytes 15 == 0) _ a.1 in
+    let c = and_parts (is_period_or_none (four_at bytes 16)) _ b.1 in
+    let d = and_parts (is_period_or_none (four_at bytes 20)) _ c.1 in
+    let e = and_parts (if four_at bytes 16 == 0 then four_at bytes 20 == 0 else true) _ d.1 in
+    let f = and_parts (if four_at bytes 16 == 0 then eight_at bytes 24 == 0 else nat_lt 0 (eight_at bytes 24) && nat_le (eight_at bytes 24) (8 * four_at bytes 16)) true e.1 in
     count_fits (four_at bytes 16) (four_at bytes 20) (eight_at bytes 24) c.0 d.0 f.0
 
 pub form_port : (bytes : List ℕ) → length bytes ≡ 64 → board_form bytes ≡ true →
     (port_fits (settings_at bytes).modem_control (waiting_at bytes) ≡ true) × (slice_index bytes 38 ≤ 16)
 form_port bytes all form =
-    let a = both (nat_le (slice_index bytes 32) 1) _ (part_facts bytes form).4 in
-    let b = both (nat_lt (slice_index bytes 34) 16) _ a.1 in
-    let c = both (nat_le (slice_index bytes 38) 16) _ b.1 in
+    let a = and_parts (nat_le (slice_index bytes 32) 1) _ (part_facts bytes form).4 in
+    let b = and_parts (nat_lt (slice_index bytes 34) 16) _ a.1 in
+    let c = and_parts (nat_le (slice_index bytes 38) 16) _ b.1 in
     let few : slice_index bytes 38 ≤ 16 = leb-true (slice_index bytes 38) 16 c.0 in
     let long : length (waiting_at bytes) ≤ 16 =
     omega (arith, length-take (39 + slice_index bytes 38 - 39) (drop 39 bytes), min-le_left (39 + slice_index bytes 38 - 39) (length (drop 39 bytes))) in
-    (join (nat_lt (slice_index bytes 34) 16) _ b.0 (le-leb (length (waiting_at bytes)) 16 long), few)
+    (and_from (nat_lt (slice_index bytes 34) 16) _ b.0 (le-leb (length (waiting_at bytes)) 16 long), few)

@@ -1,23 +1,20 @@
 -- Steps of the board up to the next edge or event.
-use Rattle.std.proofs.Common.{◌≡◌, ℕ, suc, ◌+◌, Bool, true, false, [], ◌∷◌, refl, arith}
+use Rattle.std.proofs.Common.{◌≡◌, ℕ, suc, ◌+◌, false, [], ◌∷◌, refl, arith}
 use Rattle.std.specs.Prelude.{◌&&◌, ◌||◌, ◌==◌, nat_lt, nat_le}
 use Rattle.std.proofs.lemmas.Bool.Decides.{nat_tests}
+use Rattle.std.proofs.lemmas.Bool.{or_parts}
 use Rattle.pit8254.specs.Timers.{edge_comes, edge_within, timer_step}
 use Rattle.board.specs.declared.devices.Board.{Board}
 use Rattle.board.specs.Scripts.{Events}
 use Rattle.board.specs.Boards.{edged, given, board_step, event_within, comes_within, vector}
 use Rattle.board.specs.Quiet.{StepsAreQuiet}
 
-neither : (a b : Bool) → (a || b) ≡ false → (a ≡ false) × (b ≡ false)
-neither false b h = (refl, h)
-neither true b h = absurd (cc)
-
 -- no event in some steps after t: none in the first of them
 given_quiet : (t j : ℕ) (script : Events) → event_within t (suc j) script ≡ false → (board : Board) → given board script (t + 1) ≡ board
 unfolding given
 given_quiet t j [] h board = refl
 given_quiet t j (x ∷ xs) h board =
-    let parts = neither (nat_lt t x.0 && nat_le x.0 (t + suc j)) (event_within t (suc j) xs) h in
+    let parts = or_parts (nat_lt t x.0 && nat_le x.0 (t + suc j)) (event_within t (suc j) xs) h in
     let other : (x.0 == t + 1) ≡ false = grind (arith, nat_tests, parts.0) in
     rw other (given_quiet t j xs parts.1 board)
 
@@ -25,7 +22,7 @@ given_quiet t j (x ∷ xs) h board =
 quiet_later : (t j : ℕ) (script : Events) → event_within t (suc j) script ≡ false → event_within (t + 1) j script ≡ false
 quiet_later t j [] h = refl
 quiet_later t j (x ∷ xs) h =
-    let parts = neither (nat_lt t x.0 && nat_le x.0 (t + suc j)) (event_within t (suc j) xs) h in
+    let parts = or_parts (nat_lt t x.0 && nat_le x.0 (t + suc j)) (event_within t (suc j) xs) h in
     let out : (nat_lt (t + 1) x.0 && nat_le x.0 (t + 1 + j)) ≡ false = grind (arith, nat_tests, parts.0) in
     rw out (quiet_later t j xs parts.1)
 
@@ -37,8 +34,8 @@ vector_same board h = rw h refl
 pub quiet_from : StepsAreQuiet
 unfolding comes_within edge_within board_step
 quiet_from board script t j h =
-    let both = neither (edge_comes board.pit || edge_within j (timer_step board.pit)) (event_within t (suc j) script) h in
-    let edges = neither (edge_comes board.pit) (edge_within j (timer_step board.pit)) both.0 in
+    let both = or_parts (edge_comes board.pit || edge_within j (timer_step board.pit)) (event_within t (suc j) script) h in
+    let edges = or_parts (edge_comes board.pit) (edge_within j (timer_step board.pit)) both.0 in
     record {
       no_event = given_quiet t j script both.1;
       same_vector = vector_same board edges.0;

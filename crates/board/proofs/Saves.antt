@@ -3,7 +3,7 @@ use Rattle.std.proofs.Common.{◌≡◌, ℕ, zero, suc, ◌+◌, ◌-◌, ◌*�
 use Rattle.std.specs.Prelude.{unwrap_or, ◌&&◌, ◌||◌, ◌==◌, nat_le, nat_lt, ◌%◌, if◌then◌else◌}
 use Rattle.std.specs.Int.{to_le_bytes, from_le_bytes, w32, w64}
 use Rattle.std.proofs.lemmas.List.Folds.{list_all-append}
-use Rattle.std.proofs.lemmas.Bool.{leb-true}
+use Rattle.std.proofs.lemmas.Bool.{leb-true, and_parts, and_from}
 use Rattle.std.proofs.lemmas.List.{drop-drop, drop-replicate, take-replicate}
 use Rattle.std.proofs.lemmas.Bool.Decides.{nat_tests}
 use Rattle.std.proofs.lemmas.Nat.{from_le_bytes-to_le_bytes_4, from_le_bytes-to_le_bytes_8}
@@ -48,13 +48,6 @@ laid board a b t s k n is_a is_b is_t is_s is_k is_n =
     (none_left (length board.uart.kept)))
 
 -- tests that hold
-
-both : (a b : Bool) → (a && b) ≡ true → (a ≡ true) × (b ≡ true)
-both true b h = (refl, h)
-both false b h = cc
-
-join : (a b : Bool) → a ≡ true → b ≡ true → (a && b) ≡ true
-join a b is_a is_b = rw (is_a, is_b) refl
 
 zeros_are : (n : ℕ) → are_zero (replicate n 0) ≡ true
 zeros_are zero = refl
@@ -102,7 +95,7 @@ chip_back chip =
 
 chip_met : (chip : Chip) → chip_fits chip ≡ true → all_met (chip_demands (chip_bytes chip) 0) ≡ true
 chip_met chip fits =
-    let facts = both (chip.base % 8 == 0) (phase_fits chip.phase chip.once_ready) fits in
+    let facts = and_parts (chip.base % 8 == 0) (phase_fits chip.phase chip.once_ready) fits in
     rw (phase_small chip.phase, worth_small chip.once_ready, phase_back chip.phase, worth_back chip.once_ready)
     (rw (facts.1, facts.0) (rw (selected_small chip.selected) refl))
 
@@ -135,9 +128,9 @@ count_facts : (count : Count) → is_count (Some count) ≡ true →
     (2 ≤ count.period) × (count.period ≤ 65536) × (is_next_period count.next_period ≡ true) × (0 < count.left)
     × (count.left ≤ 8 * count.period) × ((count.period == 0) ≡ false)
 count_facts count fits =
-    let all = both (is_period count.period && is_next_period count.next_period && nat_lt 0 count.left) (nat_le count.left (8 * count.period)) fits in
-    let three = both (is_period count.period && is_next_period count.next_period) (nat_lt 0 count.left) all.0 in
-    let two = both (is_period count.period) (is_next_period count.next_period) three.0 in
+    let all = and_parts (is_period count.period && is_next_period count.next_period && nat_lt 0 count.left) (nat_le count.left (8 * count.period)) fits in
+    let three = and_parts (is_period count.period && is_next_period count.next_period) (nat_lt 0 count.left) all.0 in
+    let two = and_parts (is_period count.period) (is_next_period count.next_period) three.0 in
     let period : is_period count.period ≡ true = two.0 in
     let low : 2 ≤ count.period = grind (arith, nat_tests) in
     (low, grind (arith, nat_tests), two.1, grind (arith, nat_tests), grind (arith, nat_tests), grind (arith, nat_tests))
@@ -204,8 +197,8 @@ timer_met front timer fits =
     is_period_or_none p
     && (is_period_or_none n
     && ((if p == 0 then n == 0 else true) && ((if p == 0 then l == 0 else nat_lt 0 l && nat_le l (8 * p)) && true))) in
-    join (nat_le (timer_number timer.phase) 2) _ (number_small timer.phase)
-    (join (timer_number timer.phase == 2 || low_byte timer.phase == 0) _ (low_met timer.phase)
+    and_from (nat_le (timer_number timer.phase) 2) _ (number_small timer.phase)
+    (and_from (timer_number timer.phase == 2 || low_byte timer.phase == 0) _ (low_met timer.phase)
     (three met numbers.0 numbers.1 numbers.2 ∙ count_met timer.count fits))
 
 -- the bytes that wait
@@ -237,8 +230,8 @@ all_joined : (a b c d e : Demands) → all_met a ≡ true → all_met b ≡ true
 all_joined a b c d e is_a is_b is_c is_d is_e =
     let met : ℕ × Bool → Bool = λ d. d.1 in
     list_all-append met (a ++ b ++ c ++ d) e
-    ∙ join _ _ (list_all-append met (a ++ b ++ c) d
-    ∙ join _ _ (list_all-append met (a ++ b) c ∙ join _ _ (list_all-append met a b ∙ join _ _ is_a is_b) is_c) is_d) is_e
+    ∙ and_from _ _ (list_all-append met (a ++ b ++ c) d
+    ∙ and_from _ _ (list_all-append met (a ++ b) c ∙ and_from _ _ (list_all-append met a b ∙ and_from _ _ is_a is_b) is_c) is_d) is_e
 
 pub saved_back : (board : Board) → is_count board.pit.count ≡ true → board_at (saved board) ≡ board
 unfolding saved board_at
@@ -255,9 +248,9 @@ pub saved_form : (board : Board) → pair_fits board.pics ≡ true → is_count 
     port_fits board.uart.modem_control board.uart.kept ≡ true → board_form (saved board) ≡ true
 unfolding saved board_form demands
 saved_form board pics pit uart =
-    let chips = both (chip_fits board.pics.master && chip_fits board.pics.slave) (stands_for_slave board.pics) pics in
-    let each = both (chip_fits board.pics.master) (chip_fits board.pics.slave) chips.0 in
-    let port = both (nat_lt board.uart.modem_control 16) (nat_le (length board.uart.kept) 16) uart in
+    let chips = and_parts (chip_fits board.pics.master && chip_fits board.pics.slave) (stands_for_slave board.pics) pics in
+    let each = and_parts (chip_fits board.pics.master) (chip_fits board.pics.slave) chips.0 in
+    let port = and_parts (nat_lt board.uart.modem_control 16) (nat_le (length board.uart.kept) 16) uart in
     let few : length board.uart.kept ≤ 16 = leb-true (length board.uart.kept) 16 port.1 in
     let pair : Chip → Chip → Pair = λ master slave. record { master = master; slave = slave } in
     let back = two pair (chip_back board.pics.master) (chip_back board.pics.slave) in
@@ -269,13 +262,13 @@ saved_form board pics pit uart =
     (port_demands (saved board))
     (chip_met board.pics.master each.0)
     (chip_met board.pics.slave each.1)
-    (join (stands_for_slave (controllers_at (saved board))) true (ap stands_for_slave back ∙ chips.1) refl)
+    (and_from (stands_for_slave (controllers_at (saved board))) true (ap stands_for_slave back ∙ chips.1) refl)
     (timer_met board board.pit pit)
-    (join _ _ (worth_small board.uart.interrupt_enable)
-    (join _ _ port.0
-    (join _ _ port.1
-    (join _ _
+    (and_from _ _ (worth_small board.uart.interrupt_enable)
+    (and_from _ _ port.0
+    (and_from _ _ port.1
+    (and_from _ _
     (ap (λ ys. are_zero (take (55 - (39 + length board.uart.kept)) ys))
     (sym (drop-drop (length board.uart.kept) 39 (saved board)))
     ∙ zeros_from board.uart.kept few)
-    (join _ _ (zeros_behind board.uart.kept few) refl)))))
+    (and_from _ _ (zeros_behind board.uart.kept few) refl)))))

@@ -2,7 +2,7 @@
 use Rattle.std.proofs.Common.{◌≡◌, ℕ, zero, suc, ◌+◌, ◌-◌, ◌<◌, ◌≤◌, Bool, true, false, Option, Some, None, [], ◌∷◌, length, get_or, drop, refl, ap, ◌∙◌, sym, arith, inl, inr, ◌≢◌, add-one, drop-cons, eq-eqb, min, take, length-drop, take_all}
 use Rattle.std.proofs.lemmas.List.{drop_all}
 use Rattle.std.specs.Prelude.{◌&&◌, ◌||◌, nat_lt, nat_le}
-use Rattle.std.proofs.lemmas.Bool.{ne_eqb, leb-true, le-leb}
+use Rattle.std.proofs.lemmas.Bool.{ne_eqb, leb-true, le-leb, and_parts}
 use Rattle.std.proofs.lemmas.Bool.Decides.{leb_tells, nat_tests}
 use Rattle.std.specs.List.Sorted.{IsNonDecreasingBy}
 use Rattle.ia32_types.specs.Firsts.{IsFirst}
@@ -12,17 +12,13 @@ use Rattle.board.specs.declared.devices.Board.{Board}
 use Rattle.board.specs.Scripts.{Events, event_fits, max_step, is_script_from, later, earlier}
 use Rattle.board.specs.Boards.{event_within, given, happened, SameEvents}
 
-both : (a b : Bool) → (a && b) ≡ true → (a ≡ true) × (b ≡ true)
-both true b h = (refl, h)
-both false b h = absurd (cc)
-
 -- what the order says of the first event, and of the others
 pub first_facts : (low : ℕ) (event : ℕ × Event) (rest : Events) → is_script_from low (event ∷ rest) ≡ true →
     (low ≤ event.0) × (event.0 ≤ max_step) × (event_fits event.1 ≡ true) × (is_script_from event.0 rest ≡ true)
 first_facts low event rest h =
-    let rest_in = both (nat_le low event.0 && nat_le event.0 max_step && event_fits event.1) (is_script_from event.0 rest) h in
-    let fits = both (nat_le low event.0 && nat_le event.0 max_step) (event_fits event.1) rest_in.0 in
-    let steps = both (nat_le low event.0) (nat_le event.0 max_step) fits.0 in
+    let rest_in = and_parts (nat_le low event.0 && nat_le event.0 max_step && event_fits event.1) (is_script_from event.0 rest) h in
+    let fits = and_parts (nat_le low event.0 && nat_le event.0 max_step) (event_fits event.1) rest_in.0 in
+    let steps = and_parts (nat_le low event.0) (nat_le event.0 max_step) fits.0 in
     (leb-true low event.0 steps.0, leb-true event.0 max_step steps.1, fits.1, rest_in.1)
 
 -- a lower bound may be any lower one
@@ -177,9 +173,6 @@ pub given_no_more : (board : Board) (ys : Events) (i step : ℕ) (d : ℕ × Eve
 given_no_more board ys i step d h from other =
     ap (λ (zs : Events). given board zs step) (split ys i d h)
     ∙ given_stop board (get_or ys i d) (drop (i + 1) ys) step (ap (is_script_from step) (sym (split ys i d h)) ∙ from) other
-
-pub leb_false : (a b : ℕ) → nat_le a b ≡ false → b < a
-leb_false a b h = grind (arith, nat_tests)
 
 above : (low : ℕ) (xs : Events) (j : ℕ) (d : ℕ × Event) → is_script_from low xs ≡ true → j < length xs → low ≤ (get_or xs j d).0
 above low [] j d h in_list = absurd (omega arith)

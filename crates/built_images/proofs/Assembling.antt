@@ -3,7 +3,7 @@ use Rattle.std.proofs.Common.{◌≡◌, ℕ, ◌+◌, Bool, true, false, not, c
 use Rattle.std.specs.Prelude.{slice_get, ◌==◌, is_some, is_none}
 use Rattle.std.specs.Option.{option_or}
 use Rattle.std.specs.List.{list_all, Contains}
-use Rattle.std.proofs.lemmas.Bool.{eqb-true, and_parts}
+use Rattle.std.proofs.lemmas.Bool.{eqb-true, and_parts, both_ways}
 use Rattle.std.proofs.lemmas.List.Sums.{AllPass-from_list_all}
 use Rattle.ia32_types.specs.Shape.{is_direct_branch}
 use Rattle.ia32_types.specs.declared.insn.Op.{Op}
@@ -14,7 +14,6 @@ use Rattle.ia32_rows.specs.Fields.{imm_len}
 use Rattle.ia32_rows.specs.Spelling.{parts_at}
 use Rattle.ia32_rows.specs.Rows.{rows}
 use Rattle.ia32_encode.specs.declared.bytes.ArrayBytes.{ArrayBytes}
-use Rattle.ia32_encode.specs.declared.choose.Wide.{Wide}
 use Rattle.ia32_encode.specs.Chosen.{chosen}
 use Rattle.asm_source.specs.declared.tree.Value.{Value}
 use Rattle.asm_source.specs.declared.tree.Form.{Form as ArgumentForm}
@@ -44,11 +43,12 @@ use Rattle.asm_instruction.specs.Refused.{refused_names}
 use Rattle.asm_instruction.specs.Draft.{instruction}
 use Rattle.asm_instruction.specs.Control.{distance, to_symbol}
 use Rattle.asm_instruction.specs.Mnemonic.{known_name, drafted}
-use Rattle.asm_instruction.specs.Assembled.{named_field, widths, whole, with_spelling, spelled, drafted_of, by_draft, by_mnemonic, by_name, assembled, spelling_bytes}
+use Rattle.asm_instruction.specs.Assembled.{named_field, widths, whole, spelled, drafted_of, by_draft, by_mnemonic, by_name, assembled, spelling_bytes}
+use Rattle.asm_instruction.proofs.Answered.{spelling_is}
 use Rattle.afterburner.specs.Arguments.{number_in as constant_in}
 use Rattle.built_images.specs.Fields.{imm_size, disp_place, imm_place}
 use Rattle.built_images.proofs.Drafts.{IsBranch, meant_sound}
-use Rattle.built_images.proofs.ChosenRows.{IsKnown, known, some_bytes}
+use Rattle.built_images.proofs.ChosenRows.{IsKnown, known}
 
 -- ---- what is assembled
 
@@ -66,13 +66,6 @@ pub record IsDrafted (rep : Bool) (name : List ℕ) (args : List Argument) (a : 
 abbrev ok_assembled : Assembled → Result Assembled Refusal
 ok_assembled a = Ok a
 
-spelled_is : (d : Draft) (wide : Wide) (o : Option ArrayBytes) (a : Assembled) → with_spelling d wide o ≡ Ok a → (s : ArrayBytes) × (o ≡ Some s) × (a ≡ whole d wide s)
-spelled_is d wide None a e = absurd cc
-spelled_is d wide (Some s) a e = by_fits d.fits e where
-  by_fits : (b : Bool) → cond b (ok_assembled (whole d wide s)) (Err refusal.ValueRange) ≡ Ok a → (t : ArrayBytes) × (some_bytes s ≡ Some t) × (a ≡ whole d wide t)
-  by_fits true e = (s, refl, cc)
-  by_fits false e = absurd cc
-
 operands_there : (o : Option Operands) (f : Operands → Option Draft) (d : Draft) → (o >>= f) ≡ Some d → (os : Operands) × (o ≡ Some os) × (f os ≡ Some d)
 operands_there None f d e = absurd cc
 operands_there (Some os) f d e = (os, refl, e)
@@ -81,7 +74,7 @@ by_draft_is : (rep : Bool) (name : List ℕ) (args : List Argument) (a : Assembl
 unfolding spelled drafted_of
 by_draft_is rep name args a m known None is e = absurd cc
 by_draft_is rep name args a m known (Some d) is e =
-    let s = spelled_is d (widths d args) (chosen (widths d args) d.insn) a e in
+    let s = spelling_is d (widths d args) (chosen (widths d args) d.insn) a e in
     let os = operands_there (operands_of args) (λ os. drafted rep m os) d is in
     record { mnemonic = m; known = known; operands = os.0; given = os.1; draft = d; drafted = os.2; spelling = s.0; chosen = s.1; is = s.2 }
 
@@ -352,9 +345,6 @@ fielded d args s k branch = record {
   branch = branch;
 }
 
-false_true : (b : Bool) → b ≡ true → b ≡ false → ⊥
-false_true b e f = cc
-
 pub assembled_fielded : (rep : Bool) (name : List ℕ) (args : List Argument) (a : Assembled) → assembled rep name args ≡ Ok a → IsFielded args a
 assembled_fielded rep name args a e =
     let h = assembled_is rep name args a e in
@@ -362,6 +352,6 @@ assembled_fielded rep name args a e =
     let sound = meant_sound rep name h.mnemonic h.operands h.draft h.known h.drafted in
     subst (IsFielded args) (sym h.is) (fielded h.draft args h.spelling k (λ branch.
     elim sound [
-      | inl quiet ↦ absurd (false_true (is_direct_branch h.draft.insn.op) branch quiet)
+      | inl quiet ↦ absurd (both_ways (is_direct_branch h.draft.insn.op) quiet branch)
       | inr b ↦ branch_field h.draft args h.spelling h.operands h.given b k branch
     ]))

@@ -1,15 +1,15 @@
 -- An image that is made of chunks passes all tests but that of targets, and that one where branches lead right.
-use Rattle.std.proofs.Common.{◌≡◌, ℕ, zero, suc, ◌+◌, ◌-◌, ◌<◌, ◌≤◌, true, false, not, ◌||◌, List, [], ◌∷◌, ◌++◌, length, map, Option, Some, None, Ok, Err, refl, sym, ap, subst, ◌∙◌, arith, inl, inr, ◌⊎◌}
-use Rattle.std.specs.Prelude.{◌==◌, nat_lt, replicate, slice_get, slice_index}
+use Rattle.std.proofs.Common.{◌≡◌, ℕ, zero, suc, ◌+◌, ◌-◌, ◌<◌, ◌≤◌, true, not, List, [], ◌∷◌, ◌++◌, length, map, Option, Some, None, Ok, Err, refl, sym, ap, subst, ◌∙◌, arith, inl, inr, ◌⊎◌}
+use Rattle.std.specs.Prelude.{◌==◌, replicate, slice_get, slice_index}
 use Rattle.std.specs.Bool.{then_some}
 use Rattle.std.proofs.lemmas.Bool.Decides.{nat_tests}
 use Rattle.std.proofs.lemmas.List.{append-nil, length-append, map-append}
+use Rattle.std.proofs.lemmas.Bool.{eq-eqb}
 use Rattle.ia32_types.specs.declared.insn.Insn.{Insn}
 use Rattle.ia32_types.specs.Site.{sensitive_kind}
 use Rattle.ia32_rows.specs.Spells.{AreBytes, Spells}
 use Rattle.ia32_rows.proofs.Readers.{AreBytes-append}
 use Rattle.ia32_rows.proofs.TableLaws.{one_meaning, not_empty}
-use Rattle.sites.specs.declared.limits.TheConstants.{TEXT_LIMIT}
 use Rattle.elf_form.specs.ImageParts.{ImageParts}
 use Rattle.sites.specs.declared.site.Site.{Site}
 use Rattle.sites.specs.Formats.{listed}
@@ -17,13 +17,13 @@ use Rattle.image_check.specs.declared.fault.CheckCause.TheVariants.{Target}
 use Rattle.image_check.specs.declared.piece.Piece.{Piece}
 use Rattle.image_check.specs.Refusals.{Wrong}
 use Rattle.image_check.specs.Sweep.{Swept, Sweep, sweep}
-use Rattle.image_check.specs.Pieces.{target_of, piece_of, pieces_of, pieces_in}
+use Rattle.image_check.specs.Pieces.{target_of, piece_of, pieces_in}
 use Rattle.image_check.specs.Targets.{is_entrance, wrong_target}
 use Rattle.image_check.specs.Conditions.{text_place, init_place, text_size, init_size, entry_place, at_of, last_at, ends_at, text_end, site_wrong, entry_at, entry_start}
 use Rattle.image_check.specs.Checking.{placed, annotated, entered, image_with, image_from}
 use Rattle.image_check.specs.Accepts.{IsEntrance, IsWithin}
 use Rattle.image_check.proofs.SweepLaws.{sweep_exact}
-use Rattle.image_check.proofs.Acceptance.{sites_right, is_entrance_so, from_accepted}
+use Rattle.image_check.proofs.Acceptance.{sites_right, is_entrance_so, from_accepted, no_entry, no_size, not_above, swept_gives}
 use Rattle.built_images.specs.Joined.{jump_to_itself, nops_at}
 use Rattle.afterburner.specs.Instructions.{nops_behind}
 use Rattle.built_images.specs.Chunks.{Coded, insn_in, IsCoded, Chunk, Alone, Pair, IsChunk, AreChunks, padding, chunk_text, chunks_text, chunk_sites, chunks_swept, Begins}
@@ -127,28 +127,12 @@ text_is body c h e = text_append body (Alone c ∷ []) ∙ ap (λ xs. chunks_tex
 
 -- ---- the tests before that of targets, and behind it
 
-equal_so : (m n : ℕ) → m ≡ n → (m == n) ≡ true
-equal_so m n e = grind (arith, nat_tests)
-
-no_size : (n : ℕ) → 1 ≤ n → n ≤ TEXT_LIMIT → (n == 0 || nat_lt TEXT_LIMIT n) ≡ false
-no_size n some few = grind (arith, nat_tests)
-
-not_above : (n limit : ℕ) → n ≤ limit → nat_lt limit n ≡ false
-not_above n limit le = grind (arith, nat_tests)
-
-no_entry : (at len : ℕ) → 0x10000000 ≤ at → at < 0x10000000 + len → (nat_lt at 0x10000000 || not (nat_lt at (0x10000000 + len))) ≡ false
-no_entry at len ge lt = grind (arith, nat_tests)
-
 right_place : (n m : ℕ) → n ≡ m → then_some {T = ℕ} (not (n == m)) 0 ≡ None
-right_place n m e = ap (λ b. then_some {T = ℕ} (not b) 0) (equal_so n m e)
+right_place n m e = ap (λ b. then_some {T = ℕ} (not b) 0) (eq-eqb n m e)
 
 placed_by : (parts : ImageParts) → text_place parts ≡ None → init_place parts ≡ None → text_size parts ≡ None → init_size parts ≡ None → entry_place parts ≡ None → placed parts ≡ Ok tt
 unfolding placed
 placed_by parts a b c d e = rw (a, b, c, d, e) refl
-
-swept_gives : (text : List ℕ) (swept : List Swept) → sweep text ≡ Ok swept → pieces_in text ≡ Ok (map piece_of swept)
-unfolding pieces_in
-swept_gives text swept e = ap (pieces_of text) e
 
 abbrev Outcome : ImageParts → List Site → Type 0
 Outcome parts sites = (image_from parts ≡ Ok (image_with parts sites)) ⊎ ((at : ℕ) × (image_from parts ≡ Err (Wrong at Target)))

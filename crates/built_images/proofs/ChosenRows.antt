@@ -25,6 +25,7 @@ use Rattle.ia32_encode.specs.Chosen.{widths_fit, does_suit, chosen_from, chosen}
 use Rattle.ia32_encode.proofs.Back.{form_back}
 use Rattle.ia32_encode.proofs.Laid.{parts_len, width_of}
 use Rattle.built_images.specs.Fields.{imm_size, disp_place, imm_place}
+use Rattle.image_check.proofs.Room.{op_is}
 
 -- ---- the chosen row
 
@@ -96,10 +97,6 @@ pub record IsKnown (wide : Wide) (insn : Insn) (s : ArrayBytes) : Type 0 where
   pub imm_at : wide.imm ≡ true → s.imm_at ≡ imm_place row (take s.len s.bytes)
   pub imm_room : wide.imm ≡ true → s.imm_at + imm_size row.form.immediate ≡ s.len
 
-row_op : (row : Row) (p : Parts) → (insn_of row p).op ≡ row.op
-unfolding insn_of
-row_op row p = refl
-
 parts_imm : (row : Row) (wide : Bool) (insn : Insn) → (parts_for row wide insn).imm ≡ insn.imm
 unfolding parts_for
 parts_imm row wide insn = refl
@@ -130,7 +127,7 @@ known wide insn s e =
       row = row;
       listed = l.listed;
       parts = p;
-      op = sym (row_op row p) ∙ same_ops (insn_of row p) insn b.0;
+      op = sym (op_is row p) ∙ same_ops (insn_of row p) insn b.0;
       number = parts_imm row wide.disp insn;
       read = ap (parts_at row.form) (text ∙ sym (append-nil bytes)) ∙ form_back wide.disp row.form p b.1 (parts_len row wide.disp insn) [];
       len = taken ∙ sym len;

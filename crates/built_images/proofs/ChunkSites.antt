@@ -1,7 +1,8 @@
 -- The sites of a text of chunks.
-use Rattle.std.proofs.Common.{◌≡◌, ℕ, zero, suc, ◌+◌, ◌-◌, ◌≤◌, Bool, true, false, cond, ◌&&◌, List, [], ◌∷◌, ◌++◌, length, map, Option, Some, None, refl, ap, subst, ◌∙◌, arith, inl, inr, ◌⊎◌}
+use Rattle.std.proofs.Common.{◌≡◌, ℕ, zero, suc, ◌+◌, ◌-◌, ◌≤◌, Bool, true, false, cond, ◌&&◌, List, [], ◌∷◌, ◌++◌, length, map, Option, Some, None, refl, ap, subst, ◌∙◌, arith, inl, inr}
 use Rattle.std.specs.Prelude.{max, replicate}
 use Rattle.std.proofs.lemmas.List.{length-append, length-replicate, map-append}
+use Rattle.std.proofs.lemmas.Bool.{cases_Bool}
 use Rattle.ia32_types.specs.Shape.{is_direct_branch}
 use Rattle.ia32_types.specs.declared.insn.Insn.{Insn}
 use Rattle.ia32_types.specs.declared.site.SiteKind.{SiteKind}
@@ -17,11 +18,13 @@ use Rattle.image_check.specs.declared.site.Here.TheVariants as here
 use Rattle.image_check.specs.Sweep.{SweepsTo, Sweep}
 use Rattle.image_check.specs.Pieces.{is_nop, target_of, site_role, role_of, piece_of}
 use Rattle.image_check.specs.TextSites.{has_nops, has_hlt, is_sti, by_role, single, pair, begun_by, Found, with_site, found_by, found_behind, unless_lacking, sites_of}
+use Rattle.image_check.proofs.SiteSteps.{look_at}
+use Rattle.image_check.proofs.Laid.{branch_kind}
 use Rattle.built_images.specs.Joined.{sti, hlt, nops_at}
 use Rattle.afterburner.specs.Instructions.{nops_behind, site_at}
 use Rattle.built_images.specs.Chunks.{Coded, insn_in, IsCoded, Chunk, Alone, Pair, IsChunk, AreChunks, padding, chunk_text, chunks_text, chunk_site, chunk_sites, chunk_swept, chunks_swept}
 use Rattle.built_images.proofs.SweepJoins.{to_append, one_sweeps, nops_sweep, sti_spelled, hlt_spelled}
-use Rattle.built_images.proofs.Sensitive.{branch_plain, nop_plain, sti_bytes}
+use Rattle.built_images.proofs.Sensitive.{nop_plain, sti_bytes}
 
 -- ---- the sweep
 
@@ -68,10 +71,6 @@ unfolding found_behind nops_at
 skipped at zero ps = refl
 skipped at (suc n) ps = skipped (at + 1) n ps
 
-true_or_false : (b : Bool) → (b ≡ true) ⊎ (b ≡ false)
-true_or_false true = inl refl
-true_or_false false = inr refl
-
 some_none : (k : SiteKind) (o : Option SiteKind) → o ≡ Some k → o ≡ None → ⊥
 some_none k o e f = cc
 
@@ -81,9 +80,9 @@ not_nop false n o e = refl
 
 site_is : (at len : ℕ) (insn : Insn) (k : SiteKind) → sensitive_kind insn ≡ Some k → role_of at len insn ≡ role.Site k
 site_is at len insn k e =
-    elim (true_or_false (is_direct_branch insn.op)) [
-      | inl b ↦ absurd (some_none k (kind_of insn.op) e (branch_plain insn.op b))
-      | inr b ↦ elim (true_or_false (is_nop insn.op)) [
+    elim (cases_Bool (is_direct_branch insn.op)) [
+      | inl b ↦ absurd (some_none k (kind_of insn.op) e (branch_kind insn.op b))
+      | inr b ↦ elim (cases_Bool (is_nop insn.op)) [
         | inl n ↦ absurd (some_none k (kind_of insn.op) e (nop_plain insn.op n))
         | inr n ↦
             not_nop (is_direct_branch insn.op) (role.Branch (target_of at len insn)) (cond (is_nop insn.op) role.Nop (site_role (sensitive_kind insn))) b
@@ -146,20 +145,16 @@ site_begins p k at ps e h =
     ∙ not_first (is_sti (role.Site k) && has_hlt all) (here.Makes (pair p)) (by_role p all (role.Site k)) (no_pair k at (5 - p.len) ps h)
     ∙ first_is (has_nops (max 5 p.len - p.len) all) (here.Makes (single p k)) here.Lacks (ap (λ m. has_nops m all) n ∙ has_more at (5 - p.len) ps)
 
-first_found : (p : Piece) (ps : List Piece) → found_behind 0 (p ∷ ps) ≡ found_by p (λ n. found_behind n ps) (begun_by p ps)
-unfolding found_behind
-first_found p ps = refl
-
 -- what a chunk adds to what is found behind it
 abbrev found_with : List Site → List Piece → Found
 found_with sites ps = record { sites = sites ++ (found_behind 0 ps).sites; lacking = (found_behind 0 ps).lacking }
 
 quiet_found : (p : Piece) (ps : List Piece) → begun_by p ps ≡ here.Nothing → found_behind 0 (p ∷ ps) ≡ found_with [] ps
-quiet_found p ps e = first_found p ps ∙ ap (found_by p (λ n. found_behind n ps)) e
+quiet_found p ps e = look_at p ps ∙ ap (found_by p (λ n. found_behind n ps)) e
 
 site_found : (p : Piece) (s : Site) (at n : ℕ) (ps : List Piece) → begun_by p (map piece_of (nops_at at n) ++ ps) ≡ here.Makes s → s.total - p.len ≡ n → found_behind 0 (p ∷ (map piece_of (nops_at at n) ++ ps)) ≡ found_with (s ∷ []) ps
 site_found p s at n ps e total =
-    first_found p (map piece_of (nops_at at n) ++ ps)
+    look_at p (map piece_of (nops_at at n) ++ ps)
     ∙ ap (found_by p (λ m. found_behind m (map piece_of (nops_at at n) ++ ps))) e
     ∙ ap (λ m. with_site s (found_behind m (map piece_of (nops_at at n) ++ ps))) total
     ∙ ap (with_site s) (skipped at n ps)

@@ -4,7 +4,7 @@ use Rattle.std.specs.Prelude.{slice_index, ◌==◌}
 use Rattle.std.specs.Option.{option_or}
 use Rattle.std.specs.List.{list_all}
 use Rattle.std.specs.Str.{bytes_eq}
-use Rattle.std.proofs.lemmas.Bool.{and_parts}
+use Rattle.std.proofs.lemmas.Bool.{and_parts, not-true}
 use Rattle.ia32_types.specs.Shape.{is_direct_branch}
 use Rattle.ia32_types.specs.declared.insn.Op.{Op}
 use Rattle.ia32_types.specs.declared.insn.Op.TheVariants as op
@@ -139,26 +139,22 @@ is_fine (family.Plain o) = not (is_direct_branch o)
 is_fine (family.System (system.Memory o)) = not (is_direct_branch o)
 is_fine _ = true
 
-not_true : (b : Bool) → not b ≡ true → b ≡ false
-not_true true e = absurd cc
-not_true false e = refl
-
 fine_arithmetic : (k : Arithmetic) → is_fine (family.Arithmetic k) ≡ true → (o : Op) → (k ≡ arithmetic.Two o) ⊎ (k ≡ arithmetic.One o) → is_direct_branch o ≡ false
-fine_arithmetic k e o (inl is) = not_true (is_direct_branch o) (ap (λ x. is_fine (family.Arithmetic x)) (sym is) ∙ e)
-fine_arithmetic k e o (inr is) = not_true (is_direct_branch o) (ap (λ x. is_fine (family.Arithmetic x)) (sym is) ∙ e)
+fine_arithmetic k e o (inl is) = not-true (is_direct_branch o) (ap (λ x. is_fine (family.Arithmetic x)) (sym is) ∙ e)
+fine_arithmetic k e o (inr is) = not-true (is_direct_branch o) (ap (λ x. is_fine (family.Arithmetic x)) (sym is) ∙ e)
 
 sound_family : (f : Family) (t : Option Size) (os : Operands) → is_fine f ≡ true → IsSound os (by_family f t os)
 sound_family (family.Arithmetic k) t os e = sound os (arithmetic_draft k t os) (quiet_arithmetic k t os (fine_arithmetic k e))
-sound_family (family.Shift o) t os e = sound os (shift_draft o t os) (quiet_shift o t os (not_true (is_direct_branch o) e))
-sound_family (family.Moves k) t os e = sound os (move_draft k t os) (quiet_moves k t os (λ o s is. not_true (is_direct_branch o) (ap (λ x. is_fine (family.Moves x)) (sym is) ∙ e)))
+sound_family (family.Shift o) t os e = sound os (shift_draft o t os) (quiet_shift o t os (not-true (is_direct_branch o) e))
+sound_family (family.Moves k) t os e = sound os (move_draft k t os) (quiet_moves k t os (λ o s is. not-true (is_direct_branch o) (ap (λ x. is_fine (family.Moves x)) (sym is) ∙ e)))
 sound_family (family.Stack k) t os e = sound os (stack_draft k t os) (quiet_stack k t os)
-sound_family (family.Control k) t os e = sound_control k t os (λ o i is. not_true (is_direct_branch i) (ap (λ x. is_fine (family.Control x)) (sym is) ∙ e))
-sound_family (family.Strings o s) t os e = sound os (string_draft false o s os) (quiet_string false o s os (not_true (is_direct_branch o) e))
-sound_family (family.Plain o) t os e = sound os (plain_draft o t os) (quiet_plain o t os (not_true (is_direct_branch o) e))
-sound_family (family.System k) t os e = sound os (system_draft k t os) (quiet_system k t os (λ o is. not_true (is_direct_branch o) (ap (λ x. is_fine (family.System x)) (sym is) ∙ e)))
+sound_family (family.Control k) t os e = sound_control k t os (λ o i is. not-true (is_direct_branch i) (ap (λ x. is_fine (family.Control x)) (sym is) ∙ e))
+sound_family (family.Strings o s) t os e = sound os (string_draft false o s os) (quiet_string false o s os (not-true (is_direct_branch o) e))
+sound_family (family.Plain o) t os e = sound os (plain_draft o t os) (quiet_plain o t os (not-true (is_direct_branch o) e))
+sound_family (family.System k) t os e = sound os (system_draft k t os) (quiet_system k t os (λ o is. not-true (is_direct_branch o) (ap (λ x. is_fine (family.System x)) (sym is) ∙ e)))
 
 sound_repeated : (f : Family) (os : Operands) → is_fine f ≡ true → IsSound os (repeated f os)
-sound_repeated (family.Strings o s) os e = sound os (string_draft true o s os) (quiet_string true o s os (not_true (is_direct_branch o) e))
+sound_repeated (family.Strings o s) os e = sound os (string_draft true o s os) (quiet_string true o s os (not-true (is_direct_branch o) e))
 sound_repeated (family.Arithmetic k) os e = tt
 sound_repeated (family.Shift k) os e = tt
 sound_repeated (family.Moves k) os e = tt

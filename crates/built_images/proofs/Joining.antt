@@ -13,7 +13,7 @@ use Rattle.image_check.specs.Pieces.{target_of}
 use Rattle.built_images.specs.Joined.{nop, sti, hlt, jump_to_itself, nops_at}
 use Rattle.afterburner.specs.Instructions.{nops_behind, site_at}
 use Rattle.built_images.specs.Chunks.{Coded, insn_in, IsCoded, Chunk, Alone, Pair, AreChunks, padding, chunk_text, chunks_text, chunk_site, chunk_sites, chunk_swept, chunks_swept, Begins}
-use Rattle.built_images.specs.Filled.{HasFields, HaveFields, chunk_relocs, chunks_relocs}
+use Rattle.built_images.specs.Filled.{HasFields, HaveFields, chunks_relocs}
 use Rattle.built_images.specs.Padded.{IsEdge, IsLinkedBranch, IsAlone}
 use Rattle.built_images.proofs.SweepJoins.{nop_spelled, jump_spelled}
 use Rattle.built_images.proofs.Entrances.{text_length}

@@ -2,12 +2,12 @@
 use Rattle.std.proofs.Common.{◌≡◌, ℕ, zero, suc, ◌+◌, ◌-◌, ◌<◌, ◌≤◌, ◌^◌, ◌%◌, Bool, true, false, cond, min, List, [], ◌∷◌, ◌++◌, length, take, nat_lt, Option, Some, None, Result, Ok, refl, sym, ap, subst, ◌∙◌, arith}
 use Rattle.std.specs.Prelude.{slice_get, filter, sum_by, max, replicate, ◌==◌, codes}
 use Rattle.std.specs.Bool.{then_some}
-use Rattle.std.specs.List.{flat_map, enumerate_from, All, AllByRecursion, Contains}
+use Rattle.std.specs.List.{enumerate_from, All, Contains}
 use Rattle.std.specs.Option.{option_or}
-use Rattle.std.proofs.lemmas.Bool.Decides.{nat_tests}
 use Rattle.std.proofs.lemmas.List.{append-nil, length-append, length-replicate, length-take, take_all}
 use Rattle.std.proofs.lemmas.List.Sums.{sum_by-cons}
 use Rattle.std.proofs.lemmas.List.Elements.{All-nil, All-append, All-weaker, All-filter, All-contains, All-contains_itself}
+use Rattle.std.proofs.lemmas.Bool.{ltb-false}
 use Rattle.guest_ram.specs.Bytes.{word32}
 use Rattle.ia32_rows.proofs.TableLaws.{at_most_eleven, not_empty}
 use Rattle.sites.specs.declared.limits.TheConstants.{TEXT_LIMIT}
@@ -33,12 +33,12 @@ use Rattle.elf_link.specs.Sites.{linked_sites}
 use Rattle.elf_form.specs.Tables.{first_some}
 use Rattle.elf_form.proofs.FormLaws.{then_none, else_none}
 use Rattle.elf_link.specs.Refusals.{Refused, object_cause, refused, object_refusal, relocs_refusal, start, start_refusal, refusal, unless}
-use Rattle.elf_link.specs.Linked.{texts, linked_text, linked_init, entry_at, image, linked_image}
+use Rattle.elf_link.specs.Linked.{linked_text, linked_init, entry_at, image, linked_image}
 use Rattle.image_check.specs.Sweep.{Swept}
 use Rattle.image_check.specs.Pieces.{target_of}
 use Rattle.built_images.specs.Joined.{jump_to_itself}
 use Rattle.afterburner.specs.Instructions.{nops_behind, site_at}
-use Rattle.built_images.specs.Chunks.{Coded, insn_in, IsCoded, Chunk, Alone, Pair, AreChunks, padding, chunk_text, chunks_text, chunk_site, chunk_sites, chunks_swept, Begins}
+use Rattle.built_images.specs.Chunks.{Coded, insn_in, Chunk, Alone, Pair, AreChunks, padding, chunk_text, chunks_text, chunk_sites, chunks_swept, Begins}
 use Rattle.built_images.specs.Filled.{chunks_relocs}
 use Rattle.built_images.specs.Padded.{IsEdge, IsPadded, ArePadded, AreAlone, AnyChunks}
 use Rattle.built_images.specs.Built.{IsBuilt, LeadsRight}
@@ -107,9 +107,6 @@ not_reloc os i o r w there c =
 
 -- ---- the limits
 
-not_more : (limit n : ℕ) → nat_lt limit n ≡ false → n ≤ limit
-not_more limit n e = grind (arith, nat_tests)
-
 pub record IsWithin (os : List ObjectParts) : Type 0 where
   pub text : text_end os + 2 ≤ TEXT_LIMIT
   pub memory : memory_end os ≤ 33554432
@@ -120,8 +117,8 @@ object_within os k o all e =
     let a = else_none (then_some (nat_lt TEXT_LIMIT (text_end (take (k + 1) os) + 2)) TextTooLarge) _ e in
     let b = else_none (then_some (nat_lt 33554432 (memory_end (take (k + 1) os))) InitTooLarge) _ a.1 in
     record {
-      text = not_more TEXT_LIMIT (text_end os + 2) (then_none _ TextTooLarge (subst (λ (xs : List ObjectParts). then_some (nat_lt TEXT_LIMIT (text_end xs + 2)) TextTooLarge ≡ None) all a.0));
-      memory = not_more 33554432 (memory_end os) (then_none _ InitTooLarge (subst (λ (xs : List ObjectParts). then_some (nat_lt 33554432 (memory_end xs)) InitTooLarge ≡ None) all b.0));
+      text = ltb-false TEXT_LIMIT (text_end os + 2) (then_none _ TextTooLarge (subst (λ (xs : List ObjectParts). then_some (nat_lt TEXT_LIMIT (text_end xs + 2)) TextTooLarge ≡ None) all a.0));
+      memory = ltb-false 33554432 (memory_end os) (then_none _ InitTooLarge (subst (λ (xs : List ObjectParts). then_some (nat_lt 33554432 (memory_end xs)) InitTooLarge ≡ None) all b.0));
     }
 
 last_got : (o : ObjectParts) (os : List ObjectParts) → (p : ObjectParts) × (slice_get (o ∷ os) (length os) ≡ Some p)

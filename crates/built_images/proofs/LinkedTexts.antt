@@ -1,7 +1,7 @@
 -- The text of a linked image is made of chunks.
 use Rattle.std.proofs.Common.{Err, Result, ◌≡◌, ℕ, zero, suc, ◌+◌, ◌<◌, ◌^◌, Bool, true, false, cond, List, [], ◌∷◌, ◌++◌, length, get_or, take, map, Option, Some, None, refl, sym, ap, subst, ◌∙◌, arith, Ok}
-use Rattle.std.specs.Prelude.{fold, replicate, slice_get, filter, sum_by}
-use Rattle.std.specs.List.{flat_map, enumerate_from, All, AllByRecursion, Contains}
+use Rattle.std.specs.Prelude.{fold, replicate, slice_get, filter}
+use Rattle.std.specs.List.{flat_map, enumerate_from, All, Contains}
 use Rattle.std.proofs.lemmas.List.{append-nil, length-append, length-replicate, take_at}
 use Rattle.std.proofs.lemmas.List.Sums.{sum_by-cons, sum_by_more}
 use Rattle.std.proofs.lemmas.List.Elements.{All-nil, All-append}

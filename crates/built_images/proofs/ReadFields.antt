@@ -1,7 +1,6 @@
 -- The displacement and the immediate as they are read: where they have four bytes, any number may stand there.
 use Rattle.std.proofs.Common.{◌≡◌, ℕ, ◌+◌, Bool, true, false, cond, List, [], ◌∷◌, ◌++◌, length, Ok, refl, sym, ap, subst, ◌∙◌, arith}
 use Rattle.std.specs.Prelude.{◌==◌, is_none, None}
-use Rattle.std.specs.List.{Contains}
 use Rattle.std.proofs.lemmas.List.{append-nil}
 use Rattle.ia32_types.specs.declared.insn.Operand.{Operand}
 use Rattle.ia32_types.specs.declared.insn.Operand.TheVariants as operand
@@ -17,7 +16,6 @@ use Rattle.ia32_rows.specs.Reader.{Reader, and_then, ◌>>=◌, success, byte_at
 use Rattle.ia32_rows.specs.Fields.{mod_of, reg_of, rm_of, has_modrm, base_at, disp_at, memory_at, rm_at, addressing_at, immediate_at, imm_len}
 use Rattle.ia32_rows.proofs.Readers.{read, same_read, and_then_ok}
 use Rattle.ia32_rows.proofs.Fields.{base_reads}
-use Rattle.std.specs.Int.{w32, to_le_bytes}
 use Rattle.ia32_encode.specs.Text.{offset_of}
 use Rattle.built_images.specs.Fields.{imm_size, moved}
 use Rattle.built_images.proofs.Words.{two_bytes, four_bytes, long_then, long_front}

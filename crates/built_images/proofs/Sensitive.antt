@@ -2,10 +2,9 @@
 use Rattle.std.proofs.Common.{◌≡◌, ℕ, Bool, true, false, not, ◌&&◌, ◌||◌, List, [], ◌∷◌, ◌++◌, Some, None, Ok, refl, sym, ap, subst, ◌∙◌, arith}
 use Rattle.std.specs.Prelude.{◌==◌, nat_le}
 use Rattle.std.specs.List.{list_all, Contains}
-use Rattle.std.proofs.lemmas.Bool.{and_parts}
+use Rattle.std.proofs.lemmas.Bool.{and_parts, eqb-true}
 use Rattle.std.proofs.lemmas.Bool.Decides.{nat_tests}
 use Rattle.std.proofs.lemmas.List.Sums.{AllPass-from_list_all}
-use Rattle.ia32_types.specs.Shape.{is_direct_branch}
 use Rattle.ia32_types.specs.declared.insn.Op.{Op}
 use Rattle.ia32_types.specs.declared.insn.Op.TheVariants as op
 use Rattle.ia32_types.specs.declared.site.SiteKind.{SiteKind}
@@ -32,12 +31,7 @@ use Rattle.ia32_rows.proofs.Readers.{same_read}
 use Rattle.ia32_rows.proofs.SiteLaws.{is_listed}
 use Rattle.ia32_rows.proofs.Pieces.{in_pieces}
 use Rattle.image_check.specs.Pieces.{is_nop}
-
-pub branch_plain : (o : Op) → is_direct_branch o ≡ true → kind_of o ≡ None
-branch_plain op.Jmp e = refl
-branch_plain op.Call e = refl
-branch_plain op.Jcc e = refl
-branch_plain _ e = absurd cc
+use Rattle.image_check.proofs.Room.{op_is}
 
 pub nop_plain : (o : Op) → is_nop o ≡ true → kind_of o ≡ None
 nop_plain op.Nop e = refl
@@ -90,9 +84,6 @@ is_bare f = no_lead f.lead && (f.opcode == 0xFB && (no_plus f.plus && (no_addres
 abbrev sti_form : Form
 sti_form = form_with lead.Nothing 0xFB plus.Nothing addressing.Nothing immediate.Nothing
 
-equal : (m n : ℕ) → (m == n) ≡ true → m ≡ n
-equal m n e = grind (arith, nat_tests)
-
 bare_is : (f : Form) → is_bare f ≡ true → f ≡ sti_form
 bare_is f e =
     let a = and_parts (no_lead f.lead) (f.opcode == 0xFB && (no_plus f.plus && (no_address f.addressing && no_immediate f.immediate))) e in
@@ -100,7 +91,7 @@ bare_is f e =
     let c = and_parts (no_plus f.plus) (no_address f.addressing && no_immediate f.immediate) b.1 in
     let d = and_parts (no_address f.addressing) (no_immediate f.immediate) c.1 in
     ap (λ l. form_with l f.opcode f.plus f.addressing f.immediate) (lead_none f.lead a.0)
-    ∙ ap (λ n. form_with lead.Nothing n f.plus f.addressing f.immediate) (equal f.opcode 0xFB b.0)
+    ∙ ap (λ n. form_with lead.Nothing n f.plus f.addressing f.immediate) (eqb-true f.opcode 0xFB b.0)
     ∙ ap (λ p. form_with lead.Nothing 0xFB p f.addressing f.immediate) (plus_none f.plus c.0)
     ∙ ap (λ x. form_with lead.Nothing 0xFB plus.Nothing x f.immediate) (address_none f.addressing d.0)
     ∙ ap (λ i. form_with lead.Nothing 0xFB plus.Nothing addressing.Nothing i) (immediate_none f.immediate d.1)
@@ -133,10 +124,6 @@ only_code p bytes o =
     ∙ ap (λ xs. p.code ∷ xs) i
     ∙ ap (λ n. n ∷ []) code
 
-op_of : (row : Row) (p : Parts) → (insn_of row p).op ≡ row.op
-unfolding insn_of
-op_of row p = refl
-
 -- the same of bytes that are read so
 pub sti_read : (row : Row) (p : Parts) (bytes : List ℕ) → Contains rows row → parts_at row.form bytes ≡ Ok (p, []) → kind_of row.op ≡ Some site.Sti → bytes ≡ 0xFB ∷ []
 sti_read row p bytes c read e = only_code p bytes (subst (λ form. IsLaidOut form p bytes) (sti_row row c e) ((in_pieces row c p bytes).0 read))
@@ -153,5 +140,5 @@ sti_no_imm row c e = ap (λ (f : Form). imm_len f.immediate) (sti_row row c e)
 
 pub sti_bytes : (row : Row) (p : Parts) (bytes : List ℕ) → Contains rows row → SpellsBy row p bytes (insn_of row p) → sensitive_kind (insn_of row p) ≡ Some site.Sti → bytes ≡ 0xFB ∷ []
 sti_bytes row p bytes c s e =
-    let f = sti_row row c (ap kind_of (sym (op_of row p)) ∙ e) in
+    let f = sti_row row c (ap kind_of (sym (op_is row p)) ∙ e) in
     only_code p bytes (subst (λ form. IsLaidOut form p bytes) f ((in_pieces row c p bytes).0 s.read))

@@ -1,17 +1,17 @@
 -- Sweeps one behind the other.
 use Rattle.std.proofs.Common.{◌≡◌, ℕ, zero, suc, ◌+◌, List, [], ◌∷◌, ◌++◌, length, take, drop, map, refl, sym, ap, subst, ◌∙◌, arith}
 use Rattle.std.specs.Prelude.{replicate}
-use Rattle.std.proofs.lemmas.List.{append-nil, length-append, take-append-le, drop-append-le, take_at, drop_at, length-replicate}
+use Rattle.std.proofs.lemmas.List.{append-nil, length-append, take-append-le, drop-append-le, drop_at, length-replicate}
 use Rattle.ia32_types.specs.declared.insn.Insn.{Insn}
 use Rattle.ia32_rows.specs.Rows.{rows}
-use Rattle.ia32_rows.specs.Spells.{AreBytes, Spells}
+use Rattle.ia32_rows.specs.Spells.{Spells}
 use Rattle.ia32_rows.specs.Fields.{addressing_at, immediate_at}
 use Rattle.ia32_rows.specs.Spelling.{insn_of, lead_at, coded_at, parts_at}
-use Rattle.ia32_decode.specs.declared.answer.Decoded.TheVariants as answer
-use Rattle.ia32_decode.specs.Answer.{Begins, Answers}
+use Rattle.ia32_decode.specs.Answer.{Begins}
 use Rattle.ia32_decode.specs.Decoding.{answer_from, decoded}
-use Rattle.ia32_decode.proofs.Exact.{answered}
+use Rattle.ia32_decode.proofs.Whole.{reads_back}
 use Rattle.image_check.specs.Sweep.{Swept, SweepsTo, Sweep}
+use Rattle.image_check.proofs.SweepLaws.{begun}
 use Rattle.built_images.specs.Joined.{swept_later, nop, sti, hlt, jump_to_itself, nops_at}
 
 pub begins_more : (a b : List ℕ) (insn : Insn) (n : ℕ) → Begins a insn n → Begins (a ++ b) insn n
@@ -49,36 +49,27 @@ sweeps_join a b first second h k =
 begins_whole : (bytes : List ℕ) (insn : Insn) → Begins bytes insn (length bytes) → take (length bytes) bytes ≡ bytes → Spells bytes insn
 begins_whole bytes insn h e = subst (λ bs. Spells bs insn) e h.front
 
-answers_insn : (bytes : List ℕ) (insn : Insn) (n : ℕ) → AreBytes bytes → decoded bytes ≡ answer.Insn insn n → Begins bytes insn n
-answers_insn bytes insn n fit e = subst (λ d. Answers d bytes) e (answered bytes fit)
-
 pub nop_spelled : Spells (0x90 ∷ []) nop
 unfolding decoded answer_from rows parts_at coded_at lead_at addressing_at immediate_at insn_of
-nop_spelled = begins_whole (0x90 ∷ []) nop (answers_insn (0x90 ∷ []) nop 1 (omega arith, tt) refl) refl
+nop_spelled = begins_whole (0x90 ∷ []) nop (begun (0x90 ∷ []) nop 1 (omega arith, tt) refl) refl
 
 pub sti_spelled : Spells (0xFB ∷ []) sti
 unfolding decoded answer_from rows parts_at coded_at lead_at addressing_at immediate_at insn_of
-sti_spelled = begins_whole (0xFB ∷ []) sti (answers_insn (0xFB ∷ []) sti 1 (omega arith, tt) refl) refl
+sti_spelled = begins_whole (0xFB ∷ []) sti (begun (0xFB ∷ []) sti 1 (omega arith, tt) refl) refl
 
 pub hlt_spelled : Spells (0xF4 ∷ []) hlt
 unfolding decoded answer_from rows parts_at coded_at lead_at addressing_at immediate_at insn_of
-hlt_spelled = begins_whole (0xF4 ∷ []) hlt (answers_insn (0xF4 ∷ []) hlt 1 (omega arith, tt) refl) refl
+hlt_spelled = begins_whole (0xF4 ∷ []) hlt (begun (0xF4 ∷ []) hlt 1 (omega arith, tt) refl) refl
 
 pub jump_spelled : Spells (0xEB ∷ 0xFE ∷ []) jump_to_itself
 unfolding decoded answer_from rows parts_at coded_at lead_at addressing_at immediate_at insn_of
-jump_spelled = begins_whole (0xEB ∷ 0xFE ∷ []) jump_to_itself (answers_insn (0xEB ∷ 0xFE ∷ []) jump_to_itself 2 (omega arith, (omega arith, tt)) refl) refl
+jump_spelled = begins_whole (0xEB ∷ 0xFE ∷ []) jump_to_itself (begun (0xEB ∷ 0xFE ∷ []) jump_to_itself 2 (omega arith, (omega arith, tt)) refl) refl
 
 -- ---- a spelling in front, and NOPs
 
-pub spelled_begins : (bytes more : List ℕ) (insn : Insn) → Spells bytes insn → Begins (bytes ++ more) insn (length bytes)
-spelled_begins bytes more insn s = record {
-  within = omega (arith, length-append bytes more);
-  front = subst (λ bs. Spells bs insn) (sym (take_at bytes more (length bytes) refl)) s;
-}
-
 pub one_sweeps : (at : ℕ) (bytes : List ℕ) (insn : Insn) → Spells bytes insn → SweepsTo at bytes (record { at = at; len = length bytes; insn = insn } ∷ []) (at + length bytes) []
 one_sweeps at bytes insn s =
-    let b = subst (λ bs. Begins bs insn (length bytes)) (append-nil bytes) (spelled_begins bytes [] insn s) in
+    let b = subst (λ bs. Begins bs insn (length bytes)) (append-nil bytes) (reads_back bytes [] insn s) in
     let d = ap (drop (length bytes)) (sym (append-nil bytes)) ∙ drop_at bytes [] (length bytes) refl in
     (refl, b, (refl, d))
 
@@ -87,7 +78,7 @@ unfolding nops_at
 nops_sweep at zero = (omega arith, refl)
 nops_sweep at (suc n) =
     let e : (at + 1) + n ≡ at + suc n = omega arith in
-    (refl, spelled_begins (0x90 ∷ []) (replicate n 0x90) nop nop_spelled, subst (λ (to : ℕ). SweepsTo (at + 1) (replicate n 0x90) (nops_at (at + 1) n) to []) e (nops_sweep (at + 1) n))
+    (refl, reads_back (0x90 ∷ []) (replicate n 0x90) nop nop_spelled, subst (λ (to : ℕ). SweepsTo (at + 1) (replicate n 0x90) (nops_at (at + 1) n) to []) e (nops_sweep (at + 1) n))
 
 pub nops_law : (n : ℕ) → Sweep (replicate n 0x90) (nops_at 0 n)
 nops_law n =

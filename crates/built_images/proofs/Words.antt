@@ -4,7 +4,7 @@ use Rattle.std.specs.Int.{w32, from_le_bytes, to_le_bytes}
 use Rattle.std.proofs.lemmas.Nat.{from_le_bytes-to_le_bytes_4}
 use Rattle.guest_ram.specs.Bytes.{part, with_part, word32, with_word32}
 use Rattle.std.proofs.lemmas.List.{append-nil, length-append}
-use Rattle.ia32_rows.specs.Reader.{Reader, and_then, ◌>>=◌, success, byte_at, word_at, long_at}
+use Rattle.ia32_rows.specs.Reader.{Reader, ◌>>=◌, success, word_at, long_at}
 use Rattle.ia32_rows.specs.Spells.{AreBytes}
 use Rattle.ia32_rows.proofs.Readers.{Takes, Reads, read, same_read, and_then_ok, word_reads, long_reads}
 

@@ -6,7 +6,7 @@ use Rattle.std.specs.List.{flat_map}
 use Rattle.std.specs.Option.{option_or}
 use Rattle.std.proofs.lemmas.List.{take_all, length-append, length-map, append-nil}
 use Rattle.std.proofs.lemmas.List.Concat.{flat_map-append}
-use Rattle.std.proofs.lemmas.Bool.{ltb-false, lt-ltb}
+use Rattle.std.proofs.lemmas.Bool.{ltb-false, lt-ltb, not-false}
 use Rattle.elf_form.specs.ObjectParts.{ObjectParts}
 use Rattle.sites.specs.declared.site.Site.{Site}
 use Rattle.sites.specs.declared.limits.TheConstants.{TEXT_LIMIT, SHORT_TEXT, SITE_LIMIT}
@@ -51,10 +51,6 @@ or_second false b h = h
 and_holds : (a b : Bool) → a ≡ true → (a && b) ≡ false → b ≡ false
 and_holds true b holds h = h
 and_holds false b holds h = cc
-
-not_not : (b : Bool) → not b ≡ false → b ≡ true
-not_not true h = refl
-not_not false h = cc
 
 abbrev chain : Bool → Bool → Bool → Bool → Option LinkCause → Option LinkCause
 chain a b c d e = option_or (then_some a TextTooLarge) (option_or (then_some b InitTooLarge) (option_or (then_some c TooManySymbols) (option_or (then_some d SitesForm) e)))
@@ -173,7 +169,7 @@ module _ (os : List ObjectParts) (i : ℕ) (o : ObjectParts) (t : Totals) (gs : 
   unfolding sites_wrong
   gaps_are none long =
       let right = or_second _ (crowded os (i + 1)) (sites_right none) in
-      gapped_by 0 (first_sites os (i + 1)) (not_not (are_gapped 0 (first_sites os (i + 1))) (and_holds (nat_lt SHORT_TEXT (text_end (take (i + 1) os) + 2)) (not (are_gapped 0 (first_sites os (i + 1)))) (lt-ltb SHORT_TEXT (text_end (take (i + 1) os) + 2) long) right))
+      gapped_by 0 (first_sites os (i + 1)) (not-false (are_gapped 0 (first_sites os (i + 1))) (and_holds (nat_lt SHORT_TEXT (text_end (take (i + 1) os) + 2)) (not (are_gapped 0 (first_sites os (i + 1)))) (lt-ltb SHORT_TEXT (text_end (take (i + 1) os) + 2) long) right))
 
   count_is : (t' : Totals) (sites' : List Site) → t' ≡ with_object t o → sites' ≡ sites ++ map (moved t.text) (sites_of o) → length sites' ≡ t'.sites
   unfolding with_object

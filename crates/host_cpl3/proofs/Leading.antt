@@ -41,7 +41,7 @@ pub bound : {A B : Type 0} (x : Met A) (f : A → Met B) (b : B) → (x >>= f) �
 bound (Ok a) f b e = (a, (refl, e))
 bound (Err exit) f b e = absurd cc
 
-unless_met : (exit : Exit) (test : Bool) (x : Unit {0}) → unless exit test ≡ Ok x → test ≡ true
+pub unless_met : (exit : Exit) (test : Bool) (x : Unit {0}) → unless exit test ≡ Ok x → test ≡ true
 unless_met exit true x e = refl
 unless_met exit false x e = absurd cc
 

@@ -1,6 +1,7 @@
 -- The bytes of ranges that were met may be read.
 use Rattle.std.proofs.Common.{◌≡◌, ℕ, ◌+◌, ◌*◌, ◌^◌, ◌<◌, ◌≤◌, List, length, Bool, true, false, cond, Option, Some, None, refl, sym, subst, arith}
 use Rattle.std.proofs.lemmas.Bool.Decides.{nat_tests}
+use Rattle.std.proofs.lemmas.Bool.{both_ways}
 use Rattle.ia32_types.specs.declared.size.Size.TheVariants.{Long}
 use Rattle.ia32_exec.specs.Memory.{IsAllAt}
 use Rattle.ia32_exec.specs.Commit.{AreStored}
@@ -24,12 +25,9 @@ read_by m root x y a false hx hy in_x in_y lt = let h = in_y refl in (lt, hy.lea
 first_held : (x : Reach) (a : ℕ) → x.at ≤ a → a < x.at + x.len → holds x a ≡ true
 first_held x a low high = grind (arith, nat_tests)
 
-both_ways : (b : Bool) → b ≡ true → b ≡ false → ⊥
-both_ways b e f = cc
-
 in_first : (m : List ℕ) (root : ℕ) (x y : Reach) (a : ℕ) → IsReach m root x → IsReach m root y → x.at ≤ a → a < x.at + x.len → IsRead m root x y a
 in_first m root x y a hx hy low high =
-    let h = read_by m root x y a (holds x a) hx hy (λ e. (low, high)) (λ e. absurd (both_ways (holds x a) (first_held x a low high) e)) (omega (arith, hx.fits)) in
+    let h = read_by m root x y a (holds x a) hx hy (λ e. (low, high)) (λ e. absurd (both_ways (holds x a) e (first_held x a low high))) (omega (arith, hx.fits)) in
     record { space = h.0; leads = h.1; inside = h.2 }
 
 in_second : (m : List ℕ) (root : ℕ) (x y : Reach) (a : ℕ) → IsReach m root x → IsReach m root y → y.at ≤ a → a < y.at + y.len → IsRead m root x y a

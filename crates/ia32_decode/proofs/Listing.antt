@@ -2,7 +2,7 @@
 use Rattle.std.proofs.Common.{◌≡◌, ℕ, zero, suc, ◌+◌, ◌-◌, ◌<◌, ◌≤◌, Bool, true, false, List, [], ◌∷◌, length, get_or, Err, eqb, refl, sym, ap, subst, ◌∙◌, inl, inr, ◌⊎◌, arith}
 use Rattle.std.specs.Prelude.{◌==◌, ◌&&◌, not, nat_lt, nat_le, slice_index, if◌then◌else◌}
 use Rattle.std.specs.List.{Contains, list_any}
-use Rattle.std.proofs.lemmas.Bool.{eqb-true, ltb-true, leb-true, cases_lt, cases_Bool}
+use Rattle.std.proofs.lemmas.Bool.{eqb-true, ltb-true, leb-true, cases_lt, cases_Bool, and_parts}
 use Rattle.std.proofs.lemmas.Map.Views.{Contains-from_any}
 use Rattle.std.proofs.lemmas.List.{get_or_default}
 use Rattle.ia32_rows.specs.declared.row.Miss.TheVariants.{Short, Outside}
@@ -14,7 +14,6 @@ use Rattle.ia32_rows.specs.Reader.{Reader, and_then, ◌>>=◌}
 use Rattle.ia32_rows.specs.Spelling.{first_code, last_code, has_code, lead_at, coded_at, parts_at}
 use Rattle.ia32_rows.specs.Rows.{rows}
 use Rattle.ia32_rows.proofs.Readers.{tested}
-use Rattle.ia32_rows.proofs.Fields.{both}
 use Rattle.ia32_decode.specs.Index.{key, listed, Misses, IsIndex}
 
 -- ---- the test
@@ -77,7 +76,7 @@ first_is_listed starts numbers other =
 under : (n : ℕ) (test : ℕ → Bool) → all_under n test ≡ true → (k : ℕ) → k < n → test k ≡ true
 under zero test h k lt = absurd (omega arith)
 under (suc n) test h k lt =
-    let s = both (test n) (all_under n test) h in
+    let s = and_parts (test n) (all_under n test) h in
     elim (cases_lt k n) [
       | inl less ↦ under n test s.1 k less
       | inr ge ↦ let same : n ≡ k = omega arith in subst (λ m. test m ≡ true) same s.0
@@ -85,7 +84,7 @@ under (suc n) test h k lt =
 
 code_listed : (lists : ℕ → List ℕ) (n : ℕ) (form : Form) → codes_listed lists n form ≡ true → (b : ℕ) → has_code form b ≡ true → member n (lists b) ≡ true
 code_listed lists n form h b c =
-    let s = both (nat_le (first_code form) b) (nat_le b (last_code form)) c in
+    let s = and_parts (nat_le (first_code form) b) (nat_le b (last_code form)) c in
     let lo = leb-true (first_code form) b s.0 in
     let hi = leb-true b (last_code form) s.1 in
     let same : first_code form + (b - first_code form) ≡ b = omega (arith, lo) in
@@ -124,7 +123,7 @@ missed : (lists : ℕ → List ℕ) (n : ℕ) (form : Form) (l : Lead) → by_le
 unfolding lead_at coded_at
 missed lists n form l t [] h e = absurd e
 missed lists n form lead.Nothing t (b ∷ more) h e =
-    let s = both (not (has_code form 0x0f)) (codes_listed lists n form) t in
+    let s = and_parts (not (has_code form 0x0f)) (codes_listed lists n form) t in
     if_passed (has_code form b) b more _ (λ c.
     h (subst (λ k. member n (lists k) ≡ true) (sym (key_is b b more refl (not_0f form b s.0 c))) (code_listed lists n form s.1 b c)))
 missed lists n form lead.Word t (b ∷ more) h e =
@@ -143,9 +142,9 @@ row_test : (lists : ℕ → List ℕ) (k n i : ℕ) (rs : List Row) (other : Row
 row_test lists k n i [] other h e lt = absurd (omega arith)
 row_test lists k n zero (r ∷ rs) other h e lt =
     let same : k ≡ n = omega (arith, e) in
-    subst (λ m. by_lead lists m r.form r.form.lead ≡ true) same (both (by_lead lists k r.form r.form.lead) (all_rows lists (suc k) rs) h).0
+    subst (λ m. by_lead lists m r.form r.form.lead ≡ true) same (and_parts (by_lead lists k r.form r.form.lead) (all_rows lists (suc k) rs) h).0
 row_test lists k n (suc i) (r ∷ rs) other h e lt =
-    row_test lists (suc k) n i rs other (both (by_lead lists k r.form r.form.lead) (all_rows lists (suc k) rs) h).1 (omega (arith, e)) (omega (arith, lt))
+    row_test lists (suc k) n i rs other (and_parts (by_lead lists k r.form r.form.lead) (all_rows lists (suc k) rs) h).1 (omega (arith, e)) (omega (arith, lt))
 
 -- no row meets a wrong byte where there is none, and none with 0F before its opcode meets one at 0F alone
 no_wrong : (form : Form) (l : Lead) → (lead_at l >>= λ _. coded_at form) [] ≡ Err Outside → ⊥
@@ -171,14 +170,14 @@ first_number ns h =
 enough : (starts numbers : List ℕ) (other : Row) → first_is_listed starts numbers other ≡ true → (bytes : List ℕ) → AllMissed (listed starts numbers) bytes → Enough bytes
 unfolding parts_at
 enough starts numbers other t [] h =
-    let a = both (nat_lt 0 (length (listed starts numbers 0)) && nat_lt 0 (length (listed starts numbers 0x0f))) _ t in
+    let a = and_parts (nat_lt 0 (length (listed starts numbers 0)) && nat_lt 0 (length (listed starts numbers 0x0f))) _ t in
     let ns = listed starts numbers 0 in
-    no_wrong (first_row ns other).form (first_row ns other).form.lead (h (get_or ns 0 0) (first_number ns (both (nat_lt 0 (length ns)) _ a.0).0) other)
+    no_wrong (first_row ns other).form (first_row ns other).form.lead (h (get_or ns 0 0) (first_number ns (and_parts (nat_lt 0 (length ns)) _ a.0).0) other)
 enough starts numbers other t (b ∷ []) h = λ w.
-    let a = both (nat_lt 0 (length (listed starts numbers 0)) && nat_lt 0 (length (listed starts numbers 0x0f))) _ t in
+    let a = and_parts (nat_lt 0 (length (listed starts numbers 0)) && nat_lt 0 (length (listed starts numbers 0x0f))) _ t in
     let ns = listed starts numbers 0x0f in
     let g = subst (λ b. AllMissed (listed starts numbers) (b ∷ [])) (eqb-true b 0x0f w) h in
-    no_second (first_row ns other).form (first_row ns other).form.lead a.1 (g (get_or ns 0 0) (first_number ns (both (nat_lt 0 (length (listed starts numbers 0))) _ a.0).1) other)
+    no_second (first_row ns other).form (first_row ns other).form.lead a.1 (g (get_or ns 0 0) (first_number ns (and_parts (nat_lt 0 (length (listed starts numbers 0))) _ a.0).1) other)
 enough starts numbers other t (b ∷ c ∷ more) h = tt
 
 whole : (starts numbers : List ℕ) → rows_are_listed starts numbers ≡ true → ((other : Row) → first_is_listed starts numbers other ≡ true) → (bytes : List ℕ)
@@ -192,8 +191,8 @@ part : (starts numbers : List ℕ) → lists_are_parts starts numbers ≡ true �
     → (slice_index starts k ≤ slice_index starts (k + 1)) × (slice_index starts (k + 1) ≤ length numbers) × ((i : ℕ) → i < length (listed starts numbers k) → slice_index (listed starts numbers k) i < 228)
 part starts numbers t k lt =
     let ns = listed starts numbers k in
-    let a = both (in_order starts k && ends_within starts numbers k) (all_under (length ns) (number_below ns)) (under 512 (list_is_part starts numbers) t k lt) in
-    let b = both (in_order starts k) (ends_within starts numbers k) a.0 in (
+    let a = and_parts (in_order starts k && ends_within starts numbers k) (all_under (length ns) (number_below ns)) (under 512 (list_is_part starts numbers) t k lt) in
+    let b = and_parts (in_order starts k) (ends_within starts numbers k) a.0 in (
       leb-true (slice_index starts k) (slice_index starts (k + 1)) b.0,
       leb-true (slice_index starts (k + 1)) (length numbers) b.1,
       λ i at. ltb-true (slice_index ns i) 228 (under (length ns) (number_below ns) a.1 i at),

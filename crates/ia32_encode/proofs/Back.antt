@@ -2,7 +2,7 @@
 use Rattle.std.proofs.Common.{◌≡◌, ℕ, ◌+◌, ◌*◌, ◌/◌, ◌%◌, ◌<◌, ◌^◌, Bool, true, false, cond, List, [], ◌∷◌, ◌++◌, Option, Some, None, Ok, refl, sym, ap, ◌∙◌, inl, inr, ◌⊎◌, append_assoc, arith}
 use Rattle.std.specs.Prelude.{◌==◌, ◌&&◌, ◌||◌, not, nat_lt, is_none, is_some}
 use Rattle.std.specs.Cmp.Derive.{both_true}
-use Rattle.std.proofs.lemmas.Bool.{eqb-true, ltb-true}
+use Rattle.std.proofs.lemmas.Bool.{eqb-true, ltb-true, or_parts, not-true, and_parts}
 use Rattle.std.proofs.lemmas.Bool.Decides.{nat_tests}
 use Rattle.ia32_types.specs.declared.register.Reg.{Reg}
 use Rattle.ia32_types.specs.declared.register.Reg.TheVariants as reg
@@ -28,7 +28,6 @@ use Rattle.ia32_rows.specs.Reader.{Reading, and_then, ◌>>=◌, success, byte_w
 use Rattle.ia32_rows.specs.Fields.{mod_of, reg_of, rm_of, base_of, sib_of, base_at, disp_at, memory_at, rm_at, has_slash, has_place, has_modrm, addressing_at, immediate_at}
 use Rattle.ia32_rows.specs.Spelling.{has_code, lead_at, coded_at, parts_at}
 use Rattle.ia32_rows.proofs.Readers.{read, tested}
-use Rattle.ia32_rows.proofs.Fields.{both}
 use Rattle.ia32_encode.specs.Text.{word_bytes, long_bytes, is_signed_byte, base_number, index_number, scale_bits, memory_len, disp_len_of, mode_for, disp_bytes, modrm, has_sib, modrm_bytes, offset_of, addressing_bytes, immediate_bytes, lead_bytes, form_bytes}
 use Rattle.ia32_encode.specs.Parts.{address_fits, rm_fits, is_absent, is_offset, addressing_fits, immediate_fits, form_fits}
 
@@ -92,10 +91,6 @@ len_cases P false true f four none one = none refl refl
 len_cases P false false true four none one = one refl refl
 len_cases P false false false four none one = four
 
-or_false : (a b : Bool) → (a || b) ≡ false → (a ≡ false) × (b ≡ false)
-or_false true b e = absurd cc
-or_false false b e = (refl, e)
-
 -- what the displacement's length says
 pub record Placed (base : Option Reg) (disp len : ℕ) : Type 0 where
   pub mode : mode_for base len < 3
@@ -117,16 +112,12 @@ some_base reg.Ebp e = absurd cc
 some_base reg.Esi e = refl
 some_base reg.Edi e = refl
 
-not_true : (b : Bool) → not b ≡ true → b ≡ false
-not_true true e = absurd cc
-not_true false e = refl
-
 placed_0 : (base : Option Reg) (disp : ℕ) → is_none base ≡ false → (disp == 0 && not (base_number base == 5)) ≡ true → Placed base disp 0
 unfolding disp_at
 placed_0 None disp s z = absurd cc
 placed_0 (Some r) disp s z =
-    let e = both (disp == 0) (not (number_of r == 5)) z in
-    record { mode = omega arith; base_is = some_base r (not_true (number_of r == 5) e.1); disp_is = λ more. ap (λ k. read (k, 0) more) (sym (eqb-true disp 0 e.0)) }
+    let e = and_parts (disp == 0) (not (number_of r == 5)) z in
+    record { mode = omega arith; base_is = some_base r (not-true (number_of r == 5) e.1); disp_is = λ more. ap (λ k. read (k, 0) more) (sym (eqb-true disp 0 e.0)) }
 
 placed_1 : (base : Option Reg) (disp : ℕ) → is_none base ≡ false → is_signed_byte disp ≡ true → Placed base disp 1
 unfolding disp_at
@@ -136,8 +127,8 @@ placed_1 (Some r) disp s f = record { mode = omega arith; base_is = ap (λ (t : 
 placed : (wide : Bool) (a : Address) → Placed a.base a.disp (memory_len wide a)
 placed wide a = len_cases (Placed a.base a.disp) (wide || is_none a.base) (a.disp == 0 && not (base_number a.base == 5)) (is_signed_byte a.disp)
     (placed_4 a.base a.disp)
-    (λ s z. placed_0 a.base a.disp (or_false wide (is_none a.base) s).1 z)
-    (λ s f. placed_1 a.base a.disp (or_false wide (is_none a.base) s).1 f)
+    (λ s z. placed_0 a.base a.disp (or_parts wide (is_none a.base) s).1 z)
+    (λ s f. placed_1 a.base a.disp (or_parts wide (is_none a.base) s).1 f)
 
 -- ---- memory operands
 
@@ -180,13 +171,13 @@ sib_back mode base None scale eb h =
     let b : modrm (scale_bits scale) 4 (base_number base) % 8 ≡ base_number base = rm_back (scale_bits scale) 4 (base_number base) (omega arith) low in
     rw (i, b, eb, one) refl
 sib_back mode base (Some r) scale eb h =
-    let e = both (not (number_of r == 4)) (scale == 1 || scale == 2 || scale == 4 || scale == 8) h in
+    let e = and_parts (not (number_of r == 4)) (scale == 1 || scale == 2 || scale == 4 || scale == 8) h in
     let s = scale_back scale e.1 in
     let low = base_below base in
     let i : modrm (scale_bits scale) (number_of r) (base_number base) / 8 % 8 ≡ number_of r = reg_back (scale_bits scale) (number_of r) (base_number base) (number_below r) low in
     let b : modrm (scale_bits scale) (number_of r) (base_number base) % 8 ≡ base_number base = rm_back (scale_bits scale) (number_of r) (base_number base) (number_below r) low in
     let k : modrm (scale_bits scale) (number_of r) (base_number base) / 64 ≡ scale_bits scale = mod_back (scale_bits scale) (number_of r) (base_number base) (number_below r) low in
-    rw (i, b, eb, register_back r, not_true (number_of r == 4) e.0, k, s.1) refl
+    rw (i, b, eb, register_back r, not-true (number_of r == 4) e.0, k, s.1) refl
 
 -- with no SIB byte
 plain_base : (m mode : ℕ) (a : Address) → mod_of m ≡ mode → rm_of m ≡ base_number a.base → base_of mode (base_number a.base) ≡ a.base → is_some a.index ≡ false → (base_number a.base == 4) ≡ false → address_fits a ≡ true
@@ -239,7 +230,7 @@ memory_back wide reg a small fit true h =
       tail = modrm (scale_bits a.scale) (index_number a.index) (base_number a.base) ∷ disp_bytes len a.disp;
       bytes_are = refl;
       reg_is = reg_back mode reg 4 small (omega arith);
-      mode_is = λ place f. rw em (memory_place place mode p.mode (both (address_fits a) (has_place place 0) f).1);
+      mode_is = λ place f. rw em (memory_place place mode p.mode (and_parts (address_fits a) (has_place place 0) f).1);
       rm_is = λ more. rw (mode_not_3 m mode em p.mode)
           (memory_then m _ (disp_bytes len a.disp ++ more) more a len mode em (sib_base m mode a em (rm_back mode reg 4 small (omega arith)) p.base_is fit (disp_bytes len a.disp ++ more)) (p.disp_is more));
     }
@@ -250,13 +241,13 @@ memory_back wide reg a small fit false h =
     let p = placed wide a in
     let low = base_below a.base in
     let em : mod_of m ≡ mode = mod_back mode reg (base_number a.base) small low in
-    let s = or_false (is_some a.index) (base_number a.base == 4) h in
+    let s = or_parts (is_some a.index) (base_number a.base == 4) h in
     record {
       m = m;
       tail = disp_bytes len a.disp;
       bytes_are = refl;
       reg_is = reg_back mode reg (base_number a.base) small low;
-      mode_is = λ place f. rw em (memory_place place mode p.mode (both (address_fits a) (has_place place 0) f).1);
+      mode_is = λ place f. rw em (memory_place place mode p.mode (and_parts (address_fits a) (has_place place 0) f).1);
       rm_is = λ more. rw (mode_not_3 m mode em p.mode)
           (memory_then m _ (disp_bytes len a.disp ++ more) more a len mode em (plain_base m mode a em (rm_back mode reg (base_number a.base) small low) p.base_is s.0 s.1 fit (disp_bytes len a.disp ++ more)) (p.disp_is more));
     }
@@ -266,16 +257,16 @@ unfolding rm_at
 modrm_back wide reg place operand.Absent small fit = absurd cc
 modrm_back wide reg place (operand.Segment s) small fit = absurd cc
 modrm_back wide reg place (operand.Control n) small fit = absurd cc
-modrm_back wide reg place (operand.Memory a) small fit = memory_back wide reg a small (both (address_fits a) (has_place place 0) fit).0 (has_sib a) refl
+modrm_back wide reg place (operand.Memory a) small fit = memory_back wide reg a small (and_parts (address_fits a) (has_place place 0) fit).0 (has_sib a) refl
 modrm_back wide reg place (operand.Register n) small fit =
-    let lt : n < 8 = ltb-true n 8 (both (nat_lt n 8) (has_place place 3) fit).0 in
+    let lt : n < 8 = ltb-true n 8 (and_parts (nat_lt n 8) (has_place place 3) fit).0 in
     let em : mod_of (modrm 3 reg n) ≡ 3 = mod_back 3 reg n small lt in
     record {
       m = modrm 3 reg n;
       tail = [];
       bytes_are = refl;
       reg_is = reg_back 3 reg n small lt;
-      mode_is = λ p f. rw em (both (nat_lt n 8) (has_place p 3) f).1;
+      mode_is = λ p f. rw em (and_parts (nat_lt n 8) (has_place p 3) f).1;
       rm_is = λ more. rw (em, rm_back 3 reg n small lt) refl;
     }
 
@@ -325,19 +316,19 @@ addressing_back : (wide : Bool) (kind : Addressing) (p : Parts) → addressing_f
     → addressing_at kind (addressing_bytes kind p ++ more) ≡ read (located_is p.reg p.disp_len p.rm) more
 unfolding addressing_at located_is
 addressing_back wide addressing.Nothing p fit len more =
-    let e = both (p.reg == 0) (is_absent p.rm) fit in
+    let e = and_parts (p.reg == 0) (is_absent p.rm) fit in
     let absent = absent_is p.rm e.1 in
     let none : p.disp_len ≡ 0 = len ∙ ap (disp_len_of wide) absent in
     ap (λ l. read l more) (located_eq 0 p.reg 0 p.disp_len operand.Absent p.rm (sym (eqb-true p.reg 0 e.0)) (sym none) (sym absent))
 addressing_back wide addressing.Offset p fit len more =
-    let e = both (p.reg == 0) (is_offset p.rm) fit in
+    let e = and_parts (p.reg == 0) (is_offset p.rm) fit in
     let plain = offset_is p.rm e.1 in
     let four : p.disp_len ≡ 4 = len ∙ ap (disp_len_of wide) plain ∙ four_bytes wide (offset_of p.rm) in
     ap (λ r. and_then r (λ d. success (located_is 0 4 (operand.Memory (record { base = None; index = None; scale = 1; disp = d }))))) (long_back (offset_of p.rm) more)
     ∙ ap (λ l. read l more) (located_eq 0 p.reg 4 p.disp_len _ p.rm (sym (eqb-true p.reg 0 e.0)) (sym four) (sym plain))
 addressing_back wide (addressing.Modrm form) p fit len more =
-    let e = both (nat_lt p.reg 8) (has_slash form.slash p.reg && rm_fits form.place p.rm) (and_right (nat_lt p.reg 8) (has_slash form.slash p.reg) (rm_fits form.place p.rm) fit) in
-    let f = both (has_slash form.slash p.reg) (rm_fits form.place p.rm) e.1 in
+    let e = and_parts (nat_lt p.reg 8) (has_slash form.slash p.reg && rm_fits form.place p.rm) (and_right (nat_lt p.reg 8) (has_slash form.slash p.reg) (rm_fits form.place p.rm) fit) in
+    let f = and_parts (has_slash form.slash p.reg) (rm_fits form.place p.rm) e.1 in
     let b = modrm_back wide p.reg form.place p.rm (ltb-true p.reg 8 e.0) f.1 in
     let slash : has_slash form.slash (reg_of b.m) ≡ true = ap (has_slash form.slash) b.reg_is ∙ f.0 in
     let ok : has_modrm form b.m ≡ true = both_true slash (b.mode_is form.place f.1) in
@@ -350,18 +341,18 @@ addressing_back wide (addressing.Modrm form) p fit len more =
 -- each immediate reads its bytes back
 immediate_back : (kind : Immediate) (p : Parts) → immediate_fits kind p.imm p.sel ≡ true → (more : List ℕ) → immediate_at kind (immediate_bytes kind p ++ more) ≡ both_read p.imm p.sel more
 unfolding immediate_at
-immediate_back immediate.Nothing p fit more = let e = both (p.imm == 0) (p.sel == 0) fit in number_eq 0 p.imm p.sel (sym (eqb-true p.imm 0 e.0)) e.1 more
-immediate_back immediate.One p fit more = let e = both (p.imm == 1) (p.sel == 0) fit in number_eq 1 p.imm p.sel (sym (eqb-true p.imm 1 e.0)) e.1 more
+immediate_back immediate.Nothing p fit more = let e = and_parts (p.imm == 0) (p.sel == 0) fit in number_eq 0 p.imm p.sel (sym (eqb-true p.imm 0 e.0)) e.1 more
+immediate_back immediate.One p fit more = let e = and_parts (p.imm == 1) (p.sel == 0) fit in number_eq 1 p.imm p.sel (sym (eqb-true p.imm 1 e.0)) e.1 more
 immediate_back immediate.Byte p fit more =
-    let e = both (nat_lt p.imm 256) (p.sel == 0) fit in
+    let e = and_parts (nat_lt p.imm 256) (p.sel == 0) fit in
     let lt = ltb-true p.imm 256 e.0 in
     let same : p.imm % 256 ≡ p.imm = omega arith in
     number_eq (p.imm % 256) p.imm p.sel same e.1 more
 immediate_back immediate.SignedByte p fit more =
-    let e = both (is_signed_byte p.imm) (p.sel == 0) fit in
+    let e = and_parts (is_signed_byte p.imm) (p.sel == 0) fit in
     number_eq (sign_extended 32 size.Byte (p.imm % 256)) p.imm p.sel (eqb-true (sign_extended 32 size.Byte (p.imm % 256)) p.imm e.0) e.1 more
 immediate_back immediate.Word p fit more =
-    let e = both (nat_lt p.imm 65536) (p.sel == 0) fit in
+    let e = and_parts (nat_lt p.imm 65536) (p.sel == 0) fit in
     let lt = ltb-true p.imm 65536 e.0 in
     let same : p.imm % 65536 ≡ p.imm = omega arith in
     ap (λ r. and_then r (λ n. success (n, 0))) (word_back (p.imm % 65536) more) ∙ number_eq (p.imm % 65536) p.imm p.sel same e.1 more
@@ -385,8 +376,8 @@ coded_back : (wide : Bool) (form : Form) (p : Parts) → form_fits form p ≡ tr
     → coded_at form (p.code ∷ (addressing_bytes form.addressing p ++ (immediate_bytes form.immediate p ++ more))) ≡ read p more
 unfolding coded_at form_fits located_is
 coded_back wide form p fit len more =
-    let s = both (has_code form p.code && addressing_fits form.addressing p.reg p.rm) (immediate_fits form.immediate p.imm p.sel) fit in
-    let t = both (has_code form p.code) (addressing_fits form.addressing p.reg p.rm) s.0 in
+    let s = and_parts (has_code form p.code && addressing_fits form.addressing p.reg p.rm) (immediate_fits form.immediate p.imm p.sel) fit in
+    let t = and_parts (has_code form p.code) (addressing_fits form.addressing p.reg p.rm) s.0 in
     rw (t.0, addressing_back wide form.addressing p t.1 len (immediate_bytes form.immediate p ++ more), immediate_back form.immediate p s.1 more) refl
 
 -- The bytes of the parts are read back as these parts, whatever follows.

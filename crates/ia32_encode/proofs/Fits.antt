@@ -2,7 +2,7 @@
 use Rattle.std.proofs.Common.{◌≡◌, ℕ, zero, suc, ◌+◌, ◌*◌, ◌/◌, ◌%◌, ◌<◌, ◌^◌, Bool, true, false, cond, List, [], ◌∷◌, ◌++◌, Some, None, Ok, refl, sym, ap, subst, ◌∙◌, arith}
 use Rattle.std.specs.Prelude.{◌==◌, ◌&&◌, ◌||◌, not, nat_lt, is_none}
 use Rattle.std.specs.Cmp.Derive.{both_true}
-use Rattle.std.proofs.lemmas.Bool.{eqb-true, eq-eqb, lt-ltb}
+use Rattle.std.proofs.lemmas.Bool.{eqb-true, eq-eqb, lt-ltb, and_parts}
 use Rattle.ia32_types.specs.declared.insn.Address.{Address}
 use Rattle.ia32_types.specs.declared.insn.Operand.{Operand}
 use Rattle.ia32_types.specs.declared.insn.Operand.TheVariants as operand
@@ -24,7 +24,7 @@ use Rattle.ia32_rows.specs.Fields.{mod_of, reg_of, rm_of, base_of, sib_of, base_
 use Rattle.ia32_rows.specs.Spelling.{has_code, lead_at, coded_at, parts_at}
 use Rattle.ia32_rows.specs.Spells.{AreBytes}
 use Rattle.ia32_rows.proofs.Readers.{Reads, and_then_ok, test_met, read, same_read}
-use Rattle.ia32_rows.proofs.Fields.{both, addressing_works, addressing_reads, lead_reads}
+use Rattle.ia32_rows.proofs.Fields.{addressing_works, addressing_reads, lead_reads}
 use Rattle.ia32_encode.specs.Text.{is_signed_byte, index_number, disp_len_of}
 use Rattle.ia32_encode.specs.Parts.{rm_fits, addressing_fits, immediate_fits, form_fits}
 
@@ -191,7 +191,7 @@ addressing_read (addressing.Modrm form) bytes l rest e h =
     let q = and_then_ok (rm_at m r.1) (λ rm. success (record { reg = reg_of m; rm = rm.0; disp_len = rm.1 })) l rest r.3 in
     let s = same_read (record { reg = reg_of m; rm = q.0.0; disp_len = q.0.1 }) l q.1 rest q.3 in
     let g = byte_passed (has_modrm form) bytes m r.1 r.2 h in
-    let t = both (has_slash form.slash (reg_of m)) (has_place form.place (mod_of m)) g.0 in
+    let t = and_parts (has_slash form.slash (reg_of m)) (has_place form.place (mod_of m)) g.0 in
     let f = rm_read form.place m (mod_of m == 3) refl r.1 q.0.0 q.0.1 q.1 q.2 g.1 t.1 in
     let lt : reg_of m < 8 = omega arith in
     subst (LocatedFits (addressing.Modrm form)) s.0 (record { fits = both_true (both_true (lt-ltb (reg_of m) 8 lt) t.0) f.0; wide = f.1 })

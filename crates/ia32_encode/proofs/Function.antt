@@ -3,7 +3,7 @@ use Rattle.std.proofs.Common.{◌≡◌, ℕ, zero, suc, ◌-◌, ◌<◌, ◌�
 use Rattle.std.specs.Prelude.{◌==◌, ◌&&◌, ◌||◌, not, IsTrue, take, if◌then◌else◌}
 use Rattle.std.specs.List.{Contains}
 use Rattle.std.specs.Cmp.Derive.{both_true}
-use Rattle.std.proofs.lemmas.Bool.{eqb-true, eq-eqb}
+use Rattle.std.proofs.lemmas.Bool.{eqb-true, eq-eqb, false_from_ne_true, and_parts}
 use denote.Enum.Bare.{same_true, true_same}
 use Rattle.ia32_types.specs.contracts.insn.Op.{the_type}
 use Rattle.ia32_types.specs.declared.register.Reg.{Reg}
@@ -32,7 +32,6 @@ use Rattle.std.proofs.lemmas.List.{length-append}
 use Rattle.ia32_rows.specs.Fields.{imm_len}
 use Rattle.ia32_rows.specs.Spelling.{has_code, insn_of}
 use Rattle.ia32_rows.specs.Rows.{rows}
-use Rattle.ia32_rows.proofs.Fields.{both}
 use Rattle.ia32_encode.specs.declared.bytes.ArrayBytes.{ArrayBytes}
 use Rattle.ia32_encode.specs.declared.choose.Wide.{Wide}
 use Rattle.ia32_encode.specs.Parts.{parts_for, form_fits, is_absent, addressing_fits, immediate_fits}
@@ -93,9 +92,9 @@ made_address b i s d = record { base = b; index = i; scale = s; disp = d }
 
 addresses_same : (x y : Address) → same_address x y ≡ true → x ≡ y
 addresses_same x y h =
-    let d = both (same_register x.base y.base && same_register x.index y.index && x.scale == y.scale) (x.disp == y.disp) h in
-    let s = both (same_register x.base y.base && same_register x.index y.index) (x.scale == y.scale) d.0 in
-    let r = both (same_register x.base y.base) (same_register x.index y.index) s.0 in
+    let d = and_parts (same_register x.base y.base && same_register x.index y.index && x.scale == y.scale) (x.disp == y.disp) h in
+    let s = and_parts (same_register x.base y.base && same_register x.index y.index) (x.scale == y.scale) d.0 in
+    let r = and_parts (same_register x.base y.base) (same_register x.index y.index) s.0 in
     let e : x.disp ≡ y.disp = eqb-true x.disp y.disp d.1 in
     let f : x.scale ≡ y.scale = eqb-true x.scale y.scale s.1 in
     let g : x.base ≡ y.base = registers_same x.base y.base r.0 in
@@ -167,12 +166,12 @@ made_insn o s a b n t r = record { op = o; size = s; a = a; b = b; imm = n; sel 
 insns_same : (i j : Insn) → same_insn i j ≡ true → i ≡ j
 unfolding same_insn
 insns_same i j h =
-    let f = both (same_op i.op j.op && same_size i.size j.size && same_operand i.a j.a && same_operand i.b j.b && i.imm == j.imm && i.sel == j.sel) (same_flag i.rep j.rep) h in
-    let s = both (same_op i.op j.op && same_size i.size j.size && same_operand i.a j.a && same_operand i.b j.b && i.imm == j.imm) (i.sel == j.sel) f.0 in
-    let n = both (same_op i.op j.op && same_size i.size j.size && same_operand i.a j.a && same_operand i.b j.b) (i.imm == j.imm) s.0 in
-    let b = both (same_op i.op j.op && same_size i.size j.size && same_operand i.a j.a) (same_operand i.b j.b) n.0 in
-    let a = both (same_op i.op j.op && same_size i.size j.size) (same_operand i.a j.a) b.0 in
-    let o = both (same_op i.op j.op) (same_size i.size j.size) a.0 in
+    let f = and_parts (same_op i.op j.op && same_size i.size j.size && same_operand i.a j.a && same_operand i.b j.b && i.imm == j.imm && i.sel == j.sel) (same_flag i.rep j.rep) h in
+    let s = and_parts (same_op i.op j.op && same_size i.size j.size && same_operand i.a j.a && same_operand i.b j.b && i.imm == j.imm) (i.sel == j.sel) f.0 in
+    let n = and_parts (same_op i.op j.op && same_size i.size j.size && same_operand i.a j.a && same_operand i.b j.b) (i.imm == j.imm) s.0 in
+    let b = and_parts (same_op i.op j.op && same_size i.size j.size && same_operand i.a j.a) (same_operand i.b j.b) n.0 in
+    let a = and_parts (same_op i.op j.op && same_size i.size j.size) (same_operand i.a j.a) b.0 in
+    let o = and_parts (same_op i.op j.op) (same_size i.size j.size) a.0 in
     let e1 : i.op ≡ j.op = same_true the_type (search rules) i.op j.op o.0 in
     let e2 : i.size ≡ j.size = sizes_same i.size j.size o.1 in
     let e3 : i.a ≡ j.a = operands_same i.a j.a a.1 in
@@ -193,16 +192,12 @@ suits_true row wide insn s = both_true (both_true (ap (λ i. same_insn i insn) s
 pub true_suits : (row : Row) (wide : Wide) (insn : Insn) → does_suit row wide insn ≡ true → Suits row wide insn
 true_suits row wide insn h =
     let p = parts_for row wide.disp insn in
-    let w = both (same_insn (insn_of row p) insn && form_fits row.form p) (widths_fit wide p.disp_len (imm_len row.form.immediate)) h in
-    let f = both (same_insn (insn_of row p) insn) (form_fits row.form p) w.0 in
+    let w = and_parts (same_insn (insn_of row p) insn && form_fits row.form p) (widths_fit wide p.disp_len (imm_len row.form.immediate)) h in
+    let f = and_parts (same_insn (insn_of row p) insn) (form_fits row.form p) w.0 in
     record { means = insns_same (insn_of row p) insn f.0; fits = f.1; widths = w.1 }
 
-false_not : (b : Bool) → (b ≡ true → ⊥) → b ≡ false
-false_not true h = absurd (h refl)
-false_not false h = refl
-
 pub fails : (row : Row) (wide : Wide) (insn : Insn) → (Suits row wide insn → ⊥) → does_suit row wide insn ≡ false
-fails row wide insn h = false_not (does_suit row wide insn) (λ t. h (true_suits row wide insn t))
+fails row wide insn h = false_from_ne_true (does_suit row wide insn) (λ t. h (true_suits row wide insn t))
 
 from_first : (table : List Row) (wide : Wide) (insn : Insn) (i : ℕ) (d : Row) → i < length table → Suits (get_or table i d) wide insn
     → ((k : ℕ) → k < i → Suits (get_or table k d) wide insn → ⊥)
@@ -265,15 +260,15 @@ absent_none wide (operand.Segment r) h e = cc
 absent_none wide (operand.Control r) h e = cc
 
 addressing_four : (kind : Addressing) (p : Parts) (wide : Bool) → addressing_fits kind p.reg p.rm ≡ true → p.disp_len ≡ disp_len_of wide p.rm → p.disp_len ≡ 4 → 4 ≤ length (addressing_bytes kind p)
-addressing_four addressing.Nothing p wide h e f = absurd (absent_none wide p.rm (both (p.reg == 0) (is_absent p.rm) h).1 (sym e ∙ f))
+addressing_four addressing.Nothing p wide h e f = absurd (absent_none wide p.rm (and_parts (p.reg == 0) (is_absent p.rm) h).1 (sym e ∙ f))
 addressing_four addressing.Offset p wide h e f = omega arith
 addressing_four (addressing.Modrm form) p wide h e f = rm_four wide p.reg p.disp_len p.rm e f
 
 form_four : (form : Form) (p : Parts) (wide : Bool) → form_fits form p ≡ true → p.disp_len ≡ disp_len_of wide p.rm → p.disp_len ≡ 4 → 4 ≤ length (head_bytes form p)
 unfolding form_fits
 form_four form p wide h e f =
-    let a = both (has_code form p.code && addressing_fits form.addressing p.reg p.rm) (immediate_fits form.immediate p.imm p.sel) h in
-    let b = both (has_code form p.code) (addressing_fits form.addressing p.reg p.rm) a.0 in
+    let a = and_parts (has_code form p.code && addressing_fits form.addressing p.reg p.rm) (immediate_fits form.immediate p.imm p.sel) h in
+    let b = and_parts (has_code form p.code) (addressing_fits form.addressing p.reg p.rm) a.0 in
     let four = addressing_four form.addressing p wide b.1 e f in
     omega (arith, length-append (lead_bytes form.lead) (p.code ∷ addressing_bytes form.addressing p))
 
@@ -307,7 +302,7 @@ chosen_placed wide insn a c fit =
     let some = not_empty (take a.len a.bytes) insn spells in
     let most = at_most_eleven (take a.len a.bytes) insn spells in
     let len : (laid_out c.row.form p).len ≡ a.len = ap (λ (t : ArrayBytes). t.len) (sym c.text) in
-    let w = both (not wide.disp || p.disp_len == 4) (not wide.imm || imm_len c.row.form.immediate == 4) c.suits.widths in
+    let w = and_parts (not wide.disp || p.disp_len == 4) (not wide.imm || imm_len c.row.form.immediate == 4) c.suits.widths in
     subst (IsPlaced wide) (sym c.text)
     (laid_placed c.row.form p wide wide.disp c.suits.fits (parts_len c.row wide.disp insn) (width_of wide.disp p.disp_len w.0) (width_of wide.imm (imm_len c.row.form.immediate) w.1)
     (omega (arith, some, n, len)) (omega (arith, most, n, len)))

@@ -2,7 +2,7 @@
 use Rattle.std.proofs.Common.{◌≡◌, ℕ, suc, ◌+◌, ◌-◌, ◌<◌, ◌≤◌, Bool, true, false, cond, List, [], ◌∷◌, ◌++◌, length, get_or, set, take, replicate, refl, sym, ap, subst, zero-add, add-zero, ◌∙◌, append_assoc, arith}
 use Rattle.std.specs.Prelude.{◌==◌, ◌&&◌, ◌||◌, not, nat_lt, IsTrue, ◌↔◌}
 use Rattle.std.specs.Cmp.Derive.{both_true}
-use Rattle.std.proofs.lemmas.Bool.{eqb-true, ltb-true}
+use Rattle.std.proofs.lemmas.Bool.{eqb-true, ltb-true, and_parts}
 use Rattle.std.proofs.lemmas.List.{length-append, append-nil, take_at, get_or_default}
 use Rattle.ia32_types.specs.declared.insn.Insn.{Insn}
 use Rattle.ia32_types.specs.declared.insn.Operand.{Operand}
@@ -18,7 +18,6 @@ use Rattle.ia32_rows.specs.Fields.{has_slash, has_place, imm_len}
 use Rattle.ia32_rows.specs.Spelling.{has_code, insn_of, parts_at}
 use Rattle.ia32_rows.specs.Spells.{AreBytes}
 use Rattle.ia32_rows.specs.Rows.{rows}
-use Rattle.ia32_rows.proofs.Fields.{both}
 use Rattle.ia32_decode.specs.declared.answer.Decoded.TheVariants as answer
 use Rattle.ia32_decode.proofs.Exact.{decoded_back}
 use Rattle.ia32_encode.specs.declared.bytes.ArrayBytes.{ArrayBytes}
@@ -82,7 +81,7 @@ laid form p a b ea eb le =
 -- ---- what a row that suits gives
 
 rm_below : (place : RmForm) (rm : Operand) → rm_fits place rm ≡ true → IsNamed rm
-rm_below place (operand.Register n) h = ltb-true n 8 (both (nat_lt n 8) (has_place place 3) h).0
+rm_below place (operand.Register n) h = ltb-true n 8 (and_parts (nat_lt n 8) (has_place place 3) h).0
 rm_below place (operand.Memory a) h = tt
 rm_below place operand.Absent h = tt
 rm_below place (operand.Segment s) h = tt
@@ -103,15 +102,15 @@ absent_below (operand.Segment s) h = tt
 absent_below (operand.Control n) h = tt
 
 addressing_below : (kind : Addressing) (reg : ℕ) (rm : Operand) → addressing_fits kind reg rm ≡ true → (reg < 8) × IsNamed rm
-addressing_below addressing.Nothing reg rm h = let s = both (reg == 0) (is_absent rm) h in let z = eqb-true reg 0 s.0 in (omega (arith, z), absent_below rm s.1)
-addressing_below addressing.Offset reg rm h = let s = both (reg == 0) (is_offset rm) h in let z = eqb-true reg 0 s.0 in (omega (arith, z), offset_below rm s.1)
+addressing_below addressing.Nothing reg rm h = let s = and_parts (reg == 0) (is_absent rm) h in let z = eqb-true reg 0 s.0 in (omega (arith, z), absent_below rm s.1)
+addressing_below addressing.Offset reg rm h = let s = and_parts (reg == 0) (is_offset rm) h in let z = eqb-true reg 0 s.0 in (omega (arith, z), offset_below rm s.1)
 addressing_below (addressing.Modrm form) reg rm h =
-    let s = both (nat_lt reg 8 && has_slash form.slash reg) (rm_fits form.place rm) h in
-    (ltb-true reg 8 (both (nat_lt reg 8) (has_slash form.slash reg) s.0).0, rm_below form.place rm s.1)
+    let s = and_parts (nat_lt reg 8 && has_slash form.slash reg) (rm_fits form.place rm) h in
+    (ltb-true reg 8 (and_parts (nat_lt reg 8) (has_slash form.slash reg) s.0).0, rm_below form.place rm s.1)
 
 pub fits_below : (form : Form) (p : Parts) → form_fits form p ≡ true → (p.reg < 8) × IsNamed p.rm
 unfolding form_fits
-fits_below form p h = addressing_below form.addressing p.reg p.rm (both (has_code form p.code) (addressing_fits form.addressing p.reg p.rm) (both (has_code form p.code && addressing_fits form.addressing p.reg p.rm) (immediate_fits form.immediate p.imm p.sel) h).0).1
+fits_below form p h = addressing_below form.addressing p.reg p.rm (and_parts (has_code form p.code) (addressing_fits form.addressing p.reg p.rm) (and_parts (has_code form p.code && addressing_fits form.addressing p.reg p.rm) (immediate_fits form.immediate p.imm p.sel) h).0).1
 
 pub width_of : (b : Bool) (n : ℕ) → (not b || n == 4) ≡ true → IsTrue b → n ≡ 4
 width_of true n h t = eqb-true n 4 h
@@ -125,8 +124,8 @@ parts_len row wide insn = refl
 pub suits_iff : (row : Row) (wide : Wide) (insn : Insn) (p : Parts) (m f w r : Bool) → p ≡ parts_for row wide.disp insn → IsTrue m ↔ (insn_of row p ≡ insn) → f ≡ form_fits row.form p → w ≡ widths_fit wide p.disp_len (imm_len row.form.immediate) → r ≡ (m && f && w) → IsTrue r ↔ Suits row wide insn
 suits_iff row wide insn p m f w r e em ef ew er = (
   λ t.
-      let a = both (m && f) w (sym er ∙ t) in
-      let b = both m f a.0 in
+      let a = and_parts (m && f) w (sym er ∙ t) in
+      let b = and_parts m f a.0 in
       record {
         means = ap (insn_of row) (sym e) ∙ em.0 b.0;
         fits = ap (form_fits row.form) (sym e) ∙ sym ef ∙ b.1;
@@ -141,7 +140,7 @@ chosen_spells wide insn a c fit =
     let p = parts_for c.row wide.disp insn in
     let bytes = form_bytes c.row.form p in
     let text : take a.len a.bytes ≡ bytes = ap (λ (t : ArrayBytes). take t.len t.bytes) c.text ∙ take_at bytes (replicate (16 - length bytes) 0) (length bytes) refl in
-    let w = both (not wide.disp || p.disp_len == 4) (not wide.imm || imm_len c.row.form.immediate == 4) c.suits.widths in
+    let w = and_parts (not wide.disp || p.disp_len == 4) (not wide.imm || imm_len c.row.form.immediate == 4) c.suits.widths in
     record {
       row = c.row;
       listed = c.listed;

@@ -3,7 +3,7 @@ use Rattle.std.proofs.Common.{◌≡◌, ℕ, zero, suc, ◌+◌, ◌*◌, ◌%�
 use Rattle.std.specs.Prelude.{◌-◌, ◌==◌, ◌&&◌, ◌||◌, not, nat_le}
 use Rattle.std.specs.List.{list_all}
 use Rattle.std.specs.Cmp.Derive.{both_true}
-use Rattle.std.proofs.lemmas.Bool.{eq-eqb, lt-ltb}
+use Rattle.std.proofs.lemmas.Bool.{eq-eqb, lt-ltb, and_parts}
 use Rattle.std.proofs.lemmas.Bool.Decides.{nat_tests}
 use Rattle.std.proofs.lemmas.List.{append-nil, take_at}
 use denote.Enum.Bare.{true_same}
@@ -31,7 +31,6 @@ use Rattle.ia32_rows.specs.declared.row.Operands.TheVariants as operands
 use Rattle.ia32_rows.specs.Fields.{reg_of}
 use Rattle.ia32_rows.specs.Rows.{rows, row, digit, slash_r}
 use Rattle.ia32_rows.specs.Spelling.{has_code, operands_of, repeats, insn_of}
-use Rattle.ia32_rows.proofs.Fields.{both}
 use Rattle.ia32_encode.specs.declared.choose.Wide.{Wide}
 use Rattle.ia32_encode.specs.Same.{same_op, same_size}
 use Rattle.ia32_encode.specs.Chosen.{Suits, chosen, chosen_from}
@@ -60,7 +59,7 @@ passed_by : (can : Row → Bool) (w : Wide) (i : Insn) → Needs can w i → (be
 unfolding chosen_from
 passed_by can w i needs [] after h = refl
 passed_by can w i needs (r ∷ before) after h =
-    let e = both (not (can r)) (none_can can before) h in
+    let e = and_parts (not (can r)) (none_can can before) h in
     rw (fails r w i (λ s. cannot (can r) e.0 (needs r s))) (passed_by can w i needs before after e.1)
 
 suited_first : (r : Row) (after : List Row) (w : Wide) (i : Insn) → Suits r w i → chosen_from (r ∷ after) w i ≡ Some (laid_out r.form (parts_for r w.disp i))
@@ -255,14 +254,14 @@ no_offset _ m n h = cc
 
 no_plain_address : (kind : Addressing) (ops : Operands) (reg m n : ℕ) → addressing_fits kind reg (rm_from ops (Register m) (Register n)) ≡ true → not (is_plain kind) ≡ true
 no_plain_address addressing.Nothing ops reg m n h = refl
-no_plain_address addressing.Offset ops reg m n h = absurd (no_offset ops m n (both (reg == 0) (is_offset (rm_from ops (Register m) (Register n))) h).1)
+no_plain_address addressing.Offset ops reg m n h = absurd (no_offset ops m n (and_parts (reg == 0) (is_offset (rm_from ops (Register m) (Register n))) h).1)
 no_plain_address (addressing.Modrm form) ops reg m n h = refl
 
 fits_address : (r : Row) (i : Insn) → form_fits r.form (parts_for r false i) ≡ true → addressing_fits r.form.addressing (parts_for r false i).reg (rm_from r.operands i.a i.b) ≡ true
 unfolding form_fits parts_for
 fits_address r i h =
     let p = parts_for r false i in
-    (both (has_code r.form p.code) (addressing_fits r.form.addressing p.reg p.rm) (both (has_code r.form p.code && addressing_fits r.form.addressing p.reg p.rm) (immediate_fits r.form.immediate p.imm p.sel) h).0).1
+    (and_parts (has_code r.form p.code) (addressing_fits r.form.addressing p.reg p.rm) (and_parts (has_code r.form p.code && addressing_fits r.form.addressing p.reg p.rm) (immediate_fits r.form.immediate p.imm p.sel) h).0).1
 
 needs_pair : (o : Op) (s : Size) (m n : ℕ) → Needs (is_pair o s) plain (with_registers o s m n)
 unfolding insn_of

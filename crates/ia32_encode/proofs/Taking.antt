@@ -2,7 +2,7 @@
 use Rattle.std.proofs.Common.{◌≡◌, ℕ, zero, suc, ◌%◌, ◌-◌, ◌^◌, ◌<◌, ◌≤◌, Bool, true, false, List, [], ◌∷◌, Option, Some, None, length, get_or, replicate, refl, sym, ap, subst, ◌∙◌, arith}
 use Rattle.std.specs.Prelude.{◌==◌, ◌&&◌, take, nat_le, if◌then◌else◌, is_none}
 use Rattle.std.specs.List.{Contains, list_all}
-use Rattle.std.proofs.lemmas.Bool.{leb-true}
+use Rattle.std.proofs.lemmas.Bool.{leb-true, both_ways, and_parts}
 use Rattle.std.proofs.lemmas.List.{take_at}
 use Rattle.std.proofs.lemmas.List.Sums.{AllPass-from_list_all}
 use Rattle.ia32_types.specs.declared.register.Reg.{Reg}
@@ -29,7 +29,6 @@ use Rattle.ia32_rows.specs.declared.row.Parts.{Parts}
 use Rattle.ia32_rows.specs.Spelling.{first_code, last_code, has_code}
 use Rattle.ia32_rows.specs.Spells.{AreBytes}
 use Rattle.ia32_rows.specs.Rows.{rows}
-use Rattle.ia32_rows.proofs.Fields.{both}
 use Rattle.ia32_rows.proofs.Readers.{AreBytes-append}
 use Rattle.ia32_encode.specs.declared.bytes.ArrayBytes.{ArrayBytes}
 use Rattle.ia32_encode.specs.declared.choose.Wide.{Wide}
@@ -50,11 +49,8 @@ pub record Taken (table : List Row) (wide : Wide) (insn : Insn) (a : ArrayBytes)
   pub first : FirstFail table wide insn at
   pub text : (d : Row) → a ≡ laid_out (get_or table at d).form (parts_for (get_or table at d) wide.disp insn)
 
-not_true : (b : Bool) → b ≡ false → b ≡ true → ⊥
-not_true b f t = cc
-
 fail_first : (row : Row) (table : List Row) (wide : Wide) (insn : Insn) → does_suit row wide insn ≡ false → (n : ℕ) → FirstFail table wide insn n → FirstFail (row ∷ table) wide insn (suc n)
-fail_first row table wide insn t n h zero lt d s = not_true (does_suit row wide insn) t (suits_true row wide insn s)
+fail_first row table wide insn t n h zero lt d s = both_ways (does_suit row wide insn) t (suits_true row wide insn s)
 fail_first row table wide insn t n h (suc k) lt d s = h k (omega arith) d s
 
 taken_or : (row : Row) (table : List Row) (wide : Wide) (insn : Insn) (a : ArrayBytes) (b : Bool) → does_suit row wide insn ≡ b
@@ -100,7 +96,7 @@ none_or row table wide insn false t e = (t, e)
 none_of : (table : List Row) (wide : Wide) (insn : Insn) → chosen_from table wide insn ≡ None → (k : ℕ) (d : Row) → k < length table → Suits (get_or table k d) wide insn → ⊥
 unfolding chosen_from
 none_of [] wide insn e k d lt s = absurd (omega arith)
-none_of (row ∷ table) wide insn e zero d lt s = not_true (does_suit row wide insn) (none_or row table wide insn (does_suit row wide insn) refl e).0 (suits_true row wide insn s)
+none_of (row ∷ table) wide insn e zero d lt s = both_ways (does_suit row wide insn) (none_or row table wide insn (does_suit row wide insn) refl e).0 (suits_true row wide insn s)
 none_of (row ∷ table) wide insn e (suc k) d lt s = none_of table wide insn (none_or row table wide insn (does_suit row wide insn) refl e).1 k d (omega arith) s
 
 pub none_suit : (wide : Wide) (insn : Insn) → chosen wide insn ≡ None → NoneSuits wide insn
@@ -194,8 +190,8 @@ form_are : (form : Form) (p : Parts) → last_code form ≤ 255 → form_fits fo
 unfolding form_fits
 form_are form p last h rm i s =
     let below = fits_below form p h in
-    let a = both (has_code form p.code && addressing_fits form.addressing p.reg p.rm) (immediate_fits form.immediate p.imm p.sel) h in
-    let code = both (nat_le (first_code form) p.code) (nat_le p.code (last_code form)) (both (has_code form p.code) (addressing_fits form.addressing p.reg p.rm) a.0).0 in
+    let a = and_parts (has_code form p.code && addressing_fits form.addressing p.reg p.rm) (immediate_fits form.immediate p.imm p.sel) h in
+    let code = and_parts (nat_le (first_code form) p.code) (nat_le p.code (last_code form)) (and_parts (has_code form p.code) (addressing_fits form.addressing p.reg p.rm) a.0).0 in
     let most = leb-true p.code (last_code form) code.1 in
     AreBytes-append (head_bytes form p) (immediate_bytes form.immediate p)
     (AreBytes-append (lead_bytes form.lead) (p.code ∷ addressing_bytes form.addressing p) (lead_are form.lead) (omega (arith, most, last), addressing_are form.addressing p below.0 below.1 rm))

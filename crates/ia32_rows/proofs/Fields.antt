@@ -1,7 +1,7 @@
 -- Each row reads as readers do.
-use Rattle.std.proofs.Common.{◌≡◌, ℕ, ◌+◌, ◌*◌, Bool, true, false, cond, List, [], Ok, refl, arith}
+use Rattle.std.proofs.Common.{◌≡◌, ℕ, ◌+◌, ◌*◌, Bool, true, cond, List, [], Ok, refl, arith}
 use Rattle.std.specs.Prelude.{◌&&◌, nat_lt, is_none}
-use Rattle.std.proofs.lemmas.Bool.{ltb-true}
+use Rattle.std.proofs.lemmas.Bool.{ltb-true, and_parts}
 use Rattle.ia32_rows.specs.declared.row.Slash.{Slash}
 use Rattle.ia32_rows.specs.declared.row.Slash.TheVariants as slash
 use Rattle.ia32_rows.specs.declared.row.RmForm.{RmForm}
@@ -58,10 +58,6 @@ addressing_works _ = true
 abbrev pub form_works : Form → Bool
 form_works form = nat_lt (first_code form) 256 && has_code form (first_code form) && addressing_works form.addressing
 
-pub both : (a b : Bool) → (a && b) ≡ true → (a ≡ true) × (b ≡ true)
-both true b e = (refl, e)
-both false b e = absurd cc
-
 -- how many bytes there are at most
 abbrev pub lead_most : Lead → ℕ
 lead_most lead.Nothing = 0
@@ -89,7 +85,7 @@ unfolding addressing_at
 addressing_reads addressing.Nothing e = success_reads _
 addressing_reads addressing.Offset e = bind_reads 4 0 _ _ long_reads (λ d. success_reads _)
 addressing_reads (addressing.Modrm form) e =
-    let s = both (nat_lt (modrm_witness form) 256) (has_modrm form (modrm_witness form)) e in
+    let s = and_parts (nat_lt (modrm_witness form) 256) (has_modrm form (modrm_witness form)) e in
     bind_reads 1 5 _ _ (where_reads (has_modrm form) (modrm_witness form) (ltb-true _ _ s.0) s.1) (λ m. bind_reads 5 0 _ _ (rm_reads m) (λ at. success_reads _))
 
 pub immediate_reads : (i : Immediate) → Reads (immediate_most i) (immediate_at i)
@@ -112,8 +108,8 @@ lead_reads lead.Escape = where_reads _ 0x0f (omega arith) refl
 pub form_reads : (form : Form) → form_works form ≡ true → Reads (form_most form) (parts_at form)
 unfolding parts_at coded_at
 form_reads form e =
-    let s = both (nat_lt (first_code form) 256 && has_code form (first_code form)) (addressing_works form.addressing) e in
-    let c = both (nat_lt (first_code form) 256) (has_code form (first_code form)) s.0 in
+    let s = and_parts (nat_lt (first_code form) 256 && has_code form (first_code form)) (addressing_works form.addressing) e in
+    let c = and_parts (nat_lt (first_code form) 256) (has_code form (first_code form)) s.0 in
     let l = lead_most form.lead in
     let a = addressing_most form.addressing in
     let i = immediate_most form.immediate in

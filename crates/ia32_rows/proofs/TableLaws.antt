@@ -2,7 +2,7 @@
 use Rattle.std.proofs.Common.{◌≡◌, ℕ, zero, suc, ◌<◌, ◌≤◌, Bool, true, List, [], ◌∷◌, ◌++◌, length, get_or, map, Ok, Err, refl, sym, ap, subst, ◌∙◌, inl, inr, ◌⊎◌, append_assoc, arith}
 use Rattle.std.specs.Prelude.{nat_le}
 use Rattle.std.specs.List.{list_all, Contains}
-use Rattle.std.proofs.lemmas.Bool.{cases_lt, leb-true}
+use Rattle.std.proofs.lemmas.Bool.{cases_lt, leb-true, and_parts}
 use Rattle.std.proofs.lemmas.List.{get_or_default, length-append}
 use Rattle.std.proofs.lemmas.List.Sums.{AllPass-from_list_all}
 use Rattle.ia32_types.specs.declared.insn.Insn.{Insn}
@@ -16,7 +16,7 @@ use Rattle.ia32_rows.specs.Spelling.{parts_at, insn_of}
 use Rattle.ia32_rows.specs.Spells.{Spells}
 use Rattle.ia32_rows.specs.Rows.{rows, refused_rows}
 use Rattle.ia32_rows.proofs.Readers.{Reads, more_reads, same_read}
-use Rattle.ia32_rows.proofs.Fields.{both, addressing_works, form_works, form_most, form_reads, none_read}
+use Rattle.ia32_rows.proofs.Fields.{addressing_works, form_works, form_most, form_reads, none_read}
 use Rattle.ia32_rows.proofs.Apart.{apart, all_apart, are_apart}
 
 -- an instruction of this form has at most eleven bytes
@@ -40,9 +40,9 @@ refused_table = record { work = refl; differ = refl; short = refl }
 apart_below : (fs : List Form) → all_apart fs ≡ true → (i j : ℕ) (d e : Form) → i < j → j < length fs → apart (get_or fs i d) (get_or fs j e) ≡ true
 apart_below [] h i j d e p q = absurd (omega arith)
 apart_below (f ∷ fs) h zero zero d e p q = absurd (omega arith)
-apart_below (f ∷ fs) h zero (suc j) d e p q = AllPass-from_list_all (apart f) fs (both (list_all (apart f) fs) (all_apart fs) h).0 j e (omega arith)
+apart_below (f ∷ fs) h zero (suc j) d e p q = AllPass-from_list_all (apart f) fs (and_parts (list_all (apart f) fs) (all_apart fs) h).0 j e (omega arith)
 apart_below (f ∷ fs) h (suc i) zero d e p q = absurd (omega arith)
-apart_below (f ∷ fs) h (suc i) (suc j) d e p q = apart_below fs (both (list_all (apart f) fs) (all_apart fs) h).1 i j d e (omega arith) (omega arith)
+apart_below (f ∷ fs) h (suc i) (suc j) d e p q = apart_below fs (and_parts (list_all (apart f) fs) (all_apart fs) h).1 i j d e (omega arith) (omega arith)
 
 pub ok_not_outside : {A : Type 0} (r : Reading A) (x : A) (rest : List ℕ) → r ≡ Ok (x, rest) → r ≡ Err Outside → ⊥
 ok_not_outside r x rest p q = cc
@@ -113,7 +113,7 @@ module _ {R : Type 0} (form : R → Form) (table : List R) (laws : IsTable form 
 pub row_works : (r : Row) → Contains rows r → addressing_works r.form.addressing ≡ true
 row_works r c =
     let w = ap form_works (sym (listed_form (λ (t : Row). t.form) rows rows_table r c)) ∙ AllPass-from_list_all form_works (map (λ (t : Row). t.form) rows) rows_table.work c.0 r.form (omega (arith, c.1, forms_length (λ (t : Row). t.form) rows rows_table rows)) in
-    (both _ (addressing_works r.form.addressing) w).1
+    (and_parts _ (addressing_works r.form.addressing) w).1
 
 pub row_reads : (r : Row) → Contains rows r → Reads 11 (parts_at r.form)
 row_reads = listed_reads (λ (r : Row). r.form) rows rows_table

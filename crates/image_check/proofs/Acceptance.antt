@@ -3,12 +3,11 @@ use Rattle.std.proofs.Common.{◌≡◌, ℕ, zero, suc, ◌+◌, ◌<◌, ◌�
 use Rattle.std.specs.Prelude.{◌==◌, slice_index_or}
 use Rattle.std.specs.Bool.{then_some}
 use Rattle.std.specs.List.{list_any, Contains}
-use Rattle.std.proofs.lemmas.Bool.{cases_lt, and_parts, cases_Bool, eqb-true, not-true}
+use Rattle.std.proofs.lemmas.Bool.{cases_lt, and_parts, cases_Bool, eqb-true, not-true, not-false, eq-eqb}
 use Rattle.std.proofs.lemmas.Bool.Decides.{nat_tests}
 use Rattle.std.proofs.lemmas.List.Folds.{Any-from_list_any, list_any-from_Any}
 use Rattle.ia32_types.specs.Shape.{is_direct_branch}
 use Rattle.ia32_types.specs.declared.site.SiteKind.{SiteKind}
-use Rattle.ia32_types.specs.declared.site.SiteKind.TheVariants.{Cli, Sti, StiHlt, Hlt, PushFlags, PopFlags, Iret, ReadControl, WriteControl, LoadGdt, LoadIdt, LoadTask, DropPage, ReadSeg, LoadSeg, PushSeg, PopSeg, FarJump, PortIn, PortOut, Return, JumpTo, CallTo}
 use Rattle.ia32_types.specs.Site.{sensitive_kind}
 use Rattle.ia32_rows.specs.Spells.{AreBytes}
 use Rattle.elf_form.specs.ImageParts.{ImageParts}
@@ -23,6 +22,7 @@ use Rattle.sites.specs.declared.limits.TheConstants.{TEXT_LIMIT}
 use Rattle.sites.specs.SitesParts.{SitesParts}
 use Rattle.sites.specs.Formats.{list_of, listed}
 use Rattle.sites.proofs.Formats.{of_format, whole}
+use Rattle.sites.proofs.Inverse.{kind_numbered-number}
 use Rattle.image_check.specs.declared.piece.Role.TheVariants as role
 use Rattle.image_check.specs.declared.piece.Piece.{Piece}
 use Rattle.image_check.specs.Image.{Image}
@@ -37,44 +37,16 @@ use Rattle.image_check.specs.Accepts.{IsWithin, IsEntrance, IsAccepted, Accepts}
 use Rattle.image_check.proofs.FileLimits.{text_bytes}
 use Rattle.image_check.proofs.Offsets.{any_at, swept_in}
 use Rattle.image_check.proofs.Passed.{bind_ok, IsPlaced, has_passed, within_parts}
-use Rattle.image_check.proofs.Starts.{contains_any, any_contains}
+use Rattle.image_check.proofs.Starts.{contains_any, any_contains, same_number}
 use Rattle.image_check.proofs.SweepLaws.{sweep_exact}
 
 -- ---- two lists of sites
-
-number_known : (k : SiteKind) → kind_numbered (number k) ≡ Some k
-number_known Cli = refl
-number_known Sti = refl
-number_known StiHlt = refl
-number_known Hlt = refl
-number_known PushFlags = refl
-number_known PopFlags = refl
-number_known Iret = refl
-number_known ReadControl = refl
-number_known WriteControl = refl
-number_known LoadGdt = refl
-number_known LoadIdt = refl
-number_known LoadTask = refl
-number_known DropPage = refl
-number_known ReadSeg = refl
-number_known LoadSeg = refl
-number_known PushSeg = refl
-number_known PopSeg = refl
-number_known FarJump = refl
-number_known PortIn = refl
-number_known PortOut = refl
-number_known Return = refl
-number_known JumpTo = refl
-number_known CallTo = refl
 
 abbrev some_kind : SiteKind → Option SiteKind
 some_kind k = Some k
 
 same_kind : (j k : SiteKind) → number j ≡ number k → j ≡ k
-same_kind j k e = let h : some_kind j ≡ some_kind k = sym (number_known j) ∙ ap kind_numbered e ∙ number_known k in cc
-
-itself : (n : ℕ) → (n == n) ≡ true
-itself n = grind (arith, nat_tests)
+same_kind j k e = let h : some_kind j ≡ some_kind k = sym (kind_numbered-number j) ∙ ap kind_numbered e ∙ kind_numbered-number k in cc
 
 pub same_site : (s t : Site) → is_same s t ≡ true → s ≡ t
 same_site s t e =
@@ -91,7 +63,7 @@ same_site s t e =
     ∙ ap (λ n. record { at = t.at; kind = t.kind; len = t.len; total = n }) total
 
 pub is_itself : (s : Site) → is_same s s ≡ true
-is_itself s = rw (itself s.at, itself (number s.kind), itself s.len, itself s.total) refl
+is_itself s = rw (same_number s.at, same_number (number s.kind), same_number s.len, same_number s.total) refl
 
 found_same : (b : Bool) (x : Option ℕ) (at : ℕ) → cond b x (Some at) ≡ None → (b ≡ true) × (x ≡ None)
 found_same true x at e = (refl, e)
@@ -134,10 +106,6 @@ sites_right sites ps e =
     ap (λ (a : Option ℕ). a or_lower differ sites (found_in ps).sites) h.0 ∙ ap (differ sites) h.1 ∙ differ-same sites
 
 -- ---- where control comes in
-
-pub not_false : (b : Bool) → not b ≡ false → b ≡ true
-not_false true e = refl
-not_false false e = absurd cc
 
 inside_is : (at : ℕ) (s : Site) → s.at < at → at < s.at + s.total → is_inside at s ≡ true
 inside_is at s lt gt = grind (arith, nat_tests)
@@ -193,7 +161,7 @@ targets_right entrance [] e k s lt is branch = absurd (omega arith)
 targets_right entrance (t ∷ swept) e zero s lt is branch =
     let h = first_right (leads_wrong entrance (piece_of t).role) t.at (wrong_target entrance (map piece_of swept)) e in
     let same : leads_wrong entrance (piece_of s).role ≡ false = ap (λ (u : Swept). leads_wrong entrance (piece_of u).role) (sym is) ∙ h.0 in
-    not_false (entrance (target_of s.at s.len s.insn)) (ap (leads_wrong entrance) (sym (branch_role s branch)) ∙ same)
+    not-false (entrance (target_of s.at s.len s.insn)) (ap (leads_wrong entrance) (sym (branch_role s branch)) ∙ same)
 targets_right entrance (t ∷ swept) e (suc k) s lt is branch =
     let h = first_right (leads_wrong entrance (piece_of t).role) t.at (wrong_target entrance (map piece_of swept)) e in
     targets_right entrance swept h.1 k s (omega arith) is branch
@@ -223,7 +191,7 @@ right_targets entrance (t ∷ swept) h =
 -- ---- the image
 
 end_is : (text : List ℕ) (ps : List Piece) → text_end text ps ≡ None → ends_at text (last_at ps) ≡ true
-end_is text ps e = not_false (ends_at text (last_at ps)) (then_none _ (last_at ps) e)
+end_is text ps e = not-false (ends_at text (last_at ps)) (then_none _ (last_at ps) e)
 
 accepted_with : (parts : ImageParts) (sites : List Site) (swept : List Swept) → IsPlaced parts → Sweep parts.text swept → text_end parts.text (map piece_of swept) ≡ None → site_wrong sites (map piece_of swept) ≡ None → wrong_target (is_entrance (map piece_of swept) sites) (map piece_of swept) ≡ None → entry_start parts (map piece_of swept) sites ≡ None → IsAccepted (image_with parts sites)
 accepted_with parts sites swept placed is end same targets entry = record {
@@ -233,7 +201,7 @@ accepted_with parts sites swept placed is end same targets entry = record {
   ends = end_is parts.text (map piece_of swept) end;
   sites = sites_there sites (map piece_of swept) same;
   targets = λ s c branch. entrance_is swept sites (target_of s.at s.len s.insn) (targets_right (is_entrance (map piece_of swept) sites) swept targets c.0 s c.1 c.2 branch);
-  entry = entrance_is swept sites (entry_at parts) (not_false (is_entrance (map piece_of swept) sites (entry_at parts)) (then_none _ (entry_at parts) entry));
+  entry = entrance_is swept sites (entry_at parts) (not-false (is_entrance (map piece_of swept) sites (entry_at parts)) (then_none _ (entry_at parts) entry));
 }
 
 pub accepted_from : (parts : ImageParts) (image : Image) → AreBytes parts.text → image_from parts ≡ Ok image → IsAccepted image
@@ -253,22 +221,19 @@ accepted_from parts image fit e =
 right_end : (text : List ℕ) (ps : List Piece) → ends_at text (last_at ps) ≡ true → text_end text ps ≡ None
 right_end text ps e = ap (λ b. then_some (not b) (last_at ps)) e
 
-equal_so : (m n : ℕ) → m ≡ n → (m == n) ≡ true
-equal_so m n e = grind (arith, nat_tests)
-
-no_size : (n : ℕ) → 1 ≤ n → n ≤ TEXT_LIMIT → (n == 0 || nat_lt TEXT_LIMIT n) ≡ false
+pub no_size : (n : ℕ) → 1 ≤ n → n ≤ TEXT_LIMIT → (n == 0 || nat_lt TEXT_LIMIT n) ≡ false
 no_size n some few = grind (arith, nat_tests)
 
-not_above : (n limit : ℕ) → n ≤ limit → nat_lt limit n ≡ false
+pub not_above : (n limit : ℕ) → n ≤ limit → nat_lt limit n ≡ false
 not_above n limit le = grind (arith, nat_tests)
 
-no_entry : (entry len : ℕ) → 0x10000000 ≤ entry → entry < 0x10000000 + len → (nat_lt entry 0x10000000 || not (nat_lt entry (0x10000000 + len))) ≡ false
+pub no_entry : (entry len : ℕ) → 0x10000000 ≤ entry → entry < 0x10000000 + len → (nat_lt entry 0x10000000 || not (nat_lt entry (0x10000000 + len))) ≡ false
 no_entry entry len ge lt = grind (arith, nat_tests)
 
 abbrev ok_image : Image → Result Image Refusal
 ok_image image = Ok image
 
-swept_gives : (text : List ℕ) (swept : List Swept) → sweep text ≡ Ok swept → pieces_in text ≡ Ok (map piece_of swept)
+pub swept_gives : (text : List ℕ) (swept : List Swept) → sweep text ≡ Ok swept → pieces_in text ≡ Ok (map piece_of swept)
 unfolding pieces_in
 swept_gives text swept e = ap (pieces_of text) e
 
@@ -277,10 +242,10 @@ unfolding placed
 placed_right parts sites text init w =
     rw (text_right parts text, init_right parts init, size_right parts sites w, few_right parts sites w, entry_right parts sites w) refl where
       text_right : (p : ImageParts) → p.text_at ≡ 0x10000000 → text_place p ≡ None
-      text_right p e = ap (λ b. then_some (not b) 0) (equal_so p.text_at 0x10000000 e)
+      text_right p e = ap (λ b. then_some (not b) 0) (eq-eqb p.text_at 0x10000000 e)
 
       init_right : (p : ImageParts) → p.init_at ≡ 0x11000000 → init_place p ≡ None
-      init_right p e = ap (λ b. then_some (not b) 0) (equal_so p.init_at 0x11000000 e)
+      init_right p e = ap (λ b. then_some (not b) 0) (eq-eqb p.init_at 0x11000000 e)
 
       size_right : (p : ImageParts) (ss : List Site) → IsWithin (image_with p ss) → text_size p ≡ None
       size_right p ss h = let some = h.text.0 in let few = h.text.1 in ap (λ b. then_some b 0) (no_size (length p.text) some few)
@@ -309,12 +274,12 @@ from_accepted parts sites fit text init read h =
 
 -- ---- the file
 
-form_read : (r : Result ImageParts Fault) (parts : ImageParts) → as_form r ≡ Ok parts → r ≡ Ok parts
+pub form_read : (r : Result ImageParts Fault) (parts : ImageParts) → as_form r ≡ Ok parts → r ≡ Ok parts
 form_read (Ok p) parts e = cc
 form_read (Err f) parts e = absurd cc
 
 placed_text : (parts : ImageParts) → IsPlaced parts → (parts.text_at ≡ 0x10000000) × (parts.init_at ≡ 0x11000000)
-placed_text parts p = (eqb-true parts.text_at 0x10000000 (not_false _ (then_none _ 0 p.text_at)), eqb-true parts.init_at 0x11000000 (not_false _ (then_none _ 0 p.init_at)))
+placed_text parts p = (eqb-true parts.text_at 0x10000000 (not-false _ (then_none _ 0 p.text_at)), eqb-true parts.init_at 0x11000000 (not-false _ (then_none _ 0 p.init_at)))
 
 abbrev ok_sites : List Site → ℕ → Result SitesParts ℕ
 ok_sites sites format = Ok (of_format sites format)

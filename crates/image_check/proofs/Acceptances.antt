@@ -19,7 +19,7 @@ use Rattle.image_check.specs.Reasons.{IsRefused}
 use Rattle.image_check.proofs.CauseLaws.{first_exact, not_image}
 use Rattle.image_check.proofs.FileLimits.{text_bytes}
 use Rattle.image_check.proofs.ReasonLaws.{refused_so, so_refused}
-use Rattle.image_check.proofs.Acceptance.{image_accepts, accepts_image}
+use Rattle.image_check.proofs.Acceptance.{image_accepts, accepts_image, form_read}
 
 pub if_accepted : (bytes : List ℕ) (r : Result Image CheckFault) → AreBytes bytes → Gives (λ image. image) r (image_of bytes) → IfOk r (Accepts bytes)
 if_accepted bytes (Ok image) fit given = image_accepts bytes image fit given
@@ -38,10 +38,6 @@ bind_err (Err d) refusal e = let same : d ≡ refusal = cc in inl (ap (λ (f : R
 no_form : (read : Result ImageParts Fault) (at : ℕ) (cause : CheckCause) → as_form read ≡ Err (Wrong at cause) → ⊥
 no_form (Ok parts) at cause e = cc
 no_form (Err fault) at cause e = cc
-
-form_read : (read : Result ImageParts Fault) (parts : ImageParts) → as_form read ≡ Ok parts → read ≡ Ok parts
-form_read (Ok p) parts e = cc
-form_read (Err f) parts e = absurd cc
 
 refused_first : (bytes : List ℕ) (at : ℕ) (cause : CheckCause) → image_of bytes ≡ not_image (Wrong at cause) → (parts : ImageParts) × ImageAs bytes parts × IsFirstOf (wrong parts) causes at cause
 unfolding image_of

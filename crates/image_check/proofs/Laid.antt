@@ -44,7 +44,7 @@ none_in y c = let lt = c.1 in omega (arith, lt)
 
 -- ---- what an instruction is to the check, and what it is
 
-branch_kind : (o : Op) → is_direct_branch o ≡ true → kind_of o ≡ None
+pub branch_kind : (o : Op) → is_direct_branch o ≡ true → kind_of o ≡ None
 branch_kind op.Jmp e = refl
 branch_kind op.Call e = refl
 branch_kind op.Jcc e = refl

@@ -1,9 +1,10 @@
 -- The instructions and the sites of an accepted image.
 use Rattle.std.proofs.Common.{◌≡◌, ℕ, ◌+◌, ◌<◌, ◌≤◌, Bool, true, false, cond, Option, List, [], ◌∷◌, length, take, drop, map, Some, None, refl, sym, ap, subst, ◌∙◌, inl, inr, ◌⊎◌, arith, nat_lt}
-use Rattle.std.specs.Prelude.{◌↔◌, nat_le, ◌&&◌, ◌||◌, ◌==◌, is_some}
+use Rattle.std.specs.Prelude.{◌↔◌, nat_le, ◌&&◌, ◌||◌, is_some}
 use Rattle.std.specs.List.{list_any, find, Contains}
 use Rattle.std.proofs.lemmas.Bool.Decides.{nat_tests}
 use Rattle.std.proofs.lemmas.List.{take-append-drop}
+use Rattle.guest_ram.specs.Among.{is_among}
 use Rattle.ia32_rows.specs.Spells.{AreBytes}
 use Rattle.ia32_rows.proofs.Readers.{AreBytes-append}
 use Rattle.sites.specs.declared.site.Site.{Site}
@@ -77,9 +78,9 @@ unmapped (t ∷ swept) s c =
       | inr d ↦ later_in t.at (map (λ (v : Swept). v.at) swept) s.at (unmapped swept s d)
     ]
 
-pub start_is_any : (text : List ℕ) (at : ℕ) → is_start text at ≡ list_any (λ (k : ℕ). k == at) (starts_of text)
+pub start_is_among : (text : List ℕ) (at : ℕ) → is_start text at ≡ is_among at (starts_of text)
 unfolding is_start
-start_is_any text at = refl
+start_is_among text at = refl
 
 pub started : (text : List ℕ) (at : ℕ) → is_start text at ≡ true → (s : Swept) × Contains (swept_of text) s × (s.at ≡ at)
 started text at e = mapped (swept_of text) at (subst (λ (ks : List ℕ). Contains ks at) (starts_are text) ((start_exact text at).0 e))

@@ -2,7 +2,7 @@
 use Rattle.std.proofs.Common.{◌≡◌, ◌≢◌, ℕ, ◌+◌, ◌<◌, ◌≤◌, Bool, true, false, not, ◌&&◌, ◌||◌, cond, List, [], ◌∷◌, length, drop, map, nat_lt, Option, Some, None, Result, Ok, Err, refl, sym, ap, ◌∙◌, inl, inr, ◌⊎◌, length-drop, arith}
 use Rattle.std.specs.Prelude.{◌↔◌, ◌==◌, slice_index}
 use Rattle.std.specs.Bool.{then_some}
-use Rattle.std.proofs.lemmas.Bool.{cases_lt, and_parts, eqb-true, not-true}
+use Rattle.std.proofs.lemmas.Bool.{cases_lt, and_parts, eqb-true, not-true, ltb-true, lt-ltb, false_from_ne_true, eq-eqb, both_ways}
 use Rattle.std.proofs.lemmas.List.{drop_all}
 use Rattle.std.proofs.lemmas.Bool.Decides.{nat_tests}
 use Rattle.ia32_rows.specs.Spells.{AreBytes}
@@ -36,12 +36,6 @@ not_equal m n e = grind (arith, nat_tests)
 
 equal_not : (m n : ℕ) → m ≢ n → not (m == n) ≡ true
 equal_not m n h = grind (arith, nat_tests)
-
-below_so : (m n : ℕ) → nat_lt m n ≡ true → m < n
-below_so m n e = grind (arith, nat_tests)
-
-so_below : (m n : ℕ) → m < n → nat_lt m n ≡ true
-so_below m n h = grind (arith, nat_tests)
 
 none_or_many : (n limit : ℕ) → (n == 0 || nat_lt limit n) ≡ true → (n ≡ 0) ⊎ (limit < n)
 none_or_many n limit e =
@@ -86,8 +80,8 @@ module _ (parts : ImageParts) (at : ℕ) where
 
   pub init_size_is : (init_size parts ≡ Some at) ↔ IsWrong InitSize parts at
   init_size_is = (
-    (λ e. let h = bad_so _ 0 at e in (below_so 33554432 (length parts.init + parts.bss) h.0, h.1)),
-    (λ h. so_bad _ 0 at (so_below 33554432 (length parts.init + parts.bss) h.0) h.1),
+    (λ e. let h = bad_so _ 0 at e in (ltb-true 33554432 (length parts.init + parts.bss) h.0, h.1)),
+    (λ h. so_bad _ 0 at (lt-ltb 33554432 (length parts.init + parts.bss) h.0) h.1),
   )
 
   pub entry_place_is : (entry_place parts ≡ Some at) ↔ IsWrong EntryPlace parts at
@@ -121,13 +115,6 @@ other_so text (Err k) at e = by (is_refused (drop k text)) refl e where
 so_other : (text : List ℕ) (r : Result (List Swept) ℕ) (at : ℕ) → r ≡ Err at → is_refused (drop at text) ≡ false → bad_stop text r ≡ Some at
 so_other text r at e is = ap (bad_stop text) e ∙ ap (λ b. cond b None (Some at)) is
 
-pub not_both : (b : Bool) → b ≡ true → b ≡ false → ⊥
-not_both b t f = let h : true ≡ false = sym t ∙ f in cc
-
-pub not_true : (b : Bool) → (b ≡ true → ⊥) → b ≡ false
-not_true true h = absurd (h refl)
-not_true false h = refl
-
 module _ (text : List ℕ) (fit : AreBytes text) (at : ℕ) where
   pub refused_stop_is : (refused_stop text (sweep text) ≡ Some at) ↔ MeetsNamed text at
   refused_stop_is = (
@@ -137,8 +124,8 @@ module _ (text : List ℕ) (fit : AreBytes text) (at : ℕ) where
 
   pub bad_stop_is : (bad_stop text (sweep text) ≡ Some at) ↔ MeetsOther text at
   bad_stop_is = (
-    (λ e. let h = other_so text (sweep text) at e in ((stop_exact text fit at).0 h.0, (λ name begins. not_both (is_refused (drop at text)) (named_is_refused (drop at text) name begins) h.1))),
-    (λ h. so_other text (sweep text) at ((stop_exact text fit at).1 h.0) (not_true (is_refused (drop at text)) (λ is. let named = begins_refused (drop at text) is in h.1 named.0 named.1))),
+    (λ e. let h = other_so text (sweep text) at e in ((stop_exact text fit at).0 h.0, (λ name begins. both_ways (is_refused (drop at text)) h.1 (named_is_refused (drop at text) name begins)))),
+    (λ h. so_other text (sweep text) at ((stop_exact text fit at).1 h.0) (false_from_ne_true (is_refused (drop at text)) (λ is. let named = begins_refused (drop at text) is in h.1 named.0 named.1))),
   )
 
 -- ---- the end
@@ -153,9 +140,6 @@ two_left : (text : List ℕ) (at : ℕ) → at + 2 ≡ length text → drop at t
 two_left text at e =
     next_of text at 0 (omega arith)
     ∙ ap (front (slice_index text at)) (next_of text (at + 1) 0 (omega arith) ∙ ap (front (slice_index text (at + 1))) (drop_all (at + 1 + 1) text (omega arith)))
-
-so_equal : (m n : ℕ) → m ≡ n → (m == n) ≡ true
-so_equal m n e = grind (arith, nat_tests)
 
 ends_so : (text : List ℕ) (at : ℕ) → ends_at text at ≡ true → drop at text ≡ 0xEB ∷ 0xFE ∷ []
 ends_so text at e =
@@ -172,7 +156,7 @@ so_ends text at e =
     let same : slice_index text at ∷ slice_index text (at + 1) ∷ [] ≡ 0xEB ∷ 0xFE ∷ [] = sym (two_left text at len) ∙ e in
     let first : slice_index text at ≡ 0xEB = ap (λ (bs : List ℕ). slice_index bs 0) same in
     let second : slice_index text (at + 1) ≡ 0xFE = ap (λ (bs : List ℕ). slice_index bs 1) same in
-    all_three (so_equal (at + 2) (length text) len) (so_equal (slice_index text at) 0xEB first) (so_equal (slice_index text (at + 1)) 0xFE second)
+    all_three (eq-eqb (at + 2) (length text) len) (eq-eqb (slice_index text at) 0xEB first) (eq-eqb (slice_index text (at + 1)) 0xFE second)
 
 swept_so : (r : Result (List Swept) ℕ) (f : List Piece → Option ℕ) (at : ℕ) → of_swept r f ≡ Some at → (swept : List Swept) × (r ≡ Ok swept) × (f (map piece_of swept) ≡ Some at)
 swept_so (Ok swept) f at e = (swept, refl, e)
@@ -187,11 +171,11 @@ module _ (text : List ℕ) (fit : AreBytes text) (at : ℕ) where
         swept = s.0;
         sweep = (sweep_exact text fit s.0).0 s.1;
         last = h.1;
-        other = λ is. not_both (ends_at text (last_at (map piece_of s.0))) (ap (ends_at text) (sym h.1) ∙ so_ends text at is) (not-true _ h.0);
+        other = λ is. both_ways (ends_at text (last_at (map piece_of s.0))) (not-true _ h.0) (ap (ends_at text) (sym h.1) ∙ so_ends text at is);
       }
 
   pub so_text_end : EndsOtherwise text at → of_swept (sweep text) (text_end text) ≡ Some at
   so_text_end h =
       ap (λ (r : Result (List Swept) ℕ). of_swept r (text_end text)) ((sweep_exact text fit h.swept).1 h.sweep)
       ∙ so_bad (not (ends_at text (last_at (map piece_of h.swept)))) (last_at (map piece_of h.swept)) at
-      (ap not (not_true (ends_at text (last_at (map piece_of h.swept))) (λ is. h.other (ends_so text at (ap (ends_at text) h.last ∙ is))))) h.last
+      (ap not (false_from_ne_true (ends_at text (last_at (map piece_of h.swept))) (λ is. h.other (ends_so text at (ap (ends_at text) h.last ∙ is))))) h.last

@@ -97,7 +97,7 @@ immediate_none immediate.Word bytes x n e = absurd cc
 immediate_none immediate.Long bytes x n e = absurd cc
 immediate_none immediate.Far bytes x n e = absurd cc
 
-op_is : (r : Row) (p : Parts) → (insn_of r p).op ≡ r.op
+pub op_is : (r : Row) (p : Parts) → (insn_of r p).op ≡ r.op
 unfolding insn_of
 op_is r p = refl
 
@@ -152,7 +152,7 @@ sti_piece s e = sti_single (target_of s.at s.len s.insn) s.insn.op e
 
 -- ---- room
 
-goes_up : (from : ℕ) (bytes : List ℕ) (swept : List Swept) (to : ℕ) (left : List ℕ) → SweepsTo from bytes swept to left → from ≤ to
+pub goes_up : (from : ℕ) (bytes : List ℕ) (swept : List Swept) (to : ℕ) (left : List ℕ) → SweepsTo from bytes swept to left → from ≤ to
 goes_up from bytes [] to left h = let e = h.0 in omega (arith, e)
 goes_up from bytes (s ∷ swept) to left h = let later = goes_up (from + s.len) (drop s.len bytes) swept to left h.2 in omega (arith, later)
 

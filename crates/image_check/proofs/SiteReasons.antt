@@ -1,6 +1,6 @@
 -- Where the annotations and the sites of a text differ, or a sensitive instruction lacks its NOPs.
 use Rattle.std.proofs.Common.{◌≡◌, ◌≢◌, ℕ, ◌≤◌, false, cond, min, List, [], ◌∷◌, ◌++◌, map, Option, Some, None, refl, sym, ap, ◌∙◌, inl, inr, ◌⊎◌, arith}
-use Rattle.std.proofs.lemmas.Bool.{cases_lt, le-ltb, lt-ltb, cases_Bool}
+use Rattle.std.proofs.lemmas.Bool.{cases_lt, le-ltb, lt-ltb, cases_Bool, false_from_ne_true, both_ways}
 use Rattle.elf_form.specs.Faults.{◌or_lower◌}
 use Rattle.sites.specs.declared.site.Site.{Site}
 use Rattle.image_check.specs.Sweep.{Swept}
@@ -10,15 +10,15 @@ use Rattle.image_check.specs.Conditions.{site_wrong}
 use Rattle.image_check.specs.Reasons.{NextDiffer, FirstDiffer, IsWrongAt}
 use Rattle.elf_form.specs.Order.{IsLowest}
 use Rattle.image_check.proofs.Acceptance.{same_site, is_itself}
-use Rattle.image_check.proofs.PlaceReasons.{some, not_both, not_true}
+use Rattle.image_check.proofs.PlaceReasons.{some}
 
 -- ---- two lists of sites
 
 is_same_not : (s t : Site) → is_same s t ≡ false → s ≢ t
-is_same_not s t differs same = not_both (is_same s t) (ap (is_same s) (sym same) ∙ is_itself s) differs
+is_same_not s t differs same = both_ways (is_same s t) differs (ap (is_same s) (sym same) ∙ is_itself s)
 
 not_is_same : (s t : Site) → s ≢ t → is_same s t ≡ false
-not_is_same s t h = not_true (is_same s t) (λ e. h (same_site s t e))
+not_is_same s t h = false_from_ne_true (is_same s t) (λ e. h (same_site s t e))
 
 abbrev join : Site → List Site → List Site
 join s ss = s ∷ ss

@@ -38,7 +38,7 @@ none_swept at to (answer.Insn insn n) bytes h e = absurd cc
 none_swept at to answer.Short bytes h e = (cc, λ insn n b. begins_not_cut bytes insn n b h)
 none_swept at to answer.Outside bytes h e = (cc, h.not_begun)
 
-begun : (bytes : List ℕ) (insn : Insn) (n : ℕ) → AreBytes bytes → decoded bytes ≡ answer.Insn insn n → Begins bytes insn n
+pub begun : (bytes : List ℕ) (insn : Insn) (n : ℕ) → AreBytes bytes → decoded bytes ≡ answer.Insn insn n → Begins bytes insn n
 begun bytes insn n fit e = (exactly_insn (decoded bytes) bytes (answered bytes fit) insn n).0 e
 
 answer_is : (bytes : List ℕ) (insn : Insn) (n : ℕ) → AreBytes bytes → Begins bytes insn n → decoded bytes ≡ answer.Insn insn n
@@ -132,7 +132,7 @@ pub record Leads (n at : ℕ) (bytes : List ℕ) (swept : List Swept) (to : ℕ)
   pub fits : AreBytes rest
   pub is : sweep_from n at bytes ≡ with_front swept (sweep_from fuel to rest)
 
-step_is : (n at : ℕ) (bytes : List ℕ) (s : Swept) → 0 < length bytes → swept_at at (decoded bytes) ≡ Ok s → sweep_from (suc n) at bytes ≡ (sweep_from n (at + s.len) (drop s.len bytes) >>= λ swept. Ok (s ∷ swept))
+pub step_is : (n at : ℕ) (bytes : List ℕ) (s : Swept) → 0 < length bytes → swept_at at (decoded bytes) ≡ Ok s → sweep_from (suc n) at bytes ≡ (sweep_from n (at + s.len) (drop s.len bytes) >>= λ swept. Ok (s ∷ swept))
 unfolding sweep_from
 step_is n at [] s some e = absurd (omega arith)
 step_is n at (b ∷ bytes) s some e = rw e refl
@@ -169,7 +169,7 @@ unfolding with_front
 front_err [] at = refl
 front_err (s ∷ swept) at = ap (λ r. r >>= λ more. Ok (s ∷ more)) (front_err swept at)
 
-ends : (n at : ℕ) → sweep_from n at [] ≡ Ok []
+pub ends : (n at : ℕ) → sweep_from n at [] ≡ Ok []
 unfolding sweep_from
 ends zero at = refl
 ends (suc n) at = refl

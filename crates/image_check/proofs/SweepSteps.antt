@@ -1,5 +1,5 @@
 -- The sweep, an instruction after the other.
-use Rattle.std.proofs.Common.{◌≡◌, ℕ, zero, suc, ◌+◌, ◌-◌, ◌<◌, ◌≤◌, List, [], ◌∷◌, ◌++◌, length, drop, Result, Ok, Err, refl, sym, ap, ◌∙◌, append_assoc, arith}
+use Rattle.std.proofs.Common.{◌≡◌, ℕ, suc, ◌+◌, ◌-◌, ◌<◌, ◌≤◌, List, [], ◌∷◌, ◌++◌, length, drop, Result, Ok, Err, refl, sym, ap, ◌∙◌, append_assoc, arith}
 use Rattle.std.proofs.lemmas.List.{append-nil, drop-drop, drop_all, length-drop}
 use Rattle.ia32_decode.specs.Decoding.{decoded}
 use Rattle.image_check.specs.declared.piece.Piece.{Piece}
@@ -9,6 +9,7 @@ use Rattle.image_check.specs.declared.fault.CheckFault.TheVariants as faults
 use Rattle.image_check.specs.Refusals.{Refusal, Form, Wrong, Fails}
 use Rattle.image_check.specs.Sweep.{Swept, swept_at, sweep_from, sweep, ◌>>=◌}
 use Rattle.image_check.specs.Pieces.{piece_of, piece_as, pieces_of, pieces_in, stop_cause}
+use Rattle.image_check.proofs.SweepLaws.{step_is, ends}
 
 -- more instructions behind some
 abbrev pub behind : List Piece → Result (List Piece) Refusal → Result (List Piece) Refusal
@@ -33,20 +34,10 @@ one_more : (text : List ℕ) (s : Swept) (r : Result (List Swept) ℕ) → piece
 one_more text s (Ok swept) = refl
 one_more text s (Err at) = refl
 
-sweep-ok : (n at : ℕ) (bytes : List ℕ) (s : Swept) → 0 < length bytes → swept_at at (decoded bytes) ≡ Ok s → sweep_from (suc n) at bytes ≡ (sweep_from n (at + s.len) (drop s.len bytes) >>= λ swept. Ok (s ∷ swept))
-unfolding sweep_from
-sweep-ok n at [] s some e = absurd (omega arith)
-sweep-ok n at (b ∷ bytes) s some e = rw e refl
-
 sweep-err : (n at to : ℕ) (bytes : List ℕ) → 0 < length bytes → swept_at at (decoded bytes) ≡ Err to → sweep_from (suc n) at bytes ≡ Err to
 unfolding sweep_from
 sweep-err n at to [] some e = absurd (omega arith)
 sweep-err n at to (b ∷ bytes) some e = rw e refl
-
-sweep-end : (n at : ℕ) → sweep_from n at [] ≡ Ok []
-unfolding sweep_from
-sweep-end zero at = refl
-sweep-end (suc n) at = refl
 
 -- what is swept at an offset
 swept_ok : (text : List ℕ) (r : Result Swept ℕ) (p : Piece) → piece_as text r ≡ Ok p → (s : Swept) × (r ≡ Ok s) × (piece_of s ≡ p)
@@ -72,7 +63,7 @@ goes_on text ps at p lt some e goes =
     let is = swept_ok text (swept_at at (decoded (drop at text))) p e in
     let n : is.0.len ≡ p.len = ap (λ (q : Piece). q.len) is.2 in
     let next : drop is.0.len (drop at text) ≡ drop (at + p.len) text = drop-drop is.0.len at text ∙ ap (λ j. drop (at + j) text) n in
-    let one = sweep-ok m at (drop at text) is.0 (omega (arith, len)) is.1 in
+    let one = step_is m at (drop at text) is.0 (omega (arith, len)) is.1 in
     let rest : Result (List Swept) ℕ = sweep_from m (at + is.0.len) (drop is.0.len (drop at text)) in
     let moved : rest ≡ sweep_from m (at + p.len) (drop (at + p.len) text) = ap (λ j. sweep_from m (at + j) (drop is.0.len (drop at text))) n ∙ ap (sweep_from m (at + p.len)) next in
     record {
@@ -105,7 +96,7 @@ goes_to_end text ps at le goes =
     let none = drop_all at text le in
     sym goes.whole
     ∙ ap (λ bytes. behind ps (pieces_of text (sweep_from goes.fuel at bytes))) none
-    ∙ ap (λ r. behind ps (pieces_of text r)) (sweep-end goes.fuel at)
+    ∙ ap (λ r. behind ps (pieces_of text r)) (ends goes.fuel at)
     ∙ ap (λ (qs : List Piece). Ok qs) (append-nil ps)
 
 -- what a refused instruction says of the whole text

@@ -1,7 +1,7 @@
 -- Where control comes in at no entrance.
 use Rattle.std.proofs.Common.{◌≡◌, ℕ, Bool, true, false, not, ◌&&◌, cond, List, [], ◌∷◌, ◌++◌, map, Some, refl, sym, ap, ◌∙◌, inl, inr}
 use Rattle.std.specs.List.{Contains}
-use Rattle.std.proofs.lemmas.Bool.{cases_Bool, not-true}
+use Rattle.std.proofs.lemmas.Bool.{cases_Bool, not-true, not-false, false_from_ne_true, both_ways}
 use Rattle.elf_form.specs.ImageParts.{ImageParts}
 use Rattle.sites.specs.declared.site.Site.{Site}
 use Rattle.image_check.specs.Sweep.{Swept}
@@ -10,11 +10,11 @@ use Rattle.image_check.specs.Targets.{is_entrance, leads_wrong, wrong_target}
 use Rattle.image_check.specs.Conditions.{entry_at, entry_start}
 use Rattle.image_check.specs.Accepts.{IsEntrance}
 use Rattle.image_check.specs.Reasons.{LeadsAstray}
-use Rattle.image_check.proofs.Acceptance.{entrance_is, is_entrance_so, branch_role, not_false, other_leads}
+use Rattle.image_check.proofs.Acceptance.{entrance_is, is_entrance_so, branch_role, other_leads}
 use Rattle.image_check.proofs.Laid.{first_in, later_in, first_or_later, none_in}
 use Rattle.ia32_types.specs.Shape.{is_direct_branch}
 use Rattle.ia32_types.specs.Site.{sensitive_kind}
-use Rattle.image_check.proofs.PlaceReasons.{some, bad_so, so_bad, not_both, not_true}
+use Rattle.image_check.proofs.PlaceReasons.{some, bad_so, so_bad}
 use Rattle.image_check.specs.declared.piece.Role.TheVariants as role
 
 -- ---- branches
@@ -39,7 +39,7 @@ module _ (entrance : ℕ → Bool) where
   leads_by s false e = ap (λ b. leads_wrong entrance (cond b (role.Branch (target_of s.at s.len s.insn)) (cond (is_nop s.insn.op) role.Nop (site_role (sensitive_kind s.insn))))) e ∙ other_leads entrance (is_nop s.insn.op) (sensitive_kind s.insn)
 
   one_right : (s : Swept) → leads_wrong entrance (piece_of s).role ≡ false → is_direct_branch s.insn.op ≡ true → entrance (target_of s.at s.len s.insn) ≡ true
-  one_right s leads e = not_false _ (sym (leads_by s true e) ∙ leads)
+  one_right s leads e = not-false _ (sym (leads_by s true e) ∙ leads)
 
   wrong_target_so : (swept : List Swept) (at : ℕ) → wrong_target entrance (map piece_of swept) ≡ Some at → Astray entrance swept at
   unfolding wrong_target
@@ -67,7 +67,7 @@ module _ (entrance : ℕ → Bool) where
         wrong_branch s is = by (is_direct_branch s.insn.op) refl where
           by : (b : Bool) → is_direct_branch s.insn.op ≡ b → (is_direct_branch s.insn.op ≡ true) × (entrance (target_of s.at s.len s.insn) ≡ false)
           by true e = (e, not-true _ (sym (leads_by s true e) ∙ is))
-          by false e = absurd (not_both _ is (leads_by s false e))
+          by false e = absurd (both_ways _ (leads_by s false e) is)
 
   astray_first : (before : List Swept) (branch : Swept) (later : List Swept) → is_direct_branch branch.insn.op ≡ true → entrance (target_of branch.at branch.len branch.insn) ≡ false → ((s : Swept) → Contains before s → is_direct_branch s.insn.op ≡ true → entrance (target_of s.at s.len s.insn) ≡ true) → wrong_target entrance (map piece_of (before ++ branch ∷ later)) ≡ Some branch.at
   unfolding wrong_target
@@ -92,7 +92,7 @@ module _ (swept : List Swept) (sites : List Site) (at : ℕ) where
         swept_are = a.swept_are;
         place = a.place;
         direct = a.direct;
-        astray = λ h. not_both _ (is_entrance_so swept sites (target_of a.branch.at a.branch.len a.branch.insn) h) a.astray;
+        astray = λ h. both_ways _ a.astray (is_entrance_so swept sites (target_of a.branch.at a.branch.len a.branch.insn) h);
         right = λ s c b. entrance_is swept sites (target_of s.at s.len s.insn) (a.right s c b);
       }
 
@@ -100,7 +100,7 @@ module _ (swept : List Swept) (sites : List Site) (at : ℕ) where
   so_target h =
       ap (λ (ss : List Swept). wrong_target (is_entrance (map piece_of swept) sites) (map piece_of ss)) h.swept_are
       ∙ astray_first (is_entrance (map piece_of swept) sites) h.before h.branch h.later h.direct
-      (not_true _ (λ is. h.astray (entrance_is swept sites (target_of h.branch.at h.branch.len h.branch.insn) is)))
+      (false_from_ne_true _ (λ is. h.astray (entrance_is swept sites (target_of h.branch.at h.branch.len h.branch.insn) is)))
       (λ s c b. is_entrance_so swept sites (target_of s.at s.len s.insn) (h.right s c b))
       ∙ ap some h.place
 
@@ -110,7 +110,7 @@ module _ (parts : ImageParts) (swept : List Swept) (sites : List Site) (at : ℕ
   pub entry_so : entry_start parts (map piece_of swept) sites ≡ Some at → (IsEntrance swept sites (entry_at parts) → ⊥) × (at ≡ entry_at parts)
   entry_so e =
       let h = bad_so _ (entry_at parts) at e in
-      ((λ is. not_both _ (is_entrance_so swept sites (entry_at parts) is) (not-true _ h.0)), h.1)
+      ((λ is. both_ways _ (not-true _ h.0) (is_entrance_so swept sites (entry_at parts) is)), h.1)
 
   pub so_entry : (IsEntrance swept sites (entry_at parts) → ⊥) × (at ≡ entry_at parts) → entry_start parts (map piece_of swept) sites ≡ Some at
-  so_entry h = so_bad _ (entry_at parts) at (ap not (not_true _ (λ is. h.0 (entrance_is swept sites (entry_at parts) is)))) h.1
+  so_entry h = so_bad _ (entry_at parts) at (ap not (false_from_ne_true _ (λ is. h.0 (entrance_is swept sites (entry_at parts) is)))) h.1

@@ -1,7 +1,8 @@
 -- Which images are accepted, in words that name no order of tests.
 use Rattle.ia32_types.specs.Shape.{is_direct_branch}
-use Rattle.std.specs.Prelude.{◌≡◌, ℕ, ◌+◌, ◌-◌, ◌≤◌, ◌<◌, ◌==◌, true, false, Bool, List, length, map, slice_index_or, Some, Ok}
-use Rattle.std.specs.List.{list_any, Contains}
+use Rattle.std.specs.Prelude.{◌≡◌, ℕ, ◌+◌, ◌-◌, ◌≤◌, ◌<◌, true, false, Bool, List, length, map, slice_index_or, Some, Ok}
+use Rattle.std.specs.List.{Contains}
+use Rattle.guest_ram.specs.Among.{is_among}
 use Rattle.ia32_rows.specs.Spells.{AreBytes}
 use Rattle.elf_form.specs.ImageParts.{ImageParts}
 use Rattle.elf_form.specs.Accepted.{ImageAs}
@@ -50,7 +51,7 @@ pub record Accepts (file : List ℕ) (image : Image) : Type 0 where
 
 -- Flags tell for each offset whether an instruction of the text stands there.
 abbrev pub AreStarts : List ℕ → List Bool → Type 0
-AreStarts text flags = (i : ℕ) → slice_index_or flags i false ≡ list_any (λ k. k == i) (starts_of text)
+AreStarts text flags = (i : ℕ) → slice_index_or flags i false ≡ is_among i (starts_of text)
 
 -- An image that passed the tests, and flags for the starts of its text.
 pub record IsChecked (image : Image) (flags : List Bool) : Type 0 where

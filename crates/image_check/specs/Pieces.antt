@@ -59,4 +59,4 @@ piece_as text (Err at) = Err (Wrong at (stop_cause (drop at text)))
 
 -- whether an instruction stands at an offset
 abbrev pub is_piece_start : List Piece → ℕ → Bool
-is_piece_start pieces at = list_any (λ (p : Piece). p.at == at) pieces
+is_piece_start pieces at = list_any (λ (p : Piece). at == p.at) pieces

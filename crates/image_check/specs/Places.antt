@@ -1,6 +1,7 @@
 -- What stands at an offset of a text.
-use Rattle.std.specs.Prelude.{◌≡◌, ℕ, ◌+◌, ◌-◌, Bool, ◌&&◌, List, Option, Some, None, is_some, nat_le, nat_lt, ◌==◌, if◌then◌else◌}
+use Rattle.std.specs.Prelude.{◌≡◌, ℕ, ◌+◌, ◌-◌, Bool, ◌&&◌, List, Option, Some, None, is_some, nat_le, nat_lt, if◌then◌else◌}
 use Rattle.std.specs.List.{list_any, find, Contains}
+use Rattle.guest_ram.specs.Among.{is_among}
 use Rattle.sites.specs.declared.site.Site.{Site}
 use Rattle.image_check.specs.declared.place.AtOffset.{AtOffset}
 use Rattle.image_check.specs.declared.place.AtOffset.TheVariants.{NotAStart, Outside, Inside}
@@ -13,7 +14,7 @@ swept_of text = swept_or_none (sweep text)
 
 -- whether an instruction of the text begins at an offset
 unfoldable pub is_start : List ℕ → ℕ → Bool
-is_start text at = list_any (λ k. k == at) (starts_of text)
+is_start text at = is_among at (starts_of text)
 
 -- whether an offset lies in a site
 abbrev pub lies_in : ℕ → Site → Bool

@@ -4,6 +4,7 @@ use Rattle.ia32_types.specs.declared.site.SiteKind.{SiteKind}
 use Rattle.ia32_types.specs.declared.site.SiteKind.TheVariants.{Sti, StiHlt, Hlt}
 use Rattle.sites.specs.declared.site.Site.{Site}
 use Rattle.sites.specs.Kinds.{number}
+use Rattle.sites.specs.Padded.{padded_site}
 use Rattle.image_check.specs.declared.piece.Role.{Role}
 use Rattle.image_check.specs.declared.piece.Role.TheVariants as role
 use Rattle.image_check.specs.declared.piece.Piece.{Piece}
@@ -38,7 +39,7 @@ abbrev pub pair : Piece → Site
 pair p = record { at = p.at; kind = StiHlt; len = 2; total = 5 }
 
 abbrev pub single : Piece → SiteKind → Site
-single p kind = record { at = p.at; kind = kind; len = p.len; total = max 5 p.len }
+single p kind = padded_site p.at kind p.len
 
 abbrev pub padded : Piece → List Piece → SiteKind → Here
 padded p ps kind = if has_nops (max 5 p.len - p.len) ps then here.Makes (single p kind) else here.Lacks

@@ -9,10 +9,7 @@ use Rattle.image_check.specs.Pieces.{piece_of}
 use Rattle.image_check.specs.Conditions.{at_of, last_at}
 use Rattle.image_check.proofs.Begun.{begun_has_byte}
 use Rattle.image_check.proofs.Laid.{first_in, later_in, first_or_later, none_in}
-
-goes_up : (from : ℕ) (bytes : List ℕ) (swept : List Swept) (to : ℕ) (left : List ℕ) → SweepsTo from bytes swept to left → from ≤ to
-goes_up from bytes [] to left h = let e = h.0 in omega (arith, e)
-goes_up from bytes (s ∷ swept) to left h = let later = goes_up (from + s.len) (drop s.len bytes) swept to left h.2 in omega (arith, later)
+use Rattle.image_check.proofs.Room.{goes_up}
 
 -- An instruction has a byte, and lies between the ends of the sweep.
 pub between : (from : ℕ) (bytes : List ℕ) (swept : List Swept) (to : ℕ) (left : List ℕ) → SweepsTo from bytes swept to left → (s : Swept) → Contains swept s → (from ≤ s.at) × (1 ≤ s.len) × (s.at + s.len ≤ to)

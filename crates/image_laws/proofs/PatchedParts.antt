@@ -1,16 +1,14 @@
 -- A memory in which sites are patched.
 use Rattle.std.proofs.Common.{◌≡◌, ℕ, ◌+◌, ◌-◌, ◌<◌, ◌≤◌, List, [], ◌∷◌, length, refl, sym, ap, subst, ◌∙◌, inl, inr, ◌⊎◌, arith}
 use Rattle.std.specs.List.{Contains}
-use Rattle.std.proofs.lemmas.List.{places, same_lists, length-replicate}
+use Rattle.std.proofs.lemmas.List.{places, same_lists}
 use Rattle.guest_ram.specs.Bytes.{byte, part, with_part}
 use Rattle.guest_ram.proofs.Bytes.{length-with_part, byte-with_part_above, byte-with_part_below, part-with_part, part-with_part_below}
 use Rattle.sites.specs.declared.site.Site.{Site}
 use Rattle.sites.specs.Patched.{patch_bytes, patched}
+use Rattle.sites.proofs.PatchSteps.{length-patch_bytes}
 use Rattle.image_check.specs.Layout.{AreApart}
 use Rattle.image_check.proofs.Laid.{first_in, later_in, first_or_later, none_in, apart_bounds}
-
-patch_length : (n : ℕ) → 1 ≤ n → length (patch_bytes n) ≡ n
-patch_length n le = omega (arith, length-replicate {A = ℕ} (n - 1) 244)
 
 none_patched : (m : List ℕ) (at : ℕ) → patched m at [] ≡ m
 unfolding patched
@@ -23,7 +21,7 @@ one_patched m at s sites = refl
 -- what a patched site asks for
 module _ (m : List ℕ) (at from : ℕ) (s : Site) (sites : List Site) (to : ℕ) (h : AreApart from (s ∷ sites) to) (room : at + to ≤ length m) where
   long : length (patch_bytes s.total) ≡ s.total
-  long = let most = h.1 in patch_length s.total (omega (arith, most))
+  long = let most = h.1 in length-patch_bytes s.total (omega (arith, most))
 
   fits : (at + s.at) + length (patch_bytes s.total) ≤ length m
   fits = let ends = (apart_bounds from (s ∷ sites) to h s (first_in s sites)).2 in omega (arith, long, ends)

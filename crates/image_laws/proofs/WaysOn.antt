@@ -2,7 +2,7 @@
 use Rattle.std.proofs.Common.{◌≡◌, ℕ, ◌+◌, ◌-◌, ◌%◌, ◌^◌, ◌<◌, ◌≤◌, Bool, true, false, ◌&&◌, cond, nat_lt, Option, None, List, [], ◌∷◌, length, take, drop, map, Some, refl, sym, ap, subst, ◌∙◌, inl, inr, ◌⊎◌, arith}
 use Rattle.std.specs.Prelude.{slice_index, ◌==◌, ◌↔◌, ◌||◌, nat_le, not}
 use Rattle.std.specs.List.{list_any, Contains}
-use Rattle.std.proofs.lemmas.Bool.{cases_lt, and_parts}
+use Rattle.std.proofs.lemmas.Bool.{cases_lt, and_parts, eqb-true}
 use Rattle.std.proofs.lemmas.Bool.Decides.{nat_tests}
 use Rattle.std.proofs.lemmas.List.{places, same_lists, append-nil}
 use Rattle.ia32_types.specs.Shape.{is_direct_branch}
@@ -111,9 +111,6 @@ jump_is bytes insn s e =
     let same : answer.Insn insn (length bytes) ≡ answer.Insn jump_to_itself 2 = sym back ∙ ap decoded e ∙ jump_decoded in
     cc same
 
-equal : (m n : ℕ) → (m == n) ≡ true → m ≡ n
-equal m n e = grind (arith, nat_tests)
-
 two_bytes : (text : List ℕ) (at b c : ℕ) → at + 2 ≡ length text → slice_index text at ≡ b → slice_index text (at + 1) ≡ c → take 2 (drop at text) ≡ b ∷ c ∷ []
 two_bytes text at b c end first second = same_lists _ _ (grind (arith, places)) (λ k d lt. grind (arith, places))
 
@@ -125,7 +122,7 @@ module _ (image : Image) (h : IsAccepted image) where
       let is : ends_at image.text s.at ≡ true = ap (ends_at image.text) (sym e) ∙ h.ends in
       let a = and_parts (s.at + 2 == length image.text && slice_index image.text s.at == 0xEB) (slice_index image.text (s.at + 1) == 0xFE) is in
       let b = and_parts (s.at + 2 == length image.text) (slice_index image.text s.at == 0xEB) a.0 in
-      (equal (s.at + 2) (length image.text) b.0, equal (slice_index image.text s.at) 0xEB b.1, equal (slice_index image.text (s.at + 1)) 0xFE a.1)
+      (eqb-true (s.at + 2) (length image.text) b.0, eqb-true (slice_index image.text s.at) 0xEB b.1, eqb-true (slice_index image.text (s.at + 1)) 0xFE a.1)
 
   pub is_last : (s : Swept) → Contains (swept_of image.text) s → s.at + s.len ≡ length image.text → IsLast image s
   is_last s c end =

@@ -1,7 +1,8 @@
 //! How sites and instructions lie in the text of an accepted image.
 
-ghost use Rattle.std.specs.Prelude.{◌≡◌, ◌↔◌, ◌⊎◌, ◌+◌, ◌≤◌, ◌<◌, ◌==◌, ℕ, List, length, max, true, Some, None};
-ghost use Rattle.std.specs.List.{Contains, list_any};
+ghost use Rattle.std.specs.Prelude.{◌≡◌, ◌↔◌, ◌⊎◌, ◌+◌, ◌≤◌, ◌<◌, ℕ, List, length, max, true, Some, None};
+ghost use Rattle.std.specs.List.{Contains};
+ghost use Rattle.guest_ram.specs.Among.{is_among};
 ghost use Rattle.ia32_types.specs.Site.{sensitive_kind};
 ghost use Rattle.ia32_types.specs.declared.site.SiteKind.TheVariants.{StiHlt};
 ghost use Rattle.ia32_rows.specs.Spells.{AreBytes};
@@ -18,7 +19,7 @@ pub fn places()
     ensures sweep { (image : Image) → IsAccepted image → Sweep image.text (swept_of image.text) }
     ensures bytes { (image : Image) → IsAccepted image → AreBytes image.text }
     ensures start { (text : List ℕ) (at : ℕ) → (is_start text at ≡ true) ↔ Contains (starts_of text) at }
-    ensures start_test { (text : List ℕ) (at : ℕ) → is_start text at ≡ list_any (λ k. k == at) (starts_of text) }
+    ensures start_test { (text : List ℕ) (at : ℕ) → is_start text at ≡ is_among at (starts_of text) }
     ensures instruction { (text : List ℕ) (at : ℕ) → is_start text at ≡ true → (s : Swept) × Contains (swept_of text) s × (s.at ≡ at) }
     ensures instruction_starts { (text : List ℕ) (s : Swept) → Contains (swept_of text) s → is_start text s.at ≡ true }
     ensures one_instruction { (image : Image) → IsAccepted image → (s t : Swept) → Contains (swept_of image.text) s → Contains (swept_of image.text) t → s.at ≡ t.at → s ≡ t }

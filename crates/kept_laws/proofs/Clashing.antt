@@ -1,7 +1,7 @@
 -- Where it is asked whether a step clashes, translations that are found may be missing.
 use Rattle.std.proofs.Common.{◌≡◌, ℕ, zero, suc, ◌+◌, ◌-◌, ◌*◌, ◌/◌, ◌^◌, ◌<◌, ◌≤◌, List, [], ◌∷◌, ◌++◌, length, take, drop, Bool, true, false, cond, not, ◌&&◌, ◌||◌, ◌==◌, Option, Some, None, Ok, Err, refl, sym, ap, subst, ◌∙◌, ◌⊎◌, inl, inr, arith}
 use Rattle.std.specs.Prelude.{bit_or}
-use Rattle.std.proofs.lemmas.Bool.{cases_lt}
+use Rattle.std.proofs.lemmas.Bool.{cases_lt, or_right, eqb-true}
 use Rattle.std.specs.List.{Contains}
 use Rattle.std.specs.Option.{ForSome}
 use Rattle.std.specs.FinMap.{get}
@@ -37,7 +37,7 @@ use Rattle.kept_laws.specs.Remembered.{was_read}
 use Rattle.machine_model.specs.Keeping.{held}
 use Rattle.kept_laws.specs.Judged.{AllFound, ClashesAgree, ClashesAreJudged}
 use Rattle.kept_laws.proofs.Holding.{held_back}
-use Rattle.kept_laws.proofs.Counts.{clash, eq_told}
+use Rattle.kept_laws.proofs.Counts.{clash}
 use Rattle.kept_laws.proofs.Refetching.{AtPage, Fetched, fetched_again, taken_ready, front_is, back_is, then_is}
 
 -- ---- a fetch leaves bytes
@@ -290,7 +290,7 @@ none_twice b entries wp eip l (inl e) = ap (λ (x : List ℕ). clash_in entries 
 none_twice b entries wp eip l (inr e) = ap (λ (x : List ℕ). clash_in entries wp (fetch_uses b x)) e ∙ by (next_page eip / 4096 == eip / 4096) refl
   where
     by : (t : Bool) → (next_page eip / 4096 == eip / 4096) ≡ t → (((t || false) && is_refused_by (entries (next_page eip / 4096)) (by_level b.cpu false) wp) || false) ≡ false
-    by true is = absurd (next_is eip (eq_told (next_page eip / 4096) (eip / 4096) is))
+    by true is = absurd (next_is eip (eqb-true (next_page eip / 4096) (eip / 4096) is))
     by false is = refl
 
 -- ---- more translations refuse no less
@@ -298,10 +298,6 @@ none_twice b entries wp eip l (inr e) = ap (λ (x : List ℕ). clash_in entries 
 refused_more : (k o : Option Entry) (access : Access) (wp : Bool) → ForSome k (λ e. o ≡ Some e) → is_refused_by k access wp ≡ true → is_refused_by o access wp ≡ true
 refused_more None o access wp sub h = absurd (let e : false ≡ true = h in cc)
 refused_more (Some e) o access wp sub h = ap (λ x. is_refused_by x access wp) (sub e refl) ∙ h
-
-or_right : (a b : Bool) → b ≡ true → (a || b) ≡ true
-or_right true b e = refl
-or_right false b e = e
 
 or_both : (a x y c d : Bool) → (x ≡ true → y ≡ true) → (c ≡ true → d ≡ true) → ((a && x) || c) ≡ true → ((a && y) || d) ≡ true
 or_both a x y true d h k e = or_right (a && y) d (k refl)

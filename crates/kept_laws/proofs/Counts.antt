@@ -5,35 +5,24 @@ use Rattle.std.specs.Set.{is_member, unique_keys, distinct_count}
 use Rattle.std.specs.Cmp.{IsEquivalence}
 use Rattle.std.proofs.lemmas.Bool.Decides.{eqb_tells}
 use Rattle.std.proofs.lemmas.Map.Made.{length-le_from_is_member}
-
-pub eq_told : (x y : ℕ) → eqb x y ≡ true → x ≡ y
-eq_told x y h = elim (eqb_tells x y) [ inl t ↦ t.1 | inr f ↦ absurd (let e = f.0 in cc) ]
-
-pub ne_told : (x y : ℕ) → eqb x y ≡ false → x ≡ y → ⊥
-ne_told x y h = elim (eqb_tells x y) [ inl t ↦ absurd (let e = t.0 in cc) | inr f ↦ f.1 ]
-
-pub eq_is : (x y : ℕ) → x ≡ y → eqb x y ≡ true
-eq_is x y e = elim (eqb_tells x y) [ inl t ↦ t.0 | inr f ↦ absurd (f.1 e) ]
-
-pub ne_is : (x y : ℕ) → (x ≡ y → ⊥) → eqb x y ≡ false
-ne_is x y ne = elim (eqb_tells x y) [ inl t ↦ absurd (ne t.1) | inr f ↦ f.0 ]
+use Rattle.std.proofs.lemmas.Bool.{eqb-true, eq-eqb, ne_eqb, false_from_ne_true}
 
 pub clash : {P : Type 0} → (b : Bool) → b ≡ true → b ≡ false → P
 clash b e f = absurd (let g : b ≡ true = e in cc)
 
 same_test : (x y z : ℕ) → eqb x y ≡ true → eqb x z ≡ eqb y z
-same_test x y z h = ap (λ (v : ℕ). eqb v z) (eq_told x y h)
+same_test x y z h = ap (λ (v : ℕ). eqb v z) (eqb-true x y h)
 
 turned : (x y : ℕ) → eqb x y ≡ eqb y x
-turned x y = elim (eqb_tells x y) [ inl t ↦ t.0 ∙ sym (eq_is y x (sym t.1)) | inr f ↦ f.0 ∙ sym (ne_is y x (λ e. f.1 (sym e))) ]
+turned x y = elim (eqb_tells x y) [ inl t ↦ t.0 ∙ sym (eq-eqb y x (sym t.1)) | inr f ↦ f.0 ∙ sym (ne_eqb y x (λ e. f.1 (sym e))) ]
 
 equal : IsEquivalence eqb
-equal = record { refl = λ x. eq_is x x refl; symm = turned; congr = same_test }
+equal = record { refl = λ x. eq-eqb x x refl; symm = turned; congr = same_test }
 
 -- ---- members
 
 pub member_first : (x : ℕ) (xs : List ℕ) → is_member eqb (x ∷ xs) x ≡ true
-member_first x xs = ap (λ b. b || is_member eqb xs x) (eq_is x x refl)
+member_first x xs = ap (λ b. b || is_member eqb xs x) (eq-eqb x x refl)
 
 pub member_next : (x : ℕ) (xs : List ℕ) (q : ℕ) → is_member eqb xs q ≡ true → is_member eqb (x ∷ xs) q ≡ true
 member_next x xs q h = by (eqb q x)
@@ -46,7 +35,7 @@ pub member_or : (x : ℕ) (xs : List ℕ) (q : ℕ) → is_member eqb (x ∷ xs)
 member_or x xs q = by (eqb q x) refl
   where
     by : (b : Bool) → eqb q x ≡ b → (b || is_member eqb xs q) ≡ true → (q ≡ x) ⊎ (is_member eqb xs q ≡ true)
-    by true is h = inl (eq_told q x is)
+    by true is h = inl (eqb-true q x is)
     by false is h = inr h
 
 -- ---- each once
@@ -72,13 +61,9 @@ unique_only (x ∷ xs) q h = by (is_member eqb xs x) (unique_only xs q) h
       | inr m ↦ member_next x xs q (k m)
     ]
 
-not_true : (b : Bool) → (b ≡ true → ⊥) → b ≡ false
-not_true true h = absurd (h refl)
-not_true false h = refl
-
 pub absent_apart : (xs : List ℕ) (x : ℕ) → is_member eqb xs x ≡ false → AllByRecursion (λ y. eqb x y ≡ false) xs
 absent_apart [] x h = tt
-absent_apart (y ∷ ys) x h = (not_true (eqb x y) (λ e. clash true refl (sym (ap (λ b. b || is_member eqb ys x) e) ∙ h)), absent_apart ys x (not_true (is_member eqb ys x) (λ e. clash true refl (sym (member_next y ys x e) ∙ h))))
+absent_apart (y ∷ ys) x h = (false_from_ne_true (eqb x y) (λ e. clash true refl (sym (ap (λ b. b || is_member eqb ys x) e) ∙ h)), absent_apart ys x (false_from_ne_true (is_member eqb ys x) (λ e. clash true refl (sym (member_next y ys x e) ∙ h))))
 
 unique_distinct : (xs : List ℕ) → IsDistinct eqb (unique_keys eqb xs)
 unfolding IsDistinct
@@ -87,7 +72,7 @@ unique_distinct (x ∷ xs) = by (is_member eqb xs x) refl (unique_distinct xs)
   where
     by : (b : Bool) → is_member eqb xs x ≡ b → IsDistinct eqb (unique_keys eqb xs) → IsDistinct eqb (cond b (unique_keys eqb xs) (x ∷ unique_keys eqb xs))
     by true is k = k
-    by false is k = (absent_apart (unique_keys eqb xs) x (not_true _ (λ m. clash (is_member eqb xs x) (unique_only xs x m) is)), k)
+    by false is k = (absent_apart (unique_keys eqb xs) x (false_from_ne_true _ (λ m. clash (is_member eqb xs x) (unique_only xs x m) is)), k)
 
 -- distinct numbers that are all in a list are no more than it has
 pub no_more : (seen pool : List ℕ) → IsDistinct eqb seen → ((q : ℕ) → is_member eqb seen q ≡ true → is_member eqb pool q ≡ true) → length seen ≤ distinct_count eqb pool
@@ -106,7 +91,7 @@ but_member c [] q ne h = h
 but_member c (x ∷ xs) q ne h = by (x == c) refl (but_member c xs q ne) (member_or x xs q h)
   where
     by : (b : Bool) → (x == c) ≡ b → (is_member eqb xs q ≡ true → is_member eqb (but c xs) q ≡ true) → (q ≡ x) ⊎ (is_member eqb xs q ≡ true) → is_member eqb (cond (not b) (x ∷ but c xs) (but c xs)) q ≡ true
-    by true is k (inl e) = absurd (ne (e ∙ eq_told x c is))
+    by true is k (inl e) = absurd (ne (e ∙ eqb-true x c is))
     by true is k (inr m) = k m
     by false is k (inl e) = subst (λ (v : ℕ). is_member eqb (x ∷ but c xs) v ≡ true) (sym e) (member_first x (but c xs))
     by false is k (inr m) = member_next x (but c xs) q (k m)

@@ -1,6 +1,7 @@
 -- What is owed is found in memory over the steps of a run.
 use Rattle.std.proofs.Common.{◌≡◌, ℕ, ◌*◌, ◌/◌, ◌^◌, ◌<◌, ◌≤◌, List, [], ◌∷◌, ◌++◌, length, Bool, true, false, ◌&&◌, ◌==◌, Some, refl, sym, ap, subst, ◌∙◌}
 use Rattle.std.specs.FinMap.{get}
+use Rattle.std.proofs.lemmas.Bool.{eqb-true}
 use Rattle.descriptors.specs.Controls.{pse_of}
 use Rattle.paging.specs.declared.entry.Entry.{Entry}
 use Rattle.paging.specs.Fresh.{has}
@@ -14,7 +15,7 @@ use Rattle.kept_laws.specs.Remembered.{was_read, Unwritten, IsOwed}
 use Rattle.kept_laws.specs.Judged.{AllFound, IsFoundStill, FoundAtStart, FoundGoesOn}
 use Rattle.machine_model.proofs.Splits.{Split, At_end, Within, split_of}
 use Rattle.kept_laws.proofs.Lists.{all_at, read_more}
-use Rattle.kept_laws.proofs.Counts.{eq_told, clash}
+use Rattle.kept_laws.proofs.Counts.{clash}
 use Rattle.kept_laws.proofs.Owed.{owed_front}
 
 none_split : (old : List Taken) (left : Taken) (since : List Taken) → [] ≡ old ++ left ∷ since → ⊥
@@ -60,7 +61,7 @@ by_split : WordsStayFound → (m : Setting) (steps : List Taken) (t : Taken) →
     → (c : ℕ) (old : List Taken) (left : Taken) (since : List Taken) → IsOwed m (steps ++ t ∷ []) t.after c old left since → Split steps t old left since → AllFound m t.after c (steps ++ t ∷ []) left.set
 by_split law m steps t is room loads h c old left since o (At_end at at_t none) page small e there =
     let leaving : leaves c t ≡ true = subst (λ (u : Taken). leaves c u ≡ true) at_t o.is_left in
-    let value : t.before.cpu.cr3 ≡ c = eq_told t.before.cpu.cr3 c (and_right (loads_root t) (t.before.cpu.cr3 == c) leaving) in
+    let value : t.before.cpu.cr3 ≡ c = eqb-true t.before.cpu.cr3 c (and_right (loads_root t) (t.before.cpu.cr3 == c) leaving) in
     let pse : pse_of t.after.cpu ≡ pse_of t.before.cpu = same_pse t.after t.before (o.same_now.1 ∙ ap (λ (u : Taken). u.before.cpu.cr4) at_t) in
     let found : IsFoundBy t.before.ram m.frames t.before.cpu.cr3 (pse_of t.before.cpu) (was_read steps) page e =
     loads (and_left (loads_root t) (t.before.cpu.cr3 == c) leaving) o.unwritten page small e (subst (λ (u : Taken). get u.set page ≡ Some e) at_t there) in

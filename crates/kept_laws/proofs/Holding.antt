@@ -1,9 +1,8 @@
 -- By which translations a step is judged.
-use Rattle.std.proofs.Common.{◌≡◌, ℕ, List, [], ◌∷◌, ◌++◌, Bool, true, false, cond, reverse, append_assoc, refl, sym, ap, subst, ◌∙◌}
+use Rattle.std.proofs.Common.{◌≡◌, ℕ, List, [], ◌∷◌, ◌++◌, Bool, true, false, cond, reverse, append_assoc, refl, sym, ap, ◌∙◌}
 use Rattle.std.proofs.lemmas.List.{reverse-append}
 use Rattle.std.specs.List.{All}
 use Rattle.std.proofs.lemmas.List.Elements.{All-head, All-tail}
-use Rattle.machine_model.specs.State.{State}
 use Rattle.machine_model.specs.Step.{Result}
 use Rattle.machine_model.specs.Run.{Set}
 use Rattle.machine_model.specs.Taken.{Taken, behind, steps_by, loads_root}
@@ -19,7 +18,7 @@ taken_on join m old mid new sets set reports report steps is =
 
 -- ---- the translations
 
-last_first : (steps : List Taken) (t : Taken) → reverse (steps ++ t ∷ []) ≡ t ∷ reverse steps
+pub last_first : (steps : List Taken) (t : Taken) → reverse (steps ++ t ∷ []) ≡ t ∷ reverse steps
 last_first steps t = reverse-append steps (t ∷ [])
 
 either : (b : Bool) (x y : Set) → b ≡ false → cond b x y ≡ y

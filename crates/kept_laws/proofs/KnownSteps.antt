@@ -3,6 +3,7 @@ use Rattle.std.proofs.Common.{◌≡◌, ℕ, ◌*◌, ◌≤◌, length, List, 
 use Rattle.std.specs.List.{All}
 use Rattle.std.specs.FinMap.{empty}
 use Rattle.std.proofs.lemmas.List.Elements.{All-head, All-tail, All-cons, All-nil, All-append}
+use Rattle.std.proofs.lemmas.Bool.{false_from_ne_true}
 use Rattle.guest_ram.specs.Bytes.{AreBytes}
 use Rattle.paging.specs.Fresh.{has}
 use Rattle.descriptors.specs.Controls.{pse_of, wp_of}
@@ -17,7 +18,7 @@ use Rattle.kept_laws.specs.Remembered.{ComesFrom, Unwritten, IsOwed, IsRemembere
 use Rattle.kept_laws.specs.OverSteps.{IsTold, IsCause}
 use Rattle.kept_laws.specs.Judged.{AllFound, IsFoundStill, FoundGoesOn}
 use Rattle.kept_laws.specs.Carried.{IsReadyFor, NextIsKept}
-use Rattle.kept_laws.specs.Known.{IsOfPages, IsNextKept, IsKnown, RulesStay, StayAside, EmptyAside, IsStep, IsPast, KnownAtStart, KnownStill, KnownQuiet, KnownOn}
+use Rattle.kept_laws.specs.Known.{IsOfPages, IsNextKept, IsKnown, RulesStay, StayAside, EmptyAside, IsStep, KnownAtStart, KnownStill, KnownQuiet, KnownOn}
 use Rattle.kept_laws.proofs.Counts.{clash}
 use Rattle.kept_laws.proofs.Owed.{causes_owe_nothing}
 use Rattle.kept_laws.proofs.OwedStays.{start_remembers, still_remembers, dropped_remembers, steps_remember, same_remembers, loads_remember}
@@ -179,10 +180,6 @@ told_over t noted noted1 noted2 marked marked1 marked2 asides asides1 asides2 to
 
 -- ---- a step that was settled
 
-not_true : (b : Bool) → (b ≡ true → ⊥) → b ≡ false
-not_true true h = absurd (h refl)
-not_true false h = refl
-
 -- nothing is owed behind a change of the rules
 emptied : (m : Setting) (steps : List Taken) (t : Taken) (noted1 noted2 : ℕ → Bool) (marked1 marked2 : Bool) (asides1 asides2 : List Aside) → loads_root t ≡ false → (RulesStay t → ⊥)
     → EmptyAside noted1 noted2 marked1 marked2 asides2 → IsRemembered m (steps ++ t ∷ []) t.after noted1 marked1 asides1 → IsRemembered m (steps ++ t ∷ []) t.after noted2 marked2 asides2
@@ -190,7 +187,7 @@ emptied m steps t noted1 noted2 marked1 marked2 asides1 asides2 plain lost none 
     let cause : IsCause m steps t = record { through = plain; by = inr (λ same. lost (rules_same t same)) } in
     subst (IsRemembered m (steps ++ t ∷ []) t.after noted2 marked2) (sym none.others)
     (dropped_remembers m (steps ++ t ∷ []) t.after noted2 marked2 (λ frame e. r.noted_read frame (none.notes frame e))
-    (λ u. not_true marked2 (λ e. clash marked1 (none.marks e) (r.unmarked u))) (causes_owe_nothing m steps t cause))
+    (λ u. false_from_ne_true marked2 (λ e. clash marked1 (none.marks e) (r.unmarked u))) (causes_owe_nothing m steps t cause))
 
 pub known_on : FoundGoesOn → NextIsKept → KnownOn
 known_on goes_on law m steps t noted noted2 marked marked2 slots2 asides asides2 kept step finds o k = by (loads_root t) refl

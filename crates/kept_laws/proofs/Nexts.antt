@@ -1,8 +1,7 @@
 -- The next step of a run goes by what the rule for kept translations asks.
-use Rattle.std.proofs.Common.{◌≡◌, ℕ, ◌/◌, ◌≤◌, List, [], ◌∷◌, ◌++◌, Bool, true, false, eqb, reverse, refl, sym, subst, ◌∙◌, ◌⊎◌, inl, inr, arith}
+use Rattle.std.proofs.Common.{◌≡◌, ℕ, ◌/◌, ◌≤◌, List, [], ◌∷◌, ◌++◌, Bool, true, false, eqb, refl, sym, subst, ◌∙◌, ◌⊎◌, inl, inr, arith}
 use Rattle.std.specs.Prelude.{map, nat_le}
 use Rattle.std.proofs.lemmas.Bool.Decides.{nat_tests}
-use Rattle.std.proofs.lemmas.List.{reverse-append}
 use Rattle.std.specs.Set.{is_member, distinct_count}
 use Rattle.std.specs.FinMap.{empty}
 use Rattle.machine_model.specs.State.{Setting, State}
@@ -14,7 +13,7 @@ use Rattle.machine_model.specs.Reloading.{FetchesFollow, FoundOver}
 use Rattle.kept_laws.specs.Carried.{IsReadyFor, NextIsKept, indices_in, RoomyBefore, RoomyIsFew, IndicesGrow}
 use Rattle.kept_laws.proofs.Lists.{any_left, any_right}
 use Rattle.kept_laws.proofs.Counts.{clash, fewer, member_first, member_next, member_or}
-use Rattle.kept_laws.proofs.Holding.{held_stays}
+use Rattle.kept_laws.proofs.Holding.{held_stays, last_first}
 use Rattle.kept_laws.proofs.OwedStays.{returned}
 use Rattle.kept_laws.proofs.Clashing.{clashes_are_judged}
 
@@ -46,9 +45,6 @@ reloads follow over m steps t now kept loads r (inr k) old left since h =
     clash (clashes m (steps ++ t ∷ []) now.before) by_rule apart
 
 -- ---- either way
-
-last_first : (steps : List Taken) (t : Taken) → reverse (steps ++ t ∷ []) ≡ t ∷ reverse steps
-last_first steps t = reverse-append steps (t ∷ [])
 
 by_last : FetchesFollow → FoundOver → (m : Setting) (steps : List Taken) (t now : Taken) (kept : Set) → IsReadyFor m steps t now.before kept
     → (now.set ≡ kept) ⊎ ((now.set ≡ empty) × (clashes_from m (record now.before { set = kept }) ≡ true)) → (b : Bool) → loads_root t ≡ b

@@ -2,6 +2,7 @@
 use Rattle.std.proofs.Common.{◌≡◌, ℕ, List, [], ◌∷◌, ◌++◌, Bool, true, false, cond, ◌&&◌, ◌==◌, eqb, Option, Some, refl, sym, subst, ◌∙◌, ◌⊎◌, inl, inr}
 use Rattle.std.specs.List.{Contains}
 use Rattle.std.specs.Set.{is_member}
+use Rattle.std.proofs.lemmas.Bool.{eqb-true, eqb-false, false_from_ne_true}
 use Rattle.shadow_tables.specs.Aside.{Aside, all_spared}
 use Rattle.shadow_tables.specs.Entries.{entries_of}
 use Rattle.shadow_tables.specs.Slots.{Slot}
@@ -14,7 +15,7 @@ use Rattle.kept_laws.specs.Remembered.{ComesFrom, was_read, Unwritten, IsOwed, I
 use Rattle.kept_laws.specs.OverSteps.{IsNotedBy, IsTold, StartRemembers, StillRemembers, StepsRemember, SameRemembers, DroppedRemembers, LoadsRemember, LoadsBringBack}
 use Rattle.machine_model.proofs.Splits.{Split, At_end, Within, split_of}
 use Rattle.kept_laws.proofs.Lists.{split_more, all_front, all_end, all_at, any_right, read_more, read_last, unwritten_front, roots_more, loaded_more}
-use Rattle.kept_laws.proofs.Counts.{eq_told, ne_told, clash, member_first}
+use Rattle.kept_laws.proofs.Counts.{clash, member_first}
 use Rattle.kept_laws.proofs.Places.{same_alike, lose_alike, alike_absent, alike_of_one, alike_read, alike_there, filter_absent, filter_of_one, filter_read, more_read, all_stay, there_wider, staying_absent, staying_of_one, staying_read, staying_there, coming_there, coming_read}
 use Rattle.kept_laws.proofs.Owed.{through_leaves, owed_front, last_leaves}
 
@@ -36,10 +37,6 @@ start_remembers m now noted marked none unmarked = record {
 
 -- ---- the same is kept
 
-not_true : (b : Bool) → (b ≡ true → ⊥) → b ≡ false
-not_true true h = absurd (h refl)
-not_true false h = refl
-
 pub still_remembers : StillRemembers
 still_remembers m steps now noted noted2 marked marked2 asides asides2 notes marks same r =
     let alike = same_alike asides asides2 same in
@@ -48,7 +45,7 @@ still_remembers m steps now noted noted2 marked marked2 asides asides2 notes mar
       of_one = alike_of_one asides asides2 alike r.of_one;
       noted_read = λ frame e. r.noted_read frame (notes frame e);
       all_read = alike_read steps asides asides2 alike r.all_read;
-      unmarked = λ u. not_true marked2 (λ e. clash marked (marks e) (r.unmarked u));
+      unmarked = λ u. false_from_ne_true marked2 (λ e. clash marked (marks e) (r.unmarked u));
       each = λ c old left since ne o.
           let h = r.each c old left since ne o in
           (alike_there c left (roots_in (left ∷ since)) asides asides2 alike h.0, h.1);
@@ -94,7 +91,7 @@ settled m steps t noted noted2 marked marked2 asides asides2 told r =
       of_one = alike_of_one spared asides2 alike (filter_of_one _ asides r.of_one);
       noted_read = λ frame e. noted_by m steps t noted marked asides r frame (told.notes frame e);
       all_read = alike_read (steps ++ t ∷ []) spared asides2 alike (filter_read _ (steps ++ t ∷ []) asides more);
-      unmarked = λ u. not_true marked2 (λ e. never_marked u (told.marks e));
+      unmarked = λ u. false_from_ne_true marked2 (λ e. never_marked u (told.marks e));
       each = λ c old left since ne u o.
           let h = r.each c old left since ne o in
           (alike_there c left (roots_in (left ∷ since)) spared asides2 alike (subst (IsThere c left (roots_in (left ∷ since))) (sym (all_stay (steps ++ t ∷ []) t.report.wrote asides more (u steps t [] refl))) h.0), h.1);
@@ -205,10 +202,10 @@ and_false false b e f = clash true refl (sym e)
 
 -- a value that a step leaves is the one that CR3 had
 left_is : (c : ℕ) (t : Taken) → leaves c t ≡ true → t.before.cpu.cr3 ≡ c
-left_is c t e = eq_told t.before.cpu.cr3 c (and_right (loads_root t) (t.before.cpu.cr3 == c) e)
+left_is c t e = eqb-true t.before.cpu.cr3 c (and_right (loads_root t) (t.before.cpu.cr3 == c) e)
 
 not_left : (c : ℕ) (t : Taken) → loads_root t ≡ true → leaves c t ≡ false → t.before.cpu.cr3 ≡ c → ⊥
-not_left c t loads e = ne_told t.before.cpu.cr3 c (and_false (loads_root t) (t.before.cpu.cr3 == c) loads e)
+not_left c t loads e = eqb-false t.before.cpu.cr3 c (and_false (loads_root t) (t.before.cpu.cr3 == c) loads e)
 
 -- what is kept for all values but the present one, before the loaded one comes
 abbrev put_all : Taken → (ℕ → Bool) → Bool → (ℕ → Option Slot) → List Aside → List Aside

@@ -4,6 +4,7 @@ use Rattle.std.specs.Prelude.{filter}
 use Rattle.std.specs.List.{All, IsDistinct, list_any}
 use Rattle.std.specs.Set.{is_member, distinct_count}
 use Rattle.std.proofs.lemmas.List.Elements.{All-head, All-tail}
+use Rattle.std.proofs.lemmas.Bool.{eqb-true, eqb-false, eq-eqb, ne_eqb}
 use Rattle.shadow_tables.specs.Aside.{Aside, AreSame, LoseWrites, all_spared}
 use Rattle.shadow_tables.specs.Entries.{entries_of}
 use Rattle.shadow_tables.specs.Laws.Entries.{entries_of-same, entries_of-barred}
@@ -11,7 +12,7 @@ use Rattle.shadow_cache.specs.Reloaded.{of_cr3, but_cr3, or_begun, coming, besid
 use Rattle.machine_model.specs.Taken.{Taken}
 use Rattle.kept_laws.specs.Remembered.{ComesFrom, was_read, IsAbsent, AreOfOne, AllRead, IsThere}
 use Rattle.kept_laws.proofs.Lists.{read_more}
-use Rattle.kept_laws.proofs.Counts.{eq_told, ne_told, eq_is, ne_is, clash, but, but_member, member_or, absent_apart, no_more}
+use Rattle.kept_laws.proofs.Counts.{clash, but, but_member, member_or, absent_apart, no_more}
 
 -- ---- the same translations
 
@@ -147,15 +148,15 @@ but_none w [] h = tt
 but_none w (a ∷ xs) h = by (a.cr3 == w) refl (but_none w xs h.1)
   where
     by : (b : Bool) → (a.cr3 == w) ≡ b → IsAbsent w (but_cr3 w xs) → IsAbsent w (cond b xs (a ∷ but_cr3 w xs))
-    by true is k = subst (λ (v : ℕ). IsAbsent v xs) (eq_told a.cr3 w is) h.0
-    by false is k = (ne_told a.cr3 w is, k)
+    by true is k = subst (λ (v : ℕ). IsAbsent v xs) (eqb-true a.cr3 w is) h.0
+    by false is k = (eqb-false a.cr3 w is, k)
 
 but_there : (w c : ℕ) (left : Taken) (loaded : List ℕ) (xs : List Aside) → (w ≡ c → ⊥) → IsThere c left loaded xs → IsThere c left loaded (but_cr3 w xs)
 but_there w c left loaded [] ne k = absurd k
 but_there w c left loaded (a ∷ xs) ne (inl k) = by (a.cr3 == w) refl
   where
     by : (b : Bool) → (a.cr3 == w) ≡ b → IsThere c left loaded (cond b xs (a ∷ but_cr3 w xs))
-    by true is = absurd (ne (sym (eq_told a.cr3 w is) ∙ k.0))
+    by true is = absurd (ne (sym (eqb-true a.cr3 w is) ∙ k.0))
     by false is = inl k
 but_there w c left loaded (a ∷ xs) ne (inr k) = by (a.cr3 == w) (but_there w c left loaded xs ne k.2)
   where
@@ -187,7 +188,7 @@ none_absent w (a ∷ xs) h = by (a.cr3 == w) refl (none_absent w xs) h
   where
     by : (b : Bool) → (a.cr3 == w) ≡ b → (of_cr3 w xs ≡ None → IsAbsent w xs) → cond b (Some a) (of_cr3 w xs) ≡ None → IsAbsent w (a ∷ xs)
     by true is k h = absurd (let e : ◌≡◌ {A = Option Aside} (Some a) None = h in cc)
-    by false is k h = (ne_told a.cr3 w is, k h)
+    by false is k h = (eqb-false a.cr3 w is, k h)
 
 -- Each of the values that were seen so far is absent from the rest; they are distinct, were loaded, and none is c.
 record HaveSeen (c : ℕ) (loaded seen : List ℕ) (xs : List Aside) : Type 0 where
@@ -275,19 +276,19 @@ staying_there w c left loaded xs ne here few ones k = by (of_cr3 w xs) refl
 
 pub coming_there : (c : ℕ) (left : Taken) (loaded : List ℕ) (xs : List Aside) → IsThere c left loaded xs → ComesFrom left (entries_of (coming c xs).slots)
 coming_there c left loaded [] k = absurd k
-coming_there c left loaded (a ∷ xs) (inl k) = by (a.cr3 == c) (eq_is a.cr3 c k.0)
+coming_there c left loaded (a ∷ xs) (inl k) = by (a.cr3 == c) (eq-eqb a.cr3 c k.0)
   where
     by : (b : Bool) → b ≡ true → ComesFrom left (entries_of (or_begun c (cond b (Some a) (of_cr3 c xs))).slots)
     by true e = k.1
     by false e = clash true refl (sym e)
-coming_there c left loaded (a ∷ xs) (inr k) = by (a.cr3 == c) (ne_is a.cr3 c k.0) (coming_there c left loaded xs k.2)
+coming_there c left loaded (a ∷ xs) (inr k) = by (a.cr3 == c) (ne_eqb a.cr3 c k.0) (coming_there c left loaded xs k.2)
   where
     by : (b : Bool) → b ≡ false → ComesFrom left (entries_of (coming c xs).slots) → ComesFrom left (entries_of (or_begun c (cond b (Some a) (of_cr3 c xs))).slots)
     by true e rest = clash true refl e
     by false e rest = rest
 
 pub coming_first : (a : Aside) (xs : List Aside) (c : ℕ) → a.cr3 ≡ c → coming c (a ∷ xs) ≡ a
-coming_first a xs c e = by (a.cr3 == c) (eq_is a.cr3 c e)
+coming_first a xs c e = by (a.cr3 == c) (eq-eqb a.cr3 c e)
   where
     by : (b : Bool) → b ≡ true → or_begun c (cond b (Some a) (of_cr3 c xs)) ≡ a
     by true h = refl

@@ -3,6 +3,7 @@
 use Rattle.std.proofs.Common.{◌≡◌, ℕ, zero, suc, ◌+◌, ◌-◌, ◌*◌, ◌/◌, ◌%◌, ◌<◌, List, [], ◌∷◌, ◌++◌, length, get_or, Bool, true, false, cond, not, ◌&&◌, ◌||◌, ◌==◌, Option, Some, None, Ok, refl, sym, ap, subst, ◌∙◌, ◌⊎◌, inl, inr, arith}
 use Rattle.std.specs.Prelude.{bit_or}
 use Rattle.std.specs.FinMap.{get}
+use Rattle.std.proofs.lemmas.Bool.{cond-true, cond-false}
 use Rattle.guest_ram.specs.Bytes.{AreBytes, byte, word32, part, with_byte, with_part}
 use Rattle.guest_ram.proofs.Bytes.{word32-is, byte_lt, with_part-part}
 use Rattle.ia32_types.specs.declared.stop.Stop.TheVariants as stops
@@ -25,7 +26,6 @@ use Rattle.machine_model.specs.Run.{Set}
 use Rattle.machine_model.specs.Instruction.{bytes_fetched, fetching, owning_front, owning_back, next_page, owned, fetched_on, fetched_by, fetched}
 use Rattle.machine_model.specs.Reloading.{IsFoundBy}
 use Rattle.machine_model.proofs.Using.{there, elsewhere, found_page as fresh_page}
-use Rattle.native_steps.proofs.Choices.{chosen, passed_by}
 use Rattle.native_steps.proofs.Marks.{has_them}
 use Rattle.native_steps.proofs.Walking.{IsReadied, decided_readied}
 use Rattle.native_steps.proofs.Fetching.{bound, same_value, same_space}
@@ -131,7 +131,7 @@ walk_entry tables s T Y E page at access e read fit there_is h d r met =
     let entry_is : r.entry ≡ record e { dirty = h.dirty } = found_entry r.entry (record e { dirty = h.dirty }) r.dir_at r.word_at h.dir_at h.word_at f in
     let granted : grants e access s.wp ≡ true = subst (λ (x : Entry). grants x access s.wp ≡ true) entry_is r.granted in
     let allowed : allows e access s.wp ≡ true = both (grants e access s.wp) (not access.write) e.dirty granted (ap not read) in
-    let used : usable (get T page) access s.wp ≡ Some e = ap (λ o. usable o access s.wp) there_is ∙ chosen (allows e access s.wp) (Some e) None allowed in
+    let used : usable (get T page) access s.wp ≡ Some e = ap (λ o. usable o access s.wp) there_is ∙ cond-true (allows e access s.wp) (Some e) None allowed in
     let page_is : r.entry.page ≡ page = found_page in
     let free : is_barred s.mode true access.user page e.frame ≡ false =
     subst (λ (p : ℕ). is_barred s.mode true access.user p e.frame ≡ false) page_is (subst (λ (x : Entry). is_barred s.mode true access.user r.entry.page x.frame ≡ false) entry_is r.free) in
@@ -140,7 +140,7 @@ walk_entry tables s T Y E page at access e read fit there_is h d r met =
       set = T;
       tables = Y;
       is = ap (by_entry (other (seen s page) T Y E) true page at access) used
-          ∙ (passed_by (is_barred s.mode true access.user page e.frame) (Stop stops.TextMapped, other (seen s page) T Y E) (Ready, other (seen s page) T Y E) free
+          ∙ (cond-false (is_barred s.mode true access.user page e.frame) (Stop stops.TextMapped, other (seen s page) T Y E) (Ready, other (seen s page) T Y E) free
           ∙ ap (λ (m : List ℕ). (Ready, record (other (seen s page) T Y E) { ram = m })) (sym ram_is));
       place_is = λ at. ap (λ o. place_by o at) there_is ∙ sym (ap (λ o. place_by o at) (there s.set page d.entry ∙ ap (λ (x : Decision). x.entry) r.is) ∙ ap (λ (x : Entry). x.frame * 4096 + at % 4096) entry_is);
       others = λ q ne. refl;

@@ -1,10 +1,11 @@
 -- What shadows say where they are settled on what a step left.
-use Rattle.std.proofs.Common.{◌≡◌, ℕ, ◌^◌, ◌<◌, List, [], ◌∷◌, Bool, true, false, cond, not, ◌||◌, ◌==◌, Option, Some, None, refl, sym, ap, ◌∙◌, ◌⊎◌, inl, inr, arith}
-use Rattle.std.proofs.lemmas.Bool.{cases_lt}
+use Rattle.std.proofs.Common.{◌≡◌, ℕ, ◌^◌, ◌<◌, List, [], ◌∷◌, Bool, true, false, cond, not, ◌||◌, ◌==◌, Some, refl, sym, ap, ◌∙◌, ◌⊎◌, inl, inr, arith}
+use Rattle.std.proofs.lemmas.Bool.{cases_lt, or_cases}
 use Rattle.std.specs.Prelude.{nat_le}
 use Rattle.std.specs.List.{Contains, list_any}
 use Rattle.std.specs.FinMap.{get}
 use Rattle.std.proofs.lemmas.List.Elements.{Contains-append_right}
+use Rattle.std.proofs.lemmas.Option.{none-some}
 use Rattle.guest_ram.specs.Among.{is_among}
 use Rattle.paging.specs.declared.entry.Entry.{Entry}
 use Rattle.shadow_tables.specs.Slots.{entry_in}
@@ -15,10 +16,6 @@ use Rattle.machine_model.specs.Taken.{Taken}
 use Rattle.kept_laws.specs.OverSteps.{IsNotedBy, SettlingTells, DroppedComesFrom}
 
 -- ---- frames that were read as tables
-
-or_cases : (a b : Bool) → (a || b) ≡ true → (a ≡ true) ⊎ (b ≡ true)
-or_cases true b e = inl refl
-or_cases false b e = inr e
 
 guest_any : (frame : ℕ) (tables : List ℕ) → is_among frame (guest_frames tables) ≡ true → is_among frame tables ≡ true
 guest_any frame [] h = h
@@ -60,24 +57,21 @@ settling_tells t noted noted2 marked marked2 asides asides2 notes marks others =
 
 -- ---- what is kept before a load
 
-no_entry : (e : Entry) → ◌≡◌ {A = Option Entry} None (Some e) → ⊥
-no_entry e is = cc
-
 pub dropped_comes_from : DroppedComesFrom
 dropped_comes_from t whole slots same gone stays none = record { has = has; only = only }
   where
     has : (page : ℕ) (e : Entry) → get t.set page ≡ Some e → is_among page t.report.pages ≡ false → get (entries_of slots) page ≡ Some e
     has page e is unused = elim (cases_lt page (2 ^ 20)) [
       | inl l ↦ get-entries_of slots page l ∙ (stays page l unused ∙ (same page unused ∙ is))
-      | inr g ↦ absurd (no_entry e (sym (none page g) ∙ is))
+      | inr g ↦ absurd (none-some e (sym (none page g) ∙ is))
     ]
 
     kept : (page : ℕ) (e : Entry) → page < 2 ^ 20 → (b : Bool) → is_among page t.report.pages ≡ b → entry_in (slots page) ≡ Some e → get t.set page ≡ Some e
-    kept page e l true used is = absurd (no_entry e (sym (ap entry_in (gone page l used)) ∙ is))
+    kept page e l true used is = absurd (none-some e (sym (ap entry_in (gone page l used)) ∙ is))
     kept page e l false unused is = sym (same page unused) ∙ (sym (stays page l unused) ∙ is)
 
     only : (page : ℕ) (e : Entry) → get (entries_of slots) page ≡ Some e → get t.set page ≡ Some e
     only page e is = elim (cases_lt page (2 ^ 20)) [
       | inl l ↦ kept page e l (is_among page t.report.pages) refl (sym (get-entries_of slots page l) ∙ is)
-      | inr g ↦ absurd (no_entry e (sym (none-entries_of slots page g) ∙ is))
+      | inr g ↦ absurd (none-some e (sym (none-entries_of slots page g) ∙ is))
     ]

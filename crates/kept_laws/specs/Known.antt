@@ -3,7 +3,6 @@ use Rattle.std.specs.Prelude.{◌≡◌, ◌⊎◌, ℕ, ◌*◌, ◌^◌, ◌�
 use Rattle.std.specs.List.{All}
 use Rattle.std.specs.FinMap.{get, empty}
 use Rattle.guest_ram.specs.Bytes.{AreBytes}
-use Rattle.paging.specs.Fresh.{has}
 use Rattle.descriptors.specs.Controls.{pse_of, wp_of}
 use Rattle.shadow_tables.specs.Aside.{Aside, AreSame}
 use Rattle.shadow_tables.specs.Entries.{entries_of}

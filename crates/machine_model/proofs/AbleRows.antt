@@ -1,7 +1,7 @@
 -- What each instruction leaves of what a run needs of the processor.
 use Rattle.std.proofs.Common.{◌≡◌, ℕ, ◌+◌, ◌*◌, ◌/◌, ◌%◌, ◌==◌, Bool, true, false, cond, not, ◌&&◌, ◌||◌, refl, sym, ap, subst, ◌∙◌, List, [], ◌∷◌, Ok, Err, slice_index_or, slice_set, nat_lt, nat_le, bit_and, arith}
-use Rattle.std.proofs.lemmas.Bool.Decides.{nat_tests}
 use Rattle.std.proofs.lemmas.List.{get_or-set_other}
+use Rattle.std.proofs.lemmas.Bool.{and_parts, or_parts, not-false, eqb-true, cond-false, both_ways}
 use Rattle.ia32_types.specs.declared.flags.Flags.{Flags}
 use Rattle.ia32_types.specs.declared.insn.Insn.{Insn}
 use Rattle.ia32_types.specs.declared.insn.Op.{Op}
@@ -38,7 +38,7 @@ use Rattle.sys_exec.specs.declared.effect.Loading.{Loading}
 use Rattle.sys_exec.specs.declared.iret.Popped.{Popped}
 use Rattle.sys_exec.specs.Operand.{protection_0, kernel_alone, selector, selector_in, operand_reached, long_of, pulled, pushed, past, past_pop, next}
 use Rattle.sys_exec.specs.Segment.{protection, form_stop, absent, loading, ends_if, selected, marked, load_data, load_task, stack_tests, jump_tests, return_tests, find_stack, find_return, find_jump}
-use Rattle.sys_exec.specs.Iret.{is_within, with_interrupt, with_level, new_flags, kept_segment, popped, popped_outer, return_same, return_outer, interrupt_return}
+use Rattle.sys_exec.specs.Iret.{is_within, with_interrupt, new_flags, kept_segment, popped, popped_outer, return_same, return_outer, interrupt_return}
 use Rattle.sys_exec.specs.Control.{control_stop, control_0_needed, control_0_refused, control_3_refused, changes_pse, control_of, load_control, write_control, read_control}
 use Rattle.sys_exec.specs.Flags.{with_flags, clear_interrupts, set_interrupts, halt, push_flags, pop_flags}
 use Rattle.sys_exec.specs.Table.{table_at, load_gdt, load_idt, load_tr, drop_at, dropped, drop_page}
@@ -71,33 +71,11 @@ pub record IsLeftAble (old : Cpu) (done : SysOutcome) : Type 0 where
 
 -- ---- tests
 
-clash : (b : Bool) → b ≡ true → b ≡ false → ⊥
-clash b e f = cc
-
-pub both : (a b : Bool) → (a && b) ≡ true → (a ≡ true) × (b ≡ true)
-both true true e = (refl, refl)
-both true false e = absurd (let f : false ≡ true = e in cc)
-both false b e = absurd (let f : false ≡ true = e in cc)
-
-pub neither : (a b : Bool) → (a || b) ≡ false → (a ≡ false) × (b ≡ false)
-neither true b e = absurd (let f : true ≡ false = e in cc)
-neither false b e = (refl, e)
-
-pub was : (b : Bool) → not b ≡ false → b ≡ true
-was true e = refl
-was false e = absurd (let f : true ≡ false = e in cc)
-
-pub eq_told : (m n : ℕ) → (m == n) ≡ true → m ≡ n
-eq_told m n e = grind (arith, nat_tests)
-
-above : (level : ℕ) → level ≡ 3 → (level == 0) ≡ false
+pub above : (level : ℕ) → level ≡ 3 → (level == 0) ≡ false
 above level u = ap (λ x. x == 0) u
 
-over : (level most : ℕ) → level ≡ 3 → most ≡ 0 → nat_le level most ≡ false
+pub over : (level most : ℕ) → level ≡ 3 → most ≡ 0 → nat_le level most ≡ false
 over level most u z = ap (λ x. nat_le x most) u ∙ ap (λ x. nat_le 3 x) z
-
-skipped : {A : Type 0} (test : Bool) (x y : A) → test ≡ false → cond test x y ≡ y
-skipped test x y e = ap (λ t. cond t x y) e
 
 unless_keeps : {E : Type 0} {X : Type 0} (e : E) (test : Bool) → X → Yields (λ done. X) (unless e test)
 unless_keeps e true h = record { each = λ s. h }
@@ -151,7 +129,7 @@ module _ (stay : InsensitiveStay) (cpu : Cpu) (able : IsAble cpu) where
   -- ---- flags
 
   no_level : cpu.cpl ≡ 3 → cpu.regs.flags.bits / 4096 % 4 ≡ 0
-  no_level u = eq_told _ 0 (both (has cpu.regs.flags.bits 512) (cpu.regs.flags.bits / 4096 % 4 == 0) (able.users u)).1
+  no_level u = eqb-true _ 0 (and_parts (has cpu.regs.flags.bits 512) (cpu.regs.flags.bits / 4096 % 4 == 0) (able.users u)).1
 
   not_within : cpu.cpl ≡ 3 → is_within cpu ≡ false
   not_within u = over cpu.cpl (cpu.regs.flags.bits / 4096 % 4) u (no_level u)
@@ -164,7 +142,7 @@ module _ (stay : InsensitiveStay) (cpu : Cpu) (able : IsAble cpu) where
   unfolding new_flags
   popped_flags image u =
       let t = taken cpu.regs.flags image in
-      skipped (cpu.cpl == 0) _ (with_interrupt cpu t image) (above cpu.cpl u) ∙ skipped (is_within cpu) _ t (not_within u)
+      cond-false (cpu.cpl == 0) _ (with_interrupt cpu t image) (above cpu.cpl u) ∙ cond-false (is_within cpu) _ t (not_within u)
 
   popped_open : (image : ℕ) → cpu.cpl ≡ 3 → (has (new_flags cpu image).bits 512 && (new_flags cpu image).bits / 4096 % 4 == 0) ≡ true
   popped_open image u =
@@ -184,7 +162,7 @@ module _ (stay : InsensitiveStay) (cpu : Cpu) (able : IsAble cpu) where
     level = able.level;
     code = able.code;
     stack = able.stack;
-    users = λ u. absurd (clash (is_within cpu) w (not_within u));
+    users = λ u. absurd (both_ways (is_within cpu) (not_within u) w);
   }))
 
   of_sti : (len : ℕ) → Yields (IsLeftAble cpu) (set_interrupts len cpu)
@@ -193,7 +171,7 @@ module _ (stay : InsensitiveStay) (cpu : Cpu) (able : IsAble cpu) where
     level = able.level;
     code = able.code;
     stack = able.stack;
-    users = λ u. absurd (clash (is_within cpu) w (not_within u));
+    users = λ u. absurd (both_ways (is_within cpu) (not_within u) w);
   }))
 
   of_hlt : (len : ℕ) → Yields (IsLeftAble cpu) (halt len cpu)
@@ -218,7 +196,7 @@ module _ (stay : InsensitiveStay) (cpu : Cpu) (able : IsAble cpu) where
   tested_return sel low high =
       let d = descriptor_of low high in
       any_yields (ends_if (protection sel) (is_of_system d)) (λ one. any_yields (ends_if form_stop (is_foreign_form d)) (λ two. then_yields (stops_yields (protection sel) (is_data d || (nat_lt (sel % 4) cpu.cpl || not (dpl_of d == sel % 4)))) (λ three t.
-      let level = eq_told (dpl_of d) (sel % 4) (was _ (neither _ _ (neither (is_data d) _ t).1).1) in
+      let level = eqb-true (dpl_of d) (sel % 4) (not-false _ (or_parts _ _ (or_parts (is_data d) _ t).1).1) in
       unless_keeps (absent 11 sel) _ (subst IsLevel level (level_of low high)))))
 
   found_return : (sel : ℕ) → Yields (λ (l : Loading). (l.hidden.null ≡ false) × IsLevel (sel % 4)) (find_return cpu sel)

@@ -12,7 +12,7 @@ use Rattle.ia32_exec.specs.FlagsAfter.{InsensitiveStay}
 use Rattle.ia32_exec.specs.Registers.{with_register}
 use Rattle.descriptors.specs.declared.cpu.Cpu.{Cpu}
 use Rattle.descriptors.specs.declared.cpu.Hidden.{Hidden}
-use Rattle.paging.specs.Space.{Mode, Own, Wedge, Space}
+use Rattle.paging.specs.Space.{Mode, Own, Wedge, no_own, Space}
 use Rattle.paging.specs.Work.{Outcome}
 use Rattle.sys_exec.specs.declared.effect.Refusal.{Refusal}
 use Rattle.sys_exec.specs.declared.effect.Refusal.TheVariants as refusal
@@ -38,7 +38,7 @@ use Rattle.machine_model.specs.State.{Setting, State, space_at_start}
 use Rattle.machine_model.specs.Rules.{stands_well, is_open, may_leave}
 use Rattle.machine_model.specs.Instruction.{fetched, instructed, with_accumulator}
 use Rattle.machine_model.specs.Step as step
-use Rattle.machine_model.specs.Step.{Completed, Report, Result, Went, Halts, begun, begins_next, concluded, after_read, after_write, out_item, code_of, after_delivery, after_effect, after_software, after_instruction, by_op, by_decoded, after_refusal, after_fetch, fetches_next, worked, interrupt_of, interrupted, by_interrupt, unheld, stepped}
+use Rattle.machine_model.specs.Step.{Completed, Result, Went, Halts, begun, begins_next, concluded, after_read, after_write, out_item, code_of, after_delivery, after_effect, after_software, after_instruction, by_op, by_decoded, after_refusal, after_fetch, fetches_next, worked, interrupt_of, interrupted, by_interrupt, unheld}
 use Rattle.machine_model.specs.Able.{IsAble, StepsKeepAble}
 use Rattle.machine_model.proofs.Yielding.{Ends, Yields, any_yields, gives_yields}
 use Rattle.sys_exec.specs.Operand.{past}
@@ -186,5 +186,5 @@ unheld_able b h = record { level = h.level; code = h.code; stack = h.stack; user
 pub each_keeps : InsensitiveStay → StepsKeepAble
 each_keeps stay m b mode able report after is =
     subst LeavesAble is
-    (of_interrupt m (unheld b) 0x100 (text_pages m.image) (record { front = 0; front_len = 0; back = 0; back_len = 0 }) mode stay (unheld_able b able)
+    (of_interrupt m (unheld b) 0x100 (text_pages m.image) no_own mode stay (unheld_able b able)
     (interrupt_of b.cpu b.board) (space_at_start m.mode m.frames b.cpu b.ram b.set))

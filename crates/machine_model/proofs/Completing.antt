@@ -1,7 +1,7 @@
 -- What a step completes, and what of it counts.
-use Rattle.std.proofs.Common.{◌≡◌, ℕ, ◌+◌, ◌*◌, ◌/◌, ◌%◌, ◌==◌, nat_le, Bool, true, false, cond, ◌&&◌, refl, sym, ap, subst, ◌∙◌, List, [], ◌∷◌, Option, Some, None, Ok, Err, arith}
-use Rattle.std.proofs.lemmas.Bool.Decides.{nat_tests}
+use Rattle.std.proofs.Common.{◌≡◌, ℕ, ◌+◌, ◌*◌, ◌/◌, ◌%◌, ◌==◌, Bool, true, false, cond, refl, sym, ap, subst, List, [], ◌∷◌, Option, Some, None, Ok, Err}
 use Rattle.std.specs.Option.{ForSome}
+use Rattle.std.proofs.lemmas.Bool.{and_parts, eqb-true, both_ways}
 use Rattle.ia32_types.specs.declared.stop.Stop.TheVariants as stops
 use Rattle.ia32_types.specs.declared.stop.Did.{Did}
 use Rattle.ia32_types.specs.declared.stop.Did.TheVariants as did
@@ -45,6 +45,7 @@ use Rattle.machine_model.specs.Instruction.{fetched, instructed, is_plain, done_
 use Rattle.machine_model.specs.Step.{Completed, Result, Went, Halts, entered, begun, begins_next, concluded, after_read, after_write, out_item, code_of, after_delivery, raised, after_effect, after_software, after_instruction, by_op, by_decoded, after_refusal, after_fetch, fetches_next, worked, interrupt_of, interrupted, by_interrupt, unheld}
 use Rattle.sys_exec.specs.Operand.{past}
 use Rattle.machine_model.specs.Alone.{IsDone, is_user, IsUser, is_barred, StepsAreDone}
+use Rattle.machine_model.proofs.AbleRows.{over, above}
 
 -- a step that goes completed what has P, or nothing
 abbrev Completes : (Completed → Type 0) → Result → Type 0
@@ -62,9 +63,6 @@ in_none P x e = absurd (let f : None ≡ Some x = e in cc)
 in_some : (P : Completed → Type 0) (c : Completed) → P c → ForSome (Some c) P
 in_some P c p x e = let h : c ≡ x = cc in subst P h p
 
-pub clash : (b : Bool) → b ≡ true → b ≡ false → ⊥
-clash b e f = cc
-
 chosen : (P : Completed → Type 0) (h : Bool) (x y : Result) → (h ≡ true → Completes P x) → (h ≡ false → Completes P y) → Completes P (cond h x y)
 chosen P true x y p q = p refl
 chosen P false x y p q = q refl
@@ -80,26 +78,12 @@ never_done X (Err e) h = tt
 -- ---- what is barred to a user
 
 first_refused : (e : Refusal) (test : Bool) (f : Unit {0} → Work Refusal SysOutcome) (s : Space) → test ≡ false → DoneIf ⊥ ((unless e test >>= f) s)
-first_refused e true f s h = absurd (clash true refl h)
+first_refused e true f s h = absurd (both_ways true h refl)
 first_refused e false f s h = tt
-
-pub both : (a b : Bool) → (a && b) ≡ true → (a ≡ true) × (b ≡ true)
-both true true e = (refl, refl)
-both true false e = absurd (let f : false ≡ true = e in cc)
-both false b e = absurd (let f : false ≡ true = e in cc)
-
-eq_told : (m n : ℕ) → (m == n) ≡ true → m ≡ n
-eq_told m n e = grind (arith, nat_tests)
-
-above : (level : ℕ) → level ≡ 3 → (level == 0) ≡ false
-above level u = ap (λ x. x == 0) u
-
-over : (level most : ℕ) → level ≡ 3 → most ≡ 0 → nat_le level most ≡ false
-over level most u z = ap (λ x. nat_le x most) u ∙ ap (λ x. nat_le 3 x) z
 
 module _ (cpu : Cpu) (user : cpu.cpl ≡ 3) (open_flags : is_open cpu ≡ true) where
   not_within : is_within cpu ≡ false
-  not_within = over cpu.cpl (cpu.regs.flags.bits / 4096 % 4) user (eq_told (cpu.regs.flags.bits / 4096 % 4) 0 (both (has cpu.regs.flags.bits 512) (cpu.regs.flags.bits / 4096 % 4 == 0) open_flags).1)
+  not_within = over cpu.cpl (cpu.regs.flags.bits / 4096 % 4) user (eqb-true (cpu.regs.flags.bits / 4096 % 4) 0 (and_parts (has cpu.regs.flags.bits 512) (cpu.regs.flags.bits / 4096 % 4 == 0) open_flags).1)
 
   barred_read : (a b : Operand) (len : ℕ) (s : Space) → DoneIf ⊥ (read_control a b len cpu s)
   unfolding read_control
@@ -187,9 +171,9 @@ module _ (m : Setting) (b : State) (P : Completed → Type 0) where
   at_level : (X : Type 0) (o : Op) (insn : Insn) (len : ℕ) (s : Space) → insn.op ≡ o → is_barred o ≡ true → ((IsUser b.cpu → is_barred o ≡ false) → X) → (test : Bool) → is_user b.cpu ≡ test
       → DoneIf X (instructed insn len b.cpu s)
   at_level X o insn len s e bars h true user =
-      let u = both (b.cpu.cpl == 3) (is_open b.cpu) user in
-      never_done X (instructed insn len b.cpu s) (subst (DoneIf ⊥) (sym (instructed_by o insn len b.cpu s e)) (barred b.cpu (eq_told b.cpu.cpl 3 u.0) u.1 o insn len s bars))
-  at_level X o insn len s e bars h false other = done_anyhow X (instructed insn len b.cpu s) (h (λ u. absurd (clash (is_user b.cpu) u other)))
+      let u = and_parts (b.cpu.cpl == 3) (is_open b.cpu) user in
+      never_done X (instructed insn len b.cpu s) (subst (DoneIf ⊥) (sym (instructed_by o insn len b.cpu s e)) (barred b.cpu (eqb-true b.cpu.cpl 3 u.0) u.1 o insn len s bars))
+  at_level X o insn len s e bars h false other = done_anyhow X (instructed insn len b.cpu s) (h (λ u. absurd (both_ways (is_user b.cpu) other u)))
 
   by_bar : (X : Type 0) (o : Op) (insn : Insn) (len : ℕ) (s : Space) → insn.op ≡ o → ((IsUser b.cpu → is_barred o ≡ false) → X) → (test : Bool) → is_barred o ≡ test → DoneIf X (instructed insn len b.cpu s)
   by_bar X o insn len s e h true bars = at_level X o insn len s e bars h (is_user b.cpu) refl

@@ -1,6 +1,7 @@
 -- Steps that count nothing, and those that count.
 use Rattle.std.proofs.Common.{◌≡◌, ◌⊎◌, inl, inr, ℕ, ◌==◌, Bool, true, false, cond, not, ◌&&◌, refl, sym, ap, ◌∙◌, List, [], ◌∷◌, Option, Some, None, Ok, Err, is_some}
 use Rattle.std.specs.Option.{ForSome}
+use Rattle.std.proofs.lemmas.Bool.{and_parts, both_ways}
 use Rattle.ia32_types.specs.declared.insn.Insn.{Insn}
 use Rattle.ia32_types.specs.declared.insn.Op.{Op}
 use Rattle.ia32_types.specs.declared.insn.Op.TheVariants as op
@@ -14,7 +15,7 @@ use Rattle.machine_model.specs.Step.{Completed, begun, interrupt_of}
 use Rattle.image_check.specs.Places.{is_site_at}
 use Rattle.machine_model.specs.Counts.{is_software, needs_descriptor, is_direct, direct_in}
 use Rattle.machine_model.specs.Alone.{Reads, is_barred, is_native, WaitsCountNothing, SitesCountNothing, OthersCountNothing, NativesAreDirect}
-use Rattle.machine_model.proofs.Completing.{each_done, both, clash}
+use Rattle.machine_model.proofs.Completing.{each_done}
 
 -- nothing where each that could be completed leads nowhere
 never : (o : Option Completed) → ForSome o (λ c. ⊥) → o ≡ None
@@ -27,7 +28,7 @@ not_some o e f = let g : is_some o ≡ false = ap is_some e in cc
 pub waits : WaitsCountNothing
 waits m b report after h e = never report.completed (λ c is.
     let d = each_done m b report after e c is in
-    elim h [ inl halted ↦ clash b.cpu.halted halted d.awake | inr takes ↦ not_some (interrupt_of b.cpu b.board) d.takes_none takes ])
+    elim h [ inl halted ↦ both_ways b.cpu.halted d.awake halted | inr takes ↦ not_some (interrupt_of b.cpu b.board) d.takes_none takes ])
 
 -- nothing is direct where none that could be completed is
 indirect : (sites : List Site) (o : Option Completed) → ForSome o (λ c. is_direct sites c ≡ false) → direct_in sites o ≡ []
@@ -76,18 +77,18 @@ soft_or_needs op.LoadSeg n k = refl
 soft_or_needs op.PopSeg n k = refl
 soft_or_needs op.FarJump n k = refl
 soft_or_needs op.Iret n k = refl
-soft_or_needs op.Cli n k = absurd (clash true refl k)
-soft_or_needs op.Sti n k = absurd (clash true refl k)
-soft_or_needs op.Hlt n k = absurd (clash true refl k)
-soft_or_needs op.ReadControl n k = absurd (clash true refl k)
-soft_or_needs op.WriteControl n k = absurd (clash true refl k)
-soft_or_needs op.LoadGdt n k = absurd (clash true refl k)
-soft_or_needs op.LoadIdt n k = absurd (clash true refl k)
-soft_or_needs op.LoadTask n k = absurd (clash true refl k)
-soft_or_needs op.DropPage n k = absurd (clash true refl k)
-soft_or_needs op.PortIn n k = absurd (clash true refl k)
-soft_or_needs op.PortOut n k = absurd (clash true refl k)
-soft_or_needs o n k = absurd (clash true refl n)
+soft_or_needs op.Cli n k = absurd (both_ways true k refl)
+soft_or_needs op.Sti n k = absurd (both_ways true k refl)
+soft_or_needs op.Hlt n k = absurd (both_ways true k refl)
+soft_or_needs op.ReadControl n k = absurd (both_ways true k refl)
+soft_or_needs op.WriteControl n k = absurd (both_ways true k refl)
+soft_or_needs op.LoadGdt n k = absurd (both_ways true k refl)
+soft_or_needs op.LoadIdt n k = absurd (both_ways true k refl)
+soft_or_needs op.LoadTask n k = absurd (both_ways true k refl)
+soft_or_needs op.DropPage n k = absurd (both_ways true k refl)
+soft_or_needs op.PortIn n k = absurd (both_ways true k refl)
+soft_or_needs op.PortOut n k = absurd (both_ways true k refl)
+soft_or_needs o n k = absurd (both_ways true n refl)
 
 by_soft : (sites : List Site) (b : State) (c : Completed) → c ≡ begun b c.insn → is_software c.insn.op ≡ true → is_direct sites c ≡ false
 by_soft sites b c same soft = ap (λ (x : Bool). not x && cond c.user (not (needs_descriptor c.insn.op)) (not (is_site_at sites c.eip))) soft
@@ -104,7 +105,7 @@ others m b report after sites insn reads native h e = indirect sites report.comp
     let one : insn ≡ c.insn = one_read m b insn c.insn reads d.reads in
     let now : is_native (b.cpu.cpl == 3) c.insn.op ≡ false = ap (λ (x : Insn). is_native (b.cpu.cpl == 3) x.op) (sym one) ∙ native in
     elim h [
-      | inl user ↦ by_user sites b c d.same (both (b.cpu.cpl == 3) _ user).0 now (d.lets user)
+      | inl user ↦ by_user sites b c d.same (and_parts (b.cpu.cpl == 3) _ user).0 now (d.lets user)
       | inr soft ↦ by_soft sites b c d.same (ap (λ (x : Insn). is_software x.op) (sym one) ∙ soft)
     ])
 
@@ -112,22 +113,22 @@ native_test : (user inside : Bool) (o : Op) → is_native user o ≡ true → (u
 native_test user inside o n h = by_place user inside o n h
   where
     plain : (o : Op) → is_native true o ≡ true → (not (is_software o) && not (needs_descriptor o)) ≡ true
-    plain op.Int n = absurd (clash false n refl)
-    plain op.Int3 n = absurd (clash false n refl)
-    plain op.LoadSeg n = absurd (clash false n refl)
-    plain op.PopSeg n = absurd (clash false n refl)
-    plain op.FarJump n = absurd (clash false n refl)
-    plain op.Iret n = absurd (clash false n refl)
+    plain op.Int n = absurd (both_ways false refl n)
+    plain op.Int3 n = absurd (both_ways false refl n)
+    plain op.LoadSeg n = absurd (both_ways false refl n)
+    plain op.PopSeg n = absurd (both_ways false refl n)
+    plain op.FarJump n = absurd (both_ways false refl n)
+    plain op.Iret n = absurd (both_ways false refl n)
     plain o n = refl
 
     hard : (o : Op) → is_native false o ≡ true → not (is_software o) ≡ true
-    hard op.Int n = absurd (clash false n refl)
-    hard op.Int3 n = absurd (clash false n refl)
+    hard op.Int n = absurd (both_ways false refl n)
+    hard op.Int3 n = absurd (both_ways false refl n)
     hard o n = refl
 
     by_place : (user inside : Bool) (o : Op) → is_native user o ≡ true → (user ≡ true) ⊎ (inside ≡ false) → (not (is_software o) && cond user (not (needs_descriptor o)) (not inside)) ≡ true
     by_place true inside o n h = plain o n
-    by_place false true o n h = absurd (elim h [ inl u ↦ clash false u refl | inr i ↦ clash true refl i ])
+    by_place false true o n h = absurd (elim h [ inl u ↦ both_ways false refl u | inr i ↦ both_ways true i refl ])
     by_place false false o n h = ap (λ x. x && true) (hard o n)
 
 pub natives : NativesAreDirect

@@ -1,25 +1,19 @@
 -- From every state a run can go on to its end.
-use Rattle.std.proofs.Common.{◌≡◌, ℕ, zero, suc, ◌+◌, ◌-◌, [], ◌∷◌, refl, sym, ◌∙◌, arith, Some, None}
+use Rattle.std.proofs.Common.{◌≡◌, ℕ, zero, suc, ◌+◌, ◌-◌, [], ◌∷◌, refl, sym, ◌∙◌, arith}
 use Rattle.std.specs.FinMap.{empty, get-empty}
 use Rattle.std.specs.Ordering.{nat_cmp}
-use Rattle.paging.specs.declared.entry.Entry.{Entry}
+use Rattle.std.proofs.lemmas.Option.{none-some}
 use Rattle.run_trace.specs.declared.items.End.TheVariants.{Bound, Stopped}
 use Rattle.machine_model.specs.State.{Setting, State, Loosened}
 use Rattle.machine_model.specs.Step.{Report, Result, Went, Halts, step_of}
 use Rattle.machine_model.specs.Run.{Steps}
 use Rattle.machine_model.specs.Ends.{StepsTo, HasEnd, EachRunHasAnEnd}
 use Rattle.machine_model.proofs.Counting.{each_counts}
-
-none_some : (e : Entry) → None ≡ Some e → ⊥
-none_some e h = cc
+use Rattle.machine_model.proofs.Runs.{no_steps}
 
 -- nothing is kept
 empty_allowed : (s : Setting) (b : State) → Loosened s b empty
-empty_allowed s b = record { each = λ page e is. absurd (none_some e (sym (get-empty nat_cmp page) ∙ is)) }
-
-no_steps : (s : Setting) (b : State) → Steps s b [] [] b
-unfolding Steps
-no_steps s b = (refl, refl)
+empty_allowed s b = record { each = λ page e is. absurd (none-some e (sym (get-empty nat_cmp page) ∙ is)) }
 
 one_before : (s : Setting) (n : ℕ) (b mid : State) (now : Report) → step_of s b empty ≡ Went now mid → HasEnd s n mid → HasEnd s n b
 unfolding Steps

@@ -3,6 +3,7 @@ use Rattle.std.proofs.Common.{◌≡◌, ℕ, ◌+◌, ◌*◌, ◌/◌, ◌%◌
 use Rattle.std.proofs.lemmas.Bool.Decides.{nat_tests}
 use Rattle.std.proofs.lemmas.List.{get_or-set_other, get_or-set_same}
 use Rattle.std.proofs.lemmas.Nat.{and_block, and_or_apart, and_mask}
+use Rattle.std.proofs.lemmas.Bool.{or_parts, not-false, eqb-true}
 use Rattle.ia32_types.specs.Bits.{bit}
 use Rattle.ia32_types.specs.Flags.{interrupt_at, flag_put}
 use Rattle.ia32_types.proofs.FlagBits.{set_is, put_apart}
@@ -20,7 +21,7 @@ use Rattle.sys_exec.specs.Segment.{protection, form_stop, absent, loading, ends_
 use Rattle.sys_exec.specs.Iret.{is_within, with_interrupt, new_flags}
 use Rattle.machine_model.specs.Fit.{IsLevel, IsSegment, IsOfLevel, AreFlags, Fit}
 use Rattle.machine_model.proofs.Yielding.{Yields, then_yields, any_yields, gives_yields, stops_yields, by_yields, keeps_yields}
-use Rattle.machine_model.proofs.AbleRows.{none, eq_told, neither, was, level_of}
+use Rattle.machine_model.proofs.AbleRows.{none, level_of}
 
 pub record IsWhole (cpu : Cpu) : Type 0 where
   pub fit : Fit cpu
@@ -130,7 +131,7 @@ kept_fits true h s = record { null = refl; level = inl refl }
 kept_fits false h s = s
 
 equal_levels : (m n : ℕ) → not (m == n) ≡ false → m ≡ n
-equal_levels m n e = eq_told m n (was _ e)
+equal_levels m n e = eqb-true m n (not-false _ e)
 
 module _ (cpu : Cpu) (whole : IsWhole cpu) where
   pub fit : Fit cpu
@@ -172,7 +173,7 @@ module _ (cpu : Cpu) (whole : IsWhole cpu) where
       tested : (cpl sel : ℕ) (d : Descriptor) → Yields (λ done. dpl_of d ≡ cpl) (stack_tests cpl sel d)
       tested cpl sel d = any_yields (ends_if (protection sel) (is_of_system d)) (λ one. any_yields (ends_if form_stop (is_foreign_form d)) (λ two.
           then_yields (stops_yields (protection sel) (not (sel % 4 == cpl) || (is_code d || not (dpl_of d == cpl)))) (λ three t.
-          keeps_yields (ends_if (absent 12 sel) (not (is_present d))) (equal_levels (dpl_of d) cpl (neither (is_code d) _ (neither (not (sel % 4 == cpl)) _ t).1).1))))
+          keeps_yields (ends_if (absent 12 sel) (not (is_present d))) (equal_levels (dpl_of d) cpl (or_parts (is_code d) _ (or_parts (not (sel % 4 == cpl)) _ t).1).1))))
 
   pub found_jump : (sel : ℕ) → Yields (λ (l : Loading). IsFound l.hidden cpu.cpl) (find_jump cpu sel)
   unfolding find_jump
@@ -184,7 +185,7 @@ module _ (cpu : Cpu) (whole : IsWhole cpu) where
       tested : (sel : ℕ) (d : Descriptor) → Yields (λ done. dpl_of d ≡ cpu.cpl) (jump_tests cpu.cpl sel d)
       tested sel d = any_yields (ends_if form_stop (is_of_system d || is_foreign_form d)) (λ one.
           then_yields (stops_yields (protection sel) (is_data d || (nat_lt cpu.cpl (sel % 4) || not (dpl_of d == cpu.cpl)))) (λ three t.
-          keeps_yields (ends_if (absent 11 sel) (not (is_present d))) (equal_levels (dpl_of d) cpu.cpl (neither (nat_lt cpu.cpl (sel % 4)) _ (neither (is_data d) _ t).1).1)))
+          keeps_yields (ends_if (absent 11 sel) (not (is_present d))) (equal_levels (dpl_of d) cpu.cpl (or_parts (nat_lt cpu.cpl (sel % 4)) _ (or_parts (is_data d) _ t).1).1)))
 
   -- the code that an IRET goes to is of the level in its selector, which isn't an inner one
   pub record IsBack (h : Hidden) (sel : ℕ) : Type 0 where
@@ -205,7 +206,7 @@ module _ (cpu : Cpu) (whole : IsWhole cpu) where
       tested : (sel : ℕ) (d : Descriptor) → Yields (λ done. (dpl_of d ≡ sel % 4) × (nat_lt (sel % 4) cpu.cpl ≡ false)) (return_tests cpu.cpl sel d)
       tested sel d = any_yields (ends_if (protection sel) (is_of_system d)) (λ one. any_yields (ends_if form_stop (is_foreign_form d)) (λ two.
           then_yields (stops_yields (protection sel) (is_data d || (nat_lt (sel % 4) cpu.cpl || not (dpl_of d == sel % 4)))) (λ three t.
-          let both_are = neither (nat_lt (sel % 4) cpu.cpl) _ (neither (is_data d) _ t).1 in
+          let both_are = or_parts (nat_lt (sel % 4) cpu.cpl) _ (or_parts (is_data d) _ t).1 in
           keeps_yields (ends_if (absent 11 sel) (not (is_present d))) (equal_levels (dpl_of d) (sel % 4) both_are.1, both_are.0))))
 
   found_data : (sel : ℕ) → nat_lt sel 4 ≡ false → Yields (λ (l : Loading). IsSegment l.hidden) (find_data cpu sel)

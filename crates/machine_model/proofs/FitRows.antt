@@ -3,6 +3,7 @@ use Rattle.std.proofs.Common.{◌≡◌, ℕ, ◌%◌, ◌==◌, Bool, true, fal
 use Rattle.std.proofs.lemmas.Bool.Decides.{nat_tests}
 use Rattle.std.proofs.lemmas.List.{length-set}
 use Rattle.std.proofs.lemmas.List.Elements.{All-set}
+use Rattle.std.proofs.lemmas.Bool.{and_parts, eqb-true}
 use Rattle.ia32_types.specs.Flags.{interrupt_at, flag_put}
 use Rattle.ia32_types.specs.declared.flags.Flags.{Flags}
 use Rattle.ia32_types.specs.declared.insn.Insn.{Insn}
@@ -43,7 +44,7 @@ use Rattle.sys_exec.specs.Sys.{row, sys_work}
 use Rattle.machine_model.specs.Fit.{IsLevel, IsSegment, AreFlags, AreControls, Fit}
 use Rattle.machine_model.specs.Instruction.{is_plain, done_plainly, instructed}
 use Rattle.machine_model.proofs.Yielding.{Ends, Yields, then_yields, any_yields, gives_yields, unless_yields, if_yields, by_yields}
-use Rattle.machine_model.proofs.AbleRows.{none, eq_told, both, flags_tested}
+use Rattle.machine_model.proofs.AbleRows.{none, flags_tested}
 use Rattle.machine_model.proofs.FitParts.{IsWhole, set_flags, set_interrupt, popped_set, control_on, control_others, kept_code, put_there, of_level, kept_fits, flagged, same, IsBack, found_stack, found_jump, found_return, data_loaded}
 
 module _ (stay : InsensitiveStay) (cpu : Cpu) (whole : IsWhole cpu) where
@@ -79,7 +80,7 @@ module _ (stay : InsensitiveStay) (cpu : Cpu) (whole : IsWhole cpu) where
       stack = record { there = fit.stack.there; level = fit.stack.level };
       flags = fit.flags;
       controls = record { on = fit.controls.on; others = fit.controls.others; directory = fit.controls.directory; extensions = fit.controls.extensions };
-      halted = λ e. eq_told cpu.cpl 0 t;
+      halted = λ e. eqb-true cpu.cpl 0 t;
     };
     four = whole.four;
   }))
@@ -167,18 +168,18 @@ module _ (stay : InsensitiveStay) (cpu : Cpu) (whole : IsWhole cpu) where
   control_4 v t = one_of (v == 0) refl t
     where
       one_of : (b : Bool) → (v == 0) ≡ b → (b || v == 0x10) ≡ true → (v ≡ 0) ⊎ (v ≡ 16)
-      one_of true e u = inl (eq_told v 0 e)
-      one_of false e u = inr (eq_told v 16 u)
+      one_of true e u = inl (eqb-true v 0 e)
+      one_of false e u = inr (eqb-true v 16 u)
 
   of_load_control : (len number v : ℕ) → Yields (λ (d : SysOutcome). IsWhole d.cpu) (load_control (past cpu len) number v)
   unfolding load_control
   of_load_control len number v =
       let after = past cpu len in
       if_yields (number == 0) (then_yields (unless_yields control_stop (bit_and v control_0_needed == control_0_needed && bit_and v control_0_refused == 0)) (λ done t.
-      let given = both (bit_and v control_0_needed == control_0_needed) _ t in
+      let given = and_parts (bit_and v control_0_needed == control_0_needed) _ t in
       goes (record after { cr0 = bit_or v 0x10 }) (controlled (record after { cr0 = bit_or v 0x10 }) (record {
-        on = control_on v (eq_told (bit_and v control_0_needed) control_0_needed given.0);
-        others = control_others v (eq_told (bit_and v control_0_refused) 0 given.1);
+        on = control_on v (eqb-true (bit_and v control_0_needed) control_0_needed given.0);
+        others = control_others v (eqb-true (bit_and v control_0_refused) 0 given.1);
         directory = fit.controls.directory;
         extensions = fit.controls.extensions;
       }) refl refl refl refl)))
@@ -187,7 +188,7 @@ module _ (stay : InsensitiveStay) (cpu : Cpu) (whole : IsWhole cpu) where
       (controlled (record after { cr3 = v }) (record {
         on = fit.controls.on;
         others = fit.controls.others;
-        directory = eq_told (bit_and v control_3_refused) 0 t;
+        directory = eqb-true (bit_and v control_3_refused) 0 t;
         extensions = fit.controls.extensions;
       }) refl refl refl refl)))
       (if_yields (number == 4) (then_yields (unless_yields control_stop (v == 0 || v == 0x10)) (λ done t. gives_yields {x = record { cpu = record after { cr4 = v }; effect = cond (changes_pse after v) effects.DropAll effects.Next }}

@@ -4,6 +4,7 @@ use Rattle.std.proofs.lemmas.Bool.Decides.{nat_tests}
 use Rattle.std.proofs.lemmas.List.{length-set}
 use Rattle.std.proofs.lemmas.List.Elements.{All-set}
 use Rattle.std.proofs.lemmas.Nat.{and_assoc}
+use Rattle.std.proofs.lemmas.Bool.{and_parts}
 use Rattle.ia32_types.specs.declared.stop.Stop.TheVariants as stops
 use Rattle.ia32_types.specs.declared.stop.Did.{Did}
 use Rattle.ia32_types.specs.declared.stop.Did.TheVariants as did
@@ -47,7 +48,7 @@ use Rattle.machine_model.specs.Step as step
 use Rattle.machine_model.specs.Step.{Completed, Result, Went, Halts, begun, begins_next, concluded, after_read, after_write, out_item, code_of, after_delivery, after_effect, after_software, after_instruction, by_op, by_decoded, after_refusal, after_fetch, fetches_next, worked, interrupt_of, interrupted, by_interrupt, unheld}
 use Rattle.machine_model.specs.StaysFit.{StepsKeepFit}
 use Rattle.machine_model.proofs.Yielding.{Ends, Yields, OfValue, then_yields, any_yields, gives_yields, unless_yields, keeps_yields, by_yields}
-use Rattle.machine_model.proofs.AbleRows.{none, both}
+use Rattle.machine_model.proofs.AbleRows.{none}
 use Rattle.machine_model.proofs.FitParts.{IsWhole, of_level, put_there, kept_code, not_below, same}
 use Rattle.sys_exec.specs.Operand.{past}
 use Rattle.machine_model.proofs.FitRows.{left}
@@ -64,7 +65,7 @@ chosen false x y h k = k refl
 -- ---- deliveries
 
 usable : (limit sel : ℕ) → is_usable limit sel ≡ true → nat_lt sel 4 ≡ false
-usable limit sel e = let far : nat_le 4 sel ≡ true = (both (nat_le 4 sel) _ e).0 in grind (arith, nat_tests)
+usable limit sel e = let far : nat_le 4 sel ≡ true = (and_parts (nat_le 4 sel) _ e).0 in grind (arith, nat_tests)
 
 code_usable : (cpu : Cpu) (sel : ℕ) → Yields (λ done. nat_lt sel 4 ≡ false) (code_marking cpu sel)
 unfolding code_marking
@@ -73,7 +74,7 @@ code_usable cpu sel = then_yields (unless_yields failed (is_usable cpu.gdt.limit
 data_usable : (cpu : Cpu) (sel : ℕ) → Yields (λ done. nat_lt sel 4 ≡ false) (data_marking cpu sel)
 unfolding data_marking
 data_usable cpu sel =
-    then_yields (unless_yields failed (is_usable cpu.gdt.limit sel && sel % 4 == 0)) (λ done t. keeps_yields _ (usable cpu.gdt.limit sel (both (is_usable cpu.gdt.limit sel) (sel % 4 == 0) t).0))
+    then_yields (unless_yields failed (is_usable cpu.gdt.limit sel && sel % 4 == 0)) (λ done t. keeps_yields _ (usable cpu.gdt.limit sel (and_parts (is_usable cpu.gdt.limit sel) (sel % 4 == 0) t).0))
 
 inner_usable : (cpu : Cpu) → OfValue (inner_stack cpu) (λ stack. nat_lt stack.sel 4 ≡ false)
 unfolding inner_stack

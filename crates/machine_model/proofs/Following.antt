@@ -7,6 +7,7 @@ use Rattle.std.specs.FinMap.{get, insert, remove, get-insert, get-remove}
 use Rattle.std.specs.Cmp.{unsigned_tied}
 use Rattle.std.proofs.lemmas.Cmp.{nat_cmp_total}
 use Rattle.std.proofs.lemmas.List.Elements.{Contains-append_left, Contains-append_right, Contains-push}
+use Rattle.std.proofs.lemmas.Bool.{eqb-true, eqb-false, both_ways}
 use Rattle.guest_ram.specs.Bytes as bytes
 use Rattle.guest_ram.specs.Bytes.{word32}
 use Rattle.guest_ram.proofs.Bytes.{word32-is}
@@ -25,7 +26,7 @@ use Rattle.paging.specs.Fresh.{fresh, has, is_large, dir_place, table_in, tables
 use Rattle.paging.specs.Space.{Mode, Span, Earlier, Space, place, written, saved, frames_of}
 use Rattle.paging.specs.Uses.{tables_of, Decision, is_barred, window_stop, walks_text, marks_own, dirtied, by_walk, decided, settled, usable, by_entry, page_uses, go_on, and_then, unready, made_ready, second_page, by_pages, by_window, uses, fetches}
 use Rattle.machine_model.specs.Reloading.{MemoryFollows, IsFoundBy, HoldsOf, AreApart, Follows, FollowsItself, FollowsOn, FoundOver, AllFoundOver, UsesFollow, FetchesFollow}
-use Rattle.machine_model.proofs.MoreFlags.{eq_told, not_eq, flags_by, long_with, byte_other, memory_same, memory_on, flagged_follows, flagged_other}
+use Rattle.machine_model.proofs.MoreFlags.{flags_by, long_with, byte_other, memory_same, memory_on, flagged_follows, flagged_other}
 use Rattle.machine_model.proofs.FoundStill.{found_still, found_fresh, fresh_even, words_noted}
 
 -- ---- membership as a test
@@ -34,11 +35,11 @@ among : ℕ → List ℕ → Bool
 among f [] = false
 among f (x ∷ xs) = cond (x == f) true (among f xs)
 
-next_in : (x f : ℕ) (xs : List ℕ) → Contains xs f → Contains (x ∷ xs) f
+pub next_in : (x f : ℕ) (xs : List ℕ) → Contains xs f → Contains (x ∷ xs) f
 next_in x f xs h = Contains-append_right (x ∷ []) xs f h
 
 told_first : (x f : ℕ) (xs : List ℕ) (t : Bool) → (x == f) ≡ t → (among f xs ≡ true → Contains xs f) → cond t true (among f xs) ≡ true → Contains (x ∷ xs) f
-told_first x f xs true is rest g = (0, omega arith, eq_told x f is)
+told_first x f xs true is rest g = (0, omega arith, eqb-true x f is)
 told_first x f xs false is rest g = next_in x f xs (rest g)
 
 among_told : (f : ℕ) (xs : List ℕ) → among f xs ≡ true → Contains xs f
@@ -52,7 +53,7 @@ skipped false rest e = e
 
 is_first : (x f : ℕ) (rest t : Bool) → (x == f) ≡ t → x ≡ f → cond t true rest ≡ true
 is_first x f rest true is e = refl
-is_first x f rest false is e = absurd (not_eq x f is e)
+is_first x f rest false is e = absurd (eqb-false x f is e)
 
 among_is : (f : ℕ) (xs : List ℕ) → Contains xs f → among f xs ≡ true
 unfolding among
@@ -129,13 +130,10 @@ follows_on s t u h k = record {
       ];
 }
 
-not_both : (b : Bool) → b ≡ true → b ≡ false → ⊥
-not_both b e f = cc
-
 pub found_over : FoundOver
 found_over s t cr3 pse tables page e k room none small found =
     found_still s.ram t.ram s.frames cr3 pse tables page e room small
-    (λ at even within held. k.memory.words at even within (λ c. not_both (tables (at / 4096)) held (none (at / 4096) c))) found
+    (λ at even within held. k.memory.words at even within (λ c. both_ways (tables (at / 4096)) (none (at / 4096) c) held)) found
 
 -- the same, in the words of the later memory
 found_later : (s t : Space) (tables : ℕ → Bool) (page : ℕ) (e : Entry) → Follows s t → IsFoundBy t.ram s.frames s.cr3 s.pse tables page e → IsFoundBy t.ram t.frames t.cr3 t.pse tables page e
@@ -146,7 +144,7 @@ found_later s t tables page e k found =
 
 pub all_found_over : AllFoundOver
 all_found_over s t tables k room none holds all page small e is =
-    elim (k.each room (λ frame c d. not_both (tables frame) (holds frame c) (none frame d)) tables holds page small e is) [
+    elim (k.each room (λ frame c d. both_ways (tables frame) (none frame d) (holds frame c)) tables holds page small e is) [
       | inl old ↦ found_later s t tables page e k (found_over s t s.cr3 s.pse tables page e k room none small (all page small e old))
       | inr found ↦ found
     ]
@@ -169,7 +167,7 @@ aside s mode pages visited ready earlier more = record {
 
 -- ---- one page
 
-not_absent : (c : Bool) (o : Option Entry) (e : Entry) → cond c None o ≡ Some e → o ≡ Some e
+pub not_absent : (c : Bool) (o : Option Entry) (e : Entry) → cond c None o ≡ Some e → o ≡ Some e
 not_absent true o e is = absurd (let f : ◌≡◌ {A = Option Entry} None (Some e) = is in cc)
 not_absent false o e is = is
 
@@ -225,7 +223,7 @@ one_or_other : (q page : ℕ) (new : Entry) (o : Option Entry) (e : Entry) → c
 one_or_other q page new o e = by_test (q == page) refl
   where
     by_test : (t : Bool) → (q == page) ≡ t → cond t (Some new) o ≡ Some e → ((q ≡ page) × (new ≡ e)) ⊎ (o ≡ Some e)
-    by_test true is h = inl (eq_told q page is, (let g : new ≡ e = cc in g))
+    by_test true is h = inl (eqb-true q page is, (let g : new ≡ e = cc in g))
     by_test false is h = inr h
 
 -- the entry of a fresh walk joins it
@@ -287,13 +285,13 @@ decided_follows s fetch page at access gone =
     (walk_decides s fetch page at access (fresh s.ram s.frames s.cr3 s.pse page) gone refl)
 
 -- either way memory is as it is
-both_ways : (s u : Space) (test : Bool) (a b : Touch) → Follows s u → Follows s (cond {A = Touch × Space} test (a, u) (b, u)).1
-both_ways s u true a b h = h
-both_ways s u false a b h = h
+either_follows : (s u : Space) (test : Bool) (a b : Touch) → Follows s u → Follows s (cond {A = Touch × Space} test (a, u) (b, u)).1
+either_follows s u true a b h = h
+either_follows s u false a b h = h
 
 entry_follows : (s : Space) (fetch : Bool) (page at : ℕ) (access : Access) (o : Option Entry) → Contains s.visited page → Follows s (by_entry s fetch page at access o).1
 entry_follows s fetch page at access None gone = decided_follows s fetch page at access gone
-entry_follows s fetch page at access (Some entry) gone = both_ways s s (is_barred s.mode fetch access.user page entry.frame) (Stop stops.TextMapped) Ready (same_follows s)
+entry_follows s fetch page at access (Some entry) gone = either_follows s s (is_barred s.mode fetch access.user page entry.frame) (Stop stops.TextMapped) Ready (same_follows s)
 
 page_follows : (s : Space) (fetch : Bool) (page at : ℕ) (access : Access) → Follows s (page_uses s fetch page at access).1
 unfolding page_uses

@@ -2,7 +2,7 @@
 use Rattle.std.proofs.Common.{◌≡◌, ℕ, ◌+◌, ◌*◌, ◌/◌, ◌%◌, ◌^◌, ◌<◌, ◌≤◌, List, [], ◌∷◌, length, Bool, true, false, cond, ◌&&◌, ◌||◌, not, ◌==◌, refl, sym, ap, subst, ◌∙◌, ◌⊎◌, inl, inr, arith}
 use Rattle.std.specs.Prelude.{nat_le}
 use Rattle.std.specs.List.{Contains}
-use Rattle.std.proofs.lemmas.Bool.Decides.{nat_tests}
+use Rattle.std.proofs.lemmas.Bool.{leb-false, lt-leb, not-false}
 use Rattle.guest_ram.specs.Bytes.{word32}
 use Rattle.paging.specs.declared.entry.Entry.{Entry}
 use Rattle.paging.specs.declared.entry.Walk.{Walk}
@@ -32,16 +32,6 @@ chosen test x y e = ap (λ t. cond t x y) e
 
 passed_by : (test : Bool) (x y : Walk) → test ≡ false → cond test x y ≡ y
 passed_by test x y e = ap (λ t. cond t x y) e
-
-not_le : (m n : ℕ) → nat_le m n ≡ false → n < m
-not_le m n e = grind (arith, nat_tests)
-
-le_false : (m n : ℕ) → n < m → nat_le m n ≡ false
-le_false m n h = grind (arith, nat_tests)
-
-not_not : (b : Bool) → not b ≡ false → b ≡ true
-not_not true e = refl
-not_not false e = absurd (let f : true ≡ false = e in cc)
 
 -- ---- the parts of a walk that finds an entry
 
@@ -84,7 +74,7 @@ walk_parts ram frames cr3 pse page e d t h =
     let dir = dir_in ram cr3 page in
     let one = second_found (nat_le frames (cr3 / 4096)) Beyond (by_dir ram frames cr3 pse page dir) e d t refl h in
     let two = second_found (not (has dir 1)) Absent (cond (is_large pse dir) (by_large frames cr3 page dir) (by_table ram frames cr3 page dir)) e d t refl one.1 in
-    by_size (not_le frames (cr3 / 4096) one.0) (not_not (has dir 1) two.0) (is_large pse dir) refl two.1
+    by_size (leb-false frames (cr3 / 4096) one.0) (not-false (has dir 1) two.0) (is_large pse dir) refl two.1
   where
     of_table : cr3 / 4096 < frames → has (dir_in ram cr3 page) 1 ≡ true → is_large pse (dir_in ram cr3 page) ≡ false → by_table ram frames cr3 page (dir_in ram cr3 page) ≡ Found e d t → ByTable ram frames cr3 pse page e d t
     of_table root present small g =
@@ -98,9 +88,9 @@ walk_parts ram frames cr3 pse page e d t h =
           root = root;
           present = present;
           small = small;
-          table = not_le frames (dir / 4096) three.0;
-          word_present = not_not (has word 1) four.0;
-          within = not_le frames (word / 4096) five.0;
+          table = leb-false frames (dir / 4096) three.0;
+          word_present = not-false (has word 1) four.0;
+          within = leb-false frames (word / 4096) five.0;
           entry_is = cc;
           dir_is = cc;
           word_is = cc;
@@ -117,7 +107,7 @@ walk_parts ram frames cr3 pse page e d t h =
           present = present;
           large = large;
           clear = three.0;
-          within = not_le frames (large_frame dir page) four.0;
+          within = leb-false frames (large_frame dir page) four.0;
           entry_is = cc;
           dir_is = cc;
           word_is = cc;
@@ -133,12 +123,12 @@ unfolding fresh
 table_is ram frames cr3 pse page e d t h =
     let dir : ℕ = dir_in ram cr3 page in
     let word : ℕ = word_in ram cr3 page in
-    passed_by (nat_le frames (cr3 / 4096)) Beyond _ (le_false frames (cr3 / 4096) h.root)
+    passed_by (nat_le frames (cr3 / 4096)) Beyond _ (lt-leb frames (cr3 / 4096) h.root)
     ∙ passed_by (not (has dir 1)) Absent _ (ap not h.present)
     ∙ passed_by (is_large pse dir) (by_large frames cr3 page dir) _ h.small
-    ∙ passed_by (nat_le frames (dir / 4096)) Beyond _ (le_false frames (dir / 4096) h.table)
+    ∙ passed_by (nat_le frames (dir / 4096)) Beyond _ (lt-leb frames (dir / 4096) h.table)
     ∙ passed_by (not (has word 1)) Absent _ (ap not h.word_present)
-    ∙ passed_by (nat_le frames (word / 4096)) Beyond _ (le_false frames (word / 4096) h.within)
+    ∙ passed_by (nat_le frames (word / 4096)) Beyond _ (lt-leb frames (word / 4096) h.within)
     ∙ ap (λ x. Found x (dir_place cr3 page) (word_place dir page)) h.entry_is
     ∙ ap (λ x. Found e x (word_place dir page)) h.dir_is
     ∙ ap (λ x. Found e d x) h.word_is
@@ -147,11 +137,11 @@ directory_is : (ram : List ℕ) (frames cr3 : ℕ) (pse : Bool) (page : ℕ) (e 
 unfolding fresh
 directory_is ram frames cr3 pse page e d t h =
     let dir : ℕ = dir_in ram cr3 page in
-    passed_by (nat_le frames (cr3 / 4096)) Beyond _ (le_false frames (cr3 / 4096) h.root)
+    passed_by (nat_le frames (cr3 / 4096)) Beyond _ (lt-leb frames (cr3 / 4096) h.root)
     ∙ passed_by (not (has dir 1)) Absent _ (ap not h.present)
     ∙ chosen (is_large pse dir) _ (by_table ram frames cr3 page dir) h.large
     ∙ passed_by (has_reserved dir) Reserved _ h.clear
-    ∙ passed_by (nat_le frames (large_frame dir page)) Beyond _ (le_false frames (large_frame dir page) h.within)
+    ∙ passed_by (nat_le frames (large_frame dir page)) Beyond _ (lt-leb frames (large_frame dir page) h.within)
     ∙ ap (λ x. Found x (dir_place cr3 page) (dir_place cr3 page)) h.entry_is
     ∙ ap (λ x. Found e x (dir_place cr3 page)) h.dir_is
     ∙ ap (λ x. Found e d x) h.word_is
@@ -196,13 +186,13 @@ dirty_of ram frames cr3 pse page e d t (inr h) = sym (ap (λ (x : Entry). x.dirt
 
 -- ---- with more flags
 
-has_1 : (w x : ℕ) → x % 32 ≡ w % 32 → has x 1 ≡ has w 1
+pub has_1 : (w x : ℕ) → x % 32 ≡ w % 32 → has x 1 ≡ has w 1
 has_1 w x e = ap (λ n. n == 1) (let g : x / 1 % 2 ≡ w / 1 % 2 = omega (arith, e) in g)
 
-has_2 : (w x : ℕ) → x % 32 ≡ w % 32 → has x 2 ≡ has w 2
+pub has_2 : (w x : ℕ) → x % 32 ≡ w % 32 → has x 2 ≡ has w 2
 has_2 w x e = ap (λ n. n == 1) (let g : x / 2 % 2 ≡ w / 2 % 2 = omega (arith, e) in g)
 
-has_4 : (w x : ℕ) → x % 32 ≡ w % 32 → has x 4 ≡ has w 4
+pub has_4 : (w x : ℕ) → x % 32 ≡ w % 32 → has x 4 ≡ has w 4
 has_4 w x e = ap (λ n. n == 1) (let g : x / 4 % 2 ≡ w / 4 % 2 = omega (arith, e) in g)
 
 same_frame : (w x : ℕ) → x / 128 ≡ w / 128 → x / 4096 ≡ w / 4096

@@ -6,21 +6,11 @@ use Rattle.std.specs.List.{Contains}
 use Rattle.std.proofs.lemmas.Nat.{and_shr, and_mod, and_mask, and_le_r}
 use Rattle.std.proofs.lemmas.Nat.Bits.{and_pow}
 use Rattle.std.proofs.lemmas.List.{places}
-use Rattle.std.proofs.lemmas.Bool.{cases_lt}
-use Rattle.std.proofs.lemmas.Bool.Decides.{nat_tests}
+use Rattle.std.proofs.lemmas.Bool.{cases_lt, eqb-true, eq-eqb, eqb-false}
 use Rattle.guest_ram.specs.Bytes.{byte, word32, with_byte, with_part}
 use Rattle.guest_ram.proofs.Bytes.{byte-with_byte, byte-with_part_above, word32-is}
 use Rattle.paging.specs.Fresh.{has, flagged}
 use Rattle.machine_model.specs.Reloading.{HasMoreFlags, MemoryFollows}
-
-pub eq_told : (m n : ℕ) → (m == n) ≡ true → m ≡ n
-eq_told m n e = grind (arith, nat_tests)
-
-pub eq_true : (m n : ℕ) → m ≡ n → (m == n) ≡ true
-eq_true m n e = grind (arith, nat_tests)
-
-pub not_eq : (m n : ℕ) → (m == n) ≡ false → m ≡ n → ⊥
-not_eq m n f e = let g : false ≡ true = sym f ∙ eq_true m n e in cc
 
 -- ---- numbers
 
@@ -55,24 +45,24 @@ marked_byte true n =
     record {
       low = omega (arith, e);
       high = omega (arith, e);
-      accessed = λ d. eq_true (bit_or n 96 / 32 % 2) 1 (omega (arith, e));
-      dirty = λ d. eq_true (bit_or n 96 / 64 % 2) 1 (omega (arith, e));
+      accessed = λ d. eq-eqb (bit_or n 96 / 32 % 2) 1 (omega (arith, e));
+      dirty = λ d. eq-eqb (bit_or n 96 / 64 % 2) 1 (omega (arith, e));
     }
 marked_byte false n =
     let e = or_32 n in
     record {
       low = omega (arith, e);
       high = omega (arith, e);
-      accessed = λ d. eq_true (bit_or n 32 / 32 % 2) 1 (omega (arith, e));
-      dirty = λ d. let f = eq_told (n / 64 % 2) 1 d in eq_true (bit_or n 32 / 64 % 2) 1 (omega (arith, e, f));
+      accessed = λ d. eq-eqb (bit_or n 32 / 32 % 2) 1 (omega (arith, e));
+      dirty = λ d. let f = eqb-true (n / 64 % 2) 1 d in eq-eqb (bit_or n 32 / 64 % 2) 1 (omega (arith, e, f));
     }
 
 pub marked_accessed : (write : Bool) (n : ℕ) → has (bit_or n (flags_of write)) 32 ≡ true
-marked_accessed true n = let e = or_96 n in eq_true (bit_or n 96 / 32 % 2) 1 (omega (arith, e))
-marked_accessed false n = let e = or_32 n in eq_true (bit_or n 32 / 32 % 2) 1 (omega (arith, e))
+marked_accessed true n = let e = or_96 n in eq-eqb (bit_or n 96 / 32 % 2) 1 (omega (arith, e))
+marked_accessed false n = let e = or_32 n in eq-eqb (bit_or n 32 / 32 % 2) 1 (omega (arith, e))
 
 pub marked_dirty : (n : ℕ) → has (bit_or n 96) 64 ≡ true
-marked_dirty n = let e = or_96 n in eq_true (bit_or n 96 / 64 % 2) 1 (omega (arith, e))
+marked_dirty n = let e = or_96 n in eq-eqb (bit_or n 96 / 64 % 2) 1 (omega (arith, e))
 
 -- ---- words by their lowest byte
 
@@ -150,7 +140,7 @@ one_marked w x p v aligned h = record { long = long_with x p v; words = λ at ev
 
     by_place : (at : ℕ) → at % 4 ≡ 0 → at + 4 ≤ length x → (same : Bool) → (at == p) ≡ same → HasMoreFlags (word32 x at) (word32 (with_byte x p v) at)
     by_place at even room true e =
-        let is = eq_told at p e in
+        let is = eqb-true at p e in
         let now : byte (with_byte x p v) at ≡ v = ap (byte (with_byte x p v)) is ∙ byte-with_byte x p v (omega (arith, room, is)) in
         let rest = higher at even room in
         let new = word_is (with_byte x p v) at in
@@ -158,7 +148,7 @@ one_marked w x p v aligned h = record { long = long_with x p v; words = λ at ev
         lifted (byte x at) v (above x at) (word32 x at) (word32 (with_byte x p v) at) (word_is x at) f
         (subst (λ n. HasMoreFlags (byte x n) v) (sym is) h)
     by_place at even room false e =
-        let now = byte_other x p v at (omega (arith, room)) (not_eq at p e) in
+        let now = byte_other x p v at (omega (arith, room)) (eqb-false at p e) in
         let rest = higher at even room in
         let old = word_is x at in
         let new = word_is (with_byte x p v) at in

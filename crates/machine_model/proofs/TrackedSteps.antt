@@ -5,6 +5,8 @@ use Rattle.std.specs.Option.{ForSome}
 use Rattle.std.specs.FinMap.{get, empty, remove, get-empty, get-remove, get-retain_keys, nat_cmp-IsAntisymmetric}
 use Rattle.std.specs.Ordering.{nat_cmp}
 use Rattle.std.proofs.lemmas.Cmp.{nat_cmp_total}
+use Rattle.std.proofs.lemmas.Bool.{both_ways}
+use Rattle.std.proofs.lemmas.Option.{none-some}
 use Rattle.guest_ram.specs.Bytes.{byte}
 use Rattle.ia32_types.specs.declared.stop.Stop.{Stop}
 use Rattle.ia32_types.specs.declared.stop.Stop.TheVariants as stops
@@ -49,7 +51,7 @@ use Rattle.machine_model.specs.Run.{Set}
 use Rattle.machine_model.specs.Reloading.{MemoryFollows, IsFoundBy, Follows, Leaves}
 use Rattle.machine_model.specs.Following.{FetchedFollows, RangesFollow, InstructedFollows, DeliveredFollows, IsLeftBy, StepsFollow, StepsKeepMemory, OthersStay, WordsStayFound, SetsAreFound, FoundAreCacheable}
 use Rattle.machine_model.proofs.FoundStill.{found_still}
-use Rattle.machine_model.proofs.Following.{same_follows, fetches_follow, aside}
+use Rattle.machine_model.proofs.Following.{same_follows, fetches_follow, aside, not_absent}
 use Rattle.machine_model.proofs.Tracking.{Tracks, tracks, leaves_on}
 use Rattle.machine_model.proofs.TrackedRows.{sys_tracks}
 use Rattle.machine_model.proofs.TrackedPlain.{both_tracks, plain_tracks}
@@ -156,19 +158,12 @@ write_left b completed cpu item s t (did.Stop, board) h = tt
 write_left b completed cpu item s t (did.Done, board) h = went_left s t (item ∷ []) (Some completed) b cpu board h
 write_left b completed cpu item s t (did.Sent value, board) h = went_left s t (item ∷ Sent value ∷ []) (Some completed) b cpu board h
 
-not_absent : (c : Bool) (o : Option Entry) (e : Entry) → cond c None o ≡ Some e → o ≡ Some e
-not_absent true o e is = absurd (let f : ◌≡◌ {A = Option Entry} None (Some e) = is in cc)
-not_absent false o e is = is
-
-not_dropped : (c : Bool) (o : Option Entry) (e : Entry) → cond c o None ≡ Some e → o ≡ Some e
+pub not_dropped : (c : Bool) (o : Option Entry) (e : Entry) → cond c o None ≡ Some e → o ≡ Some e
 not_dropped true o e is = is
 not_dropped false o e is = absurd (let f : ◌≡◌ {A = Option Entry} None (Some e) = is in cc)
 
-retained : (set : Set) (index q : ℕ) → get (without_dir set index) q ≡ cond (not (q / 1024 == index)) (get set q) None
+pub retained : (set : Set) (index q : ℕ) → get (without_dir set index) q ≡ cond (not (q / 1024 == index)) (get set q) None
 retained set index q = get-retain_keys set (λ page. not (page / 1024 == index)) q (λ x t. ap (λ page. not (page / 1024 == index)) (sym (nat_cmp-IsAntisymmetric q x t)))
-
-no_entry : (e : Entry) → ◌≡◌ {A = Option Entry} None (Some e) → ⊥
-no_entry e is = cc
 
 effect_left : (m : Setting) (b : State) (completed : Completed) (e : SysEffect) (cpu : Cpu) (s t : Space) → Follows s t → IsLeft s (after_effect m b completed e cpu t)
 effect_left m b completed effects.Next cpu s t h = guarded s (may_leave m.mode b.cpu cpu) _ stops.UserFlags (went_left s t [] (Some completed) b cpu b.board h)
@@ -178,7 +173,7 @@ effect_left m b completed (effects.DropPage page) cpu s t h =
 effect_left m b completed (effects.DropDir index) cpu s t h =
     dropped_left s t (without_dir t.set index) (Some completed) b cpu b.board h (λ q e is. not_dropped _ (get t.set q) e (sym (retained t.set index q) ∙ is))
 effect_left m b completed effects.DropAll cpu s t h =
-    dropped_left s t empty (Some completed) b cpu b.board h (λ q e is. absurd (no_entry e (sym (get-empty nat_cmp q) ∙ is)))
+    dropped_left s t empty (Some completed) b cpu b.board h (λ q e is. absurd (none-some e (sym (get-empty nat_cmp q) ∙ is)))
 effect_left m b completed (effects.PortIn port wide) cpu s t h = read_left b completed cpu port wide s t (port_read b.board port wide) h
 effect_left m b completed (effects.PortOut port wide value) cpu s t h = write_left b completed cpu (out_item port wide value) s t (port_written b.board port wide value) h
 effect_left m b completed (effects.Raise vector code) cpu s t h = raised_left m b cpu vector code s t h
@@ -266,13 +261,10 @@ others_stay m b set report b2 at is all lt free clear =
     ∙ h.follows.others (λ page c. all page (subst (λ (l : List ℕ). Contains l page) (sym h.pages) c)) at lt
     (λ c. free (subst (λ (l : List ℕ). Contains l (at / 4096)) (sym h.wrote) c)) (λ c. clear (subst (λ (l : List ℕ). Contains l (at / 4096)) (sym h.tables) c))
 
-clash : (t : Bool) → t ≡ true → t ≡ false → ⊥
-clash t e f = cc
-
 pub words_stay_found : WordsStayFound
 words_stay_found m b set report b2 cr3 pse tables page e room small is none found =
     found_still b.ram b2.ram m.frames cr3 pse tables page e room small
-    (λ at even within held. (steps_keep_memory m b set report b2 is).words at even within (λ c. clash (tables (at / 4096)) held (none (at / 4096) c))) found
+    (λ at even within held. (steps_keep_memory m b set report b2 is).words at even within (λ c. both_ways (tables (at / 4096)) (none (at / 4096) c) held)) found
 
 pub found_are_cacheable : FoundAreCacheable
 found_are_cacheable m b tables page e k = record { dir_at = k.dir_at; word_at = k.word_at; dirty = k.dirty; found = k.found; accessed = k.accessed; is_dirty = k.is_dirty }

@@ -8,6 +8,7 @@ use Rattle.std.specs.FinMap.{get, insert, remove, get-insert, get-remove}
 use Rattle.std.specs.Cmp.{unsigned_tied}
 use Rattle.std.proofs.lemmas.Cmp.{nat_cmp_total}
 use Rattle.std.proofs.lemmas.List.Elements.{Contains-append_cases, Contains-append_left, Contains-append_right}
+use Rattle.std.proofs.lemmas.Bool.{eq-eqb, ne_eqb}
 use Rattle.ia32_types.specs.declared.stop.Stop as reason
 use Rattle.ia32_types.specs.declared.stop.Stop.TheVariants as stops
 use Rattle.paging.specs.declared.entry.Access.{Access}
@@ -96,12 +97,6 @@ page_uses_on user s t page h = record {
 
 -- ---- the translation of one page in a set
 
-same_test : (q page : ℕ) → q ≡ page → (q == page) ≡ true
-same_test q page e = elim (eqb_tells q page) [ inl t ↦ t.0 | inr t ↦ absurd (t.1 e) ]
-
-other_test : (q page : ℕ) → (q ≡ page → ⊥) → (q == page) ≡ false
-other_test q page ne = elim (eqb_tells q page) [ inl t ↦ absurd (ne t.1) | inr t ↦ t.0 ]
-
 inserted : (set : Set) (page q : ℕ) (e : Entry) → get (insert set page e) q ≡ cond (q == page) (Some e) (get set q)
 inserted set page q e = get-insert nat_cmp_total set page e q ∙ ap (λ c. cond c (Some e) (get set q)) (unsigned_tied q page)
 
@@ -109,12 +104,12 @@ removed : (set : Set) (page q : ℕ) → get (remove set page) q ≡ cond (q == 
 removed set page q = get-remove nat_cmp_total set page q ∙ ap (λ c. cond c None (get set q)) (unsigned_tied q page)
 
 pub there : (set : Set) (page : ℕ) (o : Option Entry) → get (with_entry set page o) page ≡ o
-there set page None = removed set page page ∙ ap (λ c. cond c None (get set page)) (same_test page page refl)
-there set page (Some e) = inserted set page page e ∙ ap (λ c. cond c (Some e) (get set page)) (same_test page page refl)
+there set page None = removed set page page ∙ ap (λ c. cond c None (get set page)) (eq-eqb page page refl)
+there set page (Some e) = inserted set page page e ∙ ap (λ c. cond c (Some e) (get set page)) (eq-eqb page page refl)
 
 pub elsewhere : (set : Set) (page q : ℕ) (o : Option Entry) → (q ≡ page → ⊥) → get (with_entry set page o) q ≡ get set q
-elsewhere set page q None ne = removed set page q ∙ ap (λ c. cond c None (get set q)) (other_test q page ne)
-elsewhere set page q (Some e) ne = inserted set page q e ∙ ap (λ c. cond c (Some e) (get set q)) (other_test q page ne)
+elsewhere set page q None ne = removed set page q ∙ ap (λ c. cond c None (get set q)) (ne_eqb q page ne)
+elsewhere set page q (Some e) ne = inserted set page q e ∙ ap (λ c. cond c (Some e) (get set q)) (ne_eqb q page ne)
 
 -- ---- a walk finds an entry of its page
 

@@ -16,7 +16,7 @@ use Rattle.sys_exec.specs.Access.{denials, reaching}
 use Rattle.sys_exec.specs.Operand.{operand_reached, selector, long_of, pulled, pushed}
 use Rattle.sys_exec.specs.Segment.{protection, selected, data_tests, find_data, marked, load_data, stack_tests, find_stack, return_tests, find_return, jump_tests, find_jump, as_task, load_task}
 use Rattle.sys_exec.specs.Iret.{popped, popped_outer, return_same, return_outer, interrupt_return}
-use Rattle.machine_model.proofs.UsingWorks.{is_stop, Keeps, keeping, then_keeps, unless_keeps, refuses_keeps, gives_keeps, reaching_keeps, pair_keeps, byte_keeps, mark_keeps}
+use Rattle.machine_model.proofs.UsingWorks.{is_stop, Keeps, keeping, then_keeps, unless_keeps, refuses_keeps, reaching_keeps, pair_keeps, byte_keeps, mark_keeps}
 
 stops : (stop : reason.Stop) → is_stop (denials.stop stop) ≡ true
 stops stop = refl

@@ -1,10 +1,11 @@
 -- Pages lead well over a step.
-use Rattle.std.proofs.Common.{◌≡◌, ℕ, ◌+◌, arith, ◌*◌, ◌/◌, ◌%◌, ◌==◌, Bool, true, false, cond, not, refl, sym, ap, subst, ◌∙◌, List, [], ◌∷◌, Option, Some, None, Ok, Err}
+use Rattle.std.proofs.Common.{◌≡◌, ℕ, ◌+◌, arith, ◌*◌, ◌%◌, ◌==◌, Bool, true, false, cond, refl, sym, subst, ◌∙◌, List, [], ◌∷◌, Option, Some, None, Ok, Err}
 use Rattle.std.specs.List.{Contains}
 use Rattle.std.specs.Option.{ForSome}
-use Rattle.std.specs.FinMap.{get, empty, remove, get-empty, get-remove, get-retain_keys, nat_cmp-IsAntisymmetric}
+use Rattle.std.specs.FinMap.{get, empty, remove, get-empty, get-remove}
 use Rattle.std.specs.Ordering.{nat_cmp}
 use Rattle.std.proofs.lemmas.Cmp.{nat_cmp_total}
+use Rattle.std.proofs.lemmas.Option.{none-some}
 use Rattle.ia32_types.specs.declared.stop.Stop.{Stop}
 use Rattle.ia32_types.specs.declared.stop.Stop.TheVariants as stops
 use Rattle.ia32_types.specs.declared.stop.Did.{Did}
@@ -15,7 +16,6 @@ use Rattle.ia32_types.specs.declared.insn.Op.TheVariants as op
 use Rattle.ia32_decode.specs.declared.answer.Decoded.{Decoded}
 use Rattle.ia32_decode.specs.declared.answer.Decoded.TheVariants as begins
 use Rattle.descriptors.specs.declared.cpu.Cpu.{Cpu}
-use Rattle.paging.specs.declared.entry.Entry.{Entry}
 use Rattle.paging.specs.declared.entry.Touch.{Touch}
 use Rattle.paging.specs.declared.entry.Touch.TheVariants as touch
 use Rattle.paging.specs.Space.{Mode, Bare, Wedge, Space, place}
@@ -51,6 +51,8 @@ use Rattle.machine_model.proofs.UsingRows.{sys_keeps}
 use Rattle.machine_model.proofs.UsingPlain.{both_keep, plain_keeps}
 use Rattle.sys_exec.specs.Operand.{past}
 use Rattle.machine_model.proofs.UsingDeliveries.{delivered_keeps}
+use Rattle.machine_model.proofs.TrackedSteps.{retained, not_dropped}
+use Rattle.machine_model.proofs.Following.{not_absent}
 
 -- ---- the fetch
 
@@ -179,20 +181,6 @@ write_left user b completed cpu item s t (did.Stop, board) h = tt
 write_left user b completed cpu item s t (did.Done, board) h = went_left user s t (item ∷ []) (Some completed) b cpu board h
 write_left user b completed cpu item s t (did.Sent value, board) h = went_left user s t (item ∷ Sent value ∷ []) (Some completed) b cpu board h
 
-not_absent : (c : Bool) (o : Option Entry) (e : Entry) → cond c None o ≡ Some e → o ≡ Some e
-not_absent true o e is = absurd (let f : ◌≡◌ {A = Option Entry} None (Some e) = is in cc)
-not_absent false o e is = is
-
-not_dropped : (c : Bool) (o : Option Entry) (e : Entry) → cond c o None ≡ Some e → o ≡ Some e
-not_dropped true o e is = is
-not_dropped false o e is = absurd (let f : ◌≡◌ {A = Option Entry} None (Some e) = is in cc)
-
-retained : (set : Set) (index q : ℕ) → get (without_dir set index) q ≡ cond (not (q / 1024 == index)) (get set q) None
-retained set index q = get-retain_keys set (λ page. not (page / 1024 == index)) q (λ x t. ap (λ page. not (page / 1024 == index)) (sym (nat_cmp-IsAntisymmetric q x t)))
-
-no_entry : (e : Entry) → ◌≡◌ {A = Option Entry} None (Some e) → ⊥
-no_entry e is = cc
-
 effect_left : (user : Bool) (m : Setting) (b : State) (completed : Completed) (e : SysEffect) (cpu : Cpu) (s t : Space) → Uses user s t → IsUsed user s (after_effect m b completed e cpu t)
 effect_left user m b completed effects.Next cpu s t h = guarded user s (may_leave m.mode b.cpu cpu) _ stops.UserFlags (went_left user s t [] (Some completed) b cpu b.board h)
 effect_left user m b completed effects.Halted cpu s t h = went_left user s t [] (Some completed) b cpu b.board h
@@ -201,7 +189,7 @@ effect_left user m b completed (effects.DropPage page) cpu s t h =
 effect_left user m b completed (effects.DropDir index) cpu s t h =
     dropped_left user s t (without_dir t.set index) (Some completed) b cpu b.board h (λ q e is. not_dropped _ (get t.set q) e (sym (retained t.set index q) ∙ is))
 effect_left user m b completed effects.DropAll cpu s t h =
-    dropped_left user s t empty (Some completed) b cpu b.board h (λ q e is. absurd (no_entry e (sym (get-empty nat_cmp q) ∙ is)))
+    dropped_left user s t empty (Some completed) b cpu b.board h (λ q e is. absurd (none-some e (sym (get-empty nat_cmp q) ∙ is)))
 effect_left user m b completed (effects.PortIn port wide) cpu s t h = read_left user b completed cpu port wide s t (port_read b.board port wide) h
 effect_left user m b completed (effects.PortOut port wide value) cpu s t h = write_left user b completed cpu (out_item port wide value) s t (port_written b.board port wide value) h
 effect_left user m b completed (effects.Raise vector code) cpu s t h = raised_left user m b cpu vector code s t h

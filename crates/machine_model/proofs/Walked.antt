@@ -2,6 +2,7 @@
 use Rattle.std.proofs.Common.{◌≡◌, ℕ, ◌/◌, ◌<◌, ◌^◌, arith, cond, Bool, true, false, not, List, [], ◌∷◌, refl, sym, ap, ◌∙◌, ◌⊎◌, inl, inr}
 use Rattle.std.specs.Prelude.{nat_lt, nat_le}
 use Rattle.std.proofs.lemmas.Bool.Decides.{nat_tests}
+use Rattle.std.proofs.lemmas.Bool.{not-false}
 use Rattle.guest_ram.specs.Bytes.{word32}
 use Rattle.paging.specs.declared.entry.Walk.{Walk}
 use Rattle.paging.specs.declared.entry.Walk.TheVariants.{Absent, Beyond, Reserved, Found}
@@ -37,10 +38,6 @@ else_finds : (test : Bool) (a b : Walk) (d w : ℕ) → is_found a ≡ false →
 else_finds true a b d w e h = absurd (clash (sym e ∙ h.found))
 else_finds false a b d w e h = (refl, h)
 
-not_true : (b : Bool) → not b ≡ false → b ≡ true
-not_true true e = refl
-not_true false e = absurd (clash (sym e))
-
 within : (frames number : ℕ) → nat_le frames number ≡ false → nat_lt number frames ≡ true
 within frames number e = grind (arith, nat_tests)
 
@@ -74,7 +71,7 @@ either ram frames cr3 pse page dir_at word_at h =
     let dir = word32 ram (dir_place cr3 page) in
     let one = else_finds (nat_le frames (cr3 / 4096)) Beyond (by_dir ram frames cr3 pse page dir) dir_at word_at refl h in
     let two = else_finds (not (has dir 1)) Absent (cond (is_large pse dir) (by_large frames cr3 page dir) (by_table ram frames cr3 page dir)) dir_at word_at refl one.1 in
-    by_size one.0 (not_true (has dir 1) two.0) (is_large pse dir) refl two.1
+    by_size one.0 (not-false (has dir 1) two.0) (is_large pse dir) refl two.1
   where
     of_table : nat_le frames (cr3 / 4096) ≡ false → has (word32 ram (dir_place cr3 page)) 1 ≡ true → is_large pse (word32 ram (dir_place cr3 page)) ≡ false
         → Finds (by_table ram frames cr3 page (word32 ram (dir_place cr3 page))) dir_at word_at → Both ram frames cr3 pse page dir_at word_at

@@ -16,6 +16,7 @@ use Rattle.paging.specs.Space.{Space, place_by, place, frame_by, frames_of}
 use Rattle.paging.specs.Uses.{page_uses, go_on, and_then, unready, made_ready, second_page, window_stop, by_window, uses}
 use Rattle.paging.proofs.Translations.{clash}
 use Rattle.machine_model.specs.Written.{WritesAreNoted}
+use Rattle.machine_model.proofs.Following.{next_in}
 
 abbrev is_ready : Touch → Bool
 is_ready Ready = true
@@ -61,14 +62,11 @@ frame_at (Some entry) byte = div-mul-add entry.frame 4096 (byte % 4096) (omega a
 first_in : (a b : ℕ) (rest : List ℕ) → a ≡ b → Contains (a ∷ rest) b
 first_in a b rest e = (0, omega arith, e)
 
-later_in : (a b : ℕ) (rest : List ℕ) → Contains rest b → Contains (a ∷ rest) b
-later_in a b rest h = Contains-append_right (a ∷ []) rest b h
-
 -- the frames of two pages, or of one
 pages_hold : (one : Bool) (a b c : ℕ) → (one ≡ true → c ≡ a) → (c ≡ a) ⊎ (c ≡ b) → Contains (a ∷ cond one [] (b ∷ [])) c
 pages_hold true a b c f h = first_in a c [] (sym (f refl))
 pages_hold false a b c f (inl e) = first_in a c (b ∷ []) (sym e)
-pages_hold false a b c f (inr e) = later_in a c (b ∷ []) (first_in b c [] (sym e))
+pages_hold false a b c f (inr e) = next_in a c (b ∷ []) (first_in b c [] (sym e))
 
 frames_hold : (u : Space) (at len byte : ℕ) → at ≤ byte → byte < at + len → len ≤ 4096 → Contains (frames_of u at len) (frame_by (get u.set (byte / 4096)))
 frames_hold u at len byte low high short =

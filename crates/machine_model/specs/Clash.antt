@@ -12,7 +12,7 @@ use Rattle.ia32_decode.specs.declared.answer.Decoded.{Decoded}
 use Rattle.ia32_decode.specs.declared.answer.Decoded.TheVariants as begins
 use Rattle.paging.specs.declared.entry.Access.{Access}
 use Rattle.paging.specs.declared.entry.Entry.{Entry}
-use Rattle.paging.specs.Fresh.{has, allows}
+use Rattle.paging.specs.Fresh.{allows}
 use Rattle.paging.specs.Work.{Outcome}
 use Rattle.sys_exec.specs.declared.effect.Refusal.{Refusal}
 use Rattle.board.specs.Boards.{given}

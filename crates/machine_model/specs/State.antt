@@ -9,7 +9,7 @@ use Rattle.descriptors.specs.declared.cpu.Cpu.{Cpu}
 use Rattle.paging.specs.declared.entry.Entry.{Entry}
 use Rattle.paging.specs.declared.entry.Walk.TheVariants.{Found}
 use Rattle.paging.specs.Fresh.{fresh, has}
-use Rattle.paging.specs.Space.{Mode, Bare, Wedge}
+use Rattle.paging.specs.Space.{Mode, Bare, Wedge, no_own}
 use Rattle.guest_ram.specs.Bytes.{word32}
 use Rattle.board.specs.declared.devices.Board.{Board}
 use Rattle.board.specs.Scripts.{Events}
@@ -31,7 +31,7 @@ on_bare m = record m { mode = Bare }
 -- A monitor's rules over so many frames of text: the loader gave it those from 0x100 on, and no byte is an
 -- instruction's own yet.
 abbrev pub rules_over : ℕ → Mode
-rules_over count = Wedge 0x100 count (record { front = 0; front_len = 0; back = 0; back_len = 0 })
+rules_over count = Wedge 0x100 count no_own
 
 -- those over an image
 abbrev pub wedge_mode : Image → Mode

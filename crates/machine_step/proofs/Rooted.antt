@@ -1,6 +1,7 @@
 -- What each instruction and each delivery does to CR0, CR3 and CR4, and what it drops.
 use Rattle.std.proofs.Common.{◌≡◌, ℕ, ◌/◌, ◌%◌, ◌<◌, ◌==◌, Bool, true, false, cond, not, ◌&&◌, ◌||◌, Option, Some, Ok, Err, Result, zero, suc, refl, sym, ap, subst, ◌∙◌, bit_and, bit_or, nat_lt, slice_set, arith}
 use Rattle.std.specs.Prelude.{IfOk}
+use Rattle.std.proofs.lemmas.Bool.{not-false, eqb-true, not-true, both_ways}
 use Rattle.ia32_types.specs.declared.insn.Insn.{Insn}
 use Rattle.ia32_types.specs.declared.insn.Op.{Op}
 use Rattle.ia32_types.specs.declared.insn.Op.TheVariants as ops
@@ -43,7 +44,7 @@ use Rattle.sys_exec.specs.Branch.{return_to, jump_to, called_through, call_to}
 use Rattle.sys_exec.specs.Sys.{told, row, sys_work}
 use Rattle.machine_model.specs.Instruction.{is_plain, done_plainly, instructed}
 use Rattle.machine_model.specs.Taken.{is_load, is_write, is_control_3}
-use Rattle.machine_model.proofs.AbleRows.{eq_told, was, flags_tested}
+use Rattle.machine_model.proofs.AbleRows.{flags_tested}
 use Rattle.machine_model.proofs.Yielding.{Ends, Yields, then_yields, any_yields, gives_yields, if_yields, by_yields}
 use Rattle.machine_step.specs.declared.worked.Begun.{Begun}
 use Rattle.machine_step.specs.declared.worked.Begun.TheVariants as begun
@@ -53,9 +54,6 @@ use Rattle.machine_step.specs.declared.worked.Seen.TheVariants as seen
 use Rattle.machine_step.specs.declared.worked.Worked.{Worked}
 use Rattle.machine_step.specs.Worked.{completed_of, completed_by, is_all}
 use Rattle.machine_step.specs.Roots.{RootsAs, RootsBegun, KeepsRoots, EndsWith, dropped_by, EffectRoots}
-
-clash : (b : Bool) → b ≡ true → b ≡ false → ⊥
-clash b e f = cc
 
 pub if_ok_as : {T E : Type 0} (P Q : T → Type 0) (r : Result T E) → ((x : T) → P x → Q x) → IfOk r P → IfOk r Q
 if_ok_as P Q (Ok x) f h = f x h
@@ -67,8 +65,8 @@ if_ok_as P Q (Err e) f h = tt
 pub plain_roots : (before : Cpu) (w : Worked) → is_load (completed_by w.completed) ≡ false → KeepsRoots before w.cpu → is_all w.dropped ≡ false → RootsAs before w
 plain_roots before w none k some = record {
   through = λ e. k.cr3;
-  load = λ e. absurd (clash (is_load (completed_by w.completed)) e none);
-  all = λ e l. absurd (clash (is_all w.dropped) e some);
+  load = λ e. absurd (both_ways (is_load (completed_by w.completed)) none e);
+  all = λ e l. absurd (both_ways (is_all w.dropped) some e);
   page_size = λ ne. absurd (ne (ap (λ (x : ℕ). has x 0x10) k.cr4));
 }
 
@@ -92,9 +90,9 @@ ended_roots completed before after w h k =
     let is : is_load (completed_by w.completed) ≡ is_load (Some (completed_of completed)) = ap (λ (c : Option Completed). is_load (completed_by c)) k.completed_is in
     record {
       through = λ e. k.roots.cr3 ∙ h.through (sym is ∙ e);
-      load = λ e. absurd (clash false (h.load (sym is ∙ e)).0 refl);
-      all = λ e l. absurd (clash (is_all w.dropped) e (ap is_all k.dropped_is));
-      page_size = λ ne. absurd (clash false (h.page_size (λ e. ne (ap (λ (x : ℕ). has x 0x10) k.roots.cr4 ∙ e))) refl);
+      load = λ e. absurd (both_ways false refl (h.load (sym is ∙ e)).0);
+      all = λ e l. absurd (both_ways (is_all w.dropped) (ap is_all k.dropped_is) e);
+      page_size = λ ne. absurd (both_ways false refl (h.page_size (λ e. ne (ap (λ (x : ℕ). has x 0x10) k.roots.cr4 ∙ e))));
     }
 
 -- a hold is none of these registers
@@ -293,10 +291,6 @@ same_bits (suc (suc m)) n h k e = absurd (omega (arith, h))
 same_bits zero (suc (suc n)) h k e = absurd (omega (arith, k))
 same_bits (suc zero) (suc (suc n)) h k e = absurd (omega (arith, k))
 
-isnt : (b : Bool) → not b ≡ true → b ≡ false
-isnt true e = absurd (let f : false ≡ true = e in cc)
-isnt false e = refl
-
 module _ (completed : Completed) (cpu : Cpu) where
   abbrev load : Bool
   load = is_load (Some (completed_of completed))
@@ -321,32 +315,32 @@ module _ (completed : Completed) (cpu : Cpu) where
   of_0 : (new : Cpu) → load ≡ false → new.cr3 ≡ cpu.cr3 → new.cr4 ≡ cpu.cr4 → RootsAs cpu (record { seen = seen.Nothing; completed = Some completed; cpu = new; dropped = drops.Nothing })
   of_0 new none k h = record {
     through = λ e. k;
-    load = λ e. absurd (clash load e none);
-    all = λ e l. absurd (clash false e refl);
+    load = λ e. absurd (both_ways load none e);
+    all = λ e l. absurd (both_ways false refl e);
     page_size = λ ne. absurd (ne (ap (λ (x : ℕ). has x 0x10) h));
   }
 
   of_3 : (new : Cpu) → load ≡ true → new.cr0 ≡ cpu.cr0 → new.cr4 ≡ cpu.cr4 → RootsAs cpu (record { seen = seen.Nothing; completed = Some completed; cpu = new; dropped = drops.All })
   of_3 new is a b = record {
-    through = λ e. absurd (clash load is e);
+    through = λ e. absurd (both_ways load e is);
     load = λ e. (refl, a, b);
-    all = λ e none. absurd (clash load is none);
+    all = λ e none. absurd (both_ways load none is);
     page_size = λ ne. refl;
   }
 
   of_4 : (new : Cpu) (test : Bool) → changes_pse cpu new.cr4 ≡ test → load ≡ false → new.cr3 ≡ cpu.cr3 → EffectRoots completed cpu (cond test effects.DropAll effects.Next) new
   of_4 new true t none k = record {
     through = λ e. k;
-    load = λ e. absurd (clash load e none);
+    load = λ e. absurd (both_ways load none e);
     all = λ e l same.
-        clash (new.cr4 / 0x10 % 2 == cpu.cr4 / 0x10 % 2) (same_bits (new.cr4 / 0x10 % 2) (cpu.cr4 / 0x10 % 2) (omega arith) (omega arith) same) (isnt (new.cr4 / 0x10 % 2 == cpu.cr4 / 0x10 % 2) t);
+        both_ways (new.cr4 / 0x10 % 2 == cpu.cr4 / 0x10 % 2) (not-true (new.cr4 / 0x10 % 2 == cpu.cr4 / 0x10 % 2) t) (same_bits (new.cr4 / 0x10 % 2) (cpu.cr4 / 0x10 % 2) (omega arith) (omega arith) same);
     page_size = λ ne. refl;
   }
   of_4 new false t none k = record {
     through = λ e. k;
-    load = λ e. absurd (clash load e none);
-    all = λ e l. absurd (clash false e refl);
-    page_size = λ ne. absurd (ne (ap (λ (x : ℕ). x == 1) (eq_told (new.cr4 / 0x10 % 2) (cpu.cr4 / 0x10 % 2) (was _ t))));
+    load = λ e. absurd (both_ways load none e);
+    all = λ e l. absurd (both_ways false refl e);
+    page_size = λ ne. absurd (ne (ap (λ (x : ℕ). x == 1) (eqb-true (new.cr4 / 0x10 % 2) (cpu.cr4 / 0x10 % 2) (not-false _ t))));
   }
 
   of_load_control : (len number v : ℕ) → load ≡ (number == 3) → Yields IsLeft (load_control (past cpu len) number v)
@@ -363,7 +357,7 @@ module _ (completed : Completed) (cpu : Cpu) where
       (λ _. record { each = λ s. tt }))))
     where
       other : (n : ℕ) → (number == n) ≡ true → (n == 3) ≡ false → load ≡ false
-      other n t apart = e ∙ ap (λ (x : ℕ). x == 3) (eq_told number n t) ∙ apart
+      other n t apart = e ∙ ap (λ (x : ℕ). x == 3) (eqb-true number n t) ∙ apart
 
   of_write_control : (a b : Operand) (len : ℕ) → load ≡ is_control_3 a → Yields IsLeft (write_control a b len cpu)
   unfolding write_control

@@ -1,5 +1,5 @@
 -- What the rules come to, where a monitor's hold and where none do.
-use Rattle.std.proofs.Common.{◌≡◌, ℕ, Bool, true, false, refl}
+use Rattle.std.proofs.Common.{◌≡◌, ℕ, true, false, refl}
 use Rattle.std.specs.Prelude.{◌&&◌, ◌||◌, not, ◌==◌}
 use Rattle.paging.specs.Space.{Mode, Bare, Wedge}
 use Rattle.descriptors.specs.declared.cpu.Cpu.{Cpu}

@@ -1,5 +1,5 @@
 -- Memory within a step that goes on, by what a part of the step comes to.
-use Rattle.std.proofs.Common.{◌≡◌, ℕ, Bool, Option, Ok, Err, Result, refl, ap, subst, ◌∙◌}
+use Rattle.std.proofs.Common.{◌≡◌, ℕ, Bool, Option, Ok, Err, Result, ap, subst}
 use Rattle.std.specs.Prelude.{IfOk, IfErr}
 use Rattle.descriptors.specs.declared.cpu.Cpu.{Cpu}
 use Rattle.event_entry.specs.declared.refusal.Kind.{Kind}
@@ -15,18 +15,8 @@ use Rattle.sys_exec.specs.declared.effect.SysEffect.TheVariants as effects
 use Rattle.sys_exec.specs.declared.effect.SysOutcome.{SysOutcome}
 use Rattle.sys_exec.specs.Sys.{told}
 use Rattle.machine_model.specs.UsedPages.{Uses, AtRefusal, Uses_on, Delivers, DeliveredUses}
+use Rattle.machine_model.proofs.Using.{uses_on}
 use Rattle.machine_step.specs.Begun.{AtEffect}
-
-pub same_uses : (user : Bool) (s : Space) → Uses user s s
-same_uses user s = record { rules = λ page frame. refl; visited = λ page c. c; others = λ page c. refl; lead = λ h. h }
-
-pub uses_on : (user : Bool) (s t u : Space) → Uses user s t → Uses user t u → Uses user s u
-uses_on user s t u h k = record {
-  rules = λ page frame. k.rules page frame ∙ h.rules page frame;
-  visited = λ page c. k.visited page (h.visited page c);
-  others = λ page c. k.others page c ∙ h.others page (λ d. c (k.visited page d));
-  lead = λ l. k.lead (h.lead l);
-}
 
 -- ---- a part of a step, whatever value it gives
 

@@ -1,6 +1,7 @@
 -- A run of the host, one instruction behind the other, beside the guest.
 use Rattle.std.proofs.Common.{◌≡◌, ℕ, zero, suc, ◌-◌, ◌≤◌, List, [], ◌∷◌, ◌++◌, length, replicate, Bool, true, false, Option, Some, None, Ok, Err, refl, sym, ap, subst, ◌∙◌, inl, arith}
 use Rattle.std.specs.List.{All}
+use Rattle.std.proofs.lemmas.Bool.{cond-true, and_parts, both_ways}
 use Rattle.guest_ram.specs.Bytes.{frame}
 use Rattle.ia32_types.specs.declared.flags.Regs.{Regs}
 use Rattle.ia32_exec.specs.Digest.{digest}
@@ -32,7 +33,6 @@ use Rattle.native_steps.specs.Lends.{Lends, IsUnlent, AreKept}
 use Rattle.native_steps.specs.Mirrors.{IsWedge, Mirrors}
 use Rattle.native_steps.specs.Forward.{IsEntrance, IsNext, Follows, Forward, NotEntered, AtSites}
 use Rattle.native_steps.specs.Stretch.{SameBehind, StaysUnlent, Beside, board_now, AreQuiet, EndsAs, IsQuiet, Advanced}
-use Rattle.native_steps.proofs.Choices.{chosen, both, clash}
 use Rattle.native_steps.proofs.Completing.{no_window}
 use Rattle.native_steps.proofs.Quiet.{IsLater, quiet_on, board_on}
 use Rattle.native_steps.proofs.Shown.{shown_length}
@@ -208,7 +208,7 @@ module _ (laws : Laws) (m : Setting) (v : View) (w : IsWedge m) where
       unfolding now
       counts =
           ap (direct_in m.image.sites) follows.completes
-          ∙ chosen (is_direct m.image.sites follows.completed) (follows.completed.eip ∷ []) [] follows.direct
+          ∙ cond-true (is_direct m.image.sites follows.completed) (follows.completed.eip ∷ []) [] follows.direct
           ∙ ap (λ (x : ℕ). x ∷ []) follows.eip
 
       -- the step as it was taken
@@ -280,7 +280,7 @@ module _ (laws : Laws) (m : Setting) (v : View) (w : IsWedge m) where
     -- ---- it doesn't
 
     kernel_of : (at : ℕ) → is_entry v at ≡ true → v.kernel ≡ true
-    kernel_of at e = (both v.kernel (is_window at) e).0
+    kernel_of at e = (and_parts v.kernel (is_window at) e).0
 
     -- no instruction begins in the window
     not_there : (at : ℕ) → host_step v s.ram s.regs ≡ Err (exits.Entry at) → ⊥
@@ -288,7 +288,7 @@ module _ (laws : Laws) (m : Setting) (v : View) (w : IsWedge m) where
         let x = laws.exits v s.ram s.regs at e in
         let t = kernel_of s.regs.eip x.0 in
         let above = subst (λ (n : ℕ). 0x10000000 ≤ n) (ap (λ (r : Regs). r.eip) h.regs) (h.entrance t).above in
-        clash (is_window s.regs.eip) (both v.kernel (is_window s.regs.eip) x.0).1 (no_window s.regs.eip above)
+        both_ways (is_window s.regs.eip) (no_window s.regs.eip above) (and_parts v.kernel (is_window s.regs.eip) x.0).1
 
     exit_ends : (exit : Exit) → host_step v s.ram s.regs ≡ Err exit → EndsAs m v exit s s
     exit_ends (exits.Entry at) e = absurd (not_there at e)

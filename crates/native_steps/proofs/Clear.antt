@@ -5,6 +5,7 @@ use Rattle.std.specs.Option.{ForSome}
 use Rattle.std.specs.List.{Contains}
 use Rattle.std.specs.FinMap.{FinMap, get}
 use Rattle.std.specs.Ordering.{nat_cmp}
+use Rattle.std.proofs.lemmas.Bool.{eq-eqb, or_parts}
 use Rattle.guest_ram.specs.Among.{is_among}
 use Rattle.descriptors.specs.Access.{by_level}
 use Rattle.descriptors.specs.Controls.{wp_of}
@@ -23,7 +24,6 @@ use Rattle.machine_model.specs.State.{Setting, State, space_at_start}
 use Rattle.machine_model.specs.Instruction.{fetched}
 use Rattle.machine_model.specs.Clash as clashing
 use Rattle.machine_model.specs.Clash.{fetch_uses, is_refused_by, clash_behind, instruction_clashes}
-use Rattle.native_steps.proofs.Choices.{eq_true}
 use Rattle.native_steps.proofs.Short.{ranges_short}
 
 -- a page that an instruction uses
@@ -52,17 +52,13 @@ AreClear set user wp earlier (u ∷ later) =
 
 -- ---- as the model has them
 
-neither : (a b : Bool) → (a || b) ≡ false → (a ≡ false) × (b ≡ false)
-neither false b h = (refl, h)
-neither true b h = absurd (cc)
-
 or_true : (a : Bool) → (a || true) ≡ true
 or_true true = refl
 or_true false = refl
 
 any_by : (q : ℕ) (ps : List ℕ) (k : ℕ) → k < length ps → slice_index_or ps k q ≡ q → is_among q ps ≡ true
 any_by q [] k lt e = absurd (omega (arith, lt))
-any_by q (p ∷ ps) zero lt e = ap (λ t. t || is_among q ps) (eq_true q p (sym e))
+any_by q (p ∷ ps) zero lt e = ap (λ t. t || is_among q ps) (eq-eqb q p (sym e))
 any_by q (p ∷ ps) (suc k) lt e = ap (λ t. (q == p) || t) (any_by q ps k (omega (arith, lt)) e) ∙ or_true (q == p)
 
 not_refused : (o : Option Entry) (access : Access) (wp : Bool) → is_refused_by o access wp ≡ false → ForSome o (λ e. allows e access wp ≡ true)
@@ -84,7 +80,7 @@ clear_told : (b : State) (ps : List ℕ) (us : List Use) → clash_behind (get b
 clear_told b ps [] h = tt
 clear_told b ps (u ∷ us) h =
     let access : Access = by_level b.cpu u.write in
-    let p = neither (is_among u.page ps && is_refused_by (get b.set u.page) access (wp_of b.cpu)) (clash_behind (get b.set) (wp_of b.cpu) (u.page ∷ ps) (map (as_use b) us)) h in (
+    let p = or_parts (is_among u.page ps && is_refused_by (get b.set u.page) access (wp_of b.cpu)) (clash_behind (get b.set) (wp_of b.cpu) (u.page ∷ ps) (map (as_use b) us)) h in (
       λ c. not_refused (get b.set u.page) access (wp_of b.cpu) (one_of (is_among u.page ps) (is_refused_by (get b.set u.page) access (wp_of b.cpu)) (any_by u.page ps c.0 c.1 c.2) p.0),
       clear_told b (u.page ∷ ps) us p.1,
     )

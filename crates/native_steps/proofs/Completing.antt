@@ -1,9 +1,10 @@
 -- What both do, they complete alike.
 use Rattle.std.proofs.Common.{◌≡◌, ℕ, ◌+◌, ◌-◌, ◌/◌, ◌%◌, ◌≤◌, List, [], Bool, true, false, cond, ◌&&◌, ◌||◌, not, ◌==◌, Some, Ok, refl, sym, ap, subst, ◌∙◌, arith}
 use Rattle.std.specs.Prelude.{nat_le, nat_lt}
-use Rattle.std.specs.List.{Contains}
 use Rattle.std.specs.FinMap.{FinMap, get}
 use Rattle.std.specs.Ordering.{nat_cmp}
+use Rattle.std.proofs.lemmas.Bool.{cond-true, cond-false, and_parts, le-leb, le-ltb, leb-true}
+use Rattle.guest_ram.specs.Among.{is_among}
 use Rattle.guest_ram.specs.Bytes.{frame}
 use Rattle.ia32_types.specs.declared.flags.Regs.{Regs}
 use Rattle.ia32_types.specs.declared.insn.Insn.{Insn}
@@ -13,14 +14,13 @@ use Rattle.ia32_types.specs.declared.stop.Stop.TheVariants as stops
 use Rattle.ia32_exec.specs.declared.outcome.Outcome as exec
 use Rattle.ia32_exec.specs.declared.outcome.Outcome.TheVariants as outcomes
 use Rattle.ia32_exec.specs.declared.outcome.Stores.{Stores}
-use Rattle.ia32_exec.specs.declared.outcome.Stores.TheVariants.{Nothing, One, Eight}
 use Rattle.ia32_exec.specs.Commit.{AreStored, list_of}
 use Rattle.ia32_exec.specs.Effect.{ranges_of, effect}
 use Rattle.ia32_exec.proofs.UserWithin.{within_user}
 use Rattle.descriptors.specs.declared.cpu.Cpu.{Cpu}
 use Rattle.paging.specs.declared.entry.Entry.{Entry}
 use Rattle.paging.specs.Space as space
-use Rattle.paging.specs.Space.{Mode, Bare, Wedge, Space, place_by, with_ram}
+use Rattle.paging.specs.Space.{Mode, Bare, Wedge, Space, place_by}
 use Rattle.board.specs.Boards.{board_step}
 use Rattle.native_steps.specs.EffectLaws.{EffectLaws}
 use Rattle.step_exec.specs.Users.{user_finished}
@@ -34,10 +34,11 @@ use Rattle.host_cpl3.specs.Pages.{place}
 use Rattle.host_cpl3.specs.Store.{all_stored}
 use Rattle.host_cpl3.specs.HostStep.{is_jump, ended, finished, host_step}
 use Rattle.host_cpl3.proofs.Storing.{stores_same}
+use Rattle.host_cpl3.proofs.Reading.{parts_stored}
 use Rattle.image_check.specs.Image.{Image}
 use Rattle.image_check.specs.Sweep.{Swept}
 use Rattle.image_check.specs.Places as places
-use Rattle.image_check.specs.Places.{swept_of, site_at, StandsOutside}
+use Rattle.image_check.specs.Places.{StandsOutside}
 use Rattle.image_laws.specs.WaysIn.{IsWayIn}
 use Rattle.image_check.specs.Places.{linear}
 use Rattle.machine_model.specs.State.{Setting, State}
@@ -45,11 +46,10 @@ use Rattle.machine_model.specs.Rules as rules
 use Rattle.machine_model.specs.Step as step
 use Rattle.machine_model.specs.Taken.{is_load, is_control_3, is_write}
 use Rattle.native_steps.specs.Lends.{IsUnlent}
-use Rattle.native_steps.specs.Mirrors.{IsWedge, IsLevel, Sees, Mirrors, shown}
+use Rattle.native_steps.specs.Mirrors.{IsWedge, IsLevelOf, Sees, Mirrors, shown}
 use Rattle.native_steps.specs.Native.{byte_of, effect_of, IsNative}
 use Rattle.native_steps.specs.Forward.{IsEntrance, IsNext, Follows}
 use Rattle.native_steps.specs.Backward.{Completes}
-use Rattle.native_steps.proofs.Choices.{chosen, passed_by, is_false, both, clash, lt_false, le_true, eq_told}
 use Rattle.native_steps.proofs.Doing.{plain_effect}
 use Rattle.ia32_exec.specs.FlagsAfter.{AreKept, Leaves}
 use Rattle.native_steps.proofs.Shown.{shown_same}
@@ -71,11 +71,6 @@ not_control : (o : Op) (imm : ℕ) → permitted_row o imm ≡ Ok tt → is_writ
 not_control op.WriteControl imm e = absurd cc
 not_control o imm e = refl
 
-split : (P Q : ℕ → Type 0) (ws : Stores) → AreStored (λ a. P a × Q a) ws → AreStored P ws × AreStored Q ws
-split P Q Nothing h = (tt, tt)
-split P Q (One w) h = (λ k lt. (h k lt).0, λ k lt. (h k lt).1)
-split P Q (Eight at vs) h = (λ k lt. (h k lt).0, λ k lt. (h k lt).1)
-
 -- ---- where control goes at level 0
 
 module _ (image : Image) (laws : TextLaws image) where
@@ -83,8 +78,8 @@ module _ (image : Image) (laws : TextLaws image) where
   unfolding places.is_start
   start_at at e =
       let back : linear at - 0x10000000 ≡ at = omega arith in
-      ap (λ x. x && Rattle.std.specs.List.list_any (λ k. k == linear at - 0x10000000) (Rattle.image_check.specs.Sweep.starts_of image.text)) (le_true 0x10000000 (linear at) (omega arith))
-      ∙ ap (λ n. Rattle.std.specs.List.list_any (λ k. k == n) (Rattle.image_check.specs.Sweep.starts_of image.text)) back
+      ap (λ x. x && is_among (linear at - 0x10000000) (Rattle.image_check.specs.Sweep.starts_of image.text)) (le-leb 0x10000000 (linear at) (omega arith))
+      ∙ ap (λ n. is_among n (Rattle.image_check.specs.Sweep.starts_of image.text)) back
       ∙ e
 
   entrance : (at : ℕ) → IsWayIn image at → IsEntrance image (linear at)
@@ -95,8 +90,8 @@ module _ (image : Image) (laws : TextLaws image) where
   pub start_there : (eip : ℕ) → rules.is_start image eip ≡ true → (0x10000000 ≤ eip) × (places.is_start image.text (eip - 0x10000000) ≡ true)
   unfolding places.is_start
   start_there eip e =
-      let p = both (nat_le 0x10000000 eip) _ e in
-      (Rattle.native_steps.proofs.Choices.le_told 0x10000000 eip p.0, p.1)
+      let p = and_parts (nat_le 0x10000000 eip) _ e in
+      (leb-true 0x10000000 eip p.0, p.1)
 
   pub goes_in : (r : Regs) (insn : Insn) (len : ℕ) (b : ℕ → ℕ) (regs : Regs) (stores : Stores) → IsSwept image r.eip insn len → effect insn len r b ≡ outcomes.Done regs stores → IsEntrance image regs.eip
   goes_in r insn len b regs stores t e =
@@ -105,7 +100,7 @@ module _ (image : Image) (laws : TextLaws image) where
       subst (IsEntrance image) (sym p.1) (entrance p.0 p.2)
 
 pub no_window : (at : ℕ) → 0x10000000 ≤ at → is_window at ≡ false
-no_window at le = either (nat_le 67108864 at) (lt_false at 100663296 (omega (arith, le)))
+no_window at le = either (nat_le 67108864 at) (le-ltb at 100663296 (omega (arith, le)))
   where
     either : (c : Bool) → nat_lt at 100663296 ≡ false → (c && nat_lt at 100663296) ≡ false
     either true e = e
@@ -134,7 +129,7 @@ module _ (flags : EffectLaws) (m : Setting) (w : IsWedge m) (laws : TextLaws m.i
       completes = either (is_jump insn.op) (not_entry v.kernel refl)
         where
           either : (j : Bool) → is_entry v regs.eip ≡ false → cond (j && is_entry v regs.eip) (Entered regs) (Completed regs) ≡ Completed regs
-          either true f = passed_by (is_entry v regs.eip) (Entered regs) (Completed regs) f
+          either true f = cond-false (is_entry v regs.eip) (Entered regs) (Completed regs) f
           either false f = refl
 
       after_memory : List ℕ
@@ -164,7 +159,7 @@ module _ (flags : EffectLaws) (m : Setting) (w : IsWedge m) (laws : TextLaws m.i
 
       stored : AreStored (λ a. space.place n.space a ≡ place memory v.root a) stores × AreStored (IsPlace m w memory (place memory v.root)) stores
       stored =
-          split (λ a. space.place n.space a ≡ place memory v.root a) (IsPlace m w memory (place memory v.root)) stores
+          parts_stored (λ a. space.place n.space a ≡ place memory v.root a) (IsPlace m w memory (place memory v.root)) stores
           (within_user IsBoth (selectors_of v) insn len b.cpu.regs (byte_of b) (outcomes.Done regs stores) (sym e)
           (covers m w memory v b stands IsBoth found_both true (ranges_of insn b.cpu.regs).write c.write))
 
@@ -221,7 +216,7 @@ module _ (flags : EffectLaws) (m : Setting) (w : IsWedge m) (laws : TextLaws m.i
       report : step.Report
       report = record { items = []; completed = Some (step.begun b insn); pages = end.visited; tables = end.tables; wrote = end.wrote }
 
-      stays_there : (mode : Mode) (cpl : ℕ) (k : Bool) → IsLevel k cpl → (x : Bool) → cond {A = Bool} true (not (cpl == 0 && cpl == 3) || x) true ≡ true
+      stays_there : (mode : Mode) (cpl : ℕ) (k : Bool) → IsLevelOf k cpl → (x : Bool) → cond {A = Bool} true (not (cpl == 0 && cpl == 3) || x) true ≡ true
       stays_there mode cpl true l x = ap (λ y. not (y == 0 && y == 3) || x) l
       stays_there mode cpl false l x = ap (λ y. not (y == 0 && y == 3) || x) l
 
@@ -235,7 +230,7 @@ module _ (flags : EffectLaws) (m : Setting) (w : IsWedge m) (laws : TextLaws m.i
       went =
           n.guest
           ∙ ap (λ (o : exec.Outcome). step.after_instruction m (step.unheld b) (step.begun b insn) (user_finished (step.unheld b).cpu o n.space)) e
-          ∙ chosen (rules.may_leave m.mode (step.unheld b).cpu (record b.cpu { regs = regs; held = false })) (step.Went report after) (step.Halts stops.UserFlags) (may_leave m.mode)
+          ∙ cond-true (rules.may_leave m.mode (step.unheld b).cpu (record b.cpu { regs = regs; held = false })) (step.Went report after) (step.Halts stops.UserFlags) (may_leave m.mode)
 
       still_open : rules.is_open b.cpu ≡ true → rules.is_open new_cpu ≡ true
       unfolding new_cpu

@@ -40,7 +40,6 @@ use Rattle.native_steps.proofs.HostParts.{Leads, IsMet, Did, host_parts}
 use Rattle.native_steps.proofs.Shown.{text_shown, text_patched}
 use Rattle.native_steps.proofs.Standing.{front_is, way_from, way_to}
 use Rattle.native_steps.specs.TextLaws.{TextLaws}
-use Rattle.native_steps.proofs.Sharing.{AreShared}
 use Rattle.native_steps.proofs.Sharing as sharing
 use Rattle.native_steps.proofs.GuestRanges.{reached_comes, reached_from}
 use Rattle.native_steps.proofs.Fetching.{Fetches, fetched_comes, same_space}

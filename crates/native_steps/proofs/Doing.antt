@@ -1,7 +1,8 @@
 -- What an instruction does once its ranges are translated: its pure effect.
-use Rattle.std.proofs.Common.{◌≡◌, ℕ, ◌+◌, ◌/◌, ◌%◌, ◌<◌, Bool, true, false, cond, ◌&&◌, ◌||◌, not, ◌==◌, refl, sym, ap, subst, ◌∙◌, Option, Some, None, Ok, Err, arith}
+use Rattle.std.proofs.Common.{◌≡◌, ℕ, ◌+◌, ◌/◌, ◌%◌, ◌<◌, Bool, true, false, cond, ◌&&◌, not, ◌==◌, refl, sym, ap, subst, ◌∙◌, Option, Some, None, Ok, Err, arith}
 use Rattle.std.specs.Prelude.{nat_lt, nat_le, slice_index}
 use Rattle.std.specs.FinMap.{get}
+use Rattle.std.proofs.lemmas.Bool.{cond-true, le-leb, lt-ltb, or_parts}
 use Rattle.guest_ram.specs.Bytes as bytes
 use Rattle.ia32_types.specs.declared.size.Size.TheVariants.{Word, Long}
 use Rattle.ia32_types.specs.declared.register.Seg.{Seg}
@@ -61,7 +62,6 @@ use Rattle.machine_model.specs.Instruction.{done_plainly, instructed}
 use Rattle.machine_model.specs.State.{Setting, State}
 use Rattle.machine_model.specs.Step.{Completed, after_instruction}
 use Rattle.native_steps.proofs.Uses.{reaching_earlier}
-use Rattle.native_steps.proofs.Choices.{chosen, le_true, lt_true}
 
 -- ---- plain instructions
 
@@ -88,7 +88,7 @@ executed_is : (i : Insn) (len : ℕ) (cpu : Cpu) (s t u : Space) → is_refused 
 unfolding executed
 executed_is i len cpu s t u free e g =
     ap (λ (o : Outcome Refusal (Unit {0})). on_value o (λ (x : Unit {0}) (w : Space). after_reads i len cpu (reached cpu false (ranges_of i cpu.regs).read w)))
-    (chosen (not (is_refused cpu (ranges_of i cpu.regs))) (Ok (tt, s)) (Err (refusal.Raise 13 0, s)) (ap not free))
+    (cond-true (not (is_refused cpu (ranges_of i cpu.regs))) (Ok (tt, s)) (Err (refusal.Raise 13 0, s)) (ap not free))
     ∙ ap (after_reads i len cpu) e
     ∙ ap (after_writes i len cpu t) g
 
@@ -107,7 +107,7 @@ operand_is : (cpu : Cpu) (a : Address) (len : ℕ) (write : Bool) (s t : Space) 
 unfolding operand_reached
 operand_is cpu a len write s t free e =
     ap (λ (o : Outcome Refusal (Unit {0})). on_value o (λ (x : Unit {0}). reaching (address_of a cpu.regs) len (by_level cpu write)))
-    (chosen (not (is_null cpu (segment_of a.base))) (Ok (tt, s)) (Err (protection_0, s)) (ap not free))
+    (cond-true (not (is_null cpu (segment_of a.base))) (Ok (tt, s)) (Err (protection_0, s)) (ap not free))
     ∙ e
 
 -- a number of four bytes that are these
@@ -123,13 +123,13 @@ loaded_is s at b h =
 
 in_range : (at len k : ℕ) (g : Seg) → k < len → is_in (Some (record { at = at; len = len; seg = g })) (at + k) ≡ true
 in_range at len k g lt =
-    let low : nat_le at (at + k) ≡ true = le_true at (at + k) (omega arith) in
-    let high : nat_lt (at + k) (at + len) ≡ true = lt_true (at + k) (at + len) (omega (arith, lt)) in
+    let low : nat_le at (at + k) ≡ true = le-leb at (at + k) (omega arith) in
+    let high : nat_lt (at + k) (at + len) ≡ true = lt-ltb (at + k) (at + len) (omega (arith, lt)) in
     ap (λ b. b && nat_lt (at + k) (at + len)) low ∙ high
 
 -- in the read range
 byte_in : (t u : Space) (at len k : ℕ) (g : Seg) → k < len → byte_by (Some (record { at = at; len = len; seg = g })) t u (at + k) ≡ byte_at (with_ram t u.ram) (at + k)
-byte_in t u at len k g lt = chosen (is_in (Some (record { at = at; len = len; seg = g })) (at + k)) _ _ (in_range at len k g lt)
+byte_in t u at len k g lt = cond-true (is_in (Some (record { at = at; len = len; seg = g })) (at + k)) _ _ (in_range at len k g lt)
 
 read_number : (t : Space) (at : ℕ) (g : Seg) → loaded t at Long ≡ number_at (byte_by (Some (record { at = at; len = 4; seg = g })) t t) Long at
 read_number t at g = loaded_is t at (byte_by (Some (record { at = at; len = 4; seg = g })) t t) (λ k lt. sym (byte_in t t at 4 k g lt))
@@ -147,10 +147,6 @@ named k lt = omega (arith, lt)
 -- the same space where there is no range
 nothing_reached : (s t : Space) → ◌≡◌ {A = Outcome Refusal (Unit {0})} (Ok (tt, s)) (Ok (tt, t)) → s ≡ t
 nothing_reached s t e = let p : ◌≡◌ {A = Unit {0} × Space} (tt, s) (tt, t) = cc in ap (λ q. q.1) p
-
-either_false : (a b : Bool) → (a || b) ≡ false → (a ≡ false) × (b ≡ false)
-either_false false b e = (refl, e)
-either_false true b e = absurd cc
 
 abbrev pub IsPopFlags : Op → Type 0
 IsPopFlags op.PopFlags = Unit {0}
@@ -250,7 +246,7 @@ module _ (m : Setting) (b : State) (c : Completed) where
     jump (Memory a) k h =
         let range : Option Range = operand_range (Memory a) Long cpu.regs in
         let last : t ≡ u = nothing_reached t u h.write in
-        let free = (either_false (is_null cpu (segment_of a.base)) false h.free).0 in
+        let free = (or_parts (is_null cpu (segment_of a.base)) false h.free).0 in
         let number : loaded t (address_of a cpu.regs) Long ≡ number_at (byte_by range t t) Long (address_of a cpu.regs) = read_number t (address_of a cpu.regs) (segment_of a.base) in
         same _ _
         (ap (λ (o : Outcome Refusal (Unit {0})). on_value (on_value o (λ (x : Unit {0}). reads (address_of a cpu.regs) Long)) (λ (v : ℕ). next (gone_to cpu v))) (operand_is cpu a 4 false s t free h.read)
@@ -268,7 +264,7 @@ module _ (m : Setting) (b : State) (c : Completed) where
         ≡ Ok (number_at (Bytes (operand_range (Memory a) Long cpu.regs)) Long (address_of a cpu.regs), saved u (esp_below 4 cpu.regs) Long (past cpu len).regs.eip)
     unfolding branch.called_through
     through a len h =
-        let free = (either_false (is_null cpu (segment_of a.base)) _ h.free).0 in
+        let free = (or_parts (is_null cpu (segment_of a.base)) _ h.free).0 in
         let earlier = reaching_earlier t u (esp_below 4 cpu.regs) 4 (by_level cpu true) h.write in
         let rest : Unit {0} → Work Refusal ℕ = λ (y : Unit {0}).
         reads_earlier (address_of a cpu.regs) Long >>= (λ (v : ℕ). writes (esp_below 4 cpu.regs) Long (past cpu len).regs.eip >>= (λ (z : Unit {0}). gives v))

@@ -3,6 +3,7 @@ use Rattle.std.proofs.Common.{◌≡◌, ℕ, ◌+◌, ◌-◌, ◌*◌, ◌/◌
 use Rattle.std.specs.Prelude.{nat_le, nat_lt}
 use Rattle.std.specs.List.{Contains}
 use Rattle.std.proofs.lemmas.List.Elements.{Contains-append_left, Contains-append_right}
+use Rattle.std.proofs.lemmas.Bool.{and_parts, eqb-true, eq-eqb, both_ways}
 use Rattle.descriptors.specs.Controls.{wp_of}
 use Rattle.guest_ram.specs.Bytes.{part}
 use Rattle.ia32_types.specs.declared.insn.Insn.{Insn}
@@ -19,7 +20,6 @@ use Rattle.machine_model.specs.Instruction.{next_page, fetched}
 use Rattle.native_steps.specs.Lends.{IsOpen, IsLent, Lends}
 use Rattle.native_steps.specs.Mirrors.{IsWedge, Mirrors}
 use Rattle.native_steps.specs.Backward.{IsReached}
-use Rattle.native_steps.proofs.Choices.{both, eq_told, eq_true, clash}
 use Rattle.native_steps.proofs.Pages.{At, IsFree, lent_entry, fetching_comes}
 use Rattle.native_steps.proofs.HostParts.{Leads, leads_told, leads_from}
 use Rattle.native_steps.proofs.Shown.{frame_apart, part_shown}
@@ -80,7 +80,7 @@ module _ (m : Setting) (w : IsWedge m) (memory : List ℕ) (v : View) (b : State
 
   last_below : (eip : ℕ) → eip < 2 ^ 32 → (eip / 4096 == 1048575) ≡ false → eip / 4096 + 1 < 2 ^ 20
   last_below eip lt e =
-      let other : eip / 4096 ≡ 1048575 → ⊥ = λ f. clash (eip / 4096 == 1048575) (eq_true (eip / 4096) 1048575 f) e in
+      let other : eip / 4096 ≡ 1048575 → ⊥ = λ f. both_ways (eip / 4096 == 1048575) e (eq-eqb (eip / 4096) 1048575 f) in
       omega (arith, lt, other)
 
   -- what the host fetched
@@ -164,5 +164,5 @@ module _ (m : Setting) (w : IsWedge m) (memory : List ℕ) (v : View) (b : State
   pub given_frame : v.kernel ≡ true → (page frame : ℕ) → page < 0x11000 → FetchShares page frame → frame ≡ 0x100 + (page - 65536)
   given_frame kernel page frame lt s =
       let open1 : IsOpen true m.image page frame = subst (λ (k : Bool). IsOpen k m.image page frame) kernel s.lent.is_open in
-      let p = both (nat_le 65536 page && nat_lt page (65536 + text_pages m.image)) (frame == 0x100 + (page - 65536)) (given_there m page frame lt open1) in
-      eq_told frame (0x100 + (page - 65536)) p.1
+      let p = and_parts (nat_le 65536 page && nat_lt page (65536 + text_pages m.image)) (frame == 0x100 + (page - 65536)) (given_there m page frame lt open1) in
+      eqb-true frame (0x100 + (page - 65536)) p.1

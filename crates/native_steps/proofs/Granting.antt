@@ -7,6 +7,7 @@ use Rattle.std.specs.List.{Contains}
 use Rattle.std.specs.FinMap.{FinMap, get}
 use Rattle.std.specs.Ordering.{nat_cmp}
 use Rattle.std.proofs.lemmas.List.Elements.{Contains-append_left, Contains-append_right, Contains-push}
+use Rattle.std.proofs.lemmas.Bool.{eqb-true, not-false}
 use Rattle.guest_ram.specs.Bytes.{AreBytes, byte}
 use Rattle.ia32_types.specs.declared.insn.Insn.{Insn}
 use Rattle.ia32_exec.specs.declared.access.Range.{Range}
@@ -33,7 +34,6 @@ use Rattle.native_steps.specs.Forward.{IsNext}
 use Rattle.native_steps.specs.Backward.{IsTranslated}
 use Rattle.native_steps.specs.Again.{AreWithin, settled}
 use Rattle.native_steps.specs.Granted.{IsGranted, IsRangeGranted, AreGranted, Leaves}
-use Rattle.native_steps.proofs.Choices.{eq_told}
 use Rattle.native_steps.proofs.Clear.{uses_of, AreClear}
 use Rattle.native_steps.proofs.Pages.{HasEntry}
 use Rattle.native_steps.proofs.Ways.{Way}
@@ -46,15 +46,11 @@ use Rattle.native_steps.proofs.Repeated as again
 
 -- ---- where a page that isn't barred may lead
 
-not_false : (x : Bool) → not x ≡ false → x ≡ true
-not_false true e = refl
-not_false false e = absurd cc
-
 open_of : (image : Image) (fetch kernel : Bool) (page frame : ℕ) → is_barred (wedge_mode image) fetch (not kernel) page frame ≡ false → (kernel ≡ true → fetch ≡ false → 0x11000 ≤ page) → IsOpen kernel image page frame
 open_of image false false page frame e above = e
 open_of image true false page frame e above = e
 open_of image false true page frame e above = inr (above refl refl, e)
-open_of image true true page frame e above = inl (not_false (is_given (wedge_mode image) page frame) e)
+open_of image true true page frame e above = inl (not-false (is_given (wedge_mode image) page frame) e)
 
 granted : (image : Image) (kernel wp : Bool) (s : Space) (write fetch : Bool) (page frame : ℕ) → HasEntry kernel wp s.set write page frame → is_barred (wedge_mode image) fetch (not kernel) page frame ≡ false
     → (kernel ≡ true → fetch ≡ false → 0x11000 ≤ page) → (write ≡ true → Contains s.wrote frame) → Contains s.visited page → IsGranted image kernel wp s write page
@@ -91,7 +87,7 @@ last_noted : (s : Space) (at len frame : ℕ) → frame_by (get s.set ((at + len
 last_noted s at len frame e = choice ((at + len - 1) / 4096 == at / 4096) refl
   where
     choice : (one : Bool) → ((at + len - 1) / 4096 == at / 4096) ≡ one → Contains (frame_by (get s.set (at / 4096)) ∷ cond one [] (frame_by (get s.set ((at + len - 1) / 4096)) ∷ [])) frame
-    choice true is = (0, omega arith, ap (λ p. frame_by (get s.set p)) (sym (eq_told ((at + len - 1) / 4096) (at / 4096) is)) ∙ e)
+    choice true is = (0, omega arith, ap (λ p. frame_by (get s.set p)) (sym (eqb-true ((at + len - 1) / 4096) (at / 4096) is)) ∙ e)
     choice false is = (1, omega arith, e)
 
 noted : (s : Space) (at len frame : ℕ) → Wrote at len s → Contains (frames_of s at len) frame → Contains s.wrote frame
@@ -116,7 +112,7 @@ unfolding went_by
 last_in visited at len = choice ((at + len - 1) / 4096 == at / 4096) refl
   where
     choice : (one : Bool) → ((at + len - 1) / 4096 == at / 4096) ≡ one → Contains (cond one (visited ++ (at / 4096) ∷ []) ((visited ++ (at / 4096) ∷ []) ++ ((at + len - 1) / 4096) ∷ [])) ((at + len - 1) / 4096)
-    choice true is = subst (Contains (visited ++ (at / 4096) ∷ [])) (sym (eq_told ((at + len - 1) / 4096) (at / 4096) is)) (Contains-push visited (at / 4096))
+    choice true is = subst (Contains (visited ++ (at / 4096) ∷ [])) (sym (eqb-true ((at + len - 1) / 4096) (at / 4096) is)) (Contains-push visited (at / 4096))
     choice false is = Contains-push (visited ++ (at / 4096) ∷ []) ((at + len - 1) / 4096)
 
 still_in : (cpu : Cpu) (s t : Space) (write : Bool) (o : Option Range) (q : ℕ) → reached cpu write o s ≡ Ok (tt, t) → Contains s.visited q → Contains t.visited q

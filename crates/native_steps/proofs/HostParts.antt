@@ -1,6 +1,7 @@
 -- The parts of an instruction of the host.
 use Rattle.std.proofs.Common.{◌≡◌, ℕ, ◌+◌, ◌*◌, ◌/◌, ◌%◌, ◌^◌, ◌<◌, ◌≤◌, List, ◌++◌, length, Bool, true, false, cond, not, ◌==◌, Option, Some, None, Ok, Err, refl, sym, ap, subst, ◌∙◌, inl, inr, arith}
 use Rattle.std.specs.Prelude.{nat_le, nat_lt}
+use Rattle.std.proofs.lemmas.Bool.{cond-true, cond-false, not-true, le-leb, lt-ltb, leb-true, eqb-true}
 use Rattle.guest_ram.specs.Bytes.{part}
 use Rattle.ia32_types.specs.declared.flags.Regs.{Regs}
 use Rattle.ia32_types.specs.declared.insn.Insn.{Insn}
@@ -25,23 +26,14 @@ use Rattle.host_cpl3.specs.Fetch.{fetching, fetched_on, fetched_by, fetched, spe
 use Rattle.host_cpl3.specs.Permit.{permitted}
 use Rattle.host_cpl3.specs.Access.{last_page, pages_met, range_met, access_met, segment_met}
 use Rattle.host_cpl3.specs.HostStep.{finished, worked, host_step}
-use Rattle.native_steps.proofs.Choices.{chosen, passed_by, is_not, le_true, lt_true, le_told, eq_told}
+use Rattle.host_cpl3.proofs.Leading.{bound, unless_met}
 use Rattle.native_steps.proofs.Ways.{front_at, back_at, IsAcross, Way}
-
--- both parts of what was met were met
-bound : {A B : Type 0} (x : Met A) (f : A → Met B) (b : B) → (x >>= f) ≡ Ok b → (a : A) × ((x ≡ Ok a) × (f a ≡ Ok b))
-bound (Ok a) f b e = (a, (refl, e))
-bound (Err exit) f b e = absurd cc
 
 after : {A B : Type 0} (x : Met A) (f : A → Met B) (a : A) (y : Met B) → x ≡ Ok a → f a ≡ y → (x >>= f) ≡ y
 after x f a y e g = ap (λ o. o >>= f) e ∙ g
 
-tested : (exit : Exit) (test : Bool) (x : Unit {0}) → unless exit test ≡ Ok x → test ≡ true
-tested exit true x e = refl
-tested exit false x e = absurd cc
-
 tests : (exit : Exit) (test : Bool) → test ≡ true → unless exit test ≡ Ok tt
-tests exit test e = chosen test (Ok tt) (Err exit) e
+tests exit test e = cond-true test (Ok tt) (Err exit) e
 
 some_met : (there write : Bool) (at : ℕ) (o : Option ℕ) (frame : ℕ) → or_fault there write at o ≡ Ok frame → o ≡ Some frame
 some_met there write at (Some f) frame e = cc
@@ -54,7 +46,7 @@ module _ (memory : List ℕ) (root : ℕ) where
 
   -- within the address space that is the tables' frame
   leads_so : (page : ℕ) → page < 2 ^ 20 → (write : Bool) → reached_by write (walked memory root page) ≡ reached memory (length memory / 4096) root page write
-  leads_so page lt write = ap (reached_by write) (chosen (nat_lt page 1048576) (fresh memory (length memory / 4096) (4096 * root) false page) Absent (lt_true page 1048576 lt))
+  leads_so page lt write = ap (reached_by write) (cond-true (nat_lt page 1048576) (fresh memory (length memory / 4096) (4096 * root) false page) Absent (lt-ltb page 1048576 lt))
 
   pub leads_told : (page : ℕ) → page < 2 ^ 20 → (write : Bool) (frame : ℕ) → Leads write page frame → reached memory (length memory / 4096) root page write ≡ Some frame
   leads_told page lt write frame e = sym (leads_so page lt write) ∙ e
@@ -142,7 +134,7 @@ module _ (memory : List ℕ) (root : ℕ) where
   fetch_is eip insn len (inr w) =
       fetched_from eip w.frame (Ok (begins.Insn insn len)) w.page
       (ap (fetched_by memory root eip (front_at memory w.frame eip)) w.cut
-      ∙ passed_by (eip / 4096 == 1048575) (Err exits.Wrap) _ w.not_last
+      ∙ cond-false (eip / 4096 == 1048575) (Err exits.Wrap) _ w.not_last
       ∙ on_is eip w.next (front_at memory w.frame eip) (begins.Insn insn len) w.next_page w.is)
 
 -- ---- ranges
@@ -175,7 +167,7 @@ module _ (memory : List ℕ) (v : View) where
       second : (one : Bool) → (last_page r == r.at / 4096) ≡ one → (l f : ℕ) → Leads memory v.root write (r.at / 4096) f → cond one (Ok f) (page_met memory v.root write (last_page r * 4096)) ≡ Ok l → Leads memory v.root write (last_page r) l
       second true t l f front g =
           let same : f ≡ l = cc in
-          subst (λ (p : ℕ). Leads memory v.root write p l) (sym (eq_told (last_page r) (r.at / 4096) t)) (front ∙ ap Some same)
+          subst (λ (p : ℕ). Leads memory v.root write p l) (sym (eqb-true (last_page r) (r.at / 4096) t)) (front ∙ ap Some same)
       second false t l f front g = subst (λ (p : ℕ). Leads memory v.root write p l) (back (last_page r)) (page_leads memory v.root write (last_page r * 4096) l g)
 
   pages_are : (write : Bool) (r : Range) (first last : ℕ) → Leads memory v.root write (r.at / 4096) first → Leads memory v.root write (last_page r) last → (x : ℕ × ℕ) × (pages_met memory v.root write r ≡ Ok x)
@@ -198,8 +190,8 @@ module _ (memory : List ℕ) (v : View) where
       let q = bound (unless (limit_fault r.seg) (not (is_past_limit v r.at))) (λ (w : Unit {0}). pages_met memory v.root write r) x p.1.1 in
       let s = pages_parts write r x q.1.1 in
       record {
-        fits = le_told (r.at + r.len) (2 ^ 32) (tested _ (nat_le (r.at + r.len) (2 ^ 32)) p.0 p.1.0);
-        above = is_not (is_past_limit v r.at) (tested _ (not (is_past_limit v r.at)) q.0 q.1.0);
+        fits = leb-true (r.at + r.len) (2 ^ 32) (unless_met _ (nat_le (r.at + r.len) (2 ^ 32)) p.0 p.1.0);
+        above = not-true (is_past_limit v r.at) (unless_met _ (not (is_past_limit v r.at)) q.0 q.1.0);
         first = s.0;
         first_is = s.2.0;
         last = s.1;
@@ -211,7 +203,7 @@ module _ (memory : List ℕ) (v : View) where
   range_is write r h =
       let p = pages_are write r h.first h.last h.first_is h.last_is in (
         p.0,
-        after (unless exits.Wrap (nat_le (r.at + r.len) (2 ^ 32))) _ tt (Ok p.0) (tests _ (nat_le (r.at + r.len) (2 ^ 32)) (le_true (r.at + r.len) (2 ^ 32) h.fits))
+        after (unless exits.Wrap (nat_le (r.at + r.len) (2 ^ 32))) _ tt (Ok p.0) (tests _ (nat_le (r.at + r.len) (2 ^ 32)) (le-leb (r.at + r.len) (2 ^ 32) h.fits))
             (after (unless (limit_fault r.seg) (not (is_past_limit v r.at))) (λ (w : Unit {0}). pages_met memory v.root write r) tt (Ok p.0) (tests _ (not (is_past_limit v r.at)) (ap not h.above)) p.1),
       )
 
@@ -231,7 +223,7 @@ module _ (memory : List ℕ) (v : View) where
 
   segment_parts : (o : Option Range) (x : Unit {0}) → segment_met v o ≡ Ok x → IsDenied o ≡ false
   segment_parts None x e = refl
-  segment_parts (Some r) x e = is_not (is_null v r.seg) (tested protection (not (is_null v r.seg)) x e)
+  segment_parts (Some r) x e = not-true (is_null v r.seg) (unless_met protection (not (is_null v r.seg)) x e)
 
   segment_is : (o : Option Range) → IsDenied o ≡ false → segment_met v o ≡ Ok tt
   segment_is None e = refl
@@ -312,6 +304,6 @@ module _ (memory : List ℕ) (v : View) (r : Regs) where
       let p = bound (unless (exits.Entry r.eip) (not (is_entry v r.eip))) _ x e in
       let q = bound (fetched memory v.root r.eip) _ x p.1.1 in
       let s = bound (spelled q.0) _ x q.1.1 in
-      let outside = is_not (is_entry v r.eip) (tested _ (not (is_entry v r.eip)) p.0 p.1.0) in
+      let outside = not-true (is_entry v r.eip) (unless_met _ (not (is_entry v r.eip)) p.0 p.1.0) in
       let way = fetch_parts memory v.root r.eip s.0.0 s.0.1 (q.1.0 ∙ ap Ok (spelled_parts q.0 s.0 s.1.0)) in
       worked_parts s.0.0 s.0.1 x outside way s.1.1

@@ -2,20 +2,17 @@
 use Rattle.std.proofs.Common.{◌≡◌, ℕ, ◌+◌, ◌-◌, ◌≤◌, Bool, true, false, cond, ◌&&◌, ◌||◌, List, [], ◌∷◌, Option, Some, None, refl, ap, ◌∙◌, arith}
 use Rattle.std.specs.Prelude.{nat_le, nat_lt}
 use Rattle.std.specs.List.{find}
+use Rattle.std.proofs.lemmas.Bool.{and_parts, false_from_ne_true, le-leb, lt-ltb, leb-true, ltb-true, and_from, both_ways}
 use Rattle.sites.specs.declared.site.Site.{Site}
 use Rattle.image_check.specs.Places.{lies_in, site_at, is_site_at}
-use Rattle.native_steps.proofs.Choices.{is_false, both, le_told, lt_told, le_true, lt_true, clash}
-
-both_true : (a b : Bool) → a ≡ true → b ≡ true → (a && b) ≡ true
-both_true a b e f = cc
 
 not_in : (s : Site) (eip : ℕ) → 0x10000000 ≤ eip → lies_in (eip - 0x10000000) s ≡ false → (nat_le (0x10000000 + s.at) eip && nat_lt eip (0x10000000 + s.at + s.total)) ≡ false
 not_in s eip above out =
-    is_false (nat_le (0x10000000 + s.at) eip && nat_lt eip (0x10000000 + s.at + s.total)) (λ e.
-    let p = both (nat_le (0x10000000 + s.at) eip) (nat_lt eip (0x10000000 + s.at + s.total)) e in
-    let low = le_told (0x10000000 + s.at) eip p.0 in
-    let high = lt_told eip (0x10000000 + s.at + s.total) p.1 in
-    clash (lies_in (eip - 0x10000000) s) (both_true (nat_le s.at (eip - 0x10000000)) (nat_lt (eip - 0x10000000) (s.at + s.total)) (le_true s.at (eip - 0x10000000) (omega (arith, above, low))) (lt_true (eip - 0x10000000) (s.at + s.total) (omega (arith, above, high)))) out)
+    false_from_ne_true (nat_le (0x10000000 + s.at) eip && nat_lt eip (0x10000000 + s.at + s.total)) (λ e.
+    let p = and_parts (nat_le (0x10000000 + s.at) eip) (nat_lt eip (0x10000000 + s.at + s.total)) e in
+    let low = leb-true (0x10000000 + s.at) eip p.0 in
+    let high = ltb-true eip (0x10000000 + s.at + s.total) p.1 in
+    both_ways (lies_in (eip - 0x10000000) s) out (and_from (nat_le s.at (eip - 0x10000000)) (nat_lt (eip - 0x10000000) (s.at + s.total)) (le-leb s.at (eip - 0x10000000) (omega (arith, above, low))) (lt-ltb (eip - 0x10000000) (s.at + s.total) (omega (arith, above, high)))))
 
 none_found : (test : Site → Bool) (s : Site) (ss : List Site) → find test (s ∷ ss) ≡ None → (test s ≡ false) × (find test ss ≡ None)
 none_found test s ss e = by_test (test s) refl e

@@ -1,4 +1,3 @@
-pub mod Choices
 pub mod Short
 pub mod Pages
 pub mod Ways

@@ -5,6 +5,7 @@ use Rattle.std.specs.FinMap.{FinMap, get, insert, get-insert}
 use Rattle.std.specs.Ordering.{nat_cmp}
 use Rattle.std.specs.Cmp.{unsigned_tied}
 use Rattle.std.proofs.lemmas.Cmp.{nat_cmp_total}
+use Rattle.std.proofs.lemmas.Bool.{cond-true, cond-false, eq-eqb, or_parts, or_from}
 use Rattle.guest_ram.specs.Bytes.{byte, part}
 use Rattle.ia32_types.specs.declared.stop.Stop.TheVariants as stops
 use Rattle.paging.specs.declared.entry.Access.{Access}
@@ -19,10 +20,9 @@ use Rattle.paging.specs.Uses.{tables_of, Decision, is_text, is_own, is_barred, m
 use Rattle.machine_model.specs.State.{Setting, State}
 use Rattle.machine_model.specs.Instruction.{bytes_fetched, fetching}
 use Rattle.native_steps.specs.Looking.{marked, Seen, is_stopped, found_by, seen_by, bytes_seen}
-use Rattle.native_steps.proofs.Choices.{chosen, passed_by, eq_true}
 use Rattle.native_steps.proofs.Walks.{walk_parts, page_is as page_of_walk}
 use Rattle.native_steps.proofs.Walking.{decided_readied, usable_parts}
-use Rattle.native_steps.proofs.TextWalks.{either_false, both_false, reads_text, decided_clear, decided_ready}
+use Rattle.native_steps.proofs.TextWalks.{reads_text, decided_clear, decided_ready}
 use Rattle.native_steps.proofs.Through.{on_ready, pair, taken_parts}
 
 -- what decides where a page is
@@ -85,8 +85,8 @@ module _ (user : Bool) (s : Space) (page at : ℕ) (small : page < 2 ^ 20) where
   found_where_allowed : (e : Entry) (d t : ℕ) → IsPassed e d t → found_by s.mode page reading s.wp (Found e d t) ≡ Some (record { frame = e.frame; marks = d ∷ t ∷ [] })
   found_where_allowed e d t h =
       let x : Option Seen = Some (record { frame = e.frame; marks = d ∷ t ∷ [] }) in
-      passed_by (not (grants e reading s.wp)) None (cond (is_stopped s.mode reading page e.frame d t) None x) (ap not h.granted)
-      ∙ passed_by (is_stopped s.mode reading page e.frame d t) None x h.free
+      cond-false (not (grants e reading s.wp)) None (cond (is_stopped s.mode reading page e.frame d t) None x) (ap not h.granted)
+      ∙ cond-false (is_stopped s.mode reading page e.frame d t) None x h.free
 
   module _ (t : Space) where
     by_kept : (e : Entry) → usable (get s.set page) reading s.wp ≡ Some e → by_entry seen_now true page at reading (Some e) ≡ (Ready, t) → PageSeen s.mode reading (look s) (look t) page
@@ -99,7 +99,7 @@ module _ (user : Bool) (s : Space) (page at : ℕ) (small : page < 2 ^ 20) where
               x = record { frame = e.frame; marks = [] };
               is =
                   ap (λ (o : Option Entry). seen_by s.mode page o reading s.wp (fresh s.ram s.frames s.cr3 s.pse page)) found
-                  ∙ passed_by (barred e.frame) None (Some (record { frame = e.frame; marks = [] })) bar;
+                  ∙ cond-false (barred e.frame) None (Some (record { frame = e.frame; marks = [] })) bar;
               own = refl;
               ram = refl;
               entry = e;
@@ -131,13 +131,13 @@ module _ (user : Bool) (s : Space) (page at : ℕ) (small : page < 2 ^ 20) where
           is =
               ap (λ (o : Option Entry). seen_by s.mode page o reading s.wp (fresh s.ram s.frames s.cr3 s.pse page)) none
               ∙ ap (found_by s.mode page reading s.wp) r.found
-              ∙ found_where_allowed r.entry r.dir_at r.word_at (record { granted = r.granted; free = both_false (barred r.entry.frame) _ free clear });
+              ∙ found_where_allowed r.entry r.dir_at r.word_at (record { granted = r.granted; free = or_from (barred r.entry.frame) _ free clear });
           own = sym (own_marks s r.dir_at r.word_at) ∙ r.own;
           ram = refl;
           entry = entry;
-          kept = got page ∙ chosen (page == page) (Some entry) (get s.set page) (eq_true page page refl);
+          kept = got page ∙ cond-true (page == page) (Some entry) (get s.set page) (eq-eqb page page refl);
           frame_is = refl;
-          others = λ q other. got q ∙ passed_by (q == page) (Some entry) (get s.set q) other;
+          others = λ q other. got q ∙ cond-false (q == page) (Some entry) (get s.set q) other;
           frames = refl;
           cr3 = refl;
           pse = refl;
@@ -178,7 +178,7 @@ module _ (user : Bool) (s : Space) (page at : ℕ) (small : page < 2 ^ 20) where
       by_walk Reserved is g = absurd cc
       by_walk (Found e d t) is g =
           let p = found_parts x e d t g in
-          let two = either_false (barred e.frame) (is_text s.mode (d / 4096) || is_text s.mode (t / 4096)) p.passes.free in
+          let two = or_parts (barred e.frame) (is_text s.mode (d / 4096) || is_text s.mode (t / 4096)) p.passes.free in
           let page_is : e.page ≡ page = page_of_walk s.ram s.frames s.cr3 s.pse page e d t (walk_parts s.ram s.frames s.cr3 s.pse page e d t is) in
           decided_ready (tables_of s) true page at reading e d t (reads_text (tables_of s) page e d t small is ∙ two.1) is p.passes.granted
           (ap (λ n. is_barred s.mode true user n e.frame) page_is ∙ two.0) (own_marks s d t ∙ ap (marks_any s.mode s.ram) p.marks ∙ own)

@@ -9,7 +9,8 @@ use Rattle.paging.specs.Fresh.{has, dir_place, word_place, large_frame, fresh}
 use Rattle.paging.specs.Space.{Mode}
 use Rattle.native_steps.specs.Looking.{Seen, found_by}
 use Rattle.native_steps.proofs.Marks.{AreMarked}
-use Rattle.native_steps.proofs.Walks.{IsByTable, IsLarge, IsWalk, ByTable, Large, walk_parts, walk_is, walk_kept, dir_in, word_in, has_1, has_2, has_4, same_size, same_large, same_reserved}
+use Rattle.native_steps.proofs.Walks.{IsByTable, IsLarge, IsWalk, ByTable, Large, walk_parts, walk_is, walk_kept, dir_in, word_in, same_size, same_large, same_reserved}
+use Rattle.machine_model.proofs.FoundStill.{has_1, has_2, has_4}
 
 table_before : (x y : List ℕ) (frames cr3 : ℕ) (pse : Bool) (page : ℕ) (e : Entry) (d t : ℕ) → AreMarked x y → page < 2 ^ 20 → 4096 * frames ≤ length x → IsByTable y frames cr3 pse page e d t → (dirty : Bool) × IsByTable x frames cr3 pse page (record e { dirty = dirty }) d t
 table_before x y frames cr3 pse page e d t m small room h =

@@ -3,6 +3,7 @@ use Rattle.std.proofs.Common.{◌≡◌, ℕ, ◌+◌, ◌-◌, ◌*◌, ◌/◌
 use Rattle.std.specs.Prelude.{nat_le, nat_lt}
 use Rattle.std.specs.List.{Contains, list_any}
 use Rattle.std.specs.FinMap.{get}
+use Rattle.std.proofs.lemmas.Bool.{cond-true, cond-false, false_from_ne_true, le-ltb, eqb-true, eq-eqb, or_from, both_ways}
 use Rattle.guest_ram.specs.Bytes.{AreBytes, byte}
 use Rattle.ia32_types.specs.declared.stop.Stop.TheVariants as stops
 use Rattle.ia32_types.specs.declared.insn.Insn.{Insn}
@@ -17,7 +18,7 @@ use Rattle.paging.specs.declared.entry.Entry.{Entry}
 use Rattle.paging.specs.declared.entry.Walk.{Walk}
 use Rattle.paging.specs.declared.entry.Walk.TheVariants.{Absent, Beyond, Reserved, Found}
 use Rattle.paging.specs.Fresh.{has, fresh}
-use Rattle.paging.specs.Space.{Mode, Bare, Wedge, Space, place, place_by}
+use Rattle.paging.specs.Space.{Mode, Bare, Wedge, no_own, Space, place, place_by}
 use Rattle.paging.specs.Uses.{is_own, usable, with_front, with_back}
 use Rattle.paging.specs.Work.{Outcome, on_value, refuses}
 use Rattle.sys_exec.specs.declared.effect.Refusal.{Refusal}
@@ -27,9 +28,7 @@ use Rattle.machine_model.specs.State.{Setting, State, space_at_start, wedge_mode
 use Rattle.machine_model.specs.Instruction.{fetching, owning_front, owning_back, next_page, owned, fetched_on, fetched_by, fetched}
 use Rattle.machine_model.specs.Clash.{Use, fetch_uses, range_uses, uses_by, uses_at, is_refused_by, clash_in, instruction_clashes}
 use Rattle.native_steps.specs.Looking.{marked, Seen, seen_by, seen, is_front, marks_front, seen_behind, next_seen, bytes_seen, uses_on, uses_behind, uses_from, uses_seen, UsesAreSeen, LooksAgree}
-use Rattle.native_steps.proofs.Choices.{chosen, passed_by, eq_true, is_false, eq_told, lt_false, clash}
 use Rattle.native_steps.proofs.Walking.{IsWithin}
-use Rattle.native_steps.proofs.TextWalks.{both_false}
 use Rattle.native_steps.proofs.Through.{FetchThrough, fetch_through}
 use Rattle.native_steps.proofs.Fetching.{IsFetch, fetch_parts, by_parts, IsIn, IsPast, fetching_went}
 use Rattle.native_steps.proofs.Repeating.{front_is}
@@ -56,11 +55,11 @@ or_false true = refl
 or_false false = refl
 
 none_there : (k : ℕ) → (nat_le 0 k && nat_lt k (0 + 0)) ≡ false
-none_there k = ap (λ x. nat_le 0 k && x) (lt_false k 0 (omega arith)) ∙ and_false (nat_le 0 k)
+none_there k = ap (λ x. nat_le 0 k && x) (le-ltb k 0 (omega arith)) ∙ and_false (nat_le 0 k)
 
 -- at first no byte is the instruction's own
 none_own : (image : Image) (k : ℕ) → is_own (wedge_mode image) k ≡ false
-none_own image k = both_false _ _ (none_there k) (none_there k)
+none_own image k = or_from _ _ (none_there k) (none_there k)
 
 -- and then those of the first page are
 front_own : (image : Image) (at len k : ℕ) → is_own (with_front (wedge_mode image) at len) k ≡ (nat_le at k && nat_lt k (at + len))
@@ -72,7 +71,7 @@ any_same f g h (k ∷ ks) = ap (λ x. x || list_any f ks) (h k) ∙ ap (λ x. g 
 
 any_none : (f : ℕ → Bool) → ((k : ℕ) → f k ≡ false) → (ks : List ℕ) → list_any f ks ≡ false
 any_none f h [] = refl
-any_none f h (k ∷ ks) = both_false (f k) (list_any f ks) (h k) (any_none f h ks)
+any_none f h (k ∷ ks) = or_from (f k) (list_any f ks) (h k) (any_none f h ks)
 
 -- ---- uses that can't clash
 
@@ -98,7 +97,7 @@ module _ (m : Setting) (b : State) (kernel : Bool) (mode : m.mode ≡ wedge_mode
   access_is = ap (λ (u : Bool). record { write = false; user = u }) user
 
   start_in : IsWithin m b kernel start
-  start_in = record { frames = refl; cr3 = refl; pse = refl; wp = refl; own = record { front = 0; front_len = 0; back = 0; back_len = 0 }; mode = mode; room = room; fit = fit; pages = λ q lt. inl refl }
+  start_in = record { frames = refl; cr3 = refl; pse = refl; wp = refl; own = no_own; mode = mode; room = room; fit = fit; pages = λ q lt. inl refl }
 
   none_before : (q : ℕ) → Contains {X = ℕ} [] q → ⊥
   none_before q c = let lt = c.1 in omega (arith, lt)
@@ -113,11 +112,11 @@ module _ (m : Setting) (b : State) (kernel : Bool) (mode : m.mode ≡ wedge_mode
   next = next_page eip / 4096
 
   next_other : (next == eip / 4096) ≡ false
-  next_other = is_false (next == eip / 4096) (λ e. let is = eq_told next (eip / 4096) e in omega (arith, is))
+  next_other = false_from_ne_true (next == eip / 4096) (λ e. let is = eqb-true next (eip / 4096) e in omega (arith, is))
 
   next_small : (eip / 4096 == 1048575) ≡ false → next < 2 ^ 20
   next_small not_last =
-      let other : eip / 4096 ≡ 1048575 → ⊥ = λ e. clash (eip / 4096 == 1048575) (eq_true (eip / 4096) 1048575 e) not_last in
+      let other : eip / 4096 ≡ 1048575 → ⊥ = λ e. both_ways (eip / 4096 == 1048575) not_last (eq-eqb (eip / 4096) 1048575 e) in
       omega (arith, small, other)
 
   -- ---- behind a fetch of the first page
@@ -193,7 +192,7 @@ module _ (m : Setting) (b : State) (kernel : Bool) (mode : m.mode ≡ wedge_mode
         next_is : next_seen m b x ≡ Some y
         next_is =
             ap (seen_behind b x) (seen_same next ∙ to_before y (usable (get b.set next) access (wp_of b.cpu)) (sym same_entry ∙ second.page.is))
-            ∙ passed_by (marks_front b x y.marks) None (Some y) (sym (marks_are y.marks) ∙ second.page.own)
+            ∙ cond-false (marks_front b x y.marks) None (Some y) (sym (marks_are y.marks) ∙ second.page.own)
 
         more_is : more ≡ bytes_seen (marked (marked b.ram x.marks) y.marks) y (next_page eip) longest
         more_is = second.bytes_are ∙ ap (λ (l : List ℕ). bytes_seen (marked l y.marks) y (next_page eip) longest) one.page.ram
@@ -207,7 +206,7 @@ module _ (m : Setting) (b : State) (kernel : Bool) (mode : m.mode ≡ wedge_mode
         uses_two cut =
             from_first
             ∙ ap (uses_behind m b x front) cut
-            ∙ passed_by (eip / 4096 == 1048575) (fetch_uses b (eip / 4096 ∷ [])) (uses_on b (marked b.ram x.marks) front (next_seen m b x)) not_last
+            ∙ cond-false (eip / 4096 == 1048575) (fetch_uses b (eip / 4096 ∷ [])) (uses_on b (marked b.ram x.marks) front (next_seen m b x)) not_last
             ∙ on_is
 
   -- ---- where the fetch gives an instruction
@@ -291,7 +290,7 @@ module _ (m : Setting) (b : State) (kernel : Bool) (mode : m.mode ≡ wedge_mode
             cut_is none =
                 from_first front first reads
                 ∙ ap (uses_behind m b (x front first reads) front) cut
-                ∙ passed_by (eip / 4096 == 1048575) (fetch_uses b (eip / 4096 ∷ [])) (uses_on b (marked b.ram (x front first reads).marks) front (next_seen m b (x front first reads))) not_last
+                ∙ cond-false (eip / 4096 == 1048575) (fetch_uses b (eip / 4096 ∷ [])) (uses_on b (marked b.ram (x front first reads).marks) front (next_seen m b (x front first reads))) not_last
                 ∙ ap (uses_on b (marked b.ram (x front first reads).marks) front) none
         seen_on (Some y) is = by_marks (marks_front b (x front first reads) y.marks) refl
           where
@@ -299,7 +298,7 @@ module _ (m : Setting) (b : State) (kernel : Bool) (mode : m.mode ≡ wedge_mode
             cut_is none =
                 from_first front first reads
                 ∙ ap (uses_behind m b (x front first reads) front) cut
-                ∙ passed_by (eip / 4096 == 1048575) (fetch_uses b (eip / 4096 ∷ [])) (uses_on b (marked b.ram (x front first reads).marks) front (next_seen m b (x front first reads))) not_last
+                ∙ cond-false (eip / 4096 == 1048575) (fetch_uses b (eip / 4096 ∷ [])) (uses_on b (marked b.ram (x front first reads).marks) front (next_seen m b (x front first reads))) not_last
                 ∙ ap (uses_on b (marked b.ram (x front first reads).marks) front) none
 
             by_marks : (c : Bool) → marks_front b (x front first reads) y.marks ≡ c → instruction_clashes m b ≡ true
@@ -314,7 +313,7 @@ module _ (m : Setting) (b : State) (kernel : Bool) (mode : m.mode ≡ wedge_mode
       by_last cut true is =
           none_clear (fetch_uses b (eip / 4096 ∷ []))
           (from_first front first reads ∙ ap (uses_behind m b (x front first reads) front) cut
-          ∙ chosen (eip / 4096 == 1048575) (fetch_uses b (eip / 4096 ∷ [])) (uses_on b (marked b.ram (x front first reads).marks) front (next_seen m b (x front first reads))) is)
+          ∙ cond-true (eip / 4096 == 1048575) (fetch_uses b (eip / 4096 ∷ [])) (uses_on b (marked b.ram (x front first reads).marks) front (next_seen m b (x front first reads))) is)
           (one_clear b (eip / 4096))
       by_last cut false is = seen_on is cut (seen m b next) refl
 

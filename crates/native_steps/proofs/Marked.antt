@@ -1,11 +1,11 @@
 -- The bytes of a memory in which accessed flags are set.
 use Rattle.std.proofs.Common.{◌≡◌, ℕ, suc, ◌/◌, ◌%◌, ◌<◌, [], ◌∷◌, length, Bool, true, false, cond, ◌||◌, ◌==◌, refl, sym, ap, subst, ◌∙◌, arith, bit_or}
 use Rattle.std.specs.List.{All}
+use Rattle.std.proofs.lemmas.Bool.{eqb-true, eq-eqb, both_ways}
 use Rattle.guest_ram.specs.Among.{is_among}
 use Rattle.guest_ram.specs.Bytes.{byte, with_byte}
 use Rattle.guest_ram.proofs.Bytes.{byte-with_byte, byte_lt, length-with_byte}
 use Rattle.native_steps.specs.Looking.{MarksAreRead}
-use Rattle.native_steps.proofs.Choices.{clash, eq_true, eq_told}
 use Rattle.native_steps.proofs.Marks.{or_32, has_them, byte_other, bytes_with}
 
 -- a flag that is set stays
@@ -14,7 +14,7 @@ again n lt =
     let e = or_32 n lt in
     let small : bit_or n 32 < 256 = omega (arith, e, lt) in
     let there : bit_or n 32 / 32 % 2 ≡ 1 = omega (arith, e, lt) in
-    has_them false (bit_or n 32) small (eq_true (bit_or n 32 / 32 % 2) 1 there) (λ w. absurd (let f : false ≡ true = w in cc))
+    has_them false (bit_or n 32) small (eq-eqb (bit_or n 32 / 32 % 2) 1 there) (λ w. absurd (let f : false ≡ true = w in cc))
 
 both_same : (c : Bool) (x y : ℕ) → x ≡ y → cond c x y ≡ y
 both_same true x y e = e
@@ -36,13 +36,13 @@ marks_are_read ram (p ∷ ps) k fit within =
         → cond (is_among k ps) (bit_or (byte (with_byte ram p (bit_or (byte ram p) 32)) k) 32) (byte (with_byte ram p (bit_or (byte ram p) 32)) k)
         ≡ cond ((k == p) || is_among k ps) (bit_or (byte ram k) 32) (byte ram k)
     here v lt old true is =
-        let same : p ≡ k = sym (eq_told k p is) in
+        let same : p ≡ k = sym (eqb-true k p is) in
         let now : byte (with_byte ram p (bit_or (byte ram p) 32)) k ≡ bit_or (byte ram p) 32 = ap (byte (with_byte ram p (bit_or (byte ram p) 32))) (sym same) ∙ byte-with_byte ram p (bit_or (byte ram p) 32) lt in
         both_same (is_among k ps) _ _ (ap (λ n. bit_or n 32) now ∙ again (byte ram p) old ∙ sym now)
         ∙ now
         ∙ ap (λ n. bit_or (byte ram n) 32) same
         ∙ sym (ap (λ c. cond (c || is_among k ps) (bit_or (byte ram k) 32) (byte ram k)) is)
     here v lt old false is =
-        let now : byte (with_byte ram p (bit_or (byte ram p) 32)) k ≡ byte ram k = byte_other ram p (bit_or (byte ram p) 32) k lt (λ g. clash (k == p) (eq_true k p g) is) in
+        let now : byte (with_byte ram p (bit_or (byte ram p) 32)) k ≡ byte ram k = byte_other ram p (bit_or (byte ram p) 32) k lt (λ g. both_ways (k == p) is (eq-eqb k p g)) in
         ap (λ n. cond (is_among k ps) (bit_or n 32) n) now
         ∙ sym (ap (λ c. cond (c || is_among k ps) (bit_or (byte ram k) 32) (byte ram k)) is)

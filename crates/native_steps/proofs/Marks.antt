@@ -1,11 +1,10 @@
 -- The flags that walks set change no frame, no size and no right.
 use Rattle.std.proofs.Common.{◌≡◌, ℕ, zero, suc, ◌+◌, ◌*◌, ◌/◌, ◌%◌, ◌<◌, ◌≤◌, List, length, Bool, true, false, cond, ◌&&◌, ◌==◌, refl, sym, ap, subst, ◌∙◌, ◌⊎◌, inl, inr, arith}
-use Rattle.std.specs.Prelude.{bit_or, nat_le}
-use Rattle.std.proofs.lemmas.Bool.{cases_lt}
+use Rattle.std.specs.Prelude.{bit_or}
+use Rattle.std.proofs.lemmas.Bool.{cases_lt, and_parts, eqb-true, eq-eqb, both_ways}
 use Rattle.guest_ram.specs.Bytes.{AreBytes, byte, word32, with_byte}
 use Rattle.guest_ram.proofs.Bytes.{byte-with_byte, byte-with_part_below, byte-with_part_above, length-with_byte, word32-is, byte_lt}
 use Rattle.paging.specs.Fresh.{has, flagged}
-use Rattle.native_steps.proofs.Choices.{both, eq_told, eq_true, clash}
 
 -- ---- bytes with a flag more
 
@@ -17,7 +16,7 @@ told_below : (test : ℕ → Bool) (n k : ℕ) → k < n → all_below test n �
 unfolding all_below
 told_below test zero k lt e = absurd (omega (arith, lt))
 told_below test (suc n) k lt e =
-    let p = both (test n) (all_below test n) e in
+    let p = and_parts (test n) (all_below test n) e in
     elim (cases_lt k n) [
       | inl below ↦ told_below test n k below p.1
       | inr above ↦ let is : n ≡ k = omega (arith, above, lt) in ap test (sym is) ∙ p.0
@@ -32,10 +31,10 @@ unfolding all_below
 all_dirtied = refl
 
 pub or_32 : (n : ℕ) → n < 256 → bit_or n 32 ≡ n % 32 + 32 + n / 64 * 64
-or_32 n lt = eq_told (bit_or n 32) (n % 32 + 32 + n / 64 * 64) (told_below (λ k. bit_or k 32 == k % 32 + 32 + k / 64 * 64) 256 n lt all_accessed)
+or_32 n lt = eqb-true (bit_or n 32) (n % 32 + 32 + n / 64 * 64) (told_below (λ k. bit_or k 32 == k % 32 + 32 + k / 64 * 64) 256 n lt all_accessed)
 
 pub or_96 : (n : ℕ) → n < 256 → bit_or n 96 ≡ n % 32 + 96 + n / 128 * 128
-or_96 n lt = eq_told (bit_or n 96) (n % 32 + 96 + n / 128 * 128) (told_below (λ k. bit_or k 96 == k % 32 + 96 + k / 128 * 128) 256 n lt all_dirtied)
+or_96 n lt = eqb-true (bit_or n 96) (n % 32 + 96 + n / 128 * 128) (told_below (λ k. bit_or k 96 == k % 32 + 96 + k / 128 * 128) 256 n lt all_dirtied)
 
 -- a byte in which flags were set
 pub record IsMark (b v : ℕ) : Type 0 where
@@ -61,12 +60,12 @@ mark_is false b lt =
 pub has_them : (write : Bool) (b : ℕ) → b < 256 → has b 32 ≡ true → (write ≡ true → has b 64 ≡ true) → bit_or b (flags_of write) ≡ b
 has_them true b lt h k =
     let e = or_96 b lt in
-    let five : b / 32 % 2 ≡ 1 = eq_told (b / 32 % 2) 1 h in
-    let six : b / 64 % 2 ≡ 1 = eq_told (b / 64 % 2) 1 (k refl) in
+    let five : b / 32 % 2 ≡ 1 = eqb-true (b / 32 % 2) 1 h in
+    let six : b / 64 % 2 ≡ 1 = eqb-true (b / 64 % 2) 1 (k refl) in
     e ∙ (let g : b % 32 + 96 + b / 128 * 128 ≡ b = omega (arith, five, six) in g)
 has_them false b lt h k =
     let e = or_32 b lt in
-    let five : b / 32 % 2 ≡ 1 = eq_told (b / 32 % 2) 1 h in
+    let five : b / 32 % 2 ≡ 1 = eqb-true (b / 32 % 2) 1 h in
     e ∙ (let g : b % 32 + 32 + b / 64 * 64 ≡ b = omega (arith, five) in g)
 
 -- ---- words with flags more
@@ -122,7 +121,7 @@ one_marked x p v aligned room m = record {
 
   by_place : (a : ℕ) → a % 4 ≡ 0 → a + 4 ≤ length x → (same : Bool) → (a == p) ≡ same → IsMarked (word32 x a) (word32 (with_byte x p v) a)
   by_place a even within true e =
-      let is : a ≡ p = eq_told a p e in
+      let is : a ≡ p = eqb-true a p e in
       let w = word32-is x a in
       let n = word32-is (with_byte x p v) a in
       let first : byte (with_byte x p v) a ≡ v = ap (byte (with_byte x p v)) is ∙ byte-with_byte x p v in_bounds in
@@ -144,7 +143,7 @@ one_marked x p v aligned room m = record {
             omega (arith, n, first, now);
       }
   by_place a even within false e =
-      let other : a ≡ p → ⊥ = λ g. clash (a == p) (eq_true a p g) e in
+      let other : a ≡ p → ⊥ = λ g. both_ways (a == p) e (eq-eqb a p g) in
       same_word (word32 x a) (word32 (with_byte x p v) a) (word_by x (with_byte x p v) a
       (byte_other x p v a in_bounds other)
       (byte_other x p v (a + 1) in_bounds (λ g. omega (arith, g, even, aligned)))
@@ -162,8 +161,8 @@ bytes_with x p v lt h small = λ k.
     cases_eq k p = by_test (k == p) refl
       where
         by_test : (t : Bool) → (k == p) ≡ t → (k ≡ p) ⊎ (k ≡ p → ⊥)
-        by_test true e = inl (eq_told k p e)
-        by_test false e = inr (λ g. clash (k == p) (eq_true k p g) e)
+        by_test true e = inl (eqb-true k p e)
+        by_test false e = inr (λ g. both_ways (k == p) e (eq-eqb k p g))
 
     unbyte : (y : List ℕ) (k : ℕ) → byte y k < 256 → Rattle.std.specs.Prelude.slice_index y k < 256
     unbyte y k lt2 = unfold byte in lt2
@@ -217,22 +216,22 @@ module _ (x : List ℕ) (d t : ℕ) (write : Bool) (d_even : d % 4 ≡ 0) (t_eve
     where
       one_by : (same : Bool) → (k == d) ≡ same → byte (with_byte x d (bit_or (byte x d) 32)) k ≡ byte x k
       one_by true e =
-          let is : k ≡ d = eq_told k d e in
+          let is : k ≡ d = eqb-true k d e in
           ap (byte (with_byte x d (bit_or (byte x d) 32))) is ∙ byte-with_byte x d _ (omega (arith, d_in))
           ∙ has_them false (byte x d) (byte_lt x d fit) (subst (λ (n : ℕ). has (byte x n) 32 ≡ true) is (at_d is)) (λ f. absurd (let g : false ≡ true = f in cc))
           ∙ ap (byte x) (sym is)
-      one_by false e = byte_other x d _ k (omega (arith, d_in)) (λ g. clash (k == d) (eq_true k d g) e)
+      one_by false e = byte_other x d _ k (omega (arith, d_in)) (λ g. both_ways (k == d) e (eq-eqb k d g))
 
       one : byte first k ≡ byte x k
       one = one_by (k == d) refl
 
       second : (same : Bool) → (k == t) ≡ same → byte (with_byte first t (bit_or (byte first t) (flags_of write))) k ≡ byte x k
       second true e =
-          let is : k ≡ t = eq_told k t e in
+          let is : k ≡ t = eqb-true k t e in
           let long = first_long in
           let had = at_t is in
           let same : byte first t ≡ byte x k = ap (byte first) (sym is) ∙ one in
           ap (byte (with_byte first t (bit_or (byte first t) (flags_of write)))) is ∙ byte-with_byte first t _ (omega (arith, long, t_in))
           ∙ has_them write (byte first t) (byte_lt first t first_fit) (ap (λ n. has n 32) same ∙ had.0) (λ f. ap (λ n. has n 64) same ∙ had.1 f)
           ∙ same
-      second false e = let long = first_long in byte_other first t _ k (omega (arith, long, t_in)) (λ g. clash (k == t) (eq_true k t g) e) ∙ one
+      second false e = let long = first_long in byte_other first t _ k (omega (arith, long, t_in)) (λ g. both_ways (k == t) e (eq-eqb k t g)) ∙ one

@@ -5,6 +5,7 @@ use Rattle.std.proofs.Common.{zero, suc, length, inl, inr, sym, ◌<◌, ◌≡�
 use Rattle.std.specs.Prelude.{nat_lt, nat_le}
 use Rattle.std.specs.FinMap.{FinMap, get}
 use Rattle.std.specs.Ordering.{nat_cmp}
+use Rattle.std.proofs.lemmas.Bool.{cond-true, cond-false, le-leb, le-ltb}
 use Rattle.guest_ram.specs.Bytes.{part}
 use Rattle.ia32_types.specs.declared.stop.Stop as reason
 use Rattle.ia32_types.specs.declared.stop.Stop.TheVariants as stops
@@ -25,7 +26,6 @@ use Rattle.image_load.specs.Boot.{text_pages}
 use Rattle.machine_model.specs.State.{Setting, State, wedge_mode}
 use Rattle.machine_model.specs.Instruction.{bytes_fetched, fetching}
 use Rattle.native_steps.specs.Lends.{IsLent, AreKept}
-use Rattle.native_steps.proofs.Choices.{chosen, passed_by, lt_false, le_true}
 
 -- a step's memory, with the bytes and translations of the state
 pub record At (m : Setting) (b : State) (s : Space) : Type 0 where
@@ -91,12 +91,12 @@ module _ (m : Setting) (b : State) (kernel : Bool) where
       let e : Entry = lent.entry in
       let kept : get s.set page ≡ Some e = ap (λ (set : FinMap nat_cmp Entry). get set page) h.set ∙ lent.kept in
       let allowed : allows e access s.wp ≡ true = ap (allows e access) h.wp ∙ lent.allowed in
-      let used : usable (get s.set page) access s.wp ≡ Some e = ap (λ (o : Option Entry). usable o access s.wp) kept ∙ chosen (allows e access s.wp) (Some e) None allowed in
+      let used : usable (get s.set page) access s.wp ≡ Some e = ap (λ (o : Option Entry). usable o access s.wp) kept ∙ cond-true (allows e access s.wp) (Some e) None allowed in
       let barred : is_barred s.mode fetch (not kernel) page e.frame ≡ false =
       ap (λ (w : Mode). is_barred w fetch (not kernel) page e.frame) h.mode ∙ ap (is_barred (wedge_mode m.image) fetch (not kernel) page) lent.frame_is ∙ free in
       record {
         space = t;
-        is = ap (by_entry t fetch page at access) used ∙ passed_by (is_barred s.mode fetch (not kernel) page e.frame) (Stop stops.TextMapped, t) (Ready, t) barred;
+        is = ap (by_entry t fetch page at access) used ∙ cond-false (is_barred s.mode fetch (not kernel) page e.frame) (Stop stops.TextMapped, t) (Ready, t) barred;
         at = record { ram = h.ram; set = h.set; wp = h.wp; visited = went_more s.visited page e h.visited lent.kept; tables = h.tables; own = h.own; mode = h.mode };
       }
 
@@ -115,10 +115,10 @@ module _ (m : Setting) (b : State) (kernel : Bool) where
   second_choice false o s h p = p refl
 
   no_window : (s : Space) (write : Bool) (at : ℕ) → At m b s → (kernel ≡ true → 0x11000000 ≤ at) → window_stop s.mode (by_side write) at ≡ None
-  no_window s write at h above = ap (λ (w : Mode). window_stop w (by_side write) at) h.mode ∙ chosen (not kernel || nat_le 285212672 at) None _ (open_above kernel above)
+  no_window s write at h above = ap (λ (w : Mode). window_stop w (by_side write) at) h.mode ∙ cond-true (not kernel || nat_le 285212672 at) None _ (open_above kernel above)
     where
       open_above : (k : Bool) → (k ≡ true → 0x11000000 ≤ at) → (not k || nat_le 285212672 at) ≡ true
-      open_above true a = le_true 285212672 at (a refl)
+      open_above true a = le-leb 285212672 at (a refl)
       open_above false a = refl
 
   pub range_passes : (s : Space) (at len : ℕ) (write : Bool) (first last : ℕ) → At m b s → at + len ≤ 2 ^ 32 → (kernel ≡ true → 0x11000000 ≤ at)
@@ -136,7 +136,7 @@ module _ (m : Setting) (b : State) (kernel : Bool) where
       (made at len write)) in
       record {
         space = pages.space;
-        is = passed_by (nat_lt (2 ^ 32) (at + len)) _ _ (lt_false (2 ^ 32) (at + len) fits)
+        is = cond-false (nat_lt (2 ^ 32) (at + len)) _ _ (le-ltb (2 ^ 32) (at + len) fits)
             ∙ ap (λ (w : Option reason.Stop). by_window w at len access (unready s)) (no_window s write at h above)
             ∙ pages.is;
         at = pages.at;

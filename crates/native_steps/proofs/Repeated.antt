@@ -4,7 +4,7 @@ use Rattle.std.specs.Prelude.{nat_le, nat_lt}
 use Rattle.std.specs.List.{Contains}
 use Rattle.std.specs.FinMap.{FinMap, get}
 use Rattle.std.specs.Ordering.{nat_cmp}
-use Rattle.std.proofs.lemmas.Bool.{cases_lt}
+use Rattle.std.proofs.lemmas.Bool.{cases_lt, and_parts, false_from_ne_true, leb-true, ltb-true, eqb-true, both_ways}
 use Rattle.descriptors.specs.Controls.{wp_of}
 use Rattle.guest_ram.specs.Bytes.{AreBytes, byte}
 use Rattle.ia32_types.specs.declared.flags.Regs.{Regs}
@@ -25,7 +25,7 @@ use Rattle.ia32_exec.specs.Commit.{list_of}
 use Rattle.ia32_exec.specs.UserEffect.{user_effect}
 use Rattle.ia32_exec.specs.Effect.{ranges_of}
 use Rattle.paging.specs.declared.entry.Entry.{Entry}
-use Rattle.paging.specs.Space.{Mode, Space, place, place_by, byte_at, with_ram}
+use Rattle.paging.specs.Space.{Mode, no_own, Space, place, place_by, byte_at, with_ram}
 use Rattle.paging.specs.Uses.{window_stop}
 use Rattle.sys_exec.specs.Access.{reaching}
 use Rattle.native_steps.specs.EffectLaws.{EffectLaws}
@@ -47,7 +47,6 @@ use Rattle.native_steps.specs.Forward.{IsNext}
 use Rattle.native_steps.specs.Backward.{IsTranslated}
 use Rattle.native_steps.specs.Again.{AreWithin, settled, StepsAgain}
 use Rattle.native_steps.proofs.Clear.{Use, used, range_uses, uses_of, AreClear}
-use Rattle.native_steps.proofs.Choices.{is_false, clash, le_told, lt_told, both, eq_told}
 use Rattle.native_steps.proofs.Pages.{At, Comes, HasEntry, IsFree, range_passes, reaching_comes}
 use Rattle.native_steps.proofs.Ways.{Way}
 use Rattle.native_steps.proofs.Doing.{IsUser, IsPopFlags, instructed_is}
@@ -165,7 +164,7 @@ module _ (flags : EffectLaws) (m : Setting) (v : View) (b : State) (mode : m.mod
     where
       second : (one : Bool) → (last_page r == r.at / 4096) ≡ one → AreClear b.set (not v.kernel) (wp_of b.cpu) ((r.at / 4096) ∷ ps) (cond one [] (used write (last_page r) ∷ []))
           → ((r.at + r.len - 1) / 4096 == r.at / 4096) ≡ false → Contains ((r.at / 4096) ∷ ps) ((r.at + r.len - 1) / 4096) → IsServed m b v.kernel ((r.at + r.len - 1) / 4096) write
-      second true is d other there = absurd (clash ((r.at + r.len - 1) / 4096 == r.at / 4096) (ap (λ p. p == r.at / 4096) (last_is r short.0) ∙ is) other)
+      second true is d other there = absurd (both_ways ((r.at + r.len - 1) / 4096 == r.at / 4096) other (ap (λ p. p == r.at / 4096) (last_is r short.0) ∙ is))
       second false is d other there = subst (λ p. IsServed m b v.kernel p write) (sym (last_is r short.0)) (d.0 (subst (Contains ((r.at / 4096) ∷ ps)) (last_is r short.0) there))
 
   -- the entries of a range at the end of the translations
@@ -189,7 +188,7 @@ module _ (flags : EffectLaws) (m : Setting) (v : View) (b : State) (mode : m.mod
   last_before ps write r = choice (last_page r == r.at / 4096) refl
     where
       choice : (one : Bool) → (last_page r == r.at / 4096) ≡ one → Before (after ((r.at / 4096) ∷ ps) (cond one [] (used write (last_page r) ∷ []))) (last_page r)
-      choice true e = inl (sym (eq_told (last_page r) (r.at / 4096) e))
+      choice true e = inl (sym (eqb-true (last_page r) (r.at / 4096) e))
       choice false e = inl refl
 
   now : (ps : List ℕ) (s t : Space) (write : Bool) (r : Range) → IsWithin m b v.kernel s → RangeThrough m b v.kernel ps s t write r.at r.len → HasRange t write r
@@ -248,7 +247,7 @@ module _ (flags : EffectLaws) (m : Setting) (v : View) (b : State) (mode : m.mod
     reached_again s write (Some r) h g = range_again s write r h g
 
     at_start : At m (settled b last) (space_at_start m.mode m.frames b.cpu last.ram last.set)
-    at_start = record { ram = refl; set = refl; wp = refl; visited = λ q c. absurd (let lt = c.1 in omega (arith, lt)); tables = refl; own = record { front = 0; front_len = 0; back = 0; back_len = 0 }; mode = mode }
+    at_start = record { ram = refl; set = refl; wp = refl; visited = λ q c. absurd (let lt = c.1 in omega (arith, lt)); tables = refl; own = no_own; mode = mode }
 
   -- an address of a range has the same place then
   place_of : (s : Space) (write : Bool) (page frame x : ℕ) → x / 4096 ≡ page → HasEntry v.kernel (wp_of b.cpu) s.set write page frame → place s x ≡ 4096 * frame + x % 4096
@@ -360,9 +359,9 @@ module _ (flags : EffectLaws) (m : Setting) (v : View) (b : State) (mode : m.mod
     unfolding HasRanges later
     read_places None sh ps g th x e = absurd (let f : false ≡ true = e in cc)
     read_places (Some r) sh ps g th x e =
-        let p = both (nat_le r.at x) (nat_lt x (r.at + r.len)) e in
-        let low = le_told r.at x p.0 in
-        let high = lt_told x (r.at + r.len) p.1 in
+        let p = and_parts (nat_le r.at x) (nat_lt x (r.at + r.len)) e in
+        let low = leb-true r.at x p.0 in
+        let high = ltb-true x (r.at + r.len) p.1 in
         let sum : r.at + (x - r.at) ≡ x = omega (arith, low) in
         subst (λ y. place read y ≡ place write y) sum
         (places_same read write false r sh.0 sh.1 g (later ps read write false r sh.0 g th) refl refl (x - r.at) (omega (arith, low, high)))
@@ -405,7 +404,7 @@ module _ (flags : EffectLaws) (m : Setting) (v : View) (b : State) (mode : m.mod
     soft = not_soft insn.op insn.imm t.permitted
 
     user_of : IsPopFlags insn.op → IsUser b.cpu
-    user_of h = without_rights v b.cpu sees (is_false v.kernel (λ x. no_pop insn.op (t.plain (user ∙ ap not x)) h))
+    user_of h = without_rights v b.cpu sees (false_from_ne_true v.kernel (λ x. no_pop insn.op (t.plain (user ∙ ap not x)) h))
 
     user_held : IsPopFlags insn.op → IsUser (unheld b).cpu
     user_held h = let u = user_of h in record { without = u.without; above = u.above }

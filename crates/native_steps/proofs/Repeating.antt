@@ -1,8 +1,8 @@
 -- The fetch of a step, done again from where the step's translations lead.
-use Rattle.std.proofs.Common.{◌≡◌, ℕ, ◌+◌, ◌-◌, ◌*◌, ◌/◌, ◌%◌, ◌^◌, ◌<◌, ◌≤◌, List, [], ◌∷◌, ◌++◌, length, take, drop, map, Bool, true, false, ◌&&◌, ◌||◌, not, ◌==◌, Option, Some, Ok, refl, sym, ap, subst, ◌∙◌, inl, inr, arith}
+use Rattle.std.proofs.Common.{◌≡◌, ℕ, ◌+◌, ◌-◌, ◌*◌, ◌/◌, ◌%◌, ◌^◌, ◌<◌, ◌≤◌, List, [], ◌∷◌, ◌++◌, length, take, drop, map, Bool, true, false, ◌&&◌, not, ◌==◌, Option, Some, Ok, refl, sym, ap, subst, ◌∙◌, inl, inr, arith}
 use Rattle.std.specs.Prelude.{nat_le, nat_lt}
 use Rattle.std.specs.List.{Contains}
-use Rattle.std.proofs.lemmas.Bool.{cases_lt}
+use Rattle.std.proofs.lemmas.Bool.{cases_lt, le-leb, lt-ltb, eq-eqb, or_left, or_right, both_ways}
 use Rattle.std.proofs.lemmas.List.{places, same_lists, take-take, take-append-drop, take-append-le}
 use Rattle.std.proofs.Math.Seq.{take-append-add}
 use Rattle.guest_ram.specs.Bytes.{AreBytes, byte, part}
@@ -18,7 +18,7 @@ use Rattle.ia32_decode.specs.Decoding.{decoded}
 use Rattle.ia32_decode.proofs.Exact.{answered, decoded_back}
 use Rattle.descriptors.specs.Controls.{pse_of, wp_of}
 use Rattle.paging.specs.declared.entry.Entry.{Entry}
-use Rattle.paging.specs.Space.{Mode, Wedge, Own, Space, place}
+use Rattle.paging.specs.Space.{Mode, Wedge, Own, no_own, Space, place}
 use Rattle.paging.specs.Uses.{is_own, with_front, with_back}
 use Rattle.paging.specs.Work.{gives}
 use Rattle.image_load.specs.Boot.{text_pages}
@@ -27,7 +27,6 @@ use Rattle.ia32_decode.specs.Front.{longest, front_len}
 use Rattle.machine_model.specs.Instruction.{fetching, owning_front, owning_back, next_page, owned}
 use Rattle.native_steps.specs.Again.{AreWithin, settled}
 use Rattle.native_steps.proofs.Clear.{used}
-use Rattle.native_steps.proofs.Choices.{le_true, lt_true, clash, eq_true}
 use Rattle.native_steps.proofs.Pages.{HasEntry}
 use Rattle.native_steps.proofs.Ways.{front_at, back_at, IsFront, IsAcross, Way}
 use Rattle.native_steps.proofs.Fetching.{Fetches, IsFetch, IsIn, IsPast, bound, same_space}
@@ -65,24 +64,17 @@ take_part x a n k le = take-take k n (drop a x) le
 
 -- ---- the instruction's own bytes
 
-true_or : (x y : Bool) → x ≡ true → (x || y) ≡ true
-true_or x y e = ap (λ z. z || y) e
-
-or_true : (x y : Bool) → y ≡ true → (x || y) ≡ true
-or_true true y e = refl
-or_true false y e = e
-
 in_piece : (a n k : ℕ) → a ≤ k → k < a + n → (nat_le a k && nat_lt k (a + n)) ≡ true
-in_piece a n k le lt = ap (λ x. x && nat_lt k (a + n)) (le_true a k le) ∙ lt_true k (a + n) lt
+in_piece a n k le lt = ap (λ x. x && nat_lt k (a + n)) (le-leb a k le) ∙ lt-ltb k (a + n) lt
 
 own_front : (mode : Mode) (text count : ℕ) (own : Own) → mode ≡ Wedge text count own → (a n k : ℕ) → a ≤ k → k < a + n → is_own (with_front mode a n) k ≡ true
-own_front mode text count own e a n k le lt = ap (λ (x : Mode). is_own (with_front x a n) k) e ∙ true_or (nat_le a k && nat_lt k (a + n)) _ (in_piece a n k le lt)
+own_front mode text count own e a n k le lt = ap (λ (x : Mode). is_own (with_front x a n) k) e ∙ or_left (nat_le a k && nat_lt k (a + n)) _ (in_piece a n k le lt)
 
 own_back : (mode : Mode) (text count : ℕ) (own : Own) → mode ≡ Wedge text count own → (a n k : ℕ) → a ≤ k → k < a + n → is_own (with_back mode a n) k ≡ true
-own_back mode text count own e a n k le lt = ap (λ (x : Mode). is_own (with_back x a n) k) e ∙ or_true _ (nat_le a k && nat_lt k (a + n)) (in_piece a n k le lt)
+own_back mode text count own e a n k le lt = ap (λ (x : Mode). is_own (with_back x a n) k) e ∙ or_right _ (nat_le a k && nat_lt k (a + n)) (in_piece a n k le lt)
 
 own_front_still : (mode : Mode) (text count : ℕ) (own : Own) → mode ≡ Wedge text count own → (a n c d k : ℕ) → a ≤ k → k < a + n → is_own (with_back (with_front mode a n) c d) k ≡ true
-own_front_still mode text count own e a n c d k le lt = ap (λ (x : Mode). is_own (with_back (with_front x a n) c d) k) e ∙ true_or (nat_le a k && nat_lt k (a + n)) _ (in_piece a n k le lt)
+own_front_still mode text count own e a n c d k le lt = ap (λ (x : Mode). is_own (with_back (with_front x a n) c d) k) e ∙ or_left (nat_le a k && nat_lt k (a + n)) _ (in_piece a n k le lt)
 
 pub front_is : (at len : ℕ) (s t : Space) (x : Unit {0}) → owning_front at len s ≡ Ok (x, t) → record s { mode = with_front s.mode (place s at) len } ≡ t
 unfolding owning_front
@@ -106,7 +98,7 @@ module _ (m : Setting) (b : State) (kernel : Bool) (mode : m.mode ≡ wedge_mode
   start = space_at_start m.mode m.frames b.cpu b.ram b.set
 
   pub start_in : IsWithin m b kernel (space_at_start m.mode m.frames b.cpu b.ram b.set)
-  start_in = record { frames = refl; cr3 = refl; pse = refl; wp = refl; own = record { front = 0; front_len = 0; back = 0; back_len = 0 }; mode = mode; room = room; fit = fit; pages = λ q lt. inl refl }
+  start_in = record { frames = refl; cr3 = refl; pse = refl; wp = refl; own = no_own; mode = mode; room = room; fit = fit; pages = λ q lt. inl refl }
 
   -- entries lead to the guest's frames
   pub frame_in : (s : Space) (page frame : ℕ) (write : Bool) → IsWithin m b kernel s → page < 2 ^ 20 → HasEntry kernel (wp_of b.cpu) s.set write page frame → frame < m.frames
@@ -198,7 +190,7 @@ module _ (m : Setting) (b : State) (kernel : Bool) (mode : m.mode ≡ wedge_mode
 
       next_small : next_page b.cpu.regs.eip / 4096 < 2 ^ 20
       next_small =
-          let other : b.cpu.regs.eip / 4096 ≡ 1048575 → ⊥ = λ f. clash (b.cpu.regs.eip / 4096 == 1048575) (eq_true (b.cpu.regs.eip / 4096) 1048575 f) x.not_last in
+          let other : b.cpu.regs.eip / 4096 ≡ 1048575 → ⊥ = λ f. both_ways (b.cpu.regs.eip / 4096 == 1048575) x.not_last (eq-eqb (b.cpu.regs.eip / 4096) 1048575 f) in
           omega (arith, small, other)
 
       second_through : FetchThrough m b kernel ((b.cpu.regs.eip / 4096) ∷ []) owning x.on.after (next_page b.cpu.regs.eip) longest x.on.more

@@ -1,7 +1,7 @@
 -- Ranges whose pages both machines reach, at the same places.
 use Rattle.std.proofs.Common.{◌≡◌, ℕ, ◌+◌, ◌-◌, ◌*◌, ◌/◌, ◌%◌, ◌^◌, ◌<◌, ◌≤◌, List, Bool, true, false, cond, ◌&&◌, ◌||◌, not, ◌==◌, Option, Some, None, refl, sym, ap, ◌∙◌, inl, inr, arith}
 use Rattle.std.specs.Prelude.{nat_le, nat_lt}
-use Rattle.std.proofs.lemmas.Bool.{cases_lt}
+use Rattle.std.proofs.lemmas.Bool.{cases_lt, and_parts, false_from_ne_true, ltb-true, ltb-false}
 use Rattle.std.specs.FinMap.{get}
 use Rattle.descriptors.specs.Controls.{wp_of}
 use Rattle.guest_ram.specs.Bytes.{byte}
@@ -22,7 +22,6 @@ use Rattle.machine_model.specs.State.{Setting, State, wedge_mode}
 use Rattle.native_steps.specs.Lends.{IsOpen, IsLent, IsUnlent, Lends}
 use Rattle.native_steps.specs.Mirrors.{IsWedge, Mirrors}
 use Rattle.native_steps.specs.Native.{byte_of}
-use Rattle.native_steps.proofs.Choices.{both, lt_told, not_lt, is_false}
 use Rattle.native_steps.proofs.Pages.{IsFree}
 use Rattle.native_steps.proofs.HostParts.{Leads, leads_told, AreRanges}
 use Rattle.native_steps.proofs.Shown.{IsApart, frame_apart, byte_shown}
@@ -54,9 +53,9 @@ few_pages m w = let few = w.accepted.within.text.1 in omega (arith, few)
 
 given_below : (m : Setting) → IsWedge m → (page frame : ℕ) → is_given (wedge_mode m.image) page frame ≡ true → page < 0x11000
 given_below m w page frame e =
-    let p = both (nat_le 65536 page && nat_lt page (65536 + text_pages m.image)) (frame == 0x100 + (page - 65536)) e in
-    let q = both (nat_le 65536 page) (nat_lt page (65536 + text_pages m.image)) p.0 in
-    let lt = lt_told page (65536 + text_pages m.image) q.1 in
+    let p = and_parts (nat_le 65536 page && nat_lt page (65536 + text_pages m.image)) (frame == 0x100 + (page - 65536)) e in
+    let q = and_parts (nat_le 65536 page) (nat_lt page (65536 + text_pages m.image)) p.0 in
+    let lt = ltb-true page (65536 + text_pages m.image) q.1 in
     let few = few_pages m w in
     omega (arith, lt, few)
 
@@ -94,11 +93,11 @@ module _ (m : Setting) (w : IsWedge m) (memory : List ℕ) (v : View) (b : State
   AreShared write (Some r) = IsShared write r
 
   past_limit : (kernel : Bool) (at : ℕ) → (kernel && nat_lt at 285212672) ≡ false → kernel ≡ true → 0x11000000 ≤ at
-  past_limit true at e k = not_lt at 285212672 e
+  past_limit true at e k = ltb-false at 285212672 e
   past_limit false at e k = absurd cc
 
   within_limit : (kernel : Bool) (at : ℕ) → (kernel ≡ true → 0x11000000 ≤ at) → (kernel && nat_lt at 285212672) ≡ false
-  within_limit true at h = is_false (nat_lt at 285212672) (λ e. let lt = lt_told at 285212672 e in let le = h refl in omega (arith, lt, le))
+  within_limit true at h = false_from_ne_true (nat_lt at 285212672) (λ e. let lt = ltb-true at 285212672 e in let le = h refl in omega (arith, lt, le))
   within_limit false at h = refl
 
   pub shares : Lends m memory v.root v.kernel (wp_of b.cpu) b.set → (write : Bool) (page frame : ℕ) → page < 2 ^ 20 → (v.kernel ≡ true → 0x11000 ≤ page) → Leads memory v.root write page frame → Shares write page frame

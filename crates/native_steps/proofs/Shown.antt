@@ -1,8 +1,8 @@
 -- The guest's memory over the host's, byte by byte.
-use Rattle.std.proofs.Common.{◌≡◌, ℕ, ◌+◌, ◌*◌, ◌<◌, ◌≤◌, List, [], ◌∷◌, length, take, Bool, true, false, ◌&&◌, refl, sym, ap, ◌∙◌, ◌⊎◌, inl, inr, arith}
+use Rattle.std.proofs.Common.{◌≡◌, ℕ, ◌+◌, ◌*◌, ◌<◌, ◌≤◌, List, [], ◌∷◌, length, take, false, ◌&&◌, refl, sym, ap, ◌∙◌, ◌⊎◌, inl, inr, arith}
 use Rattle.std.specs.Prelude.{nat_le, nat_lt}
 use Rattle.std.proofs.lemmas.List.{places, same_lists, length-take-le}
-use Rattle.std.proofs.lemmas.Bool.{cases_lt}
+use Rattle.std.proofs.lemmas.Bool.{cases_lt, le-leb, lt-ltb, and_from, both_ways}
 use Rattle.guest_ram.specs.Bytes.{byte, part, frame, with_part, with_byte}
 use Rattle.guest_ram.proofs.Bytes.{length-with_part, length-with_byte, part-with_part_above, part-with_part_below, part-with_part, part-part, byte-part, with_part-comm}
 use Rattle.paging.specs.Uses.{is_text}
@@ -10,22 +10,18 @@ use Rattle.sites.specs.Patched.{patched}
 use Rattle.image_load.specs.Boot.{text_pages}
 use Rattle.machine_model.specs.State.{Setting, wedge_mode}
 use Rattle.native_steps.specs.Mirrors.{IsWedge, IsHost, shown}
-use Rattle.native_steps.proofs.Choices.{le_true, lt_true, clash}
 use Rattle.native_steps.proofs.Framed.{laid_same}
 
 -- a place that is not in the text
 abbrev pub IsApart : Setting → ℕ → ℕ → Type 0
 IsApart m at n = (at + n ≤ 0x100000) ⊎ (0x100000 + length m.image.text ≤ at)
 
-both_true : (a b : Bool) → a ≡ true → b ≡ true → (a && b) ≡ true
-both_true a b e f = cc
-
 apart_by : (m : Setting) (frame : ℕ) → is_text (wedge_mode m.image) frame ≡ false → (frame < 0x100) ⊎ (0x100 + text_pages m.image ≤ frame)
 apart_by m frame e =
     elim (cases_lt frame 0x100) [
       | inl below ↦ inl below
       | inr above ↦ elim (cases_lt frame (0x100 + text_pages m.image)) [
-        | inl within ↦ absurd (clash (nat_le 0x100 frame && nat_lt frame (0x100 + text_pages m.image)) (both_true _ _ (le_true 0x100 frame above) (lt_true frame (0x100 + text_pages m.image) within)) e)
+        | inl within ↦ absurd (both_ways (nat_le 0x100 frame && nat_lt frame (0x100 + text_pages m.image)) e (and_from _ _ (le-leb 0x100 frame above) (lt-ltb frame (0x100 + text_pages m.image) within)))
         | inr behind ↦ inr behind
       ]
     ]

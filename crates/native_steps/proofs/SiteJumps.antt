@@ -1,7 +1,7 @@
 -- The jump at a site's first byte.
 use Rattle.std.proofs.Common.{◌≡◌, ℕ, ◌+◌, ◌/◌, ◌%◌, ◌^◌, ◌<◌, ◌≤◌, List, ◌++◌, length, true, ◌&&◌, Ok, sym, ap, subst, ◌∙◌, inl, inr, arith}
 use Rattle.std.specs.Prelude.{nat_lt}
-use Rattle.std.proofs.lemmas.Bool.{cases_lt}
+use Rattle.std.proofs.lemmas.Bool.{cases_lt, cond-true, le-leb, lt-ltb}
 use Rattle.descriptors.specs.Controls.{wp_of}
 use Rattle.guest_ram.specs.Bytes.{part}
 use Rattle.ia32_types.specs.declared.flags.Regs.{Regs}
@@ -25,7 +25,6 @@ use Rattle.image_laws.specs.Patches.{jump_out, window_at}
 use Rattle.machine_model.specs.State.{Setting, State}
 use Rattle.native_steps.specs.Lends.{Lends}
 use Rattle.native_steps.specs.Mirrors.{IsWedge, Mirrors}
-use Rattle.native_steps.proofs.Choices.{chosen, le_true, lt_true}
 use Rattle.native_steps.proofs.Ways.{front_at, Way}
 use Rattle.native_steps.proofs.HostParts.{effect_there, host_parts}
 use Rattle.native_steps.proofs.Shown.{text_patched}
@@ -44,7 +43,7 @@ pub record IsSite (m : Setting) (at : ℕ) : Type 0 where
   pub high : window_at at ≤ 0x05FFFFFF
 
 in_window : (at : ℕ) → 0x04000000 ≤ at → at ≤ 0x05FFFFFF → is_window at ≡ true
-in_window at low high = ap (λ b. b && nat_lt at 100663296) (le_true 67108864 at low) ∙ lt_true at 100663296 (omega (arith, high))
+in_window at low high = ap (λ b. b && nat_lt at 100663296) (le-leb 67108864 at low) ∙ lt-ltb at 100663296 (omega (arith, high))
 
 module _ (m : Setting) (w : IsWedge m) (memory : List ℕ) (v : View) (b : State) (stands : Mirrors m memory v b) (lends : Lends m memory v.root v.kernel (wp_of b.cpu) b.set)
     (kernel : v.kernel ≡ true) (at : ℕ) (place : b.cpu.regs.eip ≡ 0x10000000 + at) (site : IsSite m at)
@@ -61,7 +60,7 @@ module _ (m : Setting) (w : IsWedge m) (memory : List ℕ) (v : View) (b : State
     entered : ended v op.Jmp there ≡ Entered there
     entered =
         let window : is_window there.eip ≡ true = ap is_window leads_there ∙ in_window (window_at at) site.low site.high in
-        chosen (v.kernel && is_window there.eip) (Entered there) (Completed there) (ap (λ k. k && is_window there.eip) kernel ∙ window)
+        cond-true (v.kernel && is_window there.eip) (Entered there) (Completed there) (ap (λ k. k && is_window there.eip) kernel ∙ window)
 
     effect_is : effect_there memory v b.cpu.regs jump_out 5 ≡ Ok (Entered there, memory)
     unfolding user_effect effect jump

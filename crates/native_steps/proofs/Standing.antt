@@ -1,13 +1,12 @@
 -- An instruction of a text that stands in a memory, fetched through its pages.
 use Rattle.std.proofs.Common.{◌≡◌, ℕ, ◌+◌, ◌-◌, ◌*◌, ◌/◌, ◌%◌, ◌<◌, ◌≤◌, List, [], ◌∷◌, ◌++◌, false, ◌==◌, refl, sym, ap, ◌∙◌, inl, inr, append_assoc, arith}
-use Rattle.std.proofs.lemmas.Bool.{cases_lt}
+use Rattle.std.proofs.lemmas.Bool.{cases_lt, false_from_ne_true, eqb-true}
 use Rattle.guest_ram.specs.Bytes.{part}
 use Rattle.guest_ram.proofs.Bytes.{part-append}
 use Rattle.ia32_types.specs.declared.insn.Insn.{Insn}
 use Rattle.ia32_decode.specs.declared.answer.Decoded.TheVariants as begins
 use Rattle.ia32_decode.specs.Decoding.{decoded}
 use Rattle.ia32_decode.specs.Front.{longest, front_len}
-use Rattle.native_steps.proofs.Choices.{is_false, eq_told}
 use Rattle.native_steps.proofs.Ways.{front_at, back_at, Way}
 
 -- an instruction at an offset of a text that stands from 0x100000 on
@@ -48,7 +47,7 @@ module _ (text ram : List ℕ) (limit : ℕ) (same : (at n : ℕ) → at + n ≤
         ∙ begun (front_len eip + longest) (omega (arith, few)) []
 
     not_last : (eip / 4096 == 1048575) ≡ false
-    not_last = is_false (eip / 4096 == 1048575) (λ e. let is = eq_told (eip / 4096) 1048575 e in omega (arith, is, fits, small, some))
+    not_last = false_from_ne_true (eip / 4096 == 1048575) (λ e. let is = eqb-true (eip / 4096) 1048575 e in omega (arith, is, fits, small, some))
 
     pub way_from : (P : ℕ → ℕ → Type 0) (frame : ℕ) → P (eip / 4096) frame → 4096 * frame + eip % 4096 ≡ 0x100000 + at → (front_len eip < len → P (eip / 4096 + 1) (frame + 1)) → Way P ram eip insn len
     way_from P frame page place more =

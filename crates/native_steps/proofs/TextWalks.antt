@@ -1,5 +1,6 @@
 -- A walk that finds an entry reads text where one of its two words lies in a frame that holds text.
 use Rattle.std.proofs.Common.{◌≡◌, ℕ, ◌/◌, ◌^◌, ◌<◌, Bool, true, false, cond, ◌&&◌, ◌||◌, not, Some, None, refl, ap, ◌∙◌, arith}
+use Rattle.std.proofs.lemmas.Bool.{cond-false, lt-ltb}
 use Rattle.guest_ram.specs.Bytes.{word32}
 use Rattle.ia32_types.specs.declared.stop.Stop.TheVariants as stops
 use Rattle.paging.specs.declared.entry.Access.{Access}
@@ -8,15 +9,7 @@ use Rattle.paging.specs.declared.entry.Touch.TheVariants.{Ready, Stop, Fault}
 use Rattle.paging.specs.declared.entry.Walk.TheVariants.{Found}
 use Rattle.paging.specs.Fresh.{dir_place, word_place, is_large, fresh, grants, flagged}
 use Rattle.paging.specs.Uses.{Tables, Decision, is_barred, is_text, table_is_text, walks_text, marks_own, fault_code, dirtied, by_walk, decided}
-use Rattle.native_steps.proofs.Choices.{passed_by, lt_true}
 use Rattle.native_steps.proofs.Walks.{IsByTable, IsLarge, IsWalk, ByTable, Large, walk_parts}
-
-pub either_false : (x y : Bool) → (x || y) ≡ false → (x ≡ false) × (y ≡ false)
-either_false true y e = absurd cc
-either_false false y e = (refl, e)
-
-pub both_false : (x y : Bool) → x ≡ false → y ≡ false → (x || y) ≡ false
-both_false x y e f = ap (λ z. z || y) e ∙ f
 
 alone : (x : Bool) → (x || false) ≡ (x || x)
 alone true = refl
@@ -42,7 +35,7 @@ module _ (s : Tables) (page : ℕ) (e : Entry) (d t : ℕ) (small : page < 2 ^ 2
 
   rooted : s.cr3 / 4096 < s.frames → walks_text s page ≡ (root || table_is_text s.mode s.pse dir)
   unfolding walks_text
-  rooted lt = ap (λ x. root || (x && table_is_text s.mode s.pse dir)) (lt_true (s.cr3 / 4096) s.frames lt)
+  rooted lt = ap (λ x. root || (x && table_is_text s.mode s.pse dir)) (lt-ltb (s.cr3 / 4096) s.frames lt)
 
   by_table : IsByTable s.ram s.frames s.cr3 s.pse page e d t → Reads
   by_table h =
@@ -93,8 +86,8 @@ decided_ready s fetch page at access e d t clear found granted free own =
     let first : Decision = record { met = Fault (fault_code true access) at; entry = None; ram = s.ram } in
     let text : Decision = record { met = Stop stops.TableInText; entry = None; ram = s.ram } in
     ap (λ (x : Decision). x.met)
-    (passed_by (walks_text s page) text (by_walk s fetch at access (fresh s.ram s.frames s.cr3 s.pse page)) clear
+    (cond-false (walks_text s page) text (by_walk s fetch at access (fresh s.ram s.frames s.cr3 s.pse page)) clear
     ∙ ap (by_walk s fetch at access) found
-    ∙ passed_by (not (grants e access s.wp)) first (cond (is_barred s.mode fetch access.user e.page e.frame) second (cond (marks_own s d t access.write) third last)) (ap not granted)
-    ∙ passed_by (is_barred s.mode fetch access.user e.page e.frame) second (cond (marks_own s d t access.write) third last) free
-    ∙ passed_by (marks_own s d t access.write) third last own)
+    ∙ cond-false (not (grants e access s.wp)) first (cond (is_barred s.mode fetch access.user e.page e.frame) second (cond (marks_own s d t access.write) third last)) (ap not granted)
+    ∙ cond-false (is_barred s.mode fetch access.user e.page e.frame) second (cond (marks_own s d t access.write) third last) free
+    ∙ cond-false (marks_own s d t access.write) third last own)

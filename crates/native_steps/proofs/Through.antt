@@ -4,6 +4,7 @@ use Rattle.std.specs.Prelude.{nat_lt}
 use Rattle.std.specs.List.{Contains}
 use Rattle.std.specs.FinMap.{FinMap}
 use Rattle.std.specs.Ordering.{nat_cmp}
+use Rattle.std.proofs.lemmas.Bool.{cond-false, le-ltb, eqb-true}
 use Rattle.descriptors.specs.Controls.{wp_of}
 use Rattle.guest_ram.specs.Bytes.{AreBytes, byte, part}
 use Rattle.ia32_types.specs.declared.stop.Stop as reason
@@ -19,7 +20,6 @@ use Rattle.image_load.specs.Boot.{text_pages}
 use Rattle.machine_model.specs.State.{Setting, State}
 use Rattle.machine_model.specs.Instruction.{bytes_fetched, fetching}
 use Rattle.native_steps.proofs.Clear.{Use, AreClear}
-use Rattle.native_steps.proofs.Choices.{not_lt, passed_by, eq_told}
 use Rattle.native_steps.proofs.Pages.{HasEntry, IsFree}
 use Rattle.native_steps.proofs.Uses.{reaching_uses, ready_parts}
 use Rattle.native_steps.proofs.Marks.{AreMarked, marked_same, marked_on}
@@ -208,7 +208,7 @@ module _ (m : Setting) (b : State) (kernel : Bool) where
       choice : (one : Bool) → (last_of at len == at / 4096) ≡ one → cond {A = Touch × Space} one (Ready, t) (page_uses t false (last_of at len) (last_of at len * 4096) (side write)) ≡ (Ready, u) → Paged ps s u write at len
       choice true is g =
           let same : t ≡ u = ap (λ (x : Touch × Space). x.1) g in
-          let page : at / 4096 ≡ last_of at len = sym (eq_told (last_of at len) (at / 4096) is) in
+          let page : at / 4096 ≡ last_of at len = sym (eqb-true (last_of at len) (at / 4096) is) in
           subst (λ (x : Space). Paged ps s x write at len) same (record {
             through = page_through ps s t (at / 4096) write false l served;
             first = l.frame;
@@ -251,7 +251,7 @@ module _ (m : Setting) (b : State) (kernel : Bool) where
       let p = reaching_uses s t at len (side write) e in
       let parts = ready_parts s at len (side write) p.0 in
       let inner : by_pages at len (side write) (unready s) ≡ (Ready, t) =
-      sym (passed_by (nat_lt (2 ^ 32) (at + len)) (Stop stops.WrapAccess, unready s) (by_window (window_stop s.mode (side write) at) at len (side write) (unready s)) (Rattle.native_steps.proofs.Choices.lt_false (2 ^ 32) (at + len) parts.0)
+      sym (cond-false (nat_lt (2 ^ 32) (at + len)) (Stop stops.WrapAccess, unready s) (by_window (window_stop s.mode (side write) at) at len (side write) (unready s)) (le-ltb (2 ^ 32) (at + len) parts.0)
       ∙ ap (λ (w : Option reason.Stop). by_window w at len (side write) (unready s)) parts.1)
       ∙ pair (uses s at len (side write)) p.0
       ∙ ap (λ (x : Space). (Ready, x)) p.1 in

@@ -3,6 +3,7 @@ use Rattle.std.proofs.Common.{◌≡◌, ℕ, ◌+◌, ◌/◌, ◌%◌, List, B
 use Rattle.std.specs.Prelude.{nat_le}
 use Rattle.std.specs.FinMap.{FinMap, get}
 use Rattle.std.specs.Ordering.{nat_cmp}
+use Rattle.std.proofs.lemmas.Bool.{cond-true, cond-false, and_parts, false_from_ne_true, lt-leb, leb-true, eqb-true}
 use Rattle.guest_ram.specs.Bytes.{byte}
 use Rattle.ia32_types.specs.declared.insn.Insn.{Insn}
 use Rattle.ia32_types.specs.declared.insn.Op.{Op}
@@ -19,11 +20,11 @@ use Rattle.ia32_exec.specs.Effect.{ranges_of}
 use Rattle.ia32_exec.specs.UserEffect.{user_effect}
 use Rattle.descriptors.specs.declared.cpu.Cpu.{Cpu}
 use Rattle.paging.specs.declared.entry.Entry.{Entry}
-use Rattle.paging.specs.Space.{Space, place, place_by, byte_at, with_ram}
+use Rattle.paging.specs.Space.{no_own, Space, place, place_by, byte_at, with_ram}
 use Rattle.native_steps.specs.EffectLaws.{EffectLaws}
 use Rattle.step_exec.specs.Users.{user_finished}
 use Rattle.step_exec.specs.Plain as plain
-use Rattle.step_exec.specs.Plain.{is_denied, is_refused, reached, is_in, byte_by}
+use Rattle.step_exec.specs.Plain.{is_denied, is_refused, is_in, byte_by}
 use Rattle.host_cpl3.specs.declared.view.View.{View}
 use Rattle.host_cpl3.specs.Permit.{permitted_row, permitted}
 use Rattle.host_cpl3.specs.Views.{selectors_of, is_null, is_entry}
@@ -34,13 +35,12 @@ use Rattle.machine_model.specs.Rules as rules
 use Rattle.machine_model.specs.State.{Setting, State, space_at_start}
 use Rattle.machine_model.specs.Instruction.{fetched, instructed, is_plain}
 use Rattle.machine_model.specs.Step.{after_instruction, begun, by_op, after_fetch, fetches_next, begins_next, worked, by_interrupt, unheld, stepped}
-use Rattle.native_steps.specs.Mirrors.{IsWedge, IsLevel, Sees, Mirrors}
+use Rattle.native_steps.specs.Mirrors.{IsWedge, IsLevelOf, Sees, Mirrors}
 use Rattle.image_check.specs.Places.{is_site_at}
 use Rattle.machine_model.specs.Counts.{is_software, needs_descriptor, is_direct}
 use Rattle.native_steps.proofs.Inside.{not_inside}
 use Rattle.native_steps.specs.Native.{byte_of, effect_of, IsNative}
 use Rattle.native_steps.specs.Forward.{IsNext}
-use Rattle.native_steps.proofs.Choices.{chosen, passed_by, is_false, is_not, both, le_told, lt_told, clash, le_false, lt_false}
 use Rattle.native_steps.proofs.Pages.{At}
 use Rattle.native_steps.proofs.Ways.{Way}
 use Rattle.native_steps.proofs.HostParts.{Leads, IsMet, IsDenied, host_is}
@@ -52,11 +52,11 @@ use Rattle.native_steps.proofs.GuestRanges.{reached_comes}
 
 -- ---- the level
 
-pub level_user : (kernel : Bool) (cpl : ℕ) → IsLevel kernel cpl → (cpl == 3) ≡ not kernel
+pub level_user : (kernel : Bool) (cpl : ℕ) → IsLevelOf kernel cpl → (cpl == 3) ≡ not kernel
 level_user true cpl e = ap (λ c. c == 3) e
 level_user false cpl e = ap (λ c. c == 3) e
 
-pub level_kernel : (kernel : Bool) (cpl : ℕ) → IsLevel kernel cpl → (cpl == 0) ≡ kernel
+pub level_kernel : (kernel : Bool) (cpl : ℕ) → IsLevelOf kernel cpl → (cpl == 0) ≡ kernel
 level_kernel true cpl e = ap (λ c. c == 0) e
 level_kernel false cpl e = ap (λ c. c == 0) e
 
@@ -105,19 +105,19 @@ begins_well image eip (Rattle.paging.specs.Space.Wedge text count own) false h =
     or_true true = refl
     or_true false = refl
 
-stands_well : (m : Setting) (kernel : Bool) (b : State) → IsLevel kernel b.cpu.cpl → IsNext m kernel b → rules.stands_well m b.cpu ≡ true
+stands_well : (m : Setting) (kernel : Bool) (b : State) → IsLevelOf kernel b.cpu.cpl → IsNext m kernel b → rules.stands_well m b.cpu ≡ true
 stands_well m kernel b level next =
     ap (λ k. rules.may_begin m.mode m.image b.cpu.regs.eip || not k) (level_kernel kernel b.cpu.cpl level) ∙ begins_well m.image b.cpu.regs.eip m.mode kernel next.start
 
 -- the step is its fetch, and what comes of it
-pub stepped_by : (m : Setting) (kernel : Bool) (b : State) → IsLevel kernel b.cpu.cpl → IsNext m kernel b
+pub stepped_by : (m : Setting) (kernel : Bool) (b : State) → IsLevelOf kernel b.cpu.cpl → IsNext m kernel b
     → stepped m b ≡ after_fetch m (unheld b) (fetched (b.cpu.cpl == 3) b.cpu.regs.eip (space_at_start m.mode m.frames b.cpu b.ram b.set))
 unfolding worked
 stepped_by m kernel b level next =
     let s = space_at_start m.mode m.frames b.cpu b.ram b.set in
     ap (λ (o : Option ℕ). by_interrupt m o (unheld b) s) next.quiet
-    ∙ passed_by b.cpu.halted _ (begins_next m (unheld b) s) next.awake
-    ∙ chosen (rules.stands_well m b.cpu) (fetches_next m (unheld b) s) _ (stands_well m kernel b level next)
+    ∙ cond-false b.cpu.halted _ (begins_next m (unheld b) s) next.awake
+    ∙ cond-true (rules.stands_well m b.cpu) (fetches_next m (unheld b) s) _ (stands_well m kernel b level next)
 
 pub selects_by : (v : View) (cpu : Cpu) → Sees v cpu → Selects (selectors_of v) cpu
 selects_by v cpu s Es = s.es
@@ -128,11 +128,11 @@ selects_by v cpu s Ds = s.ds
 -- a user's rights
 pub without_rights : (v : View) (cpu : Cpu) → Sees v cpu → v.kernel ≡ false → IsUser cpu
 without_rights v cpu s k =
-    let level : cpu.cpl ≡ 3 = subst (λ (x : Bool). IsLevel x cpu.cpl) k s.level in
-    let p = both (Rattle.paging.specs.Fresh.has cpu.regs.flags.bits 512) (cpu.regs.flags.bits / 4096 % 4 == 0) (s.user_flags k) in
-    let zero : cpu.regs.flags.bits / 4096 % 4 ≡ 0 = Rattle.native_steps.proofs.Choices.eq_told _ 0 p.1 in
+    let level : cpu.cpl ≡ 3 = subst (λ (x : Bool). IsLevelOf x cpu.cpl) k s.level in
+    let p = and_parts (Rattle.paging.specs.Fresh.has cpu.regs.flags.bits 512) (cpu.regs.flags.bits / 4096 % 4 == 0) (s.user_flags k) in
+    let zero : cpu.regs.flags.bits / 4096 % 4 ≡ 0 = eqb-true _ 0 p.1 in
     record {
-      without = le_false cpu.cpl (cpu.regs.flags.bits / 4096 % 4) (omega (arith, level, zero));
+      without = lt-leb cpu.cpl (cpu.regs.flags.bits / 4096 % 4) (omega (arith, level, zero));
       above = level_kernel v.kernel cpu.cpl s.level ∙ k;
     }
 
@@ -164,7 +164,7 @@ module _ (flags : EffectLaws) (m : Setting) (w : IsWedge m) (memory : List ℕ) 
   -- ---- the start of the step
 
   pub at_start : At m b (space_at_start m.mode m.frames b.cpu b.ram b.set)
-  at_start = record { ram = refl; set = refl; wp = refl; visited = λ q c. absurd (let lt = c.1 in omega (arith, lt)); tables = refl; own = record { front = 0; front_len = 0; back = 0; back_len = 0 }; mode = w.mode }
+  at_start = record { ram = refl; set = refl; wp = refl; visited = λ q c. absurd (let lt = c.1 in omega (arith, lt)); tables = refl; own = no_own; mode = w.mode }
 
   pub stepped_is : stepped m b ≡ after_fetch m (unheld b) (fetched (b.cpu.cpl == 3) b.cpu.regs.eip (space_at_start m.mode m.frames b.cpu b.ram b.set))
   stepped_is = stepped_by m v.kernel b stands.sees.level next
@@ -226,7 +226,7 @@ module _ (flags : EffectLaws) (m : Setting) (w : IsWedge m) (memory : List ℕ) 
     -- ---- the guest's side
 
     user_of : IsPopFlags insn.op → IsUser b.cpu
-    user_of h = without_rights v b.cpu stands.sees (is_false v.kernel (λ k. no_pop insn.op (c.plain_is k) h))
+    user_of h = without_rights v b.cpu stands.sees (false_from_ne_true v.kernel (λ k. no_pop insn.op (c.plain_is k) h))
 
     bytes_at : (s : Space) → At m b s → (a : ℕ) → byte_at s a ≡ byte_of b a
     unfolding byte_at place
@@ -276,7 +276,7 @@ module _ (flags : EffectLaws) (m : Setting) (w : IsWedge m) (memory : List ℕ) 
         user_of_held h = let u = user_of h in record { without = u.without; above = u.above }
 
         direct_by : (k : Bool) → v.kernel ≡ k → cond (not k) (not (needs_descriptor insn.op)) (not (is_site_at m.image.sites b.cpu.regs.eip)) ≡ true
-        direct_by true k = ap not (not_inside m.image.sites b.cpu.regs.eip (le_told 0x10000000 b.cpu.regs.eip (both (nat_le 0x10000000 b.cpu.regs.eip) _ (next.start k)).0) (next.outside k))
+        direct_by true k = ap not (not_inside m.image.sites b.cpu.regs.eip (leb-true 0x10000000 b.cpu.regs.eip (and_parts (nat_le 0x10000000 b.cpu.regs.eip) _ (next.start k)).0) (next.outside k))
         direct_by false k = ap not (not_reloading insn.op insn.imm allowed_row)
 
         direct : is_direct m.image.sites (begun b insn) ≡ true

@@ -1,60 +1,23 @@
 -- What a translation leaves, whether it walks or not.
 use Rattle.std.proofs.Common.{◌≡◌, ℕ, ◌+◌, ◌-◌, ◌*◌, ◌/◌, ◌^◌, ◌≤◌, List, [], ◌∷◌, ◌++◌, Bool, true, false, cond, ◌&&◌, ◌||◌, not, ◌==◌, Option, Some, None, Ok, refl, sym, ap, ◌∙◌}
 use Rattle.std.specs.Prelude.{nat_lt, nat_le}
-use Rattle.std.specs.FinMap.{get}
+use Rattle.std.proofs.lemmas.Bool.{leb-true, ltb-false}
 use Rattle.ia32_types.specs.declared.stop.Stop as reason
 use Rattle.ia32_types.specs.declared.stop.Stop.TheVariants as stops
 use Rattle.paging.specs.declared.entry.Access.{Access}
-use Rattle.paging.specs.declared.entry.Entry.{Entry}
 use Rattle.paging.specs.declared.entry.Touch.{Touch}
 use Rattle.paging.specs.declared.entry.Touch.TheVariants.{Ready, Fault, Stop}
-use Rattle.paging.specs.Space.{Space, Earlier, earlier_of}
-use Rattle.paging.specs.Uses.{is_barred, window_stop, usable, by_entry, page_uses, go_on, and_then, unready, made_ready, second_page, by_pages, by_window, uses}
+use Rattle.paging.specs.Space.{Space, Earlier}
+use Rattle.paging.specs.Uses.{window_stop, page_uses, go_on, and_then, unready, made_ready, second_page, by_pages, by_window, uses}
 use Rattle.descriptors.specs.Access as accesses
 use Rattle.descriptors.specs.Access.{met}
 use Rattle.sys_exec.specs.Access.{denials, reaching}
-use Rattle.native_steps.proofs.Choices.{not_lt, le_told}
 use Rattle.native_steps.proofs.Went.{page_went}
-
-by_entry_earlier : (s : Space) (fetch : Bool) (page at : ℕ) (access : Access) (o : Option Entry) → (by_entry s fetch page at access o).1.earlier ≡ s.earlier
-by_entry_earlier s fetch page at access None = refl
-by_entry_earlier s fetch page at access (Some e) = either (is_barred s.mode fetch access.user page e.frame)
-  where
-    either : (text : Bool) → (cond {A = Touch × Space} text (Stop stops.TextMapped, s) (Ready, s)).1.earlier ≡ s.earlier
-    either true = refl
-    either false = refl
-
-page_earlier : (s : Space) (fetch : Bool) (page at : ℕ) (access : Access) → (page_uses s fetch page at access).1.earlier ≡ s.earlier
-unfolding page_uses
-page_earlier s fetch page at access = by_entry_earlier (record s { pages = s.pages + 1; visited = s.visited ++ page ∷ [] }) fetch page at access (usable (get s.set page) access s.wp)
-
-on_earlier : (o : Touch) (s : Space) (f : Space → Touch × Space) → ((t : Space) → (f t).1.earlier ≡ t.earlier) → (go_on o s f).1.earlier ≡ s.earlier
-on_earlier Ready s f h = h s
-on_earlier (Fault code cr2) s f h = refl
-on_earlier (Stop stop) s f h = refl
+use Rattle.step_exec.proofs.UserReads.{uses_earlier}
 
 second_earlier : (test : Bool) (o : Touch × Space) (s : Space) → o.1.earlier ≡ s.earlier → (cond {A = Touch × Space} test (Ready, s) o).1.earlier ≡ s.earlier
 second_earlier true o s h = refl
 second_earlier false o s h = h
-
-pages_earlier : (at len : ℕ) (access : Access) (s : Space) → (by_pages at len access s).1.earlier ≡ s.earlier
-pages_earlier at len access s =
-    on_earlier (page_uses s false (at / 4096) at access).0 (page_uses s false (at / 4096) at access).1 (λ t. and_then (second_page at len access t) (made_ready at len access.write)) (λ t.
-    on_earlier (second_page at len access t).0 (second_page at len access t).1 (made_ready at len access.write) (λ u. refl)
-    ∙ second_earlier ((at + len - 1) / 4096 == at / 4096) (page_uses t false ((at + len - 1) / 4096) ((at + len - 1) / 4096 * 4096) access) t (page_earlier t false ((at + len - 1) / 4096) ((at + len - 1) / 4096 * 4096) access))
-    ∙ page_earlier s false (at / 4096) at access
-
-window_earlier : (w : Option reason.Stop) (at len : ℕ) (access : Access) (s : Space) → (by_window w at len access s).1.earlier ≡ s.earlier
-window_earlier None at len access s = pages_earlier at len access s
-window_earlier (Some stop) at len access s = refl
-
-uses_earlier : (s : Space) (at len : ℕ) (access : Access) → (uses s at len access).1.earlier ≡ earlier_of s
-unfolding uses
-uses_earlier s at len access = either (nat_lt (2 ^ 32) (at + len))
-  where
-    either : (wraps : Bool) → (cond {A = Touch × Space} wraps (Stop stops.WrapAccess, unready s) (by_window (window_stop s.mode access at) at len access (unready s))).1.earlier ≡ earlier_of s
-    either true = refl
-    either false = window_earlier (window_stop s.mode access at) at len access (unready s)
 
 met_space : (o : Touch) (s t : Space) → met denials o s ≡ Ok (tt, t) → (o ≡ Ready) × (s ≡ t)
 met_space Ready s t e = let p : ◌≡◌ {A = Unit {0} × Space} (tt, s) (tt, t) = cc in (refl, ap (λ (q : Unit {0} × Space). q.1) p)
@@ -82,13 +45,13 @@ ready_parts s at len access e = either (nat_lt (2 ^ 32) (at + len)) refl e
     either : (wraps : Bool) → nat_lt (2 ^ 32) (at + len) ≡ wraps → (cond {A = Touch × Space} wraps (Stop stops.WrapAccess, unready s) (by_window (window_stop s.mode access at) at len access (unready s))).0 ≡ Ready
         → (at + len ≤ 2 ^ 32) × (window_stop s.mode access at ≡ None)
     either true is f = absurd cc
-    either false is f = (not_lt (2 ^ 32) (at + len) is, window (window_stop s.mode access at) f)
+    either false is f = (ltb-false (2 ^ 32) (at + len) is, window (window_stop s.mode access at) f)
 
 -- a supervisor's range that may begin there lies above the windows
 pub window_above : (kernel : Bool) (at : ℕ) → cond {A = Option reason.Stop} (not kernel || nat_le 285212672 at) None (cond (nat_le 268435456 at) (Some stops.TextTouched) (cond (nat_le 67108864 at && nat_lt at 100663296) (Some stops.WedgeTouched) (Some stops.LowTouched))) ≡ None
     → kernel ≡ true → 0x11000000 ≤ at
 window_above false at e k = absurd cc
-window_above true at e k = le_told 285212672 at (told (nat_le 285212672 at) (nat_le 268435456 at) (nat_le 67108864 at && nat_lt at 100663296) e)
+window_above true at e k = leb-true 285212672 at (told (nat_le 285212672 at) (nat_le 268435456 at) (nat_le 67108864 at && nat_lt at 100663296) e)
   where
     told : (c d f : Bool) → cond {A = Option reason.Stop} c None (cond d (Some stops.TextTouched) (cond f (Some stops.WedgeTouched) (Some stops.LowTouched))) ≡ None → c ≡ true
     told true d f g = refl

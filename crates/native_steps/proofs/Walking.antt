@@ -5,6 +5,7 @@ use Rattle.std.specs.FinMap.{FinMap, get, insert, get-insert}
 use Rattle.std.specs.Ordering.{nat_cmp}
 use Rattle.std.specs.Cmp.{unsigned_tied}
 use Rattle.std.proofs.lemmas.Cmp.{nat_cmp_total}
+use Rattle.std.proofs.lemmas.Bool.{cond-true, cond-false, and_parts, eqb-true, eq-eqb}
 use Rattle.guest_ram.specs.Bytes.{AreBytes, byte, word32}
 use Rattle.ia32_types.specs.declared.stop.Stop.TheVariants as stops
 use Rattle.descriptors.specs.Controls.{pse_of, wp_of}
@@ -19,7 +20,6 @@ use Rattle.paging.specs.Space.{Mode, Wedge, Own, Space}
 use Rattle.paging.specs.Uses.{Tables, tables_of, Decision, is_barred, is_own, walks_text, marks_own, fault_code, dirtied, by_walk, decided, settled, usable, by_entry, page_uses}
 use Rattle.image_load.specs.Boot.{text_pages}
 use Rattle.machine_model.specs.State.{Setting, State}
-use Rattle.native_steps.proofs.Choices.{chosen, passed_by, both, eq_told, eq_true}
 use Rattle.native_steps.proofs.Pages.{HasEntry, IsFree}
 use Rattle.native_steps.proofs.Marks.{AreMarked, marked_same, flagged_marked, flagged_fit, flagged_dirty, flagged_kept}
 use Rattle.native_steps.proofs.Walks.{IsWalk, AreIn, IsStill, walk_parts, walk_is, walk_in, walk_kept, page_is as page_of_walk}
@@ -86,7 +86,7 @@ usable_parts (Some x) access wp e h = by_test (allows x access wp) refl h
 -- the access can't be by such an entry
 not_usable : (o : Option Entry) (access : Access) (wp : Bool) (e : Entry) → o ≡ Some e → allows e access wp ≡ true → usable o access wp ≡ None → ⊥
 not_usable o access wp e is h n =
-    let there : usable o access wp ≡ Some e = ap (λ (x : Option Entry). usable x access wp) is ∙ chosen (allows e access wp) (Some e) None h in
+    let there : usable o access wp ≡ Some e = ap (λ (x : Option Entry). usable x access wp) is ∙ cond-true (allows e access wp) (Some e) None h in
     let f : ◌≡◌ {A = Option Entry} None (Some e) = sym n ∙ there in
     cc
 
@@ -207,10 +207,10 @@ module _ (m : Setting) (b : State) (kernel : Bool) where
             ∙ ap (λ c. cond c (Some (dirtied r.entry write)) (get s.set q)) (unsigned_tied q page)
 
         got_here : get t.set page ≡ Some (dirtied r.entry write)
-        got_here = got page ∙ chosen (page == page) _ _ (eq_true page page refl)
+        got_here = got page ∙ cond-true (page == page) _ _ (eq-eqb page page refl)
 
         got_there : (q : ℕ) → (q == page) ≡ false → get t.set q ≡ get s.set q
-        got_there q e = got q ∙ passed_by (q == page) _ _ e
+        got_there q e = got q ∙ cond-false (q == page) _ _ e
 
         still : (q : ℕ) (e : Entry) (d x : ℕ) → q < 2 ^ 20 → IsWalk s.ram m.frames b.cpu.cr3 (pse_of b.cpu) q e d x → IsStill t.ram m.frames b.cpu.cr3 (pse_of b.cpu) q e d x
         still q e d x lt k = walk_kept s.ram t.ram m.frames b.cpu.cr3 (pse_of b.cpu) q e d x marks lt h.room k
@@ -225,7 +225,7 @@ module _ (m : Setting) (b : State) (kernel : Bool) where
             record { entry = dirtied r.entry write; kept = got_here; dir_at = r.dir_at; word_at = r.word_at; dirty = k.dirty; walk = k.walk; more = λ e. more k (r.entry.dirty) refl e }
           where
             by_write : (k : IsStill t.ram m.frames b.cpu.cr3 (pse_of b.cpu) page r.entry r.dir_at r.word_at) → (x : Bool) → write ≡ x → (false || x) ≡ true → k.dirty ≡ true
-            by_write k true e g = k.flag ∙ eq_true (word32 t.ram r.word_at / 64 % 2) 1 (dirty_there e)
+            by_write k true e g = k.flag ∙ eq-eqb (word32 t.ram r.word_at / 64 % 2) 1 (dirty_there e)
             by_write k false e g = absurd (let f : false ≡ true = g in cc)
 
             more : (k : IsStill t.ram m.frames b.cpu.cr3 (pse_of b.cpu) page r.entry r.dir_at r.word_at) → (d : Bool) → r.entry.dirty ≡ d → (d || write) ≡ true → k.dirty ≡ true
@@ -233,7 +233,7 @@ module _ (m : Setting) (b : State) (kernel : Bool) where
             more k false e g = by_write k write refl g
 
         from_there : (q : ℕ) → q < 2 ^ 20 → (same : Bool) → (q == page) ≡ same → IsFrom t.ram t.set q
-        from_there q lt true e = subst (IsFrom t.ram t.set) (sym (eq_told q page e)) (inr walked_here)
+        from_there q lt true e = subst (IsFrom t.ram t.set) (sym (eqb-true q page e)) (inr walked_here)
         from_there q lt false e =
             elim (h.pages q lt) [
               | inl untouched ↦ inl (got_there q e ∙ untouched)
@@ -331,7 +331,7 @@ module _ (m : Setting) (b : State) (kernel : Bool) where
             let two : Found (record k.entry { dirty = k.dirty }) k.dir_at k.word_at ≡ Found r.entry r.dir_at r.word_at =
             sym (walk_is s.ram m.frames b.cpu.cr3 (pse_of b.cpu) page (record k.entry { dirty = k.dirty }) k.dir_at k.word_at k.walk) ∙ walk_is s.ram m.frames b.cpu.cr3 (pse_of b.cpu) page r.entry r.dir_at r.word_at walk in
             let there : record k.entry { dirty = k.dirty } ≡ r.entry = cc two in
-            let p = both (grants x.entry (side w) (wp_of b.cpu)) (not w || x.entry.dirty) x.allowed in
+            let p = and_parts (grants x.entry (side w) (wp_of b.cpu)) (not w || x.entry.dirty) x.allowed in
             let grants_there : grants r.entry (side w) (wp_of b.cpu) ≡ true =
             ap (λ (e : Entry). grants e (side w) (wp_of b.cpu)) (sym there) ∙ ap (λ (e : Entry). grants e (side w) (wp_of b.cpu)) same ∙ p.0 in
             let dirty_too : x.entry.dirty ≡ true → r.entry.dirty ≡ true = λ d. ap (λ (e : Entry). e.dirty) (sym there) ∙ k.more (ap (λ (e : Entry). e.dirty) same ∙ d) in
@@ -344,7 +344,7 @@ module _ (m : Setting) (b : State) (kernel : Bool) where
 
         others_by : (q : ℕ) (w : Bool) (f : ℕ) → HasEntry kernel (wp_of b.cpu) s.set w q f → (q ≡ page → IsServed page write) → (same : Bool) → (q == page) ≡ same → HasEntry kernel (wp_of b.cpu) t.set w q f
         others_by q w f x served true e =
-            let is : q ≡ page = eq_told q page e in
+            let is : q ≡ page = eqb-true q page e in
             subst (λ (p : ℕ). HasEntry kernel (wp_of b.cpu) t.set w p f) (sym is) (again w f (subst (λ (p : ℕ). HasEntry kernel (wp_of b.cpu) s.set w p f) is x) (served is) (h.pages page small))
         others_by q w f x served false e = record { entry = x.entry; kept = got_there q e ∙ x.kept; frame_is = x.frame_is; allowed = x.allowed }
 

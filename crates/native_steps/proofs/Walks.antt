@@ -1,12 +1,13 @@
 -- Walks that find an entry, and that flags which are set meanwhile leave them so.
 use Rattle.std.proofs.Common.{◌≡◌, ℕ, ◌+◌, ◌*◌, ◌/◌, ◌%◌, ◌^◌, ◌<◌, ◌≤◌, List, length, Bool, true, false, cond, ◌&&◌, not, ◌==◌, refl, sym, ap, ◌∙◌, arith}
 use Rattle.std.specs.Prelude.{nat_le}
+use Rattle.std.proofs.lemmas.Bool.{cond-true, cond-false, lt-leb, leb-false, eqb-true, eq-eqb}
 use Rattle.guest_ram.specs.Bytes.{word32}
 use Rattle.paging.specs.declared.entry.Entry.{Entry}
 use Rattle.paging.specs.declared.entry.Walk.TheVariants.{Absent, Beyond, Reserved, Found}
 use Rattle.paging.specs.Fresh.{has, dir_place, word_place, entry_of, is_large, has_reserved, large_frame, large_entry, by_word, by_large, by_table, by_dir, fresh}
-use Rattle.native_steps.proofs.Choices.{chosen, passed_by, eq_told, eq_true, not_le, le_false}
 use Rattle.native_steps.proofs.Marks.{AreMarked}
+use Rattle.machine_model.proofs.FoundStill.{has_1, has_2, has_4}
 
 -- the parts of a walk that finds an entry by a table
 pub record IsByTable (ram : List ℕ) (frames cr3 : ℕ) (pse : Bool) (page : ℕ) (e : Entry) (d t : ℕ) : Type 0 where
@@ -45,12 +46,12 @@ walk_parts ram frames cr3 pse page e d t h = by_root (nat_le frames (cr3 / 4096)
         → IsByTable ram frames cr3 pse page e d t
     by_frame root p small q r true is g = absurd cc
     by_frame root p small q r false is g = record {
-      root = not_le frames (cr3 / 4096) root;
+      root = leb-false frames (cr3 / 4096) root;
       present = p;
       small = small;
-      table = not_le frames (word32 ram (dir_place cr3 page) / 4096) q;
+      table = leb-false frames (word32 ram (dir_place cr3 page) / 4096) q;
       word_present = r;
-      word_in = not_le frames (word32 ram (word_place (word32 ram (dir_place cr3 page)) page) / 4096) is;
+      word_in = leb-false frames (word32 ram (word_place (word32 ram (dir_place cr3 page)) page) / 4096) is;
       entry_is = cc;
       dir_is = cc;
       word_is = cc;
@@ -73,11 +74,11 @@ walk_parts ram frames cr3 pse page e d t h = by_root (nat_le frames (cr3 / 4096)
         → cond beyond Beyond (Found (large_entry page (word32 ram (dir_place cr3 page))) (dir_place cr3 page) (dir_place cr3 page)) ≡ Found e d t → IsLarge ram frames cr3 pse page e d t
     by_large_in root p large clear true is g = absurd cc
     by_large_in root p large clear false is g = record {
-      root = not_le frames (cr3 / 4096) root;
+      root = leb-false frames (cr3 / 4096) root;
       present = p;
       large = large;
       clear = clear;
-      frame_in = not_le frames (large_frame (word32 ram (dir_place cr3 page)) page) is;
+      frame_in = leb-false frames (large_frame (word32 ram (dir_place cr3 page)) page) is;
       entry_is = cc;
       dir_is = cc;
       word_is = cc;
@@ -109,12 +110,12 @@ unfolding fresh
 table_is ram frames cr3 pse page e d t h =
     let dir : ℕ = word32 ram (dir_place cr3 page) in
     let word : ℕ = word32 ram (word_place dir page) in
-    passed_by (nat_le frames (cr3 / 4096)) Beyond _ (le_false frames (cr3 / 4096) h.root)
-    ∙ passed_by (not (has dir 1)) Absent _ (ap not h.present)
-    ∙ passed_by (is_large pse dir) (by_large frames cr3 page dir) _ h.small
-    ∙ passed_by (nat_le frames (dir / 4096)) Beyond _ (le_false frames (dir / 4096) h.table)
-    ∙ passed_by (not (has word 1)) Absent _ (ap not h.word_present)
-    ∙ passed_by (nat_le frames (word / 4096)) Beyond _ (le_false frames (word / 4096) h.word_in)
+    cond-false (nat_le frames (cr3 / 4096)) Beyond _ (lt-leb frames (cr3 / 4096) h.root)
+    ∙ cond-false (not (has dir 1)) Absent _ (ap not h.present)
+    ∙ cond-false (is_large pse dir) (by_large frames cr3 page dir) _ h.small
+    ∙ cond-false (nat_le frames (dir / 4096)) Beyond _ (lt-leb frames (dir / 4096) h.table)
+    ∙ cond-false (not (has word 1)) Absent _ (ap not h.word_present)
+    ∙ cond-false (nat_le frames (word / 4096)) Beyond _ (lt-leb frames (word / 4096) h.word_in)
     ∙ ap (λ x. Found x (dir_place cr3 page) (word_place dir page)) h.entry_is
     ∙ ap (λ x. Found e x (word_place dir page)) h.dir_is
     ∙ ap (λ x. Found e d x) h.word_is
@@ -123,11 +124,11 @@ large_is : (ram : List ℕ) (frames cr3 : ℕ) (pse : Bool) (page : ℕ) (e : En
 unfolding fresh
 large_is ram frames cr3 pse page e d t h =
     let dir : ℕ = word32 ram (dir_place cr3 page) in
-    passed_by (nat_le frames (cr3 / 4096)) Beyond _ (le_false frames (cr3 / 4096) h.root)
-    ∙ passed_by (not (has dir 1)) Absent _ (ap not h.present)
-    ∙ chosen (is_large pse dir) _ (by_table ram frames cr3 page dir) h.large
-    ∙ passed_by (has_reserved dir) Reserved _ h.clear
-    ∙ passed_by (nat_le frames (large_frame dir page)) Beyond _ (le_false frames (large_frame dir page) h.frame_in)
+    cond-false (nat_le frames (cr3 / 4096)) Beyond _ (lt-leb frames (cr3 / 4096) h.root)
+    ∙ cond-false (not (has dir 1)) Absent _ (ap not h.present)
+    ∙ cond-true (is_large pse dir) _ (by_table ram frames cr3 page dir) h.large
+    ∙ cond-false (has_reserved dir) Reserved _ h.clear
+    ∙ cond-false (nat_le frames (large_frame dir page)) Beyond _ (lt-leb frames (large_frame dir page) h.frame_in)
     ∙ ap (λ x. Found x (dir_place cr3 page) (dir_place cr3 page)) h.entry_is
     ∙ ap (λ x. Found e x (dir_place cr3 page)) h.dir_is
     ∙ ap (λ x. Found e d x) h.word_is
@@ -135,15 +136,6 @@ large_is ram frames cr3 pse page e d t h =
 pub walk_is : (ram : List ℕ) (frames cr3 : ℕ) (pse : Bool) (page : ℕ) (e : Entry) (d t : ℕ) → IsWalk ram frames cr3 pse page e d t → fresh ram frames cr3 pse page ≡ Found e d t
 walk_is ram frames cr3 pse page e d t (ByTable h) = table_is ram frames cr3 pse page e d t h
 walk_is ram frames cr3 pse page e d t (Large h) = large_is ram frames cr3 pse page e d t h
-
-pub has_1 : (w x : ℕ) → x % 32 ≡ w % 32 → has x 1 ≡ has w 1
-has_1 w x e = ap (λ n. n == 1) (let g : x / 1 % 2 ≡ w / 1 % 2 = omega (arith, e) in g)
-
-pub has_2 : (w x : ℕ) → x % 32 ≡ w % 32 → has x 2 ≡ has w 2
-has_2 w x e = ap (λ n. n == 1) (let g : x / 2 % 2 ≡ w / 2 % 2 = omega (arith, e) in g)
-
-pub has_4 : (w x : ℕ) → x % 32 ≡ w % 32 → has x 4 ≡ has w 4
-has_4 w x e = ap (λ n. n == 1) (let g : x / 4 % 2 ≡ w / 4 % 2 = omega (arith, e) in g)
 
 -- bit 7 is the same
 pub same_size : (pse : Bool) (w x : ℕ) → x / 128 % 2 ≡ w / 128 % 2 → is_large pse x ≡ is_large pse w
@@ -237,8 +229,8 @@ table_kept x y frames cr3 pse page e d t m small room h =
       });
       more = λ g.
           let flag : has old_word 64 ≡ true = ap (λ (z : Entry). z.dirty) was ∙ g in
-          let turned = word.dirty (eq_told (old_word / 64 % 2) 1 flag) in
-          ap (λ n. has n 64) again ∙ eq_true (word32 y (word_place old page) / 64 % 2) 1 turned;
+          let turned = word.dirty (eqb-true (old_word / 64 % 2) 1 flag) in
+          ap (λ n. has n 64) again ∙ eq-eqb (word32 y (word_place old page) / 64 % 2) 1 turned;
       flag = ap (λ n. has (word32 y n) 64) (place ∙ h.word_is);
     }
 
@@ -275,8 +267,8 @@ large_kept x y frames cr3 pse page e d t m small room h =
       });
       more = λ g.
           let flag : has old 64 ≡ true = ap (λ (z : Entry). z.dirty) was ∙ g in
-          let turned = dir.dirty (eq_told (old / 64 % 2) 1 flag) in
-          eq_true (new / 64 % 2) 1 turned;
+          let turned = dir.dirty (eqb-true (old / 64 % 2) 1 flag) in
+          eq-eqb (new / 64 % 2) 1 turned;
       flag = ap (λ n. has (word32 y n) 64) h.word_is;
     }
 

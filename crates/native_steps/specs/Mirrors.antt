@@ -26,13 +26,13 @@ pub record IsHost (m : Setting) (memory : List ℕ) : Type 0 where
   pub text : part memory 0x100000 (length m.image.text) ≡ patched m.image.text 0 m.image.sites
 
 -- the level of the view's side
-abbrev pub IsLevel : Bool → ℕ → Type 0
-IsLevel true cpl = cpl ≡ 0
-IsLevel false cpl = cpl ≡ 3
+abbrev pub IsLevelOf : Bool → ℕ → Type 0
+IsLevelOf true cpl = cpl ≡ 0
+IsLevelOf false cpl = cpl ≡ 3
 
 -- the view has the processor's selectors, and denies what its null segments deny
 pub record Sees (v : View) (cpu : Cpu) : Type 0 where
-  pub level : IsLevel v.kernel cpu.cpl
+  pub level : IsLevelOf v.kernel cpu.cpl
   pub es : v.es ≡ (seg_of cpu 0).sel
   pub cs : v.cs ≡ (seg_of cpu 1).sel
   pub ss : v.ss ≡ (seg_of cpu 2).sel

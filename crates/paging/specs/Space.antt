@@ -19,6 +19,10 @@ pub record Own : Type 0 where
   pub back : ℕ
   pub back_len : ℕ
 
+-- none yet
+abbrev pub no_own : Own
+no_own = record { front = 0; front_len = 0; back = 0; back_len = 0 }
+
 -- Whose rules hold: the bare machine's, or those of a monitor that keeps the frames of the text, `count` of them
 -- from `text` on, with the instruction's own bytes.
 pub data Mode : Type 0 where

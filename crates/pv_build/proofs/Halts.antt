@@ -1,20 +1,16 @@
 -- Why work has ended, in other words.
-use Rattle.std.proofs.Common.{◌≡◌, ℕ, ◌≤◌, Bool, List, Result, Ok, IfOk, subst, ◌∙◌, arith}
+use Rattle.std.proofs.Common.{◌≡◌, ℕ, ◌≤◌, Bool, List, Result, Ok, IfOk, subst, ◌∙◌}
 use Rattle.std.specs.declared.alloc.AllocError.{AllocError}
-use Rattle.pv_io.specs.Causes.{Rose}
+use Rattle.pv_io.proofs.Pieces.{rose_later}
 use Rattle.pv_build.specs.Telling.{HaltsAs, RefusesAs}
 use Rattle.pv_build.specs.declared.halt.Halt.{Halt}
 use Rattle.pv_build.specs.declared.halt.Halt.TheVariants as halt
-
--- a count that rose since a later call
-pub rose_since : (a b c : ℕ) → a ≤ b → Rose b c → Rose a c
-rose_since a b c le h = omega arith
 
 -- work that has ended since an earlier load, over the files as they were then
 pub halts_since : (told : List ℕ → Type 0) (held : Type 0) (sure sure2 : Bool) (loads mid after : ℕ) (h : Halt)
     → sure2 ≡ sure → loads ≤ mid → HaltsAs told held sure2 mid after h → HaltsAs told held sure loads after h
 halts_since told held sure sure2 loads mid after (halt.Refused line) same le is = is
-halts_since told held sure sure2 loads mid after halt.ReadFault same le is = (rose_since loads mid after le is.0, λ s. is.1 (same ∙ s))
+halts_since told held sure sure2 loads mid after halt.ReadFault same le is = (rose_later loads mid after le is.0, λ s. is.1 (same ∙ s))
 halts_since told held sure sure2 loads mid after halt.Memory same le is = is
 
 -- a refusal of other lines

@@ -3,6 +3,7 @@ use Rattle.std.proofs.Common.{◌≡◌, ◌≢◌, ℕ, zero, suc, ◌+◌, ◌
 use Rattle.std.specs.Prelude.{◌==◌}
 use Rattle.std.proofs.lemmas.List.{drop_all}
 use Rattle.std.proofs.lemmas.Bool.Decides.{nat_tests}
+use Rattle.std.proofs.lemmas.Option.{same_Some}
 use Rattle.pv_build.specs.Texts.{lines, begun_by, DifferBehind}
 
 -- ---- how many there are
@@ -95,9 +96,6 @@ same_at : (same : Bool) (line next x y : ℕ) (xs ys : List ℕ) → (y == x) �
 same_at true line next x y xs ys test is later = cc (same_byte x y test, later next is)
 same_at false line next x y xs ys test is later = cc
 
-some_same : (a b : ℕ) → Some a ≡ Some b → a ≡ b
-some_same a b is = cc
-
 -- where nothing differs the texts are equal
 pub same_of : (line : ℕ) (xs ys : List ℕ) → difference_from line xs ys ≡ None → xs ≡ ys
 same_of line [] [] is = refl
@@ -166,7 +164,7 @@ differ_at false line m x y xs ys test is later =
     let left = one.is in
     let right = two.is in
     let here : DifferBehind ((x ∷ one.line) ∷ one.later) ((y ∷ two.line) ∷ two.later) 0 = λ same. other_byte x y test (cc same) in
-    record { n = 0; is = omega (arith, some_same line m is); differ = rw (left, right) here }
+    record { n = 0; is = omega (arith, same_Some line m is); differ = rw (left, right) here }
 
 pub differ_of : (line m : ℕ) (xs ys : List ℕ) → difference_from line xs ys ≡ Some m → Behind line m (lines xs) (lines ys)
 unfolding lines
@@ -175,10 +173,10 @@ differ_of line m [] (y ∷ ys) is =
     let two = begins y ys in
     let right = two.is in
     let here : DifferBehind [] ((y ∷ two.line) ∷ two.later) 0 = refl in
-    record { n = 0; is = omega (arith, some_same line m is); differ = rw right here }
+    record { n = 0; is = omega (arith, same_Some line m is); differ = rw right here }
 differ_of line m (x ∷ xs) [] is =
     let one = begins x xs in
     let left = one.is in
     let here : DifferBehind ((x ∷ one.line) ∷ one.later) [] 0 = refl in
-    record { n = 0; is = omega (arith, some_same line m is); differ = rw left here }
+    record { n = 0; is = omega (arith, same_Some line m is); differ = rw left here }
 differ_of line m (x ∷ xs) (y ∷ ys) is = differ_at (y == x) line m x y xs ys refl is (λ n h. differ_of n m xs ys h)

@@ -1,8 +1,9 @@
 -- The two lines of `work`.
-use Rattle.std.proofs.Common.{◌≡◌, inl, ℕ, ◌+◌, ◌≤◌, List, ◌++◌, Option, None, Some, Result, Ok, Err, IfOk, refl, sym, ap, subst, ◌∙◌, arith, append_assoc}
+use Rattle.std.proofs.Common.{◌≡◌, inl, ℕ, ◌+◌, ◌≤◌, List, ◌++◌, Option, Result, Ok, Err, IfOk, refl, sym, ap, subst, ◌∙◌, arith, append_assoc}
 use Rattle.std.specs.declared.alloc.AllocError.{AllocError}
 use Rattle.pv_io.specs.Causes.{Rose}
 use Rattle.pv_io.specs.Sink.{Appends, AppendsFront}
+use Rattle.pv_io.proofs.Pieces.{appends_both}
 use Rattle.pv_build.specs.Lines.{work_line, differ_line}
 use Rattle.pv_build.specs.Texts.{lines, DifferBehind, Compares, Differ}
 use Rattle.pv_build.specs.Telling.{Says, Cut}
@@ -36,12 +37,6 @@ pub cut_first : (old new : Option (List ℕ)) (first second bytes : List ℕ) (b
     → Says (first ++ second) status.Done old new before now status.WriteFault
 cut_first old new first second bytes before now same h rose =
     Cut refl (record { front = h.front; rest = h.rest ++ second; whole = sym (append_assoc h.front h.rest second) ∙ ap (λ (l : List ℕ). l ++ second) (h.whole ∙ same); taken = h.taken }) rose
-
-appends_both : (old mid new : Option (List ℕ)) (first second : List ℕ) → Appends old mid first → Appends mid new second → Appends old new (first ++ second)
-appends_both None mid new first second h k = tt
-appends_both (Some o) mid new first second h k =
-    let there = subst (λ (m : Option (List ℕ)). Appends m new second) h k in
-    there ∙ ap (λ (l : List ℕ). Some l) (append_assoc o first second)
 
 -- the output failed within the second
 pub cut_second : (old mid new : Option (List ℕ)) (first second bytes bytes2 : List ℕ) (before middle now : ℕ) → bytes ≡ first → bytes2 ≡ second → Appends old mid bytes → before ≤ middle

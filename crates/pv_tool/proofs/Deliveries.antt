@@ -4,6 +4,7 @@ use Rattle.pv_io.specs.Files.{FileMap}
 use Rattle.pv_io.specs.Sink.{Appends}
 use Rattle.pv_io.specs.declared.files.Files as disk
 use Rattle.pv_io.specs.declared.sink.Sink as sink
+use Rattle.pv_io.proofs.Pieces.{rose_later}
 use Rattle.host_cpl3.specs.declared.host.Host as hosts
 use Rattle.wedge_core.specs.Slices as host
 use Rattle.pv_build.specs.Readings.{OnlyRead}
@@ -12,7 +13,6 @@ use Rattle.pv_build.specs.declared.halt.Halt.{Halt}
 use Rattle.pv_build.specs.declared.halt.Halt.TheVariants as halt
 use Rattle.pv_build.specs.declared.status.Status.{Status}
 use Rattle.pv_build.specs.declared.status.Status.TheVariants as status
-use Rattle.pv_build.proofs.Halts.{rose_since}
 use Rattle.pv_tool.specs.Words.{Command, Burn, Link, Check, RunBare, RunWedge, Work}
 use Rattle.pv_tool.specs.Outside.{Outside, beside, outside, NotRead}
 use Rattle.pv_tool.specs.Outcome.{Outcome, refused, stored_as}
@@ -88,7 +88,7 @@ since_loads : (command : Command) (o : Outside) (loads : ℕ) (st : Status) → 
 since_loads command o loads status.Done le h = h
 since_loads command o loads status.Stopped le h = h
 since_loads command o loads status.Refused le h = h
-since_loads command o loads status.ReadFault le h = (rose_since loads o.loads o.loads_after le h.0, h.1, h.2, h.3, h.4)
+since_loads command o loads status.ReadFault le h = (rose_later loads o.loads o.loads_after le h.0, h.1, h.2, h.3, h.4)
 since_loads command o loads status.WriteFault le (w, gives, NoStore name bytes is changes rose unsure same) = (w, gives, NoStore name bytes is changes rose unsure same)
 since_loads command o loads status.WriteFault le (w, gives, NoPut stored front rose) = (w, gives, NoPut stored front rose)
 since_loads command o loads status.Memory le h = (h.0, h.1, idle_since command o loads h.2)

@@ -2,13 +2,10 @@
 use Rattle.std.proofs.Common.{◌≡◌, ℕ, zero, suc, ◌≤◌, List, [], ◌∷◌, length, take, filter, Bool, true, false, ◌||◌, cond, eqb, Option, Some, None, refl, sym, ap, ◌∙◌, subst, inl, inr, arith}
 use Rattle.std.proofs.lemmas.Bool.Decides.{eqb_tells}
 use Rattle.std.proofs.lemmas.List.{length-take}
+use Rattle.std.proofs.lemmas.Bool.{or_from}
 use Rattle.shadow_cache.specs.Past.{Past, unmarked, of_value, but_value, with_front, after_switch}
 use Rattle.shadow_cache.specs.Away.{has_value, AreApart}
 use Rattle.shadow_cache.proofs.Small.{same-some, none-some}
-
-pub or-false : (a b : Bool) → a ≡ false → b ≡ false → (a || b) ≡ false
-or-false true b e f = e
-or-false false b e f = f
 
 pub first-false : (a b : Bool) → (a || b) ≡ false → a ≡ false
 first-false true b e = e
@@ -55,14 +52,14 @@ cond-none false p qs v e = rest-false (eqb p.value v) (has_value v qs) e
 pub filter-none : (t : Past → Bool) (ps : List Past) (v : ℕ) → has_value v ps ≡ false → has_value v (filter t ps) ≡ false
 filter-none t [] v e = refl
 filter-none t (p ∷ ps) v e =
-    cond-none (t p) p (filter t ps) v (or-false (eqb p.value v) (has_value v (filter t ps)) (first-false (eqb p.value v) (has_value v ps) e)
+    cond-none (t p) p (filter t ps) v (or_from (eqb p.value v) (has_value v (filter t ps)) (first-false (eqb p.value v) (has_value v ps) e)
     (filter-none t ps v (rest-false (eqb p.value v) (has_value v ps) e)))
 
 pub take-none : (n : ℕ) (ps : List Past) (v : ℕ) → has_value v ps ≡ false → has_value v (take n ps) ≡ false
 take-none zero ps v e = refl
 take-none (suc n) [] v e = refl
 take-none (suc n) (p ∷ ps) v e =
-    or-false (eqb p.value v) (has_value v (take n ps)) (first-false (eqb p.value v) (has_value v ps) e) (take-none n ps v (rest-false (eqb p.value v) (has_value v ps) e))
+    or_from (eqb p.value v) (has_value v (take n ps)) (first-false (eqb p.value v) (has_value v ps) e) (take-none n ps v (rest-false (eqb p.value v) (has_value v ps) e))
 
 pub but-none : (w : ℕ) (ps : List Past) (v : ℕ) → has_value v ps ≡ false → has_value v (but_value w ps) ≡ false
 but-none w [] v e = refl
@@ -71,7 +68,7 @@ but-none w (p ∷ ps) v e =
       | inl t ↦ ap (λ b. has_value v (cond b ps (p ∷ but_value w ps))) t.0 ∙ rest-false (eqb p.value v) (has_value v ps) e
       | inr t ↦
           ap (λ b. has_value v (cond b ps (p ∷ but_value w ps))) t.0
-          ∙ or-false (eqb p.value v) (has_value v (but_value w ps)) (first-false (eqb p.value v) (has_value v ps) e)
+          ∙ or_from (eqb p.value v) (has_value v (but_value w ps)) (first-false (eqb p.value v) (has_value v ps) e)
           (but-none w ps v (rest-false (eqb p.value v) (has_value v ps) e))
     ]
 
@@ -102,7 +99,7 @@ but-gone v [] a = refl
 but-gone v (p ∷ ps) a =
     elim (eqb_tells p.value v) [
       | inl t ↦ ap (λ b. has_value v (cond b ps (p ∷ but_value v ps))) t.0 ∙ ap (λ x. has_value x ps) (sym t.1) ∙ a.0
-      | inr t ↦ ap (λ b. has_value v (cond b ps (p ∷ but_value v ps))) t.0 ∙ or-false (eqb p.value v) (has_value v (but_value v ps)) t.0 (but-gone v ps a.1)
+      | inr t ↦ ap (λ b. has_value v (cond b ps (p ∷ but_value v ps))) t.0 ∙ or_from (eqb p.value v) (has_value v (but_value v ps)) t.0 (but-gone v ps a.1)
     ]
 
 unmarked-apart-by : (b : Bool) (p : Past) (ps : List Past) → AreApart (p ∷ ps) → AreApart (cond b ps (p ∷ ps))

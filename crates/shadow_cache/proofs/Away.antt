@@ -10,8 +10,8 @@ use Rattle.shadow_cache.specs.declared.call_lists.RootsCall.{RootsCall}
 use Rattle.shadow_cache.specs.declared.call_lists.RootsCall.TheVariants.{Shared, Switch}
 use Rattle.shadow_cache.proofs.Since.{pairs-more, pairs-join, calls-cons, calls-none}
 use Rattle.shadow_cache.proofs.Tabled.{all-but-other}
-use Rattle.shadow_cache.proofs.Apart.{or-false, first-false, rest-false, of-none, of-is, filter-none, filter-apart, but-apart, but-gone}
-use Rattle.std.proofs.lemmas.Bool.{false≢true}
+use Rattle.shadow_cache.proofs.Apart.{first-false, rest-false, of-none, of-is, filter-none, filter-apart, but-apart, but-gone}
+use Rattle.std.proofs.lemmas.Bool.{false≢true, or_from}
 use Rattle.shadow_cache.proofs.Whole.{marked-value}
 
 -- ---- the pairs before it
@@ -75,7 +75,7 @@ but-fronts p vs v (q ∷ qs) f =
 
 fronts-none : (p : Past) (vs : List ℕ) (qs : List Past) → Fronts p vs qs → has_value p.value qs ≡ false
 fronts-none p vs [] f = refl
-fronts-none p vs (q ∷ qs) f = or-false (eqb q.value p.value) (has_value p.value qs) f.1 (fronts-none p vs qs f.2)
+fronts-none p vs (q ∷ qs) f = or_from (eqb q.value p.value) (has_value p.value qs) f.1 (fronts-none p vs qs f.2)
 
 -- ---- lists in which it stands behind some
 

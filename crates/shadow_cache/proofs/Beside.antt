@@ -1,6 +1,7 @@
 -- A call on the other pairs, beside which the present one stays as it was.
 use Rattle.std.proofs.Common.{◌≡◌, ℕ, zero, suc, ◌<◌, ◌≤◌, ◌⊎◌, List, [], ◌∷◌, ◌++◌, length, replicate, filter, get_or, slice_set, Bool, true, false, not, ◌||◌, cond, Option, refl, sym, ap, ◌∙◌, subst, inl, inr, arith}
 use Rattle.std.proofs.lemmas.List.{length-replicate}
+use Rattle.std.proofs.lemmas.Bool.{or_right}
 use Rattle.frame_pool.specs.declared.Pool.{Pool}
 use Rattle.frame_pool.specs.Held.{times, Holds, Owns, Moves, SameIn}
 use Rattle.frame_pool.proofs.Lengths.{times-append}
@@ -122,13 +123,9 @@ pub or-less : (a b c : Bool) → (a || b) ≡ true → (b ≡ true → c ≡ tru
 or-less true b c e h = refl
 or-less false b c e h = h e
 
-pub or-right : (a b : Bool) → b ≡ true → (a || b) ≡ true
-or-right true b e = refl
-or-right false b e = e
-
 one-any : (b : Bool) (p : Pair) (qs ps : List Pair) (x : ℕ) → any_reads (cond b (p ∷ qs) qs) x ≡ true → (any_reads qs x ≡ true → any_reads ps x ≡ true) → (reads p x || any_reads ps x) ≡ true
 one-any true p qs ps x e h = or-less (reads p x) (any_reads qs x) (any_reads ps x) e h
-one-any false p qs ps x e h = or-right (reads p x) (any_reads ps x) (h e)
+one-any false p qs ps x e h = or_right (reads p x) (any_reads ps x) (h e)
 
 pub any-filter : (t : Pair → Bool) (ps : List Pair) (x : ℕ) → any_reads (filter t ps) x ≡ true → any_reads ps x ≡ true
 any-filter t [] x e = e

@@ -1,5 +1,6 @@
 -- What each call comes to.
 use Rattle.std.proofs.Common.{◌≡◌, ℕ, zero, suc, ◌<◌, ◌≤◌, List, [], ◌∷◌, ◌++◌, length, filter, get_or, slice_set, Bool, true, false, not, ◌||◌, cond, refl, sym, ap, ◌∙◌, subst, inl, inr, arith}
+use Rattle.std.proofs.lemmas.Bool.{both_ways}
 use Rattle.frame_pool.specs.declared.Pool.{Pool}
 use Rattle.frame_pool.specs.Held.{Holds, Owns, Moves}
 use Rattle.frame_pool.proofs.Held.{Moves-trans, Owns-moves}
@@ -13,7 +14,7 @@ use Rattle.shadow_cache.specs.Laws.{frames-cons, kept-shadows, kept-barred, tabl
 use Rattle.shadow_cache.proofs.Leaving.{none-frames}
 use Rattle.shadow_cache.proofs.Present.{present-owns, move-roots, move-moves}
 use Rattle.shadow_cache.proofs.Beside.{bars-fewer, all-fewer, tables-part, few-filter, sized-filter, barred-filter, unmarked-filter, any-filter, none-reads, or-less, reads-set, reads-there, no-reads, no-length, beside-shadow, beside-held, beside-slots, beside-tables, beside-moves, beside-owns, beside-roots}
-use Rattle.shadow_cache.proofs.Small.{clash, both-less, none-some, length-set}
+use Rattle.shadow_cache.proofs.Small.{both-less, none-some, length-set}
 
 -- ---- the same views
 
@@ -52,7 +53,7 @@ module _ (pool pool1 pool2 : Pool) (p : Pair) (ps ps' : List Pair) (m m1 m2 : Li
   gone = subst (Moves pool pool1 m m1 (frames_of ps m)) (sym (none-frames m1)) v
 
   alone : IsRoots (p ∷ []) m1
-  alone = beside-roots pool pool1 p ps [] m m1 h o gone p refl h.sized.0 (omega arith) tt tt tt tt (λ x e. or-less (reads p x) false (any_reads ps x) e (λ f. absurd (clash false refl f)))
+  alone = beside-roots pool pool1 p ps [] m m1 h o gone p refl h.sized.0 (omega arith) tt tt tt tt (λ x e. or-less (reads p x) false (any_reads ps x) e (λ f. absurd (both_ways false refl f)))
 
   pub alone-shadow : IsShadow p.shadow m1
   alone-shadow = beside-shadow pool pool1 p ps [] m m1 h o gone
@@ -67,7 +68,7 @@ module _ (pool pool1 pool2 : Pool) (p : Pair) (ps ps' : List Pair) (m m1 m2 : Li
     bare : IsRoots (emptied_pair p ∷ []) m2
     bare =
         roots-shadow p (emptied_pair p) [] m2 (move-roots pool1 pool2 p [] m1 m2 alone alone-owned e.shadow w (bars-empty (any_reads (p ∷ [])) p m2 e)) refl
-        (no-length) (λ x f. absurd (clash (any_reads (emptied_pair p ∷ []) x) (unread p x) f))
+        (no-length) (λ x f. absurd (both_ways (any_reads (emptied_pair p ∷ []) x) (unread p x) f))
 
     lists : (x : Pair) (xs : List Pair) → x ≡ emptied_pair p → xs ≡ [] → x ∷ xs ≡ emptied_pair p ∷ []
     lists x xs a b = ap (λ (y : Pair). y ∷ xs) a ∙ ap (λ (ys : List Pair). emptied_pair p ∷ ys) b
@@ -94,7 +95,7 @@ module _ (pool pool1 pool2 : Pool) (p : Pair) (ps ps' : List Pair) (m m1 m2 : Li
     pub dropped-tracked : ArePart (tables_of (p' ∷ ps')) (tables_of (p ∷ ps))
     dropped-tracked =
         subst (λ (xs : List Pair). ArePart (tables_of xs) (tables_of (p ∷ ps))) (sym (lists p' ps' q none))
-        (tables-part (p ∷ ps) (emptied_pair p ∷ []) (λ x f. absurd (clash (any_reads (emptied_pair p ∷ []) x) (unread p x) f)))
+        (tables-part (p ∷ ps) (emptied_pair p ∷ []) (λ x f. absurd (both_ways (any_reads (emptied_pair p ∷ []) x) (unread p x) f)))
 
 -- ---- a frame that was written
 
@@ -111,7 +112,7 @@ spoilt-size false p frame = refl
 
 spoilt-reads : (b : Bool) (p : Pair) (frame x : ℕ) → reads (spoilt b p frame) x ≡ true → reads p x ≡ true
 spoilt-reads false p frame x e = e
-spoilt-reads true p frame x e = elim (reads-set p.tables frame x false) [ inl s ↦ sym s ∙ e | inr t ↦ absurd (clash _ t.2 e) ]
+spoilt-reads true p frame x e = elim (reads-set p.tables frame x false) [ inl s ↦ sym s ∙ e | inr t ↦ absurd (both_ways _ t.2 e) ]
 
 pub read-there : (bits : List Bool) (i : ℕ) → get_or bits i false ≡ true → i < length bits
 read-there [] i e = cc

@@ -11,9 +11,10 @@ use Rattle.shadow_cache.specs.Switched.{Opens, ComesBack, Comes, IsSwitched}
 use Rattle.shadow_cache.specs.declared.pair.Pair.{Pair}
 use Rattle.shadow_cache.specs.Laws.{frames-cons, times-frames, kept-same, kept-shadows, kept-frames, kept-barred}
 use Rattle.shadow_cache.proofs.Leaving.{kept-refl, kept-trans, times-remove, shadows-at, shadows-remove, any-at}
-use Rattle.shadow_cache.proofs.Beside.{all-fewer, or-less, or-right, no-reads, no-length}
+use Rattle.shadow_cache.proofs.Beside.{all-fewer, or-less, no-reads, no-length}
 use Rattle.shadow_cache.proofs.Small.{none-some, same-some}
 use Rattle.std.proofs.lemmas.List.{append-nil, drop_all}
+use Rattle.std.proofs.lemmas.Bool.{or_right}
 
 -- ---- some of the pairs
 
@@ -62,7 +63,7 @@ barred-at test (q ∷ qs) (suc i) p m e h = barred-at test qs i p m e h.1
 pub any-remove : (ps : List Pair) (i x : ℕ) → any_reads (remove ps i) x ≡ true → any_reads ps x ≡ true
 any-remove [] zero x e = e
 any-remove [] (suc i) x e = e
-any-remove (q ∷ qs) zero x e = or-right (reads q x) (any_reads qs x) e
+any-remove (q ∷ qs) zero x e = or_right (reads q x) (any_reads qs x) e
 any-remove (q ∷ qs) (suc i) x e = or-less (reads q x) (any_reads (remove qs i) x) (any_reads qs x) e (any-remove qs i x)
 
 length-remove : (ps : List Pair) (i : ℕ) (p : Pair) → slice_get ps i ≡ Some p → suc (length (remove ps i)) ≡ length ps

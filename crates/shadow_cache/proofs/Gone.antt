@@ -1,6 +1,7 @@
 -- A pair that leaves while it isn't the present one.
 use Rattle.std.proofs.Common.{◌≡◌, ◌≢◌, ◌⊎◌, ℕ, zero, suc, ◌+◌, List, [], ◌∷◌, ◌++◌, length, take, filter, Bool, true, false, not, cond, eqb, Option, Some, None, refl, sym, ap, ◌∙◌, subst, inl, inr}
 use Rattle.std.proofs.lemmas.Bool.Decides.{eqb_tells}
+use Rattle.std.proofs.lemmas.Bool.{or_from, ne_eqb}
 use Rattle.guest_ram.specs.Among.{is_among}
 use Rattle.shadow_tables.specs.declared.calls.Call.{Call}
 use Rattle.shadow_tables.specs.declared.calls.Call.TheVariants.{Fill, DropPage, DropDir, DropAll, Note, Written}
@@ -9,12 +10,9 @@ use Rattle.shadow_cache.specs.Away.{has_value, AreApart, IsCause, HasCause, IsNo
 use Rattle.shadow_cache.specs.declared.call_lists.RootsCall.{RootsCall}
 use Rattle.shadow_cache.specs.declared.call_lists.RootsCall.TheVariants.{Shared, Switch}
 use Rattle.shadow_cache.proofs.Since.{pairs-more, pairs-join, calls-cons, calls-none}
-use Rattle.shadow_cache.proofs.Apart.{or-false, first-false, rest-false, none-of, of-is, filter-none, take-none, but-none}
+use Rattle.shadow_cache.proofs.Apart.{first-false, rest-false, none-of, of-is, filter-none, take-none, but-none}
 use Rattle.shadow_cache.proofs.Whole.{marked-value, pairs-apart, call-apart}
 use Rattle.shadow_cache.proofs.Small.{same-some}
-
-pub eqb-other : (a b : ℕ) → a ≢ b → eqb a b ≡ false
-eqb-other a b n = elim (eqb_tells a b) [ inl t ↦ absurd (n t.1) | inr t ↦ t.0 ]
 
 -- ---- it is there as it was, or no pair of its value is
 
@@ -24,7 +22,7 @@ AsWas p qs = (has_value p.value qs ≡ false) ⊎ (of_value p.value qs ≡ Some 
 cons-was : (p q : Past) (qs : List Past) → eqb q.value p.value ≡ false → AsWas p qs → AsWas p (q ∷ qs)
 cons-was p q qs n w =
     elim w [
-      | inl e ↦ inl (or-false (eqb q.value p.value) (has_value p.value qs) n e)
+      | inl e ↦ inl (or_from (eqb q.value p.value) (has_value p.value qs) n e)
       | inr e ↦ inr (ap (λ b. cond b (Some q) (of_value p.value qs)) n ∙ e)
     ]
 
@@ -68,7 +66,7 @@ but-was p v (q ∷ qs) n w =
     elim (eqb_tells q.value v) [
       | inl t ↦
           subst (λ b. AsWas p (cond b qs (q ∷ but_value v qs))) (sym t.0)
-          (rest-was p q qs (eqb-other q.value p.value (λ e. n (sym e ∙ t.1))) w)
+          (rest-was p q qs (ne_eqb q.value p.value (λ e. n (sym e ∙ t.1))) w)
       | inr t ↦
           subst (λ b. AsWas p (cond b qs (q ∷ but_value v qs))) (sym t.0)
           (elim (eqb_tells q.value p.value) [
@@ -94,7 +92,7 @@ filter-was p t (q ∷ qs) a w =
     ]
 
 gone-by : (b : Bool) (v : ℕ) (q : Past) (rest : List Past) → eqb q.value v ≡ false → has_value v rest ≡ false → has_value v (cond b (q ∷ rest) rest) ≡ false
-gone-by true v q rest n e = or-false (eqb q.value v) (has_value v rest) n e
+gone-by true v q rest n e = or_from (eqb q.value v) (has_value v rest) n e
 gone-by false v q rest n e = e
 
 -- where the test is false of it, it goes
@@ -118,13 +116,13 @@ record Beside (p : Past) (ps : List Past) : Type 0 where
   was : AsWas p more
 
 front-beside : (p : Past) (v : ℕ) (ps : List Past) (o : Option Past) → p.value ≢ v → of_value v ps ≡ o → AsWas p ps → Beside p (with_front v ps o)
-front-beside p v ps None n e w = record { first = begun v; more = take 7 ps; place = refl; other = eqb-other v p.value (λ s. n (sym s)); was = take-was p 7 ps w }
+front-beside p v ps None n e w = record { first = begun v; more = take 7 ps; place = refl; other = ne_eqb v p.value (λ s. n (sym s)); was = take-was p 7 ps w }
 front-beside p v ps (Some q) n e w =
     record {
       first = q;
       more = but_value v ps;
       place = refl;
-      other = eqb-other q.value p.value (λ s. n (sym s ∙ of-is v ps q e));
+      other = ne_eqb q.value p.value (λ s. n (sym s ∙ of-is v ps q e));
       was = but-was p v ps n w;
     }
 
@@ -174,9 +172,9 @@ unmarked-gone v [] e = e
 unmarked-gone v (p ∷ ps) e = cond-gone p.marked v p ps e
 
 pub front-gone : (w v : ℕ) (ps : List Past) (o : Option Past) → w ≢ v → of_value v ps ≡ o → Gone w ps → Gone w (with_front v ps o)
-front-gone w v ps None n e g = or-false (eqb v w) (has_value w (take 7 ps)) (eqb-other v w (λ s. n (sym s))) (take-none 7 ps w g)
+front-gone w v ps None n e g = or_from (eqb v w) (has_value w (take 7 ps)) (ne_eqb v w (λ s. n (sym s))) (take-none 7 ps w g)
 front-gone w v ps (Some q) n e g =
-    or-false (eqb q.value w) (has_value w (but_value v ps)) (eqb-other q.value w (λ s. n (sym s ∙ of-is v ps q e))) (but-none v ps w g)
+    or_from (eqb q.value w) (has_value w (but_value v ps)) (ne_eqb q.value w (λ s. n (sym s ∙ of-is v ps q e))) (but-none v ps w g)
 
 switch-gone : (w n v : ℕ) (ps : List Past) → w ≢ v → Gone w ps → Gone w (after_call n (Switch v) ps)
 switch-gone w n v ps o g = front-gone w v (unmarked ps) (of_value v (unmarked ps)) o refl (unmarked-gone w ps g)
@@ -186,11 +184,11 @@ shared-gone w n c [] g = g
 shared-gone w n (Fill side entry wp) (p ∷ ps) g = g
 shared-gone w n (DropPage page) (p ∷ ps) g = g
 shared-gone w n (DropDir index) (p ∷ ps) g = g
-shared-gone w n DropAll (p ∷ ps) g = or-false (eqb p.value w) false (first-false (eqb p.value w) (has_value w ps) g) refl
+shared-gone w n DropAll (p ∷ ps) g = or_from (eqb p.value w) false (first-false (eqb p.value w) (has_value w ps) g) refl
 shared-gone w n (Note frame) (p ∷ ps) g = g
 shared-gone w n (Written frame) (p ∷ ps) g =
     let t : Past → Bool = λ q. not (is_among frame q.tables) in
-    or-false (eqb (marked_at frame p).value w) (has_value w (filter t ps))
+    or_from (eqb (marked_at frame p).value w) (has_value w (filter t ps))
     (ap (λ x. eqb x w) (marked-value (is_among frame p.tables) frame p) ∙ first-false (eqb p.value w) (has_value w ps) g)
     (filter-none t ps w (rest-false (eqb p.value w) (has_value w ps) g))
 
@@ -205,7 +203,7 @@ written-gone : (p : Past) (n frame : ℕ) (ps : List Past) → is_among frame p.
 written-gone p n frame ps i a b =
     let t : Past → Bool = λ q. not (is_among frame q.tables) in
     subst (λ (xs : List Past). Gone p.value (after_shared n (Written frame) xs)) (sym b.place)
-    (or-false (eqb (marked_at frame b.first).value p.value) (has_value p.value (filter t b.more))
+    (or_from (eqb (marked_at frame b.first).value p.value) (has_value p.value (filter t b.more))
     (ap (λ x. eqb x p.value) (marked-value (is_among frame b.first.tables) frame b.first) ∙ b.other)
     (filter-gone p t b.more (ap not i) (subst AreApart b.place a).1 b.was))
 
@@ -215,7 +213,7 @@ cause-gone p n (Shared (Fill side entry wp)) ps i a b = absurd i
 cause-gone p n (Shared (DropPage page)) ps i a b = absurd i
 cause-gone p n (Shared (DropDir index)) ps i a b = absurd i
 cause-gone p n (Shared DropAll) ps i a b =
-    subst (λ (xs : List Past). Gone p.value (after_shared n DropAll xs)) (sym b.place) (or-false (eqb b.first.value p.value) false b.other refl)
+    subst (λ (xs : List Past). Gone p.value (after_shared n DropAll xs)) (sym b.place) (or_from (eqb b.first.value p.value) false b.other refl)
 cause-gone p n (Shared (Note frame)) ps i a b = absurd i
 cause-gone p n (Shared (Written frame)) ps i a b = written-gone p n frame ps i a b
 

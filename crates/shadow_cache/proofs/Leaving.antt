@@ -1,5 +1,5 @@
 -- A pair that leaves, among others that stay.
-use Rattle.std.proofs.Common.{◌≡◌, ◌≢◌, ℕ, zero, suc, ◌+◌, ◌<◌, ◌≤◌, List, [], ◌∷◌, ◌++◌, ◌||◌, length, take, drop, slice_get, remove, filter, Bool, true, false, cond, eqb, Some, None, refl, sym, ap, ◌∙◌, subst, inl, inr, arith}
+use Rattle.std.proofs.Common.{◌≡◌, ℕ, zero, suc, ◌+◌, ◌<◌, ◌≤◌, List, [], ◌∷◌, ◌++◌, ◌||◌, length, take, drop, slice_get, remove, filter, Bool, true, false, cond, eqb, Some, None, refl, sym, ap, ◌∙◌, subst, inl, inr, arith}
 use Rattle.std.proofs.lemmas.Bool.{cases_lt}
 use Rattle.std.proofs.lemmas.Bool.Decides.{eqb_tells}
 use Rattle.frame_pool.specs.declared.Pool.{Pool}
@@ -133,9 +133,6 @@ place-none cr3 [] n l h = refl
 place-none cr3 (q ∷ qs) n l h =
     ap (λ b. cond b (Some 0) (one_later (place_of cr3 qs))) (h 0 q (omega (arith, l)) refl)
     ∙ ap one_later (place-none cr3 qs (length qs) (omega arith) (λ k p b e. h (suc k) p (omega (arith, l, b)) e))
-
-pub other-value : (a b : ℕ) → a ≢ b → eqb a b ≡ false
-other-value a b n = elim (eqb_tells a b) [ inl t ↦ absurd (n t.1) | inr t ↦ t.0 ]
 
 -- one more that isn't it
 pub none-more : (test : Pair → Bool) (ps : List Pair) (i : ℕ) (p : Pair) → slice_get ps i ≡ Some p → test p ≡ false → ((k : ℕ) (q : Pair) → k < i → slice_get ps k ≡ Some q → test q ≡ false) → (k : ℕ) (q : Pair) → k < i + 1 → slice_get ps k ≡ Some q → test q ≡ false

@@ -1,11 +1,12 @@
 -- From which frames the present tables were read, and whether one of those was written, after each call.
 use Rattle.std.proofs.Common.{◌≡◌, ℕ, ◌<◌, List, ◌∷◌, length, get_or, slice_set, Bool, true, false, ◌||◌, eqb, Some, refl, sym, ap, ◌∙◌, inl, inr, arith}
 use Rattle.std.proofs.lemmas.Bool.Decides.{eqb_tells}
+use Rattle.std.proofs.lemmas.Bool.{both_ways}
 use Rattle.shadow_cache.specs.Pairs.{reads}
 use Rattle.shadow_cache.specs.After.{emptied, mark_of, noted_in, noted_of, value_of, written_in}
 use Rattle.shadow_cache.specs.declared.pair.Pair.{Pair}
 use Rattle.shadow_cache.proofs.Beside.{no-reads, reads-set, reads-there}
-use Rattle.shadow_cache.proofs.Small.{clash, or-none}
+use Rattle.shadow_cache.proofs.Small.{or-none}
 use Rattle.shadow_cache.specs.Laws.{or-true}
 use Rattle.shadow_cache.proofs.Calls.{spoilt}
 
@@ -33,7 +34,7 @@ pub written-other : (p : Pair) (ps qs : List Pair) (frame f : ℕ) → qs ≡ wr
 written-other p ps qs frame f e n = ap (λ xs. noted_of xs f) e ∙ marked-other (reads p frame) p frame f n
 
 there-by : (b : Bool) (p : Pair) (frame : ℕ) → reads (spoilt b p frame) frame ≡ true → reads p frame ≡ true
-there-by true p frame h = elim (reads-set p.tables frame frame false) [ inl s ↦ sym s ∙ h | inr t ↦ absurd (clash (reads (spoilt true p frame) frame) t.2 h) ]
+there-by true p frame h = elim (reads-set p.tables frame frame false) [ inl s ↦ sym s ∙ h | inr t ↦ absurd (both_ways (reads (spoilt true p frame) frame) t.2 h) ]
 there-by false p frame h = h
 
 pub written-there : (p : Pair) (ps qs : List Pair) (frame : ℕ) → qs ≡ written_in (p ∷ ps) frame → noted_of qs frame ≡ true → reads p frame ≡ true
@@ -54,10 +55,10 @@ pub written-value : (p : Pair) (ps qs : List Pair) (frame : ℕ) → qs ≡ writ
 written-value p ps qs frame e = ap value_of e ∙ ap (λ v. Some v) (value-by (reads p frame) p frame)
 
 pub emptied-reads : (p : Pair) (ps qs : List Pair) (f : ℕ) → qs ≡ emptied (p ∷ ps) → noted_of qs f ≡ true → reads p f ≡ true
-emptied-reads p ps qs f e h = absurd (clash (noted_of qs f) (ap (λ xs. noted_of xs f) e ∙ no-reads f) h)
+emptied-reads p ps qs f e h = absurd (both_ways (noted_of qs f) (ap (λ xs. noted_of xs f) e ∙ no-reads f) h)
 
 pub emptied-marked : (p : Pair) (ps qs : List Pair) → qs ≡ emptied (p ∷ ps) → mark_of qs ≡ true → p.marked ≡ true
-emptied-marked p ps qs e h = absurd (clash (mark_of qs) (ap mark_of e) h)
+emptied-marked p ps qs e h = absurd (both_ways (mark_of qs) (ap mark_of e) h)
 
 pub emptied-value : (p : Pair) (ps qs : List Pair) → qs ≡ emptied (p ∷ ps) → value_of qs ≡ Some p.cr3
 emptied-value p ps qs e = ap value_of e

@@ -18,6 +18,7 @@ use Rattle.shadow_cache.proofs.Present.{apart, write-frames, write-memory}
 use Rattle.shadow_cache.proofs.Beside.{reads-set, reads-there, no-length}
 use Rattle.shadow_cache.proofs.Small.{same-some, none-some, length-set, or-none}
 use Rattle.std.proofs.lemmas.List.{append-nil}
+use Rattle.std.proofs.lemmas.Bool.{and_left, false_from_ne_true}
 
 -- ---- a new pair
 
@@ -46,10 +47,6 @@ out true true e = refl
 out false b e = refl
 out true false e = cc
 
-clear : (a b : Bool) → a ≡ false → (a && b) ≡ false
-clear true b e = cc
-clear false b e = refl
-
 abbrev Bars : (ℕ → Bool) → Option Slot → Type 0
 Bars test o = (slot : Slot) → o ≡ Some slot → test slot.entry.frame ≡ true → slot.writes ≡ false
 
@@ -60,7 +57,7 @@ bars-one t u frame (Some s) i b = λ slot e y.
     let z : u s.entry.frame ≡ true = ap (λ (x : Slot). u x.entry.frame) q ∙ y in
     sym (ap (λ (x : Slot). x.writes) q) ∙ elim (i s.entry.frame z) [
       | inl same ↦ elim (eqb_tells s.entry.frame frame) [ inl k ↦ out s.writes (eqb s.entry.frame frame) k.0 | inr k ↦ absurd (k.1 same) ]
-      | inr old ↦ clear s.writes (not (eqb s.entry.frame frame || false)) (b s refl old)
+      | inr old ↦ and_left s.writes (not (eqb s.entry.frame frame || false)) (b s refl old)
     ]
 
 bars-noted : (t u : ℕ → Bool) (frame : ℕ) (f f' : ℕ → Option Slot) → ((x : ℕ) → u x ≡ true → (x ≡ frame) ⊎ (t x ≡ true)) → LosesWrites f f' (one frame) → BarsWrites t f → BarsWrites u f'
@@ -83,10 +80,6 @@ all-lose (p ∷ ps) m m1 m2 frame k l = (
 flags : (a b c : Bool) → (a ≡ true → b ≡ c) → (a && not (b || false)) ≡ (a && not c)
 flags false b c h = refl
 flags true b c h = ap (λ x. not (x || false)) (h refl) ∙ ap not (or-none c)
-
-flip : (a : Bool) → (a ≡ true → ⊥) → a ≡ false
-flip true h = absurd (h refl)
-flip false h = refl
 
 -- ---- pair after pair
 
@@ -207,14 +200,14 @@ module _ (p : Pair) (ps : List Pair) (m m2 : List ℕ) (frame : ℕ) (h : IsRoot
         | inl t ↦
             let z = h.sized.0 in
             t.0 ∙ sym (ap (λ y. get_or (slice_set p.tables frame true) y false || any_reads ps y) t.1 ∙ ap (λ b. b || any_reads ps frame) (reads-there p.tables frame true (omega (arith, z, low))))
-        | inr t ↦ t.0 ∙ sym (flip (any_reads (with_noted p frame ∷ ps) x) (λ y. elim (any-noted x y) [ inl s ↦ t.1 s | inr s ↦ (let q : false ≡ true = sym e ∙ s in cc) ]))
+        | inr t ↦ t.0 ∙ sym (false_from_ne_true (any_reads (with_noted p frame ∷ ps) x) (λ y. elim (any-noted x y) [ inl s ↦ t.1 s | inr s ↦ (let q : false ≡ true = sym e ∙ s in cc) ]))
       ]
 
   same-rights : (o : Option Slot) → Bars (any_reads (p ∷ ps)) o → barred (frame ∷ []) o ≡ barred (tables_of (with_noted p frame ∷ ps)) o
   same-rights None b = refl
   same-rights (Some s) b =
       ap (λ w. Some (record s { writes = w })) (flags s.writes (eqb s.entry.frame frame) (is_among s.entry.frame (tables_of (with_noted p frame ∷ ps))) (λ y.
-      any-is s.entry.frame (flip (any_reads (p ∷ ps) s.entry.frame) (λ z. (let q : true ≡ false = sym y ∙ b s refl z in cc)))
+      any-is s.entry.frame (false_from_ne_true (any_reads (p ∷ ps) s.entry.frame) (λ z. (let q : true ≡ false = sym y ∙ b s refl z in cc)))
       ∙ sym (tables-any (with_noted p frame ∷ ps) s.entry.frame)))
 
   pub note-slots : LosesWrites (slot_at p.shadow m) (slot_at p.shadow m2) (tables_of (with_noted p frame ∷ ps))

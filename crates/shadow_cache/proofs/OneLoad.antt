@@ -1,6 +1,7 @@
 -- Which pairs leave at a call.
 use Rattle.std.proofs.Common.{◌≡◌, ◌≢◌, ℕ, zero, suc, ◌≤◌, List, [], ◌∷◌, ◌++◌, length, take, filter, slice_get, Bool, true, false, not, ◌&&◌, cond, eqb, Option, Some, None, refl, sym, ap, ◌∙◌, subst, inl, inr, arith}
 use Rattle.std.proofs.lemmas.Bool.Decides.{eqb_tells}
+use Rattle.std.proofs.lemmas.Bool.{or_from, ne_eqb, both_ways}
 use Rattle.guest_ram.specs.Among.{is_among}
 use Rattle.shadow_tables.specs.declared.calls.Call.TheVariants.{Fill, DropPage, DropDir, DropAll, Note, Written}
 use Rattle.shadow_cache.specs.Past.{Past, begun, marked_at, unmarked, of_value, but_value, with_front, after_switch, after_call, pairs_after}
@@ -8,10 +9,10 @@ use Rattle.shadow_cache.specs.Away.{has_value, AreApart, is_of_value, leaves, Is
 use Rattle.shadow_cache.specs.declared.call_lists.RootsCall.{RootsCall}
 use Rattle.shadow_cache.specs.declared.call_lists.RootsCall.TheVariants.{Shared, Switch}
 use Rattle.shadow_cache.proofs.Since.{pairs-more}
-use Rattle.shadow_cache.proofs.Apart.{or-false, first-false, rest-false, of-none, none-of, of-is, unmarked-apart, unmarked-few}
+use Rattle.shadow_cache.proofs.Apart.{first-false, rest-false, of-none, none-of, of-is, unmarked-apart, unmarked-few}
 use Rattle.shadow_cache.proofs.Whole.{marked-value, pairs-apart, pairs-few}
-use Rattle.shadow_cache.proofs.Gone.{eqb-other, filter-gone, front-gone, begins-by}
-use Rattle.shadow_cache.proofs.Small.{same-some, none-some, clash}
+use Rattle.shadow_cache.proofs.Gone.{filter-gone, front-gone, begins-by}
+use Rattle.shadow_cache.proofs.Small.{same-some, none-some}
 
 -- ---- the pair of a value
 
@@ -24,7 +25,7 @@ has-at (q ∷ qs) zero p v e h = ap (λ (x : Past). eqb x.value v) (sym (same-so
 has-at (q ∷ qs) (suc i) p v e h = has-at qs i p v e (rest-false (eqb q.value v) (has_value v qs) h)
 
 eqb-swap : (a b : ℕ) → eqb a b ≡ false → eqb b a ≡ false
-eqb-swap a b e = eqb-other b a (λ s. (elim (eqb_tells a b) [ inl t ↦ clash (eqb a b) e t.0 | inr t ↦ t.1 (sym s) ]))
+eqb-swap a b e = ne_eqb b a (λ s. (elim (eqb_tells a b) [ inl t ↦ both_ways (eqb a b) e t.0 | inr t ↦ t.1 (sym s) ]))
 
 of-at : (qs : List Past) (i : ℕ) (p : Past) → slice_get qs i ≡ Some p → AreApart qs → of_value p.value qs ≡ Some p
 of-at [] i p e a = absurd (none-some p e)
@@ -46,7 +47,7 @@ of-but w v (p ∷ ps) n =
     elim (eqb_tells p.value v) [
       | inl t ↦
           ap (λ b. of_value w (cond b ps (p ∷ but_value v ps))) t.0
-          ∙ sym (of-rest w p ps (eqb-other p.value w (λ s. n (sym s ∙ t.1))))
+          ∙ sym (of-rest w p ps (ne_eqb p.value w (λ s. n (sym s ∙ t.1))))
       | inr t ↦
           ap (λ b. of_value w (cond b ps (p ∷ but_value v ps))) t.0
           ∙ ap (λ x. cond (eqb p.value w) (Some p) x) (of-but w v ps n)
@@ -78,7 +79,7 @@ first-by None w q h n = cc
 first-by (Some x) w q h n =
     elim (eqb_tells x.value w) [
       | inl t ↦ ap (eqb q.value) (sym t.1) ∙ eqb-swap x.value q.value (n x refl)
-      | inr t ↦ absurd (clash (eqb x.value w) t.0 h)
+      | inr t ↦ absurd (both_ways (eqb x.value w) t.0 h)
     ]
 
 first-other : (n w : ℕ) (q : Past) (ps : List Past) → has_value q.value ps ≡ false → is_of_value w (slice_get ps n) ≡ true → eqb q.value w ≡ false
@@ -87,7 +88,7 @@ first-other n w q ps a h = first-by (slice_get ps n) w q h (λ x e. has-at ps n 
 last-goes : (n w : ℕ) (ps : List Past) → AreApart ps → is_of_value w (slice_get ps n) ≡ true → has_value w (take n ps) ≡ false
 last-goes zero w ps a h = refl
 last-goes (suc n) w [] a h = refl
-last-goes (suc n) w (q ∷ ps) a h = or-false (eqb q.value w) (has_value w (take n ps)) (first-other n w q ps a.0 h) (last-goes n w ps a.1 h)
+last-goes (suc n) w (q ∷ ps) a h = or_from (eqb q.value w) (has_value w (take n ps)) (first-other n w q ps a.0 h) (last-goes n w ps a.1 h)
 
 -- ---- those that a test lets stay
 
@@ -114,22 +115,22 @@ both-false true b e = cc
 both-false false b e = refl
 
 and-not : (a b : Bool) → (not a && b) ≡ true → a ≡ false
-and-not true b e = absurd (clash false refl e)
+and-not true b e = absurd (both_ways false refl e)
 and-not false b e = refl
 
 module _ (v : ℕ) (p : Past) (ps : List Past) (a : AreApart ps) (few : length ps ≤ 8) (here : of_value p.value ps ≡ Some p) where
   goes-by : (o : Option Past) → of_value v ps ≡ o → (not (has_value v ps) && is_of_value p.value (slice_get ps 7)) ≡ true → p.value ≢ v → has_value p.value (with_front v ps o) ≡ false
   goes-by None e h n =
-      or-false (eqb v p.value) (has_value p.value (take 7 ps)) (eqb-other v p.value (λ s. n (sym s)))
+      or_from (eqb v p.value) (has_value p.value (take 7 ps)) (ne_eqb v p.value (λ s. n (sym s)))
       (last-goes 7 p.value ps a (sym (both-false (has_value v ps) (is_of_value p.value (slice_get ps 7)) (of-none v ps e)) ∙ h))
   goes-by (Some q) e h n = absurd (none-some q (sym (none-of v ps (and-not (has_value v ps) (is_of_value p.value (slice_get ps 7)) h)) ∙ e))
 
   stays-by : (o : Option Past) → of_value v ps ≡ o → (not (has_value v ps) && is_of_value p.value (slice_get ps 7)) ≡ false → p.value ≢ v → of_value p.value (with_front v ps o) ≡ Some p
   stays-by None e h n =
-      of-rest p.value (begun v) (take 7 ps) (eqb-other v p.value (λ s. n (sym s)))
+      of-rest p.value (begun v) (take 7 ps) (ne_eqb v p.value (λ s. n (sym s)))
       ∙ of-take 7 p.value ps p here few (sym (both-false (has_value v ps) (is_of_value p.value (slice_get ps 7)) (of-none v ps e)) ∙ h)
   stays-by (Some q) e h n =
-      of-rest p.value q (but_value v ps) (eqb-other q.value p.value (λ s. n (sym s ∙ of-is v ps q e)))
+      of-rest p.value q (but_value v ps) (ne_eqb q.value p.value (λ s. n (sym s ∙ of-is v ps q e)))
       ∙ of-but p.value v ps n ∙ here
 
   -- it has the value itself, or another
@@ -170,14 +171,14 @@ module _ (n : ℕ) (q : Past) (ps : List Past) (a : AreApart (q ∷ ps)) (few : 
   others-go (Switch v) h =
       let xs : List Past = unmarked (q ∷ ps) in let f = unmarked-few (q ∷ ps) in
       load-goes v p xs (unmarked-apart (q ∷ ps) a) (omega (arith, f, few)) (unmarked-of q.marked p.value p q ps other here) h
-  others-go (Shared (Fill side entry wp)) h = absurd (clash false refl h)
-  others-go (Shared (DropPage page)) h = absurd (clash false refl h)
-  others-go (Shared (DropDir index)) h = absurd (clash false refl h)
-  others-go (Shared DropAll) h = or-false (eqb q.value p.value) false other refl
-  others-go (Shared (Note frame)) h = absurd (clash false refl h)
+  others-go (Shared (Fill side entry wp)) h = absurd (both_ways false refl h)
+  others-go (Shared (DropPage page)) h = absurd (both_ways false refl h)
+  others-go (Shared (DropDir index)) h = absurd (both_ways false refl h)
+  others-go (Shared DropAll) h = or_from (eqb q.value p.value) false other refl
+  others-go (Shared (Note frame)) h = absurd (both_ways false refl h)
   others-go (Shared (Written frame)) h =
       let t : Past → Bool = λ x. not (is_among frame x.tables) in
-      or-false (eqb (marked_at frame q).value p.value) (has_value p.value (filter t ps)) (marked-value-other frame) (filter-gone p t ps (ap not h) a.1 (inr here))
+      or_from (eqb (marked_at frame q).value p.value) (has_value p.value (filter t ps)) (marked-value-other frame) (filter-gone p t ps (ap not h) a.1 (inr here))
 
   abbrev Here : List Past → Type 0
   Here qs = of_value p.value qs ≡ Some p
@@ -192,7 +193,7 @@ module _ (n : ℕ) (q : Past) (ps : List Past) (a : AreApart (q ∷ ps)) (few : 
   others-stay (Shared (Fill side entry wp)) h = changed _ refl
   others-stay (Shared (DropPage page)) h = changed _ refl
   others-stay (Shared (DropDir index)) h = changed _ refl
-  others-stay (Shared DropAll) h = absurd (clash true h refl)
+  others-stay (Shared DropAll) h = absurd (both_ways true h refl)
   others-stay (Shared (Note frame)) h = changed _ refl
   others-stay (Shared (Written frame)) h =
       let t : Past → Bool = λ x. not (is_among frame x.tables) in

@@ -1,6 +1,7 @@
 -- Pairs and their pasts, after one call more.
-use Rattle.std.proofs.Common.{◌≡◌, ℕ, zero, suc, ◌+◌, ◌<◌, ◌≤◌, ◌⊎◌, List, [], ◌∷◌, ◌++◌, length, take, remove, filter, slice_get, slice_set, get_or, Bool, true, false, not, ◌||◌, ◌&&◌, cond, eqb, Some, None, refl, sym, ap, ◌∙◌, subst, inl, inr, arith}
+use Rattle.std.proofs.Common.{◌≡◌, ℕ, zero, suc, ◌+◌, ◌<◌, ◌≤◌, List, [], ◌∷◌, ◌++◌, length, take, remove, filter, slice_get, slice_set, get_or, Bool, true, false, not, ◌||◌, ◌&&◌, cond, eqb, Some, None, refl, sym, ap, ◌∙◌, subst, inl, inr, arith}
 use Rattle.std.proofs.lemmas.Bool.Decides.{eqb_tells}
+use Rattle.std.proofs.lemmas.Bool.{or_cases, eqb-true}
 use Rattle.guest_ram.specs.Among.{is_among}
 use Rattle.shadow_tables.specs.Slots.{is_side, held, slot_at, SameSlots, LosesWrites}
 use Rattle.shadow_tables.specs.Opened.{HasTable, KeepsTables, HasOpened}
@@ -227,13 +228,6 @@ pub and-second : (a b : Bool) → (a && b) ≡ true → b ≡ true
 and-second true b e = e
 and-second false b e = cc
 
-pub or-cases : (a b : Bool) → (a || b) ≡ true → (a ≡ true) ⊎ (b ≡ true)
-or-cases true b e = inl refl
-or-cases false b e = inr e
-
-pub index-is : (i j : ℕ) → eqb i j ≡ true → i ≡ j
-index-is i j e = elim (eqb_tells i j) [ inl t ↦ t.1 | inr t ↦ absurd (let q : false ≡ true = sym t.0 ∙ e in cc) ]
-
 -- the places under which pages were filled have tables, and one more
 module _ (v : ℕ) (cs : List RootsCall) (q : Past) (p : Pair) (m m' : List ℕ) (a : Agrees v cs q p m) (side : Side) (index : ℕ) (low : index < 1024) (o : HasOpened p.shadow m m' side index) where
   here : DirSlot
@@ -248,12 +242,12 @@ module _ (v : ℕ) (cs : List RootsCall) (q : Past) (p : Pair) (m m' : List ℕ)
   at : (place : DirSlot) → (is_side place.side side && eqb place.index index) ≡ true → (place.index < 1024) × HasTable p.shadow m' place.side place.index
   at place t =
       let s : place.side ≡ side = side-is place.side side (and-first (is_side place.side side) (eqb place.index index) t) in
-      let i : place.index ≡ index = index-is place.index index (and-second (is_side place.side side) (eqb place.index index) t) in
+      let i : place.index ≡ index = eqb-true place.index index (and-second (is_side place.side side) (eqb place.index index) t) in
       (omega (arith, i, low), subst (λ x. HasTable p.shadow m' x place.index) (sym s) (subst (λ x. HasTable p.shadow m' side x) (sym i) o.there))
 
   opened-by : (b : Bool) → Opened (cond b q.places (record { side = side; index = index } ∷ q.places))
   opened-by true = before
-  opened-by false = λ place t. elim (or-cases (is_side place.side side && eqb place.index index) (is_place place q.places) t) [ inl x ↦ at place x | inr x ↦ before place x ]
+  opened-by false = λ place t. elim (or_cases (is_side place.side side && eqb place.index index) (is_place place q.places) t) [ inl x ↦ at place x | inr x ↦ before place x ]
 
   pub opened-more : Opened (with_place (record { side = side; index = index }) q.places)
   opened-more = opened-by (is_place (record { side = side; index = index }) q.places)

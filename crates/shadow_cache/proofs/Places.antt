@@ -1,6 +1,7 @@
 -- The directory indices under which pages were filled in a pair.
 use Rattle.std.proofs.Common.{◌≡◌, ℕ, zero, suc, ◌/◌, List, [], ◌∷◌, ◌++◌, append_assoc, take, filter, Bool, true, false, not, ◌&&◌, cond, eqb, Option, Some, None, refl, sym, ap, ◌∙◌, subst, inl, inr}
 use Rattle.std.proofs.lemmas.Bool.Decides.{eqb_tells}
+use Rattle.std.proofs.lemmas.Bool.{or_cases, eqb-true}
 use Rattle.paging.specs.declared.entry.Entry.{Entry}
 use Rattle.guest_ram.specs.Among.{is_among}
 use Rattle.shadow_tables.specs.Slots.{is_side}
@@ -11,7 +12,7 @@ use Rattle.shadow_cache.specs.Past.{MadeCall, DirSlot, Past, begun, is_place, wi
 use Rattle.shadow_cache.specs.Replayed.{IsFilledUnder, IsEachOnce, IsPlaced, ArePlaced}
 use Rattle.shadow_cache.specs.declared.call_lists.RootsCall.{RootsCall}
 use Rattle.shadow_cache.specs.declared.call_lists.RootsCall.TheVariants.{Shared, Switch}
-use Rattle.shadow_cache.proofs.PairSteps.{side-is, index-is, and-first, and-second, or-cases}
+use Rattle.shadow_cache.proofs.PairSteps.{side-is, and-first, and-second}
 use Rattle.shadow_cache.proofs.Since.{pairs-are}
 use Rattle.shadow_cache.proofs.Whole.{calls-keep}
 use Rattle.shadow_cache.proofs.Small.{same-some, none-some}
@@ -41,7 +42,7 @@ filled-now done moment side entry wp place t =
       entry = entry;
       wp = wp;
       fill = ap (λ x. done ++ record { moment = moment; call = Fill x entry wp } ∷ []) (sym s);
-      under = sym (index-is place.index (entry.page / 1024) (and-second (is_side place.side side) (eqb place.index (entry.page / 1024)) t));
+      under = sym (eqb-true place.index (entry.page / 1024) (and-second (is_side place.side side) (eqb place.index (entry.page / 1024)) t));
     }
 
 -- a place more, where it isn't there
@@ -52,7 +53,7 @@ with-filled : (b : Bool) (done : List MadeCall) (moment : ℕ) (side : Side) (en
     → AreFilledUnder (done ++ record { moment = moment; call = Fill side entry wp } ∷ []) (cond b places (record { side = side; index = entry.page / 1024 } ∷ places))
 with-filled true done moment side entry wp places f = λ place t. filled-later done (record { moment = moment; call = Fill side entry wp }) place (f place t)
 with-filled false done moment side entry wp places f = λ place t.
-    elim (or-cases (is_side place.side side && eqb place.index (entry.page / 1024)) (is_place place places) t) [
+    elim (or_cases (is_side place.side side && eqb place.index (entry.page / 1024)) (is_place place places) t) [
       | inl x ↦ filled-now done moment side entry wp place x
       | inr x ↦ filled-later done (record { moment = moment; call = Fill side entry wp }) place (f place x)
     ]

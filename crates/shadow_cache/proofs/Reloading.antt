@@ -1,6 +1,7 @@
 -- A load of CR3, over what is kept for each of its values.
 use Rattle.std.proofs.Common.{◌≡◌, ℕ, zero, suc, List, [], ◌∷◌, take, slice_get, remove, get_or, Bool, true, false, ◌||◌, cond, eqb, MatchOption, Option, Some, None, refl, sym, ap, ◌∙◌, subst, inl, inr, arith}
 use Rattle.std.proofs.lemmas.Bool.Decides.{eqb_tells}
+use Rattle.std.proofs.lemmas.Bool.{or_right}
 use Rattle.shadow_tables.specs.Aside.{Aside, IsSame, AreSame}
 use Rattle.shadow_tables.specs.Slots.{ArePart, slot_at}
 use Rattle.shadow_cache.specs.Pairs.{reads, any_reads, tables_of, AreUnmarked, OthersUnmarked}
@@ -11,7 +12,7 @@ use Rattle.shadow_cache.specs.Switched.{IsFresh, staying_pairs, Opens, ComesBack
 use Rattle.shadow_cache.specs.Reloaded.{put_by, of_cr3, but_cr3, begun_aside, or_begun, coming, beside_coming, staying}
 use Rattle.shadow_cache.specs.Laws.{same-kept}
 use Rattle.shadow_cache.specs.declared.pair.Pair.{Pair}
-use Rattle.shadow_cache.proofs.Beside.{no-reads, tables-part, or-less, or-right}
+use Rattle.shadow_cache.proofs.Beside.{no-reads, tables-part, or-less}
 use Rattle.shadow_cache.proofs.Coming.{any-remove, unmarked-at}
 use Rattle.shadow_cache.proofs.Leaving.{any-at}
 use Rattle.shadow_cache.proofs.Small.{same-some, none-some, some-none, none-later, later-is, later-none}
@@ -154,7 +155,7 @@ fewer-by (Some i) cr3 ps qs m m' f x e =
     front-by (reads x.pair f) ps (remove ps i) x.pair f refl (λ h. any-at ps i f x.pair x.here h) (any-remove ps i f) (sym (ap (λ (xs : List Pair). any_reads xs f) x.front) ∙ e)
 
 staying-by : (b : Bool) (p : Pair) (ps : List Pair) (f : ℕ) → any_reads (cond b ps (p ∷ ps)) f ≡ true → any_reads (p ∷ ps) f ≡ true
-staying-by true p ps f e = or-right (reads p f) (any_reads ps f) e
+staying-by true p ps f e = or_right (reads p f) (any_reads ps f) e
 staying-by false p ps f e = e
 
 pub reloaded-tracked : (cr3 : ℕ) (p : Pair) (ps qs : List Pair) (m m' : List ℕ) → IsSwitched (p ∷ ps) qs m m' cr3 → ArePart (tables_of qs) (tables_of (p ∷ ps))

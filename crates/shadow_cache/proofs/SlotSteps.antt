@@ -1,6 +1,7 @@
 -- What is kept for a page, after one call more.
 use Rattle.std.proofs.Common.{◌≡◌, ℕ, ◌/◌, ◌^◌, ◌<◌, List, [], ◌∷◌, ◌++◌, length, Bool, true, false, not, ◌||◌, ◌&&◌, cond, eqb, Option, Some, None, refl, sym, ap, ◌∙◌, subst, inl, inr, arith}
 use Rattle.std.proofs.lemmas.Bool.Decides.{eqb_tells}
+use Rattle.std.proofs.lemmas.Bool.{or_from, false_from_ne_true, both_ways}
 use Rattle.paging.specs.declared.entry.Entry.{Entry}
 use Rattle.shadow_tables.specs.Slots.{Slot, filled, barred, permits, Turns, LosesDir}
 use Rattle.shadow_tables.specs.declared.words.Side.{Side}
@@ -9,13 +10,8 @@ use Rattle.shadow_cache.specs.Past.{is_table, pairs_after}
 use Rattle.shadow_cache.specs.Agreeing.{Filling, filling_after, IsHeld, IsSlot}
 use Rattle.shadow_cache.specs.declared.call_lists.RootsCall.{RootsCall}
 use Rattle.shadow_cache.proofs.Since.{length-more, since-less, since-now, since-more, since-here}
-use Rattle.shadow_cache.proofs.Tabled.{Fewer, AsMany, OneMore}
-use Rattle.shadow_cache.proofs.Small.{clash}
-use Rattle.shadow_cache.proofs.Apart.{or-false, first-false, rest-false}
-
-not-true : (b : Bool) → (b ≡ true → ⊥) → b ≡ false
-not-true true h = absurd (h refl)
-not-true false h = refl
+use Rattle.shadow_cache.proofs.Tabled.{Fewer, AsMany, OneMore, fewer-as}
+use Rattle.shadow_cache.proofs.Apart.{first-false, rest-false}
 
 -- ---- nothing changes
 
@@ -29,7 +25,7 @@ slot-stays v cs c (Some f) o o' w e h =
       early = omega (arith, l, early);
       free = λ b.
           let n = h.free b in
-          since-more v cs c f.moment f.entry.frame n (not-true (is_table (pairs_after v (cs ++ c ∷ [])) f.entry.frame) (λ t. clash (is_table (pairs_after v cs) f.entry.frame) (since-now v cs f.moment f.entry.frame h.early n) (w f.entry.frame t)));
+          since-more v cs c f.moment f.entry.frame n (false_from_ne_true (is_table (pairs_after v (cs ++ c ∷ [])) f.entry.frame) (λ t. both_ways (is_table (pairs_after v cs) f.entry.frame) (since-now v cs f.moment f.entry.frame h.early n) (w f.entry.frame t)));
       still = λ n. h.still (since-less v cs c f.moment f.entry.frame n);
     }
 
@@ -55,10 +51,10 @@ slot-noted v cs c frame (Some f) o o' w e h =
       early = omega (arith, l, early);
       free = λ b.
           let n = h.free (first-false h.barred q b) in
-          since-more v cs c f.moment f.entry.frame n (w f.entry.frame ∙ or-false q t (rest-false h.barred q b) (since-now v cs f.moment f.entry.frame h.early n));
+          since-more v cs c f.moment f.entry.frame n (w f.entry.frame ∙ or_from q t (rest-false h.barred q b) (since-now v cs f.moment f.entry.frame h.early n));
       still = λ n.
           let now = since-now v (cs ++ c ∷ []) f.moment f.entry.frame (omega (arith, l, early)) n in
-          or-false h.barred q (h.still (since-less v cs c f.moment f.entry.frame n)) (first-false q t (sym (w f.entry.frame) ∙ now));
+          or_from h.barred q (h.still (since-less v cs c f.moment f.entry.frame n)) (first-false q t (sym (w f.entry.frame) ∙ now));
     }
 
 -- ---- a page is filled
@@ -75,9 +71,6 @@ slot-new v cs c side entry wp b o' w e t =
       still = λ n. e ∙ sym (w entry.frame) ∙ since-now v (cs ++ c ∷ []) (length cs) entry.frame (omega (arith, l)) n;
     }
 
-as-fewer : (v : ℕ) (cs : List RootsCall) (c : RootsCall) → AsMany v cs c → Fewer v cs c
-as-fewer v cs c w = λ f e. sym (w f) ∙ e
-
 pub slot-filled : (v : ℕ) (cs : List RootsCall) (c : RootsCall) (side : Side) (entry : Entry) (wp b : Bool) (x : Option Filling) (f f' : ℕ → Option Slot) (page : ℕ) → AsMany v cs c → b ≡ is_table (pairs_after v cs) entry.frame
     → Turns f f' entry.page (Some (filled b side entry wp)) → page < 2 ^ 20 → IsSlot v cs x (f page) → IsSlot v (cs ++ c ∷ []) (filling_after (Fill side entry wp) (length cs) page x) (f' page)
 slot-filled v cs c side entry wp b x f f' page w e t low h =
@@ -88,7 +81,7 @@ slot-filled v cs c side entry wp b x f f' page w e t low h =
           (slot-new v cs c side entry wp b (f' page) w e (ap f' y.1 ∙ t.there))
       | inr y ↦
           subst (λ k. IsSlot v (cs ++ c ∷ []) (cond k new x) (f' page)) (sym y.0)
-          (slot-stays v cs c x (f page) (f' page) (as-fewer v cs c w) (t.others page low y.1) h)
+          (slot-stays v cs c x (f page) (f' page) (fewer-as v cs c w) (t.others page low y.1) h)
     ]
 
 -- ---- pages are dropped
@@ -100,7 +93,7 @@ slot-dropped v cs c dropped x f f' page w t low h =
       | inl y ↦ subst (λ k. IsSlot v (cs ++ c ∷ []) (cond k None x) (f' page)) (sym y.0) (ap f' y.1 ∙ t.there)
       | inr y ↦
           subst (λ k. IsSlot v (cs ++ c ∷ []) (cond k None x) (f' page)) (sym y.0)
-          (slot-stays v cs c x (f page) (f' page) (as-fewer v cs c w) (t.others page low y.1) h)
+          (slot-stays v cs c x (f page) (f' page) (fewer-as v cs c w) (t.others page low y.1) h)
     ]
 
 pub slot-lost : (v : ℕ) (cs : List RootsCall) (c : RootsCall) (index : ℕ) (x : Option Filling) (f f' : ℕ → Option Slot) (page : ℕ) → AsMany v cs c → LosesDir f f' index → page < 2 ^ 20 → IsSlot v cs x (f page)
@@ -110,5 +103,5 @@ slot-lost v cs c index x f f' page w t low h =
       | inl y ↦ subst (λ k. IsSlot v (cs ++ c ∷ []) (cond k None x) (f' page)) (sym y.0) (t.gone page low y.1)
       | inr y ↦
           subst (λ k. IsSlot v (cs ++ c ∷ []) (cond k None x) (f' page)) (sym y.0)
-          (slot-stays v cs c x (f page) (f' page) (as-fewer v cs c w) (t.others page low y.1) h)
+          (slot-stays v cs c x (f page) (f' page) (fewer-as v cs c w) (t.others page low y.1) h)
     ]

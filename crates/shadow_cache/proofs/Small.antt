@@ -12,9 +12,6 @@ none-some a e = cc
 pub some-none : {A : Type 0} (a : A) → Some a ≡ None → ⊥
 some-none a e = cc
 
-pub clash : (b : Bool) → b ≡ false → b ≡ true → ⊥
-clash b e f = cc
-
 pub both-less : (a b c d : Bool) → (a ≡ true → c ≡ true) → (b ≡ true → d ≡ true) → (a || b) ≡ true → (c || d) ≡ true
 both-less true b c d f g e = ap (λ x. x || d) (f refl)
 both-less false b c d f g e = or_right c d (g e)

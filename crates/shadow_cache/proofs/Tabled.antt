@@ -1,6 +1,7 @@
 -- The frames that are among the tables of a pair, after each call.
 use Rattle.std.proofs.Common.{◌≡◌, ℕ, zero, suc, List, [], ◌∷◌, ◌++◌, length, take, filter, Bool, true, false, not, ◌||◌, cond, eqb, Option, Some, None, refl, sym, ap, ◌∙◌, inl, inr}
 use Rattle.std.proofs.lemmas.Bool.Decides.{eqb_tells}
+use Rattle.std.proofs.lemmas.Bool.{or_right, ne_eqb, or_left}
 use Rattle.paging.specs.declared.entry.Entry.{Entry}
 use Rattle.guest_ram.specs.Among.{is_among}
 use Rattle.shadow_tables.specs.declared.words.Side.{Side}
@@ -8,14 +9,14 @@ use Rattle.shadow_tables.specs.declared.calls.Call.TheVariants.{Fill, DropPage, 
 use Rattle.shadow_cache.specs.Past.{Past, is_table, all_but, marked_at, after_shared, unmarked, of_value, but_value, with_front, after_call, pairs_after}
 use Rattle.shadow_cache.specs.declared.call_lists.RootsCall.{RootsCall}
 use Rattle.shadow_cache.specs.declared.call_lists.RootsCall.TheVariants.{Shared, Switch}
-use Rattle.shadow_cache.proofs.Beside.{or-less, or-right}
+use Rattle.shadow_cache.proofs.Beside.{or-less}
 use Rattle.shadow_cache.proofs.Since.{pairs-more}
 use Rattle.shadow_cache.proofs.Small.{same-some, none-some, both-less}
 
 -- ---- all frames but one
 
 one-but : (b : Bool) (f g : ℕ) (gs rest : List ℕ) → is_among f (cond b rest (g ∷ rest)) ≡ true → (is_among f rest ≡ true → is_among f gs ≡ true) → is_among f (g ∷ gs) ≡ true
-one-but true f g gs rest e h = or-right (eqb f g) (is_among f gs) (h e)
+one-but true f g gs rest e h = or_right (eqb f g) (is_among f gs) (h e)
 one-but false f g gs rest e h = or-less (eqb f g) (is_among f rest) (is_among f gs) e h
 
 all-but-less : (f frame : ℕ) (fs : List ℕ) → is_among f (all_but frame fs) ≡ true → is_among f fs ≡ true
@@ -32,16 +33,13 @@ all-but-there frame (g ∷ gs) =
           ∙ ap (λ b. b || is_among frame (all_but frame gs)) t.0 ∙ all-but-there frame gs
     ]
 
-other-first : (f g : ℕ) → (f ≡ g → ⊥) → eqb f g ≡ false
-other-first f g n = elim (eqb_tells f g) [ inl t ↦ absurd (n t.1) | inr t ↦ t.0 ]
-
 pub all-but-other : (f frame : ℕ) (fs : List ℕ) → (f ≡ frame → ⊥) → is_among f (all_but frame fs) ≡ is_among f fs
 all-but-other f frame [] n = refl
 all-but-other f frame (g ∷ gs) n =
     elim (eqb_tells frame g) [
       | inl t ↦
           ap (λ b. is_among f (cond b (all_but frame gs) (g ∷ all_but frame gs))) t.0
-          ∙ all-but-other f frame gs n ∙ sym (ap (λ b. b || is_among f gs) (other-first f g (λ e. n (e ∙ sym t.1))))
+          ∙ all-but-other f frame gs n ∙ sym (ap (λ b. b || is_among f gs) (ne_eqb f g (λ e. n (e ∙ sym t.1))))
       | inr t ↦
           ap (λ b. is_among f (cond b (all_but frame gs) (g ∷ all_but frame gs))) t.0
           ∙ ap (λ b. eqb f g || b) (all-but-other f frame gs n)
@@ -55,7 +53,7 @@ marked-less false frame p f e = e
 
 one-less : (b : Bool) (p : Past) (qs ps : List Past) (f : ℕ) → is_table (cond b (p ∷ qs) qs) f ≡ true → (is_table qs f ≡ true → is_table ps f ≡ true) → is_table (p ∷ ps) f ≡ true
 one-less true p qs ps f e h = or-less (is_among f p.tables) (is_table qs f) (is_table ps f) e h
-one-less false p qs ps f e h = or-right (is_among f p.tables) (is_table ps f) (h e)
+one-less false p qs ps f e h = or_right (is_among f p.tables) (is_table ps f) (h e)
 
 filter-less : (t : Past → Bool) (ps : List Past) (f : ℕ) → is_table (filter t ps) f ≡ true → is_table ps f ≡ true
 filter-less t [] f e = e
@@ -67,20 +65,16 @@ take-less (suc n) [] f e = e
 take-less (suc n) (p ∷ ps) f e = or-less (is_among f p.tables) (is_table (take n ps) f) (is_table ps f) e (take-less n ps f)
 
 rest-less : (b : Bool) (p : Past) (qs ps : List Past) (f : ℕ) → is_table (cond b ps (p ∷ qs)) f ≡ true → (is_table qs f ≡ true → is_table ps f ≡ true) → is_table (p ∷ ps) f ≡ true
-rest-less true p qs ps f e h = or-right (is_among f p.tables) (is_table ps f) e
+rest-less true p qs ps f e h = or_right (is_among f p.tables) (is_table ps f) e
 rest-less false p qs ps f e h = or-less (is_among f p.tables) (is_table qs f) (is_table ps f) e h
 
 but-less : (v : ℕ) (ps : List Past) (f : ℕ) → is_table (but_value v ps) f ≡ true → is_table ps f ≡ true
 but-less v [] f e = e
 but-less v (p ∷ ps) f e = rest-less (eqb p.value v) p (but_value v ps) ps f e (but-less v ps f)
 
-or-here : (a b : Bool) → a ≡ true → (a || b) ≡ true
-or-here true b e = refl
-or-here false b e = cc
-
 one-of : (b : Bool) (p q : Past) (o : Option Past) (ps : List Past) (f : ℕ) → cond b (Some p) o ≡ Some q → is_among f q.tables ≡ true → (o ≡ Some q → is_table ps f ≡ true) → is_table (p ∷ ps) f ≡ true
-one-of true p q o ps f e t h = or-here (is_among f p.tables) (is_table ps f) (ap (λ (x : Past). is_among f x.tables) (same-some p q e) ∙ t)
-one-of false p q o ps f e t h = or-right (is_among f p.tables) (is_table ps f) (h e)
+one-of true p q o ps f e t h = or_left (is_among f p.tables) (is_table ps f) (ap (λ (x : Past). is_among f x.tables) (same-some p q e) ∙ t)
+one-of false p q o ps f e t h = or_right (is_among f p.tables) (is_table ps f) (h e)
 
 of-less : (v : ℕ) (ps : List Past) (q : Past) (f : ℕ) → of_value v ps ≡ Some q → is_among f q.tables ≡ true → is_table ps f ≡ true
 of-less v [] q f e t = absurd (none-some q e)
@@ -95,7 +89,7 @@ front-less v ps f None e t = take-less 7 ps f t
 front-less v ps f (Some q) e t = either (is_among f q.tables) (is_table (but_value v ps) f) (is_table ps f) t (of-less v ps q f e) (but-less v ps f)
 
 unmarked-less-by : (b : Bool) (p : Past) (ps : List Past) (f : ℕ) → is_table (cond b ps (p ∷ ps)) f ≡ true → is_table (p ∷ ps) f ≡ true
-unmarked-less-by true p ps f e = or-right (is_among f p.tables) (is_table ps f) e
+unmarked-less-by true p ps f e = or_right (is_among f p.tables) (is_table ps f) e
 unmarked-less-by false p ps f e = e
 
 unmarked-less : (ps : List Past) (f : ℕ) → is_table (unmarked ps) f ≡ true → is_table ps f ≡ true

@@ -6,7 +6,7 @@ use Rattle.guest_ram.proofs.Bytes.{with_part-append}
 use Rattle.sites.specs.declared.site.Site.{Site}
 use Rattle.sites.specs.Patched.{patch_bytes, patched, AreInside}
 
-length-patch_bytes : (n : ℕ) → 1 ≤ n → length (patch_bytes n) ≡ n
+pub length-patch_bytes : (n : ℕ) → 1 ≤ n → length (patch_bytes n) ≡ n
 length-patch_bytes n le = omega (arith, length-replicate {A = ℕ} (n - 1) 244)
 
 patch_bytes-more : (n : ℕ) → 1 ≤ n → patch_bytes n ++ 244 ∷ [] ≡ patch_bytes (n + 1)

@@ -7,6 +7,7 @@ use Rattle.sites.specs.declared.site.Site.{Site}
 use Rattle.ia32_types.specs.declared.site.SiteKind.TheVariants.{Cli}
 use Rattle.sites.specs.SitesParts.{SitesParts}
 use Rattle.sites.specs.Kinds.{kind_numbered}
+use Rattle.sites.specs.Padded.{padded_site}
 use Rattle.sites.specs.Reading.{cut_before, has_no_kind, head_fault, unless}
 
 -- three bytes, the lowest first
@@ -39,7 +40,7 @@ gaps_fault bytes from zero a = then_some (nat_lt a (length bytes)) a
 gaps_fault bytes from (suc n) a = option_or (gap_fault bytes from a) (gaps_fault bytes (end_at bytes from a) n (a + 5))
 
 unfoldable pub gap_site : List ℕ → ℕ → ℕ → Site
-gap_site bytes from a = record { at = from + gap_at bytes a; kind = unwrap_or (kind_numbered (byte bytes (a + 3))) Cli; len = byte bytes (a + 4); total = max 5 (byte bytes (a + 4)) }
+gap_site bytes from a = padded_site (from + gap_at bytes a) (unwrap_or (kind_numbered (byte bytes (a + 3))) Cli) (byte bytes (a + 4))
 
 unfoldable pub gap_sites : List ℕ → ℕ → ℕ → ℕ → List Site
 gap_sites bytes from zero a = []

@@ -1,5 +1,6 @@
 pub mod SitesParts
 pub mod Kinds
+pub mod Padded
 pub mod Spelling
 pub mod Reading
 pub mod Gapped

@@ -1,7 +1,8 @@
 -- What was made ready, as what may be read and written.
-use Rattle.std.proofs.Common.{◌≡◌, ℕ, ◌+◌, ◌<◌, ◌≤◌, ◌^◌, Bool, true, false, Option, Some, None, Result, Ok, Err, subst, arith}
+use Rattle.std.proofs.Common.{◌≡◌, ℕ, ◌+◌, ◌<◌, ◌≤◌, ◌^◌, Bool, true, Option, Some, None, Result, Ok, Err, subst, arith}
 use Rattle.std.specs.Prelude.{OnOk}
 use Rattle.std.proofs.lemmas.Bool.Decides.{nat_tests}
+use Rattle.std.proofs.lemmas.Bool.{both_ways}
 use Rattle.ia32_exec.specs.declared.access.Range.{Range}
 use Rattle.ia32_exec.specs.declared.access.Ranges.{Ranges}
 use Rattle.ia32_exec.specs.Ranges.{Covers}
@@ -29,9 +30,6 @@ read_at (Some r) (Some w) state at m e = made_at r state.earlier.start state.ear
 first_in : (r : Range) (k : ℕ) → k < r.len → is_in (Some r) (r.at + k) ≡ true
 first_in r k lt = grind (arith, nat_tests)
 
-both_ways : (b : Bool) → b ≡ true → b ≡ false → ⊥
-both_ways b e f = cc
-
 fits_read : (r : Range) (write : Option Range) (state : StepState) → IsReadMade (Some r) write state → r.at + r.len ≤ 2 ^ 32
 fits_read r None state m = m.fits
 fits_read r (Some w) state m = m.fits
@@ -41,7 +39,7 @@ read_open None write state m = tt
 read_open (Some r) write state m = λ k lt. record {
   space = omega (arith, fits_read r write state m);
   in_read = λ e. read_at (Some r) write state (r.at + k) m e;
-  in_write = λ e. absurd (both_ways (is_in (Some r) (r.at + k)) (first_in r k lt) e);
+  in_write = λ e. absurd (both_ways (is_in (Some r) (r.at + k)) e (first_in r k lt));
 }
 
 write_open : (read write : Option Range) (state : StepState) → IsReadMade read write state → IsLast write true state → Covers (IsOpen (record { read = read; write = write }) state) write

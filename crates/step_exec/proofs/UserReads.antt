@@ -39,15 +39,15 @@ barred_earlier : (b : Bool) (s : Space) (stop : reason.Stop) → (let x : Touch 
 barred_earlier true s stop = refl
 barred_earlier false s stop = refl
 
-entry_earlier : (s : Space) (fetch : Bool) (page at : ℕ) (access : Access) (o : Option Entry) → (by_entry s fetch page at access o).1.earlier ≡ s.earlier
+pub entry_earlier : (s : Space) (fetch : Bool) (page at : ℕ) (access : Access) (o : Option Entry) → (by_entry s fetch page at access o).1.earlier ≡ s.earlier
 entry_earlier s fetch page at access None = refl
 entry_earlier s fetch page at access (Some entry) = barred_earlier (is_barred s.mode fetch access.user page entry.frame) s _
 
-page_earlier : (s : Space) (fetch : Bool) (page at : ℕ) (access : Access) → (page_uses s fetch page at access).1.earlier ≡ s.earlier
+pub page_earlier : (s : Space) (fetch : Bool) (page at : ℕ) (access : Access) → (page_uses s fetch page at access).1.earlier ≡ s.earlier
 unfolding page_uses
 page_earlier s fetch page at access = entry_earlier _ fetch page at access _
 
-then_earlier : (t : Touch) (s : Space) (f : Space → Touch × Space) → ((u : Space) → (f u).1.earlier ≡ u.earlier) → (go_on t s f).1.earlier ≡ s.earlier
+pub then_earlier : (t : Touch) (s : Space) (f : Space → Touch × Space) → ((u : Space) → (f u).1.earlier ≡ u.earlier) → (go_on t s f).1.earlier ≡ s.earlier
 then_earlier Ready s f h = h s
 then_earlier (Fault code at) s f h = refl
 then_earlier (Stop stop) s f h = refl
@@ -56,13 +56,13 @@ second_earlier : (b : Bool) (s : Space) (page at : ℕ) (access : Access) → (l
 second_earlier true s page at access = refl
 second_earlier false s page at access = page_earlier s false page at access
 
-pages_earlier : (at len : ℕ) (access : Access) (s : Space) → (by_pages at len access s).1.earlier ≡ s.earlier
+pub pages_earlier : (at len : ℕ) (access : Access) (s : Space) → (by_pages at len access s).1.earlier ≡ s.earlier
 pages_earlier at len access s =
     then_earlier (page_uses s false (at / 4096) at access).0 (page_uses s false (at / 4096) at access).1 (λ t. and_then (second_page at len access t) (made_ready at len access.write))
     (λ t. then_earlier (second_page at len access t).0 (second_page at len access t).1 (made_ready at len access.write) (λ u. refl) ∙ second_earlier _ t _ _ access)
     ∙ page_earlier s false (at / 4096) at access
 
-window_earlier : (w : Option reason.Stop) (at len : ℕ) (access : Access) (s : Space) → (by_window w at len access s).1.earlier ≡ s.earlier
+pub window_earlier : (w : Option reason.Stop) (at len : ℕ) (access : Access) (s : Space) → (by_window w at len access s).1.earlier ≡ s.earlier
 window_earlier None at len access s = pages_earlier at len access s
 window_earlier (Some stop) at len access s = refl
 

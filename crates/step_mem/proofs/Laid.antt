@@ -1,10 +1,10 @@
 -- Memory with the original text in its place, byte by byte.
 use Rattle.std.proofs.Common.{◌≡◌, ℕ, ◌+◌, ◌-◌, ◌*◌, ◌/◌, ◌%◌, ◌<◌, ◌≤◌, ◌^◌, Bool, true, false, List, ◌++◌, length, get_or, Option, Some, None, refl, sym, ap, ◌∙◌, inl, inr, cond, add-zero, arith}
-use Rattle.std.specs.Prelude.{bit_or, ◌⊎◌, if◌then◌else◌, ◌&&◌, ◌||◌, not, nat_le, nat_lt}
+use Rattle.std.specs.Prelude.{bit_or, ◌⊎◌, if◌then◌else◌, ◌&&◌, not, nat_le, nat_lt}
 use Rattle.std.specs.Int.{w32, from_le_bytes}
 use Rattle.std.proofs.lemmas.List.{places, same_lists}
 use Rattle.std.proofs.lemmas.Bool.Decides.{nat_tests}
-use Rattle.std.proofs.lemmas.Bool.{cases_lt}
+use Rattle.std.proofs.lemmas.Bool.{cases_lt, or_parts}
 use Rattle.guest_ram.specs.Bytes.{part, byte, word32, with_part, with_byte}
 use Rattle.guest_ram.proofs.Bytes.{length-with_byte, byte-part}
 use Rattle.paging.specs.declared.entry.Walk.{Walk}
@@ -121,10 +121,6 @@ shown_flagged kept own frames ram dir_at word_at write room laid dir word dir_ap
 
 -- ---- walks
 
-neither : (a b : Bool) → (a || b) ≡ false → (a ≡ false) × (b ≡ false)
-neither false b h = (refl, h)
-neither true b h = absurd (cc)
-
 second_of : (a b : Bool) → not a ≡ false → (a && b) ≡ false → b ≡ false
 second_of true b h k = k
 second_of false b h k = absurd (cc)
@@ -188,7 +184,7 @@ pub walks_apart : (kept : Option Text) (own : Own) (frames : ℕ) (ram : List �
     → walks_text (record { ram = shown_by kept frames ram; frames = frames; cr3 = cr3; pse = pse; wp = wp; mode = mode_by kept own }) page ≡ false → WalksApart kept own frames ram cr3 pse page
 unfolding walks_text
 walks_apart kept own frames ram cr3 pse page wp room laid small h =
-    let parts = neither (is_text (mode_by kept own) (cr3 / 4096)) _ h in
+    let parts = or_parts (is_text (mode_by kept own) (cr3 / 4096)) _ h in
     record {
       root = parts.0;
       dir = λ in_frames.

@@ -55,8 +55,9 @@ use Rattle.wedge_step.specs.Opened.{is_entry_open}
 use Rattle.wedge_step.specs.Standing.{is_kernel, side_of}
 use Rattle.wedge_core.specs.Tries.{IsPrepared}
 use Rattle.wedge_core.specs.Views.{view_by}
-use Rattle.wedge_core.proofs.Reaching.{among, all_reached}
+use Rattle.wedge_core.proofs.Reaching.{all_reached}
 use Rattle.wedge_core.proofs.Seeing.{side_is}
+use Rattle.wedge_step.proofs.Behind.{contains_among}
 use Rattle.wedge_step.proofs.AmongPages.{told_among, among_contains, among_first, used_within}
 
 -- ---- pages of ranges
@@ -138,7 +139,7 @@ opened : (image : Image) (side : Side) (page frame : ℕ) → IsOpen (is_kernel 
 opened image User page frame h = ap not h
 opened image Kernel page frame (inl g) = ap (λ (b : Bool). b || (nat_le 0x11000 page && not (is_text (wedge_mode image) frame))) g
 opened image Kernel page frame (inr p) =
-    ap (λ (b : Bool). is_given (wedge_mode image) page frame || (b && not (is_text (wedge_mode image) frame))) (Rattle.native_steps.proofs.Choices.le_true 0x11000 page p.0)
+    ap (λ (b : Bool). is_given (wedge_mode image) page frame || (b && not (is_text (wedge_mode image) frame))) (Rattle.std.proofs.lemmas.Bool.le-leb 0x11000 page p.0)
     ∙ ap (λ (b : Bool). is_given (wedge_mode image) page frame || not b) p.1
     ∙ or_true (is_given (wedge_mode image) page frame)
   where
@@ -230,7 +231,7 @@ module _ (grants : Grants) (repeats : Again) (completes : NativeCompletes) (m : 
         reached_all : AreReached memory (directory (side_of (b.cpu.cpl == 3))) p.after_fetch.visited (ranges_of p.insn b.cpu.regs)
         reached_all =
             all_reached m.image side (wp_of b.cpu) t old new (pages_of t.visited cs) tracked memory (directory side) closes
-            (λ q c. among_first q t.visited _ (among t.visited q c)) beyond host within p.after_fetch.visited ranges granted
+            (λ q c. among_first q t.visited _ (contains_among t.visited q c)) beyond host within p.after_fetch.visited ranges granted
 
         fetched_same : p.after_fetch.visited ≡ same_again.fetched.visited
         fetched_same =

@@ -1,8 +1,9 @@
 -- A step that the host has no part in counts nothing.
 use Rattle.std.proofs.Common.{◌≡◌, ◌⊎◌, inl, inr, ℕ, ◌+◌, ◌-◌, ◌*◌, ◌%◌, ◌^◌, ◌≤◌, ◌==◌, Bool, true, false, cond, not, ◌&&◌, ◌||◌, refl, sym, ap, ◌∙◌, List, [], ◌∷◌, ◌++◌, length, Option, Some, None, Ok, Err, is_some, is_none, nat_le, nat_lt, arith}
 use Rattle.std.proofs.lemmas.Bool.Decides.{nat_tests}
-use Rattle.std.specs.List.{find, list_any}
+use Rattle.std.specs.List.{find}
 use Rattle.std.specs.Option.{ForSome}
+use Rattle.guest_ram.specs.Among.{is_among}
 use Rattle.sites.specs.declared.site.Site.{Site}
 use Rattle.image_check.specs.Places.{lies_in, site_at, by_site, place_at}
 use Rattle.image_check.specs.Places as places
@@ -64,7 +65,7 @@ not_below eip e = grind (arith, nat_tests)
 no_start : (text : List ℕ) (m : Setting) (eip : ℕ) → text ≡ m.image.text → places.is_start text (eip - 0x10000000) ≡ false → is_start m.image eip ≡ false
 unfolding places.is_start
 no_start text m eip is e =
-    ap (λ x. nat_le 0x10000000 eip && x) (ap (λ t. list_any (λ (k : ℕ). k == eip - 0x10000000) (Rattle.image_check.specs.Sweep.starts_of t)) (sym is) ∙ e) ∙ and_false (nat_le 0x10000000 eip)
+    ap (λ x. nat_le 0x10000000 eip && x) (ap (λ t. is_among (eip - 0x10000000) (Rattle.image_check.specs.Sweep.starts_of t)) (sym is) ∙ e) ∙ and_false (nat_le 0x10000000 eip)
 
 no_stand : (m : Setting) (b : State) → m.mode ≡ wedge_mode m.image → b.cpu.cpl ≡ 0 → is_start m.image b.cpu.regs.eip ≡ false → stands_well m b.cpu ≡ false
 no_stand m b mode level e =
@@ -112,7 +113,7 @@ module _ (done : StepsAreDone) (waits : WaitsCountNothing) (sites : SitesCountNo
       let eip = b.cpu.regs.eip in
       let zero = level_0 b.cpu.cpl level kernel in
       elim (placed (nat_lt eip 0x10000000) (places.is_start m.image.text (eip - 0x10000000)) (site_at m.image.sites (eip - 0x10000000)) out) [
-        | inl low ↦ unstarted (no_stand m b mode zero (ap (λ (x : Bool). x && list_any (λ at. at == eip - 0x10000000) (Rattle.image_check.specs.Sweep.starts_of m.image.text)) (not_above eip low)))
+        | inl low ↦ unstarted (no_stand m b mode zero (ap (λ (x : Bool). x && is_among (eip - 0x10000000) (Rattle.image_check.specs.Sweep.starts_of m.image.text)) (not_above eip low)))
         | inr h ↦ elim h [
           | inl start ↦ unstarted (no_stand m b mode zero (no_start m.image.text m eip refl start))
           | inr k ↦ sites m b report after m.image.sites kernel (inside m.image.sites eip k.1.0 (not_below eip k.0) k.1.1) went

@@ -2,6 +2,7 @@
 use Rattle.std.proofs.Common.{◌≡◌, ℕ, ◌+◌, ◌*◌, ◌≤◌, ◌<◌, true, List, length, Ok, Err, refl, sym, subst, inl, inr, arith}
 use Rattle.std.specs.Prelude.{nat_le, nat_lt}
 use Rattle.std.proofs.lemmas.Bool.Decides.{nat_tests}
+use Rattle.std.proofs.lemmas.Bool.{and_parts}
 use Rattle.frame_pool.specs.Held.{times, Holds}
 use Rattle.frame_pool.proofs.Lengths.{times-cons, hit-self}
 use Rattle.paging.specs.Fresh.{dir_place}
@@ -20,7 +21,6 @@ use Rattle.host_cpl3.specs.HostRun.{Standing, host_run}
 use Rattle.host_cpl3.specs.RunsTo.{Leaves, IsRun, EachIsRun}
 use Rattle.host_cpl3.specs.Borders.{EntersTheWindow, ExitsInTheWindow}
 use Rattle.wedge_core.specs.Ran.{LeadsLow}
-use Rattle.wedge_step.proofs.Bools.{both}
 
 -- the same run, by the view that a call was given
 pub by_view : (v w : View) (k : ℕ) (s : Standing) (p : Exit × Standing) → v ≡ w → host_run v k s ≡ p → host_run w k s ≡ p
@@ -44,7 +44,7 @@ counts_of law v k s exit t is =
 -- ---- where it leads
 
 entry_low : (v : View) (at : ℕ) → is_entry v at ≡ true → at < 0x06000000
-entry_low v at e = let w = both (nat_le 67108864 at) (nat_lt at 100663296) (both v.kernel (is_window at) e).1 in grind (arith, nat_tests, w.1)
+entry_low v at e = let w = and_parts (nat_le 67108864 at) (nat_lt at 100663296) (and_parts v.kernel (is_window at) e).1 in grind (arith, nat_tests, w.1)
 
 module _ (enters : EntersTheWindow) (leaves : ExitsInTheWindow) where
   by_exit : (v : View) (memory : List ℕ) (r : Regs) (exit : Exit) → host_step v memory r ≡ Err exit → LeadsLow exit

@@ -26,7 +26,6 @@ use Rattle.native_steps.specs.Mirrors.{IsWedge, IsHost, shown}
 use Rattle.native_steps.specs.Forward.{IsNext}
 use Rattle.native_steps.specs.TextLaws.{TextLaws}
 use Rattle.native_steps.specs.Again as again
-use Rattle.native_steps.proofs.Choices.{both, clash, eq_told, eq_true, le_told, le_true, lt_true}
 use Rattle.native_steps.proofs.Completing.{start_there}
 use Rattle.native_steps.proofs.Fetching.{Fetches, IsFetch, IsIn, IsPast, fetch_parts, by_parts}
 use Rattle.native_steps.proofs.Marks.{flagged_kept}
@@ -37,7 +36,7 @@ use Rattle.native_steps.proofs.Through.{Through, through_same, within_as, taken_
 use Rattle.native_steps.proofs.Walking.{IsWithin, IsServed, decided_readied}
 use Rattle.native_steps.proofs.Walks.{IsWalk, ByTable, Large, walk_parts, walk_in}
 use Rattle.native_steps.proofs.Ways.{Way}
-use Rattle.std.proofs.lemmas.Bool.{not-false, or_parts}
+use Rattle.std.proofs.lemmas.Bool.{and_parts, not-false, or_parts, both_ways, eqb-true, eq-eqb, leb-true, le-leb, lt-ltb}
 
 -- ---- the frames of the text stay
 
@@ -65,7 +64,7 @@ unfolding walks_text
 roots_apart s page e =
     let dir : ℕ = word32 s.ram (dir_place s.cr3 page) in
     let p = or_parts (is_text s.mode (s.cr3 / 4096)) _ e in
-    (p.0, λ lt h small. last_of (is_large s.pse dir) (is_text s.mode (dir / 4096)) small (second_of (nat_lt (s.cr3 / 4096) s.frames) (has dir 1) _ (lt_true (s.cr3 / 4096) s.frames lt) h p.1))
+    (p.0, λ lt h small. last_of (is_large s.pse dir) (is_text s.mode (dir / 4096)) small (second_of (nat_lt (s.cr3 / 4096) s.frames) (has dir 1) _ (lt-ltb (s.cr3 / 4096) s.frames lt) h p.1))
 
 dir_frame : (cr3 page : ℕ) → page < 2 ^ 20 → dir_place cr3 page / 4096 ≡ cr3 / 4096
 dir_frame cr3 page small = omega arith
@@ -102,7 +101,7 @@ module _ (m : Setting) (b : State) where
 
   off_text : (s : Space) → In s → (k d : ℕ) → IsTextAt k → is_text s.mode (d / 4096) ≡ false → k ≡ d → ⊥
   off_text s h k d text free e =
-      clash (is_text s.mode (d / 4096)) (ap (λ (z : Mode). is_text z (d / 4096)) h.mode ∙ (ap (λ (n : ℕ). is_text (wedge_mode m.image) (n / 4096)) (sym e) ∙ text)) free
+      both_ways (is_text s.mode (d / 4096)) free (ap (λ (z : Mode). is_text z (d / 4096)) h.mode ∙ (ap (λ (n : ℕ). is_text (wedge_mode m.image) (n / 4096)) (sym e) ∙ text))
 
   page_text : (s t : Space) (fetch : Bool) (page at : ℕ) (write : Bool) → In s → page < 2 ^ 20 → page_uses s fetch page at (record { write = write; user = false }) ≡ (Ready, t) → (k : ℕ) → IsTextAt k → byte t.ram k ≡ byte s.ram k
   unfolding page_uses
@@ -150,9 +149,9 @@ module _ (m : Setting) (b : State) where
 -- the frame that the loader gave
 given : (image : Image) (page frame : ℕ) → is_given (wedge_mode image) page frame ≡ true → (65536 ≤ page) × (frame ≡ 0x100 + (page - 65536))
 given image page frame e =
-    let p = both (nat_le 65536 page && nat_lt page (65536 + text_pages image)) (frame == 0x100 + (page - 65536)) e in
-    let q = both (nat_le 65536 page) (nat_lt page (65536 + text_pages image)) p.0 in
-    (le_told 65536 page q.0, eq_told frame (0x100 + (page - 65536)) p.1)
+    let p = and_parts (nat_le 65536 page && nat_lt page (65536 + text_pages image)) (frame == 0x100 + (page - 65536)) e in
+    let q = and_parts (nat_le 65536 page) (nat_lt page (65536 + text_pages image)) p.0 in
+    (leb-true 65536 page q.0, eqb-true frame (0x100 + (page - 65536)) p.1)
 
 module _ (m : Setting) (w : IsWedge m) (memory : List ℕ) (host : IsHost m memory) (b : State) (ram_is : b.ram ≡ shown m memory) (room : 4096 * m.frames ≤ length b.ram) (fit : AreBytes b.ram) (sound : again.AreWithin m b.set)
     (small : b.cpu.regs.eip < 2 ^ 32) (laws : TextLaws m.image) (next : IsNext m true b)
@@ -167,7 +166,7 @@ module _ (m : Setting) (w : IsWedge m) (memory : List ℕ) (host : IsHost m memo
     fetched_there t page frame f = given m.image page frame (not-false (is_given (wedge_mode m.image) page frame) f.free)
 
     text_at : (k : ℕ) → 0x100000 ≤ k → k < 0x100000 + length m.image.text → is_text (wedge_mode m.image) (k / 4096) ≡ true
-    text_at k le lt = ap (λ (x : Bool). x && nat_lt (k / 4096) (0x100 + text_pages m.image)) (le_true 0x100 (k / 4096) (omega (arith, le))) ∙ lt_true (k / 4096) (0x100 + text_pages m.image) (omega (arith, le, lt))
+    text_at k le lt = ap (λ (x : Bool). x && nat_lt (k / 4096) (0x100 + text_pages m.image)) (le-leb 0x100 (k / 4096) (omega (arith, le))) ∙ lt-ltb (k / 4096) (0x100 + text_pages m.image) (omega (arith, le, lt))
 
     same_text : (t : Space) → KeepsText m b start t → (at n : ℕ) → at + n ≤ length m.image.text → part t.ram (0x100000 + at) n ≡ part m.image.text at n
     same_text t h at n le =
@@ -247,7 +246,7 @@ module _ (m : Setting) (w : IsWedge m) (memory : List ℕ) (host : IsHost m memo
             let there = subst (In m b) is (left_in m b true w.mode room fit sound small insn len t p x served) in
             let owned = front_is b.cpu.regs.eip (front_len b.cpu.regs.eip) p.first x.on.before tt x.on.owns in
             let before_in = subst (In m b) owned (owning_in p (front_len b.cpu.regs.eip)) in
-            let last : b.cpu.regs.eip / 4096 ≡ 1048575 → ⊥ = λ f. clash (b.cpu.regs.eip / 4096 == 1048575) (eq_true (b.cpu.regs.eip / 4096) 1048575 f) x.not_last in
+            let last : b.cpu.regs.eip / 4096 ≡ 1048575 → ⊥ = λ f. both_ways (b.cpu.regs.eip / 4096 == 1048575) x.not_last (eq-eqb (b.cpu.regs.eip / 4096) 1048575 f) in
             let second = fetching_text m b x.on.before x.on.after (next_page b.cpu.regs.eip) longest x.on.more before_in (omega (arith, small, last)) x.on.reads in
             is_swept t insn len
             (keeps_on m b start p.first t (first_keeps p)

@@ -1,6 +1,7 @@
 -- A step whose instruction the host may do has an instruction, and so it clashes where the instruction does.
 use Rattle.std.proofs.Common.{◌≡◌, ℕ, Bool, true, false, ◌==◌, ◌&&◌, ◌||◌, not, Option, Some, None, is_none, refl, sym, ap, subst, ◌∙◌}
 use Rattle.std.specs.Prelude.{is_some}
+use Rattle.std.proofs.lemmas.Bool.{and_parts}
 use Rattle.descriptors.specs.declared.cpu.Cpu.{Cpu}
 use Rattle.board.specs.Boards.{given}
 use Rattle.board.specs.declared.devices.Board.{Board}
@@ -10,7 +11,6 @@ use Rattle.machine_model.specs.Clash.{clashes_from, has_instruction, instruction
 use Rattle.machine_model.specs.State.{Setting, State}
 use Rattle.machine_model.specs.Step.{interrupt_of}
 use Rattle.wedge_core.specs.Views.{is_outside, may_run}
-use Rattle.wedge_step.proofs.Bools.{both}
 
 awake : (halted : Bool) (o : Option ℕ) → not halted ≡ true → is_none o ≡ true → not (halted || is_some o) ≡ true
 awake true o h k = absurd (let f : false ≡ true = h in cc)
@@ -19,8 +19,8 @@ awake false (Some vector) h k = absurd (let f : false ≡ true = k in cc)
 
 runs : (cpu : Cpu) (board : Board) (image : Image) → may_run cpu board image ≡ true → not (cpu.halted || is_some (interrupt_of cpu board)) ≡ true
 runs cpu board image may =
-    let p = both (not cpu.halted && is_none (interrupt_of cpu board)) (cpu.cpl == 3 || is_outside (place_at image cpu.regs.eip)) may in
-    let q = both (not cpu.halted) (is_none (interrupt_of cpu board)) p.0 in
+    let p = and_parts (not cpu.halted && is_none (interrupt_of cpu board)) (cpu.cpl == 3 || is_outside (place_at image cpu.regs.eip)) may in
+    let q = and_parts (not cpu.halted) (is_none (interrupt_of cpu board)) p.0 in
     awake cpu.halted (interrupt_of cpu board) q.0 q.1
 
 pub clashes_by : (m : Setting) (b : State) (cpu : Cpu) (board : Board) (image : Image) → b.cpu ≡ cpu → given b.board m.script b.step ≡ board → may_run cpu board image ≡ true → instruction_clashes m b ≡ true → clashes_from m b ≡ true

@@ -2,6 +2,7 @@
 use Rattle.std.proofs.Common.{◌≡◌, ℕ, zero, suc, ◌+◌, ◌-◌, ◌≤◌, ◌<◌, ◌==◌, Bool, true, false, ◌&&◌, ◌||◌, not, List, [], ◌∷◌, length, replicate, Option, Some, None, is_none, refl, sym, ap, ◌∙◌, cond, arith}
 use Rattle.std.specs.Prelude.{nat_le, nat_lt}
 use Rattle.std.proofs.lemmas.Bool.Decides.{nat_tests}
+use Rattle.std.proofs.lemmas.Bool.{and_parts}
 use Rattle.board.specs.declared.devices.Board.{Board}
 use Rattle.board.specs.Boards.{board_steps, comes_within}
 use Rattle.board.specs.Scripts.{Events}
@@ -25,7 +26,7 @@ use Rattle.native_steps.specs.Stretch.{AreQuiet, board_now, board_after, EndsAs}
 use Rattle.wedge_core.specs.Ran.{landed}
 use Rattle.wedge_step.specs.Standing.{ground}
 use Rattle.wedge_core.specs.Views.{is_outside, may_run}
-use Rattle.wedge_step.proofs.Bools.{both, is_not, none_some, clash, none_of}
+use Rattle.wedge_step.proofs.Bools.{is_not, none_some, clash, none_of}
 
 -- ---- the processor may go on
 
@@ -62,8 +63,8 @@ may_runs cpu board image told is yes_told =
     let e : may_run cpu board image ≡ true = sym is ∙ yes_told in
     let user = cpu.cpl == 3 in
     let out = is_outside (place_at image cpu.regs.eip) in
-    let parts = both (not cpu.halted && is_none (interrupt_of cpu board)) (user || out) e in
-    let first = both (not cpu.halted) (is_none (interrupt_of cpu board)) parts.0 in
+    let parts = and_parts (not cpu.halted && is_none (interrupt_of cpu board)) (user || out) e in
+    let first = and_parts (not cpu.halted) (is_none (interrupt_of cpu board)) parts.0 in
     record {
       awake = is_not cpu.halted first.0;
       quiet = none_of (interrupt_of cpu board) first.1;

@@ -3,6 +3,7 @@ use Rattle.std.proofs.Common.{◌≡◌, ℕ, ◌/◌, ◌<◌, ◌^◌, Bool, t
 use Rattle.std.specs.Prelude.{nat_le}
 use Rattle.std.specs.Option.{ForSome}
 use Rattle.std.specs.FinMap.{get}
+use Rattle.std.proofs.lemmas.Bool.{and_parts}
 use Rattle.paging.specs.Fresh.{allows}
 use Rattle.paging.specs.Reached.{reached}
 use Rattle.shadow_tables.specs.Entries.{entries_of}
@@ -16,7 +17,7 @@ use Rattle.machine_model.specs.Run.{Set}
 use Rattle.native_steps.specs.Lends.{Lends, IsLent, IsOpen}
 use Rattle.wedge_step.specs.Parts.{IsPartOf}
 use Rattle.wedge_step.specs.Standing.{is_kernel, lets, IsOpenSlot, AreOpen}
-use Rattle.wedge_step.proofs.Bools.{both, none_some}
+use Rattle.wedge_step.proofs.Bools.{none_some}
 
 same_side : (a b : Side) → is_side a b ≡ true → a ≡ b
 same_side Kernel Kernel h = refl
@@ -51,7 +52,7 @@ by_slot : (m : Setting) (side : Side) (wp : Bool) (set : Set) (write : Bool) (pa
     → (b : Bool) → is_adequate (Some slot) side write ≡ b → ForSome (cond b (frame_below n slot.entry.frame) None) (IsLent m (is_kernel side) wp set write page)
 by_slot m side wp set write page n slot opened kept page_is within false e = λ g h. absurd (none_some g h)
 by_slot m side wp set write page n slot opened kept page_is within true e =
-    let parts = both (is_side slot.side side) (lets slot write) e in
+    let parts = and_parts (is_side slot.side side) (lets slot write) e in
     by_below m side wp set write page n slot.entry.frame (slot_lends m side wp set write page slot opened kept page_is within (same_side slot.side side parts.0) parts.1) (nat_le n slot.entry.frame)
 
 by_kept : (m : Setting) (side : Side) (wp : Bool) (set : Set) (write : Bool) (page n : ℕ) (o : Option Slot) → ForSome o (IsOpenSlot m.image wp) → ForSome (entry_in o) (λ e. (get set page ≡ Some e) × (e.page ≡ page) × (e.frame < m.frames))

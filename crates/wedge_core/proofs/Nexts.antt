@@ -2,6 +2,7 @@
 use Rattle.std.proofs.Common.{◌≡◌, ℕ, ◌+◌, ◌-◌, ◌*◌, ◌^◌, ◌<◌, ◌≤◌, List, [], length, Bool, true, false, cond, ◌&&◌, ◌||◌, not, ◌==◌, inl, inr, Option, Some, None, Ok, is_none, refl, sym, ap, subst, ◌∙◌, arith}
 use Rattle.std.specs.Prelude.{nat_le, nat_lt}
 use Rattle.std.proofs.lemmas.Bool.Decides.{nat_tests}
+use Rattle.std.proofs.lemmas.Bool.{and_parts}
 use Rattle.guest_ram.specs.Bytes.{AreBytes}
 use Rattle.ia32_types.specs.Site.{kind_of}
 use Rattle.ia32_types.specs.declared.insn.Op.{Op}
@@ -24,7 +25,7 @@ use Rattle.machine_model.specs.Run.{Set}
 use Rattle.machine_model.specs.Step.{Went, stepped, fetches_next, items_at, interrupt_of, unheld}
 use Rattle.native_steps.specs.Again as again
 use Rattle.native_steps.specs.Forward.{IsNext}
-use Rattle.native_steps.specs.Mirrors.{IsWedge, IsHost, IsLevel, shown}
+use Rattle.native_steps.specs.Mirrors.{IsWedge, IsHost, IsLevelOf, shown}
 use Rattle.native_steps.specs.TextLaws.{TextLaws}
 use Rattle.native_steps.proofs.Together.{stepped_by}
 use Rattle.wedge_core.specs.Attempts.{Idle}
@@ -32,7 +33,7 @@ use Rattle.wedge_step.specs.Parts.{IsLeft}
 use Rattle.wedge_step.specs.declared.running.Lost.{Lost}
 use Rattle.wedge_core.specs.Tries.{OthersAreUsers}
 use Rattle.wedge_core.specs.Views.{is_outside, may_run}
-use Rattle.wedge_step.proofs.Bools.{both, is_not, none_of}
+use Rattle.wedge_step.proofs.Bools.{is_not, none_of}
 use Rattle.wedge_core.proofs.Insensitive.{insensitive}
 
 stands_out : (low start : Bool) (site : Option Site) → is_outside (cond low NotAStart (cond start (by_site site) NotAStart)) ≡ true → (low ≡ false) × (start ≡ true) × (site ≡ None)
@@ -51,8 +52,8 @@ out_of false out h k = h
 pub next_from : (m : Setting) (b : State) → may_run b.cpu b.board m.image ≡ true → b.cpu.regs.eip < 2 ^ 32 → IsNext m (not (b.cpu.cpl == 3)) b
 next_from m b may small =
     let eip : ℕ = b.cpu.regs.eip in
-    let p = both (not b.cpu.halted && is_none (interrupt_of b.cpu b.board)) (b.cpu.cpl == 3 || is_outside (place_at m.image b.cpu.regs.eip)) may in
-    let q = both (not b.cpu.halted) (is_none (interrupt_of b.cpu b.board)) p.0 in
+    let p = and_parts (not b.cpu.halted && is_none (interrupt_of b.cpu b.board)) (b.cpu.cpl == 3 || is_outside (place_at m.image b.cpu.regs.eip)) may in
+    let q = and_parts (not b.cpu.halted) (is_none (interrupt_of b.cpu b.board)) p.0 in
     record {
       awake = is_not b.cpu.halted q.0;
       quiet = none_of (interrupt_of b.cpu b.board) q.1;
@@ -100,7 +101,7 @@ others_users m w memory host b ram_is room fit sound small laws next able insn l
 pub starts : (m : Setting) (b : State) (mode : Mode) (s : Space) → m.mode ≡ mode → (laid : List ℕ) → laid ≡ b.ram → s ≡ space_at_start mode m.frames b.cpu laid b.set → s ≡ space_at_start m.mode m.frames b.cpu b.ram b.set
 starts m b mode s mode_is laid laid_is e = e ∙ (λ i. space_at_start (sym mode_is i) m.frames b.cpu (laid_is i) b.set)
 
-pub step_is : (m : Setting) (b : State) → IsLevel (not (b.cpu.cpl == 3)) b.cpu.cpl → IsNext m (not (b.cpu.cpl == 3)) b → stepped m b ≡ fetches_next m (unheld b) (space_at_start m.mode m.frames b.cpu b.ram b.set)
+pub step_is : (m : Setting) (b : State) → IsLevelOf (not (b.cpu.cpl == 3)) b.cpu.cpl → IsNext m (not (b.cpu.cpl == 3)) b → stepped m b ≡ fetches_next m (unheld b) (space_at_start m.mode m.frames b.cpu b.ram b.set)
 step_is m b level next = stepped_by m (not (b.cpu.cpl == 3)) b level next
 
 pub idle : (m : Setting) (b : State) (lost : Lost) (worked : Worked) (board : Board) (t : Space) (new : State) → stepped m b ≡ went_as b worked board t → new.cpu ≡ worked.cpu → new.ram ≡ t.ram → new.board ≡ board_step board → new.step ≡ b.step + 1

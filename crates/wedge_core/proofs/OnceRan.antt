@@ -211,6 +211,9 @@ module _ {S : Type 0} (stands : S → List ℕ → Type 0) (frames : S → List 
         subst (λ (x : Lost). Goes (wedge image script g0.frames) (state_of stands frames slots (wedge image script g0.frames) g0 m0) x Nothing (state_of stands frames slots (wedge image script g0.frames) g2 m2) before after) (sym lost_is)
         (asked_goes (wedge image script g0.frames) (view_by (directory g1.shadows) g1.cpu) (state_of stands frames slots (wedge image script g0.frames) g0 m0) g1 g2 m1 m2 before after done g1.lost (asks_now script) o.ran kept.entries_are)
 
+    pub once_frames : g2.frames ≡ g0.frames
+    once_frames = let a = asks_now [] in ap (λ (g : Running S). g.frames) (ran a).new_is ∙ ap (λ (g : Running S). g.frames) o.same
+
     pub once_counts : g2.step ≡ g0.step + 1
     once_counts = let a = asks_now [] in let e = ap (λ (g : Running S). g.step) (ran a).new_is in let f = step_is in omega (arith, e, f)
 

@@ -2,8 +2,8 @@
 use Rattle.std.proofs.Common.{◌≡◌, ◌⊎◌, inl, inr, ℕ, ◌/◌, ◌%◌, ◌==◌, nat_le, Bool, true, false, cond, not, ◌||◌, refl, sym, ap, subst, ◌∙◌, List, Option, Some, None, Ok, Err}
 use Rattle.std.specs.FinMap.{FinMap, get}
 use Rattle.std.specs.Prelude.{Result}
-use Rattle.std.specs.Result.{IsErrAnd}
 use Rattle.std.specs.Ordering.{nat_cmp}
+use Rattle.std.proofs.lemmas.Bool.{and_parts, both_ways, eqb-true}
 use Rattle.guest_ram.specs.Bytes as bytes
 use Rattle.ia32_types.specs.declared.flags.Regs.{Regs}
 use Rattle.ia32_types.specs.declared.insn.Insn.{Insn}
@@ -45,7 +45,6 @@ use Rattle.machine_model.specs.Step as steps
 use Rattle.machine_model.specs.Step.{after_instruction, after_refusal, begun, by_decoded}
 use Rattle.machine_step.specs.declared.worked.Worked.{Worked}
 use Rattle.machine_step.proofs.Refused.{refused_same}
-use Rattle.native_steps.proofs.Choices.{both, clash, eq_told}
 use Rattle.native_steps.proofs.Doing.{plain_effect}
 use Rattle.native_steps.proofs.Together.{by_op_is, not_soft}
 use Rattle.native_steps.proofs.Uses.{reaching_earlier}
@@ -55,42 +54,42 @@ use Rattle.wedge_core.specs.Tries.{IsPrepared}
 -- ---- which instructions they are
 
 permitted_by : (user : Bool) (o : Op) (imm : ℕ) → is_native user o ≡ true → permitted_row o imm ≡ Ok tt
-permitted_by user op.Int imm e = absurd (clash false e refl)
-permitted_by user op.Int3 imm e = absurd (clash false e refl)
-permitted_by user op.Cli imm e = absurd (clash false e refl)
-permitted_by user op.Sti imm e = absurd (clash false e refl)
-permitted_by user op.Hlt imm e = absurd (clash false e refl)
-permitted_by user op.Iret imm e = absurd (clash false e refl)
-permitted_by user op.ReadControl imm e = absurd (clash false e refl)
-permitted_by user op.WriteControl imm e = absurd (clash false e refl)
-permitted_by user op.LoadGdt imm e = absurd (clash false e refl)
-permitted_by user op.LoadIdt imm e = absurd (clash false e refl)
-permitted_by user op.LoadTask imm e = absurd (clash false e refl)
-permitted_by user op.DropPage imm e = absurd (clash false e refl)
-permitted_by user op.LoadSeg imm e = absurd (clash false e refl)
-permitted_by user op.PopSeg imm e = absurd (clash false e refl)
-permitted_by user op.FarJump imm e = absurd (clash false e refl)
-permitted_by user op.PortIn imm e = absurd (clash false e refl)
-permitted_by user op.PortOut imm e = absurd (clash false e refl)
+permitted_by user op.Int imm e = absurd (both_ways false refl e)
+permitted_by user op.Int3 imm e = absurd (both_ways false refl e)
+permitted_by user op.Cli imm e = absurd (both_ways false refl e)
+permitted_by user op.Sti imm e = absurd (both_ways false refl e)
+permitted_by user op.Hlt imm e = absurd (both_ways false refl e)
+permitted_by user op.Iret imm e = absurd (both_ways false refl e)
+permitted_by user op.ReadControl imm e = absurd (both_ways false refl e)
+permitted_by user op.WriteControl imm e = absurd (both_ways false refl e)
+permitted_by user op.LoadGdt imm e = absurd (both_ways false refl e)
+permitted_by user op.LoadIdt imm e = absurd (both_ways false refl e)
+permitted_by user op.LoadTask imm e = absurd (both_ways false refl e)
+permitted_by user op.DropPage imm e = absurd (both_ways false refl e)
+permitted_by user op.LoadSeg imm e = absurd (both_ways false refl e)
+permitted_by user op.PopSeg imm e = absurd (both_ways false refl e)
+permitted_by user op.FarJump imm e = absurd (both_ways false refl e)
+permitted_by user op.PortIn imm e = absurd (both_ways false refl e)
+permitted_by user op.PortOut imm e = absurd (both_ways false refl e)
 permitted_by user o imm e = refl
 
 -- at level 0 no sensitive one
 plain_by : (o : Op) → is_native false o ≡ true → is_plain o ≡ true
-plain_by op.Int e = absurd (clash false e refl)
-plain_by op.Int3 e = absurd (clash false e refl)
-plain_by op.PushFlags e = absurd (clash false e refl)
-plain_by op.PopFlags e = absurd (clash false e refl)
-plain_by op.ReadSeg e = absurd (clash false e refl)
-plain_by op.PushSeg e = absurd (clash false e refl)
-plain_by op.Return e = absurd (clash false e refl)
-plain_by op.JumpTo e = absurd (clash false e refl)
-plain_by op.CallTo e = absurd (clash false e refl)
+plain_by op.Int e = absurd (both_ways false refl e)
+plain_by op.Int3 e = absurd (both_ways false refl e)
+plain_by op.PushFlags e = absurd (both_ways false refl e)
+plain_by op.PopFlags e = absurd (both_ways false refl e)
+plain_by op.ReadSeg e = absurd (both_ways false refl e)
+plain_by op.PushSeg e = absurd (both_ways false refl e)
+plain_by op.Return e = absurd (both_ways false refl e)
+plain_by op.JumpTo e = absurd (both_ways false refl e)
+plain_by op.CallTo e = absurd (both_ways false refl e)
 plain_by o e = e
 
 -- at level 3 some of the sensitive ones too
 plain_or_site : (o : Op) → is_native true o ≡ true → (is_plain o ≡ true) ⊎ ((is_plain o ≡ false) × IsUserSite o)
-plain_or_site op.Int e = absurd (clash false e refl)
-plain_or_site op.Int3 e = absurd (clash false e refl)
+plain_or_site op.Int e = absurd (both_ways false refl e)
+plain_or_site op.Int3 e = absurd (both_ways false refl e)
 plain_or_site op.PushFlags e = inr (refl, tt)
 plain_or_site op.PopFlags e = inr (refl, tt)
 plain_or_site op.ReadSeg e = inr (refl, tt)
@@ -104,9 +103,9 @@ plain_or_site o e = inl e
 
 user_cpu : (cpu : Cpu) → IsAble cpu → (cpu.cpl == 3) ≡ true → IsUser cpu
 user_cpu cpu able three =
-    let user : cpu.cpl ≡ 3 = eq_told cpu.cpl 3 three in
+    let user : cpu.cpl ≡ 3 = eqb-true cpu.cpl 3 three in
     let level : ℕ = cpu.regs.flags.bits / 4096 % 4 in
-    let zero : level ≡ 0 = eq_told level 0 (both (has cpu.regs.flags.bits 512) (level == 0) (able.users user)).1 in
+    let zero : level ≡ 0 = eqb-true level 0 (and_parts (has cpu.regs.flags.bits 512) (level == 0) (able.users user)).1 in
     record {
       level = ap (λ (x : ℕ). x == 0) user;
       rights = ap (λ (x : ℕ). nat_le x level) user ∙ ap (λ (x : ℕ). nat_le 3 x) zero;
@@ -294,10 +293,3 @@ prepared_is b s fetch t insn len fetches native e =
       writes = r.writes;
       effect = subst (λ (u : Space). effect_in insn len b.cpu u ≡ outcomes.Done q.1.0 q.1.1.0) q.0 q.1.1.1;
     }
-
--- ---- an error that is handed on
-
-pub prepares_err : (m : Setting) (b : State) (insn : Insn) (len : ℕ) (s t : Space) (stop : Stop) (r : Result (Option Worked) Stop) → IsErrAnd r (λ e. e ≡ stop)
-    → by_decoded m b (begins.Insn insn len) s ≡ steps.Halts stop → PreparesAs m b insn len s r t
-prepares_err m b insn len s t stop (Ok x) is e = absurd is
-prepares_err m b insn len s t stop (Err d) is e = e ∙ ap steps.Halts (sym is)

@@ -1,6 +1,6 @@
 -- A page that a step was granted and that is kept is reached by the host.
 use Rattle.std.proofs.Common.{◌≡◌, ℕ, zero, suc, ◌/◌, ◌≤◌, ◌<◌, ◌^◌, Bool, true, false, ◌&&◌, ◌||◌, not, ◌==◌, List, [], ◌∷◌, length, Option, Some, None, refl, sym, ap, ◌∙◌, cond, inl, inr, arith}
-use Rattle.std.specs.Prelude.{nat_le, slice_index_or}
+use Rattle.std.specs.Prelude.{nat_le}
 use Rattle.std.specs.List.{Contains}
 use Rattle.std.specs.FinMap.{get}
 use Rattle.std.proofs.lemmas.Bool.Decides.{nat_tests}
@@ -23,6 +23,7 @@ use Rattle.native_steps.specs.Granted.{IsGranted, IsRangeGranted, AreGranted}
 use Rattle.wedge_mem.specs.Settled.{filled_by}
 use Rattle.wedge_step.specs.Closed.{Closes}
 use Rattle.wedge_step.specs.Standing.{is_kernel}
+use Rattle.wedge_step.proofs.Behind.{contains_among}
 use Rattle.wedge_step.proofs.Bools.{none_some}
 
 user_is : (side : Side) → not (is_kernel side) ≡ is_user side
@@ -32,21 +33,6 @@ user_is User = refl
 own_side : (side : Side) → is_side side side ≡ true
 own_side Kernel = refl
 own_side User = refl
-
-pub among : (xs : List ℕ) (x : ℕ) → Contains xs x → is_among x xs ≡ true
-among xs x c = by xs c.0 c.1 c.2
-  where
-    or_true : (b : Bool) → (b || true) ≡ true
-    or_true true = refl
-    or_true false = refl
-
-    same : (m n : ℕ) → m ≡ n → (n == m) ≡ true
-    same m n e = grind (arith, nat_tests, e)
-
-    by : (ys : List ℕ) (n : ℕ) → n < length ys → slice_index_or ys n x ≡ x → is_among x ys ≡ true
-    by [] n lt is = absurd (omega (arith, lt))
-    by (y ∷ ys) zero lt is = ap (λ b. b || is_among x ys) (same y x is)
-    by (y ∷ ys) (suc n) lt is = ap (λ b. (x == y) || b) (by ys n (omega (arith, lt)) is) ∙ or_true (x == y)
 
 -- the slot that a fill makes lets pass what the entry does
 lets_pass : (tracked : List ℕ) (side : Side) (entry : Entry) (wp write : Bool) → allows entry (record { write = write; user = is_user side }) wp ≡ true
@@ -69,7 +55,7 @@ reached_now image side wp s old new pages tracked memory root page write closes 
     let slot = filled (is_among g.entry.frame tracked) side g.entry wp in
     let kept : new page ≡ Some slot = closes.settles.through page small there ∙ ap (filled_by side wp tracked) g.kept in
     let allowed : allows g.entry (record { write = write; user = is_user side }) wp ≡ true = ap (λ (u : Bool). allows g.entry (record { write = write; user = u }) wp) (sym (user_is side)) ∙ g.allowed in
-    let adequate = lets_pass tracked side g.entry wp write allowed (λ w. closes.untracked g.entry.frame (among s.wrote g.entry.frame (g.told w))) in (
+    let adequate = lets_pass tracked side g.entry wp write allowed (λ w. closes.untracked g.entry.frame (contains_among s.wrote g.entry.frame (g.told w))) in (
       g.entry.frame,
       host
           ∙ ap (λ (o : Option Slot). lent (length memory / 4096) o side write) kept

@@ -4,13 +4,13 @@ use Rattle.std.specs.Prelude.{◌==◌}
 use Rattle.std.proofs.lemmas.Bool.Decides.{nat_tests}
 use Rattle.descriptors.specs.declared.cpu.Cpu.{Cpu}
 use Rattle.shadow_tables.specs.declared.words.Side.{Side}
-use Rattle.native_steps.specs.Mirrors.{Sees, IsLevel}
+use Rattle.native_steps.specs.Mirrors.{Sees, IsLevelOf}
 use Rattle.wedge_step.specs.Standing.{IsAble, side_of, is_kernel}
 use Rattle.wedge_core.specs.Views.{view_by}
 
-level_of : (cpl : ℕ) → (cpl ≡ 0) ⊎ (cpl ≡ 3) → IsLevel (not (cpl == 3)) cpl
-level_of cpl (inl zero_is) = subst (λ (n : ℕ). IsLevel (not (n == 3)) n) (sym zero_is) refl
-level_of cpl (inr three_is) = subst (λ (n : ℕ). IsLevel (not (n == 3)) n) (sym three_is) refl
+level_of : (cpl : ℕ) → (cpl ≡ 0) ⊎ (cpl ≡ 3) → IsLevelOf (not (cpl == 3)) cpl
+level_of cpl (inl zero_is) = subst (λ (n : ℕ). IsLevelOf (not (n == 3)) n) (sym zero_is) refl
+level_of cpl (inr three_is) = subst (λ (n : ℕ). IsLevelOf (not (n == 3)) n) (sym three_is) refl
 
 three : (cpl : ℕ) → not (cpl == 3) ≡ false → cpl ≡ 3
 three cpl h = grind (arith, nat_tests, h)

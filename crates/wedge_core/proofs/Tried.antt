@@ -8,7 +8,7 @@ use Rattle.frame_pool.specs.Pool.{base_of, free_list}
 use Rattle.frame_pool.specs.declared.Pool.{Pool}
 use Rattle.image_check.specs.Image.{Image}
 use Rattle.image_load.specs.Boot.{text_pages}
-use Rattle.paging.specs.Space.{Wedge, Space}
+use Rattle.paging.specs.Space.{Wedge, no_own, Space}
 use Rattle.shadow_tables.specs.Aside.{Aside, AreSame}
 use Rattle.shadow_tables.specs.Entries.{entries_of}
 use Rattle.shadow_tables.specs.Slots.{Slot, SameSlots}
@@ -61,7 +61,7 @@ module _ {S : Type 0} (stands : S → List ℕ → Type 0) (frames : S → List 
       (first_is : first ≡ 256) (count_is : count ≡ text_pages image) (bytes_is : bytes ≡ image.text)
       (hides : (m : List ℕ) → laying.hidden guard r.frames m ≡ laying.beyond first count r.frames m) (lays : (m : List ℕ) → laying.shown_by guard.text.now r.frames m ≡ laying.laid bytes first r.frames m)
       (held : IsHeld stands frames slots (ground image r.frames) r pool ram0)
-      (space0 : space_at (λ x. entries_of (slots r.shadows x)) ram0 s0 ≡ space_at_start (Wedge first count (record { front = 0; front_len = 0; back = 0; back_len = 0 })) r.frames r.cpu (laying.laid bytes first r.frames ram0) (entries_of (slots r.shadows ram0)))
+      (space0 : space_at (λ x. entries_of (slots r.shadows x)) ram0 s0 ≡ space_at_start (Wedge first count no_own) r.frames r.cpu (laying.laid bytes first r.frames ram0) (entries_of (slots r.shadows ram0)))
       (frames0 : s0.control.frames ≡ r.frames) (control : s1.control ≡ s0.control) (text : s1.guard.text ≡ s0.guard.text)
       (hidden : laying.hidden s0.guard s0.control.frames ram1 ≡ laying.hidden s0.guard s0.control.frames ram0) (fits : 4096 * s1.control.frames ≤ length ram1)
       (within : AreWithin s1.control.frames (changed (entries_of (slots r.shadows ram1)) s1.changes)) (are_bytes : AreBytes (shown (ground image r.frames) ram0)) (long : length (shown (ground image r.frames) ram0) ≡ 4096 * r.frames)
@@ -92,8 +92,8 @@ module _ {S : Type 0} (stands : S → List ℕ → Type 0) (frames : S → List 
           let same = any_script image script r.frames ram0 in
           let as_long = ap length same in
           record {
-            start = starts m b (Wedge first count (record { front = 0; front_len = 0; back = 0; back_len = 0 })) (space_at (λ x. entries_of (slots r.shadows x)) ram0 s0)
-                (λ i. Wedge (sym first_is i) (sym count_is i) (record { front = 0; front_len = 0; back = 0; back_len = 0 })) (laying.laid bytes first r.frames ram0) (shown_is m bytes first ram0 bytes_is first_is) space0;
+            start = starts m b (Wedge first count no_own) (space_at (λ x. entries_of (slots r.shadows x)) ram0 s0)
+                (λ i. Wedge (sym first_is i) (sym count_is i) no_own) (laying.laid bytes first r.frames ram0) (shown_is m bytes first ram0 bytes_is first_is) space0;
             wedge_is = record { mode = held.wedge.mode; accepted = held.wedge.accepted; room = held.wedge.room };
             bytes = subst AreBytes (sym same) are_bytes;
             room = omega (arith, as_long, long);

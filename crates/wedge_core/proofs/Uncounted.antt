@@ -1,5 +1,6 @@
 -- A step that goes on by a refusal completes nothing, and one whose instruction the host doesn't do completes nothing direct.
 use Rattle.std.proofs.Common.{◌≡◌, ◌⊎◌, inl, inr, ℕ, ◌+◌, ◌*◌, ◌/◌, ◌%◌, ◌==◌, nat_le, Bool, true, false, cond, not, ◌&&◌, refl, sym, ap, subst, ◌∙◌, List, [], ◌∷◌, Option, Some, None, Ok, Err}
+use Rattle.std.proofs.lemmas.Bool.{and_parts, both_ways, eqb-true}
 use Rattle.ia32_types.specs.declared.stop.Stop.TheVariants as stops
 use Rattle.ia32_types.specs.declared.stop.Did.{Did}
 use Rattle.ia32_types.specs.declared.stop.Did.TheVariants as did
@@ -45,7 +46,6 @@ use Rattle.machine_model.specs.Counts.{is_software, needs_descriptor, is_direct,
 use Rattle.image_check.specs.Places.{is_site_at}
 use Rattle.machine_step.specs.declared.worked.Worked.{Worked}
 use Rattle.machine_step.specs.Worked.{went_as, completed_by}
-use Rattle.native_steps.proofs.Choices.{both, clash, eq_told}
 
 -- of a step that goes, what it completed has P
 abbrev CompletesAs : (Option Completed → Type 0) → Result → Type 0
@@ -72,7 +72,7 @@ never_done X (Err e) h = tt
 -- ---- what is barred to a user
 
 first_refused : (e : Refusal) (test : Bool) (f : Unit {0} → Work Refusal SysOutcome) (s : Space) → test ≡ false → DoneIf ⊥ ((unless e test >>= f) s)
-first_refused e true f s h = absurd (clash true refl h)
+first_refused e true f s h = absurd (both_ways true h refl)
 first_refused e false f s h = tt
 
 module _ (cpu : Cpu) (user : cpu.cpl ≡ 3) (open_flags : is_open cpu ≡ true) where
@@ -83,7 +83,7 @@ module _ (cpu : Cpu) (user : cpu.cpl ≡ 3) (open_flags : is_open cpu ≡ true) 
   above = ap (λ (x : ℕ). x == 0) user
 
   not_within : is_within cpu ≡ false
-  not_within = ap (λ (x : ℕ). nat_le x most) user ∙ ap (λ (x : ℕ). nat_le 3 x) (eq_told most 0 (both (has cpu.regs.flags.bits 512) (most == 0) open_flags).1)
+  not_within = ap (λ (x : ℕ). nat_le x most) user ∙ ap (λ (x : ℕ). nat_le 3 x) (eqb-true most 0 (and_parts (has cpu.regs.flags.bits 512) (most == 0) open_flags).1)
 
   barred_read : (a b : Operand) (len : ℕ) (s : Space) → DoneIf ⊥ (read_control a b len cpu s)
   unfolding read_control
@@ -183,18 +183,18 @@ needs_or_soft op.LoadSeg n k = refl
 needs_or_soft op.PopSeg n k = refl
 needs_or_soft op.FarJump n k = refl
 needs_or_soft op.Iret n k = refl
-needs_or_soft op.Cli n k = absurd (clash true refl k)
-needs_or_soft op.Sti n k = absurd (clash true refl k)
-needs_or_soft op.Hlt n k = absurd (clash true refl k)
-needs_or_soft op.ReadControl n k = absurd (clash true refl k)
-needs_or_soft op.WriteControl n k = absurd (clash true refl k)
-needs_or_soft op.LoadGdt n k = absurd (clash true refl k)
-needs_or_soft op.LoadIdt n k = absurd (clash true refl k)
-needs_or_soft op.LoadTask n k = absurd (clash true refl k)
-needs_or_soft op.DropPage n k = absurd (clash true refl k)
-needs_or_soft op.PortIn n k = absurd (clash true refl k)
-needs_or_soft op.PortOut n k = absurd (clash true refl k)
-needs_or_soft o n k = absurd (clash true refl n)
+needs_or_soft op.Cli n k = absurd (both_ways true k refl)
+needs_or_soft op.Sti n k = absurd (both_ways true k refl)
+needs_or_soft op.Hlt n k = absurd (both_ways true k refl)
+needs_or_soft op.ReadControl n k = absurd (both_ways true k refl)
+needs_or_soft op.WriteControl n k = absurd (both_ways true k refl)
+needs_or_soft op.LoadGdt n k = absurd (both_ways true k refl)
+needs_or_soft op.LoadIdt n k = absurd (both_ways true k refl)
+needs_or_soft op.LoadTask n k = absurd (both_ways true k refl)
+needs_or_soft op.DropPage n k = absurd (both_ways true k refl)
+needs_or_soft op.PortIn n k = absurd (both_ways true k refl)
+needs_or_soft op.PortOut n k = absurd (both_ways true k refl)
+needs_or_soft o n k = absurd (both_ways true n refl)
 
 module _ (m : Setting) (b : State) (sites : List Site) where
   abbrev None_of : Option Completed → Type 0
@@ -212,11 +212,11 @@ module _ (m : Setting) (b : State) (sites : List Site) where
   -- a user's instruction that isn't done by the host
   by_bar : (insn : Insn) (len : ℕ) (s : Space) → IsUser b.cpu → is_native (b.cpu.cpl == 3) insn.op ≡ false → (test : Bool) → is_barred insn.op ≡ test → DoneIf (None_of (Some (begun b insn))) (instructed insn len b.cpu s)
   by_bar insn len s user native true bars =
-      let u = both (b.cpu.cpl == 3) (is_open b.cpu) user in
+      let u = and_parts (b.cpu.cpl == 3) (is_open b.cpu) user in
       never_done (None_of (Some (begun b insn))) (instructed insn len b.cpu s)
-      (subst (DoneIf ⊥) (sym (instructed_by insn.op insn len b.cpu s refl)) (barred b.cpu (eq_told b.cpu.cpl 3 u.0) u.1 insn.op insn len s bars))
+      (subst (DoneIf ⊥) (sym (instructed_by insn.op insn len b.cpu s refl)) (barred b.cpu (eqb-true b.cpu.cpl 3 u.0) u.1 insn.op insn len s bars))
   by_bar insn len s user native false free =
-      done_anyhow (None_of (Some (begun b insn))) (instructed insn len b.cpu s) (by_user insn (both (b.cpu.cpl == 3) (is_open b.cpu) user).0 native free)
+      done_anyhow (None_of (Some (begun b insn))) (instructed insn len b.cpu s) (by_user insn (and_parts (b.cpu.cpl == 3) (is_open b.cpu) user).0 native free)
 
   of_op : (o : Op) (insn : Insn) (len : ℕ) (s : Space) → insn.op ≡ o → is_native (b.cpu.cpl == 3) insn.op ≡ false → IsUser b.cpu ⊎ (is_software insn.op ≡ true) → CompletesAs None_of (by_op m o b insn len s)
   of_op op.Int insn len s e native h = of_software m b None_of refl (begun b insn) (insn.imm % 256) (delivered (past b.cpu len) (insn.imm % 256) Soft None s) (by_soft insn (ap is_software e))

@@ -1,6 +1,7 @@
 -- What is kept may be used again behind what the host writes: its views let no write pass to a table.
 use Rattle.std.proofs.Common.{◌≡◌, ℕ, ◌+◌, ◌*◌, ◌/◌, ◌%◌, ◌^◌, ◌<◌, ◌≤◌, List, [], ◌∷◌, length, Bool, true, false, cond, Option, Some, None, refl, sym, ap, subst, ◌∙◌, arith}
 use Rattle.std.specs.Prelude.{nat_le}
+use Rattle.std.proofs.lemmas.Bool.{and_parts}
 use Rattle.guest_ram.specs.Bytes.{frame, word32}
 use Rattle.guest_ram.proofs.Bytes.{word32-frame}
 use Rattle.descriptors.specs.Controls.{pse_of, wp_of}
@@ -17,7 +18,7 @@ use Rattle.native_steps.specs.Lends.{IsUnlent}
 use Rattle.native_steps.specs.Mirrors.{IsWedge, IsHost, shown}
 use Rattle.native_steps.proofs.Shown.{shown_length}
 use Rattle.wedge_step.specs.Ready.{AreReady, IsReady}
-use Rattle.wedge_step.proofs.Bools.{both, none_some, clash}
+use Rattle.wedge_step.proofs.Bools.{none_some, clash}
 use Rattle.wedge_core.proofs.HostWrites.{found_on}
 use Rattle.wedge_step.proofs.Readying.{all_rules}
 use Rattle.wedge_step.proofs.Shedding.{same_shed, all_ready_shed}
@@ -30,7 +31,7 @@ below_is n f at false e = cc
 
 slot_writes : (n at : ℕ) (slot : Slot) (side : Side) (b : Bool) → is_adequate (Some slot) side true ≡ b → cond b (frame_below n slot.entry.frame) None ≡ Some at → (slot.writes ≡ true) × (slot.entry.frame ≡ at)
 slot_writes n at slot side false e h = absurd (none_some at h)
-slot_writes n at slot side true e h = ((both (is_side slot.side side) slot.writes e).1, below_is n slot.entry.frame at (nat_le n slot.entry.frame) h)
+slot_writes n at slot side true e h = ((and_parts (is_side slot.side side) slot.writes e).1, below_is n slot.entry.frame at (nat_le n slot.entry.frame) h)
 
 -- the slot that lends it
 pub record Writes (o : Option Slot) (at : ℕ) : Type 0 where

@@ -8,6 +8,7 @@ mod noting;
 mod rest;
 mod run;
 mod slice;
+mod step;
 mod stretch;
 
 pub use guest::Guest;

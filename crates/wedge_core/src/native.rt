@@ -20,7 +20,7 @@ ghost use Rattle.wedge_step.specs.Pools.{Keeps};
 ghost use Rattle.wedge_step.specs.Standing.{IsHeld, IsAble, ground, set_of, state_of};
 ghost use Rattle.wedge_core.specs.Views.{may_run, view_by};
 ghost use Rattle.wedge_core.specs.Tries.{TriesAs};
-ghost use Rattle.wedge_core.specs.Prepared.{PreparesAs, prepared};
+ghost use Rattle.wedge_core.specs.Prepared.{PreparesAs, gone, prepared};
 ghost use Rattle.ia32_rows.specs.Spells.{Spells};
 ghost use Rattle.paging.specs.Work.{Gives};
 ghost use Rattle.std.specs.Prelude.{IfErr, IfOk, IfSome};
@@ -192,14 +192,15 @@ fn try_once<S: Reloads + Drop>(
     let mut cpu = running.cpu;
     cpu.held = false;
     let mut state = begin(&cpu, ram, &kept, running.frames, guard);
-    match try_native(&rules, &cpu, &mut running.board, ram, &kept, &mut state)? {
-        Some(worked) => {
+    match try_native(&rules, &cpu, &mut running.board, ram, &kept, &mut state) {
+        Err(stop) => Err(stop),
+        Ok(Some(worked)) => {
             are_bytes(ram, image, running.frames);
             let count = text_frames(image);
             go(running, pool, ram, &state, &worked, count, wanted);
             Ok(Attempt::Stepped(worked.seen))
         }
-        None => {
+        Ok(None) => {
             keep(running, pool, ram, &state, text_frames(image));
             Ok(Attempt::Asked)
         }
@@ -327,15 +328,25 @@ fn try_native<B: Kept>(
     ensures hidden { hidden state.old.guard state.old.control.frames ram.new ≡ hidden state.old.guard state.old.control.frames ram.old }
 {
     match fetch_at(ram, kept, state, cpu.cpl == 3, cpu.regs.eip) {
-        Err(refusal) => Ok(Some(refuse(rules, cpu, ram, kept, state, refusal)?)),
+        Err(refusal) => gone(refuse(rules, cpu, ram, kept, state, refusal)),
         Ok(Decoded::Insn(insn, len)) => {
             if is_native(&insn, cpu) {
                 prepare(rules, &insn, len, cpu, ram, kept, state)
             } else {
-                Ok(Some(carry_out(rules, &insn, len, cpu, board, ram, kept, state)?))
+                gone(carry_out(rules, &insn, len, cpu, board, ram, kept, state))
             }
         }
         Ok(_) => Err(Stop::Unsupported),
+    }
+}
+
+/// A step of which the host does nothing: it went, or it stops.
+fn gone(worked: Result<Worked, Stop>) -> Result<Option<Worked>, Stop>
+    ensures { result ≡ gone worked }
+{
+    match worked {
+        Ok(worked) => Ok(Some(worked)),
+        Err(stop) => Err(stop),
     }
 }
 
@@ -365,7 +376,7 @@ fn prepare<B: Kept>(
 {
     match weigh(insn, len, cpu, ram, kept, state) {
         Ok(()) => Ok(None),
-        Err(refusal) => Ok(Some(refuse(rules, cpu, ram, kept, state, refusal)?)),
+        Err(refusal) => gone(refuse(rules, cpu, ram, kept, state, refusal)),
     }
 }
 

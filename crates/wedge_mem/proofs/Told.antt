@@ -1,7 +1,7 @@
 -- Frame after frame is noted, or told to be written.
 use Rattle.std.proofs.Common.{◌≡◌, ℕ, ◌+◌, ◌<◌, List, [], ◌∷◌, ◌++◌, length, take, get_or, Bool, true, false, not, cond, eqb, ◌||◌, refl, sym, ap, ◌∙◌, subst, inl, inr, arith}
 use Rattle.std.proofs.Math.Dec.{leb}
-use Rattle.std.proofs.lemmas.Bool.{cases_Bool}
+use Rattle.std.proofs.lemmas.Bool.{cases_Bool, or_right}
 use Rattle.std.proofs.lemmas.Bool.Decides.{eqb_tells, leb_tells}
 use Rattle.std.proofs.lemmas.List.{take_more}
 use Rattle.std.proofs.lemmas.List.Elements.{filter-append}
@@ -18,10 +18,6 @@ or-false false = refl
 or-assoc : (a b c : Bool) → ((a || b) || c) ≡ (a || (b || c))
 or-assoc true b c = refl
 or-assoc false b c = refl
-
-or-right : (a b : Bool) → b ≡ true → (a || b) ≡ true
-or-right true b e = refl
-or-right false b e = e
 
 -- ---- one frame
 
@@ -90,7 +86,7 @@ any-there test [] x h t = absurd (let e : false ≡ true = h in cc)
 any-there test (f ∷ fs) x h t =
     elim (eqb_tells x f) [
       | inl s ↦ ap (λ b. b || list_any test fs) (ap test (sym s.1) ∙ t)
-      | inr s ↦ or-right (test f) (list_any test fs) (any-there test fs x (sym (ap (λ b. b || is_among x fs) s.0) ∙ h) t)
+      | inr s ↦ or_right (test f) (list_any test fs) (any-there test fs x (sym (ap (λ b. b || is_among x fs) s.0) ∙ h) t)
     ]
 
 joined : (a b c : Bool) → (c ≡ true → b ≡ true) → (a || b) ≡ (a || (b || c))

@@ -4,7 +4,7 @@ use Rattle.std.specs.Prelude.{◌≡◌, ℕ, ◌+◌, ◌-◌, ◌%◌, List, [
 use Rattle.std.specs.FinMap.{FinMap}
 use Rattle.std.specs.Ordering.{nat_cmp}
 use Rattle.paging.specs.declared.entry.Entry.{Entry}
-use Rattle.paging.specs.Space.{Space, Wedge, place}
+use Rattle.paging.specs.Space.{Space, Wedge, no_own, place}
 use Rattle.paging.specs.Uses.{with_front, with_back}
 use Rattle.descriptors.specs.declared.cpu.Cpu.{Cpu}
 use Rattle.descriptors.specs.Starting.{space_at_start}
@@ -56,7 +56,7 @@ space_in kept ram p =
 -- as a step begins under a monitor's rules over those frames, of whose text no original bytes are laid over memory
 abbrev pub space_at_first : List ℕ → FinMap nat_cmp Entry → (frames : ℕ) → Cpu → (first count : ℕ) → Space
 space_at_first ram set frames cpu first count =
-    space_at_start (Wedge first count (record { front = 0; front_len = 0; back = 0; back_len = 0 })) frames cpu (laid [] first frames ram) set
+    space_at_start (Wedge first count no_own) frames cpu (laid [] first frames ram) set
 
 -- how many bytes of a page lie from an address on
 abbrev pub left_in_page : ℕ → ℕ

@@ -6,7 +6,7 @@ use Rattle.std.specs.FinMap.{get}
 use Rattle.guest_ram.specs.Bytes.{AreBytes}
 use Rattle.paging.specs.declared.entry.Entry.{Entry}
 use Rattle.paging.specs.Fresh.{has}
-use Rattle.paging.specs.Space.{Mode, Wedge, Own, Space}
+use Rattle.paging.specs.Space.{Mode, Wedge, Own, no_own, Space}
 use Rattle.board.specs.declared.devices.Board.{Board}
 use Rattle.board.specs.Scripts.{Events}
 use Rattle.descriptors.specs.declared.cpu.Cpu.{Cpu}
@@ -66,7 +66,7 @@ may_close_used image count frames free user first s changes count_is uses none m
         let there = subst (λ (x : Mode). may_use x user q e.frame ≡ true) mode here in
         let page : e.page ≡ q = (within q e at).0 in
         ap (is_entry_open (text_pages image) (side_of user)) at
-        ∙ subst (λ (k : ℕ). may_use (wedge_mode image) (is_user (side_of user)) k e.frame ≡ true) (sym page) (open_used (text_pages image) (record { front = 0; front_len = 0; back = 0; back_len = 0 }) user q e.frame there)
+        ∙ subst (λ (k : ℕ). may_use (wedge_mode image) (is_user (side_of user)) k e.frame ≡ true) (sym page) (open_used (text_pages image) no_own user q e.frame there)
 
 -- ---- and lie under directory indices of the steps
 

@@ -1,14 +1,10 @@
 -- Some of a set of translations.
-use Rattle.std.specs.Prelude.{◌≡◌, ℕ, Bool, false, Some, if◌then◌else◌}
-use Rattle.std.specs.Option.{ForSome}
-use Rattle.std.specs.FinMap.{get, empty}
+use Rattle.std.specs.Prelude.{◌≡◌, Bool, false, if◌then◌else◌}
+use Rattle.std.specs.FinMap.{empty}
+pub use Rattle.paging.specs.Part.{IsPartOf}
 use Rattle.machine_model.specs.Run.{Set, with_set}
 use Rattle.machine_model.specs.State.{Setting, State, Loosened}
 use Rattle.wedge_step.specs.declared.running.Lost.{Lost}
-
--- each entry of the part is one of the whole
-pub record IsPartOf (part whole : Set) : Type 0 where
-  pub each : (page : ℕ) → ForSome (get part page) (λ e. get whole page ≡ Some e)
 
 -- what is left of some translations, where all of them may have been dropped
 abbrev pub left_of : Bool → Set → Set

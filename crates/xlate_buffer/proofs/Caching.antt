@@ -5,15 +5,13 @@ use Rattle.std.proofs.lemmas.Cmp.{nat_cmp_total}
 use Rattle.std.specs.FinMap.{FinMap, get, insert, remove, retain_keys, get-insert, get-remove, get-retain_keys, nat_cmp-IsAntisymmetric}
 use Rattle.std.specs.Ordering.{nat_cmp}
 use Rattle.std.specs.Cmp.{unsigned_tied}
+use Rattle.std.proofs.lemmas.Bool.{ne_eqb}
 use Rattle.paging.specs.declared.entry.Entry.{Entry}
 use Rattle.paging.specs.Uses.{without_dir}
 use Rattle.xlate_buffer.specs.Caches.{IsSameOrGone}
 
 eqb_self : (n : ℕ) → eqb n n ≡ true
 eqb_self n = elim (eqb_tells n n) [ inl t ↦ t.0 | inr f ↦ absurd (f.1 refl) ]
-
-eqb_other : (n m : ℕ) → n ≢ m → eqb n m ≡ false
-eqb_other n m h = elim (eqb_tells n m) [ inl t ↦ absurd (h t.1) | inr f ↦ f.0 ]
 
 -- an entry that was put is found
 pub put_found : (m : FinMap nat_cmp Entry) (e : Entry) → get (insert m e.page e) e.page ≡ Some e
@@ -28,7 +26,7 @@ removed_gone m page =
 
 pub removed_other : (m : FinMap nat_cmp Entry) (page other : ℕ) → other ≢ page → get (remove m page) other ≡ get m other
 removed_other m page other h =
-    get-remove nat_cmp_total m page other ∙ ap (λ b. cond b None (get m other)) (unsigned_tied other page ∙ eqb_other other page h)
+    get-remove nat_cmp_total m page other ∙ ap (λ b. cond b None (get m other)) (unsigned_tied other page ∙ ne_eqb other page h)
 
 turned : (b : Bool) (o : Option Entry) → cond (not b) o None ≡ cond b None o
 turned true o = refl
@@ -45,7 +43,7 @@ dir_gone m index page h =
     dir_get m index page ∙ elim (eqb_tells (page / 1024) index) [ inl t ↦ ap (λ b. cond b None (get m page)) t.0 | inr f ↦ absurd (f.1 h) ]
 
 pub dir_other : (m : FinMap nat_cmp Entry) (index page : ℕ) → page / 1024 ≢ index → get (without_dir m index) page ≡ get m page
-dir_other m index page h = dir_get m index page ∙ ap (λ b. cond b None (get m page)) (eqb_other (page / 1024) index h)
+dir_other m index page h = dir_get m index page ∙ ap (λ b. cond b None (get m page)) (ne_eqb (page / 1024) index h)
 
 chosen : (b : Bool) (o : Option Entry) → IsSameOrGone o (cond b o None)
 chosen true o = inl refl
@@ -56,6 +54,6 @@ pub put_others : (m : FinMap nat_cmp Entry) (p : ℕ → Bool) (e : Entry) (page
 put_others m p e page h =
     let is =
     get-insert nat_cmp_total (retain_keys m p) e.page e page
-    ∙ (ap (λ b. cond b (Some e) (get (retain_keys m p) page)) (unsigned_tied page e.page ∙ eqb_other page e.page h)
+    ∙ (ap (λ b. cond b (Some e) (get (retain_keys m p) page)) (unsigned_tied page e.page ∙ ne_eqb page e.page h)
     ∙ get-retain_keys m p page (λ x t. ap p (sym (nat_cmp-IsAntisymmetric page x t)))) in
     rw is (chosen (p page) (get m page))

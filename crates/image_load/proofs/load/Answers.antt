@@ -1,6 +1,5 @@
-use Rattle.std.proofs.Common.{◌≡◌, ◌*◌, ◌≤◌, drop, arith}
-use Rattle.image_load.specs.Boot.{boot_ram, boot_descriptors, with_image, with_tables, with_directory, need, text_pages, data_pages}
-use Rattle.guest_ram.specs.Bytes.{with_part}
+use Rattle.std.proofs.Common.{◌*◌, ◌≤◌, drop, arith}
+use Rattle.image_load.specs.Boot.{boot_ram, need, text_pages, data_pages}
 use Rattle.image_load.proofs.Fronts.{Laid, laid_boot, front_of, rest_of}
 use Rattle.image_load.proofs.load.Goals as goal
 

@@ -1,5 +1,5 @@
 use Rattle.std.proofs.Common.{refl, sym, subst, ◌∙◌, ap}
-use Rattle.bare_mem.specs.Part.{IsPartOf}
+use Rattle.paging.specs.Part.{IsPartOf}
 use Rattle.step_mem.specs.Changes.{changed}
 use Rattle.machine_model.specs.Step.{items_at}
 use Rattle.machine_step.specs.Worked.{dropping}

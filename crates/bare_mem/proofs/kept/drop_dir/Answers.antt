@@ -2,7 +2,7 @@ use Rattle.std.proofs.Common.{sym, subst}
 use Rattle.std.specs.FinMap.{FinMap}
 use Rattle.std.specs.Ordering.{nat_cmp}
 use Rattle.paging.specs.declared.entry.Entry.{Entry}
-use Rattle.bare_mem.specs.Part.{IsPartOf}
+use Rattle.paging.specs.Part.{IsPartOf}
 use Rattle.paging.specs.Uses.{without_dir}
 use Rattle.bare_mem.proofs.Parts.{dir_turned, dir_part}
 use Rattle.bare_mem.proofs.kept.drop_dir.Goals as goal

@@ -1,5 +1,5 @@
 use Rattle.std.proofs.Common.{length, []}
-use Rattle.image_check.proofs.Layouts.{start_is_any, text_fits, sweeps, start_exact, started, starts, apart, site_listed, listed_site, none_around, around_none}
+use Rattle.image_check.proofs.Layouts.{start_is_among, text_fits, sweeps, start_exact, started, starts, apart, site_listed, listed_site, none_around, around_none}
 use Rattle.image_check.specs.Places.{swept_of}
 use Rattle.image_laws.proofs.Instructions.{one_there}
 use Rattle.image_laws.proofs.WaysOn.{outside_there, inside_there}
@@ -21,7 +21,7 @@ pub returns-clause-start : goal.returns-clause-start
 returns-clause-start c = start_exact
 
 pub returns-clause-start_test : goal.returns-clause-start_test
-returns-clause-start_test c = start_is_any
+returns-clause-start_test c = start_is_among
 
 pub returns-clause-instruction : goal.returns-clause-instruction
 returns-clause-instruction c = started

@@ -1,4 +1,4 @@
-use Rattle.std.proofs.Common.{◌≡◌, ◌==◌, Bool, not, sym, ap, ◌∙◌}
+use Rattle.std.proofs.Common.{◌==◌, Bool, not, sym, ap, ◌∙◌}
 use Rattle.std.specs.Prelude.{◌||◌, ◌&&◌, is_some}
 use Rattle.machine_step.proofs.Ruled.{leaves_freely, leaves_open}
 use Rattle.machine_step.proofs.rules.may_leave.Goals as goal

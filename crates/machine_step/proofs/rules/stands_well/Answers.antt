@@ -1,6 +1,6 @@
 use Rattle.std.proofs.Common.{◌≡◌, ◌==◌, Bool, not, sym, ap, subst, ◌∙◌}
 use Rattle.std.specs.Prelude.{◌||◌, is_some, IfSome}
-use Rattle.machine_model.specs.Rules.{is_start, may_begin}
+use Rattle.machine_model.specs.Rules.{is_start}
 use Rattle.machine_step.proofs.Ruled.{begins_freely, begins_at_start}
 use Rattle.machine_step.proofs.rules.stands_well.Goals as goal
 

@@ -1,4 +1,5 @@
-use Rattle.run_trace.proofs.Steps.{front_of, lines_split}
+use Rattle.run_trace.proofs.Steps.{lines_split}
+use Rattle.pv_io.proofs.Pieces.{front_of}
 use Rattle.run_trace.proofs.step_items.put_items.Goals as goal
 
 pub returns-in-Err-clause-failed : goal.returns-in-Err-clause-failed

@@ -1,4 +1,5 @@
 use Rattle.std.proofs.Common.{List, ◌∷◌, refl, sym, subst, arith}
+use Rattle.std.proofs.lemmas.Bool.{or_right}
 use Rattle.frame_pool.specs.Held.{Moves}
 use Rattle.frame_pool.proofs.Held.{Owns-moves, Moves-refl, Holds-from_Owns}
 use Rattle.shadow_cache.specs.Pairs.{reads, any_reads, frames_of}
@@ -6,7 +7,6 @@ use Rattle.shadow_cache.specs.Others.{AreKept}
 use Rattle.shadow_cache.specs.Laws.{kept-shadows, kept-barred}
 use Rattle.shadow_cache.specs.declared.pair.Pair.{Pair}
 use Rattle.shadow_cache.proofs.Leaving.{kept-refl, leaves-owns, leaves-kept, leaves-moves}
-use Rattle.shadow_cache.proofs.Beside.{or-right}
 use Rattle.shadow_cache.proofs.Coming.{sub-roots, others-unmarked}
 use Rattle.shadow_cache.proofs.switching.put_by.Goals as goal
 
@@ -25,7 +25,7 @@ returns-then-before-clause-roots c =
     let k = returns-then-before-clause-kept c in let few = h.few in
     sub-roots (c.args.before ∷ ps) ps n (omega (arith, few))
     (Holds-from_Owns c.close.new.pool n (frames_of ps n) (Owns-moves c.args.pool.now c.close.new.pool m n (frames_of (c.args.before ∷ ps) m) (frames_of ps n) c.requires.owns (returns-then-before-clause-moves c)))
-    (kept-shadows ps m n k) h.sized.1 (kept-barred (any_reads (c.args.before ∷ ps)) ps m n k h.barred.1) (λ x e. or-right (reads c.args.before x) (any_reads ps x) e) (others-unmarked ps h.unmarked)
+    (kept-shadows ps m n k) h.sized.1 (kept-barred (any_reads (c.args.before ∷ ps)) ps m n k h.barred.1) (λ x e. or_right (reads c.args.before x) (any_reads ps x) e) (others-unmarked ps h.unmarked)
 
 pub returns-else-before-clause-kept : goal.returns-else-before-clause-kept
 returns-else-before-clause-kept c = subst (λ (ps : List Pair). AreKept ps c.args.ram.now c.args.ram.now) (sym c.push.ensures) (kept-refl (c.args.before ∷ c.args.others.now) c.args.ram.now c.requires.roots.shadows)

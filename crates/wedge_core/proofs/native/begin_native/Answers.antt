@@ -1,4 +1,4 @@
-use Rattle.std.proofs.Common.{◌≡◌, ℕ, ◌+◌, ◌*◌, ◌≤◌, eqb, Bool, false, List, [], ◌∷◌, ◌++◌, length, Result, Ok, Err, refl, ap, sym, ◌∙◌, subst, OnErr, arith}
+use Rattle.std.proofs.Common.{◌≡◌, ℕ, ◌+◌, ◌*◌, ◌≤◌, ◌<◌, ◌^◌, eqb, Bool, true, false, List, [], ◌∷◌, ◌++◌, length, Result, Ok, Err, refl, ap, sym, ◌∙◌, subst, OnErr, arith}
 use Rattle.std.specs.Set.{is_member}
 use Rattle.guest_ram.specs.Bytes.{AreBytes}
 use Rattle.frame_pool.specs.Pool.{free_list}
@@ -18,10 +18,11 @@ use Rattle.wedge_core.proofs.native.begin_native.Given.{Over}
 use Rattle.machine_model.specs.State.{Setting, State, wedge}
 use Rattle.wedge_core.specs.Attempts.{AttemptAs, WhereAsked, WhereStepped}
 use Rattle.wedge_step.specs.Parts.{left_of}
-use Rattle.wedge_step.specs.Standing.{ground, set_of, state_of}
-use Rattle.wedge_core.specs.Views.{view_by}
+use Rattle.wedge_step.specs.Standing.{IsAble, IsHeld, ground, set_of, state_of}
+use Rattle.wedge_core.specs.Views.{may_run, view_by}
 use Rattle.wedge_step.specs.declared.running.Running.{Running}
 use Rattle.std.specs.Prelude.{OnOk}
+use Rattle.wedge_step.specs.Clashing.{IsClear}
 use Rattle.wedge_step.specs.Filled.{FillsOn, pages_kept}
 use Rattle.wedge_step.specs.Ready.{IsReady}
 use Rattle.wedge_core.proofs.Before.{attempt_before}
@@ -204,3 +205,47 @@ returns-clause-carried_asked g c =
 
 pub returns-clause-clashed : goal.returns-clause-clashed
 returns-clause-clashed g c = λ lost room. c.make_room.ensures.clashed (sym c.try_once.ensures.before ∙ lost) room
+
+-- ---- what else is said, from there
+
+pub try_once-requires-clause-held : goal.try_once-requires-clause-held
+try_once-requires-clause-held g c = subst (λ (k : ℕ). IsHeld g.S.Shadows.stands g.S.Shadows.frames g.S.Shadows.slots (ground c.args.image.now k) c.make_room.new.running c.make_room.new.pool c.make_room.new.ram) (sym (ap (λ (r : Running g.row.S.Denot). r.frames) c.make_room.ensures.same)) c.make_room.ensures.held
+
+pub try_once-requires-clause-able : goal.try_once-requires-clause-able
+try_once-requires-clause-able g c = subst (λ (r : Running g.row.S.Denot). IsAble r.cpu) (sym c.make_room.ensures.same) c.requires.able
+
+pub try_once-requires-clause-runs : goal.try_once-requires-clause-runs
+try_once-requires-clause-runs g c = subst (λ (r : Running g.row.S.Denot). may_run r.cpu r.board c.args.image.now ≡ true) (sym c.make_room.ensures.same) c.requires.runs
+
+pub try_once-requires-clause-bound : goal.try_once-requires-clause-bound
+try_once-requires-clause-bound g c = subst (λ (r : Running g.row.S.Denot). r.step < 2 ^ 40) (sym c.make_room.ensures.same) c.requires.bound
+
+pub try_once-requires-clause-room : goal.try_once-requires-clause-room
+try_once-requires-clause-room g c = c.make_room.ensures.room
+
+pub try_once-requires-clause-clear : goal.try_once-requires-clause-clear
+try_once-requires-clause-clear g c = λ script. subst (λ (k : ℕ). IsClear (wedge c.args.image.now script k) (state_of g.S.Shadows.stands g.S.Shadows.frames g.S.Shadows.slots (wedge c.args.image.now script k) c.make_room.new.running c.make_room.new.ram)) (sym (ap (λ (r : Running g.row.S.Denot). r.frames) c.make_room.ensures.same)) (c.make_room.ensures.clear script)
+
+pub try_once-requires-clause-kept : goal.try_once-requires-clause-kept
+try_once-requires-clause-kept g c = c.make_room.ensures.back ∙ c.requires.kept.1
+
+pub returns-clause-held : goal.returns-clause-held
+returns-clause-held g c = let new = c.try_once.new.running in subst (λ (r : Running g.row.S.Denot). OnOk c.try_once.result (IsHeld g.S.Shadows.stands g.S.Shadows.frames g.S.Shadows.slots (ground c.args.image.now r.frames) (record new { step = r.step + 1 }) c.try_once.new.pool c.try_once.new.ram)) c.make_room.ensures.same c.try_once.ensures.held
+
+pub returns-clause-wanted : goal.returns-clause-wanted
+returns-clause-wanted g c = c.try_once.ensures.wanted
+
+pub returns-clause-count : goal.returns-clause-count
+returns-clause-count g c = subst (λ (r : Running g.row.S.Denot). WhereStepped c.try_once.result (c.try_once.new.running.step ≡ r.step + 1)) c.make_room.ensures.same c.try_once.ensures.count
+
+pub returns-clause-asked : goal.returns-clause-asked
+returns-clause-asked g c = let new = c.try_once.new.running in subst (λ (r : Running g.row.S.Denot). WhereAsked c.try_once.result (new ≡ record r { shadows = new.shadows; held = new.held; fills = new.fills; lost = new.lost })) c.make_room.ensures.same c.try_once.ensures.asked
+
+pub returns-clause-counted : goal.returns-clause-counted
+returns-clause-counted g c = c.try_once.ensures.counted
+
+pub returns-clause-stands : goal.returns-clause-stands
+returns-clause-stands g c = c.try_once.ensures.stands
+
+pub returns-clause-frames : goal.returns-clause-frames
+returns-clause-frames g c = c.try_once.ensures.frames ∙ ap (λ (r : Running g.row.S.Denot). r.frames) c.make_room.ensures.same

@@ -1,62 +1,79 @@
-use Rattle.std.proofs.Common.{Bool, ◌==◌, sym, ◌∙◌}
+use Rattle.std.proofs.Common.{◌≡◌, ◌+◌, ◌≤◌, ◌==◌, Bool, refl, sym, ap, subst, ◌∙◌, arith}
+use Rattle.std.specs.Prelude.{IfOk, IfSome, Option, Result}
+use Rattle.ia32_types.specs.declared.stop.Stop.{Stop}
 use Rattle.step_mem.specs.Sound.{space_at}
-use Rattle.machine_step.proofs.Used.{if_ok_on, uses_on}
-use Rattle.wedge_core.proofs.Trying.{tried_err, refused_next, tried_refusal, tried_prepared, tried_other}
+use Rattle.step_mem.specs.declared.guard.Guard.{Guard}
+use Rattle.step_mem.specs.declared.walking.Control.{Control}
+use Rattle.machine_model.specs.UsedPages.{Uses}
+use Rattle.machine_step.specs.Roots.{RootsAs}
+use Rattle.machine_step.specs.Worked.{IsDropped}
+use Rattle.machine_step.specs.declared.worked.Worked.{Worked}
+use Rattle.machine_step.proofs.Used.{if_ok_on}
+use Rattle.wedge_core.specs.Prepared.{gone}
+use Rattle.wedge_core.specs.Tries.{TriesAs}
+use Rattle.wedge_core.proofs.Trying.{hidden_on, if_gone, of_gone, tried_refused, tried_prepared, tried_other}
 use Rattle.wedge_core.proofs.native.try_native.Goals as goal
 
-pub returns-in_ok-refuse-in-Err-clause-tries : goal.returns-in_ok-refuse-in-Err-clause-tries
-returns-in_ok-refuse-in-Err-clause-tries g c = λ m b k.
-    let a = c.args in
-    let here = record b { cpu = a.cpu.now; board = a.board.now } in
-    let start = space_at (g.B.Kept.entries a.kept.now) a.ram.now a.state.now in
-    let after_fetch = space_at (g.B.Kept.entries a.kept.now) c.fetch.new.ram c.fetch.new.state in
-    let after = space_at (g.B.Kept.entries a.kept.now) c.refuse.new.ram c.refuse.new.state in
-    tried_refusal m here start c.in-Err.refusal after_fetch c.in_ok-refuse-in-Err.field-0 a.board.now after c.in-Err.ensures.fetched (c.in_ok-refuse-in-Err.ensures.step m here k)
+pub refuse-requires : goal.refuse-requires
+refuse-requires g c = record { sound = c.fetch.ensures.sound; pages = (let p = c.fetch.ensures.pages in let q = c.requires.pages in omega (arith, p, q)) }
 
-pub returns-in_err-refuse-in-Err-clause-tries : goal.returns-in_err-refuse-in-Err-clause-tries
-returns-in_err-refuse-in-Err-clause-tries g c = λ m b k.
-    let a = c.args in
-    let here = record b { cpu = a.cpu.now; board = a.board.now } in
-    let start = space_at (g.B.Kept.entries a.kept.now) a.ram.now a.state.now in
-    let after_fetch = space_at (g.B.Kept.entries a.kept.now) c.fetch.new.ram c.fetch.new.state in
-    let after = space_at (g.B.Kept.entries a.kept.now) c.refuse.new.ram c.refuse.new.state in
-    tried_err m here start after a.board.now c.in_err-refuse-in-Err.field-0.0 c.from_residual.result c.from_residual.ensures.1
-    (refused_next m here start c.in-Err.refusal after_fetch c.in-Err.ensures.fetched ∙ c.in_err-refuse-in-Err.ensures.step m here k)
+pub prepare-requires : goal.prepare-requires
+prepare-requires g c = record { spelled = (rw c.in-Ok-Insn.field-0-is at c.in-Ok-Insn.ensures.spelled); native = sym c.is_native.ensures ∙ c.if-is_native.true; able = c.requires.able; sound = c.fetch.ensures.sound; pages = (let p = c.fetch.ensures.pages in let q = c.requires.pages in omega (arith, p, q)) }
 
-pub returns-then-is_native-clause-tries : goal.returns-then-is_native-clause-tries
-returns-then-is_native-clause-tries g c = λ m b k.
-    let a = c.args in
-    let here = record b { cpu = a.cpu.now; board = a.board.now } in
-    let start = space_at (g.B.Kept.entries a.kept.now) a.ram.now a.state.now in
-    let after_fetch = space_at (g.B.Kept.entries a.kept.now) c.fetch.new.ram c.fetch.new.state in
-    let after = space_at (g.B.Kept.entries a.kept.now) c.prepare.new.ram c.prepare.new.state in
-    tried_prepared m here start c.in-Ok-Insn.insn c.in-Ok-Insn.len after_fetch (rw c.in-Ok-Insn.field-0-is at c.in-Ok-Insn.ensures.fetched) c.prepare.result after
-    (sym c.is_native.ensures ∙ c.if-is_native.true) (c.prepare.ensures.prepares m here k)
+pub carry_out-requires : goal.carry_out-requires
+carry_out-requires g c = record { spelled = (rw c.in-Ok-Insn.field-0-is at c.in-Ok-Insn.ensures.spelled); sound = c.fetch.ensures.sound; pages = (let p = c.fetch.ensures.pages in let q = c.requires.pages in omega (arith, p, q)) }
 
-pub returns-in_ok-carry_out-in-Ok-Insn-clause-tries : goal.returns-in_ok-carry_out-in-Ok-Insn-clause-tries
-returns-in_ok-carry_out-in-Ok-Insn-clause-tries g c = λ m b k.
-    let a = c.args in
-    let here = record b { cpu = a.cpu.now; board = a.board.now } in
-    let start = space_at (g.B.Kept.entries a.kept.now) a.ram.now a.state.now in
-    let after_fetch = space_at (g.B.Kept.entries a.kept.now) c.fetch.new.ram c.fetch.new.state in
-    let after = space_at (g.B.Kept.entries a.kept.now) c.carry_out.new.ram c.carry_out.new.state in
-    tried_other m here start c.in-Ok-Insn.insn c.in-Ok-Insn.len after_fetch (rw c.in-Ok-Insn.field-0-is at c.in-Ok-Insn.ensures.fetched) c.in_ok-carry_out-in-Ok-Insn.field-0 c.carry_out.new.board after
-    (sym c.is_native.ensures ∙ c.if-is_native.false) (c.in_ok-carry_out-in-Ok-Insn.ensures.step m b k)
+pub returns-in-Err : goal.returns-in-Err
+returns-in-Err g c =
+    let start = space_at (g.B.Kept.entries c.args.kept.now) c.args.ram.now c.args.state.now in
+    let after_fetch = space_at (g.B.Kept.entries c.args.kept.now) c.fetch.new.ram c.fetch.new.state in
+    let after = space_at (g.B.Kept.entries c.args.kept.now) c.refuse.new.ram c.refuse.new.state in
+    let is = sym c.gone.ensures in
+    record {
+      sound = c.refuse.ensures.sound;
+      uses = subst (λ (r : Result (Option Worked) Stop). IfOk r (λ _. Uses (c.args.cpu.now.cpl == 3) start after)) is (if_gone (Uses (c.args.cpu.now.cpl == 3) start after) c.refuse.result (c.refuse.ensures.goes_on start c.in-Err.ensures.refused));
+      tries = λ m b k. let here = record b { cpu = c.args.cpu.now; board = c.args.board.now } in
+          subst (λ (r : Result (Option Worked) Stop). TriesAs m here start r c.args.board.now after) is (tried_refused m here start c.in-Err.refusal after_fetch c.refuse.result c.args.board.now after c.in-Err.ensures.fetched (c.refuse.ensures.step m here k));
+      dropped = subst (λ (r : Result (Option Worked) Stop). IfOk r (λ o. IfSome o (λ w. IsDropped w.dropped))) is (of_gone (λ (w : Worked). IsDropped w.dropped) c.refuse.result c.refuse.ensures.dropped);
+      roots = subst (λ (r : Result (Option Worked) Stop). IfOk r (λ o. IfSome o (λ w. RootsAs c.args.cpu.now w))) is (of_gone (λ (w : Worked). RootsAs c.args.cpu.now w) c.refuse.result c.refuse.ensures.roots);
+      control = c.refuse.ensures.control ∙ c.fetch.ensures.control;
+      text = ap (λ (k : Guard). k.text) c.refuse.ensures.guard ∙ c.fetch.ensures.text;
+      hidden = hidden_on c.args.state.now.guard.text.now c.fetch.new.state.guard.text.now c.args.state.now.control.frames c.fetch.new.state.control.frames c.args.ram.now c.fetch.new.ram c.refuse.new.ram
+          (ap (λ (t : _). t.now) c.fetch.ensures.text) (ap (λ (k : Control). k.frames) c.fetch.ensures.control) c.fetch.ensures.hidden c.refuse.ensures.hidden;
+    }
 
-pub returns-then-is_native-clause-uses : goal.returns-then-is_native-clause-uses
-returns-then-is_native-clause-uses g c =
-    let a = c.args in
-    let user : Bool = a.cpu.now.cpl == 3 in
-    let start = space_at (g.B.Kept.entries a.kept.now) a.ram.now a.state.now in
-    let after_fetch = space_at (g.B.Kept.entries a.kept.now) c.fetch.new.ram c.fetch.new.state in
-    let after = space_at (g.B.Kept.entries a.kept.now) c.prepare.new.ram c.prepare.new.state in
-    if_ok_on user start after_fetch after c.prepare.result c.in-Ok-Insn.ensures.uses c.prepare.ensures.uses
+pub returns-then-is_native : goal.returns-then-is_native
+returns-then-is_native g c =
+    let start = space_at (g.B.Kept.entries c.args.kept.now) c.args.ram.now c.args.state.now in
+    let after_fetch = space_at (g.B.Kept.entries c.args.kept.now) c.fetch.new.ram c.fetch.new.state in
+    let after = space_at (g.B.Kept.entries c.args.kept.now) c.prepare.new.ram c.prepare.new.state in
+    record {
+      sound = c.prepare.ensures.sound;
+      uses = if_ok_on (c.args.cpu.now.cpl == 3) start after_fetch after c.prepare.result c.in-Ok-Insn.ensures.uses c.prepare.ensures.uses;
+      tries = λ m b k. let here = record b { cpu = c.args.cpu.now; board = c.args.board.now } in tried_prepared m here start c.in-Ok-Insn.insn c.in-Ok-Insn.len after_fetch (rw c.in-Ok-Insn.field-0-is at c.in-Ok-Insn.ensures.fetched) c.prepare.result after (sym c.is_native.ensures ∙ c.if-is_native.true) (c.prepare.ensures.prepares m here k);
+      dropped = c.prepare.ensures.dropped;
+      roots = c.prepare.ensures.roots;
+      control = c.prepare.ensures.control ∙ c.fetch.ensures.control;
+      text = ap (λ (k : Guard). k.text) c.prepare.ensures.guard ∙ c.fetch.ensures.text;
+      hidden = hidden_on c.args.state.now.guard.text.now c.fetch.new.state.guard.text.now c.args.state.now.control.frames c.fetch.new.state.control.frames c.args.ram.now c.fetch.new.ram c.prepare.new.ram
+          (ap (λ (t : _). t.now) c.fetch.ensures.text) (ap (λ (k : Control). k.frames) c.fetch.ensures.control) c.fetch.ensures.hidden c.prepare.ensures.hidden;
+    }
 
-pub returns-in_ok-carry_out-in-Ok-Insn-clause-uses : goal.returns-in_ok-carry_out-in-Ok-Insn-clause-uses
-returns-in_ok-carry_out-in-Ok-Insn-clause-uses g c =
-    let a = c.args in
-    let user : Bool = a.cpu.now.cpl == 3 in
-    let start = space_at (g.B.Kept.entries a.kept.now) a.ram.now a.state.now in
-    let after_fetch = space_at (g.B.Kept.entries a.kept.now) c.fetch.new.ram c.fetch.new.state in
-    let after = space_at (g.B.Kept.entries a.kept.now) c.carry_out.new.ram c.carry_out.new.state in
-    uses_on user start after_fetch after c.in-Ok-Insn.ensures.uses c.in_ok-carry_out-in-Ok-Insn.ensures.uses
+pub returns-else-is_native : goal.returns-else-is_native
+returns-else-is_native g c =
+    let start = space_at (g.B.Kept.entries c.args.kept.now) c.args.ram.now c.args.state.now in
+    let after_fetch = space_at (g.B.Kept.entries c.args.kept.now) c.fetch.new.ram c.fetch.new.state in
+    let after = space_at (g.B.Kept.entries c.args.kept.now) c.carry_out.new.ram c.carry_out.new.state in
+    let is = sym c.gone-else-is_native.ensures in
+    record {
+      sound = c.carry_out.ensures.sound;
+      uses = subst (λ (r : Result (Option Worked) Stop). IfOk r (λ _. Uses (c.args.cpu.now.cpl == 3) start after)) is (if_gone (Uses (c.args.cpu.now.cpl == 3) start after) c.carry_out.result (if_ok_on (c.args.cpu.now.cpl == 3) start after_fetch after c.carry_out.result c.in-Ok-Insn.ensures.uses c.carry_out.ensures.uses));
+      tries = λ m b k. let here = record b { cpu = c.args.cpu.now; board = c.args.board.now } in
+          subst (λ (r : Result (Option Worked) Stop). TriesAs m here start r c.carry_out.new.board after) is (tried_other m here start c.in-Ok-Insn.insn c.in-Ok-Insn.len after_fetch (rw c.in-Ok-Insn.field-0-is at c.in-Ok-Insn.ensures.fetched) c.carry_out.result c.carry_out.new.board after (sym c.is_native.ensures ∙ c.if-is_native.false) (c.carry_out.ensures.step m here k));
+      dropped = subst (λ (r : Result (Option Worked) Stop). IfOk r (λ o. IfSome o (λ w. IsDropped w.dropped))) is (of_gone (λ (w : Worked). IsDropped w.dropped) c.carry_out.result c.carry_out.ensures.dropped);
+      roots = subst (λ (r : Result (Option Worked) Stop). IfOk r (λ o. IfSome o (λ w. RootsAs c.args.cpu.now w))) is (of_gone (λ (w : Worked). RootsAs c.args.cpu.now w) c.carry_out.result c.carry_out.ensures.roots);
+      control = c.carry_out.ensures.control ∙ c.fetch.ensures.control;
+      text = ap (λ (k : Guard). k.text) c.carry_out.ensures.guard ∙ c.fetch.ensures.text;
+      hidden = hidden_on c.args.state.now.guard.text.now c.fetch.new.state.guard.text.now c.args.state.now.control.frames c.fetch.new.state.control.frames c.args.ram.now c.fetch.new.ram c.carry_out.new.ram
+          (ap (λ (t : _). t.now) c.fetch.ensures.text) (ap (λ (k : Control). k.frames) c.fetch.ensures.control) c.fetch.ensures.hidden c.carry_out.ensures.hidden;
+    }

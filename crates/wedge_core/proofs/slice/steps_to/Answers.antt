@@ -10,7 +10,6 @@ use Rattle.frame_pool.specs.declared.Pool.{Pool}
 use Rattle.board.specs.Boards.{given}
 use Rattle.board.specs.Scripts.{Events}
 use Rattle.run_trace.specs.declared.pause.Pause.TheVariants.{Stopped}
-use Rattle.run_trace.specs.declared.items.Item.{Item}
 use Rattle.run_trace.specs.Text.{lines_of}
 use Rattle.machine_model.specs.State.{Setting, State, wedge}
 use Rattle.machine_model.specs.Run.{Set}
@@ -227,8 +226,8 @@ returns-in-Err-clause-pool g c =
     (g.S.Shadows.frames c.args.running.now.shadows (g.H.Host.bytes c.args.host.now)) (g.S.Shadows.frames c.loop-running.running.shadows (g.H.Host.bytes c.loop-running.host)) (g.S.Shadows.frames c.stretch.new.running.shadows (g.H.Host.bytes c.stretch.new.host))
     c.loop-running.invariant.pool (c.stretch.ensures.pool c.loop-running.pool (held_given g.S.Shadows.stands g.S.Shadows.frames g.S.Shadows.slots c.args.image.now c.args.running.now.frames c.loop-running.running.frames c.loop-running.running c.begin.new.self c.loop-running.pool (g.H.Host.bytes c.loop-running.host) c.loop-running.invariant.frames c.loop-running.invariant.held))) c.in-Err.ensures.pool
 
-pub returns-in-Err-put_step-clause-slice : goal.returns-in-Err-put_step-clause-slice
-returns-in-Err-put_step-clause-slice g c =
+pub returns-in-Err-put_seen-clause-slice : goal.returns-in-Err-put_seen-clause-slice
+returns-in-Err-put_seen-clause-slice g c =
     let f = c.args.running.now.frames in
     let m = wedge c.args.image.now c.args.script.now.list f in
     let at = λ (n : ℕ) (r : Running g.row.S.Denot) (memory : List ℕ). state_of g.S.Shadows.stands g.S.Shadows.frames g.S.Shadows.slots (wedge c.args.image.now c.args.script.now.list n) r memory in
@@ -253,9 +252,8 @@ returns-in-Err-put_step-clause-slice g c =
     let step : StepAs m (record (at f r memory) { board = given r.board c.args.script.now.list r.step }) new.lost (Ok c.in-Ok.seen) (at f new new_memory) so_far new_counts =
     turned m (at f r memory) (at f mid then_memory) (at f new new_memory) c.begin.new.self new.lost (Ok c.in-Ok.seen) so_far mid_counts new_counts stays c.begin.ensures same by_frames in
     let step_same : c.stretch.new.running.step ≡ r.step = (let e = c.stretch.ensures.count in omega (arith, e, none)) in
-    let items = c.items_of.ensures.items ∙ ap (λ (n : ℕ). items_at n (whats c.in-Ok.seen)) step_same in
-    let last = g.O.Sink.taken c.put_step.new.out in
-    let put = subst (λ (l : List Item). AppendsFront tells last (lines_of l)) items c.in-Err-put_step.ensures.failed in
+    let last = g.O.Sink.taken c.put_seen.new.out in
+    let put = subst (λ (n : ℕ). AppendsFront tells last (lines_of (items_at n (whats c.in-Ok.seen)))) step_same c.in-Err-put_seen.ensures.failed in
     let count : new.step ≡ r.step + 1 = (let n = c.in-Ok.ensures.count in omega (arith, n, step_same)) in
     let wanted = g.L.Notes.wants c.args.notes.now in
     let first = g.L.Notes.tells c.args.notes.now in
@@ -279,7 +277,7 @@ returns-in-Err-put_step-clause-slice g c =
     c.in-Ok.ensures.carried c.in-Ok.ensures.clashed in
     let s = going_on m old (at f r memory) (at f new new_memory) new.lost c.in-Ok.seen counts so_far new_counts told tells (pages_kept g.S.Shadows.slots g.S.Shadows.asides c.args.running.now.shadows (g.H.Host.bytes c.args.host.now)) c.args.running.now.fills r.fills new.fills wanted (NotesOn wanted first before) (NotesOn wanted first after)
     begins (Knows g m r memory) (Knows g m new new_memory) inv.going step count rises more exact laws (known_past g laws m r memory) over (notes_on_more wanted first before after (notes_then new.lost r.step) told_now) in
-    failed m c.args.bound old (at f r memory) (at f new new_memory) c.in-Ok.seen c.in-Err-put_step.failed counts new_counts told tells last (pages_kept g.S.Shadows.slots g.S.Shadows.asides c.args.running.now.shadows (g.H.Host.bytes c.args.host.now)) c.args.running.now.fills new.fills wanted (NotesOn wanted first after) begins (Knows g m new new_memory) s put
+    failed m c.args.bound old (at f r memory) (at f new new_memory) c.in-Ok.seen c.in-Err-put_seen.failed counts new_counts told tells last (pages_kept g.S.Shadows.slots g.S.Shadows.asides c.args.running.now.shadows (g.H.Host.bytes c.args.host.now)) c.args.running.now.fills new.fills wanted (NotesOn wanted first after) begins (Knows g m new new_memory) s put
     (let t = c.loop-running-test.true in omega (arith, count, t))
 
 pub loop-running-preserved : goal.loop-running-preserved
@@ -308,9 +306,8 @@ loop-running-preserved g c =
     let step : StepAs m (record (at f r memory) { board = given r.board c.args.script.now.list r.step }) new.lost (Ok c.in-Ok.seen) (at f new new_memory) so_far new_counts =
     turned m (at f r memory) (at f mid then_memory) (at f new new_memory) c.begin.new.self new.lost (Ok c.in-Ok.seen) so_far mid_counts new_counts stays c.begin.ensures same by_frames in
     let step_same : c.stretch.new.running.step ≡ r.step = (let e = c.stretch.ensures.count in omega (arith, e, none)) in
-    let items = c.items_of.ensures.items ∙ ap (λ (n : ℕ). items_at n (whats c.in-Ok.seen)) step_same in
-    let last = g.O.Sink.taken c.put_step.new.out in
-    let put = subst (λ (l : List Item). Appends tells last (lines_of l)) items c.in-Ok-put_step.ensures.ok in
+    let last = g.O.Sink.taken c.put_seen.new.out in
+    let put = subst (λ (n : ℕ). Appends tells last (lines_of (items_at n (whats c.in-Ok.seen)))) step_same c.in-Ok-put_seen.ensures.ok in
     let count : new.step ≡ r.step + 1 = (let n = c.in-Ok.ensures.count in omega (arith, n, step_same)) in
     let wanted = g.L.Notes.wants c.args.notes.now in
     let first = g.L.Notes.tells c.args.notes.now in
@@ -366,7 +363,7 @@ loop-running-preserved g c =
       wants = c.tell_both.ensures.wants ∙ inv.wants;
       wanted = inv.wanted;
       silent = λ unwanted. c.tell_both.ensures.silent (inv.wants ∙ unwanted) ∙ inv.silent unwanted;
-      later = (let a = inv.later in let b = c.in-Ok-put_step.ensures.later in omega (arith, a, b));
+      later = (let a = inv.later in let b = c.in-Ok-put_seen.ensures.later in omega (arith, a, b));
       bound = c.rest.ensures.within;
       room = (let h = inv.room in let t = c.loop-running-test.true in let few = c.in-Ok.ensures.few in let e = c.stretch.ensures.retired in let n = c.in-Ok.ensures.count in let l = c.rest.ensures.later in let w = c.rest.ensures.within in omega (arith, h, t, few, e, n, l, w, none, step_same));
     }
@@ -394,11 +391,151 @@ returns-clause-few g c = c.loop-running.invariant.held.fills
 pub returns-in-Err-clause-filled : goal.returns-in-Err-clause-filled
 returns-in-Err-clause-filled g c = fills_join _ _ _ _ _ _ (fills_join _ _ _ _ _ _ c.loop-running.invariant.filled c.stretch.ensures.filled) c.in-Err.ensures.filled
 
-pub returns-in-Err-put_step-clause-filled : goal.returns-in-Err-put_step-clause-filled
-returns-in-Err-put_step-clause-filled g c = fills_join _ _ _ _ _ _ (fills_join _ _ _ _ _ _ c.loop-running.invariant.filled c.stretch.ensures.filled) c.in-Ok.ensures.filled
+pub returns-in-Err-put_seen-clause-filled : goal.returns-in-Err-put_seen-clause-filled
+returns-in-Err-put_seen-clause-filled g c = fills_join _ _ _ _ _ _ (fills_join _ _ _ _ _ _ c.loop-running.invariant.filled c.stretch.ensures.filled) c.in-Ok.ensures.filled
 
-pub returns-in-Err-put_step-clause-wants : goal.returns-in-Err-put_step-clause-wants
-returns-in-Err-put_step-clause-wants g c = c.tell_both.ensures.wants ∙ c.loop-running.invariant.wants
+pub returns-in-Err-put_seen-clause-wants : goal.returns-in-Err-put_seen-clause-wants
+returns-in-Err-put_seen-clause-wants g c = c.tell_both.ensures.wants ∙ c.loop-running.invariant.wants
 
-pub returns-in-Err-put_step-clause-silent : goal.returns-in-Err-put_step-clause-silent
-returns-in-Err-put_step-clause-silent g c = λ unwanted. c.tell_both.ensures.silent (c.loop-running.invariant.wants ∙ unwanted) ∙ c.loop-running.invariant.silent unwanted
+pub returns-in-Err-put_seen-clause-silent : goal.returns-in-Err-put_seen-clause-silent
+returns-in-Err-put_seen-clause-silent g c = λ unwanted. c.tell_both.ensures.silent (c.loop-running.invariant.wants ∙ unwanted) ∙ c.loop-running.invariant.silent unwanted
+
+-- ---- what else is said of each end
+
+pub returns-in-Err-clause-reached : goal.returns-in-Err-clause-reached
+returns-in-Err-clause-reached g c = tt
+
+pub returns-in-Err-clause-ready : goal.returns-in-Err-clause-ready
+returns-in-Err-clause-ready g c = tt
+
+pub returns-in-Err-clause-held : goal.returns-in-Err-clause-held
+returns-in-Err-clause-held g c = tt
+
+pub returns-in-Err-clause-able : goal.returns-in-Err-clause-able
+returns-in-Err-clause-able g c = tt
+
+pub returns-in-Err-clause-counted : goal.returns-in-Err-clause-counted
+returns-in-Err-clause-counted g c = c.in-Err.ensures.counted
+
+pub returns-in-Err-clause-stands : goal.returns-in-Err-clause-stands
+returns-in-Err-clause-stands g c = c.in-Err.ensures.stands
+
+pub returns-in-Err-clause-started : goal.returns-in-Err-clause-started
+returns-in-Err-clause-started g c = c.in-Err.ensures.started
+
+pub returns-in-Err-clause-frames : goal.returns-in-Err-clause-frames
+returns-in-Err-clause-frames g c = c.in-Err.ensures.frames ∙ (c.stretch.ensures.frames ∙ c.loop-running.invariant.frames)
+
+pub returns-in-Err-clause-later : goal.returns-in-Err-clause-later
+returns-in-Err-clause-later g c = c.loop-running.invariant.later
+
+pub returns-in-Err-clause-cause : goal.returns-in-Err-clause-cause
+returns-in-Err-clause-cause g c = tt
+
+pub returns-in-Err-put_seen-clause-reached : goal.returns-in-Err-put_seen-clause-reached
+returns-in-Err-put_seen-clause-reached g c = tt
+
+pub returns-in-Err-put_seen-clause-ready : goal.returns-in-Err-put_seen-clause-ready
+returns-in-Err-put_seen-clause-ready g c = tt
+
+pub returns-in-Err-put_seen-clause-held : goal.returns-in-Err-put_seen-clause-held
+returns-in-Err-put_seen-clause-held g c = tt
+
+pub returns-in-Err-put_seen-clause-able : goal.returns-in-Err-put_seen-clause-able
+returns-in-Err-put_seen-clause-able g c = tt
+
+pub returns-in-Err-put_seen-clause-counted : goal.returns-in-Err-put_seen-clause-counted
+returns-in-Err-put_seen-clause-counted g c = tt
+
+pub returns-in-Err-put_seen-clause-stands : goal.returns-in-Err-put_seen-clause-stands
+returns-in-Err-put_seen-clause-stands g c = tt
+
+pub returns-in-Err-put_seen-clause-few : goal.returns-in-Err-put_seen-clause-few
+returns-in-Err-put_seen-clause-few g c = tt
+
+pub returns-in-Err-put_seen-clause-pool : goal.returns-in-Err-put_seen-clause-pool
+returns-in-Err-put_seen-clause-pool g c = tt
+
+pub returns-in-Err-put_seen-clause-started : goal.returns-in-Err-put_seen-clause-started
+returns-in-Err-put_seen-clause-started g c = c.in-Ok.ensures.started
+
+pub returns-in-Err-put_seen-clause-frames : goal.returns-in-Err-put_seen-clause-frames
+returns-in-Err-put_seen-clause-frames g c = c.in-Ok.ensures.frames ∙ (c.stretch.ensures.frames ∙ c.loop-running.invariant.frames)
+
+pub returns-in-Err-put_seen-clause-later : goal.returns-in-Err-put_seen-clause-later
+returns-in-Err-put_seen-clause-later g c = let a = c.loop-running.invariant.later in let b = c.in-Err-put_seen.ensures.later in omega (arith, a, b)
+
+pub returns-in-Err-put_seen-clause-cause : goal.returns-in-Err-put_seen-clause-cause
+returns-in-Err-put_seen-clause-cause g c = let a = c.loop-running.invariant.later in let b = c.in-Err-put_seen.ensures.cause in omega (arith, a, b)
+
+pub returns-clause-wants : goal.returns-clause-wants
+returns-clause-wants g c = c.loop-running.invariant.wants
+
+pub returns-clause-silent : goal.returns-clause-silent
+returns-clause-silent g c = c.loop-running.invariant.silent
+
+pub returns-clause-reached : goal.returns-clause-reached
+returns-clause-reached g c = let a = c.loop-running.invariant.bound in let b = c.loop-running-test.false in omega (arith, a, b)
+
+pub returns-clause-ready : goal.returns-clause-ready
+returns-clause-ready g c = c.loop-running.invariant.ready
+
+pub returns-clause-held : goal.returns-clause-held
+returns-clause-held g c = c.loop-running.invariant.held
+
+pub returns-clause-able : goal.returns-clause-able
+returns-clause-able g c = c.loop-running.invariant.able
+
+pub returns-clause-counted : goal.returns-clause-counted
+returns-clause-counted g c = c.loop-running.invariant.held.counted
+
+pub returns-clause-stands : goal.returns-clause-stands
+returns-clause-stands g c = c.loop-running.invariant.held.stand
+
+pub returns-clause-filled : goal.returns-clause-filled
+returns-clause-filled g c = c.loop-running.invariant.filled
+
+pub returns-clause-pool : goal.returns-clause-pool
+returns-clause-pool g c = c.loop-running.invariant.pool
+
+pub returns-clause-started : goal.returns-clause-started
+returns-clause-started g c = c.loop-running.invariant.started
+
+pub returns-clause-frames : goal.returns-clause-frames
+returns-clause-frames g c = c.loop-running.invariant.frames
+
+pub returns-clause-later : goal.returns-clause-later
+returns-clause-later g c = c.loop-running.invariant.later
+
+pub returns-clause-cause : goal.returns-clause-cause
+returns-clause-cause g c = tt
+
+pub stretch-requires-clause-started : goal.stretch-requires-clause-started
+stretch-requires-clause-started g c = c.loop-running.invariant.started
+
+pub stretch-requires-clause-able : goal.stretch-requires-clause-able
+stretch-requires-clause-able g c = c.loop-running.invariant.able
+
+pub stretch-requires-clause-script : goal.stretch-requires-clause-script
+stretch-requires-clause-script g c = c.requires.script
+
+pub stretch-requires-clause-begun : goal.stretch-requires-clause-begun
+stretch-requires-clause-begun g c = c.loop-running.invariant.bound
+
+pub stretch-requires-clause-bound : goal.stretch-requires-clause-bound
+stretch-requires-clause-bound g c = c.requires.bound
+
+pub stretch-requires-clause-room : goal.stretch-requires-clause-room
+stretch-requires-clause-room g c = c.loop-running.invariant.room
+
+pub one_step-requires-clause-started : goal.one_step-requires-clause-started
+one_step-requires-clause-started g c = c.stretch.ensures.started
+
+pub one_step-requires-clause-able : goal.one_step-requires-clause-able
+one_step-requires-clause-able g c = c.stretch.ensures.able
+
+pub one_step-requires-clause-bound : goal.one_step-requires-clause-bound
+one_step-requires-clause-bound g c = let n = c.stretch.ensures.count in let z = c.if-stretch-gt0.false in let t = c.loop-running-test.true in let b = c.requires.bound in omega (arith, n, z, t, b)
+
+pub one_step-requires-clause-room : goal.one_step-requires-clause-room
+one_step-requires-clause-room g c = let r = c.loop-running.invariant.room in let t = c.loop-running-test.true in let e = c.stretch.ensures.retired in let z = c.if-stretch-gt0.false in omega (arith, r, t, e, z)

@@ -5,7 +5,7 @@ use Rattle.wedge_step.proofs.CarriedStep.{went_on}
 use Rattle.descriptors.specs.declared.cpu.Cpu.{Cpu}
 use Rattle.descriptors.specs.Controls.{wp_of}
 use Rattle.frame_pool.specs.Pool.{base_of}
-use Rattle.paging.specs.Space.{Mode, Wedge, Space}
+use Rattle.paging.specs.Space.{Mode, Wedge, no_own, Space}
 use Rattle.shadow_tables.specs.Entries.{entries_of}
 use Rattle.step_mem.specs.Changes.{AreWithin, changed}
 use Rattle.step_mem.specs.Shown as laying
@@ -52,8 +52,8 @@ returns-in-Err-clause-step g c = λ script.
     let held = c.requires.held in
     let m = wedge image script n in
     let b = state_of g.S.Shadows.stands g.S.Shadows.frames g.S.Shadows.slots m running ram0 in
-    let mode : Mode = Wedge o.result.first o.result.count (record { front = 0; front_len = 0; back = 0; back_len = 0 }) in
-    let mode_is : wedge_mode image ≡ mode = λ i. Wedge (sym o.ensures.first i) (sym o.ensures.count i) (record { front = 0; front_len = 0; back = 0; back_len = 0 }) in
+    let mode : Mode = Wedge o.result.first o.result.count no_own in
+    let mode_is : wedge_mode image ≡ mode = λ i. Wedge (sym o.ensures.first i) (sym o.ensures.count i) no_own in
     let laid = shown_is m o.result.bytes.now o.result.first ram0 o.ensures.bytes o.ensures.first in
     let start = began m b mode (space_at (λ r. entries_of (g.S.Shadows.slots running.shadows r)) ram0 c.begin-state.result) mode_is (laying.laid o.result.bytes.now o.result.first n ram0) laid c.begin-state.ensures.space in
     let raw = rw c.in-Err.is at (c.step_in-outcome.ensures.step m b (record { has = refl; over = refl })) in
@@ -170,8 +170,8 @@ module _ (g : Over) (c : goal.After-worked-1 g) where
         let o = c.original in
         let m1 = wedge im script k in
         let b1 = state_of g.S.Shadows.stands g.S.Shadows.frames g.S.Shadows.slots m1 r old in
-        let mode : Mode = Wedge o.result.first o.result.count (record { front = 0; front_len = 0; back = 0; back_len = 0 }) in
-        let mode_is : wedge_mode im ≡ mode = λ i. Wedge (sym o.ensures.first i) (sym o.ensures.count i) (record { front = 0; front_len = 0; back = 0; back_len = 0 }) in
+        let mode : Mode = Wedge o.result.first o.result.count no_own in
+        let mode_is : wedge_mode im ≡ mode = λ i. Wedge (sym o.ensures.first i) (sym o.ensures.count i) no_own in
         let laid = shown_is m1 o.result.bytes.now o.result.first old o.ensures.bytes o.ensures.first in
         let start = began m1 b1 mode (space_at (λ x. entries_of (g.S.Shadows.slots r.shadows x)) old c.begin-state.result) mode_is (laying.laid o.result.bytes.now o.result.first k old) laid c.begin-state.ensures.space in
         let raw = rw c.in-Ok.is at (c.step_in-outcome.ensures.step m1 b1 (record { has = refl; over = refl })) in
@@ -291,7 +291,7 @@ returns-in-Ok-clause-carried g c = λ script steps t unwanted free roomy taken b
     let o = c.original in
     let last = s1 g d script in
     let begun = space_at (λ r. entries_of (g.S.Shadows.slots (running g d).shadows r)) (ram0 g d) c.begin-state.result in
-    let mode_is : wedge_mode (image g d) ≡ Wedge o.result.first o.result.count (record { front = 0; front_len = 0; back = 0; back_len = 0 }) = λ i. Wedge (sym o.ensures.first i) (sym o.ensures.count i) (record { front = 0; front_len = 0; back = 0; back_len = 0 }) in
+    let mode_is : wedge_mode (image g d) ≡ Wedge o.result.first o.result.count no_own = λ i. Wedge (sym o.ensures.first i) (sym o.ensures.count i) no_own in
     let widens : Widens g.S.Shadows.stands g.S.Shadows.frames g.S.Shadows.asides g.S.Shadows.opened = record { same_asides = g.met.S.Shadows.same_asides; same_opened = g.met.S.Shadows.same_opened; wider = g.met.S.Shadows.wider; sized = g.met.S.Reloads.sized } in
     let sound = c.step_in-outcome.ensures.sound in
     let pages = sound.noted in

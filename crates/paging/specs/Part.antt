@@ -1,4 +1,4 @@
--- A set that has nothing but what another has.
+-- A set of translations that has nothing but what another has.
 use Rattle.std.specs.Prelude.{◌≡◌, ℕ, Some}
 use Rattle.std.specs.FinMap.{FinMap, get}
 use Rattle.std.specs.Ordering.{nat_cmp}
