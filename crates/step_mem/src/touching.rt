@@ -191,14 +191,7 @@ pub fn touch<B: Kept>(
 }
 
 /// A range whose pages were translated is ready, and what it is to write is noted.
-fn make_ready<B: Kept>(
-    ram: &Ram,
-    base: &B,
-    state: &mut StepState,
-    at: u32,
-    len: u32,
-    write: bool,
-)
+fn make_ready<B: Kept>(ram: &Ram, base: &B, state: &mut StepState, at: u32, len: u32, write: bool)
     requires sound { IsSound (B.entries base.now) (B.floor base.now) (B.stands base.now) ram.now state.old }
     requires room { length state.old.wrote + 2 ≤ 2 * state.old.pages }
     requires some { 1 ≤ len }
