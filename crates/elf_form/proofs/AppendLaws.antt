@@ -5,11 +5,11 @@ use Rattle.std.proofs.lemmas.List.{append-nil}
 pub joined : (old mid new a b : List ℕ) → mid ≡ old ++ a → new ≡ mid ++ b → new ≡ old ++ (a ++ b)
 joined old mid new a b first second = second ∙ ap (λ (x : List ℕ). x ++ b) first ∙ append_assoc old a b
 
-pub chain_five : (o a b c d e : List ℕ) → ((((o ++ a) ++ b) ++ c) ++ d) ++ e ≡ o ++ (a ++ (b ++ (c ++ (d ++ e))))
-chain_five o a b c d e = simp append_assoc
+pub chain_tables : (o a b c d e f : List ℕ) → ((((o ++ a) ++ b) ++ c) ++ (d ++ e)) ++ f ≡ o ++ (a ++ (b ++ (c ++ (d ++ (e ++ f)))))
+chain_tables o a b c d e f = simp append_assoc
 
-pub chain_seven : (o a b c d e f g : List ℕ) → ((((((o ++ a) ++ b) ++ c) ++ d) ++ e) ++ f) ++ g ≡ o ++ (a ++ (b ++ (c ++ (d ++ (e ++ (f ++ g))))))
-chain_seven o a b c d e f g = simp append_assoc
+pub chain_body : (o a b c d e f : List ℕ) → (((o ++ (a ++ b)) ++ (c ++ d)) ++ e) ++ f ≡ o ++ (a ++ (b ++ (c ++ (d ++ (e ++ f)))))
+chain_body o a b c d e f = simp append_assoc
 
 -- an element moves from the rest to what was collected
 pub one_more : {A : Type 0} (out : List A) (x : A) (next left : List A) → left ≡ x ∷ next → (out ++ x ∷ []) ++ next ≡ out ++ left

@@ -6,7 +6,7 @@ ghost use Rattle.elf_form.specs.ImageLayout.{init_from, sites_from, names_from, 
 ghost use Rattle.elf_form.specs.Reading.{image_in};
 
 use crate::image::Image;
-use crate::output::{pad, put_halves, put_longs, put_zeros};
+use crate::output::{pad, put_halves, put_longs, put_padded, put_zeros};
 use std::alloc::{AllocError, Global};
 
 const IDENTITY: [u8; 16] = *b"\x7FELF\x01\x01\x01\0\0\0\0\0\0\0\0\0";
@@ -186,14 +186,10 @@ fn put_body(out: &mut Vec<u8>, image: &Image) -> Result<(), AllocError>
     requires { IsWritableImage image.now }
     ensures { OnOk result (out.new.items ≡ out.old.items ++ body image.now) }
 {
-    out.extend_from_slice(&image.text)?;
-    put_zeros(out, pad(4096, 4096 + image.text.len()))?;
-    out.extend_from_slice(&image.init)?;
-    put_zeros(out, pad(4, init_from(image) + image.init.len()))?;
+    put_padded(out, 4096, 4096, &image.text)?;
+    put_padded(out, 4, init_from(image), &image.init)?;
     out.extend_from_slice(&image.sites)?;
-    out.extend_from_slice(&NAMES)?;
-    put_zeros(out, pad(4, names_from(image) + NAMES.len()))?;
-    Ok(())
+    put_padded(out, 4, names_from(image), &NAMES)
 }
 
 /// The one layout of an image. A file of at most 33,554,432 bytes is read as the same image.

@@ -20,7 +20,7 @@ use crate::cause::{ElfCause, ElfFault};
 use crate::entries::{entries_of, relocs_fault};
 use crate::header::{cut, identified, lower, test};
 use crate::joining::{joined, starts};
-use crate::object::Object;
+use crate::object::{Object, Reloc};
 use crate::object_conditions::{object_form, object_sizes, string_places, strings_of, table_of};
 use crate::records::{Starts, numbers, put_relocs, symbols_in};
 use crate::roles::{Role, with_role};
@@ -109,6 +109,62 @@ fn sites_in(bytes: &[u8], found: Found) -> &[u8]
     }
 }
 
+/// The relocations of an object's text, and behind them those of its data.
+#[tactic(auto, unfolding(crate::specs::ObjectReading::object_at))]
+fn relocs_in(
+    alloc: Global,
+    starts: Starts,
+    bytes: &[u8],
+    kept: &Kept,
+) -> Result<Vec<Reloc>, AllocError>
+    requires whole { IsWhole bytes.now }
+    requires kept { AreKept bytes.now kept.now }
+    requires init { starts.init.now ≡ starts_of role.Init (names_in bytes.now) bytes.now 0 (sections bytes.now) }
+    requires bss { starts.bss.now ≡ starts_of role.Bss (names_in bytes.now) bytes.now 0 (sections bytes.now) }
+    ensures { IfOk result (λ v. v.items ≡ (object_at bytes.now).relocs) }
+{
+    let names = names(bytes);
+    let numbers = numbers(alloc, table_of(bytes), names, bytes)?;
+    let mut relocs = Vec::new(alloc);
+    put_relocs(&mut relocs, starts, &numbers, names, bytes, &kept.text)?;
+    put_relocs(&mut relocs, starts, &numbers, names, bytes, &kept.init)?;
+    Ok(relocs)
+}
+
+/// The object whose joined sections begin at `starts`, with `bss` zeroed bytes.
+#[tactic(auto, unfolding(crate::specs::ObjectReading::object_at))]
+fn object_with(
+    alloc: Global,
+    starts: Starts,
+    bss: u32,
+    bytes: &[u8],
+    kept: &Kept,
+) -> Result<Object, AllocError>
+    requires whole { IsWhole bytes.now }
+    requires kept { AreKept bytes.now kept.now }
+    requires init { starts.init.now ≡ starts_of role.Init (names_in bytes.now) bytes.now 0 (sections bytes.now) }
+    requires bss { starts.bss.now ≡ starts_of role.Bss (names_in bytes.now) bytes.now 0 (sections bytes.now) }
+    requires zeroed { bss ≡ (object_at bytes.now).bss }
+    ensures { IfOk result (λ o. o ≡ object_at bytes.now) }
+{
+    let names = names(bytes);
+    Ok(Object {
+        text: Vec::from_slice(alloc, text_in(bytes, with_role(Role::Text, names, bytes)))?,
+        init: joined(alloc, names, bytes)?,
+        bss,
+        sites: Vec::from_slice(alloc, sites_in(bytes, with_role(Role::Sites, names, bytes)))?,
+        symbols: symbols_in(
+            alloc,
+            starts,
+            table_of(bytes),
+            strings_of(bytes),
+            names,
+            bytes,
+        )?,
+        relocs: relocs_in(alloc, starts, bytes, kept)?,
+    })
+}
+
 #[tactic(auto, unfolding(crate::specs::ObjectReading::object_at))]
 fn object_at(alloc: Global, bytes: &[u8], kept: &Kept) -> Result<Object, AllocError>
     requires whole { IsWhole bytes.now }
@@ -116,25 +172,14 @@ fn object_at(alloc: Global, bytes: &[u8], kept: &Kept) -> Result<Object, AllocEr
     ensures { IfOk result (λ o. o ≡ object_at bytes.now) }
 {
     let names = names(bytes);
-    let table = table_of(bytes);
     let (init, _end) = starts(alloc, Role::Init, names, bytes)?;
     let (bss, bss_end) = starts(alloc, Role::Bss, names, bytes)?;
     let starts = Starts {
         init: &init,
         bss: &bss,
     };
-    let numbers = numbers(alloc, table, names, bytes)?;
-    let mut relocs = Vec::new(alloc);
-    put_relocs(&mut relocs, starts, &numbers, names, bytes, &kept.text)?;
-    put_relocs(&mut relocs, starts, &numbers, names, bytes, &kept.init)?;
-    Ok(Object {
-        text: Vec::from_slice(alloc, text_in(bytes, with_role(Role::Text, names, bytes)))?,
-        init: joined(alloc, names, bytes)?,
-        bss: (bss_end % 0x1_0000_0000) as u32,
-        sites: Vec::from_slice(alloc, sites_in(bytes, with_role(Role::Sites, names, bytes)))?,
-        symbols: symbols_in(alloc, starts, table, strings_of(bytes), names, bytes)?,
-        relocs,
-    })
+    let zeroed = (bss_end % 0x1_0000_0000) as u32;
+    object_with(alloc, starts, zeroed, bytes, kept)
 }
 
 #[tactic(auto, unfolding(crate::specs::Faults::tested, crate::specs::ObjectReading::wrong_object))]

@@ -8,7 +8,7 @@ ghost use Rattle.elf_form.specs.ObjectLayout.{next, layout as layout_of, names_o
 ghost use Rattle.elf_form.specs.ObjectReading.{object_in};
 
 use crate::object::{DefinedIn, Object, Reloc, Symbol, bytes_of};
-use crate::output::{pad, put_halves, put_longs, put_zeros};
+use crate::output::{pad, put_halves, put_longs, put_padded, put_zeros};
 use crate::strings::{Places, strings};
 use std::alloc::{AllocError, Global};
 
@@ -198,13 +198,9 @@ fn put_parts(out: &mut Vec<u8>, object: &Object, layout: &Layout) -> Result<(), 
     requires layout { layout.now ≡ layout_of object.now }
     ensures { OnOk result (out.new.items ≡ out.old.items ++ object_parts object.now) }
 {
-    out.extend_from_slice(&object.text)?;
-    put_zeros(out, pad(4, 52 + object.text.len()))?;
-    out.extend_from_slice(&object.init)?;
-    put_zeros(out, pad(4, layout.init as usize + object.init.len()))?;
-    out.extend_from_slice(&object.sites)?;
-    put_zeros(out, pad(4, layout.sites as usize + object.sites.len()))?;
-    Ok(())
+    put_padded(out, 4, 52, &object.text)?;
+    put_padded(out, 4, layout.init as usize, &object.init)?;
+    put_padded(out, 4, layout.sites as usize, &object.sites)
 }
 
 #[tactic(auto, unfolding(crate::specs::ObjectLayout::object_tables, crate::specs::ObjectLayout::symbol_table))]
@@ -225,11 +221,8 @@ fn put_tables(
     put_relocs(out, &object.relocs, true)?;
     put_relocs(out, &object.relocs, false)?;
     put_symbols(out, places, &object.symbols)?;
-    out.extend_from_slice(strings)?;
-    put_zeros(out, pad(4, layout.strings as usize + strings.len()))?;
-    out.extend_from_slice(&NAMES)?;
-    put_zeros(out, pad(4, layout.names as usize + NAMES.len()))?;
-    Ok(())
+    put_padded(out, 4, layout.strings as usize, strings)?;
+    put_padded(out, 4, layout.names as usize, &NAMES)
 }
 
 /// The number of the first global symbol in the symbol table.
@@ -260,12 +253,16 @@ fn put_part_sections(
 {
     let (text, init) = (lengths.text as u32, lengths.init as u32);
     let sites = lengths.sites as u32;
-    put_longs(out, &[0; 10])?;
-    put_longs(out, &[1, 1, 6, 0, 52, text, 0, 0, 16, 0])?;
-    put_longs(out, &[7, 1, 3, 0, layout.init, init, 0, 0, 16, 0])?;
-    put_longs(out, &[13, 8, 3, 0, 0, object.bss, 0, 0, 16, 0])?;
-    put_longs(out, &[18, 1, 0, 0, layout.sites, sites, 0, 0, 4, 0])?;
-    Ok(())
+    let (init_at, sites_at) = (layout.init, layout.sites);
+    let bss = object.bss;
+    let numbers = [
+        0, 0, 0, 0, 0, 0, 0, 0, 0, 0, //
+        1, 1, 6, 0, 52, text, 0, 0, 16, 0, //
+        7, 1, 3, 0, init_at, init, 0, 0, 16, 0, //
+        13, 8, 3, 0, 0, bss, 0, 0, 16, 0, //
+        18, 1, 0, 0, sites_at, sites, 0, 0, 4, 0,
+    ];
+    put_longs(out, &numbers)
 }
 
 fn put_table_sections(
@@ -279,26 +276,24 @@ fn put_table_sections(
     requires layout { layout.now ≡ layout_of object.now }
     ensures { OnOk result (out.new.items ≡ out.old.items ++ longs (table_sections object.now)) }
 {
-    let text_relocs = 8 * lengths.text_relocs as u32;
-    let data_relocs = 8 * lengths.data_relocs as u32;
+    let text = 8 * lengths.text_relocs as u32;
+    let text_at = layout.text_relocs;
+    let data = 8 * lengths.data_relocs as u32;
+    let data_at = layout.data_relocs;
     let symbols = 16 * (lengths.symbols as u32 + 1);
+    let symbols_at = layout.symbols;
     let global = first_global(&object.symbols) as u32;
     let strings = lengths.strings as u32;
-    put_longs(
-        out,
-        &[28, 9, 0, 0, layout.text_relocs, text_relocs, 7, 1, 0, 8],
-    )?;
-    put_longs(
-        out,
-        &[38, 9, 0, 0, layout.data_relocs, data_relocs, 7, 2, 0, 8],
-    )?;
-    put_longs(
-        out,
-        &[48, 2, 0, 0, layout.symbols, symbols, 8, global, 0, 16],
-    )?;
-    put_longs(out, &[56, 3, 0, 0, layout.strings, strings, 0, 0, 0, 0])?;
-    put_longs(out, &[64, 3, 0, 0, layout.names, 74, 0, 0, 0, 0])?;
-    Ok(())
+    let strings_at = layout.strings;
+    let names_at = layout.names;
+    let numbers = [
+        28, 9, 0, 0, text_at, text, 7, 1, 0, 8, //
+        38, 9, 0, 0, data_at, data, 7, 2, 0, 8, //
+        48, 2, 0, 0, symbols_at, symbols, 8, global, 0, 16, //
+        56, 3, 0, 0, strings_at, strings, 0, 0, 0, 0, //
+        64, 3, 0, 0, names_at, 74, 0, 0, 0, 0,
+    ];
+    put_longs(out, &numbers)
 }
 
 /// The one layout of an object. The file of a whole object, where it has at most 33,554,432

@@ -1,6 +1,6 @@
 //! What files are written of: numbers, the lowest byte first, and zero bytes.
 
-ghost use Rattle.std.specs.Prelude.{◌≡◌, ◌≤◌, ◌<◌, ◌++◌, length, replicate, OnOk};
+ghost use Rattle.std.specs.Prelude.{◌≡◌, ◌≤◌, ◌<◌, ◌+◌, ◌^◌, ◌++◌, length, replicate, OnOk};
 ghost use Rattle.elf_form.specs.Output.{halves, longs, pad};
 
 use std::alloc::AllocError;
@@ -33,6 +33,16 @@ pub fn put_zeros(out: &mut Vec<u8>, count: usize) -> Result<(), AllocError>
         out.push(0)?;
     }
     Ok(())
+}
+
+/// Adds a part that begins at `from`, and zero bytes up to the next multiple of `k`.
+pub fn put_padded(out: &mut Vec<u8>, k: usize, from: usize, part: &[u8]) -> Result<(), AllocError>
+    requires size { 1 ≤ k }
+    requires from { from < 2 ^ 32 }
+    ensures { OnOk result (out.new.items ≡ out.old.items ++ (part.now ++ replicate (pad k (from + length part.now)) 0)) }
+{
+    out.extend_from_slice(part)?;
+    put_zeros(out, pad(k, from + part.len()))
 }
 
 /// How many bytes lead from `n` to the next multiple of `k`.

@@ -11,7 +11,7 @@ ghost use Rattle.elf_link.specs.Symbols.{globals as globals_of};
 ghost use Rattle.elf_form.specs.Linkable.{IsLinkable};
 ghost use Rattle.elf_link.specs.Relocations.{reloc_cause, with_fields};
 ghost use Rattle.elf_form.specs.Tables.{first_some};
-ghost use Rattle.elf_link.specs.Refusals.{refused, start, relocs_refusal};
+ghost use Rattle.elf_link.specs.Refusals.{refused, start, object_refusal, relocs_refusal};
 ghost use Rattle.elf_link.specs.Steps.{IsWithin, AreBelow, totals, entered, tested};
 ghost use Rattle.elf_link.specs.Linked.{padded, linked_text, linked_init, entry_at, image, linked_image, file_of};
 ghost use Rattle.elf_link.specs.Answers.{Gives};
@@ -147,6 +147,33 @@ fn placed(
     })
 }
 
+/// The image of objects that were gathered, or the first cause by which the rest refuses them.
+fn linked_by(
+    alloc: Global,
+    objects: &Vec<Object>,
+    plan: &Plan,
+    sites: Vec<Site>,
+) -> Result<Image, LinkFault>
+    requires few { length objects.now.items ≤ 64 }
+    requires linkable { All IsLinkable objects.now.items }
+    requires gathered { tested (first_some (object_refusal objects.now.items) (numbered objects.now.items)) ≡ Ok tt }
+    requires within { IsWithin (totals objects.now.items) }
+    requires fits { text_end objects.now.items + 2 ≤ TEXT_LIMIT }
+    requires plan { IsPlan objects.now.items plan.now }
+    requires sites { sites.items ≡ linked_sites objects.now.items }
+    requires below { AreBelow (text_end objects.now.items) sites.items }
+    requires count { length sites.items ≤ 262144 }
+    requires gaps { SHORT_TEXT < text_end objects.now.items + 2 → AreGapped 0 sites.items }
+    ensures exact { Gives (λ image. image) result (linked_image objects.now.items) }
+    ensures laid_out { IfOk result (λ image. IsLaidOut image) }
+    ensures writable { IfOk result (λ image. IsWritableImage image) }
+    ensures longs { IfOk result (λ image. HasLongs image) }
+{
+    relocs_tested(alloc, objects, &plan.globals)?;
+    let entry = entered(plan)?;
+    Ok(placed(alloc, objects, plan, sites, entry)?)
+}
+
 /// The image that objects make, or the first cause by which they are refused.
 pub fn linked(alloc: Global, objects: &Vec<Object>) -> Result<Image, LinkFault>
     requires few { length objects.now.items ≤ 64 }
@@ -162,9 +189,7 @@ pub fn linked(alloc: Global, objects: &Vec<Object>) -> Result<Image, LinkFault>
         bases: bases(alloc, objects)?,
         globals: all.globals,
     };
-    relocs_tested(alloc, objects, &plan.globals)?;
-    let entry = entered(&plan)?;
-    Ok(placed(alloc, objects, &plan, all.sites, entry)?)
+    linked_by(alloc, objects, &plan, all.sites)
 }
 
 /// The file of the image that objects make, or the first cause by which they are refused.

@@ -2,8 +2,8 @@
 
 ghost use Rattle.std.specs.Prelude.{◌≡◌, ◌≢◌, ℕ, ◌+◌, ◌*◌, ◌/◌, ◌%◌, ◌≤◌, ◌<◌, ◌^◌, length, ◌++◌, IsSome, false, true};
 ghost use Rattle.std.specs.FinMap.{get};
-ghost use Rattle.paging.specs.Space.{Readied, earlier_of, frame_by, frames_of};
-ghost use Rattle.paging.specs.Uses.{unready, page_uses, second_page, uses, fetches};
+ghost use Rattle.paging.specs.Space.{Readied, IsReach, earlier_of, frame_by, frames_of};
+ghost use Rattle.paging.specs.Uses.{unready, page_uses, second_page, made_ready, by_pages, uses, fetches};
 ghost use Rattle.step_mem.specs.Changes.{changed};
 ghost use Rattle.step_mem.specs.Guard.{mode_of, IsApart};
 ghost use Rattle.step_mem.specs.Shown.{hidden};
@@ -121,6 +121,42 @@ fn second_page<B: Kept>(
     one_page(ram, base, state, false, last, last * 4096, access)
 }
 
+/// Translates the pages of a range that lies in the address space, while nothing is ready.
+fn touch_pages<B: Kept>(
+    ram: &mut Ram,
+    base: &B,
+    state: &mut StepState,
+    at: u32,
+    len: u32,
+    access: Access,
+) -> Touch
+    requires sound { IsSound (B.entries base.now) (B.floor base.now) (B.stands base.now) ram.old state.old }
+    requires room { state.old.pages ≤ 62 }
+    requires some { 1 ≤ len }
+    requires short { len ≤ 32 }
+    requires fits { at + len ≤ 2 ^ 32 }
+    requires unready { state.old.ready.len ≡ 0 }
+    ensures sound { IsSound (B.entries base.now) (B.floor base.now) (B.stands base.now) ram.new state.new }
+    ensures uses { by_pages at len access (space_at (B.entries base.now) ram.old state.old) ≡ (result, space_at (B.entries base.now) ram.new state.new) }
+    ensures pages { state.new.pages ≤ state.old.pages + 2 }
+    ensures control { state.new.control ≡ state.old.control }
+    ensures hidden { hidden state.old.guard state.old.control.frames ram.new ≡ hidden state.old.guard state.old.control.frames ram.old }
+    ensures guard { state.new.guard ≡ state.old.guard }
+    ensures ready { Readied (space_at (B.entries base.now) ram.new state.new) at len access.write result }
+    ensures earlier { (space_at (B.entries base.now) ram.new state.new).earlier ≡ (space_at (B.entries base.now) ram.old state.old).earlier }
+{
+    match one_page(ram, base, state, false, at / 4096, at, access) {
+        Touch::Ready => {}
+        met => return met,
+    }
+    match second_page(ram, base, state, at, len, access) {
+        Touch::Ready => {}
+        met => return met,
+    }
+    make_ready(ram, base, state, at, len, access.write);
+    Touch::Ready
+}
+
 /// Translates a range.
 #[tactic(auto, unfolding(paging::specs::Uses::uses))]
 pub fn touch<B: Kept>(
@@ -151,23 +187,34 @@ pub fn touch<B: Kept>(
     if let Some(stop) = window_stop(&state.guard, access, at) {
         return Touch::Stop(stop);
     }
-    match one_page(ram, base, state, false, at / 4096, at, access) {
-        Touch::Ready => {}
-        met => return met,
-    }
-    match second_page(ram, base, state, at, len, access) {
-        Touch::Ready => {}
-        met => return met,
-    }
-    if access.write {
+    touch_pages(ram, base, state, at, len, access)
+}
+
+/// A range whose pages were translated is ready, and what it is to write is noted.
+fn make_ready<B: Kept>(ram: &Ram, base: &B, state: &mut StepState, at: u32, len: u32, write: bool)
+    requires sound { IsSound (B.entries base.now) (B.floor base.now) (B.stands base.now) ram.now state.old }
+    requires room { length state.old.wrote + 2 ≤ 2 * state.old.pages }
+    requires some { 1 ≤ len }
+    requires short { len ≤ 32 }
+    requires fits { at + len ≤ 2 ^ 32 }
+    requires found { (byte : ℕ) → at ≤ byte → byte < at + len → IsSome (get (space_at (B.entries base.now) ram.now state.old).set (byte / 4096)) }
+    requires apart { (byte : ℕ) → at ≤ byte → byte < at + len → IsApart (mode_of state.old.guard) (get (space_at (B.entries base.now) ram.now state.old).set (byte / 4096)) }
+    ensures sound { IsSound (B.entries base.now) (B.floor base.now) (B.stands base.now) ram.now state.new }
+    ensures made { made_ready at len write (space_at (B.entries base.now) ram.now state.old) ≡ (Touch.Ready, space_at (B.entries base.now) ram.now state.new) }
+    ensures pages { state.new.pages ≡ state.old.pages }
+    ensures control { state.new.control ≡ state.old.control }
+    ensures guard { state.new.guard ≡ state.old.guard }
+    ensures ready { IsReach (space_at (B.entries base.now) ram.now state.new) at len write }
+    ensures earlier { (space_at (B.entries base.now) ram.now state.new).earlier ≡ (space_at (B.entries base.now) ram.now state.old).earlier }
+{
+    if write {
         note_written(ram, base, state, at, len);
     }
     state.ready = Reach {
         start: at,
         len,
-        write: access.write,
+        write,
     };
-    Touch::Ready
 }
 
 /// Notes the frames of a range that is ready for a write.

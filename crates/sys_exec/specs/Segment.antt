@@ -56,6 +56,11 @@ data_tests cpl sel d = do
   _ ← ends_if (protection sel) (nat_lt (dpl_of d) cpl || nat_lt (dpl_of d) (sel % 4))
   ends_if (absent 11 sel) (not (is_present d))
 
+abbrev pub data_loading : ℕ → ℕ → ℕ → Descriptor → Work Refusal Loading
+data_loading cpl sel high d = do
+  _ ← data_tests cpl sel d
+  gives (loading sel high d)
+
 unfoldable pub find_data : Cpu → ℕ → Work Refusal Loading
 find_data cpu sel = do
   pair ← selected cpu form_stop sel
@@ -80,6 +85,11 @@ stack_tests cpl sel d = do
   _ ← ends_if (protection sel) (not (sel % 4 == cpl) || (is_code d || not (dpl_of d == cpl)))
   ends_if (absent 12 sel) (not (is_present d))
 
+abbrev pub stack_loading : ℕ → ℕ → ℕ → Descriptor → Work Refusal Loading
+stack_loading cpl sel high d = do
+  _ ← stack_tests cpl sel d
+  gives (loading sel high d)
+
 unfoldable pub find_stack : Cpu → ℕ → ℕ → Work Refusal Loading
 find_stack cpu cpl sel = do
   _ ← ends_if protection_0 (nat_lt sel 4)
@@ -95,6 +105,11 @@ return_tests cpl sel d = do
   _ ← ends_if (protection sel) (is_data d || (nat_lt (sel % 4) cpl || not (dpl_of d == sel % 4)))
   ends_if (absent 11 sel) (not (is_present d))
 
+abbrev pub return_loading : ℕ → ℕ → ℕ → Descriptor → Work Refusal Loading
+return_loading cpl sel high d = do
+  _ ← return_tests cpl sel d
+  gives (loading sel high d)
+
 unfoldable pub find_return : Cpu → ℕ → Work Refusal Loading
 find_return cpu sel = do
   _ ← ends_if protection_0 (nat_lt sel 4)
@@ -108,6 +123,11 @@ jump_tests cpl sel d = do
   _ ← ends_if form_stop (is_of_system d || is_foreign_form d)
   _ ← ends_if (protection sel) (is_data d || (nat_lt cpl (sel % 4) || not (dpl_of d == cpl)))
   ends_if (absent 11 sel) (not (is_present d))
+
+abbrev pub jump_loading : ℕ → ℕ → ℕ → Descriptor → Work Refusal Loading
+jump_loading cpl sel high d = do
+  _ ← jump_tests cpl sel d
+  gives (loading (sel / 4 * 4 + cpl % 4) high d)
 
 unfoldable pub find_jump : Cpu → ℕ → Work Refusal Loading
 find_jump cpu sel = do

@@ -81,8 +81,6 @@ pub fn call_to<M: GuestMem>(
             let target = call_through(a, len, cpu, mem)?;
             Ok(next(gone_to(&past_push(cpu, len), target)))
         }
-        Operand::Absent => Err(UNSUPPORTED),
-        Operand::Segment(_) => Err(UNSUPPORTED),
-        Operand::Control(_) => Err(UNSUPPORTED),
+        _ => Err(UNSUPPORTED),
     }
 }

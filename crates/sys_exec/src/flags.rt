@@ -45,10 +45,9 @@ pub fn set_interrupts(len: u8, cpu: &Cpu) -> Result<SysOutcome, Refusal>
     }
     let flags = cpu.regs.flags.with_bit(9, true);
     let held = cpu.held || !cpu.regs.flags.bit(9);
-    Ok(next(Cpu {
-        held,
-        ..with_flags(past(cpu, len), flags)
-    }))
+    let mut after = with_flags(past(cpu, len), flags);
+    after.held = held;
+    Ok(next(after))
 }
 
 /// HLT.
@@ -60,13 +59,10 @@ pub fn halt(len: u8, cpu: &Cpu) -> Result<SysOutcome, Refusal>
     if cpu.cpl != 0 {
         return Err(PROTECTION_0);
     }
-    Ok(SysOutcome {
-        cpu: Cpu {
-            halted: true,
-            ..past(cpu, len)
-        },
-        effect: SysEffect::Halted,
-    })
+    let mut cpu = past(cpu, len);
+    cpu.halted = true;
+    let effect = SysEffect::Halted;
+    Ok(SysOutcome { cpu, effect })
 }
 
 /// PUSHF.

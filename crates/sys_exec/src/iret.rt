@@ -8,7 +8,7 @@ use crate::effect::{Loading, Refusal};
 use crate::segment::{find_return, find_stack, mark_loaded};
 use descriptors::{Cpu, Hidden, by_level, reach};
 use ia32_exec::{is_foreign, taken};
-use ia32_types::{Flags, Regs, Size, Stop};
+use ia32_types::{Flags, Size, Stop};
 use paging::GuestMem;
 
 /// What IRET pops.
@@ -109,18 +109,13 @@ pub fn new_flags(cpu: &Cpu, image: u32) -> Flags
 fn returned(cpu: &Cpu, p: &Popped, top: u32, cpl: u8, seg: [Hidden; 4]) -> Cpu
     ensures { result ≡ returned cpu.now p.now top cpl seg }
 {
-    let mut r = cpu.regs.r;
-    r[4] = top;
-    Cpu {
-        regs: Regs {
-            r,
-            eip: p.eip,
-            flags: new_flags(cpu, p.flags),
-        },
-        cpl,
-        seg,
-        ..*cpu
-    }
+    let mut after = *cpu;
+    after.regs.r[4] = top;
+    after.regs.eip = p.eip;
+    after.regs.flags = new_flags(cpu, p.flags);
+    after.cpl = cpl;
+    after.seg = seg;
+    after
 }
 
 fn kept_segment(cpl: u8, hidden: Hidden) -> Hidden

@@ -1,8 +1,9 @@
 //! Segment registers moved, pushed and popped, and far jumps.
 
 ghost use Rattle.std.specs.Prelude.{◌≡◌, ◌+◌, ◌*◌, ◌%◌, ◌≤◌, ◌<◌, ◌^◌};
+ghost use Rattle.ia32_types.specs.declared.register.Seg.TheVariants.{Ss};
 ghost use Rattle.paging.specs.Work.{Gives};
-ghost use Rattle.sys_exec.specs.Move.{selector_kept, read_seg, load_by, load_seg, push_seg, pop_seg, far_jump};
+ghost use Rattle.sys_exec.specs.Move.{selector_kept, read_seg, data_loaded, load_by, load_seg, push_seg, pop_seg, far_jump};
 ghost use Rattle.sys_exec.specs.Asked.{GivesAsked};
 
 use crate::effect::{Refusal, SysOutcome};
@@ -38,9 +39,7 @@ fn keep_selector<M: GuestMem>(
             mem.save(address_of(*a, &cpu.regs), Size::Word, u32::from(sel));
             Ok(next(past(cpu, len)))
         }
-        Operand::Absent => Err(UNSUPPORTED),
-        Operand::Segment(_) => Err(UNSUPPORTED),
-        Operand::Control(_) => Err(UNSUPPORTED),
+        _ => Err(UNSUPPORTED),
     }
 }
 
@@ -60,11 +59,51 @@ pub fn read_seg<M: GuestMem>(
 {
     match insn.b {
         Operand::Segment(seg) => keep_selector(len, cpu, mem, selector_in(cpu, seg), &insn.a),
-        Operand::Absent => Err(UNSUPPORTED),
-        Operand::Register(_) => Err(UNSUPPORTED),
-        Operand::Memory(_) => Err(UNSUPPORTED),
-        Operand::Control(_) => Err(UNSUPPORTED),
+        _ => Err(UNSUPPORTED),
     }
+}
+
+/// Loads SS of what is otherwise the processor afterwards. Interrupts are then held off.
+#[tactic(auto, unfolding(crate::specs::Move::load_by))]
+fn load_stack<M: GuestMem>(
+    after: Cpu,
+    cpu: &Cpu,
+    mem: &mut M,
+    sel: u16,
+) -> Result<SysOutcome, Refusal>
+    requires { (M.space mem.old).pages ≤ 58 }
+    ensures gives { Gives result (M.space mem.new) (load_by after cpu.now sel Ss (M.space mem.old)) }
+    ensures pages { (M.space mem.new).pages ≤ (M.space mem.old).pages + 4 }
+    ensures frame { M.frame mem.new ≡ M.frame mem.old }
+    ensures asked { GivesAsked result }
+{
+    let loading = find_stack(cpu, mem, cpu.cpl, sel)?;
+    mark_loaded(cpu, mem, &loading)?;
+    let mut after = after;
+    after.seg[2] = loading.hidden;
+    after.held = true;
+    Ok(next(after))
+}
+
+/// Loads a segment of data, by its place, of what is otherwise the processor afterwards.
+fn load_data_at<M: GuestMem>(
+    after: Cpu,
+    cpu: &Cpu,
+    mem: &mut M,
+    sel: u16,
+    place: usize,
+) -> Result<SysOutcome, Refusal>
+    requires room { (M.space mem.old).pages ≤ 58 }
+    requires place { place < 4 }
+    ensures gives { Gives result (M.space mem.new) (data_loaded after cpu.now sel place (M.space mem.old)) }
+    ensures pages { (M.space mem.new).pages ≤ (M.space mem.old).pages + 4 }
+    ensures frame { M.frame mem.new ≡ M.frame mem.old }
+    ensures asked { GivesAsked result }
+{
+    let hidden = load_data(cpu, mem, sel)?;
+    let mut after = after;
+    after.seg[place] = hidden;
+    Ok(next(after))
 }
 
 /// Loads a selector into a register of what is otherwise the processor afterwards.
@@ -82,19 +121,12 @@ fn load_by<M: GuestMem>(
     ensures frame { M.frame mem.new ≡ M.frame mem.old }
     ensures asked { GivesAsked result }
 {
-    let mut after = after;
     match seg {
-        Seg::Cs => return Err(UNSUPPORTED),
-        Seg::Ss => {
-            let loading = find_stack(cpu, mem, cpu.cpl, sel)?;
-            mark_loaded(cpu, mem, &loading)?;
-            after.seg[2] = loading.hidden;
-            after.held = true;
-        }
-        Seg::Ds => after.seg[3] = load_data(cpu, mem, sel)?,
-        Seg::Es => after.seg[0] = load_data(cpu, mem, sel)?,
+        Seg::Cs => Err(UNSUPPORTED),
+        Seg::Ss => load_stack(after, cpu, mem, sel),
+        Seg::Ds => load_data_at(after, cpu, mem, sel, 3),
+        Seg::Es => load_data_at(after, cpu, mem, sel, 0),
     }
-    Ok(next(after))
 }
 
 /// MOV to a segment register.
@@ -116,10 +148,7 @@ pub fn load_seg<M: GuestMem>(
             let sel = selector(cpu, mem, &insn.b)?;
             load_by(past(cpu, len), cpu, mem, sel, seg)
         }
-        Operand::Absent => Err(UNSUPPORTED),
-        Operand::Register(_) => Err(UNSUPPORTED),
-        Operand::Memory(_) => Err(UNSUPPORTED),
-        Operand::Control(_) => Err(UNSUPPORTED),
+        _ => Err(UNSUPPORTED),
     }
 }
 
@@ -142,10 +171,7 @@ pub fn push_seg<M: GuestMem>(
             push(cpu, mem, u32::from(selector_in(cpu, *seg)))?;
             Ok(next(past_push(cpu, len)))
         }
-        Operand::Absent => Err(UNSUPPORTED),
-        Operand::Register(_) => Err(UNSUPPORTED),
-        Operand::Memory(_) => Err(UNSUPPORTED),
-        Operand::Control(_) => Err(UNSUPPORTED),
+        _ => Err(UNSUPPORTED),
     }
 }
 
@@ -168,10 +194,7 @@ pub fn pop_seg<M: GuestMem>(
             let sel = (pull(cpu, mem)? % 65536) as u16;
             load_by(past_pop(cpu, len), cpu, mem, sel, *seg)
         }
-        Operand::Absent => Err(UNSUPPORTED),
-        Operand::Register(_) => Err(UNSUPPORTED),
-        Operand::Memory(_) => Err(UNSUPPORTED),
-        Operand::Control(_) => Err(UNSUPPORTED),
+        _ => Err(UNSUPPORTED),
     }
 }
 

@@ -71,9 +71,7 @@ pub fn selector<M: GuestMem>(cpu: &Cpu, mem: &mut M, operand: &Operand) -> Resul
             let sel = mem.load(address_of(*a, &cpu.regs), Size::Word);
             Ok(sel as u16)
         }
-        Operand::Absent => Err(UNSUPPORTED),
-        Operand::Segment(_) => Err(UNSUPPORTED),
-        Operand::Control(_) => Err(UNSUPPORTED),
+        _ => Err(UNSUPPORTED),
     }
 }
 
@@ -91,9 +89,7 @@ pub fn long_of<M: GuestMem>(cpu: &Cpu, mem: &mut M, operand: &Operand) -> Result
             reach_operand(cpu, mem, a, 4, false)?;
             Ok(mem.load(address_of(*a, &cpu.regs), Size::Long))
         }
-        Operand::Absent => Err(UNSUPPORTED),
-        Operand::Segment(_) => Err(UNSUPPORTED),
-        Operand::Control(_) => Err(UNSUPPORTED),
+        _ => Err(UNSUPPORTED),
     }
 }
 

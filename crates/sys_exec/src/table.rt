@@ -33,10 +33,7 @@ fn read_table<M: GuestMem>(cpu: &Cpu, mem: &mut M, operand: &Operand) -> Result<
                 limit: limit as u16,
             })
         }
-        Operand::Absent => Err(UNSUPPORTED),
-        Operand::Register(_) => Err(UNSUPPORTED),
-        Operand::Segment(_) => Err(UNSUPPORTED),
-        Operand::Control(_) => Err(UNSUPPORTED),
+        _ => Err(UNSUPPORTED),
     }
 }
 
@@ -57,11 +54,9 @@ pub fn load_gdt<M: GuestMem>(
     if cpu.cpl != 0 {
         return Err(PROTECTION_0);
     }
-    let gdt = read_table(cpu, mem, a)?;
-    Ok(next(Cpu {
-        gdt,
-        ..past(cpu, len)
-    }))
+    let mut after = past(cpu, len);
+    after.gdt = read_table(cpu, mem, a)?;
+    Ok(next(after))
 }
 
 /// LIDT.
@@ -81,11 +76,9 @@ pub fn load_idt<M: GuestMem>(
     if cpu.cpl != 0 {
         return Err(PROTECTION_0);
     }
-    let idt = read_table(cpu, mem, a)?;
-    Ok(next(Cpu {
-        idt,
-        ..past(cpu, len)
-    }))
+    let mut after = past(cpu, len);
+    after.idt = read_table(cpu, mem, a)?;
+    Ok(next(after))
 }
 
 /// LTR.
@@ -106,11 +99,9 @@ pub fn load_tr<M: GuestMem>(
         return Err(PROTECTION_0);
     }
     let sel = selector(cpu, mem, a)?;
-    let task = load_task(cpu, mem, sel)?;
-    Ok(next(Cpu {
-        task,
-        ..past(cpu, len)
-    }))
+    let mut after = past(cpu, len);
+    after.task = load_task(cpu, mem, sel)?;
+    Ok(next(after))
 }
 
 /// What leaves the set for an address.
@@ -139,9 +130,6 @@ pub fn drop_page(a: &Operand, len: u8, cpu: &Cpu) -> Result<SysOutcome, Refusal>
             cpu: past(cpu, len),
             effect: drop_at(cpu.pse(), address_of(*a, &cpu.regs)),
         }),
-        Operand::Absent => Err(UNSUPPORTED),
-        Operand::Register(_) => Err(UNSUPPORTED),
-        Operand::Segment(_) => Err(UNSUPPORTED),
-        Operand::Control(_) => Err(UNSUPPORTED),
+        _ => Err(UNSUPPORTED),
     }
 }

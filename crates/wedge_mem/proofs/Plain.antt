@@ -1,5 +1,5 @@
 -- A step of a guest's memory as it begins, and an instruction's bytes in two pages.
-use Rattle.std.proofs.Common.{◌≡◌, ℕ, ◌+◌, ◌-◌, ◌*◌, ◌<◌, ◌≤◌, List, [], length, false, Option, Some, None, refl, sym, ap, ◌∙◌, subst, arith}
+use Rattle.std.proofs.Common.{◌≡◌, ℕ, ◌+◌, ◌-◌, ◌*◌, ◌/◌, ◌<◌, ◌≤◌, List, [], length, false, Option, Some, None, refl, sym, ap, ◌∙◌, subst, arith}
 use Rattle.std.specs.Prelude.{nat_le, MatchOption}
 use Rattle.std.specs.FinMap.{FinMap, get, empty, get-empty}
 use Rattle.std.specs.Ordering.{nat_cmp}
@@ -8,16 +8,17 @@ use Rattle.std.proofs.lemmas.Bool.Decides.{nat_tests}
 use Rattle.frame_pool.specs.Held.{Moves, Owns}
 use Rattle.frame_pool.specs.declared.Pool.{Pool}
 use Rattle.paging.specs.declared.entry.Entry.{Entry}
-use Rattle.paging.specs.Space.{Space, place}
+use Rattle.paging.specs.Space.{Space, Mode, place}
 use Rattle.paging.specs.Uses.{with_front, with_back}
-use Rattle.step_mem.specs.Changes.{AreWithin}
-use Rattle.step_mem.specs.Guard.{IsLaid}
+use Rattle.step_mem.specs.Changes.{changed, AreWithin}
+use Rattle.step_mem.specs.Guard.{mode_by, IsApart, IsLaid}
 use Rattle.step_mem.specs.Sound.{IsSound, begun}
+use Rattle.step_mem.specs.declared.guard.Own.{Own}
 use Rattle.step_mem.specs.declared.guard.Text.{Text}
 use Rattle.step_mem.specs.declared.state.StepState.{StepState}
 use Rattle.step_mem.specs.declared.walking.Control.{Control}
 use Rattle.wedge_mem.specs.declared.progress.Progress.{Progress}
-use Rattle.wedge_mem.specs.Progress.{IsGoing, IsPlain, left_in_page, owning}
+use Rattle.wedge_mem.specs.Progress.{Guards, IsGoing, IsPlain, left_in_page, owning, state_by}
 
 short : (bytes : List ℕ) (n : ℕ) → bytes ≡ [] → length bytes ≤ n
 short bytes n e = rw e (omega arith)
@@ -25,6 +26,42 @@ short bytes n e = rw e (omega arith)
 laid : (text : Option Text) (first count frames : ℕ) → IsPlain text first count → first + count ≤ frames → IsLaid text frames
 laid None first count frames h l = absurd h
 laid (Some text) first count frames h l = ((let a = h.0 in let b = h.1 in omega (arith, a, b, l)), short text.bytes.now (4096 * text.count) h.2)
+
+mode_same : (a b : Option Text) (own other : Own) (first count : ℕ) → IsPlain a first count → IsPlain b first count → own ≡ other → mode_by a own ≡ mode_by b other
+mode_same None b own other first count h k e = absurd h
+mode_same (Some text) None own other first count h k e = absurd k
+mode_same (Some text) (Some next) own other first count h k e = rw (h.0 ∙ sym k.0, h.1 ∙ sym k.1, e) refl
+
+laid_same : (a b : Option Text) (first count frames : ℕ) → IsPlain a first count → IsPlain b first count → IsLaid a frames → IsLaid b frames
+laid_same None b first count frames h k l = absurd h
+laid_same (Some text) b first count frames h k l = laid b first count frames k (let x = h.0 in let y = h.1 in let z = l.0 in omega (arith, x, y, z))
+
+-- what is sound under one guard of these frames is so under each
+pub going_after : (kept : List ℕ → FinMap nat_cmp Entry) (floor : ℕ) (stands : List ℕ → Type 0) (ram : List ℕ) (state : StepState) (p : Progress)
+    → IsSound kept floor stands ram state → state ≡ state_by state.guard p → Guards state.guard p → IsGoing kept floor stands ram p
+going_after kept floor stands ram state p sound is by guard h =
+    let s : IsSound kept floor stands ram (state_by state.guard p) = subst (λ (t : StepState). IsSound kept floor stands ram t) is sound in
+    let mode = mode_same state.guard.text.now guard.text.now state.guard.own guard.own p.first p.count by.0 h.0 (by.1 ∙ sym h.1) in
+    record {
+      frames_in = s.frames_in;
+      below = s.below;
+      laid_in = laid_same state.guard.text.now guard.text.now p.first p.count p.state.control.frames by.0 h.0 s.laid_in;
+      counted = s.counted;
+      few = s.few;
+      noted = s.noted;
+      told = s.told;
+      read = s.read;
+      written = s.written;
+      fits = s.fits;
+      stands_now = s.stands_now;
+      within = s.within;
+      reached = s.reached;
+      apart = λ e at l k. subst (λ (m : Mode). IsApart m (get (changed (kept ram) p.state.changes) (at / 4096))) mode (s.apart e at l k);
+      earlier_counted = s.earlier_counted;
+      earlier_fits = s.earlier_fits;
+      earlier_within = s.earlier_within;
+      earlier_reached = s.earlier_reached;
+    }
 
 -- nothing is used yet
 pub going_first : (kept : List ℕ → FinMap nat_cmp Entry) (floor : ℕ) (stands : List ℕ → Type 0) (ram : List ℕ) (p : Progress) (control : Control) (begins : p.state ≡ begun control p.state.guard)

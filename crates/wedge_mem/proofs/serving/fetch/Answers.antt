@@ -1,0 +1,5 @@
+use Rattle.wedge_mem.proofs.Plain.{going_after}
+use Rattle.wedge_mem.proofs.serving.fetch.Goals as goal
+
+pub returns-clause-going : goal.returns-clause-going
+returns-clause-going g c = going_after _ _ _ _ c.fetch-met.new.state c.follow.new.self c.fetch-met.ensures.sound c.follow.ensures.state c.follow.ensures.guards
