@@ -11,7 +11,7 @@ use asm_source::{Argument, Form, Name, Value, is_text};
 use ia32_types::{Address, Reg, Seg, Size};
 
 /// A number as it is written, and whether a symbol's address is added to it.
-#[derive(Clone, Copy, Debug, PartialEq, Eq)]
+#[derive(Clone, Copy)]
 pub struct Number {
     pub value: i64,
     pub named: bool,
@@ -20,7 +20,7 @@ pub struct Number {
 }
 
 /// A memory operand.
-#[derive(Clone, Copy, Debug, PartialEq, Eq)]
+#[derive(Clone, Copy)]
 pub struct Memory {
     /// The displacement has the low bits of what is written.
     pub address: Address,
@@ -28,7 +28,7 @@ pub struct Memory {
 }
 
 /// What an argument says.
-#[derive(Clone, Copy, Debug, PartialEq, Eq)]
+#[derive(Clone, Copy)]
 pub enum Given {
     /// A general register, by its number.
     Register(Size, u8),
@@ -42,7 +42,7 @@ pub enum Given {
 }
 
 /// The operands in the order of the source, in which the source of a move stands before its destination.
-#[derive(Clone, Copy, Debug, PartialEq, Eq)]
+#[derive(Clone, Copy)]
 pub enum Operands {
     Nothing,
     One(Given),

@@ -16,7 +16,7 @@ use asm_source::is_text;
 use ia32_types::{Op, Size};
 
 /// The kinds of arithmetic instructions, by the operands that they take.
-#[derive(Clone, Copy, Debug, PartialEq, Eq)]
+#[derive(Clone, Copy)]
 pub enum Arithmetic {
     /// ADD, OR, ADC, SBB, AND, SUB, XOR and CMP.
     Two(Op),

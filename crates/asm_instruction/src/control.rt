@@ -16,7 +16,7 @@ use asm_source::is_text;
 use ia32_types::{Insn, Op, Size};
 
 /// The kinds of instructions that go elsewhere, and SETcc.
-#[derive(Clone, Copy, Debug, PartialEq, Eq)]
+#[derive(Clone, Copy)]
 pub enum Control {
     /// A jump or a call: the direct and the indirect one.
     Branch(Op, Op),

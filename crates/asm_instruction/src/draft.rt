@@ -8,14 +8,14 @@ use crate::fields::{field, fits_field};
 use ia32_types::{Insn, Op, Operand, Size};
 
 /// An operand of an instruction, and the number that it takes.
-#[derive(Clone, Copy, Debug, PartialEq, Eq)]
+#[derive(Clone, Copy)]
 pub struct NumberedOperand {
     pub operand: Operand,
     pub displacement: Option<Number>,
 }
 
 /// An instruction. Its numbers have the low bits of what is written.
-#[derive(Clone, Copy, Debug, PartialEq, Eq)]
+#[derive(Clone, Copy)]
 pub struct Draft {
     pub insn: Insn,
     /// The argument that gives the displacement.
@@ -29,7 +29,7 @@ pub struct Draft {
 }
 
 /// A source and a destination.
-#[derive(Clone, Copy, Debug, PartialEq, Eq)]
+#[derive(Clone, Copy)]
 pub enum Pair {
     Immediate(Number, NumberedOperand),
     /// From a register to a register or memory.

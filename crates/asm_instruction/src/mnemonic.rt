@@ -16,7 +16,7 @@ use crate::system::{System, page_name, system_draft, system_name};
 use ia32_types::{Op, Size};
 
 /// What instructions have in common, by the operands that they take.
-#[derive(Clone, Copy, Debug, PartialEq, Eq)]
+#[derive(Clone, Copy)]
 pub enum Family {
     Arithmetic(Arithmetic),
     Shift(Op),
@@ -30,7 +30,7 @@ pub enum Family {
 }
 
 /// A name that is known, and the suffix behind it.
-#[derive(Clone, Copy, Debug, PartialEq, Eq)]
+#[derive(Clone, Copy)]
 pub struct Mnemonic {
     pub family: Family,
     pub suffix: Option<Size>,

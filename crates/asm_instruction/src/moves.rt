@@ -17,7 +17,7 @@ use asm_source::is_text;
 use ia32_types::{Op, Operand, Seg, Size};
 
 /// The kinds of moves, by the operands that they take.
-#[derive(Clone, Copy, Debug, PartialEq, Eq)]
+#[derive(Clone, Copy)]
 pub enum Moves {
     Move,
     /// MOVZX and MOVSX from this size to 32 bits.

@@ -16,7 +16,7 @@ use asm_source::is_text;
 use ia32_types::{Insn, Op, Size};
 
 /// The kinds of system instructions, by the operands that they take.
-#[derive(Clone, Copy, Debug, PartialEq, Eq)]
+#[derive(Clone, Copy)]
 pub enum System {
     In,
     Out,
