@@ -56,7 +56,7 @@ pub enum BurnFault {
 }
 
 /// Why the work at an item stops.
-#[derive(Debug, Drop)]
+#[derive(Drop)]
 pub enum ItemFault {
     Cause(BurnCause),
     Memory,
