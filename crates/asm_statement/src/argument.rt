@@ -9,7 +9,8 @@ use crate::fault::StepFault;
 use crate::scope::Scope;
 use crate::state::{Open, StatementState, discard};
 use asm_argument::{
-    Partial, Terminal, begun, finished, is_finished, is_nothing, is_unbegun, name_in, operand_step,
+    Partial, Terminal, begun, discard as discard_partial, finished, is_finished, is_nothing,
+    is_unbegun, name_in, operand_step,
 };
 use asm_lex::SourceCause;
 use asm_source::{Argument, Arguments, Body, Name, SourceItem};
@@ -273,8 +274,9 @@ fn bare_end(scope: &mut Scope, begun: Open) -> Result<StatementState, StepFault>
         head,
         arguments,
         star: _,
-        so_far: _,
+        so_far,
     } = begun;
+    discard_partial(so_far);
     complete(scope, line, head, arguments)
 }
 
