@@ -47,15 +47,19 @@ pub enum StatementState {
     },
 }
 
+/// Lets go of what a directive or an instruction begins with, and of its arguments.
+pub fn discard_begun(_head: Head, _arguments: Arguments) {}
+
 /// Lets go of a directive or an instruction.
 fn discard_open(begun: Open) {
     let Open {
         line: _,
-        head: _,
-        arguments: _,
+        head,
+        arguments,
         star: _,
         so_far,
     } = begun;
+    discard_begun(head, arguments);
     discard_partial(so_far);
 }
 
