@@ -1,4 +1,5 @@
 pub mod Ordering
+pub mod Pieces
 pub mod SymbolNumbers
 pub mod Named
 pub mod Sound

@@ -2,7 +2,7 @@
 use Rattle.std.specs.Prelude.{◌≡◌, ℕ, ℤ, pos, Bool, true, false, not, List, [], ◌∷◌, ◌++◌, Option, Some, None}
 use Rattle.asm_argument.specs.declared.terminal.Terminal.{Terminal}
 use Rattle.asm_argument.specs.declared.terminal.Terminal.TheVariants as terminal
-use Rattle.asm_argument.specs.declared.operand.Shape.{Shape}
+use Rattle.asm_argument.specs.declared.shape.Shape.{Shape}
 use Rattle.asm_source.specs.declared.tree.Value.{Value}
 use Rattle.asm_source.specs.declared.tree.Form.{Form}
 use Rattle.asm_source.specs.declared.tree.Form.TheVariants as form

@@ -1,8 +1,8 @@
 -- What may stand in each place of an argument, and what its parts are called.
 use Rattle.std.specs.Str.{bytes_eq}
 use Rattle.std.specs.Prelude.{codes, nat_le, ◌==◌, ◌||◌, ℕ, ℤ, pos, ◌-ℤ◌, Bool, true, false, List, Option, Some, None}
-use Rattle.asm_argument.specs.declared.operand.Shape.{Shape}
-use Rattle.asm_argument.specs.declared.operand.Shape.TheVariants as shape
+use Rattle.asm_argument.specs.declared.shape.Shape.{Shape}
+use Rattle.asm_argument.specs.declared.shape.Shape.TheVariants as shape
 use Rattle.asm_source.specs.declared.tree.Value.{Value}
 use Rattle.asm_source.specs.declared.tree.Form.{Form}
 use Rattle.asm_source.specs.declared.tree.Form.TheVariants as form

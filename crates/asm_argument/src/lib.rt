@@ -6,12 +6,14 @@ mod escapes;
 mod number;
 mod operand;
 mod register;
+mod shape;
 mod terminal;
 
 pub use escapes::{Escape, Unescaped};
 pub use operand::{
-    Partial, Shape, ValuePlace, awaits_register, begun, finished, is_finished, is_nothing,
+    Partial, ValuePlace, awaits_register, begun, discard, finished, is_finished, is_nothing,
     is_unbegun, name_in, operand_step,
 };
 pub use register::is_register;
+pub use shape::Shape;
 pub use terminal::{Terminal, terminal_of};

@@ -13,8 +13,8 @@ use Rattle.asm_lex.specs.declared.token.TokenKind.TheVariants as kind
 use Rattle.asm_lex.specs.Words.{Word}
 use Rattle.asm_lex.specs.Source.{lines_after}
 use Rattle.asm_argument.specs.declared.terminal.Terminal.TheVariants as terminal
-use Rattle.asm_argument.specs.declared.operand.Shape.{Shape}
-use Rattle.asm_argument.specs.declared.operand.Shape.TheVariants as shape
+use Rattle.asm_argument.specs.declared.shape.Shape.{Shape}
+use Rattle.asm_argument.specs.declared.shape.Shape.TheVariants as shape
 use Rattle.asm_argument.specs.declared.operand.ValuePlace.TheVariants as place
 use Rattle.asm_argument.specs.declared.operand.Partial.{Partial}
 use Rattle.asm_argument.specs.declared.operand.Partial.TheVariants as partial

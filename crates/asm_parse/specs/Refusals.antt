@@ -13,7 +13,7 @@ use Rattle.asm_lex.specs.Source.{IsGap, IsToken, lines_after}
 use Rattle.asm_lex.specs.Refusals.{is_unclosed, IsWrong}
 use Rattle.asm_argument.specs.declared.terminal.Terminal.{Terminal}
 use Rattle.asm_argument.specs.declared.terminal.Terminal.TheVariants as terminal
-use Rattle.asm_argument.specs.declared.operand.Shape.{Shape}
+use Rattle.asm_argument.specs.declared.shape.Shape.{Shape}
 use Rattle.asm_source.specs.declared.tree.Argument.{Argument}
 use Rattle.asm_source.specs.declared.tree.SourceItem.{SourceItem}
 use Rattle.asm_statement.specs.declared.directive.Directive.{Directive}

@@ -1,7 +1,7 @@
 -- The directives: their names, and what their arguments are.
 use Rattle.std.specs.Prelude.{codes, ℕ, ◌==◌, Bool, true, false, ◌&&◌, ◌||◌, List, [], ◌∷◌, Option, Some, None, if◌then◌else◌}
-use Rattle.asm_argument.specs.declared.operand.Shape.{Shape}
-use Rattle.asm_argument.specs.declared.operand.Shape.TheVariants as shape
+use Rattle.asm_argument.specs.declared.shape.Shape.{Shape}
+use Rattle.asm_argument.specs.declared.shape.Shape.TheVariants as shape
 use Rattle.asm_source.specs.declared.directive_table.DirectiveName.{DirectiveName}
 use Rattle.asm_source.specs.declared.directive_table.DirectiveName.TheVariants as called
 use Rattle.asm_source.specs.DirectiveTable.{begins, directive_name}

@@ -7,9 +7,10 @@ ghost use Rattle.asm_statement.specs.Statement as spec;
 use crate::directive::{Directive, Head, defines, is_instruction, least, shape_at};
 use crate::fault::StepFault;
 use crate::scope::Scope;
-use crate::state::{Open, StatementState, discard};
+use crate::state::{Open, StatementState, discard, discard_begun};
 use asm_argument::{
-    Partial, Terminal, begun, finished, is_finished, is_nothing, is_unbegun, name_in, operand_step,
+    Partial, Terminal, begun, discard as discard_partial, finished, is_finished, is_nothing,
+    is_unbegun, name_in, operand_step,
 };
 use asm_lex::SourceCause;
 use asm_source::{Argument, Arguments, Body, Name, SourceItem};
@@ -101,7 +102,11 @@ fn grown(begun: Open, terminal: Terminal) -> Result<Open, SourceCause>
         so_far,
     } = begun;
     match operand_step(shape, so_far, terminal) {
-        Err(cause) => Err(cause_in(&head, nothing, other, cause)),
+        Err(cause) => {
+            let cause = cause_in(&head, nothing, other, cause);
+            discard_begun(head, arguments);
+            Err(cause)
+        }
         Ok(so_far) => Ok(Open {
             line,
             head,
@@ -161,7 +166,10 @@ fn ended(begun: Open) -> Option<(u32, Head, Arguments, Argument)>
     } = begun;
     match finished(so_far) {
         Some(form) => Some((line, head, arguments, Argument { star, form })),
-        None => None,
+        None => {
+            discard_begun(head, arguments);
+            None
+        }
     }
 }
 
@@ -178,6 +186,7 @@ fn next_argument(
     let mut list = list;
     list.push(last)?;
     let Some(shape) = shape_at(&head, list.len()) else {
+        discard_begun(head, Arguments { list });
         return Err(StepFault::Cause(SourceCause::BadArgument));
     };
     Ok(StatementState::Arguments(Open {
@@ -199,6 +208,7 @@ fn complete(
     ensures { spec.Does scope.new result (spec.complete scope.old line head arguments) }
 {
     if arguments.list.len() < least(&head) {
+        discard_begun(head, arguments);
         return Err(StepFault::Cause(SourceCause::BadArgument));
     }
     match head {
@@ -273,8 +283,9 @@ fn bare_end(scope: &mut Scope, begun: Open) -> Result<StatementState, StepFault>
         head,
         arguments,
         star: _,
-        so_far: _,
+        so_far,
     } = begun;
+    discard_partial(so_far);
     complete(scope, line, head, arguments)
 }
 

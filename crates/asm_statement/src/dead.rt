@@ -34,7 +34,7 @@ fn stray(
     ensures { spec.Does scope.new result (spec.stray line cause) }
 {
     if is_place(cause) {
-        *scope = Scope::new(alloc);
+        std::mem::replace(scope, Scope::new(alloc)).discard();
         Ok(StatementState::Stray { line, cause })
     } else {
         Err(StepFault::Cause(cause))

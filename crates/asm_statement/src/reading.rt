@@ -285,7 +285,10 @@ pub fn read(alloc: Global, source: &[u8]) -> Result<(Scope, StatementState, Mode
             line,
             *b,
         ) {
-            Err(fault) => return Err(fault),
+            Err(fault) => {
+                scope.discard();
+                return Err(fault);
+            }
             Ok((next_state, next_mode)) => {
                 state = next_state;
                 mode = next_mode;

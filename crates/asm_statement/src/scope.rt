@@ -96,15 +96,30 @@ impl Scope {
         Ok(())
     }
 
+    /// Lets go of what was said.
+    pub fn discard(self) {
+        let Scope {
+            items: _,
+            names,
+            defined,
+            skipping: _,
+        } = self;
+        discard_names(names, defined);
+    }
+
     pub fn into_items(self) -> Vec<SourceItem>
         ensures { result.items ≡ self.items }
     {
         let Scope {
             items,
-            names: _,
-            defined: _,
+            names,
+            defined,
             skipping: _,
         } = self;
+        discard_names(names, defined);
         items
     }
 }
+
+/// Lets go of names.
+fn discard_names(_names: Names, _defined: Names) {}

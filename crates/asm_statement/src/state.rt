@@ -1,7 +1,7 @@
 //! What a statement has left open.
 
 use crate::directive::Head;
-use asm_argument::Partial;
+use asm_argument::{Partial, discard as discard_partial};
 use asm_lex::SourceCause;
 use asm_source::{Arguments, Name};
 
@@ -47,5 +47,43 @@ pub enum StatementState {
     },
 }
 
+/// Lets go of what a directive or an instruction begins with, and of its arguments.
+pub fn discard_begun(_head: Head, _arguments: Arguments) {}
+
+/// Lets go of a directive or an instruction.
+fn discard_open(begun: Open) {
+    let Open {
+        line: _,
+        head,
+        arguments,
+        star: _,
+        so_far,
+    } = begun;
+    discard_begun(head, arguments);
+    discard_partial(so_far);
+}
+
+/// Lets go of names.
+fn discard_names(_name: Name, _section: Name) {}
+
 /// Lets go of what a statement has left open.
-pub fn discard(_state: StatementState) {}
+pub fn discard(state: StatementState) {
+    match state {
+        StatementState::Arguments(begun) => discard_open(begun),
+        StatementState::Named { line: _, name: _ } => {}
+        StatementState::Sectioned {
+            line: _,
+            name,
+            section,
+            end: _,
+        } => discard_names(name, section),
+        StatementState::Flags {
+            line: _,
+            name,
+            section,
+        } => discard_names(name, section),
+        StatementState::Start
+        | StatementState::Skip
+        | StatementState::Stray { line: _, cause: _ } => {}
+    }
+}

@@ -8,10 +8,31 @@ ghost use Rattle.asm_statement.specs.Running as run;
 
 use crate::dead::left_open;
 use crate::reading::read;
-use crate::state::discard;
+use crate::scope::Scope;
+use crate::state::{StatementState, discard};
 use asm_lex::{LIMIT, Mode, SourceCause, SourceFault, with_newline};
 use asm_source::Source;
 use std::alloc::Global;
+
+/// What was read, where no comment is open at the end.
+fn ended(scope: Scope, state: StatementState, mode: Mode) -> Result<Source, SourceFault>
+    ensures { (r : run.Running) → r.scope ≡ scope → r.state ≡ state → r.mode ≡ mode → run.Parses result (run.closed r mode) }
+{
+    match mode {
+        Mode::Block(began) => {
+            let (line, cause) = left_open(&scope, &state, began);
+            discard(state);
+            scope.discard();
+            Err(SourceFault::At { line, cause })
+        }
+        _ => {
+            discard(state);
+            Ok(Source {
+                items: scope.into_items(),
+            })
+        }
+    }
+}
 
 /// Reads a source that isn't too long.
 #[tactic(auto, unfolding(crate::specs::Running::read))]
@@ -25,19 +46,7 @@ fn parsed(alloc: Global, text: &[u8]) -> Result<Source, SourceFault>
     };
     match read(alloc, &source) {
         Err(fault) => Err(fault),
-        Ok((scope, state, mode)) => match mode {
-            Mode::Block(began) => {
-                let (line, cause) = left_open(&scope, &state, began);
-                discard(state);
-                Err(SourceFault::At { line, cause })
-            }
-            _ => {
-                discard(state);
-                Ok(Source {
-                    items: scope.into_items(),
-                })
-            }
-        },
+        Ok((scope, state, mode)) => ended(scope, state, mode),
     }
 }
 

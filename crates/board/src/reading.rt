@@ -1,6 +1,6 @@
 //! Reading a script from its text.
 
-ghost use Rattle.std.specs.Prelude.{◌≡◌, ◌+◌, ◌<◌, ◌≤◌, ◌^◌, ◌++◌, ◌∷◌, [], true, length, IfOk, OnOk};
+ghost use Rattle.std.specs.Prelude.{◌≡◌, ◌+◌, ◌<◌, ◌≤◌, ◌^◌, ◌++◌, ◌∷◌, [], true, length, Ok, Some, IfOk, OnOk};
 ghost use Rattle.board.specs.Scripts.{max_step, max_events, event_fits, is_script};
 ghost use Rattle.board.specs.Texts.{at_start, event_of_line, line_read, cut_at, script_of};
 ghost use Rattle.board.specs.Lines.{AnswerSays};
@@ -58,15 +58,27 @@ impl Reading {
                 self.line += 1;
                 Ok(())
             }
-            Ok(Some(event)) => {
-                if event.0 < self.low {
-                    return Err(self.fault(ScriptCause::StepFalls));
-                }
-                if self.events.len() >= MAX_EVENTS {
-                    return Err(self.fault(ScriptCause::TooMany));
-                }
-                self.keep(event).map_err(|_| ScriptFault::Memory)
-            }
+            Ok(Some(event)) => self.take_event(event),
+        }
+    }
+
+    /// Takes the event of a line.
+    fn take_event(&mut self, event: (u64, Event)) -> Result<(), ScriptFault>
+        requires line { self.old.line + 1 < 2 ^ 64 }
+        requires small { event.0 ≤ max_step }
+        requires fits { event_fits event.1 ≡ true }
+        ensures taken { TakenAs (line_read self.old (Ok (Some event))) result self.new }
+        ensures line { OnOk result (self.new.line ≡ self.old.line + 1) }
+    {
+        if event.0 < self.low {
+            return Err(self.fault(ScriptCause::StepFalls));
+        }
+        if self.events.len() >= MAX_EVENTS {
+            return Err(self.fault(ScriptCause::TooMany));
+        }
+        match self.keep(event) {
+            Ok(()) => Ok(()),
+            Err(_) => Err(ScriptFault::Memory),
         }
     }
 

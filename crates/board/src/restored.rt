@@ -1,7 +1,7 @@
 //! What 64 bytes say of a board.
 
-ghost use Rattle.std.specs.Prelude.{◌≡◌, ◌+◌, ◌≤◌, true, slice_index};
-ghost use Rattle.pic8259.specs.Requests.{pair_fits};
+ghost use Rattle.std.specs.Prelude.{◌≡◌, ◌+◌, ◌≤◌, true, ◌&&◌, slice_index};
+ghost use Rattle.pic8259.specs.Requests.{pair_fits, stands_for_slave};
 ghost use Rattle.pit8254.specs.Counts.{is_count};
 ghost use Rattle.uart16550.specs.States.{port_fits};
 ghost use Rattle.board.specs.Restored.{four_at, eight_at, phase_of, selected_of, timer_phase_of, period_of, count_of, chip_at, controllers_at, timer_at, settings_at, waiting_at, all_met, are_zero, chip_demands, is_period_or_none, timer_demands, port_demands, board_form};
@@ -170,8 +170,17 @@ fn port_meets(bytes: &[u8; 64]) -> bool
     are_zero(&bytes[end..55]) && are_zero(&bytes[55..])
 }
 
+fn are_met(bytes: &[u8; 64]) -> bool
+    ensures { result ≡ (all_met (chip_demands bytes.now 0) && all_met (chip_demands bytes.now 7) && stands_for_slave (controllers_at bytes.now) && all_met (timer_demands bytes.now) && all_met (port_demands bytes.now)) }
+{
+    chip_meets(bytes, 0)
+        && chip_meets(bytes, 7)
+        && controllers_at(bytes).stands_for_slave()
+        && timer_meets(bytes)
+        && port_meets(bytes)
+}
+
 /// Whether the bytes are those of a board.
-#[tactic(auto, using(crate::proofs::Forms::form_is, crate::proofs::Forms::form_pics, crate::proofs::Forms::form_count, crate::proofs::Forms::form_port))]
 pub fn has_form(bytes: &[u8; 64]) -> bool
     ensures form { result ≡ board_form bytes.now }
     ensures pics { result ≡ true → pair_fits (controllers_at bytes.now) ≡ true }
@@ -179,9 +188,5 @@ pub fn has_form(bytes: &[u8; 64]) -> bool
     ensures uart { result ≡ true → port_fits (settings_at bytes.now).modem_control (waiting_at bytes.now) ≡ true }
     ensures waiting { result ≡ true → slice_index bytes.now 38 ≤ 16 }
 {
-    chip_meets(bytes, 0)
-        && chip_meets(bytes, 7)
-        && controllers_at(bytes).stands_for_slave()
-        && timer_meets(bytes)
-        && port_meets(bytes)
+    are_met(bytes)
 }

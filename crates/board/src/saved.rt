@@ -10,7 +10,7 @@ ghost use Rattle.board.specs.Restored.{board_form, board_at, restored};
 use crate::devices::Board;
 use crate::restored::{controllers_at, has_form, settings_at, timer_at};
 use pic8259::{Chip, Phase as ChipPhase, Pics, Selected};
-use pit8254::{Phase as TimerPhase, Pit, Timer};
+use pit8254::{Count, Phase as TimerPhase, Pit, Timer};
 use uart16550::{Settings, Uart};
 
 impl Board {
@@ -84,18 +84,31 @@ fn chip_bytes(chip: &Chip) -> [u8; 7]
     ]
 }
 
-fn timer_bytes(timer: &Timer) -> [u8; 18]
-    ensures { result ≡ timer_bytes timer.now }
+fn phase_bytes(phase: TimerPhase) -> (u8, u8)
+    ensures { result ≡ (timer_number phase, low_byte phase) }
 {
-    let (phase, low) = match timer.phase {
+    match phase {
         TimerPhase::AwaitsControlWord => (0, 0),
         TimerPhase::AwaitsLow => (1, 0),
         TimerPhase::AwaitsHigh(low) => (2, low),
-    };
-    let (period, next_period, left) = match timer.count {
+    }
+}
+
+/// The period, the next one and the steps that are left, 0 for none.
+fn count_numbers(count: Option<Count>) -> (u32, u32, u64)
+    ensures { result ≡ (period_in count, next_period_in count, steps_left_in count) }
+{
+    match count {
         None => (0, 0, 0),
         Some(count) => (count.period, count.next_period.unwrap_or(0), count.left),
-    };
+    }
+}
+
+fn timer_bytes(timer: &Timer) -> [u8; 18]
+    ensures { result ≡ timer_bytes timer.now }
+{
+    let (phase, low) = phase_bytes(timer.phase);
+    let (period, next_period, left) = count_numbers(timer.count);
     let p = period.to_le_bytes();
     let n = next_period.to_le_bytes();
     let l = left.to_le_bytes();

@@ -1,0 +1,121 @@
+//! What may stand in an argument's place.
+
+ghost use Rattle.std.specs.Prelude.{◌≡◌};
+ghost use Rattle.asm_argument.specs.Shapes as shapes;
+
+/// What may stand in an argument's place.
+#[derive(Clone, Copy)]
+pub enum Shape {
+    /// An operand of an instruction.
+    Operand,
+    /// A number, or a name with a constant.
+    Value,
+    Number,
+    /// A number that isn't negative.
+    Count,
+    /// A power of two up to 4,096.
+    Alignment,
+    /// The number of an alignment's power of two, up to 12.
+    Power,
+    /// A number that may be absent.
+    Fill,
+    Name,
+    Text,
+}
+
+fn is_alignment(n: u32) -> bool
+    ensures { result ≡ shapes.is_alignment n }
+{
+    n == 1
+        || n == 2
+        || n == 4
+        || n == 8
+        || n == 16
+        || n == 32
+        || n == 64
+        || n == 128
+        || n == 256
+        || n == 512
+        || n == 1024
+        || n == 2048
+        || n == 4096
+}
+
+impl Shape {
+    pub(crate) fn is_operand(self) -> bool
+        ensures { result ≡ shapes.is_operand self }
+    {
+        match self {
+            Shape::Operand => true,
+            _ => false,
+        }
+    }
+
+    pub(crate) fn takes_names(self) -> bool
+        ensures { result ≡ shapes.takes_names self }
+    {
+        match self {
+            Shape::Operand | Shape::Value | Shape::Name => true,
+            _ => false,
+        }
+    }
+
+    pub(crate) fn takes_sums(self) -> bool
+        ensures { result ≡ shapes.takes_sums self }
+    {
+        match self {
+            Shape::Operand | Shape::Value => true,
+            _ => false,
+        }
+    }
+
+    pub(crate) fn takes_minus(self) -> bool
+        ensures { result ≡ shapes.takes_minus self }
+    {
+        match self {
+            Shape::Operand
+            | Shape::Value
+            | Shape::Number
+            | Shape::Count
+            | Shape::Power
+            | Shape::Fill => true,
+            _ => false,
+        }
+    }
+
+    pub(crate) fn takes_numbers(self) -> bool
+        ensures { result ≡ shapes.takes_numbers self }
+    {
+        match self {
+            Shape::Operand
+            | Shape::Value
+            | Shape::Number
+            | Shape::Count
+            | Shape::Alignment
+            | Shape::Power
+            | Shape::Fill => true,
+            _ => false,
+        }
+    }
+
+    /// Whether a number, or one behind a minus, is of those that may stand there.
+    pub(crate) fn fits(self, negative: bool, n: u32) -> bool
+        ensures { result ≡ shapes.fits self negative n }
+    {
+        match self {
+            Shape::Count => !negative || n == 0,
+            Shape::Alignment => { if negative { n == 0 } else { is_alignment(n) } }
+            Shape::Power => { if negative { n == 0 } else { n <= 12 } }
+            _ => true,
+        }
+    }
+
+    pub(crate) fn takes_text(self) -> bool
+        ensures { result ≡ shapes.takes_text self }
+    {
+        match self {
+            Shape::Text => true,
+            _ => false,
+        }
+    }
+}
