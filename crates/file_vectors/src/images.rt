@@ -97,13 +97,7 @@ fn answer(alloc: Global, file: &[u8]) -> (u32, u32) {
 }
 
 /// An image is answered so. `row` names it where it isn't.
-pub fn is_told(
-    rt: &impl Abort,
-    alloc: Global,
-    row: usize,
-    parts: Parts<'_>,
-    want: (u32, u32),
-) {
+pub fn is_told(rt: &impl Abort, alloc: Global, row: usize, parts: Parts<'_>, want: (u32, u32)) {
     let file = file(alloc, parts).expect(rt, "memory");
     assert_eq!(rt; answer(alloc, &file), want, "row {row}");
 }
