@@ -1,11 +1,27 @@
 //! Answers against what is wanted.
 
 use elf_form::Image;
+use pv_io::MemSink;
+use std::alloc::{AllocError, Global};
 use std::process::Abort;
 
 /// The bytes are these.
 pub fn are_bytes(rt: &impl Abort, bytes: &[u8], want: &[u8]) {
     assert_eq!(rt; bytes, want);
+}
+
+/// A sink with so much room, of whose puts those of a list fail.
+pub fn sink(rt: &impl Abort, alloc: Global, room: u32, fail: &[u64]) -> MemSink {
+    let fail = Vec::from_slice(alloc, fail).expect(rt, "memory");
+    MemSink::new(alloc, room, fail).expect(rt, "memory")
+}
+
+/// Puts the piece so many times behind the bytes.
+pub fn put_times(bytes: &mut Vec<u8>, piece: &[u8], count: u32) -> Result<(), AllocError> {
+    for _ in 0..count {
+        bytes.extend_from_slice(piece)?;
+    }
+    Ok(())
 }
 
 /// Something that an image holds.

@@ -1,11 +1,10 @@
 //! Files and sinks in memory and of the system.
 
-use crate::agree::are_bytes;
-use pv_io::{DiskFiles, Files, IoAnswer, MemFiles, MemSink, Sink, StdSink, SureFiles, SureSink};
+use crate::agree::{are_bytes, sink};
+use pv_io::{DiskFiles, Files, IoAnswer, MemFiles, Sink, StdSink, SureFiles, SureSink};
 use std::alloc::Global;
 use std::fs;
 use std::process::Abort;
-use std::test::Fail;
 
 fn is_failed(answer: &Result<(), IoAnswer>) -> bool {
     match answer {
@@ -25,15 +24,14 @@ const PIECES: [(&[u8], bool); 6] = [
 ];
 
 #[test]
-fn a_sink_in_memory_fails_by_its_list_and_its_room(rt: HostRuntime) -> Result<(), Fail> {
-    let mut out = MemSink::new(rt.alloc(), 8, Vec::from_slice(rt.alloc(), &[1])?)?;
+fn a_sink_in_memory_fails_by_its_list_and_its_room(rt: HostRuntime) {
+    let mut out = sink(&rt, rt.alloc(), 8, &[1]);
     for (k, row) in PIECES.iter().enumerate() {
         let (piece, taken) = *row;
         assert!(rt; out.put(piece).is_ok() == taken, "{k}");
     }
     are_bytes(&rt, out.bytes(), b"abcdefgh");
     assert!(rt; out.faults() == 3);
-    Ok(())
 }
 
 #[test]
@@ -87,16 +85,16 @@ const SECOND: [Call; 4] = [
 ];
 
 #[test]
-fn files_in_memory_fail_by_their_list(rt: HostRuntime) -> Result<(), Fail> {
+fn files_in_memory_fail_by_their_list(rt: HostRuntime) {
     let alloc = rt.alloc();
-    let mut files = MemFiles::new(alloc, Vec::from_slice(alloc, &[1, 4])?)?;
-    let mut into = Vec::from_slice(alloc, b"> ")?;
+    let fail = Vec::from_slice(alloc, &[1, 4]).expect(&rt, "memory");
+    let mut files = MemFiles::new(alloc, fail).expect(&rt, "memory");
+    let mut into = Vec::from_slice(alloc, b"> ").expect(&rt, "memory");
     are_answered(&rt, &mut files, alloc, &mut into, &FIRST);
     are_bytes(&rt, &into, b"> one");
     are_answered(&rt, &mut files, alloc, &mut into, &SECOND);
     are_bytes(&rt, &into, b"> oneonethree");
     assert!(rt; files.load_faults == 2 && files.store_faults == 1);
-    Ok(())
 }
 
 const STORED_TWICE: [Call; 4] = [
@@ -107,13 +105,12 @@ const STORED_TWICE: [Call; 4] = [
 ];
 
 #[test]
-fn sure_files_lack_only_names_that_were_not_stored(rt: HostRuntime) -> Result<(), Fail> {
+fn sure_files_lack_only_names_that_were_not_stored(rt: HostRuntime) {
     let alloc = rt.alloc();
-    let mut files = SureFiles::new(alloc)?;
+    let mut files = SureFiles::new(alloc).expect(&rt, "memory");
     let mut into = Vec::new(alloc);
     are_answered(&rt, &mut files, alloc, &mut into, &STORED_TWICE);
     are_bytes(&rt, &into, b"two");
-    Ok(())
 }
 
 const WRITTEN: [Call; 3] = [
@@ -128,15 +125,14 @@ const REMOVED: [Call; 2] = [
 ];
 
 #[test]
-fn files_of_the_system_are_read_and_written(rt: HostRuntime) -> Result<(), Fail> {
+fn files_of_the_system_are_read_and_written(rt: HostRuntime) {
     let alloc = rt.alloc();
     let mut files = DiskFiles::new(&rt);
-    let mut into = Vec::from_slice(alloc, b"> ")?;
+    let mut into = Vec::from_slice(alloc, b"> ").expect(&rt, "memory");
     are_answered(&rt, &mut files, alloc, &mut into, &WRITTEN);
-    fs::remove_file(&rt, "stored.bin")?;
+    assert!(rt; fs::remove_file(&rt, "stored.bin").is_ok());
     are_answered(&rt, &mut files, alloc, &mut into, &REMOVED);
     are_bytes(&rt, &into, b"> new\x00\xff");
-    Ok(())
 }
 
 #[test]

@@ -6,7 +6,6 @@ use image_check::{AtOffset, CheckFault, Checked, check};
 use sites::Site;
 use std::alloc::{AllocError, Global};
 use std::process::Abort;
-use std::test::Fail;
 
 // The text, annotations and places of a file. Data is not there, but zeroed bytes may be.
 #[derive(Clone, Copy)]
@@ -67,55 +66,57 @@ fn put_programs(
 
 // The header, two program headers, the text, no data, the annotations, the names of the sections, and
 // the sections: null, .pv_sites, .shstrtab. All by the layout of ELF files of 32 bits.
-pub fn file(alloc: Global, parts: Parts<'_>) -> Result<Vec<u8>, AllocError> {
+fn put_file(out: &mut Vec<u8>, parts: &Parts<'_>) -> Result<(), AllocError> {
     let text = (parts.text.len() % 67_108_864) as u32;
     let sites = (parts.sites.len() % 65536) as u32;
     let names = 116 + text + sites;
-    let mut out = Vec::new(alloc);
-    put_header(&mut out, parts.entry, names + 21)?;
-    put_programs(&mut out, &parts, text, 116 + text)?;
+    put_header(out, parts.entry, names + 21)?;
+    put_programs(out, parts, text, 116 + text)?;
     out.extend_from_slice(parts.text)?;
     out.extend_from_slice(parts.sites)?;
     out.extend_from_slice(b"\0.pv_sites\0.shstrtab\0")?;
-    put(&mut out, &NULL_SECTION)?;
-    put(&mut out, &[1, 1, 0, 0, 116 + text, sites, 0, 0, 4, 0])?;
-    put(&mut out, &[11, 3, 0, 0, names, 21, 0, 0, 0, 0])?;
+    put(out, &NULL_SECTION)?;
+    put(out, &[1, 1, 0, 0, 116 + text, sites, 0, 0, 4, 0])?;
+    put(out, &[11, 3, 0, 0, names, 21, 0, 0, 0, 0])
+}
+
+pub fn file(alloc: Global, parts: Parts<'_>) -> Result<Vec<u8>, AllocError> {
+    let mut out = Vec::new(alloc);
+    put_file(&mut out, &parts)?;
     Ok(out)
 }
 
-// The number of the refusal and its place; 0 where the file is accepted, 1 where memory ran out.
-pub fn answer(alloc: Global, parts: Parts<'_>) -> Result<(u32, u32), AllocError> {
-    let file = file(alloc, parts)?;
-    Ok(match check(alloc, &file) {
+// The number of the refusal of a file and its place; 0 where it is accepted, 1 where memory ran out.
+fn answer(alloc: Global, file: &[u8]) -> (u32, u32) {
+    match check(alloc, file) {
         Ok(_) => (0, 0),
         Err(CheckFault::At { at, cause }) => (cause as u32, at),
         Err(CheckFault::Elf(_)) => (40, 0),
         Err(CheckFault::Memory) => (1, 0),
-    })
+    }
 }
 
 /// An image is answered so. `row` names it where it isn't.
-pub fn is_told(
-    rt: &impl Abort,
-    alloc: Global,
-    row: usize,
-    parts: Parts<'_>,
-    want: (u32, u32),
-) -> Result<(), Fail> {
-    assert_eq!(rt; answer(alloc, parts)?, want, "row {row}");
-    Ok(())
+pub fn is_told(rt: &impl Abort, alloc: Global, row: usize, parts: Parts<'_>, want: (u32, u32)) {
+    let file = file(alloc, parts).expect(rt, "memory");
+    assert_eq!(rt; answer(alloc, &file), want, "row {row}");
 }
 
 /// A text, its annotations, and the answer.
 pub type Told = (&'static [u8], &'static [u8], u32, u32);
 
 /// Each text is answered so.
-pub fn are_told(rt: &impl Abort, alloc: Global, rows: &[Told]) -> Result<(), Fail> {
+pub fn are_told(rt: &impl Abort, alloc: Global, rows: &[Told]) {
     for (k, row) in rows.iter().enumerate() {
         let (text, sites, number, at) = *row;
-        is_told(rt, alloc, k, image(text, sites), (number, at))?;
+        is_told(rt, alloc, k, image(text, sites), (number, at));
     }
-    Ok(())
+}
+
+/// The checked image of so many parts.
+pub fn checked(rt: &impl Abort, alloc: Global, parts: Parts<'_>) -> Checked {
+    let file = file(alloc, parts).expect(rt, "memory");
+    check(alloc, &file).expect(rt, "an image")
 }
 
 // One site of CLI at offset 5.
@@ -148,13 +149,11 @@ fn is_held(image: &Checked, held: Held) -> bool {
 }
 
 /// The worked image is accepted, and holds all of these.
-fn are_held(rt: &impl Abort, alloc: Global, all: &[Held]) -> Result<(), Fail> {
-    let file = file(alloc, image(WORKED_ENDED, WORKED_SITES))?;
-    let image = check(alloc, &file)?;
+fn are_held(rt: &impl Abort, alloc: Global, all: &[Held]) {
+    let image = checked(rt, alloc, image(WORKED_ENDED, WORKED_SITES));
     for (k, held) in all.iter().enumerate() {
         assert!(rt; is_held(&image, *held), "{k}");
     }
-    Ok(())
 }
 
 const ACCEPTED: [Held; 12] = [
@@ -173,8 +172,8 @@ const ACCEPTED: [Held; 12] = [
 ];
 
 #[test]
-fn an_image_is_accepted(rt: HostRuntime) -> Result<(), Fail> {
-    are_held(&rt, rt.alloc(), &ACCEPTED)
+fn an_image_is_accepted(rt: HostRuntime) {
+    are_held(&rt, rt.alloc(), &ACCEPTED);
 }
 
 const OUT: AtOffset = AtOffset::Inside(Site {
@@ -208,8 +207,8 @@ const PLACES: [Held; 13] = [
 ];
 
 #[test]
-fn an_offset_is_no_start_or_outside_sites_or_in_one(rt: HostRuntime) -> Result<(), Fail> {
-    are_held(&rt, rt.alloc(), &PLACES)
+fn an_offset_is_no_start_or_outside_sites_or_in_one(rt: HostRuntime) {
+    are_held(&rt, rt.alloc(), &PLACES);
 }
 
 const FIRST_FAULTS: [Told; 9] = [
@@ -240,8 +239,8 @@ const FIRST_FAULTS: [Told; 9] = [
 ];
 
 #[test]
-fn texts_are_refused_at_their_first_fault(rt: HostRuntime) -> Result<(), Fail> {
-    are_told(&rt, rt.alloc(), &FIRST_FAULTS)
+fn texts_are_refused_at_their_first_fault(rt: HostRuntime) {
+    are_told(&rt, rt.alloc(), &FIRST_FAULTS);
 }
 
 // The first site alone; its head, cut; no site; a site too many, below the first one.
@@ -258,8 +257,8 @@ const WRONG_SITES: [Told; 4] = [
 ];
 
 #[test]
-fn annotations_are_those_of_the_sites(rt: HostRuntime) -> Result<(), Fail> {
-    are_told(&rt, rt.alloc(), &WRONG_SITES)
+fn annotations_are_those_of_the_sites(rt: HostRuntime) {
+    are_told(&rt, rt.alloc(), &WRONG_SITES);
 }
 
 /// Where the text and the data are, the count of zeroed bytes, the entry's offset, and the answer.
@@ -277,19 +276,22 @@ const PLACED: [Placed; 8] = [
     (0x1000_0000, 0x1100_0000, 0, 7, (0, 0)),
 ];
 
-#[test]
-fn parts_stand_in_their_places(rt: HostRuntime) -> Result<(), Fail> {
-    for (k, row) in PLACED.iter().enumerate() {
-        let (text_at, init_at, bss, entry, want) = *row;
-        let parts = Parts {
-            text: WORKED_ENDED,
-            sites: WORKED_SITES,
-            text_at,
-            init_at,
-            bss,
-            entry: entry.wrapping_add(0x1000_0000),
-        };
-        is_told(&rt, rt.alloc(), k, parts, want)?;
+/// The worked image in those places.
+fn placed(row: &Placed) -> Parts<'static> {
+    let (text_at, init_at, bss, entry, _) = *row;
+    Parts {
+        text: WORKED_ENDED,
+        sites: WORKED_SITES,
+        text_at,
+        init_at,
+        bss,
+        entry: entry.wrapping_add(0x1000_0000),
     }
-    Ok(())
+}
+
+#[test]
+fn parts_stand_in_their_places(rt: HostRuntime) {
+    for (k, row) in PLACED.iter().enumerate() {
+        is_told(&rt, rt.alloc(), k, placed(row), row.4);
+    }
 }

@@ -2,13 +2,11 @@
 
 ghost use Rattle.std.specs.Prelude.{◌≡◌};
 
-use crate::agree::are_bytes;
+use crate::agree::{are_bytes, sink};
 use ia32_types::Stop;
 use pv_io::MemSink;
 use run_trace::{End, Ended, Item, NoNotes, Notes, StepItems, What, put_end, put_item, put_step};
 use std::alloc::{AllocError, Global};
-use std::process::Abort;
-use std::test::Fail;
 
 const ITEMS: [(u64, What, &str); 7] = [
     (2, What::Out8(0x3f8, 0x48), "2 out8 03f8 48\n"),
@@ -54,62 +52,54 @@ fn is_taken(out: &mut MemSink, line: &Line) -> bool {
     }
 }
 
-/// The line is this one.
-fn is_line(rt: &impl Abort, alloc: Global, line: &Line, text: &[u8]) -> Result<(), AllocError> {
-    let mut out = MemSink::new(alloc, 64, Vec::new(alloc))?;
-    assert!(rt; is_taken(&mut out, line));
-    are_bytes(rt, out.bytes(), text);
-    Ok(())
+/// Whether the line is this one.
+fn is_line(alloc: Global, line: &Line, text: &str) -> bool {
+    match MemSink::new(alloc, 64, Vec::new(alloc)) {
+        Ok(mut out) => is_taken(&mut out, line) && out.bytes() == text.as_bytes(),
+        Err(AllocError) => false,
+    }
 }
 
 #[test]
-fn items_have_their_lines(rt: HostRuntime) -> Result<(), Fail> {
+fn items_have_their_lines(rt: HostRuntime) {
     for row in &ITEMS {
         let (step, what, text) = *row;
         let line = Line::Item(Item { step, what });
-        is_line(&rt, rt.alloc(), &line, text.as_bytes())?;
+        assert!(rt; is_line(rt.alloc(), &line, text), "{text}");
     }
-    Ok(())
+}
+
+/// An end after so many steps.
+fn ended(steps: u64, end: End, fills: u64) -> Line {
+    Line::End(Ended { steps, end, fills })
 }
 
 #[test]
-fn ends_have_their_lines(rt: HostRuntime) -> Result<(), Fail> {
+fn ends_have_their_lines(rt: HostRuntime) {
     let mut steps = 0u64;
     for row in &STOPS {
         let (stop, text) = *row;
-        let end = End::Stopped(stop);
-        let line = Line::End(Ended {
-            steps,
-            end,
-            fills: 7,
-        });
-        is_line(&rt, rt.alloc(), &line, text.as_bytes())?;
+        let line = ended(steps, End::Stopped(stop), 7);
+        assert!(rt; is_line(rt.alloc(), &line, text), "{text}");
         steps = steps.saturating_add(1);
     }
-    let line = Line::End(Ended {
-        steps,
-        end: End::Bound,
-        fills: 0,
-    });
-    is_line(&rt, rt.alloc(), &line, b"end steps 16\n")?;
-    Ok(())
+    let line = ended(steps, End::Bound, 0);
+    assert!(rt; is_line(rt.alloc(), &line, "end steps 16\n"));
+}
+
+/// Whether of three lines the first and the third are taken.
+fn are_but_one_taken(out: &mut MemSink) -> bool {
+    let what = What::Irq(0x2f);
+    is_taken(out, &Line::Item(Item { step: 3, what }))
+        && !is_taken(out, &Line::Item(Item { step: 4, what }))
+        && is_taken(out, &ended(5, End::Bound, 0))
 }
 
 #[test]
-fn a_line_is_one_call_of_the_sink(rt: HostRuntime) -> Result<(), Fail> {
-    let mut out = MemSink::new(rt.alloc(), 64, Vec::from_slice(rt.alloc(), &[1])?)?;
-    let what = What::Irq(0x2f);
-    let end = Line::End(Ended {
-        steps: 5,
-        end: End::Bound,
-        fills: 0,
-    });
-    assert!(rt; is_taken(&mut out, &Line::Item(Item { step: 3, what })));
-    assert!(rt; !is_taken(&mut out, &Line::Item(Item { step: 4, what })));
-    assert!(rt; is_taken(&mut out, &end));
+fn a_line_is_one_call_of_the_sink(rt: HostRuntime) {
+    let mut out = sink(&rt, rt.alloc(), 64, &[1]);
+    assert!(rt; are_but_one_taken(&mut out) && out.faults() == 1);
     are_bytes(&rt, out.bytes(), b"3 irq 2f\nend steps 5\n");
-    assert!(rt; out.faults() == 1);
-    Ok(())
 }
 
 /// A write of a port, and the byte that it sends.
@@ -129,22 +119,19 @@ fn out_and_sent() -> StepItems
 }
 
 #[test]
-fn a_step_has_a_line_for_each_item(rt: HostRuntime) -> Result<(), Fail> {
-    let mut out = MemSink::new(rt.alloc(), 64, Vec::new(rt.alloc()))?;
+fn a_step_has_a_line_for_each_item(rt: HostRuntime) {
+    let mut out = sink(&rt, rt.alloc(), 64, &[]);
     assert!(rt; put_step(&StepItems::new(), &mut out).is_ok());
     are_bytes(&rt, out.bytes(), b"");
     assert!(rt; put_step(&out_and_sent(), &mut out).is_ok());
     are_bytes(&rt, out.bytes(), b"2 out8 03f8 48\n2 tx 48\n");
-    Ok(())
 }
 
 #[test]
-fn a_step_ends_at_a_line_that_is_not_taken(rt: HostRuntime) -> Result<(), Fail> {
-    let mut out = MemSink::new(rt.alloc(), 64, Vec::from_slice(rt.alloc(), &[1])?)?;
-    assert!(rt; put_step(&out_and_sent(), &mut out).is_err());
+fn a_step_ends_at_a_line_that_is_not_taken(rt: HostRuntime) {
+    let mut out = sink(&rt, rt.alloc(), 64, &[1]);
+    assert!(rt; put_step(&out_and_sent(), &mut out).is_err() && out.faults() == 1);
     are_bytes(&rt, out.bytes(), b"2 out8 03f8 48\n");
-    assert!(rt; out.faults() == 1);
-    Ok(())
 }
 
 #[test]

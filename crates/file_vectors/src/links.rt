@@ -1,13 +1,12 @@
 //! Objects made by hand, and the images that they make.
 
-use crate::agree::{Held, are_held};
+use crate::agree::{Held, are_held, put_times};
 use crate::object_rows::{EMPTY, Parts, WORKED, object, objects, symbol};
 use crate::vectors::{WORKED_ENDED, WORKED_SITES};
 use elf_form::{DefinedIn, Image, Object, Reloc};
 use elf_link::{LinkCause, LinkFault, are_linkable, link, linked};
 use std::alloc::{AllocError, Global};
 use std::process::Abort;
-use std::test::Fail;
 
 /// What is told of the objects, if they can be linked at all.
 fn outcome(alloc: Global, objects: &Vec<Object>) -> Option<Result<Image, LinkFault>> {
@@ -66,28 +65,20 @@ fn tells(cause: &LinkCause, told: Told) -> bool {
 }
 
 /// The objects are refused at one of them, by a cause that tells all of these.
-fn are_refused(
-    rt: &impl Abort,
-    alloc: Global,
-    list: &[Parts],
-    object: u32,
-    all: &[Told],
-) -> Result<(), Fail> {
-    let objects = objects(alloc, list)?;
-    let (at, cause) = refusal(alloc, &objects).ok_or("linked")?;
+fn are_refused(rt: &impl Abort, alloc: Global, list: &[Parts], object: u32, all: &[Told]) {
+    let objects = objects(alloc, list).expect(rt, "memory");
+    let (at, cause) = refusal(alloc, &objects).expect(rt, "a refusal");
     assert!(rt; at == object);
     for (k, told) in all.iter().enumerate() {
         assert!(rt; tells(&cause, *told), "{k}");
     }
-    Ok(())
 }
 
 /// The objects make an image that holds all of these.
-fn make(rt: &impl Abort, alloc: Global, list: &[Parts], all: &[Held]) -> Result<(), Fail> {
-    let objects = objects(alloc, list)?;
-    let image = made(alloc, &objects).ok_or("refused")?;
+fn make(rt: &impl Abort, alloc: Global, list: &[Parts], all: &[Held]) {
+    let objects = objects(alloc, list).expect(rt, "memory");
+    let image = made(alloc, &objects).expect(rt, "an image");
     are_held(rt, &image, all);
-    Ok(())
 }
 
 const WORKED_IMAGE: [Held; 5] = [
@@ -99,25 +90,22 @@ const WORKED_IMAGE: [Held; 5] = [
 ];
 
 #[test]
-fn links_the_worked_object(rt: HostRuntime) -> Result<(), Fail> {
-    make(&rt, rt.alloc(), &[WORKED], &WORKED_IMAGE)
+fn links_the_worked_object(rt: HostRuntime) {
+    make(&rt, rt.alloc(), &[WORKED], &WORKED_IMAGE);
 }
 
 const END_ALONE: [Held; 2] = [Held::Text(b"\xEB\xFE"), Held::Entry(0x1000_0000)];
 
 #[test]
-fn makes_an_image_of_no_object(rt: HostRuntime) -> Result<(), Fail> {
-    make(&rt, rt.alloc(), &[], &END_ALONE)
+fn makes_an_image_of_no_object(rt: HostRuntime) {
+    make(&rt, rt.alloc(), &[], &END_ALONE);
 }
 
 #[test]
-fn writes_the_file_of_no_object(rt: HostRuntime) -> Result<(), Fail> {
+fn writes_the_file_of_no_object(rt: HostRuntime) {
     let objects: Vec<Object> = Vec::new(rt.alloc());
-    let file = written(rt.alloc(), &objects).ok_or("refused")?;
-    assert!(rt; file.len() % 4 == 0);
-    assert!(rt; file.len() > 4096);
-    assert!(rt; file.starts_with(b"\x7FELF"));
-    Ok(())
+    let file = written(rt.alloc(), &objects).expect(&rt, "a file");
+    assert!(rt; file.len() % 4 == 0 && file.len() > 4096 && file.starts_with(b"\x7FELF"));
 }
 
 const RETURNS: Parts = Parts {
@@ -129,8 +117,8 @@ const RETURNS: Parts = Parts {
 const DOUBLED: [Told; 2] = [Told::Number(31), Told::Name(b"f")];
 
 #[test]
-fn refuses_a_name_that_is_defined_twice(rt: HostRuntime) -> Result<(), Fail> {
-    are_refused(&rt, rt.alloc(), &[RETURNS, RETURNS], 1, &DOUBLED)
+fn refuses_a_name_that_is_defined_twice(rt: HostRuntime) {
+    are_refused(&rt, rt.alloc(), &[RETURNS, RETURNS], 1, &DOUBLED);
 }
 
 /// A call of a name, as GCC writes it: the addend is -4.
@@ -149,8 +137,8 @@ const CALLS: Parts = Parts {
 const NOWHERE: [Told; 2] = [Told::Number(30), Told::Name(b"foo")];
 
 #[test]
-fn refuses_a_name_that_is_defined_nowhere(rt: HostRuntime) -> Result<(), Fail> {
-    are_refused(&rt, rt.alloc(), &[CALLS], 0, &NOWHERE)
+fn refuses_a_name_that_is_defined_nowhere(rt: HostRuntime) {
+    are_refused(&rt, rt.alloc(), &[CALLS], 0, &NOWHERE);
 }
 
 /// A call, and what is called.
@@ -177,8 +165,8 @@ const CALLED: [Held; 2] = [
 ];
 
 #[test]
-fn calls_across_objects_and_moves_sites(rt: HostRuntime) -> Result<(), Fail> {
-    make(&rt, rt.alloc(), &CALL_AND_CALLED, &CALLED)
+fn calls_across_objects_and_moves_sites(rt: HostRuntime) {
+    make(&rt, rt.alloc(), &CALL_AND_CALLED, &CALLED);
 }
 
 /// A move of the place of zeroed bytes.
@@ -203,8 +191,8 @@ const ZEROED_IMAGE: [Held; 3] = [
 ];
 
 #[test]
-fn places_zeroed_bytes_behind_all_data(rt: HostRuntime) -> Result<(), Fail> {
-    make(&rt, rt.alloc(), &[ZEROED], &ZEROED_IMAGE)
+fn places_zeroed_bytes_behind_all_data(rt: HostRuntime) {
+    make(&rt, rt.alloc(), &[ZEROED], &ZEROED_IMAGE);
 }
 
 static DATA: [Parts; 3] = [
@@ -228,8 +216,8 @@ const ALIGNED: [Held; 5] = [
 ];
 
 #[test]
-fn aligns_the_data_of_each_object(rt: HostRuntime) -> Result<(), Fail> {
-    make(&rt, rt.alloc(), &DATA, &ALIGNED)
+fn aligns_the_data_of_each_object(rt: HostRuntime) {
+    make(&rt, rt.alloc(), &DATA, &ALIGNED);
 }
 
 /// The table of a switch, as GCC makes it.
@@ -263,8 +251,8 @@ const SWITCHED: [Held; 2] = [
 ];
 
 #[test]
-fn fills_the_table_of_a_gcc_switch(rt: HostRuntime) -> Result<(), Fail> {
-    make(&rt, rt.alloc(), &[SWITCH], &SWITCHED)
+fn fills_the_table_of_a_gcc_switch(rt: HostRuntime) {
+    make(&rt, rt.alloc(), &[SWITCH], &SWITCHED);
 }
 
 /// A call of data.
@@ -290,9 +278,9 @@ static START_IN_DATA: [Parts; 2] = [
 ];
 
 #[test]
-fn refuses_branches_and_a_start_outside_text(rt: HostRuntime) -> Result<(), Fail> {
-    are_refused(&rt, rt.alloc(), &CALL_OF_DATA, 1, &[Told::Place(1)])?;
-    are_refused(&rt, rt.alloc(), &START_IN_DATA, 1, &[Told::Place(4)])
+fn refuses_branches_and_a_start_outside_text(rt: HostRuntime) {
+    are_refused(&rt, rt.alloc(), &CALL_OF_DATA, 1, &[Told::Place(1)]);
+    are_refused(&rt, rt.alloc(), &START_IN_DATA, 1, &[Told::Place(4)]);
 }
 
 /// Whether the objects make an image, or are refused so.
@@ -319,16 +307,42 @@ fn sized(alloc: Global, text: usize, bss: u32) -> Result<Object, AllocError> {
     Ok(object)
 }
 
+fn put_sized(
+    alloc: Global,
+    objects: &mut Vec<Object>,
+    text: usize,
+    bss: u32,
+) -> Result<(), AllocError> {
+    objects.push(sized(alloc, text, bss)?)?;
+    Ok(())
+}
+
+/// One such object, and a second one where it has zeroed bytes.
+fn put_both(alloc: Global, objects: &mut Vec<Object>, row: &Sized) -> Result<(), AllocError> {
+    let (text, bss, more, _) = *row;
+    put_sized(alloc, objects, text, bss)?;
+    if more > 0 {
+        put_sized(alloc, objects, 0, more)?;
+    }
+    Ok(())
+}
+
+fn is_limited(alloc: Global, row: &Sized) -> bool {
+    let mut objects = Vec::new(alloc);
+    put_both(alloc, &mut objects, row).is_ok() && are_told(alloc, &objects, row.3)
+}
+
 #[test]
-fn keeps_the_limits_of_sizes(rt: HostRuntime) -> Result<(), Fail> {
-    for row in &LIMITS {
-        let (text, bss, more, want) = *row;
-        let mut objects = Vec::new(rt.alloc());
-        objects.push(sized(rt.alloc(), text, bss)?)?;
-        if more > 0 {
-            objects.push(sized(rt.alloc(), 0, more)?)?;
-        }
-        assert!(rt; are_told(rt.alloc(), &objects, want), "{text} {bss} {more}");
+fn keeps_the_limits_of_sizes(rt: HostRuntime) {
+    for (k, row) in LIMITS.iter().enumerate() {
+        assert!(rt; is_limited(rt.alloc(), row), "row {k}");
+    }
+}
+
+fn put_symbols(alloc: Global, object: &mut Object, count: u32) -> Result<(), AllocError> {
+    for _ in 0..count {
+        let symbol = symbol(alloc, &(b"", DefinedIn::Text, 0, false))?;
+        object.symbols.push(symbol)?;
     }
     Ok(())
 }
@@ -336,11 +350,7 @@ fn keeps_the_limits_of_sizes(rt: HostRuntime) -> Result<(), Fail> {
 /// An object with so many symbols.
 fn named(alloc: Global, count: u32) -> Result<Object, AllocError> {
     let mut object = object(alloc, &EMPTY)?;
-    for _ in 0..count {
-        object
-            .symbols
-            .push(symbol(alloc, &(b"", DefinedIn::Text, 0, false))?)?;
-    }
+    put_symbols(alloc, &mut object, count)?;
     Ok(object)
 }
 
@@ -354,12 +364,35 @@ static SYMBOLS: [Counted; 4] = [
     (65_535, 2, Some((1, 35))),
 ];
 
+fn put_named(
+    alloc: Global,
+    objects: &mut Vec<Object>,
+    first: u32,
+    second: u32,
+) -> Result<(), AllocError> {
+    objects.push(named(alloc, first)?)?;
+    objects.push(named(alloc, second)?)?;
+    Ok(())
+}
+
+fn are_named(alloc: Global, row: &Counted) -> bool {
+    let mut objects = Vec::new(alloc);
+    put_named(alloc, &mut objects, row.0, row.1).is_ok() && are_told(alloc, &objects, row.2)
+}
+
 #[test]
-fn keeps_the_limit_of_symbols(rt: HostRuntime) -> Result<(), Fail> {
-    for row in &SYMBOLS {
-        let (first, second, want) = *row;
-        let objects = vec![in rt.alloc(); named(rt.alloc(), first)?, named(rt.alloc(), second)?]?;
-        assert!(rt; are_told(rt.alloc(), &objects, want), "{first} {second}");
+fn keeps_the_limit_of_symbols(rt: HostRuntime) {
+    for (k, row) in SYMBOLS.iter().enumerate() {
+        assert!(rt; are_named(rt.alloc(), row), "row {k}");
+    }
+}
+
+fn put_sites(sites: &mut Vec<u8>, count: u32) -> Result<(), AllocError> {
+    sites.extend_from_slice(b"PVS1")?;
+    sites.extend_from_slice(&count.to_le_bytes())?;
+    for i in 0..count {
+        sites.extend_from_slice(&i.wrapping_mul(5).to_le_bytes())?;
+        sites.extend_from_slice(&[1, 1, 5, 0])?;
     }
     Ok(())
 }
@@ -367,16 +400,26 @@ fn keeps_the_limit_of_symbols(rt: HostRuntime) -> Result<(), Fail> {
 /// An object of so many CLIs, each with its NOPs.
 fn patched(alloc: Global, count: u32) -> Result<Object, AllocError> {
     let mut object = object(alloc, &EMPTY)?;
-    object.sites = Vec::from_slice(alloc, b"PVS1")?;
-    object.sites.extend_from_slice(&count.to_le_bytes())?;
-    for i in 0..count {
-        object.text.extend_from_slice(b"\xFA\x90\x90\x90\x90")?;
-        object
-            .sites
-            .extend_from_slice(&i.wrapping_mul(5).to_le_bytes())?;
-        object.sites.extend_from_slice(&[1, 1, 5, 0])?;
-    }
+    object.sites = Vec::new(alloc);
+    put_sites(&mut object.sites, count)?;
+    put_times(&mut object.text, b"\xFA\x90\x90\x90\x90", count)?;
     Ok(object)
+}
+
+fn put_patched(
+    alloc: Global,
+    objects: &mut Vec<Object>,
+    first: u32,
+    second: u32,
+) -> Result<(), AllocError> {
+    objects.push(patched(alloc, first)?)?;
+    objects.push(patched(alloc, second)?)?;
+    Ok(())
+}
+
+fn are_patched(alloc: Global, row: &Counted) -> bool {
+    let mut objects = Vec::new(alloc);
+    put_patched(alloc, &mut objects, row.0, row.1).is_ok() && are_told(alloc, &objects, row.2)
 }
 
 static SITES_OF: [Counted; 4] = [
@@ -387,16 +430,10 @@ static SITES_OF: [Counted; 4] = [
 ];
 
 #[test]
-fn keeps_the_limit_of_sites(rt: HostRuntime) -> Result<(), Fail> {
-    for row in &SITES_OF {
-        let (first, second, want) = *row;
-        let objects = vec![in rt.alloc();
-            patched(rt.alloc(), first)?,
-            patched(rt.alloc(), second)?,
-        ]?;
-        assert!(rt; are_told(rt.alloc(), &objects, want), "{first} {second}");
+fn keeps_the_limit_of_sites(rt: HostRuntime) {
+    for (k, row) in SITES_OF.iter().enumerate() {
+        assert!(rt; are_patched(rt.alloc(), row), "row {k}");
     }
-    Ok(())
 }
 
 /// The worked object, and one whose site is longer than its text.
@@ -411,17 +448,20 @@ static PAST: [Parts; 2] = [
 ];
 
 #[test]
-fn refuses_a_site_past_its_text(rt: HostRuntime) -> Result<(), Fail> {
-    are_refused(&rt, rt.alloc(), &PAST, 1, &[Told::Number(36)])
+fn refuses_a_site_past_its_text(rt: HostRuntime) {
+    are_refused(&rt, rt.alloc(), &PAST, 1, &[Told::Number(36)]);
+}
+
+fn put_two(sites: &mut Vec<u8>, second: u8) -> Result<(), AllocError> {
+    sites.extend_from_slice(b"PVS1\x02\0\0\0\0\0\0\0\x01\x01\x05\0")?;
+    sites.extend_from_slice(&[second, 0, 0, 0, 1, 1, 5, 0])
 }
 
 /// An object of so much text that has two sites, at 0 and at an offset.
 fn annotated(alloc: Global, text: usize, second: u8) -> Result<Object, AllocError> {
     let mut object = sized(alloc, text, 0)?;
-    object.sites = Vec::from_slice(alloc, b"PVS1\x02\0\0\0\0\0\0\0\x01\x01\x05\0")?;
-    object
-        .sites
-        .extend_from_slice(&[second, 0, 0, 0, 1, 1, 5, 0])?;
+    object.sites = Vec::new(alloc);
+    put_two(&mut object.sites, second)?;
     Ok(object)
 }
 
@@ -440,23 +480,41 @@ static GAPPED: [Gapped; 4] = [
     ),
 ];
 
+/// Whether the objects make an image whose annotations begin so.
+fn begin_so(alloc: Global, objects: &Vec<Object>, front: &[u8]) -> bool {
+    match made(alloc, objects) {
+        Some(image) => image.sites.starts_with(front),
+        None => false,
+    }
+}
+
 /// Whether the annotations of the object's image begin so, or where none do, whether it is refused for them.
-fn is_gapped(alloc: Global, object: Object, want: Option<&[u8]>) -> Result<bool, AllocError> {
-    let objects = vec![in alloc; object]?;
-    Ok(match (made(alloc, &objects), want) {
-        (Some(image), Some(front)) => image.sites.starts_with(front),
-        (None, None) => numbered(alloc, &objects) == Some((0, 36)),
-        _ => false,
-    })
+fn is_gapped(alloc: Global, objects: &Vec<Object>, want: Option<&[u8]>) -> bool {
+    match want {
+        Some(front) => begin_so(alloc, objects, front),
+        None => are_told(alloc, objects, Some((0, 36))),
+    }
+}
+
+fn put_annotated(
+    alloc: Global,
+    objects: &mut Vec<Object>,
+    text: usize,
+    second: u8,
+) -> Result<(), AllocError> {
+    objects.push(annotated(alloc, text, second)?)?;
+    Ok(())
+}
+
+fn are_gapped(alloc: Global, row: &Gapped) -> bool {
+    let (text, second, want) = *row;
+    let mut objects = Vec::new(alloc);
+    put_annotated(alloc, &mut objects, text, second).is_ok() && is_gapped(alloc, &objects, want)
 }
 
 #[test]
-fn long_texts_have_gaps(rt: HostRuntime) -> Result<(), Fail> {
-    let alloc = rt.alloc();
-    for row in &GAPPED {
-        let (text, second, want) = *row;
-        let object = annotated(alloc, text, second)?;
-        assert!(rt; is_gapped(alloc, object, want)?, "{text} {second}");
+fn long_texts_have_gaps(rt: HostRuntime) {
+    for (k, row) in GAPPED.iter().enumerate() {
+        assert!(rt; are_gapped(rt.alloc(), row), "row {k}");
     }
-    Ok(())
 }

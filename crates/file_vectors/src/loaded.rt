@@ -2,19 +2,19 @@
 
 ghost use Rattle.std.specs.Prelude.{◌≡◌, ◌*◌, ◌≤◌, length, IfOk};
 
-use crate::images::{file, image};
+use crate::images::{checked, image};
 use crate::vectors::NO_SITES;
 use guest_ram::Ram;
-use image_check::{Checked, check};
+use image_check::Checked;
 use image_load::{Boot, TooSmall, load};
 use std::alloc::{AllocError, Global};
-use std::test::Fail;
+use std::process::Abort;
 
 // An image of so many zeroed bytes, whose text is its end.
-fn zeroed(alloc: Global, bss: u32) -> Result<Vec<u8>, AllocError> {
+fn zeroed(rt: &impl Abort, alloc: Global, bss: u32) -> Checked {
     let mut parts = image(b"\xEB\xFE", NO_SITES);
     parts.bss = bss;
-    file(alloc, parts)
+    checked(rt, alloc, parts)
 }
 
 // An image in a memory of so many frames, with what is told of it.
@@ -40,12 +40,10 @@ fn is_too_small(told: &Result<Boot, TooSmall>, need: u32, have: u32) -> bool {
 }
 
 #[test]
-fn an_image_that_is_too_large_is_told(rt: HostRuntime) -> Result<(), Fail> {
-    let alloc = rt.alloc();
-    let image = check(alloc, &zeroed(alloc, 8_388_608)?)?;
-    let (_ram, told) = started(alloc, &image, 2048)?;
+fn an_image_that_is_too_large_is_told(rt: HostRuntime) {
+    let image = zeroed(&rt, rt.alloc(), 8_388_608);
+    let (_ram, told) = started(rt.alloc(), &image, 2048).expect(&rt, "memory");
     assert!(rt; is_too_small(&told, 2305, 2048));
-    Ok(())
 }
 
 /// Something that holds where a machine starts.
@@ -93,14 +91,22 @@ const SHOWN: [Shown; 18] = [
     Shown::Word(0x10_0000, 0x0000_FEEB),
 ];
 
-#[test]
-fn a_machine_starts_as_the_boot_state_says(rt: HostRuntime) -> Result<(), Fail> {
-    let alloc = rt.alloc();
-    let image = check(alloc, &zeroed(alloc, 4)?)?;
-    let (ram, told) = started(alloc, &image, 2048)?;
-    let boot = told.ok().ok_or("it is too small")?;
-    for (k, shown) in SHOWN.iter().enumerate() {
-        assert!(rt; is_shown(&ram, &boot, *shown), "{k}");
+/// The first of these that doesn't hold.
+fn first_other(ram: &Ram, boot: &Boot, all: &[Shown]) -> Option<usize>
+    requires { length ram.now ≡ 8388608 }
+{
+    for (k, shown) in all.iter().enumerate() {
+        if !is_shown(ram, boot, *shown) {
+            return Some(k);
+        }
     }
-    Ok(())
+    None
+}
+
+#[test]
+fn a_machine_starts_as_the_boot_state_says(rt: HostRuntime) {
+    let image = zeroed(&rt, rt.alloc(), 4);
+    let (ram, told) = started(rt.alloc(), &image, 2048).expect(&rt, "memory");
+    let boot = told.expect(&rt, "it is large enough");
+    assert_eq!(rt; first_other(&ram, &boot, &SHOWN), None);
 }

@@ -2,9 +2,8 @@
 
 ghost use Rattle.std.specs.Prelude.{◌≡◌, length, IfOk};
 
-use crate::agree::are_bytes;
 use crate::vectors::{NO_SITES, WORKED_SITES, WORKED_TEXT};
-use elf_form::{Bytes, DefinedIn, Object, Reloc, Symbol};
+use elf_form::{Bytes, DefinedIn, Object, Reloc, Symbol, read_object};
 use std::alloc::{AllocError, Global};
 use std::process::Abort;
 
@@ -95,20 +94,40 @@ fn is_symbol(object: &Object, number: usize, row: &Named) -> bool {
     }
 }
 
-/// These are all the symbols of the object.
-fn are_symbols(rt: &impl Abort, object: &Object, rows: &[Named]) {
-    assert!(rt; object.symbols.len() == rows.len());
+/// Whether these are all the symbols of the object.
+fn are_symbols(object: &Object, rows: &[Named]) -> bool {
     for (k, row) in rows.iter().enumerate() {
-        assert!(rt; is_symbol(object, k, row), "symbol {k}");
+        if !is_symbol(object, k, row) {
+            return false;
+        }
     }
+    object.symbols.len() == rows.len()
 }
 
-/// The object has these parts, and nothing else.
-pub fn is_object(rt: &impl Abort, object: &Object, parts: &Parts) {
-    are_bytes(rt, &object.text, parts.text);
-    are_bytes(rt, &object.init, parts.init);
-    are_bytes(rt, &object.sites, parts.sites);
-    assert!(rt; object.bss == parts.bss);
-    are_symbols(rt, object, parts.symbols);
-    assert_eq!(rt; object.relocs.as_slice(), parts.relocs);
+/// The first part of the object that is another one.
+fn other_part(object: &Object, parts: &Parts) -> Option<&'static str> {
+    if object.text.as_slice() != parts.text {
+        return Some("the text");
+    }
+    if object.init.as_slice() != parts.init || object.bss != parts.bss {
+        return Some("the data");
+    }
+    if object.sites.as_slice() != parts.sites {
+        return Some("the annotations");
+    }
+    if !are_symbols(object, parts.symbols) {
+        return Some("the symbols");
+    }
+    if object.relocs.as_slice() != parts.relocs {
+        return Some("the relocations");
+    }
+    None
+}
+
+/// The file is read as the object with these parts, and nothing else.
+pub fn reads_as(rt: &impl Abort, alloc: Global, bytes: &[u8], parts: &Parts) {
+    let object = read_object(alloc, bytes).expect(rt, "an object");
+    if let Some(part) = other_part(&object, parts) {
+        panic!(rt; "{part}");
+    }
 }

@@ -1,11 +1,10 @@
 //! Objects that other tools made, and worked examples.
 
-use crate::object_rows::{EMPTY, Parts, WORKED, is_object};
+use crate::agree::put_times;
+use crate::object_rows::{EMPTY, Parts, WORKED, reads_as};
 use crate::vectors::{GCC_OBJECT, NO_SITES, WORKED_OBJECT};
 use elf_form::{DefinedIn, ElfCause, ElfFault, Reloc, read_object};
 use std::alloc::{AllocError, Global};
-use std::process::Abort;
-use std::test::Fail;
 
 /// The object of GCC: the text by objdump -d; the symbols by readelf -s, without the null one and that of the source file,
 /// where a section has no name; the relocations by readelf -r, of .bss, far_away and near, each R_386_32.
@@ -44,17 +43,13 @@ const GCC: Parts = Parts {
 };
 
 #[test]
-fn reads_an_object_of_gcc(rt: HostRuntime) -> Result<(), Fail> {
-    let object = read_object(rt.alloc(), &GCC_OBJECT)?;
-    is_object(&rt, &object, &GCC);
-    Ok(())
+fn reads_an_object_of_gcc(rt: HostRuntime) {
+    reads_as(&rt, rt.alloc(), &GCC_OBJECT, &GCC);
 }
 
 #[test]
-fn reads_a_worked_object(rt: HostRuntime) -> Result<(), Fail> {
-    let object = read_object(rt.alloc(), &WORKED_OBJECT)?;
-    is_object(&rt, &object, &WORKED);
-    Ok(())
+fn reads_a_worked_object(rt: HostRuntime) {
+    reads_as(&rt, rt.alloc(), &WORKED_OBJECT, &WORKED);
 }
 
 /// The place and the cause of the fault by which a file is refused; none where it is read.
@@ -66,9 +61,9 @@ fn fault(alloc: Global, bytes: &[u8]) -> Option<(u32, ElfCause)> {
     }
 }
 
-/// The file is refused so. `row` names it where it isn't.
-fn is_refused(rt: &impl Abort, alloc: Global, row: usize, bytes: &[u8], want: (u32, ElfCause)) {
-    assert_eq!(rt; fault(alloc, bytes), Some(want), "row {row}");
+/// Whether the file is refused so.
+fn is_refused(alloc: Global, bytes: &[u8], at: u32, cause: ElfCause) -> bool {
+    fault(alloc, bytes) == Some((at, cause))
 }
 
 /// The worked object with other bytes at some places.
@@ -103,14 +98,20 @@ const SPOILED: [Spoiled; 12] = [
     (126, 4, 126, ElfCause::SymbolForm),
 ];
 
-#[test]
-fn names_the_first_fault(rt: HostRuntime) -> Result<(), Fail> {
-    for (k, row) in SPOILED.iter().enumerate() {
-        let (index, byte, at, cause) = *row;
-        let bytes = changed(rt.alloc(), &[(index, [byte].as_slice())])?;
-        is_refused(&rt, rt.alloc(), k, &bytes, (at, cause));
+/// Whether the worked object with that byte is refused so.
+fn is_spoiled(alloc: Global, row: &Spoiled) -> bool {
+    let (index, byte, at, cause) = *row;
+    match changed(alloc, &[(index, [byte].as_slice())]) {
+        Ok(bytes) => is_refused(alloc, &bytes, at, cause),
+        Err(AllocError) => false,
     }
-    Ok(())
+}
+
+#[test]
+fn names_the_first_fault(rt: HostRuntime) {
+    for (k, row) in SPOILED.iter().enumerate() {
+        assert!(rt; is_spoiled(rt.alloc(), row), "row {k}");
+    }
 }
 
 /// Whether the file is refused as one that ends too early.
@@ -158,11 +159,16 @@ const UNDEFINED: Parts = Parts {
 };
 
 #[test]
-fn index_zero_names_no_section(rt: HostRuntime) -> Result<(), Fail> {
-    let bytes = with_text_first(rt.alloc())?;
-    let object = read_object(rt.alloc(), &bytes)?;
-    is_object(&rt, &object, &UNDEFINED);
-    Ok(())
+fn index_zero_names_no_section(rt: HostRuntime) {
+    let bytes = with_text_first(rt.alloc()).expect(&rt, "memory");
+    reads_as(&rt, rt.alloc(), &bytes, &UNDEFINED);
+}
+
+/// Headers from the tenth to the last of 65,535: that of number 0xFFF1 is one of zeroed bytes.
+fn put_headers(bytes: &mut Vec<u8>) -> Result<(), AllocError> {
+    put_times(bytes, &WORKED_OBJECT[212..252], 0xFFF1 - 10)?;
+    put_times(bytes, &WORKED_OBJECT[332..372], 1)?;
+    put_times(bytes, &WORKED_OBJECT[212..252], 0xFFFF - 0xFFF2)
 }
 
 /// The worked object with 65,535 headers. The symbol has index 0xFFF1 (SHN_ABS); the header of that number is one of
@@ -178,18 +184,14 @@ fn with_all_headers(alloc: Global) -> Result<Vec<u8>, AllocError> {
             &WORKED_OBJECT[128..],
         ],
     )?;
-    for index in 10..0xFFFF {
-        let from = if index == 0xFFF1 { 332 } else { 212 };
-        bytes.extend_from_slice(&WORKED_OBJECT[from..from + 40])?;
-    }
+    put_headers(&mut bytes)?;
     Ok(bytes)
 }
 
 #[test]
-fn reserved_indices_name_no_section(rt: HostRuntime) -> Result<(), Fail> {
-    let bytes = with_all_headers(rt.alloc())?;
-    is_refused(&rt, rt.alloc(), 0, &bytes, (126, ElfCause::SymbolForm));
-    Ok(())
+fn reserved_indices_name_no_section(rt: HostRuntime) {
+    let bytes = with_all_headers(rt.alloc()).expect(&rt, "memory");
+    assert!(rt; is_refused(rt.alloc(), &bytes, 126, ElfCause::SymbolForm));
 }
 
 /// A field, its index, where the string table has its header, how many headers there are, and the fault's place.
@@ -210,24 +212,28 @@ fn header(from: usize) -> Option<&'static [u8]> {
 
 /// The worked object with that field. Header 0 is that of the string table, which is named by its index or by a reserved
 /// one. With 65,535 headers each index has one: those behind the tenth are all like header 0.
-fn with_index(alloc: Global, row: &Index) -> Result<Vec<u8>, Fail> {
+fn with_index(alloc: Global, row: &Index) -> Option<Vec<u8>> {
     let (field, index, from, count, _) = *row;
-    let header = header(from).ok_or("short")?;
+    let header = header(from)?;
     let headers = count.to_le_bytes();
-    let mut bytes = changed(alloc, &[(field, index), (48, &headers), (212, header)])?;
-    for _ in 10..count {
-        bytes.extend_from_slice(header)?;
+    let mut bytes = changed(alloc, &[(field, index), (48, &headers), (212, header)]).ok()?;
+    put_times(&mut bytes, header, u32::from(count).saturating_sub(10)).ok()?;
+    Some(bytes)
+}
+
+/// Whether that object is refused at the fault's place.
+fn is_no_index(alloc: Global, row: &Index) -> bool {
+    match with_index(alloc, row) {
+        Some(bytes) => is_refused(alloc, &bytes, row.4, ElfCause::StringPlace),
+        None => false,
     }
-    Ok(bytes)
 }
 
 #[test]
-fn indices_of_no_section_name_no_string_table(rt: HostRuntime) -> Result<(), Fail> {
+fn indices_of_no_section_name_no_string_table(rt: HostRuntime) {
     for (k, row) in INDICES.iter().enumerate() {
-        let bytes = with_index(rt.alloc(), row)?;
-        is_refused(&rt, rt.alloc(), k, &bytes, (row.4, ElfCause::StringPlace));
+        assert!(rt; is_no_index(rt.alloc(), row), "row {k}");
     }
-    Ok(())
 }
 
 /// The worked object's header alone, which names no section table, and a table of names that isn't there.
@@ -241,9 +247,7 @@ fn without_sections(alloc: Global) -> Result<Vec<u8>, AllocError> {
 }
 
 #[test]
-fn an_object_without_sections_is_read(rt: HostRuntime) -> Result<(), Fail> {
-    let bytes = without_sections(rt.alloc())?;
-    let object = read_object(rt.alloc(), &bytes)?;
-    is_object(&rt, &object, &EMPTY);
-    Ok(())
+fn an_object_without_sections_is_read(rt: HostRuntime) {
+    let bytes = without_sections(rt.alloc()).expect(&rt, "memory");
+    reads_as(&rt, rt.alloc(), &bytes, &EMPTY);
 }

@@ -1,8 +1,10 @@
-use board::{Board, Event, PortRead, ScriptCause, ScriptFault, read_script};
+ghost use Rattle.std.specs.Prelude.{◌≡◌, true};
+ghost use Rattle.board.specs.Scripts.{is_script};
+
+use board::{Board, Event, PortRead, Script, ScriptCause, ScriptFault, read_script};
 use ia32_types::Did;
-use std::alloc::Global;
+use std::alloc::{AllocError, Global};
 use std::process::Abort;
-use std::test::Fail;
 
 fn sent(board: &mut Board, port: u16, v: u8) -> Did {
     board.port_out(port, false, v as u32)
@@ -99,15 +101,21 @@ const READS: [(u16, bool, PortRead); 13] = [
     (0xFFFF, true, PortRead::Value(0xFFFF_FFFF)),
 ];
 
+/// A port, the number of four bytes that is written there, and what is done.
+const WRITES: [(u16, u32, Did); 2] = [(0x80, 0x1234_5678, Did::Done), (0x9D, 0, Did::Stop)];
+
 #[test]
 fn ports_are_served_ignored_or_refused(rt: HostRuntime) {
     let mut board = Board::new();
-    for row in &READS {
-        let (port, wide, want) = *row;
-        assert!(rt; board.port_in(port, wide) == want, "read of {port}");
+    for (port, wide, want) in &READS {
+        assert!(rt; board.port_in(*port, *wide) == *want, "read of {port}");
     }
-    assert!(rt; board.port_out(0x80, true, 0x1234_5678) == Did::Done);
-    assert!(rt; board.port_out(0x9D, true, 0) == Did::Stop);
+    for (port, value, did) in &WRITES {
+        assert!(rt;
+            board.port_out(*port, true, *value) == *did,
+            "write of {port}"
+        );
+    }
     assert!(rt; sent(&mut board, 0x3F8, 0x48) == Did::Sent(0x48));
 }
 
@@ -120,20 +128,34 @@ const RECEIVED: [Step; 6] = [
     Step::Pending(Some(0x24)),
 ];
 
-#[test]
-fn a_received_byte_asks_once_its_interrupt_is_enabled(rt: HostRuntime) -> Result<(), Fail> {
-    let script = read_script(rt.alloc(), b"4 rx 41\n4 line 12")?;
-    let mut board = started();
-    for step in 0..5 {
-        board.begin(&script, step);
+/// The first of five steps under a script before which the line's status is another one: a byte is there from step 4 on.
+fn failing_step(board: &mut Board, script: &Script) -> Option<u64>
+    requires { is_script script.now.list ≡ true }
+{
+    for step in 0..5u64 {
+        board.begin(script, step);
         let want = if step < 4 { 0x60 } else { 0x61 };
-        assert!(rt;
-            board.port_in(0x3FD, false) == PortRead::Value(want),
-            "at {step}"
-        );
+        if board.port_in(0x3FD, false) != PortRead::Value(want) {
+            return Some(step);
+        }
+    }
+    None
+}
+
+fn script(rt: &impl Abort, alloc: Global, text: &[u8]) -> Script
+    ensures { is_script result.list ≡ true }
+{
+    read_script(alloc, text).expect(rt, "a script")
+}
+
+#[test]
+fn a_received_byte_asks_once_its_interrupt_is_enabled(rt: HostRuntime) {
+    let script = script(&rt, rt.alloc(), b"4 rx 41\n4 line 12");
+    let mut board = started();
+    if let Some(step) = failing_step(&mut board, &script) {
+        panic!(rt; "at {step}");
     }
     follow(&rt, &mut board, &RECEIVED);
-    Ok(())
 }
 
 const EVENTS: [(u64, Event); 3] = [
@@ -164,14 +186,20 @@ const REFUSED: [Refused; 16] = [
     (b"0 rx 41\r\n1", 1, ScriptCause::NotAscii),
 ];
 
-#[test]
-fn scripts_are_read(rt: HostRuntime) -> Result<(), Fail> {
-    let script = read_script(rt.alloc(), b"# first\n0 rx 4F\n\n007 line 05\n7 rx 0a")?;
-    assert!(rt; script.list.as_slice() == EVENTS.as_slice());
+/// Whether a script has those events, of which the second and the third come next after step 0, and none after step 7.
+fn has_events(script: &Script) -> bool
+    requires { is_script script.now.list ≡ true }
+{
     let board = Board::new();
-    assert_eq!(rt; board.next_event(&script, 0), Some(7));
-    assert_eq!(rt; board.next_event(&script, 7), None);
-    Ok(())
+    script.list.as_slice() == EVENTS.as_slice()
+        && board.next_event(script, 0) == Some(7)
+        && board.next_event(script, 7).is_none()
+}
+
+#[test]
+fn scripts_are_read(rt: HostRuntime) {
+    let text = b"# first\n0 rx 4F\n\n007 line 05\n7 rx 0a";
+    assert!(rt; has_events(&script(&rt, rt.alloc(), text)));
 }
 
 /// Whether a script is refused so.
@@ -190,16 +218,30 @@ fn scripts_are_refused(rt: HostRuntime) {
     }
 }
 
-#[test]
-fn a_script_has_room_for_65536_events(rt: HostRuntime) -> Result<(), Fail> {
-    let mut text = Vec::new(rt.alloc());
-    for _ in 0..65536 {
+/// So many lines of a byte that comes at the last step, and a line behind them.
+fn long_script(alloc: Global, count: u32, last: &[u8]) -> Result<Vec<u8>, AllocError> {
+    let mut text = Vec::new(alloc);
+    for _ in 0..count {
         text.extend_from_slice(b"1099511627776 rx 41\n")?;
     }
-    assert_eq!(rt; read_script(rt.alloc(), &text)?.list.len(), 65536);
-    text.extend_from_slice(b"1099511627776 line 3")?;
+    text.extend_from_slice(last)?;
+    Ok(text)
+}
+
+/// Whether a script is read as so many events.
+fn is_read(alloc: Global, text: &[u8], count: usize) -> bool {
+    match read_script(alloc, text) {
+        Ok(script) => script.list.len() == count,
+        Err(_) => false,
+    }
+}
+
+#[test]
+fn a_script_has_room_for_65536_events(rt: HostRuntime) {
+    let text = long_script(rt.alloc(), 65536, b"").expect(&rt, "memory");
+    assert!(rt; is_read(rt.alloc(), &text, 65536));
+    let text = long_script(rt.alloc(), 65536, b"1099511627776 line 3").expect(&rt, "memory");
     assert!(rt; is_refused(rt.alloc(), &text, 65537, ScriptCause::TooMany));
-    Ok(())
 }
 
 /// Ports of the serial line and of the timer, and bytes for them.
@@ -243,21 +285,23 @@ const SAVED: [Step; 5] = [
     Step::Taken(Some(0x20)),
 ];
 
+/// Whether a board is saved as that.
+fn is_saved(board: &Board) -> bool {
+    board.save() == WORKING
+}
+
 #[test]
-fn board_is_saved_and_restored(rt: HostRuntime) -> Result<(), Fail> {
-    assert!(rt; working().save() == WORKING);
-    let mut board = Board::restore(&WORKING).ok_or("the form")?;
-    assert!(rt; board.save() == WORKING);
+fn board_is_saved_and_restored(rt: HostRuntime) {
+    assert!(rt; is_saved(&working()));
+    let mut board = Board::restore(&WORKING).expect(&rt, "the form");
+    assert!(rt; is_saved(&board));
     follow(&rt, &mut board, &SAVED);
-    Ok(())
 }
 
 #[test]
 fn fresh_board_is_saved_and_restored(rt: HostRuntime) {
     let fresh = Board::new().save();
-    assert_eq!(rt; fresh[4], 0xFF);
-    assert_eq!(rt; fresh[11], 0xFF);
-    assert!(rt; Board::restore(&fresh).is_some());
+    assert!(rt; fresh[4] == 0xFF && fresh[11] == 0xFF && Board::restore(&fresh).is_some());
 }
 
 /// Whether a board has these bytes with another one at a place.

@@ -83,10 +83,11 @@ fn stays_within_one_walk_and_ends_at_the_budget(rt: HostRuntime) {
     let mut machine = machine(rt.alloc(), b"\xEB\xFE").expect(&rt, "memory");
     let mut regs = regs(0);
     let walks = machine.walks();
-    assert_eq!(rt; machine.resume(&KERNEL, &mut regs, 1000), Exit::Budget);
-    assert_eq!(rt; machine.walks().wrapping_sub(walks), 1);
-    assert_eq!(rt; machine.retired(), 1000);
-    assert_eq!(rt; regs.eip, 0x1000_0000);
+    let exit = machine.resume(&KERNEL, &mut regs, 1000);
+    let more = machine.walks().wrapping_sub(walks);
+    assert!(rt;
+        exit == Exit::Budget && more == 1 && machine.retired() == 1000 && regs.eip == 0x1000_0000
+    );
 }
 
 /// What is seen behind a run.
@@ -130,7 +131,7 @@ fn runs(
 {
     let mut machine = machine(alloc, code).expect(rt, "memory");
     let mut regs = regs(esp);
-    assert_eq!(rt; machine.resume(view, &mut regs, budget), exit);
+    assert!(rt; machine.resume(view, &mut regs, budget) == exit);
     for (k, shown) in all.iter().enumerate() {
         assert!(rt; is_shown(&machine, &regs, *shown), "{k}");
     }
@@ -197,20 +198,24 @@ const EXITS: [Exiting; 16] = [
     (b"\xC3", false, 0x1100_2000, fault!(14, 4, 0x1100_2000)),
 ];
 
+/// Whether a new machine makes that exit, with no instruction done.
+fn does_exit(rt: &impl Abort, alloc: Global, row: &Exiting) -> bool {
+    let (code, kernel, esp, exit) = *row;
+    if code.len() > 4096 {
+        return false;
+    }
+    let mut machine = machine(alloc, code).expect(rt, "memory");
+    poke(&mut machine, 0x5000, 0x100);
+    let view = View { kernel, ..KERNEL };
+    let mut regs = regs(esp);
+    let left = one_more(&mut machine, &view, &mut regs);
+    left == exit && regs.eip == 0x1000_0000 && machine.retired() == 0
+}
+
 #[test]
 fn exits_where_an_instruction_cannot_be_done(rt: HostRuntime) {
-    for row in &EXITS {
-        let (code, kernel, esp, exit) = *row;
-        if code.len() > 4096 {
-            return;
-        }
-        let mut machine = machine(rt.alloc(), code).expect(&rt, "memory");
-        poke(&mut machine, 0x5000, 0x100);
-        let view = View { kernel, ..KERNEL };
-        let mut regs = regs(esp);
-        assert_eq!(rt; one_more(&mut machine, &view, &mut regs), exit);
-        assert_eq!(rt; regs.eip, 0x1000_0000);
-        assert_eq!(rt; machine.retired(), 0);
+    for (k, row) in EXITS.iter().enumerate() {
+        assert!(rt; does_exit(&rt, rt.alloc(), row), "row {k}");
     }
 }
 
@@ -251,7 +256,6 @@ fn sees_a_table_that_it_writes(rt: HostRuntime) {
         ram.write32(0x6000, 6);
     }
     let mut regs = regs(0);
-    assert_eq!(rt; machine.resume(&KERNEL, &mut regs, 9), Exit::Soft(3));
-    assert_eq!(rt; regs.r[0], 5);
-    assert_eq!(rt; regs.r[1], 6);
+    let exit = machine.resume(&KERNEL, &mut regs, 9);
+    assert!(rt; exit == Exit::Soft(3) && regs.r[0] == 5 && regs.r[1] == 6);
 }

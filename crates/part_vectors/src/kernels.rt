@@ -1,19 +1,22 @@
 use kernel_gen::kernel;
 use sha2::{Digest, Sha256};
-use std::test::Fail;
+use std::alloc::Global;
+
+const HEAD: &[u8] =
+    b".bss\nbuf: .zero 65536\n.text\n_start:\ntop:\nmovl $1013904223,%eax\noutl %eax,$128\n";
 
 #[test]
-fn kernel_of_zero_begins_with_its_head(rt: HostRuntime) -> Result<(), Fail> {
-    let text = kernel(rt.alloc(), 0)?;
-    let first =
-        b".bss\nbuf: .zero 65536\n.text\n_start:\ntop:\nmovl $1013904223,%eax\noutl %eax,$128\n";
-    assert!(rt; text.as_slice().starts_with(first.as_slice()));
-    assert!(rt; text.as_slice().ends_with(b"\njmp top\n".as_slice()));
-    Ok(())
+fn kernel_of_zero_begins_with_its_head(rt: HostRuntime) {
+    let text = kernel(rt.alloc(), 0).expect(&rt, "memory");
+    let text = text.as_slice();
+    assert!(rt; text.starts_with(HEAD) && text.ends_with(b"\njmp top\n"));
 }
 
+/// The number of a kernel, its text's length, and the digest.
+type Found = (u32, usize, [u8; 32]);
+
 // Lengths and SHA-256 digests of the texts that a program of another language made by the rules.
-const FOUND_APART: [(u32, usize, [u8; 32]); 3] = [
+const FOUND_APART: [Found; 3] = [
     (
         0,
         22398,
@@ -43,13 +46,17 @@ const FOUND_APART: [(u32, usize, [u8; 32]); 3] = [
     ),
 ];
 
-#[test]
-fn kernels_are_those_that_were_found_apart(rt: HostRuntime) -> Result<(), Fail> {
-    for row in &FOUND_APART {
-        let (number, length, digest) = *row;
-        let text = kernel(rt.alloc(), number)?;
-        assert_eq!(rt; text.len(), length);
-        assert_eq!(rt; Sha256::digest(text.as_slice()), digest);
+fn is_found(alloc: Global, row: &Found) -> bool {
+    let (number, length, digest) = *row;
+    match kernel(alloc, number) {
+        Ok(text) => text.len() == length && Sha256::digest(text.as_slice()) == digest,
+        Err(_) => false,
     }
-    Ok(())
+}
+
+#[test]
+fn kernels_are_those_that_were_found_apart(rt: HostRuntime) {
+    for row in &FOUND_APART {
+        assert!(rt; is_found(rt.alloc(), row), "kernel {}", row.0);
+    }
 }

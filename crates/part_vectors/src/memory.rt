@@ -1,4 +1,7 @@
+ghost use Rattle.std.specs.Prelude.{◌≡◌, ◌+◌, ◌≤◌, true};
+
 use guest_ram::Ram;
+use std::alloc::Global;
 use std::process::Abort;
 
 /// What is done to a memory, or stands in it.
@@ -14,20 +17,25 @@ enum Step {
     Part(u32, &'static [u8]),
 }
 
+/// Whether so many bytes at a place lie within a length.
+fn fits(len: u32, at: u32, count: usize) -> bool
+    ensures { result ≡ true → at + count ≤ len }
+{
+    count <= 8 && count as u32 <= len && at <= len - count as u32
+}
+
 /// Whether a step comes to what it says.
 fn holds(ram: &mut Ram, step: Step) -> bool {
     let len = ram.len();
     match step {
-        Step::Write8(at, v) if at < len => ram.write8(at, v),
-        Step::Write16(at, v) if len >= 2 && at <= len - 2 => ram.write16(at, v),
-        Step::Write32(at, v) if len >= 4 && at <= len - 4 => ram.write32(at, v),
-        Step::Put(at, bytes) if bytes.len() <= 8 && len >= 8 && at <= len - bytes.len() as u32 => {
-            ram.put(at, bytes)
-        }
-        Step::Read8(at, v) if at < len => return ram.read8(at) == v,
-        Step::Read16(at, v) if len >= 2 && at <= len - 2 => return ram.read16(at) == v,
-        Step::Read32(at, v) if len >= 4 && at <= len - 4 => return ram.read32(at) == v,
-        Step::Part(at, bytes) if bytes.len() <= 8 && len >= 8 && at <= len - bytes.len() as u32 => {
+        Step::Write8(at, v) if fits(len, at, 1) => ram.write8(at, v),
+        Step::Write16(at, v) if fits(len, at, 2) => ram.write16(at, v),
+        Step::Write32(at, v) if fits(len, at, 4) => ram.write32(at, v),
+        Step::Put(at, bytes) if fits(len, at, bytes.len()) => ram.put(at, bytes),
+        Step::Read8(at, v) if fits(len, at, 1) => return ram.read8(at) == v,
+        Step::Read16(at, v) if fits(len, at, 2) => return ram.read16(at) == v,
+        Step::Read32(at, v) if fits(len, at, 4) => return ram.read32(at) == v,
+        Step::Part(at, bytes) if fits(len, at, bytes.len()) => {
             return ram.part(at, bytes.len() as u32) == bytes;
         }
         _ => return false,
@@ -39,6 +47,15 @@ fn follow(rt: &impl Abort, ram: &mut Ram, steps: &[Step]) {
     for (k, step) in steps.iter().enumerate() {
         assert!(rt; holds(ram, *step), "step {k}");
     }
+}
+
+/// A new memory of so many frames.
+fn ram_of(rt: &impl Abort, alloc: Global, frames: u32) -> Ram
+    requires { (1 ≤ frames) × (frames ≤ 32768) }
+{
+    let ram = Ram::new(alloc, frames).expect(rt, "memory");
+    assert!(rt; ram.len() == 4096 * frames);
+    ram
 }
 
 const WRITTEN: [Step; 10] = [
@@ -56,18 +73,17 @@ const WRITTEN: [Step; 10] = [
 
 #[test]
 fn reads_what_it_wrote(rt: HostRuntime) {
-    let mut ram = Ram::new(rt.alloc(), 2).expect(&rt, "memory");
-    assert_eq!(rt; ram.len(), 8192);
-    follow(&rt, &mut ram, &WRITTEN);
+    follow(&rt, &mut ram_of(&rt, rt.alloc(), 2), &WRITTEN);
 }
 
 #[test]
 fn exchanges_a_frame(rt: HostRuntime) {
-    let mut ram = Ram::new(rt.alloc(), 2).expect(&rt, "memory");
-    let mut other = Ram::new(rt.alloc(), 1).expect(&rt, "memory");
+    let mut ram = ram_of(&rt, rt.alloc(), 2);
+    let mut other = ram_of(&rt, rt.alloc(), 1);
     follow(&rt, &mut ram, &WRITTEN);
-    assert_eq!(rt; (ram.len(), other.len()), (8192, 4096));
-    if ram.len() == 8192 && other.len() == 4096 {
+    let exchanged = ram.len() == 8192 && other.len() == 4096;
+    assert!(rt; exchanged);
+    if exchanged {
         ram.exchange(&mut other, 1);
         follow(&rt, &mut ram, &[Step::Read32(100, 0)]);
         follow(&rt, &mut other, &[Step::Read32(100, 0xabcd_ee78)]);
@@ -78,9 +94,7 @@ const LARGEST: [Step; 2] = [Step::Write32(134217724, 5), Step::Read32(134217724,
 
 #[test]
 fn takes_the_largest(rt: HostRuntime) {
-    let mut ram = Ram::new(rt.alloc(), 32768).expect(&rt, "memory");
-    assert_eq!(rt; ram.len(), 134217728);
-    follow(&rt, &mut ram, &LARGEST);
+    follow(&rt, &mut ram_of(&rt, rt.alloc(), 32768), &LARGEST);
 }
 
 // Bytes of 0xAA, which stay around what is written among them.
@@ -98,7 +112,5 @@ const WRITES: [Step; 9] = [
 
 #[test]
 fn changes_its_own_bytes_alone(rt: HostRuntime) {
-    let mut ram = Ram::new(rt.alloc(), 1).expect(&rt, "memory");
-    assert_eq!(rt; ram.len(), 4096);
-    follow(&rt, &mut ram, &WRITES);
+    follow(&rt, &mut ram_of(&rt, rt.alloc(), 1), &WRITES);
 }

@@ -5,27 +5,25 @@ use guest_ram::{FRAME, Ram};
 #[test]
 fn gives_frames_out_and_takes_them_back(rt: HostRuntime) {
     let mut ram = Ram::new(rt.alloc(), 4).expect(&rt, "memory");
-    assert_eq!(rt; ram.len(), 16384);
-    if ram.len() != 16384 {
-        return;
-    }
+    assert!(rt; ram.len() == 16384);
     ram.write32(FRAME * 3 + 8, 99);
     let mut pool = Pool::new(&mut ram, 2, 2);
-    assert_eq!(rt; pool.free(), 2);
+    let all = pool.free();
     let first = pool.take(&mut ram);
     let second = pool.take(&mut ram);
-    assert_eq!(rt; (first, second), (Some(2), Some(3)));
-    assert_eq!(rt; ram.read32(FRAME * 3 + 8), 0);
-    assert_eq!(rt; pool.take(&mut ram), None);
-    assert_eq!(rt; pool.free(), 0);
+    let zeroed = ram.read32(FRAME * 3 + 8);
+    assert!(rt; all == 2 && first == Some(2) && second == Some(3) && zeroed == 0);
+    let third = pool.take(&mut ram);
+    assert!(rt; third.is_none() && pool.free() == 0);
     // `first` is 2, as was asserted
     if let Some(frame) = first {
         ram.write32(FRAME * frame + 8, 7);
         pool.give(&mut ram, frame);
-        assert_eq!(rt; pool.free(), 1);
-        assert_eq!(rt; pool.take(&mut ram), Some(2));
-        assert_eq!(rt; ram.read32(FRAME * 2 + 8), 0);
+        let back = pool.free();
+        let again = pool.take(&mut ram);
+        let zeroed = ram.read32(FRAME * 2 + 8);
         pool.reset(&mut ram);
-        assert_eq!(rt; pool.take(&mut ram), Some(2));
+        let reset = pool.take(&mut ram);
+        assert!(rt; back == 1 && again == Some(2) && zeroed == 0 && reset == Some(2));
     }
 }

@@ -41,7 +41,7 @@ fn begin(rt: &impl Abort, alloc: Global) -> Bench
     ensures owns { Owns result.pool result.ram (frames_of (pairs_of result.roots) result.ram) }
 {
     let mut ram = Ram::new(alloc, 128).expect(rt, "memory");
-    assert_eq!(rt; ram.len(), 524288);
+    assert!(rt; ram.len() == 524288);
     let mut pool = Pool::new(&mut ram, 64, 64);
     assert!(rt; pool.free() >= 2);
     let roots = Roots::new(alloc, &mut ram, &mut pool, 0x1000).expect(rt, "memory");
@@ -135,7 +135,18 @@ enum Step {
     MayWrite(bool),
 }
 
-fn did(rt: &impl Abort, bench: Bench, step: Step) -> Bench
+/// Whether that is seen.
+fn sees(bench: &Bench, step: Step) -> bool
+    requires { ∥ IsRoots (pairs_of bench.now.roots) bench.now.ram ∥₁ }
+{
+    match step {
+        Step::Keeps(frame) => seen(bench).0 == Some(entry(frame)),
+        Step::MayWrite(may) => seen(bench).1 == may,
+        _ => false,
+    }
+}
+
+fn did(rt: &impl Abort, bench: Bench, k: usize, step: Step) -> Bench
     requires stands { ∥ IsRoots (pairs_of bench.roots) bench.ram ∥₁ }
     requires owns { Owns bench.pool bench.ram (frames_of (pairs_of bench.roots) bench.ram) }
     ensures stands { ∥ IsRoots (pairs_of result.roots) result.ram ∥₁ }
@@ -146,12 +157,8 @@ fn did(rt: &impl Abort, bench: Bench, step: Step) -> Bench
         Step::Note(frame) => note(rt, bench, frame),
         Step::Go(cr3) => go(rt, bench, cr3),
         Step::Written(frame) => written(bench, frame),
-        Step::Keeps(frame) => {
-            assert_eq!(rt; seen(&bench).0, Some(entry(frame)));
-            bench
-        }
-        Step::MayWrite(may) => {
-            assert_eq!(rt; seen(&bench).1, may);
+        kept => {
+            assert!(rt; sees(&bench, kept), "step {k}");
             bench
         }
     }
@@ -164,8 +171,10 @@ fn follow(rt: &impl Abort, bench: Bench, steps: &[Step]) -> Bench
     ensures owns { Owns result.pool result.ram (frames_of (pairs_of result.roots) result.ram) }
 {
     let mut bench = bench;
+    let mut k = 0usize;
     for row in steps {
-        bench = did(rt, bench, *row);
+        bench = did(rt, bench, k, *row);
+        k = k.wrapping_add(1);
     }
     bench
 }
@@ -191,6 +200,15 @@ fn brings_entries_back_until_a_table_is_written(rt: HostRuntime) {
     let _ = follow(&rt, bench, &BACK);
 }
 
+/// Whether that is so behind so many other values.
+fn is_place_taken(others: u32, kept: bool, free: u32) -> bool {
+    if others == 7 {
+        kept && free == 47
+    } else {
+        !kept && free == 48
+    }
+}
+
 // A ninth value takes the place of the first, and an eighth does not. Eight pairs hold 16 frames and a table.
 #[test]
 fn keeps_eight_values(rt: HostRuntime) {
@@ -200,8 +218,8 @@ fn keeps_eight_values(rt: HostRuntime) {
             bench = go(&rt, bench, 0x3000 + 0x1000 * k);
         }
         let bench = go(&rt, bench, 0x2000);
-        assert_eq!(rt; seen(&bench).0.is_some(), others == 7);
-        assert_eq!(rt; bench.pool.free(), if others == 7 { 47 } else { 48 });
+        let kept = seen(&bench).0.is_some();
+        assert!(rt; is_place_taken(others, kept, bench.pool.free()), "{others}");
     }
 }
 
@@ -236,19 +254,17 @@ fn filled(frame: u32) -> RootsCall
     RootsCall::Shared(Call::Fill(Side::Kernel, entry(frame), true))
 }
 
-/// What is kept for the page after these calls over a pool of so many frames, whether it may be written, how many calls
-/// were done, and how many frames are free then.
-fn told(
-    rt: &impl Abort,
-    alloc: Global,
-    frames: u32,
-    calls: &[RootsCall],
-) -> (Option<Entry>, bool, usize, u32)
+/// What is kept for the page after a list of calls, whether it may be written, how many calls were done, and how many
+/// frames are free then.
+type Told = (Option<Entry>, bool, usize, u32);
+
+/// What is told of these calls over a pool of so many frames.
+fn told(rt: &impl Abort, alloc: Global, frames: u32, calls: &[RootsCall]) -> Told
     requires fit { AreFitCalls calls.now }
     requires frames { 2 ≤ frames × frames ≤ 64 }
 {
     let mut ram = Ram::new(alloc, 128).expect(rt, "memory");
-    assert_eq!(rt; ram.len(), 524288);
+    assert!(rt; ram.len() == 524288);
     let mut pool = Pool::new(&mut ram, 64, frames);
     assert!(rt; pool.free() >= 2);
     let after = replay(alloc, &mut ram, &mut pool, 0x1000, calls).expect(rt, "memory");
@@ -258,6 +274,14 @@ fn told(
         after.count,
         pool.free(),
     )
+}
+
+/// These calls are told so.
+fn are_told(rt: &impl Abort, alloc: Global, frames: u32, calls: &[RootsCall], want: Told)
+    requires fit { AreFitCalls calls.now }
+    requires frames { 2 ≤ frames × frames ≤ 64 }
+{
+    assert_eq!(rt; told(rt, alloc, frames, calls), want);
 }
 
 // As calls of a list. A write to a frame that was noted, by whichever pair, is not adequate until the frame was written
@@ -273,25 +297,12 @@ fn replays_a_list(rt: HostRuntime) {
         RootsCall::Shared(Call::Written(0x20)),
         filled(0x20),
     ];
-    assert_eq!(rt;
-        told(&rt, rt.alloc(), 64, &list[..1]),
-        (Some(entry(0x20)), true, 1, 61)
-    );
-    assert_eq!(rt; told(&rt, rt.alloc(), 64, &list[..3]), (None, false, 3, 59));
-    assert_eq!(rt;
-        told(&rt, rt.alloc(), 64, &list[..5]),
-        (Some(entry(0x20)), false, 5, 59)
-    );
-    assert_eq!(rt;
-        told(&rt, rt.alloc(), 64, &list[..6]),
-        (Some(entry(0x20)), false, 6, 61)
-    );
-    assert_eq!(rt;
-        told(&rt, rt.alloc(), 64, &list),
-        (Some(entry(0x20)), true, 7, 61)
-    );
-    assert_eq!(rt;
-        told(&rt, rt.alloc(), 4, &list),
-        (Some(entry(0x20)), true, 2, 1)
-    );
+    let alloc = rt.alloc();
+    let kept = Some(entry(0x20));
+    are_told(&rt, alloc, 64, &list[..1], (kept, true, 1, 61));
+    are_told(&rt, alloc, 64, &list[..3], (None, false, 3, 59));
+    are_told(&rt, alloc, 64, &list[..5], (kept, false, 5, 59));
+    are_told(&rt, alloc, 64, &list[..6], (kept, false, 6, 61));
+    are_told(&rt, alloc, 64, &list, (kept, true, 7, 61));
+    are_told(&rt, alloc, 4, &list, (kept, true, 2, 1));
 }

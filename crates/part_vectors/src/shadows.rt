@@ -38,7 +38,7 @@ fn begin(rt: &impl Abort, alloc: Global) -> Bench
     ensures owns { Owns result.pool result.ram (held result.shadow result.ram) }
 {
     let mut ram = Ram::new(alloc, 16).expect(rt, "memory");
-    assert_eq!(rt; ram.len(), 65536);
+    assert!(rt; ram.len() == 65536);
     let mut pool = Pool::new(&mut ram, 4, 12);
     let shadow = Shadow::new(&mut ram, &mut pool);
     Bench { ram, pool, shadow }
@@ -87,7 +87,21 @@ fn emptied(bench: Bench) -> Bench
     Bench { ram, pool, shadow }
 }
 
-fn did(rt: &impl Abort, bench: Bench, step: Step) -> Bench
+/// Whether that is seen.
+fn sees(bench: &Bench, step: Step) -> bool
+    requires { IsShadow bench.now.shadow bench.now.ram }
+{
+    let Bench { ram, pool, shadow } = bench;
+    match step {
+        Step::Fill(..) | Step::DropAll => false,
+        Step::Adequate(side, write, want) => shadow.adequate(ram, side, 0x11000, write) == want,
+        Step::Keeps(frame) => shadow.kept(ram, 0x11000) == Some(entry(frame, true, true)),
+        Step::KeepsNone => shadow.kept(ram, 0x11000).is_none(),
+        Step::Free(frames) => pool.free() == frames,
+    }
+}
+
+fn did(rt: &impl Abort, bench: Bench, k: usize, step: Step) -> Bench
     requires shadow { IsShadow bench.shadow bench.ram }
     requires owns { Owns bench.pool bench.ram (held bench.shadow bench.ram) }
     ensures shadow { IsShadow result.shadow result.ram }
@@ -98,26 +112,8 @@ fn did(rt: &impl Abort, bench: Bench, step: Step) -> Bench
             fill(rt, bench, side, entry(frame, write, dirty), wp)
         }
         Step::DropAll => emptied(bench),
-        Step::Adequate(side, write, want) => {
-            assert_eq!(rt;
-                bench.shadow.adequate(&bench.ram, side, 0x11000, write),
-                want
-            );
-            bench
-        }
-        Step::Keeps(frame) => {
-            assert_eq!(rt;
-                bench.shadow.kept(&bench.ram, 0x11000),
-                Some(entry(frame, true, true))
-            );
-            bench
-        }
-        Step::KeepsNone => {
-            assert_eq!(rt; bench.shadow.kept(&bench.ram, 0x11000), None);
-            bench
-        }
-        Step::Free(frames) => {
-            assert_eq!(rt; bench.pool.free(), frames);
+        seen => {
+            assert!(rt; sees(&bench, seen), "step {k}");
             bench
         }
     }
@@ -130,8 +126,10 @@ fn do_all(rt: &impl Abort, bench: Bench, steps: &[Step]) -> Bench
     ensures owns { Owns result.pool result.ram (held result.shadow result.ram) }
 {
     let mut bench = bench;
+    let mut k = 0usize;
     for row in steps {
-        bench = did(rt, bench, *row);
+        bench = did(rt, bench, k, *row);
+        k = k.wrapping_add(1);
     }
     bench
 }
@@ -289,7 +287,7 @@ fn agree(shadow: &Shadow, ram: &Ram, plain: &[Option<Plain>; 8]) -> bool
 #[test]
 fn keeps_what_a_plain_map_keeps(rt: HostRuntime) {
     let mut ram = Ram::new(rt.alloc(), 40).expect(&rt, "memory");
-    assert_eq!(rt; ram.len(), 163840);
+    assert!(rt; ram.len() == 163840);
     let mut pool = Pool::new(&mut ram, 8, 32);
     let mut shadow = Shadow::new(&mut ram, &mut pool);
     let mut plain = [None; 8];
@@ -297,14 +295,10 @@ fn keeps_what_a_plain_map_keeps(rt: HostRuntime) {
     for step in 0..200 {
         seed = next(seed);
         let call = call_of(seed);
-        assert_eq!(rt;
-            replay(&mut shadow, &mut ram, &mut pool, &[call]),
-            1,
-            "step {step}"
-        );
+        let done = replay(&mut shadow, &mut ram, &mut pool, &[call]);
         follow(&mut plain, call);
-        assert!(rt; agree(&shadow, &ram, &plain), "step {step}");
+        assert!(rt; done == 1 && agree(&shadow, &ram, &plain), "step {step}");
     }
     shadow.drop_all(&mut ram, &mut pool);
-    assert_eq!(rt; pool.free(), 30);
+    assert!(rt; pool.free() == 30);
 }

@@ -7,7 +7,9 @@ fn count(pit: &mut Pit, low: u8, high: u8) -> (Did, Did) {
 }
 
 /// A control byte, a count's low and high byte, and the steps of its ticks.
-const COUNTS: [(u8, u8, u8, u64); 5] = [
+type Counted = (u8, u8, u8, u64);
+
+const COUNTS: [Counted; 5] = [
     (0x34, 2, 0, 16),
     (0x36, 2, 0, 16),
     (0x34, 0, 1, 2048),
@@ -15,18 +17,28 @@ const COUNTS: [(u8, u8, u8, u64); 5] = [
     (0x34, 0, 0, 524_288),
 ];
 
+/// Whether the tick comes after so many steps, and no fewer are left.
+fn ticks(pit: &mut Pit, steps: u64) -> bool {
+    match pit.left() {
+        Some(left) => left == steps && pit.advance(left),
+        None => false,
+    }
+}
+
+/// Whether a new timer counts so.
+fn is_counted(row: &Counted) -> bool {
+    let (mode, low, high, steps) = *row;
+    let mut pit = Pit::new();
+    pit.write(0x43, mode) == Did::Done
+        && pit.left().is_none()
+        && count(&mut pit, low, high) == (Did::Done, Did::Done)
+        && ticks(&mut pit, steps)
+}
+
 #[test]
 fn a_count_is_eight_steps_a_tick(rt: HostRuntime) {
-    for row in &COUNTS {
-        let (mode, low, high, steps) = *row;
-        let mut pit = Pit::new();
-        assert_eq!(rt; pit.write(0x43, mode), Did::Done);
-        assert_eq!(rt; pit.left(), None);
-        assert_eq!(rt; count(&mut pit, low, high), (Did::Done, Did::Done));
-        assert_eq!(rt; pit.left(), Some(steps), "after {low} and {high}");
-        if let Some(left) = pit.left() {
-            assert!(rt; pit.advance(left));
-        }
+    for (k, row) in COUNTS.iter().enumerate() {
+        assert!(rt; is_counted(row), "row {k}");
     }
 }
 

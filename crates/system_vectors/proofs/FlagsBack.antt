@@ -1,10 +1,9 @@
 -- IRET gives a handler's flags back those of the interrupted program.
-use Rattle.std.proofs.Common.{◌≡◌, ℕ, ◌+◌, ◌-◌, ◌*◌, ◌/◌, ◌%◌, ◌^◌, ◌<◌, ◌≤◌, ◌≢◌, Bool, true, false, ◌||◌, arith, refl, sym, ap, ◌∙◌, subst}
+use Rattle.std.proofs.Common.{◌≡◌, ℕ, ◌-◌, ◌*◌, ◌%◌, ◌^◌, ◌<◌, Bool, true, false, ◌||◌, arith, refl, sym, ap, ◌∙◌, subst}
 use Rattle.std.specs.Int.Bits.{bit_and}
-use Rattle.std.proofs.lemmas.Nat.{and_assoc, and_le_l}
+use Rattle.std.proofs.lemmas.Nat.{and_assoc}
 use Rattle.ia32_types.specs.declared.flags.Flags.{Flags}
 use Rattle.ia32_types.specs.Bits.{bit, with_bit}
-use Rattle.ia32_types.specs.Flags.{flag_put}
 use Rattle.ia32_types.proofs.FlagBits.{cleared_is}
 use Rattle.ia32_types.proofs.OneBit.{bit_other, with_bit_same, with_bit_twice}
 use Rattle.ia32_exec.specs.Stack.{is_foreign, taken}

@@ -1,12 +1,11 @@
 -- The law that an IRET after a delivery leads back, from the parts of both.
-use Rattle.std.proofs.Common.{◌≡◌, ℕ, ◌+◌, ◌-◌, ◌*◌, ◌/◌, ◌%◌, ◌^◌, ◌<◌, ◌≤◌, ◌⊎◌, inl, inr, Bool, true, false, cond, eqb, arith, refl, sym, ap, ◌∙◌, subst, Option, Some, None, Ok, Err, List, length}
+use Rattle.std.proofs.Common.{◌≡◌, ℕ, ◌+◌, ◌-◌, ◌%◌, ◌^◌, inl, inr, Bool, true, false, cond, eqb, arith, refl, sym, ap, ◌∙◌, subst, Option, None, Ok}
 use Rattle.std.specs.Prelude.{slice_index, slice_set, nat_lt, ◌==◌, ◌||◌, not}
-use Rattle.std.proofs.lemmas.Bool.Decides.{nat_tests, eqb_tells}
+use Rattle.std.proofs.lemmas.Bool.Decides.{eqb_tells}
 use Rattle.paging.specs.Space.{Space}
 use Rattle.paging.specs.Work.{Outcome, Work, ◌>>=◌, gives, unless}
-use Rattle.descriptors.specs.Form.{dpl_of, marking, is_data, is_code, is_used, descriptor_of}
+use Rattle.descriptors.specs.Form.{dpl_of, marking, is_data, is_code}
 use Rattle.descriptors.specs.declared.cpu.Cpu.{Cpu}
-use Rattle.descriptors.specs.declared.cpu.Hidden.{Hidden}
 use Rattle.descriptors.specs.declared.form.Descriptor.{Descriptor}
 use Rattle.event_entry.specs.declared.refusal.Kind.{Kind}
 use Rattle.event_entry.specs.declared.refusal.NotDelivered.{NotDelivered}
@@ -22,13 +21,13 @@ use Rattle.sys_exec.specs.Sys.{row, returned_by, sys_work}
 use Rattle.sys_exec.specs.Iret.{keeps_flags, popped, popped_outer, top_of, returned, kept_segment, outer_segments, return_same, return_outer, interrupt_return}
 use Rattle.ia32_exec.specs.Stack.{is_foreign}
 use Rattle.sys_exec.specs.Segment.{protection, loading, marked, find_return, find_stack, return_tests, stack_tests}
-use Rattle.system_vectors.proofs.Results.{Through, through, value_is, Ends, ends_then, Any, any_work, skip, given, tested, known}
+use Rattle.system_vectors.proofs.Results.{through, value_is, Ends, ends_then, any_work, skip, given, tested, known}
 use Rattle.sys_exec.specs.declared.effect.Refusal.TheVariants as refusals
 use Rattle.sys_exec.specs.declared.iret.Popped.{Popped}
 use Rattle.sys_exec.specs.declared.iret.Outer.{Outer}
 use Rattle.ia32_types.specs.declared.stop.Stop.TheVariants as stops
 use Rattle.system_vectors.specs.Resumed.{IsInterrupted, FindsFrame, frame_of, outer_frame_of, at_return, user_segments, segments_after, resumed, ResumesAs}
-use Rattle.system_vectors.proofs.Leads.{top_from, handler_at, with_parts, same_parts, registers_back, top_is, entered_top, raised_back, code_len_few, all_flags_back, segments_back, user_segments_back}
+use Rattle.system_vectors.proofs.Leads.{top_from, handler_at, same_parts, registers_back, top_is, entered_top, raised_back, code_len_few, all_flags_back, segments_back, user_segments_back}
 
 equal : (a b : ℕ) → (a == b) ≡ true → a ≡ b
 equal a b e = elim (eqb_tells a b) [ inl is ↦ is.1 | inr isnt ↦ absurd (let no = isnt.0 in cc) ]

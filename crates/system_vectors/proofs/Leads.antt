@@ -1,7 +1,6 @@
 -- Where IRET leads, part by part, from a handler that was entered.
-use Rattle.std.proofs.Common.{◌≡◌, ℕ, ◌+◌, ◌-◌, ◌*◌, ◌/◌, ◌%◌, ◌^◌, ◌<◌, ◌≤◌, Bool, true, false, cond, arith, refl, sym, ap, ◌∙◌, subst, Option, Some, None, List, [], ◌∷◌, length}
+use Rattle.std.proofs.Common.{◌≡◌, ℕ, ◌+◌, ◌-◌, ◌/◌, ◌%◌, ◌^◌, ◌<◌, ◌≤◌, Bool, true, false, cond, arith, ap, ◌∙◌, Option, Some, None, List, [], ◌∷◌, length}
 use Rattle.std.specs.Prelude.{nat_le, slice_index, slice_index_or, slice_set}
-use Rattle.std.specs.Int.Bits.{bit_and}
 use Rattle.ia32_types.specs.declared.flags.Flags.{Flags}
 use Rattle.ia32_types.specs.Bits.{bit}
 use Rattle.ia32_types.specs.Flags.{interrupt_at, flag_put}
@@ -11,11 +10,11 @@ use Rattle.descriptors.specs.declared.cpu.Cpu.{Cpu}
 use Rattle.descriptors.specs.declared.cpu.Hidden.{Hidden}
 use Rattle.event_entry.specs.declared.delivery.Entry.{Entry}
 use Rattle.event_entry.specs.declared.delivery.Stack.{Stack}
-use Rattle.event_entry.specs.Deliver.{code_len, outer_len, entered, flags_kept}
+use Rattle.event_entry.specs.Deliver.{code_len, outer_len, entered}
 use Rattle.sys_exec.specs.Iret.{new_flags, is_within, with_interrupt, with_level}
-use Rattle.system_vectors.specs.Resumed.{IsInterrupted, at_return, user_segments, resumed}
+use Rattle.system_vectors.specs.Resumed.{at_return}
 use Rattle.system_vectors.proofs.FlagsBack.{flags_back, no_trap, no_nesting}
-use Rattle.system_vectors.proofs.Segments.{set_set, set_same, set_same_or, index_set, length_set}
+use Rattle.system_vectors.proofs.Segments.{set_set, set_same, index_set, length_set}
 
 -- the place of what was pushed
 abbrev pub top_from : Stack → Option ℕ → ℕ

@@ -1,5 +1,5 @@
 -- What is known of the value of work on memory that is done.
-use Rattle.std.proofs.Common.{◌≡◌, ℕ, Bool, true, false, cond, refl, subst, Ok, Err}
+use Rattle.std.proofs.Common.{◌≡◌, Bool, true, false, refl, subst, Ok, Err}
 use Rattle.paging.specs.Space.{Space}
 use Rattle.paging.specs.Work.{Outcome, Work, on_value, ◌>>=◌, gives, unless}
 

@@ -1,5 +1,5 @@
 -- Lists of registers, with one made new.
-use Rattle.std.proofs.Common.{◌≡◌, ℕ, zero, suc, ◌<◌, ◌≢◌, arith, refl, sym, ap, ◌∙◌, List, [], ◌∷◌, length}
+use Rattle.std.proofs.Common.{◌≡◌, ℕ, zero, suc, ◌<◌, arith, refl, ap, List, [], ◌∷◌, length}
 use Rattle.std.specs.Prelude.{slice_index, slice_index_or, slice_set}
 
 pub set_set : {A : Type 0} (i : ℕ) (v w : A) (g : List A) → slice_set (slice_set g i v) i w ≡ slice_set g i w
