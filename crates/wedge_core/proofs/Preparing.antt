@@ -1,13 +1,11 @@
 -- An instruction that the host does by itself: its step is its ranges, and then its effect.
 use Rattle.std.proofs.Common.{◌≡◌, ◌⊎◌, inl, inr, ℕ, ◌/◌, ◌%◌, ◌==◌, nat_le, Bool, true, false, cond, not, ◌||◌, refl, sym, ap, subst, ◌∙◌, List, Option, Some, None, Ok, Err}
 use Rattle.std.specs.FinMap.{FinMap, get}
-use Rattle.std.specs.Prelude.{Result}
 use Rattle.std.specs.Ordering.{nat_cmp}
 use Rattle.std.proofs.lemmas.Bool.{and_parts, both_ways, eqb-true}
 use Rattle.guest_ram.specs.Bytes as bytes
 use Rattle.ia32_types.specs.declared.flags.Regs.{Regs}
 use Rattle.ia32_types.specs.declared.insn.Insn.{Insn}
-use Rattle.ia32_types.specs.declared.stop.Stop.{Stop}
 use Rattle.ia32_types.specs.declared.insn.Op.{Op}
 use Rattle.ia32_types.specs.declared.insn.Op.TheVariants as op
 use Rattle.ia32_rows.specs.Spells.{Spells}
@@ -41,14 +39,12 @@ use Rattle.machine_model.specs.Alone.{is_native}
 use Rattle.machine_model.specs.Counts.{is_software}
 use Rattle.machine_model.specs.Instruction.{is_plain, instructed, done_plainly, fetched}
 use Rattle.machine_model.specs.State.{Setting, State}
-use Rattle.machine_model.specs.Step as steps
 use Rattle.machine_model.specs.Step.{after_instruction, after_refusal, begun, by_decoded}
-use Rattle.machine_step.specs.declared.worked.Worked.{Worked}
 use Rattle.machine_step.proofs.Refused.{refused_same}
 use Rattle.native_steps.proofs.Doing.{plain_effect}
 use Rattle.native_steps.proofs.Together.{by_op_is, not_soft}
 use Rattle.native_steps.proofs.Uses.{reaching_earlier}
-use Rattle.wedge_core.specs.Prepared.{left_undone, effect_in, weighed, prepared, PreparesAs}
+use Rattle.wedge_core.specs.Prepared.{left_undone, effect_in, weighed, prepared}
 use Rattle.wedge_core.specs.Tries.{IsPrepared}
 
 -- ---- which instructions they are

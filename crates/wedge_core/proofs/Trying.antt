@@ -1,5 +1,5 @@
 -- What a try at the instruction at EIP comes to, from what its fetch came to.
-use Rattle.std.proofs.Common.{◌≡◌, ℕ, ◌==◌, List, true, false, refl, sym, ap, subst, ◌∙◌, Option, Some, None, Ok, Err}
+use Rattle.std.proofs.Common.{◌≡◌, ℕ, ◌==◌, List, true, false, refl, ap, subst, ◌∙◌, Option, Some, None, Ok, Err}
 use Rattle.std.specs.Prelude.{Result, IfOk, IfSome}
 use Rattle.ia32_types.specs.declared.insn.Insn.{Insn}
 use Rattle.ia32_types.specs.declared.stop.Stop.{Stop}
@@ -15,7 +15,6 @@ use Rattle.machine_model.specs.Alone.{is_native}
 use Rattle.machine_model.specs.Counts.{direct_in}
 use Rattle.machine_model.specs.Instruction.{fetched}
 use Rattle.machine_model.specs.State.{Setting, State}
-use Rattle.machine_model.specs.Step as steps
 use Rattle.machine_model.specs.Step.{after_fetch, after_refusal, by_decoded, fetches_next}
 use Rattle.machine_step.specs.declared.worked.Worked.{Worked}
 use Rattle.machine_step.specs.Worked.{ComesTo}

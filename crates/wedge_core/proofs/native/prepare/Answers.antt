@@ -1,4 +1,4 @@
-use Rattle.std.proofs.Common.{◌≡◌, ◌+◌, ◌≤◌, ◌==◌, sym, ap, subst, ◌∙◌, arith}
+use Rattle.std.proofs.Common.{◌==◌, sym, ap, subst, ◌∙◌, arith}
 use Rattle.std.specs.Prelude.{IfOk, IfSome, Option, Result}
 use Rattle.ia32_types.specs.declared.stop.Stop.{Stop}
 use Rattle.step_mem.specs.Sound.{space_at}
@@ -8,7 +8,7 @@ use Rattle.machine_model.specs.UsedPages.{Uses}
 use Rattle.machine_step.specs.Roots.{RootsAs}
 use Rattle.machine_step.specs.Worked.{IsDropped}
 use Rattle.machine_step.specs.declared.worked.Worked.{Worked}
-use Rattle.wedge_core.specs.Prepared.{PreparesAs, gone}
+use Rattle.wedge_core.specs.Prepared.{PreparesAs}
 use Rattle.wedge_core.proofs.Trying.{hidden_on, if_gone, of_gone, prepares_refused}
 use Rattle.wedge_core.proofs.native.prepare.Goals as goal
 

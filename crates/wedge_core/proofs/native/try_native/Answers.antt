@@ -1,4 +1,4 @@
-use Rattle.std.proofs.Common.{◌≡◌, ◌+◌, ◌≤◌, ◌==◌, Bool, refl, sym, ap, subst, ◌∙◌, arith}
+use Rattle.std.proofs.Common.{◌==◌, sym, ap, subst, ◌∙◌, arith}
 use Rattle.std.specs.Prelude.{IfOk, IfSome, Option, Result}
 use Rattle.ia32_types.specs.declared.stop.Stop.{Stop}
 use Rattle.step_mem.specs.Sound.{space_at}
@@ -9,7 +9,6 @@ use Rattle.machine_step.specs.Roots.{RootsAs}
 use Rattle.machine_step.specs.Worked.{IsDropped}
 use Rattle.machine_step.specs.declared.worked.Worked.{Worked}
 use Rattle.machine_step.proofs.Used.{if_ok_on}
-use Rattle.wedge_core.specs.Prepared.{gone}
 use Rattle.wedge_core.specs.Tries.{TriesAs}
 use Rattle.wedge_core.proofs.Trying.{hidden_on, if_gone, of_gone, tried_refused, tried_prepared, tried_other}
 use Rattle.wedge_core.proofs.native.try_native.Goals as goal

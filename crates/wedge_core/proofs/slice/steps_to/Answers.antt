@@ -539,3 +539,27 @@ one_step-requires-clause-bound g c = let n = c.stretch.ensures.count in let z = 
 
 pub one_step-requires-clause-room : goal.one_step-requires-clause-room
 one_step-requires-clause-room g c = let r = c.loop-running.invariant.room in let t = c.loop-running-test.true in let e = c.stretch.ensures.retired in let z = c.if-stretch-gt0.false in omega (arith, r, t, e, z)
+
+pub begin-requires : goal.begin-requires
+begin-requires g c = c.requires.script
+
+pub tell_both-requires : goal.tell_both-requires
+tell_both-requires g c = let n = c.stretch.ensures.count in let z = c.if-stretch-gt0.false in let t = c.loop-running-test.true in let b = c.requires.bound in omega (arith, n, z, t, b)
+
+pub rest-requires-clause-script : goal.rest-requires-clause-script
+rest-requires-clause-script g c = c.requires.script
+
+pub rest-requires-clause-begun : goal.rest-requires-clause-begun
+rest-requires-clause-begun g c = let e = c.in-Ok.ensures.count in omega (arith, e)
+
+pub rest-requires-clause-within : goal.rest-requires-clause-within
+rest-requires-clause-within g c = let e = c.in-Ok.ensures.count in let n = c.stretch.ensures.count in let z = c.if-stretch-gt0.false in let t = c.loop-running-test.true in omega (arith, e, n, z, t)
+
+pub rest-requires-clause-bound : goal.rest-requires-clause-bound
+rest-requires-clause-bound g c = c.requires.bound
+
+pub loop-running-smaller-then-stretch-gt0 : goal.loop-running-smaller-then-stretch-gt0
+loop-running-smaller-then-stretch-gt0 g c = let n = c.stretch.ensures.count in let p = c.if-stretch-gt0.true in let t = c.loop-running-test.true in omega (arith, n, p, t)
+
+pub loop-running-smaller : goal.loop-running-smaller
+loop-running-smaller g c = let l = c.rest.ensures.later in let e = c.in-Ok.ensures.count in let n = c.stretch.ensures.count in let z = c.if-stretch-gt0.false in let t = c.loop-running-test.true in omega (arith, l, e, n, z, t)

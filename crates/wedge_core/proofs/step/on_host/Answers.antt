@@ -12,7 +12,7 @@ use Rattle.shadow_tables.specs.Entries.{entries_of}
 use Rattle.machine_model.specs.Keeping.{Roomy}
 use Rattle.machine_model.specs.Run.{Set}
 use Rattle.machine_model.specs.State.{Setting, State, wedge}
-use Rattle.machine_model.specs.Taken.{Taken, is_load}
+use Rattle.machine_model.specs.Taken.{Taken}
 use Rattle.native_steps.specs.Mirrors.{shown}
 use Rattle.native_steps.proofs.Shown.{shown_length}
 use Rattle.kept_laws.specs.Carried.{indices_in}
@@ -20,13 +20,12 @@ use Rattle.kept_laws.specs.Known.{IsKnown}
 use Rattle.wedge_step.specs.Carried.{IsCarried, IsTakenFrom}
 use Rattle.wedge_step.specs.Filled.{FillsOn, pages_kept}
 use Rattle.wedge_step.specs.Parts.{left_of}
-use Rattle.wedge_step.specs.Pools.{Keeps}
 use Rattle.wedge_step.specs.Ready.{IsReady}
 use Rattle.wedge_step.specs.Standing.{IsHeld, ground, set_of, side_of, state_of}
 use Rattle.wedge_step.specs.declared.running.Lost.{Lost}
 use Rattle.wedge_step.specs.declared.running.Running.{Running}
 use Rattle.wedge_step.proofs.Stays.{kept_same}
-use Rattle.wedge_core.specs.Attempts.{Asks, Idle}
+use Rattle.wedge_core.specs.Attempts.{Idle}
 use Rattle.wedge_core.specs.Ran.{Ran}
 use Rattle.wedge_core.specs.Views.{view_by}
 use Rattle.wedge_core.proofs.Going.{counted, counts_same}

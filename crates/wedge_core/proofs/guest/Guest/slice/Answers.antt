@@ -130,3 +130,33 @@ returns-clause-filled g c =
     let last = pages_kept roots.slots roots.asides c.steps_to.new.running.shadows (g.H.Host.bytes c.steps_to.new.host) in
     still_filled pages last old.fills c.steps_to.new.running.fills
     (subst (λ (n : ℕ). FillsOn pages last n c.steps_to.new.running.fills) (same_fills old begun c.begin.ensures.running) (more_first first pages last begun.fills c.steps_to.new.running.fills c.begin.ensures.fewer c.steps_to.ensures.filled))
+
+pub returns-clause-wants : goal.returns-clause-wants
+returns-clause-wants g c = c.steps_to.ensures.wants
+
+pub returns-clause-silent : goal.returns-clause-silent
+returns-clause-silent g c = c.steps_to.ensures.silent
+
+pub returns-clause-able : goal.returns-clause-able
+returns-clause-able g c = c.steps_to.ensures.able
+
+pub returns-clause-counted : goal.returns-clause-counted
+returns-clause-counted g c = c.steps_to.ensures.counted
+
+pub returns-clause-stands : goal.returns-clause-stands
+returns-clause-stands g c = c.steps_to.ensures.stands
+
+pub returns-clause-few : goal.returns-clause-few
+returns-clause-few g c = c.steps_to.ensures.few
+
+pub returns-clause-started : goal.returns-clause-started
+returns-clause-started g c = c.steps_to.ensures.started
+
+pub returns-clause-later : goal.returns-clause-later
+returns-clause-later g c = c.steps_to.ensures.later
+
+pub returns-clause-cause : goal.returns-clause-cause
+returns-clause-cause g c = c.steps_to.ensures.cause
+
+pub returns-clause-reached : goal.returns-clause-reached
+returns-clause-reached g c = c.steps_to.ensures.reached
