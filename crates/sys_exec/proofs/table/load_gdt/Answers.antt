@@ -1,0 +1,10 @@
+use Rattle.std.proofs.Common.{◌≡◌, ℕ, true, refl, ap}
+use Rattle.std.specs.Prelude.{◌==◌}
+use Rattle.sys_exec.specs.Table.{load_gdt}
+use Rattle.sys_exec.proofs.table.load_gdt.Goals as goal
+
+pub returns-clause-gives : goal.returns-clause-gives
+unfolding load_gdt
+returns-clause-gives g c =
+    let kernel : (c.args.cpu.now.cpl == 0) ≡ true = ap (λ (cpl : ℕ). cpl == 0) c.if-cpu-ne0.false in
+    rw (kernel, c.in_ok-after.ensures.gives, c.next.ensures, c.past-after.ensures) refl
