@@ -85,9 +85,6 @@ returns-then-clashes-clause-fewer g c = c.drop_present.ensures.fewer
 pub returns-then-clashes-clause-guest : goal.returns-then-clashes-clause-guest
 returns-then-clashes-clause-guest g c = c.drop_present.ensures.guest
 
-pub returns-then-clashes-clause-stay : goal.returns-then-clashes-clause-stay
-returns-then-clashes-clause-stay g c = λ room. c.drop_present.ensures.stay
-
 pub returns-else-clashes-clause-held : goal.returns-else-clashes-clause-held
 returns-else-clashes-clause-held g c = c.requires.held
 
