@@ -1,6 +1,5 @@
 -- The uses that a look at the next instruction collects, and the search for a clash among them.
-use Rattle.std.proofs.Common.{◌≡◌, ℕ, ◌+◌, ◌*◌, ◌/◌, ◌%◌, ◌==◌, ◌≤◌, ◌<◌, ◌^◌, List, [], ◌∷◌, ◌++◌, length, drop, get_or, add-one, Bool, true, false, ◌&&◌, ◌||◌, Option, Some, refl, sym, ap, ◌∙◌, arith}
-use Rattle.std.proofs.lemmas.Bool.{eq-eqb, ne_eqb}
+use Rattle.std.proofs.Common.{◌≡◌, ℕ, ◌+◌, ◌*◌, ◌/◌, ◌%◌, ◌==◌, ◌≤◌, ◌<◌, List, [], ◌∷◌, ◌++◌, length, drop, get_or, add-one, Bool, true, false, ◌&&◌, ◌||◌, Option, Some, refl, sym, ap, ◌∙◌, arith}
 use Rattle.std.proofs.lemmas.List.{append-nil, at_drop_more, at_drop_all, get_or-map, length-map, map-append, places}
 use Rattle.std.specs.FinMap.{get}
 use Rattle.guest_ram.specs.Among.{is_among}
@@ -14,14 +13,14 @@ use Rattle.ia32_types.specs.declared.insn.Insn.{Insn}
 use Rattle.ia32_decode.specs.declared.answer.Decoded.{Decoded}
 use Rattle.ia32_decode.specs.declared.answer.Decoded.TheVariants as begins
 use Rattle.ia32_decode.specs.Decoding.{decoded}
-use Rattle.ia32_decode.specs.Front.{longest, front_len}
+use Rattle.ia32_decode.specs.Front.{longest}
 use Rattle.paging.specs.declared.entry.Access.{Access}
 use Rattle.paging.specs.declared.entry.Entry.{Entry}
-use Rattle.machine_model.specs.State.{Setting, State, wedge}
+use Rattle.machine_model.specs.State.{State, wedge}
 use Rattle.machine_model.specs.Run.{Set}
 use Rattle.machine_model.specs.Instruction.{next_page}
 use Rattle.machine_model.specs.Clash.{Use, clash_behind, clash_in, fetch_uses, instruction_clashes, is_refused_by, range_uses, uses_at}
-use Rattle.native_steps.specs.Looking.{Seen, bytes_seen, marked, next_seen, uses_behind, uses_from, uses_on, uses_seen}
+use Rattle.native_steps.specs.Looking.{Seen, bytes_seen, marked, uses_on, uses_seen}
 use Rattle.wedge_step.specs.declared.clash.PageUse.{PageUse}
 use Rattle.wedge_step.specs.Clashing.{before, looked, model_use, model_uses}
 use Rattle.wedge_step.specs.Standing.{ground}
@@ -139,26 +138,6 @@ on_next o b ram front bytes x old new page d all is one push found read decodes 
     ∙ (ap (λ e. pages ++ range_uses b e) decodes
     ∙ (ap (λ l. pages ++ range_uses b (decoded l)) (next_bytes ram front bytes x b.cpu.regs.eip page is read)
     ∙ ap (uses_on b ram front) found)))
-
--- what is collected behind the bytes of the first page
-pub on_first : (m : Setting) (b : State) (x : Seen) (bytes : List ℕ) (d : Decoded) (all : List Use) → bytes ≡ bytes_seen (marked b.ram x.marks) x b.cpu.regs.eip (front_len b.cpu.regs.eip)
-    → d ≡ decoded bytes → all ≡ uses_behind m b x bytes d → all ≡ uses_from m b (Some x)
-on_first m b x bytes d all front decodes behind =
-    behind ∙ (ap (uses_behind m b x bytes) decodes ∙ ap (λ l. uses_behind m b x l (decoded l)) front)
-
--- the last page has none behind it
-pub on_last : (m : Setting) (b : State) (x : Seen) (bytes : List ℕ) (uses : List Use) → 0xFFFFF ≤ b.cpu.regs.eip / 4096 → b.cpu.regs.eip < 2 ^ 32 → uses ≡ fetch_uses b (b.cpu.regs.eip / 4096 ∷ [])
-    → uses ≡ uses_behind m b x bytes begins.Short
-on_last m b x bytes uses le small one =
-    let last : b.cpu.regs.eip / 4096 == 0xFFFFF ≡ true = eq-eqb _ _ (omega (arith, le, small)) in
-    rw last one
-
--- and another page has one
-pub on_both : (m : Setting) (b : State) (x : Seen) (bytes : List ℕ) (uses : List Use) → b.cpu.regs.eip / 4096 < 0xFFFFF → uses ≡ uses_on b (marked b.ram x.marks) bytes (next_seen m b x)
-    → uses ≡ uses_behind m b x bytes begins.Short
-on_both m b x bytes uses lt both =
-    let other : b.cpu.regs.eip / 4096 == 0xFFFFF ≡ false = ne_eqb _ _ (λ is. omega (arith, lt, is)) in
-    rw other both
 
 -- A state is looked at by its processor, memory and set alone.
 looked_alike : (image : Image) (script : Events) (frames : ℕ) (b : State) (cpu : Cpu) (ram : List ℕ) (set : Set) → b.cpu ≡ cpu → b.ram ≡ ram → b.set ≡ set

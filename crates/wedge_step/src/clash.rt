@@ -123,7 +123,16 @@ fn add_first<S: Shadows>(
 {
     let eip = cpu.regs.eip;
     let mut bytes: Bytes = ArrayVec::new();
-    read(ram, image, frames, None, first, eip, front_len(eip), &mut bytes);
+    read(
+        ram,
+        image,
+        frames,
+        None,
+        first,
+        eip,
+        front_len(eip),
+        &mut bytes,
+    );
     match decode(bytes.as_slice()) {
         Decoded::Insn(insn, _) => add_ranges(uses, &insn, cpu),
         Decoded::Outside => {}

@@ -81,7 +81,7 @@ returns-clause-ready g c = λ m frames is opened h.
     let slots = g.S.Shadows.slots in
     let noted = g.S.Shadows.noted in
     subst (λ (x : Cpu). IsReady slots noted g.S.Shadows.marked g.S.Shadows.value g.S.Shadows.asides m x new.shadows new.ram
-        × (c.leave-left.result.back ≡ true → AreFound m x (shown m new.ram) x.cr3 (noted new.shadows) (slots new.shadows new.ram)))
+    × (c.leave-left.result.back ≡ true → AreFound m x (shown m new.ram) x.cr3 (noted new.shadows) (slots new.shadows new.ram)))
     (sym c.pass.ensures.cpu) (c.leave-left.ensures.ready m low opened_mid ready_mid)
 
 pub returns-clause-opened : goal.returns-clause-opened

@@ -1,1 +1,0 @@
-use Rattle.wedge_step.proofs.clash.uses.Goals as goal
