@@ -12,9 +12,6 @@ use std::process::Abort;
 /// The words of a command.
 pub type Words<'a> = &'a [&'a str];
 
-/// The row of a table, and the step of that row.
-type Place = (usize, usize);
-
 /// What is done to files, or found of them.
 #[derive(Clone, Copy)]
 pub enum Step<'a> {
@@ -78,8 +75,13 @@ pub fn answer(
     (number, out)
 }
 
-/// A command of whose puts those of a list fail comes to a status, and its sink takes this. One put has failed where the
-/// status says so.
+/// Whether a command came to a status, and its sink took this. One put has failed where the status says so.
+fn is_told(number: u8, out: &MemSink, told: Told<'_>) -> bool {
+    let (status, text) = told;
+    number == status && out.bytes() == text && out.faults() == u64::from(number == 6)
+}
+
+/// Whether that is so of a command of whose puts those of a list fail.
 fn tells(
     rt: &impl Abort,
     alloc: Global,
@@ -87,14 +89,9 @@ fn tells(
     all: Words<'_>,
     fail: &[u64],
     told: Told<'_>,
-    place: Place,
-) {
+) -> bool {
     let (number, out) = answer(rt, alloc, files, all, fail);
-    assert_eq!(rt; (number, out.bytes()), told, "{all:?} at {place:?}");
-    assert!(rt;
-        out.faults() == u64::from(number == 6),
-        "{all:?} at {place:?}"
-    );
+    is_told(number, &out, told)
 }
 
 fn run_tells(
@@ -104,10 +101,9 @@ fn run_tells(
     machine: &str,
     n: &str,
     told: Told<'_>,
-    place: Place,
-) {
+) -> bool {
     let run = ["run", machine, "I", "B", "2048", n];
-    tells(rt, alloc, files, &run, &[], told, place);
+    tells(rt, alloc, files, &run, &[], told)
 }
 
 fn both_print(
@@ -116,11 +112,9 @@ fn both_print(
     files: &mut MemFiles,
     n: &str,
     prints: &Prints<'_>,
-    place: Place,
-) {
-    for (machine, told) in prints.each() {
-        run_tells(rt, alloc, files, machine, n, told, place);
-    }
+) -> bool {
+    run_tells(rt, alloc, files, "--bare", n, prints.bare())
+        && run_tells(rt, alloc, files, "--wedge", n, prints.wedge())
 }
 
 /// Whether a name holds something.
@@ -129,48 +123,40 @@ fn holds(alloc: Global, files: &mut MemFiles, name: &str) -> bool {
     files.load(alloc, name, &mut bytes).is_ok()
 }
 
-fn is_held(
-    rt: &impl Abort,
-    alloc: Global,
-    files: &mut MemFiles,
-    name: &str,
-    held: bool,
-    place: Place,
-) {
-    assert!(rt; holds(alloc, files, name) == held, "{name} at {place:?}");
-}
-
-fn is_done(rt: &impl Abort, alloc: Global, files: &mut MemFiles, all: Words<'_>, place: Place) {
+fn is_done(rt: &impl Abort, alloc: Global, files: &mut MemFiles, all: Words<'_>) -> bool {
     let (number, _out) = answer(rt, alloc, files, all, &[]);
-    assert!(rt; number == 0, "{all:?} at {place:?}");
+    number == 0
 }
 
-fn stores(rt: &impl Abort, files: &mut MemFiles, name: &str, bytes: &[u8]) {
-    files.store(name, bytes).expect(rt, "memory");
-}
-
-fn does(rt: &impl Abort, alloc: Global, files: &mut MemFiles, step: Step<'_>, place: Place) {
+/// Whether a step comes to what it says.
+fn does(rt: &impl Abort, alloc: Global, files: &mut MemFiles, step: Step<'_>) -> bool {
     match step {
-        Step::Store(name, bytes) => stores(rt, files, name, bytes),
-        Step::Do(all) => is_done(rt, alloc, files, all, place),
-        Step::Tell(all, told) => tells(rt, alloc, files, all, &[], told, place),
-        Step::Cut(all, put, told) => tells(rt, alloc, files, all, &[put], told, place),
-        Step::Print(n, prints) => both_print(rt, alloc, files, n, &prints, place),
-        Step::Hold(name, held) => is_held(rt, alloc, files, name, held, place),
+        Step::Store(name, bytes) => files.store(name, bytes).is_ok(),
+        Step::Do(all) => is_done(rt, alloc, files, all),
+        Step::Tell(all, told) => tells(rt, alloc, files, all, &[], told),
+        Step::Cut(all, put, told) => tells(rt, alloc, files, all, &[put], told),
+        Step::Print(n, prints) => both_print(rt, alloc, files, n, &prints),
+        Step::Hold(name, held) => holds(alloc, files, name) == held,
     }
 }
 
-/// Does the steps over these files. Where one comes to something else, the row and its own number are told.
-pub fn go_on(rt: &impl Abort, alloc: Global, files: &mut MemFiles, row: usize, steps: &[Step<'_>]) {
+/// Does the steps over these files. Where one comes to something else, the row of a table and its own number are told.
+pub fn follow_over(
+    rt: &impl Abort,
+    alloc: Global,
+    files: &mut MemFiles,
+    row: usize,
+    steps: &[Step<'_>],
+) {
     for (k, step) in steps.iter().enumerate() {
-        does(rt, alloc, files, *step, (row, k));
+        assert!(rt; does(rt, alloc, files, *step), "row {row}, step {k}");
     }
 }
 
 /// The same over no files, and what is held behind it.
 pub fn follow(rt: &impl Abort, alloc: Global, row: usize, steps: &[Step<'_>]) -> MemFiles {
     let mut files = MemFiles::new(alloc, Vec::new(alloc)).expect(rt, "memory");
-    go_on(rt, alloc, &mut files, row, steps);
+    follow_over(rt, alloc, &mut files, row, steps);
     files
 }
 

@@ -87,7 +87,7 @@ static CUT_OBJECTS: [Stretch<'static>; 2] = [
 #[test]
 fn cut_objects_are_refused_by_the_part_that_is_cut(rt: HostRuntime) {
     let object = file_of(&rt, rt.alloc(), "O");
-    assert_eq!(rt; object.len(), 612);
+    assert!(rt; object.len() == 612);
     for row in &CUT_OBJECTS {
         cut_reads_as(&rt, rt.alloc(), &LINKS, &object, row);
     }
@@ -103,7 +103,7 @@ static CUT_IMAGES: [Stretch<'static>; 3] = [
 #[test]
 fn cut_images_are_refused_by_the_part_that_is_cut(rt: HostRuntime) {
     let image = file_of(&rt, rt.alloc(), "I");
-    assert_eq!(rt; image.len(), 8496);
+    assert!(rt; image.len() == 8496);
     for row in &CUT_IMAGES {
         cut_reads_as(&rt, rt.alloc(), &CHECKS, &image, row);
     }

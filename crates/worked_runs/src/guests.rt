@@ -33,7 +33,7 @@ pub fn started(rt: &impl Abort, alloc: Global, image: &Checked, host: &mut Machi
 }
 
 /// The guest makes `k` steps.
-pub fn goes_on(
+pub fn guest_steps_on(
     rt: &impl Abort,
     guest: &mut Guest,
     image: &Checked,
@@ -71,7 +71,7 @@ fn prints(rt: &impl Abort, alloc: Global, image: &Checked, first: u64, each: u64
     let mut k = first;
     for _ in 0..100u64 {
         let left = n.saturating_sub(guest.step()).min(k);
-        goes_on(
+        guest_steps_on(
             rt, &mut guest, image, &script, left, &mut pool, &mut host, &mut out,
         );
         k = each;
@@ -94,7 +94,7 @@ fn a_pause_of_a_guest_changes_nothing(rt: HostRuntime) {
     assert!(rt; whole.bytes().ends_with(INTERRUPTED));
     for pause in 40..80u64 {
         let parts = prints(&rt, rt.alloc(), &image, pause, 80, 80);
-        assert_eq!(rt; parts.bytes(), whole.bytes(), "a pause at {pause}");
+        assert!(rt; parts.bytes() == whole.bytes(), "a pause at {pause}");
     }
 }
 
@@ -123,7 +123,7 @@ fn side_by_side(rt: &impl Abort, alloc: Global, image: &Checked) {
     for step in 0..80u64 {
         assert!(rt; guest.step() == step && bare.step() == step);
         assert!(rt; is_same(guest.cpu(), bare.cpu()), "before step {step}");
-        goes_on(
+        guest_steps_on(
             rt, &mut guest, image, &script, 1, &mut pool, &mut host, &mut out,
         );
         steps_on(rt, &mut bare, &script, 1, &mut bare_out);

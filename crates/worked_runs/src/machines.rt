@@ -13,11 +13,25 @@ pub enum Prints<'a> {
 }
 
 impl<'a> Prints<'a> {
-    /// The word for each machine, and what it prints.
-    pub fn each(&self) -> [(&'static str, Told<'a>); 2] {
+    /// What the bare machine prints.
+    pub fn bare(&self) -> Told<'a> {
         match self {
-            Prints::Alike(told) => [("--bare", *told), ("--wedge", *told)],
-            Prints::Apart { bare, wedge } => [("--bare", *bare), ("--wedge", *wedge)],
+            Prints::Alike(told)
+            | Prints::Apart {
+                bare: told,
+                wedge: _,
+            } => *told,
+        }
+    }
+
+    /// What its patched text prints.
+    pub fn wedge(&self) -> Told<'a> {
+        match self {
+            Prints::Alike(told)
+            | Prints::Apart {
+                bare: _,
+                wedge: told,
+            } => *told,
         }
     }
 }

@@ -11,7 +11,7 @@ use std::process::Abort;
 fn worked(rt: &impl Abort, alloc: Global) -> MemSink {
     let mut files = MemFiles::new(alloc, Vec::new(alloc)).expect(rt, "memory");
     let (number, out) = answer(rt, alloc, &mut files, &["work", "7"], &[]);
-    assert_eq!(rt; number, 0);
+    assert!(rt; number == 0);
     out
 }
 
@@ -19,9 +19,9 @@ fn worked(rt: &impl Abort, alloc: Global) -> MemSink {
 fn work_tells_the_same_lines_twice(rt: HostRuntime) {
     let first = worked(&rt, rt.alloc());
     let second = worked(&rt, rt.alloc());
-    assert_eq!(rt; second.bytes(), first.bytes());
-    assert!(rt; first.bytes().starts_with(b"work 7 text "));
-    assert!(rt; first.bytes().ends_with(b"\nsame\n"));
+    let lines = first.bytes();
+    assert!(rt; second.bytes() == lines);
+    assert!(rt; lines.starts_with(b"work 7 text ") && lines.ends_with(b"\nsame\n"));
 }
 
 const SHOWN: &[u8] = b"1 out32 0080 3c6ef35f\nend steps 2\n";

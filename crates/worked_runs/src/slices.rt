@@ -160,7 +160,7 @@ fn a_pause_at_any_step_changes_nothing(rt: HostRuntime) {
     assert!(rt; whole.bytes().ends_with(INTERRUPTED));
     for pause in 40..80u64 {
         let parts = prints(&rt, rt.alloc(), &image, pause, 80, 80);
-        assert_eq!(rt; parts.bytes(), whole.bytes(), "a pause at {pause}");
+        assert!(rt; parts.bytes() == whole.bytes(), "a pause at {pause}");
     }
 }
 
