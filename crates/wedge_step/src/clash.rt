@@ -17,7 +17,7 @@ ghost use Rattle.paging.specs.Space.{Space};
 ghost use Rattle.machine_model.specs.Clash.{clash_in, instruction_clashes, is_refused_by, uses_of};
 ghost use Rattle.machine_model.specs.Instruction.{fetched};
 ghost use Rattle.machine_model.specs.State.{State, space_at_start, wedge};
-ghost use Rattle.native_steps.specs.Looking.{marked, next_seen, uses_on, uses_seen};
+ghost use Rattle.native_steps.specs.Looking.{marked, next_seen, uses_from, uses_on, uses_seen};
 ghost use Rattle.native_steps.specs.Mirrors.{shown};
 ghost use Rattle.shadow_tables.specs.Entries.{entries_of};
 ghost use Rattle.step_mem.specs.Changes.{AreWithin};
@@ -92,40 +92,53 @@ fn uses<S: Shadows>(cpu: &Cpu, shadows: &S, ram: &Ram, image: &Checked, frames: 
     requires kept { AreWithin frames (entries_of (S.slots shadows.now ram.now)) }
     ensures { model_uses (cpu.now.cpl == 3) result.items ≡ uses_seen (ground image.now frames) (looked cpu.now (shown (ground image.now frames) ram.now) (entries_of (S.slots shadows.now ram.now))) }
 {
-    let eip = cpu.regs.eip;
+    let page = cpu.regs.eip / 4096;
     let mut uses: Uses = ArrayVec::new();
-    uses.push(PageUse {
-        page: eip / 4096,
-        write: false,
-    });
-    match fetched(cpu, shadows, ram, image, frames, eip / 4096) {
-        None => uses,
-        Some(first) => {
-            let mut bytes: Bytes = ArrayVec::new();
-            read(
-                ram,
-                image,
-                frames,
-                None,
-                first,
-                eip,
-                front_len(eip),
-                &mut bytes,
-            );
-            match decode(bytes.as_slice()) {
-                Decoded::Insn(insn, _) => {
-                    add_ranges(&mut uses, &insn, cpu);
-                    uses
-                }
-                Decoded::Outside => uses,
-                Decoded::Short => {
-                    if eip / 4096 < 0xF_FFFF {
-                        add_next(
-                            cpu, shadows, ram, image, frames, first, &mut bytes, &mut uses,
-                        );
-                    }
-                    uses
-                }
+    uses.push(PageUse { page, write: false });
+    if let Some(first) = fetched(cpu, shadows, ram, image, frames, page) {
+        add_first(cpu, shadows, ram, image, frames, first, &mut uses);
+    }
+    uses
+}
+
+/// Adds the uses that the bytes of the first page tell of, and those of the next page where an instruction goes on there.
+fn add_first<S: Shadows>(
+    cpu: &Cpu,
+    shadows: &S,
+    ram: &Ram,
+    image: &Checked,
+    frames: u32,
+    first: Seen,
+    uses: &mut Uses,
+)
+    requires frames { 4096 * frames ≤ length ram.now }
+    requires laid { 0x100000 + length image.now.text ≤ 4096 * frames }
+    requires stands { ∥ S.stands shadows.now ram.now ∥₁ }
+    requires kept { AreWithin frames (entries_of (S.slots shadows.now ram.now)) }
+    requires marks { AreIn frames (marks_of first.marks) }
+    requires frame { first.frame < frames }
+    requires one { model_uses (cpu.now.cpl == 3) uses.old.items ≡ record { page = cpu.now.regs.eip / 4096; access = record { write = false; user = cpu.now.cpl == 3 } } ∷ [] }
+    requires single { length uses.old.items ≡ 1 }
+    ensures { model_uses (cpu.now.cpl == 3) uses.new.items ≡ uses_from (ground image.now frames) (looked cpu.now (shown (ground image.now frames) ram.now) (entries_of (S.slots shadows.now ram.now))) (Some (seen_of first)) }
+{
+    let eip = cpu.regs.eip;
+    let mut bytes: Bytes = ArrayVec::new();
+    read(
+        ram,
+        image,
+        frames,
+        None,
+        first,
+        eip,
+        front_len(eip),
+        &mut bytes,
+    );
+    match decode(bytes.as_slice()) {
+        Decoded::Insn(insn, _) => add_ranges(uses, &insn, cpu),
+        Decoded::Outside => {}
+        Decoded::Short => {
+            if eip / 4096 < 0xF_FFFF {
+                add_next(cpu, shadows, ram, image, frames, first, &mut bytes, uses);
             }
         }
     }

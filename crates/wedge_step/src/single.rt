@@ -36,6 +36,8 @@ use crate::close::{close, leave};
 use crate::opened::TEXT_FRAME;
 use crate::running::Running;
 use crate::sight::are_bytes;
+use board::Board;
+use descriptors::Cpu;
 use frame_pool::Pool;
 use guest_ram::Ram;
 use ia32_types::Stop;
@@ -252,7 +254,22 @@ pub fn go<S: Reloads + Drop>(
     running.lost.after |= left.none;
     running.lost.back = left.back;
     running.held = all - pool.free();
-    running.cpu = worked.cpu;
-    running.step += 1;
-    running.board.advance(1);
+    pass(
+        &mut running.cpu,
+        &mut running.step,
+        &mut running.board,
+        worked,
+    );
+}
+
+/// The processor is as the step left it, the count rises, and the board advances.
+fn pass(cpu: &mut Cpu, step: &mut u64, board: &mut Board, worked: &Worked)
+    requires bound { step.old < 2 ^ 40 }
+    ensures cpu { cpu.new ≡ worked.now.cpu }
+    ensures step { step.new ≡ step.old + 1 }
+    ensures board { board.new ≡ board_step board.old }
+{
+    *cpu = worked.cpu;
+    *step += 1;
+    board.advance(1);
 }

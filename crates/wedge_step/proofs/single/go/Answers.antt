@@ -1,13 +1,15 @@
-use Rattle.std.proofs.Common.{◌≡◌, ℕ, ◌≤◌, Bool, List, length, ap, sym, subst, ◌∙◌, arith}
+use Rattle.std.proofs.Common.{◌≡◌, ℕ, ◌+◌, ◌≤◌, Bool, true, List, length, ap, sym, subst, ◌∙◌, arith}
+use Rattle.board.specs.Boards.{board_step}
+use Rattle.descriptors.specs.declared.cpu.Cpu.{Cpu}
 use Rattle.descriptors.specs.Controls.{wp_of}
+use Rattle.native_steps.specs.Mirrors.{shown}
 use Rattle.frame_pool.specs.Pool.{base_of, free_list}
 use Rattle.frame_pool.proofs.Held.{Moves-trans}
 use Rattle.wedge_mem.specs.Settled.{pages_of}
-use Rattle.wedge_step.specs.Ready.{IsReadyBut, leaving}
+use Rattle.wedge_step.specs.Ready.{AreFound, IsReady, IsReadyBut, leaving}
 use Rattle.wedge_step.specs.Standing.{AreOpen}
 use Rattle.wedge_step.specs.declared.running.Running.{Running}
 use Rattle.wedge_step.proofs.Parts.{left_twice}
-use Rattle.wedge_step.proofs.Boards.{one_step}
 use Rattle.wedge_step.proofs.Filling.{fills_join, fills_fewer}
 use Rattle.shadow_tables.specs.Entries.{entries_of}
 use Rattle.step_mem.specs.Changes.{changed}
@@ -31,8 +33,29 @@ returns-clause-shows g c = λ image is h a.
     c.leave-left.ensures.shows image (subst (λ (b : Bool). AreOpen image b (g.S.Shadows.slots mid.shadows c.keep.new.ram)) (sym wp) (c.keep.ensures.shows image is h))
     (subst (λ (b : Bool). Rattle.wedge_step.specs.Ready.AllOpen image b (g.S.Shadows.asides mid.shadows c.keep.new.ram)) (sym wp) (c.keep.ensures.opens image _ a))
 
+pub returns-clause-stands : goal.returns-clause-stands
+returns-clause-stands g c = c.leave-left.ensures.stands
+
+pub returns-clause-owns : goal.returns-clause-owns
+returns-clause-owns g c = c.leave-left.ensures.owns
+
+pub returns-clause-wanted : goal.returns-clause-wanted
+returns-clause-wanted g c = c.leave-left.ensures.wanted
+
+pub returns-clause-before : goal.returns-clause-before
+returns-clause-before g c = c.keep.ensures.before
+
+pub returns-clause-cpu : goal.returns-clause-cpu
+returns-clause-cpu g c = c.pass.ensures.cpu
+
 pub returns-clause-board : goal.returns-clause-board
-returns-clause-board g c = c.advance.ensures ∙ (one_step _ ∙ ap (λ (r : _). Rattle.board.specs.Boards.board_step r.board) c.keep.ensures.same)
+returns-clause-board g c = c.pass.ensures.board ∙ ap (λ (r : Running g.row.S.Denot). board_step r.board) c.keep.ensures.same
+
+pub returns-clause-step : goal.returns-clause-step
+returns-clause-step g c = c.pass.ensures.step ∙ ap (λ (r : Running g.row.S.Denot). r.step + 1) c.keep.ensures.same
+
+pub returns-clause-frames : goal.returns-clause-frames
+returns-clause-frames g c = ap (λ (r : Running g.row.S.Denot). r.frames) c.keep.ensures.same
 
 pub returns-clause-filled : goal.returns-clause-filled
 returns-clause-filled g c = fills_join _ _ _ _ _ _ c.keep.ensures.filled (fills_fewer _ _ _ c.leave-left.ensures.fewer)
@@ -53,8 +76,13 @@ returns-clause-ready g c = λ m frames is opened h.
     let ready = c.keep.ensures.ready (leaving d pages) m old.cpu frames h in
     let pages_are : pages ≡ _ = sym c.pages_of-pages.ensures.all ∙ sym c.as_slice.ensures in
     let ready_mid = subst (λ (l : List ℕ). IsReadyBut g.S.Shadows.slots g.S.Shadows.noted g.S.Shadows.marked g.S.Shadows.value g.S.Shadows.asides (leaving d l) m mid.cpu mid.shadows c.keep.new.ram) pages_are
-    (subst (λ (x : Rattle.descriptors.specs.declared.cpu.Cpu.Cpu). IsReadyBut g.S.Shadows.slots g.S.Shadows.noted g.S.Shadows.marked g.S.Shadows.value g.S.Shadows.asides (leaving d pages) m x mid.shadows c.keep.new.ram) (sym cpu_is) ready) in
-    c.leave-left.ensures.ready m low opened_mid ready_mid
+    (subst (λ (x : Cpu). IsReadyBut g.S.Shadows.slots g.S.Shadows.noted g.S.Shadows.marked g.S.Shadows.value g.S.Shadows.asides (leaving d pages) m x mid.shadows c.keep.new.ram) (sym cpu_is) ready) in
+    let new = c.leave-left.new in
+    let slots = g.S.Shadows.slots in
+    let noted = g.S.Shadows.noted in
+    subst (λ (x : Cpu). IsReady slots noted g.S.Shadows.marked g.S.Shadows.value g.S.Shadows.asides m x new.shadows new.ram
+    × (c.leave-left.result.back ≡ true → AreFound m x (shown m new.ram) x.cr3 (noted new.shadows) (slots new.shadows new.ram)))
+    (sym c.pass.ensures.cpu) (c.leave-left.ensures.ready m low opened_mid ready_mid)
 
 pub returns-clause-opened : goal.returns-clause-opened
 returns-clause-opened g c = λ indices all o. c.leave-left.ensures.opened indices (c.keep.ensures.opened indices all o)
