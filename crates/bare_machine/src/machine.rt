@@ -1,9 +1,13 @@
 //! The bare machine and one step of it.
 
-ghost use Rattle.std.specs.Prelude.{◌≡◌, ◌+◌, ◌<◌, ◌^◌, true, OnOk, MatchResult};
-ghost use Rattle.board.specs.Scripts.{is_script};
+ghost use Rattle.std.specs.Prelude.{◌≡◌, ◌+◌, ◌*◌, ◌≤◌, ◌<◌, ◌^◌, length, true, IfOk, OnOk, MatchResult};
+ghost use Rattle.board.specs.Scripts.{is_script, Events};
 ghost use Rattle.image_check.specs.Image.{Image};
-ghost use Rattle.machine_model.specs.Step.{step_of};
+ghost use Rattle.step_mem.specs.Changes.{AreWithin, changed};
+ghost use Rattle.step_mem.specs.Sound.{space_at};
+ghost use Rattle.machine_model.specs.State.{State};
+ghost use Rattle.machine_model.specs.Step.{step_of, stepped};
+ghost use Rattle.machine_step.specs.Worked.{ComesTo, IsDropped};
 ghost use Rattle.bare_machine.specs.Machine.{bare, state_of, StepAs, IsKept};
 
 use crate::finish::go;
@@ -12,7 +16,7 @@ use board::{Board, Script};
 use descriptors::Cpu;
 use guest_ram::Ram;
 use ia32_types::Stop;
-use machine_step::{Rules, Seen};
+use machine_step::{Rules, Seen, Worked};
 use step_mem::{Control, Guard, Own, StepState, Text};
 use xlate_buffer::Cache;
 
@@ -73,21 +77,13 @@ pub fn step<C: Cache>(
     ensures frames { machine.new.frames ≡ machine.old.frames }
     ensures count { MatchResult result (λ _. machine.new.step ≡ machine.old.step + 1) (λ _. machine.new.step ≡ machine.old.step) }
 {
-    let _len = machine.ram.len();
     machine.board.begin(script, machine.step);
-    let guard = Guard {
-        text: &NO_TEXT,
-        own: NO_BYTES,
-    };
-    let rules = Rules { image: None };
-    let result = machine_step::step_again(
-        &rules,
+    let result = tried(
         &machine.cpu,
         &mut machine.board,
         &mut machine.ram,
         &machine.kept,
         machine.frames,
-        guard,
         state,
     );
     match result {
@@ -97,4 +93,32 @@ pub fn step<C: Cache>(
         }
         Err(stop) => Err(stop),
     }
+}
+
+/// What a step comes to, by no rules and over no text that is kept from the guest. Its translations are still to be kept.
+fn tried<C: Cache>(
+    cpu: &Cpu,
+    board: &mut Board,
+    ram: &mut Ram,
+    kept: &Cached<C>,
+    frames: u32,
+    state: &mut StepState<'static>,
+) -> Result<Worked, Stop>
+    requires ram { 4096 * frames ≤ length ram.old }
+    requires within { AreWithin frames (C.entries kept.now.cache) }
+    ensures ram { 4096 * frames ≤ length ram.new }
+    ensures within { AreWithin frames (changed (C.entries kept.now.cache) state.new.changes) }
+    ensures page { IfOk result (λ w. IsDropped w.dropped) }
+    ensures memory { (space_at (λ _. C.entries kept.now.cache) ram.new state.new).ram ≡ ram.new }
+    ensures comes { (image : Image) (script : Events) (b : State) → ComesTo
+        (stepped (bare image script frames) (record b { cpu = cpu.now; ram = ram.old; set = C.entries kept.now.cache; board = board.old }))
+        b result board.new (space_at (λ _. C.entries kept.now.cache) ram.new state.new) }
+{
+    let _len = ram.len();
+    let guard = Guard {
+        text: &NO_TEXT,
+        own: NO_BYTES,
+    };
+    let rules = Rules { image: None };
+    machine_step::step_again(&rules, cpu, board, ram, kept, frames, guard, state)
 }

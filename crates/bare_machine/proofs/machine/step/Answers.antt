@@ -1,4 +1,4 @@
-use Rattle.std.proofs.Common.{◌≡◌, refl, sym, subst}
+use Rattle.std.proofs.Common.{◌≡◌, sym, subst, refl}
 use Rattle.board.specs.declared.devices.Board.{Board}
 use Rattle.step_mem.specs.Sound.{space_at}
 use Rattle.machine_model.specs.Step as steps
@@ -13,8 +13,7 @@ returns-in-Err-clause-step g c = λ image.
     let m = c.args.machine.now in
     let s = bare image c.args.script.now.list m.frames in
     let b = state_of g.C.Cache.entries m in
-    subst (λ (d : Board). stepped s (record b { board = d }) ≡ Halts c.in-Err.stop) c.begin.ensures
-    (rw c.in-Err.is at (c.step_again-result.ensures.step s b (record { has = refl; over = tt })))
+    subst (λ (d : Board). stepped s (record b { board = d }) ≡ Halts c.in-Err.stop) c.begin.ensures (c.in-Err.ensures.comes image c.args.script.now.list b)
 
 pub returns-in-Ok-clause-step : goal.returns-in-Ok-clause-step
 unfolding step_of
@@ -23,9 +22,19 @@ returns-in-Ok-clause-step g c = λ image.
     let s = bare image c.args.script.now.list m.frames in
     let b = state_of g.C.Cache.entries m in
     let w = c.in-Ok.worked in
-    let x = space_at (λ _. g.C.Cache.entries m.kept.cache) c.step_again-result.new.ram c.step_again-result.new.state in
-    let same : x.ram ≡ c.step_again-result.new.ram = rw c.step_again-result.ensures.text refl in
-    let is = subst (λ (d : Board). stepped s (record b { board = d }) ≡ went_as b w c.step_again-result.new.board x) c.begin.ensures
-    (rw c.in-Ok.is at (c.step_again-result.ensures.step s b (record { has = refl; over = tt }))) in
+    let x = space_at (λ _. g.C.Cache.entries m.kept.cache) c.tried-result.new.ram c.tried-result.new.state in
+    let is = subst (λ (d : Board). stepped s (record b { board = d }) ≡ went_as b w c.tried-result.new.board x) c.begin.ensures (c.in-Ok.ensures.comes image c.args.script.now.list b) in
     subst (λ (r : steps.Result). Goes r m.step (whats w.seen) (g.C.Cache.is_exact m.kept.cache) (state_of g.C.Cache.entries c.go.new.machine)) (sym is)
-    (c.go.ensures.goes (whats w.seen) (completed_by w.completed) (record x { set = dropping w.dropped x.set }) same refl)
+    (c.go.ensures.goes (whats w.seen) (completed_by w.completed) (record x { set = dropping w.dropped x.set }) c.tried-result.ensures.memory refl)
+
+pub returns-in-Ok-clause-kept : goal.returns-in-Ok-clause-kept
+returns-in-Ok-clause-kept g c = c.go.ensures.kept
+
+pub returns-in-Ok-clause-same : goal.returns-in-Ok-clause-same
+returns-in-Ok-clause-same g c = c.go.ensures.same
+
+pub returns-in-Ok-clause-frames : goal.returns-in-Ok-clause-frames
+returns-in-Ok-clause-frames g c = c.go.ensures.frames
+
+pub returns-in-Ok-clause-count : goal.returns-in-Ok-clause-count
+returns-in-Ok-clause-count g c = c.go.ensures.count
