@@ -14,7 +14,7 @@ use std::marker::Model;
 /// The section in which the next item stands, whether the last item was an STI that is a site of its
 /// own, the three sections, the sites, the relocations, and a definition for each name. A relocation
 /// has the number of its name in place of that of its symbol.
-#[derive(Debug, Drop)]
+#[derive(Drop)]
 pub struct Assembly {
     pub section: Section,
     pub after_sti: bool,

@@ -119,6 +119,35 @@ fn spelled(assembled: &Assembled) -> &[u8]
     &assembled.spelling.bytes[..assembled.spelling.len as usize]
 }
 
+/// The bytes of an instruction, and the NOPs behind them.
+fn put_bytes(
+    out: &mut Vec<u8>,
+    kind: Option<SiteKind>,
+    assembled: &Assembled,
+) -> Result<(), AllocError>
+    requires { assembled.now.spelling.len ≤ 16 }
+    ensures { OnOk result (out.new.items ≡ out.old.items ++ take assembled.now.spelling.len assembled.now.spelling.bytes ++ spec.nops (spec.nops_behind kind assembled.now.spelling.len)) }
+{
+    out.extend_from_slice(spelled(assembled))?;
+    put(out, nops_behind(kind, assembled.spelling.len), NOP)
+}
+
+/// The relocations of both fields.
+fn put_fields(
+    relocs: &mut Vec<Reloc>,
+    names: &Names,
+    at: u32,
+    arguments: &[Argument],
+    assembled: &Assembled,
+) -> Result<(), AllocError>
+    requires few { length names.now ≤ 65536 }
+    requires room { at < 2 ^ 31 }
+    ensures { OnOk result (relocs.new.items ≡ relocs.old.items ++ spec.field_reloc names.now at arguments.now assembled.now.disp ++ spec.field_reloc names.now at arguments.now assembled.now.imm) }
+{
+    put_field(relocs, names, at, arguments, assembled.disp)?;
+    put_field(relocs, names, at, arguments, assembled.imm)
+}
+
 impl Assembly {
     /// An instruction at the end of the text.
     #[tactic(auto, unfolding(crate::specs::Instructions::added))]
@@ -135,12 +164,9 @@ impl Assembly {
     {
         let at = self.text.len() as u32;
         let kind = sensitive(&assembled.insn);
-        let len = assembled.spelling.len;
-        self.text.extend_from_slice(spelled(assembled))?;
-        put(&mut self.text, nops_behind(kind, len), NOP)?;
-        put_site(&mut self.sites, at, kind, len)?;
-        put_field(&mut self.text_relocs, names, at, arguments, assembled.disp)?;
-        put_field(&mut self.text_relocs, names, at, arguments, assembled.imm)?;
+        put_bytes(&mut self.text, kind, assembled)?;
+        put_site(&mut self.sites, at, kind, assembled.spelling.len)?;
+        put_fields(&mut self.text_relocs, names, at, arguments, assembled)?;
         self.after_sti = is_sti(kind);
         Ok(())
     }

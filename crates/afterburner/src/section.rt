@@ -9,7 +9,7 @@ use elf_form::{DefinedIn, pad};
 use std::alloc::AllocError;
 
 /// The section that a piece of a source stands in: text, data or zeroed bytes.
-#[derive(Clone, Copy, Debug, PartialEq, Eq)]
+#[derive(Clone, Copy)]
 pub enum Section {
     Text,
     Init,

@@ -12,7 +12,7 @@ use elf_form::{DefinedIn, pad};
 
 /// How far a name reaches, by the strongest directive that spoke of it. A name of which none spoke
 /// is local, unless it is undefined.
-#[derive(Clone, Copy, Debug, PartialEq, Eq)]
+#[derive(Clone, Copy)]
 pub enum Binding {
     Unsaid,
     /// `.comm`: global.
@@ -24,7 +24,7 @@ pub enum Binding {
 }
 
 /// Where a name is defined, as an offset in its section, and how far it reaches.
-#[derive(Clone, Copy, Debug, PartialEq, Eq)]
+#[derive(Clone, Copy)]
 pub struct Definition {
     pub place: DefinedIn,
     pub value: u32,

@@ -108,8 +108,51 @@ fn plain(number: i64) -> Value
     Value { name: None, number }
 }
 
+/// Lets go of a name.
+fn discard_name(_name: Name) {}
+
+/// Lets go of the parts of an address.
+fn discard_address(_value: Option<Value>, _base: Option<Name>, _index: Option<Name>) {}
+
+/// Lets go of an argument that is whole.
+fn discard_form(_form: Form) {}
+
 /// Lets go of what has been read.
-pub fn discard(_so_far: Partial) {}
+pub fn discard(so_far: Partial) {
+    match so_far {
+        Partial::Name { place: _, name }
+        | Partial::Sign {
+            place: _,
+            name,
+            negative: _,
+        }
+        | Partial::SignMinus {
+            place: _,
+            name,
+            negative: _,
+        } => discard_name(name),
+        Partial::Number { place: _, value } => discard_address(Some(value), None, None),
+        Partial::Open(value) | Partial::BasePercent(value) => discard_address(value, None, None),
+        Partial::Base { value, base } => discard_address(value, Some(base), None),
+        Partial::IndexComma { value, base } | Partial::IndexPercent { value, base } => {
+            discard_address(value, base, None)
+        }
+        Partial::Index { value, base, index }
+        | Partial::Scale { value, base, index }
+        | Partial::Scaled {
+            value,
+            base,
+            index,
+            scale: _,
+        } => discard_address(value, base, Some(index)),
+        Partial::Whole(form) => discard_form(form),
+        Partial::Nothing
+        | Partial::Absent
+        | Partial::Percent
+        | Partial::Dollar
+        | Partial::Minus(_) => {}
+    }
+}
 
 pub fn of_memory(value: Option<Value>, base: Option<Name>, index: Option<Name>, scale: u8) -> Form
     ensures { result ≡ shapes.of_memory value base index scale }

@@ -23,7 +23,7 @@ use Rattle.asm_instruction.specs.declared.draft.NumberedOperand.{NumberedOperand
 use Rattle.asm_instruction.specs.declared.mnemonic.Family.TheVariants as family
 use Rattle.asm_instruction.specs.Field.{fits_field}
 use Rattle.asm_instruction.specs.Sizes.{agreed}
-use Rattle.asm_instruction.specs.Draft.{of_operand, register_operand, memory, register_or_memory, said, paired, displaced, fits_displacement, instruction, with_number, unary, alone}
+use Rattle.asm_instruction.specs.Draft.{of_operand, register_operand, register_or_memory, said, paired, displaced, fits_displacement, instruction, with_number, unary, alone}
 use Rattle.asm_instruction.specs.Arithmetic.{two, tested, one, into_register, to_register, multiplied, product, arithmetic_draft}
 use Rattle.asm_instruction.specs.Shift.{by_one, by_number, by_register, shift_draft}
 use Rattle.asm_instruction.specs.Moves.{special, from_segment, to_segment, from_control, to_control, general, moved, into_long, extended, effective, exchanged, move_draft}

@@ -1,6 +1,6 @@
 //! What the arguments of a statement say.
 
-ghost use Rattle.std.specs.Prelude.{◌≡◌, List, ℕ, option_copied};
+ghost use Rattle.std.specs.Prelude.{◌≡◌, ◌∷◌, [], List, ℕ, option_copied};
 ghost use Rattle.asm_instruction.specs.Argument as spec;
 
 use crate::fields::{field, fits_field};
@@ -209,6 +209,25 @@ fn unstarred(argument: &Argument, number: u8) -> Option<Given>
     }
 }
 
+#[tactic(auto, unfolding(crate::specs::Argument::operands_of))]
+fn pair(first: &Argument, second: &Argument) -> Option<Operands>
+    ensures { result ≡ spec.operands_of (first.now ∷ second.now ∷ []) }
+{
+    let first = unstarred(first, 0)?;
+    let second = unstarred(second, 1)?;
+    Some(Operands::Two(first, second))
+}
+
+#[tactic(auto, unfolding(crate::specs::Argument::operands_of))]
+fn triple(first: &Argument, second: &Argument, third: &Argument) -> Option<Operands>
+    ensures { result ≡ spec.operands_of (first.now ∷ second.now ∷ third.now ∷ []) }
+{
+    let first = unstarred(first, 0)?;
+    let second = unstarred(second, 1)?;
+    let third = unstarred(third, 2)?;
+    Some(Operands::Three(first, second, third))
+}
+
 /// The operands, where the arguments are such as an instruction may have.
 #[tactic(auto, unfolding(crate::specs::Argument::operands_of))]
 pub fn operands_of(arguments: &[Argument]) -> Option<Operands>
@@ -217,17 +236,8 @@ pub fn operands_of(arguments: &[Argument]) -> Option<Operands>
     match arguments {
         [] => Some(Operands::Nothing),
         [only] => single(only),
-        [first, second] => {
-            let first = unstarred(first, 0)?;
-            let second = unstarred(second, 1)?;
-            Some(Operands::Two(first, second))
-        }
-        [first, second, third] => {
-            let first = unstarred(first, 0)?;
-            let second = unstarred(second, 1)?;
-            let third = unstarred(third, 2)?;
-            Some(Operands::Three(first, second, third))
-        }
+        [first, second] => pair(first, second),
+        [first, second, third] => triple(first, second, third),
         _ => None,
     }
 }

@@ -5,14 +5,13 @@ ghost use Rattle.asm_instruction.specs.Names.{found};
 ghost use Rattle.asm_instruction.specs.Arithmetic as spec;
 
 use crate::argument::{Given, Number, Operands};
-use crate::bytes::found;
+use crate::bytes::look_up;
 use crate::draft::{
     Draft, Pair, instruction, paired, register_operand, register_or_memory, said, unary,
     with_number,
 };
 use crate::mnemonic::Family;
 use crate::sizes::agreed;
-use asm_source::is_text;
 use ia32_types::{Op, Size};
 
 /// The kinds of arithmetic instructions, by the operands that they take.
@@ -27,39 +26,43 @@ pub enum Arithmetic {
     Multiply,
 }
 
+const TWO_OPERAND_NAMES: [(&[u8], Family); 9] = [
+    (b"add", Family::Arithmetic(Arithmetic::Two(Op::Add))),
+    (b"or", Family::Arithmetic(Arithmetic::Two(Op::Or))),
+    (b"adc", Family::Arithmetic(Arithmetic::Two(Op::Adc))),
+    (b"sbb", Family::Arithmetic(Arithmetic::Two(Op::Sbb))),
+    (b"and", Family::Arithmetic(Arithmetic::Two(Op::And))),
+    (b"sub", Family::Arithmetic(Arithmetic::Two(Op::Sub))),
+    (b"xor", Family::Arithmetic(Arithmetic::Two(Op::Xor))),
+    (b"cmp", Family::Arithmetic(Arithmetic::Two(Op::Cmp))),
+    (b"test", Family::Arithmetic(Arithmetic::Test)),
+];
+
 /// The names of the instructions with two operands.
 #[tactic(auto, unfolding(crate::specs::Arithmetic::two_operand_names))]
 pub fn two_operand_name(name: &[u8]) -> Option<Family>
     ensures { result ≡ found spec.two_operand_names name.now }
 {
-    found!(name,
-        b"add" => Family::Arithmetic(Arithmetic::Two(Op::Add)),
-        b"or" => Family::Arithmetic(Arithmetic::Two(Op::Or)),
-        b"adc" => Family::Arithmetic(Arithmetic::Two(Op::Adc)),
-        b"sbb" => Family::Arithmetic(Arithmetic::Two(Op::Sbb)),
-        b"and" => Family::Arithmetic(Arithmetic::Two(Op::And)),
-        b"sub" => Family::Arithmetic(Arithmetic::Two(Op::Sub)),
-        b"xor" => Family::Arithmetic(Arithmetic::Two(Op::Xor)),
-        b"cmp" => Family::Arithmetic(Arithmetic::Two(Op::Cmp)),
-        b"test" => Family::Arithmetic(Arithmetic::Test),
-    )
+    look_up(&TWO_OPERAND_NAMES, name)
 }
+
+const ONE_OPERAND_NAMES: [(&[u8], Family); 8] = [
+    (b"not", Family::Arithmetic(Arithmetic::One(Op::Not))),
+    (b"neg", Family::Arithmetic(Arithmetic::One(Op::Neg))),
+    (b"mul", Family::Arithmetic(Arithmetic::One(Op::Mul))),
+    (b"imul", Family::Arithmetic(Arithmetic::Multiply)),
+    (b"div", Family::Arithmetic(Arithmetic::One(Op::Div))),
+    (b"idiv", Family::Arithmetic(Arithmetic::One(Op::Idiv))),
+    (b"inc", Family::Arithmetic(Arithmetic::One(Op::Inc))),
+    (b"dec", Family::Arithmetic(Arithmetic::One(Op::Dec))),
+];
 
 /// The names of the others.
 #[tactic(auto, unfolding(crate::specs::Arithmetic::one_operand_names))]
 pub fn one_operand_name(name: &[u8]) -> Option<Family>
     ensures { result ≡ found spec.one_operand_names name.now }
 {
-    found!(name,
-        b"not" => Family::Arithmetic(Arithmetic::One(Op::Not)),
-        b"neg" => Family::Arithmetic(Arithmetic::One(Op::Neg)),
-        b"mul" => Family::Arithmetic(Arithmetic::One(Op::Mul)),
-        b"imul" => Family::Arithmetic(Arithmetic::Multiply),
-        b"div" => Family::Arithmetic(Arithmetic::One(Op::Div)),
-        b"idiv" => Family::Arithmetic(Arithmetic::One(Op::Idiv)),
-        b"inc" => Family::Arithmetic(Arithmetic::One(Op::Inc)),
-        b"dec" => Family::Arithmetic(Arithmetic::One(Op::Dec)),
-    )
+    look_up(&ONE_OPERAND_NAMES, name)
 }
 
 /// With the destination first.

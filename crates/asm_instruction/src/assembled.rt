@@ -17,7 +17,7 @@ pub enum Refusal {
 }
 
 /// A field of four bytes that holds a constant to which a symbol's address is added.
-#[derive(Clone, Copy, Debug, PartialEq, Eq)]
+#[derive(Clone, Copy)]
 pub struct Named {
     /// Its place in the spelling.
     pub at: u8,
@@ -28,7 +28,7 @@ pub struct Named {
 }
 
 /// An instruction in its chosen spelling, with the fields that name symbols.
-#[derive(Clone, Copy, Debug, PartialEq, Eq)]
+#[derive(Clone, Copy)]
 pub struct Assembled {
     pub spelling: ArrayBytes,
     pub insn: Insn,

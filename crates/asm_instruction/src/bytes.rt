@@ -1,15 +1,18 @@
 //! Names that are looked up.
 
-// What the table has for the name.
-macro_rules! found {
-    ($name:expr,) => { None };
-    ($name:expr, $text:literal => $value:expr, $($more:tt)*) => {
-        if is_text($name, $text) {
-            Some($value)
-        } else {
-            found!($name, $($more)*)
-        }
-    };
-}
+ghost use Rattle.std.specs.Prelude.{◌≡◌};
+ghost use Rattle.asm_instruction.specs.Names.{found_row};
 
-pub(crate) use found;
+use asm_source::is_text;
+
+/// What the table has for the name.
+pub fn look_up<T: Copy>(table: &[(&[u8], T)], name: &[u8]) -> Option<T>
+    ensures { result ≡ found_row table.now name.now }
+{
+    for (text, value) in table {
+        if is_text(name, text) {
+            return Some(*value);
+        }
+    }
+    None
+}

@@ -4,53 +4,56 @@ ghost use Rattle.std.specs.Prelude.{◌≡◌};
 ghost use Rattle.asm_instruction.specs.Names.{found};
 ghost use Rattle.asm_instruction.specs.Condition as spec;
 
-use crate::bytes::found;
-use asm_source::is_text;
+use crate::bytes::look_up;
+
+const LOWER_CONDITIONS: [(&[u8], u8); 16] = [
+    (b"o", 0),
+    (b"no", 1),
+    (b"b", 2),
+    (b"c", 2),
+    (b"nae", 2),
+    (b"ae", 3),
+    (b"nb", 3),
+    (b"nc", 3),
+    (b"e", 4),
+    (b"z", 4),
+    (b"ne", 5),
+    (b"nz", 5),
+    (b"be", 6),
+    (b"na", 6),
+    (b"a", 7),
+    (b"nbe", 7),
+];
 
 #[tactic(auto, unfolding(crate::specs::Condition::lower_conditions))]
 fn lower_condition(name: &[u8]) -> Option<u8>
     ensures { result ≡ found spec.lower_conditions name.now }
 {
-    found!(name,
-        b"o" => 0,
-        b"no" => 1,
-        b"b" => 2,
-        b"c" => 2,
-        b"nae" => 2,
-        b"ae" => 3,
-        b"nb" => 3,
-        b"nc" => 3,
-        b"e" => 4,
-        b"z" => 4,
-        b"ne" => 5,
-        b"nz" => 5,
-        b"be" => 6,
-        b"na" => 6,
-        b"a" => 7,
-        b"nbe" => 7,
-    )
+    look_up(&LOWER_CONDITIONS, name)
 }
+
+const UPPER_CONDITIONS: [(&[u8], u8); 14] = [
+    (b"s", 8),
+    (b"ns", 9),
+    (b"p", 10),
+    (b"pe", 10),
+    (b"np", 11),
+    (b"po", 11),
+    (b"l", 12),
+    (b"nge", 12),
+    (b"ge", 13),
+    (b"nl", 13),
+    (b"le", 14),
+    (b"ng", 14),
+    (b"g", 15),
+    (b"nle", 15),
+];
 
 #[tactic(auto, unfolding(crate::specs::Condition::upper_conditions))]
 fn upper_condition(name: &[u8]) -> Option<u8>
     ensures { result ≡ found spec.upper_conditions name.now }
 {
-    found!(name,
-        b"s" => 8,
-        b"ns" => 9,
-        b"p" => 10,
-        b"pe" => 10,
-        b"np" => 11,
-        b"po" => 11,
-        b"l" => 12,
-        b"nge" => 12,
-        b"ge" => 13,
-        b"nl" => 13,
-        b"le" => 14,
-        b"ng" => 14,
-        b"g" => 15,
-        b"nle" => 15,
-    )
+    look_up(&UPPER_CONDITIONS, name)
 }
 
 /// The number of a condition.

@@ -6,13 +6,12 @@ ghost use Rattle.asm_instruction.specs.Control as spec;
 
 use crate::argument::{Given, Memory, Number, Operands};
 use crate::arithmetic::one;
-use crate::bytes::found;
+use crate::bytes::look_up;
 use crate::condition::condition;
 use crate::draft::{Draft, alone, register_or_memory, said, unary, with_number};
 use crate::fields::{field, fits_field};
 use crate::mnemonic::Family;
 use crate::sizes::agreed;
-use asm_source::is_text;
 use ia32_types::{Insn, Op, Size};
 
 /// The kinds of instructions that go elsewhere, and SETcc.
@@ -29,30 +28,40 @@ pub enum Control {
     FarJump,
 }
 
+const BRANCH_NAMES: [(&[u8], Family); 3] = [
+    (
+        b"jmp",
+        Family::Control(Control::Branch(Op::Jmp, Op::JumpTo)),
+    ),
+    (
+        b"call",
+        Family::Control(Control::Branch(Op::Call, Op::CallTo)),
+    ),
+    (b"ret", Family::Control(Control::Return)),
+];
+
 /// The names of instructions that take a suffix.
 #[tactic(auto, unfolding(crate::specs::Control::branch_names))]
 pub fn branch_name(name: &[u8]) -> Option<Family>
     ensures { result ≡ found spec.branch_names name.now }
 {
-    found!(name,
-        b"jmp" => Family::Control(Control::Branch(Op::Jmp, Op::JumpTo)),
-        b"call" => Family::Control(Control::Branch(Op::Call, Op::CallTo)),
-        b"ret" => Family::Control(Control::Return),
-    )
+    look_up(&BRANCH_NAMES, name)
 }
+
+const CONTROL_NAMES: [(&[u8], Family); 5] = [
+    (b"int", Family::Control(Control::Interrupt)),
+    (b"int3", Family::Plain(Op::Int3)),
+    (b"ud2", Family::Plain(Op::Ud2)),
+    (b"iret", Family::Plain(Op::Iret)),
+    (b"ljmp", Family::Control(Control::FarJump)),
+];
 
 /// The names of instructions that take none.
 #[tactic(auto, unfolding(crate::specs::Control::control_names))]
 pub fn control_name(name: &[u8]) -> Option<Family>
     ensures { result ≡ found spec.control_names name.now }
 {
-    found!(name,
-        b"int" => Family::Control(Control::Interrupt),
-        b"int3" => Family::Plain(Op::Int3),
-        b"ud2" => Family::Plain(Op::Ud2),
-        b"iret" => Family::Plain(Op::Iret),
-        b"ljmp" => Family::Control(Control::FarJump),
-    )
+    look_up(&CONTROL_NAMES, name)
 }
 
 /// The names that end with a condition.

@@ -6,14 +6,13 @@ ghost use Rattle.asm_instruction.specs.Moves as spec;
 
 use crate::argument::{Given, Operands};
 use crate::arithmetic::{memory_first, of_pair, to_register};
-use crate::bytes::found;
+use crate::bytes::look_up;
 use crate::draft::{
     Draft, NumberedOperand, Pair, instruction, of_operand, paired, register_operand,
     register_or_memory, said,
 };
 use crate::mnemonic::Family;
 use crate::sizes::agreed;
-use asm_source::is_text;
 use ia32_types::{Op, Operand, Seg, Size};
 
 /// The kinds of moves, by the operands that they take.
@@ -26,29 +25,45 @@ pub enum Moves {
     Exchange,
 }
 
+const MOVE_NAMES: [(&[u8], Family); 3] = [
+    (b"mov", Family::Moves(Moves::Move)),
+    (b"lea", Family::Moves(Moves::Lea)),
+    (b"xchg", Family::Moves(Moves::Exchange)),
+];
+
 /// The names of moves that take a suffix.
 #[tactic(auto, unfolding(crate::specs::Moves::move_names))]
 pub fn move_name(name: &[u8]) -> Option<Family>
     ensures { result ≡ found spec.move_names name.now }
 {
-    found!(name,
-        b"mov" => Family::Moves(Moves::Move),
-        b"lea" => Family::Moves(Moves::Lea),
-        b"xchg" => Family::Moves(Moves::Exchange),
-    )
+    look_up(&MOVE_NAMES, name)
 }
+
+const EXTEND_NAMES: [(&[u8], Family); 4] = [
+    (
+        b"movzbl",
+        Family::Moves(Moves::Extend(Op::Movzx, Size::Byte)),
+    ),
+    (
+        b"movzwl",
+        Family::Moves(Moves::Extend(Op::Movzx, Size::Word)),
+    ),
+    (
+        b"movsbl",
+        Family::Moves(Moves::Extend(Op::Movsx, Size::Byte)),
+    ),
+    (
+        b"movswl",
+        Family::Moves(Moves::Extend(Op::Movsx, Size::Word)),
+    ),
+];
 
 /// The names of moves that widen, with both sizes in the name.
 #[tactic(auto, unfolding(crate::specs::Moves::extend_names))]
 pub fn extend_name(name: &[u8]) -> Option<Family>
     ensures { result ≡ found spec.extend_names name.now }
 {
-    found!(name,
-        b"movzbl" => Family::Moves(Moves::Extend(Op::Movzx, Size::Byte)),
-        b"movzwl" => Family::Moves(Moves::Extend(Op::Movzx, Size::Word)),
-        b"movsbl" => Family::Moves(Moves::Extend(Op::Movsx, Size::Byte)),
-        b"movswl" => Family::Moves(Moves::Extend(Op::Movsx, Size::Word)),
-    )
+    look_up(&EXTEND_NAMES, name)
 }
 
 // A move of 32 bits between a special register and a register or memory.

@@ -5,28 +5,29 @@ ghost use Rattle.asm_instruction.specs.Names.{found};
 ghost use Rattle.asm_instruction.specs.Shift as spec;
 
 use crate::argument::{Given, Number, Operands};
-use crate::bytes::found;
+use crate::bytes::look_up;
 use crate::draft::{
     Draft, instruction, register_operand, register_or_memory, said, unary, with_number,
 };
 use crate::mnemonic::Family;
 use crate::sizes::agreed;
-use asm_source::is_text;
 use ia32_types::{Insn, Op, Size};
+
+const SHIFT_NAMES: [(&[u8], Family); 6] = [
+    (b"rol", Family::Shift(Op::Rol)),
+    (b"ror", Family::Shift(Op::Ror)),
+    (b"shl", Family::Shift(Op::Shl)),
+    (b"sal", Family::Shift(Op::Shl)),
+    (b"shr", Family::Shift(Op::Shr)),
+    (b"sar", Family::Shift(Op::Sar)),
+];
 
 /// The names of the shifts and rotations. SAL is another name of SHL.
 #[tactic(auto, unfolding(crate::specs::Shift::shift_names))]
 pub fn shift_name(name: &[u8]) -> Option<Family>
     ensures { result ≡ found spec.shift_names name.now }
 {
-    found!(name,
-        b"rol" => Family::Shift(Op::Rol),
-        b"ror" => Family::Shift(Op::Ror),
-        b"shl" => Family::Shift(Op::Shl),
-        b"sal" => Family::Shift(Op::Shl),
-        b"shr" => Family::Shift(Op::Shr),
-        b"sar" => Family::Shift(Op::Sar),
-    )
+    look_up(&SHIFT_NAMES, name)
 }
 
 #[tactic(auto, unfolding(crate::specs::Shift::by_one))]

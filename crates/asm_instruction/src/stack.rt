@@ -5,13 +5,12 @@ ghost use Rattle.asm_instruction.specs.Names.{found};
 ghost use Rattle.asm_instruction.specs.Stack as spec;
 
 use crate::argument::{Given, Number, Operands};
-use crate::bytes::found;
+use crate::bytes::look_up;
 use crate::draft::{
     Draft, NumberedOperand, alone, of_operand, register_or_memory, said, unary, with_number,
 };
 use crate::mnemonic::Family;
 use crate::sizes::agreed;
-use asm_source::is_text;
 use ia32_types::{Op, Operand, Seg, Size};
 
 /// The kinds of instructions that push and pop an operand.
@@ -21,33 +20,37 @@ pub enum Stack {
     Pop,
 }
 
+const STACK_NAMES: [(&[u8], Family); 3] = [
+    (b"push", Family::Stack(Stack::Push)),
+    (b"pop", Family::Stack(Stack::Pop)),
+    (b"leave", Family::Plain(Op::Leave)),
+];
+
 /// The names of instructions that take a suffix.
 #[tactic(auto, unfolding(crate::specs::Stack::stack_names))]
 pub fn stack_name(name: &[u8]) -> Option<Family>
     ensures { result ≡ found spec.stack_names name.now }
 {
-    found!(name,
-        b"push" => Family::Stack(Stack::Push),
-        b"pop" => Family::Stack(Stack::Pop),
-        b"leave" => Family::Plain(Op::Leave),
-    )
+    look_up(&STACK_NAMES, name)
 }
+
+const FRAME_NAMES: [(&[u8], Family); 8] = [
+    (b"pusha", Family::Plain(Op::Pusha)),
+    (b"pushal", Family::Plain(Op::Pusha)),
+    (b"popa", Family::Plain(Op::Popa)),
+    (b"popal", Family::Plain(Op::Popa)),
+    (b"pushf", Family::Plain(Op::PushFlags)),
+    (b"pushfl", Family::Plain(Op::PushFlags)),
+    (b"popf", Family::Plain(Op::PopFlags)),
+    (b"popfl", Family::Plain(Op::PopFlags)),
+];
 
 /// The names of instructions without operands.
 #[tactic(auto, unfolding(crate::specs::Stack::frame_names))]
 pub fn frame_name(name: &[u8]) -> Option<Family>
     ensures { result ≡ found spec.frame_names name.now }
 {
-    found!(name,
-        b"pusha" => Family::Plain(Op::Pusha),
-        b"pushal" => Family::Plain(Op::Pusha),
-        b"popa" => Family::Plain(Op::Popa),
-        b"popal" => Family::Plain(Op::Popa),
-        b"pushf" => Family::Plain(Op::PushFlags),
-        b"pushfl" => Family::Plain(Op::PushFlags),
-        b"popf" => Family::Plain(Op::PopFlags),
-        b"popfl" => Family::Plain(Op::PopFlags),
-    )
+    look_up(&FRAME_NAMES, name)
 }
 
 // The stack holds 32 bits an operand.

@@ -5,25 +5,26 @@ ghost use Rattle.asm_instruction.specs.Names.{found};
 ghost use Rattle.asm_instruction.specs.Strings as spec;
 
 use crate::argument::Operands;
-use crate::bytes::found;
+use crate::bytes::look_up;
 use crate::draft::{Draft, alone};
 use crate::mnemonic::Family;
-use asm_source::is_text;
 use ia32_types::{Insn, Op, Size};
+
+const STRING_NAMES: [(&[u8], Family); 6] = [
+    (b"movsb", Family::Strings(Op::Movs, Size::Byte)),
+    (b"movsl", Family::Strings(Op::Movs, Size::Long)),
+    (b"stosb", Family::Strings(Op::Stos, Size::Byte)),
+    (b"stosl", Family::Strings(Op::Stos, Size::Long)),
+    (b"lodsb", Family::Strings(Op::Lods, Size::Byte)),
+    (b"lodsl", Family::Strings(Op::Lods, Size::Long)),
+];
 
 /// The names of the string instructions, with their sizes.
 #[tactic(auto, unfolding(crate::specs::Strings::string_names))]
 pub fn string_name(name: &[u8]) -> Option<Family>
     ensures { result ≡ found spec.string_names name.now }
 {
-    found!(name,
-        b"movsb" => Family::Strings(Op::Movs, Size::Byte),
-        b"movsl" => Family::Strings(Op::Movs, Size::Long),
-        b"stosb" => Family::Strings(Op::Stos, Size::Byte),
-        b"stosl" => Family::Strings(Op::Stos, Size::Long),
-        b"lodsb" => Family::Strings(Op::Lods, Size::Byte),
-        b"lodsl" => Family::Strings(Op::Lods, Size::Long),
-    )
+    look_up(&STRING_NAMES, name)
 }
 
 /// A string instruction, with or without the repeat prefix.

@@ -5,14 +5,13 @@ ghost use Rattle.asm_instruction.specs.Names.{found};
 ghost use Rattle.asm_instruction.specs.System as spec;
 
 use crate::argument::{Given, Operands};
-use crate::bytes::found;
+use crate::bytes::look_up;
 use crate::draft::{
     Draft, NOTHING, instruction, memory, register_operand, register_or_memory, said, unary,
     with_number,
 };
 use crate::mnemonic::Family;
 use crate::sizes::agreed;
-use asm_source::is_text;
 use ia32_types::{Insn, Op, Size};
 
 /// The kinds of system instructions, by the operands that they take.
@@ -26,28 +25,33 @@ pub enum System {
     LoadTask,
 }
 
+const SYSTEM_NAMES: [(&[u8], Family); 5] = [
+    (b"in", Family::System(System::In)),
+    (b"out", Family::System(System::Out)),
+    (b"lgdt", Family::System(System::Memory(Op::LoadGdt))),
+    (b"lidt", Family::System(System::Memory(Op::LoadIdt))),
+    (b"ltr", Family::System(System::LoadTask)),
+];
+
 /// The names of instructions that take a suffix.
 #[tactic(auto, unfolding(crate::specs::System::system_names))]
 pub fn system_name(name: &[u8]) -> Option<Family>
     ensures { result ≡ found spec.system_names name.now }
 {
-    found!(name,
-        b"in" => Family::System(System::In),
-        b"out" => Family::System(System::Out),
-        b"lgdt" => Family::System(System::Memory(Op::LoadGdt)),
-        b"lidt" => Family::System(System::Memory(Op::LoadIdt)),
-        b"ltr" => Family::System(System::LoadTask),
-    )
+    look_up(&SYSTEM_NAMES, name)
 }
+
+const PAGE_NAMES: [(&[u8], Family); 1] = [(
+    b"invlpg",
+    Family::System(System::Memory(Op::DropPage)),
+)];
 
 /// The names of instructions that take none.
 #[tactic(auto, unfolding(crate::specs::System::page_names))]
 pub fn page_name(name: &[u8]) -> Option<Family>
     ensures { result ≡ found spec.page_names name.now }
 {
-    found!(name,
-        b"invlpg" => Family::System(System::Memory(Op::DropPage)),
-    )
+    look_up(&PAGE_NAMES, name)
 }
 
 // A port in DX, or as a byte.

@@ -6,7 +6,7 @@ ghost use Rattle.asm_source.specs.DirectiveTable as spec;
 use crate::bytes::{begins, is_text};
 
 /// A directive, whichever of its names it has.
-#[derive(Clone, Copy, Debug, PartialEq, Eq)]
+#[derive(Clone, Copy)]
 pub enum DirectiveName {
     Text,
     Data,

@@ -9,7 +9,7 @@ use std::marker::Model;
 
 /// Different names in the order in which they are first seen, each with its number. No call
 /// searches them one by one.
-#[derive(Debug, Drop)]
+#[derive(Drop)]
 pub struct Names {
     set: IndexSet<Vec<u8>>,
 }

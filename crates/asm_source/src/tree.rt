@@ -3,7 +3,7 @@
 use std::marker::Model;
 
 /// The bytes of a name or of a string.
-#[derive(Debug, Drop)]
+#[derive(Drop)]
 pub struct Name {
     pub bytes: Vec<u8>,
 }
@@ -17,14 +17,14 @@ impl Model for Name {
 }
 
 /// A number, or a name with a constant.
-#[derive(Debug, Drop)]
+#[derive(Drop)]
 pub struct Value {
     pub name: Option<Name>,
     pub number: i64,
 }
 
 /// What an argument is. A plain value is a `Memory` with that value alone.
-#[derive(Debug, Drop)]
+#[derive(Drop)]
 pub enum Form {
     Absent,
     /// `%eax`; the name without its `%`.
@@ -43,7 +43,7 @@ pub enum Form {
 }
 
 /// An argument of a directive or an instruction.
-#[derive(Debug, Drop)]
+#[derive(Drop)]
 pub struct Argument {
     /// Whether `*` stands before it, as in an indirect JMP or CALL.
     pub star: bool,
@@ -51,7 +51,7 @@ pub struct Argument {
 }
 
 /// Arguments in the order of the source.
-#[derive(Debug, Drop)]
+#[derive(Drop)]
 pub struct Arguments {
     pub list: Vec<Argument>,
 }
@@ -66,7 +66,7 @@ impl Model for Arguments {
 }
 
 /// What a statement is.
-#[derive(Debug, Drop)]
+#[derive(Drop)]
 pub enum Body {
     /// `name:`.
     Label(Name),
@@ -84,7 +84,7 @@ pub enum Body {
 }
 
 /// A label, directive or instruction.
-#[derive(Debug, Drop)]
+#[derive(Drop)]
 pub struct SourceItem {
     /// The line of its first token, counted from 1.
     pub line: u32,
@@ -92,7 +92,7 @@ pub struct SourceItem {
 }
 
 /// The items of a source in its order, without skipped statements.
-#[derive(Debug, Drop)]
+#[derive(Drop)]
 pub struct Source {
     pub items: Vec<SourceItem>,
 }
