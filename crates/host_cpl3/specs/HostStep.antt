@@ -46,15 +46,20 @@ finished v o m (outcomes.Done r stores) = Ok (ended v o r, all_stored (place m v
 finished v o m (outcomes.Raise vector code) = Err (exits.Fault vector code 0)
 finished v o m (outcomes.Stop stop) = Err (exit_of stop)
 
--- an instruction that was spelled: its level, its segments, its ranges, and its effect over the bytes read
+-- its ranges, and its effect over the bytes read
+abbrev pub accessed : View → List ℕ → Regs → Insn → ℕ → Met (Completion × List ℕ)
+accessed v m r insn len = do
+  _ ← access_met m v false (ranges_of insn r).read
+  _ ← access_met m v true (ranges_of insn r).write
+  finished v insn.op m (user_effect (selectors_of v) insn len r (byte_at m v.root))
+
+-- an instruction that was spelled: its level, its segments, and its accesses
 unfoldable pub worked : View → List ℕ → Regs → Insn → ℕ → Met (Completion × List ℕ)
 worked v m r insn len = do
   _ ← permitted insn
   _ ← segment_met v (ranges_of insn r).read
   _ ← segment_met v (ranges_of insn r).write
-  _ ← access_met m v false (ranges_of insn r).read
-  _ ← access_met m v true (ranges_of insn r).write
-  finished v insn.op m (user_effect (selectors_of v) insn len r (byte_at m v.root))
+  accessed v m r insn len
 
 -- how the instruction completed, with the memory after it
 unfoldable pub host_step : View → List ℕ → Regs → Met (Completion × List ℕ)

@@ -5,10 +5,11 @@ ghost use Rattle.ia32_rows.specs.Spells.{Spells};
 ghost use Rattle.ia32_types.specs.Shape.{IsShaped};
 ghost use Rattle.ia32_exec.specs.UserEffect.{IsUserDone, user_effect};
 ghost use Rattle.ia32_exec.specs.Effect.{ranges_of};
+ghost use Rattle.ia32_exec.specs.Short.{IsShort};
 ghost use Rattle.host_cpl3.specs.Views.{selectors_of};
 ghost use Rattle.host_cpl3.specs.Pages.{byte_at};
 ghost use Rattle.host_cpl3.specs.Kept.{AreKept};
-ghost use Rattle.host_cpl3.specs.HostStep.{is_jump, exit_of, ended, finished, worked, host_step};
+ghost use Rattle.host_cpl3.specs.HostStep.{is_jump, exit_of, ended, finished, accessed, worked, host_step};
 ghost use Rattle.host_cpl3.specs.Reaches.{IsReach, IsOf, Gives};
 
 use crate::bytes::Bytes;
@@ -21,7 +22,7 @@ use crate::store::store_all;
 use crate::view::{View, is_entry, selectors_of};
 use crate::walks::Walks;
 use guest_ram::Ram;
-use ia32_exec::{Outcome, Stores, ranges, user_effect};
+use ia32_exec::{Outcome, Ranges, Stores, ranges, user_effect};
 use ia32_types::{Insn, Op, Regs, Stop};
 
 fn is_jump(op: Op) -> bool
@@ -114,6 +115,31 @@ fn finish(
     }
 }
 
+// Its ranges are to be reached.
+fn access(
+    walks: &mut Walks,
+    ram: &mut Ram,
+    view: &View,
+    regs: &Regs,
+    insn: &Insn,
+    len: u8,
+    ranges: Ranges,
+) -> Result<Completion, Exit>
+    requires root { 4096 * view.now.root < length ram.old }
+    requires kept { AreKept walks.old ram.old view.now.root }
+    requires done { IsUserDone insn.now.op }
+    requires shape { IsShaped insn.now }
+    requires ranges { ranges ≡ ranges_of insn.now regs.now }
+    requires short { IsShort ranges.read × IsShort ranges.write }
+    ensures gives { Gives result ram.old ram.new (accessed view.now ram.old regs.now insn.now len) }
+    ensures len { length ram.new ≡ length ram.old }
+    ensures kept { AreKept walks.new ram.new view.now.root }
+{
+    let read = reach(walks, ram, view, false, ranges.read)?;
+    let write = reach(walks, ram, view, true, ranges.write)?;
+    finish(walks, view, ram, regs, insn, len, read, write)
+}
+
 // An instruction that was spelled.
 #[tactic(auto, unfolding(crate::specs::HostStep::worked))]
 fn work(
@@ -135,9 +161,7 @@ fn work(
     let ranges = ranges(insn, regs);
     segment_met(view, ranges.read)?;
     segment_met(view, ranges.write)?;
-    let read = reach(walks, ram, view, false, ranges.read)?;
-    let write = reach(walks, ram, view, true, ranges.write)?;
-    finish(walks, view, ram, regs, insn, len, read, write)
+    access(walks, ram, view, regs, insn, len, ranges)
 }
 
 /// Does the instruction at EIP, or exits before it.

@@ -1,8 +1,9 @@
 -- A sum or a difference that is in range is the result.
-use Rattle.std.proofs.Common.{◌≡◌, ℕ, ◌+◌, ◌-◌, ◌%◌, ◌^◌, ◌<◌, ◌≤◌, Bool, true, false, not, arith, refl, sym, ◌∙◌, inl, inr, pos, ◌+ℤ◌, ◌-ℤ◌}
+use Rattle.std.proofs.Common.{◌≡◌, ℕ, ◌+◌, ◌-◌, ◌%◌, ◌^◌, ◌<◌, ◌≤◌, Bool, true, false, not, arith, refl, sym, ◌∙◌, inl, inr, ℤ, pos, ◌+ℤ◌, ◌-ℤ◌}
 use Rattle.std.specs.Prelude.{nat_lt, nat_le}
 use Rattle.std.proofs.lemmas.Int.{ints}
 use Rattle.std.proofs.lemmas.Bool.Decides.{nat_tests}
+use Rattle.std.proofs.lemmas.Nat.{mod_below}
 use Rattle.ia32_types.specs.declared.size.Size.{Size}
 use Rattle.ia32_types.specs.declared.size.Size.TheVariants.{Byte, Word, Long}
 use Rattle.ia32_types.specs.declared.flags.Flags.{Flags}
@@ -18,21 +19,47 @@ use Rattle.ia32_alu.proofs.SumRules.{once}
 use Rattle.ia32_alu.proofs.CompareRules.{low_small}
 use Rattle.ia32_alu.proofs.FlagReads.{read_carry, read_overflow}
 
-kept_low : (h a b c r : ℕ) → a < h + h → b < h + h → c < 2 → 0 < h → r ≡ a + b + c → r < h + h →
-    not (fits_at h (signed_at h a +ℤ signed_at h b +ℤ pos c)) ≡ false → signed_at h r ≡ signed_at h a +ℤ signed_at h b +ℤ pos c
-kept_low h a b c r la lb lc p e le f = grind (arith, ints, nat_tests)
+is_below : (q n : ℕ) → q < n → nat_lt q n ≡ true
+is_below q n less = grind (arith, nat_tests)
 
-kept_high : (h a b c r : ℕ) → a < h + h → b < h + h → c < 2 → 0 < h → r + (h + h) ≡ a + b + c →
-    not (fits_at h (signed_at h a +ℤ signed_at h b +ℤ pos c)) ≡ false → signed_at h r ≡ signed_at h a +ℤ signed_at h b +ℤ pos c
-kept_high h a b c r la lb lc p e f = grind (arith, ints, nat_tests)
+is_not_below : (q n : ℕ) → n ≤ q → nat_lt q n ≡ false
+is_not_below q n less = grind (arith, nat_tests)
+
+-- a signed number and h above it
+above : ℕ → ℕ → ℕ
+above h a = (a + h) % (h + h)
+
+is_above : (h a : ℕ) → a < h + h → signed_at h a ≡ pos (above h a) -ℤ pos h
+unfolding above
+is_above h a l = elim (once (a + h) (h + h) (omega arith)) [
+  | inl low ↦ rw (is_below a h (omega arith)) (omega (arith, ints, low.1))
+  | inr high ↦ rw (is_not_below a h (omega arith)) (omega (arith, ints, high.1))
+]
+
+-- where z fits, and h below n
+in_range : (h n : ℕ) (z : ℤ) → z +ℤ pos (h + h) ≡ pos n → not (fits_at h z) ≡ false → (h ≤ n) × (n < h + h + h)
+in_range h n z e f = grind (arith, ints, nat_tests)
+
+-- the remainder of a sum of signed numbers, over h
+sum_above : (h a b c r : ℕ) → a < h + h → b < h + h → r ≡ (a + b + c) % (h + h) →
+    c < 2 → h ≤ above h a + above h b + c → above h a + above h b + c < h + h + h → above h r + h ≡ above h a + above h b + c
+unfolding above
+sum_above h a b c r la lb e lc low high =
+    let p = once (a + h) (h + h) (omega arith) in
+    let q = once (b + h) (h + h) (omega arith) in
+    let s = once (a + b + c) (h + h) (omega arith) in
+    let t = once (r + h) (h + h) (omega arith) in
+    omega arith
 
 kept : (h a b c r : ℕ) → a < h + h → b < h + h → c < 2 → 0 < h → r ≡ (a + b + c) % (h + h) →
     not (fits_at h (signed_at h a +ℤ signed_at h b +ℤ pos c)) ≡ false → signed_at h r ≡ signed_at h a +ℤ signed_at h b +ℤ pos c
 kept h a b c r la lb lc p e f =
-    elim (once (a + b + c) (h + h) (omega arith)) [
-      | inl low ↦ kept_low h a b c r la lb lc p (e ∙ low.1) (omega arith) f
-      | inr high ↦ kept_high h a b c r la lb lc p (omega arith) f
-    ]
+    let x = is_above h a la in
+    let y = is_above h b lb in
+    let z = is_above h r (rw e (mod_below (a + b + c) (h + h) (omega arith))) in
+    let range = in_range h (above h a + above h b + c) (signed_at h a +ℤ signed_at h b +ℤ pos c) (omega (arith, ints)) f in
+    let same = sum_above h a b c r la lb e lc range.0 range.1 in
+    omega (arith, ints)
 
 signed_sum : (s : Size) (a b c : ℕ) → a < span s → b < span s → c < 2 → sum_overflows s a b c ≡ false →
     signed s ((a + b + c) % span s) ≡ signed s a +ℤ signed s b +ℤ pos c
@@ -41,21 +68,28 @@ signed_sum Byte a b c la lb lc f = kept (2 ^ 7) a b c _ la lb lc (omega arith) r
 signed_sum Word a b c la lb lc f = kept (2 ^ 15) a b c _ la lb lc (omega arith) refl f
 signed_sum Long a b c la lb lc f = kept (2 ^ 31) a b c _ la lb lc (omega arith) refl f
 
-left_low : (h a b c r : ℕ) → a < h + h → b < h + h → c < 2 → 0 < h → r + (b + c) ≡ a + (h + h) → r < h + h →
-    not (fits_at h (signed_at h a -ℤ signed_at h b -ℤ pos c)) ≡ false → signed_at h r ≡ signed_at h a -ℤ signed_at h b -ℤ pos c
-left_low h a b c r la lb lc p e le f = grind (arith, ints, nat_tests)
+difference_above : (h a b c r : ℕ) → a < h + h → b < h + h → r ≡ (a + (h + h) - (b + c)) % (h + h) →
+    c < 2 → 0 < h → above h b + c ≤ above h a + h → above h a < above h b + c + h → above h r + (above h b + c) ≡ above h a + h
+unfolding above
+difference_above h a b c r la lb e lc p low high =
+    let x = once (a + h) (h + h) (omega arith) in
+    let y = once (b + h) (h + h) (omega arith) in
+    let s = once (a + (h + h) - (b + c)) (h + h) (omega arith) in
+    let t = once (r + h) (h + h) (omega arith) in
+    omega arith
 
-left_high : (h a b c r : ℕ) → a < h + h → b < h + h → c < 2 → 0 < h → r + (b + c) ≡ a →
-    not (fits_at h (signed_at h a -ℤ signed_at h b -ℤ pos c)) ≡ false → signed_at h r ≡ signed_at h a -ℤ signed_at h b -ℤ pos c
-left_high h a b c r la lb lc p e f = grind (arith, ints, nat_tests)
+left_range : (h a b c : ℕ) (z : ℤ) → z +ℤ pos (b + c) ≡ pos a → not (fits_at h z) ≡ false → (b + c ≤ a + h) × (a < b + c + h)
+left_range h a b c z e f = grind (arith, ints, nat_tests)
 
 left : (h a b c r : ℕ) → a < h + h → b < h + h → c < 2 → 0 < h → r ≡ (a + (h + h) - (b + c)) % (h + h) →
     not (fits_at h (signed_at h a -ℤ signed_at h b -ℤ pos c)) ≡ false → signed_at h r ≡ signed_at h a -ℤ signed_at h b -ℤ pos c
 left h a b c r la lb lc p e f =
-    elim (once (a + (h + h) - (b + c)) (h + h) (omega arith)) [
-      | inl low ↦ left_low h a b c r la lb lc p (omega arith) (omega arith) f
-      | inr high ↦ left_high h a b c r la lb lc p (omega arith) f
-    ]
+    let x = is_above h a la in
+    let y = is_above h b lb in
+    let z = is_above h r (rw e (mod_below (a + (h + h) - (b + c)) (h + h) (omega arith))) in
+    let range = left_range h (above h a) (above h b) c (signed_at h a -ℤ signed_at h b -ℤ pos c) (omega (arith, ints)) f in
+    let same = difference_above h a b c r la lb e lc p range.0 range.1 in
+    omega (arith, ints)
 
 signed_difference : (s : Size) (a b c : ℕ) → a < span s → b < span s → c < 2 → difference_overflows s a b c ≡ false →
     signed s ((a + span s - (b + c)) % span s) ≡ signed s a -ℤ signed s b -ℤ pos c

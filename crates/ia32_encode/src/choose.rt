@@ -76,8 +76,14 @@ fn choose(table: &[Row], insn: &Insn, wide: Wide) -> Result<ArrayBytes, NoForm>
     Err(NoForm)
 }
 
-/// Replaces `into` by the chosen spelling of the instruction, and answers its length.
 #[tactic(auto, unfolding(ia32_rows::specs::Rows::rows))]
+fn choose_row(insn: &Insn, wide: Wide) -> Result<ArrayBytes, NoForm>
+    ensures { MatchResult result (λ chosen. IsChosen wide insn.now chosen × AreBytes chosen.bytes) (λ _. NoneSuits wide insn.now) }
+{
+    choose(&ROWS, insn, wide)
+}
+
+/// Replaces `into` by the chosen spelling of the instruction, and answers its length.
 pub fn encode(insn: &Insn, wide: Wide, into: &mut ArrayBytes) -> Result<u8, NoForm>
     ensures chosen { OnOk result (IsChosen wide insn.now into.new) }
     // The answer is this function of the instruction and the widths.
@@ -92,7 +98,7 @@ pub fn encode(insn: &Insn, wide: Wide, into: &mut ArrayBytes) -> Result<u8, NoFo
     ensures no_form { IsErr result ↔ ((bytes : List ℕ) → SpellsWide wide bytes insn.now → ⊥) }
     ensures unchanged { OnErr result (into.new ≡ into.old) }
 {
-    match choose(&ROWS, insn, wide) {
+    match choose_row(insn, wide) {
         Ok(chosen) => {
             *into = chosen;
             Ok(chosen.len)

@@ -1,4 +1,4 @@
-ghost use Rattle.std.specs.Prelude.{◌≡◌, ◌<◌, ◌+◌, slice_index};
+ghost use Rattle.std.specs.Prelude.{◌≡◌, ◌<◌, ◌≤◌, ◌+◌, slice_index};
 ghost use Rattle.ia32_types.specs.declared.size.Size.TheVariants.{Long};
 ghost use Rattle.ia32_exec.specs.Registers.{with_whole};
 ghost use Rattle.ia32_exec.specs.Ranges.{segment_of, operand_range};
@@ -21,7 +21,8 @@ pub fn segment_of(base: Option<Reg>) -> Seg
 }
 
 fn operand_range(operand: Operand, size: Size, regs: &Regs) -> Option<Range>
-    ensures { result ≡ operand_range operand size regs.now }
+    ensures range { result ≡ operand_range operand size regs.now }
+    ensures short { IsShort result }
 {
     match operand {
         Operand::Memory(address) => Some(Range {
@@ -34,26 +35,30 @@ fn operand_range(operand: Operand, size: Size, regs: &Regs) -> Option<Range>
 }
 
 fn on_stack(at: u32, len: u32) -> Option<Range>
-    ensures { result ≡ on_stack at len }
+    ensures range { result ≡ on_stack at len }
+    ensures short { 1 ≤ len → len ≤ 32 → IsShort result }
 {
     let seg = Seg::Ss;
     Some(Range { at, len, seg })
 }
 
 fn reads(read: Option<Range>) -> Ranges
-    ensures { result ≡ reads read }
+    ensures ranges { result ≡ reads read }
+    ensures short { IsShort read → IsShort result.read × IsShort result.write }
 {
     Ranges { read, write: None }
 }
 
 fn writes(write: Option<Range>) -> Ranges
-    ensures { result ≡ writes write }
+    ensures ranges { result ≡ writes write }
+    ensures short { IsShort write → IsShort result.read × IsShort result.write }
 {
     Ranges { read: None, write }
 }
 
 fn source_and_target(insn: &Insn, regs: &Regs) -> Ranges
-    ensures { result ≡ source_and_target insn.now regs.now }
+    ensures ranges { result ≡ source_and_target insn.now regs.now }
+    ensures short { IsShort result.read × IsShort result.write }
 {
     Ranges {
         read: operand_range(insn.b, insn.size, regs),
@@ -62,7 +67,8 @@ fn source_and_target(insn: &Insn, regs: &Regs) -> Ranges
 }
 
 fn both_read(insn: &Insn, regs: &Regs) -> Ranges
-    ensures { result ≡ both_read insn.now regs.now }
+    ensures ranges { result ≡ both_read insn.now regs.now }
+    ensures short { IsShort result.read × IsShort result.write }
 {
     let first = operand_range(insn.a, insn.size, regs);
     reads(first.or(operand_range(insn.b, insn.size, regs)))
@@ -70,7 +76,8 @@ fn both_read(insn: &Insn, regs: &Regs) -> Ranges
 
 fn element(seg: Seg, n: usize, insn: &Insn, regs: &Regs) -> Option<Range>
     requires { n < 8 }
-    ensures { result ≡ unless_over insn.now regs.now (element seg n insn.now regs.now) }
+    ensures range { result ≡ unless_over insn.now regs.now (element seg n insn.now regs.now) }
+    ensures short { IsShort result }
 {
     if insn.rep && regs.r[1] == 0 {
         return None;

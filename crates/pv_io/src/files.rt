@@ -1,6 +1,6 @@
 //! Files by name.
 
-ghost use Rattle.std.specs.Prelude.{◌≡◌, ◌≢◌, ◌≤◌, Option, List, ℕ, Bool, true, OnOk, OnErr, IsErrOf};
+ghost use Rattle.std.specs.Prelude.{◌≡◌, ◌≢◌, ◌≤◌, ◌++◌, Option, List, ℕ, Bool, true, OnOk, OnErr, IsErrOf};
 ghost use Rattle.pv_io.specs.Causes.{HasCause, Rose};
 ghost use Rattle.pv_io.specs.Files.{FileMap, IsHeld, IsMissing, Loads, Stores, ChangesAt};
 
@@ -46,4 +46,16 @@ pub trait Files {
         ensures sure { sure self.new ≡ sure self.old }
         ensures sure_store { sure self.old ≡ true →
             (store_faults self.new ≡ store_faults self.old) × (IsErrOf result IoAnswer.Failed → ⊥) };
+}
+
+/// A file's bytes, behind what was there.
+pub(crate) fn append(into: &mut Vec<u8>, bytes: &[u8]) -> Result<(), IoAnswer>
+    ensures ok { OnOk result (into.new.items ≡ into.old.items ++ bytes.now) }
+    ensures err { OnErr result (into.new.items ≡ into.old.items) }
+    ensures memory { IsErrOf result IoAnswer.Failed → ⊥ }
+{
+    match into.extend_from_slice(bytes) {
+        Ok(()) => Ok(()),
+        Err(_) => Err(IoAnswer::Memory),
+    }
 }

@@ -8,6 +8,7 @@ ghost use Rattle.guest_ram.specs.Among.{is_among};
 ghost use Rattle.pv_io.specs.MemSink.{one_more};
 ghost use Rattle.pv_io.specs.MemFiles.{held_of, load_fails};
 
+use crate::files::append;
 use crate::{Files, IoAnswer};
 use std::alloc::{AllocError, Global};
 use std::collections::BTreeMap;
@@ -82,10 +83,7 @@ impl Files for MemFiles {
             return Err(IoAnswer::Failed);
         }
         match self.files.get(name) {
-            Some(bytes) => match into.extend_from_slice(bytes) {
-                Ok(()) => Ok(()),
-                Err(_) => Err(IoAnswer::Memory),
-            },
+            Some(bytes) => append(into, bytes),
             None => {
                 self.load_faults = self.load_faults.saturating_add(1);
                 Err(IoAnswer::Failed)
@@ -131,6 +129,18 @@ fn put_file(
 {
     let key = String::from_str(alloc, name)?;
     let value = Vec::from_slice(alloc, bytes)?;
+    insert(files, key, value)
+}
+
+fn insert(
+    files: &mut BTreeMap<String, Vec<u8>>,
+    key: String,
+    value: Vec<u8>,
+) -> Result<(), IoAnswer>
+    ensures ok { OnOk result (HoldsAt files.old files.new key.bytes.items value.items) }
+    ensures err { OnErr result (files.new.entries ≡ files.old.entries) }
+    ensures memory { IsErrOf result IoAnswer.Failed → ⊥ }
+{
     match files.insert(key, value) {
         Ok(_) => Ok(()),
         Err(_) => Err(IoAnswer::Memory),
@@ -171,10 +181,7 @@ impl Files for SureFiles {
     fn load(&mut self, alloc: Global, name: &str, into: &mut Vec<u8>) -> Result<(), IoAnswer> {
         let _ = alloc;
         match self.files.get(name) {
-            Some(bytes) => match into.extend_from_slice(bytes) {
-                Ok(()) => Ok(()),
-                Err(_) => Err(IoAnswer::Memory),
-            },
+            Some(bytes) => append(into, bytes),
             None => {
                 self.load_faults = self.load_faults.saturating_add(1);
                 Err(IoAnswer::Failed)

@@ -1,6 +1,6 @@
 //! Sinks in memory: one whose calls fail by a list, and one that never fails.
 
-ghost use Rattle.std.specs.Prelude.{◌≡◌, ◌≤◌, [], Some, None, IfOk, OnOk, OnErr, is_err};
+ghost use Rattle.std.specs.Prelude.{◌≡◌, ◌≤◌, ◌+◌, ◌++◌, [], length, Some, None, IfOk, OnOk, OnErr, is_err};
 ghost use Rattle.pv_io.specs.Causes.{Rose};
 ghost use Rattle.pv_io.specs.Sink.{Appends, AppendsFront};
 ghost use Rattle.pv_io.specs.MemSink.{is_refused, put_to};
@@ -63,6 +63,25 @@ impl MemSink {
     {
         self.faults
     }
+
+    /// The next call fails where it is given these bytes.
+    fn refuses(&self, bytes: &[u8]) -> bool
+        ensures { result ≡ is_refused self.now bytes.now }
+    {
+        let left = self.room as usize - self.taken.len();
+        self.fail.contains(&self.calls) || left < bytes.len()
+    }
+
+    /// Takes bytes for which there is room.
+    fn take(&mut self, bytes: &[u8])
+        requires { length self.now.bytes + length bytes.now ≤ self.now.room }
+        ensures { self.new ≡ record self.old { bytes = self.old.bytes ++ bytes.now } }
+    {
+        match self.taken.extend_from_slice(bytes) {
+            Ok(()) => {}
+            Err(_) => unreachable!(),
+        }
+    }
 }
 
 impl Sink for MemSink {
@@ -81,17 +100,14 @@ impl Sink for MemSink {
         ensures answer { is_err result ≡ is_refused self.old bytes.now }
         ensures after { self.new ≡ put_to self.old bytes.now }
     {
-        let call = self.calls;
+        let refused = self.refuses(bytes);
         self.calls = self.calls.saturating_add(1);
-        let left = self.room as usize - self.taken.len();
-        if self.fail.contains(&call) || left < bytes.len() {
+        if refused {
             self.faults = self.faults.saturating_add(1);
             return Err(Failed);
         }
-        match self.taken.extend_from_slice(bytes) {
-            Ok(()) => Ok(()),
-            Err(_) => unreachable!(),
-        }
+        self.take(bytes);
+        Ok(())
     }
 }
 

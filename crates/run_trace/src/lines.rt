@@ -4,7 +4,7 @@ ghost use Rattle.std.specs.Prelude.{◌≡◌, ◌+◌, ◌++◌, ◌∷◌, [],
 ghost use Rattle.arrayvec.specs.ArrayVec.{array_vec_len};
 ghost use Rattle.pv_io.specs.Causes.{Rose};
 ghost use Rattle.pv_io.specs.Sink.{Appends, AppendsFront};
-ghost use Rattle.run_trace.specs.Text.{hex_digit, hex2, hex4, hex8, what_text, item_line, stop_name, end_line};
+ghost use Rattle.run_trace.specs.Text.{hex_digit, hex2, hex4, hex8, what_text, item_line, stop_name, end_text, end_line};
 
 use crate::items::{End, Ended, Item, What};
 use arrayvec::ArrayVec;
@@ -43,10 +43,7 @@ pub fn put_end<O: Sink>(ended: &Ended, out: &mut O) -> Result<(), Failed>
     let mut line: Line = ArrayVec::new();
     add(b"end steps ", &mut line);
     number(ended.steps, &mut line);
-    if let End::Stopped(stop) = ended.end {
-        add(b" stop ", &mut line);
-        name(stop, &mut line);
-    }
+    how(ended.end, &mut line);
     add(b"\n", &mut line);
     out.put(line.as_slice())
 }
@@ -110,15 +107,17 @@ fn what(what: What, line: &mut Line)
         What::In32(port, value) => port_word(b" in32 ", port, value, line),
         What::Out8(port, value) => port_byte(b" out8 ", port, value, line),
         What::Out32(port, value) => port_word(b" out32 ", port, value, line),
-        What::Sent(value) => {
-            add(b" tx ", line);
-            byte(value, line);
-        }
-        What::Irq(vector) => {
-            add(b" irq ", line);
-            byte(vector, line);
-        }
+        What::Sent(value) => named_byte(b" tx ", value, line),
+        What::Irq(vector) => named_byte(b" irq ", vector, line),
     }
+}
+
+fn named_byte(name: &[u8], value: u8, line: &mut Line)
+    requires { length line.old.items + length name.now ≤ 100 }
+    ensures { line.new.items ≡ line.old.items ++ (name.now ++ hex2 value) }
+{
+    add(name, line);
+    byte(value, line);
 }
 
 fn port_byte(name: &[u8], port: u16, value: u8, line: &mut Line)
@@ -141,28 +140,38 @@ fn port_word(name: &[u8], port: u16, value: u32, line: &mut Line)
     word(value, line);
 }
 
+fn how(end: End, line: &mut Line)
+    requires { length line.old.items ≤ 60 }
+    ensures text { line.new.items ≡ line.old.items ++ end_text end }
+    ensures len { length line.new.items ≤ length line.old.items + 46 }
+{
+    if let End::Stopped(stop) = end {
+        add(b" stop ", line);
+        add(name(stop), line);
+    }
+}
+
 #[tactic(auto, unfolding(crate::specs::Text::stop_name))]
-fn name(stop: Stop, line: &mut Line)
-    requires { length line.old.items ≤ 80 }
-    ensures text { line.new.items ≡ line.old.items ++ stop_name stop }
-    ensures len { length line.new.items ≤ length line.old.items + 40 }
+fn name(stop: Stop) -> &'static [u8]
+    ensures name { result.now ≡ stop_name stop }
+    ensures len { length result.now ≤ 40 }
 {
     match stop {
-        Stop::Unsupported => add(b"1 Unsupported", line),
-        Stop::BeyondRam => add(b"2 BeyondRam", line),
-        Stop::WrapAccess => add(b"3 WrapAccess", line),
-        Stop::DeliveryFailed => add(b"4 DeliveryFailed", line),
-        Stop::ControlBits => add(b"5 ControlBits", line),
-        Stop::DeviceUse => add(b"6 DeviceUse", line),
-        Stop::FlagBits => add(b"7 FlagBits", line),
-        Stop::SegmentForm => add(b"8 SegmentForm", line),
-        Stop::TextTouched => add(b"9 TextTouched", line),
-        Stop::WedgeTouched => add(b"10 WedgeTouched", line),
-        Stop::LowTouched => add(b"11 LowTouched", line),
-        Stop::NotAStart => add(b"12 NotAStart", line),
-        Stop::TextMapped => add(b"13 TextMapped", line),
-        Stop::TableInText => add(b"14 TableInText", line),
-        Stop::UserFlags => add(b"15 UserFlags", line),
-        Stop::CodeIsTable => add(b"16 CodeIsTable", line),
+        Stop::Unsupported => b"1 Unsupported",
+        Stop::BeyondRam => b"2 BeyondRam",
+        Stop::WrapAccess => b"3 WrapAccess",
+        Stop::DeliveryFailed => b"4 DeliveryFailed",
+        Stop::ControlBits => b"5 ControlBits",
+        Stop::DeviceUse => b"6 DeviceUse",
+        Stop::FlagBits => b"7 FlagBits",
+        Stop::SegmentForm => b"8 SegmentForm",
+        Stop::TextTouched => b"9 TextTouched",
+        Stop::WedgeTouched => b"10 WedgeTouched",
+        Stop::LowTouched => b"11 LowTouched",
+        Stop::NotAStart => b"12 NotAStart",
+        Stop::TextMapped => b"13 TextMapped",
+        Stop::TableInText => b"14 TableInText",
+        Stop::UserFlags => b"15 UserFlags",
+        Stop::CodeIsTable => b"16 CodeIsTable",
     }
 }

@@ -26,7 +26,7 @@ pub trait Notes {
 }
 
 /// Wants no notes and tells none.
-#[derive(Clone, Copy, Debug)]
+#[derive(Clone, Copy)]
 pub struct NoNotes;
 
 impl Notes for NoNotes {

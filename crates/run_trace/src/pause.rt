@@ -7,7 +7,7 @@ use crate::items::End;
 use ia32_types::Stop;
 
 /// Where a slice of a run ended: after all its steps, or before a step that stops.
-#[derive(Clone, Copy, Debug)]
+#[derive(Clone, Copy)]
 pub enum Pause {
     Reached,
     Stopped(Stop),

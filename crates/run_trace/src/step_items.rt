@@ -11,7 +11,7 @@ use crate::lines::put_item;
 use pv_io::{Failed, Sink};
 
 /// The items of one step, of which it has at most two: an interrupt alone, or a write of a port and a sent byte.
-#[derive(Clone, Copy, Debug)]
+#[derive(Clone, Copy)]
 pub struct StepItems {
     /// The items, and behind them whatever.
     pub list: [Item; 2],
