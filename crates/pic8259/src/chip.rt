@@ -8,14 +8,14 @@ use crate::phase::Phase;
 use ia32_types::{Did, with_bit};
 
 /// Which register a read of the even port gives.
-#[derive(Clone, Copy, Debug, PartialEq, Eq)]
+#[derive(Clone, Copy)]
 pub enum Selected {
     InterruptRequest,
     InService,
 }
 
 /// One controller. In its interrupt request, in-service and interrupt mask registers bit n stands for level n.
-#[derive(Clone, Copy, Debug, PartialEq, Eq)]
+#[derive(Clone, Copy)]
 pub struct Chip {
     pub phase: Phase,
     /// It was ready at some time, and raises requests since then.

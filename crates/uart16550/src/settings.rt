@@ -1,5 +1,5 @@
 /// What the registers were set to.
-#[derive(Clone, Copy, Debug, PartialEq, Eq)]
+#[derive(Clone, Copy)]
 pub struct Settings {
     /// Bit 0 of the interrupt enable register.
     pub interrupt_enable: bool,

@@ -1,4 +1,4 @@
-use Rattle.std.proofs.Common.{ℕ, Option, false, subst}
+use Rattle.std.proofs.Common.{ℕ, Option, false, subst, sym, ap, ◌∙◌, rules}
 use Rattle.step_mem.specs.Sound.{space_at}
 use Rattle.machine_model.specs.Step.{by_interrupt, unheld}
 use Rattle.machine_step.specs.Begun.{BeginsAs}
@@ -17,3 +17,17 @@ pub returns-in-None-clause-roots : goal.returns-in-None-clause-roots
 returns-in-None-clause-roots g c =
     let cpu = c.args.cpu.now in
     if_ok_as (RootsBegun (record cpu { held = false })) (RootsBegun cpu) c.work.result (unheld_begun cpu) c.work.ensures.roots
+
+pub returns-in_ok-deliver-in-Some-clause-begins : goal.returns-in_ok-deliver-in-Some-clause-begins
+returns-in_ok-deliver-in-Some-clause-begins g c = λ m b k.
+    let a = c.args in
+    let here = record b { cpu = a.cpu.now; board = a.board.now } in
+    let s = space_at (g.B.Kept.entries a.kept.now) a.ram.now a.state.now in
+    ap (λ (o : Option ℕ). by_interrupt m o (unheld here) s) (sym c.in-Some.ensures) ∙ c.in_ok-deliver-in-Some.ensures.step m here k
+
+pub returns-in_err-deliver-in-Some-clause-begins : goal.returns-in_err-deliver-in-Some-clause-begins
+returns-in_err-deliver-in-Some-clause-begins g c = λ m b k.
+    let a = c.args in
+    let here = record b { cpu = a.cpu.now; board = a.board.now } in
+    let s = space_at (g.B.Kept.entries a.kept.now) a.ram.now a.state.now in
+    rw (ap (λ (o : Option ℕ). by_interrupt m o (unheld here) s) (sym c.in-Some.ensures) ∙ c.in_err-deliver-in-Some.ensures.step m here k) (search rules)

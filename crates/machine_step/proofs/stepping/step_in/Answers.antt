@@ -1,7 +1,8 @@
-use Rattle.std.proofs.Common.{false, sym, subst}
+use Rattle.std.proofs.Common.{false, sym, subst, ◌∙◌, rules}
 use Rattle.step_mem.specs.Sound.{space_at}
 use Rattle.machine_model.specs.Step as steps
 use Rattle.machine_step.specs.Worked.{ComesTo}
+use Rattle.machine_step.proofs.Fetched.{hidden_on}
 use Rattle.machine_step.proofs.Used.{if_ok_on}
 use Rattle.std.specs.Prelude.{IfOk, ◌==◌}
 use Rattle.descriptors.specs.declared.cpu.Cpu.{Cpu}
@@ -35,3 +36,11 @@ returns-in-Fetched-clause-roots g c =
     let cpu = c.args.cpu.now in
     if_ok_as (RootsAs (record cpu { held = false })) (RootsAs cpu) c.carry_out.result (unheld_roots cpu)
     (subst (λ (x : Cpu). IfOk c.carry_out.result (RootsAs x)) (rw c.in-Fetched.is at c.in_ok-worked.ensures.fetched) c.carry_out.ensures.roots)
+
+pub returns-in-Fetched-clause-hidden : goal.returns-in-Fetched-clause-hidden
+returns-in-Fetched-clause-hidden g c =
+    hidden_on c.args.state.now.guard c.start.new.state.guard c.args.state.now.control c.start.new.state.control c.start.new.ram c.carry_out.new.ram c.start.ensures.text c.start.ensures.control c.carry_out.ensures.hidden
+    ∙ c.start.ensures.hidden
+
+pub returns-in_err-worked-clause-step : goal.returns-in_err-worked-clause-step
+returns-in_err-worked-clause-step g c = λ m b k. rw (c.in_err-worked.ensures.begins m b k) (search rules)
