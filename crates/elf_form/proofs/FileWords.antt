@@ -1,5 +1,5 @@
 -- The numbers and the parts that stand in a written file.
-use Rattle.std.proofs.Common.{◌≡◌, ℕ, ◌+◌, ◌*◌, ◌<◌, ◌≤◌, ◌^◌, List, [], ◌++◌, length, get_or, replicate, refl, sym, ap, ◌∙◌, arith, append_assoc}
+use Rattle.std.proofs.Common.{◌≡◌, ℕ, ◌+◌, ◌*◌, ◌<◌, ◌≤◌, ◌^◌, List, [], ◌++◌, length, get_or, replicate, refl, sym, ap, ◌∙◌, arith, append_assoc, lit<, lit≤}
 use Rattle.std.proofs.lemmas.List.{length-append, length-replicate, append-nil}
 use Rattle.std.proofs.lemmas.Nat.{from_le_bytes-to_le_bytes_4}
 use Rattle.guest_ram.specs.Bytes.{part, byte, word16, word32}
@@ -15,6 +15,24 @@ pub record IsRow (f : List ℕ) (s n k g o z : ℕ) : Type 0 where
   pub flags : word32 f (s + 8) ≡ g
   pub offset : word32 f (s + 16) ≡ o
   pub size : word32 f (s + 20) ≡ z
+
+-- Those of its numbers that are read have four bytes, where the row begins at the number k.
+pub record AreSmall (ns : List ℕ) (k : ℕ) : Type 0 where
+  pub name : get_or ns k 0 < 2 ^ 32
+  pub kind : get_or ns (k + 1) 0 < 2 ^ 32
+  pub flags : get_or ns (k + 2) 0 < 2 ^ 32
+  pub offset : get_or ns (k + 4) 0 < 2 ^ 32
+  pub size : get_or ns (k + 5) 0 < 2 ^ 32
+
+-- the row that begins at the number k of a table, which the file f has at t
+pub row_of : (f ns : List ℕ) (t k s : ℕ) → ((j at : ℕ) → j < length ns → get_or ns j 0 < 2 ^ 32 → t + 4 * j ≡ at → word32 f at ≡ get_or ns j 0) → k + 10 ≤ length ns → AreSmall ns k → t + 4 * k ≡ s → IsRow f s (get_or ns k 0) (get_or ns (k + 1) 0) (get_or ns (k + 2) 0) (get_or ns (k + 4) 0) (get_or ns (k + 5) 0)
+row_of f ns t k s words le small e = record {
+  name = words k s (omega arith) small.name e;
+  kind = words (k + 1) (s + 4) (omega arith) small.kind (omega arith);
+  flags = words (k + 2) (s + 8) (omega arith) small.flags (omega arith);
+  offset = words (k + 4) (s + 16) (omega arith) small.offset (omega arith);
+  size = words (k + 5) (s + 20) (omega arith) small.size (omega arith);
+}
 
 -- a program header of the file f at h
 pub record IsProgram (f : List ℕ) (h o a z m g : ℕ) : Type 0 where
@@ -112,95 +130,63 @@ header_is p fits longs = record {
 
 -- ---- the tables
 
-pub text_program : (p : ImageParts) → IsWritableImage p → HasLongs p → IsProgram (image_bytes p) 52 4096 p.text_at (length p.text) (length p.text) 5
-text_program p fits small =
-    let at = laid_out p in
-    record {
-      kind = program_word p 0 52 (omega arith) (omega arith) refl;
-      offset = program_word p 1 56 (omega arith) (omega arith) refl;
-      address = program_word p 2 60 (omega arith) small.text_at refl;
-      size = program_word p 4 68 (omega arith) (omega arith) refl;
-      memory = program_word p 5 72 (omega arith) (omega arith) refl;
-      flags = program_word p 6 76 (omega arith) (omega arith) refl;
-    }
+-- Each number of the tables has four bytes.
+pub record HasNumbers (p : ImageParts) : Type 0 where
+  pub text : length p.text < 2 ^ 32
+  pub init : init_from p < 2 ^ 32
+  pub init_size : length p.init < 2 ^ 32
+  pub memory : length p.init + p.bss < 2 ^ 32
+  pub bss : p.bss < 2 ^ 32
+  pub sites : sites_from p < 2 ^ 32
+  pub sites_size : length p.sites < 2 ^ 32
+  pub names : names_from p < 2 ^ 32
 
-pub init_program : (p : ImageParts) → IsWritableImage p → HasLongs p → IsProgram (image_bytes p) 84 (init_from p) p.init_at (length p.init) (length p.init + p.bss) 6
-init_program p fits small =
-    let at = laid_out p in
-    record {
-      kind = program_word p 8 84 (omega arith) (omega arith) refl;
-      offset = program_word p 9 88 (omega arith) (omega arith) refl;
-      address = program_word p 10 92 (omega arith) small.init_at refl;
-      size = program_word p 12 100 (omega arith) (omega arith) refl;
-      memory = program_word p 13 104 (omega arith) (omega arith) refl;
-      flags = program_word p 14 108 (omega arith) (omega arith) refl;
-    }
+numbers_placed : (p : ImageParts) → IsWritableImage p → IsLaidOut p → HasNumbers p
+numbers_placed p fits at = omega arith
 
-pub null_row : (p : ImageParts) (s : ℕ) → IsWritableImage p → sections_from p + 0 ≡ s → IsRow (image_bytes p) s 0 0 0 0 0
-null_row p s fits e =
-    let at = laid_out p in
-    record {
-      name = section_word p 0 s (omega arith) (omega arith) e;
-      kind = section_word p 1 (s + 4) (omega arith) (omega arith) (omega arith);
-      flags = section_word p 2 (s + 8) (omega arith) (omega arith) (omega arith);
-      offset = section_word p 4 (s + 16) (omega arith) (omega arith) (omega arith);
-      size = section_word p 5 (s + 20) (omega arith) (omega arith) (omega arith);
-    }
+pub numbers_fit : (p : ImageParts) → IsWritableImage p → HasNumbers p
+numbers_fit p fits = numbers_placed p fits (laid_out p)
 
-pub text_row : (p : ImageParts) (s : ℕ) → IsWritableImage p → sections_from p + 40 ≡ s → IsRow (image_bytes p) s 1 1 6 4096 (length p.text)
-text_row p s fits e =
-    let at = laid_out p in
-    record {
-      name = section_word p 10 s (omega arith) (omega arith) e;
-      kind = section_word p 11 (s + 4) (omega arith) (omega arith) (omega arith);
-      flags = section_word p 12 (s + 8) (omega arith) (omega arith) (omega arith);
-      offset = section_word p 14 (s + 16) (omega arith) (omega arith) (omega arith);
-      size = section_word p 15 (s + 20) (omega arith) (omega arith) (omega arith);
-    }
+pub text_program : (p : ImageParts) → HasNumbers p → HasLongs p → IsProgram (image_bytes p) 52 4096 p.text_at (length p.text) (length p.text) 5
+text_program p small longs = record {
+  kind = program_word p 0 52 (lit< tt) (lit< tt) refl;
+  offset = program_word p 1 56 (lit< tt) (lit< tt) refl;
+  address = program_word p 2 60 (lit< tt) longs.text_at refl;
+  size = program_word p 4 68 (lit< tt) small.text refl;
+  memory = program_word p 5 72 (lit< tt) small.text refl;
+  flags = program_word p 6 76 (lit< tt) (lit< tt) refl;
+}
 
-pub data_row : (p : ImageParts) (s : ℕ) → IsWritableImage p → sections_from p + 80 ≡ s → IsRow (image_bytes p) s 7 1 3 (init_from p) (length p.init)
-data_row p s fits e =
-    let at = laid_out p in
-    record {
-      name = section_word p 20 s (omega arith) (omega arith) e;
-      kind = section_word p 21 (s + 4) (omega arith) (omega arith) (omega arith);
-      flags = section_word p 22 (s + 8) (omega arith) (omega arith) (omega arith);
-      offset = section_word p 24 (s + 16) (omega arith) (omega arith) (omega arith);
-      size = section_word p 25 (s + 20) (omega arith) (omega arith) (omega arith);
-    }
+pub init_program : (p : ImageParts) → HasNumbers p → HasLongs p → IsProgram (image_bytes p) 84 (init_from p) p.init_at (length p.init) (length p.init + p.bss) 6
+init_program p small longs = record {
+  kind = program_word p 8 84 (lit< tt) (lit< tt) refl;
+  offset = program_word p 9 88 (lit< tt) small.init refl;
+  address = program_word p 10 92 (lit< tt) longs.init_at refl;
+  size = program_word p 12 100 (lit< tt) small.init_size refl;
+  memory = program_word p 13 104 (lit< tt) small.memory refl;
+  flags = program_word p 14 108 (lit< tt) (lit< tt) refl;
+}
 
-pub bss_row : (p : ImageParts) (s : ℕ) → IsWritableImage p → sections_from p + 120 ≡ s → IsRow (image_bytes p) s 13 8 3 0 p.bss
-bss_row p s fits e =
-    let at = laid_out p in
-    record {
-      name = section_word p 30 s (omega arith) (omega arith) e;
-      kind = section_word p 31 (s + 4) (omega arith) (omega arith) (omega arith);
-      flags = section_word p 32 (s + 8) (omega arith) (omega arith) (omega arith);
-      offset = section_word p 34 (s + 16) (omega arith) (omega arith) (omega arith);
-      size = section_word p 35 (s + 20) (omega arith) (omega arith) (omega arith);
-    }
+section_row : (p : ImageParts) (k s : ℕ) → k + 10 ≤ 60 → AreSmall (section_numbers p) k → sections_from p + 4 * k ≡ s → IsRow (image_bytes p) s (get_or (section_numbers p) k 0) (get_or (section_numbers p) (k + 1) 0) (get_or (section_numbers p) (k + 2) 0) (get_or (section_numbers p) (k + 4) 0) (get_or (section_numbers p) (k + 5) 0)
+section_row p k s le small e = row_of (image_bytes p) (section_numbers p) (sections_from p) k s (λ j at. section_word p j at) le small e
 
-pub sites_row : (p : ImageParts) (s : ℕ) → IsWritableImage p → sections_from p + 160 ≡ s → IsRow (image_bytes p) s 18 1 0 (sites_from p) (length p.sites)
-sites_row p s fits e =
-    let at = laid_out p in
-    record {
-      name = section_word p 40 s (omega arith) (omega arith) e;
-      kind = section_word p 41 (s + 4) (omega arith) (omega arith) (omega arith);
-      flags = section_word p 42 (s + 8) (omega arith) (omega arith) (omega arith);
-      offset = section_word p 44 (s + 16) (omega arith) (omega arith) (omega arith);
-      size = section_word p 45 (s + 20) (omega arith) (omega arith) (omega arith);
-    }
+pub null_row : (p : ImageParts) (s : ℕ) → HasNumbers p → sections_from p + 0 ≡ s → IsRow (image_bytes p) s 0 0 0 0 0
+null_row p s small e = section_row p 0 s (lit≤ tt) (record { name = lit< tt; kind = lit< tt; flags = lit< tt; offset = lit< tt; size = lit< tt }) e
 
-pub names_row : (p : ImageParts) (s : ℕ) → IsWritableImage p → sections_from p + 200 ≡ s → IsRow (image_bytes p) s 28 3 0 (names_from p) 38
-names_row p s fits e =
-    let at = laid_out p in
-    record {
-      name = section_word p 50 s (omega arith) (omega arith) e;
-      kind = section_word p 51 (s + 4) (omega arith) (omega arith) (omega arith);
-      flags = section_word p 52 (s + 8) (omega arith) (omega arith) (omega arith);
-      offset = section_word p 54 (s + 16) (omega arith) (omega arith) (omega arith);
-      size = section_word p 55 (s + 20) (omega arith) (omega arith) (omega arith);
-    }
+pub text_row : (p : ImageParts) (s : ℕ) → HasNumbers p → sections_from p + 40 ≡ s → IsRow (image_bytes p) s 1 1 6 4096 (length p.text)
+text_row p s small e = section_row p 10 s (lit≤ tt) (record { name = lit< tt; kind = lit< tt; flags = lit< tt; offset = lit< tt; size = small.text }) e
+
+pub data_row : (p : ImageParts) (s : ℕ) → HasNumbers p → sections_from p + 80 ≡ s → IsRow (image_bytes p) s 7 1 3 (init_from p) (length p.init)
+data_row p s small e = section_row p 20 s (lit≤ tt) (record { name = lit< tt; kind = lit< tt; flags = lit< tt; offset = small.init; size = small.init_size }) e
+
+pub bss_row : (p : ImageParts) (s : ℕ) → HasNumbers p → sections_from p + 120 ≡ s → IsRow (image_bytes p) s 13 8 3 0 p.bss
+bss_row p s small e = section_row p 30 s (lit≤ tt) (record { name = lit< tt; kind = lit< tt; flags = lit< tt; offset = lit< tt; size = small.bss }) e
+
+pub sites_row : (p : ImageParts) (s : ℕ) → HasNumbers p → sections_from p + 160 ≡ s → IsRow (image_bytes p) s 18 1 0 (sites_from p) (length p.sites)
+sites_row p s small e = section_row p 40 s (lit≤ tt) (record { name = lit< tt; kind = lit< tt; flags = lit< tt; offset = small.sites; size = small.sites_size }) e
+
+pub names_row : (p : ImageParts) (s : ℕ) → HasNumbers p → sections_from p + 200 ≡ s → IsRow (image_bytes p) s 28 3 0 (names_from p) 38
+names_row p s small e = section_row p 50 s (lit≤ tt) (record { name = lit< tt; kind = lit< tt; flags = lit< tt; offset = small.names; size = lit< tt }) e
 
 -- ---- the parts
 

@@ -13,7 +13,7 @@ use Rattle.elf_form.specs.ObjectLayout.{layout, names_of, strings_of, is_of, sym
 use Rattle.elf_form.proofs.FileWords.{IsRow}
 use Rattle.elf_form.proofs.ObjectSizes.{ArePlaced, are_placed}
 use Rattle.elf_form.proofs.ObjectBounds.{length-object}
-use Rattle.elf_form.proofs.ObjectWords.{HasObjectHeader, header_is, HasLinks, links_are, null_row, text_row, data_row, bss_row, sites_row, text_relocs_row, data_relocs_row, symbols_row, strings_row, names_row, text_part, init_part, sites_part, text_relocs_part, data_relocs_part, symbols_part, strings_part, names_part, before_text_relocs, after_text_relocs, file-text_relocs, length-before_text_relocs, before_data_relocs, after_data_relocs, file-data_relocs, length-before_data_relocs, before_symbols, after_symbols, file-symbols, length-before_symbols}
+use Rattle.elf_form.proofs.ObjectWords.{HasObjectHeader, header_is, HasLinks, links_are, numbers_fit, null_row, text_row, data_row, bss_row, sites_row, text_relocs_row, data_relocs_row, symbols_row, strings_row, names_row, text_part, init_part, sites_part, text_relocs_part, data_relocs_part, symbols_part, strings_part, names_part, before_text_relocs, after_text_relocs, file-text_relocs, length-before_text_relocs, before_data_relocs, after_data_relocs, file-data_relocs, length-before_data_relocs, before_symbols, after_symbols, file-symbols, length-before_symbols}
 use Rattle.elf_form.proofs.EntryLists.{EachAt}
 use Rattle.elf_form.proofs.NamePlaces.{HasPlace, IsRead, names_placed, name_read}
 use Rattle.elf_form.proofs.WrittenEntries.{IsWholeSymbol, IsSymbolAt, symbols_written, IsWholeReloc, IsRelocAt, relocs_written}
@@ -113,6 +113,7 @@ pub file_is : (o : ObjectParts) → IsWholeObject o → HasValues o → length (
 file_is o whole values small =
     let fits = whole.writable in
     let at = are_placed o in
+    let numbers = numbers_fit o fits at in
     record {
       len = length-object o;
       small = small;
@@ -120,16 +121,16 @@ file_is o whole values small =
       fits = fits;
       header = header_is o fits;
       links = links_are o;
-      null = null_row o fits at;
-      text = text_row o fits at;
-      init = data_row o fits at;
-      bss = bss_row o fits at;
-      sites = sites_row o fits at;
-      text_relocs = text_relocs_row o fits at;
-      data_relocs = data_relocs_row o fits at;
-      symbols = symbols_row o fits at;
-      strings = strings_row o fits at;
-      names = names_row o fits at;
+      null = null_row o numbers;
+      text = text_row o numbers;
+      init = data_row o numbers;
+      bss = bss_row o numbers;
+      sites = sites_row o numbers;
+      text_relocs = text_relocs_row o numbers;
+      data_relocs = data_relocs_row o numbers;
+      symbols = symbols_row o numbers;
+      strings = strings_row o numbers;
+      names = names_row o numbers;
       text_is = text_part o;
       init_is = init_part o;
       sites_is = sites_part o;

@@ -1,7 +1,8 @@
 -- The sections of a written object, and what each is read as.
-use Rattle.std.proofs.Common.{◌≡◌, ℕ, ◌+◌, ◌/◌, true, false, eqb, List, [], ◌∷◌, length, map, refl, ap, ◌∙◌, arith}
-use Rattle.std.specs.Prelude.{◌||◌, filter}
+use Rattle.std.proofs.Common.{◌≡◌, ℕ, ◌+◌, ◌/◌, Bool, true, false, cond, eqb, List, [], ◌∷◌, length, map, refl, ap, ◌∙◌, arith}
+use Rattle.std.specs.Prelude.{◌||◌, ◌==◌, ◌%◌, ◌^◌, filter}
 use Rattle.std.specs.List.{flat_map}
+use Rattle.std.proofs.lemmas.Bool.{cond-true, cond-false}
 use Rattle.std.proofs.lemmas.List.{append-nil}
 use Rattle.std.proofs.lemmas.List.Sums.{length-filter}
 use Rattle.elf_form.specs.declared.roles.Role.{Role}
@@ -12,7 +13,7 @@ use Rattle.elf_form.specs.ObjectParts.{ObjectParts}
 use Rattle.elf_form.specs.Tables.{entries, found}
 use Rattle.elf_form.specs.Header.{headers, sections}
 use Rattle.elf_form.specs.Sections.{contents, names}
-use Rattle.elf_form.specs.Roles.{role as role_of, is_kept, has_role, with_role, starts, joined_end, joined, with_section}
+use Rattle.elf_form.specs.Roles.{role as role_of, role_number, is_kept, has_role, with_role, alignment, size, up, starts, joined_end, joined, with_section}
 use Rattle.elf_form.specs.Symbols.{table_at, place_by, target_role, role_at, is_reloc_section_of, entry, relocs_in, relocs_of, start_at}
 use Rattle.elf_form.specs.ObjectReading.{strings_in, table_of, strings_of}
 use Rattle.elf_form.specs.ObjectLayout.{layout, strings_of as names_table, is_of, place_number, object_names, symbol_table, reloc_table}
@@ -89,16 +90,81 @@ picked role.Foreign t = []
 picked role.Symbols t = (t + 280) ∷ []
 picked role.Relocs t = (t + 200) ∷ (t + 240) ∷ []
 
-picks : (f : List ℕ) (t : ℕ) (r : Role) → HasRoles f t → filter (has_role r object_names f) (rows t) ≡ picked r t
+-- the elements at which a list of tests is true
+keep : Bool → ℕ → List ℕ → List ℕ
+keep true s rest = s ∷ rest
+keep false s rest = rest
+
+kept_where : List Bool → List ℕ → List ℕ
+kept_where [] ss = []
+kept_where (b ∷ bs) [] = []
+kept_where (b ∷ bs) (s ∷ ss) = keep b s (kept_where bs ss)
+
+keep_by : (b : Bool) (s : ℕ) (rest : List ℕ) → cond b (s ∷ rest) rest ≡ keep b s rest
+unfolding keep
+keep_by true s rest = refl
+keep_by false s rest = refl
+
+filter_by : (p : ℕ → Bool) (ss : List ℕ) → filter p ss ≡ kept_where (map p ss) ss
+unfolding kept_where
+filter_by p [] = refl
+filter_by p (s ∷ ss) = ap (λ (rest : List ℕ). cond (p s) (s ∷ rest) rest) (filter_by p ss) ∙ keep_by (p s) s (kept_where (map p ss) ss)
+
+filter_where : (p : ℕ → Bool) (ss : List ℕ) (bs : List Bool) → map p ss ≡ bs → filter p ss ≡ kept_where bs ss
+filter_where p ss bs e = filter_by p ss ∙ ap (λ (tests : List Bool). kept_where tests ss) e
+
+-- the tests of the ten sections, by their roles
+abbrev tests : Role → List Bool
+tests r =
+    let is : Role → Bool = λ q. role_number q == role_number r in
+    is role.Ignored ∷ is role.Text ∷ is role.Init ∷ is role.Bss ∷ is role.Sites ∷ is role.Relocs ∷ is role.Relocs ∷ is role.Symbols ∷ is role.Ignored ∷ is role.Ignored ∷ []
+
+tested : (f : List ℕ) (t : ℕ) (r : Role) → HasRoles f t → map (has_role r object_names f) (rows t) ≡ tests r
 unfolding rows
-picks f t role.Ignored has = rw (has.null, has.text, has.init, has.bss, has.sites, has.text_relocs, has.data_relocs, has.symbols, has.strings, has.names) refl
-picks f t role.Sites has = rw (has.null, has.text, has.init, has.bss, has.sites, has.text_relocs, has.data_relocs, has.symbols, has.strings, has.names) refl
-picks f t role.Text has = rw (has.null, has.text, has.init, has.bss, has.sites, has.text_relocs, has.data_relocs, has.symbols, has.strings, has.names) refl
-picks f t role.Init has = rw (has.null, has.text, has.init, has.bss, has.sites, has.text_relocs, has.data_relocs, has.symbols, has.strings, has.names) refl
-picks f t role.Bss has = rw (has.null, has.text, has.init, has.bss, has.sites, has.text_relocs, has.data_relocs, has.symbols, has.strings, has.names) refl
-picks f t role.Foreign has = rw (has.null, has.text, has.init, has.bss, has.sites, has.text_relocs, has.data_relocs, has.symbols, has.strings, has.names) refl
-picks f t role.Symbols has = rw (has.null, has.text, has.init, has.bss, has.sites, has.text_relocs, has.data_relocs, has.symbols, has.strings, has.names) refl
-picks f t role.Relocs has = rw (has.null, has.text, has.init, has.bss, has.sites, has.text_relocs, has.data_relocs, has.symbols, has.strings, has.names) refl
+tested f t r has = rw (has.null, has.text, has.init, has.bss, has.sites, has.text_relocs, has.data_relocs, has.symbols, has.strings, has.names) refl
+
+kept_rows : (t : ℕ) (r : Role) → kept_where (tests r) (rows t) ≡ picked r t
+unfolding kept_where keep rows
+kept_rows t role.Ignored = refl
+kept_rows t role.Sites = refl
+kept_rows t role.Text = refl
+kept_rows t role.Init = refl
+kept_rows t role.Bss = refl
+kept_rows t role.Foreign = refl
+kept_rows t role.Symbols = refl
+kept_rows t role.Relocs = refl
+
+picks : (f : List ℕ) (t : ℕ) (r : Role) → HasRoles f t → filter (has_role r object_names f) (rows t) ≡ picked r t
+picks f t r has = filter_where (has_role r object_names f) (rows t) (tests r) (tested f t r has) ∙ kept_rows t r
+
+-- ---- joining, a section at a time
+
+is_role : (r q : Role) (f : List ℕ) (s : ℕ) → role_of object_names f s ≡ q → has_role r object_names f s ≡ (role_number q == role_number r)
+is_role r q f s e = ap (λ (x : Role). role_number x == role_number r) e
+
+starts-skip : (r : Role) (f : List ℕ) (end s : ℕ) (rest xs : List ℕ) → has_role r object_names f s ≡ false → starts r object_names f end rest ≡ xs → starts r object_names f end (s ∷ rest) ≡ 0 ∷ xs
+unfolding starts
+starts-skip r f end s rest xs e then = cond-false _ _ _ e ∙ ap (λ (x : List ℕ). 0 ∷ x) then
+
+starts-take : (r : Role) (f : List ℕ) (end a s : ℕ) (rest xs : List ℕ) → has_role r object_names f s ≡ true → alignment f s ≡ a → starts r object_names f (up a end + size f s) rest ≡ xs → starts r object_names f end (s ∷ rest) ≡ up a end % 2 ^ 32 ∷ xs
+unfolding starts
+starts-take r f end a s rest xs e aligned then = cond-true _ _ _ e ∙ rw aligned (ap (λ (x : List ℕ). up a end % 2 ^ 32 ∷ x) then)
+
+end-skip : (r : Role) (f : List ℕ) (end s : ℕ) (rest : List ℕ) (n : ℕ) → has_role r object_names f s ≡ false → joined_end r object_names f end rest ≡ n → joined_end r object_names f end (s ∷ rest) ≡ n
+unfolding joined_end
+end-skip r f end s rest n e then = cond-false _ _ _ e ∙ then
+
+end-take : (r : Role) (f : List ℕ) (end s : ℕ) (rest : List ℕ) (n : ℕ) → has_role r object_names f s ≡ true → joined_end r object_names f (up (alignment f s) end + size f s) rest ≡ n → joined_end r object_names f end (s ∷ rest) ≡ n
+unfolding joined_end
+end-take r f end s rest n e then = cond-true _ _ _ e ∙ then
+
+joined-skip : (f init : List ℕ) (s : ℕ) (rest xs : List ℕ) → has_role role.Init object_names f s ≡ false → joined object_names f init rest ≡ xs → joined object_names f init (s ∷ rest) ≡ xs
+unfolding joined
+joined-skip f init s rest xs e then = cond-false _ _ _ e ∙ then
+
+joined-take : (f init : List ℕ) (s : ℕ) (rest xs : List ℕ) → has_role role.Init object_names f s ≡ true → joined object_names f (with_section f init s) rest ≡ xs → joined object_names f init (s ∷ rest) ≡ xs
+unfolding joined
+joined-take f init s rest xs e then = cond-true _ _ _ e ∙ then
 
 -- ---- the roles by their numbers
 
@@ -159,17 +225,30 @@ module _ (f : List ℕ) (o : ObjectParts) (is : IsFileOf f o) (has : HasRoles f 
   unfolding contents
   data-bytes = rw is.data_relocs.kind (rw (is.data_relocs.offset, is.data_relocs.size) is.data_relocs_are)
 
-  texts_picked : filter (is_reloc_section_of role.Text object_names f) (rows (layout o).sections) ≡ ((layout o).sections + 200) ∷ []
+  -- the tests of the ten sections, by their roles and by what is relocated
+  abbrev relocating : Role → List Bool
+  relocating r =
+      let is : Role → Bool = λ q. role_number q == role_number r in
+      false ∷ false ∷ false ∷ false ∷ false ∷ is role.Text ∷ is role.Init ∷ false ∷ false ∷ false ∷ []
+
+  relocs_tested : (r : Role) → map (is_reloc_section_of r object_names f) (rows (layout o).sections) ≡ relocating r
   unfolding rows
-  texts_picked = rw (has.null, has.text, has.init, has.bss, has.sites, has.text_relocs, has.data_relocs, has.symbols, has.strings, has.names, text_target, data_target) refl
+  relocs_tested r = rw (has.null, has.text, has.init, has.bss, has.sites, has.text_relocs, has.data_relocs, has.symbols, has.strings, has.names, text_target, data_target) refl
+
+  relocs_picked : (r : Role) → filter (is_reloc_section_of r object_names f) (rows (layout o).sections) ≡ kept_where (relocating r) (rows (layout o).sections)
+  relocs_picked r = filter_where (is_reloc_section_of r object_names f) (rows (layout o).sections) (relocating r) (relocs_tested r)
+
+  texts_picked : filter (is_reloc_section_of role.Text object_names f) (rows (layout o).sections) ≡ ((layout o).sections + 200) ∷ []
+  unfolding rows kept_where keep
+  texts_picked = relocs_picked role.Text
 
   inits_picked : filter (is_reloc_section_of role.Init object_names f) (rows (layout o).sections) ≡ ((layout o).sections + 240) ∷ []
-  unfolding rows
-  inits_picked = rw (has.null, has.text, has.init, has.bss, has.sites, has.text_relocs, has.data_relocs, has.symbols, has.strings, has.names, text_target, data_target) refl
+  unfolding rows kept_where keep
+  inits_picked = relocs_picked role.Init
 
   bss_picked : filter (is_reloc_section_of role.Bss object_names f) (rows (layout o).sections) ≡ []
-  unfolding rows
-  bss_picked = rw (has.null, has.text, has.init, has.bss, has.sites, has.text_relocs, has.data_relocs, has.symbols, has.strings, has.names, text_target, data_target) refl
+  unfolding rows kept_where keep
+  bss_picked = relocs_picked role.Bss
 
   text_entries : relocs_in f ((layout o).sections + 200) ≡ map (entry ((layout o).sections + 200)) (entries (layout o).text_relocs 8 (length (filter (is_of true) o.relocs)))
   unfolding relocs_in
@@ -200,13 +279,17 @@ module _ (f : List ℕ) (o : ObjectParts) (is : IsFileOf f o) (has : HasRoles f 
   nothing : ℕ → List ℕ
   nothing n = 0 ∷ 0 ∷ 0 ∷ 0 ∷ 0 ∷ 0 ∷ 0 ∷ 0 ∷ 0 ∷ 0 ∷ []
 
+  none-starts : (r : Role) (end : ℕ) → starts r object_names f end [] ≡ []
+  unfolding starts
+  none-starts r end = refl
+
   init-starts : starts role.Init object_names f 0 (rows (layout o).sections) ≡ nothing 0
-  unfolding starts rows nothing
-  init-starts = rw (has.null, has.text, has.init, has.bss, has.sites, has.text_relocs, has.data_relocs, has.symbols, has.strings, has.names, is.links.data_alignment) refl
+  unfolding rows nothing
+  init-starts = starts-skip role.Init f _ _ _ _ (is_role role.Init role.Ignored f _ has.null) (starts-skip role.Init f _ _ _ _ (is_role role.Init role.Text f _ has.text) (starts-take role.Init f _ 16 _ _ _ (is_role role.Init role.Init f _ has.init) is.links.data_alignment (starts-skip role.Init f _ _ _ _ (is_role role.Init role.Bss f _ has.bss) (starts-skip role.Init f _ _ _ _ (is_role role.Init role.Sites f _ has.sites) (starts-skip role.Init f _ _ _ _ (is_role role.Init role.Relocs f _ has.text_relocs) (starts-skip role.Init f _ _ _ _ (is_role role.Init role.Relocs f _ has.data_relocs) (starts-skip role.Init f _ _ _ _ (is_role role.Init role.Symbols f _ has.symbols) (starts-skip role.Init f _ _ _ _ (is_role role.Init role.Ignored f _ has.strings) (starts-skip role.Init f _ _ _ _ (is_role role.Init role.Ignored f _ has.names) (none-starts role.Init _))))))))))
 
   bss-starts : starts role.Bss object_names f 0 (rows (layout o).sections) ≡ nothing 0
-  unfolding starts rows nothing
-  bss-starts = rw (has.null, has.text, has.init, has.bss, has.sites, has.text_relocs, has.data_relocs, has.symbols, has.strings, has.names, is.links.bss_alignment) refl
+  unfolding rows nothing
+  bss-starts = starts-skip role.Bss f _ _ _ _ (is_role role.Bss role.Ignored f _ has.null) (starts-skip role.Bss f _ _ _ _ (is_role role.Bss role.Text f _ has.text) (starts-skip role.Bss f _ _ _ _ (is_role role.Bss role.Init f _ has.init) (starts-take role.Bss f _ 16 _ _ _ (is_role role.Bss role.Bss f _ has.bss) is.links.bss_alignment (starts-skip role.Bss f _ _ _ _ (is_role role.Bss role.Sites f _ has.sites) (starts-skip role.Bss f _ _ _ _ (is_role role.Bss role.Relocs f _ has.text_relocs) (starts-skip role.Bss f _ _ _ _ (is_role role.Bss role.Relocs f _ has.data_relocs) (starts-skip role.Bss f _ _ _ _ (is_role role.Bss role.Symbols f _ has.symbols) (starts-skip role.Bss f _ _ _ _ (is_role role.Bss role.Ignored f _ has.strings) (starts-skip role.Bss f _ _ _ _ (is_role role.Bss role.Ignored f _ has.names) (none-starts role.Bss _))))))))))
 
   pub place-read : (p : DefinedIn) → place_by (role_at object_names f (place_number p)) ≡ p
   place-read place.Undefined = rw role_at-none refl
@@ -241,10 +324,18 @@ module _ (f : List ℕ) (o : ObjectParts) (is : IsFileOf f o) (has : HasRoles f 
   unfolding contents
   sites_bytes = rw is.sites.kind (rw (is.sites.offset, is.sites.size) is.sites_is)
 
+  last-joined : joined object_names f (with_section f [] ((layout o).sections + 80)) [] ≡ o.init
+  unfolding joined with_section
+  last-joined = rw is.links.data_alignment init-bytes
+
   pub joined-init : joined object_names f [] (rows (layout o).sections) ≡ o.init
-  unfolding joined rows with_section
-  joined-init = rw (has.null, has.text, has.init, has.bss, has.sites, has.text_relocs, has.data_relocs, has.symbols, has.strings, has.names, is.links.data_alignment) init-bytes
+  unfolding rows
+  joined-init = joined-skip f _ _ _ _ (is_role role.Init role.Ignored f _ has.null) (joined-skip f _ _ _ _ (is_role role.Init role.Text f _ has.text) (joined-take f _ _ _ _ (is_role role.Init role.Init f _ has.init) (joined-skip f _ _ _ _ (is_role role.Init role.Bss f _ has.bss) (joined-skip f _ _ _ _ (is_role role.Init role.Sites f _ has.sites) (joined-skip f _ _ _ _ (is_role role.Init role.Relocs f _ has.text_relocs) (joined-skip f _ _ _ _ (is_role role.Init role.Relocs f _ has.data_relocs) (joined-skip f _ _ _ _ (is_role role.Init role.Symbols f _ has.symbols) (joined-skip f _ _ _ _ (is_role role.Init role.Ignored f _ has.strings) (joined-skip f _ _ _ _ (is_role role.Init role.Ignored f _ has.names) last-joined)))))))))
+
+  last-end : joined_end role.Bss object_names f (up (alignment f ((layout o).sections + 120)) 0 + size f ((layout o).sections + 120)) [] ≡ o.bss
+  unfolding joined_end
+  last-end = rw (is.links.bss_alignment, is.bss.size) (omega arith)
 
   pub joined-bss : joined_end role.Bss object_names f 0 (rows (layout o).sections) ≡ o.bss
-  unfolding joined_end rows
-  joined-bss = rw (has.null, has.text, has.init, has.bss, has.sites, has.text_relocs, has.data_relocs, has.symbols, has.strings, has.names, is.links.bss_alignment) (rw is.bss.size (omega arith))
+  unfolding rows
+  joined-bss = end-skip role.Bss f _ _ _ _ (is_role role.Bss role.Ignored f _ has.null) (end-skip role.Bss f _ _ _ _ (is_role role.Bss role.Text f _ has.text) (end-skip role.Bss f _ _ _ _ (is_role role.Bss role.Init f _ has.init) (end-take role.Bss f _ _ _ _ (is_role role.Bss role.Bss f _ has.bss) (end-skip role.Bss f _ _ _ _ (is_role role.Bss role.Sites f _ has.sites) (end-skip role.Bss f _ _ _ _ (is_role role.Bss role.Relocs f _ has.text_relocs) (end-skip role.Bss f _ _ _ _ (is_role role.Bss role.Relocs f _ has.data_relocs) (end-skip role.Bss f _ _ _ _ (is_role role.Bss role.Symbols f _ has.symbols) (end-skip role.Bss f _ _ _ _ (is_role role.Bss role.Ignored f _ has.strings) (end-skip role.Bss f _ _ _ _ (is_role role.Bss role.Ignored f _ has.names) last-end)))))))))

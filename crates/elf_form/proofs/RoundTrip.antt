@@ -1,5 +1,5 @@
 -- What is written is read again.
-use Rattle.std.proofs.Common.{◌≡◌, ℕ, ◌+◌, ◌*◌, ◌-◌, ◌≤◌, Bool, true, false, eqb, ltb, List, [], ◌∷◌, length, Option, None, Ok, refl, sym, ap, ◌∙◌, arith, eq-eqb}
+use Rattle.std.proofs.Common.{◌≡◌, ℕ, ◌+◌, ◌*◌, ◌-◌, ◌≤◌, Bool, true, false, eqb, ltb, List, [], ◌∷◌, length, Option, None, Ok, refl, sym, ap, ◌∙◌, arith, eq-eqb, add_assoc, add-zero}
 use Rattle.std.specs.Prelude.{filter}
 use Rattle.std.specs.Bool.{then_some}
 use Rattle.std.specs.List.{find}
@@ -15,7 +15,7 @@ use Rattle.elf_form.specs.Segments.{is_load, loads, memory_sizes, sizes, order}
 use Rattle.elf_form.specs.Sections.{contents, names, is_sites, is_nameless, is_compressed, sites_sections, compressed, nameless}
 use Rattle.elf_form.specs.Reading.{parts_at, section_form, wrong_image, image_at, image_in}
 use Rattle.elf_form.specs.ImageLayout.{init_from, sites_from, names_from, sections_from, section_names, image_bytes, IsWritableImage, HasLongs}
-use Rattle.elf_form.proofs.FileWords.{IsRow, IsProgram, HasHeader, IsLaidOut, laid_out, length-file, header_is, text_program, init_program, null_row, text_row, data_row, bss_row, sites_row, names_row, text_part, init_part, sites_part, names_part}
+use Rattle.elf_form.proofs.FileWords.{IsRow, IsProgram, HasHeader, IsLaidOut, laid_out, length-file, header_is, numbers_fit, text_program, init_program, null_row, text_row, data_row, bss_row, sites_row, names_row, text_part, init_part, sites_part, names_part}
 
 -- all that is known of the file f of p
 record IsFileOf (f : List ℕ) (p : ImageParts) : Type 0 where
@@ -38,25 +38,28 @@ record IsFileOf (f : List ℕ) (p : ImageParts) : Type 0 where
   names_is : part f (names_from p) 38 ≡ section_names
 
 file_is : (p : ImageParts) → IsWritableImage p → HasLongs p → length (image_bytes p) ≤ 33554432 → IsFileOf (image_bytes p) p
-file_is p fits longs small = record {
-  len = length-file p;
-  small = small;
-  at = laid_out p;
-  header = header_is p fits longs;
-  text = text_program p fits longs;
-  init = init_program p fits longs;
-  row0 = null_row p (sections_from p) fits (omega arith);
-  row1 = text_row p (sections_from p + 40) fits refl;
-  row2 = data_row p (sections_from p + 40 + 40) fits (omega arith);
-  row3 = bss_row p (sections_from p + 40 + 40 + 40) fits (omega arith);
-  row4 = sites_row p (sections_from p + 40 + 40 + 40 + 40) fits (omega arith);
-  row5 = names_row p (sections_from p + 40 + 40 + 40 + 40 + 40) fits (omega arith);
-  names_at = names_row p (sections_from p + 200) fits refl;
-  text_is = text_part p;
-  init_is = init_part p;
-  sites_is = sites_part p;
-  names_is = names_part p;
-}
+file_is p fits longs small =
+    let s = sections_from p in
+    let numbers = numbers_fit p fits in
+    record {
+      len = length-file p;
+      small = small;
+      at = laid_out p;
+      header = header_is p fits longs;
+      text = text_program p numbers longs;
+      init = init_program p numbers longs;
+      row0 = null_row p s numbers (add-zero s);
+      row1 = text_row p (s + 40) numbers refl;
+      row2 = data_row p (s + 40 + 40) numbers (sym (add_assoc s 40 40));
+      row3 = bss_row p (s + 40 + 40 + 40) numbers (omega arith);
+      row4 = sites_row p (s + 40 + 40 + 40 + 40) numbers (omega arith);
+      row5 = names_row p (s + 40 + 40 + 40 + 40 + 40) numbers (omega arith);
+      names_at = names_row p (s + 200) numbers refl;
+      text_is = text_part p;
+      init_is = init_part p;
+      sites_is = sites_part p;
+      names_is = names_part p;
+    }
 
 -- ---- the tables
 

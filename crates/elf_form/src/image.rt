@@ -5,7 +5,7 @@ use std::marker::Model;
 /// A linked program: its bytes, where its text and data are to stand, and where it begins. All
 /// addresses are linear. `bss` counts the zeroed bytes behind the data, and `sites` is the
 /// annotation section.
-#[derive(Debug, Drop)]
+#[derive(Drop)]
 pub struct Image {
     pub text: Vec<u8>,
     pub init: Vec<u8>,

@@ -35,7 +35,7 @@ pub fn bytes_of(name: &Bytes) -> &[u8]
 }
 
 /// A symbol. `value` is an offset in the text, data or zeroed bytes of its object.
-#[derive(Debug, Drop)]
+#[derive(Drop)]
 pub struct Symbol {
     pub name: Bytes,
     pub place: DefinedIn,
@@ -54,7 +54,7 @@ pub struct Reloc {
 }
 
 /// What an object file holds. `bss` counts zeroed bytes, and `sites` is the annotation section.
-#[derive(Debug, Drop)]
+#[derive(Drop)]
 pub struct Object {
     pub text: Vec<u8>,
     pub init: Vec<u8>,

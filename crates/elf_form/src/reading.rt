@@ -2,7 +2,8 @@
 
 ghost use Rattle.std.specs.Prelude.{◌≡◌, ℕ, ◌≤◌, ◌<◌, ◌+◌, ◌^◌, ◌∷◌, List, length, IfNone, IfSome, IfOk};
 ghost use Rattle.elf_form.specs.Faults.{tested, causes, section_causes, Gives, IsFirstOf, and_then};
-ghost use Rattle.elf_form.specs.Header.{IsWhole, identified};
+ghost use Rattle.guest_ram.specs.Bytes.{part, word32};
+ghost use Rattle.elf_form.specs.Header.{IsWhole, IsHeader, identified};
 ghost use Rattle.elf_form.specs.Segments.{memory_sizes, loads};
 ghost use Rattle.elf_form.specs.ImageParts.{ImageParts};
 ghost use Rattle.elf_form.specs.declared.cause.ElfCause.{ElfCause};
@@ -65,18 +66,25 @@ fn tested(bytes: &[u8]) -> Result<(usize, usize, usize), ElfFault>
     }
 }
 
-#[tactic(auto, unfolding(crate::specs::Reading::parts_at, guest_ram::specs::Bytes::part))]
+/// The bytes that a program header names.
+#[tactic(auto, unfolding(guest_ram::specs::Bytes::part))]
+fn named(bytes: &[u8], h: usize) -> &[u8]
+    requires { IsHeader bytes.now h }
+    ensures { result.now ≡ part bytes.now (word32 bytes.now (h + 4)) (word32 bytes.now (h + 16)) }
+{
+    let at = word(bytes, h + 4) as usize;
+    let size = word(bytes, h + 16) as usize;
+    &bytes[at..at + size]
+}
+
+#[tactic(auto, unfolding(crate::specs::Reading::parts_at))]
 fn image(alloc: Global, bytes: &[u8]) -> Result<Image, ElfFault>
     ensures { Gives (λ image. image) result (image_in bytes.now) }
 {
     let (text, data, sites) = tested(bytes)?;
-    let text_from = word(bytes, text + 4) as usize;
-    let text_size = word(bytes, text + 16) as usize;
-    let init_from = word(bytes, data + 4) as usize;
-    let init_size = word(bytes, data + 16) as usize;
     Ok(Image {
-        text: Vec::from_slice(alloc, &bytes[text_from..text_from + text_size])?,
-        init: Vec::from_slice(alloc, &bytes[init_from..init_from + init_size])?,
+        text: Vec::from_slice(alloc, named(bytes, text))?,
+        init: Vec::from_slice(alloc, named(bytes, data))?,
         bss: word(bytes, data + 20) - word(bytes, data + 16),
         entry: word(bytes, 24),
         text_at: word(bytes, text + 8),

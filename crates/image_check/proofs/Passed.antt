@@ -1,15 +1,17 @@
 -- What an image has that passed all tests.
-use Rattle.std.proofs.Common.{◌≡◌, ℕ, List, Option, Some, None, Result, Ok, Err, refl, subst, arith}
+use Rattle.std.proofs.Common.{◌≡◌, ℕ, List, [], Option, Some, None, Result, Ok, Err, refl, subst, arith}
+use Rattle.std.specs.Prelude.{OnOk}
 use Rattle.std.proofs.lemmas.Bool.Decides.{nat_tests}
 use Rattle.elf_form.specs.ImageParts.{ImageParts}
 use Rattle.elf_form.proofs.FormLaws.{then_none}
 use Rattle.sites.specs.declared.site.Site.{Site}
 use Rattle.sites.specs.Formats.{listed}
 use Rattle.image_check.specs.declared.fault.CheckCause.{CheckCause}
+use Rattle.image_check.specs.declared.fault.CheckFault.{CheckFault}
 use Rattle.image_check.specs.declared.fault.CheckCause.TheVariants.{TextPlace, InitPlace, TextSize, InitSize, EntryPlace, TextEnd, SiteWrong, Target, EntryStart}
 use Rattle.image_check.specs.declared.piece.Piece.{Piece}
 use Rattle.image_check.specs.Image.{Image}
-use Rattle.image_check.specs.Refusals.{Refusal, test, ◌>>=◌}
+use Rattle.image_check.specs.Refusals.{Refusal, test, Gives, ◌>>=◌}
 use Rattle.image_check.specs.Pieces.{pieces_in}
 use Rattle.image_check.specs.Targets.{is_entrance, wrong_target}
 use Rattle.image_check.specs.Conditions.{text_place, init_place, text_size, init_size, entry_place, text_end, site_wrong, entry_start}
@@ -111,6 +113,11 @@ within_parts parts sites p =
       room = grind (arith, nat_tests);
       entry = (grind (arith, nat_tests), grind (arith, nat_tests));
     }
+
+-- what the tests of places and sizes leave
+pub placed_within : (parts : ImageParts) (r : Result (Unit {0}) CheckFault) → Gives (λ _. tt) r (placed parts) → OnOk r (IsWithin (image_with parts []))
+placed_within parts (Ok x) e = within_parts parts [] (is_placed parts tt e)
+placed_within parts (Err d) e = tt
 
 pub is_within : (parts : ImageParts) (image : Image) → image_from parts ≡ Ok image → IsWithin image
 is_within parts image e =

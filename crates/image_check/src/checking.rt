@@ -8,7 +8,7 @@ ghost use Rattle.elf_form.specs.Faults.{Fault, IsFirstOf, ◌or_lower◌};
 ghost use Rattle.elf_form.specs.ImageParts.{ImageParts};
 ghost use Rattle.elf_form.specs.Reading.{image_in};
 ghost use Rattle.sites.specs.Formats.{told_format, listed};
-ghost use Rattle.image_check.specs.Refusals.{Gives, Form, Wrong};
+ghost use Rattle.image_check.specs.Refusals.{Gives, Form, Wrong, test};
 ghost use Rattle.image_check.specs.Pieces.{pieces_in, is_piece_start};
 ghost use Rattle.image_check.specs.Targets.{is_entrance, wrong_target};
 ghost use Rattle.image_check.specs.Conditions.{last_at, ends_at, text_end, site_wrong, entry_start_by};
@@ -18,6 +18,7 @@ ghost use Rattle.image_check.specs.Causes.{wrong, causes};
 ghost use Rattle.image_check.specs.Reasons.{IsRefused};
 ghost use Rattle.image_check.specs.Image.{Image as Accepted};
 ghost use Rattle.image_check.specs.declared.fault.CheckCause.{CheckCause};
+ghost use Rattle.image_check.specs.declared.fault.CheckCause.TheVariants.{SiteWrong};
 
 use crate::checked::Checked;
 use crate::fault::{CheckCause, CheckFault};
@@ -81,11 +82,15 @@ fn lower(a: Option<u32>, b: Option<u32>) -> Option<u32>
     }
 }
 
-fn site_wrong(alloc: Global, sites: &Sites, pieces: &[Piece]) -> Result<Option<u32>, CheckFault>
-    ensures { Gives (λ place. place) result (Ok (site_wrong sites.now.list pieces.now)) }
+/// The test of the sites of a text against its annotations.
+fn sites_tested(alloc: Global, sites: &Sites, pieces: &[Piece]) -> Result<(), CheckFault>
+    ensures { Gives (λ _. tt) result (test SiteWrong (site_wrong sites.now.list pieces.now)) }
 {
     let found = find_sites(alloc, pieces)?;
-    Ok(lower(found.lacking, differ(&sites.list, &found.sites)))
+    test(
+        CheckCause::SiteWrong,
+        lower(found.lacking, differ(&sites.list, &found.sites)),
+    )
 }
 
 fn entry_start(image: &Image, entrances: &[bool]) -> Option<u32>
@@ -106,7 +111,7 @@ fn annotated(alloc: Global, image: &Image, pieces: &[Piece]) -> Result<Sites, Ch
 {
     test(CheckCause::TextEnd, text_end(&image.text, pieces))?;
     let sites = annotations(alloc, &image.sites)?;
-    test(CheckCause::SiteWrong, site_wrong(alloc, &sites, pieces)?)?;
+    sites_tested(alloc, &sites, pieces)?;
     Ok(sites)
 }
 

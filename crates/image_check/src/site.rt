@@ -1,6 +1,7 @@
 //! The sites of a text, and where the annotations differ from them.
 
 ghost use Rattle.std.specs.Prelude.{◌≡◌, ◌-◌, ◌≤◌, List, IfOk, ◌&&◌};
+ghost use Rattle.sites.specs.Kinds.{number};
 ghost use Rattle.image_check.specs.TextSites.{is_nop_role, is_sti, is_hlt, has_nops, has_hlt, begun_by, pair, single, found_in, is_same, differ};
 
 use crate::piece::{Piece, Role};
@@ -143,10 +144,16 @@ pub fn find_sites(alloc: Global, pieces: &[Piece]) -> Result<Found, AllocError>
     })
 }
 
+fn number(kind: SiteKind) -> u8
+    ensures { result ≡ number kind }
+{
+    kind as u8
+}
+
 fn is_same(s: Site, t: Site) -> bool
     ensures { result ≡ is_same s t }
 {
-    s.at == t.at && s.kind as u8 == t.kind as u8 && s.len == t.len && s.total == t.total
+    s.at == t.at && number(s.kind) == number(t.kind) && s.len == t.len && s.total == t.total
 }
 
 /// The lowest offset at which two lists of sites differ.

@@ -35,6 +35,14 @@ fn stop_cause(rest: &[u8]) -> CheckCause
     }
 }
 
+/// The bytes from an offset on.
+fn rest_of(text: &[u8], at: usize) -> &[u8]
+    requires { at ≤ length text.now }
+    ensures { result.now ≡ drop at text.now }
+{
+    &text[at..]
+}
+
 /// The instruction at an offset.
 fn piece_at(text: &[u8], at: usize) -> Result<Piece, CheckFault>
     requires inside { at < length text.now }
@@ -43,7 +51,7 @@ fn piece_at(text: &[u8], at: usize) -> Result<Piece, CheckFault>
     ensures room { IfOk result (λ p. (1 ≤ p.len) × (at + p.len ≤ length text.now)) }
     ensures place { IfOk result (λ p. p.at ≡ at) }
 {
-    let rest = &text[at..];
+    let rest = rest_of(text, at);
     match decode(rest) {
         Decoded::Insn(insn, len) => {
             Ok(Piece {

@@ -13,3 +13,15 @@ returns-clause-read_back c = λ small.
     let longs : HasLongs c.args.image.now = record { entry = c.in_ok-put_header.ensures.entry; text_at = c.in_ok-put_programs.ensures.text_at; init_at = c.in_ok-put_programs.ensures.init_at } in
     let is : c.put_sections.new.out.items ≡ image_bytes c.args.image.now = returns-clause-layout c in
     rw is (read_again c.args.image.now c.requires longs (subst (λ (v : List ℕ). length v ≤ 33554432) is small))
+
+pub put_header-requires : goal.put_header-requires
+put_header-requires c = c.requires
+
+pub put_programs-requires : goal.put_programs-requires
+put_programs-requires c = c.requires
+
+pub put_body-requires : goal.put_body-requires
+put_body-requires c = c.requires
+
+pub put_sections-requires : goal.put_sections-requires
+put_sections-requires c = c.requires

@@ -36,3 +36,27 @@ pub returns-clause-read_back : goal.returns-clause-read_back
 returns-clause-read_back c = λ whole small.
     let is : c.put_table_sections.new.out.items ≡ object_bytes c.args.object.now = returns-clause-layout c in
     rw is (object_read c.args.object.now whole c.in_ok-put_tables.ensures.values (subst (λ (v : List ℕ). length v ≤ 33554432) is small))
+
+pub lengths_of-lengths-requires-clause-writable : goal.lengths_of-lengths-requires-clause-writable
+lengths_of-lengths-requires-clause-writable c = c.requires
+
+pub layout_for-layout-requires : goal.layout_for-layout-requires
+layout_for-layout-requires c = c.lengths_of-lengths.ensures
+
+pub put_header-requires : goal.put_header-requires
+put_header-requires c = record { writable = c.requires; layout = c.layout_for-layout.ensures }
+
+pub put_parts-requires : goal.put_parts-requires
+put_parts-requires c = record { writable = c.requires; layout = c.layout_for-layout.ensures }
+
+pub put_tables-requires-clause-writable : goal.put_tables-requires-clause-writable
+put_tables-requires-clause-writable c = c.requires
+
+pub put_tables-requires-clause-layout : goal.put_tables-requires-clause-layout
+put_tables-requires-clause-layout c = c.layout_for-layout.ensures
+
+pub put_part_sections-requires : goal.put_part_sections-requires
+put_part_sections-requires c = record { lengths = c.lengths_of-lengths.ensures; layout = c.layout_for-layout.ensures }
+
+pub put_table_sections-requires : goal.put_table_sections-requires
+put_table_sections-requires c = record { count = c.requires.count; lengths = c.lengths_of-lengths.ensures; layout = c.layout_for-layout.ensures }

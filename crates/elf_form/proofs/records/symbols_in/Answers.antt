@@ -25,3 +25,12 @@ loop-i-preserved c =
 pub returns : goal.returns
 unfolding symbols_in
 returns c = no_more c.loop-i.out.items _ (ap (map (symbol_at c.args.strings.now c.args.names.now c.args.bytes.now)) (filter-end (is_listed c.args.names.now c.args.bytes.now) (c.args.table.at + 16) 16 (c.args.table.count - 1) c.loop-i.i c.loop-i-test.false)) ∙ c.loop-i.invariant
+
+pub symbol_at-requires-clause-whole : goal.symbol_at-requires-clause-whole
+symbol_at-requires-clause-whole c = c.requires.whole
+
+pub symbol_at-requires-clause-init : goal.symbol_at-requires-clause-init
+symbol_at-requires-clause-init c = c.requires.init
+
+pub symbol_at-requires-clause-bss : goal.symbol_at-requires-clause-bss
+symbol_at-requires-clause-bss c = c.requires.bss
