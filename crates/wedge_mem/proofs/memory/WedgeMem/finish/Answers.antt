@@ -35,9 +35,6 @@ returns-clause-count g c = rw c.state-state.ensures.state at c.settle-count.ensu
 pub returns-clause-entries : goal.returns-clause-entries
 returns-clause-entries g c = rw c.state-state.ensures.state at c.settle-count.ensures.entries
 
-pub returns-clause-filled : goal.returns-clause-filled
-returns-clause-filled g c = rw c.state-state.ensures.state at c.settle-count.ensures.kept
-
 pub returns-clause-noted : goal.returns-clause-noted
 returns-clause-noted g c = rw c.state-state.ensures.state at c.settle-count.ensures.noted
 
