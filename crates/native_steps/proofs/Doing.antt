@@ -1,8 +1,8 @@
 -- What an instruction does once its ranges are translated: its pure effect.
-use Rattle.std.proofs.Common.{◌≡◌, ℕ, ◌+◌, ◌/◌, ◌%◌, ◌<◌, Bool, true, false, cond, ◌&&◌, not, ◌==◌, refl, sym, ap, subst, ◌∙◌, Option, Some, None, Ok, Err, arith}
+use Rattle.std.proofs.Common.{◌≡◌, ℕ, ◌+◌, ◌/◌, ◌%◌, ◌<◌, Bool, true, false, cond, ◌&&◌, not, ◌==◌, refl, sym, ap, subst, ◌∙◌, Option, Some, None, Result, Ok, Err, arith}
 use Rattle.std.specs.Prelude.{nat_lt, nat_le, slice_index}
 use Rattle.std.specs.FinMap.{get}
-use Rattle.std.proofs.lemmas.Bool.{cond-true, le-leb, lt-ltb, or_parts}
+use Rattle.std.proofs.lemmas.Bool.{both_ways, cond-true, le-leb, lt-ltb, or_parts}
 use Rattle.guest_ram.specs.Bytes as bytes
 use Rattle.ia32_types.specs.declared.size.Size.TheVariants.{Word, Long}
 use Rattle.ia32_types.specs.declared.register.Seg.{Seg}
@@ -71,11 +71,11 @@ plainly cpu s (outcomes.Raise vector code) = refl
 plainly cpu s (outcomes.Stop stop) = refl
 
 plain_row : (o : Op) (g : Selectors) (i : Insn) (len : ℕ) (r : Regs) (b : ℕ → ℕ) → instruction.is_plain o ≡ true → user_row o g i len r b ≡ effect i len r b
-plain_row op.Return g i len r b e = absurd cc
-plain_row op.JumpTo g i len r b e = absurd cc
-plain_row op.CallTo g i len r b e = absurd cc
-plain_row op.ReadSeg g i len r b e = absurd cc
-plain_row op.PushSeg g i len r b e = absurd cc
+plain_row op.Return g i len r b e = absurd (both_ways false refl e)
+plain_row op.JumpTo g i len r b e = absurd (both_ways false refl e)
+plain_row op.CallTo g i len r b e = absurd (both_ways false refl e)
+plain_row op.ReadSeg g i len r b e = absurd (both_ways false refl e)
+plain_row op.PushSeg g i len r b e = absurd (both_ways false refl e)
 plain_row o g i len r b e = refl
 
 pub plain_effect : (g : Selectors) (i : Insn) (len : ℕ) (r : Regs) (b : ℕ → ℕ) → instruction.is_plain i.op ≡ true → user_effect g i len r b ≡ effect i len r b
@@ -144,8 +144,13 @@ earlier_number t u at g e = loaded_is (as_earlier u) at (byte_by (Some (record {
 named : (k : ℕ) → k < 8 → k % 8 ≡ k
 named k lt = omega (arith, lt)
 
+-- the host may do it
+abbrev is_granted : {E : Type 0} → Result (Unit {0}) E → Bool
+is_granted (Ok x) = true
+is_granted (Err e) = false
+
 -- the same space where there is no range
-nothing_reached : (s t : Space) → ◌≡◌ {A = Outcome Refusal (Unit {0})} (Ok (tt, s)) (Ok (tt, t)) → s ≡ t
+pub nothing_reached : (s t : Space) → ◌≡◌ {A = Outcome Refusal (Unit {0})} (Ok (tt, s)) (Ok (tt, t)) → s ≡ t
 nothing_reached s t e = let p : ◌≡◌ {A = Unit {0} × Space} (tt, s) (tt, t) = cc in ap (λ q. q.1) p
 
 abbrev pub IsPopFlags : Op → Type 0
@@ -342,24 +347,24 @@ module _ (m : Setting) (b : State) (c : Completed) where
     row_is op.Return i len e user k p q h = return i len h
     row_is op.JumpTo i len e user k p q h = jump i.a k.named_a h
     row_is op.CallTo i len e user k p q h = call i.a len k.named_a h
-    row_is op.Cli i len e user k p q h = absurd cc
-    row_is op.Sti i len e user k p q h = absurd cc
-    row_is op.Hlt i len e user k p q h = absurd cc
-    row_is op.Iret i len e user k p q h = absurd cc
-    row_is op.ReadControl i len e user k p q h = absurd cc
-    row_is op.WriteControl i len e user k p q h = absurd cc
-    row_is op.LoadGdt i len e user k p q h = absurd cc
-    row_is op.LoadIdt i len e user k p q h = absurd cc
-    row_is op.LoadTask i len e user k p q h = absurd cc
-    row_is op.DropPage i len e user k p q h = absurd cc
-    row_is op.LoadSeg i len e user k p q h = absurd cc
-    row_is op.PopSeg i len e user k p q h = absurd cc
-    row_is op.FarJump i len e user k p q h = absurd cc
-    row_is op.PortIn i len e user k p q h = absurd cc
-    row_is op.PortOut i len e user k p q h = absurd cc
-    row_is op.Int i len e user k p q h = absurd cc
-    row_is op.Int3 i len e user k p q h = absurd cc
-    row_is o i len e user k p q h = absurd cc
+    row_is op.Cli i len e user k p q h = absurd (both_ways false refl (ap is_granted p))
+    row_is op.Sti i len e user k p q h = absurd (both_ways false refl (ap is_granted p))
+    row_is op.Hlt i len e user k p q h = absurd (both_ways false refl (ap is_granted p))
+    row_is op.Iret i len e user k p q h = absurd (both_ways false refl (ap is_granted p))
+    row_is op.ReadControl i len e user k p q h = absurd (both_ways false refl (ap is_granted p))
+    row_is op.WriteControl i len e user k p q h = absurd (both_ways false refl (ap is_granted p))
+    row_is op.LoadGdt i len e user k p q h = absurd (both_ways false refl (ap is_granted p))
+    row_is op.LoadIdt i len e user k p q h = absurd (both_ways false refl (ap is_granted p))
+    row_is op.LoadTask i len e user k p q h = absurd (both_ways false refl (ap is_granted p))
+    row_is op.DropPage i len e user k p q h = absurd (both_ways false refl (ap is_granted p))
+    row_is op.LoadSeg i len e user k p q h = absurd (both_ways false refl (ap is_granted p))
+    row_is op.PopSeg i len e user k p q h = absurd (both_ways false refl (ap is_granted p))
+    row_is op.FarJump i len e user k p q h = absurd (both_ways false refl (ap is_granted p))
+    row_is op.PortIn i len e user k p q h = absurd (both_ways false refl (ap is_granted p))
+    row_is op.PortOut i len e user k p q h = absurd (both_ways false refl (ap is_granted p))
+    row_is op.Int i len e user k p q h = absurd (both_ways false refl (ap is_granted p))
+    row_is op.Int3 i len e user k p q h = absurd (both_ways false refl (ap is_granted p))
+    row_is o i len e user k p q h = absurd (both_ways true q refl)
 
     -- an instruction
     pub instructed_is : (i : Insn) (len : ℕ) → (IsPopFlags i.op → IsUser cpu) → IsShaped i → permitted i ≡ Ok tt → Are (ranges_of i cpu.regs)

@@ -16,6 +16,7 @@ use Rattle.ia32_exec.specs.declared.outcome.Outcome as exec
 use Rattle.ia32_exec.specs.declared.outcome.Outcome.TheVariants as outcomes
 use Rattle.ia32_exec.specs.declared.outcome.Stores.{Stores}
 use Rattle.ia32_exec.specs.declared.outcome.Stores.TheVariants.{Nothing}
+use Rattle.ia32_types.specs.declared.stop.Stop.{Stop}
 use Rattle.ia32_types.specs.declared.stop.Stop.TheVariants as stops
 use Rattle.sys_exec.specs.declared.effect.SysEffect.TheVariants as effects
 use Rattle.ia32_exec.specs.declared.access.Range.{Range}
@@ -49,7 +50,7 @@ use Rattle.native_steps.specs.Again.{AreWithin, settled, StepsAgain}
 use Rattle.native_steps.proofs.Clear.{Use, used, range_uses, uses_of, AreClear}
 use Rattle.native_steps.proofs.Pages.{At, Comes, HasEntry, IsFree, range_passes, reaching_comes}
 use Rattle.native_steps.proofs.Ways.{Way}
-use Rattle.native_steps.proofs.Doing.{IsUser, IsPopFlags, instructed_is}
+use Rattle.native_steps.proofs.Doing.{IsUser, IsPopFlags, instructed_is, nothing_reached}
 use Rattle.native_steps.proofs.Uses.{window_above}
 use Rattle.native_steps.proofs.Fetching.{Fetches, IsFetch, IsIn, IsPast, fetch_parts, by_parts, fetching_went, fetched_comes}
 use Rattle.native_steps.proofs.Stored.{stored_is}
@@ -69,6 +70,29 @@ renoted tables wrote (Halts stop) = Halts stop
 abbrev report_in : Report → Result → Report
 report_in other (Went report b) = report
 report_in other (Halts stop) = other
+
+halts_or_went : (stop : Stop) (report : Report) (b : State) → Halts stop ≡ Went report b → ⊥
+halts_or_went stop report b e = cc
+
+-- ---- where the bytes of a range lie
+
+ends_at : (at len : ℕ) → 1 ≤ len → (at + len - 1) / 4096 ≡ (at + (len - 1)) / 4096
+ends_at at len some = omega (arith, some)
+
+in_first : (at j : ℕ) → (at + j) / 4096 < at / 4096 + 1 → (at + j) / 4096 ≡ at / 4096
+in_first at j below = omega (arith, below)
+
+in_last : (at len j : ℕ) → at / 4096 + 1 ≤ (at + j) / 4096 → j < len → len ≤ 32 → (at + j) / 4096 ≡ (at + len - 1) / 4096
+in_last at len j above lt few = omega (arith, above, lt, few)
+
+past_at : (at x : ℕ) → at ≤ x → at + (x - at) ≡ x
+past_at at x low = omega (arith, low)
+
+past_in : (at len x : ℕ) → at ≤ x → x < at + len → x - at < len
+past_in at len x low high = omega (arith, low, high)
+
+in_frame : (f frame x : ℕ) → f ≡ frame → f * 4096 + x % 4096 ≡ 4096 * frame + x % 4096
+in_frame f frame x is = omega (arith, is)
 
 module _ (flags : EffectLaws) (m : Setting) (v : View) (b : State) (mode : m.mode ≡ wedge_mode m.image) (room : 4096 * m.frames ≤ length b.ram) (fit : AreBytes b.ram) (sound : AreWithin m b.set) (sees : Sees v b.cpu) (next : IsNext m v.kernel b) (small : b.cpu.regs.eip < 2 ^ 32) where
   abbrev k : Bool
@@ -149,13 +173,12 @@ module _ (flags : EffectLaws) (m : Setting) (v : View) (b : State) (mode : m.mod
     range : RangeOf ps s t write o
 
   pub last_is : (r : Range) → 1 ≤ r.len → (r.at + r.len - 1) / 4096 ≡ last_page r
-  last_is r some = omega (arith, some)
+  last_is r some = ends_at r.at r.len some
 
   ranged : (ps : List ℕ) (s t : Space) (write : Bool) (o : Option Range) → IsWithin m b v.kernel s → IsShort o → Clear ps (range_uses write o) → reached b.cpu write o s ≡ Ok (tt, t) → Ranged ps s t write o
   unfolding RangeOf
   ranged ps s t write None h short c e =
-      let p : ◌≡◌ {A = Unit {0} × Space} (tt, s) (tt, t) = cc in
-      record { through = subst (Through m b v.kernel ps s) (ap (λ (q : Unit {0} × Space). q.1) p) (through_same m b v.kernel ps s h); range = tt }
+      record { through = subst (Through m b v.kernel ps s) (nothing_reached s t e) (through_same m b v.kernel ps s h); range = tt }
   ranged ps s t write (Some r) h short c e =
       let e2 : reaching r.at r.len (record { write = write; user = not v.kernel }) s ≡ Ok (tt, t) = ap (λ (u : Bool). reaching r.at r.len (record { write = write; user = u }) s) (sym user) ∙ e in
       let last = last_is r short.0 in
@@ -253,17 +276,17 @@ module _ (flags : EffectLaws) (m : Setting) (v : View) (b : State) (mode : m.mod
   place_of : (s : Space) (write : Bool) (page frame x : ℕ) → x / 4096 ≡ page → HasEntry v.kernel (wp_of b.cpu) s.set write page frame → place s x ≡ 4096 * frame + x % 4096
   unfolding place
   place_of s write page frame x e h =
-      let sum : h.entry.frame * 4096 + x % 4096 ≡ 4096 * frame + x % 4096 = let is = h.frame_is in omega (arith, is) in
+      let sum : h.entry.frame * 4096 + x % 4096 ≡ 4096 * frame + x % 4096 = in_frame h.entry.frame frame x h.frame_is in
       ap (λ p. place_by (get s.set p) x) e ∙ ap (λ (o : Option Entry). place_by o x) h.kept ∙ sum
 
   places_same : (s t : Space) (write : Bool) (r : Range) → 1 ≤ r.len → r.len ≤ 32 → (g : HasRange s write r) (h : HasRange t write r) → g.first ≡ h.first → g.last_frame ≡ h.last_frame → (j : ℕ) → j < r.len → place s (r.at + j) ≡ place t (r.at + j)
   places_same s t write r some few g h one two j lt =
       elim (cases_lt ((r.at + j) / 4096) (r.at / 4096 + 1)) [
         | inl below ↦
-            let page : (r.at + j) / 4096 ≡ r.at / 4096 = omega (arith, below) in
+            let page : (r.at + j) / 4096 ≡ r.at / 4096 = in_first r.at j below in
             place_of s write (r.at / 4096) g.first (r.at + j) page g.has_first ∙ ap (λ f. 4096 * f + (r.at + j) % 4096) one ∙ sym (place_of t write (r.at / 4096) h.first (r.at + j) page h.has_first)
         | inr above ↦
-            let page : (r.at + j) / 4096 ≡ (r.at + r.len - 1) / 4096 = omega (arith, above, lt, few) in
+            let page : (r.at + j) / 4096 ≡ (r.at + r.len - 1) / 4096 = in_last r.at r.len j above lt few in
             place_of s write ((r.at + r.len - 1) / 4096) g.last_frame (r.at + j) page g.has_last ∙ ap (λ f. 4096 * f + (r.at + j) % 4096) two
             ∙ sym (place_of t write ((r.at + r.len - 1) / 4096) h.last_frame (r.at + j) page h.has_last)
       ]
@@ -357,14 +380,14 @@ module _ (flags : EffectLaws) (m : Setting) (v : View) (b : State) (mode : m.mod
 
     read_places : (o : Option Range) → IsShort o → (ps : List ℕ) → HasRanges read false o → Through m b v.kernel (after ps (range_uses false o)) read write → (x : ℕ) → is_in o x ≡ true → place read x ≡ place write x
     unfolding HasRanges later
-    read_places None sh ps g th x e = absurd (let f : false ≡ true = e in cc)
+    read_places None sh ps g th x e = absurd (both_ways false refl e)
     read_places (Some r) sh ps g th x e =
         let p = and_parts (nat_le r.at x) (nat_lt x (r.at + r.len)) e in
         let low = leb-true r.at x p.0 in
         let high = ltb-true x (r.at + r.len) p.1 in
-        let sum : r.at + (x - r.at) ≡ x = omega (arith, low) in
+        let sum : r.at + (x - r.at) ≡ x = past_at r.at x low in
         subst (λ y. place read y ≡ place write y) sum
-        (places_same read write false r sh.0 sh.1 g (later ps read write false r sh.0 g th) refl refl (x - r.at) (omega (arith, low, high)))
+        (places_same read write false r sh.0 sh.1 g (later ps read write false r sh.0 g th) refl refl (x - r.at) (past_in r.at r.len x low high))
 
     byte_there : (x : ℕ) → byte_at write x ≡ byte_of (settled b write) x
     unfolding byte_at place
@@ -433,7 +456,7 @@ module _ (flags : EffectLaws) (m : Setting) (v : View) (b : State) (mode : m.mod
             (record { cpu = record (unheld b).cpu { regs = regs }; ram = all_stored (λ x. place_by (get set (x / 4096)) x) ram (list_of stores); set = set; board = Rattle.board.specs.Boards.board_step b.board; step = b.step + 1 })) (Halts stops.UserFlags)
             ≡ Went (record report { tables = others; wrote = news }) after_state
         by_test true g = ap (λ (o : Result). renoted others news o) g
-        by_test false g = absurd cc
+        by_test false g = absurd (halts_or_went _ _ _ g)
 
     -- what is reported
     told : (ram : List ℕ) (set : FinMap nat_cmp Entry) (visited tables wrote : List ℕ) (regs : Regs) (stores : Stores) (report : Report) (after_state : State)
@@ -445,7 +468,7 @@ module _ (flags : EffectLaws) (m : Setting) (v : View) (b : State) (mode : m.mod
             (record { cpu = record (unheld b).cpu { regs = regs }; ram = all_stored (λ x. place_by (get set (x / 4096)) x) ram (list_of stores); set = set; board = Rattle.board.specs.Boards.board_step b.board; step = b.step + 1 })) (Halts stops.UserFlags) ≡ Went report after_state
             → (report.pages ≡ visited) × (report.tables ≡ tables) × (report.wrote ≡ wrote)
         by_test true g = let f = sym (ap (λ (o : Result). report_in report o) g) in (ap (λ (r : Report). r.pages) f, ap (λ (r : Report). r.tables) f, ap (λ (r : Report). r.wrote) f)
-        by_test false g = absurd cc
+        by_test false g = absurd (halts_or_went _ _ _ g)
 
     -- the effect over the step's bytes is that over the bytes of the state that is left
     same_effect : user_effect (selectors_of v) insn len b.cpu.regs (byte_by reads read write) ≡ effect_of v (settled b write) insn len

@@ -1,10 +1,16 @@
-use Rattle.std.proofs.Common.{ℕ, List, ap, ◌∙◌, subst}
+use Rattle.std.proofs.Common.{ℕ, List, Option, ap, sym, ◌∙◌, subst}
+use Rattle.std.specs.FinMap.{FinMap, get}
+use Rattle.std.specs.Ordering.{nat_cmp}
+use Rattle.paging.specs.declared.entry.Entry.{Entry}
+use Rattle.guest_ram.specs.Among.{is_among}
 use Rattle.shadow_tables.specs.Aside.{LoseWrites, AreSame, all_spared}
+use Rattle.shadow_tables.specs.Calls.{IsWithin}
 use Rattle.shadow_tables.specs.Entries.{entries_of}
+use Rattle.shadow_tables.specs.Slots.{Slot}
 use Rattle.step_mem.specs.Changes.{changed}
 use Rattle.wedge_mem.specs.Owned.{first, owns}
-use Rattle.wedge_mem.specs.Settled.{Fills}
-use Rattle.wedge_mem.specs.Told.{guest_frames}
+use Rattle.wedge_mem.specs.Settled.{Fills, filled_by}
+use Rattle.wedge_mem.specs.Told.{guest_frames, read_by}
 use Rattle.wedge_mem.proofs.Below.{below-same}
 use Rattle.wedge_mem.proofs.Passed.{owns-noted, owns-told, owns-all, moves-all}
 use Rattle.wedge_mem.proofs.Told.{all-told}
@@ -76,3 +82,43 @@ returns-clause-asides g c =
     (subst (λ (fs : List ℕ). LoseWrites (guest_frames fs) (a c.args.shadows.now c.args.ram.now) (a n.shadows n.ram)) c.as_slice-2.ensures c.note_tables.ensures.asides)
     (subst (λ (fs : List ℕ). AreSame (all_spared fs (a n.shadows n.ram)) (a t.shadows t.ram)) c.as_slice-3.ensures c.tell_written.ensures.asides)
     c.fill_pages.ensures.asides
+
+pub returns-clause-roots : goal.returns-clause-roots
+returns-clause-roots g c = λ view. c.fill_pages.ensures.roots view ∙ c.tell_written.ensures.roots view ∙ c.note_tables.ensures.roots view
+
+pub returns-clause-kept : goal.returns-clause-kept
+returns-clause-kept g c =
+    let s = g.S.Shadows.slots in let n = c.note_tables.new in let t = c.tell_written.new in let u = c.fill_pages.new in
+    let st = c.args.state.now in let fills = c.fill_pages.ensures.fills in
+    let pages = c.as_slice-4.ensures ∙ c.pages_of-pages.ensures.all in
+    let same = c.tell_written.ensures.entries ∙ c.note_tables.ensures.entries in
+    record {
+      through = λ page small there.
+          fills.through page small (ap (is_among page) pages ∙ there)
+          ∙ ap (λ (frames : List ℕ). filled_by c.args.side st.control.wp frames (get (changed (entries_of (s t.shadows t.ram)) st.changes) page)) (sym c.fill_pages.ensures.tracked)
+          ∙ ap (λ (e : FinMap nat_cmp Entry). filled_by c.args.side st.control.wp (g.S.Shadows.tracked u.shadows) (get (changed e st.changes) page)) same;
+      others = λ page small none.
+          subst (λ (o : Option Slot). IsWithin o (s c.args.shadows.now c.args.ram.now page))
+          (sym (fills.others page small (ap (is_among page) pages ∙ none) ∙ c.tell_written.ensures.slots page small)) (c.note_tables.ensures.slots page small);
+    }
+
+pub returns-clause-noted : goal.returns-clause-noted
+returns-clause-noted g c = λ some frame none.
+    c.fill_pages.ensures.noted frame
+    ∙ c.tell_written.ensures.noted frame (ap (is_among frame) c.as_slice-3.ensures ∙ none)
+    ∙ c.note_tables.ensures.noted frame
+    ∙ ap (λ (fs : List ℕ). read_by (g.S.Shadows.noted c.args.shadows.now) fs frame) c.as_slice-2.ensures
+
+pub returns-clause-noted_only : goal.returns-clause-noted_only
+returns-clause-noted_only g c = λ frame noted.
+    sym (c.note_tables.ensures.noted frame ∙ ap (λ (fs : List ℕ). read_by (g.S.Shadows.noted c.args.shadows.now) fs frame) c.as_slice-2.ensures)
+    ∙ c.tell_written.ensures.noted_less frame (sym (c.fill_pages.ensures.noted frame) ∙ noted)
+
+pub returns-clause-untracked : goal.returns-clause-untracked
+returns-clause-untracked g c = λ some frame wrote.
+    ap (is_among frame) c.fill_pages.ensures.tracked ∙ c.tell_written.ensures.untracked frame (ap (is_among frame) c.as_slice-3.ensures ∙ wrote)
+
+pub returns-clause-opened : goal.returns-clause-opened
+returns-clause-opened g c = λ indices all opened.
+    c.fill_pages.ensures.opened indices (λ page there. all page (sym (ap (is_among page) (c.as_slice-4.ensures ∙ c.pages_of-pages.ensures.all)) ∙ there))
+    (c.tell_written.ensures.opened indices (c.note_tables.ensures.opened indices opened))

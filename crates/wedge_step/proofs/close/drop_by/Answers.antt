@@ -1,6 +1,11 @@
-use Rattle.std.proofs.Common.{Bool, false, refl, sym, subst, ◌∙◌, arith}
+use Rattle.std.proofs.Common.{Bool, true, false, List, refl, sym, subst, ◌∙◌, arith}
+use Rattle.std.proofs.lemmas.Bool.{both_ways}
+use Rattle.shadow_tables.specs.Aside.{Aside}
+use Rattle.wedge_step.specs.Standing.{AreOpen}
+use Rattle.descriptors.specs.Controls.{wp_of}
 use Rattle.wedge_step.specs.Ready.{AllOpen, leaving, left_out}
-use Rattle.wedge_step.proofs.Readying.{none_pages}
+use Rattle.wedge_step.proofs.Opening.{none_open}
+use Rattle.wedge_step.proofs.Readying.{none_pages, none_ready}
 use Rattle.wedge_step.proofs.Returning.{rules_but, left_leaving}
 use Rattle.wedge_step.proofs.Leaving.{stays_same}
 use Rattle.wedge_step.proofs.close.drop_by.Goals as goal
@@ -36,3 +41,62 @@ returns-then-not-is_all-clause-stay g c = λ no. c.drop_from.ensures.stay (sym c
 
 pub returns-then-are_rules_changed-clause-lost : goal.returns-then-are_rules_changed-clause-lost
 returns-then-are_rules_changed-clause-lost g c = λ yes. let e = c.drop_all.ensures in record { notes = e.noted; marks = e.marked; others = e.asides }
+
+pub returns-then-are_rules_changed-clause-shows : goal.returns-then-are_rules_changed-clause-shows
+returns-then-are_rules_changed-clause-shows g c = λ image h. none_open image _ (g.S.Shadows.slots c.drop_all.new.self c.drop_all.new.ram) c.drop_all.ensures.none
+
+pub returns-then-are_rules_changed-clause-opens : goal.returns-then-are_rules_changed-clause-opens
+returns-then-are_rules_changed-clause-opens g c = λ image h. subst (λ (l : List Aside). AllOpen image (wp_of c.args.worked.now.cpu) l) (sym c.drop_all.ensures.asides) tt
+
+pub returns-then-are_rules_changed-clause-ready : goal.returns-then-are_rules_changed-clause-ready
+returns-then-are_rules_changed-clause-ready g c = λ m pages low h.
+    none_ready g.S.Shadows.slots g.S.Shadows.noted g.S.Shadows.marked g.S.Shadows.value g.S.Shadows.asides (left_out c.args.worked.now.dropped pages) m (record c.args.worked.now.cpu { cr3 = c.args.before.now.cr3 }) c.drop_all.new.self c.drop_all.new.ram
+    (c.drop_all.ensures.value ∙ h.value_is) c.drop_all.ensures.none c.drop_all.ensures.asides
+
+pub returns-then-are_rules_changed-clause-stay : goal.returns-then-are_rules_changed-clause-stay
+returns-then-are_rules_changed-clause-stay g c = λ no. absurd (both_ways true no refl)
+
+pub returns-then-are_rules_changed-clause-same : goal.returns-then-are_rules_changed-clause-same
+returns-then-are_rules_changed-clause-same g c = λ no. absurd (both_ways true no refl)
+
+pub returns-then-are_rules_changed-clause-rules_same : goal.returns-then-are_rules_changed-clause-rules_same
+returns-then-are_rules_changed-clause-rules_same g c = λ no. absurd (both_ways true no refl)
+
+pub returns-then-not-is_all-clause-shows : goal.returns-then-not-is_all-clause-shows
+returns-then-not-is_all-clause-shows g c = λ image h.
+    let same = c.are_rules_changed.ensures.same c.if-are_rules_changed.false in
+    subst (λ (w : Bool). AreOpen image w (g.S.Shadows.slots c.drop_from.new.shadows c.drop_from.new.ram)) (sym same.0) (c.drop_from.ensures.shows image _ h)
+
+pub returns-then-not-is_all-clause-same : goal.returns-then-not-is_all-clause-same
+returns-then-not-is_all-clause-same g c = λ no all. absurd (both_ways _ (sym c.is_all.ensures ∙ c.if-not-is_all.true) all)
+
+pub returns-then-not-is_all-clause-lost : goal.returns-then-not-is_all-clause-lost
+returns-then-not-is_all-clause-lost g c = λ yes. absurd (both_ways false refl yes)
+
+pub returns-then-not-is_all-clause-rules : goal.returns-then-not-is_all-clause-rules
+returns-then-not-is_all-clause-rules g c = λ yes. absurd (both_ways false refl yes)
+
+pub returns-then-not-is_all-clause-none : goal.returns-then-not-is_all-clause-none
+returns-then-not-is_all-clause-none g c = λ yes. absurd (both_ways false refl yes)
+
+pub returns-else-not-is_all-clause-shows : goal.returns-else-not-is_all-clause-shows
+returns-else-not-is_all-clause-shows g c = λ image h.
+    let same = c.are_rules_changed.ensures.same c.if-are_rules_changed.false in
+    subst (λ (w : Bool). AreOpen image w (g.S.Shadows.slots c.args.shadows.now c.args.ram.now)) (sym same.0) h
+
+pub returns-else-not-is_all-clause-opens : goal.returns-else-not-is_all-clause-opens
+returns-else-not-is_all-clause-opens g c = λ image h.
+    let same = c.are_rules_changed.ensures.same c.if-are_rules_changed.false in
+    subst (λ (w : Bool). AllOpen image w (g.S.Shadows.asides c.args.shadows.now c.args.ram.now)) (sym same.0) h
+
+pub returns-else-not-is_all-clause-left : goal.returns-else-not-is_all-clause-left
+returns-else-not-is_all-clause-left g c = λ no. absurd (both_ways _ no (sym c.is_all.ensures ∙ c.if-not-is_all.false))
+
+pub returns-else-not-is_all-clause-lost : goal.returns-else-not-is_all-clause-lost
+returns-else-not-is_all-clause-lost g c = λ yes. absurd (both_ways false refl yes)
+
+pub returns-else-not-is_all-clause-rules : goal.returns-else-not-is_all-clause-rules
+returns-else-not-is_all-clause-rules g c = λ yes. absurd (both_ways false refl yes)
+
+pub returns-else-not-is_all-clause-none : goal.returns-else-not-is_all-clause-none
+returns-else-not-is_all-clause-none g c = λ yes. absurd (both_ways false refl yes)

@@ -1,13 +1,79 @@
-use Rattle.std.proofs.Common.{false, sym, ◌∙◌, arith}
+use Rattle.std.proofs.Common.{◌≡◌, ℕ, ◌≤◌, List, length, Bool, true, false, sym, subst, ◌∙◌, arith}
+use Rattle.std.proofs.lemmas.Bool.{both_ways, ltb-true, ltb-false}
+use Rattle.frame_pool.specs.Pool.{free_list}
 use Rattle.frame_pool.proofs.Held.{Owns-moves}
 use Rattle.guest_ram.specs.Among.{is_among}
 use Rattle.wedge_step.proofs.Memories.{front_same, shown_same}
-use Rattle.wedge_step.proofs.Opening.{some_open}
+use Rattle.shadow_tables.specs.Aside.{Aside}
+use Rattle.wedge_step.specs.Ready.{AllOpen}
+use Rattle.wedge_step.proofs.Opening.{none_open, some_open}
 use Rattle.wedge_step.proofs.Readying.{fewer_ready, none_ready, none_pages}
 use Rattle.wedge_step.proofs.Returning.{fewer_pages, some_part, chosen_out}
 use Rattle.wedge_step.proofs.Shedding.{same_shed, open_shed}
 use Rattle.wedge_step.proofs.Leaving.{stays_by}
+use Rattle.wedge_step.proofs.close.make_way.Given.{Over}
 use Rattle.wedge_step.proofs.close.make_way.Goals as goal
+use Rattle.wedge_step.proofs.close.make_way.Goals.{then-wanted, else-wanted}
+
+-- all was dropped: notes are wanted, or frames lack
+lacking : (g : Over) (c : goal.After-drop_all g) → c.args.wanted ≡ false → 2 ≤ length (free_list c.args.pool.now c.args.ram.now) → ⊥
+lacking g c unwanted enough =
+    elim c.if-wanted.branch [
+      | then-wanted w ↦ both_ways c.args.wanted unwanted w.if-wanted.true
+      | else-wanted w ↦ (let short = ltb-true _ _ (sym w.value-is ∙ c.if-free-lt2.true) in let count = w.free.ensures.count c.args.ram.now in omega (arith, short, count, enough))
+    ]
+
+-- it wasn't: no notes are wanted, and frames are free
+unwanted : (g : Over) (c : goal.After-drop_pages g) → c.args.wanted ≡ false
+unwanted g c =
+    elim c.if-wanted.branch [
+      | then-wanted w ↦ absurd (both_ways c.if-wanted.value c.if-free-lt2.false (w.value-is ∙ w.if-wanted.true))
+      | else-wanted w ↦ w.if-wanted.false
+    ]
+
+spare : (g : Over) (c : goal.After-drop_pages g) (m : List ℕ) → 2 ≤ length (free_list c.args.pool.now m)
+spare g c m =
+    elim c.if-wanted.branch [
+      | then-wanted w ↦ absurd (both_ways c.if-wanted.value c.if-free-lt2.false (w.value-is ∙ w.if-wanted.true))
+      | else-wanted w ↦ (let enough = ltb-false _ _ (sym w.value-is ∙ c.if-free-lt2.false) in let count = w.free.ensures.count m in omega (arith, enough, count))
+    ]
+
+pub returns-then-free-lt2-clause-room : goal.returns-then-free-lt2-clause-room
+returns-then-free-lt2-clause-room g c =
+    let two = c.drop_all.ensures.two in let lengths = c.drop_all.ensures.moves.lengths in let enough = c.requires.enough in omega (arith, two, lengths, enough)
+
+pub returns-then-free-lt2-clause-stay : goal.returns-then-free-lt2-clause-stay
+returns-then-free-lt2-clause-stay g c = λ unwished enough. absurd (lacking g c unwished enough)
+
+pub returns-then-free-lt2-clause-gone : goal.returns-then-free-lt2-clause-gone
+returns-then-free-lt2-clause-gone g c = λ unwished enough. absurd (lacking g c unwished enough)
+
+pub returns-then-free-lt2-clause-stays : goal.returns-then-free-lt2-clause-stays
+returns-then-free-lt2-clause-stays g c = λ unwished enough. absurd (lacking g c unwished enough)
+
+pub returns-then-free-lt2-clause-shows : goal.returns-then-free-lt2-clause-shows
+returns-then-free-lt2-clause-shows g c = λ image wp h. none_open image wp (g.S.Shadows.slots c.drop_all.new.self c.drop_all.new.ram) c.drop_all.ensures.none
+
+pub returns-then-free-lt2-clause-opens : goal.returns-then-free-lt2-clause-opens
+returns-then-free-lt2-clause-opens g c = λ image wp h. subst (λ (l : List Aside). AllOpen image wp l) (sym c.drop_all.ensures.asides) tt
+
+pub returns-else-free-lt2-clause-room : goal.returns-else-free-lt2-clause-room
+returns-else-free-lt2-clause-room g c = spare g c c.drop_pages.new.ram
+
+pub returns-else-free-lt2-clause-none : goal.returns-else-free-lt2-clause-none
+returns-else-free-lt2-clause-none g c = λ yes. absurd (both_ways c.args.wanted (unwanted g c) yes)
+
+pub returns-else-free-lt2-clause-alone : goal.returns-else-free-lt2-clause-alone
+returns-else-free-lt2-clause-alone g c = λ yes. absurd (both_ways c.args.wanted (unwanted g c) yes)
+
+pub returns-else-free-lt2-clause-gone : goal.returns-else-free-lt2-clause-gone
+returns-else-free-lt2-clause-gone g c = λ unwished enough. c.drop_pages.ensures.gone
+
+pub returns-else-free-lt2-clause-stays : goal.returns-else-free-lt2-clause-stays
+returns-else-free-lt2-clause-stays g c = λ unwished enough. c.drop_pages.ensures.stays
+
+pub returns-else-free-lt2-clause-moves : goal.returns-else-free-lt2-clause-moves
+returns-else-free-lt2-clause-moves g c = c.drop_pages.ensures.moves c.args.pool.now c.requires.owns
 
 pub returns-else-free-lt2-clause-ready : goal.returns-else-free-lt2-clause-ready
 returns-else-free-lt2-clause-ready g c = λ m cpu low h.

@@ -1,4 +1,5 @@
-use Rattle.std.proofs.Common.{◌≡◌, true, false, ap, arith}
+use Rattle.std.proofs.Common.{◌≡◌, true, false, refl, ap, arith}
+use Rattle.std.proofs.lemmas.Bool.{both_ways}
 use Rattle.wedge_step.proofs.Filling.{fills_fewer}
 use Rattle.wedge_step.proofs.single.keep.Goals as goal
 
@@ -22,3 +23,13 @@ returns-in-None-clause-opened g c = λ indices all o. c.close-settled.ensures.op
 
 pub returns-in-Some-clause-opened : goal.returns-in-Some-clause-opened
 returns-in-Some-clause-opened g c = λ indices all o. c.close-settled.ensures.opened indices all o
+
+pub returns-in-None-clause-whole : goal.returns-in-None-clause-whole
+returns-in-None-clause-whole g c = λ may.
+    let whole = rw c.side_of-side.ensures at c.close-settled.ensures.whole in
+    absurd (both_ways (Rattle.std.specs.Prelude.is_none c.close-settled.result) (whole may).0 (ap Rattle.std.specs.Prelude.is_none c.in-None.is))
+
+pub returns-in-Some-clause-whole : goal.returns-in-Some-clause-whole
+returns-in-Some-clause-whole g c = λ may.
+    let whole = rw c.side_of-side.ensures at c.close-settled.ensures.whole in
+    (refl, (whole may).1)

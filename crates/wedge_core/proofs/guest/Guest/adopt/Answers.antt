@@ -37,3 +37,21 @@ returns-clause-filled g c =
     let r = c.in_ok-running.running in
     subst (λ (l : List ℕ). IsFilled (pages_kept roots.slots roots.asides r.shadows l) r.fills) (sym (g.met.H.Host.bytes_changed c.args.host.now c.adopt_in.new.ram))
     (none_kept (pages_kept roots.slots roots.asides r.shadows c.adopt_in.new.ram) r.fills c.in_ok-running.ensures.none)
+
+pub returns-clause-started : goal.returns-clause-started
+returns-clause-started g c = g.met.H.Host.started_so c.args.host.now c.adopt_in.new.ram
+
+pub returns-in_err-running-clause-started : goal.returns-in_err-running-clause-started
+returns-in_err-running-clause-started g c = g.met.H.Host.started_so c.args.host.now c.adopt_in.new.ram
+
+pub returns-clause-retired : goal.returns-clause-retired
+returns-clause-retired g c = g.met.H.Host.retired_stays c.args.host.now c.adopt_in.new.ram
+
+pub returns-in_err-running-clause-retired : goal.returns-in_err-running-clause-retired
+returns-in_err-running-clause-retired g c = g.met.H.Host.retired_stays c.args.host.now c.adopt_in.new.ram
+
+pub returns-clause-passed : goal.returns-clause-passed
+returns-clause-passed g c = g.met.H.Host.passed_stays c.args.host.now c.adopt_in.new.ram
+
+pub returns-in_err-running-clause-passed : goal.returns-in_err-running-clause-passed
+returns-in_err-running-clause-passed g c = g.met.H.Host.passed_stays c.args.host.now c.adopt_in.new.ram

@@ -28,3 +28,21 @@ invariant_of-self g c =
       going = going_first (λ m. entries_of (s u.shadows m)) (4096 * base_of u.pool) (λ m. (∥ g.S.Shadows.stands u.shadows m ∥₁) × Owns u.pool m (f u.shadows m)) u.ram p old.step.state.control begins
           room.0 room.1 among (both c.settle-count.ensures.stands c.settle-count.ensures.owns) (left_within c.settle-count.result after (changed before old.step.state.changes) frames kept sound.within);
     }
+
+pub returns-clause-count : goal.returns-clause-count
+returns-clause-count g c = rw c.state-state.ensures.state at c.settle-count.ensures.count
+
+pub returns-clause-entries : goal.returns-clause-entries
+returns-clause-entries g c = rw c.state-state.ensures.state at c.settle-count.ensures.entries
+
+pub returns-clause-noted : goal.returns-clause-noted
+returns-clause-noted g c = rw c.state-state.ensures.state at c.settle-count.ensures.noted
+
+pub returns-clause-noted_only : goal.returns-clause-noted_only
+returns-clause-noted_only g c = rw c.state-state.ensures.state at c.settle-count.ensures.noted_only
+
+pub returns-clause-marked : goal.returns-clause-marked
+returns-clause-marked g c = rw c.state-state.ensures.state at c.settle-count.ensures.marked
+
+pub returns-clause-asides : goal.returns-clause-asides
+returns-clause-asides g c = rw c.state-state.ensures.state at c.settle-count.ensures.asides
