@@ -1,8 +1,8 @@
-//! Standard output over a writer that takes little, is interrupted and fails.
+//! Standard output over a writer that takes little, is interrupted and fails, and a file over such a reader.
 
-use pv_io::{Sink, StdSink};
+use pv_io::{IoAnswer, Sink, StdSink, read_all};
 use std::alloc::Global;
-use std::io::{self, Error, ErrorKind, Write};
+use std::io::{self, Error, ErrorKind, Read, Write};
 
 /// Takes one byte a write, up to its room, and is interrupted before each of some.
 #[derive(Drop)]
@@ -75,5 +75,74 @@ fn is_written(alloc: Global, row: &Piece) -> bool {
 fn a_piece_is_written_whole_or_is_a_fault(rt: HostRuntime) {
     for (k, row) in PIECES.iter().enumerate() {
         assert!(rt; is_written(rt.alloc(), row), "{k}");
+    }
+}
+
+/// Gives one byte a read, as many as are left, and is interrupted before each of some.
+#[derive(Drop)]
+struct Drops {
+    left: u8,
+    interrupts: u8,
+    end: Option<ErrorKind>,
+}
+
+impl Read for Drops {
+    fn read(&mut self, buf: &mut [u8]) -> io::Result<usize> {
+        if self.interrupts > 0 {
+            self.interrupts -= 1;
+            return Err(Error::from(ErrorKind::Interrupted));
+        }
+        if self.left == 0 {
+            return match self.end {
+                None => Ok(0),
+                Some(kind) => Err(Error::from(kind)),
+            };
+        }
+        if buf.is_empty() {
+            return Ok(0);
+        }
+        buf[0] = self.left;
+        self.left -= 1;
+        Ok(1)
+    }
+}
+
+/// How many bytes there are and what comes then, the limit, and the bytes that are read; none where that fails.
+type File = (u8, Option<ErrorKind>, u64, Option<&'static [u8]>);
+
+const FILES: [File; 6] = [
+    (3, None, 3, Some(&[3, 2, 1])),
+    (3, None, 2, None),
+    (0, None, 0, Some(&[])),
+    (1, None, 0, None),
+    (3, None, 8, Some(&[3, 2, 1])),
+    // It fails in the midst.
+    (3, Some(ErrorKind::Other), 8, None),
+];
+
+/// Whether a file is read so that is interrupted so often.
+fn is_read(alloc: Global, row: &File, interrupts: u8) -> bool {
+    let (left, end, limit, want) = *row;
+    if limit > 8 {
+        return false;
+    }
+    let file = Drops {
+        left,
+        interrupts,
+        end,
+    };
+    match read_all(alloc, file, limit) {
+        Ok(bytes) => want == Some(bytes.as_slice()),
+        Err(IoAnswer::Failed) => want.is_none(),
+        Err(IoAnswer::Memory) => false,
+    }
+}
+
+#[test]
+fn a_file_is_read_up_to_its_limit_or_is_a_fault(rt: HostRuntime) {
+    for (k, row) in FILES.iter().enumerate() {
+        for interrupts in 0..3u8 {
+            assert!(rt; is_read(rt.alloc(), row, interrupts), "row {k}, {interrupts}");
+        }
     }
 }

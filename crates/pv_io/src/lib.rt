@@ -9,11 +9,8 @@ mod memory_sinks;
 mod sink;
 
 pub use answer::{Failed, IoAnswer};
-pub use disk::{DiskFiles, StdSink};
+pub use disk::{DiskFiles, StdSink, read_all};
 pub use files::Files;
 pub use memory::{MemFiles, SureFiles};
 pub use memory_sinks::{MemSink, SureSink};
 pub use sink::Sink;
-
-#[cfg(test)]
-mod stream_tests;
