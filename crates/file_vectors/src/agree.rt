@@ -25,7 +25,6 @@ pub fn put_times(bytes: &mut Vec<u8>, piece: &[u8], count: u32) -> Result<(), Al
 }
 
 /// Something that an image holds.
-#[derive(Clone, Copy)]
 pub enum Held {
     Text(&'static [u8]),
     TextLength(usize),
@@ -39,24 +38,24 @@ pub enum Held {
     Sites(&'static [u8]),
 }
 
-fn is_held(image: &Image, held: Held) -> bool {
+fn is_held(image: &Image, held: &Held) -> bool {
     match held {
-        Held::Text(bytes) => image.text.as_slice() == bytes,
-        Held::TextLength(len) => image.text.len() == len,
-        Held::Init(bytes) => image.init.as_slice() == bytes,
-        Held::InitLength(len) => image.init.len() == len,
-        Held::InitByte(at, byte) => image.init.get(at).copied() == Some(byte),
-        Held::Bss(len) => image.bss == len,
-        Held::Entry(at) => image.entry == at,
-        Held::TextAt(at) => image.text_at == at,
-        Held::InitAt(at) => image.init_at == at,
-        Held::Sites(bytes) => image.sites.as_slice() == bytes,
+        Held::Text(bytes) => image.text.as_slice() == *bytes,
+        Held::TextLength(len) => image.text.len() == *len,
+        Held::Init(bytes) => image.init.as_slice() == *bytes,
+        Held::InitLength(len) => image.init.len() == *len,
+        Held::InitByte(at, byte) => image.init.get(*at) == Some(byte),
+        Held::Bss(len) => image.bss == *len,
+        Held::Entry(at) => image.entry == *at,
+        Held::TextAt(at) => image.text_at == *at,
+        Held::InitAt(at) => image.init_at == *at,
+        Held::Sites(bytes) => image.sites.as_slice() == *bytes,
     }
 }
 
 /// The image holds all of these.
 pub fn are_held(rt: &impl Abort, image: &Image, all: &[Held]) {
     for (k, held) in all.iter().enumerate() {
-        assert!(rt; is_held(image, *held), "{k}");
+        assert!(rt; is_held(image, held), "{k}");
     }
 }

@@ -35,34 +35,26 @@ fn is_worked(alloc: Global, bytes: &[u8], format: u8) -> bool
     }
 }
 
-#[test]
-fn writes_the_worked_annotations(rt: HostRuntime) {
-    let sites = Sites {
-        list: Vec::from_slice(rt.alloc(), &OUT_AND_HLT).expect(&rt, "memory"),
-        format: 1,
-    };
-    let bytes = write_sites(rt.alloc(), &sites).expect(&rt, "memory");
-    are_bytes(&rt, &bytes, WORKED_SITES);
-}
-
-#[test]
-fn reads_the_worked_annotations(rt: HostRuntime) {
-    assert!(rt; is_worked(rt.alloc(), WORKED_SITES, 1));
-}
-
 /// The same sites by their gaps.
 const GAPS: &[u8] = b"PVS2\x02\0\0\0\x07\0\0\x14\x01\0\0\0\x04\x01";
 
 #[test]
-fn writes_and_reads_the_gaps(rt: HostRuntime) {
+fn worked_annotations_are_written_and_read(rt: HostRuntime) {
+    let alloc = rt.alloc();
     let sites = Sites {
-        list: Vec::from_slice(rt.alloc(), &OUT_AND_HLT).expect(&rt, "memory"),
+        list: Vec::from_slice(alloc, &OUT_AND_HLT).expect(&rt, "memory"),
+        format: 1,
+    };
+    let bytes = write_sites(alloc, &sites).expect(&rt, "memory");
+    are_bytes(&rt, &bytes, WORKED_SITES);
+    let sites = Sites {
+        list: Vec::from_slice(alloc, &OUT_AND_HLT).expect(&rt, "memory"),
         format: 2,
     };
     assert!(rt; are_gapped(&sites.list));
-    let bytes = write_sites(rt.alloc(), &sites).expect(&rt, "memory");
+    let bytes = write_sites(alloc, &sites).expect(&rt, "memory");
     are_bytes(&rt, &bytes, GAPS);
-    assert!(rt; is_worked(rt.alloc(), GAPS, 2));
+    assert!(rt; is_worked(alloc, WORKED_SITES, 1) && is_worked(alloc, GAPS, 2));
 }
 
 /// A number of sites, the head that tells it, and what read_sites answers.
@@ -93,18 +85,11 @@ fn counted(alloc: Global, head: &[u8], count: u32) -> Result<Vec<u8>, AllocError
     Ok(bytes)
 }
 
-fn is_counted(alloc: Global, row: &Counted) -> bool {
-    let (count, head, want) = *row;
-    match counted(alloc, head, count) {
-        Ok(bytes) => answer(alloc, &bytes) == want,
-        Err(AllocError) => false,
-    }
-}
-
 #[test]
 fn ends_have_four_bytes(rt: HostRuntime) {
-    for (k, row) in COUNTED.iter().enumerate() {
-        assert!(rt; is_counted(rt.alloc(), row), "row {k}");
+    for (k, (count, head, want)) in COUNTED.iter().enumerate() {
+        let bytes = counted(rt.alloc(), head, *count).expect(&rt, "memory");
+        assert!(rt; answer(rt.alloc(), &bytes) == *want, "row {k}");
     }
 }
 

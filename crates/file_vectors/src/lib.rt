@@ -1,5 +1,5 @@
-//! Files, annotations and lines against bytes that other tools made or read, and worked examples of each reader, writer and
-//! refusal.
+//! Sources, files, annotations and lines against bytes that other tools made or read, and worked examples of each reader, writer
+//! and refusal.
 #![tactic(auto)]
 
 #[cfg(test)]
@@ -7,9 +7,19 @@ mod agree;
 #[cfg(test)]
 mod annotations;
 #[cfg(test)]
+mod burnt;
+#[cfg(test)]
+mod damaged;
+#[cfg(test)]
 mod fakes;
 #[cfg(test)]
+mod gcc;
+#[cfg(test)]
 mod images;
+#[cfg(test)]
+mod instructions;
+#[cfg(test)]
+mod items;
 #[cfg(test)]
 mod lines;
 #[cfg(test)]
@@ -23,7 +33,11 @@ mod objects;
 #[cfg(test)]
 mod refusals;
 #[cfg(test)]
+mod statements;
+#[cfg(test)]
 mod streams;
+#[cfg(test)]
+mod tokens;
 #[cfg(test)]
 mod vectors;
 #[cfg(test)]

@@ -8,35 +8,6 @@ use pv_io::MemSink;
 use run_trace::{End, Ended, Item, NoNotes, Notes, StepItems, What, put_end, put_item, put_step};
 use std::alloc::{AllocError, Global};
 
-const ITEMS: [(u64, What, &str); 7] = [
-    (2, What::Out8(0x3f8, 0x48), "2 out8 03f8 48\n"),
-    (2, What::Sent(0x48), "2 tx 48\n"),
-    (8, What::Out32(0x80, 0x101063), "8 out32 0080 00101063\n"),
-    (6, What::In8(0x3fd, 0x61), "6 in8 03fd 61\n"),
-    (0, What::In32(0xabcd, 0xf00d_00ef), "0 in32 abcd f00d00ef\n"),
-    (29, What::Irq(0x20), "29 irq 20\n"),
-    (1_099_511_627_776, What::Sent(0), "1099511627776 tx 00\n"),
-];
-
-const STOPS: [(Stop, &str); 16] = [
-    (Stop::Unsupported, "end steps 0 stop 1 Unsupported\n"),
-    (Stop::BeyondRam, "end steps 1 stop 2 BeyondRam\n"),
-    (Stop::WrapAccess, "end steps 2 stop 3 WrapAccess\n"),
-    (Stop::DeliveryFailed, "end steps 3 stop 4 DeliveryFailed\n"),
-    (Stop::ControlBits, "end steps 4 stop 5 ControlBits\n"),
-    (Stop::DeviceUse, "end steps 5 stop 6 DeviceUse\n"),
-    (Stop::FlagBits, "end steps 6 stop 7 FlagBits\n"),
-    (Stop::SegmentForm, "end steps 7 stop 8 SegmentForm\n"),
-    (Stop::TextTouched, "end steps 8 stop 9 TextTouched\n"),
-    (Stop::WedgeTouched, "end steps 9 stop 10 WedgeTouched\n"),
-    (Stop::LowTouched, "end steps 10 stop 11 LowTouched\n"),
-    (Stop::NotAStart, "end steps 11 stop 12 NotAStart\n"),
-    (Stop::TextMapped, "end steps 12 stop 13 TextMapped\n"),
-    (Stop::TableInText, "end steps 13 stop 14 TableInText\n"),
-    (Stop::UserFlags, "end steps 14 stop 15 UserFlags\n"),
-    (Stop::CodeIsTable, "end steps 15 stop 16 CodeIsTable\n"),
-];
-
 /// What has a line.
 #[derive(Clone, Copy)]
 enum Line {
@@ -60,45 +31,116 @@ fn is_line(alloc: Global, line: &Line, text: &str) -> bool {
     }
 }
 
+macro_rules! item {
+    ($step:literal, $what:expr) => {
+        Line::Item(Item { step: $step, what: $what })
+    };
+}
+
+macro_rules! end {
+    ($steps:literal, $end:expr, $fills:literal) => {
+        Line::End(Ended { steps: $steps, end: $end, fills: $fills })
+    };
+}
+
+static LINES: [(Line, &str); 24] = [
+    (item!(2, What::Out8(0x3f8, 0x48)), "2 out8 03f8 48\n"),
+    (item!(2, What::Sent(0x48)), "2 tx 48\n"),
+    (
+        item!(8, What::Out32(0x80, 0x101063)),
+        "8 out32 0080 00101063\n",
+    ),
+    (item!(6, What::In8(0x3fd, 0x61)), "6 in8 03fd 61\n"),
+    (
+        item!(0, What::In32(0xabcd, 0xf00d_00ef)),
+        "0 in32 abcd f00d00ef\n",
+    ),
+    (item!(29, What::Irq(0x20)), "29 irq 20\n"),
+    (
+        item!(1_099_511_627_776, What::Sent(0)),
+        "1099511627776 tx 00\n",
+    ),
+    (
+        end!(0, End::Stopped(Stop::Unsupported), 7),
+        "end steps 0 stop 1 Unsupported\n",
+    ),
+    (
+        end!(1, End::Stopped(Stop::BeyondRam), 7),
+        "end steps 1 stop 2 BeyondRam\n",
+    ),
+    (
+        end!(2, End::Stopped(Stop::WrapAccess), 7),
+        "end steps 2 stop 3 WrapAccess\n",
+    ),
+    (
+        end!(3, End::Stopped(Stop::DeliveryFailed), 7),
+        "end steps 3 stop 4 DeliveryFailed\n",
+    ),
+    (
+        end!(4, End::Stopped(Stop::ControlBits), 7),
+        "end steps 4 stop 5 ControlBits\n",
+    ),
+    (
+        end!(5, End::Stopped(Stop::DeviceUse), 7),
+        "end steps 5 stop 6 DeviceUse\n",
+    ),
+    (
+        end!(6, End::Stopped(Stop::FlagBits), 7),
+        "end steps 6 stop 7 FlagBits\n",
+    ),
+    (
+        end!(7, End::Stopped(Stop::SegmentForm), 7),
+        "end steps 7 stop 8 SegmentForm\n",
+    ),
+    (
+        end!(8, End::Stopped(Stop::TextTouched), 7),
+        "end steps 8 stop 9 TextTouched\n",
+    ),
+    (
+        end!(9, End::Stopped(Stop::WedgeTouched), 7),
+        "end steps 9 stop 10 WedgeTouched\n",
+    ),
+    (
+        end!(10, End::Stopped(Stop::LowTouched), 7),
+        "end steps 10 stop 11 LowTouched\n",
+    ),
+    (
+        end!(11, End::Stopped(Stop::NotAStart), 7),
+        "end steps 11 stop 12 NotAStart\n",
+    ),
+    (
+        end!(12, End::Stopped(Stop::TextMapped), 7),
+        "end steps 12 stop 13 TextMapped\n",
+    ),
+    (
+        end!(13, End::Stopped(Stop::TableInText), 7),
+        "end steps 13 stop 14 TableInText\n",
+    ),
+    (
+        end!(14, End::Stopped(Stop::UserFlags), 7),
+        "end steps 14 stop 15 UserFlags\n",
+    ),
+    (
+        end!(15, End::Stopped(Stop::CodeIsTable), 7),
+        "end steps 15 stop 16 CodeIsTable\n",
+    ),
+    (end!(16, End::Bound, 0), "end steps 16\n"),
+];
+
 #[test]
-fn items_have_their_lines(rt: HostRuntime) {
-    for row in &ITEMS {
-        let (step, what, text) = *row;
-        let line = Line::Item(Item { step, what });
-        assert!(rt; is_line(rt.alloc(), &line, text), "{text}");
+fn items_and_ends_have_their_lines(rt: HostRuntime) {
+    for (line, text) in LINES.iter() {
+        assert!(rt; is_line(rt.alloc(), line, text), "{text}");
     }
-}
-
-/// An end after so many steps.
-fn ended(steps: u64, end: End, fills: u64) -> Line {
-    Line::End(Ended { steps, end, fills })
-}
-
-#[test]
-fn ends_have_their_lines(rt: HostRuntime) {
-    let mut steps = 0u64;
-    for row in &STOPS {
-        let (stop, text) = *row;
-        let line = ended(steps, End::Stopped(stop), 7);
-        assert!(rt; is_line(rt.alloc(), &line, text), "{text}");
-        steps = steps.saturating_add(1);
-    }
-    let line = ended(steps, End::Bound, 0);
-    assert!(rt; is_line(rt.alloc(), &line, "end steps 16\n"));
-}
-
-/// Whether of three lines the first and the third are taken.
-fn are_but_one_taken(out: &mut MemSink) -> bool {
-    let what = What::Irq(0x2f);
-    is_taken(out, &Line::Item(Item { step: 3, what }))
-        && !is_taken(out, &Line::Item(Item { step: 4, what }))
-        && is_taken(out, &ended(5, End::Bound, 0))
 }
 
 #[test]
 fn a_line_is_one_call_of_the_sink(rt: HostRuntime) {
     let mut out = sink(&rt, rt.alloc(), 64, &[1]);
-    assert!(rt; are_but_one_taken(&mut out) && out.faults() == 1);
+    let first = is_taken(&mut out, &item!(3, What::Irq(0x2f)));
+    let second = is_taken(&mut out, &item!(4, What::Irq(0x2f)));
+    let third = is_taken(&mut out, &end!(5, End::Bound, 0));
+    assert!(rt; first && !second && third && out.faults() == 1);
     are_bytes(&rt, out.bytes(), b"3 irq 2f\nend steps 5\n");
 }
 
@@ -119,19 +161,18 @@ fn out_and_sent() -> StepItems
 }
 
 #[test]
-fn a_step_has_a_line_for_each_item(rt: HostRuntime) {
-    let mut out = sink(&rt, rt.alloc(), 64, &[]);
+fn a_step_has_a_line_for_each_item_up_to_one_that_is_not_taken(rt: HostRuntime) {
+    let mut out = sink(&rt, rt.alloc(), 64, &[3]);
     assert!(rt; put_step(&StepItems::new(), &mut out).is_ok());
     are_bytes(&rt, out.bytes(), b"");
     assert!(rt; put_step(&out_and_sent(), &mut out).is_ok());
     are_bytes(&rt, out.bytes(), b"2 out8 03f8 48\n2 tx 48\n");
-}
-
-#[test]
-fn a_step_ends_at_a_line_that_is_not_taken(rt: HostRuntime) {
-    let mut out = sink(&rt, rt.alloc(), 64, &[1]);
     assert!(rt; put_step(&out_and_sent(), &mut out).is_err() && out.faults() == 1);
-    are_bytes(&rt, out.bytes(), b"2 out8 03f8 48\n");
+    are_bytes(
+        &rt,
+        out.bytes(),
+        b"2 out8 03f8 48\n2 tx 48\n2 out8 03f8 48\n",
+    );
 }
 
 #[test]

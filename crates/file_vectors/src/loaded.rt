@@ -14,7 +14,7 @@ use std::process::Abort;
 fn zeroed(rt: &impl Abort, alloc: Global, bss: u32) -> Checked {
     let mut parts = image(b"\xEB\xFE", NO_SITES);
     parts.bss = bss;
-    checked(rt, alloc, parts)
+    checked(rt, alloc, &parts)
 }
 
 // An image in a memory of so many frames, with what is told of it.
@@ -47,7 +47,6 @@ fn an_image_that_is_too_large_is_told(rt: HostRuntime) {
 }
 
 /// Something that holds where a machine starts.
-#[derive(Clone, Copy)]
 enum Shown {
     TextAt(u32),
     TextFrames(u32),
@@ -57,20 +56,20 @@ enum Shown {
     Word(u32, u32),
 }
 
-fn is_shown(ram: &Ram, boot: &Boot, shown: Shown) -> bool
+fn is_shown(ram: &Ram, boot: &Boot, shown: &Shown) -> bool
     requires { length ram.now ≡ 8388608 }
 {
     match shown {
-        Shown::TextAt(at) => boot.text_at == at,
-        Shown::TextFrames(count) => boot.text_frames == count,
-        Shown::FirstFree(at) => boot.first_free == at,
-        Shown::Eip(at) => boot.cpu.regs.eip == at,
-        Shown::Registers(registers) => boot.cpu.regs.r == registers,
-        Shown::Word(at, word) => at <= 0x7F_FFFC && ram.read32(at) == word,
+        Shown::TextAt(at) => boot.text_at == *at,
+        Shown::TextFrames(count) => boot.text_frames == *count,
+        Shown::FirstFree(at) => boot.first_free == *at,
+        Shown::Eip(at) => boot.cpu.regs.eip == *at,
+        Shown::Registers(registers) => boot.cpu.regs.r == *registers,
+        Shown::Word(at, word) => *at <= 0x7F_FFFC && ram.read32(*at) == *word,
     }
 }
 
-const SHOWN: [Shown; 18] = [
+static SHOWN: [Shown; 18] = [
     Shown::TextAt(0x10_0000),
     Shown::TextFrames(1),
     Shown::FirstFree(0x10_2000),
@@ -96,7 +95,7 @@ fn first_other(ram: &Ram, boot: &Boot, all: &[Shown]) -> Option<usize>
     requires { length ram.now ≡ 8388608 }
 {
     for (k, shown) in all.iter().enumerate() {
-        if !is_shown(ram, boot, *shown) {
+        if !is_shown(ram, boot, shown) {
             return Some(k);
         }
     }

@@ -53,21 +53,17 @@ pub fn symbol(alloc: Global, row: &Named) -> Result<Symbol, AllocError>
     })
 }
 
-fn symbols(alloc: Global, rows: &[Named]) -> Result<Vec<Symbol>, AllocError> {
-    let mut list = Vec::new(alloc);
-    for row in rows {
-        list.push(symbol(alloc, row)?)?;
-    }
-    Ok(list)
-}
-
 pub fn object(alloc: Global, parts: &Parts) -> Result<Object, AllocError> {
+    let mut symbols = Vec::new(alloc);
+    for row in parts.symbols {
+        symbols.push(symbol(alloc, row)?)?;
+    }
     Ok(Object {
         text: Vec::from_slice(alloc, parts.text)?,
         init: Vec::from_slice(alloc, parts.init)?,
         bss: parts.bss,
         sites: Vec::from_slice(alloc, parts.sites)?,
-        symbols: symbols(alloc, parts.symbols)?,
+        symbols,
         relocs: Vec::from_slice(alloc, parts.relocs)?,
     })
 }
@@ -95,7 +91,7 @@ fn is_symbol(object: &Object, number: usize, row: &Named) -> bool {
 }
 
 /// Whether these are all the symbols of the object.
-fn are_symbols(object: &Object, rows: &[Named]) -> bool {
+pub fn are_symbols(object: &Object, rows: &[Named]) -> bool {
     for (k, row) in rows.iter().enumerate() {
         if !is_symbol(object, k, row) {
             return false;

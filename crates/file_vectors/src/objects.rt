@@ -2,7 +2,8 @@
 
 use crate::agree::put_times;
 use crate::object_rows::{EMPTY, Parts, WORKED, reads_as};
-use crate::vectors::{GCC_OBJECT, NO_SITES, WORKED_OBJECT};
+use crate::vectors::{GCC_OBJECT, NO_SITES, SMALL_OBJECT, WORKED_OBJECT};
+use crate::written::SMALL;
 use elf_form::{DefinedIn, ElfCause, ElfFault, Reloc, read_object};
 use std::alloc::{AllocError, Global};
 
@@ -43,32 +44,32 @@ const GCC: Parts = Parts {
 };
 
 #[test]
-fn reads_an_object_of_gcc(rt: HostRuntime) {
+fn objects_of_other_tools_are_read(rt: HostRuntime) {
     reads_as(&rt, rt.alloc(), &GCC_OBJECT, &GCC);
-}
-
-#[test]
-fn reads_a_worked_object(rt: HostRuntime) {
     reads_as(&rt, rt.alloc(), &WORKED_OBJECT, &WORKED);
+    reads_as(&rt, rt.alloc(), &SMALL_OBJECT, &SMALL);
 }
 
-/// The place and the cause of the fault by which a file is refused; none where it is read.
-fn fault(alloc: Global, bytes: &[u8]) -> Option<(u32, ElfCause)> {
+/// Whether the file is refused at this place, by this cause.
+fn is_refused(alloc: Global, bytes: &[u8], at: u32, cause: ElfCause) -> bool {
     match read_object(alloc, bytes) {
-        Ok(_) => None,
-        Err(ElfFault::At { at, cause }) => Some((at, cause)),
-        Err(ElfFault::Memory) => Some((u32::MAX, ElfCause::Magic)),
+        Err(
+            ElfFault::At {
+                at: place,
+                cause: found,
+            },
+        ) => place == at && found == cause,
+        Ok(_) | Err(ElfFault::Memory) => false,
     }
 }
 
-/// Whether the file is refused so.
-fn is_refused(alloc: Global, bytes: &[u8], at: u32, cause: ElfCause) -> bool {
-    fault(alloc, bytes) == Some((at, cause))
-}
-
-/// The worked object with other bytes at some places.
-fn changed(alloc: Global, changes: &[(usize, &[u8])]) -> Result<Vec<u8>, AllocError> {
-    let mut bytes = Vec::from_slice(alloc, &WORKED_OBJECT)?;
+/// The file with other bytes at some places.
+pub fn changed(
+    alloc: Global,
+    file: &[u8],
+    changes: &[(usize, &[u8])],
+) -> Result<Vec<u8>, AllocError> {
+    let mut bytes = Vec::from_slice(alloc, file)?;
     for (at, with) in changes {
         for (index, byte) in with.iter().enumerate() {
             if let Some(place) = bytes.get_mut(at.wrapping_add(index)) {
@@ -98,57 +99,25 @@ const SPOILED: [Spoiled; 12] = [
     (126, 4, 126, ElfCause::SymbolForm),
 ];
 
-/// Whether the worked object with that byte is refused so.
-fn is_spoiled(alloc: Global, row: &Spoiled) -> bool {
-    let (index, byte, at, cause) = *row;
-    match changed(alloc, &[(index, [byte].as_slice())]) {
-        Ok(bytes) => is_refused(alloc, &bytes, at, cause),
-        Err(AllocError) => false,
-    }
-}
-
 #[test]
 fn names_the_first_fault(rt: HostRuntime) {
-    for (k, row) in SPOILED.iter().enumerate() {
-        assert!(rt; is_spoiled(rt.alloc(), row), "row {k}");
+    for (k, (index, byte, at, cause)) in SPOILED.iter().enumerate() {
+        let bytes = changed(rt.alloc(), &WORKED_OBJECT, &[(*index, [*byte].as_slice())]).expect(
+            &rt, "memory",
+        );
+        assert!(rt; is_refused(rt.alloc(), &bytes, *at, *cause), "row {k}");
     }
-}
-
-/// Whether the file is refused as one that ends too early.
-fn is_cut(alloc: Global, bytes: &[u8]) -> bool {
-    match fault(alloc, bytes) {
-        Some((_, cause)) => cause == ElfCause::Truncated,
-        None => false,
-    }
-}
-
-#[test]
-fn reads_no_cut_object(rt: HostRuntime) {
-    for len in 0..WORKED_OBJECT.len() {
-        assert!(rt; is_cut(rt.alloc(), &WORKED_OBJECT[..len]), "{len}");
-    }
-}
-
-/// The pieces, one behind the other.
-fn joined(alloc: Global, pieces: &[&[u8]]) -> Result<Vec<u8>, AllocError> {
-    let mut bytes = Vec::new(alloc);
-    for piece in pieces {
-        bytes.extend_from_slice(piece)?;
-    }
-    Ok(bytes)
 }
 
 /// The worked object with the header of the text first, the null one behind it; the symbol has index 0 (SHN_UNDEF).
 fn with_text_first(alloc: Global) -> Result<Vec<u8>, AllocError> {
-    joined(
+    changed(
         alloc,
+        &WORKED_OBJECT,
         &[
-            &WORKED_OBJECT[..126],
-            b"\0",
-            &WORKED_OBJECT[127..212],
-            &WORKED_OBJECT[252..292],
-            &WORKED_OBJECT[212..252],
-            &WORKED_OBJECT[292..],
+            (126, b"\0".as_slice()),
+            (212, &WORKED_OBJECT[252..292]),
+            (252, &WORKED_OBJECT[212..252]),
         ],
     )
 }
@@ -158,40 +127,37 @@ const UNDEFINED: Parts = Parts {
     ..WORKED
 };
 
-#[test]
-fn index_zero_names_no_section(rt: HostRuntime) {
-    let bytes = with_text_first(rt.alloc()).expect(&rt, "memory");
-    reads_as(&rt, rt.alloc(), &bytes, &UNDEFINED);
-}
-
-/// Headers from the tenth to the last of 65,535: that of number 0xFFF1 is one of zeroed bytes.
-fn put_headers(bytes: &mut Vec<u8>) -> Result<(), AllocError> {
-    put_times(bytes, &WORKED_OBJECT[212..252], 0xFFF1 - 10)?;
-    put_times(bytes, &WORKED_OBJECT[332..372], 1)?;
-    put_times(bytes, &WORKED_OBJECT[212..252], 0xFFFF - 0xFFF2)
-}
-
-/// The worked object with 65,535 headers. The symbol has index 0xFFF1 (SHN_ABS); the header of that number is one of
-/// zeroed bytes.
-fn with_all_headers(alloc: Global) -> Result<Vec<u8>, AllocError> {
-    let mut bytes = joined(
+/// The worked object's header alone, which names no section table, and a table of names that isn't there.
+fn without_sections(alloc: Global) -> Result<Vec<u8>, AllocError> {
+    let mut bytes = changed(
         alloc,
-        &[
-            &WORKED_OBJECT[..48],
-            b"\xFF\xFF",
-            &WORKED_OBJECT[50..126],
-            b"\xF1\xFF",
-            &WORKED_OBJECT[128..],
-        ],
+        &WORKED_OBJECT,
+        &[(32, [0, 0, 0, 0].as_slice()), (48, [0, 0, 7, 0].as_slice())],
     )?;
-    put_headers(&mut bytes)?;
+    bytes.truncate(52);
     Ok(bytes)
 }
 
 #[test]
-fn reserved_indices_name_no_section(rt: HostRuntime) {
-    let bytes = with_all_headers(rt.alloc()).expect(&rt, "memory");
-    assert!(rt; is_refused(rt.alloc(), &bytes, 126, ElfCause::SymbolForm));
+fn index_zero_names_no_section_and_there_may_be_none(rt: HostRuntime) {
+    let bytes = with_text_first(rt.alloc()).expect(&rt, "memory");
+    reads_as(&rt, rt.alloc(), &bytes, &UNDEFINED);
+    let bytes = without_sections(rt.alloc()).expect(&rt, "memory");
+    reads_as(&rt, rt.alloc(), &bytes, &EMPTY);
+}
+
+/// The worked object with 65,535 headers. The symbol has index 0xFFF1 (SHN_ABS); the header of that number is one of
+/// zeroed bytes, and those from the tenth to the last are null beside it.
+fn with_all_headers(alloc: Global) -> Result<Vec<u8>, AllocError> {
+    let mut bytes = changed(
+        alloc,
+        &WORKED_OBJECT,
+        &[(48, b"\xFF\xFF".as_slice()), (126, b"\xF1\xFF".as_slice())],
+    )?;
+    put_times(&mut bytes, &WORKED_OBJECT[212..252], 0xFFF1 - 10)?;
+    put_times(&mut bytes, &WORKED_OBJECT[332..372], 1)?;
+    put_times(&mut bytes, &WORKED_OBJECT[212..252], 0xFFFF - 0xFFF2)?;
+    Ok(bytes)
 }
 
 /// A field, its index, where the string table has its header, how many headers there are, and the fault's place.
@@ -216,38 +182,25 @@ fn with_index(alloc: Global, row: &Index) -> Option<Vec<u8>> {
     let (field, index, from, count, _) = *row;
     let header = header(from)?;
     let headers = count.to_le_bytes();
-    let mut bytes = changed(alloc, &[(field, index), (48, &headers), (212, header)]).ok()?;
+    let mut bytes = changed(
+        alloc,
+        &WORKED_OBJECT,
+        &[(field, index), (48, &headers), (212, header)],
+    )
+    .ok()?;
     put_times(&mut bytes, header, u32::from(count).saturating_sub(10)).ok()?;
     Some(bytes)
 }
 
-/// Whether that object is refused at the fault's place.
-fn is_no_index(alloc: Global, row: &Index) -> bool {
-    match with_index(alloc, row) {
-        Some(bytes) => is_refused(alloc, &bytes, row.4, ElfCause::StringPlace),
-        None => false,
-    }
-}
-
 #[test]
-fn indices_of_no_section_name_no_string_table(rt: HostRuntime) {
+fn reserved_indices_and_index_zero_name_no_section_and_no_string_table(rt: HostRuntime) {
+    let bytes = with_all_headers(rt.alloc()).expect(&rt, "memory");
+    assert!(rt; is_refused(rt.alloc(), &bytes, 126, ElfCause::SymbolForm));
     for (k, row) in INDICES.iter().enumerate() {
-        assert!(rt; is_no_index(rt.alloc(), row), "row {k}");
+        let bytes = with_index(rt.alloc(), row).expect(&rt, "memory");
+        assert!(rt;
+            is_refused(rt.alloc(), &bytes, row.4, ElfCause::StringPlace),
+            "row {k}"
+        );
     }
-}
-
-/// The worked object's header alone, which names no section table, and a table of names that isn't there.
-fn without_sections(alloc: Global) -> Result<Vec<u8>, AllocError> {
-    let mut bytes = changed(
-        alloc,
-        &[(32, [0, 0, 0, 0].as_slice()), (48, [0, 0, 7, 0].as_slice())],
-    )?;
-    bytes.truncate(52);
-    Ok(bytes)
-}
-
-#[test]
-fn an_object_without_sections_is_read(rt: HostRuntime) {
-    let bytes = without_sections(rt.alloc()).expect(&rt, "memory");
-    reads_as(&rt, rt.alloc(), &bytes, &EMPTY);
 }

@@ -142,7 +142,10 @@ fn is_read(alloc: Global, row: &File, interrupts: u8) -> bool {
 fn a_file_is_read_up_to_its_limit_or_is_a_fault(rt: HostRuntime) {
     for (k, row) in FILES.iter().enumerate() {
         for interrupts in 0..3u8 {
-            assert!(rt; is_read(rt.alloc(), row, interrupts), "row {k}, {interrupts}");
+            assert!(rt;
+                is_read(rt.alloc(), row, interrupts),
+                "row {k}, {interrupts}"
+            );
         }
     }
 }

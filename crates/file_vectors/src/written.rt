@@ -4,12 +4,11 @@ ghost use Rattle.std.specs.Prelude.{IfOk};
 ghost use Rattle.elf_form.specs.ImageLayout.{IsWritableImage};
 ghost use Rattle.elf_form.specs.ObjectLayout.{IsWritableObject};
 
-use crate::agree::{Held, are_bytes, are_held};
-use crate::object_rows::{Named, Parts, reads_as, symbol};
+use crate::agree::{Held, are_bytes, are_held, put_times};
+use crate::object_rows::{Named, Parts, symbol};
 use crate::vectors::{SMALL_IMAGE_HEAD, SMALL_IMAGE_TAIL, SMALL_OBJECT};
 use elf_form::{DefinedIn, Image, Object, Reloc, read_image, write_image, write_object};
 use std::alloc::{AllocError, Global};
-use std::process::Abort;
 
 const SITES: &[u8] = b"PVS1\x01\0\0\0\0\0\0\0\x01\x01\x05\0";
 
@@ -47,7 +46,8 @@ const RELOCS: &[Reloc] = &[
     },
 ];
 
-static SMALL: Parts = Parts {
+/// What it has.
+pub const SMALL: Parts = Parts {
     text: TEXT,
     init: INIT,
     bss: 8,
@@ -81,11 +81,6 @@ fn writes_an_object_that_other_tools_read(rt: HostRuntime) {
     are_bytes(&rt, &bytes, &SMALL_OBJECT);
 }
 
-#[test]
-fn reads_the_small_object(rt: HostRuntime) {
-    reads_as(&rt, rt.alloc(), &SMALL_OBJECT, &SMALL);
-}
-
 const IMAGE_TEXT: &[u8] = &[0xFA, 0x90, 0x90, 0x90, 0x90, 0xEB, 0xFE];
 
 fn small_image(alloc: Global) -> Result<Image, AllocError>
@@ -102,64 +97,17 @@ fn small_image(alloc: Global) -> Result<Image, AllocError>
     })
 }
 
-/// The file of the small image.
-fn small_file(rt: &impl Abort, alloc: Global) -> Vec<u8> {
-    let image = small_image(alloc).expect(rt, "memory");
-    write_image(alloc, &image).expect(rt, "memory")
+/// The file of the small image: what stands before its text and from its data on, and the text, with zeros between.
+fn small_file(alloc: Global) -> Result<Vec<u8>, AllocError> {
+    let mut file = Vec::from_slice(alloc, &SMALL_IMAGE_HEAD)?;
+    put_times(&mut file, b"\0", 4096 - 116)?;
+    file.extend_from_slice(IMAGE_TEXT)?;
+    put_times(&mut file, b"\0", 8192 - 4103)?;
+    file.extend_from_slice(&SMALL_IMAGE_TAIL)?;
+    Ok(file)
 }
 
-/// Whether those bytes stand at an offset of the file.
-fn stands(file: &[u8], at: usize, want: &[u8]) -> bool {
-    match file.get(at..) {
-        Some(rest) => rest.starts_with(want),
-        None => false,
-    }
-}
-
-/// Whether each byte of the file from one offset to another is zero.
-fn is_filler(file: &[u8], from: usize, to: usize) -> bool {
-    match file.get(from..to) {
-        Some(bytes) => are_zero(bytes),
-        None => false,
-    }
-}
-
-fn are_zero(bytes: &[u8]) -> bool {
-    for b in bytes {
-        if *b != 0 {
-            return false;
-        }
-    }
-    true
-}
-
-/// The first offset from which on the file isn't the small image's.
-fn other_from(file: &[u8]) -> Option<usize> {
-    if !stands(file, 0, &SMALL_IMAGE_HEAD) {
-        return Some(0);
-    }
-    if !is_filler(file, 116, 4096) {
-        return Some(116);
-    }
-    if !stands(file, 4096, IMAGE_TEXT) {
-        return Some(4096);
-    }
-    if !is_filler(file, 4103, 8192) {
-        return Some(4103);
-    }
-    if !stands(file, 8192, &SMALL_IMAGE_TAIL) || file.len() != 8492 {
-        return Some(8192);
-    }
-    None
-}
-
-#[test]
-fn writes_an_image_that_other_tools_read(rt: HostRuntime) {
-    let file = small_file(&rt, rt.alloc());
-    assert_eq!(rt; other_from(&file), None);
-}
-
-const HELD: [Held; 7] = [
+static HELD: [Held; 7] = [
     Held::Text(IMAGE_TEXT),
     Held::Init(&[1, 2, 3]),
     Held::Bss(9),
@@ -170,8 +118,11 @@ const HELD: [Held; 7] = [
 ];
 
 #[test]
-fn reads_an_image_that_it_wrote(rt: HostRuntime) {
-    let file = small_file(&rt, rt.alloc());
-    let image = read_image(rt.alloc(), &file).expect(&rt, "an image");
+fn writes_an_image_that_other_tools_read_and_reads_it(rt: HostRuntime) {
+    let alloc = rt.alloc();
+    let image = small_image(alloc).expect(&rt, "memory");
+    let file = write_image(alloc, &image).expect(&rt, "memory");
+    are_bytes(&rt, &file, &small_file(alloc).expect(&rt, "memory"));
+    let image = read_image(alloc, &file).expect(&rt, "an image");
     are_held(&rt, &image, &HELD);
 }

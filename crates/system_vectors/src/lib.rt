@@ -13,6 +13,8 @@ mod deliveries;
 #[cfg(test)]
 mod flags;
 #[cfg(test)]
+mod forms;
+#[cfg(test)]
 mod loads;
 #[cfg(test)]
 mod moves;

@@ -1,9 +1,7 @@
 //! Kernels from their sources: `burn`, `link`, `check`, and runs of the image on both machines.
 
-use crate::commands::{Step, Words, file, follow};
+use crate::commands::{BURN, CHECK, LINK, Step, follow};
 use crate::machines::Prints;
-use image_check::{Checked, check};
-use pv_io::MemFiles;
 use std::alloc::Global;
 use std::process::Abort;
 
@@ -17,49 +15,6 @@ struct Kernel<'a> {
     script: &'a [u8],
     bound: &'a str,
     prints: Prints<'a>,
-}
-
-pub const BURN: Words<'static> = &["burn", "S", "O"];
-
-pub const LINK: Words<'static> = &["link", "I", "O"];
-
-pub const CHECK: Words<'static> = &["check", "I"];
-
-/// Files with a source S, its object O and image I, and an empty script B.
-pub fn linked(rt: &impl Abort, alloc: Global, source: &[u8]) -> MemFiles {
-    let steps = [
-        Step::Store("S", source),
-        Step::Store("B", b""),
-        Step::Do(BURN),
-        Step::Do(LINK),
-    ];
-    follow(rt, alloc, 0, &steps)
-}
-
-/// The image of a source.
-pub fn image_of(rt: &impl Abort, alloc: Global, source: &[u8]) -> Checked {
-    let mut files = linked(rt, alloc, source);
-    let bytes = file(rt, alloc, &mut files, "I");
-    check(alloc, &bytes).expect(rt, "an image")
-}
-
-/// Each machine prints what is wanted of the image of a source, with an empty script.
-pub fn builds_and_prints<'x>(
-    rt: &impl Abort,
-    alloc: Global,
-    row: usize,
-    source: &'x [u8],
-    n: &'x str,
-    prints: Prints<'x>,
-) {
-    let steps = [
-        Step::Store("S", source),
-        Step::Store("B", b""),
-        Step::Do(BURN),
-        Step::Do(LINK),
-        Step::Print(n, prints),
-    ];
-    follow(rt, alloc, row, &steps);
 }
 
 const SENDS_A_BYTE: Kernel<'static> = Kernel {
@@ -245,22 +200,18 @@ static KERNELS: [Kernel<'static>; 16] = [
     ZEROED_PAGE,
 ];
 
-/// A source is burnt, linked and checked, and its image runs, each with what is printed.
-fn becomes_a_kernel(rt: &impl Abort, alloc: Global, row: usize, kernel: &Kernel<'_>) {
-    let steps = [
-        Step::Store("S", kernel.source),
-        Step::Store("B", kernel.script),
-        Step::Tell(BURN, (0, kernel.object)),
-        Step::Tell(LINK, (0, kernel.image)),
-        Step::Tell(CHECK, (0, kernel.accepted)),
-        Step::Print(kernel.bound, kernel.prints),
-    ];
-    follow(rt, alloc, row, &steps);
-}
-
+/// Each source is burnt, linked and checked, and its image runs, each with what is printed.
 fn all_become_kernels(rt: &impl Abort, alloc: Global, kernels: &[Kernel<'_>]) {
     for (row, kernel) in kernels.iter().enumerate() {
-        becomes_a_kernel(rt, alloc, row, kernel);
+        let steps = [
+            Step::Store("S", kernel.source),
+            Step::Store("B", kernel.script),
+            Step::Tell(BURN, (0, kernel.object)),
+            Step::Tell(LINK, (0, kernel.image)),
+            Step::Tell(CHECK, (0, kernel.accepted)),
+            Step::Print(kernel.bound, kernel.prints),
+        ];
+        follow(rt, alloc, row, &steps);
     }
 }
 

@@ -4,6 +4,7 @@ ghost use Rattle.std.specs.Prelude.{◌≤◌, ◌^◌};
 
 use crate::machines::{Prints, Told};
 use host_cpl3::{Host, Machine};
+use image_check::{Checked, check};
 use pv_io::{Files, MemFiles, MemSink, Sink};
 use pv_tool::top;
 use std::alloc::{AllocError, Global};
@@ -12,11 +13,19 @@ use std::process::Abort;
 /// The words of a command.
 pub type Words<'a> = &'a [&'a str];
 
+pub const BURN: Words<'static> = &["burn", "S", "O"];
+
+pub const LINK: Words<'static> = &["link", "I", "O"];
+
+pub const CHECK: Words<'static> = &["check", "I"];
+
 /// What is done to files, or found of them.
 #[derive(Clone, Copy)]
 pub enum Step<'a> {
     /// A name holds these bytes from here on.
     Store(&'a str, &'a [u8]),
+    /// The same of the source S, its object O and image I, and an empty script B.
+    Build(&'a [u8]),
     /// A command is done, whatever it prints.
     Do(Words<'a>),
     /// A command comes to a status, and prints this.
@@ -75,13 +84,8 @@ pub fn answer(
     (number, out)
 }
 
-/// Whether a command came to a status, and its sink took this. One put has failed where the status says so.
-fn is_told(number: u8, out: &MemSink, told: Told<'_>) -> bool {
-    let (status, text) = told;
-    number == status && out.bytes() == text && out.faults() == u64::from(number == 6)
-}
-
-/// Whether that is so of a command of whose puts those of a list fail.
+/// Whether a command of whose puts those of a list fail comes to a status, and its sink takes this. One put has failed where
+/// the status says so.
 fn tells(
     rt: &impl Abort,
     alloc: Global,
@@ -90,37 +94,38 @@ fn tells(
     fail: &[u64],
     told: Told<'_>,
 ) -> bool {
+    let (status, text) = told;
     let (number, out) = answer(rt, alloc, files, all, fail);
-    is_told(number, &out, told)
+    number == status && out.bytes() == text && out.faults() == u64::from(number == 6)
 }
 
-fn run_tells(
-    rt: &impl Abort,
-    alloc: Global,
-    files: &mut MemFiles,
-    machine: &str,
-    n: &str,
-    told: Told<'_>,
-) -> bool {
-    let run = ["run", machine, "I", "B", "2048", n];
-    tells(rt, alloc, files, &run, &[], told)
-}
-
+/// Whether both machines print what is wanted.
 fn both_print(
     rt: &impl Abort,
     alloc: Global,
     files: &mut MemFiles,
     n: &str,
-    prints: &Prints<'_>,
+    prints: Prints<'_>,
 ) -> bool {
-    run_tells(rt, alloc, files, "--bare", n, prints.bare())
-        && run_tells(rt, alloc, files, "--wedge", n, prints.wedge())
-}
-
-/// Whether a name holds something.
-fn holds(alloc: Global, files: &mut MemFiles, name: &str) -> bool {
-    let mut bytes = Vec::new(alloc);
-    files.load(alloc, name, &mut bytes).is_ok()
+    let (bare, wedge) = match prints {
+        Prints::Alike(told) => (told, told),
+        Prints::Apart { bare, wedge } => (bare, wedge),
+    };
+    tells(
+        rt,
+        alloc,
+        files,
+        &["run", "--bare", "I", "B", "2048", n],
+        &[],
+        bare,
+    ) && tells(
+        rt,
+        alloc,
+        files,
+        &["run", "--wedge", "I", "B", "2048", n],
+        &[],
+        wedge,
+    )
 }
 
 fn is_done(rt: &impl Abort, alloc: Global, files: &mut MemFiles, all: Words<'_>) -> bool {
@@ -132,11 +137,20 @@ fn is_done(rt: &impl Abort, alloc: Global, files: &mut MemFiles, all: Words<'_>)
 fn does(rt: &impl Abort, alloc: Global, files: &mut MemFiles, step: Step<'_>) -> bool {
     match step {
         Step::Store(name, bytes) => files.store(name, bytes).is_ok(),
+        Step::Build(source) => {
+            files.store("S", source).is_ok()
+                && files.store("B", b"").is_ok()
+                && is_done(rt, alloc, files, BURN)
+                && is_done(rt, alloc, files, LINK)
+        }
         Step::Do(all) => is_done(rt, alloc, files, all),
         Step::Tell(all, told) => tells(rt, alloc, files, all, &[], told),
         Step::Cut(all, put, told) => tells(rt, alloc, files, all, &[put], told),
-        Step::Print(n, prints) => both_print(rt, alloc, files, n, &prints),
-        Step::Hold(name, held) => holds(alloc, files, name) == held,
+        Step::Print(n, prints) => both_print(rt, alloc, files, n, prints),
+        Step::Hold(name, held) => {
+            let mut bytes = Vec::new(alloc);
+            files.load(alloc, name, &mut bytes).is_ok() == held
+        }
     }
 }
 
@@ -176,4 +190,42 @@ pub fn joined(rt: &impl Abort, alloc: Global, pieces: &[&[u8]]) -> Vec<u8> {
         bytes.extend_from_slice(piece).expect(rt, "memory");
     }
     bytes
+}
+
+/// The piece so many times behind the bytes.
+pub fn repeated(
+    rt: &impl Abort,
+    alloc: Global,
+    first: &[u8],
+    piece: &[u8],
+    count: usize,
+) -> Vec<u8> {
+    let mut bytes = joined(rt, alloc, &[first]);
+    for _ in 0..count {
+        bytes.extend_from_slice(piece).expect(rt, "memory");
+    }
+    bytes
+}
+
+/// The image of a source.
+pub fn image_of(rt: &impl Abort, alloc: Global, source: &[u8]) -> Checked {
+    let mut files = follow(rt, alloc, 0, &[Step::Build(source)]);
+    let bytes = file(rt, alloc, &mut files, "I");
+    check(alloc, &bytes).expect(rt, "an image")
+}
+
+/// Kernels, each with its source in pieces, its bound, and what the machines print of it with an empty script.
+pub type Sourced<'a> = (&'a [&'a [u8]], &'a str, Prints<'a>);
+
+/// Each machine prints what is wanted of each kernel.
+pub fn all_print(rt: &impl Abort, alloc: Global, kernels: &[Sourced<'_>]) {
+    for (row, (pieces, n, prints)) in kernels.iter().enumerate() {
+        let source = joined(rt, alloc, pieces);
+        follow(
+            rt,
+            alloc,
+            row,
+            &[Step::Build(&source), Step::Print(n, *prints)],
+        );
+    }
 }

@@ -1,6 +1,6 @@
 //! Interrupts, holds, halts and the serial line.
 
-use crate::kernel::{Kernel, all_run};
+use crate::kernel::Kernel;
 use crate::machines::Prints;
 
 // a request waits before STI; the interrupt comes after HLT, and the saved EIP is behind it
@@ -128,7 +128,7 @@ const HALTED_FOR_EVER: Kernel<'static> = Kernel {
     ..HALTED_FOR_LONG
 };
 
-static KERNELS: [Kernel<'static>; 6] = [
+pub static KERNELS: [Kernel<'static>; 6] = [
     STI_THEN_HLT,
     INTERRUPT_INSIDE_PADDING,
     POPF_LETS_INTERRUPTS_IN,
@@ -136,8 +136,3 @@ static KERNELS: [Kernel<'static>; 6] = [
     HALTED_FOR_LONG,
     HALTED_FOR_EVER,
 ];
-
-#[test]
-fn events_come_at_their_step(rt: HostRuntime) {
-    all_run(&rt, rt.alloc(), &KERNELS);
-}

@@ -1,7 +1,6 @@
 //! Annotations by their gaps, the long texts that are written with them, and annotations that aren't the text's.
 
-use crate::built::{BURN, CHECK, LINK, linked};
-use crate::commands::{Step, file, follow, joined};
+use crate::commands::{BURN, CHECK, LINK, Step, file, follow, joined, repeated};
 use crate::machines::{Prints, Told};
 use std::alloc::Global;
 use std::process::Abort;
@@ -16,27 +15,22 @@ const ONE: &[u8] = &[
     0x50, 0x56, 0x53, 0x31, 1, 0, 0, 0, 7, 0, 0, 0, 0x14, 1, 5, 0,
 ];
 
-/// The number of four bytes there.
-fn long(bytes: &[u8], at: usize) -> Option<u32> {
-    let part = bytes.get(at..)?.get(..4)?;
-    Some(u32::from_le_bytes([part[0], part[1], part[2], part[3]]))
-}
-
-/// What stands before the annotations of that small image, between them and their size, and behind that. They begin at
-/// 0x2000; their header is the fifth, with the size at 20.
-fn around(image: &[u8]) -> Option<(&[u8], &[u8], &[u8])> {
-    let size_at = long(image, 32)? as usize + 180;
-    let behind = image.get(size_at + 4..)?;
-    Some((image.get(..0x2000)?, image.get(0x2000..size_at)?, behind))
-}
-
-/// That image with other annotations, which are no longer than its own.
+/// That small image of 8,496 bytes with other annotations, which are no longer than its own. They begin at 0x2000, and the
+/// fifth section header has their size at 8,436.
 fn with_annotations(rt: &impl Abort, alloc: Global, image: &[u8], annotations: &[u8]) -> Vec<u8> {
-    let (before, between, behind) = around(image).expect(rt, "an image");
-    let rest = between.get(annotations.len()..).expect(rt, "no longer");
-    let size = u32::try_from(annotations.len()).expect(rt, "no longer");
-    let pieces = [before, annotations, rest, &size.to_le_bytes(), behind];
-    joined(rt, alloc, &pieces)
+    assert!(rt; image.len() == 8496 && annotations.len() <= 24);
+    let size = annotations.len() as u32;
+    joined(
+        rt,
+        alloc,
+        &[
+            &image[..0x2000],
+            annotations,
+            &image[0x2000 + annotations.len()..8436],
+            &size.to_le_bytes(),
+            &image[8440..],
+        ],
+    )
 }
 
 /// Annotations, what `check` tells, and what both machines print.
@@ -52,17 +46,11 @@ static ANNOTATED: [Annotated; 3] = [
     (b"PV", (3, b"refused 69 at 2\n"), (3, b"refused 69 at 2\n")),
 ];
 
-/// `check` tells this of an image, and both machines print that.
-fn tells_and_prints<'x>(
-    rt: &impl Abort,
-    alloc: Global,
-    row: usize,
-    image: &'x [u8],
-    checked: Told<'x>,
-    printed: Told<'x>,
-) {
+fn is_annotated(rt: &impl Abort, alloc: Global, image: &[u8], row: usize, annotated: &Annotated) {
+    let (annotations, checked, printed) = *annotated;
+    let changed = with_annotations(rt, alloc, image, annotations);
     let steps = [
-        Step::Store("I", image),
+        Step::Store("I", &changed),
         Step::Store("B", b""),
         Step::Tell(CHECK, checked),
         Step::Print("8", Prints::Alike(printed)),
@@ -70,36 +58,20 @@ fn tells_and_prints<'x>(
     follow(rt, alloc, row, &steps);
 }
 
-fn is_annotated(rt: &impl Abort, alloc: Global, image: &[u8], row: usize, annotated: &Annotated) {
-    let (annotations, checked, printed) = *annotated;
-    let changed = with_annotations(rt, alloc, image, annotations);
-    tells_and_prints(rt, alloc, row, &changed, checked, printed);
-}
-
 #[test]
 fn an_image_has_all_its_sites_by_places_or_gaps(rt: HostRuntime) {
     let source = b"_start:\nmovl $0x3f8,%edx\nmovb $0x48,%al\noutb %al,%dx\nhlt\n";
-    let mut files = linked(&rt, rt.alloc(), source);
+    let mut files = follow(&rt, rt.alloc(), 0, &[Step::Build(source)]);
     let image = file(&rt, rt.alloc(), &mut files, "I");
     for (row, annotated) in ANNOTATED.iter().enumerate() {
         is_annotated(&rt, rt.alloc(), &image, row, annotated);
     }
 }
 
-/// So many pages of text, each a NOP and what fills it.
-fn pages(rt: &impl Abort, alloc: Global, count: usize) -> Vec<u8> {
-    let mut source = joined(rt, alloc, &[b"_start:\n"]);
-    for _ in 0..count {
-        source
-            .extend_from_slice(b"nop; .p2align 12\n")
-            .expect(rt, "memory");
-    }
-    source
-}
-
 #[test]
 fn a_long_text_has_gaps(rt: HostRuntime) {
-    let source = pages(&rt, rt.alloc(), 2000);
+    // 2,000 pages of text, each a NOP and what fills it
+    let source = repeated(&rt, rt.alloc(), b"_start:\n", b"nop; .p2align 12\n", 2000);
     let small = Prints::Alike((3, b"refused 90 need 2257 have 2048\n"));
     let steps = [
         Step::Store("S", &source),

@@ -4,8 +4,7 @@ ghost use Rattle.std.specs.Prelude.{◌≡◌, ◌+◌, ◌≤◌, ◌^◌, true
 ghost use Rattle.board.specs.Scripts.{is_script};
 ghost use Rattle.worked_runs.specs.Going.{IsGoing};
 
-use crate::built::image_of;
-use crate::commands::{sink, took};
+use crate::commands::{image_of, sink, took};
 use crate::slices::{
     INTERRUPTED, IS_INTERRUPTED, SENDS_A_BYTE, SENT, begun, no_event, put_bound, steps_on,
 };
@@ -80,24 +79,6 @@ fn prints(rt: &impl Abort, alloc: Global, image: &Checked, first: u64, each: u64
     out
 }
 
-#[test]
-fn patched_slices_of_one_step_print_the_same(rt: HostRuntime) {
-    let image = image_of(&rt, rt.alloc(), SENDS_A_BYTE);
-    let out = prints(&rt, rt.alloc(), &image, 1, 1, 8);
-    took(&rt, &out, SENT);
-}
-
-#[test]
-fn a_pause_of_a_guest_changes_nothing(rt: HostRuntime) {
-    let image = image_of(&rt, rt.alloc(), IS_INTERRUPTED);
-    let whole = prints(&rt, rt.alloc(), &image, 80, 80, 80);
-    assert!(rt; whole.bytes().ends_with(INTERRUPTED));
-    for pause in 40..80u64 {
-        let parts = prints(&rt, rt.alloc(), &image, pause, 80, 80);
-        assert!(rt; parts.bytes() == whole.bytes(), "a pause at {pause}");
-    }
-}
-
 fn is_same(mine: &Cpu, yours: &Cpu) -> bool {
     *mine == *yours
 }
@@ -133,7 +114,16 @@ fn side_by_side(rt: &impl Abort, alloc: Global, image: &Checked) {
 }
 
 #[test]
-fn both_processors_go_on_alike(rt: HostRuntime) {
-    let image = image_of(&rt, rt.alloc(), IS_INTERRUPTED);
-    side_by_side(&rt, rt.alloc(), &image);
+fn patched_slices_print_the_same_and_both_machines_go_on_alike(rt: HostRuntime) {
+    let alloc = rt.alloc();
+    let image = image_of(&rt, alloc, SENDS_A_BYTE);
+    took(&rt, &prints(&rt, alloc, &image, 1, 1, 8), SENT);
+    let image = image_of(&rt, alloc, IS_INTERRUPTED);
+    let whole = prints(&rt, alloc, &image, 80, 80, 80);
+    assert!(rt; whole.bytes().ends_with(INTERRUPTED));
+    for pause in 40..80u64 {
+        let parts = prints(&rt, alloc, &image, pause, 80, 80);
+        assert!(rt; parts.bytes() == whole.bytes(), "a pause at {pause}");
+    }
+    side_by_side(&rt, alloc, &image);
 }

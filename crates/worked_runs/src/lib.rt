@@ -6,23 +6,17 @@ mod built;
 #[cfg(test)]
 mod commands;
 #[cfg(test)]
-mod damaged;
-#[cfg(test)]
 mod events;
 #[cfg(test)]
 mod faults;
 #[cfg(test)]
 mod formats;
 #[cfg(test)]
-mod forms;
-#[cfg(test)]
 mod guests;
 #[cfg(test)]
 mod hostile;
 #[cfg(test)]
 mod kernel;
-#[cfg(test)]
-mod large;
 #[cfg(test)]
 mod machines;
 #[cfg(test)]

@@ -11,27 +11,3 @@ pub enum Prints<'a> {
     /// Each its own.
     Apart { bare: Told<'a>, wedge: Told<'a> },
 }
-
-impl<'a> Prints<'a> {
-    /// What the bare machine prints.
-    pub fn bare(&self) -> Told<'a> {
-        match self {
-            Prints::Alike(told)
-            | Prints::Apart {
-                bare: told,
-                wedge: _,
-            } => *told,
-        }
-    }
-
-    /// What its patched text prints.
-    pub fn wedge(&self) -> Told<'a> {
-        match self {
-            Prints::Alike(told)
-            | Prints::Apart {
-                bare: _,
-                wedge: told,
-            } => *told,
-        }
-    }
-}

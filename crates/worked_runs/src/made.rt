@@ -1,6 +1,5 @@
 //! Kernels that are made of numbers, by the commands.
 
-use crate::built::{BURN, LINK};
 use crate::commands::{Step, answer, follow};
 use kernel_gen::kernel;
 use pv_io::{MemFiles, MemSink};
@@ -30,10 +29,7 @@ const SHOWN: &[u8] = b"1 out32 0080 3c6ef35f\nend steps 2\n";
 fn a_kernel_shows_its_number_first_on_both_machines(rt: HostRuntime) {
     let source = kernel(rt.alloc(), 0).expect(&rt, "memory");
     let steps = [
-        Step::Store("S", &source),
-        Step::Store("B", b""),
-        Step::Do(BURN),
-        Step::Do(LINK),
+        Step::Build(&source),
         Step::Tell(&["run", "--bare", "I", "B", "4096", "2"], (0, SHOWN)),
         Step::Tell(&["run", "--wedge", "I", "B", "4096", "2"], (0, SHOWN)),
     ];

@@ -3,16 +3,13 @@
 
 ghost use Rattle.std.specs.Prelude.{◌≤◌, ◌^◌};
 
-use crate::built::{image_of, linked};
-use crate::commands::{Step, answer, follow_over, sink, status, took};
+use crate::commands::{Step, answer, follow, follow_over, image_of, sink, status, took};
 use crate::guests::{guest_steps_on, started};
 use crate::slices::{SENDS_A_BYTE, SENT, no_event};
 use crate::watched::Watched;
-use guest_ram::Ram;
 use host_cpl3::{Exit, Host, Machine};
 use ia32_types::{Flags, Regs};
 use image_check::Checked;
-use pv_io::MemFiles;
 use std::alloc::Global;
 use std::process::Abort;
 use wedge_core::run_wedge;
@@ -93,7 +90,7 @@ const MOVED_TWICE: Regs = Regs {
 
 /// A host on which that byte was sent.
 fn watched(rt: &impl Abort, alloc: Global) -> Watched {
-    let mut files = linked(rt, alloc, SENDS_A_BYTE);
+    let mut files = follow(rt, alloc, 0, &[Step::Build(SENDS_A_BYTE)]);
     let mut host = Watched::new();
     let mut out = sink(rt, alloc);
     let run = ["run", "--wedge", "I", "B", "2048", "8"];
@@ -108,36 +105,16 @@ fn is_within(regs: &Regs) -> bool {
     *regs == BOOTED || *regs == MOVED || *regs == MOVED_TWICE
 }
 
-fn begins_booted(host: &Watched) -> bool {
-    match host.begun().first() {
-        Some(regs) => *regs == BOOTED,
-        None => false,
-    }
-}
-
-/// The first run that begins elsewhere.
-fn begins_elsewhere(host: &Watched) -> Option<usize> {
-    for (k, regs) in host.begun().iter().enumerate() {
-        if !is_within(regs) {
-            return Some(k);
-        }
-    }
-    None
-}
-
 #[test]
 fn the_host_does_two_instructions_of_four(rt: HostRuntime) {
     let host = watched(&rt, rt.alloc());
     assert!(rt; Host::retired(&host) == 2 && Host::passed(&host) == 8_589_934_597);
-    assert!(rt; begins_booted(&host));
-    assert_eq!(rt; begins_elsewhere(&host), None);
+    assert!(rt; host.begun().first() == Some(&BOOTED));
+    for (k, regs) in host.begun().iter().enumerate() {
+        assert!(rt; is_within(regs), "run {k}");
+    }
     // Behind them stands the patched OUT.
-    assert!(rt; host.last_exit() == Exit::Entry(0x04F4_F500));
-}
-
-fn part(rt: &impl Abort, alloc: Global, ram: &Ram, at: u32, len: u32) -> Vec<u8> {
-    assert!(rt; at <= ram.len() && len <= ram.len() - at);
-    Vec::from_slice(alloc, ram.part(at, len)).expect(rt, "memory")
+    assert!(rt; host.last_exit == Exit::Entry(0x04F4_F500));
 }
 
 /// The bytes of the host's memory there, after a patched run of so many steps.
@@ -160,62 +137,57 @@ fn memory_after(
     guest_steps_on(
         rt, &mut guest, image, &script, n, &mut pool, &mut host, &mut out,
     );
-    part(rt, alloc, host.ram(), at, len)
+    let ram = host.ram();
+    assert!(rt; at <= ram.len() && len <= ram.len() - at);
+    Vec::from_slice(alloc, ram.part(at, len)).expect(rt, "memory")
 }
 
-/// A source, and its text in memory before the first step.
-type Patched = (&'static [u8], [u8; 9]);
+/// A source, a number of steps, and what stands then at a place in memory.
+type Left = (&'static [u8], u8, u32, &'static [u8]);
 
-static PATCHED: [Patched; 2] = [
-    (b"cli\n", [0xE9, 0xF4, 0xF4, 0xF4, 0xF4, 0xEB, 0xFE, 0, 0]),
+static LEFT: [Left; 3] = [
+    // Sites are patched.
+    (
+        b"cli\n",
+        0,
+        0x10_0000,
+        &[0xE9, 0xF4, 0xF4, 0xF4, 0xF4, 0xEB, 0xFE, 0, 0],
+    ),
     (
         b"lidt 0x11000010\n",
-        [0xE9, 0xF4, 0xF4, 0xF4, 0xF4, 0xF4, 0xF4, 0xEB, 0xFE],
+        0,
+        0x10_0000,
+        &[0xE9, 0xF4, 0xF4, 0xF4, 0xF4, 0xF4, 0xF4, 0xEB, 0xFE],
     ),
+    // A step that clashes begins with no translation.
+    (COPIES_WITHIN_A_STALE_PAGE, 9, 0x40_1004, &[2, 0, 0, 0]),
 ];
 
-fn is_patched(rt: &impl Abort, alloc: Global, patched: &Patched) -> bool {
-    let (source, want) = *patched;
+fn is_left(rt: &impl Abort, alloc: Global, left: &Left) -> bool {
+    let (source, n, at, want) = *left;
     let image = image_of(rt, alloc, source);
-    let bytes = memory_after(rt, alloc, &image, 0, 0x10_0000, 9);
-    bytes.as_slice() == want.as_slice()
+    let len = want.len().min(9) as u32;
+    memory_after(rt, alloc, &image, u64::from(n), at, len).as_slice() == want
 }
 
 #[test]
-fn sites_are_patched_in_memory(rt: HostRuntime) {
-    for (row, patched) in PATCHED.iter().enumerate() {
-        assert!(rt; is_patched(&rt, rt.alloc(), patched), "row {row}");
+fn steps_leave_their_bytes_in_memory(rt: HostRuntime) {
+    for (row, left) in LEFT.iter().enumerate() {
+        assert!(rt; is_left(&rt, rt.alloc(), left), "row {row}");
     }
 }
 
 #[test]
-fn a_step_that_clashes_begins_with_no_translation(rt: HostRuntime) {
-    let image = image_of(&rt, rt.alloc(), COPIES_WITHIN_A_STALE_PAGE);
-    let word = memory_after(&rt, rt.alloc(), &image, 9, 0x40_1004, 4);
-    assert!(rt; word.as_slice() == [2, 0, 0, 0].as_slice());
-}
-
-/// A run of 40 steps prints one of these.
-fn prints_one_of(
-    rt: &impl Abort,
-    alloc: Global,
-    files: &mut MemFiles,
-    machine: &str,
-    may_be: &[&[u8]],
-) {
-    let run = ["run", machine, "I", "B", "2048", "40"];
-    let (number, out) = answer(rt, alloc, files, &run, &[]);
-    assert!(rt;
-        number == 0 && may_be.contains(&out.bytes()),
-        "run {machine}"
-    );
-}
-
-#[test]
 fn a_page_stays_stale_until_invlpg(rt: HostRuntime) {
-    let mut files = linked(&rt, rt.alloc(), READS_A_STALE_PAGE);
-    prints_one_of(&rt, rt.alloc(), &mut files, "--bare", &[OLD, NEW]);
-    prints_one_of(&rt, rt.alloc(), &mut files, "--wedge", &[OLD]);
+    let mut files = follow(&rt, rt.alloc(), 0, &[Step::Build(READS_A_STALE_PAGE)]);
+    for (machine, may_be) in [("--bare", NEW), ("--wedge", OLD)] {
+        let run = ["run", machine, "I", "B", "2048", "40"];
+        let (number, out) = answer(&rt, rt.alloc(), &mut files, &run, &[]);
+        assert!(rt;
+            number == 0 && (out.bytes() == OLD || out.bytes() == may_be),
+            "run {machine}"
+        );
+    }
 }
 
 /// How many pages a patched run of 2,000 steps with so many frames of a pool fills, which prints this.
@@ -242,7 +214,7 @@ fn a_small_pool_fills_more_and_prints_the_same(rt: HostRuntime) {
     let large = fills_of(&rt, rt.alloc(), GOES_OVER_FORTY_TABLES, 512, SHOWN);
     let small = fills_of(&rt, rt.alloc(), GOES_OVER_FORTY_TABLES, 16, SHOWN);
     assert!(rt; large < small);
-    let mut files = linked(&rt, rt.alloc(), GOES_OVER_FORTY_TABLES);
+    let mut files = follow(&rt, rt.alloc(), 0, &[Step::Build(GOES_OVER_FORTY_TABLES)]);
     let bare = Step::Tell(&["run", "--bare", "I", "B", "2048", "2000"], (0, SHOWN));
     follow_over(&rt, rt.alloc(), &mut files, 0, &[bare]);
 }

@@ -1,6 +1,6 @@
 //! Kernels at level 0 that run to their bound.
 
-use crate::kernel::{Kernel, all_run};
+use crate::kernel::Kernel;
 use crate::machines::Prints;
 
 // movl $0x3f8,%edx; movb $0x48,%al; outb %al,%dx; hlt
@@ -22,19 +22,9 @@ const A_BYTE_IS_SENT: Kernel<'static> = Kernel {
 
 // the same, for no step
 const NO_STEP: Kernel<'static> = Kernel {
-    text: &[
-        0xBA, 0xF8, 0x03, 0x00, 0x00, 0xB0, 0x48, 0xEE, 0x90, 0x90, 0x90, 0x90, 0xF4, 0x90, 0x90,
-        0x90, 0x90, 0xEB, 0xFE,
-    ],
-    init: &[],
-    bss: 0,
-    sites: &[
-        0x07, 0x00, 0x00, 0x00, 0x14, 0x01, 0x05, 0x00, 0x0C, 0x00, 0x00, 0x00, 0x04, 0x01, 0x05,
-        0x00,
-    ],
-    script: b"",
     bound: "0",
     prints: Prints::Alike((0, b"end steps 0\n")),
+    ..A_BYTE_IS_SENT
 };
 
 // what the link gives of an empty source
@@ -198,7 +188,18 @@ const CR3_IS_LOADED: Kernel<'static> = Kernel {
     prints: Prints::Alike((0, b"7 out8 0080 01\nend steps 12\n")),
 };
 
-static KERNELS: [Kernel<'static>; 12] = [
+// rdtsc, which is refused
+const RDTSC: Kernel<'static> = Kernel {
+    text: &[0x0F, 0x31, 0xEB, 0xFE],
+    init: &[],
+    bss: 0,
+    sites: &[],
+    script: b"",
+    bound: "1",
+    prints: Prints::Alike((3, b"refused 65 at 0\n")),
+};
+
+pub static KERNELS: [Kernel<'static>; 13] = [
     A_BYTE_IS_SENT,
     NO_STEP,
     NO_INSTRUCTION_OF_ITS_OWN,
@@ -211,9 +212,5 @@ static KERNELS: [Kernel<'static>; 12] = [
     FLAGS_OF_A_PAGE,
     REPEATED_STORE,
     CR3_IS_LOADED,
+    RDTSC,
 ];
-
-#[test]
-fn kernels_run_to_their_bound(rt: HostRuntime) {
-    all_run(&rt, rt.alloc(), &KERNELS);
-}

@@ -4,8 +4,7 @@ ghost use Rattle.std.specs.Prelude.{◌≡◌, ◌+◌, ◌≤◌, ◌^◌, true
 ghost use Rattle.bare_machine.specs.Machine.{state_of, IsKept};
 ghost use Rattle.board.specs.Scripts.{is_script};
 
-use crate::built::image_of;
-use crate::commands::{sink, took};
+use crate::commands::{image_of, sink, took};
 use bare_machine::{Bare, run_fresh};
 use board::{Script, read_script};
 use image_check::Checked;
@@ -146,24 +145,6 @@ fn prints(rt: &impl Abort, alloc: Global, image: &Checked, first: u64, each: u64
     out
 }
 
-#[test]
-fn slices_of_one_step_print_the_same(rt: HostRuntime) {
-    let image = image_of(&rt, rt.alloc(), SENDS_A_BYTE);
-    let out = prints(&rt, rt.alloc(), &image, 1, 1, 8);
-    took(&rt, &out, SENT);
-}
-
-#[test]
-fn a_pause_at_any_step_changes_nothing(rt: HostRuntime) {
-    let image = image_of(&rt, rt.alloc(), IS_INTERRUPTED);
-    let whole = prints(&rt, rt.alloc(), &image, 80, 80, 80);
-    assert!(rt; whole.bytes().ends_with(INTERRUPTED));
-    for pause in 40..80u64 {
-        let parts = prints(&rt, rt.alloc(), &image, pause, 80, 80);
-        assert!(rt; parts.bytes() == whole.bytes(), "a pause at {pause}");
-    }
-}
-
 /// What a run of at most `n` steps prints, before each of which nothing is cached.
 fn prints_fresh(rt: &impl Abort, alloc: Global, image: &Checked, n: u64) -> MemSink
     requires { n ≤ 2 ^ 40 }
@@ -176,20 +157,26 @@ fn prints_fresh(rt: &impl Abort, alloc: Global, image: &Checked, n: u64) -> MemS
 }
 
 #[test]
-fn fresh_runs_print_the_same_where_nothing_is_stale(rt: HostRuntime) {
-    let image = image_of(&rt, rt.alloc(), SENDS_A_BYTE);
-    let sent = prints_fresh(&rt, rt.alloc(), &image, 8);
-    took(&rt, &sent, SENT);
-    let image = image_of(&rt, rt.alloc(), IS_INTERRUPTED);
-    let fresh = prints_fresh(&rt, rt.alloc(), &image, 80);
-    let cached = prints(&rt, rt.alloc(), &image, 80, 80, 80);
-    took(&rt, &fresh, cached.bytes());
+fn slices_of_one_step_and_fresh_runs_print_the_same(rt: HostRuntime) {
+    let alloc = rt.alloc();
+    let image = image_of(&rt, alloc, SENDS_A_BYTE);
+    took(&rt, &prints(&rt, alloc, &image, 1, 1, 8), SENT);
+    took(&rt, &prints_fresh(&rt, alloc, &image, 8), SENT);
+    let source = kernel(alloc, 0).expect(&rt, "memory");
+    let image = image_of(&rt, alloc, &source);
+    let shown = prints_fresh(&rt, alloc, &image, 2);
+    took(&rt, &shown, b"1 out32 0080 3c6ef35f\nend steps 2\n");
 }
 
 #[test]
-fn a_generated_kernel_shows_its_number_first(rt: HostRuntime) {
-    let source = kernel(rt.alloc(), 0).expect(&rt, "memory");
-    let image = image_of(&rt, rt.alloc(), &source);
-    let out = prints_fresh(&rt, rt.alloc(), &image, 2);
-    took(&rt, &out, b"1 out32 0080 3c6ef35f\nend steps 2\n");
+fn a_pause_at_any_step_changes_nothing(rt: HostRuntime) {
+    let alloc = rt.alloc();
+    let image = image_of(&rt, alloc, IS_INTERRUPTED);
+    let whole = prints(&rt, alloc, &image, 80, 80, 80);
+    assert!(rt; whole.bytes().ends_with(INTERRUPTED));
+    took(&rt, &prints_fresh(&rt, alloc, &image, 80), whole.bytes());
+    for pause in 40..80u64 {
+        let parts = prints(&rt, alloc, &image, pause, 80, 80);
+        assert!(rt; parts.bytes() == whole.bytes(), "a pause at {pause}");
+    }
 }

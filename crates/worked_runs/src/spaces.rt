@@ -1,11 +1,8 @@
 //! A kernel that goes round three address spaces, whose translations a patched run keeps while it is in another one.
 
-use crate::built::builds_and_prints;
-use crate::commands::joined;
+use crate::commands::{Sourced, all_print, joined};
 use crate::machines::Prints;
 use crate::patched::fills_of;
-use std::alloc::Global;
-use std::process::Abort;
 
 /// Three directories, in the frames 0x20 to 0x22, map the text and the first 4 MB by the tables that the boot made, and the
 /// page at 0x20000000 by a table of their own, in the frames 0x23 to 0x25, to a frame of their own, 0x30 to 0x32. Three times
@@ -80,19 +77,18 @@ const SHOWN: &[u8] = b"\
 157 out32 0080 00032063\n\
 end steps 2000\n";
 
-/// The kernel whose rounds end so.
-fn going(rt: &impl Abort, alloc: Global, on: &[u8]) -> Vec<u8> {
-    joined(rt, alloc, &[GOES_ROUND_THREE_SPACES, on, SHARES_A_PAGE])
-}
-
-#[test]
-fn spaces_keep_their_pages_over_loads(rt: HostRuntime) {
-    for (row, on) in [TO_THE_SAME, TO_A_NEW_VALUE].iter().enumerate() {
-        let source = going(&rt, rt.alloc(), on);
-        let prints = Prints::Alike((0, SHOWN));
-        builds_and_prints(&rt, rt.alloc(), row, &source, "2000", prints);
-    }
-}
+static KERNELS: [Sourced<'static>; 2] = [
+    (
+        &[GOES_ROUND_THREE_SPACES, TO_THE_SAME, SHARES_A_PAGE],
+        "2000",
+        Prints::Alike((0, SHOWN)),
+    ),
+    (
+        &[GOES_ROUND_THREE_SPACES, TO_A_NEW_VALUE, SHARES_A_PAGE],
+        "2000",
+        Prints::Alike((0, SHOWN)),
+    ),
+];
 
 // A step that the wedge does itself, at a site or inside one, fills each page that it uses, and so does an instruction that
 // the host can't do before. The writes of the beginning fill nine pages, and the text's with each: 18. The seven steps of a
@@ -100,12 +96,13 @@ fn spaces_keep_their_pages_over_loads(rt: HostRuntime) {
 // 2, and so does the first space's turn behind it, whose pages have left by then. These are 103. A turn in a round fills 2
 // more where its page isn't kept: in three turns, or in all nine and for both reads of the third space at the end.
 #[test]
-fn a_space_that_comes_back_fills_less(rt: HostRuntime) {
+fn a_space_that_comes_back_has_its_pages_and_fills_less(rt: HostRuntime) {
     let alloc = rt.alloc();
-    let source = going(&rt, alloc, TO_THE_SAME);
-    let new_source = going(&rt, alloc, TO_A_NEW_VALUE);
-    let same = fills_of(&rt, alloc, &source, 512, SHOWN);
-    let new = fills_of(&rt, alloc, &new_source, 512, SHOWN);
-    let small = fills_of(&rt, alloc, &source, 16, SHOWN);
+    all_print(&rt, alloc, &KERNELS);
+    let same = joined(&rt, alloc, KERNELS[0].0);
+    let new = joined(&rt, alloc, KERNELS[1].0);
+    let small = fills_of(&rt, alloc, &same, 16, SHOWN);
+    let same = fills_of(&rt, alloc, &same, 512, SHOWN);
+    let new = fills_of(&rt, alloc, &new, 512, SHOWN);
     assert!(rt; same == 103 + 3 * 2 && new == 103 + 11 * 2 && same < small);
 }

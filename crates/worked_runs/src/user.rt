@@ -1,6 +1,6 @@
 //! Code at level 3: what it may not do, and the gates that it may use.
 
-use crate::kernel::{Kernel, all_run};
+use crate::kernel::Kernel;
 use crate::machines::Prints;
 
 // CLI, INT 0x80 through a gate of level 3, INT 0x20 through one of level 0, and a read of the text
@@ -49,9 +49,4 @@ const USER_CODE: Kernel<'static> = Kernel {
     )),
 };
 
-static KERNELS: [Kernel<'static>; 1] = [USER_CODE];
-
-#[test]
-fn user_code_is_held_back(rt: HostRuntime) {
-    all_run(&rt, rt.alloc(), &KERNELS);
-}
+pub static KERNELS: [Kernel<'static>; 1] = [USER_CODE];

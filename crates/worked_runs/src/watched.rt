@@ -17,7 +17,7 @@ pub struct Watched {
     machine: Machine,
     begun: [Regs; 64],
     runs: usize,
-    last_exit: Exit,
+    pub last_exit: Exit,
 }
 
 impl Watched {
@@ -40,11 +40,6 @@ impl Watched {
     /// The registers with which the runs began, of at most 64.
     pub fn begun(&self) -> &[Regs] {
         &self.begun[..self.runs.min(ROOM)]
-    }
-
-    /// How the last run ended.
-    pub fn last_exit(&self) -> Exit {
-        self.last_exit
     }
 }
 

@@ -1,7 +1,5 @@
-use super::are_assembled;
-
 /// This project's own choice, where GNU as takes another spelling or no such suffix.
-const OWN: &str = "\
+pub const OWN: &str = "\
 jmpl foo-1 => e9 fb ff ff ff imm 1 0 relative
 movl %ds,foo => 8c 1d 00 00 00 00 disp 2 1
 movl (%eax),%ss => 8e 10
@@ -13,8 +11,3 @@ ret $0 => c3
 int $3 => cd 03
 xchgb %cl,%al => 86 c8
 ";
-
-#[test]
-fn own_choices_are_taken(rt: HostRuntime) {
-    are_assembled(&rt, rt.alloc(), OWN);
-}

@@ -1,7 +1,5 @@
-use super::are_assembled;
-
 /// As GNU as assembles them.
-const ARITHMETIC: &str = "\
+pub const ARITHMETIC: &str = "\
 addb %cl,%bl => 00 cb
 addb %cl,(%eax) => 00 08
 add %ebx,%esi => 01 de
@@ -73,8 +71,3 @@ dec %edi => 4f
 decb (%edi) => fe 0f
 decl foo => ff 0d 00 00 00 00 disp 2 0
 ";
-
-#[test]
-fn arithmetic_is_assembled(rt: HostRuntime) {
-    are_assembled(&rt, rt.alloc(), ARITHMETIC);
-}

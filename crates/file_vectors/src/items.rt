@@ -4,7 +4,6 @@
 use crate::gcc::FROM_GCC;
 use asm_parse::{Arguments, Body, Form, Name, Source, Value, parse};
 use std::alloc::{AllocError, Global};
-use std::test::*;
 
 fn show_number(alloc: Global, out: &mut Vec<u8>, number: i64) -> Result<(), AllocError> {
     let text = format!(in alloc; "{number}")?;
@@ -116,9 +115,9 @@ fn show(alloc: Global, source: &Source) -> Result<Vec<u8>, AllocError> {
     Ok(out)
 }
 
-fn reads_as(rt: &HostRuntime, text: &str, items: &str) -> bool {
-    match parse(rt.alloc(), text.as_bytes()) {
-        Ok(source) => match show(rt.alloc(), &source) {
+fn reads_as(alloc: Global, text: &str, items: &str) -> bool {
+    match parse(alloc, text.as_bytes()) {
+        Ok(source) => match show(alloc, &source) {
             Ok(shown) => shown.as_slice() == items.as_bytes(),
             Err(_) => false,
         },
@@ -126,8 +125,14 @@ fn reads_as(rt: &HostRuntime, text: &str, items: &str) -> bool {
     }
 }
 
+const ITEMS_OF_GCC: &str = "2 .text;3 .p2align 4(,,1);4 .globl _start+0(,,1);6 _start:;7 .LFB0:;\
+9 movl $1 %eax;10 jmp *.L4+0(,eax,4);11 .section \".rodata\";12 .align 4(,,1);13 .L4:;\
+14 .long .L2+0(,,1);15 .long .L3+0(,,1);16 .text;17 .p2align 4(,,1) _ 10(,,1);18 .p2align 3(,,1);\
+19 .L3:;20 movl $33 %eax;21 outb %al $128;22 .L2:;23 hlt;27 .section \".note.GNU-stack\";";
+
 /// A source, and its items.
-const DIRECTIVES: [(&str, &str); 25] = [
+const ROWS: [(&str, &str); 59] = [
+    // directives
     (".text\n.data\n.bss", "1 .text;2 .data;3 .bss;"),
     (
         ".section .rodata.str1.1,\"aMS\",@progbits,1",
@@ -186,17 +191,7 @@ const DIRECTIVES: [(&str, &str); 25] = [
     ("a: b:\n.L1: nop", "1 a:;1 b:;2 .L1:;2 nop;"),
     ("a /* x\n y */ : # z\n\n;b:", "1 a:;4 b:;"),
     (".note: nop; .: nop", "1 .note:;1 nop;1 .:;1 nop;"),
-];
-
-#[test]
-fn each_directive_has_its_items(rt: HostRuntime) {
-    for (text, items) in DIRECTIVES.iter() {
-        assert!(rt; reads_as(&rt, text, items), "{text}");
-    }
-}
-
-/// An instruction, and its item.
-const OPERANDS: [(&str, &str); 21] = [
+    // operands
     ("hlt", "1 hlt;"),
     ("push %eax", "1 push %eax;"),
     ("mov %cr0,%eax", "1 mov %cr0 %eax;"),
@@ -218,21 +213,40 @@ const OPERANDS: [(&str, &str); 21] = [
     ("jmp *.L4(,%eax,4)", "1 jmp *.L4+0(,eax,4);"),
     ("rep movsl; ljmp $8,$a+1", "1 rep movsl;1 ljmp $8 $a+1;"),
     ("in (%dx),%al", "1 in (dx,,1) %al;"),
+    ("push a--5(%eax,%ebx,8)", "1 push a+5(eax,ebx,8);"),
+    ("push -0x80000000(,%eax)", "1 push -2147483648(,eax,1);"),
+    ("push 037777777777", "1 push 4294967295(,,1);"),
+    // strings, and names of sections
+    (
+        ".ascii \"a\\n\\\"b\\101\\11c\\7\"",
+        "1 .ascii \"a\n\"bA\tc\u{7}\";",
+    ),
+    (
+        ".string \"\\t\\r\\b\\f\\\\\\'\"",
+        "1 .string \"\t\r\u{8}\u{c}\\'\";",
+    ),
+    (
+        ".section .note.GNU-stack,\"\",@progbits",
+        "1 .section \".note.GNU-stack\";",
+    ),
+    (".section .text-1", "1 .section \".text-1\";"),
+    (".section .text.a--2 , 5", "1 .section \".text.a--2\";"),
+    (".section .data.a+b:c(\n", "1 .section \".data.a+b:c(\";"),
+    (
+        ".section .bss-99999999999;nop",
+        "1 .section \".bss-99999999999\";1 nop;",
+    ),
+    (
+        ".section .rodata\"a\"'b$%# c",
+        "1 .section \".rodata\"a\"'b$%\";",
+    ),
+    (".section .debug/**/,-", "1 .section \".debug\";"),
+    (FROM_GCC, ITEMS_OF_GCC),
 ];
 
 #[test]
-fn each_operand_has_its_form(rt: HostRuntime) {
-    for (text, items) in OPERANDS.iter() {
-        assert!(rt; reads_as(&rt, text, items), "{text}");
+fn sources_have_their_items(rt: HostRuntime) {
+    for (text, items) in ROWS.iter() {
+        assert!(rt; reads_as(rt.alloc(), text, items), "{text}");
     }
-}
-
-const ITEMS_OF_GCC: &str = "2 .text;3 .p2align 4(,,1);4 .globl _start+0(,,1);6 _start:;7 .LFB0:;\
-9 movl $1 %eax;10 jmp *.L4+0(,eax,4);11 .section \".rodata\";12 .align 4(,,1);13 .L4:;\
-14 .long .L2+0(,,1);15 .long .L3+0(,,1);16 .text;17 .p2align 4(,,1) _ 10(,,1);18 .p2align 3(,,1);\
-19 .L3:;20 movl $33 %eax;21 outb %al $128;22 .L2:;23 hlt;27 .section \".note.GNU-stack\";";
-
-#[test]
-fn output_of_gcc_has_its_items(rt: HostRuntime) {
-    assert!(rt; reads_as(&rt, FROM_GCC, ITEMS_OF_GCC));
 }

@@ -1,7 +1,9 @@
+//! Tokens.
+
+use crate::agree::put_times;
 use asm_lex::{SourceCause, SourceFault, Token, TokenKind, lex};
 use asm_parse::parse;
-use std::alloc::AllocError;
-use std::test::*;
+use std::alloc::Global;
 
 // A token of this kind at this place, of so many bytes.
 macro_rules! token {
@@ -34,8 +36,8 @@ fn tokens_have_their_kinds_and_places(rt: HostRuntime) {
 }
 
 /// Whether a text is refused at this line, by this number.
-fn is_refused(rt: &HostRuntime, text: &[u8], line: u32, number: u8) -> bool {
-    match lex(rt.alloc(), text) {
+fn is_refused(alloc: Global, text: &[u8], line: u32, number: u8) -> bool {
+    match lex(alloc, text) {
         Err(SourceFault::At { line: at, cause }) => at == line && cause.number() == number,
         _ => false,
     }
@@ -61,7 +63,10 @@ const REFUSED: [(&str, u32, u8); 13] = [
 #[test]
 fn refusals_have_their_lines(rt: HostRuntime) {
     for (text, line, number) in REFUSED.iter() {
-        assert!(rt; is_refused(&rt, text.as_bytes(), *line, *number), "{text}");
+        assert!(rt;
+            is_refused(rt.alloc(), text.as_bytes(), *line, *number),
+            "{text}"
+        );
     }
 }
 
@@ -75,18 +80,10 @@ fn refusals_show_their_numbers(rt: HostRuntime) {
     assert!(rt; text.as_str() == "refused 13 line 7");
 }
 
-/// A text of this many lines with one instruction each.
-fn long_text(rt: &HostRuntime, lines: usize) -> Result<Vec<u8>, AllocError> {
-    let mut text = Vec::new(rt.alloc());
-    for _ in 0..lines {
-        text.extend_from_slice(b"nop\n")?;
-    }
-    Ok(text)
-}
-
 #[test]
 fn long_texts_have_all_their_tokens(rt: HostRuntime) {
-    let text = long_text(&rt, 1000).expect(&rt, "memory");
+    let mut text = Vec::new(rt.alloc());
+    put_times(&mut text, b"nop\n", 1000).expect(&rt, "memory");
     let tokens = lex(rt.alloc(), &text).expect(&rt, "memory");
     assert!(rt; tokens.len() == 2000);
     assert!(rt; tokens[1999] == token!(TokenKind::End, 3999, 1));

@@ -1,7 +1,5 @@
-use super::are_assembled;
-
 /// As GNU as assembles them.
-const CONTROL: &str = "\
+pub const CONTROL: &str = "\
 jmp foo => e9 fc ff ff ff imm 1 0 relative
 call foo => e8 fc ff ff ff imm 1 0 relative
 calll foo+0x7fffffff => e8 fb ff ff 7f imm 1 0 relative
@@ -64,8 +62,3 @@ call *%ecx => ff d1
 call *foo => ff 15 00 00 00 00 disp 2 0
 calll *4(%edx) => ff 52 04
 ";
-
-#[test]
-fn jumps_calls_and_interrupts_are_assembled(rt: HostRuntime) {
-    are_assembled(&rt, rt.alloc(), CONTROL);
-}

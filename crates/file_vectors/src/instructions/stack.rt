@@ -1,7 +1,5 @@
-use super::are_assembled;
-
 /// As GNU as assembles them.
-const STACK: &str = "\
+pub const STACK: &str = "\
 push %eax => 50
 pushl %ebp => 55
 push $5 => 6a 05
@@ -30,8 +28,3 @@ pop %es => 07
 popl %ss => 17
 pop %ds => 1f
 ";
-
-#[test]
-fn stack_instructions_are_assembled(rt: HostRuntime) {
-    are_assembled(&rt, rt.alloc(), STACK);
-}

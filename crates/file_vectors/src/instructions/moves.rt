@@ -1,7 +1,5 @@
-use super::are_assembled;
-
 /// As GNU as assembles them.
-const MOVES: &str = "\
+pub const MOVES: &str = "\
 mov %al,%bl => 88 c3
 movb %al,(%ebx) => 88 03
 mov %eax,%ebx => 89 c3
@@ -41,8 +39,3 @@ xchg %edx,%ecx => 87 d1
 xchgb (%eax),%cl => 86 08
 xchgl %ecx,(%eax) => 87 08
 ";
-
-#[test]
-fn moves_are_assembled(rt: HostRuntime) {
-    are_assembled(&rt, rt.alloc(), MOVES);
-}

@@ -1,3 +1,5 @@
+//! Statements that are refused, and those at the limits.
+
 use super::assembled;
 use asm_instruction::Refusal;
 use std::alloc::Global;
@@ -317,31 +319,25 @@ fn are_refused(rt: &impl Abort, alloc: Global, texts: &str, refusal: Refusal) {
     }
 }
 
+static REFUSALS: [(&str, Refusal); 4] = [
+    (UNKNOWN, Refusal::UnknownInstruction),
+    (REFUSED, Refusal::RefusedInstruction),
+    (OPERANDS, Refusal::Operands),
+    (RANGES, Refusal::ValueRange),
+];
+
+#[test]
+fn statements_are_refused_by_their_cause(rt: HostRuntime) {
+    for (texts, refusal) in REFUSALS.iter() {
+        are_refused(&rt, rt.alloc(), texts, *refusal);
+    }
+}
+
 fn is_taken(alloc: Global, text: &str) -> bool {
     match assembled(alloc, text) {
         Some(Ok(_)) => true,
         _ => false,
     }
-}
-
-#[test]
-fn unknown_names_are_refused(rt: HostRuntime) {
-    are_refused(&rt, rt.alloc(), UNKNOWN, Refusal::UnknownInstruction);
-}
-
-#[test]
-fn refused_names_are_told(rt: HostRuntime) {
-    are_refused(&rt, rt.alloc(), REFUSED, Refusal::RefusedInstruction);
-}
-
-#[test]
-fn operands_without_a_row_are_refused(rt: HostRuntime) {
-    are_refused(&rt, rt.alloc(), OPERANDS, Refusal::Operands);
-}
-
-#[test]
-fn numbers_beyond_their_fields_are_refused(rt: HostRuntime) {
-    are_refused(&rt, rt.alloc(), RANGES, Refusal::ValueRange);
 }
 
 #[test]

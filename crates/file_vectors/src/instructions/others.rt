@@ -1,7 +1,5 @@
-use super::are_assembled;
-
 /// As GNU as assembles them.
-const OTHERS: &str = "\
+pub const OTHERS: &str = "\
 cwtl => 98
 cltd => 99
 nop => 90
@@ -70,8 +68,3 @@ mov foo(%ebx),%ecx => 8b 8b 00 00 00 00 disp 2 0
 mov foo+1(%ebx,%esi,2),%ecx => 8b 8c 73 01 00 00 00 disp 3 0
 mov 4294967295(%ebx),%ecx => 8b 4b ff
 ";
-
-#[test]
-fn flags_strings_system_and_addresses_are_assembled(rt: HostRuntime) {
-    are_assembled(&rt, rt.alloc(), OTHERS);
-}

@@ -1,7 +1,5 @@
-use super::are_assembled;
-
 /// As GNU as assembles them.
-const SHIFTS: &str = "\
+pub const SHIFTS: &str = "\
 rolb $1,%al => d0 c0
 rol %eax => d1 c0
 rorb $3,%cl => c0 c9 03
@@ -20,8 +18,3 @@ sar %cl,%bh => d2 ff
 rol %cl,%esi => d3 c6
 rorl foo => d1 0d 00 00 00 00 disp 2 0
 ";
-
-#[test]
-fn shifts_are_assembled(rt: HostRuntime) {
-    are_assembled(&rt, rt.alloc(), SHIFTS);
-}

@@ -1,3 +1,12 @@
+//! Statements, and the bytes that they come to.
+
+use self::arithmetic::ARITHMETIC;
+use self::control::CONTROL;
+use self::moves::MOVES;
+use self::others::OTHERS;
+use self::own::OWN;
+use self::shifts::SHIFTS;
+use self::stack::STACK;
 use asm_instruction::{Assembled, Named, Refusal, assemble};
 use asm_parse::{Body, SourceItem, parse};
 use std::alloc::Global;
@@ -88,5 +97,14 @@ fn is_assembled(alloc: Global, row: &str) -> bool {
 fn are_assembled(rt: &impl Abort, alloc: Global, rows: &str) {
     for row in rows.lines() {
         assert!(rt; is_assembled(alloc, row), "{row}");
+    }
+}
+
+static ROWS: [&str; 7] = [ARITHMETIC, CONTROL, MOVES, OTHERS, OWN, SHIFTS, STACK];
+
+#[test]
+fn statements_are_assembled(rt: HostRuntime) {
+    for rows in ROWS.iter() {
+        are_assembled(&rt, rt.alloc(), rows);
     }
 }
