@@ -1,3 +1,4 @@
+pub mod Above
 pub mod SumRules
 pub mod Small
 pub mod ShiftRules

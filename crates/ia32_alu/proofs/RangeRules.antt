@@ -15,26 +15,9 @@ use Rattle.ia32_alu.specs.Arithmetic.{alu}
 use Rattle.ia32_alu.specs.Sums.{sum, sum_overflows, difference, difference_overflows}
 use Rattle.ia32_alu.specs.Status.{settled, of_result}
 use Rattle.ia32_alu.specs.Range.{TellsSum, TellsDifference}
-use Rattle.ia32_alu.proofs.SumRules.{once}
+use Rattle.ia32_alu.proofs.Above.{once, above, is_above}
 use Rattle.ia32_alu.proofs.CompareRules.{low_small}
 use Rattle.ia32_alu.proofs.FlagReads.{read_carry, read_overflow}
-
-is_below : (q n : ℕ) → q < n → nat_lt q n ≡ true
-is_below q n less = grind (arith, nat_tests)
-
-is_not_below : (q n : ℕ) → n ≤ q → nat_lt q n ≡ false
-is_not_below q n less = grind (arith, nat_tests)
-
--- a signed number and h above it
-above : ℕ → ℕ → ℕ
-above h a = (a + h) % (h + h)
-
-is_above : (h a : ℕ) → a < h + h → signed_at h a ≡ pos (above h a) -ℤ pos h
-unfolding above
-is_above h a l = elim (once (a + h) (h + h) (omega arith)) [
-  | inl low ↦ rw (is_below a h (omega arith)) (omega (arith, ints, low.1))
-  | inr high ↦ rw (is_not_below a h (omega arith)) (omega (arith, ints, high.1))
-]
 
 -- where z fits, and h below n
 in_range : (h n : ℕ) (z : ℤ) → z +ℤ pos (h + h) ≡ pos n → not (fits_at h z) ≡ false → (h ≤ n) × (n < h + h + h)

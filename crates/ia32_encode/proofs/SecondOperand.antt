@@ -1,13 +1,9 @@
 -- A number or a register as the second operand, by the table: the first row that can spell it.
 use Rattle.std.proofs.Common.{◌≡◌, ℕ, zero, suc, ◌+◌, ◌*◌, ◌%◌, ◌<◌, Bool, true, false, List, [], ◌∷◌, ◌++◌, Some, None, length, replicate, take, drop, refl, sym, ap, subst, ◌∙◌, arith}
-use Rattle.std.specs.Prelude.{◌-◌, ◌==◌, ◌&&◌, ◌||◌, not, nat_le}
-use Rattle.std.specs.List.{list_all}
+use Rattle.std.specs.Prelude.{◌-◌, ◌==◌, ◌&&◌, ◌||◌, not}
 use Rattle.std.specs.Cmp.Derive.{both_true}
-use Rattle.std.proofs.lemmas.Bool.{eq-eqb, lt-ltb, and_parts}
-use Rattle.std.proofs.lemmas.Bool.Decides.{nat_tests}
-use Rattle.std.proofs.lemmas.List.{append-nil, take_at}
-use denote.Enum.Bare.{true_same}
-use Rattle.ia32_types.specs.contracts.insn.Op.{the_type}
+use Rattle.std.proofs.lemmas.Bool.{lt-ltb, and_parts}
+use Rattle.std.proofs.lemmas.List.{take_at}
 use Rattle.ia32_types.specs.declared.insn.Address.{Address}
 use Rattle.ia32_types.specs.declared.insn.Insn.{Insn}
 use Rattle.ia32_types.specs.declared.insn.Op.{Op}
@@ -16,7 +12,6 @@ use Rattle.ia32_types.specs.declared.insn.Operand.{Operand}
 use Rattle.ia32_types.specs.declared.insn.Operand.TheVariants.{Register, Memory}
 use Rattle.ia32_types.specs.declared.size.Size.{Size}
 use Rattle.ia32_types.specs.declared.size.Size.TheVariants.{Byte, Word, Long}
-use Rattle.ia32_types.specs.Size.{width}
 use Rattle.ia32_rows.specs.declared.row.Row.{Row}
 use Rattle.ia32_rows.specs.declared.row.Parts.{Parts}
 use Rattle.ia32_rows.specs.declared.row.Lead.{Lead}
@@ -32,61 +27,13 @@ use Rattle.ia32_rows.specs.Fields.{reg_of}
 use Rattle.ia32_rows.specs.Rows.{rows, row, digit, slash_r}
 use Rattle.ia32_rows.specs.Spelling.{has_code, operands_of, repeats, insn_of}
 use Rattle.ia32_encode.specs.declared.choose.Wide.{Wide}
-use Rattle.ia32_encode.specs.Same.{same_op, same_size}
-use Rattle.ia32_encode.specs.Chosen.{Suits, chosen, chosen_from}
+use Rattle.ia32_encode.specs.Chosen.{Suits, chosen}
 use Rattle.ia32_encode.specs.Parts.{rm_from, parts_for, form_fits, address_fits, rm_fits, is_offset, addressing_fits, immediate_fits}
 use Rattle.ia32_encode.specs.Pushed.{laid_out}
 use Rattle.ia32_encode.specs.Text.{is_signed_byte, index_number, base_number, disp_len_of, memory_len, mode_for, scale_bits, disp_bytes, modrm, has_sib, memory_bytes}
 use Rattle.ia32_encode.specs.Short.{arithmetic, with_number, with_registers, plain, with_displacement, Begins, IsSpelledByDigit}
-use Rattle.ia32_encode.proofs.Function.{suits_true, fails}
 use Rattle.ia32_encode.proofs.Back.{base_below}
-use Rattle.ia32_encode.proofs.ShortForms.{itself}
-
--- ---- rows that can't suit are passed by
-
--- a test that each row which suits the instruction passes
-abbrev Needs : (Row → Bool) → Wide → Insn → Type 0
-Needs can w i = (r : Row) → Suits r w i → can r ≡ true
-
-abbrev none_can : (Row → Bool) → List Row → Bool
-none_can can = list_all (λ r. not (can r))
-
-cannot : (b : Bool) → not b ≡ true → b ≡ true → ⊥
-cannot true h e = cc
-cannot false h e = cc
-
-passed_by : (can : Row → Bool) (w : Wide) (i : Insn) → Needs can w i → (before after : List Row) → none_can can before ≡ true → chosen_from (before ++ after) w i ≡ chosen_from after w i
-unfolding chosen_from
-passed_by can w i needs [] after h = refl
-passed_by can w i needs (r ∷ before) after h =
-    let e = and_parts (not (can r)) (none_can can before) h in
-    rw (fails r w i (λ s. cannot (can r) e.0 (needs r s))) (passed_by can w i needs before after e.1)
-
-suited_first : (r : Row) (after : List Row) (w : Wide) (i : Insn) → Suits r w i → chosen_from (r ∷ after) w i ≡ Some (laid_out r.form (parts_for r w.disp i))
-unfolding chosen_from
-suited_first r after w i s = rw (suits_true r w i s) refl
-
--- what is chosen is by the first row that can suit, if it does
-first_of : (can : Row → Bool) (w : Wide) (i : Insn) → Needs can w i → (before after : List Row) (r : Row) → rows ≡ before ++ r ∷ after → none_can can before ≡ true → Suits r w i
-    → chosen w i ≡ Some (laid_out r.form (parts_for r w.disp i))
-unfolding chosen
-first_of can w i needs before after r e h s = ap (λ (t : List Row). chosen_from t w i) e ∙ passed_by can w i needs before (r ∷ after) h ∙ suited_first r after w i s
-
-none_from : (w : Wide) (i : Insn) → chosen_from [] w i ≡ None
-unfolding chosen_from
-none_from w i = refl
-
-none_of : (can : Row → Bool) (w : Wide) (i : Insn) → Needs can w i → none_can can rows ≡ true → chosen w i ≡ None
-unfolding chosen
-none_of can w i needs h = ap (λ (t : List Row). chosen_from t w i) (sym (append-nil rows)) ∙ passed_by can w i needs rows [] h ∙ none_from w i
-
--- rows of this instruction and size
-abbrev is_of : Op → Size → Row → Bool
-is_of o s r = same_op r.op o && same_size r.size s
-
-needs_same : (w : Wide) (i : Insn) → Needs (is_of i.op i.size) w i
-unfolding insn_of
-needs_same w i r s = both_true (true_same the_type r.op i.op (ap (λ (j : Insn). j.op) s.means)) (eq-eqb (width r.size) (width i.size) (ap (λ (j : Insn). width j.size) s.means))
+use Rattle.ia32_encode.proofs.FirstRow.{none_can, first_of, none_of, is_of, needs_same, itself, code_itself, Needs}
 
 -- ---- a number that fits a signed byte
 
@@ -273,9 +220,6 @@ needs_pair o s m n r t =
 
 abbrev pair_row : Lead → ℕ → Op → Size → Row
 pair_row l code o s = row l code plus.Nothing slash_r immediate.Nothing o s operands.RmReg
-
-code_itself : (n : ℕ) → (nat_le n n && nat_le n n) ≡ true
-code_itself n = grind (arith, nat_tests)
 
 pair_suits : (l : Lead) (code : ℕ) (o : Op) (s : Size) (m n : ℕ) → repeats l ≡ false → m < 8 → n < 8 → Suits (pair_row l code o s) plain (with_registers o s m n)
 unfolding parts_for form_fits insn_of
