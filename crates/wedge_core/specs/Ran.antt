@@ -1,7 +1,8 @@
 -- What the host did at one call, and where that leaves the guest.
-use Rattle.std.specs.Prelude.{◌≡◌, ℕ, ◌+◌, ◌≤◌, ◌<◌, List, false}
+use Rattle.std.specs.Prelude.{◌≡◌, ℕ, ◌+◌, ◌≤◌, ◌<◌, List, true, false}
 use Rattle.ia32_types.specs.declared.flags.Regs.{Regs}
-use Rattle.board.specs.Boards.{board_steps}
+use Rattle.board.specs.Boards.{board_steps, comes_within}
+use Rattle.board.specs.Scripts.{Events}
 use Rattle.host_cpl3.specs.declared.view.View.{View}
 use Rattle.host_cpl3.specs.declared.exit.Exit.{Exit}
 use Rattle.host_cpl3.specs.declared.exit.Exit.TheVariants as exits
@@ -38,3 +39,11 @@ pub record Ran {S : Type 0} (v : View) (k : ℕ) (s : Standing) (old : Running S
   pub few : done ≤ k
   pub none : done ≡ 0 → new ≡ old
   pub some : 0 < done → new ≡ record old { cpu = record old.cpu { regs = landed exit regs; held = false }; board = board_steps done old.board; step = old.step + done }
+
+-- The host was asked for as many instructions as pass before the next edge or event, and for no more than `limit`. The events
+-- of this step were given.
+pub record RanOn {S : Type 0} (v : View) (script : Events) (limit : ℕ) (s : Standing) (old : Running S) (done : ℕ) (new : Running S) (memory : List ℕ) (retired passed : ℕ) : Type 0 where
+  pub asked : ℕ
+  pub most : asked ≤ limit
+  pub furthest : asked < limit → comes_within old.board script old.step asked ≡ true
+  pub ran : Ran v asked s old done new memory retired passed

@@ -14,7 +14,7 @@ ghost use Rattle.wedge_step.specs.Standing.{IsHeld, IsAble, ground, state_of};
 ghost use Rattle.wedge_core.specs.Views.{may_run, view_by};
 ghost use Rattle.wedge_step.specs.Pools.{Keeps};
 ghost use Rattle.wedge_core.specs.Stepping.{Passes};
-ghost use Rattle.wedge_core.specs.Ran.{Ran, LeadsLow, landed};
+ghost use Rattle.wedge_core.specs.Ran.{Ran, RanOn, LeadsLow, landed};
 ghost use Rattle.host_cpl3.specs.Hosts.{standing};
 
 use crate::laws::views_lend;
@@ -102,7 +102,8 @@ pub fn run_on<S: Shadows + Drop, H: Host>(running: &mut Running<S>, host: &mut H
     done
 }
 
-/// A stretch up to the bound, the next edge or the next event. The events of this step were given.
+/// A stretch up to the bound, the next edge or the next event: of so many instructions the host does as many as it can one
+/// behind the other. The events of this step were given.
 pub fn stretch<S: Shadows + Drop, H: Host>(
     running: &mut Running<S>,
     host: &mut H,
@@ -135,6 +136,9 @@ pub fn stretch<S: Shadows + Drop, H: Host>(
     ensures most { running.new.step ≤ bound }
     ensures retired { H.retired host.new ≡ H.retired host.old + result }
     ensures passed { result ≡ 0 → H.passed host.new ≡ H.passed host.old }
+    ensures ran { running.old.cpu.held ≡ false → may_run running.old.cpu running.old.board image.now ≡ true
+        → RanOn (view_by (S.directory running.old.shadows) running.old.cpu) script.now.list (bound - running.old.step)
+        (standing running.old.cpu.regs (H.bytes host.old) (H.retired host.old) (H.passed host.old)) running.old result running.new (H.bytes host.new) (H.retired host.new) (H.passed host.new) }
 {
     if running.cpu.held || !may_run(&running.cpu, &running.board, image) {
         return 0;
@@ -150,6 +154,8 @@ fn steps_until_next(board: &Board, script: &Script, step: u64, most: u64) -> u64
     requires script { is_script script.now.list ≡ true }
     ensures most { result ≤ most }
     ensures quiet { 0 < result → comes_within board.now script.now.list step (result - 1) ≡ false }
+    // Fewer than that number only where something comes behind them.
+    ensures furthest { result < most → comes_within board.now script.now.list step result ≡ true }
 {
     match board.next_event(script, step) {
         None => most,

@@ -105,4 +105,10 @@ returns g c =
       retired = ran.count;
       passed = passed_on stands frames slots directory laws image old.frames old c.requires.held.0 memory c.requires.held.1 views.lends views.sees c.advances.ensures c.requires.able may c.if-running.false retired passed k done now memory_then retired_then passed_then ran
           script quiet;
+      ran = λ _ _. record {
+        asked = k;
+        most = most;
+        furthest = c.steps_until_next-k.ensures.furthest;
+        ran = ran;
+      };
     }
