@@ -18,19 +18,13 @@ const ONE: &[u8] = &[
 /// That small image of 8,496 bytes with other annotations, which are no longer than its own. They begin at 0x2000, and the
 /// fifth section header has their size at 8,436.
 fn with_annotations(rt: &impl Abort, alloc: Global, image: &[u8], annotations: &[u8]) -> Vec<u8> {
-    assert!(rt; image.len() == 8496 && annotations.len() <= 24);
-    let size = annotations.len() as u32;
-    joined(
-        rt,
-        alloc,
-        &[
-            &image[..0x2000],
-            annotations,
-            &image[0x2000 + annotations.len()..8436],
-            &size.to_le_bytes(),
-            &image[8440..],
-        ],
-    )
+    let before = image.get(..0x2000).expect(rt, "an image");
+    let between = image.get(0x2000..8436).expect(rt, "an image");
+    let rest = between.get(annotations.len()..).expect(rt, "no longer");
+    let size = u32::try_from(annotations.len()).expect(rt, "no longer");
+    let behind = image.get(8440..).expect(rt, "an image");
+    let pieces = [before, annotations, rest, &size.to_le_bytes(), behind];
+    joined(rt, alloc, &pieces)
 }
 
 /// Annotations, what `check` tells, and what both machines print.
@@ -46,16 +40,28 @@ static ANNOTATED: [Annotated; 3] = [
     (b"PV", (3, b"refused 69 at 2\n"), (3, b"refused 69 at 2\n")),
 ];
 
-fn is_annotated(rt: &impl Abort, alloc: Global, image: &[u8], row: usize, annotated: &Annotated) {
-    let (annotations, checked, printed) = *annotated;
-    let changed = with_annotations(rt, alloc, image, annotations);
+/// `check` tells this of an image, and both machines print that.
+fn tells_and_prints<'x>(
+    rt: &impl Abort,
+    alloc: Global,
+    row: usize,
+    image: &'x [u8],
+    checked: Told<'x>,
+    printed: Told<'x>,
+) {
     let steps = [
-        Step::Store("I", &changed),
+        Step::Store("I", image),
         Step::Store("B", b""),
         Step::Tell(CHECK, checked),
         Step::Print("8", Prints::Alike(printed)),
     ];
     follow(rt, alloc, row, &steps);
+}
+
+fn is_annotated(rt: &impl Abort, alloc: Global, image: &[u8], row: usize, annotated: &Annotated) {
+    let (annotations, checked, printed) = *annotated;
+    let changed = with_annotations(rt, alloc, image, annotations);
+    tells_and_prints(rt, alloc, row, &changed, checked, printed);
 }
 
 #[test]
