@@ -49,9 +49,7 @@ fn definitions(alloc: Global, count: usize) -> Result<Vec<Definition>, AllocErro
     ensures { IfOk result (λ v. v.items ≡ replicate count undefined) }
 {
     let mut list = Vec::new(alloc);
-    for _ in 0..count {
-        list.push(undefined())?;
-    }
+    list.resize(count, undefined())?;
     Ok(list)
 }
 

@@ -1,5 +1,8 @@
 -- The tokens that end with a byte lie among the bytes so far.
-use Rattle.std.proofs.Common.{◌≡◌, ℕ, ◌+◌, ◌≤◌, List, length, Option, Some, None}
+use Rattle.std.proofs.Common.{◌≡◌, ℕ, ◌+◌, ◌≤◌, List, length, Option, Some, None, Result, Ok, Err, IfOk, sym, ap, ◌∙◌}
+use Rattle.asm_lex.specs.declared.fault.SourceFault.{SourceFault}
+use Rattle.asm_lex.specs.declared.machine.Stepped.{Stepped}
+use Rattle.asm_statement.specs.declared.state.StatementState.{StatementState}
 use Rattle.asm_lex.specs.declared.token.Token.{Token}
 use Rattle.asm_lex.specs.declared.machine.Mode.{Mode}
 use Rattle.asm_lex.specs.declared.machine.Next.TheVariants.{Goes}
@@ -20,3 +23,8 @@ fits_second seen m at line b e h = fits_is seen (at + 1) _ e (sound m at line b 
 
 pub starts_next : (m : Mode) (at line b : ℕ) (n : Mode) → start_of m at ≤ at → (stepped m at line b).next ≡ Goes n → start_of n (at + 1) ≤ at + 1
 starts_next m at line b n h e = low.starts_next m at line b n h e
+
+pub begins_next : (m : Mode) (at line b : ℕ) (s : Stepped) (r : Result (StatementState × Mode) SourceFault) → s ≡ stepped m at line b → start_of m at ≤ at
+    → IfOk r (λ x. s.next ≡ Goes x.1) → IfOk r (λ x. start_of x.1 (at + 1) ≤ at + 1)
+begins_next m at line b s (Ok x) is h next = starts_next m at line b x.1 h (ap (λ (y : Stepped). y.next) (sym is) ∙ next)
+begins_next m at line b s (Err e) is h next = tt

@@ -244,7 +244,6 @@ fn tokens(
 }
 
 /// A byte of the source; `seen` are the bytes up to and including it.
-#[tactic(auto, using(crate::proofs::Stepping::fits_first, crate::proofs::Stepping::fits_second, crate::proofs::Stepping::starts_next), unfolding(crate::specs::Running::one_byte_over))]
 fn one_byte(
     alloc: Global,
     scope: &mut Scope,

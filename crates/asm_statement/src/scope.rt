@@ -104,7 +104,8 @@ impl Scope {
             defined,
             skipping: _,
         } = self;
-        discard_names(names, defined);
+        discard_names(names);
+        discard_names(defined);
     }
 
     pub fn into_items(self) -> Vec<SourceItem>
@@ -116,10 +117,11 @@ impl Scope {
             defined,
             skipping: _,
         } = self;
-        discard_names(names, defined);
+        discard_names(names);
+        discard_names(defined);
         items
     }
 }
 
 /// Lets go of names.
-fn discard_names(_names: Names, _defined: Names) {}
+fn discard_names(_names: Names) {}

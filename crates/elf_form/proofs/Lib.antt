@@ -24,6 +24,7 @@ pub mod RecordLaws
 pub mod ObjectAcceptance
 mod EachEntry
 pub mod LinkableObjects
+pub mod LowerPlaces
 pub mod Lowest
 pub mod OrderLaws
 pub mod BadSections

@@ -1,6 +1,6 @@
 //! Reading an object.
 
-ghost use Rattle.std.specs.Prelude.{◌≡◌, ℕ, ◌≤◌, ◌<◌, ◌+◌, ◌*◌, ◌^◌, ◌∷◌, List, length, All, IfNone, IfSome, IfOk};
+ghost use Rattle.std.specs.Prelude.{◌≡◌, ℕ, ◌≤◌, ◌<◌, ◌+◌, ◌*◌, ◌^◌, ◌∷◌, List, ◌++◌, length, All, IfNone, IfSome, IfOk, OnOk};
 ghost use Rattle.elf_form.specs.declared.roles.Role.TheVariants as role;
 ghost use Rattle.elf_form.specs.declared.cause.ElfCause.{ElfCause};
 ghost use Rattle.elf_form.specs.declared.cause.ElfCause.TheVariants.{Sizes};
@@ -22,7 +22,7 @@ use crate::header::{cut, identified, lower, test};
 use crate::joining::{joined, starts};
 use crate::object::{Object, Reloc};
 use crate::object_conditions::{object_form, object_sizes, string_places, strings_of, table_of};
-use crate::records::{Starts, numbers, put_relocs, symbols_in};
+use crate::records::{Starts, numbers, put_relocs, put_symbols};
 use crate::roles::{Role, with_role};
 use crate::sections::{compressed, contents, names};
 use crate::segments::{Found, LIMIT};
@@ -109,26 +109,48 @@ fn sites_in(bytes: &[u8], found: Found) -> &[u8]
     }
 }
 
-/// The relocations of an object's text, and behind them those of its data.
+/// Adds the relocations of an object's text, and behind them those of its data.
 #[tactic(auto, unfolding(crate::specs::ObjectReading::object_at))]
-fn relocs_in(
+fn put_kept(
+    out: &mut Vec<Reloc>,
     alloc: Global,
     starts: Starts,
     bytes: &[u8],
     kept: &Kept,
-) -> Result<Vec<Reloc>, AllocError>
+) -> Result<(), AllocError>
     requires whole { IsWhole bytes.now }
     requires kept { AreKept bytes.now kept.now }
     requires init { starts.init.now ≡ starts_of role.Init (names_in bytes.now) bytes.now 0 (sections bytes.now) }
     requires bss { starts.bss.now ≡ starts_of role.Bss (names_in bytes.now) bytes.now 0 (sections bytes.now) }
-    ensures { IfOk result (λ v. v.items ≡ (object_at bytes.now).relocs) }
+    ensures { OnOk result (out.new.items ≡ out.old.items ++ (object_at bytes.now).relocs) }
 {
     let names = names(bytes);
     let numbers = numbers(alloc, table_of(bytes), names, bytes)?;
-    let mut relocs = Vec::new(alloc);
-    put_relocs(&mut relocs, starts, &numbers, names, bytes, &kept.text)?;
-    put_relocs(&mut relocs, starts, &numbers, names, bytes, &kept.init)?;
-    Ok(relocs)
+    put_relocs(out, starts, &numbers, names, bytes, &kept.text)?;
+    put_relocs(out, starts, &numbers, names, bytes, &kept.init)
+}
+
+/// The bytes of an object.
+#[derive(Drop)]
+struct Parts {
+    text: Vec<u8>,
+    init: Vec<u8>,
+    sites: Vec<u8>,
+}
+
+#[tactic(auto, unfolding(crate::specs::ObjectReading::object_at))]
+fn parts_in(alloc: Global, bytes: &[u8]) -> Result<Parts, AllocError>
+    requires { IsWhole bytes.now }
+    ensures text { IfOk result (λ parts. parts.text.items ≡ (object_at bytes.now).text) }
+    ensures init { IfOk result (λ parts. parts.init.items ≡ (object_at bytes.now).init) }
+    ensures sites { IfOk result (λ parts. parts.sites.items ≡ (object_at bytes.now).sites) }
+{
+    let names = names(bytes);
+    Ok(Parts {
+        text: Vec::from_slice(alloc, text_in(bytes, with_role(Role::Text, names, bytes)))?,
+        init: joined(alloc, names, bytes)?,
+        sites: Vec::from_slice(alloc, sites_in(bytes, with_role(Role::Sites, names, bytes)))?,
+    })
 }
 
 /// The object whose joined sections begin at `starts`, with `bss` zeroed bytes.
@@ -148,20 +170,28 @@ fn object_with(
     ensures { IfOk result (λ o. o ≡ object_at bytes.now) }
 {
     let names = names(bytes);
+    let table = table_of(bytes);
+    let parts = parts_in(alloc, bytes)?;
+    let mut symbols = Vec::new(alloc);
+    put_symbols(
+        &mut symbols,
+        alloc,
+        starts,
+        table,
+        strings_of(bytes),
+        names,
+        bytes,
+    )?;
+    let mut relocs = Vec::new(alloc);
+    put_kept(&mut relocs, alloc, starts, bytes, kept)?;
+    let Parts { text, init, sites } = parts;
     Ok(Object {
-        text: Vec::from_slice(alloc, text_in(bytes, with_role(Role::Text, names, bytes)))?,
-        init: joined(alloc, names, bytes)?,
+        text,
+        init,
         bss,
-        sites: Vec::from_slice(alloc, sites_in(bytes, with_role(Role::Sites, names, bytes)))?,
-        symbols: symbols_in(
-            alloc,
-            starts,
-            table_of(bytes),
-            strings_of(bytes),
-            names,
-            bytes,
-        )?,
-        relocs: relocs_in(alloc, starts, bytes, kept)?,
+        sites,
+        symbols,
+        relocs,
     })
 }
 
@@ -183,15 +213,24 @@ fn object_at(alloc: Global, bytes: &[u8], kept: &Kept) -> Result<Object, AllocEr
 }
 
 #[tactic(auto, unfolding(crate::specs::Faults::tested, crate::specs::ObjectReading::wrong_object))]
+fn kept_tested(alloc: Global, bytes: &[u8], kept: &Kept) -> Result<Object, ElfFault>
+    requires whole { IsWhole bytes.now }
+    requires limit { length bytes.now ≤ LIMIT }
+    requires kept { AreKept bytes.now kept.now }
+    ensures { Gives (λ o. o) result (tested (wrong_object bytes.now) late_causes (object_at bytes.now)) }
+{
+    test(ElfCause::SymbolForm, symbol_form(bytes, kept))?;
+    test(ElfCause::RelocForm, reloc_form(bytes, kept))?;
+    Ok(object_at(alloc, bytes, kept)?)
+}
+
 fn late_tested(alloc: Global, bytes: &[u8]) -> Result<Object, ElfFault>
     requires whole { IsWhole bytes.now }
     requires limit { length bytes.now ≤ LIMIT }
     ensures { Gives (λ o. o) result (tested (wrong_object bytes.now) late_causes (object_at bytes.now)) }
 {
     let kept = kept_in(alloc, bytes)?;
-    test(ElfCause::SymbolForm, symbol_form(bytes, &kept))?;
-    test(ElfCause::RelocForm, reloc_form(bytes, &kept))?;
-    Ok(object_at(alloc, bytes, &kept)?)
+    kept_tested(alloc, bytes, &kept)
 }
 
 #[tactic(auto, unfolding(crate::specs::Faults::tested, crate::specs::ObjectReading::wrong_object))]

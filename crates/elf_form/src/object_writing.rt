@@ -51,7 +51,13 @@ fn count_of(relocs: &[Reloc], in_text: bool) -> usize
     ensures exact { result ≡ count_by (is_of in_text) relocs.now }
     ensures within { result ≤ length relocs.now }
 {
-    relocs.iter().filter(|r| is_of(in_text, r)).count()
+    let mut count = 0;
+    for r in relocs {
+        if is_of(in_text, r) {
+            count += 1;
+        }
+    }
+    count
 }
 
 fn place_number(place: DefinedIn) -> u16
@@ -188,8 +194,7 @@ fn put_header(out: &mut Vec<u8>, object: &Object, layout: &Layout) -> Result<(),
     out.extend_from_slice(&IDENTITY)?;
     put_halves(out, &[1, 3])?;
     put_longs(out, &[1, 0, 0, layout.sections, 0])?;
-    put_halves(out, &[52, 0, 0, 40, 10, 9])?;
-    Ok(())
+    put_halves(out, &[52, 0, 0, 40, 10, 9])
 }
 
 #[tactic(auto, unfolding(crate::specs::ObjectLayout::object_parts))]
@@ -296,9 +301,32 @@ fn put_table_sections(
     put_longs(out, &numbers)
 }
 
+/// Puts the whole file of an object.
+#[tactic(auto, unfolding(crate::specs::ObjectLayout::object_bytes))]
+fn put_object(
+    out: &mut Vec<u8>,
+    object: &Object,
+    strings: &[u8],
+    places: &Places,
+) -> Result<(), AllocError>
+    requires writable { IsWritableObject object.now }
+    requires strings { strings.now ≡ strings_of object.now.symbols }
+    requires places { HasPlaces (names_of object.now.symbols) places.now }
+    ensures bytes { OnOk result (out.new.items ≡ out.old.items ++ object_bytes object.now) }
+    ensures values { OnOk result (HasValues object.now) }
+{
+    let lengths = lengths_of(object, strings.len());
+    let layout = layout_for(object, lengths);
+    put_header(out, object, &layout)?;
+    put_parts(out, object, &layout)?;
+    put_tables(out, object, strings, places, &layout)?;
+    put_part_sections(out, object, &lengths, &layout)?;
+    put_table_sections(out, object, &lengths, &layout)?;
+    Ok(())
+}
+
 /// The one layout of an object. The file of a whole object, where it has at most 33,554,432
 /// bytes, is read as the same object.
-#[tactic(auto, unfolding(crate::specs::ObjectLayout::object_bytes))]
 pub fn write_object(alloc: Global, object: &Object) -> Result<Vec<u8>, AllocError>
     requires { IsWritableObject object.now }
     ensures layout { IfOk result (λ v. v.items ≡ object_bytes object.now) }
@@ -306,13 +334,7 @@ pub fn write_object(alloc: Global, object: &Object) -> Result<Vec<u8>, AllocErro
     ensures read_back { IfOk result (λ v. IsWholeObject object.now → length v.items ≤ 33554432 → object_in v.items ≡ Ok object.now) }
 {
     let (strings, places) = strings(alloc, &object.symbols)?;
-    let lengths = lengths_of(object, strings.len());
-    let layout = layout_for(object, lengths);
     let mut out = Vec::new(alloc);
-    put_header(&mut out, object, &layout)?;
-    put_parts(&mut out, object, &layout)?;
-    put_tables(&mut out, object, &strings, &places, &layout)?;
-    put_part_sections(&mut out, object, &lengths, &layout)?;
-    put_table_sections(&mut out, object, &lengths, &layout)?;
+    put_object(&mut out, object, &strings, &places)?;
     Ok(out)
 }

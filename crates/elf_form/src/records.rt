@@ -86,25 +86,25 @@ fn symbol_at(
     })
 }
 
-/// The symbols that are listed, in the order of the table.
+/// Adds the symbols that are listed, in the order of the table.
 #[tactic(auto, unfolding(crate::specs::Symbols::symbols_in))]
-pub fn symbols_in(
+pub fn put_symbols(
+    out: &mut Vec<Symbol>,
     alloc: Global,
     starts: Starts,
     table: Table,
     strings: &[u8],
     names: &[u8],
     bytes: &[u8],
-) -> Result<Vec<Symbol>, AllocError>
+) -> Result<(), AllocError>
     requires whole { IsWhole bytes.now }
     requires init { starts.init.now ≡ starts_of Init names.now bytes.now 0 (sections bytes.now) }
     requires bss { starts.bss.now ≡ starts_of Bss names.now bytes.now 0 (sections bytes.now) }
     requires table { 0 < table.count → table.at + 16 * table.count ≤ length bytes.now }
-    ensures { IfOk result (λ v. v.items ≡ symbols_in table strings.now names.now bytes.now) }
+    ensures { OnOk result (out.new.items ≡ out.old.items ++ symbols_in table strings.now names.now bytes.now) }
 {
-    let mut out = Vec::new(alloc);
     if table.count == 0 {
-        return Ok(out);
+        return Ok(());
     }
     let first = table.at + 16;
     let count = table.count - 1;
@@ -114,7 +114,7 @@ pub fn symbols_in(
             out.push(symbol_at(alloc, starts, strings, names, bytes, y)?)?;
         }
     }
-    Ok(out)
+    Ok(())
 }
 
 /// How many symbols that are listed come before each symbol of the table, the null one apart.

@@ -2,6 +2,7 @@
 
 ghost use Rattle.std.specs.Prelude.{◌≡◌, ◌≤◌, ◌<◌, ◌+◌, ◌*◌, ◌^◌, length, filter, IfSome};
 ghost use Rattle.guest_ram.specs.Bytes.{word16, word32};
+ghost use Rattle.guest_ram.specs.Among.{is_among};
 ghost use Rattle.elf_form.specs.Tables.{entries, found, AllFound};
 ghost use Rattle.elf_form.specs.Header.{IsWhole, IsSection, sections};
 ghost use Rattle.elf_form.specs.Roles.{allocated_role, unallocated_role, role_by, role as role_of, role_number, has_role, with_role, is_kept, alignments, is_misaligned, misaligned, joined_fault, up};
@@ -136,10 +137,16 @@ pub fn up(alignment: u32, n: u64) -> u64
 
 const ALIGNMENTS: [u32; 14] = [0, 1, 2, 4, 8, 16, 32, 64, 128, 256, 512, 1024, 2048, 4096];
 
+fn is_alignment(number: u32) -> bool
+    ensures { result ≡ is_among number alignments }
+{
+    ALIGNMENTS.contains(&number)
+}
+
 pub fn is_misaligned(names: &[u8], bytes: &[u8], s: usize) -> bool
     requires { s + 40 ≤ length bytes.now }
     ensures { result ≡ is_misaligned names.now bytes.now s }
 {
     (has_role(Role::Init, names, bytes, s) || has_role(Role::Bss, names, bytes, s))
-        && !ALIGNMENTS.contains(&word(bytes, s + 32))
+        && !is_alignment(word(bytes, s + 32))
 }

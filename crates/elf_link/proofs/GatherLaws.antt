@@ -200,6 +200,7 @@ module _ (os : List ObjectParts) (i : ℕ) (o : ObjectParts) (t : Totals) (gs : 
 -- what is known of all objects
 pub record Gathers (os : List ObjectParts) (t : Totals) (gs : List (List ℕ × Target)) (sites : List Site) : Type 0 where
   pub exact : tested (first_some (object_refusal os) (numbered os)) ≡ Ok tt
+  pub sums : t ≡ totals os
   pub within : IsWithin (totals os)
   pub names : gs ≡ globals os
   pub moved : sites ≡ linked_sites os
@@ -215,6 +216,7 @@ gathered_all os i t gs sites le now =
     let all : take i (numbered os) ≡ numbered os = take_all i (numbered os) (omega (arith, length-numbered os)) in
     record {
       exact = ap tested (first_end (object_refusal os) (numbered os) i (omega (arith, length-numbered os)) now.none_before);
+      sums = now.sums ∙ ap totals whole;
       within = subst (λ (u : Totals). IsWithin u) (now.sums ∙ ap totals whole) now.within;
       names = now.names ∙ ap definitions all;
       moved = now.moved ∙ ap (flat_map (moved_sites os)) all;

@@ -24,6 +24,17 @@ pub cause_none : (n : ℕ) (cause : Option LinkCause) → tested (refused n caus
 cause_none n None h = refl
 cause_none n (Some cause) h = absurd (cc)
 
+pub name_none : (name : Option (List ℕ)) → doubled_cause name ≡ None → name ≡ None
+name_none None h = refl
+name_none (Some name) h = absurd (cc)
+
+pub size_fail : (n : ℕ) (t : Totals) (before : List Site) (gs : List (List ℕ × Target)) (o : ObjectParts) (e : LinkFault) (cause : Option LinkCause) → cause ≡ size_cause t o → Fails e (tested (refused n cause)) → Fails e (tested (refused n (step_cause t before gs (n, o))))
+unfolding step_cause
+size_fail n t before gs o faults.Memory cause is h = tt
+size_fail n t before gs o (faults.At object other) None is h = absurd (cc)
+size_fail n t before gs o (faults.At object other) (Some cause) is h =
+    subst (λ (c : Option LinkCause). tested (refused n (option_or c (option_or (then_some (sites_wrong_by t before o) SitesForm) (doubled_cause (first_doubled (keys gs) (exported_names (n, o))))))) ≡ Err (record { object = object; cause = other })) is h
+
 module _ (n : ℕ) (t : Totals) (before : List Site) (gs : List (List ℕ × Target)) (o : ObjectParts) (none : size_cause t o ≡ None) where
   own : Option LinkCause
   own = doubled_cause (first_doubled (keys gs) (exported_names (n, o)))

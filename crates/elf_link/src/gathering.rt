@@ -175,6 +175,7 @@ pub fn gather_all(alloc: Global, objects: &Vec<Object>) -> Result<Gathered, Link
     requires few { length objects.now.items ≤ 64 }
     requires linkable { All IsLinkable objects.now.items }
     ensures exact { Gives (λ _. tt) result (tested (first_some (object_refusal objects.now.items) (numbered objects.now.items))) }
+    ensures totals { IfOk result (λ all. all.totals ≡ totals objects.now.items) }
     ensures within { IfOk result (λ _. IsWithin (totals objects.now.items)) }
     ensures globals { IfOk result (λ all. all.globals ≡ globals objects.now.items) }
     ensures sites { IfOk result (λ all. all.sites.items ≡ linked_sites objects.now.items) }

@@ -105,8 +105,8 @@ pub fn copy_of(alloc: Global, name: &[u8]) -> Result<Bytes, AllocError>
     })
 }
 
-/// Adds the names that object `number` defines for all objects, up to the first that is there
-/// already, which is answered.
+/// Adds the names that object `number` defines for all objects, or answers the first that is there
+/// already; what was added before it is then of no more use.
 pub fn export(
     alloc: Global,
     globals: &mut Globals,

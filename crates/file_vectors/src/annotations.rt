@@ -1,13 +1,14 @@
 //! Worked annotations, as bytes and in memory.
 
-ghost use Rattle.std.specs.Prelude.{◌<◌, ◌^◌, length};
+ghost use Rattle.std.specs.Prelude.{◌≡◌, ◌<◌, ◌^◌, length};
 
-use crate::agree::{are_bytes, put_times};
+use crate::agree::{are_bytes, are_same, holds, list, put_times};
 use crate::vectors::WORKED_SITES;
 use guest_ram::Ram;
 use ia32_types::SiteKind;
 use sites::{Site, Sites, SitesFault, are_gapped, patch, read_sites, write_sites};
-use std::alloc::{AllocError, Global};
+use std::alloc::Global;
+use std::process::Abort;
 
 /// OUT at 7 and HLT at 12, each with four NOPs behind it.
 const OUT_AND_HLT: [Site; 2] = [
@@ -25,8 +26,18 @@ const OUT_AND_HLT: [Site; 2] = [
     },
 ];
 
+/// The bytes that those sites are written as in a format.
+fn written(rt: &impl Abort, alloc: Global, format: u8) -> Vec<u8> {
+    let list = Vec::from_slice(alloc, &OUT_AND_HLT).expect(rt, "memory");
+    if format == 1 {
+        return write_sites(alloc, &Sites { list, format: 1 }).expect(rt, "memory");
+    }
+    assert!(rt; are_gapped(&list));
+    write_sites(alloc, &Sites { list, format: 2 }).expect(rt, "memory")
+}
+
 /// Whether the bytes are read as those sites in that format.
-fn is_worked(alloc: Global, bytes: &[u8], format: u8) -> bool
+fn is_read(alloc: Global, bytes: &[u8], format: u8) -> bool
     requires { length bytes.now < 2 ^ 32 }
 {
     match read_sites(alloc, bytes) {
@@ -35,33 +46,33 @@ fn is_worked(alloc: Global, bytes: &[u8], format: u8) -> bool
     }
 }
 
-/// The same sites by their gaps.
-const GAPS: &[u8] = b"PVS2\x02\0\0\0\x07\0\0\x14\x01\0\0\0\x04\x01";
+/// A format, and the bytes of those sites.
+type Format = (u8, &'static [u8]);
+
+/// By their places, and by their gaps.
+static FORMATS: [Format; 2] = [
+    (1, WORKED_SITES),
+    (2, b"PVS2\x02\0\0\0\x07\0\0\x14\x01\0\0\0\x04\x01"),
+];
+
+fn is_worked(rt: &impl Abort, alloc: Global, row: &Format) -> bool {
+    let (format, bytes) = *row;
+    let found = written(rt, alloc, format);
+    are_same(&found, bytes) && bytes.len() < 100 && is_read(alloc, bytes, format)
+}
 
 #[test]
 fn worked_annotations_are_written_and_read(rt: HostRuntime) {
-    let alloc = rt.alloc();
-    let sites = Sites {
-        list: Vec::from_slice(alloc, &OUT_AND_HLT).expect(&rt, "memory"),
-        format: 1,
-    };
-    let bytes = write_sites(alloc, &sites).expect(&rt, "memory");
-    are_bytes(&rt, &bytes, WORKED_SITES);
-    let sites = Sites {
-        list: Vec::from_slice(alloc, &OUT_AND_HLT).expect(&rt, "memory"),
-        format: 2,
-    };
-    assert!(rt; are_gapped(&sites.list));
-    let bytes = write_sites(alloc, &sites).expect(&rt, "memory");
-    are_bytes(&rt, &bytes, GAPS);
-    assert!(rt; is_worked(alloc, WORKED_SITES, 1) && is_worked(alloc, GAPS, 2));
+    for (k, row) in FORMATS.iter().enumerate() {
+        holds(&rt, k, is_worked(&rt, rt.alloc(), row));
+    }
 }
 
 /// A number of sites, the head that tells it, and what read_sites answers.
 type Counted = (u32, &'static [u8], Result<usize, u32>);
 
 // 256 times CLI behind the longest gap: the last one ends at 256 * (2^24 - 1 + 5).
-const COUNTED: [Counted; 2] = [
+static COUNTED: [Counted; 2] = [
     (255, b"PVS2\xFF\0\0\0", Ok(255)),
     (256, b"PVS2\0\x01\0\0", Err(1283)),
 ];
@@ -79,22 +90,23 @@ fn answer(alloc: Global, bytes: &[u8]) -> Result<usize, u32> {
 }
 
 /// That head, and so many times CLI behind the longest gap.
-fn counted(alloc: Global, head: &[u8], count: u32) -> Result<Vec<u8>, AllocError> {
-    let mut bytes = Vec::from_slice(alloc, head)?;
-    put_times(&mut bytes, &[0xFF, 0xFF, 0xFF, 1, 1], count)?;
-    Ok(bytes)
+fn counted(rt: &impl Abort, alloc: Global, head: &[u8], count: u32) -> Vec<u8> {
+    let mut bytes = list(rt, alloc, head);
+    put_times(rt, &mut bytes, &[0xFF, 0xFF, 0xFF, 1, 1], count);
+    bytes
 }
 
 #[test]
 fn ends_have_four_bytes(rt: HostRuntime) {
-    for (k, (count, head, want)) in COUNTED.iter().enumerate() {
-        let bytes = counted(rt.alloc(), head, *count).expect(&rt, "memory");
-        assert!(rt; answer(rt.alloc(), &bytes) == *want, "row {k}");
+    for (k, row) in COUNTED.iter().enumerate() {
+        let (count, head, want) = *row;
+        let bytes = counted(&rt, rt.alloc(), head, count);
+        holds(&rt, k, answer(rt.alloc(), &bytes) == want);
     }
 }
 
 // An absent section counts as the first of these.
-const ANSWERS: [(&[u8], Result<usize, u32>); 16] = [
+static ANSWERS: [(&[u8], Result<usize, u32>); 16] = [
     (b"PVS1\0\0\0\0", Ok(0)),
     (b"PV", Err(2)),
     (b"PVS3\0\0\0\0", Err(3)),
@@ -115,9 +127,8 @@ const ANSWERS: [(&[u8], Result<usize, u32>); 16] = [
 
 #[test]
 fn names_the_first_bad_byte(rt: HostRuntime) {
-    for (k, row) in ANSWERS.iter().enumerate() {
-        let (bytes, want) = *row;
-        assert!(rt; answer(rt.alloc(), bytes) == want, "row {k}");
+    for (k, (bytes, want)) in ANSWERS.iter().enumerate() {
+        holds(&rt, k, answer(rt.alloc(), bytes) == *want);
     }
 }
 
@@ -138,23 +149,27 @@ const CLI_AND_LIDT: [Site; 2] = [
 ];
 
 /// Their text, with a byte behind each, and the same once they are patched.
-const UNPATCHED: [u8; 14] = [
+static UNPATCHED: [u8; 14] = [
     0xFA, 0x90, 0x90, 0x90, 0x90, 0x40, 0x0F, 0x01, 0x1D, 0x10, 0, 0, 0x11, 0x41,
 ];
 
-const PATCHED: [u8; 14] = [
+static PATCHED: [u8; 14] = [
     0xE9, 0xF4, 0xF4, 0xF4, 0xF4, 0x40, 0xE9, 0xF4, 0xF4, 0xF4, 0xF4, 0xF4, 0xF4, 0x41,
 ];
 
+/// A page of memory in which that text stands at 256, patched.
+fn patched(rt: &impl Abort, alloc: Global) -> Ram
+    ensures { length result ≡ 4096 }
+{
+    let mut ram = Ram::new(alloc, 1).expect(rt, "memory");
+    let list = Vec::from_slice(alloc, &CLI_AND_LIDT).expect(rt, "memory");
+    ram.put(256, &UNPATCHED);
+    patch(&mut ram, 256, &Sites { list, format: 1 });
+    ram
+}
+
 #[test]
 fn patches_the_text_in_memory(rt: HostRuntime) {
-    let mut ram = Ram::new(rt.alloc(), 1).expect(&rt, "memory");
-    let sites = Sites {
-        list: Vec::from_slice(rt.alloc(), &CLI_AND_LIDT).expect(&rt, "memory"),
-        format: 1,
-    };
-    assert!(rt; ram.len() == 4096);
-    ram.put(256, &UNPATCHED);
-    patch(&mut ram, 256, &sites);
+    let ram = patched(&rt, rt.alloc());
     are_bytes(&rt, ram.part(256, 14), &PATCHED);
 }

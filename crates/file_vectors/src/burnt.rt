@@ -1,12 +1,13 @@
 //! What sources are burnt to.
 
-use crate::agree::put_times;
+use crate::agree::{are_same, holds, list, put_times};
 use crate::gcc::FROM_GCC;
-use crate::object_rows::{Named, are_symbols};
+use crate::object_rows::{Named, are_relocs, are_symbols};
 use afterburner::{BurnFault, burn};
 use asm_parse::parse;
 use elf_form::{DefinedIn, Object, Reloc};
 use std::alloc::Global;
+use std::process::Abort;
 
 /// What is made of a source.
 enum Made {
@@ -26,14 +27,22 @@ enum Made {
 fn has(object: &Object, made: &Made) -> bool {
     match made {
         Made::Text(text, sites) => {
-            object.text.as_slice() == *text && object.sites.len() == 8 + 8 * *sites as usize
+            are_same(&object.text, text) && object.sites.len() == 8 + 8 * *sites as usize
         }
-        Made::Data(init, bss) => object.init.as_slice() == *init && object.bss == *bss,
-        Made::Sites(sites) => object.sites.as_slice() == *sites,
+        Made::Data(init, bss) => are_same(&object.init, init) && object.bss == *bss,
+        Made::Sites(sites) => are_same(&object.sites, sites),
         Made::Symbols(symbols, relocs) => {
-            are_symbols(object, symbols) && object.relocs.as_slice() == *relocs
+            are_symbols(object, symbols) && are_relocs(object, relocs)
         }
         Made::Refused(..) => false,
+    }
+}
+
+/// Whether that is a refusal at this line, by this number.
+fn is_refusal(made: &Made, line: u32, number: u8) -> bool {
+    match made {
+        Made::Refused(at, by) => *at == line && *by == number,
+        _ => false,
     }
 }
 
@@ -41,12 +50,10 @@ fn has(object: &Object, made: &Made) -> bool {
 fn is_made(alloc: Global, source: &[u8], made: &Made) -> bool {
     match parse(alloc, source) {
         Err(_) => false,
-        Ok(source) => match (burn(alloc, &source), made) {
-            (Ok(object), made) => has(&object, made),
-            (Err(BurnFault::At { line, cause }), Made::Refused(at, number)) => {
-                line == *at && cause.number() == *number
-            }
-            _ => false,
+        Ok(source) => match burn(alloc, &source) {
+            Ok(object) => has(&object, made),
+            Err(BurnFault::At { line, cause }) => is_refusal(made, line, cause.number()),
+            Err(BurnFault::Memory) => false,
         },
     }
 }
@@ -229,8 +236,8 @@ static ROWS: [(&str, Made); 49] = [
 
 #[test]
 fn sources_are_burnt(rt: HostRuntime) {
-    for (source, made) in ROWS.iter() {
-        assert!(rt; is_made(rt.alloc(), source.as_bytes(), made), "{source}");
+    for (k, (source, made)) in ROWS.iter().enumerate() {
+        holds(&rt, k, is_made(rt.alloc(), source.as_bytes(), made));
     }
 }
 
@@ -245,11 +252,17 @@ static LONG: [(&[u8], u32, Made); 3] = [
     (b"cli\n", 1025, Made::Sites(b"PVS2\x01\0\0\0\0\0\0\x01\x01")),
 ];
 
+/// The first line, and so many pages of text.
+fn long(rt: &impl Abort, alloc: Global, first: &[u8], pages: u32) -> Vec<u8> {
+    let mut source = list(rt, alloc, first);
+    put_times(rt, &mut source, b"nop; .p2align 12\n", pages);
+    source
+}
+
 #[test]
 fn long_texts_have_gaps_and_a_limit(rt: HostRuntime) {
-    for (first, pages, made) in LONG.iter() {
-        let mut source = Vec::from_slice(rt.alloc(), first).expect(&rt, "memory");
-        put_times(&mut source, b"nop; .p2align 12\n", *pages).expect(&rt, "memory");
-        assert!(rt; is_made(rt.alloc(), &source, made), "{pages}");
+    for (k, (first, pages, made)) in LONG.iter().enumerate() {
+        let source = long(&rt, rt.alloc(), first, *pages);
+        holds(&rt, k, is_made(rt.alloc(), &source, made));
     }
 }

@@ -1,17 +1,18 @@
 //! Damaged files: a small object and its image cut at every length and with every field of their headers spoiled, and a
 //! script cut and spoiled at every byte.
 
-use crate::agree::sink;
-use crate::object_rows::{WORKED, objects};
+use crate::agree::{are_same, files, holds, list, sink};
+use crate::links::linked_file;
+use crate::object_rows::{Parts, WORKED};
 use crate::objects::changed;
 use afterburner::burn;
 use asm_parse::parse;
-use elf_link::{are_linkable, link, linked};
+use elf_link::linked;
 use pv_build::{
     Halt, Line, Status, accepted, accepted_line, end, image_file, object_file, objects_in, print,
     runnable_in_files,
 };
-use pv_io::{Files, MemFiles};
+use pv_io::{Files, MemFiles, MemSink};
 use std::alloc::{AllocError, Global};
 use std::process::Abort;
 
@@ -24,29 +25,49 @@ enum Kind {
     Script,
 }
 
-/// What is told of the damaged file D, which may be a script for the image I.
-fn line(alloc: Global, kind: &Kind, files: &mut MemFiles) -> Result<Line, Halt> {
-    match kind {
-        Kind::Object => {
-            let mut names = Vec::new(alloc);
-            names.push(String::from_str(alloc, "D")?)?;
-            let objects = objects_in(alloc, &names, files)?;
-            match linked(alloc, &objects) {
-                Ok(image) => Ok(image_file(alloc, &image)?.line),
-                Err(_) => Err(Halt::Memory),
-            }
-        }
-        Kind::Image => {
-            let image = accepted(alloc, "D", files)?;
-            Ok(accepted_line(alloc, &image)?)
-        }
-        Kind::Script => {
-            runnable_in_files(alloc, "I", "D", files)?;
-            Ok(Line {
-                bytes: Vec::from_slice(alloc, READ)?,
-            })
-        }
+/// The line of an image of the object D.
+fn object_line(rt: &impl Abort, alloc: Global, files: &mut MemFiles) -> Result<Line, Halt> {
+    let name = String::from_str(alloc, "D").expect(rt, "memory");
+    let names = Vec::from_array(alloc, [name]).expect(rt, "memory");
+    let objects = objects_in(alloc, &names, files)?;
+    match linked(alloc, &objects) {
+        Ok(image) => Ok(image_file(alloc, &image).expect(rt, "memory").line),
+        Err(_) => Err(Halt::Memory),
     }
+}
+
+fn image_line(rt: &impl Abort, alloc: Global, files: &mut MemFiles) -> Result<Line, Halt> {
+    let image = accepted(alloc, "D", files)?;
+    Ok(accepted_line(alloc, &image).expect(rt, "memory"))
+}
+
+/// What stands for the line of a script.
+fn script_line(rt: &impl Abort, alloc: Global, files: &mut MemFiles) -> Result<Line, Halt> {
+    runnable_in_files(alloc, "I", "D", files)?;
+    Ok(Line {
+        bytes: list(rt, alloc, READ),
+    })
+}
+
+/// What is told of the damaged file D, which may be a script for the image I.
+fn line(rt: &impl Abort, alloc: Global, kind: &Kind, files: &mut MemFiles) -> Result<Line, Halt> {
+    match kind {
+        Kind::Object => object_line(rt, alloc, files),
+        Kind::Image => image_line(rt, alloc, files),
+        Kind::Script => script_line(rt, alloc, files),
+    }
+}
+
+fn tell(line: &Result<Line, Halt>, out: &mut MemSink) -> Status {
+    match line {
+        Ok(line) => print(line, Status::Done, out),
+        Err(halt) => end(halt, out),
+    }
+}
+
+/// The status that a line is told with.
+fn status(line: &[u8]) -> u8 {
+    if line.starts_with(b"refused ") { 3 } else { 0 }
 }
 
 /// This line is told of these bytes, of which the place tells them apart. `image` is what a script is for.
@@ -59,16 +80,13 @@ fn reads_as(
     bytes: &[u8],
     want: &[u8],
 ) {
-    let mut files = MemFiles::new(alloc, Vec::new(alloc)).expect(rt, "memory");
+    let mut files = files(rt, alloc, &[]);
     files.store("I", image).expect(rt, "memory");
     files.store("D", bytes).expect(rt, "memory");
     let mut out = sink(rt, alloc, 4096, &[]);
-    let status = match line(alloc, kind, &mut files) {
-        Ok(line) => print(&line, Status::Done, &mut out),
-        Err(halt) => end(&halt, &mut out),
-    };
-    assert!(rt; out.bytes() == want, "{at}");
-    assert!(rt; status.number() == if want.starts_with(b"refused ") { 3 } else { 0 });
+    let told = tell(&line(rt, alloc, kind, &mut files), &mut out);
+    holds(rt, at, are_same(out.bytes(), want));
+    holds(rt, at, told.number() == status(want));
 }
 
 /// The lengths or places from one up to another, and the line that is told for each.
@@ -274,7 +292,7 @@ fn fields_read_as(
 ) {
     let (from, to) = *range;
     for at in (from..to).step_by(4) {
-        let bytes = changed(alloc, file, &[(at, [0xFF; 4].as_slice())]).expect(rt, "memory");
+        let bytes = changed(rt, alloc, file, &[(at, [0xFF; 4].as_slice())]);
         let line = line_of(alloc, damage, at).expect(rt, "memory");
         reads_as(rt, alloc, &damage.kind, b"", at, &bytes, line.as_bytes());
     }
@@ -291,10 +309,10 @@ fn is_damaged(rt: &impl Abort, alloc: Global, damage: &Damage, file: &[u8]) {
 
 /// The file of the image of the worked object.
 fn worked_image(rt: &impl Abort, alloc: Global) -> Vec<u8> {
-    let objects = objects(alloc, &[WORKED]).expect(rt, "memory");
-    assert!(rt; are_linkable(&objects) && objects.len() == 1);
-    link(alloc, &objects).expect(rt, "an image")
+    linked_file(rt, alloc, &ALONE)
 }
+
+static ALONE: [Parts; 1] = [WORKED];
 
 const SOURCE: &[u8] = b"_start: movl $0x3f8,%edx; movb $0x48,%al; outb %al,%dx; hlt";
 
@@ -348,21 +366,21 @@ static SCRIPTS: [Scripted; 20] = [
 ];
 
 /// The script up to a place, or with this byte there.
-fn damaged_script(alloc: Global, byte: Option<u8>, at: usize) -> Result<Vec<u8>, AllocError> {
+fn damaged_script(rt: &impl Abort, alloc: Global, byte: Option<u8>, at: usize) -> Vec<u8> {
     match byte {
         None => {
-            let mut script = Vec::from_slice(alloc, SCRIPT)?;
+            let mut script = list(rt, alloc, SCRIPT);
             script.truncate(at);
-            Ok(script)
+            script
         }
-        Some(byte) => changed(alloc, SCRIPT, &[(at, [byte].as_slice())]),
+        Some(byte) => changed(rt, alloc, SCRIPT, &[(at, [byte].as_slice())]),
     }
 }
 
 fn scripts_read_as(rt: &impl Abort, alloc: Global, image: &[u8], row: &Scripted) {
     let (byte, from, to, line) = *row;
     for at in from..to {
-        let script = damaged_script(alloc, byte, at).expect(rt, "memory");
+        let script = damaged_script(rt, alloc, byte, at);
         reads_as(rt, alloc, &Kind::Script, image, at, &script, line);
     }
 }

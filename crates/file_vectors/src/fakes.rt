@@ -1,13 +1,13 @@
 //! Files and sinks in memory and of the system.
 
-use crate::agree::{are_bytes, sink};
-use pv_io::{DiskFiles, Files, IoAnswer, MemFiles, Sink, StdSink, SureFiles, SureSink};
+use crate::agree::{are_bytes, files, holds, sink};
+use pv_io::{DiskFiles, Files, IoAnswer, Sink, StdSink, SureFiles, SureSink};
 use std::alloc::Global;
 use std::fs;
 use std::process::Abort;
 
 /// A piece, and whether it is taken.
-const PIECES: [(&[u8], bool); 6] = [
+static PIECES: [(&[u8], bool); 6] = [
     (b"abc", true),
     (b"d", false),
     (b"defghi", false),
@@ -19,9 +19,8 @@ const PIECES: [(&[u8], bool); 6] = [
 #[test]
 fn a_sink_in_memory_fails_by_its_list_and_its_room(rt: HostRuntime) {
     let mut out = sink(&rt, rt.alloc(), 8, &[1]);
-    for (k, row) in PIECES.iter().enumerate() {
-        let (piece, taken) = *row;
-        assert!(rt; out.put(piece).is_ok() == taken, "{k}");
+    for (k, (piece, taken)) in PIECES.iter().enumerate() {
+        holds(&rt, k, out.put(piece).is_ok() == *taken);
     }
     are_bytes(&rt, out.bytes(), b"abcdefgh");
     assert!(rt; out.faults() == 3);
@@ -53,73 +52,95 @@ fn are_answered(
     calls: &[Call],
 ) {
     for (k, call) in calls.iter().enumerate() {
-        assert!(rt; is_answered(files, alloc, into, call), "call {k}");
+        holds(rt, k, is_answered(files, alloc, into, call));
     }
 }
 
-const FIRST: [Call; 4] = [
-    ("a", Some(b"one"), true),
-    ("a", None, false),
-    ("a", None, true),
-    ("b", None, false),
-];
+/// Calls that follow one another, and the bytes that are loaded behind them.
+type Round = (&'static [Call], &'static [u8]);
 
-const SECOND: [Call; 4] = [
-    ("a", Some(b"two"), false),
-    ("b", Some(b"three"), true),
-    ("a", None, true),
-    ("b", None, true),
+/// Each call is answered so, and the bytes behind those that stand before are these.
+fn are_rounds(
+    rt: &impl Abort,
+    files: &mut impl Files,
+    alloc: Global,
+    before: &[u8],
+    rounds: &[Round],
+) {
+    let mut into = Vec::from_slice(alloc, before).expect(rt, "memory");
+    for (calls, want) in rounds {
+        are_answered(rt, files, alloc, &mut into, calls);
+        are_bytes(rt, &into, want);
+    }
+}
+
+static FAILING: [Round; 2] = [
+    (
+        &[
+            ("a", Some(b"one"), true),
+            ("a", None, false),
+            ("a", None, true),
+            ("b", None, false),
+        ],
+        b"> one",
+    ),
+    (
+        &[
+            ("a", Some(b"two"), false),
+            ("b", Some(b"three"), true),
+            ("a", None, true),
+            ("b", None, true),
+        ],
+        b"> oneonethree",
+    ),
 ];
 
 #[test]
 fn files_in_memory_fail_by_their_list(rt: HostRuntime) {
-    let alloc = rt.alloc();
-    let fail = Vec::from_slice(alloc, &[1, 4]).expect(&rt, "memory");
-    let mut files = MemFiles::new(alloc, fail).expect(&rt, "memory");
-    let mut into = Vec::from_slice(alloc, b"> ").expect(&rt, "memory");
-    are_answered(&rt, &mut files, alloc, &mut into, &FIRST);
-    are_bytes(&rt, &into, b"> one");
-    are_answered(&rt, &mut files, alloc, &mut into, &SECOND);
-    are_bytes(&rt, &into, b"> oneonethree");
+    let mut files = files(&rt, rt.alloc(), &[1, 4]);
+    are_rounds(&rt, &mut files, rt.alloc(), b"> ", &FAILING);
     assert!(rt; files.load_faults == 2 && files.store_faults == 1);
 }
 
-const STORED_TWICE: [Call; 4] = [
-    ("a", None, false),
-    ("a", Some(b"one"), true),
-    ("a", Some(b"two"), true),
-    ("a", None, true),
-];
+static STORED_TWICE: [Round; 1] = [(
+    &[
+        ("a", None, false),
+        ("a", Some(b"one"), true),
+        ("a", Some(b"two"), true),
+        ("a", None, true),
+    ],
+    b"two",
+)];
 
 #[test]
 fn sure_files_lack_only_names_that_were_not_stored(rt: HostRuntime) {
-    let alloc = rt.alloc();
-    let mut files = SureFiles::new(alloc).expect(&rt, "memory");
-    let mut into = Vec::new(alloc);
-    are_answered(&rt, &mut files, alloc, &mut into, &STORED_TWICE);
-    are_bytes(&rt, &into, b"two");
+    let mut files = SureFiles::new(rt.alloc()).expect(&rt, "memory");
+    are_rounds(&rt, &mut files, rt.alloc(), b"", &STORED_TWICE);
 }
 
-const WRITTEN: [Call; 3] = [
-    ("stored.bin", Some(b"old and longer"), true),
-    ("stored.bin", Some(b"new\x00\xff"), true),
-    ("stored.bin", None, true),
-];
+static WRITTEN: [Round; 1] = [(
+    &[
+        ("stored.bin", Some(b"old and longer"), true),
+        ("stored.bin", Some(b"new\x00\xff"), true),
+        ("stored.bin", None, true),
+    ],
+    b"> new\x00\xff",
+)];
 
-const REMOVED: [Call; 2] = [
-    ("stored.bin", None, false),
-    ("no/such/folder", Some(b"x"), false),
-];
+static REMOVED: [Round; 1] = [(
+    &[
+        ("stored.bin", None, false),
+        ("no/such/folder", Some(b"x"), false),
+    ],
+    b"> new\x00\xff",
+)];
 
 #[test]
 fn files_of_the_system_are_read_and_written(rt: HostRuntime) {
-    let alloc = rt.alloc();
     let mut files = DiskFiles::new(&rt);
-    let mut into = Vec::from_slice(alloc, b"> ").expect(&rt, "memory");
-    are_answered(&rt, &mut files, alloc, &mut into, &WRITTEN);
+    are_rounds(&rt, &mut files, rt.alloc(), b"> ", &WRITTEN);
     assert!(rt; fs::remove_file(&rt, "stored.bin").is_ok());
-    are_answered(&rt, &mut files, alloc, &mut into, &REMOVED);
-    are_bytes(&rt, &into, b"> new\x00\xff");
+    are_rounds(&rt, &mut files, rt.alloc(), b"> new\x00\xff", &REMOVED);
 }
 
 #[test]

@@ -1,10 +1,11 @@
 //! Images made by hand, and how they are checked.
 
+use crate::agree::{add, are_same, holds};
 use crate::vectors::{NO_SITES, WORKED_ENDED, WORKED_SITES};
 use ia32_types::SiteKind;
 use image_check::{AtOffset, CheckFault, Checked, check};
 use sites::Site;
-use std::alloc::{AllocError, Global};
+use std::alloc::Global;
 use std::process::Abort;
 
 // The text, annotations and places of a file. Data is not there, but zeroed bytes may be.
@@ -30,38 +31,46 @@ pub fn image<'a>(text: &'a [u8], sites: &'a [u8]) -> Parts<'a> {
     }
 }
 
-fn put(out: &mut Vec<u8>, longs: &[u32]) -> Result<(), AllocError> {
+fn put(rt: &impl Abort, out: &mut Vec<u8>, longs: &[u32]) {
     for n in longs {
-        out.extend_from_slice(&n.to_le_bytes())?;
+        add(rt, out, &n.to_le_bytes());
     }
-    Ok(())
 }
 
 // The header, two program headers, the text, no data, the annotations, the names of the sections, and
 // the sections: null, .pv_sites, .shstrtab. All by the layout of ELF files of 32 bits.
-fn file(alloc: Global, parts: &Parts<'_>) -> Result<Vec<u8>, AllocError> {
+fn file(rt: &impl Abort, alloc: Global, parts: &Parts<'_>) -> Vec<u8> {
     let text = (parts.text.len() % 67_108_864) as u32;
     let sites = (parts.sites.len() % 65536) as u32;
     let sites_at = 116 + text;
     let names_at = sites_at + sites;
     let (text_at, init_at) = (parts.text_at, parts.init_at);
     let mut out = Vec::new(alloc);
-    put(&mut out, &[0x464C_457F, 0x0001_0101, 0, 0])?;
-    // The section headers stand behind the names. How many entries the tables have, and how long these are.
-    put(&mut out, &[0x0003_0002, 1, parts.entry, 52, names_at + 21])?;
-    put(&mut out, &[0, 0x0020_0034, 0x0028_0002, 0x0002_0003])?;
-    put(&mut out, &[1, 116, text_at, text_at, text, text, 5, 0x1000])?;
     put(
+        rt,
+        &mut out,
+        &[0x464C_457F, 0x0001_0101, 0, 0, 0x0003_0002, 1],
+    );
+    // The section headers stand behind the names. How many entries the tables have, and how long these are.
+    put(rt, &mut out, &[parts.entry, 52, names_at + 21, 0]);
+    put(rt, &mut out, &[0x0020_0034, 0x0028_0002, 0x0002_0003]);
+    put(
+        rt,
+        &mut out,
+        &[1, 116, text_at, text_at, text, text, 5, 0x1000],
+    );
+    put(
+        rt,
         &mut out,
         &[1, sites_at, init_at, init_at, 0, parts.bss, 6, 0x1000],
-    )?;
-    out.extend_from_slice(parts.text)?;
-    out.extend_from_slice(parts.sites)?;
-    out.extend_from_slice(b"\0.pv_sites\0.shstrtab\0")?;
-    put(&mut out, &[0; 10])?;
-    put(&mut out, &[1, 1, 0, 0, sites_at, sites, 0, 0, 4, 0])?;
-    put(&mut out, &[11, 3, 0, 0, names_at, 21, 0, 0, 0, 0])?;
-    Ok(out)
+    );
+    add(rt, &mut out, parts.text);
+    add(rt, &mut out, parts.sites);
+    add(rt, &mut out, b"\0.pv_sites\0.shstrtab\0");
+    put(rt, &mut out, &[0; 10]);
+    put(rt, &mut out, &[1, 1, 0, 0, sites_at, sites, 0, 0, 4, 0]);
+    put(rt, &mut out, &[11, 3, 0, 0, names_at, 21, 0, 0, 0, 0]);
+    out
 }
 
 // The number of the refusal of a file and its place; 0 where it is accepted, 1 where memory ran out.
@@ -76,13 +85,13 @@ fn answer(alloc: Global, file: &[u8]) -> (u32, u32) {
 
 /// An image is answered so. `row` names it where it isn't.
 pub fn is_told(rt: &impl Abort, alloc: Global, row: usize, parts: &Parts<'_>, want: (u32, u32)) {
-    let file = file(alloc, parts).expect(rt, "memory");
-    assert_eq!(rt; answer(alloc, &file), want, "row {row}");
+    let file = file(rt, alloc, parts);
+    holds(rt, row, answer(alloc, &file) == want);
 }
 
 /// The checked image of so many parts.
 pub fn checked(rt: &impl Abort, alloc: Global, parts: &Parts<'_>) -> Checked {
-    let file = file(alloc, parts).expect(rt, "memory");
+    let file = file(rt, alloc, parts);
     check(alloc, &file).expect(rt, "an image")
 }
 
@@ -100,7 +109,7 @@ enum Held {
 
 fn is_held(image: &Checked, held: &Held) -> bool {
     match held {
-        Held::Text(bytes) => image.text() == *bytes,
+        Held::Text(bytes) => are_same(image.text(), bytes),
         Held::InitLength(len) => image.init().len() == *len,
         Held::Bss(len) => image.bss() == *len,
         Held::Entry(at) => image.entry() == *at,
@@ -157,6 +166,6 @@ static HELD: [Held; 25] = [
 fn an_accepted_image_has_its_parts_and_places(rt: HostRuntime) {
     let image = checked(&rt, rt.alloc(), &image(WORKED_ENDED, WORKED_SITES));
     for (k, held) in HELD.iter().enumerate() {
-        assert!(rt; is_held(&image, held), "{k}");
+        holds(&rt, k, is_held(&image, held));
     }
 }

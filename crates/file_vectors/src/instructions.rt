@@ -7,10 +7,10 @@ use self::others::OTHERS;
 use self::own::OWN;
 use self::shifts::SHIFTS;
 use self::stack::STACK;
+use crate::items::Rest;
 use asm_instruction::{Assembled, Named, Refusal, assemble};
 use asm_parse::{Body, SourceItem, parse};
 use std::alloc::Global;
-use std::fmt;
 use std::process::Abort;
 
 mod arithmetic;
@@ -25,33 +25,30 @@ mod stack;
 // A row is a statement, the bytes that it comes to, and the fields that name symbols: the field, its place, the number of
 // its argument, and whether it is relative.
 
-/// What stands behind the arrow of a row.
-#[derive(Drop)]
-struct Listed<'a>(&'a Assembled);
+const DIGITS: &[u8; 16] = b"0123456789abcdef";
 
-fn list_named<W: fmt::Write>(
-    f: &mut fmt::Formatter<W>,
-    field: &str,
-    named: &Option<Named>,
-) -> fmt::Result {
-    match named {
-        None => Ok(()),
-        Some(named) => {
-            let relative = if named.relative { " relative" } else { "" };
-            write!(f, " {field} {} {}{relative}", named.at, named.argument)
-        }
+fn take_bytes(rest: &mut Rest<'_>, bytes: &[u8]) {
+    for byte in bytes {
+        let (high, low) = (*byte / 16, *byte % 16);
+        rest.take(&[b' ', DIGITS[high as usize], DIGITS[low as usize]]);
     }
 }
 
-impl fmt::Display for Listed<'_> {
-    fn fmt<W: fmt::Write>(&self, f: &mut fmt::Formatter<W>) -> fmt::Result {
-        let spelling = &self.0.spelling;
-        for byte in spelling.bytes.iter().take(usize::from(spelling.len)) {
-            write!(f, " {byte:02x}")?;
-        }
-        list_named(f, "disp", &self.0.disp)?;
-        list_named(f, "imm", &self.0.imm)
+fn take_named(rest: &mut Rest<'_>, alloc: Global, field: &str, named: &Option<Named>) {
+    if let Some(named) = named {
+        let relative = if named.relative { " relative" } else { "" };
+        rest.take_text(format!(in alloc; " {field} {} {}{relative}", named.at, named.argument));
     }
+}
+
+/// Whether that stands behind the arrow of a row.
+fn is_spelling(alloc: Global, found: &Assembled, listed: &str) -> bool {
+    let mut rest = Rest::new(listed);
+    let len = usize::from(found.spelling.len).min(found.spelling.bytes.len());
+    take_bytes(&mut rest, &found.spelling.bytes[..len]);
+    take_named(&mut rest, alloc, "disp", &found.disp);
+    take_named(&mut rest, alloc, "imm", &found.imm);
+    rest.is_done()
 }
 
 fn answer(items: &[SourceItem]) -> Option<Result<Assembled, Refusal>> {
@@ -78,10 +75,7 @@ fn assembled(alloc: Global, text: &str) -> Option<Result<Assembled, Refusal>> {
 
 fn is_listed(alloc: Global, text: &str, listed: &str) -> bool {
     match assembled(alloc, text) {
-        Some(Ok(whole)) => match format!(in alloc; "{}", Listed(&whole)) {
-            Ok(found) => found.as_str() == listed,
-            Err(_) => false,
-        },
+        Some(Ok(found)) => is_spelling(alloc, &found, listed),
         _ => false,
     }
 }
@@ -93,10 +87,15 @@ fn is_assembled(alloc: Global, row: &str) -> bool {
     }
 }
 
+/// That holds of a row.
+fn told(rt: &impl Abort, row: &str, held: bool) {
+    assert!(rt; held, "{row}");
+}
+
 /// Each row is assembled so.
 fn are_assembled(rt: &impl Abort, alloc: Global, rows: &str) {
     for row in rows.lines() {
-        assert!(rt; is_assembled(alloc, row), "{row}");
+        told(rt, row, is_assembled(alloc, row));
     }
 }
 

@@ -2,7 +2,7 @@
 
 ghost use Rattle.std.specs.Prelude.{◌≡◌};
 
-use crate::agree::{are_bytes, sink};
+use crate::agree::{are_bytes, are_same, holds, sink};
 use ia32_types::Stop;
 use pv_io::MemSink;
 use run_trace::{End, Ended, Item, NoNotes, Notes, StepItems, What, put_end, put_item, put_step};
@@ -26,7 +26,7 @@ fn is_taken(out: &mut MemSink, line: &Line) -> bool {
 /// Whether the line is this one.
 fn is_line(alloc: Global, line: &Line, text: &str) -> bool {
     match MemSink::new(alloc, 64, Vec::new(alloc)) {
-        Ok(mut out) => is_taken(&mut out, line) && out.bytes() == text.as_bytes(),
+        Ok(mut out) => is_taken(&mut out, line) && are_same(out.bytes(), text.as_bytes()),
         Err(AllocError) => false,
     }
 }
@@ -129,18 +129,25 @@ static LINES: [(Line, &str); 24] = [
 
 #[test]
 fn items_and_ends_have_their_lines(rt: HostRuntime) {
-    for (line, text) in LINES.iter() {
-        assert!(rt; is_line(rt.alloc(), line, text), "{text}");
+    for (k, (line, text)) in LINES.iter().enumerate() {
+        holds(&rt, k, is_line(rt.alloc(), line, text));
     }
 }
+
+/// A line, and whether it is taken.
+static TAKEN: [(Line, bool); 3] = [
+    (item!(3, What::Irq(0x2f)), true),
+    (item!(4, What::Irq(0x2f)), false),
+    (end!(5, End::Bound, 0), true),
+];
 
 #[test]
 fn a_line_is_one_call_of_the_sink(rt: HostRuntime) {
     let mut out = sink(&rt, rt.alloc(), 64, &[1]);
-    let first = is_taken(&mut out, &item!(3, What::Irq(0x2f)));
-    let second = is_taken(&mut out, &item!(4, What::Irq(0x2f)));
-    let third = is_taken(&mut out, &end!(5, End::Bound, 0));
-    assert!(rt; first && !second && third && out.faults() == 1);
+    for (k, (line, taken)) in TAKEN.iter().enumerate() {
+        holds(&rt, k, is_taken(&mut out, line) == *taken);
+    }
+    assert!(rt; out.faults() == 1);
     are_bytes(&rt, out.bytes(), b"3 irq 2f\nend steps 5\n");
 }
 
@@ -160,19 +167,31 @@ fn out_and_sent() -> StepItems
     items
 }
 
+/// Whether the lines of such a step, or of one without items, are taken.
+fn puts(out: &mut MemSink, sends: bool) -> bool {
+    let items = if sends {
+        out_and_sent()
+    } else {
+        StepItems::new()
+    };
+    put_step(&items, out).is_ok()
+}
+
+/// Whether a step has those items, whether they are taken, and what the sink has behind them.
+static STEPS: [(bool, bool, &[u8]); 3] = [
+    (false, true, b""),
+    (true, true, b"2 out8 03f8 48\n2 tx 48\n"),
+    (true, false, b"2 out8 03f8 48\n2 tx 48\n2 out8 03f8 48\n"),
+];
+
 #[test]
 fn a_step_has_a_line_for_each_item_up_to_one_that_is_not_taken(rt: HostRuntime) {
     let mut out = sink(&rt, rt.alloc(), 64, &[3]);
-    assert!(rt; put_step(&StepItems::new(), &mut out).is_ok());
-    are_bytes(&rt, out.bytes(), b"");
-    assert!(rt; put_step(&out_and_sent(), &mut out).is_ok());
-    are_bytes(&rt, out.bytes(), b"2 out8 03f8 48\n2 tx 48\n");
-    assert!(rt; put_step(&out_and_sent(), &mut out).is_err() && out.faults() == 1);
-    are_bytes(
-        &rt,
-        out.bytes(),
-        b"2 out8 03f8 48\n2 tx 48\n2 out8 03f8 48\n",
-    );
+    for (k, (sends, taken, bytes)) in STEPS.iter().enumerate() {
+        holds(&rt, k, puts(&mut out, *sends) == *taken);
+        are_bytes(&rt, out.bytes(), bytes);
+    }
+    assert!(rt; out.faults() == 1);
 }
 
 #[test]

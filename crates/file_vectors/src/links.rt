@@ -1,11 +1,11 @@
 //! Objects made by hand, and the images that they make.
 
-use crate::agree::{Held, are_held, put_times};
-use crate::object_rows::{EMPTY, Parts, WORKED, object, objects, symbol};
-use crate::vectors::{WORKED_ENDED, WORKED_SITES};
+use crate::agree::{Held, Number, Part, add, are_held, are_same, holds, put_times};
+use crate::object_rows::{EMPTY, Parts, WORKED, object, objects, put_symbol};
+use crate::vectors::{NO_SITES, WORKED_ENDED, WORKED_SITES};
 use elf_form::{DefinedIn, Image, Object, Reloc};
 use elf_link::{LinkCause, LinkFault, are_linkable, link, linked};
-use std::alloc::{AllocError, Global};
+use std::alloc::Global;
 use std::process::Abort;
 
 /// What is told of the objects, if they can be linked at all.
@@ -17,14 +17,17 @@ fn outcome(alloc: Global, objects: &Vec<Object>) -> Option<Result<Image, LinkFau
 }
 
 const WORKED_IMAGE: [Held; 5] = [
-    Held::Text(WORKED_ENDED),
-    Held::Sites(WORKED_SITES),
-    Held::Init(b""),
-    Held::Entry(0x1000_0000),
-    Held::Bss(0),
+    Held::Whole(Part::Text, WORKED_ENDED),
+    Held::Whole(Part::Sites, WORKED_SITES),
+    Held::Whole(Part::Init, b""),
+    Held::Is(Number::Entry, 0x1000_0000),
+    Held::Is(Number::Bss, 0),
 ];
 
-const END_ALONE: [Held; 2] = [Held::Text(b"\xEB\xFE"), Held::Entry(0x1000_0000)];
+const END_ALONE: [Held; 2] = [
+    Held::Whole(Part::Text, b"\xEB\xFE"),
+    Held::Is(Number::Entry, 0x1000_0000),
+];
 
 /// A call of a name, as GCC writes it: the addend is -4.
 const CALLS: Parts = Parts {
@@ -58,8 +61,8 @@ const CALLED_TEXT: &[u8] =
     b"\xE8\x0B\0\0\0\x90\x90\x90\x90\x90\x90\x90\x90\x90\x90\x90\xF4\x90\x90\x90\x90\xC3\xEB\xFE";
 
 const CALLED: [Held; 2] = [
-    Held::Text(CALLED_TEXT),
-    Held::Sites(b"PVS1\x01\0\0\0\x10\0\0\0\x04\x01\x05\0"),
+    Held::Whole(Part::Text, CALLED_TEXT),
+    Held::Whole(Part::Sites, b"PVS1\x01\0\0\0\x10\0\0\0\x04\x01\x05\0"),
 ];
 
 /// A move of the place of zeroed bytes.
@@ -78,9 +81,9 @@ const ZEROED: Parts = Parts {
 };
 
 const ZEROED_IMAGE: [Held; 3] = [
-    Held::Text(b"\xB8\0\x10\0\x11\xEB\xFE"),
-    Held::Init(b"\x01"),
-    Held::Bss(8191),
+    Held::Whole(Part::Text, b"\xB8\0\x10\0\x11\xEB\xFE"),
+    Held::Whole(Part::Init, b"\x01"),
+    Held::Is(Number::Bss, 8191),
 ];
 
 const DATA: [Parts; 3] = [
@@ -96,11 +99,11 @@ const DATA: [Parts; 3] = [
 ];
 
 const ALIGNED: [Held; 5] = [
-    Held::InitLength(4098),
-    Held::InitByte(0, 1),
-    Held::InitByte(4095, 0),
-    Held::InitByte(4096, 2),
-    Held::Bss(4094 + 7),
+    Held::Length(Part::Init, 4098),
+    Held::Byte(Part::Init, 0, 1),
+    Held::Byte(Part::Init, 4095, 0),
+    Held::Byte(Part::Init, 4096, 2),
+    Held::Is(Number::Bss, 4094 + 7),
 ];
 
 /// The table of a switch, as GCC makes it.
@@ -129,8 +132,8 @@ const SWITCH: Parts = Parts {
 };
 
 const SWITCHED: [Held; 2] = [
-    Held::TextLength(33),
-    Held::Init(b"\x1A\0\0\x10\x10\0\0\x10"),
+    Held::Length(Part::Text, 33),
+    Held::Whole(Part::Init, b"\x1A\0\0\x10\x10\0\0\x10"),
 ];
 
 /// Objects, and what their image holds.
@@ -148,21 +151,27 @@ static MAKING: [Making; 6] = [
 #[test]
 fn objects_make_images(rt: HostRuntime) {
     for (parts, all) in MAKING.iter() {
-        let objects = objects(rt.alloc(), parts).expect(&rt, "memory");
+        let objects = objects(&rt, rt.alloc(), parts);
         let image = outcome(rt.alloc(), &objects).expect(&rt, "an image");
         are_held(&rt, &image.expect(&rt, "an image"), all);
     }
 }
 
+/// The file of the image of such objects.
+pub fn linked_file(rt: &impl Abort, alloc: Global, parts: &[Parts]) -> Vec<u8> {
+    let objects = objects(rt, alloc, parts);
+    assert!(rt; are_linkable(&objects) && objects.len() <= 64);
+    link(alloc, &objects).expect(rt, "a file")
+}
+
 #[test]
 fn writes_the_file_of_no_object(rt: HostRuntime) {
-    let objects: Vec<Object> = Vec::new(rt.alloc());
-    assert!(rt; are_linkable(&objects) && objects.len() == 0);
-    let file = link(rt.alloc(), &objects).expect(&rt, "a file");
+    let file = linked_file(&rt, rt.alloc(), &[]);
     assert!(rt; file.len() % 4 == 0 && file.len() > 4096 && file.starts_with(b"\x7FELF"));
 }
 
 /// What the cause of a refusal tells.
+#[derive(Clone, Copy)]
 enum Cause {
     Number(u8),
     Name(&'static [u8]),
@@ -173,7 +182,7 @@ fn tells(cause: &LinkCause, told: &Cause) -> bool {
     match (cause, told) {
         (cause, Cause::Number(number)) => cause.number() == *number,
         (LinkCause::NoSymbol(name) | LinkCause::Doubled(name), Cause::Name(want)) => {
-            name.list.as_slice() == *want
+            are_same(&name.list, want)
         }
         (LinkCause::NotText(at), Cause::Place(want)) => *at == *want,
         _ => false,
@@ -246,95 +255,109 @@ static REFUSED: [Refused; 7] = [
 #[test]
 fn objects_are_refused_by_their_cause(rt: HostRuntime) {
     for (k, (parts, at, told)) in REFUSED.iter().enumerate() {
-        let objects = objects(rt.alloc(), parts).expect(&rt, "memory");
-        assert!(rt; are_refused(rt.alloc(), &objects, *at, told), "row {k}");
+        let objects = objects(&rt, rt.alloc(), parts);
+        holds(&rt, k, are_refused(rt.alloc(), &objects, *at, told));
     }
 }
 
 /// What an object has much of.
 enum Much {
-    /// So much text and so many zeroed bytes.
-    Sized(usize, u32),
+    /// So much text, with these annotations.
+    Text(u32, &'static [u8]),
+    /// So many zeroed bytes.
+    Zeroed(u32),
     /// So many symbols.
     Named(u32),
     /// So many CLIs, each with its NOPs.
     Patched(u32),
-    /// So much text, with two sites, at 0 and at an offset.
-    Annotated(usize, u8),
 }
 
-fn put_symbols(alloc: Global, object: &mut Object, count: u32) -> Result<(), AllocError> {
+fn put_symbols(rt: &impl Abort, alloc: Global, object: &mut Object, count: u32) {
     for _ in 0..count {
-        let symbol = symbol(alloc, &(b"", DefinedIn::Text, 0, false))?;
-        object.symbols.push(symbol)?;
+        put_symbol(
+            rt,
+            alloc,
+            &mut object.symbols,
+            &(b"", DefinedIn::Text, 0, false),
+        );
     }
-    Ok(())
 }
 
-fn put_sites(sites: &mut Vec<u8>, count: u32) -> Result<(), AllocError> {
-    sites.extend_from_slice(b"PVS1")?;
-    sites.extend_from_slice(&count.to_le_bytes())?;
+fn put_sites(rt: &impl Abort, sites: &mut Vec<u8>, count: u32) {
+    add(rt, sites, b"PVS1");
+    add(rt, sites, &count.to_le_bytes());
     for i in 0..count {
-        sites.extend_from_slice(&i.wrapping_mul(5).to_le_bytes())?;
-        sites.extend_from_slice(&[1, 1, 5, 0])?;
+        add(rt, sites, &i.wrapping_mul(5).to_le_bytes());
+        add(rt, sites, &[1, 1, 5, 0]);
     }
-    Ok(())
 }
 
-fn large(alloc: Global, much: &Much) -> Result<Object, AllocError> {
-    let mut object = object(alloc, &EMPTY)?;
+/// An object without annotations, which are put as there is much of something.
+static BARE: Parts = Parts {
+    sites: b"",
+    ..EMPTY
+};
+
+fn put_much(rt: &impl Abort, alloc: Global, object: &mut Object, much: &Much) {
     match much {
-        Much::Sized(text, bss) => {
-            object.text = vec![in alloc; 0x90; *text]?;
+        Much::Text(len, sites) => {
+            add(rt, &mut object.sites, sites);
+            put_times(rt, &mut object.text, b"\x90", *len);
+        }
+        Much::Zeroed(bss) => {
+            add(rt, &mut object.sites, NO_SITES);
             object.bss = *bss;
         }
-        Much::Named(count) => put_symbols(alloc, &mut object, *count)?,
-        Much::Patched(count) => {
-            object.sites = Vec::new(alloc);
-            put_sites(&mut object.sites, *count)?;
-            put_times(&mut object.text, b"\xFA\x90\x90\x90\x90", *count)?;
+        Much::Named(count) => {
+            add(rt, &mut object.sites, NO_SITES);
+            put_symbols(rt, alloc, object, *count);
         }
-        Much::Annotated(text, second) => {
-            object.text = vec![in alloc; 0x90; *text]?;
-            object.sites = Vec::from_slice(alloc, b"PVS1\x02\0\0\0\0\0\0\0\x01\x01\x05\0")?;
-            object
-                .sites
-                .extend_from_slice(&[*second, 0, 0, 0, 1, 1, 5, 0])?;
+        Much::Patched(count) => {
+            put_sites(rt, &mut object.sites, *count);
+            put_times(rt, &mut object.text, b"\xFA\x90\x90\x90\x90", *count);
         }
     }
-    Ok(object)
 }
 
-fn all_large(alloc: Global, list: &[Much]) -> Result<Vec<Object>, AllocError> {
+fn all_large(rt: &impl Abort, alloc: Global, all: &[Much]) -> Vec<Object> {
     let mut objects = Vec::new(alloc);
-    for much in list {
-        objects.push(large(alloc, much)?)?;
+    for much in all {
+        let mut object = object(rt, alloc, &BARE);
+        put_much(rt, alloc, &mut object, much);
+        objects.push(object).expect(rt, "memory");
     }
-    Ok(objects)
+    objects
 }
 
 /// How the annotations of the image begin; or the object and the number of the refusal.
 type Limited = Result<&'static [u8], (u32, u8)>;
 
-fn is_limited(alloc: Global, objects: &Vec<Object>, want: &Limited) -> bool {
-    match (outcome(alloc, objects), want) {
-        (Some(Ok(image)), Ok(front)) => image.sites.starts_with(front),
-        (Some(Err(LinkFault::At { object, cause })), Err((at, number))) => {
-            object == *at && cause.number() == *number
-        }
+/// Whether the annotations of the objects' image begin so.
+fn begin(alloc: Global, objects: &Vec<Object>, front: &[u8]) -> bool {
+    match outcome(alloc, objects) {
+        Some(Ok(image)) => image.sites.starts_with(front),
         _ => false,
     }
 }
 
+fn is_limited(alloc: Global, objects: &Vec<Object>, want: &Limited) -> bool {
+    match want {
+        Ok(front) => begin(alloc, objects, front),
+        Err((at, number)) => are_refused(alloc, objects, *at, &Cause::Number(*number)),
+    }
+}
+
+/// The first site, at 0, and a second one, at 1 or 9.
+const AT_ONE: &[u8] = b"PVS1\x02\0\0\0\0\0\0\0\x01\x01\x05\0\x01\0\0\0\x01\x01\x05\0";
+
+const AT_NINE: &[u8] = b"PVS1\x02\0\0\0\0\0\0\0\x01\x01\x05\0\x09\0\0\0\x01\x01\x05\0";
+
 static LIMITS: [(&[Much], Limited); 17] = [
-    (&[Much::Sized(16_777_214, 0)], Ok(b"PVS2")),
-    (&[Much::Sized(16_777_215, 0)], Err((0, 33))),
-    (&[Much::Sized(0, 33_554_432)], Ok(b"PVS1")),
-    (&[Much::Sized(0, 33_554_433)], Err((0, 34))),
-    (
-        &[Much::Sized(0, 33_554_432), Much::Sized(0, 1)],
-        Err((1, 34)),
-    ),
+    (&[Much::Text(16_777_214, NO_SITES)], Ok(b"PVS2")),
+    (&[Much::Text(16_777_215, NO_SITES)], Err((0, 33))),
+    (&[Much::Zeroed(33_554_432)], Ok(b"PVS1")),
+    (&[Much::Zeroed(33_554_433)], Err((0, 34))),
+    (&[Much::Zeroed(33_554_432), Much::Zeroed(1)], Err((1, 34))),
     (&[Much::Named(65_536), Much::Named(0)], Ok(b"PVS1")),
     (&[Much::Named(65_537), Much::Named(0)], Err((0, 35))),
     (&[Much::Named(65_535), Much::Named(1)], Ok(b"PVS1")),
@@ -350,19 +373,19 @@ static LIMITS: [(&[Much], Limited); 17] = [
         Err((1, 36)),
     ),
     // Sites that overlap can be written by their offsets alone.
-    (&[Much::Annotated(4_194_302, 1)], Ok(b"PVS1")),
-    (&[Much::Annotated(4_194_302, 9)], Ok(b"PVS1")),
-    (&[Much::Annotated(4_194_303, 1)], Err((0, 36))),
+    (&[Much::Text(4_194_302, AT_ONE)], Ok(b"PVS1")),
+    (&[Much::Text(4_194_302, AT_NINE)], Ok(b"PVS1")),
+    (&[Much::Text(4_194_303, AT_ONE)], Err((0, 36))),
     (
-        &[Much::Annotated(4_194_303, 9)],
+        &[Much::Text(4_194_303, AT_NINE)],
         Ok(b"PVS2\x02\0\0\0\0\0\0\x01\x01\x04\0\0\x01\x01"),
     ),
 ];
 
 #[test]
 fn sizes_symbols_and_sites_have_limits(rt: HostRuntime) {
-    for (k, (list, want)) in LIMITS.iter().enumerate() {
-        let objects = all_large(rt.alloc(), list).expect(&rt, "memory");
-        assert!(rt; is_limited(rt.alloc(), &objects, want), "row {k}");
+    for (k, (all, want)) in LIMITS.iter().enumerate() {
+        let objects = all_large(&rt, rt.alloc(), all);
+        holds(&rt, k, is_limited(rt.alloc(), &objects, want));
     }
 }

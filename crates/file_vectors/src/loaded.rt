@@ -1,13 +1,13 @@
 //! Images in memory, and the state that a machine starts in.
 
-ghost use Rattle.std.specs.Prelude.{◌≡◌, ◌*◌, ◌≤◌, length, IfOk};
+ghost use Rattle.std.specs.Prelude.{◌≡◌, ◌*◌, ◌≤◌, length};
 
 use crate::images::{checked, image};
 use crate::vectors::NO_SITES;
 use guest_ram::Ram;
 use image_check::Checked;
 use image_load::{Boot, TooSmall, load};
-use std::alloc::{AllocError, Global};
+use std::alloc::Global;
 use std::process::Abort;
 
 // An image of so many zeroed bytes, whose text is its end.
@@ -19,16 +19,17 @@ fn zeroed(rt: &impl Abort, alloc: Global, bss: u32) -> Checked {
 
 // An image in a memory of so many frames, with what is told of it.
 fn started(
+    rt: &impl Abort,
     alloc: Global,
     image: &Checked,
     frames: u32,
-) -> Result<(Ram, Result<Boot, TooSmall>), AllocError>
+) -> (Ram, Result<Boot, TooSmall>)
     requires { (2048 ≤ frames) × (frames ≤ 16384) }
-    ensures { IfOk result (λ started. length started.0 ≡ 4096 * frames) }
+    ensures { length result.0 ≡ 4096 * frames }
 {
-    let mut ram = Ram::new(alloc, frames)?;
+    let mut ram = Ram::new(alloc, frames).expect(rt, "memory");
     let told = load(image, &mut ram, frames);
-    Ok((ram, told))
+    (ram, told)
 }
 
 /// Whether it is told that the memory has too few frames.
@@ -42,7 +43,7 @@ fn is_too_small(told: &Result<Boot, TooSmall>, need: u32, have: u32) -> bool {
 #[test]
 fn an_image_that_is_too_large_is_told(rt: HostRuntime) {
     let image = zeroed(&rt, rt.alloc(), 8_388_608);
-    let (_ram, told) = started(rt.alloc(), &image, 2048).expect(&rt, "memory");
+    let (_ram, told) = started(&rt, rt.alloc(), &image, 2048);
     assert!(rt; is_too_small(&told, 2305, 2048));
 }
 
@@ -105,7 +106,7 @@ fn first_other(ram: &Ram, boot: &Boot, all: &[Shown]) -> Option<usize>
 #[test]
 fn a_machine_starts_as_the_boot_state_says(rt: HostRuntime) {
     let image = zeroed(&rt, rt.alloc(), 4);
-    let (ram, told) = started(rt.alloc(), &image, 2048).expect(&rt, "memory");
+    let (ram, told) = started(&rt, rt.alloc(), &image, 2048);
     let boot = told.expect(&rt, "it is large enough");
     assert_eq!(rt; first_other(&ram, &boot, &SHOWN), None);
 }

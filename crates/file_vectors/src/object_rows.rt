@@ -2,6 +2,7 @@
 
 ghost use Rattle.std.specs.Prelude.{◌≡◌, length, IfOk};
 
+use crate::agree::{are_same, holds, list};
 use crate::vectors::{NO_SITES, WORKED_SITES, WORKED_TEXT};
 use elf_form::{Bytes, DefinedIn, Object, Reloc, Symbol, read_object};
 use std::alloc::{AllocError, Global};
@@ -53,27 +54,33 @@ pub fn symbol(alloc: Global, row: &Named) -> Result<Symbol, AllocError>
     })
 }
 
-pub fn object(alloc: Global, parts: &Parts) -> Result<Object, AllocError> {
-    let mut symbols = Vec::new(alloc);
-    for row in parts.symbols {
-        symbols.push(symbol(alloc, row)?)?;
-    }
-    Ok(Object {
-        text: Vec::from_slice(alloc, parts.text)?,
-        init: Vec::from_slice(alloc, parts.init)?,
-        bss: parts.bss,
-        sites: Vec::from_slice(alloc, parts.sites)?,
-        symbols,
-        relocs: Vec::from_slice(alloc, parts.relocs)?,
-    })
+/// Puts the symbol behind the others.
+pub fn put_symbol(rt: &impl Abort, alloc: Global, symbols: &mut Vec<Symbol>, row: &Named) {
+    let symbol = symbol(alloc, row).expect(rt, "memory");
+    symbols.push(symbol).expect(rt, "memory");
 }
 
-pub fn objects(alloc: Global, list: &[Parts]) -> Result<Vec<Object>, AllocError> {
-    let mut objects = Vec::new(alloc);
-    for parts in list {
-        objects.push(object(alloc, parts)?)?;
+pub fn object(rt: &impl Abort, alloc: Global, parts: &Parts) -> Object {
+    let mut symbols = Vec::new(alloc);
+    for row in parts.symbols {
+        put_symbol(rt, alloc, &mut symbols, row);
     }
-    Ok(objects)
+    Object {
+        text: list(rt, alloc, parts.text),
+        init: list(rt, alloc, parts.init),
+        bss: parts.bss,
+        sites: list(rt, alloc, parts.sites),
+        symbols,
+        relocs: Vec::from_slice(alloc, parts.relocs).expect(rt, "memory"),
+    }
+}
+
+pub fn objects(rt: &impl Abort, alloc: Global, all: &[Parts]) -> Vec<Object> {
+    let mut objects = Vec::new(alloc);
+    for parts in all {
+        objects.push(object(rt, alloc, parts)).expect(rt, "memory");
+    }
+    objects
 }
 
 /// Whether the object's symbol of that number is this one.
@@ -82,7 +89,7 @@ fn is_symbol(object: &Object, number: usize, row: &Named) -> bool {
     match object.symbols.get(number) {
         None => false,
         Some(symbol) => {
-            symbol.name.list.as_slice() == name
+            are_same(&symbol.name.list, name)
                 && symbol.place == place
                 && symbol.value == value
                 && symbol.global == global
@@ -100,30 +107,24 @@ pub fn are_symbols(object: &Object, rows: &[Named]) -> bool {
     object.symbols.len() == rows.len()
 }
 
-/// The first part of the object that is another one.
-fn other_part(object: &Object, parts: &Parts) -> Option<&'static str> {
-    if object.text.as_slice() != parts.text {
-        return Some("the text");
-    }
-    if object.init.as_slice() != parts.init || object.bss != parts.bss {
-        return Some("the data");
-    }
-    if object.sites.as_slice() != parts.sites {
-        return Some("the annotations");
-    }
-    if !are_symbols(object, parts.symbols) {
-        return Some("the symbols");
-    }
-    if object.relocs.as_slice() != parts.relocs {
-        return Some("the relocations");
-    }
-    None
+/// Whether these are all the relocations of the object.
+pub fn are_relocs(object: &Object, relocs: &[Reloc]) -> bool {
+    object.relocs.as_slice() == relocs
+}
+
+/// The object has these parts. That of an other one is told: text, data, zeroed bytes, annotations, symbols and relocations are
+/// the rows 0 to 5.
+fn are_parts(rt: &impl Abort, object: &Object, parts: &Parts) {
+    holds(rt, 0, are_same(&object.text, parts.text));
+    holds(rt, 1, are_same(&object.init, parts.init));
+    holds(rt, 2, object.bss == parts.bss);
+    holds(rt, 3, are_same(&object.sites, parts.sites));
+    holds(rt, 4, are_symbols(object, parts.symbols));
+    holds(rt, 5, are_relocs(object, parts.relocs));
 }
 
 /// The file is read as the object with these parts, and nothing else.
 pub fn reads_as(rt: &impl Abort, alloc: Global, bytes: &[u8], parts: &Parts) {
     let object = read_object(alloc, bytes).expect(rt, "an object");
-    if let Some(part) = other_part(&object, parts) {
-        panic!(rt; "{part}");
-    }
+    are_parts(rt, &object, parts);
 }

@@ -1,11 +1,12 @@
 //! Objects that other tools made, and worked examples.
 
-use crate::agree::put_times;
+use crate::agree::{holds, list, put_times};
 use crate::object_rows::{EMPTY, Parts, WORKED, reads_as};
 use crate::vectors::{GCC_OBJECT, NO_SITES, SMALL_OBJECT, WORKED_OBJECT};
 use crate::written::SMALL;
 use elf_form::{DefinedIn, ElfCause, ElfFault, Reloc, read_object};
-use std::alloc::{AllocError, Global};
+use std::alloc::Global;
+use std::process::Abort;
 
 /// The object of GCC: the text by objdump -d; the symbols by readelf -s, without the null one and that of the source file,
 /// where a section has no name; the relocations by readelf -r, of .bss, far_away and near, each R_386_32.
@@ -43,11 +44,13 @@ const GCC: Parts = Parts {
     ],
 };
 
+static OF_TOOLS: [Parts; 3] = [GCC, WORKED, SMALL];
+
 #[test]
 fn objects_of_other_tools_are_read(rt: HostRuntime) {
-    reads_as(&rt, rt.alloc(), &GCC_OBJECT, &GCC);
-    reads_as(&rt, rt.alloc(), &WORKED_OBJECT, &WORKED);
-    reads_as(&rt, rt.alloc(), &SMALL_OBJECT, &SMALL);
+    reads_as(&rt, rt.alloc(), &GCC_OBJECT, &OF_TOOLS[0]);
+    reads_as(&rt, rt.alloc(), &WORKED_OBJECT, &OF_TOOLS[1]);
+    reads_as(&rt, rt.alloc(), &SMALL_OBJECT, &OF_TOOLS[2]);
 }
 
 /// Whether the file is refused at this place, by this cause.
@@ -63,28 +66,29 @@ fn is_refused(alloc: Global, bytes: &[u8], at: u32, cause: ElfCause) -> bool {
     }
 }
 
-/// The file with other bytes at some places.
-pub fn changed(
-    alloc: Global,
-    file: &[u8],
-    changes: &[(usize, &[u8])],
-) -> Result<Vec<u8>, AllocError> {
-    let mut bytes = Vec::from_slice(alloc, file)?;
-    for (at, with) in changes {
-        for (index, byte) in with.iter().enumerate() {
-            if let Some(place) = bytes.get_mut(at.wrapping_add(index)) {
-                *place = *byte;
-            }
+/// Puts these bytes at a place, as far as the file goes.
+fn put_at(file: &mut [u8], at: usize, with: &[u8]) {
+    for (index, byte) in with.iter().enumerate() {
+        if let Some(place) = file.get_mut(at.wrapping_add(index)) {
+            *place = *byte;
         }
     }
-    Ok(bytes)
+}
+
+/// The file with other bytes at some places.
+pub fn changed(rt: &impl Abort, alloc: Global, file: &[u8], changes: &[(usize, &[u8])]) -> Vec<u8> {
+    let mut bytes = list(rt, alloc, file);
+    for (at, with) in changes {
+        put_at(&mut bytes, *at, with);
+    }
+    bytes
 }
 
 /// A byte of the worked object that is changed, and the fault.
 type Spoiled = (usize, u8, u32, ElfCause);
 
 // Section header 7 is the symbol table's, at 492; symbol 1 is at 112.
-const SPOILED: [Spoiled; 12] = [
+static SPOILED: [Spoiled; 12] = [
     (0, 0, 0, ElfCause::Magic),
     (4, 2, 4, ElfCause::Class),
     (20, 2, 20, ElfCause::Version),
@@ -99,19 +103,23 @@ const SPOILED: [Spoiled; 12] = [
     (126, 4, 126, ElfCause::SymbolForm),
 ];
 
+fn is_spoiled(rt: &impl Abort, alloc: Global, row: &Spoiled) -> bool {
+    let (index, byte, at, cause) = *row;
+    let bytes = changed(rt, alloc, &WORKED_OBJECT, &[(index, [byte].as_slice())]);
+    is_refused(alloc, &bytes, at, cause)
+}
+
 #[test]
 fn names_the_first_fault(rt: HostRuntime) {
-    for (k, (index, byte, at, cause)) in SPOILED.iter().enumerate() {
-        let bytes = changed(rt.alloc(), &WORKED_OBJECT, &[(*index, [*byte].as_slice())]).expect(
-            &rt, "memory",
-        );
-        assert!(rt; is_refused(rt.alloc(), &bytes, *at, *cause), "row {k}");
+    for (k, row) in SPOILED.iter().enumerate() {
+        holds(&rt, k, is_spoiled(&rt, rt.alloc(), row));
     }
 }
 
 /// The worked object with the header of the text first, the null one behind it; the symbol has index 0 (SHN_UNDEF).
-fn with_text_first(alloc: Global) -> Result<Vec<u8>, AllocError> {
+fn with_text_first(rt: &impl Abort, alloc: Global) -> Vec<u8> {
     changed(
+        rt,
         alloc,
         &WORKED_OBJECT,
         &[
@@ -122,49 +130,53 @@ fn with_text_first(alloc: Global) -> Result<Vec<u8>, AllocError> {
     )
 }
 
-const UNDEFINED: Parts = Parts {
+static UNDEFINED: Parts = Parts {
     symbols: &[(b"_start", DefinedIn::Undefined, 0, true)],
     ..WORKED
 };
 
+static NOTHING: Parts = EMPTY;
+
 /// The worked object's header alone, which names no section table, and a table of names that isn't there.
-fn without_sections(alloc: Global) -> Result<Vec<u8>, AllocError> {
+fn without_sections(rt: &impl Abort, alloc: Global) -> Vec<u8> {
     let mut bytes = changed(
+        rt,
         alloc,
         &WORKED_OBJECT,
         &[(32, [0, 0, 0, 0].as_slice()), (48, [0, 0, 7, 0].as_slice())],
-    )?;
+    );
     bytes.truncate(52);
-    Ok(bytes)
+    bytes
 }
 
 #[test]
 fn index_zero_names_no_section_and_there_may_be_none(rt: HostRuntime) {
-    let bytes = with_text_first(rt.alloc()).expect(&rt, "memory");
+    let bytes = with_text_first(&rt, rt.alloc());
     reads_as(&rt, rt.alloc(), &bytes, &UNDEFINED);
-    let bytes = without_sections(rt.alloc()).expect(&rt, "memory");
-    reads_as(&rt, rt.alloc(), &bytes, &EMPTY);
+    let bytes = without_sections(&rt, rt.alloc());
+    reads_as(&rt, rt.alloc(), &bytes, &NOTHING);
 }
 
 /// The worked object with 65,535 headers. The symbol has index 0xFFF1 (SHN_ABS); the header of that number is one of
 /// zeroed bytes, and those from the tenth to the last are null beside it.
-fn with_all_headers(alloc: Global) -> Result<Vec<u8>, AllocError> {
+fn with_all_headers(rt: &impl Abort, alloc: Global) -> Vec<u8> {
     let mut bytes = changed(
+        rt,
         alloc,
         &WORKED_OBJECT,
         &[(48, b"\xFF\xFF".as_slice()), (126, b"\xF1\xFF".as_slice())],
-    )?;
-    put_times(&mut bytes, &WORKED_OBJECT[212..252], 0xFFF1 - 10)?;
-    put_times(&mut bytes, &WORKED_OBJECT[332..372], 1)?;
-    put_times(&mut bytes, &WORKED_OBJECT[212..252], 0xFFFF - 0xFFF2)?;
-    Ok(bytes)
+    );
+    put_times(rt, &mut bytes, &WORKED_OBJECT[212..252], 0xFFF1 - 10);
+    put_times(rt, &mut bytes, &WORKED_OBJECT[332..372], 1);
+    put_times(rt, &mut bytes, &WORKED_OBJECT[212..252], 0xFFFF - 0xFFF2);
+    bytes
 }
 
 /// A field, its index, where the string table has its header, how many headers there are, and the fault's place.
 type Index = (usize, &'static [u8], usize, u16, u32);
 
 // The header of the file names the table of names of sections, and that of the symbols that of names of symbols.
-const INDICES: [Index; 4] = [
+static INDICES: [Index; 4] = [
     (50, &[0, 0], 572, 10, 50),
     (50, &[0xF1, 0xFF], 572, 0xFFFF, 50),
     (516, &[0, 0, 0, 0], 532, 10, 516),
@@ -178,29 +190,30 @@ fn header(from: usize) -> Option<&'static [u8]> {
 
 /// The worked object with that field. Header 0 is that of the string table, which is named by its index or by a reserved
 /// one. With 65,535 headers each index has one: those behind the tenth are all like header 0.
-fn with_index(alloc: Global, row: &Index) -> Option<Vec<u8>> {
+fn with_index(rt: &impl Abort, alloc: Global, row: &Index) -> Vec<u8> {
     let (field, index, from, count, _) = *row;
-    let header = header(from)?;
+    let header = header(from).expect(rt, "a header");
     let headers = count.to_le_bytes();
     let mut bytes = changed(
+        rt,
         alloc,
         &WORKED_OBJECT,
         &[(field, index), (48, &headers), (212, header)],
-    )
-    .ok()?;
-    put_times(&mut bytes, header, u32::from(count).saturating_sub(10)).ok()?;
-    Some(bytes)
+    );
+    put_times(rt, &mut bytes, header, u32::from(count).saturating_sub(10));
+    bytes
+}
+
+fn is_misplaced(rt: &impl Abort, alloc: Global, row: &Index) -> bool {
+    let bytes = with_index(rt, alloc, row);
+    is_refused(alloc, &bytes, row.4, ElfCause::StringPlace)
 }
 
 #[test]
 fn reserved_indices_and_index_zero_name_no_section_and_no_string_table(rt: HostRuntime) {
-    let bytes = with_all_headers(rt.alloc()).expect(&rt, "memory");
+    let bytes = with_all_headers(&rt, rt.alloc());
     assert!(rt; is_refused(rt.alloc(), &bytes, 126, ElfCause::SymbolForm));
     for (k, row) in INDICES.iter().enumerate() {
-        let bytes = with_index(rt.alloc(), row).expect(&rt, "memory");
-        assert!(rt;
-            is_refused(rt.alloc(), &bytes, row.4, ElfCause::StringPlace),
-            "row {k}"
-        );
+        holds(&rt, k, is_misplaced(&rt, rt.alloc(), row));
     }
 }

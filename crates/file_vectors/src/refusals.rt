@@ -1,8 +1,10 @@
 //! Images at the limits of what is accepted, and images that are wrong, some by two causes.
 
+use crate::agree::{list, put_times};
 use crate::images::{Parts, image, is_told};
 use crate::vectors::{NO_SITES, WORKED_ENDED, WORKED_SITES};
-use std::alloc::{AllocError, Global};
+use std::alloc::Global;
+use std::process::Abort;
 
 /// One site of CLI at offset 5.
 const CLI_SITES: &[u8] = b"PVS1\x01\0\0\0\x05\0\0\0\x01\x01\x05\0";
@@ -20,7 +22,7 @@ const CUT: &[u8] = b"PVS1\0\0\0";
 /// A text, its annotations, and the answer: the number of the refusal and its place, 0 where it is accepted.
 type Told = (&'static [u8], &'static [u8], u32, u32);
 
-const TEXTS: [Told; 33] = [
+static TEXTS: [Told; 33] = [
     // an empty source
     (&[0xEB, 0xFE], NO_SITES, 0, 0),
     // RDTSC; bytes that are no instruction; a cut one
@@ -128,7 +130,7 @@ const TEXT: u32 = 0x1000_0000;
 
 const DATA: u32 = 0x1100_0000;
 
-const PLACED: [Placed; 21] = [
+static PLACED: [Placed; 21] = [
     // The entry is from the first byte to the last.
     (NOP, TEXT, DATA, 0, 0xFFFF_FFFF, 64, 0),
     (NOP, TEXT, DATA, 0, 0, 0, 0),
@@ -174,20 +176,20 @@ fn parts_stand_in_their_places(rt: HostRuntime) {
 }
 
 /// How many zeros stand behind RDTSC, and the number of the answer.
-const ZEROS: [(usize, u32); 2] = [(16_777_214, 65), (16_777_215, 62)];
+static ZEROS: [(u32, u32); 2] = [(16_777_214, 65), (16_777_215, 62)];
 
 /// RDTSC and so many zeros.
-fn with_zeros(alloc: Global, zeros: usize) -> Result<Vec<u8>, AllocError> {
-    let mut text = Vec::from_slice(alloc, &[0x0F, 0x31])?;
-    text.extend_from_slice(&vec![in alloc; 0; zeros]?)?;
-    Ok(text)
+fn with_zeros(rt: &impl Abort, alloc: Global, zeros: u32) -> Vec<u8> {
+    let mut text = list(rt, alloc, &[0x0F, 0x31]);
+    put_times(rt, &mut text, b"\0", zeros);
+    text
 }
 
 #[test]
 fn a_text_has_at_most_sixteen_megabytes(rt: HostRuntime) {
     for (k, row) in ZEROS.iter().enumerate() {
         let (zeros, number) = *row;
-        let text = with_zeros(rt.alloc(), zeros).expect(&rt, "memory");
+        let text = with_zeros(&rt, rt.alloc(), zeros);
         is_told(&rt, rt.alloc(), k, &image(&text, NO_SITES), (number, 0));
     }
 }

@@ -1,8 +1,10 @@
 //! Which sources are read, by the number of their items, and the faults of the others.
 
+use crate::agree::{add, holds};
 use asm_lex::SourceFault;
 use asm_parse::parse;
-use std::alloc::{AllocError, Global};
+use std::alloc::Global;
+use std::process::Abort;
 
 /// Whether a source is refused at this line, by this number.
 fn is_refused(alloc: Global, text: &[u8], line: u32, number: u8) -> bool {
@@ -13,7 +15,7 @@ fn is_refused(alloc: Global, text: &[u8], line: u32, number: u8) -> bool {
 }
 
 /// Whether a source has so many items.
-fn has_items(alloc: Global, text: &[u8], count: usize) -> bool {
+pub fn has_items(alloc: Global, text: &[u8], count: usize) -> bool {
     match parse(alloc, text) {
         Ok(source) => source.items.len() == count,
         Err(_) => false,
@@ -21,7 +23,7 @@ fn has_items(alloc: Global, text: &[u8], count: usize) -> bool {
 }
 
 /// A source, and the number of its items.
-const READ: [(&str, usize); 22] = [
+static READ: [(&str, usize); 22] = [
     (".text\n.data\n.bss\n", 3),
     (".section .rodata.str1.1,\"aMS\",@progbits,1\n", 1),
     (".globl a; .global b; .local c", 3),
@@ -54,13 +56,13 @@ const READ: [(&str, usize); 22] = [
 
 #[test]
 fn each_directive_is_read(rt: HostRuntime) {
-    for (text, count) in READ.iter() {
-        assert!(rt; has_items(rt.alloc(), text.as_bytes(), *count), "{text}");
+    for (k, (text, count)) in READ.iter().enumerate() {
+        holds(&rt, k, has_items(rt.alloc(), text.as_bytes(), *count));
     }
 }
 
 /// A source, and the line and the number of its fault.
-const FAULTS: [(&str, u32, u8); 55] = [
+static FAULTS: [(&str, u32, u8); 55] = [
     ("nop\n\u{1}", 2, 1),
     ("nop \u{e9}", 1, 1),
     ("nop\n !", 2, 2),
@@ -120,10 +122,11 @@ const FAULTS: [(&str, u32, u8); 55] = [
 
 #[test]
 fn faults_have_their_lines_and_causes(rt: HostRuntime) {
-    for (text, line, number) in FAULTS.iter() {
-        assert!(rt;
+    for (k, (text, line, number)) in FAULTS.iter().enumerate() {
+        holds(
+            &rt,
+            k,
             is_refused(rt.alloc(), text.as_bytes(), *line, *number),
-            "{text}"
         );
     }
 }
@@ -138,30 +141,37 @@ fn longest_source_is_read(rt: HostRuntime) {
 }
 
 /// A label for each number below this, each in a line, and what follows the last.
-fn labels(alloc: Global, count: u32, end: &str) -> Result<Vec<u8>, AllocError> {
+fn labels(rt: &impl Abort, alloc: Global, count: u32, end: &str) -> Vec<u8> {
     let mut text = Vec::new(alloc);
     for i in 0..count {
-        let line = format!(in alloc; "x{i}:\n")?;
-        text.extend_from_slice(line.as_bytes())?;
+        let line = format!(in alloc; "x{i}:\n").expect(rt, "memory");
+        add(rt, &mut text, line.as_bytes());
     }
-    text.extend_from_slice(end.as_bytes())?;
-    Ok(text)
+    add(rt, &mut text, end.as_bytes());
+    text
 }
 
 /// How many labels, what follows the last, and the line and the number of the fault.
-const NO_NAME_IS_LEFT: [(u32, &str, u32, u8); 4] = [
+type Full = (u32, &'static str, u32, u8);
+
+static NO_NAME_IS_LEFT: [Full; 4] = [
     (65537, "", 65537, 14),
     (65536, ".comm /*\n*/ y,4", 65537, 14),
     (65536, ".lcomm /*\n*/ %zz", 65537, 7),
     (65536, ".globl /*\n*/ y", 65538, 14),
 ];
 
+fn is_full(rt: &impl Abort, alloc: Global, row: &Full) -> bool {
+    let (count, end, line, number) = *row;
+    let text = labels(rt, alloc, count, end);
+    is_refused(alloc, &text, line, number)
+}
+
 #[test]
 fn symbols_are_limited(rt: HostRuntime) {
-    let text = labels(rt.alloc(), 65536, "").expect(&rt, "memory");
+    let text = labels(&rt, rt.alloc(), 65536, "");
     assert!(rt; has_items(rt.alloc(), &text, 65536));
-    for (count, end, line, number) in NO_NAME_IS_LEFT.iter() {
-        let text = labels(rt.alloc(), *count, end).expect(&rt, "memory");
-        assert!(rt; is_refused(rt.alloc(), &text, *line, *number), "{end}");
+    for (k, row) in NO_NAME_IS_LEFT.iter().enumerate() {
+        holds(&rt, k, is_full(&rt, rt.alloc(), row));
     }
 }

@@ -1,8 +1,10 @@
 //! Standard output over a writer that takes little, is interrupted and fails, and a file over such a reader.
 
+use crate::agree::holds;
 use pv_io::{IoAnswer, Sink, StdSink, read_all};
 use std::alloc::Global;
 use std::io::{self, Error, ErrorKind, Read, Write};
+use std::process::Abort;
 
 /// Takes one byte a write, up to its room, and is interrupted before each of some.
 #[derive(Drop)]
@@ -43,7 +45,7 @@ impl Write for Narrow<'_> {
 /// How many bytes are taken and what comes then, whether the piece was written, and the count of faults.
 type Piece = (u8, Option<ErrorKind>, bool, u64);
 
-const PIECES: [Piece; 4] = [
+static PIECES: [Piece; 4] = [
     (4, None, true, 0),
     (2, None, false, 1),
     (2, Some(ErrorKind::BrokenPipe), false, 1),
@@ -74,7 +76,7 @@ fn is_written(alloc: Global, row: &Piece) -> bool {
 #[test]
 fn a_piece_is_written_whole_or_is_a_fault(rt: HostRuntime) {
     for (k, row) in PIECES.iter().enumerate() {
-        assert!(rt; is_written(rt.alloc(), row), "{k}");
+        holds(&rt, k, is_written(rt.alloc(), row));
     }
 }
 
@@ -110,7 +112,7 @@ impl Read for Drops {
 /// How many bytes there are and what comes then, the limit, and the bytes that are read; none where that fails.
 type File = (u8, Option<ErrorKind>, u64, Option<&'static [u8]>);
 
-const FILES: [File; 6] = [
+static FILES: [File; 6] = [
     (3, None, 3, Some(&[3, 2, 1])),
     (3, None, 2, None),
     (0, None, 0, Some(&[])),
@@ -138,14 +140,15 @@ fn is_read(alloc: Global, row: &File, interrupts: u8) -> bool {
     }
 }
 
+fn are_read(rt: &impl Abort, alloc: Global, interrupts: u8) {
+    for (k, row) in FILES.iter().enumerate() {
+        holds(rt, k, is_read(alloc, row, interrupts));
+    }
+}
+
 #[test]
 fn a_file_is_read_up_to_its_limit_or_is_a_fault(rt: HostRuntime) {
-    for (k, row) in FILES.iter().enumerate() {
-        for interrupts in 0..3u8 {
-            assert!(rt;
-                is_read(rt.alloc(), row, interrupts),
-                "row {k}, {interrupts}"
-            );
-        }
+    for interrupts in 0..3u8 {
+        are_read(&rt, rt.alloc(), interrupts);
     }
 }

@@ -1,8 +1,8 @@
 //! Tokens.
 
-use crate::agree::put_times;
+use crate::agree::{holds, put_times};
+use crate::statements::has_items;
 use asm_lex::{SourceCause, SourceFault, Token, TokenKind, lex};
-use asm_parse::parse;
 use std::alloc::Global;
 
 // A token of this kind at this place, of so many bytes.
@@ -12,7 +12,7 @@ macro_rules! token {
     };
 }
 
-const LEXED: [Token; 12] = [
+static LEXED: [Token; 12] = [
     token!(TokenKind::Name, 0, 1),
     token!(TokenKind::Mark(b':'), 1, 1),
     token!(TokenKind::Name, 3, 5),
@@ -44,7 +44,7 @@ fn is_refused(alloc: Global, text: &[u8], line: u32, number: u8) -> bool {
 }
 
 /// A text, and the line and the number of its refusal.
-const REFUSED: [(&str, u32, u8); 13] = [
+static REFUSED: [(&str, u32, u8); 13] = [
     ("a:\t.long 'b, \"c;\" # d\n-08$/* \n */", 2, 6),
     ("a\n\u{7f}", 2, 1),
     ("# \u{1}", 1, 1),
@@ -62,10 +62,11 @@ const REFUSED: [(&str, u32, u8); 13] = [
 
 #[test]
 fn refusals_have_their_lines(rt: HostRuntime) {
-    for (text, line, number) in REFUSED.iter() {
-        assert!(rt;
+    for (k, (text, line, number)) in REFUSED.iter().enumerate() {
+        holds(
+            &rt,
+            k,
             is_refused(rt.alloc(), text.as_bytes(), *line, *number),
-            "{text}"
         );
     }
 }
@@ -80,13 +81,20 @@ fn refusals_show_their_numbers(rt: HostRuntime) {
     assert!(rt; text.as_str() == "refused 13 line 7");
 }
 
+/// Whether a text has 2,000 tokens, the last of which is the end of the last line.
+fn has_tokens(alloc: Global, text: &[u8]) -> bool {
+    match lex(alloc, text) {
+        Ok(tokens) => {
+            tokens.len() == 2000 && tokens.last() == Some(&token!(TokenKind::End, 3999, 1))
+        }
+        Err(_) => false,
+    }
+}
+
 #[test]
 fn long_texts_have_all_their_tokens(rt: HostRuntime) {
     let mut text = Vec::new(rt.alloc());
-    put_times(&mut text, b"nop\n", 1000).expect(&rt, "memory");
-    let tokens = lex(rt.alloc(), &text).expect(&rt, "memory");
-    assert!(rt; tokens.len() == 2000);
-    assert!(rt; tokens[1999] == token!(TokenKind::End, 3999, 1));
-    let source = parse(rt.alloc(), &text).expect(&rt, "memory");
-    assert!(rt; source.items.len() == 1000);
+    put_times(&rt, &mut text, b"nop\n", 1000);
+    holds(&rt, 0, has_tokens(rt.alloc(), &text));
+    holds(&rt, 1, has_items(rt.alloc(), &text, 1000));
 }

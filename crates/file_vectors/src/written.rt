@@ -4,11 +4,12 @@ ghost use Rattle.std.specs.Prelude.{IfOk};
 ghost use Rattle.elf_form.specs.ImageLayout.{IsWritableImage};
 ghost use Rattle.elf_form.specs.ObjectLayout.{IsWritableObject};
 
-use crate::agree::{Held, are_bytes, are_held, put_times};
+use crate::agree::{Held, Number, Part, add, are_bytes, are_held, list, put_times};
 use crate::object_rows::{Named, Parts, symbol};
 use crate::vectors::{SMALL_IMAGE_HEAD, SMALL_IMAGE_TAIL, SMALL_OBJECT};
 use elf_form::{DefinedIn, Image, Object, Reloc, read_image, write_image, write_object};
 use std::alloc::{AllocError, Global};
+use std::process::Abort;
 
 const SITES: &[u8] = b"PVS1\x01\0\0\0\0\0\0\0\x01\x01\x05\0";
 
@@ -98,23 +99,23 @@ fn small_image(alloc: Global) -> Result<Image, AllocError>
 }
 
 /// The file of the small image: what stands before its text and from its data on, and the text, with zeros between.
-fn small_file(alloc: Global) -> Result<Vec<u8>, AllocError> {
-    let mut file = Vec::from_slice(alloc, &SMALL_IMAGE_HEAD)?;
-    put_times(&mut file, b"\0", 4096 - 116)?;
-    file.extend_from_slice(IMAGE_TEXT)?;
-    put_times(&mut file, b"\0", 8192 - 4103)?;
-    file.extend_from_slice(&SMALL_IMAGE_TAIL)?;
-    Ok(file)
+fn small_file(rt: &impl Abort, alloc: Global) -> Vec<u8> {
+    let mut file = list(rt, alloc, &SMALL_IMAGE_HEAD);
+    put_times(rt, &mut file, b"\0", 4096 - 116);
+    add(rt, &mut file, IMAGE_TEXT);
+    put_times(rt, &mut file, b"\0", 8192 - 4103);
+    add(rt, &mut file, &SMALL_IMAGE_TAIL);
+    file
 }
 
 static HELD: [Held; 7] = [
-    Held::Text(IMAGE_TEXT),
-    Held::Init(&[1, 2, 3]),
-    Held::Bss(9),
-    Held::Entry(0x10000000),
-    Held::TextAt(0x10000000),
-    Held::InitAt(0x11000000),
-    Held::Sites(SITES),
+    Held::Whole(Part::Text, IMAGE_TEXT),
+    Held::Whole(Part::Init, &[1, 2, 3]),
+    Held::Is(Number::Bss, 9),
+    Held::Is(Number::Entry, 0x10000000),
+    Held::Is(Number::TextAt, 0x10000000),
+    Held::Is(Number::InitAt, 0x11000000),
+    Held::Whole(Part::Sites, SITES),
 ];
 
 #[test]
@@ -122,7 +123,7 @@ fn writes_an_image_that_other_tools_read_and_reads_it(rt: HostRuntime) {
     let alloc = rt.alloc();
     let image = small_image(alloc).expect(&rt, "memory");
     let file = write_image(alloc, &image).expect(&rt, "memory");
-    are_bytes(&rt, &file, &small_file(alloc).expect(&rt, "memory"));
+    are_bytes(&rt, &file, &small_file(&rt, alloc));
     let image = read_image(alloc, &file).expect(&rt, "an image");
     are_held(&rt, &image, &HELD);
 }

@@ -1,6 +1,6 @@
 -- Memory within a step that goes on, by what a part of the step comes to.
 use Rattle.std.proofs.Common.{◌≡◌, ℕ, Bool, Option, Ok, Err, Result, ap, subst}
-use Rattle.std.specs.Prelude.{IfOk, IfErr}
+use Rattle.std.specs.Prelude.{IfOk, IfErr, OnErr}
 use Rattle.descriptors.specs.declared.cpu.Cpu.{Cpu}
 use Rattle.event_entry.specs.declared.refusal.Kind.{Kind}
 use Rattle.event_entry.specs.declared.refusal.NotDelivered.{NotDelivered}
@@ -23,6 +23,10 @@ use Rattle.machine_step.specs.Begun.{AtEffect}
 pub if_ok : {T E P : Type 0} (r : Result T E) → P → IfOk r (λ _. P)
 if_ok (Ok x) p = p
 if_ok (Err e) p = tt
+
+pub on_err : {T E P : Type 0} (r : Result T E) → P → OnErr r P
+on_err (Ok x) p = tt
+on_err (Err e) p = p
 
 pub if_ok_on : {T E : Type 0} (user : Bool) (s t u : Space) (r : Result T E) → Uses user s t → IfOk r (λ _. Uses user t u) → IfOk r (λ _. Uses user s u)
 if_ok_on user s t u (Ok x) h k = uses_on user s t u h k

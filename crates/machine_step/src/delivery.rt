@@ -4,7 +4,7 @@ ghost use Rattle.std.specs.Prelude.{◌≡◌, ◌+◌, ◌*◌, ◌==◌, ◌�
 ghost use Rattle.paging.specs.Space.{Space};
 ghost use Rattle.step_mem.specs.Shown.{hidden};
 ghost use Rattle.step_mem.specs.Sound.{IsSound, space_at};
-ghost use Rattle.board.specs.Boards.{vector as vector_of};
+ghost use Rattle.board.specs.Boards.{vector as vector_of, acknowledged};
 ghost use Rattle.machine_model.specs.State.{Setting, State as Whole};
 ghost use Rattle.machine_model.specs.Step.{interrupted, interrupts_by, after_refusal, raised, code_of, stop_of};
 ghost use Rattle.machine_model.specs.Taken.{is_load};
@@ -43,6 +43,7 @@ pub fn deliver<B: Kept>(
     ensures sound { IsSound (B.entries kept.now) (B.floor kept.now) (B.stands kept.now) ram.new state.new }
     ensures uses { IfOk result (λ _. Uses (cpu.now.cpl == 3) (space_at (B.entries kept.now) ram.old state.old) (space_at (B.entries kept.now) ram.new state.new)) }
     ensures step { (m : Setting) (b : Whole) → IsRuled m rules.now → ComesTo (interrupted m (record b { cpu = cpu.now; board = board.old }) vector (space_at (B.entries kept.now) ram.old state.old)) b result board.new (space_at (B.entries kept.now) ram.new state.new) }
+    ensures board { board.new ≡ acknowledged board.old }
     ensures dropped { IfOk result (λ w. IsDropped w.dropped) }
     ensures roots { IfOk result (RootsAs cpu.now) }
     ensures control { state.new.control ≡ state.old.control }

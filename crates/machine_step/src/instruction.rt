@@ -1,6 +1,6 @@
 //! What an instruction that was fetched comes to.
 
-ghost use Rattle.std.specs.Prelude.{◌≡◌, ◌+◌, ◌==◌, ◌≤◌, List, ℕ, IfOk, Ok, Some};
+ghost use Rattle.std.specs.Prelude.{◌≡◌, ◌+◌, ◌==◌, ◌≤◌, List, ℕ, IfOk, OnErr, Ok, Some};
 ghost use Rattle.paging.specs.Space.{Space};
 ghost use Rattle.step_mem.specs.Shown.{hidden};
 ghost use Rattle.step_mem.specs.Sound.{IsSound, space_at};
@@ -46,6 +46,7 @@ pub fn carry_out<B: Kept>(
     ensures sound { IsSound (B.entries kept.now) (B.floor kept.now) (B.stands kept.now) ram.new state.new }
     ensures uses { IfOk result (λ _. Uses (cpu.now.cpl == 3) (space_at (B.entries kept.now) ram.old state.old) (space_at (B.entries kept.now) ram.new state.new)) }
     ensures step { (m : Setting) (b : Whole) → IsRuled m rules.now → ComesTo (by_decoded m (record b { cpu = cpu.now; board = board.old }) (Decoded.Insn insn.now len) (space_at (B.entries kept.now) ram.old state.old)) b result board.new (space_at (B.entries kept.now) ram.new state.new) }
+    ensures stopped { OnErr result (board.new ≡ board.old) }
     ensures dropped { IfOk result (λ w. IsDropped w.dropped) }
     ensures roots { IfOk result (RootsAs cpu.now) }
     ensures control { state.new.control ≡ state.old.control }
@@ -92,6 +93,7 @@ fn perform<B: Kept>(
     ensures sound { IsSound (B.entries kept.now) (B.floor kept.now) (B.stands kept.now) ram.new state.new }
     ensures uses { IfOk result (λ _. Uses (cpu.now.cpl == 3) (space_at (B.entries kept.now) ram.old state.old) (space_at (B.entries kept.now) ram.new state.new)) }
     ensures step { (m : Setting) (b : Whole) → IsRuled m rules.now → ComesTo (after_instruction m (record b { cpu = cpu.now; board = board.old }) (completed_of completed) (instructed insn.now len cpu.now (space_at (B.entries kept.now) ram.old state.old))) b result board.new (space_at (B.entries kept.now) ram.new state.new) }
+    ensures stopped { OnErr result (board.new ≡ board.old) }
     ensures dropped { IfOk result (λ w. IsDropped w.dropped) }
     ensures roots { IfOk result (RootsAs cpu.now) }
     ensures control { state.new.control ≡ state.old.control }
@@ -124,6 +126,7 @@ fn follow<B: Kept>(
     ensures sound { IsSound (B.entries kept.now) (B.floor kept.now) (B.stands kept.now) ram.new state.new }
     ensures uses { (s : Space) → AtEffect (before.now.cpl == 3) s effect (space_at (B.entries kept.now) ram.old state.old) → IfOk result (λ _. Uses (before.now.cpl == 3) s (space_at (B.entries kept.now) ram.new state.new)) }
     ensures step { (m : Setting) (b : Whole) → IsRuled m rules.now → ComesTo (after_effect m (record b { cpu = before.now; board = board.old }) (completed_of completed) effect cpu (space_at (B.entries kept.now) ram.old state.old)) b result board.new (space_at (B.entries kept.now) ram.new state.new) }
+    ensures stopped { OnErr result (board.new ≡ board.old) }
     ensures dropped { IfOk result (λ w. IsDropped w.dropped) }
     ensures roots { IfOk result (RootsAs before.now) }
     ensures control { state.new.control ≡ state.old.control }

@@ -1,6 +1,6 @@
 //! IN and OUT at the board.
 
-ghost use Rattle.std.specs.Prelude.{◌≡◌, ◌<◌, false, Some, IfOk};
+ghost use Rattle.std.specs.Prelude.{◌≡◌, ◌<◌, false, Some, IfOk, OnErr};
 ghost use Rattle.paging.specs.Space.{Space};
 ghost use Rattle.board.specs.Ports.{port_read, port_written};
 ghost use Rattle.machine_model.specs.State.{State as Whole};
@@ -25,6 +25,8 @@ pub fn read(
     wide: bool,
 ) -> Result<Worked, Stop>
     ensures step { (b : Whole) (s : Space) → ComesTo (after_read b (completed_of completed) cpu port wide s (port_read board.old port wide)) b result board.new s }
+    ensures board { board.new ≡ (port_read board.old port wide).1 }
+    ensures stopped { OnErr result (board.new ≡ board.old) }
     ensures dropped { IfOk result (λ w. IsDropped w.dropped) }
     ensures ends { IfOk result (EndsWith (Some completed) cpu) }
 {
@@ -72,6 +74,8 @@ pub fn write(
 ) -> Result<Worked, Stop>
     requires fits { wide ≡ false → value < 256 }
     ensures step { (b : Whole) (s : Space) → ComesTo (after_write b (completed_of completed) cpu (out_item port wide value) s (port_written board.old port wide value)) b result board.new s }
+    ensures board { board.new ≡ (port_written board.old port wide value).1 }
+    ensures stopped { OnErr result (board.new ≡ board.old) }
     ensures dropped { IfOk result (λ w. IsDropped w.dropped) }
     ensures ends { IfOk result (EndsWith (Some completed) cpu) }
 {

@@ -1,15 +1,16 @@
 //! One step.
 
-ghost use Rattle.std.specs.Prelude.{◌≡◌, ◌+◌, ◌*◌, ◌==◌, ◌≤◌, length, false, IfOk};
-ghost use Rattle.descriptors.specs.Controls.{pse_of, wp_of};
+ghost use Rattle.std.specs.Prelude.{◌≡◌, ◌+◌, ◌*◌, ◌==◌, ◌≤◌, length, true, false, IfOk, OnErr, None};
 ghost use Rattle.step_mem.specs.Changes.{AreWithin};
 ghost use Rattle.step_mem.specs.Guard.{mode_of, IsLaid};
 ghost use Rattle.step_mem.specs.Shown.{shown, hidden};
 ghost use Rattle.step_mem.specs.Sound.{IsSound, space_at};
+ghost use Rattle.machine_model.specs.Instruction.{fetched};
+ghost use Rattle.machine_model.specs.Rules.{stands_well};
 ghost use Rattle.machine_model.specs.State.{Setting, State as Whole, space_at_start};
 ghost use Rattle.machine_model.specs.Step.{stepped, worked, begins_next, fetches_next, interrupt_of, by_interrupt, unheld};
 ghost use Rattle.machine_model.specs.UsedPages.{Uses};
-ghost use Rattle.machine_step.specs.Begun.{BeginsAs, IsBegun, IsFetchedBy};
+ghost use Rattle.machine_step.specs.Begun.{control_of, taken_by, BeginsAs, ReadAs, IsBegun, IsFetchedBy};
 ghost use Rattle.machine_step.specs.Roots.{RootsAs, RootsBegun};
 ghost use Rattle.machine_step.specs.Ruled.{IsRuled};
 ghost use Rattle.machine_step.specs.Worked.{ComesTo, IsDropped};
@@ -46,9 +47,10 @@ pub fn step<'g, B: Kept>(
     ensures step { (s : Setting) (b : Whole) → IsRuled (record s { mode = mode_of guard.entry; frames = frames }) rules.now → ComesTo
         (stepped (record s { mode = mode_of guard.entry; frames = frames }) (record b { cpu = cpu.now; ram = shown guard.entry frames ram.old; set = B.entries kept.now ram.old; board = board.old }))
         b result.0 board.new (space_at (B.entries kept.now) ram.new result.1) }
+    ensures stopped { OnErr result.0 (board.new ≡ taken_by (interrupt_of cpu.now board.old) board.old) }
     ensures dropped { IfOk result.0 (λ w. IsDropped w.dropped) }
     ensures roots { IfOk result.0 (RootsAs cpu.now) }
-    ensures frames { result.1.control.frames ≡ frames }
+    ensures control { result.1.control ≡ control_of frames cpu.now }
     ensures text { result.1.guard.text ≡ guard.entry.text }
     ensures hidden { hidden guard.entry frames ram.new ≡ hidden guard.entry frames ram.old }
 {
@@ -78,9 +80,10 @@ pub fn step_again<'g, B: Kept>(
     ensures step { (s : Setting) (b : Whole) → IsRuled (record s { mode = mode_of guard.entry; frames = frames }) rules.now → ComesTo
         (stepped (record s { mode = mode_of guard.entry; frames = frames }) (record b { cpu = cpu.now; ram = shown guard.entry frames ram.old; set = B.entries kept.now ram.old; board = board.old }))
         b result board.new (space_at (B.entries kept.now) ram.new state.new) }
+    ensures stopped { OnErr result (board.new ≡ taken_by (interrupt_of cpu.now board.old) board.old) }
     ensures dropped { IfOk result (λ w. IsDropped w.dropped) }
     ensures roots { IfOk result (RootsAs cpu.now) }
-    ensures frames { state.new.control.frames ≡ frames }
+    ensures control { state.new.control ≡ control_of frames cpu.now }
     ensures text { state.new.guard.text ≡ guard.entry.text }
     ensures hidden { hidden guard.entry frames ram.new ≡ hidden guard.entry frames ram.old }
 {
@@ -90,7 +93,7 @@ pub fn step_again<'g, B: Kept>(
 
 /// What a walk goes by: the frames, the directory, and the two flags.
 fn control(cpu: &Cpu, frames: u32) -> Control
-    ensures { result ≡ record { frames = frames; cr3 = cpu.now.cr3; pse = pse_of cpu.now; wp = wp_of cpu.now } }
+    ensures { result ≡ control_of frames cpu.now }
 {
     Control {
         frames,
@@ -116,6 +119,7 @@ pub fn begin<'g, B: Kept>(
     ensures sound { IsSound (B.entries kept.now) (B.floor kept.now) (B.stands kept.now) ram.now result }
     ensures space { space_at (B.entries kept.now) ram.now result ≡ space_at_start (mode_of guard.entry) frames cpu.now (shown guard.entry frames ram.now) (B.entries kept.now ram.now) }
     ensures pages { result.pages ≡ 0 }
+    ensures control { result.control ≡ control_of frames cpu.now }
     ensures frames { result.control.frames ≡ frames }
     ensures guard { result.guard ≡ guard.entry }
 {
@@ -140,7 +144,7 @@ fn begin_again<'g, B: Kept>(
     ensures sound { IsSound (B.entries kept.now) (B.floor kept.now) (B.stands kept.now) ram.now state.new }
     ensures space { space_at (B.entries kept.now) ram.now state.new ≡ space_at_start (mode_of guard.entry) frames cpu.now (shown guard.entry frames ram.now) (B.entries kept.now ram.now) }
     ensures pages { state.new.pages ≡ 0 }
-    ensures frames { state.new.control.frames ≡ frames }
+    ensures control { state.new.control ≡ control_of frames cpu.now }
     ensures guard { state.new.guard ≡ guard.entry }
 {
     let _len = ram.len();
@@ -161,6 +165,7 @@ pub fn step_in<B: Kept>(
     ensures sound { IsSound (B.entries kept.now) (B.floor kept.now) (B.stands kept.now) ram.new state.new }
     ensures uses { IfOk result (λ _. Uses (cpu.now.cpl == 3) (space_at (B.entries kept.now) ram.old state.old) (space_at (B.entries kept.now) ram.new state.new)) }
     ensures step { (m : Setting) (b : Whole) → IsRuled m rules.now → ComesTo (by_interrupt m (interrupt_of cpu.now board.old) (unheld (record b { cpu = cpu.now; board = board.old })) (space_at (B.entries kept.now) ram.old state.old)) b result board.new (space_at (B.entries kept.now) ram.new state.new) }
+    ensures stopped { OnErr result (board.new ≡ taken_by (interrupt_of cpu.now board.old) board.old) }
     ensures dropped { IfOk result (λ w. IsDropped w.dropped) }
     ensures roots { IfOk result (RootsAs cpu.now) }
     ensures control { state.new.control ≡ state.old.control }
@@ -190,6 +195,9 @@ pub fn start<B: Kept>(
     ensures uses { IfOk result (λ _. Uses (cpu.now.cpl == 3) (space_at (B.entries kept.now) ram.old state.old) (space_at (B.entries kept.now) ram.new state.new)) }
     ensures fetched { IfOk result (IsFetchedBy (record cpu.now { held = false })) }
     ensures begins { (m : Setting) (b : Whole) → IsRuled m rules.now → BeginsAs m (by_interrupt m (interrupt_of cpu.now board.old) (unheld (record b { cpu = cpu.now; board = board.old })) (space_at (B.entries kept.now) ram.old state.old)) b result board.new (space_at (B.entries kept.now) ram.new state.new) }
+    ensures reads { (m : Setting) → IsRuled m rules.now → interrupt_of cpu.now board.old ≡ None → cpu.now.halted ≡ false → stands_well m cpu.now ≡ true
+        → ReadAs (record cpu.now { held = false }) result (space_at (B.entries kept.now) ram.new state.new) (fetched (cpu.now.cpl == 3) cpu.now.regs.eip (space_at (B.entries kept.now) ram.old state.old)) }
+    ensures board { board.new ≡ taken_by (interrupt_of cpu.now board.old) board.old }
     ensures begun { IfOk result (λ x. IsBegun x state.new.pages) }
     ensures roots { IfOk result (RootsBegun cpu.now) }
     ensures control { state.new.control ≡ state.old.control }
@@ -233,6 +241,8 @@ fn work<B: Kept>(
     ensures uses { IfOk result (λ _. Uses (cpu.now.cpl == 3) (space_at (B.entries kept.now) ram.old state.old) (space_at (B.entries kept.now) ram.new state.new)) }
     ensures fetched { IfOk result (IsFetchedBy cpu.now) }
     ensures begins { (m : Setting) (b : Whole) → IsRuled m rules.now → BeginsAs m (worked m (record b { cpu = cpu.now }) (space_at (B.entries kept.now) ram.old state.old)) b result b.board (space_at (B.entries kept.now) ram.new state.new) }
+    ensures reads { (m : Setting) → IsRuled m rules.now → cpu.now.halted ≡ false → stands_well m cpu.now ≡ true
+        → ReadAs cpu.now result (space_at (B.entries kept.now) ram.new state.new) (fetched (cpu.now.cpl == 3) cpu.now.regs.eip (space_at (B.entries kept.now) ram.old state.old)) }
     ensures begun { IfOk result (λ x. IsBegun x state.new.pages) }
     ensures roots { IfOk result (RootsBegun cpu.now) }
     ensures control { state.new.control ≡ state.old.control }
@@ -269,6 +279,7 @@ fn fetch_next<B: Kept>(
     ensures uses { IfOk result (λ _. Uses (cpu.now.cpl == 3) (space_at (B.entries kept.now) ram.old state.old) (space_at (B.entries kept.now) ram.new state.new)) }
     ensures fetched { IfOk result (IsFetchedBy cpu.now) }
     ensures begins { (m : Setting) (b : Whole) → IsRuled m rules.now → BeginsAs m (fetches_next m (record b { cpu = cpu.now }) (space_at (B.entries kept.now) ram.old state.old)) b result b.board (space_at (B.entries kept.now) ram.new state.new) }
+    ensures reads { ReadAs cpu.now result (space_at (B.entries kept.now) ram.new state.new) (fetched (cpu.now.cpl == 3) cpu.now.regs.eip (space_at (B.entries kept.now) ram.old state.old)) }
     ensures begun { IfOk result (λ x. IsBegun x state.new.pages) }
     ensures roots { IfOk result (RootsBegun cpu.now) }
     ensures control { state.new.control ≡ state.old.control }

@@ -75,7 +75,8 @@ barred-marked frame w k =
       | inl t ↦
           let bit = t.1 in
           let r = k.reads bit in
-          subst IsMarked (sym t.2) (record { user = omega (arith, bit, user); reads = λ e. omega (arith, e, bit); fits = omega (arith, fits) })
+          let high : (w - 2) / 8 ≡ w / 8 = omega (arith, bit) in
+          subst IsMarked (sym t.2) (record { user = omega (arith, bit, user); reads = λ e. omega (arith, e, bit); plain = ap (λ x. x % 64) high ∙ k.plain; fits = omega (arith, fits) })
       | inr t ↦ subst IsMarked (sym t.1) k
     ]
 

@@ -43,7 +43,7 @@ slot-parts : (side : Side) (page : ℕ) {f f' : ℕ} {u u' w w' d d' r r' h h' :
 slot-parts side page a b c d e g = cc
 
 marked : (f d w u h r : ℕ) → d ≤ 1 → w ≤ 1 → u ≤ 1 → h ≤ 1 → r ≤ 1 → h ≤ r → f < 2 ^ 20 → IsMarked (packed f d w u h r)
-marked f d w u h r ld lw lu lh lr le small = record { user = omega arith; reads = λ e. omega (arith, e); fits = omega arith }
+marked f d w u h r ld lw lu lh lr le small = record { user = omega arith; reads = λ e. omega (arith, e); plain = omega arith; fits = omega arith }
 
 pub slot_of-word_of : (s : Slot) → slot_of s.side s.entry.page (word_of s) ≡ s
 unfolding word_of

@@ -76,10 +76,12 @@ held s m = owned m (roots s)
 unfoldable pub slot_at : Shadow → List ℕ → ℕ → Option Slot
 slot_at s m page = by_words page (at m s.kernel page) (at m s.user page)
 
--- a word of four bytes, in which bit 2 is set, and bit 0 where bit 1 is
+-- A word of four bytes, in which bit 2 is set, and bit 0 where bit 1 is. Bits 3 to 8 are 0: PWT,
+-- PCD, accessed, dirty, PAT and global. The host's walk sets none of them.
 pub record IsMarked (word : ℕ) : Type 0 where
   pub user : word / 4 % 2 ≡ 1
   pub reads : word / 2 % 2 ≡ 1 → word % 2 ≡ 1
+  pub plain : word / 8 % 64 ≡ 0
   pub fits : word < 2 ^ 32
 
 -- The frames lie in the memory, each once. No page is held by both views. A word that names a table gives the host

@@ -19,7 +19,9 @@ use guest_ram::Ram;
 use paging::Entry;
 use shadow_views::{clear, empty, has_table, look, set};
 
-/// The roots of both views.
+/// The roots of both views. A word of a page that isn't 0 has U/S set, in P and R/W what the host may do, and PWT, PCD, A, D,
+/// PAT and G clear (`IsMarked`); one that names a table has P, R/W and U/S set, and no other flag (`IsShadow`). The flags are
+/// those of Intel SDM volume 3, 32-bit paging.
 #[derive(Clone, Copy)]
 pub struct Shadow {
     kernel: u32,

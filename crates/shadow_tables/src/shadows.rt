@@ -11,7 +11,8 @@ ghost use Rattle.shadow_tables.specs.Aside.{Aside, AreSame, LoseWrites, AllFit, 
 ghost use Rattle.shadow_tables.specs.Entries.{entries_of};
 ghost use Rattle.shadow_tables.specs.Host.{lent};
 ghost use Rattle.guest_ram.specs.Among.{is_among};
-ghost use Rattle.shadow_tables.specs.Slots.{Slot, filled, ArePart, entry_in, is_adequate, Turns, LosesDir, LosesWrites, SameSlots, IsShadow, held, slot_at, root_of};
+ghost use Rattle.shadow_tables.specs.Opened.{HasOpened};
+ghost use Rattle.shadow_tables.specs.Slots.{Slot, filled, ArePart, entry_in, is_adequate, Turns, LosesDir, LosesWrites, SameSlots, Becomes, IsShadow, held, slot_at, root_of};
 ghost use Rattle.shadow_tables.specs.declared.words.Side.{Side};
 ghost use Rattle.shadow_tables.specs.Laws as laws;
 
@@ -317,7 +318,21 @@ impl Shadows for Shadow {
         Shadow::drop_dir(self, ram, index);
     }
 
-    fn fill(&mut self, ram: &mut Ram, pool: &mut Pool, side: Side, entry: Entry, wp: bool) {
+    fn fill(&mut self, ram: &mut Ram, pool: &mut Pool, side: Side, entry: Entry, wp: bool)
+        requires stands { ∥ IsShadow self.old ram.old ∥₁ }
+        requires owns { Owns pool.old ram.old (held self.old ram.old) }
+        requires free { 1 ≤ length (free_list pool.old ram.old) }
+        requires page { entry.page < 2 ^ 20 }
+        requires frame { entry.frame < 2 ^ 20 }
+        ensures same { self.new ≡ self.old }
+        ensures becomes { Becomes self.old ram.old ram.new entry.page (Some (filled false side entry wp)) }
+        ensures entries { entries_of (slot_at self.new ram.new) ≡ insert (entries_of (slot_at self.old ram.old)) entry.page entry }
+        ensures one { length (free_list pool.old ram.old) ≤ length (free_list pool.new ram.new) + 1 }
+        ensures owns { Owns pool.new ram.new (held self.new ram.new) }
+        ensures moves { Moves pool.old pool.new ram.old ram.new (held self.old ram.old) (held self.new ram.new) }
+
+        ensures table { HasOpened self.old ram.old ram.new side (entry.page / 1024) }
+    {
         Shadow::fill(self, ram, pool, side, entry, wp);
     }
 
@@ -326,7 +341,16 @@ impl Shadows for Shadow {
     }
 
     /// Nothing is tracked, and nothing comes back.
-    fn note(&mut self, _ram: &mut Ram, _frame: u32) {}
+    fn note(&mut self, ram: &mut Ram, _frame: u32)
+        requires stands { ∥ IsShadow self.old ram.old ∥₁ }
+        ensures still { (self.new ≡ self.old) × (ram.new ≡ ram.old) }
+    {}
 
-    fn written(&mut self, _ram: &mut Ram, _pool: &mut Pool, _frame: u32) {}
+    fn written(&mut self, ram: &mut Ram, pool: &mut Pool, _frame: u32)
+        requires stands { ∥ IsShadow self.old ram.old ∥₁ }
+        requires owns { Owns pool.old ram.old (held self.old ram.old) }
+        ensures still { (self.new ≡ self.old) × (ram.new ≡ ram.old) × (pool.new ≡ pool.old) }
+    {
+        // no frame is tracked, so none is lost
+    }
 }

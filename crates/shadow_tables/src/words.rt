@@ -1,5 +1,6 @@
 //! The word that keeps an entry: the frame in bits 12 to 31, the entry's user, write and dirty flags in bits 9 to 11,
-//! and the host's rights in bits 0 to 2. Bit 2 is always set, so that the word isn't 0.
+//! and the host's rights in bits 0 to 2: present (P), write (R/W) and user (U/S). Bit 2 is always set, so that the word
+//! isn't 0. Bits 3 to 8 are 0: PWT, PCD, accessed (A), dirty (D), PAT and global (G).
 
 ghost use Rattle.std.specs.Prelude.{◌≡◌, ◌≤◌, ◌<◌, ◌^◌};
 ghost use Rattle.shadow_tables.specs.Slots.{is_user, permits, filled, worth, word_of, entry_of, lets};

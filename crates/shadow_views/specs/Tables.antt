@@ -1,5 +1,7 @@
 -- Views over a memory: each has a directory, its root, whose words name tables, whose words are of pages. Intel SDM
--- volume 3, 32-bit paging: a frame has 1,024 words, and a word has the number of a frame in bits 12 to 31.
+-- volume 3, 32-bit paging: a frame has 1,024 words, and a word has the number of a frame in bits 12 to 31. The flags of a
+-- word of a page are bits 0 to 8: P, R/W, U/S, PWT, PCD, A, D, PAT and G. Bits 9 to 11 are ignored. `open` sets P, R/W and
+-- U/S in the word that names a table, and nothing else.
 use Rattle.std.specs.Prelude.{◌≡◌, ◌≢◌, ℕ, zero, suc, ◌+◌, ◌*◌, ◌/◌, ◌%◌, ◌^◌, ◌<◌, ◌≤◌, ◌⊎◌, List, [], ◌∷◌, ◌++◌, length}
 use Rattle.guest_ram.specs.Bytes.{word32, with_word32}
 use Rattle.frame_pool.specs.Pool.{free_list, Takes, SameFrames, SameBut}

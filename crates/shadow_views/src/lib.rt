@@ -4,7 +4,7 @@
 ghost use Rattle.std.specs.Prelude.{◌≡◌, ◌≢◌, ℕ, ◌+◌, ◌*◌, ◌/◌, ◌^◌, ◌<◌, ◌≤◌, ◌↔◌, List, length, IsTrue};
 ghost use Rattle.frame_pool.specs.Pool.{free_list, Stands};
 ghost use Rattle.frame_pool.specs.Held.{Holds, Owns};
-ghost use Rattle.shadow_views.specs.Tables.{dir, at, owned, IsIn, IsView, IsOwned, Puts, Opens, Grows, Closes, Shrinks, Empties};
+ghost use Rattle.shadow_views.specs.Tables.{dir, at, owned, IsIn, IsView, IsOwned, with_at, Puts, Opens, Grows, Closes, Shrinks, Empties};
 
 use frame_pool::Pool;
 use guest_ram::{FRAME, Ram};
@@ -43,11 +43,12 @@ pub fn has_table(ram: &Ram, root: u32, d: u32) -> bool
     dir(ram, root, d) != 0
 }
 
-/// Changes the word of a page whose table is there.
+/// Changes the word of a page whose table is there. All of its bits are the caller's.
 pub fn set(ram: &mut Ram, root: u32, page: u32, v: u32)
     requires view { IsView ram.old root }
     requires page { page < 2 ^ 20 }
     requires some { dir ram.old root (page / 1024) ≢ 0 }
+    ensures memory { ram.new ≡ with_at ram.old root page v }
     ensures puts { (rs : List ℕ) → Holds ram.old (owned ram.old rs) → IsIn root rs → Puts ram.old ram.new rs root page v }
 {
     let _bytes = ram.len();
@@ -59,6 +60,8 @@ pub fn set(ram: &mut Ram, root: u32, page: u32, v: u32)
 pub fn clear(ram: &mut Ram, root: u32, page: u32)
     requires view { IsView ram.old root }
     requires page { page < 2 ^ 20 }
+    ensures memory { dir ram.old root (page / 1024) ≢ 0 → ram.new ≡ with_at ram.old root page 0 }
+    ensures none { dir ram.old root (page / 1024) ≡ 0 → ram.new ≡ ram.old }
     ensures puts { (rs : List ℕ) → Holds ram.old (owned ram.old rs) → IsIn root rs → Puts ram.old ram.new rs root page 0 }
 {
     if dir(ram, root, page / 1024) != 0 {

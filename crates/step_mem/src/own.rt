@@ -1,6 +1,6 @@
 //! The bytes of this step's instruction.
 
-ghost use Rattle.std.specs.Prelude.{◌≡◌, ◌+◌, ◌*◌, ◌/◌, ◌%◌, ◌≤◌, ◌<◌, ◌^◌, IsSome};
+ghost use Rattle.std.specs.Prelude.{◌≡◌, ◌+◌, ◌*◌, ◌/◌, ◌%◌, ◌≤◌, ◌<◌, ◌^◌, None, IsSome};
 ghost use Rattle.std.specs.FinMap.{get};
 ghost use Rattle.paging.specs.Space.{place};
 ghost use Rattle.paging.specs.Uses.{with_front, with_back};
@@ -24,6 +24,7 @@ pub fn own_front<B: Kept>(ram: &Ram, base: &B, state: &mut StepState, at: u32, l
     ensures pages { state.new.pages ≡ state.old.pages }
     ensures control { state.new.control ≡ state.old.control }
     ensures text { state.new.guard.text ≡ state.old.guard.text }
+    ensures bare { state.old.guard.text.now ≡ None → state.new.guard ≡ state.old.guard }
 {
     if state.guard.text.is_none() {
         return;
@@ -48,6 +49,7 @@ pub fn own_back<B: Kept>(ram: &Ram, base: &B, state: &mut StepState, at: u32, le
     ensures pages { state.new.pages ≡ state.old.pages }
     ensures control { state.new.control ≡ state.old.control }
     ensures text { state.new.guard.text ≡ state.old.guard.text }
+    ensures bare { state.old.guard.text.now ≡ None → state.new.guard ≡ state.old.guard }
 {
     if state.guard.text.is_none() {
         return;

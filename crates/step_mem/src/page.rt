@@ -107,6 +107,8 @@ pub fn page_use<B: Kept>(
     ensures within { AreWithin control.frames (changed (B.entries base.now ram.new) changes.new) }
     ensures counted { length changes.new ≤ length changes.old + 1 }
     ensures more { MoreOf page changes.old changes.new }
+    // An entry that lets the access pass stays as it is.
+    ensures passed { IsSome (usable (get (changed (B.entries base.now ram.old) changes.old) page) access control.wp) → changes.new ≡ changes.old }
     ensures grown { length changes.old ≤ length changes.new }
     ensures front { (count : ℕ) → count ≤ length changes.old → take count changes.new ≡ take count changes.old }
     ensures found { result ≡ Touch.Ready → IsSome (get (changed (B.entries base.now ram.new) changes.new) page) }

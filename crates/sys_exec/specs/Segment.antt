@@ -14,6 +14,8 @@ use Rattle.descriptors.specs.declared.form.Descriptor.TheVariants as forms
 use Rattle.sys_exec.specs.declared.effect.Refusal.{Refusal}
 use Rattle.sys_exec.specs.declared.effect.Refusal.TheVariants.{Raise, Stop}
 use Rattle.sys_exec.specs.declared.effect.Loading.{Loading}
+use Rattle.sys_exec.specs.declared.segment.Purpose.{Purpose}
+use Rattle.sys_exec.specs.declared.segment.Purpose.TheVariants as purposes
 use Rattle.sys_exec.specs.Access.{denials}
 use Rattle.sys_exec.specs.Operand.{protection_0}
 
@@ -135,6 +137,19 @@ find_jump cpu sel = do
   pair ← selected cpu form_stop sel
   _ ← jump_tests cpu.cpl sel (descriptor_of pair.0 pair.1)
   gives (loading (sel / 4 * 4 + cpu.cpl % 4) pair.1 (descriptor_of pair.0 pair.1))
+
+-- what a load comes to, by what it is for
+abbrev pub judged : Purpose → ℕ → ℕ → ℕ → Descriptor → Work Refusal Loading
+judged purposes.Data cpl sel high d = data_loading cpl sel high d
+judged (purposes.Stack level) cpl sel high d = stack_loading level sel high d
+judged purposes.Return cpl sel high d = return_loading cpl sel high d
+judged purposes.Jump cpl sel high d = jump_loading cpl sel high d
+
+abbrev pub found : Purpose → Cpu → ℕ → Work Refusal Loading
+found purposes.Data cpu sel = find_data cpu sel
+found (purposes.Stack level) cpu sel = find_stack cpu level sel
+found purposes.Return cpu sel = find_return cpu sel
+found purposes.Jump cpu sel = find_jump cpu sel
 
 -- the task register: type 1, a task of 16 bits, is not told; the task must be available, and becomes busy
 abbrev pub is_old_task : ℕ → Bool

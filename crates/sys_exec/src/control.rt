@@ -1,9 +1,9 @@
 //! MOV to and from the control registers.
 
-ghost use Rattle.std.specs.Prelude.{◌≡◌};
+ghost use Rattle.std.specs.Prelude.{◌≡◌, ◌==◌, ◌&&◌, bit_and};
 ghost use Rattle.paging.specs.Work.{Gives};
 ghost use Rattle.paging.specs.Space.{Space};
-ghost use Rattle.sys_exec.specs.Control.{load_control, write_control, control_of, read_control};
+ghost use Rattle.sys_exec.specs.Control.{control_0_needed, control_0_refused, load_control, write_control, control_of, read_control};
 ghost use Rattle.sys_exec.specs.Asked.{GivesAsked};
 
 use crate::effect::{Refusal, SysEffect, SysOutcome};
@@ -11,46 +11,62 @@ use crate::operand::{PROTECTION_0, UNSUPPORTED, next, past, past_with, reg_at};
 use descriptors::Cpu;
 use ia32_types::{Operand, Stop};
 
+const CONTROL_BITS: Refusal = Refusal::Stop(Stop::ControlBits);
+
+/// A value of CR0 that has PE and PG, and no bit that may not be set.
+fn admits_0(v: u32) -> bool
+    ensures { result ≡ (bit_and v control_0_needed == control_0_needed && bit_and v control_0_refused == 0) }
+{
+    v & 0x8000_0001 == 0x8000_0001 && v & 0x7FFA_FFC0 == 0
+}
+
+fn dropping_all(cpu: Cpu) -> SysOutcome
+    ensures { result ≡ record { cpu = cpu; effect = SysEffect.DropAll } }
+{
+    SysOutcome {
+        cpu,
+        effect: SysEffect::DropAll,
+    }
+}
+
 /// Loads a control register.
 #[tactic(auto, unfolding(crate::specs::Control::load_control))]
 fn load_control(cpu: &Cpu, number: u8, v: u32) -> Result<SysOutcome, Refusal>
     ensures gives { (s : Space) → Gives result s (load_control cpu.now number v s) }
     ensures asked { GivesAsked result }
 {
-    let (cpu, effect) = match number {
+    let mut after = *cpu;
+    match number {
         0 => {
-            if !(v & 0x8000_0001 == 0x8000_0001 && v & 0x7FFA_FFC0 == 0) {
-                return Err(Refusal::Stop(Stop::ControlBits));
+            if !admits_0(v) {
+                return Err(CONTROL_BITS);
             }
-            (
-                Cpu {
-                    cr0: v | 16,
-                    ..*cpu
-                },
-                SysEffect::Next,
-            )
+            after.cr0 = v | 16;
+            Ok(next(after))
         }
-        2 => (Cpu { cr2: v, ..*cpu }, SysEffect::Next),
+        2 => {
+            after.cr2 = v;
+            Ok(next(after))
+        }
         3 => {
             if v & 0xFE7 != 0 {
-                return Err(Refusal::Stop(Stop::ControlBits));
+                return Err(CONTROL_BITS);
             }
-            (Cpu { cr3: v, ..*cpu }, SysEffect::DropAll)
+            after.cr3 = v;
+            Ok(dropping_all(after))
         }
         4 => {
             if v != 0 && v != 16 {
-                return Err(Refusal::Stop(Stop::ControlBits));
+                return Err(CONTROL_BITS);
             }
-            let effect = if v / 16 % 2 != cpu.cr4 / 16 % 2 {
-                SysEffect::DropAll
-            } else {
-                SysEffect::Next
-            };
-            (Cpu { cr4: v, ..*cpu }, effect)
+            after.cr4 = v;
+            if v / 16 % 2 != cpu.cr4 / 16 % 2 {
+                return Ok(dropping_all(after));
+            }
+            Ok(next(after))
         }
-        _ => return Err(UNSUPPORTED),
-    };
-    Ok(SysOutcome { cpu, effect })
+        _ => Err(UNSUPPORTED),
+    }
 }
 
 /// MOV to a control register.

@@ -5,7 +5,7 @@ ghost use Rattle.paging.specs.Work.{Gives};
 ghost use Rattle.sys_exec.specs.Iret.{popped, popped_outer, keeps_flags, is_within, with_interrupt, with_level, new_flags, returned, kept_segment, outer_segments, return_same, return_outer, interrupt_return};
 
 use crate::effect::{Loading, Refusal};
-use crate::segment::{find_return, find_stack, mark_loaded};
+use crate::segment::{Purpose, find, find_return, mark_loaded};
 use descriptors::{Cpu, Hidden, by_level, reach};
 use ia32_exec::{is_foreign, taken};
 use ia32_types::{Flags, Size, Stop};
@@ -178,7 +178,7 @@ fn return_outer<M: GuestMem>(
 {
     let outer = pop_outer(cpu, mem)?;
     let cpl = (p.sel % 4) as u8;
-    let stack = find_stack(cpu, mem, cpl, outer.sel)?;
+    let stack = find(cpu, mem, Purpose::Stack(cpl), outer.sel)?;
     if !keeps_flags(p.flags) {
         return Err(Refusal::Stop(Stop::FlagBits));
     }

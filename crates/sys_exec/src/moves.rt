@@ -11,7 +11,7 @@ use crate::operand::{
     UNSUPPORTED, gone_to, next, past, past_pop, past_push, past_with, pull, push, reach_operand,
     selector, selector_in,
 };
-use crate::segment::{find_jump, find_stack, load_data, mark_loaded};
+use crate::segment::{Purpose, find, load_data, mark_loaded};
 use descriptors::Cpu;
 use ia32_exec::address_of;
 use ia32_types::{Insn, Operand, Seg, Size};
@@ -77,7 +77,7 @@ fn load_stack<M: GuestMem>(
     ensures frame { M.frame mem.new ≡ M.frame mem.old }
     ensures asked { GivesAsked result }
 {
-    let loading = find_stack(cpu, mem, cpu.cpl, sel)?;
+    let loading = find(cpu, mem, Purpose::Stack(cpu.cpl), sel)?;
     mark_loaded(cpu, mem, &loading)?;
     let mut after = after;
     after.seg[2] = loading.hidden;
@@ -207,7 +207,7 @@ pub fn far_jump<M: GuestMem>(insn: &Insn, cpu: &Cpu, mem: &mut M) -> Result<SysO
     ensures frame { M.frame mem.new ≡ M.frame mem.old }
     ensures asked { GivesAsked result }
 {
-    let code = find_jump(cpu, mem, insn.sel)?;
+    let code = find(cpu, mem, Purpose::Jump, insn.sel)?;
     mark_loaded(cpu, mem, &code)?;
     let mut after = gone_to(cpu, insn.imm);
     after.seg[1] = code.hidden;

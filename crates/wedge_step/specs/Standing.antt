@@ -4,13 +4,12 @@ use Rattle.std.specs.Option.{ForSome}
 use Rattle.frame_pool.specs.Held.{Owns}
 use Rattle.frame_pool.specs.Pool.{base_of, free_list}
 use Rattle.frame_pool.specs.declared.Pool.{Pool}
-use Rattle.paging.specs.Fresh.{has, allows}
+use Rattle.paging.specs.Fresh.{allows}
 use Rattle.step_mem.specs.Changes.{AreWithin}
 use Rattle.shadow_tables.specs.Entries.{entries_of}
 use Rattle.shadow_tables.specs.Slots.{Slot, is_user}
 use Rattle.shadow_tables.specs.declared.words.Side.{Side}
 use Rattle.shadow_tables.specs.declared.words.Side.TheVariants.{Kernel, User}
-use Rattle.descriptors.specs.declared.cpu.Cpu.{Cpu}
 use Rattle.descriptors.specs.Controls.{wp_of}
 use Rattle.image_check.specs.Image.{Image}
 use Rattle.machine_model.specs.State.{Setting, State, wedge}

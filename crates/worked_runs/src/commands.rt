@@ -38,6 +38,16 @@ pub enum Step<'a> {
     Hold(&'a str, bool),
 }
 
+/// What a row of a table or a number tells apart holds.
+pub fn holds(rt: &impl Abort, row: usize, held: bool) {
+    assert!(rt; held, "row {row}");
+}
+
+/// Whether the bytes are these.
+pub fn are_same(found: &[u8], want: &[u8]) -> bool {
+    found == want
+}
+
 /// A sink in which all that is put has room.
 pub fn sink(rt: &impl Abort, alloc: Global) -> MemSink {
     MemSink::new(alloc, 4096, Vec::new(alloc)).expect(rt, "memory")
@@ -96,7 +106,20 @@ fn tells(
 ) -> bool {
     let (status, text) = told;
     let (number, out) = answer(rt, alloc, files, all, fail);
-    number == status && out.bytes() == text && out.faults() == u64::from(number == 6)
+    number == status && are_same(out.bytes(), text) && out.faults() == u64::from(number == 6)
+}
+
+/// Whether a machine prints that.
+fn one_prints(
+    rt: &impl Abort,
+    alloc: Global,
+    files: &mut MemFiles,
+    machine: &str,
+    n: &str,
+    told: Told<'_>,
+) -> bool {
+    let run = ["run", machine, "I", "B", "2048", n];
+    tells(rt, alloc, files, &run, &[], told)
 }
 
 /// Whether both machines print what is wanted.
@@ -111,21 +134,8 @@ fn both_print(
         Prints::Alike(told) => (told, told),
         Prints::Apart { bare, wedge } => (bare, wedge),
     };
-    tells(
-        rt,
-        alloc,
-        files,
-        &["run", "--bare", "I", "B", "2048", n],
-        &[],
-        bare,
-    ) && tells(
-        rt,
-        alloc,
-        files,
-        &["run", "--wedge", "I", "B", "2048", n],
-        &[],
-        wedge,
-    )
+    one_prints(rt, alloc, files, "--bare", n, bare)
+        && one_prints(rt, alloc, files, "--wedge", n, wedge)
 }
 
 fn is_done(rt: &impl Abort, alloc: Global, files: &mut MemFiles, all: Words<'_>) -> bool {
@@ -133,24 +143,29 @@ fn is_done(rt: &impl Abort, alloc: Global, files: &mut MemFiles, all: Words<'_>)
     number == 0
 }
 
+/// Whether a source becomes an image.
+fn builds(rt: &impl Abort, alloc: Global, files: &mut MemFiles, source: &[u8]) -> bool {
+    files.store("S", source).is_ok()
+        && files.store("B", b"").is_ok()
+        && is_done(rt, alloc, files, BURN)
+        && is_done(rt, alloc, files, LINK)
+}
+
+fn has_name(alloc: Global, files: &mut MemFiles, name: &str) -> bool {
+    let mut bytes = Vec::new(alloc);
+    files.load(alloc, name, &mut bytes).is_ok()
+}
+
 /// Whether a step comes to what it says.
 fn does(rt: &impl Abort, alloc: Global, files: &mut MemFiles, step: Step<'_>) -> bool {
     match step {
         Step::Store(name, bytes) => files.store(name, bytes).is_ok(),
-        Step::Build(source) => {
-            files.store("S", source).is_ok()
-                && files.store("B", b"").is_ok()
-                && is_done(rt, alloc, files, BURN)
-                && is_done(rt, alloc, files, LINK)
-        }
+        Step::Build(source) => builds(rt, alloc, files, source),
         Step::Do(all) => is_done(rt, alloc, files, all),
         Step::Tell(all, told) => tells(rt, alloc, files, all, &[], told),
         Step::Cut(all, put, told) => tells(rt, alloc, files, all, &[put], told),
         Step::Print(n, prints) => both_print(rt, alloc, files, n, prints),
-        Step::Hold(name, held) => {
-            let mut bytes = Vec::new(alloc);
-            files.load(alloc, name, &mut bytes).is_ok() == held
-        }
+        Step::Hold(name, held) => has_name(alloc, files, name) == held,
     }
 }
 
@@ -183,11 +198,16 @@ pub fn file(rt: &impl Abort, alloc: Global, files: &mut MemFiles, name: &str) ->
     bytes
 }
 
+/// Puts the piece behind the bytes.
+pub fn add(rt: &impl Abort, bytes: &mut Vec<u8>, piece: &[u8]) {
+    bytes.extend_from_slice(piece).expect(rt, "memory");
+}
+
 /// The pieces, one behind the other.
 pub fn joined(rt: &impl Abort, alloc: Global, pieces: &[&[u8]]) -> Vec<u8> {
     let mut bytes = Vec::new(alloc);
     for piece in pieces {
-        bytes.extend_from_slice(piece).expect(rt, "memory");
+        add(rt, &mut bytes, piece);
     }
     bytes
 }
@@ -202,7 +222,7 @@ pub fn repeated(
 ) -> Vec<u8> {
     let mut bytes = joined(rt, alloc, &[first]);
     for _ in 0..count {
-        bytes.extend_from_slice(piece).expect(rt, "memory");
+        add(rt, &mut bytes, piece);
     }
     bytes
 }

@@ -1,6 +1,6 @@
 //! Loads, stores and puts that fail or are never made, and words of no form.
 
-use crate::commands::{BURN, CHECK, LINK, Step, Words, answer, follow, follow_over, status};
+use crate::commands::{BURN, CHECK, LINK, Step, Words, answer, follow, follow_over, holds, status};
 use host_cpl3::Machine;
 use pv_io::{Files, MemFiles, SureFiles, SureSink};
 use std::alloc::Global;
@@ -117,9 +117,9 @@ fn makes_calls(rt: &impl Abort, alloc: Global, row: usize, made: &Made) {
             .expect(rt, "memory");
     }
     let (number, out) = answer(rt, alloc, &mut files, all, &[put]);
-    assert!(rt; number == status && out.faults() == 0, "row {row}");
-    assert!(rt; files.calls.wrapping_sub(before) == count, "row {row}");
-    assert!(rt; files.load_faults == u64::from(status == 5), "row {row}");
+    holds(rt, row, number == status && out.faults() == 0);
+    holds(rt, row, files.calls.wrapping_sub(before) == count);
+    holds(rt, row, files.load_faults == u64::from(status == 5));
     follow_over(rt, alloc, &mut files, row, &UNCHANGED);
 }
 
@@ -254,7 +254,7 @@ fn sure_files_and_a_sure_sink_never_fail(rt: HostRuntime) {
     for (k, (all, number)) in NEVER_FAILING.iter().enumerate() {
         let mut host = Machine::new();
         let answered = status(alloc, all, &mut files, &mut out, &mut host).expect(&rt, "memory");
-        assert!(rt; answered == *number, "row {k}");
+        holds(&rt, k, answered == *number);
     }
     assert!(rt; files.load_faults == 0);
 }

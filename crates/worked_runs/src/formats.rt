@@ -1,6 +1,6 @@
 //! Annotations by their gaps, the long texts that are written with them, and annotations that aren't the text's.
 
-use crate::commands::{BURN, CHECK, LINK, Step, file, follow, joined, repeated};
+use crate::commands::{BURN, CHECK, LINK, Step, file, follow, follow_over, joined, repeated};
 use crate::machines::{Prints, Told};
 use std::alloc::Global;
 use std::process::Abort;
@@ -18,13 +18,20 @@ const ONE: &[u8] = &[
 /// That small image of 8,496 bytes with other annotations, which are no longer than its own. They begin at 0x2000, and the
 /// fifth section header has their size at 8,436.
 fn with_annotations(rt: &impl Abort, alloc: Global, image: &[u8], annotations: &[u8]) -> Vec<u8> {
-    let before = image.get(..0x2000).expect(rt, "an image");
-    let between = image.get(0x2000..8436).expect(rt, "an image");
-    let rest = between.get(annotations.len()..).expect(rt, "no longer");
-    let size = u32::try_from(annotations.len()).expect(rt, "no longer");
-    let behind = image.get(8440..).expect(rt, "an image");
-    let pieces = [before, annotations, rest, &size.to_le_bytes(), behind];
-    joined(rt, alloc, &pieces)
+    assert!(rt; image.len() == 8496 && annotations.len() <= 24);
+    let mut file = joined(rt, alloc, &[image]);
+    put_at(&mut file, 0x2000, annotations);
+    put_at(&mut file, 8436, &[annotations.len() as u8, 0, 0, 0]);
+    file
+}
+
+/// Puts these bytes at a place, as far as the file goes.
+fn put_at(file: &mut [u8], at: usize, with: &[u8]) {
+    for (k, byte) in with.iter().enumerate() {
+        if let Some(place) = file.get_mut(at.wrapping_add(k)) {
+            *place = *byte;
+        }
+    }
 }
 
 /// Annotations, what `check` tells, and what both machines print.
@@ -74,29 +81,29 @@ fn an_image_has_all_its_sites_by_places_or_gaps(rt: HostRuntime) {
     }
 }
 
+static LONG: [Step<'static>; 7] = [
+    Step::Store("B", b""),
+    Step::Tell(BURN, (0, b"object text 8192000 data 0 bss 0 sites 0\n")),
+    Step::Tell(LINK, (0, b"image text 8192002 data 0 bss 0 sites 0\n")),
+    Step::Tell(
+        CHECK,
+        (0, b"accepted text 8192002 data 0 bss 0 sites 0 format 2\n"),
+    ),
+    Step::Print("3", Prints::Alike((3, b"refused 90 need 2257 have 2048\n"))),
+    Step::Tell(
+        &["run", "--bare", "I", "B", "4096", "3"],
+        (0, b"end steps 3\n"),
+    ),
+    Step::Tell(
+        &["run", "--wedge", "I", "B", "4096", "3"],
+        (0, b"end steps 3\n"),
+    ),
+];
+
 #[test]
 fn a_long_text_has_gaps(rt: HostRuntime) {
     // 2,000 pages of text, each a NOP and what fills it
     let source = repeated(&rt, rt.alloc(), b"_start:\n", b"nop; .p2align 12\n", 2000);
-    let small = Prints::Alike((3, b"refused 90 need 2257 have 2048\n"));
-    let steps = [
-        Step::Store("S", &source),
-        Step::Store("B", b""),
-        Step::Tell(BURN, (0, b"object text 8192000 data 0 bss 0 sites 0\n")),
-        Step::Tell(LINK, (0, b"image text 8192002 data 0 bss 0 sites 0\n")),
-        Step::Tell(
-            CHECK,
-            (0, b"accepted text 8192002 data 0 bss 0 sites 0 format 2\n"),
-        ),
-        Step::Print("3", small),
-        Step::Tell(
-            &["run", "--bare", "I", "B", "4096", "3"],
-            (0, b"end steps 3\n"),
-        ),
-        Step::Tell(
-            &["run", "--wedge", "I", "B", "4096", "3"],
-            (0, b"end steps 3\n"),
-        ),
-    ];
-    follow(&rt, rt.alloc(), 0, &steps);
+    let mut files = follow(&rt, rt.alloc(), 0, &[Step::Store("S", &source)]);
+    follow_over(&rt, rt.alloc(), &mut files, 0, &LONG);
 }

@@ -4,7 +4,7 @@ ghost use Rattle.std.specs.Prelude.{◌≡◌, ◌+◌, ◌≤◌, ◌^◌, true
 ghost use Rattle.board.specs.Scripts.{is_script};
 ghost use Rattle.worked_runs.specs.Going.{IsGoing};
 
-use crate::commands::{image_of, sink, took};
+use crate::commands::{are_same, holds, image_of, sink, took};
 use crate::slices::{
     INTERRUPTED, IS_INTERRUPTED, SENDS_A_BYTE, SENT, begun, no_event, put_bound, steps_on,
 };
@@ -87,8 +87,11 @@ fn is_same(mine: &Cpu, yours: &Cpu) -> bool {
 fn is_memory(mine: &Ram, yours: &Ram) -> bool {
     mine.len() >= 0x80_0000
         && yours.len() >= 0x80_0000
-        && mine.part(0, 0x10_0000) == yours.part(0, 0x10_0000)
-        && mine.part(0x10_1000, 0x6F_F000) == yours.part(0x10_1000, 0x6F_F000)
+        && are_same(mine.part(0, 0x10_0000), yours.part(0, 0x10_0000))
+        && are_same(
+            mine.part(0x10_1000, 0x6F_F000),
+            yours.part(0x10_1000, 0x6F_F000),
+        )
 }
 
 /// Both machines do 80 steps of a kernel, whose text has one page.
@@ -103,7 +106,7 @@ fn side_by_side(rt: &impl Abort, alloc: Global, image: &Checked) {
     let mut pool = pool;
     for step in 0..80u64 {
         assert!(rt; guest.step() == step && bare.step() == step);
-        assert!(rt; is_same(guest.cpu(), bare.cpu()), "before step {step}");
+        holds(rt, step as usize, is_same(guest.cpu(), bare.cpu()));
         guest_steps_on(
             rt, &mut guest, image, &script, 1, &mut pool, &mut host, &mut out,
         );
@@ -123,7 +126,7 @@ fn patched_slices_print_the_same_and_both_machines_go_on_alike(rt: HostRuntime) 
     assert!(rt; whole.bytes().ends_with(INTERRUPTED));
     for pause in 40..80u64 {
         let parts = prints(&rt, alloc, &image, pause, 80, 80);
-        assert!(rt; parts.bytes() == whole.bytes(), "a pause at {pause}");
+        holds(&rt, pause as usize, are_same(parts.bytes(), whole.bytes()));
     }
     side_by_side(&rt, alloc, &image);
 }

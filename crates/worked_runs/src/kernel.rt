@@ -1,9 +1,9 @@
 //! A kernel, its image file, and runs of it.
 
-use crate::commands::{Step, follow};
+use crate::commands::{Step, add, follow};
 use crate::machines::Prints;
 use crate::{events, plain, user};
-use std::alloc::{AllocError, Global};
+use std::alloc::Global;
 use std::process::Abort;
 
 /// A kernel's parts, what it is run with, and what its runs print. The bytes are those of GNU as, with each sensitive
@@ -19,16 +19,15 @@ pub struct Kernel<'a> {
     pub prints: Prints<'a>,
 }
 
-fn put(out: &mut Vec<u8>, longs: &[u32]) -> Result<(), AllocError> {
+fn put(rt: &impl Abort, out: &mut Vec<u8>, longs: &[u32]) {
     for n in longs {
-        out.extend_from_slice(&n.to_le_bytes())?;
+        add(rt, out, &n.to_le_bytes());
     }
-    Ok(())
 }
 
 /// The image file of a kernel: header and two program headers, text at 116, data, annotations, the names of the sections, and
 /// the sections: null, .pv_sites, .shstrtab.
-fn image(alloc: Global, kernel: &Kernel<'_>) -> Result<Vec<u8>, AllocError> {
+fn image(rt: &impl Abort, alloc: Global, kernel: &Kernel<'_>) -> Vec<u8> {
     let text = (kernel.text.len() % 65536) as u32;
     let init = (kernel.init.len() % 65536) as u32;
     let sites = (kernel.sites.len() % 65536) as u32;
@@ -37,33 +36,39 @@ fn image(alloc: Global, kernel: &Kernel<'_>) -> Result<Vec<u8>, AllocError> {
     let names_at = sites_at + 8 + sites;
     let data = init.wrapping_add(kernel.bss);
     let mut out = Vec::new(alloc);
-    put(&mut out, &[0x464C_457F, 0x0001_0101, 0, 0])?;
+    put(rt, &mut out, &[0x464C_457F, 0x0001_0101, 0, 0]);
     // The section headers stand behind the names. How many entries the tables have, and how long these are.
-    put(&mut out, &[0x0003_0002, 1, 0x1000_0000, 52, names_at + 21])?;
-    put(&mut out, &[0, 0x0020_0034, 0x0028_0002, 0x0002_0003])?;
     put(
+        rt,
+        &mut out,
+        &[0x0003_0002, 1, 0x1000_0000, 52, names_at + 21],
+    );
+    put(rt, &mut out, &[0, 0x0020_0034, 0x0028_0002, 0x0002_0003]);
+    put(
+        rt,
         &mut out,
         &[1, 116, 0x1000_0000, 0x1000_0000, text, text, 5, 0x1000],
-    )?;
+    );
     put(
+        rt,
         &mut out,
         &[1, init_at, 0x1100_0000, 0x1100_0000, init, data, 6, 0x1000],
-    )?;
-    out.extend_from_slice(kernel.text)?;
-    out.extend_from_slice(kernel.init)?;
-    put(&mut out, &[0x3153_5650, sites / 8])?;
-    out.extend_from_slice(kernel.sites)?;
-    out.extend_from_slice(b"\0.pv_sites\0.shstrtab\0")?;
-    put(&mut out, &[0; 10])?;
-    put(&mut out, &[1, 1, 0, 0, sites_at, sites + 8, 0, 0, 4, 0])?;
-    put(&mut out, &[11, 3, 0, 0, names_at, 21, 0, 0, 0, 0])?;
-    Ok(out)
+    );
+    add(rt, &mut out, kernel.text);
+    add(rt, &mut out, kernel.init);
+    put(rt, &mut out, &[0x3153_5650, sites / 8]);
+    add(rt, &mut out, kernel.sites);
+    add(rt, &mut out, b"\0.pv_sites\0.shstrtab\0");
+    put(rt, &mut out, &[0; 10]);
+    put(rt, &mut out, &[1, 1, 0, 0, sites_at, sites + 8, 0, 0, 4, 0]);
+    put(rt, &mut out, &[11, 3, 0, 0, names_at, 21, 0, 0, 0, 0]);
+    out
 }
 
 /// Each machine prints what is wanted of each kernel.
 fn all_run(rt: &impl Abort, alloc: Global, kernels: &[Kernel<'_>]) {
     for (row, kernel) in kernels.iter().enumerate() {
-        let file = image(alloc, kernel).expect(rt, "memory");
+        let file = image(rt, alloc, kernel);
         let steps = [
             Step::Store("I", &file),
             Step::Store("B", kernel.script),

@@ -3,7 +3,9 @@
 
 ghost use Rattle.std.specs.Prelude.{◌≤◌, ◌^◌};
 
-use crate::commands::{Step, answer, follow, follow_over, image_of, sink, status, took};
+use crate::commands::{
+    Step, Words, answer, are_same, follow, follow_over, holds, image_of, sink, status, took,
+};
 use crate::guests::{guest_steps_on, started};
 use crate::slices::{SENDS_A_BYTE, SENT, no_event};
 use crate::watched::Watched;
@@ -111,7 +113,7 @@ fn the_host_does_two_instructions_of_four(rt: HostRuntime) {
     assert!(rt; Host::retired(&host) == 2 && Host::passed(&host) == 8_589_934_597);
     assert!(rt; host.begun().first() == Some(&BOOTED));
     for (k, regs) in host.begun().iter().enumerate() {
-        assert!(rt; is_within(regs), "run {k}");
+        holds(&rt, k, is_within(regs));
     }
     // Behind them stands the patched OUT.
     assert!(rt; host.last_exit == Exit::Entry(0x04F4_F500));
@@ -167,25 +169,35 @@ fn is_left(rt: &impl Abort, alloc: Global, left: &Left) -> bool {
     let (source, n, at, want) = *left;
     let image = image_of(rt, alloc, source);
     let len = want.len().min(9) as u32;
-    memory_after(rt, alloc, &image, u64::from(n), at, len).as_slice() == want
+    are_same(
+        &memory_after(rt, alloc, &image, u64::from(n), at, len),
+        want,
+    )
 }
 
 #[test]
 fn steps_leave_their_bytes_in_memory(rt: HostRuntime) {
     for (row, left) in LEFT.iter().enumerate() {
-        assert!(rt; is_left(&rt, rt.alloc(), left), "row {row}");
+        holds(&rt, row, is_left(&rt, rt.alloc(), left));
     }
 }
+
+/// A run, and what it may print beside the old read.
+static STALE: [(Words<'static>, &[u8]); 2] = [
+    (&["run", "--bare", "I", "B", "2048", "40"], NEW),
+    (&["run", "--wedge", "I", "B", "2048", "40"], OLD),
+];
 
 #[test]
 fn a_page_stays_stale_until_invlpg(rt: HostRuntime) {
     let mut files = follow(&rt, rt.alloc(), 0, &[Step::Build(READS_A_STALE_PAGE)]);
-    for (machine, may_be) in [("--bare", NEW), ("--wedge", OLD)] {
-        let run = ["run", machine, "I", "B", "2048", "40"];
-        let (number, out) = answer(&rt, rt.alloc(), &mut files, &run, &[]);
-        assert!(rt;
-            number == 0 && (out.bytes() == OLD || out.bytes() == may_be),
-            "run {machine}"
+    for (row, (run, may_be)) in STALE.iter().enumerate() {
+        let (number, out) = answer(&rt, rt.alloc(), &mut files, run, &[]);
+        holds(&rt, row, number == 0);
+        holds(
+            &rt,
+            row,
+            are_same(out.bytes(), OLD) || are_same(out.bytes(), may_be),
         );
     }
 }
@@ -209,12 +221,16 @@ pub fn fills_of(rt: &impl Abort, alloc: Global, source: &[u8], pool: u32, text: 
 /// What that kernel shows in 2,000 steps.
 const SHOWN: &[u8] = b"658 out32 0080 00000078\nend steps 2000\n";
 
+static BARE: [Step<'static>; 1] = [Step::Tell(
+    &["run", "--bare", "I", "B", "2048", "2000"],
+    (0, SHOWN),
+)];
+
 #[test]
 fn a_small_pool_fills_more_and_prints_the_same(rt: HostRuntime) {
     let large = fills_of(&rt, rt.alloc(), GOES_OVER_FORTY_TABLES, 512, SHOWN);
     let small = fills_of(&rt, rt.alloc(), GOES_OVER_FORTY_TABLES, 16, SHOWN);
     assert!(rt; large < small);
     let mut files = follow(&rt, rt.alloc(), 0, &[Step::Build(GOES_OVER_FORTY_TABLES)]);
-    let bare = Step::Tell(&["run", "--bare", "I", "B", "2048", "2000"], (0, SHOWN));
-    follow_over(&rt, rt.alloc(), &mut files, 0, &[bare]);
+    follow_over(&rt, rt.alloc(), &mut files, 0, &BARE);
 }

@@ -1,11 +1,11 @@
 //! Sources, objects and images that are refused, by the line that tells why.
 
-use crate::commands::{BURN, LINK, Step, follow, repeated};
+use crate::commands::{BURN, LINK, Step, follow, follow_over, repeated};
 use crate::machines::Prints;
 
 // A source is refused so, and no object is stored.
 macro_rules! source {
-    ($source:expr, $line:literal) => {
+    ($source:literal, $line:literal) => {
         &[
             Step::Store("S", $source),
             Step::Tell(BURN, (3, $line)),
@@ -60,6 +60,11 @@ static REFUSED: [&[Step<'static>]; 12] = [
     ],
 ];
 
+static MANY: [Step<'static>; 2] = [
+    Step::Tell(BURN, (3, b"refused 27 line 262145\n")),
+    Step::Hold("O", false),
+];
+
 #[test]
 fn each_is_refused_by_its_line(rt: HostRuntime) {
     for (row, steps) in REFUSED.iter().enumerate() {
@@ -67,10 +72,6 @@ fn each_is_refused_by_its_line(rt: HostRuntime) {
     }
     // one more than an object may have sites
     let source = repeated(&rt, rt.alloc(), b"", b"cli\n", 262_145);
-    follow(
-        &rt,
-        rt.alloc(),
-        12,
-        source!(&source, b"refused 27 line 262145\n"),
-    );
+    let mut files = follow(&rt, rt.alloc(), 12, &[Step::Store("S", &source)]);
+    follow_over(&rt, rt.alloc(), &mut files, 12, &MANY);
 }

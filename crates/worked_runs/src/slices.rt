@@ -4,7 +4,7 @@ ghost use Rattle.std.specs.Prelude.{◌≡◌, ◌+◌, ◌≤◌, ◌^◌, true
 ghost use Rattle.bare_machine.specs.Machine.{state_of, IsKept};
 ghost use Rattle.board.specs.Scripts.{is_script};
 
-use crate::commands::{image_of, sink, took};
+use crate::commands::{are_same, holds, image_of, sink, took};
 use bare_machine::{Bare, run_fresh};
 use board::{Script, read_script};
 use image_check::Checked;
@@ -177,6 +177,6 @@ fn a_pause_at_any_step_changes_nothing(rt: HostRuntime) {
     took(&rt, &prints_fresh(&rt, alloc, &image, 80), whole.bytes());
     for pause in 40..80u64 {
         let parts = prints(&rt, alloc, &image, pause, 80, 80);
-        assert!(rt; parts.bytes() == whole.bytes(), "a pause at {pause}");
+        holds(&rt, pause as usize, are_same(parts.bytes(), whole.bytes()));
     }
 }

@@ -1,6 +1,6 @@
 //! Statements that are refused, and those at the limits.
 
-use super::assembled;
+use super::{assembled, told};
 use asm_instruction::Refusal;
 use std::alloc::Global;
 use std::process::Abort;
@@ -315,7 +315,7 @@ fn is_refused(alloc: Global, text: &str, refusal: Refusal) -> bool {
 /// Each statement is refused so.
 fn are_refused(rt: &impl Abort, alloc: Global, texts: &str, refusal: Refusal) {
     for text in texts.lines() {
-        assert!(rt; is_refused(alloc, text, refusal), "{text}");
+        told(rt, text, is_refused(alloc, text, refusal));
     }
 }
 
@@ -343,6 +343,6 @@ fn is_taken(alloc: Global, text: &str) -> bool {
 #[test]
 fn numbers_at_the_ends_of_their_fields_are_taken(rt: HostRuntime) {
     for text in FITTING.lines() {
-        assert!(rt; is_taken(rt.alloc(), text), "{text}");
+        told(&rt, text, is_taken(rt.alloc(), text));
     }
 }

@@ -18,4 +18,21 @@ loop-definition-preserved c =
       count = simp (c.in_ok-push.ensures.items, length-append) (omega arith);
       locals = rw (locals, c.one_if-locals.ensures.count, c.is_global-global.ensures, c.loop-definition.invariant.locals) refl;
       globals = rw (globals, c.one_if-globals.ensures.count, c.is_global-global.ensures, c.loop-definition.invariant.globals) refl;
+      locals_few = omega (arith, c.loop-definition.invariant.locals_few, c.one_if-locals.ensures.most);
+      globals_few = omega (arith, c.loop-definition.invariant.globals_few, c.one_if-globals.ensures.most);
     }
+
+pub ordered-requires-clause-locals : goal.ordered-requires-clause-locals
+ordered-requires-clause-locals c = omega (arith, c.requires, c.loop-definition.invariant.locals_few, c.loop-definition-test.true)
+
+pub ordered-requires-clause-globals : goal.ordered-requires-clause-globals
+ordered-requires-clause-globals c =
+    omega (arith, c.requires, c.local_count-all.ensures.most, c.loop-definition.invariant.globals_few, c.loop-definition-test.true)
+
+pub overflow_add-locals : goal.overflow_add-locals
+overflow_add-locals c =
+    omega (arith, c.requires, c.loop-definition.invariant.locals_few, c.loop-definition-test.true, c.one_if-locals.ensures.most)
+
+pub overflow_add-globals : goal.overflow_add-globals
+overflow_add-globals c =
+    omega (arith, c.requires, c.loop-definition.invariant.globals_few, c.loop-definition-test.true, c.one_if-globals.ensures.most)

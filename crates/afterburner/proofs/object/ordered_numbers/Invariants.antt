@@ -1,4 +1,4 @@
-use Rattle.std.proofs.Common.{◌≡◌, take, length}
+use Rattle.std.proofs.Common.{◌≡◌, ◌≤◌, take, length}
 use Rattle.std.specs.Prelude.{map, count_by}
 use Rattle.std.specs.List.{range_with_len}
 use Rattle.afterburner.specs.Objects.{ordered_number, defines}
@@ -11,4 +11,6 @@ invariant-loop-definition l = record {
   count : length l.numbers.items ≡ l.definition-index;
   locals : l.locals ≡ count_by (defines false) (take l.definition-index l.definitions);
   globals : l.globals ≡ count_by (defines true) (take l.definition-index l.definitions);
+  locals_few : l.locals ≤ l.definition-index;
+  globals_few : l.globals ≤ l.definition-index;
 }

@@ -5,32 +5,23 @@ use Rattle.elf_form.proofs.object_reading.object_with.Goals as goal
 pub returns : goal.returns
 unfolding object_at
 returns c =
-    rw (c.in_ok-from_slice.ensures.items, c.text_in.ensures, c.with_role.ensures.found, c.in_ok-joined.ensures, c.requires.zeroed, c.in_ok-from_slice-2.ensures.items, c.sites_in.ensures, c.with_role-2.ensures.found)
-    (rw (c.in_ok-symbols_in.ensures, c.table_of.ensures.table, c.strings_of.ensures, c.in_ok-relocs_in.ensures, c.names-names.ensures) refl)
+    rw (c.in_ok-parts.ensures.text, c.in_ok-parts.ensures.init, c.in_ok-parts.ensures.sites, c.requires.zeroed)
+    (rw (c.in_ok-put_symbols.ensures, c.new-symbols.ensures.items, c.in_ok-put_kept.ensures, c.new-relocs.ensures.items, c.table_of-table.ensures.table, c.strings_of.ensures, c.names-names.ensures) refl)
 
 pub names-names-requires : goal.names-names-requires
 names-names-requires c = c.requires.whole
 
-pub with_role-requires : goal.with_role-requires
-with_role-requires c = c.requires.whole
+pub table_of-table-requires : goal.table_of-table-requires
+table_of-table-requires c = c.requires.whole
 
-pub text_in-requires : goal.text_in-requires
-text_in-requires c = c.with_role.ensures.inside
-
-pub joined-requires : goal.joined-requires
-joined-requires c = c.requires.whole
-
-pub with_role-requires-2 : goal.with_role-requires-2
-with_role-requires-2 c = c.requires.whole
-
-pub sites_in-requires : goal.sites_in-requires
-sites_in-requires c = c.with_role-2.ensures.inside
-
-pub table_of-requires : goal.table_of-requires
-table_of-requires c = c.requires.whole
+pub parts_in-requires : goal.parts_in-requires
+parts_in-requires c = c.requires.whole
 
 pub strings_of-requires : goal.strings_of-requires
 strings_of-requires c = c.requires.whole
 
-pub relocs_in-requires : goal.relocs_in-requires
-relocs_in-requires c = record { whole = c.requires.whole; kept = c.requires.kept; init = c.requires.init; bss = c.requires.bss }
+pub put_symbols-requires : goal.put_symbols-requires
+put_symbols-requires c = record { whole = c.requires.whole; init = rw c.names-names.ensures c.requires.init; bss = rw c.names-names.ensures c.requires.bss; table = c.table_of-table.ensures.inside }
+
+pub put_kept-requires : goal.put_kept-requires
+put_kept-requires c = record { whole = c.requires.whole; kept = c.requires.kept; init = c.requires.init; bss = c.requires.bss }

@@ -29,3 +29,6 @@ loop-i-preserved c =
 
 pub returns : goal.returns
 returns c = no_more c.loop-i.out.items _ (numbers-end c.args.names.now c.args.bytes.now (c.args.table.at + 16) (c.args.table.count - 1) c.loop-i.i c.loop-i.number c.loop-i-test.false) ∙ c.loop-i.invariant.items
+
+pub is_listed-requires-clause-whole : goal.is_listed-requires-clause-whole
+is_listed-requires-clause-whole c = c.requires.whole

@@ -1,4 +1,6 @@
-use Rattle.std.proofs.Common.{[], length, take, ap, subst, arith}
+use Rattle.std.proofs.Common.{List, [], length, take, ap, subst, arith}
+use Rattle.std.proofs.lemmas.List.{take_all}
+use Rattle.elf_form.specs.declared.object.Symbol.{Symbol}
 use Rattle.std.specs.Map.{lookup}
 use Rattle.std.specs.Str.{bytes_eq}
 use Rattle.elf_form.specs.StringTable.{with_name, table_bytes, IsStringTable}
@@ -18,3 +20,10 @@ pub loop-s-preserved : goal.loop-s-preserved
 loop-s-preserved c =
     rw (names_of-more c.args.symbols.now c.loop-s.s-index c.s-item.result c.loop-s-test.true c.s-item.is)
     (subst (λ name. IsStringTable (with_name (names_of (take c.loop-s.s-index c.args.symbols.now)) name) c.put_name-in-loop-s.new.strings.items c.put_name-in-loop-s.new.places) c.bytes_of.ensures (c.in_ok-put_name-2.ensures _ c.loop-s.invariant))
+
+pub put_name-requires : goal.put_name-requires
+put_name-requires c = omega (arith, ap length c.new-strings.ensures.items)
+
+pub returns : goal.returns
+returns c =
+    subst (λ (symbols : List Symbol). IsStringTable (names_of symbols) c.loop-s.strings.items c.loop-s.places) (take_all c.loop-s.s-index c.args.symbols.now c.loop-s-test.false) c.loop-s.invariant

@@ -21,6 +21,9 @@ loop-i-preserved c =
 pub returns-clause-exact : goal.returns-clause-exact
 returns-clause-exact c = (gathered_all _ _ _ _ _ (past _ _ _ c.deref-object-items.ensures.value c.loop-i-test.false) c.loop-i.invariant).exact
 
+pub returns-clause-totals : goal.returns-clause-totals
+returns-clause-totals c = (gathered_all _ _ _ _ _ (past _ _ _ c.deref-object-items.ensures.value c.loop-i-test.false) c.loop-i.invariant).sums
+
 pub returns-clause-within : goal.returns-clause-within
 returns-clause-within c = (gathered_all _ _ _ _ _ (past _ _ _ c.deref-object-items.ensures.value c.loop-i-test.false) c.loop-i.invariant).within
 

@@ -1,4 +1,5 @@
-use Rattle.std.proofs.Common.{◌≡◌, ◌++◌, ◌∷◌, [], List, take, sym, ap, ◌∙◌, arith}
+use Rattle.std.proofs.lemmas.Result.{IfOk-from_err}
+use Rattle.std.proofs.Common.{◌≡◌, ◌++◌, ◌∷◌, [], List, take, refl, sym, ap, ◌∙◌, arith}
 use Rattle.elf_link.specs.Layout.{text_size, text_room, init_size, init_room, bss_size, bss_room, round_up, bases}
 use Rattle.elf_link.specs.declared.base.Base.{Base}
 use Rattle.elf_link.proofs.FirstLaws.{item, within, past}
@@ -72,3 +73,27 @@ pub returns : goal.returns
 returns c =
     let e = c.deref-object-items.ensures.value in
     c.loop-object.invariant.so_far ∙ bases-end c.args.objects.now.items c.loop-object.object-index (past _ _ _ e c.loop-object-test.false)
+
+pub init_span-requires : goal.init_span-requires
+init_span-requires c = c.requires
+
+pub overflow_cast-bss : goal.overflow_cast-bss
+overflow_cast-bss c = omega (arith, c.init_span.ensures.small.0)
+
+pub overflow_add-bss : goal.overflow_add-bss
+overflow_add-bss c = omega (arith, c.init_span.ensures.small.0)
+
+pub loop-object-init : goal.loop-object-init
+loop-object-init c = record { so_far = c.new-out.ensures.items; begins = record { text = refl; init = refl; bss = omega (arith, c.init_span.ensures.room) } }
+
+pub overflow_cast-init : goal.overflow_cast-init
+overflow_cast-init c =
+    let e = c.deref-object-items.ensures.value in
+    let lt = within _ _ _ e c.loop-object-test.true in
+    let is = item _ _ _ _ _ e c.loop-object-test.true c.object-item.is in
+    let fits = fits_at c.args.objects.now.items c.loop-object.object-index c.object-item.result c.requires lt is in
+    let init : c.round_up-in-loop-object.result ≡ init_room c.object-item.result = c.round_up-in-loop-object.ensures ∙ ap (round_up 4096) (c.len-in-loop-object.ensures ∙ omega (arith, c.object.inside.init.ok, ap init_size c.object.view_is)) in
+    omega (arith, fits.init, init)
+
+pub returns-in_err-push : goal.returns-in_err-push
+returns-in_err-push c = IfOk-from_err c.from_residual.result _ c.from_residual.ensures.0

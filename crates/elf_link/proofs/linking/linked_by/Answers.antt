@@ -1,3 +1,5 @@
+use Rattle.std.proofs.lemmas.Result.{IfOk-from_err}
+use Rattle.elf_link.specs.declared.fault.LinkFault.TheVariants.{Memory}
 use Rattle.std.proofs.Common.{ℕ, Ok, Result, sym, ap, ◌∙◌, subst}
 use Rattle.elf_form.specs.ImageParts.{ImageParts}
 use Rattle.elf_link.specs.Refusals.{Refused}
@@ -27,3 +29,78 @@ returns-clause-exact c =
     let same = entered_same c.args.objects.now.items c.args.plan.now.bases.items c.args.plan.now.globals c.requires.plan.bases c.requires.plan.globals in
     let ok = linked_ok c.args.objects.now.items c.requires.gathered c.in_ok-relocs_tested.ensures c.in_ok-entry.entry (same ∙ c.in_ok-entry.ensures) in
     ok.0 ∙ ap Ok (sym c.in_ok-placed.ensures.image)
+
+pub returns-in_err-relocs_tested-clause-laid_out : goal.returns-in_err-relocs_tested-clause-laid_out
+returns-in_err-relocs_tested-clause-laid_out c = IfOk-from_err c.from_residual.result _ c.from_residual.ensures.0
+
+pub returns-in_err-relocs_tested-clause-writable : goal.returns-in_err-relocs_tested-clause-writable
+returns-in_err-relocs_tested-clause-writable c = IfOk-from_err c.from_residual.result _ c.from_residual.ensures.0
+
+pub returns-in_err-relocs_tested-clause-longs : goal.returns-in_err-relocs_tested-clause-longs
+returns-in_err-relocs_tested-clause-longs c = IfOk-from_err c.from_residual.result _ c.from_residual.ensures.0
+
+pub returns-in_err-entry-clause-laid_out : goal.returns-in_err-entry-clause-laid_out
+returns-in_err-entry-clause-laid_out c = IfOk-from_err c.from_residual-in_err-entry.result _ c.from_residual-in_err-entry.ensures.0
+
+pub returns-in_err-entry-clause-writable : goal.returns-in_err-entry-clause-writable
+returns-in_err-entry-clause-writable c = IfOk-from_err c.from_residual-in_err-entry.result _ c.from_residual-in_err-entry.ensures.0
+
+pub returns-in_err-entry-clause-longs : goal.returns-in_err-entry-clause-longs
+returns-in_err-entry-clause-longs c = IfOk-from_err c.from_residual-in_err-entry.result _ c.from_residual-in_err-entry.ensures.0
+
+pub returns-in_err-placed-clause-laid_out : goal.returns-in_err-placed-clause-laid_out
+returns-in_err-placed-clause-laid_out c = IfOk-from_err c.from_residual-in_err-placed.result _ c.from_residual-in_err-placed.ensures.0
+
+pub returns-in_err-placed-clause-writable : goal.returns-in_err-placed-clause-writable
+returns-in_err-placed-clause-writable c = IfOk-from_err c.from_residual-in_err-placed.result _ c.from_residual-in_err-placed.ensures.0
+
+pub returns-in_err-placed-clause-longs : goal.returns-in_err-placed-clause-longs
+returns-in_err-placed-clause-longs c = IfOk-from_err c.from_residual-in_err-placed.result _ c.from_residual-in_err-placed.ensures.0
+
+pub returns-in_err-placed-clause-exact : goal.returns-in_err-placed-clause-exact
+returns-in_err-placed-clause-exact c = gives_err (λ (image : ImageParts). image) c.from_residual-in_err-placed.result Memory _ c.from_residual-in_err-placed.ensures.1 tt
+
+pub relocs_tested-requires-clause-few : goal.relocs_tested-requires-clause-few
+relocs_tested-requires-clause-few c = c.requires.few
+
+pub relocs_tested-requires-clause-linkable : goal.relocs_tested-requires-clause-linkable
+relocs_tested-requires-clause-linkable c = c.requires.linkable
+
+pub relocs_tested-requires-clause-globals : goal.relocs_tested-requires-clause-globals
+relocs_tested-requires-clause-globals c = c.requires.plan.globals
+
+pub placed-requires-clause-few : goal.placed-requires-clause-few
+placed-requires-clause-few c = c.requires.few
+
+pub placed-requires-clause-linkable : goal.placed-requires-clause-linkable
+placed-requires-clause-linkable c = c.requires.linkable
+
+pub placed-requires-clause-within : goal.placed-requires-clause-within
+placed-requires-clause-within c = c.requires.within
+
+pub placed-requires-clause-fits : goal.placed-requires-clause-fits
+placed-requires-clause-fits c = c.requires.fits
+
+pub placed-requires-clause-plan : goal.placed-requires-clause-plan
+placed-requires-clause-plan c = c.requires.plan
+
+pub placed-requires-clause-sites : goal.placed-requires-clause-sites
+placed-requires-clause-sites c = c.requires.sites
+
+pub placed-requires-clause-below : goal.placed-requires-clause-below
+placed-requires-clause-below c = c.requires.below
+
+pub placed-requires-clause-count : goal.placed-requires-clause-count
+placed-requires-clause-count c = c.requires.count
+
+pub placed-requires-clause-gaps : goal.placed-requires-clause-gaps
+placed-requires-clause-gaps c = c.requires.gaps
+
+pub returns-clause-laid_out : goal.returns-clause-laid_out
+returns-clause-laid_out c = c.in_ok-placed.ensures.laid_out
+
+pub returns-clause-writable : goal.returns-clause-writable
+returns-clause-writable c = c.in_ok-placed.ensures.writable
+
+pub returns-clause-longs : goal.returns-clause-longs
+returns-clause-longs c = c.in_ok-placed.ensures.longs

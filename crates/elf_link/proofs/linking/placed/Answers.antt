@@ -1,3 +1,4 @@
+use Rattle.std.proofs.lemmas.Result.{IfOk-from_err}
 use Rattle.std.proofs.Common.{◌≡◌, ℕ, ◌+◌, ◌-◌, ◌≤◌, length, refl, sym, ap, ◌∙◌, arith}
 use Rattle.sites.specs.Spelling.{spelling}
 use Rattle.sites.specs.Limits.{in_text}
@@ -55,3 +56,72 @@ returns-clause-writable c =
     let memory = memory_fits c.args.objects.now.items c.requires.within in
     let room : length c.in_ok-init.init.items + (c.memory_end.result - c.init_end-init_end.result) ≤ 33554432 = omega (arith, init, memory, c.memory_end.ensures, c.init_end-init_end.ensures, init_end-le c.args.objects.now.items) in
     writable _ (omega (arith, text, c.requires.fits)) room (omega (arith, ap length c.in_ok-sites.ensures.spelling, length-spelling c.of_text-sites.result, ap (λ s. length s.list) c.of_text-sites.ensures.sites, c.requires.count))
+
+pub returns-in_err-text-clause-image : goal.returns-in_err-text-clause-image
+returns-in_err-text-clause-image c = IfOk-from_err c.from_residual.result _ c.from_residual.ensures.0
+
+pub returns-in_err-text-clause-laid_out : goal.returns-in_err-text-clause-laid_out
+returns-in_err-text-clause-laid_out c = IfOk-from_err c.from_residual.result _ c.from_residual.ensures.0
+
+pub returns-in_err-text-clause-writable : goal.returns-in_err-text-clause-writable
+returns-in_err-text-clause-writable c = IfOk-from_err c.from_residual.result _ c.from_residual.ensures.0
+
+pub returns-in_err-text-clause-longs : goal.returns-in_err-text-clause-longs
+returns-in_err-text-clause-longs c = IfOk-from_err c.from_residual.result _ c.from_residual.ensures.0
+
+pub returns-in_err-init-clause-image : goal.returns-in_err-init-clause-image
+returns-in_err-init-clause-image c = IfOk-from_err c.from_residual-in_err-init.result _ c.from_residual-in_err-init.ensures.0
+
+pub returns-in_err-init-clause-laid_out : goal.returns-in_err-init-clause-laid_out
+returns-in_err-init-clause-laid_out c = IfOk-from_err c.from_residual-in_err-init.result _ c.from_residual-in_err-init.ensures.0
+
+pub returns-in_err-init-clause-writable : goal.returns-in_err-init-clause-writable
+returns-in_err-init-clause-writable c = IfOk-from_err c.from_residual-in_err-init.result _ c.from_residual-in_err-init.ensures.0
+
+pub returns-in_err-init-clause-longs : goal.returns-in_err-init-clause-longs
+returns-in_err-init-clause-longs c = IfOk-from_err c.from_residual-in_err-init.result _ c.from_residual-in_err-init.ensures.0
+
+pub returns-in_err-sites-clause-image : goal.returns-in_err-sites-clause-image
+returns-in_err-sites-clause-image c = IfOk-from_err c.from_residual-in_err-sites.result _ c.from_residual-in_err-sites.ensures.0
+
+pub returns-in_err-sites-clause-laid_out : goal.returns-in_err-sites-clause-laid_out
+returns-in_err-sites-clause-laid_out c = IfOk-from_err c.from_residual-in_err-sites.result _ c.from_residual-in_err-sites.ensures.0
+
+pub returns-in_err-sites-clause-writable : goal.returns-in_err-sites-clause-writable
+returns-in_err-sites-clause-writable c = IfOk-from_err c.from_residual-in_err-sites.result _ c.from_residual-in_err-sites.ensures.0
+
+pub returns-in_err-sites-clause-longs : goal.returns-in_err-sites-clause-longs
+returns-in_err-sites-clause-longs c = IfOk-from_err c.from_residual-in_err-sites.result _ c.from_residual-in_err-sites.ensures.0
+
+pub init_end-init_end-requires : goal.init_end-init_end-requires
+init_end-init_end-requires c = c.requires.within
+
+pub memory_end-requires : goal.memory_end-requires
+memory_end-requires c = c.requires.within
+
+pub linked_text-requires-clause-few : goal.linked_text-requires-clause-few
+linked_text-requires-clause-few c = c.requires.few
+
+pub linked_text-requires-clause-linkable : goal.linked_text-requires-clause-linkable
+linked_text-requires-clause-linkable c = c.requires.linkable
+
+pub linked_text-requires-clause-within : goal.linked_text-requires-clause-within
+linked_text-requires-clause-within c = c.requires.within
+
+pub linked_text-requires-clause-plan : goal.linked_text-requires-clause-plan
+linked_text-requires-clause-plan c = c.requires.plan
+
+pub linked_init-requires-clause-few : goal.linked_init-requires-clause-few
+linked_init-requires-clause-few c = c.requires.few
+
+pub linked_init-requires-clause-linkable : goal.linked_init-requires-clause-linkable
+linked_init-requires-clause-linkable c = c.requires.linkable
+
+pub linked_init-requires-clause-within : goal.linked_init-requires-clause-within
+linked_init-requires-clause-within c = c.requires.within
+
+pub linked_init-requires-clause-plan : goal.linked_init-requires-clause-plan
+linked_init-requires-clause-plan c = c.requires.plan
+
+pub write_sites-requires-clause-count : goal.write_sites-requires-clause-count
+write_sites-requires-clause-count c = omega (arith, ap (λ s. length s.list) c.of_text-sites.ensures.sites, c.requires.count)

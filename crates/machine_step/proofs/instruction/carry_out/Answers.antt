@@ -1,8 +1,9 @@
-use Rattle.std.proofs.Common.{◌&&◌, sym, ap, subst}
+use Rattle.std.proofs.Common.{◌&&◌, refl, sym, ap, subst}
 use Rattle.ia32_types.specs.declared.insn.Op.{Op}
 use Rattle.step_mem.specs.Sound.{space_at}
 use Rattle.machine_model.specs.Step.{by_op}
 use Rattle.machine_step.specs.Worked.{ComesTo}
+use Rattle.machine_step.proofs.Used.{on_err}
 use Rattle.machine_model.specs.Taken.{is_write, is_control_3}
 use Rattle.machine_step.proofs.instruction.carry_out.Goals as goal
 
@@ -23,3 +24,9 @@ enter-requires-clause-no_load g c = ap (λ (o : Op). is_write o && is_control_3 
 
 pub enter-requires-in-Int3-clause-no_load : goal.enter-requires-in-Int3-clause-no_load
 enter-requires-in-Int3-clause-no_load g c = ap (λ (o : Op). is_write o && is_control_3 c.args.insn.now.a) c.in-Int3.is
+
+pub returns-in-Int-clause-stopped : goal.returns-in-Int-clause-stopped
+returns-in-Int-clause-stopped g c = on_err c.enter.result refl
+
+pub returns-in-Int3-clause-stopped : goal.returns-in-Int3-clause-stopped
+returns-in-Int3-clause-stopped g c = on_err c.enter-in-Int3.result refl

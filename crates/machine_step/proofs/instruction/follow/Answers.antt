@@ -1,5 +1,5 @@
 use Rattle.step_mem.specs.Sound.{space_at}
-use Rattle.machine_step.proofs.Used.{if_ok, if_ok_on}
+use Rattle.machine_step.proofs.Used.{if_ok, on_err, if_ok_on}
 use Rattle.std.specs.Prelude.{Bool, ◌==◌}
 use Rattle.std.proofs.Common.{Result, Some, None, refl, sym, subst}
 use Rattle.std.specs.Prelude.{IfOk}
@@ -87,3 +87,9 @@ returns-in-Raise-clause-roots g c =
     let before = c.args.before.now in
     if_ok_as (EndsWith None c.args.cpu) (RootsAs before) c.raise.result
     (λ w k. kept_roots None before w refl (ends_on None before c.args.cpu w (rw c.in-Raise.is at c.requires.roots) k)) c.raise.ensures.ends
+
+pub returns-in-Next-clause-stopped : goal.returns-in-Next-clause-stopped
+returns-in-Next-clause-stopped g c = on_err c.ended.result refl
+
+pub returns-in-Raise-clause-stopped : goal.returns-in-Raise-clause-stopped
+returns-in-Raise-clause-stopped g c = on_err c.raise.result refl

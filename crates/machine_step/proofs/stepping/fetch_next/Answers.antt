@@ -1,4 +1,4 @@
-use Rattle.std.proofs.Common.{ap, ◌∙◌, rules, arith}
+use Rattle.std.proofs.Common.{refl, ap, ◌∙◌, rules, arith}
 use Rattle.step_mem.specs.Sound.{space_at}
 use Rattle.machine_model.specs.Step.{after_fetch}
 use Rattle.machine_step.proofs.Fetched.{hidden_on}
@@ -39,3 +39,14 @@ returns-in_err-refuse-in-Err-clause-begins g c = λ m b k.
 
 pub returns-in-Ok-Insn-clause-begun : goal.returns-in-Ok-Insn-clause-begun
 returns-in-Ok-Insn-clause-begun g c = (rw c.in-Ok-Insn.field-0-is at c.in-Ok-Insn.ensures.spelled, omega arith)
+
+pub returns-in-Ok-Insn-clause-reads : goal.returns-in-Ok-Insn-clause-reads
+returns-in-Ok-Insn-clause-reads g c =
+    let e = rw c.in-Ok-Insn.field-0-is at c.in-Ok-Insn.ensures.fetched in
+    rw e (refl, refl)
+
+pub returns-in_ok-refuse-in-Err-clause-reads : goal.returns-in_ok-refuse-in-Err-clause-reads
+returns-in_ok-refuse-in-Err-clause-reads g c = rw c.in-Err.ensures.fetched tt
+
+pub returns-in_err-refuse-in-Err-clause-reads : goal.returns-in_err-refuse-in-Err-clause-reads
+returns-in_err-refuse-in-Err-clause-reads g c = rw c.in-Err.ensures.fetched (search rules)

@@ -1,10 +1,11 @@
-use Rattle.std.proofs.Common.{false, sym, subst, ◌∙◌, rules}
+use Rattle.std.proofs.Common.{◌≡◌, false, sym, subst, ◌∙◌, rules}
 use Rattle.step_mem.specs.Sound.{space_at}
 use Rattle.machine_model.specs.Step as steps
 use Rattle.machine_step.specs.Worked.{ComesTo}
 use Rattle.machine_step.proofs.Fetched.{hidden_on}
 use Rattle.machine_step.proofs.Used.{if_ok_on}
-use Rattle.std.specs.Prelude.{IfOk, ◌==◌}
+use Rattle.std.specs.Prelude.{IfOk, OnErr, ◌==◌}
+use Rattle.board.specs.declared.devices.Board.{Board}
 use Rattle.descriptors.specs.declared.cpu.Cpu.{Cpu}
 use Rattle.machine_model.specs.UsedPages.{Uses}
 use Rattle.machine_step.specs.Roots.{RootsAs}
@@ -44,3 +45,7 @@ returns-in-Fetched-clause-hidden g c =
 
 pub returns-in_err-worked-clause-step : goal.returns-in_err-worked-clause-step
 returns-in_err-worked-clause-step g c = λ m b k. rw (c.in_err-worked.ensures.begins m b k) (search rules)
+
+pub returns-in-Fetched-clause-stopped : goal.returns-in-Fetched-clause-stopped
+returns-in-Fetched-clause-stopped g c =
+    subst (λ (board : Board). OnErr c.carry_out.result (c.carry_out.new.board ≡ board)) c.in_ok-worked.ensures.board c.carry_out.ensures.stopped

@@ -1,4 +1,5 @@
 use Rattle.std.proofs.Common.{◌≡◌, ℕ, ◌+◌, ◌*◌, ◌%◌, ◌≤◌, List, [], length, take, drop, refl, sym, ap, subst, ◌∙◌, arith}
+use Rattle.std.proofs.lemmas.Result.{IfOk-from_err}
 use Rattle.std.specs.FinMap.{get, get-empty}
 use Rattle.std.specs.Ordering.{nat_cmp}
 use Rattle.descriptors.specs.Controls.{wp_of}
@@ -177,3 +178,33 @@ returns-clause-pool c =
     let fs2 = roots.frames (s d) (ram2 c) in
     keeps_join (pool0 d) (pool1 d) (pool1 d) (ram0 d) (ram1 d) (ram2 c) [] fs1 fs2 (keeps_moves (pool0 d) (pool1 d) (ram0 d) (ram1 d) [] fs1 (moves d))
     (keeps_above (pool1 d) (ram1 d) (ram2 c) (4096 * n d) fs1 fs2 (moves d).stands (behind c) (above c) c.patch.ensures.len (frames2 c))
+
+pub returns-in_err-shadows-clause-held : goal.returns-in_err-shadows-clause-held
+returns-in_err-shadows-clause-held c = IfOk-from_err c.from_residual.result _ c.from_residual.ensures.0
+
+pub returns-in_err-shadows-clause-state : goal.returns-in_err-shadows-clause-state
+returns-in_err-shadows-clause-state c = IfOk-from_err c.from_residual.result _ c.from_residual.ensures.0
+
+pub returns-in_err-shadows-clause-two : goal.returns-in_err-shadows-clause-two
+returns-in_err-shadows-clause-two c = IfOk-from_err c.from_residual.result _ c.from_residual.ensures.0
+
+pub returns-in_err-shadows-clause-fills : goal.returns-in_err-shadows-clause-fills
+returns-in_err-shadows-clause-fills c = IfOk-from_err c.from_residual.result _ c.from_residual.ensures.0
+
+pub returns-in_err-shadows-clause-ready : goal.returns-in_err-shadows-clause-ready
+returns-in_err-shadows-clause-ready c = IfOk-from_err c.from_residual.result _ c.from_residual.ensures.0
+
+pub returns-in_err-shadows-clause-none : goal.returns-in_err-shadows-clause-none
+returns-in_err-shadows-clause-none c = IfOk-from_err c.from_residual.result _ c.from_residual.ensures.0
+
+pub returns-in_err-shadows-clause-pool : goal.returns-in_err-shadows-clause-pool
+returns-in_err-shadows-clause-pool c = IfOk-from_err c.from_residual.result _ c.from_residual.ensures.0
+
+pub returns-clause-two : goal.returns-clause-two
+returns-clause-two c = refl
+
+pub returns-clause-fills : goal.returns-clause-fills
+returns-clause-fills c = refl
+
+pub returns-clause-refused : goal.returns-clause-refused
+returns-clause-refused c = tt

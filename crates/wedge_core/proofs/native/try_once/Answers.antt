@@ -499,3 +499,15 @@ keep-requires-clause-sound g c = c.try_native.ensures.sound
 
 pub keep-requires-clause-fills : goal.keep-requires-clause-fills
 keep-requires-clause-fills g c = let f = c.requires.held.fills in let b = c.requires.bound in omega (arith, f, b)
+
+pub begin-state-requires-clause-within : goal.begin-state-requires-clause-within
+begin-state-requires-clause-within g c = c.requires.held.within
+
+pub begin-state-requires-clause-below : goal.begin-state-requires-clause-below
+begin-state-requires-clause-below g c = (let h = c.requires.held.behind in omega (arith, h))
+
+pub try_native-requires-clause-sound : goal.try_native-requires-clause-sound
+try_native-requires-clause-sound g c = c.begin-state.ensures.sound
+
+pub try_native-requires-clause-pages : goal.try_native-requires-clause-pages
+try_native-requires-clause-pages g c = c.begin-state.ensures.pages

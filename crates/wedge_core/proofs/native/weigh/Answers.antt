@@ -8,7 +8,6 @@ use Rattle.paging.specs.Space.{Space}
 use Rattle.paging.specs.Work.{Outcome, on_value}
 use Rattle.sys_exec.specs.declared.effect.Refusal.{Refusal}
 use Rattle.step_exec.specs.Divided.{both_reached}
-use Rattle.step_mem.specs.Sound.{space_at}
 use Rattle.machine_model.specs.UsedPages.{RangesUse, Uses_on}
 use Rattle.wedge_core.specs.Prepared.{left_undone, effect_in, weighed, prepared}
 use Rattle.wedge_core.proofs.native.weigh.Goals as goal
@@ -42,3 +41,69 @@ returns-in-Raise-clause-prepared g c = reached c.args.insn.now c.args.len c.args
 
 pub returns-in-Stop-clause-prepared : goal.returns-in-Stop-clause-prepared
 returns-in-Stop-clause-prepared g c = reached c.args.insn.now c.args.len c.args.cpu.now _ _ _ _ c.in_ok-reach_both.ensures.gives (sym c.in-Stop.is ∙ c.user_outcome.ensures)
+
+pub reach_both-requires-clause-sound : goal.reach_both-requires-clause-sound
+reach_both-requires-clause-sound g c = c.requires.sound
+
+pub user_outcome-requires-clause-made : goal.user_outcome-requires-clause-made
+user_outcome-requires-clause-made g c = c.in_ok-reach_both.ensures.made
+
+pub user_outcome-requires-clause-sound : goal.user_outcome-requires-clause-sound
+user_outcome-requires-clause-sound g c = c.in_ok-reach_both.ensures.sound
+
+pub returns-in-Stop-clause-refused : goal.returns-in-Stop-clause-refused
+returns-in-Stop-clause-refused g c = tt
+
+pub returns-in-Done-clause-refused : goal.returns-in-Done-clause-refused
+returns-in-Done-clause-refused g c = tt
+
+pub returns-in-Raise-clause-uses : goal.returns-in-Raise-clause-uses
+returns-in-Raise-clause-uses g c = tt
+
+pub returns-in-Stop-clause-uses : goal.returns-in-Stop-clause-uses
+returns-in-Stop-clause-uses g c = tt
+
+pub returns-in-Done-clause-sound : goal.returns-in-Done-clause-sound
+returns-in-Done-clause-sound g c = c.in_ok-reach_both.ensures.sound
+
+pub returns-in-Done-clause-pages : goal.returns-in-Done-clause-pages
+returns-in-Done-clause-pages g c = c.in_ok-reach_both.ensures.pages
+
+pub returns-in-Done-clause-control : goal.returns-in-Done-clause-control
+returns-in-Done-clause-control g c = c.in_ok-reach_both.ensures.control
+
+pub returns-in-Done-clause-guard : goal.returns-in-Done-clause-guard
+returns-in-Done-clause-guard g c = c.in_ok-reach_both.ensures.guard
+
+pub returns-in-Done-clause-hidden : goal.returns-in-Done-clause-hidden
+returns-in-Done-clause-hidden g c = c.in_ok-reach_both.ensures.hidden
+
+pub returns-in-Raise-clause-sound : goal.returns-in-Raise-clause-sound
+returns-in-Raise-clause-sound g c = c.in_ok-reach_both.ensures.sound
+
+pub returns-in-Raise-clause-pages : goal.returns-in-Raise-clause-pages
+returns-in-Raise-clause-pages g c = c.in_ok-reach_both.ensures.pages
+
+pub returns-in-Raise-clause-control : goal.returns-in-Raise-clause-control
+returns-in-Raise-clause-control g c = c.in_ok-reach_both.ensures.control
+
+pub returns-in-Raise-clause-guard : goal.returns-in-Raise-clause-guard
+returns-in-Raise-clause-guard g c = c.in_ok-reach_both.ensures.guard
+
+pub returns-in-Raise-clause-hidden : goal.returns-in-Raise-clause-hidden
+returns-in-Raise-clause-hidden g c = c.in_ok-reach_both.ensures.hidden
+
+pub returns-in-Stop-clause-sound : goal.returns-in-Stop-clause-sound
+returns-in-Stop-clause-sound g c = c.in_ok-reach_both.ensures.sound
+
+pub returns-in-Stop-clause-pages : goal.returns-in-Stop-clause-pages
+returns-in-Stop-clause-pages g c = c.in_ok-reach_both.ensures.pages
+
+pub returns-in-Stop-clause-control : goal.returns-in-Stop-clause-control
+returns-in-Stop-clause-control g c = c.in_ok-reach_both.ensures.control
+
+pub returns-in-Stop-clause-guard : goal.returns-in-Stop-clause-guard
+returns-in-Stop-clause-guard g c = c.in_ok-reach_both.ensures.guard
+
+pub returns-in-Stop-clause-hidden : goal.returns-in-Stop-clause-hidden
+returns-in-Stop-clause-hidden g c = c.in_ok-reach_both.ensures.hidden

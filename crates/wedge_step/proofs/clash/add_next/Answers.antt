@@ -23,3 +23,42 @@ returns-in_default-decode g c =
     on_next (next_seen (ground a.image.now a.frames) b (seen_of a.first)) b (marked ram (marks_of a.first.marks)) a.bytes.now.items _ (seen_of c.in-Some.second) a.uses.now.items c.push.new.self.items _ _ _ refl
     c.requires.one c.push.ensures.items c.in-Some.ensures.seen (c.as_slice.ensures.value ∙ c.read.ensures) c.decode.ensures.exact
     (no_ranges_more b c.decode.result (model_uses (a.cpu.now.cpl == 3) c.push.new.self.items) c.in_default-decode.not-Insn)
+
+pub fetched_next-requires-clause-frames : goal.fetched_next-requires-clause-frames
+fetched_next-requires-clause-frames g c = c.requires.frames
+
+pub fetched_next-requires-clause-laid : goal.fetched_next-requires-clause-laid
+fetched_next-requires-clause-laid g c = c.requires.laid
+
+pub fetched_next-requires-clause-stands : goal.fetched_next-requires-clause-stands
+fetched_next-requires-clause-stands g c = c.requires.stands
+
+pub fetched_next-requires-clause-kept : goal.fetched_next-requires-clause-kept
+fetched_next-requires-clause-kept g c = c.requires.kept
+
+pub fetched_next-requires-clause-marks : goal.fetched_next-requires-clause-marks
+fetched_next-requires-clause-marks g c = c.requires.marks
+
+pub fetched_next-requires-clause-frame : goal.fetched_next-requires-clause-frame
+fetched_next-requires-clause-frame g c = c.requires.frame
+
+pub fetched_next-requires-clause-page : goal.fetched_next-requires-clause-page
+fetched_next-requires-clause-page g c = c.requires.page
+
+pub read-requires-clause-frames : goal.read-requires-clause-frames
+read-requires-clause-frames g c = c.requires.frames
+
+pub read-requires-clause-laid : goal.read-requires-clause-laid
+read-requires-clause-laid g c = c.requires.laid
+
+pub read-requires-clause-earlier : goal.read-requires-clause-earlier
+read-requires-clause-earlier g c = c.requires.marks
+
+pub read-requires-clause-marks : goal.read-requires-clause-marks
+read-requires-clause-marks g c = c.in-Some.ensures.marks
+
+pub read-requires-clause-frame : goal.read-requires-clause-frame
+read-requires-clause-frame g c = c.in-Some.ensures.frame
+
+pub read-requires-clause-room : goal.read-requires-clause-room
+read-requires-clause-room g c = c.requires.few

@@ -130,3 +130,36 @@ returns-then-not-are_open-clause-told g c = λ e. absurd (let f : true ≡ false
 
 pub returns-then-not-are_open-clause-opened : goal.returns-then-not-are_open-clause-opened
 returns-then-not-are_open-clause-opened g c = λ indices all o. c.drop_all.ensures.opened indices o
+
+pub returns-then-not-are_open-clause-stands : goal.returns-then-not-are_open-clause-stands
+returns-then-not-are_open-clause-stands g c = c.drop_all.ensures.stands
+
+pub returns-then-not-are_open-clause-owns : goal.returns-then-not-are_open-clause-owns
+returns-then-not-are_open-clause-owns g c = c.drop_all.ensures.owns
+
+pub returns-then-not-are_open-clause-moves : goal.returns-then-not-are_open-clause-moves
+returns-then-not-are_open-clause-moves g c = c.drop_all.ensures.moves
+
+pub returns-then-not-are_open-clause-value : goal.returns-then-not-are_open-clause-value
+returns-then-not-are_open-clause-value g c = c.drop_all.ensures.value
+
+pub returns-then-not-are_open-clause-few : goal.returns-then-not-are_open-clause-few
+returns-then-not-are_open-clause-few g c = tt
+
+pub returns-then-not-are_open-clause-filled : goal.returns-then-not-are_open-clause-filled
+returns-then-not-are_open-clause-filled g c = tt
+
+pub returns-clause-stands : goal.returns-clause-stands
+returns-clause-stands g c = c.settle.ensures.stands
+
+pub returns-clause-owns : goal.returns-clause-owns
+returns-clause-owns g c = c.settle.ensures.owns
+
+pub returns-clause-moves : goal.returns-clause-moves
+returns-clause-moves g c = c.settle.ensures.moves
+
+pub returns-clause-value : goal.returns-clause-value
+returns-clause-value g c = c.settle.ensures.value
+
+pub settle-requires : goal.settle-requires
+settle-requires g c = record { sound = c.requires.sound }

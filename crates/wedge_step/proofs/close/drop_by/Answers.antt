@@ -100,3 +100,54 @@ returns-else-not-is_all-clause-rules g c = λ yes. absurd (both_ways false refl 
 
 pub returns-else-not-is_all-clause-none : goal.returns-else-not-is_all-clause-none
 returns-else-not-is_all-clause-none g c = λ yes. absurd (both_ways false refl yes)
+
+pub drop_all-requires-clause-stands : goal.drop_all-requires-clause-stands
+drop_all-requires-clause-stands g c = c.requires.stands
+
+pub drop_all-requires-clause-owns : goal.drop_all-requires-clause-owns
+drop_all-requires-clause-owns g c = c.requires.owns
+
+pub drop_from-requires-clause-stands : goal.drop_from-requires-clause-stands
+drop_from-requires-clause-stands g c = c.requires.stands
+
+pub drop_from-requires-clause-owns : goal.drop_from-requires-clause-owns
+drop_from-requires-clause-owns g c = c.requires.owns
+
+pub drop_from-requires-clause-page : goal.drop_from-requires-clause-page
+drop_from-requires-clause-page g c = c.requires.page
+
+pub returns-then-are_rules_changed-clause-stands : goal.returns-then-are_rules_changed-clause-stands
+returns-then-are_rules_changed-clause-stands g c = c.drop_all.ensures.stands
+
+pub returns-then-are_rules_changed-clause-owns : goal.returns-then-are_rules_changed-clause-owns
+returns-then-are_rules_changed-clause-owns g c = c.drop_all.ensures.owns
+
+pub returns-then-are_rules_changed-clause-moves : goal.returns-then-are_rules_changed-clause-moves
+returns-then-are_rules_changed-clause-moves g c = c.drop_all.ensures.moves
+
+pub returns-then-are_rules_changed-clause-opened : goal.returns-then-are_rules_changed-clause-opened
+returns-then-are_rules_changed-clause-opened g c = c.drop_all.ensures.opened
+
+pub returns-then-not-is_all-clause-stands : goal.returns-then-not-is_all-clause-stands
+returns-then-not-is_all-clause-stands g c = c.drop_from.ensures.stands
+
+pub returns-then-not-is_all-clause-owns : goal.returns-then-not-is_all-clause-owns
+returns-then-not-is_all-clause-owns g c = c.drop_from.ensures.owns
+
+pub returns-then-not-is_all-clause-moves : goal.returns-then-not-is_all-clause-moves
+returns-then-not-is_all-clause-moves g c = c.drop_from.ensures.moves
+
+pub returns-then-not-is_all-clause-opened : goal.returns-then-not-is_all-clause-opened
+returns-then-not-is_all-clause-opened g c = c.drop_from.ensures.opened
+
+pub returns-then-not-is_all-clause-fewer : goal.returns-then-not-is_all-clause-fewer
+returns-then-not-is_all-clause-fewer g c = c.drop_from.ensures.fewer
+
+pub returns-else-not-is_all-clause-stands : goal.returns-else-not-is_all-clause-stands
+returns-else-not-is_all-clause-stands g c = c.requires.stands
+
+pub returns-else-not-is_all-clause-owns : goal.returns-else-not-is_all-clause-owns
+returns-else-not-is_all-clause-owns g c = c.requires.owns
+
+pub returns-else-not-is_all-clause-opened : goal.returns-else-not-is_all-clause-opened
+returns-else-not-is_all-clause-opened g c = λ indices h. h

@@ -1,5 +1,5 @@
 use Rattle.frame_pool.proofs.Held.{Owns-moves, Moves-refl}
-use Rattle.std.proofs.Common.{◌≡◌, ℕ, ◌/◌, false, None, inl, inr, sym, subst, ◌∙◌}
+use Rattle.std.proofs.Common.{◌≡◌, ℕ, ◌/◌, false, None, inl, inr, refl, sym, subst, ◌∙◌}
 use Rattle.std.proofs.lemmas.Bool.Decides.{eqb_tells}
 use Rattle.shadow_tables.proofs.Lists.{within-same}
 use Rattle.machine_step.specs.declared.worked.Dropped.{Dropped}
@@ -92,3 +92,66 @@ returns-in-Page-clause-stay g c = λ all. let e = c.drop_page.ensures in stays_b
 
 pub returns-in-Dir-clause-stay : goal.returns-in-Dir-clause-stay
 returns-in-Dir-clause-stay g c = λ all. let e = c.drop_dir.ensures in stays_by _ _ _ _ _ _ e.noted e.marked e.asides
+
+pub returns-in-Page-clause-stands : goal.returns-in-Page-clause-stands
+returns-in-Page-clause-stands g c = c.drop_page.ensures.stands
+
+pub returns-in-Page-clause-entries : goal.returns-in-Page-clause-entries
+returns-in-Page-clause-entries g c = rw c.in-Page.is c.drop_page.ensures.entries
+
+pub returns-in-Page-clause-opened : goal.returns-in-Page-clause-opened
+returns-in-Page-clause-opened g c = c.drop_page.ensures.opened
+
+pub drop_page-requires-clause-stands : goal.drop_page-requires-clause-stands
+drop_page-requires-clause-stands g c = c.requires.stands
+
+pub returns-in-Dir-clause-stands : goal.returns-in-Dir-clause-stands
+returns-in-Dir-clause-stands g c = c.drop_dir.ensures.stands
+
+pub returns-in-Dir-clause-entries : goal.returns-in-Dir-clause-entries
+returns-in-Dir-clause-entries g c = rw c.in-Dir.is c.drop_dir.ensures.entries
+
+pub returns-in-Dir-clause-opened : goal.returns-in-Dir-clause-opened
+returns-in-Dir-clause-opened g c = c.drop_dir.ensures.opened
+
+pub drop_dir-requires-clause-stands : goal.drop_dir-requires-clause-stands
+drop_dir-requires-clause-stands g c = c.requires.stands
+
+pub returns-in-All-clause-stands : goal.returns-in-All-clause-stands
+returns-in-All-clause-stands g c = c.drop_all.ensures.stands
+
+pub returns-in-All-clause-owns : goal.returns-in-All-clause-owns
+returns-in-All-clause-owns g c = c.drop_all.ensures.owns
+
+pub returns-in-All-clause-moves : goal.returns-in-All-clause-moves
+returns-in-All-clause-moves g c = c.drop_all.ensures.moves
+
+pub returns-in-All-clause-entries : goal.returns-in-All-clause-entries
+returns-in-All-clause-entries g c = rw c.in-All.is c.drop_all.ensures.entries
+
+pub returns-in-All-clause-opened : goal.returns-in-All-clause-opened
+returns-in-All-clause-opened g c = c.drop_all.ensures.opened
+
+pub drop_all-requires-clause-stands : goal.drop_all-requires-clause-stands
+drop_all-requires-clause-stands g c = c.requires.stands
+
+pub drop_all-requires-clause-owns : goal.drop_all-requires-clause-owns
+drop_all-requires-clause-owns g c = c.requires.owns
+
+pub returns-in-Nothing-clause-stands : goal.returns-in-Nothing-clause-stands
+returns-in-Nothing-clause-stands g c = c.requires.stands
+
+pub returns-in-Nothing-clause-owns : goal.returns-in-Nothing-clause-owns
+returns-in-Nothing-clause-owns g c = c.requires.owns
+
+pub returns-in-Nothing-clause-entries : goal.returns-in-Nothing-clause-entries
+returns-in-Nothing-clause-entries g c = rw c.in-Nothing.is refl
+
+pub returns-in-Nothing-clause-shows : goal.returns-in-Nothing-clause-shows
+returns-in-Nothing-clause-shows g c = λ image wp h. h
+
+pub returns-in-Nothing-clause-opens : goal.returns-in-Nothing-clause-opens
+returns-in-Nothing-clause-opens g c = λ image wp h. h
+
+pub returns-in-Nothing-clause-opened : goal.returns-in-Nothing-clause-opened
+returns-in-Nothing-clause-opened g c = λ indices h. h

@@ -93,3 +93,42 @@ returns-then-is_through-clause-loads g c = λ rules all w enough.
     let e = c.drop_by-changed.ensures in
     let no = not_true c.drop_by-changed.result (λ t. e.rules t rules) in
     absurd (no_way c.drop_by-changed.result _ no all (c.is_through.ensures.other c.if-is_through.true))
+
+pub drop_by-changed-requires-clause-stands : goal.drop_by-changed-requires-clause-stands
+drop_by-changed-requires-clause-stands g c = c.requires.stands
+
+pub drop_by-changed-requires-clause-owns : goal.drop_by-changed-requires-clause-owns
+drop_by-changed-requires-clause-owns g c = c.requires.owns
+
+pub drop_by-changed-requires-clause-page : goal.drop_by-changed-requires-clause-page
+drop_by-changed-requires-clause-page g c = c.requires.page
+
+pub load-requires-clause-stands : goal.load-requires-clause-stands
+load-requires-clause-stands g c = c.drop_by-changed.ensures.stands
+
+pub load-requires-clause-owns : goal.load-requires-clause-owns
+load-requires-clause-owns g c = c.drop_by-changed.ensures.owns
+
+pub returns-then-is_through-clause-stands : goal.returns-then-is_through-clause-stands
+returns-then-is_through-clause-stands g c = c.drop_by-changed.ensures.stands
+
+pub returns-then-is_through-clause-owns : goal.returns-then-is_through-clause-owns
+returns-then-is_through-clause-owns g c = c.drop_by-changed.ensures.owns
+
+pub returns-then-is_through-clause-moves : goal.returns-then-is_through-clause-moves
+returns-then-is_through-clause-moves g c = c.drop_by-changed.ensures.moves
+
+pub returns-then-is_through-clause-opened : goal.returns-then-is_through-clause-opened
+returns-then-is_through-clause-opened g c = c.drop_by-changed.ensures.opened
+
+pub returns-then-is_through-clause-fewer : goal.returns-then-is_through-clause-fewer
+returns-then-is_through-clause-fewer g c = c.drop_by-changed.ensures.fewer
+
+pub returns-then-is_through-clause-wanted : goal.returns-then-is_through-clause-wanted
+returns-then-is_through-clause-wanted g c = λ w. refl
+
+pub returns-clause-stands : goal.returns-clause-stands
+returns-clause-stands g c = c.load.ensures.stands
+
+pub returns-clause-owns : goal.returns-clause-owns
+returns-clause-owns g c = c.load.ensures.owns

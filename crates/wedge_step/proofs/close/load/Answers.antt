@@ -44,3 +44,30 @@ returns-clause-loads g c = λ w enough.
     let slots = g.S.Shadows.slots in
     loads_by c.args.cr3 c.args.pages.now _ (g.S.Shadows.value mid.shadows) _ (g.S.Shadows.noted mid.shadows) _ _ (g.S.Shadows.marked mid.shadows) _ _ (slots mid.shadows mid.ram) _ _ (asides mid.shadows mid.ram) _
     e.value (e.stay w enough) (e.gone w enough) (e.stays w enough) s.present s.asides s.marked
+
+pub make_way-requires-clause-stands : goal.make_way-requires-clause-stands
+make_way-requires-clause-stands g c = c.requires.stands
+
+pub make_way-requires-clause-owns : goal.make_way-requires-clause-owns
+make_way-requires-clause-owns g c = c.requires.owns
+
+pub make_way-requires-clause-enough : goal.make_way-requires-clause-enough
+make_way-requires-clause-enough g c = c.requires.enough
+
+pub switch-requires-clause-stands : goal.switch-requires-clause-stands
+switch-requires-clause-stands g c = c.make_way.ensures.stands
+
+pub switch-requires-clause-owns : goal.switch-requires-clause-owns
+switch-requires-clause-owns g c = c.make_way.ensures.owns
+
+pub switch-requires-clause-free : goal.switch-requires-clause-free
+switch-requires-clause-free g c = c.make_way.ensures.room
+
+pub returns-clause-stands : goal.returns-clause-stands
+returns-clause-stands g c = c.switch.ensures.stands
+
+pub returns-clause-owns : goal.returns-clause-owns
+returns-clause-owns g c = c.switch.ensures.owns
+
+pub returns-clause-opened : goal.returns-clause-opened
+returns-clause-opened g c = λ indices h. c.switch.ensures.opened indices (c.make_way.ensures.opened indices h)

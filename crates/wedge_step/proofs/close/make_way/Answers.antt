@@ -1,4 +1,4 @@
-use Rattle.std.proofs.Common.{◌≡◌, ℕ, ◌≤◌, List, length, Bool, true, false, sym, subst, ◌∙◌, arith}
+use Rattle.std.proofs.Common.{◌≡◌, ℕ, ◌≤◌, List, length, false, sym, subst, ◌∙◌, arith}
 use Rattle.std.proofs.lemmas.Bool.{both_ways, ltb-true, ltb-false}
 use Rattle.frame_pool.specs.Pool.{free_list}
 use Rattle.frame_pool.proofs.Held.{Owns-moves}
@@ -107,3 +107,39 @@ returns-else-free-lt2-clause-shows g c = λ image wp h. some_open image wp _ _ c
 
 pub returns-else-free-lt2-clause-stay : goal.returns-else-free-lt2-clause-stay
 returns-else-free-lt2-clause-stay g c = λ w enough. let e = c.drop_pages.ensures in stays_by _ _ _ _ _ _ e.noted e.marked e.asides
+
+pub drop_all-requires-clause-stands : goal.drop_all-requires-clause-stands
+drop_all-requires-clause-stands g c = c.requires.stands
+
+pub drop_all-requires-clause-owns : goal.drop_all-requires-clause-owns
+drop_all-requires-clause-owns g c = c.requires.owns
+
+pub drop_pages-requires : goal.drop_pages-requires
+drop_pages-requires g c = record { stands = c.requires.stands }
+
+pub returns-then-free-lt2-clause-stands : goal.returns-then-free-lt2-clause-stands
+returns-then-free-lt2-clause-stands g c = c.drop_all.ensures.stands
+
+pub returns-then-free-lt2-clause-owns : goal.returns-then-free-lt2-clause-owns
+returns-then-free-lt2-clause-owns g c = c.drop_all.ensures.owns
+
+pub returns-then-free-lt2-clause-moves : goal.returns-then-free-lt2-clause-moves
+returns-then-free-lt2-clause-moves g c = c.drop_all.ensures.moves
+
+pub returns-then-free-lt2-clause-none : goal.returns-then-free-lt2-clause-none
+returns-then-free-lt2-clause-none g c = λ w. c.drop_all.ensures.none
+
+pub returns-then-free-lt2-clause-value : goal.returns-then-free-lt2-clause-value
+returns-then-free-lt2-clause-value g c = c.drop_all.ensures.value
+
+pub returns-then-free-lt2-clause-opened : goal.returns-then-free-lt2-clause-opened
+returns-then-free-lt2-clause-opened g c = c.drop_all.ensures.opened
+
+pub returns-else-free-lt2-clause-stands : goal.returns-else-free-lt2-clause-stands
+returns-else-free-lt2-clause-stands g c = c.drop_pages.ensures.stands
+
+pub returns-else-free-lt2-clause-value : goal.returns-else-free-lt2-clause-value
+returns-else-free-lt2-clause-value g c = c.drop_pages.ensures.value
+
+pub returns-else-free-lt2-clause-opened : goal.returns-else-free-lt2-clause-opened
+returns-else-free-lt2-clause-opened g c = c.drop_pages.ensures.opened

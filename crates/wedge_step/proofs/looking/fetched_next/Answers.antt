@@ -26,3 +26,48 @@ returns-else-marks_front-clause-seen g c =
     let set = entries_of (g.S.Shadows.slots a.shadows.now a.ram.now) in
     let b = looked a.cpu.now (shown (ground a.image.now a.frames) a.ram.now) set in
     some_next (ground a.image.now a.frames) b (seen_of a.first) _ refl (seen_of c.in-Some.second) c.in-Some.ensures.seen (sym (c.marks_front.ensures set) ∙ c.if-marks_front.false)
+
+pub fetched-requires-clause-frames : goal.fetched-requires-clause-frames
+fetched-requires-clause-frames g c = c.requires.frames
+
+pub fetched-requires-clause-laid : goal.fetched-requires-clause-laid
+fetched-requires-clause-laid g c = c.requires.laid
+
+pub fetched-requires-clause-stands : goal.fetched-requires-clause-stands
+fetched-requires-clause-stands g c = c.requires.stands
+
+pub fetched-requires-clause-kept : goal.fetched-requires-clause-kept
+fetched-requires-clause-kept g c = c.requires.kept
+
+pub marks_front-requires-clause-frames : goal.marks_front-requires-clause-frames
+marks_front-requires-clause-frames g c = c.requires.frames
+
+pub marks_front-requires-clause-laid : goal.marks_front-requires-clause-laid
+marks_front-requires-clause-laid g c = c.requires.laid
+
+pub marks_front-requires-clause-marks : goal.marks_front-requires-clause-marks
+marks_front-requires-clause-marks g c = c.requires.marks
+
+pub marks_front-requires-clause-frame : goal.marks_front-requires-clause-frame
+marks_front-requires-clause-frame g c = c.requires.frame
+
+pub marks_front-requires-clause-places : goal.marks_front-requires-clause-places
+marks_front-requires-clause-places g c = c.in-Some.ensures.marks
+
+pub returns-else-marks_front-clause-marks : goal.returns-else-marks_front-clause-marks
+returns-else-marks_front-clause-marks g c = c.in-Some.ensures.marks
+
+pub returns-else-marks_front-clause-frame : goal.returns-else-marks_front-clause-frame
+returns-else-marks_front-clause-frame g c = c.in-Some.ensures.frame
+
+pub returns-in-None-clause-marks : goal.returns-in-None-clause-marks
+returns-in-None-clause-marks g c = tt
+
+pub returns-in-None-clause-frame : goal.returns-in-None-clause-frame
+returns-in-None-clause-frame g c = tt
+
+pub returns-then-marks_front-clause-marks : goal.returns-then-marks_front-clause-marks
+returns-then-marks_front-clause-marks g c = tt
+
+pub returns-then-marks_front-clause-frame : goal.returns-then-marks_front-clause-frame
+returns-then-marks_front-clause-frame g c = tt

@@ -106,3 +106,24 @@ returns-clause-ends g c = λ w may indices all o room.
     (slots mid.shadows c.keep.new.ram) (slots new.shadows new.ram) (asides old.shadows c.args.ram.now) (asides mid.shadows c.keep.new.ram) (asides new.shadows new.ram)
     (ap (λ (r : Running g.row.S.Denot). r.cpu) k.same) k.value pages_are (k.left ∙ ap (λ (b : Bool). left_of b set) unlost) (k.told unlost)
     c.leave-left.ensures.stay c.leave-left.ensures.lost (λ rules out. c.leave-left.ensures.loads rules out w enough)
+
+pub keep-requires-clause-sound : goal.keep-requires-clause-sound
+keep-requires-clause-sound g c = c.requires.sound
+
+pub keep-requires-clause-counted : goal.keep-requires-clause-counted
+keep-requires-clause-counted g c = c.requires.counted
+
+pub keep-requires-clause-few : goal.keep-requires-clause-few
+keep-requires-clause-few g c = c.requires.few
+
+pub keep-requires-clause-fills : goal.keep-requires-clause-fills
+keep-requires-clause-fills g c = (let f = c.requires.fills in let b = c.requires.bound in omega (arith, f, b))
+
+pub leave-left-requires-clause-stands : goal.leave-left-requires-clause-stands
+leave-left-requires-clause-stands g c = c.keep.ensures.stands
+
+pub leave-left-requires-clause-owns : goal.leave-left-requires-clause-owns
+leave-left-requires-clause-owns g c = c.keep.ensures.owns
+
+pub leave-left-requires-clause-page : goal.leave-left-requires-clause-page
+leave-left-requires-clause-page g c = c.requires.page

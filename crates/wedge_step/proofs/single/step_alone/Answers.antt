@@ -303,3 +303,78 @@ returns-in-Ok-clause-carried g c = λ script steps t unwanted free roomy taken b
     c.requires.held (a g d) steps t (entries_of (g.S.Shadows.slots (running g d).shadows (ram0 g d))) free roomy taken by (record { known = carried.known; opened_to = carried.opened_to }) last (state1 g d).changes refl sound.told c.go.new.running.shadows c.go.new.ram c.go.ensures.opened
     c.in-Ok.worked c.step_in-outcome.new.board (went g d script) (rw c.in-Ok.is at c.step_in-outcome.ensures.roots) c.requires.ready (omega (arith, long, same)) (subst AreBytes (sym ram_is) c.are_bytes.ensures.bytes) begun c.text_frames-count.result (state1 g d).control.frames c.text_frames-count.ensures
     (rw c.in-Ok.is at c.step_in-outcome.ensures.uses) (ap (λ (x : Space). x.visited) c.begin-state.ensures.space) (ap (λ (x : Space). x.mode) c.begin-state.ensures.space ∙ sym mode_is) sound.within (omega (arith, pages, most)) (c.go.ensures.ends unwanted)
+
+pub begin-state-requires-clause-below : goal.begin-state-requires-clause-below
+begin-state-requires-clause-below g c = (let h = c.requires.held.behind in omega (arith, h))
+
+pub begin-state-requires-clause-within : goal.begin-state-requires-clause-within
+begin-state-requires-clause-within g c = c.requires.held.within
+
+pub step_in-outcome-requires-clause-sound : goal.step_in-outcome-requires-clause-sound
+step_in-outcome-requires-clause-sound g c = c.begin-state.ensures.sound
+
+pub step_in-outcome-requires-clause-pages : goal.step_in-outcome-requires-clause-pages
+step_in-outcome-requires-clause-pages g c = c.begin-state.ensures.pages
+
+pub go-requires-clause-sound : goal.go-requires-clause-sound
+go-requires-clause-sound g c = c.step_in-outcome.ensures.sound
+
+pub go-requires-clause-fills : goal.go-requires-clause-fills
+go-requires-clause-fills g c = c.requires.held.fills
+
+pub go-requires-clause-bound : goal.go-requires-clause-bound
+go-requires-clause-bound g c = c.requires.bound
+
+pub go-requires-clause-page : goal.go-requires-clause-page
+go-requires-clause-page g c = c.in-Ok.ensures.dropped
+
+pub returns-in-Ok-clause-wanted : goal.returns-in-Ok-clause-wanted
+returns-in-Ok-clause-wanted g c = c.go.ensures.wanted
+
+pub returns-in-Ok-clause-before : goal.returns-in-Ok-clause-before
+returns-in-Ok-clause-before g c = c.go.ensures.before
+
+pub returns-in-Ok-clause-count : goal.returns-in-Ok-clause-count
+returns-in-Ok-clause-count g c = c.go.ensures.step
+
+pub returns-in-Ok-clause-stays : goal.returns-in-Ok-clause-stays
+returns-in-Ok-clause-stays g c = tt
+
+pub returns-in-Ok-clause-unfilled : goal.returns-in-Ok-clause-unfilled
+returns-in-Ok-clause-unfilled g c = tt
+
+pub returns-in-Ok-clause-counted : goal.returns-in-Ok-clause-counted
+returns-in-Ok-clause-counted g c = c.go.ensures.counted
+
+pub returns-in-Ok-clause-stands : goal.returns-in-Ok-clause-stands
+returns-in-Ok-clause-stands g c = c.go.ensures.stands
+
+pub returns-in-Ok-clause-frames : goal.returns-in-Ok-clause-frames
+returns-in-Ok-clause-frames g c = c.go.ensures.frames
+
+pub returns-in-Err-clause-ready : goal.returns-in-Err-clause-ready
+returns-in-Err-clause-ready g c = tt
+
+pub returns-in-Err-clause-wanted : goal.returns-in-Err-clause-wanted
+returns-in-Err-clause-wanted g c = tt
+
+pub returns-in-Err-clause-carried : goal.returns-in-Err-clause-carried
+returns-in-Err-clause-carried g c = tt
+
+pub returns-in-Err-clause-held : goal.returns-in-Err-clause-held
+returns-in-Err-clause-held g c = tt
+
+pub returns-in-Err-clause-count : goal.returns-in-Err-clause-count
+returns-in-Err-clause-count g c = tt
+
+pub returns-in-Err-clause-before : goal.returns-in-Err-clause-before
+returns-in-Err-clause-before g c = refl
+
+pub returns-in-Err-clause-stays : goal.returns-in-Err-clause-stays
+returns-in-Err-clause-stays g c = refl
+
+pub returns-in-Err-clause-unfilled : goal.returns-in-Err-clause-unfilled
+returns-in-Err-clause-unfilled g c = refl
+
+pub returns-in-Err-clause-frames : goal.returns-in-Err-clause-frames
+returns-in-Err-clause-frames g c = refl

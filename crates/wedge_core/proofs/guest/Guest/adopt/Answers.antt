@@ -1,4 +1,5 @@
 use Rattle.std.proofs.Common.{ℕ, ◌*◌, List, [], take, sym, subst, ap, ◌∙◌}
+use Rattle.std.proofs.lemmas.Result.{IfOk-from_err}
 use Rattle.std.specs.FinMap.{empty}
 use Rattle.shadow_cache.specs.Views as roots
 use Rattle.machine_model.specs.State.{wedge}
@@ -55,3 +56,30 @@ returns-clause-passed g c = g.met.H.Host.passed_stays c.args.host.now c.adopt_in
 
 pub returns-in_err-running-clause-passed : goal.returns-in_err-running-clause-passed
 returns-in_err-running-clause-passed g c = g.met.H.Host.passed_stays c.args.host.now c.adopt_in.new.ram
+
+pub returns-in_err-running-clause-held : goal.returns-in_err-running-clause-held
+returns-in_err-running-clause-held g c = IfOk-from_err c.from_residual.result _ c.from_residual.ensures.0
+
+pub returns-in_err-running-clause-state : goal.returns-in_err-running-clause-state
+returns-in_err-running-clause-state g c = IfOk-from_err c.from_residual.result _ c.from_residual.ensures.0
+
+pub returns-in_err-running-clause-two : goal.returns-in_err-running-clause-two
+returns-in_err-running-clause-two g c = IfOk-from_err c.from_residual.result _ c.from_residual.ensures.0
+
+pub returns-in_err-running-clause-fills : goal.returns-in_err-running-clause-fills
+returns-in_err-running-clause-fills g c = IfOk-from_err c.from_residual.result _ c.from_residual.ensures.0
+
+pub returns-in_err-running-clause-ready : goal.returns-in_err-running-clause-ready
+returns-in_err-running-clause-ready g c = IfOk-from_err c.from_residual.result _ c.from_residual.ensures.0
+
+pub returns-in_err-running-clause-filled : goal.returns-in_err-running-clause-filled
+returns-in_err-running-clause-filled g c = IfOk-from_err c.from_residual.result _ c.from_residual.ensures.0
+
+pub returns-in_err-running-clause-pool : goal.returns-in_err-running-clause-pool
+returns-in_err-running-clause-pool g c = IfOk-from_err c.from_residual.result _ c.from_residual.ensures.0
+
+pub returns-clause-two : goal.returns-clause-two
+returns-clause-two g c = c.in_ok-running.ensures.two
+
+pub returns-clause-fills : goal.returns-clause-fills
+returns-clause-fills g c = c.in_ok-running.ensures.fills

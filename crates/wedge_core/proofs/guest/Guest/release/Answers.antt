@@ -1,4 +1,4 @@
-use Rattle.std.proofs.Common.{ℕ, List, false, sym, subst, ◌∙◌}
+use Rattle.std.proofs.Common.{ℕ, List, false, refl, sym, subst, ◌∙◌}
 use Rattle.frame_pool.specs.Pool.{base_of, count_of, SameOutside}
 use Rattle.frame_pool.specs.Held.{Moves}
 use Rattle.wedge_step.specs.Filled.{IsFilled, pages_kept}
@@ -40,3 +40,21 @@ returns-clause-outside g c =
     subst (λ (l : List ℕ). SameOutside (base_of p) (count_of p) (g.H.Host.bytes c.args.host.now) l) (sym (g.met.H.Host.bytes_changed c.args.host.now d.new.ram))
     (outside_of p d.new.pool (g.H.Host.bytes c.args.host.now) d.new.ram fs (roots.frames d.new.self d.new.ram) c.requires.owns
     (subst (λ (l : List ℕ). Moves p d.new.pool l d.new.ram (roots.frames c.args.self.now.running.shadows l) (roots.frames d.new.self d.new.ram)) c.ram_mut.ensures.ram d.ensures.moves))
+
+pub returns-clause-held : goal.returns-clause-held
+returns-clause-held g c = refl
+
+pub returns-clause-cpu : goal.returns-clause-cpu
+returns-clause-cpu g c = refl
+
+pub returns-clause-board : goal.returns-clause-board
+returns-clause-board g c = refl
+
+pub returns-clause-frames : goal.returns-clause-frames
+returns-clause-frames g c = refl
+
+pub returns-clause-step : goal.returns-clause-step
+returns-clause-step g c = refl
+
+pub returns-clause-fills : goal.returns-clause-fills
+returns-clause-fills g c = refl
