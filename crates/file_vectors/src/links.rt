@@ -160,6 +160,7 @@ fn objects_make_images(rt: HostRuntime) {
 /// The file of the image of such objects.
 pub fn linked_file(rt: &impl Abort, alloc: Global, parts: &[Parts]) -> Vec<u8> {
     let objects = objects(rt, alloc, parts);
+    assert!(rt; objects.len() == parts.len());
     assert!(rt; are_linkable(&objects) && objects.len() <= 64);
     link(alloc, &objects).expect(rt, "a file")
 }
