@@ -36,7 +36,7 @@ pub record IsComparison (number : ℕ) (program : Image) (o : Outside) : Type 0 
   pub promise : Promise (second_setting program) 100000 512 second count end o.completed o.completed_after o.memory_after
   -- its sets keep the rule for kept translations
   pub kept : Kept (second_setting program) (boot (second_setting program)) promise.sets
-  -- what was printed as filled is what this run has filled
+  -- what was printed as filled lies between the bounds of what this run has filled
   pub filled : HasFills (second_setting program) promise.sets promise.last fills
   -- it is a run of the bare machine, up to a stop of the monitor's own
   pub bare_run : Run (bare program [] 4096) (bound_on_bare 100000 promise.last end) (boot (bare program [] 4096)) promise.sets promise.reports promise.last (end_on_bare end)

@@ -20,6 +20,6 @@ pub record FillsOn (old new before after : ℕ) : Type 0 where
   pub rises : before ≤ after
   pub enough : new + before ≤ old + after
 
--- each page that is kept was filled
+-- no more pages are kept than were filled
 abbrev pub IsFilled : ℕ → ℕ → Type 0
 IsFilled pages fills = pages ≤ fills
