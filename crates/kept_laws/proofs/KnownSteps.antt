@@ -1,5 +1,6 @@
 -- What a run knows between two of its steps goes on over its steps.
 use Rattle.std.proofs.Common.{◌≡◌, ℕ, ◌*◌, ◌≤◌, length, List, [], ◌∷◌, ◌++◌, Bool, true, false, cond, not, refl, sym, ap, subst, ◌∙◌, ◌⊎◌, inl, inr}
+use Rattle.std.specs.Prelude.{reverse}
 use Rattle.std.specs.List.{All}
 use Rattle.std.specs.FinMap.{empty}
 use Rattle.std.proofs.lemmas.List.Elements.{All-head, All-tail, All-cons, All-nil, All-append}
@@ -13,7 +14,7 @@ use Rattle.machine_model.specs.State.{Setting, State}
 use Rattle.machine_model.specs.Step.{Went, step_of}
 use Rattle.machine_model.specs.Run.{Set}
 use Rattle.machine_model.specs.Taken.{Taken, loads_root, changes_protection}
-use Rattle.machine_model.specs.Clash.{clashes_from}
+use Rattle.machine_model.specs.Keeping.{IsLeftBehind, LeftBehind}
 use Rattle.kept_laws.specs.Remembered.{ComesFrom, Unwritten, IsOwed, IsRemembered}
 use Rattle.kept_laws.specs.OverSteps.{IsTold, IsCause}
 use Rattle.kept_laws.specs.Judged.{AllFound, IsFoundStill, FoundGoesOn}
@@ -21,7 +22,8 @@ use Rattle.kept_laws.specs.Carried.{IsReadyFor, NextIsKept}
 use Rattle.kept_laws.specs.Known.{IsOfPages, IsNextKept, IsKnown, RulesStay, StayAside, EmptyAside, IsStep, KnownAtStart, KnownStill, KnownQuiet, KnownOn}
 use Rattle.kept_laws.proofs.Counts.{clash}
 use Rattle.kept_laws.proofs.Owed.{causes_owe_nothing}
-use Rattle.kept_laws.proofs.OwedStays.{start_remembers, still_remembers, dropped_remembers, steps_remember, same_remembers, loads_remember}
+use Rattle.kept_laws.proofs.OwedStays.{start_remembers, still_remembers, dropped_remembers, steps_remember, same_remembers, loads_remember, returned}
+use Rattle.kept_laws.proofs.Holding.{last_first}
 use Rattle.kept_laws.proofs.FoundStays.{found_at_start}
 
 -- ---- the start, and the same is kept
@@ -31,7 +33,8 @@ known_at_start m b noted marked none unmarked = record {
   remembered = start_remembers m b noted marked none unmarked;
   found = found_at_start m b;
   of_pages = All-nil (λ (t : Taken). IsOfPages t.set);
-  next = λ now is h. elim h [ inl same ↦ same | inr k ↦ k.0 ];
+  left = refl;
+  next = λ set h. elim h [ inl same ↦ same | inr k ↦ k.0 ];
 }
 
 still : (m : Setting) (steps : List Taken) (b : State) (noted noted2 : ℕ → Bool) (marked marked2 : Bool) (asides asides2 : List Aside)
@@ -44,15 +47,14 @@ known_still m steps b noted noted2 marked marked2 asides asides2 kept stay k = r
   remembered = still m steps b noted noted2 marked marked2 asides asides2 stay k.remembered;
   found = k.found;
   of_pages = k.of_pages;
+  left = k.left;
   next = k.next;
 }
 
 -- ---- behind a step
 
 next_over : NextIsKept → (m : Setting) (steps : List Taken) (t : Taken) (kept : Set) → IsReadyFor m steps t t.after kept → IsNextKept m (steps ++ t ∷ []) t.after kept
-next_over law m steps t kept r now is h =
-    law m steps t now kept (subst (λ (b : State). IsReadyFor m steps t b kept) (sym is) r)
-    (subst (λ (b : State). (now.set ≡ kept) ⊎ ((now.set ≡ empty) × (clashes_from m (record b { set = kept }) ≡ true))) (sym is) h)
+next_over law m steps t kept r set h = law m steps t t.after set kept r h
 
 at_split : {X : Type 0} (P : X → Type 0) (xs : List X) (y : X) (ys : List X) → All P (xs ++ y ∷ ys) → P y
 at_split P [] y ys h = All-head P y ys h
@@ -69,6 +71,14 @@ IsLeft t kept = loads_root t ≡ false → (kept ≡ t.after.set) ⊎ ((kept ≡
 -- and behind a load what is owed with the loaded value
 abbrev IsBack : Setting → List Taken → Taken → Set → Type 0
 IsBack m steps t kept = loads_root t ≡ true → (old : List Taken) (left : Taken) (since : List Taken) → IsOwed m (steps ++ t ∷ []) t.after t.after.cpu.cr3 old left since → ComesFrom left kept
+
+-- so the rule lets it be left
+left_over : (m : Setting) (steps : List Taken) (t : Taken) (kept : Set) → IsLeft t kept → IsBack m steps t kept → IsLeftBehind m (steps ++ t ∷ []) t.after kept
+left_over m steps t kept left back = subst (λ (l : List Taken). LeftBehind m (steps ++ t ∷ []) l t.after kept) (sym (last_first steps t)) (by (loads_root t) refl)
+  where
+    by : (b : Bool) → loads_root t ≡ b → LeftBehind m (steps ++ t ∷ []) (t ∷ reverse steps) t.after kept
+    by true loads = inl (loads, λ old u since h. (back loads old u since (returned m (steps ++ t ∷ []) t.after t.after.cpu.cr3 old u since h)).has)
+    by false plain = inr (plain, left plain)
 
 -- what the law of the next step asks of the memory that a load left
 record IsLaidOut (m : Setting) (t : Taken) : Type 0 where
@@ -92,6 +102,7 @@ over goes_on law m steps t noted marked asides kept step finds found pages remem
       remembered = remembered;
       found = still_found;
       of_pages = of_pages;
+      left = left_over m steps t kept left back;
       next = next_over law m steps t kept (record {
         stays = left;
         back = back;

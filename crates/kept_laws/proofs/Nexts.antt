@@ -23,38 +23,37 @@ use Rattle.kept_laws.proofs.Clashing.{clashes_are_judged}
 judged : (m : Setting) (steps : List Taken) (t : Taken) (b : State) → loads_root t ≡ false → clashes_from m (record b { set = b.set }) ≡ true → clashes m (steps ++ t ∷ []) b ≡ true
 judged m steps t b plain h = subst (λ (set : Set). clashes_from m (record b { set = set }) ≡ true) (sym (held_stays steps t b plain)) h
 
-stays : (m : Setting) (steps : List Taken) (t now : Taken) (kept : Set) → loads_root t ≡ false → (kept ≡ now.before.set) ⊎ ((kept ≡ empty) × (changes_protection t ≡ true))
-    → (now.set ≡ kept) ⊎ ((now.set ≡ empty) × (clashes_from m (record now.before { set = kept }) ≡ true)) → Stays m (steps ++ t ∷ []) t now
-stays m steps t now kept plain (inl same) (inl is) = inl (is ∙ same)
-stays m steps t now kept plain (inl same) (inr k) =
-    inr (k.0, inl (judged m steps t now.before plain (subst (λ (set : Set). clashes_from m (record now.before { set = set }) ≡ true) same k.1)))
-stays m steps t now kept plain (inr lost) (inl is) = inr (is ∙ lost.0, inr lost.1)
-stays m steps t now kept plain (inr lost) (inr k) = inr (k.0, inr lost.1)
+stays : (m : Setting) (steps : List Taken) (t : Taken) (now : State) (set kept : Set) → loads_root t ≡ false → (kept ≡ now.set) ⊎ ((kept ≡ empty) × (changes_protection t ≡ true))
+    → (set ≡ kept) ⊎ ((set ≡ empty) × (clashes_from m (record now { set = kept }) ≡ true)) → Stays m (steps ++ t ∷ []) t now set
+stays m steps t now set kept plain (inl same) (inl is) = inl (is ∙ same)
+stays m steps t now set kept plain (inl same) (inr k) =
+    inr (k.0, inl (judged m steps t now plain (subst (λ (x : Set). clashes_from m (record now { set = x }) ≡ true) same k.1)))
+stays m steps t now set kept plain (inr lost) (inl is) = inr (is ∙ lost.0, inr lost.1)
+stays m steps t now set kept plain (inr lost) (inr k) = inr (k.0, inr lost.1)
 
 -- ---- behind a load
 
-reloads : FetchesFollow → FoundOver → (m : Setting) (steps : List Taken) (t now : Taken) (kept : Set) → loads_root t ≡ true → IsReadyFor m steps t now.before kept
-    → (now.set ≡ kept) ⊎ ((now.set ≡ empty) × (clashes_from m (record now.before { set = kept }) ≡ true)) → Reloads m (steps ++ t ∷ []) t now
-reloads follow over m steps t now kept loads r (inl is) old left since h =
-    subst (HasEntriesOf left) (sym is) (r.back loads old left since (returned m (steps ++ t ∷ []) now now.before t.after.cpu.cr3 old left since refl h)).has
-reloads follow over m steps t now kept loads r (inr k) old left since h =
-    let o = returned m (steps ++ t ∷ []) now now.before t.after.cpu.cr3 old left since refl h in
-    let by_rule : clashes m (steps ++ t ∷ []) now.before ≡ true =
-    clashes_are_judged follow over m steps t now.before kept old left since loads (r.room loads) (r.bytes loads) r.value r.found o (r.back loads old left since o).only (r.of_pages old left since o) k.1 in
-    let apart : clashes m (steps ++ t ∷ []) now.before ≡ false = subst (λ (l : List Taken). clashes m l now.before ≡ false) (sym h.split) (h.apart since now [] refl) in
-    clash (clashes m (steps ++ t ∷ []) now.before) by_rule apart
+reloads : FetchesFollow → FoundOver → (m : Setting) (steps : List Taken) (t : Taken) (now : State) (set kept : Set) → loads_root t ≡ true → IsReadyFor m steps t now kept
+    → (set ≡ kept) ⊎ ((set ≡ empty) × (clashes_from m (record now { set = kept }) ≡ true)) → Reloads m (steps ++ t ∷ []) t now set
+reloads follow over m steps t now set kept loads r (inl is) old left since h apart =
+    subst (HasEntriesOf left) (sym is) (r.back loads old left since (returned m (steps ++ t ∷ []) now t.after.cpu.cr3 old left since h)).has
+reloads follow over m steps t now set kept loads r (inr k) old left since h apart =
+    let o = returned m (steps ++ t ∷ []) now t.after.cpu.cr3 old left since h in
+    let by_rule : clashes m (steps ++ t ∷ []) now ≡ true =
+    clashes_are_judged follow over m steps t now kept old left since loads (r.room loads) (r.bytes loads) r.value r.found o (r.back loads old left since o).only (r.of_pages old left since o) k.1 in
+    clash (clashes m (steps ++ t ∷ []) now) by_rule apart
 
 -- ---- either way
 
-by_last : FetchesFollow → FoundOver → (m : Setting) (steps : List Taken) (t now : Taken) (kept : Set) → IsReadyFor m steps t now.before kept
-    → (now.set ≡ kept) ⊎ ((now.set ≡ empty) × (clashes_from m (record now.before { set = kept }) ≡ true)) → (b : Bool) → loads_root t ≡ b
-    → ((loads_root t ≡ true) × Reloads m (steps ++ t ∷ []) t now) ⊎ ((loads_root t ≡ false) × Stays m (steps ++ t ∷ []) t now)
-by_last follow over m steps t now kept r h true is = inl (is, reloads follow over m steps t now kept is r h)
-by_last follow over m steps t now kept r h false is = inr (is, stays m steps t now kept is (r.stays is) h)
+by_last : FetchesFollow → FoundOver → (m : Setting) (steps : List Taken) (t : Taken) (now : State) (set kept : Set) → IsReadyFor m steps t now kept
+    → (set ≡ kept) ⊎ ((set ≡ empty) × (clashes_from m (record now { set = kept }) ≡ true)) → (b : Bool) → loads_root t ≡ b
+    → ((loads_root t ≡ true) × Reloads m (steps ++ t ∷ []) t now set) ⊎ ((loads_root t ≡ false) × Stays m (steps ++ t ∷ []) t now set)
+by_last follow over m steps t now set kept r h true is = inl (is, reloads follow over m steps t now set kept is r h)
+by_last follow over m steps t now set kept r h false is = inr (is, stays m steps t now set kept is (r.stays is) h)
 
 pub next_is_kept : FetchesFollow → FoundOver → NextIsKept
-next_is_kept follow over m steps t now kept r h =
-    subst (λ (l : List Taken). KeptBehind m (steps ++ t ∷ []) l now) (sym (last_first steps t)) (by_last follow over m steps t now kept r h (loads_root t) refl)
+next_is_kept follow over m steps t now set kept r h =
+    subst (λ (l : List Taken). KeptBehind m (steps ++ t ∷ []) l now set) (sym (last_first steps t)) (by_last follow over m steps t now set kept r h (loads_root t) refl)
 
 -- ---- directory indices
 

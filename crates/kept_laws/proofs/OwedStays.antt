@@ -14,7 +14,7 @@ use Rattle.machine_model.specs.Keeping.{leaves, root_in, roots_in, HasEntriesOf,
 use Rattle.kept_laws.specs.Remembered.{ComesFrom, was_read, Unwritten, IsOwed, IsAbsent, AreOfOne, AllRead, IsThere, IsRemembered}
 use Rattle.kept_laws.specs.OverSteps.{IsNotedBy, IsTold, StartRemembers, StillRemembers, StepsRemember, SameRemembers, DroppedRemembers, LoadsRemember, LoadsBringBack}
 use Rattle.machine_model.proofs.Splits.{Split, At_end, Within, split_of}
-use Rattle.kept_laws.proofs.Lists.{split_more, all_front, all_end, all_at, any_right, read_more, read_last, unwritten_front, roots_more, loaded_more}
+use Rattle.kept_laws.proofs.Lists.{all_at, any_right, read_more, read_last, unwritten_front, roots_more, loaded_more}
 use Rattle.kept_laws.proofs.Counts.{clash, member_first}
 use Rattle.kept_laws.proofs.Places.{same_alike, lose_alike, alike_absent, alike_of_one, alike_read, alike_there, filter_absent, filter_of_one, filter_read, more_read, all_stay, there_wider, staying_absent, staying_of_one, staying_read, staying_there, coming_there, coming_read}
 use Rattle.kept_laws.proofs.Owed.{through_leaves, owed_front, last_leaves}
@@ -267,19 +267,18 @@ loads_remember m steps t noted noted1 noted2 marked marked1 marked2 slots1 slots
     )
 
 -- what the rule asks behind a load is owed before the next step
-pub returned : (m : Setting) (earlier : List Taken) (now : Taken) (b : State) (c : ℕ) (old : List Taken) (left : Taken) (since : List Taken) → now.before ≡ b → Returns m earlier now c old left since → IsOwed m earlier b c old left since
-returned m earlier now b c old left since is h = record {
+pub returned : (m : Setting) (earlier : List Taken) (now : State) (c : ℕ) (old : List Taken) (left : Taken) (since : List Taken) → Returns m earlier now c old left since → IsOwed m earlier now c old left since
+returned m earlier now c old left since h = record {
   split = h.split;
   is_left = h.is_left;
   is_last = h.is_last;
   few = h.few;
-  apart = λ front u back e. h.apart front u (back ++ now ∷ []) (split_more since now front u back e);
-  same = all_front (λ (u : Taken). (u.before.cpu.cr0 ≡ left.before.cpu.cr0) × (u.before.cpu.cr4 ≡ left.before.cpu.cr4)) since (now ∷ []) h.same;
-  same_now = subst (λ (x : State). (x.cpu.cr0 ≡ left.before.cpu.cr0) × (x.cpu.cr4 ≡ left.before.cpu.cr4)) is
-      (all_end (λ (u : Taken). (u.before.cpu.cr0 ≡ left.before.cpu.cr0) × (u.before.cpu.cr4 ≡ left.before.cpu.cr4)) since now h.same);
+  apart = h.apart;
+  same = h.same;
+  same_now = h.same_now;
   unwritten = h.unwritten;
 }
 
 pub loads_bring_back : LoadsBringBack
-loads_bring_back m steps t now slots before set owed old left since h =
-    subst (HasEntriesOf left) (sym set) (owed old left since (returned m (steps ++ t ∷ []) now t.after t.after.cpu.cr3 old left since before h)).has
+loads_bring_back m steps t set slots is owed old left since h apart =
+    subst (HasEntriesOf left) (sym is) (owed old left since (returned m (steps ++ t ∷ []) t.after t.after.cpu.cr3 old left since h)).has

@@ -25,9 +25,9 @@ pub record IsReadyFor (m : Setting) (steps : List Taken) (t : Taken) (b : State)
 -- The next step goes by what is kept, or by nothing where it clashes by that.
 abbrev pub NextIsKept : Type 0
 NextIsKept =
-    (m : Setting) (steps : List Taken) (t now : Taken) (kept : Set) → IsReadyFor m steps t now.before kept
-    → (now.set ≡ kept) ⊎ ((now.set ≡ empty) × (clashes_from m (record now.before { set = kept }) ≡ true))
-    → IsKept m (steps ++ t ∷ []) now
+    (m : Setting) (steps : List Taken) (t : Taken) (now : State) (set kept : Set) → IsReadyFor m steps t now kept
+    → (set ≡ kept) ⊎ ((set ≡ empty) × (clashes_from m (record now { set = kept }) ≡ true))
+    → IsKept m (steps ++ t ∷ []) now set
 
 -- the directory indices of the pages that steps used
 abbrev pub indices_in : List Taken → List ℕ

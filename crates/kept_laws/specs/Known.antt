@@ -12,7 +12,7 @@ use Rattle.machine_model.specs.Run.{Set}
 use Rattle.machine_model.specs.Step.{Went, step_of}
 use Rattle.machine_model.specs.Taken.{Taken, loads_root}
 use Rattle.machine_model.specs.Clash.{clashes_from}
-use Rattle.machine_model.specs.Keeping.{IsKept}
+use Rattle.machine_model.specs.Keeping.{IsKept, IsLeftBehind}
 use Rattle.kept_laws.specs.Remembered.{ComesFrom, IsRemembered, Unwritten}
 use Rattle.kept_laws.specs.OverSteps.{IsTold, IsLoaded}
 use Rattle.kept_laws.specs.Judged.{AllFound, IsFoundStill}
@@ -24,14 +24,15 @@ IsOfPages set = (page : ℕ) → 2 ^ 20 ≤ page → get set page ≡ None
 -- The next step goes as the rule asks, where it goes by what is kept, or by nothing where it clashes by that.
 abbrev pub IsNextKept : Setting → List Taken → State → Set → Type 0
 IsNextKept m steps b kept =
-    (now : Taken) → now.before ≡ b → (now.set ≡ kept) ⊎ ((now.set ≡ empty) × (clashes_from m (record b { set = kept }) ≡ true)) → IsKept m steps now
+    (set : Set) → (set ≡ kept) ⊎ ((set ≡ empty) × (clashes_from m (record b { set = kept }) ≡ true)) → IsKept m steps b set
 
 -- Between two steps of a run, of which these were done, with what is kept: what is owed is remembered, and found in memory
--- as it is, and the next step goes as the rule asks.
+-- as it is. What is kept is what the rule lets be left, and the next step goes as the rule asks.
 pub record IsKnown (m : Setting) (steps : List Taken) (b : State) (noted : ℕ → Bool) (marked : Bool) (asides : List Aside) (kept : Set) : Type 0 where
   pub remembered : IsRemembered m steps b noted marked asides
   pub found : IsFoundStill m steps b
   pub of_pages : All (λ (t : Taken). IsOfPages t.set) steps
+  pub left : IsLeftBehind m steps b kept
   pub next : IsNextKept m steps b kept
 
 -- the step left CR0.WP and CR4.PSE

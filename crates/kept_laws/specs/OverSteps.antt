@@ -107,6 +107,6 @@ LoadsRemember =
 -- So the next step goes by what the rule asks behind a load, where it goes by all that is then kept.
 abbrev pub LoadsBringBack : Type 0
 LoadsBringBack =
-    (m : Setting) (steps : List Taken) (t now : Taken) (slots : ℕ → Option Slot) → now.before ≡ t.after → now.set ≡ entries_of slots
+    (m : Setting) (steps : List Taken) (t : Taken) (set : Set) (slots : ℕ → Option Slot) → set ≡ entries_of slots
     → ((old : List Taken) (left : Taken) (since : List Taken) → IsOwed m (steps ++ t ∷ []) t.after t.after.cpu.cr3 old left since → ComesFrom left (entries_of slots))
-    → Reloads m (steps ++ t ∷ []) t now
+    → Reloads m (steps ++ t ∷ []) t t.after set

@@ -8,8 +8,8 @@ use Rattle.machine_model.specs.Step.{Report, Result, Went, step_of}
 use Rattle.machine_model.specs.Run.{Set, Steps, trace_of}
 use Rattle.machine_model.specs.Counts.{direct_in, direct_addresses, passed_on}
 use Rattle.machine_model.specs.Taken.{Taken, behind, steps_by}
-use Rattle.machine_model.specs.Keeping.{Roomy, IsKept}
-use Rattle.machine_model.specs.Joined.{StepsJoin, TakenJoin, CountsJoin, DigestsJoin, StepsAreTaken, KeptOn}
+use Rattle.machine_model.specs.Keeping.{Roomy, IsKept, Kept}
+use Rattle.machine_model.specs.Joined.{StepsJoin, TakenJoin, CountsJoin, DigestsJoin, StepsAreTaken, KeptOn, KeptBefore}
 use Rattle.machine_model.proofs.Splits.{Split, At_end, Within, split_of}
 
 pub steps_join : StepsJoin
@@ -78,17 +78,32 @@ taken_join m old mid (set ∷ sets) more reports steps =
     ∙ (ap (λ (l : List Taken). now ∷ l) (taken_join m steps.0 mid sets more steps.2 steps.5)
     ∙ ap (λ (l : List Taken). l ++ steps_by m mid more) (sym (taken_first m old steps.0 set sets steps.1 steps.4)))
 
-kept_by : (m : Setting) (l : List Taken) (x : Taken) (a : List Taken) (y : Taken) (b : List Taken) → Split l x a y b
-    → ((front : List Taken) (now : Taken) (back : List Taken) → l ≡ front ++ now ∷ back → Roomy front → IsKept m front now)
-    → (Roomy l → IsKept m l x) → Roomy a → IsKept m a y
-kept_by m l x a y b (At_end same is none) each last roomy =
-    subst (λ (t : Taken). IsKept m a t) (sym is) (subst (λ (k : List Taken). IsKept m k x) (sym same) (last (subst (λ (k : List Taken). Roomy k) same roomy)))
-kept_by m l x a y b (Within c same rest) each last roomy = each a y c same roomy
+-- some steps lead to one state
+pub ends_there : (m : Setting) (old a b : State) (sets : List Set) (x y : List Report) → Steps m old sets x a → Steps m old sets y b → a ≡ b
+unfolding Steps
+ends_there m old a b [] x y s t = s.1 ∙ sym t.1
+ends_there m old a b (set ∷ sets) x y s t =
+    let same : s.0 ≡ t.0 = went_there s.1 t.1 s.0 t.0 (sym s.4 ∙ t.4) in
+    ends_there m t.0 a b sets s.2 t.2 (subst (λ (z : State). Steps m z sets s.2 a) same s.5) t.5
+
+kept_by : (m : Setting) (old mid : State) (sets : List Set) (set : Set) (reports : List Report) → Steps m old sets reports mid → Kept m old sets
+    → (Roomy (steps_by m old sets) → IsKept m (steps_by m old sets) mid set)
+    → (front : List Set) (x : Set) (back : List Set) (seen : List Report) (now : State) → Split sets set front x back → Steps m old front seen now
+    → Roomy (steps_by m old front) → IsKept m (steps_by m old front) now x
+kept_by m old mid sets set reports steps kept last front x back seen now (At_end same is none) there roomy =
+    let state : mid ≡ now = ends_there m old mid now sets reports seen steps (subst (λ (l : List Set). Steps m old l seen now) same there) in
+    subst (λ (l : List Set). IsKept m (steps_by m old l) now x) (sym same)
+    (subst (λ (b : State). IsKept m (steps_by m old sets) b x) state
+    (subst (λ (s : Set). IsKept m (steps_by m old sets) mid s) (sym is) (last (subst (λ (l : List Set). Roomy (steps_by m old l)) same roomy))))
+kept_by m old mid sets set reports steps kept last front x back seen now (Within c same rest) there roomy = kept.each front x c seen now same there roomy
 
 pub kept_on : KeptOn
-kept_on m old mid new sets set reports report steps is kept last =
-    let x : Taken = record { before = mid; set = set; report = report; after = new } in
-    let l = steps_by m old sets in
-    let joined : steps_by m old (sets ++ set ∷ []) ≡ l ++ x ∷ [] =
-    taken_join m old mid sets (set ∷ []) reports steps ∙ ap (λ (k : List Taken). l ++ k) (taken_first m mid new set [] report is) in
-    record { each = λ earlier now later e roomy. kept_by m l x earlier now later (split_of l x earlier now later (sym joined ∙ e)) kept.each last roomy }
+kept_on m old mid sets set reports steps kept last =
+    record { each = λ front x back seen now e there roomy. kept_by m old mid sets set reports steps kept last front x back seen now (split_of sets set front x back e) there roomy }
+
+pub kept_before : KeptBefore
+kept_before m old sets more kept =
+    record {
+      each = λ front x back seen now e there roomy.
+          kept.each front x (back ++ more) seen now (ap (λ (l : List Set). l ++ more) e ∙ append_assoc front (x ∷ back) more) there roomy;
+    }

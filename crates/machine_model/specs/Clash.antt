@@ -1,12 +1,15 @@
 -- A step clashes where the fetch and the ranges of its instruction use one page twice, and the page's entry doesn't
 -- allow the later use. The uses are those that the step makes itself, with the entries by which it is asked: the pages
--- that its fetch goes through, and the ranges of the instruction that the fetch reads.
+-- that its fetch goes through, and the ranges of the instruction that the fetch reads. An instruction that a null segment
+-- denies translates no range, so it uses none.
 use Rattle.std.specs.Prelude.{ℕ, ◌+◌, ◌-◌, ◌/◌, Bool, true, false, ◌==◌, ◌&&◌, ◌||◌, not, List, [], ◌∷◌, ◌++◌, map, Option, Some, None, Ok, Err, is_some, if◌then◌else◌}
 use Rattle.std.specs.FinMap.{get}
 use Rattle.guest_ram.specs.Among.{is_among}
 use Rattle.descriptors.specs.Access.{by_level}
 use Rattle.descriptors.specs.Controls.{wp_of}
+use Rattle.descriptors.specs.declared.cpu.Cpu.{Cpu}
 use Rattle.ia32_exec.specs.declared.access.Range.{Range}
+use Rattle.ia32_exec.specs.declared.access.Ranges.{Ranges}
 use Rattle.ia32_exec.specs.Effect.{ranges_of}
 use Rattle.ia32_decode.specs.declared.answer.Decoded.{Decoded}
 use Rattle.ia32_decode.specs.declared.answer.Decoded.TheVariants as begins
@@ -14,6 +17,7 @@ use Rattle.paging.specs.declared.entry.Access.{Access}
 use Rattle.paging.specs.declared.entry.Entry.{Entry}
 use Rattle.paging.specs.Fresh.{allows}
 use Rattle.paging.specs.Work.{Outcome}
+use Rattle.step_exec.specs.Plain.{is_refused}
 use Rattle.sys_exec.specs.declared.effect.Refusal.{Refusal}
 use Rattle.board.specs.Boards.{given}
 use Rattle.machine_model.specs.State.{Setting, State, space_at_start}
@@ -33,9 +37,12 @@ uses_of access (Some r) =
     if (r.at + r.len - 1) / 4096 == r.at / 4096 then [] else record { page = (r.at + r.len - 1) / 4096; access = access } ∷ []
     )
 
--- the read range, then the write range
+-- the read range, then the write range, or neither where a null segment denies them
+abbrev pub ranges_used : Cpu → Ranges → List Use
+ranges_used cpu ranges = if is_refused cpu ranges then [] else uses_of (by_level cpu false) ranges.read ++ uses_of (by_level cpu true) ranges.write
+
 abbrev pub range_uses : State → Decoded → List Use
-range_uses b (begins.Insn insn len) = uses_of (by_level b.cpu false) (ranges_of insn b.cpu.regs).read ++ uses_of (by_level b.cpu true) (ranges_of insn b.cpu.regs).write
+range_uses b (begins.Insn insn len) = ranges_used b.cpu (ranges_of insn b.cpu.regs)
 range_uses b begins.Short = []
 range_uses b begins.Outside = []
 

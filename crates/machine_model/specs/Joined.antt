@@ -2,7 +2,7 @@
 use Rattle.std.specs.Prelude.{◌≡◌, ℕ, ◌+◌, List, [], ◌∷◌, ◌++◌, map}
 use Rattle.sites.specs.declared.site.Site.{Site}
 use Rattle.machine_model.specs.State.{Setting, State}
-use Rattle.machine_model.specs.Step.{Report, Went, step_of}
+use Rattle.machine_model.specs.Step.{Report}
 use Rattle.machine_model.specs.Run.{Set, Steps}
 use Rattle.machine_model.specs.Counts.{direct_count, passed_digest}
 use Rattle.machine_model.specs.Taken.{Taken, steps_by}
@@ -38,10 +38,13 @@ abbrev pub StepsAreTaken : Type 0
 StepsAreTaken =
     (m : Setting) (old new : State) (sets : List Set) (reports : List Report) → Steps m old sets reports new → AreOf (steps_by m old sets) sets reports
 
--- with one step more, of which the rule holds, the rule holds of all
+-- with one step more, which goes or stops, and of which the rule holds, the rule holds of all
 abbrev pub KeptOn : Type 0
 KeptOn =
-    (m : Setting) (old mid new : State) (sets : List Set) (set : Set) (reports : List Report) (report : Report)
-    → Steps m old sets reports mid → step_of m mid set ≡ Went report new → Kept m old sets
-    → (Roomy (steps_by m old sets) → IsKept m (steps_by m old sets) (record { before = mid; set = set; report = report; after = new }))
+    (m : Setting) (old mid : State) (sets : List Set) (set : Set) (reports : List Report) → Steps m old sets reports mid → Kept m old sets
+    → (Roomy (steps_by m old sets) → IsKept m (steps_by m old sets) mid set)
     → Kept m old (sets ++ set ∷ [])
+
+-- of the first of some steps the rule holds, where it holds of all
+abbrev pub KeptBefore : Type 0
+KeptBefore = (m : Setting) (old : State) (sets more : List Set) → Kept m old (sets ++ more) → Kept m old sets

@@ -6,7 +6,8 @@ use Rattle.std.specs.FinMap.{get, empty}
 use Rattle.guest_ram.specs.Among.{is_among}
 use Rattle.paging.specs.declared.entry.Entry.{Entry}
 use Rattle.machine_model.specs.State.{Setting, State}
-use Rattle.machine_model.specs.Run.{Set}
+use Rattle.machine_model.specs.Step.{Report}
+use Rattle.machine_model.specs.Run.{Set, Steps}
 use Rattle.machine_model.specs.Taken.{Taken, steps_by, loads_root, changes_protection}
 use Rattle.machine_model.specs.Clash.{clashes_from}
 
@@ -56,18 +57,19 @@ roots_in steps = flat_map root_in steps
 abbrev pub tables_in : List Taken → List ℕ
 tables_in steps = flat_map (λ (t : Taken). t.report.tables) steps
 
--- The step before now loaded CR3 with c. The last step that loaded CR3 while CR3 was c is `left`, behind `old` and
+-- The step before the state now loaded CR3 with c. The last step that loaded CR3 while CR3 was c is `left`, behind `old` and
 -- before `since`, and these things hold.
-pub record Returns (m : Setting) (earlier : List Taken) (now : Taken) (c : ℕ) (old : List Taken) (left : Taken) (since : List Taken) : Type 0 where
+pub record Returns (m : Setting) (earlier : List Taken) (now : State) (c : ℕ) (old : List Taken) (left : Taken) (since : List Taken) : Type 0 where
   pub split : earlier ≡ old ++ left ∷ since
   pub is_left : leaves c left ≡ true
   pub is_last : All (λ t. leaves c t ≡ false) since
   -- at most seven other values were loaded from that step on
   pub few : distinct_count eqb (filter (λ value. not (value == c)) (roots_in (left ∷ since))) ≤ 7
-  -- no step behind it clashes, up to and including this one
-  pub apart : (front : List Taken) (t : Taken) (back : List Taken) → since ++ now ∷ [] ≡ front ++ t ∷ back → clashes m (old ++ left ∷ front) t.before ≡ false
+  -- no step behind it clashes
+  pub apart : (front : List Taken) (t : Taken) (back : List Taken) → since ≡ front ++ t ∷ back → clashes m (old ++ left ∷ front) t.before ≡ false
   -- CR0 and CR4 have not changed since
-  pub same : All (λ (t : Taken). (t.before.cpu.cr0 ≡ left.before.cpu.cr0) × (t.before.cpu.cr4 ≡ left.before.cpu.cr4)) (since ++ now ∷ [])
+  pub same : All (λ (t : Taken). (t.before.cpu.cr0 ≡ left.before.cpu.cr0) × (t.before.cpu.cr4 ≡ left.before.cpu.cr4)) since
+  pub same_now : (now.cpu.cr0 ≡ left.before.cpu.cr0) × (now.cpu.cr4 ≡ left.before.cpu.cr4)
   -- no step so far wrote in a frame that a walk of the run had read as a directory or table by its end
   pub unwritten : (front : List Taken) (t : Taken) (back : List Taken) → earlier ≡ front ++ t ∷ back
       → All (λ frame. is_among frame (tables_in (front ++ t ∷ [])) ≡ false) t.report.wrote
@@ -77,26 +79,41 @@ abbrev pub HasEntriesOf : Taken → Set → Type 0
 HasEntriesOf left set =
     (page : ℕ) (e : Entry) → get left.set page ≡ Some e → is_among page left.report.pages ≡ false → get set page ≡ Some e
 
--- behind a load of CR3: entries that a run may always add, and all of those that were left with the value
-abbrev pub Reloads : Setting → List Taken → Taken → Taken → Type 0
-Reloads m earlier last now =
-    (old : List Taken) (left : Taken) (since : List Taken) → Returns m earlier now last.after.cpu.cr3 old left since → HasEntriesOf left now.set
+-- behind a load of CR3: entries that a run may always add, and all of those that were left with the value, where the next
+-- step doesn't clash either
+abbrev pub Reloads : Setting → List Taken → Taken → State → Set → Type 0
+Reloads m earlier last now set =
+    (old : List Taken) (left : Taken) (since : List Taken) → Returns m earlier now last.after.cpu.cr3 old left since → clashes m earlier now ≡ false → HasEntriesOf left set
 
--- otherwise: what the step before left, or nothing where this step clashes or the step before changed CR0.WP
-abbrev pub Stays : Setting → List Taken → Taken → Taken → Type 0
-Stays m earlier last now =
-    (now.set ≡ now.before.set)
-    ⊎ ((now.set ≡ empty) × (Clashes m earlier now.before ⊎ (changes_protection last ≡ true)))
+-- otherwise: what the step before left, or nothing where the next step clashes or the step before changed CR0.WP
+abbrev pub Stays : Setting → List Taken → Taken → State → Set → Type 0
+Stays m earlier last now set =
+    (set ≡ now.set)
+    ⊎ ((set ≡ empty) × (Clashes m earlier now ⊎ (changes_protection last ≡ true)))
 
-abbrev pub KeptBehind : Setting → List Taken → List Taken → Taken → Type 0
-KeptBehind m earlier [] now = now.set ≡ empty
-KeptBehind m earlier (last ∷ past) now =
-    ((loads_root last ≡ true) × Reloads m earlier last now) ⊎ ((loads_root last ≡ false) × Stays m earlier last now)
+abbrev pub KeptBehind : Setting → List Taken → List Taken → State → Set → Type 0
+KeptBehind m earlier [] now set = set ≡ empty
+KeptBehind m earlier (last ∷ past) now set =
+    ((loads_root last ≡ true) × Reloads m earlier last now set) ⊎ ((loads_root last ≡ false) × Stays m earlier last now set)
 
--- What is said of the set before a step, by the steps before it. Before the first step the set is empty.
-abbrev pub IsKept : Setting → List Taken → Taken → Type 0
-IsKept m earlier now = KeptBehind m earlier (reverse earlier) now
+-- What is said of the set by which a step from the state now goes or stops, by the steps before it. Before the first step
+-- the set is empty.
+abbrev pub IsKept : Setting → List Taken → State → Set → Type 0
+IsKept m earlier now set = KeptBehind m earlier (reverse earlier) now set
 
--- so of each step up to which the run is roomy
+-- So of each of these sets, which are those of steps one behind the other, up to which the run is roomy. The step of a set
+-- is made from the state to which the sets before it lead. The last of them may stop.
 pub record Kept (m : Setting) (old : State) (sets : List Set) : Type 0 where
-  pub each : (earlier : List Taken) (now : Taken) (later : List Taken) → steps_by m old sets ≡ earlier ++ now ∷ later → Roomy earlier → IsKept m earlier now
+  pub each : (front : List Set) (set : Set) (back : List Set) (reports : List Report) (now : State) → sets ≡ front ++ set ∷ back → Steps m old front reports now
+      → Roomy (steps_by m old front) → IsKept m (steps_by m old front) now set
+
+-- What a run keeps behind these steps, before it is known whether the next one clashes: what the last of them left, or
+-- nothing where that changed CR0.WP. Behind a load of CR3 it has all that was left with the value.
+abbrev pub LeftBehind : Setting → List Taken → List Taken → State → Set → Type 0
+LeftBehind m earlier [] now set = set ≡ empty
+LeftBehind m earlier (last ∷ past) now set =
+    ((loads_root last ≡ true) × ((old : List Taken) (left : Taken) (since : List Taken) → Returns m earlier now last.after.cpu.cr3 old left since → HasEntriesOf left set))
+    ⊎ ((loads_root last ≡ false) × ((set ≡ now.set) ⊎ ((set ≡ empty) × (changes_protection last ≡ true))))
+
+abbrev pub IsLeftBehind : Setting → List Taken → State → Set → Type 0
+IsLeftBehind m earlier now set = LeftBehind m earlier (reverse earlier) now set

@@ -1,4 +1,4 @@
-ghost use Rattle.machine_model.specs.Joined.{StepsJoin, TakenJoin, CountsJoin, DigestsJoin, StepsAreTaken, KeptOn};
+ghost use Rattle.machine_model.specs.Joined.{StepsJoin, TakenJoin, CountsJoin, DigestsJoin, StepsAreTaken, KeptOn, KeptBefore};
 
 /// Steps of a run, and others behind them, are steps of a run: those that are taken stand one
 /// behind the other, what is counted of them is a sum, and the digest goes on.
@@ -14,7 +14,9 @@ pub fn steps_are_taken()
     ensures { StepsAreTaken }
 {}
 
-/// Where the rule for the translations that a run keeps holds of some steps, and of the next, it holds with the next.
+/// Where the rule for the translations that a run keeps holds of some steps, and of the next, it holds with the next. Where
+/// it holds of some steps it holds of the first of them.
 pub fn kept_on()
-    ensures { KeptOn }
+    ensures on { KeptOn }
+    ensures before { KeptBefore }
 {}

@@ -19,6 +19,7 @@ use Rattle.paging.specs.declared.entry.Access.{Access}
 use Rattle.paging.specs.declared.entry.Entry.{Entry}
 use Rattle.paging.specs.Fresh.{allows}
 use Rattle.paging.specs.Space.{Space}
+use Rattle.step_exec.specs.Plain.{is_refused}
 use Rattle.host_cpl3.specs.Access.{last_page}
 use Rattle.machine_model.specs.State.{Setting, State, space_at_start}
 use Rattle.machine_model.specs.Instruction.{fetched}
@@ -121,11 +122,15 @@ module _ (b : State) where
       ∙ ap (λ (l : List clashing.Use). l ++ map (as_use b) (range_uses true ranges.write)) (range_same false ranges.read short.0)
       ∙ ap (λ (l : List clashing.Use). clashing.uses_of (by_level b.cpu false) ranges.read ++ l) (range_same true ranges.write short.1))
 
--- an instruction that was fetched and doesn't clash
+-- an instruction that was fetched, that no null segment denies, and that doesn't clash
 pub clear_from : (m : Setting) (b : State) (insn : Insn) (len : ℕ) (fetch : Space)
-    → fetched (b.cpu.cpl == 3) b.cpu.regs.eip (space_at_start m.mode m.frames b.cpu b.ram b.set) ≡ Ok (begins.Insn insn len, fetch) → instruction_clashes m b ≡ false
+    → fetched (b.cpu.cpl == 3) b.cpu.regs.eip (space_at_start m.mode m.frames b.cpu b.ram b.set) ≡ Ok (begins.Insn insn len, fetch) → is_refused b.cpu (ranges_of insn b.cpu.regs) ≡ false → instruction_clashes m b ≡ false
     → AreClear b.set (b.cpu.cpl == 3) (wp_of b.cpu) [] (uses_of fetch.visited (ranges_of insn b.cpu.regs))
 unfolding instruction_clashes
-clear_from m b insn len fetch e h =
-    clear_told b [] (uses_of fetch.visited (ranges_of insn b.cpu.regs))
-    (ap (clash_behind (get b.set) (wp_of b.cpu) []) (all_same b fetch.visited (ranges_of insn b.cpu.regs) (ranges_short insn b.cpu.regs) ∙ sym (ap (clashing.uses_by b) e)) ∙ h)
+clear_from m b insn len fetch e free h =
+    let ranges = ranges_of insn b.cpu.regs in
+    let both = clashing.uses_of (by_level b.cpu false) ranges.read ++ clashing.uses_of (by_level b.cpu true) ranges.write in
+    let used_is : clashing.ranges_used b.cpu ranges ≡ both = ap (λ (t : Bool). cond t [] both) free in
+    clear_told b [] (uses_of fetch.visited ranges)
+    (ap (clash_behind (get b.set) (wp_of b.cpu) [])
+    (all_same b fetch.visited ranges (ranges_short insn b.cpu.regs) ∙ ap (λ (l : List clashing.Use). fetch_uses b fetch.visited ++ l) (sym used_is) ∙ sym (ap (clashing.uses_by b) e)) ∙ h)

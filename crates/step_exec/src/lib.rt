@@ -15,5 +15,6 @@ pub use agreement::plain_agrees;
 pub use instruction::{complete, plain, reach_both};
 pub use laws::{divides, has_user_form};
 pub use memory::StepMem;
+pub use ranges::is_refused;
 pub use users::user_outcome;
 pub use work::{deliver_in, sys_in};

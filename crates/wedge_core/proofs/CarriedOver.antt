@@ -27,7 +27,7 @@ use Rattle.wedge_step.specs.Parts.{left_of}
 use Rattle.wedge_step.specs.Pools.{Keeps}
 use Rattle.wedge_step.specs.Standing.{IsHeld, ground, set_of, state_of}
 use Rattle.wedge_step.proofs.Widening.{Widens}
-use Rattle.wedge_core.proofs.Going.{StepCarries, eventful}
+use Rattle.wedge_core.proofs.Going.{DropClashes, StepCarries, eventful}
 use Rattle.wedge_core.proofs.Landing.{shown_any}
 use Rattle.wedge_core.proofs.Passed.{CarriesPast}
 
@@ -54,6 +54,7 @@ module _ {S : Type 0} (stands : S → List ℕ → Type 0) (frames : S → List 
     pub carries_past : (m : Setting) (s : S) (memory : List ℕ) → CarriesPast m (CarriedWith m s memory)
     carries_past m s memory = record {
       next = λ kept steps b c. c.known.next;
+      left = λ kept steps b c. c.known.left;
       past = λ kept steps t p c. record {
         known = laws.quiet m steps t (noted s) (marked s) (asides s memory) kept p c.known;
         opened_to = widens.wider s memory (λ index. is_member eqb (indices_in steps) index) (λ index. is_member eqb (indices_in (steps ++ t ∷ [])) index) (laws.known.grow steps t).0 c.opened_to;
@@ -106,22 +107,31 @@ module _ {S : Type 0} (stands : S → List ℕ → Type 0) (frames : S → List 
       abbrev now : State
       now = state_of stands frames slots m r memory
 
+      pub drop_clashes : mid.frames ≡ f → state_of stands frames slots m mid then ≡ record now { board = board } → board ≡ given r.board script r.step
+          → IsHeld stands frames slots (ground image f) r pool memory → IsHeld stands frames slots (ground image f) mid pool then → mid.shadows ≡ r.shadows → SameIn (frames r.shadows memory) memory then
+          → (begins → length (free_list pool then) + mid.held ≡ 512) → Clashed image mid.frames mid new then pool
+          → DropClashes m now new.lost.before begins (CarriedWith m r.shadows memory)
+      drop_clashes same stays events held held_mid shadows apart whole clashed = λ s dropped steps left roomy c.
+          let there = carried_there m r.shadows mid.shadows memory then now.set steps (with_set now left) shadows held.stand apart c in
+          let few = few_held m mid.shadows then now.set steps (with_set now left) held_mid.stand roomy there in
+          let all = whole s in
+          let count = held_mid.counted in
+          clashed_at dropped (omega (arith, few, all, count)) script now
+          (sym (ap (λ (x : State). x.cpu) stays))
+          (sym (ap (λ (x : State). x.ram) stays) ∙ shown_any image script f then)
+          (sym (ap (λ (x : State). x.set) stays))
+          (sym events ∙ sym (ap (λ (x : State). x.board) stays))
+        where
+          clashed_at : Clashed image f mid new then pool
+          clashed_at = subst (λ (n : ℕ). Clashed image n mid new then pool) same clashed
+
       pub step_carries : mid.frames ≡ f → state_of stands frames slots m mid then ≡ record now { board = board } → board ≡ given r.board script r.step
           → IsHeld stands frames slots (ground image f) r pool memory → IsHeld stands frames slots (ground image f) mid pool then → mid.shadows ≡ r.shadows → SameIn (frames r.shadows memory) memory then
           → (begins → wanted ≡ false) → (begins → length (free_list pool then) + mid.held ≡ 512)
           → Carries image mid.frames mid new then after pool wanted → Clashed image mid.frames mid new then pool
           → StepCarries m now (state_of stands frames slots m new after) new.lost begins (CarriedWith m r.shadows memory) (CarriedWith m new.shadows after)
       step_carries same stays events held held_mid shadows apart unwanted whole carries clashed = record {
-        clash = λ s dropped steps left roomy c.
-            let there = carried_there m r.shadows mid.shadows memory then now.set steps (with_set now left) shadows held.stand apart c in
-            let few = few_held m mid.shadows then now.set steps (with_set now left) held_mid.stand roomy there in
-            let all = whole s in
-            let count = held_mid.counted in
-            clashed_at dropped (omega (arith, few, all, count)) script now
-            (sym (ap (λ (x : State). x.cpu) stays))
-            (sym (ap (λ (x : State). x.ram) stays) ∙ shown_any image script f then)
-            (sym (ap (λ (x : State). x.set) stays))
-            (sym events ∙ sym (ap (λ (x : State). x.board) stays));
+        clash = drop_clashes same stays events held held_mid shadows apart whole clashed;
         over = λ s steps t roomy from set_is c.
             let there = carried_there m r.shadows mid.shadows memory then now.set steps t.before shadows held.stand apart c in
             let set_same : set_of stands frames slots mid then ≡ now.set = ap (λ (x : State). x.set) stays in
@@ -133,6 +143,3 @@ module _ {S : Type 0} (stands : S → List ℕ → Type 0) (frames : S → List 
         where
           carries_at : Carries image f mid new then after pool wanted
           carries_at = subst (λ (n : ℕ). Carries image n mid new then after pool wanted) same carries
-
-          clashed_at : Clashed image f mid new then pool
-          clashed_at = subst (λ (n : ℕ). Clashed image n mid new then pool) same clashed

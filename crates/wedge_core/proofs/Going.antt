@@ -1,7 +1,8 @@
 -- A slice on its way.
 use Rattle.std.proofs.Common.{◌≡◌, ℕ, ◌+◌, ◌*◌, ◌≤◌, ◌<◌, zero, suc, replicate, length, Bool, true, false, List, [], ◌∷◌, ◌++◌, Option, Result, Ok, Err, refl, sym, ap, subst, ◌∙◌, append_assoc, ◌⊎◌, inl, inr, arith}
-use Rattle.std.specs.List.{All}
-use Rattle.std.specs.FinMap.{len, empty}
+use Rattle.std.specs.Prelude.{IsSome}
+use Rattle.std.specs.List.{All, list_any}
+use Rattle.std.specs.FinMap.{get, len, empty}
 use Rattle.std.proofs.lemmas.List.{append-nil}
 use Rattle.std.proofs.lemmas.List.Elements.{All-nil, All-cons, All-head, All-tail, All-append, All-replicate, All-weaker}
 use Rattle.pv_io.specs.declared.answer.Failed.{Failed}
@@ -21,7 +22,7 @@ use Rattle.machine_model.specs.Run.{Set, Steps, trace_of, with_set}
 use Rattle.machine_model.specs.Taken.{Taken, steps_by}
 use Rattle.machine_model.specs.Clash.{clashes_from}
 use Rattle.machine_model.specs.Keeping.{Roomy, Kept}
-use Rattle.machine_model.specs.Notes.{AreLeft, AreNotes, set_told}
+use Rattle.machine_model.specs.Notes.{AreLeft, AreNotes, is_dropped, set_told}
 use Rattle.native_steps.specs.Stretch.{IsQuiet}
 use Rattle.kept_laws.specs.Known.{IsOfPages}
 use Rattle.wedge_step.specs.Carried.{IsTakenFrom}
@@ -65,13 +66,13 @@ pub record Going (m : Setting) (old now : State) (before after : Counts) (told t
   pub text : Appends told tells (lines_of (trace_of reports))
   pub counts : CountsOn m reports before after
 
-none_split : (a : List Taken) (y : Taken) (b : List Taken) → [] ≡ a ++ y ∷ b → ⊥
+none_split : {X : Type 0} (a : List X) (y : X) (b : List X) → [] ≡ a ++ y ∷ b → ⊥
 none_split [] y b e = cc
 none_split (z ∷ a) y b e = cc
 
 -- no step is kept or not
 kept_none : (m : Setting) (b : State) → Kept m b []
-kept_none m b = record { each = λ earlier now later is roomy. absurd (none_split earlier now later is) }
+kept_none m b = record { each = λ front set back reports now is there roomy. absurd (none_split front set back is) }
 
 pub going_none : (m : Setting) (b : State) (counts : Counts) (told : Option (List ℕ)) (pages fills : ℕ) (wanted : Bool) (notes_on : List Note → Type 0) (begins : Type 0) (carried : Set → List Taken → State → Type 0) → notes_on [] → len b.set ≤ pages → (begins → carried b.set [] b) → Going m b b counts counts told told pages fills fills wanted notes_on begins carried
 going_none m b counts told pages fills wanted notes_on begins carried none few start = record {
@@ -271,9 +272,14 @@ module _ (m : Setting) (old now : State) (a b : Counts) (told tells : Option (Li
       let e = g.enough.enough in
       record { rises = r; enough = omega (arith, few, e) }
 
--- What is known goes on over the next step. Where all was dropped before it, it clashes by what was kept.
+-- Where all was dropped before the next step, it clashes by what was kept.
+abbrev pub DropClashes : Setting → State → Bool → Type 0 → (Set → List Taken → State → Type 0) → Type 0
+DropClashes m now dropped begins carried =
+    begins → dropped ≡ true → (steps : List Taken) (whole : Set) → Roomy steps → carried now.set steps (with_set now whole) → clashes_from m now ≡ true
+
+-- So it is, and what is known goes on over that step.
 pub record StepCarries (m : Setting) (now new : State) (lost : Lost) (begins : Type 0) (carried carried_then : Set → List Taken → State → Type 0) : Type 0 where
-  pub clash : begins → lost.before ≡ true → (steps : List Taken) (whole : Set) → Roomy steps → carried now.set steps (with_set now whole) → clashes_from m now ≡ true
+  pub clash : DropClashes m now lost.before begins carried
   pub over : begins → (steps : List Taken) (t : Taken) → Roomy (steps ++ t ∷ []) → IsTakenFrom m (eventful m now) t → t.set ≡ left_of lost.before now.set → carried now.set steps t.before
       → carried_then new.set (steps ++ t ∷ []) t.after
 
@@ -281,6 +287,18 @@ chosen_kept : (m : Setting) (b : State) (dropped : Bool) → (dropped ≡ true �
     → (left_of dropped b.set ≡ b.set) ⊎ ((left_of dropped b.set ≡ empty) × (clashes_from m b ≡ true))
 chosen_kept m b true h = inr (refl, h refl)
 chosen_kept m b false h = inl refl
+
+-- the set that was chosen keeps the rule, whether the step goes or stops
+module _ (m : Setting) (old now : State) (a b : Counts) (told tells : Option (List ℕ)) (pages fills mid : ℕ) (wanted : Bool) (notes_on : List Note → Type 0) (begins : Type 0) (carried : Set → List Taken → State → Type 0) (g : Going m old now a b told tells pages fills mid wanted notes_on begins carried) (dropped : Bool) where
+  pub chosen_rule : CarryLaws → CarriesPast m carried → DropClashes m now dropped begins carried → begins → Kept m old (g.sets ++ left_of dropped now.set ∷ [])
+  chosen_rule laws goes clash s =
+      let before = steps_by m old g.sets in
+      laws.rule m old (with_set now g.whole) g.sets (left_of dropped now.set) g.reports g.steps (g.rule s)
+      (λ roomy. goes.next now.set before (with_set now g.whole) (g.carries s roomy) (left_of dropped now.set) (chosen_kept m now dropped (λ drop. clash s drop before g.whole roomy (g.carries s roomy))))
+
+-- where nothing was dropped
+no_drop : (m : Setting) (now : State) (begins : Type 0) (carried : Set → List Taken → State → Type 0) → DropClashes m now false begins carried
+no_drop m now begins carried s dropped = absurd (let f : false ≡ true = dropped in cc)
 
 -- and goes
 pub going_on : (m : Setting) (old now new : State) (lost : Lost) (seen : Seen) (a b c : Counts) (told tells : Option (List ℕ)) (pages fills mid filled : ℕ) (wanted : Bool) (notes_on notes_after : List Note → Type 0) (begins : Type 0) (carried carried_then : Set → List Taken → State → Type 0)
@@ -320,8 +338,7 @@ going_on m old now new lost seen a b c told tells pages fills mid filled wanted 
       tells_notes = subst notes_after (sym (append_assoc g.notes (emptied_if lost.before now.step) (emptied_if lost.after (now.step + 1)))) (on g.notes g.tells_notes);
       each_filled = filled_push pages fills filled g.sets set (filled_later pages fills mid filled g.sets rises g.each_filled)
           (enough_later pages (len set) fills mid filled rises (enough_chosen m old now a b told tells pages fills mid wanted notes_on begins carried g lost.before));
-      rule = λ s. laws.rule m old (with_set now g.whole) (with_set new r.whole) g.sets set g.reports r.report g.steps goes_here (g.rule s)
-          (λ roomy. goes.next now.set taken_so_far (with_set now g.whole) (g.carries s roomy) t refl (chosen_kept m now lost.before (λ drop. over.clash s drop taken_so_far g.whole roomy (g.carries s roomy))));
+      rule = chosen_rule m old now a b told tells pages fills mid wanted notes_on begins carried g lost.before laws goes over.clash;
       carries = λ s roomy.
           let then : Roomy (taken_so_far ++ t ∷ []) = subst Roomy joined roomy in
           subst (λ (l : List Taken). carried_then new.set l (with_set new r.whole)) (sym joined) (over.over s taken_so_far t then from refl (g.carries s (laws.known.before taken_so_far t then)));
@@ -375,10 +392,14 @@ are_notes m old sets last notes h = record {
   held = λ earlier now later page e is. absurd (let no : false ≡ true = sym (none_dropped last now.before.step page notes h.until) ∙ is in cc);
 }
 
+-- no page is told behind the last step
+none_held : (first last : ℕ) (notes : List Note) (set : Set) → TriedNotes first last notes → (page : ℕ) → list_any (is_dropped last page) notes ≡ true → IsSome (get set page)
+none_held first last notes set h page is = absurd (let no : false ≡ true = sym (none_dropped last last page notes h.until) ∙ is in cc)
+
 -- all steps were done
-pub reached : (m : Setting) (bound : ℕ) (old now : State) (a b : Counts) (told tells : Option (List ℕ)) (pages fills filled : ℕ) (wanted : Bool) (notes_on : List Note → Type 0) (begins : Type 0) (carried : Set → List Taken → State → Type 0) → Going m old now a b told tells pages fills filled wanted notes_on begins carried → now.step ≡ bound
+pub reached : (m : Setting) (bound : ℕ) (old now : State) (a b : Counts) (told tells : Option (List ℕ)) (pages fills filled : ℕ) (wanted : Bool) (notes_on : List Note → Type 0) (begins : Type 0) (carried : Set → List Taken → State → Type 0) → Going m old now a b told tells pages fills filled wanted notes_on begins carried → now.step ≡ bound → CarryLaws → CarriesPast m carried
     → SliceAs m bound old now a b told tells pages fills filled wanted notes_on begins (Ok Reached)
-reached m bound old now a b told tells pages fills filled wanted notes_on begins carried g n = record {
+reached m bound old now a b told tells pages fills filled wanted notes_on begins carried g n laws goes = record {
   sets = g.sets;
   reports = g.reports;
   last = with_set now g.whole;
@@ -391,18 +412,20 @@ reached m bound old now a b told tells pages fills filled wanted notes_on begins
   noted = λ w. record {
     told = are_told m old g.sets g.notes (g.by w);
     are = are_notes m old g.sets now.step g.notes (tried_none old.step now.step g.notes g.so_far);
+    held = none_held old.step now.step g.notes g.whole (tried_none old.step now.step g.notes g.so_far);
     ends = g.kept w;
   };
   tells_notes = g.tells_notes;
   each_filled = filled_push pages fills filled g.sets now.set g.each_filled g.enough;
-  kept = g.rule;
+  kept = chosen_rule m old now a b told tells pages fills filled wanted notes_on begins carried g false laws goes (no_drop m now begins carried);
+  left = λ s roomy. goes.left now.set (steps_by m old g.sets) (with_set now g.whole) (g.carries s roomy);
 }
 
 -- the next step stops
 pub stopped : (m : Setting) (bound : ℕ) (old now new : State) (lost : Lost) (stop : Stop) (a b : Counts) (told tells : Option (List ℕ)) (pages fills mid filled : ℕ) (wanted : Bool) (notes_on notes_after : List Note → Type 0) (begins : Type 0) (carried : Set → List Taken → State → Type 0)
-    → Going m old now a b told tells pages fills mid wanted notes_on begins carried → StepHalts m (eventful m now) lost stop → now.step < bound → new.step ≡ now.step → mid ≤ filled
+    → Going m old now a b told tells pages fills mid wanted notes_on begins carried → StepHalts m (eventful m now) lost stop → now.step < bound → new.step ≡ now.step → mid ≤ filled → CarryLaws → CarriesPast m carried → DropClashes m now lost.before begins carried
     → ((notes : List Note) → notes_on notes → notes_after (notes ++ emptied_if lost.before now.step)) → SliceAs m bound old new a b told tells pages fills filled wanted notes_after begins (Ok (Stopped stop))
-stopped m bound old now new lost stop a b told tells pages fills mid filled wanted notes_on notes_after begins carried g h lt still rises on =
+stopped m bound old now new lost stop a b told tells pages fills mid filled wanted notes_on notes_after begins carried g h lt still rises laws goes clash on =
     let set = left_of lost.before now.set in
     let notes = g.notes ++ emptied_if lost.before now.step in
     let told_set = chosen_told m old now a b told tells pages fills mid wanted notes_on begins carried g lost.before in
@@ -420,19 +443,21 @@ stopped m bound old now new lost stop a b told tells pages fills mid filled want
       noted = λ w. record {
         told = are_told m old g.sets notes (by_then m old now a b told tells pages fills mid wanted notes_on begins carried g lost.before w);
         are = are_notes m old g.sets now.step notes (tried m old now a b told tells pages fills mid wanted notes_on begins carried g lost.before);
+        held = none_held old.step now.step notes g.whole (tried m old now a b told tells pages fills mid wanted notes_on begins carried g lost.before);
         ends = subst (λ (x : Set). step_of m (with_set now g.whole) x ≡ Halts stop) (told_set w) halts;
       };
       tells_notes = on g.notes g.tells_notes;
       each_filled = filled_push pages fills filled g.sets set (filled_later pages fills mid filled g.sets rises g.each_filled)
           (enough_later pages (len set) fills mid filled rises (enough_chosen m old now a b told tells pages fills mid wanted notes_on begins carried g lost.before));
-      kept = g.rule;
+      kept = chosen_rule m old now a b told tells pages fills mid wanted notes_on begins carried g lost.before laws goes clash;
+      left = λ s. tt;
     }
 
 -- the lines of a step were not put
 pub failed : (m : Setting) (bound : ℕ) (old now new : State) (seen : Seen) (fault : Failed) (a b : Counts) (told tells last : Option (List ℕ)) (pages fills filled : ℕ) (wanted : Bool) (notes_on : List Note → Type 0) (begins : Type 0) (carried : Set → List Taken → State → Type 0)
-    → Stepped m old now new seen a b told tells pages fills filled wanted notes_on begins carried → AppendsFront tells last (lines_of (items_at now.step (whats seen))) → new.step ≤ bound
+    → Stepped m old now new seen a b told tells pages fills filled wanted notes_on begins carried → AppendsFront tells last (lines_of (items_at now.step (whats seen))) → new.step ≤ bound → CarryLaws → CarriesPast m carried
     → SliceAs m bound old new a b told last pages fills filled wanted notes_on begins (Err fault)
-failed m bound old now new seen fault a b told tells last pages fills filled wanted notes_on begins carried s put le = record {
+failed m bound old now new seen fault a b told tells last pages fills filled wanted notes_on begins carried s put le laws goes = record {
   sets = s.sets;
   reports = s.reports;
   last = with_set new s.whole;
@@ -445,11 +470,14 @@ failed m bound old now new seen fault a b told tells last pages fills filled wan
   noted = λ w. record {
     told = are_told m old s.sets s.notes (s.by w);
     are = are_notes m old s.sets new.step s.notes (tried_none old.step new.step s.notes s.so_far);
+    held = none_held old.step new.step s.notes s.whole (tried_none old.step new.step s.notes s.so_far);
     ends = tt;
   };
   tells_notes = s.tells_notes;
   each_filled = filled_push pages fills filled s.sets new.set s.each_filled s.enough;
-  kept = s.rule;
+  kept = λ b. laws.rule m old (with_set new s.whole) s.sets new.set s.reports s.steps (s.rule b)
+      (λ roomy. goes.next new.set (steps_by m old s.sets) (with_set new s.whole) (s.carries b roomy) new.set (inl refl));
+  left = λ b. tt;
 }
 
 abbrev pub counted : ℕ → ℕ → Counts

@@ -7,16 +7,17 @@ use Rattle.machine_model.specs.Step.{Report, Result, Went, step_of}
 use Rattle.machine_model.specs.Run.{Set, Steps}
 use Rattle.machine_model.specs.Taken.{Taken, behind, steps_by}
 use Rattle.machine_model.specs.Notes.{AreLeft}
-use Rattle.machine_model.specs.Keeping.{Roomy, Kept}
+use Rattle.machine_model.specs.Keeping.{Roomy, Kept, IsLeftBehind}
 use Rattle.native_steps.specs.Stretch.{IsQuiet}
 use Rattle.kept_laws.specs.Known.{IsOfPages, IsNextKept, IsPast}
 use Rattle.wedge_step.specs.CarryLaws.{CarryLaws}
 use Rattle.wedge_core.proofs.Joined.{steps_join, steps_one}
 
--- What is known, with what is kept: the next step that goes by what is kept goes by the rule, and a step that the run has no
--- part in goes on with it.
+-- What is known, with what is kept: it is what the rule lets be left, the next step that goes by it goes by the rule, and a
+-- step that the run has no part in goes on with it.
 pub record CarriesPast (m : Setting) (carried : Set → List Taken → State → Type 0) : Type 0 where
   pub next : (kept : Set) (steps : List Taken) (b : State) → carried kept steps b → IsNextKept m steps b kept
+  pub left : (kept : Set) (steps : List Taken) (b : State) → carried kept steps b → IsLeftBehind m steps b kept
   pub past : (kept : Set) (steps : List Taken) (t : Taken) → IsPast m t → carried kept steps t.before → carried t.after.set (steps ++ t ∷ []) t.after
 
 -- The steps so far went by the rule, and all is known behind them while the run is roomy.
@@ -40,7 +41,7 @@ module _ (laws : CarryLaws) (m : Setting) (carried : Set → List Taken → Stat
       let t = step_taken b kept report after in
       let joined : steps_by m old (sets ++ kept ∷ []) ≡ steps_by m old sets ++ t ∷ [] = laws.joins m old b after sets kept reports report steps is in
       record {
-        rule = laws.rule m old b after sets kept reports report steps is k.rule (λ roomy. goes.next kept (steps_by m old sets) b (k.carries roomy) t refl (inl refl));
+        rule = laws.rule m old b sets kept reports steps k.rule (λ roomy. goes.next kept (steps_by m old sets) b (k.carries roomy) kept (inl refl));
         carries = λ roomy.
             let before : Roomy (steps_by m old sets) = laws.known.before (steps_by m old sets) t (subst Roomy joined roomy) in
             subst (λ (l : List Taken). carried after.set l after) (sym joined) (goes.past kept (steps_by m old sets) t past (k.carries before));

@@ -42,6 +42,7 @@ slice_begun m bound old new before after told tells first pages fills filled wan
   tells_notes = h.tells_notes;
   each_filled = All-weaker (λ (set : Set). FillsOn first (len set) fills filled) (λ (set : Set). FillsOn pages (len set) fills filled) (λ set f. more_first first pages (len set) fills filled le f) (h.sets ++ h.end ∷ []) h.each_filled;
   kept = λ s. h.kept (from s);
+  left = λ s. h.left (from s);
 }
 
 pub pauses_more : (result : Result Pause Failed) (A B : Type 0) → (A → B) → IfPaused result A → IfPaused result B

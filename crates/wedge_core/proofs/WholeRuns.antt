@@ -23,14 +23,16 @@ use Rattle.shadow_cache.specs.Views as roots
 use Rattle.shadow_cache.specs.declared.roots.Roots.{Roots}
 use Rattle.machine_model.specs.State.{Setting, State, Loosened, boot, wedge}
 use Rattle.machine_model.specs.Step.{Report}
-use Rattle.machine_model.specs.Run.{Set, Steps, EndsIn, CanGive, trace_of}
-use Rattle.machine_model.specs.Keeping.{Kept}
+use Rattle.machine_model.specs.Run.{Set, Steps, EndsIn, CanGive, stopping, trace_of}
+use Rattle.machine_model.specs.Taken.{steps_by}
+use Rattle.machine_model.specs.Keeping.{Roomy, Kept, IsLeftBehind}
+use Rattle.machine_model.specs.Joined.{KeptBefore}
 use Rattle.machine_model.proofs.Ending.{each_ends}
 use Rattle.native_steps.specs.Mirrors.{IsHost, shown}
-use Rattle.wedge_core.specs.Promises.{HasMemory, Promise, HasFills, WedgeAnswers, with_patches}
+use Rattle.wedge_core.specs.Promises.{HasMemory, Promise, HasFills, HasOwnFills, HasGuest, IsEnd, WedgeAnswers, with_patches}
 use Rattle.run_trace.specs.Pauses.{end_of, IfReached}
 use Rattle.wedge_core.specs.Slices.{Counts, PausesAs, SliceAs}
-use Rattle.wedge_step.specs.Standing.{IsHeld, ground}
+use Rattle.wedge_step.specs.Standing.{IsHeld, ground, state_of}
 use Rattle.wedge_step.specs.Filled.{FillsOn}
 use Rattle.wedge_step.specs.declared.running.Running.{Running}
 use Rattle.wedge_step.proofs.Memories.{text_within, part_front}
@@ -59,6 +61,23 @@ front_held Reached image script frames g pool memory h =
     front_is (wedge image script frames) memory (record { room = h.host.room; text = h.host.text }) (omega (arith, room, within))
 front_held (Stopped stop) image script frames g pool memory h = tt
 
+-- and so the guest stands there
+abbrev pub Standing : Setting → State → ℕ → List ℕ → Type 0
+Standing m new filled memory =
+    (g : Running Roots) × (pool : Pool) × IsHeld roots.stands roots.frames roots.slots (ground m.image m.frames) g pool memory
+    × (state_of roots.stands roots.frames roots.slots m g memory ≡ new) × (g.fills ≡ filled)
+
+pub guest_held : (pause : Pause) (image : Image) (script : Events) (frames : ℕ) (g : Running Roots) (pool : Pool) (memory : List ℕ)
+    → IfReached (Ok pause) (IsHeld roots.stands roots.frames roots.slots (ground image frames) g pool memory)
+    → IfReached (Ok pause) (Standing (wedge image script frames) (state_of roots.stands roots.frames roots.slots (wedge image script frames) g memory) g.fills memory)
+guest_held Reached image script frames g pool memory h = (g, pool, h, refl, refl)
+guest_held (Stopped stop) image script frames g pool memory h = tt
+
+guest_by : (m : Setting) (n : ℕ) (last new : State) (end : Set) (pause : Pause) (filled : ℕ) (memory : List ℕ) → PausesAs m n last new end (Ok pause) → IfReached (Ok pause) (Standing m new filled memory)
+    → HasGuest m last (end_of pause) end filled memory
+guest_by m n last new end Reached filled memory h s = (s.0, s.1, s.2, s.3 ∙ h.1, s.4)
+guest_by m n last new end (Stopped stop) filled memory h s = tt
+
 pub text_is : (reports : List Report) (count : ℕ) (end : End) → lines_of (trace_of reports) ++ end_line count end ≡ text_of (trace_of reports) count end
 unfolding text_of
 text_is reports count end = refl
@@ -77,11 +96,18 @@ pub memory_by : (m : Setting) (n : ℕ) (last new : State) (end : Set) (pause : 
 memory_by m n last new end Reached memory has h = has ∙ ap (λ (b : State). with_patches m.image b.ram) h.1
 memory_by m n last new end (Stopped stop) memory has h = tt
 
+-- the set by which a slice stops is among those of the run
+pub kept_by : KeptBefore → (m : Setting) (n : ℕ) (old last new : State) (sets : List Set) (end : Set) (pause : Pause) (h : PausesAs m n last new end (Ok pause)) → Kept m old (sets ++ end ∷ [])
+    → Kept m old (sets ++ stopping m n last (end_of pause) (ends_by m n last new end pause h))
+unfolding ends_by
+kept_by law m n old last new sets end Reached h k = subst (Kept m old) (sym (append-nil sets)) (law m old sets (end ∷ []) k)
+kept_by law m n old last new sets end (Stopped stop) h k = k
+
 -- the slice that ended is a run
-abbrev pub promised : (m : Setting) (n pool : ℕ) (old new : State) (before after : Counts) (told tells : Option (List ℕ)) (pages fills filled : ℕ) (wanted : Bool) (notes_on : List Note → Type 0) (begins : Type 0) (pause : Pause) (memory : List ℕ)
+abbrev pub promised : KeptBefore → (m : Setting) (n pool : ℕ) (old new : State) (before after : Counts) (told tells : Option (List ℕ)) (pages fills filled : ℕ) (wanted : Bool) (notes_on : List Note → Type 0) (begins : Type 0) (pause : Pause) (memory : List ℕ)
     → old ≡ boot m → (pool ≡ 512 → begins) → IfReached (Ok pause) (take (4096 * m.frames) memory ≡ with_patches m.image new.ram) → (h : SliceAs m n old new before after told tells pages fills filled wanted notes_on begins (Ok pause))
     → Promise m n pool (lines_of (trace_of h.reports) ++ end_line new.step (end_of pause)) new.step (end_of pause) before after memory
-promised m n pool old new before after told tells pages fills filled wanted notes_on begins pause memory is from has h = record {
+promised law m n pool old new before after told tells pages fills filled wanted notes_on begins pause memory is from has h = record {
   sets = h.sets;
   reports = h.reports;
   last = h.last;
@@ -90,8 +116,17 @@ promised m n pool old new before after told tells pages fills filled wanted note
   text_is = text_is h.reports new.step (end_of pause);
   counts = h.counts;
   memory_is = memory_by m n h.last new h.end pause memory has h.ends;
-  kept = λ all. subst (λ (b : State). Kept m b h.sets) is (h.kept (from all));
+  kept = λ all. subst (λ (b : State). Kept m b (h.sets ++ stopping m n h.last (end_of pause) (ends_by m n h.last new h.end pause h.ends))) is
+      (kept_by law m n old h.last new h.sets h.end pause h.ends (h.kept (from all)));
 }
+
+-- the set at its end
+end_is : (m : Setting) (n pool : ℕ) (old last new : State) (sets : List Set) (end : Set) (begins : Type 0) (pause : Pause) (h : PausesAs m n last new end (Ok pause)) → old ≡ boot m → (pool ≡ 512 → begins)
+    → (begins → IfReached (Ok pause) (Roomy (steps_by m old sets) → IsLeftBehind m (steps_by m old sets) last end)) → IsEnd m n pool sets last (end_of pause) (ends_by m n last new end pause h) end
+unfolding ends_by
+end_is m n pool old last new sets end begins Reached h is from left =
+    λ all. subst (λ (b : State). Roomy (steps_by m b sets) → IsLeftBehind m (steps_by m b sets) last end) is (left (from all))
+end_is m n pool old last new sets end begins (Stopped stop) h is from left = refl
 
 -- a slice that pauses could go on
 allowed_by : (m : Setting) (n : ℕ) (last new : State) (end : Set) (pause : Pause) → PausesAs m n last new end (Ok pause) → Loosened m last end
@@ -109,35 +144,47 @@ has_fills m n old new before after told tells pages fills filled wanted notes_on
   few = (let same = count_by m n h.last new h.end pause h.ends in omega (arith, few, same));
 }
 
+pub has_own : (m : Setting) (n pool : ℕ) (old new : State) (before after : Counts) (told tells : Option (List ℕ)) (pages fills filled : ℕ) (wanted : Bool) (notes_on : List Note → Type 0) (begins : Type 0) (pause : Pause)
+    → old ≡ boot m → (pool ≡ 512 → begins) → pages ≡ 0 → fills ≡ 0 → filled ≤ 128 * new.step → (h : SliceAs m n old new before after told tells pages fills filled wanted notes_on begins (Ok pause))
+    → HasOwnFills m n pool h.sets h.last (end_of pause) (ends_by m n h.last new h.end pause h.ends) filled
+unfolding has_fills
+has_own m n pool old new before after told tells pages fills filled wanted notes_on begins pause is from first none few h = record {
+  filled = has_fills m n old new before after told tells pages fills filled wanted notes_on begins pause first none few h;
+  own = end_is m n pool old h.last new h.sets h.end begins pause h.ends is from h.left;
+}
+
 pub given_by : (m : Setting) (n pool : ℕ) (text : List ℕ) (count : ℕ) (end : End) (before after : Counts) (memory : List ℕ) → Promise m n pool text count end before after memory → CanGive m n text count end
 given_by m n pool text count end before after memory p = record { sets = p.sets; reports = p.reports; last = p.last; run = p.run; count_is = p.count_is; text_is = p.text_is }
 
 -- all lines and the last one were put
-pub whole_put : (image : Image) (script : Events) (frames n pool : ℕ) (old new : State) (counts counts_after : Counts) (a b c : Option (List ℕ)) (pages fills filled : ℕ) (wanted : Bool) (notes_on : List Note → Type 0) (begins : Type 0) (pause : Pause) (before mid now : ℕ) (memory : List ℕ)
+pub whole_put : KeptBefore → (image : Image) (script : Events) (frames n pool : ℕ) (old new : State) (counts counts_after : Counts) (a b c : Option (List ℕ)) (pages fills filled : ℕ) (wanted : Bool) (notes_on : List Note → Type 0) (begins : Type 0) (pause : Pause) (before mid now : ℕ) (memory : List ℕ)
     → need image ≤ frames → old ≡ boot (wedge image script frames) → (pool ≡ 512 → begins) → pages ≡ 0 → fills ≡ 0 → filled ≤ 128 * new.step → IfReached (Ok pause) (take (4096 * frames) memory ≡ with_patches image new.ram)
+    → IfReached (Ok pause) (Standing (wedge image script frames) new filled memory)
     → (h : SliceAs (wedge image script frames) n old new counts counts_after a b pages fills filled wanted notes_on begins (Ok pause)) → Appends b c (end_line new.step (end_of pause)) → before ≤ mid → mid ≤ now
     → WedgeAnswers image script frames n pool a c before now counts counts_after memory (Ok (record { steps = new.step; end = end_of pause; fills = filled }))
-whole_put image script frames n pool old new counts counts_after a b c pages fills filled wanted notes_on begins pause before mid now memory fits is from first none few has h put le more = (
+unfolding has_own has_fills
+whole_put law image script frames n pool old new counts counts_after a b c pages fills filled wanted notes_on begins pause before mid now memory fits is from first none few has stands h put le more = (
   lines_of (trace_of h.reports) ++ end_line new.step (end_of pause),
-  promised (wedge image script frames) n pool old new counts counts_after a b pages fills filled wanted notes_on begins pause memory is from has h,
+  promised law (wedge image script frames) n pool old new counts counts_after a b pages fills filled wanted notes_on begins pause memory is from has h,
   fits,
-  has_fills (wedge image script frames) n old new counts counts_after a b pages fills filled wanted notes_on begins pause first none few h,
+  has_own (wedge image script frames) n pool old new counts counts_after a b pages fills filled wanted notes_on begins pause is from first none few h,
   put_both a b c _ _ h.text put,
   omega (arith, le, more),
+  guest_by (wedge image script frames) n h.last new h.end pause filled memory h.ends stands,
 )
 
 -- all lines and a front of the last one
-pub whole_unput : (image : Image) (script : Events) (frames n pool : ℕ) (old new : State) (counts counts_after : Counts) (a b c : Option (List ℕ)) (pages fills filled : ℕ) (wanted : Bool) (notes_on : List Note → Type 0) (begins : Type 0) (pause : Pause) (before mid now : ℕ) (memory : List ℕ)
+pub whole_unput : KeptBefore → (image : Image) (script : Events) (frames n pool : ℕ) (old new : State) (counts counts_after : Counts) (a b c : Option (List ℕ)) (pages fills filled : ℕ) (wanted : Bool) (notes_on : List Note → Type 0) (begins : Type 0) (pause : Pause) (before mid now : ℕ) (memory : List ℕ)
     → need image ≤ frames → old ≡ boot (wedge image script frames) → IfReached (Ok pause) (take (4096 * frames) memory ≡ with_patches image new.ram)
     → (h : SliceAs (wedge image script frames) n old new counts counts_after a b pages fills filled wanted notes_on begins (Ok pause)) → AppendsFront b c (end_line new.step (end_of pause)) → before ≤ mid → Rose mid now
     → WedgeAnswers image script frames n pool a c before now counts counts_after memory (Err fault.Write)
-whole_unput image script frames n pool old new counts counts_after a b c pages fills filled wanted notes_on begins pause before mid now memory fits is has h put le rose =
+whole_unput law image script frames n pool old new counts counts_after a b c pages fills filled wanted notes_on begins pause before mid now memory fits is has h put le rose =
     let text = lines_of (trace_of h.reports) ++ end_line new.step (end_of pause) in (
       text,
       new.step,
       end_of pause,
       fits,
-      given_by (wedge image script frames) n 0 text new.step (end_of pause) counts counts_after memory (promised (wedge image script frames) n 0 old new counts counts_after a b pages fills filled wanted notes_on begins pause memory is (λ none. absurd (omega (arith, none))) has h),
+      given_by (wedge image script frames) n 0 text new.step (end_of pause) counts counts_after memory (promised law (wedge image script frames) n 0 old new counts counts_after a b pages fills filled wanted notes_on begins pause memory is (λ none. absurd (omega (arith, none))) has h),
       put_front a b c (lines_of (trace_of h.reports)) (end_line new.step (end_of pause)) [] _ h.text put (ap (λ (l : List ℕ). lines_of (trace_of h.reports) ++ l) (sym (append-nil (end_line new.step (end_of pause))))),
       omega (arith, le, rose),
     )

@@ -3,6 +3,7 @@ use Rattle.std.specs.Prelude.{◌≡◌, ℕ, ◌*◌, ◌≤◌, ◌<◌, List,
 use Rattle.std.specs.FinMap.{len}
 use Rattle.std.specs.List.{All}
 use Rattle.guest_ram.specs.Bytes.{with_part}
+use Rattle.frame_pool.specs.declared.Pool.{Pool}
 use Rattle.pv_io.specs.Causes.{Rose}
 use Rattle.pv_io.specs.Sink.{Appends, AppendsFront}
 use Rattle.sites.specs.Patched.{patched}
@@ -17,8 +18,13 @@ use Rattle.run_trace.specs.declared.items.Ended.{Ended}
 use Rattle.run_trace.specs.Text.{text_of}
 use Rattle.machine_model.specs.State.{Setting, State, Loosened, boot, wedge}
 use Rattle.machine_model.specs.Step.{Report}
-use Rattle.machine_model.specs.Run.{Set, Run, CanGive, trace_of}
-use Rattle.machine_model.specs.Keeping.{Kept}
+use Rattle.machine_model.specs.Run.{Set, Run, EndsIn, CanGive, stopping, trace_of, with_set}
+use Rattle.machine_model.specs.Taken.{steps_by}
+use Rattle.machine_model.specs.Keeping.{Roomy, Kept, IsLeftBehind}
+use Rattle.shadow_cache.specs.Views as roots
+use Rattle.shadow_cache.specs.declared.roots.Roots.{Roots}
+use Rattle.wedge_step.specs.Standing.{IsHeld, ground, state_of}
+use Rattle.wedge_step.specs.declared.running.Running.{Running}
 use Rattle.wedge_core.specs.Slices.{Counts, CountsOn}
 
 -- the guest's memory as the host has it: with the patched text in the text's place
@@ -31,7 +37,7 @@ HasMemory m last (Stopped stop) memory = Unit {0}
 
 -- One run from the start has this text, count of steps and end. The host completed exactly its direct instructions, and
 -- where it has done all its steps, its memory is the host's first frames with the text patched. With a pool of 512 frames its
--- sets keep the rule for kept translations.
+-- sets keep the rule for kept translations, that by which it stops among them.
 pub record Promise (m : Setting) (n pool : ℕ) (text : List ℕ) (count : ℕ) (end : End) (before after : Counts) (memory : List ℕ) : Type 0 where
   pub sets : List Set
   pub reports : List Report
@@ -41,7 +47,7 @@ pub record Promise (m : Setting) (n pool : ℕ) (text : List ℕ) (count : ℕ) 
   pub text_is : text ≡ text_of (trace_of reports) count end
   pub counts : CountsOn m reports before after
   pub memory_is : HasMemory m last end memory
-  pub kept : pool ≡ 512 → Kept m (boot m) sets
+  pub kept : pool ≡ 512 → Kept m (boot m) (sets ++ stopping m n last end run.ends)
 
 -- How many pages were filled in a run from the start. Each of its sets, and the one with which it could go on, has no more
 -- pages than were filled. A step fills at most 128, so that none were filled where no step was done.
@@ -50,6 +56,25 @@ pub record HasFills (m : Setting) (sets : List Set) (last : State) (fills : ℕ)
   pub allowed : Loosened m last end
   pub enough : All (λ (set : Set). len set ≤ fills) (sets ++ end ∷ [])
   pub few : fills ≤ 128 * last.step
+
+-- The set at the end of a run from the start: that by which it stops, or behind its last step the guest's own, which with a
+-- pool of 512 frames is what the rule for kept translations lets be left.
+abbrev pub IsEnd : (m : Setting) (n pool : ℕ) (sets : List Set) (last : State) (end : End) → EndsIn m n last end → Set → Type 0
+IsEnd m n pool sets last Bound ends set = pool ≡ 512 → Roomy (steps_by m (boot m) sets) → IsLeftBehind m (steps_by m (boot m) sets) last set
+IsEnd m n pool sets last (Stopped stop) ends set = set ≡ ends.1.set
+
+-- how many pages were filled, beside the set at the end
+pub record HasOwnFills (m : Setting) (n pool : ℕ) (sets : List Set) (last : State) (end : End) (ends : EndsIn m n last end) (fills : ℕ) : Type 0 where
+  pub filled : HasFills m sets last fills
+  pub own : IsEnd m n pool sets last end ends filled.end
+
+-- Where all steps were done, a guest stands over the host's memory in the last state, keeps this set, and has filled so many
+-- pages.
+abbrev pub HasGuest : Setting → State → End → Set → ℕ → List ℕ → Type 0
+HasGuest m last Bound set fills memory =
+    (g : Running Roots) × (pool : Pool) × IsHeld roots.stands roots.frames roots.slots (ground m.image m.frames) g pool memory
+    × (state_of roots.stands roots.frames roots.slots m g memory ≡ with_set last set) × (g.fills ≡ fills)
+HasGuest m last (Stopped stop) set fills memory = Unit {0}
 
 -- what stands after a refusal
 abbrev pub RefusedWedge : Image → Events → ℕ → ℕ → Option (List ℕ) → Option (List ℕ) → ℕ → ℕ → Counts → Counts → RunFault → Type 0
@@ -65,5 +90,6 @@ RefusedWedge image script frames n old new before now counts_before counts_after
 -- what stands after a run: the sink's bytes and faults, and the host's counts and memory
 abbrev pub WedgeAnswers : Image → Events → ℕ → ℕ → ℕ → Option (List ℕ) → Option (List ℕ) → ℕ → ℕ → Counts → Counts → List ℕ → Result Ended RunFault → Type 0
 WedgeAnswers image script frames n pool old new before now counts_before counts_after memory (Ok ended) =
-    (text : List ℕ) × (run : Promise (wedge image script frames) n pool text ended.steps ended.end counts_before counts_after memory) × (need image ≤ frames) × HasFills (wedge image script frames) run.sets run.last ended.fills × Appends old new text × (before ≤ now)
+    (text : List ℕ) × (run : Promise (wedge image script frames) n pool text ended.steps ended.end counts_before counts_after memory) × (need image ≤ frames) × (own : HasOwnFills (wedge image script frames) n pool run.sets run.last ended.end run.run.ends ended.fills) × Appends old new text × (before ≤ now)
+    × HasGuest (wedge image script frames) run.last ended.end own.filled.end ended.fills memory
 WedgeAnswers image script frames n pool old new before now counts_before counts_after memory (Err fault) = RefusedWedge image script frames n old new before now counts_before counts_after fault

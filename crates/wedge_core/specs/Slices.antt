@@ -10,11 +10,12 @@ use Rattle.run_trace.specs.Text.{lines_of}
 use Rattle.machine_model.specs.State.{Setting, State, Loosened}
 use Rattle.machine_model.specs.Step.{Report, Halts, step_of}
 use Rattle.machine_model.specs.Run.{Set, Steps, trace_of, with_set}
+use Rattle.machine_model.specs.Taken.{steps_by}
 use Rattle.machine_model.specs.Counts.{direct_count, passed_digest}
-use Rattle.machine_model.specs.Keeping.{Kept}
+use Rattle.machine_model.specs.Keeping.{Roomy, Kept, IsLeftBehind}
 use Rattle.wedge_step.specs.Filled.{FillsOn}
 use Rattle.wedge_core.specs.Noted.{IsNoted}
-use Rattle.run_trace.specs.Pauses.{PutsAs}
+use Rattle.run_trace.specs.Pauses.{IfReached, PutsAs}
 
 -- The host's count of completed instructions, and its digest of their addresses.
 pub record Counts : Type 0 where
@@ -37,7 +38,8 @@ PausesAs m bound last new end (Err failed) = last.step ≤ bound
 -- was seen in them were put, and the host completed their direct instructions. Where notes are wanted, they go by what is
 -- left of translations, but for those that these notes tell to be dropped. Each of their sets, and the one behind them, has
 -- no more pages than were kept at first and were filled since. Where the slice begins so, the sets keep the rule for kept
--- translations.
+-- translations, and so does the one behind them: the next step stops by it, or a run may go on with it. Where all steps were
+-- done that is what the rule lets be left behind them.
 pub record SliceAs (m : Setting) (bound : ℕ) (old new : State) (before after : Counts) (told tells : Option (List ℕ)) (pages fills filled : ℕ) (wanted : Bool) (notes_on : List Note → Type 0) (begins : Type 0) (result : Result Pause Failed) : Type 0 where
   pub sets : List Set
   pub reports : List Report
@@ -51,7 +53,8 @@ pub record SliceAs (m : Setting) (bound : ℕ) (old new : State) (before after :
   pub noted : wanted ≡ true → IsNoted m old new sets last notes result
   pub tells_notes : notes_on notes
   pub each_filled : All (λ (set : Set). FillsOn pages (len set) fills filled) (sets ++ end ∷ [])
-  pub kept : begins → Kept m old sets
+  pub kept : begins → Kept m old (sets ++ end ∷ [])
+  pub left : begins → IfReached result (Roomy (steps_by m old sets) → IsLeftBehind m (steps_by m old sets) last end)
 
 -- A slice begins with nothing kept, two frames held and all others of 512 free, and no notes are wanted.
 pub record BeginsEmpty (set : Set) (free held : ℕ) (wanted : Bool) : Type 0 where

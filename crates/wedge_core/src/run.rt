@@ -18,6 +18,7 @@ use frame_pool::Pool;
 use host_cpl3::Host;
 use image_check::Checked;
 use image_load::{RunFault, StartFault};
+use machine_model::kept_on;
 use pv_io::Sink;
 use run_trace::{End, Ended, NoNotes, Pause, end_of, put_end};
 use std::alloc::Global;
@@ -78,6 +79,7 @@ fn whole<H: Host, O: Sink>(
     ensures whole { WedgeAnswers image.now script.now.list guest.old.running.frames n (length (free_list pool.old (H.bytes host.old)) + guest.old.running.held) (O.taken out.old) (O.taken out.new) (O.faults out.old) (O.faults out.new)
         (record { retired = H.retired host.old; passed = H.passed host.old }) (record { retired = H.retired host.new; passed = H.passed host.new }) (H.bytes host.new) result }
 {
+    kept_on();
     let pause = match guest.slice(image, script, n, pool, host, out, &mut NoNotes) {
         Err(_) => return Err(RunFault::Write),
         Ok(pause) => pause,

@@ -76,8 +76,8 @@ pub fn steps_to<S: Reloads + Drop, H: Host, O: Sink, L: Notes>(
     ensures cause { OnErr result (Rose (O.faults out.old) (O.faults out.new)) }
 {
     let wanted = notes.wanted();
+    carry_laws();
     while running.step < bound {
-        carry_laws();
         running.board.begin(script, running.step);
         if stretch(running, host, image, script, bound) > 0 {
             continue;

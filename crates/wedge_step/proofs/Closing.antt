@@ -48,6 +48,11 @@ settled_few set visited changes free (Some n) count enough =
     let long = pages_long visited changes in
     omega (arith, is, few, long, enough)
 
+pub settled_exact : (set : Set) (pages : List ℕ) (free : ℕ) (result : Option ℕ) → MatchOption result (free < length (used set pages)) (λ n. (n ≡ length (used set pages)) × (length (used set pages) ≤ free))
+    → IfSome result (λ n. n ≡ length (used set pages))
+settled_exact set pages free None count = tt
+settled_exact set pages free (Some n) count = count.0
+
 pub settled_filled : (old new : Set) (visited : List ℕ) (changes : List Change) (free : ℕ) (result : Option ℕ)
     → MatchOption result (free < length (used (changed old changes) (pages_of visited changes))) (λ n. (n ≡ length (used (changed old changes) (pages_of visited changes))) × (length (used (changed old changes) (pages_of visited changes)) ≤ free))
     → MatchOption result (new ≡ empty) (λ n. new ≡ changed old changes) → IfSome result (λ n. len new ≤ len old + n)

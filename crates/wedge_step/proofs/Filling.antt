@@ -20,7 +20,7 @@ use Rattle.step_mem.specs.declared.changes.Change.{Change}
 use Rattle.step_mem.proofs.Changed.{get_with_other}
 use Rattle.wedge_mem.specs.Settled.{used, has_entry, pages_of}
 use Rattle.machine_model.specs.Run.{Set}
-use Rattle.wedge_step.specs.Filled.{FillsOn}
+use Rattle.wedge_step.specs.Filled.{FillsOn, fills_of}
 use Rattle.wedge_step.specs.Parts.{IsPartOf}
 use Rattle.std.proofs.lemmas.Bool.{cases_Bool}
 
@@ -161,3 +161,8 @@ fills_within pages few new before after le f = let e = f.enough in record { rise
 -- none are kept
 pub empty_few : (set : Set) → set ≡ empty → len set ≡ 0
 empty_few set is = ap (λ (s : Set). len s) is ∙ len-empty nat_cmp Entry
+
+-- where nothing was dropped behind a step, all that it used was filled
+pub fills_unlost : (old new : ℕ) (set : Set) (pages : List ℕ) (kept left : Bool) → (kept || left) ≡ false → new ≡ old + fills_of kept set pages → new ≡ old + fills_of false set pages
+fills_unlost old new set pages true left unlost is = absurd (let f : true ≡ false = unlost in cc)
+fills_unlost old new set pages false left unlost is = is

@@ -14,7 +14,7 @@ ghost use Rattle.ia32_decode.specs.Decoding.{decoded};
 ghost use Rattle.ia32_exec.specs.Effect.{ranges_of};
 ghost use Rattle.ia32_exec.specs.Short.{IsShort};
 ghost use Rattle.paging.specs.Space.{Space};
-ghost use Rattle.machine_model.specs.Clash.{clash_in, instruction_clashes, is_refused_by, uses_of};
+ghost use Rattle.machine_model.specs.Clash.{clash_in, instruction_clashes, is_refused_by, ranges_used, uses_of};
 ghost use Rattle.machine_model.specs.Instruction.{fetched};
 ghost use Rattle.machine_model.specs.State.{State, space_at_start, wedge};
 ghost use Rattle.native_steps.specs.Looking.{marked, next_seen, uses_from, uses_on, uses_seen};
@@ -73,13 +73,16 @@ fn add_range(uses: &mut Uses, range: Option<Range>, write: bool)
     }
 }
 
-/// Adds the uses of an instruction's ranges.
+/// Adds the uses of an instruction's ranges. Where a null segment denies one it uses neither.
 fn add_ranges(uses: &mut Uses, insn: &Insn, cpu: &Cpu)
     requires room { length uses.old.items ≤ 2 }
-    ensures uses { (user : Bool) → model_uses user uses.new.items ≡ model_uses user uses.old.items ++ (uses_of (record { write = false; user = user }) (ranges_of insn.now cpu.now.regs).read ++ uses_of (record { write = true; user = user }) (ranges_of insn.now cpu.now.regs).write) }
+    ensures uses { model_uses (cpu.now.cpl == 3) uses.new.items ≡ model_uses (cpu.now.cpl == 3) uses.old.items ++ ranges_used cpu.now (ranges_of insn.now cpu.now.regs) }
     ensures few { length uses.new.items ≤ 6 }
 {
     let ranges = ranges(insn, &cpu.regs);
+    if step_exec::is_refused(cpu, &ranges) {
+        return;
+    }
     add_range(uses, ranges.read, false);
     add_range(uses, ranges.write, true);
 }

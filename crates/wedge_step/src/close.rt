@@ -17,7 +17,7 @@ ghost use Rattle.step_mem.specs.Sound.{IsSound};
 ghost use Rattle.machine_step.specs.Worked.{dropping, IsDropped};
 ghost use Rattle.machine_model.specs.State.{Setting};
 ghost use Rattle.native_steps.specs.Mirrors.{shown};
-ghost use Rattle.wedge_mem.specs.Settled.{pages_of};
+ghost use Rattle.wedge_mem.specs.Settled.{pages_of, used};
 ghost use Rattle.wedge_step.specs.Closed.{MayClose, Closes};
 ghost use Rattle.wedge_step.specs.Parts.{left_of};
 ghost use Rattle.wedge_step.specs.Filled.{pages_kept};
@@ -57,6 +57,7 @@ pub fn close<S: Shadows>(
         → (is_none result ≡ false) × Closes (S.slots shadows.old ram.old) (S.slots shadows.new ram.new) (changed (entries_of (S.slots shadows.old ram.old)) state.now.changes) (pages_of state.now.visited state.now.changes) side state.now.control.wp (S.tracked shadows.new) state.now.wrote }
     ensures opens { (image : Image) (wp : Bool) → AllOpen image wp (S.asides shadows.old ram.old) → AllOpen image wp (S.asides shadows.new ram.new) }
     ensures few { IfSome result (λ n. n ≤ 128) }
+    ensures exact { IfSome result (λ n. n ≡ length (used (changed (entries_of (S.slots shadows.old ram.old)) state.now.changes) (pages_of state.now.visited state.now.changes))) }
     ensures fewer { is_none result ≡ true → pages_kept S.slots S.asides shadows.new ram.new ≡ 0 }
     ensures filled { IfSome result (λ n. pages_kept S.slots S.asides shadows.new ram.new ≤ pages_kept S.slots S.asides shadows.old ram.old + n) }
     ensures told { is_none result ≡ false → Tells state.now.tables state.now.wrote (S.noted shadows.old) (S.noted shadows.new) (S.marked shadows.old) (S.marked shadows.new) (S.asides shadows.old ram.old) (S.asides shadows.new ram.new) }

@@ -18,7 +18,7 @@ ghost use Rattle.descriptors.specs.declared.cpu.Cpu.{Cpu};
 ghost use Rattle.descriptors.specs.Controls.{wp_of};
 ghost use Rattle.wedge_mem.specs.Settled.{pages_of};
 ghost use Rattle.wedge_step.specs.Closed.{MayClose, Closes};
-ghost use Rattle.wedge_step.specs.Filled.{FillsOn, pages_kept};
+ghost use Rattle.wedge_step.specs.Filled.{FillsOn, fills_of, pages_kept};
 ghost use Rattle.wedge_step.specs.Parts.{left_of};
 ghost use Rattle.wedge_step.specs.Pools.{Keeps};
 ghost use Rattle.wedge_step.specs.Ready.{IsReady, IsReadyBut, IsReadyBehind, AreFound, AllOpen, leaving};
@@ -178,6 +178,7 @@ pub fn keep<S: Shadows + Drop>(
     ensures opened { (indices : ℕ → Bool) → ((page : ℕ) → is_among page (pages_of state.now.visited state.now.changes) ≡ true → indices (page / 1024) ≡ true) → S.opened running.old.shadows ram.old indices → S.opened running.new.shadows ram.new indices }
     ensures counted { running.new.held ≡ length (S.frames running.new.shadows ram.new) }
     ensures fills { running.new.fills ≤ running.old.fills + 128 }
+    ensures exact { running.new.fills ≡ running.old.fills + fills_of running.new.lost.after (changed (entries_of (S.slots running.old.shadows ram.old)) state.now.changes) (pages_of state.now.visited state.now.changes) }
     ensures filled { FillsOn (pages_kept S.slots S.asides running.old.shadows ram.old) (pages_kept S.slots S.asides running.new.shadows ram.new) running.old.fills running.new.fills }
     ensures same { running.new ≡ record running.old { shadows = running.new.shadows; held = running.new.held; fills = running.new.fills; lost = running.new.lost } }
 {
@@ -233,6 +234,7 @@ pub fn go<S: Reloads + Drop>(
     ensures shows { (image : Image) → count ≡ text_pages image → AreOpen image state.now.control.wp (S.slots running.old.shadows ram.old) → AllOpen image state.now.control.wp (S.asides running.old.shadows ram.old) → AreOpen image (wp_of worked.now.cpu) (S.slots running.new.shadows ram.new) }
     ensures counted { running.new.held ≡ length (S.frames running.new.shadows ram.new) }
     ensures fills { running.new.fills ≤ 128 * running.new.step }
+    ensures exact { running.new.lost.after ≡ false → running.new.fills ≡ running.old.fills + fills_of false (changed (entries_of (S.slots running.old.shadows ram.old)) state.now.changes) (pages_of state.now.visited state.now.changes) }
     ensures filled { FillsOn (pages_kept S.slots S.asides running.old.shadows ram.old) (pages_kept S.slots S.asides running.new.shadows ram.new) running.old.fills running.new.fills }
     ensures cpu { running.new.cpu ≡ worked.now.cpu }
     ensures board { running.new.board ≡ board_step running.old.board }

@@ -26,9 +26,9 @@ use Rattle.wedge_core.specs.Slices.{Counts, SliceAs}
 use Rattle.wedge_step.specs.Ready.{IsReady}
 use Rattle.wedge_step.specs.Standing.{IsHeld, IsAble, ground, state_of}
 use Rattle.wedge_core.specs.Stepping.{Passes, StepAs}
-use Rattle.wedge_core.proofs.CarriedOver.{CarriedWith, with_kept, carries_past, carried_there, room_at, whole_then, step_carries}
+use Rattle.wedge_core.proofs.CarriedOver.{CarriedWith, with_kept, carries_past, carried_there, room_at, whole_then, drop_clashes, step_carries}
 use Rattle.wedge_core.proofs.Passed.{CarriesPast}
-use Rattle.wedge_core.proofs.Going.{StepCarries, going_none, going_past, going_turned, going_on, stepped_put, reached, stopped, failed, counted, counts_same, turned, notes_on_more, notes_on_none}
+use Rattle.wedge_core.proofs.Going.{DropClashes, StepCarries, going_none, going_past, going_turned, going_on, stepped_put, reached, stopped, failed, counted, counts_same, turned, notes_on_more, notes_on_none}
 use Rattle.wedge_step.specs.Filled.{FillsOn, pages_kept}
 use Rattle.wedge_step.proofs.Filling.{fills_same, fills_join, fills_within}
 use Rattle.wedge_step.proofs.Keeping.{keeps_same, keeps_join}
@@ -200,8 +200,18 @@ returns-in-Err-clause-slice g c =
     (subst (λ (w : Bool). NotesOn w before after (emptied_if new.lost.before mid.step)) inv.wants c.tell.ensures.told) in
     let rises : r.fills ≤ new.fills = (let e0 = c.stretch.ensures.filled in let e1 = c.in-Err.ensures.filled in let r0 = e0.rises in let r1 = e1.rises in omega (arith, r0, r1)) in
     let begins = Begun g c.args.image.now c.args.script.now.list c.args.running.now.frames c.args.running.now (g.H.Host.bytes c.args.host.now) c.args.pool.now (g.L.Notes.wants c.args.notes.now) in
+    let laws = c.carry_laws.ensures in
+    let held_mid = held_at g.S.Shadows.stands g.S.Shadows.frames g.S.Shadows.slots c.args.image.now r.frames f mid c.loop-running.pool then_memory inv.frames (c.stretch.ensures.held c.loop-running.pool (held_given g.S.Shadows.stands g.S.Shadows.frames g.S.Shadows.slots c.args.image.now c.args.running.now.frames c.loop-running.running.frames c.loop-running.running c.begin.new.self c.loop-running.pool (g.H.Host.bytes c.loop-running.host) c.loop-running.invariant.frames c.loop-running.invariant.held)) in
+    let keeps_mid = keeps_join c.args.pool.now c.loop-running.pool c.loop-running.pool (g.H.Host.bytes c.args.host.now) memory then_memory
+    (g.S.Shadows.frames c.args.running.now.shadows (g.H.Host.bytes c.args.host.now)) (g.S.Shadows.frames r.shadows memory) (g.S.Shadows.frames mid.shadows then_memory)
+    inv.pool (c.stretch.ensures.pool c.loop-running.pool (held_given g.S.Shadows.stands g.S.Shadows.frames g.S.Shadows.slots c.args.image.now c.args.running.now.frames c.loop-running.running.frames c.loop-running.running c.begin.new.self c.loop-running.pool (g.H.Host.bytes c.loop-running.host) c.loop-running.invariant.frames c.loop-running.invariant.held)) in
+    let clash : DropClashes m (at f r memory) new.lost.before begins (Knows g m r memory) =
+    drop_clashes g.S.Shadows.stands g.S.Shadows.frames g.S.Shadows.slots g.S.Shadows.noted g.S.Shadows.marked g.S.Shadows.asides g.S.Shadows.opened (widens g) laws c.args.image.now c.args.script.now.list f r mid new memory then_memory new_memory c.loop-running.pool c.begin.new.self begins c.wanted-wanted.result
+    (c.stretch.ensures.frames ∙ inv.frames) stays c.begin.ensures inv.held held_mid c.stretch.ensures.shadows c.stretch.ensures.apart
+    (λ s. whole_then g.S.Shadows.stands g.S.Shadows.frames g.S.Shadows.slots g.S.Shadows.noted g.S.Shadows.marked g.S.Shadows.asides g.S.Shadows.opened (widens g) laws (ground c.args.image.now f) c.args.running.now mid c.args.pool.now c.loop-running.pool (g.H.Host.bytes c.args.host.now) then_memory c.requires.held held_mid keeps_mid s.1)
+    c.in-Err.ensures.clashed in
     let ends = stopped m c.args.bound old (at f r memory) (at f new new_memory) new.lost c.in-Err.stop counts so_far told tells (pages_kept g.S.Shadows.slots g.S.Shadows.asides c.args.running.now.shadows (g.H.Host.bytes c.args.host.now)) c.args.running.now.fills r.fills new.fills wanted (NotesOn wanted first before) (NotesOn wanted first after)
-    begins (Knows g m r memory) inv.going step c.loop-running-test.true still rises (notes_on_more wanted first before after (emptied_if new.lost.before r.step) told_now) in
+    begins (Knows g m r memory) inv.going step c.loop-running-test.true still rises laws (known_past g laws m r memory) clash (notes_on_more wanted first before after (emptied_if new.lost.before r.step) told_now) in
     subst (λ (x : Counts). SliceAs m c.args.bound old (at f new new_memory) counts x told tells (pages_kept g.S.Shadows.slots g.S.Shadows.asides c.args.running.now.shadows (g.H.Host.bytes c.args.host.now)) c.args.running.now.fills new.fills wanted (NotesOn wanted first after) begins (Ok (Stopped c.in-Err.stop))) (sym unmoved) ends
 
 pub returns-in-Err-clause-wants : goal.returns-in-Err-clause-wants
@@ -278,7 +288,7 @@ returns-in-Err-put_seen-clause-slice g c =
     let s = going_on m old (at f r memory) (at f new new_memory) new.lost c.in-Ok.seen counts so_far new_counts told tells (pages_kept g.S.Shadows.slots g.S.Shadows.asides c.args.running.now.shadows (g.H.Host.bytes c.args.host.now)) c.args.running.now.fills r.fills new.fills wanted (NotesOn wanted first before) (NotesOn wanted first after)
     begins (Knows g m r memory) (Knows g m new new_memory) inv.going step count rises more exact laws (known_past g laws m r memory) over (notes_on_more wanted first before after (notes_then new.lost r.step) told_now) in
     failed m c.args.bound old (at f r memory) (at f new new_memory) c.in-Ok.seen c.in-Err-put_seen.failed counts new_counts told tells last (pages_kept g.S.Shadows.slots g.S.Shadows.asides c.args.running.now.shadows (g.H.Host.bytes c.args.host.now)) c.args.running.now.fills new.fills wanted (NotesOn wanted first after) begins (Knows g m new new_memory) s put
-    (let t = c.loop-running-test.true in omega (arith, count, t))
+    (let t = c.loop-running-test.true in omega (arith, count, t)) laws (known_past g laws m new new_memory)
 
 pub loop-running-preserved : goal.loop-running-preserved
 loop-running-preserved g c =
@@ -383,7 +393,7 @@ returns-clause-slice g c =
     let inv = c.loop-running.invariant in
     reached m c.args.bound old (at f r memory) counts so_far told tells (pages_kept g.S.Shadows.slots g.S.Shadows.asides c.args.running.now.shadows (g.H.Host.bytes c.args.host.now)) c.args.running.now.fills r.fills (g.L.Notes.wants c.args.notes.now) (NotesOn (g.L.Notes.wants c.args.notes.now) (g.L.Notes.tells c.args.notes.now) (g.L.Notes.tells c.loop-running.notes))
     (Begun g c.args.image.now c.args.script.now.list c.args.running.now.frames c.args.running.now (g.H.Host.bytes c.args.host.now) c.args.pool.now (g.L.Notes.wants c.args.notes.now)) (Knows g m r memory) inv.going
-    (let a = inv.bound in let b = c.loop-running-test.false in omega (arith, a, b))
+    (let a = inv.bound in let b = c.loop-running-test.false in omega (arith, a, b)) c.carry_laws.ensures (known_past g c.carry_laws.ensures m r memory)
 
 pub returns-clause-few : goal.returns-clause-few
 returns-clause-few g c = c.loop-running.invariant.held.fills

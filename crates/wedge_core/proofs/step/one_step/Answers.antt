@@ -49,7 +49,7 @@ returns-then-not-may_run-clause-carried g c =
     c.by_rules.ensures.carried
 
 pub returns-then-not-may_run-clause-clashed : goal.returns-then-not-may_run-clause-clashed
-returns-then-not-may_run-clause-clashed g c = if_ok c.by_rules.result (λ dropped. absurd (let f : true ≡ false = sym dropped ∙ c.by_rules.ensures.before in cc))
+returns-then-not-may_run-clause-clashed g c = λ dropped. absurd (let f : true ≡ false = sym dropped ∙ c.by_rules.ensures.before in cc)
 
 pub returns-then-not-may_run-clause-able : goal.returns-then-not-may_run-clause-able
 returns-then-not-may_run-clause-able g c =

@@ -87,7 +87,7 @@ returns-in-Insn g c =
     let b = looked a.cpu.now (shown m a.ram.now) (entries_of (g.S.Shadows.slots a.shadows.now a.ram.now)) in
     let x = seen_of a.first in
     let is = first_bytes b x _ c.read.new.into.items _ c.new-bytes.ensures c.read.ensures c.front_len.ensures.len in
-    by_ranges m b x c.read.new.into.items _ c.as_slice.ensures.value is _ _ _ _ c.in-Insn.ensures.exact c.requires.one (c.add_ranges.ensures.uses (a.cpu.now.cpl == 3))
+    by_ranges m b x c.read.new.into.items _ c.as_slice.ensures.value is _ _ _ _ c.in-Insn.ensures.exact c.requires.one c.add_ranges.ensures.uses
 
 pub returns-in-Outside : goal.returns-in-Outside
 returns-in-Outside g c =

@@ -13,7 +13,7 @@ returns-in-Insn g c =
     let ram = shown (ground a.image.now a.frames) a.ram.now in
     let b = looked a.cpu.now ram (entries_of (g.S.Shadows.slots a.shadows.now a.ram.now)) in
     on_next (next_seen (ground a.image.now a.frames) b (seen_of a.first)) b (marked ram (marks_of a.first.marks)) a.bytes.now.items _ (seen_of c.in-Some.second) a.uses.now.items c.push.new.self.items _ _ _ refl
-    c.requires.one c.push.ensures.items c.in-Some.ensures.seen (c.as_slice.ensures.value ∙ c.read.ensures) c.in-Insn.ensures.exact (c.add_ranges.ensures.uses (a.cpu.now.cpl == 3))
+    c.requires.one c.push.ensures.items c.in-Some.ensures.seen (c.as_slice.ensures.value ∙ c.read.ensures) c.in-Insn.ensures.exact c.add_ranges.ensures.uses
 
 pub returns-in_default-decode : goal.returns-in_default-decode
 returns-in_default-decode g c =

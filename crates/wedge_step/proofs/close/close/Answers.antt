@@ -6,7 +6,7 @@ use Rattle.step_mem.specs.Changes.{changed}
 use Rattle.shadow_tables.specs.Entries.{entries_of}
 use Rattle.wedge_mem.specs.Owned.{first, owns}
 use Rattle.wedge_mem.specs.Settled.{pages_of}
-use Rattle.wedge_step.proofs.Closing.{settled_left, settled_shows, settled_whole, settled_few, settled_filled}
+use Rattle.wedge_step.proofs.Closing.{settled_left, settled_shows, settled_whole, settled_few, settled_exact, settled_filled}
 use Rattle.wedge_step.proofs.Opening.{none_open}
 use Rattle.wedge_step.proofs.Memories.{front_same, shown_same}
 use Rattle.wedge_step.proofs.Readying.{none_ready, none_pages}
@@ -71,6 +71,12 @@ returns-clause-whole g c = λ may.
 
 pub returns-clause-few : goal.returns-clause-few
 returns-clause-few g c = settled_few (set g c) c.args.state.now.visited c.args.state.now.changes (free g c) c.settle.result c.settle.ensures.count (omega (arith, c.requires.sound.noted, c.requires.sound.counted, c.requires.sound.few))
+
+pub returns-clause-exact : goal.returns-clause-exact
+returns-clause-exact g c = settled_exact (set g c) (pages g c) (free g c) c.settle.result c.settle.ensures.count
+
+pub returns-then-not-are_open-clause-exact : goal.returns-then-not-are_open-clause-exact
+returns-then-not-are_open-clause-exact g c = tt
 
 -- what the end of the step makes of what is kept
 module _ (g : Over) (c : goal.After-settle g) where

@@ -10,7 +10,7 @@ use Rattle.wedge_step.specs.Ready.{AreFound, IsReady, IsReadyBut, leaving}
 use Rattle.wedge_step.specs.Standing.{AreOpen}
 use Rattle.wedge_step.specs.declared.running.Running.{Running}
 use Rattle.wedge_step.proofs.Parts.{left_twice}
-use Rattle.wedge_step.proofs.Filling.{fills_join, fills_fewer}
+use Rattle.wedge_step.proofs.Filling.{fills_join, fills_fewer, fills_unlost}
 use Rattle.shadow_tables.specs.Entries.{entries_of}
 use Rattle.step_mem.specs.Changes.{changed}
 use Rattle.wedge_step.specs.Parts.{left_of}
@@ -127,3 +127,6 @@ leave-left-requires-clause-owns g c = c.keep.ensures.owns
 
 pub leave-left-requires-clause-page : goal.leave-left-requires-clause-page
 leave-left-requires-clause-page g c = c.requires.page
+
+pub returns-clause-exact : goal.returns-clause-exact
+returns-clause-exact g c = λ unlost. fills_unlost _ _ _ _ _ c.leave-left.result.none unlost c.keep.ensures.exact

@@ -90,3 +90,9 @@ returns-in-Some-clause-same g c = refl
 
 pub close-settled-requires : goal.close-settled-requires
 close-settled-requires g c = record { sound = c.requires.sound }
+
+pub returns-in-None-clause-exact : goal.returns-in-None-clause-exact
+returns-in-None-clause-exact g c = omega arith
+
+pub returns-in-Some-clause-exact : goal.returns-in-Some-clause-exact
+returns-in-Some-clause-exact g c = let e = c.in-Some.ensures.exact in omega (arith, e)
