@@ -1,0 +1,76 @@
+-- Texts with the tag before each of their lines.
+use Rattle.std.proofs.Common.{◌≡◌, ℕ, suc, ◌+◌, ◌<◌, ◌≤◌, true, false, List, [], ◌∷◌, ◌++◌, length, take, drop, get_or, refl, ap, sym, ◌∙◌, arith, inl, inr, add-one, drop-cons}
+use Rattle.std.proofs.lemmas.List.{drop_all}
+use Rattle.std.proofs.lemmas.Bool.Decides.{eqb_tells}
+use Rattle.std.specs.Prelude.{◌==◌, if◌then◌else◌}
+use Rattle.guest_sched.specs.Tags.{due_behind, tagged_from, due_after, line_len, has_end}
+
+pub line_here : (text : List ℕ) (i other : ℕ) → i < length text → line_len (drop i text) ≡ (if get_or text i other == 10 then 1 else suc (line_len (drop (i + 1) text)))
+line_here text i other within = rw (add-one, drop-cons text i other within) refl
+
+pub end_here : (text : List ℕ) (i other : ℕ) → i < length text → has_end (drop i text) ≡ (if get_or text i other == 10 then true else has_end (drop (i + 1) text))
+end_here text i other within = rw (add-one, drop-cons text i other within) refl
+
+pub line_past : (text : List ℕ) (i : ℕ) → length text ≤ i → line_len (drop i text) ≡ 0
+line_past text i past = rw (drop_all i text past) refl
+
+pub end_past : (text : List ℕ) (i : ℕ) → length text ≤ i → has_end (drop i text) ≡ false
+end_past text i past = rw (drop_all i text past) refl
+
+append_assoc : (xs ys zs : List ℕ) → (xs ++ ys) ++ zs ≡ xs ++ (ys ++ zs)
+append_assoc [] ys zs = refl
+append_assoc (x ∷ xs) ys zs = ap (λ (z : List ℕ). x ∷ z) (append_assoc xs ys zs)
+
+-- one text behind another
+pub tagged_append : (tag due xs ys : List ℕ) → tagged_from tag due (xs ++ ys) ≡ tagged_from tag due xs ++ tagged_from tag (due_after tag due xs) ys
+tagged_append tag due [] ys = refl
+tagged_append tag due (b ∷ xs) ys =
+    ap (λ (z : List ℕ). due ++ b ∷ z) (tagged_append tag (due_behind tag b) xs ys)
+    ∙ sym (append_assoc due (b ∷ tagged_from tag (due_behind tag b) xs) (tagged_from tag (due_after tag (due_behind tag b) xs) ys))
+
+pub due_append : (tag due xs ys : List ℕ) → due_after tag due (xs ++ ys) ≡ due_after tag (due_after tag due xs) ys
+due_append tag due [] ys = refl
+due_append tag due (b ∷ xs) ys = due_append tag (due_behind tag b) xs ys
+
+inside : (tag : List ℕ) (b : ℕ) → (b == 10) ≡ false → due_behind tag b ≡ []
+inside tag b isnt = rw isnt refl
+
+ended : (tag : List ℕ) (b : ℕ) → (b == 10) ≡ true → due_behind tag b ≡ tag
+ended tag b is = rw is refl
+
+-- the rest of a line that is begun
+line_rest : (tag text : List ℕ) → tagged_from tag [] (take (line_len text) text) ≡ take (line_len text) text
+line_rest tag [] = refl
+line_rest tag (b ∷ rest) = elim (eqb_tells b 10) [
+  | inl (is, same) ↦ rw is refl
+  | inr (isnt, other) ↦ rw isnt (ap (λ (z : List ℕ). b ∷ z) (ap (λ (due : List ℕ). tagged_from tag due (take (line_len rest) rest)) (inside tag b isnt) ∙ line_rest tag rest))
+]
+
+-- the first line
+pub line_tagged : (tag due text : List ℕ) → 1 ≤ length text → tagged_from tag due (take (line_len text) text) ≡ due ++ take (line_len text) text
+line_tagged tag due [] some = absurd (omega arith)
+line_tagged tag due (b ∷ rest) some = elim (eqb_tells b 10) [
+  | inl (is, same) ↦ rw is refl
+  | inr (isnt, other) ↦ rw isnt (ap (λ (z : List ℕ). due ++ b ∷ z) (ap (λ (next : List ℕ). tagged_from tag next (take (line_len rest) rest)) (inside tag b isnt) ∙ line_rest tag rest))
+]
+
+due_rest : (tag text : List ℕ) → due_after tag [] (take (line_len text) text) ≡ (if has_end text then tag else [])
+due_rest tag [] = refl
+due_rest tag (b ∷ rest) = elim (eqb_tells b 10) [
+  | inl (is, same) ↦ rw is (ended tag b is)
+  | inr (isnt, other) ↦ rw isnt (ap (λ (next : List ℕ). due_after tag next (take (line_len rest) rest)) (inside tag b isnt) ∙ due_rest tag rest)
+]
+
+pub line_due : (tag due text : List ℕ) → 1 ≤ length text → due_after tag due (take (line_len text) text) ≡ (if has_end text then tag else [])
+line_due tag due [] some = absurd (omega arith)
+line_due tag due (b ∷ rest) some = elim (eqb_tells b 10) [
+  | inl (is, same) ↦ rw is (ended tag b is)
+  | inr (isnt, other) ↦ rw isnt (ap (λ (next : List ℕ). due_after tag next (take (line_len rest) rest)) (inside tag b isnt) ∙ due_rest tag rest)
+]
+
+pub line_some : (text : List ℕ) → 1 ≤ length text → 1 ≤ line_len text
+line_some [] some = some
+line_some (b ∷ rest) some = elim (eqb_tells b 10) [
+  | inl (is, same) ↦ rw is (omega arith)
+  | inr (isnt, other) ↦ rw isnt (omega arith)
+]

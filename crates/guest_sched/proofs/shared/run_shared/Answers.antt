@@ -1,0 +1,123 @@
+use Rattle.std.proofs.Common.{◌≡◌, ℕ, List, ◌+◌, ◌<◌, ◌∷◌, ◌++◌, [], inl, inr, length, map, get_or, take, ap, sym, subst, ◌∙◌, arith}
+use Rattle.std.proofs.lemmas.List.{take_all, take_more}
+use Rattle.run_trace.specs.declared.items.Ended.{Ended}
+use Rattle.wedge_core.specs.Slices.{Counts}
+use Rattle.guest_sched.specs.Between.{IsBetween, StandsNext, ended_of}
+use Rattle.guest_sched.specs.Pieces.{shared_text}
+use Rattle.guest_sched.specs.Schedules.{SliceList}
+use Rattle.guest_sched.specs.Shared.{SharedRun, FailsInTurn}
+use Rattle.guest_sched.specs.declared.schedule.Slice.{Slice}
+use Rattle.guest_sched.proofs.Ends.{ends_shared, ends_put, ends_fail}
+use Rattle.guest_sched.proofs.SharedEnds.{on_err, on_ok, is_next}
+use Rattle.guest_sched.proofs.Takes.{rose_more}
+use Rattle.guest_sched.proofs.shared.run_shared.Goals as goal
+
+pub turn-requires-clause-next : goal.turn-requires-clause-next
+turn-requires-clause-next g c =
+    let l = c.loop-slice in
+    let same : c.deref-slice-items.result.now ≡ c.args.schedule.now.list = c.deref-slice-items.ensures.value ∙ ap (λ (s : SliceList). s.list) c.schedule.view_is in
+    let d : Slice = record { kernel = 0; steps = 0 } in
+    subst (λ (n : ℕ). StandsNext c.args.kernels.now.items n (get_or c.deref-slice-items.result.now l.slice-index d) l.tenants.list.items l.tenants.pool l.tenants.present (g.H.Host.bytes l.host)
+    (record { retired = g.H.Host.retired l.host; passed = g.H.Host.passed l.host }) (g.O.Sink.taken l.out)) (sym l.invariant.frames)
+    (record {
+      whole = c.args.schedule.now.list;
+      done = take l.slice-index c.args.schedule.now.list;
+      before = record { retired = g.H.Host.retired c.args.host.now; passed = g.H.Host.passed c.args.host.now };
+      old = g.O.Sink.taken c.args.out.now;
+      next = is_next (length c.args.kernels.now.items) c.args.schedule.now.list c.deref-slice-items.result.now l.slice-index d same c.loop-slice-test.true c.requires.schedule;
+      between = l.invariant.between;
+      few = c.requires.room;
+    })
+
+pub returns-then-is_err : goal.returns-then-is_err
+returns-then-is_err g c =
+    let l = c.loop-slice in
+    let same : c.deref-slice-items.result.now ≡ c.args.schedule.now.list = c.deref-slice-items.ensures.value ∙ ap (λ (s : SliceList). s.list) c.schedule.view_is in
+    let d : Slice = record { kernel = 0; steps = 0 } in
+    let whole = c.args.schedule.now.list in
+    let before : Counts = record { retired = g.H.Host.retired c.args.host.now; passed = g.H.Host.passed c.args.host.now } in
+    let now : Counts = record { retired = g.H.Host.retired l.host; passed = g.H.Host.passed l.host } in
+    let old = g.O.Sink.taken c.args.out.now in
+    let next = is_next (length c.args.kernels.now.items) whole c.deref-slice-items.result.now l.slice-index d same c.loop-slice-test.true c.requires.schedule in
+    let yes = sym c.is_err.ensures.value ∙ c.if-is_err.true in
+    let between = subst (λ (n : ℕ). IsBetween c.args.kernels.now.items n whole (take l.slice-index whole) l.tenants.list.items l.tenants.pool l.tenants.present (g.H.Host.bytes l.host) before now old (g.O.Sink.taken l.out)) (sym l.invariant.frames) l.invariant.between in
+    let fails = on_err c.turn.result yes c.turn.ensures.failed whole (take l.slice-index whole) before old next between in
+    record {
+      shared = (
+        c.in_ok-tenants.ensures.admitted.0,
+        inl (subst (λ (n : ℕ). FailsInTurn c.args.kernels.now.items whole n old (g.O.Sink.taken c.turn.new.out)) l.invariant.frames fails),
+        rose_more (g.O.Sink.faults c.args.out.now) (g.O.Sink.faults l.out) (g.O.Sink.faults c.turn.new.out) l.invariant.later (on_err c.turn.result yes c.turn.ensures.cause),
+      );
+    }
+
+pub loop-slice-preserved : goal.loop-slice-preserved
+loop-slice-preserved g c =
+    let l = c.loop-slice in
+    let same : c.deref-slice-items.result.now ≡ c.args.schedule.now.list = c.deref-slice-items.ensures.value ∙ ap (λ (s : SliceList). s.list) c.schedule.view_is in
+    let d : Slice = record { kernel = 0; steps = 0 } in
+    let whole = c.args.schedule.now.list in
+    let before : Counts = record { retired = g.H.Host.retired c.args.host.now; passed = g.H.Host.passed c.args.host.now } in
+    let now : Counts = record { retired = g.H.Host.retired l.host; passed = g.H.Host.passed l.host } in
+    let then_ : Counts = record { retired = g.H.Host.retired c.turn.new.host; passed = g.H.Host.passed c.turn.new.host } in
+    let old = g.O.Sink.taken c.args.out.now in
+    let next = is_next (length c.args.kernels.now.items) whole c.deref-slice-items.result.now l.slice-index d same c.loop-slice-test.true c.requires.schedule in
+    let no = sym c.is_err.ensures.value ∙ c.if-is_err.false in
+    let between = subst (λ (n : ℕ). IsBetween c.args.kernels.now.items n whole (take l.slice-index whole) l.tenants.list.items l.tenants.pool l.tenants.present (g.H.Host.bytes l.host) before now old (g.O.Sink.taken l.out)) (sym l.invariant.frames) l.invariant.between in
+    let on = on_ok c.turn.result no c.turn.ensures.turned whole (take l.slice-index whole) before old next between in
+    let within : l.slice-index < length whole = (let a = c.loop-slice-test.true in let b = ap length same in omega (arith, a, b)) in
+    let done : take l.slice-index whole ++ get_or c.deref-slice-items.result.now l.slice-index d ∷ [] ≡ take (l.slice-index + 1) whole =
+    ap (λ (s : List Slice). take l.slice-index whole ++ get_or s l.slice-index d ∷ []) same ∙ sym (take_more whole l.slice-index d within) in
+    record {
+      between = subst (λ (n : ℕ). IsBetween c.args.kernels.now.items n whole (take (l.slice-index + 1) whole) c.turn.new.tenants.list.items c.turn.new.tenants.pool c.turn.new.tenants.present (g.H.Host.bytes c.turn.new.host) before then_ old (g.O.Sink.taken c.turn.new.out)) l.invariant.frames
+          (subst (λ (s : List Slice). IsBetween c.args.kernels.now.items l.tenants.frames whole s c.turn.new.tenants.list.items c.turn.new.tenants.pool c.turn.new.tenants.present (g.H.Host.bytes c.turn.new.host) before then_ old (g.O.Sink.taken c.turn.new.out)) done on);
+      frames = c.turn.ensures.frames ∙ l.invariant.frames;
+      started = c.turn.ensures.started;
+      later = (let a = l.invariant.later in let b = c.turn.ensures.later in omega (arith, a, b));
+    }
+
+pub returns-in-Ok : goal.returns-in-Ok
+returns-in-Ok g c =
+    let l = c.loop-slice in
+    let whole = c.args.schedule.now.list in
+    let same : c.deref-slice-items.result.now ≡ whole = c.deref-slice-items.ensures.value ∙ ap (λ (s : SliceList). s.list) c.schedule.view_is in
+    let before : Counts = record { retired = g.H.Host.retired c.args.host.now; passed = g.H.Host.passed c.args.host.now } in
+    let now : Counts = record { retired = g.H.Host.retired l.host; passed = g.H.Host.passed l.host } in
+    let old = g.O.Sink.taken c.args.out.now in
+    let ks = c.args.kernels.now.items in
+    let ts = l.tenants.list.items in
+    let host = g.H.Host.bytes l.host in
+    let mid = g.O.Sink.taken l.out in
+    let all : take l.slice-index whole ≡ whole = take_all l.slice-index whole (let a = c.loop-slice-test.false in let b = ap length same in omega (arith, a, b)) in
+    let h = subst (λ (s : List Slice). IsBetween ks c.args.frames whole s ts l.tenants.pool l.tenants.present host before now old mid) all l.invariant.between in
+    let text = shared_text h.pieces (map ended_of ts) in
+    record {
+      shared = (
+        text,
+        subst (λ (e : List Ended). SharedRun ks whole c.args.frames before now text e) (sym c.in-Ok.ensures.ended) (ends_shared ks c.args.frames whole ts l.tenants.pool l.tenants.present host before now old mid h),
+        c.in_ok-tenants.ensures.admitted.0,
+        ends_put ks c.args.frames whole ts l.tenants.pool l.tenants.present host before now old mid h (g.O.Sink.taken c.finish.new.out) c.in-Ok.ensures.ok,
+        (let a = l.invariant.later in let b = c.finish.ensures.later in omega (arith, a, b)),
+      );
+    }
+
+pub returns : goal.returns
+returns g c =
+    let l = c.loop-slice in
+    let whole = c.args.schedule.now.list in
+    let same : c.deref-slice-items.result.now ≡ whole = c.deref-slice-items.ensures.value ∙ ap (λ (s : SliceList). s.list) c.schedule.view_is in
+    let before : Counts = record { retired = g.H.Host.retired c.args.host.now; passed = g.H.Host.passed c.args.host.now } in
+    let now : Counts = record { retired = g.H.Host.retired l.host; passed = g.H.Host.passed l.host } in
+    let old = g.O.Sink.taken c.args.out.now in
+    let ks = c.args.kernels.now.items in
+    let ts = l.tenants.list.items in
+    let host = g.H.Host.bytes l.host in
+    let mid = g.O.Sink.taken l.out in
+    let all : take l.slice-index whole ≡ whole = take_all l.slice-index whole (let a = c.loop-slice-test.false in let b = ap length same in omega (arith, a, b)) in
+    let h = subst (λ (s : List Slice). IsBetween ks c.args.frames whole s ts l.tenants.pool l.tenants.present host before now old mid) all l.invariant.between in
+    record {
+      shared = (
+        c.in_ok-tenants.ensures.admitted.0,
+        inr (ends_fail ks c.args.frames whole ts l.tenants.pool l.tenants.present host before now old mid h (g.O.Sink.taken c.finish.new.out) c.in-Err.ensures.failed),
+        rose_more (g.O.Sink.faults c.args.out.now) (g.O.Sink.faults l.out) (g.O.Sink.faults c.finish.new.out) l.invariant.later c.in-Err.ensures.cause,
+      );
+    }

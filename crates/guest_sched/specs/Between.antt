@@ -1,0 +1,105 @@
+-- What is known of several kernels between two of their turns.
+use Rattle.std.specs.Prelude.{◌≡◌, ℕ, ◌+◌, ◌*◌, ◌^◌, ◌≤◌, ◌<◌, suc, true, false, List, [], ◌∷◌, ◌++◌, length, map, Option, Some, None, Result, Ok, Err}
+use Rattle.std.specs.List.{All, flat_map}
+use Rattle.ia32_types.specs.declared.stop.Stop.{Stop}
+use Rattle.frame_pool.specs.Pool.{count_of}
+use Rattle.frame_pool.specs.declared.Pool.{Pool}
+use Rattle.pv_io.specs.Sink.{Appends}
+use Rattle.run_trace.specs.declared.items.End.{End}
+use Rattle.run_trace.specs.declared.items.End.TheVariants.{Bound, Stopped}
+use Rattle.run_trace.specs.declared.items.Ended.{Ended}
+use Rattle.run_trace.specs.Text.{lines_of, text_of}
+use Rattle.machine_model.specs.Run.{trace_of}
+use Rattle.shadow_cache.specs.Views as roots
+use Rattle.wedge_step.specs.Standing.{state_of}
+use Rattle.wedge_core.specs.Slices.{Counts}
+use Rattle.guest_sched.specs.Apart.{Seat, AreApart}
+use Rattle.guest_sched.specs.Legs.{HasRun, HasStopped}
+use Rattle.guest_sched.specs.Pieces.{Piece, AreTurns, has_stopped, piece_text, reports_of, own_text, counts_over}
+use Rattle.guest_sched.specs.Schedules.{IsSchedule, bound_of}
+use Rattle.guest_sched.specs.Seating.{seats_from}
+use Rattle.guest_sched.specs.Shared.{alone, sites_in, AllFit, FirstTooSmall}
+use Rattle.guest_sched.specs.declared.kernel.Kernel.{Kernel}
+use Rattle.guest_sched.specs.declared.kernel.SharedFault.{SharedFault}
+use Rattle.guest_sched.specs.declared.kernel.SharedFault.TheVariants as fault
+use Rattle.guest_sched.specs.declared.schedule.Slice.{Slice}
+use Rattle.guest_sched.specs.declared.tenants.Tenant.{Tenant}
+use Rattle.guest_sched.specs.declared.tenants.Tenants.{Tenants}
+
+-- how a kernel ends that has met this stop, or none
+abbrev pub end_with : Option Stop → End
+end_with None = Bound
+end_with (Some stop) = Stopped stop
+
+abbrev pub ended_of : Tenant → Ended
+ended_of tenant = record { steps = tenant.guest.running.step; end = end_with tenant.stop; fills = tenant.guest.running.fills }
+
+-- How far the run of a kernel alone has come by these turns, and its text. One that has met a stop goes no further.
+abbrev pub StandsSo : ℕ → ℕ → List Slice → List Slice → List Piece → Kernel → Seat → Option Stop → Type 0
+StandsSo number frames whole done pieces kernel seat None =
+    HasRun (alone kernel frames) (reports_of number pieces) seat.running.fills (state_of roots.stands roots.frames roots.slots (alone kernel frames) seat.running seat.memory)
+    × (seat.running.step ≡ bound_of number done) × (own_text number pieces ≡ lines_of (trace_of (reports_of number pieces))) × (has_stopped number pieces ≡ false)
+StandsSo number frames whole done pieces kernel seat (Some stop) =
+    HasStopped (alone kernel frames) (bound_of number whole) (reports_of number pieces) seat.running.fills stop seat.running.step
+    × (own_text number pieces ≡ text_of (trace_of (reports_of number pieces)) seat.running.step (Stopped stop)) × (has_stopped number pieces ≡ true)
+
+-- so of each kernel, from this number on
+abbrev pub EachStands : ℕ → ℕ → List Slice → List Slice → List Piece → List Kernel → List Seat → List (Option Stop) → Type 0
+EachStands number frames whole done pieces [] [] [] = Unit {0}
+EachStands number frames whole done pieces (kernel ∷ kernels) (seat ∷ seats) (stop ∷ stops) =
+    StandsSo number frames whole done pieces kernel seat stop × EachStands (suc number) frames whole done pieces kernels seats stops
+EachStands number frames whole done pieces kernels seats stops = ⊥
+
+-- the stop that each has met, if any
+abbrev pub stops_of : List Tenant → List (Option Stop)
+stops_of tenants = map (λ (t : Tenant). t.stop) tenants
+
+-- There are so many kernels, with room for their memory, and a pool for their shadows.
+pub record HaveRoom (kernels : List Kernel) (frames : ℕ) (tenants : List Tenant) (pool : Pool) (present : ℕ) (host : List ℕ) : Type 0 where
+  pub len : length tenants ≡ length kernels
+  pub four : length kernels ≤ 4
+  pub there : present < length tenants
+  pub size : (2048 ≤ frames) × (frames ≤ 16384)
+  pub room : 4096 * frames ≤ length host
+  pub theirs : All (λ (t : Tenant). 4096 * frames ≤ length t.ram) tenants
+  pub pool_is : count_of pool ≡ 512
+
+-- Between two turns of a whole schedule, of which some are done: the kernels are apart, each one's run alone has come so far, the
+-- sink has taken the text of the turns, and the host's counts follow them.
+pub record IsBetween (kernels : List Kernel) (frames : ℕ) (whole done : List Slice) (tenants : List Tenant) (pool : Pool) (present : ℕ) (host : List ℕ) (before now : Counts) (old new : Option (List ℕ)) : Type 0 where
+  pub pieces : List Piece
+  pub rooms : HaveRoom kernels frames tenants pool present host
+  pub apart : AreApart frames pool host (seats_from frames host present 0 kernels tenants)
+  pub turns : AreTurns [] done pieces
+  pub each : EachStands 0 frames whole done pieces kernels (seats_from frames host present 0 kernels tenants) (stops_of tenants)
+  pub text : Appends old new (flat_map piece_text pieces)
+  pub counts : now ≡ counts_over (sites_in kernels) before pieces
+  pub retired : now.retired ≤ before.retired + length done * 2 ^ 40
+
+-- the slice whose turn comes next in a schedule for so many kernels
+pub record IsNext (count : ℕ) (whole done : List Slice) (slice : Slice) : Type 0 where
+  pub rest : List Slice
+  pub whole_is : whole ≡ done ++ slice ∷ rest
+  pub schedule : IsSchedule count whole
+
+-- what is known before a turn
+pub record StandsNext (kernels : List Kernel) (frames : ℕ) (slice : Slice) (tenants : List Tenant) (pool : Pool) (present : ℕ) (host : List ℕ) (now : Counts) (new : Option (List ℕ)) : Type 0 where
+  pub whole : List Slice
+  pub done : List Slice
+  pub before : Counts
+  pub old : Option (List ℕ)
+  pub next : IsNext (length kernels) whole done slice
+  pub between : IsBetween kernels frames whole done tenants pool present host before now old new
+  pub few : before.retired ≤ 2 ^ 63
+
+-- Kernels that were admitted stand before the first turn of any schedule, with nothing put; or one of them has no room.
+abbrev pub AdmitRefused : List Kernel → ℕ → SharedFault → Type 0
+AdmitRefused kernels frames fault.Write = ⊥
+AdmitRefused kernels frames (fault.TooSmall small) = FirstTooSmall frames kernels small
+AdmitRefused kernels frames fault.Memory = Unit {0}
+
+abbrev pub AdmitsAs : List Kernel → ℕ → List ℕ → Result Tenants SharedFault → Type 0
+AdmitsAs kernels frames host (Ok tenants) =
+    AllFit frames kernels × (tenants.frames ≡ frames)
+    × ((whole : List Slice) (counts : Counts) (taken : Option (List ℕ)) → IsBetween kernels frames whole [] tenants.list.items tenants.pool tenants.present host counts counts taken taken)
+AdmitsAs kernels frames host (Err refusal) = AdmitRefused kernels frames refusal

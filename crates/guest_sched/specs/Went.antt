@@ -1,0 +1,45 @@
+-- A kernel's turn with its last line, where it met a stop.
+use Rattle.std.specs.Prelude.{◌≡◌, ℕ, ◌+◌, ◌*◌, ◌≤◌, List, length, Option, Some, None, IfSome, Ok}
+use Rattle.pv_io.specs.Sink.{Appends, AppendsFront}
+use Rattle.run_trace.specs.Text.{end_line}
+use Rattle.run_trace.specs.declared.items.End.TheVariants as end
+use Rattle.run_trace.specs.declared.pause.Pause.{Pause}
+use Rattle.run_trace.specs.declared.pause.Pause.TheVariants.{Reached, Stopped}
+use Rattle.machine_model.specs.Run.{Set, Steps, StopHolds}
+use Rattle.machine_model.specs.State.{State, wedge}
+use Rattle.shadow_cache.specs.Views as roots
+use Rattle.wedge_core.specs.Slices.{Counts}
+use Rattle.wedge_step.specs.Filled.{pages_kept}
+use Rattle.wedge_step.specs.Standing.{state_of}
+use Rattle.guest_sched.specs.Pieces.{Piece, piece_text}
+use Rattle.guest_sched.specs.Tags.{tag_of, tagged}
+use Rattle.guest_sched.specs.Turns.{TurnAs}
+use Rattle.guest_sched.specs.declared.kernel.Kernel.{Kernel}
+use Rattle.guest_sched.specs.declared.tenants.Tenant.{Tenant}
+
+abbrev pub EndsSo : ℕ → Tenant → Option (List ℕ) → Option (List ℕ) → Pause → Type 0
+EndsSo number new taken tells Reached = (new.stop ≡ None) × (tells ≡ taken)
+EndsSo number new taken tells (Stopped stop) = (new.stop ≡ Some stop) × Appends taken tells (tagged (tag_of number) (end_line new.guest.running.step (end.Stopped stop)))
+
+pub record HasTurned (kernel : Kernel) (number steps : ℕ) (host host' : List ℕ) (old new : Tenant) (before after : Counts) (taken tells : Option (List ℕ)) : Type 0 where
+  pub pause : Pause
+  pub between : Option (List ℕ)
+  pub turn : TurnAs (wedge kernel.image kernel.script.list old.guest.running.frames) (tag_of number) (old.guest.running.step + steps)
+      (state_of roots.stands roots.frames roots.slots (wedge kernel.image kernel.script.list old.guest.running.frames) old.guest.running host)
+      (state_of roots.stands roots.frames roots.slots (wedge kernel.image kernel.script.list old.guest.running.frames) new.guest.running host')
+      before after taken between (pages_kept roots.slots roots.asides old.guest.running.shadows host) old.guest.running.fills new.guest.running.fills (Ok pause)
+  pub ends : EndsSo number new between tells pause
+  pub few : new.guest.running.fills ≤ 128 * new.guest.running.step
+
+-- The sink has failed: some first steps of the turn, and the stop behind them if its line was begun, with a front of their text.
+pub record HasFailed (kernel : Kernel) (number steps : ℕ) (host : List ℕ) (old : Tenant) (taken tells : Option (List ℕ)) : Type 0 where
+  pub sets : List Set
+  pub piece : Piece
+  pub last : State
+  pub number_is : piece.kernel ≡ number
+  pub steps_are : Steps (wedge kernel.image kernel.script.list old.guest.running.frames)
+      (state_of roots.stands roots.frames roots.slots (wedge kernel.image kernel.script.list old.guest.running.frames) old.guest.running host) sets piece.reports last
+  pub few : length piece.reports ≤ steps
+  pub count : piece.steps ≡ last.step
+  pub stops : IfSome piece.stop (StopHolds (wedge kernel.image kernel.script.list old.guest.running.frames) last)
+  pub front : AppendsFront taken tells (piece_text piece)

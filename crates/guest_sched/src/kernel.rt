@@ -1,0 +1,20 @@
+//! Kernels that share a host, and why they have no end.
+
+use board::Script;
+use image_check::Checked;
+use image_load::TooSmall;
+
+/// A kernel that shares the host: its image, and what comes to its board.
+#[derive(Drop)]
+pub struct Kernel {
+    pub image: Checked,
+    pub script: Script,
+}
+
+/// Why several kernels have no end.
+#[derive(Clone, Copy, Debug)]
+pub enum SharedFault {
+    Write,
+    TooSmall(TooSmall),
+    Memory,
+}
