@@ -40,6 +40,7 @@ impl<C: Cache> Bare<C> {
         ensures started { StartedAs C.entries image.now frames result }
         ensures kept { IfOk result (λ machine. IsKept machine.frames (state_of C.entries machine)) }
         ensures begin { IfOk result (λ machine. machine.step ≡ 0) }
+        ensures size { IfOk result (λ machine. length machine.ram ≡ 4096 * frames) }
         ensures exact { IfOk result (λ machine. C.is_exact machine.kept.cache ≡ C.is_exact cache) }
     {
         match Ram::new(alloc, frames) {
@@ -80,6 +81,7 @@ impl<C: Cache> Bare<C> {
         ensures reached { IfReached result (self.new.step ≡ self.old.step + k) }
         ensures kept { IfReached result (IsKept self.new.frames (state_of C.entries self.new)) }
         ensures frames { IfReached result (self.new.frames ≡ self.old.frames) }
+        ensures size { IfReached result (length self.new.ram ≡ length self.old.ram) }
         ensures exact { IfReached result (C.is_exact self.new.kept.cache ≡ C.is_exact self.old.kept.cache) }
         ensures fit { Fit self.old.cpu → IfReached result (Fit self.new.cpu) }
         ensures later { O.faults out.old ≤ O.faults out.new }
@@ -145,6 +147,7 @@ fn start_in<C: Cache>(
     ensures started { StartedAs C.entries image.now frames result }
     ensures kept { IfOk result (λ machine. IsKept machine.frames (state_of C.entries machine)) }
     ensures begin { IfOk result (λ machine. machine.step ≡ 0) }
+    ensures size { IfOk result (λ machine. length machine.ram ≡ 4096 * frames) }
     ensures exact { IfOk result (λ machine. C.is_exact machine.kept.cache ≡ C.is_exact cache) }
 {
     let mut ram = ram;

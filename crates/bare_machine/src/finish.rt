@@ -30,6 +30,7 @@ pub fn go<C: Cache>(machine: &mut Bare<C>, cpu: Cpu, changes: &Changes, dropped:
     ensures kept { IsKept machine.new.frames (state_of C.entries machine.new) }
     ensures same { C.is_exact machine.new.kept.cache ≡ C.is_exact machine.old.kept.cache }
     ensures frames { machine.new.frames ≡ machine.old.frames }
+    ensures size { length machine.new.ram ≡ length machine.old.ram }
     ensures count { machine.new.step ≡ machine.old.step + 1 }
 {
     settle(&mut machine.kept, changes);

@@ -1,6 +1,6 @@
 //! A halted processor that waits.
 
-ghost use Rattle.std.specs.Prelude.{◌≡◌, ◌+◌, ◌-◌, ◌≤◌, ◌<◌, ◌^◌, true, false, None};
+ghost use Rattle.std.specs.Prelude.{◌≡◌, ◌+◌, ◌-◌, ◌≤◌, ◌<◌, ◌^◌, true, false, None, length};
 ghost use Rattle.board.specs.Boards.{comes_within};
 ghost use Rattle.board.specs.Scripts.{is_script};
 ghost use Rattle.image_check.specs.Image.{Image};
@@ -28,6 +28,7 @@ pub fn rest<C: Cache>(machine: &mut Bare<C>, script: &Script, n: u64)
     ensures kept { IsKept machine.new.frames (state_of C.entries machine.new) }
     ensures same { C.is_exact machine.new.kept.cache ≡ C.is_exact machine.old.kept.cache }
     ensures frames { machine.new.frames ≡ machine.old.frames }
+    ensures size { length machine.new.ram ≡ length machine.old.ram }
     // Short of the bound it ends only where something comes to the board in the next step.
     ensures furthest { machine.old.cpu.halted ≡ true → machine.old.cpu.held ≡ false → interrupt_of machine.old.cpu machine.old.board ≡ None → machine.new.step < n
         → comes_within machine.old.board script.now.list (machine.old.step - 1) (machine.new.step - machine.old.step + 1) ≡ true }

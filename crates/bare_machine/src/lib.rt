@@ -11,7 +11,8 @@ mod machine;
 mod run;
 mod slice;
 
+pub use ending::end_run;
 pub use fresh::run_fresh;
 pub use laws::{each_course_is_a_run, parts_join};
 pub use machine::Bare;
-pub use run::run_bare;
+pub use run::{run_bare, run_on};

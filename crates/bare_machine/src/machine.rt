@@ -75,6 +75,7 @@ pub fn step<C: Cache>(
     ensures kept { OnOk result (IsKept machine.new.frames (state_of C.entries machine.new)) }
     ensures same { OnOk result (C.is_exact machine.new.kept.cache ≡ C.is_exact machine.old.kept.cache) }
     ensures frames { machine.new.frames ≡ machine.old.frames }
+    ensures size { length machine.new.ram ≡ length machine.old.ram }
     ensures count { MatchResult result (λ _. machine.new.step ≡ machine.old.step + 1) (λ _. machine.new.step ≡ machine.old.step) }
 {
     machine.board.begin(script, machine.step);
@@ -107,6 +108,7 @@ fn tried<C: Cache>(
     requires ram { 4096 * frames ≤ length ram.old }
     requires within { AreWithin frames (C.entries kept.now.cache) }
     ensures ram { 4096 * frames ≤ length ram.new }
+    ensures size { length ram.new ≡ length ram.old }
     ensures within { AreWithin frames (changed (C.entries kept.now.cache) state.new.changes) }
     ensures page { IfOk result (λ w. IsDropped w.dropped) }
     ensures memory { (space_at (λ _. C.entries kept.now.cache) ram.new state.new).ram ≡ ram.new }

@@ -36,13 +36,13 @@ pub fn run_bare<O: Sink>(
         Err(fault) => Err(fault),
         Ok(machine) => {
             let mut machine = machine;
-            whole(&mut machine, script, n, out)
+            run_on(&mut machine, script, n, out)
         }
     }
 }
 
-/// One slice, and the last line.
-fn whole<C: Cache, O: Sink>(
+/// Goes on until `n` steps are done in all, or to a stop, and puts the text of that part of the run.
+pub fn run_on<C: Cache, O: Sink>(
     machine: &mut Bare<C>,
     script: &Script,
     n: u64,
@@ -50,12 +50,12 @@ fn whole<C: Cache, O: Sink>(
 ) -> Result<Ended, RunFault>
     requires script { is_script script.now.list ≡ true }
     requires kept { IsKept machine.old.frames (state_of C.entries machine.old) }
-    requires begin { machine.old.step ≡ 0 }
+    requires begun { machine.old.step ≤ n }
     requires bound { n ≤ 2 ^ 40 }
     ensures whole { (image : Image) → WholeAs (bare image script.now.list machine.old.frames) n (state_of C.entries machine.old) (O.taken out.old) (O.taken out.new) (O.faults out.old) (O.faults out.new) result }
     ensures fills { IfOk result (λ ended. ended.fills ≡ 0) }
 {
-    match machine.slice(script, n, out) {
+    match machine.slice(script, n - machine.step, out) {
         Err(_) => Err(RunFault::Write),
         Ok(pause) => end_run(machine.step, end_of(pause), out),
     }

@@ -1,6 +1,6 @@
 //! A slice of a run.
 
-ghost use Rattle.std.specs.Prelude.{◌≡◌, ◌+◌, ◌≤◌, ◌^◌, true, OnErr};
+ghost use Rattle.std.specs.Prelude.{◌≡◌, ◌+◌, ◌≤◌, ◌^◌, true, OnErr, length};
 ghost use Rattle.board.specs.Scripts.{is_script};
 ghost use Rattle.image_check.specs.Image.{Image};
 ghost use Rattle.pv_io.specs.Causes.{Rose};
@@ -31,6 +31,7 @@ pub fn steps_to<C: Cache, O: Sink>(
     ensures reached { IfReached result (machine.new.step ≡ bound) }
     ensures kept { IfReached result (IsKept machine.new.frames (state_of C.entries machine.new)) }
     ensures frames { IfReached result (machine.new.frames ≡ machine.old.frames) }
+    ensures size { IfReached result (length machine.new.ram ≡ length machine.old.ram) }
     ensures same { IfReached result (C.is_exact machine.new.kept.cache ≡ C.is_exact machine.old.kept.cache) }
     ensures later { O.faults out.old ≤ O.faults out.new }
     ensures cause { OnErr result (Rose (O.faults out.old) (O.faults out.new)) }

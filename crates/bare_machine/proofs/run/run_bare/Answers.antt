@@ -8,8 +8,8 @@ use Rattle.bare_machine.proofs.run.run_bare.Goals as goal
 pub returns-in-Ok-clause-run : goal.returns-in-Ok-clause-run
 returns-in-Ok-clause-run g c =
     let started = c.in-Ok.ensures.begun in
-    let ran = subst (λ (f : ℕ). WholeAs (bare c.args.image.now c.args.script.now.list f) c.args.n (state_of (λ (b : Buffer). b) c.in-Ok.machine) (g.O.Sink.taken c.args.out.now) (g.O.Sink.taken c.whole.new.out) (g.O.Sink.faults c.args.out.now) (g.O.Sink.faults c.whole.new.out) c.whole.result) started.1 (c.whole.ensures.whole c.args.image.now) in
-    answered c.args.image.now c.args.script.now.list c.args.frames c.args.n (state_of (λ (b : Buffer). b) c.in-Ok.machine) _ _ _ _ c.whole.result
+    let ran = subst (λ (f : ℕ). WholeAs (bare c.args.image.now c.args.script.now.list f) c.args.n (state_of (λ (b : Buffer). b) c.in-Ok.machine) (g.O.Sink.taken c.args.out.now) (g.O.Sink.taken c.run_on.new.out) (g.O.Sink.faults c.args.out.now) (g.O.Sink.faults c.run_on.new.out) c.run_on.result) started.1 (c.run_on.ensures.whole c.args.image.now) in
+    answered c.args.image.now c.args.script.now.list c.args.frames c.args.n (state_of (λ (b : Buffer). b) c.in-Ok.machine) _ _ _ _ c.run_on.result
     started.0 (started.4 c.args.script.now.list) ran
 
 pub returns-in-Err-clause-run : goal.returns-in-Err-clause-run

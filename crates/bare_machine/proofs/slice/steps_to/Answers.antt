@@ -13,6 +13,7 @@ loop-machine-init g c = record {
   going = λ image. going_none (bare image c.args.script.now.list c.args.machine.now.frames) (g.C.Cache.is_exact c.args.machine.now.kept.cache) (state_of g.C.Cache.entries c.args.machine.now) (g.O.Sink.taken c.args.out.now);
   kept = c.requires.kept;
   frames = refl;
+  size = refl;
   same = refl;
   later = omega arith;
   bound = c.requires.begun;
@@ -32,6 +33,7 @@ loop-machine-preserved g c = record {
       (c.loop-machine.invariant.going image) goes put rests;
   kept = c.rest.ensures.kept;
   frames = c.rest.ensures.frames ∙ (c.in-Ok.ensures.frames ∙ c.loop-machine.invariant.frames);
+  size = c.rest.ensures.size ∙ (c.in-Ok.ensures.size ∙ c.loop-machine.invariant.size);
   same = c.rest.ensures.same ∙ (c.in-Ok.ensures.same ∙ c.loop-machine.invariant.same);
   later = omega (arith, c.loop-machine.invariant.later, c.in-Ok-put_step.ensures.later);
   bound = c.rest.ensures.within;

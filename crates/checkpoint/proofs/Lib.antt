@@ -1,0 +1,16 @@
+pub mod Firsts
+pub mod Parts
+pub mod Heads
+pub mod Boards
+pub mod AllMet
+pub mod Processors
+pub mod Files
+pub mod Changes
+pub mod Joining
+pub mod Seats
+pub mod GuestForms
+pub mod Continuing
+pub mod Resting
+pub mod BareRests
+pub mod GuestRests
+pub mod Leasts

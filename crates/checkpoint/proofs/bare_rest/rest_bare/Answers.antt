@@ -1,0 +1,81 @@
+use Rattle.std.proofs.Common.{◌≡◌, ℕ, ◌+◌, ◌-◌, Ok, Err, refl, subst, ◌∙◌, arith}
+use Rattle.run_trace.specs.declared.pause.Pause.{Pause}
+use Rattle.bare_machine.specs.Machine.{bare, state_of}
+use Rattle.bare_machine.specs.Slices.{SliceAs}
+use Rattle.checkpoint.specs.States.{IsInForm}
+use Rattle.checkpoint.proofs.BareRests.{reached_so, bare_rests, bare_stops, bare_unput, bare_fails}
+use Rattle.checkpoint.proofs.bare_rest.rest_bare.Goals as goal
+
+pub returns-in-Err : goal.returns-in-Err
+returns-in-Err g c = record {
+  rests = λ image.
+      let machine = c.args.machine in
+      let e = g.C.Cache.entries in
+      let is : machine.step + (c.args.n - machine.step) ≡ c.args.n = omega (arith, c.requires.begun) in
+      let m = bare image c.args.script.now.list machine.frames in
+      let exact = g.C.Cache.is_exact machine.kept.cache in
+      let old = state_of e machine in
+      let new = state_of e c.slice.new.self in
+      let told = g.O.Sink.taken c.args.out.now in
+      let tells = g.O.Sink.taken c.slice.new.out in
+      let h = subst (λ (n : ℕ). SliceAs m exact n old new told tells (Err c.in-Err.field-0)) is (c.in-Err.ensures.slice image) in
+      let f = bare_fails m exact c.args.n old new told tells c.in-Err.field-0 h in
+      (f.0, f.1, f.2, f.3, f.4, c.in-Err.ensures.cause);
+}
+
+pub returns-in-Reached : goal.returns-in-Reached
+returns-in-Reached g c = record {
+  rests = λ image.
+      let machine = c.args.machine in
+      let e = g.C.Cache.entries in
+      let is : machine.step + (c.args.n - machine.step) ≡ c.args.n = omega (arith, c.requires.begun) in
+      let m = bare image c.args.script.now.list machine.frames in
+      let exact = g.C.Cache.is_exact machine.kept.cache in
+      let old = state_of e machine in
+      let new = state_of e c.slice.new.self in
+      let told = g.O.Sink.taken c.args.out.now in
+      let tells = g.O.Sink.taken c.slice.new.out in
+      let h = subst (λ (n : ℕ). SliceAs m exact n old new told tells (Ok c.in-Ok.pause)) is (c.in-Ok.ensures.slice image) in
+      let form = subst IsInForm c.state_of_bare.ensures.state c.state_of_bare.ensures.form in
+      let size = reached_so c.in-Ok.pause _ c.in-Ok.ensures.size c.in-Reached.is ∙ c.requires.size in
+      let r = bare_rests m exact c.args.n old new told tells _ _ c.in-Ok.pause c.in-Reached.is h c.in-Ok.ensures.later form size in
+      (r.0, r.1, c.state_of_bare.ensures.state ∙ r.2);
+}
+
+pub returns-in-Err-put_end : goal.returns-in-Err-put_end
+returns-in-Err-put_end g c = record {
+  rests = λ image.
+      let machine = c.args.machine in
+      let e = g.C.Cache.entries in
+      let is : machine.step + (c.args.n - machine.step) ≡ c.args.n = omega (arith, c.requires.begun) in
+      let m = bare image c.args.script.now.list machine.frames in
+      let exact = g.C.Cache.is_exact machine.kept.cache in
+      let old = state_of e machine in
+      let new = state_of e c.slice.new.self in
+      let told = g.O.Sink.taken c.args.out.now in
+      let tells = g.O.Sink.taken c.slice.new.out in
+      let h = subst (λ (n : ℕ). SliceAs m exact n old new told tells (Ok c.in-Ok.pause)) is (c.in-Ok.ensures.slice image) in
+      let stopped = subst (λ (p : Pause). SliceAs m exact c.args.n old new told tells (Ok p)) c.in-Stopped.is h in
+      let f = bare_unput m exact c.args.n old new told tells _ c.in-Stopped.stop stopped c.in-Err-put_end.ensures.failed in
+      (f.0, f.1, f.2, f.3, f.4, (let le = c.in-Ok.ensures.later in let rose = c.in-Err-put_end.ensures.cause in omega (arith, le, rose)));
+}
+
+pub returns : goal.returns
+returns g c = record {
+  rests = λ image.
+      let machine = c.args.machine in
+      let e = g.C.Cache.entries in
+      let is : machine.step + (c.args.n - machine.step) ≡ c.args.n = omega (arith, c.requires.begun) in
+      let m = bare image c.args.script.now.list machine.frames in
+      let exact = g.C.Cache.is_exact machine.kept.cache in
+      let old = state_of e machine in
+      let new = state_of e c.slice.new.self in
+      let told = g.O.Sink.taken c.args.out.now in
+      let tells = g.O.Sink.taken c.slice.new.out in
+      let h = subst (λ (n : ℕ). SliceAs m exact n old new told tells (Ok c.in-Ok.pause)) is (c.in-Ok.ensures.slice image) in
+      let stopped = subst (λ (p : Pause). SliceAs m exact c.args.n old new told tells (Ok p)) c.in-Stopped.is h in
+      let r = bare_stops m exact c.args.n old new told tells _ c.in-Stopped.stop stopped c.in-Ok-put_end.ensures.ok in
+      let le = c.in-Ok.ensures.later in
+      let more = c.in-Ok-put_end.ensures.later in
+      (r.0, c.in-Stopped.stop, r.1, r.2, r.3, refl, r.4, omega (arith, le, more));
+}

@@ -1,0 +1,35 @@
+-- What numbers in a file are to meet, and the first field that is bad.
+use Rattle.std.specs.Prelude.{ℕ, ◌+◌, min, Bool, not, ◌&&◌, ◌==◌, nat_le, List, [], ◌∷◌, Option, Some, None, if◌then◌else◌}
+use Rattle.checkpoint.specs.declared.demand.Demand.{Demand}
+
+-- where it speaks, it is the field's that is bad
+abbrev pub bad_in : ℕ → Demand → Option ℕ
+bad_in there d = if nat_le d.end there && not d.met then Some d.at else None
+
+abbrev pub earlier : Option ℕ → Option ℕ → Option ℕ
+earlier None b = b
+earlier (Some a) None = Some a
+earlier (Some a) (Some b) = Some (min a b)
+
+-- the first field that is bad in a file of which so many bytes are there
+unfoldable pub first_bad : ℕ → List Demand → Option ℕ
+first_bad there [] = None
+first_bad there (d ∷ demands) = earlier (bad_in there d) (first_bad there demands)
+
+-- a number of one byte
+abbrev pub byte_demand : ℕ → Bool → Demand
+byte_demand at met = record { at = at; end = at + 1; met = met }
+
+abbrev pub half_demand : ℕ → Bool → Demand
+half_demand at met = record { at = at; end = at + 2; met = met }
+
+abbrev pub word_demand : ℕ → Bool → Demand
+word_demand at met = record { at = at; end = at + 4; met = met }
+
+abbrev pub double_demand : ℕ → Bool → Demand
+double_demand at met = record { at = at; end = at + 8; met = met }
+
+-- bytes without a name, each by itself
+abbrev pub zero_demands : ℕ → List ℕ → List Demand
+zero_demands at [] = []
+zero_demands at (b ∷ bytes) = byte_demand at (b == 0) ∷ zero_demands (at + 1) bytes

@@ -1,0 +1,11 @@
+pub mod Ranges
+pub mod Demands
+pub mod Head
+pub mod Form
+pub mod States
+pub mod Fits
+pub mod Legs
+pub mod Moved
+pub mod Continued
+pub mod Rested
+pub mod Least

@@ -1,0 +1,89 @@
+//! Demands on the fields of a file, and the first field that is bad.
+
+ghost use Rattle.std.specs.Prelude.{◌≡◌, ◌+◌, ◌<◌, ◌^◌, length};
+ghost use Rattle.checkpoint.specs.Demands.{bad_in, earlier, first_bad, byte_demand, word_demand, double_demand, zero_demands};
+
+/// What a field at a place is to meet. It is told by the bytes before `end`, and is asked only where they are there.
+#[derive(Clone, Copy)]
+pub struct Demand {
+    pub at: u32,
+    pub end: u32,
+    pub met: bool,
+}
+
+fn bad_in(there: usize, demand: Demand) -> Option<u32>
+    ensures { result ≡ bad_in there demand }
+{
+    if demand.end as usize <= there && !demand.met {
+        return Some(demand.at);
+    }
+    None
+}
+
+pub fn earlier(a: Option<u32>, b: Option<u32>) -> Option<u32>
+    ensures { result ≡ earlier a b }
+{
+    match (a, b) {
+        (None, _) => b,
+        (Some(_), None) => a,
+        (Some(a), Some(b)) => Some(a.min(b)),
+    }
+}
+
+/// The first field that is bad.
+pub fn first_bad(there: usize, demands: &[Demand]) -> Option<u32>
+    ensures { result ≡ first_bad there demands.now }
+{
+    let mut first = None;
+    for demand in demands {
+        first = earlier(first, bad_in(there, *demand));
+    }
+    first
+}
+
+pub fn byte_demand(at: u32, met: bool) -> Demand
+    requires { at < 2 ^ 31 }
+    ensures { result ≡ byte_demand at met }
+{
+    Demand {
+        at,
+        end: at + 1,
+        met,
+    }
+}
+
+pub fn word_demand(at: u32, met: bool) -> Demand
+    requires { at < 2 ^ 31 }
+    ensures { result ≡ word_demand at met }
+{
+    Demand {
+        at,
+        end: at + 4,
+        met,
+    }
+}
+
+pub fn double_demand(at: u32, met: bool) -> Demand
+    requires { at < 2 ^ 31 }
+    ensures { result ≡ double_demand at met }
+{
+    Demand {
+        at,
+        end: at + 8,
+        met,
+    }
+}
+
+/// The first byte that isn't 0, of those from `at` on that have no name and are there.
+pub fn first_set(there: usize, at: u32, bytes: &[u8]) -> Option<u32>
+    requires { at + length bytes.now < 2 ^ 31 }
+    ensures { result ≡ first_bad there (zero_demands at bytes.now) }
+{
+    for (i, b) in bytes.iter().enumerate() {
+        let place = at + i as u32;
+        if *b != 0 && (place as usize) < there {
+            return Some(place);
+        }
+    }
+    None
+}

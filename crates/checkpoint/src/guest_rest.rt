@@ -1,0 +1,149 @@
+//! A patched run up to a count of steps, at which it rests.
+
+ghost use Rattle.std.specs.Prelude.{◌≡◌, ◌+◌, ◌/◌, ◌≤◌, ◌^◌, length, true};
+ghost use Rattle.guest_ram.specs.Bytes.{part};
+ghost use Rattle.frame_pool.specs.Pool.{free_list};
+ghost use Rattle.board.specs.Scripts.{is_script};
+ghost use Rattle.shadow_cache.specs.Views as roots;
+ghost use Rattle.machine_model.specs.Fit.{Fit};
+ghost use Rattle.machine_model.specs.State.{wedge};
+ghost use Rattle.wedge_core.specs.Slices.{CountsOn};
+ghost use Rattle.wedge_step.specs.Ready.{IsReady};
+ghost use Rattle.wedge_step.specs.Standing.{IsHeld, IsAble, ground, state_of};
+ghost use Rattle.checkpoint.specs.States.{IsInForm};
+ghost use Rattle.checkpoint.specs.Moved.{rested_from};
+ghost use Rattle.checkpoint.specs.Rested.{RestsAs, RestsFromStart};
+
+use crate::guest::{POOL_FRAMES, guest_from, state_of_guest};
+use crate::rested::Rested;
+use crate::state::State;
+use board::Script;
+use descriptors::Hidden;
+use frame_pool::Pool;
+use host_cpl3::Host;
+use image_check::Checked;
+use image_load::{RunFault, StartFault};
+use machine_model::{each_run_begins_fit, runs_keep_fit};
+use pv_io::Sink;
+use run_trace::{End, Ended, NoNotes, Pause, put_end};
+use std::alloc::Global;
+use wedge_core::Guest;
+
+/// Runs an image's patched text from the start, until `n` steps are done, and puts their lines.
+pub fn save_wedge<H: Host, O: Sink>(
+    alloc: Global,
+    image: &Checked,
+    script: &Script,
+    frames: u32,
+    n: u64,
+    host: &mut H,
+    out: &mut O,
+) -> Result<Rested, RunFault>
+    requires frames { (2048 ≤ frames) × (frames ≤ 16384) }
+    requires script { is_script script.now.list ≡ true }
+    requires bound { n ≤ 2 ^ 40 }
+    requires room { H.retired host.old ≤ 2 ^ 63 }
+    ensures rests { RestsFromStart (wedge image.now script.now.list frames) n
+        (λ reports. CountsOn (wedge image.now script.now.list frames) reports (record { retired = H.retired host.old; passed = H.passed host.old }) (record { retired = H.retired host.new; passed = H.passed host.new }))
+        (O.taken out.old) (O.taken out.new) (O.faults out.old) (O.faults out.new) result }
+{
+    each_run_begins_fit();
+    match Guest::start(alloc, image, frames, POOL_FRAMES, host) {
+        Err(StartFault::TooSmall(small)) => Err(RunFault::TooSmall(small)),
+        Err(StartFault::Memory) => Err(RunFault::Memory),
+        Ok((guest, pool)) => {
+            let mut pool = pool;
+            rest_wedge(alloc, guest, image, script, n, &mut pool, host, out)
+        }
+    }
+}
+
+/// Goes on from a checkpoint with the image's patched text, until `n` steps are done in all, and puts their lines.
+pub fn save_wedge_from<H: Host, O: Sink>(
+    alloc: Global,
+    state: State,
+    image: &Checked,
+    script: &Script,
+    n: u64,
+    host: &mut H,
+    out: &mut O,
+) -> Result<Rested, RunFault>
+    requires form { IsInForm state }
+    requires able { IsAble state.cpu }
+    requires text { part state.ram 0x100000 (length image.now.text) ≡ image.now.text }
+    requires script { is_script script.now.list ≡ true }
+    requires begun { state.step ≤ n }
+    requires bound { n ≤ 2 ^ 40 }
+    requires room { H.retired host.old ≤ 2 ^ 63 }
+    ensures rests { RestsAs (wedge image.now script.now.list (length state.ram / 4096)) n (rested_from state)
+        (λ reports. CountsOn (wedge image.now script.now.list (length state.ram / 4096)) reports (record { retired = H.retired host.old; passed = H.passed host.old }) (record { retired = H.retired host.new; passed = H.passed host.new }))
+        (O.taken out.old) (O.taken out.new) (O.faults out.old) (O.faults out.new) result }
+{
+    match guest_from(alloc, state, image, host) {
+        Err(_) => Err(RunFault::Memory),
+        Ok((guest, pool)) => {
+            let mut pool = pool;
+            rest_wedge(alloc, guest, image, script, n, &mut pool, host, out)
+        }
+    }
+}
+
+/// How many segment registers the processor has.
+fn segment_count(segments: &[Hidden; 4]) -> usize
+    ensures { length segments.now ≡ 4 }
+{
+    segments.len()
+}
+
+/// Goes on until `n` steps are done in all, and puts their lines. Where a stop comes before, the run's last line is put too.
+pub fn rest_wedge<H: Host, O: Sink>(
+    alloc: Global,
+    guest: Guest,
+    image: &Checked,
+    script: &Script,
+    n: u64,
+    pool: &mut Pool,
+    host: &mut H,
+    out: &mut O,
+) -> Result<Rested, RunFault>
+    requires started { H.is_started host.old ≡ true }
+    requires held { IsHeld roots.stands roots.frames roots.slots (ground image.now guest.running.frames) guest.running pool.old (H.bytes host.old) }
+    requires ready { IsReady roots.slots roots.noted roots.marked roots.value roots.asides (ground image.now guest.running.frames) guest.running.cpu guest.running.shadows (H.bytes host.old) }
+    requires able { IsAble guest.running.cpu }
+    requires fit { Fit guest.running.cpu }
+    requires script { is_script script.now.list ≡ true }
+    requires begun { guest.running.step ≤ n }
+    requires bound { n ≤ 2 ^ 40 }
+    requires room { H.retired host.old ≤ 2 ^ 63 }
+    requires enough { 16 ≤ length (free_list pool.old (H.bytes host.old)) + guest.running.held }
+    ensures rests { RestsAs (wedge image.now script.now.list guest.running.frames) n
+        (state_of roots.stands roots.frames roots.slots (wedge image.now script.now.list guest.running.frames) guest.running (H.bytes host.old))
+        (λ reports. CountsOn (wedge image.now script.now.list guest.running.frames) reports (record { retired = H.retired host.old; passed = H.passed host.old }) (record { retired = H.retired host.new; passed = H.passed host.new }))
+        (O.taken out.old) (O.taken out.new) (O.faults out.old) (O.faults out.new) result }
+{
+    let mut guest = guest;
+    runs_keep_fit();
+    segment_count(&guest.running.cpu.seg);
+    let k = n - guest.step();
+    let pause = match guest.slice(image, script, k, pool, host, out, &mut NoNotes) {
+        Err(_) => return Err(RunFault::Write),
+        Ok(pause) => pause,
+    };
+    match pause {
+        Pause::Reached => match state_of_guest(alloc, guest, image, host) {
+            Err(_) => Err(RunFault::Memory),
+            Ok(state) => Ok(Rested::At(state)),
+        },
+        Pause::Stopped(stop) => {
+            let ended = Ended {
+                steps: guest.step(),
+                end: End::Stopped(stop),
+                fills: guest.fills(),
+            };
+            match put_end(&ended, out) {
+                Err(_) => Err(RunFault::Write),
+                Ok(()) => Ok(Rested::Stopped(ended)),
+            }
+        }
+    }
+}

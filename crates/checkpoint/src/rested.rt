@@ -1,0 +1,9 @@
+use crate::state::State;
+use run_trace::Ended;
+
+/// What a run that is to be saved comes to: its state, once all its steps are done, or its end at a stop before.
+#[derive(Drop)]
+pub enum Rested {
+    At(State),
+    Stopped(Ended),
+}

@@ -1,0 +1,34 @@
+use board::Board;
+use descriptors::Cpu;
+use guest_ram::Ram;
+
+/// A machine between two steps, without translations: processor, board, the count of steps and the memory, whose text is
+/// as it was before it was patched.
+#[derive(Drop)]
+pub struct State {
+    pub cpu: Cpu,
+    pub board: Board,
+    pub step: u64,
+    pub ram: Ram,
+}
+
+/// Why a checkpoint isn't gone on from.
+#[derive(Clone, Copy, Debug, PartialEq, Eq)]
+pub enum CheckpointCause {
+    /// The bytes aren't those of a checkpoint.
+    Form,
+    /// The memory hasn't the image's text in its place.
+    TextChanged,
+    /// At level 3 interrupts are off, or IOPL isn't 0.
+    UserFlags,
+    /// More steps were done than are asked for.
+    StepsPast,
+}
+
+/// Why no state is read.
+#[derive(Clone, Copy, Debug, PartialEq, Eq)]
+pub enum CheckpointFault {
+    /// The place in the file.
+    At { at: u32, cause: CheckpointCause },
+    Memory,
+}
