@@ -1,0 +1,16 @@
+pub mod Walk
+pub mod Inverse
+pub mod Keeping
+pub mod Holding
+pub mod Differing
+pub mod Choosing
+pub mod Going
+pub mod Comparing
+pub mod LastLine
+pub mod Judging
+pub mod Running
+pub mod SmallImages
+pub mod Telling
+pub mod NotesCourse
+pub mod NotesForm
+pub mod NotedRuns

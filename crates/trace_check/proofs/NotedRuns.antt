@@ -1,0 +1,151 @@
+-- From a slice whose notes are kept, and the last line, to a run whose text is judged yes.
+use Rattle.std.proofs.Common.{◌≡◌, ℕ, zero, suc, ◌+◌, ◌*◌, ◌≤◌, ◌^◌, Bool, true, false, cond, List, [], ◌∷◌, ◌++◌, length, take, Option, Ok, refl, ap, subst, ◌∙◌, arith}
+use Rattle.std.specs.Prelude.{◌==◌, nat_le}
+use Rattle.std.proofs.lemmas.Bool.{leb-true, leb-false, eqb-true, eqb-false}
+use Rattle.std.specs.FinMap.{len}
+use Rattle.std.specs.List.{All, filter}
+use Rattle.std.proofs.lemmas.List.Elements.{All-weaker}
+use Rattle.board.specs.Scripts.{Events}
+use Rattle.image_check.specs.Image.{Image}
+use Rattle.image_load.specs.Boot.{need}
+use Rattle.pv_io.specs.Sink.{Appends}
+use Rattle.run_trace.specs.declared.pause.Pause.{Pause}
+use Rattle.run_trace.specs.declared.pause.Pause.TheVariants.{Reached, Stopped}
+use Rattle.run_trace.specs.Notes.{Note}
+use Rattle.run_trace.specs.Pauses.{end_of, IfReached}
+use Rattle.run_trace.specs.Text.{lines_of, end_line, text_of}
+use Rattle.machine_model.specs.State.{Setting, State, Loosened, boot, wedge}
+use Rattle.machine_model.specs.Run.{Set, Steps, Run, trace_of}
+use Rattle.machine_model.specs.Notes.{AreTold, AreNotes, step_in}
+use Rattle.wedge_step.specs.Filled.{FillsOn}
+use Rattle.wedge_core.specs.Noted.{EndsTold, NotesOn}
+use Rattle.wedge_core.specs.Promises.{HasFills, with_patches}
+use Rattle.wedge_core.specs.Slices.{Counts, PausesAs, SliceAs}
+use Rattle.wedge_core.proofs.RunPieces.{put_both}
+use Rattle.wedge_core.proofs.WholeRuns.{text_is, ends_by, count_by, memory_by}
+use Rattle.trace_check.specs.Kept.{Kept, AreKept, choices_of}
+use Rattle.trace_check.specs.Judged.{judged}
+use Rattle.trace_check.specs.Runs.{StopsTold, NotesAreJudged, NotesAreChoices}
+use Rattle.trace_check.proofs.NotesForm.{first_of, later_of}
+use Rattle.trace_check.specs.Proved.{NotedAnswers}
+
+-- ---- how many notes there are
+
+-- those of steps up to k
+up_to : ℕ → List Note → ℕ
+up_to k [] = 0
+up_to k (note ∷ notes) = cond (nat_le (step_in note) k) (suc (up_to k notes)) (up_to k notes)
+
+abbrev of_step : ℕ → List Note → List Note
+of_step k notes = filter (λ note. step_in note == k) notes
+
+next : (k : ℕ) (notes : List Note) → up_to (suc k) notes ≡ up_to k notes + length (of_step (suc k) notes)
+unfolding up_to
+next k [] = refl
+next k (note ∷ notes) = by (nat_le (step_in note) (suc k)) (nat_le (step_in note) k) (step_in note == suc k) refl refl refl (next k notes)
+  where
+    by : (p q r : Bool) → nat_le (step_in note) (suc k) ≡ p → nat_le (step_in note) k ≡ q → (step_in note == suc k) ≡ r → up_to (suc k) notes ≡ up_to k notes + length (of_step (suc k) notes)
+        → cond p (suc (up_to (suc k) notes)) (up_to (suc k) notes) ≡ cond q (suc (up_to k notes)) (up_to k notes) + length (cond r (note ∷ of_step (suc k) notes) (of_step (suc k) notes))
+    by true true true p q r h = absurd (omega (arith, leb-true (step_in note) k q, eqb-true (step_in note) (suc k) r))
+    by true true false p q r h = omega (arith, h)
+    by true false true p q r h = omega (arith, h)
+    by true false false p q r h = absurd (let a = leb-true (step_in note) (suc k) p in let b = leb-false (step_in note) k q in let c = eqb-false (step_in note) (suc k) r in c (omega (arith, a, b)))
+    by false true r p q e h = absurd (let a = leb-true (step_in note) k q in let b = leb-false (step_in note) (suc k) p in omega (arith, a, b))
+    by false false true p q r h = absurd (let a = eqb-true (step_in note) (suc k) r in let b = leb-false (step_in note) (suc k) p in omega (arith, a, b))
+    by false false false p q r h = h
+
+none_before : (notes : List Note) → up_to 0 notes ≡ length (of_step 0 notes)
+unfolding up_to
+none_before [] = refl
+none_before (note ∷ notes) = by (nat_le (step_in note) 0) (step_in note == 0) refl refl (none_before notes)
+  where
+    by : (p r : Bool) → nat_le (step_in note) 0 ≡ p → (step_in note == 0) ≡ r → up_to 0 notes ≡ length (of_step 0 notes) → cond p (suc (up_to 0 notes)) (up_to 0 notes) ≡ length (cond r (note ∷ of_step 0 notes) (of_step 0 notes))
+    by true true p r h = omega (arith, h)
+    by true false p r h = absurd (let a = leb-true (step_in note) 0 p in let b = eqb-false (step_in note) 0 r in b (omega (arith, a)))
+    by false true p r h = absurd (let a = eqb-true (step_in note) 0 r in let b = leb-false (step_in note) 0 p in omega (arith, a, b))
+    by false false p r h = h
+
+few_up_to : (k : ℕ) (notes : List Note) → ((step : ℕ) → length (of_step step notes) ≤ 64) → up_to k notes ≤ 64 * (k + 1)
+few_up_to zero notes few = omega (arith, none_before notes, few 0)
+few_up_to (suc k) notes few = omega (arith, next k notes, few (suc k), few_up_to k notes few)
+
+all_up_to : (k : ℕ) (notes : List Note) → All (λ note. step_in note ≤ k) notes → up_to k notes ≡ length notes
+unfolding up_to
+all_up_to k [] all = refl
+all_up_to k (note ∷ notes) all = by (nat_le (step_in note) k) refl (all_up_to k notes (later_of (λ x. step_in x ≤ k) note notes all))
+  where
+    by : (p : Bool) → nat_le (step_in note) k ≡ p → up_to k notes ≡ length notes → cond p (suc (up_to k notes)) (up_to k notes) ≡ suc (length notes)
+    by true p h = omega (arith, h)
+    by false p h = absurd (let a : step_in note ≤ k = first_of (λ x. step_in x ≤ k) note notes all in let b = leb-false (step_in note) k p in omega (arith, a, b))
+
+-- ---- the run
+
+stops_told : (m : Setting) (last new : State) (notes : List Note) (pause : Pause) → EndsTold m last new notes (Ok pause) → StopsTold m last notes (end_of pause)
+stops_told m last new notes Reached h = tt
+stops_told m last new notes (Stopped stop) h = h
+
+within : (m : Setting) (n : ℕ) (last new : State) (end : Set) (pause : Pause) → PausesAs m n last new end (Ok pause) → last.step ≤ n
+within m n last new end Reached h = let at = h.0 in omega (arith, at)
+within m n last new end (Stopped stop) h = let lt = h.0 in omega (arith, lt)
+
+allowed_by : (m : Setting) (n : ℕ) (last new : State) (end : Set) (pause : Pause) → PausesAs m n last new end (Ok pause) → Loosened m last end
+allowed_by m n last new end Reached h = h.2
+allowed_by m n last new end (Stopped stop) h = h.2
+
+-- The slice from the start that keeps its notes.
+abbrev Sliced : Image → Events → ℕ → ℕ → State → State → Counts → Counts → Option (List ℕ) → Option (List ℕ) → ℕ → ℕ → ℕ → Kept → Kept → Type 0 → Pause → Type 0
+Sliced image script frames n old new before after told tells pages fills filled kept kept_after begins pause =
+    SliceAs (wedge image script frames) n old new before after told tells pages fills filled true (NotesOn true (AreKept kept) (AreKept kept_after)) begins (Ok pause)
+
+has_fills : (m : Setting) (n : ℕ) (old new : State) (before after : Counts) (told tells : Option (List ℕ)) (pages fills filled : ℕ) (wanted : Bool) (notes_on : List Note → Type 0) (begins : Type 0) (pause : Pause)
+    → pages ≡ 0 → fills ≡ 0 → filled ≤ 128 * new.step → (h : SliceAs m n old new before after told tells pages fills filled wanted notes_on begins (Ok pause)) → HasFills m h.sets h.last filled
+has_fills m n old new before after told tells pages fills filled wanted notes_on begins pause first none few h = record {
+  end = h.end;
+  allowed = allowed_by m n h.last new h.end pause h.ends;
+  enough = All-weaker (λ (set : Set). FillsOn pages (len set) fills filled) (λ (set : Set). len set ≤ filled) (λ set f. let e = f.enough in omega (arith, e, none, first))
+      (h.sets ++ h.end ∷ []) h.each_filled;
+  few = (let same = count_by m n h.last new h.end pause h.ends in omega (arith, few, same));
+}
+
+-- all lines and the last one were put
+pub noted_put : (image : Image) (script : Events) (frames n : ℕ) (old new : State) (counts counts_after : Counts) (a b c : Option (List ℕ)) (pages fills filled : ℕ) (kept kept_after : Kept) (begins : Type 0) (pause : Pause) (before mid now : ℕ) (memory : List ℕ)
+    → NotesAreJudged → NotesAreChoices → n ≤ 2 ^ 40 → AreKept kept []
+    → need image ≤ frames → old ≡ boot (wedge image script frames) → pages ≡ 0 → fills ≡ 0 → filled ≤ 128 * new.step → IfReached (Ok pause) (take (4096 * frames) memory ≡ with_patches image new.ram)
+    → Sliced image script frames n old new counts counts_after a b pages fills filled kept kept_after begins pause → Appends b c (end_line new.step (end_of pause)) → before ≤ mid → mid ≤ now
+    → NotedAnswers image script frames n kept_after a c before now counts counts_after memory (Ok (record { steps = new.step; end = end_of pause; fills = filled }))
+noted_put image script frames n old new counts counts_after a b c pages fills filled kept kept_after begins pause before mid now memory judges forms bound untold fits is first none few has h put le more =
+    let m = wedge image script frames in
+    let end = end_of pause in
+    let noted = h.noted refl in
+    let run : Run m n (boot m) h.sets h.reports h.last end = record { steps = subst (λ (s : State). Steps m s h.sets h.reports h.last) is h.steps; ends = ends_by m n h.last new h.end pause h.ends } in
+    let told : AreTold m (boot m) h.sets h.notes = subst (λ (s : State). AreTold m s h.sets h.notes) is noted.told in
+    let are : AreNotes m (boot m) h.sets h.last.step h.notes = subst (λ (s : State). AreNotes m s h.sets h.last.step h.notes) is noted.are in
+    let stops = stops_told m h.last new h.notes pause noted.ends in
+    let same : new.step ≡ h.last.step = count_by m n h.last new h.end pause h.ends in
+    let text = lines_of (trace_of h.reports) ++ end_line new.step end in
+    let short : h.last.step ≤ n = within m n h.last new h.end pause h.ends in
+    let so_many : up_to h.last.step h.notes ≡ length h.notes = all_up_to h.last.step h.notes are.until in
+    let at_most : up_to h.last.step h.notes ≤ 64 * (h.last.step + 1) = few_up_to h.last.step h.notes are.few in (
+      text,
+      record {
+        sets = h.sets;
+        reports = h.reports;
+        last = h.last;
+        run = run;
+        count_is = same;
+        text_is = text_is h.reports new.step end;
+        counts = h.counts;
+        memory_is = memory_by m n h.last new h.end pause memory has h.ends;
+        notes = h.notes;
+        tells = record { are_kept = h.tells_notes refl [] untold; told = told; are = are; stops = stops };
+        proved = record {
+          is_judged = ap (judged image script frames n (choices_of h.notes)) (text_is h.reports new.step end ∙ ap (λ (k : ℕ). text_of (trace_of h.reports) k end) same) ∙ judges image script frames n h.sets h.reports h.last end h.notes bound run told stops;
+          form = λ few. forms m (boot m) h.sets h.last.step h.notes (omega (arith, short, bound)) few are;
+          few = λ lt. omega (arith, so_many, at_most, short, lt);
+        };
+      },
+      fits,
+      has_fills m n old new counts counts_after a b pages fills filled true (NotesOn true (AreKept kept) (AreKept kept_after)) begins pause first none few h,
+      put_both a b c _ _ h.text put,
+      omega (arith, le, more),
+    )

@@ -1,0 +1,14 @@
+pub mod Lists
+pub mod Form
+pub mod Reading
+pub mod Slots
+pub mod Kept
+pub mod Lines
+pub mod Courses
+pub mod Judged
+pub mod Matches
+pub mod Follows
+pub mod Tells
+pub mod Begins
+pub mod Runs
+pub mod Proved

@@ -1,0 +1,105 @@
+//! Patched runs whose notes are kept, so that their text can be judged.
+
+ghost use Rattle.std.specs.Prelude.{◌≡◌, ◌+◌, ◌≤◌, ◌^◌, [], length, true};
+ghost use Rattle.board.specs.Scripts.{is_script};
+ghost use Rattle.frame_pool.specs.Pool.{free_list};
+ghost use Rattle.image_load.specs.Boot.{need};
+ghost use Rattle.shadow_cache.specs.Views as roots;
+ghost use Rattle.machine_model.specs.State.{boot, wedge};
+ghost use Rattle.run_trace.specs.Pauses.{end_of};
+ghost use Rattle.wedge_step.specs.Filled.{pages_kept};
+ghost use Rattle.wedge_step.specs.Ready.{IsReady};
+ghost use Rattle.wedge_step.specs.Standing.{IsHeld, IsAble, ground, state_of};
+ghost use Rattle.trace_check.specs.Kept.{AreKept};
+ghost use Rattle.trace_check.specs.Proved.{NotedAnswers};
+
+use crate::kept_notes::KeptNotes;
+use crate::laws::notes_are_judged;
+use board::Script;
+use frame_pool::Pool;
+use host_cpl3::Host;
+use image_check::Checked;
+use image_load::{RunFault, StartFault};
+use machine_model::kept_on;
+use pv_io::Sink;
+use run_trace::{Ended, end_of, put_end};
+use std::alloc::Global;
+use wedge_core::Guest;
+
+/// How many frames the shadows of a run have.
+const POOL: u32 = 512;
+
+/// Runs an image's patched text for at most so many steps, puts the text of its trace, and keeps its notes. None were
+/// told before.
+pub fn run_noted<H: Host, O: Sink>(
+    alloc: Global,
+    image: &Checked,
+    script: &Script,
+    frames: u32,
+    n: u64,
+    host: &mut H,
+    out: &mut O,
+    notes: &mut KeptNotes,
+) -> Result<Ended, RunFault>
+    requires frames { (2048 ≤ frames) × (frames ≤ 16384) }
+    requires script { is_script script.now.list ≡ true }
+    requires bound { n ≤ 2 ^ 40 }
+    requires room { H.retired host.old ≤ 2 ^ 63 }
+    requires untold { AreKept notes.old [] }
+    ensures run { NotedAnswers image.now script.now.list frames n notes.new (O.taken out.old) (O.taken out.new) (O.faults out.old) (O.faults out.new)
+        (record { retired = H.retired host.old; passed = H.passed host.old }) (record { retired = H.retired host.new; passed = H.passed host.new }) (H.bytes host.new) result }
+{
+    match Guest::start(alloc, image, frames, POOL, host) {
+        Err(StartFault::TooSmall(small)) => Err(RunFault::TooSmall(small)),
+        Err(StartFault::Memory) => Err(RunFault::Memory),
+        Ok((guest, pool)) => {
+            let mut guest = guest;
+            let mut pool = pool;
+            whole(&mut guest, image, script, n, &mut pool, host, out, notes)
+        }
+    }
+}
+
+/// One slice, and the last line.
+fn whole<H: Host, O: Sink>(
+    guest: &mut Guest,
+    image: &Checked,
+    script: &Script,
+    n: u64,
+    pool: &mut Pool,
+    host: &mut H,
+    out: &mut O,
+    notes: &mut KeptNotes,
+) -> Result<Ended, RunFault>
+    requires started { H.is_started host.old ≡ true }
+    requires held { IsHeld roots.stands roots.frames roots.slots (ground image.now guest.old.running.frames) guest.old.running pool.old (H.bytes host.old) }
+    requires ready { IsReady roots.slots roots.noted roots.marked roots.value roots.asides (ground image.now guest.old.running.frames) guest.old.running.cpu guest.old.running.shadows (H.bytes host.old) }
+    requires able { IsAble guest.old.running.cpu }
+    requires fits { need image.now ≤ guest.old.running.frames }
+    requires script { is_script script.now.list ≡ true }
+    requires first { state_of roots.stands roots.frames roots.slots (wedge image.now script.now.list guest.old.running.frames) guest.old.running (H.bytes host.old) ≡ boot (wedge image.now script.now.list guest.old.running.frames) }
+    requires unfilled { guest.old.running.fills ≡ 0 }
+    requires none { pages_kept roots.slots roots.asides guest.old.running.shadows (H.bytes host.old) ≡ 0 }
+    requires bound { n ≤ 2 ^ 40 }
+    requires room { H.retired host.old ≤ 2 ^ 63 }
+    requires enough { 16 ≤ length (free_list pool.old (H.bytes host.old)) + guest.old.running.held }
+    requires untold { AreKept notes.old [] }
+    ensures whole { NotedAnswers image.now script.now.list guest.old.running.frames n notes.new (O.taken out.old) (O.taken out.new) (O.faults out.old) (O.faults out.new)
+        (record { retired = H.retired host.old; passed = H.passed host.old }) (record { retired = H.retired host.new; passed = H.passed host.new }) (H.bytes host.new) result }
+{
+    notes_are_judged();
+    kept_on();
+    let pause = match guest.slice(image, script, n, pool, host, out, notes) {
+        Err(_) => return Err(RunFault::Write),
+        Ok(pause) => pause,
+    };
+    let ended = Ended {
+        steps: guest.step(),
+        end: end_of(pause),
+        fills: guest.fills(),
+    };
+    match put_end(&ended, out) {
+        Err(_) => Err(RunFault::Write),
+        Ok(()) => Ok(ended),
+    }
+}
