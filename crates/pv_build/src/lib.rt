@@ -2,9 +2,13 @@
 #![tactic(auto)]
 
 mod build;
+mod certificate_lines;
+mod certificates;
+mod checkpoints;
 mod comparing;
 mod halt;
 mod image;
+mod kernel;
 mod lines;
 mod made;
 mod number_words;
@@ -16,9 +20,13 @@ mod telling;
 mod texts;
 
 pub use build::built;
+pub use certificate_lines::{no_certificate_line, verdict_line};
+pub use certificates::{Replayable, certificate_file, replayable_in_files};
+pub use checkpoints::{Resumable, checkpoint_file, resumable_in_files};
 pub use comparing::{Texts, tell_both};
 pub use halt::{Halt, Line};
 pub use image::{accepted, accepted_line, image_file};
+pub use kernel::{Shared, shared_in_files};
 pub use lines::{line_line, link_line, small_line};
 pub use made::Made;
 pub use number_words::number;

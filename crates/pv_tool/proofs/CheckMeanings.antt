@@ -1,5 +1,5 @@
 -- The meaning of `check`.
-use Rattle.std.proofs.Common.{◌≡◌, ℕ, List, Option, sym, ap, ◌∙◌}
+use Rattle.std.proofs.Common.{◌≡◌, ℕ, List, Option, refl, sym, ap, ◌∙◌}
 use Rattle.pv_io.specs.Files.{FileMap}
 use Rattle.image_check.specs.Image.{Image}
 use Rattle.image_check.specs.Refusals.{Refusal}
@@ -23,4 +23,4 @@ refuses_image files name line h = (h.1.0, h.1.1, ap refused h.2 ∙ sym (ap chec
 pub tells_image : (name line : List ℕ) (image : Image) (o : Outside) (st : Status) → HasImage o.files name image → line ≡ accepted_line image → o.files_after ≡ o.files → o.completed_after ≡ o.completed
     → Says line status.Done o.taken o.taken_after o.puts o.puts_after st → Means (Check name) o st
 tells_image name line image o st has is same none said =
-    says (Check name) o (printed line) st tt (has.0, has.1, ap printed is ∙ sym (ap checked has.2)) same (λ end. none) said
+    says (Check name) o (printed line) st tt refl (has.0, has.1, ap printed is ∙ sym (ap checked has.2)) same (λ end. none) said

@@ -1,5 +1,5 @@
 -- What the statuses say of all commands.
-use Rattle.std.proofs.Common.{◌≡◌, ◌≢◌, inl, inr, ℕ, ◌≤◌, Bool, true, List, [], ◌∷◌, Option, Some, None, Result, Ok, Err, length, cond, refl, sym, ap, subst, ◌∙◌, arith}
+use Rattle.std.proofs.Common.{◌≡◌, ◌≢◌, inl, inr, ℕ, ◌≤◌, Bool, true, List, [], ◌∷◌, Option, Some, None, Result, Ok, Err, length, cond, refl, sym, ap, subst, ◌∙◌}
 use Rattle.std.specs.Prelude.{false, bytes_eq}
 use Rattle.std.proofs.lemmas.Slice.Eq.{bytes_eq-Decides}
 use Rattle.pv_io.specs.Causes.{Rose}
@@ -8,7 +8,6 @@ use Rattle.pv_io.specs.Sink.{Appends}
 use Rattle.asm_lex.specs.declared.fault.SourceCause.{SourceCause}
 use Rattle.asm_source.specs.declared.tree.SourceItem.{SourceItem}
 use Rattle.board.specs.Scripts.{Events}
-use Rattle.board.specs.declared.fault.ScriptCause.{ScriptCause}
 use Rattle.elf_form.specs.ObjectParts.{ObjectParts}
 use Rattle.elf_form.specs.ObjectLayout.{object_bytes}
 use Rattle.elf_form.specs.Faults.{Fault}
@@ -23,51 +22,47 @@ use Rattle.image_check.specs.Refusals.{Refusal, ◌>>=◌}
 use Rattle.image_check.specs.Checking.{image_of, image_from, as_form}
 use Rattle.image_check.proofs.Passed.{has_passed}
 use Rattle.image_load.specs.Boot.{need}
-use Rattle.board.specs.Texts.{script_of}
-use Rattle.run_trace.specs.declared.items.End.{End}
-use Rattle.run_trace.specs.declared.items.End.TheVariants.{Bound, Stopped}
-use Rattle.pv_build.specs.Telling.{Says, Whole, Cut, Ends, status_of}
+use Rattle.pv_build.specs.Telling.{Says, Whole, Cut, Ends}
 use Rattle.pv_build.specs.Objects.{HasObjects, object_made_line}
 use Rattle.pv_build.specs.Images.{HasImage, ImageReadsBack, accepted_line, image_made_line}
-use Rattle.pv_build.specs.Scripts.{HasScript, FindsRun}
+use Rattle.pv_build.specs.Scripts.{HasScript}
 use Rattle.pv_build.specs.declared.halt.Halt.{Halt}
 use Rattle.pv_build.specs.declared.halt.Halt.TheVariants as halt
 use Rattle.pv_build.specs.declared.status.Status.{Status}
 use Rattle.pv_build.specs.declared.status.Status.TheVariants as status
-use Rattle.pv_tool.specs.Words.{Command, Burn, Link, Check, RunBare, RunWedge, Work}
+use Rattle.pv_tool.specs.Words.{Command, Burn, Link, Check, RunBare, RunWedge, Work, Share, Save, SaveFrom, Continue, Prove, Replay}
 use Rattle.pv_tool.specs.Outside.{Outside}
-use Rattle.pv_tool.specs.Outcome.{Outcome, printed, stored_as}
+use Rattle.pv_tool.specs.Outcome.{Outcome, refused, printed, stored_as}
 use Rattle.pv_tool.specs.Delivery.{Delivers, Stored, NotStored, NoMemory}
 use Rattle.pv_tool.specs.Burning.{HasBurnt, written, burned}
 use Rattle.pv_tool.specs.Linking.{HoldObjects, linked, Links, AllRead, NoObject}
 use Rattle.pv_tool.specs.Checking.{Checks, checked}
-use Rattle.pv_tool.specs.Running.{RunsOn, RunsBare, RunsPatched, Ran, Small, RunsScript, RunsImage, Runs}
+use Rattle.pv_tool.specs.Running.{RunsBare, RunsPatched, WithFrames, Runs}
+use Rattle.pv_tool.specs.Saving.{SavesBoot, SavesOn, FromFile}
+use Rattle.pv_tool.specs.Continuing.{ContinuesOn}
+use Rattle.pv_tool.specs.Proving.{ProvesRun}
+use Rattle.pv_tool.specs.Replaying.{Replays}
 use Rattle.pv_tool.specs.Meaning.{Gives, Finds, saved, Keeps, Counts, NoLoadFault, NoStoreFault, NoFault, ComesTo, PrintsRun, Leaves, IsStored, NoStore, NoPut, Means}
 use Rattle.pv_tool.proofs.SameFiles.{same_file}
 use Rattle.pv_tool.proofs.BurnMeanings.{is_burnt, burns_once}
 use Rattle.pv_tool.proofs.LinkMeanings.{links_once, links_found}
-use Rattle.pv_tool.proofs.RunMeanings.{AreEnds, bare_ends, patched_ends, runs_none}
-use Rattle.pv_tool.proofs.WorkMeanings.{works_none, works_once}
+use Rattle.pv_tool.proofs.Works.{IsSaved, IsTold, IsRefusal, AreEnds, AreTold, told_saved, ended_refusal, reads_all, reads_once, reads_both, reads_found, frames_all, frames_once, ran}
+use Rattle.pv_tool.proofs.RunMeanings.{bare_ends, bare_told, patched_ends, patched_told}
+use Rattle.pv_tool.proofs.WorkMeanings.{works_told, works_refusal, works_once}
+use Rattle.pv_tool.proofs.ShareLaws.{shares_told, shares_refusal, shares_once, shares_found}
+use Rattle.pv_tool.proofs.RestLaws.{saves_ended, saves_saved, boot_ends, continues_ended, continues_told, from_all, from_once, from_found}
+use Rattle.pv_tool.proofs.ReplayLaws.{proves_ends, proves_saved, replays_told, replays_refusal, replays_once, replays_found}
 
 -- ---- what is stored
-
-ended_refused : (end : End) → status_of end ≡ status.Refused → ⊥
-ended_refused Bound is = cc
-ended_refused (Stopped stop) is = cc
-
-some_or_none : (file : List ℕ × List ℕ) → Some file ≡ None → ⊥
-some_or_none file is = cc
 
 checks_once : (told : FileMap) (image : List ℕ) (w v : Outcome) → Checks (Some told) image w → Checks (Some told) image v → v ≡ w
 checks_once told image w v h k =
     let same = same_file told image k.0 h.0 k.1 h.1 in
     k.2 ∙ (ap (λ (f : List ℕ). checked (image_of f)) same ∙ sym h.2)
 
--- a file that is stored has the name at which the command stores
-abbrev pub IsSaved : Option (List ℕ) → Option (List ℕ × List ℕ) → Type 0
-IsSaved name None = Unit {0}
-IsSaved None (Some file) = ⊥
-IsSaved (Some name) (Some file) = file.0 ≡ name
+-- its file, where there is one, has the name at which the command stores
+abbrev pub SavesAt : Option (List ℕ) → Outcome → Type 0
+SavesAt name w = IsSaved name w.stored
 
 written_saved : (name : List ℕ) (r : Result ObjectParts burning.Fault) → IsSaved (Some name) (written name r).stored
 written_saved name (Ok o) = refl
@@ -85,29 +80,45 @@ links_saved : (files : Option FileMap) (image : List ℕ) (names : List (List �
 links_saved files image names w (AllRead os all is) = subst (λ (v : Outcome). IsSaved (Some image) v.stored) (sym is) (linked_saved image (linked_image os))
 links_saved files image names w (NoObject i fault first is) = subst (λ (v : Outcome). IsSaved (Some image) v.stored) (sym is) tt
 
-checked_none : (r : Result Image Refusal) → (checked r).stored ≡ None
-checked_none (Ok image) = refl
-checked_none (Err refusal) = refl
+checked_told : (r : Result Image Refusal) → IsTold (checked r)
+checked_told (Ok image) = refl
+checked_told (Err refusal) = refl
 
-script_none : (runs : Image → Events → Outcome → Type 0) (frames : ℕ) (image : Image) (r : Result Events (ℕ × ScriptCause)) (w : Outcome) → AreEnds runs → RunsScript runs frames image r w → w.stored ≡ None
-script_none runs frames image (Ok events) w are h = runs_none runs image events frames w are h
-script_none runs frames image (Err (line, cause)) w are h = ap (λ (v : Outcome). v.stored) h
+checks_told : (files : Option FileMap) (image : List ℕ) (w : Outcome) → Checks files image w → IsTold w
+checks_told files image w h = subst IsTold (sym h.2) (checked_told (image_of h.0))
 
-image_none : (runs : Image → Events → Outcome → Type 0) (frames : ℕ) (files : Option FileMap) (script : List ℕ) (r : Result Image Refusal) (w : Outcome) → AreEnds runs
-    → RunsImage runs frames files script r w → w.stored ≡ None
-image_none runs frames files script (Ok image) w are h = script_none runs frames image (script_of h.0) w are h.2
-image_none runs frames files script (Err refusal) w are h = ap (λ (v : Outcome). v.stored) h
+-- a run that prints one text
+runs_told : (runs : Image → Events → Outcome → Type 0) (frames : ℕ) (files : Option FileMap) (image script : List ℕ) (w : Outcome) → AreTold runs → Runs runs frames files image script w → IsTold w
+runs_told runs frames files image script w are h =
+    reads_all IsTold (WithFrames runs frames) files image script w (λ line. refl) (λ i e v r. frames_all IsTold runs frames i e v (λ line. refl) are r) h
 
-none_saved : (name : Option (List ℕ)) (stored : Option (List ℕ × List ℕ)) → stored ≡ None → IsSaved name stored
-none_saved name stored is = subst (λ (s : Option (List ℕ × List ℕ)). IsSaved name s) (sym is) tt
+-- a run that stores at a name
+runs_saved : (name : Option (List ℕ)) (runs : Image → Events → Outcome → Type 0) (frames : ℕ) (files : Option FileMap) (image script : List ℕ) (w : Outcome)
+    → ((image : Image) (events : Events) (v : Outcome) → runs image events v → SavesAt name v) → Runs runs frames files image script w → SavesAt name w
+runs_saved name runs frames files image script w are h =
+    reads_all (SavesAt name) (WithFrames runs frames) files image script w (λ line. tt) (λ i e v r. frames_all (SavesAt name) runs frames i e v (λ line. tt) are r) h
 
 gives_saved : (command : Command) (files : Option FileMap) (w : Outcome) → Gives command files w → IsSaved (saved command) w.stored
 gives_saved (Burn source object) files w h = subst (λ (v : Outcome). IsSaved (Some object) v.stored) (sym h.comes) (burned_saved object h.said)
 gives_saved (Link image objects) files w h = links_saved files image objects w h
-gives_saved (Check image) files w h = none_saved None w.stored (ap (λ (v : Outcome). v.stored) h.2 ∙ checked_none (image_of h.0))
-gives_saved (RunBare image script frames n) files w h = none_saved None w.stored (image_none (RunsBare frames n) frames files script (image_of h.0) w (bare_ends frames n) h.2)
-gives_saved (RunWedge image script frames n) files w h = none_saved None w.stored (image_none (RunsPatched frames n) frames files script (image_of h.0) w (patched_ends frames n) h.2)
-gives_saved (Work number) files w h = none_saved None w.stored (works_none number w h)
+gives_saved (Check image) files w h = told_saved None w (checks_told files image w h)
+gives_saved (RunBare image script frames n) files w h = told_saved None w (runs_told (RunsBare frames n) frames files image script w (bare_told frames n) h)
+gives_saved (RunWedge image script frames n) files w h = told_saved None w (runs_told (RunsPatched frames n) frames files image script w (patched_told frames n) h)
+gives_saved (Work number) files w h = told_saved None w (works_told number w h)
+gives_saved (Share schedule frames kernels) files w h = told_saved None w (shares_told files schedule frames kernels w h)
+gives_saved (Save on image script frames n file) files w h =
+    runs_saved (Some file) (SavesBoot on frames n file) frames files image script w (λ i e v r. saves_saved on _ n _ file v r) h
+gives_saved (SaveFrom on image script file n new) files w h =
+    reads_all (SavesAt (Some new)) (FromFile (SavesOn on n new) on n files file) files image script w (λ line. tt)
+    (λ i e v r. from_all (SavesAt (Some new)) (SavesOn on n new) on n files file i e v (λ line. tt) (λ i2 e2 s u q. saves_saved on _ n _ new u q) r) h
+gives_saved (Continue on image script file n) files w h =
+    reads_all (SavesAt None) (FromFile (ContinuesOn on n) on n files file) files image script w (λ line. tt)
+    (λ i e v r. from_all (SavesAt None) (ContinuesOn on n) on n files file i e v (λ line. tt) (λ i2 e2 s u q. told_saved None u (continues_told on n i2 e2 s u q)) r) h
+gives_saved (Prove image script frames n certificate) files w h =
+    runs_saved (Some certificate) (ProvesRun frames n certificate) frames files image script w (λ i e v r. proves_saved frames n certificate i e v r) h
+gives_saved (Replay image script frames n certificate text) files w h =
+    reads_all (SavesAt None) (Replays frames n files certificate text) files image script w (λ line. tt)
+    (λ i e v r. told_saved None v (replays_told frames n files certificate text i e v r)) h
 
 changes_same : (old new : Option FileMap) (name : List ℕ) → new ≡ old → ChangesAt old new name
 changes_same None new name same = tt
@@ -138,9 +149,10 @@ means_keeps command o status.Done h = keeps_stored (saved command) h.0.stored o 
 means_keeps command o status.Stopped h = keeps_stored (saved command) h.0.stored o (gives_saved command o.files h.0 h.1) h.3
 means_keeps command o status.Refused h = keeps_stored (saved command) h.0.stored o (gives_saved command o.files h.0 h.1) h.3
 means_keeps command o status.ReadFault h = keeps_same (saved command) o.files o.files_after h.1
-means_keeps command o status.WriteFault (w, gives, NoStore name bytes is changes rose unsure same) =
+means_keeps command o status.WriteFault (inl (w, gives, NoStore name bytes is changes rose unsure same)) =
     keeps_changed (saved command) w.stored o name bytes (gives_saved command o.files w gives) is changes
-means_keeps command o status.WriteFault (w, gives, NoPut stored front rose) = keeps_stored (saved command) w.stored o (gives_saved command o.files w gives) stored
+means_keeps command o status.WriteFault (inl (w, gives, NoPut stored past rose)) = keeps_stored (saved command) w.stored o (gives_saved command o.files w gives) stored
+means_keeps command o status.WriteFault (inr h) = keeps_same (saved command) o.files o.files_after h.same
 means_keeps command o status.Memory h = keeps_same (saved command) o.files o.files_after h.0
 means_keeps command o status.Words h = absurd h
 
@@ -163,9 +175,10 @@ came_to command o status.Done none found h = (h.0, h.1, (sym h.2, h.3, h.4, h.5)
 came_to command o status.Stopped none found h = (h.0, h.1, (sym h.2, h.3, h.4, h.5))
 came_to command o status.Refused none found h = (h.0, h.1, (sym h.2, h.3, h.4, h.5))
 came_to command o status.ReadFault none found h = absurd (no_load command o none.loads h.0 h.3)
-came_to command o status.WriteFault none found (v, gives, NoStore name bytes is changes rose unsure same) =
+came_to command o status.WriteFault none found (inl (v, gives, NoStore name bytes is changes rose unsure same)) =
     absurd (no_store (saved command) v.stored o name bytes (gives_saved command o.files v gives) is none.stores rose unsure)
-came_to command o status.WriteFault none found (v, gives, NoPut stored front rose) = absurd (none.puts rose)
+came_to command o status.WriteFault none found (inl (v, gives, NoPut stored past rose)) = absurd (none.puts rose)
+came_to command o status.WriteFault none found (inr h) = absurd (none.puts h.rose)
 came_to command o status.Memory none found h = absurd (found refl)
 came_to command o status.Words none found h = absurd h
 
@@ -178,26 +191,10 @@ comes_to command o told w st files only none found h =
 
 -- ---- refusals
 
-script_once : (runs : Image → Events → Outcome → Type 0) (frames : ℕ) (image : Image) (r : Result Events (ℕ × ScriptCause)) (w v : Outcome) → AreEnds runs → w.status ≡ status.Refused
-    → RunsScript runs frames image r w → RunsScript runs frames image r v → v ≡ w
-script_once runs frames image (Ok events) w v are is (Small lt one) (Small le two) = two ∙ sym one
-script_once runs frames image (Ok events) w v are is (Small lt one) (Ran fits ran) = absurd (omega (arith, lt, fits))
-script_once runs frames image (Ok events) w v are is (Ran fits ran) h = absurd (ended_refused (are.end image events w ran) (sym (are.ends image events w ran) ∙ is))
-script_once runs frames image (Err (line, cause)) w v are is one two = two ∙ sym one
-
-image_once : (runs : Image → Events → Outcome → Type 0) (frames : ℕ) (told : FileMap) (script : List ℕ) (r : Result Image Refusal) (w v : Outcome) → AreEnds runs → w.status ≡ status.Refused
-    → RunsImage runs frames (Some told) script r w → RunsImage runs frames (Some told) script r v → v ≡ w
-image_once runs frames told script (Ok image) w v are is one two =
-    let same = same_file told script two.0 one.0 two.1 one.1 in
-    script_once runs frames image (script_of one.0) w v are is one.2 (subst (λ (f : List ℕ). RunsScript runs frames image (script_of f) v) same two.2)
-image_once runs frames told script (Err refusal) w v are is one two = two ∙ sym one
-
 -- a run that is refused comes to nothing else, on either machine
 run_once : (runs : Image → Events → Outcome → Type 0) (frames : ℕ) (told : FileMap) (image script : List ℕ) (w v : Outcome) → AreEnds runs → w.status ≡ status.Refused
     → Runs runs frames (Some told) image script w → Runs runs frames (Some told) image script v → v ≡ w
-run_once runs frames told image script w v are is h k =
-    let same = same_file told image k.0 h.0 k.1 h.1 in
-    image_once runs frames told script (image_of h.0) w v are is h.2 (subst (λ (f : List ℕ). RunsImage runs frames (Some told) script (image_of f) v) same k.2)
+run_once runs frames told image script w v are is h k = reads_once (WithFrames runs frames) told image script w v (frames_once runs frames are) is h k
 
 -- work that is refused comes to nothing else
 pub refused_once : (command : Command) (told : FileMap) (w : Outcome) → w.status ≡ status.Refused → Gives command (Some told) w → (v : Outcome) → Gives command (Some told) v → v ≡ w
@@ -207,57 +204,72 @@ refused_once (Check image) told w is h v k = checks_once told image w v h k
 refused_once (RunBare image script frames n) told w is h v k = run_once (RunsBare frames n) frames told image script w v (bare_ends frames n) is h k
 refused_once (RunWedge image script frames n) told w is h v k = run_once (RunsPatched frames n) frames told image script w v (patched_ends frames n) is h k
 refused_once (Work number) told w is h v k = works_once number w v is h k
+refused_once (Share schedule frames kernels) told w is h v k = shares_once told schedule frames kernels w v is h k
+refused_once (Save on image script frames n file) told w is h v k = run_once (SavesBoot on frames n file) frames told image script w v (boot_ends on frames n file) is h k
+refused_once (SaveFrom on image script file n new) told w is h v k =
+    reads_once (FromFile (SavesOn on n new) on n (Some told) file) told image script w v (from_once (SavesOn on n new) on n told file (λ i e s u q. saves_ended on _ n _ new u q)) is h k
+refused_once (Continue on image script file n) told w is h v k =
+    reads_once (FromFile (ContinuesOn on n) on n (Some told) file) told image script w v (from_once (ContinuesOn on n) on n told file (continues_ended on n)) is h k
+refused_once (Prove image script frames n certificate) told w is h v k = run_once (ProvesRun frames n certificate) frames told image script w v (proves_ends frames n certificate) is h k
+refused_once (Replay image script frames n certificate text) told w is h v k =
+    reads_once (Replays frames n (Some told) certificate text) told image script w v (replays_once frames n told certificate text) is h k
 
-written_none : (name : List ℕ) (r : Result ObjectParts burning.Fault) → (written name r).status ≡ status.Refused → (written name r).stored ≡ None
-written_none name (Ok o) is = cc
-written_none name (Err fault) is = refl
+written_refusal : (name : List ℕ) (r : Result ObjectParts burning.Fault) → IsRefusal (written name r)
+written_refusal name (Ok o) is = cc
+written_refusal name (Err fault) is = refl
 
-burned_none : (name : List ℕ) (r : Result (List SourceItem) (ℕ × SourceCause)) → (burned name r).status ≡ status.Refused → (burned name r).stored ≡ None
-burned_none name (Ok items) is = written_none name (burnt items) is
-burned_none name (Err (line, cause)) is = refl
+burned_refusal : (name : List ℕ) (r : Result (List SourceItem) (ℕ × SourceCause)) → IsRefusal (burned name r)
+burned_refusal name (Ok items) is = written_refusal name (burnt items) is
+burned_refusal name (Err (line, cause)) is = refl
 
-linked_none : (name : List ℕ) (r : Result ImageParts Refused) → (linked name r).status ≡ status.Refused → (linked name r).stored ≡ None
-linked_none name (Ok p) is = cc
-linked_none name (Err fault) is = refl
+linked_refusal : (name : List ℕ) (r : Result ImageParts Refused) → IsRefusal (linked name r)
+linked_refusal name (Ok p) is = cc
+linked_refusal name (Err fault) is = refl
 
-links_none : (files : Option FileMap) (image : List ℕ) (names : List (List ℕ)) (w : Outcome) → w.status ≡ status.Refused → Links files image names w → w.stored ≡ None
-links_none files image names w is (AllRead os all one) =
-    ap (λ (v : Outcome). v.stored) one ∙ linked_none image (linked_image os) (sym (ap (λ (v : Outcome). v.status) one) ∙ is)
-links_none files image names w is (NoObject i fault first one) = ap (λ (v : Outcome). v.stored) one
+checked_refusal : (r : Result Image Refusal) → IsRefusal (checked r)
+checked_refusal (Ok image) is = cc
+checked_refusal (Err refusal) is = refl
 
-refused_none : (command : Command) (files : Option FileMap) (w : Outcome) → w.status ≡ status.Refused → Gives command files w → w.stored ≡ None
-refused_none (Burn source object) files w is h =
-    ap (λ (v : Outcome). v.stored) h.comes ∙ burned_none object h.said (sym (ap (λ (v : Outcome). v.status) h.comes) ∙ is)
-refused_none (Link image objects) files w is h = links_none files image objects w is h
-refused_none (Check image) files w is h = ap (λ (v : Outcome). v.stored) h.2 ∙ checked_none (image_of h.0)
-refused_none (RunBare image script frames n) files w is h = image_none (RunsBare frames n) frames files script (image_of h.0) w (bare_ends frames n) h.2
-refused_none (RunWedge image script frames n) files w is h = image_none (RunsPatched frames n) frames files script (image_of h.0) w (patched_ends frames n) h.2
-refused_none (Work number) files w is h = works_none number w h
+links_refusal : (files : Option FileMap) (image : List ℕ) (names : List (List ℕ)) (w : Outcome) → Links files image names w → IsRefusal w
+links_refusal files image names w (AllRead os all one) = subst IsRefusal (sym one) (linked_refusal image (linked_image os))
+links_refusal files image names w (NoObject i fault first one) = subst IsRefusal (sym one) (λ is. refl)
+
+line_refusal : (line : List ℕ) → IsRefusal (refused line)
+line_refusal line is = refl
+
+runs_refusal : (runs : Image → Events → Outcome → Type 0) (frames : ℕ) (files : Option FileMap) (image script : List ℕ) (w : Outcome) → AreEnds runs → Runs runs frames files image script w → IsRefusal w
+runs_refusal runs frames files image script w are h =
+    reads_all IsRefusal (WithFrames runs frames) files image script w line_refusal (λ i e v r. frames_all IsRefusal runs frames i e v line_refusal (λ i2 e2 u q. ended_refusal u (are i2 e2 u q)) r) h
+
+-- what is refused is a line alone
+refused_alone : (command : Command) (files : Option FileMap) (w : Outcome) → Gives command files w → IsRefusal w
+refused_alone (Burn source object) files w h = subst IsRefusal (sym h.comes) (burned_refusal object h.said)
+refused_alone (Link image objects) files w h = links_refusal files image objects w h
+refused_alone (Check image) files w h = subst IsRefusal (sym h.2) (checked_refusal (image_of h.0))
+refused_alone (RunBare image script frames n) files w h = runs_refusal (RunsBare frames n) frames files image script w (bare_ends frames n) h
+refused_alone (RunWedge image script frames n) files w h = runs_refusal (RunsPatched frames n) frames files image script w (patched_ends frames n) h
+refused_alone (Work number) files w h = works_refusal number w h
+refused_alone (Share schedule frames kernels) files w h = shares_refusal files schedule frames kernels w h
+refused_alone (Save on image script frames n file) files w h = runs_refusal (SavesBoot on frames n file) frames files image script w (boot_ends on frames n file) h
+refused_alone (SaveFrom on image script file n new) files w h =
+    reads_all IsRefusal (FromFile (SavesOn on n new) on n files file) files image script w line_refusal
+    (λ i e v r. from_all IsRefusal (SavesOn on n new) on n files file i e v line_refusal (λ i2 e2 s u q. ended_refusal u (saves_ended on _ n _ new u q)) r) h
+refused_alone (Continue on image script file n) files w h =
+    reads_all IsRefusal (FromFile (ContinuesOn on n) on n files file) files image script w line_refusal
+    (λ i e v r. from_all IsRefusal (ContinuesOn on n) on n files file i e v line_refusal (λ i2 e2 s u q. ended_refusal u (continues_ended on n i2 e2 s u q)) r) h
+refused_alone (Prove image script frames n certificate) files w h = runs_refusal (ProvesRun frames n certificate) frames files image script w (proves_ends frames n certificate) h
+refused_alone (Replay image script frames n certificate text) files w h =
+    reads_all IsRefusal (Replays frames n files certificate text) files image script w line_refusal (λ i e v r. replays_refusal frames n files certificate text i e v r) h
 
 pub refused_again : (command : Command) (o : Outside) (told : FileMap) (w : Outcome) (st : Status) → o.files ≡ Some told → Gives command (Some told) w → w.status ≡ status.Refused
     → NoFault command o → st ≢ status.Memory → Means command o st
     → (st ≡ status.Refused) × (o.files_after ≡ o.files) × Appends o.taken o.taken_after w.text
 refused_again command o told w st files gives is none found h =
-    let h = comes_to command o told w st files (refused_once command told w is gives) none found h in
-    (h.0 ∙ is, subst (λ (s : Option (List ℕ × List ℕ)). IsStored s o.files o.files_after) (refused_none command (Some told) w is gives) h.1, h.2)
+    let came = comes_to command o told w st files (refused_once command told w is gives) none found h in
+    let here = subst (λ (v : Outcome). ComesTo v o st) (refused_alone command (Some told) w gives is) came in
+    (here.0, here.1, here.2)
 
 -- ---- completeness of `run`
-
--- over these files a run goes on to its outcome
-pub runs_both : (runs : Image → Events → Outcome → Type 0) (frames : ℕ) (told : FileMap) (image script : List ℕ) (program : Image) (events : Events) (w : Outcome)
-    → HasImage (Some told) image program → HasScript (Some told) script events → Runs runs frames (Some told) image script w → RunsOn (runs program events) program frames w
-runs_both runs frames told image script program events w has says h =
-    let same = same_file told image h.0 has.0 h.1 has.1 in
-    let of_file = subst (λ (f : List ℕ). RunsImage runs frames (Some told) script (image_of f) w) same h.2 in
-    let of_image = subst (λ (r : Result Image Refusal). RunsImage runs frames (Some told) script r w) has.2 of_file in
-    let same_script = same_file told script of_image.0 says.0 of_image.1 says.1 in
-    let of_text = subst (λ (f : List ℕ). RunsScript runs frames program (script_of f) w) same_script of_image.2 in
-    subst (λ (r : Result Events (ℕ × ScriptCause)). RunsScript runs frames program r w) says.2 of_text
-
--- an outcome of memory that is large enough is that of a run
-pub ran : (runs : Image → Events → Outcome → Type 0) (frames : ℕ) (program : Image) (events : Events) (w : Outcome) → need program ≤ frames → RunsOn (runs program events) program frames w → runs program events w
-ran runs frames program events w le (Small lt one) = absurd (omega (arith, lt, le))
-ran runs frames program events w le (Ran fits h) = h
 
 pub run_ends : (image script : List ℕ) (frames n : ℕ) (o : Outside) (told : FileMap) (program : Image) (events : Events) (st : Status) → o.files ≡ Some told
     → HasImage (Some told) image program → HasScript (Some told) script events → need program ≤ frames
@@ -266,7 +278,7 @@ pub run_ends : (image script : List ℕ) (frames n : ℕ) (o : Outside) (told : 
 run_ends image script frames n o told program events st files has says le none found h =
     let w = came_to (RunBare image script frames n) o st none found h in
     let gives = subst (λ (f : Option FileMap). Runs (RunsBare frames n) frames f image script w.0) files w.1 in
-    let run = ran (RunsBare frames n) frames program events w.0 le (runs_both (RunsBare frames n) frames told image script program events w.0 has says gives) in
+    let run = ran (RunsBare frames n) frames program events w.0 le (reads_both (WithFrames (RunsBare frames n) frames) told image script program events w.0 has says gives) in
     (run.text, run.count, run.end, run.run, subst (λ (v : Outcome). ComesTo v o st) run.comes w.2)
 
 -- ---- completeness of the others
@@ -300,6 +312,10 @@ check_completes image o told program st files has none found h =
 same_command : (a b : Command) (form : Option Command) → Some a ≡ form → form ≡ Some b → a ≡ b
 same_command a b form is be = cc
 
+-- words of no form ask for no command
+pub asks_nothing : {R : Type 0} → (form : Option Command) (command : Command) → None ≡ form → form ≡ Some command → R
+asks_nothing form command none is = absurd (let e : None ≡ Some command = none ∙ is in cc)
+
 -- what is meant by the words' command
 pub means_of : (a : Command) (form : Option Command) (o : Outside) (st : Status) → Some a ≡ form → Means a o st → (command : Command) → form ≡ Some command → Means command o st
 means_of a form o st is h command be = subst (λ (k : Command). Means k o st) (same_command a command form is be) h
@@ -317,7 +333,7 @@ stored_done o name bytes line st (Stored stores said) done = stores
 stored_done o name bytes line st (NotStored is changes rose unsure none) done = cc
 stored_done o name bytes line st (NoMemory is kept none) done = cc
 
-not_said : (line : List ℕ) (taken taken2 : Option (List ℕ)) (puts puts2 : ℕ) (st : Status) → Says line status.Refused taken taken2 puts puts2 st → st ≡ status.Done → ⊥
+pub not_said : (line : List ℕ) (taken taken2 : Option (List ℕ)) (puts puts2 : ℕ) (st : Status) → Says line status.Refused taken taken2 puts puts2 st → st ≡ status.Done → ⊥
 not_said line taken taken2 puts puts2 st (Whole is appends) done = cc
 not_said line taken taken2 puts puts2 st (Cut is front rose) done = cc
 
@@ -336,23 +352,19 @@ held_objects told (name ∷ names) [] h = absurd h
 held_objects told (name ∷ names) (o ∷ os) h = ((object_bytes o, h.0, h.2 h.1), held_objects told names os h.3)
 
 -- where the work comes to something, each file that it reaches is held
-run_found : (runs : Image → Events → Outcome → Type 0) (frames : ℕ) (told : FileMap) (image script : List ℕ) (w : Outcome) → Runs runs frames (Some told) image script w → FindsRun (Some told) image script
-run_found runs frames told image script w h = (
-  (h.0, h.1),
-  λ program has.
-      let same = same_file told image h.0 has.0 h.1 has.1 in
-      let of_file = subst (λ (f : List ℕ). RunsImage runs frames (Some told) script (image_of f) w) same h.2 in
-      let of_image = subst (λ (r : Result Image Refusal). RunsImage runs frames (Some told) script r w) has.2 of_file in
-      (of_image.0, of_image.1),
-)
-
 pub gives_found : (command : Command) (told : FileMap) (w : Outcome) → Gives command (Some told) w → Finds command (Some told)
 gives_found (Burn source object) told w h = (h.text, h.holds)
 gives_found (Link image objects) told w h = links_found told image objects w h
 gives_found (Check image) told w h = (h.0, h.1)
-gives_found (RunBare image script frames n) told w h = run_found (RunsBare frames n) frames told image script w h
-gives_found (RunWedge image script frames n) told w h = run_found (RunsPatched frames n) frames told image script w h
+gives_found (RunBare image script frames n) told w h = reads_found (WithFrames (RunsBare frames n) frames) told image script w h
+gives_found (RunWedge image script frames n) told w h = reads_found (WithFrames (RunsPatched frames n) frames) told image script w h
 gives_found (Work number) told w h = tt
+gives_found (Share schedule frames kernels) told w h = shares_found told schedule frames kernels w h
+gives_found (Save on image script frames n file) told w h = reads_found (WithFrames (SavesBoot on frames n file) frames) told image script w h
+gives_found (SaveFrom on image script file n new) told w h = from_found (SavesOn on n new) on n told image script file w h
+gives_found (Continue on image script file n) told w h = from_found (ContinuesOn on n) on n told image script file w h
+gives_found (Prove image script frames n certificate) told w h = reads_found (WithFrames (ProvesRun frames n certificate) frames) told image script w h
+gives_found (Replay image script frames n certificate text) told w h = replays_found frames n told image script certificate text w h
 
 pub image_again : (told : FileMap) (name : List ℕ) (p : ImageParts) (program : Image) → told name ≡ Some (image_bytes p) → length (image_bytes p) ≤ 33554432 → ImageReadsBack p
     → image_from p ≡ Ok program → HasImage (Some told) name program

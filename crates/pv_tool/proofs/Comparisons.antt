@@ -1,5 +1,5 @@
 -- What `work` promises, where it is done.
-use Rattle.std.proofs.Common.{◌≡◌, ◌≢◌, ℕ, zero, suc, ◌+◌, ◌≤◌, false, List, [], ◌∷◌, Option, Some, Result, Ok, Err, refl, sym, ap, subst, ◌∙◌, arith}
+use Rattle.std.proofs.Common.{◌≡◌, ◌≢◌, inl, inr, ℕ, zero, suc, ◌+◌, ◌≤◌, false, List, [], ◌∷◌, Option, Some, Result, Ok, Err, refl, sym, ap, subst, ◌∙◌, arith}
 use Rattle.std.specs.Prelude.{◌↔◌}
 use Rattle.pv_io.specs.Causes.{Rose}
 use Rattle.pv_io.specs.Sink.{Appends}
@@ -20,7 +20,7 @@ use Rattle.pv_tool.specs.Running.{Ran, Small}
 use Rattle.pv_tool.specs.Working.{RunsTwice, WorksOn, Works, first_text, second_setting}
 use Rattle.pv_tool.specs.Comparison.{IsComparison, HasComparison}
 use Rattle.pv_tool.specs.Meaning.{Means, ComesTo, NoStore, NoPut, reads_files}
-use Rattle.pv_tool.proofs.WorkMeanings.{builds_once, works_none, works_once}
+use Rattle.pv_tool.proofs.WorkMeanings.{builds_once, works_none, works_refusal, works_once}
 
 no_difference : (xs : List (List ℕ)) (n : ℕ) → DifferBehind xs xs n → ⊥
 no_difference [] n h = h
@@ -94,10 +94,11 @@ came_to_work number o status.Done none found read h = (h.0, h.1, (sym h.2, h.3, 
 came_to_work number o status.Stopped none found read h = (h.0, h.1, (sym h.2, h.3, h.4, h.5))
 came_to_work number o status.Refused none found read h = (h.0, h.1, (sym h.2, h.3, h.4, h.5))
 came_to_work number o status.ReadFault none found read h = absurd (read refl)
-came_to_work number o status.WriteFault none found read (v, gives, NoStore name bytes is changes rose unsure same) =
+came_to_work number o status.WriteFault none found read (inl (v, gives, NoStore name bytes is changes rose unsure same)) =
     let stored = works_none number v gives in
     cc (stored, is)
-came_to_work number o status.WriteFault none found read (v, gives, NoPut stored front rose) = absurd (none rose)
+came_to_work number o status.WriteFault none found read (inl (v, gives, NoPut stored past rose)) = absurd (none rose)
+came_to_work number o status.WriteFault none found read (inr h) = absurd (none h.rose)
 came_to_work number o status.Memory none found read h = absurd (found refl)
 came_to_work number o status.Words none found read h = absurd h
 
@@ -119,8 +120,8 @@ pub work_refuses : (number : ℕ) (w : Outcome) (o : Outside) (st : Status) → 
     → (Rose o.puts o.puts_after → ⊥) → st ≢ status.Memory → st ≢ status.ReadFault → Means (Work number) o st → (st ≡ status.Refused) × Appends o.taken o.taken_after w.text
 work_refuses number w o st works is none found read h =
     let c = came_to_work number o st none found read h in
-    let here = subst (λ (v : Outcome). ComesTo v o st) (works_once number w c.0 is works c.1) c.2 in
-    (here.0 ∙ is, here.2)
+    let here = subst (λ (v : Outcome). ComesTo v o st) (works_once number w c.0 is works c.1 ∙ works_refusal number w works is) c.2 in
+    (here.0, here.2)
 
 -- `work` answers no read fault, where it is what the words ask for
 pub no_load : (a : Command) (form : Option Command) (same : Type 0) (st : Status) → Some a ≡ form → (reads_files (Some a) ≡ false → same × (st ≢ status.ReadFault))

@@ -1,5 +1,5 @@
 -- The meaning of `run`, on either machine.
-use Rattle.std.proofs.Common.{◌≡◌, inl, inr, ℕ, ◌<◌, List, Option, None, Result, Ok, Err, refl, sym, ap, subst, ◌∙◌}
+use Rattle.std.proofs.Common.{◌≡◌, inl, inr, ℕ, ◌<◌, List, Option, Result, Ok, Err, refl, sym, ap, subst, ◌∙◌}
 use Rattle.pv_io.specs.Causes.{Rose}
 use Rattle.pv_io.specs.Files.{FileMap}
 use Rattle.pv_io.specs.Sink.{Appends, AppendsFront}
@@ -17,7 +17,7 @@ use Rattle.run_trace.specs.declared.items.Ended.{Ended}
 use Rattle.run_trace.specs.Text.{text_of}
 use Rattle.machine_model.specs.State.{wedge}
 use Rattle.machine_model.specs.Step.{Report}
-use Rattle.machine_model.specs.Run.{trace_of}
+use Rattle.machine_model.specs.Run.{stopping, trace_of}
 use Rattle.bare_machine.specs.Answers.{RunAnswers}
 use Rattle.wedge_core.specs.Slices.{Counts}
 use Rattle.wedge_core.specs.Promises.{WedgeAnswers}
@@ -29,28 +29,29 @@ use Rattle.pv_build.specs.declared.status.Status.{Status}
 use Rattle.pv_build.specs.declared.status.Status.TheVariants as status
 use Rattle.pv_tool.specs.Words.{Command}
 use Rattle.pv_tool.specs.Outside.{Outside}
-use Rattle.pv_tool.specs.Outcome.{Outcome, HostedRun, refused, ended, ended_on_host}
-use Rattle.pv_tool.specs.Running.{RunsBare, RunsPatched, RunsOn, Ran, Small, RunsScript, RunsImage, Runs, AnswersOn, RanAs}
-use Rattle.pv_tool.specs.Meaning.{Means, Gives, Finds, IsStored}
+use Rattle.pv_tool.specs.Outcome.{Outcome, HostedRun, HasEnded, refused, ended, ended_on_host}
+use Rattle.pv_tool.specs.Running.{RunsBare, RunsPatched, RunsOn, Ran, Small, ReadsScript, ReadsImage, Reads, WithFrames, Runs, AnswersOn, RanAs}
+use Rattle.pv_tool.specs.Meaning.{Means, Gives, Finds}
 use Rattle.pv_tool.specs.View.{run_command}
 use Rattle.pv_tool.specs.declared.words.RunWords.{RunWords}
-use Rattle.pv_tool.specs.declared.run.RunMode.{RunMode}
-use Rattle.pv_tool.specs.declared.run.RunMode.TheVariants as mode
-use Rattle.pv_tool.proofs.Deliveries.{IsEnd, says, idle}
+use Rattle.pv_tool.specs.declared.mode.RunMode.{RunMode}
+use Rattle.pv_tool.specs.declared.mode.RunMode.TheVariants as mode
+use Rattle.pv_tool.proofs.Deliveries.{says_told, idle}
+use Rattle.pv_tool.proofs.Works.{IsEnd, IsTold, AreEnds, AreTold, ended_is_end, frames_all, with_image, with_both}
 
 -- ---- one run
 
 -- the same bytes were taken
-appends_on : (old mid new : Option (List ℕ)) (text : List ℕ) → new ≡ mid → Appends old mid text → Appends old new text
+pub appends_on : (old mid new : Option (List ℕ)) (text : List ℕ) → new ≡ mid → Appends old mid text → Appends old new text
 appends_on old mid new text same h = subst (λ (t : Option (List ℕ)). Appends old t text) (sym same) h
 
-front_on : (old mid new : Option (List ℕ)) (text : List ℕ) → new ≡ mid → AppendsFront old mid text → AppendsFront old new text
+pub front_on : (old mid new : Option (List ℕ)) (text : List ℕ) → new ≡ mid → AppendsFront old mid text → AppendsFront old new text
 front_on old mid new text same h = subst (λ (t : Option (List ℕ)). AppendsFront old t text) (sym same) h
 
-rose_on : (before mid now : ℕ) → now ≡ mid → Rose before mid → Rose before now
+pub rose_on : (before mid now : ℕ) → now ≡ mid → Rose before mid → Rose before now
 rose_on before mid now same h = subst (λ (n : ℕ). Rose before n) (sym same) h
 
-says_from : (line : List ℕ) (old mid new : Option (List ℕ)) (before middle now : ℕ) (st : Status) → mid ≡ old → middle ≡ before
+pub says_from : (line : List ℕ) (old mid new : Option (List ℕ)) (before middle now : ℕ) (st : Status) → mid ≡ old → middle ≡ before
     → Says line status.Refused mid new middle now st → Says line status.Refused old new before now st
 says_from line old mid new before middle now st same count h =
     subst (λ (n : ℕ). Says line status.Refused old new n now st) count (subst (λ (t : Option (List ℕ)). Says line status.Refused t new middle now st) same h)
@@ -92,7 +93,7 @@ ran_bare image events frames n old mid new before middle now (Err (fault.TooSmal
 ran_bare image events frames n old mid new before middle now (Err fault.Memory) c memory st h told = inr (told.0, told.1 ∙ h.0, refl)
 
 -- a status of no run
-no_write : (end : End) → status.WriteFault ≡ status_of end → ⊥
+pub no_write : (end : End) → status.WriteFault ≡ status_of end → ⊥
 no_write Bound is = cc
 no_write (Stopped stop) is = cc
 
@@ -106,20 +107,22 @@ ran_patched : (image : Image) (events : Events) (frames n : ℕ) (old mid new : 
     → RanAs (RunsOn (RunsPatched frames n image events) image frames) old new before now c c2 memory st
 ran_patched image events frames n old mid new before middle now (Ok e) c c2 memory st h told =
     let p = h.1 in
+    let stopped = stopping (wedge image events frames) n p.last e.end p.run.ends in
     let run : HostedRun = record { setting = wedge image events frames; sets = p.sets; reports = p.reports; last = p.last; end = e.end } in
     inl (
-      ended_on_host run,
+      ended_on_host run stopped,
       Ran h.2 (record { sets = p.sets; reports = p.reports; last = p.last; end = e.end; run = p.run; comes = refl }),
-      Whole told.0 (appends_on old mid new (ended_on_host run).text told.1 (subst (λ (t : List ℕ). Appends old mid t) (text_at p.reports h.0 e.steps p.last.step e.end p.text_is p.count_is) h.4)),
+      Whole told.0 (appends_on old mid new (ended_on_host run stopped).text told.1 (subst (λ (t : List ℕ). Appends old mid t) (text_at p.reports h.0 e.steps p.last.step e.end p.text_is p.count_is) h.4)),
       λ end. (p.counts, p.memory_is, p.kept refl),
     )
 ran_patched image events frames n old mid new before middle now (Err fault.Write) c c2 memory st h told =
     let g = h.4 in
+    let stopped = stopping (wedge image events frames) n g.last h.2 g.run.ends in
     let run : HostedRun = record { setting = wedge image events frames; sets = g.sets; reports = g.reports; last = g.last; end = h.2 } in
     inl (
-      ended_on_host run,
+      ended_on_host run stopped,
       Ran h.3 (record { sets = g.sets; reports = g.reports; last = g.last; end = h.2; run = g.run; comes = refl }),
-      Cut told.0 (front_on old mid new (ended_on_host run).text told.1 (subst (λ (t : List ℕ). AppendsFront old mid t) (text_at g.reports h.0 h.1 g.last.step h.2 g.text_is g.count_is) h.5)) (rose_on before middle now told.2 h.6),
+      Cut told.0 (front_on old mid new (ended_on_host run stopped).text told.1 (subst (λ (t : List ℕ). AppendsFront old mid t) (text_at g.reports h.0 h.1 g.last.step h.2 g.text_is g.count_is) h.5)) (rose_on before middle now told.2 h.6),
       λ end. absurd (no_write h.2 (sym told.0 ∙ end)),
     )
 ran_patched image events frames n old mid new before middle now (Err (fault.TooSmall small)) c c2 memory st h (inl said) =
@@ -145,75 +148,58 @@ ran_on mode.Wedge image events frames n old mid new before middle now r c c2 mem
 
 -- ---- what runs come to
 
--- such outcomes are those of runs: nothing is stored, and a run was done or stopped
-pub record AreEnds (runs : Image → Events → Outcome → Type 0) : Type 0 where
-  pub stores : (image : Image) (events : Events) (w : Outcome) → runs image events w → w.stored ≡ None
-  pub end : (image : Image) (events : Events) (w : Outcome) → runs image events w → End
-  pub ends : (image : Image) (events : Events) (w : Outcome) (h : runs image events w) → w.status ≡ status_of (end image events w h)
+pub has_ended : (end : End) → HasEnded (status_of end)
+has_ended Bound = tt
+has_ended (Stopped stop) = tt
 
 pub bare_ends : (frames n : ℕ) → AreEnds (RunsBare frames n)
-bare_ends frames n = record {
-  stores = λ image events w h. ap (λ (v : Outcome). v.stored) h.comes;
-  end = λ image events w h. h.end;
-  ends = λ image events w h. ap (λ (v : Outcome). v.status) h.comes;
-}
+bare_ends frames n image events w h = subst (λ (v : Outcome). HasEnded v.status) (sym h.comes) (has_ended h.end)
 
 pub patched_ends : (frames n : ℕ) → AreEnds (RunsPatched frames n)
-patched_ends frames n = record {
-  stores = λ image events w h. ap (λ (v : Outcome). v.stored) h.comes;
-  end = λ image events w h. h.end;
-  ends = λ image events w h. ap (λ (v : Outcome). v.status) h.comes;
-}
+patched_ends frames n image events w h = subst (λ (v : Outcome). HasEnded v.status) (sym h.comes) (has_ended h.end)
 
-is_end : (end : End) → IsEnd (status_of end)
-is_end Bound = tt
-is_end (Stopped stop) = tt
+pub bare_told : (frames n : ℕ) → AreTold (RunsBare frames n)
+bare_told frames n image events w h = subst IsTold (sym h.comes) refl
 
-pub runs_none : (runs : Image → Events → Outcome → Type 0) (image : Image) (events : Events) (frames : ℕ) (w : Outcome) → AreEnds runs → RunsOn (runs image events) image frames w → w.stored ≡ None
-runs_none runs image events frames w are (Ran fits ran) = are.stores image events w ran
-runs_none runs image events frames w are (Small lt is) = ap (λ (v : Outcome). v.stored) is
+pub patched_told : (frames n : ℕ) → AreTold (RunsPatched frames n)
+patched_told frames n image events w h = subst IsTold (sym h.comes) refl
+
+runs_told : (runs : Image → Events → Outcome → Type 0) (image : Image) (events : Events) (frames : ℕ) (w : Outcome) → AreTold runs → RunsOn (runs image events) image frames w → IsTold w
+runs_told runs image events frames w are h = frames_all IsTold runs frames image events w (λ line. refl) are h
 
 runs_end : (runs : Image → Events → Outcome → Type 0) (image : Image) (events : Events) (frames : ℕ) (w : Outcome) → AreEnds runs → RunsOn (runs image events) image frames w → IsEnd w.status
-runs_end runs image events frames w are (Ran fits ran) = subst (λ (s : Status). IsEnd s) (sym (are.ends image events w ran)) (is_end (are.end image events w ran))
-runs_end runs image events frames w are (Small lt is) = subst (λ (v : Outcome). IsEnd v.status) (sym is) tt
+runs_end runs image events frames w are h =
+    frames_all (λ (v : Outcome). IsEnd v.status) runs frames image events w (λ line. tt) (λ i e v r. ended_is_end v.status (are i e v r)) h
 
 -- ---- with the files
 
-with_image : (runs : Image → Events → Outcome → Type 0) (files : Option FileMap) (image script : List ℕ) (frames : ℕ) (i : Image) (w : Outcome) → HasImage files image i
-    → RunsImage runs frames files script (Ok i) w → Runs runs frames files image script w
-with_image runs files image script frames i w has h =
-    (has.0, has.1, subst (λ (r : Result Image Refusal). RunsImage runs frames files script r w) (sym has.2) h)
-
 -- there is nothing to run
-pub no_run : (runs : Image → Events → Outcome → Type 0) (files : Option FileMap) (image script : List ℕ) (frames : ℕ) (line : List ℕ)
-    → NoRun files image script line → Runs runs frames files image script (refused line)
-no_run runs files image script frames line (NoImage refusal has is) =
-    (has.0, has.1, subst (λ (r : Result Image Refusal). RunsImage runs frames files script r (refused line)) (sym has.2) (ap refused is))
-no_run runs files image script frames line (NoScript i at cause has none is) =
-    with_image runs files image script frames i (refused line) has
-    (none.0, none.1, subst (λ (r : Result Events (ℕ × ScriptCause)). RunsScript runs frames i r (refused line)) (sym none.2) (ap refused is))
-
-both : (runs : Image → Events → Outcome → Type 0) (files : Option FileMap) (image script : List ℕ) (frames : ℕ) (i : Image) (s : Events) (w : Outcome) → HasImage files image i
-    → HasScript files script s → RunsOn (runs i s) i frames w → Runs runs frames files image script w
-both runs files image script frames i s w has says h =
-    with_image runs files image script frames i w has
-    (says.0, says.1, subst (λ (r : Result Events (ℕ × ScriptCause)). RunsScript runs frames i r w) (sym says.2) h)
+pub no_run : (goes : Image → Events → Outcome → Type 0) (files : Option FileMap) (image script : List ℕ) (line : List ℕ)
+    → NoRun files image script line → Reads goes files image script (refused line)
+no_run goes files image script line (NoImage refusal has is) =
+    (has.0, has.1, subst (λ (r : Result Image Refusal). ReadsImage goes files script r (refused line)) (sym has.2) (ap refused is))
+no_run goes files image script line (NoScript i at cause has none is) =
+    with_image goes files image script i (refused line) has
+    (none.0, none.1, subst (λ (r : Result Events (ℕ × ScriptCause)). ReadsScript goes i r (refused line)) (sym none.2) (ap refused is))
 
 -- a run of the files' image and script
-pub run_means : (command : Command) (runs : Image → Events → Outcome → Type 0) (image script : List ℕ) (frames : ℕ) (o : Outside) (st : Status) (i : Image) (s : Events) → AreEnds runs
+pub run_means : (command : Command) (runs : Image → Events → Outcome → Type 0) (image script : List ℕ) (frames : ℕ) (o : Outside) (st : Status) (i : Image) (s : Events) → AreEnds runs → AreTold runs
     → ((w : Outcome) → Runs runs frames o.files image script w → Gives command o.files w) → HasImage o.files image i → HasScript o.files script s → o.files_after ≡ o.files
     → RanAs (RunsOn (runs i s) i frames) o.taken o.taken_after o.puts o.puts_after o.completed o.completed_after o.memory_after st → Means command o st
-run_means command runs image script frames o st i s are gives has has_script same (inl (w, h, said, does)) =
-    says command o w st (runs_end runs i s frames w are h) (gives w (both runs o.files image script frames i s w has has_script h))
-    (subst (λ (x : Option (List ℕ × List ℕ)). IsStored x o.files o.files_after) (sym (runs_none runs i s frames w are h)) same) does said
-run_means command runs image script frames o st i s are gives has has_script same (inr (is, none, still)) =
-    subst (λ (x : Status). Means command o x) (sym is) (same, none, idle command o still)
+run_means command runs image script frames o st i s are told gives has has_script same (inl (w, h, said, does)) =
+    says_told command o w st (runs_end runs i s frames w are h) (runs_told runs i s frames w told h) (gives w (with_both (WithFrames runs frames) o.files image script i s w has has_script h)) same does said
+run_means command runs image script frames o st i s are told gives has has_script same (inr (is, none, still)) =
+    subst (λ (x : Status). Means command o x) (sym is) (same, inl (none, idle command o still))
 
 -- ---- the command of a run
 
 pub ends_of : (on : RunMode) (frames n : ℕ) → AreEnds (runs_of on frames n)
 ends_of mode.Bare frames n = bare_ends frames n
 ends_of mode.Wedge frames n = patched_ends frames n
+
+pub told_of : (on : RunMode) (frames n : ℕ) → AreTold (runs_of on frames n)
+told_of mode.Bare frames n = bare_told frames n
+told_of mode.Wedge frames n = patched_told frames n
 
 pub gives_run : (on : RunMode) (words : RunWords) (files : Option FileMap) (w : Outcome) → Runs (runs_of on words.frames words.n) words.frames files words.image.now words.script.now w
     → Gives (run_command on words) files w

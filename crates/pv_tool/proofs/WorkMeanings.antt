@@ -5,8 +5,9 @@ use Rattle.image_check.specs.Image.{Image}
 use Rattle.board.specs.Scripts.{Events}
 use Rattle.run_trace.specs.declared.items.End.{End}
 use Rattle.run_trace.specs.declared.items.Ended.{Ended}
+use Rattle.machine_model.specs.Run.{stopping}
 use Rattle.wedge_core.specs.Slices.{Counts}
-use Rattle.wedge_core.specs.Promises.{Promise, HasFills, WedgeAnswers}
+use Rattle.wedge_core.specs.Promises.{Promise, HasOwnFills, WedgeAnswers}
 use Rattle.pv_build.specs.Texts.{Compares}
 use Rattle.pv_build.specs.Telling.{RefusesAs, Says, Whole, Cut, Ends}
 use Rattle.pv_build.specs.Building.{Builds, built_of}
@@ -20,8 +21,9 @@ use Rattle.pv_tool.specs.Outside.{Outside}
 use Rattle.pv_tool.specs.Outcome.{Outcome, HostedRun, refused, compared}
 use Rattle.pv_tool.specs.Running.{Ran, Small}
 use Rattle.pv_tool.specs.Working.{second_setting, HasTexts, IsTooLarge, RunsTwice, WorksOn, Works, WorkedAs}
-use Rattle.pv_tool.specs.Meaning.{Means, IsStored}
-use Rattle.pv_tool.proofs.Deliveries.{IsEnd, says}
+use Rattle.pv_tool.specs.Meaning.{Means}
+use Rattle.pv_tool.proofs.Deliveries.{says_told}
+use Rattle.pv_tool.proofs.Works.{IsEnd, IsTold}
 use Rattle.pv_tool.proofs.BurnMeanings.{said_once}
 use Rattle.pv_tool.proofs.RunMeanings.{text_at}
 
@@ -38,12 +40,12 @@ some_same a b is = cc
 -- of a sink that had taken nothing
 pub second_ran : (image : Image) (events : Events) (old text : List ℕ) (before now : ℕ) (c c2 : Counts) (memory : List ℕ) (ended : Ended) → events ≡ [] → old ≡ []
     → WedgeAnswers image events 4096 100000 512 (Some old) (Some text) before now c c2 memory (Ok ended)
-    → (count : ℕ) × (end : End) × (run : Promise (second_setting image) 100000 512 text count end c c2 memory) × HasFills (second_setting image) run.sets run.last ended.fills
+    → (count : ℕ) × (end : End) × (run : Promise (second_setting image) 100000 512 text count end c c2 memory) × HasOwnFills (second_setting image) 100000 512 run.sets run.last end run.run.ends ended.fills
 second_ran image events old text before now c c2 memory ended none first answers =
     let h = subst (λ (e : Events). WedgeAnswers image e 4096 100000 512 (Some old) (Some text) before now c c2 memory (Ok ended)) none answers in
     let is : h.0 ≡ text = sym (some_same text (old ++ h.0) h.4 ∙ ap (λ (l : List ℕ). l ++ h.0) first) in
     let m = second_setting image in
-    let moved = subst (λ (t : List ℕ). (run : Promise m 100000 512 t ended.steps ended.end c c2 memory) × HasFills m run.sets run.last ended.fills) is (h.1, h.3) in
+    let moved = subst (λ (t : List ℕ). (run : Promise m 100000 512 t ended.steps ended.end c c2 memory) × HasOwnFills m 100000 512 run.sets run.last ended.end run.run.ends ended.fills) is (h.1, h.3) in
     (ended.steps, ended.end, moved.0, moved.1)
 
 -- ---- what is told
@@ -69,8 +71,9 @@ pub work_tells : (number : ℕ) (image : Image) (first second : List ℕ) (fills
     → WorkedAs number old new before now c c2 memory st
 work_tells number image first second fills old new before now c c2 memory st h t (inl (told, compares, said)) =
     let p = t.promise in
+    let stopped = stopping (second_setting image) 100000 p.last t.end p.run.ends in
     let run : HostedRun = record { setting = second_setting image; sets = p.sets; reports = p.reports; last = p.last; end = t.end } in
-    let twice : RunsTwice number image (compared run (told_line number image second fills ++ told)) = record {
+    let twice : RunsTwice number image (compared run stopped (told_line number image second fills ++ told)) = record {
       sets = p.sets;
       reports = p.reports;
       last = p.last;
@@ -84,7 +87,7 @@ work_tells number image first second fills old new before now c c2 memory st h t
       compares = subst (λ (f : List ℕ). Compares f second told) t.first_is compares;
       comes = refl;
     } in
-    inl (compared run (told_line number image second fills ++ told), record { made = Ok image; builds = h; comes = Ran t.fits twice }, said, λ end. (p.counts, p.memory_is, p.kept refl))
+    inl (compared run stopped (told_line number image second fills ++ told), record { made = Ok image; builds = h; comes = Ran t.fits twice }, said, λ end. (p.counts, p.memory_is, p.kept refl))
 work_tells number image first second fills old new before now c c2 memory st h t (inr none) = inr none
 
 -- ---- what the outcomes are
@@ -97,17 +100,28 @@ on_end number (Err line) w is = subst (λ (v : Outcome). IsEnd v.status) (sym is
 works_end : (number : ℕ) (w : Outcome) → Works number w → IsEnd w.status
 works_end number w h = on_end number h.made w h.comes
 
-on_none : (number : ℕ) (made : Result Image (List ℕ)) (w : Outcome) → WorksOn number made w → w.stored ≡ None
-on_none number (Ok image) w (Ran fits run) = ap (λ (v : Outcome). v.stored) run.comes
-on_none number (Ok image) w (Small lt is) = ap (λ (v : Outcome). v.stored) is
-on_none number (Err line) w is = ap (λ (v : Outcome). v.stored) is
-
--- `work` stores nothing
-pub works_none : (number : ℕ) (w : Outcome) → Works number w → w.stored ≡ None
-works_none number w h = on_none number h.made w h.comes
-
 not_refused : status.Done ≡ status.Refused → ⊥
 not_refused is = cc
+
+on_told : (number : ℕ) (made : Result Image (List ℕ)) (w : Outcome) → WorksOn number made w → IsTold w
+on_told number (Ok image) w (Ran fits run) = subst IsTold (sym run.comes) refl
+on_told number (Ok image) w (Small lt is) = subst IsTold (sym is) refl
+on_told number (Err line) w is = subst IsTold (sym is) refl
+
+-- `work` prints one text, and stores nothing
+pub works_told : (number : ℕ) (w : Outcome) → Works number w → IsTold w
+works_told number w h = on_told number h.made w h.comes
+
+pub works_none : (number : ℕ) (w : Outcome) → Works number w → w.stored ≡ None
+works_none number w h = ap (λ (v : Outcome). v.stored) (works_told number w h)
+
+on_refusal : (number : ℕ) (made : Result Image (List ℕ)) (w : Outcome) → WorksOn number made w → w.status ≡ status.Refused → w ≡ refused w.text
+on_refusal number (Ok image) w (Ran fits run) is = absurd (not_refused (sym (ap (λ (v : Outcome). v.status) run.comes) ∙ is))
+on_refusal number (Ok image) w (Small lt one) is = subst (λ (v : Outcome). v ≡ refused v.text) (sym one) refl
+on_refusal number (Err line) w one is = subst (λ (v : Outcome). v ≡ refused v.text) (sym one) refl
+
+pub works_refusal : (number : ℕ) (w : Outcome) → Works number w → w.status ≡ status.Refused → w ≡ refused w.text
+works_refusal number w h is = on_refusal number h.made w h.comes is
 
 on_once : (number : ℕ) (made : Result Image (List ℕ)) (w v : Outcome) → w.status ≡ status.Refused → WorksOn number made w → WorksOn number made v → v ≡ w
 on_once number (Ok image) w v is (Small lt one) (Small le two) = two ∙ sym one
@@ -126,8 +140,8 @@ works_once number w v is h k =
 pub work_means : (number : ℕ) (o : Outside) (st : Status) → o.files_after ≡ o.files
     → WorkedAs number o.taken o.taken_after o.puts o.puts_after o.completed o.completed_after o.memory_after st → Means (Work number) o st
 work_means number o st same (inl (w, h, said, does)) =
-    says (Work number) o w st (works_end number w h) h (subst (λ (x : Option (List ℕ × List ℕ)). IsStored x o.files o.files_after) (sym (works_none number w h)) same) does said
-work_means number o st same (inr (is, none)) = subst (λ (x : Status). Means (Work number) o x) (sym is) (same, none, tt)
+    says_told (Work number) o w st (works_end number w h) (works_told number w h) h same does said
+work_means number o st same (inr (is, none)) = subst (λ (x : Status). Means (Work number) o x) (sym is) (same, inl (none, tt))
 
 said_no_read : (w : Outcome) (old new : Option (List ℕ)) (before now : ℕ) (st : Status) → IsEnd w.status → Says w.text w.status old new before now st → st ≢ status.ReadFault
 said_no_read w old new before now st end (Whole is appends) = λ read. subst (λ (s : Status). IsEnd s) (sym is ∙ read) end

@@ -5,11 +5,11 @@ use Rattle.kernel_gen.specs.Kernels.{kernel_text}
 use Rattle.image_check.specs.Image.{Image}
 use Rattle.run_trace.specs.declared.items.End.{End}
 use Rattle.machine_model.specs.State.{boot}
-use Rattle.machine_model.specs.Run.{Run}
+use Rattle.machine_model.specs.Run.{Run, stopping}
 use Rattle.machine_model.specs.Keeping.{Kept}
 use Rattle.machine_model.specs.Agreement.{bound_on_bare, end_on_bare}
 use Rattle.bare_machine.specs.Machine.{bare}
-use Rattle.wedge_core.specs.Promises.{Promise, HasFills}
+use Rattle.wedge_core.specs.Promises.{Promise, HasOwnFills}
 use Rattle.pv_build.specs.Lines.{same_line}
 use Rattle.pv_build.specs.Texts.{Compares}
 use Rattle.pv_build.specs.Building.{Builds}
@@ -34,10 +34,10 @@ pub record IsComparison (number : ℕ) (program : Image) (o : Outside) : Type 0 
   -- The second text is that of one run from boot under the monitor's rules. The host completed its direct instructions, no
   -- more and no fewer, and after all steps its first frames are this run's memory with the text patched.
   pub promise : Promise (second_setting program) 100000 512 second count end o.completed o.completed_after o.memory_after
-  -- its sets keep the rule for kept translations
-  pub kept : Kept (second_setting program) (boot (second_setting program)) promise.sets
-  -- what was printed as filled lies between the bounds of what this run has filled
-  pub filled : HasFills (second_setting program) promise.sets promise.last fills
+  -- its sets, and that by which it stops, keep the rule for kept translations
+  pub kept : Kept (second_setting program) (boot (second_setting program)) (promise.sets ++ stopping (second_setting program) 100000 promise.last end promise.run.ends)
+  -- what was printed as filled lies between the bounds of what this run has filled, by the set at its end
+  pub filled : HasOwnFills (second_setting program) 100000 512 promise.sets promise.last end promise.run.ends fills
   -- it is a run of the bare machine, up to a stop of the monitor's own
   pub bare_run : Run (bare program [] 4096) (bound_on_bare 100000 promise.last end) (boot (bare program [] 4096)) promise.sets promise.reports promise.last (end_on_bare end)
 

@@ -1,13 +1,13 @@
 -- The headline: for every accepted image, every script, memory size and bound n, what `run --wedge` prints is the text of a
 -- trace, with step numbers, that the unpatched image can give on the bare machine; it ends after n steps, or at a named stop
 -- whose condition holds in the state which that run has reached.
-use Rattle.std.specs.Prelude.{◌≡◌, ℕ, List}
+use Rattle.std.specs.Prelude.{◌≡◌, ℕ, List, ◌++◌}
 use Rattle.pv_io.specs.Sink.{Appends}
 use Rattle.board.specs.Scripts.{Events}
 use Rattle.image_check.specs.Image.{Image}
 use Rattle.run_trace.specs.declared.items.End.{End}
 use Rattle.machine_model.specs.State.{boot, wedge}
-use Rattle.machine_model.specs.Run.{Run}
+use Rattle.machine_model.specs.Run.{Run, stopping}
 use Rattle.machine_model.specs.Keeping.{Kept}
 use Rattle.machine_model.specs.Agreement.{bound_on_bare, end_on_bare}
 use Rattle.bare_machine.specs.Machine.{bare}
@@ -30,9 +30,9 @@ pub record IsHeadline (program : Image) (events : Events) (frames n : ℕ) (o : 
   -- run's direct instructions, no more and no fewer, at their addresses in their order. After n steps the host's first
   -- frames are this run's memory with the text patched.
   pub promise : Promise (wedge program events frames) n 512 text count end o.completed o.completed_after o.memory_after
-  -- Its sets keep the rule for kept translations: which of them a run keeps from step to step, while its pages lie under few
-  -- directory indices.
-  pub kept : Kept (wedge program events frames) (boot (wedge program events frames)) promise.sets
+  -- Its sets, and that by which it stops, keep the rule for kept translations: which of them a run keeps from step to step,
+  -- while its pages lie under few directory indices.
+  pub kept : Kept (wedge program events frames) (boot (wedge program events frames)) (promise.sets ++ stopping (wedge program events frames) n promise.last end promise.run.ends)
   -- It is a run of the bare machine, on the unpatched image, with the same translations before each step, the same items
   -- and the same states. Where it ends at a stop of the monitor's own the bare machine's run is that up to there.
   pub bare_run : Run (bare program events frames) (bound_on_bare n promise.last end) (boot (bare program events frames)) promise.sets promise.reports promise.last (end_on_bare end)

@@ -1,10 +1,12 @@
 -- What the work of a command comes to over the files that it reads.
-use Rattle.std.specs.Prelude.{ℕ, List, Option, Some, None}
+use Rattle.std.specs.Prelude.{ℕ, List, [], Option, Some, None}
 use Rattle.run_trace.specs.declared.items.End.{End}
 use Rattle.run_trace.specs.Text.{text_of}
 use Rattle.machine_model.specs.State.{Setting, State}
 use Rattle.machine_model.specs.Step.{Report}
 use Rattle.machine_model.specs.Run.{Set, trace_of}
+use Rattle.guest_sched.specs.declared.kernel.Kernel.{Kernel}
+use Rattle.guest_sched.specs.Pieces.{Piece}
 use Rattle.pv_build.specs.Telling.{status_of}
 use Rattle.pv_build.specs.declared.status.Status.{Status}
 use Rattle.pv_build.specs.declared.status.Status.TheVariants as status
@@ -18,35 +20,55 @@ pub record HostedRun : Type 0 where
   pub last : State
   pub end : End
 
--- how it ends, the name and the bytes of a file that is stored first, the text that is printed then, and the run that
--- the host has a part in, where there is one
+-- what the host has a part in
+pub data HostPart : Type 0 where
+  Nothing : HostPart
+  -- a run from boot that keeps the rule for kept translations, with those by which its last step stops, if it ends so
+  KeptRun : (run : HostedRun) (stopping : List Set) → HostPart
+  -- a run that has ended
+  EndedRun : HostedRun → HostPart
+  -- steps
+  SomeSteps : (setting : Setting) (reports : List Report) → HostPart
+  -- the turns of several kernels
+  Turns : (kernels : List Kernel) (pieces : List Piece) → HostPart
+
+-- how it ends; the text that is printed first; the name and the bytes of a file that is stored behind it; the text that is
+-- printed then; and the host's part
 pub record Outcome : Type 0 where
   pub status : Status
+  pub first : List ℕ
   pub stored : Option (List ℕ × List ℕ)
   pub text : List ℕ
-  pub hosted : Option HostedRun
+  pub hosted : HostPart
+
+-- work that prints a text with this status, and stores nothing
+abbrev pub told : Status → List ℕ → HostPart → Outcome
+told status text hosted = record { status = status; first = []; stored = None; text = text; hosted = hosted }
 
 abbrev pub refused : List ℕ → Outcome
-refused line = record { status = status.Refused; stored = None; text = line; hosted = None }
+refused line = told status.Refused line Nothing
 
 abbrev pub printed : List ℕ → Outcome
-printed line = record { status = status.Done; stored = None; text = line; hosted = None }
+printed line = told status.Done line Nothing
 
 abbrev pub stored_as : List ℕ → List ℕ → List ℕ → Outcome
-stored_as name bytes line = record { status = status.Done; stored = Some (name, bytes); text = line; hosted = None }
+stored_as name bytes line = record { status = status.Done; first = []; stored = Some (name, bytes); text = line; hosted = Nothing }
 
 -- a run with this text
 abbrev pub ended : End → List ℕ → Outcome
-ended end text = record { status = status_of end; stored = None; text = text; hosted = None }
+ended end text = told (status_of end) text Nothing
+
+-- a run's text
+abbrev pub run_text : HostedRun → List ℕ
+run_text r = text_of (trace_of r.reports) r.last.step r.end
 
 -- the same of a run on the host, by the text of its trace
-abbrev pub ended_on_host : HostedRun → Outcome
-ended_on_host r =
-    record { status = status_of r.end; stored = None; text = text_of (trace_of r.reports) r.last.step r.end; hosted = Some r }
+abbrev pub ended_on_host : HostedRun → List Set → Outcome
+ended_on_host r stopping = told (status_of r.end) (run_text r) (KeptRun r stopping)
 
 -- what is told of two runs, of which one is on the host; `work` is done however they ended
-abbrev pub compared : HostedRun → List ℕ → Outcome
-compared r text = record { status = status.Done; stored = None; text = text; hosted = Some r }
+abbrev pub compared : HostedRun → List Set → List ℕ → Outcome
+compared r stopping text = told status.Done text (KeptRun r stopping)
 
 -- a run has ended: it was done, or it stopped
 abbrev pub HasEnded : Status → Type 0

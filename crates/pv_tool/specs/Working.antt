@@ -8,10 +8,10 @@ use Rattle.run_trace.specs.declared.items.End.{End}
 use Rattle.run_trace.specs.Text.{text_of}
 use Rattle.machine_model.specs.State.{Setting, State, boot, wedge}
 use Rattle.machine_model.specs.Step.{Report}
-use Rattle.machine_model.specs.Run.{Set, Run, trace_of}
+use Rattle.machine_model.specs.Run.{Set, Run, stopping, trace_of}
 use Rattle.bare_machine.specs.FreshRuns.{fresh_run, course_text}
 use Rattle.wedge_core.specs.Slices.{Counts}
-use Rattle.wedge_core.specs.Promises.{Promise, HasFills}
+use Rattle.wedge_core.specs.Promises.{Promise, HasOwnFills}
 use Rattle.pv_build.specs.Lines.{small_line}
 use Rattle.pv_build.specs.Texts.{Compares}
 use Rattle.pv_build.specs.Telling.{Says}
@@ -43,10 +43,10 @@ pub record RunsTwice (number : ℕ) (image : Image) (w : Outcome) : Type 0 where
   pub second : List ℕ
   pub second_is : second ≡ text_of (trace_of reports) last.step end
   pub fills : ℕ
-  pub filled : HasFills (second_setting image) sets last fills
+  pub filled : HasOwnFills (second_setting image) 100000 512 sets last end run.ends fills
   pub told : List ℕ
   pub compares : Compares (first_text image) second told
-  pub comes : w ≡ compared (record { setting = second_setting image; sets = sets; reports = reports; last = last; end = end }) (told_line number image second fills ++ told)
+  pub comes : w ≡ compared (record { setting = second_setting image; sets = sets; reports = reports; last = last; end = end }) (stopping (second_setting image) 100000 last end run.ends) (told_line number image second fills ++ told)
 
 -- over what the kernel is built into
 abbrev pub WorksOn : ℕ → Result Image (List ℕ) → Outcome → Type 0
@@ -66,7 +66,7 @@ pub record HasTexts (image : Image) (first second : List ℕ) (fills : ℕ) (bef
   pub count : ℕ
   pub end : End
   pub promise : Promise (second_setting image) 100000 512 second count end before after memory
-  pub filled : HasFills (second_setting image) promise.sets promise.last fills
+  pub filled : HasOwnFills (second_setting image) 100000 512 promise.sets promise.last end promise.run.ends fills
 
 -- the image needs more frames than there are, and the host has done nothing
 abbrev pub IsTooLarge : Image → Counts → Counts → List ℕ → Type 0

@@ -13,6 +13,9 @@ ghost use Rattle.pv_tool.specs.Words.{Command};
 ghost use Rattle.pv_tool.specs.Outcome.{Outcome};
 ghost use Rattle.pv_tool.specs.Linking.{HoldObjects};
 ghost use Rattle.pv_tool.specs.Meaning.{Gives, Finds};
+ghost use Rattle.pv_tool.specs.Moving.{MovesAreOneRun};
+
+use checkpoint::legs_are_a_run;
 
 /// Where the work of a command comes to something over the files, each file that it reaches is held. After a store the name
 /// holds what was stored, and each other name what it held. Names at which objects
@@ -28,3 +31,12 @@ pub fn chains()
     ensures parts { (p : ImageParts) (program : Image) → image_from p ≡ Ok program →
         (program.text ≡ p.text) × (program.init ≡ p.init) × (program.bss ≡ p.bss) × (program.entry ≡ p.entry) }
 {}
+
+/// A kernel that is saved, goes on and is saved again, any number of times and on either machine each time, and at last goes on to
+/// its end, has one run from boot. What its commands print, but for the lines that tell of a file, is that run's text, and each
+/// part of it is steps of the machine that printed it.
+pub fn moved()
+    ensures { MovesAreOneRun }
+{
+    legs_are_a_run();
+}

@@ -7,6 +7,7 @@ ghost use Rattle.pv_tool.specs.Outside.{outside, completed_by};
 ghost use Rattle.pv_tool.specs.Running.{AnswersOn};
 ghost use Rattle.pv_tool.specs.Meaning.{Means, Counts};
 
+use crate::mode::RunMode;
 use crate::patched::patched_run;
 use crate::words::RunWords;
 use bare_machine::run_bare;
@@ -16,13 +17,6 @@ use pv_build::{Runnable, Status, end, runnable_in_files, tell_run};
 use pv_io::{Files, Sink};
 use run_trace::Ended;
 use std::alloc::Global;
-
-/// On which machine an image is run: the bare one, or a host, which runs its patched text.
-#[derive(Clone, Copy)]
-pub enum RunMode {
-    Bare,
-    Wedge,
-}
 
 /// Runs an image under a script, and prints its trace.
 pub fn run<F: Files, S: Sink, H: Host>(

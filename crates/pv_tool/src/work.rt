@@ -3,7 +3,7 @@
 ghost use Rattle.std.specs.Prelude.{◌≡◌, ◌≤◌, ◌<◌, ◌^◌, ℕ, [], IfOk, IfErr};
 ghost use Rattle.image_load.specs.Boot.{need};
 ghost use Rattle.image_load.specs.declared.boot.TooSmall.{TooSmall};
-ghost use Rattle.wedge_core.specs.Promises.{Promise, HasFills};
+ghost use Rattle.wedge_core.specs.Promises.{Promise, HasOwnFills};
 ghost use Rattle.run_trace.specs.declared.items.End.{End};
 ghost use Rattle.pv_build.specs.Lines.{small_line};
 ghost use Rattle.pv_build.specs.Telling.{RefusesAs};
@@ -82,7 +82,7 @@ fn patched<H: Host>(
 ) -> Result<(Vec<u8>, u64), Halt>
     requires events { events.now.list ≡ [] }
     requires room { H.retired host.old ≤ 2 ^ 63 }
-    ensures text { IfOk result (λ ran. (count : ℕ) × (end : End) × (run : Promise (second_setting image.now) 100000 512 ran.0.items count end (completed_by H.Host host.old) (completed_by H.Host host.new) (H.bytes host.new)) × HasFills (second_setting image.now) run.sets run.last ran.1) }
+    ensures text { IfOk result (λ ran. (count : ℕ) × (end : End) × (run : Promise (second_setting image.now) 100000 512 ran.0.items count end (completed_by H.Host host.old) (completed_by H.Host host.new) (H.bytes host.new)) × HasOwnFills (second_setting image.now) 100000 512 run.sets run.last end run.run.ends ran.1) }
     ensures refused { IfErr result (RefusesAs (IsTooLarge image.now (completed_by H.Host host.old) (completed_by H.Host host.new))) }
 {
     let mut kept = Kept::new(alloc);

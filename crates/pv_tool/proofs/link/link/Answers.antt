@@ -18,7 +18,7 @@ returns-in-Ok-clause-meaning g c = λ completed memory.
     let read = c.in-Ok.ensures.read in
     let o = beside g.F.Files g.S.Sink c.made.new.files c.deliver.new.files c.args.out.now c.deliver.new.out completed memory in
     delivered (Link c.args.image.now (map string_bytes c.args.objects.now)) o (g.F.Files.held c.args.files.now) (g.F.Files.sure c.args.files.now) (g.F.Files.load_faults c.args.files.now) (g.F.Files.store_faults c.args.files.now)
-    c.args.image.now c.in-Ok.made.file.items c.in-Ok.made.line c.deliver.result read.held read.same_sure read.same_stores read.later
+    c.args.image.now c.in-Ok.made.file.items c.in-Ok.made.line c.deliver.result read.held read.same_sure read.same_stores read.later (λ same. same)
     (is_linked _ (map string_bytes c.args.objects.now) c.args.image.now c.in-Ok.made.file.items c.in-Ok.made.line c.in-Ok.ensures.made) refl (c.deliver.ensures.delivers completed memory)
 
 pub returns-in-Err-clause-counts : goal.returns-in-Err-clause-counts

@@ -4,8 +4,9 @@ use Rattle.pv_build.proofs.Readings.{read_for}
 use Rattle.pv_tool.specs.Meaning.{Finds}
 use Rattle.pv_tool.specs.Outcome.{refused}
 use Rattle.pv_tool.specs.View.{run_command}
+use Rattle.pv_tool.specs.Running.{WithFrames}
 use Rattle.pv_tool.proofs.Deliveries.{halts, counts_host}
-use Rattle.pv_tool.proofs.RunMeanings.{runs_of, ran_on, ends_of, gives_run, finds_run, no_run, run_means}
+use Rattle.pv_tool.proofs.RunMeanings.{runs_of, ran_on, ends_of, told_of, gives_run, finds_run, no_run, run_means}
 use Rattle.pv_tool.proofs.run.run.Goals as goal
 
 pub returns-in-Err-clause-meaning : goal.returns-in-Err-clause-meaning
@@ -13,7 +14,7 @@ returns-in-Err-clause-meaning g c =
     let words = c.args.words in
     let held = g.F.Files.held c.args.files.now in
     halts _ _ (run_command c.args.mode words) _ c.end.result c.in-Err.halt
-    (λ line none. gives_run c.args.mode words held (refused line) (no_run (runs_of c.args.mode words.frames words.n) held words.image.now words.script.now words.frames line none))
+    (λ line none. gives_run c.args.mode words held (refused line) (no_run (WithFrames (runs_of c.args.mode words.frames words.n) words.frames) held words.image.now words.script.now line none))
     (finds_run c.args.mode words held) c.in-Err.ensures.read.held
     refl c.in-Err.ensures.halted c.end.ensures
 
@@ -22,7 +23,7 @@ returns-in-Ok-clause-meaning g c =
     let words = c.args.words in
     let found = c.in-Ok.found in
     run_means (run_command c.args.mode words) (runs_of c.args.mode words.frames words.n) words.image.now words.script.now words.frames _ c.tell_run.result
-    found.image found.script.list (ends_of c.args.mode words.frames words.n) (gives_run c.args.mode words (g.F.Files.held c.args.files.now)) c.in-Ok.ensures.image c.in-Ok.ensures.script c.in-Ok.ensures.read.held
+    found.image found.script.list (ends_of c.args.mode words.frames words.n) (told_of c.args.mode words.frames words.n) (gives_run c.args.mode words (g.F.Files.held c.args.files.now)) c.in-Ok.ensures.image c.in-Ok.ensures.script c.in-Ok.ensures.read.held
     (ran_on c.args.mode found.image found.script.list words.frames words.n _ _ _ _ _ _ c.run_found-ran.result _ _ _ c.tell_run.result c.run_found-ran.ensures.answers c.tell_run.ensures)
 
 pub returns-in-Err-clause-counts : goal.returns-in-Err-clause-counts

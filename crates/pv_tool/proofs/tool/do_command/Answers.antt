@@ -3,6 +3,7 @@ use Rattle.std.proofs.Common.{refl}
 use Rattle.pv_tool.specs.Words.{Work}
 use Rattle.pv_build.proofs.Readings.{read_none}
 use Rattle.pv_tool.proofs.Deliveries.{counts_host}
+use Rattle.pv_tool.proofs.RestLaws.{bare_mode}
 use Rattle.pv_tool.proofs.WorkMeanings.{work_means, work_no_read}
 use Rattle.pv_tool.proofs.tool.do_command.Goals as goal
 
@@ -35,3 +36,21 @@ returns-in-Work-clause-counts g c =
 
 pub returns-in-Work-clause-files : goal.returns-in-Work-clause-files
 returns-in-Work-clause-files g c = λ reads. (refl, work_no_read c.in-Work.number _ _ _ _ _ _ _ c.work.result c.work.ensures)
+
+pub returns-in-Share-clause-meaning : goal.returns-in-Share-clause-meaning
+returns-in-Share-clause-meaning g c = rw c.in-Share.is c.share.ensures.meaning
+
+pub returns-in-Replay-clause-meaning : goal.returns-in-Replay-clause-meaning
+returns-in-Replay-clause-meaning g c = rw c.in-Replay.is (c.replay.ensures.meaning (completed_by g.H.Host c.args.host.now) (g.H.Host.bytes c.args.host.now))
+
+pub returns-in-Replay-clause-counts : goal.returns-in-Replay-clause-counts
+returns-in-Replay-clause-counts g c = rw c.in-Replay.is (c.replay.ensures.counts (completed_by g.H.Host c.args.host.now) (g.H.Host.bytes c.args.host.now))
+
+pub returns-in-Save-clause-host : goal.returns-in-Save-clause-host
+returns-in-Save-clause-host g c = λ none. c.save.ensures.host (bare_mode c.in-Save.mode (rw c.in-Save.is at none))
+
+pub returns-in-SaveFrom-clause-host : goal.returns-in-SaveFrom-clause-host
+returns-in-SaveFrom-clause-host g c = λ none. c.save_from.ensures.host (bare_mode c.in-SaveFrom.mode (rw c.in-SaveFrom.is at none))
+
+pub returns-in-Continue-clause-host : goal.returns-in-Continue-clause-host
+returns-in-Continue-clause-host g c = λ none. c.go_on.ensures.host (bare_mode c.in-Continue.mode (rw c.in-Continue.is at none))

@@ -1,0 +1,40 @@
+use Rattle.std.proofs.Common.{Option, refl, sym, subst}
+use Rattle.pv_io.specs.Files.{FileMap}
+use Rattle.pv_build.specs.Images.{HasImage}
+use Rattle.pv_build.specs.Scripts.{HasScript}
+use Rattle.pv_tool.specs.Outside.{outside}
+use Rattle.pv_tool.specs.Running.{WithFrames}
+use Rattle.pv_tool.specs.Proving.{ProvesRun}
+use Rattle.pv_tool.specs.View.{prove_command}
+use Rattle.pv_tool.proofs.Deliveries.{halts, counts_host}
+use Rattle.pv_tool.proofs.RunMeanings.{no_run}
+use Rattle.pv_tool.proofs.ProveMeanings.{since_read, counts_proved}
+use Rattle.pv_tool.proofs.prove.prove.Goals as goal
+
+pub returns-in-Err-clause-meaning : goal.returns-in-Err-clause-meaning
+returns-in-Err-clause-meaning g c =
+    let words = c.args.words in
+    let held = g.F.Files.held c.args.files.now in
+    halts _ _ (prove_command words c.args.certificate.now) _ c.end.result c.in-Err.halt
+    (λ line none. no_run (WithFrames (ProvesRun words.frames words.n c.args.certificate.now) words.frames) held words.image.now words.script.now line none) (λ found. found) c.in-Err.ensures.read.held
+    refl c.in-Err.ensures.halted c.end.ensures
+
+pub returns-in-Err-clause-counts : goal.returns-in-Err-clause-counts
+returns-in-Err-clause-counts g c =
+    counts_host g.F.Files g.S.Sink g.H.Host (prove_command c.args.words c.args.certificate.now) c.args.files.now c.runnable_in_files.new.files c.args.out.now c.end.new.out c.args.host.now c.args.host.now c.in-Err.ensures.read
+
+pub returns-in-Ok-clause-meaning : goal.returns-in-Ok-clause-meaning
+returns-in-Ok-clause-meaning g c =
+    let words = c.args.words in
+    let read = c.in-Ok.ensures.read in
+    let has = subst (λ (f : Option FileMap). HasImage f words.image.now c.in-Ok.found.image) (sym read.held) c.in-Ok.ensures.image in
+    let says = subst (λ (f : Option FileMap). HasScript f words.script.now c.in-Ok.found.script.list) (sym read.held) c.in-Ok.ensures.script in
+    let o = outside g.F.Files g.S.Sink g.H.Host c.runnable_in_files.new.files c.prove_found.new.files c.args.out.now c.prove_found.new.out c.args.host.now c.prove_found.new.host in
+    since_read (prove_command words c.args.certificate.now) o (g.F.Files.held c.args.files.now) (g.F.Files.sure c.args.files.now) (g.F.Files.load_faults c.args.files.now) (g.F.Files.store_faults c.args.files.now) c.prove_found.result
+    read.held read.same_sure read.same_stores read.later (c.prove_found.ensures.meaning words.image.now words.script.now has says)
+
+pub returns-in-Ok-clause-counts : goal.returns-in-Ok-clause-counts
+returns-in-Ok-clause-counts g c =
+    let words = c.args.words in
+    counts_proved g.F.Files g.S.Sink g.H.Host words.image.now words.script.now words.frames words.n c.args.certificate.now c.args.files.now c.runnable_in_files.new.files c.prove_found.new.files c.args.out.now c.prove_found.new.out c.args.host.now c.prove_found.new.host
+    c.in-Ok.ensures.read c.prove_found.ensures.stored

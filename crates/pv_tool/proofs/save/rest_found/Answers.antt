@@ -1,0 +1,37 @@
+use Rattle.std.proofs.Common.{◌≡◌, List, refl, sym, subst, ◌∙◌}
+use Rattle.machine_model.specs.Step.{Report}
+use Rattle.bare_machine.specs.Machine.{bare}
+use Rattle.pv_tool.specs.Outside.{completed_by}
+use Rattle.pv_tool.specs.Resting.{HostStepped, AnswersStart}
+use Rattle.pv_tool.specs.declared.mode.RunMode.{RunMode}
+use Rattle.pv_tool.specs.declared.mode.RunMode.TheVariants as mode
+use Rattle.pv_tool.proofs.RestDone.{starts_counted}
+use Rattle.pv_tool.proofs.save.rest_found.Goals as goal
+
+abbrev uncounted : List Report → Type 0
+uncounted reports = Unit {0}
+
+pub returns-in-Bare-clause-host : goal.returns-in-Bare-clause-host
+returns-in-Bare-clause-host g c = λ bare. refl
+
+pub returns-in-Wedge-clause-host : goal.returns-in-Wedge-clause-host
+returns-in-Wedge-clause-host g c = λ bare. absurd (let f : mode.Wedge ≡ mode.Bare = sym c.in-Wedge.is ∙ bare in cc)
+
+pub returns-in-Bare-clause-answers : goal.returns-in-Bare-clause-answers
+returns-in-Bare-clause-answers g c =
+    let image = c.args.found.now.image in
+    let events = c.args.found.now.script.list in
+    let frames = c.args.frames in
+    let told = g.S.Sink.taken c.args.out.now in
+    let tells = g.S.Sink.taken c.save_bare.new.out in
+    let before = g.S.Sink.faults c.args.out.now in
+    let now = g.S.Sink.faults c.save_bare.new.out in
+    let did = completed_by g.H.Host c.args.host.now in
+    let memory = g.H.Host.bytes c.args.host.now in
+    subst (λ (on : RunMode). AnswersStart on frames c.args.n image events told tells before now did did memory c.save_bare.result) (sym c.in-Bare.is)
+    (starts_counted (bare image events frames) c.args.n uncounted (HostStepped mode.Bare image events frames did did memory) told tells before now c.save_bare.result (λ reports. refl) c.save_bare.ensures.rests)
+
+pub returns-in-Wedge-clause-answers : goal.returns-in-Wedge-clause-answers
+returns-in-Wedge-clause-answers g c =
+    subst (λ (on : RunMode). AnswersStart on c.args.frames c.args.n c.args.found.now.image c.args.found.now.script.list (g.S.Sink.taken c.args.out.now) (g.S.Sink.taken c.save_wedge.new.out) (g.S.Sink.faults c.args.out.now) (g.S.Sink.faults c.save_wedge.new.out)
+    (completed_by g.H.Host c.args.host.now) (completed_by g.H.Host c.save_wedge.new.host) (g.H.Host.bytes c.save_wedge.new.host) c.save_wedge.result) (sym c.in-Wedge.is) c.save_wedge.ensures.rests

@@ -1,0 +1,97 @@
+-- The work of `share`: several kernels run on one host, in the turns of a schedule.
+use Rattle.std.specs.Prelude.{◌≡◌, ◌⊎◌, ℕ, ◌≤◌, Bool, true, false, List, [], ◌∷◌, ◌++◌, length, Option, Result, Ok, Err, Vec, if◌then◌else◌}
+use Rattle.std.specs.List.{list_any, flat_map}
+use Rattle.std.specs.declared.alloc.Global.{Global}
+use Rattle.pv_io.specs.Files.{FileMap, Holds}
+use Rattle.image_load.specs.declared.boot.TooSmall.{TooSmall}
+use Rattle.image_load.specs.declared.fault.RunFault.{RunFault}
+use Rattle.image_load.specs.declared.fault.RunFault.TheVariants as alone
+use Rattle.run_trace.specs.declared.items.End.{End}
+use Rattle.run_trace.specs.declared.items.End.TheVariants.{Bound, Stopped}
+use Rattle.run_trace.specs.declared.items.Ended.{Ended}
+use Rattle.guest_sched.specs.declared.kernel.Kernel.{Kernel}
+use Rattle.guest_sched.specs.declared.kernel.SharedFault.{SharedFault}
+use Rattle.guest_sched.specs.declared.kernel.SharedFault.TheVariants as fault
+use Rattle.guest_sched.specs.declared.schedule.Slice.{Slice}
+use Rattle.guest_sched.specs.declared.fault.ScheduleCause.{ScheduleCause}
+use Rattle.guest_sched.specs.Texts.{schedule_of}
+use Rattle.guest_sched.specs.Pieces.{Piece, AreTurns, piece_text, shared_text}
+use Rattle.guest_sched.specs.Shared.{EachRan, EachBegan, LinesAreAlone, FirstTooSmall, AllFit}
+use Rattle.pv_build.specs.Lines.{small_line}
+use Rattle.pv_build.specs.Telling.{Says}
+use Rattle.pv_build.specs.ScheduleLines.{schedule_line}
+use Rattle.pv_build.specs.Kernels.{KernelNames, HasKernels, NoKernel, IsShared}
+use Rattle.pv_build.specs.declared.status.Status.{Status}
+use Rattle.pv_build.specs.declared.status.Status.TheVariants as status
+use Rattle.pv_tool.specs.Outcome.{Outcome, Turns, refused, told}
+
+abbrev pub is_stopped : End → Bool
+is_stopped Bound = false
+is_stopped (Stopped stop) = true
+
+abbrev pub has_stopped : Ended → Bool
+has_stopped ended = is_stopped ended.end
+
+-- stopped, exactly where a kernel ended at a stop
+abbrev pub status_of_all : List Ended → Status
+status_of_all ended = if list_any has_stopped ended then status.Stopped else status.Done
+
+-- The turns are those of the schedule, in its order. Each kernel's turns make a run of it alone, up to the sum of their steps.
+-- Their text is printed, with the kernel's number before each line: the lines with a kernel's number, without it, are the text
+-- of its run.
+pub record SharesTurns (frames : ℕ) (kernels : List Kernel) (slices : List Slice) (w : Outcome) : Type 0 where
+  pub pieces : List Piece
+  pub ended : List Ended
+  pub turns : AreTurns [] slices pieces
+  pub each : EachRan 0 frames slices pieces kernels ended
+  pub lines : LinesAreAlone 0 (shared_text pieces ended) pieces ended
+  pub comes : w ≡ told (status_of_all ended) (shared_text pieces ended) (Turns kernels pieces)
+
+-- over what the schedule says: the first kernel for which there aren't frames enough is told, or they run
+pub data SharesOn (frames : ℕ) (kernels : List Kernel) (slices : List Slice) (w : Outcome) : Type 0 where
+  Ran : AllFit frames kernels → SharesTurns frames kernels slices w → SharesOn frames kernels slices w
+  Small : (small : TooSmall) → FirstTooSmall frames kernels small → w ≡ refused (small_line small.need small.have) → SharesOn frames kernels slices w
+
+abbrev pub BySchedule : ℕ → List Kernel → Result (List Slice) (ℕ × ScheduleCause) → Outcome → Type 0
+BySchedule frames kernels (Ok slices) w = SharesOn frames kernels slices w
+BySchedule frames kernels (Err (line, cause)) w = w ≡ refused (schedule_line line cause)
+
+-- The schedule's file is loaded first. Then come image by image and script, each read before the next is loaded. The schedule
+-- is read last.
+pub data Shares (files : Option FileMap) (schedule : List ℕ) (frames : ℕ) (names : List KernelNames) (w : Outcome) : Type 0 where
+  NoneShared : (text line : List ℕ) → Holds files schedule text → NoKernel files names line → w ≡ refused line → Shares files schedule frames names w
+  AllRead : (text : List ℕ) (kernels : List Kernel) → Holds files schedule text → HasKernels files names kernels → BySchedule frames kernels (schedule_of (length kernels) text) w
+      → Shares files schedule frames names w
+
+-- The text of the turns of the first slices, and of the first steps of one more: where the output fails in a turn, it fails
+-- within such a text.
+pub record SharesText (files : Option FileMap) (schedule : List ℕ) (frames : ℕ) (names : List KernelNames) (text : List ℕ) : Type 0 where
+  pub kernels : List Kernel
+  pub slices : List Slice
+  pub shared : IsShared files schedule names kernels slices
+  pub fit : AllFit frames kernels
+  pub done : List Slice
+  pub slice : Slice
+  pub rest : List Slice
+  pub slices_are : slices ≡ done ++ slice ∷ rest
+  pub pieces : List Piece
+  pub last : Piece
+  pub turns : AreTurns [] done pieces
+  pub kernel_is : last.kernel ≡ slice.kernel
+  pub few : length last.reports ≤ slice.steps
+  pub each : EachBegan 0 frames (pieces ++ last ∷ []) kernels
+  pub text_is : text ≡ flat_map piece_text pieces ++ piece_text last
+
+-- why they have no end, as of one run
+abbrev pub run_fault : SharedFault → RunFault
+run_fault fault.Write = alone.Write
+run_fault (fault.TooSmall small) = alone.TooSmall small
+run_fault fault.Memory = alone.Memory
+
+-- How the answer of several kernels is told: their text was put before, or a refusal's line is, unless no memory is found for it.
+abbrev pub SharedToldAs : Result (Vec Ended Global) SharedFault → Option (List ℕ) → Option (List ℕ) → ℕ → ℕ → Status → Type 0
+SharedToldAs (Ok ended) old new before now result = (result ≡ status_of_all ended.items) × (new ≡ old) × (now ≡ before)
+SharedToldAs (Err fault.Write) old new before now result = (result ≡ status.WriteFault) × (new ≡ old) × (now ≡ before)
+SharedToldAs (Err (fault.TooSmall small)) old new before now result =
+    Says (small_line small.need small.have) status.Refused old new before now result ⊎ ((result ≡ status.Memory) × (new ≡ old))
+SharedToldAs (Err fault.Memory) old new before now result = (result ≡ status.Memory) × (new ≡ old)

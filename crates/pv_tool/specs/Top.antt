@@ -1,0 +1,209 @@
+-- What `top` promises, a definition for each of its clauses.
+use Rattle.std.specs.Prelude.{◌≡◌, ◌≢◌, ◌≤◌, ℕ, List, Some, Ok}
+use Rattle.pv_io.specs.Causes.{Rose}
+use Rattle.pv_io.specs.Files.{FileMap}
+use Rattle.pv_io.specs.Sink.{Appends}
+use Rattle.kernel_gen.specs.Kernels.{kernel_text}
+use Rattle.board.specs.Scripts.{Events}
+use Rattle.elf_form.specs.ObjectParts.{ObjectParts}
+use Rattle.elf_form.specs.ObjectLayout.{object_bytes}
+use Rattle.elf_form.specs.ImageParts.{ImageParts}
+use Rattle.elf_form.specs.ImageLayout.{image_bytes}
+use Rattle.elf_link.specs.Linked.{linked_image}
+use Rattle.image_check.specs.Image.{Image}
+use Rattle.image_load.specs.Boot.{need}
+use Rattle.guest_sched.specs.declared.kernel.Kernel.{Kernel}
+use Rattle.guest_sched.specs.declared.schedule.Slice.{Slice}
+use Rattle.guest_sched.specs.Shared.{AllFit}
+use Rattle.checkpoint.specs.declared.state.State.{State}
+use Rattle.checkpoint.specs.Fits.{fits_of}
+use Rattle.trace_check.specs.declared.list.Choice.{Choice}
+use Rattle.trace_check.specs.Judged.{judged}
+use Rattle.pv_build.specs.CertificateLines.{verdict_line}
+use Rattle.pv_build.specs.Objects.{HasObjects, object_made_line}
+use Rattle.pv_build.specs.Images.{HasImage, accepted_line, image_made_line}
+use Rattle.pv_build.specs.Scripts.{HasScript}
+use Rattle.pv_build.specs.Building.{Builds}
+use Rattle.pv_build.specs.Kernels.{KernelNames, IsShared}
+use Rattle.pv_build.specs.Checkpoints.{HasState}
+use Rattle.pv_build.specs.Certificates.{HasChoices}
+use Rattle.pv_build.specs.declared.status.Status.{Status}
+use Rattle.pv_build.specs.declared.status.Status.TheVariants as status
+use Rattle.pv_tool.specs.Words.{Command, Burn, Link, Check, RunBare, RunWedge, Work, Share, Save, SaveFrom, Continue, Prove, Replay, Asks}
+use Rattle.pv_tool.specs.Outside.{Outside}
+use Rattle.pv_tool.specs.Outcome.{Outcome, HasEnded, printed, stored_as}
+use Rattle.pv_tool.specs.Burning.{HasBurnt}
+use Rattle.pv_tool.specs.Working.{Works}
+use Rattle.pv_tool.specs.Saving.{SavesBoot, SavesOn, is_wedge}
+use Rattle.pv_tool.specs.Continuing.{ContinuesOn}
+use Rattle.pv_tool.specs.Sharing.{SharesTurns}
+use Rattle.pv_tool.specs.Meaning.{Means, Gives, Keeps, Counts, NoFault, ComesTo, PrintsRun, Leaves, saved}
+use Rattle.pv_tool.specs.Headline.{IsHeadline, HasHeadline}
+use Rattle.pv_tool.specs.Comparison.{IsComparison, HasComparison}
+use Rattle.pv_tool.specs.Certified.{IsProof, HasProof, HasVerdict}
+use Rattle.pv_tool.specs.declared.mode.RunMode.{RunMode}
+
+-- ---- of all commands
+
+-- what the status says of the files and of what was printed
+abbrev pub Meaning : List (List ℕ) → Outside → Status → Type 0
+Meaning words o st = (command : Command) → Asks words command → Means command o st
+
+-- no file is changed but the one that the command makes
+abbrev pub KeepsOthers : List (List ℕ) → Outside → Type 0
+KeepsOthers words o = (command : Command) → Asks words command → Keeps (saved command) o.files o.files_after
+
+-- what becomes of the counts of faults
+abbrev pub CountsFaults : List (List ℕ) → Outside → Type 0
+CountsFaults words o = (command : Command) → Asks words command → Counts command o
+
+-- what is left where the command is done
+abbrev pub LeavesFiles : List (List ℕ) → Outside → Status → Type 0
+LeavesFiles words o st = (command : Command) → Asks words command → st ≡ status.Done → Leaves command o.files o.files_after
+
+-- work that is refused is told so by its line, and changes no file
+abbrev pub RefusesWork : List (List ℕ) → Outside → Status → Type 0
+RefusesWork words o st =
+    (command : Command) (told : FileMap) (w : Outcome) → Asks words command → o.files ≡ Some told
+    → Gives command (Some told) w → w.status ≡ status.Refused → NoFault command o → st ≢ status.Memory
+    → (st ≡ status.Refused) × (o.files_after ≡ o.files) × Appends o.taken o.taken_after w.text
+
+-- ---- of those that make files and run them
+
+-- `run --wedge` that is done or stopped has the headline
+abbrev pub Headlines : List (List ℕ) → Outside → Status → Type 0
+Headlines words o st =
+    (image script : List ℕ) (frames n : ℕ) → Asks words (RunWedge image script frames n) → HasEnded st
+    → HasHeadline image script frames n o st
+
+-- the run of an accepted image, under a script that is read, in memory that is large enough, is printed
+abbrev pub RunsOnBare : List (List ℕ) → Outside → Status → Type 0
+RunsOnBare words o st =
+    (image script : List ℕ) (frames n : ℕ) (told : FileMap) (program : Image) (events : Events)
+    → Asks words (RunBare image script frames n) → o.files ≡ Some told
+    → HasImage (Some told) image program → HasScript (Some told) script events → need program ≤ frames
+    → NoFault (RunBare image script frames n) o → st ≢ status.Memory → PrintsRun program events frames n o st
+
+-- and that of a patched one, with the headline
+abbrev pub RunsOnHost : List (List ℕ) → Outside → Status → Type 0
+RunsOnHost words o st =
+    (image script : List ℕ) (frames n : ℕ) (told : FileMap) (program : Image) (events : Events)
+    → Asks words (RunWedge image script frames n) → o.files ≡ Some told
+    → HasImage (Some told) image program → HasScript (Some told) script events → need program ≤ frames
+    → NoFault (RunWedge image script frames n) o → st ≢ status.Memory → IsHeadline program events frames n o st
+
+-- `work` that is done has compared its runs
+abbrev pub Compared : List (List ℕ) → Outside → Status → Type 0
+Compared words o st = (number : ℕ) → Asks words (Work number) → st ≡ status.Done → HasComparison number o
+
+-- it is done where its kernel is built, there are frames enough, no put failed and memory was found
+abbrev pub WorkDone : List (List ℕ) → Outside → Status → Type 0
+WorkDone words o st =
+    (number : ℕ) (program : Image) → Asks words (Work number) → Builds (kernel_text number) (Ok program) → need program ≤ 4096
+    → (Rose o.puts o.puts_after → ⊥) → st ≢ status.Memory → (st ≡ status.Done) × IsComparison number program o
+
+-- or it is refused, where a part refuses the kernel
+abbrev pub WorkRefused : List (List ℕ) → Outside → Status → Type 0
+WorkRefused words o st =
+    (number : ℕ) (w : Outcome) → Asks words (Work number) → Works number w → w.status ≡ status.Refused
+    → (Rose o.puts o.puts_after → ⊥) → st ≢ status.Memory → (st ≡ status.Refused) × Appends o.taken o.taken_after w.text
+
+-- a source that is burnt is stored as its object
+abbrev pub BurnsAll : List (List ℕ) → Outside → Status → Type 0
+BurnsAll words o st =
+    (source object : List ℕ) (told : FileMap) (p : ObjectParts)
+    → Asks words (Burn source object) → o.files ≡ Some told → HasBurnt (Some told) source p
+    → NoFault (Burn source object) o → st ≢ status.Memory
+    → ComesTo (stored_as object (object_bytes p) (object_made_line p)) o st
+
+-- objects that are linked are stored as their image
+abbrev pub LinksAll : List (List ℕ) → Outside → Status → Type 0
+LinksAll words o st =
+    (image : List ℕ) (objects : List (List ℕ)) (told : FileMap) (os : List ObjectParts) (p : ImageParts)
+    → Asks words (Link image objects) → o.files ≡ Some told → HasObjects (Some told) objects os → linked_image os ≡ Ok p
+    → NoFault (Link image objects) o → st ≢ status.Memory
+    → ComesTo (stored_as image (image_bytes p) (image_made_line p)) o st
+
+-- an accepted image is told as one
+abbrev pub ChecksAll : List (List ℕ) → Outside → Status → Type 0
+ChecksAll words o st =
+    (image : List ℕ) (told : FileMap) (program : Image)
+    → Asks words (Check image) → o.files ≡ Some told → HasImage (Some told) image program
+    → NoFault (Check image) o → st ≢ status.Memory → ComesTo (printed (accepted_line program)) o st
+
+-- ---- of several kernels, checkpoints and certificates
+
+-- The words ask for the command, the files tell what they hold, no load, store or put failed, and memory was found.
+pub record Unhindered (words : List (List ℕ)) (command : Command) (told : FileMap) (o : Outside) (st : Status) : Type 0 where
+  pub asks : Asks words command
+  pub files : o.files ≡ Some told
+  pub no_fault : NoFault command o
+  pub memory : st ≢ status.Memory
+
+-- the names hold an image that is accepted, and a script
+pub record HasRunnable (told : FileMap) (image script : List ℕ) (program : Image) (events : Events) : Type 0 where
+  pub image_held : HasImage (Some told) image program
+  pub script_held : HasScript (Some told) script events
+
+-- the work came to such an outcome
+abbrev pub ComesToOne : (Outcome → Type 0) → Outside → Status → Type 0
+ComesToOne comes o st = (w : Outcome) × comes w × ComesTo w o st
+
+-- several kernels, for each of which there are frames enough, run in the turns of their schedule
+abbrev pub SharesAll : List (List ℕ) → Outside → Status → Type 0
+SharesAll words o st =
+    (schedule : List ℕ) (frames : ℕ) (names : List KernelNames) (told : FileMap) (kernels : List Kernel) (slices : List Slice)
+    → Unhindered words (Share schedule frames names) told o st → IsShared (Some told) schedule names kernels slices → AllFit frames kernels
+    → ComesToOne (SharesTurns frames kernels slices) o st
+
+-- an image's state is saved after n steps, or its run ends at a stop
+abbrev pub SavesAll : List (List ℕ) → Outside → Status → Type 0
+SavesAll words o st =
+    (on : RunMode) (image script : List ℕ) (frames n : ℕ) (file : List ℕ) (told : FileMap) (program : Image) (events : Events)
+    → Unhindered words (Save on image script frames n file) told o st → HasRunnable told image script program events → need program ≤ frames
+    → ComesToOne (SavesBoot on frames n file program events) o st
+
+-- the same from a checkpoint that fits
+abbrev pub SavesAgain : List (List ℕ) → Outside → Status → Type 0
+SavesAgain words o st =
+    (on : RunMode) (image script file : List ℕ) (n : ℕ) (new : List ℕ) (told : FileMap) (program : Image) (events : Events) (s : State)
+    → Unhindered words (SaveFrom on image script file n new) told o st → HasRunnable told image script program events
+    → HasState (Some told) file s → fits_of s program (is_wedge on) n ≡ Ok tt
+    → ComesToOne (SavesOn on n new program events s) o st
+
+-- a run goes on from a checkpoint that fits, to its end
+abbrev pub ContinuesAll : List (List ℕ) → Outside → Status → Type 0
+ContinuesAll words o st =
+    (on : RunMode) (image script file : List ℕ) (n : ℕ) (told : FileMap) (program : Image) (events : Events) (s : State)
+    → Unhindered words (Continue on image script file n) told o st → HasRunnable told image script program events
+    → HasState (Some told) file s → fits_of s program (is_wedge on) n ≡ Ok tt
+    → ComesToOne (ContinuesOn on n program events s) o st
+
+-- `prove` that is done or stopped has stored a proof of what it printed
+abbrev pub Proves : List (List ℕ) → Outside → Status → Type 0
+Proves words o st =
+    (image script : List ℕ) (frames n : ℕ) (certificate : List ℕ) → Asks words (Prove image script frames n certificate) → HasEnded st
+    → HasProof image script frames n certificate o st
+
+-- so it is for an accepted image, under a script that is read, in memory that is large enough
+abbrev pub ProvesAll : List (List ℕ) → Outside → Status → Type 0
+ProvesAll words o st =
+    (image script : List ℕ) (frames n : ℕ) (certificate : List ℕ) (told : FileMap) (program : Image) (events : Events)
+    → Asks words (Prove image script frames n certificate) → o.files ≡ Some told
+    → HasImage (Some told) image program → HasScript (Some told) script events → need program ≤ frames
+    → NoFault (Prove image script frames n certificate) o → st ≢ status.Memory → IsProof program events frames n certificate o st
+
+-- `replay` that is done has said what is judged
+abbrev pub Judges : List (List ℕ) → Outside → Status → Type 0
+Judges words o st =
+    (image script : List ℕ) (frames n : ℕ) (certificate text : List ℕ) → Asks words (Replay image script frames n certificate text) → st ≡ status.Done
+    → HasVerdict image script frames n certificate text o
+
+-- it is done where the files hold all that it is given
+abbrev pub JudgesAll : List (List ℕ) → Outside → Status → Type 0
+JudgesAll words o st =
+    (image script : List ℕ) (frames n : ℕ) (certificate text : List ℕ) (told : FileMap) (program : Image) (events : Events) (list : List Choice) (bytes : List ℕ)
+    → Asks words (Replay image script frames n certificate text) → o.files ≡ Some told
+    → HasImage (Some told) image program → HasScript (Some told) script events → HasChoices (Some told) certificate list → told text ≡ Some bytes → need program ≤ frames
+    → NoFault (Replay image script frames n certificate text) o → st ≢ status.Memory
+    → ComesTo (printed (verdict_line (judged program events frames n list bytes))) o st

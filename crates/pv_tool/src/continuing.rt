@@ -1,0 +1,88 @@
+//! The command `continue`: a run goes on from a checkpoint.
+
+ghost use Rattle.std.specs.Prelude.{◌≡◌, ◌≤◌, ◌^◌, true, length};
+ghost use Rattle.guest_ram.specs.Bytes.{part};
+ghost use Rattle.board.specs.Scripts.{is_script};
+ghost use Rattle.machine_model.specs.Able.{IsAble};
+ghost use Rattle.checkpoint.specs.States.{IsInForm};
+ghost use Rattle.pv_tool.specs.View.{continue_command};
+ghost use Rattle.pv_tool.specs.Outside.{outside, completed_by};
+ghost use Rattle.pv_tool.specs.Resting.{AnswersOnwards};
+ghost use Rattle.pv_tool.specs.Meaning.{Means, Counts};
+
+use crate::machine::is_wedge;
+use crate::mode::RunMode;
+use crate::words::RestWords;
+use checkpoint::{continue_bare, continue_wedge};
+use host_cpl3::Host;
+use image_load::RunFault;
+use pv_build::{Resumable, Status, end, resumable_in_files, tell_run};
+use pv_io::{Files, Sink};
+use run_trace::Ended;
+use std::alloc::Global;
+
+/// Goes on from a checkpoint until `n` steps are done in all, and prints the rest of the trace.
+pub fn go_on<F: Files, S: Sink, H: Host>(
+    alloc: Global,
+    mode: RunMode,
+    words: RestWords<'_>,
+    files: &mut F,
+    out: &mut S,
+    host: &mut H,
+) -> Status
+    requires within { words.n ≤ 2 ^ 40 }
+    requires room { H.retired host.old ≤ 2 ^ 63 }
+    ensures meaning { Means (continue_command mode words.entry)
+        (outside F.Files S.Sink H.Host files.old files.new out.old out.new host.old host.new) result }
+    ensures counts { Counts (continue_command mode words.entry)
+        (outside F.Files S.Sink H.Host files.old files.new out.old out.new host.old host.new) }
+    ensures host { mode ≡ RunMode.Bare → host.new ≡ host.old }
+{
+    let wedge = is_wedge(mode);
+    match resumable_in_files(
+        alloc,
+        words.image,
+        words.script,
+        words.file,
+        wedge,
+        words.n,
+        files,
+    ) {
+        Err(halt) => end(&halt, out),
+        Ok(found) => {
+            let ran = run_onwards(alloc, mode, found, words.n, host, out);
+            tell_run(alloc, ran, out)
+        }
+    }
+}
+
+// Goes on from a state that was found, and answers how the run ended.
+fn run_onwards<S: Sink, H: Host>(
+    alloc: Global,
+    mode: RunMode,
+    found: Resumable,
+    n: u64,
+    host: &mut H,
+    out: &mut S,
+) -> Result<Ended, RunFault>
+    requires script { is_script found.script.list ≡ true }
+    requires form { IsInForm found.state }
+    requires able { mode ≡ RunMode.Wedge → IsAble found.state.cpu }
+    requires text { part found.state.ram 0x100000 (length found.image.text) ≡ found.image.text }
+    requires begun { found.state.step ≤ n }
+    requires bound { n ≤ 2 ^ 40 }
+    requires room { H.retired host.old ≤ 2 ^ 63 }
+    ensures answers { AnswersOnwards mode n found.image found.script.list found.state (S.taken out.old) (S.taken out.new) (S.faults out.old) (S.faults out.new)
+        (completed_by H.Host host.old) (completed_by H.Host host.new) (H.bytes host.new) result }
+    ensures host { mode ≡ RunMode.Bare → host.new ≡ host.old }
+{
+    let Resumable {
+        image,
+        script,
+        state,
+    } = found;
+    match mode {
+        RunMode::Bare => continue_bare(state, &script, n, out),
+        RunMode::Wedge => continue_wedge(alloc, state, &image, &script, n, host, out),
+    }
+}

@@ -1,0 +1,70 @@
+//! The command `replay`: a text is judged by a certificate.
+
+ghost use Rattle.std.specs.Prelude.{◌≡◌, ◌≤◌, ◌^◌, true, List, ℕ};
+ghost use Rattle.board.specs.Scripts.{is_script};
+ghost use Rattle.trace_check.specs.Form.{AreChoices};
+ghost use Rattle.wedge_core.specs.Slices.{Counts as HostCounts};
+ghost use Rattle.pv_tool.specs.View.{AreWithin, replay_command};
+ghost use Rattle.pv_tool.specs.Outside.{beside};
+ghost use Rattle.pv_tool.specs.Replaying.{JudgesAs};
+ghost use Rattle.pv_tool.specs.Meaning.{Means, Counts};
+
+use crate::words::RunWords;
+use pv_build::{Replayable, Status, end, print, replayable_in_files, small_line, verdict_line};
+use pv_io::{Files, Sink};
+use std::alloc::Global;
+use trace_check::{ReplayFault, replay as replay_text};
+
+/// Tells whether a text is that of the run of the bare machine that goes by a certificate.
+pub fn replay<F: Files, S: Sink>(
+    alloc: Global,
+    words: RunWords<'_>,
+    certificate: &str,
+    text: &str,
+    files: &mut F,
+    out: &mut S,
+) -> Status
+    requires within { AreWithin words }
+    ensures meaning { (completed : HostCounts) (memory : List ℕ) → Means (replay_command words.entry certificate.now text.now)
+        (beside F.Files S.Sink files.old files.new out.old out.new completed memory) result }
+    ensures counts { (completed : HostCounts) (memory : List ℕ) → Counts (replay_command words.entry certificate.now text.now)
+        (beside F.Files S.Sink files.old files.new out.old out.new completed memory) }
+{
+    match replayable_in_files(alloc, words.image, words.script, certificate, text, files) {
+        Err(halt) => end(&halt, out),
+        Ok(found) => judge(alloc, &found, words.frames, words.n, out),
+    }
+}
+
+// Judges what was found, and tells the verdict.
+fn judge<S: Sink>(alloc: Global, found: &Replayable, frames: u32, n: u64, out: &mut S) -> Status
+    requires script { is_script found.now.runnable.script.list ≡ true }
+    requires limits { (2048 ≤ frames) × (frames ≤ 16384) × (n ≤ 2 ^ 40) }
+    requires entries { AreChoices found.now.choices.list }
+    ensures { JudgesAs frames n found.now.runnable.image found.now.runnable.script.list found.now.choices.list found.now.text.items
+        (S.taken out.old) (S.taken out.new) (S.faults out.old) (S.faults out.new) result }
+{
+    let runnable = &found.runnable;
+    let judged = replay_text(
+        alloc,
+        &runnable.image,
+        &runnable.script,
+        frames,
+        n,
+        &found.choices,
+        &found.text,
+    );
+    match judged {
+        Err(fault) => match fault {
+            ReplayFault::Memory => Status::Memory,
+            ReplayFault::TooSmall(small) => match small_line(alloc, small) {
+                Err(_) => Status::Memory,
+                Ok(line) => print(&line, Status::Refused, out),
+            },
+        },
+        Ok(verdict) => match verdict_line(alloc, verdict) {
+            Err(_) => Status::Memory,
+            Ok(line) => print(&line, Status::Done, out),
+        },
+    }
+}
