@@ -1,4 +1,4 @@
-//! Sources, files, annotations and lines against bytes that other tools made or read, and worked examples of each reader, writer
+//! Files, annotations and lines against bytes that other tools made or read, and worked examples of each reader, writer
 //! and refusal.
 #![tactic(auto)]
 
@@ -7,19 +7,9 @@ mod agree;
 #[cfg(test)]
 mod annotations;
 #[cfg(test)]
-mod burnt;
-#[cfg(test)]
-mod damaged;
-#[cfg(test)]
 mod fakes;
 #[cfg(test)]
-mod gcc;
-#[cfg(test)]
 mod images;
-#[cfg(test)]
-mod instructions;
-#[cfg(test)]
-mod items;
 #[cfg(test)]
 mod lines;
 #[cfg(test)]
@@ -33,11 +23,7 @@ mod objects;
 #[cfg(test)]
 mod refusals;
 #[cfg(test)]
-mod statements;
-#[cfg(test)]
 mod streams;
-#[cfg(test)]
-mod tokens;
 #[cfg(test)]
 mod vectors;
 #[cfg(test)]

@@ -23,6 +23,8 @@ mod ports;
 #[cfg(test)]
 mod returns;
 #[cfg(test)]
+mod steps;
+#[cfg(test)]
 mod tables;
 #[cfg(test)]
 mod world;

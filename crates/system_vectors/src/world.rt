@@ -217,15 +217,16 @@ fn put_all(ram: &mut Ram, words: &Words) {
     }
 }
 
-// Memory of 15 frames with the tables and these words.
-fn memory(alloc: Global, words: &Words) -> Result<Ram, AllocError> {
+/// Memory of 15 frames with the tables and these words.
+pub fn memory(alloc: Global, words: &Words) -> Result<Ram, AllocError> {
     let mut ram = Ram::new(alloc, 15)?;
     put_tables(&mut ram);
     put_all(&mut ram, words);
     Ok(ram)
 }
 
-const UNREAD: Own = Own {
+/// Nothing was read yet.
+pub const UNREAD: Own = Own {
     front: 0,
     front_len: 0,
     back: 0,

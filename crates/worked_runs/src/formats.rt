@@ -1,9 +1,10 @@
 //! Annotations by their gaps, the long texts that are written with them, and annotations that aren't the text's.
 
-use crate::commands::{BURN, CHECK, LINK, Step, file, follow, follow_over, joined, repeated};
-use crate::machines::{Prints, Told};
+use crate::commands::{built, file, joined, no_files, repeated, store};
+use crate::sessions::follow_over;
 use std::alloc::Global;
 use std::process::Abort;
+use worked_kernels::{BY_GAPS, CUT_SITES, LONG, ONE_SITE, SENDS_A_BYTE};
 
 /// OUT at 7 and HLT at 12, each with four NOPs behind it, by their gaps.
 const GAPS: &[u8] = &[
@@ -34,76 +35,25 @@ fn put_at(file: &mut [u8], at: usize, with: &[u8]) {
     }
 }
 
-/// Annotations, what `check` tells, and what both machines print.
-type Annotated = (&'static [u8], Told<'static>, Told<'static>);
-
-static ANNOTATED: [Annotated; 3] = [
-    (
-        GAPS,
-        (0, b"accepted text 19 data 0 bss 0 sites 2 format 2\n"),
-        (0, b"2 out8 03f8 48\n2 tx 48\nend steps 8\n"),
-    ),
-    (ONE, (3, b"refused 68 at 12\n"), (3, b"refused 68 at 12\n")),
-    (b"PV", (3, b"refused 69 at 2\n"), (3, b"refused 69 at 2\n")),
-];
-
-/// `check` tells this of an image, and both machines print that.
-fn tells_and_prints<'x>(
-    rt: &impl Abort,
-    alloc: Global,
-    row: usize,
-    image: &'x [u8],
-    checked: Told<'x>,
-    printed: Told<'x>,
-) {
-    let steps = [
-        Step::Store("I", image),
-        Step::Store("B", b""),
-        Step::Tell(CHECK, checked),
-        Step::Print("8", Prints::Alike(printed)),
-    ];
-    follow(rt, alloc, row, &steps);
-}
-
-fn is_annotated(rt: &impl Abort, alloc: Global, image: &[u8], row: usize, annotated: &Annotated) {
-    let (annotations, checked, printed) = *annotated;
-    let changed = with_annotations(rt, alloc, image, annotations);
-    tells_and_prints(rt, alloc, row, &changed, checked, printed);
-}
+/// Annotations of that image, and what is told of it then.
+static ANNOTATED: [(&[u8], &str); 3] = [(GAPS, BY_GAPS), (ONE, ONE_SITE), (b"PV", CUT_SITES)];
 
 #[test]
 fn an_image_has_all_its_sites_by_places_or_gaps(rt: HostRuntime) {
-    let source = b"_start:\nmovl $0x3f8,%edx\nmovb $0x48,%al\noutb %al,%dx\nhlt\n";
-    let mut files = follow(&rt, rt.alloc(), 0, &[Step::Build(source)]);
+    let mut files = built(&rt, rt.alloc(), SENDS_A_BYTE.as_bytes());
     let image = file(&rt, rt.alloc(), &mut files, "I");
-    for (row, annotated) in ANNOTATED.iter().enumerate() {
-        is_annotated(&rt, rt.alloc(), &image, row, annotated);
+    for (annotations, session) in ANNOTATED.iter() {
+        let changed = with_annotations(&rt, rt.alloc(), &image, annotations);
+        store(&rt, &mut files, "I", &changed);
+        follow_over(&rt, rt.alloc(), &mut files, session);
     }
 }
-
-static LONG: [Step<'static>; 7] = [
-    Step::Store("B", b""),
-    Step::Tell(BURN, (0, b"object text 8192000 data 0 bss 0 sites 0\n")),
-    Step::Tell(LINK, (0, b"image text 8192002 data 0 bss 0 sites 0\n")),
-    Step::Tell(
-        CHECK,
-        (0, b"accepted text 8192002 data 0 bss 0 sites 0 format 2\n"),
-    ),
-    Step::Print("3", Prints::Alike((3, b"refused 90 need 2257 have 2048\n"))),
-    Step::Tell(
-        &["run", "--bare", "I", "B", "4096", "3"],
-        (0, b"end steps 3\n"),
-    ),
-    Step::Tell(
-        &["run", "--wedge", "I", "B", "4096", "3"],
-        (0, b"end steps 3\n"),
-    ),
-];
 
 #[test]
 fn a_long_text_has_gaps(rt: HostRuntime) {
     // 2,000 pages of text, each a NOP and what fills it
     let source = repeated(&rt, rt.alloc(), b"_start:\n", b"nop; .p2align 12\n", 2000);
-    let mut files = follow(&rt, rt.alloc(), 0, &[Step::Store("S", &source)]);
-    follow_over(&rt, rt.alloc(), &mut files, 0, &LONG);
+    let mut files = no_files(&rt, rt.alloc());
+    store(&rt, &mut files, "S", &source);
+    follow_over(&rt, rt.alloc(), &mut files, LONG);
 }

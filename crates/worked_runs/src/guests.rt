@@ -5,9 +5,7 @@ ghost use Rattle.board.specs.Scripts.{is_script};
 ghost use Rattle.worked_runs.specs.Going.{IsGoing};
 
 use crate::commands::{are_same, holds, image_of, sink, took};
-use crate::slices::{
-    INTERRUPTED, IS_INTERRUPTED, SENDS_A_BYTE, SENT, begun, no_event, put_bound, steps_on,
-};
+use crate::slices::{INTERRUPTED, SENT, begun, no_event, put_bound, steps_on};
 use board::Script;
 use descriptors::Cpu;
 use frame_pool::Pool;
@@ -19,6 +17,7 @@ use run_trace::{NoNotes, Pause};
 use std::alloc::Global;
 use std::process::Abort;
 use wedge_core::Guest;
+use worked_kernels::{IS_INTERRUPTED, SENDS_A_BYTE};
 
 /// A guest of 2,048 frames, and a pool of 512, on this host where every run begins.
 pub fn started(rt: &impl Abort, alloc: Global, image: &Checked, host: &mut Machine) -> (Guest, Pool)
@@ -79,7 +78,7 @@ fn prints(rt: &impl Abort, alloc: Global, image: &Checked, first: u64, each: u64
     out
 }
 
-fn is_same(mine: &Cpu, yours: &Cpu) -> bool {
+pub fn is_same(mine: &Cpu, yours: &Cpu) -> bool {
     *mine == *yours
 }
 
@@ -119,9 +118,9 @@ fn side_by_side(rt: &impl Abort, alloc: Global, image: &Checked) {
 #[test]
 fn patched_slices_print_the_same_and_both_machines_go_on_alike(rt: HostRuntime) {
     let alloc = rt.alloc();
-    let image = image_of(&rt, alloc, SENDS_A_BYTE);
+    let image = image_of(&rt, alloc, SENDS_A_BYTE.as_bytes());
     took(&rt, &prints(&rt, alloc, &image, 1, 1, 8), SENT);
-    let image = image_of(&rt, alloc, IS_INTERRUPTED);
+    let image = image_of(&rt, alloc, IS_INTERRUPTED.as_bytes());
     let whole = prints(&rt, alloc, &image, 80, 80, 80);
     assert!(rt; whole.bytes().ends_with(INTERRUPTED));
     for pause in 40..80u64 {

@@ -2,11 +2,15 @@
 #![tactic(auto)]
 
 #[cfg(test)]
-mod built;
+mod adopted;
+#[cfg(test)]
+mod certificates;
+#[cfg(test)]
+mod checkpoints;
 #[cfg(test)]
 mod commands;
 #[cfg(test)]
-mod events;
+mod damaged;
 #[cfg(test)]
 mod faults;
 #[cfg(test)]
@@ -14,24 +18,22 @@ mod formats;
 #[cfg(test)]
 mod guests;
 #[cfg(test)]
-mod hostile;
+mod images;
 #[cfg(test)]
-mod kernel;
-#[cfg(test)]
-mod machines;
+mod kept;
 #[cfg(test)]
 mod made;
 #[cfg(test)]
 mod patched;
 #[cfg(test)]
-mod plain;
+mod sessions;
 #[cfg(test)]
-mod refused;
+mod sharing;
 #[cfg(test)]
 mod slices;
 #[cfg(test)]
 mod spaces;
 #[cfg(test)]
-mod user;
-#[cfg(test)]
 mod watched;
+#[cfg(test)]
+mod worked;

@@ -1,38 +1,68 @@
 //! Kernels that are made of numbers, by the commands.
 
-use crate::commands::{Step, answer, are_same, follow, follow_over};
+use crate::commands::{answer, are_same, built, image_of, no_files};
+use crate::sessions::follow_over;
+use crate::slices::no_event;
+use host_cpl3::Machine;
+use image_check::Checked;
 use kernel_gen::kernel;
-use pv_io::{MemFiles, MemSink};
+use pv_io::MemSink;
+use run_trace::Ended;
 use std::alloc::Global;
 use std::process::Abort;
+use wedge_core::run_wedge;
+use worked_kernels::FIRST_NUMBER;
 
 /// What `work 7` prints.
 fn worked(rt: &impl Abort, alloc: Global) -> MemSink {
-    let mut files = MemFiles::new(alloc, Vec::new(alloc)).expect(rt, "memory");
-    let (number, out) = answer(rt, alloc, &mut files, &["work", "7"], &[]);
+    let mut files = no_files(rt, alloc);
+    let (number, out) = answer(rt, alloc, &mut files, "work 7", &[]);
     assert!(rt; number == 0);
     out
 }
 
-#[test]
-fn work_tells_the_same_lines_twice(rt: HostRuntime) {
-    let first = worked(&rt, rt.alloc());
-    let second = worked(&rt, rt.alloc());
-    let lines = first.bytes();
-    assert!(rt; are_same(second.bytes(), lines));
-    assert!(rt; lines.starts_with(b"work 7 text ") && lines.ends_with(b"\nsame\n"));
+/// How a patched run of the kernel of 7 ends that has what `work` gives it, and how many lines it prints.
+fn patched(rt: &impl Abort, alloc: Global, image: &Checked) -> (Ended, u64) {
+    let script = no_event(rt, alloc);
+    let mut out = MemSink::new(alloc, 10_000_000, Vec::new(alloc)).expect(rt, "memory");
+    let mut host = Machine::new();
+    let ended = run_wedge(
+        alloc, image, &script, 4096, 100_000, 512, &mut host, &mut out,
+    )
+    .expect(rt, "an end");
+    (ended, count(out.bytes()))
 }
 
-const SHOWN: &[u8] = b"1 out32 0080 3c6ef35f\nend steps 2\n";
+fn count(lines: &[u8]) -> u64 {
+    let mut count = 0u64;
+    for byte in lines {
+        count = count.wrapping_add(u64::from(*byte == b'\n'));
+    }
+    count
+}
 
-static RUNS: [Step<'static>; 2] = [
-    Step::Tell(&["run", "--bare", "I", "B", "4096", "2"], (0, SHOWN)),
-    Step::Tell(&["run", "--wedge", "I", "B", "4096", "2"], (0, SHOWN)),
-];
+/// The two lines, of the image and the patched run of that kernel.
+fn told(rt: &impl Abort, alloc: Global) -> String {
+    let source = kernel(alloc, 7).expect(rt, "memory");
+    let image = image_of(rt, alloc, &source);
+    let (ended, lines) = patched(rt, alloc, &image);
+    let (text, sites) = (image.text().len(), image.sites().list.len());
+    let (items, fills) = (lines.wrapping_sub(1), ended.fills);
+    format!(in alloc;
+        "work 7 text {text} sites {sites} items {items} fills {fills}\nsame\n"
+    ).expect(rt, "memory")
+}
+
+#[test]
+fn work_tells_the_same_two_lines_twice(rt: HostRuntime) {
+    let lines = told(&rt, rt.alloc());
+    assert!(rt; are_same(worked(&rt, rt.alloc()).bytes(), lines.as_bytes()));
+    assert!(rt; are_same(worked(&rt, rt.alloc()).bytes(), lines.as_bytes()));
+}
 
 #[test]
 fn a_kernel_shows_its_number_first_on_both_machines(rt: HostRuntime) {
     let source = kernel(rt.alloc(), 0).expect(&rt, "memory");
-    let mut files = follow(&rt, rt.alloc(), 0, &[Step::Build(&source)]);
-    follow_over(&rt, rt.alloc(), &mut files, 0, &RUNS);
+    let mut files = built(&rt, rt.alloc(), &source);
+    follow_over(&rt, rt.alloc(), &mut files, FIRST_NUMBER);
 }

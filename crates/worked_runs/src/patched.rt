@@ -3,11 +3,9 @@
 
 ghost use Rattle.std.specs.Prelude.{◌≤◌, ◌^◌};
 
-use crate::commands::{
-    Step, Words, answer, are_same, follow, follow_over, holds, image_of, sink, status, took,
-};
+use crate::commands::{answer, are_same, built, holds, image_of, is_so, sink, status, took};
 use crate::guests::{guest_steps_on, started};
-use crate::slices::{SENDS_A_BYTE, SENT, no_event};
+use crate::slices::{SENT, begun, no_event, steps_on};
 use crate::watched::Watched;
 use host_cpl3::{Exit, Host, Machine};
 use ia32_types::{Flags, Regs};
@@ -15,31 +13,9 @@ use image_check::Checked;
 use std::alloc::Global;
 use std::process::Abort;
 use wedge_core::run_wedge;
-
-const COPIES_WITHIN_A_STALE_PAGE: &[u8] = b"\
-movl $1,0xC0400000\n\
-movl $2,0xC0401000\n\
-movl $0x20007,0xC0001114\n\
-movl $0x00400007,0xC0020000\n\
-movl 0x11400000,%eax\n\
-movl $0x00401007,0xC0020000\n\
-movl $0x11400000,%esi\n\
-movl $0x11400004,%edi\n\
-movsl\n";
-
-const READS_A_STALE_PAGE: &[u8] = b"\
-movl $1,0xC0400000\n\
-movl $2,0xC0401000\n\
-movl $0x20007,0xC0001114\n\
-movl $0x00400007,0xC0020000\n\
-movl 0x11400000,%eax\n\
-outl %eax,$0x80\n\
-movl $0x00401007,0xC0020000\n\
-movl 0x11400000,%eax\n\
-outl %eax,$0x80\n\
-invlpg 0x11400000\n\
-movl 0x11400000,%eax\n\
-outl %eax,$0x80\n";
+use worked_kernels::{
+    COPIES_WITHIN_A_STALE_PAGE, GOES_OVER_FORTY_TABLES, READS_A_STALE_PAGE, SENDS_A_BYTE,
+};
 
 /// What may be printed of that kernel: the second read is of the old frame or of the new one.
 const OLD: &[u8] =
@@ -47,28 +23,6 @@ const OLD: &[u8] =
 
 const NEW: &[u8] =
     b"5 out32 0080 00000001\n11 out32 0080 00000002\n17 out32 0080 00000002\nend steps 40\n";
-
-const GOES_OVER_FORTY_TABLES: &[u8] = b"\
-movl $0xC0001200,%edi\n\
-movl $0x20007,%eax\n\
-movl $40,%ecx\n\
-a: movl %eax,(%edi)\n\
-addl $4,%edi\n\
-decl %ecx\n\
-jnz a\n\
-movl $0x400007,0xC0020000\n\
-movl $3,%ebx\n\
-b: movl $40,%ecx\n\
-movl $0x20000000,%edi\n\
-c: incl (%edi)\n\
-addl $0x400000,%edi\n\
-decl %ecx\n\
-jnz c\n\
-decl %ebx\n\
-jnz b\n\
-movl 0x20000000,%eax\n\
-outl %eax,$0x80\n\
-hlt\n";
 
 /// At the start of a run with 2,048 frames and one page of text.
 const BOOTED: Regs = Regs {
@@ -92,11 +46,11 @@ const MOVED_TWICE: Regs = Regs {
 
 /// A host on which that byte was sent.
 fn watched(rt: &impl Abort, alloc: Global) -> Watched {
-    let mut files = follow(rt, alloc, 0, &[Step::Build(SENDS_A_BYTE)]);
+    let mut files = built(rt, alloc, SENDS_A_BYTE.as_bytes());
     let mut host = Watched::new();
     let mut out = sink(rt, alloc);
-    let run = ["run", "--wedge", "I", "B", "2048", "8"];
-    let number = status(alloc, &run, &mut files, &mut out, &mut host).expect(rt, "memory");
+    let run = "run --wedge I B 2048 8";
+    let number = status(alloc, run, &mut files, &mut out, &mut host).expect(rt, "memory");
     took(rt, &out, SENT);
     assert!(rt; number == 0);
     host
@@ -117,6 +71,19 @@ fn the_host_does_two_instructions_of_four(rt: HostRuntime) {
     }
     // Behind them stands the patched OUT.
     assert!(rt; host.last_exit == Exit::Entry(0x04F4_F500));
+}
+
+// The jump back is step 5, which the host does.
+#[test]
+fn a_site_at_the_start_enters_at_its_place_in_the_window(rt: HostRuntime) {
+    let mut files = built(&rt, rt.alloc(), b"_start: cli\njmp _start\n");
+    let mut host = Watched::new();
+    let mut out = sink(&rt, rt.alloc());
+    let run = "run --wedge I B 2048 7";
+    let number = status(rt.alloc(), run, &mut files, &mut out, &mut host).expect(&rt, "memory");
+    took(&rt, &out, b"end steps 7\n");
+    assert!(rt; number == 0 && Host::retired(&host) == 1);
+    assert!(rt; host.last_exit == Exit::Entry(0x04F4_F4F9));
 }
 
 /// The bytes of the host's memory there, after a patched run of so many steps.
@@ -145,18 +112,18 @@ fn memory_after(
 }
 
 /// A source, a number of steps, and what stands then at a place in memory.
-type Left = (&'static [u8], u8, u32, &'static [u8]);
+type Left = (&'static str, u8, u32, &'static [u8]);
 
 static LEFT: [Left; 3] = [
     // Sites are patched.
     (
-        b"cli\n",
+        "cli\n",
         0,
         0x10_0000,
         &[0xE9, 0xF4, 0xF4, 0xF4, 0xF4, 0xEB, 0xFE, 0, 0],
     ),
     (
-        b"lidt 0x11000010\n",
+        "lidt 0x11000010\n",
         0,
         0x10_0000,
         &[0xE9, 0xF4, 0xF4, 0xF4, 0xF4, 0xF4, 0xF4, 0xEB, 0xFE],
@@ -167,7 +134,7 @@ static LEFT: [Left; 3] = [
 
 fn is_left(rt: &impl Abort, alloc: Global, left: &Left) -> bool {
     let (source, n, at, want) = *left;
-    let image = image_of(rt, alloc, source);
+    let image = image_of(rt, alloc, source.as_bytes());
     let len = want.len().min(9) as u32;
     are_same(
         &memory_after(rt, alloc, &image, u64::from(n), at, len),
@@ -175,28 +142,43 @@ fn is_left(rt: &impl Abort, alloc: Global, left: &Left) -> bool {
     )
 }
 
+/// The same memory of the bare machine, behind that kernel's copy.
+fn bare_memory(rt: &impl Abort, alloc: Global) -> Vec<u8> {
+    let image = image_of(rt, alloc, COPIES_WITHIN_A_STALE_PAGE.as_bytes());
+    let script = no_event(rt, alloc);
+    let mut out = sink(rt, alloc);
+    let mut bare = begun(rt, alloc, &image);
+    steps_on(rt, &mut bare, &script, 9, &mut out);
+    let ram = bare.ram();
+    assert!(rt; 0x40_1008 <= ram.len());
+    Vec::from_slice(alloc, ram.part(0x40_1004, 4)).expect(rt, "memory")
+}
+
 #[test]
 fn steps_leave_their_bytes_in_memory(rt: HostRuntime) {
     for (row, left) in LEFT.iter().enumerate() {
         holds(&rt, row, is_left(&rt, rt.alloc(), left));
     }
+    // the old frame's word or the new one's
+    let bare = bare_memory(&rt, rt.alloc());
+    assert!(rt; are_same(&bare, &[1, 0, 0, 0]) || are_same(&bare, &[2, 0, 0, 0]));
 }
 
 /// A run, and what it may print beside the old read.
-static STALE: [(Words<'static>, &[u8]); 2] = [
-    (&["run", "--bare", "I", "B", "2048", "40"], NEW),
-    (&["run", "--wedge", "I", "B", "2048", "40"], OLD),
+static STALE: [(&str, &[u8]); 2] = [
+    ("run --bare I B 2048 40", NEW),
+    ("run --wedge I B 2048 40", OLD),
 ];
 
 #[test]
 fn a_page_stays_stale_until_invlpg(rt: HostRuntime) {
-    let mut files = follow(&rt, rt.alloc(), 0, &[Step::Build(READS_A_STALE_PAGE)]);
-    for (row, (run, may_be)) in STALE.iter().enumerate() {
+    let mut files = built(&rt, rt.alloc(), READS_A_STALE_PAGE.as_bytes());
+    for (run, may_be) in STALE.iter() {
         let (number, out) = answer(&rt, rt.alloc(), &mut files, run, &[]);
-        holds(&rt, row, number == 0);
-        holds(
+        is_so(&rt, run, number == 0);
+        is_so(
             &rt,
-            row,
+            run,
             are_same(out.bytes(), OLD) || are_same(out.bytes(), may_be),
         );
     }
@@ -221,16 +203,14 @@ pub fn fills_of(rt: &impl Abort, alloc: Global, source: &[u8], pool: u32, text: 
 /// What that kernel shows in 2,000 steps.
 const SHOWN: &[u8] = b"658 out32 0080 00000078\nend steps 2000\n";
 
-static BARE: [Step<'static>; 1] = [Step::Tell(
-    &["run", "--bare", "I", "B", "2048", "2000"],
-    (0, SHOWN),
-)];
-
 #[test]
 fn a_small_pool_fills_more_and_prints_the_same(rt: HostRuntime) {
-    let large = fills_of(&rt, rt.alloc(), GOES_OVER_FORTY_TABLES, 512, SHOWN);
-    let small = fills_of(&rt, rt.alloc(), GOES_OVER_FORTY_TABLES, 16, SHOWN);
+    let source = GOES_OVER_FORTY_TABLES.as_bytes();
+    let large = fills_of(&rt, rt.alloc(), source, 512, SHOWN);
+    let small = fills_of(&rt, rt.alloc(), source, 16, SHOWN);
     assert!(rt; large < small);
-    let mut files = follow(&rt, rt.alloc(), 0, &[Step::Build(GOES_OVER_FORTY_TABLES)]);
-    follow_over(&rt, rt.alloc(), &mut files, 0, &BARE);
+    let mut files = built(&rt, rt.alloc(), source);
+    let (number, out) = answer(&rt, rt.alloc(), &mut files, "run --bare I B 2048 2000", &[]);
+    assert!(rt; number == 0);
+    took(&rt, &out, SHOWN);
 }

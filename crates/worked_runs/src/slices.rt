@@ -1,77 +1,22 @@
 //! Runs of the bare machine that pause and go on.
 
 ghost use Rattle.std.specs.Prelude.{◌≡◌, ◌+◌, ◌≤◌, ◌^◌, true};
-ghost use Rattle.bare_machine.specs.Machine.{state_of, IsKept};
-ghost use Rattle.board.specs.Scripts.{is_script};
+ghost use Rattle.bare_machine.specs.Machine.{bare, state_of, IsKept};
+ghost use Rattle.board.specs.Scripts.{is_script, Events};
+ghost use Rattle.machine_model.specs.State.{boot};
 
 use crate::commands::{are_same, holds, image_of, sink, took};
-use bare_machine::{Bare, run_fresh};
+use bare_machine::{Bare, run_bare, run_fresh};
 use board::{Script, read_script};
 use image_check::Checked;
+use image_load::{RunFault, TooSmall};
 use kernel_gen::kernel;
 use pv_io::MemSink;
 use run_trace::{End, Ended, Pause, put_end};
 use std::alloc::Global;
 use std::process::Abort;
+use worked_kernels::{IS_INTERRUPTED, SENDS_A_BYTE};
 use xlate_buffer::Buffer;
-
-pub const SENDS_A_BYTE: &[u8] = b"_start:\nmovl $0x3f8,%edx\nmovb $0x48,%al\noutb %al,%dx\nhlt\n";
-
-/// Unmasks the timer's line, lets the timer interrupt NOPs, shows where it did, and halts.
-pub const IS_INTERRUPTED: &[u8] = b"\
-.data\n\
-idt_register:\n\
-.word 0x7ff\n\
-.long idt\n\
-.bss\n\
-.p2align 3\n\
-idt:\n\
-.zero 2048\n\
-.text\n\
-.globl _start\n\
-_start:\n\
-movl $on_timer,%eax\n\
-movl %eax,idt+0x100\n\
-movw $0x08,idt+0x102\n\
-movl %eax,idt+0x104\n\
-movw $0x8e00,idt+0x104\n\
-lidt idt_register\n\
-movb $0x11,%al\n\
-outb %al,$0x20\n\
-movb $0x20,%al\n\
-outb %al,$0x21\n\
-movb $4,%al\n\
-outb %al,$0x21\n\
-movb $1,%al\n\
-outb %al,$0x21\n\
-movb $0xfe,%al\n\
-outb %al,$0x21\n\
-movl $0x40,%edx\n\
-movb $0x34,%al\n\
-outb %al,$0x43\n\
-movb $2,%al\n\
-outb %al,%dx\n\
-sti\n\
-movb $0,%al\n\
-outb %al,%dx\n\
-nop\n\
-nop\n\
-nop\n\
-nop\n\
-nop\n\
-nop\n\
-nop\n\
-nop\n\
-pushf\n\
-movb $0x55,%al\n\
-outb %al,$0x80\n\
-rest:\n\
-jmp rest\n\
-on_timer:\n\
-popl %eax\n\
-outl %eax,$0x80\n\
-pushl %eax\n\
-iret\n";
 
 /// What is sent of that byte.
 pub const SENT: &[u8] = b"2 out8 03f8 48\n2 tx 48\nend steps 8\n";
@@ -91,6 +36,7 @@ pub fn no_event(rt: &impl Abort, alloc: Global) -> Script
 pub fn begun(rt: &impl Abort, alloc: Global, image: &Checked) -> Bare<Buffer>
     ensures kept { IsKept result.frames (state_of (λ buffer. buffer) result) }
     ensures step { result.step ≡ 0 }
+    ensures boots { (script : Events) → state_of (λ buffer. buffer) result ≡ boot (bare image.now script 2048) }
 {
     match Bare::start(alloc, image, 2048, Buffer::new()) {
         Ok(machine) => machine,
@@ -159,7 +105,7 @@ fn prints_fresh(rt: &impl Abort, alloc: Global, image: &Checked, n: u64) -> MemS
 #[test]
 fn slices_of_one_step_and_fresh_runs_print_the_same(rt: HostRuntime) {
     let alloc = rt.alloc();
-    let image = image_of(&rt, alloc, SENDS_A_BYTE);
+    let image = image_of(&rt, alloc, SENDS_A_BYTE.as_bytes());
     took(&rt, &prints(&rt, alloc, &image, 1, 1, 8), SENT);
     took(&rt, &prints_fresh(&rt, alloc, &image, 8), SENT);
     let source = kernel(alloc, 0).expect(&rt, "memory");
@@ -171,7 +117,7 @@ fn slices_of_one_step_and_fresh_runs_print_the_same(rt: HostRuntime) {
 #[test]
 fn a_pause_at_any_step_changes_nothing(rt: HostRuntime) {
     let alloc = rt.alloc();
-    let image = image_of(&rt, alloc, IS_INTERRUPTED);
+    let image = image_of(&rt, alloc, IS_INTERRUPTED.as_bytes());
     let whole = prints(&rt, alloc, &image, 80, 80, 80);
     assert!(rt; whole.bytes().ends_with(INTERRUPTED));
     took(&rt, &prints_fresh(&rt, alloc, &image, 80), whole.bytes());
@@ -179,4 +125,24 @@ fn a_pause_at_any_step_changes_nothing(rt: HostRuntime) {
         let parts = prints(&rt, alloc, &image, pause, 80, 80);
         holds(&rt, pause as usize, are_same(parts.bytes(), whole.bytes()));
     }
+}
+
+/// Whether a run answers that its image needs 2,305 frames and has 2,048.
+fn is_too_small(answer: Result<Ended, RunFault>) -> bool {
+    match answer {
+        Err(RunFault::TooSmall(TooSmall { need, have })) => need == 2305 && have == 2048,
+        _ => false,
+    }
+}
+
+#[test]
+fn a_large_image_is_told_with_both_numbers_of_frames(rt: HostRuntime) {
+    let alloc = rt.alloc();
+    let image = image_of(&rt, alloc, b".bss\n.zero 8388608\n");
+    let script = no_event(&rt, alloc);
+    let mut out = sink(&rt, alloc);
+    let bare = run_bare(alloc, &image, &script, 2048, 1, &mut out);
+    let fresh = run_fresh(alloc, &image, &script, 2048, 1, &mut out);
+    assert!(rt; is_too_small(bare) && is_too_small(fresh));
+    took(&rt, &out, b"");
 }

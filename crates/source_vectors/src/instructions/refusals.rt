@@ -1,6 +1,7 @@
 //! Statements that are refused, and those at the limits.
 
-use super::{assembled, told};
+use super::assembled;
+use crate::rest::told;
 use asm_instruction::Refusal;
 use std::alloc::Global;
 use std::process::Abort;

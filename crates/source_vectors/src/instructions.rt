@@ -7,7 +7,7 @@ use self::others::OTHERS;
 use self::own::OWN;
 use self::shifts::SHIFTS;
 use self::stack::STACK;
-use crate::items::Rest;
+use crate::rest::{Rest, told};
 use asm_instruction::{Assembled, Named, Refusal, assemble};
 use asm_parse::{Body, SourceItem, parse};
 use std::alloc::Global;
@@ -25,15 +25,6 @@ mod stack;
 // A row is a statement, the bytes that it comes to, and the fields that name symbols: the field, its place, the number of
 // its argument, and whether it is relative.
 
-const DIGITS: &[u8; 16] = b"0123456789abcdef";
-
-fn take_bytes(rest: &mut Rest<'_>, bytes: &[u8]) {
-    for byte in bytes {
-        let (high, low) = (*byte / 16, *byte % 16);
-        rest.take(&[b' ', DIGITS[high as usize], DIGITS[low as usize]]);
-    }
-}
-
 fn take_named(rest: &mut Rest<'_>, alloc: Global, field: &str, named: &Option<Named>) {
     if let Some(named) = named {
         let relative = if named.relative { " relative" } else { "" };
@@ -43,9 +34,9 @@ fn take_named(rest: &mut Rest<'_>, alloc: Global, field: &str, named: &Option<Na
 
 /// Whether that stands behind the arrow of a row.
 fn is_spelling(alloc: Global, found: &Assembled, listed: &str) -> bool {
-    let mut rest = Rest::new(listed);
+    let mut rest = Rest::new(listed.as_bytes());
     let len = usize::from(found.spelling.len).min(found.spelling.bytes.len());
-    take_bytes(&mut rest, &found.spelling.bytes[..len]);
+    rest.take_bytes(&found.spelling.bytes[..len]);
     take_named(&mut rest, alloc, "disp", &found.disp);
     take_named(&mut rest, alloc, "imm", &found.imm);
     rest.is_done()
@@ -85,11 +76,6 @@ fn is_assembled(alloc: Global, row: &str) -> bool {
         Some((text, listed)) => is_listed(alloc, text, listed),
         None => false,
     }
-}
-
-/// That holds of a row.
-fn told(rt: &impl Abort, row: &str, held: bool) {
-    assert!(rt; held, "{row}");
 }
 
 /// Each row is assembled so.

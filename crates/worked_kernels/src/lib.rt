@@ -1,0 +1,36 @@
+//! Sessions of commands over worked kernels: texts that the tests of whole runs read line by line. The module `sessions` of
+//! `worked_runs` says how they are read.
+#![tactic(auto)]
+
+mod assembled;
+mod built;
+mod damaged;
+mod faults;
+mod formats;
+mod hostile;
+mod interrupted;
+mod kept;
+mod made;
+mod moved;
+mod refused;
+mod shared;
+mod spaces;
+
+pub use assembled::{EVENTS, PLAIN, USER};
+pub use built::BUILT;
+pub use damaged::{CUT_IMAGES, CUT_OBJECTS, DAMAGED_SCRIPTS, IMAGE_FIELDS, OBJECT_FIELDS, SCRIPT};
+pub use faults::{CALLS, ENDED, HALTS, NEVER_FAILING, OWN_OBJECT, PUTS, REFUSALS};
+pub use formats::{BY_GAPS, CUT_SITES, LONG, ONE_SITE, SENDS_A_BYTE};
+pub use hostile::{BORDERS, HOSTILE, LARGE};
+pub use interrupted::IS_INTERRUPTED;
+pub use kept::KEPT_TO_THE_END;
+pub use made::FIRST_NUMBER;
+pub use moved::{
+    BETWEEN_STEPS, GOES_ON, IS_SAVED, NAMED, SAVED_IN_PLACE, SPOILED, USER_WITHOUT_INTERRUPTS,
+};
+pub use refused::{REFUSED, TOO_MANY_SITES};
+pub use shared::{COUNTS_AT_LEVEL_3, GOES_OVER_MANY_TABLES, SHARED};
+pub use spaces::{
+    COPIES_WITHIN_A_STALE_PAGE, GOES_OVER_FORTY_TABLES, GOES_ROUND_THREE_SPACES,
+    READS_A_STALE_PAGE, SHARES_A_PAGE, SHOWN_BY_SPACES, TO_A_NEW_VALUE, TO_THE_SAME,
+};

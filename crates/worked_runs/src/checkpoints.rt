@@ -1,0 +1,302 @@
+//! Kernels that are saved, go on from what was saved, and move between the machines.
+
+use crate::commands::{add, answer, are_same, file, holds, is_so, store};
+use crate::sessions::{follow, follow_over};
+use pv_io::MemFiles;
+use std::alloc::Global;
+use std::process::Abort;
+use worked_kernels::{
+    BETWEEN_STEPS, EVENTS, GOES_ON, IS_SAVED, NAMED, SAVED_IN_PLACE, SPOILED, USER,
+    USER_WITHOUT_INTERRUPTS,
+};
+
+/// Bytes in hexadecimal, one space between two.
+fn listed(rt: &impl Abort, alloc: Global, bytes: &str) -> Vec<u8> {
+    let mut list = Vec::new(alloc);
+    for byte in bytes.split(' ') {
+        let byte = u8::from_str_radix(byte, 16).expect(rt, "a byte");
+        list.push(byte).expect(rt, "memory");
+    }
+    list
+}
+
+fn set(bytes: &mut Vec<u8>, at: usize, byte: u8) {
+    if let Some(place) = bytes.get_mut(at) {
+        *place = byte;
+    }
+}
+
+/// Whether the bytes have these at an offset.
+fn has(bytes: &[u8], at: usize, wanted: &[u8]) -> bool {
+    for (k, b) in wanted.iter().enumerate() {
+        if bytes.get(at.wrapping_add(k)).copied() != Some(*b) {
+            return false;
+        }
+    }
+    true
+}
+
+/// A line has an offset and bytes that stand there. They are 0 from here on.
+fn takes_out(rt: &impl Abort, alloc: Global, bytes: &mut Vec<u8>, line: &str) {
+    let (at, named) = line.split_once(' ').expect(rt, "an offset");
+    let at: usize = at.parse().expect(rt, "an offset");
+    let named = listed(rt, alloc, named);
+    is_so(rt, line, has(bytes, at, &named));
+    for k in 0..named.len() {
+        set(bytes, at.wrapping_add(k), 0);
+    }
+}
+
+#[test]
+fn a_file_has_its_bytes_at_their_offsets(rt: HostRuntime) {
+    let mut files = follow(&rt, rt.alloc(), IS_SAVED);
+    let mut bytes = file(&rt, rt.alloc(), &mut files, "C");
+    assert_eq!(rt; bytes.len(), 8_388_864);
+    for line in NAMED.lines() {
+        takes_out(&rt, rt.alloc(), &mut bytes, line);
+    }
+    holds(&rt, 256, has(&bytes, 0, &[0; 256]));
+}
+
+#[test]
+fn what_is_saved_goes_on_on_either_machine(rt: HostRuntime) {
+    let mut files = follow(&rt, rt.alloc(), IS_SAVED);
+    follow_over(&rt, rt.alloc(), &mut files, GOES_ON);
+}
+
+#[test]
+fn what_is_saved_again_may_have_the_name_of_the_first(rt: HostRuntime) {
+    let mut files = follow(&rt, rt.alloc(), IS_SAVED);
+    follow_over(&rt, rt.alloc(), &mut files, SAVED_IN_PLACE);
+}
+
+/// Over these bytes at D a run doesn't go on, and this is printed.
+fn refuses(rt: &impl Abort, alloc: Global, files: &mut MemFiles, bytes: &[u8], printed: &str) {
+    store(rt, files, "D", bytes);
+    let (number, out) = answer(rt, alloc, files, "continue --bare I B D 8", &[]);
+    is_so(rt, printed, number == 3);
+    is_so(rt, printed, are_same(out.bytes(), printed.as_bytes()));
+}
+
+/// A line has an offset, a value for its byte, and the place at which the file is refused with it. A field that is bad is told
+/// before a file that is cut, so the first 256 bytes serve.
+fn is_spoiled(
+    rt: &impl Abort,
+    alloc: Global,
+    files: &mut MemFiles,
+    bytes: &mut Vec<u8>,
+    line: &str,
+) {
+    let (at, rest) = line.split_once(' ').expect(rt, "an offset");
+    let (value, place) = rest.split_once(' ').expect(rt, "a value");
+    let at: usize = at.parse().expect(rt, "an offset");
+    let value: u8 = value.parse().expect(rt, "a value");
+    let printed = format!(in alloc; "refused 110 at {place}\n").expect(rt, "memory");
+    let before = bytes.get(at).copied().unwrap_or(0);
+    set(bytes, at, value);
+    refuses(rt, alloc, files, bytes, &printed);
+    set(bytes, at, before);
+}
+
+#[test]
+fn a_spoiled_file_is_refused_at_its_place(rt: HostRuntime) {
+    let mut files = follow(&rt, rt.alloc(), IS_SAVED);
+    let mut bytes = file(&rt, rt.alloc(), &mut files, "C");
+    bytes.truncate(256);
+    for line in SPOILED.lines() {
+        is_spoiled(&rt, rt.alloc(), &mut files, &mut bytes, line);
+    }
+}
+
+/// One byte too many and one too few; another text; a field that is bad beside them comes first.
+#[test]
+fn a_file_of_another_length_or_text_is_refused(rt: HostRuntime) {
+    let alloc = rt.alloc();
+    let mut files = follow(&rt, alloc, IS_SAVED);
+    let mut bytes = file(&rt, alloc, &mut files, "C");
+    bytes.push(0).expect(&rt, "memory");
+    refuses(&rt, alloc, &mut files, &bytes, "refused 110 at 8388864\n");
+    let _ = bytes.pop();
+    set(&mut bytes, 8, 9);
+    refuses(&rt, alloc, &mut files, &bytes, "refused 113 at 8\n");
+    set(&mut bytes, 1_048_837, 7);
+    refuses(&rt, alloc, &mut files, &bytes, "refused 111 at 5\n");
+    let _ = bytes.pop();
+    refuses(&rt, alloc, &mut files, &bytes, "refused 110 at 8388863\n");
+    set(&mut bytes, 112, 2);
+    refuses(&rt, alloc, &mut files, &bytes, "refused 110 at 112\n");
+}
+
+/// Image, script and then the store, which fails: what was printed before stands.
+#[test]
+fn a_store_that_fails_leaves_what_was_printed(rt: HostRuntime) {
+    let mut files = follow(&rt, rt.alloc(), IS_SAVED);
+    let call = files.calls.wrapping_add(2);
+    files.fail.push(call).expect(&rt, "memory");
+    let (number, out) = answer(&rt, rt.alloc(), &mut files, "save --bare I B 2048 3 C", &[]);
+    assert_eq!(rt; number, 6);
+    holds(&rt, 0, are_same(out.bytes(), b"2 out8 03f8 48\n2 tx 48\n"));
+}
+
+/// A kernel as a session tells it: what makes its image and its script, the bound of its runs, and what they print.
+#[derive(Clone, Copy)]
+struct Told<'a> {
+    made: &'a str,
+    bound: &'a str,
+    printed: &'a str,
+}
+
+/// The kernel behind so many others of a session.
+fn kernel_behind<'a>(rt: &impl Abort, session: &'a str, behind: usize) -> Told<'a> {
+    let mut kernels = session.split("$ : ").skip(1);
+    let told = kernels.nth(behind).expect(rt, "a kernel");
+    let (_told, kernel) = told.split_once('\n').expect(rt, "a kernel");
+    let (made, run) = kernel.split_once("$ runs 0 ").expect(rt, "a run");
+    let (bound, printed) = run.split_once('\n').expect(rt, "a text");
+    Told {
+        made,
+        bound,
+        printed,
+    }
+}
+
+/// The kernels that are told of interrupts, and behind these the one with a user.
+fn numbered(rt: &impl Abort, number: usize) -> Told<'static> {
+    if number < 4 {
+        kernel_behind(rt, EVENTS, number)
+    } else {
+        kernel_behind(rt, USER, 0)
+    }
+}
+
+/// A command is done, and prints this text and then that line.
+fn goes_on(
+    rt: &impl Abort,
+    alloc: Global,
+    files: &mut MemFiles,
+    command: &str,
+    last: &str,
+    text: &mut Vec<u8>,
+) {
+    let (number, out) = answer(rt, alloc, files, command, &[]);
+    let bytes = out.bytes();
+    let len = bytes.len().saturating_sub(last.len());
+    is_so(
+        rt,
+        command,
+        number == 0 && are_same(&bytes[len..], last.as_bytes()),
+    );
+    add(rt, text, &bytes[..len]);
+}
+
+const MACHINES: [&str; 2] = ["--bare", "--wedge"];
+
+/// What a kernel prints that moves to the other machine behind each of these counts of steps.
+fn moved(rt: &impl Abort, alloc: Global, kernel: Told<'_>, counts: &[usize]) -> Vec<u8> {
+    let mut files = follow(rt, alloc, kernel.made);
+    let mut text = Vec::new(alloc);
+    let save = "save --bare I B 2048 0 C";
+    goes_on(rt, alloc, &mut files, save, "saved steps 0\n", &mut text);
+    for (k, n) in counts.iter().enumerate() {
+        let machine = MACHINES[k % 2];
+        let command = format!(in alloc; "save {machine} I B from C {n} C").expect(rt, "memory");
+        let line = format!(in alloc; "saved steps {n}\n").expect(rt, "memory");
+        goes_on(rt, alloc, &mut files, &command, &line, &mut text);
+    }
+    let machine = MACHINES[counts.len() % 2];
+    let bound = kernel.bound;
+    let command = format!(in alloc; "continue {machine} I B C {bound}").expect(rt, "memory");
+    goes_on(rt, alloc, &mut files, &command, "", &mut text);
+    text
+}
+
+/// So many counts of steps, from one on.
+fn from_on(rt: &impl Abort, alloc: Global, first: usize, many: usize) -> Vec<usize> {
+    let mut counts = Vec::new(alloc);
+    for k in 0..many {
+        counts.push(first.wrapping_add(k)).expect(rt, "memory");
+    }
+    counts
+}
+
+fn has_one_trace(rt: &impl Abort, alloc: Global, number: usize, counts: &[usize]) {
+    let kernel = numbered(rt, number);
+    let text = moved(rt, alloc, kernel, counts);
+    holds(rt, number, are_same(&text, kernel.printed.as_bytes()));
+}
+
+/// A kernel whose timer interrupts it inside padding, with a move at each of ten steps from one on.
+fn moves_ten_times(rt: &impl Abort, alloc: Global, first: usize) {
+    let counts = from_on(rt, alloc, first, 10);
+    has_one_trace(rt, alloc, 1, &counts);
+}
+
+#[test]
+fn moves_before_the_count_runs_leave_one_trace(rt: HostRuntime) {
+    moves_ten_times(&rt, rt.alloc(), 36);
+}
+
+#[test]
+fn moves_while_the_count_runs_leave_one_trace(rt: HostRuntime) {
+    moves_ten_times(&rt, rt.alloc(), 46);
+}
+
+#[test]
+fn moves_about_the_interrupt_leave_one_trace(rt: HostRuntime) {
+    moves_ten_times(&rt, rt.alloc(), 56);
+}
+
+#[test]
+fn moves_behind_the_interrupt_leave_one_trace(rt: HostRuntime) {
+    moves_ten_times(&rt, rt.alloc(), 66);
+}
+
+/// A user, whose faults and gates lead to level 0 and back.
+#[test]
+fn a_user_moves_in_both_directions(rt: HostRuntime) {
+    let counts = from_on(&rt, rt.alloc(), 39, 12);
+    has_one_trace(&rt, rt.alloc(), 4, &counts);
+}
+
+#[test]
+fn five_moves_have_one_trace(rt: HostRuntime) {
+    has_one_trace(&rt, rt.alloc(), 0, &[10, 33, 35, 36, 38]);
+}
+
+/// A line has the number of a kernel, a count of steps, an offset, and the bytes there of what is saved then.
+fn is_kept(rt: &impl Abort, alloc: Global, line: &str) {
+    let (number, rest) = line.split_once(' ').expect(rt, "a kernel");
+    let (n, rest) = rest.split_once(' ').expect(rt, "a count of steps");
+    let (at, wanted) = rest.split_once(' ').expect(rt, "an offset");
+    let kernel = numbered(rt, number.parse().expect(rt, "a kernel"));
+    let at: usize = at.parse().expect(rt, "an offset");
+    let mut files = follow(rt, alloc, kernel.made);
+    let mut text = Vec::new(alloc);
+    let command = format!(in alloc; "save --wedge I B 2048 {n} C").expect(rt, "memory");
+    let last = format!(in alloc; "saved steps {n}\n").expect(rt, "memory");
+    goes_on(rt, alloc, &mut files, &command, &last, &mut text);
+    let bytes = file(rt, alloc, &mut files, "C");
+    is_so(rt, line, has(&bytes, at, &listed(rt, alloc, wanted)));
+    let bound = kernel.bound;
+    let command = format!(in alloc; "continue --bare I B C {bound}").expect(rt, "memory");
+    goes_on(rt, alloc, &mut files, &command, "", &mut text);
+    is_so(rt, line, are_same(&text, kernel.printed.as_bytes()));
+}
+
+#[test]
+fn what_stands_between_two_steps_is_saved(rt: HostRuntime) {
+    for line in BETWEEN_STEPS.lines() {
+        is_kept(&rt, rt.alloc(), line);
+    }
+}
+
+/// In the image file the text stands from 116 on, and its byte 270 is the second of the flags that IRET loads.
+#[test]
+fn a_user_without_interrupts_stays_on_the_bare_machine(rt: HostRuntime) {
+    let kernel = numbered(&rt, 4);
+    let mut files = follow(&rt, rt.alloc(), kernel.made);
+    let mut image = file(&rt, rt.alloc(), &mut files, "I");
+    set(&mut image, 386, 0);
+    store(&rt, &mut files, "I", &image);
+    follow_over(&rt, rt.alloc(), &mut files, USER_WITHOUT_INTERRUPTS);
+}

@@ -1,0 +1,224 @@
+//! Damaged files: a small object and its image cut at every length and with every field of their headers spoiled, and a
+//! script cut and spoiled at every byte, each by the command that reads it. Where it is refused no file is stored.
+
+use crate::commands::{all_held, answer, are_same, built, file, holds, joined, store};
+use pv_io::MemFiles;
+use std::alloc::Global;
+use std::process::Abort;
+use worked_kernels::{
+    CUT_IMAGES, CUT_OBJECTS, DAMAGED_SCRIPTS, IMAGE_FIELDS, OBJECT_FIELDS, SCRIPT, SENDS_A_BYTE,
+};
+
+/// What reads the damaged file D.
+const LINK: &str = "link N D";
+
+const CHECK: &str = "check D";
+
+const RUN: &str = "run --bare I D 2048 0";
+
+/// A command tells this line of a file with these bytes, of which the place tells them apart. Files aren't changed where it
+/// is refused.
+fn is_told(
+    rt: &impl Abort,
+    alloc: Global,
+    files: &mut MemFiles,
+    command: &str,
+    at: usize,
+    bytes: &[u8],
+    line: &str,
+) {
+    store(rt, files, "D", bytes);
+    let before = all_held(rt, alloc, files);
+    let (number, out) = answer(rt, alloc, files, command, &[]);
+    holds(
+        rt,
+        at,
+        out.bytes().strip_prefix(line.as_bytes()) == Some(b"\n"),
+    );
+    if line.starts_with("refused ") {
+        holds(rt, at, number == 3);
+        holds(rt, at, are_same(&all_held(rt, alloc, files), &before));
+    } else {
+        holds(rt, at, number == 0);
+    }
+}
+
+/// The number that a row begins with, and what stands behind it.
+fn first<'a>(rt: &impl Abort, row: &'a str) -> (usize, &'a str) {
+    let (number, rest) = row.split_once(' ').expect(rt, "a number");
+    (number.parse().expect(rt, "a number"), rest)
+}
+
+/// The file is cut at each length of a row.
+fn is_cut(
+    rt: &impl Abort,
+    alloc: Global,
+    files: &mut MemFiles,
+    command: &str,
+    bytes: &[u8],
+    row: &str,
+) {
+    let (from, rest) = first(rt, row);
+    let (to, line) = first(rt, rest);
+    for len in from..to {
+        let cut = bytes.get(..len).expect(rt, "short");
+        is_told(rt, alloc, files, command, len, cut, line);
+    }
+}
+
+fn are_cut(
+    rt: &impl Abort,
+    alloc: Global,
+    files: &mut MemFiles,
+    command: &str,
+    bytes: &[u8],
+    rows: &str,
+) {
+    for row in rows.lines() {
+        is_cut(rt, alloc, files, command, bytes, row);
+    }
+}
+
+/// The cause and the place of a field's row, none where the field is ignored.
+fn refusal<'a>(rt: &impl Abort, rows: &'a str, field: usize) -> Option<(&'a str, &'a str)> {
+    for row in rows.lines() {
+        if !row.starts_with("-- ") {
+            let (at, rest) = first(rt, row);
+            if at == field {
+                return rest.split_once(' ');
+            }
+        }
+    }
+    None
+}
+
+/// The bytes with another one from one place up to another.
+fn spoiled(
+    rt: &impl Abort,
+    alloc: Global,
+    bytes: &[u8],
+    from: usize,
+    to: usize,
+    with: u8,
+) -> Vec<u8> {
+    let mut spoiled = joined(rt, alloc, &[bytes]);
+    for (at, byte) in spoiled.iter_mut().enumerate() {
+        if from <= at && at < to {
+            *byte = with;
+        }
+    }
+    spoiled
+}
+
+/// The fields from one place up to another, each of which is 0xFFFFFFFF in turn, with the rows of those by which the file is
+/// refused, what a refusal names, and what is told where another one is spoiled.
+struct Fields<'a> {
+    command: &'a str,
+    from: usize,
+    to: usize,
+    rows: &'a str,
+    named: &'a str,
+    good: &'a str,
+}
+
+fn are_fields(
+    rt: &impl Abort,
+    alloc: Global,
+    files: &mut MemFiles,
+    bytes: &[u8],
+    fields: &Fields<'_>,
+) {
+    for at in (fields.from..fields.to).step_by(4) {
+        let spoiled = spoiled(rt, alloc, bytes, at, at.wrapping_add(4), 0xFF);
+        let line = match refusal(rt, fields.rows, at) {
+            Some((cause, place)) => {
+                format!(in alloc; "refused {cause}{} at {place}", fields.named)
+            }
+            None => String::from_str(alloc, fields.good),
+        };
+        let line = line.expect(rt, "memory");
+        is_told(rt, alloc, files, fields.command, at, &spoiled, &line);
+    }
+}
+
+const OF_OBJECT: Fields<'static> = Fields {
+    command: LINK,
+    from: 20,
+    to: 40,
+    rows: OBJECT_FIELDS,
+    named: " object 0",
+    good: "image text 19 data 0 bss 0 sites 2",
+};
+
+const OF_IMAGE: Fields<'static> = Fields {
+    command: CHECK,
+    from: 20,
+    to: 40,
+    rows: IMAGE_FIELDS,
+    named: "",
+    good: "accepted text 19 data 0 bss 0 sites 2 format 1",
+};
+
+static FIELDS_OF_OBJECT: [Fields<'static>; 2] = [
+    OF_OBJECT,
+    Fields {
+        from: 212,
+        to: 612,
+        ..OF_OBJECT
+    },
+];
+
+static FIELDS_OF_IMAGE: [Fields<'static>; 3] = [
+    OF_IMAGE,
+    Fields {
+        from: 52,
+        to: 116,
+        ..OF_IMAGE
+    },
+    Fields {
+        from: 8256,
+        to: 8496,
+        ..OF_IMAGE
+    },
+];
+
+#[test]
+fn damaged_objects_and_images_are_refused_by_the_part_or_field(rt: HostRuntime) {
+    let alloc = rt.alloc();
+    let mut files = built(&rt, alloc, SENDS_A_BYTE.as_bytes());
+    let object = file(&rt, alloc, &mut files, "O");
+    assert!(rt; object.len() == 612);
+    are_cut(&rt, alloc, &mut files, LINK, &object, CUT_OBJECTS);
+    for fields in FIELDS_OF_OBJECT.iter() {
+        are_fields(&rt, alloc, &mut files, &object, fields);
+    }
+    let image = file(&rt, alloc, &mut files, "I");
+    assert!(rt; image.len() == 8496);
+    are_cut(&rt, alloc, &mut files, CHECK, &image, CUT_IMAGES);
+    for fields in FIELDS_OF_IMAGE.iter() {
+        are_fields(&rt, alloc, &mut files, &image, fields);
+    }
+}
+
+/// The script is damaged at each place of a row.
+fn is_damaged(rt: &impl Abort, alloc: Global, files: &mut MemFiles, row: &str) {
+    let (with, rest) = row.split_once(' ').expect(rt, "how");
+    let (from, rest) = first(rt, rest);
+    let (to, line) = first(rt, rest);
+    for at in from..to {
+        let script = SCRIPT.as_bytes();
+        let damaged = match with.parse() {
+            Ok(byte) => spoiled(rt, alloc, script, at, at.wrapping_add(1), byte),
+            Err(_) => joined(rt, alloc, &[script.get(..at).expect(rt, "short")]),
+        };
+        is_told(rt, alloc, files, RUN, at, &damaged, line);
+    }
+}
+
+#[test]
+fn damaged_scripts_are_refused_by_their_line(rt: HostRuntime) {
+    let mut files = built(&rt, rt.alloc(), SENDS_A_BYTE.as_bytes());
+    for row in DAMAGED_SCRIPTS.lines() {
+        is_damaged(&rt, rt.alloc(), &mut files, row);
+    }
+}

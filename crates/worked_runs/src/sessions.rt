@@ -1,0 +1,195 @@
+//! Commands over files in memory, and what they come to, read from the lines of a text.
+//!
+//! A line that begins with `$ ` is an action. What follows up to the next such line belongs to it, each line with its end:
+//!
+//! - `$ : WORDS` does nothing: it says what comes. `$ anew WORDS` says so too, and no name is held from here on.
+//! - `$ store NAME`: the name holds these lines from here on.
+//! - `$ build`: the same of the source S, which is burnt to O and linked to I; the script B is then empty.
+//! - `$ image N`: I is the image of these parts and N zeroed bytes: a line begins with `text`, `data` or `site`.
+//! - `$ STATUS COMMAND`: a command comes to this status, and prints exactly these lines. Where it is refused or fails, each
+//!   name holds what it held, byte for byte. An empty word is written ''; `$ STATUS` has no words at all.
+//! - `$ cut PUT STATUS COMMAND`: so does one of which this put fails, counted from 0.
+//! - `$ bare STATUS BOUND`, `$ wedge STATUS BOUND`: the run of the image I with the script B and 2,048 frames prints them.
+//! - `$ runs STATUS BOUND`: both do.
+//! - `$ copy NAME OTHER`: the name holds what the other does. `$ same NAME OTHER`: it does already.
+//! - `$ held NAME`, `$ lost NAME`: a name is held, or isn't.
+//! - `$ text BYTES`, `$ data BYTES`, `$ entry NUMBER`: the image I has it.
+
+use crate::commands::{all_held, answer, are_same, file, is_so, no_files};
+use crate::images::{has_part, image_file};
+use pv_io::{Files, MemFiles};
+use std::alloc::Global;
+use std::process::Abort;
+
+/// Does what the text says, over these files. What comes to something else is told by its line.
+pub fn follow_over(rt: &impl Abort, alloc: Global, files: &mut MemFiles, session: &str) {
+    let session = session.strip_prefix("$ ").unwrap_or(session);
+    let session = session.strip_suffix('\n').unwrap_or(session);
+    for part in session.split("\n$ ") {
+        follow_part(rt, alloc, files, part);
+    }
+}
+
+/// An action, and the lines behind it, of which the last has lost its end.
+fn follow_part(rt: &impl Abort, alloc: Global, files: &mut MemFiles, part: &str) {
+    let mut lines = String::new(alloc);
+    match part.split_once('\n') {
+        None => is_so(rt, part, does(rt, alloc, files, part, &lines)),
+        Some((action, rest)) => {
+            lines.push_str(rest).expect(rt, "memory");
+            lines.push_str("\n").expect(rt, "memory");
+            is_so(rt, action, does(rt, alloc, files, action, &lines));
+        }
+    }
+}
+
+/// The same over no files, and what is held behind it.
+pub fn follow(rt: &impl Abort, alloc: Global, session: &str) -> MemFiles {
+    let mut files = no_files(rt, alloc);
+    follow_over(rt, alloc, &mut files, session);
+    files
+}
+
+/// Whether an action comes to what it says.
+fn does(rt: &impl Abort, alloc: Global, files: &mut MemFiles, action: &str, lines: &str) -> bool {
+    let (verb, rest) = action.split_once(' ').unwrap_or((action, ""));
+    if verb == ":" {
+        true
+    } else if verb == "anew" {
+        *files = no_files(rt, alloc);
+        true
+    } else if verb == "bare" {
+        runs(rt, alloc, files, "--bare", rest, lines)
+    } else if verb == "wedge" {
+        runs(rt, alloc, files, "--wedge", rest, lines)
+    } else if verb == "runs" {
+        runs(rt, alloc, files, "--bare", rest, lines)
+            && runs(rt, alloc, files, "--wedge", rest, lines)
+    } else if verb == "cut" {
+        is_cut(rt, alloc, files, rest, lines)
+    } else {
+        match verb.parse() {
+            Ok(status) => tells(rt, alloc, files, status, rest, &[], lines),
+            Err(_) => has(rt, alloc, files, verb, rest, lines),
+        }
+    }
+}
+
+/// Whether files are made so, or hold what an action says.
+fn has(
+    rt: &impl Abort,
+    alloc: Global,
+    files: &mut MemFiles,
+    verb: &str,
+    rest: &str,
+    lines: &str,
+) -> bool {
+    if verb == "store" {
+        files.store(rest, lines.as_bytes()).is_ok()
+    } else if verb == "build" {
+        builds(rt, alloc, files, lines.as_bytes())
+    } else if verb == "image" {
+        let bss = rest.parse().expect(rt, "a number of zeroed bytes");
+        files.store("I", &image_file(rt, alloc, bss, lines)).is_ok()
+    } else if verb == "held" {
+        has_name(alloc, files, rest)
+    } else if verb == "lost" {
+        !has_name(alloc, files, rest)
+    } else if verb == "text" || verb == "data" || verb == "entry" {
+        let image = file(rt, alloc, files, "I");
+        has_part(rt, alloc, &image, verb, rest)
+    } else {
+        let (name, other) = rest.split_once(' ').expect(rt, "two names");
+        let bytes = file(rt, alloc, files, other);
+        if verb == "copy" {
+            files.store(name, &bytes).is_ok()
+        } else {
+            verb == "same" && are_same(&file(rt, alloc, files, name), &bytes)
+        }
+    }
+}
+
+/// Whether a command that comes to this status leaves all files as they were: one that is refused or fails does, but for a
+/// store that failed, and a sink that fails behind it.
+fn leaves_files(status: u8, command: &str) -> bool {
+    let stores = command.starts_with("burn ") || command.starts_with("link ");
+    let saves = command.starts_with("save ");
+    let proves = command.starts_with("prove ");
+    status != 0 && !(status == 6 && (stores || saves || proves)) && !(status == 4 && proves)
+}
+
+/// Whether a command of whose puts those of a list fail comes to a status, and its sink takes these lines. One put has failed
+/// where the status says so. Where it is refused, each name holds what it held.
+fn tells(
+    rt: &impl Abort,
+    alloc: Global,
+    files: &mut MemFiles,
+    status: u8,
+    command: &str,
+    fail: &[u64],
+    lines: &str,
+) -> bool {
+    if !leaves_files(status, command) {
+        return prints(rt, alloc, files, status, command, fail, lines);
+    }
+    let before = all_held(rt, alloc, files);
+    prints(rt, alloc, files, status, command, fail, lines)
+        && are_same(&all_held(rt, alloc, files), &before)
+}
+
+fn prints(
+    rt: &impl Abort,
+    alloc: Global,
+    files: &mut MemFiles,
+    status: u8,
+    command: &str,
+    fail: &[u64],
+    lines: &str,
+) -> bool {
+    let (number, out) = answer(rt, alloc, files, command, fail);
+    number == status
+        && are_same(out.bytes(), lines.as_bytes())
+        && out.faults() == u64::from(number == 6)
+}
+
+/// The same with a put that fails and a status that stand before the command.
+fn is_cut(rt: &impl Abort, alloc: Global, files: &mut MemFiles, rest: &str, lines: &str) -> bool {
+    let (put, rest) = rest.split_once(' ').expect(rt, "a put");
+    let (status, command) = rest.split_once(' ').expect(rt, "a status");
+    let put = put.parse().expect(rt, "the number of a put");
+    let status = status.parse().expect(rt, "the number of a status");
+    tells(rt, alloc, files, status, command, &[put], lines)
+}
+
+/// Whether a machine comes to the status and prints these lines, with the bound behind it.
+fn runs(
+    rt: &impl Abort,
+    alloc: Global,
+    files: &mut MemFiles,
+    machine: &str,
+    rest: &str,
+    lines: &str,
+) -> bool {
+    let (status, bound) = rest.split_once(' ').expect(rt, "a status");
+    let status = status.parse().expect(rt, "the number of a status");
+    let command = format!(in alloc; "run {machine} I B 2048 {bound}").expect(rt, "memory");
+    tells(rt, alloc, files, status, &command, &[], lines)
+}
+
+fn is_done(rt: &impl Abort, alloc: Global, files: &mut MemFiles, command: &str) -> bool {
+    let (number, _out) = answer(rt, alloc, files, command, &[]);
+    number == 0
+}
+
+/// Whether the source S becomes the object O and the image I, and the script B is an empty one.
+pub fn builds(rt: &impl Abort, alloc: Global, files: &mut MemFiles, source: &[u8]) -> bool {
+    files.store("S", source).is_ok()
+        && files.store("B", b"").is_ok()
+        && is_done(rt, alloc, files, "burn S O")
+        && is_done(rt, alloc, files, "link I O")
+}
+
+fn has_name(alloc: Global, files: &mut MemFiles, name: &str) -> bool {
+    let mut bytes = Vec::new(alloc);
+    files.load(alloc, name, &mut bytes).is_ok()
+}
