@@ -2,6 +2,7 @@
 # whose data then begins at 0x11000000.
 	.data
 	.p2align 3
+	.globl idt_register
 idt_register:
 	.word 0x7ff
 	.long idt
