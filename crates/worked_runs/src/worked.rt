@@ -1,6 +1,6 @@
 //! Kernels and refusals as texts that are read line by line.
 
-use crate::commands::{repeated, store};
+use crate::commands::{no_files, repeated, store};
 use crate::sessions::{follow, follow_over};
 use worked_kernels::{
     BORDERS, BUILT, EVENTS, HOSTILE, LARGE, PLAIN, REFUSED, TOO_MANY_SITES, USER,
@@ -27,7 +27,8 @@ fn stops_end_hostile_kernels_and_a_monitor_keeps_its_windows(rt: HostRuntime) {
 
 #[test]
 fn each_is_refused_by_its_line(rt: HostRuntime) {
-    let mut files = follow(&rt, rt.alloc(), REFUSED);
+    follow(&rt, rt.alloc(), REFUSED);
+    let mut files = no_files(&rt, rt.alloc());
     let source = repeated(&rt, rt.alloc(), b"", b"cli\n", 262_145);
     store(&rt, &mut files, "S", &source);
     follow_over(&rt, rt.alloc(), &mut files, TOO_MANY_SITES);
