@@ -63,8 +63,8 @@ addb $256,%al => line 1 23
 movl $a+4,b-8 => symbols a none 0 global;b none 0 global; relocs text 2 1;text 6 0;
 -- the first worked source
 _start:~movl $0x3f8,%edx~movb $0x48,%al~outb %al,%dx~hlt => sites 50 56 53 31 02 00 00 00 07 00 00 00 14 01 05 00 0c 00 00 00 04 01 05 00
--- the fifth push of the kernel that returns into an immediate names what is linked at 0x10000013
-_start: pushl $2; pushl $2; pushl $2; pushl $2; pushl $bad+1; ret; bad: movl $0x9d9d9d9d,%eax => text 6a 02 6a 02 6a 02 6a 02 68 13 00 00 00 c3 90 90 90 90 b8 9d 9d 9d 9d sites 1
+-- a relocation by a name stands over the number beside it
+_start: pushl $2; pushl $2; pushl $2; pushl $2; pushl $bad+1; ret; bad: movl $0x9d9d9d9d,%eax => text 6a 02 6a 02 6a 02 6a 02 68 01 00 00 00 c3 90 90 90 90 b8 9d 9d 9d 9d sites 1
 ";
 
 /// What is made of the source of GCC.
