@@ -38,6 +38,15 @@ yes|3 65536 0
 yes|3 0 1
 ";
 
+/// The same of the kernel with a large page, whose directory word is written in step 4 and walked in step 5: it has no table
+/// word, so its accessed flag is the only one.
+const LARGE_ENTRIES: &str = "\
+no entry 0|4 70656 2
+no entry 0|5 70656 2
+yes|6 70656 2
+yes|8 70656 2
+";
+
 /// The place that is told of a certificate with one entry where the byte there is 255.
 const SPOILED: &str = "\
 0 0
@@ -108,16 +117,29 @@ fn a_text_is_right_or_differs_at_a_line(rt: HostRuntime) {
     }
 }
 
+/// What is said of a text by each of these entries.
+fn are_told(rt: &impl Abort, alloc: Global, files: &mut MemFiles, entries: &str) {
+    for line in entries.lines() {
+        let (told, entry) = line.split_once('|').expect(rt, "an entry");
+        let bytes = with_entry(rt, alloc, entry);
+        store(rt, files, "C", &bytes);
+        is_so(rt, line, replays(rt, alloc, files, 0, told));
+    }
+}
+
 #[test]
 fn an_entry_is_made_or_is_told(rt: HostRuntime) {
     let alloc = rt.alloc();
-    let mut files = sent(&rt, alloc);
-    for line in ENTRIES.lines() {
-        let (told, entry) = line.split_once('|').expect(&rt, "an entry");
-        let bytes = with_entry(&rt, alloc, entry);
-        store(&rt, &mut files, "C", &bytes);
-        is_so(&rt, line, replays(&rt, alloc, &mut files, 0, told));
-    }
+    are_told(&rt, alloc, &mut sent(&rt, alloc), ENTRIES);
+}
+
+#[test]
+fn a_large_page_is_added_once_it_was_walked(rt: HostRuntime) {
+    let alloc = rt.alloc();
+    let mut files = built(&rt, alloc, HAS_A_LARGE_PAGE.as_bytes());
+    let text = lines(&rt, alloc, "7 out32 0080 004000e3/end steps 8");
+    store(&rt, &mut files, "T", &text);
+    are_told(&rt, alloc, &mut files, LARGE_ENTRIES);
 }
 
 /// A certificate whose bytes are these is refused at this place.
