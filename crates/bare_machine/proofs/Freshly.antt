@@ -1,14 +1,13 @@
 -- Runs before each step of which nothing is cached.
 use Rattle.std.proofs.Common.{◌≡◌, ℕ, zero, suc, ◌+◌, ◌-◌, ◌≤◌, ◌<◌, Bool, List, [], ◌∷◌, ◌++◌, length, replicate, Option, Result, Ok, Err, refl, sym, ap, subst, ◌∙◌, append_assoc, arith}
 use Rattle.std.proofs.lemmas.List.{append-nil}
-use Rattle.std.specs.FinMap.{get, empty, get-empty}
+use Rattle.std.specs.FinMap.{empty, get-empty}
 use Rattle.std.specs.Ordering.{nat_cmp}
 use Rattle.std.proofs.lemmas.Option.{none-some}
 use Rattle.pv_io.specs.declared.answer.Failed.{Failed}
 use Rattle.pv_io.specs.Causes.{Rose}
 use Rattle.pv_io.specs.Sink.{Appends, AppendsFront}
 use Rattle.ia32_types.specs.declared.stop.Stop.{Stop}
-use Rattle.run_trace.specs.declared.pause.Pause.{Pause}
 use Rattle.run_trace.specs.declared.pause.Pause.TheVariants.{Reached, Stopped}
 use Rattle.image_load.specs.declared.fault.RunFault.{RunFault}
 use Rattle.image_load.specs.declared.fault.RunFault.TheVariants as fault
@@ -19,7 +18,7 @@ use Rattle.run_trace.specs.Text.{lines_of, end_line, text_of}
 use Rattle.machine_model.specs.State.{Setting, State, Loosened, boot}
 use Rattle.machine_model.specs.Step as steps
 use Rattle.machine_model.specs.Step.{Report, Went, Halts, step_of}
-use Rattle.machine_model.specs.Run.{Set, Steps, Run, trace_of, with_set}
+use Rattle.machine_model.specs.Run.{Set, Steps, trace_of, with_set}
 use Rattle.machine_model.specs.Ends.{StepsTo}
 use Rattle.machine_model.proofs.Counting.{each_counts}
 use Rattle.board.specs.Scripts.{Events}

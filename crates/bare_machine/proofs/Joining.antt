@@ -1,18 +1,15 @@
 -- Parts of a run are one run.
-use Rattle.std.proofs.Common.{◌≡◌, ℕ, Bool, List, [], ◌∷◌, ◌++◌, Option, Some, Ok, refl, sym, ap, subst, ◌∙◌, inl, inr}
+use Rattle.std.proofs.Common.{◌≡◌, ℕ, List, [], ◌∷◌, ◌++◌, Some, sym, ap, subst, ◌∙◌, inl, inr}
 use Rattle.std.proofs.lemmas.List.{append-nil}
 use Rattle.std.specs.Prelude.{◌⊎◌}
 use Rattle.std.specs.FinMap.{get}
 use Rattle.paging.specs.declared.entry.Entry.{Entry}
-use Rattle.run_trace.specs.declared.pause.Pause.{Pause}
 use Rattle.run_trace.specs.declared.pause.Pause.TheVariants.{Reached, Stopped}
 use Rattle.paging.specs.Part.{IsPartOf}
 use Rattle.machine_model.specs.State.{Setting, State, Loosened, IsCacheable}
-use Rattle.machine_model.specs.Step.{Report, Went, step_of}
-use Rattle.machine_model.specs.Run.{Set, Steps, Run, with_set}
-use Rattle.bare_machine.specs.Machine.{Passes, FirstIs}
-use Rattle.bare_machine.specs.Slices.{PausesAs}
-use Rattle.run_trace.specs.Pauses.{end_of}
+use Rattle.machine_model.specs.Step.{Report}
+use Rattle.machine_model.specs.Run.{Set, Steps, with_set}
+use Rattle.bare_machine.specs.Machine.{FirstIs}
 use Rattle.bare_machine.specs.Parts.{Leads, BeginsHere, SliceGoesOn, ChangeGoesOn, LossGoesOn, PartsAreARun}
 use Rattle.bare_machine.proofs.Runs.{part_allowed, same_step, steps_join, no_steps}
 

@@ -1,5 +1,5 @@
 -- Runs, a step at a time.
-use Rattle.std.proofs.Common.{◌≡◌, List, [], ◌∷◌, ◌++◌, refl, sym, ap, subst, ◌∙◌, inl, append_assoc}
+use Rattle.std.proofs.Common.{◌≡◌, List, [], ◌∷◌, ◌++◌, refl, ap, subst, ◌∙◌, inl}
 use Rattle.std.proofs.lemmas.List.{append-nil}
 use Rattle.run_trace.specs.declared.items.Item.{Item}
 use Rattle.paging.specs.Part.{IsPartOf}

@@ -1,5 +1,5 @@
 -- What a step comes to, from what its parts did.
-use Rattle.std.proofs.Common.{◌≡◌, ℕ, ◌/◌, [], Bool, true, cond, None, refl, sym, ap, ◌∙◌, inl, inr}
+use Rattle.std.proofs.Common.{◌≡◌, ℕ, ◌/◌, None, refl, sym, ◌∙◌, inl, inr}
 use Rattle.std.proofs.lemmas.Bool.Decides.{eqb_tells}
 use Rattle.std.specs.FinMap.{FinMap, empty}
 use Rattle.std.specs.Ordering.{nat_cmp}
@@ -7,14 +7,11 @@ use Rattle.std.proofs.lemmas.Option.{none-some}
 use Rattle.board.specs.declared.devices.Board.{Board}
 use Rattle.board.specs.Boards.{board_step, board_steps}
 use Rattle.paging.specs.declared.entry.Entry.{Entry}
-use Rattle.paging.specs.Space.{Space}
 use Rattle.paging.specs.Uses.{with_entry, without_dir}
 use Rattle.xlate_buffer.proofs.Caching.{dir_gone, dir_other}
 use Rattle.step_mem.specs.Changes.{AreWithin}
 use Rattle.step_mem.proofs.Changed.{Within_with}
 use Rattle.paging.specs.Part.{IsPartOf}
-use Rattle.machine_model.specs.State.{Setting, State}
-use Rattle.machine_model.specs.Step.{worked, begins_next}
 use Rattle.machine_step.specs.declared.worked.Dropped.{Dropped}
 use Rattle.machine_step.specs.declared.worked.Dropped.TheVariants as dropped
 use Rattle.machine_step.specs.Worked.{dropping}

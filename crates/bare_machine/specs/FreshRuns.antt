@@ -16,7 +16,7 @@ use Rattle.run_trace.specs.Text.{lines_of, text_of}
 use Rattle.machine_model.specs.State.{Setting, State, boot}
 use Rattle.machine_model.specs.Step as steps
 use Rattle.machine_model.specs.Step.{Report, Went, Halts, step_of}
-use Rattle.machine_model.specs.Run.{Set, Run, trace_of}
+use Rattle.machine_model.specs.Run.{Run, trace_of}
 use Rattle.bare_machine.specs.Machine.{bare}
 
 -- what a run reports, the count of steps at its end, and how it ends

@@ -43,6 +43,17 @@ pub record IsKept (frames : ℕ) (b : State) : Type 0 where
   pub ram : 4096 * frames ≤ length b.ram
   pub within : AreWithin frames b.set
 
+-- It can go on: it is kept well, its memory is as large as it was, and its cache loses entries or none as before.
+pub record GoesOn {C : Type 0} (entries : C → Set) (is_exact : C → Bool) (old new : machines.Bare C) : Type 0 where
+  pub kept : IsKept new.frames (state_of entries new)
+  pub frames : new.frames ≡ old.frames
+  pub size : length new.ram ≡ length old.ram
+  pub exact : is_exact new.kept.cache ≡ is_exact old.kept.cache
+
+-- the step by the translations that it holds
+abbrev pub own_step : Setting → State → steps.Result
+own_step s b = step_of s b b.set
+
 -- one step for each report, each with the translations that are chosen by the state before it
 unfoldable pub StepsBy : Setting → (State → Set) → State → List Report → State → Type 0
 StepsBy s choose old [] new = new ≡ old

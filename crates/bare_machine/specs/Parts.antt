@@ -1,6 +1,5 @@
 -- Parts of a run, between which a cache may be changed.
-use Rattle.std.specs.Prelude.{◌≡◌, ℕ, Bool, List, [], ◌++◌, Ok}
-use Rattle.pv_io.specs.declared.answer.Failed.{Failed}
+use Rattle.std.specs.Prelude.{ℕ, Bool, List, [], ◌++◌, Ok}
 use Rattle.run_trace.specs.declared.pause.Pause.{Pause}
 use Rattle.machine_model.specs.State.{Setting, State, Loosened}
 use Rattle.machine_model.specs.Step.{Report}

@@ -1,7 +1,6 @@
 -- What a slice of a run says.
 use Rattle.std.specs.Prelude.{◌≡◌, ℕ, ◌≤◌, ◌<◌, Bool, true, List, Option, Result, Ok, Err}
 use Rattle.pv_io.specs.declared.answer.Failed.{Failed}
-use Rattle.pv_io.specs.Sink.{Appends, AppendsFront}
 use Rattle.run_trace.specs.declared.pause.Pause.{Pause}
 use Rattle.run_trace.specs.declared.pause.Pause.TheVariants.{Reached, Stopped}
 use Rattle.run_trace.specs.Text.{lines_of}

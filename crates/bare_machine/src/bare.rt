@@ -8,7 +8,7 @@ ghost use Rattle.board.specs.Scripts.{is_script};
 ghost use Rattle.image_check.specs.Image.{Image};
 ghost use Rattle.pv_io.specs.Causes.{Rose};
 ghost use Rattle.machine_model.specs.Fit.{Fit};
-ghost use Rattle.bare_machine.specs.Machine.{bare, state_of, IsKept};
+ghost use Rattle.bare_machine.specs.Machine.{bare, state_of, IsKept, GoesOn};
 ghost use Rattle.bare_machine.specs.Slices.{SliceAs, OneStepAs};
 ghost use Rattle.run_trace.specs.Pauses.{IfReached};
 ghost use Rattle.bare_machine.specs.Starts.{StartedAs, with_cache};
@@ -76,13 +76,13 @@ impl<C: Cache> Bare<C> {
         requires script { is_script script.now.list ≡ true }
         requires kept { IsKept self.old.frames (state_of C.entries self.old) }
         requires bound { self.old.step + k ≤ 2 ^ 40 }
-        ensures slice { (image : Image) → SliceAs (bare image script.now.list self.old.frames) (C.is_exact self.old.kept.cache) (self.old.step + k) (state_of C.entries self.old) (state_of C.entries self.new) (O.taken out.old) (O.taken out.new) result }
-        ensures one { k ≡ 1 → (image : Image) → OneStepAs (bare image script.now.list self.old.frames) (C.is_exact self.old.kept.cache) (state_of C.entries self.old) (state_of C.entries self.new) result }
+        ensures slice { (image : Image) → SliceAs
+            (bare image script.now.list self.old.frames) (C.is_exact self.old.kept.cache) (self.old.step + k)
+            (state_of C.entries self.old) (state_of C.entries self.new) (O.taken out.old) (O.taken out.new) result }
+        ensures one { k ≡ 1 → (image : Image) → OneStepAs (bare image script.now.list self.old.frames)
+            (C.is_exact self.old.kept.cache) (state_of C.entries self.old) (state_of C.entries self.new) result }
         ensures reached { IfReached result (self.new.step ≡ self.old.step + k) }
-        ensures kept { IfReached result (IsKept self.new.frames (state_of C.entries self.new)) }
-        ensures frames { IfReached result (self.new.frames ≡ self.old.frames) }
-        ensures size { IfReached result (length self.new.ram ≡ length self.old.ram) }
-        ensures exact { IfReached result (C.is_exact self.new.kept.cache ≡ C.is_exact self.old.kept.cache) }
+        ensures goes_on { IfReached result (GoesOn C.entries C.is_exact self.old self.new) }
         ensures fit { Fit self.old.cpu → IfReached result (Fit self.new.cpu) }
         ensures later { O.faults out.old ≤ O.faults out.new }
         ensures cause { OnErr result (Rose (O.faults out.old) (O.faults out.new)) }
@@ -93,12 +93,14 @@ impl<C: Cache> Bare<C> {
         steps_to(self, script, bound, out)
     }
 
+    /// The processor.
     pub fn cpu(&self) -> &Cpu
         ensures { result.now ≡ self.now.cpu }
     {
         &self.cpu
     }
 
+    /// The devices.
     pub fn board(&self) -> &Board
         ensures { result.now ≡ self.now.board }
     {
@@ -112,6 +114,7 @@ impl<C: Cache> Bare<C> {
         self.step
     }
 
+    /// The whole physical memory.
     pub fn ram(&self) -> &Ram
         ensures { result.now ≡ self.now.ram }
     {

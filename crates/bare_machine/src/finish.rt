@@ -1,6 +1,6 @@
 //! The end of a step that concluded.
 
-ghost use Rattle.std.specs.Prelude.{◌≡◌, ◌+◌, ◌*◌, ◌<◌, ◌≤◌, ◌^◌, true, length, List, Option};
+ghost use Rattle.std.specs.Prelude.{◌≡◌, ◌+◌, ◌*◌, ◌<◌, ◌≤◌, ◌^◌, length, List, Option};
 ghost use Rattle.std.specs.FinMap.{FinMap};
 ghost use Rattle.std.specs.Ordering.{nat_cmp};
 ghost use Rattle.paging.specs.Space.{Space};
@@ -10,7 +10,7 @@ ghost use Rattle.step_mem.specs.Changes.{AreWithin, changed};
 ghost use Rattle.machine_model.specs.Step.{Completed, concluded};
 ghost use Rattle.machine_step.specs.Worked.{dropping, IsDropped};
 ghost use Rattle.run_trace.specs.declared.items.What.{What as Shown};
-ghost use Rattle.bare_machine.specs.Machine.{state_of, Goes, IsKept};
+ghost use Rattle.bare_machine.specs.Machine.{state_of, Goes, GoesOn};
 
 use crate::machine::Bare;
 use bare_mem::{Cached, drop_all, drop_dir, drop_page, settle};
@@ -20,17 +20,16 @@ use step_mem::Changes;
 use xlate_buffer::Cache;
 
 /// The end of a step that concluded: what it changed of the translations is kept, the count rises, and the board advances.
-pub fn go<C: Cache>(machine: &mut Bare<C>, cpu: Cpu, changes: &Changes, dropped: Dropped)
+pub fn finish_step<C: Cache>(machine: &mut Bare<C>, cpu: Cpu, changes: &Changes, dropped: Dropped)
     requires bound { machine.old.step < 2 ^ 40 }
     requires ram { 4096 * machine.old.frames ≤ length machine.old.ram }
     requires within { AreWithin machine.old.frames (changed (C.entries machine.old.kept.cache) changes.now) }
     requires page { IsDropped dropped }
-    ensures goes { (whats : List Shown) (completed : Option Completed) (s : Space) → s.ram ≡ machine.old.ram → s.set ≡ dropping dropped (changed (C.entries machine.old.kept.cache) changes.now)
-        → Goes (concluded whats completed (state_of C.entries machine.old) cpu machine.old.board s) machine.old.step whats (C.is_exact machine.old.kept.cache) (state_of C.entries machine.new) }
-    ensures kept { IsKept machine.new.frames (state_of C.entries machine.new) }
-    ensures same { C.is_exact machine.new.kept.cache ≡ C.is_exact machine.old.kept.cache }
-    ensures frames { machine.new.frames ≡ machine.old.frames }
-    ensures size { length machine.new.ram ≡ length machine.old.ram }
+    ensures goes { (whats : List Shown) (completed : Option Completed) (s : Space) → s.ram ≡ machine.old.ram
+        → s.set ≡ dropping dropped (changed (C.entries machine.old.kept.cache) changes.now)
+        → Goes (concluded whats completed (state_of C.entries machine.old) cpu machine.old.board s)
+        machine.old.step whats (C.is_exact machine.old.kept.cache) (state_of C.entries machine.new) }
+    ensures goes_on { GoesOn C.entries C.is_exact machine.old machine.new }
     ensures count { machine.new.step ≡ machine.old.step + 1 }
 {
     settle(&mut machine.kept, changes);
@@ -42,7 +41,8 @@ pub fn go<C: Cache>(machine: &mut Bare<C>, cpu: Cpu, changes: &Changes, dropped:
 
 fn drop_from<C: Cache>(kept: &mut Cached<C>, dropped: Dropped)
     requires page { IsDropped dropped }
-    ensures part { (whole : FinMap nat_cmp Entry) → IsPartOf (C.entries kept.old.cache) whole → IsPartOf (C.entries kept.new.cache) (dropping dropped whole) }
+    ensures part { (whole : FinMap nat_cmp Entry) → IsPartOf (C.entries kept.old.cache) whole
+        → IsPartOf (C.entries kept.new.cache) (dropping dropped whole) }
     ensures all { C.entries kept.new.cache ≡ dropping dropped (C.entries kept.old.cache) }
     ensures same { C.is_exact kept.new.cache ≡ C.is_exact kept.old.cache }
 {

@@ -31,8 +31,10 @@ pub fn run_fresh<O: Sink>(
     requires frames { (2048 ≤ frames) × (frames ≤ 16384) }
     requires script { is_script script.now.list ≡ true }
     requires bound { n ≤ 2 ^ 40 }
-    ensures run { RunAnswers image.now script.now.list frames n (O.taken out.old) (O.taken out.new) (O.faults out.old) (O.faults out.new) result }
-    ensures fresh { FreshAnswers image.now script.now.list frames n (O.taken out.old) (O.taken out.new) (O.faults out.old) (O.faults out.new) result }
+    ensures run { RunAnswers image.now script.now.list frames n
+        (O.taken out.old) (O.taken out.new) (O.faults out.old) (O.faults out.new) result }
+    ensures fresh { FreshAnswers image.now script.now.list frames n
+        (O.taken out.old) (O.taken out.new) (O.faults out.old) (O.faults out.new) result }
 {
     match begun(alloc, image, frames, Buffer::new()) {
         Err(fault) => Err(fault),
@@ -54,7 +56,9 @@ fn course<C: Cache, O: Sink>(
     requires kept { IsKept machine.old.frames (state_of C.entries machine.old) }
     requires begin { machine.old.step ≡ 0 }
     requires bound { n ≤ 2 ^ 40 }
-    ensures course { (image : Image) → CourseAs (fresh_course (bare image script.now.list machine.old.frames) n (state_of C.entries machine.old)) (O.taken out.old) (O.taken out.new) (O.faults out.old) (O.faults out.new) result }
+    ensures course { (image : Image) → CourseAs
+        (fresh_course (bare image script.now.list machine.old.frames) n (state_of C.entries machine.old))
+        (O.taken out.old) (O.taken out.new) (O.faults out.old) (O.faults out.new) result }
 {
     match fresh_steps(machine, script, n, out) {
         Err(_) => Err(RunFault::Write),
@@ -73,7 +77,9 @@ fn fresh_steps<C: Cache, O: Sink>(
     requires kept { IsKept machine.old.frames (state_of C.entries machine.old) }
     requires begin { machine.old.step ≡ 0 }
     requires bound { n ≤ 2 ^ 40 }
-    ensures steps { (image : Image) → StepsAs (fresh_course (bare image script.now.list machine.old.frames) n (state_of C.entries machine.old)) machine.new.step (O.taken out.old) (O.taken out.new) (O.faults out.old) (O.faults out.new) result }
+    ensures steps { (image : Image) → StepsAs
+        (fresh_course (bare image script.now.list machine.old.frames) n (state_of C.entries machine.old)) machine.new.step
+        (O.taken out.old) (O.taken out.new) (O.faults out.old) (O.faults out.new) result }
 {
     while machine.step < n {
         drop_all(&mut machine.kept);

@@ -1,13 +1,13 @@
 //! A halted processor that waits.
 
-ghost use Rattle.std.specs.Prelude.{◌≡◌, ◌+◌, ◌-◌, ◌≤◌, ◌<◌, ◌^◌, true, false, None, length};
+ghost use Rattle.std.specs.Prelude.{◌≡◌, ◌+◌, ◌-◌, ◌≤◌, ◌<◌, ◌^◌, true, false, None};
 ghost use Rattle.board.specs.Boards.{comes_within};
 ghost use Rattle.board.specs.Scripts.{is_script};
 ghost use Rattle.image_check.specs.Image.{Image};
 ghost use Rattle.machine_model.specs.Run.{Set};
 ghost use Rattle.machine_model.specs.Step.{interrupt_of};
 ghost use Rattle.paging.specs.Part.{IsPartOf};
-ghost use Rattle.bare_machine.specs.Machine.{bare, state_of, IsKept, Rests};
+ghost use Rattle.bare_machine.specs.Machine.{bare, state_of, IsKept, GoesOn, Rests};
 
 use crate::machine::Bare;
 use board::Script;
@@ -25,12 +25,10 @@ pub fn rest<C: Cache>(machine: &mut Bare<C>, script: &Script, n: u64)
     requires bound { n ≤ 2 ^ 40 }
     ensures rests { (image : Image) (whole : Set) → IsPartOf (C.entries machine.old.kept.cache) whole
         → Rests (bare image script.now.list machine.old.frames) (state_of C.entries machine.old) whole (state_of C.entries machine.new) }
-    ensures kept { IsKept machine.new.frames (state_of C.entries machine.new) }
-    ensures same { C.is_exact machine.new.kept.cache ≡ C.is_exact machine.old.kept.cache }
-    ensures frames { machine.new.frames ≡ machine.old.frames }
-    ensures size { length machine.new.ram ≡ length machine.old.ram }
+    ensures goes_on { GoesOn C.entries C.is_exact machine.old machine.new }
     // Short of the bound it ends only where something comes to the board in the next step.
-    ensures furthest { machine.old.cpu.halted ≡ true → machine.old.cpu.held ≡ false → interrupt_of machine.old.cpu machine.old.board ≡ None → machine.new.step < n
+    ensures furthest { machine.old.cpu.halted ≡ true → machine.old.cpu.held ≡ false
+        → interrupt_of machine.old.cpu machine.old.board ≡ None → machine.new.step < n
         → comes_within machine.old.board script.now.list (machine.old.step - 1) (machine.new.step - machine.old.step + 1) ≡ true }
     ensures later { machine.old.step ≤ machine.new.step }
     ensures within { machine.new.step ≤ n }

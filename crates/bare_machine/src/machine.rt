@@ -6,11 +6,11 @@ ghost use Rattle.image_check.specs.Image.{Image};
 ghost use Rattle.step_mem.specs.Changes.{AreWithin, changed};
 ghost use Rattle.step_mem.specs.Sound.{space_at};
 ghost use Rattle.machine_model.specs.State.{State};
-ghost use Rattle.machine_model.specs.Step.{step_of, stepped};
+ghost use Rattle.machine_model.specs.Step.{stepped};
 ghost use Rattle.machine_step.specs.Worked.{ComesTo, IsDropped};
-ghost use Rattle.bare_machine.specs.Machine.{bare, state_of, StepAs, IsKept};
+ghost use Rattle.bare_machine.specs.Machine.{bare, state_of, own_step, StepAs, IsKept, GoesOn};
 
-use crate::finish::go;
+use crate::finish::finish_step;
 use bare_mem::Cached;
 use board::{Board, Script};
 use descriptors::Cpu;
@@ -71,9 +71,10 @@ pub fn step<C: Cache>(
     requires script { is_script script.now.list ≡ true }
     requires kept { IsKept machine.old.frames (state_of C.entries machine.old) }
     requires bound { machine.old.step < 2 ^ 40 }
-    ensures step { (image : Image) → StepAs (step_of (bare image script.now.list machine.old.frames) (state_of C.entries machine.old) (C.entries machine.old.kept.cache)) result machine.old.step (C.is_exact machine.old.kept.cache) (state_of C.entries machine.new) }
-    ensures kept { OnOk result (IsKept machine.new.frames (state_of C.entries machine.new)) }
-    ensures same { OnOk result (C.is_exact machine.new.kept.cache ≡ C.is_exact machine.old.kept.cache) }
+    ensures step { (image : Image) → StepAs
+        (own_step (bare image script.now.list machine.old.frames) (state_of C.entries machine.old))
+        result machine.old.step (C.is_exact machine.old.kept.cache) (state_of C.entries machine.new) }
+    ensures goes_on { OnOk result (GoesOn C.entries C.is_exact machine.old machine.new) }
     ensures frames { machine.new.frames ≡ machine.old.frames }
     ensures size { length machine.new.ram ≡ length machine.old.ram }
     ensures count { MatchResult result (λ _. machine.new.step ≡ machine.old.step + 1) (λ _. machine.new.step ≡ machine.old.step) }
@@ -89,7 +90,7 @@ pub fn step<C: Cache>(
     );
     match result {
         Ok(worked) => {
-            go(machine, worked.cpu, &state.changes, worked.dropped);
+            finish_step(machine, worked.cpu, &state.changes, worked.dropped);
             Ok(worked.seen)
         }
         Err(stop) => Err(stop),
@@ -113,7 +114,8 @@ fn tried<C: Cache>(
     ensures page { IfOk result (λ w. IsDropped w.dropped) }
     ensures memory { (space_at (λ _. C.entries kept.now.cache) ram.new state.new).ram ≡ ram.new }
     ensures comes { (image : Image) (script : Events) (b : State) → ComesTo
-        (stepped (bare image script frames) (record b { cpu = cpu.now; ram = ram.old; set = C.entries kept.now.cache; board = board.old }))
+        (stepped (bare image script frames)
+        (record b { cpu = cpu.now; ram = ram.old; set = C.entries kept.now.cache; board = board.old }))
         b result board.new (space_at (λ _. C.entries kept.now.cache) ram.new state.new) }
 {
     let _len = ram.len();

@@ -29,7 +29,8 @@ pub fn run_bare<O: Sink>(
     requires frames { (2048 ≤ frames) × (frames ≤ 16384) }
     requires script { is_script script.now.list ≡ true }
     requires bound { n ≤ 2 ^ 40 }
-    ensures run { RunAnswers image.now script.now.list frames n (O.taken out.old) (O.taken out.new) (O.faults out.old) (O.faults out.new) result }
+    ensures run { RunAnswers image.now script.now.list frames n
+        (O.taken out.old) (O.taken out.new) (O.faults out.old) (O.faults out.new) result }
     ensures fills { IfOk result (λ ended. ended.fills ≡ 0) }
 {
     match begun(alloc, image, frames, Buffer::new()) {
@@ -52,7 +53,9 @@ pub fn run_on<C: Cache, O: Sink>(
     requires kept { IsKept machine.old.frames (state_of C.entries machine.old) }
     requires begun { machine.old.step ≤ n }
     requires bound { n ≤ 2 ^ 40 }
-    ensures whole { (image : Image) → WholeAs (bare image script.now.list machine.old.frames) n (state_of C.entries machine.old) (O.taken out.old) (O.taken out.new) (O.faults out.old) (O.faults out.new) result }
+    ensures whole { (image : Image) → WholeAs
+        (bare image script.now.list machine.old.frames) n (state_of C.entries machine.old)
+        (O.taken out.old) (O.taken out.new) (O.faults out.old) (O.faults out.new) result }
     ensures fills { IfOk result (λ ended. ended.fills ≡ 0) }
 {
     match machine.slice(script, n - machine.step, out) {

@@ -1,10 +1,10 @@
 //! A slice of a run.
 
-ghost use Rattle.std.specs.Prelude.{◌≡◌, ◌+◌, ◌≤◌, ◌^◌, true, OnErr, length};
+ghost use Rattle.std.specs.Prelude.{◌≡◌, ◌≤◌, ◌^◌, true, OnErr};
 ghost use Rattle.board.specs.Scripts.{is_script};
 ghost use Rattle.image_check.specs.Image.{Image};
 ghost use Rattle.pv_io.specs.Causes.{Rose};
-ghost use Rattle.bare_machine.specs.Machine.{bare, state_of, IsKept};
+ghost use Rattle.bare_machine.specs.Machine.{bare, state_of, IsKept, GoesOn};
 ghost use Rattle.bare_machine.specs.Slices.{SliceAs};
 ghost use Rattle.run_trace.specs.Pauses.{IfReached};
 
@@ -27,12 +27,11 @@ pub fn steps_to<C: Cache, O: Sink>(
     requires kept { IsKept machine.old.frames (state_of C.entries machine.old) }
     requires bound { bound ≤ 2 ^ 40 }
     requires begun { machine.old.step ≤ bound }
-    ensures slice { (image : Image) → SliceAs (bare image script.now.list machine.old.frames) (C.is_exact machine.old.kept.cache) bound (state_of C.entries machine.old) (state_of C.entries machine.new) (O.taken out.old) (O.taken out.new) result }
+    ensures slice { (image : Image) → SliceAs
+        (bare image script.now.list machine.old.frames) (C.is_exact machine.old.kept.cache) bound
+        (state_of C.entries machine.old) (state_of C.entries machine.new) (O.taken out.old) (O.taken out.new) result }
     ensures reached { IfReached result (machine.new.step ≡ bound) }
-    ensures kept { IfReached result (IsKept machine.new.frames (state_of C.entries machine.new)) }
-    ensures frames { IfReached result (machine.new.frames ≡ machine.old.frames) }
-    ensures size { IfReached result (length machine.new.ram ≡ length machine.old.ram) }
-    ensures same { IfReached result (C.is_exact machine.new.kept.cache ≡ C.is_exact machine.old.kept.cache) }
+    ensures goes_on { IfReached result (GoesOn C.entries C.is_exact machine.old machine.new) }
     ensures later { O.faults out.old ≤ O.faults out.new }
     ensures cause { OnErr result (Rose (O.faults out.old) (O.faults out.new)) }
 {

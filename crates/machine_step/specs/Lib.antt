@@ -1,4 +1,5 @@
 pub mod Ruled
+pub mod Over
 pub mod Fetches
 pub mod Worked
 pub mod Begun

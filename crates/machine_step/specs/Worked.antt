@@ -57,7 +57,3 @@ went_as b worked board s =
 abbrev pub ComesTo : steps.Result → State → Result Worked Stop → Board → Space → Type 0
 ComesTo result b (Ok worked) board s = result ≡ went_as b worked board s
 ComesTo result b (Err stop) board s = result ≡ steps.Halts stop
-
--- the state with another processor and another board
-abbrev pub with_board : State → Board → State
-with_board b board = record b { board = board }

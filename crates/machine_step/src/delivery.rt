@@ -1,14 +1,15 @@
 //! Deliveries of events: external interrupts, INT, and raised vectors.
 
-ghost use Rattle.std.specs.Prelude.{◌≡◌, ◌+◌, ◌*◌, ◌==◌, ◌≤◌, Bool, false, None, Some, IfOk};
+ghost use Rattle.std.specs.Prelude.{◌≡◌, ◌+◌, ◌*◌, ◌==◌, ◌≤◌, Bool, false, None, Some, IfOk, OnOk};
 ghost use Rattle.paging.specs.Space.{Space};
 ghost use Rattle.step_mem.specs.Shown.{hidden};
-ghost use Rattle.step_mem.specs.Sound.{IsSound, space_at};
+ghost use Rattle.step_mem.specs.Sound.{IsSoundOver, StaysIn};
 ghost use Rattle.board.specs.Boards.{vector as vector_of, acknowledged};
 ghost use Rattle.machine_model.specs.State.{Setting, State as Whole};
 ghost use Rattle.machine_model.specs.Step.{interrupted, interrupts_by, after_refusal, raised, code_of, stop_of};
 ghost use Rattle.machine_model.specs.Taken.{is_load};
 ghost use Rattle.machine_model.specs.UsedPages.{Uses, AtRefusal};
+ghost use Rattle.machine_step.specs.Over.{space, UsesBy};
 ghost use Rattle.machine_step.specs.Roots.{RootsAs, EndsWith};
 ghost use Rattle.machine_step.specs.Ruled.{IsRuled};
 ghost use Rattle.machine_step.specs.Worked.{ComesTo, IsDropped, completed_of};
@@ -38,17 +39,17 @@ pub fn deliver<B: Kept>(
     vector: u8,
 ) -> Result<Worked, Stop>
     requires pending { vector_of board.old ≡ Some vector }
-    requires sound { IsSound (B.entries kept.now) (B.floor kept.now) (B.stands kept.now) ram.old state.old }
+    requires sound { IsSoundOver B.Kept kept.now ram.old state.old }
     requires pages { state.old.pages ≤ 48 }
-    ensures sound { IsSound (B.entries kept.now) (B.floor kept.now) (B.stands kept.now) ram.new state.new }
-    ensures uses { IfOk result (λ _. Uses (cpu.now.cpl == 3) (space_at (B.entries kept.now) ram.old state.old) (space_at (B.entries kept.now) ram.new state.new)) }
-    ensures step { (m : Setting) (b : Whole) → IsRuled m rules.now → ComesTo (interrupted m (record b { cpu = cpu.now; board = board.old }) vector (space_at (B.entries kept.now) ram.old state.old)) b result board.new (space_at (B.entries kept.now) ram.new state.new) }
+    ensures sound { IsSoundOver B.Kept kept.now ram.new state.new }
+    ensures uses { OnOk result (UsesBy cpu.now (space B.Kept kept.now ram.old state.old) (space B.Kept kept.now ram.new state.new)) }
+    ensures step { (m : Setting) (b : Whole) → IsRuled m rules.now → ComesTo
+        (interrupted m (record b { cpu = cpu.now; board = board.old }) vector (space B.Kept kept.now ram.old state.old))
+        b result board.new (space B.Kept kept.now ram.new state.new) }
     ensures board { board.new ≡ acknowledged board.old }
     ensures dropped { IfOk result (λ w. IsDropped w.dropped) }
     ensures roots { IfOk result (RootsAs cpu.now) }
-    ensures control { state.new.control ≡ state.old.control }
-    ensures guard { state.new.guard ≡ state.old.guard }
-    ensures hidden { hidden state.old.guard state.old.control.frames ram.new ≡ hidden state.old.guard state.old.control.frames ram.old }
+    ensures stays { StaysIn state.old state.new ram.old ram.new }
 {
     works_use();
     let _vector = board.acknowledge();
@@ -70,17 +71,17 @@ pub fn enter<B: Kept>(
     len: u8,
     vector: u8,
 ) -> Result<Worked, Stop>
-    requires sound { IsSound (B.entries kept.now) (B.floor kept.now) (B.stands kept.now) ram.old state.old }
+    requires sound { IsSoundOver B.Kept kept.now ram.old state.old }
     requires pages { state.old.pages ≤ 32 }
     requires no_load { is_load (Some (completed_of completed)) ≡ false }
-    ensures sound { IsSound (B.entries kept.now) (B.floor kept.now) (B.stands kept.now) ram.new state.new }
-    ensures uses { IfOk result (λ _. Uses (cpu.now.cpl == 3) (space_at (B.entries kept.now) ram.old state.old) (space_at (B.entries kept.now) ram.new state.new)) }
-    ensures step { (m : Setting) (b : Whole) → IsRuled m rules.now → ComesTo (interrupts_by m (record b { cpu = cpu.now }) (completed_of completed) len vector (space_at (B.entries kept.now) ram.old state.old)) b result b.board (space_at (B.entries kept.now) ram.new state.new) }
+    ensures sound { IsSoundOver B.Kept kept.now ram.new state.new }
+    ensures uses { OnOk result (UsesBy cpu.now (space B.Kept kept.now ram.old state.old) (space B.Kept kept.now ram.new state.new)) }
+    ensures step { (m : Setting) (b : Whole) → IsRuled m rules.now → ComesTo
+        (interrupts_by m (record b { cpu = cpu.now }) (completed_of completed) len vector (space B.Kept kept.now ram.old state.old))
+        b result b.board (space B.Kept kept.now ram.new state.new) }
     ensures dropped { IfOk result (λ w. IsDropped w.dropped) }
     ensures roots { IfOk result (RootsAs cpu.now) }
-    ensures control { state.new.control ≡ state.old.control }
-    ensures guard { state.new.guard ≡ state.old.guard }
-    ensures hidden { hidden state.old.guard state.old.control.frames ram.new ≡ hidden state.old.guard state.old.control.frames ram.old }
+    ensures stays { StaysIn state.old state.new ram.old ram.new }
 {
     works_use();
     let mut after = past(cpu, len);
@@ -102,12 +103,15 @@ pub fn refuse<B: Kept>(
     state: &mut StepState,
     refusal: Refusal,
 ) -> Result<Worked, Stop>
-    requires sound { IsSound (B.entries kept.now) (B.floor kept.now) (B.stands kept.now) ram.old state.old }
+    requires sound { IsSoundOver B.Kept kept.now ram.old state.old }
     requires pages { state.old.pages ≤ 48 }
-    ensures sound { IsSound (B.entries kept.now) (B.floor kept.now) (B.stands kept.now) ram.new state.new }
-    ensures uses { IfOk result (λ _. Uses (cpu.now.cpl == 3) (space_at (B.entries kept.now) ram.old state.old) (space_at (B.entries kept.now) ram.new state.new)) }
-    ensures goes_on { (s : Space) → AtRefusal (cpu.now.cpl == 3) s refusal (space_at (B.entries kept.now) ram.old state.old) → IfOk result (λ _. Uses (cpu.now.cpl == 3) s (space_at (B.entries kept.now) ram.new state.new)) }
-    ensures step { (m : Setting) (b : Whole) → IsRuled m rules.now → ComesTo (after_refusal m (record b { cpu = cpu.now }) refusal (space_at (B.entries kept.now) ram.old state.old)) b result b.board (space_at (B.entries kept.now) ram.new state.new) }
+    ensures sound { IsSoundOver B.Kept kept.now ram.new state.new }
+    ensures uses { OnOk result (UsesBy cpu.now (space B.Kept kept.now ram.old state.old) (space B.Kept kept.now ram.new state.new)) }
+    ensures goes_on { (s : Space) → AtRefusal (cpu.now.cpl == 3) s refusal (space B.Kept kept.now ram.old state.old)
+        → OnOk result (UsesBy cpu.now s (space B.Kept kept.now ram.new state.new)) }
+    ensures step { (m : Setting) (b : Whole) → IsRuled m rules.now → ComesTo
+        (after_refusal m (record b { cpu = cpu.now }) refusal (space B.Kept kept.now ram.old state.old))
+        b result b.board (space B.Kept kept.now ram.new state.new) }
     ensures dropped { IfOk result (λ w. IsDropped w.dropped) }
     ensures roots { IfOk result (RootsAs cpu.now) }
     ensures control { state.new.control ≡ state.old.control }
@@ -135,16 +139,17 @@ pub fn raise<B: Kept>(
     vector: u8,
     code: u32,
 ) -> Result<Worked, Stop>
-    requires sound { IsSound (B.entries kept.now) (B.floor kept.now) (B.stands kept.now) ram.old state.old }
+    requires sound { IsSoundOver B.Kept kept.now ram.old state.old }
     requires pages { state.old.pages ≤ 48 }
-    ensures sound { IsSound (B.entries kept.now) (B.floor kept.now) (B.stands kept.now) ram.new state.new }
-    ensures uses { (user : Bool) → IfOk result (λ _. Uses user (space_at (B.entries kept.now) ram.old state.old) (space_at (B.entries kept.now) ram.new state.new)) }
-    ensures step { (m : Setting) (b : Whole) → IsRuled m rules.now → ComesTo (raised m b cpu vector code (space_at (B.entries kept.now) ram.old state.old)) b result b.board (space_at (B.entries kept.now) ram.new state.new) }
+    ensures sound { IsSoundOver B.Kept kept.now ram.new state.new }
+    ensures uses { (user : Bool) → OnOk result (Uses user
+        (space B.Kept kept.now ram.old state.old) (space B.Kept kept.now ram.new state.new)) }
+    ensures step { (m : Setting) (b : Whole) → IsRuled m rules.now → ComesTo
+        (raised m b cpu vector code (space B.Kept kept.now ram.old state.old))
+        b result b.board (space B.Kept kept.now ram.new state.new) }
     ensures dropped { IfOk result (λ w. IsDropped w.dropped) }
     ensures ends { IfOk result (EndsWith None cpu) }
-    ensures control { state.new.control ≡ state.old.control }
-    ensures guard { state.new.guard ≡ state.old.guard }
-    ensures hidden { hidden state.old.guard state.old.control.frames ram.new ≡ hidden state.old.guard state.old.control.frames ram.old }
+    ensures stays { StaysIn state.old state.new ram.old ram.new }
 {
     works_use();
     let mut after = cpu;

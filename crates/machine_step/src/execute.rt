@@ -2,12 +2,12 @@
 
 ghost use Rattle.std.specs.Prelude.{◌≡◌, ◌+◌, ◌≤◌, List, ℕ, true};
 ghost use Rattle.ia32_rows.specs.Spells.{Spells};
-ghost use Rattle.step_mem.specs.Shown.{hidden};
-ghost use Rattle.step_mem.specs.Sound.{IsSound, space_at};
+ghost use Rattle.step_mem.specs.Sound.{IsSoundOver, StaysIn};
 ghost use Rattle.sys_exec.specs.Sys.{told, told_refusal};
 ghost use Rattle.sys_exec.specs.Asked.{IsAsked};
 ghost use Rattle.machine_model.specs.Instruction.{is_plain, instructed, done_plainly};
 ghost use Rattle.step_exec.specs.Plain.{executed};
+ghost use Rattle.machine_step.specs.Over.{space};
 ghost use Rattle.paging.specs.Space.{Space};
 
 use descriptors::Cpu;
@@ -28,14 +28,13 @@ pub fn execute<B: Kept>(
     state: &mut StepState,
 ) -> (SysEffect, Cpu)
     requires spelled { (bytes : List ℕ) × Spells bytes insn.now }
-    requires sound { IsSound (B.entries kept.now) (B.floor kept.now) (B.stands kept.now) ram.old state.old }
+    requires sound { IsSoundOver B.Kept kept.now ram.old state.old }
     requires room { state.old.pages ≤ 32 }
-    ensures sound { IsSound (B.entries kept.now) (B.floor kept.now) (B.stands kept.now) ram.new state.new }
-    ensures told { told cpu.now (instructed insn.now len cpu.now (space_at (B.entries kept.now) ram.old state.old)) ≡ (result.0, result.1, (space_at (B.entries kept.now) ram.new state.new)) }
+    ensures sound { IsSoundOver B.Kept kept.now ram.new state.new }
+    ensures told { told cpu.now (instructed insn.now len cpu.now (space B.Kept kept.now ram.old state.old))
+        ≡ (result.0, result.1, space B.Kept kept.now ram.new state.new) }
     ensures pages { state.new.pages ≤ state.old.pages + 16 }
-    ensures control { state.new.control ≡ state.old.control }
-    ensures guard { state.new.guard ≡ state.old.guard }
-    ensures hidden { hidden state.old.guard state.old.control.frames ram.new ≡ hidden state.old.guard state.old.control.frames ram.old }
+    ensures stays { StaysIn state.old state.new ram.old ram.new }
     ensures asked { IsAsked result.0 }
 {
     if is_plain(insn) {
@@ -57,14 +56,13 @@ fn execute_plain<B: Kept>(
 ) -> (SysEffect, Cpu)
     requires spelled { (bytes : List ℕ) × Spells bytes insn.now }
     requires plain { is_plain insn.now.op ≡ true }
-    requires sound { IsSound (B.entries kept.now) (B.floor kept.now) (B.stands kept.now) ram.old state.old }
+    requires sound { IsSoundOver B.Kept kept.now ram.old state.old }
     requires room { state.old.pages ≤ 32 }
-    ensures sound { IsSound (B.entries kept.now) (B.floor kept.now) (B.stands kept.now) ram.new state.new }
-    ensures told { told cpu.now (done_plainly (executed insn.now len cpu.now (space_at (B.entries kept.now) ram.old state.old))) ≡ (result.0, result.1, (space_at (B.entries kept.now) ram.new state.new)) }
+    ensures sound { IsSoundOver B.Kept kept.now ram.new state.new }
+    ensures told { told cpu.now (done_plainly (executed insn.now len cpu.now (space B.Kept kept.now ram.old state.old)))
+        ≡ (result.0, result.1, space B.Kept kept.now ram.new state.new) }
     ensures pages { state.new.pages ≤ state.old.pages + 16 }
-    ensures control { state.new.control ≡ state.old.control }
-    ensures guard { state.new.guard ≡ state.old.guard }
-    ensures hidden { hidden state.old.guard state.old.control.frames ram.new ≡ hidden state.old.guard state.old.control.frames ram.old }
+    ensures stays { StaysIn state.old state.new ram.old ram.new }
     ensures asked { IsAsked result.0 }
 {
     match plain(insn, len, cpu, ram, kept, state) {

@@ -1,13 +1,14 @@
 //! Reading the instruction at a linear address.
 
-ghost use Rattle.std.specs.Prelude.{◌≡◌, ◌+◌, ◌*◌, ◌-◌, ◌/◌, ◌%◌, ◌<◌, ◌≤◌, ◌^◌, ◌++◌, [], length, List, ℕ, IfOk, IfErr, IsSome, false};
+ghost use Rattle.std.specs.Prelude.{◌≡◌, ◌+◌, ◌*◌, ◌-◌, ◌/◌, ◌%◌, ◌<◌, ◌≤◌, ◌^◌, ◌++◌, [], length, List, ℕ, IfOk, OnOk, IfErr, IsSome, false};
 ghost use Rattle.std.specs.FinMap.{get};
 ghost use Rattle.paging.specs.Space.{place};
 ghost use Rattle.paging.specs.Work.{Gives};
 ghost use Rattle.step_mem.specs.Shown.{hidden};
-ghost use Rattle.step_mem.specs.Sound.{IsSound, space_at};
+ghost use Rattle.step_mem.specs.Sound.{IsSoundOver, StaysIn, FetchesIn};
 ghost use Rattle.machine_model.specs.Instruction.{fetching, fetched_on, fetched};
 ghost use Rattle.machine_model.specs.UsedPages.{Uses, AtRefusal};
+ghost use Rattle.machine_step.specs.Over.{space};
 ghost use Rattle.machine_step.specs.Fetches.{GivesAs};
 ghost use Rattle.ia32_decode.specs.Spelled.{IsSpelled};
 
@@ -31,12 +32,13 @@ pub fn fetch<B: Kept>(
     user: bool,
     at: u32,
 ) -> Result<Decoded, Refusal>
-    requires sound { IsSound (B.entries kept.now) (B.floor kept.now) (B.stands kept.now) ram.old state.old }
+    requires sound { IsSoundOver B.Kept kept.now ram.old state.old }
     requires room { state.old.pages ≤ 62 }
-    ensures sound { IsSound (B.entries kept.now) (B.floor kept.now) (B.stands kept.now) ram.new state.new }
-    ensures uses { IfOk result (λ _. Uses user (space_at (B.entries kept.now) ram.old state.old) (space_at (B.entries kept.now) ram.new state.new)) }
-    ensures refused { IfErr result (λ refusal. AtRefusal user (space_at (B.entries kept.now) ram.old state.old) refusal (space_at (B.entries kept.now) ram.new state.new)) }
-    ensures fetched { Gives result (space_at (B.entries kept.now) ram.new state.new) (fetched user at (space_at (B.entries kept.now) ram.old state.old)) }
+    ensures sound { IsSoundOver B.Kept kept.now ram.new state.new }
+    ensures uses { OnOk result (Uses user (space B.Kept kept.now ram.old state.old) (space B.Kept kept.now ram.new state.new)) }
+    ensures refused { IfErr result (λ refusal. AtRefusal user (space B.Kept kept.now ram.old state.old) refusal
+        (space B.Kept kept.now ram.new state.new)) }
+    ensures fetched { Gives result (space B.Kept kept.now ram.new state.new) (fetched user at (space B.Kept kept.now ram.old state.old)) }
     ensures spelled { IfOk result IsSpelled }
     ensures pages { state.new.pages ≤ state.old.pages + 2 }
     ensures control { state.new.control ≡ state.old.control }
@@ -56,15 +58,13 @@ fn fetch_pages<B: Kept>(
     user: bool,
     at: u32,
 ) -> Result<Decoded, Refusal>
-    requires sound { IsSound (B.entries kept.now) (B.floor kept.now) (B.stands kept.now) ram.old state.old }
+    requires sound { IsSoundOver B.Kept kept.now ram.old state.old }
     requires room { state.old.pages ≤ 62 }
-    ensures sound { IsSound (B.entries kept.now) (B.floor kept.now) (B.stands kept.now) ram.new state.new }
-    ensures fetched { Gives result (space_at (B.entries kept.now) ram.new state.new) (fetched user at (space_at (B.entries kept.now) ram.old state.old)) }
+    ensures sound { IsSoundOver B.Kept kept.now ram.new state.new }
+    ensures fetched { Gives result (space B.Kept kept.now ram.new state.new) (fetched user at (space B.Kept kept.now ram.old state.old)) }
     ensures spelled { IfOk result IsSpelled }
     ensures pages { state.new.pages ≤ state.old.pages + 2 }
-    ensures control { state.new.control ≡ state.old.control }
-    ensures text { state.new.guard.text ≡ state.old.guard.text }
-    ensures hidden { hidden state.old.guard state.old.control.frames ram.new ≡ hidden state.old.guard state.old.control.frames ram.old }
+    ensures stays { FetchesIn state.old state.new ram.old ram.new }
 {
     let mut front = fetching(ram, kept, state, user, at, front_len(at))?;
     match decode(front.as_slice()) {
@@ -83,7 +83,6 @@ fn fetch_pages<B: Kept>(
 }
 
 // With bytes of the second page too.
-#[tactic(auto, unfolding(machine_model::specs::Instruction::fetched_on, machine_model::specs::Instruction::owning_front, machine_model::specs::Instruction::owning_back))]
 fn fetch_on<B: Kept>(
     ram: &mut Ram,
     kept: &B,
@@ -92,18 +91,17 @@ fn fetch_on<B: Kept>(
     at: u32,
     front: &mut Bytes,
 ) -> Result<Decoded, Refusal>
-    requires sound { IsSound (B.entries kept.now) (B.floor kept.now) (B.stands kept.now) ram.old state.old }
+    requires sound { IsSoundOver B.Kept kept.now ram.old state.old }
     requires room { state.old.pages ≤ 63 }
-    requires found { IsSome (get (space_at (B.entries kept.now) ram.old state.old).set (at / 4096)) }
+    requires found { IsSome (get (space B.Kept kept.now ram.old state.old).set (at / 4096)) }
     requires not_last { at / 4096 < 1048575 }
     requires few { length front.old.items ≤ 11 }
-    ensures sound { IsSound (B.entries kept.now) (B.floor kept.now) (B.stands kept.now) ram.new state.new }
-    ensures fetched { Gives result (space_at (B.entries kept.now) ram.new state.new) (fetched_on user at front.old.items (space_at (B.entries kept.now) ram.old state.old)) }
+    ensures sound { IsSoundOver B.Kept kept.now ram.new state.new }
+    ensures fetched { Gives result (space B.Kept kept.now ram.new state.new) (fetched_on user at front.old.items
+        (space B.Kept kept.now ram.old state.old)) }
     ensures spelled { IfOk result IsSpelled }
     ensures pages { state.new.pages ≤ state.old.pages + 1 }
-    ensures control { state.new.control ≡ state.old.control }
-    ensures text { state.new.guard.text ≡ state.old.guard.text }
-    ensures hidden { hidden state.old.guard state.old.control.frames ram.new ≡ hidden state.old.guard state.old.control.frames ram.old }
+    ensures stays { FetchesIn state.old state.new ram.old ram.new }
 {
     own_front(ram, kept, state, at, front_len(at));
     let next = at / 4096 * 4096 + 4096;
@@ -135,19 +133,18 @@ fn fetching<B: Kept>(
     at: u32,
     len: u32,
 ) -> Result<Bytes, Refusal>
-    requires sound { IsSound (B.entries kept.now) (B.floor kept.now) (B.stands kept.now) ram.old state.old }
+    requires sound { IsSoundOver B.Kept kept.now ram.old state.old }
     requires room { state.old.pages ≤ 63 }
     requires some { 0 < len }
     requires few { len ≤ 11 }
     requires one { at % 4096 + len ≤ 4096 }
-    ensures sound { IsSound (B.entries kept.now) (B.floor kept.now) (B.stands kept.now) ram.new state.new }
-    ensures fetching { GivesAs (λ bytes. bytes.items) result (space_at (B.entries kept.now) ram.new state.new) (fetching user at len (space_at (B.entries kept.now) ram.old state.old)) }
+    ensures sound { IsSoundOver B.Kept kept.now ram.new state.new }
+    ensures fetching { GivesAs (λ bytes. bytes.items) result (space B.Kept kept.now ram.new state.new)
+        (fetching user at len (space B.Kept kept.now ram.old state.old)) }
     ensures count { IfOk result (λ bytes. length bytes.items ≡ len) }
-    ensures found { IfOk result (λ _. IsSome (get (space_at (B.entries kept.now) ram.new state.new).set (at / 4096))) }
+    ensures found { OnOk result (IsSome (get (space B.Kept kept.now ram.new state.new).set (at / 4096))) }
     ensures pages { state.new.pages ≤ state.old.pages + 1 }
-    ensures control { state.new.control ≡ state.old.control }
-    ensures guard { state.new.guard ≡ state.old.guard }
-    ensures hidden { hidden state.old.guard state.old.control.frames ram.new ≡ hidden state.old.guard state.old.control.frames ram.old }
+    ensures stays { StaysIn state.old state.new ram.old ram.new }
 {
     match step_mem::fetch(ram, kept, state, at, len, user) {
         Touch::Ready => {

@@ -1,16 +1,16 @@
 //! What an instruction that was fetched comes to.
 
-ghost use Rattle.std.specs.Prelude.{◌≡◌, ◌+◌, ◌==◌, ◌≤◌, List, ℕ, IfOk, OnErr, Ok, Some};
+ghost use Rattle.std.specs.Prelude.{◌≡◌, ◌==◌, ◌≤◌, List, ℕ, IfOk, OnOk, OnErr, Ok, Some};
 ghost use Rattle.paging.specs.Space.{Space};
 ghost use Rattle.step_mem.specs.Shown.{hidden};
-ghost use Rattle.step_mem.specs.Sound.{IsSound, space_at};
+ghost use Rattle.step_mem.specs.Sound.{IsSoundOver, StaysIn};
 ghost use Rattle.ia32_rows.specs.Spells.{Spells};
 ghost use Rattle.sys_exec.specs.Asked.{IsAsked};
 ghost use Rattle.machine_model.specs.State.{Setting, State as Whole};
 ghost use Rattle.machine_model.specs.Instruction.{instructed};
 ghost use Rattle.machine_model.specs.Step.{by_decoded, after_instruction, after_effect};
-ghost use Rattle.machine_model.specs.UsedPages.{Uses};
 ghost use Rattle.machine_step.specs.Begun.{AtEffect};
+ghost use Rattle.machine_step.specs.Over.{space, UsesBy};
 ghost use Rattle.machine_step.specs.Roots.{RootsAs, EffectRoots};
 ghost use Rattle.machine_step.specs.Ruled.{IsRuled};
 ghost use Rattle.machine_step.specs.Worked.{ComesTo, IsDropped, completed_of};
@@ -41,11 +41,13 @@ pub fn carry_out<B: Kept>(
     state: &mut StepState,
 ) -> Result<Worked, Stop>
     requires spelled { (bytes : List ℕ) × Spells bytes insn.now }
-    requires sound { IsSound (B.entries kept.now) (B.floor kept.now) (B.stands kept.now) ram.old state.old }
+    requires sound { IsSoundOver B.Kept kept.now ram.old state.old }
     requires pages { state.old.pages ≤ 8 }
-    ensures sound { IsSound (B.entries kept.now) (B.floor kept.now) (B.stands kept.now) ram.new state.new }
-    ensures uses { IfOk result (λ _. Uses (cpu.now.cpl == 3) (space_at (B.entries kept.now) ram.old state.old) (space_at (B.entries kept.now) ram.new state.new)) }
-    ensures step { (m : Setting) (b : Whole) → IsRuled m rules.now → ComesTo (by_decoded m (record b { cpu = cpu.now; board = board.old }) (Decoded.Insn insn.now len) (space_at (B.entries kept.now) ram.old state.old)) b result board.new (space_at (B.entries kept.now) ram.new state.new) }
+    ensures sound { IsSoundOver B.Kept kept.now ram.new state.new }
+    ensures uses { OnOk result (UsesBy cpu.now (space B.Kept kept.now ram.old state.old) (space B.Kept kept.now ram.new state.new)) }
+    ensures step { (m : Setting) (b : Whole) → IsRuled m rules.now → ComesTo
+        (by_decoded m (record b { cpu = cpu.now; board = board.old }) (Decoded.Insn insn.now len) (space B.Kept kept.now ram.old state.old))
+        b result board.new (space B.Kept kept.now ram.new state.new) }
     ensures stopped { OnErr result (board.new ≡ board.old) }
     ensures dropped { IfOk result (λ w. IsDropped w.dropped) }
     ensures roots { IfOk result (RootsAs cpu.now) }
@@ -87,18 +89,19 @@ fn perform<B: Kept>(
     completed: Completed,
 ) -> Result<Worked, Stop>
     requires spelled { (bytes : List ℕ) × Spells bytes insn.now }
-    requires sound { IsSound (B.entries kept.now) (B.floor kept.now) (B.stands kept.now) ram.old state.old }
+    requires sound { IsSoundOver B.Kept kept.now ram.old state.old }
     requires pages { state.old.pages ≤ 8 }
     requires insn { completed.insn ≡ insn.now }
-    ensures sound { IsSound (B.entries kept.now) (B.floor kept.now) (B.stands kept.now) ram.new state.new }
-    ensures uses { IfOk result (λ _. Uses (cpu.now.cpl == 3) (space_at (B.entries kept.now) ram.old state.old) (space_at (B.entries kept.now) ram.new state.new)) }
-    ensures step { (m : Setting) (b : Whole) → IsRuled m rules.now → ComesTo (after_instruction m (record b { cpu = cpu.now; board = board.old }) (completed_of completed) (instructed insn.now len cpu.now (space_at (B.entries kept.now) ram.old state.old))) b result board.new (space_at (B.entries kept.now) ram.new state.new) }
+    ensures sound { IsSoundOver B.Kept kept.now ram.new state.new }
+    ensures uses { OnOk result (UsesBy cpu.now (space B.Kept kept.now ram.old state.old) (space B.Kept kept.now ram.new state.new)) }
+    ensures step { (m : Setting) (b : Whole) → IsRuled m rules.now → ComesTo
+        (after_instruction m (record b { cpu = cpu.now; board = board.old }) (completed_of completed)
+        (instructed insn.now len cpu.now (space B.Kept kept.now ram.old state.old)))
+        b result board.new (space B.Kept kept.now ram.new state.new) }
     ensures stopped { OnErr result (board.new ≡ board.old) }
     ensures dropped { IfOk result (λ w. IsDropped w.dropped) }
     ensures roots { IfOk result (RootsAs cpu.now) }
-    ensures control { state.new.control ≡ state.old.control }
-    ensures guard { state.new.guard ≡ state.old.guard }
-    ensures hidden { hidden state.old.guard state.old.control.frames ram.new ≡ hidden state.old.guard state.old.control.frames ram.old }
+    ensures stays { StaysIn state.old state.new ram.old ram.new }
 {
     works_use();
     let (effect, after) = execute(insn, len, cpu, ram, kept, state);
@@ -119,19 +122,21 @@ fn follow<B: Kept>(
     state: &mut StepState,
     completed: Completed,
 ) -> Result<Worked, Stop>
-    requires sound { IsSound (B.entries kept.now) (B.floor kept.now) (B.stands kept.now) ram.old state.old }
+    requires sound { IsSoundOver B.Kept kept.now ram.old state.old }
     requires pages { state.old.pages ≤ 48 }
     requires asked { IsAsked effect }
     requires roots { EffectRoots completed before.now effect cpu }
-    ensures sound { IsSound (B.entries kept.now) (B.floor kept.now) (B.stands kept.now) ram.new state.new }
-    ensures uses { (s : Space) → AtEffect (before.now.cpl == 3) s effect (space_at (B.entries kept.now) ram.old state.old) → IfOk result (λ _. Uses (before.now.cpl == 3) s (space_at (B.entries kept.now) ram.new state.new)) }
-    ensures step { (m : Setting) (b : Whole) → IsRuled m rules.now → ComesTo (after_effect m (record b { cpu = before.now; board = board.old }) (completed_of completed) effect cpu (space_at (B.entries kept.now) ram.old state.old)) b result board.new (space_at (B.entries kept.now) ram.new state.new) }
+    ensures sound { IsSoundOver B.Kept kept.now ram.new state.new }
+    ensures uses { (s : Space) → AtEffect (before.now.cpl == 3) s effect (space B.Kept kept.now ram.old state.old)
+        → OnOk result (UsesBy before.now s (space B.Kept kept.now ram.new state.new)) }
+    ensures step { (m : Setting) (b : Whole) → IsRuled m rules.now → ComesTo
+        (after_effect m (record b { cpu = before.now; board = board.old }) (completed_of completed) effect cpu
+        (space B.Kept kept.now ram.old state.old))
+        b result board.new (space B.Kept kept.now ram.new state.new) }
     ensures stopped { OnErr result (board.new ≡ board.old) }
     ensures dropped { IfOk result (λ w. IsDropped w.dropped) }
     ensures roots { IfOk result (RootsAs before.now) }
-    ensures control { state.new.control ≡ state.old.control }
-    ensures guard { state.new.guard ≡ state.old.guard }
-    ensures hidden { hidden state.old.guard state.old.control.frames ram.new ≡ hidden state.old.guard state.old.control.frames ram.old }
+    ensures stays { StaysIn state.old state.new ram.old ram.new }
 {
     match effect {
         SysEffect::Next => ended(rules, completed, before, cpu),

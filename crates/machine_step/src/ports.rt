@@ -24,7 +24,8 @@ pub fn read(
     port: u16,
     wide: bool,
 ) -> Result<Worked, Stop>
-    ensures step { (b : Whole) (s : Space) → ComesTo (after_read b (completed_of completed) cpu port wide s (port_read board.old port wide)) b result board.new s }
+    ensures step { (b : Whole) (s : Space) → ComesTo
+        (after_read b (completed_of completed) cpu port wide s (port_read board.old port wide)) b result board.new s }
     ensures board { board.new ≡ (port_read board.old port wide).1 }
     ensures stopped { OnErr result (board.new ≡ board.old) }
     ensures dropped { IfOk result (λ w. IsDropped w.dropped) }
@@ -73,7 +74,9 @@ pub fn write(
     value: u32,
 ) -> Result<Worked, Stop>
     requires fits { wide ≡ false → value < 256 }
-    ensures step { (b : Whole) (s : Space) → ComesTo (after_write b (completed_of completed) cpu (out_item port wide value) s (port_written board.old port wide value)) b result board.new s }
+    ensures step { (b : Whole) (s : Space) → ComesTo
+        (after_write b (completed_of completed) cpu (out_item port wide value) s (port_written board.old port wide value))
+        b result board.new s }
     ensures board { board.new ≡ (port_written board.old port wide value).1 }
     ensures stopped { OnErr result (board.new ≡ board.old) }
     ensures dropped { IfOk result (λ w. IsDropped w.dropped) }

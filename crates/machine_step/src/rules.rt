@@ -76,7 +76,8 @@ pub fn entered(
     completed: Option<Completed>,
     cpu: Cpu,
 ) -> Result<Worked, Stop>
-    ensures step { (m : Setting) (b : Whole) (board : Board) (s : Space) → IsRuled m rules.now → ComesTo (steps.entered m (whats seen) (completed_by completed) b cpu board s) b result board s }
+    ensures step { (m : Setting) (b : Whole) (board : Board) (s : Space) → IsRuled m rules.now → ComesTo
+        (steps.entered m (whats seen) (completed_by completed) b cpu board s) b result board s }
     ensures dropped { IfOk result (λ w. IsDropped w.dropped) }
     ensures ends { IfOk result (EndsWith completed cpu) }
 {
@@ -95,7 +96,8 @@ pub fn entered(
 
 /// An instruction ended that asks nothing of the machine.
 pub fn ended(rules: &Rules, completed: Completed, before: &Cpu, cpu: Cpu) -> Result<Worked, Stop>
-    ensures step { (m : Setting) (b : Whole) (s : Space) → IsRuled m rules.now → ComesTo (steps.ended m (completed_of completed) (record b { cpu = before.now }) cpu s) b result b.board s }
+    ensures step { (m : Setting) (b : Whole) (s : Space) → IsRuled m rules.now → ComesTo
+        (steps.ended m (completed_of completed) (record b { cpu = before.now }) cpu s) b result b.board s }
     ensures dropped { IfOk result (λ w. IsDropped w.dropped) }
     ensures ends { IfOk result (EndsWith (Some completed) cpu) }
 {

@@ -1,16 +1,15 @@
 //! One step.
 
-ghost use Rattle.std.specs.Prelude.{◌≡◌, ◌+◌, ◌*◌, ◌==◌, ◌≤◌, length, true, false, IfOk, OnErr, None};
+ghost use Rattle.std.specs.Prelude.{◌≡◌, ◌*◌, ◌≤◌, length, true, false, IfOk, OnOk, OnErr, None};
 ghost use Rattle.step_mem.specs.Changes.{AreWithin};
-ghost use Rattle.step_mem.specs.Guard.{mode_of, IsLaid};
-ghost use Rattle.step_mem.specs.Shown.{shown, hidden};
-ghost use Rattle.step_mem.specs.Sound.{IsSound, space_at};
-ghost use Rattle.machine_model.specs.Instruction.{fetched};
+ghost use Rattle.step_mem.specs.Guard.{IsLaid};
+ghost use Rattle.step_mem.specs.Shown.{hidden};
+ghost use Rattle.step_mem.specs.Sound.{IsSoundOver, FetchesIn, begun};
 ghost use Rattle.machine_model.specs.Rules.{stands_well};
-ghost use Rattle.machine_model.specs.State.{Setting, State as Whole, space_at_start};
-ghost use Rattle.machine_model.specs.Step.{stepped, worked, begins_next, fetches_next, interrupt_of, by_interrupt, unheld};
-ghost use Rattle.machine_model.specs.UsedPages.{Uses};
+ghost use Rattle.machine_model.specs.State.{Setting, State as Whole};
+ghost use Rattle.machine_model.specs.Step.{stepped, worked, interrupt_of};
 ghost use Rattle.machine_step.specs.Begun.{control_of, taken_by, BeginsAs, ReadAs, IsBegun, IsFetchedBy};
+ghost use Rattle.machine_step.specs.Over.{space, first_space, under, begins_over, stepped_in, read_next, UsesBy};
 ghost use Rattle.machine_step.specs.Roots.{RootsAs, RootsBegun};
 ghost use Rattle.machine_step.specs.Ruled.{IsRuled};
 ghost use Rattle.machine_step.specs.Worked.{ComesTo, IsDropped};
@@ -42,17 +41,17 @@ pub fn step<'g, B: Kept>(
     requires stands { ∥ B.stands kept.now ram.old ∥₁ }
     requires within { AreWithin frames (B.entries kept.now ram.old) }
     requires laid { IsLaid guard.text.now frames }
-    ensures sound { IsSound (B.entries kept.now) (B.floor kept.now) (B.stands kept.now) ram.new result.1 }
-    ensures uses { IfOk result.0 (λ _. Uses (cpu.now.cpl == 3) (space_at_start (mode_of guard.entry) frames cpu.now (shown guard.entry frames ram.old) (B.entries kept.now ram.old)) (space_at (B.entries kept.now) ram.new result.1)) }
-    ensures step { (s : Setting) (b : Whole) → IsRuled (record s { mode = mode_of guard.entry; frames = frames }) rules.now → ComesTo
-        (stepped (record s { mode = mode_of guard.entry; frames = frames }) (record b { cpu = cpu.now; ram = shown guard.entry frames ram.old; set = B.entries kept.now ram.old; board = board.old }))
-        b result.0 board.new (space_at (B.entries kept.now) ram.new result.1) }
+    ensures sound { IsSoundOver B.Kept kept.now ram.new result.1 }
+    ensures uses { OnOk result.0 (UsesBy cpu.now
+        (first_space B.Kept kept.now ram.old guard.entry frames cpu.now) (space B.Kept kept.now ram.new result.1)) }
+    ensures step { (m : Setting) (b : Whole) → IsRuled (under m guard.entry frames) rules.now → ComesTo
+        (stepped (under m guard.entry frames)
+        (begins_over B.Kept kept.now ram.old guard.entry frames (record b { cpu = cpu.now; board = board.old })))
+        b result.0 board.new (space B.Kept kept.now ram.new result.1) }
     ensures stopped { OnErr result.0 (board.new ≡ taken_by (interrupt_of cpu.now board.old) board.old) }
     ensures dropped { IfOk result.0 (λ w. IsDropped w.dropped) }
     ensures roots { IfOk result.0 (RootsAs cpu.now) }
-    ensures control { result.1.control ≡ control_of frames cpu.now }
-    ensures text { result.1.guard.text ≡ guard.entry.text }
-    ensures hidden { hidden guard.entry frames ram.new ≡ hidden guard.entry frames ram.old }
+    ensures stays { FetchesIn (begun (control_of frames cpu.now) guard.entry) result.1 ram.old ram.new }
 {
     let mut state = begin(cpu, ram, kept, frames, guard);
     let result = step_in(rules, cpu, board, ram, kept, &mut state);
@@ -75,17 +74,17 @@ pub fn step_again<'g, B: Kept>(
     requires stands { ∥ B.stands kept.now ram.old ∥₁ }
     requires within { AreWithin frames (B.entries kept.now ram.old) }
     requires laid { IsLaid guard.text.now frames }
-    ensures sound { IsSound (B.entries kept.now) (B.floor kept.now) (B.stands kept.now) ram.new state.new }
-    ensures uses { IfOk result (λ _. Uses (cpu.now.cpl == 3) (space_at_start (mode_of guard.entry) frames cpu.now (shown guard.entry frames ram.old) (B.entries kept.now ram.old)) (space_at (B.entries kept.now) ram.new state.new)) }
-    ensures step { (s : Setting) (b : Whole) → IsRuled (record s { mode = mode_of guard.entry; frames = frames }) rules.now → ComesTo
-        (stepped (record s { mode = mode_of guard.entry; frames = frames }) (record b { cpu = cpu.now; ram = shown guard.entry frames ram.old; set = B.entries kept.now ram.old; board = board.old }))
-        b result board.new (space_at (B.entries kept.now) ram.new state.new) }
+    ensures sound { IsSoundOver B.Kept kept.now ram.new state.new }
+    ensures uses { OnOk result (UsesBy cpu.now
+        (first_space B.Kept kept.now ram.old guard.entry frames cpu.now) (space B.Kept kept.now ram.new state.new)) }
+    ensures step { (m : Setting) (b : Whole) → IsRuled (under m guard.entry frames) rules.now → ComesTo
+        (stepped (under m guard.entry frames)
+        (begins_over B.Kept kept.now ram.old guard.entry frames (record b { cpu = cpu.now; board = board.old })))
+        b result board.new (space B.Kept kept.now ram.new state.new) }
     ensures stopped { OnErr result (board.new ≡ taken_by (interrupt_of cpu.now board.old) board.old) }
     ensures dropped { IfOk result (λ w. IsDropped w.dropped) }
     ensures roots { IfOk result (RootsAs cpu.now) }
-    ensures control { state.new.control ≡ control_of frames cpu.now }
-    ensures text { state.new.guard.text ≡ guard.entry.text }
-    ensures hidden { hidden guard.entry frames ram.new ≡ hidden guard.entry frames ram.old }
+    ensures stays { FetchesIn (begun (control_of frames cpu.now) guard.entry) state.new ram.old ram.new }
 {
     begin_again(cpu, ram, kept, frames, guard, state);
     step_in(rules, cpu, board, ram, kept, state)
@@ -116,8 +115,8 @@ pub fn begin<'g, B: Kept>(
     requires stands { ∥ B.stands kept.now ram.now ∥₁ }
     requires within { AreWithin frames (B.entries kept.now ram.now) }
     requires laid { IsLaid guard.text.now frames }
-    ensures sound { IsSound (B.entries kept.now) (B.floor kept.now) (B.stands kept.now) ram.now result }
-    ensures space { space_at (B.entries kept.now) ram.now result ≡ space_at_start (mode_of guard.entry) frames cpu.now (shown guard.entry frames ram.now) (B.entries kept.now ram.now) }
+    ensures sound { IsSoundOver B.Kept kept.now ram.now result }
+    ensures space { space B.Kept kept.now ram.now result ≡ first_space B.Kept kept.now ram.now guard.entry frames cpu.now }
     ensures pages { result.pages ≡ 0 }
     ensures control { result.control ≡ control_of frames cpu.now }
     ensures frames { result.control.frames ≡ frames }
@@ -141,8 +140,8 @@ fn begin_again<'g, B: Kept>(
     requires stands { ∥ B.stands kept.now ram.now ∥₁ }
     requires within { AreWithin frames (B.entries kept.now ram.now) }
     requires laid { IsLaid guard.text.now frames }
-    ensures sound { IsSound (B.entries kept.now) (B.floor kept.now) (B.stands kept.now) ram.now state.new }
-    ensures space { space_at (B.entries kept.now) ram.now state.new ≡ space_at_start (mode_of guard.entry) frames cpu.now (shown guard.entry frames ram.now) (B.entries kept.now ram.now) }
+    ensures sound { IsSoundOver B.Kept kept.now ram.now state.new }
+    ensures space { space B.Kept kept.now ram.now state.new ≡ first_space B.Kept kept.now ram.now guard.entry frames cpu.now }
     ensures pages { state.new.pages ≡ 0 }
     ensures control { state.new.control ≡ control_of frames cpu.now }
     ensures guard { state.new.guard ≡ guard.entry }
@@ -160,11 +159,13 @@ pub fn step_in<B: Kept>(
     kept: &B,
     state: &mut StepState,
 ) -> Result<Worked, Stop>
-    requires sound { IsSound (B.entries kept.now) (B.floor kept.now) (B.stands kept.now) ram.old state.old }
+    requires sound { IsSoundOver B.Kept kept.now ram.old state.old }
     requires pages { state.old.pages ≡ 0 }
-    ensures sound { IsSound (B.entries kept.now) (B.floor kept.now) (B.stands kept.now) ram.new state.new }
-    ensures uses { IfOk result (λ _. Uses (cpu.now.cpl == 3) (space_at (B.entries kept.now) ram.old state.old) (space_at (B.entries kept.now) ram.new state.new)) }
-    ensures step { (m : Setting) (b : Whole) → IsRuled m rules.now → ComesTo (by_interrupt m (interrupt_of cpu.now board.old) (unheld (record b { cpu = cpu.now; board = board.old })) (space_at (B.entries kept.now) ram.old state.old)) b result board.new (space_at (B.entries kept.now) ram.new state.new) }
+    ensures sound { IsSoundOver B.Kept kept.now ram.new state.new }
+    ensures uses { OnOk result (UsesBy cpu.now (space B.Kept kept.now ram.old state.old) (space B.Kept kept.now ram.new state.new)) }
+    ensures step { (m : Setting) (b : Whole) → IsRuled m rules.now → ComesTo
+        (stepped_in m (record b { cpu = cpu.now; board = board.old }) (space B.Kept kept.now ram.old state.old))
+        b result board.new (space B.Kept kept.now ram.new state.new) }
     ensures stopped { OnErr result (board.new ≡ taken_by (interrupt_of cpu.now board.old) board.old) }
     ensures dropped { IfOk result (λ w. IsDropped w.dropped) }
     ensures roots { IfOk result (RootsAs cpu.now) }
@@ -189,20 +190,21 @@ pub fn start<B: Kept>(
     kept: &B,
     state: &mut StepState,
 ) -> Result<Begun, Stop>
-    requires sound { IsSound (B.entries kept.now) (B.floor kept.now) (B.stands kept.now) ram.old state.old }
+    requires sound { IsSoundOver B.Kept kept.now ram.old state.old }
     requires pages { state.old.pages ≡ 0 }
-    ensures sound { IsSound (B.entries kept.now) (B.floor kept.now) (B.stands kept.now) ram.new state.new }
-    ensures uses { IfOk result (λ _. Uses (cpu.now.cpl == 3) (space_at (B.entries kept.now) ram.old state.old) (space_at (B.entries kept.now) ram.new state.new)) }
+    ensures sound { IsSoundOver B.Kept kept.now ram.new state.new }
+    ensures uses { OnOk result (UsesBy cpu.now (space B.Kept kept.now ram.old state.old) (space B.Kept kept.now ram.new state.new)) }
     ensures fetched { IfOk result (IsFetchedBy (record cpu.now { held = false })) }
-    ensures begins { (m : Setting) (b : Whole) → IsRuled m rules.now → BeginsAs m (by_interrupt m (interrupt_of cpu.now board.old) (unheld (record b { cpu = cpu.now; board = board.old })) (space_at (B.entries kept.now) ram.old state.old)) b result board.new (space_at (B.entries kept.now) ram.new state.new) }
-    ensures reads { (m : Setting) → IsRuled m rules.now → interrupt_of cpu.now board.old ≡ None → cpu.now.halted ≡ false → stands_well m cpu.now ≡ true
-        → ReadAs (record cpu.now { held = false }) result (space_at (B.entries kept.now) ram.new state.new) (fetched (cpu.now.cpl == 3) cpu.now.regs.eip (space_at (B.entries kept.now) ram.old state.old)) }
+    ensures begins { (m : Setting) (b : Whole) → IsRuled m rules.now → BeginsAs m
+        (stepped_in m (record b { cpu = cpu.now; board = board.old }) (space B.Kept kept.now ram.old state.old))
+        b result board.new (space B.Kept kept.now ram.new state.new) }
+    ensures reads { (m : Setting) → IsRuled m rules.now → interrupt_of cpu.now board.old ≡ None → cpu.now.halted ≡ false
+        → stands_well m cpu.now ≡ true → ReadAs (record cpu.now { held = false }) result
+        (space B.Kept kept.now ram.new state.new) (read_next cpu.now (space B.Kept kept.now ram.old state.old)) }
     ensures board { board.new ≡ taken_by (interrupt_of cpu.now board.old) board.old }
     ensures begun { IfOk result (λ x. IsBegun x state.new.pages) }
     ensures roots { IfOk result (RootsBegun cpu.now) }
-    ensures control { state.new.control ≡ state.old.control }
-    ensures text { state.new.guard.text ≡ state.old.guard.text }
-    ensures hidden { hidden state.old.guard state.old.control.frames ram.new ≡ hidden state.old.guard state.old.control.frames ram.old }
+    ensures stays { FetchesIn state.old state.new ram.old ram.new }
 {
     let mut unheld = *cpu;
     unheld.held = false;
@@ -226,7 +228,7 @@ pub fn interrupt(cpu: &Cpu, board: &Board) -> Option<u8>
     }
 }
 
-/// A halted processor does nothing, and another fetches its instruction.
+/// A halted processor does nothing, and another fetches the instruction at EIP.
 #[tactic(auto, unfolding(machine_model::specs::Step::worked))]
 fn work<B: Kept>(
     rules: &Rules,
@@ -235,19 +237,19 @@ fn work<B: Kept>(
     kept: &B,
     state: &mut StepState,
 ) -> Result<Begun, Stop>
-    requires sound { IsSound (B.entries kept.now) (B.floor kept.now) (B.stands kept.now) ram.old state.old }
+    requires sound { IsSoundOver B.Kept kept.now ram.old state.old }
     requires pages { state.old.pages ≡ 0 }
-    ensures sound { IsSound (B.entries kept.now) (B.floor kept.now) (B.stands kept.now) ram.new state.new }
-    ensures uses { IfOk result (λ _. Uses (cpu.now.cpl == 3) (space_at (B.entries kept.now) ram.old state.old) (space_at (B.entries kept.now) ram.new state.new)) }
+    ensures sound { IsSoundOver B.Kept kept.now ram.new state.new }
+    ensures uses { OnOk result (UsesBy cpu.now (space B.Kept kept.now ram.old state.old) (space B.Kept kept.now ram.new state.new)) }
     ensures fetched { IfOk result (IsFetchedBy cpu.now) }
-    ensures begins { (m : Setting) (b : Whole) → IsRuled m rules.now → BeginsAs m (worked m (record b { cpu = cpu.now }) (space_at (B.entries kept.now) ram.old state.old)) b result b.board (space_at (B.entries kept.now) ram.new state.new) }
+    ensures begins { (m : Setting) (b : Whole) → IsRuled m rules.now → BeginsAs m
+        (worked m (record b { cpu = cpu.now }) (space B.Kept kept.now ram.old state.old))
+        b result b.board (space B.Kept kept.now ram.new state.new) }
     ensures reads { (m : Setting) → IsRuled m rules.now → cpu.now.halted ≡ false → stands_well m cpu.now ≡ true
-        → ReadAs cpu.now result (space_at (B.entries kept.now) ram.new state.new) (fetched (cpu.now.cpl == 3) cpu.now.regs.eip (space_at (B.entries kept.now) ram.old state.old)) }
+        → ReadAs cpu.now result (space B.Kept kept.now ram.new state.new) (read_next cpu.now (space B.Kept kept.now ram.old state.old)) }
     ensures begun { IfOk result (λ x. IsBegun x state.new.pages) }
     ensures roots { IfOk result (RootsBegun cpu.now) }
-    ensures control { state.new.control ≡ state.old.control }
-    ensures text { state.new.guard.text ≡ state.old.guard.text }
-    ensures hidden { hidden state.old.guard state.old.control.frames ram.new ≡ hidden state.old.guard state.old.control.frames ram.old }
+    ensures stays { FetchesIn state.old state.new ram.old ram.new }
 {
     if cpu.halted {
         return Ok(Begun::Worked(Worked {
@@ -258,34 +260,9 @@ fn work<B: Kept>(
         }));
     }
     let well = stands_well(rules, cpu);
-    if well {
-        fetch_next(rules, cpu, ram, kept, state)
-    } else {
-        Err(Stop::NotAStart)
+    if !well {
+        return Err(Stop::NotAStart);
     }
-}
-
-/// Fetches the instruction at EIP.
-fn fetch_next<B: Kept>(
-    rules: &Rules,
-    cpu: &Cpu,
-    ram: &mut Ram,
-    kept: &B,
-    state: &mut StepState,
-) -> Result<Begun, Stop>
-    requires sound { IsSound (B.entries kept.now) (B.floor kept.now) (B.stands kept.now) ram.old state.old }
-    requires pages { state.old.pages ≡ 0 }
-    ensures sound { IsSound (B.entries kept.now) (B.floor kept.now) (B.stands kept.now) ram.new state.new }
-    ensures uses { IfOk result (λ _. Uses (cpu.now.cpl == 3) (space_at (B.entries kept.now) ram.old state.old) (space_at (B.entries kept.now) ram.new state.new)) }
-    ensures fetched { IfOk result (IsFetchedBy cpu.now) }
-    ensures begins { (m : Setting) (b : Whole) → IsRuled m rules.now → BeginsAs m (fetches_next m (record b { cpu = cpu.now }) (space_at (B.entries kept.now) ram.old state.old)) b result b.board (space_at (B.entries kept.now) ram.new state.new) }
-    ensures reads { ReadAs cpu.now result (space_at (B.entries kept.now) ram.new state.new) (fetched (cpu.now.cpl == 3) cpu.now.regs.eip (space_at (B.entries kept.now) ram.old state.old)) }
-    ensures begun { IfOk result (λ x. IsBegun x state.new.pages) }
-    ensures roots { IfOk result (RootsBegun cpu.now) }
-    ensures control { state.new.control ≡ state.old.control }
-    ensures text { state.new.guard.text ≡ state.old.guard.text }
-    ensures hidden { hidden state.old.guard state.old.control.frames ram.new ≡ hidden state.old.guard state.old.control.frames ram.old }
-{
     match fetch(ram, kept, state, cpu.cpl == 3, cpu.regs.eip) {
         Ok(Decoded::Insn(insn, len)) => Ok(Begun::Fetched {
             insn,

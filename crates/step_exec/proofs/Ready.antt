@@ -27,8 +27,9 @@ read_at None write state at m e = absurd cc
 read_at (Some r) None state at m e = made_at r state.ready.start state.ready.len at m e
 read_at (Some r) (Some w) state at m e = made_at r state.earlier.start state.earlier.len at m e
 
-first_in : (r : Range) (k : ℕ) → k < r.len → is_in (Some r) (r.at + k) ≡ true
-first_in r k lt = grind (arith, nat_tests)
+-- a byte of a range lies in it
+pub in_range : (r : Range) (k : ℕ) → k < r.len → is_in (Some r) (r.at + k) ≡ true
+in_range r k lt = grind (arith, nat_tests)
 
 fits_read : (r : Range) (write : Option Range) (state : StepState) → IsReadMade (Some r) write state → r.at + r.len ≤ 2 ^ 32
 fits_read r None state m = m.fits
@@ -39,7 +40,7 @@ read_open None write state m = tt
 read_open (Some r) write state m = λ k lt. record {
   space = omega (arith, fits_read r write state m);
   in_read = λ e. read_at (Some r) write state (r.at + k) m e;
-  in_write = λ e. absurd (both_ways (is_in (Some r) (r.at + k)) e (first_in r k lt));
+  in_write = λ e. absurd (both_ways (is_in (Some r) (r.at + k)) e (in_range r k lt));
 }
 
 write_open : (read write : Option Range) (state : StepState) → IsReadMade read write state → IsLast write true state → Covers (IsOpen (record { read = read; write = write }) state) write

@@ -1,6 +1,5 @@
 -- Numbers read in the read range.
 use Rattle.std.proofs.Common.{◌≡◌, ℕ, ◌+◌, ◌/◌, ◌<◌, Bool, true, false, cond, Option, Some, None, refl, ap, ◌∙◌, subst, arith}
-use Rattle.std.proofs.lemmas.Bool.Decides.{nat_tests}
 use Rattle.ia32_types.specs.declared.size.Size.TheVariants.{Long}
 use Rattle.ia32_types.specs.declared.stop.Stop as reason
 use Rattle.ia32_exec.specs.declared.access.Range.{Range}
@@ -11,10 +10,8 @@ use Rattle.paging.specs.declared.entry.Touch.{Touch}
 use Rattle.paging.specs.declared.entry.Touch.TheVariants.{Ready, Fault, Stop}
 use Rattle.paging.specs.Space.{Space, Earlier, byte_at, place, loaded, as_earlier, earlier_of, with_ram}
 use Rattle.paging.specs.Uses.{uses, page_uses, by_entry, settled, Decision, is_barred, go_on, and_then, second_page, by_pages, by_window, window_stop, made_ready, unready}
-use Rattle.step_exec.specs.Plain.{is_in, byte_by}
-
-in_range : (r : Range) (k : ℕ) → k < r.len → is_in (Some r) (r.at + k) ≡ true
-in_range r k lt = grind (arith, nat_tests)
+use Rattle.step_exec.specs.Plain.{byte_by}
+use Rattle.step_exec.proofs.Ready.{in_range}
 
 byte_read : (r : Range) (before after : Space) (k : ℕ) → k < r.len → byte_by (Some r) before after (r.at + k) ≡ byte_at (with_ram before after.ram) (r.at + k)
 byte_read r before after k lt = ap (λ b. cond b (byte_at (with_ram before after.ram) (r.at + k)) (byte_at after (r.at + k))) (in_range r k lt)

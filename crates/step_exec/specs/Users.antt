@@ -1,6 +1,6 @@
 -- What user code does by itself at IOPL 0, in one form: the null segments of both ranges, the read range, the write
 -- range, and then an effect of the registers, the selectors and the bytes read.
-use Rattle.std.specs.Prelude.{◌≡◌, ℕ, Bool, true, false, ◌==◌, not, Option, Some, None, Ok, Err}
+use Rattle.std.specs.Prelude.{◌≡◌, ℕ, true, false, ◌==◌, not, Option, Some, None, Ok, Err}
 use Rattle.ia32_types.specs.declared.insn.Insn.{Insn}
 use Rattle.ia32_types.specs.declared.insn.Op.{Op}
 use Rattle.ia32_types.specs.declared.insn.Op.TheVariants.{PushFlags, PopFlags, ReadSeg, PushSeg, Return, JumpTo, CallTo}

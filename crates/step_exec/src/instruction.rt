@@ -6,7 +6,7 @@ ghost use Rattle.ia32_exec.specs.Effect.{effect, ranges_of};
 ghost use Rattle.ia32_exec.specs.Short.{IsShort};
 ghost use Rattle.paging.specs.Work.{Gives};
 ghost use Rattle.step_mem.specs.Shown.{hidden};
-ghost use Rattle.step_mem.specs.Sound.{IsSound, space_at};
+ghost use Rattle.step_mem.specs.Sound.{IsSoundOver, StaysIn, space_at};
 ghost use Rattle.step_exec.specs.Plain.{executed};
 ghost use Rattle.step_exec.specs.Divided.{both_reached, completed, divided, byte_of};
 ghost use Rattle.step_exec.specs.Ready.{AreMade};
@@ -33,10 +33,11 @@ pub fn plain<B: Kept>(
 ) -> Result<Cpu, Refusal>
     requires kind { IsDone insn.now.op }
     requires shape { IsShaped insn.now }
-    requires sound { IsSound (B.entries kept.now) (B.floor kept.now) (B.stands kept.now) ram.old state.old }
+    requires sound { IsSoundOver B.Kept kept.now ram.old state.old }
     requires room { state.old.pages ≤ 60 }
-    ensures sound { IsSound (B.entries kept.now) (B.floor kept.now) (B.stands kept.now) ram.new state.new }
-    ensures gives { Gives result (space_at (B.entries kept.now) ram.new state.new) (executed insn.now len cpu.now (space_at (B.entries kept.now) ram.old state.old)) }
+    ensures sound { IsSoundOver B.Kept kept.now ram.new state.new }
+    ensures gives { Gives result (space_at (B.entries kept.now) ram.new state.new)
+        (executed insn.now len cpu.now (space_at (B.entries kept.now) ram.old state.old)) }
     ensures pages { state.new.pages ≤ state.old.pages + 4 }
     ensures control { state.new.control ≡ state.old.control }
     ensures guard { state.new.guard ≡ state.old.guard }
@@ -56,14 +57,13 @@ fn in_parts<B: Kept>(
 ) -> Result<Cpu, Refusal>
     requires kind { IsDone insn.now.op }
     requires shape { IsShaped insn.now }
-    requires sound { IsSound (B.entries kept.now) (B.floor kept.now) (B.stands kept.now) ram.old state.old }
+    requires sound { IsSoundOver B.Kept kept.now ram.old state.old }
     requires room { state.old.pages ≤ 60 }
-    ensures sound { IsSound (B.entries kept.now) (B.floor kept.now) (B.stands kept.now) ram.new state.new }
-    ensures gives { Gives result (space_at (B.entries kept.now) ram.new state.new) (divided insn.now len cpu.now (space_at (B.entries kept.now) ram.old state.old)) }
+    ensures sound { IsSoundOver B.Kept kept.now ram.new state.new }
+    ensures gives { Gives result (space_at (B.entries kept.now) ram.new state.new)
+        (divided insn.now len cpu.now (space_at (B.entries kept.now) ram.old state.old)) }
     ensures pages { state.new.pages ≤ state.old.pages + 4 }
-    ensures control { state.new.control ≡ state.old.control }
-    ensures guard { state.new.guard ≡ state.old.guard }
-    ensures hidden { hidden state.old.guard state.old.control.frames ram.new ≡ hidden state.old.guard state.old.control.frames ram.old }
+    ensures stays { StaysIn state.old state.new ram.old ram.new }
 {
     let ranges = ranges(insn, &cpu.regs);
     reach_in(&ranges, cpu, ram, kept, state)?;
@@ -79,10 +79,11 @@ pub fn reach_both<B: Kept>(
     state: &mut StepState,
 ) -> Result<(), Refusal>
     requires shape { IsShaped insn.now }
-    requires sound { IsSound (B.entries kept.now) (B.floor kept.now) (B.stands kept.now) ram.old state.old }
+    requires sound { IsSoundOver B.Kept kept.now ram.old state.old }
     requires room { state.old.pages ≤ 60 }
-    ensures sound { IsSound (B.entries kept.now) (B.floor kept.now) (B.stands kept.now) ram.new state.new }
-    ensures gives { Gives result (space_at (B.entries kept.now) ram.new state.new) (both_reached cpu.now (ranges_of insn.now cpu.now.regs) (space_at (B.entries kept.now) ram.old state.old)) }
+    ensures sound { IsSoundOver B.Kept kept.now ram.new state.new }
+    ensures gives { Gives result (space_at (B.entries kept.now) ram.new state.new)
+        (both_reached cpu.now (ranges_of insn.now cpu.now.regs) (space_at (B.entries kept.now) ram.old state.old)) }
     ensures made { OnOk result (AreMade (ranges_of insn.now cpu.now.regs) state.new) }
     ensures pages { state.new.pages ≤ state.old.pages + 4 }
     ensures control { state.new.control ≡ state.old.control }
@@ -103,15 +104,14 @@ fn reach_in<B: Kept>(
     state: &mut StepState,
 ) -> Result<(), Refusal>
     requires short { IsShort ranges.now.read × IsShort ranges.now.write }
-    requires sound { IsSound (B.entries kept.now) (B.floor kept.now) (B.stands kept.now) ram.old state.old }
+    requires sound { IsSoundOver B.Kept kept.now ram.old state.old }
     requires room { state.old.pages ≤ 60 }
-    ensures sound { IsSound (B.entries kept.now) (B.floor kept.now) (B.stands kept.now) ram.new state.new }
-    ensures gives { Gives result (space_at (B.entries kept.now) ram.new state.new) (both_reached cpu.now ranges.now (space_at (B.entries kept.now) ram.old state.old)) }
+    ensures sound { IsSoundOver B.Kept kept.now ram.new state.new }
+    ensures gives { Gives result (space_at (B.entries kept.now) ram.new state.new)
+        (both_reached cpu.now ranges.now (space_at (B.entries kept.now) ram.old state.old)) }
     ensures made { OnOk result (AreMade ranges.now state.new) }
     ensures pages { state.new.pages ≤ state.old.pages + 4 }
-    ensures control { state.new.control ≡ state.old.control }
-    ensures guard { state.new.guard ≡ state.old.guard }
-    ensures hidden { hidden state.old.guard state.old.control.frames ram.new ≡ hidden state.old.guard state.old.control.frames ram.old }
+    ensures stays { StaysIn state.old state.new ram.old ram.new }
 {
     if is_refused(cpu, ranges) {
         return Err(Refusal::Raise {
@@ -134,10 +134,11 @@ pub fn complete<B: Kept>(
 ) -> Result<Cpu, Refusal>
     requires kind { IsDone insn.now.op }
     requires shape { IsShaped insn.now }
-    requires sound { IsSound (B.entries kept.now) (B.floor kept.now) (B.stands kept.now) ram.old state.now }
+    requires sound { IsSoundOver B.Kept kept.now ram.old state.now }
     requires made { AreMade (ranges_of insn.now cpu.now.regs) state.now }
-    ensures sound { IsSound (B.entries kept.now) (B.floor kept.now) (B.stands kept.now) ram.new state.now }
-    ensures gives { Gives result (space_at (B.entries kept.now) ram.new state.now) (completed insn.now len cpu.now (space_at (B.entries kept.now) ram.old state.now)) }
+    ensures sound { IsSoundOver B.Kept kept.now ram.new state.now }
+    ensures gives { Gives result (space_at (B.entries kept.now) ram.new state.now)
+        (completed insn.now len cpu.now (space_at (B.entries kept.now) ram.old state.now)) }
     ensures hidden { hidden state.now.guard state.now.control.frames ram.new ≡ hidden state.now.guard state.now.control.frames ram.old }
 {
     complete_in(&ranges(insn, &cpu.regs), insn, len, cpu, ram, kept, state)
@@ -157,10 +158,11 @@ fn complete_in<B: Kept>(
     requires ranges { ranges.now ≡ ranges_of insn.now cpu.now.regs }
     requires kind { IsDone insn.now.op }
     requires shape { IsShaped insn.now }
-    requires sound { IsSound (B.entries kept.now) (B.floor kept.now) (B.stands kept.now) ram.old state.now }
+    requires sound { IsSoundOver B.Kept kept.now ram.old state.now }
     requires made { AreMade (ranges_of insn.now cpu.now.regs) state.now }
-    ensures sound { IsSound (B.entries kept.now) (B.floor kept.now) (B.stands kept.now) ram.new state.now }
-    ensures gives { Gives result (space_at (B.entries kept.now) ram.new state.now) (completed insn.now len cpu.now (space_at (B.entries kept.now) ram.old state.now)) }
+    ensures sound { IsSoundOver B.Kept kept.now ram.new state.now }
+    ensures gives { Gives result (space_at (B.entries kept.now) ram.new state.now)
+        (completed insn.now len cpu.now (space_at (B.entries kept.now) ram.old state.now)) }
     ensures hidden { hidden state.now.guard state.now.control.frames ram.new ≡ hidden state.now.guard state.now.control.frames ram.old }
 {
     match outcome(ranges, insn, len, cpu, ram, kept, state) {
@@ -185,9 +187,10 @@ fn outcome<B: Kept>(
     requires ranges { ranges.now ≡ ranges_of insn.now cpu.now.regs }
     requires kind { IsDone insn.now.op }
     requires shape { IsShaped insn.now }
-    requires sound { IsSound (B.entries kept.now) (B.floor kept.now) (B.stands kept.now) ram.now state.now }
+    requires sound { IsSoundOver B.Kept kept.now ram.now state.now }
     requires made { AreMade (ranges_of insn.now cpu.now.regs) state.now }
-    ensures { result ≡ effect insn.now len cpu.now.regs (byte_of (ranges_of insn.now cpu.now.regs) (space_at (B.entries kept.now) ram.now state.now)) }
+    ensures { result ≡ effect insn.now len cpu.now.regs
+        (byte_of (ranges_of insn.now cpu.now.regs) (space_at (B.entries kept.now) ram.now state.now)) }
 {
     let view = View {
         ram,

@@ -1,3 +1,5 @@
+//! Laws of what instructions come to by their pure effect.
+
 ghost use Rattle.step_exec.specs.Divided.{Divides};
 ghost use Rattle.step_exec.specs.Users.{HasUserForm};
 

@@ -3,7 +3,7 @@
 ghost use Rattle.std.proofs.Props.{props};
 ghost use Rattle.std.specs.Prelude.{◌≡◌};
 ghost use Rattle.step_mem.specs.Shown.{hidden};
-ghost use Rattle.step_mem.specs.Sound.{IsSound, space_at};
+ghost use Rattle.step_mem.specs.Sound.{IsSoundOver, space_at};
 
 use guest_ram::Ram;
 use ia32_types::Size;
@@ -16,13 +16,13 @@ pub struct StepMem<'a, 'g, B: Kept> {
     ram: &'a mut Ram,
     kept: &'a B,
     state: StepState<'g>,
-    ghost sound: { IsSound (B.entries kept.now) (B.floor kept.now) (B.stands kept.now) ram.now state } by { Prim.hlevel props },
+    ghost sound: { IsSoundOver B.Kept kept.now ram.now state } by { Prim.hlevel props },
 }
 
 impl<'a, 'g, B: Kept> StepMem<'a, 'g, B> {
     /// This state is the step's so far.
     pub fn over(ram: &'a mut Ram, kept: &'a B, state: &StepState<'g>) -> StepMem<'a, 'g, B>
-        requires { IsSound (B.entries kept.now) (B.floor kept.now) (B.stands kept.now) ram.old state.now }
+        requires { IsSoundOver B.Kept kept.now ram.old state.now }
         ensures space { ⟦<StepMem<'a, 'g, B> as GuestMem>⟧.space result ≡ space_at (B.entries kept.now) ram.old state.now }
         ensures same_memory { result.ram.ghost_name ≡ ram.entry.ghost_name }
         ensures memory { result.ram.now ≡ ram.old }
@@ -39,7 +39,7 @@ impl<'a, 'g, B: Kept> StepMem<'a, 'g, B> {
     /// The state of the step so far.
     pub fn state(&self) -> StepState<'g>
         ensures state { result ≡ self.now.state }
-        ensures sound { IsSound (B.entries self.now.kept.now) (B.floor self.now.kept.now) (B.stands self.now.kept.now) self.now.ram.now result }
+        ensures sound { IsSoundOver B.Kept self.now.kept.now self.now.ram.now result }
     {
         self.state.copied()
     }
@@ -52,7 +52,13 @@ impl<'a, 'g, B: Kept> GuestMem for StepMem<'a, 'g, B> {
     /// what the step doesn't reach.
     type Frame = (u64, B, Control, Guard<'g>, Ram);
 
-    ghost frame = { λ m. (m.ram.ghost_name, m.kept.now, m.state.control, m.state.guard, hidden m.state.guard m.state.control.frames m.ram.now) };
+    ghost frame = { λ m. (
+      m.ram.ghost_name,
+      m.kept.now,
+      m.state.control,
+      m.state.guard,
+      hidden m.state.guard m.state.control.frames m.ram.now,
+    ) };
 
     fn touch(&mut self, at: u32, len: u32, access: Access) -> Touch {
         step_mem::touch(self.ram, self.kept, &mut self.state, at, len, access)

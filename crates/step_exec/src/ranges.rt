@@ -2,8 +2,7 @@
 
 ghost use Rattle.std.specs.Prelude.{◌≡◌, ◌+◌, ◌≤◌, OnOk, Option};
 ghost use Rattle.paging.specs.Work.{Gives};
-ghost use Rattle.step_mem.specs.Shown.{hidden};
-ghost use Rattle.step_mem.specs.Sound.{IsSound, space_at};
+ghost use Rattle.step_mem.specs.Sound.{IsSoundOver, StaysIn, space_at};
 ghost use Rattle.ia32_exec.specs.Short.{IsShort};
 ghost use Rattle.step_exec.specs.Plain.{reached, is_null, is_denied, is_refused};
 ghost use Rattle.step_exec.specs.Ready.{IsLast, IsReady, IsReadMade};
@@ -50,17 +49,16 @@ pub fn reach<B: Kept>(
     write: bool,
     range: Option<Range>,
 ) -> Result<(), Refusal>
-    requires sound { IsSound (B.entries kept.now) (B.floor kept.now) (B.stands kept.now) ram.old state.old }
+    requires sound { IsSoundOver B.Kept kept.now ram.old state.old }
     requires room { state.old.pages ≤ 62 }
     requires short { IsShort range }
-    ensures sound { IsSound (B.entries kept.now) (B.floor kept.now) (B.stands kept.now) ram.new state.new }
-    ensures gives { Gives result (space_at (B.entries kept.now) ram.new state.new) (reached cpu.now write range (space_at (B.entries kept.now) ram.old state.old)) }
+    ensures sound { IsSoundOver B.Kept kept.now ram.new state.new }
+    ensures gives { Gives result (space_at (B.entries kept.now) ram.new state.new)
+        (reached cpu.now write range (space_at (B.entries kept.now) ram.old state.old)) }
     ensures last { OnOk result (IsLast range write state.new) }
     ensures before { (other : Option Bytes) → IsReady other state.old → OnOk result (IsReadMade other range state.new) }
     ensures pages { state.new.pages ≤ state.old.pages + 2 }
-    ensures control { state.new.control ≡ state.old.control }
-    ensures guard { state.new.guard ≡ state.old.guard }
-    ensures hidden { hidden state.old.guard state.old.control.frames ram.new ≡ hidden state.old.guard state.old.control.frames ram.old }
+    ensures stays { StaysIn state.old state.new ram.old ram.new }
 {
     match range {
         None => Ok(()),

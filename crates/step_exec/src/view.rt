@@ -27,13 +27,13 @@ fn is_in(range: Option<Range>, at: u32) -> bool
 }
 
 impl<B: Kept> LinearBytes for View<'_, B> {
-    ghost use Rattle.step_mem.specs.Sound.{IsSound, space_at};
+    ghost use Rattle.step_mem.specs.Sound.{IsSoundOver, space_at};
     ghost use Rattle.step_exec.specs.Divided.{byte_of};
     ghost use Rattle.step_exec.specs.Ready.{IsOpen};
 
     ghost byte = { λ m at. byte_of m.ranges (space_at (B.entries m.kept.now) m.ram.now m.state.now) at };
 
-    ghost readable = { λ m at. IsSound (B.entries m.kept.now) (B.floor m.kept.now) (B.stands m.kept.now) m.ram.now m.state.now × IsOpen m.ranges m.state.now at };
+    ghost readable = { λ m at. IsSoundOver B.Kept m.kept.now m.ram.now m.state.now × IsOpen m.ranges m.state.now at };
 
     ghost read_in_space = { λ m at h. h.1.space };
 

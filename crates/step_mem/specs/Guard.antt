@@ -1,5 +1,7 @@
 -- Whose rules hold, and where the original text lies.
-use Rattle.std.specs.Prelude.{◌≡◌, ℕ, ◌+◌, ◌*◌, ◌≤◌, false, length, Option, Some, None, IfSome}
+use Rattle.std.specs.Prelude.{◌≡◌, ℕ, ◌+◌, ◌*◌, ◌/◌, ◌≤◌, ◌<◌, false, length, Option, Some, None, IfSome}
+use Rattle.std.specs.FinMap.{FinMap, get}
+use Rattle.std.specs.Ordering.{nat_cmp}
 use Rattle.paging.specs.declared.entry.Entry.{Entry}
 use Rattle.paging.specs.Space.{Mode, Bare, Wedge, Own as Spots}
 use Rattle.paging.specs.Uses.{is_text}
@@ -25,3 +27,11 @@ IsLaid text frames = IfSome text (λ t. (t.first + t.count ≤ frames) × (lengt
 -- the frame of an entry, where there is one, holds no text
 abbrev pub IsApart : Mode → Option Entry → Type 0
 IsApart mode entry = IfSome entry (λ e. is_text mode e.frame ≡ false)
+
+-- the page of an address isn't translated to text
+abbrev pub IsApartAt : Mode → FinMap nat_cmp Entry → ℕ → Type 0
+IsApartAt mode set at = IsApart mode (get set (at / 4096))
+
+-- the page of no byte of a range is
+abbrev pub AreApart : Mode → FinMap nat_cmp Entry → ℕ → ℕ → Type 0
+AreApart mode set at len = (byte : ℕ) → at ≤ byte → byte < at + len → IsApartAt mode set byte

@@ -1,14 +1,16 @@
 -- The parts of a step's memory: what holds of them, and what they stand for.
-use Rattle.std.specs.Prelude.{◌≡◌, ℕ, ◌+◌, ◌*◌, ◌/◌, ◌≤◌, ◌<◌, ◌^◌, true, false, List, [], length, take, IsSome}
-use Rattle.std.specs.FinMap.{FinMap, get}
+use Rattle.std.specs.Prelude.{◌≡◌, ℕ, ◌+◌, ◌*◌, ◌≤◌, ◌^◌, true, false, List, [], length, take}
+use Rattle.std.specs.FinMap.{FinMap}
 use Rattle.std.specs.Ordering.{nat_cmp}
 use Rattle.paging.specs.declared.entry.Entry.{Entry}
 use Rattle.paging.specs.Space.{Space}
 use Rattle.step_mem.specs.declared.guard.Guard.{Guard}
+use Rattle.step_mem.specs.declared.kept.Kept as kept
 use Rattle.step_mem.specs.declared.state.StepState.{StepState}
 use Rattle.step_mem.specs.declared.walking.Control.{Control}
-use Rattle.step_mem.specs.Changes.{changed, AreWithin, AreToldIn}
-use Rattle.step_mem.specs.Guard.{mode_of, IsLaid, IsApart}
+use Rattle.step_mem.specs.Changes.{changed, AreWithin, AreToldIn, HaveEntries}
+use Rattle.step_mem.specs.Guard.{mode_of, IsLaid, AreApart}
+use Rattle.step_mem.specs.Shown.{hidden}
 use Rattle.step_mem.specs.Space.{space_of}
 
 -- at the beginning of a step nothing is used or ready
@@ -49,9 +51,25 @@ pub record IsSound (kept : List ℕ → FinMap nat_cmp Entry) (floor : ℕ) (sta
   pub fits : state.ready.start + state.ready.len ≤ 2 ^ 32
   pub stands_now : ∥ stands ram ∥₁
   pub within : AreWithin state.control.frames (changed (kept ram) state.changes)
-  pub reached : (at : ℕ) → state.ready.start ≤ at → at < state.ready.start + state.ready.len → IsSome (get (changed (kept ram) state.changes) (at / 4096))
-  pub apart : state.ready.write ≡ true → (at : ℕ) → state.ready.start ≤ at → at < state.ready.start + state.ready.len → IsApart (mode_of state.guard) (get (changed (kept ram) state.changes) (at / 4096))
+  pub reached : HaveEntries (changed (kept ram) state.changes) state.ready.start state.ready.len
+  pub apart : state.ready.write ≡ true → AreApart (mode_of state.guard) (changed (kept ram) state.changes) state.ready.start state.ready.len
   pub earlier_counted : state.earlier.count ≤ length state.changes
   pub earlier_fits : state.earlier.start + state.earlier.len ≤ 2 ^ 32
   pub earlier_within : AreWithin state.control.frames (changed (kept ram) (take state.earlier.count state.changes))
-  pub earlier_reached : (at : ℕ) → state.earlier.start ≤ at → at < state.earlier.start + state.earlier.len → IsSome (get (changed (kept ram) (take state.earlier.count state.changes)) (at / 4096))
+  pub earlier_reached : HaveEntries (changed (kept ram) (take state.earlier.count state.changes)) state.earlier.start state.earlier.len
+
+-- the same over a keeper of translations, by what it shows
+abbrev pub IsSoundOver : {B : Type 0} → kept.Ghosts B → B → List ℕ → StepState → Type 0
+IsSoundOver g base ram state = IsSound (g.entries base) (g.floor base) (g.stands base) ram state
+
+-- An access leaves what a walk goes by and all memory that a step doesn't reach, and the rules of the step.
+abbrev pub StaysIn : StepState → StepState → List ℕ → List ℕ → Type 0
+StaysIn old new ram ram2 =
+    (new.control ≡ old.control) × (new.guard ≡ old.guard)
+    × (hidden old.guard old.control.frames ram2 ≡ hidden old.guard old.control.frames ram)
+
+-- The same of a fetch, whose bytes are the instruction's own from then on.
+abbrev pub FetchesIn : StepState → StepState → List ℕ → List ℕ → Type 0
+FetchesIn old new ram ram2 =
+    (new.control ≡ old.control) × (new.guard.text ≡ old.guard.text)
+    × (hidden old.guard old.control.frames ram2 ≡ hidden old.guard old.control.frames ram)

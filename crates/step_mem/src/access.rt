@@ -1,16 +1,17 @@
 //! Reading and writing where a range is ready.
 
-ghost use Rattle.std.specs.Prelude.{◌≡◌, ℕ, ◌+◌, ◌*◌, ◌/◌, ◌%◌, ◌≤◌, ◌<◌, ◌^◌, length, ◌++◌, IsSome, false};
+ghost use Rattle.std.specs.Prelude.{◌≡◌, ◌+◌, ◌*◌, ◌/◌, ◌%◌, ◌≤◌, ◌<◌, ◌^◌, length, ◌++◌, false};
 ghost use Rattle.guest_ram.specs.Bytes as in_ram;
 ghost use Rattle.std.specs.FinMap.{get};
 ghost use Rattle.ia32_types.specs.Bytes.{size_in_bytes};
 ghost use Rattle.paging.specs.Space.{FitsSize, IsReady, IsReadyEarlier, IsWritable, loaded, loaded_earlier, place, place_by, saved, with_byte, with_ram};
 ghost use Rattle.paging.specs.Uses.{is_text};
-ghost use Rattle.step_mem.specs.Changes.{changed, AreWithin};
-ghost use Rattle.step_mem.specs.Guard.{mode_of, IsApart, IsLaid};
+ghost use Rattle.step_mem.specs.Changes.{changed, AreWithin, HasEntry, HaveEntries};
+ghost use Rattle.step_mem.specs.Guard.{mode_of, IsLaid, IsApartAt};
+ghost use Rattle.step_mem.specs.Pages.{bytes_from};
 ghost use Rattle.step_mem.specs.Shown.{shown, hidden};
 ghost use Rattle.step_mem.specs.Space.{Rest, space_of};
-ghost use Rattle.step_mem.specs.Sound.{IsSound, space_at};
+ghost use Rattle.step_mem.specs.Sound.{IsSoundOver, space_at};
 
 use crate::changes::Change;
 use crate::guard::Guard;
@@ -30,10 +31,10 @@ pub fn bytes<'a, B: Kept>(
     at: u32,
     len: u32,
 ) -> Bytes<'a>
-    requires sound { IsSound (B.entries base.now) (B.floor base.now) (B.stands base.now) ram.now state.now }
-    requires found { IsSome (get (space_at (B.entries base.now) ram.now state.now).set (at / 4096)) }
+    requires sound { IsSoundOver B.Kept base.now ram.now state.now }
+    requires found { HasEntry (space_at (B.entries base.now) ram.now state.now).set at }
     requires one { at % 4096 + len ≤ 4096 }
-    ensures bytes { result.text.now ++ result.ram.now ≡ in_ram.part (space_at (B.entries base.now) ram.now state.now).ram (place (space_at (B.entries base.now) ram.now state.now) at) len }
+    ensures bytes { result.text.now ++ result.ram.now ≡ bytes_from (space_at (B.entries base.now) ram.now state.now) at len }
     ensures len { length result.text.now + length result.ram.now ≡ len }
 {
     part(
@@ -57,11 +58,12 @@ fn place_in<B: Kept>(
     requires frames { 4096 * frames ≤ length ram.now }
     requires stands { ∥ B.stands base.now ram.now ∥₁ }
     requires within { AreWithin frames (changed (B.entries base.now ram.now) changes.now) }
-    requires found { IsSome (get (changed (B.entries base.now ram.now) changes.now) (at / 4096)) }
+    requires found { HasEntry (changed (B.entries base.now ram.now) changes.now) at }
     ensures place { result ≡ place_by (get (changed (B.entries base.now ram.now) changes.now) (at / 4096)) at }
     ensures offset { result % 4096 ≡ at % 4096 }
     ensures within { result < 4096 * frames }
-    ensures apart { IsApart (mode_of guard.now) (get (changed (B.entries base.now ram.now) changes.now) (at / 4096)) → is_text (mode_of guard.now) (result / 4096) ≡ false }
+    ensures apart { IsApartAt (mode_of guard.now) (changed (B.entries base.now ram.now) changes.now) at
+        → is_text (mode_of guard.now) (result / 4096) ≡ false }
 {
     let _len = ram.len();
     match look(ram, base, changes, at / 4096) {
@@ -73,12 +75,13 @@ fn place_in<B: Kept>(
 /// The physical place of an address.
 #[tactic(auto, unfolding(paging::specs::Space::place))]
 pub fn place<B: Kept>(ram: &Ram, base: &B, state: &StepState, at: u32) -> u32
-    requires sound { IsSound (B.entries base.now) (B.floor base.now) (B.stands base.now) ram.now state.now }
-    requires found { IsSome (get (space_at (B.entries base.now) ram.now state.now).set (at / 4096)) }
+    requires sound { IsSoundOver B.Kept base.now ram.now state.now }
+    requires found { HasEntry (space_at (B.entries base.now) ram.now state.now).set at }
     ensures place { result ≡ place (space_at (B.entries base.now) ram.now state.now) at }
     ensures offset { result % 4096 ≡ at % 4096 }
     ensures within { result < 4096 * state.now.control.frames }
-    ensures apart { IsApart (mode_of state.now.guard) (get (space_at (B.entries base.now) ram.now state.now).set (at / 4096)) → is_text (mode_of state.now.guard) (result / 4096) ≡ false }
+    ensures apart { IsApartAt (mode_of state.now.guard) (space_at (B.entries base.now) ram.now state.now).set at
+        → is_text (mode_of state.now.guard) (result / 4096) ≡ false }
 {
     place_in(
         ram,
@@ -95,8 +98,9 @@ fn byte<B: Kept>(ram: &Ram, base: &B, guard: &Guard, frames: u32, changes: &[Cha
     requires laid { IsLaid guard.now.text.now frames }
     requires stands { ∥ B.stands base.now ram.now ∥₁ }
     requires within { AreWithin frames (changed (B.entries base.now ram.now) changes.now) }
-    requires found { IsSome (get (changed (B.entries base.now ram.now) changes.now) (at / 4096)) }
-    ensures { result ≡ in_ram.byte (shown guard.now frames ram.now) (place_by (get (changed (B.entries base.now ram.now) changes.now) (at / 4096)) at) }
+    requires found { HasEntry (changed (B.entries base.now ram.now) changes.now) at }
+    ensures { result ≡ in_ram.byte (shown guard.now frames ram.now)
+        (place_by (get (changed (B.entries base.now ram.now) changes.now) (at / 4096)) at) }
 {
     let at = place_in(ram, base, guard, frames, changes, at);
     read(ram, guard, frames, at)
@@ -118,8 +122,9 @@ fn number<B: Kept>(
     requires stands { ∥ B.stands base.now ram.now ∥₁ }
     requires within { AreWithin frames (changed (B.entries base.now ram.now) changes.now) }
     requires fits { at + size_in_bytes size ≤ 2 ^ 32 }
-    requires found { (byte : ℕ) → at ≤ byte → byte < at + size_in_bytes size → IsSome (get (changed (B.entries base.now ram.now) changes.now) (byte / 4096)) }
-    ensures value { (control : Control) (rest : Rest) → control.frames ≡ frames → result ≡ loaded (space_of (B.entries base.now) ram.now control guard.now changes.now rest) at size }
+    requires found { HaveEntries (changed (B.entries base.now ram.now) changes.now) at (size_in_bytes size) }
+    ensures value { (control : Control) (rest : Rest) → control.frames ≡ frames
+        → result ≡ loaded (space_of (B.entries base.now) ram.now control guard.now changes.now rest) at size }
     ensures fits { FitsSize size result }
 {
     match size {
@@ -140,7 +145,7 @@ fn number<B: Kept>(
 
 /// Reads where the last touch was ready.
 pub fn load<B: Kept>(ram: &Ram, base: &B, state: &StepState, at: u32, size: Size) -> u32
-    requires sound { IsSound (B.entries base.now) (B.floor base.now) (B.stands base.now) ram.now state.now }
+    requires sound { IsSoundOver B.Kept base.now ram.now state.now }
     requires ready { IsReady (space_at (B.entries base.now) ram.now state.now) at size }
     ensures value { result ≡ loaded (space_at (B.entries base.now) ram.now state.now) at size }
     ensures fits { FitsSize size result }
@@ -158,7 +163,7 @@ pub fn load<B: Kept>(ram: &Ram, base: &B, state: &StepState, at: u32, size: Size
 
 /// Reads where the touch before the last was ready, at the places that its range had then.
 pub fn load_earlier<B: Kept>(ram: &Ram, base: &B, state: &StepState, at: u32, size: Size) -> u32
-    requires sound { IsSound (B.entries base.now) (B.floor base.now) (B.stands base.now) ram.now state.now }
+    requires sound { IsSoundOver B.Kept base.now ram.now state.now }
     requires ready { IsReadyEarlier (space_at (B.entries base.now) ram.now state.now) at size }
     ensures value { result ≡ loaded_earlier (space_at (B.entries base.now) ram.now state.now) at size }
     ensures fits { FitsSize size result }
@@ -178,10 +183,10 @@ pub fn load_earlier<B: Kept>(ram: &Ram, base: &B, state: &StepState, at: u32, si
 /// Writes a byte of the guest's.
 #[tactic(auto, unfolding(paging::specs::Space::with_byte, paging::specs::Space::place))]
 fn put_byte<B: Kept>(ram: &mut Ram, base: &B, state: &StepState, at: u32, v: u8)
-    requires sound { IsSound (B.entries base.now) (B.floor base.now) (B.stands base.now) ram.old state.now }
-    requires found { IsSome (get (space_at (B.entries base.now) ram.old state.now).set (at / 4096)) }
-    requires apart { IsApart (mode_of state.now.guard) (get (space_at (B.entries base.now) ram.old state.now).set (at / 4096)) }
-    ensures sound { IsSound (B.entries base.now) (B.floor base.now) (B.stands base.now) ram.new state.now }
+    requires sound { IsSoundOver B.Kept base.now ram.old state.now }
+    requires found { HasEntry (space_at (B.entries base.now) ram.old state.now).set at }
+    requires apart { IsApartAt (mode_of state.now.guard) (space_at (B.entries base.now) ram.old state.now).set at }
+    ensures sound { IsSoundOver B.Kept base.now ram.new state.now }
     ensures hidden { hidden state.now.guard state.now.control.frames ram.new ≡ hidden state.now.guard state.now.control.frames ram.old }
     ensures after { space_at (B.entries base.now) ram.new state.now ≡ with_ram (space_at (B.entries base.now) ram.old state.now)
         (with_byte (space_at (B.entries base.now) ram.old state.now) (space_at (B.entries base.now) ram.old state.now).ram at v) }
@@ -210,11 +215,12 @@ fn store<B: Kept>(ram: &mut Ram, base: &B, guard: &Guard, frames: u32, place: u3
 /// Writes where the last touch was ready for a write.
 #[tactic(auto, unfolding(paging::specs::Space::written, paging::specs::Space::with_byte, paging::specs::Space::place))]
 pub fn save<B: Kept>(ram: &mut Ram, base: &B, state: &StepState, at: u32, size: Size, value: u32)
-    requires sound { IsSound (B.entries base.now) (B.floor base.now) (B.stands base.now) ram.old state.now }
+    requires sound { IsSoundOver B.Kept base.now ram.old state.now }
     requires ready { IsWritable (space_at (B.entries base.now) ram.old state.now) at size }
-    ensures sound { IsSound (B.entries base.now) (B.floor base.now) (B.stands base.now) ram.new state.now }
+    ensures sound { IsSoundOver B.Kept base.now ram.new state.now }
     ensures hidden { hidden state.now.guard state.now.control.frames ram.new ≡ hidden state.now.guard state.now.control.frames ram.old }
-    ensures saved { space_at (B.entries base.now) ram.new state.now ≡ saved (space_at (B.entries base.now) ram.old state.now) at size value }
+    ensures saved { space_at (B.entries base.now) ram.new state.now
+        ≡ saved (space_at (B.entries base.now) ram.old state.now) at size value }
 {
     match size {
         Size::Byte => put_byte(ram, base, state, at, (value % 256) as u8),

@@ -1,13 +1,13 @@
 //! One page of a range.
 
-ghost use Rattle.std.specs.Prelude.{◌≡◌, ◌≢◌, ℕ, ◌+◌, ◌*◌, ◌≤◌, ◌<◌, ◌^◌, length, drop, take, IfSome, IsSome, false};
+ghost use Rattle.std.specs.Prelude.{◌≡◌, ◌+◌, ◌≤◌, ◌<◌, ◌^◌, length, IfSome, IsSome, false};
 ghost use Rattle.std.specs.Option.{ForSome};
 ghost use Rattle.std.specs.FinMap.{get};
 ghost use Rattle.paging.specs.Uses.{page_uses, settled, decided, usable, is_barred};
-ghost use Rattle.step_mem.specs.Changes.{changed, AreWithin, MoreOf};
-ghost use Rattle.step_mem.specs.Guard.{mode_of, IsLaid};
-ghost use Rattle.step_mem.specs.Shown.{hidden};
-ghost use Rattle.step_mem.specs.Space.{Rest, space_of, one_more, with_tables};
+ghost use Rattle.step_mem.specs.Changes.{changed};
+ghost use Rattle.step_mem.specs.Guard.{mode_of};
+ghost use Rattle.step_mem.specs.Pages.{BeginsPage, LeavesPage, ChangesOne};
+ghost use Rattle.step_mem.specs.Space.{Rest, space_of, with_tables, after_page};
 ghost use Rattle.step_mem.specs.Tables.{tables as tables_at};
 
 use crate::changes::{Change, Changes, change_of, last_change};
@@ -18,6 +18,18 @@ use crate::walking::{Control, decide, note_tables};
 use guest_ram::Ram;
 use ia32_types::Stop;
 use paging::{Access, Entry, Touch, allows};
+
+/// One page of a range.
+#[derive(Clone, Copy)]
+pub struct PageUse {
+    /// To fetch code, and not for data.
+    pub fetch: bool,
+    /// The page's number: its linear address by 4,096.
+    pub page: u32,
+    /// The first byte of the range that lies in the page, a linear address.
+    pub at: u32,
+    pub access: Access,
+}
 
 /// The entry of a page in the set of now.
 #[tactic(auto, using(crate::proofs::Changed::get_changed))]
@@ -39,43 +51,36 @@ fn settle<B: Kept>(
     guard: &Guard,
     changes: &mut Changes,
     tables: &mut Visited,
-    fetch: bool,
-    page: u32,
-    at: u32,
-    access: Access,
+    asked: PageUse,
 ) -> Touch
-    requires frames { 4096 * control.frames ≤ length ram.old }
-    requires apart { 4096 * control.frames ≤ B.floor base.now }
-    requires laid { IsLaid guard.now.text.now control.frames }
-    requires within { AreWithin control.frames (changed (B.entries base.now ram.old) changes.old) }
-    requires stands { ∥ B.stands base.now ram.old ∥₁ }
-    requires room { length changes.old < 64 }
-    requires page { page < 2 ^ 20 }
-    requires noting { length tables.old ≤ 126 }
-    ensures settled { (rest : Rest) → settled (space_of (B.entries base.now) ram.old control guard.now changes.old (with_tables rest tables.old)) page
-        (decided (tables_at ram.old control guard.now) fetch page at access)
+    requires begins { BeginsPage B.Kept base.now control guard.now ram.old changes.old tables.old }
+    requires page { asked.page < 2 ^ 20 }
+    ensures settled { (rest : Rest)
+        → settled (space_of (B.entries base.now) ram.old control guard.now changes.old (with_tables rest tables.old)) asked.page
+        (decided (tables_at ram.old control guard.now) asked.fetch asked.page asked.at asked.access)
         ≡ (result, space_of (B.entries base.now) ram.new control guard.now changes.new (with_tables rest tables.new)) }
     ensures noted { length tables.new ≤ length tables.old + 2 }
-    ensures stands { ∥ B.stands base.now ram.new ∥₁ }
-    ensures kept { B.entries base.now ram.new ≡ B.entries base.now ram.old }
-    ensures length { length ram.new ≡ length ram.old }
-    ensures hidden { hidden guard.now control.frames ram.new ≡ hidden guard.now control.frames ram.old }
-    ensures within { AreWithin control.frames (changed (B.entries base.now ram.new) changes.new) }
+    ensures leaves { LeavesPage B.Kept base.now control guard.now ram.old ram.new changes.new }
     ensures counted { length changes.new ≡ length changes.old + 1 }
-    ensures more { MoreOf page changes.old changes.new }
-    ensures front { (count : ℕ) → count ≤ length changes.old → take count changes.new ≡ take count changes.old }
-    ensures found { result ≡ Touch.Ready → IsSome (get (changed (B.entries base.now ram.new) changes.new) page) }
-    ensures clear { result ≡ Touch.Ready → ForSome (get (changed (B.entries base.now ram.new) changes.new) page) (λ entry. is_barred (mode_of guard.now) fetch access.user page entry.frame ≡ false) }
-    ensures others { (other : ℕ) → other ≢ page → get (changed (B.entries base.now ram.new) changes.new) other
-        ≡ get (changed (B.entries base.now ram.old) changes.old) other }
+    ensures changes { ChangesOne asked.page changes.old changes.new (changed (B.entries base.now ram.old) changes.old)
+        (changed (B.entries base.now ram.new) changes.new) }
+    ensures found { result ≡ Touch.Ready → IsSome (get (changed (B.entries base.now ram.new) changes.new) asked.page) }
+    ensures clear { result ≡ Touch.Ready → ForSome (get (changed (B.entries base.now ram.new) changes.new) asked.page)
+        (λ entry. is_barred (mode_of guard.now) asked.fetch asked.access.user asked.page entry.frame ≡ false) }
 {
+    let PageUse {
+        fetch,
+        page,
+        at,
+        access,
+    } = asked;
     note_tables(ram, control, guard, page, tables);
     let (met, entry) = decide(ram, control, guard, fetch, page, at, access);
     changes.push(change_of(page, entry));
     met
 }
 
-/// Translates one page of a range, which begins in it at this address.
+/// Translates one page of a range.
 #[tactic(auto, unfolding(paging::specs::Uses::page_uses))]
 pub fn page_use<B: Kept>(
     ram: &mut Ram,
@@ -84,39 +89,34 @@ pub fn page_use<B: Kept>(
     guard: &Guard,
     changes: &mut Changes,
     tables: &mut Visited,
-    fetch: bool,
-    page: u32,
-    at: u32,
-    access: Access,
+    asked: PageUse,
 ) -> Touch
-    requires frames { 4096 * control.frames ≤ length ram.old }
-    requires apart { 4096 * control.frames ≤ B.floor base.now }
-    requires laid { IsLaid guard.now.text.now control.frames }
-    requires within { AreWithin control.frames (changed (B.entries base.now ram.old) changes.old) }
-    requires stands { ∥ B.stands base.now ram.old ∥₁ }
-    requires room { length changes.old < 64 }
-    requires page { page < 2 ^ 20 }
-    requires noting { length tables.old ≤ 126 }
-    ensures uses { (rest : Rest) → page_uses (space_of (B.entries base.now) ram.old control guard.now changes.old (with_tables rest tables.old)) fetch page at access
-        ≡ (result, space_of (B.entries base.now) ram.new control guard.now changes.new (with_tables (one_more rest page) tables.new)) }
+    requires begins { BeginsPage B.Kept base.now control guard.now ram.old changes.old tables.old }
+    requires page { asked.page < 2 ^ 20 }
+    ensures uses { (rest : Rest)
+        → page_uses (space_of (B.entries base.now) ram.old control guard.now changes.old (with_tables rest tables.old))
+        asked.fetch asked.page asked.at asked.access
+        ≡ (result, space_of (B.entries base.now) ram.new control guard.now changes.new (after_page rest asked.page tables.new)) }
     ensures noted { length tables.new ≤ length tables.old + 2 }
-    ensures stands { ∥ B.stands base.now ram.new ∥₁ }
-    ensures kept { B.entries base.now ram.new ≡ B.entries base.now ram.old }
-    ensures length { length ram.new ≡ length ram.old }
-    ensures hidden { hidden guard.now control.frames ram.new ≡ hidden guard.now control.frames ram.old }
-    ensures within { AreWithin control.frames (changed (B.entries base.now ram.new) changes.new) }
+    ensures leaves { LeavesPage B.Kept base.now control guard.now ram.old ram.new changes.new }
     ensures counted { length changes.new ≤ length changes.old + 1 }
-    ensures more { MoreOf page changes.old changes.new }
+    ensures changes { ChangesOne asked.page changes.old changes.new (changed (B.entries base.now ram.old) changes.old)
+        (changed (B.entries base.now ram.new) changes.new) }
     // An entry that lets the access pass stays as it is.
-    ensures passed { IsSome (usable (get (changed (B.entries base.now ram.old) changes.old) page) access control.wp) → changes.new ≡ changes.old }
+    ensures passed { IsSome (usable (get (changed (B.entries base.now ram.old) changes.old) asked.page) asked.access control.wp)
+        → changes.new ≡ changes.old }
     ensures grown { length changes.old ≤ length changes.new }
-    ensures front { (count : ℕ) → count ≤ length changes.old → take count changes.new ≡ take count changes.old }
-    ensures found { result ≡ Touch.Ready → IsSome (get (changed (B.entries base.now ram.new) changes.new) page) }
-    ensures clear { result ≡ Touch.Ready → ForSome (get (changed (B.entries base.now ram.new) changes.new) page) (λ entry. is_barred (mode_of guard.now) fetch access.user page entry.frame ≡ false) }
-    ensures others { (other : ℕ) → other ≢ page → get (changed (B.entries base.now ram.new) changes.new) other
-        ≡ get (changed (B.entries base.now ram.old) changes.old) other }
+    ensures found { result ≡ Touch.Ready → IsSome (get (changed (B.entries base.now ram.new) changes.new) asked.page) }
+    ensures clear { result ≡ Touch.Ready → ForSome (get (changed (B.entries base.now ram.new) changes.new) asked.page)
+        (λ entry. is_barred (mode_of guard.now) asked.fetch asked.access.user asked.page entry.frame ≡ false) }
 {
     let _len = ram.len();
+    let PageUse {
+        fetch,
+        page,
+        access,
+        ..
+    } = asked;
     match usable(
         look(ram, base, changes.as_slice(), page),
         access,
@@ -126,9 +126,7 @@ pub fn page_use<B: Kept>(
             Touch::Stop(Stop::TextMapped)
         }
         Some(_) => Touch::Ready,
-        None => settle(
-            ram, base, control, guard, changes, tables, fetch, page, at, access,
-        ),
+        None => settle(ram, base, control, guard, changes, tables, asked),
     }
 }
 

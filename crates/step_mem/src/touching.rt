@@ -4,15 +4,16 @@ ghost use Rattle.std.specs.Prelude.{◌≡◌, ◌≢◌, ℕ, ◌+◌, ◌*◌,
 ghost use Rattle.std.specs.FinMap.{get};
 ghost use Rattle.paging.specs.Space.{Readied, IsReach, earlier_of, frame_by, frames_of};
 ghost use Rattle.paging.specs.Uses.{unready, page_uses, second_page, made_ready, by_pages, uses, fetches};
-ghost use Rattle.step_mem.specs.Changes.{changed};
-ghost use Rattle.step_mem.specs.Guard.{mode_of, IsApart};
+ghost use Rattle.step_mem.specs.Changes.{changed, HasEntry, HaveEntries};
+ghost use Rattle.step_mem.specs.Guard.{mode_of, IsApart, IsApartAt, AreApart};
+ghost use Rattle.step_mem.specs.Pages.{IsShortRange, KeepsReady};
 ghost use Rattle.step_mem.specs.Shown.{hidden};
-ghost use Rattle.step_mem.specs.Sound.{IsSound, space_at};
+ghost use Rattle.step_mem.specs.Sound.{IsSoundOver, StaysIn, space_at};
 
 use crate::changes::Changes;
 use crate::guard::window_stop;
 use crate::kept::Kept;
-use crate::page::{look, page_use};
+use crate::page::{PageUse, look, page_use};
 use crate::state::{Earlier, Reach, StepState};
 use guest_ram::Ram;
 use ia32_types::Stop;
@@ -20,8 +21,8 @@ use paging::{Access, Touch};
 
 /// A touch begins: nothing is ready, and what was ready is so no more than before it.
 fn begin<B: Kept>(ram: &Ram, base: &B, state: &mut StepState)
-    requires { IsSound (B.entries base.now) (B.floor base.now) (B.stands base.now) ram.now state.old }
-    ensures sound { IsSound (B.entries base.now) (B.floor base.now) (B.stands base.now) ram.now state.new }
+    requires { IsSoundOver B.Kept base.now ram.now state.old }
+    ensures sound { IsSoundOver B.Kept base.now ram.now state.new }
     ensures space { space_at (B.entries base.now) ram.now state.new ≡ unready (space_at (B.entries base.now) ram.now state.old) }
     ensures pages { state.new.pages ≡ state.old.pages }
     ensures control { state.new.control ≡ state.old.control }
@@ -51,21 +52,20 @@ fn one_page<B: Kept>(
     at: u32,
     access: Access,
 ) -> Touch
-    requires sound { IsSound (B.entries base.now) (B.floor base.now) (B.stands base.now) ram.old state.old }
+    requires sound { IsSoundOver B.Kept base.now ram.old state.old }
     requires room { state.old.pages < 64 }
     requires page { page < 2 ^ 20 }
     requires unready { state.old.ready.len ≡ 0 }
-    ensures sound { IsSound (B.entries base.now) (B.floor base.now) (B.stands base.now) ram.new state.new }
-    ensures uses { page_uses (space_at (B.entries base.now) ram.old state.old) fetch page at access ≡ (result, space_at (B.entries base.now) ram.new state.new) }
+    ensures sound { IsSoundOver B.Kept base.now ram.new state.new }
+    ensures uses { page_uses (space_at (B.entries base.now) ram.old state.old) fetch page at access
+        ≡ (result, space_at (B.entries base.now) ram.new state.new) }
     ensures pages { state.new.pages ≡ state.old.pages + 1 }
-    ensures control { state.new.control ≡ state.old.control }
-    ensures hidden { hidden state.old.guard state.old.control.frames ram.new ≡ hidden state.old.guard state.old.control.frames ram.old }
-    ensures guard { state.new.guard ≡ state.old.guard }
-    ensures ready { state.new.ready ≡ state.old.ready }
-    ensures wrote { state.new.wrote ≡ state.old.wrote }
-    ensures earlier { (space_at (B.entries base.now) ram.new state.new).earlier ≡ (space_at (B.entries base.now) ram.old state.old).earlier }
+    ensures stays { StaysIn state.old state.new ram.old ram.new }
+    ensures keeps { KeepsReady state.old state.new (space_at (B.entries base.now) ram.old state.old)
+        (space_at (B.entries base.now) ram.new state.new) }
     ensures found { result ≡ Touch.Ready → IsSome (get (space_at (B.entries base.now) ram.new state.new).set page) }
-    ensures apart { result ≡ Touch.Ready → fetch ≡ false → IsApart (mode_of state.new.guard) (get (space_at (B.entries base.now) ram.new state.new).set page) }
+    ensures apart { result ≡ Touch.Ready → fetch ≡ false
+        → IsApart (mode_of state.new.guard) (get (space_at (B.entries base.now) ram.new state.new).set page) }
     ensures others { (other : ℕ) → other ≢ page → get (space_at (B.entries base.now) ram.new state.new).set other
         ≡ get (space_at (B.entries base.now) ram.old state.old).set other }
 {
@@ -78,10 +78,12 @@ fn one_page<B: Kept>(
         &state.guard,
         &mut state.changes,
         &mut state.tables,
-        fetch,
-        page,
-        at,
-        access,
+        PageUse {
+            fetch,
+            page,
+            at,
+            access,
+        },
     )
 }
 
@@ -94,25 +96,22 @@ fn second_page<B: Kept>(
     len: u32,
     access: Access,
 ) -> Touch
-    requires sound { IsSound (B.entries base.now) (B.floor base.now) (B.stands base.now) ram.old state.old }
+    requires sound { IsSoundOver B.Kept base.now ram.old state.old }
     requires room { state.old.pages < 64 }
-    requires some { 1 ≤ len }
-    requires short { len ≤ 32 }
-    requires fits { at + len ≤ 2 ^ 32 }
+    requires range { IsShortRange at len }
     requires unready { state.old.ready.len ≡ 0 }
-    ensures sound { IsSound (B.entries base.now) (B.floor base.now) (B.stands base.now) ram.new state.new }
-    ensures wrote { state.new.wrote ≡ state.old.wrote }
+    ensures sound { IsSoundOver B.Kept base.now ram.new state.new }
     ensures more { state.old.pages ≤ state.new.pages }
-    ensures uses { second_page at len access (space_at (B.entries base.now) ram.old state.old) ≡ (result, space_at (B.entries base.now) ram.new state.new) }
+    ensures uses { second_page at len access (space_at (B.entries base.now) ram.old state.old)
+        ≡ (result, space_at (B.entries base.now) ram.new state.new) }
     ensures pages { state.new.pages ≤ state.old.pages + 1 }
-    ensures control { state.new.control ≡ state.old.control }
-    ensures hidden { hidden state.old.guard state.old.control.frames ram.new ≡ hidden state.old.guard state.old.control.frames ram.old }
-    ensures guard { state.new.guard ≡ state.old.guard }
-    ensures earlier { (space_at (B.entries base.now) ram.new state.new).earlier ≡ (space_at (B.entries base.now) ram.old state.old).earlier }
-    ensures found { result ≡ Touch.Ready → IsSome (get (space_at (B.entries base.now) ram.old state.old).set (at / 4096))
-        → (byte : ℕ) → at ≤ byte → byte < at + len → IsSome (get (space_at (B.entries base.now) ram.new state.new).set (byte / 4096)) }
-    ensures apart { result ≡ Touch.Ready → IsApart (mode_of state.new.guard) (get (space_at (B.entries base.now) ram.old state.old).set (at / 4096))
-        → (byte : ℕ) → at ≤ byte → byte < at + len → IsApart (mode_of state.new.guard) (get (space_at (B.entries base.now) ram.new state.new).set (byte / 4096)) }
+    ensures stays { StaysIn state.old state.new ram.old ram.new }
+    ensures keeps { KeepsReady state.old state.new (space_at (B.entries base.now) ram.old state.old)
+        (space_at (B.entries base.now) ram.new state.new) }
+    ensures found { result ≡ Touch.Ready → HasEntry (space_at (B.entries base.now) ram.old state.old).set at
+        → HaveEntries (space_at (B.entries base.now) ram.new state.new).set at len }
+    ensures apart { result ≡ Touch.Ready → IsApartAt (mode_of state.new.guard) (space_at (B.entries base.now) ram.old state.old).set at
+        → AreApart (mode_of state.new.guard) (space_at (B.entries base.now) ram.new state.new).set at len }
 {
     let last = (at + (len - 1)) / 4096;
     if last == at / 4096 {
@@ -130,20 +129,18 @@ fn touch_pages<B: Kept>(
     len: u32,
     access: Access,
 ) -> Touch
-    requires sound { IsSound (B.entries base.now) (B.floor base.now) (B.stands base.now) ram.old state.old }
+    requires sound { IsSoundOver B.Kept base.now ram.old state.old }
     requires room { state.old.pages ≤ 62 }
-    requires some { 1 ≤ len }
-    requires short { len ≤ 32 }
-    requires fits { at + len ≤ 2 ^ 32 }
+    requires range { IsShortRange at len }
     requires unready { state.old.ready.len ≡ 0 }
-    ensures sound { IsSound (B.entries base.now) (B.floor base.now) (B.stands base.now) ram.new state.new }
-    ensures uses { by_pages at len access (space_at (B.entries base.now) ram.old state.old) ≡ (result, space_at (B.entries base.now) ram.new state.new) }
+    ensures sound { IsSoundOver B.Kept base.now ram.new state.new }
+    ensures uses { by_pages at len access (space_at (B.entries base.now) ram.old state.old)
+        ≡ (result, space_at (B.entries base.now) ram.new state.new) }
     ensures pages { state.new.pages ≤ state.old.pages + 2 }
-    ensures control { state.new.control ≡ state.old.control }
-    ensures hidden { hidden state.old.guard state.old.control.frames ram.new ≡ hidden state.old.guard state.old.control.frames ram.old }
-    ensures guard { state.new.guard ≡ state.old.guard }
+    ensures stays { StaysIn state.old state.new ram.old ram.new }
     ensures ready { Readied (space_at (B.entries base.now) ram.new state.new) at len access.write result }
-    ensures earlier { (space_at (B.entries base.now) ram.new state.new).earlier ≡ (space_at (B.entries base.now) ram.old state.old).earlier }
+    ensures earlier { (space_at (B.entries base.now) ram.new state.new).earlier
+        ≡ (space_at (B.entries base.now) ram.old state.old).earlier }
 {
     match one_page(ram, base, state, false, at / 4096, at, access) {
         Touch::Ready => {}
@@ -167,18 +164,20 @@ pub fn touch<B: Kept>(
     len: u32,
     access: Access,
 ) -> Touch
-    requires sound { IsSound (B.entries base.now) (B.floor base.now) (B.stands base.now) ram.old state.old }
+    requires sound { IsSoundOver B.Kept base.now ram.old state.old }
     requires room { state.old.pages ≤ 62 }
     requires some { 1 ≤ len }
     requires short { len ≤ 32 }
-    ensures sound { IsSound (B.entries base.now) (B.floor base.now) (B.stands base.now) ram.new state.new }
-    ensures uses { uses (space_at (B.entries base.now) ram.old state.old) at len access ≡ (result, space_at (B.entries base.now) ram.new state.new) }
+    ensures sound { IsSoundOver B.Kept base.now ram.new state.new }
+    ensures uses { uses (space_at (B.entries base.now) ram.old state.old) at len access
+        ≡ (result, space_at (B.entries base.now) ram.new state.new) }
     ensures pages { state.new.pages ≤ state.old.pages + 2 }
     ensures control { state.new.control ≡ state.old.control }
     ensures hidden { hidden state.old.guard state.old.control.frames ram.new ≡ hidden state.old.guard state.old.control.frames ram.old }
     ensures guard { state.new.guard ≡ state.old.guard }
     ensures ready { Readied (space_at (B.entries base.now) ram.new state.new) at len access.write result }
-    ensures earlier { (space_at (B.entries base.now) ram.new state.new).earlier ≡ earlier_of (space_at (B.entries base.now) ram.old state.old) }
+    ensures earlier { (space_at (B.entries base.now) ram.new state.new).earlier
+        ≡ earlier_of (space_at (B.entries base.now) ram.old state.old) }
 {
     begin(ram, base, state);
     if len - 1 > u32::MAX - at {
@@ -192,20 +191,20 @@ pub fn touch<B: Kept>(
 
 /// A range whose pages were translated is ready, and what it is to write is noted.
 fn make_ready<B: Kept>(ram: &Ram, base: &B, state: &mut StepState, at: u32, len: u32, write: bool)
-    requires sound { IsSound (B.entries base.now) (B.floor base.now) (B.stands base.now) ram.now state.old }
+    requires sound { IsSoundOver B.Kept base.now ram.now state.old }
     requires room { length state.old.wrote + 2 ≤ 2 * state.old.pages }
-    requires some { 1 ≤ len }
-    requires short { len ≤ 32 }
-    requires fits { at + len ≤ 2 ^ 32 }
-    requires found { (byte : ℕ) → at ≤ byte → byte < at + len → IsSome (get (space_at (B.entries base.now) ram.now state.old).set (byte / 4096)) }
-    requires apart { (byte : ℕ) → at ≤ byte → byte < at + len → IsApart (mode_of state.old.guard) (get (space_at (B.entries base.now) ram.now state.old).set (byte / 4096)) }
-    ensures sound { IsSound (B.entries base.now) (B.floor base.now) (B.stands base.now) ram.now state.new }
-    ensures made { made_ready at len write (space_at (B.entries base.now) ram.now state.old) ≡ (Touch.Ready, space_at (B.entries base.now) ram.now state.new) }
+    requires range { IsShortRange at len }
+    requires found { HaveEntries (space_at (B.entries base.now) ram.now state.old).set at len }
+    requires apart { AreApart (mode_of state.old.guard) (space_at (B.entries base.now) ram.now state.old).set at len }
+    ensures sound { IsSoundOver B.Kept base.now ram.now state.new }
+    ensures made { made_ready at len write (space_at (B.entries base.now) ram.now state.old)
+        ≡ (Touch.Ready, space_at (B.entries base.now) ram.now state.new) }
     ensures pages { state.new.pages ≡ state.old.pages }
     ensures control { state.new.control ≡ state.old.control }
     ensures guard { state.new.guard ≡ state.old.guard }
     ensures ready { IsReach (space_at (B.entries base.now) ram.now state.new) at len write }
-    ensures earlier { (space_at (B.entries base.now) ram.now state.new).earlier ≡ (space_at (B.entries base.now) ram.now state.old).earlier }
+    ensures earlier { (space_at (B.entries base.now) ram.now state.new).earlier
+        ≡ (space_at (B.entries base.now) ram.now state.old).earlier }
 {
     if write {
         note_written(ram, base, state, at, len);
@@ -219,13 +218,12 @@ fn make_ready<B: Kept>(ram: &Ram, base: &B, state: &mut StepState, at: u32, len:
 
 /// Notes the frames of a range that is ready for a write.
 fn note_written<B: Kept>(ram: &Ram, base: &B, state: &mut StepState, at: u32, len: u32)
-    requires sound { IsSound (B.entries base.now) (B.floor base.now) (B.stands base.now) ram.now state.old }
+    requires sound { IsSoundOver B.Kept base.now ram.now state.old }
     requires room { length state.old.wrote ≤ 126 }
-    requires some { 1 ≤ len }
-    requires short { len ≤ 32 }
-    requires fits { at + len ≤ 2 ^ 32 }
-    requires found { (byte : ℕ) → at ≤ byte → byte < at + len → IsSome (get (space_at (B.entries base.now) ram.now state.old).set (byte / 4096)) }
-    ensures noted { state.new ≡ record state.old { wrote = state.old.wrote ++ frames_of (space_at (B.entries base.now) ram.now state.old) at len } }
+    requires range { IsShortRange at len }
+    requires found { HaveEntries (space_at (B.entries base.now) ram.now state.old).set at len }
+    ensures noted { state.new
+        ≡ record state.old { wrote = state.old.wrote ++ frames_of (space_at (B.entries base.now) ram.now state.old) at len } }
     ensures few { length state.new.wrote ≤ length state.old.wrote + 2 }
 {
     let last = (at + (len - 1)) / 4096;
@@ -257,20 +255,18 @@ fn fetch_page<B: Kept>(
     len: u32,
     access: Access,
 ) -> Touch
-    requires sound { IsSound (B.entries base.now) (B.floor base.now) (B.stands base.now) ram.old state.old }
+    requires sound { IsSoundOver B.Kept base.now ram.old state.old }
     requires room { state.old.pages < 64 }
     requires one { at % 4096 + len ≤ 4096 }
     requires unready { state.old.ready.len ≡ 0 }
-    ensures sound { IsSound (B.entries base.now) (B.floor base.now) (B.stands base.now) ram.new state.new }
-    ensures uses { page_uses (space_at (B.entries base.now) ram.old state.old) true (at / 4096) at access ≡ (result, space_at (B.entries base.now) ram.new state.new) }
+    ensures sound { IsSoundOver B.Kept base.now ram.new state.new }
+    ensures uses { page_uses (space_at (B.entries base.now) ram.old state.old) true (at / 4096) at access
+        ≡ (result, space_at (B.entries base.now) ram.new state.new) }
     ensures pages { state.new.pages ≡ state.old.pages + 1 }
-    ensures control { state.new.control ≡ state.old.control }
-    ensures hidden { hidden state.old.guard state.old.control.frames ram.new ≡ hidden state.old.guard state.old.control.frames ram.old }
-    ensures guard { state.new.guard ≡ state.old.guard }
-    ensures ready { state.new.ready ≡ state.old.ready }
-    ensures earlier { (space_at (B.entries base.now) ram.new state.new).earlier ≡ (space_at (B.entries base.now) ram.old state.old).earlier }
-    ensures found { result ≡ Touch.Ready → (byte : ℕ) → at ≤ byte → byte < at + len
-        → IsSome (get (space_at (B.entries base.now) ram.new state.new).set (byte / 4096)) }
+    ensures stays { StaysIn state.old state.new ram.old ram.new }
+    ensures keeps { KeepsReady state.old state.new (space_at (B.entries base.now) ram.old state.old)
+        (space_at (B.entries base.now) ram.new state.new) }
+    ensures found { result ≡ Touch.Ready → HaveEntries (space_at (B.entries base.now) ram.new state.new).set at len }
 {
     one_page(ram, base, state, true, at / 4096, at, access)
 }
@@ -285,11 +281,12 @@ pub fn fetch<B: Kept>(
     len: u32,
     user: bool,
 ) -> Touch
-    requires sound { IsSound (B.entries base.now) (B.floor base.now) (B.stands base.now) ram.old state.old }
+    requires sound { IsSoundOver B.Kept base.now ram.old state.old }
     requires room { state.old.pages ≤ 63 }
     requires one { at % 4096 + len ≤ 4096 }
-    ensures sound { IsSound (B.entries base.now) (B.floor base.now) (B.stands base.now) ram.new state.new }
-    ensures fetches { fetches (space_at (B.entries base.now) ram.old state.old) at len user ≡ (result, space_at (B.entries base.now) ram.new state.new) }
+    ensures sound { IsSoundOver B.Kept base.now ram.new state.new }
+    ensures fetches { fetches (space_at (B.entries base.now) ram.old state.old) at len user
+        ≡ (result, space_at (B.entries base.now) ram.new state.new) }
     ensures pages { state.new.pages ≤ state.old.pages + 1 }
     ensures control { state.new.control ≡ state.old.control }
     ensures hidden { hidden state.old.guard state.old.control.frames ram.new ≡ hidden state.old.guard state.old.control.frames ram.old }

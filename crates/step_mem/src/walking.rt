@@ -98,7 +98,8 @@ pub fn note_tables(ram: &Ram, control: Control, guard: &Guard, page: u32, tables
     requires laid { IsLaid guard.now.text.now control.frames }
     requires page { page < 2 ^ 20 }
     requires room { length tables.old ≤ 126 }
-    ensures noted { tables.new ≡ tables.old ++ tables_read (shown guard.now control.frames ram.now) control.frames control.cr3 control.pse page }
+    ensures noted { tables.new
+        ≡ tables.old ++ tables_read (shown guard.now control.frames ram.now) control.frames control.cr3 control.pse page }
     ensures few { length tables.new ≤ length tables.old + 2 }
 {
     let dir_frame = control.cr3 / 4096;
@@ -141,7 +142,8 @@ pub fn decide(
     requires frames { 4096 * control.frames ≤ length ram.old }
     requires laid { IsLaid guard.now.text.now control.frames }
     requires page { page < 2 ^ 20 }
-    ensures decided { decided (tables ram.old control guard.now) fetch page at access ≡ record { met = result.0; entry = result.1; ram = shown guard.now control.frames ram.new } }
+    ensures decided { decided (tables ram.old control guard.now) fetch page at access
+        ≡ record { met = result.0; entry = result.1; ram = shown guard.now control.frames ram.new } }
     ensures length { length ram.new ≡ length ram.old }
     ensures above { drop (4096 * control.frames) ram.new ≡ drop (4096 * control.frames) ram.old }
     ensures hidden { hidden guard.now control.frames ram.new ≡ hidden guard.now control.frames ram.old }

@@ -1,4 +1,4 @@
-use Rattle.std.proofs.Common.{◌≡◌, ℕ, ◌+◌, ◌-◌, Bool, List, Option, Result, Ok, Err, refl, ◌∙◌, subst, sym, ap, arith}
+use Rattle.std.proofs.Common.{◌≡◌, ℕ, ◌+◌, Bool, List, Option, Result, Ok, Err, refl, ◌∙◌, subst, ap, arith}
 use Rattle.board.specs.Scripts.{Events}
 use Rattle.image_check.specs.Image.{Image}
 use Rattle.pv_io.specs.declared.answer.Failed.{Failed}
@@ -43,8 +43,8 @@ loop-machine-preserved g c = record {
       let near = nears_cleared s c.args.n first (state_of e m) x (g.O.Sink.taken c.args.out.now) (g.O.Sink.taken c.loop-machine.out) (c.loop-machine.invariant.near image) in
       let h = sliced image c.args.script.now.list m.frames c.args.machine.now.frames (g.C.Cache.is_exact c.drop_all.new.kept.cache) (m.step + 1) (with_set (state_of e m) x) (state_of e c.slice.new.self) (g.O.Sink.taken c.loop-machine.out) (g.O.Sink.taken c.slice.new.out) (Ok c.in-Ok.pause) (Ok Reached) c.loop-machine.invariant.frames (ap (λ (p : Pause). Ok p) c.in-Reached.is) (c.in-Ok.ensures.slice image) in
       nears_on s (g.C.Cache.is_exact c.drop_all.new.kept.cache) c.args.n first (with_set (state_of e m) x) (state_of e c.slice.new.self) (g.O.Sink.taken c.args.out.now) (g.O.Sink.taken c.loop-machine.out) (g.O.Sink.taken c.slice.new.out) c.drop_all.ensures.gone c.loop-machine-test.true near h;
-  kept = rw c.in-Reached.is at c.in-Ok.ensures.kept;
-  frames = rw c.in-Reached.is at c.in-Ok.ensures.frames ∙ c.loop-machine.invariant.frames;
+  kept = (let on = rw c.in-Reached.is at c.in-Ok.ensures.goes_on in on.kept);
+  frames = (let on = rw c.in-Reached.is at c.in-Ok.ensures.goes_on in on.frames ∙ c.loop-machine.invariant.frames);
   later = omega (arith, c.loop-machine.invariant.later, c.in-Ok.ensures.later);
   bound = omega (arith, c.loop-machine-test.true, rw c.in-Reached.is at c.in-Ok.ensures.reached);
 }

@@ -1,6 +1,5 @@
-use Rattle.std.proofs.Common.{◌≡◌, ℕ, ◌-◌, subst, sym, ap, ◌∙◌, arith}
+use Rattle.std.proofs.Common.{ℕ, subst}
 use Rattle.xlate_buffer.specs.declared.Buffer.{Buffer}
-use Rattle.machine_model.specs.State.{State}
 use Rattle.bare_machine.specs.FreshRuns.{CourseAs, fresh_course}
 use Rattle.bare_machine.specs.Machine.{bare, state_of}
 use Rattle.bare_machine.proofs.Freshly.{fresh_answered, fresh_run_answered, fresh_unbegun}

@@ -1,4 +1,4 @@
-use Rattle.std.proofs.Common.{◌≡◌, sym, subst, refl}
+use Rattle.std.proofs.Common.{◌≡◌, ◌∙◌, sym, subst, refl}
 use Rattle.board.specs.declared.devices.Board.{Board}
 use Rattle.step_mem.specs.Sound.{space_at}
 use Rattle.machine_model.specs.Step as steps
@@ -24,17 +24,16 @@ returns-in-Ok-clause-step g c = λ image.
     let w = c.in-Ok.worked in
     let x = space_at (λ _. g.C.Cache.entries m.kept.cache) c.tried-result.new.ram c.tried-result.new.state in
     let is = subst (λ (d : Board). stepped s (record b { board = d }) ≡ went_as b w c.tried-result.new.board x) c.begin.ensures (c.in-Ok.ensures.comes image c.args.script.now.list b) in
-    subst (λ (r : steps.Result). Goes r m.step (whats w.seen) (g.C.Cache.is_exact m.kept.cache) (state_of g.C.Cache.entries c.go.new.machine)) (sym is)
-    (c.go.ensures.goes (whats w.seen) (completed_by w.completed) (record x { set = dropping w.dropped x.set }) c.tried-result.ensures.memory refl)
+    subst (λ (r : steps.Result). Goes r m.step (whats w.seen) (g.C.Cache.is_exact m.kept.cache) (state_of g.C.Cache.entries c.finish_step.new.machine)) (sym is)
+    (c.finish_step.ensures.goes (whats w.seen) (completed_by w.completed) (record x { set = dropping w.dropped x.set }) c.tried-result.ensures.memory refl)
 
-pub returns-in-Ok-clause-kept : goal.returns-in-Ok-clause-kept
-returns-in-Ok-clause-kept g c = c.go.ensures.kept
-
-pub returns-in-Ok-clause-same : goal.returns-in-Ok-clause-same
-returns-in-Ok-clause-same g c = c.go.ensures.same
+pub returns-in-Ok-clause-goes_on : goal.returns-in-Ok-clause-goes_on
+returns-in-Ok-clause-goes_on g c =
+    let on = c.finish_step.ensures.goes_on in
+    record { kept = on.kept; frames = on.frames; size = on.size ∙ c.tried-result.ensures.size; exact = on.exact }
 
 pub returns-in-Ok-clause-frames : goal.returns-in-Ok-clause-frames
-returns-in-Ok-clause-frames g c = c.go.ensures.frames
+returns-in-Ok-clause-frames g c = c.finish_step.ensures.goes_on.frames
 
 pub returns-in-Ok-clause-count : goal.returns-in-Ok-clause-count
-returns-in-Ok-clause-count g c = c.go.ensures.count
+returns-in-Ok-clause-count g c = c.finish_step.ensures.count

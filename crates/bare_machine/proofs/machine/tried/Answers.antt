@@ -1,10 +1,10 @@
-use Rattle.std.proofs.Common.{◌≡◌, ◌*◌, ◌-◌, ◌≤◌, length, drop, refl, ap, sym, ◌∙◌, arith, length-drop}
+use Rattle.std.proofs.Common.{◌≡◌, ◌*◌, length, drop, refl, ap, arith, length-drop}
 use Rattle.step_mem.specs.declared.walking.Control.{Control}
 use Rattle.bare_machine.specs.Machine.{bare}
 use Rattle.bare_machine.proofs.machine.tried.Goals as goal
 
 pub returns-clause-memory : goal.returns-clause-memory
-returns-clause-memory g c = rw c.step_again.ensures.text refl
+returns-clause-memory g c = rw c.step_again.ensures.stays.1 refl
 
 pub returns-clause-comes : goal.returns-clause-comes
 returns-clause-comes g c = λ image script b. c.step_again.ensures.step (bare image script c.args.frames) b (record { has = refl; over = tt })
@@ -13,9 +13,9 @@ returns-clause-comes g c = λ image script b. c.step_again.ensures.step (bare im
 pub returns-clause-size : goal.returns-clause-size
 returns-clause-size g c =
     let n = 4096 * c.args.frames in
-    let behind : drop n c.step_again.new.ram ≡ drop n c.args.ram.now = c.step_again.ensures.hidden in
+    let behind : drop n c.step_again.new.ram ≡ drop n c.args.ram.now = c.step_again.ensures.stays.2 in
     let e = ap length behind in
-    let frames : c.step_again.new.state.control.frames ≡ c.args.frames = ap (λ (k : Control). k.frames) c.step_again.ensures.control in
+    let frames : c.step_again.new.state.control.frames ≡ c.args.frames = ap (λ (k : Control). k.frames) c.step_again.ensures.stays.0 in
     let room = c.step_again.ensures.sound.frames_in in
     let before = c.requires.ram in
     omega (arith, e, length-drop n c.step_again.new.ram, length-drop n c.args.ram.now, room, frames, before)

@@ -5,16 +5,13 @@ use Rattle.run_trace.specs.Text.{lines_of}
 use Rattle.machine_model.specs.Step.{Halts, step_of}
 use Rattle.machine_step.specs.Worked.{whats}
 use Rattle.bare_machine.specs.Machine.{bare, state_of, Goes, Rests}
-use Rattle.bare_machine.proofs.Going.{going_none, going_on, passes_here, passes_on, front_on}
+use Rattle.bare_machine.proofs.Going.{going_none, going_on, passes_here, passes_on, front_on, goes_further}
 use Rattle.bare_machine.proofs.slice.steps_to.Goals as goal
 
 pub loop-machine-init : goal.loop-machine-init
 loop-machine-init g c = record {
   going = λ image. going_none (bare image c.args.script.now.list c.args.machine.now.frames) (g.C.Cache.is_exact c.args.machine.now.kept.cache) (state_of g.C.Cache.entries c.args.machine.now) (g.O.Sink.taken c.args.out.now);
-  kept = c.requires.kept;
-  frames = refl;
-  size = refl;
-  same = refl;
+  goes_on = record { kept = c.requires.kept; frames = refl; size = refl; exact = refl };
   later = omega arith;
   bound = c.requires.begun;
 }
@@ -25,16 +22,13 @@ loop-machine-preserved g c = record {
       let e = g.C.Cache.entries in
       let m = c.loop-machine.machine in
       let exact = g.C.Cache.is_exact c.args.machine.now.kept.cache in
-      let goes = subst (λ (f : ℕ). Goes (step_of (bare image c.args.script.now.list f) (state_of e m) (e m.kept.cache)) m.step (whats c.in-Ok.seen) exact (state_of e c.step.new.machine)) c.loop-machine.invariant.frames
-      (subst (λ (x : Bool). Goes (step_of (bare image c.args.script.now.list m.frames) (state_of e m) (e m.kept.cache)) m.step (whats c.in-Ok.seen) x (state_of e c.step.new.machine)) c.loop-machine.invariant.same (c.in-Ok.ensures.step image)) in
-      let rests = subst (λ (f : ℕ). Rests (bare image c.args.script.now.list f) (state_of e c.step.new.machine) goes.whole (state_of e c.rest.new.machine)) (c.in-Ok.ensures.frames ∙ c.loop-machine.invariant.frames) (c.rest.ensures.rests image goes.whole goes.part) in
+      let goes = subst (λ (f : ℕ). Goes (step_of (bare image c.args.script.now.list f) (state_of e m) (e m.kept.cache)) m.step (whats c.in-Ok.seen) exact (state_of e c.step.new.machine)) c.loop-machine.invariant.goes_on.frames
+      (subst (λ (x : Bool). Goes (step_of (bare image c.args.script.now.list m.frames) (state_of e m) (e m.kept.cache)) m.step (whats c.in-Ok.seen) x (state_of e c.step.new.machine)) c.loop-machine.invariant.goes_on.exact (c.in-Ok.ensures.step image)) in
+      let rests = subst (λ (f : ℕ). Rests (bare image c.args.script.now.list f) (state_of e c.step.new.machine) goes.whole (state_of e c.rest.new.machine)) (c.in-Ok.ensures.frames ∙ c.loop-machine.invariant.goes_on.frames) (c.rest.ensures.rests image goes.whole goes.part) in
       let put = subst (λ (l : List Item). Appends (g.O.Sink.taken c.loop-machine.out) (g.O.Sink.taken c.put_step.new.out) (lines_of l)) c.items_of.ensures.items c.in-Ok-put_step.ensures.ok in
       going_on (bare image c.args.script.now.list c.args.machine.now.frames) exact (state_of e c.args.machine.now) (state_of e m) (state_of e c.step.new.machine) (state_of e c.rest.new.machine) (whats c.in-Ok.seen) (g.O.Sink.taken c.args.out.now) (g.O.Sink.taken c.loop-machine.out) (g.O.Sink.taken c.put_step.new.out)
       (c.loop-machine.invariant.going image) goes put rests;
-  kept = c.rest.ensures.kept;
-  frames = c.rest.ensures.frames ∙ (c.in-Ok.ensures.frames ∙ c.loop-machine.invariant.frames);
-  size = c.rest.ensures.size ∙ (c.in-Ok.ensures.size ∙ c.loop-machine.invariant.size);
-  same = c.rest.ensures.same ∙ (c.in-Ok.ensures.same ∙ c.loop-machine.invariant.same);
+  goes_on = goes_further _ _ _ (goes_further _ _ _ c.loop-machine.invariant.goes_on c.in-Ok.ensures.goes_on) c.rest.ensures.goes_on;
   later = omega (arith, c.loop-machine.invariant.later, c.in-Ok-put_step.ensures.later);
   bound = c.rest.ensures.within;
 }
@@ -48,7 +42,7 @@ returns-in-Err-clause-slice g c = λ image.
       reports = going.reports;
       last = state_of e m;
       passes = passes_here _ _ _ _ _ _ going;
-      ends = (c.loop-machine-test.true, c.in-Err.ensures.count, subst (λ (f : ℕ). step_of (bare image c.args.script.now.list f) (state_of e m) (e m.kept.cache) ≡ Halts c.in-Err.stop) c.loop-machine.invariant.frames (c.in-Err.ensures.step image));
+      ends = (c.loop-machine-test.true, c.in-Err.ensures.count, subst (λ (f : ℕ). step_of (bare image c.args.script.now.list f) (state_of e m) (e m.kept.cache) ≡ Halts c.in-Err.stop) c.loop-machine.invariant.goes_on.frames (c.in-Err.ensures.step image));
       text = going.text;
     }
 
@@ -57,8 +51,8 @@ returns-in-Err-put_step-clause-slice g c = λ image.
     let e = g.C.Cache.entries in
     let m = c.loop-machine.machine in
     let exact = g.C.Cache.is_exact c.args.machine.now.kept.cache in
-    let goes = subst (λ (f : ℕ). Goes (step_of (bare image c.args.script.now.list f) (state_of e m) (e m.kept.cache)) m.step (whats c.in-Ok.seen) exact (state_of e c.step.new.machine)) c.loop-machine.invariant.frames
-    (subst (λ (x : Bool). Goes (step_of (bare image c.args.script.now.list m.frames) (state_of e m) (e m.kept.cache)) m.step (whats c.in-Ok.seen) x (state_of e c.step.new.machine)) c.loop-machine.invariant.same (c.in-Ok.ensures.step image)) in
+    let goes = subst (λ (f : ℕ). Goes (step_of (bare image c.args.script.now.list f) (state_of e m) (e m.kept.cache)) m.step (whats c.in-Ok.seen) exact (state_of e c.step.new.machine)) c.loop-machine.invariant.goes_on.frames
+    (subst (λ (x : Bool). Goes (step_of (bare image c.args.script.now.list m.frames) (state_of e m) (e m.kept.cache)) m.step (whats c.in-Ok.seen) x (state_of e c.step.new.machine)) c.loop-machine.invariant.goes_on.exact (c.in-Ok.ensures.step image)) in
     let put = subst (λ (l : List Item). AppendsFront (g.O.Sink.taken c.loop-machine.out) (g.O.Sink.taken c.put_step.new.out) (lines_of l)) c.items_of.ensures.items c.in-Err-put_step.ensures.failed in
     let going = c.loop-machine.invariant.going image in
     record {

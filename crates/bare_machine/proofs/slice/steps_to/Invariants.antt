@@ -1,16 +1,13 @@
-use Rattle.std.proofs.Common.{◌≡◌, ◌-◌, ◌≤◌, length}
+use Rattle.std.proofs.Common.{◌-◌, ◌≤◌}
 use Rattle.image_check.specs.Image.{Image}
-use Rattle.bare_machine.specs.Machine.{bare, state_of, IsKept}
+use Rattle.bare_machine.specs.Machine.{bare, state_of, GoesOn}
 use Rattle.bare_machine.proofs.Going.{Going}
 use Rattle.bare_machine.proofs.slice.steps_to.Given as goal
 
 abbrev pub invariant-loop-machine : goal.invariant-loop-machine
 invariant-loop-machine g l = record {
   going : (image : Image) → Going (bare image l.script.list l.fn.machine.frames) (g.C.Cache.is_exact l.fn.machine.kept.cache) (state_of g.C.Cache.entries l.fn.machine) (state_of g.C.Cache.entries l.machine) (g.O.Sink.taken l.fn.out) (g.O.Sink.taken l.out);
-  kept : IsKept l.machine.frames (state_of g.C.Cache.entries l.machine);
-  frames : l.machine.frames ≡ l.fn.machine.frames;
-  size : length l.machine.ram ≡ length l.fn.machine.ram;
-  same : g.C.Cache.is_exact l.machine.kept.cache ≡ g.C.Cache.is_exact l.fn.machine.kept.cache;
+  goes_on : GoesOn g.C.Cache.entries g.C.Cache.is_exact l.fn.machine l.machine;
   later : g.O.Sink.faults l.fn.out ≤ g.O.Sink.faults l.out;
   bound : l.machine.step ≤ l.bound;
 }

@@ -2,9 +2,8 @@ use Rattle.std.proofs.Common.{◌≡◌, ℕ, ◌-◌, ◌++◌, List, ap, ◌�
 use Rattle.ia32_decode.specs.declared.answer.Decoded.TheVariants as begins
 use Rattle.ia32_decode.specs.Decoding.{decoded}
 use Rattle.ia32_decode.specs.Front.{front_len}
-use Rattle.step_mem.specs.declared.guard.Guard.{Guard}
 use Rattle.step_mem.specs.Sound.{space_at}
-use Rattle.machine_step.proofs.Fetched.{second_denied, second_read, second_owned, hidden_on}
+use Rattle.machine_step.proofs.Fetched.{second_denied, second_read, second_owned, behind_own, own_behind}
 use Rattle.machine_step.proofs.Spelled.{spelled_by}
 use Rattle.machine_step.proofs.fetch.fetch_on.Goals as goal
 
@@ -42,50 +41,20 @@ returns-in-Short-clause-fetched g c =
     let u = space_at (g.B.Kept.entries c.args.kept.now) c.fetching.new.ram c.fetching.new.state in
     second_read c.args.user c.args.at c.front_len.result c.args.front.now.items c.in_ok-more.more.items begins.Short s t u c.front_len.ensures.len c.own_front.ensures.owns c.in_ok-more.ensures.fetching (c.in-Short.ensures.exact ∙ ap decoded (c.as_slice-2.ensures.value ∙ (c.append.ensures ∙ ap (λ (l : List ℕ). c.args.front.now.items ++ l) c.as_slice.ensures.value)))
 
-pub returns-in_err-more-clause-hidden : goal.returns-in_err-more-clause-hidden
-returns-in_err-more-clause-hidden g c =
-    hidden_on c.args.state.now.guard c.own_front.new.state.guard c.args.state.now.control c.own_front.new.state.control c.args.ram.now c.fetching.new.ram c.own_front.ensures.text c.own_front.ensures.control c.fetching.ensures.hidden
+pub returns-in_err-more-clause-stays : goal.returns-in_err-more-clause-stays
+returns-in_err-more-clause-stays g c =
+    behind_own c.args.state.now c.own_front.new.state c.fetching.new.state c.args.ram.now c.fetching.new.ram c.own_front.ensures.control c.own_front.ensures.text c.fetching.ensures.stays
 
-pub returns-in_err-more-clause-text : goal.returns-in_err-more-clause-text
-returns-in_err-more-clause-text g c =
-    ap (λ (x : Guard). x.text) c.fetching.ensures.guard ∙ c.own_front.ensures.text
+pub returns-in-Outside-clause-stays : goal.returns-in-Outside-clause-stays
+returns-in-Outside-clause-stays g c =
+    behind_own c.args.state.now c.own_front.new.state c.fetching.new.state c.args.ram.now c.fetching.new.ram c.own_front.ensures.control c.own_front.ensures.text c.fetching.ensures.stays
 
-pub returns-in_err-more-clause-control : goal.returns-in_err-more-clause-control
-returns-in_err-more-clause-control g c =
-    c.fetching.ensures.control ∙ c.own_front.ensures.control
+pub returns-in-Short-clause-stays : goal.returns-in-Short-clause-stays
+returns-in-Short-clause-stays g c =
+    behind_own c.args.state.now c.own_front.new.state c.fetching.new.state c.args.ram.now c.fetching.new.ram c.own_front.ensures.control c.own_front.ensures.text c.fetching.ensures.stays
 
-pub returns-in-Insn-clause-hidden : goal.returns-in-Insn-clause-hidden
-returns-in-Insn-clause-hidden g c =
-    hidden_on c.args.state.now.guard c.own_front.new.state.guard c.args.state.now.control c.own_front.new.state.control c.args.ram.now c.fetching.new.ram c.own_front.ensures.text c.own_front.ensures.control c.fetching.ensures.hidden
-
-pub returns-in-Insn-clause-text : goal.returns-in-Insn-clause-text
-returns-in-Insn-clause-text g c =
-    c.own_back.ensures.text ∙ (ap (λ (x : Guard). x.text) c.fetching.ensures.guard ∙ c.own_front.ensures.text)
-
-pub returns-in-Insn-clause-control : goal.returns-in-Insn-clause-control
-returns-in-Insn-clause-control g c =
-    c.own_back.ensures.control ∙ (c.fetching.ensures.control ∙ c.own_front.ensures.control)
-
-pub returns-in-Outside-clause-hidden : goal.returns-in-Outside-clause-hidden
-returns-in-Outside-clause-hidden g c =
-    hidden_on c.args.state.now.guard c.own_front.new.state.guard c.args.state.now.control c.own_front.new.state.control c.args.ram.now c.fetching.new.ram c.own_front.ensures.text c.own_front.ensures.control c.fetching.ensures.hidden
-
-pub returns-in-Outside-clause-text : goal.returns-in-Outside-clause-text
-returns-in-Outside-clause-text g c =
-    ap (λ (x : Guard). x.text) c.fetching.ensures.guard ∙ c.own_front.ensures.text
-
-pub returns-in-Outside-clause-control : goal.returns-in-Outside-clause-control
-returns-in-Outside-clause-control g c =
-    c.fetching.ensures.control ∙ c.own_front.ensures.control
-
-pub returns-in-Short-clause-hidden : goal.returns-in-Short-clause-hidden
-returns-in-Short-clause-hidden g c =
-    hidden_on c.args.state.now.guard c.own_front.new.state.guard c.args.state.now.control c.own_front.new.state.control c.args.ram.now c.fetching.new.ram c.own_front.ensures.text c.own_front.ensures.control c.fetching.ensures.hidden
-
-pub returns-in-Short-clause-text : goal.returns-in-Short-clause-text
-returns-in-Short-clause-text g c =
-    ap (λ (x : Guard). x.text) c.fetching.ensures.guard ∙ c.own_front.ensures.text
-
-pub returns-in-Short-clause-control : goal.returns-in-Short-clause-control
-returns-in-Short-clause-control g c =
-    c.fetching.ensures.control ∙ c.own_front.ensures.control
+pub returns-in-Insn-clause-stays : goal.returns-in-Insn-clause-stays
+returns-in-Insn-clause-stays g c =
+    own_behind c.args.state.now c.fetching.new.state c.own_back.new.state c.args.ram.now c.fetching.new.ram
+    (behind_own c.args.state.now c.own_front.new.state c.fetching.new.state c.args.ram.now c.fetching.new.ram c.own_front.ensures.control c.own_front.ensures.text c.fetching.ensures.stays)
+    c.own_back.ensures.control c.own_back.ensures.text

@@ -1,9 +1,8 @@
 use Rattle.std.proofs.Common.{ap, ◌∙◌, rules}
 use Rattle.ia32_decode.specs.declared.answer.Decoded.TheVariants as begins
 use Rattle.ia32_decode.specs.Decoding.{decoded}
-use Rattle.step_mem.specs.declared.guard.Guard.{Guard}
 use Rattle.step_mem.specs.Sound.{space_at}
-use Rattle.machine_step.proofs.Fetched.{first_denied, first_read, first_owned}
+use Rattle.machine_step.proofs.Fetched.{first_denied, first_read, first_owned, as_fetch, own_behind}
 use Rattle.machine_step.proofs.Spelled.{spelled_by}
 use Rattle.machine_step.proofs.fetch.fetch_pages.Goals as goal
 
@@ -30,26 +29,16 @@ returns-in-Outside-clause-fetched g c =
     let t = space_at (g.B.Kept.entries c.args.kept.now) c.fetching.new.ram c.fetching.new.state in
     first_read c.args.user c.args.at c.front_len.result c.in_ok-front.front.items begins.Outside s t c.front_len.ensures.len c.in_ok-front.ensures.fetching (c.in-Outside.ensures.exact ∙ ap decoded c.as_slice.ensures.value)
 
-pub returns-in_err-front-clause-hidden : goal.returns-in_err-front-clause-hidden
-returns-in_err-front-clause-hidden g c =
-    c.fetching.ensures.hidden
+pub returns-in_err-front-clause-stays : goal.returns-in_err-front-clause-stays
+returns-in_err-front-clause-stays g c =
+    as_fetch c.args.state.now c.fetching.new.state c.args.ram.now c.fetching.new.ram c.fetching.ensures.stays
 
-pub returns-in_err-front-clause-text : goal.returns-in_err-front-clause-text
-returns-in_err-front-clause-text g c =
-    ap (λ (x : Guard). x.text) c.fetching.ensures.guard
+pub returns-in-Outside-clause-stays : goal.returns-in-Outside-clause-stays
+returns-in-Outside-clause-stays g c =
+    as_fetch c.args.state.now c.fetching.new.state c.args.ram.now c.fetching.new.ram c.fetching.ensures.stays
 
-pub returns-in-Insn-clause-hidden : goal.returns-in-Insn-clause-hidden
-returns-in-Insn-clause-hidden g c =
-    c.fetching.ensures.hidden
-
-pub returns-in-Insn-clause-text : goal.returns-in-Insn-clause-text
-returns-in-Insn-clause-text g c =
-    c.own_front.ensures.text ∙ ap (λ (x : Guard). x.text) c.fetching.ensures.guard
-
-pub returns-in-Outside-clause-hidden : goal.returns-in-Outside-clause-hidden
-returns-in-Outside-clause-hidden g c =
-    c.fetching.ensures.hidden
-
-pub returns-in-Outside-clause-text : goal.returns-in-Outside-clause-text
-returns-in-Outside-clause-text g c =
-    ap (λ (x : Guard). x.text) c.fetching.ensures.guard
+pub returns-in-Insn-clause-stays : goal.returns-in-Insn-clause-stays
+returns-in-Insn-clause-stays g c =
+    own_behind c.args.state.now c.fetching.new.state c.own_front.new.state c.args.ram.now c.fetching.new.ram
+    (as_fetch c.args.state.now c.fetching.new.state c.args.ram.now c.fetching.new.ram c.fetching.ensures.stays)
+    c.own_front.ensures.control c.own_front.ensures.text

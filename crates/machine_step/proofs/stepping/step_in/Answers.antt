@@ -40,8 +40,8 @@ returns-in-Fetched-clause-roots g c =
 
 pub returns-in-Fetched-clause-hidden : goal.returns-in-Fetched-clause-hidden
 returns-in-Fetched-clause-hidden g c =
-    hidden_on c.args.state.now.guard c.start.new.state.guard c.args.state.now.control c.start.new.state.control c.start.new.ram c.carry_out.new.ram c.start.ensures.text c.start.ensures.control c.carry_out.ensures.hidden
-    ∙ c.start.ensures.hidden
+    hidden_on c.args.state.now.guard c.start.new.state.guard c.args.state.now.control c.start.new.state.control c.start.new.ram c.carry_out.new.ram c.start.ensures.stays.1 c.start.ensures.stays.0 c.carry_out.ensures.hidden
+    ∙ c.start.ensures.stays.2
 
 pub returns-in_err-worked-clause-step : goal.returns-in_err-worked-clause-step
 returns-in_err-worked-clause-step g c = λ m b k. rw (c.in_err-worked.ensures.begins m b k) (search rules)

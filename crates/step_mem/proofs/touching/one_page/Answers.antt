@@ -8,7 +8,7 @@ use Rattle.step_mem.proofs.touching.one_page.Goals as goal
 pub returns-clause-uses : goal.returns-clause-uses
 returns-clause-uses g c =
     let m = c.args.state.now in
-    rw c.push.ensures (rw (c.page_use.ensures.front m.earlier.count c.requires.sound.earlier_counted) (rw c.page_use.ensures.kept (rw c.page_use.ensures.kept at (c.page_use.ensures.uses (record {
+    rw c.push.ensures (rw (c.page_use.ensures.changes.front m.earlier.count c.requires.sound.earlier_counted) (rw c.page_use.ensures.leaves.kept_stays (rw c.page_use.ensures.leaves.kept_stays at (c.page_use.ensures.uses (record {
       pages = m.pages;
       visited = m.visited;
       tables = m.tables;
@@ -36,5 +36,5 @@ returns-clause-sound g c = record {
   earlier_fits = search rules;
   earlier_within = search rules;
   earlier_reached = search rules;
-  told = subst (λ (visited : List ℕ). AreToldIn visited c.page_use.new.changes) (sym c.push.ensures) (told_more c.args.state.now.visited c.args.page c.args.state.now.changes c.page_use.new.changes c.requires.sound.told c.page_use.ensures.more);
+  told = subst (λ (visited : List ℕ). AreToldIn visited c.page_use.new.changes) (sym c.push.ensures) (told_more c.args.state.now.visited c.args.page c.args.state.now.changes c.page_use.new.changes c.requires.sound.told c.page_use.ensures.changes.more);
 }
