@@ -13,3 +13,4 @@ pub mod Asides
 pub mod Reloaded
 pub mod Views
 pub mod Opening
+pub mod Called

@@ -10,6 +10,7 @@ ghost use Rattle.shadow_cache.specs.After.{slots_of};
 ghost use Rattle.shadow_cache.specs.Past.{pairs_after};
 ghost use Rattle.shadow_cache.specs.Replayed.{IsFitCall, AreFitCalls, need, BeginsBeyond, IsKeptAs, ArePasts, done_in, most_frames};
 ghost use Rattle.shadow_cache.specs.Agreeing.{Agree};
+ghost use Rattle.shadow_cache.specs.Called.{GoesOn};
 ghost use Rattle.shadow_cache.specs.declared.call_lists.RootsCall.{RootsCall};
 ghost use Rattle.shadow_cache.specs.declared.call_lists.RootsCall.TheVariants.{Shared};
 
@@ -41,9 +42,11 @@ fn apply_shared(roots: &mut Roots, ram: &mut Ram, pool: &mut Pool, call: Call) -
     requires owns { Owns pool.old ram.old (frames_of (pairs_of roots.old) ram.old) }
     requires fit { IsFit call }
     ensures stands { ∥ IsRoots (pairs_of roots.new) ram.new ∥₁ }
-    ensures moves { Moves pool.old pool.new ram.old ram.new (frames_of (pairs_of roots.old) ram.old) (frames_of (pairs_of roots.new) ram.new) }
-    ensures undone { (IsTrue result → ⊥) → (pairs_of roots.new ≡ pairs_of roots.old) × (ram.new ≡ ram.old) × (length (free_list pool.new ram.new) < fill_count call) }
-    ensures law { IsTrue result → (value : ℕ) (calls : List RootsCall) → Agree value calls (pairs_of roots.old) ram.old → Agree value (calls ++ Shared call ∷ []) (pairs_of roots.new) ram.new }
+    ensures moves { Moves pool.old pool.new ram.old ram.new
+        (frames_of (pairs_of roots.old) ram.old) (frames_of (pairs_of roots.new) ram.new) }
+    ensures undone { (IsTrue result → ⊥)
+        → (pairs_of roots.new ≡ pairs_of roots.old) × (ram.new ≡ ram.old) × (length (free_list pool.new ram.new) < fill_count call) }
+    ensures law { IsTrue result → GoesOn (Shared call) (pairs_of roots.old) (pairs_of roots.new) ram.old ram.new }
 {
     match call {
         Call::Fill(side, entry, wp) => {
@@ -67,9 +70,11 @@ fn apply(roots: &mut Roots, ram: &mut Ram, pool: &mut Pool, call: RootsCall) -> 
     requires owns { Owns pool.old ram.old (frames_of (pairs_of roots.old) ram.old) }
     requires fit { IsFitCall call }
     ensures stands { ∥ IsRoots (pairs_of roots.new) ram.new ∥₁ }
-    ensures moves { Moves pool.old pool.new ram.old ram.new (frames_of (pairs_of roots.old) ram.old) (frames_of (pairs_of roots.new) ram.new) }
-    ensures undone { (IsTrue result → ⊥) → (pairs_of roots.new ≡ pairs_of roots.old) × (ram.new ≡ ram.old) × (length (free_list pool.new ram.new) < need call) }
-    ensures law { IsTrue result → (value : ℕ) (calls : List RootsCall) → Agree value calls (pairs_of roots.old) ram.old → Agree value (calls ++ call ∷ []) (pairs_of roots.new) ram.new }
+    ensures moves { Moves pool.old pool.new ram.old ram.new
+        (frames_of (pairs_of roots.old) ram.old) (frames_of (pairs_of roots.new) ram.new) }
+    ensures undone { (IsTrue result → ⊥)
+        → (pairs_of roots.new ≡ pairs_of roots.old) × (ram.new ≡ ram.old) × (length (free_list pool.new ram.new) < need call) }
+    ensures law { IsTrue result → GoesOn call (pairs_of roots.old) (pairs_of roots.new) ram.old ram.new }
 {
     match call {
         RootsCall::Shared(shared) => apply_shared(roots, ram, pool, shared),
@@ -89,10 +94,12 @@ fn follow(roots: &mut Roots, ram: &mut Ram, pool: &mut Pool, calls: &[RootsCall]
     requires owns { Owns pool.old ram.old (frames_of (pairs_of roots.old) ram.old) }
     requires fit { AreFitCalls calls.now }
     ensures stands { ∥ IsRoots (pairs_of roots.new) ram.new ∥₁ }
-    ensures moves { Moves pool.old pool.new ram.old ram.new (frames_of (pairs_of roots.old) ram.old) (frames_of (pairs_of roots.new) ram.new) }
+    ensures moves { Moves pool.old pool.new ram.old ram.new
+        (frames_of (pairs_of roots.old) ram.old) (frames_of (pairs_of roots.new) ram.new) }
     ensures some { result ≤ length calls.now }
     ensures stopped { result < length calls.now → BeginsBeyond (length (free_list pool.new ram.new)) (drop result calls.now) }
-    ensures law { (value : ℕ) → Agree value [] (pairs_of roots.old) ram.old → Agree value (take result calls.now) (pairs_of roots.new) ram.new }
+    ensures law { (value : ℕ) → Agree value [] (pairs_of roots.old) ram.old
+        → Agree value (take result calls.now) (pairs_of roots.new) ram.new }
 {
     let mut count = 0;
     for call in calls {
@@ -125,11 +132,15 @@ pub fn replay(
     ensures owns { IfOk result (λ r. Owns pool.new ram.new (frames_of (pairs_of r.roots) ram.new)) }
     ensures moves { IfOk result (λ r. Moves pool.old pool.new ram.old ram.new [] (frames_of (pairs_of r.roots) ram.new)) }
     ensures some { IfOk result (λ r. r.count ≤ length calls.now) }
-    ensures stopped { IfOk result (λ r. r.count < length calls.now → BeginsBeyond (length (free_list pool.new ram.new)) (drop r.count calls.now)) }
-    ensures frames { IfOk result (λ r. length (free_list pool.old ram.old) ≤ length (free_list pool.new ram.new) + most_frames (pairs_after cr3 (take r.count calls.now))) }
-    ensures pairs { IfOk result (λ r. ArePasts cr3 (take r.count calls.now) (pairs_after cr3 (take r.count calls.now)) (pairs_of r.roots) ram.new) }
+    ensures stopped { IfOk result (λ r. r.count < length calls.now
+        → BeginsBeyond (length (free_list pool.new ram.new)) (drop r.count calls.now)) }
+    ensures frames { IfOk result (λ r. length (free_list pool.old ram.old)
+        ≤ length (free_list pool.new ram.new) + most_frames (pairs_after cr3 (take r.count calls.now))) }
+    ensures pairs { IfOk result (λ r. let done = take r.count calls.now in
+        ArePasts cr3 done (pairs_after cr3 done) (pairs_of r.roots) ram.new) }
     ensures law { IfOk result (λ r. (page : ℕ) → page < 2 ^ 20
-        → IsKeptAs cr3 (take r.count calls.now) (done_in (pairs_after cr3 (take r.count calls.now))) page (slots_of (pairs_of r.roots) ram.new page)) }
+        → let done = take r.count calls.now in
+        IsKeptAs cr3 done (done_in (pairs_after cr3 done)) page (slots_of (pairs_of r.roots) ram.new page)) }
 {
     let mut roots = Roots::new(alloc, ram, pool, cr3)?;
     let count = follow(&mut roots, ram, pool, calls);

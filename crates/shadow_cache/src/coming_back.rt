@@ -40,5 +40,6 @@ pub fn pairs_leave_or_stay()
 /// Pairs of which a call's `told` says that they are those of `new` with a value and then some calls are each as its past
 /// says.
 pub fn pairs_are_as_told()
-    ensures { (value : ℕ) (calls : List RootsCall) (ps : List Pair) (m : List ℕ) → Agree value calls ps m → ArePasts value calls (pairs_after value calls) ps m }
+    ensures { (value : ℕ) (calls : List RootsCall) (ps : List Pair) (m : List ℕ)
+        → Agree value calls ps m → ArePasts value calls (pairs_after value calls) ps m }
 {}

@@ -1,6 +1,9 @@
-ghost use Rattle.std.specs.Prelude.{◌≡◌, ◌≤◌, ◌<◌, [], length, false, true, slice_set, if◌then◌else◌};
+//! A pair of views, and the tables that they were read from.
+
+ghost use Rattle.std.specs.Prelude.{◌≡◌, ◌≤◌, ◌<◌, [], length, false, true, slice_set};
 ghost use Rattle.frame_pool.specs.Pool.{free_list, Stands};
 ghost use Rattle.frame_pool.specs.Held.{Owns, Moves};
+ghost use Rattle.shadow_cache.specs.After.{marked_by};
 ghost use Rattle.shadow_cache.specs.Pairs.{no_tables, reads};
 ghost use Rattle.std.specs.FinMap.{empty as no_entries};
 ghost use Rattle.shadow_tables.specs.Entries.{entries_of};
@@ -75,7 +78,7 @@ impl Pair {
 
     /// A byte of this frame was written, which matters where the tables were read from it.
     pub fn write(&mut self, frame: u32)
-        ensures { self.new ≡ (if reads self.old frame then record self.old { tables = slice_set self.old.tables frame false; marked = true } else self.old) }
+        ensures { self.new ≡ marked_by self.old frame }
     {
         if self.reads(frame) {
             self.tables[frame as usize] = false;

@@ -1,3 +1,5 @@
+//! A list of at most eight pairs of views, in a slab.
+
 ghost use Rattle.std.specs.Prelude.{◌≡◌, ◌<◌, List, [], ◌∷◌, length, slice_get, remove, Some, IfOk};
 
 use crate::pair::Pair;
@@ -39,12 +41,14 @@ impl Pairs {
         })
     }
 
+    /// How many there are, 0 to 8.
     pub fn len(&self) -> usize
         ensures { result ≡ length self.now }
     {
         self.order.len()
     }
 
+    /// The pair at a place, counted from 0.
     pub fn at(&self, i: usize) -> &Pair
         requires { i < length self.now }
         ensures { slice_get self.now i ≡ Some result.now }

@@ -29,9 +29,11 @@ pub trait Reloads: Shadows {
         ensures stands { ∥ Self.stands self.new ram.new ∥₁ }
         ensures value { Self.value self.new ≡ Some cr3 }
         ensures marked { Self.marked self.new ≡ false }
-        ensures present { IsSame (coming cr3 (put_by (Self.value self.old) (Self.marked self.old) (Self.noted self.old) (Self.slots self.old ram.old) (Self.asides self.old ram.old)))
+        ensures present { IsSame (coming cr3 (put_by (Self.value self.old) (Self.marked self.old) (Self.noted self.old)
+            (Self.slots self.old ram.old) (Self.asides self.old ram.old)))
             (record { cr3 = cr3; tables = Self.noted self.new; slots = Self.slots self.new ram.new }) }
-        ensures asides { AreSame (staying cr3 (put_by (Self.value self.old) (Self.marked self.old) (Self.noted self.old) (Self.slots self.old ram.old) (Self.asides self.old ram.old)))
+        ensures asides { AreSame (staying cr3 (put_by (Self.value self.old) (Self.marked self.old) (Self.noted self.old)
+            (Self.slots self.old ram.old) (Self.asides self.old ram.old)))
             (Self.asides self.new ram.new) }
         ensures tracked { ArePart (Self.tracked self.new) (Self.tracked self.old) }
         ensures opened { (indices : ℕ → Bool) → Self.opened self.old ram.old indices → Self.opened self.new ram.new indices }
@@ -62,7 +64,8 @@ pub trait Reloads: Shadows {
     /// Each of them holds two frames, and at most one more in each view for a directory index for which it has a table: so
     /// at most 400 where these are at most 24.
     ghost sized: { (s : Self) (m : List ℕ) (indices : ℕ → Bool) (among : List ℕ) → ∥ Self.stands s m ∥₁ → Self.opened s m indices
-        → ((index : ℕ) → index < 1024 → indices index ≡ true → is_member eqb among index ≡ true) → length (Self.frames s m) ≤ 8 * (2 + 2 * distinct_count eqb among) };
+        → ((index : ℕ) → index < 1024 → indices index ≡ true → is_member eqb among index ≡ true)
+        → length (Self.frames s m) ≤ 8 * (2 + 2 * distinct_count eqb among) };
 }
 
 impl Reloads for Roots {

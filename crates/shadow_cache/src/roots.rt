@@ -1,3 +1,5 @@
+//! The views of the present value of CR3, and of values that may come back.
+
 ghost use Rattle.std.specs.Prelude.{◌≡◌, ℕ, ◌+◌, ◌/◌, ◌≤◌, ◌<◌, ◌^◌, Bool, List, [], ◌∷◌, ◌++◌, length, Some, None, false, IfOk, OnErr};
 ghost use Rattle.std.specs.FinMap.{empty, insert, remove};
 ghost use Rattle.frame_pool.specs.Pool.{free_list, Stands};
@@ -30,12 +32,12 @@ pub struct Roots {
 
 impl Roots {
     ghost use Rattle.shadow_cache.specs.Roots.{pairs_of};
-    ghost use Rattle.shadow_cache.specs.After.{IsStart, beside, mark_of, noted_of, slots_of, value_of};
+    ghost use Rattle.shadow_cache.specs.After.{IsStart, beside, slots_of};
+    ghost use Rattle.shadow_cache.specs.Called.{BeginsUnder, GoesOn};
     ghost use Rattle.shadow_cache.specs.Opening.{AllOpenedOnly};
     ghost use Rattle.shadow_cache.specs.Asides.{asides_of};
     ghost use Rattle.shadow_cache.specs.Switched.{IsSwitched};
     ghost use Rattle.shadow_cache.specs.Agreeing.{Agree};
-    ghost use Rattle.shadow_cache.specs.declared.call_lists.RootsCall.{RootsCall};
     ghost use Rattle.shadow_cache.specs.declared.call_lists.RootsCall.TheVariants.{Switch};
 
     /// One pair, of this value, that keeps nothing. Takes the room for 8.
@@ -49,9 +51,7 @@ impl Roots {
         ensures moves { IfOk result (λ r. Moves pool.old pool.new ram.old ram.new [] (frames_of (pairs_of r) ram.new)) }
         ensures told { IfOk result (λ r. Agree cr3 [] (pairs_of r) ram.new) }
         ensures entries { IfOk result (λ r. entries_of (slots_of (pairs_of r) ram.new) ≡ empty) }
-        ensures value { IfOk result (λ r. value_of (pairs_of r) ≡ Some cr3) }
-        ensures unmarked { IfOk result (λ r. mark_of (pairs_of r) ≡ false) }
-        ensures unread { IfOk result (λ r. (f : ℕ) → noted_of (pairs_of r) f ≡ false) }
+        ensures begins { IfOk result (λ r. BeginsUnder cr3 (pairs_of r)) }
         ensures alone { IfOk result (λ r. asides_of (beside (pairs_of r)) ram.new ≡ []) }
         ensures opened { (indices : ℕ → Bool) → IfOk result (λ r. AllOpenedOnly indices (pairs_of r) ram.new) }
     {
@@ -68,8 +68,9 @@ impl Roots {
         ensures stands { ∥ IsRoots (pairs_of self.new) ram.new ∥₁ }
         ensures switched { IsSwitched (pairs_of self.old) (pairs_of self.new) ram.old ram.new cr3 }
         ensures owns { Owns pool.new ram.new (frames_of (pairs_of self.new) ram.new) }
-        ensures moves { Moves pool.old pool.new ram.old ram.new (frames_of (pairs_of self.old) ram.old) (frames_of (pairs_of self.new) ram.new) }
-        ensures told { (value : ℕ) (calls : List RootsCall) → Agree value calls (pairs_of self.old) ram.old → Agree value (calls ++ Switch cr3 ∷ []) (pairs_of self.new) ram.new }
+        ensures moves { Moves pool.old pool.new ram.old ram.new
+            (frames_of (pairs_of self.old) ram.old) (frames_of (pairs_of self.new) ram.new) }
+        ensures told { GoesOn (Switch cr3) (pairs_of self.old) (pairs_of self.new) ram.old ram.new }
     {
         if self.present.cr3 == cr3 && !self.present.marked {
             return;
@@ -110,26 +111,25 @@ impl Roots {
 
 impl Roots {
     ghost use Rattle.shadow_cache.specs.Roots.{pairs_of};
-    ghost use Rattle.shadow_cache.specs.Agreeing.{Agree};
-    ghost use Rattle.shadow_cache.specs.declared.call_lists.RootsCall.{RootsCall};
+    ghost use Rattle.shadow_cache.specs.After.{slots_of, directory_of, OpensIn, KeepsIn, noted_in, written_in, emptied};
+    ghost use Rattle.shadow_cache.specs.Called.{BarsSlots, FillsSlot, Frees, GoesOn, KeepsPool, KeepsSlots, SamePairs};
     ghost use Rattle.shadow_cache.specs.declared.call_lists.RootsCall.TheVariants.{Shared};
     ghost use Rattle.shadow_tables.specs.declared.calls.Call.TheVariants.{Fill, DropPage, DropDir, DropAll, Note, Written};
-    ghost use Rattle.shadow_cache.specs.After.{slots_of, directory_of, beside, OpensIn, KeepsIn, noted_in, written_in, emptied};
 
     /// Drops the page in the present pair.
     pub fn drop_page(&mut self, ram: &mut Ram, page: u32)
         requires stands { ∥ IsRoots (pairs_of self.old) ram.old ∥₁ }
         requires page { page < 2 ^ 20 }
-        ensures pairs { pairs_of self.new ≡ pairs_of self.old }
-        ensures others { AreKept (beside (pairs_of self.old)) ram.old ram.new }
+        ensures same { SamePairs (pairs_of self.old) (pairs_of self.new) ram.old ram.new }
         ensures stands { ∥ IsRoots (pairs_of self.new) ram.new ∥₁ }
         ensures turns { Turns (slots_of (pairs_of self.old) ram.old) (slots_of (pairs_of self.new) ram.new) page None }
         ensures tables { KeepsIn (pairs_of self.old) ram.old ram.new }
-        ensures entries { entries_of (slots_of (pairs_of self.new) ram.new) ≡ remove (entries_of (slots_of (pairs_of self.old) ram.old)) page }
+        ensures entries { entries_of (slots_of (pairs_of self.new) ram.new)
+            ≡ remove (entries_of (slots_of (pairs_of self.old) ram.old)) page }
         ensures frames { frames_of (pairs_of self.new) ram.new ≡ frames_of (pairs_of self.old) ram.old }
         ensures memory { Writes (frames_of (pairs_of self.old) ram.old) ram.old ram.new }
-        ensures moves { (p : Pool) → Owns p ram.old (frames_of (pairs_of self.old) ram.old) → Moves p p ram.old ram.new (frames_of (pairs_of self.old) ram.old) (frames_of (pairs_of self.new) ram.new) }
-        ensures told { (value : ℕ) (calls : List RootsCall) → Agree value calls (pairs_of self.old) ram.old → Agree value (calls ++ Shared (DropPage page) ∷ []) (pairs_of self.new) ram.new }
+        ensures moves { KeepsPool (pairs_of self.old) (pairs_of self.new) ram.old ram.new }
+        ensures told { GoesOn (Shared (DropPage page)) (pairs_of self.old) (pairs_of self.new) ram.old ram.new }
     {
         let mut shadow = self.present.shadow;
         shadow.drop_page(ram, page);
@@ -139,16 +139,16 @@ impl Roots {
     pub fn drop_dir(&mut self, ram: &mut Ram, index: u32)
         requires stands { ∥ IsRoots (pairs_of self.old) ram.old ∥₁ }
         requires index { index < 1024 }
-        ensures pairs { pairs_of self.new ≡ pairs_of self.old }
-        ensures others { AreKept (beside (pairs_of self.old)) ram.old ram.new }
+        ensures same { SamePairs (pairs_of self.old) (pairs_of self.new) ram.old ram.new }
         ensures stands { ∥ IsRoots (pairs_of self.new) ram.new ∥₁ }
         ensures loses { LosesDir (slots_of (pairs_of self.old) ram.old) (slots_of (pairs_of self.new) ram.new) index }
         ensures tables { KeepsIn (pairs_of self.old) ram.old ram.new }
-        ensures entries { entries_of (slots_of (pairs_of self.new) ram.new) ≡ without_dir (entries_of (slots_of (pairs_of self.old) ram.old)) index }
+        ensures entries { entries_of (slots_of (pairs_of self.new) ram.new)
+            ≡ without_dir (entries_of (slots_of (pairs_of self.old) ram.old)) index }
         ensures frames { frames_of (pairs_of self.new) ram.new ≡ frames_of (pairs_of self.old) ram.old }
         ensures memory { Writes (frames_of (pairs_of self.old) ram.old) ram.old ram.new }
-        ensures moves { (p : Pool) → Owns p ram.old (frames_of (pairs_of self.old) ram.old) → Moves p p ram.old ram.new (frames_of (pairs_of self.old) ram.old) (frames_of (pairs_of self.new) ram.new) }
-        ensures told { (value : ℕ) (calls : List RootsCall) → Agree value calls (pairs_of self.old) ram.old → Agree value (calls ++ Shared (DropDir index) ∷ []) (pairs_of self.new) ram.new }
+        ensures moves { KeepsPool (pairs_of self.old) (pairs_of self.new) ram.old ram.new }
+        ensures told { GoesOn (Shared (DropDir index)) (pairs_of self.old) (pairs_of self.new) ram.old ram.new }
     {
         let mut shadow = self.present.shadow;
         shadow.drop_dir(ram, index);
@@ -160,18 +160,16 @@ impl Roots {
         requires stands { ∥ IsRoots (pairs_of self.old) ram.old ∥₁ }
         requires owns { Owns pool.old ram.old (frames_of (pairs_of self.old) ram.old) }
         requires free { 1 ≤ length (free_list pool.old ram.old) }
-        requires page { entry.page < 2 ^ 20 }
-        requires frame { entry.frame < 2 ^ 20 }
-        ensures pairs { pairs_of self.new ≡ pairs_of self.old }
-        ensures others { AreKept (beside (pairs_of self.old)) ram.old ram.new }
+        requires fits { (entry.page < 2 ^ 20) × (entry.frame < 2 ^ 20) }
+        ensures same { SamePairs (pairs_of self.old) (pairs_of self.new) ram.old ram.new }
         ensures stands { ∥ IsRoots (pairs_of self.new) ram.new ∥₁ }
-        ensures turns { Turns (slots_of (pairs_of self.old) ram.old) (slots_of (pairs_of self.new) ram.new) entry.page (Some (filled (is_among entry.frame (tables_of (pairs_of self.old))) side entry wp)) }
-        ensures entries { entries_of (slots_of (pairs_of self.new) ram.new) ≡ insert (entries_of (slots_of (pairs_of self.old) ram.old)) entry.page entry }
+        ensures fills { FillsSlot side entry wp (pairs_of self.old) (pairs_of self.new) ram.old ram.new }
         ensures table { OpensIn (pairs_of self.old) ram.old ram.new side (entry.page / 1024) }
         ensures one { length (free_list pool.old ram.old) ≤ length (free_list pool.new ram.new) + 1 }
         ensures owns { Owns pool.new ram.new (frames_of (pairs_of self.new) ram.new) }
-        ensures moves { Moves pool.old pool.new ram.old ram.new (frames_of (pairs_of self.old) ram.old) (frames_of (pairs_of self.new) ram.new) }
-        ensures told { (value : ℕ) (calls : List RootsCall) → Agree value calls (pairs_of self.old) ram.old → Agree value (calls ++ Shared (Fill side entry wp) ∷ []) (pairs_of self.new) ram.new }
+        ensures moves { Moves pool.old pool.new ram.old ram.new
+            (frames_of (pairs_of self.old) ram.old) (frames_of (pairs_of self.new) ram.new) }
+        ensures told { GoesOn (Shared (Fill side entry wp)) (pairs_of self.old) (pairs_of self.new) ram.old ram.new }
     {
         let barred = self.tracks(entry.frame);
         let mut shadow = self.present.shadow;
@@ -190,8 +188,9 @@ impl Roots {
         ensures roots { (side : Side) → directory_of (pairs_of self.new) side ≡ directory_of (pairs_of self.old) side }
         ensures two { length (frames_of (pairs_of self.new) ram.new) ≡ 2 }
         ensures owns { Owns pool.new ram.new (frames_of (pairs_of self.new) ram.new) }
-        ensures moves { Moves pool.old pool.new ram.old ram.new (frames_of (pairs_of self.old) ram.old) (frames_of (pairs_of self.new) ram.new) }
-        ensures told { (value : ℕ) (calls : List RootsCall) → Agree value calls (pairs_of self.old) ram.old → Agree value (calls ++ Shared DropAll ∷ []) (pairs_of self.new) ram.new }
+        ensures moves { Moves pool.old pool.new ram.old ram.new
+            (frames_of (pairs_of self.old) ram.old) (frames_of (pairs_of self.new) ram.new) }
+        ensures told { GoesOn (Shared DropAll) (pairs_of self.old) (pairs_of self.new) ram.old ram.new }
     {
         leave_all(&mut self.others, ram, pool);
         let mut shadow = self.present.shadow;
@@ -206,14 +205,13 @@ impl Roots {
         ensures pairs { pairs_of self.new ≡ noted_in (pairs_of self.old) frame }
         ensures loses { AllLoseWrites (pairs_of self.old) ram.old ram.new frame }
         ensures stands { ∥ IsRoots (pairs_of self.new) ram.new ∥₁ }
-        ensures slots { LosesWrites (slots_of (pairs_of self.old) ram.old) (slots_of (pairs_of self.new) ram.new) (tables_of (pairs_of self.new)) }
-        ensures entries { entries_of (slots_of (pairs_of self.new) ram.new) ≡ entries_of (slots_of (pairs_of self.old) ram.old) }
+        ensures bars { BarsSlots (pairs_of self.old) (pairs_of self.new) ram.old ram.new }
         ensures tracked { ArePart (tables_of (pairs_of self.new)) (frame ∷ (tables_of (pairs_of self.old))) }
         ensures roots { (side : Side) → directory_of (pairs_of self.new) side ≡ directory_of (pairs_of self.old) side }
         ensures frames { frames_of (pairs_of self.new) ram.new ≡ frames_of (pairs_of self.old) ram.old }
         ensures memory { Writes (frames_of (pairs_of self.old) ram.old) ram.old ram.new }
-        ensures moves { (p : Pool) → Owns p ram.old (frames_of (pairs_of self.old) ram.old) → Moves p p ram.old ram.new (frames_of (pairs_of self.old) ram.old) (frames_of (pairs_of self.new) ram.new) }
-        ensures told { (value : ℕ) (calls : List RootsCall) → Agree value calls (pairs_of self.old) ram.old → Agree value (calls ++ Shared (Note frame) ∷ []) (pairs_of self.new) ram.new }
+        ensures moves { KeepsPool (pairs_of self.old) (pairs_of self.new) ram.old ram.new }
+        ensures told { GoesOn (Shared (Note frame)) (pairs_of self.old) (pairs_of self.new) ram.old ram.new }
     {
         self.bar_frame(ram, frame);
         self.present.note(frame);
@@ -227,15 +225,14 @@ impl Roots {
         ensures pairs { pairs_of self.new ≡ written_in (pairs_of self.old) frame }
         ensures kept { AreKept (pairs_of self.new) ram.old ram.new }
         ensures stands { ∥ IsRoots (pairs_of self.new) ram.new ∥₁ }
-        ensures slots { SameSlots (slots_of (pairs_of self.old) ram.old) (slots_of (pairs_of self.new) ram.new) }
-        ensures entries { entries_of (slots_of (pairs_of self.new) ram.new) ≡ entries_of (slots_of (pairs_of self.old) ram.old) }
-        ensures tracked { ArePart (tables_of (pairs_of self.new)) (tables_of (pairs_of self.old)) }
-        ensures untracked { is_among frame (tables_of (pairs_of self.new)) ≡ false }
+        ensures slots { KeepsSlots (pairs_of self.old) (pairs_of self.new) ram.old ram.new }
+        ensures frees { Frees frame (pairs_of self.old) (pairs_of self.new) }
         ensures roots { (side : Side) → directory_of (pairs_of self.new) side ≡ directory_of (pairs_of self.old) side }
         ensures fewer { length (free_list pool.old ram.old) ≤ length (free_list pool.new ram.new) }
         ensures owns { Owns pool.new ram.new (frames_of (pairs_of self.new) ram.new) }
-        ensures moves { Moves pool.old pool.new ram.old ram.new (frames_of (pairs_of self.old) ram.old) (frames_of (pairs_of self.new) ram.new) }
-        ensures told { (value : ℕ) (calls : List RootsCall) → Agree value calls (pairs_of self.old) ram.old → Agree value (calls ++ Shared (Written frame) ∷ []) (pairs_of self.new) ram.new }
+        ensures moves { Moves pool.old pool.new ram.old ram.new
+            (frames_of (pairs_of self.old) ram.old) (frames_of (pairs_of self.new) ram.new) }
+        ensures told { GoesOn (Shared (Written frame)) (pairs_of self.old) (pairs_of self.new) ram.old ram.new }
     {
         leave_readers(&mut self.others, ram, pool, frame);
         self.present.write(frame);

@@ -1,6 +1,8 @@
 -- What is kept for a page after a call, where o was kept before and no frame is barred from writes.
-use Rattle.std.specs.Prelude.{ℕ, List, [], ◌∷◌, Option, Some, None, false, ◌==◌, ◌/◌, if◌then◌else◌}
-use Rattle.shadow_tables.specs.Slots.{Slot, filled}
+use Rattle.std.specs.Prelude.{◌≡◌, ℕ, ◌^◌, ◌<◌, ◌↔◌, List, [], ◌∷◌, Bool, Option, Some, None, true, false, ◌==◌, ◌/◌, if◌then◌else◌}
+use Rattle.shadow_tables.specs.Slots.{Slot, filled, is_adequate}
+use Rattle.shadow_tables.specs.Calls.{IsAdequateAfter, IsWithin, Follows}
+use Rattle.shadow_tables.specs.declared.words.Side.{Side}
 use Rattle.shadow_tables.specs.declared.calls.Call.{Call}
 use Rattle.shadow_tables.specs.declared.calls.Call.TheVariants.{Fill, DropPage, DropDir, DropAll, Note, Written}
 
@@ -15,3 +17,32 @@ after_call (Written frame) page o = o
 abbrev pub after : List Call → ℕ → Option Slot → Option Slot
 after [] page o = o
 after (c ∷ cs) page o = after cs page (after_call c page o)
+
+-- shadows that bar no frame from writes
+module _ {S : Type 0} where
+  abbrev pub TracksNone : (S → List ℕ) → Type 0
+  TracksNone tracked = (s : S) → tracked s ≡ []
+
+-- ---- over all pages, of what was kept and what is kept now
+
+-- it is what the call leaves, or the same with less right to write
+abbrev pub IsWithinCall : Call → (old new : ℕ → Option Slot) → Type 0
+IsWithinCall call old new = (page : ℕ) → page < 2 ^ 20 → IsWithin (new page) (after_call call page (old page))
+
+-- it is just what the call leaves
+abbrev pub IsAfterCall : Call → (old new : ℕ → Option Slot) → Type 0
+IsAfterCall call old new = (page : ℕ) → page < 2 ^ 20 → new page ≡ after_call call page (old page)
+
+-- it is just what the calls leave
+abbrev pub IsAfterAll : List Call → (old new : ℕ → Option Slot) → Type 0
+IsAfterAll calls old new = (page : ℕ) → page < 2 ^ 20 → new page ≡ after calls page (old page)
+
+-- it follows the calls
+abbrev pub AllFollow : List Call → (old new : ℕ → Option Slot) → Type 0
+AllFollow calls old new = (page : ℕ) → page < 2 ^ 20 → Follows calls page (old page) (new page)
+
+-- an access is adequate exactly where the calls make it so
+abbrev pub AllAdequateAfter : List Call → (old new : ℕ → Option Slot) → Type 0
+AllAdequateAfter calls old new =
+    (page : ℕ) → page < 2 ^ 20 → (side : Side) (write : Bool)
+    → (is_adequate (new page) side write ≡ true) ↔ IsAdequateAfter calls page (old page) side write

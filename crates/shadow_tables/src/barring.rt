@@ -16,7 +16,8 @@ use shadow_views::{has_table, look, set};
 fn bar_word(ram: &mut Ram, root: u32, page: u32, frame: u32)
     requires view { IsView ram.old root }
     requires page { page < 2 ^ 20 }
-    ensures puts { (rs : List ℕ) → Holds ram.old (owned ram.old rs) → IsIn root rs → Puts ram.old ram.new rs root page (barred_word frame (at ram.old root page)) }
+    ensures puts { (rs : List ℕ) → Holds ram.old (owned ram.old rs) → IsIn root rs
+        → Puts ram.old ram.new rs root page (barred_word frame (at ram.old root page)) }
 {
     let word = look(ram, root, page);
     if word / 4096 == frame && word / 2 % 2 == 1 {
@@ -42,7 +43,8 @@ impl Shadow {
     fn bar_dir(&self, ram: &mut Ram, index: u32, frame: u32)
         requires shadow { IsShadow self.now ram.old }
         requires index { index < 1024 }
-        ensures { Sweeps self.now ram.old ram.new (1024 * index) (1024 * index + 1024) (λ page. barred (frame ∷ []) (slot_at self.now ram.old page)) }
+        ensures { Sweeps self.now ram.old ram.new (1024 * index) (1024 * index + 1024)
+            (λ page. barred (frame ∷ []) (slot_at self.now ram.old page)) }
     {
         let kernel = has_table(ram, self.root(Side::Kernel), index);
         let user = has_table(ram, self.root(Side::User), index);

@@ -1,12 +1,11 @@
 //! Lists of calls.
 
-ghost use Rattle.std.specs.Prelude.{◌≡◌, ℕ, ◌+◌, ◌≤◌, ◌<◌, ◌^◌, ◌↔◌, [], length, take, drop, Bool, true, IsTrue};
+ghost use Rattle.std.specs.Prelude.{◌≡◌, ◌+◌, ◌≤◌, ◌<◌, [], length, take, drop, IsTrue};
 ghost use Rattle.frame_pool.specs.Pool.{free_list};
 ghost use Rattle.frame_pool.specs.Held.{Owns, Moves};
-ghost use Rattle.shadow_tables.specs.Calls.{IsFit, AreFit, fill_count, fills, BeginsWithFill, IsWithin, IsAdequateAfter, Follows};
-ghost use Rattle.shadow_tables.specs.Steps.{after, after_call};
-ghost use Rattle.shadow_tables.specs.Slots.{is_adequate};
-ghost use Rattle.shadow_tables.specs.declared.words.Side.{Side};
+ghost use Rattle.shadow_tables.specs.Calls.{IsFit, AreFit, fill_count, fills, BeginsWithFill};
+ghost use Rattle.shadow_tables.specs.Steps.{TracksNone, IsWithinCall, IsAfterCall, IsAfterAll, AllFollow, AllAdequateAfter};
+ghost use Rattle.shadow_tables.specs.Slots.{SameSlots};
 
 use crate::shadows::Shadows;
 use crate::words::Side;
@@ -35,9 +34,9 @@ fn apply<S: Shadows>(shadows: &mut S, ram: &mut Ram, pool: &mut Pool, call: Call
     ensures done { fill_count call ≤ length (free_list pool.old ram.old) → IsTrue result }
     ensures undone { (IsTrue result → ⊥) → (fill_count call ≡ 1) × (free_list pool.new ram.new ≡ []) }
     ensures left { length (free_list pool.old ram.old) ≤ length (free_list pool.new ram.new) + fill_count call }
-    ensures same { (IsTrue result → ⊥) → (page : ℕ) → page < 2 ^ 20 → S.slots shadows.new ram.new page ≡ S.slots shadows.old ram.old page }
-    ensures within { IsTrue result → (page : ℕ) → page < 2 ^ 20 → IsWithin (S.slots shadows.new ram.new page) (after_call call page (S.slots shadows.old ram.old page)) }
-    ensures slots { IsTrue result → ((s : S) → S.tracked s ≡ []) → (page : ℕ) → page < 2 ^ 20 → S.slots shadows.new ram.new page ≡ after_call call page (S.slots shadows.old ram.old page) }
+    ensures same { (IsTrue result → ⊥) → SameSlots (S.slots shadows.old ram.old) (S.slots shadows.new ram.new) }
+    ensures within { IsTrue result → IsWithinCall call (S.slots shadows.old ram.old) (S.slots shadows.new ram.new) }
+    ensures slots { IsTrue result → TracksNone S.tracked → IsAfterCall call (S.slots shadows.old ram.old) (S.slots shadows.new ram.new) }
 {
     match call {
         Call::Fill(side, entry, wp) => {
@@ -69,10 +68,10 @@ pub fn replay<S: Shadows>(shadows: &mut S, ram: &mut Ram, pool: &mut Pool, calls
     ensures some { result ≤ length calls.now }
     ensures all { fills calls.now ≤ length (free_list pool.old ram.old) → result ≡ length calls.now }
     ensures stopped { result < length calls.now → BeginsWithFill (drop result calls.now) × (free_list pool.new ram.new ≡ []) }
-    ensures law { (page : ℕ) → page < 2 ^ 20 → Follows (take result calls.now) page (S.slots shadows.old ram.old page) (S.slots shadows.new ram.new page) }
-    ensures slots { ((s : S) → S.tracked s ≡ []) → (page : ℕ) → page < 2 ^ 20 → S.slots shadows.new ram.new page ≡ after (take result calls.now) page (S.slots shadows.old ram.old page) }
-    ensures adequate { ((s : S) → S.tracked s ≡ []) → (page : ℕ) → page < 2 ^ 20 → (side : Side) (write : Bool)
-        → (is_adequate (S.slots shadows.new ram.new page) side write ≡ true) ↔ IsAdequateAfter (take result calls.now) page (S.slots shadows.old ram.old page) side write }
+    ensures law { AllFollow (take result calls.now) (S.slots shadows.old ram.old) (S.slots shadows.new ram.new) }
+    ensures slots { TracksNone S.tracked → IsAfterAll (take result calls.now) (S.slots shadows.old ram.old) (S.slots shadows.new ram.new) }
+    ensures adequate { TracksNone S.tracked
+        → AllAdequateAfter (take result calls.now) (S.slots shadows.old ram.old) (S.slots shadows.new ram.new) }
 {
     let mut count = 0;
     for call in calls {

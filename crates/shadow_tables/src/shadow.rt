@@ -46,7 +46,8 @@ fn open(ram: &mut Ram, pool: &mut Pool, root: u32, index: u32)
     requires index { index < 1024 }
     requires stands { Stands pool.old ram.old }
     requires free { 1 ≤ length (free_list pool.old ram.old) }
-    ensures opens { (rs : List ℕ) → Owns pool.old ram.old (owned ram.old rs) → IsIn root rs → Opens pool.old pool.new ram.old ram.new rs root index }
+    ensures opens { (rs : List ℕ) → Owns pool.old ram.old (owned ram.old rs) → IsIn root rs
+        → Opens pool.old pool.new ram.old ram.new rs root index }
     ensures there { dir ram.old root index ≢ 0 → (pool.new ≡ pool.old) × (ram.new ≡ ram.old) }
 {
     if !has_table(ram, root, index) {
@@ -132,7 +133,8 @@ impl Shadow {
         ensures held { held self.old ram.new ≡ held self.old ram.old }
         ensures tables { KeepsTables self.old ram.old ram.new }
         ensures memory { Writes (held self.old ram.old) ram.old ram.new }
-        ensures moves { (p : Pool) → Owns p ram.old (held self.old ram.old) → Moves p p ram.old ram.new (held self.old ram.old) (held self.old ram.new) }
+        ensures moves { (p : Pool) → Owns p ram.old (held self.old ram.old)
+            → Moves p p ram.old ram.new (held self.old ram.old) (held self.old ram.new) }
     {
         clear(ram, self.kernel, page);
         clear(ram, self.user, page);
@@ -149,7 +151,8 @@ impl Shadow {
         ensures held { held self.old ram.new ≡ held self.old ram.old }
         ensures tables { KeepsTables self.old ram.old ram.new }
         ensures memory { Writes (held self.old ram.old) ram.old ram.new }
-        ensures moves { (p : Pool) → Owns p ram.old (held self.old ram.old) → Moves p p ram.old ram.new (held self.old ram.old) (held self.old ram.new) }
+        ensures moves { (p : Pool) → Owns p ram.old (held self.old ram.old)
+            → Moves p p ram.old ram.new (held self.old ram.old) (held self.old ram.new) }
     {
         for word in 0..1024 {
             self.drop_page(ram, 1024 * index + word);

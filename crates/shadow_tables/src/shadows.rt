@@ -92,7 +92,8 @@ pub trait Shadows {
         ensures roots { (side : Side) → directory self.new side ≡ directory self.old side }
         ensures frames { frames self.new ram.new ≡ frames self.old ram.old }
         ensures memory { Writes (frames self.old ram.old) ram.old ram.new }
-        ensures moves { (p : Pool) → Owns p ram.old (frames self.old ram.old) → Moves p p ram.old ram.new (frames self.old ram.old) (frames self.new ram.new) };
+        ensures moves { (p : Pool) → Owns p ram.old (frames self.old ram.old)
+            → Moves p p ram.old ram.new (frames self.old ram.old) (frames self.new ram.new) };
 
     /// Drops every page of a directory index in both views. The frames of tables stay held.
     fn drop_dir(&mut self, ram: &mut Ram, index: u32)
@@ -110,7 +111,8 @@ pub trait Shadows {
         ensures roots { (side : Side) → directory self.new side ≡ directory self.old side }
         ensures frames { frames self.new ram.new ≡ frames self.old ram.old }
         ensures memory { Writes (frames self.old ram.old) ram.old ram.new }
-        ensures moves { (p : Pool) → Owns p ram.old (frames self.old ram.old) → Moves p p ram.old ram.new (frames self.old ram.old) (frames self.new ram.new) };
+        ensures moves { (p : Pool) → Owns p ram.old (frames self.old ram.old)
+            → Moves p p ram.old ram.new (frames self.old ram.old) (frames self.new ram.new) };
 
     /// Drops the page in both views, and then holds it in one, with the host's rights that `allows` gives that view
     /// under `wp`. A tracked frame is held without the right to write.
@@ -121,14 +123,16 @@ pub trait Shadows {
         requires page { entry.page < 2 ^ 20 }
         requires frame { entry.frame < 2 ^ 20 }
         ensures stands { ∥ stands self.new ram.new ∥₁ }
-        ensures turns { Turns (slots self.old ram.old) (slots self.new ram.new) entry.page (Some (filled (is_among entry.frame (tracked self.old)) side entry wp)) }
+        ensures turns { Turns (slots self.old ram.old) (slots self.new ram.new) entry.page
+            (Some (filled (is_among entry.frame (tracked self.old)) side entry wp)) }
         ensures entries { entries_of (slots self.new ram.new) ≡ insert (entries_of (slots self.old ram.old)) entry.page entry }
         ensures noted { (f : ℕ) → noted self.new f ≡ noted self.old f }
         ensures marked { marked self.new ≡ marked self.old }
         ensures value { value self.new ≡ value self.old }
         ensures asides { AreSame (asides self.old ram.old) (asides self.new ram.new) }
         ensures tracked { tracked self.new ≡ tracked self.old }
-        ensures opened { (indices : ℕ → Bool) → indices (entry.page / 1024) ≡ true → opened self.old ram.old indices → opened self.new ram.new indices }
+        ensures opened { (indices : ℕ → Bool) → indices (entry.page / 1024) ≡ true
+            → opened self.old ram.old indices → opened self.new ram.new indices }
         ensures roots { (side : Side) → directory self.new side ≡ directory self.old side }
         ensures one { length (free_list pool.old ram.old) ≤ length (free_list pool.new ram.new) + 1 }
         ensures owns { Owns pool.new ram.new (frames self.new ram.new) }
@@ -169,7 +173,8 @@ pub trait Shadows {
         ensures roots { (side : Side) → directory self.new side ≡ directory self.old side }
         ensures frames { frames self.new ram.new ≡ frames self.old ram.old }
         ensures memory { Writes (frames self.old ram.old) ram.old ram.new }
-        ensures moves { (p : Pool) → Owns p ram.old (frames self.old ram.old) → Moves p p ram.old ram.new (frames self.old ram.old) (frames self.new ram.new) };
+        ensures moves { (p : Pool) → Owns p ram.old (frames self.old ram.old)
+            → Moves p p ram.old ram.new (frames self.old ram.old) (frames self.new ram.new) };
 
     /// A byte of this frame was written, or is about to be. The frame isn't tracked any more; what is kept stays.
     fn written(&mut self, ram: &mut Ram, pool: &mut Pool, frame: u32)
@@ -198,16 +203,21 @@ pub trait Shadows {
     ghost two: { (s : Self) (m : List ℕ) → ∥ stands s m ∥₁ → 2 ≤ length (frames s m) };
 
     /// A walk of a view reads no other frames.
-    ghost walked: { (s : Self) (m : List ℕ) (side : Side) (page f : ℕ) → ∥ stands s m ∥₁ → page < 2 ^ 20 → 1 ≤ times f (walk_frames m (directory s side) page) → 1 ≤ times f (frames s m) };
+    ghost walked: { (s : Self) (m : List ℕ) (side : Side) (page f : ℕ) → ∥ stands s m ∥₁ → page < 2 ^ 20
+        → 1 ≤ times f (walk_frames m (directory s side) page) → 1 ≤ times f (frames s m) };
 
     /// Where a host's access leads by a walk of a view's tables as they stand, over all n frames of the memory, is what is kept.
-    ghost host: { (s : Self) (m : List ℕ) (n : ℕ) (side : Side) (page : ℕ) (write : Bool) → ∥ stands s m ∥₁ → 4096 * n ≡ length m → page < 2 ^ 20 → reached m n (directory s side) page write ≡ lent n (slots s m page) side write };
+    ghost host: { (s : Self) (m : List ℕ) (n : ℕ) (side : Side) (page : ℕ) (write : Bool) → ∥ stands s m ∥₁
+        → 4096 * n ≡ length m → page < 2 ^ 20
+        → reached m n (directory s side) page write ≡ lent n (slots s m page) side write };
 
     /// A page's entry is of that page, and can be filled again.
-    ghost fits: { (s : Self) (m : List ℕ) (page : ℕ) (slot : Slot) → ∥ stands s m ∥₁ → page < 2 ^ 20 → slots s m page ≡ Some slot → (slot.entry.page ≡ page) × (slot.entry.frame < 2 ^ 20) };
+    ghost fits: { (s : Self) (m : List ℕ) (page : ℕ) (slot : Slot) → ∥ stands s m ∥₁ → page < 2 ^ 20
+        → slots s m page ≡ Some slot → (slot.entry.page ≡ page) × (slot.entry.frame < 2 ^ 20) };
 
     /// No write to a tracked frame is adequate.
-    ghost barred: { (s : Self) (m : List ℕ) (page : ℕ) (slot : Slot) → ∥ stands s m ∥₁ → page < 2 ^ 20 → slots s m page ≡ Some slot → is_among slot.entry.frame (tracked s) ≡ true → slot.writes ≡ false };
+    ghost barred: { (s : Self) (m : List ℕ) (page : ℕ) (slot : Slot) → ∥ stands s m ∥₁ → page < 2 ^ 20
+        → slots s m page ≡ Some slot → is_among slot.entry.frame (tracked s) ≡ true → slot.writes ≡ false };
 
     /// The same of what is kept for other values of CR3.
     ghost asides_fit: { (s : Self) (m : List ℕ) → ∥ stands s m ∥₁ → AllFit (asides s m) };
@@ -215,7 +225,8 @@ pub trait Shadows {
     ghost asides_barred: { (s : Self) (m : List ℕ) → ∥ stands s m ∥₁ → AllBarred (λ f. is_among f (tracked s)) (asides s m) };
 
     /// The tables that what is kept was read from are tracked, as far as it may come back.
-    ghost noted_tracked: { (s : Self) (frame : ℕ) → marked s ≡ false → noted s frame ≡ true → is_among frame (tracked s) ≡ true };
+    ghost noted_tracked: { (s : Self) (frame : ℕ) → marked s ≡ false → noted s frame ≡ true
+        → is_among frame (tracked s) ≡ true };
 
     ghost asides_tracked: { (s : Self) (m : List ℕ) → AllTracked (λ f. is_among f (tracked s)) (asides s m) };
 
@@ -228,21 +239,35 @@ pub trait Shadows {
 
     ghost same_asides: { (s : Self) (m m' : List ℕ) → ∥ stands s m ∥₁ → SameIn (frames s m) m m' → AreSame (asides s m) (asides s m') };
 
-    ghost same_opened: { (s : Self) (m m' : List ℕ) (indices : ℕ → Bool) → ∥ stands s m ∥₁ → SameIn (frames s m) m m' → opened s m indices → opened s m' indices };
+    ghost same_opened: { (s : Self) (m m' : List ℕ) (indices : ℕ → Bool) → ∥ stands s m ∥₁ → SameIn (frames s m) m m'
+        → opened s m indices → opened s m' indices };
 
-    ghost wider: { (s : Self) (m : List ℕ) (indices more : ℕ → Bool) → ((index : ℕ) → indices index ≡ true → more index ≡ true) → opened s m indices → opened s m more };
+    ghost wider: { (s : Self) (m : List ℕ) (indices more : ℕ → Bool)
+        → ((index : ℕ) → indices index ≡ true → more index ≡ true) → opened s m indices → opened s m more };
 
-    ghost same_entries: { (s : Self) (m m' : List ℕ) → ∥ stands s m ∥₁ → SameIn (frames s m) m m' → entries_of (slots s m') ≡ entries_of (slots s m) } = { λ s m m' h e. laws.same-entries (slots s m) (slots s m') (same_slots s m m' h e) };
+    ghost same_entries: { (s : Self) (m m' : List ℕ) → ∥ stands s m ∥₁ → SameIn (frames s m) m m'
+        → entries_of (slots s m') ≡ entries_of (slots s m) } = { λ s m m' h e.
+            laws.same-entries (slots s m) (slots s m') (same_slots s m m' h e) };
 
     /// The entries as a map: that of a page, and none from the last page on.
-    ghost entry_at: { (s : Self) (m : List ℕ) (page : ℕ) → page < 2 ^ 20 → get (entries_of (slots s m)) page ≡ entry_in (slots s m page) } = { λ s m page l. laws.entry-at (slots s m) page l };
+    ghost entry_at: { (s : Self) (m : List ℕ) (page : ℕ) → page < 2 ^ 20
+        → get (entries_of (slots s m)) page ≡ entry_in (slots s m page) } = { λ s m page l.
+            laws.entry-at (slots s m) page l };
 
-    ghost none_beyond: { (s : Self) (m : List ℕ) (page : ℕ) → 2 ^ 20 ≤ page → get (entries_of (slots s m)) page ≡ None } = { λ s m page l. laws.none-beyond (slots s m) page l };
+    ghost none_beyond: { (s : Self) (m : List ℕ) (page : ℕ) → 2 ^ 20 ≤ page
+        → get (entries_of (slots s m)) page ≡ None } = { λ s m page l.
+            laws.none-beyond (slots s m) page l };
 
     /// No frame of theirs lies below the pool's first: what is written below changes none.
-    ghost above: { (s : Self) (p : Pool) (m m' : List ℕ) (limit : ℕ) → Owns p m (frames s m) → limit ≤ 4096 * base_of p → drop limit m' ≡ drop limit m → length m' ≡ length m → SameIn (frames s m) m m' } = { λ s p m m' limit o l e size. laws.same-above p m m' limit (frames s m) o l e size };
+    ghost above: { (s : Self) (p : Pool) (m m' : List ℕ) (limit : ℕ) → Owns p m (frames s m) → limit ≤ 4096 * base_of p
+        → drop limit m' ≡ drop limit m → length m' ≡ length m → SameIn (frames s m) m m' } = { λ s p m m' limit o l e size.
+            laws.same-above p m m' limit (frames s m) o l e size };
 
-    ghost owned_above: { (s : Self) (p : Pool) (m m' : List ℕ) (limit : ℕ) → ∥ stands s m ∥₁ → Owns p m (frames s m) → limit ≤ 4096 * base_of p → drop limit m' ≡ drop limit m → length m' ≡ length m → Owns p m' (frames s m') } = { λ s p m m' limit h o l e size. laws.owned-above p m m' limit (frames s m) (frames s m') o l e size (same_frames s m m' h (laws.same-above p m m' limit (frames s m) o l e size)) };
+    ghost owned_above: { (s : Self) (p : Pool) (m m' : List ℕ) (limit : ℕ) → ∥ stands s m ∥₁ → Owns p m (frames s m)
+        → limit ≤ 4096 * base_of p → drop limit m' ≡ drop limit m → length m' ≡ length m
+        → Owns p m' (frames s m') } = { λ s p m m' limit h o l e size.
+            laws.owned-above p m m' limit (frames s m) (frames s m') o l e size
+            (same_frames s m m' h (laws.same-above p m m' limit (frames s m) o l e size)) };
 }
 
 impl Shadows for Shadow {

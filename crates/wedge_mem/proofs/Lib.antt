@@ -3,4 +3,5 @@ pub mod Filled
 pub mod Below
 pub mod Passed
 pub mod Plain
+pub mod Rests
 pub mod Told

@@ -1,6 +1,6 @@
 -- A step of a guest's memory as it begins, and an instruction's bytes in two pages.
 use Rattle.std.proofs.Common.{◌≡◌, ℕ, ◌+◌, ◌-◌, ◌*◌, ◌/◌, ◌<◌, ◌≤◌, List, [], length, false, Option, Some, None, refl, sym, ap, ◌∙◌, subst, arith}
-use Rattle.std.specs.Prelude.{nat_le, MatchOption}
+use Rattle.std.specs.Prelude.{nat_le, IsSome, MatchOption}
 use Rattle.std.specs.FinMap.{FinMap, get, empty, get-empty}
 use Rattle.std.specs.Ordering.{nat_cmp}
 use Rattle.std.specs.Option.{ForSome}
@@ -8,17 +8,19 @@ use Rattle.std.proofs.lemmas.Bool.Decides.{nat_tests}
 use Rattle.frame_pool.specs.Held.{Moves, Owns}
 use Rattle.frame_pool.specs.declared.Pool.{Pool}
 use Rattle.paging.specs.declared.entry.Entry.{Entry}
-use Rattle.paging.specs.Space.{Space, Mode, place}
+use Rattle.paging.specs.declared.entry.Touch.{Touch}
+use Rattle.paging.specs.declared.entry.Touch.TheVariants.{Ready}
+use Rattle.paging.specs.Space.{IsReach, Mode, Readied, Space, Span, place}
 use Rattle.paging.specs.Uses.{with_front, with_back}
 use Rattle.step_mem.specs.Changes.{changed, AreWithin}
 use Rattle.step_mem.specs.Guard.{mode_by, IsApart, IsLaid}
-use Rattle.step_mem.specs.Sound.{IsSound, begun}
+use Rattle.step_mem.specs.Sound.{IsSound, begun, space_at}
 use Rattle.step_mem.specs.declared.guard.Own.{Own}
 use Rattle.step_mem.specs.declared.guard.Text.{Text}
 use Rattle.step_mem.specs.declared.state.StepState.{StepState}
 use Rattle.step_mem.specs.declared.walking.Control.{Control}
 use Rattle.wedge_mem.specs.declared.progress.Progress.{Progress}
-use Rattle.wedge_mem.specs.Progress.{Guards, IsGoing, IsPlain, left_in_page, owning, state_by}
+use Rattle.wedge_mem.specs.Progress.{Guards, HasRange, IsGoing, IsPlain, left_in_page, owning, space_in, state_by}
 
 short : (bytes : List ℕ) (n : ℕ) → bytes ≡ [] → length bytes ≤ n
 short bytes n e = rw e (omega arith)
@@ -62,6 +64,15 @@ going_after kept floor stands ram state p sound is by guard h =
       earlier_within = s.earlier_within;
       earlier_reached = s.earlier_reached;
     }
+
+-- what a fetch made ready has entries
+pub found_after : (kept : List ℕ → FinMap nat_cmp Entry) (floor : ℕ) (stands : List ℕ → Type 0) (ram : List ℕ) (state : StepState) (p : Progress) (at len : ℕ) (met : Touch)
+    → IsSound kept floor stands ram state → state ≡ state_by state.guard p → Readied (space_at kept ram state) at len false met → met ≡ Ready → HasRange (space_in kept ram p) at len
+found_after kept floor stands ram state p at len met sound is ready r byte low high =
+    let reach : IsReach (space_at kept ram state) at len false = subst (Readied (space_at kept ram state) at len false) r ready in
+    let start : state.ready.start ≡ at = ap (λ (x : Span). x.start) reach.range in
+    let size : state.ready.len ≡ len = ap (λ (x : Span). x.len) reach.range in
+    subst (λ (t : StepState). IsSome (get (changed (kept ram) t.changes) (byte / 4096))) is (sound.reached byte (omega (arith, start, low)) (omega (arith, start, size, high)))
 
 -- nothing is used yet
 pub going_first : (kept : List ℕ → FinMap nat_cmp Entry) (floor : ℕ) (stands : List ℕ → Type 0) (ram : List ℕ) (p : Progress) (control : Control) (begins : p.state ≡ begun control p.state.guard)

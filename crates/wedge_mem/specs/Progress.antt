@@ -1,7 +1,7 @@
 -- What a step of a guest's memory did so far, over memory as it stands: the frames of the text are kept from data, and
 -- what lies in them is what memory has.
-use Rattle.std.specs.Prelude.{◌≡◌, ℕ, ◌+◌, ◌-◌, ◌%◌, List, [], take, Option, Some, None, nat_le, if◌then◌else◌}
-use Rattle.std.specs.FinMap.{FinMap}
+use Rattle.std.specs.Prelude.{◌≡◌, ℕ, ◌+◌, ◌-◌, ◌/◌, ◌%◌, ◌<◌, ◌≤◌, List, [], take, Option, Some, None, IsSome, nat_le, if◌then◌else◌}
+use Rattle.std.specs.FinMap.{FinMap, get}
 use Rattle.std.specs.Ordering.{nat_cmp}
 use Rattle.paging.specs.declared.entry.Entry.{Entry}
 use Rattle.paging.specs.Space.{Space, Wedge, no_own, place}
@@ -10,10 +10,11 @@ use Rattle.descriptors.specs.declared.cpu.Cpu.{Cpu}
 use Rattle.descriptors.specs.Starting.{space_at_start}
 use Rattle.step_mem.specs.Changes.{changed}
 use Rattle.step_mem.specs.Guard.{own_of}
-use Rattle.step_mem.specs.Shown.{laid}
+use Rattle.step_mem.specs.Shown.{beyond, laid}
 use Rattle.step_mem.specs.Sound.{IsSound}
 use Rattle.step_mem.specs.declared.guard.Guard.{Guard}
 use Rattle.step_mem.specs.declared.guard.Text.{Text}
+use Rattle.step_mem.specs.declared.kept.Kept as kept
 use Rattle.step_mem.specs.declared.state.StepState.{StepState}
 use Rattle.wedge_mem.specs.declared.progress.Progress.{Progress}
 
@@ -33,6 +34,14 @@ state_by guard p = record p.state { guard = guard }
 -- it is sound under each guard of these frames
 abbrev pub IsGoing : (List ℕ → FinMap nat_cmp Entry) → ℕ → (List ℕ → Type 0) → List ℕ → Progress → Type 0
 IsGoing kept floor stands ram p = (guard : Guard) → Guards guard p → IsSound kept floor stands ram (state_by guard p)
+
+-- the same over a keeper of translations, by what it shows
+abbrev pub IsGoingOver : {B : Type 0} → kept.Ghosts B → B → List ℕ → Progress → Type 0
+IsGoingOver g base ram p = IsGoing (g.entries base) (g.floor base) (g.stands base) ram p
+
+-- memory that the step doesn't reach is as it was
+abbrev pub KeepsBeyond : Progress → (ram ram2 : List ℕ) → Type 0
+KeepsBeyond p ram ram2 = beyond p.first p.count p.state.control.frames ram2 ≡ beyond p.first p.count p.state.control.frames ram
 
 -- what it stands for
 abbrev pub space_in : (List ℕ → FinMap nat_cmp Entry) → List ℕ → Progress → Space
@@ -57,6 +66,10 @@ space_in kept ram p =
 abbrev pub space_at_first : List ℕ → FinMap nat_cmp Entry → (frames : ℕ) → Cpu → (first count : ℕ) → Space
 space_at_first ram set frames cpu first count =
     space_at_start (Wedge first count no_own) frames cpu (laid [] first frames ram) set
+
+-- each byte of a range has an entry in the set
+abbrev pub HasRange : Space → (at len : ℕ) → Type 0
+HasRange s at len = (byte : ℕ) → at ≤ byte → byte < at + len → IsSome (get s.set (byte / 4096))
 
 -- how many bytes of a page lie from an address on
 abbrev pub left_in_page : ℕ → ℕ

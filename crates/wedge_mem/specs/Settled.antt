@@ -1,6 +1,6 @@
 -- What the shadows keep once a step is done.
-use Rattle.std.specs.Prelude.{◌≡◌, ℕ, ◌^◌, ◌<◌, List, [], ◌∷◌, ◌++◌, map, Bool, true, false, not, ◌&&◌, Option, Some, None, if◌then◌else◌}
-use Rattle.std.specs.FinMap.{FinMap, get}
+use Rattle.std.specs.Prelude.{◌≡◌, ℕ, ◌^◌, ◌<◌, ◌≤◌, List, [], ◌∷◌, ◌++◌, length, map, Bool, true, false, not, ◌&&◌, ◌==◌, Option, Some, None, MatchOption, if◌then◌else◌}
+use Rattle.std.specs.FinMap.{FinMap, empty, get}
 use Rattle.std.specs.Ordering.{nat_cmp}
 use Rattle.paging.specs.declared.entry.Entry.{Entry}
 use Rattle.guest_ram.specs.Among.{is_among}
@@ -23,10 +23,29 @@ abbrev pub used : FinMap nat_cmp Entry → List ℕ → List ℕ
 used set [] = []
 used set (page ∷ pages) = if has_entry (get set page) && not (is_among page pages) then page ∷ used set pages else used set pages
 
+-- how many frames a fill of the page may take: one where it has an entry, and isn't filled later
+abbrev pub fills_at : FinMap nat_cmp Entry → ℕ → List ℕ → ℕ
+fills_at set page later = if has_entry (get set page) && not (is_among page later) then 1 else 0
+
+-- the entries that the pages have are counted; there is no answer where fewer frames are free
+abbrev pub IsCount : FinMap nat_cmp Entry → List ℕ → (free : ℕ) → Option ℕ → Type 0
+IsCount set pages free result =
+    let count = length (used set pages) in MatchOption result (free < count) (λ n. (n ≡ count) × (count ≤ free))
+
+-- with an answer that set is left, and else none
+abbrev pub LeavesSet : Option ℕ → (left set : FinMap nat_cmp Entry) → Type 0
+LeavesSet result left set = MatchOption result (left ≡ empty) (λ n. left ≡ set)
+
 -- what a fill from an entry makes, where frames of `tracked` are barred from writes
 abbrev pub filled_by : Side → Bool → List ℕ → Option Entry → Option Slot
 filled_by side wp tracked None = None
 filled_by side wp tracked (Some entry) = Some (filled (is_among entry.frame tracked) side entry wp)
+
+-- the same of the set, where the page isn't filled later; of every other what is kept is what was
+abbrev pub FillsLast : (old new : ℕ → Option Slot) → FinMap nat_cmp Entry → (page : ℕ) → (later : List ℕ) → Side → Bool → List ℕ → Type 0
+FillsLast old new set page later side wp tracked =
+    (q : ℕ) → q < 2 ^ 20
+    → new q ≡ (if (q == page) && not (is_among page later) then filled_by side wp tracked (get set page) else old q)
 
 -- Each of these pages is held on that side with its entry of the set, or not at all where it has none. Of the others the
 -- same is kept, with no right that it hadn't.

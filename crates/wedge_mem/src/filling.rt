@@ -1,16 +1,13 @@
 //! Filling the pages of a step.
 
-ghost use Rattle.std.specs.Prelude.{◌≡◌, ◌+◌, ◌*◌, ◌≤◌, ◌<◌, ◌^◌, ℕ, length, true, false, IfSome, ◌==◌, ◌&&◌, not, if◌then◌else◌, Bool, ◌/◌};
+ghost use Rattle.std.specs.Prelude.{◌≡◌, ◌+◌, ◌≤◌, ◌<◌, ◌^◌, length, IfSome, if◌then◌else◌};
 ghost use Rattle.std.specs.FinMap.{get};
 ghost use Rattle.frame_pool.specs.Pool.{free_list};
 ghost use Rattle.frame_pool.specs.Held.{Owns, Moves};
-ghost use Rattle.shadow_tables.specs.Aside.{AreSame};
-ghost use Rattle.shadow_tables.specs.Entries.{entries_of};
-ghost use Rattle.guest_ram.specs.Among.{is_among};
 ghost use Rattle.shadow_tables.specs.Slots.{Turns};
-ghost use Rattle.shadow_tables.specs.declared.words.Side.{Side as View};
-ghost use Rattle.step_mem.specs.Changes.{changed, AreWithin};
-ghost use Rattle.wedge_mem.specs.Settled.{Fills, filled_by, has_entry, used};
+ghost use Rattle.step_mem.specs.Changes.{AreWithin};
+ghost use Rattle.wedge_mem.specs.Seen.{KeepsRest, OpensFor, OpensUnder, set_after};
+ghost use Rattle.wedge_mem.specs.Settled.{Fills, FillsLast, filled_by, fills_at, has_entry, used};
 
 use crate::pages::{entry_of, is_among};
 use frame_pool::Pool;
@@ -35,14 +32,10 @@ fn fill_page<S: Shadows>(
     requires fits { IfSome entry (λ e. (e.page ≡ page) × (e.frame < 2 ^ 20)) }
     requires free { (if has_entry entry then 1 else 0) ≤ length (free_list pool.old ram.old) }
     ensures stands { ∥ S.stands shadows.new ram.new ∥₁ }
-    ensures turns { Turns (S.slots shadows.old ram.old) (S.slots shadows.new ram.new) page (filled_by side wp (S.tracked shadows.old) entry) }
-    ensures tracked { S.tracked shadows.new ≡ S.tracked shadows.old }
-    ensures noted { (frame : ℕ) → S.noted shadows.new frame ≡ S.noted shadows.old frame }
-    ensures marked { S.marked shadows.new ≡ S.marked shadows.old }
-    ensures value { S.value shadows.new ≡ S.value shadows.old }
-    ensures asides { AreSame (S.asides shadows.old ram.old) (S.asides shadows.new ram.new) }
-    ensures opened { (indices : ℕ → Bool) → indices (page / 1024) ≡ true → S.opened shadows.old ram.old indices → S.opened shadows.new ram.new indices }
-    ensures roots { (view : View) → S.directory shadows.new view ≡ S.directory shadows.old view }
+    ensures turns { Turns (S.slots shadows.old ram.old) (S.slots shadows.new ram.new) page
+        (filled_by side wp (S.tracked shadows.old) entry) }
+    ensures rest { KeepsRest S.Shadows shadows.old shadows.new ram.old ram.new }
+    ensures opened { OpensUnder S.Shadows page shadows.old shadows.new ram.old ram.new }
     ensures left { length (free_list pool.old ram.old) ≤ length (free_list pool.new ram.new) + (if has_entry entry then 1 else 0) }
     ensures moves { Moves pool.old pool.new ram.old ram.new (S.frames shadows.old ram.old) (S.frames shadows.new ram.new) }
 {
@@ -65,19 +58,15 @@ fn fill_last<S: Shadows>(
 )
     requires stands { ∥ S.stands shadows.old ram.old ∥₁ }
     requires owns { Owns pool.old ram.old (S.frames shadows.old ram.old) }
-    requires fits { IfSome (get (changed (entries_of (S.slots shadows.old ram.old)) changes.now) page) (λ e. (e.page ≡ page) × (e.frame < 2 ^ 20)) }
-    requires free { (if has_entry (get (changed (entries_of (S.slots shadows.old ram.old)) changes.now) page) && not (is_among page later.now) then 1 else 0) ≤ length (free_list pool.old ram.old) }
+    requires fits { IfSome (get (set_after S.Shadows shadows.old ram.old changes.now) page) (λ e. (e.page ≡ page) × (e.frame < 2 ^ 20)) }
+    requires free { fills_at (set_after S.Shadows shadows.old ram.old changes.now) page later.now ≤ length (free_list pool.old ram.old) }
     ensures stands { ∥ S.stands shadows.new ram.new ∥₁ }
-    ensures slots { (q : ℕ) → q < 2 ^ 20 → S.slots shadows.new ram.new q
-        ≡ (if (q == page) && not (is_among page later.now) then filled_by side wp (S.tracked shadows.old) (get (changed (entries_of (S.slots shadows.old ram.old)) changes.now) page) else S.slots shadows.old ram.old q) }
-    ensures tracked { S.tracked shadows.new ≡ S.tracked shadows.old }
-    ensures noted { (frame : ℕ) → S.noted shadows.new frame ≡ S.noted shadows.old frame }
-    ensures marked { S.marked shadows.new ≡ S.marked shadows.old }
-    ensures value { S.value shadows.new ≡ S.value shadows.old }
-    ensures asides { AreSame (S.asides shadows.old ram.old) (S.asides shadows.new ram.new) }
-    ensures opened { (indices : ℕ → Bool) → indices (page / 1024) ≡ true → S.opened shadows.old ram.old indices → S.opened shadows.new ram.new indices }
-    ensures roots { (view : View) → S.directory shadows.new view ≡ S.directory shadows.old view }
-    ensures left { length (free_list pool.old ram.old) ≤ length (free_list pool.new ram.new) + (if has_entry (get (changed (entries_of (S.slots shadows.old ram.old)) changes.now) page) && not (is_among page later.now) then 1 else 0) }
+    ensures slots { FillsLast (S.slots shadows.old ram.old) (S.slots shadows.new ram.new)
+        (set_after S.Shadows shadows.old ram.old changes.now) page later.now side wp (S.tracked shadows.old) }
+    ensures rest { KeepsRest S.Shadows shadows.old shadows.new ram.old ram.new }
+    ensures opened { OpensUnder S.Shadows page shadows.old shadows.new ram.old ram.new }
+    ensures left { length (free_list pool.old ram.old)
+        ≤ length (free_list pool.new ram.new) + fills_at (set_after S.Shadows shadows.old ram.old changes.now) page later.now }
     ensures moves { Moves pool.old pool.new ram.old ram.new (S.frames shadows.old ram.old) (S.frames shadows.new ram.new) }
 {
     if page >= 0x10_0000 || is_among(page, later) {
@@ -99,17 +88,13 @@ pub fn fill_pages<S: Shadows>(
 )
     requires stands { ∥ S.stands shadows.old ram.old ∥₁ }
     requires owns { Owns pool.old ram.old (S.frames shadows.old ram.old) }
-    requires within { AreWithin 1048576 (changed (entries_of (S.slots shadows.old ram.old)) changes.now) }
-    requires free { length (used (changed (entries_of (S.slots shadows.old ram.old)) changes.now) pages.now) ≤ length (free_list pool.old ram.old) }
+    requires within { AreWithin 1048576 (set_after S.Shadows shadows.old ram.old changes.now) }
+    requires free { length (used (set_after S.Shadows shadows.old ram.old changes.now) pages.now) ≤ length (free_list pool.old ram.old) }
     ensures stands { ∥ S.stands shadows.new ram.new ∥₁ }
-    ensures fills { Fills (S.slots shadows.old ram.old) (S.slots shadows.new ram.new) (changed (entries_of (S.slots shadows.old ram.old)) changes.now) pages.now side wp (S.tracked shadows.old) }
-    ensures tracked { S.tracked shadows.new ≡ S.tracked shadows.old }
-    ensures noted { (frame : ℕ) → S.noted shadows.new frame ≡ S.noted shadows.old frame }
-    ensures marked { S.marked shadows.new ≡ S.marked shadows.old }
-    ensures value { S.value shadows.new ≡ S.value shadows.old }
-    ensures asides { AreSame (S.asides shadows.old ram.old) (S.asides shadows.new ram.new) }
-    ensures opened { (indices : ℕ → Bool) → ((page : ℕ) → is_among page pages.now ≡ true → indices (page / 1024) ≡ true) → S.opened shadows.old ram.old indices → S.opened shadows.new ram.new indices }
-    ensures roots { (view : View) → S.directory shadows.new view ≡ S.directory shadows.old view }
+    ensures fills { Fills (S.slots shadows.old ram.old) (S.slots shadows.new ram.new)
+        (set_after S.Shadows shadows.old ram.old changes.now) pages.now side wp (S.tracked shadows.old) }
+    ensures rest { KeepsRest S.Shadows shadows.old shadows.new ram.old ram.new }
+    ensures opened { OpensFor S.Shadows pages.now shadows.old shadows.new ram.old ram.new }
     ensures moves { Moves pool.old pool.new ram.old ram.new (S.frames shadows.old ram.old) (S.frames shadows.new ram.new) }
 {
     for i in 0..pages.len() {

@@ -27,9 +27,12 @@ impl<'a, S: Shadows> Kept for Lent<'a, S> {
 
     ghost stands = { λ k ram. (∥ S.stands k.shadows.now ram ∥₁) × Owns k.pool.now ram (S.frames k.shadows.now ram) };
 
-    ghost apart = { λ k limit old new h same len s. S.same_entries k.shadows.now old new (laws.first s) (S.above k.shadows.now k.pool.now old new limit (laws.owns s) h same len) };
+    ghost apart = { λ k limit old new h same len s.
+        S.same_entries k.shadows.now old new (laws.first s) (S.above k.shadows.now k.pool.now old new limit (laws.owns s) h same len) };
 
-    ghost stays = { λ k limit old new h same len s. laws.both (S.stays k.shadows.now old new (laws.first s) (S.above k.shadows.now k.pool.now old new limit (laws.owns s) h same len)) (S.owned_above k.shadows.now k.pool.now old new limit (laws.first s) (laws.owns s) h same len) };
+    ghost stays = { λ k limit old new h same len s.
+        laws.both (S.stays k.shadows.now old new (laws.first s) (S.above k.shadows.now k.pool.now old new limit (laws.owns s) h same len))
+        (S.owned_above k.shadows.now k.pool.now old new limit (laws.first s) (laws.owns s) h same len) };
 
     fn entry(&self, ram: &Ram, page: u32) -> Option<Entry> {
         if page >= 0x10_0000 {

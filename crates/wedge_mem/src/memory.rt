@@ -1,22 +1,18 @@
 //! The guest's memory of one step of a patched run.
 
 ghost use Rattle.std.proofs.Props.{props};
-ghost use Rattle.std.specs.Prelude.{◌≡◌, ℕ, ◌+◌, ◌*◌, ◌/◌, ◌%◌, ◌≤◌, ◌<◌, ◌^◌, length, take, true, false, ◌||◌, [], IfSome, IsSome, MatchOption};
-ghost use Rattle.std.specs.FinMap.{empty, get};
-ghost use Rattle.std.specs.List.{list_any};
+ghost use Rattle.std.specs.Prelude.{◌≡◌, ◌+◌, ◌*◌, ◌/◌, ◌%◌, ◌≤◌, ◌^◌, length, take, false};
 ghost use Rattle.frame_pool.specs.Held.{Moves, Owns};
 ghost use Rattle.frame_pool.specs.Pool.{base_of, free_list};
-ghost use Rattle.paging.specs.Fresh.{has};
 ghost use Rattle.paging.specs.Space.{Readied};
 ghost use Rattle.paging.specs.Uses.{fetches};
-ghost use Rattle.shadow_tables.specs.Aside.{LoseWrites, all_spared};
 ghost use Rattle.shadow_tables.specs.Entries.{entries_of};
-ghost use Rattle.guest_ram.specs.Among.{is_among};
 ghost use Rattle.step_mem.specs.Changes.{AreWithin};
 ghost use Rattle.step_mem.specs.Shown.{beyond};
-ghost use Rattle.wedge_mem.specs.Progress.{IsGoing, owning, space_at_first, space_in};
-ghost use Rattle.wedge_mem.specs.Settled.{Settles, pages_of, used};
-ghost use Rattle.wedge_mem.specs.Told.{guest_frames, read_by};
+ghost use Rattle.wedge_mem.specs.Finished.{IsSettled};
+ghost use Rattle.wedge_mem.specs.Progress.{HasRange, owning, space_at_first, space_in};
+ghost use Rattle.wedge_mem.specs.Seen.{IsGoingBy};
+ghost use Rattle.wedge_mem.specs.Settled.{IsCount, pages_of};
 
 use crate::lent::Lent;
 use crate::progress::Progress;
@@ -38,7 +34,7 @@ pub struct WedgeMem<'a, S: Shadows> {
     shadows: &'a mut S,
     step: Progress,
     ghost laid: { step.first + step.count ≤ step.state.control.frames } by { Prim.hlevel props },
-    ghost going: { IsGoing (λ m. entries_of (S.slots shadows.now m)) (4096 * base_of pool.now) (λ m. (∥ S.stands shadows.now m ∥₁) × Owns pool.now m (S.frames shadows.now m)) ram.now step } by { Prim.hlevel props },
+    ghost going: { IsGoingBy S.Shadows shadows.now pool.now ram.now step } by { Prim.hlevel props },
 }
 
 impl<'a, S: Shadows> WedgeMem<'a, S> {
@@ -85,9 +81,12 @@ impl<'a, S: Shadows> WedgeMem<'a, S> {
     pub fn fetch(&mut self, at: u32, len: u32, user: bool) -> Touch
         requires room { (⟦<WedgeMem<'a, S> as GuestMem>⟧.space self.old).pages ≤ 63 }
         requires one { at % 4096 + len ≤ 4096 }
-        ensures fetches { fetches (⟦<WedgeMem<'a, S> as GuestMem>⟧.space self.old) at len user ≡ (result, ⟦<WedgeMem<'a, S> as GuestMem>⟧.space self.new) }
-        ensures pages { (⟦<WedgeMem<'a, S> as GuestMem>⟧.space self.new).pages ≤ (⟦<WedgeMem<'a, S> as GuestMem>⟧.space self.old).pages + 1 }
+        ensures fetches { fetches (⟦<WedgeMem<'a, S> as GuestMem>⟧.space self.old) at len user
+            ≡ (result, ⟦<WedgeMem<'a, S> as GuestMem>⟧.space self.new) }
+        ensures pages { (⟦<WedgeMem<'a, S> as GuestMem>⟧.space self.new).pages
+            ≤ (⟦<WedgeMem<'a, S> as GuestMem>⟧.space self.old).pages + 1 }
         ensures ready { Readied (⟦<WedgeMem<'a, S> as GuestMem>⟧.space self.new) at len false result }
+        ensures found { result ≡ Touch.Ready → HasRange (⟦<WedgeMem<'a, S> as GuestMem>⟧.space self.new) at len }
         ensures frame { ⟦<WedgeMem<'a, S> as GuestMem>⟧.frame self.new ≡ ⟦<WedgeMem<'a, S> as GuestMem>⟧.frame self.old }
     {
         let lent = Lent {
@@ -102,7 +101,7 @@ impl<'a, S: Shadows> WedgeMem<'a, S> {
         requires some { 1 ≤ len }
         requires short { len ≤ 4096 }
         requires fits { at + len ≤ 2 ^ 32 }
-        requires found { (byte : ℕ) → at ≤ byte → byte < at + len → IsSome (get (⟦<WedgeMem<'a, S> as GuestMem>⟧.space self.old).set (byte / 4096)) }
+        requires found { HasRange (⟦<WedgeMem<'a, S> as GuestMem>⟧.space self.old) at len }
         ensures owns { ⟦<WedgeMem<'a, S> as GuestMem>⟧.space self.new ≡ owning (⟦<WedgeMem<'a, S> as GuestMem>⟧.space self.old) at len }
         ensures frame { ⟦<WedgeMem<'a, S> as GuestMem>⟧.frame self.new ≡ ⟦<WedgeMem<'a, S> as GuestMem>⟧.frame self.old }
     {
@@ -118,23 +117,18 @@ impl<'a, S: Shadows> WedgeMem<'a, S> {
     pub fn finish(&mut self, side: Side) -> Option<u32>
         ensures stands { ∥ S.stands self.new.shadows.now self.new.ram.now ∥₁ }
         ensures owns { Owns self.new.pool.now self.new.ram.now (S.frames self.new.shadows.now self.new.ram.now) }
-        ensures moves { Moves self.old.pool.now self.new.pool.now self.old.ram.now self.new.ram.now (S.frames self.old.shadows.now self.old.ram.now) (S.frames self.new.shadows.now self.new.ram.now) }
-        ensures count { let set = (⟦<WedgeMem<'a, S> as GuestMem>⟧.space self.old).set in
-            let count = length (used set (pages_of self.old.step.state.visited self.old.step.state.changes)) in
-            MatchOption result (length (free_list self.old.pool.now self.old.ram.now) < count) (λ n. (n ≡ count) × (count ≤ length (free_list self.old.pool.now self.old.ram.now))) }
-        ensures entries { MatchOption result (entries_of (S.slots self.new.shadows.now self.new.ram.now) ≡ empty)
-            (λ n. entries_of (S.slots self.new.shadows.now self.new.ram.now) ≡ (⟦<WedgeMem<'a, S> as GuestMem>⟧.space self.old).set) }
-        ensures filled { IfSome result (λ n. Settles (S.slots self.old.shadows.now self.old.ram.now) (S.slots self.new.shadows.now self.new.ram.now) (⟦<WedgeMem<'a, S> as GuestMem>⟧.space self.old).set
-            (pages_of self.old.step.state.visited self.old.step.state.changes) side (⟦<WedgeMem<'a, S> as GuestMem>⟧.space self.old).wp (S.tracked self.new.shadows.now)) }
-        ensures noted { IsSome result → (frame : ℕ) → is_among frame self.old.step.state.wrote ≡ false → S.noted self.new.shadows.now frame ≡ read_by (S.noted self.old.shadows.now) self.old.step.state.tables frame }
-        ensures noted_only { (frame : ℕ) → S.noted self.new.shadows.now frame ≡ true → read_by (S.noted self.old.shadows.now) self.old.step.state.tables frame ≡ true }
-        ensures marked { MatchOption result (S.marked self.new.shadows.now ≡ true → S.marked self.old.shadows.now ≡ true)
-            (λ n. S.marked self.new.shadows.now ≡ (S.marked self.old.shadows.now || list_any (read_by (S.noted self.old.shadows.now) self.old.step.state.tables) self.old.step.state.wrote)) }
-        ensures value { S.value self.new.shadows.now ≡ S.value self.old.shadows.now }
-        ensures asides { MatchOption result (S.asides self.new.shadows.now self.new.ram.now ≡ [])
-            (λ n. LoseWrites (guest_frames self.old.step.state.tables) (all_spared self.old.step.state.wrote (S.asides self.old.shadows.now self.old.ram.now)) (S.asides self.new.shadows.now self.new.ram.now)) }
-        ensures guest { take (4096 * base_of self.old.pool.now) self.new.ram.now ≡ take (4096 * base_of self.old.pool.now) self.old.ram.now }
-        ensures begins { ((⟦<WedgeMem<'a, S> as GuestMem>⟧.space self.new).pages ≡ 0) × ((⟦<WedgeMem<'a, S> as GuestMem>⟧.space self.new).set ≡ entries_of (S.slots self.new.shadows.now self.new.ram.now)) }
+        ensures moves { Moves self.old.pool.now self.new.pool.now self.old.ram.now self.new.ram.now
+            (S.frames self.old.shadows.now self.old.ram.now) (S.frames self.new.shadows.now self.new.ram.now) }
+        ensures count { IsCount (⟦<WedgeMem<'a, S> as GuestMem>⟧.space self.old).set
+            (pages_of self.old.step.state.visited self.old.step.state.changes)
+            (length (free_list self.old.pool.now self.old.ram.now)) result }
+        ensures settled { IsSettled S.Shadows self.old.shadows.now self.new.shadows.now self.old.ram.now self.new.ram.now
+            (⟦<WedgeMem<'a, S> as GuestMem>⟧.space self.old)
+            (pages_of self.old.step.state.visited self.old.step.state.changes) side result }
+        ensures guest { take (4096 * base_of self.old.pool.now) self.new.ram.now
+            ≡ take (4096 * base_of self.old.pool.now) self.old.ram.now }
+        ensures begins { ((⟦<WedgeMem<'a, S> as GuestMem>⟧.space self.new).pages ≡ 0)
+            × ((⟦<WedgeMem<'a, S> as GuestMem>⟧.space self.new).set ≡ entries_of (S.slots self.new.shadows.now self.new.ram.now)) }
         ensures same_memory { self.new.ram.ghost_name ≡ self.old.ram.ghost_name }
         ensures same_pool { self.new.pool.ghost_name ≡ self.old.pool.ghost_name }
         ensures same_shadows { self.new.shadows.ghost_name ≡ self.old.shadows.ghost_name }
@@ -154,7 +148,17 @@ impl<'a, S: Shadows> GuestMem for WedgeMem<'a, S> {
     /// of the text, and what the step doesn't reach.
     type Frame = (u64, u64, u64, S, Pool, Control, u32, u32, Ram);
 
-    ghost frame = { λ w. (w.ram.ghost_name, w.pool.ghost_name, w.shadows.ghost_name, w.shadows.now, w.pool.now, w.step.state.control, w.step.first, w.step.count, beyond w.step.first w.step.count w.step.state.control.frames w.ram.now) };
+    ghost frame = { λ w. (
+      w.ram.ghost_name,
+      w.pool.ghost_name,
+      w.shadows.ghost_name,
+      w.shadows.now,
+      w.pool.now,
+      w.step.state.control,
+      w.step.first,
+      w.step.count,
+      beyond w.step.first w.step.count w.step.state.control.frames w.ram.now,
+    ) };
 
     fn touch(&mut self, at: u32, len: u32, access: Access) -> Touch {
         let lent = Lent {

@@ -4,7 +4,8 @@ ghost use Rattle.std.specs.Prelude.{◌≡◌, ◌+◌, ◌<◌, ◌≤◌, ◌^
 ghost use Rattle.std.specs.FinMap.{get};
 ghost use Rattle.shadow_tables.specs.Entries.{entries_of};
 ghost use Rattle.guest_ram.specs.Among.{is_among};
-ghost use Rattle.step_mem.specs.Changes.{changed, AreOfPages};
+ghost use Rattle.step_mem.specs.Changes.{AreOfPages};
+ghost use Rattle.wedge_mem.specs.Seen.{set_after};
 ghost use Rattle.wedge_mem.specs.Settled.{has_entry, pages_of, used};
 
 use guest_ram::Ram;
@@ -40,7 +41,7 @@ pub fn is_among(page: u32, pages: &[u32]) -> bool
 /// The entry that the step left the page.
 pub fn entry_of<S: Shadows>(shadows: &S, ram: &Ram, changes: &Changes, page: u32) -> Option<Entry>
     requires { ∥ S.stands shadows.now ram.now ∥₁ }
-    ensures { result ≡ get (changed (entries_of (S.slots shadows.now ram.now)) changes.now) page }
+    ensures { result ≡ get (set_after S.Shadows shadows.now ram.now changes.now) page }
 {
     match last_change(changes.as_slice(), page) {
         Some(entry) => entry,
@@ -61,7 +62,7 @@ fn kept<S: Shadows>(shadows: &S, ram: &Ram, page: u32) -> Option<Entry>
 /// The page has an entry, and isn't among the later ones.
 fn is_used<S: Shadows>(shadows: &S, ram: &Ram, changes: &Changes, page: u32, later: &[u32]) -> bool
     requires { ∥ S.stands shadows.now ram.now ∥₁ }
-    ensures { result ≡ has_entry (get (changed (entries_of (S.slots shadows.now ram.now)) changes.now) page) && not (is_among page later.now) }
+    ensures { result ≡ has_entry (get (set_after S.Shadows shadows.now ram.now changes.now) page) && not (is_among page later.now) }
 {
     entry_of(shadows, ram, changes, page).is_some() && !is_among(page, later)
 }
@@ -70,7 +71,7 @@ fn is_used<S: Shadows>(shadows: &S, ram: &Ram, changes: &Changes, page: u32, lat
 pub fn count_used<S: Shadows>(shadows: &S, ram: &Ram, changes: &Changes, pages: &[u32]) -> u32
     requires stands { ∥ S.stands shadows.now ram.now ∥₁ }
     requires few { length pages.now ≤ 128 }
-    ensures { result ≡ length (used (changed (entries_of (S.slots shadows.now ram.now)) changes.now) pages.now) }
+    ensures { result ≡ length (used (set_after S.Shadows shadows.now ram.now changes.now) pages.now) }
 {
     let mut count = 0;
     for i in 0..pages.len() {

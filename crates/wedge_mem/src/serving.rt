@@ -1,12 +1,10 @@
 //! A step's accesses, over any keeper of translations.
 
-ghost use Rattle.std.specs.Prelude.{◌≡◌, ℕ, ◌+◌, ◌-◌, ◌*◌, ◌/◌, ◌%◌, ◌≤◌, ◌<◌, ◌^◌, IsSome, false};
-ghost use Rattle.std.specs.FinMap.{get};
+ghost use Rattle.std.specs.Prelude.{◌≡◌, ◌+◌, ◌%◌, ◌≤◌, ◌^◌, false};
 ghost use Rattle.paging.specs.Space.{FitsSize, IsReady, IsReadyEarlier, IsWritable, Readied, earlier_of, loaded, loaded_earlier, saved};
 ghost use Rattle.paging.specs.Uses.{fetches, uses};
-ghost use Rattle.step_mem.specs.Shown.{beyond};
-ghost use Rattle.step_mem.specs.Sound.{IsSound, space_at};
-ghost use Rattle.wedge_mem.specs.Progress.{IsGoing, IsTheSame, owning, space_in};
+ghost use Rattle.step_mem.specs.Sound.{IsSoundOver, space_at};
+ghost use Rattle.wedge_mem.specs.Progress.{HasRange, IsGoingOver, IsTheSame, KeepsBeyond, owning, space_in};
 
 use crate::progress::Progress;
 use guest_ram::Ram;
@@ -23,17 +21,19 @@ pub fn touch<B: Kept>(
     len: u32,
     access: Access,
 ) -> Touch
-    requires going { IsGoing (B.entries base.now) (B.floor base.now) (B.stands base.now) ram.old step.old }
+    requires going { IsGoingOver B.Kept base.now ram.old step.old }
     requires room { step.old.state.pages ≤ 62 }
     requires some { 1 ≤ len }
     requires short { len ≤ 32 }
-    ensures going { IsGoing (B.entries base.now) (B.floor base.now) (B.stands base.now) ram.new step.new }
-    ensures uses { uses (space_in (B.entries base.now) ram.old step.old) at len access ≡ (result, space_in (B.entries base.now) ram.new step.new) }
+    ensures going { IsGoingOver B.Kept base.now ram.new step.new }
+    ensures uses { uses (space_in (B.entries base.now) ram.old step.old) at len access
+        ≡ (result, space_in (B.entries base.now) ram.new step.new) }
     ensures pages { step.new.state.pages ≤ step.old.state.pages + 2 }
     ensures ready { Readied (space_in (B.entries base.now) ram.new step.new) at len access.write result }
-    ensures earlier { (space_in (B.entries base.now) ram.new step.new).earlier ≡ earlier_of (space_in (B.entries base.now) ram.old step.old) }
+    ensures earlier { (space_in (B.entries base.now) ram.new step.new).earlier
+        ≡ earlier_of (space_in (B.entries base.now) ram.old step.old) }
     ensures same { IsTheSame step.old step.new }
-    ensures beyond { beyond step.old.first step.old.count step.old.state.control.frames ram.new ≡ beyond step.old.first step.old.count step.old.state.control.frames ram.old }
+    ensures beyond { KeepsBeyond step.old ram.old ram.new }
 {
     let text = step.text();
     let mut state = step.state(&text);
@@ -51,15 +51,17 @@ pub fn fetch<B: Kept>(
     len: u32,
     user: bool,
 ) -> Touch
-    requires going { IsGoing (B.entries base.now) (B.floor base.now) (B.stands base.now) ram.old step.old }
+    requires going { IsGoingOver B.Kept base.now ram.old step.old }
     requires room { step.old.state.pages ≤ 63 }
     requires one { at % 4096 + len ≤ 4096 }
-    ensures going { IsGoing (B.entries base.now) (B.floor base.now) (B.stands base.now) ram.new step.new }
-    ensures fetches { fetches (space_in (B.entries base.now) ram.old step.old) at len user ≡ (result, space_in (B.entries base.now) ram.new step.new) }
+    ensures going { IsGoingOver B.Kept base.now ram.new step.new }
+    ensures fetches { fetches (space_in (B.entries base.now) ram.old step.old) at len user
+        ≡ (result, space_in (B.entries base.now) ram.new step.new) }
     ensures pages { step.new.state.pages ≤ step.old.state.pages + 1 }
     ensures ready { Readied (space_in (B.entries base.now) ram.new step.new) at len false result }
+    ensures found { result ≡ Touch.Ready → HasRange (space_in (B.entries base.now) ram.new step.new) at len }
     ensures same { IsTheSame step.old step.new }
-    ensures beyond { beyond step.old.first step.old.count step.old.state.control.frames ram.new ≡ beyond step.old.first step.old.count step.old.state.control.frames ram.old }
+    ensures beyond { KeepsBeyond step.old ram.old ram.new }
 {
     let text = step.text();
     let mut state = step.state(&text);
@@ -70,7 +72,7 @@ pub fn fetch<B: Kept>(
 
 /// Reads where the last touch or fetch was ready.
 pub fn load<B: Kept>(ram: &Ram, base: &B, step: &Progress, at: u32, size: Size) -> u32
-    requires going { IsGoing (B.entries base.now) (B.floor base.now) (B.stands base.now) ram.now step.now }
+    requires going { IsGoingOver B.Kept base.now ram.now step.now }
     requires ready { IsReady (space_in (B.entries base.now) ram.now step.now) at size }
     ensures value { result ≡ loaded (space_in (B.entries base.now) ram.now step.now) at size }
     ensures fits { FitsSize size result }
@@ -82,7 +84,7 @@ pub fn load<B: Kept>(ram: &Ram, base: &B, step: &Progress, at: u32, size: Size) 
 
 /// Reads where the touch before the last was ready, at the places that its range had then.
 pub fn load_earlier<B: Kept>(ram: &Ram, base: &B, step: &Progress, at: u32, size: Size) -> u32
-    requires going { IsGoing (B.entries base.now) (B.floor base.now) (B.stands base.now) ram.now step.now }
+    requires going { IsGoingOver B.Kept base.now ram.now step.now }
     requires ready { IsReadyEarlier (space_in (B.entries base.now) ram.now step.now) at size }
     ensures value { result ≡ loaded_earlier (space_in (B.entries base.now) ram.now step.now) at size }
     ensures fits { FitsSize size result }
@@ -94,11 +96,11 @@ pub fn load_earlier<B: Kept>(ram: &Ram, base: &B, step: &Progress, at: u32, size
 
 /// Writes where the last touch was ready for a write.
 pub fn save<B: Kept>(ram: &mut Ram, base: &B, step: &Progress, at: u32, size: Size, value: u32)
-    requires going { IsGoing (B.entries base.now) (B.floor base.now) (B.stands base.now) ram.old step.now }
+    requires going { IsGoingOver B.Kept base.now ram.old step.now }
     requires ready { IsWritable (space_in (B.entries base.now) ram.old step.now) at size }
-    ensures going { IsGoing (B.entries base.now) (B.floor base.now) (B.stands base.now) ram.new step.now }
+    ensures going { IsGoingOver B.Kept base.now ram.new step.now }
     ensures saved { space_in (B.entries base.now) ram.new step.now ≡ saved (space_in (B.entries base.now) ram.old step.now) at size value }
-    ensures beyond { beyond step.now.first step.now.count step.now.state.control.frames ram.new ≡ beyond step.now.first step.now.count step.now.state.control.frames ram.old }
+    ensures beyond { KeepsBeyond step.now ram.old ram.new }
 {
     let text = step.text();
     let state = step.state(&text);
@@ -107,12 +109,12 @@ pub fn save<B: Kept>(ram: &mut Ram, base: &B, step: &Progress, at: u32, size: Si
 
 /// The bytes at an address are those of this step's instruction, in one page or two.
 fn own_in<B: Kept>(ram: &Ram, base: &B, state: &mut StepState, at: u32, len: u32)
-    requires sound { IsSound (B.entries base.now) (B.floor base.now) (B.stands base.now) ram.now state.old }
+    requires sound { IsSoundOver B.Kept base.now ram.now state.old }
     requires some { 1 ≤ len }
     requires short { len ≤ 4096 }
     requires fits { at + len ≤ 2 ^ 32 }
-    requires found { (byte : ℕ) → at ≤ byte → byte < at + len → IsSome (get (space_at (B.entries base.now) ram.now state.old).set (byte / 4096)) }
-    ensures sound { IsSound (B.entries base.now) (B.floor base.now) (B.stands base.now) ram.now state.new }
+    requires found { HasRange (space_at (B.entries base.now) ram.now state.old) at len }
+    ensures sound { IsSoundOver B.Kept base.now ram.now state.new }
     ensures owns { space_at (B.entries base.now) ram.now state.new ≡ owning (space_at (B.entries base.now) ram.now state.old) at len }
     ensures control { state.new.control ≡ state.old.control }
     ensures text { state.new.guard.text ≡ state.old.guard.text }
@@ -128,12 +130,12 @@ fn own_in<B: Kept>(ram: &Ram, base: &B, state: &mut StepState, at: u32, len: u32
 
 /// Names the bytes of this step's instruction.
 pub fn own<B: Kept>(ram: &Ram, base: &B, step: &mut Progress, at: u32, len: u32)
-    requires going { IsGoing (B.entries base.now) (B.floor base.now) (B.stands base.now) ram.now step.old }
+    requires going { IsGoingOver B.Kept base.now ram.now step.old }
     requires some { 1 ≤ len }
     requires short { len ≤ 4096 }
     requires fits { at + len ≤ 2 ^ 32 }
-    requires found { (byte : ℕ) → at ≤ byte → byte < at + len → IsSome (get (space_in (B.entries base.now) ram.now step.old).set (byte / 4096)) }
-    ensures going { IsGoing (B.entries base.now) (B.floor base.now) (B.stands base.now) ram.now step.new }
+    requires found { HasRange (space_in (B.entries base.now) ram.now step.old) at len }
+    ensures going { IsGoingOver B.Kept base.now ram.now step.new }
     ensures owns { space_in (B.entries base.now) ram.now step.new ≡ owning (space_in (B.entries base.now) ram.now step.old) at len }
     ensures control { step.new.state.control ≡ step.old.state.control }
     ensures text { (step.new.first ≡ step.old.first) × (step.new.count ≡ step.old.count) }

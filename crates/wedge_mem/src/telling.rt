@@ -1,15 +1,14 @@
 //! Telling the shadows which frames a step read as tables, and which it wrote.
 
-ghost use Rattle.std.specs.Prelude.{◌≡◌, ◌^◌, ◌<◌, ◌≤◌, ℕ, length, true, false, ◌||◌, [], ◌∷◌, Bool, ◌/◌};
-ghost use Rattle.std.specs.List.{list_any};
+ghost use Rattle.std.specs.Prelude.{◌≡◌, ◌^◌, ◌<◌, ◌≤◌, ℕ, length, [], ◌∷◌, Bool};
 ghost use Rattle.frame_pool.specs.Pool.{free_list};
 ghost use Rattle.frame_pool.specs.Held.{Owns, Moves, Writes};
 ghost use Rattle.shadow_tables.specs.Aside.{AreSame, LoseWrites, all_spared};
 ghost use Rattle.shadow_tables.specs.Calls.{IsWithin};
 ghost use Rattle.shadow_tables.specs.Entries.{entries_of};
-ghost use Rattle.guest_ram.specs.Among.{is_among};
-ghost use Rattle.shadow_tables.specs.Slots.{ArePart, SameSlots};
+ghost use Rattle.shadow_tables.specs.Slots.{SameSlots};
 ghost use Rattle.shadow_tables.specs.declared.words.Side.{Side as View};
+ghost use Rattle.wedge_mem.specs.Seen.{KnowsWritten};
 ghost use Rattle.wedge_mem.specs.Told.{guest_frames, read_by};
 
 use frame_pool::Pool;
@@ -63,13 +62,8 @@ pub fn tell_written<S: Shadows>(shadows: &mut S, ram: &mut Ram, pool: &mut Pool,
     ensures stands { ∥ S.stands shadows.new ram.new ∥₁ }
     ensures slots { SameSlots (S.slots shadows.old ram.old) (S.slots shadows.new ram.new) }
     ensures entries { entries_of (S.slots shadows.new ram.new) ≡ entries_of (S.slots shadows.old ram.old) }
-    ensures tracked { ArePart (S.tracked shadows.new) (S.tracked shadows.old) }
-    ensures noted { (frame : ℕ) → is_among frame wrote.now ≡ false → S.noted shadows.new frame ≡ S.noted shadows.old frame }
-    ensures noted_less { (frame : ℕ) → S.noted shadows.new frame ≡ true → S.noted shadows.old frame ≡ true }
-    ensures marked { S.marked shadows.new ≡ (S.marked shadows.old || list_any (S.noted shadows.old) wrote.now) }
-    ensures value { S.value shadows.new ≡ S.value shadows.old }
+    ensures known { KnowsWritten S.Shadows wrote.now shadows.old shadows.new }
     ensures asides { AreSame (all_spared wrote.now (S.asides shadows.old ram.old)) (S.asides shadows.new ram.new) }
-    ensures untracked { (frame : ℕ) → is_among frame wrote.now ≡ true → is_among frame (S.tracked shadows.new) ≡ false }
     ensures opened { (indices : ℕ → Bool) → S.opened shadows.old ram.old indices → S.opened shadows.new ram.new indices }
     ensures roots { (view : View) → S.directory shadows.new view ≡ S.directory shadows.old view }
     ensures fewer { length (free_list pool.old ram.old) ≤ length (free_list pool.new ram.new) }

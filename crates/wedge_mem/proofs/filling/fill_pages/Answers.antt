@@ -6,11 +6,11 @@ use Rattle.paging.specs.declared.entry.Entry.{Entry}
 use Rattle.shadow_tables.specs.Entries.{entries_of}
 use Rattle.guest_ram.specs.Among.{is_among}
 use Rattle.shadow_tables.specs.Slots.{Slot}
-use Rattle.shadow_tables.proofs.Asides.{same-trans}
 use Rattle.step_mem.specs.Changes.{changed}
 use Rattle.wedge_mem.specs.Settled.{filled_by, has_entry}
 use Rattle.wedge_mem.proofs.Lists.{element-among, later-is, used-at, if-some}
 use Rattle.wedge_mem.proofs.Filled.{entry-still, fill-more}
+use Rattle.wedge_mem.proofs.Rests.{rest-trans}
 use Rattle.wedge_mem.proofs.filling.fill_pages.Goals as goal
 
 pub fill_last-requires-clause-owns : goal.fill_last-requires-clause-owns
@@ -47,7 +47,7 @@ loop-i-preserved g c =
     let later : take (length xs - (l.i + 1)) (drop (l.i + 1) xs) ≡ drop (l.i + 1) xs = later-is xs (l.i + 1) in
     let v : Option Slot = filled_by c.args.side c.args.wp (g.S.Shadows.tracked l.shadows) (get (changed (entries_of now) c.args.changes.now) page) in
     let v-is : v ≡ filled_by c.args.side c.args.wp tracked (get set page) =
-    ap (λ t. filled_by c.args.side c.args.wp t (get (changed (entries_of now) c.args.changes.now) page)) l.invariant.tracked
+    ap (λ t. filled_by c.args.side c.args.wp t (get (changed (entries_of now) c.args.changes.now) page)) l.invariant.rest.tracked
     ∙ ap (filled_by c.args.side c.args.wp tracked) (entry-still c.args.pages.now c.loop-i.i (g.S.Shadows.slots c.args.shadows.now c.args.ram.now) (g.S.Shadows.slots c.loop-i.shadows c.loop-i.ram) c.args.changes.now (λ q. filled_by c.args.side c.args.wp (g.S.Shadows.tracked c.args.shadows.now) (get (changed (entries_of (g.S.Shadows.slots c.args.shadows.now c.args.ram.now)) c.args.changes.now) q)) c.loop-i-test.true c.loop-i.invariant.slots) in
     let count = used-at set xs l.i c.loop-i-test.true in
     let left = l.invariant.left in
@@ -58,13 +58,8 @@ loop-i-preserved g c =
       stands = e.stands;
       slots = fill-more xs l.i old now new (λ q. filled_by c.args.side c.args.wp tracked (get set q)) v c.loop-i-test.true v-is l.invariant.slots
           (λ q h. e.slots q h ∙ ap (λ ys. cond (eqb q page && not (is_among page ys)) v (now q)) later);
-      noted = λ frame. e.noted frame ∙ l.invariant.noted frame;
-      marked = e.marked ∙ l.invariant.marked;
-      value = e.value ∙ l.invariant.value;
-      asides = same-trans (g.S.Shadows.asides c.args.shadows.now c.args.ram.now) (g.S.Shadows.asides l.shadows l.ram) (g.S.Shadows.asides c.fill_last.new.shadows c.fill_last.new.ram) l.invariant.asides e.asides;
+      rest = rest-trans g.S.Shadows c.args.shadows.now l.shadows c.fill_last.new.shadows c.args.ram.now l.ram c.fill_last.new.ram l.invariant.rest e.rest;
       opened = λ indices all h. e.opened indices (all page (element-among xs l.i c.loop-i-test.true)) (l.invariant.opened indices all h);
-      tracked = e.tracked ∙ l.invariant.tracked;
-      roots = λ view. e.roots view ∙ l.invariant.roots view;
       left = omega (arith, count, left, spent);
       moves = Moves-trans c.args.pool.now l.pool c.fill_last.new.pool c.args.ram.now l.ram c.fill_last.new.ram (f c.args.shadows.now c.args.ram.now) (f l.shadows l.ram) (f c.fill_last.new.shadows c.fill_last.new.ram) l.invariant.moves e.moves;
     }

@@ -1,5 +1,8 @@
-use Rattle.wedge_mem.proofs.Plain.{going_after}
+use Rattle.wedge_mem.proofs.Plain.{found_after, going_after}
 use Rattle.wedge_mem.proofs.serving.fetch.Goals as goal
 
 pub returns-clause-going : goal.returns-clause-going
 returns-clause-going g c = going_after _ _ _ _ c.fetch-met.new.state c.follow.new.self c.fetch-met.ensures.sound c.follow.ensures.state c.follow.ensures.guards
+
+pub returns-clause-found : goal.returns-clause-found
+returns-clause-found g c = found_after _ _ _ _ c.fetch-met.new.state c.follow.new.self c.args.at c.args.len c.fetch-met.result c.fetch-met.ensures.sound c.follow.ensures.state c.fetch-met.ensures.ready

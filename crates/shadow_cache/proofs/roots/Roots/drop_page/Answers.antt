@@ -1,3 +1,4 @@
+use Rattle.std.proofs.Common.{refl}
 use Rattle.std.proofs.lemmas.Grind.{merely}
 use Rattle.shadow_tables.specs.Slots.{slot_at}
 use Rattle.shadow_cache.specs.Pairs.{any_reads}
@@ -30,12 +31,12 @@ returns-clause-moves c =
     let r = c.args.self.now in let m = c.args.ram.now in let n = c.drop_page.new.ram in let h = had (pairs_of r) m c.requires.stands in let e = c.drop_page.ensures in
     write-moves r.present r.others m n h e.becomes.shadow e.held e.memory
 
-pub returns-clause-others : goal.returns-clause-others
-returns-clause-others c =
+pub returns-clause-same : goal.returns-clause-same
+returns-clause-same c =
     let r = c.args.self.now in let m = c.args.ram.now in let n = c.drop_page.new.ram in let h = had (pairs_of r) m c.requires.stands in let e = c.drop_page.ensures in
-    write-kept r.present r.others m n h e.becomes.shadow e.held e.memory
+    (refl, write-kept r.present r.others m n h e.becomes.shadow e.held e.memory)
 
 pub returns-clause-told : goal.returns-clause-told
 returns-clause-told c = λ value calls a.
     let r = c.args.self.now in let e = c.drop_page.ensures in
-    step-drop_page value calls r.present r.others c.args.ram.now c.drop_page.new.ram (returns-clause-others c) e.held e.tables c.args.page (record { there = e.becomes.there; others = e.becomes.others }) a
+    step-drop_page value calls r.present r.others c.args.ram.now c.drop_page.new.ram (returns-clause-same c).1 e.held e.tables c.args.page (record { there = e.becomes.there; others = e.becomes.others }) a

@@ -1,4 +1,4 @@
-use Rattle.std.proofs.Common.{Some, sym, ap, ◌∙◌}
+use Rattle.std.proofs.Common.{Some, refl, sym, ap, ◌∙◌}
 use Rattle.std.proofs.lemmas.Grind.{merely}
 use Rattle.shadow_tables.specs.Slots.{filled, slot_at}
 use Rattle.shadow_cache.specs.Pairs.{any_reads}
@@ -22,13 +22,15 @@ returns-clause-stands c =
     merely (move-roots c.args.pool.now c.hold.new.pool r.present r.others m n h c.requires.owns e.becomes.shadow e.moves
     (bars-filled (any_reads (pairs_of r)) (slot_at r.present.shadow m) (slot_at r.present.shadow n) c.tracks-barred.result c.args.side c.args.entry c.args.wp c.tracks-barred.ensures h.barred.0 e.becomes.there e.becomes.others))
 
-pub returns-clause-turns : goal.returns-clause-turns
-returns-clause-turns c =
-    let r = c.args.self.now in let e = c.hold.ensures.becomes in
-    record {
-      there = e.there ∙ ap (λ b. Some (filled b c.args.side c.args.entry c.args.wp)) (c.tracks-barred.ensures ∙ sym (tables-any (pairs_of r) c.args.entry.frame));
-      others = e.others;
-    }
+pub returns-clause-fills : goal.returns-clause-fills
+returns-clause-fills c =
+    let r = c.args.self.now in let e = c.hold.ensures.becomes in (
+      record {
+        there = e.there ∙ ap (λ b. Some (filled b c.args.side c.args.entry c.args.wp)) (c.tracks-barred.ensures ∙ sym (tables-any (pairs_of r) c.args.entry.frame));
+        others = e.others;
+      },
+      c.hold.ensures.entries,
+    )
 
 pub returns-clause-owns : goal.returns-clause-owns
 returns-clause-owns c =
@@ -40,12 +42,12 @@ returns-clause-moves c =
     let r = c.args.self.now in let m = c.args.ram.now in let n = c.hold.new.ram in let h = had (pairs_of r) m c.requires.stands in let e = c.hold.ensures in
     move-moves c.args.pool.now c.hold.new.pool r.present r.others m n h c.requires.owns e.becomes.shadow e.moves
 
-pub returns-clause-others : goal.returns-clause-others
-returns-clause-others c =
+pub returns-clause-same : goal.returns-clause-same
+returns-clause-same c =
     let r = c.args.self.now in let m = c.args.ram.now in let n = c.hold.new.ram in let h = had (pairs_of r) m c.requires.stands in let e = c.hold.ensures in
-    move-kept c.args.pool.now c.hold.new.pool r.present r.others m n h c.requires.owns e.becomes.shadow e.moves
+    (refl, move-kept c.args.pool.now c.hold.new.pool r.present r.others m n h c.requires.owns e.becomes.shadow e.moves)
 
 pub returns-clause-told : goal.returns-clause-told
 returns-clause-told c = λ value calls a.
     let r = c.args.self.now in
-    step-fill value calls c.args.side c.args.entry c.args.wp r.present r.others c.args.ram.now c.hold.new.ram c.requires.page (returns-clause-others c) (returns-clause-turns c) c.hold.ensures.table a
+    step-fill value calls c.args.side c.args.entry c.args.wp r.present r.others c.args.ram.now c.hold.new.ram c.requires.fits.0 (returns-clause-same c).1 (returns-clause-fills c).0 c.hold.ensures.table a

@@ -33,11 +33,10 @@ returns-clause-told c =
     let s = returns-clause-starts c in
     agree-start c.args.cr3 s.pair (c.new-present.result ∷ c.in_ok-others.others) c.new-present.new.ram s.alone s.fresh
 
-pub returns-clause-value : goal.returns-clause-value
-returns-clause-value c = ap (λ (v : ℕ). Some v) c.new-present.ensures.cr3
-
-pub returns-clause-unread : goal.returns-clause-unread
-returns-clause-unread c = λ f. ap (λ (bits : List Bool). get_or bits f false) c.new-present.ensures.tables ∙ no-reads f
+pub returns-clause-begins : goal.returns-clause-begins
+returns-clause-begins c =
+    let e = c.new-present.ensures in
+    (ap (λ (v : ℕ). Some v) e.cr3, e.marked, λ f. ap (λ (bits : List Bool). get_or bits f false) e.tables ∙ no-reads f)
 
 pub returns-clause-alone : goal.returns-clause-alone
 returns-clause-alone c = ap (λ (ps : List Pair). asides_of ps c.new-present.new.ram) c.in_ok-others.ensures

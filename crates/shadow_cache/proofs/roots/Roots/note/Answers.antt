@@ -17,10 +17,12 @@ returns-clause-stands c =
     let r = c.args.self.now in let m = c.args.ram.now in let n = c.bar_frame.new.ram in let h = had (pairs_of r) m c.requires.stands in let e = c.bar_frame.ensures in
     subst (λ (x : Pair). ∥ IsRoots (x ∷ r.others) n ∥₁) (sym c.note.ensures) (merely (note-roots r.present r.others m n c.args.frame h c.requires.frame e.shadows e.loses e.frames e.memory))
 
-pub returns-clause-slots : goal.returns-clause-slots
-returns-clause-slots c =
-    let r = c.args.self.now in let m = c.args.ram.now in let n = c.bar_frame.new.ram in let h = had (pairs_of r) m c.requires.stands in let e = c.bar_frame.ensures in
-    subst (λ (x : Pair). LosesWrites (slot_at r.present.shadow m) (slot_at x.shadow n) (tables_of (x ∷ r.others))) (sym c.note.ensures) (note-slots r.present r.others m n c.args.frame h c.requires.frame e.shadows e.loses e.frames e.memory)
+pub returns-clause-bars : goal.returns-clause-bars
+returns-clause-bars c =
+    let r = c.args.self.now in let m = c.args.ram.now in let n = c.bar_frame.new.ram in let h = had (pairs_of r) m c.requires.stands in let e = c.bar_frame.ensures in (
+      subst (λ (x : Pair). LosesWrites (slot_at r.present.shadow m) (slot_at x.shadow n) (tables_of (x ∷ r.others))) (sym c.note.ensures) (note-slots r.present r.others m n c.args.frame h c.requires.frame e.shadows e.loses e.frames e.memory),
+      subst (λ (x : Pair). entries_of (slot_at x.shadow n) ≡ entries_of (slot_at r.present.shadow m)) (sym c.note.ensures) (entries_of-barred (slot_at r.present.shadow m) (slot_at r.present.shadow n) (c.args.frame ∷ []) e.loses.0),
+    )
 
 pub returns-clause-tracked : goal.returns-clause-tracked
 returns-clause-tracked c =
@@ -31,11 +33,6 @@ pub returns-clause-frames : goal.returns-clause-frames
 returns-clause-frames c =
     let r = c.args.self.now in let m = c.args.ram.now in let n = c.bar_frame.new.ram in let h = had (pairs_of r) m c.requires.stands in let e = c.bar_frame.ensures in
     subst (λ (x : Pair). frames_of (x ∷ r.others) n ≡ frames_of (pairs_of r) m) (sym c.note.ensures) (note-frames r.present r.others m n c.args.frame h c.requires.frame e.shadows e.loses e.frames e.memory)
-
-pub returns-clause-entries : goal.returns-clause-entries
-returns-clause-entries c =
-    let r = c.args.self.now in let m = c.args.ram.now in let n = c.bar_frame.new.ram in let h = had (pairs_of r) m c.requires.stands in let e = c.bar_frame.ensures in
-    subst (λ (x : Pair). entries_of (slot_at x.shadow n) ≡ entries_of (slot_at r.present.shadow m)) (sym c.note.ensures) (entries_of-barred (slot_at r.present.shadow m) (slot_at r.present.shadow n) (c.args.frame ∷ []) e.loses.0)
 
 pub returns-clause-moves : goal.returns-clause-moves
 returns-clause-moves c =

@@ -27,22 +27,15 @@ returns-clause-stands c =
 pub returns-clause-slots : goal.returns-clause-slots
 returns-clause-slots c =
     let r = c.args.self.now in let m = c.args.ram.now in let h = had (pairs_of r) m c.requires.stands in
-    spoilt-slots c.args.pool.now c.leave_readers.new.pool r.present c.write.new.self r.others c.leave_readers.new.pairs m c.leave_readers.new.ram c.args.frame h c.requires.owns c.leave_readers.ensures.rest c.leave_readers.ensures.kept c.leave_readers.ensures.moves c.write.ensures
+    let same = spoilt-slots c.args.pool.now c.leave_readers.new.pool r.present c.write.new.self r.others c.leave_readers.new.pairs m c.leave_readers.new.ram c.args.frame h c.requires.owns c.leave_readers.ensures.rest c.leave_readers.ensures.kept c.leave_readers.ensures.moves c.write.ensures in
+    (same, below.same-entries (slot_at r.present.shadow m) (slot_at c.write.new.self.shadow c.leave_readers.new.ram) same)
 
-pub returns-clause-entries : goal.returns-clause-entries
-returns-clause-entries c =
-    let r = c.args.self.now in let m = c.args.ram.now in let h = had (pairs_of r) m c.requires.stands in
-    below.same-entries (slot_at r.present.shadow m) (slot_at c.write.new.self.shadow c.leave_readers.new.ram) (spoilt-slots c.args.pool.now c.leave_readers.new.pool r.present c.write.new.self r.others c.leave_readers.new.pairs m c.leave_readers.new.ram c.args.frame h c.requires.owns c.leave_readers.ensures.rest c.leave_readers.ensures.kept c.leave_readers.ensures.moves c.write.ensures)
-
-pub returns-clause-tracked : goal.returns-clause-tracked
-returns-clause-tracked c =
-    let r = c.args.self.now in let m = c.args.ram.now in let h = had (pairs_of r) m c.requires.stands in
-    tables-part (pairs_of r) (c.write.new.self ∷ c.leave_readers.new.pairs) (spoilt-fewer c.args.pool.now c.leave_readers.new.pool r.present c.write.new.self r.others c.leave_readers.new.pairs m c.leave_readers.new.ram c.args.frame h c.requires.owns c.leave_readers.ensures.rest c.leave_readers.ensures.kept c.leave_readers.ensures.moves c.write.ensures)
-
-pub returns-clause-untracked : goal.returns-clause-untracked
-returns-clause-untracked c =
-    let r = c.args.self.now in let m = c.args.ram.now in let h = had (pairs_of r) m c.requires.stands in
-    spoilt-untracked c.args.pool.now c.leave_readers.new.pool r.present c.write.new.self r.others c.leave_readers.new.pairs m c.leave_readers.new.ram c.args.frame h c.requires.owns c.leave_readers.ensures.rest c.leave_readers.ensures.kept c.leave_readers.ensures.moves c.write.ensures
+pub returns-clause-frees : goal.returns-clause-frees
+returns-clause-frees c =
+    let r = c.args.self.now in let m = c.args.ram.now in let h = had (pairs_of r) m c.requires.stands in (
+      tables-part (pairs_of r) (c.write.new.self ∷ c.leave_readers.new.pairs) (spoilt-fewer c.args.pool.now c.leave_readers.new.pool r.present c.write.new.self r.others c.leave_readers.new.pairs m c.leave_readers.new.ram c.args.frame h c.requires.owns c.leave_readers.ensures.rest c.leave_readers.ensures.kept c.leave_readers.ensures.moves c.write.ensures),
+      spoilt-untracked c.args.pool.now c.leave_readers.new.pool r.present c.write.new.self r.others c.leave_readers.new.pairs m c.leave_readers.new.ram c.args.frame h c.requires.owns c.leave_readers.ensures.rest c.leave_readers.ensures.kept c.leave_readers.ensures.moves c.write.ensures,
+    )
 
 pub returns-clause-roots : goal.returns-clause-roots
 returns-clause-roots c =

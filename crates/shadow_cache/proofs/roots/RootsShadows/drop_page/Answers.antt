@@ -6,19 +6,19 @@ use Rattle.shadow_cache.proofs.Openings.{dropped-opened}
 use Rattle.shadow_cache.proofs.roots.RootsShadows.drop_page.Goals as goal
 
 pub returns-clause-noted : goal.returns-clause-noted
-returns-clause-noted c = λ f. ap (λ ps. noted_of ps f) c.drop_page.ensures.pairs
+returns-clause-noted c = λ f. ap (λ ps. noted_of ps f) c.drop_page.ensures.same.0
 
 pub returns-clause-marked : goal.returns-clause-marked
-returns-clause-marked c = ap mark_of c.drop_page.ensures.pairs
+returns-clause-marked c = ap mark_of c.drop_page.ensures.same.0
 
 pub returns-clause-value : goal.returns-clause-value
-returns-clause-value c = ap value_of c.drop_page.ensures.pairs
+returns-clause-value c = ap value_of c.drop_page.ensures.same.0
 
 pub returns-clause-asides : goal.returns-clause-asides
 returns-clause-asides c =
-    let r = c.args.self.now in others-kept r.present r.others (pairs_of c.drop_page.new.self) c.args.ram.now c.drop_page.new.ram c.drop_page.ensures.pairs c.drop_page.ensures.others
+    let r = c.args.self.now in others-kept r.present r.others (pairs_of c.drop_page.new.self) c.args.ram.now c.drop_page.new.ram c.drop_page.ensures.same.0 c.drop_page.ensures.same.1
 
 pub returns-clause-opened : goal.returns-clause-opened
 returns-clause-opened c = λ indices h.
     let r = c.args.self.now in
-    dropped-opened indices r.present r.others (pairs_of c.drop_page.new.self) c.args.ram.now c.drop_page.new.ram c.drop_page.ensures.pairs c.drop_page.ensures.tables c.drop_page.ensures.others h
+    dropped-opened indices r.present r.others (pairs_of c.drop_page.new.self) c.args.ram.now c.drop_page.new.ram c.drop_page.ensures.same.0 c.drop_page.ensures.tables c.drop_page.ensures.same.1 h

@@ -6,20 +6,20 @@ use Rattle.shadow_cache.proofs.Openings.{filled-opened}
 use Rattle.shadow_cache.proofs.roots.RootsShadows.fill.Goals as goal
 
 pub returns-clause-noted : goal.returns-clause-noted
-returns-clause-noted c = λ f. ap (λ ps. noted_of ps f) c.fill.ensures.pairs
+returns-clause-noted c = λ f. ap (λ ps. noted_of ps f) c.fill.ensures.same.0
 
 pub returns-clause-marked : goal.returns-clause-marked
-returns-clause-marked c = ap mark_of c.fill.ensures.pairs
+returns-clause-marked c = ap mark_of c.fill.ensures.same.0
 
 pub returns-clause-value : goal.returns-clause-value
-returns-clause-value c = ap value_of c.fill.ensures.pairs
+returns-clause-value c = ap value_of c.fill.ensures.same.0
 
 pub returns-clause-asides : goal.returns-clause-asides
 returns-clause-asides c =
-    let r = c.args.self.now in others-kept r.present r.others (pairs_of c.fill.new.self) c.args.ram.now c.fill.new.ram c.fill.ensures.pairs c.fill.ensures.others
+    let r = c.args.self.now in others-kept r.present r.others (pairs_of c.fill.new.self) c.args.ram.now c.fill.new.ram c.fill.ensures.same.0 c.fill.ensures.same.1
 
 pub returns-clause-opened : goal.returns-clause-opened
 returns-clause-opened c = λ indices may h.
     let r = c.args.self.now in
     let page = c.requires.page in
-    filled-opened indices r.present r.others (pairs_of c.fill.new.self) c.args.ram.now c.fill.new.ram c.args.side (c.args.entry.page / 1024) (omega (arith, page)) c.fill.ensures.pairs c.fill.ensures.table c.fill.ensures.others may h
+    filled-opened indices r.present r.others (pairs_of c.fill.new.self) c.args.ram.now c.fill.new.ram c.args.side (c.args.entry.page / 1024) (omega (arith, page)) c.fill.ensures.same.0 c.fill.ensures.table c.fill.ensures.same.1 may h

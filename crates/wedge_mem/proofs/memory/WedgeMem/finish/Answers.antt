@@ -19,7 +19,7 @@ invariant_of-self g c =
     let frames = old.step.state.control.frames in
     let sound = old.going c.state-state.result.guard c.state-state.ensures.guards in
     let same = ap (λ (t : StepState). t.changes) c.state-state.ensures.state in
-    let kept = subst (λ (cs : List Change). MatchOption c.settle-count.result (after ≡ empty) (λ n. after ≡ changed before cs)) same c.settle-count.ensures.entries in
+    let kept = subst (λ (cs : List Change). MatchOption c.settle-count.result (after ≡ empty) (λ n. after ≡ changed before cs)) same c.settle-count.ensures.settled.entries in
     let room = room_left old.pool.now u.pool old.ram.now u.ram (f old.shadows.now old.ram.now) (f u.shadows u.ram) frames c.settle-count.ensures.moves sound.frames_in sound.below in
     let p = c.new-self.result in let begins = c.new-self.ensures.state in let place = c.new-self.ensures.text in
     let among : p.first + p.count ≤ frames = omega (arith, place.0, place.1, old.laid) in
@@ -32,17 +32,14 @@ invariant_of-self g c =
 pub returns-clause-count : goal.returns-clause-count
 returns-clause-count g c = rw c.state-state.ensures.state at c.settle-count.ensures.count
 
-pub returns-clause-entries : goal.returns-clause-entries
-returns-clause-entries g c = rw c.state-state.ensures.state at c.settle-count.ensures.entries
-
-pub returns-clause-noted : goal.returns-clause-noted
-returns-clause-noted g c = rw c.state-state.ensures.state at c.settle-count.ensures.noted
-
-pub returns-clause-noted_only : goal.returns-clause-noted_only
-returns-clause-noted_only g c = rw c.state-state.ensures.state at c.settle-count.ensures.noted_only
-
-pub returns-clause-marked : goal.returns-clause-marked
-returns-clause-marked g c = rw c.state-state.ensures.state at c.settle-count.ensures.marked
-
-pub returns-clause-asides : goal.returns-clause-asides
-returns-clause-asides g c = rw c.state-state.ensures.state at c.settle-count.ensures.asides
+pub returns-clause-settled : goal.returns-clause-settled
+returns-clause-settled g c = let s = c.settle-count.ensures.settled in record {
+  entries = rw c.state-state.ensures.state at s.entries;
+  filled = rw c.state-state.ensures.state at s.filled;
+  noted = rw c.state-state.ensures.state at s.noted;
+  noted_only = rw c.state-state.ensures.state at s.noted_only;
+  marked = rw c.state-state.ensures.state at s.marked;
+  value = s.value;
+  asides = rw c.state-state.ensures.state at s.asides;
+  untracked = rw c.state-state.ensures.state at s.untracked;
+}
