@@ -36,7 +36,7 @@ use Rattle.wedge_step.specs.Standing.{IsHeld, ground, side_of, state_of}
 use Rattle.wedge_step.specs.declared.running.Running.{Running}
 use Rattle.wedge_step.proofs.AfterTry.{After, any_script}
 use Rattle.wedge_step.proofs.Widening.{Widens}
-use Rattle.wedge_step.proofs.Ended.{IsDone, known_went, known_asked, may_close_used, index_used}
+use Rattle.wedge_step.proofs.Ended.{IsDone, sight_by, known_went, known_asked, may_close_used, index_used}
 use Rattle.wedge_step.proofs.Knowing.{answer_from}
 
 module _ {S : Type 0} (stands : S → List ℕ → Type 0) (frames : S → List ℕ → List ℕ) (slots : S → List ℕ → ℕ → Option Slot) (noted : S → ℕ → Bool) (marked : S → Bool) (value : S → Option ℕ) (asides : S → List ℕ → List Aside) (opened : S → List ℕ → (ℕ → Bool) → Type 0)
@@ -98,7 +98,7 @@ module _ {S : Type 0} (stands : S → List ℕ → Type 0) (frames : S → List 
             → AreWithin limit last.set → length last.visited ≤ 64
             → (MayClose count (side_of (r.cpu.cpl == 3)) last.set (pages_of last.visited changes) (length (free_list pool then)) → (indices : ℕ → Bool) → Lie last.visited changes indices → opened r.shadows then indices
             → ((s : S) (m : List ℕ) → ∥ stands s m ∥₁ → opened s m indices → length (frames s m) + 2 ≤ length (free_list pool then) + length (frames r.shadows then))
-            → Ends w.dropped r.cpu w.cpu (value r.shadows) (pages_of last.visited changes) last.tables last.wrote last.set (noted r.shadows) (noted new) (marked r.shadows) (marked new) (slots new after) (asides r.shadows then) (asides new after))
+            → Ends w.dropped r.cpu w.cpu (pages_of last.visited changes) last.tables last.wrote last.set (sight_by slots noted marked value asides r.shadows then) (sight_by slots noted marked value asides new after))
             → IsCarried slots noted marked asides opened (wedge image script r.frames) (steps ++ t ∷ []) t.after new after
         went_on w board went roots ready long bytes first count limit count_is uses none mode within pages ends =
             let answer = answer_from (wedge image script r.frames) b t w board last taken by went in
@@ -109,7 +109,7 @@ module _ {S : Type 0} (stands : S → List ℕ → Type 0) (frames : S → List 
             let may = may_close_used image count limit (length (free_list pool then)) (r.cpu.cpl == 3) first last changes count_is uses none mode within told (omega (arith, pages, most, as_many, whole)) in
             record {
               known =
-                  known_went slots noted marked value asides laws.tells laws.comes laws.still laws.on image script r.frames steps t b kept r.shadows memory then done carried.known (noted new) (marked new) (slots new after) (asides new after)
+                  known_went slots noted marked value asides laws.tells laws.comes laws.still laws.on image script r.frames steps t b kept r.shadows memory then done carried.known (sight_by slots noted marked value asides new after)
                   w board last changes went roots ready set_is told long bytes (ends may (λ index. is_member eqb (indices_in (steps ++ t ∷ [])) index) lie opened_then enough);
               opened_to = opens (λ index. is_member eqb (indices_in (steps ++ t ∷ [])) index) lie opened_then;
             }
@@ -117,11 +117,11 @@ module _ {S : Type 0} (stands : S → List ℕ → Type 0) (frames : S → List 
         -- of one whose instruction the host is to do
         pub asked_on : t.report.pages ≡ last.visited → t.report.tables ≡ last.tables → t.report.wrote ≡ last.wrote → is_load t.report.completed ≡ false
             → (t.after.cpu.cr0 ≡ r.cpu.cr0) × (t.after.cpu.cr3 ≡ r.cpu.cr3) × (t.after.cpu.cr4 ≡ r.cpu.cr4) → t.after.set ≡ entries_of (slots new after) → 4096 * r.frames ≤ length t.after.ram → AreBytes t.after.ram
-            → Tells last.tables last.wrote (noted r.shadows) (noted new) (marked r.shadows) (marked new) (asides r.shadows then) (asides new after)
+            → Tells last.tables last.wrote (sight_by slots noted marked value asides r.shadows then) (sight_by slots noted marked value asides new after)
             → IsCarried slots noted marked asides opened (wedge image script r.frames) (steps ++ t ∷ []) t.after new after
         asked_on pages tables wrote load rules set long bytes tells = record {
           known =
-              known_asked slots noted marked value asides laws.tells laws.comes laws.still laws.on image script r.frames steps t b kept r.shadows memory then done carried.known (noted new) (marked new) (slots new after) (asides new after)
+              known_asked slots noted marked value asides laws.tells laws.comes laws.still laws.on image script r.frames steps t b kept r.shadows memory then done carried.known (sight_by slots noted marked value asides new after)
               last.tables last.wrote tables wrote load rules set long bytes tells;
           opened_to = opens (λ index. is_member eqb (indices_in (steps ++ t ∷ [])) index) (index_used laws.grow steps t last.visited changes pages told) opened_then;
         }

@@ -37,6 +37,7 @@ use Rattle.wedge_step.specs.Closed.{MayClose}
 use Rattle.wedge_step.specs.Leaving.{Tells, Ends}
 use Rattle.wedge_step.specs.Opened.{is_entry_open}
 use Rattle.wedge_step.specs.Ready.{IsReady}
+use Rattle.wedge_step.specs.Sight.{Sight}
 use Rattle.machine_step.specs.Roots.{RootsAs}
 use Rattle.wedge_step.specs.Standing.{ground, side_of}
 use Rattle.wedge_step.proofs.Knowing.{answer_from, told_by, over, a_step, all_found}
@@ -82,6 +83,10 @@ index_used grow steps t visited changes pages told page h =
 -- ---- what is known
 
 module _ {S : Type 0} (slots : S → List ℕ → ℕ → Option Slot) (noted : S → ℕ → Bool) (marked : S → Bool) (value : S → Option ℕ) (asides : S → List ℕ → List Aside) where
+  -- what they show
+  abbrev pub sight_by : S → List ℕ → Sight
+  sight_by s memory = record { slots = slots s memory; noted = noted s; marked = marked s; value = value s; asides = asides s memory }
+
   -- A step of a run, from what shadows keep over a memory, and the memory behind its accesses.
   pub record IsDone (image : Image) (script : Events) (n : ℕ) (t : Taken) (b : State) (s : S) (memory then : List ℕ) : Type 0 where
     pub taken : IsTakenFrom (wedge image script n) b t
@@ -94,7 +99,7 @@ module _ {S : Type 0} (slots : S → List ℕ → ℕ → Option Slot) (noted : 
 
   module _ (tells : SettlingTells) (comes : DroppedComesFrom) (still : KnownStill) (on : KnownOn) (image : Image) (script : Events) (n : ℕ) (steps : List Taken) (t : Taken) (b : State) (kept : Set) (s : S) (memory then : List ℕ)
       (d : IsDone image script n t b s memory then) (known : IsKnown (wedge image script n) steps t.before (noted s) (marked s) (asides s memory) kept)
-      (noted2 : ℕ → Bool) (marked2 : Bool) (slots2 : ℕ → Option Slot) (asides2 : List Aside)
+      (v' : Sight)
     where
       abbrev m : Setting
       m = wedge image script n
@@ -111,28 +116,28 @@ module _ {S : Type 0} (slots : S → List ℕ → ℕ → Option Slot) (noted : 
       -- behind a step that was ended
       pub known_went : (w : Worked) (board : Board) (last : Space) (changes : List Change) → stepped m b ≡ went_as b w board last → RootsAs b.cpu w → IsReady slots noted marked value asides (ground image n) b.cpu s memory
           → last.set ≡ changed (entries_of (slots s then)) changes → AreToldIn last.visited changes → 4096 * n ≤ length last.ram → AreBytes last.ram
-          → Ends w.dropped b.cpu w.cpu (value s) (pages_of last.visited changes) last.tables last.wrote last.set (noted s) noted2 (marked s) marked2 slots2 (asides s then) asides2
-          → IsKnown m (steps ++ t ∷ []) t.after noted2 marked2 asides2 (entries_of slots2)
+          → Ends w.dropped b.cpu w.cpu (pages_of last.visited changes) last.tables last.wrote last.set (sight_by s then) v'
+          → IsKnown m (steps ++ t ∷ []) t.after v'.noted v'.marked v'.asides (entries_of v'.slots)
       known_went w board last changes went roots ready set told room_after bytes ends =
           let a = answer_from m b t w board last d.taken d.by went in
           let base_is = d.entries ∙ (sym d.set ∙ sym d.by) in
           let base = entries_of (slots s then) in
-          on m steps t (noted s) noted2 (marked s) marked2 slots2 (asides s then) asides2 kept
+          on m steps t (noted s) v'.noted (marked s) v'.marked v'.slots (asides s then) v'.asides kept
           (a_step tells comes t b.cpu w last (value s) base changes a d.taken.cpu roots ready.value_is set base_is told none m b d.taken room_before room_after bytes)
           (λ load un. all_found m steps t b.cpu (shown (ground image n) memory) (noted s) (marked s) (slots s memory) d.taken.cpu (d.taken.ram ∙ d.ram) (d.by ∙ d.set) (λ free page lt. ready.present free page lt refl) known.remembered.noted_read known.remembered.unmarked un)
-          (over tells comes t b.cpu w last (value s) base changes a d.taken.cpu roots ready.value_is set base_is told none (noted s) noted2 (marked s) marked2 slots2 (asides s then) asides2 ends)
+          (over tells comes t b.cpu w last (value s) base changes a d.taken.cpu roots ready.value_is set base_is told none (sight_by s then) v' refl ends)
           known_then
 
       -- behind one that the host does, and that loads no CR3 and leaves the rules and the translations
       pub known_asked : (tables wrote : List ℕ) → t.report.tables ≡ tables → t.report.wrote ≡ wrote → is_load t.report.completed ≡ false
-          → (t.after.cpu.cr0 ≡ b.cpu.cr0) × (t.after.cpu.cr3 ≡ b.cpu.cr3) × (t.after.cpu.cr4 ≡ b.cpu.cr4) → t.after.set ≡ entries_of slots2 → 4096 * n ≤ length t.after.ram → AreBytes t.after.ram
-          → Tells tables wrote (noted s) noted2 (marked s) marked2 (asides s then) asides2
-          → IsKnown m (steps ++ t ∷ []) t.after noted2 marked2 asides2 (entries_of slots2)
+          → (t.after.cpu.cr0 ≡ b.cpu.cr0) × (t.after.cpu.cr3 ≡ b.cpu.cr3) × (t.after.cpu.cr4 ≡ b.cpu.cr4) → t.after.set ≡ entries_of v'.slots → 4096 * n ≤ length t.after.ram → AreBytes t.after.ram
+          → Tells tables wrote (sight_by s then) v'
+          → IsKnown m (steps ++ t ∷ []) t.after v'.noted v'.marked v'.asides (entries_of v'.slots)
       known_asked tables wrote tables_are wrote_are load same set room_after bytes told =
           let cpu = d.taken.cpu in
           let wp = ap (λ (x : ℕ). has x 65536) (same.0 ∙ sym (ap (λ (c : Cpu). c.cr0) cpu)) in
           let pse = ap (λ (x : ℕ). has x 16) (same.2 ∙ sym (ap (λ (c : Cpu). c.cr4) cpu)) in
-          on m steps t (noted s) noted2 (marked s) marked2 slots2 (asides s then) asides2 kept
+          on m steps t (noted s) v'.noted (marked s) v'.marked v'.slots (asides s then) v'.asides kept
           (record {
             went = d.taken.went;
             of_pages = none;
@@ -144,11 +149,11 @@ module _ {S : Type 0} (slots : S → List ℕ → ℕ → Option Slot) (noted : 
           })
           (λ loads. absurd (let f : true ≡ false = sym loads ∙ load in cc))
           (record {
-            noted1 = noted2;
-            marked1 = marked2;
-            asides1 = asides2;
-            told = told_by tells t (noted s) noted2 (marked s) marked2 (asides s then) asides2 tables wrote tables_are wrote_are told;
-            through = λ go stay. (record { notes = λ frame e. e; marks = λ e. e; others = same-refl asides2 }, sym set);
+            noted1 = v'.noted;
+            marked1 = v'.marked;
+            asides1 = v'.asides;
+            told = told_by tells t (sight_by s then) v' tables wrote tables_are wrote_are told;
+            through = λ go stay. (record { notes = λ frame e. e; marks = λ e. e; others = same-refl v'.asides }, sym set);
             lost = λ go no. absurd (no (record { wp = wp; pse = pse }));
             loaded = λ loads. absurd (let f : true ≡ false = sym loads ∙ load in cc);
           })

@@ -1,5 +1,5 @@
 -- Pages that are kept, counted.
-use Rattle.std.proofs.Common.{◌≡◌, ℕ, ◌+◌, ◌≤◌, ◌==◌, List, [], ◌∷◌, ◌++◌, length, length-append, map, Bool, true, false, T, cond, ◌&&◌, ◌||◌, not, ◌⊎◌, inl, inr, Option, Some, None, is_some, refl, sym, ap, ◌∙◌, arith}
+use Rattle.std.proofs.Common.{◌≡◌, ℕ, ◌+◌, ◌-◌, ◌≤◌, ◌==◌, List, [], ◌∷◌, ◌++◌, length, length-append, map, Bool, true, false, T, cond, ◌&&◌, ◌||◌, not, ◌⊎◌, inl, inr, Option, Some, None, is_some, refl, sym, ap, ◌∙◌, arith}
 use Rattle.std.specs.List.{list_any, AllByRecursion, IsDistinct}
 use Rattle.std.specs.List.Sorted.{IsStrictlySortedBy}
 use Rattle.std.specs.Cmp.{unsigned_tied, eq_by_cmp_equiv, nat_cmp_total}
@@ -166,3 +166,7 @@ empty_few set is = ap (λ (s : Set). len s) is ∙ len-empty nat_cmp Entry
 pub fills_unlost : (old new : ℕ) (set : Set) (pages : List ℕ) (kept left : Bool) → (kept || left) ≡ false → new ≡ old + fills_of kept set pages → new ≡ old + fills_of false set pages
 fills_unlost old new set pages true left unlost is = absurd (let f : true ≡ false = unlost in cc)
 fills_unlost old new set pages false left unlost is = is
+
+-- what is held, where all that is free or held is counted before, and what is free after
+pub held_by : (free held free2 a b a2 b2 : ℕ) → free ≡ a → held ≡ b → free2 ≡ a2 → a2 + b2 ≡ a + b → (free + held) - free2 ≡ b2
+held_by free held free2 a b a2 b2 e f h same = omega (arith, e, f, h, same)

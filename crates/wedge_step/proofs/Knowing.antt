@@ -9,7 +9,7 @@ use Rattle.paging.specs.Space.{Space}
 use Rattle.board.specs.declared.devices.Board.{Board}
 use Rattle.descriptors.specs.Controls.{pse_of, wp_of}
 use Rattle.descriptors.specs.declared.cpu.Cpu.{Cpu}
-use Rattle.shadow_tables.specs.Aside.{Aside, IsSame, AreSame}
+use Rattle.shadow_tables.specs.Aside.{IsSame, AreSame}
 use Rattle.shadow_tables.specs.Entries.{entries_of}
 use Rattle.shadow_tables.specs.Laws.Entries.{get-entries_of}
 use Rattle.shadow_tables.specs.Slots.{Slot, entry_in}
@@ -34,6 +34,7 @@ use Rattle.kept_laws.specs.Remembered.{Unwritten, was_read}
 use Rattle.wedge_step.specs.Carried.{IsTakenFrom}
 use Rattle.wedge_step.specs.Leaving.{Tells, RulesSame, Ends}
 use Rattle.wedge_step.specs.Ready.{is_all}
+use Rattle.wedge_step.specs.Sight.{Sight}
 use Rattle.machine_step.specs.Roots.{RootsAs}
 use Rattle.wedge_step.proofs.Shedding.{found_tables}
 use Rattle.wedge_step.proofs.AmongPages.{told_among, among_first, changed_other}
@@ -90,12 +91,11 @@ all_dropped (dropped.Dir index) set e = absurd (let f : false ≡ true = e in cc
 all_dropped dropped.All set e = refl
 
 -- it was told what the step read and wrote
-pub told_by : SettlingTells → (t : Taken) (noted noted2 : ℕ → Bool) (marked marked2 : Bool) (asides asides2 : List Aside) (tables wrote : List ℕ) → t.report.tables ≡ tables → t.report.wrote ≡ wrote
-    → Tells tables wrote noted noted2 marked marked2 asides asides2 → IsTold t noted noted2 marked marked2 asides asides2
-told_by tells t noted noted2 marked marked2 asides asides2 tables wrote tables_are wrote_are told =
-    let x = subst (λ (l : List ℕ). Tells t.report.tables l noted noted2 marked marked2 asides asides2) (sym wrote_are)
-    (subst (λ (l : List ℕ). Tells l wrote noted noted2 marked marked2 asides asides2) (sym tables_are) told) in
-    tells t noted noted2 marked marked2 asides asides2 x.notes x.marks x.others
+pub told_by : SettlingTells → (t : Taken) (v v' : Sight) (tables wrote : List ℕ) → t.report.tables ≡ tables → t.report.wrote ≡ wrote
+    → Tells tables wrote v v' → IsTold t v.noted v'.noted v.marked v'.marked v.asides v'.asides
+told_by tells t v v' tables wrote tables_are wrote_are told =
+    let x = subst (λ (l : List ℕ). Tells t.report.tables l v v') (sym wrote_are) (subst (λ (l : List ℕ). Tells l wrote v v') (sym tables_are) told) in
+    tells t v.noted v'.noted v.marked v'.marked v.asides v'.asides x.notes x.marks x.others
 
 module _ (tells : SettlingTells) (comes : DroppedComesFrom) (t : Taken) (before : Cpu) (w : Worked) (s : Space) (value : Option ℕ) (base : Set) (changes : List Change)
     (a : IsAnswer t w s) (cpu : t.before.cpu ≡ before) (roots : RootsAs before w) (value_is : value ≡ Some before.cr3) (set : s.set ≡ changed base changes) (base_is : base ≡ t.set)
@@ -119,14 +119,13 @@ module _ (tells : SettlingTells) (comes : DroppedComesFrom) (t : Taken) (before 
     left : (q : ℕ) → is_among q t.report.pages ≡ false → get s.set q ≡ get t.set q
     left q e = ap (λ (x : Set). get x q) set ∙ (unchanged base s.visited changes told q (unused q e) ∙ ap (λ (x : Set). get x q) base_is)
 
-    pub over : (noted noted2 : ℕ → Bool) (marked marked2 : Bool) (slots2 : ℕ → Option Slot) (asides asides2 : List Aside)
-        → Ends w.dropped before w.cpu value (pages_of s.visited changes) s.tables s.wrote s.set noted noted2 marked marked2 slots2 asides asides2
-        → IsOver t noted noted2 marked marked2 slots2 asides asides2
-    over noted noted2 marked marked2 slots2 asides asides2 e = record {
-      noted1 = e.noted1;
-      marked1 = e.marked1;
-      asides1 = e.asides1;
-      told = told_by tells t noted e.noted1 marked e.marked1 asides e.asides1 s.tables s.wrote a.tables a.wrote e.told;
+    pub over : (v v' : Sight) → v.value ≡ value → Ends w.dropped before w.cpu (pages_of s.visited changes) s.tables s.wrote s.set v v'
+        → IsOver t v.noted v'.noted v.marked v'.marked v'.slots v.asides v'.asides
+    over v v' is e = record {
+      noted1 = e.between.noted;
+      marked1 = e.between.marked;
+      asides1 = e.between.asides;
+      told = told_by tells t v e.between s.tables s.wrote a.tables a.wrote e.told;
       through = λ go stay.
           let some : is_all w.dropped ≡ false = not_true (is_all w.dropped) (λ all. roots.all all (sym load_is ∙ go) (rules stay).1) in
           let r = e.through (rules stay) (roots.through (sym load_is ∙ go)) some in
@@ -135,34 +134,36 @@ module _ (tells : SettlingTells) (comes : DroppedComesFrom) (t : Taken) (before 
       loaded = λ go. loaded go;
     }
       where
-        value_now : value ≡ Some t.before.cpu.cr3
-        value_now = value_is ∙ ap (λ (c : Cpu). Some c.cr3) (sym cpu)
+        value_now : v.value ≡ Some t.before.cpu.cr3
+        value_now = is ∙ (value_is ∙ ap (λ (c : Cpu). Some c.cr3) (sym cpu))
 
         cr3_now : t.after.cpu.cr3 ≡ w.cpu.cr3
         cr3_now = ap (λ (c : Cpu). c.cr3) a.cpu
 
-        loaded : loads_root t ≡ true → ReloadAside t e.noted1 noted2 e.marked1 marked2 slots2 e.asides1 asides2
+        loaded : loads_root t ≡ true → ReloadAside t e.between.noted v'.noted e.between.marked v'.marked v'.slots e.between.asides v'.asides
         loaded go =
             let l = roots.load (sym load_is ∙ go) in
             let r = e.loaded (ap (λ (x : ℕ). has x 65536) l.1, ap (λ (x : ℕ). has x 16) l.2) l.0 in
+            let x = r.between in
+            let value_then : x.value ≡ Some t.before.cpu.cr3 = r.value ∙ (e.value ∙ value_now) in
             record {
-              noted1 = r.noted1;
-              marked1 = r.marked1;
-              slots1 = r.slots1;
-              asides1 = r.asides1;
-              stay = r.stay;
-              comes = comes t s.set r.slots1 left (λ q lt e1. r.gone q lt (among_first q s.visited (map page_of changes) (is_used q e1)))
+              noted1 = x.noted;
+              marked1 = x.marked;
+              slots1 = x.slots;
+              asides1 = x.asides;
+              stay = r.sheds.stay;
+              comes = comes t s.set x.slots left (λ q lt e1. r.sheds.gone q lt (among_first q s.visited (map page_of changes) (is_used q e1)))
                   (λ q lt e1.
-                  ap entry_in (r.others q lt (not_true (is_among q (pages_of s.visited changes)) (λ c. clash (is_among q s.visited) (told_among s.visited changes told q c) (unused q e1))))
-                  ∙ (sym (get-entries_of e.slots1 q lt) ∙ ap (λ (x : Set). get x q) e.entries))
+                  ap entry_in (r.sheds.others q lt (not_true (is_among q (pages_of s.visited changes)) (λ c. clash (is_among q s.visited) (told_among s.visited changes told q c) (unused q e1))))
+                  ∙ (sym (get-entries_of e.between.slots q lt) ∙ ap (λ (y : Set). get y q) e.entries))
                   none;
               loaded = record {
                 present =
-                    subst (λ (c : ℕ). IsSame (coming c (put_by (Some t.before.cpu.cr3) r.marked1 r.noted1 r.slots1 r.asides1)) (record { cr3 = c; tables = noted2; slots = slots2 })) (sym cr3_now)
-                    (subst (λ (v : Option ℕ). IsSame (coming w.cpu.cr3 (put_by v r.marked1 r.noted1 r.slots1 r.asides1)) (record { cr3 = w.cpu.cr3; tables = noted2; slots = slots2 })) value_now r.present);
+                    subst (λ (c : ℕ). IsSame (coming c (put_by (Some t.before.cpu.cr3) x.marked x.noted x.slots x.asides)) (record { cr3 = c; tables = v'.noted; slots = v'.slots })) (sym cr3_now)
+                    (subst (λ (k : Option ℕ). IsSame (coming w.cpu.cr3 (put_by k x.marked x.noted x.slots x.asides)) (record { cr3 = w.cpu.cr3; tables = v'.noted; slots = v'.slots })) value_then r.present);
                 others =
-                    subst (λ (c : ℕ). AreSame (staying c (put_by (Some t.before.cpu.cr3) r.marked1 r.noted1 r.slots1 r.asides1)) asides2) (sym cr3_now)
-                    (subst (λ (v : Option ℕ). AreSame (staying w.cpu.cr3 (put_by v r.marked1 r.noted1 r.slots1 r.asides1)) asides2) value_now r.put);
+                    subst (λ (c : ℕ). AreSame (staying c (put_by (Some t.before.cpu.cr3) x.marked x.noted x.slots x.asides)) v'.asides) (sym cr3_now)
+                    (subst (λ (k : Option ℕ). AreSame (staying w.cpu.cr3 (put_by k x.marked x.noted x.slots x.asides)) v'.asides) value_then r.put);
                 unmarked = r.unmarked;
               };
             }

@@ -22,10 +22,11 @@ ghost use Rattle.native_steps.specs.Mirrors.{shown};
 ghost use Rattle.shadow_tables.specs.Entries.{entries_of};
 ghost use Rattle.step_mem.specs.Changes.{AreWithin};
 ghost use Rattle.wedge_step.specs.Clashing.{looked, AreIn, marks_of, seen_of, before, model_uses};
+ghost use Rattle.wedge_step.specs.Looked.{bytes_of, ground_of, looked_at, set_at};
 ghost use Rattle.wedge_step.specs.Standing.{ground};
 
 use crate::looking::{Bytes, Seen, fetched, fetched_next, read};
-use crate::sight::are_bytes;
+use crate::sight::{GuestView, are_bytes};
 use arrayvec::ArrayVec;
 use descriptors::{Cpu, by_level};
 use guest_ram::Ram;
@@ -60,7 +61,8 @@ type Uses = ArrayVec<PageUse, 6>;
 fn add_range(uses: &mut Uses, range: Option<Range>, write: bool)
     requires short { IsShort range }
     requires room { length uses.old.items ≤ 4 }
-    ensures uses { (user : Bool) → model_uses user uses.new.items ≡ model_uses user uses.old.items ++ uses_of (record { write = write; user = user }) range }
+    ensures uses { (user : Bool) → model_uses user uses.new.items
+        ≡ model_uses user uses.old.items ++ uses_of (record { write = write; user = user }) range }
     ensures few { length uses.new.items ≤ length uses.old.items + 2 }
 {
     if let Some(range) = range {
@@ -76,7 +78,8 @@ fn add_range(uses: &mut Uses, range: Option<Range>, write: bool)
 /// Adds the uses of an instruction's ranges. Where a null segment denies one it uses neither.
 fn add_ranges(uses: &mut Uses, insn: &Insn, cpu: &Cpu)
     requires room { length uses.old.items ≤ 2 }
-    ensures uses { model_uses (cpu.now.cpl == 3) uses.new.items ≡ model_uses (cpu.now.cpl == 3) uses.old.items ++ ranges_used cpu.now (ranges_of insn.now cpu.now.regs) }
+    ensures uses { model_uses (cpu.now.cpl == 3) uses.new.items
+        ≡ model_uses (cpu.now.cpl == 3) uses.old.items ++ ranges_used cpu.now (ranges_of insn.now cpu.now.regs) }
     ensures few { length uses.new.items ≤ 6 }
 {
     let ranges = ranges(insn, &cpu.regs);
@@ -88,60 +91,42 @@ fn add_ranges(uses: &mut Uses, insn: &Insn, cpu: &Cpu)
 }
 
 /// The pages that the instruction at EIP uses.
-fn uses<S: Shadows>(cpu: &Cpu, shadows: &S, ram: &Ram, image: &Checked, frames: u32) -> Uses
-    requires frames { 4096 * frames ≤ length ram.now }
-    requires laid { 0x100000 + length image.now.text ≤ 4096 * frames }
-    requires stands { ∥ S.stands shadows.now ram.now ∥₁ }
-    requires kept { AreWithin frames (entries_of (S.slots shadows.now ram.now)) }
-    ensures { model_uses (cpu.now.cpl == 3) result.items ≡ uses_seen (ground image.now frames) (looked cpu.now (shown (ground image.now frames) ram.now) (entries_of (S.slots shadows.now ram.now))) }
+fn uses<S: Shadows>(cpu: &Cpu, shadows: &S, view: &GuestView<'_>) -> Uses
+    requires stands { ∥ S.stands shadows.now view.now.ram.now ∥₁ }
+    requires kept { AreWithin view.now.frames (set_at S.Shadows shadows.now view.now) }
+    ensures { model_uses (cpu.now.cpl == 3) result.items
+        ≡ uses_seen (ground_of view.now) (looked_at S.Shadows cpu.now shadows.now view.now) }
 {
     let page = cpu.regs.eip / 4096;
     let mut uses: Uses = ArrayVec::new();
     uses.push(PageUse { page, write: false });
-    if let Some(first) = fetched(cpu, shadows, ram, image, frames, page) {
-        add_first(cpu, shadows, ram, image, frames, first, &mut uses);
+    if let Some(first) = fetched(cpu, shadows, view, page) {
+        add_first(cpu, shadows, view, first, &mut uses);
     }
     uses
 }
 
 /// Adds the uses that the bytes of the first page tell of, and those of the next page where an instruction goes on there.
-fn add_first<S: Shadows>(
-    cpu: &Cpu,
-    shadows: &S,
-    ram: &Ram,
-    image: &Checked,
-    frames: u32,
-    first: Seen,
-    uses: &mut Uses,
-)
-    requires frames { 4096 * frames ≤ length ram.now }
-    requires laid { 0x100000 + length image.now.text ≤ 4096 * frames }
-    requires stands { ∥ S.stands shadows.now ram.now ∥₁ }
-    requires kept { AreWithin frames (entries_of (S.slots shadows.now ram.now)) }
-    requires marks { AreIn frames (marks_of first.marks) }
-    requires frame { first.frame < frames }
-    requires one { model_uses (cpu.now.cpl == 3) uses.old.items ≡ record { page = cpu.now.regs.eip / 4096; access = record { write = false; user = cpu.now.cpl == 3 } } ∷ [] }
+fn add_first<S: Shadows>(cpu: &Cpu, shadows: &S, view: &GuestView<'_>, first: Seen, uses: &mut Uses)
+    requires stands { ∥ S.stands shadows.now view.now.ram.now ∥₁ }
+    requires kept { AreWithin view.now.frames (set_at S.Shadows shadows.now view.now) }
+    requires marks { AreIn view.now.frames (marks_of first.marks) }
+    requires frame { first.frame < view.now.frames }
+    requires one { model_uses (cpu.now.cpl == 3) uses.old.items
+        ≡ record { page = cpu.now.regs.eip / 4096; access = record { write = false; user = cpu.now.cpl == 3 } } ∷ [] }
     requires single { length uses.old.items ≡ 1 }
-    ensures { model_uses (cpu.now.cpl == 3) uses.new.items ≡ uses_from (ground image.now frames) (looked cpu.now (shown (ground image.now frames) ram.now) (entries_of (S.slots shadows.now ram.now))) (Some (seen_of first)) }
+    ensures { model_uses (cpu.now.cpl == 3) uses.new.items
+        ≡ uses_from (ground_of view.now) (looked_at S.Shadows cpu.now shadows.now view.now) (Some (seen_of first)) }
 {
     let eip = cpu.regs.eip;
     let mut bytes: Bytes = ArrayVec::new();
-    read(
-        ram,
-        image,
-        frames,
-        None,
-        first,
-        eip,
-        front_len(eip),
-        &mut bytes,
-    );
+    read(view, None, first, eip, front_len(eip), &mut bytes);
     match decode(bytes.as_slice()) {
         Decoded::Insn(insn, _) => add_ranges(uses, &insn, cpu),
         Decoded::Outside => {}
         Decoded::Short => {
             if eip / 4096 < 0xF_FFFF {
-                add_next(cpu, shadows, ram, image, frames, first, &mut bytes, uses);
+                add_next(cpu, shadows, view, first, &mut bytes, uses);
             }
         }
     }
@@ -151,39 +136,28 @@ fn add_first<S: Shadows>(
 fn add_next<S: Shadows>(
     cpu: &Cpu,
     shadows: &S,
-    ram: &Ram,
-    image: &Checked,
-    frames: u32,
+    view: &GuestView<'_>,
     first: Seen,
     bytes: &mut Bytes,
     uses: &mut Uses,
 )
-    requires frames { 4096 * frames ≤ length ram.now }
-    requires laid { 0x100000 + length image.now.text ≤ 4096 * frames }
-    requires stands { ∥ S.stands shadows.now ram.now ∥₁ }
-    requires kept { AreWithin frames (entries_of (S.slots shadows.now ram.now)) }
-    requires marks { AreIn frames (marks_of first.marks) }
-    requires frame { first.frame < frames }
+    requires stands { ∥ S.stands shadows.now view.now.ram.now ∥₁ }
+    requires kept { AreWithin view.now.frames (set_at S.Shadows shadows.now view.now) }
+    requires marks { AreIn view.now.frames (marks_of first.marks) }
+    requires frame { first.frame < view.now.frames }
     requires page { cpu.now.regs.eip / 4096 < 1048575 }
     requires few { length bytes.old.items ≤ 11 }
-    requires one { model_uses (cpu.now.cpl == 3) uses.old.items ≡ record { page = cpu.now.regs.eip / 4096; access = record { write = false; user = cpu.now.cpl == 3 } } ∷ [] }
+    requires one { model_uses (cpu.now.cpl == 3) uses.old.items
+        ≡ record { page = cpu.now.regs.eip / 4096; access = record { write = false; user = cpu.now.cpl == 3 } } ∷ [] }
     requires single { length uses.old.items ≡ 1 }
-    ensures { model_uses (cpu.now.cpl == 3) uses.new.items ≡ uses_on (looked cpu.now (shown (ground image.now frames) ram.now) (entries_of (S.slots shadows.now ram.now))) (marked (shown (ground image.now frames) ram.now) (marks_of first.marks)) bytes.old.items
-        (next_seen (ground image.now frames) (looked cpu.now (shown (ground image.now frames) ram.now) (entries_of (S.slots shadows.now ram.now))) (seen_of first)) }
+    ensures { model_uses (cpu.now.cpl == 3) uses.new.items ≡ uses_on (looked_at S.Shadows cpu.now shadows.now view.now)
+        (marked (bytes_of view.now) (marks_of first.marks)) bytes.old.items
+        (next_seen (ground_of view.now) (looked_at S.Shadows cpu.now shadows.now view.now) (seen_of first)) }
 {
     let page = cpu.regs.eip / 4096 + 1;
     uses.push(PageUse { page, write: false });
-    if let Some(second) = fetched_next(cpu, shadows, ram, image, frames, first) {
-        read(
-            ram,
-            image,
-            frames,
-            first.marks,
-            second,
-            page * 4096,
-            LONGEST,
-            bytes,
-        );
+    if let Some(second) = fetched_next(cpu, shadows, view, first) {
+        read(view, first.marks, second, page * 4096, LONGEST, bytes);
         if let Decoded::Insn(insn, _) = decode(bytes.as_slice()) {
             add_ranges(uses, &insn, cpu);
         }
@@ -241,15 +215,22 @@ pub fn clashes<S: Shadows>(cpu: &Cpu, frames: u32, shadows: &S, ram: &Ram, image
     requires laid { 0x100000 + length image.now.text ≤ 4096 * frames }
     requires stands { ∥ S.stands shadows.now ram.now ∥₁ }
     requires kept { AreWithin frames (entries_of (S.slots shadows.now ram.now)) }
-    ensures looked { result ≡ clash_in (get (entries_of (S.slots shadows.now ram.now))) (wp_of cpu.now) (uses_seen (ground image.now frames) (looked cpu.now (shown (ground image.now frames) ram.now) (entries_of (S.slots shadows.now ram.now)))) }
-    ensures step { (script : Events) (b : State) (insn : Insn) (len : ℕ) (fetch : Space) → b.cpu ≡ cpu.now → b.ram ≡ shown (ground image.now frames) ram.now → b.set ≡ entries_of (S.slots shadows.now ram.now)
-        → fetched (b.cpu.cpl == 3) b.cpu.regs.eip (space_at_start (wedge image.now script frames).mode frames b.cpu b.ram b.set) ≡ Ok (begins.Insn insn len, fetch)
+    ensures looked { result ≡ clash_in (get (entries_of (S.slots shadows.now ram.now))) (wp_of cpu.now)
+        (uses_seen (ground image.now frames)
+        (looked cpu.now (shown (ground image.now frames) ram.now) (entries_of (S.slots shadows.now ram.now)))) }
+    ensures step { (script : Events) (b : State) (insn : Insn) (len : ℕ) (fetch : Space) → b.cpu ≡ cpu.now
+        → b.ram ≡ shown (ground image.now frames) ram.now → b.set ≡ entries_of (S.slots shadows.now ram.now)
+        → fetched (b.cpu.cpl == 3) b.cpu.regs.eip (space_at_start (wedge image.now script frames).mode frames b.cpu b.ram b.set)
+        ≡ Ok (begins.Insn insn len, fetch)
         → result ≡ instruction_clashes (wedge image.now script frames) b }
-    ensures clashes { result ≡ true → (script : Events) (b : State) → b.cpu ≡ cpu.now → b.ram ≡ shown (ground image.now frames) ram.now → b.set ≡ entries_of (S.slots shadows.now ram.now) → instruction_clashes (wedge image.now script frames) b ≡ true }
+    ensures clashes { result ≡ true → (script : Events) (b : State) → b.cpu ≡ cpu.now
+        → b.ram ≡ shown (ground image.now frames) ram.now → b.set ≡ entries_of (S.slots shadows.now ram.now)
+        → instruction_clashes (wedge image.now script frames) b ≡ true }
 {
     uses_are_seen();
     are_bytes(ram, image, frames);
     let _eip = cpu.regs.eip;
-    let uses = uses(cpu, shadows, ram, image, frames);
+    let view = GuestView { ram, image, frames };
+    let uses = uses(cpu, shadows, &view);
     is_clash(cpu, shadows, ram, uses.as_slice())
 }

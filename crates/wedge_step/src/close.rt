@@ -1,31 +1,24 @@
 //! The end of a step, for what is kept of the translations.
 
-ghost use Rattle.std.specs.Prelude.{◌≡◌, ◌⊎◌, ◌&&◌, ◌||◌, not, ℕ, List, Bool, true, false, ◌+◌, ◌*◌, ◌≤◌, ◌<◌, ◌^◌, length, is_none, IfSome, None, []};
+ghost use Rattle.std.specs.Prelude.{◌≡◌, ◌⊎◌, ◌&&◌, ◌||◌, not, ℕ, List, Bool, true, false, ◌+◌, ◌*◌, ◌/◌, ◌≤◌, ◌<◌, ◌^◌, is_none, IfSome, None};
 ghost use Rattle.std.specs.FinMap.{empty};
 ghost use Rattle.frame_pool.specs.Held.{Owns, Moves};
-ghost use Rattle.frame_pool.specs.Pool.{base_of, free_list};
+ghost use Rattle.frame_pool.specs.Pool.{base_of};
 ghost use Rattle.frame_pool.specs.declared.Pool.{Pool};
 ghost use Rattle.descriptors.specs.Controls.{pse_of, wp_of};
 ghost use Rattle.descriptors.specs.declared.cpu.Cpu.{Cpu};
 ghost use Rattle.image_check.specs.Image.{Image};
 ghost use Rattle.image_load.specs.Boot.{text_pages};
 ghost use Rattle.shadow_tables.specs.Aside.{AreSame};
-ghost use Rattle.shadow_tables.specs.Entries.{entries_of};
 ghost use Rattle.guest_ram.specs.Among.{is_among};
-ghost use Rattle.step_mem.specs.Changes.{changed};
-ghost use Rattle.step_mem.specs.Sound.{IsSound};
 ghost use Rattle.machine_step.specs.Worked.{dropping, IsDropped};
 ghost use Rattle.machine_model.specs.State.{Setting};
-ghost use Rattle.native_steps.specs.Mirrors.{shown};
-ghost use Rattle.wedge_mem.specs.Settled.{pages_of, used};
-ghost use Rattle.wedge_step.specs.Closed.{MayClose, Closes};
 ghost use Rattle.wedge_step.specs.Parts.{left_of};
-ghost use Rattle.wedge_step.specs.Filled.{pages_kept};
-ghost use Rattle.wedge_step.specs.Ready.{IsReady, IsReadyBut, IsReadyBehind, AreFound, AllOpen, is_all, leaving, left_out};
+ghost use Rattle.wedge_step.specs.Ready.{AllOpen, is_all, leaving, left_out};
 ghost use Rattle.wedge_step.specs.Standing.{AreOpen};
-ghost use Rattle.std.specs.Prelude.{◌/◌};
-ghost use Rattle.kept_laws.specs.Known.{StayAside, EmptyAside};
-ghost use Rattle.wedge_step.specs.Leaving.{Tells, Loads, RulesSame};
+ghost use Rattle.wedge_step.specs.Sight.{IsBare, Sheds, StayOpen, StaysBeside, sight};
+ghost use Rattle.wedge_step.specs.Leaving.{ChangesRules, Leaves, Loads, RulesSame, Tells};
+ghost use Rattle.wedge_step.specs.Stand.{AreFoundIn, ClosesIn, IsFilledBy, IsOwned, IsReadyBehindIn, IsReadyButIn, IsReadyIn, IsSoundIn, KeepsRules, MayCloseIn, Moved, OpensFor, OpensNoMore, count_in, free_in, pages_through, room_in, set_behind, set_in, stand};
 
 use crate::opened::are_open;
 use descriptors::Cpu;
@@ -47,25 +40,29 @@ pub fn close<S: Shadows>(
     side: Side,
     count: u32,
 ) -> Option<u32>
-    requires sound { IsSound (λ m. entries_of (S.slots shadows.old m)) (4096 * base_of pool.old) (λ m. (∥ S.stands shadows.old m ∥₁) × Owns pool.old m (S.frames shadows.old m)) ram.old state.now }
-    ensures stands { ∥ S.stands shadows.new ram.new ∥₁ }
-    ensures owns { Owns pool.new ram.new (S.frames shadows.new ram.new) }
-    ensures moves { Moves pool.old pool.new ram.old ram.new (S.frames shadows.old ram.old) (S.frames shadows.new ram.new) }
-    ensures left { entries_of (S.slots shadows.new ram.new) ≡ left_of (is_none result) (changed (entries_of (S.slots shadows.old ram.old)) state.now.changes) }
-    ensures shows { (image : Image) → count ≡ text_pages image → AreOpen image state.now.control.wp (S.slots shadows.old ram.old) → AreOpen image state.now.control.wp (S.slots shadows.new ram.new) }
-    ensures whole { MayClose count side (changed (entries_of (S.slots shadows.old ram.old)) state.now.changes) (pages_of state.now.visited state.now.changes) (length (free_list pool.old ram.old))
-        → (is_none result ≡ false) × Closes (S.slots shadows.old ram.old) (S.slots shadows.new ram.new) (changed (entries_of (S.slots shadows.old ram.old)) state.now.changes) (pages_of state.now.visited state.now.changes) side state.now.control.wp (S.tracked shadows.new) state.now.wrote }
-    ensures opens { (image : Image) (wp : Bool) → AllOpen image wp (S.asides shadows.old ram.old) → AllOpen image wp (S.asides shadows.new ram.new) }
-    ensures few { IfSome result (λ n. n ≤ 128) }
-    ensures exact { IfSome result (λ n. n ≡ length (used (changed (entries_of (S.slots shadows.old ram.old)) state.now.changes) (pages_of state.now.visited state.now.changes))) }
-    ensures fewer { is_none result ≡ true → pages_kept S.slots S.asides shadows.new ram.new ≡ 0 }
-    ensures filled { IfSome result (λ n. pages_kept S.slots S.asides shadows.new ram.new ≤ pages_kept S.slots S.asides shadows.old ram.old + n) }
-    ensures told { is_none result ≡ false → Tells state.now.tables state.now.wrote (S.noted shadows.old) (S.noted shadows.new) (S.marked shadows.old) (S.marked shadows.new) (S.asides shadows.old ram.old) (S.asides shadows.new ram.new) }
+    requires sound { IsSoundIn S.Shadows (stand shadows.old pool.old ram.old) state.now }
+    ensures moved { Moved S.Shadows (stand shadows.old pool.old ram.old) (stand shadows.new pool.new ram.new) }
+    ensures left { set_in S.Shadows (stand shadows.new pool.new ram.new)
+        ≡ left_of (is_none result) (set_behind S.Shadows (stand shadows.old pool.old ram.old) state.now) }
+    ensures shows { (image : Image) → count ≡ text_pages image
+        → AreOpen image state.now.control.wp (S.slots shadows.old ram.old)
+        → AreOpen image state.now.control.wp (S.slots shadows.new ram.new) }
+    ensures whole { MayCloseIn S.Shadows count side (stand shadows.old pool.old ram.old) state.now
+        → (is_none result ≡ false)
+        × ClosesIn S.Shadows side (stand shadows.old pool.old ram.old) (stand shadows.new pool.new ram.new) state.now }
+    ensures opens { (image : Image) (wp : Bool)
+        → AllOpen image wp (S.asides shadows.old ram.old) → AllOpen image wp (S.asides shadows.new ram.new) }
+    ensures filled { IfSome result
+        (λ n. IsFilledBy S.Shadows (stand shadows.old pool.old ram.old) (stand shadows.new pool.new ram.new) state.now n) }
+    ensures fewer { is_none result ≡ true → count_in S.Shadows (stand shadows.new pool.new ram.new) ≡ 0 }
+    ensures told { is_none result ≡ false
+        → Tells state.now.tables state.now.wrote (sight S.Shadows shadows.old ram.old) (sight S.Shadows shadows.new ram.new) }
     ensures value { S.value shadows.new ≡ S.value shadows.old }
-    ensures opened { (indices : ℕ → Bool) → ((page : ℕ) → is_among page (pages_of state.now.visited state.now.changes) ≡ true → indices (page / 1024) ≡ true) → S.opened shadows.old ram.old indices → S.opened shadows.new ram.new indices }
+    ensures opened { OpensFor S.Shadows (pages_through state.now)
+        (stand shadows.old pool.old ram.old) (stand shadows.new pool.new ram.new) }
     ensures ready { (out : ℕ → Bool) (m : Setting) (cpu : Cpu) → m.frames ≡ state.now.control.frames
-        → IsReadyBehind S.slots S.noted S.marked S.value S.asides out m cpu shadows.old ram.old (changed (entries_of (S.slots shadows.old ram.old)) state.now.changes) state.now.tables state.now.wrote
-        → IsReadyBut S.slots S.noted S.marked S.value S.asides out m cpu shadows.new ram.new }
+        → IsReadyBehindIn S.Shadows out m cpu (stand shadows.old pool.old ram.old) state.now
+        → IsReadyButIn S.Shadows out m cpu (stand shadows.new pool.new ram.new) }
 {
     if !are_open(shadows, ram, state, side, count) {
         shadows.drop_all(ram, pool);
@@ -76,20 +73,19 @@ pub fn close<S: Shadows>(
 
 /// What leaves the translations at the end of a step.
 pub fn drop_from<S: Shadows>(shadows: &mut S, pool: &mut Pool, ram: &mut Ram, dropped: Dropped)
-    requires stands { ∥ S.stands shadows.old ram.old ∥₁ }
-    requires owns { Owns pool.old ram.old (S.frames shadows.old ram.old) }
+    requires owned { IsOwned S.Shadows (stand shadows.old pool.old ram.old) }
     requires page { IsDropped dropped }
-    ensures stands { ∥ S.stands shadows.new ram.new ∥₁ }
-    ensures owns { Owns pool.new ram.new (S.frames shadows.new ram.new) }
-    ensures moves { Moves pool.old pool.new ram.old ram.new (S.frames shadows.old ram.old) (S.frames shadows.new ram.new) }
-    ensures entries { entries_of (S.slots shadows.new ram.new) ≡ dropping dropped (entries_of (S.slots shadows.old ram.old)) }
-    ensures shows { (image : Image) (wp : Bool) → AreOpen image wp (S.slots shadows.old ram.old) → AreOpen image wp (S.slots shadows.new ram.new) }
-    ensures opens { (image : Image) (wp : Bool) → AllOpen image wp (S.asides shadows.old ram.old) → AllOpen image wp (S.asides shadows.new ram.new) }
-    ensures fewer { pages_kept S.slots S.asides shadows.new ram.new ≤ pages_kept S.slots S.asides shadows.old ram.old }
-    ensures stay { is_all dropped ≡ false → StayAside (S.noted shadows.old) (S.noted shadows.new) (S.marked shadows.old) (S.marked shadows.new) (S.asides shadows.old ram.old) (S.asides shadows.new ram.new) }
-    ensures opened { (indices : ℕ → Bool) → S.opened shadows.old ram.old indices → S.opened shadows.new ram.new indices }
-    ensures ready { (m : Setting) (cpu : Cpu) (pages : List ℕ) → m.frames ≤ base_of pool.old → is_all dropped ≡ false → IsReadyBut S.slots S.noted S.marked S.value S.asides (leaving dropped pages) m cpu shadows.old ram.old
-        → IsReady S.slots S.noted S.marked S.value S.asides m cpu shadows.new ram.new }
+    ensures moved { Moved S.Shadows (stand shadows.old pool.old ram.old) (stand shadows.new pool.new ram.new) }
+    ensures entries { set_in S.Shadows (stand shadows.new pool.new ram.new)
+        ≡ dropping dropped (set_in S.Shadows (stand shadows.old pool.old ram.old)) }
+    ensures shown { (image : Image) (wp : Bool)
+        → StayOpen image wp wp (sight S.Shadows shadows.old ram.old) (sight S.Shadows shadows.new ram.new) }
+    ensures fewer { count_in S.Shadows (stand shadows.new pool.new ram.new) ≤ count_in S.Shadows (stand shadows.old pool.old ram.old) }
+    ensures stay { is_all dropped ≡ false → StaysBeside (sight S.Shadows shadows.old ram.old) (sight S.Shadows shadows.new ram.new) }
+    ensures opened { OpensNoMore S.Shadows (stand shadows.old pool.old ram.old) (stand shadows.new pool.new ram.new) }
+    ensures ready { (m : Setting) (cpu : Cpu) (pages : List ℕ) → m.frames ≤ base_of pool.old → is_all dropped ≡ false
+        → IsReadyButIn S.Shadows (leaving dropped pages) m cpu (stand shadows.old pool.old ram.old)
+        → IsReadyIn S.Shadows m cpu (stand shadows.new pool.new ram.new) }
 {
     match dropped {
         Dropped::Nothing => {}
@@ -129,13 +125,15 @@ fn drop_one<S: Shadows>(shadows: &mut S, ram: &mut Ram, page: u32)
     requires stands { ∥ S.stands shadows.old ram.old ∥₁ }
     ensures stands { ∥ S.stands shadows.new ram.new ∥₁ }
     ensures gone { page < 2 ^ 20 → S.slots shadows.new ram.new page ≡ None }
-    ensures others { (other : ℕ) → other < 2 ^ 20 → (other ≡ page → ⊥) → S.slots shadows.new ram.new other ≡ S.slots shadows.old ram.old other }
+    ensures others { (other : ℕ) → other < 2 ^ 20 → (other ≡ page → ⊥)
+        → S.slots shadows.new ram.new other ≡ S.slots shadows.old ram.old other }
     ensures noted { (f : ℕ) → S.noted shadows.new f ≡ S.noted shadows.old f }
     ensures marked { S.marked shadows.new ≡ S.marked shadows.old }
     ensures value { S.value shadows.new ≡ S.value shadows.old }
     ensures asides { AreSame (S.asides shadows.old ram.old) (S.asides shadows.new ram.new) }
     ensures opened { (indices : ℕ → Bool) → S.opened shadows.old ram.old indices → S.opened shadows.new ram.new indices }
-    ensures moves { (p : Pool) → Owns p ram.old (S.frames shadows.old ram.old) → Moves p p ram.old ram.new (S.frames shadows.old ram.old) (S.frames shadows.new ram.new) }
+    ensures moves { (p : Pool) → Owns p ram.old (S.frames shadows.old ram.old)
+        → Moves p p ram.old ram.new (S.frames shadows.old ram.old) (S.frames shadows.new ram.new) }
 {
     if page < 0x10_0000 {
         shadows.drop_page(ram, page);
@@ -147,14 +145,17 @@ fn drop_pages<S: Shadows>(shadows: &mut S, ram: &mut Ram, pages: &[u32])
     requires stands { ∥ S.stands shadows.old ram.old ∥₁ }
     ensures stands { ∥ S.stands shadows.new ram.new ∥₁ }
     ensures gone { (page : ℕ) → page < 2 ^ 20 → is_among page pages.now ≡ true → S.slots shadows.new ram.new page ≡ None }
-    ensures stays { (page : ℕ) → page < 2 ^ 20 → is_among page pages.now ≡ false → S.slots shadows.new ram.new page ≡ S.slots shadows.old ram.old page }
-    ensures others { (page : ℕ) → page < 2 ^ 20 → (S.slots shadows.new ram.new page ≡ None) ⊎ (S.slots shadows.new ram.new page ≡ S.slots shadows.old ram.old page) }
+    ensures stays { (page : ℕ) → page < 2 ^ 20 → is_among page pages.now ≡ false
+        → S.slots shadows.new ram.new page ≡ S.slots shadows.old ram.old page }
+    ensures others { (page : ℕ) → page < 2 ^ 20
+        → (S.slots shadows.new ram.new page ≡ None) ⊎ (S.slots shadows.new ram.new page ≡ S.slots shadows.old ram.old page) }
     ensures noted { (f : ℕ) → S.noted shadows.new f ≡ S.noted shadows.old f }
     ensures marked { S.marked shadows.new ≡ S.marked shadows.old }
     ensures value { S.value shadows.new ≡ S.value shadows.old }
     ensures asides { AreSame (S.asides shadows.old ram.old) (S.asides shadows.new ram.new) }
     ensures opened { (indices : ℕ → Bool) → S.opened shadows.old ram.old indices → S.opened shadows.new ram.new indices }
-    ensures moves { (p : Pool) → Owns p ram.old (S.frames shadows.old ram.old) → Moves p p ram.old ram.new (S.frames shadows.old ram.old) (S.frames shadows.new ram.new) }
+    ensures moves { (p : Pool) → Owns p ram.old (S.frames shadows.old ram.old)
+        → Moves p p ram.old ram.new (S.frames shadows.old ram.old) (S.frames shadows.new ram.new) }
 {
     for page in pages {
         drop_one(shadows, ram, *page);
@@ -169,25 +170,21 @@ fn make_way<S: Shadows>(
     pages: &[u32],
     wanted: bool,
 )
-    requires stands { ∥ S.stands shadows.old ram.old ∥₁ }
-    requires owns { Owns pool.old ram.old (S.frames shadows.old ram.old) }
-    requires enough { 4 ≤ length (free_list pool.old ram.old) + length (S.frames shadows.old ram.old) }
-    ensures stands { ∥ S.stands shadows.new ram.new ∥₁ }
-    ensures owns { Owns pool.new ram.new (S.frames shadows.new ram.new) }
-    ensures moves { Moves pool.old pool.new ram.old ram.new (S.frames shadows.old ram.old) (S.frames shadows.new ram.new) }
-    ensures room { 2 ≤ length (free_list pool.new ram.new) }
-    ensures none { wanted ≡ true → (page : ℕ) → page < 2 ^ 20 → S.slots shadows.new ram.new page ≡ None }
-    ensures alone { wanted ≡ true → S.asides shadows.new ram.new ≡ [] }
-    ensures stay { wanted ≡ false → 2 ≤ length (free_list pool.old ram.old) → StayAside (S.noted shadows.old) (S.noted shadows.new) (S.marked shadows.old) (S.marked shadows.new) (S.asides shadows.old ram.old) (S.asides shadows.new ram.new) }
-    ensures gone { wanted ≡ false → 2 ≤ length (free_list pool.old ram.old) → (page : ℕ) → page < 2 ^ 20 → is_among page pages.now ≡ true → S.slots shadows.new ram.new page ≡ None }
-    ensures stays { wanted ≡ false → 2 ≤ length (free_list pool.old ram.old) → (page : ℕ) → page < 2 ^ 20 → is_among page pages.now ≡ false → S.slots shadows.new ram.new page ≡ S.slots shadows.old ram.old page }
+    requires owned { IsOwned S.Shadows (stand shadows.old pool.old ram.old) }
+    requires enough { 4 ≤ room_in S.Shadows (stand shadows.old pool.old ram.old) }
+    ensures moved { Moved S.Shadows (stand shadows.old pool.old ram.old) (stand shadows.new pool.new ram.new) }
+    ensures room { 2 ≤ free_in (stand shadows.new pool.new ram.new) }
+    ensures emptied { wanted ≡ true → IsBare (sight S.Shadows shadows.new ram.new) }
+    ensures sheds { wanted ≡ false → 2 ≤ free_in (stand shadows.old pool.old ram.old)
+        → Sheds pages.now (sight S.Shadows shadows.old ram.old) (sight S.Shadows shadows.new ram.new) }
     ensures value { S.value shadows.new ≡ S.value shadows.old }
-    ensures opened { (indices : ℕ → Bool) → S.opened shadows.old ram.old indices → S.opened shadows.new ram.new indices }
-    ensures fewer { pages_kept S.slots S.asides shadows.new ram.new ≤ pages_kept S.slots S.asides shadows.old ram.old }
-    ensures shows { (image : Image) (wp : Bool) → AreOpen image wp (S.slots shadows.old ram.old) → AreOpen image wp (S.slots shadows.new ram.new) }
-    ensures opens { (image : Image) (wp : Bool) → AllOpen image wp (S.asides shadows.old ram.old) → AllOpen image wp (S.asides shadows.new ram.new) }
-    ensures ready { (m : Setting) (cpu : Cpu) → m.frames ≤ base_of pool.old → IsReadyBut S.slots S.noted S.marked S.value S.asides (λ page. is_among page pages.now) m cpu shadows.old ram.old
-        → IsReady S.slots S.noted S.marked S.value S.asides m cpu shadows.new ram.new }
+    ensures opened { OpensNoMore S.Shadows (stand shadows.old pool.old ram.old) (stand shadows.new pool.new ram.new) }
+    ensures fewer { count_in S.Shadows (stand shadows.new pool.new ram.new) ≤ count_in S.Shadows (stand shadows.old pool.old ram.old) }
+    ensures shown { (image : Image) (wp : Bool)
+        → StayOpen image wp wp (sight S.Shadows shadows.old ram.old) (sight S.Shadows shadows.new ram.new) }
+    ensures ready { (m : Setting) (cpu : Cpu) → m.frames ≤ base_of pool.old
+        → IsReadyButIn S.Shadows (λ page. is_among page pages.now) m cpu (stand shadows.old pool.old ram.old)
+        → IsReadyIn S.Shadows m cpu (stand shadows.new pool.new ram.new) }
 {
     if wanted || pool.free() < 2 {
         shadows.drop_all(ram, pool);
@@ -206,20 +203,21 @@ fn load<S: Reloads>(
     pages: &[u32],
     wanted: bool,
 )
-    requires stands { ∥ S.stands shadows.old ram.old ∥₁ }
-    requires owns { Owns pool.old ram.old (S.frames shadows.old ram.old) }
-    requires enough { 4 ≤ length (free_list pool.old ram.old) + length (S.frames shadows.old ram.old) }
-    ensures stands { ∥ S.stands shadows.new ram.new ∥₁ }
-    ensures owns { Owns pool.new ram.new (S.frames shadows.new ram.new) }
-    ensures moves { Moves pool.old pool.new ram.old ram.new (S.frames shadows.old ram.old) (S.frames shadows.new ram.new) }
-    ensures emptied { wanted ≡ true → entries_of (S.slots shadows.new ram.new) ≡ empty }
-    ensures loads { wanted ≡ false → 2 ≤ length (free_list pool.old ram.old) → Loads cr3 pages.now (S.value shadows.old) (S.noted shadows.old) (S.noted shadows.new) (S.marked shadows.old) (S.marked shadows.new) (S.slots shadows.old ram.old) (S.slots shadows.new ram.new) (S.asides shadows.old ram.old) (S.asides shadows.new ram.new) }
-    ensures opened { (indices : ℕ → Bool) → S.opened shadows.old ram.old indices → S.opened shadows.new ram.new indices }
-    ensures fewer { pages_kept S.slots S.asides shadows.new ram.new ≤ pages_kept S.slots S.asides shadows.old ram.old }
-    ensures shows { (image : Image) (wp : Bool) → AreOpen image wp (S.slots shadows.old ram.old) → AllOpen image wp (S.asides shadows.old ram.old) → AreOpen image wp (S.slots shadows.new ram.new) }
-    ensures ready { (m : Setting) (before after : Cpu) → m.frames ≤ base_of pool.old → after.cr3 ≡ cr3 → pse_of after ≡ pse_of before → wp_of after ≡ wp_of before
-        → AreOpen m.image (wp_of before) (S.slots shadows.old ram.old) → IsReadyBut S.slots S.noted S.marked S.value S.asides (λ page. is_among page pages.now) m before shadows.old ram.old
-        → IsReady S.slots S.noted S.marked S.value S.asides m after shadows.new ram.new × AreFound m after (shown m ram.new) cr3 (S.noted shadows.new) (S.slots shadows.new ram.new) }
+    requires owned { IsOwned S.Shadows (stand shadows.old pool.old ram.old) }
+    requires enough { 4 ≤ room_in S.Shadows (stand shadows.old pool.old ram.old) }
+    ensures moved { Moved S.Shadows (stand shadows.old pool.old ram.old) (stand shadows.new pool.new ram.new) }
+    ensures emptied { wanted ≡ true → set_in S.Shadows (stand shadows.new pool.new ram.new) ≡ empty }
+    ensures loads { wanted ≡ false → 2 ≤ free_in (stand shadows.old pool.old ram.old)
+        → Loads cr3 pages.now (sight S.Shadows shadows.old ram.old) (sight S.Shadows shadows.new ram.new) }
+    ensures opened { OpensNoMore S.Shadows (stand shadows.old pool.old ram.old) (stand shadows.new pool.new ram.new) }
+    ensures fewer { count_in S.Shadows (stand shadows.new pool.new ram.new) ≤ count_in S.Shadows (stand shadows.old pool.old ram.old) }
+    ensures shows { (image : Image) (wp : Bool) → AreOpen image wp (S.slots shadows.old ram.old)
+        → AllOpen image wp (S.asides shadows.old ram.old) → AreOpen image wp (S.slots shadows.new ram.new) }
+    ensures ready { (m : Setting) (before after : Cpu) → m.frames ≤ base_of pool.old → after.cr3 ≡ cr3
+        → pse_of after ≡ pse_of before → wp_of after ≡ wp_of before → AreOpen m.image (wp_of before) (S.slots shadows.old ram.old)
+        → IsReadyButIn S.Shadows (λ page. is_among page pages.now) m before (stand shadows.old pool.old ram.old)
+        → IsReadyIn S.Shadows m after (stand shadows.new pool.new ram.new)
+        × AreFoundIn S.Shadows m after cr3 (stand shadows.new pool.new ram.new) }
 {
     make_way(shadows, pool, ram, pages, wanted);
     shadows.switch(ram, pool, cr3);
@@ -234,25 +232,23 @@ fn drop_by<S: Shadows>(
     before: &Cpu,
     worked: &Worked,
 ) -> bool
-    requires stands { ∥ S.stands shadows.old ram.old ∥₁ }
-    requires owns { Owns pool.old ram.old (S.frames shadows.old ram.old) }
+    requires owned { IsOwned S.Shadows (stand shadows.old pool.old ram.old) }
     requires page { IsDropped worked.now.dropped }
-    ensures stands { ∥ S.stands shadows.new ram.new ∥₁ }
-    ensures owns { Owns pool.new ram.new (S.frames shadows.new ram.new) }
-    ensures moves { Moves pool.old pool.new ram.old ram.new (S.frames shadows.old ram.old) (S.frames shadows.new ram.new) }
-    ensures left { is_all worked.now.dropped ≡ false → entries_of (S.slots shadows.new ram.new) ≡ left_of result (dropping worked.now.dropped (entries_of (S.slots shadows.old ram.old))) }
-    ensures none { result ≡ true → (page : ℕ) → page < 2 ^ 20 → S.slots shadows.new ram.new page ≡ None }
-    ensures stay { result ≡ false → StayAside (S.noted shadows.old) (S.noted shadows.new) (S.marked shadows.old) (S.marked shadows.new) (S.asides shadows.old ram.old) (S.asides shadows.new ram.new) }
-    ensures same { result ≡ false → is_all worked.now.dropped ≡ true → (shadows.new ≡ shadows.old) × (ram.new ≡ ram.old) × (pool.new ≡ pool.old) }
-    ensures lost { result ≡ true → EmptyAside (S.noted shadows.old) (S.noted shadows.new) (S.marked shadows.old) (S.marked shadows.new) (S.asides shadows.new ram.new) }
-    ensures rules { result ≡ true → RulesSame before.now worked.now.cpu → ⊥ }
-    ensures rules_same { result ≡ false → RulesSame before.now worked.now.cpu }
-    ensures opened { (indices : ℕ → Bool) → S.opened shadows.old ram.old indices → S.opened shadows.new ram.new indices }
-    ensures fewer { pages_kept S.slots S.asides shadows.new ram.new ≤ pages_kept S.slots S.asides shadows.old ram.old }
-    ensures shows { (image : Image) → AreOpen image (wp_of before.now) (S.slots shadows.old ram.old) → AreOpen image (wp_of worked.now.cpu) (S.slots shadows.new ram.new) }
-    ensures opens { (image : Image) → AllOpen image (wp_of before.now) (S.asides shadows.old ram.old) → AllOpen image (wp_of worked.now.cpu) (S.asides shadows.new ram.new) }
-    ensures ready { (m : Setting) (pages : List ℕ) → m.frames ≤ base_of pool.old → IsReadyBut S.slots S.noted S.marked S.value S.asides (leaving worked.now.dropped pages) m before.now shadows.old ram.old
-        → IsReadyBut S.slots S.noted S.marked S.value S.asides (left_out worked.now.dropped pages) m (record worked.now.cpu { cr3 = before.now.cr3 }) shadows.new ram.new }
+    ensures moved { Moved S.Shadows (stand shadows.old pool.old ram.old) (stand shadows.new pool.new ram.new) }
+    ensures left { is_all worked.now.dropped ≡ false → set_in S.Shadows (stand shadows.new pool.new ram.new)
+        ≡ left_of result (dropping worked.now.dropped (set_in S.Shadows (stand shadows.old pool.old ram.old))) }
+    ensures changed { result ≡ true
+        → ChangesRules before.now worked.now.cpu (sight S.Shadows shadows.old ram.old) (sight S.Shadows shadows.new ram.new) }
+    ensures same { result ≡ false → KeepsRules S.Shadows worked.now.dropped before.now worked.now.cpu
+        (stand shadows.old pool.old ram.old) (stand shadows.new pool.new ram.new) }
+    ensures opened { OpensNoMore S.Shadows (stand shadows.old pool.old ram.old) (stand shadows.new pool.new ram.new) }
+    ensures fewer { count_in S.Shadows (stand shadows.new pool.new ram.new) ≤ count_in S.Shadows (stand shadows.old pool.old ram.old) }
+    ensures shown { (image : Image) → StayOpen image (wp_of before.now) (wp_of worked.now.cpu)
+        (sight S.Shadows shadows.old ram.old) (sight S.Shadows shadows.new ram.new) }
+    ensures ready { (m : Setting) (pages : List ℕ) → m.frames ≤ base_of pool.old
+        → IsReadyButIn S.Shadows (leaving worked.now.dropped pages) m before.now (stand shadows.old pool.old ram.old)
+        → IsReadyButIn S.Shadows (left_out worked.now.dropped pages) m (record worked.now.cpu { cr3 = before.now.cr3 })
+        (stand shadows.new pool.new ram.new) }
 {
     if are_rules_changed(before, &worked.cpu) {
         shadows.drop_all(ram, pool);
@@ -294,24 +290,24 @@ pub fn leave<S: Reloads>(
     pages: &[u32],
     wanted: bool,
 ) -> Left
-    requires stands { ∥ S.stands shadows.old ram.old ∥₁ }
-    requires owns { Owns pool.old ram.old (S.frames shadows.old ram.old) }
+    requires owned { IsOwned S.Shadows (stand shadows.old pool.old ram.old) }
     requires page { IsDropped worked.now.dropped }
-    requires enough { 4 ≤ length (free_list pool.old ram.old) + length (S.frames shadows.old ram.old) }
-    ensures stands { ∥ S.stands shadows.new ram.new ∥₁ }
-    ensures owns { Owns pool.new ram.new (S.frames shadows.new ram.new) }
-    ensures moves { Moves pool.old pool.new ram.old ram.new (S.frames shadows.old ram.old) (S.frames shadows.new ram.new) }
-    ensures left { result.back ≡ false → entries_of (S.slots shadows.new ram.new) ≡ left_of result.none (dropping worked.now.dropped (entries_of (S.slots shadows.old ram.old))) }
+    requires enough { 4 ≤ room_in S.Shadows (stand shadows.old pool.old ram.old) }
+    ensures moved { Moved S.Shadows (stand shadows.old pool.old ram.old) (stand shadows.new pool.new ram.new) }
+    ensures left { result.back ≡ false → set_in S.Shadows (stand shadows.new pool.new ram.new)
+        ≡ left_of result.none (dropping worked.now.dropped (set_in S.Shadows (stand shadows.old pool.old ram.old))) }
     ensures wanted { wanted ≡ true → result.back ≡ false }
-    ensures stay { RulesSame before.now worked.now.cpu → worked.now.cpu.cr3 ≡ before.now.cr3 → is_all worked.now.dropped ≡ false → StayAside (S.noted shadows.old) (S.noted shadows.new) (S.marked shadows.old) (S.marked shadows.new) (S.asides shadows.old ram.old) (S.asides shadows.new ram.new) × (entries_of (S.slots shadows.new ram.new) ≡ dropping worked.now.dropped (entries_of (S.slots shadows.old ram.old))) }
-    ensures lost { (RulesSame before.now worked.now.cpu → ⊥) → worked.now.cpu.cr3 ≡ before.now.cr3 → EmptyAside (S.noted shadows.old) (S.noted shadows.new) (S.marked shadows.old) (S.marked shadows.new) (S.asides shadows.new ram.new) × (entries_of (S.slots shadows.new ram.new) ≡ empty) }
-    ensures loads { RulesSame before.now worked.now.cpu → is_all worked.now.dropped ≡ true → wanted ≡ false → 2 ≤ length (free_list pool.old ram.old) → Loads worked.now.cpu.cr3 pages.now (S.value shadows.old) (S.noted shadows.old) (S.noted shadows.new) (S.marked shadows.old) (S.marked shadows.new) (S.slots shadows.old ram.old) (S.slots shadows.new ram.new) (S.asides shadows.old ram.old) (S.asides shadows.new ram.new) }
-    ensures opened { (indices : ℕ → Bool) → S.opened shadows.old ram.old indices → S.opened shadows.new ram.new indices }
-    ensures fewer { pages_kept S.slots S.asides shadows.new ram.new ≤ pages_kept S.slots S.asides shadows.old ram.old }
-    ensures shows { (image : Image) → AreOpen image (wp_of before.now) (S.slots shadows.old ram.old) → AllOpen image (wp_of before.now) (S.asides shadows.old ram.old) → AreOpen image (wp_of worked.now.cpu) (S.slots shadows.new ram.new) }
-    ensures ready { (m : Setting) → m.frames ≤ base_of pool.old → AreOpen m.image (wp_of before.now) (S.slots shadows.old ram.old) → IsReadyBut S.slots S.noted S.marked S.value S.asides (leaving worked.now.dropped pages.now) m before.now shadows.old ram.old
-        → IsReady S.slots S.noted S.marked S.value S.asides m worked.now.cpu shadows.new ram.new
-        × (result.back ≡ true → AreFound m worked.now.cpu (shown m ram.new) worked.now.cpu.cr3 (S.noted shadows.new) (S.slots shadows.new ram.new)) }
+    ensures leaves { Leaves worked.now before.now pages.now wanted (free_in (stand shadows.old pool.old ram.old))
+        (sight S.Shadows shadows.old ram.old) (sight S.Shadows shadows.new ram.new) }
+    ensures opened { OpensNoMore S.Shadows (stand shadows.old pool.old ram.old) (stand shadows.new pool.new ram.new) }
+    ensures fewer { count_in S.Shadows (stand shadows.new pool.new ram.new) ≤ count_in S.Shadows (stand shadows.old pool.old ram.old) }
+    ensures shows { (image : Image) → AreOpen image (wp_of before.now) (S.slots shadows.old ram.old)
+        → AllOpen image (wp_of before.now) (S.asides shadows.old ram.old)
+        → AreOpen image (wp_of worked.now.cpu) (S.slots shadows.new ram.new) }
+    ensures ready { (m : Setting) → m.frames ≤ base_of pool.old → AreOpen m.image (wp_of before.now) (S.slots shadows.old ram.old)
+        → IsReadyButIn S.Shadows (leaving worked.now.dropped pages.now) m before.now (stand shadows.old pool.old ram.old)
+        → IsReadyIn S.Shadows m worked.now.cpu (stand shadows.new pool.new ram.new)
+        × (result.back ≡ true → AreFoundIn S.Shadows m worked.now.cpu worked.now.cpu.cr3 (stand shadows.new pool.new ram.new)) }
 {
     let changed = drop_by(shadows, pool, ram, before, worked);
     if is_through(before, worked, changed) {

@@ -4,23 +4,20 @@
 ghost use Rattle.std.specs.Prelude.{◌≡◌, ℕ, ◌+◌, ◌*◌, ◌/◌, ◌%◌, ◌≤◌, ◌<◌, ◌^◌, ◌==◌, ◌&&◌, ◌||◌, ◌++◌, length, true, not, Bool, List, IfSome, bit_or, if◌then◌else◌};
 ghost use Rattle.guest_ram.specs.Among.{is_among};
 ghost use Rattle.guest_ram.specs.Bytes.{byte, part};
-ghost use Rattle.shadow_tables.specs.Entries.{entries_of};
 ghost use Rattle.machine_model.specs.Run.{Set};
 ghost use Rattle.machine_model.specs.State.{wedge_mode};
 ghost use Rattle.paging.specs.Fresh.{has};
 ghost use Rattle.paging.specs.Uses.{is_barred, is_text as holds_text};
 ghost use Rattle.native_steps.specs.Looking.{is_front, is_stopped, marked, marks_front, next_seen, seen};
 ghost use Rattle.step_mem.specs.Changes.{AreWithin};
-ghost use Rattle.native_steps.specs.Mirrors.{shown};
-ghost use Rattle.wedge_step.specs.Standing.{ground};
 ghost use Rattle.wedge_step.specs.Clashing.{AreIn, looked, marks_of, map_seen, seen_of};
+ghost use Rattle.wedge_step.specs.Looked.{bytes_of, ground_of, looked_at, set_at};
 
 use crate::opened::{is_given, is_text};
-use crate::sight::{are_bytes, byte, walk};
+use crate::sight::{GuestView, are_bytes, byte, walk};
 use crate::single::text_frames;
 use arrayvec::ArrayVec;
 use descriptors::{Cpu, by_level};
-use guest_ram::Ram;
 use ia32_decode::front_len;
 use image_check::Checked;
 use native_steps::uses_are_seen;
@@ -79,29 +76,25 @@ fn is_stopped(
 }
 
 /// Where a fetch of the page leads.
-pub fn fetched<S: Shadows>(
+pub(crate) fn fetched<S: Shadows>(
     cpu: &Cpu,
     shadows: &S,
-    ram: &Ram,
-    image: &Checked,
-    frames: u32,
+    view: &GuestView<'_>,
     page: u32,
 ) -> Option<Seen>
-    requires frames { 4096 * frames ≤ length ram.now }
-    requires laid { 0x100000 + length image.now.text ≤ 4096 * frames }
-    requires stands { ∥ S.stands shadows.now ram.now ∥₁ }
-    requires kept { AreWithin frames (entries_of (S.slots shadows.now ram.now)) }
+    requires stands { ∥ S.stands shadows.now view.now.ram.now ∥₁ }
+    requires kept { AreWithin view.now.frames (set_at S.Shadows shadows.now view.now) }
     requires page { page < 2 ^ 20 }
-    ensures seen { map_seen result ≡ seen (ground image.now frames) (looked cpu.now (shown (ground image.now frames) ram.now) (entries_of (S.slots shadows.now ram.now))) page }
-    ensures marks { IfSome result (λ s. AreIn frames (marks_of s.marks)) }
-    ensures frame { IfSome result (λ s. s.frame < frames) }
+    ensures seen { map_seen result ≡ seen (ground_of view.now) (looked_at S.Shadows cpu.now shadows.now view.now) page }
+    ensures marks { IfSome result (λ s. AreIn view.now.frames (marks_of s.marks)) }
+    ensures frame { IfSome result (λ s. s.frame < view.now.frames) }
 {
     let access = by_level(cpu, false);
     let wp = cpu.wp();
-    if let Some(entry) = shadows.kept(ram, page)
+    if let Some(entry) = shadows.kept(view.ram, page)
         && allows(&entry, access, wp)
     {
-        if is_barred(image, access.user, page, entry.frame) {
+        if is_barred(view.image, access.user, page, entry.frame) {
             return None;
         }
         return Some(Seen {
@@ -109,7 +102,7 @@ pub fn fetched<S: Shadows>(
             marks: None,
         });
     }
-    match walk(ram, image, frames, cpu.cr3, cpu.pse(), page) {
+    match walk(view, cpu.cr3, cpu.pse(), page) {
         Walk::Absent => None,
         Walk::Beyond => None,
         Walk::Reserved => None,
@@ -121,7 +114,7 @@ pub fn fetched<S: Shadows>(
             if !grants(&entry, access, wp) {
                 return None;
             }
-            if is_stopped(image, access, page, entry.frame, dir_at, word_at) {
+            if is_stopped(view.image, access, page, entry.frame, dir_at, word_at) {
                 return None;
             }
             let marks = Marks {
@@ -154,121 +147,94 @@ fn flag(byte: u8, is: bool) -> u8
 }
 
 /// The byte at a place, once walks have set their flags.
-fn byte_seen(
-    ram: &Ram,
-    image: &Checked,
-    frames: u32,
-    earlier: Option<Marks>,
-    marks: Option<Marks>,
-    place: u32,
-) -> u8
-    requires frames { 4096 * frames ≤ length ram.now }
-    requires laid { 0x100000 + length image.now.text ≤ 4096 * frames }
-    requires earlier { AreIn frames (marks_of earlier) }
-    requires marks { AreIn frames (marks_of marks) }
-    requires within { place < 4096 * frames }
-    ensures { result ≡ byte (marked (marked (shown (ground image.now frames) ram.now) (marks_of earlier)) (marks_of marks)) place }
+fn byte_seen(view: &GuestView<'_>, earlier: Option<Marks>, marks: Option<Marks>, place: u32) -> u8
+    requires earlier { AreIn view.now.frames (marks_of earlier) }
+    requires marks { AreIn view.now.frames (marks_of marks) }
+    requires within { place < 4096 * view.now.frames }
+    ensures { result ≡ byte (marked (marked (bytes_of view.now) (marks_of earlier)) (marks_of marks)) place }
 {
     uses_are_seen();
-    are_bytes(ram, image, frames);
-    let first = flag(byte(ram, image, frames, place), is_marked(earlier, place));
+    are_bytes(view.ram, view.image, view.frames);
+    let first = flag(byte(view, place), is_marked(earlier, place));
     flag(first, is_marked(marks, place))
 }
 
 /// Bytes of a page as a fetch reads them, whose walks have set their flags by then.
-pub fn read(
-    ram: &Ram,
-    image: &Checked,
-    frames: u32,
+pub(crate) fn read(
+    view: &GuestView<'_>,
     earlier: Option<Marks>,
     seen: Seen,
     at: u32,
     len: u32,
     into: &mut Bytes,
 )
-    requires frames { 4096 * frames ≤ length ram.now }
-    requires laid { 0x100000 + length image.now.text ≤ 4096 * frames }
-    requires earlier { AreIn frames (marks_of earlier) }
-    requires marks { AreIn frames (marks_of seen.marks) }
-    requires frame { seen.frame < frames }
+    requires earlier { AreIn view.now.frames (marks_of earlier) }
+    requires marks { AreIn view.now.frames (marks_of seen.marks) }
+    requires frame { seen.frame < view.now.frames }
     requires one { at % 4096 + len ≤ 4096 }
     requires few { len ≤ 11 }
     requires room { length into.old.items ≤ 11 }
-    ensures { into.new.items ≡ into.old.items ++ part (marked (marked (shown (ground image.now frames) ram.now) (marks_of earlier)) (marks_of seen.marks)) (4096 * seen.frame + at % 4096) len }
+    ensures { into.new.items ≡ into.old.items
+        ++ part (marked (marked (bytes_of view.now) (marks_of earlier)) (marks_of seen.marks)) (4096 * seen.frame + at % 4096) len }
 {
-    let _len = ram.len();
+    let _len = view.ram.len();
     let start = seen.frame * 4096 + at % 4096;
     for i in 0..len {
-        into.push(byte_seen(ram, image, frames, earlier, seen.marks, start + i));
+        into.push(byte_seen(view, earlier, seen.marks, start + i));
     }
 }
 
 /// The byte is one of those that the fetch reads in its first page, and its accessed flag is clear.
-fn marks_byte(cpu: &Cpu, ram: &Ram, image: &Checked, frames: u32, first: Seen, place: u32) -> bool
-    requires frames { 4096 * frames ≤ length ram.now }
-    requires laid { 0x100000 + length image.now.text ≤ 4096 * frames }
-    requires marks { AreIn frames (marks_of first.marks) }
-    requires frame { first.frame < frames }
-    requires within { place < 4096 * frames }
-    ensures { (set : Set) → result ≡ (is_front (looked cpu.now (shown (ground image.now frames) ram.now) set) (seen_of first) place && not (has (byte (marked (shown (ground image.now frames) ram.now) (marks_of first.marks)) place) 32)) }
+fn marks_byte(cpu: &Cpu, view: &GuestView<'_>, first: Seen, place: u32) -> bool
+    requires marks { AreIn view.now.frames (marks_of first.marks) }
+    requires frame { first.frame < view.now.frames }
+    requires within { place < 4096 * view.now.frames }
+    ensures { (set : Set) → result ≡ (is_front (looked cpu.now (bytes_of view.now) set) (seen_of first) place
+        && not (has (byte (marked (bytes_of view.now) (marks_of first.marks)) place) 32)) }
 {
-    let _len = ram.len();
+    let _len = view.ram.len();
     let start = first.frame * 4096 + cpu.regs.eip % 4096;
     if place < start || place >= start + front_len(cpu.regs.eip) {
         return false;
     }
-    byte_seen(ram, image, frames, first.marks, None, place) / 32 % 2 != 1
+    byte_seen(view, first.marks, None, place) / 32 % 2 != 1
 }
 
 /// The walk of the second page would mark a byte that was read of the first.
-fn marks_front(
-    cpu: &Cpu,
-    ram: &Ram,
-    image: &Checked,
-    frames: u32,
-    first: Seen,
-    marks: Option<Marks>,
-) -> bool
-    requires frames { 4096 * frames ≤ length ram.now }
-    requires laid { 0x100000 + length image.now.text ≤ 4096 * frames }
-    requires marks { AreIn frames (marks_of first.marks) }
-    requires frame { first.frame < frames }
-    requires places { AreIn frames (marks_of marks) }
-    ensures { (set : Set) → result ≡ marks_front (looked cpu.now (shown (ground image.now frames) ram.now) set) (seen_of first) (marks_of marks) }
+fn marks_front(cpu: &Cpu, view: &GuestView<'_>, first: Seen, marks: Option<Marks>) -> bool
+    requires marks { AreIn view.now.frames (marks_of first.marks) }
+    requires frame { first.frame < view.now.frames }
+    requires places { AreIn view.now.frames (marks_of marks) }
+    ensures { (set : Set) → result ≡ marks_front (looked cpu.now (bytes_of view.now) set) (seen_of first) (marks_of marks) }
 {
     match marks {
         None => false,
         Some(marks) => {
-            marks_byte(cpu, ram, image, frames, first, marks.dir)
-                || marks_byte(cpu, ram, image, frames, first, marks.word)
+            marks_byte(cpu, view, first, marks.dir) || marks_byte(cpu, view, first, marks.word)
         }
     }
 }
 
 /// Where the fetch of the next instruction leads in its second page.
-pub fn fetched_next<S: Shadows>(
+pub(crate) fn fetched_next<S: Shadows>(
     cpu: &Cpu,
     shadows: &S,
-    ram: &Ram,
-    image: &Checked,
-    frames: u32,
+    view: &GuestView<'_>,
     first: Seen,
 ) -> Option<Seen>
-    requires frames { 4096 * frames ≤ length ram.now }
-    requires laid { 0x100000 + length image.now.text ≤ 4096 * frames }
-    requires stands { ∥ S.stands shadows.now ram.now ∥₁ }
-    requires kept { AreWithin frames (entries_of (S.slots shadows.now ram.now)) }
-    requires marks { AreIn frames (marks_of first.marks) }
-    requires frame { first.frame < frames }
+    requires stands { ∥ S.stands shadows.now view.now.ram.now ∥₁ }
+    requires kept { AreWithin view.now.frames (set_at S.Shadows shadows.now view.now) }
+    requires marks { AreIn view.now.frames (marks_of first.marks) }
+    requires frame { first.frame < view.now.frames }
     requires page { cpu.now.regs.eip / 4096 < 1048575 }
-    ensures seen { map_seen result ≡ next_seen (ground image.now frames) (looked cpu.now (shown (ground image.now frames) ram.now) (entries_of (S.slots shadows.now ram.now))) (seen_of first) }
-    ensures marks { IfSome result (λ s. AreIn frames (marks_of s.marks)) }
-    ensures frame { IfSome result (λ s. s.frame < frames) }
+    ensures seen { map_seen result ≡ next_seen (ground_of view.now) (looked_at S.Shadows cpu.now shadows.now view.now) (seen_of first) }
+    ensures marks { IfSome result (λ s. AreIn view.now.frames (marks_of s.marks)) }
+    ensures frame { IfSome result (λ s. s.frame < view.now.frames) }
 {
-    match fetched(cpu, shadows, ram, image, frames, cpu.regs.eip / 4096 + 1) {
+    match fetched(cpu, shadows, view, cpu.regs.eip / 4096 + 1) {
         None => None,
         Some(second) => {
-            if marks_front(cpu, ram, image, frames, first, second.marks) {
+            if marks_front(cpu, view, first, second.marks) {
                 return None;
             }
             Some(second)

@@ -23,57 +23,50 @@ pub fn are_bytes(ram: &Ram, image: &Checked, frames: u32)
     let _count = count(image.text());
 }
 
-/// The byte at a place.
-pub fn byte(ram: &Ram, image: &Checked, frames: u32, at: u32) -> u8
-    requires frames { 4096 * frames ≤ length ram.now }
-    requires laid { 0x100000 + length image.now.text ≤ 4096 * frames }
-    requires within { at < 4096 * frames }
-    ensures { result ≡ byte (shown (ground image.now frames) ram.now) at }
-{
-    read_laid(ram, image.text(), TEXT_FRAME, frames, at)
-}
-
-/// The word at a place.
-fn word(ram: &Ram, image: &Checked, frames: u32, at: u32) -> u32
-    requires frames { 4096 * frames ≤ length ram.now }
-    requires laid { 0x100000 + length image.now.text ≤ 4096 * frames }
-    requires within { at + 4 ≤ 4096 * frames }
-    ensures { result ≡ word32 (shown (ground image.now frames) ram.now) at }
-{
-    let _len = ram.len();
-    let low = u32::from(byte(ram, image, frames, at));
-    let second = u32::from(byte(ram, image, frames, at + 1));
-    let third = u32::from(byte(ram, image, frames, at + 2));
-    let high = u32::from(byte(ram, image, frames, at + 3));
-    low + second * 256 + third * 65536 + high * 16_777_216
-}
-
-/// Memory as the guest sees it.
+/// Memory as the guest sees it: so many frames of the host's, with this image's text.
 #[derive(Clone, Copy)]
-struct Sight<'a> {
-    ram: &'a Ram,
-    image: &'a Checked,
-    frames: u32,
+pub(crate) struct GuestView<'a> {
+    pub(crate) ram: &'a Ram,
+    pub(crate) image: &'a Checked,
+    pub(crate) frames: u32,
     ghost room: { 4096 * frames ≤ length ram.now },
     ghost laid: { 0x100000 + length image.now.text ≤ 4096 * frames },
 }
 
-impl Words for Sight<'_> {
-    ghost bytes = { λ sight. shown (ground sight.image.now sight.frames) sight.ram.now };
+/// The byte at a place.
+pub(crate) fn byte(view: &GuestView<'_>, at: u32) -> u8
+    requires within { at < 4096 * view.now.frames }
+    ensures { result ≡ byte (shown (ground view.now.image.now view.now.frames) view.now.ram.now) at }
+{
+    read_laid(view.ram, view.image.text(), TEXT_FRAME, view.frames, at)
+}
+
+impl Words for GuestView<'_> {
+    ghost bytes = { λ view. shown (ground view.image.now view.frames) view.ram.now };
 
     fn word(&self, at: u32) -> u32 {
-        word(self.ram, self.image, self.frames, at)
+        word(self, at)
     }
 }
 
-/// What the tables say of a page. `pse` is the PSE flag of CR4. No flag is set.
-pub fn walk(ram: &Ram, image: &Checked, frames: u32, cr3: u32, pse: bool, page: u32) -> Walk
-    requires frames { 4096 * frames ≤ length ram.now }
-    requires laid { 0x100000 + length image.now.text ≤ 4096 * frames }
-    requires page { page < 2 ^ 20 }
-    ensures walk { result ≡ fresh (shown (ground image.now frames) ram.now) frames cr3 pse page }
-    ensures found { FoundIn frames page result }
+/// The word at a place.
+fn word(view: &GuestView<'_>, at: u32) -> u32
+    requires within { at + 4 ≤ 4096 * view.now.frames }
+    ensures { result ≡ word32 (shown (ground view.now.image.now view.now.frames) view.now.ram.now) at }
 {
-    let sight = Sight { ram, image, frames };
-    paging::walk(&sight, frames, cr3, pse, page)
+    let _len = view.ram.len();
+    let low = u32::from(byte(view, at));
+    let second = u32::from(byte(view, at + 1));
+    let third = u32::from(byte(view, at + 2));
+    let high = u32::from(byte(view, at + 3));
+    low + second * 256 + third * 65536 + high * 16_777_216
+}
+
+/// What the tables say of a page. `pse` is the PSE flag of CR4. No flag is set.
+pub(crate) fn walk(view: &GuestView<'_>, cr3: u32, pse: bool, page: u32) -> Walk
+    requires page { page < 2 ^ 20 }
+    ensures walk { result ≡ fresh (shown (ground view.now.image.now view.now.frames) view.now.ram.now) view.now.frames cr3 pse page }
+    ensures found { FoundIn view.now.frames page result }
+{
+    paging::walk(view, view.frames, cr3, pse, page)
 }

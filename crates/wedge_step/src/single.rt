@@ -1,35 +1,24 @@
 //! One step that the host has no part in.
 
-ghost use Rattle.std.specs.Prelude.{◌≡◌, ℕ, Bool, List, false, ◌+◌, ◌*◌, ◌/◌, ◌%◌, ◌==◌, ◌≤◌, ◌<◌, ◌^◌, length, true, OnErr, OnOk};
-ghost use Rattle.frame_pool.specs.Held.{Owns, Moves};
-ghost use Rattle.frame_pool.specs.Pool.{base_of, free_list};
+ghost use Rattle.std.specs.Prelude.{◌≡◌, ℕ, Bool, true, false, OnErr, OnOk, ◌+◌, ◌*◌, ◌/◌, ◌==◌, ◌≤◌, ◌<◌, ◌^◌};
 ghost use Rattle.board.specs.Boards.{board_step};
 ghost use Rattle.board.specs.Scripts.{Events};
 ghost use Rattle.image_check.specs.Image.{Image};
 ghost use Rattle.image_load.specs.Boot.{text_pages};
-ghost use Rattle.paging.specs.Fresh.{has};
-ghost use Rattle.shadow_tables.specs.Entries.{entries_of};
-ghost use Rattle.step_mem.specs.Changes.{changed};
-ghost use Rattle.step_mem.specs.Sound.{IsSound};
-ghost use Rattle.machine_step.specs.Worked.{dropping, IsDropped};
-ghost use Rattle.machine_model.specs.State.{Setting, wedge};
-ghost use Rattle.native_steps.specs.Mirrors.{shown};
 ghost use Rattle.descriptors.specs.declared.cpu.Cpu.{Cpu};
 ghost use Rattle.descriptors.specs.Controls.{wp_of};
-ghost use Rattle.wedge_mem.specs.Settled.{pages_of};
-ghost use Rattle.wedge_step.specs.Closed.{MayClose, Closes};
-ghost use Rattle.wedge_step.specs.Filled.{FillsOn, fills_of, pages_kept};
-ghost use Rattle.wedge_step.specs.Parts.{left_of};
-ghost use Rattle.wedge_step.specs.Pools.{Keeps};
-ghost use Rattle.wedge_step.specs.Ready.{IsReady, IsReadyBut, IsReadyBehind, AreFound, AllOpen, leaving};
-ghost use Rattle.wedge_step.specs.Standing.{AreOpen, IsHeld, ground, set_of, side_of, state_of};
+ghost use Rattle.machine_step.specs.Worked.{dropping};
+ghost use Rattle.machine_model.specs.State.{Setting, wedge};
 ghost use Rattle.wedge_step.specs.Alone.{AloneAs};
-ghost use Rattle.std.specs.Prelude.{◌++◌, ◌∷◌, []};
-ghost use Rattle.guest_ram.specs.Among.{is_among};
-ghost use Rattle.machine_model.specs.Taken.{Taken};
-ghost use Rattle.machine_model.specs.Keeping.{Roomy};
-ghost use Rattle.wedge_step.specs.Carried.{IsCarried, IsTakenFrom};
-ghost use Rattle.wedge_step.specs.Leaving.{Tells, Ends};
+ghost use Rattle.wedge_step.specs.Ending.{EndsCount, IsUnderWay, IsWorked, KeepsCount, KeepsRest, MayEnd, Passes};
+ghost use Rattle.wedge_step.specs.Leaves.{Accounts, CarriesOn, IsBetween, Stays};
+ghost use Rattle.wedge_step.specs.Leaving.{Ends, IsToldOf};
+ghost use Rattle.wedge_step.specs.Parts.{left_of};
+ghost use Rattle.wedge_step.specs.Ready.{AllOpen, leaving};
+ghost use Rattle.wedge_step.specs.Scene.{scene, state_in};
+ghost use Rattle.wedge_step.specs.Sight.{sight};
+ghost use Rattle.wedge_step.specs.Stand.{AreFoundIn, AreUnder, ClosesIn, IsReadyBehindIn, IsReadyButIn, IsReadyIn, MayCloseIn, Moved, OpensFor, Suffices, pages_through, room_in, set_behind, set_in, stand};
+ghost use Rattle.wedge_step.specs.Standing.{AreOpen, side_of};
 
 use crate::carrying::known_laws;
 use crate::close::{close, leave};
@@ -93,26 +82,19 @@ pub fn step_alone<S: Reloads + Drop>(
     image: &Checked,
     wanted: bool,
 ) -> Result<Seen, Stop>
-    requires held { IsHeld S.stands S.frames S.slots (ground image.now running.old.frames) running.old pool.old ram.old }
-    requires ready { IsReady S.slots S.noted S.marked S.value S.asides (ground image.now running.old.frames) running.old.cpu running.old.shadows ram.old }
+    requires between { IsBetween S.Shadows image.now (scene running.old pool.old ram.old) }
     requires bound { running.old.step < 2 ^ 40 }
-    requires enough { 16 ≤ length (free_list pool.old ram.old) + running.old.held }
-    ensures ready { OnOk result (IsReady S.slots S.noted S.marked S.value S.asides (ground image.now running.old.frames) running.new.cpu running.new.shadows ram.new) }
+    ensures between { OnOk result (IsBetween S.Shadows image.now (scene running.new pool.new ram.new)) }
     ensures wanted { OnOk result (wanted ≡ true → running.new.lost.back ≡ false) }
-    ensures carried { OnOk result ((script : Events) (steps : List Taken) (t : Taken) → wanted ≡ false → length (free_list pool.old ram.old) + running.old.held ≡ 512 → Roomy (steps ++ t ∷ [])
-        → IsTakenFrom (wedge image.now script running.old.frames) (state_of S.stands S.frames S.slots (wedge image.now script running.old.frames) running.old ram.old) t → t.set ≡ set_of S.stands S.frames S.slots running.old ram.old
-        → IsCarried S.slots S.noted S.marked S.asides S.opened (wedge image.now script running.old.frames) steps t.before running.old.shadows ram.old → IsCarried S.slots S.noted S.marked S.asides S.opened (wedge image.now script running.old.frames) (steps ++ t ∷ []) t.after running.new.shadows ram.new) }
-    ensures step { (script : Events) → AloneAs (wedge image.now script running.old.frames) (state_of S.stands S.frames S.slots (wedge image.now script running.old.frames) running.old ram.old) running.new.lost result (state_of S.stands S.frames S.slots (wedge image.now script running.old.frames) running.new ram.new) }
+    ensures carried { OnOk result (CarriesOn S.Shadows image.now wanted (set_in S.Shadows (stand running.old.shadows pool.old ram.old))
+        (scene running.old pool.old ram.old) (scene running.new pool.new ram.new)) }
+    ensures step { (script : Events) → let m = wedge image.now script running.old.frames in
+        AloneAs m (state_in S.Shadows m (scene running.old pool.old ram.old)) running.new.lost result
+        (state_in S.Shadows m (scene running.new pool.new ram.new)) }
     ensures before { running.new.lost.before ≡ running.old.lost.before }
-    ensures held { OnOk result (IsHeld S.stands S.frames S.slots (ground image.now running.old.frames) running.new pool.new ram.new) }
     ensures count { OnOk result (running.new.step ≡ running.old.step + 1) }
-    ensures stays { OnErr result (running.new.step ≡ running.old.step) }
-    ensures unfilled { OnErr result (running.new.fills ≡ running.old.fills) }
-    ensures counted { running.new.held ≡ length (S.frames running.new.shadows ram.new) }
-    ensures stands { ∥ S.stands running.new.shadows ram.new ∥₁ }
-    ensures filled { FillsOn (pages_kept S.slots S.asides running.old.shadows ram.old) (pages_kept S.slots S.asides running.new.shadows ram.new) running.old.fills running.new.fills }
-    ensures pool { Keeps pool.old pool.new ram.old ram.new (S.frames running.old.shadows ram.old) (S.frames running.new.shadows ram.new) }
-    ensures frames { running.new.frames ≡ running.old.frames }
+    ensures stays { OnErr result (Stays (scene running.old pool.old ram.old) (scene running.new pool.new ram.new)) }
+    ensures accounts { Accounts S.Shadows (scene running.old pool.old ram.old) (scene running.new pool.new ram.new) }
 {
     let text = Some(original(image));
     let guard = Guard {
@@ -155,32 +137,29 @@ pub fn keep<S: Shadows + Drop>(
     state: &StepState,
     count: u32,
 )
-    requires sound { IsSound (λ m. entries_of (S.slots running.old.shadows m)) (4096 * base_of pool.old) (λ m. (∥ S.stands running.old.shadows m ∥₁) × Owns pool.old m (S.frames running.old.shadows m)) ram.old state.now }
-    requires counted { running.old.held ≡ length (S.frames running.old.shadows ram.old) }
-    requires few { length (free_list pool.old ram.old) + length (S.frames running.old.shadows ram.old) < 2 ^ 32 }
+    requires under { IsUnderWay S.Shadows (scene running.old pool.old ram.old) state.now }
     requires fills { running.old.fills ≤ 2 ^ 48 }
-    ensures stands { ∥ S.stands running.new.shadows ram.new ∥₁ }
-    ensures owns { Owns pool.new ram.new (S.frames running.new.shadows ram.new) }
-    ensures moves { Moves pool.old pool.new ram.old ram.new (S.frames running.old.shadows ram.old) (S.frames running.new.shadows ram.new) }
-    ensures left { entries_of (S.slots running.new.shadows ram.new) ≡ left_of running.new.lost.after (changed (entries_of (S.slots running.old.shadows ram.old)) state.now.changes) }
-    ensures before { running.new.lost.before ≡ running.old.lost.before }
-    ensures shows { (image : Image) → count ≡ text_pages image → AreOpen image state.now.control.wp (S.slots running.old.shadows ram.old) → AreOpen image state.now.control.wp (S.slots running.new.shadows ram.new) }
-    ensures whole { MayClose count (side_of (running.old.cpu.cpl == 3)) (changed (entries_of (S.slots running.old.shadows ram.old)) state.now.changes) (pages_of state.now.visited state.now.changes) (length (free_list pool.old ram.old))
-        → (running.new.lost.after ≡ false) × Closes (S.slots running.old.shadows ram.old) (S.slots running.new.shadows ram.new) (changed (entries_of (S.slots running.old.shadows ram.old)) state.now.changes) (pages_of state.now.visited state.now.changes)
-        (side_of (running.old.cpu.cpl == 3)) state.now.control.wp (S.tracked running.new.shadows) state.now.wrote }
+    ensures moved { Moved S.Shadows (stand running.old.shadows pool.old ram.old) (stand running.new.shadows pool.new ram.new) }
+    ensures left { set_in S.Shadows (stand running.new.shadows pool.new ram.new)
+        ≡ left_of running.new.lost.after (set_behind S.Shadows (stand running.old.shadows pool.old ram.old) state.now) }
+    ensures shows { (image : Image) → count ≡ text_pages image
+        → AreOpen image state.now.control.wp (S.slots running.old.shadows ram.old)
+        → AreOpen image state.now.control.wp (S.slots running.new.shadows ram.new) }
+    ensures whole { MayCloseIn S.Shadows count (side_of (running.old.cpu.cpl == 3)) (stand running.old.shadows pool.old ram.old) state.now
+        → (running.new.lost.after ≡ false)
+        × ClosesIn S.Shadows (side_of (running.old.cpu.cpl == 3)) (stand running.old.shadows pool.old ram.old)
+        (stand running.new.shadows pool.new ram.new) state.now }
     ensures ready { (out : ℕ → Bool) (m : Setting) (cpu : Cpu) → m.frames ≡ state.now.control.frames
-        → IsReadyBehind S.slots S.noted S.marked S.value S.asides out m cpu running.old.shadows ram.old (changed (entries_of (S.slots running.old.shadows ram.old)) state.now.changes) state.now.tables state.now.wrote
-        → IsReadyBut S.slots S.noted S.marked S.value S.asides out m cpu running.new.shadows ram.new }
-    ensures opens { (image : Image) (wp : Bool) → AllOpen image wp (S.asides running.old.shadows ram.old) → AllOpen image wp (S.asides running.new.shadows ram.new) }
-    ensures back { running.new.lost.back ≡ running.old.lost.back }
-    ensures told { running.new.lost.after ≡ false → Tells state.now.tables state.now.wrote (S.noted running.old.shadows) (S.noted running.new.shadows) (S.marked running.old.shadows) (S.marked running.new.shadows) (S.asides running.old.shadows ram.old) (S.asides running.new.shadows ram.new) }
-    ensures value { S.value running.new.shadows ≡ S.value running.old.shadows }
-    ensures opened { (indices : ℕ → Bool) → ((page : ℕ) → is_among page (pages_of state.now.visited state.now.changes) ≡ true → indices (page / 1024) ≡ true) → S.opened running.old.shadows ram.old indices → S.opened running.new.shadows ram.new indices }
-    ensures counted { running.new.held ≡ length (S.frames running.new.shadows ram.new) }
-    ensures fills { running.new.fills ≤ running.old.fills + 128 }
-    ensures exact { running.new.fills ≡ running.old.fills + fills_of running.new.lost.after (changed (entries_of (S.slots running.old.shadows ram.old)) state.now.changes) (pages_of state.now.visited state.now.changes) }
-    ensures filled { FillsOn (pages_kept S.slots S.asides running.old.shadows ram.old) (pages_kept S.slots S.asides running.new.shadows ram.new) running.old.fills running.new.fills }
-    ensures same { running.new ≡ record running.old { shadows = running.new.shadows; held = running.new.held; fills = running.new.fills; lost = running.new.lost } }
+        → IsReadyBehindIn S.Shadows out m cpu (stand running.old.shadows pool.old ram.old) state.now
+        → IsReadyButIn S.Shadows out m cpu (stand running.new.shadows pool.new ram.new) }
+    ensures opens { (image : Image) (wp : Bool)
+        → AllOpen image wp (S.asides running.old.shadows ram.old) → AllOpen image wp (S.asides running.new.shadows ram.new) }
+    ensures told { IsToldOf state.now.tables state.now.wrote running.new.lost.after
+        (sight S.Shadows running.old.shadows ram.old) (sight S.Shadows running.new.shadows ram.new) }
+    ensures opened { OpensFor S.Shadows (pages_through state.now)
+        (stand running.old.shadows pool.old ram.old) (stand running.new.shadows pool.new ram.new) }
+    ensures counts { KeepsCount S.Shadows (scene running.old pool.old ram.old) (scene running.new pool.new ram.new) state.now }
+    ensures same { KeepsRest running.old running.new }
 {
     let all = pool.free() + running.held;
     let side = side_of(running.cpu.cpl);
@@ -207,39 +186,36 @@ pub fn go<S: Reloads + Drop>(
     count: u32,
     wanted: bool,
 )
-    requires sound { IsSound (λ m. entries_of (S.slots running.old.shadows m)) (4096 * base_of pool.old) (λ m. (∥ S.stands running.old.shadows m ∥₁) × Owns pool.old m (S.frames running.old.shadows m)) ram.old state.now }
-    requires counted { running.old.held ≡ length (S.frames running.old.shadows ram.old) }
-    requires few { length (free_list pool.old ram.old) + length (S.frames running.old.shadows ram.old) < 2 ^ 32 }
-    requires fills { running.old.fills ≤ 128 * running.old.step }
-    requires bound { running.old.step < 2 ^ 40 }
-    requires page { IsDropped worked.now.dropped }
-    requires rules { state.now.control.wp ≡ wp_of running.old.cpu }
-    requires enough { 4 ≤ length (free_list pool.old ram.old) + length (S.frames running.old.shadows ram.old) }
-    ensures stands { ∥ S.stands running.new.shadows ram.new ∥₁ }
-    ensures owns { Owns pool.new ram.new (S.frames running.new.shadows ram.new) }
-    ensures moves { Moves pool.old pool.new ram.old ram.new (S.frames running.old.shadows ram.old) (S.frames running.new.shadows ram.new) }
-    ensures left { running.new.lost.back ≡ false → entries_of (S.slots running.new.shadows ram.new) ≡ left_of running.new.lost.after (dropping worked.now.dropped (changed (entries_of (S.slots running.old.shadows ram.old)) state.now.changes)) }
+    requires under { IsUnderWay S.Shadows (scene running.old pool.old ram.old) state.now }
+    requires counts { MayEnd S.Shadows (scene running.old pool.old ram.old) }
+    requires worked { IsWorked running.old.cpu state.now worked.now }
+    ensures moved { Moved S.Shadows (stand running.old.shadows pool.old ram.old) (stand running.new.shadows pool.new ram.new) }
+    ensures left { running.new.lost.back ≡ false → set_in S.Shadows (stand running.new.shadows pool.new ram.new)
+        ≡ left_of running.new.lost.after (dropping worked.now.dropped
+        (set_behind S.Shadows (stand running.old.shadows pool.old ram.old) state.now)) }
     ensures wanted { wanted ≡ true → running.new.lost.back ≡ false }
-    ensures opened { (indices : ℕ → Bool) → ((page : ℕ) → is_among page (pages_of state.now.visited state.now.changes) ≡ true → indices (page / 1024) ≡ true) → S.opened running.old.shadows ram.old indices → S.opened running.new.shadows ram.new indices }
-    ensures ends { wanted ≡ false → MayClose count (side_of (running.old.cpu.cpl == 3)) (changed (entries_of (S.slots running.old.shadows ram.old)) state.now.changes) (pages_of state.now.visited state.now.changes) (length (free_list pool.old ram.old))
-        → (indices : ℕ → Bool) → ((page : ℕ) → is_among page (pages_of state.now.visited state.now.changes) ≡ true → indices (page / 1024) ≡ true) → S.opened running.old.shadows ram.old indices
-        → ((s : S) (memory : List ℕ) → ∥ S.stands s memory ∥₁ → S.opened s memory indices → length (S.frames s memory) + 2 ≤ length (free_list pool.old ram.old) + length (S.frames running.old.shadows ram.old))
-        → Ends worked.now.dropped running.old.cpu worked.now.cpu (S.value running.old.shadows) (pages_of state.now.visited state.now.changes) state.now.tables state.now.wrote (changed (entries_of (S.slots running.old.shadows ram.old)) state.now.changes)
-        (S.noted running.old.shadows) (S.noted running.new.shadows) (S.marked running.old.shadows) (S.marked running.new.shadows) (S.slots running.new.shadows ram.new) (S.asides running.old.shadows ram.old) (S.asides running.new.shadows ram.new) }
-    ensures ready { (m : Setting) → m.frames ≡ state.now.control.frames → count ≡ text_pages m.image → AreOpen m.image state.now.control.wp (S.slots running.old.shadows ram.old)
-        → IsReadyBehind S.slots S.noted S.marked S.value S.asides (leaving worked.now.dropped (pages_of state.now.visited state.now.changes)) m running.old.cpu running.old.shadows ram.old (changed (entries_of (S.slots running.old.shadows ram.old)) state.now.changes) state.now.tables state.now.wrote
-        → IsReady S.slots S.noted S.marked S.value S.asides m running.new.cpu running.new.shadows ram.new
-        × (running.new.lost.back ≡ true → AreFound m running.new.cpu (shown m ram.new) running.new.cpu.cr3 (S.noted running.new.shadows) (S.slots running.new.shadows ram.new)) }
-    ensures before { running.new.lost.before ≡ running.old.lost.before }
-    ensures shows { (image : Image) → count ≡ text_pages image → AreOpen image state.now.control.wp (S.slots running.old.shadows ram.old) → AllOpen image state.now.control.wp (S.asides running.old.shadows ram.old) → AreOpen image (wp_of worked.now.cpu) (S.slots running.new.shadows ram.new) }
-    ensures counted { running.new.held ≡ length (S.frames running.new.shadows ram.new) }
-    ensures fills { running.new.fills ≤ 128 * running.new.step }
-    ensures exact { running.new.lost.after ≡ false → running.new.fills ≡ running.old.fills + fills_of false (changed (entries_of (S.slots running.old.shadows ram.old)) state.now.changes) (pages_of state.now.visited state.now.changes) }
-    ensures filled { FillsOn (pages_kept S.slots S.asides running.old.shadows ram.old) (pages_kept S.slots S.asides running.new.shadows ram.new) running.old.fills running.new.fills }
-    ensures cpu { running.new.cpu ≡ worked.now.cpu }
-    ensures board { running.new.board ≡ board_step running.old.board }
-    ensures step { running.new.step ≡ running.old.step + 1 }
-    ensures frames { running.new.frames ≡ running.old.frames }
+    ensures opened { OpensFor S.Shadows (pages_through state.now)
+        (stand running.old.shadows pool.old ram.old) (stand running.new.shadows pool.new ram.new) }
+    ensures ends { wanted ≡ false
+        → MayCloseIn S.Shadows count (side_of (running.old.cpu.cpl == 3)) (stand running.old.shadows pool.old ram.old) state.now
+        → (indices : ℕ → Bool) → AreUnder (pages_through state.now) indices → S.opened running.old.shadows ram.old indices
+        → Suffices S.Shadows indices (room_in S.Shadows (stand running.old.shadows pool.old ram.old))
+        → Ends worked.now.dropped running.old.cpu worked.now.cpu (pages_through state.now) state.now.tables state.now.wrote
+        (set_behind S.Shadows (stand running.old.shadows pool.old ram.old) state.now)
+        (sight S.Shadows running.old.shadows ram.old) (sight S.Shadows running.new.shadows ram.new) }
+    ensures ready { (m : Setting) → m.frames ≡ state.now.control.frames → count ≡ text_pages m.image
+        → AreOpen m.image state.now.control.wp (S.slots running.old.shadows ram.old)
+        → IsReadyBehindIn S.Shadows (leaving worked.now.dropped (pages_through state.now)) m running.old.cpu
+        (stand running.old.shadows pool.old ram.old) state.now
+        → IsReadyIn S.Shadows m running.new.cpu (stand running.new.shadows pool.new ram.new)
+        × (running.new.lost.back ≡ true
+        → AreFoundIn S.Shadows m running.new.cpu running.new.cpu.cr3 (stand running.new.shadows pool.new ram.new)) }
+    ensures shows { (image : Image) → count ≡ text_pages image
+        → AreOpen image state.now.control.wp (S.slots running.old.shadows ram.old)
+        → AllOpen image state.now.control.wp (S.asides running.old.shadows ram.old)
+        → AreOpen image (wp_of worked.now.cpu) (S.slots running.new.shadows ram.new) }
+    ensures counts { EndsCount S.Shadows (scene running.old pool.old ram.old) (scene running.new pool.new ram.new) state.now }
+    ensures passes { Passes worked.now running.old running.new }
 {
     keep(running, pool, ram, state, count);
     let all = pool.free() + running.held;

@@ -8,10 +8,8 @@ use Rattle.ia32_decode.specs.Front.{front_len}
 use Rattle.machine_model.specs.State.{Setting, State}
 use Rattle.machine_model.specs.Clash.{Use, fetch_uses, range_uses}
 use Rattle.native_steps.specs.Looking.{Seen, bytes_seen, marked, next_seen, uses_behind, uses_from, uses_on}
-use Rattle.native_steps.specs.Mirrors.{shown}
-use Rattle.shadow_tables.specs.Entries.{entries_of}
-use Rattle.wedge_step.specs.Clashing.{looked, seen_of}
-use Rattle.wedge_step.specs.Standing.{ground}
+use Rattle.wedge_step.specs.Clashing.{seen_of}
+use Rattle.wedge_step.specs.Looked.{ground_of, looked_at}
 use Rattle.wedge_step.proofs.LookedUses.{bytes_few}
 use Rattle.wedge_step.proofs.clash.add_first.Goals as goal
 
@@ -35,23 +33,11 @@ module _ (m : Setting) (b : State) (x : Seen) (bytes list : List ℕ) (same : li
 pub add_next-requires-clause-few : goal.add_next-requires-clause-few
 add_next-requires-clause-few g c = bytes_few _ _ _ 11 _ _ c.new-bytes.ensures c.read.ensures c.front_len.ensures.few
 
-pub read-requires-clause-frames : goal.read-requires-clause-frames
-read-requires-clause-frames g c = c.requires.frames
-
-pub read-requires-clause-laid : goal.read-requires-clause-laid
-read-requires-clause-laid g c = c.requires.laid
-
 pub read-requires-clause-marks : goal.read-requires-clause-marks
 read-requires-clause-marks g c = c.requires.marks
 
 pub read-requires-clause-frame : goal.read-requires-clause-frame
 read-requires-clause-frame g c = c.requires.frame
-
-pub add_next-requires-clause-frames : goal.add_next-requires-clause-frames
-add_next-requires-clause-frames g c = c.requires.frames
-
-pub add_next-requires-clause-laid : goal.add_next-requires-clause-laid
-add_next-requires-clause-laid g c = c.requires.laid
 
 pub add_next-requires-clause-stands : goal.add_next-requires-clause-stands
 add_next-requires-clause-stands g c = c.requires.stands
@@ -83,8 +69,8 @@ add_next-requires-clause-page g c = c.if-eip-lt1048575.true
 pub returns-in-Insn : goal.returns-in-Insn
 returns-in-Insn g c =
     let a = c.args in
-    let m = ground a.image.now a.frames in
-    let b = looked a.cpu.now (shown m a.ram.now) (entries_of (g.S.Shadows.slots a.shadows.now a.ram.now)) in
+    let m = ground_of a.view.now in
+    let b = looked_at g.S.Shadows a.cpu.now a.shadows.now a.view.now in
     let x = seen_of a.first in
     let is = first_bytes b x _ c.read.new.into.items _ c.new-bytes.ensures c.read.ensures c.front_len.ensures.len in
     by_ranges m b x c.read.new.into.items _ c.as_slice.ensures.value is _ _ _ _ c.in-Insn.ensures.exact c.requires.one c.add_ranges.ensures.uses
@@ -92,8 +78,8 @@ returns-in-Insn g c =
 pub returns-in-Outside : goal.returns-in-Outside
 returns-in-Outside g c =
     let a = c.args in
-    let m = ground a.image.now a.frames in
-    let b = looked a.cpu.now (shown m a.ram.now) (entries_of (g.S.Shadows.slots a.shadows.now a.ram.now)) in
+    let m = ground_of a.view.now in
+    let b = looked_at g.S.Shadows a.cpu.now a.shadows.now a.view.now in
     let x = seen_of a.first in
     let is = first_bytes b x _ c.read.new.into.items _ c.new-bytes.ensures c.read.ensures c.front_len.ensures.len in
     c.requires.one ∙ behind m b x c.read.new.into.items _ c.as_slice.ensures.value is begins.Outside c.in-Outside.ensures.exact
@@ -101,8 +87,8 @@ returns-in-Outside g c =
 pub returns-then-eip-lt1048575 : goal.returns-then-eip-lt1048575
 returns-then-eip-lt1048575 g c =
     let a = c.args in
-    let m = ground a.image.now a.frames in
-    let b = looked a.cpu.now (shown m a.ram.now) (entries_of (g.S.Shadows.slots a.shadows.now a.ram.now)) in
+    let m = ground_of a.view.now in
+    let b = looked_at g.S.Shadows a.cpu.now a.shadows.now a.view.now in
     let x = seen_of a.first in
     let is = first_bytes b x _ c.read.new.into.items _ c.new-bytes.ensures c.read.ensures c.front_len.ensures.len in
     goes_on m b x c.read.new.into.items _ c.as_slice.ensures.value is _ c.in-Short.ensures.exact c.if-eip-lt1048575.true c.add_next.ensures

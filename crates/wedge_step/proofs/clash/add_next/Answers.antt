@@ -1,34 +1,26 @@
 use Rattle.std.proofs.Common.{◌==◌, refl, ◌∙◌}
 use Rattle.native_steps.specs.Looking.{marked, next_seen}
-use Rattle.native_steps.specs.Mirrors.{shown}
-use Rattle.shadow_tables.specs.Entries.{entries_of}
 use Rattle.wedge_step.specs.Clashing.{looked, marks_of, seen_of, model_uses}
-use Rattle.wedge_step.specs.Standing.{ground}
+use Rattle.wedge_step.specs.Looked.{bytes_of, ground_of, set_at}
 use Rattle.wedge_step.proofs.LookedUses.{on_next, no_ranges_more}
 use Rattle.wedge_step.proofs.clash.add_next.Goals as goal
 
 pub returns-in-Insn : goal.returns-in-Insn
 returns-in-Insn g c =
     let a = c.args in
-    let ram = shown (ground a.image.now a.frames) a.ram.now in
-    let b = looked a.cpu.now ram (entries_of (g.S.Shadows.slots a.shadows.now a.ram.now)) in
-    on_next (next_seen (ground a.image.now a.frames) b (seen_of a.first)) b (marked ram (marks_of a.first.marks)) a.bytes.now.items _ (seen_of c.in-Some.second) a.uses.now.items c.push.new.self.items _ _ _ refl
+    let ram = bytes_of a.view.now in
+    let b = looked a.cpu.now ram (set_at g.S.Shadows a.shadows.now a.view.now) in
+    on_next (next_seen (ground_of a.view.now) b (seen_of a.first)) b (marked ram (marks_of a.first.marks)) a.bytes.now.items _ (seen_of c.in-Some.second) a.uses.now.items c.push.new.self.items _ _ _ refl
     c.requires.one c.push.ensures.items c.in-Some.ensures.seen (c.as_slice.ensures.value ∙ c.read.ensures) c.in-Insn.ensures.exact c.add_ranges.ensures.uses
 
 pub returns-in_default-decode : goal.returns-in_default-decode
 returns-in_default-decode g c =
     let a = c.args in
-    let ram = shown (ground a.image.now a.frames) a.ram.now in
-    let b = looked a.cpu.now ram (entries_of (g.S.Shadows.slots a.shadows.now a.ram.now)) in
-    on_next (next_seen (ground a.image.now a.frames) b (seen_of a.first)) b (marked ram (marks_of a.first.marks)) a.bytes.now.items _ (seen_of c.in-Some.second) a.uses.now.items c.push.new.self.items _ _ _ refl
+    let ram = bytes_of a.view.now in
+    let b = looked a.cpu.now ram (set_at g.S.Shadows a.shadows.now a.view.now) in
+    on_next (next_seen (ground_of a.view.now) b (seen_of a.first)) b (marked ram (marks_of a.first.marks)) a.bytes.now.items _ (seen_of c.in-Some.second) a.uses.now.items c.push.new.self.items _ _ _ refl
     c.requires.one c.push.ensures.items c.in-Some.ensures.seen (c.as_slice.ensures.value ∙ c.read.ensures) c.decode.ensures.exact
     (no_ranges_more b c.decode.result (model_uses (a.cpu.now.cpl == 3) c.push.new.self.items) c.in_default-decode.not-Insn)
-
-pub fetched_next-requires-clause-frames : goal.fetched_next-requires-clause-frames
-fetched_next-requires-clause-frames g c = c.requires.frames
-
-pub fetched_next-requires-clause-laid : goal.fetched_next-requires-clause-laid
-fetched_next-requires-clause-laid g c = c.requires.laid
 
 pub fetched_next-requires-clause-stands : goal.fetched_next-requires-clause-stands
 fetched_next-requires-clause-stands g c = c.requires.stands
@@ -44,12 +36,6 @@ fetched_next-requires-clause-frame g c = c.requires.frame
 
 pub fetched_next-requires-clause-page : goal.fetched_next-requires-clause-page
 fetched_next-requires-clause-page g c = c.requires.page
-
-pub read-requires-clause-frames : goal.read-requires-clause-frames
-read-requires-clause-frames g c = c.requires.frames
-
-pub read-requires-clause-laid : goal.read-requires-clause-laid
-read-requires-clause-laid g c = c.requires.laid
 
 pub read-requires-clause-earlier : goal.read-requires-clause-earlier
 read-requires-clause-earlier g c = c.requires.marks

@@ -10,8 +10,10 @@ use Rattle.wedge_step.proofs.Closing.{settled_left, settled_shows, settled_whole
 use Rattle.wedge_step.proofs.Opening.{none_open}
 use Rattle.wedge_step.proofs.Memories.{front_same, shown_same}
 use Rattle.wedge_step.proofs.Readying.{none_ready, none_pages}
-use Rattle.wedge_step.proofs.Resettling.{Settled, closed_opens, closed_none, closed_filled, closed_ready}
+use Rattle.wedge_step.proofs.Resettling.{Settled, closed_opens, closed_none, closed_filled, closed_ready, counts_join}
 use Rattle.wedge_step.specs.Ready.{AllOpen}
+use Rattle.wedge_step.specs.Sight.{sight}
+use Rattle.wedge_step.specs.Stand.{stand}
 use Rattle.wedge_step.proofs.close.close.Given.{Over}
 use Rattle.wedge_step.proofs.Leaving.{tells_by}
 use Rattle.wedge_step.proofs.close.close.Goals as goal
@@ -57,51 +59,37 @@ module _ (g : Over) (c : goal.After-settle g) where
   free = length (free_list c.args.pool.now c.args.ram.now)
 
 pub returns-clause-left : goal.returns-clause-left
-returns-clause-left g c = settled_left (entries_of (new g c)) (set g c) c.settle.result c.settle.ensures.entries
+returns-clause-left g c = settled_left (entries_of (new g c)) (set g c) c.settle.result c.settle.ensures.settled.entries
 
 pub returns-clause-shows : goal.returns-clause-shows
 returns-clause-shows g c = λ image is h.
-    settled_shows (old g c) (new g c) (set g c) (pages g c) c.args.side c.args.state.now.control.wp (g.S.Shadows.tracked c.settle.new.shadows) image c.args.count c.settle.result c.settle.ensures.entries c.settle.ensures.kept
+    settled_shows (old g c) (new g c) (set g c) (pages g c) c.args.side c.args.state.now.control.wp (g.S.Shadows.tracked c.settle.new.shadows) image c.args.count c.settle.result c.settle.ensures.settled.entries c.settle.ensures.settled.filled
     (λ page lt. g.met.S.Shadows.entry_at c.settle.new.shadows c.settle.new.ram page lt) (c.are_open.ensures.opened c.if-not-are_open.false) is h
 
 pub returns-clause-whole : goal.returns-clause-whole
 returns-clause-whole g c = λ may.
-    settled_whole (old g c) (new g c) (set g c) (pages g c) c.args.side c.args.state.now.control.wp (g.S.Shadows.tracked c.settle.new.shadows) c.args.count (free g c) c.args.state.now.wrote c.settle.result c.settle.ensures.count c.settle.ensures.entries c.settle.ensures.kept
-    c.settle.ensures.untracked may
-
-pub returns-clause-few : goal.returns-clause-few
-returns-clause-few g c = settled_few (set g c) c.args.state.now.visited c.args.state.now.changes (free g c) c.settle.result c.settle.ensures.count (omega (arith, c.requires.sound.noted, c.requires.sound.counted, c.requires.sound.few))
-
-pub returns-clause-exact : goal.returns-clause-exact
-returns-clause-exact g c = settled_exact (set g c) (pages g c) (free g c) c.settle.result c.settle.ensures.count
-
-pub returns-then-not-are_open-clause-exact : goal.returns-then-not-are_open-clause-exact
-returns-then-not-are_open-clause-exact g c = tt
+    settled_whole (old g c) (new g c) (set g c) (pages g c) c.args.side c.args.state.now.control.wp (g.S.Shadows.tracked c.settle.new.shadows) c.args.count (free g c) c.args.state.now.wrote c.settle.result c.settle.ensures.count c.settle.ensures.settled.entries c.settle.ensures.settled.filled
+    c.settle.ensures.settled.untracked may
 
 -- what the end of the step makes of what is kept
 module _ (g : Over) (c : goal.After-settle g) where
   settled : Settled g.S.Shadows.slots g.S.Shadows.noted g.S.Shadows.marked g.S.Shadows.value g.S.Shadows.asides c.args.shadows.now c.settle.new.shadows c.args.ram.now c.settle.new.ram (set g c) c.args.state.now.tables c.args.state.now.wrote c.settle.result
   settled = record {
-    entries = c.settle.ensures.entries;
+    entries = c.settle.ensures.settled.entries;
     at = λ page lt. g.met.S.Shadows.entry_at c.settle.new.shadows c.settle.new.ram page lt;
-    noted_is = c.settle.ensures.noted;
-    marked_is = c.settle.ensures.marked;
-    value_is = c.settle.ensures.value;
-    asides_are = c.settle.ensures.asides;
+    noted_is = c.settle.ensures.settled.noted;
+    marked_is = c.settle.ensures.settled.marked;
+    value_is = c.settle.ensures.settled.value;
+    asides_are = c.settle.ensures.settled.asides;
   }
 
 pub returns-clause-opens : goal.returns-clause-opens
 returns-clause-opens g c = λ image wp h.
-    closed_opens image wp c.settle.result c.args.state.now.tables c.args.state.now.wrote (g.S.Shadows.asides c.args.shadows.now c.args.ram.now) (g.S.Shadows.asides c.settle.new.shadows c.settle.new.ram) c.settle.ensures.asides h
+    closed_opens image wp c.settle.result c.args.state.now.tables c.args.state.now.wrote (g.S.Shadows.asides c.args.shadows.now c.args.ram.now) (g.S.Shadows.asides c.settle.new.shadows c.settle.new.ram) c.settle.ensures.settled.asides h
 
 pub returns-clause-fewer : goal.returns-clause-fewer
 returns-clause-fewer g c = λ e.
     closed_none g.S.Shadows.slots g.S.Shadows.noted g.S.Shadows.marked g.S.Shadows.value g.S.Shadows.asides c.args.shadows.now c.settle.new.shadows c.args.ram.now c.settle.new.ram (set g c) c.args.state.now.tables c.args.state.now.wrote c.settle.result (settled g c) e
-
-pub returns-clause-filled : goal.returns-clause-filled
-returns-clause-filled g c =
-    closed_filled c.settle.result c.args.state.now.tables c.args.state.now.wrote (entries_of (old g c)) (entries_of (new g c)) (g.S.Shadows.asides c.args.shadows.now c.args.ram.now) (g.S.Shadows.asides c.settle.new.shadows c.settle.new.ram) c.settle.ensures.asides
-    (settled_filled (entries_of (old g c)) (entries_of (new g c)) c.args.state.now.visited c.args.state.now.changes (free g c) c.settle.result c.settle.ensures.count c.settle.ensures.entries)
 
 pub returns-clause-ready : goal.returns-clause-ready
 returns-clause-ready g c = λ out m cpu frames h.
@@ -122,12 +110,6 @@ pub returns-then-not-are_open-clause-ready : goal.returns-then-not-are_open-clau
 returns-then-not-are_open-clause-ready g c = λ out m cpu frames h.
     none_ready g.S.Shadows.slots g.S.Shadows.noted g.S.Shadows.marked g.S.Shadows.value g.S.Shadows.asides out m cpu c.drop_all.new.self c.drop_all.new.ram (c.drop_all.ensures.value ∙ h.value_is) c.drop_all.ensures.none c.drop_all.ensures.asides
 
-pub returns-clause-told : goal.returns-clause-told
-returns-clause-told g c = λ e.
-    let s = c.settle.ensures in
-    tells_by (g.S.Shadows.noted c.args.shadows.now) (g.S.Shadows.noted c.settle.new.shadows) (g.S.Shadows.marked c.args.shadows.now) (g.S.Shadows.marked c.settle.new.shadows) (g.S.Shadows.asides c.args.shadows.now c.args.ram.now)
-    (g.S.Shadows.asides c.settle.new.shadows c.settle.new.ram) c.args.state.now.tables c.args.state.now.wrote c.settle.result s.noted_only s.marked s.asides e
-
 pub returns-clause-opened : goal.returns-clause-opened
 returns-clause-opened g c = λ indices all o. c.settle.ensures.opened indices all o
 
@@ -137,35 +119,33 @@ returns-then-not-are_open-clause-told g c = λ e. absurd (let f : true ≡ false
 pub returns-then-not-are_open-clause-opened : goal.returns-then-not-are_open-clause-opened
 returns-then-not-are_open-clause-opened g c = λ indices all o. c.drop_all.ensures.opened indices o
 
-pub returns-then-not-are_open-clause-stands : goal.returns-then-not-are_open-clause-stands
-returns-then-not-are_open-clause-stands g c = c.drop_all.ensures.stands
-
-pub returns-then-not-are_open-clause-owns : goal.returns-then-not-are_open-clause-owns
-returns-then-not-are_open-clause-owns g c = c.drop_all.ensures.owns
-
-pub returns-then-not-are_open-clause-moves : goal.returns-then-not-are_open-clause-moves
-returns-then-not-are_open-clause-moves g c = c.drop_all.ensures.moves
-
 pub returns-then-not-are_open-clause-value : goal.returns-then-not-are_open-clause-value
 returns-then-not-are_open-clause-value g c = c.drop_all.ensures.value
-
-pub returns-then-not-are_open-clause-few : goal.returns-then-not-are_open-clause-few
-returns-then-not-are_open-clause-few g c = tt
 
 pub returns-then-not-are_open-clause-filled : goal.returns-then-not-are_open-clause-filled
 returns-then-not-are_open-clause-filled g c = tt
 
-pub returns-clause-stands : goal.returns-clause-stands
-returns-clause-stands g c = c.settle.ensures.stands
-
-pub returns-clause-owns : goal.returns-clause-owns
-returns-clause-owns g c = c.settle.ensures.owns
-
-pub returns-clause-moves : goal.returns-clause-moves
-returns-clause-moves g c = c.settle.ensures.moves
-
 pub returns-clause-value : goal.returns-clause-value
-returns-clause-value g c = c.settle.ensures.value
+returns-clause-value g c = c.settle.ensures.settled.value
 
 pub settle-requires : goal.settle-requires
 settle-requires g c = record { sound = c.requires.sound }
+
+pub returns-then-not-are_open-clause-moved : goal.returns-then-not-are_open-clause-moved
+returns-then-not-are_open-clause-moved g c = let e = c.drop_all.ensures in record { stands = e.stands; owns = e.owns; moves = e.moves }
+
+pub returns-clause-moved : goal.returns-clause-moved
+returns-clause-moved g c = let e = c.settle.ensures in record { stands = e.stands; owns = e.owns; moves = e.moves }
+
+pub returns-clause-filled : goal.returns-clause-filled
+returns-clause-filled g c =
+    counts_join g.S.Shadows (stand c.args.shadows.now c.args.pool.now c.args.ram.now) (stand c.settle.new.shadows c.settle.new.pool c.settle.new.ram) c.args.state.now c.settle.result
+    (settled_few (set g c) c.args.state.now.visited c.args.state.now.changes (free g c) c.settle.result c.settle.ensures.count (omega (arith, c.requires.sound.noted, c.requires.sound.counted, c.requires.sound.few)))
+    (settled_exact (set g c) (pages g c) (free g c) c.settle.result c.settle.ensures.count)
+    (closed_filled c.settle.result c.args.state.now.tables c.args.state.now.wrote (entries_of (old g c)) (entries_of (new g c)) (g.S.Shadows.asides c.args.shadows.now c.args.ram.now) (g.S.Shadows.asides c.settle.new.shadows c.settle.new.ram) c.settle.ensures.settled.asides
+    (settled_filled (entries_of (old g c)) (entries_of (new g c)) c.args.state.now.visited c.args.state.now.changes (free g c) c.settle.result c.settle.ensures.count c.settle.ensures.settled.entries))
+
+pub returns-clause-told : goal.returns-clause-told
+returns-clause-told g c = λ e.
+    let s = c.settle.ensures in
+    tells_by (sight g.S.Shadows c.args.shadows.now c.args.ram.now) (sight g.S.Shadows c.settle.new.shadows c.settle.new.ram) c.args.state.now.tables c.args.state.now.wrote c.settle.result s.settled.noted_only s.settled.marked s.settled.asides e

@@ -15,46 +15,16 @@ use Rattle.std.proofs.Common.{arith}
 use Rattle.wedge_step.proofs.Leaving.{stays_by, stays_same}
 use Rattle.wedge_step.proofs.close.drop_from.Goals as goal
 
-pub returns-in-Page-clause-owns : goal.returns-in-Page-clause-owns
-returns-in-Page-clause-owns g c = Owns-moves _ _ _ _ _ _ c.requires.owns (c.drop_page.ensures.moves c.args.pool.now c.requires.owns)
-
-pub returns-in-Page-clause-moves : goal.returns-in-Page-clause-moves
-returns-in-Page-clause-moves g c = c.drop_page.ensures.moves c.args.pool.now c.requires.owns
-
-pub returns-in-Page-clause-shows : goal.returns-in-Page-clause-shows
-returns-in-Page-clause-shows g c = λ image wp h. turned_open image wp _ _ c.in-Page.page c.drop_page.ensures.turns h
-
-pub returns-in-Dir-clause-owns : goal.returns-in-Dir-clause-owns
-returns-in-Dir-clause-owns g c = Owns-moves _ _ _ _ _ _ c.requires.owns (c.drop_dir.ensures.moves c.args.pool.now c.requires.owns)
-
-pub returns-in-Dir-clause-moves : goal.returns-in-Dir-clause-moves
-returns-in-Dir-clause-moves g c = c.drop_dir.ensures.moves c.args.pool.now c.requires.owns
-
-pub returns-in-Dir-clause-shows : goal.returns-in-Dir-clause-shows
-returns-in-Dir-clause-shows g c = λ image wp h. lost_open image wp _ _ c.in-Dir.index c.drop_dir.ensures.loses h
-
-pub returns-in-All-clause-shows : goal.returns-in-All-clause-shows
-returns-in-All-clause-shows g c = λ image wp h. none_open image wp _ c.drop_all.ensures.none
-
-pub returns-in-Nothing-clause-moves : goal.returns-in-Nothing-clause-moves
-returns-in-Nothing-clause-moves g c = Moves-refl _ _ _ c.requires.owns.stands
-
-pub returns-in-Page-clause-opens : goal.returns-in-Page-clause-opens
-returns-in-Page-clause-opens g c = λ image wp h. open_shed image wp _ _ (same_shed _ _ c.drop_page.ensures.asides) h
-
 pub returns-in-Page-clause-fewer : goal.returns-in-Page-clause-fewer
 returns-in-Page-clause-fewer g c = fewer_pages _ _ _ _ (part_join _ _ _ (part_same _ _ c.drop_page.ensures.entries) (dropped_part (dropped.Page c.in-Page.page) _)) (same_shed _ _ c.drop_page.ensures.asides)
-
-pub returns-in-Dir-clause-opens : goal.returns-in-Dir-clause-opens
-returns-in-Dir-clause-opens g c = λ image wp h. open_shed image wp _ _ (same_shed _ _ c.drop_dir.ensures.asides) h
 
 pub returns-in-Dir-clause-fewer : goal.returns-in-Dir-clause-fewer
 returns-in-Dir-clause-fewer g c = fewer_pages _ _ _ _ (part_join _ _ _ (part_same _ _ c.drop_dir.ensures.entries) (dropped_part (dropped.Dir c.in-Dir.index) _)) (same_shed _ _ c.drop_dir.ensures.asides)
 
 pub returns-in-Page-clause-ready : goal.returns-in-Page-clause-ready
 returns-in-Page-clause-ready g c = λ m cpu pages low all h.
-    let moves = c.drop_page.ensures.moves c.args.pool.now c.requires.owns in
-    let front = front_same m.frames c.args.pool.now c.args.pool.now c.args.ram.now c.drop_page.new.ram _ _ low c.requires.owns moves in
+    let moves = c.drop_page.ensures.moves c.args.pool.now c.requires.owned.owns in
+    let front = front_same m.frames c.args.pool.now c.args.pool.now c.args.ram.now c.drop_page.new.ram _ _ low c.requires.owned.owns moves in
     fewer_ready g.S.Shadows.slots g.S.Shadows.noted g.S.Shadows.marked g.S.Shadows.value g.S.Shadows.asides (leaving (dropped.Page c.in-Page.page) pages) (λ page. false) m cpu c.args.shadows.now c.drop_page.new.self c.args.ram.now c.drop_page.new.ram c.drop_page.ensures.value
     (λ un. sym c.drop_page.ensures.marked ∙ un) (λ f n. c.drop_page.ensures.noted f ∙ n)
     (λ page lt o. elim (eqb_tells page c.in-Page.page) [
@@ -66,8 +36,8 @@ returns-in-Page-clause-ready g c = λ m cpu pages low all h.
 
 pub returns-in-Dir-clause-ready : goal.returns-in-Dir-clause-ready
 returns-in-Dir-clause-ready g c = λ m cpu pages low all h.
-    let moves = c.drop_dir.ensures.moves c.args.pool.now c.requires.owns in
-    let front = front_same m.frames c.args.pool.now c.args.pool.now c.args.ram.now c.drop_dir.new.ram _ _ low c.requires.owns moves in
+    let moves = c.drop_dir.ensures.moves c.args.pool.now c.requires.owned.owns in
+    let front = front_same m.frames c.args.pool.now c.args.pool.now c.args.ram.now c.drop_dir.new.ram _ _ low c.requires.owned.owns moves in
     fewer_ready g.S.Shadows.slots g.S.Shadows.noted g.S.Shadows.marked g.S.Shadows.value g.S.Shadows.asides (leaving (dropped.Dir c.in-Dir.index) pages) (λ page. false) m cpu c.args.shadows.now c.drop_dir.new.self c.args.ram.now c.drop_dir.new.ram c.drop_dir.ensures.value
     (λ un. sym c.drop_dir.ensures.marked ∙ un) (λ f n. c.drop_dir.ensures.noted f ∙ n)
     (λ page lt o. elim (eqb_tells (page / 1024) c.in-Dir.index) [
@@ -76,9 +46,6 @@ returns-in-Dir-clause-ready g c = λ m cpu pages low all h.
     ])
     (same_shed _ _ c.drop_dir.ensures.asides) (shown_same m c.args.ram.now c.drop_dir.new.ram front)
     (subst (λ (d : Dropped). IsReadyBut g.S.Shadows.slots g.S.Shadows.noted g.S.Shadows.marked g.S.Shadows.value g.S.Shadows.asides (leaving d pages) m cpu c.args.shadows.now c.args.ram.now) c.in-Dir.is h)
-
-pub returns-in-All-clause-opens : goal.returns-in-All-clause-opens
-returns-in-All-clause-opens g c = λ image wp h. subst (AllOpen image wp) (sym c.drop_all.ensures.asides) tt
 
 pub returns-in-All-clause-fewer : goal.returns-in-All-clause-fewer
 returns-in-All-clause-fewer g c =
@@ -93,9 +60,6 @@ returns-in-Page-clause-stay g c = λ all. let e = c.drop_page.ensures in stays_b
 pub returns-in-Dir-clause-stay : goal.returns-in-Dir-clause-stay
 returns-in-Dir-clause-stay g c = λ all. let e = c.drop_dir.ensures in stays_by _ _ _ _ _ _ e.noted e.marked e.asides
 
-pub returns-in-Page-clause-stands : goal.returns-in-Page-clause-stands
-returns-in-Page-clause-stands g c = c.drop_page.ensures.stands
-
 pub returns-in-Page-clause-entries : goal.returns-in-Page-clause-entries
 returns-in-Page-clause-entries g c = rw c.in-Page.is c.drop_page.ensures.entries
 
@@ -103,10 +67,7 @@ pub returns-in-Page-clause-opened : goal.returns-in-Page-clause-opened
 returns-in-Page-clause-opened g c = c.drop_page.ensures.opened
 
 pub drop_page-requires-clause-stands : goal.drop_page-requires-clause-stands
-drop_page-requires-clause-stands g c = c.requires.stands
-
-pub returns-in-Dir-clause-stands : goal.returns-in-Dir-clause-stands
-returns-in-Dir-clause-stands g c = c.drop_dir.ensures.stands
+drop_page-requires-clause-stands g c = c.requires.owned.stands
 
 pub returns-in-Dir-clause-entries : goal.returns-in-Dir-clause-entries
 returns-in-Dir-clause-entries g c = rw c.in-Dir.is c.drop_dir.ensures.entries
@@ -115,16 +76,7 @@ pub returns-in-Dir-clause-opened : goal.returns-in-Dir-clause-opened
 returns-in-Dir-clause-opened g c = c.drop_dir.ensures.opened
 
 pub drop_dir-requires-clause-stands : goal.drop_dir-requires-clause-stands
-drop_dir-requires-clause-stands g c = c.requires.stands
-
-pub returns-in-All-clause-stands : goal.returns-in-All-clause-stands
-returns-in-All-clause-stands g c = c.drop_all.ensures.stands
-
-pub returns-in-All-clause-owns : goal.returns-in-All-clause-owns
-returns-in-All-clause-owns g c = c.drop_all.ensures.owns
-
-pub returns-in-All-clause-moves : goal.returns-in-All-clause-moves
-returns-in-All-clause-moves g c = c.drop_all.ensures.moves
+drop_dir-requires-clause-stands g c = c.requires.owned.stands
 
 pub returns-in-All-clause-entries : goal.returns-in-All-clause-entries
 returns-in-All-clause-entries g c = rw c.in-All.is c.drop_all.ensures.entries
@@ -133,25 +85,37 @@ pub returns-in-All-clause-opened : goal.returns-in-All-clause-opened
 returns-in-All-clause-opened g c = c.drop_all.ensures.opened
 
 pub drop_all-requires-clause-stands : goal.drop_all-requires-clause-stands
-drop_all-requires-clause-stands g c = c.requires.stands
+drop_all-requires-clause-stands g c = c.requires.owned.stands
 
 pub drop_all-requires-clause-owns : goal.drop_all-requires-clause-owns
-drop_all-requires-clause-owns g c = c.requires.owns
-
-pub returns-in-Nothing-clause-stands : goal.returns-in-Nothing-clause-stands
-returns-in-Nothing-clause-stands g c = c.requires.stands
-
-pub returns-in-Nothing-clause-owns : goal.returns-in-Nothing-clause-owns
-returns-in-Nothing-clause-owns g c = c.requires.owns
+drop_all-requires-clause-owns g c = c.requires.owned.owns
 
 pub returns-in-Nothing-clause-entries : goal.returns-in-Nothing-clause-entries
 returns-in-Nothing-clause-entries g c = rw c.in-Nothing.is refl
 
-pub returns-in-Nothing-clause-shows : goal.returns-in-Nothing-clause-shows
-returns-in-Nothing-clause-shows g c = λ image wp h. h
-
-pub returns-in-Nothing-clause-opens : goal.returns-in-Nothing-clause-opens
-returns-in-Nothing-clause-opens g c = λ image wp h. h
-
 pub returns-in-Nothing-clause-opened : goal.returns-in-Nothing-clause-opened
 returns-in-Nothing-clause-opened g c = λ indices h. h
+
+pub returns-in-Nothing-clause-moved : goal.returns-in-Nothing-clause-moved
+returns-in-Nothing-clause-moved g c = record { stands = c.requires.owned.stands; owns = c.requires.owned.owns; moves = Moves-refl _ _ _ c.requires.owned.owns.stands }
+
+pub returns-in-Nothing-clause-shown : goal.returns-in-Nothing-clause-shown
+returns-in-Nothing-clause-shown g c = λ image wp. record { present = λ h. h; others = λ h. h }
+
+pub returns-in-Page-clause-moved : goal.returns-in-Page-clause-moved
+returns-in-Page-clause-moved g c = record { stands = c.drop_page.ensures.stands; owns = Owns-moves _ _ _ _ _ _ c.requires.owned.owns (c.drop_page.ensures.moves c.args.pool.now c.requires.owned.owns); moves = c.drop_page.ensures.moves c.args.pool.now c.requires.owned.owns }
+
+pub returns-in-Page-clause-shown : goal.returns-in-Page-clause-shown
+returns-in-Page-clause-shown g c = λ image wp. record { present = λ h. turned_open image wp _ _ c.in-Page.page c.drop_page.ensures.turns h; others = λ h. open_shed image wp _ _ (same_shed _ _ c.drop_page.ensures.asides) h }
+
+pub returns-in-Dir-clause-moved : goal.returns-in-Dir-clause-moved
+returns-in-Dir-clause-moved g c = record { stands = c.drop_dir.ensures.stands; owns = Owns-moves _ _ _ _ _ _ c.requires.owned.owns (c.drop_dir.ensures.moves c.args.pool.now c.requires.owned.owns); moves = c.drop_dir.ensures.moves c.args.pool.now c.requires.owned.owns }
+
+pub returns-in-Dir-clause-shown : goal.returns-in-Dir-clause-shown
+returns-in-Dir-clause-shown g c = λ image wp. record { present = λ h. lost_open image wp _ _ c.in-Dir.index c.drop_dir.ensures.loses h; others = λ h. open_shed image wp _ _ (same_shed _ _ c.drop_dir.ensures.asides) h }
+
+pub returns-in-All-clause-moved : goal.returns-in-All-clause-moved
+returns-in-All-clause-moved g c = record { stands = c.drop_all.ensures.stands; owns = c.drop_all.ensures.owns; moves = c.drop_all.ensures.moves }
+
+pub returns-in-All-clause-shown : goal.returns-in-All-clause-shown
+returns-in-All-clause-shown g c = λ image wp. record { present = λ h. none_open image wp _ c.drop_all.ensures.none; others = λ h. subst (AllOpen image wp) (sym c.drop_all.ensures.asides) tt }

@@ -4,18 +4,12 @@ use Rattle.frame_pool.proofs.Held.{Moves-trans}
 use Rattle.wedge_step.proofs.Memories.{front_same, shown_same}
 use Rattle.wedge_step.proofs.Readying.{Switched, loaded_ready, loaded_shows, loaded_fewer, loaded_none}
 use Rattle.wedge_step.proofs.close.load.Given.{Over}
-use Rattle.wedge_step.proofs.Leaving.{loads_by}
+use Rattle.wedge_step.specs.Sight.{sight}
 use Rattle.wedge_step.proofs.close.load.Goals as goal
 
 module _ (g : Over) (c : goal.After-switch g) where
   switched : Switched g.S.Shadows.slots g.S.Shadows.noted g.S.Shadows.marked g.S.Shadows.value g.S.Shadows.asides c.args.cr3 c.make_way.new.shadows c.switch.new.self c.make_way.new.ram c.switch.new.ram
   switched = record { value_is = c.switch.ensures.value; present = c.switch.ensures.present; beside = c.switch.ensures.asides }
-
-pub returns-clause-moves : goal.returns-clause-moves
-returns-clause-moves g c = Moves-trans _ _ _ _ _ _ _ _ _ c.make_way.ensures.moves c.switch.ensures.moves
-
-pub returns-clause-emptied : goal.returns-clause-emptied
-returns-clause-emptied g c = λ w. loaded_none g.S.Shadows.slots g.S.Shadows.noted g.S.Shadows.marked g.S.Shadows.value g.S.Shadows.asides c.args.cr3 c.make_way.new.shadows c.switch.new.self c.make_way.new.ram c.switch.new.ram (switched g c) (c.make_way.ensures.none w) (c.make_way.ensures.alone w)
 
 pub returns-clause-fewer : goal.returns-clause-fewer
 returns-clause-fewer g c =
@@ -23,51 +17,54 @@ returns-clause-fewer g c =
     let then = loaded_fewer g.S.Shadows.slots g.S.Shadows.noted g.S.Shadows.marked g.S.Shadows.value g.S.Shadows.asides c.args.cr3 c.make_way.new.shadows c.switch.new.self c.make_way.new.ram c.switch.new.ram (switched g c) in
     omega (arith, first, then)
 
-pub returns-clause-shows : goal.returns-clause-shows
-returns-clause-shows g c = λ image wp h a.
-    loaded_shows g.S.Shadows.slots g.S.Shadows.noted g.S.Shadows.marked g.S.Shadows.value g.S.Shadows.asides c.args.cr3 c.make_way.new.shadows c.switch.new.self c.make_way.new.ram c.switch.new.ram (switched g c) image wp (c.make_way.ensures.shows image wp h) (c.make_way.ensures.opens image wp a)
-
 pub returns-clause-ready : goal.returns-clause-ready
 returns-clause-ready g c = λ m before after low is pse wp opened h.
-    let same = c.make_way.ensures.moves.same.0 in
+    let same = c.make_way.ensures.moved.moves.same.0 in
     let low_mid : m.frames ≤ base_of c.make_way.new.pool = omega (arith, low, same) in
-    let front = front_same m.frames c.make_way.new.pool c.switch.new.pool c.make_way.new.ram c.switch.new.ram _ _ low_mid c.make_way.ensures.owns c.switch.ensures.moves in
+    let front = front_same m.frames c.make_way.new.pool c.switch.new.pool c.make_way.new.ram c.switch.new.ram _ _ low_mid c.make_way.ensures.moved.owns c.switch.ensures.moves in
     loaded_ready g.S.Shadows.slots g.S.Shadows.noted g.S.Shadows.marked g.S.Shadows.value g.S.Shadows.asides c.args.cr3 c.make_way.new.shadows c.switch.new.self c.make_way.new.ram c.switch.new.ram (switched g c) m before after is pse wp (shown_same m c.make_way.new.ram c.switch.new.ram front)
-    (c.make_way.ensures.shows m.image _ opened) (c.make_way.ensures.ready m before low h)
-
-pub returns-clause-loads : goal.returns-clause-loads
-returns-clause-loads g c = λ w enough.
-    let e = c.make_way.ensures in
-    let s = c.switch.ensures in
-    let mid = c.make_way.new in
-    let asides = g.S.Shadows.asides in
-    let slots = g.S.Shadows.slots in
-    loads_by c.args.cr3 c.args.pages.now _ (g.S.Shadows.value mid.shadows) _ (g.S.Shadows.noted mid.shadows) _ _ (g.S.Shadows.marked mid.shadows) _ _ (slots mid.shadows mid.ram) _ _ (asides mid.shadows mid.ram) _
-    e.value (e.stay w enough) (e.gone w enough) (e.stays w enough) s.present s.asides s.marked
-
-pub make_way-requires-clause-stands : goal.make_way-requires-clause-stands
-make_way-requires-clause-stands g c = c.requires.stands
-
-pub make_way-requires-clause-owns : goal.make_way-requires-clause-owns
-make_way-requires-clause-owns g c = c.requires.owns
+    ((c.make_way.ensures.shown m.image _).present opened) (c.make_way.ensures.ready m before low h)
 
 pub make_way-requires-clause-enough : goal.make_way-requires-clause-enough
 make_way-requires-clause-enough g c = c.requires.enough
 
 pub switch-requires-clause-stands : goal.switch-requires-clause-stands
-switch-requires-clause-stands g c = c.make_way.ensures.stands
+switch-requires-clause-stands g c = c.make_way.ensures.moved.stands
 
 pub switch-requires-clause-owns : goal.switch-requires-clause-owns
-switch-requires-clause-owns g c = c.make_way.ensures.owns
+switch-requires-clause-owns g c = c.make_way.ensures.moved.owns
 
 pub switch-requires-clause-free : goal.switch-requires-clause-free
 switch-requires-clause-free g c = c.make_way.ensures.room
 
-pub returns-clause-stands : goal.returns-clause-stands
-returns-clause-stands g c = c.switch.ensures.stands
-
-pub returns-clause-owns : goal.returns-clause-owns
-returns-clause-owns g c = c.switch.ensures.owns
-
 pub returns-clause-opened : goal.returns-clause-opened
 returns-clause-opened g c = λ indices h. c.switch.ensures.opened indices (c.make_way.ensures.opened indices h)
+
+pub returns-clause-moved : goal.returns-clause-moved
+returns-clause-moved g c = record { stands = c.switch.ensures.stands; owns = c.switch.ensures.owns; moves = Moves-trans _ _ _ _ _ _ _ _ _ c.make_way.ensures.moved.moves c.switch.ensures.moves }
+
+pub returns-clause-emptied : goal.returns-clause-emptied
+returns-clause-emptied g c = λ w.
+    loaded_none g.S.Shadows.slots g.S.Shadows.noted g.S.Shadows.marked g.S.Shadows.value g.S.Shadows.asides c.args.cr3 c.make_way.new.shadows c.switch.new.self c.make_way.new.ram c.switch.new.ram (switched g c)
+    (c.make_way.ensures.emptied w).none (c.make_way.ensures.emptied w).alone
+
+pub returns-clause-shows : goal.returns-clause-shows
+returns-clause-shows g c = λ image wp h a.
+    loaded_shows g.S.Shadows.slots g.S.Shadows.noted g.S.Shadows.marked g.S.Shadows.value g.S.Shadows.asides c.args.cr3 c.make_way.new.shadows c.switch.new.self c.make_way.new.ram c.switch.new.ram (switched g c) image wp
+    ((c.make_way.ensures.shown image wp).present h) ((c.make_way.ensures.shown image wp).others a)
+
+pub returns-clause-loads : goal.returns-clause-loads
+returns-clause-loads g c = λ w enough.
+    let e = c.make_way.ensures in
+    let s = c.switch.ensures in
+    record {
+      between = sight g.S.Shadows c.make_way.new.shadows c.make_way.new.ram;
+      value = e.value;
+      sheds = e.sheds w enough;
+      present = s.present;
+      put = s.asides;
+      unmarked = s.marked;
+    }
+
+pub make_way-requires-clause-owned : goal.make_way-requires-clause-owned
+make_way-requires-clause-owned g c = c.requires.owned

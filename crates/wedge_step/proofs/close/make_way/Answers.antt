@@ -42,44 +42,14 @@ pub returns-then-free-lt2-clause-room : goal.returns-then-free-lt2-clause-room
 returns-then-free-lt2-clause-room g c =
     let two = c.drop_all.ensures.two in let lengths = c.drop_all.ensures.moves.lengths in let enough = c.requires.enough in omega (arith, two, lengths, enough)
 
-pub returns-then-free-lt2-clause-stay : goal.returns-then-free-lt2-clause-stay
-returns-then-free-lt2-clause-stay g c = λ unwished enough. absurd (lacking g c unwished enough)
-
-pub returns-then-free-lt2-clause-gone : goal.returns-then-free-lt2-clause-gone
-returns-then-free-lt2-clause-gone g c = λ unwished enough. absurd (lacking g c unwished enough)
-
-pub returns-then-free-lt2-clause-stays : goal.returns-then-free-lt2-clause-stays
-returns-then-free-lt2-clause-stays g c = λ unwished enough. absurd (lacking g c unwished enough)
-
-pub returns-then-free-lt2-clause-shows : goal.returns-then-free-lt2-clause-shows
-returns-then-free-lt2-clause-shows g c = λ image wp h. none_open image wp (g.S.Shadows.slots c.drop_all.new.self c.drop_all.new.ram) c.drop_all.ensures.none
-
-pub returns-then-free-lt2-clause-opens : goal.returns-then-free-lt2-clause-opens
-returns-then-free-lt2-clause-opens g c = λ image wp h. subst (λ (l : List Aside). AllOpen image wp l) (sym c.drop_all.ensures.asides) tt
-
 pub returns-else-free-lt2-clause-room : goal.returns-else-free-lt2-clause-room
 returns-else-free-lt2-clause-room g c = spare g c c.drop_pages.new.ram
-
-pub returns-else-free-lt2-clause-none : goal.returns-else-free-lt2-clause-none
-returns-else-free-lt2-clause-none g c = λ yes. absurd (both_ways c.args.wanted (unwanted g c) yes)
-
-pub returns-else-free-lt2-clause-alone : goal.returns-else-free-lt2-clause-alone
-returns-else-free-lt2-clause-alone g c = λ yes. absurd (both_ways c.args.wanted (unwanted g c) yes)
-
-pub returns-else-free-lt2-clause-gone : goal.returns-else-free-lt2-clause-gone
-returns-else-free-lt2-clause-gone g c = λ unwished enough. c.drop_pages.ensures.gone
-
-pub returns-else-free-lt2-clause-stays : goal.returns-else-free-lt2-clause-stays
-returns-else-free-lt2-clause-stays g c = λ unwished enough. c.drop_pages.ensures.stays
-
-pub returns-else-free-lt2-clause-moves : goal.returns-else-free-lt2-clause-moves
-returns-else-free-lt2-clause-moves g c = c.drop_pages.ensures.moves c.args.pool.now c.requires.owns
 
 pub returns-else-free-lt2-clause-ready : goal.returns-else-free-lt2-clause-ready
 returns-else-free-lt2-clause-ready g c = λ m cpu low h.
     let d = c.drop_pages in
-    let moves = d.ensures.moves c.args.pool.now c.requires.owns in
-    let front = front_same m.frames c.args.pool.now c.args.pool.now c.args.ram.now d.new.ram _ _ low c.requires.owns moves in
+    let moves = d.ensures.moves c.args.pool.now c.requires.owned.owns in
+    let front = front_same m.frames c.args.pool.now c.args.pool.now c.args.ram.now d.new.ram _ _ low c.requires.owned.owns moves in
     fewer_ready g.S.Shadows.slots g.S.Shadows.noted g.S.Shadows.marked g.S.Shadows.value g.S.Shadows.asides (λ page. is_among page c.args.pages.now) (λ page. false) m cpu c.args.shadows.now d.new.shadows c.args.ram.now d.new.ram d.ensures.value
     (λ un. sym d.ensures.marked ∙ un) (λ f n. d.ensures.noted f ∙ n)
     (λ page lt o. chosen_out (is_among page c.args.pages.now) _ _ (d.ensures.gone page lt) (d.ensures.others page lt))
@@ -93,41 +63,17 @@ pub returns-then-free-lt2-clause-fewer : goal.returns-then-free-lt2-clause-fewer
 returns-then-free-lt2-clause-fewer g c =
     let none = none_pages g.S.Shadows.slots g.S.Shadows.noted g.S.Shadows.marked g.S.Shadows.value g.S.Shadows.asides c.drop_all.new.self c.drop_all.new.ram c.drop_all.ensures.entries c.drop_all.ensures.asides in omega (arith, none)
 
-pub returns-else-free-lt2-clause-owns : goal.returns-else-free-lt2-clause-owns
-returns-else-free-lt2-clause-owns g c = Owns-moves _ _ _ _ _ _ c.requires.owns (c.drop_pages.ensures.moves c.args.pool.now c.requires.owns)
-
 pub returns-else-free-lt2-clause-fewer : goal.returns-else-free-lt2-clause-fewer
 returns-else-free-lt2-clause-fewer g c = fewer_pages _ _ _ _ (some_part _ _ c.drop_pages.ensures.others) (same_shed _ _ c.drop_pages.ensures.asides)
 
-pub returns-else-free-lt2-clause-opens : goal.returns-else-free-lt2-clause-opens
-returns-else-free-lt2-clause-opens g c = λ image wp h. open_shed image wp _ _ (same_shed _ _ c.drop_pages.ensures.asides) h
-
-pub returns-else-free-lt2-clause-shows : goal.returns-else-free-lt2-clause-shows
-returns-else-free-lt2-clause-shows g c = λ image wp h. some_open image wp _ _ c.drop_pages.ensures.others h
-
-pub returns-else-free-lt2-clause-stay : goal.returns-else-free-lt2-clause-stay
-returns-else-free-lt2-clause-stay g c = λ w enough. let e = c.drop_pages.ensures in stays_by _ _ _ _ _ _ e.noted e.marked e.asides
-
 pub drop_all-requires-clause-stands : goal.drop_all-requires-clause-stands
-drop_all-requires-clause-stands g c = c.requires.stands
+drop_all-requires-clause-stands g c = c.requires.owned.stands
 
 pub drop_all-requires-clause-owns : goal.drop_all-requires-clause-owns
-drop_all-requires-clause-owns g c = c.requires.owns
+drop_all-requires-clause-owns g c = c.requires.owned.owns
 
 pub drop_pages-requires : goal.drop_pages-requires
-drop_pages-requires g c = record { stands = c.requires.stands }
-
-pub returns-then-free-lt2-clause-stands : goal.returns-then-free-lt2-clause-stands
-returns-then-free-lt2-clause-stands g c = c.drop_all.ensures.stands
-
-pub returns-then-free-lt2-clause-owns : goal.returns-then-free-lt2-clause-owns
-returns-then-free-lt2-clause-owns g c = c.drop_all.ensures.owns
-
-pub returns-then-free-lt2-clause-moves : goal.returns-then-free-lt2-clause-moves
-returns-then-free-lt2-clause-moves g c = c.drop_all.ensures.moves
-
-pub returns-then-free-lt2-clause-none : goal.returns-then-free-lt2-clause-none
-returns-then-free-lt2-clause-none g c = λ w. c.drop_all.ensures.none
+drop_pages-requires g c = record { stands = c.requires.owned.stands }
 
 pub returns-then-free-lt2-clause-value : goal.returns-then-free-lt2-clause-value
 returns-then-free-lt2-clause-value g c = c.drop_all.ensures.value
@@ -135,11 +81,32 @@ returns-then-free-lt2-clause-value g c = c.drop_all.ensures.value
 pub returns-then-free-lt2-clause-opened : goal.returns-then-free-lt2-clause-opened
 returns-then-free-lt2-clause-opened g c = c.drop_all.ensures.opened
 
-pub returns-else-free-lt2-clause-stands : goal.returns-else-free-lt2-clause-stands
-returns-else-free-lt2-clause-stands g c = c.drop_pages.ensures.stands
-
 pub returns-else-free-lt2-clause-value : goal.returns-else-free-lt2-clause-value
 returns-else-free-lt2-clause-value g c = c.drop_pages.ensures.value
 
 pub returns-else-free-lt2-clause-opened : goal.returns-else-free-lt2-clause-opened
 returns-else-free-lt2-clause-opened g c = c.drop_pages.ensures.opened
+
+pub returns-then-free-lt2-clause-moved : goal.returns-then-free-lt2-clause-moved
+returns-then-free-lt2-clause-moved g c = record { stands = c.drop_all.ensures.stands; owns = c.drop_all.ensures.owns; moves = c.drop_all.ensures.moves }
+
+pub returns-then-free-lt2-clause-shown : goal.returns-then-free-lt2-clause-shown
+returns-then-free-lt2-clause-shown g c = λ image wp. record { present = λ h. none_open image wp (g.S.Shadows.slots c.drop_all.new.self c.drop_all.new.ram) c.drop_all.ensures.none; others = λ h. subst (λ (l : List Aside). AllOpen image wp l) (sym c.drop_all.ensures.asides) tt }
+
+pub returns-else-free-lt2-clause-moved : goal.returns-else-free-lt2-clause-moved
+returns-else-free-lt2-clause-moved g c = record { stands = c.drop_pages.ensures.stands; owns = Owns-moves _ _ _ _ _ _ c.requires.owned.owns (c.drop_pages.ensures.moves c.args.pool.now c.requires.owned.owns); moves = c.drop_pages.ensures.moves c.args.pool.now c.requires.owned.owns }
+
+pub returns-else-free-lt2-clause-shown : goal.returns-else-free-lt2-clause-shown
+returns-else-free-lt2-clause-shown g c = λ image wp. record { present = λ h. some_open image wp _ _ c.drop_pages.ensures.others h; others = λ h. open_shed image wp _ _ (same_shed _ _ c.drop_pages.ensures.asides) h }
+
+pub returns-then-free-lt2-clause-emptied : goal.returns-then-free-lt2-clause-emptied
+returns-then-free-lt2-clause-emptied g c = λ w. record { none = c.drop_all.ensures.none; alone = c.drop_all.ensures.asides }
+
+pub returns-else-free-lt2-clause-emptied : goal.returns-else-free-lt2-clause-emptied
+returns-else-free-lt2-clause-emptied g c = λ yes. absurd (both_ways c.args.wanted (unwanted g c) yes)
+
+pub returns-then-free-lt2-clause-sheds : goal.returns-then-free-lt2-clause-sheds
+returns-then-free-lt2-clause-sheds g c = λ unwished enough. absurd (lacking g c unwished enough)
+
+pub returns-else-free-lt2-clause-sheds : goal.returns-else-free-lt2-clause-sheds
+returns-else-free-lt2-clause-sheds g c = λ unwished enough. let e = c.drop_pages.ensures in record { stay = stays_by _ _ _ _ _ _ e.noted e.marked e.asides; gone = e.gone; others = e.stays }

@@ -1,7 +1,6 @@
 use Rattle.std.proofs.Common.{◌≡◌, ℕ, ◌*◌, Bool, cond, sym, ap, ◌∙◌, bit_or}
 use Rattle.native_steps.specs.Looking.{marked}
-use Rattle.native_steps.specs.Mirrors.{shown}
-use Rattle.wedge_step.specs.Standing.{ground}
+use Rattle.wedge_step.specs.Looked.{bytes_of}
 use Rattle.wedge_step.specs.Clashing.{marks_of}
 use Rattle.wedge_step.proofs.Sights.{marked_fit, marked_long, are_in}
 use Rattle.wedge_step.proofs.looking.byte_seen.Goals as goal
@@ -12,8 +11,8 @@ flagged_same b b' x x' e f = ap (λ c. cond c (bit_or x 32) x) e ∙ ap (λ n. c
 pub returns : goal.returns
 returns c =
     let a = c.args in
-    let l = shown (ground a.image.now a.frames) a.ram.now in
-    let n = 4096 * a.frames in
+    let l = bytes_of a.view.now in
+    let n = 4096 * a.view.now.frames in
     let first = marked l (marks_of a.earlier) in
     let long = c.are_bytes.ensures.length in
     let fit = c.are_bytes.ensures.bytes in
@@ -24,3 +23,9 @@ returns c =
     c.flag.ensures
     ∙ (flagged_same _ _ _ _ c.is_marked-2.ensures (c.flag-first.ensures ∙ (flagged_same _ _ _ _ c.is_marked.ensures c.byte.ensures ∙ sym one))
     ∙ sym two)
+
+pub are_bytes-requires-clause-frames : goal.are_bytes-requires-clause-frames
+are_bytes-requires-clause-frames c = c.args.view.now.room
+
+pub are_bytes-requires-clause-laid : goal.are_bytes-requires-clause-laid
+are_bytes-requires-clause-laid c = c.args.view.now.laid

@@ -10,10 +10,7 @@ use Rattle.paging.specs.Fresh.{allows, fresh, grants}
 use Rattle.paging.specs.Uses.{is_barred, usable}
 use Rattle.machine_model.specs.State.{Setting, State}
 use Rattle.native_steps.specs.Looking.{Seen, found_by, is_stopped, seen, seen_by}
-use Rattle.native_steps.specs.Mirrors.{shown}
-use Rattle.shadow_tables.specs.Entries.{entries_of}
-use Rattle.wedge_step.specs.Clashing.{looked}
-use Rattle.wedge_step.specs.Standing.{ground}
+use Rattle.wedge_step.specs.Looked.{bytes_of, ground_of, looked_at}
 use Rattle.wedge_step.proofs.looking.fetched.Goals.{in_default-via-in-None-1, in_default-via-in-Some+else-allows}
 use Rattle.wedge_step.proofs.looking.fetched.Goals as goal
 
@@ -46,100 +43,94 @@ module _ (m : Setting) (b : State) (page : ℕ) (access : Access) (wp : Bool) (k
   unused : (entry : Entry) → kept ≡ Some entry → allows entry access wp ≡ false → usable kept access wp ≡ None
   unused entry is may = ap (λ (o : Option Entry). usable o access wp) is ∙ ap (λ (c : Bool). cond {A = Option Entry} c (Some entry) None) may
 
-pub walk-requires-clause-frames : goal.walk-requires-clause-frames
-walk-requires-clause-frames g c = c.requires.frames
-
-pub walk-requires-clause-laid : goal.walk-requires-clause-laid
-walk-requires-clause-laid g c = c.requires.laid
-
-pub walk-requires-clause-page : goal.walk-requires-clause-page
-walk-requires-clause-page g c = c.requires.page
-
 pub kept-requires : goal.kept-requires
 kept-requires g c = record { stands = c.requires.stands; page = c.requires.page }
 
 pub returns-then-is_barred-clause-seen : goal.returns-then-is_barred-clause-seen
 returns-then-is_barred-clause-seen g c =
     let a = c.args in
-    let m = ground a.image.now a.frames in
-    let b = looked a.cpu.now (shown m a.ram.now) (entries_of (g.S.Shadows.slots a.shadows.now a.ram.now)) in
+    let m = ground_of a.view.now in
+    let b = looked_at g.S.Shadows a.cpu.now a.shadows.now a.view.now in
     by_kept m b a.page c.by_level-access.result c.wp-wp.result c.kept.result c.kept.ensures.entries c.by_level-access.ensures c.wp-wp.ensures c.in-Some.entry true c.in-Some.is (sym c.allows.ensures ∙ c.if-allows.true) (sym c.if-is_barred.true ∙ c.is_barred.ensures)
 
 pub returns-clause-seen : goal.returns-clause-seen
 returns-clause-seen g c =
     let a = c.args in
-    let m = ground a.image.now a.frames in
-    let b = looked a.cpu.now (shown m a.ram.now) (entries_of (g.S.Shadows.slots a.shadows.now a.ram.now)) in
+    let m = ground_of a.view.now in
+    let b = looked_at g.S.Shadows a.cpu.now a.shadows.now a.view.now in
     by_kept m b a.page c.by_level-access.result c.wp-wp.result c.kept.result c.kept.ensures.entries c.by_level-access.ensures c.wp-wp.ensures c.in-Some.entry false c.in-Some.is (sym c.allows.ensures ∙ c.if-allows.true) (sym c.if-is_barred.false ∙ c.is_barred.ensures)
 
 pub returns-in-Absent-clause-seen : goal.returns-in-Absent-clause-seen
 returns-in-Absent-clause-seen g c =
     let a = c.args in
-    let m = ground a.image.now a.frames in
-    let b = looked a.cpu.now (shown m a.ram.now) (entries_of (g.S.Shadows.slots a.shadows.now a.ram.now)) in
+    let m = ground_of a.view.now in
+    let b = looked_at g.S.Shadows a.cpu.now a.shadows.now a.view.now in
     let none : usable c.kept.result c.by_level-access.result c.wp-wp.result ≡ None = elim c.in_default.branch [
       | in_default-via-in-None-1 w ↦ unkept c.kept.result c.by_level-access.result c.wp-wp.result (search rules)
       | in_default-via-in-Some+else-allows w ↦ unused m b a.page c.by_level-access.result c.wp-wp.result c.kept.result c.kept.ensures.entries c.by_level-access.ensures c.wp-wp.ensures w.in-Some.entry w.in-Some.is (sym w.allows.ensures ∙ w.if-allows.false)
     ] in
-    let pse = ap (λ (p : Bool). fresh (shown m a.ram.now) a.frames a.cpu.now.cr3 p a.page) c.pse.ensures in
+    let pse = ap (λ (p : Bool). fresh (bytes_of a.view.now) a.view.now.frames a.cpu.now.cr3 p a.page) c.pse.ensures in
     by_walk m b a.page c.by_level-access.result c.wp-wp.result c.kept.result c.kept.ensures.entries c.by_level-access.ensures c.wp-wp.ensures walks.Absent none (c.in-Absent.ensures.walk ∙ pse)
 
 pub returns-in-Beyond-clause-seen : goal.returns-in-Beyond-clause-seen
 returns-in-Beyond-clause-seen g c =
     let a = c.args in
-    let m = ground a.image.now a.frames in
-    let b = looked a.cpu.now (shown m a.ram.now) (entries_of (g.S.Shadows.slots a.shadows.now a.ram.now)) in
+    let m = ground_of a.view.now in
+    let b = looked_at g.S.Shadows a.cpu.now a.shadows.now a.view.now in
     let none : usable c.kept.result c.by_level-access.result c.wp-wp.result ≡ None = elim c.in_default.branch [
       | in_default-via-in-None-1 w ↦ unkept c.kept.result c.by_level-access.result c.wp-wp.result (search rules)
       | in_default-via-in-Some+else-allows w ↦ unused m b a.page c.by_level-access.result c.wp-wp.result c.kept.result c.kept.ensures.entries c.by_level-access.ensures c.wp-wp.ensures w.in-Some.entry w.in-Some.is (sym w.allows.ensures ∙ w.if-allows.false)
     ] in
-    let pse = ap (λ (p : Bool). fresh (shown m a.ram.now) a.frames a.cpu.now.cr3 p a.page) c.pse.ensures in
+    let pse = ap (λ (p : Bool). fresh (bytes_of a.view.now) a.view.now.frames a.cpu.now.cr3 p a.page) c.pse.ensures in
     by_walk m b a.page c.by_level-access.result c.wp-wp.result c.kept.result c.kept.ensures.entries c.by_level-access.ensures c.wp-wp.ensures walks.Beyond none (c.in-Beyond.ensures.walk ∙ pse)
 
 pub returns-in-Reserved-clause-seen : goal.returns-in-Reserved-clause-seen
 returns-in-Reserved-clause-seen g c =
     let a = c.args in
-    let m = ground a.image.now a.frames in
-    let b = looked a.cpu.now (shown m a.ram.now) (entries_of (g.S.Shadows.slots a.shadows.now a.ram.now)) in
+    let m = ground_of a.view.now in
+    let b = looked_at g.S.Shadows a.cpu.now a.shadows.now a.view.now in
     let none : usable c.kept.result c.by_level-access.result c.wp-wp.result ≡ None = elim c.in_default.branch [
       | in_default-via-in-None-1 w ↦ unkept c.kept.result c.by_level-access.result c.wp-wp.result (search rules)
       | in_default-via-in-Some+else-allows w ↦ unused m b a.page c.by_level-access.result c.wp-wp.result c.kept.result c.kept.ensures.entries c.by_level-access.ensures c.wp-wp.ensures w.in-Some.entry w.in-Some.is (sym w.allows.ensures ∙ w.if-allows.false)
     ] in
-    let pse = ap (λ (p : Bool). fresh (shown m a.ram.now) a.frames a.cpu.now.cr3 p a.page) c.pse.ensures in
+    let pse = ap (λ (p : Bool). fresh (bytes_of a.view.now) a.view.now.frames a.cpu.now.cr3 p a.page) c.pse.ensures in
     by_walk m b a.page c.by_level-access.result c.wp-wp.result c.kept.result c.kept.ensures.entries c.by_level-access.ensures c.wp-wp.ensures walks.Reserved none (c.in-Reserved.ensures.walk ∙ pse)
 
 pub returns-then-not-grants-clause-seen : goal.returns-then-not-grants-clause-seen
 returns-then-not-grants-clause-seen g c =
     let a = c.args in
-    let m = ground a.image.now a.frames in
-    let b = looked a.cpu.now (shown m a.ram.now) (entries_of (g.S.Shadows.slots a.shadows.now a.ram.now)) in
+    let m = ground_of a.view.now in
+    let b = looked_at g.S.Shadows a.cpu.now a.shadows.now a.view.now in
     let none : usable c.kept.result c.by_level-access.result c.wp-wp.result ≡ None = elim c.in_default.branch [
       | in_default-via-in-None-1 w ↦ unkept c.kept.result c.by_level-access.result c.wp-wp.result (search rules)
       | in_default-via-in-Some+else-allows w ↦ unused m b a.page c.by_level-access.result c.wp-wp.result c.kept.result c.kept.ensures.entries c.by_level-access.ensures c.wp-wp.ensures w.in-Some.entry w.in-Some.is (sym w.allows.ensures ∙ w.if-allows.false)
     ] in
-    let pse = ap (λ (p : Bool). fresh (shown m a.ram.now) a.frames a.cpu.now.cr3 p a.page) c.pse.ensures in
+    let pse = ap (λ (p : Bool). fresh (bytes_of a.view.now) a.view.now.frames a.cpu.now.cr3 p a.page) c.pse.ensures in
     by_found m b a.page c.by_level-access.result c.wp-wp.result c.kept.result c.kept.ensures.entries c.by_level-access.ensures c.wp-wp.ensures c.in-Found.entry c.in-Found.dir_at c.in-Found.word_at false _ none (c.in-Found.ensures.walk ∙ pse) (sym c.if-not-grants.true ∙ c.grants.ensures) refl
 
 pub returns-then-is_stopped-clause-seen : goal.returns-then-is_stopped-clause-seen
 returns-then-is_stopped-clause-seen g c =
     let a = c.args in
-    let m = ground a.image.now a.frames in
-    let b = looked a.cpu.now (shown m a.ram.now) (entries_of (g.S.Shadows.slots a.shadows.now a.ram.now)) in
+    let m = ground_of a.view.now in
+    let b = looked_at g.S.Shadows a.cpu.now a.shadows.now a.view.now in
     let none : usable c.kept.result c.by_level-access.result c.wp-wp.result ≡ None = elim c.in_default.branch [
       | in_default-via-in-None-1 w ↦ unkept c.kept.result c.by_level-access.result c.wp-wp.result (search rules)
       | in_default-via-in-Some+else-allows w ↦ unused m b a.page c.by_level-access.result c.wp-wp.result c.kept.result c.kept.ensures.entries c.by_level-access.ensures c.wp-wp.ensures w.in-Some.entry w.in-Some.is (sym w.allows.ensures ∙ w.if-allows.false)
     ] in
-    let pse = ap (λ (p : Bool). fresh (shown m a.ram.now) a.frames a.cpu.now.cr3 p a.page) c.pse.ensures in
+    let pse = ap (λ (p : Bool). fresh (bytes_of a.view.now) a.view.now.frames a.cpu.now.cr3 p a.page) c.pse.ensures in
     by_found m b a.page c.by_level-access.result c.wp-wp.result c.kept.result c.kept.ensures.entries c.by_level-access.ensures c.wp-wp.ensures c.in-Found.entry c.in-Found.dir_at c.in-Found.word_at true true none (c.in-Found.ensures.walk ∙ pse) (sym c.if-not-grants.false ∙ c.grants.ensures) (sym c.if-is_stopped.true ∙ c.is_stopped.ensures)
 
 pub returns-else-is_stopped-clause-seen : goal.returns-else-is_stopped-clause-seen
 returns-else-is_stopped-clause-seen g c =
     let a = c.args in
-    let m = ground a.image.now a.frames in
-    let b = looked a.cpu.now (shown m a.ram.now) (entries_of (g.S.Shadows.slots a.shadows.now a.ram.now)) in
+    let m = ground_of a.view.now in
+    let b = looked_at g.S.Shadows a.cpu.now a.shadows.now a.view.now in
     let none : usable c.kept.result c.by_level-access.result c.wp-wp.result ≡ None = elim c.in_default.branch [
       | in_default-via-in-None-1 w ↦ unkept c.kept.result c.by_level-access.result c.wp-wp.result (search rules)
       | in_default-via-in-Some+else-allows w ↦ unused m b a.page c.by_level-access.result c.wp-wp.result c.kept.result c.kept.ensures.entries c.by_level-access.ensures c.wp-wp.ensures w.in-Some.entry w.in-Some.is (sym w.allows.ensures ∙ w.if-allows.false)
     ] in
-    let pse = ap (λ (p : Bool). fresh (shown m a.ram.now) a.frames a.cpu.now.cr3 p a.page) c.pse.ensures in
+    let pse = ap (λ (p : Bool). fresh (bytes_of a.view.now) a.view.now.frames a.cpu.now.cr3 p a.page) c.pse.ensures in
     by_found m b a.page c.by_level-access.result c.wp-wp.result c.kept.result c.kept.ensures.entries c.by_level-access.ensures c.wp-wp.ensures c.in-Found.entry c.in-Found.dir_at c.in-Found.word_at true false none (c.in-Found.ensures.walk ∙ pse) (sym c.if-not-grants.false ∙ c.grants.ensures) (sym c.if-is_stopped.false ∙ c.is_stopped.ensures)
+
+pub walk-requires : goal.walk-requires
+walk-requires g c = record { page = c.requires.page }

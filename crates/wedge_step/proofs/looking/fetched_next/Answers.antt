@@ -1,49 +1,35 @@
 use Rattle.std.proofs.Common.{refl, sym, ◌∙◌}
-use Rattle.native_steps.specs.Mirrors.{shown}
-use Rattle.shadow_tables.specs.Entries.{entries_of}
 use Rattle.wedge_step.specs.Clashing.{looked, seen_of}
-use Rattle.wedge_step.specs.Standing.{ground}
+use Rattle.wedge_step.specs.Looked.{bytes_of, ground_of, set_at}
 use Rattle.wedge_step.proofs.LookedMarks.{none_next, barred_next, some_next}
 use Rattle.wedge_step.proofs.looking.fetched_next.Goals as goal
 
 pub returns-in-None-clause-seen : goal.returns-in-None-clause-seen
 returns-in-None-clause-seen g c =
     let a = c.args in
-    let set = entries_of (g.S.Shadows.slots a.shadows.now a.ram.now) in
-    let b = looked a.cpu.now (shown (ground a.image.now a.frames) a.ram.now) set in
-    none_next (ground a.image.now a.frames) b (seen_of a.first) _ refl c.in-None.ensures.seen
+    let set = set_at g.S.Shadows a.shadows.now a.view.now in
+    let b = looked a.cpu.now (bytes_of a.view.now) set in
+    none_next (ground_of a.view.now) b (seen_of a.first) _ refl c.in-None.ensures.seen
 
 pub returns-then-marks_front-clause-seen : goal.returns-then-marks_front-clause-seen
 returns-then-marks_front-clause-seen g c =
     let a = c.args in
-    let set = entries_of (g.S.Shadows.slots a.shadows.now a.ram.now) in
-    let b = looked a.cpu.now (shown (ground a.image.now a.frames) a.ram.now) set in
-    barred_next (ground a.image.now a.frames) b (seen_of a.first) _ refl (seen_of c.in-Some.second) c.in-Some.ensures.seen (sym (c.marks_front.ensures set) ∙ c.if-marks_front.true)
+    let set = set_at g.S.Shadows a.shadows.now a.view.now in
+    let b = looked a.cpu.now (bytes_of a.view.now) set in
+    barred_next (ground_of a.view.now) b (seen_of a.first) _ refl (seen_of c.in-Some.second) c.in-Some.ensures.seen (sym (c.marks_front.ensures set) ∙ c.if-marks_front.true)
 
 pub returns-else-marks_front-clause-seen : goal.returns-else-marks_front-clause-seen
 returns-else-marks_front-clause-seen g c =
     let a = c.args in
-    let set = entries_of (g.S.Shadows.slots a.shadows.now a.ram.now) in
-    let b = looked a.cpu.now (shown (ground a.image.now a.frames) a.ram.now) set in
-    some_next (ground a.image.now a.frames) b (seen_of a.first) _ refl (seen_of c.in-Some.second) c.in-Some.ensures.seen (sym (c.marks_front.ensures set) ∙ c.if-marks_front.false)
-
-pub fetched-requires-clause-frames : goal.fetched-requires-clause-frames
-fetched-requires-clause-frames g c = c.requires.frames
-
-pub fetched-requires-clause-laid : goal.fetched-requires-clause-laid
-fetched-requires-clause-laid g c = c.requires.laid
+    let set = set_at g.S.Shadows a.shadows.now a.view.now in
+    let b = looked a.cpu.now (bytes_of a.view.now) set in
+    some_next (ground_of a.view.now) b (seen_of a.first) _ refl (seen_of c.in-Some.second) c.in-Some.ensures.seen (sym (c.marks_front.ensures set) ∙ c.if-marks_front.false)
 
 pub fetched-requires-clause-stands : goal.fetched-requires-clause-stands
 fetched-requires-clause-stands g c = c.requires.stands
 
 pub fetched-requires-clause-kept : goal.fetched-requires-clause-kept
 fetched-requires-clause-kept g c = c.requires.kept
-
-pub marks_front-requires-clause-frames : goal.marks_front-requires-clause-frames
-marks_front-requires-clause-frames g c = c.requires.frames
-
-pub marks_front-requires-clause-laid : goal.marks_front-requires-clause-laid
-marks_front-requires-clause-laid g c = c.requires.laid
 
 pub marks_front-requires-clause-marks : goal.marks_front-requires-clause-marks
 marks_front-requires-clause-marks g c = c.requires.marks

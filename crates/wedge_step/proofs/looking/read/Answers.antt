@@ -1,8 +1,7 @@
 use Rattle.std.proofs.Common.{ℕ, ◌+◌, ◌*◌, ◌%◌, ◌<◌, length, ap, ◌∙◌, arith}
 use Rattle.guest_ram.specs.Bytes.{byte}
 use Rattle.native_steps.specs.Looking.{marked}
-use Rattle.native_steps.specs.Mirrors.{shown}
-use Rattle.wedge_step.specs.Standing.{ground}
+use Rattle.wedge_step.specs.Looked.{bytes_of, ground_of}
 use Rattle.wedge_step.specs.Clashing.{marks_of}
 use Rattle.wedge_step.proofs.Sights.{marked_long, shown_long, part_none, part_next}
 use Rattle.wedge_step.proofs.looking.read.Goals as goal
@@ -13,13 +12,13 @@ loop-i-init c = (omega arith, part_none _ c.args.into.now.items _)
 pub loop-i-preserved : goal.loop-i-preserved
 loop-i-preserved c =
     let a = c.args in
-    let l = shown (ground a.image.now a.frames) a.ram.now in
+    let l = bytes_of a.view.now in
     let m = marked (marked l (marks_of a.earlier)) (marks_of a.seen.marks) in
     let p : ℕ = 4096 * a.seen.frame + a.at % 4096 in
     let i = c.loop-i.i in
-    let long = shown_long (ground a.image.now a.frames) a.ram.now c.requires.frames c.requires.laid in
-    let one = marked_long l (marks_of a.earlier) (4096 * a.frames) long c.requires.earlier in
-    let two = marked_long (marked l (marks_of a.earlier)) (marks_of a.seen.marks) (4096 * a.frames) one c.requires.marks in
+    let long = shown_long (ground_of a.view.now) a.view.now.ram.now c.args.view.now.room c.args.view.now.laid in
+    let one = marked_long l (marks_of a.earlier) (4096 * a.view.now.frames) long c.requires.earlier in
+    let two = marked_long (marked l (marks_of a.earlier)) (marks_of a.seen.marks) (4096 * a.view.now.frames) one c.requires.marks in
     let f = c.requires.frame in
     let o = c.requires.one in
     let below : i < a.len = omega arith in

@@ -6,7 +6,7 @@ use Rattle.wedge_step.proofs.sight.word.Goals as goal
 
 pub returns : goal.returns
 returns c =
-    let l = shown (ground c.args.image.now c.args.frames) c.args.ram.now in
+    let l = shown (ground c.args.view.now.image.now c.args.view.now.frames) c.args.view.now.ram.now in
     let e = word32-is l c.args.at in
     let a = c.byte.ensures in
     let b = c.byte-2.ensures in

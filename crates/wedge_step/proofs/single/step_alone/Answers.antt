@@ -15,7 +15,7 @@ use Rattle.wedge_mem.specs.Owned.{first, owns}
 use Rattle.step_mem.specs.Sound.{space_at}
 use Rattle.machine_model.specs.State.{wedge, wedge_mode}
 use Rattle.native_steps.specs.Mirrors.{shown}
-use Rattle.wedge_step.specs.Standing.{AreOpen, state_of, ground}
+use Rattle.wedge_step.specs.Standing.{AreOpen, IsHeld, state_of, ground}
 use Rattle.wedge_step.proofs.Alones.{alone_from, began}
 use Rattle.wedge_step.proofs.Opening.{same_open}
 use Rattle.wedge_step.proofs.Keeping.{keeps_above}
@@ -49,7 +49,7 @@ returns-in-Err-clause-step g c = λ script.
     let ram1 = c.step_in-outcome.new.ram in
     let state1 = c.step_in-outcome.new.state in
     let o = c.original in
-    let held = c.requires.held in
+    let held = c.requires.between.held in
     let m = wedge image script n in
     let b = state_of g.S.Shadows.stands g.S.Shadows.frames g.S.Shadows.slots m running ram0 in
     let mode : Mode = Wedge o.result.first o.result.count no_own in
@@ -58,51 +58,6 @@ returns-in-Err-clause-step g c = λ script.
     let start = began m b mode (space_at (λ r. entries_of (g.S.Shadows.slots running.shadows r)) ram0 c.begin-state.result) mode_is (laying.laid o.result.bytes.now o.result.first n ram0) laid c.begin-state.ensures.space in
     let raw = rw c.in-Err.is at (c.step_in-outcome.ensures.step m b (record { has = refl; over = refl })) in
     sym start ∙ raw
-
-pub returns-in-Err-clause-stands : goal.returns-in-Err-clause-stands
-returns-in-Err-clause-stands g c = first c.step_in-outcome.ensures.sound.stands_now
-
-pub returns-in-Err-clause-pool : goal.returns-in-Err-clause-pool
-returns-in-Err-clause-pool g c =
-    let running = c.args.running.now in
-    let image = c.args.image.now in
-    let n = running.frames in
-    let ram0 = c.args.ram.now in
-    let ram1 = c.step_in-outcome.new.ram in
-    let state1 = c.step_in-outcome.new.state in
-    let o = c.original in
-    let held = c.requires.held in
-    let frames1 : state1.control.frames ≡ n = ap (λ (k : Control). k.frames) c.step_in-outcome.ensures.control ∙ c.begin-state.ensures.frames in
-    let hid = subst (λ (x : Guard). laying.hidden x n ram1 ≡ laying.hidden x n ram0) c.begin-state.ensures.guard
-    (subst (λ (k : ℕ). laying.hidden c.begin-state.result.guard k ram1 ≡ laying.hidden c.begin-state.result.guard k ram0) c.begin-state.ensures.frames c.step_in-outcome.ensures.hidden) in
-    let fits1 : 4096 * n ≤ length ram1 = (let q = c.step_in-outcome.ensures.sound.frames_in in omega (arith, q, frames1)) in
-    let left = step_leaves image n o.result.first o.result.count ram0 ram1 held.wedge.room held.host.room fits1 o.ensures.first o.ensures.count hid in
-    let behind : 4096 * n ≤ 4096 * base_of c.args.pool.now = (let h = held.behind in omega (arith, h)) in
-    let samein = g.met.S.Shadows.above running.shadows c.args.pool.now ram0 ram1 (4096 * n) held.owns behind left.above left.size in
-    let frames_same = g.met.S.Shadows.same_frames running.shadows ram0 ram1 held.stand samein in
-    let fs = g.S.Shadows.frames running.shadows ram0 in
-    let gs = g.S.Shadows.frames running.shadows ram1 in
-    keeps_above c.args.pool.now ram0 ram1 (4096 * n) fs gs held.owns.stands behind left.above left.size frames_same
-
-pub returns-in-Err-clause-counted : goal.returns-in-Err-clause-counted
-returns-in-Err-clause-counted g c =
-    let running = c.args.running.now in
-    let image = c.args.image.now in
-    let n = running.frames in
-    let ram0 = c.args.ram.now in
-    let ram1 = c.step_in-outcome.new.ram in
-    let state1 = c.step_in-outcome.new.state in
-    let o = c.original in
-    let held = c.requires.held in
-    let frames1 : state1.control.frames ≡ n = ap (λ (k : Control). k.frames) c.step_in-outcome.ensures.control ∙ c.begin-state.ensures.frames in
-    let hid = subst (λ (x : Guard). laying.hidden x n ram1 ≡ laying.hidden x n ram0) c.begin-state.ensures.guard
-    (subst (λ (k : ℕ). laying.hidden c.begin-state.result.guard k ram1 ≡ laying.hidden c.begin-state.result.guard k ram0) c.begin-state.ensures.frames c.step_in-outcome.ensures.hidden) in
-    let fits1 : 4096 * n ≤ length ram1 = (let q = c.step_in-outcome.ensures.sound.frames_in in omega (arith, q, frames1)) in
-    let left = step_leaves image n o.result.first o.result.count ram0 ram1 held.wedge.room held.host.room fits1 o.ensures.first o.ensures.count hid in
-    let behind : 4096 * n ≤ 4096 * base_of c.args.pool.now = (let h = held.behind in omega (arith, h)) in
-    let samein = g.met.S.Shadows.above running.shadows c.args.pool.now ram0 ram1 (4096 * n) held.owns behind left.above left.size in
-    let frames_same = g.met.S.Shadows.same_frames running.shadows ram0 ram1 held.stand samein in
-    held.counted ∙ ap length (sym frames_same)
 
 -- the accesses that were done
 module _ (g : Over) (c : goal.After-worked-1 g) where
@@ -133,23 +88,23 @@ module _ (g : Over) (c : goal.After-worked-1 g) where
       let hid = subst (λ (x : Guard). laying.hidden x n ram1 ≡ laying.hidden x n ram0) c.begin-state.ensures.guard
       (subst (λ (k : ℕ). laying.hidden c.begin-state.result.guard k ram1 ≡ laying.hidden c.begin-state.result.guard k ram0) c.begin-state.ensures.frames c.step_in-outcome.ensures.hidden) in
       let fits1 : 4096 * n ≤ length ram1 = (let q = c.step_in-outcome.ensures.sound.frames_in in omega (arith, q, frames1)) in
-      after g.S.Shadows.stands g.S.Shadows.frames g.S.Shadows.slots g.met.S.Shadows.above g.met.S.Shadows.same_frames g.met.S.Shadows.same_slots g.met.S.Shadows.same_entries image running c.args.pool.now ram0 ram1 o.result.first o.result.count c.requires.held fits1
+      after g.S.Shadows.stands g.S.Shadows.frames g.S.Shadows.slots g.met.S.Shadows.above g.met.S.Shadows.same_frames g.met.S.Shadows.same_slots g.met.S.Shadows.same_entries image running c.args.pool.now ram0 ram1 o.result.first o.result.count c.requires.between.held fits1
       o.ensures.first o.ensures.count hid
 
   asides1 : AreSame (g.S.Shadows.asides running.shadows ram0) (g.S.Shadows.asides running.shadows ram1)
-  asides1 = g.met.S.Shadows.same_asides running.shadows ram0 ram1 c.requires.held.stand a.same
+  asides1 = g.met.S.Shadows.same_asides running.shadows ram0 ram1 c.requires.between.held.stand a.same
 
   wp1 : state1.control.wp ≡ wp_of running.cpu
   wp1 = ap (λ (k : Control). k.wp) c.step_in-outcome.ensures.control ∙ ap (λ (x : Space). x.wp) c.begin-state.ensures.space
 
   open1 : AreOpen image state1.control.wp (g.S.Shadows.slots running.shadows ram1)
-  open1 = subst (λ (x : Bool). AreOpen image x (g.S.Shadows.slots running.shadows ram1)) (sym wp1) (same_open image (wp_of running.cpu) (g.S.Shadows.slots running.shadows ram0) (g.S.Shadows.slots running.shadows ram1) a.slots_same c.requires.held.open_to)
+  open1 = subst (λ (x : Bool). AreOpen image x (g.S.Shadows.slots running.shadows ram1)) (sym wp1) (same_open image (wp_of running.cpu) (g.S.Shadows.slots running.shadows ram0) (g.S.Shadows.slots running.shadows ram1) a.slots_same c.requires.between.held.open_to)
 
   opens1 : AllOpen image state1.control.wp (g.S.Shadows.asides running.shadows ram1)
   opens1 =
       subst (λ (x : Bool). AllOpen image x (g.S.Shadows.asides running.shadows ram1)) (sym wp1)
       (open_shed image (wp_of running.cpu) (g.S.Shadows.asides running.shadows ram0) (g.S.Shadows.asides running.shadows ram1) (same_shed _ _ asides1)
-      (ready_open (ground image n) running.cpu (shown (ground image n) ram0) (g.S.Shadows.asides running.shadows ram0) c.requires.ready.others))
+      (ready_open (ground image n) running.cpu (shown (ground image n) ram0) (g.S.Shadows.asides running.shadows ram0) c.requires.between.ready.others))
 
   module _ (script : Events) where
     abbrev m : Setting
@@ -187,7 +142,7 @@ module _ (g : Over) (c : goal.After-worked-1 g) where
   behind1 : IsReadyBehind g.S.Shadows.slots g.S.Shadows.noted g.S.Shadows.marked g.S.Shadows.value g.S.Shadows.asides (leaving c.in-Ok.worked.dropped (pages_of state1.visited state1.changes)) (ground image n) running.cpu running.shadows ram1
       (changed (entries_of (g.S.Shadows.slots running.shadows ram1)) state1.changes) state1.tables state1.wrote
   behind1 =
-      let held = c.requires.held in
+      let held = c.requires.between.held in
       let k : Steps g.S.Shadows.slots g.S.Shadows.noted g.S.Shadows.marked g.S.Shadows.value g.S.Shadows.asides image n (b []) running.shadows ram0 ram1 = record {
         wedge = held.wedge;
         host = held.host;
@@ -198,24 +153,7 @@ module _ (g : Over) (c : goal.After-worked-1 g) where
         entries = a.entries_same;
         same = asides1;
       } in
-      went_ready g.S.Shadows.slots g.S.Shadows.noted g.S.Shadows.marked g.S.Shadows.value g.S.Shadows.asides image n (b []) running.shadows ram0 ram1 k c.requires.ready c.steps_follow.ensures c.in-Ok.worked c.step_in-outcome.new.board (s1 []) state1.changes (went []) (ram1_is []) refl
-
-pub go-requires-clause-counted : goal.go-requires-clause-counted
-go-requires-clause-counted g c = c.requires.held.counted ∙ ap length (sym (a g c).frames_same)
-
-pub go-requires-clause-few : goal.go-requires-clause-few
-go-requires-clause-few g c = few_after g.S.Shadows.stands g.S.Shadows.frames g.S.Shadows.slots (image g c) (running g c) c.args.pool.now (ram0 g c) (ram1 g c) c.requires.held (a g c)
-
-pub go-requires-clause-enough : goal.go-requires-clause-enough
-go-requires-clause-enough g c =
-    let free = ap length (a g c).free_same in
-    let same = ap length (a g c).frames_same in
-    let counted = c.requires.held.counted in
-    let enough = c.requires.enough in
-    omega (arith, free, same, counted, enough)
-
-pub go-requires-clause-rules : goal.go-requires-clause-rules
-go-requires-clause-rules g c = wp1 g c
+      went_ready g.S.Shadows.slots g.S.Shadows.noted g.S.Shadows.marked g.S.Shadows.value g.S.Shadows.asides image n (b []) running.shadows ram0 ram1 k c.requires.between.ready c.steps_follow.ensures c.in-Ok.worked c.step_in-outcome.new.board (s1 []) state1.changes (went []) (ram1_is []) refl
 
 module _ (g : Over) (c : goal.After-go g) where
   abbrev d : goal.After-worked-1 g
@@ -225,64 +163,18 @@ module _ (g : Over) (c : goal.After-go g) where
       × (c.go.new.running.lost.back ≡ true → AreFound (ground (image g d) (n g d)) c.go.new.running.cpu (shown (ground (image g d) (n g d)) c.go.new.ram) c.go.new.running.cpu.cr3 (g.S.Shadows.noted c.go.new.running.shadows) (g.S.Shadows.slots c.go.new.running.shadows c.go.new.ram))
   ready1 = c.go.ensures.ready (ground (image g d) (n g d)) (sym (frames1 g d)) c.text_frames-count.ensures (open1 g d) (behind1 g d)
 
-pub returns-in-Ok-clause-ready : goal.returns-in-Ok-clause-ready
-returns-in-Ok-clause-ready g c = (ready1 g c).0
-
-pub returns-in-Ok-clause-filled : goal.returns-in-Ok-clause-filled
-returns-in-Ok-clause-filled g c =
-    let d = c.before in
-    fills_join _ _ _ _ _ _ (fills_same _ _ (running g d).fills (kept_same g.S.Shadows.slots g.S.Shadows.asides (running g d).shadows (ram0 g d) (ram1 g d) (a g d).entries_same (asides1 g d))) c.go.ensures.filled
-
-pub returns-in-Ok-clause-pool : goal.returns-in-Ok-clause-pool
-returns-in-Ok-clause-pool g c =
-    let d = c.before in
-    keeps_then g.S.Shadows.stands g.S.Shadows.frames g.S.Shadows.slots (image g d) (running g d) c.go.new.running c.args.pool.now c.go.new.pool (ram0 g d) (ram1 g d) c.go.new.ram c.requires.held (a g d) c.go.ensures.moves
-
 pub returns-in-Ok-clause-step : goal.returns-in-Ok-clause-step
 returns-in-Ok-clause-step g c = λ script.
     let d = c.before in
     let m = wedge (image g d) script (n g d) in
-    let front = front_same (n g d) c.args.pool.now c.go.new.pool (ram1 g d) c.go.new.ram (g.S.Shadows.frames (running g d).shadows (ram1 g d)) (g.S.Shadows.frames c.go.new.running.shadows c.go.new.ram) c.requires.held.behind (owns c.step_in-outcome.ensures.sound.stands_now) c.go.ensures.moves in
+    let front = front_same (n g d) c.args.pool.now c.go.new.pool (ram1 g d) c.go.new.ram (g.S.Shadows.frames (running g d).shadows (ram1 g d)) (g.S.Shadows.frames c.go.new.running.shadows c.go.new.ram) c.requires.between.held.behind (owns c.step_in-outcome.ensures.sound.stands_now) c.go.ensures.moved.moves in
     let ram_is : shown m c.go.new.ram ≡ (s1 g d script).ram = shown_same m (ram1 g d) c.go.new.ram front ∙ sym (ram1_is g d script) in
     let new = state_of g.S.Shadows.stands g.S.Shadows.frames g.S.Shadows.slots m c.go.new.running c.go.new.ram in
     let whole = dropping c.in-Ok.worked.dropped (s1 g d script).set in
     let left = is_left m new whole c.go.new.running.lost c.go.ensures.left
     (λ back. all_loosened (ground (image g d) (n g d)) c.go.new.running.cpu (shown (ground (image g d) (n g d)) c.go.new.ram) c.go.new.running.cpu.cr3 (g.S.Shadows.noted c.go.new.running.shadows) (g.S.Shadows.slots c.go.new.running.shadows c.go.new.ram)
     ((ready1 g c).1 back) m (with_set new whole) refl (any_script (image g d) script (n g d) c.go.new.ram) refl refl) in
-    alone_from m (b g d script) c.go.new.running.lost c.in-Ok.worked c.step_in-outcome.new.board (s1 g d script) new (went g d script) c.go.ensures.cpu ram_is c.go.ensures.board c.go.ensures.step left
-
-pub returns-in-Ok-clause-held : goal.returns-in-Ok-clause-held
-returns-in-Ok-clause-held g c =
-    let d = c.before in
-    let m = ground (image g d) (n g d) in
-    let whole1 = changed (entries_of (g.S.Shadows.slots (running g d).shadows (ram1 g d))) (state1 g d).changes in
-    let within1 = subst (λ (k : ℕ). AreWithin k whole1) (frames1 g d) c.step_in-outcome.ensures.sound.within in
-    let slots2 = g.S.Shadows.slots c.go.new.running.shadows c.go.new.ram in
-    let within2 = within_left (n g d) slots2 c.in-Ok.worked.dropped c.go.new.running.lost whole1 c.go.ensures.left within1
-    (λ back. all_within m c.go.new.running.cpu (shown m c.go.new.ram) c.go.new.running.cpu.cr3 (g.S.Shadows.noted c.go.new.running.shadows) slots2 ((ready1 g c).1 back)) in
-    let open2 = c.go.ensures.shows (image g d) c.text_frames-count.ensures (open1 g d) (opens1 g d) in
-    held_then g.S.Shadows.stands g.S.Shadows.frames g.S.Shadows.slots (image g d) (running g d) c.go.new.running c.args.pool.now c.go.new.pool (ram0 g d) (ram1 g d) c.go.new.ram c.requires.held (a g d) (owns c.step_in-outcome.ensures.sound.stands_now) c.go.ensures.moves
-    c.go.ensures.stands c.go.ensures.owns c.go.ensures.counted c.go.ensures.fills c.go.ensures.frames within2
-    (subst (λ (x : Cpu). AreOpen (image g d) (wp_of x) slots2) (sym c.go.ensures.cpu) open2)
-
-pub returns-in-Err-clause-filled : goal.returns-in-Err-clause-filled
-returns-in-Err-clause-filled g c =
-    let running = c.args.running.now in
-    let n = running.frames in
-    let ram0 = c.args.ram.now in
-    let ram1 = c.step_in-outcome.new.ram in
-    let state1 = c.step_in-outcome.new.state in
-    let o = c.original in
-    let held = c.requires.held in
-    let frames1 : state1.control.frames ≡ n = ap (λ (k : Control). k.frames) c.step_in-outcome.ensures.control ∙ c.begin-state.ensures.frames in
-    let hid = subst (λ (x : Guard). laying.hidden x n ram1 ≡ laying.hidden x n ram0) c.begin-state.ensures.guard
-    (subst (λ (k : ℕ). laying.hidden c.begin-state.result.guard k ram1 ≡ laying.hidden c.begin-state.result.guard k ram0) c.begin-state.ensures.frames c.step_in-outcome.ensures.hidden) in
-    let fits1 : 4096 * n ≤ length ram1 = (let q = c.step_in-outcome.ensures.sound.frames_in in omega (arith, q, frames1)) in
-    let left = step_leaves c.args.image.now n o.result.first o.result.count ram0 ram1 held.wedge.room held.host.room fits1 o.ensures.first o.ensures.count hid in
-    let behind : 4096 * n ≤ 4096 * base_of c.args.pool.now = (let h = held.behind in omega (arith, h)) in
-    let same = g.met.S.Shadows.above running.shadows c.args.pool.now ram0 ram1 (4096 * n) held.owns behind left.above left.size in
-    fills_same _ _ running.fills
-    (kept_same g.S.Shadows.slots g.S.Shadows.asides running.shadows ram0 ram1 (g.met.S.Shadows.same_entries running.shadows ram0 ram1 held.stand same) (g.met.S.Shadows.same_asides running.shadows ram0 ram1 held.stand same))
+    alone_from m (b g d script) c.go.new.running.lost c.in-Ok.worked c.step_in-outcome.new.board (s1 g d script) new (went g d script) c.go.ensures.passes.cpu ram_is c.go.ensures.passes.board c.go.ensures.passes.step left
 
 -- what the run carries goes on
 pub returns-in-Ok-clause-carried : goal.returns-in-Ok-clause-carried
@@ -300,15 +192,15 @@ returns-in-Ok-clause-carried g c = λ script steps t unwanted free roomy taken b
     let long = c.are_bytes.ensures.length in
     let same = ap length ram_is in
     went_on g.S.Shadows.stands g.S.Shadows.frames g.S.Shadows.slots g.S.Shadows.noted g.S.Shadows.marked g.S.Shadows.value g.S.Shadows.asides g.S.Shadows.opened widens c.known_laws.ensures (image g d) script (running g d) c.args.pool.now (ram0 g d) (ram1 g d)
-    c.requires.held (a g d) steps t (entries_of (g.S.Shadows.slots (running g d).shadows (ram0 g d))) free roomy taken by (record { known = carried.known; opened_to = carried.opened_to }) last (state1 g d).changes refl sound.told c.go.new.running.shadows c.go.new.ram c.go.ensures.opened
-    c.in-Ok.worked c.step_in-outcome.new.board (went g d script) (rw c.in-Ok.is at c.step_in-outcome.ensures.roots) c.requires.ready (omega (arith, long, same)) (subst AreBytes (sym ram_is) c.are_bytes.ensures.bytes) begun c.text_frames-count.result (state1 g d).control.frames c.text_frames-count.ensures
+    c.requires.between.held (a g d) steps t (entries_of (g.S.Shadows.slots (running g d).shadows (ram0 g d))) free roomy taken by (record { known = carried.known; opened_to = carried.opened_to }) last (state1 g d).changes refl sound.told c.go.new.running.shadows c.go.new.ram c.go.ensures.opened
+    c.in-Ok.worked c.step_in-outcome.new.board (went g d script) (rw c.in-Ok.is at c.step_in-outcome.ensures.roots) c.requires.between.ready (omega (arith, long, same)) (subst AreBytes (sym ram_is) c.are_bytes.ensures.bytes) begun c.text_frames-count.result (state1 g d).control.frames c.text_frames-count.ensures
     (rw c.in-Ok.is at c.step_in-outcome.ensures.uses) (ap (λ (x : Space). x.visited) c.begin-state.ensures.space) (ap (λ (x : Space). x.mode) c.begin-state.ensures.space ∙ sym mode_is) sound.within (omega (arith, pages, most)) (c.go.ensures.ends unwanted)
 
 pub begin-state-requires-clause-below : goal.begin-state-requires-clause-below
-begin-state-requires-clause-below g c = (let h = c.requires.held.behind in omega (arith, h))
+begin-state-requires-clause-below g c = (let h = c.requires.between.held.behind in omega (arith, h))
 
 pub begin-state-requires-clause-within : goal.begin-state-requires-clause-within
-begin-state-requires-clause-within g c = c.requires.held.within
+begin-state-requires-clause-within g c = c.requires.between.held.within
 
 pub step_in-outcome-requires-clause-sound : goal.step_in-outcome-requires-clause-sound
 step_in-outcome-requires-clause-sound g c = c.begin-state.ensures.sound
@@ -316,44 +208,14 @@ step_in-outcome-requires-clause-sound g c = c.begin-state.ensures.sound
 pub step_in-outcome-requires-clause-pages : goal.step_in-outcome-requires-clause-pages
 step_in-outcome-requires-clause-pages g c = c.begin-state.ensures.pages
 
-pub go-requires-clause-sound : goal.go-requires-clause-sound
-go-requires-clause-sound g c = c.step_in-outcome.ensures.sound
-
-pub go-requires-clause-fills : goal.go-requires-clause-fills
-go-requires-clause-fills g c = c.requires.held.fills
-
-pub go-requires-clause-bound : goal.go-requires-clause-bound
-go-requires-clause-bound g c = c.requires.bound
-
-pub go-requires-clause-page : goal.go-requires-clause-page
-go-requires-clause-page g c = c.in-Ok.ensures.dropped
-
 pub returns-in-Ok-clause-wanted : goal.returns-in-Ok-clause-wanted
 returns-in-Ok-clause-wanted g c = c.go.ensures.wanted
 
 pub returns-in-Ok-clause-before : goal.returns-in-Ok-clause-before
-returns-in-Ok-clause-before g c = c.go.ensures.before
+returns-in-Ok-clause-before g c = c.go.ensures.passes.before
 
 pub returns-in-Ok-clause-count : goal.returns-in-Ok-clause-count
-returns-in-Ok-clause-count g c = c.go.ensures.step
-
-pub returns-in-Ok-clause-stays : goal.returns-in-Ok-clause-stays
-returns-in-Ok-clause-stays g c = tt
-
-pub returns-in-Ok-clause-unfilled : goal.returns-in-Ok-clause-unfilled
-returns-in-Ok-clause-unfilled g c = tt
-
-pub returns-in-Ok-clause-counted : goal.returns-in-Ok-clause-counted
-returns-in-Ok-clause-counted g c = c.go.ensures.counted
-
-pub returns-in-Ok-clause-stands : goal.returns-in-Ok-clause-stands
-returns-in-Ok-clause-stands g c = c.go.ensures.stands
-
-pub returns-in-Ok-clause-frames : goal.returns-in-Ok-clause-frames
-returns-in-Ok-clause-frames g c = c.go.ensures.frames
-
-pub returns-in-Err-clause-ready : goal.returns-in-Err-clause-ready
-returns-in-Err-clause-ready g c = tt
+returns-in-Ok-clause-count g c = c.go.ensures.passes.step
 
 pub returns-in-Err-clause-wanted : goal.returns-in-Err-clause-wanted
 returns-in-Err-clause-wanted g c = tt
@@ -361,20 +223,105 @@ returns-in-Err-clause-wanted g c = tt
 pub returns-in-Err-clause-carried : goal.returns-in-Err-clause-carried
 returns-in-Err-clause-carried g c = tt
 
-pub returns-in-Err-clause-held : goal.returns-in-Err-clause-held
-returns-in-Err-clause-held g c = tt
-
 pub returns-in-Err-clause-count : goal.returns-in-Err-clause-count
 returns-in-Err-clause-count g c = tt
 
 pub returns-in-Err-clause-before : goal.returns-in-Err-clause-before
 returns-in-Err-clause-before g c = refl
 
+pub go-requires-clause-under : goal.go-requires-clause-under
+go-requires-clause-under g c = record {
+  sound = c.step_in-outcome.ensures.sound;
+  counted = c.requires.between.held.counted ∙ ap length (sym (a g c).frames_same);
+  few = few_after g.S.Shadows.stands g.S.Shadows.frames g.S.Shadows.slots (image g c) (running g c) c.args.pool.now (ram0 g c) (ram1 g c) c.requires.between.held (a g c);
+}
+
+pub go-requires-clause-counts : goal.go-requires-clause-counts
+go-requires-clause-counts g c =
+    let free = ap length (a g c).free_same in
+    let same = ap length (a g c).frames_same in
+    let counted = c.requires.between.held.counted in
+    let enough = c.requires.between.enough in
+    record { fills = c.requires.between.held.fills; bound = c.requires.bound; enough = omega (arith, free, same, counted, enough) }
+
+pub go-requires-clause-worked : goal.go-requires-clause-worked
+go-requires-clause-worked g c = record {
+  page = c.in-Ok.ensures.dropped;
+  rules = wp1 g c;
+}
+
+pub returns-in-Err-clause-accounts : goal.returns-in-Err-clause-accounts
+returns-in-Err-clause-accounts g c =
+    let running = c.args.running.now in
+    let image = c.args.image.now in
+    let n = running.frames in
+    let ram0 = c.args.ram.now in
+    let ram1 = c.step_in-outcome.new.ram in
+    let state1 = c.step_in-outcome.new.state in
+    let o = c.original in
+    let held = c.requires.between.held in
+    let frames1 : state1.control.frames ≡ n = ap (λ (k : Control). k.frames) c.step_in-outcome.ensures.control ∙ c.begin-state.ensures.frames in
+    let hid = subst (λ (x : Guard). laying.hidden x n ram1 ≡ laying.hidden x n ram0) c.begin-state.ensures.guard
+    (subst (λ (k : ℕ). laying.hidden c.begin-state.result.guard k ram1 ≡ laying.hidden c.begin-state.result.guard k ram0) c.begin-state.ensures.frames c.step_in-outcome.ensures.hidden) in
+    let fits1 : 4096 * n ≤ length ram1 = (let q = c.step_in-outcome.ensures.sound.frames_in in omega (arith, q, frames1)) in
+    let left = step_leaves image n o.result.first o.result.count ram0 ram1 held.wedge.room held.host.room fits1 o.ensures.first o.ensures.count hid in
+    let behind : 4096 * n ≤ 4096 * base_of c.args.pool.now = (let h = held.behind in omega (arith, h)) in
+    let same = g.met.S.Shadows.above running.shadows c.args.pool.now ram0 ram1 (4096 * n) held.owns behind left.above left.size in
+    let frames_same = g.met.S.Shadows.same_frames running.shadows ram0 ram1 held.stand same in
+    let fs = g.S.Shadows.frames running.shadows ram0 in
+    let gs = g.S.Shadows.frames running.shadows ram1 in
+    record {
+      stands = first c.step_in-outcome.ensures.sound.stands_now;
+      counted = held.counted ∙ ap length (sym frames_same);
+      pool = keeps_above c.args.pool.now ram0 ram1 (4096 * n) fs gs held.owns.stands behind left.above left.size frames_same;
+      filled = fills_same _ _ running.fills
+          (kept_same g.S.Shadows.slots g.S.Shadows.asides running.shadows ram0 ram1 (g.met.S.Shadows.same_entries running.shadows ram0 ram1 held.stand same) (g.met.S.Shadows.same_asides running.shadows ram0 ram1 held.stand same));
+      frames = refl;
+    }
+
+pub returns-in-Ok-clause-stays : goal.returns-in-Ok-clause-stays
+returns-in-Ok-clause-stays g c = tt
+
 pub returns-in-Err-clause-stays : goal.returns-in-Err-clause-stays
-returns-in-Err-clause-stays g c = refl
+returns-in-Err-clause-stays g c = record { step = refl; fills = refl }
 
-pub returns-in-Err-clause-unfilled : goal.returns-in-Err-clause-unfilled
-returns-in-Err-clause-unfilled g c = refl
+pub returns-in-Ok-clause-accounts : goal.returns-in-Ok-clause-accounts
+returns-in-Ok-clause-accounts g c =
+    let d = c.before in
+    record {
+      stands = c.go.ensures.moved.stands;
+      counted = c.go.ensures.counts.counted;
+      pool = keeps_then g.S.Shadows.stands g.S.Shadows.frames g.S.Shadows.slots (image g d) (running g d) c.go.new.running c.args.pool.now c.go.new.pool (ram0 g d) (ram1 g d) c.go.new.ram c.requires.between.held (a g d) c.go.ensures.moved.moves;
+      filled = fills_join _ _ _ _ _ _ (fills_same _ _ (running g d).fills (kept_same g.S.Shadows.slots g.S.Shadows.asides (running g d).shadows (ram0 g d) (ram1 g d) (a g d).entries_same (asides1 g d))) c.go.ensures.counts.filled;
+      frames = c.go.ensures.passes.frames;
+    }
 
-pub returns-in-Err-clause-frames : goal.returns-in-Err-clause-frames
-returns-in-Err-clause-frames g c = refl
+pub returns-in-Ok-clause-between : goal.returns-in-Ok-clause-between
+returns-in-Ok-clause-between g c =
+    let d = c.before in
+    let m = ground (image g d) (n g d) in
+    let whole1 = changed (entries_of (g.S.Shadows.slots (running g d).shadows (ram1 g d))) (state1 g d).changes in
+    let within1 = subst (λ (k : ℕ). AreWithin k whole1) (frames1 g d) c.step_in-outcome.ensures.sound.within in
+    let slots2 = g.S.Shadows.slots c.go.new.running.shadows c.go.new.ram in
+    let within2 = within_left (n g d) slots2 c.in-Ok.worked.dropped c.go.new.running.lost whole1 c.go.ensures.left within1
+    (λ back. all_within m c.go.new.running.cpu (shown m c.go.new.ram) c.go.new.running.cpu.cr3 (g.S.Shadows.noted c.go.new.running.shadows) slots2 ((ready1 g c).1 back)) in
+    let open2 = c.go.ensures.shows (image g d) c.text_frames-count.ensures (open1 g d) (opens1 g d) in
+    let all = c.requires.between.enough in
+    let counted = c.requires.between.held.counted in
+    let now = c.go.ensures.counts.counted in
+    let free = ap length (a g d).free_same in
+    let as_many = ap length (a g d).frames_same in
+    let lengths = c.go.ensures.moved.moves.lengths in
+    let new = c.go.new.running in
+    let frames = sym c.go.ensures.passes.frames in
+    let held = held_then g.S.Shadows.stands g.S.Shadows.frames g.S.Shadows.slots (image g d) (running g d) c.go.new.running c.args.pool.now c.go.new.pool (ram0 g d) (ram1 g d) c.go.new.ram c.requires.between.held (a g d) (owns c.step_in-outcome.ensures.sound.stands_now) c.go.ensures.moved.moves
+    c.go.ensures.moved.stands c.go.ensures.moved.owns c.go.ensures.counts.counted c.go.ensures.counts.fills c.go.ensures.passes.frames within2
+    (subst (λ (x : Cpu). AreOpen (image g d) (wp_of x) slots2) (sym c.go.ensures.passes.cpu) open2) in
+    record {
+      held = subst (λ (k : ℕ). IsHeld g.S.Shadows.stands g.S.Shadows.frames g.S.Shadows.slots (ground (image g d) k) new c.go.new.pool c.go.new.ram) frames held;
+      ready = subst (λ (k : ℕ). IsReady g.S.Shadows.slots g.S.Shadows.noted g.S.Shadows.marked g.S.Shadows.value g.S.Shadows.asides (ground (image g d) k) new.cpu new.shadows c.go.new.ram) frames (ready1 g c).0;
+      enough = omega (arith, all, counted, now, free, as_many, lengths);
+    }
+
+pub returns-in-Err-clause-between : goal.returns-in-Err-clause-between
+returns-in-Err-clause-between g c = tt
