@@ -30,7 +30,8 @@ use Rattle.wedge_step.specs.CarryLaws.{CarryLaws}
 use Rattle.wedge_step.specs.Filled.{FillsOn}
 use Rattle.wedge_core.specs.Noted.{NotesOn, emptied_if, notes_then}
 use Rattle.wedge_step.specs.Parts.{IsPartOf, left_of}
-use Rattle.wedge_core.specs.Slices.{Counts, CountsOn, SliceAs}
+use Rattle.wedge_core.specs.Slices.{Counts, CountsOn}
+use Rattle.wedge_core.proofs.SlicedBy.{SliceAs}
 use Rattle.wedge_core.specs.Stepping.{Goes, StepHalts, Passes, StepAs}
 use Rattle.wedge_step.specs.declared.running.Lost.{Lost}
 use Rattle.wedge_step.proofs.Parts.{part_left, part_same, part_allowed, part_loosened}

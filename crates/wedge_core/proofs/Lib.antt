@@ -1,8 +1,10 @@
 pub mod EmptiedNotes
 pub mod Lending
+pub mod Lent
 pub mod Seeing
 pub mod Patches
 pub mod Resting
+pub mod Staying
 pub mod Counting
 pub mod RunPieces
 pub mod WholeRuns
@@ -10,6 +12,9 @@ pub mod Booted
 pub mod Released
 pub mod Texts
 pub mod Joined
+pub mod SlicedBy
+pub mod RanBy
+pub mod AnsweredBy
 pub mod Passed
 pub mod Going
 pub mod CarriedOver

@@ -40,7 +40,8 @@ use Rattle.wedge_step.specs.Filled.{FillsOn}
 use Rattle.wedge_step.specs.Parts.{left_of}
 use Rattle.wedge_step.specs.Pools.{Keeps}
 use Rattle.wedge_core.specs.Views.{view_by}
-use Rattle.wedge_core.specs.Ran.{Ran, landed}
+use Rattle.wedge_core.specs.Ran.{landed}
+use Rattle.wedge_core.proofs.RanBy.{Ran}
 use Rattle.wedge_core.specs.Slices.{Counts, CountsOn}
 use Rattle.wedge_step.specs.Standing.{IsHeld, IsAble, AreOpen, ground, side_of, state_of}
 use Rattle.wedge_core.specs.Stepping.{Goes}

@@ -14,7 +14,8 @@ use Rattle.kept_laws.specs.Known.{IsKnown}
 use Rattle.wedge_step.specs.Carried.{IsCarried}
 use Rattle.wedge_step.specs.CarryLaws.{CarryLaws}
 use Rattle.wedge_step.specs.Filled.{FillsOn}
-use Rattle.wedge_core.specs.Slices.{Counts, SliceAs}
+use Rattle.wedge_core.specs.Slices.{Counts}
+use Rattle.wedge_core.proofs.SlicedBy.{SliceAs}
 use Rattle.run_trace.specs.Pauses.{IfPaused}
 use Rattle.wedge_core.specs.Starts.{IsAsNew}
 

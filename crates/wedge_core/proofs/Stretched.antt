@@ -33,7 +33,8 @@ use Rattle.native_steps.specs.Stretch.{SameBehind, Beside, Advanced, Advances, b
 use Rattle.wedge_step.specs.declared.running.Running.{Running}
 use Rattle.wedge_step.specs.Parts.{IsPartOf}
 use Rattle.wedge_step.specs.Pools.{Keeps}
-use Rattle.wedge_core.specs.Ran.{Ran, landed}
+use Rattle.wedge_core.specs.Ran.{landed}
+use Rattle.wedge_core.proofs.RanBy.{Ran}
 use Rattle.wedge_step.specs.Standing.{IsHeld, AreOpen, ground, side_of, set_of, state_of}
 use Rattle.wedge_core.specs.Stepping.{Passes}
 use Rattle.wedge_core.specs.ViewLaws.{ViewsLend, ViewsSee}

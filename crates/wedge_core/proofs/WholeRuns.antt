@@ -29,9 +29,12 @@ use Rattle.machine_model.specs.Keeping.{Roomy, Kept, IsLeftBehind}
 use Rattle.machine_model.specs.Joined.{KeptBefore}
 use Rattle.machine_model.proofs.Ending.{each_ends}
 use Rattle.native_steps.specs.Mirrors.{IsHost, shown}
-use Rattle.wedge_core.specs.Promises.{HasMemory, Promise, HasFills, HasOwnFills, HasGuest, IsEnd, WedgeAnswers, with_patches}
+use Rattle.wedge_core.specs.Promises.{HasMemory, Promise, HasFills, HasOwnFills, IsEnd, with_patches}
+use Rattle.wedge_core.specs.Guests.{HasGuest}
+use Rattle.wedge_core.proofs.AnsweredBy.{WedgeAnswers}
 use Rattle.run_trace.specs.Pauses.{end_of, IfReached}
-use Rattle.wedge_core.specs.Slices.{Counts, PausesAs, SliceAs}
+use Rattle.wedge_core.specs.Slices.{Counts, PausesAs}
+use Rattle.wedge_core.proofs.SlicedBy.{SliceAs}
 use Rattle.wedge_step.specs.Standing.{IsHeld, ground, state_of}
 use Rattle.wedge_step.specs.Filled.{FillsOn}
 use Rattle.wedge_step.specs.declared.running.Running.{Running}

@@ -5,7 +5,7 @@ use Rattle.ia32_types.specs.declared.stop.Stop.{Stop}
 use Rattle.machine_step.specs.declared.worked.Seen.{Seen}
 use Rattle.machine_model.specs.State.{Setting, State, wedge_mode}
 use Rattle.machine_model.specs.Fit.{IsLevel}
-use Rattle.wedge_core.specs.Slices.{Counts}
+use Rattle.wedge_core.specs.Counts.{Counts}
 use Rattle.wedge_core.specs.Stepping.{StepAs}
 use Rattle.wedge_step.specs.Alone.{AloneAs}
 use Rattle.wedge_core.specs.Views.{may_run}

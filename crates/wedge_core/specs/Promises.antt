@@ -1,31 +1,19 @@
 -- What a patched run promises: one run under the monitor's rules gives its text, its direct instructions and its memory.
-use Rattle.std.specs.Prelude.{◌≡◌, ℕ, ◌*◌, ◌≤◌, ◌<◌, List, [], ◌∷◌, ◌++◌, Option, Result, Ok, Err, take}
+use Rattle.std.specs.Prelude.{◌≡◌, ℕ, ◌*◌, ◌≤◌, List, ◌∷◌, ◌++◌, [], take}
 use Rattle.std.specs.FinMap.{len}
 use Rattle.std.specs.List.{All}
 use Rattle.guest_ram.specs.Bytes.{with_part}
-use Rattle.frame_pool.specs.declared.Pool.{Pool}
-use Rattle.pv_io.specs.Causes.{Rose}
-use Rattle.pv_io.specs.Sink.{Appends, AppendsFront}
 use Rattle.sites.specs.Patched.{patched}
-use Rattle.board.specs.Scripts.{Events}
 use Rattle.image_check.specs.Image.{Image}
-use Rattle.image_load.specs.Boot.{need}
-use Rattle.image_load.specs.declared.fault.RunFault.{RunFault}
-use Rattle.image_load.specs.declared.fault.RunFault.TheVariants as fault
 use Rattle.run_trace.specs.declared.items.End.{End}
 use Rattle.run_trace.specs.declared.items.End.TheVariants.{Bound, Stopped}
-use Rattle.run_trace.specs.declared.items.Ended.{Ended}
 use Rattle.run_trace.specs.Text.{text_of}
-use Rattle.machine_model.specs.State.{Setting, State, Loosened, boot, wedge}
+use Rattle.machine_model.specs.State.{Setting, State, Loosened, boot}
 use Rattle.machine_model.specs.Step.{Report}
-use Rattle.machine_model.specs.Run.{Set, Run, EndsIn, CanGive, stopping, trace_of, with_set}
+use Rattle.machine_model.specs.Run.{Set, Run, EndsIn, stopping, trace_of}
 use Rattle.machine_model.specs.Taken.{steps_by}
 use Rattle.machine_model.specs.Keeping.{Roomy, Kept, IsLeftBehind}
-use Rattle.shadow_cache.specs.Views as roots
-use Rattle.shadow_cache.specs.declared.roots.Roots.{Roots}
-use Rattle.wedge_step.specs.Standing.{IsHeld, ground, state_of}
-use Rattle.wedge_step.specs.declared.running.Running.{Running}
-use Rattle.wedge_core.specs.Slices.{Counts, CountsOn}
+use Rattle.wedge_core.specs.Counts.{Counts, CountsOn}
 
 -- the guest's memory as the host has it: with the patched text in the text's place
 abbrev pub with_patches : Image → List ℕ → List ℕ
@@ -67,29 +55,3 @@ IsEnd m n pool sets last (Stopped stop) ends set = set ≡ ends.1.set
 pub record HasOwnFills (m : Setting) (n pool : ℕ) (sets : List Set) (last : State) (end : End) (ends : EndsIn m n last end) (fills : ℕ) : Type 0 where
   pub filled : HasFills m sets last fills
   pub own : IsEnd m n pool sets last end ends filled.end
-
--- Where all steps were done, a guest stands over the host's memory in the last state, keeps this set, and has filled so many
--- pages.
-abbrev pub HasGuest : Setting → State → End → Set → ℕ → List ℕ → Type 0
-HasGuest m last Bound set fills memory =
-    (g : Running Roots) × (pool : Pool) × IsHeld roots.stands roots.frames roots.slots (ground m.image m.frames) g pool memory
-    × (state_of roots.stands roots.frames roots.slots m g memory ≡ with_set last set) × (g.fills ≡ fills)
-HasGuest m last (Stopped stop) set fills memory = Unit {0}
-
--- what stands after a refusal
-abbrev pub RefusedWedge : Image → Events → ℕ → ℕ → Option (List ℕ) → Option (List ℕ) → ℕ → ℕ → Counts → Counts → RunFault → Type 0
--- the sink failed, and has taken a front of the text of some run
-RefusedWedge image script frames n old new before now counts_before counts_after fault.Write =
-    (text : List ℕ) × (count : ℕ) × (end : End) × (need image ≤ frames) × CanGive (wedge image script frames) n text count end × AppendsFront old new text × Rose before now
--- the image needs more frames than there are; nothing was written, and the host completed nothing
-RefusedWedge image script frames n old new before now counts_before counts_after (fault.TooSmall small) =
-    (frames < need image) × (small ≡ record { need = need image; have = frames }) × (new ≡ old) × (now ≡ before) × (counts_after ≡ counts_before)
--- nothing was written, and the host completed nothing
-RefusedWedge image script frames n old new before now counts_before counts_after fault.Memory = (new ≡ old) × (now ≡ before) × (counts_after ≡ counts_before)
-
--- what stands after a run: the sink's bytes and faults, and the host's counts and memory
-abbrev pub WedgeAnswers : Image → Events → ℕ → ℕ → ℕ → Option (List ℕ) → Option (List ℕ) → ℕ → ℕ → Counts → Counts → List ℕ → Result Ended RunFault → Type 0
-WedgeAnswers image script frames n pool old new before now counts_before counts_after memory (Ok ended) =
-    (text : List ℕ) × (run : Promise (wedge image script frames) n pool text ended.steps ended.end counts_before counts_after memory) × (need image ≤ frames) × (own : HasOwnFills (wedge image script frames) n pool run.sets run.last ended.end run.run.ends ended.fills) × Appends old new text × (before ≤ now)
-    × HasGuest (wedge image script frames) run.last ended.end own.filled.end ended.fills memory
-WedgeAnswers image script frames n pool old new before now counts_before counts_after memory (Err fault) = RefusedWedge image script frames n old new before now counts_before counts_after fault

@@ -7,6 +7,7 @@ use Rattle.host_cpl3.specs.declared.view.View.{View}
 use Rattle.host_cpl3.specs.declared.exit.Exit.{Exit}
 use Rattle.host_cpl3.specs.declared.exit.Exit.TheVariants as exits
 use Rattle.host_cpl3.specs.HostRun.{Standing, host_run}
+use Rattle.host_cpl3.specs.declared.host.Host as hosts
 use Rattle.wedge_step.specs.declared.running.Running.{Running}
 
 -- The guest's registers behind an exit: a jump into the window is taken back, so that EIP is the site's.
@@ -29,21 +30,30 @@ LeadsLow exits.FlagBits = Unit {0}
 LeadsLow exits.Wrap = Unit {0}
 LeadsLow exits.Budget = Unit {0}
 
+-- what a host has: the bytes of its memory and its counts
+pub record Hosted : Type 0 where
+  pub memory : List ℕ
+  pub retired : ℕ
+  pub passed : ℕ
+
+abbrev pub hosted : {H : Type 0} → hosts.Ghosts H → H → Hosted
+hosted h host = record { memory = h.bytes host; retired = h.retired host; passed = h.passed host }
+
 -- The host ran at most k instructions from where it stood, and completed `done` of them. The guest's processor, board and
 -- count followed, if it completed any.
-pub record Ran {S : Type 0} (v : View) (k : ℕ) (s : Standing) (old : Running S) (done : ℕ) (new : Running S) (memory : List ℕ) (retired passed : ℕ) : Type 0 where
+pub record Ran {S : Type 0} (v : View) (k : ℕ) (s : Standing) (old : Running S) (done : ℕ) (new : Running S) (then : Hosted) : Type 0 where
   pub exit : Exit
   pub regs : Regs
-  pub run : host_run v k s ≡ (exit, record { regs = regs; ram = memory; retired = retired; passed = passed })
-  pub count : retired ≡ s.retired + done
+  pub run : host_run v k s ≡ (exit, record { regs = regs; ram = then.memory; retired = then.retired; passed = then.passed })
+  pub count : then.retired ≡ s.retired + done
   pub few : done ≤ k
   pub none : done ≡ 0 → new ≡ old
   pub some : 0 < done → new ≡ record old { cpu = record old.cpu { regs = landed exit regs; held = false }; board = board_steps done old.board; step = old.step + done }
 
 -- The host was asked for as many instructions as pass before the next edge or event, and for no more than `limit`. The events
 -- of this step were given.
-pub record RanOn {S : Type 0} (v : View) (script : Events) (limit : ℕ) (s : Standing) (old : Running S) (done : ℕ) (new : Running S) (memory : List ℕ) (retired passed : ℕ) : Type 0 where
+pub record RanOn {S : Type 0} (v : View) (script : Events) (limit : ℕ) (s : Standing) (old : Running S) (done : ℕ) (new : Running S) (then : Hosted) : Type 0 where
   pub asked : ℕ
   pub most : asked ≤ limit
   pub furthest : asked < limit → comes_within old.board script old.step asked ≡ true
-  pub ran : Ran v asked s old done new memory retired passed
+  pub ran : Ran v asked s old done new then

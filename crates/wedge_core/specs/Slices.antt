@@ -11,21 +11,11 @@ use Rattle.machine_model.specs.State.{Setting, State, Loosened}
 use Rattle.machine_model.specs.Step.{Report, Halts, step_of}
 use Rattle.machine_model.specs.Run.{Set, Steps, trace_of, with_set}
 use Rattle.machine_model.specs.Taken.{steps_by}
-use Rattle.machine_model.specs.Counts.{direct_count, passed_digest}
 use Rattle.machine_model.specs.Keeping.{Roomy, Kept, IsLeftBehind}
 use Rattle.wedge_step.specs.Filled.{FillsOn}
+pub use Rattle.wedge_core.specs.Counts.{Counts, CountsOn, counts_of}
 use Rattle.wedge_core.specs.Noted.{IsNoted}
 use Rattle.run_trace.specs.Pauses.{IfReached, PutsAs}
-
--- The host's count of completed instructions, and its digest of their addresses.
-pub record Counts : Type 0 where
-  pub retired : ℕ
-  pub passed : ℕ
-
--- the direct instructions of these steps were added
-pub record CountsOn (m : Setting) (reports : List Report) (old new : Counts) : Type 0 where
-  pub retired : new.retired ≡ old.retired + direct_count m.image.sites reports
-  pub passed : new.passed ≡ passed_digest m.image.sites old.passed reports
 
 -- All steps were done, and these translations are kept, which a run may go on with; or the next step stops, by these
 -- translations, which it may go by. The sink may fail before.
@@ -34,13 +24,31 @@ PausesAs m bound last new end (Ok Reached) = (last.step ≡ bound) × (new ≡ w
 PausesAs m bound last new end (Ok (Stopped stop)) = (last.step < bound) × (new.step ≡ last.step) × Loosened m last end × (step_of m last end ≡ Halts stop)
 PausesAs m bound last new end (Err failed) = last.step ≤ bound
 
+-- What is done outside: the host's counts and what the sink has taken, before and after.
+pub record Outward : Type 0 where
+  pub before : Counts
+  pub after : Counts
+  pub told : Option (List ℕ)
+  pub tells : Option (List ℕ)
+
+-- how many pages are kept at first, and how many were filled before and after
+pub record Filling : Type 0 where
+  pub pages : ℕ
+  pub fills : ℕ
+  pub filled : ℕ
+
+-- whether notes are wanted, and which are told behind those that were
+pub record Noting : Type 1 where
+  pub wanted : Bool
+  pub on : List Note → Type 0
+
 -- Steps under the monitor's rules, up to the bound or to a stop, led from the old state to the last. The lines of what
 -- was seen in them were put, and the host completed their direct instructions. Where notes are wanted, they go by what is
 -- left of translations, but for those that these notes tell to be dropped. Each of their sets, and the one behind them, has
 -- no more pages than were kept at first and were filled since. Where the slice begins so, the sets keep the rule for kept
 -- translations, and so does the one behind them: the next step stops by it, or a run may go on with it. Where all steps were
 -- done that is what the rule lets be left behind them.
-pub record SliceAs (m : Setting) (bound : ℕ) (old new : State) (before after : Counts) (told tells : Option (List ℕ)) (pages fills filled : ℕ) (wanted : Bool) (notes_on : List Note → Type 0) (begins : Type 0) (result : Result Pause Failed) : Type 0 where
+pub record SliceAs (m : Setting) (bound : ℕ) (old new : State) (out : Outward) (filling : Filling) (noting : Noting) (begins : Type 0) (result : Result Pause Failed) : Type 0 where
   pub sets : List Set
   pub reports : List Report
   pub last : State
@@ -48,11 +56,11 @@ pub record SliceAs (m : Setting) (bound : ℕ) (old new : State) (before after :
   pub notes : List Note
   pub steps : Steps m old sets reports last
   pub ends : PausesAs m bound last new end result
-  pub text : PutsAs (lines_of (trace_of reports)) told tells result
-  pub counts : CountsOn m reports before after
-  pub noted : wanted ≡ true → IsNoted m old new sets last notes result
-  pub tells_notes : notes_on notes
-  pub each_filled : All (λ (set : Set). FillsOn pages (len set) fills filled) (sets ++ end ∷ [])
+  pub text : PutsAs (lines_of (trace_of reports)) out.told out.tells result
+  pub counts : CountsOn m reports out.before out.after
+  pub noted : noting.wanted ≡ true → IsNoted m old new sets last notes result
+  pub tells_notes : noting.on notes
+  pub each_filled : All (λ (set : Set). FillsOn filling.pages (len set) filling.fills filling.filled) (sets ++ end ∷ [])
   pub kept : begins → Kept m old (sets ++ end ∷ [])
   pub left : begins → IfReached result (Roomy (steps_by m old sets) → IsLeftBehind m (steps_by m old sets) last end)
 

@@ -11,7 +11,7 @@ use Rattle.machine_model.specs.Taken.{steps_by}
 use Rattle.machine_model.specs.Notes.{AreLeft}
 use Rattle.native_steps.specs.Stretch.{IsQuiet}
 use Rattle.wedge_step.specs.Parts.{left_of, IsLeft}
-use Rattle.wedge_core.specs.Slices.{Counts, CountsOn}
+use Rattle.wedge_core.specs.Counts.{Counts, CountsOn}
 use Rattle.wedge_step.specs.declared.running.Lost.{Lost}
 
 -- A step whose events were given went, by the translations that were kept, or by none where all were dropped before it,

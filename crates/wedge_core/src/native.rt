@@ -1,46 +1,32 @@
 //! One step whose instruction the host does, where it is done.
 
-ghost use Rattle.std.specs.Prelude.{◌≡◌, ℕ, Bool, ◌+◌, ◌*◌, ◌/◌, ◌%◌, ◌==◌, ◌≤◌, ◌<◌, ◌^◌, List, length, true, false, take, None, Ok, OnOk, OnErr};
+ghost use Rattle.std.specs.Prelude.{◌≡◌, ℕ, Bool, ◌+◌, ◌*◌, ◌/◌, ◌%◌, ◌==◌, ◌≤◌, ◌<◌, ◌^◌, List, length, true, false, take, None, Ok, OnOk, OnErr, IfErr, IfOk, IfSome};
 ghost use Rattle.std.specs.FinMap.{empty};
 ghost use Rattle.frame_pool.specs.Pool.{free_list};
-ghost use Rattle.frame_pool.specs.Held.{Moves, Owns};
+ghost use Rattle.frame_pool.specs.Held.{Moves};
 ghost use Rattle.frame_pool.specs.declared.Pool.{Pool};
 ghost use Rattle.shadow_tables.specs.Aside.{AreSame};
 ghost use Rattle.shadow_tables.specs.Entries.{entries_of};
-ghost use Rattle.image_check.specs.Image.{Image};
-ghost use Rattle.board.specs.Scripts.{Events};
-ghost use Rattle.machine_model.specs.State.{wedge};
-ghost use Rattle.machine_model.specs.Alone.{is_native};
-ghost use Rattle.wedge_core.specs.Attempts.{AttemptAs, WhereAsked, WhereStepped};
-ghost use Rattle.wedge_step.specs.Clashing.{IsClear};
-ghost use Rattle.wedge_step.specs.Filled.{FillsOn, pages_kept};
-ghost use Rattle.wedge_step.specs.Ready.{IsReady};
-ghost use Rattle.wedge_step.specs.Parts.{left_of};
-ghost use Rattle.wedge_step.specs.Pools.{Keeps};
-ghost use Rattle.wedge_step.specs.Standing.{IsHeld, IsAble, ground, set_of, state_of};
-ghost use Rattle.wedge_core.specs.Views.{may_run, view_by};
-ghost use Rattle.wedge_core.specs.Tries.{TriesAs};
-ghost use Rattle.wedge_core.specs.Prepared.{PreparesAs, gone, prepared};
 ghost use Rattle.ia32_rows.specs.Spells.{Spells};
+ghost use Rattle.image_check.specs.Image.{Image};
 ghost use Rattle.paging.specs.Work.{Gives};
-ghost use Rattle.std.specs.Prelude.{IfErr, IfOk, IfSome};
-ghost use Rattle.machine_model.specs.UsedPages.{AtRefusal, Uses};
-ghost use Rattle.step_mem.specs.Shown.{hidden};
-ghost use Rattle.step_mem.specs.Sound.{IsSound, space_at};
+ghost use Rattle.step_mem.specs.Sound.{FetchesIn, IsSoundOver, StaysIn};
+ghost use Rattle.machine_model.specs.Alone.{is_native};
 ghost use Rattle.machine_model.specs.State.{Setting, State as Whole};
-ghost use Rattle.machine_step.specs.Ruled.{IsRuled};
+ghost use Rattle.machine_model.specs.UsedPages.{AtRefusal, Uses};
 ghost use Rattle.machine_step.specs.Roots.{RootsAs};
+ghost use Rattle.machine_step.specs.Ruled.{IsRuled};
 ghost use Rattle.machine_step.specs.Worked.{IsDropped};
-ghost use Rattle.std.specs.Prelude.{◌++◌, ◌∷◌, []};
-ghost use Rattle.guest_ram.specs.Bytes.{AreBytes};
-ghost use Rattle.native_steps.specs.Mirrors.{shown};
-ghost use Rattle.machine_model.specs.Taken.{is_load};
-ghost use Rattle.machine_model.specs.Clash.{instruction_clashes};
-ghost use Rattle.kept_laws.specs.Known.{StayAside};
-ghost use Rattle.machine_model.specs.Taken.{Taken};
-ghost use Rattle.machine_model.specs.Keeping.{Roomy};
-ghost use Rattle.machine_model.specs.Run.{Set};
-ghost use Rattle.wedge_step.specs.Carried.{IsCarried, IsCarriedBy, IsTakenFrom};
+ghost use Rattle.wedge_step.specs.Leaves.{Accounts, IsBetween};
+ghost use Rattle.wedge_step.specs.Parts.{left_of};
+ghost use Rattle.wedge_step.specs.Scene.{scene, set_in};
+ghost use Rattle.wedge_step.specs.Standing.{IsAble, ground};
+ghost use Rattle.wedge_core.specs.Attempted.{Attempts, TriesOnce};
+ghost use Rattle.wedge_core.specs.Losing.{IsClearIn, KeepsAside, LosesByClash, MovesInEach, StaysBeside};
+ghost use Rattle.wedge_core.specs.Prepared.{PreparesAs, gone, prepared, space_over};
+ghost use Rattle.wedge_core.specs.Scenes.{IsHeldIn, IsReadyIn, StaysHeld};
+ghost use Rattle.wedge_core.specs.Tries.{TriesAs};
+ghost use Rattle.wedge_core.specs.Views.{may_run};
 
 use crate::laws::native_laws;
 use board::Board;
@@ -99,36 +85,14 @@ pub fn begin_native<S: Reloads + Drop>(
     image: &Checked,
     wanted: bool,
 ) -> Result<Attempt, Stop>
-    requires held { IsHeld S.stands S.frames S.slots (ground image.now running.old.frames) running.old pool.old ram.old }
-    requires ready { IsReady S.slots S.noted S.marked S.value S.asides (ground image.now running.old.frames) running.old.cpu running.old.shadows ram.old }
+    requires between { IsBetween S.Shadows image.now (scene running.old pool.old ram.old) }
     requires able { IsAble running.old.cpu }
     requires runs { may_run running.old.cpu running.old.board image.now ≡ true }
     requires bound { running.old.step < 2 ^ 40 }
-    requires enough { 16 ≤ length (free_list pool.old ram.old) + running.old.held }
     requires kept { (running.old.lost.before ≡ false) × (running.old.lost.back ≡ false) }
-    ensures step { (script : Events) → AttemptAs (wedge image.now script running.old.frames) (view_by (S.directory running.new.shadows) running.old.cpu)
-        (state_of S.stands S.frames S.slots (wedge image.now script running.old.frames) running.old ram.old) running.new.lost.before running.new.lost result
-        (state_of S.stands S.frames S.slots (wedge image.now script running.old.frames) running.new ram.new) ram.new }
-    ensures held { OnOk result (IsHeld S.stands S.frames S.slots (ground image.now running.old.frames) (record running.new { step = running.old.step + 1 }) pool.new ram.new) }
-    ensures ready { OnOk result (IsReady S.slots S.noted S.marked S.value S.asides (ground image.now running.old.frames) running.new.cpu running.new.shadows ram.new) }
-    ensures wanted { OnOk result (wanted ≡ true → running.new.lost.back ≡ false) }
-    ensures carried { WhereStepped result ((script : Events) (steps : List Taken) (t : Taken) → wanted ≡ false → length (free_list pool.old ram.old) + running.old.held ≡ 512 → Roomy (steps ++ t ∷ [])
-        → IsTakenFrom (wedge image.now script running.old.frames) (state_of S.stands S.frames S.slots (wedge image.now script running.old.frames) running.old ram.old) t → t.set ≡ left_of running.new.lost.before (set_of S.stands S.frames S.slots running.old ram.old)
-        → IsCarried S.slots S.noted S.marked S.asides S.opened (wedge image.now script running.old.frames) steps t.before running.old.shadows ram.old → IsCarried S.slots S.noted S.marked S.asides S.opened (wedge image.now script running.old.frames) (steps ++ t ∷ []) t.after running.new.shadows ram.new) }
-    ensures carried_asked { WhereAsked result ((script : Events) (steps : List Taken) (t : Taken) → wanted ≡ false → length (free_list pool.old ram.old) + running.old.held ≡ 512 → Roomy (steps ++ t ∷ [])
-        → IsTakenFrom (wedge image.now script running.old.frames) (state_of S.stands S.frames S.slots (wedge image.now script running.old.frames) running.old ram.old) t → t.set ≡ left_of running.new.lost.before (set_of S.stands S.frames S.slots running.old ram.old)
-        → is_load t.report.completed ≡ false → (t.after.cpu.cr0 ≡ running.old.cpu.cr0) × (t.after.cpu.cr3 ≡ running.old.cpu.cr3) × (t.after.cpu.cr4 ≡ running.old.cpu.cr4) → t.after.set ≡ set_of S.stands S.frames S.slots running.new ram.new → 4096 * running.old.frames ≤ length t.after.ram → AreBytes t.after.ram
-        → IsCarried S.slots S.noted S.marked S.asides S.opened (wedge image.now script running.old.frames) steps t.before running.old.shadows ram.old → IsCarried S.slots S.noted S.marked S.asides S.opened (wedge image.now script running.old.frames) (steps ++ t ∷ []) t.after running.new.shadows ram.new) }
-    ensures clashed { running.new.lost.before ≡ true → 8 ≤ length (free_list pool.old ram.old) → (script : Events) (b : Whole) → b.cpu ≡ running.old.cpu → b.ram ≡ shown (ground image.now running.old.frames) ram.old → b.set ≡ set_of S.stands S.frames S.slots running.old ram.old → instruction_clashes (wedge image.now script running.old.frames) b ≡ true }
-    ensures count { WhereStepped result (running.new.step ≡ running.old.step + 1) }
-    ensures stays { OnErr result (running.new.step ≡ running.old.step) }
-    ensures unfilled { OnErr result (running.new.fills ≡ running.old.fills) }
-    ensures asked { WhereAsked result (running.new ≡ record running.old { shadows = running.new.shadows; held = running.new.held; fills = running.new.fills; lost = running.new.lost }) }
-    ensures counted { running.new.held ≡ length (S.frames running.new.shadows ram.new) }
-    ensures filled { FillsOn (pages_kept S.slots S.asides running.old.shadows ram.old) (pages_kept S.slots S.asides running.new.shadows ram.new) running.old.fills running.new.fills }
-    ensures stands { ∥ S.stands running.new.shadows ram.new ∥₁ }
-    ensures pool { Keeps pool.old pool.new ram.old ram.new (S.frames running.old.shadows ram.old) (S.frames running.new.shadows ram.new) }
-    ensures frames { running.new.frames ≡ running.old.frames }
+    ensures attempts { Attempts S.Shadows image.now wanted (scene running.old pool.old ram.old)
+        (scene running.new pool.new ram.new) result }
+    ensures accounts { Accounts S.Shadows (scene running.old pool.old ram.old) (scene running.new pool.new ram.new) }
 {
     known_laws();
     make_room(running, pool, ram, image);
@@ -143,37 +107,17 @@ fn try_once<S: Reloads + Drop>(
     image: &Checked,
     wanted: bool,
 ) -> Result<Attempt, Stop>
-    requires held { IsHeld S.stands S.frames S.slots (ground image.now running.old.frames) running.old pool.old ram.old }
-    requires ready { IsReady S.slots S.noted S.marked S.value S.asides (ground image.now running.old.frames) running.old.cpu running.old.shadows ram.old }
+    requires held { IsHeldIn S.Shadows (ground image.now running.old.frames) (scene running.old pool.old ram.old) }
+    requires ready { IsReadyIn S.Shadows (ground image.now running.old.frames) (scene running.old pool.old ram.old) }
     requires able { IsAble running.old.cpu }
     requires runs { may_run running.old.cpu running.old.board image.now ≡ true }
     requires bound { running.old.step < 2 ^ 40 }
     requires room { 8 ≤ length (free_list pool.old ram.old) }
-    requires clear { (script : Events) → IsClear (wedge image.now script running.old.frames) (state_of S.stands S.frames S.slots (wedge image.now script running.old.frames) running.old ram.old) }
+    requires clear { IsClearIn S.Shadows image.now running.old.frames (scene running.old pool.old ram.old) }
     requires kept { running.old.lost.back ≡ false }
-    ensures step { (script : Events) → AttemptAs (wedge image.now script running.old.frames) (view_by (S.directory running.new.shadows) running.old.cpu)
-        (state_of S.stands S.frames S.slots (wedge image.now script running.old.frames) running.old ram.old) false running.new.lost result
-        (state_of S.stands S.frames S.slots (wedge image.now script running.old.frames) running.new ram.new) ram.new }
-    ensures held { OnOk result (IsHeld S.stands S.frames S.slots (ground image.now running.old.frames) (record running.new { step = running.old.step + 1 }) pool.new ram.new) }
-    ensures ready { OnOk result (IsReady S.slots S.noted S.marked S.value S.asides (ground image.now running.old.frames) running.new.cpu running.new.shadows ram.new) }
-    ensures wanted { OnOk result (wanted ≡ true → running.new.lost.back ≡ false) }
-    ensures carried { WhereStepped result ((script : Events) (steps : List Taken) (t : Taken) → wanted ≡ false → length (free_list pool.old ram.old) + running.old.held ≡ 512 → Roomy (steps ++ t ∷ [])
-        → IsTakenFrom (wedge image.now script running.old.frames) (state_of S.stands S.frames S.slots (wedge image.now script running.old.frames) running.old ram.old) t → t.set ≡ set_of S.stands S.frames S.slots running.old ram.old
-        → (set : Set) → IsCarriedBy S.slots S.noted S.marked S.asides S.opened (wedge image.now script running.old.frames) steps t.before set running.old.shadows ram.old → IsCarried S.slots S.noted S.marked S.asides S.opened (wedge image.now script running.old.frames) (steps ++ t ∷ []) t.after running.new.shadows ram.new) }
-    ensures carried_asked { WhereAsked result ((script : Events) (steps : List Taken) (t : Taken) → wanted ≡ false → length (free_list pool.old ram.old) + running.old.held ≡ 512 → Roomy (steps ++ t ∷ [])
-        → IsTakenFrom (wedge image.now script running.old.frames) (state_of S.stands S.frames S.slots (wedge image.now script running.old.frames) running.old ram.old) t → t.set ≡ set_of S.stands S.frames S.slots running.old ram.old
-        → is_load t.report.completed ≡ false → (t.after.cpu.cr0 ≡ running.old.cpu.cr0) × (t.after.cpu.cr3 ≡ running.old.cpu.cr3) × (t.after.cpu.cr4 ≡ running.old.cpu.cr4) → t.after.set ≡ set_of S.stands S.frames S.slots running.new ram.new → 4096 * running.old.frames ≤ length t.after.ram → AreBytes t.after.ram
-        → (set : Set) → IsCarriedBy S.slots S.noted S.marked S.asides S.opened (wedge image.now script running.old.frames) steps t.before set running.old.shadows ram.old → IsCarried S.slots S.noted S.marked S.asides S.opened (wedge image.now script running.old.frames) (steps ++ t ∷ []) t.after running.new.shadows ram.new) }
-    ensures count { WhereStepped result (running.new.step ≡ running.old.step + 1) }
-    ensures stays { OnErr result (running.new.step ≡ running.old.step) }
-    ensures unfilled { OnErr result (running.new.fills ≡ running.old.fills) }
-    ensures before { running.new.lost.before ≡ running.old.lost.before }
-    ensures asked { WhereAsked result (running.new ≡ record running.old { shadows = running.new.shadows; held = running.new.held; fills = running.new.fills; lost = running.new.lost }) }
-    ensures counted { running.new.held ≡ length (S.frames running.new.shadows ram.new) }
-    ensures filled { FillsOn (pages_kept S.slots S.asides running.old.shadows ram.old) (pages_kept S.slots S.asides running.new.shadows ram.new) running.old.fills running.new.fills }
-    ensures stands { ∥ S.stands running.new.shadows ram.new ∥₁ }
-    ensures pool { Keeps pool.old pool.new ram.old ram.new (S.frames running.old.shadows ram.old) (S.frames running.new.shadows ram.new) }
-    ensures frames { running.new.frames ≡ running.old.frames }
+    ensures tries { TriesOnce S.Shadows image.now wanted (scene running.old pool.old ram.old)
+        (scene running.new pool.new ram.new) result }
+    ensures accounts { Accounts S.Shadows (scene running.old pool.old ram.old) (scene running.new pool.new ram.new) }
 {
     native_laws();
     known_laws();
@@ -222,21 +166,18 @@ fn make_room<S: Shadows + Drop>(
     ram: &mut Ram,
     image: &Checked,
 )
-    requires held { IsHeld S.stands S.frames S.slots (ground image.now running.old.frames) running.old pool.old ram.old }
+    requires held { IsHeldIn S.Shadows (ground image.now running.old.frames) (scene running.old pool.old ram.old) }
     requires enough { 16 ≤ length (free_list pool.old ram.old) + running.old.held }
     requires kept { running.old.lost.before ≡ false }
-    ensures held { IsHeld S.stands S.frames S.slots (ground image.now running.old.frames) running.new pool.new ram.new }
-    ensures left { set_of S.stands S.frames S.slots running.new ram.new ≡ left_of running.new.lost.before (set_of S.stands S.frames S.slots running.old ram.old) }
+    ensures held { IsHeldIn S.Shadows (ground image.now running.old.frames) (scene running.new pool.new ram.new) }
+    ensures left { set_in S.Shadows (scene running.new pool.new ram.new)
+        ≡ left_of running.new.lost.before (set_in S.Shadows (scene running.old pool.old ram.old)) }
     ensures room { 8 ≤ length (free_list pool.new ram.new) }
-    ensures clear { (script : Events) → IsClear (wedge image.now script running.old.frames) (state_of S.stands S.frames S.slots (wedge image.now script running.old.frames) running.new ram.new) }
+    ensures clear { IsClearIn S.Shadows image.now running.old.frames (scene running.new pool.new ram.new) }
     ensures same { running.new ≡ record running.old { shadows = running.new.shadows; held = running.new.held; lost = running.new.lost } }
-    ensures ready { (m : Setting) → m.frames ≡ running.old.frames → IsReady S.slots S.noted S.marked S.value S.asides m running.old.cpu running.old.shadows ram.old → IsReady S.slots S.noted S.marked S.value S.asides m running.new.cpu running.new.shadows ram.new }
-    ensures back { running.new.lost.back ≡ running.old.lost.back }
-    ensures clashed { running.new.lost.before ≡ true → 8 ≤ length (free_list pool.old ram.old) → (script : Events) (b : Whole) → b.cpu ≡ running.old.cpu → b.ram ≡ shown (ground image.now running.old.frames) ram.old → b.set ≡ set_of S.stands S.frames S.slots running.old ram.old → instruction_clashes (wedge image.now script running.old.frames) b ≡ true }
-    ensures stay { 8 ≤ length (free_list pool.old ram.old) → StayAside (S.noted running.old.shadows) (S.noted running.new.shadows) (S.marked running.old.shadows) (S.marked running.new.shadows) (S.asides running.old.shadows ram.old) (S.asides running.new.shadows ram.new) }
-    ensures opened { (indices : ℕ → Bool) → S.opened running.old.shadows ram.old indices → S.opened running.new.shadows ram.new indices }
-    ensures fewer { pages_kept S.slots S.asides running.new.shadows ram.new ≤ pages_kept S.slots S.asides running.old.shadows ram.old }
-    ensures guest { take (4096 * running.old.frames) ram.new ≡ take (4096 * running.old.frames) ram.old }
+    ensures beside { StaysBeside S.Shadows (scene running.old pool.old ram.old) (scene running.new pool.new ram.new) }
+    ensures clashed { LosesByClash S.Shadows image.now (scene running.old pool.old ram.old) (scene running.new pool.new ram.new) }
+    ensures stay { 8 ≤ length (free_list pool.old ram.old) → KeepsAside S.Shadows running.old.shadows running.new.shadows ram.old ram.new }
     ensures moves { Moves pool.old pool.new ram.old ram.new (S.frames running.old.shadows ram.old) (S.frames running.new.shadows ram.new) }
 {
     if pool.free() < ROOM {
@@ -248,17 +189,13 @@ fn make_room<S: Shadows + Drop>(
 
 /// All translations leave before a step, and with them all frames but two. It is noted.
 fn drop_kept<S: Shadows + Drop>(running: &mut Running<S>, pool: &mut Pool, ram: &mut Ram)
-    requires held { (image : Image) × IsHeld S.stands S.frames S.slots (ground image running.old.frames) running.old pool.old ram.old }
-    ensures held { (image : Image) → IsHeld S.stands S.frames S.slots (ground image running.old.frames) running.old pool.old ram.old → IsHeld S.stands S.frames S.slots (ground image running.old.frames) running.new pool.new ram.new }
-    ensures none { set_of S.stands S.frames S.slots running.new ram.new ≡ empty }
+    requires held { (image : Image) × IsHeldIn S.Shadows (ground image running.old.frames) (scene running.old pool.old ram.old) }
+    ensures held { StaysHeld S.Shadows (scene running.old pool.old ram.old) (scene running.new pool.new ram.new) }
+    ensures none { set_in S.Shadows (scene running.new pool.new ram.new) ≡ empty }
     ensures room { length (free_list pool.new ram.new) + 2 ≡ length (free_list pool.old ram.old) + running.old.held }
     ensures lost { running.new.lost.before ≡ true }
     ensures same { running.new ≡ record running.old { shadows = running.new.shadows; held = running.new.held; lost = running.new.lost } }
-    ensures ready { (m : Setting) → m.frames ≡ running.old.frames → IsReady S.slots S.noted S.marked S.value S.asides m running.old.cpu running.old.shadows ram.old → IsReady S.slots S.noted S.marked S.value S.asides m running.new.cpu running.new.shadows ram.new }
-    ensures back { running.new.lost.back ≡ running.old.lost.back }
-    ensures opened { (indices : ℕ → Bool) → S.opened running.old.shadows ram.old indices → S.opened running.new.shadows ram.new indices }
-    ensures fewer { pages_kept S.slots S.asides running.new.shadows ram.new ≤ pages_kept S.slots S.asides running.old.shadows ram.old }
-    ensures guest { take (4096 * running.old.frames) ram.new ≡ take (4096 * running.old.frames) ram.old }
+    ensures beside { StaysBeside S.Shadows (scene running.old pool.old ram.old) (scene running.new pool.new ram.new) }
     ensures moves { Moves pool.old pool.new ram.old ram.new (S.frames running.old.shadows ram.old) (S.frames running.new.shadows ram.new) }
 {
     let free = pool.free() + running.held;
@@ -269,19 +206,16 @@ fn drop_kept<S: Shadows + Drop>(running: &mut Running<S>, pool: &mut Pool, ram: 
 
 /// What is present leaves before a step that clashes; what is kept for other values of CR3 stays. It is noted.
 fn drop_present<S: Shadows + Drop>(running: &mut Running<S>, ram: &mut Ram)
-    requires held { (image : Image) × (pool : Pool) × IsHeld S.stands S.frames S.slots (ground image running.old.frames) running.old pool ram.old }
-    ensures held { (image : Image) (pool : Pool) → IsHeld S.stands S.frames S.slots (ground image running.old.frames) running.old pool ram.old → IsHeld S.stands S.frames S.slots (ground image running.old.frames) running.new pool ram.new }
-    ensures none { set_of S.stands S.frames S.slots running.new ram.new ≡ empty }
+    requires held { (image : Image) × (pool : Pool)
+        × IsHeldIn S.Shadows (ground image running.old.frames) (scene running.old pool ram.old) }
+    ensures held { (pool : Pool) → StaysHeld S.Shadows (scene running.old pool ram.old) (scene running.new pool ram.new) }
+    ensures none { entries_of (S.slots running.new.shadows ram.new) ≡ empty }
     ensures lost { running.new.lost.before ≡ true }
     ensures same { running.new ≡ record running.old { shadows = running.new.shadows; lost = running.new.lost } }
-    ensures ready { (m : Setting) → m.frames ≡ running.old.frames → IsReady S.slots S.noted S.marked S.value S.asides m running.old.cpu running.old.shadows ram.old → IsReady S.slots S.noted S.marked S.value S.asides m running.new.cpu running.new.shadows ram.new }
-    ensures back { running.new.lost.back ≡ running.old.lost.back }
-    ensures stay { StayAside (S.noted running.old.shadows) (S.noted running.new.shadows) (S.marked running.old.shadows) (S.marked running.new.shadows) (S.asides running.old.shadows ram.old) (S.asides running.new.shadows ram.new) }
-    ensures opened { (indices : ℕ → Bool) → S.opened running.old.shadows ram.old indices → S.opened running.new.shadows ram.new indices }
-    ensures fewer { pages_kept S.slots S.asides running.new.shadows ram.new ≤ pages_kept S.slots S.asides running.old.shadows ram.old }
-    ensures guest { take (4096 * running.old.frames) ram.new ≡ take (4096 * running.old.frames) ram.old }
+    ensures beside { (pool : Pool) → StaysBeside S.Shadows (scene running.old pool ram.old) (scene running.new pool ram.new) }
+    ensures stay { KeepsAside S.Shadows running.old.shadows running.new.shadows ram.old ram.new }
     ensures frames { S.frames running.new.shadows ram.new ≡ S.frames running.old.shadows ram.old }
-    ensures moves { (pool : Pool) → Owns pool ram.old (S.frames running.old.shadows ram.old) → Moves pool pool ram.old ram.new (S.frames running.old.shadows ram.old) (S.frames running.new.shadows ram.new) }
+    ensures moves { MovesInEach S.Shadows running.old.shadows running.new.shadows ram.old ram.new }
 {
     drop_dirs(&mut running.shadows, ram);
     running.lost.before = true;
@@ -299,7 +233,7 @@ fn drop_dirs<S: Shadows>(shadows: &mut S, ram: &mut Ram)
     ensures asides { AreSame (S.asides shadows.old ram.old) (S.asides shadows.new ram.new) }
     ensures opened { (indices : ℕ → Bool) → S.opened shadows.old ram.old indices → S.opened shadows.new ram.new indices }
     ensures frames { S.frames shadows.new ram.new ≡ S.frames shadows.old ram.old }
-    ensures moves { (p : Pool) → Owns p ram.old (S.frames shadows.old ram.old) → Moves p p ram.old ram.new (S.frames shadows.old ram.old) (S.frames shadows.new ram.new) }
+    ensures moves { MovesInEach S.Shadows shadows.old shadows.new ram.old ram.new }
 {
     for index in 0..1024 {
         shadows.drop_dir(ram, index);
@@ -316,16 +250,16 @@ fn try_native<B: Kept>(
     state: &mut StepState,
 ) -> Result<Option<Worked>, Stop>
     requires able { IsAble cpu.now }
-    requires sound { IsSound (B.entries kept.now) (B.floor kept.now) (B.stands kept.now) ram.old state.old }
+    requires sound { IsSoundOver B.Kept kept.now ram.old state.old }
     requires pages { state.old.pages ≡ 0 }
-    ensures sound { IsSound (B.entries kept.now) (B.floor kept.now) (B.stands kept.now) ram.new state.new }
-    ensures uses { IfOk result (λ _. Uses (cpu.now.cpl == 3) (space_at (B.entries kept.now) ram.old state.old) (space_at (B.entries kept.now) ram.new state.new)) }
-    ensures tries { (m : Setting) (b : Whole) → IsRuled m rules.now → TriesAs m (record b { cpu = cpu.now; board = board.old }) (space_at (B.entries kept.now) ram.old state.old) result board.new (space_at (B.entries kept.now) ram.new state.new) }
+    ensures sound { IsSoundOver B.Kept kept.now ram.new state.new }
+    ensures uses { IfOk result (λ _. Uses (cpu.now.cpl == 3) (space_over B.Kept kept.now ram.old state.old)
+        (space_over B.Kept kept.now ram.new state.new)) }
+    ensures tries { (m : Setting) (b : Whole) → IsRuled m rules.now → TriesAs m (record b { cpu = cpu.now; board = board.old })
+        (space_over B.Kept kept.now ram.old state.old) result board.new (space_over B.Kept kept.now ram.new state.new) }
     ensures dropped { IfOk result (λ o. IfSome o (λ w. IsDropped w.dropped)) }
     ensures roots { IfOk result (λ o. IfSome o (λ w. RootsAs cpu.now w)) }
-    ensures control { state.new.control ≡ state.old.control }
-    ensures text { state.new.guard.text ≡ state.old.guard.text }
-    ensures hidden { hidden state.old.guard state.old.control.frames ram.new ≡ hidden state.old.guard state.old.control.frames ram.old }
+    ensures stays { FetchesIn state.old state.new ram.old ram.new }
 {
     match fetch_at(ram, kept, state, cpu.cpl == 3, cpu.regs.eip) {
         Err(refusal) => gone(refuse(rules, cpu, ram, kept, state, refusal)),
@@ -363,16 +297,16 @@ fn prepare<B: Kept>(
     requires spelled { (bytes : List ℕ) × Spells bytes insn.now }
     requires native { is_native (cpu.now.cpl == 3) insn.now.op ≡ true }
     requires able { IsAble cpu.now }
-    requires sound { IsSound (B.entries kept.now) (B.floor kept.now) (B.stands kept.now) ram.old state.old }
+    requires sound { IsSoundOver B.Kept kept.now ram.old state.old }
     requires pages { state.old.pages ≤ 8 }
-    ensures sound { IsSound (B.entries kept.now) (B.floor kept.now) (B.stands kept.now) ram.new state.new }
-    ensures uses { IfOk result (λ _. Uses (cpu.now.cpl == 3) (space_at (B.entries kept.now) ram.old state.old) (space_at (B.entries kept.now) ram.new state.new)) }
-    ensures prepares { (m : Setting) (b : Whole) → IsRuled m rules.now → PreparesAs m (record b { cpu = cpu.now }) insn.now len (space_at (B.entries kept.now) ram.old state.old) result (space_at (B.entries kept.now) ram.new state.new) }
+    ensures sound { IsSoundOver B.Kept kept.now ram.new state.new }
+    ensures uses { IfOk result (λ _. Uses (cpu.now.cpl == 3) (space_over B.Kept kept.now ram.old state.old)
+        (space_over B.Kept kept.now ram.new state.new)) }
+    ensures prepares { (m : Setting) (b : Whole) → IsRuled m rules.now → PreparesAs m (record b { cpu = cpu.now }) insn.now len
+        (space_over B.Kept kept.now ram.old state.old) result (space_over B.Kept kept.now ram.new state.new) }
     ensures dropped { IfOk result (λ o. IfSome o (λ w. IsDropped w.dropped)) }
     ensures roots { IfOk result (λ o. IfSome o (λ w. RootsAs cpu.now w)) }
-    ensures control { state.new.control ≡ state.old.control }
-    ensures guard { state.new.guard ≡ state.old.guard }
-    ensures hidden { hidden state.old.guard state.old.control.frames ram.new ≡ hidden state.old.guard state.old.control.frames ram.old }
+    ensures stays { StaysIn state.old state.new ram.old ram.new }
 {
     match weigh(insn, len, cpu, ram, kept, state) {
         Ok(()) => Ok(None),
@@ -393,16 +327,17 @@ fn weigh<B: Kept>(
 ) -> Result<(), Refusal>
     requires spelled { (bytes : List ℕ) × Spells bytes insn.now }
     requires native { is_native (cpu.now.cpl == 3) insn.now.op ≡ true }
-    requires sound { IsSound (B.entries kept.now) (B.floor kept.now) (B.stands kept.now) ram.old state.old }
+    requires sound { IsSoundOver B.Kept kept.now ram.old state.old }
     requires pages { state.old.pages ≤ 8 }
-    ensures sound { IsSound (B.entries kept.now) (B.floor kept.now) (B.stands kept.now) ram.new state.new }
-    ensures uses { IfOk result (λ _. Uses (cpu.now.cpl == 3) (space_at (B.entries kept.now) ram.old state.old) (space_at (B.entries kept.now) ram.new state.new)) }
-    ensures refused { IfErr result (λ refusal. AtRefusal (cpu.now.cpl == 3) (space_at (B.entries kept.now) ram.old state.old) refusal (space_at (B.entries kept.now) ram.new state.new)) }
-    ensures prepared { Gives result (space_at (B.entries kept.now) ram.new state.new) (prepared insn.now len cpu.now (space_at (B.entries kept.now) ram.old state.old)) }
+    ensures sound { IsSoundOver B.Kept kept.now ram.new state.new }
+    ensures uses { IfOk result (λ _. Uses (cpu.now.cpl == 3) (space_over B.Kept kept.now ram.old state.old)
+        (space_over B.Kept kept.now ram.new state.new)) }
+    ensures refused { IfErr result (λ refusal. AtRefusal (cpu.now.cpl == 3) (space_over B.Kept kept.now ram.old state.old) refusal
+        (space_over B.Kept kept.now ram.new state.new)) }
+    ensures prepared { Gives result (space_over B.Kept kept.now ram.new state.new)
+        (prepared insn.now len cpu.now (space_over B.Kept kept.now ram.old state.old)) }
     ensures pages { state.new.pages ≤ state.old.pages + 4 }
-    ensures control { state.new.control ≡ state.old.control }
-    ensures guard { state.new.guard ≡ state.old.guard }
-    ensures hidden { hidden state.old.guard state.old.control.frames ram.new ≡ hidden state.old.guard state.old.control.frames ram.old }
+    ensures stays { StaysIn state.old state.new ram.old ram.new }
 {
     works_use();
     reach_both(insn, cpu, ram, kept, state)?;

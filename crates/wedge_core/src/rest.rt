@@ -1,18 +1,14 @@
 //! A halted processor that waits.
 
-ghost use Rattle.std.specs.Prelude.{◌≡◌, ℕ, ◌+◌, ◌-◌, ◌*◌, ◌/◌, ◌%◌, ◌==◌, ◌≤◌, ◌<◌, ◌^◌, length, true, false, None, OnOk};
-ghost use Rattle.frame_pool.specs.declared.Pool.{Pool as Frames};
-ghost use Rattle.frame_pool.specs.Pool.{free_list};
-ghost use Rattle.board.specs.declared.devices.Board.{Board as Devices};
-ghost use Rattle.board.specs.Boards.{given, comes_within};
-ghost use Rattle.board.specs.Scripts.{Events, is_script};
+ghost use Rattle.std.specs.Prelude.{◌≡◌, ℕ, ◌+◌, ◌-◌, ◌*◌, ◌/◌, ◌%◌, ◌==◌, ◌≤◌, ◌<◌, ◌^◌, List, true, false, None};
+ghost use Rattle.board.specs.Boards.{comes_within};
+ghost use Rattle.board.specs.Scripts.{is_script};
+ghost use Rattle.image_check.specs.Image.{Image};
 ghost use Rattle.machine_model.specs.State.{wedge};
 ghost use Rattle.machine_model.specs.Step.{interrupt_of};
-ghost use Rattle.wedge_step.specs.Standing.{IsHeld, IsAble, ground, set_of, state_of};
-ghost use Rattle.image_check.specs.Image.{Image};
-ghost use Rattle.std.specs.Prelude.{List};
-ghost use Rattle.wedge_core.specs.Slices.{Counts};
+ghost use Rattle.wedge_core.specs.Counts.{Counts};
 ghost use Rattle.wedge_core.specs.Stepping.{Passes};
+ghost use Rattle.wedge_step.specs.Standing.{state_of};
 
 use board::Script;
 use machine_step::{is_resting, quiet_steps};
@@ -26,11 +22,13 @@ pub fn rest<S: Shadows + Drop>(running: &mut Running<S>, script: &Script, bound:
     requires within { running.old.step ≤ bound }
     requires bound { bound ≤ 2 ^ 40 }
     ensures passes { (image : Image) (memory : List ℕ) (counts : Counts)
-        → Passes (wedge image script.now.list running.old.frames) (state_of S.stands S.frames S.slots (wedge image script.now.list running.old.frames) running.old memory)
+        → Passes (wedge image script.now.list running.old.frames)
+        (state_of S.stands S.frames S.slots (wedge image script.now.list running.old.frames) running.old memory)
         (state_of S.stands S.frames S.slots (wedge image script.now.list running.old.frames) running.new memory) counts counts }
     ensures same { running.new ≡ record running.old { board = running.new.board; step = running.new.step } }
     // Short of the bound it ends only where something comes to the board in the next step.
-    ensures furthest { running.old.cpu.halted ≡ true → running.old.cpu.held ≡ false → interrupt_of running.old.cpu running.old.board ≡ None → running.new.step < bound
+    ensures furthest { running.old.cpu.halted ≡ true → running.old.cpu.held ≡ false
+        → interrupt_of running.old.cpu running.old.board ≡ None → running.new.step < bound
         → comes_within running.old.board script.now.list (running.old.step - 1) (running.new.step - running.old.step + 1) ≡ true }
     ensures later { running.old.step ≤ running.new.step }
     ensures within { running.new.step ≤ bound }

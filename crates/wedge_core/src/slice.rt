@@ -1,22 +1,17 @@
 //! A slice of a patched run.
 
-ghost use Rattle.std.specs.Prelude.{◌≡◌, ◌+◌, ◌-◌, ◌*◌, ◌≤◌, ◌<◌, ◌^◌, [], length, true, false, OnOk, OnErr};
-ghost use Rattle.frame_pool.specs.Pool.{free_list};
+ghost use Rattle.std.specs.Prelude.{◌≡◌, ◌+◌, ◌-◌, ◌*◌, ◌≤◌, ◌<◌, ◌^◌, true, false, OnOk, OnErr};
 ghost use Rattle.board.specs.Scripts.{is_script};
 ghost use Rattle.machine_model.specs.State.{wedge};
 ghost use Rattle.machine_model.specs.Step.{items_at};
 ghost use Rattle.machine_step.specs.Worked.{whats};
 ghost use Rattle.pv_io.specs.Causes.{Rose};
 ghost use Rattle.pv_io.specs.Sink.{Appends, AppendsFront};
-ghost use Rattle.run_trace.specs.Pauses.{IfPaused, IfReached};
 ghost use Rattle.run_trace.specs.Text.{lines_of};
-ghost use Rattle.wedge_step.specs.Carried.{IsCarried};
-ghost use Rattle.wedge_step.specs.Filled.{FillsOn, pages_kept};
-ghost use Rattle.wedge_step.specs.Pools.{Keeps};
-ghost use Rattle.wedge_step.specs.Ready.{IsReady};
-ghost use Rattle.wedge_step.specs.Standing.{IsHeld, IsAble, ground, state_of};
-ghost use Rattle.wedge_core.specs.Noted.{NotesOn};
-ghost use Rattle.wedge_core.specs.Slices.{SliceAs};
+ghost use Rattle.wedge_step.specs.Leaves.{IsBetween};
+ghost use Rattle.wedge_step.specs.Scene.{scene};
+ghost use Rattle.wedge_step.specs.Standing.{IsAble};
+ghost use Rattle.wedge_core.specs.Sliced.{BeginsCarried, FaultsOf, SliceIn, SliceLeaves, StaysSilent, noting, outward};
 
 use crate::noting::{tell, tell_both};
 use crate::rest::rest;
@@ -45,35 +40,21 @@ pub fn steps_to<S: Reloads + Drop, H: Host, O: Sink, L: Notes>(
     notes: &mut L,
 ) -> Result<Pause, Failed>
     requires started { H.is_started host.old ≡ true }
-    requires held { IsHeld S.stands S.frames S.slots (ground image.now running.old.frames) running.old pool.old (H.bytes host.old) }
-    requires ready { IsReady S.slots S.noted S.marked S.value S.asides (ground image.now running.old.frames) running.old.cpu running.old.shadows (H.bytes host.old) }
+    requires between { IsBetween S.Shadows image.now (scene running.old pool.old (H.bytes host.old)) }
     requires able { IsAble running.old.cpu }
     requires script { is_script script.now.list ≡ true }
     requires begun { running.old.step ≤ bound }
     requires bound { bound ≤ 2 ^ 40 }
     requires room { H.retired host.old + (bound - running.old.step) < 2 ^ 64 }
-    requires enough { 16 ≤ length (free_list pool.old (H.bytes host.old)) + running.old.held }
-    ensures slice { SliceAs (wedge image.now script.now.list running.old.frames) bound
-        (state_of S.stands S.frames S.slots (wedge image.now script.now.list running.old.frames) running.old (H.bytes host.old)) (state_of S.stands S.frames S.slots (wedge image.now script.now.list running.old.frames) running.new (H.bytes host.new))
-        (record { retired = H.retired host.old; passed = H.passed host.old }) (record { retired = H.retired host.new; passed = H.passed host.new })
-        (O.taken out.old) (O.taken out.new) (pages_kept S.slots S.asides running.old.shadows (H.bytes host.old)) running.old.fills running.new.fills (L.wants notes.old) (NotesOn (L.wants notes.old) (L.tells notes.old) (L.tells notes.new))
-        (IsCarried S.slots S.noted S.marked S.asides S.opened (wedge image.now script.now.list running.old.frames) [] (state_of S.stands S.frames S.slots (wedge image.now script.now.list running.old.frames) running.old (H.bytes host.old)) running.old.shadows (H.bytes host.old)
-        × (length (free_list pool.old (H.bytes host.old)) + running.old.held ≡ 512) × (L.wants notes.old ≡ false)) result }
-    ensures wants { L.wants notes.new ≡ L.wants notes.old }
-    ensures silent { L.wants notes.old ≡ false → notes.new ≡ notes.old }
-    ensures reached { IfReached result (running.new.step ≡ bound) }
-    ensures ready { IfReached result (IsReady S.slots S.noted S.marked S.value S.asides (ground image.now running.old.frames) running.new.cpu running.new.shadows (H.bytes host.new)) }
-    ensures held { IfReached result (IsHeld S.stands S.frames S.slots (ground image.now running.old.frames) running.new pool.new (H.bytes host.new)) }
-    ensures able { IfReached result (IsAble running.new.cpu) }
-    ensures counted { IfPaused result (running.new.held ≡ length (S.frames running.new.shadows (H.bytes host.new))) }
-    ensures stands { IfPaused result (∥ S.stands running.new.shadows (H.bytes host.new) ∥₁) }
-    ensures filled { FillsOn (pages_kept S.slots S.asides running.old.shadows (H.bytes host.old)) (pages_kept S.slots S.asides running.new.shadows (H.bytes host.new)) running.old.fills running.new.fills }
-    ensures few { IfPaused result (running.new.fills ≤ 128 * running.new.step) }
-    ensures pool { IfPaused result (Keeps pool.old pool.new (H.bytes host.old) (H.bytes host.new) (S.frames running.old.shadows (H.bytes host.old)) (S.frames running.new.shadows (H.bytes host.new))) }
+    ensures slice { SliceIn S.Shadows (wedge image.now script.now.list running.old.frames) bound
+        (scene running.old pool.old (H.bytes host.old)) (scene running.new pool.new (H.bytes host.new))
+        (outward H.Host O.Sink host.old host.new out.old out.new) (noting L.Notes notes.old notes.new)
+        (BeginsCarried S.Shadows image.now script.now.list (scene running.old pool.old (H.bytes host.old)) (L.wants notes.old)) result }
+    ensures leaves { SliceLeaves S.Shadows image.now bound (scene running.old pool.old (H.bytes host.old))
+        (scene running.new pool.new (H.bytes host.new)) result }
+    ensures noted { StaysSilent L.Notes notes.old notes.new }
+    ensures faults { FaultsOf (O.faults out.old) (O.faults out.new) result }
     ensures started { H.is_started host.new ≡ true }
-    ensures frames { running.new.frames ≡ running.old.frames }
-    ensures later { O.faults out.old ≤ O.faults out.new }
-    ensures cause { OnErr result (Rose (O.faults out.old) (O.faults out.new)) }
 {
     let wanted = notes.wanted();
     carry_laws();

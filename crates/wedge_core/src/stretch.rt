@@ -1,21 +1,18 @@
 //! Instructions that the host does one behind the other.
 
-ghost use Rattle.std.specs.Prelude.{◌≡◌, ℕ, ◌+◌, ◌-◌, ◌*◌, ◌/◌, ◌%◌, ◌==◌, ◌≤◌, ◌<◌, ◌^◌, length, true, false, OnOk};
+ghost use Rattle.std.specs.Prelude.{◌≡◌, ℕ, ◌+◌, ◌-◌, ◌*◌, ◌/◌, ◌%◌, ◌==◌, ◌≤◌, ◌<◌, ◌^◌, true, false};
 ghost use Rattle.frame_pool.specs.declared.Pool.{Pool as Frames};
-ghost use Rattle.frame_pool.specs.Pool.{free_list};
-ghost use Rattle.frame_pool.specs.Held.{SameIn};
-ghost use Rattle.board.specs.declared.devices.Board.{Board as Devices};
-ghost use Rattle.board.specs.Boards.{given, comes_within};
-ghost use Rattle.board.specs.Scripts.{Events, is_script};
-ghost use Rattle.machine_model.specs.State.{wedge};
-ghost use Rattle.wedge_step.specs.Filled.{FillsOn, pages_kept};
-ghost use Rattle.wedge_step.specs.Ready.{IsReady};
-ghost use Rattle.wedge_step.specs.Standing.{IsHeld, IsAble, ground, state_of};
-ghost use Rattle.wedge_core.specs.Views.{may_run, view_by};
-ghost use Rattle.wedge_step.specs.Pools.{Keeps};
-ghost use Rattle.wedge_core.specs.Stepping.{Passes};
-ghost use Rattle.wedge_core.specs.Ran.{Ran, RanOn, LeadsLow, landed};
+ghost use Rattle.board.specs.Boards.{comes_within};
+ghost use Rattle.board.specs.Scripts.{is_script};
 ghost use Rattle.host_cpl3.specs.Hosts.{standing};
+ghost use Rattle.machine_model.specs.State.{wedge};
+ghost use Rattle.wedge_step.specs.Scene.{scene};
+ghost use Rattle.wedge_step.specs.Standing.{IsAble, ground};
+ghost use Rattle.wedge_core.specs.Ran.{LeadsLow, Ran, RanOn, hosted, landed};
+ghost use Rattle.wedge_core.specs.Scenes.{IsHeldIn};
+ghost use Rattle.wedge_core.specs.Counts.{counts_of};
+ghost use Rattle.wedge_core.specs.Stretches.{StretchCounts, StretchGoes, StretchLeaves};
+ghost use Rattle.wedge_core.specs.Views.{may_run, view_by};
 
 use crate::laws::views_lend;
 use board::{Board, Script};
@@ -82,7 +79,8 @@ pub fn run_on<S: Shadows + Drop, H: Host>(running: &mut Running<S>, host: &mut H
     requires bound { running.old.step + k ≤ 2 ^ 40 }
     requires room { H.retired host.old + k < 2 ^ 64 }
     ensures ran { Ran (view_by (S.directory running.old.shadows) running.old.cpu) k
-        (standing running.old.cpu.regs (H.bytes host.old) (H.retired host.old) (H.passed host.old)) running.old result running.new (H.bytes host.new) (H.retired host.new) (H.passed host.new) }
+        (standing running.old.cpu.regs (H.bytes host.old) (H.retired host.old) (H.passed host.old)) running.old result running.new
+        (hosted H.Host host.new) }
     ensures started { H.is_started host.new ≡ true }
 {
     each_is_run();
@@ -112,33 +110,21 @@ pub fn stretch<S: Shadows + Drop, H: Host>(
     bound: u64,
 ) -> u64
     requires started { H.is_started host.old ≡ true }
-    requires held { (pool : Frames) × IsHeld S.stands S.frames S.slots (ground image.now running.old.frames) running.old pool (H.bytes host.old) }
+    requires held { (pool : Frames) × IsHeldIn S.Shadows (ground image.now running.old.frames) (scene running.old pool (H.bytes host.old)) }
     requires able { IsAble running.old.cpu }
     requires script { is_script script.now.list ≡ true }
     requires begun { running.old.step ≤ bound }
     requires bound { bound ≤ 2 ^ 40 }
     requires room { H.retired host.old + (bound - running.old.step) < 2 ^ 64 }
-    ensures passes { 0 < result → (board : Devices) → given board script.now.list running.old.step ≡ running.old.board
-        → Passes (wedge image.now script.now.list running.old.frames) (record (state_of S.stands S.frames S.slots (wedge image.now script.now.list running.old.frames) running.old (H.bytes host.old)) { board = board })
-        (state_of S.stands S.frames S.slots (wedge image.now script.now.list running.old.frames) running.new (H.bytes host.new))
-        (record { retired = H.retired host.old; passed = H.passed host.old }) (record { retired = H.retired host.new; passed = H.passed host.new }) }
-    ensures stays { result ≡ 0 → state_of S.stands S.frames S.slots (wedge image.now script.now.list running.old.frames) running.new (H.bytes host.new) ≡ state_of S.stands S.frames S.slots (wedge image.now script.now.list running.old.frames) running.old (H.bytes host.old) }
-    ensures held { (pool : Frames) → IsHeld S.stands S.frames S.slots (ground image.now running.old.frames) running.old pool (H.bytes host.old) → IsHeld S.stands S.frames S.slots (ground image.now running.old.frames) running.new pool (H.bytes host.new) }
-    ensures pool { (pool : Frames) → IsHeld S.stands S.frames S.slots (ground image.now running.old.frames) running.old pool (H.bytes host.old) → Keeps pool pool (H.bytes host.old) (H.bytes host.new) (S.frames running.old.shadows (H.bytes host.old)) (S.frames running.new.shadows (H.bytes host.new)) }
-    ensures filled { FillsOn (pages_kept S.slots S.asides running.old.shadows (H.bytes host.old)) (pages_kept S.slots S.asides running.new.shadows (H.bytes host.new)) running.old.fills running.new.fills }
-    ensures ready { IsReady S.slots S.noted S.marked S.value S.asides (ground image.now running.old.frames) running.old.cpu running.old.shadows (H.bytes host.old) → IsReady S.slots S.noted S.marked S.value S.asides (ground image.now running.old.frames) running.new.cpu running.new.shadows (H.bytes host.new) }
-    ensures shadows { running.new.shadows ≡ running.old.shadows }
-    ensures apart { SameIn (S.frames running.old.shadows (H.bytes host.old)) (H.bytes host.old) (H.bytes host.new) }
-    ensures able { IsAble running.new.cpu }
-    ensures started { H.is_started host.new ≡ true }
-    ensures frames { running.new.frames ≡ running.old.frames }
-    ensures count { running.new.step ≡ running.old.step + result }
-    ensures most { running.new.step ≤ bound }
-    ensures retired { H.retired host.new ≡ H.retired host.old + result }
-    ensures passed { result ≡ 0 → H.passed host.new ≡ H.passed host.old }
+    ensures goes { StretchGoes S.Shadows (wedge image.now script.now.list running.old.frames) running.old running.new
+        (H.bytes host.old) (H.bytes host.new) result (counts_of H.Host host.old) (counts_of H.Host host.new) }
+    ensures leaves { StretchLeaves S.Shadows image.now running.old running.new (H.bytes host.old) (H.bytes host.new) }
+    ensures counts { StretchCounts bound running.old.step running.new.step result (counts_of H.Host host.old) (counts_of H.Host host.new) }
     ensures ran { running.old.cpu.held ≡ false → may_run running.old.cpu running.old.board image.now ≡ true
         → RanOn (view_by (S.directory running.old.shadows) running.old.cpu) script.now.list (bound - running.old.step)
-        (standing running.old.cpu.regs (H.bytes host.old) (H.retired host.old) (H.passed host.old)) running.old result running.new (H.bytes host.new) (H.retired host.new) (H.passed host.new) }
+        (standing running.old.cpu.regs (H.bytes host.old) (H.retired host.old) (H.passed host.old)) running.old result running.new
+        (hosted H.Host host.new) }
+    ensures started { H.is_started host.new ≡ true }
 {
     if running.cpu.held || !may_run(&running.cpu, &running.board, image) {
         return 0;

@@ -55,21 +55,21 @@ module _ (c : goal.After-sites) where
   lies : 0x100000 + length image.text ≤ length ram1
   lies =
       let text = text_within image in
-      let fits = c.requires.fits in
-      let room = c.requires.room in
+      let fits = c.requires.may.fits in
+      let room = c.requires.may.room in
       let size = moves.size in
       omega (arith, text, fits, room, size)
 
   front : take (4096 * n) ram1 ≡ take (4096 * n) ram0
-  front = front_same n pool0 pool1 ram0 ram1 [] (roots.frames s ram1) c.requires.behind (Owns-none pool0 ram0 c.requires.stands) moves
+  front = front_same n pool0 pool1 ram0 ram1 [] (roots.frames s ram1) c.requires.may.behind (Owns-none pool0 ram0 c.requires.may.stands) moves
 
   text1 : part ram1 0x100000 (length image.text) ≡ image.text
   text1 =
       let text = text_within image in
-      let fits = c.requires.fits in
+      let fits = c.requires.may.fits in
       let k = length image.text in
       let inside : 0x100000 + k ≤ 4096 * n = omega (arith, text, fits) in
-      sym (part_front ram1 (4096 * n) 0x100000 k inside) ∙ (ap (λ (l : List ℕ). part l 0x100000 k) front ∙ (part_front ram0 (4096 * n) 0x100000 k inside ∙ c.requires.text))
+      sym (part_front ram1 (4096 * n) 0x100000 k inside) ∙ (ap (λ (l : List ℕ). part l 0x100000 k) front ∙ (part_front ram0 (4096 * n) 0x100000 k inside ∙ c.requires.may.text))
 
   new1 : IsNew s ram1 c.args.cpu.cr3
   new1 = started s ram1 c.args.cpu.cr3 c.in_ok-shadows.ensures.stands c.in_ok-shadows.ensures.starts
@@ -98,13 +98,13 @@ module _ (c : goal.After-patch) where
   above : drop (4096 * n d) ram2 ≡ drop (4096 * n d) (ram1 d)
   above =
       let text = text_within (image d) in
-      let fits = c.requires.fits in
+      let fits = c.requires.may.fits in
       let l = lies d in
       let k = long in
       ap (drop (4096 * n d)) patched_is ∙ drop_behind (ram1 d) 0x100000 patches (4096 * n d) (omega (arith, k, text, fits)) (omega (arith, k, l))
 
   behind : 4096 * n d ≤ 4096 * base_of (pool1 d)
-  behind = let h = c.requires.behind in let same = (moves d).same.0 in omega (arith, h, same)
+  behind = let h = c.requires.may.behind in let same = (moves d).same.0 in omega (arith, h, same)
 
   inside : SameIn (roots.frames (s d) (ram1 d)) (ram1 d) ram2
   inside = SameIn-above (pool1 d) (ram1 d) ram2 (4096 * n d) behind above c.patch.ensures.len (roots.frames (s d) (ram1 d)) c.in_ok-shadows.ensures.owns
@@ -115,96 +115,71 @@ module _ (c : goal.After-patch) where
   frames2 : roots.frames (s d) ram2 ≡ roots.frames (s d) (ram1 d)
   frames2 = new_frames (s d) (ram1 d) ram2 c.args.cpu.cr3 inside (new1 d)
 
-pub returns-clause-held : goal.returns-clause-held
-returns-clause-held c =
-    let d = c.before in
-    let im = c.args.image.now in
-    let text = text_within im in
-    let fits = c.requires.fits in
-    let room = c.requires.room in
-    let moved = moves d in
-    let free = ap length (free_list-above (pool1 d) (ram1 d) (ram2 c) (4096 * n d) (behind c) (above c) c.patch.ensures.len moved.stands) in
-    let same_frames = ap length (frames2 c) in
-    let count = c.free-free.ensures.count (ram0 d) in
-    let fit = c.free-free.type_inv in
-    let lengths = moved.lengths in
-    let low = c.requires.behind in
-    let same = moved.same.0 in
-    let size = moved.size in
-    let len = c.patch.ensures.len in
-    record {
-      wedge = record { mode = refl; accepted = c.accepted.ensures; room = fits };
-      frames_are = refl;
-      size = c.requires.frames;
-      host = record {
-        room = omega (arith, len, size, room);
-        text = ap (λ (l : List ℕ). part l 0x100000 (length im.text)) (c.patch.ensures.memory ∙ ap (patched (ram1 d) 0x100000) c.sites.ensures.sites) ∙ c.patching.ensures.text_in_memory im c.accepted.ensures (ram1 d) 0x100000 (lies d) (text1 d);
+pub returns-clause-adopts : goal.returns-clause-adopts
+returns-clause-adopts c = record {
+  held =
+      let d = c.before in
+      let im = c.args.image.now in
+      let text = text_within im in
+      let fits = c.requires.may.fits in
+      let room = c.requires.may.room in
+      let moved = moves d in
+      let free = ap length (free_list-above (pool1 d) (ram1 d) (ram2 c) (4096 * n d) (behind c) (above c) c.patch.ensures.len moved.stands) in
+      let same_frames = ap length (frames2 c) in
+      let count = c.free-free.ensures.count (ram0 d) in
+      let fit = c.free-free.type_inv in
+      let lengths = moved.lengths in
+      let low = c.requires.may.behind in
+      let same = moved.same.0 in
+      let size = moved.size in
+      let len = c.patch.ensures.len in
+      record {
+        wedge = record { mode = refl; accepted = c.accepted.ensures; room = fits };
+        frames_are = refl;
+        size = c.requires.may.size;
+        host = record {
+          room = omega (arith, len, size, room);
+          text = ap (λ (l : List ℕ). part l 0x100000 (length im.text)) (c.patch.ensures.memory ∙ ap (patched (ram1 d) 0x100000) c.sites.ensures.sites) ∙ c.patching.ensures.text_in_memory im c.accepted.ensures (ram1 d) 0x100000 (lies d) (text1 d);
+        };
+        whole = ap (λ (k : ℕ). k % 4096) (c.patch.ensures.len ∙ size) ∙ c.requires.may.whole;
+        behind = omega (arith, low, same);
+        stand = (new2 c).stand;
+        owns = subst (λ (fs : List ℕ). Owns (pool1 d) (ram2 c) fs) (sym (frames2 c)) (Owns-above (pool1 d) (ram1 d) (ram2 c) (4096 * n d) (behind c) (above c) c.patch.ensures.len (roots.frames (s d) (ram1 d)) c.in_ok-shadows.ensures.owns);
+        counted = sym (new2 c).two;
+        few = omega (arith, free, same_frames, count, fit, lengths);
+        fills = omega arith;
+        within = λ page x is. absurd (none_some x (sym (get-empty nat_cmp page) ∙ (ap (λ (set : Set). get set page) (sym (new_empty (s d) (ram2 c) c.args.cpu.cr3 (new2 c))) ∙ is)));
+        open_to = none_open im (wp_of c.args.cpu) _ (new2 c).none;
       };
-      whole = ap (λ (k : ℕ). k % 4096) (c.patch.ensures.len ∙ size) ∙ c.requires.whole;
-      behind = omega (arith, low, same);
-      stand = (new2 c).stand;
-      owns = subst (λ (fs : List ℕ). Owns (pool1 d) (ram2 c) fs) (sym (frames2 c)) (Owns-above (pool1 d) (ram1 d) (ram2 c) (4096 * n d) (behind c) (above c) c.patch.ensures.len (roots.frames (s d) (ram1 d)) c.in_ok-shadows.ensures.owns);
-      counted = sym (new2 c).two;
-      few = omega (arith, free, same_frames, count, fit, lengths);
-      fills = omega arith;
-      within = λ page x is. absurd (none_some x (sym (get-empty nat_cmp page) ∙ (ap (λ (set : Set). get set page) (sym (new_empty (s d) (ram2 c) c.args.cpu.cr3 (new2 c))) ∙ is)));
-      open_to = none_open im (wp_of c.args.cpu) _ (new2 c).none;
-    }
+  ready =
+      let d = c.before in new_ready (ground (image d) (n d)) c.args.cpu (s d) (ram2 c) (new2 c);
+  state = λ script.
+      let d = c.before in
+      let im = c.args.image.now in
+      let text = text_within im in
+      let fits = c.requires.may.fits in
+      let room = c.requires.may.room in
+      let size = (moves d).size in
+      let m = wedge im script (n d) in
+      let ram_is : shown m (ram2 c) ≡ take (4096 * n d) (ram0 d) =
+      ap (shown m) (patched_is c) ∙ (unpatched m (ram1 d) (patches c) (long c) (omega (arith, text, fits)) (omega (arith, room, size)) (text1 d) ∙ front d) in
+      let set_is = new_empty (s d) (ram2 c) c.args.cpu.cr3 (new2 c) in
+      λ i. record { cpu = c.args.cpu; ram = ram_is i; set = set_is i; board = c.args.board; step = c.args.step };
+  two = refl;
+  fills = refl;
+  none =
+      let d = c.before in new_pages (s d) (ram2 c) c.args.cpu.cr3 (new2 c);
+  filled = (let d = c.before in let none = new_pages (s d) (ram2 c) c.args.cpu.cr3 (new2 c) in omega (arith, none));
+  pool =
+      let d = c.before in
+      let fs1 = roots.frames (s d) (ram1 d) in
+      let fs2 = roots.frames (s d) (ram2 c) in
+      keeps_join (pool0 d) (pool1 d) (pool1 d) (ram0 d) (ram1 d) (ram2 c) [] fs1 fs2 (keeps_moves (pool0 d) (pool1 d) (ram0 d) (ram1 d) [] fs1 (moves d))
+      (keeps_above (pool1 d) (ram1 d) (ram2 c) (4096 * n d) fs1 fs2 (moves d).stands (behind c) (above c) c.patch.ensures.len (frames2 c));
+}
 
-pub returns-clause-ready : goal.returns-clause-ready
-returns-clause-ready c = let d = c.before in new_ready (ground (image d) (n d)) c.args.cpu (s d) (ram2 c) (new2 c)
-
-pub returns-clause-none : goal.returns-clause-none
-returns-clause-none c = let d = c.before in new_pages (s d) (ram2 c) c.args.cpu.cr3 (new2 c)
-
-pub returns-clause-state : goal.returns-clause-state
-returns-clause-state c = λ script.
-    let d = c.before in
-    let im = c.args.image.now in
-    let text = text_within im in
-    let fits = c.requires.fits in
-    let room = c.requires.room in
-    let size = (moves d).size in
-    let m = wedge im script (n d) in
-    let ram_is : shown m (ram2 c) ≡ take (4096 * n d) (ram0 d) =
-    ap (shown m) (patched_is c) ∙ (unpatched m (ram1 d) (patches c) (long c) (omega (arith, text, fits)) (omega (arith, room, size)) (text1 d) ∙ front d) in
-    let set_is = new_empty (s d) (ram2 c) c.args.cpu.cr3 (new2 c) in
-    λ i. record { cpu = c.args.cpu; ram = ram_is i; set = set_is i; board = c.args.board; step = c.args.step }
-
-pub returns-clause-pool : goal.returns-clause-pool
-returns-clause-pool c =
-    let d = c.before in
-    let fs1 = roots.frames (s d) (ram1 d) in
-    let fs2 = roots.frames (s d) (ram2 c) in
-    keeps_join (pool0 d) (pool1 d) (pool1 d) (ram0 d) (ram1 d) (ram2 c) [] fs1 fs2 (keeps_moves (pool0 d) (pool1 d) (ram0 d) (ram1 d) [] fs1 (moves d))
-    (keeps_above (pool1 d) (ram1 d) (ram2 c) (4096 * n d) fs1 fs2 (moves d).stands (behind c) (above c) c.patch.ensures.len (frames2 c))
-
-pub returns-in_err-shadows-clause-held : goal.returns-in_err-shadows-clause-held
-returns-in_err-shadows-clause-held c = IfOk-from_err c.from_residual.result _ c.from_residual.ensures.0
-
-pub returns-in_err-shadows-clause-state : goal.returns-in_err-shadows-clause-state
-returns-in_err-shadows-clause-state c = IfOk-from_err c.from_residual.result _ c.from_residual.ensures.0
-
-pub returns-in_err-shadows-clause-two : goal.returns-in_err-shadows-clause-two
-returns-in_err-shadows-clause-two c = IfOk-from_err c.from_residual.result _ c.from_residual.ensures.0
-
-pub returns-in_err-shadows-clause-fills : goal.returns-in_err-shadows-clause-fills
-returns-in_err-shadows-clause-fills c = IfOk-from_err c.from_residual.result _ c.from_residual.ensures.0
-
-pub returns-in_err-shadows-clause-ready : goal.returns-in_err-shadows-clause-ready
-returns-in_err-shadows-clause-ready c = IfOk-from_err c.from_residual.result _ c.from_residual.ensures.0
-
-pub returns-in_err-shadows-clause-none : goal.returns-in_err-shadows-clause-none
-returns-in_err-shadows-clause-none c = IfOk-from_err c.from_residual.result _ c.from_residual.ensures.0
-
-pub returns-in_err-shadows-clause-pool : goal.returns-in_err-shadows-clause-pool
-returns-in_err-shadows-clause-pool c = IfOk-from_err c.from_residual.result _ c.from_residual.ensures.0
-
-pub returns-clause-two : goal.returns-clause-two
-returns-clause-two c = refl
-
-pub returns-clause-fills : goal.returns-clause-fills
-returns-clause-fills c = refl
+pub returns-in_err-shadows-clause-adopts : goal.returns-in_err-shadows-clause-adopts
+returns-in_err-shadows-clause-adopts c = IfOk-from_err c.from_residual.result _ c.from_residual.ensures.0
 
 pub returns-clause-refused : goal.returns-clause-refused
 returns-clause-refused c = tt

@@ -1,4 +1,4 @@
-use Rattle.std.proofs.Common.{◌≡◌, ℕ, ◌+◌, ◌*◌, ◌≤◌, ◌<◌, ◌^◌, eqb, Bool, true, false, List, [], ◌∷◌, ◌++◌, length, Result, Ok, Err, refl, ap, sym, ◌∙◌, subst, OnErr, arith}
+use Rattle.std.proofs.Common.{◌≡◌, ℕ, ◌+◌, ◌*◌, ◌≤◌, ◌<◌, ◌^◌, eqb, Bool, true, false, List, [], ◌∷◌, ◌++◌, length, Result, Ok, Err, refl, ap, sym, ◌∙◌, subst, arith}
 use Rattle.std.specs.Set.{is_member}
 use Rattle.guest_ram.specs.Bytes.{AreBytes}
 use Rattle.frame_pool.specs.Pool.{free_list}
@@ -12,6 +12,7 @@ use Rattle.machine_model.specs.Step.{stepped}
 use Rattle.machine_model.specs.Taken.{Taken, is_load}
 use Rattle.kept_laws.specs.Carried.{indices_in}
 use Rattle.wedge_step.specs.Carried.{IsCarried, IsCarriedBy, IsTakenFrom}
+use Rattle.wedge_step.specs.Scene.{scene}
 use Rattle.wedge_core.specs.declared.native.Attempt.{Attempt}
 use Rattle.wedge_core.specs.declared.native.Attempt.TheVariants as attempt
 use Rattle.wedge_core.proofs.native.begin_native.Given.{Over}
@@ -26,71 +27,18 @@ use Rattle.wedge_step.specs.Clashing.{IsClear}
 use Rattle.wedge_step.specs.Filled.{FillsOn, pages_kept}
 use Rattle.wedge_step.specs.Ready.{IsReady}
 use Rattle.wedge_core.proofs.Before.{attempt_before}
+use Rattle.wedge_core.proofs.Staying.{stays_from}
 use Rattle.wedge_step.proofs.Filling.{fills_join, fills_fewer}
 use Rattle.wedge_step.proofs.Keeping.{keeps_join, keeps_moves}
 use Rattle.wedge_step.proofs.Memories.{shown_same}
 use Rattle.wedge_core.proofs.native.begin_native.Goals as goal
-
-pub returns-clause-step : goal.returns-clause-step
-returns-clause-step g c = λ script.
-    let running = c.args.running.now in
-    let image = c.args.image.now in
-    let mid = c.make_room.new.running in
-    let ram0 = c.args.ram.now in
-    let ram1 = c.make_room.new.ram in
-    let ram2 = c.try_once.new.ram in
-    let new = c.try_once.new.running in
-    let m = wedge image script running.frames in
-    let b = state_of g.S.Shadows.stands g.S.Shadows.frames g.S.Shadows.slots m running ram0 in
-    let here = record running { shadows = mid.shadows; held = mid.held; lost = mid.lost } in
-    let d = state_of g.S.Shadows.stands g.S.Shadows.frames g.S.Shadows.slots m here ram1 in
-    let view = view_by (g.S.Shadows.directory new.shadows) running.cpu in
-    let after = state_of g.S.Shadows.stands g.S.Shadows.frames g.S.Shadows.slots m new ram2 in
-    let tried = subst (λ (r : Running g.row.S.Denot). AttemptAs (wedge image script r.frames) (view_by (g.S.Shadows.directory new.shadows) r.cpu)
-    (state_of g.S.Shadows.stands g.S.Shadows.frames g.S.Shadows.slots (wedge image script r.frames) r ram1) false new.lost c.try_once.result
-    (state_of g.S.Shadows.stands g.S.Shadows.frames g.S.Shadows.slots (wedge image script r.frames) new ram2) ram2) c.make_room.ensures.same (c.try_once.ensures.step script) in
-    let is : d ≡ with_set b d.set = λ i. record b { ram = shown_same m ram0 ram1 c.make_room.ensures.guest i; set = d.set } in
-    let left : d.set ≡ left_of new.lost.before b.set = c.make_room.ensures.left ∙ ap (λ (x : Bool). left_of x b.set) (sym c.try_once.ensures.before) in
-    attempt_before m view b d new.lost.before new.lost c.try_once.result after ram2 is left tried
-
-pub returns-clause-pool : goal.returns-clause-pool
-returns-clause-pool g c =
-    let fs = g.S.Shadows.frames c.args.running.now.shadows c.args.ram.now in
-    let gs = g.S.Shadows.frames c.make_room.new.running.shadows c.make_room.new.ram in
-    let hs = g.S.Shadows.frames c.try_once.new.running.shadows c.try_once.new.ram in
-    keeps_join c.args.pool.now c.make_room.new.pool c.try_once.new.pool c.args.ram.now c.make_room.new.ram c.try_once.new.ram fs gs hs
-    (keeps_moves c.args.pool.now c.make_room.new.pool c.args.ram.now c.make_room.new.ram fs gs c.make_room.ensures.moves) c.try_once.ensures.pool
-
-pub returns-clause-stays : goal.returns-clause-stays
-returns-clause-stays g c =
-    let same = ap (λ (r : Running g.row.S.Denot). r.step) c.make_room.ensures.same in
-    subst (λ (k : ℕ). OnErr c.try_once.result (c.try_once.new.running.step ≡ k)) same c.try_once.ensures.stays
-
-pub returns-clause-unfilled : goal.returns-clause-unfilled
-returns-clause-unfilled g c =
-    let same = ap (λ (r : Running g.row.S.Denot). r.fills) c.make_room.ensures.same in
-    subst (λ (k : ℕ). OnErr c.try_once.result (c.try_once.new.running.fills ≡ k)) same c.try_once.ensures.unfilled
-
-pub returns-clause-filled : goal.returns-clause-filled
-returns-clause-filled g c =
-    let running = c.args.running.now in
-    let new = c.try_once.new.running in
-    let same = ap (λ (r : Running g.row.S.Denot). r.fills) c.make_room.ensures.same in
-    fills_join _ _ _ running.fills running.fills new.fills (fills_fewer _ _ running.fills c.make_room.ensures.fewer)
-    (subst (λ (k : ℕ). FillsOn (pages_kept g.S.Shadows.slots g.S.Shadows.asides c.make_room.new.running.shadows c.make_room.new.ram) (pages_kept g.S.Shadows.slots g.S.Shadows.asides new.shadows c.try_once.new.ram) k new.fills) same c.try_once.ensures.filled)
 
 pub try_once-requires-clause-ready : goal.try_once-requires-clause-ready
 try_once-requires-clause-ready g c =
     let running = c.args.running.now in
     let mid = c.make_room.new.running in
     subst (λ (k : ℕ). IsReady g.S.Shadows.slots g.S.Shadows.noted g.S.Shadows.marked g.S.Shadows.value g.S.Shadows.asides (ground c.args.image.now k) mid.cpu mid.shadows c.make_room.new.ram) (sym (ap (λ (r : Running g.row.S.Denot). r.frames) c.make_room.ensures.same))
-    (c.make_room.ensures.ready (ground c.args.image.now running.frames) refl c.requires.ready)
-
-pub returns-clause-ready : goal.returns-clause-ready
-returns-clause-ready g c =
-    let new = c.try_once.new.running in
-    subst (λ (r : Running g.row.S.Denot). OnOk c.try_once.result (IsReady g.S.Shadows.slots g.S.Shadows.noted g.S.Shadows.marked g.S.Shadows.value g.S.Shadows.asides (ground c.args.image.now r.frames) new.cpu new.shadows c.try_once.new.ram)) c.make_room.ensures.same
-    c.try_once.ensures.ready
+    (c.make_room.ensures.beside.ready (ground c.args.image.now running.frames) refl c.requires.between.ready)
 
 -- ---- what the run knows goes on
 where_stepped : {P Q : Type 0} (r : Result Attempt Stop) → (P → Q) → WhereStepped r P → WhereStepped r Q
@@ -131,7 +79,7 @@ module _ (g : Over) (c : goal.After-try_once g) where
 
     taken_there : (t : Taken) → IsTakenFrom m b t → IsTakenFrom m d t
     taken_there t taken =
-        let same = shown_same m ram0 ram1 c.make_room.ensures.guest in
+        let same = shown_same m ram0 ram1 c.make_room.ensures.beside.guest in
         record {
           cpu = taken.cpu;
           ram = taken.ram ∙ sym same;
@@ -140,22 +88,22 @@ module _ (g : Over) (c : goal.After-try_once g) where
         }
 
     by_there : (t : Taken) → t.set ≡ left_of c.try_once.new.running.lost.before b.set → t.set ≡ d.set
-    by_there t by = by ∙ (ap (λ (x : Bool). left_of x b.set) c.try_once.ensures.before ∙ sym c.make_room.ensures.left)
+    by_there t by = by ∙ (ap (λ (x : Bool). left_of x b.set) c.try_once.ensures.tries.before ∙ sym c.make_room.ensures.left)
 
     module _ (steps : List Taken) (t : Taken) (free : length (free_list c.args.pool.now ram0) + running.held ≡ 512) (roomy : Roomy (steps ++ t ∷ []))
         (carried : IsCarried g.S.Shadows.slots g.S.Shadows.noted g.S.Shadows.marked g.S.Shadows.asides g.S.Shadows.opened m steps t.before running.shadows ram0)
       where
         room : 8 ≤ length (free_list c.args.pool.now ram0)
         room =
-            let size = g.met.S.Reloads.sized running.shadows ram0 (λ index. is_member eqb (indices_in steps) index) (indices_in steps) c.requires.held.stand carried.opened_to (λ index lt is. is) in
+            let size = g.met.S.Reloads.sized running.shadows ram0 (λ index. is_member eqb (indices_in steps) index) (indices_in steps) c.requires.between.held.stand carried.opened_to (λ index lt is. is) in
             let few = c.known_laws.ensures.few steps (c.known_laws.ensures.before steps t roomy) in
-            let counted = c.requires.held.counted in
+            let counted = c.requires.between.held.counted in
             omega (arith, size, few, counted, free)
 
         free_there : length (free_list c.make_room.new.pool ram1) + mid.held ≡ 512
         free_there =
             let lengths = c.make_room.ensures.moves.lengths in
-            let before = c.requires.held.counted in
+            let before = c.requires.between.held.counted in
             let after = c.make_room.ensures.held.counted in
             omega (arith, lengths, before, after, free)
 
@@ -163,7 +111,7 @@ module _ (g : Over) (c : goal.After-try_once g) where
         carried_there = record {
           known = c.known_laws.ensures.still m steps t.before (g.S.Shadows.noted running.shadows) (g.S.Shadows.noted mid.shadows) (g.S.Shadows.marked running.shadows) (g.S.Shadows.marked mid.shadows) (g.S.Shadows.asides running.shadows ram0)
               (g.S.Shadows.asides mid.shadows ram1) (entries_of (g.S.Shadows.slots running.shadows ram0)) (c.make_room.ensures.stay room) carried.known;
-          opened_to = c.make_room.ensures.opened (λ index. is_member eqb (indices_in steps) index) carried.opened_to;
+          opened_to = c.make_room.ensures.beside.opened (λ index. is_member eqb (indices_in steps) index) carried.opened_to;
         }
 
   -- what a try says, from there
@@ -178,7 +126,7 @@ module _ (g : Over) (c : goal.After-try_once g) where
       → IsTakenFrom (wedge image script r.frames) (state_of g.S.Shadows.stands g.S.Shadows.frames g.S.Shadows.slots (wedge image script r.frames) r ram1) t → t.set ≡ set_of g.S.Shadows.stands g.S.Shadows.frames g.S.Shadows.slots r ram1 → fact
 
   tried : WhereStepped c.try_once.result ((script : Events) (steps : List Taken) (t : Taken) → IsTaken mid script steps t (Carries mid script steps t))
-  tried = subst (λ (r : Running g.row.S.Denot). WhereStepped c.try_once.result ((script : Events) (steps : List Taken) (t : Taken) → IsTaken r script steps t (Carries r script steps t))) c.make_room.ensures.same c.try_once.ensures.carried
+  tried = subst (λ (r : Running g.row.S.Denot). WhereStepped c.try_once.result ((script : Events) (steps : List Taken) (t : Taken) → IsTaken r script steps t (Carries r script steps t))) c.make_room.ensures.same c.try_once.ensures.tries.carried
 
   abbrev Does : Running g.row.S.Denot → Taken → Type 0 → Type 0
   Does r t fact =
@@ -186,27 +134,9 @@ module _ (g : Over) (c : goal.After-try_once g) where
       → t.after.set ≡ set_of g.S.Shadows.stands g.S.Shadows.frames g.S.Shadows.slots c.try_once.new.running c.try_once.new.ram → 4096 * r.frames ≤ length t.after.ram → AreBytes t.after.ram → fact
 
   asked : WhereAsked c.try_once.result ((script : Events) (steps : List Taken) (t : Taken) → IsTaken mid script steps t (Does mid t (Carries mid script steps t)))
-  asked = subst (λ (r : Running g.row.S.Denot). WhereAsked c.try_once.result ((script : Events) (steps : List Taken) (t : Taken) → IsTaken r script steps t (Does r t (Carries r script steps t)))) c.make_room.ensures.same c.try_once.ensures.carried_asked
+  asked = subst (λ (r : Running g.row.S.Denot). WhereAsked c.try_once.result ((script : Events) (steps : List Taken) (t : Taken) → IsTaken r script steps t (Does r t (Carries r script steps t)))) c.make_room.ensures.same c.try_once.ensures.tries.carried_asked
 
-pub returns-clause-carried : goal.returns-clause-carried
-returns-clause-carried g c =
-    where_stepped c.try_once.result
-    (λ f script steps t unwanted free roomy taken by carried.
-    f script steps t unwanted (free_there g c script steps t free roomy carried) roomy (taken_there g c script t taken) (by_there g c script t by) (entries_of (g.S.Shadows.slots c.args.running.now.shadows c.args.ram.now)) (carried_there g c script steps t free roomy carried))
-    (tried g c)
-
-pub returns-clause-carried_asked : goal.returns-clause-carried_asked
-returns-clause-carried_asked g c =
-    where_asked c.try_once.result
-    (λ f script steps t unwanted free roomy taken by load rules set long bytes carried.
-    f script steps t unwanted (free_there g c script steps t free roomy carried) roomy (taken_there g c script t taken) (by_there g c script t by) load rules set long bytes (entries_of (g.S.Shadows.slots c.args.running.now.shadows c.args.ram.now))
-    (carried_there g c script steps t free roomy carried))
-    (asked g c)
-
-pub returns-clause-clashed : goal.returns-clause-clashed
-returns-clause-clashed g c = λ lost room. c.make_room.ensures.clashed (sym c.try_once.ensures.before ∙ lost) room
-
--- ---- what else is said, from there
+-- ---- what a try asks for
 
 pub try_once-requires-clause-held : goal.try_once-requires-clause-held
 try_once-requires-clause-held g c = subst (λ (k : ℕ). IsHeld g.S.Shadows.stands g.S.Shadows.frames g.S.Shadows.slots (ground c.args.image.now k) c.make_room.new.running c.make_room.new.pool c.make_room.new.ram) (sym (ap (λ (r : Running g.row.S.Denot). r.frames) c.make_room.ensures.same)) c.make_room.ensures.held
@@ -227,25 +157,77 @@ pub try_once-requires-clause-clear : goal.try_once-requires-clause-clear
 try_once-requires-clause-clear g c = λ script. subst (λ (k : ℕ). IsClear (wedge c.args.image.now script k) (state_of g.S.Shadows.stands g.S.Shadows.frames g.S.Shadows.slots (wedge c.args.image.now script k) c.make_room.new.running c.make_room.new.ram)) (sym (ap (λ (r : Running g.row.S.Denot). r.frames) c.make_room.ensures.same)) (c.make_room.ensures.clear script)
 
 pub try_once-requires-clause-kept : goal.try_once-requires-clause-kept
-try_once-requires-clause-kept g c = c.make_room.ensures.back ∙ c.requires.kept.1
+try_once-requires-clause-kept g c = c.make_room.ensures.beside.back ∙ c.requires.kept.1
 
-pub returns-clause-held : goal.returns-clause-held
-returns-clause-held g c = let new = c.try_once.new.running in subst (λ (r : Running g.row.S.Denot). OnOk c.try_once.result (IsHeld g.S.Shadows.stands g.S.Shadows.frames g.S.Shadows.slots (ground c.args.image.now r.frames) (record new { step = r.step + 1 }) c.try_once.new.pool c.try_once.new.ram)) c.make_room.ensures.same c.try_once.ensures.held
+-- ---- all together
 
-pub returns-clause-wanted : goal.returns-clause-wanted
-returns-clause-wanted g c = c.try_once.ensures.wanted
+pub returns-clause-attempts : goal.returns-clause-attempts
+returns-clause-attempts g c = record {
+  step = λ script.
+      let running = c.args.running.now in
+      let image = c.args.image.now in
+      let mid = c.make_room.new.running in
+      let ram0 = c.args.ram.now in
+      let ram1 = c.make_room.new.ram in
+      let ram2 = c.try_once.new.ram in
+      let new = c.try_once.new.running in
+      let m = wedge image script running.frames in
+      let b = state_of g.S.Shadows.stands g.S.Shadows.frames g.S.Shadows.slots m running ram0 in
+      let here = record running { shadows = mid.shadows; held = mid.held; lost = mid.lost } in
+      let d = state_of g.S.Shadows.stands g.S.Shadows.frames g.S.Shadows.slots m here ram1 in
+      let view = view_by (g.S.Shadows.directory new.shadows) running.cpu in
+      let after = state_of g.S.Shadows.stands g.S.Shadows.frames g.S.Shadows.slots m new ram2 in
+      let tried = subst (λ (r : Running g.row.S.Denot). AttemptAs (wedge image script r.frames) (view_by (g.S.Shadows.directory new.shadows) r.cpu)
+      (state_of g.S.Shadows.stands g.S.Shadows.frames g.S.Shadows.slots (wedge image script r.frames) r ram1) false new.lost c.try_once.result
+      (state_of g.S.Shadows.stands g.S.Shadows.frames g.S.Shadows.slots (wedge image script r.frames) new ram2) ram2) c.make_room.ensures.same (c.try_once.ensures.tries.step script) in
+      let is : d ≡ with_set b d.set = λ i. record b { ram = shown_same m ram0 ram1 c.make_room.ensures.beside.guest i; set = d.set } in
+      let left : d.set ≡ left_of new.lost.before b.set = c.make_room.ensures.left ∙ ap (λ (x : Bool). left_of x b.set) (sym c.try_once.ensures.tries.before) in
+      attempt_before m view b d new.lost.before new.lost c.try_once.result after ram2 is left tried;
+  carried =
+      where_stepped c.try_once.result
+      (λ f script steps t unwanted free roomy taken by carried.
+      f script steps t unwanted (free_there g c script steps t free roomy carried) roomy (taken_there g c script t taken) (by_there g c script t by) (entries_of (g.S.Shadows.slots c.args.running.now.shadows c.args.ram.now)) (carried_there g c script steps t free roomy carried))
+      (tried g c);
+  carried_asked =
+      where_asked c.try_once.result
+      (λ f script steps t unwanted free roomy taken by load rules set long bytes carried.
+      f script steps t unwanted (free_there g c script steps t free roomy carried) roomy (taken_there g c script t taken) (by_there g c script t by) load rules set long bytes (entries_of (g.S.Shadows.slots c.args.running.now.shadows c.args.ram.now))
+      (carried_there g c script steps t free roomy carried))
+      (asked g c);
+  clashed = λ lost room. c.make_room.ensures.clashed (sym c.try_once.ensures.tries.before ∙ lost) room;
+  leaves = record {
+    held =
+        let new = c.try_once.new.running in subst (λ (r : Running g.row.S.Denot). OnOk c.try_once.result (IsHeld g.S.Shadows.stands g.S.Shadows.frames g.S.Shadows.slots (ground c.args.image.now r.frames) (record new { step = r.step + 1 }) c.try_once.new.pool c.try_once.new.ram)) c.make_room.ensures.same c.try_once.ensures.tries.leaves.held;
+    ready =
+        let new = c.try_once.new.running in
+        subst (λ (r : Running g.row.S.Denot). OnOk c.try_once.result (IsReady g.S.Shadows.slots g.S.Shadows.noted g.S.Shadows.marked g.S.Shadows.value g.S.Shadows.asides (ground c.args.image.now r.frames) new.cpu new.shadows c.try_once.new.ram)) c.make_room.ensures.same
+        c.try_once.ensures.tries.leaves.ready;
+    back = c.try_once.ensures.tries.leaves.back;
+    count = subst (λ (r : Running g.row.S.Denot). WhereStepped c.try_once.result (c.try_once.new.running.step ≡ r.step + 1)) c.make_room.ensures.same c.try_once.ensures.tries.leaves.count;
+    asked =
+        let new = c.try_once.new.running in subst (λ (r : Running g.row.S.Denot). WhereAsked c.try_once.result (new ≡ record r { shadows = new.shadows; held = new.held; fills = new.fills; lost = new.lost })) c.make_room.ensures.same c.try_once.ensures.tries.leaves.asked;
+    stays =
+        let same = c.make_room.ensures.same in
+        stays_from c.try_once.result (scene c.args.running.now c.args.pool.now c.args.ram.now) (scene c.make_room.new.running c.make_room.new.pool c.make_room.new.ram) (scene c.try_once.new.running c.try_once.new.pool c.try_once.new.ram)
+        (ap (λ (r : Running g.row.S.Denot). r.step) same) (ap (λ (r : Running g.row.S.Denot). r.fills) same) c.try_once.ensures.tries.leaves.stays;
+  };
+}
 
-pub returns-clause-count : goal.returns-clause-count
-returns-clause-count g c = subst (λ (r : Running g.row.S.Denot). WhereStepped c.try_once.result (c.try_once.new.running.step ≡ r.step + 1)) c.make_room.ensures.same c.try_once.ensures.count
-
-pub returns-clause-asked : goal.returns-clause-asked
-returns-clause-asked g c = let new = c.try_once.new.running in subst (λ (r : Running g.row.S.Denot). WhereAsked c.try_once.result (new ≡ record r { shadows = new.shadows; held = new.held; fills = new.fills; lost = new.lost })) c.make_room.ensures.same c.try_once.ensures.asked
-
-pub returns-clause-counted : goal.returns-clause-counted
-returns-clause-counted g c = c.try_once.ensures.counted
-
-pub returns-clause-stands : goal.returns-clause-stands
-returns-clause-stands g c = c.try_once.ensures.stands
-
-pub returns-clause-frames : goal.returns-clause-frames
-returns-clause-frames g c = c.try_once.ensures.frames ∙ ap (λ (r : Running g.row.S.Denot). r.frames) c.make_room.ensures.same
+pub returns-clause-accounts : goal.returns-clause-accounts
+returns-clause-accounts g c = record {
+  stands = c.try_once.ensures.accounts.stands;
+  counted = c.try_once.ensures.accounts.counted;
+  pool =
+      let fs = g.S.Shadows.frames c.args.running.now.shadows c.args.ram.now in
+      let gs = g.S.Shadows.frames c.make_room.new.running.shadows c.make_room.new.ram in
+      let hs = g.S.Shadows.frames c.try_once.new.running.shadows c.try_once.new.ram in
+      keeps_join c.args.pool.now c.make_room.new.pool c.try_once.new.pool c.args.ram.now c.make_room.new.ram c.try_once.new.ram fs gs hs
+      (keeps_moves c.args.pool.now c.make_room.new.pool c.args.ram.now c.make_room.new.ram fs gs c.make_room.ensures.moves) c.try_once.ensures.accounts.pool;
+  filled =
+      let running = c.args.running.now in
+      let new = c.try_once.new.running in
+      let same = ap (λ (r : Running g.row.S.Denot). r.fills) c.make_room.ensures.same in
+      fills_join _ _ _ running.fills running.fills new.fills (fills_fewer _ _ running.fills c.make_room.ensures.beside.fewer)
+      (subst (λ (k : ℕ). FillsOn (pages_kept g.S.Shadows.slots g.S.Shadows.asides c.make_room.new.running.shadows c.make_room.new.ram) (pages_kept g.S.Shadows.slots g.S.Shadows.asides new.shadows c.try_once.new.ram) k new.fills) same c.try_once.ensures.accounts.filled);
+  frames = c.try_once.ensures.accounts.frames ∙ ap (λ (r : Running g.row.S.Denot). r.frames) c.make_room.ensures.same;
+}

@@ -1,4 +1,4 @@
-use Rattle.std.proofs.Common.{ℕ, ◌%◌, false, sym, ap, ◌∙◌, arith}
+use Rattle.std.proofs.Common.{ℕ, ◌%◌, false, refl, sym, ap, ◌∙◌, arith}
 use Rattle.std.specs.FinMap.{empty}
 use Rattle.descriptors.specs.Controls.{wp_of}
 use Rattle.wedge_step.specs.Standing.{ground}
@@ -8,19 +8,19 @@ use Rattle.wedge_step.proofs.Parts.{part_within, part_empty}
 use Rattle.wedge_step.proofs.Readying.{none_ready, none_pages}
 use Rattle.wedge_core.proofs.native.drop_kept.Goals as goal
 
-pub returns-clause-ready : goal.returns-clause-ready
-returns-clause-ready g c = λ m frames h.
-    none_ready g.S.Shadows.slots g.S.Shadows.noted g.S.Shadows.marked g.S.Shadows.value g.S.Shadows.asides (λ page. false) m c.args.running.now.cpu c.drop_all.new.self c.drop_all.new.ram (c.drop_all.ensures.value ∙ h.value_is) c.drop_all.ensures.none c.drop_all.ensures.asides
-
-pub returns-clause-fewer : goal.returns-clause-fewer
-returns-clause-fewer g c =
-    let none = none_pages g.S.Shadows.slots g.S.Shadows.noted g.S.Shadows.marked g.S.Shadows.value g.S.Shadows.asides c.drop_all.new.self c.drop_all.new.ram c.drop_all.ensures.entries c.drop_all.ensures.asides in
-    omega (arith, none)
-
-pub returns-clause-guest : goal.returns-clause-guest
-returns-clause-guest g c =
-    let held = c.requires.held.1 in
-    front_same c.args.running.now.frames c.args.pool.now c.drop_all.new.pool c.args.ram.now c.drop_all.new.ram _ _ held.behind held.owns c.drop_all.ensures.moves
+pub returns-clause-beside : goal.returns-clause-beside
+returns-clause-beside g c = record {
+  ready = λ m frames h.
+      none_ready g.S.Shadows.slots g.S.Shadows.noted g.S.Shadows.marked g.S.Shadows.value g.S.Shadows.asides (λ page. false) m c.args.running.now.cpu c.drop_all.new.self c.drop_all.new.ram (c.drop_all.ensures.value ∙ h.value_is) c.drop_all.ensures.none c.drop_all.ensures.asides;
+  back = refl;
+  opened = c.drop_all.ensures.opened;
+  fewer =
+      let none = none_pages g.S.Shadows.slots g.S.Shadows.noted g.S.Shadows.marked g.S.Shadows.value g.S.Shadows.asides c.drop_all.new.self c.drop_all.new.ram c.drop_all.ensures.entries c.drop_all.ensures.asides in
+      omega (arith, none);
+  guest =
+      let held = c.requires.held.1 in
+      front_same c.args.running.now.frames c.args.pool.now c.drop_all.new.pool c.args.ram.now c.drop_all.new.ram _ _ held.behind held.owns c.drop_all.ensures.moves;
+}
 
 pub returns-clause-held : goal.returns-clause-held
 returns-clause-held g c = λ image held.

@@ -1,4 +1,4 @@
-use Rattle.std.proofs.Common.{ℕ, ◌%◌, false, length, sym, ap, ◌∙◌, inl, arith}
+use Rattle.std.proofs.Common.{ℕ, ◌%◌, false, length, refl, sym, ap, ◌∙◌, inl, arith}
 use Rattle.std.specs.FinMap.{empty}
 use Rattle.descriptors.specs.Controls.{wp_of}
 use Rattle.frame_pool.proofs.Held.{Owns-moves}
@@ -14,24 +14,27 @@ use Rattle.wedge_core.proofs.native.drop_present.Goals as goal
 pub drop_dirs-requires : goal.drop_dirs-requires
 drop_dirs-requires g c = record { stands = c.requires.held.2.stand }
 
-pub returns-clause-guest : goal.returns-clause-guest
-returns-clause-guest g c =
-    let pool = c.requires.held.1 in
-    let held = c.requires.held.2 in
-    front_same c.args.running.now.frames pool pool c.args.ram.now c.drop_dirs.new.ram _ _ held.behind held.owns (c.drop_dirs.ensures.moves pool held.owns)
-
-pub returns-clause-ready : goal.returns-clause-ready
-returns-clause-ready g c = λ m frames h.
-    let running = c.args.running.now in
-    let pool = c.requires.held.1 in
-    let held = c.requires.held.2 in
-    let d = c.drop_dirs in
-    let low = held.behind in
-    let front = front_same m.frames pool pool c.args.ram.now d.new.ram _ _ (omega (arith, frames, low)) held.owns (d.ensures.moves pool held.owns) in
-    fewer_ready g.S.Shadows.slots g.S.Shadows.noted g.S.Shadows.marked g.S.Shadows.value g.S.Shadows.asides (λ page. false) (λ page. false) m running.cpu running.shadows d.new.shadows c.args.ram.now d.new.ram d.ensures.value
-    (λ un. sym d.ensures.marked ∙ un) (λ f n. d.ensures.noted f ∙ n)
-    (λ page lt o. inl (d.ensures.none page lt))
-    (same_shed _ _ d.ensures.asides) (shown_same m c.args.ram.now d.new.ram front) h
+pub returns-clause-beside : goal.returns-clause-beside
+returns-clause-beside g c = λ any. record {
+  ready = λ m frames h.
+      let running = c.args.running.now in
+      let pool = c.requires.held.1 in
+      let held = c.requires.held.2 in
+      let d = c.drop_dirs in
+      let low = held.behind in
+      let front = front_same m.frames pool pool c.args.ram.now d.new.ram _ _ (omega (arith, frames, low)) held.owns (d.ensures.moves pool held.owns) in
+      fewer_ready g.S.Shadows.slots g.S.Shadows.noted g.S.Shadows.marked g.S.Shadows.value g.S.Shadows.asides (λ page. false) (λ page. false) m running.cpu running.shadows d.new.shadows c.args.ram.now d.new.ram d.ensures.value
+      (λ un. sym d.ensures.marked ∙ un) (λ f n. d.ensures.noted f ∙ n)
+      (λ page lt o. inl (d.ensures.none page lt))
+      (same_shed _ _ d.ensures.asides) (shown_same m c.args.ram.now d.new.ram front) h;
+  back = refl;
+  opened = c.drop_dirs.ensures.opened;
+  fewer = fewer_pages _ _ _ _ (part_empty _ _ c.drop_dirs.ensures.entries) (same_shed _ _ c.drop_dirs.ensures.asides);
+  guest =
+      let pool = c.requires.held.1 in
+      let held = c.requires.held.2 in
+      front_same c.args.running.now.frames pool pool c.args.ram.now c.drop_dirs.new.ram _ _ held.behind held.owns (c.drop_dirs.ensures.moves pool held.owns);
+}
 
 pub returns-clause-stay : goal.returns-clause-stay
 returns-clause-stay g c = record {
@@ -40,11 +43,8 @@ returns-clause-stay g c = record {
   others = c.drop_dirs.ensures.asides;
 }
 
-pub returns-clause-fewer : goal.returns-clause-fewer
-returns-clause-fewer g c = fewer_pages _ _ _ _ (part_empty _ _ c.drop_dirs.ensures.entries) (same_shed _ _ c.drop_dirs.ensures.asides)
-
 pub returns-clause-held : goal.returns-clause-held
-returns-clause-held g c = λ image pool held.
+returns-clause-held g c = λ pool image held.
     let n = c.args.running.now.frames in
     let m = ground image n in
     let d = c.drop_dirs in

@@ -1,4 +1,4 @@
-use Rattle.std.proofs.Common.{◌≡◌, Bool, true, false, refl, sym, ap, ◌∙◌}
+use Rattle.std.proofs.Common.{◌≡◌, Bool, true, false, refl, sym, ap, ◌∙◌, arith}
 use Rattle.machine_model.specs.State.{wedge}
 use Rattle.shadow_tables.specs.Entries.{entries_of}
 use Rattle.wedge_step.specs.Parts.{left_of}
@@ -46,44 +46,14 @@ returns-then-free-lt-ROOM-clause-held g c = c.drop_kept.ensures.held c.args.imag
 pub returns-then-free-lt-ROOM-clause-same : goal.returns-then-free-lt-ROOM-clause-same
 returns-then-free-lt-ROOM-clause-same g c = c.drop_kept.ensures.same
 
-pub returns-then-free-lt-ROOM-clause-ready : goal.returns-then-free-lt-ROOM-clause-ready
-returns-then-free-lt-ROOM-clause-ready g c = c.drop_kept.ensures.ready
-
-pub returns-then-free-lt-ROOM-clause-back : goal.returns-then-free-lt-ROOM-clause-back
-returns-then-free-lt-ROOM-clause-back g c = c.drop_kept.ensures.back
-
-pub returns-then-free-lt-ROOM-clause-opened : goal.returns-then-free-lt-ROOM-clause-opened
-returns-then-free-lt-ROOM-clause-opened g c = c.drop_kept.ensures.opened
-
-pub returns-then-free-lt-ROOM-clause-fewer : goal.returns-then-free-lt-ROOM-clause-fewer
-returns-then-free-lt-ROOM-clause-fewer g c = c.drop_kept.ensures.fewer
-
-pub returns-then-free-lt-ROOM-clause-guest : goal.returns-then-free-lt-ROOM-clause-guest
-returns-then-free-lt-ROOM-clause-guest g c = c.drop_kept.ensures.guest
-
 pub returns-then-free-lt-ROOM-clause-moves : goal.returns-then-free-lt-ROOM-clause-moves
 returns-then-free-lt-ROOM-clause-moves g c = c.drop_kept.ensures.moves
 
 pub returns-then-clashes-clause-held : goal.returns-then-clashes-clause-held
-returns-then-clashes-clause-held g c = c.drop_present.ensures.held c.args.image.now c.args.pool.now c.requires.held
+returns-then-clashes-clause-held g c = c.drop_present.ensures.held c.args.pool.now c.args.image.now c.requires.held
 
 pub returns-then-clashes-clause-moves : goal.returns-then-clashes-clause-moves
 returns-then-clashes-clause-moves g c = c.drop_present.ensures.moves c.args.pool.now c.requires.held.owns
-
-pub returns-then-clashes-clause-ready : goal.returns-then-clashes-clause-ready
-returns-then-clashes-clause-ready g c = c.drop_present.ensures.ready
-
-pub returns-then-clashes-clause-back : goal.returns-then-clashes-clause-back
-returns-then-clashes-clause-back g c = c.drop_present.ensures.back
-
-pub returns-then-clashes-clause-opened : goal.returns-then-clashes-clause-opened
-returns-then-clashes-clause-opened g c = c.drop_present.ensures.opened
-
-pub returns-then-clashes-clause-fewer : goal.returns-then-clashes-clause-fewer
-returns-then-clashes-clause-fewer g c = c.drop_present.ensures.fewer
-
-pub returns-then-clashes-clause-guest : goal.returns-then-clashes-clause-guest
-returns-then-clashes-clause-guest g c = c.drop_present.ensures.guest
 
 pub returns-else-clashes-clause-held : goal.returns-else-clashes-clause-held
 returns-else-clashes-clause-held g c = c.requires.held
@@ -91,17 +61,20 @@ returns-else-clashes-clause-held g c = c.requires.held
 pub returns-else-clashes-clause-same : goal.returns-else-clashes-clause-same
 returns-else-clashes-clause-same g c = refl
 
-pub returns-else-clashes-clause-ready : goal.returns-else-clashes-clause-ready
-returns-else-clashes-clause-ready g c = λ m frames h. h
-
-pub returns-else-clashes-clause-back : goal.returns-else-clashes-clause-back
-returns-else-clashes-clause-back g c = refl
-
-pub returns-else-clashes-clause-opened : goal.returns-else-clashes-clause-opened
-returns-else-clashes-clause-opened g c = λ indices h. h
-
-pub returns-else-clashes-clause-guest : goal.returns-else-clashes-clause-guest
-returns-else-clashes-clause-guest g c = refl
-
 pub returns-else-clashes-clause-clashed : goal.returns-else-clashes-clause-clashed
 returns-else-clashes-clause-clashed g c = λ lost. absurd (let f : true ≡ false = sym lost ∙ c.requires.kept in cc)
+
+pub returns-then-free-lt-ROOM-clause-beside : goal.returns-then-free-lt-ROOM-clause-beside
+returns-then-free-lt-ROOM-clause-beside g c = c.drop_kept.ensures.beside
+
+pub returns-then-clashes-clause-beside : goal.returns-then-clashes-clause-beside
+returns-then-clashes-clause-beside g c = c.drop_present.ensures.beside c.args.pool.now
+
+pub returns-else-clashes-clause-beside : goal.returns-else-clashes-clause-beside
+returns-else-clashes-clause-beside g c = record {
+  ready = λ m frames h. h;
+  back = refl;
+  opened = λ indices h. h;
+  fewer = omega arith;
+  guest = refl;
+}

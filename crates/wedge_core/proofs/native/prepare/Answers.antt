@@ -22,9 +22,7 @@ returns-in-Ok g c = record {
   prepares = λ m b k. c.in-Ok.ensures.prepared;
   dropped = tt;
   roots = tt;
-  control = c.weigh.ensures.control;
-  guard = c.weigh.ensures.guard;
-  hidden = c.weigh.ensures.hidden;
+  stays = (c.weigh.ensures.stays.0, c.weigh.ensures.stays.1, c.weigh.ensures.stays.2);
 }
 
 pub returns-in-Err : goal.returns-in-Err
@@ -41,8 +39,10 @@ returns-in-Err g c =
           (prepares_refused m here c.args.insn.now c.args.len before c.requires.able c.requires.native c.requires.spelled c.in-Err.refusal refused c.refuse.result after c.in-Err.ensures.prepared (c.refuse.ensures.step m here k));
       dropped = subst (λ (r : Result (Option Worked) Stop). IfOk r (λ o. IfSome o (λ w. IsDropped w.dropped))) is (of_gone (λ (w : Worked). IsDropped w.dropped) c.refuse.result c.refuse.ensures.dropped);
       roots = subst (λ (r : Result (Option Worked) Stop). IfOk r (λ o. IfSome o (λ w. RootsAs c.args.cpu.now w))) is (of_gone (λ (w : Worked). RootsAs c.args.cpu.now w) c.refuse.result c.refuse.ensures.roots);
-      control = c.refuse.ensures.control ∙ c.weigh.ensures.control;
-      guard = c.refuse.ensures.guard ∙ c.weigh.ensures.guard;
-      hidden = hidden_on c.args.state.now.guard.text.now c.weigh.new.state.guard.text.now c.args.state.now.control.frames c.weigh.new.state.control.frames c.args.ram.now c.weigh.new.ram c.refuse.new.ram
-          (ap (λ (k : Guard). k.text.now) c.weigh.ensures.guard) (ap (λ (k : Control). k.frames) c.weigh.ensures.control) c.weigh.ensures.hidden c.refuse.ensures.hidden;
+      stays = (
+        c.refuse.ensures.control ∙ c.weigh.ensures.stays.0,
+        c.refuse.ensures.guard ∙ c.weigh.ensures.stays.1,
+        hidden_on c.args.state.now.guard.text.now c.weigh.new.state.guard.text.now c.args.state.now.control.frames c.weigh.new.state.control.frames c.args.ram.now c.weigh.new.ram c.refuse.new.ram
+            (ap (λ (k : Guard). k.text.now) c.weigh.ensures.stays.1) (ap (λ (k : Control). k.frames) c.weigh.ensures.stays.0) c.weigh.ensures.stays.2 c.refuse.ensures.hidden,
+      );
     }

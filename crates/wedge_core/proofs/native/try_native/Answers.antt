@@ -35,10 +35,12 @@ returns-in-Err g c =
           subst (λ (r : Result (Option Worked) Stop). TriesAs m here start r c.args.board.now after) is (tried_refused m here start c.in-Err.refusal after_fetch c.refuse.result c.args.board.now after c.in-Err.ensures.fetched (c.refuse.ensures.step m here k));
       dropped = subst (λ (r : Result (Option Worked) Stop). IfOk r (λ o. IfSome o (λ w. IsDropped w.dropped))) is (of_gone (λ (w : Worked). IsDropped w.dropped) c.refuse.result c.refuse.ensures.dropped);
       roots = subst (λ (r : Result (Option Worked) Stop). IfOk r (λ o. IfSome o (λ w. RootsAs c.args.cpu.now w))) is (of_gone (λ (w : Worked). RootsAs c.args.cpu.now w) c.refuse.result c.refuse.ensures.roots);
-      control = c.refuse.ensures.control ∙ c.fetch.ensures.control;
-      text = ap (λ (k : Guard). k.text) c.refuse.ensures.guard ∙ c.fetch.ensures.text;
-      hidden = hidden_on c.args.state.now.guard.text.now c.fetch.new.state.guard.text.now c.args.state.now.control.frames c.fetch.new.state.control.frames c.args.ram.now c.fetch.new.ram c.refuse.new.ram
-          (ap (λ (t : _). t.now) c.fetch.ensures.text) (ap (λ (k : Control). k.frames) c.fetch.ensures.control) c.fetch.ensures.hidden c.refuse.ensures.hidden;
+      stays = (
+        c.refuse.ensures.control ∙ c.fetch.ensures.control,
+        ap (λ (k : Guard). k.text) c.refuse.ensures.guard ∙ c.fetch.ensures.text,
+        hidden_on c.args.state.now.guard.text.now c.fetch.new.state.guard.text.now c.args.state.now.control.frames c.fetch.new.state.control.frames c.args.ram.now c.fetch.new.ram c.refuse.new.ram
+            (ap (λ (t : _). t.now) c.fetch.ensures.text) (ap (λ (k : Control). k.frames) c.fetch.ensures.control) c.fetch.ensures.hidden c.refuse.ensures.hidden,
+      );
     }
 
 pub returns-then-is_native : goal.returns-then-is_native
@@ -52,10 +54,12 @@ returns-then-is_native g c =
       tries = λ m b k. let here = record b { cpu = c.args.cpu.now; board = c.args.board.now } in tried_prepared m here start c.in-Ok-Insn.insn c.in-Ok-Insn.len after_fetch (rw c.in-Ok-Insn.field-0-is at c.in-Ok-Insn.ensures.fetched) c.prepare.result after (sym c.is_native.ensures ∙ c.if-is_native.true) (c.prepare.ensures.prepares m here k);
       dropped = c.prepare.ensures.dropped;
       roots = c.prepare.ensures.roots;
-      control = c.prepare.ensures.control ∙ c.fetch.ensures.control;
-      text = ap (λ (k : Guard). k.text) c.prepare.ensures.guard ∙ c.fetch.ensures.text;
-      hidden = hidden_on c.args.state.now.guard.text.now c.fetch.new.state.guard.text.now c.args.state.now.control.frames c.fetch.new.state.control.frames c.args.ram.now c.fetch.new.ram c.prepare.new.ram
-          (ap (λ (t : _). t.now) c.fetch.ensures.text) (ap (λ (k : Control). k.frames) c.fetch.ensures.control) c.fetch.ensures.hidden c.prepare.ensures.hidden;
+      stays = (
+        c.prepare.ensures.stays.0 ∙ c.fetch.ensures.control,
+        ap (λ (k : Guard). k.text) c.prepare.ensures.stays.1 ∙ c.fetch.ensures.text,
+        hidden_on c.args.state.now.guard.text.now c.fetch.new.state.guard.text.now c.args.state.now.control.frames c.fetch.new.state.control.frames c.args.ram.now c.fetch.new.ram c.prepare.new.ram
+            (ap (λ (t : _). t.now) c.fetch.ensures.text) (ap (λ (k : Control). k.frames) c.fetch.ensures.control) c.fetch.ensures.hidden c.prepare.ensures.stays.2,
+      );
     }
 
 pub returns-else-is_native : goal.returns-else-is_native
@@ -71,8 +75,10 @@ returns-else-is_native g c =
           subst (λ (r : Result (Option Worked) Stop). TriesAs m here start r c.carry_out.new.board after) is (tried_other m here start c.in-Ok-Insn.insn c.in-Ok-Insn.len after_fetch (rw c.in-Ok-Insn.field-0-is at c.in-Ok-Insn.ensures.fetched) c.carry_out.result c.carry_out.new.board after (sym c.is_native.ensures ∙ c.if-is_native.false) (c.carry_out.ensures.step m here k));
       dropped = subst (λ (r : Result (Option Worked) Stop). IfOk r (λ o. IfSome o (λ w. IsDropped w.dropped))) is (of_gone (λ (w : Worked). IsDropped w.dropped) c.carry_out.result c.carry_out.ensures.dropped);
       roots = subst (λ (r : Result (Option Worked) Stop). IfOk r (λ o. IfSome o (λ w. RootsAs c.args.cpu.now w))) is (of_gone (λ (w : Worked). RootsAs c.args.cpu.now w) c.carry_out.result c.carry_out.ensures.roots);
-      control = c.carry_out.ensures.control ∙ c.fetch.ensures.control;
-      text = ap (λ (k : Guard). k.text) c.carry_out.ensures.guard ∙ c.fetch.ensures.text;
-      hidden = hidden_on c.args.state.now.guard.text.now c.fetch.new.state.guard.text.now c.args.state.now.control.frames c.fetch.new.state.control.frames c.args.ram.now c.fetch.new.ram c.carry_out.new.ram
-          (ap (λ (t : _). t.now) c.fetch.ensures.text) (ap (λ (k : Control). k.frames) c.fetch.ensures.control) c.fetch.ensures.hidden c.carry_out.ensures.hidden;
+      stays = (
+        c.carry_out.ensures.control ∙ c.fetch.ensures.control,
+        ap (λ (k : Guard). k.text) c.carry_out.ensures.guard ∙ c.fetch.ensures.text,
+        hidden_on c.args.state.now.guard.text.now c.fetch.new.state.guard.text.now c.args.state.now.control.frames c.fetch.new.state.control.frames c.args.ram.now c.fetch.new.ram c.carry_out.new.ram
+            (ap (λ (t : _). t.now) c.fetch.ensures.text) (ap (λ (k : Control). k.frames) c.fetch.ensures.control) c.fetch.ensures.hidden c.carry_out.ensures.hidden,
+      );
     }

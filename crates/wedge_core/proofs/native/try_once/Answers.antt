@@ -86,29 +86,39 @@ module _ (g : Over) (c : goal.In-Err g) where
   stopped =
       tried_from g.S.Shadows.stands g.S.Shadows.frames g.S.Shadows.slots g.S.Shadows.asides g.met.S.Shadows.above g.met.S.Shadows.same_frames g.met.S.Shadows.same_slots g.met.S.Shadows.same_entries g.met.S.Shadows.same_asides c.args.image.now c.args.running.now c.args.pool.now c.args.ram.now
       c.try_native.new.ram c.begin-state.result c.try_native.new.state c.original.result.first c.original.result.count c.original.result.bytes.now _ c.begin-state.ensures.guard c.original.ensures.first c.original.ensures.count c.original.ensures.bytes (λ m. refl) (λ m. refl) c.requires.held
-      c.begin-state.ensures.space c.begin-state.ensures.frames c.try_native.ensures.control c.try_native.ensures.text c.try_native.ensures.hidden c.try_native.ensures.sound.frames_in c.try_native.ensures.sound.within c.are_bytes.ensures.bytes c.are_bytes.ensures.length c.requires.runs
+      c.begin-state.ensures.space c.begin-state.ensures.frames c.try_native.ensures.stays.0 c.try_native.ensures.stays.1 c.try_native.ensures.stays.2 c.try_native.ensures.sound.frames_in c.try_native.ensures.sound.within c.are_bytes.ensures.bytes c.are_bytes.ensures.length c.requires.runs
       c.eip_fits.ensures
 
-pub returns-in-Err-clause-stands : goal.returns-in-Err-clause-stands
-returns-in-Err-clause-stands g c = first c.try_native.ensures.sound.stands_now
+pub returns-in-Err-clause-accounts : goal.returns-in-Err-clause-accounts
+returns-in-Err-clause-accounts g c = record {
+  stands = first c.try_native.ensures.sound.stands_now;
+  counted = (stopped g c).counted1;
+  pool = keeps_still g.S.Shadows.stands g.S.Shadows.frames g.S.Shadows.slots c.args.image.now c.args.running.now c.args.pool.now c.args.ram.now c.try_native.new.ram c.requires.held (stopped g c).a;
+  filled = filled_from g c.args.image.now c.args.running.now c.args.pool.now c.args.ram.now c.try_native.new.ram c.begin-state.result c.try_native.new.state (stopped g c);
+  frames = refl;
+}
 
-pub returns-in-Err-clause-counted : goal.returns-in-Err-clause-counted
-returns-in-Err-clause-counted g c = (stopped g c).counted1
-
-pub returns-in-Err-clause-pool : goal.returns-in-Err-clause-pool
-returns-in-Err-clause-pool g c = keeps_still g.S.Shadows.stands g.S.Shadows.frames g.S.Shadows.slots c.args.image.now c.args.running.now c.args.pool.now c.args.ram.now c.try_native.new.ram c.requires.held (stopped g c).a
-
-pub returns-in-Err-clause-filled : goal.returns-in-Err-clause-filled
-returns-in-Err-clause-filled g c = filled_from g c.args.image.now c.args.running.now c.args.pool.now c.args.ram.now c.try_native.new.ram c.begin-state.result c.try_native.new.state (stopped g c)
-
-pub returns-in-Err-clause-step : goal.returns-in-Err-clause-step
-returns-in-Err-clause-step g c = λ script.
-    let running = c.args.running.now in
-    let m = wedge c.args.image.now script running.frames in
-    let b = state_at g c.args.image.now script running c.args.ram.now in
-    let k = (stopped g c).begun script in
-    let sees = c.native_laws.ensures.sees (g.S.Shadows.directory running.shadows) running.cpu c.requires.able in
-    step_is m b sees.level k.next ∙ (ap (fetches_next m (unheld b)) (sym k.start) ∙ c.in-Err.ensures.tries m (unheld b) (record { has = refl; over = refl }))
+pub returns-in-Err-clause-tries : goal.returns-in-Err-clause-tries
+returns-in-Err-clause-tries g c = record {
+  step = λ script.
+      let running = c.args.running.now in
+      let m = wedge c.args.image.now script running.frames in
+      let b = state_at g c.args.image.now script running c.args.ram.now in
+      let k = (stopped g c).begun script in
+      let sees = c.native_laws.ensures.sees (g.S.Shadows.directory running.shadows) running.cpu c.requires.able in
+      step_is m b sees.level k.next ∙ (ap (fetches_next m (unheld b)) (sym k.start) ∙ c.in-Err.ensures.tries m (unheld b) (record { has = refl; over = refl }));
+  before = refl;
+  carried = tt;
+  carried_asked = tt;
+  leaves = record {
+    held = tt;
+    ready = tt;
+    back = tt;
+    count = tt;
+    asked = tt;
+    stays = record { step = refl; fills = refl };
+  };
+}
 
 -- ---- it went
 
@@ -117,23 +127,8 @@ module _ (g : Over) (c : goal.After-worked-in-Ok-Some-1 g) where
   gone =
       tried_from g.S.Shadows.stands g.S.Shadows.frames g.S.Shadows.slots g.S.Shadows.asides g.met.S.Shadows.above g.met.S.Shadows.same_frames g.met.S.Shadows.same_slots g.met.S.Shadows.same_entries g.met.S.Shadows.same_asides c.args.image.now c.args.running.now c.args.pool.now c.args.ram.now
       c.try_native.new.ram c.begin-state.result c.try_native.new.state c.original.result.first c.original.result.count c.original.result.bytes.now _ c.begin-state.ensures.guard c.original.ensures.first c.original.ensures.count c.original.ensures.bytes (λ m. refl) (λ m. refl) c.requires.held
-      c.begin-state.ensures.space c.begin-state.ensures.frames c.try_native.ensures.control c.try_native.ensures.text c.try_native.ensures.hidden c.try_native.ensures.sound.frames_in c.try_native.ensures.sound.within c.are_bytes.ensures.bytes c.are_bytes.ensures.length c.requires.runs
+      c.begin-state.ensures.space c.begin-state.ensures.frames c.try_native.ensures.stays.0 c.try_native.ensures.stays.1 c.try_native.ensures.stays.2 c.try_native.ensures.sound.frames_in c.try_native.ensures.sound.within c.are_bytes.ensures.bytes c.are_bytes.ensures.length c.requires.runs
       c.eip_fits.ensures
-
-pub go-requires-clause-counted : goal.go-requires-clause-counted
-go-requires-clause-counted g c = (gone g c).counted1
-
-pub go-requires-clause-few : goal.go-requires-clause-few
-go-requires-clause-few g c = (gone g c).few1
-
-pub go-requires-clause-rules : goal.go-requires-clause-rules
-go-requires-clause-rules g c = (gone g c).wp1
-
-pub go-requires-clause-enough : goal.go-requires-clause-enough
-go-requires-clause-enough g c =
-    let free = ap length (gone g c).a.free_same in
-    let room = c.requires.room in
-    omega (arith, free, room)
 
 module _ (g : Over) (c : goal.After-go g) where
   abbrev image : Image
@@ -168,81 +163,86 @@ module _ (g : Over) (c : goal.After-go g) where
       (steps_from g image running c.args.pool.now ram0 ram1 c.begin-state.result state1 c.requires.held k) c.requires.ready c.native_laws.ensures.steps c.in-Ok-Some.worked c.try_native.new.board (space g running ram1 state1) state1.changes (went []) (k.ram1_is []) refl in
       c.go.ensures.ready (ground image running.frames) (sym k.frames1) c.text_frames-count.ensures k.open1 behind1
 
-pub returns-in-Ok-Some-clause-ready : goal.returns-in-Ok-Some-clause-ready
-returns-in-Ok-Some-clause-ready g c = (ready2 g c).0
+pub returns-in-Ok-Some-clause-accounts : goal.returns-in-Ok-Some-clause-accounts
+returns-in-Ok-Some-clause-accounts g c = record {
+  stands = c.go.ensures.moved.stands;
+  counted = c.go.ensures.counts.counted;
+  pool = keeps_then g.S.Shadows.stands g.S.Shadows.frames g.S.Shadows.slots c.args.image.now c.args.running.now c.go.new.running c.args.pool.now c.go.new.pool c.args.ram.now c.try_native.new.ram c.go.new.ram c.requires.held (gone g c.before).a c.go.ensures.moved.moves;
+  filled = fills_join _ _ _ _ _ _ (filled_from g c.args.image.now c.args.running.now c.args.pool.now c.args.ram.now c.try_native.new.ram c.begin-state.result c.try_native.new.state (gone g c.before)) c.go.ensures.counts.filled;
+  frames = c.go.ensures.passes.frames;
+}
 
-pub returns-in-Ok-Some-clause-pool : goal.returns-in-Ok-Some-clause-pool
-returns-in-Ok-Some-clause-pool g c =
-    keeps_then g.S.Shadows.stands g.S.Shadows.frames g.S.Shadows.slots c.args.image.now c.args.running.now c.go.new.running c.args.pool.now c.go.new.pool c.args.ram.now c.try_native.new.ram c.go.new.ram c.requires.held (gone g c.before).a c.go.ensures.moves
-
-pub returns-in-Ok-Some-clause-filled : goal.returns-in-Ok-Some-clause-filled
-returns-in-Ok-Some-clause-filled g c =
-    fills_join _ _ _ _ _ _ (filled_from g c.args.image.now c.args.running.now c.args.pool.now c.args.ram.now c.try_native.new.ram c.begin-state.result c.try_native.new.state (gone g c.before)) c.go.ensures.filled
-
-pub returns-in-Ok-Some-clause-step : goal.returns-in-Ok-Some-clause-step
-returns-in-Ok-Some-clause-step g c = λ script.
-    let running = c.args.running.now in
-    let image = c.args.image.now in
-    let n = running.frames in
-    let m = wedge image script n in
-    let b = state_at g image script running c.args.ram.now in
-    let k = gone g c.before in
-    let e = k.begun script in
-    let held = c.requires.held in
-    let s1 = space g running c.try_native.new.ram c.try_native.new.state in
-    let host0 : IsHost m c.args.ram.now = record { room = held.host.room; text = held.host.text } in
-    let users = others_users m e.wedge_is c.args.ram.now host0 b refl e.room e.bytes e.sound c.eip_fits.ensures (c.native_laws.ensures.text image held.wedge.accepted) e.next c.requires.able in
-    let tries = rw c.in-Ok-Some.field-0-is at (c.in-Ok-Some.ensures.tries m (unheld b) (record { has = refl; over = refl })) in
-    let none = tries.1 (subst (OthersAreUsers (unheld b)) (sym e.start) users) image.sites in
-    let front = front_same n c.args.pool.now c.go.new.pool c.try_native.new.ram c.go.new.ram (g.S.Shadows.frames running.shadows c.try_native.new.ram) (g.S.Shadows.frames c.go.new.running.shadows c.go.new.ram) held.behind (owns c.try_native.ensures.sound.stands_now) c.go.ensures.moves in
-    let ram_is : shown m c.go.new.ram ≡ s1.ram = shown_same m c.try_native.new.ram c.go.new.ram front ∙ sym (k.ram1_is script) in
-    let new = state_of g.S.Shadows.stands g.S.Shadows.frames g.S.Shadows.slots m c.go.new.running c.go.new.ram in
-    let whole = dropping c.in-Ok-Some.worked.dropped s1.set in
-    let left = is_left m new whole c.go.new.running.lost c.go.ensures.left
-    (λ back. all_loosened (ground image n) c.go.new.running.cpu (shown (ground image n) c.go.new.ram) c.go.new.running.cpu.cr3 (g.S.Shadows.noted c.go.new.running.shadows) (g.S.Shadows.slots c.go.new.running.shadows c.go.new.ram)
-    ((ready2 g c).1 back) m (with_set new whole) refl (any_script image script n c.go.new.ram) refl refl) in
-    idle m b c.go.new.running.lost c.in-Ok-Some.worked c.try_native.new.board s1 new (went g c script) c.go.ensures.cpu ram_is c.go.ensures.board c.go.ensures.step left none
-
-pub returns-in-Ok-Some-clause-held : goal.returns-in-Ok-Some-clause-held
-returns-in-Ok-Some-clause-held g c =
-    let running = c.args.running.now in
-    let image = c.args.image.now in
-    let n = running.frames in
-    let m = ground image n in
-    let k = gone g c.before in
-    let asides0 = g.S.Shadows.asides running.shadows c.args.ram.now in
-    let asides1 = g.S.Shadows.asides running.shadows c.try_native.new.ram in
-    let opens1 = subst (λ (x : Bool). AllOpen image x asides1) (sym k.wp1) (open_shed image (wp_of running.cpu) asides0 asides1 (same_shed _ _ k.asides1) (ready_open m running.cpu (shown m c.args.ram.now) asides0 c.requires.ready.others)) in
-    let slots2 = g.S.Shadows.slots c.go.new.running.shadows c.go.new.ram in
-    let within2 = within_left n slots2 c.in-Ok-Some.worked.dropped c.go.new.running.lost (changed (entries_of (g.S.Shadows.slots running.shadows c.try_native.new.ram)) c.try_native.new.state.changes) c.go.ensures.left k.within1
-    (λ back. all_within m c.go.new.running.cpu (shown m c.go.new.ram) c.go.new.running.cpu.cr3 (g.S.Shadows.noted c.go.new.running.shadows) slots2 ((ready2 g c).1 back)) in
-    let open2 = c.go.ensures.shows image c.text_frames-count.ensures k.open1 opens1 in
-    let fills = c.go.ensures.fills in
-    let count = c.go.ensures.step in
-    held_then g.S.Shadows.stands g.S.Shadows.frames g.S.Shadows.slots image running (record c.go.new.running { step = running.step + 1 }) c.args.pool.now c.go.new.pool c.args.ram.now c.try_native.new.ram c.go.new.ram c.requires.held k.a (owns c.try_native.ensures.sound.stands_now) c.go.ensures.moves
-    c.go.ensures.stands c.go.ensures.owns c.go.ensures.counted (omega (arith, fills, count)) c.go.ensures.frames within2 (subst (λ (x : Cpu). AreOpen image (wp_of x) slots2) (sym c.go.ensures.cpu) open2)
-
-pub returns-in-Ok-Some-clause-carried : goal.returns-in-Ok-Some-clause-carried
-returns-in-Ok-Some-clause-carried g c = λ script steps t unwanted free roomy taken by kept carried.
-    let running = c.args.running.now in
-    let image = c.args.image.now in
-    let k = gone g c.before in
-    let o = c.original in
-    let state1 = c.try_native.new.state in
-    let last = space g running c.try_native.new.ram state1 in
-    let sound = c.try_native.ensures.sound in
-    let pages = sound.noted in
-    let most = sound.few in
-    let mode_is : wedge_mode image ≡ Wedge o.result.first o.result.count no_own = λ i. Wedge (sym o.ensures.first i) (sym o.ensures.count i) no_own in
-    let r = rw c.in-Ok-Some.field-0-is at c.in-Ok-Some.ensures.roots in
-    let bytes = c.are_bytes-in-Ok-Some.ensures in
-    let ram_is : last.ram ≡ shown (ground image running.frames) c.try_native.new.ram = k.ram1_is script ∙ any_script image script running.frames c.try_native.new.ram in
-    let long = bytes.length in
-    let same = ap length ram_is in
-    went_on g.S.Shadows.stands g.S.Shadows.frames g.S.Shadows.slots g.S.Shadows.noted g.S.Shadows.marked g.S.Shadows.value g.S.Shadows.asides g.S.Shadows.opened (widens g) c.known_laws.ensures image script running c.args.pool.now c.args.ram.now c.try_native.new.ram
-    c.requires.held k.a steps t kept free roomy taken by carried last state1.changes refl sound.told c.go.new.running.shadows c.go.new.ram c.go.ensures.opened c.in-Ok-Some.worked c.try_native.new.board (went g c script)
-    (record { through = r.through; load = r.load; all = r.all; page_size = r.page_size }) c.requires.ready (omega (arith, long, same)) (subst AreBytes (sym ram_is) bytes.bytes) (space g running c.args.ram.now c.begin-state.result) c.text_frames-count.result state1.control.frames
-    c.text_frames-count.ensures c.in-Ok-Some.ensures.uses (ap (λ (x : Space). x.visited) c.begin-state.ensures.space) (ap (λ (x : Space). x.mode) c.begin-state.ensures.space ∙ sym mode_is) sound.within (omega (arith, pages, most)) (c.go.ensures.ends unwanted)
+pub returns-in-Ok-Some-clause-tries : goal.returns-in-Ok-Some-clause-tries
+returns-in-Ok-Some-clause-tries g c = record {
+  step = λ script.
+      let running = c.args.running.now in
+      let image = c.args.image.now in
+      let n = running.frames in
+      let m = wedge image script n in
+      let b = state_at g image script running c.args.ram.now in
+      let k = gone g c.before in
+      let e = k.begun script in
+      let held = c.requires.held in
+      let s1 = space g running c.try_native.new.ram c.try_native.new.state in
+      let host0 : IsHost m c.args.ram.now = record { room = held.host.room; text = held.host.text } in
+      let users = others_users m e.wedge_is c.args.ram.now host0 b refl e.room e.bytes e.sound c.eip_fits.ensures (c.native_laws.ensures.text image held.wedge.accepted) e.next c.requires.able in
+      let tries = rw c.in-Ok-Some.field-0-is at (c.in-Ok-Some.ensures.tries m (unheld b) (record { has = refl; over = refl })) in
+      let none = tries.1 (subst (OthersAreUsers (unheld b)) (sym e.start) users) image.sites in
+      let front = front_same n c.args.pool.now c.go.new.pool c.try_native.new.ram c.go.new.ram (g.S.Shadows.frames running.shadows c.try_native.new.ram) (g.S.Shadows.frames c.go.new.running.shadows c.go.new.ram) held.behind (owns c.try_native.ensures.sound.stands_now) c.go.ensures.moved.moves in
+      let ram_is : shown m c.go.new.ram ≡ s1.ram = shown_same m c.try_native.new.ram c.go.new.ram front ∙ sym (k.ram1_is script) in
+      let new = state_of g.S.Shadows.stands g.S.Shadows.frames g.S.Shadows.slots m c.go.new.running c.go.new.ram in
+      let whole = dropping c.in-Ok-Some.worked.dropped s1.set in
+      let left = is_left m new whole c.go.new.running.lost c.go.ensures.left
+      (λ back. all_loosened (ground image n) c.go.new.running.cpu (shown (ground image n) c.go.new.ram) c.go.new.running.cpu.cr3 (g.S.Shadows.noted c.go.new.running.shadows) (g.S.Shadows.slots c.go.new.running.shadows c.go.new.ram)
+      ((ready2 g c).1 back) m (with_set new whole) refl (any_script image script n c.go.new.ram) refl refl) in
+      idle m b c.go.new.running.lost c.in-Ok-Some.worked c.try_native.new.board s1 new (went g c script) c.go.ensures.passes.cpu ram_is c.go.ensures.passes.board c.go.ensures.passes.step left none;
+  before = c.go.ensures.passes.before;
+  carried = λ script steps t unwanted free roomy taken by kept carried.
+      let running = c.args.running.now in
+      let image = c.args.image.now in
+      let k = gone g c.before in
+      let o = c.original in
+      let state1 = c.try_native.new.state in
+      let last = space g running c.try_native.new.ram state1 in
+      let sound = c.try_native.ensures.sound in
+      let pages = sound.noted in
+      let most = sound.few in
+      let mode_is : wedge_mode image ≡ Wedge o.result.first o.result.count no_own = λ i. Wedge (sym o.ensures.first i) (sym o.ensures.count i) no_own in
+      let r = rw c.in-Ok-Some.field-0-is at c.in-Ok-Some.ensures.roots in
+      let bytes = c.are_bytes-in-Ok-Some.ensures in
+      let ram_is : last.ram ≡ shown (ground image running.frames) c.try_native.new.ram = k.ram1_is script ∙ any_script image script running.frames c.try_native.new.ram in
+      let long = bytes.length in
+      let same = ap length ram_is in
+      went_on g.S.Shadows.stands g.S.Shadows.frames g.S.Shadows.slots g.S.Shadows.noted g.S.Shadows.marked g.S.Shadows.value g.S.Shadows.asides g.S.Shadows.opened (widens g) c.known_laws.ensures image script running c.args.pool.now c.args.ram.now c.try_native.new.ram
+      c.requires.held k.a steps t kept free roomy taken by carried last state1.changes refl sound.told c.go.new.running.shadows c.go.new.ram c.go.ensures.opened c.in-Ok-Some.worked c.try_native.new.board (went g c script)
+      (record { through = r.through; load = r.load; all = r.all; page_size = r.page_size }) c.requires.ready (omega (arith, long, same)) (subst AreBytes (sym ram_is) bytes.bytes) (space g running c.args.ram.now c.begin-state.result) c.text_frames-count.result state1.control.frames
+      c.text_frames-count.ensures c.in-Ok-Some.ensures.uses (ap (λ (x : Space). x.visited) c.begin-state.ensures.space) (ap (λ (x : Space). x.mode) c.begin-state.ensures.space ∙ sym mode_is) sound.within (omega (arith, pages, most)) (c.go.ensures.ends unwanted);
+  carried_asked = tt;
+  leaves = record {
+    held =
+        let running = c.args.running.now in
+        let image = c.args.image.now in
+        let n = running.frames in
+        let m = ground image n in
+        let k = gone g c.before in
+        let asides0 = g.S.Shadows.asides running.shadows c.args.ram.now in
+        let asides1 = g.S.Shadows.asides running.shadows c.try_native.new.ram in
+        let opens1 = subst (λ (x : Bool). AllOpen image x asides1) (sym k.wp1) (open_shed image (wp_of running.cpu) asides0 asides1 (same_shed _ _ k.asides1) (ready_open m running.cpu (shown m c.args.ram.now) asides0 c.requires.ready.others)) in
+        let slots2 = g.S.Shadows.slots c.go.new.running.shadows c.go.new.ram in
+        let within2 = within_left n slots2 c.in-Ok-Some.worked.dropped c.go.new.running.lost (changed (entries_of (g.S.Shadows.slots running.shadows c.try_native.new.ram)) c.try_native.new.state.changes) c.go.ensures.left k.within1
+        (λ back. all_within m c.go.new.running.cpu (shown m c.go.new.ram) c.go.new.running.cpu.cr3 (g.S.Shadows.noted c.go.new.running.shadows) slots2 ((ready2 g c).1 back)) in
+        let open2 = c.go.ensures.shows image c.text_frames-count.ensures k.open1 opens1 in
+        let fills = c.go.ensures.counts.fills in
+        let count = c.go.ensures.passes.step in
+        held_then g.S.Shadows.stands g.S.Shadows.frames g.S.Shadows.slots image running (record c.go.new.running { step = running.step + 1 }) c.args.pool.now c.go.new.pool c.args.ram.now c.try_native.new.ram c.go.new.ram c.requires.held k.a (owns c.try_native.ensures.sound.stands_now) c.go.ensures.moved.moves
+        c.go.ensures.moved.stands c.go.ensures.moved.owns c.go.ensures.counts.counted (omega (arith, fills, count)) c.go.ensures.passes.frames within2 (subst (λ (x : Cpu). AreOpen image (wp_of x) slots2) (sym c.go.ensures.passes.cpu) open2);
+    ready = (ready2 g c).0;
+    back = c.go.ensures.wanted;
+    count = c.go.ensures.passes.step;
+    asked = tt;
+    stays = tt;
+  };
+}
 
 -- ---- the host is to do it
 
@@ -251,14 +251,8 @@ module _ (g : Over) (c : goal.After-text_frames g) where
   asked =
       tried_from g.S.Shadows.stands g.S.Shadows.frames g.S.Shadows.slots g.S.Shadows.asides g.met.S.Shadows.above g.met.S.Shadows.same_frames g.met.S.Shadows.same_slots g.met.S.Shadows.same_entries g.met.S.Shadows.same_asides c.args.image.now c.args.running.now c.args.pool.now c.args.ram.now
       c.try_native.new.ram c.begin-state.result c.try_native.new.state c.original.result.first c.original.result.count c.original.result.bytes.now _ c.begin-state.ensures.guard c.original.ensures.first c.original.ensures.count c.original.ensures.bytes (λ m. refl) (λ m. refl) c.requires.held
-      c.begin-state.ensures.space c.begin-state.ensures.frames c.try_native.ensures.control c.try_native.ensures.text c.try_native.ensures.hidden c.try_native.ensures.sound.frames_in c.try_native.ensures.sound.within c.are_bytes.ensures.bytes c.are_bytes.ensures.length c.requires.runs
+      c.begin-state.ensures.space c.begin-state.ensures.frames c.try_native.ensures.stays.0 c.try_native.ensures.stays.1 c.try_native.ensures.stays.2 c.try_native.ensures.sound.frames_in c.try_native.ensures.sound.within c.are_bytes.ensures.bytes c.are_bytes.ensures.length c.requires.runs
       c.eip_fits.ensures
-
-pub keep-requires-clause-counted : goal.keep-requires-clause-counted
-keep-requires-clause-counted g c = (asked g c).counted1
-
-pub keep-requires-clause-few : goal.keep-requires-clause-few
-keep-requires-clause-few g c = (asked g c).few1
 
 module _ (g : Over) (c : goal.After-keep g) where
   abbrev r : Running g.row.S.Denot
@@ -271,7 +265,7 @@ module _ (g : Over) (c : goal.After-keep g) where
   directory = g.S.Shadows.directory c.keep.new.running.shadows
 
   cpu_is : c.keep.new.running.cpu ≡ c.args.running.now.cpu
-  cpu_is = ap (λ (x : Running g.row.S.Denot). x.cpu) c.keep.ensures.same
+  cpu_is = ap (λ (x : Running g.row.S.Denot). x.cpu) c.keep.ensures.same.same
 
   open3 : AreOpen c.args.image.now (wp_of c.args.running.now.cpu) (g.S.Shadows.slots c.keep.new.running.shadows c.keep.new.ram)
   open3 = let k = asked g c.before in subst (λ (x : Bool). AreOpen c.args.image.now x (g.S.Shadows.slots c.keep.new.running.shadows c.keep.new.ram)) k.wp1 (c.keep.ensures.shows c.args.image.now c.text_frames.ensures k.open1)
@@ -306,196 +300,93 @@ module _ (g : Over) (c : goal.After-keep g) where
         may_close c.native_laws.ensures.grants c.native_laws.ensures.again c.native_laws.ensures.completes m e.wedge_is directory b e.room e.bytes e.sound sees e.next c.eip_fits.ensures last p clear r.frames c.text_frames.result (length (free_list c.args.pool.now c.try_native.new.ram))
         c.try_native.new.state.changes c.try_native.ensures.sound.told c.text_frames.ensures k.within1 (omega (arith, free, room))
 
-pub returns-in-Ok-None-clause-pool : goal.returns-in-Ok-None-clause-pool
-returns-in-Ok-None-clause-pool g c =
-    keeps_then g.S.Shadows.stands g.S.Shadows.frames g.S.Shadows.slots c.args.image.now c.args.running.now c.keep.new.running c.args.pool.now c.keep.new.pool c.args.ram.now c.try_native.new.ram c.keep.new.ram c.requires.held (asked g c.before).a c.keep.ensures.moves
+pub returns-in-Ok-None-clause-accounts : goal.returns-in-Ok-None-clause-accounts
+returns-in-Ok-None-clause-accounts g c = record {
+  stands = c.keep.ensures.moved.stands;
+  counted = c.keep.ensures.counts.counted;
+  pool = keeps_then g.S.Shadows.stands g.S.Shadows.frames g.S.Shadows.slots c.args.image.now c.args.running.now c.keep.new.running c.args.pool.now c.keep.new.pool c.args.ram.now c.try_native.new.ram c.keep.new.ram c.requires.held (asked g c.before).a c.keep.ensures.moved.moves;
+  filled = fills_join _ _ _ _ _ _ (filled_from g c.args.image.now c.args.running.now c.args.pool.now c.args.ram.now c.try_native.new.ram c.begin-state.result c.try_native.new.state (asked g c.before)) c.keep.ensures.counts.filled;
+  frames = ap (λ (x : Running g.row.S.Denot). x.frames) c.keep.ensures.same.same;
+}
 
-pub returns-in-Ok-None-clause-filled : goal.returns-in-Ok-None-clause-filled
-returns-in-Ok-None-clause-filled g c =
-    fills_join _ _ _ _ _ _ (filled_from g c.args.image.now c.args.running.now c.args.pool.now c.args.ram.now c.try_native.new.ram c.begin-state.result c.try_native.new.state (asked g c.before)) c.keep.ensures.filled
+pub returns-in-Ok-None-clause-tries : goal.returns-in-Ok-None-clause-tries
+returns-in-Ok-None-clause-tries g c = record {
+  step = λ script.
+      let running = c.args.running.now in
+      let image = c.args.image.now in
+      let n = running.frames in
+      let m0 = m g c script in
+      let t = last g c in
+      let k = asked g c.before in
+      let held = c.requires.held in
+      let changes = c.try_native.new.state.changes in
+      let ram1 = c.try_native.new.ram in
+      let new = c.keep.new.running in
+      let ram3 = c.keep.new.ram in
+      let side = side_of (running.cpu.cpl == 3) in
+      let slots1 = g.S.Shadows.slots running.shadows ram1 in
+      let slots3 = g.S.Shadows.slots new.shadows ram3 in
+      let kept_all = c.keep.ensures.whole (may g c script) in
+      let closes = subst (λ (x : Bool). Closes slots1 slots3 t.set (pages_of t.visited changes) side x (g.S.Shadows.tracked new.shadows) t.wrote) k.wp1 kept_all.1 in
+      let front = front_same n c.args.pool.now c.keep.new.pool ram1 ram3 (g.S.Shadows.frames running.shadows ram1) (g.S.Shadows.frames new.shadows ram3) held.behind (owns c.try_native.ensures.sound.stands_now) c.keep.ensures.moved.moves in
+      let ram_is : shown m0 ram3 ≡ t.ram = shown_same m0 ram1 ram3 front ∙ sym (k.ram1_is script) in
+      let size : length ram3 ≡ length c.args.ram.now = c.keep.ensures.moved.moves.size ∙ k.a.left.size in
+      let pages_of_ram : 4096 * (length ram3 / 4096) ≡ length ram3 = (let h = held.whole in omega (arith, size, h)) in
+      let roomy : 4096 * n ≤ length ram3 = (let h = held.host.room in omega (arith, size, h)) in
+      let host = λ (page : ℕ) (write : Bool) (lt : page < 2 ^ 20). g.met.S.Shadows.host new.shadows ram3 (length ram3 / 4096) side page write c.keep.ensures.moved.stands pages_of_ram lt in
+      let beyond = λ (page : ℕ) (le : 2 ^ 20 ≤ page). ap (λ (set : FinMap nat_cmp Entry). get set page) (sym closes.entries) ∙ g.met.S.Shadows.none_beyond new.shadows ram3 page le in
+      let within = λ (page : ℕ) (entry : Entry) (is : get t.set page ≡ Some entry). let lt : entry.frame < n = (k.within1 page entry is).1 in let below : entry.frame < length ram3 / 4096 = omega (arith, lt, roomy) in below in
+      let text = text_within image in
+      let fits = held.wedge.room in
+      let host3 : IsHost m0 ram3 = host_same m0 ram1 ram3 (omega (arith, fits, text)) c.keep.ensures.moved.moves.size front (host_left m0 (text_pages image) c.args.ram.now ram1 text k.a.left (record { room = held.host.room; text = held.host.text })) in
+      let lends = subst (λ (x : Bool). Lends m0 ram3 (directory g c side) x (wp_of running.cpu) t.set) (side_is running.cpu)
+      (c.native_laws.ensures.lends m0 ram3 (directory g c side) side (wp_of running.cpu) slots3 t.set host (λ page lt. g.met.S.Shadows.entry_at new.shadows ram3 page lt) (subst (λ (set : FinMap nat_cmp Entry). AreWithin n set) (sym closes.entries) k.within1) (open3 g c)
+      (part_same (entries_of slots3) t.set closes.entries)) in
+      let state_is : state_of g.S.Shadows.stands g.S.Shadows.frames g.S.Shadows.slots m0 new ram3 ≡ again.settled (b g c script) t =
+      λ i. record { cpu = cpu_is g c i; ram = ram_is i; set = closes.entries i; board = (ap (λ (x : Running g.row.S.Denot). x.board) c.keep.ensures.same.same ∙ (prepared g c script).0) i; step = ap (λ (x : Running g.row.S.Denot). x.step) c.keep.ensures.same.same i } in
+      let begun = e g c script in
+      asks c.native_laws.ensures.grants c.native_laws.ensures.again c.native_laws.ensures.completes m0 begun.wedge_is (directory g c) (b g c script) begun.room begun.bytes begun.sound (sees g c) begun.next c.eip_fits.ensures t (p g c script) (clear g c script) slots1 slots3 changes (g.S.Shadows.tracked new.shadows) ram3 closes
+      beyond host within (record { host = host3; ram = sym ram_is; sees = sees g c }) lends new.lost (kept_all.0, c.keep.ensures.same.back ∙ c.requires.kept) (state_of g.S.Shadows.stands g.S.Shadows.frames g.S.Shadows.slots m0 new ram3) state_is;
+  before = c.keep.ensures.same.before;
+  carried = tt;
+  carried_asked = λ script steps t unwanted free roomy taken by load rules set long bytes kept carried.
+      let begun = e g c script in
+      let noted = reports c.native_laws.ensures.grants c.native_laws.ensures.again c.native_laws.ensures.completes (m g c script) begun.wedge_is (directory g c) (b g c script) begun.room begun.bytes begun.sound (sees g c) begun.next c.eip_fits.ensures (last g c) (p g c script) (clear g c script) t.report t.after
+      (sym (ap (λ (x : Set). stepped (m g c script) (with_set (b g c script) x)) by) ∙ taken.stepped) in
+      asked_on g.S.Shadows.stands g.S.Shadows.frames g.S.Shadows.slots g.S.Shadows.noted g.S.Shadows.marked g.S.Shadows.value g.S.Shadows.asides g.S.Shadows.opened (widens g) c.known_laws.ensures c.args.image.now script c.args.running.now c.args.pool.now c.args.ram.now c.try_native.new.ram
+      c.requires.held (asked g c.before).a steps t kept free roomy taken by carried (last g c) c.try_native.new.state.changes refl c.try_native.ensures.sound.told c.keep.new.running.shadows c.keep.new.ram c.keep.ensures.opened noted.0 noted.1 noted.2 load rules set long bytes
+      (c.keep.ensures.told.tells (c.keep.ensures.whole (may g c script)).0);
+  leaves = record {
+    held =
+        let running = c.args.running.now in
+        let image = c.args.image.now in
+        let k = asked g c.before in
+        let new = c.keep.new.running in
+        let fills = c.keep.ensures.counts.fills in
+        let before = c.requires.held.fills in
+        held_then g.S.Shadows.stands g.S.Shadows.frames g.S.Shadows.slots image running (record new { step = running.step + 1 }) c.args.pool.now c.keep.new.pool c.args.ram.now c.try_native.new.ram c.keep.new.ram c.requires.held k.a (owns c.try_native.ensures.sound.stands_now) c.keep.ensures.moved.moves
+        c.keep.ensures.moved.stands c.keep.ensures.moved.owns c.keep.ensures.counts.counted (omega (arith, fills, before)) (ap (λ (x : Running g.row.S.Denot). x.frames) c.keep.ensures.same.same)
+        (part_within running.frames _ (changed (entries_of (g.S.Shadows.slots running.shadows c.try_native.new.ram)) c.try_native.new.state.changes) (part_left _ _ _ c.keep.ensures.left) k.within1)
+        (subst (λ (x : Cpu). AreOpen image (wp_of x) (g.S.Shadows.slots new.shadows c.keep.new.ram)) (sym (cpu_is g c)) (open3 g c));
+    ready =
+        let running = c.args.running.now in
+        let image = c.args.image.now in
+        let m0 = ground image running.frames in
+        let k = asked g c.before in
+        let behind1 = followed_ready g.S.Shadows.slots g.S.Shadows.noted g.S.Shadows.marked g.S.Shadows.value g.S.Shadows.asides image running.frames (b g c []) running.shadows c.args.ram.now c.try_native.new.ram
+        (steps_from g image running c.args.pool.now c.args.ram.now c.try_native.new.ram c.begin-state.result c.try_native.new.state c.requires.held k) c.requires.ready (λ page. false) (last g c) (last g c).set
+        (prepared_follows c.native_laws.ensures.on c.native_laws.ensures.fetched c.native_laws.ensures.ranges (unheld (b g c [])) _ (last g c) (p g c [])) (k.ram1_is []) refl in
+        subst (λ (x : Cpu). IsReady g.S.Shadows.slots g.S.Shadows.noted g.S.Shadows.marked g.S.Shadows.value g.S.Shadows.asides m0 x c.keep.new.running.shadows c.keep.new.ram) (sym (cpu_is g c)) (c.keep.ensures.ready (λ page. false) m0 running.cpu (sym k.frames1) behind1);
+    back = λ w. c.keep.ensures.same.back ∙ c.requires.kept;
+    count = tt;
+    asked =
+        let new = c.keep.new.running in
+        c.keep.ensures.same.same ∙ (λ i. record c.args.running.now { board = (prepared g c []).0 i; shadows = new.shadows; held = new.held; fills = new.fills; lost = new.lost });
+    stays = tt;
+  };
+}
 
-pub returns-in-Ok-None-clause-asked : goal.returns-in-Ok-None-clause-asked
-returns-in-Ok-None-clause-asked g c =
-    let new = c.keep.new.running in
-    c.keep.ensures.same ∙ (λ i. record c.args.running.now { board = (prepared g c []).0 i; shadows = new.shadows; held = new.held; fills = new.fills; lost = new.lost })
-
-pub returns-in-Ok-None-clause-held : goal.returns-in-Ok-None-clause-held
-returns-in-Ok-None-clause-held g c =
-    let running = c.args.running.now in
-    let image = c.args.image.now in
-    let k = asked g c.before in
-    let new = c.keep.new.running in
-    let fills = c.keep.ensures.fills in
-    let before = c.requires.held.fills in
-    held_then g.S.Shadows.stands g.S.Shadows.frames g.S.Shadows.slots image running (record new { step = running.step + 1 }) c.args.pool.now c.keep.new.pool c.args.ram.now c.try_native.new.ram c.keep.new.ram c.requires.held k.a (owns c.try_native.ensures.sound.stands_now) c.keep.ensures.moves
-    c.keep.ensures.stands c.keep.ensures.owns c.keep.ensures.counted (omega (arith, fills, before)) (ap (λ (x : Running g.row.S.Denot). x.frames) c.keep.ensures.same)
-    (part_within running.frames _ (changed (entries_of (g.S.Shadows.slots running.shadows c.try_native.new.ram)) c.try_native.new.state.changes) (part_left _ _ _ c.keep.ensures.left) k.within1)
-    (subst (λ (x : Cpu). AreOpen image (wp_of x) (g.S.Shadows.slots new.shadows c.keep.new.ram)) (sym (cpu_is g c)) (open3 g c))
-
-pub returns-in-Ok-None-clause-ready : goal.returns-in-Ok-None-clause-ready
-returns-in-Ok-None-clause-ready g c =
-    let running = c.args.running.now in
-    let image = c.args.image.now in
-    let m0 = ground image running.frames in
-    let k = asked g c.before in
-    let behind1 = followed_ready g.S.Shadows.slots g.S.Shadows.noted g.S.Shadows.marked g.S.Shadows.value g.S.Shadows.asides image running.frames (b g c []) running.shadows c.args.ram.now c.try_native.new.ram
-    (steps_from g image running c.args.pool.now c.args.ram.now c.try_native.new.ram c.begin-state.result c.try_native.new.state c.requires.held k) c.requires.ready (λ page. false) (last g c) (last g c).set
-    (prepared_follows c.native_laws.ensures.on c.native_laws.ensures.fetched c.native_laws.ensures.ranges (unheld (b g c [])) _ (last g c) (p g c [])) (k.ram1_is []) refl in
-    subst (λ (x : Cpu). IsReady g.S.Shadows.slots g.S.Shadows.noted g.S.Shadows.marked g.S.Shadows.value g.S.Shadows.asides m0 x c.keep.new.running.shadows c.keep.new.ram) (sym (cpu_is g c)) (c.keep.ensures.ready (λ page. false) m0 running.cpu (sym k.frames1) behind1)
-
-pub returns-in-Ok-None-clause-step : goal.returns-in-Ok-None-clause-step
-returns-in-Ok-None-clause-step g c = λ script.
-    let running = c.args.running.now in
-    let image = c.args.image.now in
-    let n = running.frames in
-    let m0 = m g c script in
-    let t = last g c in
-    let k = asked g c.before in
-    let held = c.requires.held in
-    let changes = c.try_native.new.state.changes in
-    let ram1 = c.try_native.new.ram in
-    let new = c.keep.new.running in
-    let ram3 = c.keep.new.ram in
-    let side = side_of (running.cpu.cpl == 3) in
-    let slots1 = g.S.Shadows.slots running.shadows ram1 in
-    let slots3 = g.S.Shadows.slots new.shadows ram3 in
-    let kept_all = c.keep.ensures.whole (may g c script) in
-    let closes = subst (λ (x : Bool). Closes slots1 slots3 t.set (pages_of t.visited changes) side x (g.S.Shadows.tracked new.shadows) t.wrote) k.wp1 kept_all.1 in
-    let front = front_same n c.args.pool.now c.keep.new.pool ram1 ram3 (g.S.Shadows.frames running.shadows ram1) (g.S.Shadows.frames new.shadows ram3) held.behind (owns c.try_native.ensures.sound.stands_now) c.keep.ensures.moves in
-    let ram_is : shown m0 ram3 ≡ t.ram = shown_same m0 ram1 ram3 front ∙ sym (k.ram1_is script) in
-    let size : length ram3 ≡ length c.args.ram.now = c.keep.ensures.moves.size ∙ k.a.left.size in
-    let pages_of_ram : 4096 * (length ram3 / 4096) ≡ length ram3 = (let h = held.whole in omega (arith, size, h)) in
-    let roomy : 4096 * n ≤ length ram3 = (let h = held.host.room in omega (arith, size, h)) in
-    let host = λ (page : ℕ) (write : Bool) (lt : page < 2 ^ 20). g.met.S.Shadows.host new.shadows ram3 (length ram3 / 4096) side page write c.keep.ensures.stands pages_of_ram lt in
-    let beyond = λ (page : ℕ) (le : 2 ^ 20 ≤ page). ap (λ (set : FinMap nat_cmp Entry). get set page) (sym closes.entries) ∙ g.met.S.Shadows.none_beyond new.shadows ram3 page le in
-    let within = λ (page : ℕ) (entry : Entry) (is : get t.set page ≡ Some entry). let lt : entry.frame < n = (k.within1 page entry is).1 in let below : entry.frame < length ram3 / 4096 = omega (arith, lt, roomy) in below in
-    let text = text_within image in
-    let fits = held.wedge.room in
-    let host3 : IsHost m0 ram3 = host_same m0 ram1 ram3 (omega (arith, fits, text)) c.keep.ensures.moves.size front (host_left m0 (text_pages image) c.args.ram.now ram1 text k.a.left (record { room = held.host.room; text = held.host.text })) in
-    let lends = subst (λ (x : Bool). Lends m0 ram3 (directory g c side) x (wp_of running.cpu) t.set) (side_is running.cpu)
-    (c.native_laws.ensures.lends m0 ram3 (directory g c side) side (wp_of running.cpu) slots3 t.set host (λ page lt. g.met.S.Shadows.entry_at new.shadows ram3 page lt) (subst (λ (set : FinMap nat_cmp Entry). AreWithin n set) (sym closes.entries) k.within1) (open3 g c)
-    (part_same (entries_of slots3) t.set closes.entries)) in
-    let state_is : state_of g.S.Shadows.stands g.S.Shadows.frames g.S.Shadows.slots m0 new ram3 ≡ again.settled (b g c script) t =
-    λ i. record { cpu = cpu_is g c i; ram = ram_is i; set = closes.entries i; board = (ap (λ (x : Running g.row.S.Denot). x.board) c.keep.ensures.same ∙ (prepared g c script).0) i; step = ap (λ (x : Running g.row.S.Denot). x.step) c.keep.ensures.same i } in
-    let begun = e g c script in
-    asks c.native_laws.ensures.grants c.native_laws.ensures.again c.native_laws.ensures.completes m0 begun.wedge_is (directory g c) (b g c script) begun.room begun.bytes begun.sound (sees g c) begun.next c.eip_fits.ensures t (p g c script) (clear g c script) slots1 slots3 changes (g.S.Shadows.tracked new.shadows) ram3 closes
-    beyond host within (record { host = host3; ram = sym ram_is; sees = sees g c }) lends new.lost (kept_all.0, c.keep.ensures.back ∙ c.requires.kept) (state_of g.S.Shadows.stands g.S.Shadows.frames g.S.Shadows.slots m0 new ram3) state_is
-
-pub returns-in-Ok-None-clause-carried_asked : goal.returns-in-Ok-None-clause-carried_asked
-returns-in-Ok-None-clause-carried_asked g c = λ script steps t unwanted free roomy taken by load rules set long bytes kept carried.
-    let begun = e g c script in
-    let noted = reports c.native_laws.ensures.grants c.native_laws.ensures.again c.native_laws.ensures.completes (m g c script) begun.wedge_is (directory g c) (b g c script) begun.room begun.bytes begun.sound (sees g c) begun.next c.eip_fits.ensures (last g c) (p g c script) (clear g c script) t.report t.after
-    (sym (ap (λ (x : Set). stepped (m g c script) (with_set (b g c script) x)) by) ∙ taken.stepped) in
-    asked_on g.S.Shadows.stands g.S.Shadows.frames g.S.Shadows.slots g.S.Shadows.noted g.S.Shadows.marked g.S.Shadows.value g.S.Shadows.asides g.S.Shadows.opened (widens g) c.known_laws.ensures c.args.image.now script c.args.running.now c.args.pool.now c.args.ram.now c.try_native.new.ram
-    c.requires.held (asked g c.before).a steps t kept free roomy taken by carried (last g c) c.try_native.new.state.changes refl c.try_native.ensures.sound.told c.keep.new.running.shadows c.keep.new.ram c.keep.ensures.opened noted.0 noted.1 noted.2 load rules set long bytes
-    (c.keep.ensures.told (c.keep.ensures.whole (may g c script)).0)
-
--- ---- what else is said of each end
-
-pub returns-in-Err-clause-held : goal.returns-in-Err-clause-held
-returns-in-Err-clause-held g c = tt
-
-pub returns-in-Err-clause-ready : goal.returns-in-Err-clause-ready
-returns-in-Err-clause-ready g c = tt
-
-pub returns-in-Err-clause-wanted : goal.returns-in-Err-clause-wanted
-returns-in-Err-clause-wanted g c = tt
-
-pub returns-in-Err-clause-carried : goal.returns-in-Err-clause-carried
-returns-in-Err-clause-carried g c = tt
-
-pub returns-in-Err-clause-carried_asked : goal.returns-in-Err-clause-carried_asked
-returns-in-Err-clause-carried_asked g c = tt
-
-pub returns-in-Err-clause-count : goal.returns-in-Err-clause-count
-returns-in-Err-clause-count g c = tt
-
-pub returns-in-Err-clause-stays : goal.returns-in-Err-clause-stays
-returns-in-Err-clause-stays g c = refl
-
-pub returns-in-Err-clause-unfilled : goal.returns-in-Err-clause-unfilled
-returns-in-Err-clause-unfilled g c = refl
-
-pub returns-in-Err-clause-before : goal.returns-in-Err-clause-before
-returns-in-Err-clause-before g c = refl
-
-pub returns-in-Err-clause-asked : goal.returns-in-Err-clause-asked
-returns-in-Err-clause-asked g c = tt
-
-pub returns-in-Err-clause-frames : goal.returns-in-Err-clause-frames
-returns-in-Err-clause-frames g c = refl
-
-pub returns-in-Ok-Some-clause-wanted : goal.returns-in-Ok-Some-clause-wanted
-returns-in-Ok-Some-clause-wanted g c = c.go.ensures.wanted
-
-pub returns-in-Ok-Some-clause-carried_asked : goal.returns-in-Ok-Some-clause-carried_asked
-returns-in-Ok-Some-clause-carried_asked g c = tt
-
-pub returns-in-Ok-Some-clause-count : goal.returns-in-Ok-Some-clause-count
-returns-in-Ok-Some-clause-count g c = c.go.ensures.step
-
-pub returns-in-Ok-Some-clause-stays : goal.returns-in-Ok-Some-clause-stays
-returns-in-Ok-Some-clause-stays g c = tt
-
-pub returns-in-Ok-Some-clause-unfilled : goal.returns-in-Ok-Some-clause-unfilled
-returns-in-Ok-Some-clause-unfilled g c = tt
-
-pub returns-in-Ok-Some-clause-before : goal.returns-in-Ok-Some-clause-before
-returns-in-Ok-Some-clause-before g c = c.go.ensures.before
-
-pub returns-in-Ok-Some-clause-asked : goal.returns-in-Ok-Some-clause-asked
-returns-in-Ok-Some-clause-asked g c = tt
-
-pub returns-in-Ok-Some-clause-counted : goal.returns-in-Ok-Some-clause-counted
-returns-in-Ok-Some-clause-counted g c = c.go.ensures.counted
-
-pub returns-in-Ok-Some-clause-stands : goal.returns-in-Ok-Some-clause-stands
-returns-in-Ok-Some-clause-stands g c = c.go.ensures.stands
-
-pub returns-in-Ok-Some-clause-frames : goal.returns-in-Ok-Some-clause-frames
-returns-in-Ok-Some-clause-frames g c = c.go.ensures.frames
-
-pub returns-in-Ok-None-clause-wanted : goal.returns-in-Ok-None-clause-wanted
-returns-in-Ok-None-clause-wanted g c = λ w. c.keep.ensures.back ∙ c.requires.kept
-
-pub returns-in-Ok-None-clause-carried : goal.returns-in-Ok-None-clause-carried
-returns-in-Ok-None-clause-carried g c = tt
-
-pub returns-in-Ok-None-clause-count : goal.returns-in-Ok-None-clause-count
-returns-in-Ok-None-clause-count g c = tt
-
-pub returns-in-Ok-None-clause-stays : goal.returns-in-Ok-None-clause-stays
-returns-in-Ok-None-clause-stays g c = tt
-
-pub returns-in-Ok-None-clause-unfilled : goal.returns-in-Ok-None-clause-unfilled
-returns-in-Ok-None-clause-unfilled g c = tt
-
-pub returns-in-Ok-None-clause-before : goal.returns-in-Ok-None-clause-before
-returns-in-Ok-None-clause-before g c = c.keep.ensures.before
-
-pub returns-in-Ok-None-clause-counted : goal.returns-in-Ok-None-clause-counted
-returns-in-Ok-None-clause-counted g c = c.keep.ensures.counted
-
-pub returns-in-Ok-None-clause-stands : goal.returns-in-Ok-None-clause-stands
-returns-in-Ok-None-clause-stands g c = c.keep.ensures.stands
-
-pub returns-in-Ok-None-clause-frames : goal.returns-in-Ok-None-clause-frames
-returns-in-Ok-None-clause-frames g c = ap (λ (x : Running g.row.S.Denot). x.frames) c.keep.ensures.same
-
-pub go-requires-clause-sound : goal.go-requires-clause-sound
-go-requires-clause-sound g c = c.try_native.ensures.sound
-
-pub go-requires-clause-fills : goal.go-requires-clause-fills
-go-requires-clause-fills g c = c.requires.held.fills
-
-pub go-requires-clause-bound : goal.go-requires-clause-bound
-go-requires-clause-bound g c = c.requires.bound
-
-pub go-requires-clause-page : goal.go-requires-clause-page
-go-requires-clause-page g c = rw c.in-Ok-Some.field-0-is at c.in-Ok-Some.ensures.dropped
-
-pub keep-requires-clause-sound : goal.keep-requires-clause-sound
-keep-requires-clause-sound g c = c.try_native.ensures.sound
+-- ---- what the calls ask for
 
 pub keep-requires-clause-fills : goal.keep-requires-clause-fills
 keep-requires-clause-fills g c = let f = c.requires.held.fills in let b = c.requires.bound in omega (arith, f, b)
@@ -511,3 +402,15 @@ try_native-requires-clause-sound g c = c.begin-state.ensures.sound
 
 pub try_native-requires-clause-pages : goal.try_native-requires-clause-pages
 try_native-requires-clause-pages g c = c.begin-state.ensures.pages
+
+pub go-requires-clause-under : goal.go-requires-clause-under
+go-requires-clause-under g c = record { sound = c.try_native.ensures.sound; counted = (gone g c).counted1; few = (gone g c).few1 }
+
+pub go-requires-clause-counts : goal.go-requires-clause-counts
+go-requires-clause-counts g c = record { fills = c.requires.held.fills; bound = c.requires.bound; enough = (let free = ap length (gone g c).a.free_same in let room = c.requires.room in omega (arith, free, room)) }
+
+pub go-requires-clause-worked : goal.go-requires-clause-worked
+go-requires-clause-worked g c = record { page = rw c.in-Ok-Some.field-0-is at c.in-Ok-Some.ensures.dropped; rules = (gone g c).wp1 }
+
+pub keep-requires-clause-under : goal.keep-requires-clause-under
+keep-requires-clause-under g c = record { sound = c.try_native.ensures.sound; counted = (asked g c).counted1; few = (asked g c).few1 }

@@ -69,29 +69,11 @@ returns-in-Done-clause-sound g c = c.in_ok-reach_both.ensures.sound
 pub returns-in-Done-clause-pages : goal.returns-in-Done-clause-pages
 returns-in-Done-clause-pages g c = c.in_ok-reach_both.ensures.pages
 
-pub returns-in-Done-clause-control : goal.returns-in-Done-clause-control
-returns-in-Done-clause-control g c = c.in_ok-reach_both.ensures.control
-
-pub returns-in-Done-clause-guard : goal.returns-in-Done-clause-guard
-returns-in-Done-clause-guard g c = c.in_ok-reach_both.ensures.guard
-
-pub returns-in-Done-clause-hidden : goal.returns-in-Done-clause-hidden
-returns-in-Done-clause-hidden g c = c.in_ok-reach_both.ensures.hidden
-
 pub returns-in-Raise-clause-sound : goal.returns-in-Raise-clause-sound
 returns-in-Raise-clause-sound g c = c.in_ok-reach_both.ensures.sound
 
 pub returns-in-Raise-clause-pages : goal.returns-in-Raise-clause-pages
 returns-in-Raise-clause-pages g c = c.in_ok-reach_both.ensures.pages
-
-pub returns-in-Raise-clause-control : goal.returns-in-Raise-clause-control
-returns-in-Raise-clause-control g c = c.in_ok-reach_both.ensures.control
-
-pub returns-in-Raise-clause-guard : goal.returns-in-Raise-clause-guard
-returns-in-Raise-clause-guard g c = c.in_ok-reach_both.ensures.guard
-
-pub returns-in-Raise-clause-hidden : goal.returns-in-Raise-clause-hidden
-returns-in-Raise-clause-hidden g c = c.in_ok-reach_both.ensures.hidden
 
 pub returns-in-Stop-clause-sound : goal.returns-in-Stop-clause-sound
 returns-in-Stop-clause-sound g c = c.in_ok-reach_both.ensures.sound
@@ -99,11 +81,11 @@ returns-in-Stop-clause-sound g c = c.in_ok-reach_both.ensures.sound
 pub returns-in-Stop-clause-pages : goal.returns-in-Stop-clause-pages
 returns-in-Stop-clause-pages g c = c.in_ok-reach_both.ensures.pages
 
-pub returns-in-Stop-clause-control : goal.returns-in-Stop-clause-control
-returns-in-Stop-clause-control g c = c.in_ok-reach_both.ensures.control
+pub returns-in-Done-clause-stays : goal.returns-in-Done-clause-stays
+returns-in-Done-clause-stays g c = let e = c.in_ok-reach_both.ensures in (e.control, e.guard, e.hidden)
 
-pub returns-in-Stop-clause-guard : goal.returns-in-Stop-clause-guard
-returns-in-Stop-clause-guard g c = c.in_ok-reach_both.ensures.guard
+pub returns-in-Raise-clause-stays : goal.returns-in-Raise-clause-stays
+returns-in-Raise-clause-stays g c = let e = c.in_ok-reach_both.ensures in (e.control, e.guard, e.hidden)
 
-pub returns-in-Stop-clause-hidden : goal.returns-in-Stop-clause-hidden
-returns-in-Stop-clause-hidden g c = c.in_ok-reach_both.ensures.hidden
+pub returns-in-Stop-clause-stays : goal.returns-in-Stop-clause-stays
+returns-in-Stop-clause-stays g c = let e = c.in_ok-reach_both.ensures in (e.control, e.guard, e.hidden)

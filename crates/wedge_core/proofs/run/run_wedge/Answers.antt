@@ -2,16 +2,27 @@ use Rattle.std.proofs.Common.{◌≡◌, ℕ, ◌+◌, [], length, sym, subst, �
 use Rattle.frame_pool.specs.Pool.{free_list}
 use Rattle.shadow_cache.specs.Views as roots
 use Rattle.machine_model.specs.State.{boot, wedge}
-use Rattle.wedge_core.specs.Promises.{WedgeAnswers}
+use Rattle.wedge_core.proofs.AnsweredBy.{WedgeAnswers}
 use Rattle.wedge_core.specs.Slices.{Counts}
 use Rattle.wedge_step.specs.Ready.{IsReady}
 use Rattle.wedge_step.specs.Standing.{IsHeld, ground, state_of}
 use Rattle.wedge_core.proofs.run.run_wedge.Goals as goal
 
-pub whole-requires-clause-held : goal.whole-requires-clause-held
-whole-requires-clause-held g c =
-    let b = c.in-Ok.ensures.started.4 [] in
-    subst (λ (f : ℕ). IsHeld roots.stands roots.frames roots.slots (ground c.args.image.now f) c.in-Ok.guest.running c.in-Ok.pool (g.H.Host.bytes c.start.new.host)) (sym b.held.frames_are) b.held
+pub whole-requires-clause-between : goal.whole-requires-clause-between
+whole-requires-clause-between g c = record {
+  held =
+      let b = c.in-Ok.ensures.started.4 [] in
+      subst (λ (f : ℕ). IsHeld roots.stands roots.frames roots.slots (ground c.args.image.now f) c.in-Ok.guest.running c.in-Ok.pool (g.H.Host.bytes c.start.new.host)) (sym b.held.frames_are) b.held;
+  ready =
+      let b = c.in-Ok.ensures.started.4 [] in
+      subst (λ (f : ℕ). IsReady roots.slots roots.noted roots.marked roots.value roots.asides (ground c.args.image.now f) c.in-Ok.guest.running.cpu c.in-Ok.guest.running.shadows (g.H.Host.bytes c.start.new.host)) (sym b.held.frames_are) c.in-Ok.ensures.ready;
+  enough =
+      let b = c.in-Ok.ensures.started.4 [] in
+      let all = b.all in
+      let count = c.in-Ok.ensures.started.3 in
+      let pool = c.requires.pool in
+      omega (arith, all, count, pool);
+}
 
 pub whole-requires-clause-able : goal.whole-requires-clause-able
 whole-requires-clause-able g c = let b = c.in-Ok.ensures.started.4 [] in b.able
@@ -28,14 +39,6 @@ whole-requires-clause-first g c =
     let b = c.in-Ok.ensures.started.4 c.args.script.now.list in
     subst (λ (f : ℕ). state_of roots.stands roots.frames roots.slots (wedge c.args.image.now c.args.script.now.list f) c.in-Ok.guest.running (g.H.Host.bytes c.start.new.host) ≡ boot (wedge c.args.image.now c.args.script.now.list f)) (sym b.held.frames_are) b.state
 
-pub whole-requires-clause-enough : goal.whole-requires-clause-enough
-whole-requires-clause-enough g c =
-    let b = c.in-Ok.ensures.started.4 [] in
-    let all = b.all in
-    let count = c.in-Ok.ensures.started.3 in
-    let pool = c.requires.pool in
-    omega (arith, all, count, pool)
-
 pub returns-in-Ok : goal.returns-in-Ok
 returns-in-Ok g c =
     let b = c.in-Ok.ensures.started.4 [] in
@@ -49,16 +52,11 @@ returns-in-Ok g c =
     let of_pool = subst (λ (p : ℕ). WedgeAnswers image script c.args.frames c.args.n p (g.O.Sink.taken c.args.out.now) (g.O.Sink.taken c.whole.new.out) (g.O.Sink.faults c.args.out.now) (g.O.Sink.faults c.whole.new.out) begun after (g.H.Host.bytes c.whole.new.host) c.whole.result) (b.all ∙ count) here in
     record {
       run = subst (λ (x : Counts). WedgeAnswers image script c.args.frames c.args.n c.args.pool (g.O.Sink.taken c.args.out.now) (g.O.Sink.taken c.whole.new.out) (g.O.Sink.faults c.args.out.now) (g.O.Sink.faults c.whole.new.out) x after (g.H.Host.bytes c.whole.new.host) c.whole.result)
-          (λ i. record { retired = c.start.ensures.retired i; passed = c.start.ensures.passed i }) of_pool;
+          (λ i. record { retired = c.start.ensures.counts.retired i; passed = c.start.ensures.counts.passed i }) of_pool;
     }
 
 pub whole-requires-clause-unfilled : goal.whole-requires-clause-unfilled
 whole-requires-clause-unfilled g c = let b = c.in-Ok.ensures.started.4 [] in b.fills
-
-pub whole-requires-clause-ready : goal.whole-requires-clause-ready
-whole-requires-clause-ready g c =
-    let b = c.in-Ok.ensures.started.4 [] in
-    subst (λ (f : ℕ). IsReady roots.slots roots.noted roots.marked roots.value roots.asides (ground c.args.image.now f) c.in-Ok.guest.running.cpu c.in-Ok.guest.running.shadows (g.H.Host.bytes c.start.new.host)) (sym b.held.frames_are) c.in-Ok.ensures.ready
 
 pub whole-requires-clause-none : goal.whole-requires-clause-none
 whole-requires-clause-none g c =

@@ -22,7 +22,8 @@ use Rattle.machine_step.specs.Worked.{whats}
 use Rattle.wedge_step.specs.declared.running.Running.{Running}
 use Rattle.wedge_core.specs.Noted.{NotesOn, emptied_if, notes_then}
 use Rattle.wedge_step.specs.Pools.{Keeps}
-use Rattle.wedge_core.specs.Slices.{Counts, SliceAs}
+use Rattle.wedge_core.specs.Slices.{Counts}
+use Rattle.wedge_core.proofs.SlicedBy.{SliceAs}
 use Rattle.wedge_step.specs.Ready.{IsReady}
 use Rattle.wedge_step.specs.Standing.{IsHeld, IsAble, ground, state_of}
 use Rattle.wedge_core.specs.Stepping.{Passes, StepAs}
@@ -77,8 +78,8 @@ loop-running-init g c =
           (notes_on_none (g.L.Notes.wants c.args.notes.now) (g.L.Notes.tells c.args.notes.now)) (omega arith)
           (λ s. with_kept g.S.Shadows.stands g.S.Shadows.frames g.S.Shadows.slots g.S.Shadows.noted g.S.Shadows.marked g.S.Shadows.asides g.S.Shadows.opened m c.args.running.now.shadows (g.H.Host.bytes c.args.host.now) []
           (state_of g.S.Shadows.stands g.S.Shadows.frames g.S.Shadows.slots m c.args.running.now (g.H.Host.bytes c.args.host.now)) s.0);
-      held = c.requires.held;
-      ready = c.requires.ready;
+      held = c.requires.between.held;
+      ready = c.requires.between.ready;
       able = c.requires.able;
       pool = keeps_same c.args.pool.now (g.H.Host.bytes c.args.host.now) (g.S.Shadows.frames c.args.running.now.shadows (g.H.Host.bytes c.args.host.now));
       filled = fills_same _ _ c.args.running.now.fills refl;
@@ -112,55 +113,53 @@ loop-running-preserved-then-stretch-gt0 g c =
     let then_memory = g.H.Host.bytes c.stretch.new.host in
     let mid_counts = counted (g.H.Host.retired c.stretch.new.host) (g.H.Host.passed c.stretch.new.host) in
     let passes = subst (λ (n : ℕ). Passes (wedge c.args.image.now c.args.script.now.list n) (at n r memory) (at n mid then_memory) so_far mid_counts) inv.frames
-    (c.stretch.ensures.passes c.if-stretch-gt0.true r.board (sym c.begin.ensures)) in
+    (c.stretch.ensures.goes.passes c.if-stretch-gt0.true r.board (sym c.begin.ensures)) in
     let on = NotesOn (g.L.Notes.wants c.args.notes.now) (g.L.Notes.tells c.args.notes.now) (g.L.Notes.tells c.loop-running.notes) in
     let laws = c.carry_laws.ensures in
     let begins = Begun g c.args.image.now c.args.script.now.list c.args.running.now.frames c.args.running.now (g.H.Host.bytes c.args.host.now) c.args.pool.now (g.L.Notes.wants c.args.notes.now) in
     record {
       going = going_turned m old (at f mid then_memory) counts mid_counts told tells (pages_kept g.S.Shadows.slots g.S.Shadows.asides c.args.running.now.shadows (g.H.Host.bytes c.args.host.now)) c.args.running.now.fills mid.fills (g.L.Notes.wants c.args.notes.now) on begins (Knows g m r memory) (Knows g m mid then_memory)
-          (known_there g laws m r mid memory then_memory (entries_of (g.S.Shadows.slots mid.shadows then_memory)) c.stretch.ensures.shadows inv.held.stand c.stretch.ensures.apart)
-          (going_past m old (at f r memory) (at f mid then_memory) counts so_far mid_counts told tells (pages_kept g.S.Shadows.slots g.S.Shadows.asides c.args.running.now.shadows (g.H.Host.bytes c.args.host.now)) c.args.running.now.fills r.fills mid.fills (g.L.Notes.wants c.args.notes.now) on begins (Knows g m r memory) inv.going c.stretch.ensures.filled.rises
-          (few g mid then_memory _ _ _ (fills_join _ _ _ _ _ _ inv.filled c.stretch.ensures.filled)) laws (known_past g laws m r memory) (of_pages g r memory)
+          (known_there g laws m r mid memory then_memory (entries_of (g.S.Shadows.slots mid.shadows then_memory)) c.stretch.ensures.leaves.kept inv.held.stand c.stretch.ensures.leaves.apart)
+          (going_past m old (at f r memory) (at f mid then_memory) counts so_far mid_counts told tells (pages_kept g.S.Shadows.slots g.S.Shadows.asides c.args.running.now.shadows (g.H.Host.bytes c.args.host.now)) c.args.running.now.fills r.fills mid.fills (g.L.Notes.wants c.args.notes.now) on begins (Knows g m r memory) inv.going c.stretch.ensures.leaves.filled.rises
+          (few g mid then_memory _ _ _ (fills_join _ _ _ _ _ _ inv.filled c.stretch.ensures.leaves.filled)) laws (known_past g laws m r memory) (of_pages g r memory)
           (room_at g.S.Shadows.stands g.S.Shadows.frames g.S.Shadows.slots g.S.Shadows.noted g.S.Shadows.marked g.S.Shadows.asides g.S.Shadows.opened c.args.image.now c.args.script.now.list f r c.loop-running.pool memory inv.held) passes);
-      held = held_at g.S.Shadows.stands g.S.Shadows.frames g.S.Shadows.slots c.args.image.now r.frames f mid c.loop-running.pool then_memory inv.frames (c.stretch.ensures.held c.loop-running.pool (held_given g.S.Shadows.stands g.S.Shadows.frames g.S.Shadows.slots c.args.image.now c.args.running.now.frames c.loop-running.running.frames c.loop-running.running c.begin.new.self c.loop-running.pool (g.H.Host.bytes c.loop-running.host) c.loop-running.invariant.frames c.loop-running.invariant.held));
-      ready = ready_at g c.args.image.now r.frames f mid.cpu mid.shadows then_memory inv.frames (c.stretch.ensures.ready (ready_at g c.args.image.now f r.frames r.cpu r.shadows memory (sym inv.frames) inv.ready));
-      able = c.stretch.ensures.able;
+      held = held_at g.S.Shadows.stands g.S.Shadows.frames g.S.Shadows.slots c.args.image.now r.frames f mid c.loop-running.pool then_memory inv.frames (c.stretch.ensures.leaves.held c.loop-running.pool (held_given g.S.Shadows.stands g.S.Shadows.frames g.S.Shadows.slots c.args.image.now c.args.running.now.frames c.loop-running.running.frames c.loop-running.running c.begin.new.self c.loop-running.pool (g.H.Host.bytes c.loop-running.host) c.loop-running.invariant.frames c.loop-running.invariant.held));
+      ready = ready_at g c.args.image.now r.frames f mid.cpu mid.shadows then_memory inv.frames (c.stretch.ensures.leaves.ready (ready_at g c.args.image.now f r.frames r.cpu r.shadows memory (sym inv.frames) inv.ready));
+      able = c.stretch.ensures.leaves.able;
       pool = keeps_join c.args.pool.now c.loop-running.pool c.loop-running.pool (g.H.Host.bytes c.args.host.now) (g.H.Host.bytes c.loop-running.host) (g.H.Host.bytes c.stretch.new.host)
           (g.S.Shadows.frames c.args.running.now.shadows (g.H.Host.bytes c.args.host.now)) (g.S.Shadows.frames c.loop-running.running.shadows (g.H.Host.bytes c.loop-running.host)) (g.S.Shadows.frames c.stretch.new.running.shadows (g.H.Host.bytes c.stretch.new.host))
-          c.loop-running.invariant.pool (c.stretch.ensures.pool c.loop-running.pool (held_given g.S.Shadows.stands g.S.Shadows.frames g.S.Shadows.slots c.args.image.now c.args.running.now.frames c.loop-running.running.frames c.loop-running.running c.begin.new.self c.loop-running.pool (g.H.Host.bytes c.loop-running.host) c.loop-running.invariant.frames c.loop-running.invariant.held));
-      filled = fills_join _ _ _ _ _ _ inv.filled c.stretch.ensures.filled;
+          c.loop-running.invariant.pool (c.stretch.ensures.leaves.pool c.loop-running.pool (held_given g.S.Shadows.stands g.S.Shadows.frames g.S.Shadows.slots c.args.image.now c.args.running.now.frames c.loop-running.running.frames c.loop-running.running c.begin.new.self c.loop-running.pool (g.H.Host.bytes c.loop-running.host) c.loop-running.invariant.frames c.loop-running.invariant.held));
+      filled = fills_join _ _ _ _ _ _ inv.filled c.stretch.ensures.leaves.filled;
       started = c.stretch.ensures.started;
-      frames = c.stretch.ensures.frames ∙ inv.frames;
+      frames = c.stretch.ensures.leaves.frames ∙ inv.frames;
       wants = inv.wants;
       wanted = inv.wanted;
       silent = inv.silent;
       later = inv.later;
-      bound = c.stretch.ensures.most;
-      room = (let e = c.stretch.ensures.retired in let n = c.stretch.ensures.count in let k = c.stretch.ensures.most in let h = inv.room in omega (arith, e, n, k, h));
+      bound = c.stretch.ensures.counts.most;
+      room = (let e = c.stretch.ensures.counts.retired in let n = c.stretch.ensures.counts.count in let k = c.stretch.ensures.counts.most in let h = inv.room in omega (arith, e, n, k, h));
     }
 
-pub one_step-requires-clause-held : goal.one_step-requires-clause-held
-one_step-requires-clause-held g c =
-    held_at g.S.Shadows.stands g.S.Shadows.frames g.S.Shadows.slots c.args.image.now c.loop-running.running.frames c.stretch.new.running.frames c.stretch.new.running c.loop-running.pool (g.H.Host.bytes c.stretch.new.host) (sym c.stretch.ensures.frames)
-    (c.stretch.ensures.held c.loop-running.pool (held_given g.S.Shadows.stands g.S.Shadows.frames g.S.Shadows.slots c.args.image.now c.args.running.now.frames c.loop-running.running.frames c.loop-running.running c.begin.new.self c.loop-running.pool (g.H.Host.bytes c.loop-running.host) c.loop-running.invariant.frames c.loop-running.invariant.held))
-
-pub one_step-requires-clause-ready : goal.one_step-requires-clause-ready
-one_step-requires-clause-ready g c =
-    let f = c.args.running.now.frames in
-    let r = c.loop-running.running in
-    let mid = c.stretch.new.running in
-    let inv = c.loop-running.invariant in
-    ready_at g c.args.image.now r.frames mid.frames mid.cpu mid.shadows (g.H.Host.bytes c.stretch.new.host) (sym c.stretch.ensures.frames)
-    (c.stretch.ensures.ready (ready_at g c.args.image.now f r.frames r.cpu r.shadows (g.H.Host.bytes c.loop-running.host) (sym inv.frames) inv.ready))
-
-pub one_step-requires-clause-enough : goal.one_step-requires-clause-enough
-one_step-requires-clause-enough g c =
-    let f = c.args.running.now.frames in
-    enough_then g.S.Shadows.stands g.S.Shadows.frames g.S.Shadows.slots (ground c.args.image.now f) c.args.running.now c.stretch.new.running c.args.pool.now c.loop-running.pool (g.H.Host.bytes c.args.host.now) (g.H.Host.bytes c.stretch.new.host) c.requires.held
-    (held_at g.S.Shadows.stands g.S.Shadows.frames g.S.Shadows.slots c.args.image.now c.loop-running.running.frames f c.stretch.new.running c.loop-running.pool (g.H.Host.bytes c.stretch.new.host) c.loop-running.invariant.frames (c.stretch.ensures.held c.loop-running.pool (held_given g.S.Shadows.stands g.S.Shadows.frames g.S.Shadows.slots c.args.image.now c.args.running.now.frames c.loop-running.running.frames c.loop-running.running c.begin.new.self c.loop-running.pool (g.H.Host.bytes c.loop-running.host) c.loop-running.invariant.frames c.loop-running.invariant.held)))
-    (keeps_join c.args.pool.now c.loop-running.pool c.loop-running.pool (g.H.Host.bytes c.args.host.now) (g.H.Host.bytes c.loop-running.host) (g.H.Host.bytes c.stretch.new.host)
-    (g.S.Shadows.frames c.args.running.now.shadows (g.H.Host.bytes c.args.host.now)) (g.S.Shadows.frames c.loop-running.running.shadows (g.H.Host.bytes c.loop-running.host)) (g.S.Shadows.frames c.stretch.new.running.shadows (g.H.Host.bytes c.stretch.new.host))
-    c.loop-running.invariant.pool (c.stretch.ensures.pool c.loop-running.pool (held_given g.S.Shadows.stands g.S.Shadows.frames g.S.Shadows.slots c.args.image.now c.args.running.now.frames c.loop-running.running.frames c.loop-running.running c.begin.new.self c.loop-running.pool (g.H.Host.bytes c.loop-running.host) c.loop-running.invariant.frames c.loop-running.invariant.held))) c.requires.enough
+pub one_step-requires-clause-between : goal.one_step-requires-clause-between
+one_step-requires-clause-between g c = record {
+  held =
+      held_at g.S.Shadows.stands g.S.Shadows.frames g.S.Shadows.slots c.args.image.now c.loop-running.running.frames c.stretch.new.running.frames c.stretch.new.running c.loop-running.pool (g.H.Host.bytes c.stretch.new.host) (sym c.stretch.ensures.leaves.frames)
+      (c.stretch.ensures.leaves.held c.loop-running.pool (held_given g.S.Shadows.stands g.S.Shadows.frames g.S.Shadows.slots c.args.image.now c.args.running.now.frames c.loop-running.running.frames c.loop-running.running c.begin.new.self c.loop-running.pool (g.H.Host.bytes c.loop-running.host) c.loop-running.invariant.frames c.loop-running.invariant.held));
+  ready =
+      let f = c.args.running.now.frames in
+      let r = c.loop-running.running in
+      let mid = c.stretch.new.running in
+      let inv = c.loop-running.invariant in
+      ready_at g c.args.image.now r.frames mid.frames mid.cpu mid.shadows (g.H.Host.bytes c.stretch.new.host) (sym c.stretch.ensures.leaves.frames)
+      (c.stretch.ensures.leaves.ready (ready_at g c.args.image.now f r.frames r.cpu r.shadows (g.H.Host.bytes c.loop-running.host) (sym inv.frames) inv.ready));
+  enough =
+      let f = c.args.running.now.frames in
+      enough_then g.S.Shadows.stands g.S.Shadows.frames g.S.Shadows.slots (ground c.args.image.now f) c.args.running.now c.stretch.new.running c.args.pool.now c.loop-running.pool (g.H.Host.bytes c.args.host.now) (g.H.Host.bytes c.stretch.new.host) c.requires.between.held
+      (held_at g.S.Shadows.stands g.S.Shadows.frames g.S.Shadows.slots c.args.image.now c.loop-running.running.frames f c.stretch.new.running c.loop-running.pool (g.H.Host.bytes c.stretch.new.host) c.loop-running.invariant.frames (c.stretch.ensures.leaves.held c.loop-running.pool (held_given g.S.Shadows.stands g.S.Shadows.frames g.S.Shadows.slots c.args.image.now c.args.running.now.frames c.loop-running.running.frames c.loop-running.running c.begin.new.self c.loop-running.pool (g.H.Host.bytes c.loop-running.host) c.loop-running.invariant.frames c.loop-running.invariant.held)))
+      (keeps_join c.args.pool.now c.loop-running.pool c.loop-running.pool (g.H.Host.bytes c.args.host.now) (g.H.Host.bytes c.loop-running.host) (g.H.Host.bytes c.stretch.new.host)
+      (g.S.Shadows.frames c.args.running.now.shadows (g.H.Host.bytes c.args.host.now)) (g.S.Shadows.frames c.loop-running.running.shadows (g.H.Host.bytes c.loop-running.host)) (g.S.Shadows.frames c.stretch.new.running.shadows (g.H.Host.bytes c.stretch.new.host))
+      c.loop-running.invariant.pool (c.stretch.ensures.leaves.pool c.loop-running.pool (held_given g.S.Shadows.stands g.S.Shadows.frames g.S.Shadows.slots c.args.image.now c.args.running.now.frames c.loop-running.running.frames c.loop-running.running c.begin.new.self c.loop-running.pool (g.H.Host.bytes c.loop-running.host) c.loop-running.invariant.frames c.loop-running.invariant.held))) c.requires.between.enough;
+}
 
 pub returns-in-Err-clause-slice : goal.returns-in-Err-clause-slice
 returns-in-Err-clause-slice g c =
@@ -182,15 +181,15 @@ returns-in-Err-clause-slice g c =
     let mid_counts = counted (g.H.Host.retired c.stretch.new.host) (g.H.Host.passed c.stretch.new.host) in
     let new_counts = counted (g.H.Host.retired c.one_step.new.host) (g.H.Host.passed c.one_step.new.host) in
     let none : c.stretch.result ≡ 0 = omega (arith, c.if-stretch-gt0.false) in
-    let stays = subst (λ (n : ℕ). at n mid then_memory ≡ at n (record r { board = c.begin.new.self }) memory) inv.frames (c.stretch.ensures.stays none) in
-    let same : mid_counts ≡ so_far = counts_same (g.H.Host.retired c.loop-running.host) (g.H.Host.retired c.stretch.new.host) (g.H.Host.passed c.loop-running.host) (g.H.Host.passed c.stretch.new.host) (let e = c.stretch.ensures.retired in omega (arith, e, none)) (c.stretch.ensures.passed none) in
-    let by_frames = subst (λ (n : ℕ). StepAs (wedge c.args.image.now c.args.script.now.list n) (at n mid then_memory) new.lost (Err c.in-Err.stop) (at n new new_memory) mid_counts new_counts) (c.stretch.ensures.frames ∙ inv.frames) (c.in-Err.ensures.step c.args.script.now.list) in
+    let stays = subst (λ (n : ℕ). at n mid then_memory ≡ at n (record r { board = c.begin.new.self }) memory) inv.frames (c.stretch.ensures.goes.stays none) in
+    let same : mid_counts ≡ so_far = counts_same (g.H.Host.retired c.loop-running.host) (g.H.Host.retired c.stretch.new.host) (g.H.Host.passed c.loop-running.host) (g.H.Host.passed c.stretch.new.host) (let e = c.stretch.ensures.counts.retired in omega (arith, e, none)) (c.stretch.ensures.counts.passed none) in
+    let by_frames = subst (λ (n : ℕ). StepAs (wedge c.args.image.now c.args.script.now.list n) (at n mid then_memory) new.lost (Err c.in-Err.stop) (at n new new_memory) mid_counts new_counts) (c.stretch.ensures.leaves.frames ∙ inv.frames) (c.in-Err.ensures.steps.step c.args.script.now.list) in
     let step : StepAs m (record (at f r memory) { board = given r.board c.args.script.now.list r.step }) new.lost (Err c.in-Err.stop) (at f new new_memory) so_far new_counts =
     turned m (at f r memory) (at f mid then_memory) (at f new new_memory) c.begin.new.self new.lost (Err c.in-Err.stop) so_far mid_counts new_counts stays c.begin.ensures same by_frames in
-    let e = c.in-Err.ensures.stays in
-    let n = c.stretch.ensures.count in
+    let e = c.in-Err.ensures.steps.leaves.stays.step in
+    let n = c.stretch.ensures.counts.count in
     let still : new.step ≡ r.step = omega (arith, e, n, none) in
-    let unmoved : new_counts ≡ so_far = counts_same (g.H.Host.retired c.stretch.new.host) (g.H.Host.retired c.one_step.new.host) (g.H.Host.passed c.stretch.new.host) (g.H.Host.passed c.one_step.new.host) c.in-Err.ensures.retired c.in-Err.ensures.passed ∙ same in
+    let unmoved : new_counts ≡ so_far = counts_same (g.H.Host.retired c.stretch.new.host) (g.H.Host.retired c.one_step.new.host) (g.H.Host.passed c.stretch.new.host) (g.H.Host.passed c.one_step.new.host) c.in-Err.ensures.counts.retired c.in-Err.ensures.counts.passed ∙ same in
     let step_same : mid.step ≡ r.step = omega (arith, n, none) in
     let wanted = g.L.Notes.wants c.args.notes.now in
     let first = g.L.Notes.tells c.args.notes.now in
@@ -198,43 +197,21 @@ returns-in-Err-clause-slice g c =
     let after = g.L.Notes.tells c.tell.new.notes in
     let told_now = subst (λ (k : ℕ). NotesOn wanted before after (emptied_if new.lost.before k)) step_same
     (subst (λ (w : Bool). NotesOn w before after (emptied_if new.lost.before mid.step)) inv.wants c.tell.ensures.told) in
-    let rises : r.fills ≤ new.fills = (let e0 = c.stretch.ensures.filled in let e1 = c.in-Err.ensures.filled in let r0 = e0.rises in let r1 = e1.rises in omega (arith, r0, r1)) in
+    let rises : r.fills ≤ new.fills = (let e0 = c.stretch.ensures.leaves.filled in let e1 = c.in-Err.ensures.accounts.filled in let r0 = e0.rises in let r1 = e1.rises in omega (arith, r0, r1)) in
     let begins = Begun g c.args.image.now c.args.script.now.list c.args.running.now.frames c.args.running.now (g.H.Host.bytes c.args.host.now) c.args.pool.now (g.L.Notes.wants c.args.notes.now) in
     let laws = c.carry_laws.ensures in
-    let held_mid = held_at g.S.Shadows.stands g.S.Shadows.frames g.S.Shadows.slots c.args.image.now r.frames f mid c.loop-running.pool then_memory inv.frames (c.stretch.ensures.held c.loop-running.pool (held_given g.S.Shadows.stands g.S.Shadows.frames g.S.Shadows.slots c.args.image.now c.args.running.now.frames c.loop-running.running.frames c.loop-running.running c.begin.new.self c.loop-running.pool (g.H.Host.bytes c.loop-running.host) c.loop-running.invariant.frames c.loop-running.invariant.held)) in
+    let held_mid = held_at g.S.Shadows.stands g.S.Shadows.frames g.S.Shadows.slots c.args.image.now r.frames f mid c.loop-running.pool then_memory inv.frames (c.stretch.ensures.leaves.held c.loop-running.pool (held_given g.S.Shadows.stands g.S.Shadows.frames g.S.Shadows.slots c.args.image.now c.args.running.now.frames c.loop-running.running.frames c.loop-running.running c.begin.new.self c.loop-running.pool (g.H.Host.bytes c.loop-running.host) c.loop-running.invariant.frames c.loop-running.invariant.held)) in
     let keeps_mid = keeps_join c.args.pool.now c.loop-running.pool c.loop-running.pool (g.H.Host.bytes c.args.host.now) memory then_memory
     (g.S.Shadows.frames c.args.running.now.shadows (g.H.Host.bytes c.args.host.now)) (g.S.Shadows.frames r.shadows memory) (g.S.Shadows.frames mid.shadows then_memory)
-    inv.pool (c.stretch.ensures.pool c.loop-running.pool (held_given g.S.Shadows.stands g.S.Shadows.frames g.S.Shadows.slots c.args.image.now c.args.running.now.frames c.loop-running.running.frames c.loop-running.running c.begin.new.self c.loop-running.pool (g.H.Host.bytes c.loop-running.host) c.loop-running.invariant.frames c.loop-running.invariant.held)) in
+    inv.pool (c.stretch.ensures.leaves.pool c.loop-running.pool (held_given g.S.Shadows.stands g.S.Shadows.frames g.S.Shadows.slots c.args.image.now c.args.running.now.frames c.loop-running.running.frames c.loop-running.running c.begin.new.self c.loop-running.pool (g.H.Host.bytes c.loop-running.host) c.loop-running.invariant.frames c.loop-running.invariant.held)) in
     let clash : DropClashes m (at f r memory) new.lost.before begins (Knows g m r memory) =
     drop_clashes g.S.Shadows.stands g.S.Shadows.frames g.S.Shadows.slots g.S.Shadows.noted g.S.Shadows.marked g.S.Shadows.asides g.S.Shadows.opened (widens g) laws c.args.image.now c.args.script.now.list f r mid new memory then_memory new_memory c.loop-running.pool c.begin.new.self begins c.wanted-wanted.result
-    (c.stretch.ensures.frames ∙ inv.frames) stays c.begin.ensures inv.held held_mid c.stretch.ensures.shadows c.stretch.ensures.apart
-    (λ s. whole_then g.S.Shadows.stands g.S.Shadows.frames g.S.Shadows.slots g.S.Shadows.noted g.S.Shadows.marked g.S.Shadows.asides g.S.Shadows.opened (widens g) laws (ground c.args.image.now f) c.args.running.now mid c.args.pool.now c.loop-running.pool (g.H.Host.bytes c.args.host.now) then_memory c.requires.held held_mid keeps_mid s.1)
-    c.in-Err.ensures.clashed in
+    (c.stretch.ensures.leaves.frames ∙ inv.frames) stays c.begin.ensures inv.held held_mid c.stretch.ensures.leaves.kept c.stretch.ensures.leaves.apart
+    (λ s. whole_then g.S.Shadows.stands g.S.Shadows.frames g.S.Shadows.slots g.S.Shadows.noted g.S.Shadows.marked g.S.Shadows.asides g.S.Shadows.opened (widens g) laws (ground c.args.image.now f) c.args.running.now mid c.args.pool.now c.loop-running.pool (g.H.Host.bytes c.args.host.now) then_memory c.requires.between.held held_mid keeps_mid s.1)
+    c.in-Err.ensures.steps.clashed in
     let ends = stopped m c.args.bound old (at f r memory) (at f new new_memory) new.lost c.in-Err.stop counts so_far told tells (pages_kept g.S.Shadows.slots g.S.Shadows.asides c.args.running.now.shadows (g.H.Host.bytes c.args.host.now)) c.args.running.now.fills r.fills new.fills wanted (NotesOn wanted first before) (NotesOn wanted first after)
     begins (Knows g m r memory) inv.going step c.loop-running-test.true still rises laws (known_past g laws m r memory) clash (notes_on_more wanted first before after (emptied_if new.lost.before r.step) told_now) in
     subst (λ (x : Counts). SliceAs m c.args.bound old (at f new new_memory) counts x told tells (pages_kept g.S.Shadows.slots g.S.Shadows.asides c.args.running.now.shadows (g.H.Host.bytes c.args.host.now)) c.args.running.now.fills new.fills wanted (NotesOn wanted first after) begins (Ok (Stopped c.in-Err.stop))) (sym unmoved) ends
-
-pub returns-in-Err-clause-wants : goal.returns-in-Err-clause-wants
-returns-in-Err-clause-wants g c = c.tell.ensures.wants ∙ c.loop-running.invariant.wants
-
-pub returns-in-Err-clause-silent : goal.returns-in-Err-clause-silent
-returns-in-Err-clause-silent g c = λ unwanted. c.tell.ensures.silent (c.loop-running.invariant.wants ∙ unwanted) ∙ c.loop-running.invariant.silent unwanted
-
-pub returns-in-Err-clause-few : goal.returns-in-Err-clause-few
-returns-in-Err-clause-few g c =
-    let held = c.stretch.ensures.held c.loop-running.pool (held_given g.S.Shadows.stands g.S.Shadows.frames g.S.Shadows.slots c.args.image.now c.args.running.now.frames c.loop-running.running.frames c.loop-running.running c.begin.new.self c.loop-running.pool (g.H.Host.bytes c.loop-running.host) c.loop-running.invariant.frames c.loop-running.invariant.held) in
-    let few = held.fills in
-    let same = c.in-Err.ensures.unfilled in
-    let still = c.in-Err.ensures.stays in
-    omega (arith, few, same, still)
-
-pub returns-in-Err-clause-pool : goal.returns-in-Err-clause-pool
-returns-in-Err-clause-pool g c =
-    keeps_join c.args.pool.now c.loop-running.pool c.one_step.new.pool (g.H.Host.bytes c.args.host.now) (g.H.Host.bytes c.stretch.new.host) (g.H.Host.bytes c.one_step.new.host)
-    (g.S.Shadows.frames c.args.running.now.shadows (g.H.Host.bytes c.args.host.now)) (g.S.Shadows.frames c.stretch.new.running.shadows (g.H.Host.bytes c.stretch.new.host)) (g.S.Shadows.frames c.one_step.new.running.shadows (g.H.Host.bytes c.one_step.new.host))
-    (keeps_join c.args.pool.now c.loop-running.pool c.loop-running.pool (g.H.Host.bytes c.args.host.now) (g.H.Host.bytes c.loop-running.host) (g.H.Host.bytes c.stretch.new.host)
-    (g.S.Shadows.frames c.args.running.now.shadows (g.H.Host.bytes c.args.host.now)) (g.S.Shadows.frames c.loop-running.running.shadows (g.H.Host.bytes c.loop-running.host)) (g.S.Shadows.frames c.stretch.new.running.shadows (g.H.Host.bytes c.stretch.new.host))
-    c.loop-running.invariant.pool (c.stretch.ensures.pool c.loop-running.pool (held_given g.S.Shadows.stands g.S.Shadows.frames g.S.Shadows.slots c.args.image.now c.args.running.now.frames c.loop-running.running.frames c.loop-running.running c.begin.new.self c.loop-running.pool (g.H.Host.bytes c.loop-running.host) c.loop-running.invariant.frames c.loop-running.invariant.held))) c.in-Err.ensures.pool
 
 pub returns-in-Err-put_seen-clause-slice : goal.returns-in-Err-put_seen-clause-slice
 returns-in-Err-put_seen-clause-slice g c =
@@ -256,35 +233,35 @@ returns-in-Err-put_seen-clause-slice g c =
     let mid_counts = counted (g.H.Host.retired c.stretch.new.host) (g.H.Host.passed c.stretch.new.host) in
     let new_counts = counted (g.H.Host.retired c.one_step.new.host) (g.H.Host.passed c.one_step.new.host) in
     let none : c.stretch.result ≡ 0 = omega (arith, c.if-stretch-gt0.false) in
-    let stays = subst (λ (n : ℕ). at n mid then_memory ≡ at n (record r { board = c.begin.new.self }) memory) inv.frames (c.stretch.ensures.stays none) in
-    let same : mid_counts ≡ so_far = counts_same (g.H.Host.retired c.loop-running.host) (g.H.Host.retired c.stretch.new.host) (g.H.Host.passed c.loop-running.host) (g.H.Host.passed c.stretch.new.host) (let e = c.stretch.ensures.retired in omega (arith, e, none)) (c.stretch.ensures.passed none) in
-    let by_frames = subst (λ (n : ℕ). StepAs (wedge c.args.image.now c.args.script.now.list n) (at n mid then_memory) new.lost (Ok c.in-Ok.seen) (at n new new_memory) mid_counts new_counts) (c.stretch.ensures.frames ∙ inv.frames) (c.in-Ok.ensures.step c.args.script.now.list) in
+    let stays = subst (λ (n : ℕ). at n mid then_memory ≡ at n (record r { board = c.begin.new.self }) memory) inv.frames (c.stretch.ensures.goes.stays none) in
+    let same : mid_counts ≡ so_far = counts_same (g.H.Host.retired c.loop-running.host) (g.H.Host.retired c.stretch.new.host) (g.H.Host.passed c.loop-running.host) (g.H.Host.passed c.stretch.new.host) (let e = c.stretch.ensures.counts.retired in omega (arith, e, none)) (c.stretch.ensures.counts.passed none) in
+    let by_frames = subst (λ (n : ℕ). StepAs (wedge c.args.image.now c.args.script.now.list n) (at n mid then_memory) new.lost (Ok c.in-Ok.seen) (at n new new_memory) mid_counts new_counts) (c.stretch.ensures.leaves.frames ∙ inv.frames) (c.in-Ok.ensures.steps.step c.args.script.now.list) in
     let step : StepAs m (record (at f r memory) { board = given r.board c.args.script.now.list r.step }) new.lost (Ok c.in-Ok.seen) (at f new new_memory) so_far new_counts =
     turned m (at f r memory) (at f mid then_memory) (at f new new_memory) c.begin.new.self new.lost (Ok c.in-Ok.seen) so_far mid_counts new_counts stays c.begin.ensures same by_frames in
-    let step_same : c.stretch.new.running.step ≡ r.step = (let e = c.stretch.ensures.count in omega (arith, e, none)) in
+    let step_same : c.stretch.new.running.step ≡ r.step = (let e = c.stretch.ensures.counts.count in omega (arith, e, none)) in
     let last = g.O.Sink.taken c.put_seen.new.out in
     let put = subst (λ (n : ℕ). AppendsFront tells last (lines_of (items_at n (whats c.in-Ok.seen)))) step_same c.in-Err-put_seen.ensures.failed in
-    let count : new.step ≡ r.step + 1 = (let n = c.in-Ok.ensures.count in omega (arith, n, step_same)) in
+    let count : new.step ≡ r.step + 1 = (let n = c.in-Ok.ensures.steps.leaves.count in omega (arith, n, step_same)) in
     let wanted = g.L.Notes.wants c.args.notes.now in
     let first = g.L.Notes.tells c.args.notes.now in
     let before = g.L.Notes.tells c.loop-running.notes in
     let after = g.L.Notes.tells c.tell_both.new.notes in
     let told_now = subst (λ (k : ℕ). NotesOn wanted before after (notes_then new.lost k)) step_same
     (subst (λ (w : Bool). NotesOn w before after (notes_then new.lost mid.step)) inv.wants c.tell_both.ensures.told) in
-    let rises : r.fills ≤ new.fills = (let e0 = c.stretch.ensures.filled in let e1 = c.in-Ok.ensures.filled in let r0 = e0.rises in let r1 = e1.rises in omega (arith, r0, r1)) in
-    let more = few g new new_memory _ _ _ (fills_join _ _ _ _ _ _ (fills_join _ _ _ _ _ _ inv.filled c.stretch.ensures.filled) c.in-Ok.ensures.filled) in
-    let exact = λ (w : wanted ≡ true). c.in-Ok.ensures.wanted (inv.wanted ∙ w) in
+    let rises : r.fills ≤ new.fills = (let e0 = c.stretch.ensures.leaves.filled in let e1 = c.in-Ok.ensures.accounts.filled in let r0 = e0.rises in let r1 = e1.rises in omega (arith, r0, r1)) in
+    let more = few g new new_memory _ _ _ (fills_join _ _ _ _ _ _ (fills_join _ _ _ _ _ _ inv.filled c.stretch.ensures.leaves.filled) c.in-Ok.ensures.accounts.filled) in
+    let exact = λ (w : wanted ≡ true). c.in-Ok.ensures.steps.leaves.back (inv.wanted ∙ w) in
     let laws = c.carry_laws.ensures in
     let begins = Begun g c.args.image.now c.args.script.now.list c.args.running.now.frames c.args.running.now (g.H.Host.bytes c.args.host.now) c.args.pool.now (g.L.Notes.wants c.args.notes.now) in
-    let held_mid = held_at g.S.Shadows.stands g.S.Shadows.frames g.S.Shadows.slots c.args.image.now r.frames f mid c.loop-running.pool then_memory inv.frames (c.stretch.ensures.held c.loop-running.pool (held_given g.S.Shadows.stands g.S.Shadows.frames g.S.Shadows.slots c.args.image.now c.args.running.now.frames c.loop-running.running.frames c.loop-running.running c.begin.new.self c.loop-running.pool (g.H.Host.bytes c.loop-running.host) c.loop-running.invariant.frames c.loop-running.invariant.held)) in
+    let held_mid = held_at g.S.Shadows.stands g.S.Shadows.frames g.S.Shadows.slots c.args.image.now r.frames f mid c.loop-running.pool then_memory inv.frames (c.stretch.ensures.leaves.held c.loop-running.pool (held_given g.S.Shadows.stands g.S.Shadows.frames g.S.Shadows.slots c.args.image.now c.args.running.now.frames c.loop-running.running.frames c.loop-running.running c.begin.new.self c.loop-running.pool (g.H.Host.bytes c.loop-running.host) c.loop-running.invariant.frames c.loop-running.invariant.held)) in
     let keeps_mid = keeps_join c.args.pool.now c.loop-running.pool c.loop-running.pool (g.H.Host.bytes c.args.host.now) memory then_memory
     (g.S.Shadows.frames c.args.running.now.shadows (g.H.Host.bytes c.args.host.now)) (g.S.Shadows.frames r.shadows memory) (g.S.Shadows.frames mid.shadows then_memory)
-    inv.pool (c.stretch.ensures.pool c.loop-running.pool (held_given g.S.Shadows.stands g.S.Shadows.frames g.S.Shadows.slots c.args.image.now c.args.running.now.frames c.loop-running.running.frames c.loop-running.running c.begin.new.self c.loop-running.pool (g.H.Host.bytes c.loop-running.host) c.loop-running.invariant.frames c.loop-running.invariant.held)) in
+    inv.pool (c.stretch.ensures.leaves.pool c.loop-running.pool (held_given g.S.Shadows.stands g.S.Shadows.frames g.S.Shadows.slots c.args.image.now c.args.running.now.frames c.loop-running.running.frames c.loop-running.running c.begin.new.self c.loop-running.pool (g.H.Host.bytes c.loop-running.host) c.loop-running.invariant.frames c.loop-running.invariant.held)) in
     let over : StepCarries m (at f r memory) (at f new new_memory) new.lost begins (Knows g m r memory) (Knows g m new new_memory) =
     step_carries g.S.Shadows.stands g.S.Shadows.frames g.S.Shadows.slots g.S.Shadows.noted g.S.Shadows.marked g.S.Shadows.asides g.S.Shadows.opened (widens g) laws c.args.image.now c.args.script.now.list f r mid new memory then_memory new_memory c.loop-running.pool c.begin.new.self begins c.wanted-wanted.result
-    (c.stretch.ensures.frames ∙ inv.frames) stays c.begin.ensures inv.held held_mid c.stretch.ensures.shadows c.stretch.ensures.apart (λ s. inv.wanted ∙ s.2)
-    (λ s. whole_then g.S.Shadows.stands g.S.Shadows.frames g.S.Shadows.slots g.S.Shadows.noted g.S.Shadows.marked g.S.Shadows.asides g.S.Shadows.opened (widens g) laws (ground c.args.image.now f) c.args.running.now mid c.args.pool.now c.loop-running.pool (g.H.Host.bytes c.args.host.now) then_memory c.requires.held held_mid keeps_mid s.1)
-    c.in-Ok.ensures.carried c.in-Ok.ensures.clashed in
+    (c.stretch.ensures.leaves.frames ∙ inv.frames) stays c.begin.ensures inv.held held_mid c.stretch.ensures.leaves.kept c.stretch.ensures.leaves.apart (λ s. inv.wanted ∙ s.2)
+    (λ s. whole_then g.S.Shadows.stands g.S.Shadows.frames g.S.Shadows.slots g.S.Shadows.noted g.S.Shadows.marked g.S.Shadows.asides g.S.Shadows.opened (widens g) laws (ground c.args.image.now f) c.args.running.now mid c.args.pool.now c.loop-running.pool (g.H.Host.bytes c.args.host.now) then_memory c.requires.between.held held_mid keeps_mid s.1)
+    c.in-Ok.ensures.steps.carried c.in-Ok.ensures.steps.clashed in
     let s = going_on m old (at f r memory) (at f new new_memory) new.lost c.in-Ok.seen counts so_far new_counts told tells (pages_kept g.S.Shadows.slots g.S.Shadows.asides c.args.running.now.shadows (g.H.Host.bytes c.args.host.now)) c.args.running.now.fills r.fills new.fills wanted (NotesOn wanted first before) (NotesOn wanted first after)
     begins (Knows g m r memory) (Knows g m new new_memory) inv.going step count rises more exact laws (known_past g laws m r memory) over (notes_on_more wanted first before after (notes_then new.lost r.step) told_now) in
     failed m c.args.bound old (at f r memory) (at f new new_memory) c.in-Ok.seen c.in-Err-put_seen.failed counts new_counts told tells last (pages_kept g.S.Shadows.slots g.S.Shadows.asides c.args.running.now.shadows (g.H.Host.bytes c.args.host.now)) c.args.running.now.fills new.fills wanted (NotesOn wanted first after) begins (Knows g m new new_memory) s put
@@ -310,43 +287,43 @@ loop-running-preserved g c =
     let mid_counts = counted (g.H.Host.retired c.stretch.new.host) (g.H.Host.passed c.stretch.new.host) in
     let new_counts = counted (g.H.Host.retired c.one_step.new.host) (g.H.Host.passed c.one_step.new.host) in
     let none : c.stretch.result ≡ 0 = omega (arith, c.if-stretch-gt0.false) in
-    let stays = subst (λ (n : ℕ). at n mid then_memory ≡ at n (record r { board = c.begin.new.self }) memory) inv.frames (c.stretch.ensures.stays none) in
-    let same : mid_counts ≡ so_far = counts_same (g.H.Host.retired c.loop-running.host) (g.H.Host.retired c.stretch.new.host) (g.H.Host.passed c.loop-running.host) (g.H.Host.passed c.stretch.new.host) (let e = c.stretch.ensures.retired in omega (arith, e, none)) (c.stretch.ensures.passed none) in
-    let by_frames = subst (λ (n : ℕ). StepAs (wedge c.args.image.now c.args.script.now.list n) (at n mid then_memory) new.lost (Ok c.in-Ok.seen) (at n new new_memory) mid_counts new_counts) (c.stretch.ensures.frames ∙ inv.frames) (c.in-Ok.ensures.step c.args.script.now.list) in
+    let stays = subst (λ (n : ℕ). at n mid then_memory ≡ at n (record r { board = c.begin.new.self }) memory) inv.frames (c.stretch.ensures.goes.stays none) in
+    let same : mid_counts ≡ so_far = counts_same (g.H.Host.retired c.loop-running.host) (g.H.Host.retired c.stretch.new.host) (g.H.Host.passed c.loop-running.host) (g.H.Host.passed c.stretch.new.host) (let e = c.stretch.ensures.counts.retired in omega (arith, e, none)) (c.stretch.ensures.counts.passed none) in
+    let by_frames = subst (λ (n : ℕ). StepAs (wedge c.args.image.now c.args.script.now.list n) (at n mid then_memory) new.lost (Ok c.in-Ok.seen) (at n new new_memory) mid_counts new_counts) (c.stretch.ensures.leaves.frames ∙ inv.frames) (c.in-Ok.ensures.steps.step c.args.script.now.list) in
     let step : StepAs m (record (at f r memory) { board = given r.board c.args.script.now.list r.step }) new.lost (Ok c.in-Ok.seen) (at f new new_memory) so_far new_counts =
     turned m (at f r memory) (at f mid then_memory) (at f new new_memory) c.begin.new.self new.lost (Ok c.in-Ok.seen) so_far mid_counts new_counts stays c.begin.ensures same by_frames in
-    let step_same : c.stretch.new.running.step ≡ r.step = (let e = c.stretch.ensures.count in omega (arith, e, none)) in
+    let step_same : c.stretch.new.running.step ≡ r.step = (let e = c.stretch.ensures.counts.count in omega (arith, e, none)) in
     let last = g.O.Sink.taken c.put_seen.new.out in
     let put = subst (λ (n : ℕ). Appends tells last (lines_of (items_at n (whats c.in-Ok.seen)))) step_same c.in-Ok-put_seen.ensures.ok in
-    let count : new.step ≡ r.step + 1 = (let n = c.in-Ok.ensures.count in omega (arith, n, step_same)) in
+    let count : new.step ≡ r.step + 1 = (let n = c.in-Ok.ensures.steps.leaves.count in omega (arith, n, step_same)) in
     let wanted = g.L.Notes.wants c.args.notes.now in
     let first = g.L.Notes.tells c.args.notes.now in
     let before = g.L.Notes.tells c.loop-running.notes in
     let after = g.L.Notes.tells c.tell_both.new.notes in
     let told_now = subst (λ (k : ℕ). NotesOn wanted before after (notes_then new.lost k)) step_same
     (subst (λ (w : Bool). NotesOn w before after (notes_then new.lost mid.step)) inv.wants c.tell_both.ensures.told) in
-    let rises : r.fills ≤ new.fills = (let e0 = c.stretch.ensures.filled in let e1 = c.in-Ok.ensures.filled in let r0 = e0.rises in let r1 = e1.rises in omega (arith, r0, r1)) in
-    let more = few g new new_memory _ _ _ (fills_join _ _ _ _ _ _ (fills_join _ _ _ _ _ _ inv.filled c.stretch.ensures.filled) c.in-Ok.ensures.filled) in
-    let exact = λ (w : wanted ≡ true). c.in-Ok.ensures.wanted (inv.wanted ∙ w) in
+    let rises : r.fills ≤ new.fills = (let e0 = c.stretch.ensures.leaves.filled in let e1 = c.in-Ok.ensures.accounts.filled in let r0 = e0.rises in let r1 = e1.rises in omega (arith, r0, r1)) in
+    let more = few g new new_memory _ _ _ (fills_join _ _ _ _ _ _ (fills_join _ _ _ _ _ _ inv.filled c.stretch.ensures.leaves.filled) c.in-Ok.ensures.accounts.filled) in
+    let exact = λ (w : wanted ≡ true). c.in-Ok.ensures.steps.leaves.back (inv.wanted ∙ w) in
     let laws = c.carry_laws.ensures in
     let begins = Begun g c.args.image.now c.args.script.now.list c.args.running.now.frames c.args.running.now (g.H.Host.bytes c.args.host.now) c.args.pool.now (g.L.Notes.wants c.args.notes.now) in
-    let held_mid = held_at g.S.Shadows.stands g.S.Shadows.frames g.S.Shadows.slots c.args.image.now r.frames f mid c.loop-running.pool then_memory inv.frames (c.stretch.ensures.held c.loop-running.pool (held_given g.S.Shadows.stands g.S.Shadows.frames g.S.Shadows.slots c.args.image.now c.args.running.now.frames c.loop-running.running.frames c.loop-running.running c.begin.new.self c.loop-running.pool (g.H.Host.bytes c.loop-running.host) c.loop-running.invariant.frames c.loop-running.invariant.held)) in
+    let held_mid = held_at g.S.Shadows.stands g.S.Shadows.frames g.S.Shadows.slots c.args.image.now r.frames f mid c.loop-running.pool then_memory inv.frames (c.stretch.ensures.leaves.held c.loop-running.pool (held_given g.S.Shadows.stands g.S.Shadows.frames g.S.Shadows.slots c.args.image.now c.args.running.now.frames c.loop-running.running.frames c.loop-running.running c.begin.new.self c.loop-running.pool (g.H.Host.bytes c.loop-running.host) c.loop-running.invariant.frames c.loop-running.invariant.held)) in
     let keeps_mid = keeps_join c.args.pool.now c.loop-running.pool c.loop-running.pool (g.H.Host.bytes c.args.host.now) memory then_memory
     (g.S.Shadows.frames c.args.running.now.shadows (g.H.Host.bytes c.args.host.now)) (g.S.Shadows.frames r.shadows memory) (g.S.Shadows.frames mid.shadows then_memory)
-    inv.pool (c.stretch.ensures.pool c.loop-running.pool (held_given g.S.Shadows.stands g.S.Shadows.frames g.S.Shadows.slots c.args.image.now c.args.running.now.frames c.loop-running.running.frames c.loop-running.running c.begin.new.self c.loop-running.pool (g.H.Host.bytes c.loop-running.host) c.loop-running.invariant.frames c.loop-running.invariant.held)) in
+    inv.pool (c.stretch.ensures.leaves.pool c.loop-running.pool (held_given g.S.Shadows.stands g.S.Shadows.frames g.S.Shadows.slots c.args.image.now c.args.running.now.frames c.loop-running.running.frames c.loop-running.running c.begin.new.self c.loop-running.pool (g.H.Host.bytes c.loop-running.host) c.loop-running.invariant.frames c.loop-running.invariant.held)) in
     let over : StepCarries m (at f r memory) (at f new new_memory) new.lost begins (Knows g m r memory) (Knows g m new new_memory) =
     step_carries g.S.Shadows.stands g.S.Shadows.frames g.S.Shadows.slots g.S.Shadows.noted g.S.Shadows.marked g.S.Shadows.asides g.S.Shadows.opened (widens g) laws c.args.image.now c.args.script.now.list f r mid new memory then_memory new_memory c.loop-running.pool c.begin.new.self begins c.wanted-wanted.result
-    (c.stretch.ensures.frames ∙ inv.frames) stays c.begin.ensures inv.held held_mid c.stretch.ensures.shadows c.stretch.ensures.apart (λ s. inv.wanted ∙ s.2)
-    (λ s. whole_then g.S.Shadows.stands g.S.Shadows.frames g.S.Shadows.slots g.S.Shadows.noted g.S.Shadows.marked g.S.Shadows.asides g.S.Shadows.opened (widens g) laws (ground c.args.image.now f) c.args.running.now mid c.args.pool.now c.loop-running.pool (g.H.Host.bytes c.args.host.now) then_memory c.requires.held held_mid keeps_mid s.1)
-    c.in-Ok.ensures.carried c.in-Ok.ensures.clashed in
+    (c.stretch.ensures.leaves.frames ∙ inv.frames) stays c.begin.ensures inv.held held_mid c.stretch.ensures.leaves.kept c.stretch.ensures.leaves.apart (λ s. inv.wanted ∙ s.2)
+    (λ s. whole_then g.S.Shadows.stands g.S.Shadows.frames g.S.Shadows.slots g.S.Shadows.noted g.S.Shadows.marked g.S.Shadows.asides g.S.Shadows.opened (widens g) laws (ground c.args.image.now f) c.args.running.now mid c.args.pool.now c.loop-running.pool (g.H.Host.bytes c.args.host.now) then_memory c.requires.between.held held_mid keeps_mid s.1)
+    c.in-Ok.ensures.steps.carried c.in-Ok.ensures.steps.clashed in
     let s = going_on m old (at f r memory) (at f new new_memory) new.lost c.in-Ok.seen counts so_far new_counts told tells (pages_kept g.S.Shadows.slots g.S.Shadows.asides c.args.running.now.shadows (g.H.Host.bytes c.args.host.now)) c.args.running.now.fills r.fills new.fills wanted (NotesOn wanted first before) (NotesOn wanted first after)
     begins (Knows g m r memory) (Knows g m new new_memory) inv.going step count rises more exact laws (known_past g laws m r memory) over (notes_on_more wanted first before after (notes_then new.lost r.step) told_now) in
     let stepped = stepped_put m old (at f r memory) (at f new new_memory) c.in-Ok.seen counts new_counts told tells last (pages_kept g.S.Shadows.slots g.S.Shadows.asides c.args.running.now.shadows (g.H.Host.bytes c.args.host.now)) c.args.running.now.fills new.fills wanted (NotesOn wanted first after) begins (Knows g m new new_memory) s put in
     let rested = c.rest.new.running in
-    let frames_then : new.frames ≡ f = c.in-Ok.ensures.frames ∙ (c.stretch.ensures.frames ∙ inv.frames) in
+    let frames_then : new.frames ≡ f = c.in-Ok.ensures.accounts.frames ∙ (c.stretch.ensures.leaves.frames ∙ inv.frames) in
     let passes = subst (λ (n : ℕ). Passes (wedge c.args.image.now c.args.script.now.list n) (at n new new_memory) (at n rested new_memory) new_counts new_counts) frames_then
     (c.rest.ensures.passes c.args.image.now new_memory new_counts) in
-    let held_new = held_at g.S.Shadows.stands g.S.Shadows.frames g.S.Shadows.slots c.args.image.now mid.frames f new c.one_step.new.pool new_memory (c.stretch.ensures.frames ∙ inv.frames) c.in-Ok.ensures.held in
+    let held_new = held_at g.S.Shadows.stands g.S.Shadows.frames g.S.Shadows.slots c.args.image.now mid.frames f new c.one_step.new.pool new_memory (c.stretch.ensures.leaves.frames ∙ inv.frames) c.in-Ok.ensures.steps.leaves.held in
     let held = held_later g.S.Shadows.stands g.S.Shadows.frames g.S.Shadows.slots (ground c.args.image.now f) new rested.board rested.step c.one_step.new.pool new_memory c.rest.ensures.later held_new in
     let as_were : rested ≡ record new { board = rested.board; step = rested.step } = c.rest.ensures.same in
     record {
@@ -358,16 +335,16 @@ loop-running-preserved g c =
           laws (known_past g laws m new new_memory) (of_pages g new new_memory) (room_at g.S.Shadows.stands g.S.Shadows.frames g.S.Shadows.slots g.S.Shadows.noted g.S.Shadows.marked g.S.Shadows.asides g.S.Shadows.opened c.args.image.now c.args.script.now.list f new c.one_step.new.pool new_memory held_new) passes);
       held = subst (λ (x : Running g.row.S.Denot). IsHeld g.S.Shadows.stands g.S.Shadows.frames g.S.Shadows.slots (ground c.args.image.now f) x c.one_step.new.pool new_memory) (sym as_were) held;
       ready = subst (λ (x : Running g.row.S.Denot). IsReady g.S.Shadows.slots g.S.Shadows.noted g.S.Shadows.marked g.S.Shadows.value g.S.Shadows.asides (ground c.args.image.now f) x.cpu x.shadows new_memory) (sym as_were)
-          (ready_at g c.args.image.now mid.frames f new.cpu new.shadows new_memory (c.stretch.ensures.frames ∙ inv.frames) c.in-Ok.ensures.ready);
-      able = subst IsAble (sym (ap (λ (x : Running g.row.S.Denot). x.cpu) as_were)) c.in-Ok.ensures.able;
+          (ready_at g c.args.image.now mid.frames f new.cpu new.shadows new_memory (c.stretch.ensures.leaves.frames ∙ inv.frames) c.in-Ok.ensures.steps.leaves.ready);
+      able = subst IsAble (sym (ap (λ (x : Running g.row.S.Denot). x.cpu) as_were)) c.in-Ok.ensures.steps.able;
       pool = subst (λ (x : Running g.row.S.Denot). Keeps c.args.pool.now c.one_step.new.pool (g.H.Host.bytes c.args.host.now) new_memory (g.S.Shadows.frames c.args.running.now.shadows (g.H.Host.bytes c.args.host.now)) (g.S.Shadows.frames x.shadows new_memory)) (sym as_were)
           (keeps_join c.args.pool.now c.loop-running.pool c.one_step.new.pool (g.H.Host.bytes c.args.host.now) (g.H.Host.bytes c.stretch.new.host) (g.H.Host.bytes c.one_step.new.host)
           (g.S.Shadows.frames c.args.running.now.shadows (g.H.Host.bytes c.args.host.now)) (g.S.Shadows.frames c.stretch.new.running.shadows (g.H.Host.bytes c.stretch.new.host)) (g.S.Shadows.frames c.one_step.new.running.shadows (g.H.Host.bytes c.one_step.new.host))
           (keeps_join c.args.pool.now c.loop-running.pool c.loop-running.pool (g.H.Host.bytes c.args.host.now) (g.H.Host.bytes c.loop-running.host) (g.H.Host.bytes c.stretch.new.host)
           (g.S.Shadows.frames c.args.running.now.shadows (g.H.Host.bytes c.args.host.now)) (g.S.Shadows.frames c.loop-running.running.shadows (g.H.Host.bytes c.loop-running.host)) (g.S.Shadows.frames c.stretch.new.running.shadows (g.H.Host.bytes c.stretch.new.host))
-          c.loop-running.invariant.pool (c.stretch.ensures.pool c.loop-running.pool (held_given g.S.Shadows.stands g.S.Shadows.frames g.S.Shadows.slots c.args.image.now c.args.running.now.frames c.loop-running.running.frames c.loop-running.running c.begin.new.self c.loop-running.pool (g.H.Host.bytes c.loop-running.host) c.loop-running.invariant.frames c.loop-running.invariant.held))) c.in-Ok.ensures.pool);
+          c.loop-running.invariant.pool (c.stretch.ensures.leaves.pool c.loop-running.pool (held_given g.S.Shadows.stands g.S.Shadows.frames g.S.Shadows.slots c.args.image.now c.args.running.now.frames c.loop-running.running.frames c.loop-running.running c.begin.new.self c.loop-running.pool (g.H.Host.bytes c.loop-running.host) c.loop-running.invariant.frames c.loop-running.invariant.held))) c.in-Ok.ensures.accounts.pool);
       filled = subst (λ (x : Running g.row.S.Denot). FillsOn (pages_kept g.S.Shadows.slots g.S.Shadows.asides c.args.running.now.shadows (g.H.Host.bytes c.args.host.now)) (pages_kept g.S.Shadows.slots g.S.Shadows.asides x.shadows new_memory) c.args.running.now.fills x.fills) (sym as_were)
-          (fills_join _ _ _ _ _ _ (fills_join _ _ _ _ _ _ inv.filled c.stretch.ensures.filled) c.in-Ok.ensures.filled);
+          (fills_join _ _ _ _ _ _ (fills_join _ _ _ _ _ _ inv.filled c.stretch.ensures.leaves.filled) c.in-Ok.ensures.accounts.filled);
       started = c.in-Ok.ensures.started;
       frames = ap (λ (x : Running g.row.S.Denot). x.frames) as_were ∙ frames_then;
       wants = c.tell_both.ensures.wants ∙ inv.wants;
@@ -375,7 +352,7 @@ loop-running-preserved g c =
       silent = λ unwanted. c.tell_both.ensures.silent (inv.wants ∙ unwanted) ∙ inv.silent unwanted;
       later = (let a = inv.later in let b = c.in-Ok-put_seen.ensures.later in omega (arith, a, b));
       bound = c.rest.ensures.within;
-      room = (let h = inv.room in let t = c.loop-running-test.true in let few = c.in-Ok.ensures.few in let e = c.stretch.ensures.retired in let n = c.in-Ok.ensures.count in let l = c.rest.ensures.later in let w = c.rest.ensures.within in omega (arith, h, t, few, e, n, l, w, none, step_same));
+      room = (let h = inv.room in let t = c.loop-running-test.true in let few = c.in-Ok.ensures.counts.few in let e = c.stretch.ensures.counts.retired in let n = c.in-Ok.ensures.steps.leaves.count in let l = c.rest.ensures.later in let w = c.rest.ensures.within in omega (arith, h, t, few, e, n, l, w, none, step_same));
     }
 
 pub returns-clause-slice : goal.returns-clause-slice
@@ -395,130 +372,107 @@ returns-clause-slice g c =
     (Begun g c.args.image.now c.args.script.now.list c.args.running.now.frames c.args.running.now (g.H.Host.bytes c.args.host.now) c.args.pool.now (g.L.Notes.wants c.args.notes.now)) (Knows g m r memory) inv.going
     (let a = inv.bound in let b = c.loop-running-test.false in omega (arith, a, b)) c.carry_laws.ensures (known_past g c.carry_laws.ensures m r memory)
 
-pub returns-clause-few : goal.returns-clause-few
-returns-clause-few g c = c.loop-running.invariant.held.fills
-
-pub returns-in-Err-clause-filled : goal.returns-in-Err-clause-filled
-returns-in-Err-clause-filled g c = fills_join _ _ _ _ _ _ (fills_join _ _ _ _ _ _ c.loop-running.invariant.filled c.stretch.ensures.filled) c.in-Err.ensures.filled
-
-pub returns-in-Err-put_seen-clause-filled : goal.returns-in-Err-put_seen-clause-filled
-returns-in-Err-put_seen-clause-filled g c = fills_join _ _ _ _ _ _ (fills_join _ _ _ _ _ _ c.loop-running.invariant.filled c.stretch.ensures.filled) c.in-Ok.ensures.filled
-
-pub returns-in-Err-put_seen-clause-wants : goal.returns-in-Err-put_seen-clause-wants
-returns-in-Err-put_seen-clause-wants g c = c.tell_both.ensures.wants ∙ c.loop-running.invariant.wants
-
-pub returns-in-Err-put_seen-clause-silent : goal.returns-in-Err-put_seen-clause-silent
-returns-in-Err-put_seen-clause-silent g c = λ unwanted. c.tell_both.ensures.silent (c.loop-running.invariant.wants ∙ unwanted) ∙ c.loop-running.invariant.silent unwanted
-
 -- ---- what else is said of each end
-
-pub returns-in-Err-clause-reached : goal.returns-in-Err-clause-reached
-returns-in-Err-clause-reached g c = tt
-
-pub returns-in-Err-clause-ready : goal.returns-in-Err-clause-ready
-returns-in-Err-clause-ready g c = tt
-
-pub returns-in-Err-clause-held : goal.returns-in-Err-clause-held
-returns-in-Err-clause-held g c = tt
-
-pub returns-in-Err-clause-able : goal.returns-in-Err-clause-able
-returns-in-Err-clause-able g c = tt
-
-pub returns-in-Err-clause-counted : goal.returns-in-Err-clause-counted
-returns-in-Err-clause-counted g c = c.in-Err.ensures.counted
-
-pub returns-in-Err-clause-stands : goal.returns-in-Err-clause-stands
-returns-in-Err-clause-stands g c = c.in-Err.ensures.stands
 
 pub returns-in-Err-clause-started : goal.returns-in-Err-clause-started
 returns-in-Err-clause-started g c = c.in-Err.ensures.started
 
-pub returns-in-Err-clause-frames : goal.returns-in-Err-clause-frames
-returns-in-Err-clause-frames g c = c.in-Err.ensures.frames ∙ (c.stretch.ensures.frames ∙ c.loop-running.invariant.frames)
-
-pub returns-in-Err-clause-later : goal.returns-in-Err-clause-later
-returns-in-Err-clause-later g c = c.loop-running.invariant.later
-
-pub returns-in-Err-clause-cause : goal.returns-in-Err-clause-cause
-returns-in-Err-clause-cause g c = tt
-
-pub returns-in-Err-put_seen-clause-reached : goal.returns-in-Err-put_seen-clause-reached
-returns-in-Err-put_seen-clause-reached g c = tt
-
-pub returns-in-Err-put_seen-clause-ready : goal.returns-in-Err-put_seen-clause-ready
-returns-in-Err-put_seen-clause-ready g c = tt
-
-pub returns-in-Err-put_seen-clause-held : goal.returns-in-Err-put_seen-clause-held
-returns-in-Err-put_seen-clause-held g c = tt
-
-pub returns-in-Err-put_seen-clause-able : goal.returns-in-Err-put_seen-clause-able
-returns-in-Err-put_seen-clause-able g c = tt
-
-pub returns-in-Err-put_seen-clause-counted : goal.returns-in-Err-put_seen-clause-counted
-returns-in-Err-put_seen-clause-counted g c = tt
-
-pub returns-in-Err-put_seen-clause-stands : goal.returns-in-Err-put_seen-clause-stands
-returns-in-Err-put_seen-clause-stands g c = tt
-
-pub returns-in-Err-put_seen-clause-few : goal.returns-in-Err-put_seen-clause-few
-returns-in-Err-put_seen-clause-few g c = tt
-
-pub returns-in-Err-put_seen-clause-pool : goal.returns-in-Err-put_seen-clause-pool
-returns-in-Err-put_seen-clause-pool g c = tt
-
 pub returns-in-Err-put_seen-clause-started : goal.returns-in-Err-put_seen-clause-started
 returns-in-Err-put_seen-clause-started g c = c.in-Ok.ensures.started
-
-pub returns-in-Err-put_seen-clause-frames : goal.returns-in-Err-put_seen-clause-frames
-returns-in-Err-put_seen-clause-frames g c = c.in-Ok.ensures.frames ∙ (c.stretch.ensures.frames ∙ c.loop-running.invariant.frames)
-
-pub returns-in-Err-put_seen-clause-later : goal.returns-in-Err-put_seen-clause-later
-returns-in-Err-put_seen-clause-later g c = let a = c.loop-running.invariant.later in let b = c.in-Err-put_seen.ensures.later in omega (arith, a, b)
-
-pub returns-in-Err-put_seen-clause-cause : goal.returns-in-Err-put_seen-clause-cause
-returns-in-Err-put_seen-clause-cause g c = let a = c.loop-running.invariant.later in let b = c.in-Err-put_seen.ensures.cause in omega (arith, a, b)
-
-pub returns-clause-wants : goal.returns-clause-wants
-returns-clause-wants g c = c.loop-running.invariant.wants
-
-pub returns-clause-silent : goal.returns-clause-silent
-returns-clause-silent g c = c.loop-running.invariant.silent
-
-pub returns-clause-reached : goal.returns-clause-reached
-returns-clause-reached g c = let a = c.loop-running.invariant.bound in let b = c.loop-running-test.false in omega (arith, a, b)
-
-pub returns-clause-ready : goal.returns-clause-ready
-returns-clause-ready g c = c.loop-running.invariant.ready
-
-pub returns-clause-held : goal.returns-clause-held
-returns-clause-held g c = c.loop-running.invariant.held
-
-pub returns-clause-able : goal.returns-clause-able
-returns-clause-able g c = c.loop-running.invariant.able
-
-pub returns-clause-counted : goal.returns-clause-counted
-returns-clause-counted g c = c.loop-running.invariant.held.counted
-
-pub returns-clause-stands : goal.returns-clause-stands
-returns-clause-stands g c = c.loop-running.invariant.held.stand
-
-pub returns-clause-filled : goal.returns-clause-filled
-returns-clause-filled g c = c.loop-running.invariant.filled
-
-pub returns-clause-pool : goal.returns-clause-pool
-returns-clause-pool g c = c.loop-running.invariant.pool
 
 pub returns-clause-started : goal.returns-clause-started
 returns-clause-started g c = c.loop-running.invariant.started
 
-pub returns-clause-frames : goal.returns-clause-frames
-returns-clause-frames g c = c.loop-running.invariant.frames
+pub returns-in-Err-clause-leaves : goal.returns-in-Err-clause-leaves
+returns-in-Err-clause-leaves g c = record {
+  reached = tt;
+  held = tt;
+  ready = tt;
+  able = tt;
+  counted = c.in-Err.ensures.accounts.counted;
+  stands = c.in-Err.ensures.accounts.stands;
+  pool =
+      keeps_join c.args.pool.now c.loop-running.pool c.one_step.new.pool (g.H.Host.bytes c.args.host.now) (g.H.Host.bytes c.stretch.new.host) (g.H.Host.bytes c.one_step.new.host)
+      (g.S.Shadows.frames c.args.running.now.shadows (g.H.Host.bytes c.args.host.now)) (g.S.Shadows.frames c.stretch.new.running.shadows (g.H.Host.bytes c.stretch.new.host)) (g.S.Shadows.frames c.one_step.new.running.shadows (g.H.Host.bytes c.one_step.new.host))
+      (keeps_join c.args.pool.now c.loop-running.pool c.loop-running.pool (g.H.Host.bytes c.args.host.now) (g.H.Host.bytes c.loop-running.host) (g.H.Host.bytes c.stretch.new.host)
+      (g.S.Shadows.frames c.args.running.now.shadows (g.H.Host.bytes c.args.host.now)) (g.S.Shadows.frames c.loop-running.running.shadows (g.H.Host.bytes c.loop-running.host)) (g.S.Shadows.frames c.stretch.new.running.shadows (g.H.Host.bytes c.stretch.new.host))
+      c.loop-running.invariant.pool (c.stretch.ensures.leaves.pool c.loop-running.pool (held_given g.S.Shadows.stands g.S.Shadows.frames g.S.Shadows.slots c.args.image.now c.args.running.now.frames c.loop-running.running.frames c.loop-running.running c.begin.new.self c.loop-running.pool (g.H.Host.bytes c.loop-running.host) c.loop-running.invariant.frames c.loop-running.invariant.held))) c.in-Err.ensures.accounts.pool;
+  few =
+      let held = c.stretch.ensures.leaves.held c.loop-running.pool (held_given g.S.Shadows.stands g.S.Shadows.frames g.S.Shadows.slots c.args.image.now c.args.running.now.frames c.loop-running.running.frames c.loop-running.running c.begin.new.self c.loop-running.pool (g.H.Host.bytes c.loop-running.host) c.loop-running.invariant.frames c.loop-running.invariant.held) in
+      let few = held.fills in
+      let same = c.in-Err.ensures.steps.leaves.stays.fills in
+      let still = c.in-Err.ensures.steps.leaves.stays.step in
+      omega (arith, few, same, still);
+  filled = fills_join _ _ _ _ _ _ (fills_join _ _ _ _ _ _ c.loop-running.invariant.filled c.stretch.ensures.leaves.filled) c.in-Err.ensures.accounts.filled;
+  frames = c.in-Err.ensures.accounts.frames ∙ (c.stretch.ensures.leaves.frames ∙ c.loop-running.invariant.frames);
+}
 
-pub returns-clause-later : goal.returns-clause-later
-returns-clause-later g c = c.loop-running.invariant.later
+pub returns-in-Err-clause-noted : goal.returns-in-Err-clause-noted
+returns-in-Err-clause-noted g c = record {
+  wants = c.tell.ensures.wants ∙ c.loop-running.invariant.wants;
+  silent = λ unwanted. c.tell.ensures.silent (c.loop-running.invariant.wants ∙ unwanted) ∙ c.loop-running.invariant.silent unwanted;
+}
 
-pub returns-clause-cause : goal.returns-clause-cause
-returns-clause-cause g c = tt
+pub returns-in-Err-clause-faults : goal.returns-in-Err-clause-faults
+returns-in-Err-clause-faults g c = record {
+  later = c.loop-running.invariant.later;
+  cause = tt;
+}
+
+pub returns-in-Err-put_seen-clause-leaves : goal.returns-in-Err-put_seen-clause-leaves
+returns-in-Err-put_seen-clause-leaves g c = record {
+  reached = tt;
+  held = tt;
+  ready = tt;
+  able = tt;
+  counted = tt;
+  stands = tt;
+  pool = tt;
+  few = tt;
+  filled = fills_join _ _ _ _ _ _ (fills_join _ _ _ _ _ _ c.loop-running.invariant.filled c.stretch.ensures.leaves.filled) c.in-Ok.ensures.accounts.filled;
+  frames = c.in-Ok.ensures.accounts.frames ∙ (c.stretch.ensures.leaves.frames ∙ c.loop-running.invariant.frames);
+}
+
+pub returns-in-Err-put_seen-clause-noted : goal.returns-in-Err-put_seen-clause-noted
+returns-in-Err-put_seen-clause-noted g c = record {
+  wants = c.tell_both.ensures.wants ∙ c.loop-running.invariant.wants;
+  silent = λ unwanted. c.tell_both.ensures.silent (c.loop-running.invariant.wants ∙ unwanted) ∙ c.loop-running.invariant.silent unwanted;
+}
+
+pub returns-in-Err-put_seen-clause-faults : goal.returns-in-Err-put_seen-clause-faults
+returns-in-Err-put_seen-clause-faults g c = record {
+  later =
+      let a = c.loop-running.invariant.later in let b = c.in-Err-put_seen.ensures.later in omega (arith, a, b);
+  cause =
+      let a = c.loop-running.invariant.later in let b = c.in-Err-put_seen.ensures.cause in omega (arith, a, b);
+}
+
+pub returns-clause-leaves : goal.returns-clause-leaves
+returns-clause-leaves g c = record {
+  reached =
+      let a = c.loop-running.invariant.bound in let b = c.loop-running-test.false in omega (arith, a, b);
+  held = c.loop-running.invariant.held;
+  ready = c.loop-running.invariant.ready;
+  able = c.loop-running.invariant.able;
+  counted = c.loop-running.invariant.held.counted;
+  stands = c.loop-running.invariant.held.stand;
+  pool = c.loop-running.invariant.pool;
+  few = c.loop-running.invariant.held.fills;
+  filled = c.loop-running.invariant.filled;
+  frames = c.loop-running.invariant.frames;
+}
+
+pub returns-clause-noted : goal.returns-clause-noted
+returns-clause-noted g c = record {
+  wants = c.loop-running.invariant.wants;
+  silent = c.loop-running.invariant.silent;
+}
+
+pub returns-clause-faults : goal.returns-clause-faults
+returns-clause-faults g c = record {
+  later = c.loop-running.invariant.later;
+  cause = tt;
+}
 
 pub stretch-requires-clause-started : goal.stretch-requires-clause-started
 stretch-requires-clause-started g c = c.loop-running.invariant.started
@@ -542,34 +496,34 @@ pub one_step-requires-clause-started : goal.one_step-requires-clause-started
 one_step-requires-clause-started g c = c.stretch.ensures.started
 
 pub one_step-requires-clause-able : goal.one_step-requires-clause-able
-one_step-requires-clause-able g c = c.stretch.ensures.able
+one_step-requires-clause-able g c = c.stretch.ensures.leaves.able
 
 pub one_step-requires-clause-bound : goal.one_step-requires-clause-bound
-one_step-requires-clause-bound g c = let n = c.stretch.ensures.count in let z = c.if-stretch-gt0.false in let t = c.loop-running-test.true in let b = c.requires.bound in omega (arith, n, z, t, b)
+one_step-requires-clause-bound g c = let n = c.stretch.ensures.counts.count in let z = c.if-stretch-gt0.false in let t = c.loop-running-test.true in let b = c.requires.bound in omega (arith, n, z, t, b)
 
 pub one_step-requires-clause-room : goal.one_step-requires-clause-room
-one_step-requires-clause-room g c = let r = c.loop-running.invariant.room in let t = c.loop-running-test.true in let e = c.stretch.ensures.retired in let z = c.if-stretch-gt0.false in omega (arith, r, t, e, z)
+one_step-requires-clause-room g c = let r = c.loop-running.invariant.room in let t = c.loop-running-test.true in let e = c.stretch.ensures.counts.retired in let z = c.if-stretch-gt0.false in omega (arith, r, t, e, z)
 
 pub begin-requires : goal.begin-requires
 begin-requires g c = c.requires.script
 
 pub tell_both-requires : goal.tell_both-requires
-tell_both-requires g c = let n = c.stretch.ensures.count in let z = c.if-stretch-gt0.false in let t = c.loop-running-test.true in let b = c.requires.bound in omega (arith, n, z, t, b)
+tell_both-requires g c = let n = c.stretch.ensures.counts.count in let z = c.if-stretch-gt0.false in let t = c.loop-running-test.true in let b = c.requires.bound in omega (arith, n, z, t, b)
 
 pub rest-requires-clause-script : goal.rest-requires-clause-script
 rest-requires-clause-script g c = c.requires.script
 
 pub rest-requires-clause-begun : goal.rest-requires-clause-begun
-rest-requires-clause-begun g c = let e = c.in-Ok.ensures.count in omega (arith, e)
+rest-requires-clause-begun g c = let e = c.in-Ok.ensures.steps.leaves.count in omega (arith, e)
 
 pub rest-requires-clause-within : goal.rest-requires-clause-within
-rest-requires-clause-within g c = let e = c.in-Ok.ensures.count in let n = c.stretch.ensures.count in let z = c.if-stretch-gt0.false in let t = c.loop-running-test.true in omega (arith, e, n, z, t)
+rest-requires-clause-within g c = let e = c.in-Ok.ensures.steps.leaves.count in let n = c.stretch.ensures.counts.count in let z = c.if-stretch-gt0.false in let t = c.loop-running-test.true in omega (arith, e, n, z, t)
 
 pub rest-requires-clause-bound : goal.rest-requires-clause-bound
 rest-requires-clause-bound g c = c.requires.bound
 
 pub loop-running-smaller-then-stretch-gt0 : goal.loop-running-smaller-then-stretch-gt0
-loop-running-smaller-then-stretch-gt0 g c = let n = c.stretch.ensures.count in let p = c.if-stretch-gt0.true in let t = c.loop-running-test.true in omega (arith, n, p, t)
+loop-running-smaller-then-stretch-gt0 g c = let n = c.stretch.ensures.counts.count in let p = c.if-stretch-gt0.true in let t = c.loop-running-test.true in omega (arith, n, p, t)
 
 pub loop-running-smaller : goal.loop-running-smaller
-loop-running-smaller g c = let l = c.rest.ensures.later in let e = c.in-Ok.ensures.count in let n = c.stretch.ensures.count in let z = c.if-stretch-gt0.false in let t = c.loop-running-test.true in omega (arith, l, e, n, z, t)
+loop-running-smaller g c = let l = c.rest.ensures.later in let e = c.in-Ok.ensures.steps.leaves.count in let n = c.stretch.ensures.counts.count in let z = c.if-stretch-gt0.false in let t = c.loop-running-test.true in omega (arith, l, e, n, z, t)

@@ -1,52 +1,54 @@
-use Rattle.std.proofs.Common.{◌≡◌, ℕ, ◌+◌, ◌≤◌, false, List, [], ◌∷◌, ◌++◌, length, sym, subst}
-use Rattle.std.specs.Prelude.{OnOk}
-use Rattle.frame_pool.specs.Pool.{free_list}
-use Rattle.board.specs.Scripts.{Events}
-use Rattle.machine_model.specs.Keeping.{Roomy}
-use Rattle.machine_model.specs.State.{wedge}
-use Rattle.machine_model.specs.Taken.{Taken}
-use Rattle.wedge_step.specs.Alone.{AloneAs}
-use Rattle.wedge_step.specs.Carried.{IsCarried, IsTakenFrom}
-use Rattle.wedge_step.specs.Filled.{FillsOn, pages_kept}
-use Rattle.wedge_step.specs.Pools.{Keeps}
-use Rattle.wedge_step.specs.Ready.{IsReady}
-use Rattle.wedge_step.specs.Standing.{IsHeld, ground, set_of, state_of}
-use Rattle.wedge_core.proofs.step.by_rules.Given.{Over}
+use Rattle.std.proofs.Common.{◌≡◌, ℕ, List, Result, Ok, Err, OnOk, sym, subst}
+use Rattle.ia32_types.specs.declared.stop.Stop.{Stop}
+use Rattle.image_check.specs.Image.{Image}
+use Rattle.shadow_tables.specs.declared.shadows.Shadows as shadows
+use Rattle.wedge_step.specs.Leaves.{Accounts, IsBetween}
+use Rattle.wedge_step.specs.Scene.{Scene, scene}
+use Rattle.wedge_step.specs.Standing.{ground}
+use Rattle.wedge_core.specs.Scenes.{IsHeldIn, IsReadyIn}
+use Rattle.wedge_core.specs.Stepped.{StepsAlone}
+use Rattle.wedge_core.proofs.Lent.{lent}
 use Rattle.wedge_core.proofs.step.by_rules.Goals as goal
-
--- what holds of the memory that was lent, before and behind, holds of the host's
-lent : (g : Over) (h : g.row.H.Denot) (old new : List ℕ) → old ≡ g.H.Host.bytes h → (fact : List ℕ → List ℕ → Type 0) → fact old new → fact (g.H.Host.bytes h) (g.H.Host.bytes (g.H.Host.with_bytes h new))
-lent g h old new is fact known =
-    subst (λ (k : List ℕ). fact (g.H.Host.bytes h) k) (sym (g.met.H.Host.bytes_changed h new)) (subst (λ (l : List ℕ). fact l new) is known)
 
 pub step_alone-requires : goal.step_alone-requires
 step_alone-requires g c =
-    let r = c.args.running.now in
-    let is = sym c.ram_mut.ensures.ram in
     record {
-      held = subst (λ (l : List ℕ). IsHeld g.S.Shadows.stands g.S.Shadows.frames g.S.Shadows.slots (ground c.args.image.now r.frames) r c.args.pool.now l) is c.requires.held;
-      ready = subst (λ (l : List ℕ). IsReady g.S.Shadows.slots g.S.Shadows.noted g.S.Shadows.marked g.S.Shadows.value g.S.Shadows.asides (ground c.args.image.now r.frames) r.cpu r.shadows l) is c.requires.ready;
+      between = subst (λ (l : List ℕ). IsBetween g.S.Shadows c.args.image.now (scene c.args.running.now c.args.pool.now l)) (sym c.ram_mut.ensures.ram) c.requires.between;
       bound = c.requires.bound;
-      enough = subst (λ (l : List ℕ). 16 ≤ length (free_list c.args.pool.now l) + r.held) is c.requires.enough;
     }
 
+-- where a step went and the guest is between two steps, it is so in the same frames
+held_still : {S X : Type 0} (g : shadows.Ghosts S) (r : Result X Stop) (image : Image) (frames : ℕ) (new : Scene S) → new.guest.frames ≡ frames → OnOk r (IsBetween g image new)
+    → OnOk r (IsHeldIn g (ground image frames) new) × OnOk r (IsReadyIn g (ground image frames) new)
+held_still g (Ok done) image frames new same b =
+    (subst (λ (k : ℕ). IsHeldIn g (ground image k) new) same b.held, subst (λ (k : ℕ). IsReadyIn g (ground image k) new) same b.ready)
+held_still g (Err stop) image frames new same b = (tt, tt)
+
 pub returns : goal.returns
-returns g c = record {
-  step = lent g c.args.host.now c.ram_mut.result.now c.step_alone.new.ram c.ram_mut.ensures.ram (λ l k. (script : Events) → AloneAs (wedge c.args.image.now script c.args.running.now.frames) (state_of g.S.Shadows.stands g.S.Shadows.frames g.S.Shadows.slots (wedge c.args.image.now script c.args.running.now.frames) c.args.running.now l) c.step_alone.new.running.lost c.step_alone.result (state_of g.S.Shadows.stands g.S.Shadows.frames g.S.Shadows.slots (wedge c.args.image.now script c.args.running.now.frames) c.step_alone.new.running k)) c.step_alone.ensures.step;
-  before = c.step_alone.ensures.before;
-  ready = lent g c.args.host.now c.ram_mut.result.now c.step_alone.new.ram c.ram_mut.ensures.ram (λ l k. OnOk c.step_alone.result (IsReady g.S.Shadows.slots g.S.Shadows.noted g.S.Shadows.marked g.S.Shadows.value g.S.Shadows.asides (ground c.args.image.now c.args.running.now.frames) c.step_alone.new.running.cpu c.step_alone.new.running.shadows k)) c.step_alone.ensures.ready;
-  wanted = c.step_alone.ensures.wanted;
-  carried = lent g c.args.host.now c.ram_mut.result.now c.step_alone.new.ram c.ram_mut.ensures.ram (λ l k. OnOk c.step_alone.result ((script : Events) (steps : List Taken) (t : Taken) → c.args.wanted ≡ false → length (free_list c.args.pool.now l) + c.args.running.now.held ≡ 512 → Roomy (steps ++ t ∷ []) → IsTakenFrom (wedge c.args.image.now script c.args.running.now.frames) (state_of g.S.Shadows.stands g.S.Shadows.frames g.S.Shadows.slots (wedge c.args.image.now script c.args.running.now.frames) c.args.running.now l) t → t.set ≡ set_of g.S.Shadows.stands g.S.Shadows.frames g.S.Shadows.slots c.args.running.now l → IsCarried g.S.Shadows.slots g.S.Shadows.noted g.S.Shadows.marked g.S.Shadows.asides g.S.Shadows.opened (wedge c.args.image.now script c.args.running.now.frames) steps t.before c.args.running.now.shadows l → IsCarried g.S.Shadows.slots g.S.Shadows.noted g.S.Shadows.marked g.S.Shadows.asides g.S.Shadows.opened (wedge c.args.image.now script c.args.running.now.frames) (steps ++ t ∷ []) t.after c.step_alone.new.running.shadows k)) c.step_alone.ensures.carried;
-  held = lent g c.args.host.now c.ram_mut.result.now c.step_alone.new.ram c.ram_mut.ensures.ram (λ l k. OnOk c.step_alone.result (IsHeld g.S.Shadows.stands g.S.Shadows.frames g.S.Shadows.slots (ground c.args.image.now c.args.running.now.frames) c.step_alone.new.running c.step_alone.new.pool k)) c.step_alone.ensures.held;
-  count = c.step_alone.ensures.count;
-  stays = c.step_alone.ensures.stays;
-  unfilled = c.step_alone.ensures.unfilled;
-  counted = lent g c.args.host.now c.ram_mut.result.now c.step_alone.new.ram c.ram_mut.ensures.ram (λ l k. c.step_alone.new.running.held ≡ length (g.S.Shadows.frames c.step_alone.new.running.shadows k)) c.step_alone.ensures.counted;
-  stands = lent g c.args.host.now c.ram_mut.result.now c.step_alone.new.ram c.ram_mut.ensures.ram (λ l k. ∥ g.S.Shadows.stands c.step_alone.new.running.shadows k ∥₁) c.step_alone.ensures.stands;
-  filled = lent g c.args.host.now c.ram_mut.result.now c.step_alone.new.ram c.ram_mut.ensures.ram (λ l k. FillsOn (pages_kept g.S.Shadows.slots g.S.Shadows.asides c.args.running.now.shadows l) (pages_kept g.S.Shadows.slots g.S.Shadows.asides c.step_alone.new.running.shadows k) c.args.running.now.fills c.step_alone.new.running.fills) c.step_alone.ensures.filled;
-  pool = lent g c.args.host.now c.ram_mut.result.now c.step_alone.new.ram c.ram_mut.ensures.ram (λ l k. Keeps c.args.pool.now c.step_alone.new.pool l k (g.S.Shadows.frames c.args.running.now.shadows l) (g.S.Shadows.frames c.step_alone.new.running.shadows k)) c.step_alone.ensures.pool;
-  retired = g.met.H.Host.retired_stays c.args.host.now c.step_alone.new.ram;
-  passed = g.met.H.Host.passed_stays c.args.host.now c.step_alone.new.ram;
-  started = g.met.H.Host.started_so c.args.host.now c.step_alone.new.ram;
-  frames = c.step_alone.ensures.frames;
-}
+returns g c =
+    let before = λ (memory : List ℕ). scene c.args.running.now c.args.pool.now memory in
+    let after = λ (memory : List ℕ). scene c.step_alone.new.running c.step_alone.new.pool memory in
+    let at = lent g.H.Host.bytes g.H.Host.with_bytes g.met.H.Host.bytes_changed c.args.host.now c.ram_mut.result.now c.step_alone.new.ram c.ram_mut.ensures.ram in
+    let e = c.step_alone.ensures in
+    let still = held_still g.S.Shadows c.step_alone.result c.args.image.now c.args.running.now.frames (after c.step_alone.new.ram) e.accounts.frames e.between in
+    record {
+      alone = at (λ l k. StepsAlone g.S.Shadows c.args.image.now c.args.wanted (before l) (after k) c.step_alone.result)
+          (record {
+            step = e.step;
+            leaves = record {
+              held = still.0;
+              ready = still.1;
+              back = e.wanted;
+              count = e.count;
+              stays = e.stays;
+            };
+            before = e.before;
+            carried = e.carried;
+          });
+      accounts = at (λ l k. Accounts g.S.Shadows (before l) (after k)) e.accounts;
+      counts = record {
+        retired = g.met.H.Host.retired_stays c.args.host.now c.step_alone.new.ram;
+        passed = g.met.H.Host.passed_stays c.args.host.now c.step_alone.new.ram;
+      };
+      started = g.met.H.Host.started_so c.args.host.now c.step_alone.new.ram;
+    }

@@ -26,7 +26,7 @@ use Rattle.wedge_step.specs.declared.running.Lost.{Lost}
 use Rattle.wedge_step.specs.declared.running.Running.{Running}
 use Rattle.wedge_step.proofs.Stays.{kept_same}
 use Rattle.wedge_core.specs.Attempts.{Idle}
-use Rattle.wedge_core.specs.Ran.{Ran}
+use Rattle.wedge_core.proofs.RanBy.{Ran}
 use Rattle.wedge_core.specs.Views.{view_by}
 use Rattle.wedge_core.proofs.Going.{counted, counts_same}
 use Rattle.wedge_core.proofs.Instructed.{clashes_by}
@@ -39,25 +39,20 @@ use Rattle.wedge_core.proofs.step.on_host.Goals as goal
 
 pub returns-in-Err : goal.returns-in-Err
 returns-in-Err g c = record {
-  step = λ script. record { halts = c.in-Err.ensures.step script };
-  ready = tt;
-  wanted = tt;
-  carried = tt;
-  clashed = λ lost room script b cpu ram set board. clashes_by (wedge c.args.image.now script c.args.running.now.frames) b c.args.running.now.cpu c.args.running.now.board c.args.image.now cpu board c.requires.runs (c.in-Err.ensures.clashed lost room script b cpu ram set);
-  held = tt;
-  able = tt;
-  count = tt;
-  stands = c.in-Err.ensures.stands;
-  filled = c.in-Err.ensures.filled;
-  pool = c.in-Err.ensures.pool;
-  few = (let same = c.in-Err.ensures.retired in omega (arith, same));
-  stays = c.in-Err.ensures.stays;
-  unfilled = c.in-Err.ensures.unfilled;
-  counted = c.in-Err.ensures.counted;
-  retired = c.in-Err.ensures.retired;
-  passed = c.in-Err.ensures.passed;
+  steps = record {
+    step = λ script. record { halts = c.in-Err.ensures.attempts.step script };
+    able = tt;
+    carried = tt;
+    clashed = λ lost room script b cpu ram set board. clashes_by (wedge c.args.image.now script c.args.running.now.frames) b c.args.running.now.cpu c.args.running.now.board c.args.image.now cpu board c.requires.runs (c.in-Err.ensures.attempts.clashed lost room script b cpu ram set);
+    leaves = record { held = tt; ready = tt; back = tt; count = tt; stays = c.in-Err.ensures.attempts.leaves.stays };
+  };
+  accounts = c.in-Err.ensures.accounts;
+  counts = record {
+    few = (let same = c.in-Err.ensures.counts.retired in omega (arith, same));
+    retired = c.in-Err.ensures.counts.retired;
+    passed = c.in-Err.ensures.counts.passed;
+  };
   started = c.in-Err.ensures.started;
-  frames = c.in-Err.ensures.frames;
 }
 
 -- ---- it went without the host
@@ -66,36 +61,33 @@ module _ (g : Over) (c : goal.In-Ok-Stepped g) where
   went : (script : Events) → Idle (wedge c.args.image.now script c.args.running.now.frames)
       (state_of g.S.Shadows.stands g.S.Shadows.frames g.S.Shadows.slots (wedge c.args.image.now script c.args.running.now.frames) c.args.running.now (g.H.Host.bytes c.args.host.now)) c.attempt.new.running.lost.before c.attempt.new.running.lost c.in-Ok-Stepped.seen
       (state_of g.S.Shadows.stands g.S.Shadows.frames g.S.Shadows.slots (wedge c.args.image.now script c.args.running.now.frames) c.attempt.new.running (g.H.Host.bytes c.attempt.new.host))
-  went script = rw c.in-Ok-Stepped.field-0-is at (c.in-Ok-Stepped.ensures.step script)
+  went script = rw c.in-Ok-Stepped.field-0-is at (c.in-Ok-Stepped.ensures.attempts.step script)
 
   count : c.attempt.new.running.step ≡ c.args.running.now.step + 1
-  count = rw c.in-Ok-Stepped.field-0-is at c.in-Ok-Stepped.ensures.count
+  count = rw c.in-Ok-Stepped.field-0-is at c.in-Ok-Stepped.ensures.attempts.leaves.count
 
 pub returns-in-Ok-Stepped : goal.returns-in-Ok-Stepped
 returns-in-Ok-Stepped g c =
     let r = c.attempt.new.running in
     let e = c.in-Ok-Stepped.ensures in
     record {
-      step = λ script. idle_goes _ _ r.lost c.in-Ok-Stepped.seen _ (counted (g.H.Host.retired c.args.host.now) (g.H.Host.passed c.args.host.now)) (counted (g.H.Host.retired c.attempt.new.host) (g.H.Host.passed c.attempt.new.host))
-          (sym (counts_same (g.H.Host.retired c.args.host.now) (g.H.Host.retired c.attempt.new.host) (g.H.Host.passed c.args.host.now) (g.H.Host.passed c.attempt.new.host) e.retired e.passed)) (went g c script);
-      ready = e.ready;
-      wanted = e.wanted;
-      carried = rw c.in-Ok-Stepped.field-0-is at e.carried;
-      clashed = λ lost room script b cpu ram set board. clashes_by (wedge c.args.image.now script c.args.running.now.frames) b c.args.running.now.cpu c.args.running.now.board c.args.image.now cpu board c.requires.runs (e.clashed lost room script b cpu ram set);
-      held = subst (λ (k : ℕ). IsHeld g.S.Shadows.stands g.S.Shadows.frames g.S.Shadows.slots (ground c.args.image.now c.args.running.now.frames) (record r { step = k }) c.attempt.new.pool (g.H.Host.bytes c.attempt.new.host)) (sym (count g c)) e.held;
-      able = idle_able c.steps_keep_able.ensures _ _ _ _ c.in-Ok-Stepped.seen _ refl c.requires.able (went g c []);
-      count = count g c;
-      stands = e.stands;
-      filled = e.filled;
-      pool = e.pool;
-      few = (let same = e.retired in omega (arith, same));
-      stays = tt;
-      unfilled = tt;
-      counted = e.counted;
-      retired = tt;
-      passed = tt;
+      steps = record {
+        step = λ script. idle_goes _ _ r.lost c.in-Ok-Stepped.seen _ (counted (g.H.Host.retired c.args.host.now) (g.H.Host.passed c.args.host.now)) (counted (g.H.Host.retired c.attempt.new.host) (g.H.Host.passed c.attempt.new.host))
+            (sym (counts_same (g.H.Host.retired c.args.host.now) (g.H.Host.retired c.attempt.new.host) (g.H.Host.passed c.args.host.now) (g.H.Host.passed c.attempt.new.host) e.counts.retired e.counts.passed)) (went g c script);
+        able = idle_able c.steps_keep_able.ensures _ _ _ _ c.in-Ok-Stepped.seen _ refl c.requires.able (went g c []);
+        carried = rw c.in-Ok-Stepped.field-0-is at e.attempts.carried;
+        clashed = λ lost room script b cpu ram set board. clashes_by (wedge c.args.image.now script c.args.running.now.frames) b c.args.running.now.cpu c.args.running.now.board c.args.image.now cpu board c.requires.runs (e.attempts.clashed lost room script b cpu ram set);
+        leaves = record {
+          held = subst (λ (k : ℕ). IsHeld g.S.Shadows.stands g.S.Shadows.frames g.S.Shadows.slots (ground c.args.image.now c.args.running.now.frames) (record r { step = k }) c.attempt.new.pool (g.H.Host.bytes c.attempt.new.host)) (sym (count g c)) e.attempts.leaves.held;
+          ready = e.attempts.leaves.ready;
+          back = e.attempts.leaves.back;
+          count = count g c;
+          stays = tt;
+        };
+      };
+      accounts = e.accounts;
+      counts = record { few = (let same = e.counts.retired in omega (arith, same)); retired = tt; passed = tt };
       started = e.started;
-      frames = e.frames;
     }
 
 -- ---- the host did it
@@ -142,20 +134,20 @@ module _ (g : Over) (c : goal.After-ram g) where
       let v = view_by (g.S.Shadows.directory r1.shadows) r1.cpu in
       let x = c.run_on-one.new in
       let e = c.in-Ok-Asked.ensures in
-      subst (λ (k : ℕ). Ran v 1 (standing r1.cpu.regs m1 (g.H.Host.retired c.args.host.now) k) r1 c.run_on-one.result r2 m2 (g.H.Host.retired x.host) (g.H.Host.passed x.host)) e.passed
-      (subst (λ (k : ℕ). Ran v 1 (standing r1.cpu.regs m1 k (g.H.Host.passed c.attempt.new.host)) r1 c.run_on-one.result r2 m2 (g.H.Host.retired x.host) (g.H.Host.passed x.host)) e.retired c.run_on-one.ensures.ran)
+      subst (λ (k : ℕ). Ran v 1 (standing r1.cpu.regs m1 (g.H.Host.retired c.args.host.now) k) r1 c.run_on-one.result r2 m2 (g.H.Host.retired x.host) (g.H.Host.passed x.host)) e.counts.passed
+      (subst (λ (k : ℕ). Ran v 1 (standing r1.cpu.regs m1 k (g.H.Host.passed c.attempt.new.host)) r1 c.run_on-one.result r2 m2 (g.H.Host.retired x.host) (g.H.Host.passed x.host)) e.counts.retired c.run_on-one.ensures.ran)
 
   same : r1 ≡ record r0 { shadows = r1.shadows; held = r1.held; fills = r1.fills; lost = r1.lost }
-  same = rw c.in-Ok-Asked.field-0-is at c.in-Ok-Asked.ensures.asked
+  same = rw c.in-Ok-Asked.field-0-is at c.in-Ok-Asked.ensures.attempts.leaves.asked
 
   once : IsOnce g.S.Shadows.stands g.S.Shadows.frames g.S.Shadows.slots g.S.Shadows.directory c.args.image.now r0 r1 r2 c.attempt.new.pool m0 m1 m2
       (counted (g.H.Host.retired c.args.host.now) (g.H.Host.passed c.args.host.now)) (counted (g.H.Host.retired c.run_on-one.new.host) (g.H.Host.passed c.run_on-one.new.host)) c.run_on-one.result
   once = record {
-    asks = λ script. rw c.in-Ok-Asked.field-0-is at (c.in-Ok-Asked.ensures.step script);
+    asks = λ script. rw c.in-Ok-Asked.field-0-is at (c.in-Ok-Asked.ensures.attempts.step script);
     ran = ran;
     same = same;
-    held = c.in-Ok-Asked.ensures.held;
-    kept = λ above size. kept_above c.in-Ok-Asked.ensures.held.stand c.in-Ok-Asked.ensures.held.owns c.in-Ok-Asked.ensures.held.behind above size;
+    held = c.in-Ok-Asked.ensures.attempts.leaves.held;
+    kept = λ above size. kept_above c.in-Ok-Asked.ensures.attempts.leaves.held.stand c.in-Ok-Asked.ensures.attempts.leaves.held.owns c.in-Ok-Asked.ensures.attempts.leaves.held.behind above size;
   }
 
   kept : SameKept g.S.Shadows.stands g.S.Shadows.frames g.S.Shadows.slots r1.shadows c.attempt.new.pool m1 m2
@@ -172,7 +164,7 @@ module _ (g : Over) (c : goal.After-ram g) where
 
   -- what is kept is behind the guest's frames, where the host wrote nothing
   under : 4096 * n ≤ 4096 * base_of c.attempt.new.pool
-  under = let low = c.in-Ok-Asked.ensures.held.behind in omega (arith, low)
+  under = let low = c.in-Ok-Asked.ensures.attempts.leaves.held.behind in omega (arith, low)
 
   behind : drop (4096 * n) m2 ≡ drop (4096 * n) m1
   behind = behind_is g.S.Shadows.stands g.S.Shadows.frames g.S.Shadows.slots g.S.Shadows.directory _ _ _ _ _ _ _ _ _ _ _ once
@@ -182,13 +174,13 @@ module _ (g : Over) (c : goal.After-ram g) where
 
   asides_same : AreSame (g.S.Shadows.asides r1.shadows m1) (g.S.Shadows.asides r1.shadows m2)
   asides_same =
-      let h = c.in-Ok-Asked.ensures.held in
+      let h = c.in-Ok-Asked.ensures.attempts.leaves.held in
       g.met.S.Shadows.same_asides r1.shadows m1 m2 h.stand (g.met.S.Shadows.above r1.shadows c.attempt.new.pool m1 m2 (4096 * n) h.owns under behind size)
 
   ready : IsReady g.S.Shadows.slots g.S.Shadows.noted g.S.Shadows.marked g.S.Shadows.value g.S.Shadows.asides (ground c.args.image.now n) r2.cpu r2.shadows m2
   ready =
       let met = g.met.S.Shadows in
-      let h = c.in-Ok-Asked.ensures.held in
+      let h = c.in-Ok-Asked.ensures.attempts.leaves.held in
       let tracks : Tracks g.S.Shadows.stands g.S.Shadows.slots g.S.Shadows.noted g.S.Shadows.marked g.S.Shadows.value g.S.Shadows.asides g.S.Shadows.tracked g.S.Shadows.directory = record {
         host = met.host;
         barred = met.barred;
@@ -200,7 +192,7 @@ module _ (g : Over) (c : goal.After-ram g) where
       let untouched = λ (at : ℕ) (t : is_among at (g.S.Shadows.tracked r1.shadows) ≡ true).
       once_untouched g.S.Shadows.stands g.S.Shadows.frames g.S.Shadows.slots g.S.Shadows.directory _ _ _ _ _ _ _ _ _ _ _ once at
       (unlent g.S.Shadows.stands g.S.Shadows.slots g.S.Shadows.noted g.S.Shadows.marked g.S.Shadows.value g.S.Shadows.asides g.S.Shadows.tracked g.S.Shadows.directory tracks r1.shadows m1 (side_of (r1.cpu.cpl == 3)) at h.stand h.whole t) in
-      let ready1 = subst (λ (x : Cpu). IsReady g.S.Shadows.slots g.S.Shadows.noted g.S.Shadows.marked g.S.Shadows.value g.S.Shadows.asides (ground c.args.image.now n) x r1.shadows m1) cpu c.in-Ok-Asked.ensures.ready in
+      let ready1 = subst (λ (x : Cpu). IsReady g.S.Shadows.slots g.S.Shadows.noted g.S.Shadows.marked g.S.Shadows.value g.S.Shadows.asides (ground c.args.image.now n) x r1.shadows m1) cpu c.in-Ok-Asked.ensures.attempts.leaves.ready in
       subst (λ (x : g.row.S.Denot). IsReady g.S.Shadows.slots g.S.Shadows.noted g.S.Shadows.marked g.S.Shadows.value g.S.Shadows.asides (ground c.args.image.now n) r2.cpu x m2) (sym shadows_same)
       (ready_on g.S.Shadows.stands g.S.Shadows.slots g.S.Shadows.noted g.S.Shadows.marked g.S.Shadows.value g.S.Shadows.asides g.S.Shadows.tracked g.S.Shadows.directory tracks (ground c.args.image.now n) h.wedge r0.cpu r2.cpu r1.shadows m1 m2
       h.host held.host rules.0 rules.1 rules.2 untouched kept.slots_are asides_same ready1)
@@ -209,7 +201,7 @@ module _ (g : Over) (c : goal.After-ram g) where
   filled =
       let pages = λ (s : g.row.S.Denot) (l : List ℕ). pages_kept g.S.Shadows.slots g.S.Shadows.asides s l in
       once_fills g.S.Shadows.stands g.S.Shadows.frames g.S.Shadows.slots g.S.Shadows.directory _ _ _ _ _ _ _ _ _ _ _ once pages (pages r0.shadows m0)
-      (kept_same g.S.Shadows.slots g.S.Shadows.asides r1.shadows m1 m2 kept.entries_are asides_same) c.in-Ok-Asked.ensures.filled
+      (kept_same g.S.Shadows.slots g.S.Shadows.asides r1.shadows m1 m2 kept.entries_are asides_same) c.in-Ok-Asked.ensures.accounts.filled
 
   -- its pages were settled before
   asked_on : (script : Events) (steps : List Taken) (t : Taken) → AreBytes (shown (ground c.args.image.now n) m2) → c.args.wanted ≡ false → length (free_list c.args.pool.now m0) + r0.held ≡ 512 → Roomy (steps ++ t ∷ [])
@@ -222,14 +214,14 @@ module _ (g : Over) (c : goal.After-ram g) where
       let k = once_taken g.S.Shadows.stands g.S.Shadows.frames g.S.Shadows.slots g.S.Shadows.directory _ _ _ _ _ _ _ _ _ _ _ once script t taken by1 in
       let long = shown_length (ground c.args.image.now n) held.wedge m2 held.host in
       let size_is = ap length k.3 in
-      let f = rw c.in-Ok-Asked.field-0-is at c.in-Ok-Asked.ensures.carried_asked in
+      let f = rw c.in-Ok-Asked.field-0-is at c.in-Ok-Asked.ensures.attempts.carried_asked in
       f script steps t unwanted free roomy taken by1 k.0 k.1 k.2 (omega (arith, long, size_is)) (subst AreBytes (sym k.3) bytes) carried
 
   -- and what is kept is as it was
   carried_still : (m : Setting) (steps : List Taken) (b : State) → IsCarried g.S.Shadows.slots g.S.Shadows.noted g.S.Shadows.marked g.S.Shadows.asides g.S.Shadows.opened m steps b r1.shadows m1 → IsCarried g.S.Shadows.slots g.S.Shadows.noted g.S.Shadows.marked g.S.Shadows.asides g.S.Shadows.opened m steps b r2.shadows m2
   carried_still m steps b h =
       let s = r1.shadows in
-      let e = c.in-Ok-Asked.ensures.held in
+      let e = c.in-Ok-Asked.ensures.attempts.leaves.held in
       let as_was = g.met.S.Shadows.above s c.attempt.new.pool m1 m2 (4096 * n) e.owns under behind size in
       let indices : ℕ → Bool = λ index. is_member eqb (indices_in steps) index in
       let noted = g.S.Shadows.noted s in
@@ -245,9 +237,9 @@ module _ (g : Over) (c : goal.After-ram g) where
 pub run_on-one-requires : goal.run_on-one-requires
 run_on-one-requires g c = record {
   started = c.in-Ok-Asked.ensures.started;
-  stands = c.in-Ok-Asked.ensures.stands;
-  bound = (let e = ap (λ (r : Running g.row.S.Denot). r.step) (rw c.in-Ok-Asked.field-0-is at c.in-Ok-Asked.ensures.asked) in let b = c.requires.bound in omega (arith, e, b));
-  room = (let e = c.in-Ok-Asked.ensures.retired in let b = c.requires.room in omega (arith, e, b));
+  stands = c.in-Ok-Asked.ensures.accounts.stands;
+  bound = (let e = ap (λ (r : Running g.row.S.Denot). r.step) (rw c.in-Ok-Asked.field-0-is at c.in-Ok-Asked.ensures.attempts.leaves.asked) in let b = c.requires.bound in omega (arith, e, b));
+  room = (let e = c.in-Ok-Asked.ensures.counts.retired in let b = c.requires.room in omega (arith, e, b));
 }
 
 pub are_bytes-requires-clause-frames : goal.are_bytes-requires-clause-frames
@@ -258,27 +250,30 @@ returns-in-Ok-Asked g c =
     let o = once g c.before in
     let few = once_few g.S.Shadows.stands g.S.Shadows.frames g.S.Shadows.slots g.S.Shadows.directory _ _ _ _ _ _ _ _ _ _ _ o in
     record {
-      step = λ script. once_goes_on g.S.Shadows.stands g.S.Shadows.frames g.S.Shadows.slots g.S.Shadows.directory _ _ _ _ _ _ _ _ _ _ _ o script;
-      ready = ready g c.before;
-      wanted = λ w. once_back g.S.Shadows.stands g.S.Shadows.frames g.S.Shadows.slots g.S.Shadows.directory _ _ _ _ _ _ _ _ _ _ _ o (c.in-Ok-Asked.ensures.wanted w);
-      carried = λ script steps t unwanted free roomy taken by carried.
-          carried_still g c.before (wedge c.args.image.now script c.args.running.now.frames) (steps ++ t ∷ []) t.after
-          (asked_on g c.before script steps t (subst (λ (l : List ℕ). AreBytes (shown (ground c.args.image.now c.args.running.now.frames) l)) c.ram.ensures c.are_bytes.ensures.bytes) unwanted free roomy taken by carried);
-      clashed = λ lost room script b cpu ram set board.
-          clashes_by (wedge c.args.image.now script c.args.running.now.frames) b c.args.running.now.cpu c.args.running.now.board c.args.image.now cpu board c.requires.runs
-          (c.in-Ok-Asked.ensures.clashed (ap (λ (l : Lost). l.before) (sym (lost_same g c.before)) ∙ lost) room script b cpu ram set);
-      held = held g c.before;
-      able = once_able g.S.Shadows.stands g.S.Shadows.frames g.S.Shadows.slots g.S.Shadows.directory _ _ _ _ _ _ _ _ _ _ _ o c.steps_keep_able.ensures c.requires.able;
-      count = once_counts g.S.Shadows.stands g.S.Shadows.frames g.S.Shadows.slots g.S.Shadows.directory _ _ _ _ _ _ _ _ _ _ _ o;
-      stands = once_stands g.S.Shadows.stands g.S.Shadows.frames g.S.Shadows.slots g.S.Shadows.directory _ _ _ _ _ _ _ _ _ _ _ o;
-      filled = filled g c.before;
-      pool = once_keeps g.S.Shadows.stands g.S.Shadows.frames g.S.Shadows.slots g.S.Shadows.directory _ _ _ _ _ _ _ _ _ _ _ o c.args.pool.now c.in-Ok-Asked.ensures.pool;
-      few = omega (arith, few);
-      stays = tt;
-      unfilled = tt;
-      counted = (held g c.before).counted;
-      retired = tt;
-      passed = tt;
+      steps = record {
+        step = λ script. once_goes_on g.S.Shadows.stands g.S.Shadows.frames g.S.Shadows.slots g.S.Shadows.directory _ _ _ _ _ _ _ _ _ _ _ o script;
+        able = once_able g.S.Shadows.stands g.S.Shadows.frames g.S.Shadows.slots g.S.Shadows.directory _ _ _ _ _ _ _ _ _ _ _ o c.steps_keep_able.ensures c.requires.able;
+        carried = λ script steps t unwanted free roomy taken by carried.
+            carried_still g c.before (wedge c.args.image.now script c.args.running.now.frames) (steps ++ t ∷ []) t.after
+            (asked_on g c.before script steps t (subst (λ (l : List ℕ). AreBytes (shown (ground c.args.image.now c.args.running.now.frames) l)) c.ram.ensures c.are_bytes.ensures.bytes) unwanted free roomy taken by carried);
+        clashed = λ lost room script b cpu ram set board.
+            clashes_by (wedge c.args.image.now script c.args.running.now.frames) b c.args.running.now.cpu c.args.running.now.board c.args.image.now cpu board c.requires.runs
+            (c.in-Ok-Asked.ensures.attempts.clashed (ap (λ (l : Lost). l.before) (sym (lost_same g c.before)) ∙ lost) room script b cpu ram set);
+        leaves = record {
+          held = held g c.before;
+          ready = ready g c.before;
+          back = λ w. once_back g.S.Shadows.stands g.S.Shadows.frames g.S.Shadows.slots g.S.Shadows.directory _ _ _ _ _ _ _ _ _ _ _ o (c.in-Ok-Asked.ensures.attempts.leaves.back w);
+          count = once_counts g.S.Shadows.stands g.S.Shadows.frames g.S.Shadows.slots g.S.Shadows.directory _ _ _ _ _ _ _ _ _ _ _ o;
+          stays = tt;
+        };
+      };
+      accounts = record {
+        stands = once_stands g.S.Shadows.stands g.S.Shadows.frames g.S.Shadows.slots g.S.Shadows.directory _ _ _ _ _ _ _ _ _ _ _ o;
+        counted = (held g c.before).counted;
+        pool = once_keeps g.S.Shadows.stands g.S.Shadows.frames g.S.Shadows.slots g.S.Shadows.directory _ _ _ _ _ _ _ _ _ _ _ o c.args.pool.now c.in-Ok-Asked.ensures.accounts.pool;
+        filled = filled g c.before;
+        frames = once_frames g.S.Shadows.stands g.S.Shadows.frames g.S.Shadows.slots g.S.Shadows.directory _ _ _ _ _ _ _ _ _ _ _ o;
+      };
+      counts = record { few = omega (arith, few); retired = tt; passed = tt };
       started = c.run_on-one.ensures.started;
-      frames = once_frames g.S.Shadows.stands g.S.Shadows.frames g.S.Shadows.slots g.S.Shadows.directory _ _ _ _ _ _ _ _ _ _ _ o;
     }

@@ -9,6 +9,7 @@ use Rattle.wedge_step.proofs.Parts.{part_same}
 use Rattle.wedge_core.proofs.Landing.{may_runs}
 use Rattle.wedge_core.proofs.Stretched.{Laws, passes_on, stays_on, passed_on, held_then, keeps_then, able_then, frames_then, fills_then, step_then, rules_then, shadows_is, same_there, host_there, untouched_then, same_in, stand, whole_new, set_same}
 use Rattle.wedge_step.proofs.Filling.{fills_same}
+use Rattle.wedge_step.proofs.Keeping.{keeps_same}
 use Rattle.wedge_step.proofs.Stays.{kept_same}
 use Rattle.wedge_core.proofs.Untouched.{Tracks, unlent, ready_on}
 use Rattle.wedge_core.proofs.stretch.stretch.Goals as goal
@@ -66,49 +67,76 @@ returns g c =
     let inside = same_in stands frames slots directory laws image old.frames old pool memory h memory_then there in
     let asides_then = met.same_asides old.shadows memory memory_then h.stand inside in
     record {
-      passes = λ some board is.
-          let kept = set_of stands frames slots old memory in
-          passes_on stands frames slots directory laws image old.frames old c.requires.held.0 memory c.requires.held.1 views.lends views.sees c.advances.ensures c.requires.able may c.if-running.false retired passed k done now memory_then retired_then passed_then ran
-          script quiet board is kept (part_same kept kept refl) some refl;
-      stays = stays_on stands frames slots directory laws image old.frames old c.requires.held.0 memory c.requires.held.1 views.lends views.sees c.advances.ensures c.requires.able may c.if-running.false retired passed k done now memory_then retired_then passed_then ran
-          script quiet;
-      held = λ pool h. held_then stands frames slots directory laws image old.frames old pool memory h views.lends views.sees c.advances.ensures c.requires.able may c.if-running.false retired passed k done now memory_then retired_then passed_then ran script quiet;
-      pool = λ pool h. keeps_then stands frames slots directory laws image old.frames old pool memory h views.lends views.sees c.advances.ensures c.requires.able may c.if-running.false retired passed k done now memory_then retired_then passed_then ran script quiet;
-      filled =
-          subst (λ (s : g.row.S.Denot). FillsOn (pages_kept slots asides old.shadows memory) (pages_kept slots asides s memory_then) old.fills now.fills) (sym shadows)
-          (subst (λ (k : ℕ). FillsOn (pages_kept slots asides old.shadows memory) (pages_kept slots asides old.shadows memory_then) old.fills k) (sym (fills_then stands frames slots directory old now view start k done memory_then retired_then passed_then ran))
-          (fills_same _ _ old.fills (kept_same slots asides old.shadows memory memory_then (set_same stands frames slots directory laws image old.frames old pool memory h memory_then there) asides_then)));
-      ready = λ ready.
-          let tracks : Tracks stands slots noted marked value asides tracked directory = record {
-            host = met.host;
-            barred = met.barred;
-            noted_tracked = met.noted_tracked;
-            asides_tracked = met.asides_tracked;
-          } in
-          let rules = rules_then stands frames slots directory laws image old.frames old pool memory h views.lends views.sees c.advances.ensures c.requires.able may c.if-running.false retired passed k done now memory_then retired_then passed_then ran in
-          let host_then = host_there stands frames slots directory laws image old.frames old pool memory h views.lends views.sees c.advances.ensures c.requires.able may c.if-running.false retired passed k done now memory_then retired_then passed_then ran script quiet in
-          let untouched = λ (at : ℕ) (t : is_among at (tracked old.shadows) ≡ true).
-          untouched_then stands frames slots directory laws image old.frames old pool memory h views.lends views.sees c.advances.ensures c.requires.able may c.if-running.false retired passed k done now memory_then retired_then passed_then ran script quiet at
-          (λ other same. unlent stands slots noted marked value asides tracked directory tracks old.shadows other (side_of (old.cpu.cpl == 3)) at
-          (stand stands frames slots directory laws image old.frames old pool memory h other same) (whole_new stands frames slots directory laws image old.frames old pool memory h other same) t) in
-          let slots_then = met.same_slots old.shadows memory memory_then h.stand inside in
-          subst (λ (s : g.row.S.Denot). IsReady slots noted marked value asides (ground image old.frames) now.cpu s memory_then) (sym shadows)
-          (ready_on stands slots noted marked value asides tracked directory tracks (ground image old.frames) h.wedge old.cpu now.cpu old.shadows memory memory_then h.host host_then rules.0 rules.1 rules.2 untouched slots_then asides_then ready);
-      shadows = shadows;
-      apart = inside;
-      able = able_then stands frames slots directory laws image old.frames old c.requires.held.0 memory c.requires.held.1 views.lends views.sees c.advances.ensures c.requires.able may c.if-running.false retired passed k done now memory_then retired_then passed_then ran
-          script quiet;
-      started = c.run_on.ensures.started;
-      frames = frames_then stands frames slots directory old now view start k done memory_then retired_then passed_then ran;
-      count = count;
-      most = omega (arith, count, few, most, begun);
-      retired = ran.count;
-      passed = passed_on stands frames slots directory laws image old.frames old c.requires.held.0 memory c.requires.held.1 views.lends views.sees c.advances.ensures c.requires.able may c.if-running.false retired passed k done now memory_then retired_then passed_then ran
-          script quiet;
+      goes = record {
+        passes = λ some board is.
+            let kept = set_of stands frames slots old memory in
+            passes_on stands frames slots directory laws image old.frames old c.requires.held.0 memory c.requires.held.1 views.lends views.sees c.advances.ensures c.requires.able may c.if-running.false retired passed k done now memory_then retired_then passed_then ran
+            script quiet board is kept (part_same kept kept refl) some refl;
+        stays = stays_on stands frames slots directory laws image old.frames old c.requires.held.0 memory c.requires.held.1 views.lends views.sees c.advances.ensures c.requires.able may c.if-running.false retired passed k done now memory_then retired_then passed_then ran
+            script quiet;
+      };
+      leaves = record {
+        held = λ pool h. held_then stands frames slots directory laws image old.frames old pool memory h views.lends views.sees c.advances.ensures c.requires.able may c.if-running.false retired passed k done now memory_then retired_then passed_then ran script quiet;
+        pool = λ pool h. keeps_then stands frames slots directory laws image old.frames old pool memory h views.lends views.sees c.advances.ensures c.requires.able may c.if-running.false retired passed k done now memory_then retired_then passed_then ran script quiet;
+        filled =
+            subst (λ (s : g.row.S.Denot). FillsOn (pages_kept slots asides old.shadows memory) (pages_kept slots asides s memory_then) old.fills now.fills) (sym shadows)
+            (subst (λ (k : ℕ). FillsOn (pages_kept slots asides old.shadows memory) (pages_kept slots asides old.shadows memory_then) old.fills k) (sym (fills_then stands frames slots directory old now view start k done memory_then retired_then passed_then ran))
+            (fills_same _ _ old.fills (kept_same slots asides old.shadows memory memory_then (set_same stands frames slots directory laws image old.frames old pool memory h memory_then there) asides_then)));
+        ready = λ ready.
+            let tracks : Tracks stands slots noted marked value asides tracked directory = record {
+              host = met.host;
+              barred = met.barred;
+              noted_tracked = met.noted_tracked;
+              asides_tracked = met.asides_tracked;
+            } in
+            let rules = rules_then stands frames slots directory laws image old.frames old pool memory h views.lends views.sees c.advances.ensures c.requires.able may c.if-running.false retired passed k done now memory_then retired_then passed_then ran in
+            let host_then = host_there stands frames slots directory laws image old.frames old pool memory h views.lends views.sees c.advances.ensures c.requires.able may c.if-running.false retired passed k done now memory_then retired_then passed_then ran script quiet in
+            let untouched = λ (at : ℕ) (t : is_among at (tracked old.shadows) ≡ true).
+            untouched_then stands frames slots directory laws image old.frames old pool memory h views.lends views.sees c.advances.ensures c.requires.able may c.if-running.false retired passed k done now memory_then retired_then passed_then ran script quiet at
+            (λ other same. unlent stands slots noted marked value asides tracked directory tracks old.shadows other (side_of (old.cpu.cpl == 3)) at
+            (stand stands frames slots directory laws image old.frames old pool memory h other same) (whole_new stands frames slots directory laws image old.frames old pool memory h other same) t) in
+            let slots_then = met.same_slots old.shadows memory memory_then h.stand inside in
+            subst (λ (s : g.row.S.Denot). IsReady slots noted marked value asides (ground image old.frames) now.cpu s memory_then) (sym shadows)
+            (ready_on stands slots noted marked value asides tracked directory tracks (ground image old.frames) h.wedge old.cpu now.cpu old.shadows memory memory_then h.host host_then rules.0 rules.1 rules.2 untouched slots_then asides_then ready);
+        kept = shadows;
+        apart = inside;
+        able = able_then stands frames slots directory laws image old.frames old c.requires.held.0 memory c.requires.held.1 views.lends views.sees c.advances.ensures c.requires.able may c.if-running.false retired passed k done now memory_then retired_then passed_then ran
+            script quiet;
+        frames = frames_then stands frames slots directory old now view start k done memory_then retired_then passed_then ran;
+      };
+      counts = record {
+        count = count;
+        most = omega (arith, count, few, most, begun);
+        retired = ran.count;
+        passed = passed_on stands frames slots directory laws image old.frames old c.requires.held.0 memory c.requires.held.1 views.lends views.sees c.advances.ensures c.requires.able may c.if-running.false retired passed k done now memory_then retired_then passed_then ran
+            script quiet;
+      };
       ran = λ _ _. record {
         asked = k;
         most = most;
         furthest = c.steps_until_next-k.ensures.furthest;
         ran = ran;
       };
+      started = c.run_on.ensures.started;
     }
+
+pub returns-then-running-clause-goes : goal.returns-then-running-clause-goes
+returns-then-running-clause-goes g c = record { passes = λ some. absurd (omega (arith, some)); stays = λ none. refl }
+
+pub returns-then-running-clause-leaves : goal.returns-then-running-clause-leaves
+returns-then-running-clause-leaves g c =
+    let old = c.args.running.now in
+    let memory = g.H.Host.bytes c.args.host.now in
+    record {
+      held = λ pool h. h;
+      pool = λ pool h. keeps_same pool memory (g.S.Shadows.frames old.shadows memory);
+      filled = fills_same _ _ old.fills refl;
+      ready = λ ready. ready;
+      kept = refl;
+      apart = record { size = refl; frames = λ frame e. refl };
+      able = c.requires.able;
+      frames = refl;
+    }
+
+pub returns-then-running-clause-counts : goal.returns-then-running-clause-counts
+returns-then-running-clause-counts g c = record { count = omega arith; most = c.requires.begun; retired = omega arith; passed = λ none. refl }

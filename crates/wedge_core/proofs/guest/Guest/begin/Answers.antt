@@ -1,4 +1,4 @@
-use Rattle.std.proofs.Common.{◌≡◌, ℕ, ◌≤◌, false, List, sym, subst, ◌∙◌, arith}
+use Rattle.std.proofs.Common.{◌≡◌, ℕ, ◌≤◌, false, List, refl, sym, subst, ◌∙◌, arith}
 use Rattle.std.specs.FinMap.{empty}
 use Rattle.frame_pool.specs.Held.{Moves}
 use Rattle.shadow_tables.specs.Entries.{entries_of}
@@ -8,55 +8,68 @@ use Rattle.wedge_step.specs.Pools.{Keeps}
 use Rattle.wedge_step.specs.Ready.{IsReady}
 use Rattle.wedge_step.specs.Standing.{IsHeld, ground, state_of}
 use Rattle.wedge_core.specs.Starts.{IsAsNew}
-use Rattle.wedge_step.proofs.Keeping.{keeps_moves}
+use Rattle.wedge_step.proofs.Keeping.{keeps_moves, keeps_same}
 use Rattle.wedge_step.proofs.Readying.{none_ready, none_pages}
 use Rattle.wedge_core.proofs.Renewed.{held_anew, state_anew}
 use Rattle.wedge_core.proofs.guest.Guest.begin.Goals as goal
 
-pub returns-clause-held : goal.returns-clause-held
-returns-clause-held g c = λ image h.
-    let old = c.args.self.now.running in
-    let d = c.renew in
-    let here = subst (λ (l : List ℕ). IsHeld roots.stands roots.frames roots.slots (ground image old.frames) old c.args.pool.now l) (sym c.ram_mut.ensures.ram) h in
-    subst (λ (l : List ℕ). IsHeld roots.stands roots.frames roots.slots (ground image old.frames) (record old { shadows = d.new.self }) d.new.pool l) (sym (g.met.H.Host.bytes_changed c.args.host.now d.new.ram))
-    (held_anew image old.frames old d.new.self c.args.pool.now d.new.pool c.ram_mut.result.now d.new.ram (omega (arith, c.if-not-bare.false)) d.ensures.stands d.ensures.none d.ensures.entries d.ensures.two d.ensures.owns d.ensures.moves here)
+pub returns-clause-begins : goal.returns-clause-begins
+returns-clause-begins g c = record {
+  running = refl;
+  held = λ image h.
+      let old = c.args.self.now.running in
+      let d = c.renew in
+      let here = subst (λ (l : List ℕ). IsHeld roots.stands roots.frames roots.slots (ground image old.frames) old c.args.pool.now l) (sym c.ram_mut.ensures.ram) h in
+      subst (λ (l : List ℕ). IsHeld roots.stands roots.frames roots.slots (ground image old.frames) (record old { shadows = d.new.self }) d.new.pool l) (sym (g.met.H.Host.bytes_changed c.args.host.now d.new.ram))
+      (held_anew image old.frames old d.new.self c.args.pool.now d.new.pool c.ram_mut.result.now d.new.ram (omega (arith, c.if-not-bare.false)) d.ensures.stands d.ensures.none d.ensures.entries d.ensures.two d.ensures.owns d.ensures.moves here);
+  ready = λ image h.
+      let old = c.args.self.now.running in
+      let d = c.renew in
+      subst (λ (l : List ℕ). IsReady roots.slots roots.noted roots.marked roots.value roots.asides (ground image old.frames) old.cpu d.new.self l) (sym (g.met.H.Host.bytes_changed c.args.host.now d.new.ram))
+      (none_ready roots.slots roots.noted roots.marked roots.value roots.asides (λ page. false) (ground image old.frames) old.cpu d.new.self d.new.ram (d.ensures.value ∙ h.value_is) d.ensures.none d.ensures.asides);
+  state = λ m is.
+      let old = c.args.self.now.running in
+      let d = c.renew in
+      let h = c.requires.held.1 in
+      let count = h.counted in
+      let two : old.held ≡ 2 = omega (arith, c.if-not-bare.false) in
+      let before : entries_of (roots.slots old.shadows (g.H.Host.bytes c.args.host.now)) ≡ empty = c.roots_alone_keep_nothing.ensures old.shadows (g.H.Host.bytes c.args.host.now) (omega (arith, count, two)) in
+      let moves = subst (λ (l : List ℕ). Moves c.args.pool.now d.new.pool l d.new.ram (roots.frames old.shadows l) (roots.frames d.new.self d.new.ram)) c.ram_mut.ensures.ram d.ensures.moves in
+      subst (λ (l : List ℕ). state_of roots.stands roots.frames roots.slots m (record old { shadows = d.new.self }) l ≡ state_of roots.stands roots.frames roots.slots m old (g.H.Host.bytes c.args.host.now)) (sym (g.met.H.Host.bytes_changed c.args.host.now d.new.ram))
+      (state_anew c.requires.held.0 old.frames old d.new.self c.args.pool.now d.new.pool (g.H.Host.bytes c.args.host.now) d.new.ram h moves before d.ensures.entries m is);
+  keeps =
+      let old = c.args.self.now.running in
+      let d = c.renew in
+      let moves = subst (λ (l : List ℕ). Moves c.args.pool.now d.new.pool l d.new.ram (roots.frames old.shadows l) (roots.frames d.new.self d.new.ram)) c.ram_mut.ensures.ram d.ensures.moves in
+      subst (λ (l : List ℕ). Keeps c.args.pool.now d.new.pool (g.H.Host.bytes c.args.host.now) l (roots.frames old.shadows (g.H.Host.bytes c.args.host.now)) (roots.frames d.new.self l)) (sym (g.met.H.Host.bytes_changed c.args.host.now d.new.ram))
+      (keeps_moves c.args.pool.now d.new.pool (g.H.Host.bytes c.args.host.now) d.new.ram (roots.frames old.shadows (g.H.Host.bytes c.args.host.now)) (roots.frames d.new.self d.new.ram) moves);
+  fewer =
+      let d = c.renew in
+      let none = none_pages roots.slots roots.noted roots.marked roots.value roots.asides d.new.self d.new.ram d.ensures.entries d.ensures.asides in
+      let kept = pages_kept roots.slots roots.asides c.args.self.now.running.shadows (g.H.Host.bytes c.args.host.now) in
+      subst (λ (l : List ℕ). pages_kept roots.slots roots.asides d.new.self l ≤ kept) (sym (g.met.H.Host.bytes_changed c.args.host.now d.new.ram)) (omega (arith, none));
+  anew = λ two.
+      let d = c.renew in
+      subst (λ (l : List ℕ). IsAsNew roots.noted roots.marked roots.asides roots.opened d.new.self l) (sym (g.met.H.Host.bytes_changed c.args.host.now d.new.ram))
+      (record { unnoted = d.ensures.noted; unmarked = d.ensures.marked; alone = d.ensures.asides; unopened = d.ensures.opened });
+}
 
-pub returns-clause-ready : goal.returns-clause-ready
-returns-clause-ready g c = λ image h.
-    let old = c.args.self.now.running in
-    let d = c.renew in
-    subst (λ (l : List ℕ). IsReady roots.slots roots.noted roots.marked roots.value roots.asides (ground image old.frames) old.cpu d.new.self l) (sym (g.met.H.Host.bytes_changed c.args.host.now d.new.ram))
-    (none_ready roots.slots roots.noted roots.marked roots.value roots.asides (λ page. false) (ground image old.frames) old.cpu d.new.self d.new.ram (d.ensures.value ∙ h.value_is) d.ensures.none d.ensures.asides)
+pub returns-clause-counts : goal.returns-clause-counts
+returns-clause-counts g c = record {
+  retired = g.met.H.Host.retired_stays c.args.host.now c.renew.new.ram;
+  passed = g.met.H.Host.passed_stays c.args.host.now c.renew.new.ram;
+}
 
-pub returns-clause-state : goal.returns-clause-state
-returns-clause-state g c = λ m is.
-    let old = c.args.self.now.running in
-    let d = c.renew in
-    let h = c.requires.held.1 in
-    let count = h.counted in
-    let two : old.held ≡ 2 = omega (arith, c.if-not-bare.false) in
-    let before : entries_of (roots.slots old.shadows (g.H.Host.bytes c.args.host.now)) ≡ empty = c.roots_alone_keep_nothing.ensures old.shadows (g.H.Host.bytes c.args.host.now) (omega (arith, count, two)) in
-    let moves = subst (λ (l : List ℕ). Moves c.args.pool.now d.new.pool l d.new.ram (roots.frames old.shadows l) (roots.frames d.new.self d.new.ram)) c.ram_mut.ensures.ram d.ensures.moves in
-    subst (λ (l : List ℕ). state_of roots.stands roots.frames roots.slots m (record old { shadows = d.new.self }) l ≡ state_of roots.stands roots.frames roots.slots m old (g.H.Host.bytes c.args.host.now)) (sym (g.met.H.Host.bytes_changed c.args.host.now d.new.ram))
-    (state_anew c.requires.held.0 old.frames old d.new.self c.args.pool.now d.new.pool (g.H.Host.bytes c.args.host.now) d.new.ram h moves before d.ensures.entries m is)
+pub returns-then-not-bare-clause-begins : goal.returns-then-not-bare-clause-begins
+returns-then-not-bare-clause-begins g c = record {
+  running = refl;
+  held = λ image h. h;
+  ready = λ image h. h;
+  state = λ m is. refl;
+  keeps = keeps_same c.args.pool.now (g.H.Host.bytes c.args.host.now) (roots.frames c.args.self.now.running.shadows (g.H.Host.bytes c.args.host.now));
+  fewer = omega arith;
+  anew = λ two. absurd (let some = c.if-not-bare.true in omega (arith, some, two));
+}
 
-pub returns-clause-keeps : goal.returns-clause-keeps
-returns-clause-keeps g c =
-    let old = c.args.self.now.running in
-    let d = c.renew in
-    let moves = subst (λ (l : List ℕ). Moves c.args.pool.now d.new.pool l d.new.ram (roots.frames old.shadows l) (roots.frames d.new.self d.new.ram)) c.ram_mut.ensures.ram d.ensures.moves in
-    subst (λ (l : List ℕ). Keeps c.args.pool.now d.new.pool (g.H.Host.bytes c.args.host.now) l (roots.frames old.shadows (g.H.Host.bytes c.args.host.now)) (roots.frames d.new.self l)) (sym (g.met.H.Host.bytes_changed c.args.host.now d.new.ram))
-    (keeps_moves c.args.pool.now d.new.pool (g.H.Host.bytes c.args.host.now) d.new.ram (roots.frames old.shadows (g.H.Host.bytes c.args.host.now)) (roots.frames d.new.self d.new.ram) moves)
-
-pub returns-clause-fewer : goal.returns-clause-fewer
-returns-clause-fewer g c =
-    let d = c.renew in
-    let none = none_pages roots.slots roots.noted roots.marked roots.value roots.asides d.new.self d.new.ram d.ensures.entries d.ensures.asides in
-    let kept = pages_kept roots.slots roots.asides c.args.self.now.running.shadows (g.H.Host.bytes c.args.host.now) in
-    subst (λ (l : List ℕ). pages_kept roots.slots roots.asides d.new.self l ≤ kept) (sym (g.met.H.Host.bytes_changed c.args.host.now d.new.ram)) (omega (arith, none))
-
-pub returns-clause-anew : goal.returns-clause-anew
-returns-clause-anew g c = λ two.
-    let d = c.renew in
-    subst (λ (l : List ℕ). IsAsNew roots.noted roots.marked roots.asides roots.opened d.new.self l) (sym (g.met.H.Host.bytes_changed c.args.host.now d.new.ram))
-    (record { unnoted = d.ensures.noted; unmarked = d.ensures.marked; alone = d.ensures.asides; unopened = d.ensures.opened })
+pub returns-then-not-bare-clause-counts : goal.returns-then-not-bare-clause-counts
+returns-then-not-bare-clause-counts g c = record { retired = refl; passed = refl }

@@ -12,7 +12,8 @@ use Rattle.wedge_core.specs.Noted.{NotesOn}
 use Rattle.wedge_step.specs.Pools.{Keeps}
 use Rattle.wedge_core.specs.Promises.{with_patches}
 use Rattle.wedge_step.specs.Ready.{IsReady}
-use Rattle.wedge_core.specs.Slices.{BeginsEmpty, Counts, SliceAs}
+use Rattle.wedge_core.specs.Slices.{BeginsEmpty, Counts}
+use Rattle.wedge_core.proofs.SlicedBy.{SliceAs}
 use Rattle.run_trace.specs.Pauses.{IfReached}
 use Rattle.wedge_step.specs.Standing.{IsHeld, ground, state_of}
 use Rattle.wedge_step.specs.declared.running.Running.{Running}
@@ -23,7 +24,7 @@ use Rattle.wedge_core.proofs.SliceStarts.{more_first, slice_begun, pauses_more, 
 use Rattle.wedge_core.proofs.guest.Guest.slice.Goals as goal
 
 pub begin-requires-clause-held : goal.begin-requires-clause-held
-begin-requires-clause-held g c = (c.args.image.now, c.requires.held)
+begin-requires-clause-held g c = (c.args.image.now, c.requires.between.held)
 
 abbrev same_frames : (old begun : Running Roots) → begun ≡ record old { shadows = begun.shadows } → begun.frames ≡ old.frames
 same_frames old begun e = ap (λ (x : Running Roots). x.frames) e
@@ -31,42 +32,90 @@ same_frames old begun e = ap (λ (x : Running Roots). x.frames) e
 abbrev same_fills : (old begun : Running Roots) → begun ≡ record old { shadows = begun.shadows } → begun.fills ≡ old.fills
 same_fills old begun e = ap (λ (x : Running Roots). x.fills) e
 
-pub steps_to-requires-clause-held : goal.steps_to-requires-clause-held
-steps_to-requires-clause-held g c =
-    let begun = c.begin.new.self.running in
-    subst (λ (n : ℕ). IsHeld roots.stands roots.frames roots.slots (ground c.args.image.now n) begun c.begin.new.pool (g.H.Host.bytes c.begin.new.host)) (sym (same_frames c.args.self.now.running begun c.begin.ensures.running))
-    (c.begin.ensures.held c.args.image.now c.requires.held)
+pub steps_to-requires-clause-between : goal.steps_to-requires-clause-between
+steps_to-requires-clause-between g c = record {
+  held =
+      let begun = c.begin.new.self.running in
+      subst (λ (n : ℕ). IsHeld roots.stands roots.frames roots.slots (ground c.args.image.now n) begun c.begin.new.pool (g.H.Host.bytes c.begin.new.host)) (sym (same_frames c.args.self.now.running begun c.begin.ensures.begins.running))
+      (c.begin.ensures.begins.held c.args.image.now c.requires.between.held);
+  ready =
+      let old = c.args.self.now.running in
+      let begun = c.begin.new.self.running in
+      let ready = c.begin.ensures.begins.ready c.args.image.now c.requires.between.ready in
+      subst (λ (n : ℕ). IsReady roots.slots roots.noted roots.marked roots.value roots.asides (ground c.args.image.now n) begun.cpu begun.shadows (g.H.Host.bytes c.begin.new.host)) (sym (same_frames old begun c.begin.ensures.begins.running)) ready;
+  enough =
+      let held_now = c.begin.ensures.begins.held c.args.image.now c.requires.between.held in
+      let count = c.requires.between.held.counted in
+      let count_now = held_now.counted in
+      let lengths = c.begin.ensures.begins.keeps.lengths in
+      let enough = c.requires.between.enough in
+      omega (arith, count, count_now, lengths, enough);
+}
 
-pub returns-clause-owns : goal.returns-clause-owns
-returns-clause-owns g c =
-    let h = c.begin.ensures.held c.args.image.now c.requires.held in
-    owns_after c.steps_to.result _ _ _ _ _ _ h.owns c.steps_to.ensures.pool
+pub returns-clause-leaves : goal.returns-clause-leaves
+returns-clause-leaves g c = record {
+  reached = c.steps_to.ensures.leaves.reached;
+  held =
+      let old = c.args.self.now.running in
+      let begun = c.begin.new.self.running in
+      subst (λ (n : ℕ). IfReached c.steps_to.result (IsHeld roots.stands roots.frames roots.slots (ground c.args.image.now n) c.steps_to.new.running c.steps_to.new.pool (g.H.Host.bytes c.steps_to.new.host))) (same_frames old begun c.begin.ensures.begins.running) c.steps_to.ensures.leaves.held;
+  ready =
+      let old = c.args.self.now.running in
+      let begun = c.begin.new.self.running in
+      let end = c.steps_to.new.running in
+      subst (λ (n : ℕ). IfReached c.steps_to.result (IsReady roots.slots roots.noted roots.marked roots.value roots.asides (ground c.args.image.now n) end.cpu end.shadows (g.H.Host.bytes c.steps_to.new.host))) (same_frames old begun c.begin.ensures.begins.running) c.steps_to.ensures.leaves.ready;
+  able = c.steps_to.ensures.leaves.able;
+  counted = c.steps_to.ensures.leaves.counted;
+  stands = c.steps_to.ensures.leaves.stands;
+  pool =
+      let old = c.args.self.now.running in
+      let begun = c.begin.new.self.running in
+      let end = c.steps_to.new.running in
+      let m0 = g.H.Host.bytes c.args.host.now in
+      let m1 = g.H.Host.bytes c.begin.new.host in
+      let m2 = g.H.Host.bytes c.steps_to.new.host in
+      pauses_more c.steps_to.result (Keeps c.begin.new.pool c.steps_to.new.pool m1 m2 (roots.frames begun.shadows m1) (roots.frames end.shadows m2)) (Keeps c.args.pool.now c.steps_to.new.pool m0 m2 (roots.frames old.shadows m0) (roots.frames end.shadows m2))
+      (λ k. keeps_join c.args.pool.now c.begin.new.pool c.steps_to.new.pool m0 m1 m2 (roots.frames old.shadows m0) (roots.frames begun.shadows m1) (roots.frames end.shadows m2) c.begin.ensures.begins.keeps k) c.steps_to.ensures.leaves.pool;
+  few = c.steps_to.ensures.leaves.few;
+  filled =
+      let old = c.args.self.now.running in
+      let begun = c.begin.new.self.running in
+      let first = pages_kept roots.slots roots.asides begun.shadows (g.H.Host.bytes c.begin.new.host) in
+      let pages = pages_kept roots.slots roots.asides old.shadows (g.H.Host.bytes c.args.host.now) in
+      let last = pages_kept roots.slots roots.asides c.steps_to.new.running.shadows (g.H.Host.bytes c.steps_to.new.host) in
+      subst (λ (n : ℕ). FillsOn pages last n c.steps_to.new.running.fills) (same_fills old begun c.begin.ensures.begins.running) (more_first first pages last begun.fills c.steps_to.new.running.fills c.begin.ensures.begins.fewer c.steps_to.ensures.leaves.filled);
+  frames = c.steps_to.ensures.leaves.frames ∙ same_frames c.args.self.now.running c.begin.new.self.running c.begin.ensures.begins.running;
+}
 
-pub steps_to-requires-clause-ready : goal.steps_to-requires-clause-ready
-steps_to-requires-clause-ready g c =
-    let old = c.args.self.now.running in
-    let begun = c.begin.new.self.running in
-    let ready = c.begin.ensures.ready c.args.image.now c.requires.ready in
-    subst (λ (n : ℕ). IsReady roots.slots roots.noted roots.marked roots.value roots.asides (ground c.args.image.now n) begun.cpu begun.shadows (g.H.Host.bytes c.begin.new.host)) (sym (same_frames old begun c.begin.ensures.running)) ready
+pub returns-clause-own : goal.returns-clause-own
+returns-clause-own g c = record {
+  memory =
+      let old = c.args.self.now.running in
+      let begun = c.begin.new.self.running in
+      subst (λ (n : ℕ). IfReached c.steps_to.result (take (4096 * n) (g.H.Host.bytes c.steps_to.new.host) ≡ with_patches c.args.image.now (shown (wedge c.args.image.now c.args.script.now.list n) (g.H.Host.bytes c.steps_to.new.host))))
+      (same_frames old begun c.begin.ensures.begins.running)
+      (front_after c.steps_to.result c.args.image.now c.args.script.now.list begun.frames c.steps_to.new.running c.steps_to.new.pool (g.H.Host.bytes c.steps_to.new.host) c.steps_to.ensures.leaves.held);
+  owns =
+      let h = c.begin.ensures.begins.held c.args.image.now c.requires.between.held in
+      owns_after c.steps_to.result _ _ _ _ _ _ h.owns c.steps_to.ensures.leaves.pool;
+  filled =
+      let old = c.args.self.now.running in
+      let begun = c.begin.new.self.running in
+      let first = pages_kept roots.slots roots.asides begun.shadows (g.H.Host.bytes c.begin.new.host) in
+      let pages = pages_kept roots.slots roots.asides old.shadows (g.H.Host.bytes c.args.host.now) in
+      let last = pages_kept roots.slots roots.asides c.steps_to.new.running.shadows (g.H.Host.bytes c.steps_to.new.host) in
+      still_filled pages last old.fills c.steps_to.new.running.fills
+      (subst (λ (n : ℕ). FillsOn pages last n c.steps_to.new.running.fills) (same_fills old begun c.begin.ensures.begins.running) (more_first first pages last begun.fills c.steps_to.new.running.fills c.begin.ensures.begins.fewer c.steps_to.ensures.leaves.filled));
+}
 
-pub returns-clause-memory : goal.returns-clause-memory
-returns-clause-memory g c =
-    let old = c.args.self.now.running in
-    let begun = c.begin.new.self.running in
-    subst (λ (n : ℕ). IfReached c.steps_to.result (take (4096 * n) (g.H.Host.bytes c.steps_to.new.host) ≡ with_patches c.args.image.now (shown (wedge c.args.image.now c.args.script.now.list n) (g.H.Host.bytes c.steps_to.new.host))))
-    (same_frames old begun c.begin.ensures.running)
-    (front_after c.steps_to.result c.args.image.now c.args.script.now.list begun.frames c.steps_to.new.running c.steps_to.new.pool (g.H.Host.bytes c.steps_to.new.host) c.steps_to.ensures.held)
+pub returns-clause-noted : goal.returns-clause-noted
+returns-clause-noted g c = c.steps_to.ensures.noted
 
-pub returns-clause-pool : goal.returns-clause-pool
-returns-clause-pool g c =
-    let old = c.args.self.now.running in
-    let begun = c.begin.new.self.running in
-    let end = c.steps_to.new.running in
-    let m0 = g.H.Host.bytes c.args.host.now in
-    let m1 = g.H.Host.bytes c.begin.new.host in
-    let m2 = g.H.Host.bytes c.steps_to.new.host in
-    pauses_more c.steps_to.result (Keeps c.begin.new.pool c.steps_to.new.pool m1 m2 (roots.frames begun.shadows m1) (roots.frames end.shadows m2)) (Keeps c.args.pool.now c.steps_to.new.pool m0 m2 (roots.frames old.shadows m0) (roots.frames end.shadows m2))
-    (λ k. keeps_join c.args.pool.now c.begin.new.pool c.steps_to.new.pool m0 m1 m2 (roots.frames old.shadows m0) (roots.frames begun.shadows m1) (roots.frames end.shadows m2) c.begin.ensures.keeps k) c.steps_to.ensures.pool
+pub returns-clause-faults : goal.returns-clause-faults
+returns-clause-faults g c = c.steps_to.ensures.faults
+
+pub returns-clause-started : goal.returns-clause-started
+returns-clause-started g c = c.steps_to.ensures.started
 
 pub returns-clause-slice : goal.returns-clause-slice
 returns-clause-slice g c =
@@ -93,70 +142,21 @@ returns-clause-slice g c =
     × (length (free_list c.begin.new.pool m1) + begun.held ≡ 512) × (wanted ≡ false) in
     let starts = BeginsEmpty (entries_of (roots.slots old.shadows m0)) (length (free_list c.args.pool.now m0)) old.held wanted in
     let by_frames = subst (λ (n : ℕ). SliceAs (wedge image script n) bound (state_of roots.stands roots.frames roots.slots (wedge image script n) begun m1) (state_of roots.stands roots.frames roots.slots (wedge image script n) end m2) mid after told tells first begun.fills end.fills wanted on (Knows n) c.steps_to.result)
-    (same_frames old begun c.begin.ensures.running) c.steps_to.ensures.slice in
+    (same_frames old begun c.begin.ensures.begins.running) c.steps_to.ensures.slice in
     let by_fills = subst (λ (n : ℕ). SliceAs m bound (state_of roots.stands roots.frames roots.slots m begun m1) (state_of roots.stands roots.frames roots.slots m end m2) mid after told tells first n end.fills wanted on (Knows old.frames) c.steps_to.result)
-    (same_fills old begun c.begin.ensures.running) by_frames in
-    let by_state = subst (λ (b : State). SliceAs m bound b (state_of roots.stands roots.frames roots.slots m end m2) mid after told tells first old.fills end.fills wanted on (Knows old.frames) c.steps_to.result) (c.begin.ensures.state m refl) by_fills in
+    (same_fills old begun c.begin.ensures.begins.running) by_frames in
+    let by_state = subst (λ (b : State). SliceAs m bound b (state_of roots.stands roots.frames roots.slots m end m2) mid after told tells first old.fills end.fills wanted on (Knows old.frames) c.steps_to.result) (c.begin.ensures.begins.state m refl) by_fills in
     let by_counts = subst (λ (x : Counts). SliceAs m bound (state_of roots.stands roots.frames roots.slots m old m0) (state_of roots.stands roots.frames roots.slots m end m2) x after told tells first old.fills end.fills wanted on (Knows old.frames) c.steps_to.result)
-    (λ i. record { retired = c.begin.ensures.retired i; passed = c.begin.ensures.passed i }) by_state in
-    let held_now = c.begin.ensures.held image c.requires.held in
-    slice_begun m bound (state_of roots.stands roots.frames roots.slots m old m0) (state_of roots.stands roots.frames roots.slots m end m2) before after told tells first pages old.fills end.fills wanted on (Knows old.frames) starts c.steps_to.result c.begin.ensures.fewer
+    (λ i. record { retired = c.begin.ensures.counts.retired i; passed = c.begin.ensures.counts.passed i }) by_state in
+    let held_now = c.begin.ensures.begins.held image c.requires.between.held in
+    slice_begun m bound (state_of roots.stands roots.frames roots.slots m old m0) (state_of roots.stands roots.frames roots.slots m end m2) before after told tells first pages old.fills end.fills wanted on (Knows old.frames) starts c.steps_to.result c.begin.ensures.begins.fewer
     (λ s.
-    let none : entries_of (roots.slots begun.shadows m1) ≡ empty = ap (λ (b : State). b.set) (c.begin.ensures.state m refl) ∙ s.empty_set in
-    let count = c.requires.held.counted in
+    let none : entries_of (roots.slots begun.shadows m1) ≡ empty = ap (λ (b : State). b.set) (c.begin.ensures.begins.state m refl) ∙ s.empty_set in
+    let count = c.requires.between.held.counted in
     let count_now = held_now.counted in
-    let lengths = c.begin.ensures.keeps.lengths in
+    let lengths = c.begin.ensures.begins.keeps.lengths in
     let others = s.others in (
-      anew_carries roots.slots roots.noted roots.marked roots.asides roots.opened c.carry_laws.ensures m (state_of roots.stands roots.frames roots.slots m begun m1) begun.shadows m1 none (c.begin.ensures.anew s.two),
+      anew_carries roots.slots roots.noted roots.marked roots.asides roots.opened c.carry_laws.ensures m (state_of roots.stands roots.frames roots.slots m begun m1) begun.shadows m1 none (c.begin.ensures.begins.anew s.two),
       omega (arith, count, count_now, lengths, others),
       s.silent,
     )) by_counts
-
-pub returns-clause-fills : goal.returns-clause-fills
-returns-clause-fills g c =
-    let old = c.args.self.now.running in
-    let begun = c.begin.new.self.running in
-    let first = pages_kept roots.slots roots.asides begun.shadows (g.H.Host.bytes c.begin.new.host) in
-    let pages = pages_kept roots.slots roots.asides old.shadows (g.H.Host.bytes c.args.host.now) in
-    let last = pages_kept roots.slots roots.asides c.steps_to.new.running.shadows (g.H.Host.bytes c.steps_to.new.host) in
-    subst (λ (n : ℕ). FillsOn pages last n c.steps_to.new.running.fills) (same_fills old begun c.begin.ensures.running) (more_first first pages last begun.fills c.steps_to.new.running.fills c.begin.ensures.fewer c.steps_to.ensures.filled)
-
-pub returns-clause-filled : goal.returns-clause-filled
-returns-clause-filled g c =
-    let old = c.args.self.now.running in
-    let begun = c.begin.new.self.running in
-    let first = pages_kept roots.slots roots.asides begun.shadows (g.H.Host.bytes c.begin.new.host) in
-    let pages = pages_kept roots.slots roots.asides old.shadows (g.H.Host.bytes c.args.host.now) in
-    let last = pages_kept roots.slots roots.asides c.steps_to.new.running.shadows (g.H.Host.bytes c.steps_to.new.host) in
-    still_filled pages last old.fills c.steps_to.new.running.fills
-    (subst (λ (n : ℕ). FillsOn pages last n c.steps_to.new.running.fills) (same_fills old begun c.begin.ensures.running) (more_first first pages last begun.fills c.steps_to.new.running.fills c.begin.ensures.fewer c.steps_to.ensures.filled))
-
-pub returns-clause-wants : goal.returns-clause-wants
-returns-clause-wants g c = c.steps_to.ensures.wants
-
-pub returns-clause-silent : goal.returns-clause-silent
-returns-clause-silent g c = c.steps_to.ensures.silent
-
-pub returns-clause-able : goal.returns-clause-able
-returns-clause-able g c = c.steps_to.ensures.able
-
-pub returns-clause-counted : goal.returns-clause-counted
-returns-clause-counted g c = c.steps_to.ensures.counted
-
-pub returns-clause-stands : goal.returns-clause-stands
-returns-clause-stands g c = c.steps_to.ensures.stands
-
-pub returns-clause-few : goal.returns-clause-few
-returns-clause-few g c = c.steps_to.ensures.few
-
-pub returns-clause-started : goal.returns-clause-started
-returns-clause-started g c = c.steps_to.ensures.started
-
-pub returns-clause-later : goal.returns-clause-later
-returns-clause-later g c = c.steps_to.ensures.later
-
-pub returns-clause-cause : goal.returns-clause-cause
-returns-clause-cause g c = c.steps_to.ensures.cause
-
-pub returns-clause-reached : goal.returns-clause-reached
-returns-clause-reached g c = c.steps_to.ensures.reached

@@ -1,0 +1,13 @@
+-- A slice by each thing that it tells of.
+use Rattle.std.proofs.Common.{ℕ, Bool, List, Option, Result}
+use Rattle.pv_io.specs.declared.answer.Failed.{Failed}
+use Rattle.run_trace.specs.declared.pause.Pause.{Pause}
+use Rattle.run_trace.specs.Notes.{Note}
+use Rattle.machine_model.specs.State.{Setting, State}
+use Rattle.wedge_core.specs.Counts.{Counts}
+use Rattle.wedge_core.specs.Slices as slices
+
+abbrev pub SliceAs : Setting → ℕ → State → State → Counts → Counts → Option (List ℕ) → Option (List ℕ) → ℕ → ℕ → ℕ → Bool → (List Note → Type 0) → Type 0 → Result Pause Failed → Type 0
+SliceAs m bound old new before after told tells pages fills filled wanted on begins result =
+    slices.SliceAs m bound old new (record { before = before; after = after; told = told; tells = tells })
+    (record { pages = pages; fills = fills; filled = filled }) (record { wanted = wanted; on = on }) begins result

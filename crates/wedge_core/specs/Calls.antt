@@ -1,0 +1,87 @@
+-- What the calls of a guest ask for and promise, over its scene.
+use Rattle.std.specs.Prelude.{◌≡◌, ℕ, ◌+◌, ◌*◌, ◌%◌, ◌≤◌, List, [], length, take, Result}
+use Rattle.std.specs.FinMap.{empty}
+use Rattle.guest_ram.specs.Bytes.{part}
+use Rattle.frame_pool.specs.Held.{Moves, Owns}
+use Rattle.frame_pool.specs.Pool.{SameOutside, Stands, base_of, count_of, free_list}
+use Rattle.frame_pool.specs.declared.Pool.{Pool}
+use Rattle.descriptors.specs.declared.cpu.Cpu.{Cpu}
+use Rattle.board.specs.Scripts.{Events}
+use Rattle.board.specs.declared.devices.Board.{Board}
+use Rattle.image_check.specs.Image.{Image}
+use Rattle.image_load.specs.Boot.{text_pages}
+use Rattle.pv_io.specs.declared.answer.Failed.{Failed}
+use Rattle.run_trace.specs.Pauses.{IfPaused, IfReached}
+use Rattle.run_trace.specs.declared.pause.Pause.{Pause}
+use Rattle.shadow_cache.specs.Views as roots
+use Rattle.shadow_cache.specs.declared.roots.Roots.{Roots}
+use Rattle.machine_model.specs.State.{Setting, State, wedge}
+use Rattle.wedge_step.specs.Filled.{IsFilled}
+use Rattle.wedge_step.specs.Pools.{Keeps}
+use Rattle.wedge_step.specs.Scene.{Scene, frames_in, kept_in, state_in}
+use Rattle.wedge_step.specs.Standing.{ground}
+use Rattle.wedge_core.specs.OfRoots.{of_roots}
+use Rattle.wedge_core.specs.Promises.{with_patches}
+use Rattle.wedge_core.specs.Scenes.{IsHeldIn, IsReadyIn, StaysHeld}
+use Rattle.wedge_core.specs.Starts.{IsAsNew}
+
+-- The host's memory has the image's text in its place at the front, and a pool behind the guest's frames, of which two are free.
+pub record MayAdopt (image : Image) (frames : ℕ) (pool : Pool) (memory : List ℕ) : Type 0 where
+  pub size : (2048 ≤ frames) × (frames ≤ 16384)
+  pub room : 4096 * frames ≤ length memory
+  pub whole : length memory % 4096 ≡ 0
+  pub fits : 0x100 + text_pages image ≤ frames
+  pub text : part memory 0x100000 (length image.text) ≡ image.text
+  pub behind : frames ≤ base_of pool
+  pub stands : Stands pool memory
+  pub free : 2 ≤ length (free_list pool memory)
+
+-- the state from which a guest goes on that is adopted
+abbrev pub adopted : Cpu → Board → ℕ → ℕ → List ℕ → State
+adopted cpu board step frames memory = record { cpu = cpu; ram = take (4096 * frames) memory; set = empty; board = board; step = step }
+
+-- The guest stands in that state, with no translation, and holds two frames of the pool.
+pub record Adopts (image : Image) (frames : ℕ) (first : State) (before : Pool) (memory : List ℕ) (new : Scene Roots) : Type 0 where
+  pub held : IsHeldIn of_roots (ground image frames) new
+  pub ready : IsReadyIn of_roots (ground image frames) new
+  pub state : (script : Events) → state_in of_roots (wedge image script frames) new ≡ first
+  pub two : new.guest.held ≡ 2
+  pub fills : new.guest.fills ≡ 0
+  pub none : kept_in of_roots new ≡ 0
+  pub filled : IsFilled (kept_in of_roots new) new.guest.fills
+  pub pool : Keeps before new.pool memory new.memory [] (frames_in of_roots new)
+
+-- Before a slice what it keeps may be dropped, where only roots are held: all else stays.
+pub record BeginsSlice (old new : Scene Roots) : Type 0 where
+  pub running : new.guest ≡ record old.guest { shadows = new.guest.shadows }
+  pub held : StaysHeld of_roots old new
+  pub ready : (image : Image) → IsReadyIn of_roots (ground image old.guest.frames) old → IsReadyIn of_roots (ground image old.guest.frames) new
+  pub state : (m : Setting) → m.frames ≡ old.guest.frames → state_in of_roots m new ≡ state_in of_roots m old
+  pub keeps : Keeps old.pool new.pool old.memory new.memory (frames_in of_roots old) (frames_in of_roots new)
+  pub fewer : kept_in of_roots new ≤ kept_in of_roots old
+  pub anew : old.guest.held ≡ 2 → IsAsNew roots.noted roots.marked roots.asides roots.opened new.guest.shadows new.memory
+
+-- Behind a slice: where all steps were done the front of the host's memory is the guest's, with the text patched. Unless the
+-- sink failed its frames are its own, and no more pages are kept than were filled, if that was so before.
+pub record GuestLeaves (image : Image) (script : Events) (old new : Scene Roots) (result : Result Pause Failed) : Type 0 where
+  pub memory : IfReached result
+      (take (4096 * old.guest.frames) new.memory ≡ with_patches image (state_in of_roots (wedge image script old.guest.frames) new).ram)
+  pub owns : IfPaused result (Owns new.pool new.memory (frames_in of_roots new))
+  pub filled : IsFilled (kept_in of_roots old) old.guest.fills → IsFilled (kept_in of_roots new) new.guest.fills
+
+-- All shadows were dropped: two frames are held, nothing is kept, and the guest is as it was.
+pub record Releases (old new : Scene Roots) : Type 0 where
+  pub stands : ∥ of_roots.stands new.guest.shadows new.memory ∥₁
+  pub owns : Owns new.pool new.memory (frames_in of_roots new)
+  pub two : length (frames_in of_roots new) ≡ 2
+  pub held : new.guest.held ≡ 2
+  pub moves : Moves old.pool new.pool old.memory new.memory (frames_in of_roots old) (frames_in of_roots new)
+  pub again : StaysHeld of_roots old new
+  pub ready : (image : Image) → IsReadyIn of_roots (ground image old.guest.frames) old → IsReadyIn of_roots (ground image old.guest.frames) new
+  pub cpu : new.guest.cpu ≡ old.guest.cpu
+  pub board : new.guest.board ≡ old.guest.board
+  pub frames : new.guest.frames ≡ old.guest.frames
+  pub step : new.guest.step ≡ old.guest.step
+  pub fills : new.guest.fills ≡ old.guest.fills
+  pub filled : IsFilled (kept_in of_roots new) new.guest.fills
+  pub outside : SameOutside (base_of old.pool) (count_of old.pool) old.memory new.memory

@@ -1,0 +1,69 @@
+-- What a slice leaves of a guest's scene, of the sink and of the notes.
+use Rattle.std.specs.Prelude.{◌≡◌, ℕ, ◌+◌, ◌*◌, ◌≤◌, [], length, Bool, false, Result, OnErr}
+use Rattle.shadow_tables.specs.declared.shadows.Shadows as shadows
+use Rattle.board.specs.Scripts.{Events}
+use Rattle.host_cpl3.specs.declared.host.Host as hosts
+use Rattle.image_check.specs.Image.{Image}
+use Rattle.machine_model.specs.State.{Setting, wedge}
+use Rattle.pv_io.specs.Causes.{Rose}
+use Rattle.pv_io.specs.declared.answer.Failed.{Failed}
+use Rattle.pv_io.specs.declared.sink.Sink as sinks
+use Rattle.run_trace.specs.Pauses.{IfPaused, IfReached}
+use Rattle.run_trace.specs.declared.notes.Notes as notes
+use Rattle.run_trace.specs.declared.pause.Pause.{Pause}
+use Rattle.wedge_step.specs.Filled.{FillsOn}
+use Rattle.wedge_step.specs.Leaves.{IsCarriedIn}
+use Rattle.wedge_step.specs.Pools.{Keeps}
+use Rattle.wedge_step.specs.Scene.{Scene, frames_in, free, kept_in, set_in, state_in}
+use Rattle.wedge_step.specs.Standing.{IsAble, ground}
+use Rattle.wedge_core.specs.Noted.{NotesOn}
+use Rattle.wedge_core.specs.Scenes.{IsHeldIn, IsReadyIn}
+use Rattle.wedge_core.specs.Counts.{counts_of}
+use Rattle.wedge_core.specs.Slices.{BeginsEmpty, Noting, Outward, SliceAs}
+
+abbrev pub outward : {H O : Type 0} → hosts.Ghosts H → sinks.Ghosts O → H → H → O → O → Outward
+outward h o host host2 out out2 = record { before = counts_of h host; after = counts_of h host2; told = o.taken out; tells = o.taken out2 }
+
+abbrev pub noting : {L : Type 0} → notes.Ghosts L → L → L → Noting
+noting n old new = record { wanted = n.wants old; on = NotesOn (n.wants old) (n.tells old) (n.tells new) }
+
+-- Notes are wanted as before, and where none are, none is told.
+pub record StaysSilent {L : Type 0} (n : notes.Ghosts L) (old new : L) : Type 0 where
+  pub wants : n.wants new ≡ n.wants old
+  pub silent : n.wants old ≡ false → new ≡ old
+
+-- the sink's faults don't fall, and where it failed they rose
+pub record FaultsOf (old new : ℕ) (result : Result Pause Failed) : Type 0 where
+  pub later : old ≤ new
+  pub cause : OnErr result (Rose old new)
+
+module _ {S : Type 0} (g : shadows.Ghosts S) where
+  -- Steps under the monitor's rules lead from the one scene to the other. Where the slice begins so, its sets keep the rule for
+  -- kept translations.
+  abbrev pub SliceIn : Setting → ℕ → Scene S → Scene S → Outward → Noting → Type 0 → Result Pause Failed → Type 0
+  SliceIn m bound old new out told begins result =
+      SliceAs m bound (state_in g m old) (state_in g m new) out
+      (record { pages = kept_in g old; fills = old.guest.fills; filled = new.guest.fills }) told begins result
+
+  -- with all known of what is kept, a whole pool, and no notes wanted
+  abbrev pub BeginsCarried : Image → Events → Scene S → Bool → Type 0
+  BeginsCarried image script c wanted =
+      IsCarriedIn g image script [] (state_in g (wedge image script c.guest.frames) c) c × (free c + c.guest.held ≡ 512) × (wanted ≡ false)
+
+  -- with nothing kept, two frames held and all others of 512 free, and no notes wanted
+  abbrev pub BeginsBare : Scene S → Bool → Type 0
+  BeginsBare c wanted = BeginsEmpty (set_in g c) (free c) c.guest.held wanted
+
+  -- Where all steps were done the guest can go on, and unless the sink failed its shadows stand, over the frames of the pool
+  -- that are its own.
+  pub record SliceLeaves (image : Image) (bound : ℕ) (old new : Scene S) (result : Result Pause Failed) : Type 0 where
+    pub reached : IfReached result (new.guest.step ≡ bound)
+    pub held : IfReached result (IsHeldIn g (ground image old.guest.frames) new)
+    pub ready : IfReached result (IsReadyIn g (ground image old.guest.frames) new)
+    pub able : IfReached result (IsAble new.guest.cpu)
+    pub counted : IfPaused result (new.guest.held ≡ length (frames_in g new))
+    pub stands : IfPaused result (∥ g.stands new.guest.shadows new.memory ∥₁)
+    pub pool : IfPaused result (Keeps old.pool new.pool old.memory new.memory (frames_in g old) (frames_in g new))
+    pub few : IfPaused result (new.guest.fills ≤ 128 * new.guest.step)
+    pub filled : FillsOn (kept_in g old) (kept_in g new) old.guest.fills new.guest.fills
+    pub frames : new.guest.frames ≡ old.guest.frames
