@@ -1,12 +1,11 @@
 -- From a slice of a patched run and the last line to the rest of a run.
-use Rattle.std.proofs.Common.{◌≡◌, ℕ, ◌*◌, ◌≤◌, Bool, List, [], ◌++◌, take, Option, Ok, Err, refl, sym, ap, subst, ◌∙◌, append_assoc, arith}
+use Rattle.std.proofs.Common.{◌≡◌, ℕ, ◌*◌, ◌≤◌, List, [], ◌++◌, take, Option, Ok, Err, refl, sym, ap, subst, ◌∙◌, append_assoc, arith}
 use Rattle.std.proofs.lemmas.List.{append-nil}
 use Rattle.pv_io.specs.declared.answer.Failed.{Failed}
 use Rattle.pv_io.specs.Causes.{Rose}
 use Rattle.pv_io.specs.Sink.{Appends, AppendsFront}
 use Rattle.run_trace.specs.declared.pause.Pause.{Pause}
 use Rattle.run_trace.specs.declared.items.End.{End}
-use Rattle.run_trace.specs.Notes.{Note}
 use Rattle.run_trace.specs.Text.{lines_of, end_line, text_of}
 use Rattle.run_trace.specs.Pauses.{end_of, IfReached}
 use Rattle.machine_model.specs.State.{Setting, State}
@@ -15,52 +14,10 @@ use Rattle.machine_model.specs.Run.{EndsIn, trace_of}
 use Rattle.machine_model.proofs.Ending.{each_ends}
 use Rattle.bare_machine.specs.Answers.{RunsTo}
 use Rattle.wedge_core.specs.Promises.{HasMemory, with_patches}
-use Rattle.wedge_core.specs.Slices.{Counts, SliceAs}
+use Rattle.wedge_core.specs.Slices.{Filling, Noting, Outward, SliceAs}
 use Rattle.wedge_core.proofs.RunPieces.{run_join, seen_join, lines_both, put_both, put_front, put_none}
 use Rattle.wedge_core.proofs.WholeRuns.{text_is, ends_by, count_by, memory_by}
 use Rattle.checkpoint.specs.Continued.{PromiseFrom}
-
--- all lines and the last one were put
-pub went_on : (m : Setting) (n : ℕ) (old new : State) (counts counts_after : Counts) (a b c : Option (List ℕ)) (pages fills filled : ℕ) (wanted : Bool) (notes_on : List Note → Type 0) (begins : Type 0) (pause : Pause) (before mid now : ℕ) (memory : List ℕ) (steps : ℕ) (end : End)
-    → steps ≡ new.step → end ≡ end_of pause → IfReached (Ok pause) (take (4096 * m.frames) memory ≡ with_patches m.image new.ram)
-    → SliceAs m n old new counts counts_after a b pages fills filled wanted notes_on begins (Ok pause) → Appends b c (end_line steps end) → before ≤ mid → mid ≤ now
-    → (text : List ℕ) × PromiseFrom m n old text steps end counts counts_after memory × Appends a c text × (before ≤ now)
-went_on m n old new counts counts_after a b c pages fills filled wanted notes_on begins pause before mid now memory steps end steps_is end_is has h put le more = (
-  lines_of (trace_of h.reports) ++ end_line steps end,
-  record {
-    sets = h.sets;
-    reports = h.reports;
-    last = h.last;
-    run = record { steps = h.steps; ends = subst (λ (e : End). EndsIn m n h.last e) (sym end_is) (ends_by m n h.last new h.end pause h.ends) };
-    count_is = steps_is ∙ count_by m n h.last new h.end pause h.ends;
-    text_is = text_is h.reports steps end;
-    counts = h.counts;
-    memory_is = subst (λ (e : End). HasMemory m h.last e memory) (sym end_is) (memory_by m n h.last new h.end pause memory has h.ends);
-  },
-  put_both a b c _ _ h.text put,
-  omega (arith, le, more),
-)
-
--- all lines and a front of the last one
-pub went_unput : (m : Setting) (n : ℕ) (old new : State) (counts counts_after : Counts) (a b c : Option (List ℕ)) (pages fills filled : ℕ) (wanted : Bool) (notes_on : List Note → Type 0) (begins : Type 0) (pause : Pause) (before mid now : ℕ) (steps : ℕ) (end : End)
-    → steps ≡ new.step → end ≡ end_of pause → SliceAs m n old new counts counts_after a b pages fills filled wanted notes_on begins (Ok pause)
-    → AppendsFront b c (end_line steps end) → before ≤ mid → Rose mid now
-    → (text : List ℕ) × (count : ℕ) × (e : End) × RunsTo m n old text count e × AppendsFront a c text × Rose before now
-went_unput m n old new counts counts_after a b c pages fills filled wanted notes_on begins pause before mid now steps end steps_is end_is h put le rose = (
-  lines_of (trace_of h.reports) ++ end_line steps end,
-  steps,
-  end,
-  record {
-    sets = h.sets;
-    reports = h.reports;
-    last = h.last;
-    run = record { steps = h.steps; ends = subst (λ (e : End). EndsIn m n h.last e) (sym end_is) (ends_by m n h.last new h.end pause h.ends) };
-    count_is = steps_is ∙ count_by m n h.last new h.end pause h.ends;
-    text_is = text_is h.reports steps end;
-  },
-  put_front a b c (lines_of (trace_of h.reports)) (end_line steps end) [] _ h.text put (ap (λ (l : List ℕ). lines_of (trace_of h.reports) ++ l) (sym (append-nil (end_line steps end)))),
-  omega (arith, le, rose),
-)
 
 -- the text of a run that goes on
 text_join : (reports later : List Report) (count : ℕ) (end : End) → text_of (trace_of (reports ++ later)) count end ≡ lines_of (trace_of reports) ++ (lines_of (trace_of later) ++ end_line count end)
@@ -69,23 +26,67 @@ text_join reports later count end =
     ∙ (ap (λ (l : List ℕ). l ++ end_line count end) (ap lines_of (seen_join reports later) ∙ lines_both (trace_of reports) (trace_of later))
     ∙ append_assoc (lines_of (trace_of reports)) (lines_of (trace_of later)) (end_line count end))
 
--- a front of the lines
-pub went_front : (m : Setting) (n : ℕ) (old new : State) (counts counts_after : Counts) (a b : Option (List ℕ)) (pages fills filled : ℕ) (wanted : Bool) (notes_on : List Note → Type 0) (begins : Type 0) (failed : Failed) (before now : ℕ)
-    → SliceAs m n old new counts counts_after a b pages fills filled wanted notes_on begins (Err failed) → Rose before now
-    → (text : List ℕ) × (count : ℕ) × (e : End) × RunsTo m n old text count e × AppendsFront a b text × Rose before now
-went_front m n old new counts counts_after a b pages fills filled wanted notes_on begins failed before now h rose =
-    let e = each_ends m n h.last h.ends in (
-      text_of (trace_of (h.reports ++ e.reports)) e.last.step e.end,
-      e.last.step,
-      e.end,
-      record {
-        sets = h.sets ++ e.sets;
-        reports = h.reports ++ e.reports;
-        last = e.last;
-        run = record { steps = run_join m old h.last e.last h.sets e.sets h.reports e.reports h.steps e.run.steps; ends = e.run.ends };
-        count_is = refl;
-        text_is = refl;
-      },
-      put_front a a b [] (lines_of (trace_of h.reports)) (lines_of (trace_of e.reports) ++ end_line e.last.step e.end) _ (put_none a) h.text (text_join h.reports e.reports e.last.step e.end),
-      rose,
-    )
+module _ {m : Setting} {n : ℕ} {old new : State} {out : Outward} {filling : Filling} {noting : Noting} {begins : Type 0} where
+  -- all lines and the last one were put
+  pub went_on : (c : Option (List ℕ)) (pause : Pause) (before mid now : ℕ) (memory : List ℕ) (steps : ℕ) (end : End)
+      → steps ≡ new.step → end ≡ end_of pause → IfReached (Ok pause) (take (4096 * m.frames) memory ≡ with_patches m.image new.ram)
+      → SliceAs m n old new out filling noting begins (Ok pause) → Appends out.tells c (end_line steps end) → before ≤ mid → mid ≤ now
+      → (text : List ℕ) × PromiseFrom m n old text steps end out.before out.after memory × Appends out.told c text × (before ≤ now)
+  went_on c pause before mid now memory steps end steps_is end_is has h put le more = (
+    lines_of (trace_of h.reports) ++ end_line steps end,
+    record {
+      sets = h.sets;
+      reports = h.reports;
+      last = h.last;
+      run = record { steps = h.steps; ends = subst (λ (e : End). EndsIn m n h.last e) (sym end_is) (ends_by m n h.last new h.end pause h.ends) };
+      count_is = steps_is ∙ count_by m n h.last new h.end pause h.ends;
+      text_is = text_is h.reports steps end;
+      counts = h.counts;
+      memory_is = subst (λ (e : End). HasMemory m h.last e memory) (sym end_is) (memory_by m n h.last new h.end pause memory has h.ends);
+    },
+    put_both out.told out.tells c _ _ h.text put,
+    omega (arith, le, more),
+  )
+
+  -- all lines and a front of the last one
+  pub went_unput : (c : Option (List ℕ)) (pause : Pause) (before mid now : ℕ) (steps : ℕ) (end : End)
+      → steps ≡ new.step → end ≡ end_of pause → SliceAs m n old new out filling noting begins (Ok pause)
+      → AppendsFront out.tells c (end_line steps end) → before ≤ mid → Rose mid now
+      → (text : List ℕ) × (count : ℕ) × (e : End) × RunsTo m n old text count e × AppendsFront out.told c text × Rose before now
+  went_unput c pause before mid now steps end steps_is end_is h put le rose = (
+    lines_of (trace_of h.reports) ++ end_line steps end,
+    steps,
+    end,
+    record {
+      sets = h.sets;
+      reports = h.reports;
+      last = h.last;
+      run = record { steps = h.steps; ends = subst (λ (e : End). EndsIn m n h.last e) (sym end_is) (ends_by m n h.last new h.end pause h.ends) };
+      count_is = steps_is ∙ count_by m n h.last new h.end pause h.ends;
+      text_is = text_is h.reports steps end;
+    },
+    put_front out.told out.tells c (lines_of (trace_of h.reports)) (end_line steps end) [] _ h.text put
+        (ap (λ (l : List ℕ). lines_of (trace_of h.reports) ++ l) (sym (append-nil (end_line steps end)))),
+    omega (arith, le, rose),
+  )
+
+  -- a front of the lines
+  pub went_front : (failed : Failed) (before now : ℕ) → SliceAs m n old new out filling noting begins (Err failed) → Rose before now
+      → (text : List ℕ) × (count : ℕ) × (e : End) × RunsTo m n old text count e × AppendsFront out.told out.tells text × Rose before now
+  went_front failed before now h rose =
+      let e = each_ends m n h.last h.ends in (
+        text_of (trace_of (h.reports ++ e.reports)) e.last.step e.end,
+        e.last.step,
+        e.end,
+        record {
+          sets = h.sets ++ e.sets;
+          reports = h.reports ++ e.reports;
+          last = e.last;
+          run = record { steps = run_join m old h.last e.last h.sets e.sets h.reports e.reports h.steps e.run.steps; ends = e.run.ends };
+          count_is = refl;
+          text_is = refl;
+        },
+        put_front out.told out.told out.tells [] (lines_of (trace_of h.reports)) (lines_of (trace_of e.reports) ++ end_line e.last.step e.end) _ (put_none out.told) h.text
+            (text_join h.reports e.reports e.last.step e.end),
+        rose,
+      )

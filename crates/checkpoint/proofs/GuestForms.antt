@@ -1,5 +1,5 @@
 -- A checkpoint can be made of what a guest comes to.
-use Rattle.std.proofs.Common.{◌≡◌, List, ℕ, ◌*◌, ◌^◌, ◌≤◌, length, arith}
+use Rattle.std.proofs.Common.{◌≡◌, List, ℕ, ◌+◌, ◌*◌, ◌^◌, ◌≤◌, length, sym, subst, arith}
 use Rattle.frame_pool.specs.declared.Pool.{Pool}
 use Rattle.board.specs.Scripts.{Events}
 use Rattle.image_check.specs.Image.{Image}
@@ -7,10 +7,15 @@ use Rattle.native_steps.specs.Mirrors.{shown}
 use Rattle.shadow_cache.specs.Views as roots
 use Rattle.shadow_cache.specs.declared.roots.Roots.{Roots}
 use Rattle.machine_model.specs.Fit.{Fit}
-use Rattle.machine_model.specs.State.{wedge}
+use Rattle.machine_model.specs.State.{State, wedge}
+use Rattle.wedge_step.specs.Leaves.{IsBetween}
+use Rattle.wedge_step.specs.Scene.{Scene, free}
 use Rattle.wedge_step.specs.Standing.{IsHeld, ground, state_of}
 use Rattle.wedge_step.specs.declared.running.Running.{Running}
 use Rattle.wedge_step.proofs.Memories.{text_within}
+use Rattle.wedge_core.specs.OfRoots.{of_roots}
+use Rattle.wedge_core.specs.Scenes.{IsHeldIn, IsReadyIn}
+use Rattle.checkpoint.specs.Guests.{GoesOnFrom}
 use Rattle.checkpoint.specs.States.{IsInForm}
 use Rattle.checkpoint.specs.Moved.{kept_of}
 use Rattle.checkpoint.proofs.Seats.{shown_long}
@@ -32,3 +37,16 @@ guest_form image script g pool memory h fit step =
     let high = h.size.1 in
     let long = guest_size image script g pool memory h in
     record { step = step; ram = (omega (arith, long, low), omega (arith, long, high), omega (arith, long)); fit = fit }
+
+-- A guest that is held over so many frames is between two steps over its own.
+pub between : (image : Image) (count : ℕ) (c : Scene Roots) → IsHeldIn of_roots (ground image count) c → IsReadyIn of_roots (ground image count) c
+    → 16 ≤ free c + c.guest.held → IsBetween of_roots image c
+between image count c held ready enough = record {
+  held = subst (λ (k : ℕ). IsHeldIn of_roots (ground image k) c) (sym held.frames_are) held;
+  ready = subst (λ (k : ℕ). IsReadyIn of_roots (ground image k) c) (sym held.frames_are) ready;
+  enough = enough;
+}
+
+-- So is one that goes on from a state.
+pub seated_between : (image : Image) (count : ℕ) (first : State) (c : Scene Roots) → GoesOnFrom image count first c → IsBetween of_roots image c
+seated_between image count first c h = let all = h.free in between image count c h.held h.ready (omega (arith, all))

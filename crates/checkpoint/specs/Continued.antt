@@ -1,5 +1,5 @@
 -- What a patched run promises that goes on from a state.
-use Rattle.std.specs.Prelude.{◌≡◌, ℕ, ◌≤◌, List, Option, Result, Ok, Err}
+use Rattle.std.specs.Prelude.{◌≡◌, ℕ, ◌≤◌, List, Result, Ok, Err}
 use Rattle.pv_io.specs.Causes.{Rose}
 use Rattle.pv_io.specs.Sink.{Appends, AppendsFront}
 use Rattle.image_load.specs.declared.fault.RunFault.{RunFault}
@@ -11,8 +11,9 @@ use Rattle.machine_model.specs.State.{Setting, State}
 use Rattle.machine_model.specs.Step.{Report}
 use Rattle.machine_model.specs.Run.{Set, Run, trace_of}
 use Rattle.bare_machine.specs.Answers.{RunsTo}
+use Rattle.wedge_core.specs.Answers.{Around, IsUntouched}
+use Rattle.wedge_core.specs.Counts.{Counts, CountsOn}
 use Rattle.wedge_core.specs.Promises.{HasMemory}
-use Rattle.wedge_core.specs.Slices.{Counts, CountsOn}
 
 -- One run from a state has this text, count of steps and end. The host completed exactly its direct instructions, and where
 -- it has done all its steps, its memory is the host's first frames with the text patched.
@@ -27,12 +28,14 @@ pub record PromiseFrom (m : Setting) (n : ℕ) (first : State) (text : List ℕ)
   pub memory_is : HasMemory m last end memory
 
 -- what stands after it: the sink's bytes and faults, and the host's counts and memory
-abbrev pub WedgeGoesTo : Setting → ℕ → State → Option (List ℕ) → Option (List ℕ) → ℕ → ℕ → Counts → Counts → List ℕ → Result Ended RunFault → Type 0
-WedgeGoesTo m n first old new before now counts_before counts_after memory (Ok ended) =
-    (text : List ℕ) × PromiseFrom m n first text ended.steps ended.end counts_before counts_after memory × Appends old new text × (before ≤ now)
+abbrev pub WedgeGoesTo : Setting → ℕ → State → Around → List ℕ → Result Ended RunFault → Type 0
+WedgeGoesTo m n first a memory (Ok ended) =
+    (text : List ℕ) × PromiseFrom m n first text ended.steps ended.end a.counts a.counts_after memory × Appends a.taken a.taken_after text
+    × (a.faults ≤ a.faults_after)
 -- the sink failed, and has taken a front of the text of some run
-WedgeGoesTo m n first old new before now counts_before counts_after memory (Err fault.Write) =
-    (text : List ℕ) × (count : ℕ) × (end : End) × RunsTo m n first text count end × AppendsFront old new text × Rose before now
-WedgeGoesTo m n first old new before now counts_before counts_after memory (Err (fault.TooSmall small)) = ⊥
+WedgeGoesTo m n first a memory (Err fault.Write) =
+    (text : List ℕ) × (count : ℕ) × (end : End) × RunsTo m n first text count end × AppendsFront a.taken a.taken_after text
+    × Rose a.faults a.faults_after
+WedgeGoesTo m n first a memory (Err (fault.TooSmall small)) = ⊥
 -- nothing was written, and the host completed nothing
-WedgeGoesTo m n first old new before now counts_before counts_after memory (Err fault.Memory) = (new ≡ old) × (now ≡ before) × (counts_after ≡ counts_before)
+WedgeGoesTo m n first a memory (Err fault.Memory) = IsUntouched a

@@ -20,9 +20,6 @@ first_bad there (d ∷ demands) = earlier (bad_in there d) (first_bad there dema
 abbrev pub byte_demand : ℕ → Bool → Demand
 byte_demand at met = record { at = at; end = at + 1; met = met }
 
-abbrev pub half_demand : ℕ → Bool → Demand
-half_demand at met = record { at = at; end = at + 2; met = met }
-
 abbrev pub word_demand : ℕ → Bool → Demand
 word_demand at met = record { at = at; end = at + 4; met = met }
 

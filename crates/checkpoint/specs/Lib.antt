@@ -6,6 +6,7 @@ pub mod States
 pub mod Fits
 pub mod Legs
 pub mod Moved
+pub mod Guests
 pub mod Continued
 pub mod Rested
 pub mod Least

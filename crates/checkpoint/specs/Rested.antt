@@ -14,6 +14,7 @@ use Rattle.machine_model.specs.State as model
 use Rattle.machine_model.specs.State.{Setting, boot}
 use Rattle.machine_model.specs.Step.{Report}
 use Rattle.machine_model.specs.Run.{Set, Run, trace_of}
+use Rattle.wedge_core.specs.Counts.{Counts, CountsOn}
 use Rattle.checkpoint.specs.declared.rested.Rested.{Rested}
 use Rattle.checkpoint.specs.declared.rested.Rested.TheVariants.{At, Stopped}
 use Rattle.checkpoint.specs.States.{IsInForm}
@@ -24,8 +25,20 @@ abbrev pub rested_text : List Item → ℕ → End → List ℕ
 rested_text trace count ends.Bound = lines_of trace
 rested_text trace count (ends.Stopped stop) = text_of trace count (ends.Stopped stop)
 
+-- what is said of the reports of a run
+abbrev pub Counting : Type 1
+Counting = List Report → Type 0
+
+-- the host has done their direct instructions
+abbrev pub host_counts : Setting → Counts → Counts → Counting
+host_counts m before after = λ reports. CountsOn m reports before after
+
+-- there is no host
+abbrev pub no_counts : Counting
+no_counts = λ reports. Unit {0}
+
 -- One run from a state ends so, and this is what it puts. What is counted is said of its reports.
-pub record RestsTo (m : Setting) (n : ℕ) (first : model.State) (counts : List Report → Type 0) (text : List ℕ) (last : model.State) (end : End) : Type 0 where
+pub record RestsTo (m : Setting) (n : ℕ) (first : model.State) (counts : Counting) (text : List ℕ) (last : model.State) (end : End) : Type 0 where
   pub sets : List Set
   pub reports : List Report
   pub run : Run m n first sets reports last end
@@ -33,11 +46,11 @@ pub record RestsTo (m : Setting) (n : ℕ) (first : model.State) (counts : List 
   pub counted : counts reports
 
 -- nothing was put, and nothing counted
-abbrev pub NothingDone : (List Report → Type 0) → Option (List ℕ) → Option (List ℕ) → ℕ → ℕ → Type 0
+abbrev pub NothingDone : Counting → Option (List ℕ) → Option (List ℕ) → ℕ → ℕ → Type 0
 NothingDone counts old new before now = (new ≡ old) × (now ≡ before) × counts []
 
 -- the lines of a run that has done all its steps were put, and a checkpoint can be made of the last state
-pub record RestsWith (m : Setting) (n : ℕ) (first : model.State) (counts : List Report → Type 0) (old new : Option (List ℕ)) (before now : ℕ) (last : model.State) : Type 0 where
+pub record RestsWith (m : Setting) (n : ℕ) (first : model.State) (counts : Counting) (old new : Option (List ℕ)) (before now : ℕ) (last : model.State) : Type 0 where
   pub text : List ℕ
   pub rests : RestsTo m n first counts text last ends.Bound
   pub form : IsInForm (kept_of last)
@@ -45,7 +58,7 @@ pub record RestsWith (m : Setting) (n : ℕ) (first : model.State) (counts : Lis
   pub put : Appends old new text
   pub later : before ≤ now
 
-abbrev pub RestsAs : Setting → ℕ → model.State → (List Report → Type 0) → Option (List ℕ) → Option (List ℕ) → ℕ → ℕ → Result Rested RunFault → Type 0
+abbrev pub RestsAs : Setting → ℕ → model.State → Counting → Option (List ℕ) → Option (List ℕ) → ℕ → ℕ → Result Rested RunFault → Type 0
 RestsAs m n first counts old new before now (Ok (At state)) =
     (last : model.State) × RestsWith m n first counts old new before now last × (state ≡ kept_of last)
 RestsAs m n first counts old new before now (Ok (Stopped ended)) =
@@ -53,14 +66,14 @@ RestsAs m n first counts old new before now (Ok (Stopped ended)) =
     × (ended.steps ≡ last.step) × (ended.end ≡ ends.Stopped stop) × Appends old new text × (before ≤ now)
 -- the sink failed, and has taken a front of what some run puts
 RestsAs m n first counts old new before now (Err fault.Write) =
-    (last : model.State) × (end : End) × (text : List ℕ) × RestsTo m n first (λ _. Unit {0}) text last end × AppendsFront old new text × Rose before now
+    (last : model.State) × (end : End) × (text : List ℕ) × RestsTo m n first no_counts text last end × AppendsFront old new text × Rose before now
 RestsAs m n first counts old new before now (Err (fault.TooSmall small)) = ⊥
 -- no memory was found for the run, or its lines were put and none was found for the state
 RestsAs m n first counts old new before now (Err fault.Memory) =
     NothingDone counts old new before now ⊎ ((last : model.State) × RestsWith m n first counts old new before now last)
 
 -- the same of a run from where every run begins, or the image needs more frames than there are
-abbrev pub RestsFromStart : Setting → ℕ → (List Report → Type 0) → Option (List ℕ) → Option (List ℕ) → ℕ → ℕ → Result Rested RunFault → Type 0
+abbrev pub RestsFromStart : Setting → ℕ → Counting → Option (List ℕ) → Option (List ℕ) → ℕ → ℕ → Result Rested RunFault → Type 0
 RestsFromStart m n counts old new before now (Ok rested) = (need m.image ≤ m.frames) × RestsAs m n (boot m) counts old new before now (Ok rested)
 RestsFromStart m n counts old new before now (Err fault.Write) = (need m.image ≤ m.frames) × RestsAs m n (boot m) counts old new before now (Err fault.Write)
 RestsFromStart m n counts old new before now (Err (fault.TooSmall small)) =

@@ -7,7 +7,7 @@ ghost use Rattle.machine_model.specs.Fit.{Fit};
 ghost use Rattle.bare_machine.specs.Machine.{bare, state_of, IsKept};
 ghost use Rattle.checkpoint.specs.States.{IsInForm};
 ghost use Rattle.checkpoint.specs.Moved.{rested_from};
-ghost use Rattle.checkpoint.specs.Rested.{RestsAs, RestsFromStart};
+ghost use Rattle.checkpoint.specs.Rested.{RestsAs, RestsFromStart, no_counts};
 
 use crate::bare::{bare_from, state_of_bare};
 use crate::rested::Rested;
@@ -34,7 +34,8 @@ pub fn save_bare<O: Sink>(
     requires frames { (2048 ≤ frames) × (frames ≤ 16384) }
     requires script { is_script script.now.list ≡ true }
     requires bound { n ≤ 2 ^ 40 }
-    ensures rests { RestsFromStart (bare image.now script.now.list frames) n (λ _. Unit {0}) (O.taken out.old) (O.taken out.new) (O.faults out.old) (O.faults out.new) result }
+    ensures rests { RestsFromStart (bare image.now script.now.list frames) n no_counts
+        (O.taken out.old) (O.taken out.new) (O.faults out.old) (O.faults out.new) result }
 {
     each_run_begins_fit();
     match Bare::start(alloc, image, frames, Buffer::new()) {
@@ -55,7 +56,9 @@ pub fn save_bare_from<O: Sink>(
     requires script { is_script script.now.list ≡ true }
     requires begun { state.step ≤ n }
     requires bound { n ≤ 2 ^ 40 }
-    ensures rests { (image : Image) → RestsAs (bare image script.now.list (length state.ram / 4096)) n (rested_from state) (λ _. Unit {0}) (O.taken out.old) (O.taken out.new) (O.faults out.old) (O.faults out.new) result }
+    ensures rests { (image : Image)
+        → RestsAs (bare image script.now.list (length state.ram / 4096)) n (rested_from state) no_counts
+        (O.taken out.old) (O.taken out.new) (O.faults out.old) (O.faults out.new) result }
 {
     let machine = bare_from(state, Buffer::new());
     rest_bare(machine, script, n, out)
@@ -75,7 +78,9 @@ pub fn rest_bare<C: Cache, O: Sink>(
     requires size { length machine.ram ≡ 4096 * machine.frames }
     requires begun { machine.step ≤ n }
     requires bound { n ≤ 2 ^ 40 }
-    ensures rests { (image : Image) → RestsAs (bare image script.now.list machine.frames) n (state_of C.entries machine) (λ _. Unit {0}) (O.taken out.old) (O.taken out.new) (O.faults out.old) (O.faults out.new) result }
+    ensures rests { (image : Image)
+        → RestsAs (bare image script.now.list machine.frames) n (state_of C.entries machine) no_counts
+        (O.taken out.old) (O.taken out.new) (O.faults out.old) (O.faults out.new) result }
 {
     let mut machine = machine;
     let k = n - machine.step;

@@ -28,7 +28,8 @@ pub fn continue_bare<O: Sink>(
     requires script { is_script script.now.list ≡ true }
     requires begun { state.step ≤ n }
     requires bound { n ≤ 2 ^ 40 }
-    ensures whole { (image : Image) → WholeAs (bare image script.now.list (length state.ram / 4096)) n (rested_from state) (O.taken out.old) (O.taken out.new) (O.faults out.old) (O.faults out.new) result }
+    ensures whole { (image : Image) → WholeAs (bare image script.now.list (length state.ram / 4096)) n (rested_from state)
+        (O.taken out.old) (O.taken out.new) (O.faults out.old) (O.faults out.new) result }
     ensures fills { IfOk result (λ ended. ended.fills ≡ 0) }
 {
     let mut machine = bare_from(state, Buffer::new());

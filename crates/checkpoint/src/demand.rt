@@ -6,6 +6,7 @@ ghost use Rattle.checkpoint.specs.Demands.{bad_in, earlier, first_bad, byte_dema
 /// What a field at a place is to meet. It is told by the bytes before `end`, and is asked only where they are there.
 #[derive(Clone, Copy)]
 pub struct Demand {
+    /// The offset of the field's first byte in the file.
     pub at: u32,
     pub end: u32,
     pub met: bool,
@@ -20,6 +21,7 @@ fn bad_in(there: usize, demand: Demand) -> Option<u32>
     None
 }
 
+/// The earlier of two places.
 pub fn earlier(a: Option<u32>, b: Option<u32>) -> Option<u32>
     ensures { result ≡ earlier a b }
 {
@@ -41,6 +43,7 @@ pub fn first_bad(there: usize, demands: &[Demand]) -> Option<u32>
     first
 }
 
+/// Of a field of one byte.
 pub fn byte_demand(at: u32, met: bool) -> Demand
     requires { at < 2 ^ 31 }
     ensures { result ≡ byte_demand at met }
@@ -52,6 +55,7 @@ pub fn byte_demand(at: u32, met: bool) -> Demand
     }
 }
 
+/// Of a field of four bytes.
 pub fn word_demand(at: u32, met: bool) -> Demand
     requires { at < 2 ^ 31 }
     ensures { result ≡ word_demand at met }
@@ -63,6 +67,7 @@ pub fn word_demand(at: u32, met: bool) -> Demand
     }
 }
 
+/// Of a field of eight bytes.
 pub fn double_demand(at: u32, met: bool) -> Demand
     requires { at < 2 ^ 31 }
     ensures { result ≡ double_demand at met }

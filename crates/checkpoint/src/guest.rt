@@ -5,12 +5,14 @@ ghost use Rattle.guest_ram.specs.Bytes.{part, with_part};
 ghost use Rattle.frame_pool.specs.Pool.{Stands, base_of, free_list};
 ghost use Rattle.frame_pool.specs.declared.Pool.{Pool};
 ghost use Rattle.board.specs.Scripts.{Events};
-ghost use Rattle.shadow_cache.specs.Views as roots;
 ghost use Rattle.machine_model.specs.Fit.{Fit};
-ghost use Rattle.machine_model.specs.State.{wedge};
-ghost use Rattle.wedge_step.specs.Filled.{IsFilled, pages_kept};
-ghost use Rattle.wedge_step.specs.Ready.{IsReady};
-ghost use Rattle.wedge_step.specs.Standing.{IsHeld, IsAble, ground, state_of};
+ghost use Rattle.wedge_step.specs.Scene.{scene};
+ghost use Rattle.wedge_step.specs.Standing.{IsAble, ground};
+ghost use Rattle.wedge_core.specs.Counts.{counts_of};
+ghost use Rattle.wedge_core.specs.OfRoots.{of_roots};
+ghost use Rattle.wedge_core.specs.Scenes.{IsHeldIn};
+ghost use Rattle.wedge_core.specs.Stepped.{CountsNone};
+ghost use Rattle.checkpoint.specs.Guests.{GoesOnFrom, state_at};
 ghost use Rattle.checkpoint.specs.States.{IsInForm};
 ghost use Rattle.checkpoint.specs.Moved.{rested_from, kept_of};
 
@@ -34,7 +36,7 @@ fn seated(memory: &mut Ram, ram: &Ram, frames: u32) -> Pool
     requires frames { length ram.now ≡ 4096 * frames }
     requires room { length memory.old ≡ (frames + 512) * 4096 }
     ensures front { take (4096 * frames) memory.new ≡ ram.now }
-    ensures len { length memory.new ≡ length memory.old }
+    ensures len { length memory.new ≡ (frames + 512) * 4096 }
     ensures stands { Stands result memory.new }
     ensures free { length (free_list result memory.new) ≡ 512 }
     ensures base { base_of result ≡ frames }
@@ -54,18 +56,10 @@ pub fn guest_from<H: Host>(
     requires form { IsInForm state }
     requires able { IsAble state.cpu }
     requires text { part state.ram 0x100000 (length image.now.text) ≡ image.now.text }
-    ensures held { IfOk result (λ r. IsHeld roots.stands roots.frames roots.slots (ground image.now (length state.ram / 4096)) r.0.running r.1 (H.bytes host.new)) }
-    ensures state { IfOk result (λ r. (script : Events) → state_of roots.stands roots.frames roots.slots (wedge image.now script (length state.ram / 4096)) r.0.running (H.bytes host.new) ≡ rested_from state) }
-    ensures frames { IfOk result (λ r. r.0.running.frames ≡ length state.ram / 4096) }
-    ensures two { IfOk result (λ r. r.0.running.held ≡ 2) }
-    ensures free { IfOk result (λ r. length (free_list r.1 (H.bytes host.new)) + r.0.running.held ≡ 512) }
-    ensures fills { IfOk result (λ r. r.0.running.fills ≡ 0) }
-    ensures ready { IfOk result (λ r. IsReady roots.slots roots.noted roots.marked roots.value roots.asides (ground image.now (length state.ram / 4096)) r.0.running.cpu r.0.running.shadows (H.bytes host.new)) }
-    ensures filled { IfOk result (λ r. IsFilled (pages_kept roots.slots roots.asides r.0.running.shadows (H.bytes host.new)) r.0.running.fills) }
-    ensures able { IfOk result (λ r. IsAble r.0.running.cpu) }
+    ensures goes_on { IfOk result (λ r. GoesOnFrom image.now (length state.ram / 4096) (rested_from state)
+        (scene r.0.running r.1 (H.bytes host.new))) }
     ensures started { IfOk result (λ _. H.is_started host.new ≡ true) }
-    ensures retired { H.retired host.new ≡ H.retired host.old }
-    ensures passed { H.passed host.new ≡ H.passed host.old }
+    ensures counts { CountsNone (counts_of H.Host host.old) (counts_of H.Host host.new) }
 {
     let State {
         cpu,
@@ -88,13 +82,16 @@ pub fn state_of_guest<H: Host>(
     host: &H,
 ) -> Result<State, AllocError>
     requires started { H.is_started host.now ≡ true }
-    requires held { (pool : Pool) × IsHeld roots.stands roots.frames roots.slots (ground image.now guest.running.frames) guest.running pool (H.bytes host.now) }
+    requires held { (pool : Pool) × IsHeldIn of_roots (ground image.now guest.running.frames)
+        (scene guest.running pool (H.bytes host.now)) }
     requires fit { Fit guest.running.cpu }
     requires step { guest.running.step ≤ 2 ^ 40 }
-    ensures state { IfOk result (λ state. (script : Events) → state ≡ kept_of (state_of roots.stands roots.frames roots.slots (wedge image.now script guest.running.frames) guest.running (H.bytes host.now))) }
+    ensures state { IfOk result (λ state. (script : Events)
+        → state ≡ kept_of (state_at image.now script guest.running (H.bytes host.now))) }
     // Whether memory is found for it or not, a checkpoint can be made of the state.
-    ensures kept { (script : Events) → IsInForm (kept_of (state_of roots.stands roots.frames roots.slots (wedge image.now script guest.running.frames) guest.running (H.bytes host.now))) }
-    ensures size { (script : Events) → length (state_of roots.stands roots.frames roots.slots (wedge image.now script guest.running.frames) guest.running (H.bytes host.now)).ram ≡ 4096 * guest.running.frames }
+    ensures kept { (script : Events) → IsInForm (kept_of (state_at image.now script guest.running (H.bytes host.now))) }
+    ensures size { (script : Events)
+        → length (state_at image.now script guest.running (H.bytes host.now)).ram ≡ 4096 * guest.running.frames }
 {
     let Guest { running } = guest;
     let Running {

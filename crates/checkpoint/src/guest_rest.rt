@@ -1,18 +1,18 @@
 //! A patched run up to a count of steps, at which it rests.
 
-ghost use Rattle.std.specs.Prelude.{◌≡◌, ◌+◌, ◌/◌, ◌≤◌, ◌^◌, length, true};
+ghost use Rattle.std.specs.Prelude.{◌≡◌, ◌/◌, ◌≤◌, ◌^◌, length, true};
 ghost use Rattle.guest_ram.specs.Bytes.{part};
-ghost use Rattle.frame_pool.specs.Pool.{free_list};
 ghost use Rattle.board.specs.Scripts.{is_script};
-ghost use Rattle.shadow_cache.specs.Views as roots;
 ghost use Rattle.machine_model.specs.Fit.{Fit};
 ghost use Rattle.machine_model.specs.State.{wedge};
-ghost use Rattle.wedge_core.specs.Slices.{CountsOn};
-ghost use Rattle.wedge_step.specs.Ready.{IsReady};
-ghost use Rattle.wedge_step.specs.Standing.{IsHeld, IsAble, ground, state_of};
+ghost use Rattle.wedge_step.specs.Leaves.{IsBetween};
+ghost use Rattle.wedge_step.specs.Scene.{scene, state_in};
+ghost use Rattle.wedge_step.specs.Standing.{IsAble};
+ghost use Rattle.wedge_core.specs.Counts.{counts_of};
+ghost use Rattle.wedge_core.specs.OfRoots.{of_roots};
 ghost use Rattle.checkpoint.specs.States.{IsInForm};
 ghost use Rattle.checkpoint.specs.Moved.{rested_from};
-ghost use Rattle.checkpoint.specs.Rested.{RestsAs, RestsFromStart};
+ghost use Rattle.checkpoint.specs.Rested.{RestsAs, RestsFromStart, host_counts};
 
 use crate::guest::{POOL_FRAMES, guest_from, state_of_guest};
 use crate::rested::Rested;
@@ -44,7 +44,7 @@ pub fn save_wedge<H: Host, O: Sink>(
     requires bound { n ≤ 2 ^ 40 }
     requires room { H.retired host.old ≤ 2 ^ 63 }
     ensures rests { RestsFromStart (wedge image.now script.now.list frames) n
-        (λ reports. CountsOn (wedge image.now script.now.list frames) reports (record { retired = H.retired host.old; passed = H.passed host.old }) (record { retired = H.retired host.new; passed = H.passed host.new }))
+        (host_counts (wedge image.now script.now.list frames) (counts_of H.Host host.old) (counts_of H.Host host.new))
         (O.taken out.old) (O.taken out.new) (O.faults out.old) (O.faults out.new) result }
 {
     each_run_begins_fit();
@@ -76,7 +76,7 @@ pub fn save_wedge_from<H: Host, O: Sink>(
     requires bound { n ≤ 2 ^ 40 }
     requires room { H.retired host.old ≤ 2 ^ 63 }
     ensures rests { RestsAs (wedge image.now script.now.list (length state.ram / 4096)) n (rested_from state)
-        (λ reports. CountsOn (wedge image.now script.now.list (length state.ram / 4096)) reports (record { retired = H.retired host.old; passed = H.passed host.old }) (record { retired = H.retired host.new; passed = H.passed host.new }))
+        (host_counts (wedge image.now script.now.list (length state.ram / 4096)) (counts_of H.Host host.old) (counts_of H.Host host.new))
         (O.taken out.old) (O.taken out.new) (O.faults out.old) (O.faults out.new) result }
 {
     match guest_from(alloc, state, image, host) {
@@ -107,18 +107,16 @@ pub fn rest_wedge<H: Host, O: Sink>(
     out: &mut O,
 ) -> Result<Rested, RunFault>
     requires started { H.is_started host.old ≡ true }
-    requires held { IsHeld roots.stands roots.frames roots.slots (ground image.now guest.running.frames) guest.running pool.old (H.bytes host.old) }
-    requires ready { IsReady roots.slots roots.noted roots.marked roots.value roots.asides (ground image.now guest.running.frames) guest.running.cpu guest.running.shadows (H.bytes host.old) }
+    requires between { IsBetween of_roots image.now (scene guest.running pool.old (H.bytes host.old)) }
     requires able { IsAble guest.running.cpu }
     requires fit { Fit guest.running.cpu }
     requires script { is_script script.now.list ≡ true }
     requires begun { guest.running.step ≤ n }
     requires bound { n ≤ 2 ^ 40 }
     requires room { H.retired host.old ≤ 2 ^ 63 }
-    requires enough { 16 ≤ length (free_list pool.old (H.bytes host.old)) + guest.running.held }
     ensures rests { RestsAs (wedge image.now script.now.list guest.running.frames) n
-        (state_of roots.stands roots.frames roots.slots (wedge image.now script.now.list guest.running.frames) guest.running (H.bytes host.old))
-        (λ reports. CountsOn (wedge image.now script.now.list guest.running.frames) reports (record { retired = H.retired host.old; passed = H.passed host.old }) (record { retired = H.retired host.new; passed = H.passed host.new }))
+        (state_in of_roots (wedge image.now script.now.list guest.running.frames) (scene guest.running pool.old (H.bytes host.old)))
+        (host_counts (wedge image.now script.now.list guest.running.frames) (counts_of H.Host host.old) (counts_of H.Host host.new))
         (O.taken out.old) (O.taken out.new) (O.faults out.old) (O.faults out.new) result }
 {
     let mut guest = guest;

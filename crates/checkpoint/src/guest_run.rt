@@ -1,14 +1,15 @@
 //! A patched run goes on from a checkpoint, to its last line.
 
-ghost use Rattle.std.specs.Prelude.{◌≡◌, ◌+◌, ◌/◌, ◌≤◌, ◌^◌, length, true};
+ghost use Rattle.std.specs.Prelude.{◌≡◌, ◌/◌, ◌≤◌, ◌^◌, length, true};
 ghost use Rattle.guest_ram.specs.Bytes.{part};
-ghost use Rattle.frame_pool.specs.Pool.{free_list};
 ghost use Rattle.board.specs.Scripts.{is_script};
-ghost use Rattle.shadow_cache.specs.Views as roots;
 ghost use Rattle.machine_model.specs.State.{wedge};
 ghost use Rattle.run_trace.specs.Pauses.{end_of};
-ghost use Rattle.wedge_step.specs.Ready.{IsReady};
-ghost use Rattle.wedge_step.specs.Standing.{IsHeld, IsAble, ground, state_of};
+ghost use Rattle.wedge_step.specs.Leaves.{IsBetween};
+ghost use Rattle.wedge_step.specs.Scene.{scene, state_in};
+ghost use Rattle.wedge_step.specs.Standing.{IsAble};
+ghost use Rattle.wedge_core.specs.Answers.{around};
+ghost use Rattle.wedge_core.specs.OfRoots.{of_roots};
 ghost use Rattle.checkpoint.specs.States.{IsInForm};
 ghost use Rattle.checkpoint.specs.Moved.{rested_from};
 ghost use Rattle.checkpoint.specs.Continued.{WedgeGoesTo};
@@ -42,8 +43,8 @@ pub fn continue_wedge<H: Host, O: Sink>(
     requires begun { state.step ≤ n }
     requires bound { n ≤ 2 ^ 40 }
     requires room { H.retired host.old ≤ 2 ^ 63 }
-    ensures run { WedgeGoesTo (wedge image.now script.now.list (length state.ram / 4096)) n (rested_from state) (O.taken out.old) (O.taken out.new) (O.faults out.old) (O.faults out.new)
-        (record { retired = H.retired host.old; passed = H.passed host.old }) (record { retired = H.retired host.new; passed = H.passed host.new }) (H.bytes host.new) result }
+    ensures run { WedgeGoesTo (wedge image.now script.now.list (length state.ram / 4096)) n (rested_from state)
+        (around H.Host O.Sink host.old host.new out.old out.new) (H.bytes host.new) result }
 {
     match guest_from(alloc, state, image, host) {
         Err(_) => Err(RunFault::Memory),
@@ -66,18 +67,16 @@ fn whole<H: Host, O: Sink>(
     out: &mut O,
 ) -> Result<Ended, RunFault>
     requires started { H.is_started host.old ≡ true }
-    requires held { IsHeld roots.stands roots.frames roots.slots (ground image.now guest.old.running.frames) guest.old.running pool.old (H.bytes host.old) }
-    requires ready { IsReady roots.slots roots.noted roots.marked roots.value roots.asides (ground image.now guest.old.running.frames) guest.old.running.cpu guest.old.running.shadows (H.bytes host.old) }
+    requires between { IsBetween of_roots image.now (scene guest.old.running pool.old (H.bytes host.old)) }
     requires able { IsAble guest.old.running.cpu }
     requires script { is_script script.now.list ≡ true }
     requires begun { guest.old.running.step ≤ n }
     requires bound { n ≤ 2 ^ 40 }
     requires room { H.retired host.old ≤ 2 ^ 63 }
-    requires enough { 16 ≤ length (free_list pool.old (H.bytes host.old)) + guest.old.running.held }
     ensures whole { WedgeGoesTo (wedge image.now script.now.list guest.old.running.frames) n
-        (state_of roots.stands roots.frames roots.slots (wedge image.now script.now.list guest.old.running.frames) guest.old.running (H.bytes host.old))
-        (O.taken out.old) (O.taken out.new) (O.faults out.old) (O.faults out.new)
-        (record { retired = H.retired host.old; passed = H.passed host.old }) (record { retired = H.retired host.new; passed = H.passed host.new }) (H.bytes host.new) result }
+        (state_in of_roots (wedge image.now script.now.list guest.old.running.frames)
+        (scene guest.old.running pool.old (H.bytes host.old)))
+        (around H.Host O.Sink host.old host.new out.old out.new) (H.bytes host.new) result }
 {
     let k = n - guest.step();
     let pause = match guest.slice(image, script, k, pool, host, out, &mut NoNotes) {

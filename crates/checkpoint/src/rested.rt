@@ -1,3 +1,5 @@
+//! How a run to a checkpoint ends.
+
 use crate::state::State;
 use run_trace::Ended;
 

@@ -1,3 +1,5 @@
+//! What a checkpoint holds, and why one is refused.
+
 use board::Board;
 use descriptors::Cpu;
 use guest_ram::Ram;
@@ -8,7 +10,9 @@ use guest_ram::Ram;
 pub struct State {
     pub cpu: Cpu,
     pub board: Board,
+    /// How many steps were done.
     pub step: u64,
+    /// All frames.
     pub ram: Ram,
 }
 

@@ -11,7 +11,7 @@ use Rattle.machine_model.specs.Counts.{direct_count, direct_in, direct_addresses
 use Rattle.sites.specs.declared.site.Site.{Site}
 use Rattle.wedge_core.specs.Slices.{Counts}
 use Rattle.guest_sched.specs.Apart.{Seat, IsSeated, AreSeated, AreApart, EachStays}
-use Rattle.guest_sched.specs.Between.{IsBetween, EachStands, StandsSo, IsNext, stops_of}
+use Rattle.guest_sched.specs.Between.{EachStands, StandsSo, IsNext, stops_of}
 use Rattle.guest_sched.specs.Pieces.{Piece}
 use Rattle.guest_sched.specs.Schedules.{IsSlice, bound_of}
 use Rattle.guest_sched.specs.Seating.{seat_of, seats_from, HasBrought, HasMadeRoom}
@@ -23,6 +23,7 @@ use Rattle.guest_sched.proofs.Going.{seat_is_here}
 use Rattle.guest_sched.proofs.Stands.{all_stay}
 use Rattle.guest_sched.proofs.Sums.{bound_append, for_mine}
 use Rattle.guest_sched.proofs.Turned.{seat_here}
+use Rattle.guest_sched.proofs.Wide.{IsBetween}
 
 -- what is known of the kernel at this place
 pub at_place : (i n frames : ℕ) (whole done : List Slice) (pieces : List Piece) (ks : List Kernel) (ss : List Seat) (stops : List (Option Stop)) (dk : Kernel) (ds : Seat) (dt : Option Stop) → n < length stops

@@ -9,7 +9,7 @@ use Rattle.run_trace.specs.Text.{text_of, end_line}
 use Rattle.machine_model.specs.State.{State}
 use Rattle.wedge_core.specs.Slices.{Counts}
 use Rattle.guest_sched.specs.Apart.{Seat}
-use Rattle.guest_sched.specs.Between.{IsBetween, EachStands, StandsSo, stops_of, ended_of, end_with}
+use Rattle.guest_sched.specs.Between.{EachStands, StandsSo, stops_of, ended_of, end_with}
 use Rattle.guest_sched.specs.Pieces.{Piece, piece_text, shared_text, reports_of, own_text, bound_line, bound_texts}
 use Rattle.guest_sched.specs.Schedules.{bound_of}
 use Rattle.guest_sched.specs.Seating.{seat_of, seats_from}
@@ -19,6 +19,7 @@ use Rattle.guest_sched.specs.declared.schedule.Slice.{Slice}
 use Rattle.guest_sched.specs.declared.tenants.Tenant.{Tenant}
 use Rattle.guest_sched.proofs.Puts.{both, then_front}
 use Rattle.guest_sched.proofs.ReadAlone.{lines_alone}
+use Rattle.guest_sched.proofs.Wide.{IsBetween}
 
 one_ran : (number frames : ℕ) (whole : List Slice) (pieces : List Piece) (kernel : Kernel) (seat : Seat) (stop : Option Stop) → StandsSo number frames whole whole pieces kernel seat stop
     → RanAlone (alone kernel frames) (bound_of number whole) (reports_of number pieces) (own_text number pieces ++ bound_line seat.running.step (end_with stop))

@@ -21,14 +21,13 @@ use Rattle.wedge_core.specs.Slices.{Counts}
 use Rattle.wedge_step.specs.Filled.{pages_kept}
 use Rattle.wedge_step.specs.Standing.{state_of}
 use Rattle.guest_sched.specs.Apart.{Seat, MayGoOn, IsSeated, AreApart, behind_as}
-use Rattle.guest_sched.specs.Between.{IsBetween, EachStands, StandsSo, IsNext, stops_of}
+use Rattle.guest_sched.specs.Between.{EachStands, StandsSo, IsNext, stops_of}
 use Rattle.guest_sched.specs.Pieces.{Piece, MakesSteps, has_stopped, piece_text, counts_over, reports_of, own_text, stop_line}
 use Rattle.guest_sched.specs.Schedules.{bound_of}
 use Rattle.guest_sched.specs.Seating.{seats_from, HasGoneOn}
 use Rattle.guest_sched.specs.Shared.{alone, sites_in, IsBegun, BeganAlone, EachBegan, FailsInTurn}
 use Rattle.guest_sched.specs.Tags.{tag_of}
-use Rattle.guest_sched.specs.Turns.{TurnAs}
-use Rattle.guest_sched.specs.Went.{EndsSo, HasTurned, HasFailed}
+use Rattle.guest_sched.specs.Went.{EndsSo, HasFailed}
 use Rattle.guest_sched.specs.declared.kernel.Kernel.{Kernel}
 use Rattle.guest_sched.specs.declared.schedule.Slice.{Slice}
 use Rattle.guest_sched.specs.declared.tenants.Tenant.{Tenant}
@@ -39,6 +38,7 @@ use Rattle.guest_sched.proofs.Going.{split}
 use Rattle.guest_sched.proofs.Legs.{began_on}
 use Rattle.guest_sched.proofs.Puts.{both}
 use Rattle.guest_sched.proofs.Stands.{went_stands, skip_stands}
+use Rattle.guest_sched.proofs.Wide.{HasTurned, IsBetween, TurnAs}
 use Rattle.guest_sched.proofs.Turned.{seat_here, piece_of, turned, Turned, lines_join, whole_text}
 use Rattle.guest_sched.proofs.Turning.{flat_append, turns_on, counts_on, reports_on, text_on, reports_off, text_off}
 

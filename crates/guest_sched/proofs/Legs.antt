@@ -1,5 +1,5 @@
 -- A turn goes on from where the turn before has left its kernel.
-use Rattle.std.proofs.Common.{◌≡◌, ℕ, ◌*◌, ◌≤◌, List, [], ◌∷◌, ◌++◌, Option, refl, ap, sym, subst, ◌∙◌, inl, inr, arith, append_assoc, length-append, Ok}
+use Rattle.std.proofs.Common.{◌≡◌, ℕ, ◌*◌, ◌≤◌, List, [], ◌∷◌, ◌++◌, refl, ap, sym, subst, ◌∙◌, inl, inr, arith, append_assoc, length-append, Ok}
 use Rattle.std.specs.FinMap.{empty, len, get-empty, len-empty}
 use Rattle.std.specs.List.{All}
 use Rattle.std.specs.Ordering.{nat_cmp}
@@ -12,7 +12,7 @@ use Rattle.machine_model.specs.State.{Setting, State, Loosened, boot}
 use Rattle.machine_model.specs.Step.{Report, Halts, step_of}
 use Rattle.machine_model.specs.Run.{Set, Steps, StopHolds, with_set}
 use Rattle.machine_model.proofs.Runs.{steps_join}
-use Rattle.wedge_core.specs.Slices.{Counts}
+use Rattle.wedge_core.specs.Slices.{Filling, Outward}
 use Rattle.wedge_step.specs.Filled.{FillsOn}
 use Rattle.wedge_step.proofs.Bools.{none_some}
 use Rattle.guest_sched.specs.Apart.{MayForget}
@@ -68,11 +68,11 @@ module _ (pages fills filled : ℕ) (kept : pages ≤ fills) where
       subst (λ (l : List Set). All (λ (set : Set). len set ≤ filled) l) (sym (append_assoc olds sets (end ∷ [])))
       (All-append (λ (set : Set). len set ≤ filled) olds (sets ++ end ∷ []) left (All-weaker (λ (set : Set). FillsOn pages (len set) fills filled) (λ (set : Set). len set ≤ filled) fewer (sets ++ end ∷ []) second))
 
-module _ (m : Setting) (tag : List ℕ) (bound : ℕ) (old new : State) (before after : Counts) (taken tells : Option (List ℕ)) (pages fills filled : ℕ) (reports : List Report)
-    (h : HasRun m reports fills old) (kept : pages ≤ fills) (few : filled ≤ 128 * new.step)
+module _ (m : Setting) (tag : List ℕ) (bound : ℕ) (old new : State) (out : Outward) (filling : Filling) (reports : List Report)
+    (h : HasRun m reports filling.fills old) (kept : filling.pages ≤ filling.fills) (few : filling.filled ≤ 128 * new.step)
   where
     -- the turn made all its steps
-    pub runs_on : (t : TurnAs m tag bound old new before after taken tells pages fills filled (Ok pause.Reached)) → HasRun m (reports ++ t.reports) filled new × (new.step ≡ bound)
+    pub runs_on : (t : TurnAs m tag bound old new out filling (Ok pause.Reached)) → HasRun m (reports ++ t.reports) filling.filled new × (new.step ≡ bound)
     runs_on t =
         let g = go_on m h.last h.end t.sets t.reports t.last h.allowed (subst (λ (s : State). Steps m s t.sets t.reports t.last) h.stands t.steps) in
         let e = t.ends in
@@ -85,14 +85,14 @@ module _ (m : Setting) (tag : List ℕ) (bound : ℕ) (old new : State) (before 
             steps = steps_join m (boot m) h.last g.last h.sets t.sets reports t.reports h.steps g.steps;
             stands = stands;
             allowed = g.looser t.end e.2;
-            enough = enough_on pages fills filled kept h.sets h.end t.sets t.end h.enough t.each_filled;
+            enough = enough_on filling.pages filling.fills filling.filled kept h.sets h.end t.sets t.end h.enough t.each_filled;
             few = omega (arith, few, same);
           },
           ap (λ (s : State). s.step) e.1 ∙ e.0,
         )
 
     -- it ended at a stop, before the bound of the kernel's run
-    pub stops_on : (n : ℕ) → bound ≤ n → (stop : Stop) (t : TurnAs m tag bound old new before after taken tells pages fills filled (Ok (pause.Stopped stop))) → HasStopped m n (reports ++ t.reports) filled stop new.step
+    pub stops_on : (n : ℕ) → bound ≤ n → (stop : Stop) (t : TurnAs m tag bound old new out filling (Ok (pause.Stopped stop))) → HasStopped m n (reports ++ t.reports) filling.filled stop new.step
     unfolding step_of
     stops_on n within stop t =
         let g = go_on m h.last h.end t.sets t.reports t.last h.allowed (subst (λ (s : State). Steps m s t.sets t.reports t.last) h.stands t.steps) in
@@ -110,7 +110,7 @@ module _ (m : Setting) (tag : List ℕ) (bound : ℕ) (old new : State) (before 
           filled = record {
             end = t.end;
             allowed = g.looser t.end e.2;
-            enough = enough_on pages fills filled kept h.sets h.end t.sets t.end h.enough t.each_filled;
+            enough = enough_on filling.pages filling.fills filling.filled kept h.sets h.end t.sets t.end h.enough t.each_filled;
             few = omega (arith, few, count);
           };
         }

@@ -1,3 +1,5 @@
+pub mod Wide
+pub mod AnsweredBy
 pub mod Cuts
 pub mod Sums
 pub mod Readings

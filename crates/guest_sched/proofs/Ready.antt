@@ -8,14 +8,15 @@ use Rattle.frame_pool.specs.Pool.{count_of}
 use Rattle.frame_pool.specs.declared.Pool.{Pool}
 use Rattle.wedge_core.specs.Slices.{Counts}
 use Rattle.guest_sched.specs.Apart.{MayGoOn, AreApart, EachStays}
-use Rattle.guest_sched.specs.Between.{IsBetween, IsNext, stops_of}
+use Rattle.guest_sched.specs.Between.{IsNext, stops_of}
 use Rattle.guest_sched.specs.Seating.{seats_from, HasBrought, HasMadeRoom, GoesOn, HasGoneOn}
 use Rattle.guest_sched.specs.Shared.{FailsInTurn}
-use Rattle.guest_sched.specs.Went.{HasTurned, HasFailed}
+use Rattle.guest_sched.specs.Went.{HasFailed}
 use Rattle.guest_sched.specs.declared.kernel.Kernel.{Kernel}
 use Rattle.guest_sched.specs.declared.schedule.Slice.{Slice}
 use Rattle.guest_sched.specs.declared.tenants.Tenant.{Tenant}
 use Rattle.guest_sched.specs.declared.tenants.Tenants.{Tenants}
+use Rattle.guest_sched.proofs.Wide.{HasTurned, IsBetween}
 use Rattle.guest_sched.proofs.Between.{next_slice, brought_between, roomed_between}
 use Rattle.guest_sched.proofs.Furthered.{frames_are, may_go, within, went_between, failed_between}
 

@@ -16,7 +16,7 @@ use Rattle.wedge_core.specs.Slices.{Counts}
 use Rattle.guest_sched.specs.Legs.{HasRun}
 use Rattle.guest_sched.specs.Apart.{Seat}
 use Rattle.guest_sched.specs.Admitting.{EachAtStart, IsAdmitted, CantAdmit}
-use Rattle.guest_sched.specs.Between.{IsBetween, EachStands, StandsSo, stops_of, AdmitRefused}
+use Rattle.guest_sched.specs.Between.{EachStands, StandsSo, stops_of, AdmitRefused}
 use Rattle.guest_sched.specs.Seating.{seat_of, seats_from}
 use Rattle.guest_sched.specs.Shared.{alone, AllFit, FirstTooSmall}
 use Rattle.guest_sched.specs.declared.kernel.Kernel.{Kernel}
@@ -24,6 +24,7 @@ use Rattle.guest_sched.specs.declared.kernel.SharedFault.{SharedFault}
 use Rattle.guest_sched.specs.declared.kernel.SharedFault.TheVariants as fault
 use Rattle.guest_sched.specs.declared.schedule.Slice.{Slice}
 use Rattle.guest_sched.specs.declared.tenants.Tenant.{Tenant}
+use Rattle.guest_sched.proofs.Wide.{IsBetween}
 
 empty_allowed : (m : Setting) (b : State) → Loosened m b empty
 empty_allowed m b = record { each = λ page e is. absurd (none_some e (sym (get-empty nat_cmp page) ∙ is)) }

@@ -11,7 +11,7 @@ use Rattle.machine_model.specs.Run.{trace_of, items_of}
 use Rattle.machine_model.specs.State.{Setting, State}
 use Rattle.machine_model.specs.Step.{Report}
 use Rattle.shadow_cache.specs.Views as roots
-use Rattle.wedge_core.specs.Slices.{Counts}
+use Rattle.wedge_core.specs.Slices.{Counts, Filling, Outward}
 use Rattle.wedge_step.specs.Filled.{pages_kept}
 use Rattle.wedge_step.specs.Standing.{state_of}
 use Rattle.guest_sched.specs.Apart.{Seat}
@@ -21,7 +21,6 @@ use Rattle.guest_sched.specs.Pieces.{Piece, MakesSteps, has_stopped, reports_of,
 use Rattle.guest_sched.specs.Schedules.{bound_of}
 use Rattle.guest_sched.specs.Shared.{alone}
 use Rattle.guest_sched.specs.Tags.{tag_of, tagged}
-use Rattle.guest_sched.specs.Turns.{TurnAs}
 use Rattle.guest_sched.specs.Went.{EndsSo}
 use Rattle.guest_sched.specs.declared.kernel.Kernel.{Kernel}
 use Rattle.guest_sched.specs.declared.schedule.Slice.{Slice}
@@ -29,6 +28,7 @@ use Rattle.guest_sched.specs.declared.tenants.Tenant.{Tenant}
 use Rattle.guest_sched.proofs.Failing.{reports_counted}
 use Rattle.guest_sched.proofs.Legs.{runs_on, stops_on}
 use Rattle.guest_sched.proofs.Puts.{both}
+use Rattle.guest_sched.proofs.Wide.{TurnAs}
 use Rattle.guest_sched.proofs.Turning.{flat_append, reports_on, text_on, stopped_on}
 
 pub lines_join : (reports later : List Report) → lines_of (trace_of (reports ++ later)) ≡ lines_of (trace_of reports) ++ lines_of (trace_of later)
@@ -63,6 +63,12 @@ module _ (n steps frames : ℕ) (whole done : List Slice) (slice : Slice) (piece
     abbrev Turn : Pause → Type 0
     Turn pause = TurnAs m (tag_of n) (t.guest.running.step + steps) old new before after taken between (pages_kept roots.slots roots.asides t.guest.running.shadows host) t.guest.running.fills t'.guest.running.fills (Ok pause)
 
+    abbrev out : Outward
+    out = record { before = before; after = after; told = taken; tells = between }
+
+    abbrev filling : Filling
+    filling = record { pages = pages_kept roots.slots roots.asides t.guest.running.shadows host; fills = t.guest.running.fills; filled = t'.guest.running.fills }
+
     -- how it stands then, what its text is, and how many steps it made
     pub record Turned (reports : List Report) : Type 0 where
       pub stands : StandsSo n frames whole (done ++ slice ∷ []) (pieces ++ piece_of n reports t'.guest.running.step t'.stop ∷ []) k (seat_here k host' t') t'.stop
@@ -72,7 +78,7 @@ module _ (n steps frames : ℕ) (whole done : List Slice) (slice : Slice) (piece
 
     reached : (turn : Turn Reached) → EndsSo n t' between tells Reached → Turned turn.reports
     reached turn ends =
-        let run = runs_on m (tag_of n) (t.guest.running.step + steps) old new before after taken between (pages_kept roots.slots roots.asides t.guest.running.shadows host) t.guest.running.fills t'.guest.running.fills (reports_of n pieces) h.0 kept few turn in
+        let run = runs_on m (tag_of n) (t.guest.running.step + steps) old new out filling (reports_of n pieces) h.0 kept few turn in
         let counted = reports_counted m old turn.sets turn.reports turn.last turn.steps in
         let last = turn.ends.0 in
         let made : length turn.reports ≡ steps = omega (arith, counted, last) in
@@ -96,7 +102,7 @@ module _ (n steps frames : ℕ) (whole done : List Slice) (slice : Slice) (piece
 
     halted : (stop : Stop) (turn : Turn (Stopped stop)) → EndsSo n t' between tells (Stopped stop) → Turned turn.reports
     halted stop turn ends =
-        let run = stops_on m (tag_of n) (t.guest.running.step + steps) old new before after taken between (pages_kept roots.slots roots.asides t.guest.running.shadows host) t.guest.running.fills t'.guest.running.fills (reports_of n pieces) h.0 kept few (bound_of n whole) bound stop turn in
+        let run = stops_on m (tag_of n) (t.guest.running.step + steps) old new out filling (reports_of n pieces) h.0 kept few (bound_of n whole) bound stop turn in
         let counted = reports_counted m old turn.sets turn.reports turn.last turn.steps in
         let last = turn.ends.0 in
         let made : length turn.reports < steps = omega (arith, counted, last) in

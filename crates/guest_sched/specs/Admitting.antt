@@ -1,9 +1,10 @@
 -- What is known while kernels are taken in, before the first turn.
-use Rattle.std.specs.Prelude.{◌≡◌, ℕ, ◌+◌, ◌*◌, ◌≤◌, ◌<◌, true, List, [], ◌∷◌, length, drop}
+use Rattle.std.specs.Prelude.{◌≡◌, ℕ, ◌+◌, ◌*◌, ◌≤◌, ◌<◌, true, List, [], ◌∷◌, length, take, drop}
 use Rattle.std.specs.List.{All}
-use Rattle.frame_pool.specs.Pool.{base_of, count_of, Stands}
+use Rattle.descriptors.specs.declared.cpu.Cpu.{Cpu}
+use Rattle.frame_pool.specs.Pool.{base_of, count_of, free_list, Stands}
 use Rattle.frame_pool.specs.declared.Pool.{Pool}
-use Rattle.image_load.specs.Boot.{need}
+use Rattle.image_load.specs.Boot.{need, boot_cpu, boot_ram}
 use Rattle.machine_model.specs.State.{boot}
 use Rattle.shadow_cache.specs.Views as roots
 use Rattle.wedge_step.specs.Pools.{Keeps}
@@ -61,6 +62,17 @@ pub record HasBegun (kernel : Kernel) (frames : ℕ) (p p' : Pool) (host host' :
   pub size : length between ≡ length host
   pub behind : drop (4096 * frames) between ≡ drop (4096 * frames) host
   pub keeps : Keeps p p' between host' [] (held_by (first_seat kernel guest host'))
+
+-- Its processor and its memory are as it starts. The host's memory is the kernels' and the pool's, with two free frames.
+pub record MayBegin (kernel : Kernel) (frames : ℕ) (cpu : Cpu) (ram : List ℕ) (pool : Pool) (host : List ℕ) : Type 0 where
+  pub fits : need kernel.image ≤ frames
+  pub cpu_is : cpu ≡ boot_cpu kernel.image frames
+  pub front : take (frames * 4096) ram ≡ boot_ram kernel.image frames
+  pub len : length ram ≡ frames * 4096
+  pub size : length host ≡ 4096 * (frames + 512)
+  pub pool_is : (base_of pool ≡ frames) × (count_of pool ≡ 512)
+  pub stands : Stands pool host
+  pub free : 2 ≤ length (free_list pool host)
 
 -- why a kernel isn't taken in
 abbrev pub CantAdmit : Kernel → ℕ → SharedFault → Type 0

@@ -12,13 +12,14 @@ use Rattle.run_trace.specs.Text.{lines_of, text_of}
 use Rattle.machine_model.specs.Run.{trace_of}
 use Rattle.shadow_cache.specs.Views as roots
 use Rattle.wedge_step.specs.Standing.{state_of}
-use Rattle.wedge_core.specs.Slices.{Counts}
+use Rattle.wedge_core.specs.Slices.{Counts, Outward}
 use Rattle.guest_sched.specs.Apart.{Seat, AreApart}
 use Rattle.guest_sched.specs.Legs.{HasRun, HasStopped}
 use Rattle.guest_sched.specs.Pieces.{Piece, AreTurns, has_stopped, piece_text, reports_of, own_text, counts_over}
 use Rattle.guest_sched.specs.Schedules.{IsSchedule, bound_of}
 use Rattle.guest_sched.specs.Seating.{seats_from}
-use Rattle.guest_sched.specs.Shared.{alone, sites_in, AllFit, FirstTooSmall}
+use Rattle.guest_sched.specs.Shared.{alone, sites_in, AllFit, FailsInTurn, FirstTooSmall}
+use Rattle.guest_sched.specs.Stages.{Stage, stage}
 use Rattle.guest_sched.specs.declared.kernel.Kernel.{Kernel}
 use Rattle.guest_sched.specs.declared.kernel.SharedFault.{SharedFault}
 use Rattle.guest_sched.specs.declared.kernel.SharedFault.TheVariants as fault
@@ -66,15 +67,15 @@ pub record HaveRoom (kernels : List Kernel) (frames : ℕ) (tenants : List Tenan
 
 -- Between two turns of a whole schedule, of which some are done: the kernels are apart, each one's run alone has come so far, the
 -- sink has taken the text of the turns, and the host's counts follow them.
-pub record IsBetween (kernels : List Kernel) (frames : ℕ) (whole done : List Slice) (tenants : List Tenant) (pool : Pool) (present : ℕ) (host : List ℕ) (before now : Counts) (old new : Option (List ℕ)) : Type 0 where
+pub record IsBetween (kernels : List Kernel) (frames : ℕ) (whole done : List Slice) (s : Stage) (out : Outward) : Type 0 where
   pub pieces : List Piece
-  pub rooms : HaveRoom kernels frames tenants pool present host
-  pub apart : AreApart frames pool host (seats_from frames host present 0 kernels tenants)
+  pub rooms : HaveRoom kernels frames s.tenants s.pool s.present s.memory
+  pub apart : AreApart frames s.pool s.memory (seats_from frames s.memory s.present 0 kernels s.tenants)
   pub turns : AreTurns [] done pieces
-  pub each : EachStands 0 frames whole done pieces kernels (seats_from frames host present 0 kernels tenants) (stops_of tenants)
-  pub text : Appends old new (flat_map piece_text pieces)
-  pub counts : now ≡ counts_over (sites_in kernels) before pieces
-  pub retired : now.retired ≤ before.retired + length done * 2 ^ 40
+  pub each : EachStands 0 frames whole done pieces kernels (seats_from frames s.memory s.present 0 kernels s.tenants) (stops_of s.tenants)
+  pub text : Appends out.told out.tells (flat_map piece_text pieces)
+  pub counts : out.after ≡ counts_over (sites_in kernels) out.before pieces
+  pub retired : out.after.retired ≤ out.before.retired + length done * 2 ^ 40
 
 -- the slice whose turn comes next in a schedule for so many kernels
 pub record IsNext (count : ℕ) (whole done : List Slice) (slice : Slice) : Type 0 where
@@ -83,14 +84,28 @@ pub record IsNext (count : ℕ) (whole done : List Slice) (slice : Slice) : Type
   pub schedule : IsSchedule count whole
 
 -- what is known before a turn
-pub record StandsNext (kernels : List Kernel) (frames : ℕ) (slice : Slice) (tenants : List Tenant) (pool : Pool) (present : ℕ) (host : List ℕ) (now : Counts) (new : Option (List ℕ)) : Type 0 where
+pub record StandsNext (kernels : List Kernel) (frames : ℕ) (slice : Slice) (s : Stage) (now : Counts) (new : Option (List ℕ)) : Type 0 where
   pub whole : List Slice
   pub done : List Slice
   pub before : Counts
   pub old : Option (List ℕ)
   pub next : IsNext (length kernels) whole done slice
-  pub between : IsBetween kernels frames whole done tenants pool present host before now old new
+  pub between : IsBetween kernels frames whole done s (record { before = before; after = now; told = old; tells = new })
   pub few : before.retired ≤ 2 ^ 63
+
+-- what is known between two turns goes on over this one
+abbrev pub TurnGoes : List Kernel → ℕ → Slice → Stage → Stage → Outward → Type 0
+TurnGoes kernels frames slice old new out =
+    (whole done : List Slice) (before : Counts) (was : Option (List ℕ)) → IsNext (length kernels) whole done slice
+    → IsBetween kernels frames whole done old (record { before = before; after = out.before; told = was; tells = out.told })
+    → IsBetween kernels frames whole (done ++ slice ∷ []) new (record { before = before; after = out.after; told = was; tells = out.tells })
+
+-- the sink has failed in it
+abbrev pub TurnFails : List Kernel → ℕ → Slice → Stage → Outward → Type 0
+TurnFails kernels frames slice old out =
+    (whole done : List Slice) (before : Counts) (was : Option (List ℕ)) → IsNext (length kernels) whole done slice
+    → IsBetween kernels frames whole done old (record { before = before; after = out.before; told = was; tells = out.told })
+    → FailsInTurn kernels whole frames was out.tells
 
 -- Kernels that were admitted stand before the first turn of any schedule, with nothing put; or one of them has no room.
 abbrev pub AdmitRefused : List Kernel → ℕ → SharedFault → Type 0
@@ -101,5 +116,5 @@ AdmitRefused kernels frames fault.Memory = Unit {0}
 abbrev pub AdmitsAs : List Kernel → ℕ → List ℕ → Result Tenants SharedFault → Type 0
 AdmitsAs kernels frames host (Ok tenants) =
     AllFit frames kernels × (tenants.frames ≡ frames)
-    × ((whole : List Slice) (counts : Counts) (taken : Option (List ℕ)) → IsBetween kernels frames whole [] tenants.list.items tenants.pool tenants.present host counts counts taken taken)
+    × ((whole : List Slice) (counts : Counts) (taken : Option (List ℕ)) → IsBetween kernels frames whole [] (stage tenants host) (record { before = counts; after = counts; told = taken; tells = taken }))
 AdmitsAs kernels frames host (Err refusal) = AdmitRefused kernels frames refusal

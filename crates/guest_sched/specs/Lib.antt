@@ -8,9 +8,11 @@ pub mod Marks
 pub mod Apart
 pub mod Pieces
 pub mod Shared
+pub mod Answers
 pub mod Turns
 pub mod Legs
 pub mod Joined
+pub mod Stages
 pub mod Seating
 pub mod Dropped
 pub mod Went

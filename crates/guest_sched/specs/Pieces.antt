@@ -11,7 +11,7 @@ use Rattle.sites.specs.declared.site.Site.{Site}
 use Rattle.machine_model.specs.Step.{Report}
 use Rattle.machine_model.specs.Run.{trace_of}
 use Rattle.machine_model.specs.Counts.{direct_count, passed_digest}
-use Rattle.wedge_core.specs.Slices.{Counts}
+use Rattle.wedge_core.specs.Counts.{Counts}
 use Rattle.guest_sched.specs.Tags.{tag_of, tagged}
 use Rattle.guest_sched.specs.declared.schedule.Slice.{Slice}
 

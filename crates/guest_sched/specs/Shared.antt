@@ -1,8 +1,6 @@
 -- What `run_shared` promises.
-use Rattle.std.specs.Prelude.{◌≡◌, ◌⊎◌, ℕ, zero, suc, ◌≤◌, ◌<◌, List, [], ◌∷◌, ◌++◌, length, Option, Result, Ok, Err, Vec}
+use Rattle.std.specs.Prelude.{◌≡◌, ◌⊎◌, ℕ, zero, suc, ◌≤◌, ◌<◌, List, [], ◌∷◌, ◌++◌, length, Option}
 use Rattle.std.specs.List.{flat_map}
-use Rattle.std.specs.declared.alloc.Global.{Global}
-use Rattle.pv_io.specs.Causes.{Rose}
 use Rattle.pv_io.specs.Sink.{Appends, AppendsFront}
 use Rattle.sites.specs.declared.site.Site.{Site}
 use Rattle.run_trace.specs.declared.items.Ended.{Ended}
@@ -14,11 +12,9 @@ use Rattle.image_load.specs.declared.boot.TooSmall.{TooSmall}
 use Rattle.machine_model.specs.State.{Setting, State, boot, wedge}
 use Rattle.machine_model.specs.Step.{Report}
 use Rattle.machine_model.specs.Run.{Set, Run, Steps, StopHolds, trace_of}
-use Rattle.wedge_core.specs.Slices.{Counts}
+use Rattle.wedge_core.specs.Counts.{Counts}
 use Rattle.wedge_core.specs.Promises.{HasFills}
 use Rattle.guest_sched.specs.declared.kernel.Kernel.{Kernel}
-use Rattle.guest_sched.specs.declared.kernel.SharedFault.{SharedFault}
-use Rattle.guest_sched.specs.declared.kernel.SharedFault.TheVariants as fault
 use Rattle.guest_sched.specs.declared.schedule.Slice.{Slice}
 use Rattle.guest_sched.specs.Schedules.{bound_of}
 use Rattle.guest_sched.specs.Pieces.{Piece, AreTurns, piece_text, shared_text, reports_of, own_text, bound_line, counts_over, lines_of_kernel}
@@ -116,16 +112,3 @@ FirstTooSmall frames (kernel ∷ kernels) small =
 abbrev pub AllFit : ℕ → List Kernel → Type 0
 AllFit frames [] = Unit {0}
 AllFit frames (kernel ∷ kernels) = (need kernel.image ≤ frames) × AllFit frames kernels
-
-abbrev pub SharedRefused : List Kernel → List Slice → ℕ → Option (List ℕ) → Option (List ℕ) → ℕ → ℕ → Counts → Counts → SharedFault → Type 0
-SharedRefused kernels slices frames old new before now counts_before counts_after fault.Write =
-    AllFit frames kernels × (FailsInTurn kernels slices frames old new ⊎ FailsAtEnd kernels slices frames old new) × Rose before now
--- nothing was written, and the host completed nothing
-SharedRefused kernels slices frames old new before now counts_before counts_after (fault.TooSmall small) =
-    FirstTooSmall frames kernels small × (new ≡ old) × (now ≡ before) × (counts_after ≡ counts_before)
-SharedRefused kernels slices frames old new before now counts_before counts_after fault.Memory = (new ≡ old) × (now ≡ before) × (counts_after ≡ counts_before)
-
-abbrev pub SharedAnswers : List Kernel → List Slice → ℕ → Option (List ℕ) → Option (List ℕ) → ℕ → ℕ → Counts → Counts → Result (Vec Ended Global) SharedFault → Type 0
-SharedAnswers kernels slices frames old new before now counts_before counts_after (Ok ended) =
-    (text : List ℕ) × SharedRun kernels slices frames counts_before counts_after text ended.items × AllFit frames kernels × Appends old new text × (before ≤ now)
-SharedAnswers kernels slices frames old new before now counts_before counts_after (Err refusal) = SharedRefused kernels slices frames old new before now counts_before counts_after refusal

@@ -8,7 +8,7 @@ use Rattle.run_trace.specs.declared.pause.Pause.TheVariants.{Reached, Stopped}
 use Rattle.machine_model.specs.Run.{Set, Steps, StopHolds}
 use Rattle.machine_model.specs.State.{State, wedge}
 use Rattle.shadow_cache.specs.Views as roots
-use Rattle.wedge_core.specs.Slices.{Counts}
+use Rattle.wedge_core.specs.Slices.{Outward}
 use Rattle.wedge_step.specs.Filled.{pages_kept}
 use Rattle.wedge_step.specs.Standing.{state_of}
 use Rattle.guest_sched.specs.Pieces.{Piece, piece_text}
@@ -21,14 +21,20 @@ abbrev pub EndsSo : ℕ → Tenant → Option (List ℕ) → Option (List ℕ) �
 EndsSo number new taken tells Reached = (new.stop ≡ None) × (tells ≡ taken)
 EndsSo number new taken tells (Stopped stop) = (new.stop ≡ Some stop) × Appends taken tells (tagged (tag_of number) (end_line new.guest.running.step (end.Stopped stop)))
 
-pub record HasTurned (kernel : Kernel) (number steps : ℕ) (host host' : List ℕ) (old new : Tenant) (before after : Counts) (taken tells : Option (List ℕ)) : Type 0 where
+-- The steps of a turn were made, all of them or those up to a stop, whose line stands behind theirs.
+pub record HasTurned (kernel : Kernel) (number steps : ℕ) (host host' : List ℕ) (old new : Tenant) (out : Outward) : Type 0 where
   pub pause : Pause
   pub between : Option (List ℕ)
   pub turn : TurnAs (wedge kernel.image kernel.script.list old.guest.running.frames) (tag_of number) (old.guest.running.step + steps)
       (state_of roots.stands roots.frames roots.slots (wedge kernel.image kernel.script.list old.guest.running.frames) old.guest.running host)
       (state_of roots.stands roots.frames roots.slots (wedge kernel.image kernel.script.list old.guest.running.frames) new.guest.running host')
-      before after taken between (pages_kept roots.slots roots.asides old.guest.running.shadows host) old.guest.running.fills new.guest.running.fills (Ok pause)
-  pub ends : EndsSo number new between tells pause
+      (record out { tells = between })
+      (record {
+        pages = pages_kept roots.slots roots.asides old.guest.running.shadows host;
+        fills = old.guest.running.fills;
+        filled = new.guest.running.fills;
+      }) (Ok pause)
+  pub ends : EndsSo number new between out.tells pause
   pub few : new.guest.running.fills ≤ 128 * new.guest.running.step
 
 -- The sink has failed: some first steps of the turn, and the stop behind them if its line was begun, with a front of their text.

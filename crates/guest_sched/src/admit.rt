@@ -1,11 +1,9 @@
 //! Taking kernels in: the memory of each as it starts, and its shadows in frames of the one pool.
 
-ghost use Rattle.std.specs.Prelude.{◌≡◌, ◌+◌, ◌*◌, ◌≤◌, ◌<◌, List, [], ◌∷◌, ◌++◌, length, replicate, take, drop, true, None, IfOk, IfErr, OnOk};
+ghost use Rattle.std.specs.Prelude.{◌≡◌, ◌+◌, ◌*◌, ◌≤◌, ◌<◌, List, [], ◌∷◌, ◌++◌, length, replicate, true, None, IfOk, IfErr, OnOk};
 ghost use Rattle.std.specs.List.{All};
 ghost use Rattle.guest_ram.specs.Bytes.{part, with_part};
-ghost use Rattle.frame_pool.specs.Pool.{base_of, count_of, free_list, Stands};
-ghost use Rattle.image_load.specs.Boot.{need, boot_cpu, boot_ram};
-ghost use Rattle.guest_sched.specs.Admitting.{IsAdmitted, HasParked, HasBegun, CantAdmit, IsMemory};
+ghost use Rattle.guest_sched.specs.Admitting.{IsAdmitted, HasParked, HasBegun, MayBegin, CantAdmit, IsMemory};
 ghost use Rattle.guest_sched.specs.Between.{AdmitsAs};
 ghost use Rattle.guest_sched.specs.declared.kernel.Kernel.{Kernel};
 ghost use Rattle.guest_sched.specs.declared.tenants.Tenant.{Tenant};
@@ -66,14 +64,7 @@ fn begin<H: Host>(
 ) -> Result<Guest, SharedFault>
     requires started { H.is_started host.old ≡ true }
     requires frames { (2048 ≤ frames) × (frames ≤ 16384) }
-    requires fits { need kernel.now.image ≤ frames }
-    requires cpu { cpu ≡ boot_cpu kernel.now.image frames }
-    requires front { take (frames * 4096) ram.old ≡ boot_ram kernel.now.image frames }
-    requires len { length ram.old ≡ frames * 4096 }
-    requires size { length (H.bytes host.old) ≡ 4096 * (frames + 512) }
-    requires pool { (base_of pool.old ≡ frames) × (count_of pool.old ≡ 512) }
-    requires stands { Stands pool.old (H.bytes host.old) }
-    requires free { 2 ≤ length (free_list pool.old (H.bytes host.old)) }
+    requires may { MayBegin kernel.now frames cpu ram.old pool.old (H.bytes host.old) }
     ensures begun { IfOk result (λ guest.
         HasBegun kernel.now frames pool.old pool.new (H.bytes host.old) (H.bytes host.new) guest) }
     ensures len { length ram.new ≡ length ram.old }

@@ -1,19 +1,18 @@
 //! Several kernels on one host, in turns.
 
-ghost use Rattle.std.specs.Prelude.{◌≡◌, ◌+◌, ◌≤◌, ◌<◌, ◌^◌, ◌++◌, ◌∷◌, [], ℕ, List, Option, true, length, map, IfOk, OnOk, OnErr, None};
+ghost use Rattle.std.specs.Prelude.{◌≡◌, ◌+◌, ◌≤◌, ◌<◌, ◌^◌, true, length, OnOk, OnErr};
 ghost use Rattle.std.specs.List.{All};
 ghost use Rattle.board.specs.Scripts.{is_script};
-ghost use Rattle.frame_pool.specs.Pool.{free_list};
 ghost use Rattle.pv_io.specs.Causes.{Rose};
-ghost use Rattle.pv_io.specs.Sink.{Appends, AppendsFront};
-ghost use Rattle.wedge_core.specs.Slices.{Counts};
-ghost use Rattle.guest_sched.specs.Between.{end_with, ended_of, stops_of, IsBetween, IsNext, StandsNext, AdmitsAs};
-ghost use Rattle.guest_sched.specs.Pieces.{bound_texts};
+ghost use Rattle.wedge_core.specs.Answers.{around};
+ghost use Rattle.wedge_core.specs.Counts.{counts_of};
+ghost use Rattle.wedge_core.specs.Sliced.{outward};
+ghost use Rattle.guest_sched.specs.Answers.{SharedAnswers};
+ghost use Rattle.guest_sched.specs.Between.{StandsNext, TurnFails, TurnGoes, end_with};
 ghost use Rattle.guest_sched.specs.Schedules.{IsSchedule};
-ghost use Rattle.guest_sched.specs.Seating.{GoesOn, HasGoneOn};
-ghost use Rattle.guest_sched.specs.Shared.{SharedAnswers, FailsInTurn};
-ghost use Rattle.guest_sched.specs.Went.{HasTurned, HasFailed};
-ghost use Rattle.guest_sched.specs.declared.schedule.Slice.{Slice};
+ghost use Rattle.guest_sched.specs.Seating.{HasGoneOn, TakesTurn};
+ghost use Rattle.guest_sched.specs.Stages.{stage};
+ghost use Rattle.guest_sched.specs.Went.{HasFailed, HasTurned};
 
 use crate::admit::{admit_all, no_ends};
 use crate::finish::finish;
@@ -42,8 +41,8 @@ pub fn run_shared<H: Host, O: Sink>(
     requires schedule { IsSchedule (length kernels.now.items) schedule.now.list }
     requires frames { (2048 ≤ frames) × (frames ≤ 16384) }
     requires room { H.retired host.old ≤ 2 ^ 63 }
-    ensures shared { SharedAnswers kernels.now.items schedule.now.list frames (O.taken out.old) (O.taken out.new) (O.faults out.old) (O.faults out.new)
-        (record { retired = H.retired host.old; passed = H.passed host.old }) (record { retired = H.retired host.new; passed = H.passed host.new }) result }
+    ensures shared { SharedAnswers kernels.now.items schedule.now.list frames
+        (around H.Host O.Sink host.old host.new out.old out.new) result }
 {
     let mut tenants = admit_all(alloc, kernels, frames, host)?;
     let mut ended = no_ends(alloc, kernels.len())?;
@@ -69,13 +68,12 @@ fn turn<H: Host, O: Sink>(
 ) -> Result<(), Failed>
     requires started { H.is_started host.old ≡ true }
     requires scripts { All (λ kernel. is_script kernel.script.list ≡ true) kernels.now.items }
-    requires next { StandsNext kernels.now.items tenants.old.frames slice.now tenants.old.list.items tenants.old.pool tenants.old.present (H.bytes host.old) (record { retired = H.retired host.old; passed = H.passed host.old }) (O.taken out.old) }
-    ensures turned { OnOk result ((whole done : List Slice) (before : Counts) (was : Option (List ℕ)) → IsNext (length kernels.now.items) whole done slice.now
-        → IsBetween kernels.now.items tenants.old.frames whole done tenants.old.list.items tenants.old.pool tenants.old.present (H.bytes host.old) before (record { retired = H.retired host.old; passed = H.passed host.old }) was (O.taken out.old)
-        → IsBetween kernels.now.items tenants.old.frames whole (done ++ slice.now ∷ []) tenants.new.list.items tenants.new.pool tenants.new.present (H.bytes host.new) before (record { retired = H.retired host.new; passed = H.passed host.new }) was (O.taken out.new)) }
-    ensures failed { OnErr result ((whole done : List Slice) (before : Counts) (was : Option (List ℕ)) → IsNext (length kernels.now.items) whole done slice.now
-        → IsBetween kernels.now.items tenants.old.frames whole done tenants.old.list.items tenants.old.pool tenants.old.present (H.bytes host.old) before (record { retired = H.retired host.old; passed = H.passed host.old }) was (O.taken out.old)
-        → FailsInTurn kernels.now.items whole tenants.old.frames was (O.taken out.new)) }
+    requires next { StandsNext kernels.now.items tenants.old.frames slice.now (stage tenants.old (H.bytes host.old))
+        (counts_of H.Host host.old) (O.taken out.old) }
+    ensures turned { OnOk result (TurnGoes kernels.now.items tenants.old.frames slice.now (stage tenants.old (H.bytes host.old))
+        (stage tenants.new (H.bytes host.new)) (outward H.Host O.Sink host.old host.new out.old out.new)) }
+    ensures failed { OnErr result (TurnFails kernels.now.items tenants.old.frames slice.now (stage tenants.old (H.bytes host.old))
+        (outward H.Host O.Sink host.old host.new out.old out.new)) }
     ensures frames { tenants.new.frames ≡ tenants.old.frames }
     ensures started { H.is_started host.new ≡ true }
     ensures later { O.faults out.old ≤ O.faults out.new }
@@ -109,16 +107,16 @@ fn go_on<H: Host, O: Sink>(
 ) -> Result<(), Failed>
     requires number { slice.now.kernel < 10 }
     requires started { H.is_started host.old ≡ true }
-    requires fresh { tenant.old.stop ≡ None }
-    requires goes_on { GoesOn kernel.now pool.old (H.bytes host.old) tenant.old }
+    requires takes { TakesTurn kernel.now pool.old (H.bytes host.old) tenant.old }
     requires script { is_script kernel.now.script.list ≡ true }
     requires bound { tenant.old.guest.running.step + slice.now.steps ≤ 2 ^ 40 }
     requires room { H.retired host.old + slice.now.steps < 2 ^ 64 }
-    requires enough { 16 ≤ length (free_list pool.old (H.bytes host.old)) + tenant.old.guest.running.held }
-    ensures turned { OnOk result (HasTurned kernel.now slice.now.kernel slice.now.steps (H.bytes host.old) (H.bytes host.new) tenant.old tenant.new
-        (record { retired = H.retired host.old; passed = H.passed host.old }) (record { retired = H.retired host.new; passed = H.passed host.new }) (O.taken out.old) (O.taken out.new)) }
-    ensures failed { OnErr result (HasFailed kernel.now slice.now.kernel slice.now.steps (H.bytes host.old) tenant.old (O.taken out.old) (O.taken out.new)) }
-    ensures gone { OnOk result (HasGoneOn kernel.now pool.old pool.new (H.bytes host.old) (H.bytes host.new) tenant.old tenant.new) }
+    ensures turned { OnOk result (HasTurned kernel.now slice.now.kernel slice.now.steps (H.bytes host.old) (H.bytes host.new)
+        tenant.old tenant.new (outward H.Host O.Sink host.old host.new out.old out.new)) }
+    ensures failed { OnErr result (HasFailed kernel.now slice.now.kernel slice.now.steps (H.bytes host.old) tenant.old
+        (O.taken out.old) (O.taken out.new)) }
+    ensures gone { OnOk result (HasGoneOn kernel.now pool.old pool.new (H.bytes host.old) (H.bytes host.new)
+        tenant.old tenant.new) }
     ensures started { H.is_started host.new ≡ true }
     ensures later { O.faults out.old ≤ O.faults out.new }
     ensures cause { OnErr result (Rose (O.faults out.old) (O.faults out.new)) }

@@ -24,6 +24,7 @@ pub(crate) struct Tagged<'a, O: Sink> {
 }
 
 impl<'a, O: Sink> Tagged<'a, O> {
+    /// No line was begun.
     pub(crate) fn new(kernel: u8, out: &'a mut O) -> Tagged<'a, O>
         requires { kernel < 10 }
         ensures same_sink { result.out.ghost_name ≡ out.entry.ghost_name }

@@ -1,16 +1,15 @@
 //! Kernels that share a host: who stands in its memory, and the frames of the pool that they hold.
 
-ghost use Rattle.std.specs.Prelude.{◌≡◌, ◌+◌, ◌*◌, ◌≤◌, ◌<◌, List, length, drop, slice_set, slice_index_or, true};
+ghost use Rattle.std.specs.Prelude.{◌≡◌, ◌+◌, ◌*◌, ◌≤◌, ◌<◌, length, slice_index_or, true};
 ghost use Rattle.std.specs.List.{All};
-ghost use Rattle.guest_sched.specs.declared.tenants.Tenant.{Tenant};
 ghost use Rattle.guest_ram.specs.Bytes.{part, with_part};
 ghost use Rattle.frame_pool.specs.Held.{Owns};
-ghost use Rattle.shadow_cache.specs.Views as roots;
-ghost use Rattle.guest_sched.specs.Dropped.{AllDropped};
-ghost use Rattle.guest_sched.specs.Seating.{memory_with, seats_from, HasBrought, HasReleased, HasMadeRoom, StandApart};
 ghost use Rattle.frame_pool.specs.Pool.{count_of, free_list};
-ghost use Rattle.guest_sched.specs.Apart.{AreApart, EachStays};
-ghost use Rattle.guest_sched.specs.declared.kernel.Kernel.{Kernel};
+ghost use Rattle.shadow_cache.specs.Views as roots;
+ghost use Rattle.guest_sched.specs.Seating.{HasBrought, HasExchanged, HasMadeRoom, HasReleased};
+ghost use Rattle.guest_sched.specs.Seating.{KeepsMachines, MayMakeRoom, OneReleased, StaysApart};
+ghost use Rattle.guest_sched.specs.Stages.{stage};
+ghost use Rattle.guest_sched.specs.declared.tenants.Tenant.{Tenant};
 
 use frame_pool::Pool;
 use guest_ram::Ram;
@@ -56,10 +55,7 @@ impl Tenant {
         requires started { H.is_started host.old ≡ true }
         requires stands { ∥ roots.stands self.old.guest.running.shadows (H.bytes host.old) ∥₁ }
         requires owns { Owns pool.old (H.bytes host.old) (roots.frames self.old.guest.running.shadows (H.bytes host.old)) }
-        ensures dropped { AllDropped pool.old pool.new (H.bytes host.old) (H.bytes host.new) self.old.guest.running.shadows self.new.guest.running.shadows self.old.guest.running.fills }
-        ensures running { self.new.guest.running ≡ record self.old.guest.running { shadows = self.new.guest.running.shadows; held = 2 } }
-        ensures ram { self.new.ram ≡ self.old.ram }
-        ensures stop { self.new.stop ≡ self.old.stop }
+        ensures released { HasReleased pool.old pool.new (H.bytes host.old) (H.bytes host.new) self.old self.new }
         ensures started { H.is_started host.new ≡ true }
         ensures retired { H.retired host.new ≡ H.retired host.old }
         ensures passed { H.passed host.new ≡ H.passed host.old }
@@ -86,10 +82,9 @@ impl Tenants {
         requires known { kernel < length self.old.list.items }
         requires theirs { All (λ tenant. 4096 * self.old.frames ≤ length tenant.ram) self.old.list.items }
         requires room { 4096 * self.old.frames ≤ length (H.bytes host.old) }
-        ensures list { (d : Tenant) → (new : Tenant) × (self.new.list.items ≡ slice_set self.old.list.items kernel new)
-            × (new.ram ≡ with_part (slice_index_or self.old.list.items kernel d).ram 0 (part (H.bytes host.old) 0 (4096 * self.old.frames)))
-            × (new.guest ≡ (slice_index_or self.old.list.items kernel d).guest) × (new.stop ≡ (slice_index_or self.old.list.items kernel d).stop) }
-        ensures host { (d : Tenant) → H.bytes host.new ≡ with_part (H.bytes host.old) 0 (part (slice_index_or self.old.list.items kernel d).ram 0 (4096 * self.old.frames)) }
+        ensures list { HasExchanged self.old.frames (H.bytes host.old) kernel self.old.list.items self.new.list.items }
+        ensures host { (d : Tenant) → H.bytes host.new ≡ with_part (H.bytes host.old) 0
+            (part (slice_index_or self.old.list.items kernel d).ram 0 (4096 * self.old.frames)) }
         ensures rest { (self.new.pool ≡ self.old.pool) × (self.new.frames ≡ self.old.frames) × (self.new.present ≡ self.old.present) }
         ensures started { H.is_started host.new ≡ true }
         ensures retired { H.retired host.new ≡ H.retired host.old }
@@ -106,7 +101,8 @@ impl Tenants {
         requires present { self.old.present < length self.old.list.items }
         requires theirs { All (λ tenant. 4096 * self.old.frames ≤ length tenant.ram) self.old.list.items }
         requires room { 4096 * self.old.frames ≤ length (H.bytes host.old) }
-        ensures brought { HasBrought self.old.frames (H.bytes host.old) (H.bytes host.new) self.old.present kernel self.old.list.items self.new.list.items }
+        ensures brought { HasBrought self.old.frames (H.bytes host.old) (H.bytes host.new) self.old.present kernel
+            self.old.list.items self.new.list.items }
         ensures rest { (self.new.pool ≡ self.old.pool) × (self.new.frames ≡ self.old.frames) × (self.new.present ≡ kernel) }
         ensures started { H.is_started host.new ≡ true }
         ensures retired { H.retired host.new ≡ H.retired host.old }
@@ -124,18 +120,14 @@ impl Tenants {
     /// Drops the shadows of kernels that don't stand in the host's memory, in their order, until there are frames enough.
     pub fn make_room<H: Host>(&mut self, host: &mut H)
         requires started { H.is_started host.old ≡ true }
-        requires present { self.old.present < length self.old.list.items }
-        requires theirs { All (λ tenant. 4096 * self.old.frames ≤ length tenant.ram) self.old.list.items }
-        requires apart { StandApart self.old.frames self.old.pool (H.bytes host.old) self.old.present self.old.list.items }
-        requires pool { (length self.old.list.items ≤ 4) × (count_of self.old.pool ≡ 512) }
-        ensures enough { (d : Tenant) → 16 ≤ length (free_list self.new.pool (H.bytes host.new)) + (slice_index_or self.new.list.items self.old.present d).guest.running.held }
-        ensures apart { (kernels : List Kernel) → length kernels ≡ length self.old.list.items → AreApart self.old.frames self.old.pool (H.bytes host.old) (seats_from self.old.frames (H.bytes host.old) self.old.present 0 kernels self.old.list.items)
-            → AreApart self.old.frames self.new.pool (H.bytes host.new) (seats_from self.old.frames (H.bytes host.new) self.old.present 0 kernels self.new.list.items) }
+        requires may { MayMakeRoom self.old.frames (stage self.old (H.bytes host.old)) }
+        ensures enough { (d : Tenant) → 16 ≤ length (free_list self.new.pool (H.bytes host.new))
+            + (slice_index_or self.new.list.items self.old.present d).guest.running.held }
+        ensures apart { StaysApart self.old.frames (stage self.old (H.bytes host.old)) (stage self.new (H.bytes host.new)) }
         ensures made { HasMadeRoom self.old.present self.old.list.items self.new.list.items }
         ensures theirs { All (λ tenant. 4096 * self.old.frames ≤ length tenant.ram) self.new.list.items }
         ensures size { (count_of self.new.pool ≡ 512) × (length (H.bytes host.new) ≡ length (H.bytes host.old)) }
-        ensures stay { (kernels : List Kernel) → length kernels ≡ length self.old.list.items → AreApart self.old.frames self.old.pool (H.bytes host.old) (seats_from self.old.frames (H.bytes host.old) self.old.present 0 kernels self.old.list.items)
-            → EachStays self.old.frames (seats_from self.old.frames (H.bytes host.old) self.old.present 0 kernels self.old.list.items) (seats_from self.old.frames (H.bytes host.new) self.old.present 0 kernels self.new.list.items) }
+        ensures stay { KeepsMachines self.old.frames (stage self.old (H.bytes host.old)) (stage self.new (H.bytes host.new)) }
         ensures rest { (self.new.frames ≡ self.old.frames) × (self.new.present ≡ self.old.present) }
         ensures started { H.is_started host.new ≡ true }
         ensures retired { H.retired host.new ≡ H.retired host.old }
@@ -157,14 +149,13 @@ impl Tenants {
         requires started { H.is_started host.old ≡ true }
         requires known { kernel < length self.old.list.items }
         requires theirs { All (λ tenant. 4096 * self.old.frames ≤ length tenant.ram) self.old.list.items }
-        requires stands { (d : Tenant) → ∥ roots.stands (slice_index_or self.old.list.items kernel d).guest.running.shadows (H.bytes host.old) ∥₁ }
-        requires owns { (d : Tenant) → Owns self.old.pool (H.bytes host.old) (roots.frames (slice_index_or self.old.list.items kernel d).guest.running.shadows (H.bytes host.old)) }
-        ensures list { (d : Tenant) → (new : Tenant) × (self.new.list.items ≡ slice_set self.old.list.items kernel new)
-            × HasReleased self.old.pool self.new.pool (H.bytes host.old) (H.bytes host.new) (slice_index_or self.old.list.items kernel d) new }
-        ensures apart { (kernels : List Kernel) → length kernels ≡ length self.old.list.items → AreApart self.old.frames self.old.pool (H.bytes host.old) (seats_from self.old.frames (H.bytes host.old) self.old.present 0 kernels self.old.list.items)
-            → AreApart self.old.frames self.new.pool (H.bytes host.new) (seats_from self.old.frames (H.bytes host.new) self.old.present 0 kernels self.new.list.items) }
-        ensures stay { (kernels : List Kernel) → length kernels ≡ length self.old.list.items → AreApart self.old.frames self.old.pool (H.bytes host.old) (seats_from self.old.frames (H.bytes host.old) self.old.present 0 kernels self.old.list.items)
-            → EachStays self.old.frames (seats_from self.old.frames (H.bytes host.old) self.old.present 0 kernels self.old.list.items) (seats_from self.old.frames (H.bytes host.new) self.old.present 0 kernels self.new.list.items) }
+        requires stands { (d : Tenant) →
+            ∥ roots.stands (slice_index_or self.old.list.items kernel d).guest.running.shadows (H.bytes host.old) ∥₁ }
+        requires owns { (d : Tenant) → Owns self.old.pool (H.bytes host.old)
+            (roots.frames (slice_index_or self.old.list.items kernel d).guest.running.shadows (H.bytes host.old)) }
+        ensures list { OneReleased kernel (stage self.old (H.bytes host.old)) (stage self.new (H.bytes host.new)) }
+        ensures apart { StaysApart self.old.frames (stage self.old (H.bytes host.old)) (stage self.new (H.bytes host.new)) }
+        ensures stay { KeepsMachines self.old.frames (stage self.old (H.bytes host.old)) (stage self.new (H.bytes host.new)) }
         ensures rest { (self.new.frames ≡ self.old.frames) × (self.new.present ≡ self.old.present) }
         ensures started { H.is_started host.new ≡ true }
         ensures retired { H.retired host.new ≡ H.retired host.old }

@@ -19,9 +19,12 @@ use Rattle.machine_model.specs.Run.{Set, Steps, Run, trace_of}
 use Rattle.machine_model.specs.Notes.{AreTold, AreNotes, step_in}
 use Rattle.wedge_step.specs.Filled.{FillsOn}
 use Rattle.wedge_core.specs.Noted.{EndsTold, NotesOn}
+use Rattle.wedge_core.specs.Answers.{Around}
+use Rattle.wedge_core.specs.Counts.{Counts}
 use Rattle.wedge_core.specs.Promises.{HasFills, with_patches}
-use Rattle.wedge_core.specs.Slices.{Counts, PausesAs, SliceAs}
+use Rattle.wedge_core.specs.Slices.{PausesAs}
 use Rattle.wedge_core.proofs.RunPieces.{put_both}
+use Rattle.wedge_core.proofs.SlicedBy.{SliceAs}
 use Rattle.wedge_core.proofs.WholeRuns.{text_is, ends_by, count_by, memory_by}
 use Rattle.trace_check.specs.Kept.{Kept, AreKept, choices_of}
 use Rattle.trace_check.specs.Judged.{judged}
@@ -107,12 +110,17 @@ has_fills m n old new before after told tells pages fills filled wanted notes_on
   few = (let same = count_by m n h.last new h.end pause h.ends in omega (arith, few, same));
 }
 
+-- what is around a run, by each of its parts
+abbrev pub around_of : Option (List ℕ) → Option (List ℕ) → ℕ → ℕ → Counts → Counts → Around
+around_of old new before now counts counts_after =
+    record { taken = old; taken_after = new; faults = before; faults_after = now; counts = counts; counts_after = counts_after }
+
 -- all lines and the last one were put
 pub noted_put : (image : Image) (script : Events) (frames n : ℕ) (old new : State) (counts counts_after : Counts) (a b c : Option (List ℕ)) (pages fills filled : ℕ) (kept kept_after : Kept) (begins : Type 0) (pause : Pause) (before mid now : ℕ) (memory : List ℕ)
     → NotesAreJudged → NotesAreChoices → n ≤ 2 ^ 40 → AreKept kept []
     → need image ≤ frames → old ≡ boot (wedge image script frames) → pages ≡ 0 → fills ≡ 0 → filled ≤ 128 * new.step → IfReached (Ok pause) (take (4096 * frames) memory ≡ with_patches image new.ram)
     → Sliced image script frames n old new counts counts_after a b pages fills filled kept kept_after begins pause → Appends b c (end_line new.step (end_of pause)) → before ≤ mid → mid ≤ now
-    → NotedAnswers image script frames n kept_after a c before now counts counts_after memory (Ok (record { steps = new.step; end = end_of pause; fills = filled }))
+    → NotedAnswers image script frames n kept_after (around_of a c before now counts counts_after) memory (Ok (record { steps = new.step; end = end_of pause; fills = filled }))
 noted_put image script frames n old new counts counts_after a b c pages fills filled kept kept_after begins pause before mid now memory judges forms bound untold fits is first none few has h put le more =
     let m = wedge image script frames in
     let end = end_of pause in

@@ -1,5 +1,5 @@
 -- What a patched run promises of which the notes are kept: its text is judged yes by their choices.
-use Rattle.std.specs.Prelude.{◌≡◌, ℕ, ◌≤◌, ◌<◌, List, length, Option, Result, Ok, Err}
+use Rattle.std.specs.Prelude.{◌≡◌, ℕ, ◌≤◌, ◌<◌, List, length, Result, Ok, Err}
 use Rattle.pv_io.specs.Sink.{Appends}
 use Rattle.board.specs.Scripts.{Events}
 use Rattle.image_check.specs.Image.{Image}
@@ -13,8 +13,9 @@ use Rattle.machine_model.specs.State.{State, boot, wedge}
 use Rattle.machine_model.specs.Step.{Report}
 use Rattle.machine_model.specs.Run.{Set, Run, trace_of}
 use Rattle.machine_model.specs.Notes.{AreTold, AreNotes}
-use Rattle.wedge_core.specs.Slices.{Counts, CountsOn}
-use Rattle.wedge_core.specs.Promises.{HasMemory, HasFills, RefusedWedge}
+use Rattle.wedge_core.specs.Answers.{Around, RefusedWedge}
+use Rattle.wedge_core.specs.Counts.{CountsOn}
+use Rattle.wedge_core.specs.Promises.{HasMemory, HasFills}
 use Rattle.trace_check.specs.Form.{AreChoices, most_choices}
 use Rattle.trace_check.specs.Kept.{Kept, AreKept, choices_of}
 use Rattle.trace_check.specs.Judged.{judged}
@@ -37,23 +38,22 @@ pub record IsProved (image : Image) (script : Events) (frames n : ℕ) (text : L
 -- One run from the start has this text, count of steps and end. The host completed exactly its direct instructions, and where
 -- it has done all its steps, its memory is the host's first frames with the text patched. Its notes are kept, and prove its
 -- text.
-pub record NotedRun (image : Image) (script : Events) (frames n : ℕ) (text : List ℕ) (count : ℕ) (end : End) (before after : Counts) (memory : List ℕ) (kept : Kept) : Type 0 where
+pub record NotedRun (image : Image) (script : Events) (frames n : ℕ) (text : List ℕ) (ended : Ended) (a : Around) (memory : List ℕ) (kept : Kept) : Type 0 where
   pub sets : List Set
   pub reports : List Report
   pub last : State
-  pub run : Run (wedge image script frames) n (boot (wedge image script frames)) sets reports last end
-  pub count_is : count ≡ last.step
-  pub text_is : text ≡ text_of (trace_of reports) count end
-  pub counts : CountsOn (wedge image script frames) reports before after
-  pub memory_is : HasMemory (wedge image script frames) last end memory
+  pub run : Run (wedge image script frames) n (boot (wedge image script frames)) sets reports last ended.end
+  pub count_is : ended.steps ≡ last.step
+  pub text_is : text ≡ text_of (trace_of reports) ended.steps ended.end
+  pub counts : CountsOn (wedge image script frames) reports a.counts a.counts_after
+  pub memory_is : HasMemory (wedge image script frames) last ended.end memory
   pub notes : List Note
-  pub tells : TellsSets image script frames sets last end kept notes
-  pub proved : IsProved image script frames n text end notes
+  pub tells : TellsSets image script frames sets last ended.end kept notes
+  pub proved : IsProved image script frames n text ended.end notes
 
--- what stands after such a run: the notes, the sink's bytes and faults, and the host's counts and memory
-abbrev pub NotedAnswers : Image → Events → ℕ → ℕ → Kept → Option (List ℕ) → Option (List ℕ) → ℕ → ℕ → Counts → Counts → List ℕ → Result Ended RunFault → Type 0
-NotedAnswers image script frames n kept old new before now counts_before counts_after memory (Ok ended) =
-    (text : List ℕ) × (run : NotedRun image script frames n text ended.steps ended.end counts_before counts_after memory kept) × (need image ≤ frames)
-    × HasFills (wedge image script frames) run.sets run.last ended.fills × Appends old new text × (before ≤ now)
-NotedAnswers image script frames n kept old new before now counts_before counts_after memory (Err fault) =
-    RefusedWedge image script frames n old new before now counts_before counts_after fault
+-- what stands after such a run, with the notes that are kept and the host's memory
+abbrev pub NotedAnswers : Image → Events → ℕ → ℕ → Kept → Around → List ℕ → Result Ended RunFault → Type 0
+NotedAnswers image script frames n kept a memory (Ok ended) =
+    (text : List ℕ) × (run : NotedRun image script frames n text ended a memory kept) × (need image ≤ frames)
+    × HasFills (wedge image script frames) run.sets run.last ended.fills × Appends a.taken a.taken_after text × (a.faults ≤ a.faults_after)
+NotedAnswers image script frames n kept a memory (Err fault) = RefusedWedge image script frames n a fault

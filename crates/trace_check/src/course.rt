@@ -25,7 +25,8 @@ use xlate_buffer::Cache;
 fn addable<C: Cache>(machine: &Bare<C>, page: u32) -> Option<Entry>
     requires ram { 4096 * machine.now.frames ≤ length machine.now.ram }
     requires page { page < 2 ^ 20 }
-    ensures found { (image : Image) (script : Events) → result ≡ addable (bare image script machine.now.frames) (state_of C.entries machine.now) page }
+    ensures found { (image : Image) (script : Events)
+        → result ≡ addable (bare image script machine.now.frames) (state_of C.entries machine.now) page }
     ensures within { IfSome result (λ entry. (entry.page ≡ page) × (entry.frame < machine.now.frames)) }
 {
     match walk(
@@ -57,7 +58,9 @@ fn add<C: Cache>(machine: &mut Bare<C>, page: u32) -> bool
     requires kept { IsKept machine.old.frames (state_of C.entries machine.old) }
     requires exact { C.is_exact machine.old.kept.cache ≡ true }
     requires page { page < 2 ^ 20 }
-    ensures made { (image : Image) (script : Events) → IsMade (made (bare image script machine.old.frames) (state_of C.entries machine.old) Add page (C.entries machine.old.kept.cache)) (C.entries machine.new.kept.cache) result }
+    ensures made { (image : Image) (script : Events) → IsMade
+        (made (bare image script machine.old.frames) (state_of C.entries machine.old) Add page (C.entries machine.old.kept.cache))
+        (C.entries machine.new.kept.cache) result }
     ensures same { state_of C.entries machine.new ≡ with_set (state_of C.entries machine.old) (C.entries machine.new.kept.cache) }
     ensures frames { machine.new.frames ≡ machine.old.frames }
     ensures kept { IsKept machine.new.frames (state_of C.entries machine.new) }
@@ -77,7 +80,9 @@ fn make<C: Cache>(machine: &mut Bare<C>, choice: &Choice) -> bool
     requires kept { IsKept machine.old.frames (state_of C.entries machine.old) }
     requires exact { C.is_exact machine.old.kept.cache ≡ true }
     requires page { IsPageOf choice.now.kind choice.now.page }
-    ensures made { (image : Image) (script : Events) → IsMade (made (bare image script machine.old.frames) (state_of C.entries machine.old) choice.now.kind choice.now.page (C.entries machine.old.kept.cache)) (C.entries machine.new.kept.cache) result }
+    ensures made { (image : Image) (script : Events) → IsMade
+        (made (bare image script machine.old.frames) (state_of C.entries machine.old)
+        choice.now.kind choice.now.page (C.entries machine.old.kept.cache)) (C.entries machine.new.kept.cache) result }
     ensures same { state_of C.entries machine.new ≡ with_set (state_of C.entries machine.old) (C.entries machine.new.kept.cache) }
     ensures frames { machine.new.frames ≡ machine.old.frames }
     ensures kept { IsKept machine.new.frames (state_of C.entries machine.new) }
@@ -103,7 +108,8 @@ fn make_all<C: Cache>(machine: &mut Bare<C>, list: &[Choice], at: usize) -> Resu
     requires exact { C.is_exact machine.old.kept.cache ≡ true }
     requires few { length list.now ≤ most_choices }
     requires splits { Splits list.now at machine.old.step }
-    ensures made { (image : Image) (script : Events) → MadeAs (bare image script machine.old.frames) list.now (state_of C.entries machine.old) (state_of C.entries machine.new) result }
+    ensures made { (image : Image) (script : Events) → MadeAs (bare image script machine.old.frames) list.now
+        (state_of C.entries machine.old) (state_of C.entries machine.new) result }
     ensures splits { IfOk result (λ next. Splits list.now next (machine.old.step + 1)) }
     ensures step { machine.new.step ≡ machine.old.step }
     ensures frames { machine.new.frames ≡ machine.old.frames }
@@ -159,7 +165,9 @@ pub fn follow<C: Cache, O: Sink>(
     requires begin { machine.old.step ≡ 0 }
     requires bound { bound ≤ 2 ^ 40 }
     requires form { AreChoices list.now }
-    ensures follows { (image : Image) → FollowsAs (course (bare image script.now.list machine.old.frames) list.now bound (state_of C.entries machine.old)) machine.new.step (O.taken out.old) (O.taken out.new) result }
+    ensures follows { (image : Image) → FollowsAs
+        (course (bare image script.now.list machine.old.frames) list.now bound (state_of C.entries machine.old))
+        machine.new.step (O.taken out.old) (O.taken out.new) result }
     ensures cause { OnErr result (Rose (O.faults out.old) (O.faults out.new)) }
 {
     let mut at = 0;

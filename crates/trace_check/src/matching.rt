@@ -37,6 +37,7 @@ impl<'a> Model for Matching<'a> {
 }
 
 impl<'a> Matching<'a> {
+    /// Nothing of the text is matched yet.
     pub fn new(text: &'a [u8]) -> Matching<'a>
         ensures { result ≡ record { text = text.now; at = 0; wrong = None; faults = 0 } }
     {

@@ -1,15 +1,15 @@
 //! Patched runs whose notes are kept, so that their text can be judged.
 
-ghost use Rattle.std.specs.Prelude.{◌≡◌, ◌+◌, ◌≤◌, ◌^◌, [], length, true};
+ghost use Rattle.std.specs.Prelude.{◌≡◌, ◌≤◌, ◌^◌, [], true};
 ghost use Rattle.board.specs.Scripts.{is_script};
-ghost use Rattle.frame_pool.specs.Pool.{free_list};
 ghost use Rattle.image_load.specs.Boot.{need};
-ghost use Rattle.shadow_cache.specs.Views as roots;
 ghost use Rattle.machine_model.specs.State.{boot, wedge};
 ghost use Rattle.run_trace.specs.Pauses.{end_of};
-ghost use Rattle.wedge_step.specs.Filled.{pages_kept};
-ghost use Rattle.wedge_step.specs.Ready.{IsReady};
-ghost use Rattle.wedge_step.specs.Standing.{IsHeld, IsAble, ground, state_of};
+ghost use Rattle.wedge_step.specs.Leaves.{IsBetween};
+ghost use Rattle.wedge_step.specs.Scene.{kept_in, scene, state_in};
+ghost use Rattle.wedge_step.specs.Standing.{IsAble};
+ghost use Rattle.wedge_core.specs.Answers.{around};
+ghost use Rattle.wedge_core.specs.OfRoots.{of_roots};
 ghost use Rattle.trace_check.specs.Kept.{AreKept};
 ghost use Rattle.trace_check.specs.Proved.{NotedAnswers};
 
@@ -46,8 +46,8 @@ pub fn run_noted<H: Host, O: Sink>(
     requires bound { n ≤ 2 ^ 40 }
     requires room { H.retired host.old ≤ 2 ^ 63 }
     requires untold { AreKept notes.old [] }
-    ensures run { NotedAnswers image.now script.now.list frames n notes.new (O.taken out.old) (O.taken out.new) (O.faults out.old) (O.faults out.new)
-        (record { retired = H.retired host.old; passed = H.passed host.old }) (record { retired = H.retired host.new; passed = H.passed host.new }) (H.bytes host.new) result }
+    ensures run { NotedAnswers image.now script.now.list frames n notes.new
+        (around H.Host O.Sink host.old host.new out.old out.new) (H.bytes host.new) result }
 {
     match Guest::start(alloc, image, frames, POOL, host) {
         Err(StartFault::TooSmall(small)) => Err(RunFault::TooSmall(small)),
@@ -72,20 +72,20 @@ fn whole<H: Host, O: Sink>(
     notes: &mut KeptNotes,
 ) -> Result<Ended, RunFault>
     requires started { H.is_started host.old ≡ true }
-    requires held { IsHeld roots.stands roots.frames roots.slots (ground image.now guest.old.running.frames) guest.old.running pool.old (H.bytes host.old) }
-    requires ready { IsReady roots.slots roots.noted roots.marked roots.value roots.asides (ground image.now guest.old.running.frames) guest.old.running.cpu guest.old.running.shadows (H.bytes host.old) }
+    requires between { IsBetween of_roots image.now (scene guest.old.running pool.old (H.bytes host.old)) }
     requires able { IsAble guest.old.running.cpu }
     requires fits { need image.now ≤ guest.old.running.frames }
     requires script { is_script script.now.list ≡ true }
-    requires first { state_of roots.stands roots.frames roots.slots (wedge image.now script.now.list guest.old.running.frames) guest.old.running (H.bytes host.old) ≡ boot (wedge image.now script.now.list guest.old.running.frames) }
+    requires first { state_in of_roots (wedge image.now script.now.list guest.old.running.frames)
+        (scene guest.old.running pool.old (H.bytes host.old))
+        ≡ boot (wedge image.now script.now.list guest.old.running.frames) }
     requires unfilled { guest.old.running.fills ≡ 0 }
-    requires none { pages_kept roots.slots roots.asides guest.old.running.shadows (H.bytes host.old) ≡ 0 }
+    requires none { kept_in of_roots (scene guest.old.running pool.old (H.bytes host.old)) ≡ 0 }
     requires bound { n ≤ 2 ^ 40 }
     requires room { H.retired host.old ≤ 2 ^ 63 }
-    requires enough { 16 ≤ length (free_list pool.old (H.bytes host.old)) + guest.old.running.held }
     requires untold { AreKept notes.old [] }
-    ensures whole { NotedAnswers image.now script.now.list guest.old.running.frames n notes.new (O.taken out.old) (O.taken out.new) (O.faults out.old) (O.faults out.new)
-        (record { retired = H.retired host.old; passed = H.passed host.old }) (record { retired = H.retired host.new; passed = H.passed host.new }) (H.bytes host.new) result }
+    ensures whole { NotedAnswers image.now script.now.list guest.old.running.frames n notes.new
+        (around H.Host O.Sink host.old host.new out.old out.new) (H.bytes host.new) result }
 {
     notes_are_judged();
     kept_on();

@@ -37,7 +37,7 @@ returns-in-Reached g c = record {
       let tells = g.O.Sink.taken c.slice.new.out in
       let h = subst (λ (n : ℕ). SliceAs m exact n old new told tells (Ok c.in-Ok.pause)) is (c.in-Ok.ensures.slice image) in
       let form = subst IsInForm c.state_of_bare.ensures.state c.state_of_bare.ensures.form in
-      let size = reached_so c.in-Ok.pause _ c.in-Ok.ensures.size c.in-Reached.is ∙ c.requires.size in
+      let size = (reached_so c.in-Ok.pause _ c.in-Ok.ensures.goes_on c.in-Reached.is).size ∙ c.requires.size in
       let r = bare_rests m exact c.args.n old new told tells _ _ c.in-Ok.pause c.in-Reached.is h c.in-Ok.ensures.later form size in
       (r.0, r.1, c.state_of_bare.ensures.state ∙ r.2);
 }

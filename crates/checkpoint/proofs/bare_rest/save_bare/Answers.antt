@@ -1,15 +1,11 @@
-use Rattle.std.proofs.Common.{ℕ, List, sym, subst}
+use Rattle.std.proofs.Common.{ℕ, sym, subst}
 use Rattle.xlate_buffer.specs.declared.Buffer.{Buffer}
 use Rattle.machine_model.specs.State as model
-use Rattle.machine_model.specs.Step.{Report}
 use Rattle.machine_model.specs.Fit.{Fit}
 use Rattle.bare_machine.specs.Machine.{bare, state_of}
-use Rattle.checkpoint.specs.Rested.{RestsAs}
+use Rattle.checkpoint.specs.Rested.{RestsAs, no_counts}
 use Rattle.checkpoint.proofs.Resting.{from_start}
 use Rattle.checkpoint.proofs.bare_rest.save_bare.Goals as goal
-
-abbrev uncounted : List Report → Type 0
-uncounted reports = Unit {0}
 
 pub rest_bare-requires-clause-fit : goal.rest_bare-requires-clause-fit
 rest_bare-requires-clause-fit g c =
@@ -26,9 +22,9 @@ returns-in-Ok g c =
     let before = g.O.Sink.faults c.args.out.now in
     let now = g.O.Sink.faults c.rest_bare.new.out in
     let first = state_of (λ (b : Buffer). b) c.in-Ok.machine in
-    let ran = subst (λ (f : ℕ). RestsAs (bare image script f) c.args.n first uncounted told tells before now c.rest_bare.result) started.1 (c.rest_bare.ensures.rests image) in
+    let ran = subst (λ (f : ℕ). RestsAs (bare image script f) c.args.n first no_counts told tells before now c.rest_bare.result) started.1 (c.rest_bare.ensures.rests image) in
     let m = bare image script c.args.frames in
     record {
-      rests = from_start m c.args.n uncounted told tells before now c.rest_bare.result started.0
-          (subst (λ (b : model.State). RestsAs m c.args.n b uncounted told tells before now c.rest_bare.result) (started.4 script) ran);
+      rests = from_start m c.args.n no_counts told tells before now c.rest_bare.result started.0
+          (subst (λ (b : model.State). RestsAs m c.args.n b no_counts told tells before now c.rest_bare.result) (started.4 script) ran);
     }

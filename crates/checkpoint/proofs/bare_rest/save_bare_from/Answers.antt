@@ -1,13 +1,9 @@
-use Rattle.std.proofs.Common.{◌≡◌, ℕ, ◌/◌, List, length, subst, arith}
+use Rattle.std.proofs.Common.{◌≡◌, ℕ, ◌/◌, length, subst, arith}
 use Rattle.xlate_buffer.specs.declared.Buffer.{Buffer}
 use Rattle.machine_model.specs.State as model
-use Rattle.machine_model.specs.Step.{Report}
 use Rattle.bare_machine.specs.Machine.{bare, state_of}
-use Rattle.checkpoint.specs.Rested.{RestsAs}
+use Rattle.checkpoint.specs.Rested.{RestsAs, no_counts}
 use Rattle.checkpoint.proofs.bare_rest.save_bare_from.Goals as goal
-
-abbrev uncounted : List Report → Type 0
-uncounted reports = Unit {0}
 
 pub returns : goal.returns
 returns g c = record {
@@ -21,7 +17,7 @@ returns g c = record {
       let before = g.O.Sink.faults c.args.out.now in
       let now = g.O.Sink.faults c.rest_bare.new.out in
       let first = state_of (λ (b : Buffer). b) machine in
-      let ran = subst (λ (f : ℕ). RestsAs (bare image script f) c.args.n first uncounted told tells before now c.rest_bare.result) frames (c.rest_bare.ensures.rests image) in
-      subst (λ (b : model.State). RestsAs (bare image script (length c.args.state.ram / 4096)) c.args.n b uncounted told tells before now c.rest_bare.result)
+      let ran = subst (λ (f : ℕ). RestsAs (bare image script f) c.args.n first no_counts told tells before now c.rest_bare.result) frames (c.rest_bare.ensures.rests image) in
+      subst (λ (b : model.State). RestsAs (bare image script (length c.args.state.ram / 4096)) c.args.n b no_counts told tells before now c.rest_bare.result)
       c.bare_from-machine.ensures.state ran;
 }

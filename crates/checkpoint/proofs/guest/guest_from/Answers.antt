@@ -1,34 +1,67 @@
-use Rattle.std.proofs.Common.{◌≡◌, List, ℕ, ◌*◌, ◌/◌, length, take, ap, subst, ◌∙◌, arith}
+use Rattle.std.proofs.Common.{◌≡◌, List, [], ℕ, ◌+◌, ◌*◌, ◌/◌, ◌%◌, length, take, ap, sym, subst, ◌∙◌, arith}
 use Rattle.std.specs.FinMap.{empty}
-use Rattle.guest_ram.specs.Bytes.{part}
-use Rattle.shadow_cache.specs.Views as roots
+use Rattle.frame_pool.specs.Pool.{free_list}
 use Rattle.machine_model.specs.State as model
-use Rattle.machine_model.specs.State.{wedge}
-use Rattle.wedge_step.specs.Standing.{state_of}
+use Rattle.wedge_step.specs.Scene.{scene}
+use Rattle.wedge_step.specs.Standing.{IsAble}
+use Rattle.wedge_core.specs.Calls.{MayAdopt}
+use Rattle.checkpoint.specs.Guests.{GoesOnFrom}
+use Rattle.checkpoint.specs.Moved.{rested_from}
 use Rattle.checkpoint.proofs.Seats.{text_fits, text_seated}
 use Rattle.checkpoint.proofs.guest.guest_from.Goals as goal
 
-pub adopt-requires-clause-fits : goal.adopt-requires-clause-fits
-adopt-requires-clause-fits g c =
-    text_fits c.args.image.now c.args.state.ram c.len-frames.result c.requires.form.ram.0 c.requires.form.ram.2 c.len-frames.ensures.count c.requires.text
-
-pub adopt-requires-clause-text : goal.adopt-requires-clause-text
-adopt-requires-clause-text g c =
+pub adopt-requires-clause-may : goal.adopt-requires-clause-may
+adopt-requires-clause-may g c =
+    let image = c.args.image.now in
+    let ram = c.args.state.ram in
+    let n = c.len-frames.result / 4096 in
+    let memory = c.seated-pool.new.memory in
+    let pool = c.seated-pool.result in
     let count = c.len-frames.ensures.count in
+    let least = c.requires.form.ram.0 in
+    let most = c.requires.form.ram.1 in
     let whole = c.requires.form.ram.2 in
-    let text = c.args.image.now.text in
-    let long : length c.args.state.ram ≡ 4096 * (c.len-frames.result / 4096) = omega arith in
-    ap (λ (m : List ℕ). part m 0x100000 (length text)) (g.met.H.Host.bytes_changed c.start.new.self c.seated-pool.new.memory)
-    ∙ text_seated c.seated-pool.new.memory c.args.state.ram text (c.len-frames.result / 4096) c.seated-pool.ensures.front c.requires.form.ram.0 long c.requires.text
+    let long : length ram ≡ 4096 * n = omega (arith, count, whole) in
+    let size : length memory ≡ (n + 512) * 4096 = c.seated-pool.ensures.len in
+    let base = c.seated-pool.ensures.base in
+    let free = c.seated-pool.ensures.free in
+    let may : MayAdopt image n pool memory = record {
+      size = (omega (arith, long, least), omega (arith, long, most));
+      room = omega (arith, size);
+      whole = ap (λ (k : ℕ). k % 4096) size ∙ omega arith;
+      fits = text_fits image ram c.len-frames.result least whole count c.requires.text;
+      text = text_seated memory ram image.text n c.seated-pool.ensures.front least long c.requires.text;
+      behind = omega (arith, base);
+      stands = c.seated-pool.ensures.stands;
+      free = omega (arith, free);
+    } in
+    subst (λ (l : List ℕ). MayAdopt image n pool l) (sym (g.met.H.Host.bytes_changed c.start.new.self memory)) may
 
-pub returns-clause-state : goal.returns-clause-state
-returns-clause-state g c = λ script.
+pub returns-clause-goes_on : goal.returns-clause-goes_on
+returns-clause-goes_on g c =
     let s = c.args.state in
-    let n = c.len-frames.result in
+    let image = c.args.image.now in
+    let n = c.len-frames.result / 4096 in
+    let memory = c.seated-pool.new.memory in
+    let host = g.H.Host.bytes (g.H.Host.with_bytes c.start.new.self memory) in
+    let a = c.in_ok-guest.ensures.adopts in
     let made : List ℕ → model.State = λ ram. record { cpu = s.cpu; ram = ram; set = empty; board = s.board; step = s.step } in
-    let front : take (4096 * (n / 4096)) (g.H.Host.bytes (g.H.Host.with_bytes c.start.new.self c.seated-pool.new.memory)) ≡ s.ram =
-    ap (take (4096 * (n / 4096))) (g.met.H.Host.bytes_changed c.start.new.self c.seated-pool.new.memory) ∙ c.seated-pool.ensures.front in
-    let here : state_of roots.stands roots.frames roots.slots (wedge c.args.image.now script (n / 4096)) c.in_ok-guest.guest.running (g.H.Host.bytes c.adopt.new.host) ≡ made s.ram =
-    c.in_ok-guest.ensures.state script ∙ ap made front in
-    subst (λ (k : ℕ). state_of roots.stands roots.frames roots.slots (wedge c.args.image.now script (k / 4096)) c.in_ok-guest.guest.running (g.H.Host.bytes c.adopt.new.host) ≡ made s.ram)
-    c.len-frames.ensures.count here
+    let same : host ≡ memory = g.met.H.Host.bytes_changed c.start.new.self memory in
+    let front : take (4096 * n) host ≡ s.ram = ap (take (4096 * n)) same ∙ c.seated-pool.ensures.front in
+    let two = a.two in
+    let kept = a.pool.lengths in
+    let counted = a.held.counted in
+    let free = ap (λ (l : List ℕ). length (free_list c.seated-pool.result l)) same ∙ c.seated-pool.ensures.free in
+    let new = scene c.in_ok-guest.guest.running c.adopt.new.pool (g.H.Host.bytes c.adopt.new.host) in
+    let goes : GoesOnFrom image n (rested_from s) new = record {
+      held = a.held;
+      ready = a.ready;
+      state = λ script. a.state script ∙ ap made front;
+      frames = a.held.frames_are;
+      able = subst IsAble (sym (ap (λ (b : model.State). b.cpu) (a.state []))) c.requires.able;
+      two = a.two;
+      free = omega (arith, two, kept, counted, free);
+      fills = a.fills;
+      filled = a.filled;
+    } in
+    subst (λ (k : ℕ). GoesOnFrom image (k / 4096) (rested_from s) new) c.len-frames.ensures.count goes

@@ -2,7 +2,7 @@ use Rattle.std.proofs.Common.{◌≡◌, ℕ, List, ◌+◌, ◌<◌, ◌∷◌,
 use Rattle.std.proofs.lemmas.List.{take_all, take_more}
 use Rattle.run_trace.specs.declared.items.Ended.{Ended}
 use Rattle.wedge_core.specs.Slices.{Counts}
-use Rattle.guest_sched.specs.Between.{IsBetween, StandsNext, ended_of}
+use Rattle.guest_sched.specs.Between.{ended_of}
 use Rattle.guest_sched.specs.Pieces.{shared_text}
 use Rattle.guest_sched.specs.Schedules.{SliceList}
 use Rattle.guest_sched.specs.Shared.{SharedRun, FailsInTurn}
@@ -11,6 +11,7 @@ use Rattle.guest_sched.proofs.Ends.{ends_shared, ends_put, ends_fail}
 use Rattle.guest_sched.proofs.SharedEnds.{on_err, on_ok, is_next}
 use Rattle.guest_sched.proofs.Takes.{rose_more}
 use Rattle.guest_sched.proofs.shared.run_shared.Goals as goal
+use Rattle.guest_sched.proofs.Wide.{IsBetween, StandsNext}
 
 pub turn-requires-clause-next : goal.turn-requires-clause-next
 turn-requires-clause-next g c =

@@ -1,6 +1,6 @@
 use Rattle.std.proofs.Common.{◌≡◌, ◌≤◌, true, take}
-use Rattle.guest_sched.specs.Between.{IsBetween}
 use Rattle.guest_sched.proofs.shared.run_shared.Given as goal
+use Rattle.guest_sched.proofs.Wide.{IsBetween}
 
 abbrev pub invariant-loop-slice : goal.invariant-loop-slice
 invariant-loop-slice g l = record {

@@ -1,12 +1,12 @@
 use Rattle.std.proofs.Common.{◌≡◌, true, ◌<◌, [], ◌∷◌, ◌++◌, length, set, get_or, None, refl, ap, sym, subst, ◌∙◌, arith}
 use Rattle.board.specs.Scripts.{is_script}
-use Rattle.guest_sched.specs.Between.{IsBetween}
 use Rattle.guest_sched.specs.declared.kernel.Kernel.{Kernel}
 use Rattle.guest_sched.specs.declared.tenants.Tenant.{Tenant}
 use Rattle.guest_sched.proofs.Between.{next_slice}
 use Rattle.guest_sched.proofs.Furthered.{skipped_between}
 use Rattle.guest_sched.proofs.Ready.{counts_of, counts_same, live_of, met_of, get_or_any, brought_at, ready_at, stop_same, goes_on_at, bound_at, room_at, went_at, failed_at, on_ok_both, on_err_then}
 use Rattle.guest_sched.proofs.shared.turn.Goals as goal
+use Rattle.guest_sched.proofs.Wide.{IsBetween}
 
 pub index-requires : goal.index-requires
 index-requires g c =
@@ -53,8 +53,8 @@ bring-requires-clause-room g c = c.requires.next.between.rooms.room
 pub make_room-requires-clause-started : goal.make_room-requires-clause-started
 make_room-requires-clause-started g c = c.bring.ensures.started
 
-pub make_room-requires-clause-present : goal.make_room-requires-clause-present
-make_room-requires-clause-present g c =
+pub make_room-requires-clause-may : goal.make_room-requires-clause-may
+make_room-requires-clause-may g c =
     let s = c.requires.next in
     let len = s.between.rooms.len in
     let low = (next_slice _ s.whole s.done c.args.slice.now s.next).known in
@@ -62,40 +62,12 @@ make_room-requires-clause-present g c =
     let b = brought_at c.args.kernels.now.items s.whole s.done s.before (counts_of (g.H.Host.retired c.args.host.now) (g.H.Host.passed c.args.host.now)) (counts_of (g.H.Host.retired c.bring.new.host) (g.H.Host.passed c.bring.new.host))
     (counts_of (g.H.Host.retired c.bring.new.host) (g.H.Host.passed c.bring.new.host)) s.old (g.O.Sink.taken c.args.out.now) c.args.slice.now.kernel c.args.tenants.now c.bring.new.self c.bring.new.self
     (g.H.Host.bytes c.args.host.now) (g.H.Host.bytes c.bring.new.host) (g.H.Host.bytes c.bring.new.host) c.bring.ensures.brought c.bring.ensures.rest lt (counts_same _ _ _ _ c.bring.ensures.retired c.bring.ensures.passed) s.between in
-    b.rooms.there
-
-pub make_room-requires-clause-theirs : goal.make_room-requires-clause-theirs
-make_room-requires-clause-theirs g c =
-    let s = c.requires.next in
-    let len = s.between.rooms.len in
-    let low = (next_slice _ s.whole s.done c.args.slice.now s.next).known in
-    let lt : c.args.slice.now.kernel < length c.args.tenants.now.list.items = omega (arith, len, low) in
-    let b = brought_at c.args.kernels.now.items s.whole s.done s.before (counts_of (g.H.Host.retired c.args.host.now) (g.H.Host.passed c.args.host.now)) (counts_of (g.H.Host.retired c.bring.new.host) (g.H.Host.passed c.bring.new.host))
-    (counts_of (g.H.Host.retired c.bring.new.host) (g.H.Host.passed c.bring.new.host)) s.old (g.O.Sink.taken c.args.out.now) c.args.slice.now.kernel c.args.tenants.now c.bring.new.self c.bring.new.self
-    (g.H.Host.bytes c.args.host.now) (g.H.Host.bytes c.bring.new.host) (g.H.Host.bytes c.bring.new.host) c.bring.ensures.brought c.bring.ensures.rest lt (counts_same _ _ _ _ c.bring.ensures.retired c.bring.ensures.passed) s.between in
-    b.rooms.theirs
-
-pub make_room-requires-clause-apart : goal.make_room-requires-clause-apart
-make_room-requires-clause-apart g c =
-    let s = c.requires.next in
-    let len = s.between.rooms.len in
-    let low = (next_slice _ s.whole s.done c.args.slice.now s.next).known in
-    let lt : c.args.slice.now.kernel < length c.args.tenants.now.list.items = omega (arith, len, low) in
-    let b = brought_at c.args.kernels.now.items s.whole s.done s.before (counts_of (g.H.Host.retired c.args.host.now) (g.H.Host.passed c.args.host.now)) (counts_of (g.H.Host.retired c.bring.new.host) (g.H.Host.passed c.bring.new.host))
-    (counts_of (g.H.Host.retired c.bring.new.host) (g.H.Host.passed c.bring.new.host)) s.old (g.O.Sink.taken c.args.out.now) c.args.slice.now.kernel c.args.tenants.now c.bring.new.self c.bring.new.self
-    (g.H.Host.bytes c.args.host.now) (g.H.Host.bytes c.bring.new.host) (g.H.Host.bytes c.bring.new.host) c.bring.ensures.brought c.bring.ensures.rest lt (counts_same _ _ _ _ c.bring.ensures.retired c.bring.ensures.passed) s.between in
-    (c.args.kernels.now.items, sym b.rooms.len, b.apart)
-
-pub make_room-requires-clause-pool : goal.make_room-requires-clause-pool
-make_room-requires-clause-pool g c =
-    let s = c.requires.next in
-    let len = s.between.rooms.len in
-    let low = (next_slice _ s.whole s.done c.args.slice.now s.next).known in
-    let lt : c.args.slice.now.kernel < length c.args.tenants.now.list.items = omega (arith, len, low) in
-    let b = brought_at c.args.kernels.now.items s.whole s.done s.before (counts_of (g.H.Host.retired c.args.host.now) (g.H.Host.passed c.args.host.now)) (counts_of (g.H.Host.retired c.bring.new.host) (g.H.Host.passed c.bring.new.host))
-    (counts_of (g.H.Host.retired c.bring.new.host) (g.H.Host.passed c.bring.new.host)) s.old (g.O.Sink.taken c.args.out.now) c.args.slice.now.kernel c.args.tenants.now c.bring.new.self c.bring.new.self
-    (g.H.Host.bytes c.args.host.now) (g.H.Host.bytes c.bring.new.host) (g.H.Host.bytes c.bring.new.host) c.bring.ensures.brought c.bring.ensures.rest lt (counts_same _ _ _ _ c.bring.ensures.retired c.bring.ensures.passed) s.between in
-    (let n = b.rooms.len in let four = b.rooms.four in omega (arith, n, four), b.rooms.pool_is)
+    record {
+      there = b.rooms.there;
+      theirs = b.rooms.theirs;
+      apart = (c.args.kernels.now.items, sym b.rooms.len, b.apart);
+      pool = (let n = b.rooms.len in let four = b.rooms.four in omega (arith, n, four), b.rooms.pool_is);
+    }
 
 pub index_mut-tenant-requires : goal.index_mut-tenant-requires
 index_mut-tenant-requires g c =
@@ -121,24 +93,8 @@ go_on-requires-clause-number g c =
 pub go_on-requires-clause-started : goal.go_on-requires-clause-started
 go_on-requires-clause-started g c = c.make_room.ensures.started
 
-pub go_on-requires-clause-fresh : goal.go_on-requires-clause-fresh
-go_on-requires-clause-fresh g c =
-    let s = c.requires.next in
-    let len = s.between.rooms.len in
-    let low = (next_slice _ s.whole s.done c.args.slice.now s.next).known in
-    let lt : c.args.slice.now.kernel < length c.args.tenants.now.list.items = omega (arith, len, low) in
-    let live0 = live_of c.index.result.now.stop c.is_some.result c.is_some.ensures c.if-is_some.false in
-    let d = c.index_mut-tenant.result.now in
-    let kept = stop_same c.args.kernels.now.items s.whole s.done s.before (counts_of (g.H.Host.retired c.args.host.now) (g.H.Host.passed c.args.host.now)) (counts_of (g.H.Host.retired c.bring.new.host) (g.H.Host.passed c.bring.new.host))
-    (counts_of (g.H.Host.retired c.make_room.new.host) (g.H.Host.passed c.make_room.new.host)) s.old (g.O.Sink.taken c.args.out.now) c.args.slice.now.kernel c.args.tenants.now c.bring.new.self c.make_room.new.self
-    (g.H.Host.bytes c.args.host.now) (g.H.Host.bytes c.bring.new.host) (g.H.Host.bytes c.make_room.new.host) c.bring.ensures.brought c.bring.ensures.rest lt (counts_same _ _ _ _ c.bring.ensures.retired c.bring.ensures.passed) s.between
-    c.make_room.ensures.made c.make_room.ensures.theirs c.make_room.ensures.size c.make_room.ensures.apart c.make_room.ensures.stay c.make_room.ensures.rest (counts_same _ _ _ _ c.make_room.ensures.retired c.make_room.ensures.passed) d in
-    let at0 = get_or_any c.args.tenants.now.list.items c.args.slice.now.kernel c.index.result.now d lt in
-    let live : d.stop ≡ None = ap (λ (t : Tenant). t.stop) c.index_mut-tenant.ensures.value ∙ kept ∙ ap (λ (t : Tenant). t.stop) (sym at0) ∙ ap (λ (t : Tenant). t.stop) (sym c.index.ensures) ∙ live0 in
-    live
-
-pub go_on-requires-clause-goes_on : goal.go_on-requires-clause-goes_on
-go_on-requires-clause-goes_on g c =
+pub go_on-requires-clause-takes : goal.go_on-requires-clause-takes
+go_on-requires-clause-takes g c =
     let s = c.requires.next in
     let len = s.between.rooms.len in
     let low = (next_slice _ s.whole s.done c.args.slice.now s.next).known in
@@ -155,8 +111,16 @@ go_on-requires-clause-goes_on g c =
     c.make_room.ensures.made c.make_room.ensures.theirs c.make_room.ensures.size c.make_room.ensures.apart c.make_room.ensures.stay c.make_room.ensures.rest (counts_same _ _ _ _ c.make_room.ensures.retired c.make_room.ensures.passed) d in
     let at0 = get_or_any c.args.tenants.now.list.items c.args.slice.now.kernel c.index.result.now d lt in
     let live : d.stop ≡ None = ap (λ (t : Tenant). t.stop) c.index_mut-tenant.ensures.value ∙ kept ∙ ap (λ (t : Tenant). t.stop) (sym at0) ∙ ap (λ (t : Tenant). t.stop) (sym c.index.ensures) ∙ live0 in
-    goes_on_at c.args.kernels.now.items c.args.tenants.now.frames s.whole s.done c.make_room.new.self.list.items c.make_room.new.self.pool (g.H.Host.bytes c.make_room.new.host) s.before (counts_of (g.H.Host.retired c.make_room.new.host) (g.H.Host.passed c.make_room.new.host)) s.old (g.O.Sink.taken c.args.out.now) c.args.slice.now b s.next
-    c.index-2.result.now d c.index-2.ensures c.index_mut-tenant.ensures.value live
+    let e = c.make_room.ensures.enough d in
+    let same = ap (λ n. (get_or c.make_room.new.self.list.items n d).guest.running.held) c.bring.ensures.rest.2 in
+    let value = ap (λ (t : Tenant). t.guest.running.held) c.index_mut-tenant.ensures.value in
+    record {
+      fresh = live;
+      goes_on =
+          goes_on_at c.args.kernels.now.items c.args.tenants.now.frames s.whole s.done c.make_room.new.self.list.items c.make_room.new.self.pool (g.H.Host.bytes c.make_room.new.host) s.before (counts_of (g.H.Host.retired c.make_room.new.host) (g.H.Host.passed c.make_room.new.host)) s.old (g.O.Sink.taken c.args.out.now) c.args.slice.now b s.next
+          c.index-2.result.now d c.index-2.ensures c.index_mut-tenant.ensures.value live;
+      enough = omega (arith, e, same, value);
+    }
 
 pub go_on-requires-clause-script : goal.go_on-requires-clause-script
 go_on-requires-clause-script g c =
@@ -195,14 +159,6 @@ go_on-requires-clause-room g c =
     (g.H.Host.bytes c.args.host.now) (g.H.Host.bytes c.bring.new.host) (g.H.Host.bytes c.make_room.new.host) c.bring.ensures.brought c.bring.ensures.rest lt (counts_same _ _ _ _ c.bring.ensures.retired c.bring.ensures.passed) s.between
     c.make_room.ensures.made c.make_room.ensures.theirs c.make_room.ensures.size c.make_room.ensures.apart c.make_room.ensures.stay c.make_room.ensures.rest (counts_same _ _ _ _ c.make_room.ensures.retired c.make_room.ensures.passed) in
     room_at (g.H.Host.retired c.make_room.new.host) 0 s.before _ s.whole s.done c.args.slice.now s.next b.retired s.few
-
-pub go_on-requires-clause-enough : goal.go_on-requires-clause-enough
-go_on-requires-clause-enough g c =
-    let d = c.index_mut-tenant.result.now in
-    let e = c.make_room.ensures.enough d in
-    let same = ap (λ n. (get_or c.make_room.new.self.list.items n d).guest.running.held) c.bring.ensures.rest.2 in
-    let value = ap (λ (t : Tenant). t.guest.running.held) c.index_mut-tenant.ensures.value in
-    omega (arith, e, same, value)
 
 pub returns-clause-frames : goal.returns-clause-frames
 returns-clause-frames g c = c.make_room.ensures.rest.0 ∙ c.bring.ensures.rest.1

@@ -1,11 +1,28 @@
-use Rattle.std.proofs.Common.{◌≡◌, sym, subst, ◌∙◌}
+use Rattle.std.proofs.Common.{◌≡◌, ℕ, sym, subst, ◌∙◌, Result, Err}
+use Rattle.image_check.specs.Image.{Image}
 use Rattle.pv_io.specs.Sink.{AppendsFront}
+use Rattle.pv_io.specs.declared.answer.Failed.{Failed}
+use Rattle.run_trace.specs.declared.pause.Pause.{Pause}
+use Rattle.shadow_tables.specs.declared.shadows.Shadows as shadows
+use Rattle.wedge_core.specs.Sliced.{SliceLeaves}
+use Rattle.wedge_step.specs.Scene.{Scene}
 use Rattle.run_trace.specs.Pauses.{PutsAs}
 use Rattle.run_trace.specs.Text.{lines_of}
 use Rattle.machine_model.specs.Run.{trace_of}
 use Rattle.guest_sched.specs.Tags.{tag_of, tagged}
 use Rattle.guest_sched.proofs.ToldPuts.{same_name, turn_failed, turn_all, unpaused, no_faults}
 use Rattle.guest_sched.proofs.turn.steps_on.Goals as goal
+
+-- where the sink has failed, no more is said
+unpaused_leaves : {S : Type 0} (s : shadows.Ghosts S) (image : Image) (bound : ℕ) (old new : Scene S) (result : Result Pause Failed) (failed : Failed) → SliceLeaves s image bound old new result
+    → SliceLeaves s image bound old new (Err failed)
+unpaused_leaves s image bound old new result failed h = record { reached = tt; held = tt; ready = tt; able = tt; counted = tt; stands = tt; pool = tt; few = tt; filled = h.filled; frames = h.frames }
+
+pub returns-then-has_failed-clause-leaves : goal.returns-then-has_failed-clause-leaves
+returns-then-has_failed-clause-leaves g c = unpaused_leaves _ _ _ _ _ _ _ c.slice-pause.ensures.leaves
+
+pub returns-then-has_failed-clause-own : goal.returns-then-has_failed-clause-own
+returns-then-has_failed-clause-own g c = record { memory = tt; owns = tt; filled = c.slice-pause.ensures.own.filled }
 
 pub returns-then-has_failed-clause-turn : goal.returns-then-has_failed-clause-turn
 returns-then-has_failed-clause-turn g c =
@@ -50,7 +67,7 @@ returns-clause-turn g c =
     let all : PutsAs (tagged tag given) was (g.O.Sink.taken t1.out.now) result =
     turn_all t0.out.ghost_name t1.out.ghost_name tag t0.tag t1.tag t0.since.faults t1.since.faults was t0.since.taken t1.since.taken given t0.since.text t1.since.text e0.since.2 e0.tag e0.since.0
     t1.begun t1.failed (g.O.Sink.taken t1.out.now) (g.O.Sink.faults t1.out.now) result _ _ s.text live t1.taken
-    c.slice-pause.ensures.cause (no_faults t0.failed e0.failed) (no_faults t1.failed live) in
+    c.slice-pause.ensures.faults.cause (no_faults t0.failed e0.failed) (no_faults t1.failed live) in
     record {
       sets = s.sets;
       reports = s.reports;

@@ -60,9 +60,9 @@ loop-machine-preserved g c =
           let slice = sliced image c.args.script.now.list first.frames made.frames (g.C.Cache.is_exact made.kept.cache) (next_step list c.in-Ok.next n) (made.step + (c.next_step.result - made.step)) (state_of e made) (state_of e c.slice.new.self) (g.O.Sink.taken c.loop-machine.out) (g.O.Sink.taken c.slice.new.out) (Ok pause.Reached) (Ok c.in-Ok-slice.pause)
           (c.in-Ok.ensures.frames ∙ c.loop-machine.invariant.frames) c.in-Ok.ensures.exact bound (ap (λ (p : Pause). Ok p) c.in-Reached.is) (c.in-Ok-slice.ensures.slice image) in
           nears_on s list n c.in-Ok.next (state_of e first) (state_of e m) (state_of e made) (state_of e c.slice.new.self) (g.O.Sink.taken c.args.out.now) (g.O.Sink.taken c.loop-machine.out) (g.O.Sink.taken c.slice.new.out) (c.loop-machine.invariant.near image) ready slice;
-      kept = rw c.in-Reached.is at c.in-Ok-slice.ensures.kept;
-      exact = rw c.in-Reached.is at c.in-Ok-slice.ensures.exact ∙ c.in-Ok.ensures.exact;
-      frames = rw c.in-Reached.is at c.in-Ok-slice.ensures.frames ∙ c.in-Ok.ensures.frames ∙ c.loop-machine.invariant.frames;
+      kept = (let on = rw c.in-Reached.is at c.in-Ok-slice.ensures.goes_on in on.kept);
+      exact = (let on = rw c.in-Reached.is at c.in-Ok-slice.ensures.goes_on in on.exact ∙ c.in-Ok.ensures.exact);
+      frames = (let on = rw c.in-Reached.is at c.in-Ok-slice.ensures.goes_on in on.frames ∙ c.in-Ok.ensures.frames ∙ c.loop-machine.invariant.frames);
       splits = subst (Splits list c.in-Ok.next) at (splits_until list c.in-Ok.next m.step n c.in-Ok.ensures.splits (omega (arith, above)));
       later = omega (arith, c.loop-machine.invariant.later, c.in-Ok-slice.ensures.later);
       within = omega (arith, most, at);

@@ -11,11 +11,13 @@ use Rattle.machine_model.specs.State.{State, wedge}
 use Rattle.wedge_step.specs.Filled.{pages_kept}
 use Rattle.wedge_step.specs.Standing.{state_of}
 use Rattle.wedge_core.specs.Noted.{NotesOn}
-use Rattle.wedge_core.specs.Slices.{BeginsEmpty, Counts, SliceAs}
+use Rattle.wedge_core.specs.Counts.{Counts}
+use Rattle.wedge_core.specs.Slices.{BeginsEmpty}
+use Rattle.wedge_core.proofs.SlicedBy.{SliceAs}
 use Rattle.wedge_core.proofs.WholeRuns.{whole_unput, whole_front}
 use Rattle.trace_check.specs.Kept.{Kept, AreKept}
 use Rattle.trace_check.specs.Proved.{NotedAnswers}
-use Rattle.trace_check.proofs.NotedRuns.{noted_put}
+use Rattle.trace_check.proofs.NotedRuns.{around_of, noted_put}
 use Rattle.trace_check.proofs.proving.whole.Goals as goal
 
 abbrev notes_of : Kept → Kept → List Note → Type 0
@@ -41,7 +43,7 @@ returns-in-Err g c =
     let notes_on = notes_of c.args.notes.now c.slice.new.notes in
     let begins = BeginsEmpty (entries_of (roots.slots r.shadows memory)) (length (free_list c.args.pool.now memory)) r.held true in
     let h = subst (λ (n : ℕ). SliceAs m n old new before after (g.O.Sink.taken c.args.out.now) (g.O.Sink.taken c.slice.new.out) (pages_kept roots.slots roots.asides r.shadows memory) r.fills c.slice.new.self.running.fills true notes_on begins (Err c.in-Err.field-0)) is c.in-Err.ensures.slice in
-    record { whole = whole_front c.args.image.now c.args.script.now.list r.frames c.args.n 0 old new before after _ _ (pages_kept roots.slots roots.asides r.shadows memory) r.fills c.slice.new.self.running.fills true notes_on begins c.in-Err.field-0 _ _ (g.H.Host.bytes c.slice.new.host) c.requires.fits c.requires.first h c.in-Err.ensures.cause }
+    record { whole = whole_front c.args.image.now c.args.script.now.list r.frames c.args.n 0 old new before after _ _ (pages_kept roots.slots roots.asides r.shadows memory) r.fills c.slice.new.self.running.fills true notes_on begins c.in-Err.field-0 _ _ (g.H.Host.bytes c.slice.new.host) c.requires.fits c.requires.first h c.in-Err.ensures.faults.cause }
 
 pub returns-in-Err-put_end : goal.returns-in-Err-put_end
 returns-in-Err-put_end g c =
@@ -61,7 +63,7 @@ returns-in-Err-put_end g c =
     let h = subst (λ (n : ℕ). SliceAs m n old new before after (g.O.Sink.taken c.args.out.now) (g.O.Sink.taken c.slice.new.out) (pages_kept roots.slots roots.asides r.shadows memory) r.fills c.slice.new.self.running.fills true notes_on begins (Ok pause)) is c.in-Ok.ensures.slice in
     let put = subst (λ (k : ℕ). AppendsFront (g.O.Sink.taken c.slice.new.out) (g.O.Sink.taken c.put_end.new.out) (end_line k (end_of pause))) c.step.ensures
     (subst (λ (x : End). AppendsFront (g.O.Sink.taken c.slice.new.out) (g.O.Sink.taken c.put_end.new.out) (end_line c.step.result x)) c.end_of.ensures c.in-Err-put_end.ensures.failed) in
-    record { whole = whole_unput c.kept_on.ensures.before c.args.image.now c.args.script.now.list r.frames c.args.n 0 old new before after _ _ _ (pages_kept roots.slots roots.asides r.shadows memory) r.fills c.slice.new.self.running.fills true notes_on begins pause _ (g.O.Sink.faults c.slice.new.out) _ memory2 c.requires.fits c.requires.first c.in-Ok.ensures.memory h put c.in-Ok.ensures.later c.in-Err-put_end.ensures.cause }
+    record { whole = whole_unput c.kept_on.ensures.before c.args.image.now c.args.script.now.list r.frames c.args.n 0 old new before after _ _ _ (pages_kept roots.slots roots.asides r.shadows memory) r.fills c.slice.new.self.running.fills true notes_on begins pause _ (g.O.Sink.faults c.slice.new.out) _ memory2 c.requires.fits c.requires.first c.in-Ok.ensures.own.memory h put c.in-Ok.ensures.faults.later c.in-Err-put_end.ensures.cause }
 
 pub returns-in-Ok-put_end : goal.returns-in-Ok-put_end
 returns-in-Ok-put_end g c =
@@ -84,9 +86,10 @@ returns-in-Ok-put_end g c =
     let put = subst (λ (k : ℕ). Appends (g.O.Sink.taken c.slice.new.out) (g.O.Sink.taken c.put_end.new.out) (end_line k (end_of pause))) c.step.ensures
     (subst (λ (x : End). Appends (g.O.Sink.taken c.slice.new.out) (g.O.Sink.taken c.put_end.new.out) (end_line c.step.result x)) c.end_of.ensures c.in-Ok-put_end.ensures.ok) in
     let done = noted_put image script r.frames c.args.n old new before after _ _ _ (pages_kept roots.slots roots.asides r.shadows memory) r.fills c.slice.new.self.running.fills c.args.notes.now c.slice.new.notes begins pause _ (g.O.Sink.faults c.slice.new.out) _ memory2
-    c.notes_are_judged.ensures.judged c.notes_are_judged.ensures.form c.requires.bound c.requires.untold c.requires.fits c.requires.first c.requires.none c.requires.unfilled c.in-Ok.ensures.few c.in-Ok.ensures.memory h put c.in-Ok.ensures.later c.in-Ok-put_end.ensures.later in
+    c.notes_are_judged.ensures.judged c.notes_are_judged.ensures.form c.requires.bound c.requires.untold c.requires.fits c.requires.first c.requires.none c.requires.unfilled c.in-Ok.ensures.leaves.few c.in-Ok.ensures.own.memory h put c.in-Ok.ensures.faults.later c.in-Ok-put_end.ensures.later in
+    let here = around_of (g.O.Sink.taken c.args.out.now) (g.O.Sink.taken c.put_end.new.out) (g.O.Sink.faults c.args.out.now) (g.O.Sink.faults c.put_end.new.out) before after in
     record {
-      whole = subst (λ (k : ℕ). NotedAnswers image script r.frames c.args.n c.slice.new.notes (g.O.Sink.taken c.args.out.now) (g.O.Sink.taken c.put_end.new.out) (g.O.Sink.faults c.args.out.now) (g.O.Sink.faults c.put_end.new.out) before after memory2 (Ok (record { steps = k; end = c.end_of.result; fills = c.fills.result }))) (sym c.step.ensures)
-          (subst (λ (x : End). NotedAnswers image script r.frames c.args.n c.slice.new.notes (g.O.Sink.taken c.args.out.now) (g.O.Sink.taken c.put_end.new.out) (g.O.Sink.faults c.args.out.now) (g.O.Sink.faults c.put_end.new.out) before after memory2 (Ok (record { steps = c.slice.new.self.running.step; end = x; fills = c.fills.result }))) (sym c.end_of.ensures)
-          (subst (λ (k : ℕ). NotedAnswers image script r.frames c.args.n c.slice.new.notes (g.O.Sink.taken c.args.out.now) (g.O.Sink.taken c.put_end.new.out) (g.O.Sink.faults c.args.out.now) (g.O.Sink.faults c.put_end.new.out) before after memory2 (Ok (record { steps = c.slice.new.self.running.step; end = end_of pause; fills = k }))) (sym c.fills.ensures) done));
+      whole = subst (λ (k : ℕ). NotedAnswers image script r.frames c.args.n c.slice.new.notes here memory2 (Ok (record { steps = k; end = c.end_of.result; fills = c.fills.result }))) (sym c.step.ensures)
+          (subst (λ (x : End). NotedAnswers image script r.frames c.args.n c.slice.new.notes here memory2 (Ok (record { steps = c.slice.new.self.running.step; end = x; fills = c.fills.result }))) (sym c.end_of.ensures)
+          (subst (λ (k : ℕ). NotedAnswers image script r.frames c.args.n c.slice.new.notes here memory2 (Ok (record { steps = c.slice.new.self.running.step; end = end_of pause; fills = k }))) (sym c.fills.ensures) done));
     }

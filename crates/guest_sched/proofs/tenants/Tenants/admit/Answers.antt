@@ -1,23 +1,30 @@
-use Rattle.std.proofs.Common.{ℕ, ◌≤◌, length, sym, subst, ◌∙◌, arith}
-use Rattle.frame_pool.specs.Pool.{free_list, Stands}
+use Rattle.std.proofs.Common.{ℕ, ap, sym, subst, ◌∙◌, arith}
 use Rattle.frame_pool.specs.declared.Pool.{Pool}
-use Rattle.guest_sched.specs.Admitting.{HasBegun}
+use Rattle.image_load.specs.declared.boot.Boot.{Boot}
+use Rattle.guest_sched.specs.Admitting.{HasBegun, MayBegin}
 use Rattle.guest_sched.proofs.Admitted.{parked_stands, parked_free, taken_in}
 use Rattle.guest_sched.proofs.tenants.Tenants.admit.Goals as goal
 
-pub begin-requires-clause-stands : goal.begin-requires-clause-stands
-begin-requires-clause-stands g c =
+pub begin-requires-clause-may : goal.begin-requires-clause-may
+begin-requires-clause-may g c =
     let old = c.args.self.now in
     let s = c.requires.so_far in
-    subst (λ (p : Pool). Stands p (g.H.Host.bytes c.park.new.host)) (sym c.park.ensures.rest.0)
-    (parked_stands s.0 old.frames old.present old.list.items c.park.new.self.list.items old.pool (g.H.Host.bytes c.args.host.now) (g.H.Host.bytes c.park.new.host) s.1 c.park.ensures.parked)
-
-pub begin-requires-clause-free : goal.begin-requires-clause-free
-begin-requires-clause-free g c =
-    let old = c.args.self.now in
-    let s = c.requires.so_far in
-    subst (λ (p : Pool). 2 ≤ length (free_list p (g.H.Host.bytes c.park.new.host))) (sym c.park.ensures.rest.0)
-    (parked_free s.0 old.frames old.present old.list.items c.park.new.self.list.items old.pool (g.H.Host.bytes c.args.host.now) (g.H.Host.bytes c.park.new.host) s.1 c.park.ensures.parked c.requires.few)
+    let same = c.park.ensures.rest in
+    let there = g.H.Host.bytes c.park.new.host in
+    let room = c.in_ok-ram.ensures.len in
+    let loaded = c.in-Ok.ensures.len in
+    let of_old : MayBegin c.args.kernel.now old.frames c.in-Ok.boot.cpu c.load.new.ram old.pool there = record {
+      fits = c.in-Ok.ensures.ok.0;
+      cpu_is = ap (λ (b : Boot). b.cpu) c.in-Ok.ensures.ok.1;
+      front = c.in-Ok.ensures.front;
+      len = omega (arith, room, loaded);
+      size = c.park.ensures.parked.size ∙ s.1.size;
+      pool_is = s.1.pool_is;
+      stands = parked_stands s.0 old.frames old.present old.list.items c.park.new.self.list.items old.pool (g.H.Host.bytes c.args.host.now) there s.1 c.park.ensures.parked;
+      free = parked_free s.0 old.frames old.present old.list.items c.park.new.self.list.items old.pool (g.H.Host.bytes c.args.host.now) there s.1 c.park.ensures.parked c.requires.few;
+    } in
+    subst (λ (n : ℕ). MayBegin c.args.kernel.now n c.in-Ok.boot.cpu c.load.new.ram c.park.new.self.pool there) (sym same.1)
+    (subst (λ (p : Pool). MayBegin c.args.kernel.now old.frames c.in-Ok.boot.cpu c.load.new.ram p there) (sym same.0) of_old)
 
 pub returns-clause-admitted : goal.returns-clause-admitted
 returns-clause-admitted g c =

@@ -15,9 +15,9 @@ pub overflow_add-enough : goal.overflow_add-enough
 overflow_add-enough g c =
     let l = c.loop-kernel in
     let i = l.invariant in
-    let a = i.apart c.requires.apart.0 c.requires.apart.1 c.requires.apart.2 in
-    let n = i.made.len in let there = c.requires.present in let same = i.present in let len = c.requires.apart.1 in
-    let at = is_at l.self.frames l.self.pool (g.H.Host.bytes l.host) l.self.present 0 l.self.present c.requires.apart.0 l.self.list.items c.index.result.now (omega (arith, n, there, same)) (len ∙ sym n) a.seated in
+    let a = i.apart c.requires.may.apart.0 c.requires.may.apart.1 c.requires.may.apart.2 in
+    let n = i.made.len in let there = c.requires.may.there in let same = i.present in let len = c.requires.may.apart.1 in
+    let at = is_at l.self.frames l.self.pool (g.H.Host.bytes l.host) l.self.present 0 l.self.present c.requires.may.apart.0 l.self.list.items c.index.result.now (omega (arith, n, there, same)) (len ∙ sym n) a.seated in
     let held = at.held in let all = a.all in let few = a.few in
     let x = c.free.ensures.count (g.H.Host.bytes l.host) in
     let y = c.held.ensures in
@@ -28,19 +28,19 @@ pub release-requires-clause-stands : goal.release-requires-clause-stands
 release-requires-clause-stands g c d =
     let l = c.loop-kernel in
     let i = l.invariant in
-    let a = i.apart c.requires.apart.0 c.requires.apart.1 c.requires.apart.2 in
+    let a = i.apart c.requires.may.apart.0 c.requires.may.apart.1 c.requires.may.apart.2 in
     let n = i.made.len in let lt = c.loop-kernel-test.true in let e = c.len-kernel-end.ensures in
     (over_host l.self.frames l.self.pool (g.H.Host.bytes l.host) _ _ a.behind
-    (is_at l.self.frames l.self.pool (g.H.Host.bytes l.host) l.self.present 0 l.kernel c.requires.apart.0 l.self.list.items d (omega (arith, n, lt, e)) (c.requires.apart.1 ∙ sym n) a.seated)).0
+    (is_at l.self.frames l.self.pool (g.H.Host.bytes l.host) l.self.present 0 l.kernel c.requires.may.apart.0 l.self.list.items d (omega (arith, n, lt, e)) (c.requires.may.apart.1 ∙ sym n) a.seated)).0
 
 pub release-requires-clause-owns : goal.release-requires-clause-owns
 release-requires-clause-owns g c d =
     let l = c.loop-kernel in
     let i = l.invariant in
-    let a = i.apart c.requires.apart.0 c.requires.apart.1 c.requires.apart.2 in
+    let a = i.apart c.requires.may.apart.0 c.requires.may.apart.1 c.requires.may.apart.2 in
     let n = i.made.len in let lt = c.loop-kernel-test.true in let e = c.len-kernel-end.ensures in
     (over_host l.self.frames l.self.pool (g.H.Host.bytes l.host) _ _ a.behind
-    (is_at l.self.frames l.self.pool (g.H.Host.bytes l.host) l.self.present 0 l.kernel c.requires.apart.0 l.self.list.items d (omega (arith, n, lt, e)) (c.requires.apart.1 ∙ sym n) a.seated)).1
+    (is_at l.self.frames l.self.pool (g.H.Host.bytes l.host) l.self.present 0 l.kernel c.requires.may.apart.0 l.self.list.items d (omega (arith, n, lt, e)) (c.requires.may.apart.1 ∙ sym n) a.seated)).1
 
 pub loop-kernel-init : goal.loop-kernel-init
 loop-kernel-init g c = record {
@@ -49,8 +49,8 @@ loop-kernel-init g c = record {
   passed = refl;
   frames = refl;
   present = refl;
-  theirs = c.requires.theirs;
-  count = c.requires.pool.1;
+  theirs = c.requires.may.theirs;
+  count = c.requires.may.pool.1;
   apart = λ ks len h. h;
   stay = λ ks len h. stays_none c.args.self.now.frames (seats_from c.args.self.now.frames (g.H.Host.bytes c.args.host.now) c.args.self.now.present 0 ks c.args.self.now.list.items);
   size = refl;
@@ -142,10 +142,10 @@ pub returns-clause-enough : goal.returns-clause-enough
 returns-clause-enough g c d =
     let l = c.loop-kernel in
     let i = l.invariant in
-    let a = i.apart c.requires.apart.0 c.requires.apart.1 c.requires.apart.2 in
+    let a = i.apart c.requires.may.apart.0 c.requires.may.apart.1 c.requires.may.apart.2 in
     let n = i.made.len in let stop = c.loop-kernel-test.false in let e = c.len-kernel-end.ensures in let same = i.present in
-    let four = c.requires.pool.0 in let count = i.count in let all = a.all in
-    let b = held_bound l.self.frames l.self.pool (g.H.Host.bytes l.host) l.self.present 0 c.requires.apart.0 l.self.list.items d (get_or l.self.list.items l.self.present d).guest.running.held (c.requires.apart.1 ∙ sym n) a.seated
+    let four = c.requires.may.pool.0 in let count = i.count in let all = a.all in
+    let b = held_bound l.self.frames l.self.pool (g.H.Host.bytes l.host) l.self.present 0 c.requires.may.apart.0 l.self.list.items d (get_or l.self.list.items l.self.present d).guest.running.held (c.requires.may.apart.1 ∙ sym n) a.seated
     (λ j m is lt ne. i.done j d (omega (arith, n, stop, e, lt)) (λ x. ne (omega (arith, is, x, same))))
     (λ j m is lt eq. (let z = ap (λ k. (get_or l.self.list.items k d).guest.running.held) (let t : j ≡ l.self.present = omega (arith, is, eq) in t) in omega (arith, z))) in
     let most = b.0 in

@@ -18,9 +18,8 @@ returns-clause-apart g c kernels len apart =
     let host' = g.H.Host.bytes c.release.new.host in
     let d = c.index_mut-tenant.result.now in
     let r = c.release.ensures in
-    let gone : HasReleased old.pool c.release.new.pool host host' d c.release.new.self = record { dropped = r.dropped; running = r.running; ram = r.ram; stop = r.stop } in
     gone_apart old.frames old.pool c.release.new.pool host host' old.present c.args.kernel kernels old.list.items d c.release.new.self c.requires.known len c.requires.theirs (c.requires.owns d)
-    (subst (λ (t : Tenant). HasReleased old.pool c.release.new.pool host host' t c.release.new.self) c.index_mut-tenant.ensures.value gone) apart
+    (subst (λ (t : Tenant). HasReleased old.pool c.release.new.pool host host' t c.release.new.self) c.index_mut-tenant.ensures.value r.released) apart
 
 pub returns-clause-stay : goal.returns-clause-stay
 returns-clause-stay g c kernels len apart =
@@ -29,6 +28,5 @@ returns-clause-stay g c kernels len apart =
     let host' = g.H.Host.bytes c.release.new.host in
     let d = c.index_mut-tenant.result.now in
     let r = c.release.ensures in
-    let gone : HasReleased old.pool c.release.new.pool host host' d c.release.new.self = record { dropped = r.dropped; running = r.running; ram = r.ram; stop = r.stop } in
     gone_stays old.frames old.pool c.release.new.pool host host' old.present c.args.kernel kernels old.list.items d c.release.new.self c.requires.known len c.requires.theirs (c.requires.owns d)
-    (subst (λ (t : Tenant). HasReleased old.pool c.release.new.pool host host' t c.release.new.self) c.index_mut-tenant.ensures.value gone) apart
+    (subst (λ (t : Tenant). HasReleased old.pool c.release.new.pool host host' t c.release.new.self) c.index_mut-tenant.ensures.value r.released) apart
