@@ -13,8 +13,8 @@ use Rattle.asm_source.specs.declared.tree.SourceItem.{SourceItem}
 use Rattle.asm_source.specs.declared.tree.Argument.{Argument}
 use Rattle.asm_source.specs.Readable.{names_in}
 use Rattle.asm_source.specs.Names.{symbol_in, name_number}
-use Rattle.elf_form.specs.declared.object.DefinedIn.{DefinedIn}
-use Rattle.elf_form.specs.declared.object.DefinedIn.TheVariants as place
+use Rattle.elf_form.specs.declared.object.Place.{Place}
+use Rattle.elf_form.specs.declared.object.Place.TheVariants as place
 use Rattle.elf_form.specs.declared.object.Symbol.{Symbol}
 use Rattle.elf_form.specs.declared.object.Reloc.{Reloc}
 use Rattle.elf_form.specs.ObjectParts.{ObjectParts}
@@ -47,9 +47,8 @@ use Rattle.built_images.specs.Filled.{IsField, HaveFields, reloc_later, chunks_r
 use Rattle.built_images.specs.Padded.{IsEdge, IsLinked, IsLinkedBranch, AreAlone, IsPadded}
 use Rattle.built_images.specs.Sources.{IsBurnt, NamesNoNumber, NameNoNumbers}
 use Rattle.built_images.proofs.Joining.{nop_chunks}
-use Rattle.built_images.proofs.LinkedImages.{sites_listed}
+use Rattle.built_images.proofs.LinkedImages.{sites_listed, whole_edge}
 use Rattle.built_images.proofs.BurntTexts.{AreRead, IsLabel, IsMade, Made, IsSameText, same_made, nops_made, instruction_made, if_ok, or_ok, ok_state, ok_same}
-use Rattle.built_images.proofs.LinkedImages.{whole_edge}
 
 module _ (Plain : Type 0) where
   -- ---- names
@@ -59,7 +58,7 @@ module _ (Plain : Type 0) where
   label_of cs (d ∷ ds) zero h = All-head (IsLabel cs) d ds h
   label_of cs (d ∷ ds) (suc k) h = label_of cs ds k (All-tail (IsLabel cs) d ds h)
 
-  defined_labels : (cs : List Chunk) (names : List (List ℕ)) (ds : List Definition) (name : List ℕ) (p : DefinedIn) (value : ℕ) → (p ≡ place.Text → IsEdge cs value) → All (IsLabel cs) ds → All (IsLabel cs) (defined_at names ds name p value)
+  defined_labels : (cs : List Chunk) (names : List (List ℕ)) (ds : List Definition) (name : List ℕ) (p : Place) (value : ℕ) → (p ≡ place.Text → IsEdge cs value) → All (IsLabel cs) ds → All (IsLabel cs) (defined_at names ds name p value)
   defined_labels cs names ds name p value edge h = All-set (IsLabel cs) ds (name_number names name) (record (definition_of ds (name_number names name)) { place = p; value = value }) edge h
 
   bound_labels : (cs : List Chunk) (ds : List Definition) (k : ℕ) (b : Binding) → All (IsLabel cs) ds → All (IsLabel cs) (with_binding ds k b)
@@ -392,7 +391,7 @@ text_relocs ds xs ys h k =
 abbrev AtEdge : List Chunk → Symbol → Type 0
 AtEdge cs s = s.place ≡ place.Text → IsEdge cs s.value
 
-text_value : (p : DefinedIn) (v : ℕ) → p ≡ place.Text → value_at p v ≡ v
+text_value : (p : Place) (v : ℕ) → p ≡ place.Text → value_at p v ≡ v
 text_value place.Undefined v e = absurd cc
 text_value place.Text v e = refl
 text_value place.Init v e = refl

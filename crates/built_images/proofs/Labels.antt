@@ -4,8 +4,8 @@ use Rattle.std.specs.Prelude.{slice_get, filter}
 use Rattle.std.specs.List.{flat_map, enumerate_from, All, Contains}
 use Rattle.std.specs.Str.{bytes_eq}
 use Rattle.std.proofs.lemmas.List.Elements.{All-nil, All-head, All-tail, All-append, All-map, All-filter, All-contains_itself, All-weaker}
-use Rattle.elf_form.specs.declared.object.DefinedIn.{DefinedIn}
-use Rattle.elf_form.specs.declared.object.DefinedIn.TheVariants.{Undefined, Text, Init, Bss}
+use Rattle.elf_form.specs.declared.object.Place.{Place}
+use Rattle.elf_form.specs.declared.object.Place.TheVariants.{Undefined, Text, Init, Bss}
 use Rattle.elf_form.specs.declared.object.Symbol.{Symbol}
 use Rattle.elf_form.specs.declared.object.Reloc.{Reloc}
 use Rattle.elf_form.specs.ObjectParts.{ObjectParts}
@@ -94,7 +94,7 @@ base_text : (os : List ObjectParts) (k : ℕ) → (base os k).text ≡ 0x1000000
 unfolding base
 base_text os k = refl
 
-text_place_is : (p : DefinedIn) → is_text p ≡ true → p ≡ Text
+text_place_is : (p : Place) → is_text p ≡ true → p ≡ Text
 text_place_is Undefined e = absurd cc
 text_place_is Text e = refl
 text_place_is Init e = absurd cc

@@ -2,7 +2,7 @@
 use Rattle.ia32_types.specs.Shape.{is_direct_branch}
 use Rattle.std.specs.Prelude.{◌≡◌, ◌⊎◌, ℕ, ◌+◌, ◌-◌, ◌≤◌, true, List, [], ◌∷◌, ◌++◌, length, Ok, Err}
 use Rattle.std.specs.List.{Contains}
-use Rattle.sites.specs.declared.limits.TheConstants.{TEXT_LIMIT}
+use Rattle.sites.specs.declared.limits.TheConstants.{TEXT_LIMIT, INIT_LIMIT}
 use Rattle.elf_form.specs.ImageParts.{ImageParts}
 use Rattle.sites.specs.Formats.{listed}
 use Rattle.image_check.specs.declared.fault.CheckCause.TheVariants.{Target}
@@ -25,7 +25,7 @@ pub record IsBuilt (parts : ImageParts) (cs : List Chunk) : Type 0 where
   pub text_at : parts.text_at ≡ 0x10000000
   pub init_at : parts.init_at ≡ 0x11000000
   pub size : length parts.text ≤ TEXT_LIMIT
-  pub room : length parts.init + parts.bss ≤ 33554432
+  pub room : length parts.init + parts.bss ≤ INIT_LIMIT
   pub entry_in : 0x10000000 ≤ parts.entry
   pub entry : Begins cs (parts.entry - 0x10000000)
 

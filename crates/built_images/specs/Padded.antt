@@ -3,7 +3,7 @@ use Rattle.ia32_types.specs.Shape.{is_direct_branch}
 use Rattle.std.specs.Prelude.{◌≡◌, ℕ, ◌+◌, ◌<◌, true, List, [], ◌∷◌, ◌++◌, length, filter, All, Ok}
 use Rattle.std.specs.List.{AllByRecursion, Contains}
 use Rattle.ia32_rows.specs.Fields.{imm_len}
-use Rattle.elf_form.specs.declared.object.DefinedIn.TheVariants.{Text}
+use Rattle.elf_form.specs.declared.object.Place.TheVariants.{Text}
 use Rattle.elf_form.specs.declared.object.Symbol.{Symbol}
 use Rattle.elf_form.specs.declared.object.Reloc.{Reloc}
 use Rattle.elf_form.specs.ObjectParts.{ObjectParts}

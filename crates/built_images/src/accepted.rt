@@ -13,6 +13,9 @@ ghost use Rattle.built_images.specs.Sources.{AreBurnt, AreBurntAlone, IsAccepted
 /// is refused for the target of a branch. Where no direct branch of the sources names a symbol plus or minus a number, it
 /// is accepted.
 pub fn burnt_and_linked()
-    ensures accepted_or_target { (os : List ObjectParts) (parts : ImageParts) → AreBurnt os → linked_image os ≡ Ok parts → length (image_bytes parts) ≤ 33554432 → IsAcceptedOrForTarget (image_bytes parts) }
-    ensures accepted { (os : List ObjectParts) (parts : ImageParts) → AreBurntAlone os → linked_image os ≡ Ok parts → length (image_bytes parts) ≤ 33554432 → (image : Image) × Accepts (image_bytes parts) image }
+    ensures accepted_or_target { (os : List ObjectParts) (parts : ImageParts) → AreBurnt os
+        → linked_image os ≡ Ok parts → length (image_bytes parts) ≤ 33554432
+        → IsAcceptedOrForTarget (image_bytes parts) }
+    ensures accepted { (os : List ObjectParts) (parts : ImageParts) → AreBurntAlone os → linked_image os ≡ Ok parts
+        → length (image_bytes parts) ≤ 33554432 → (image : Image) × Accepts (image_bytes parts) image }
 {}

@@ -10,5 +10,6 @@ ghost use Rattle.built_images.specs.Built.{IsBuilt, LeadsRight, IsAcceptedButFor
 /// accepted where each branch leads to where one of them begins.
 pub fn acceptance()
     ensures accepted_or_target { (parts : ImageParts) (cs : List Chunk) → IsBuilt parts cs → IsAcceptedButForTargets parts cs }
-    ensures accepted { (parts : ImageParts) (cs : List Chunk) → IsBuilt parts cs → LeadsRight cs → image_from parts ≡ Ok (image_with parts (chunk_sites 0 cs)) }
+    ensures accepted { (parts : ImageParts) (cs : List Chunk) → IsBuilt parts cs → LeadsRight cs
+        → image_from parts ≡ Ok (image_with parts (chunk_sites 0 cs)) }
 {}

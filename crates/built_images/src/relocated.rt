@@ -16,10 +16,19 @@ ghost use Rattle.built_images.specs.Fields.{disp_place, imm_place, with_disp, wi
 /// A spelling whose displacement or immediate of four bytes gets another number spells, by the same row and in as many
 /// bytes, the instruction with that number; and the four bytes that stand there are the number that it has.
 pub fn fields()
-    ensures disp { (row : Row) (p : Parts) (bytes : List ℕ) (insn : Insn) → Contains rows row → SpellsBy row p bytes insn → p.disp_len ≡ 4 → (n : ℕ) → n < 2 ^ 32 → SpellsBy row (with_disp n p) (with_word32 bytes (disp_place row bytes) n) (insn_disp n insn) }
-    ensures imm { (row : Row) (p : Parts) (bytes : List ℕ) (insn : Insn) → Contains rows row → SpellsBy row p bytes insn → imm_len row.form.immediate ≡ 4 → (n : ℕ) → n < 2 ^ 32 → SpellsBy row (with_imm n p) (with_word32 bytes (imm_place row bytes) n) (insn_imm n insn) }
-    ensures disp_is { (row : Row) (p : Parts) (bytes : List ℕ) (insn : Insn) → Contains rows row → SpellsBy row p bytes insn → p.disp_len ≡ 4 → (disp_place row bytes + 4 ≤ length bytes) × (word32 bytes (disp_place row bytes) ≡ offset_of p.rm) }
-    ensures imm_is { (row : Row) (p : Parts) (bytes : List ℕ) (insn : Insn) → Contains rows row → SpellsBy row p bytes insn → imm_len row.form.immediate ≡ 4 → (imm_place row bytes + 4 ≤ length bytes) × (word32 bytes (imm_place row bytes) ≡ p.imm) }
+    ensures disp { (row : Row) (p : Parts) (bytes : List ℕ) (insn : Insn) → Contains rows row
+        → SpellsBy row p bytes insn → p.disp_len ≡ 4 → (n : ℕ) → n < 2 ^ 32
+        → SpellsBy row (with_disp n p) (with_word32 bytes (disp_place row bytes) n) (insn_disp n insn) }
+    ensures imm { (row : Row) (p : Parts) (bytes : List ℕ) (insn : Insn) → Contains rows row
+        → SpellsBy row p bytes insn → imm_len row.form.immediate ≡ 4 → (n : ℕ) → n < 2 ^ 32
+        → SpellsBy row (with_imm n p) (with_word32 bytes (imm_place row bytes) n) (insn_imm n insn) }
+    ensures disp_is { (row : Row) (p : Parts) (bytes : List ℕ) (insn : Insn) → Contains rows row
+        → SpellsBy row p bytes insn → p.disp_len ≡ 4 → (disp_place row bytes + 4 ≤ length bytes)
+        × (word32 bytes (disp_place row bytes) ≡ offset_of p.rm) }
+    ensures imm_is { (row : Row) (p : Parts) (bytes : List ℕ) (insn : Insn) → Contains rows row
+        → SpellsBy row p bytes insn → imm_len row.form.immediate ≡ 4 → (imm_place row bytes + 4 ≤ length bytes)
+        × (word32 bytes (imm_place row bytes) ≡ p.imm) }
     ensures length { (bytes : List ℕ) (at n : ℕ) → at + 4 ≤ length bytes → length (with_word32 bytes at n) ≡ length bytes }
-    ensures same_site { (insn : Insn) (n : ℕ) → (sensitive_kind (insn_disp n insn) ≡ sensitive_kind insn) × (sensitive_kind (insn_imm n insn) ≡ sensitive_kind insn) }
+    ensures same_site { (insn : Insn) (n : ℕ) → (sensitive_kind (insn_disp n insn) ≡ sensitive_kind insn)
+        × (sensitive_kind (insn_imm n insn) ≡ sensitive_kind insn) }
 {}

@@ -22,6 +22,7 @@ use Rattle.elf_form.specs.Order.{IsLowest}
 use Rattle.elf_form.specs.Reasons.{IsOf, in_pages, IsTooMuch, IsSymbolTable, IsRelocs, IsBadEntrySize, IsBadObjectSize, loaded, IsBadImageSize}
 use Rattle.elf_form.proofs.Lowest.{has_first, has_later, Finds, finds_as, finds_at, finds_lower, finds_else, finds_bad, finds_field, finds_if, finds_some, finds_first_entry, entry_from}
 use Rattle.elf_form.proofs.BadSections.{role_is, is_role}
+use Rattle.elf_form.proofs.TableLaws.{both_ways}
 
 -- ---- sizes that come to too much together
 
@@ -58,9 +59,6 @@ module _ (r : Role) (bytes : List ℕ) where
   not_nil : (xs ys : List ℕ) (x : ℕ) → [] ≡ xs ++ x ∷ ys → ⊥
   not_nil [] ys x e = absurd cc
   not_nil (y ∷ xs) ys x e = absurd cc
-
-  both_ways : {t : Bool} → t ≡ true → t ≡ false → ⊥
-  both_ways e f = absurd cc
 
   -- of what is left, behind a section that fits or has another role
   step_to : (at : ℕ) (rest : List ℕ) (total more k : ℕ) → ((b : List ℕ) → sum_of (at ∷ b) + total ≡ more + sum_of b) → Over r bytes more rest k → Over r bytes total (at ∷ rest) k

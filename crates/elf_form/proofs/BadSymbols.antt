@@ -25,6 +25,7 @@ use Rattle.elf_form.specs.Reasons.{IsOf, IsSymbolTable, IsRelocs, IsNameless, Is
 use Rattle.elf_form.proofs.Lowest.{some, has_first, has_later, first_or_later, has_none, Finds, finds_so, so_finds, finds_as, finds_at, finds_lower, finds_else, finds_bad, finds_not, finds_if, finds_some, finds_fold}
 use Rattle.elf_form.proofs.BadSections.{role_is, is_role, nameless_finds}
 use Rattle.elf_form.proofs.BadSizes.{then_of, finds_then, first_of_role, relocs_so, so_relocs}
+use Rattle.elf_form.proofs.TableLaws.{both_ways}
 
 -- ---- the symbol table
 
@@ -76,9 +77,6 @@ symbol_table bytes y there = by (find (has_role role.Symbols (names bytes) bytes
   by (Some s) e = (s, finds_so (find (has_role role.Symbols (names bytes) bytes) (sections bytes)) (IsOf role.Symbols bytes) s (first_of_role role.Symbols bytes) e)
 
 -- ---- names
-
-both_ways : {t : Bool} → t ≡ true → t ≡ false → ⊥
-both_ways e f = absurd cc
 
 module _ (bytes : List ℕ) where
   abbrev NoNames : ℕ → Type 0

@@ -156,7 +156,7 @@ whole bytes h =
       section_parts = part_none bytes 16 _ d.1;
     }
 
-and_false : (a b : Bool) → a ≡ true → (a && b) ≡ false → b ≡ false
+pub and_false : (a b : Bool) → a ≡ true → (a && b) ≡ false → b ≡ false
 and_false true b is h = h
 and_false false b is h = cc
 

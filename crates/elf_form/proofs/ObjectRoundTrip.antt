@@ -4,7 +4,7 @@ use Rattle.std.specs.Prelude.{◌||◌, filter}
 use Rattle.std.specs.Bool.{then_some}
 use Rattle.std.proofs.lemmas.Bool.{le-ltb, lt-ltb}
 use Rattle.guest_ram.specs.Bytes.{word32}
-use Rattle.elf_form.specs.declared.object.DefinedIn.TheVariants as place
+use Rattle.elf_form.specs.declared.object.Place.TheVariants as place
 use Rattle.elf_form.specs.declared.object.Symbol.{Symbol}
 use Rattle.elf_form.specs.declared.object.Reloc.{Reloc}
 use Rattle.elf_form.specs.declared.roles.Role.TheVariants as role

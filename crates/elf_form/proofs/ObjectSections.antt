@@ -7,8 +7,8 @@ use Rattle.std.proofs.lemmas.List.{append-nil}
 use Rattle.std.proofs.lemmas.List.Sums.{length-filter}
 use Rattle.elf_form.specs.declared.roles.Role.{Role}
 use Rattle.elf_form.specs.declared.roles.Role.TheVariants as role
-use Rattle.elf_form.specs.declared.object.DefinedIn.{DefinedIn}
-use Rattle.elf_form.specs.declared.object.DefinedIn.TheVariants as place
+use Rattle.elf_form.specs.declared.object.Place.{Place}
+use Rattle.elf_form.specs.declared.object.Place.TheVariants as place
 use Rattle.elf_form.specs.ObjectParts.{ObjectParts}
 use Rattle.elf_form.specs.Tables.{entries, found}
 use Rattle.elf_form.specs.Header.{headers, sections}
@@ -291,19 +291,19 @@ module _ (f : List ℕ) (o : ObjectParts) (is : IsFileOf f o) (has : HasRoles f 
   unfolding rows nothing
   bss-starts = starts-skip role.Bss f _ _ _ _ (is_role role.Bss role.Ignored f _ has.null) (starts-skip role.Bss f _ _ _ _ (is_role role.Bss role.Text f _ has.text) (starts-skip role.Bss f _ _ _ _ (is_role role.Bss role.Init f _ has.init) (starts-take role.Bss f _ 16 _ _ _ (is_role role.Bss role.Bss f _ has.bss) is.links.bss_alignment (starts-skip role.Bss f _ _ _ _ (is_role role.Bss role.Sites f _ has.sites) (starts-skip role.Bss f _ _ _ _ (is_role role.Bss role.Relocs f _ has.text_relocs) (starts-skip role.Bss f _ _ _ _ (is_role role.Bss role.Relocs f _ has.data_relocs) (starts-skip role.Bss f _ _ _ _ (is_role role.Bss role.Symbols f _ has.symbols) (starts-skip role.Bss f _ _ _ _ (is_role role.Bss role.Ignored f _ has.strings) (starts-skip role.Bss f _ _ _ _ (is_role role.Bss role.Ignored f _ has.names) (none-starts role.Bss _))))))))))
 
-  pub place-read : (p : DefinedIn) → place_by (role_at object_names f (place_number p)) ≡ p
+  pub place-read : (p : Place) → place_by (role_at object_names f (place_number p)) ≡ p
   place-read place.Undefined = rw role_at-none refl
   place-read place.Text = rw role_at-text refl
   place-read place.Init = rw role_at-init refl
   place-read place.Bss = rw role_at-bss refl
 
-  pub place-kept : (p : DefinedIn) → (eqb (place_number p) 0 || is_kept (role_at object_names f (place_number p))) ≡ true
+  pub place-kept : (p : Place) → (eqb (place_number p) 0 || is_kept (role_at object_names f (place_number p))) ≡ true
   place-kept place.Undefined = refl
   place-kept place.Text = rw role_at-text refl
   place-kept place.Init = rw role_at-init refl
   place-kept place.Bss = rw role_at-bss refl
 
-  pub start-none : (p : DefinedIn) → start_at object_names f (place_number p) ≡ 0
+  pub start-none : (p : Place) → start_at object_names f (place_number p) ≡ 0
   unfolding start_at nothing
   start-none place.Undefined = rw role_at-none refl
   start-none place.Text = rw role_at-text refl

@@ -27,11 +27,9 @@ use Rattle.elf_form.proofs.BadSymbols.{string_places_finds, symbol_form_finds, r
 use Rattle.elf_form.proofs.FirstCauses.{first_in_list, list_first}
 use Rattle.elf_form.proofs.Acceptance.{if_first, read_by_first}
 use Rattle.elf_form.proofs.ObjectAcceptance.{if_first as object_first, object_by_first}
+use Rattle.elf_form.proofs.TableLaws.{both_ways}
 
 -- ---- the program headers and the section of sites of an image
-
-not_all : {t : Bool} → t ≡ true → t ≡ false → ⊥
-not_all e f = absurd cc
 
 module _ (bytes : List ℕ) where
   abbrev NotTwo : ℕ → Type 0
@@ -45,7 +43,7 @@ module _ (bytes : List ℕ) where
       let both = and_parts (is_executable bytes a) (not (is_executable bytes b)) is in
       let two : AreTwo bytes = record { text = a; init = b; are = e; executable = eqb-true (word32 bytes (a + 24) % 2) 1 both.0; other = eqb-false (word32 bytes (b + 24) % 2) 1 (not-true (is_executable bytes b) both.1) } in
       λ k p. p.0 two
-  two_is a b e false is = (((λ t. not_all (test t (same_text a b t (sym e ∙ t.are)) (same_init a b t (sym e ∙ t.are))) is), refl), λ k p. omega (arith, p.1)) where
+  two_is a b e false is = (((λ t. both_ways (test t (same_text a b t (sym e ∙ t.are)) (same_init a b t (sym e ∙ t.are))) is), refl), λ k p. omega (arith, p.1)) where
     same_text : (a b : ℕ) (t : AreTwo bytes) → a ∷ b ∷ [] ≡ t.text ∷ t.init ∷ [] → t.text ≡ a
     same_text a b t h = cc
 

@@ -10,6 +10,7 @@ use Rattle.std.proofs.lemmas.Slice.Eq.{bytes_eq-Decides}
 use Rattle.std.specs.Str.{bytes_eq}
 use Rattle.elf_form.specs.Tables.{further}
 use Rattle.elf_form.specs.StringTable.{place_in, unless_placed, with_name, table_bytes, IsStringTable}
+use Rattle.elf_form.proofs.TableLaws.{both_ways}
 
 pub table_bytes-append : (names : List (List ℕ)) (name : List ℕ) → table_bytes (names ++ name ∷ []) ≡ table_bytes names ++ (name ++ 0 ∷ [])
 unfolding table_bytes
@@ -50,16 +51,13 @@ last_false : (b : ℕ) (o : Option ℕ) → o ≡ else_last o false b
 last_false b None = refl
 last_false b (Some at) = refl
 
-true-false : {b : Bool} → b ≡ true → b ≡ false → ⊥
-true-false t f = absurd cc
-
 pub place_in-new : (names : List (List ℕ)) (name q : List ℕ) (at : ℕ) → place_in names name ≡ None → at ≡ length (table_bytes names) → cond (bytes_eq name q) (Some at) (place_in names q) ≡ place_in (names ++ name ∷ []) q
 place_in-new names name q at none e = split (bytes_eq name q) (bytes_eq q name) refl refl ∙ sym (place_in-append names name q) where
   split : (b c : Bool) → bytes_eq name q ≡ b → bytes_eq q name ≡ c → cond b (Some at) (place_in names q) ≡ else_last (place_in names q) c (length (table_bytes names))
   split true true is back = last_true at _ (place_in names q) (subst (λ (x : List ℕ). place_in names x ≡ None) ((bytes_eq-Decides name q).0 is) none) e
   split false false is back = last_false _ (place_in names q)
-  split true false is back = absurd (true-false ((bytes_eq-Decides q name).1 (sym ((bytes_eq-Decides name q).0 is))) back)
-  split false true is back = absurd (true-false ((bytes_eq-Decides name q).1 (sym ((bytes_eq-Decides q name).0 back))) is)
+  split true false is back = absurd (both_ways ((bytes_eq-Decides q name).1 (sym ((bytes_eq-Decides name q).0 is))) back)
+  split false true is back = absurd (both_ways ((bytes_eq-Decides name q).1 (sym ((bytes_eq-Decides q name).0 back))) is)
 
 no_place : (o : Option ℕ) → is_some o ≡ false → o ≡ None
 no_place None e = refl

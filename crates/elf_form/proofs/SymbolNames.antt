@@ -5,7 +5,7 @@ use Rattle.std.specs.List.{flat_map}
 use Rattle.std.proofs.lemmas.List.{length-append, take_more, append-nil}
 use Rattle.std.proofs.lemmas.List.{get_or_default}
 use Rattle.std.proofs.lemmas.List.Sums.{fold_more, position_or_len_is}
-use Rattle.elf_form.specs.declared.object.DefinedIn.TheVariants.{Undefined}
+use Rattle.elf_form.specs.declared.object.Place.TheVariants.{Undefined}
 use Rattle.std.proofs.lemmas.List.Elements.{filter_more}
 use Rattle.std.proofs.lemmas.Grind.{flat_map-append}
 use Rattle.elf_form.specs.declared.object.Symbol.{Symbol}

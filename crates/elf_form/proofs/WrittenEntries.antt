@@ -4,8 +4,8 @@ use Rattle.std.specs.List.{flat_map, AllByRecursion}
 use Rattle.std.specs.Int.{w16, from_le_bytes}
 use Rattle.std.proofs.lemmas.List.{drop_at, drop-drop, get_or-append-add}
 use Rattle.guest_ram.specs.Bytes.{part, byte, word16, word32}
-use Rattle.elf_form.specs.declared.object.DefinedIn.{DefinedIn}
-use Rattle.elf_form.specs.declared.object.DefinedIn.TheVariants.{Undefined, Text, Init, Bss}
+use Rattle.elf_form.specs.declared.object.Place.{Place}
+use Rattle.elf_form.specs.declared.object.Place.TheVariants.{Undefined, Text, Init, Bss}
 use Rattle.elf_form.specs.declared.object.Symbol.{Symbol}
 use Rattle.elf_form.specs.declared.object.Reloc.{Reloc}
 use Rattle.elf_form.specs.Output.{halves, longs}
@@ -48,7 +48,7 @@ binding_there : (names : List (List ℕ)) (s : Symbol) (after : List ℕ) → by
 unfolding byte symbol_bytes
 binding_there names s after = refl
 
-number_there : (p : DefinedIn) (after : List ℕ) → word16 (halves (place_number p ∷ []) ++ after) 0 ≡ place_number p
+number_there : (p : Place) (after : List ℕ) → word16 (halves (place_number p ∷ []) ++ after) 0 ≡ place_number p
 unfolding word16 part
 number_there Undefined after = refl
 number_there Text after = refl

@@ -1,9 +1,10 @@
--- The header of a file (System V ABI, chapter 4, ELF Header), by offsets, and where its tables and their contents pass the end.
+-- The header of a file (System V ABI, chapter 4, ELF Header) and where its tables and their contents pass the end.
 use Rattle.std.specs.Prelude.{◌≡◌, ◌≤◌, ℕ, ◌+◌, ◌*◌, Bool, false, not, ◌&&◌, List, length, Option, Some, None, Result, nat_lt, ◌==◌}
 use Rattle.std.specs.Bool.{then_some}
 use Rattle.std.specs.List.{find}
 use Rattle.std.specs.Option.{option_or}
 use Rattle.guest_ram.specs.Bytes.{byte, word16, word32}
+use Rattle.elf_form.specs.declared.abi.TheConstants.{EI_CLASS, EI_DATA, EI_VERSION, ELFCLASS32, ELFDATA2LSB, ELFMAG, EM_386, EV_CURRENT, E_MACHINE, E_PHNUM, E_PHOFF, E_SHNUM, E_SHOFF, E_TYPE, E_VERSION, P_FILESZ, P_OFFSET, SHT_NOBITS, SHT_NULL, SH_OFFSET, SH_SIZE, SH_TYPE}
 use Rattle.elf_form.specs.declared.cause.ElfCause.{ElfCause}
 use Rattle.elf_form.specs.declared.cause.ElfCause.TheVariants.{Truncated, Magic, Class, Encoding, Version, FileType, Machine}
 use Rattle.elf_form.specs.Faults.{Fault, tested, header_causes, ◌or_lower◌}
@@ -11,16 +12,16 @@ use Rattle.elf_form.specs.Tables.{entries}
 
 -- where the tables begin, and their entries
 abbrev pub header_table : List ℕ → ℕ
-header_table bytes = word32 bytes 28
+header_table bytes = word32 bytes E_PHOFF
 
 abbrev pub section_table : List ℕ → ℕ
-section_table bytes = word32 bytes 32
+section_table bytes = word32 bytes E_SHOFF
 
 abbrev pub header_count : List ℕ → ℕ
-header_count bytes = word16 bytes 44
+header_count bytes = word16 bytes E_PHNUM
 
 abbrev pub section_count : List ℕ → ℕ
-section_count bytes = word16 bytes 48
+section_count bytes = word16 bytes E_SHNUM
 
 abbrev pub headers : List ℕ → List ℕ
 headers bytes = entries (header_table bytes) 32 (header_count bytes)
@@ -34,14 +35,14 @@ passes bytes at size = nat_lt (length bytes) (at + size)
 
 -- of a program header at h: whether what it names passes the end
 abbrev pub header_passes : List ℕ → ℕ → Bool
-header_passes bytes h = passes bytes (word32 bytes (h + 4)) (word32 bytes (h + 16))
+header_passes bytes h = passes bytes (word32 bytes (h + P_OFFSET)) (word32 bytes (h + P_FILESZ))
 
--- of a section at s: null ones (0) and those without bytes (8) have no contents
+-- of a section at s: null ones and those without bytes have no contents
 abbrev pub has_contents : List ℕ → ℕ → Bool
-has_contents bytes s = not (word32 bytes (s + 4) == 0) && not (word32 bytes (s + 4) == 8)
+has_contents bytes s = not (word32 bytes (s + SH_TYPE) == SHT_NULL) && not (word32 bytes (s + SH_TYPE) == SHT_NOBITS)
 
 abbrev pub section_passes : List ℕ → ℕ → Bool
-section_passes bytes s = has_contents bytes s && passes bytes (word32 bytes (s + 16)) (word32 bytes (s + 20))
+section_passes bytes s = has_contents bytes s && passes bytes (word32 bytes (s + SH_OFFSET)) (word32 bytes (s + SH_SIZE))
 
 -- where the part begins that an entry names
 abbrev pub part_begins : List ℕ → ℕ → Option ℕ → Option ℕ
@@ -58,10 +59,10 @@ abbrev pub section_table_cut : List ℕ → Option ℕ
 section_table_cut bytes = then_some (passes bytes (section_table bytes) (40 * section_count bytes)) (section_table bytes)
 
 abbrev pub header_part_cut : List ℕ → Option ℕ
-header_part_cut bytes = part_begins bytes 4 (find (header_passes bytes) (headers bytes))
+header_part_cut bytes = part_begins bytes P_OFFSET (find (header_passes bytes) (headers bytes))
 
 abbrev pub section_part_cut : List ℕ → Option ℕ
-section_part_cut bytes = part_begins bytes 16 (find (section_passes bytes) (sections bytes))
+section_part_cut bytes = part_begins bytes SH_OFFSET (find (section_passes bytes) (sections bytes))
 
 -- The first part that passes the end: the header, the tables, what the program headers name, the contents of sections.
 unfoldable pub cut : List ℕ → Option ℕ
@@ -88,24 +89,24 @@ IsSection bytes s = (s + 40 ≤ length bytes) × (section_passes bytes s ≡ fal
 
 -- The fields that have one value.
 abbrev pub magic : List ℕ → Option ℕ
-magic bytes = then_some (not (word32 bytes 0 == 0x464C457F)) 0
+magic bytes = then_some (not (word32 bytes 0 == ELFMAG)) 0
 
 abbrev pub class : List ℕ → Option ℕ
-class bytes = then_some (not (byte bytes 4 == 1)) 4
+class bytes = then_some (not (byte bytes EI_CLASS == ELFCLASS32)) EI_CLASS
 
 abbrev pub encoding : List ℕ → Option ℕ
-encoding bytes = then_some (not (byte bytes 5 == 1)) 5
+encoding bytes = then_some (not (byte bytes EI_DATA == ELFDATA2LSB)) EI_DATA
 
 abbrev pub version : List ℕ → Option ℕ
-version bytes = then_some (not (byte bytes 6 == 1)) 6 or_lower then_some (not (word32 bytes 20 == 1)) 20
+version bytes = then_some (not (byte bytes EI_VERSION == EV_CURRENT)) EI_VERSION or_lower then_some (not (word32 bytes E_VERSION == EV_CURRENT)) E_VERSION
 
 abbrev pub file_type : ℕ → List ℕ → Option ℕ
-file_type wanted bytes = then_some (not (word16 bytes 16 == wanted)) 16
+file_type wanted bytes = then_some (not (word16 bytes E_TYPE == wanted)) E_TYPE
 
 abbrev pub machine : List ℕ → Option ℕ
-machine bytes = then_some (not (word16 bytes 18 == 3)) 18
+machine bytes = then_some (not (word16 bytes E_MACHINE == EM_386)) E_MACHINE
 
--- Where a file of a type (1 an object, 2 an image) is wrong by a cause, if it is. What follows the header is told for the other causes.
+-- Where a file of a type (ET_REL an object, ET_EXEC an image) is wrong by a cause, if it is. What follows the header is told for the other causes.
 abbrev pub wrong_file : ℕ → (ElfCause → Option ℕ) → List ℕ → ElfCause → Option ℕ
 wrong_file wanted other bytes Truncated = cut bytes
 wrong_file wanted other bytes Magic = magic bytes

@@ -1,6 +1,9 @@
 -- The one layout of an image file (System V ABI, chapters 4 and 5). The order of the parts is the profile's.
 use Rattle.std.specs.Prelude.{ℕ, ◌+◌, ◌%◌, ◌<◌, ◌^◌, List, [], ◌∷◌, ◌++◌, length, replicate, codes}
-use Rattle.elf_form.specs.Output.{halves, longs, pad}
+use Rattle.elf_form.specs.Output.{identity, halves, longs, pad}
+use Rattle.elf_form.specs.declared.abi.TheConstants.{EM_386, ET_EXEC, EV_CURRENT, PF_R, PF_W, PF_X, PT_LOAD}
+use Rattle.elf_form.specs.declared.section_header.SectionHeader.{SectionHeader}
+use Rattle.elf_form.specs.SectionHeaders.{no_section, text_section, data_section, bss_section, sites_section, names_section, placed, numbers_of}
 use Rattle.elf_form.specs.ImageParts.{ImageParts}
 
 -- where the parts begin
@@ -22,26 +25,28 @@ section_names = 0 ∷ codes ".text" ++ 0 ∷ codes ".data" ++ 0 ∷ codes ".bss"
 
 unfoldable pub header : ImageParts → List ℕ
 header p =
-    (127 ∷ 69 ∷ 76 ∷ 70 ∷ 1 ∷ 1 ∷ 1 ∷ 0 ∷ 0 ∷ 0 ∷ 0 ∷ 0 ∷ 0 ∷ 0 ∷ 0 ∷ 0 ∷ [])
-    ++ (halves (2 ∷ 3 ∷ [])
-    ++ (longs (1 ∷ p.entry ∷ 52 ∷ sections_from p ∷ 0 ∷ [])
+    identity
+    ++ (halves (ET_EXEC ∷ EM_386 ∷ [])
+    ++ (longs (EV_CURRENT ∷ p.entry ∷ 52 ∷ sections_from p ∷ 0 ∷ [])
     ++ halves (52 ∷ 32 ∷ 2 ∷ 40 ∷ 6 ∷ 5 ∷ [])))
 
 -- type, offset, address (twice), bytes, memory, flags, alignment
 abbrev pub program_numbers : ImageParts → List ℕ
 program_numbers p =
-    1 ∷ 4096 ∷ p.text_at ∷ p.text_at ∷ length p.text ∷ length p.text ∷ 5 ∷ 4096
-    ∷ 1 ∷ init_from p ∷ p.init_at ∷ p.init_at ∷ length p.init ∷ (length p.init + p.bss) ∷ 6 ∷ 4096 ∷ []
+    PT_LOAD ∷ 4096 ∷ p.text_at ∷ p.text_at ∷ length p.text ∷ length p.text ∷ (PF_R + PF_X) ∷ 4096
+    ∷ PT_LOAD ∷ init_from p ∷ p.init_at ∷ p.init_at ∷ length p.init ∷ (length p.init + p.bss) ∷ (PF_R + PF_W) ∷ 4096 ∷ []
 
--- name, type, flags, address, offset, bytes, link, info, alignment, size of entries
+abbrev pub section_headers : ImageParts → List SectionHeader
+section_headers p =
+    no_section
+    ∷ placed text_section p.text_at 4096 (length p.text)
+    ∷ placed data_section p.init_at (init_from p) (length p.init)
+    ∷ placed (bss_section 1) ((p.init_at + length p.init) % 2 ^ 32) 0 p.bss
+    ∷ placed sites_section 0 (sites_from p) (length p.sites)
+    ∷ placed (names_section 28) 0 (names_from p) 38 ∷ []
+
 abbrev pub section_numbers : ImageParts → List ℕ
-section_numbers p =
-    0 ∷ 0 ∷ 0 ∷ 0 ∷ 0 ∷ 0 ∷ 0 ∷ 0 ∷ 0 ∷ 0
-    ∷ 1 ∷ 1 ∷ 6 ∷ p.text_at ∷ 4096 ∷ length p.text ∷ 0 ∷ 0 ∷ 16 ∷ 0
-    ∷ 7 ∷ 1 ∷ 3 ∷ p.init_at ∷ init_from p ∷ length p.init ∷ 0 ∷ 0 ∷ 16 ∷ 0
-    ∷ 13 ∷ 8 ∷ 3 ∷ ((p.init_at + length p.init) % 2 ^ 32) ∷ 0 ∷ p.bss ∷ 0 ∷ 0 ∷ 1 ∷ 0
-    ∷ 18 ∷ 1 ∷ 0 ∷ 0 ∷ sites_from p ∷ length p.sites ∷ 0 ∷ 0 ∷ 4 ∷ 0
-    ∷ 28 ∷ 3 ∷ 0 ∷ 0 ∷ names_from p ∷ 38 ∷ 0 ∷ 0 ∷ 0 ∷ 0 ∷ []
+section_numbers p = numbers_of (section_headers p)
 
 -- the parts between the tables
 unfoldable pub body : ImageParts → List ℕ

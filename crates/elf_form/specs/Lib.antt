@@ -8,6 +8,7 @@ pub mod Segments
 pub mod Sections
 pub mod Reading
 pub mod Output
+pub mod SectionHeaders
 pub mod ImageLayout
 pub mod ObjectLayout
 pub mod Accepted

@@ -1,14 +1,17 @@
 -- The one layout of an object file (System V ABI, chapter 4). The order of the parts is the profile's.
 use Rattle.std.specs.Prelude.{◌≡◌, ◌≢◌, ℕ, ◌+◌, ◌*◌, true, false, ◌<◌, ◌≤◌, ◌^◌, Bool, not, List, [], ◌∷◌, ◌++◌, length, fold, filter, count_by, All, replicate, codes, if◌then◌else◌}
 use Rattle.std.specs.List.{flat_map, position_or_len}
-use Rattle.elf_form.specs.declared.object.DefinedIn.{DefinedIn}
-use Rattle.elf_form.specs.declared.object.DefinedIn.TheVariants.{Undefined, Text, Init, Bss}
+use Rattle.elf_form.specs.declared.object.Place.{Place}
+use Rattle.elf_form.specs.declared.object.Place.TheVariants.{Undefined, Text, Init, Bss}
 use Rattle.elf_form.specs.declared.object.Symbol.{Symbol}
 use Rattle.elf_form.specs.declared.object.Reloc.{Reloc}
 use Rattle.elf_form.specs.declared.object_writing.Layout.{Layout}
 use Rattle.elf_form.specs.declared.object_writing.Lengths.{Lengths}
+use Rattle.elf_form.specs.declared.abi.TheConstants.{EM_386, ET_REL, EV_CURRENT, R_386_32, R_386_PC32}
+use Rattle.elf_form.specs.declared.section_header.SectionHeader.{SectionHeader}
+use Rattle.elf_form.specs.SectionHeaders.{no_section, text_section, data_section, bss_section, sites_section, relocations_section, symbols_section, names_section, placed, numbers_of}
 use Rattle.elf_form.specs.ObjectParts.{ObjectParts}
-use Rattle.elf_form.specs.Output.{halves, longs, pad}
+use Rattle.elf_form.specs.Output.{identity, halves, longs, pad}
 use Rattle.elf_form.specs.StringTable.{with_name, table_bytes, name_place}
 
 -- the next multiple of 4
@@ -39,7 +42,7 @@ layout o =
     record { init = init; sites = sites; text_relocs = text_relocs; data_relocs = data_relocs; symbols = symbols; strings = strings; names = names; sections = next (names + 74) }
 
 -- Section headers 1 to 3 are those of the text, the data and the zeroed bytes.
-abbrev pub place_number : DefinedIn → ℕ
+abbrev pub place_number : Place → ℕ
 place_number Undefined = 0
 place_number Text = 1
 place_number Init = 2
@@ -57,9 +60,9 @@ symbol_table symbols = replicate 16 0 ++ flat_map (symbol_bytes (names_of symbol
 abbrev pub first_global : List Symbol → ℕ
 first_global symbols = position_or_len (λ s. s.global) symbols + 1
 
--- Relocation: place; symbol and type: R_386_32 is 1, R_386_PC32 is 2. The null symbol comes before symbol 0.
+-- Relocation: place; symbol and type. The null symbol comes before symbol 0.
 unfoldable pub reloc_bytes : Reloc → List ℕ
-reloc_bytes r = longs (r.at ∷ (256 * (r.symbol + 1) + (if r.relative then 2 else 1)) ∷ [])
+reloc_bytes r = longs (r.at ∷ (256 * (r.symbol + 1) + (if r.relative then R_386_PC32 else R_386_32)) ∷ [])
 
 unfoldable pub reloc_table : Bool → List Reloc → List ℕ
 reloc_table in_text relocs = flat_map reloc_bytes (filter (is_of in_text) relocs)
@@ -70,27 +73,33 @@ object_names = 0 ∷ codes ".text" ++ 0 ∷ codes ".data" ++ 0 ∷ codes ".bss" 
 
 unfoldable pub object_header : ObjectParts → List ℕ
 object_header o =
-    (127 ∷ 69 ∷ 76 ∷ 70 ∷ 1 ∷ 1 ∷ 1 ∷ 0 ∷ 0 ∷ 0 ∷ 0 ∷ 0 ∷ 0 ∷ 0 ∷ 0 ∷ 0 ∷ [])
-    ++ (halves (1 ∷ 3 ∷ [])
-    ++ (longs (1 ∷ 0 ∷ 0 ∷ (layout o).sections ∷ 0 ∷ [])
+    identity
+    ++ (halves (ET_REL ∷ EM_386 ∷ [])
+    ++ (longs (EV_CURRENT ∷ 0 ∷ 0 ∷ (layout o).sections ∷ 0 ∷ [])
     ++ halves (52 ∷ 0 ∷ 0 ∷ 40 ∷ 10 ∷ 9 ∷ [])))
 
--- Sections: name, type, flags, address, offset, bytes, link, info, alignment, size of entries
+-- the section headers of what an object has, and those of the tables
+abbrev pub part_headers : ObjectParts → List SectionHeader
+part_headers o =
+    no_section
+    ∷ placed text_section 0 52 (length o.text)
+    ∷ placed data_section 0 (layout o).init (length o.init)
+    ∷ placed (bss_section 16) 0 0 o.bss
+    ∷ placed sites_section 0 (layout o).sites (length o.sites) ∷ []
+
+abbrev pub table_headers : ObjectParts → List SectionHeader
+table_headers o =
+    placed (relocations_section 28 1) 0 (layout o).text_relocs (8 * count_by (is_of true) o.relocs)
+    ∷ placed (relocations_section 38 2) 0 (layout o).data_relocs (8 * count_by (is_of false) o.relocs)
+    ∷ placed (symbols_section (first_global o.symbols)) 0 (layout o).symbols (16 * (length o.symbols + 1))
+    ∷ placed (names_section 56) 0 (layout o).strings (length (strings_of o.symbols))
+    ∷ placed (names_section 64) 0 (layout o).names 74 ∷ []
+
 abbrev pub part_sections : ObjectParts → List ℕ
-part_sections o =
-    0 ∷ 0 ∷ 0 ∷ 0 ∷ 0 ∷ 0 ∷ 0 ∷ 0 ∷ 0 ∷ 0
-    ∷ 1 ∷ 1 ∷ 6 ∷ 0 ∷ 52 ∷ length o.text ∷ 0 ∷ 0 ∷ 16 ∷ 0
-    ∷ 7 ∷ 1 ∷ 3 ∷ 0 ∷ (layout o).init ∷ length o.init ∷ 0 ∷ 0 ∷ 16 ∷ 0
-    ∷ 13 ∷ 8 ∷ 3 ∷ 0 ∷ 0 ∷ o.bss ∷ 0 ∷ 0 ∷ 16 ∷ 0
-    ∷ 18 ∷ 1 ∷ 0 ∷ 0 ∷ (layout o).sites ∷ length o.sites ∷ 0 ∷ 0 ∷ 4 ∷ 0 ∷ []
+part_sections o = numbers_of (part_headers o)
 
 abbrev pub table_sections : ObjectParts → List ℕ
-table_sections o =
-    28 ∷ 9 ∷ 0 ∷ 0 ∷ (layout o).text_relocs ∷ (8 * count_by (is_of true) o.relocs) ∷ 7 ∷ 1 ∷ 0 ∷ 8
-    ∷ 38 ∷ 9 ∷ 0 ∷ 0 ∷ (layout o).data_relocs ∷ (8 * count_by (is_of false) o.relocs) ∷ 7 ∷ 2 ∷ 0 ∷ 8
-    ∷ 48 ∷ 2 ∷ 0 ∷ 0 ∷ (layout o).symbols ∷ (16 * (length o.symbols + 1)) ∷ 8 ∷ first_global o.symbols ∷ 0 ∷ 16
-    ∷ 56 ∷ 3 ∷ 0 ∷ 0 ∷ (layout o).strings ∷ length (strings_of o.symbols) ∷ 0 ∷ 0 ∷ 0 ∷ 0
-    ∷ 64 ∷ 3 ∷ 0 ∷ 0 ∷ (layout o).names ∷ 74 ∷ 0 ∷ 0 ∷ 0 ∷ 0 ∷ []
+table_sections o = numbers_of (table_headers o)
 
 -- text, data and annotations
 unfoldable pub object_parts : ObjectParts → List ℕ

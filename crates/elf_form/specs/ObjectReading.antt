@@ -1,6 +1,7 @@
 -- What is read of an object, or the first fault.
 use Rattle.std.specs.Prelude.{◌≡◌, ℕ, ◌+◌, ◌%◌, ◌^◌, Bool, ◌&&◌, ◌||◌, List, [], ◌∷◌, ◌++◌, map, Option, Some, None, Result, ◌==◌, if◌then◌else◌}
 use Rattle.guest_ram.specs.Bytes.{word16, word32}
+use Rattle.elf_form.specs.declared.abi.TheConstants.{ET_REL, E_SHSTRNDX, SHT_STRTAB, SH_FLAGS, SH_LINK, SH_TYPE}
 use Rattle.elf_form.specs.declared.cause.ElfCause.{ElfCause}
 use Rattle.elf_form.specs.declared.cause.ElfCause.TheVariants.{Sizes, SectionForm, Compressed, StringPlace, SymbolForm, RelocForm}
 use Rattle.elf_form.specs.declared.roles.Role.TheVariants as role
@@ -19,9 +20,9 @@ use Rattle.elf_form.specs.Sections.{contents, is_index, names, compressed, namel
 use Rattle.elf_form.specs.Roles.{with_role, misaligned, joined_fault, joined_end, joined}
 use Rattle.elf_form.specs.Symbols.{table_at, symbols_of, section_of, entries_fault, relocs_of, sections_fault, symbols_fault, relocs_fault, symbols_in, numbers, reloc_at}
 
--- a section that is there and a string table (3)
+-- a section that is there and a string table
 abbrev pub has_strings : List ℕ → ℕ → Bool
-has_strings bytes link = is_index bytes link && (word32 bytes (section_of bytes link + 4) == 3)
+has_strings bytes link = is_index bytes link && (word32 bytes (section_of bytes link + SH_TYPE) == SHT_STRTAB)
 
 unfoldable pub strings_in : List ℕ → ℕ → List ℕ
 strings_in bytes link = if has_strings bytes link then contents bytes (section_of bytes link) else []
@@ -31,7 +32,7 @@ unfoldable pub table_of : List ℕ → Table
 table_of bytes = table_at bytes (with_role role.Symbols (names bytes) bytes)
 
 abbrev pub link_of : List ℕ → ℕ
-link_of bytes = word32 bytes ((table_of bytes).section + 24)
+link_of bytes = word32 bytes ((table_of bytes).section + SH_LINK)
 
 unfoldable pub strings_of : List ℕ → List ℕ
 strings_of bytes = strings_in bytes (link_of bytes)
@@ -71,20 +72,20 @@ second_field field (More s t) = Some (t + field)
 -- an allocated section of another type, at its type; a second text, at its flags; a second section of sites, at its name; a bad alignment
 unfoldable pub object_form : List ℕ → Option ℕ
 object_form bytes =
-    first_field 4 (with_role role.Foreign (names bytes) bytes) or_lower (second_field 8 (with_role role.Text (names bytes) bytes)
+    first_field SH_TYPE (with_role role.Foreign (names bytes) bytes) or_lower (second_field SH_FLAGS (with_role role.Text (names bytes) bytes)
     or_lower (second_field 0 (with_role role.Sites (names bytes) bytes) or_lower misaligned (names bytes) bytes))
 
 -- ---- names
 
 -- Where there are sections, the header names the table of their names, in which each has a name.
 abbrev pub section_names_fault : List ℕ → Option ℕ
-section_names_fault bytes = if has_strings bytes (word16 bytes 50) || (section_count bytes == 0) then nameless bytes else Some 50
+section_names_fault bytes = if has_strings bytes (word16 bytes E_SHSTRNDX) || (section_count bytes == 0) then nameless bytes else Some E_SHSTRNDX
 
 abbrev pub symbol_names_fault : List ℕ → Found → Option ℕ
 symbol_names_fault bytes Nothing = None
-symbol_names_fault bytes (One s) = if has_strings bytes (link_of bytes) then symbols_fault Names (table_of bytes) (strings_of bytes) (names bytes) bytes else Some (s + 24)
-symbol_names_fault bytes (Two s t) = if has_strings bytes (link_of bytes) then symbols_fault Names (table_of bytes) (strings_of bytes) (names bytes) bytes else Some (s + 24)
-symbol_names_fault bytes (More s t) = if has_strings bytes (link_of bytes) then symbols_fault Names (table_of bytes) (strings_of bytes) (names bytes) bytes else Some (s + 24)
+symbol_names_fault bytes (One s) = if has_strings bytes (link_of bytes) then symbols_fault Names (table_of bytes) (strings_of bytes) (names bytes) bytes else Some (s + SH_LINK)
+symbol_names_fault bytes (Two s t) = if has_strings bytes (link_of bytes) then symbols_fault Names (table_of bytes) (strings_of bytes) (names bytes) bytes else Some (s + SH_LINK)
+symbol_names_fault bytes (More s t) = if has_strings bytes (link_of bytes) then symbols_fault Names (table_of bytes) (strings_of bytes) (names bytes) bytes else Some (s + SH_LINK)
 
 unfoldable pub string_places : List ℕ → Option ℕ
 string_places bytes = section_names_fault bytes or_lower symbol_names_fault bytes (with_role role.Symbols (names bytes) bytes)
@@ -141,7 +142,7 @@ wrong_in_object bytes RelocForm = reloc_form bytes
 wrong_in_object bytes _ = None
 
 unfoldable pub wrong_object : List ℕ → ElfCause → Option ℕ
-wrong_object bytes cause = wrong_file 1 (wrong_in_object bytes) bytes cause
+wrong_object bytes cause = wrong_file ET_REL (wrong_in_object bytes) bytes cause
 
 unfoldable pub object_in : List ℕ → Result ObjectParts Fault
 object_in bytes = tested (wrong_object bytes) causes (object_at bytes)

@@ -2,16 +2,17 @@
 use Rattle.std.specs.Prelude.{◌≡◌, ℕ, ◌+◌, ◌*◌, ◌≤◌, ◌<◌, List, ◌∷◌, ◌++◌, length, map, filter, slice_get, Some}
 use Rattle.std.specs.List.{Contains}
 use Rattle.guest_ram.specs.Bytes.{word32}
+use Rattle.elf_form.specs.declared.abi.TheConstants.{P_FILESZ, P_OFFSET, SH_OFFSET, SH_SIZE}
 use Rattle.elf_form.specs.declared.cause.ElfCause.{ElfCause}
 use Rattle.elf_form.specs.declared.cause.ElfCause.TheVariants.{Truncated}
 use Rattle.elf_form.specs.Header.{header_table, section_table, header_count, section_count, headers, sections, has_contents}
 
 -- where a part begins, and how long it is: what a program header names, and the contents of a section
 abbrev pub named_by_header : List ℕ → ℕ → ℕ × ℕ
-named_by_header bytes h = (word32 bytes (h + 4), word32 bytes (h + 16))
+named_by_header bytes h = (word32 bytes (h + P_OFFSET), word32 bytes (h + P_FILESZ))
 
 abbrev pub named_by_section : List ℕ → ℕ → ℕ × ℕ
-named_by_section bytes s = (word32 bytes (s + 16), word32 bytes (s + 20))
+named_by_section bytes s = (word32 bytes (s + SH_OFFSET), word32 bytes (s + SH_SIZE))
 
 -- the header of 52 bytes, the two tables, what the program headers name, and the contents of the sections
 abbrev pub named_parts : List ℕ → List (ℕ × ℕ)

@@ -1,7 +1,12 @@
 -- What files are written of: numbers, and zero bytes up to the next multiple of a size.
-use Rattle.std.specs.Prelude.{ℕ, ◌-◌, ◌%◌, List}
+use Rattle.std.specs.Prelude.{ℕ, ◌-◌, ◌%◌, List, [], ◌∷◌, ◌++◌, codes}
 use Rattle.std.specs.List.{flat_map}
 use Rattle.std.specs.Int.{w16, w32, to_le_bytes}
+use Rattle.elf_form.specs.declared.abi.TheConstants.{ELFCLASS32, ELFDATA2LSB, EV_CURRENT}
+
+-- the identification (System V ABI, chapter 4, ELF Identification): 0x7F and "ELF", the class, the encoding, the version, and nine zero bytes
+abbrev pub identity : List ℕ
+identity = 127 ∷ codes "ELF" ++ ELFCLASS32 ∷ ELFDATA2LSB ∷ EV_CURRENT ∷ 0 ∷ 0 ∷ 0 ∷ 0 ∷ 0 ∷ 0 ∷ 0 ∷ 0 ∷ 0 ∷ []
 
 -- numbers of two and of four bytes, the lowest byte first
 abbrev pub halves : List ℕ → List ℕ

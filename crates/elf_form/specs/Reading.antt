@@ -1,6 +1,7 @@
 -- What is read of an image, or the first fault.
 use Rattle.std.specs.Prelude.{◌≤◌, ℕ, ◌+◌, ◌-◌, List, Option, None, Result}
 use Rattle.guest_ram.specs.Bytes.{word32, part}
+use Rattle.elf_form.specs.declared.abi.TheConstants.{ET_EXEC, E_ENTRY, P_FILESZ, P_MEMSZ, P_OFFSET, P_VADDR}
 use Rattle.elf_form.specs.declared.cause.ElfCause.{ElfCause}
 use Rattle.elf_form.specs.declared.cause.ElfCause.TheVariants.{Sizes, SectionForm, Compressed, StringPlace}
 use Rattle.elf_form.specs.ImageParts.{ImageParts}
@@ -13,12 +14,12 @@ use Rattle.elf_form.specs.Sections.{sites_sections, one_of, contents, compressed
 -- the parts that two program headers and a section name
 unfoldable pub parts_at : List ℕ → ℕ → ℕ → ℕ → ImageParts
 parts_at bytes t d s = record {
-  text = part bytes (word32 bytes (t + 4)) (word32 bytes (t + 16));
-  init = part bytes (word32 bytes (d + 4)) (word32 bytes (d + 16));
-  bss = word32 bytes (d + 20) - word32 bytes (d + 16);
-  entry = word32 bytes 24;
-  text_at = word32 bytes (t + 8);
-  init_at = word32 bytes (d + 8);
+  text = part bytes (word32 bytes (t + P_OFFSET)) (word32 bytes (t + P_FILESZ));
+  init = part bytes (word32 bytes (d + P_OFFSET)) (word32 bytes (d + P_FILESZ));
+  bss = word32 bytes (d + P_MEMSZ) - word32 bytes (d + P_FILESZ);
+  entry = word32 bytes E_ENTRY;
+  text_at = word32 bytes (t + P_VADDR);
+  init_at = word32 bytes (d + P_VADDR);
   sites = contents bytes s;
 }
 
@@ -38,7 +39,7 @@ wrong_in_image bytes StringPlace = nameless bytes
 wrong_in_image bytes _ = None
 
 unfoldable pub wrong_image : List ℕ → ElfCause → Option ℕ
-wrong_image bytes cause = wrong_file 2 (wrong_in_image bytes) bytes cause
+wrong_image bytes cause = wrong_file ET_EXEC (wrong_in_image bytes) bytes cause
 
 -- The image of a file that is wrong by no cause, by its two program headers and its section of sites.
 abbrev pub image_at : List ℕ → ImageParts
@@ -49,4 +50,4 @@ image_in bytes = tested (wrong_image bytes) causes (image_at bytes)
 
 -- two program headers and a section of the file
 abbrev pub ArePlaces : List ℕ → ℕ × ℕ × ℕ → Type 0
-ArePlaces bytes at = IsHeader bytes at.0 × IsHeader bytes at.1 × IsSection bytes at.2 × (word32 bytes (at.1 + 16) ≤ word32 bytes (at.1 + 20))
+ArePlaces bytes at = IsHeader bytes at.0 × IsHeader bytes at.1 × IsSection bytes at.2 × (word32 bytes (at.1 + P_FILESZ) ≤ word32 bytes (at.1 + P_MEMSZ))

@@ -2,6 +2,7 @@
 use Rattle.std.specs.Prelude.{◌≡◌, ◌≢◌, ◌⊎◌, ℕ, ◌+◌, ◌%◌, ◌^◌, ◌≤◌, ◌<◌, true, false, List, [], ◌∷◌, ◌++◌, length, filter, slice_get, Some, Result, Err}
 use Rattle.std.specs.List.{Contains, sum_by}
 use Rattle.guest_ram.specs.Bytes.{byte, word16, word32}
+use Rattle.elf_form.specs.declared.abi.TheConstants.{EI_CLASS, EI_DATA, EI_VERSION, ELFCLASS32, ELFDATA2LSB, ELFMAG, EM_386, ET_EXEC, ET_REL, EV_CURRENT, E_EHSIZE, E_MACHINE, E_PHENTSIZE, E_PHNUM, E_SHENTSIZE, E_SHNUM, E_SHSTRNDX, E_TYPE, E_VERSION, PF_X, P_FILESZ, P_FLAGS, P_MEMSZ, R_INFO, SH_ADDRALIGN, SH_ENTSIZE, SH_FLAGS, SH_LINK, SH_SIZE, SH_TYPE, STB_LOCAL, ST_INFO, ST_SHNDX}
 use Rattle.elf_form.specs.declared.cause.ElfCause.{ElfCause}
 use Rattle.elf_form.specs.declared.cause.ElfCause.TheVariants.{Truncated, Magic, Class, Encoding, Version, FileType, Machine, Sizes, SectionForm, Compressed, StringPlace, SymbolForm, RelocForm}
 use Rattle.elf_form.specs.declared.roles.Role.{Role}
@@ -61,15 +62,15 @@ IsRelocs bytes s = IsOf role.Relocs bytes s × (is_kept (target_role (names byte
 
 -- a size that is no multiple of that of an entry, or another size of entries
 pub data IsBadEntrySize (entry : ℕ) (bytes : List ℕ) (s at : ℕ) : Type 0 where
-  uneven : size bytes s % entry ≢ 0 → at ≡ s + 20 → IsBadEntrySize entry bytes s at
-  other : word32 bytes (s + 36) ≢ entry → at ≡ s + 36 → IsBadEntrySize entry bytes s at
+  uneven : size bytes s % entry ≢ 0 → at ≡ s + SH_SIZE → IsBadEntrySize entry bytes s at
+  other : word32 bytes (s + SH_ENTSIZE) ≢ entry → at ≡ s + SH_ENTSIZE → IsBadEntrySize entry bytes s at
 
 -- A size of an object that is wrong: e_ehsize, e_shentsize, sh_size of a section with which those that are joined are too much, sh_size and sh_entsize of the symbol table and of relocations, or the file's own.
 pub data IsBadObjectSize (bytes : List ℕ) (at : ℕ) : Type 0 where
-  header : word16 bytes 40 ≢ 52 → at ≡ 40 → IsBadObjectSize bytes at
-  section_header : word16 bytes 46 ≢ 40 → at ≡ 46 → IsBadObjectSize bytes at
-  init : (s : ℕ) → IsTooMuch role.Init bytes s → at ≡ s + 20 → IsBadObjectSize bytes at
-  bss : (s : ℕ) → IsTooMuch role.Bss bytes s → at ≡ s + 20 → IsBadObjectSize bytes at
+  header : word16 bytes E_EHSIZE ≢ 52 → at ≡ E_EHSIZE → IsBadObjectSize bytes at
+  section_header : word16 bytes E_SHENTSIZE ≢ 40 → at ≡ E_SHENTSIZE → IsBadObjectSize bytes at
+  init : (s : ℕ) → IsTooMuch role.Init bytes s → at ≡ s + SH_SIZE → IsBadObjectSize bytes at
+  bss : (s : ℕ) → IsTooMuch role.Bss bytes s → at ≡ s + SH_SIZE → IsBadObjectSize bytes at
   symbols : (s : ℕ) → IsSymbolTable bytes s → IsBadEntrySize 16 bytes s at → IsBadObjectSize bytes at
   relocs : (s : ℕ) → IsRelocs bytes s → IsBadEntrySize 8 bytes s at → IsBadObjectSize bytes at
   file : 33554432 < length bytes → at ≡ 33554432 → IsBadObjectSize bytes at
@@ -80,39 +81,39 @@ loaded bytes = filter (is_load bytes) (headers bytes)
 
 -- A size of an image that is wrong: e_ehsize, e_phentsize, e_shentsize, p_memsz of the first and of the second part that is loaded, or the file's own.
 pub data IsBadImageSize (bytes : List ℕ) (at : ℕ) : Type 0 where
-  header : word16 bytes 40 ≢ 52 → at ≡ 40 → IsBadImageSize bytes at
-  program_header : word16 bytes 42 ≢ 32 → at ≡ 42 → IsBadImageSize bytes at
-  section_header : word16 bytes 46 ≢ 40 → at ≡ 46 → IsBadImageSize bytes at
-  first : (h : ℕ) → slice_get (loaded bytes) 0 ≡ Some h → word32 bytes (h + 20) ≢ word32 bytes (h + 16) → at ≡ h + 20 → IsBadImageSize bytes at
-  second : (h : ℕ) → slice_get (loaded bytes) 1 ≡ Some h → word32 bytes (h + 20) < word32 bytes (h + 16) → at ≡ h + 20 → IsBadImageSize bytes at
+  header : word16 bytes E_EHSIZE ≢ 52 → at ≡ E_EHSIZE → IsBadImageSize bytes at
+  program_header : word16 bytes E_PHENTSIZE ≢ 32 → at ≡ E_PHENTSIZE → IsBadImageSize bytes at
+  section_header : word16 bytes E_SHENTSIZE ≢ 40 → at ≡ E_SHENTSIZE → IsBadImageSize bytes at
+  first : (h : ℕ) → slice_get (loaded bytes) 0 ≡ Some h → word32 bytes (h + P_MEMSZ) ≢ word32 bytes (h + P_FILESZ) → at ≡ h + P_MEMSZ → IsBadImageSize bytes at
+  second : (h : ℕ) → slice_get (loaded bytes) 1 ≡ Some h → word32 bytes (h + P_MEMSZ) < word32 bytes (h + P_FILESZ) → at ≡ h + P_MEMSZ → IsBadImageSize bytes at
   file : 33554432 < length bytes → at ≡ 33554432 → IsBadImageSize bytes at
 
 -- ---- sections and segments
 
 -- A section that an object may not have: an allocated one of another type (at sh_type), a second text (at sh_flags), a second section of sites (at sh_name), data or zeroed bytes at another alignment (at sh_addralign).
 pub data IsBadSection (bytes : List ℕ) (at : ℕ) : Type 0 where
-  foreign : (s : ℕ) → IsOf role.Foreign bytes s → at ≡ s + 4 → IsBadSection bytes at
-  text : (s : ℕ) → IsSecond (IsOf role.Text bytes) s → at ≡ s + 8 → IsBadSection bytes at
+  foreign : (s : ℕ) → IsOf role.Foreign bytes s → at ≡ s + SH_TYPE → IsBadSection bytes at
+  text : (s : ℕ) → IsSecond (IsOf role.Text bytes) s → at ≡ s + SH_FLAGS → IsBadSection bytes at
   sites : (s : ℕ) → IsSecond (IsOf role.Sites bytes) s → at ≡ s → IsBadSection bytes at
-  aligned : (s : ℕ) → IsOf role.Init bytes s ⊎ IsOf role.Bss bytes s → (Contains alignments (alignment bytes s) → ⊥) → at ≡ s + 32 → IsBadSection bytes at
+  aligned : (s : ℕ) → IsOf role.Init bytes s ⊎ IsOf role.Bss bytes s → (Contains alignments (alignment bytes s) → ⊥) → at ≡ s + SH_ADDRALIGN → IsBadSection bytes at
 
 -- Two program headers are loaded, and the first alone is executable.
 pub record AreTwo (bytes : List ℕ) : Type 0 where
   pub text : ℕ
   pub init : ℕ
   pub are : loaded bytes ≡ text ∷ init ∷ []
-  pub executable : word32 bytes (text + 24) % 2 ≡ 1
-  pub other : word32 bytes (init + 24) % 2 ≢ 1
+  pub executable : word32 bytes (text + P_FLAGS) % 2 ≡ PF_X
+  pub other : word32 bytes (init + P_FLAGS) % 2 ≢ PF_X
 
 -- Program headers in another number or order (at e_phnum), no section of sites (at e_shnum), or a second one (at sh_name).
 pub data IsBadPart (bytes : List ℕ) (at : ℕ) : Type 0 where
-  program : (AreTwo bytes → ⊥) → at ≡ 44 → IsBadPart bytes at
-  none : ((s : ℕ) → IsNamedSites bytes s → ⊥) → at ≡ 48 → IsBadPart bytes at
+  program : (AreTwo bytes → ⊥) → at ≡ E_PHNUM → IsBadPart bytes at
+  none : ((s : ℕ) → IsNamedSites bytes s → ⊥) → at ≡ E_SHNUM → IsBadPart bytes at
   sites : (s : ℕ) → IsSecond (IsNamedSites bytes) s → at ≡ s → IsBadPart bytes at
 
 -- a section with the flag SHF_COMPRESSED, at sh_flags
 abbrev pub IsCompressed : List ℕ → ℕ → Type 0
-IsCompressed bytes at = (s : ℕ) × IsSectionAt bytes s × (is_compressed bytes s ≡ true) × (at ≡ s + 8)
+IsCompressed bytes at = (s : ℕ) × IsSectionAt bytes s × (is_compressed bytes s ≡ true) × (at ≡ s + SH_FLAGS)
 
 -- ---- names
 
@@ -122,9 +123,9 @@ IsNameless bytes s = IsSectionAt bytes s × (is_nameless (names bytes) bytes s �
 
 -- The header names no table of names (at e_shstrndx), a section's name doesn't end in it (at sh_name), the symbol table names no string table (at sh_link), or a symbol's name doesn't end in that (at st_name).
 pub data IsBadName (bytes : List ℕ) (at : ℕ) : Type 0 where
-  no_names : has_strings bytes (word16 bytes 50) ≡ false → section_count bytes ≢ 0 → at ≡ 50 → IsBadName bytes at
-  section : has_strings bytes (word16 bytes 50) ≡ true → IsNameless bytes at → IsBadName bytes at
-  no_table : (s : ℕ) → IsSymbolTable bytes s → has_strings bytes (word32 bytes (s + 24)) ≡ false → at ≡ s + 24 → IsBadName bytes at
+  no_names : has_strings bytes (word16 bytes E_SHSTRNDX) ≡ false → section_count bytes ≢ 0 → at ≡ E_SHSTRNDX → IsBadName bytes at
+  section : has_strings bytes (word16 bytes E_SHSTRNDX) ≡ true → IsNameless bytes at → IsBadName bytes at
+  no_table : (s : ℕ) → IsSymbolTable bytes s → has_strings bytes (word32 bytes (s + SH_LINK)) ≡ false → at ≡ s + SH_LINK → IsBadName bytes at
   symbol : has_strings bytes (link_of bytes) ≡ true → Contains (symbols_of (table_of bytes)) at → is_unnamed (strings_of bytes) bytes at ≡ true → IsBadName bytes at
 
 -- ---- symbols and relocations
@@ -135,36 +136,36 @@ IsReloc bytes e = (s : ℕ) × IsRelocs bytes s × Contains (relocs_in bytes s) 
 
 -- A symbol is needed: it isn't local, or a relocation names it.
 pub data IsNeeded (bytes : List ℕ) (y : ℕ) : Type 0 where
-  global : Contains (symbols_of (table_of bytes)) y → binding bytes y ≢ 0 → IsNeeded bytes y
+  global : Contains (symbols_of (table_of bytes)) y → binding bytes y ≢ STB_LOCAL → IsNeeded bytes y
   named : (e : Entry) → IsReloc bytes e → has_symbol (table_of bytes) bytes e.at ≡ true → y ≡ symbol_of (table_of bytes) bytes e.at → IsNeeded bytes y
 
 -- It is neither local nor global (at st_info), or neither undefined nor in a section that is kept (at st_shndx). A symbol for a file is never bad.
 pub data IsBadSymbol (bytes : List ℕ) (at : ℕ) : Type 0 where
-  bound : (y : ℕ) → IsNeeded bytes y → is_file bytes y ≡ false → has_binding bytes y ≡ false → at ≡ y + 12 → IsBadSymbol bytes at
-  placed : (y : ℕ) → IsNeeded bytes y → is_file bytes y ≡ false → has_place (names bytes) bytes y ≡ false → at ≡ y + 14 → IsBadSymbol bytes at
+  bound : (y : ℕ) → IsNeeded bytes y → is_file bytes y ≡ false → has_binding bytes y ≡ false → at ≡ y + ST_INFO → IsBadSymbol bytes at
+  placed : (y : ℕ) → IsNeeded bytes y → is_file bytes y ≡ false → has_place (names bytes) bytes y ≡ false → at ≡ y + ST_SHNDX → IsBadSymbol bytes at
 
 -- Relocations go by another section than the symbol table (at sh_link), a field isn't inside its section (at r_offset), a relocation is of another type than R_386_32 and R_386_PC32, or names no symbol (at r_info).
 pub data IsBadReloc (bytes : List ℕ) (at : ℕ) : Type 0 where
-  link : (s : ℕ) → IsRelocs bytes s → is_linked (table_of bytes) (names bytes) bytes s ≡ false → at ≡ s + 24 → IsBadReloc bytes at
+  link : (s : ℕ) → IsRelocs bytes s → is_linked (table_of bytes) (names bytes) bytes s ≡ false → at ≡ s + SH_LINK → IsBadReloc bytes at
   outside : (e : Entry) → IsReloc bytes e → is_outside (names bytes) bytes e ≡ true → at ≡ e.at → IsBadReloc bytes at
-  kind : (e : Entry) → IsReloc bytes e → has_kind bytes e.at ≡ false → at ≡ e.at + 4 → IsBadReloc bytes at
-  symbol : (e : Entry) → IsReloc bytes e → names_none (table_of bytes) bytes e.at ≡ true → at ≡ e.at + 4 → IsBadReloc bytes at
+  kind : (e : Entry) → IsReloc bytes e → has_kind bytes e.at ≡ false → at ≡ e.at + R_INFO → IsBadReloc bytes at
+  symbol : (e : Entry) → IsReloc bytes e → names_none (table_of bytes) bytes e.at ≡ true → at ≡ e.at + R_INFO → IsBadReloc bytes at
 
 -- ---- all causes
 
 -- the fields of the header that have one value
 abbrev pub IsBadVersion : List ℕ → ℕ → Type 0
-IsBadVersion bytes at = ((byte bytes 6 ≢ 1) × (at ≡ 6)) ⊎ ((word32 bytes 20 ≢ 1) × (at ≡ 20))
+IsBadVersion bytes at = ((byte bytes EI_VERSION ≢ EV_CURRENT) × (at ≡ EI_VERSION)) ⊎ ((word32 bytes E_VERSION ≢ EV_CURRENT) × (at ≡ E_VERSION))
 
--- A file of a type (1 an object, 2 an image) is bad by a cause at this place. What follows the header is told for the other causes.
+-- A file of a type (ET_REL an object, ET_EXEC an image) is bad by a cause at this place. What follows the header is told for the other causes.
 abbrev pub IsBadFile : ℕ → (ElfCause → ℕ → Type 0) → List ℕ → ElfCause → ℕ → Type 0
 IsBadFile wanted inner bytes Truncated at = IsPast (length bytes) (named_parts bytes) at
-IsBadFile wanted inner bytes Magic at = (word32 bytes 0 ≢ 0x464C457F) × (at ≡ 0)
-IsBadFile wanted inner bytes Class at = (byte bytes 4 ≢ 1) × (at ≡ 4)
-IsBadFile wanted inner bytes Encoding at = (byte bytes 5 ≢ 1) × (at ≡ 5)
+IsBadFile wanted inner bytes Magic at = (word32 bytes 0 ≢ ELFMAG) × (at ≡ 0)
+IsBadFile wanted inner bytes Class at = (byte bytes EI_CLASS ≢ ELFCLASS32) × (at ≡ EI_CLASS)
+IsBadFile wanted inner bytes Encoding at = (byte bytes EI_DATA ≢ ELFDATA2LSB) × (at ≡ EI_DATA)
 IsBadFile wanted inner bytes Version at = IsBadVersion bytes at
-IsBadFile wanted inner bytes FileType at = (word16 bytes 16 ≢ wanted) × (at ≡ 16)
-IsBadFile wanted inner bytes Machine at = (word16 bytes 18 ≢ 3) × (at ≡ 18)
+IsBadFile wanted inner bytes FileType at = (word16 bytes E_TYPE ≢ wanted) × (at ≡ E_TYPE)
+IsBadFile wanted inner bytes Machine at = (word16 bytes E_MACHINE ≢ EM_386) × (at ≡ E_MACHINE)
 IsBadFile wanted inner bytes cause at = inner cause at
 
 abbrev pub IsBadInObject : List ℕ → ElfCause → ℕ → Type 0
@@ -184,10 +185,10 @@ IsBadInImage bytes StringPlace at = IsNameless bytes at
 IsBadInImage bytes _ at = ⊥
 
 abbrev pub IsBadObject : List ℕ → ElfCause → ℕ → Type 0
-IsBadObject bytes cause at = IsBadFile 1 (IsBadInObject bytes) bytes cause at
+IsBadObject bytes cause at = IsBadFile ET_REL (IsBadInObject bytes) bytes cause at
 
 abbrev pub IsBadImage : List ℕ → ElfCause → ℕ → Type 0
-IsBadImage bytes cause at = IsBadFile 2 (IsBadInImage bytes) bytes cause at
+IsBadImage bytes cause at = IsBadFile ET_EXEC (IsBadInImage bytes) bytes cause at
 
 -- A file is no object, or no image: it is bad by a cause, and by none before it.
 abbrev pub IsRefusedObject : List ℕ → ℕ → ElfCause → Type 0

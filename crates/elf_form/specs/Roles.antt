@@ -3,6 +3,7 @@ use Rattle.std.specs.Prelude.{ℕ, ◌+◌, ◌-◌, ◌/◌, ◌%◌, ◌^◌, 
 use Rattle.std.specs.List.{find}
 use Rattle.guest_ram.specs.Among.{is_among}
 use Rattle.guest_ram.specs.Bytes.{word32}
+use Rattle.elf_form.specs.declared.abi.TheConstants.{SHF_ALLOC, SHF_EXECINSTR, SHT_NOBITS, SHT_NOTE, SHT_PROGBITS, SHT_REL, SHT_SYMTAB, SH_ADDRALIGN, SH_FLAGS, SH_SIZE, SH_TYPE}
 use Rattle.elf_form.specs.declared.roles.Role.{Role}
 use Rattle.elf_form.specs.declared.roles.Role.TheVariants.{Ignored, Sites, Text, Init, Bss, Foreign, Symbols, Relocs}
 use Rattle.elf_form.specs.declared.segments.Found.{Found}
@@ -11,21 +12,21 @@ use Rattle.elf_form.specs.Tables.{found, further}
 use Rattle.elf_form.specs.Header.{sections}
 use Rattle.elf_form.specs.Sections.{contents, is_null, is_sites}
 
--- Types: bits of the program (1), symbols (2), a note (7), no bits (8), relocations (9). Flags: 2 allocated, 4 executable.
+-- by the type and the flags: what is allocated, and what is not
 abbrev pub allocated_role : ℕ → ℕ → Role
 allocated_role kind flags =
-    if kind == 1 then (if flags / 4 % 2 == 1 then Text else Init)
-    else (if kind == 8 then Bss else (if kind == 7 then Ignored else Foreign))
+    if kind == SHT_PROGBITS then (if flags / SHF_EXECINSTR % 2 == 1 then Text else Init)
+    else (if kind == SHT_NOBITS then Bss else (if kind == SHT_NOTE then Ignored else Foreign))
 
 abbrev pub unallocated_role : ℕ → Role
-unallocated_role kind = if kind == 2 then Symbols else (if kind == 9 then Relocs else Ignored)
+unallocated_role kind = if kind == SHT_SYMTAB then Symbols else (if kind == SHT_REL then Relocs else Ignored)
 
 abbrev pub role_by : ℕ → ℕ → Role
-role_by kind flags = if flags / 2 % 2 == 1 then allocated_role kind flags else unallocated_role kind
+role_by kind flags = if flags / SHF_ALLOC % 2 == 1 then allocated_role kind flags else unallocated_role kind
 
 -- The section of sites goes by its name.
 unfoldable pub role : List ℕ → List ℕ → ℕ → Role
-role names bytes s = if is_null bytes s then Ignored else (if is_sites names bytes s then Sites else role_by (word32 bytes (s + 4)) (word32 bytes (s + 8)))
+role names bytes s = if is_null bytes s then Ignored else (if is_sites names bytes s then Sites else role_by (word32 bytes (s + SH_TYPE)) (word32 bytes (s + SH_FLAGS)))
 
 abbrev pub role_number : Role → ℕ
 role_number Ignored = 0
@@ -58,10 +59,10 @@ is_kept Relocs = false
 -- ---- joining: each at its alignment, 0 for none
 
 abbrev pub alignment : List ℕ → ℕ → ℕ
-alignment bytes s = word32 bytes (s + 32)
+alignment bytes s = word32 bytes (s + SH_ADDRALIGN)
 
 abbrev pub size : List ℕ → ℕ → ℕ
-size bytes s = word32 bytes (s + 20)
+size bytes s = word32 bytes (s + SH_SIZE)
 
 abbrev pub up : ℕ → ℕ → ℕ
 up a n = if a == 0 then n else n + pad a n
@@ -74,14 +75,14 @@ abbrev pub is_misaligned : List ℕ → List ℕ → ℕ → Bool
 is_misaligned names bytes s = (has_role Init names bytes s || has_role Bss names bytes s) && not (is_among (alignment bytes s) alignments)
 
 unfoldable pub misaligned : List ℕ → List ℕ → Option ℕ
-misaligned names bytes = further 32 (find (is_misaligned names bytes) (sections bytes))
+misaligned names bytes = further SH_ADDRALIGN (find (is_misaligned names bytes) (sections bytes))
 
 -- the size field of the first section with which the sizes, in whole pages of 4,096 bytes, come to 2 ^ 32 or more
 unfoldable pub joined_fault : Role → List ℕ → List ℕ → ℕ → List ℕ → Option ℕ
 joined_fault r names bytes total [] = None
 joined_fault r names bytes total (s ∷ rest) =
     if has_role r names bytes s
-    then (if nat_lt (total + (size bytes s + pad 4096 (size bytes s))) 4294967296 then joined_fault r names bytes (total + (size bytes s + pad 4096 (size bytes s))) rest else Some (s + 20))
+    then (if nat_lt (total + (size bytes s + pad 4096 (size bytes s))) 4294967296 then joined_fault r names bytes (total + (size bytes s + pad 4096 (size bytes s))) rest else Some (s + SH_SIZE))
     else joined_fault r names bytes total rest
 
 -- where each section begins among those of a role, behind the end so far; 0 for the others

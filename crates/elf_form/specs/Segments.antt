@@ -2,6 +2,7 @@
 use Rattle.std.specs.Prelude.{ℕ, ◌+◌, ◌%◌, Bool, not, ◌&&◌, List, length, filter, Option, Some, None, nat_lt, ◌==◌}
 use Rattle.std.specs.Bool.{then_some}
 use Rattle.guest_ram.specs.Bytes.{word16, word32}
+use Rattle.elf_form.specs.declared.abi.TheConstants.{E_EHSIZE, E_PHENTSIZE, E_PHNUM, E_SHENTSIZE, PF_X, PT_LOAD, P_FILESZ, P_FLAGS, P_MEMSZ}
 use Rattle.elf_form.specs.declared.segments.Found.{Found}
 use Rattle.elf_form.specs.declared.segments.Found.TheVariants.{Nothing, One, Two, More}
 use Rattle.elf_form.specs.Faults.{◌or_lower◌}
@@ -9,17 +10,17 @@ use Rattle.elf_form.specs.Tables.{found}
 use Rattle.elf_form.specs.Header.{headers}
 
 abbrev pub is_load : List ℕ → ℕ → Bool
-is_load bytes h = word32 bytes h == 1
+is_load bytes h = word32 bytes h == PT_LOAD
 
 unfoldable pub loads : List ℕ → Found
 loads bytes = found (filter (is_load bytes) (headers bytes))
 
 -- The first takes as much memory as it has bytes, the second no less.
 abbrev pub first_size : List ℕ → ℕ → Option ℕ
-first_size bytes h = then_some (not (word32 bytes (h + 20) == word32 bytes (h + 16))) (h + 20)
+first_size bytes h = then_some (not (word32 bytes (h + P_MEMSZ) == word32 bytes (h + P_FILESZ))) (h + P_MEMSZ)
 
 abbrev pub second_size : List ℕ → ℕ → Option ℕ
-second_size bytes h = then_some (nat_lt (word32 bytes (h + 20)) (word32 bytes (h + 16))) (h + 20)
+second_size bytes h = then_some (nat_lt (word32 bytes (h + P_MEMSZ)) (word32 bytes (h + P_FILESZ))) (h + P_MEMSZ)
 
 unfoldable pub memory_sizes : List ℕ → Found → Option ℕ
 memory_sizes bytes Nothing = None
@@ -28,13 +29,13 @@ memory_sizes bytes (Two a b) = first_size bytes a or_lower second_size bytes b
 memory_sizes bytes (More a b) = first_size bytes a or_lower second_size bytes b
 
 abbrev pub header_size : List ℕ → Option ℕ
-header_size bytes = then_some (not (word16 bytes 40 == 52)) 40
+header_size bytes = then_some (not (word16 bytes E_EHSIZE == 52)) E_EHSIZE
 
 abbrev pub program_size : List ℕ → Option ℕ
-program_size bytes = then_some (not (word16 bytes 42 == 32)) 42
+program_size bytes = then_some (not (word16 bytes E_PHENTSIZE == 32)) E_PHENTSIZE
 
 abbrev pub section_size : List ℕ → Option ℕ
-section_size bytes = then_some (not (word16 bytes 46 == 40)) 46
+section_size bytes = then_some (not (word16 bytes E_SHENTSIZE == 40)) E_SHENTSIZE
 
 abbrev pub too_long : List ℕ → Option ℕ
 too_long bytes = then_some (nat_lt 33554432 (length bytes)) 33554432
@@ -44,11 +45,11 @@ unfoldable pub sizes : List ℕ → Option ℕ
 sizes bytes = header_size bytes or_lower (program_size bytes or_lower (section_size bytes or_lower (memory_sizes bytes (loads bytes) or_lower too_long bytes)))
 
 abbrev pub is_executable : List ℕ → ℕ → Bool
-is_executable bytes h = word32 bytes (h + 24) % 2 == 1
+is_executable bytes h = word32 bytes (h + P_FLAGS) % 2 == PF_X
 
 -- There are two, and the first alone is executable.
 unfoldable pub order : List ℕ → Found → Option ℕ
-order bytes (Two a b) = then_some (not (is_executable bytes a && not (is_executable bytes b))) 44
-order bytes Nothing = Some 44
-order bytes (One a) = Some 44
-order bytes (More a b) = Some 44
+order bytes (Two a b) = then_some (not (is_executable bytes a && not (is_executable bytes b))) E_PHNUM
+order bytes Nothing = Some E_PHNUM
+order bytes (One a) = Some E_PHNUM
+order bytes (More a b) = Some E_PHNUM

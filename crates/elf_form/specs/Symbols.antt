@@ -5,10 +5,11 @@ use Rattle.std.specs.List.{before_first, flat_map}
 use Rattle.std.specs.Option.{option_or}
 use Rattle.guest_ram.specs.Among.{is_among}
 use Rattle.guest_ram.specs.Bytes.{byte, word16, word32}
+use Rattle.elf_form.specs.declared.abi.TheConstants.{R_386_32, R_386_PC32, R_INFO, SHN_UNDEF, SH_ENTSIZE, SH_INFO, SH_LINK, SH_OFFSET, SH_SIZE, STB_GLOBAL, STB_LOCAL, STB_WEAK, STT_FILE, ST_INFO, ST_SHNDX, ST_VALUE}
 use Rattle.elf_form.specs.declared.roles.Role.{Role}
 use Rattle.elf_form.specs.declared.roles.Role.TheVariants as role
-use Rattle.elf_form.specs.declared.object.DefinedIn.{DefinedIn}
-use Rattle.elf_form.specs.declared.object.DefinedIn.TheVariants as place
+use Rattle.elf_form.specs.declared.object.Place.{Place}
+use Rattle.elf_form.specs.declared.object.Place.TheVariants as place
 use Rattle.elf_form.specs.declared.object.Symbol.{Symbol}
 use Rattle.elf_form.specs.declared.object.Reloc.{Reloc}
 use Rattle.elf_form.specs.declared.segments.Found.{Found}
@@ -32,27 +33,27 @@ use Rattle.elf_form.specs.Roles.{role as role_of, role_number, has_role, is_kept
 -- where the table is and how many symbols it has, none where there is no table
 abbrev pub table_at : List ℕ → Found → Table
 table_at bytes Nothing = record { section = 0; at = 0; count = 0 }
-table_at bytes (One s) = record { section = s; at = word32 bytes (s + 16); count = length (contents bytes s) / 16 }
-table_at bytes (Two s t) = record { section = s; at = word32 bytes (s + 16); count = length (contents bytes s) / 16 }
-table_at bytes (More s t) = record { section = s; at = word32 bytes (s + 16); count = length (contents bytes s) / 16 }
+table_at bytes (One s) = record { section = s; at = word32 bytes (s + SH_OFFSET); count = length (contents bytes s) / 16 }
+table_at bytes (Two s t) = record { section = s; at = word32 bytes (s + SH_OFFSET); count = length (contents bytes s) / 16 }
+table_at bytes (More s t) = record { section = s; at = word32 bytes (s + SH_OFFSET); count = length (contents bytes s) / 16 }
 
 -- the symbols behind the null one
 abbrev pub symbols_of : Table → List ℕ
 symbols_of table = entries (table.at + 16) 16 (table.count - 1)
 
 abbrev pub binding : List ℕ → ℕ → ℕ
-binding bytes y = byte bytes (y + 12) / 16
+binding bytes y = byte bytes (y + ST_INFO) / 16
 
--- a symbol that names the source file (type 4)
+-- a symbol that names the source file
 abbrev pub is_file : List ℕ → ℕ → Bool
-is_file bytes y = byte bytes (y + 12) % 16 == 4
+is_file bytes y = byte bytes (y + ST_INFO) % 16 == STT_FILE
 
 -- ---- places: the sections that are kept
 
 abbrev pub section_of : List ℕ → ℕ → ℕ
 section_of bytes index = section_table bytes + 40 * index
 
-abbrev pub place_by : Role → DefinedIn
+abbrev pub place_by : Role → Place
 place_by role.Ignored = place.Undefined
 place_by role.Sites = place.Undefined
 place_by role.Text = place.Text
@@ -65,13 +66,13 @@ place_by role.Relocs = place.Undefined
 unfoldable pub role_at : List ℕ → List ℕ → ℕ → Role
 role_at names bytes index = if is_index bytes index then role_of names bytes (section_of bytes index) else role.Ignored
 
--- local (0) or global (1)
+-- local or global
 abbrev pub has_binding : List ℕ → ℕ → Bool
-has_binding bytes y = nat_lt (binding bytes y) 2
+has_binding bytes y = nat_lt (binding bytes y) STB_WEAK
 
 -- undefined, or in a section that is kept
 abbrev pub has_place : List ℕ → List ℕ → ℕ → Bool
-has_place names bytes y = word16 bytes (y + 14) == 0 || is_kept (role_at names bytes (word16 bytes (y + 14)))
+has_place names bytes y = word16 bytes (y + ST_SHNDX) == SHN_UNDEF || is_kept (role_at names bytes (word16 bytes (y + ST_SHNDX)))
 
 abbrev pub is_listed : List ℕ → List ℕ → ℕ → Bool
 is_listed names bytes y = not (is_file bytes y) && has_binding bytes y && has_place names bytes y
@@ -80,16 +81,16 @@ is_listed names bytes y = not (is_file bytes y) && has_binding bytes y && has_pl
 unfoldable pub symbol_fault : List ℕ → List ℕ → ℕ → Option ℕ
 symbol_fault names bytes y =
     if is_file bytes y then None
-    else option_or (then_some (not (has_binding bytes y)) (y + 12)) (then_some (not (has_place names bytes y)) (y + 14))
+    else option_or (then_some (not (has_binding bytes y)) (y + ST_INFO)) (then_some (not (has_place names bytes y)) (y + ST_SHNDX))
 
 -- one that isn't local is needed
 abbrev pub global_fault : List ℕ → List ℕ → ℕ → Option ℕ
-global_fault names bytes y = if binding bytes y == 0 then None else symbol_fault names bytes y
+global_fault names bytes y = if binding bytes y == STB_LOCAL then None else symbol_fault names bytes y
 
 -- ---- relocations (Relocation), 8 bytes each: those of a section that is kept
 
 abbrev pub target : List ℕ → ℕ → ℕ
-target bytes s = word32 bytes (s + 28)
+target bytes s = word32 bytes (s + SH_INFO)
 
 abbrev pub target_role : List ℕ → List ℕ → ℕ → Role
 target_role names bytes s = role_at names bytes (target bytes s)
@@ -105,7 +106,7 @@ abbrev pub entry : ℕ → ℕ → Entry
 entry s y = record { section = s; at = y }
 
 unfoldable pub relocs_in : List ℕ → ℕ → List Entry
-relocs_in bytes s = map (entry s) (entries (word32 bytes (s + 16)) 8 (length (contents bytes s) / 8))
+relocs_in bytes s = map (entry s) (entries (word32 bytes (s + SH_OFFSET)) 8 (length (contents bytes s) / 8))
 
 unfoldable pub relocs_of : Role → List ℕ → List ℕ → List Entry
 relocs_of r names bytes = flat_map (relocs_in bytes) (filter (is_reloc_section_of r names bytes) (sections bytes))
@@ -119,15 +120,15 @@ pub record IsEntry (bytes : List ℕ) (e : Entry) : Type 0 where
 
 -- a size that is no multiple of that of an entry, or another size of entries
 abbrev pub entries_fault : ℕ → List ℕ → ℕ → Option ℕ
-entries_fault entry bytes s = option_or (then_some (not (size bytes s % entry == 0)) (s + 20)) (then_some (not (word32 bytes (s + 36) == entry)) (s + 36))
+entries_fault entry bytes s = option_or (then_some (not (size bytes s % entry == 0)) (s + SH_SIZE)) (then_some (not (word32 bytes (s + SH_ENTSIZE) == entry)) (s + SH_ENTSIZE))
 
 -- the section that a section names is the symbol table
 abbrev pub is_linked : Table → List ℕ → List ℕ → ℕ → Bool
-is_linked table names bytes s = (role_number (role_at names bytes (word32 bytes (s + 24))) == 6) && (section_of bytes (word32 bytes (s + 24)) == table.section)
+is_linked table names bytes s = (role_number (role_at names bytes (word32 bytes (s + SH_LINK))) == role_number role.Symbols) && (section_of bytes (word32 bytes (s + SH_LINK)) == table.section)
 
 abbrev pub section_test : SectionTest → Table → List ℕ → List ℕ → ℕ → Option ℕ
 section_test EntrySizes table names bytes s = if is_reloc_section names bytes s then entries_fault 8 bytes s else None
-section_test Links table names bytes s = if is_reloc_section names bytes s then then_some (not (is_linked table names bytes s)) (s + 24) else None
+section_test Links table names bytes s = if is_reloc_section names bytes s then then_some (not (is_linked table names bytes s)) (s + SH_LINK) else None
 
 unfoldable pub sections_fault : SectionTest → Table → List ℕ → List ℕ → Option ℕ
 sections_fault test table names bytes = first_some (section_test test table names bytes) (sections bytes)
@@ -145,7 +146,7 @@ symbols_fault test table strings names bytes = first_some (symbol_test test stri
 
 -- the number of the symbol that a relocation names; whether the table has it, behind the null one
 abbrev pub named_symbol : List ℕ → ℕ → ℕ
-named_symbol bytes y = word32 bytes (y + 4) / 256
+named_symbol bytes y = word32 bytes (y + R_INFO) / 256
 
 abbrev pub has_symbol : Table → List ℕ → ℕ → Bool
 has_symbol table bytes y = not (named_symbol bytes y == 0) && nat_lt (named_symbol bytes y) table.count
@@ -158,11 +159,11 @@ size_at bytes index = if nat_lt index (section_count bytes) then size bytes (sec
 
 -- the field is not inside its section, or that has no bytes
 abbrev pub is_outside : List ℕ → List ℕ → Entry → Bool
-is_outside names bytes e = (role_number (target_role names bytes e.section) == 4) || nat_lt (size_at bytes (target bytes e.section)) (word32 bytes e.at + 4)
+is_outside names bytes e = (role_number (target_role names bytes e.section) == role_number role.Bss) || nat_lt (size_at bytes (target bytes e.section)) (word32 bytes e.at + 4)
 
--- R_386_32 is 1, R_386_PC32 is 2 (i386 supplement, Relocation Types)
+-- an address or a distance (i386 supplement, Relocation Types)
 abbrev pub has_kind : List ℕ → ℕ → Bool
-has_kind bytes y = (word32 bytes (y + 4) % 256 == 1) || (word32 bytes (y + 4) % 256 == 2)
+has_kind bytes y = (word32 bytes (y + R_INFO) % 256 == R_386_32) || (word32 bytes (y + R_INFO) % 256 == R_386_PC32)
 
 -- it names no symbol, or one for a file
 abbrev pub names_none : Table → List ℕ → ℕ → Bool
@@ -172,7 +173,7 @@ abbrev pub named_fault : Table → List ℕ → List ℕ → ℕ → Option ℕ
 named_fault table names bytes y = if has_symbol table bytes y then symbol_fault names bytes (symbol_of table bytes y) else None
 
 abbrev pub form_fault : Table → List ℕ → List ℕ → Entry → Option ℕ
-form_fault table names bytes e = option_or (then_some (is_outside names bytes e) e.at) (then_some (not (has_kind bytes e.at) || names_none table bytes e.at) (e.at + 4))
+form_fault table names bytes e = option_or (then_some (is_outside names bytes e) e.at) (then_some (not (has_kind bytes e.at) || names_none table bytes e.at) (e.at + R_INFO))
 
 abbrev pub reloc_test : RelocTest → Table → List ℕ → List ℕ → Entry → Option ℕ
 reloc_test Named table names bytes e = named_fault table names bytes e.at
@@ -201,9 +202,9 @@ name_in strings at = before_first (λ b. b == 0) (drop at strings)
 unfoldable pub symbol_at : List ℕ → List ℕ → List ℕ → ℕ → Symbol
 symbol_at strings names bytes y = record {
   name = name_in strings (word32 bytes y);
-  place = place_by (role_at names bytes (word16 bytes (y + 14)));
-  value = (start_at names bytes (word16 bytes (y + 14)) + word32 bytes (y + 4)) % 2 ^ 32;
-  global = binding bytes y == 1;
+  place = place_by (role_at names bytes (word16 bytes (y + ST_SHNDX)));
+  value = (start_at names bytes (word16 bytes (y + ST_SHNDX)) + word32 bytes (y + ST_VALUE)) % 2 ^ 32;
+  global = binding bytes y == STB_GLOBAL;
 }
 
 -- how many symbols that are listed come before each symbol, behind n
@@ -214,10 +215,10 @@ numbers names bytes n (y ∷ ys) = n ∷ numbers names bytes (if is_listed names
 -- A relocation names its symbol by its number among those that are listed.
 unfoldable pub reloc_at : List ℕ → List ℕ → List ℕ → Entry → Reloc
 reloc_at numbers names bytes e = record {
-  in_text = role_number (target_role names bytes e.section) == 2;
+  in_text = role_number (target_role names bytes e.section) == role_number role.Text;
   at = (start_at names bytes (target bytes e.section) + word32 bytes e.at) % 2 ^ 32;
   symbol = slice_index numbers (named_symbol bytes e.at - 1);
-  relative = word32 bytes (e.at + 4) % 256 == 2;
+  relative = word32 bytes (e.at + R_INFO) % 256 == R_386_PC32;
 }
 
 unfoldable pub symbols_in : Table → List ℕ → List ℕ → List ℕ → List Symbol

@@ -5,6 +5,7 @@ ghost use Rattle.guest_ram.specs.Bytes.{word16, word32};
 ghost use Rattle.elf_form.specs.Header.{IsWhole, IsSection};
 ghost use Rattle.elf_form.specs.Symbols.{relocs_in, relocs_of, IsEntry, relocs_fault};
 
+use crate::abi::{E_SHNUM, E_SHOFF, SH_OFFSET};
 use crate::header::lower;
 use crate::roles::Role;
 use crate::sections::contents;
@@ -18,7 +19,7 @@ fn put_entries(out: &mut Vec<Entry>, bytes: &[u8], s: usize) -> Result<(), Alloc
     ensures items { OnOk result (out.new.items ≡ out.old.items ++ relocs_in bytes.now s) }
     ensures inside { OnOk result (All (IsEntry bytes.now) out.new.items) }
 {
-    let first = word(bytes, s + 16) as usize;
+    let first = word(bytes, s + SH_OFFSET) as usize;
     let count = contents(bytes, s).len() / 8;
     for i in 0..count {
         let at = first + 8 * i;
@@ -38,8 +39,8 @@ pub fn entries_of(
     ensures items { IfOk result (λ v. v.items ≡ relocs_of role names.now bytes.now) }
     ensures inside { IfOk result (λ v. All (IsEntry bytes.now) v.items) }
 {
-    let table = word(bytes, 32) as usize;
-    let count = half(bytes, 48) as usize;
+    let table = word(bytes, E_SHOFF) as usize;
+    let count = half(bytes, E_SHNUM) as usize;
     let mut out = Vec::new(alloc);
     for i in 0..count {
         let s = table + 40 * i;

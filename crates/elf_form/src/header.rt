@@ -8,6 +8,11 @@ ghost use Rattle.elf_form.specs.Tables.{entries};
 ghost use Rattle.elf_form.specs.Header.{cut, part_begins, header_passes, section_passes, passes, IsWhole};
 ghost use Rattle.elf_form.specs.Header.{magic, class, encoding, version, file_type, machine, identified};
 
+use crate::abi::{
+    E_MACHINE, E_PHNUM, E_PHOFF, E_SHNUM, E_SHOFF, E_TYPE, E_VERSION, EI_CLASS, EI_DATA,
+    EI_VERSION, ELFCLASS32, ELFDATA2LSB, ELFMAG, EM_386, EV_CURRENT, P_FILESZ, P_OFFSET, SH_OFFSET,
+    SH_SIZE, SH_TYPE, SHT_NOBITS, SHT_NULL,
+};
 use crate::cause::{ElfCause, ElfFault};
 use guest_ram::{byte, half, word};
 
@@ -33,18 +38,26 @@ fn header_passes_end(bytes: &[u8], h: usize) -> bool
     requires { h + 32 ≤ length bytes.now }
     ensures { result ≡ header_passes bytes.now h }
 {
-    passes_end(bytes, word(bytes, h + 4), word(bytes, h + 16) as u64)
+    passes_end(
+        bytes,
+        word(bytes, h + P_OFFSET),
+        word(bytes, h + P_FILESZ) as u64,
+    )
 }
 
 fn section_passes_end(bytes: &[u8], s: usize) -> bool
     requires { s + 40 ≤ length bytes.now }
     ensures { result ≡ section_passes bytes.now s }
 {
-    let kind = word(bytes, s + 4);
-    if kind == 0 || kind == 8 {
+    let kind = word(bytes, s + SH_TYPE);
+    if kind == SHT_NULL || kind == SHT_NOBITS {
         return false;
     }
-    passes_end(bytes, word(bytes, s + 16), word(bytes, s + 20) as u64)
+    passes_end(
+        bytes,
+        word(bytes, s + SH_OFFSET),
+        word(bytes, s + SH_SIZE) as u64,
+    )
 }
 
 fn cut_header(bytes: &[u8], table: usize, count: usize) -> Option<u32>
@@ -54,7 +67,7 @@ fn cut_header(bytes: &[u8], table: usize, count: usize) -> Option<u32>
     for i in 0..count {
         let h = table + 32 * i;
         if header_passes_end(bytes, h) {
-            return Some(word(bytes, h + 4));
+            return Some(word(bytes, h + P_OFFSET));
         }
     }
     None
@@ -67,7 +80,7 @@ fn cut_section(bytes: &[u8], table: usize, count: usize) -> Option<u32>
     for i in 0..count {
         let s = table + 40 * i;
         if section_passes_end(bytes, s) {
-            return Some(word(bytes, s + 16));
+            return Some(word(bytes, s + SH_OFFSET));
         }
     }
     None
@@ -82,13 +95,13 @@ pub fn cut(bytes: &[u8]) -> Option<u32>
     if bytes.len() < 52 {
         return Some(0);
     }
-    let headers = word(bytes, 28);
-    let header_count = half(bytes, 44);
+    let headers = word(bytes, E_PHOFF);
+    let header_count = half(bytes, E_PHNUM);
     if passes_end(bytes, headers, 32 * header_count as u64) {
         return Some(headers);
     }
-    let sections = word(bytes, 32);
-    let section_count = half(bytes, 48);
+    let sections = word(bytes, E_SHOFF);
+    let section_count = half(bytes, E_SHNUM);
     if passes_end(bytes, sections, 40 * section_count as u64) {
         return Some(sections);
     }
@@ -102,21 +115,21 @@ fn magic(bytes: &[u8]) -> Option<usize>
     requires { 52 ≤ length bytes.now }
     ensures { result ≡ magic bytes.now }
 {
-    (word(bytes, 0) != 0x464C_457F).then_some(0)
+    (word(bytes, 0) != ELFMAG).then_some(0)
 }
 
 fn class(bytes: &[u8]) -> Option<usize>
     requires { 52 ≤ length bytes.now }
     ensures { result ≡ class bytes.now }
 {
-    (byte(bytes, 4) != 1).then_some(4)
+    (byte(bytes, EI_CLASS) != ELFCLASS32).then_some(EI_CLASS)
 }
 
 fn encoding(bytes: &[u8]) -> Option<usize>
     requires { 52 ≤ length bytes.now }
     ensures { result ≡ encoding bytes.now }
 {
-    (byte(bytes, 5) != 1).then_some(5)
+    (byte(bytes, EI_DATA) != ELFDATA2LSB).then_some(EI_DATA)
 }
 
 fn version(bytes: &[u8]) -> Option<usize>
@@ -124,8 +137,8 @@ fn version(bytes: &[u8]) -> Option<usize>
     ensures { result ≡ version bytes.now }
 {
     lower(
-        (byte(bytes, 6) != 1).then_some(6),
-        (word(bytes, 20) != 1).then_some(20),
+        (byte(bytes, EI_VERSION) as u32 != EV_CURRENT).then_some(EI_VERSION),
+        (word(bytes, E_VERSION) != EV_CURRENT).then_some(E_VERSION),
     )
 }
 
@@ -133,14 +146,14 @@ fn file_type(bytes: &[u8], wanted: u16) -> Option<usize>
     requires { 52 ≤ length bytes.now }
     ensures { result ≡ file_type wanted bytes.now }
 {
-    (half(bytes, 16) != wanted).then_some(16)
+    (half(bytes, E_TYPE) != wanted).then_some(E_TYPE)
 }
 
 fn machine(bytes: &[u8]) -> Option<usize>
     requires { 52 ≤ length bytes.now }
     ensures { result ≡ machine bytes.now }
 {
-    (half(bytes, 18) != 3).then_some(18)
+    (half(bytes, E_MACHINE) != EM_386).then_some(E_MACHINE)
 }
 
 /// Passes where there is no place.

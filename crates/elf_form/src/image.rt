@@ -21,5 +21,13 @@ impl Model for Image {
 
     ghost Value = { ImageParts };
 
-    ghost view = { λ a. record { text = a.text.items; init = a.init.items; bss = a.bss; entry = a.entry; text_at = a.text_at; init_at = a.init_at; sites = a.sites.items } };
+    ghost view = { λ a. record {
+      text = a.text.items;
+      init = a.init.items;
+      bss = a.bss;
+      entry = a.entry;
+      text_at = a.text_at;
+      init_at = a.init_at;
+      sites = a.sites.items;
+    } };
 }

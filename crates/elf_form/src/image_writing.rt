@@ -5,11 +5,13 @@ ghost use Rattle.elf_form.specs.Output.{halves, longs, pad};
 ghost use Rattle.elf_form.specs.ImageLayout.{init_from, sites_from, names_from, sections_from, header, program_numbers, section_numbers, body, image_bytes, IsWritableImage, section_names};
 ghost use Rattle.elf_form.specs.Reading.{image_in};
 
+use crate::abi::{EM_386, ET_EXEC, EV_CURRENT, PF_R, PF_W, PF_X, PT_LOAD};
 use crate::image::Image;
-use crate::output::{pad, put_halves, put_longs, put_padded, put_zeros};
+use crate::output::{IDENTITY, pad, put_halves, put_longs, put_padded, put_zeros};
+use crate::section_header::{
+    DATA_SECTION, NO_SECTION, SITES_SECTION, TEXT_SECTION, bss_section, names_section, put_headers,
+};
 use std::alloc::{AllocError, Global};
-
-const IDENTITY: [u8; 16] = *b"\x7FELF\x01\x01\x01\0\0\0\0\0\0\0\0\0";
 
 const NAMES: [u8; 38] = *b"\0.text\0.data\0.bss\0.pv_sites\0.shstrtab\0";
 
@@ -54,7 +56,7 @@ fn header_numbers(entry: u32, sections: u32) -> [u32; 5]
     ensures numbers { result ≡ 1 ∷ entry ∷ 52 ∷ sections ∷ 0 ∷ [] }
     ensures small { entry < 2 ^ 32 }
 {
-    [1, entry, 52, sections, 0]
+    [EV_CURRENT, entry, 52, sections, 0]
 }
 
 /// The two program headers. The fields of each: type, offset, address (twice), bytes, memory,
@@ -72,7 +74,21 @@ fn program_numbers(
     ensures init_small { init_at < 2 ^ 32 }
 {
     [
-        1, 4096, text_at, text_at, text, text, 5, 4096, 1, from, init_at, init_at, init, memory, 6,
+        PT_LOAD,
+        4096,
+        text_at,
+        text_at,
+        text,
+        text,
+        PF_R + PF_X,
+        4096,
+        PT_LOAD,
+        from,
+        init_at,
+        init_at,
+        init,
+        memory,
+        PF_R + PF_W,
         4096,
     ]
 }
@@ -84,7 +100,7 @@ fn put_header(out: &mut Vec<u8>, image: &Image) -> Result<(), AllocError>
     ensures entry { OnOk result (image.now.entry < 2 ^ 32) }
 {
     out.extend_from_slice(&IDENTITY)?;
-    put_halves(out, &[2, 3])?;
+    put_halves(out, &[ET_EXEC, EM_386])?;
     let sections = sections_from(image) as u32;
     put_longs(out, &header_numbers(image.entry, sections))?;
     put_halves(out, &[52, 32, 2, 40, 6, 5])?;
@@ -116,69 +132,15 @@ fn put_sections(out: &mut Vec<u8>, image: &Image) -> Result<(), AllocError>
     let sites_at = sites_from(image) as u32;
     let names_at = names_from(image) as u32;
     let bss_at = image.init_at.wrapping_add(init);
-    let numbers = [
-        0,
-        0,
-        0,
-        0,
-        0,
-        0,
-        0,
-        0,
-        0,
-        0, //
-        1,
-        1,
-        6,
-        image.text_at,
-        4096,
-        text,
-        0,
-        0,
-        16,
-        0, //
-        7,
-        1,
-        3,
-        image.init_at,
-        init_at,
-        init,
-        0,
-        0,
-        16,
-        0, //
-        13,
-        8,
-        3,
-        bss_at,
-        0,
-        image.bss,
-        0,
-        0,
-        1,
-        0, //
-        18,
-        1,
-        0,
-        0,
-        sites_at,
-        sites,
-        0,
-        0,
-        4,
-        0, //
-        28,
-        3,
-        0,
-        0,
-        names_at,
-        38,
-        0,
-        0,
-        0,
-        0,
+    let headers = [
+        NO_SECTION,
+        TEXT_SECTION.at(image.text_at, 4096, text),
+        DATA_SECTION.at(image.init_at, init_at, init),
+        bss_section(1).at(bss_at, 0, image.bss),
+        SITES_SECTION.at(0, sites_at, sites),
+        names_section(28).at(0, names_at, NAMES.len() as u32),
     ];
-    put_longs(out, &numbers)
+    put_headers(out, &headers)
 }
 
 #[tactic(auto, unfolding(crate::specs::ImageLayout::body, crate::specs::ImageLayout::init_from, crate::specs::ImageLayout::sites_from, crate::specs::ImageLayout::names_from, crate::specs::ImageLayout::sections_from))]

@@ -5,6 +5,7 @@ ghost use Rattle.elf_form.specs.Header.{IsWhole, IsSection, sections};
 ghost use Rattle.elf_form.specs.declared.roles.Role.{Role};
 ghost use Rattle.elf_form.specs.Roles.{is_misaligned, misaligned, joined_fault, starts, joined_end, with_section, joined};
 
+use crate::abi::{E_SHNUM, E_SHOFF, SH_ADDRALIGN, SH_SIZE};
 use crate::output::{pad, put_zeros};
 use crate::roles::{Role, has_role, is_misaligned, up};
 use crate::sections::contents;
@@ -17,12 +18,12 @@ pub fn misaligned(names: &[u8], bytes: &[u8]) -> Option<usize>
     ensures place { result ≡ misaligned names.now bytes.now }
     ensures inside { IfSome result (λ at. at < length bytes.now) }
 {
-    let table = word(bytes, 32) as usize;
-    let count = half(bytes, 48) as usize;
+    let table = word(bytes, E_SHOFF) as usize;
+    let count = half(bytes, E_SHNUM) as usize;
     for i in 0..count {
         let s = table + 40 * i;
         if is_misaligned(names, bytes, s) {
-            return Some(s + 32);
+            return Some(s + SH_ADDRALIGN);
         }
     }
     None
@@ -34,16 +35,16 @@ pub fn joined_fault(role: Role, names: &[u8], bytes: &[u8]) -> Option<usize>
     ensures place { result ≡ joined_fault role names.now bytes.now 0 (sections bytes.now) }
     ensures inside { IfSome result (λ at. at < length bytes.now) }
 {
-    let table = word(bytes, 32) as usize;
-    let count = half(bytes, 48) as usize;
+    let table = word(bytes, E_SHOFF) as usize;
+    let count = half(bytes, E_SHNUM) as usize;
     let mut total: usize = 0;
     for i in 0..count {
         let s = table + 40 * i;
         if has_role(role, names, bytes, s) {
-            let size = word(bytes, s + 20) as usize;
+            let size = word(bytes, s + SH_SIZE) as usize;
             let more = total + (size + pad(4096, size));
             if more >= 0x1_0000_0000 {
-                return Some(s + 20);
+                return Some(s + SH_SIZE);
             }
             total = more;
         }
@@ -63,16 +64,16 @@ pub fn starts(
     ensures starts { IfOk result (λ r. r.0.items ≡ starts role names.now bytes.now 0 (sections bytes.now)) }
     ensures end { IfOk result (λ r. r.1 ≡ joined_end role names.now bytes.now 0 (sections bytes.now)) }
 {
-    let table = word(bytes, 32) as usize;
-    let count = half(bytes, 48) as usize;
+    let table = word(bytes, E_SHOFF) as usize;
+    let count = half(bytes, E_SHNUM) as usize;
     let mut list = Vec::new(alloc);
     let mut end: u64 = 0;
     for i in 0..count {
         let s = table + 40 * i;
         let mut start: u64 = 0;
         if has_role(role, names, bytes, s) {
-            start = up(word(bytes, s + 32), end);
-            end = start + word(bytes, s + 20) as u64;
+            start = up(word(bytes, s + SH_ADDRALIGN), end);
+            end = start + word(bytes, s + SH_SIZE) as u64;
         }
         list.push((start % 0x1_0000_0000) as u32)?;
     }
@@ -85,7 +86,7 @@ fn put_section(out: &mut Vec<u8>, bytes: &[u8], s: usize) -> Result<(), AllocErr
     ensures { OnOk result (out.new.items ≡ with_section bytes.now out.old.items s) }
 {
     let len = out.len() as u64;
-    let start = up(word(bytes, s + 32), len);
+    let start = up(word(bytes, s + SH_ADDRALIGN), len);
     put_zeros(out, (start - len) as usize)?;
     out.extend_from_slice(contents(bytes, s))?;
     Ok(())
@@ -96,8 +97,8 @@ pub fn joined(alloc: Global, names: &[u8], bytes: &[u8]) -> Result<Vec<u8>, Allo
     requires { IsWhole bytes.now }
     ensures { IfOk result (λ v. v.items ≡ joined names.now bytes.now [] (sections bytes.now)) }
 {
-    let table = word(bytes, 32) as usize;
-    let count = half(bytes, 48) as usize;
+    let table = word(bytes, E_SHOFF) as usize;
+    let count = half(bytes, E_SHNUM) as usize;
     let mut out = Vec::new(alloc);
     for i in 0..count {
         let s = table + 40 * i;

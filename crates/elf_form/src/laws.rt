@@ -22,13 +22,15 @@ pub fn object_length()
 /// has its lowest place there, or, of the parts that pass the end, the first begins there. It is
 /// not wrong by it exactly where the condition holds at no place.
 pub fn object_causes_are_conditions()
-    ensures exact { (bytes : List ℕ) (cause : ElfCause) (at : ℕ) → (wrong_object bytes cause ≡ Some at) ↔ HasPlace (IsBadObject bytes) bytes cause at }
+    ensures exact { (bytes : List ℕ) (cause : ElfCause) (at : ℕ) → (wrong_object bytes cause ≡ Some at)
+        ↔ HasPlace (IsBadObject bytes) bytes cause at }
     ensures none { (bytes : List ℕ) (cause : ElfCause) → (wrong_object bytes cause ≡ None) ↔ ((at : ℕ) → IsBadObject bytes cause at → ⊥) }
 {}
 
 /// The same of an image.
 pub fn image_causes_are_conditions()
-    ensures exact { (bytes : List ℕ) (cause : ElfCause) (at : ℕ) → (wrong_image bytes cause ≡ Some at) ↔ HasPlace (IsBadImage bytes) bytes cause at }
+    ensures exact { (bytes : List ℕ) (cause : ElfCause) (at : ℕ) → (wrong_image bytes cause ≡ Some at)
+        ↔ HasPlace (IsBadImage bytes) bytes cause at }
     ensures none { (bytes : List ℕ) (cause : ElfCause) → (wrong_image bytes cause ≡ None) ↔ ((at : ℕ) → IsBadImage bytes cause at → ⊥) }
 {}
 

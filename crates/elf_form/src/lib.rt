@@ -1,6 +1,7 @@
 //! Objects and images as ELF files of 32 bits: the one layout that is written, and what is read.
 #![tactic(auto)]
 
+mod abi;
 mod cause;
 mod entries;
 mod header;
@@ -16,6 +17,7 @@ mod output;
 mod reading;
 mod records;
 mod roles;
+mod section_header;
 mod sections;
 mod segments;
 mod strings;
@@ -29,7 +31,7 @@ pub use laws::{
     image_causes_are_conditions, images_refused_in_order, object_causes_are_conditions,
     object_length, objects_refused_in_order,
 };
-pub use object::{Bytes, DefinedIn, Object, Reloc, Symbol};
+pub use object::{Bytes, Object, Place, Reloc, Symbol};
 pub use object_reading::read_object;
 pub use object_writing::write_object;
 pub use output::pad;

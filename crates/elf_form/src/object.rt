@@ -6,7 +6,7 @@ use std::marker::Model;
 
 /// Where a symbol is defined: nowhere, or in an object's text, data or zeroed bytes.
 #[derive(Clone, Copy, Debug, PartialEq, Eq)]
-pub enum DefinedIn {
+pub enum Place {
     Undefined,
     Text,
     Init,
@@ -38,7 +38,7 @@ pub fn bytes_of(name: &Bytes) -> &[u8]
 #[derive(Drop)]
 pub struct Symbol {
     pub name: Bytes,
-    pub place: DefinedIn,
+    pub place: Place,
     pub value: u32,
     pub global: bool,
 }
@@ -69,5 +69,12 @@ impl Model for Object {
 
     ghost Value = { ObjectParts };
 
-    ghost view = { λ o. record { text = o.text.items; init = o.init.items; bss = o.bss; sites = o.sites.items; symbols = o.symbols.items; relocs = o.relocs.items } };
+    ghost view = { λ o. record {
+      text = o.text.items;
+      init = o.init.items;
+      bss = o.bss;
+      sites = o.sites.items;
+      symbols = o.symbols.items;
+      relocs = o.relocs.items;
+    } };
 }

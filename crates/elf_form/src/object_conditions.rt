@@ -10,6 +10,9 @@ ghost use Rattle.elf_form.specs.Roles.{with_role};
 ghost use Rattle.elf_form.specs.Symbols.{entries_fault};
 ghost use Rattle.elf_form.specs.ObjectReading.{has_strings, strings_in, table_of, strings_of, link_of, table_fault, inner_sizes, object_sizes, first_field, second_field, object_form, section_names_fault, symbol_names_fault, string_places};
 
+use crate::abi::{
+    E_EHSIZE, E_SHENTSIZE, E_SHNUM, E_SHOFF, E_SHSTRNDX, SH_FLAGS, SH_LINK, SH_TYPE, SHT_STRTAB,
+};
 use crate::header::lower;
 use crate::joining::{joined_fault, misaligned};
 use crate::roles::{Role, with_role};
@@ -23,8 +26,8 @@ fn has_strings(bytes: &[u8], link: usize) -> bool
     requires { IsWhole bytes.now }
     ensures { result ≡ has_strings bytes.now link }
 {
-    let table = word(bytes, 32) as usize;
-    is_index(bytes, link) && word(bytes, table + 40 * link + 4) == 3
+    let table = word(bytes, E_SHOFF) as usize;
+    is_index(bytes, link) && word(bytes, table + 40 * link + SH_TYPE) == SHT_STRTAB
 }
 
 /// The bytes of a string table, none where the section is no such table.
@@ -33,12 +36,12 @@ fn strings_in(bytes: &[u8], link: usize) -> &[u8]
     requires { IsWhole bytes.now }
     ensures { result.now ≡ strings_in bytes.now link }
 {
-    let table = word(bytes, 32) as usize;
+    let table = word(bytes, E_SHOFF) as usize;
     if !is_index(bytes, link) {
         return &[];
     }
     let s = table + 40 * link;
-    if word(bytes, s + 4) != 3 {
+    if word(bytes, s + SH_TYPE) != SHT_STRTAB {
         return &[];
     }
     contents(bytes, s)
@@ -89,8 +92,11 @@ fn inner_sizes(bytes: &[u8]) -> Option<usize>
     let bss = joined_fault(Role::Bss, names, bytes);
     let joined = lower(init, lower(bss, lower(table, relocs)));
     lower(
-        (half(bytes, 40) != 52).then_some(40),
-        lower((half(bytes, 46) != 40).then_some(46), joined),
+        (half(bytes, E_EHSIZE) != 52).then_some(E_EHSIZE),
+        lower(
+            (half(bytes, E_SHENTSIZE) != 40).then_some(E_SHENTSIZE),
+            joined,
+        ),
     )
 }
 
@@ -139,8 +145,8 @@ pub fn object_form(bytes: &[u8]) -> Option<usize>
     ensures inside { IfSome result (λ at. at < length bytes.now) }
 {
     let names = names(bytes);
-    let foreign = first_field(bytes, 4, with_role(Role::Foreign, names, bytes));
-    let text = second_field(bytes, 8, with_role(Role::Text, names, bytes));
+    let foreign = first_field(bytes, SH_TYPE, with_role(Role::Foreign, names, bytes));
+    let text = second_field(bytes, SH_FLAGS, with_role(Role::Text, names, bytes));
     let sites = second_field(bytes, 0, with_role(Role::Sites, names, bytes));
     lower(foreign, lower(text, lower(sites, misaligned(names, bytes))))
 }
@@ -150,8 +156,8 @@ fn section_names_fault(bytes: &[u8]) -> Option<usize>
     ensures place { result ≡ section_names_fault bytes.now }
     ensures inside { IfSome result (λ at. at < length bytes.now) }
 {
-    if !has_strings(bytes, half(bytes, 50) as usize) && half(bytes, 48) != 0 {
-        return Some(50);
+    if !has_strings(bytes, half(bytes, E_SHSTRNDX) as usize) && half(bytes, E_SHNUM) != 0 {
+        return Some(E_SHSTRNDX);
     }
     nameless(bytes)
 }
@@ -166,8 +172,8 @@ fn symbol_names_fault(bytes: &[u8], found: Found) -> Option<usize>
         Found::Nothing => None,
         Found::One(s) | Found::Two(s, _) | Found::More(s, _) => {
             let table = table_of(bytes);
-            if !has_strings(bytes, word(bytes, table.section + 24) as usize) {
-                return Some(s + 24);
+            if !has_strings(bytes, word(bytes, table.section + SH_LINK) as usize) {
+                return Some(s + SH_LINK);
             }
             symbols_fault(
                 SymbolTest::Names,

@@ -16,6 +16,7 @@ ghost use Rattle.elf_form.specs.ObjectParts.{ObjectParts};
 ghost use Rattle.elf_form.specs.ObjectReading.{table_of as table_in, kept_relocs, symbol_form, reloc_form, text_in, sites_in, object_at, object_in, wrong_object, ObjectAs};
 ghost use Rattle.elf_form.specs.Reasons.{IsRefusedObject, no_object};
 
+use crate::abi::ET_REL;
 use crate::cause::{ElfCause, ElfFault};
 use crate::entries::{entries_of, relocs_fault};
 use crate::header::{cut, identified, lower, test};
@@ -248,9 +249,9 @@ fn section_tested(alloc: Global, bytes: &[u8]) -> Result<Object, ElfFault>
 #[tactic(auto, unfolding(crate::specs::Faults::tested, crate::specs::ObjectReading::wrong_object))]
 fn header_tested(alloc: Global, bytes: &[u8]) -> Result<Object, ElfFault>
     requires { IsWhole bytes.now }
-    ensures { Gives (λ o. o) result (and_then (identified 1 bytes.now) (tested (wrong_object bytes.now) (Sizes ∷ section_causes) (object_at bytes.now))) }
+    ensures { Gives (λ o. o) result (and_then (identified ET_REL bytes.now) (tested (wrong_object bytes.now) (Sizes ∷ section_causes) (object_at bytes.now))) }
 {
-    identified(bytes, 1)?;
+    identified(bytes, ET_REL)?;
     test(ElfCause::Sizes, object_sizes(bytes))?;
     section_tested(alloc, bytes)
 }

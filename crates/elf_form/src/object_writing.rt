@@ -7,12 +7,15 @@ ghost use Rattle.elf_form.specs.StringTable.{name_place, IsStringTable, HasPlace
 ghost use Rattle.elf_form.specs.ObjectLayout.{next, layout as layout_of, names_of, strings_of, is_of, place_number, symbol_bytes, symbol_table, first_global, reloc_bytes, reloc_table, object_header, object_parts, object_tables, part_sections, table_sections, object_names, object_bytes, IsWritableObject, IsWholeObject, HasValues, AreLengths};
 ghost use Rattle.elf_form.specs.ObjectReading.{object_in};
 
-use crate::object::{DefinedIn, Object, Reloc, Symbol, bytes_of};
-use crate::output::{pad, put_halves, put_longs, put_padded, put_zeros};
+use crate::abi::{EM_386, ET_REL, EV_CURRENT, R_386_32, R_386_PC32};
+use crate::object::{Object, Place, Reloc, Symbol, bytes_of};
+use crate::output::{IDENTITY, pad, put_halves, put_longs, put_padded, put_zeros};
+use crate::section_header::{
+    DATA_SECTION, NO_SECTION, SITES_SECTION, TEXT_SECTION, bss_section, names_section, put_headers,
+    relocations_section, symbols_section,
+};
 use crate::strings::{Places, strings};
 use std::alloc::{AllocError, Global};
-
-const IDENTITY: [u8; 16] = *b"\x7FELF\x01\x01\x01\0\0\0\0\0\0\0\0\0";
 
 const NAMES: [u8; 74] =
     *b"\0.text\0.data\0.bss\0.pv_sites\0.rel.text\0.rel.data\0.symtab\0.strtab\0.shstrtab\0";
@@ -60,14 +63,14 @@ fn count_of(relocs: &[Reloc], in_text: bool) -> usize
     count
 }
 
-fn place_number(place: DefinedIn) -> u16
+fn place_number(place: Place) -> u16
     ensures { result ≡ place_number place }
 {
     match place {
-        DefinedIn::Undefined => 0,
-        DefinedIn::Text => 1,
-        DefinedIn::Init => 2,
-        DefinedIn::Bss => 3,
+        Place::Undefined => 0,
+        Place::Text => 1,
+        Place::Init => 2,
+        Place::Bss => 3,
     }
 }
 
@@ -76,7 +79,7 @@ fn put_reloc(out: &mut Vec<u8>, reloc: &Reloc) -> Result<(), AllocError>
     requires { reloc.now.symbol < 65536 }
     ensures { OnOk result (out.new.items ≡ out.old.items ++ reloc_bytes reloc.now) }
 {
-    let kind = if reloc.relative { 2 } else { 1 };
+    let kind = if reloc.relative { R_386_PC32 } else { R_386_32 };
     put_longs(out, &[reloc.at, 256 * (reloc.symbol + 1) + kind])
 }
 
@@ -110,7 +113,8 @@ fn symbol_numbers(name: u32, value: u32) -> [u32; 3]
 
 #[tactic(auto, unfolding(crate::specs::ObjectLayout::symbol_bytes))]
 fn put_symbol(out: &mut Vec<u8>, places: &Places, symbol: &Symbol) -> Result<(), AllocError>
-    ensures bytes { OnOk result ((names : List (List ℕ)) → HasPlaces names places.now → out.new.items ≡ out.old.items ++ symbol_bytes names symbol.now) }
+    ensures bytes { OnOk result ((names : List (List ℕ)) → HasPlaces names places.now
+        → out.new.items ≡ out.old.items ++ symbol_bytes names symbol.now) }
     ensures value { symbol.now.value < 2 ^ 32 }
 {
     let place = place_of(places, bytes_of(&symbol.name));
@@ -121,7 +125,8 @@ fn put_symbol(out: &mut Vec<u8>, places: &Places, symbol: &Symbol) -> Result<(),
 }
 
 fn put_symbols(out: &mut Vec<u8>, places: &Places, symbols: &[Symbol]) -> Result<(), AllocError>
-    ensures bytes { OnOk result ((names : List (List ℕ)) → HasPlaces names places.now → out.new.items ≡ out.old.items ++ (replicate 16 0 ++ flat_map (symbol_bytes names) symbols.now)) }
+    ensures bytes { OnOk result ((names : List (List ℕ)) → HasPlaces names places.now
+        → out.new.items ≡ out.old.items ++ (replicate 16 0 ++ flat_map (symbol_bytes names) symbols.now)) }
     ensures values { OnOk result (All (λ s. s.value < 2 ^ 32) symbols.now) }
 {
     put_zeros(out, 16)?;
@@ -192,8 +197,8 @@ fn put_header(out: &mut Vec<u8>, object: &Object, layout: &Layout) -> Result<(),
     ensures { OnOk result (out.new.items ≡ out.old.items ++ object_header object.now) }
 {
     out.extend_from_slice(&IDENTITY)?;
-    put_halves(out, &[1, 3])?;
-    put_longs(out, &[1, 0, 0, layout.sections, 0])?;
+    put_halves(out, &[ET_REL, EM_386])?;
+    put_longs(out, &[EV_CURRENT, 0, 0, layout.sections, 0])?;
     put_halves(out, &[52, 0, 0, 40, 10, 9])
 }
 
@@ -244,8 +249,7 @@ fn first_global(symbols: &[Symbol]) -> usize
     symbols.len() + 1
 }
 
-// The fields of a section header: name, type, flags, address, offset, bytes, link, info,
-// alignment, size of entries.
+/// Puts the section headers of what an object has.
 fn put_part_sections(
     out: &mut Vec<u8>,
     object: &Object,
@@ -258,18 +262,17 @@ fn put_part_sections(
 {
     let (text, init) = (lengths.text as u32, lengths.init as u32);
     let sites = lengths.sites as u32;
-    let (init_at, sites_at) = (layout.init, layout.sites);
-    let bss = object.bss;
-    let numbers = [
-        0, 0, 0, 0, 0, 0, 0, 0, 0, 0, //
-        1, 1, 6, 0, 52, text, 0, 0, 16, 0, //
-        7, 1, 3, 0, init_at, init, 0, 0, 16, 0, //
-        13, 8, 3, 0, 0, bss, 0, 0, 16, 0, //
-        18, 1, 0, 0, sites_at, sites, 0, 0, 4, 0,
+    let headers = [
+        NO_SECTION,
+        TEXT_SECTION.at(0, 52, text),
+        DATA_SECTION.at(0, layout.init, init),
+        bss_section(16).at(0, 0, object.bss),
+        SITES_SECTION.at(0, layout.sites, sites),
     ];
-    put_longs(out, &numbers)
+    put_headers(out, &headers)
 }
 
+/// Puts the section headers of the tables.
 fn put_table_sections(
     out: &mut Vec<u8>,
     object: &Object,
@@ -282,23 +285,18 @@ fn put_table_sections(
     ensures { OnOk result (out.new.items ≡ out.old.items ++ longs (table_sections object.now)) }
 {
     let text = 8 * lengths.text_relocs as u32;
-    let text_at = layout.text_relocs;
     let data = 8 * lengths.data_relocs as u32;
-    let data_at = layout.data_relocs;
     let symbols = 16 * (lengths.symbols as u32 + 1);
-    let symbols_at = layout.symbols;
-    let global = first_global(&object.symbols) as u32;
     let strings = lengths.strings as u32;
-    let strings_at = layout.strings;
-    let names_at = layout.names;
-    let numbers = [
-        28, 9, 0, 0, text_at, text, 7, 1, 0, 8, //
-        38, 9, 0, 0, data_at, data, 7, 2, 0, 8, //
-        48, 2, 0, 0, symbols_at, symbols, 8, global, 0, 16, //
-        56, 3, 0, 0, strings_at, strings, 0, 0, 0, 0, //
-        64, 3, 0, 0, names_at, 74, 0, 0, 0, 0,
+    let global = first_global(&object.symbols) as u32;
+    let headers = [
+        relocations_section(28, 1).at(0, layout.text_relocs, text),
+        relocations_section(38, 2).at(0, layout.data_relocs, data),
+        symbols_section(global).at(0, layout.symbols, symbols),
+        names_section(56).at(0, layout.strings, strings),
+        names_section(64).at(0, layout.names, NAMES.len() as u32),
     ];
-    put_longs(out, &numbers)
+    put_headers(out, &headers)
 }
 
 /// Puts the whole file of an object.

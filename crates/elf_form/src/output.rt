@@ -5,6 +5,9 @@ ghost use Rattle.elf_form.specs.Output.{halves, longs, pad};
 
 use std::alloc::AllocError;
 
+/// The identification: the class, the encoding and the version of what is written.
+pub const IDENTITY: [u8; 16] = *b"\x7FELF\x01\x01\x01\0\0\0\0\0\0\0\0\0";
+
 /// Adds numbers of two bytes.
 pub fn put_halves(out: &mut Vec<u8>, numbers: &[u16]) -> Result<(), AllocError>
     ensures { OnOk result (out.new.items ≡ out.old.items ++ halves numbers.now) }

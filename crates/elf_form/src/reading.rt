@@ -12,6 +12,7 @@ ghost use Rattle.elf_form.specs.Accepted.{ImageAs};
 ghost use Rattle.elf_form.specs.Reading.{wrong_image, image_at, image_in, parts_by, ArePlaces};
 ghost use Rattle.elf_form.specs.Reasons.{IsRefusedImage, no_image};
 
+use crate::abi::{E_ENTRY, ET_EXEC, P_FILESZ, P_MEMSZ, P_OFFSET, P_VADDR};
 use crate::cause::{ElfCause, ElfFault};
 use crate::header::{cut, identified, lower, test};
 use crate::image::Image;
@@ -44,10 +45,10 @@ fn section_tested(bytes: &[u8]) -> Result<(usize, usize, usize), ElfFault>
 #[tactic(auto, unfolding(crate::specs::Faults::tested, crate::specs::Reading::wrong_image))]
 fn header_tested(bytes: &[u8]) -> Result<(usize, usize, usize), ElfFault>
     requires { IsWhole bytes.now }
-    ensures exact { Gives (parts_by bytes.now) result (and_then (identified 2 bytes.now) (tested (wrong_image bytes.now) (Sizes ∷ section_causes) (image_at bytes.now))) }
+    ensures exact { Gives (parts_by bytes.now) result (and_then (identified ET_EXEC bytes.now) (tested (wrong_image bytes.now) (Sizes ∷ section_causes) (image_at bytes.now))) }
     ensures places { IfOk result (ArePlaces bytes.now) }
 {
-    identified(bytes, 2)?;
+    identified(bytes, ET_EXEC)?;
     test(ElfCause::Sizes, sizes(bytes))?;
     section_tested(bytes)
 }
@@ -70,10 +71,10 @@ fn tested(bytes: &[u8]) -> Result<(usize, usize, usize), ElfFault>
 #[tactic(auto, unfolding(guest_ram::specs::Bytes::part))]
 fn named(bytes: &[u8], h: usize) -> &[u8]
     requires { IsHeader bytes.now h }
-    ensures { result.now ≡ part bytes.now (word32 bytes.now (h + 4)) (word32 bytes.now (h + 16)) }
+    ensures { result.now ≡ part bytes.now (word32 bytes.now (h + P_OFFSET)) (word32 bytes.now (h + P_FILESZ)) }
 {
-    let at = word(bytes, h + 4) as usize;
-    let size = word(bytes, h + 16) as usize;
+    let at = word(bytes, h + P_OFFSET) as usize;
+    let size = word(bytes, h + P_FILESZ) as usize;
     &bytes[at..at + size]
 }
 
@@ -85,10 +86,10 @@ fn image(alloc: Global, bytes: &[u8]) -> Result<Image, ElfFault>
     Ok(Image {
         text: Vec::from_slice(alloc, named(bytes, text))?,
         init: Vec::from_slice(alloc, named(bytes, data))?,
-        bss: word(bytes, data + 20) - word(bytes, data + 16),
-        entry: word(bytes, 24),
-        text_at: word(bytes, text + 8),
-        init_at: word(bytes, data + 8),
+        bss: word(bytes, data + P_MEMSZ) - word(bytes, data + P_FILESZ),
+        entry: word(bytes, E_ENTRY),
+        text_at: word(bytes, text + P_VADDR),
+        init_at: word(bytes, data + P_VADDR),
         sites: Vec::from_slice(alloc, contents(bytes, sites))?,
     })
 }
@@ -103,7 +104,8 @@ pub fn read_image(alloc: Global, bytes: &[u8]) -> Result<Image, ElfFault>
     ensures first { (at : ℕ) (cause : ElfCause) → result ≡ Err (ElfFault.At at cause) → IsFirstOf (wrong_image bytes.now) causes at cause }
     // The same by the causes' conditions: at the cause's place its own holds, and at no place does one of a cause before it.
     ensures refused { (at : ℕ) (cause : ElfCause) → result ≡ Err (ElfFault.At at cause) → IsRefusedImage bytes.now at cause }
-    ensures refused_only { (at : ℕ) (cause : ElfCause) → IsRefusedImage bytes.now at cause → Gives (λ image. image) result (no_image at cause) }
+    ensures refused_only { (at : ℕ) (cause : ElfCause) → IsRefusedImage bytes.now at cause
+        → Gives (λ image. image) result (no_image at cause) }
     ensures exact { Gives (λ image. image) result (image_in bytes.now) }
 {
     image(alloc, bytes)

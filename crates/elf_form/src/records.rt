@@ -8,6 +8,7 @@ ghost use Rattle.elf_form.specs.declared.roles.Role.TheVariants.{Init, Bss};
 ghost use Rattle.elf_form.specs.Roles.{starts as starts_of};
 ghost use Rattle.elf_form.specs.Symbols.{IsEntry, start_at, name_in, symbol_at, symbols_in, numbers, symbols_of, reloc_at};
 
+use crate::abi::{R_386_PC32, R_INFO, SH_INFO, ST_INFO, ST_SHNDX, ST_VALUE, STB_GLOBAL};
 use crate::object::{Bytes, Reloc, Symbol};
 use crate::roles::{Role, role_number};
 use crate::sections::from;
@@ -73,7 +74,7 @@ fn symbol_at(
     requires inside { y + 16 ≤ length bytes.now }
     ensures { IfOk result (λ s. s ≡ symbol_at strings.now names.now bytes.now y) }
 {
-    let index = half(bytes, y + 14) as usize;
+    let index = half(bytes, y + ST_SHNDX) as usize;
     let name = name_in(strings, word(bytes, y) as usize);
     let start = start_at(starts, names, bytes, index);
     Ok(Symbol {
@@ -81,8 +82,8 @@ fn symbol_at(
             list: Vec::from_slice(alloc, name)?,
         },
         place: place_by(role_at(names, bytes, index)),
-        value: start.wrapping_add(word(bytes, y + 4)),
-        global: byte(bytes, y + 12) / 16 == 1,
+        value: start.wrapping_add(word(bytes, y + ST_VALUE)),
+        global: byte(bytes, y + ST_INFO) / 16 == STB_GLOBAL,
     })
 }
 
@@ -153,14 +154,14 @@ fn reloc_at(starts: Starts, numbers: &[u32], names: &[u8], bytes: &[u8], e: Entr
     requires inside { IsEntry bytes.now e }
     ensures { result ≡ reloc_at numbers.now names.now bytes.now e }
 {
-    let target = word(bytes, e.section + 28) as usize;
-    let info = word(bytes, e.at + 4);
+    let target = word(bytes, e.section + SH_INFO) as usize;
+    let info = word(bytes, e.at + R_INFO);
     let number = (info / 256) as usize;
     Reloc {
-        in_text: role_number(role_at(names, bytes, target)) == 2,
+        in_text: role_number(role_at(names, bytes, target)) == role_number(Role::Text),
         at: start_at(starts, names, bytes, target).wrapping_add(word(bytes, e.at)),
         symbol: numbers.get(number.saturating_sub(1)).copied().unwrap_or(0),
-        relative: info % 256 == 2,
+        relative: info % 256 == R_386_PC32,
     }
 }
 

@@ -8,6 +8,10 @@ ghost use Rattle.elf_form.specs.Header.{IsWhole, IsSection, sections};
 ghost use Rattle.elf_form.specs.Roles.{allocated_role, unallocated_role, role_by, role as role_of, role_number, has_role, with_role, is_kept, alignments, is_misaligned, misaligned, joined_fault, up};
 ghost use Rattle.elf_form.specs.Output.{pad};
 
+use crate::abi::{
+    E_SHNUM, E_SHOFF, SH_ADDRALIGN, SH_FLAGS, SH_TYPE, SHF_ALLOC, SHF_EXECINSTR, SHT_NOBITS,
+    SHT_NOTE, SHT_PROGBITS, SHT_REL, SHT_SYMTAB,
+};
 use crate::sections::{is_null, is_sites};
 use crate::segments::Found;
 use guest_ram::{half, word};
@@ -30,10 +34,10 @@ fn allocated_role(kind: u32, flags: u32) -> Role
     ensures { result ≡ allocated_role kind flags }
 {
     match kind {
-        1 if flags / 4 % 2 == 1 => Role::Text,
-        1 => Role::Init,
-        8 => Role::Bss,
-        7 => Role::Ignored,
+        SHT_PROGBITS if flags / SHF_EXECINSTR % 2 == 1 => Role::Text,
+        SHT_PROGBITS => Role::Init,
+        SHT_NOBITS => Role::Bss,
+        SHT_NOTE => Role::Ignored,
         _ => Role::Foreign,
     }
 }
@@ -42,8 +46,8 @@ fn unallocated_role(kind: u32) -> Role
     ensures { result ≡ unallocated_role kind }
 {
     match kind {
-        2 => Role::Symbols,
-        9 => Role::Relocs,
+        SHT_SYMTAB => Role::Symbols,
+        SHT_REL => Role::Relocs,
         _ => Role::Ignored,
     }
 }
@@ -51,13 +55,15 @@ fn unallocated_role(kind: u32) -> Role
 fn role_by(kind: u32, flags: u32) -> Role
     ensures { result ≡ role_by kind flags }
 {
-    if flags / 2 % 2 == 1 {
+    if flags / SHF_ALLOC % 2 == 1 {
         allocated_role(kind, flags)
     } else {
         unallocated_role(kind)
     }
 }
 
+/// What the section is read as whose header begins at `s`, by its name, its type and its flags. `names` is the table
+/// of names.
 #[tactic(auto, unfolding(crate::specs::Roles::role))]
 pub fn section_role(names: &[u8], bytes: &[u8], s: usize) -> Role
     requires { s + 40 ≤ length bytes.now }
@@ -69,9 +75,10 @@ pub fn section_role(names: &[u8], bytes: &[u8], s: usize) -> Role
     if is_sites(names, bytes, s) {
         return Role::Sites;
     }
-    role_by(word(bytes, s + 4), word(bytes, s + 8))
+    role_by(word(bytes, s + SH_TYPE), word(bytes, s + SH_FLAGS))
 }
 
+/// The number of a role, by which roles are compared.
 pub fn role_number(role: Role) -> u8
     ensures { result ≡ role_number role }
 {
@@ -87,6 +94,7 @@ pub fn role_number(role: Role) -> u8
     }
 }
 
+/// Whether the section whose header begins at `s` is read as this.
 pub fn has_role(role: Role, names: &[u8], bytes: &[u8], s: usize) -> bool
     requires { s + 40 ≤ length bytes.now }
     ensures { result ≡ has_role role names.now bytes.now s }
@@ -94,6 +102,7 @@ pub fn has_role(role: Role, names: &[u8], bytes: &[u8], s: usize) -> bool
     role_number(section_role(names, bytes, s)) == role_number(role)
 }
 
+/// Whether the section is one of the object's: text, data or zeroed bytes.
 pub fn is_kept(role: Role) -> bool
     ensures { result ≡ is_kept role }
 {
@@ -109,8 +118,8 @@ pub fn with_role(role: Role, names: &[u8], bytes: &[u8]) -> Found
     ensures found { result ≡ with_role role names.now bytes.now }
     ensures inside { AllFound (IsSection bytes.now) result }
 {
-    let table = word(bytes, 32) as usize;
-    let count = half(bytes, 48) as usize;
+    let table = word(bytes, E_SHOFF) as usize;
+    let count = half(bytes, E_SHNUM) as usize;
     let mut found = Found::Nothing;
     for i in 0..count {
         let s = table + 40 * i;
@@ -143,10 +152,11 @@ fn is_alignment(number: u32) -> bool
     ALIGNMENTS.contains(&number)
 }
 
+/// Whether it is a section of data or of zeroed bytes whose alignment isn't 0 or a power of 2 up to 4096 (profile).
 pub fn is_misaligned(names: &[u8], bytes: &[u8], s: usize) -> bool
     requires { s + 40 ≤ length bytes.now }
     ensures { result ≡ is_misaligned names.now bytes.now s }
 {
     (has_role(Role::Init, names, bytes, s) || has_role(Role::Bss, names, bytes, s))
-        && !is_alignment(word(bytes, s + 32))
+        && !is_alignment(word(bytes, s + SH_ADDRALIGN))
 }

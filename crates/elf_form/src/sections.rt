@@ -6,6 +6,10 @@ ghost use Rattle.elf_form.specs.Tables.{AllFound};
 ghost use Rattle.elf_form.specs.Header.{IsWhole, IsSection, section_passes};
 ghost use Rattle.elf_form.specs.Sections.{contents, is_index, names, is_null, is_nameless, is_sites, is_compressed, sites_sections, one_of, compressed, nameless};
 
+use crate::abi::{
+    E_SHNUM, E_SHOFF, E_SHSTRNDX, SH_FLAGS, SH_OFFSET, SH_SIZE, SH_TYPE, SHF_COMPRESSED,
+    SHN_LORESERVE, SHN_UNDEF, SHT_NOBITS, SHT_NULL, SHT_STRTAB,
+};
 use crate::segments::Found;
 use guest_ram::{half, word};
 
@@ -18,26 +22,23 @@ pub fn contents(bytes: &[u8], s: usize) -> &[u8]
     requires { IsSection bytes.now s }
     ensures bytes { result.now ≡ contents bytes.now s }
     ensures small { length result.now < 2 ^ 32 }
-    ensures inside { 0 < length result.now → word32 bytes.now (s + 16) + length result.now ≤ length bytes.now }
+    ensures inside { 0 < length result.now → word32 bytes.now (s + SH_OFFSET) + length result.now ≤ length bytes.now }
 {
-    let kind = word(bytes, s + 4);
-    if kind == 0 || kind == 8 {
+    let kind = word(bytes, s + SH_TYPE);
+    if kind == SHT_NULL || kind == SHT_NOBITS {
         return &[];
     }
-    let at = word(bytes, s + 16) as usize;
-    let size = word(bytes, s + 20) as usize;
+    let at = word(bytes, s + SH_OFFSET) as usize;
+    let size = word(bytes, s + SH_SIZE) as usize;
     &bytes[at..at + size]
 }
 
-/// The first section index that is reserved (SHN_LORESERVE).
-const FIRST_RESERVED: usize = 0xFF00;
-
-/// Whether an index names a section; 0 (SHN_UNDEF) and the reserved ones name none.
+/// Whether an index names a section; `SHN_UNDEF` and the reserved ones name none.
 pub fn is_index(bytes: &[u8], index: usize) -> bool
     requires { 52 ≤ length bytes.now }
     ensures { result ≡ is_index bytes.now index }
 {
-    index != 0 && index < FIRST_RESERVED && index < half(bytes, 48) as usize
+    index != SHN_UNDEF && index < SHN_LORESERVE && index < half(bytes, E_SHNUM) as usize
 }
 
 /// The bytes of the section that has the names.
@@ -46,13 +47,13 @@ pub fn names(bytes: &[u8]) -> &[u8]
     requires { IsWhole bytes.now }
     ensures { result.now ≡ names bytes.now }
 {
-    let index = half(bytes, 50) as usize;
-    let table = word(bytes, 32) as usize;
+    let index = half(bytes, E_SHSTRNDX) as usize;
+    let table = word(bytes, E_SHOFF) as usize;
     if !is_index(bytes, index) {
         return &[];
     }
     let s = table + 40 * index;
-    if word(bytes, s + 4) != 3 {
+    if word(bytes, s + SH_TYPE) != SHT_STRTAB {
         return &[];
     }
     contents(bytes, s)
@@ -65,32 +66,35 @@ pub fn from(names: &[u8], at: usize) -> &[u8]
     if at > names.len() { &[] } else { &names[at..] }
 }
 
+/// Whether the section's type is SHT_NULL.
 pub fn is_null(bytes: &[u8], s: usize) -> bool
     requires { s + 40 ≤ length bytes.now }
     ensures { result ≡ is_null bytes.now s }
 {
-    word(bytes, s + 4) == 0
+    word(bytes, s + SH_TYPE) == SHT_NULL
 }
 
 fn is_nameless(names: &[u8], bytes: &[u8], s: usize) -> bool
     requires { s + 40 ≤ length bytes.now }
     ensures { result ≡ is_nameless names.now bytes.now s }
 {
-    word(bytes, s + 4) != 0 && !from(names, word(bytes, s) as usize).contains(&0)
+    word(bytes, s + SH_TYPE) != SHT_NULL && !from(names, word(bytes, s) as usize).contains(&0)
 }
 
+/// Whether the section has the name of the list of sites.
 pub fn is_sites(names: &[u8], bytes: &[u8], s: usize) -> bool
     requires { s + 40 ≤ length bytes.now }
     ensures { result ≡ is_sites names.now bytes.now s }
 {
-    word(bytes, s + 4) != 0 && from(names, word(bytes, s) as usize).starts_with(&SITES_NAME)
+    word(bytes, s + SH_TYPE) != SHT_NULL
+        && from(names, word(bytes, s) as usize).starts_with(&SITES_NAME)
 }
 
 fn is_compressed(bytes: &[u8], s: usize) -> bool
     requires { s + 40 ≤ length bytes.now }
     ensures { result ≡ is_compressed bytes.now s }
 {
-    word(bytes, s + 4) != 0 && word(bytes, s + 8) / 2048 % 2 == 1
+    word(bytes, s + SH_TYPE) != SHT_NULL && word(bytes, s + SH_FLAGS) / SHF_COMPRESSED % 2 == 1
 }
 
 /// The sections of sites.
@@ -99,8 +103,8 @@ pub fn sites_sections(bytes: &[u8]) -> Found
     ensures found { result ≡ sites_sections bytes.now }
     ensures inside { AllFound (IsSection bytes.now) result }
 {
-    let table = word(bytes, 32) as usize;
-    let count = half(bytes, 48) as usize;
+    let table = word(bytes, E_SHOFF) as usize;
+    let count = half(bytes, E_SHNUM) as usize;
     let names = names(bytes);
     let mut found = Found::Nothing;
     for i in 0..count {
@@ -117,7 +121,7 @@ pub fn one_of(sections: Found) -> Option<usize>
     ensures { result ≡ one_of sections }
 {
     match sections {
-        Found::Nothing => Some(48),
+        Found::Nothing => Some(E_SHNUM),
         Found::One(_) => None,
         Found::Two(_, t) | Found::More(_, t) => Some(t),
     }
@@ -129,12 +133,12 @@ pub fn compressed(bytes: &[u8]) -> Option<usize>
     ensures place { result ≡ compressed bytes.now }
     ensures inside { IfSome result (λ at. at < length bytes.now) }
 {
-    let table = word(bytes, 32) as usize;
-    let count = half(bytes, 48) as usize;
+    let table = word(bytes, E_SHOFF) as usize;
+    let count = half(bytes, E_SHNUM) as usize;
     for i in 0..count {
         let s = table + 40 * i;
         if is_compressed(bytes, s) {
-            return Some(s + 8);
+            return Some(s + SH_FLAGS);
         }
     }
     None
@@ -146,8 +150,8 @@ pub fn nameless(bytes: &[u8]) -> Option<usize>
     ensures place { result ≡ nameless bytes.now }
     ensures inside { IfSome result (λ at. at < length bytes.now) }
 {
-    let table = word(bytes, 32) as usize;
-    let count = half(bytes, 48) as usize;
+    let table = word(bytes, E_SHOFF) as usize;
+    let count = half(bytes, E_SHNUM) as usize;
     let names = names(bytes);
     for i in 0..count {
         let s = table + 40 * i;

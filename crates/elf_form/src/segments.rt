@@ -6,6 +6,9 @@ ghost use Rattle.elf_form.specs.Tables.{entries, found, with_one, first_of, seco
 ghost use Rattle.elf_form.specs.Header.{IsWhole, IsHeader};
 ghost use Rattle.elf_form.specs.Segments.{loads, memory_sizes, first_size, second_size, sizes, order, is_executable};
 
+use crate::abi::{
+    E_EHSIZE, E_PHENTSIZE, E_PHNUM, E_PHOFF, E_SHENTSIZE, P_FILESZ, P_FLAGS, P_MEMSZ, PF_X, PT_LOAD,
+};
 use crate::header::lower;
 use guest_ram::{half, word};
 
@@ -22,6 +25,7 @@ pub enum Found {
 }
 
 impl Found {
+    /// With an entry more. Of a third and later ones it is only known that there are more.
     pub fn with(self, at: usize) -> Found
         ensures { result ≡ with_one self at }
     {
@@ -32,6 +36,7 @@ impl Found {
         }
     }
 
+    /// The offset of the first, 0 where there is none.
     pub fn first(self) -> usize
         ensures { result ≡ first_of self }
     {
@@ -41,6 +46,7 @@ impl Found {
         }
     }
 
+    /// The offset of the second, 0 where there is none.
     pub fn second(self) -> usize
         ensures { result ≡ second_of self }
     {
@@ -58,12 +64,12 @@ pub fn loads(bytes: &[u8]) -> Found
     ensures found { result ≡ loads bytes.now }
     ensures inside { AllFound (IsHeader bytes.now) result }
 {
-    let table = word(bytes, 28) as usize;
-    let count = half(bytes, 44) as usize;
+    let table = word(bytes, E_PHOFF) as usize;
+    let count = half(bytes, E_PHNUM) as usize;
     let mut found = Found::Nothing;
     for i in 0..count {
         let h = table + 32 * i;
-        if word(bytes, h) == 1 {
+        if word(bytes, h) == PT_LOAD {
             found = found.with(h);
         }
     }
@@ -74,14 +80,14 @@ fn first_size(bytes: &[u8], h: usize) -> Option<usize>
     requires { h + 32 ≤ length bytes.now }
     ensures { result ≡ first_size bytes.now h }
 {
-    (word(bytes, h + 20) != word(bytes, h + 16)).then_some(h + 20)
+    (word(bytes, h + P_MEMSZ) != word(bytes, h + P_FILESZ)).then_some(h + P_MEMSZ)
 }
 
 fn second_size(bytes: &[u8], h: usize) -> Option<usize>
     requires { h + 32 ≤ length bytes.now }
     ensures { result ≡ second_size bytes.now h }
 {
-    (word(bytes, h + 20) < word(bytes, h + 16)).then_some(h + 20)
+    (word(bytes, h + P_MEMSZ) < word(bytes, h + P_FILESZ)).then_some(h + P_MEMSZ)
 }
 
 #[tactic(auto, unfolding(crate::specs::Segments::memory_sizes))]
@@ -109,10 +115,13 @@ pub fn sizes(bytes: &[u8]) -> Option<usize>
     let memory = memory_sizes(bytes, loads(bytes));
     let long = (LIMIT < bytes.len()).then_some(LIMIT);
     lower(
-        (half(bytes, 40) != 52).then_some(40),
+        (half(bytes, E_EHSIZE) != 52).then_some(E_EHSIZE),
         lower(
-            (half(bytes, 42) != 32).then_some(42),
-            lower((half(bytes, 46) != 40).then_some(46), lower(memory, long)),
+            (half(bytes, E_PHENTSIZE) != 32).then_some(E_PHENTSIZE),
+            lower(
+                (half(bytes, E_SHENTSIZE) != 40).then_some(E_SHENTSIZE),
+                lower(memory, long),
+            ),
         ),
     )
 }
@@ -121,7 +130,7 @@ fn is_executable(bytes: &[u8], h: usize) -> bool
     requires { h + 32 ≤ length bytes.now }
     ensures { result ≡ is_executable bytes.now h }
 {
-    word(bytes, h + 24) % 2 == 1
+    word(bytes, h + P_FLAGS) % 2 == PF_X
 }
 
 /// Whether there are two, of which the first alone is executable.
@@ -132,7 +141,9 @@ pub fn order(bytes: &[u8], headers: Found) -> Option<usize>
     ensures small { IfSome result (λ at. at ≡ 44) }
 {
     match headers {
-        Found::Two(a, b) => (!(is_executable(bytes, a) && !is_executable(bytes, b))).then_some(44),
-        Found::Nothing | Found::One(_) | Found::More(_, _) => Some(44),
+        Found::Two(a, b) => (!(is_executable(bytes, a) && !is_executable(bytes, b))).then_some(
+            E_PHNUM,
+        ),
+        Found::Nothing | Found::One(_) | Found::More(_, _) => Some(E_PHNUM),
     }
 }

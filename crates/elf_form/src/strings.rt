@@ -18,7 +18,8 @@ pub fn put_name<'a>(
     name: &'a [u8],
 ) -> Result<(), AllocError>
     requires { length strings.old.items < 2 ^ 32 }
-    ensures { OnOk result ((names : List (List ℕ)) → IsStringTable names strings.old.items places.old → IsStringTable (with_name names name.now) strings.new.items places.new) }
+    ensures { OnOk result ((names : List (List ℕ)) → IsStringTable names strings.old.items places.old
+        → IsStringTable (with_name names name.now) strings.new.items places.new) }
 {
     if places.contains_key(name) {
         return Ok(());

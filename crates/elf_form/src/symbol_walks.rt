@@ -6,6 +6,7 @@ ghost use Rattle.elf_form.specs.Faults.{◌or_lower◌};
 ghost use Rattle.elf_form.specs.Header.{IsWhole, IsSection};
 ghost use Rattle.elf_form.specs.Symbols.{sections_fault, symbols_fault};
 
+use crate::abi::{E_SHNUM, E_SHOFF};
 use crate::symbols::{SectionTest, SymbolTest, Table, section_test, symbol_test};
 use guest_ram::{half, word};
 
@@ -15,8 +16,8 @@ pub fn sections_fault(test: SectionTest, table: Table, names: &[u8], bytes: &[u8
     ensures place { result ≡ sections_fault test table names.now bytes.now }
     ensures inside { IfSome result (λ at. at < length bytes.now) }
 {
-    let first = word(bytes, 32) as usize;
-    let count = half(bytes, 48) as usize;
+    let first = word(bytes, E_SHOFF) as usize;
+    let count = half(bytes, E_SHNUM) as usize;
     for i in 0..count {
         if let Some(at) = section_test(test, table, names, bytes, first + 40 * i) {
             return Some(at);

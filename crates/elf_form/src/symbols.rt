@@ -6,7 +6,11 @@ ghost use Rattle.elf_form.specs.Tables.{AllFound};
 ghost use Rattle.elf_form.specs.Header.{IsWhole, IsSection, section_table, section_count};
 ghost use Rattle.elf_form.specs.Symbols.{target_role, table_at, is_file, has_binding, has_place, is_listed, place_by, role_at, symbol_fault, global_fault, is_reloc_section, is_reloc_section_of, entries_fault, is_linked, section_test, is_unnamed, symbol_test, has_symbol, size_at, named_symbol, IsEntry, is_outside, has_kind, names_none, named_fault, form_fault, reloc_test};
 
-use crate::object::DefinedIn;
+use crate::abi::{
+    E_SHNUM, E_SHOFF, R_386_32, R_386_PC32, R_INFO, SH_ENTSIZE, SH_INFO, SH_LINK, SH_OFFSET,
+    SH_SIZE, SHN_UNDEF, ST_INFO, ST_SHNDX, STB_LOCAL, STB_WEAK, STT_FILE,
+};
+use crate::object::Place;
 use crate::roles::{Role, has_role, is_kept, role_number, section_role};
 use crate::sections::{contents, from, is_index};
 use crate::segments::Found;
@@ -49,6 +53,8 @@ pub enum RelocTest {
     Form,
 }
 
+/// The table of symbols in the first of the sections that were found: the offsets of its header and of its contents,
+/// and the number of its entries. All 0 where none was found.
 pub fn table_at(bytes: &[u8], found: Found) -> Table
     requires found { AllFound (IsSection bytes.now) found }
     requires header { 52 ≤ length bytes.now }
@@ -65,35 +71,37 @@ pub fn table_at(bytes: &[u8], found: Found) -> Table
         },
         Found::One(s) | Found::Two(s, _) | Found::More(s, _) => Table {
             section: s,
-            at: word(bytes, s + 16) as usize,
+            at: word(bytes, s + SH_OFFSET) as usize,
             count: contents(bytes, s).len() / 16,
         },
     }
 }
 
+/// Whether the symbol at `y` names a source file (STT_FILE).
 pub fn is_file(bytes: &[u8], y: usize) -> bool
     requires { y + 16 ≤ length bytes.now }
     ensures { result ≡ is_file bytes.now y }
 {
-    byte(bytes, y + 12) % 16 == 4
+    byte(bytes, y + ST_INFO) % 16 == STT_FILE
 }
 
 fn has_binding(bytes: &[u8], y: usize) -> bool
     requires { y + 16 ≤ length bytes.now }
     ensures { result ≡ has_binding bytes.now y }
 {
-    byte(bytes, y + 12) / 16 < 2
+    byte(bytes, y + ST_INFO) / 16 < STB_WEAK
 }
 
-pub fn place_by(role: Role) -> DefinedIn
+/// Where a symbol is defined, by what its section is read as.
+pub fn place_by(role: Role) -> Place
     ensures { result ≡ place_by role }
 {
     match role {
-        Role::Text => DefinedIn::Text,
-        Role::Init => DefinedIn::Init,
-        Role::Bss => DefinedIn::Bss,
+        Role::Text => Place::Text,
+        Role::Init => Place::Init,
+        Role::Bss => Place::Bss,
         Role::Ignored | Role::Sites | Role::Foreign | Role::Symbols | Role::Relocs => {
-            DefinedIn::Undefined
+            Place::Undefined
         }
     }
 }
@@ -107,7 +115,7 @@ pub fn role_at(names: &[u8], bytes: &[u8], index: usize) -> Role
     if !is_index(bytes, index) {
         return Role::Ignored;
     }
-    section_role(names, bytes, word(bytes, 32) as usize + 40 * index)
+    section_role(names, bytes, word(bytes, E_SHOFF) as usize + 40 * index)
 }
 
 fn has_place(names: &[u8], bytes: &[u8], y: usize) -> bool
@@ -115,10 +123,12 @@ fn has_place(names: &[u8], bytes: &[u8], y: usize) -> bool
     requires inside { y + 16 ≤ length bytes.now }
     ensures { result ≡ has_place names.now bytes.now y }
 {
-    let index = half(bytes, y + 14);
-    index == 0 || is_kept(role_at(names, bytes, index as usize))
+    let index = half(bytes, y + ST_SHNDX) as usize;
+    index == SHN_UNDEF || is_kept(role_at(names, bytes, index))
 }
 
+/// Whether the symbol at `y` is one of the object's: no file, local or global, undefined or in a section that is
+/// kept.
 pub fn is_listed(names: &[u8], bytes: &[u8], y: usize) -> bool
     requires whole { IsWhole bytes.now }
     requires inside { y + 16 ≤ length bytes.now }
@@ -139,9 +149,9 @@ fn symbol_fault(names: &[u8], bytes: &[u8], y: usize) -> Option<usize>
         return None;
     }
     if !has_binding(bytes, y) {
-        return Some(y + 12);
+        return Some(y + ST_INFO);
     }
-    (!has_place(names, bytes, y)).then_some(y + 14)
+    (!has_place(names, bytes, y)).then_some(y + ST_SHNDX)
 }
 
 fn global_fault(names: &[u8], bytes: &[u8], y: usize) -> Option<usize>
@@ -150,7 +160,7 @@ fn global_fault(names: &[u8], bytes: &[u8], y: usize) -> Option<usize>
     ensures place { result ≡ global_fault names.now bytes.now y }
     ensures small { IfSome result (λ at. at < length bytes.now) }
 {
-    if byte(bytes, y + 12) / 16 == 0 {
+    if byte(bytes, y + ST_INFO) / 16 == STB_LOCAL {
         return None;
     }
     symbol_fault(names, bytes, y)
@@ -161,7 +171,7 @@ fn target_role(names: &[u8], bytes: &[u8], s: usize) -> Role
     requires inside { s + 40 ≤ length bytes.now }
     ensures { result ≡ target_role names.now bytes.now s }
 {
-    role_at(names, bytes, word(bytes, s + 28) as usize)
+    role_at(names, bytes, word(bytes, s + SH_INFO) as usize)
 }
 
 fn is_reloc_section(names: &[u8], bytes: &[u8], s: usize) -> bool
@@ -172,6 +182,7 @@ fn is_reloc_section(names: &[u8], bytes: &[u8], s: usize) -> bool
     has_role(Role::Relocs, names, bytes, s) && is_kept(target_role(names, bytes, s))
 }
 
+/// Whether the section whose header begins at `s` relocates a section of this role.
 pub fn is_reloc_section_of(role: Role, names: &[u8], bytes: &[u8], s: usize) -> bool
     requires whole { IsWhole bytes.now }
     requires inside { s + 40 ≤ length bytes.now }
@@ -181,16 +192,18 @@ pub fn is_reloc_section_of(role: Role, names: &[u8], bytes: &[u8], s: usize) -> 
         && role_number(target_role(names, bytes, s)) == role_number(role)
 }
 
+/// The offset of the first field that is bad: the size, where it isn't a multiple of the entry's, or the entry's size
+/// itself.
 pub fn entries_fault(entry: u32, bytes: &[u8], s: usize) -> Option<usize>
     requires inside { s + 40 ≤ length bytes.now }
     requires entry { 0 < entry }
     ensures place { result ≡ entries_fault entry bytes.now s }
     ensures small { IfSome result (λ at. at < length bytes.now) }
 {
-    if word(bytes, s + 20) % entry != 0 {
-        return Some(s + 20);
+    if word(bytes, s + SH_SIZE) % entry != 0 {
+        return Some(s + SH_SIZE);
     }
-    (word(bytes, s + 36) != entry).then_some(s + 36)
+    (word(bytes, s + SH_ENTSIZE) != entry).then_some(s + SH_ENTSIZE)
 }
 
 fn is_linked(table: Table, names: &[u8], bytes: &[u8], s: usize) -> bool
@@ -198,11 +211,12 @@ fn is_linked(table: Table, names: &[u8], bytes: &[u8], s: usize) -> bool
     requires inside { s + 40 ≤ length bytes.now }
     ensures { result ≡ is_linked table names.now bytes.now s }
 {
-    let link = word(bytes, s + 24) as usize;
-    role_number(role_at(names, bytes, link)) == 6
-        && word(bytes, 32) as usize + 40 * link == table.section
+    let link = word(bytes, s + SH_LINK) as usize;
+    role_number(role_at(names, bytes, link)) == role_number(Role::Symbols)
+        && word(bytes, E_SHOFF) as usize + 40 * link == table.section
 }
 
+/// The offset of the field at which a section of relocations fails the test. Other sections pass.
 pub fn section_test(
     test: SectionTest,
     table: Table,
@@ -220,7 +234,7 @@ pub fn section_test(
     }
     match test {
         SectionTest::EntrySizes => entries_fault(8, bytes, s),
-        SectionTest::Links => (!is_linked(table, names, bytes, s)).then_some(s + 24),
+        SectionTest::Links => (!is_linked(table, names, bytes, s)).then_some(s + SH_LINK),
     }
 }
 
@@ -231,6 +245,7 @@ fn is_unnamed(strings: &[u8], bytes: &[u8], y: usize) -> bool
     !from(strings, word(bytes, y) as usize).contains(&0)
 }
 
+/// The offset at which the symbol at `y` fails the test.
 pub fn symbol_test(
     test: SymbolTest,
     strings: &[u8],
@@ -254,7 +269,7 @@ fn named_symbol(bytes: &[u8], y: usize) -> usize
     ensures number { result ≡ named_symbol bytes.now y }
     ensures small { result < 2 ^ 24 }
 {
-    word(bytes, y + 4) as usize / 256
+    word(bytes, y + R_INFO) as usize / 256
 }
 
 fn has_symbol(table: Table, bytes: &[u8], y: usize) -> bool
@@ -269,10 +284,10 @@ fn size_at(bytes: &[u8], index: usize) -> usize
     requires { IsWhole bytes.now }
     ensures size { result ≡ size_at bytes.now index }
 {
-    if index >= half(bytes, 48) as usize {
+    if index >= half(bytes, E_SHNUM) as usize {
         return 0;
     }
-    word(bytes, word(bytes, 32) as usize + 40 * index + 20) as usize
+    word(bytes, word(bytes, E_SHOFF) as usize + 40 * index + SH_SIZE) as usize
 }
 
 fn is_outside(names: &[u8], bytes: &[u8], e: Entry) -> bool
@@ -280,8 +295,8 @@ fn is_outside(names: &[u8], bytes: &[u8], e: Entry) -> bool
     requires inside { IsEntry bytes.now e }
     ensures { result ≡ is_outside names.now bytes.now e }
 {
-    let index = word(bytes, e.section + 28) as usize;
-    if role_number(role_at(names, bytes, index)) == 4 {
+    let index = word(bytes, e.section + SH_INFO) as usize;
+    if role_number(role_at(names, bytes, index)) == role_number(Role::Bss) {
         return true;
     }
     let size = size_at(bytes, index);
@@ -292,7 +307,7 @@ fn has_kind(bytes: &[u8], y: usize) -> bool
     requires { y + 8 ≤ length bytes.now }
     ensures { result ≡ has_kind bytes.now y }
 {
-    word(bytes, y + 4) % 256 == 1 || word(bytes, y + 4) % 256 == 2
+    word(bytes, y + R_INFO) % 256 == R_386_32 || word(bytes, y + R_INFO) % 256 == R_386_PC32
 }
 
 fn names_none(table: Table, bytes: &[u8], y: usize) -> bool
@@ -329,9 +344,10 @@ fn form_fault(table: Table, names: &[u8], bytes: &[u8], e: Entry) -> Option<usiz
     if is_outside(names, bytes, e) {
         return Some(e.at);
     }
-    (!has_kind(bytes, e.at) || names_none(table, bytes, e.at)).then_some(e.at + 4)
+    (!has_kind(bytes, e.at) || names_none(table, bytes, e.at)).then_some(e.at + R_INFO)
 }
 
+/// The offset at which a relocation, or the symbol that it names, fails the test.
 pub fn reloc_test(
     test: RelocTest,
     table: Table,

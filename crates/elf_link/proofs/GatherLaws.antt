@@ -27,6 +27,7 @@ use Rattle.elf_link.specs.Refusals.{refused, doubled, doubled_cause, object_caus
 use Rattle.elf_link.specs.Steps.{IsWithin, AreBelow, totals, with_object, size_cause, is_crowded, sites_wrong_by, step_cause, tested}
 use Rattle.elf_link.specs.Answers.{Fails}
 use Rattle.elf_form.proofs.FormLaws.{then_none, else_none}
+use Rattle.elf_form.proofs.LinkableObjects.{and_false}
 use Rattle.elf_link.proofs.FirstLaws.{Passed, first_next, first_end, fails_here}
 use Rattle.elf_link.proofs.LayoutLaws.{sum-more, text_end-more, text_end-le, memory_limit}
 use Rattle.elf_link.proofs.BaseLaws.{numbered_at, length-numbered, take-numbered}
@@ -47,10 +48,6 @@ passed b cause later h = let both = else_none (then_some b cause) later h in (th
 or_second : (a b : Bool) → (a || b) ≡ false → b ≡ false
 or_second true b h = cc
 or_second false b h = h
-
-and_holds : (a b : Bool) → a ≡ true → (a && b) ≡ false → b ≡ false
-and_holds true b holds h = h
-and_holds false b holds h = cc
 
 abbrev chain : Bool → Bool → Bool → Bool → Option LinkCause → Option LinkCause
 chain a b c d e = option_or (then_some a TextTooLarge) (option_or (then_some b InitTooLarge) (option_or (then_some c TooManySymbols) (option_or (then_some d SitesForm) e)))
@@ -169,7 +166,7 @@ module _ (os : List ObjectParts) (i : ℕ) (o : ObjectParts) (t : Totals) (gs : 
   unfolding sites_wrong
   gaps_are none long =
       let right = or_second _ (crowded os (i + 1)) (sites_right none) in
-      gapped_by 0 (first_sites os (i + 1)) (not-false (are_gapped 0 (first_sites os (i + 1))) (and_holds (nat_lt SHORT_TEXT (text_end (take (i + 1) os) + 2)) (not (are_gapped 0 (first_sites os (i + 1)))) (lt-ltb SHORT_TEXT (text_end (take (i + 1) os) + 2) long) right))
+      gapped_by 0 (first_sites os (i + 1)) (not-false (are_gapped 0 (first_sites os (i + 1))) (and_false (nat_lt SHORT_TEXT (text_end (take (i + 1) os) + 2)) (not (are_gapped 0 (first_sites os (i + 1)))) (lt-ltb SHORT_TEXT (text_end (take (i + 1) os) + 2) long) right))
 
   count_is : (t' : Totals) (sites' : List Site) → t' ≡ with_object t o → sites' ≡ sites ++ map (moved t.text) (sites_of o) → length sites' ≡ t'.sites
   unfolding with_object

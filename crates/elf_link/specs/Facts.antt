@@ -1,14 +1,25 @@
 -- What is known of a plan and of a linked image.
-use Rattle.std.specs.Prelude.{◌≡◌, ◌+◌, ◌≤◌, List, length, All}
+use Rattle.std.specs.Prelude.{◌≡◌, ◌+◌, ◌≤◌, ◌<◌, List, length, All}
 use Rattle.elf_form.specs.ObjectParts.{ObjectParts}
 use Rattle.elf_form.specs.ImageParts.{ImageParts}
 use Rattle.sites.specs.declared.site.Site.{Site}
-use Rattle.sites.specs.declared.limits.TheConstants.{TEXT_LIMIT}
-use Rattle.sites.specs.Spelling.{spelling, IsInForm}
+use Rattle.sites.specs.declared.limits.TheConstants.{TEXT_LIMIT, SHORT_TEXT, INIT_LIMIT, SITE_LIMIT}
+use Rattle.sites.specs.Spelling.{spelling, IsInForm, AreGapped}
 use Rattle.sites.specs.Limits.{in_text}
 use Rattle.elf_link.specs.declared.relocations.Plan.{Plan}
-use Rattle.elf_link.specs.Layout.{bases}
+use Rattle.elf_link.specs.Layout.{bases, text_end}
+use Rattle.elf_link.specs.Sites.{linked_sites}
+use Rattle.elf_link.specs.Steps.{IsWithin, AreBelow, totals}
 use Rattle.elf_link.specs.Symbols.{globals}
+
+-- What is known when each object passed its tests: the sums, and the sites of all, which lie below the end of the text.
+pub record IsGathered (os : List ObjectParts) (sites : List Site) : Type 0 where
+  pub within : IsWithin (totals os)
+  pub fits : text_end os + 2 ≤ TEXT_LIMIT
+  pub moved : sites ≡ linked_sites os
+  pub below : AreBelow (text_end os) sites
+  pub count : length sites ≤ SITE_LIMIT
+  pub gaps : SHORT_TEXT < text_end os + 2 → AreGapped 0 sites
 
 pub record IsPlan (os : List ObjectParts) (plan : Plan) : Type 0 where
   pub bases : plan.bases.items ≡ bases os
@@ -20,7 +31,7 @@ pub record IsLaidOut (image : ImageParts) : Type 0 where
   pub text_at : image.text_at ≡ 0x10000000
   pub init_at : image.init_at ≡ 0x11000000
   pub text : (2 ≤ length image.text) × (length image.text ≤ TEXT_LIMIT)
-  pub room : length image.init + image.bss ≤ 33554432
+  pub room : length image.init + image.bss ≤ INIT_LIMIT
   pub sites : List Site
   pub annotated : image.sites ≡ spelling (in_text (length image.text) sites)
   pub form : IsInForm (in_text (length image.text) sites)

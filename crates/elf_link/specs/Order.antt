@@ -2,7 +2,7 @@
 use Rattle.std.specs.Prelude.{◌≡◌, ◌+◌, ◌<◌, ◌≤◌, ℕ, List, length, take, sum_by, Option, Some, None, slice_get}
 use Rattle.elf_form.specs.ObjectParts.{ObjectParts}
 use Rattle.elf_form.specs.declared.object.Reloc.{Reloc}
-use Rattle.sites.specs.declared.limits.TheConstants.{TEXT_LIMIT}
+use Rattle.sites.specs.declared.limits.TheConstants.{TEXT_LIMIT, INIT_LIMIT, SYMBOL_LIMIT}
 use Rattle.sites.specs.declared.site.Site.{Site}
 use Rattle.elf_link.specs.declared.fault.LinkCause.{LinkCause}
 use Rattle.elf_link.specs.Layout.{text_end, memory_end}
@@ -35,10 +35,10 @@ abbrev pub TextFits : List ObjectParts → ℕ × ObjectParts → Type 0
 TextFits os p = text_end (up_to os p) + 2 ≤ TEXT_LIMIT
 
 abbrev pub MemoryFits : List ObjectParts → ℕ × ObjectParts → Type 0
-MemoryFits os p = memory_end (up_to os p) ≤ 33554432
+MemoryFits os p = memory_end (up_to os p) ≤ INIT_LIMIT
 
 abbrev pub SymbolsFit : List ObjectParts → ℕ × ObjectParts → Type 0
-SymbolsFit os p = symbol_count (up_to os p) ≤ 65536
+SymbolsFit os p = symbol_count (up_to os p) ≤ SYMBOL_LIMIT
 
 -- every site of an object ends within its text
 abbrev pub AreInText : ObjectParts → List Site → Type 0

@@ -6,7 +6,7 @@ use Rattle.std.specs.Option.{option_or}
 use Rattle.std.specs.Str.{bytes_eq}
 use Rattle.elf_form.specs.ObjectParts.{ObjectParts}
 use Rattle.elf_form.specs.Tables.{first_some}
-use Rattle.sites.specs.declared.limits.TheConstants.{TEXT_LIMIT}
+use Rattle.sites.specs.declared.limits.TheConstants.{TEXT_LIMIT, INIT_LIMIT, SYMBOL_LIMIT}
 use Rattle.elf_link.specs.declared.target.Target.{Target}
 use Rattle.elf_link.specs.declared.fault.LinkCause.{LinkCause}
 use Rattle.elf_link.specs.declared.fault.LinkCause.TheVariants.{Doubled, NotText, TextTooLarge, InitTooLarge, TooManySymbols, SitesForm}
@@ -45,8 +45,8 @@ unfoldable pub object_cause : List ObjectParts → ℕ × ObjectParts → Option
 object_cause os p =
     let os' = take (p.0 + 1) os in
     option_or (then_some (nat_lt TEXT_LIMIT (text_end os' + 2)) TextTooLarge)
-    (option_or (then_some (nat_lt 33554432 (memory_end os')) InitTooLarge)
-    (option_or (then_some (nat_lt 65536 (sum_by (λ o. length o.symbols) os')) TooManySymbols)
+    (option_or (then_some (nat_lt INIT_LIMIT (memory_end os')) InitTooLarge)
+    (option_or (then_some (nat_lt SYMBOL_LIMIT (sum_by (λ o. length o.symbols) os')) TooManySymbols)
     (option_or (then_some (sites_wrong os p) SitesForm) (doubled_cause (doubled os p)))))
 
 abbrev pub refused : ℕ → Option LinkCause → Option Refused

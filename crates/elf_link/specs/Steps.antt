@@ -4,7 +4,7 @@ use Rattle.std.specs.Bool.{then_some}
 use Rattle.std.specs.Option.{option_or}
 use Rattle.elf_form.specs.ObjectParts.{ObjectParts}
 use Rattle.sites.specs.declared.site.Site.{Site}
-use Rattle.sites.specs.declared.limits.TheConstants.{TEXT_LIMIT, SHORT_TEXT, SITE_LIMIT}
+use Rattle.sites.specs.declared.limits.TheConstants.{TEXT_LIMIT, SHORT_TEXT, SITE_LIMIT, INIT_LIMIT, SYMBOL_LIMIT}
 use Rattle.sites.specs.Formats.{sites_in}
 use Rattle.sites.specs.Gapped.{are_gapped}
 use Rattle.sites.specs.Spelling.{AreInForm}
@@ -28,21 +28,21 @@ with_object t o = record { text = t.text + text_room o; memory = t.memory + init
 
 pub record IsWithin (t : Totals) : Type 0 where
   pub text : t.text < TEXT_LIMIT + 16
-  pub memory : t.memory ≤ 33554432
-  pub symbols : t.symbols ≤ 65536
+  pub memory : t.memory ≤ INIT_LIMIT
+  pub symbols : t.symbols ≤ SYMBOL_LIMIT
   pub sites : t.sites ≤ SITE_LIMIT
 
 -- An object breaks no limit behind objects with these sums.
 pub record HasRoom (t : Totals) (o : ObjectParts) : Type 0 where
   pub text : t.text + length o.text + 2 ≤ TEXT_LIMIT
-  pub memory : t.memory + init_room o + bss_room o ≤ 33554432
-  pub symbols : t.symbols + length o.symbols ≤ 65536
+  pub memory : t.memory + init_room o + bss_room o ≤ INIT_LIMIT
+  pub symbols : t.symbols + length o.symbols ≤ SYMBOL_LIMIT
 
 unfoldable pub size_cause : Totals → ObjectParts → Option LinkCause
 size_cause t o =
     option_or (then_some (nat_lt TEXT_LIMIT (t.text + length o.text + 2)) TextTooLarge)
-    (option_or (then_some (nat_lt 33554432 (t.memory + init_room o + bss_room o)) InitTooLarge)
-    (then_some (nat_lt 65536 (t.symbols + length o.symbols)) TooManySymbols))
+    (option_or (then_some (nat_lt INIT_LIMIT (t.memory + init_room o + bss_room o)) InitTooLarge)
+    (then_some (nat_lt SYMBOL_LIMIT (t.symbols + length o.symbols)) TooManySymbols))
 
 -- sites behind others, in a text that wants format 2 and in which they can't be written so
 abbrev pub is_crowded : Totals → List Site → ℕ → List Site → Bool

@@ -3,21 +3,21 @@ use Rattle.std.specs.Prelude.{ℕ, ◌+◌, ◌%◌, ◌^◌, ◌&&◌, Bool, tr
 use Rattle.std.specs.List.{flat_map}
 use Rattle.std.specs.Str.{bytes_eq}
 use Rattle.std.specs.Global.{Vec}
-use Rattle.elf_form.specs.declared.object.DefinedIn.{DefinedIn}
-use Rattle.elf_form.specs.declared.object.DefinedIn.TheVariants.{Undefined, Text, Init, Bss}
+use Rattle.elf_form.specs.declared.object.Place.{Place}
+use Rattle.elf_form.specs.declared.object.Place.TheVariants.{Undefined, Text, Init, Bss}
 use Rattle.elf_form.specs.declared.object.Symbol.{Symbol}
 use Rattle.elf_form.specs.ObjectParts.{ObjectParts}
 use Rattle.elf_link.specs.declared.base.Base.{Base}
 use Rattle.elf_link.specs.declared.target.Target.{Target}
 use Rattle.elf_link.specs.Layout.{numbered, or_zero}
 
-abbrev pub is_defined : DefinedIn → Bool
+abbrev pub is_defined : Place → Bool
 is_defined Undefined = false
 is_defined Text = true
 is_defined Init = true
 is_defined Bss = true
 
-abbrev pub is_text : DefinedIn → Bool
+abbrev pub is_text : Place → Bool
 is_text Undefined = false
 is_text Text = true
 is_text Init = false
@@ -56,7 +56,7 @@ unfoldable pub target_of : List (List ℕ × Target) → ℕ → Symbol → Opti
 target_of gs i s = if is_defined s.place then Some (target i s) else (if s.global then lookup s.name gs else None)
 
 -- where a part of an object stands
-abbrev pub place_at : DefinedIn → Base → ℕ
+abbrev pub place_at : Place → Base → ℕ
 place_at Undefined b = 0
 place_at Text b = b.text
 place_at Init b = b.init

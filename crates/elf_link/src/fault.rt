@@ -6,21 +6,27 @@ ghost use Rattle.elf_link.specs.Numbers.{number};
 
 use elf_form::Bytes;
 use std::alloc::{AllocError, AllocFailed};
-use std::error::Error;
-use std::fmt;
+use thiserror::Error;
 
 /// What is wrong with an object among those before it. Each cause has its number, from 30.
-#[derive(Drop)]
+#[derive(Debug, Drop, Error)]
 pub enum LinkCause {
     /// A relocation's symbol, which no object defines.
+    #[error("a symbol that no object defines")]
     NoSymbol(Bytes),
     /// A global symbol that is defined twice.
+    #[error("a symbol that is defined twice")]
     Doubled(Bytes),
     /// The field of a branch, or the value of `_start`, as an offset in its part.
+    #[error("a branch or a start that is not in text, at {0}")]
     NotText(u32),
+    #[error("too much text")]
     TextTooLarge,
+    #[error("too much data")]
     InitTooLarge,
+    #[error("too many symbols")]
     TooManySymbols,
+    #[error("no annotations in the form")]
     SitesForm,
 }
 
@@ -39,41 +45,10 @@ impl LinkCause {
             LinkCause::SitesForm => 36,
         }
     }
-
-    /// What is wrong, in words.
-    fn text(&self) -> &'static str {
-        match self {
-            LinkCause::NoSymbol(_) => "a symbol that no object defines",
-            LinkCause::Doubled(_) => "a symbol that is defined twice",
-            LinkCause::NotText(_) => "a branch or a start that is not in text",
-            LinkCause::TextTooLarge => "too much text",
-            LinkCause::InitTooLarge => "too much data",
-            LinkCause::TooManySymbols => "too many symbols",
-            LinkCause::SitesForm => "no annotations in the form",
-        }
-    }
 }
-
-impl fmt::Display for LinkCause {
-    fn fmt<W: fmt::Write>(&self, f: &mut fmt::Formatter<W>) -> fmt::Result {
-        match self {
-            LinkCause::NotText(at) => write!(f, "{}, at {at}", self.text()),
-            _ => f.write_str(self.text()),
-        }
-    }
-}
-
-// A cause is shown by its words here too.
-impl fmt::Debug for LinkCause {
-    fn fmt<W: fmt::Write>(&self, f: &mut fmt::Formatter<W>) -> fmt::Result {
-        f.write_str(self.text())
-    }
-}
-
-impl Error for LinkCause {}
 
 /// What is wrong with an object, counted from 0, or that no memory was found.
-#[derive(Debug, Drop, thiserror::Error)]
+#[derive(Debug, Drop, Error)]
 pub enum LinkFault {
     #[error("object {object}: {cause}")]
     At { object: u32, cause: LinkCause },

@@ -64,10 +64,10 @@ fn pass_end(sites: &[Site], text: usize) -> bool
 #[tactic(auto, unfolding(crate::specs::Steps::own_sites, crate::specs::Sites::sites_of))]
 fn own_sites(alloc: Global, number: u32, before: usize, object: &Object) -> Result<Sites, LinkFault>
     requires short { length object.now.sites < 2 ^ 32 }
-    requires before { before ≤ 262144 }
+    requires before { before ≤ SITE_LIMIT }
     ensures exact { Gives (λ s. s.list) result (own_sites number before object.now) }
     ensures below { IfOk result (λ s. AreBelow (length object.now.text) s.list) }
-    ensures few { IfOk result (λ s. before + length s.list ≤ 262144) }
+    ensures few { IfOk result (λ s. before + length s.list ≤ SITE_LIMIT) }
 {
     let sites = match read_sites(alloc, &object.sites) {
         Ok(sites) => sites,
@@ -137,7 +137,7 @@ fn placed_sites(
     requires room { all.now.totals.text + length object.now.text + 2 ≤ TEXT_LIMIT }
     ensures exact { Gives (λ s. s.list) result (placed_sites number all.now.totals all.now.sites.items object.now) }
     ensures below { IfOk result (λ s. AreBelow (length object.now.text) s.list) }
-    ensures few { IfOk result (λ s. all.now.totals.sites + length s.list ≤ 262144) }
+    ensures few { IfOk result (λ s. all.now.totals.sites + length s.list ≤ SITE_LIMIT) }
 {
     let sites = own_sites(alloc, number, all.totals.sites, object)?;
     if are_crowded(alloc, all, object, &sites.list)? {
@@ -180,7 +180,7 @@ pub fn gather_all(alloc: Global, objects: &Vec<Object>) -> Result<Gathered, Link
     ensures globals { IfOk result (λ all. all.globals ≡ globals objects.now.items) }
     ensures sites { IfOk result (λ all. all.sites.items ≡ linked_sites objects.now.items) }
     ensures below { IfOk result (λ all. AreBelow (text_end objects.now.items) all.sites.items) }
-    ensures count { IfOk result (λ all. length all.sites.items ≤ 262144) }
+    ensures count { IfOk result (λ all. length all.sites.items ≤ SITE_LIMIT) }
     ensures fits { IfOk result (λ _. text_end objects.now.items + 2 ≤ TEXT_LIMIT) }
     ensures gaps { IfOk result (λ all. SHORT_TEXT < text_end objects.now.items + 2 → AreGapped 0 all.sites.items) }
 {

@@ -5,7 +5,7 @@ ghost use Rattle.elf_link.specs.Symbols.{is_defined, is_exported, target, lookup
 ghost use Rattle.elf_link.specs.Refusals.{holds, first_doubled};
 
 use crate::target::Target;
-use elf_form::{Bytes, DefinedIn, Symbol};
+use elf_form::{Bytes, Place, Symbol};
 use indexmap::IndexMap;
 use std::alloc::{AllocError, Global};
 use std::marker::Model;
@@ -28,6 +28,7 @@ impl Model for Globals {
 }
 
 impl Globals {
+    /// No name stands for anything.
     pub fn new(alloc: Global) -> Globals
         ensures { result ≡ [] }
     {
@@ -69,12 +70,12 @@ pub fn name_of(symbol: &Symbol) -> &[u8]
 }
 
 /// Whether a place is in a part of an object.
-pub fn is_defined(place: DefinedIn) -> bool
+pub fn is_defined(place: Place) -> bool
     ensures { result ≡ is_defined place }
 {
     match place {
-        DefinedIn::Undefined => false,
-        DefinedIn::Text | DefinedIn::Init | DefinedIn::Bss => true,
+        Place::Undefined => false,
+        Place::Text | Place::Init | Place::Bss => true,
     }
 }
 
@@ -113,8 +114,10 @@ pub fn export(
     number: u32,
     symbols: &[Symbol],
 ) -> Result<Option<Bytes>, AllocError>
-    ensures doubled { IfOk result (λ found. found ≡ first_doubled (map (λ d. d.0) globals.old) (map (λ s. s.name) (filter is_exported symbols.now))) }
-    ensures added { IfOk result (λ found. found ≡ None → globals.new ≡ globals.old ++ map (λ s. (s.name, target number s)) (filter is_exported symbols.now)) }
+    ensures doubled { IfOk result (λ found. found
+        ≡ first_doubled (map (λ d. d.0) globals.old) (map (λ s. s.name) (filter is_exported symbols.now))) }
+    ensures added { IfOk result (λ found. found ≡ None
+        → globals.new ≡ globals.old ++ map (λ s. (s.name, target number s)) (filter is_exported symbols.now)) }
 {
     for symbol in symbols {
         if is_exported(symbol) {

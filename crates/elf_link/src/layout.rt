@@ -7,6 +7,7 @@ ghost use Rattle.elf_link.specs.Steps.{IsWithin, totals};
 use crate::base::Base;
 use crate::totals::round_up;
 use elf_form::Object;
+use sites::INIT_LIMIT;
 use std::alloc::{AllocError, Global};
 
 /// The linear address of the text.
@@ -36,7 +37,7 @@ fn init_span(objects: &Vec<Object>) -> Span
     requires { IsWithin (totals objects.now.items) }
     ensures room { result.room ≡ sum_by init_room objects.now.items }
     ensures end { result.end ≡ extent init_size objects.now.items }
-    ensures small { (result.room ≤ 33554432) × (result.end ≤ 33554432) }
+    ensures small { (result.room ≤ INIT_LIMIT) × (result.end ≤ INIT_LIMIT) }
 {
     let mut span = Span { room: 0, end: 0 };
     for object in objects {
@@ -48,7 +49,7 @@ fn init_span(objects: &Vec<Object>) -> Span
 fn bss_span(objects: &Vec<Object>) -> Span
     requires { IsWithin (totals objects.now.items) }
     ensures end { result.end ≡ extent bss_size objects.now.items }
-    ensures small { result.end ≤ 33554432 }
+    ensures small { result.end ≤ INIT_LIMIT }
 {
     let mut span = Span { room: 0, end: 0 };
     for object in objects {

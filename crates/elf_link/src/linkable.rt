@@ -9,7 +9,8 @@ use elf_form::{Object, Reloc};
 fn fits(object: &Object, r: Reloc) -> bool
     ensures symbol { IsTrue result → r.symbol < length object.now.symbols }
     ensures field { IsTrue result → r.at + 4 ≤ (if r.in_text then length object.now.text else length object.now.init) }
-    ensures only { r.symbol < length object.now.symbols → r.at + 4 ≤ (if r.in_text then length object.now.text else length object.now.init) → IsTrue result }
+    ensures only { r.symbol < length object.now.symbols
+        → r.at + 4 ≤ (if r.in_text then length object.now.text else length object.now.init) → IsTrue result }
 {
     let part = if r.in_text {
         object.text.len()

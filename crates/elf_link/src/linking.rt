@@ -4,18 +4,16 @@ ghost use Rattle.std.specs.Prelude.{◌≡◌, ◌+◌, ◌≤◌, ◌<◌, ◌^
 ghost use Rattle.elf_form.specs.ImageLayout.{IsWritableImage, HasLongs};
 ghost use Rattle.elf_form.specs.Output.{pad};
 ghost use Rattle.sites.specs.declared.site.Site.{Site as SiteView};
-ghost use Rattle.elf_link.specs.Layout.{numbered, bases, text_end};
-ghost use Rattle.elf_link.specs.Sites.{linked_sites};
-ghost use Rattle.sites.specs.Spelling.{AreGapped};
+ghost use Rattle.elf_link.specs.Layout.{numbered, bases};
 ghost use Rattle.elf_link.specs.Symbols.{globals as globals_of};
 ghost use Rattle.elf_form.specs.Linkable.{IsLinkable};
 ghost use Rattle.elf_link.specs.Relocations.{reloc_cause, with_fields};
 ghost use Rattle.elf_form.specs.Tables.{first_some};
 ghost use Rattle.elf_link.specs.Refusals.{refused, start, object_refusal, relocs_refusal};
-ghost use Rattle.elf_link.specs.Steps.{IsWithin, AreBelow, totals, entered, tested};
+ghost use Rattle.elf_link.specs.Steps.{IsWithin, totals, entered, tested};
 ghost use Rattle.elf_link.specs.Linked.{padded, linked_text, linked_init, entry_at, image, linked_image, file_of};
 ghost use Rattle.elf_link.specs.Answers.{Gives};
-ghost use Rattle.elf_link.specs.Facts.{IsPlan, IsLaidOut};
+ghost use Rattle.elf_link.specs.Facts.{IsGathered, IsPlan, IsLaidOut};
 
 use crate::fault::{LinkCause, LinkFault};
 use crate::gathering::{gather_all, refuse};
@@ -23,7 +21,7 @@ use crate::globals::Globals;
 use crate::layout::{INIT_AT, TEXT_AT, bases, init_end, memory_end, text_end};
 use crate::relocations::{Plan, address, is_text, relocs_cause, with_fields};
 use elf_form::{Image, Object, pad, write_image};
-use sites::{SHORT_TEXT, Site, TEXT_LIMIT, of_text, write_sites};
+use sites::{Site, of_text, write_sites};
 use std::alloc::{AllocError, Global};
 
 /// Adds bytes, and what fills them up to a multiple of `to`.
@@ -118,13 +116,8 @@ fn placed(
 ) -> Result<Image, AllocError>
     requires few { length objects.now.items ≤ 64 }
     requires linkable { All IsLinkable objects.now.items }
-    requires within { IsWithin (totals objects.now.items) }
-    requires fits { text_end objects.now.items + 2 ≤ TEXT_LIMIT }
+    requires gathered { IsGathered objects.now.items sites.items }
     requires plan { IsPlan objects.now.items plan.now }
-    requires sites { sites.items ≡ linked_sites objects.now.items }
-    requires below { AreBelow (text_end objects.now.items) sites.items }
-    requires count { length sites.items ≤ 262144 }
-    requires gaps { SHORT_TEXT < text_end objects.now.items + 2 → AreGapped 0 sites.items }
     requires entry { entry ≡ entry_at (bases objects.now.items) (start objects.now.items) }
     ensures image { IfOk result (λ placed. placed ≡ image objects.now.items) }
     ensures laid_out { IfOk result (λ image. IsLaidOut image) }
@@ -156,14 +149,9 @@ fn linked_by(
 ) -> Result<Image, LinkFault>
     requires few { length objects.now.items ≤ 64 }
     requires linkable { All IsLinkable objects.now.items }
-    requires gathered { tested (first_some (object_refusal objects.now.items) (numbered objects.now.items)) ≡ Ok tt }
-    requires within { IsWithin (totals objects.now.items) }
-    requires fits { text_end objects.now.items + 2 ≤ TEXT_LIMIT }
+    requires passed { tested (first_some (object_refusal objects.now.items) (numbered objects.now.items)) ≡ Ok tt }
+    requires gathered { IsGathered objects.now.items sites.items }
     requires plan { IsPlan objects.now.items plan.now }
-    requires sites { sites.items ≡ linked_sites objects.now.items }
-    requires below { AreBelow (text_end objects.now.items) sites.items }
-    requires count { length sites.items ≤ 262144 }
-    requires gaps { SHORT_TEXT < text_end objects.now.items + 2 → AreGapped 0 sites.items }
     ensures exact { Gives (λ image. image) result (linked_image objects.now.items) }
     ensures laid_out { IfOk result (λ image. IsLaidOut image) }
     ensures writable { IfOk result (λ image. IsWritableImage image) }

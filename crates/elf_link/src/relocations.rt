@@ -12,7 +12,7 @@ use crate::base::Base;
 use crate::fault::LinkCause;
 use crate::globals::{Globals, copy_of, name_of, target_of};
 use crate::target::Target;
-use elf_form::{DefinedIn, Object, Reloc, Symbol};
+use elf_form::{Object, Place, Reloc, Symbol};
 use guest_ram::{put_word, word};
 use std::alloc::{AllocError, Global};
 
@@ -23,12 +23,13 @@ pub struct Plan {
     pub globals: Globals,
 }
 
-pub fn is_text(place: DefinedIn) -> bool
+/// Whether a symbol is defined in text.
+pub fn is_text(place: Place) -> bool
     ensures { result ≡ is_text place }
 {
     match place {
-        DefinedIn::Text => true,
-        DefinedIn::Undefined | DefinedIn::Init | DefinedIn::Bss => false,
+        Place::Text => true,
+        Place::Undefined | Place::Init | Place::Bss => false,
     }
 }
 
@@ -53,10 +54,10 @@ pub fn address(bases: &[Base], target: Target) -> u32
 {
     let base = base_of(bases, target.object);
     let part = match target.place {
-        DefinedIn::Undefined => 0,
-        DefinedIn::Text => base.text,
-        DefinedIn::Init => base.init,
-        DefinedIn::Bss => base.bss,
+        Place::Undefined => 0,
+        Place::Text => base.text,
+        Place::Init => base.init,
+        Place::Bss => base.bss,
     };
     part.wrapping_add(target.value)
 }

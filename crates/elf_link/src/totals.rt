@@ -7,11 +7,7 @@ ghost use Rattle.elf_link.specs.Steps.{IsWithin, HasRoom, size_cause, with_objec
 
 use crate::fault::LinkCause;
 use elf_form::{Object, pad};
-use sites::TEXT_LIMIT;
-
-const MEMORY_LIMIT: usize = 33_554_432;
-
-const SYMBOL_LIMIT: usize = 65_536;
+use sites::{INIT_LIMIT, SITE_LIMIT, SYMBOL_LIMIT, TEXT_LIMIT};
 
 /// What some objects take: bytes of text and of data with zeroed bytes, each with the gap behind
 /// it, and numbers of symbols and sites.
@@ -45,7 +41,7 @@ pub fn size_cause(before: &Totals, object: &Object) -> Option<LinkCause>
     let memory = before.memory
         + round_up(4096, object.init.len())
         + round_up(4096, object.bss as usize);
-    if memory > MEMORY_LIMIT {
+    if memory > INIT_LIMIT {
         return Some(LinkCause::InitTooLarge);
     }
     if before.symbols + object.symbols.len() > SYMBOL_LIMIT {
@@ -58,7 +54,7 @@ pub fn size_cause(before: &Totals, object: &Object) -> Option<LinkCause>
 #[tactic(auto, unfolding(crate::specs::Steps::with_object))]
 pub fn with_object(before: &Totals, object: &Object, sites: usize) -> Totals
     requires within { IsWithin before.now }
-    requires sites { (sites ≡ length (sites_of object.now)) × (before.now.sites + sites ≤ 262144) }
+    requires sites { (sites ≡ length (sites_of object.now)) × (before.now.sites + sites ≤ SITE_LIMIT) }
     requires room { HasRoom before.now object.now }
     ensures sums { result ≡ with_object before.now object.now }
     ensures within { IsWithin result }

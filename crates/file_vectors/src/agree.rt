@@ -56,6 +56,7 @@ pub enum Part {
     Sites,
 }
 
+/// A number of an image: lengths in bytes, places as linear addresses.
 pub enum Number {
     Bss,
     Entry,

@@ -8,7 +8,7 @@ use sites::Site;
 use std::alloc::Global;
 use std::process::Abort;
 
-// The text, annotations and places of a file. Data is not there, but zeroed bytes may be.
+/// The text, annotations and places of a file. Data is not there, but zeroed bytes may be.
 #[derive(Clone, Copy)]
 pub struct Parts<'a> {
     pub text: &'a [u8],
@@ -19,7 +19,7 @@ pub struct Parts<'a> {
     pub entry: u32,
 }
 
-// An image in its usual places.
+/// An image in its usual places.
 pub fn image<'a>(text: &'a [u8], sites: &'a [u8]) -> Parts<'a> {
     Parts {
         text,

@@ -3,7 +3,7 @@
 use crate::agree::{Held, Number, Part, add, are_held, are_same, holds, put_times};
 use crate::object_rows::{EMPTY, Parts, WORKED, object, objects, put_symbol};
 use crate::vectors::{NO_SITES, WORKED_ENDED, WORKED_SITES};
-use elf_form::{DefinedIn, Image, Object, Reloc};
+use elf_form::{Image, Object, Place, Reloc};
 use elf_link::{LinkCause, LinkFault, are_linkable, link, linked};
 use std::alloc::Global;
 use std::process::Abort;
@@ -32,7 +32,7 @@ const END_ALONE: [Held; 2] = [
 /// A call of a name, as GCC writes it: the addend is -4.
 const CALLS: Parts = Parts {
     text: b"\xE8\xFC\xFF\xFF\xFF",
-    symbols: &[(b"foo", DefinedIn::Undefined, 0, true)],
+    symbols: &[(b"foo", Place::Undefined, 0, true)],
     relocs: &[Reloc {
         in_text: true,
         at: 1,
@@ -45,13 +45,13 @@ const CALLS: Parts = Parts {
 /// A call, and what is called.
 const CALL_AND_CALLED: [Parts; 2] = [
     Parts {
-        symbols: &[(b"g", DefinedIn::Undefined, 0, true)],
+        symbols: &[(b"g", Place::Undefined, 0, true)],
         ..CALLS
     },
     Parts {
         text: b"\xF4\x90\x90\x90\x90\xC3",
         sites: b"PVS1\x01\0\0\0\0\0\0\0\x04\x01\x05\0",
-        symbols: &[(b"g", DefinedIn::Text, 0, true)],
+        symbols: &[(b"g", Place::Text, 0, true)],
         ..EMPTY
     },
 ];
@@ -70,7 +70,7 @@ const ZEROED: Parts = Parts {
     text: b"\xB8\0\0\0\0",
     init: b"\x01",
     bss: 4096,
-    symbols: &[(b"pg", DefinedIn::Bss, 0, false)],
+    symbols: &[(b"pg", Place::Bss, 0, false)],
     relocs: &[Reloc {
         in_text: true,
         at: 1,
@@ -111,8 +111,8 @@ const SWITCH: Parts = Parts {
     text: &[0x90; 31],
     init: &[0; 8],
     symbols: &[
-        (b".L3", DefinedIn::Text, 0x10, false),
-        (b".L2", DefinedIn::Text, 0x1A, false),
+        (b".L3", Place::Text, 0x10, false),
+        (b".L2", Place::Text, 0x1A, false),
     ],
     relocs: &[
         Reloc {
@@ -200,7 +200,7 @@ fn are_refused(alloc: Global, objects: &Vec<Object>, at: u32, told: &Cause) -> b
 
 const RETURNS: Parts = Parts {
     text: b"\xC3",
-    symbols: &[(b"f", DefinedIn::Text, 0, true)],
+    symbols: &[(b"f", Place::Text, 0, true)],
     ..EMPTY
 };
 
@@ -208,11 +208,11 @@ const RETURNS: Parts = Parts {
 const CALL_OF_DATA: [Parts; 2] = [
     Parts {
         init: &[0; 8],
-        symbols: &[(b"d", DefinedIn::Init, 4, true)],
+        symbols: &[(b"d", Place::Init, 4, true)],
         ..EMPTY
     },
     Parts {
-        symbols: &[(b"d", DefinedIn::Undefined, 0, true)],
+        symbols: &[(b"d", Place::Undefined, 0, true)],
         ..CALLS
     },
 ];
@@ -221,7 +221,7 @@ const START_IN_DATA: [Parts; 2] = [
     EMPTY,
     Parts {
         init: &[0; 8],
-        symbols: &[(b"_start", DefinedIn::Init, 4, true)],
+        symbols: &[(b"_start", Place::Init, 4, true)],
         ..EMPTY
     },
 ];
@@ -232,7 +232,7 @@ const PAST: [Parts; 2] = [
     Parts {
         text: b"\xFA\x90\x90\x90",
         sites: b"PVS1\x01\0\0\0\0\0\0\0\x01\x01\x05\0",
-        symbols: &[(b"f", DefinedIn::Text, 0, true)],
+        symbols: &[(b"f", Place::Text, 0, true)],
         ..EMPTY
     },
 ];
@@ -279,7 +279,7 @@ fn put_symbols(rt: &impl Abort, alloc: Global, object: &mut Object, count: u32) 
             rt,
             alloc,
             &mut object.symbols,
-            &(b"", DefinedIn::Text, 0, false),
+            &(b"", Place::Text, 0, false),
         );
     }
 }

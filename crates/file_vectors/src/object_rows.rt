@@ -4,12 +4,12 @@ ghost use Rattle.std.specs.Prelude.{◌≡◌, length, IfOk};
 
 use crate::agree::{are_same, holds, list};
 use crate::vectors::{NO_SITES, WORKED_SITES, WORKED_TEXT};
-use elf_form::{Bytes, DefinedIn, Object, Reloc, Symbol, read_object};
+use elf_form::{Bytes, Object, Place, Reloc, Symbol, read_object};
 use std::alloc::{AllocError, Global};
 use std::process::Abort;
 
 /// A symbol's name, place and value, and whether it is global.
-pub type Named = (&'static [u8], DefinedIn, u32, bool);
+pub type Named = (&'static [u8], Place, u32, bool);
 
 /// What an object has.
 #[derive(Clone, Copy)]
@@ -36,10 +36,11 @@ pub const EMPTY: Parts = Parts {
 pub const WORKED: Parts = Parts {
     text: WORKED_TEXT,
     sites: WORKED_SITES,
-    symbols: &[(b"_start", DefinedIn::Text, 0, true)],
+    symbols: &[(b"_start", Place::Text, 0, true)],
     ..EMPTY
 };
 
+/// The symbol of a row.
 pub fn symbol(alloc: Global, row: &Named) -> Result<Symbol, AllocError>
     ensures { IfOk result (λ s. length s.name ≡ length row.now.0.now) }
 {
@@ -60,6 +61,7 @@ pub fn put_symbol(rt: &impl Abort, alloc: Global, symbols: &mut Vec<Symbol>, row
     symbols.push(symbol).expect(rt, "memory");
 }
 
+/// The object of these parts.
 pub fn object(rt: &impl Abort, alloc: Global, parts: &Parts) -> Object {
     let mut symbols = Vec::new(alloc);
     for row in parts.symbols {
@@ -75,6 +77,7 @@ pub fn object(rt: &impl Abort, alloc: Global, parts: &Parts) -> Object {
     }
 }
 
+/// The objects, in the same order.
 pub fn objects(rt: &impl Abort, alloc: Global, all: &[Parts]) -> Vec<Object> {
     let mut objects = Vec::new(alloc);
     for parts in all {

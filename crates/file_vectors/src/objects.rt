@@ -4,7 +4,7 @@ use crate::agree::{holds, list, put_times};
 use crate::object_rows::{EMPTY, Parts, WORKED, reads_as};
 use crate::vectors::{GCC_OBJECT, NO_SITES, SMALL_OBJECT, WORKED_OBJECT};
 use crate::written::SMALL;
-use elf_form::{DefinedIn, ElfCause, ElfFault, Reloc, read_object};
+use elf_form::{ElfCause, ElfFault, Place, Reloc, read_object};
 use std::alloc::Global;
 use std::process::Abort;
 
@@ -16,11 +16,11 @@ const GCC: Parts = Parts {
     bss: 4,
     sites: NO_SITES,
     symbols: &[
-        (b"", DefinedIn::Bss, 0, false),
-        (b"zeroed", DefinedIn::Bss, 0, false),
-        (b"add", DefinedIn::Text, 0, true),
-        (b"far_away", DefinedIn::Undefined, 0, true),
-        (b"near", DefinedIn::Init, 0, true),
+        (b"", Place::Bss, 0, false),
+        (b"zeroed", Place::Bss, 0, false),
+        (b"add", Place::Text, 0, true),
+        (b"far_away", Place::Undefined, 0, true),
+        (b"near", Place::Init, 0, true),
     ],
     relocs: &[
         Reloc {
@@ -131,7 +131,7 @@ fn with_text_first(rt: &impl Abort, alloc: Global) -> Vec<u8> {
 }
 
 static UNDEFINED: Parts = Parts {
-    symbols: &[(b"_start", DefinedIn::Undefined, 0, true)],
+    symbols: &[(b"_start", Place::Undefined, 0, true)],
     ..WORKED
 };
 

@@ -7,19 +7,19 @@ ghost use Rattle.elf_form.specs.ObjectLayout.{IsWritableObject};
 use crate::agree::{Held, Number, Part, add, are_bytes, are_held, list, put_times};
 use crate::object_rows::{Named, Parts, symbol};
 use crate::vectors::{SMALL_IMAGE_HEAD, SMALL_IMAGE_TAIL, SMALL_OBJECT};
-use elf_form::{DefinedIn, Image, Object, Reloc, read_image, write_image, write_object};
+use elf_form::{Image, Object, Place, Reloc, read_image, write_image, write_object};
 use std::alloc::{AllocError, Global};
 use std::process::Abort;
 
 const SITES: &[u8] = b"PVS1\x01\0\0\0\0\0\0\0\x01\x01\x05\0";
 
-const COUNT: Named = (b"count", DefinedIn::Bss, 0, false);
+const COUNT: Named = (b"count", Place::Bss, 0, false);
 
-const START: Named = (b"_start", DefinedIn::Text, 0, true);
+const START: Named = (b"_start", Place::Text, 0, true);
 
-const FAR: Named = (b"far", DefinedIn::Undefined, 0, true);
+const FAR: Named = (b"far", Place::Undefined, 0, true);
 
-const TABLE: Named = (b"table", DefinedIn::Init, 0, true);
+const TABLE: Named = (b"table", Place::Init, 0, true);
 
 /// It is cli with its padding, `movl count+4,%eax`, `call far`, ret.
 const TEXT: &[u8] = b"\xFA\x90\x90\x90\x90\xA1\x04\0\0\0\xE8\xFC\xFF\xFF\xFF\xC3";

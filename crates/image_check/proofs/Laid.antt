@@ -22,6 +22,7 @@ use Rattle.image_check.specs.Pieces.{piece_of, target_of, site_role}
 use Rattle.image_check.specs.TextSites.{is_nop_role, is_sti, is_hlt, has_nops, has_hlt, pair, single, padded, by_role, begun_by, Found, found_by, found_behind}
 use Rattle.image_check.specs.Layout.{AreApart, PartOf, Alone, PairSti, PairHlt, Padding, BeginsSite}
 use Rattle.image_check.proofs.Begun.{begun_has_byte}
+use Rattle.image_check.proofs.SiteSteps.{nops_zero}
 use Rattle.image_check.proofs.Room.{begun_one, nop_piece, hlt_piece, sti_piece}
 
 -- ---- elements of a list
@@ -362,16 +363,12 @@ pair_site from s at one is = record {
   ];
 }
 
-nops_none : (ps : List Piece) → has_nops 0 ps ≡ true
-unfolding has_nops
-nops_none ps = refl
-
 abbrev Later : ℕ → List Swept → ℕ → Type 0
 Later from swept to = (hlt : Bool) (n : ℕ) → Fills hlt n (map piece_of swept) → (found_behind n (map piece_of swept)).lacking ≡ None → Behind hlt n from swept (found_behind n (map piece_of swept)).sites to
 
 begun_first : (from : ℕ) (s : Swept) (swept : List Swept) (to : ℕ) → s.at ≡ from → 1 ≤ s.len → Later (from + s.len) swept to → (h : Here) → BeginsAs s swept h → (found_by (piece_of s) (λ n. found_behind n (map piece_of swept)) h).lacking ≡ None
     → Behind false 0 from (s ∷ swept) (found_by (piece_of s) (λ n. found_behind n (map piece_of swept)) h).sites to
-begun_first from s swept to at some later here.Nothing is none = plain_first from s swept _ to at some is (later false 0 (nops_none (map piece_of swept)) none)
+begun_first from s swept to at some later here.Nothing is none = plain_first from s swept _ to at some is (later false 0 (nops_zero (map piece_of swept)) none)
 begun_first from s swept to at some later here.Lacks is none = absurd cc
 begun_first from s swept to at some later (here.Makes site) (inl one) none =
     let n = max 5 s.len - s.len in
@@ -425,7 +422,7 @@ pub record Laid (at : ℕ) (swept : List Swept) (sites : List Site) (to : ℕ) :
 
 pub laid : (from : ℕ) (bytes : List ℕ) (swept : List Swept) (to : ℕ) (left : List ℕ) → SweepsTo from bytes swept to left → (found_behind 0 (map piece_of swept)).lacking ≡ None → Laid from swept (found_behind 0 (map piece_of swept)).sites to
 laid from bytes swept to left h none =
-    let b = laid_behind false 0 from bytes swept to left h (nops_none (map piece_of swept)) none in
+    let b = laid_behind false 0 from bytes swept to left h (nops_zero (map piece_of swept)) none in
     let same : from + 0 ≡ from = omega arith in
     record {
       apart = subst (λ (k : ℕ). AreApart k (found_behind 0 (map piece_of swept)).sites to) same b.apart;

@@ -21,6 +21,7 @@ use Rattle.image_check.specs.Causes.{form_stop, of_both, wrong, causes}
 use Rattle.image_check.specs.Reasons.{BothRead, IsWrongAt, LeadsAstray, IsWrong, IsRefused}
 use Rattle.elf_form.specs.Order.{IsLowest}
 use Rattle.elf_form.proofs.FirstCauses.{first_in_list, list_first}
+use Rattle.elf_form.proofs.TableLaws.{not_some}
 use Rattle.image_check.proofs.CauseLaws.{first_exact}
 use Rattle.image_check.proofs.SweepLaws.{sweep_exact}
 use Rattle.image_check.proofs.PlaceReasons.{some, text_place_is, init_place_is, text_size_is, init_size_is, entry_place_is, refused_stop_is, bad_stop_is, text_end_so, so_text_end}
@@ -83,10 +84,6 @@ none_so o at none is = let h : none_of ≡ some at = sym none ∙ is in cc where
   none_of : Option ℕ
   none_of = None
 
-so_none : (o : Option ℕ) → ((at : ℕ) → o ≡ Some at → ⊥) → o ≡ None
-so_none None h = refl
-so_none (Some at) h = absurd (h at refl)
-
 module _ (parts : ImageParts) (fit : AreBytes parts.text) (at : ℕ) (cause : CheckCause) where
   pub refused_so : IsFirstOf (wrong parts) causes at cause → IsRefused parts at cause
   refused_so h =
@@ -99,7 +96,7 @@ module _ (parts : ImageParts) (fit : AreBytes parts.text) (at : ℕ) (cause : Ch
       }
 
   pub so_refused : IsRefused parts at cause → IsFirstOf (wrong parts) causes at cause
-  so_refused h = list_first CheckCause (wrong parts) causes at cause h.index h.there ((wrong_is parts fit cause at).1 h.wrong) (λ j c lt there. so_none (wrong parts c) (λ place is. h.before j c place lt there ((wrong_is parts fit c place).0 is)))
+  so_refused h = list_first CheckCause (wrong parts) causes at cause h.index h.there ((wrong_is parts fit cause at).1 h.wrong) (λ j c lt there. not_some (wrong parts c) (λ place is. h.before j c place lt there ((wrong_is parts fit c place).0 is)))
 
 abbrev no_image : Refusal → Result Image Refusal
 no_image refusal = Err refusal

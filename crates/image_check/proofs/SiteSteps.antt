@@ -49,7 +49,7 @@ nops-short count i ps lt le =
     let k : count - i ≡ suc (count - (i + 1)) = omega arith in
     ap (λ n. has_nops n (drop i ps)) k ∙ ap (has_nops (suc (count - (i + 1)))) (drop_all i ps le) ∙ nops_none (count - (i + 1))
 
-nops_zero : (ps : List Piece) → has_nops 0 ps ≡ true
+pub nops_zero : (ps : List Piece) → has_nops 0 ps ≡ true
 unfolding has_nops
 nops_zero ps = refl
 

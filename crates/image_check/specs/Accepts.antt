@@ -7,7 +7,7 @@ use Rattle.ia32_rows.specs.Spells.{AreBytes}
 use Rattle.elf_form.specs.ImageParts.{ImageParts}
 use Rattle.elf_form.specs.Accepted.{ImageAs}
 use Rattle.sites.specs.declared.site.Site.{Site}
-use Rattle.sites.specs.declared.limits.TheConstants.{TEXT_LIMIT}
+use Rattle.sites.specs.declared.limits.TheConstants.{TEXT_LIMIT, INIT_LIMIT}
 use Rattle.sites.specs.Formats.{sites_in}
 use Rattle.image_check.specs.Image.{Image}
 use Rattle.image_check.specs.Sweep.{Swept, Sweep, starts_of}
@@ -19,7 +19,7 @@ use Rattle.image_check.specs.Checking.{image_with, image_from}
 -- the limits that an accepted image keeps
 pub record IsWithin (image : Image) : Type 0 where
   pub text : (1 ≤ length image.text) × (length image.text ≤ TEXT_LIMIT)
-  pub room : length image.init + image.bss ≤ 33554432
+  pub room : length image.init + image.bss ≤ INIT_LIMIT
   pub entry : (0x1000_0000 ≤ image.entry) × (image.entry < 0x1000_0000 + length image.text)
 
 -- A start of the sweep, and not in a site past its first byte.

@@ -3,7 +3,7 @@ use Rattle.std.specs.Prelude.{ℕ, ◌+◌, ◌-◌, Bool, not, ◌&&◌, ◌||�
 use Rattle.std.specs.Bool.{then_some}
 use Rattle.elf_form.specs.Faults.{◌or_lower◌}
 use Rattle.elf_form.specs.ImageParts.{ImageParts}
-use Rattle.sites.specs.declared.limits.TheConstants.{TEXT_LIMIT}
+use Rattle.sites.specs.declared.limits.TheConstants.{TEXT_LIMIT, INIT_LIMIT}
 use Rattle.sites.specs.declared.site.Site.{Site}
 use Rattle.image_check.specs.declared.piece.Piece.{Piece}
 use Rattle.image_check.specs.Targets.{is_entrance}
@@ -19,7 +19,7 @@ abbrev pub text_size : ImageParts → Option ℕ
 text_size parts = then_some (length parts.text == 0 || nat_lt TEXT_LIMIT (length parts.text)) 0
 
 abbrev pub init_size : ImageParts → Option ℕ
-init_size parts = then_some (nat_lt 33554432 (length parts.init + parts.bss)) 0
+init_size parts = then_some (nat_lt INIT_LIMIT (length parts.init + parts.bss)) 0
 
 abbrev pub entry_place : ImageParts → Option ℕ
 entry_place parts = then_some (nat_lt parts.entry 0x10000000 || not (nat_lt parts.entry (0x10000000 + length parts.text))) 0

@@ -6,7 +6,7 @@ use Rattle.ia32_types.specs.declared.site.Refused.{Refused}
 use Rattle.ia32_decode.specs.Named.{BeginsRefused}
 use Rattle.elf_form.specs.ImageParts.{ImageParts}
 use Rattle.sites.specs.declared.site.Site.{Site}
-use Rattle.sites.specs.declared.limits.TheConstants.{TEXT_LIMIT}
+use Rattle.sites.specs.declared.limits.TheConstants.{TEXT_LIMIT, INIT_LIMIT}
 use Rattle.sites.specs.Formats.{listed}
 use Rattle.image_check.specs.declared.fault.CheckCause.{CheckCause}
 use Rattle.image_check.specs.declared.fault.CheckCause.TheVariants.{TextPlace, InitPlace, TextSize, InitSize, EntryPlace, RefusedCode, BadCode, TextEnd, SiteWrong, SitesForm, Target, EntryStart}
@@ -76,7 +76,7 @@ abbrev pub IsWrong : CheckCause → ImageParts → ℕ → Type 0
 IsWrong TextPlace parts at = (parts.text_at ≢ 0x10000000) × (at ≡ 0)
 IsWrong InitPlace parts at = (parts.init_at ≢ 0x11000000) × (at ≡ 0)
 IsWrong TextSize parts at = ((length parts.text ≡ 0) ⊎ (TEXT_LIMIT < length parts.text)) × (at ≡ 0)
-IsWrong InitSize parts at = (33554432 < length parts.init + parts.bss) × (at ≡ 0)
+IsWrong InitSize parts at = (INIT_LIMIT < length parts.init + parts.bss) × (at ≡ 0)
 IsWrong EntryPlace parts at = ((parts.entry < 0x10000000) ⊎ (0x10000000 + length parts.text ≤ parts.entry)) × (at ≡ 0)
 IsWrong RefusedCode parts at = MeetsNamed parts.text at
 IsWrong BadCode parts at = MeetsOther parts.text at

@@ -29,7 +29,14 @@ impl Model for Checked {
 
     ghost view = { λ c. record { text = c.text.items; init = c.init.items; bss = c.bss; entry = c.entry; sites = c.sites.list; format = c.sites.format } };
 
-    ghost invariant = { λ c. IsChecked (record { text = c.text.items; init = c.init.items; bss = c.bss; entry = c.entry; sites = c.sites.list; format = c.sites.format }) c.starts.items };
+    ghost invariant = { λ c. IsChecked (record {
+      text = c.text.items;
+      init = c.init.items;
+      bss = c.bss;
+      entry = c.entry;
+      sites = c.sites.list;
+      format = c.sites.format;
+    }) c.starts.items };
 }
 
 impl Checked {

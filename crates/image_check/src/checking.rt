@@ -178,11 +178,15 @@ pub fn check(alloc: Global, bytes: &[u8]) -> Result<Checked, CheckFault>
     // Where the file is an accepted image, it is given, unless memory runs out.
     ensures only { (image : Accepted) → Accepts bytes.now image → Gives (λ checked. checked) result (Ok image) }
     // A refusal is the first cause by which the file's image is wrong, at its place.
-    ensures first { (at : ℕ) (cause : CheckCause) → result ≡ Err (CheckFault.At at cause) → (parts : ImageParts) × ImageAs bytes.now parts × IsFirstOf (wrong parts) causes at cause }
-    ensures first_only { (parts : ImageParts) (at : ℕ) (cause : CheckCause) → ImageAs bytes.now parts → IsFirstOf (wrong parts) causes at cause → Gives (λ checked. checked) result (Err (Wrong at cause)) }
+    ensures first { (at : ℕ) (cause : CheckCause) → result ≡ Err (CheckFault.At at cause) → (parts : ImageParts)
+        × ImageAs bytes.now parts × IsFirstOf (wrong parts) causes at cause }
+    ensures first_only { (parts : ImageParts) (at : ℕ) (cause : CheckCause) → ImageAs bytes.now parts
+        → IsFirstOf (wrong parts) causes at cause → Gives (λ checked. checked) result (Err (Wrong at cause)) }
     // The same by the causes' conditions: the cause's holds there, and none before it in their order.
-    ensures refused { (at : ℕ) (cause : CheckCause) → result ≡ Err (CheckFault.At at cause) → (parts : ImageParts) × ImageAs bytes.now parts × IsRefused parts at cause }
-    ensures refused_only { (parts : ImageParts) (at : ℕ) (cause : CheckCause) → ImageAs bytes.now parts → IsRefused parts at cause → Gives (λ checked. checked) result (Err (Wrong at cause)) }
+    ensures refused { (at : ℕ) (cause : CheckCause) → result ≡ Err (CheckFault.At at cause) → (parts : ImageParts)
+        × ImageAs bytes.now parts × IsRefused parts at cause }
+    ensures refused_only { (parts : ImageParts) (at : ℕ) (cause : CheckCause) → ImageAs bytes.now parts
+        → IsRefused parts at cause → Gives (λ checked. checked) result (Err (Wrong at cause)) }
     // A file that is no image is refused as the reading refuses it.
     ensures form { (fault : Fault) → image_in bytes.now ≡ Err fault → Gives (λ checked. checked) result (Err (Form fault)) }
     ensures exact { Gives (λ checked. checked) result (image_of bytes.now) }

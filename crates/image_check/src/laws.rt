@@ -25,18 +25,21 @@ pub fn one_sweep()
 /// What is said of an image that is not accepted is the first cause by which it is wrong, at its
 /// place.
 pub fn first_cause()
-    ensures { (parts : ImageParts) (at : ℕ) (cause : CheckCause) → (image_from parts ≡ Err (Wrong at cause)) ↔ IsFirstOf (wrong parts) causes at cause }
+    ensures { (parts : ImageParts) (at : ℕ) (cause : CheckCause) → (image_from parts ≡ Err (Wrong at cause))
+        ↔ IsFirstOf (wrong parts) causes at cause }
 {}
 
 /// An image is wrong by a cause, at a place, exactly where the condition of that cause holds there.
 pub fn causes_are_conditions()
-    ensures { (parts : ImageParts) → AreBytes parts.text → (cause : CheckCause) (at : ℕ) → (wrong parts cause ≡ Some at) ↔ IsWrong cause parts at }
+    ensures { (parts : ImageParts) → AreBytes parts.text → (cause : CheckCause) (at : ℕ)
+        → (wrong parts cause ≡ Some at) ↔ IsWrong cause parts at }
 {}
 
 /// An image is refused, by a cause and at a place, exactly where the condition of that cause holds
 /// there and none holds, at any place, of a cause that comes before it.
 pub fn refused_in_order()
-    ensures { (parts : ImageParts) → AreBytes parts.text → (at : ℕ) (cause : CheckCause) → (image_from parts ≡ Err (Wrong at cause)) ↔ IsRefused parts at cause }
+    ensures { (parts : ImageParts) → AreBytes parts.text → (at : ℕ) (cause : CheckCause)
+        → (image_from parts ≡ Err (Wrong at cause)) ↔ IsRefused parts at cause }
 {}
 
 /// The sites of a text by what stands at its front: an instruction that isn't sensitive makes none;
@@ -45,8 +48,14 @@ pub fn refused_in_order()
 #[tactic(auto, using(crate::proofs::FrontSites::none_found, crate::proofs::FrontSites::insensitive_first, crate::proofs::FrontSites::pair_first, crate::proofs::FrontSites::alone_first, crate::proofs::FrontSites::lacking_first))]
 pub fn sites_from_the_front()
     ensures none { found_in [] ≡ record { sites = []; lacking = None } }
-    ensures insensitive { (p : PieceView) (ps : List PieceView) → ((kind : KindView) → p.role ≢ role.Site kind) → found_in (p ∷ ps) ≡ found_in ps }
-    ensures pair { (p : PieceView) (ps : List PieceView) → (is_sti p.role && has_hlt ps) ≡ true → p.len ≡ 1 → found_in (p ∷ ps) ≡ with_site (pair p) (found_in (drop 4 ps)) }
-    ensures alone { (p : PieceView) (ps : List PieceView) (kind : KindView) → p.role ≡ role.Site kind → (is_sti p.role && has_hlt ps) ≡ false → has_nops (max 5 p.len - p.len) ps ≡ true → found_in (p ∷ ps) ≡ with_site (single p kind) (found_in (drop (max 5 p.len - p.len) ps)) }
-    ensures lacking { (p : PieceView) (ps : List PieceView) (kind : KindView) → p.role ≡ role.Site kind → (is_sti p.role && has_hlt ps) ≡ false → has_nops (max 5 p.len - p.len) ps ≡ false → found_in (p ∷ ps) ≡ record { sites = []; lacking = Some p.at } }
+    ensures insensitive { (p : PieceView) (ps : List PieceView) → ((kind : KindView) → p.role ≢ role.Site kind)
+        → found_in (p ∷ ps) ≡ found_in ps }
+    ensures pair { (p : PieceView) (ps : List PieceView) → (is_sti p.role && has_hlt ps) ≡ true → p.len ≡ 1
+        → found_in (p ∷ ps) ≡ with_site (pair p) (found_in (drop 4 ps)) }
+    ensures alone { (p : PieceView) (ps : List PieceView) (kind : KindView) → p.role ≡ role.Site kind
+        → (is_sti p.role && has_hlt ps) ≡ false → has_nops (max 5 p.len - p.len) ps ≡ true
+        → found_in (p ∷ ps) ≡ with_site (single p kind) (found_in (drop (max 5 p.len - p.len) ps)) }
+    ensures lacking { (p : PieceView) (ps : List PieceView) (kind : KindView) → p.role ≡ role.Site kind
+        → (is_sti p.role && has_hlt ps) ≡ false → has_nops (max 5 p.len - p.len) ps ≡ false
+        → found_in (p ∷ ps) ≡ record { sites = []; lacking = Some p.at } }
 {}

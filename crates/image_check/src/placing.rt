@@ -7,14 +7,12 @@ ghost use Rattle.image_check.specs.Checking.{placed};
 
 use crate::fault::{CheckCause, CheckFault};
 use elf_form::Image;
-use sites::TEXT_LIMIT;
+use sites::{INIT_LIMIT, TEXT_LIMIT};
 
 /// The linear address of the text.
 pub const TEXT_AT: u32 = 0x1000_0000;
 /// The linear address of the data.
 const INIT_AT: u32 = 0x1100_0000;
-/// The most bytes of data, the zeroed ones among them.
-const INIT_LIMIT: u64 = 33_554_432;
 
 /// Passes where there is no place.
 pub fn test(cause: CheckCause, place: Option<u32>) -> Result<(), CheckFault>
@@ -47,7 +45,7 @@ fn text_size(image: &Image) -> Option<u32>
 fn init_size(image: &Image) -> Option<u32>
     ensures { result ≡ init_size image.now }
 {
-    (image.init.len() as u64 + u64::from(image.bss) > INIT_LIMIT).then_some(0)
+    (image.init.len() as u64 + u64::from(image.bss) > INIT_LIMIT as u64).then_some(0)
 }
 
 fn entry_place(image: &Image) -> Option<u32>
@@ -63,7 +61,7 @@ fn entry_place(image: &Image) -> Option<u32>
 pub fn placed(image: &Image) -> Result<(), CheckFault>
     ensures exact { Gives (λ _. tt) result (placed image.now) }
     ensures text { OnOk result ((1 ≤ length image.now.text) × (length image.now.text ≤ TEXT_LIMIT)) }
-    ensures init { OnOk result (length image.now.init + image.now.bss ≤ 33554432) }
+    ensures init { OnOk result (length image.now.init + image.now.bss ≤ INIT_LIMIT) }
     ensures entry { OnOk result ((0x1000_0000 ≤ image.now.entry) × (image.now.entry < 0x1000_0000 + length image.now.text)) }
 {
     test(CheckCause::TextPlace, text_place(image))?;

@@ -11,7 +11,8 @@ use std::alloc::{AllocError, Global};
 /// Clears the flags behind an offset and before another.
 fn clear(flags: &mut Vec<bool>, behind: usize, before: usize)
     requires { behind < usize.MAX }
-    ensures flags { (i : ℕ) → slice_index_or flags.new.items i false ≡ (slice_index_or flags.old.items i false && not (nat_lt behind i && nat_lt i before)) }
+    ensures flags { (i : ℕ) → slice_index_or flags.new.items i false
+        ≡ (slice_index_or flags.old.items i false && not (nat_lt behind i && nat_lt i before)) }
     ensures len { length flags.new.items ≡ length flags.old.items }
 {
     let end = before.min(flags.len());
@@ -23,7 +24,8 @@ fn clear(flags: &mut Vec<bool>, behind: usize, before: usize)
 /// For each byte of a text, whether an instruction begins there that is not in a site past its
 /// first byte.
 pub fn entrances(alloc: Global, starts: &[bool], sites: &[Site]) -> Result<Vec<bool>, AllocError>
-    ensures { IfOk result (λ flags. (i : ℕ) → slice_index_or flags.items i false ≡ (slice_index_or starts.now i false && not (list_any (is_inside i) sites.now))) }
+    ensures { IfOk result (λ flags. (i : ℕ) → slice_index_or flags.items i false
+        ≡ (slice_index_or starts.now i false && not (list_any (is_inside i) sites.now))) }
 {
     let mut flags = Vec::from_slice(alloc, starts)?;
     for site in sites {

@@ -22,19 +22,26 @@ use ia32_exec::eip_goes_on;
 /// Outside sites the next one is no inner part of a site, and neither is where a direct branch leads, or where the
 /// entry is.
 pub fn ways_on()
-    ensures next { (image : Image) → IsAccepted image → (s : Swept) → Contains (swept_of image.text) s → (is_start image.text (s.at + s.len) ≡ true) ⊎ IsLast image s }
-    ensures next_outside { (image : Image) → IsAccepted image → (s : Swept) → StandsOutside image s → IsWayIn image (s.at + s.len) ⊎ IsLast image s }
-    ensures branch { (image : Image) → IsAccepted image → (s : Swept) → Contains (swept_of image.text) s → is_direct_branch s.insn.op ≡ true → IsWayIn image (target_of s.at s.len s.insn) }
+    ensures next { (image : Image) → IsAccepted image → (s : Swept) → Contains (swept_of image.text) s
+        → (is_start image.text (s.at + s.len) ≡ true) ⊎ IsLast image s }
+    ensures next_outside { (image : Image) → IsAccepted image → (s : Swept) → StandsOutside image s
+        → IsWayIn image (s.at + s.len) ⊎ IsLast image s }
+    ensures branch { (image : Image) → IsAccepted image → (s : Swept) → Contains (swept_of image.text) s
+        → is_direct_branch s.insn.op ≡ true → IsWayIn image (target_of s.at s.len s.insn) }
     ensures here { (image : Image) → IsAccepted image → (s : Swept) → StandsOutside image s → IsWayIn image s.at }
     ensures site { (image : Image) → IsAccepted image → (site : Site) → Contains image.sites site → IsWayIn image site.at }
     ensures entry { (image : Image) → IsAccepted image → (0x10000000 ≤ image.entry) × IsWayIn image (image.entry - 0x10000000) }
-    ensures place { (image : Image) (at : ℕ) → IsWayIn image at → (place_of image at ≡ Outside) ⊎ ((site : Site) × (place_of image at ≡ Inside site) × (site.at ≡ at)) }
+    ensures place { (image : Image) (at : ℕ) → IsWayIn image at → (place_of image at ≡ Outside)
+        ⊎ ((site : Site) × (place_of image at ≡ Inside site) × (site.at ≡ at)) }
 {}
 
 /// The same as linear addresses, by the sums that an instruction makes.
 pub fn addresses()
-    ensures next { (image : Image) → IsAccepted image → (s : Swept) → Contains (swept_of image.text) s → (linear s.at + s.len) % 2 ^ 32 ≡ linear (s.at + s.len) }
-    ensures branch { (image : Image) → IsAccepted image → (s : Swept) → Contains (swept_of image.text) s → is_direct_branch s.insn.op ≡ true → (linear (s.at + s.len) + s.insn.imm) % 2 ^ 32 ≡ linear (target_of s.at s.len s.insn) }
+    ensures next { (image : Image) → IsAccepted image → (s : Swept) → Contains (swept_of image.text) s
+        → (linear s.at + s.len) % 2 ^ 32 ≡ linear (s.at + s.len) }
+    ensures branch { (image : Image) → IsAccepted image → (s : Swept) → Contains (swept_of image.text) s
+        → is_direct_branch s.insn.op ≡ true → (linear (s.at + s.len) + s.insn.imm) % 2 ^ 32
+        ≡ linear (target_of s.at s.len s.insn) }
     ensures place { (image : Image) (at : ℕ) → place_at image (linear at) ≡ place_of image at }
     ensures not_a_start { (image : Image) (eip : ℕ) → (place_at image eip ≡ NotAStart) ↔ (is_start_at image.text eip ≡ false) }
     ensures in_site { (sites : List Site) (at : ℕ) → is_site_at sites (linear at) ≡ is_in_site sites at }
@@ -43,7 +50,9 @@ pub fn addresses()
 
 /// What an instruction outside sites leaves in EIP is where control may come in.
 pub fn goes_on()
-    ensures { (image : Image) → IsAccepted image → (s : Swept) → StandsOutside image s → (r : Regs) → r.eip ≡ linear s.at → (b : ℕ → ℕ) (after : Regs) (stores : Stores) → effect s.insn s.len r b ≡ Done after stores → (at : ℕ) × (after.eip ≡ linear at) × IsWayIn image at }
+    ensures { (image : Image) → IsAccepted image → (s : Swept) → StandsOutside image s → (r : Regs)
+        → r.eip ≡ linear s.at → (b : ℕ → ℕ) (after : Regs) (stores : Stores)
+        → effect s.insn s.len r b ≡ Done after stores → (at : ℕ) × (after.eip ≡ linear at) × IsWayIn image at }
 {
     eip_goes_on();
 }

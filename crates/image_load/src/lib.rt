@@ -15,6 +15,7 @@ pub use fault::{RunFault, StartFault};
 use guest_ram::Ram;
 use ia32_types::{Flags, Regs};
 use image_check::Checked;
+pub use run_trace::Pause;
 
 const DESCRIPTORS: [u8; 40] = [
     0, 0, 0, 0, 0, 0, 0, 0, 0xFF, 0xFF, 0, 0, 0, 0x9B, 0xCF, 0, 0xFF, 0xFF, 0, 0, 0, 0x93, 0xCF, 0,
@@ -31,7 +32,8 @@ pub fn load(image: &Checked, ram: &mut Ram, frames: u32) -> Result<Boot, TooSmal
     ensures front { OnOk result (take (frames * 4096) ram.new ≡ boot_ram image.now frames) }
     ensures rest { drop (frames * 4096) ram.new ≡ drop (frames * 4096) ram.old }
     ensures len { length ram.new ≡ length ram.old }
-    ensures small { IfErr result (λ e. (frames < need image.now) × (e ≡ record { need = need image.now; have = frames }) × (ram.new ≡ ram.old)) }
+    ensures small { IfErr result (λ e. (frames < need image.now)
+        × (e ≡ record { need = need image.now; have = frames }) × (ram.new ≡ ram.old)) }
 {
     let text_pages = pages(image.text().len() as u32);
     let data_pages = pages(image.init().len() as u32 + image.bss());

@@ -6,6 +6,7 @@ ghost use Rattle.sites.specs.Reading.{cut_before, Gives};
 ghost use Rattle.sites.specs.Gapped as spec;
 
 use crate::kind::{kind_numbered, number};
+use crate::limits::SITE_LIMIT;
 use crate::reading::{has_no_kind, head_fault};
 use crate::site::{Site, Sites, SitesFault};
 use crate::words::byte_or_zero;
@@ -128,7 +129,7 @@ fn put_gap(out: &mut Vec<u8>, from: u64, s: &Site) -> Result<(), AllocError>
 
 /// The one spelling in format 2.
 pub fn write_gapped(alloc: Global, sites: &[Site]) -> Result<Vec<u8>, AllocError>
-    requires count { length sites.now ≤ 262144 }
+    requires count { length sites.now ≤ SITE_LIMIT }
     requires sites { AreGapped 0 sites.now }
     ensures { IfOk result (λ v. v.items ≡ gapped sites.now) }
 {

@@ -1,4 +1,4 @@
-//! How long a text may be, and the format of its sites.
+//! What objects and images may have at most, and the format of the sites of a text (profile).
 
 ghost use Rattle.std.specs.Prelude.{◌≡◌, ◌<◌};
 ghost use Rattle.sites.specs.Limits.{format_of, in_text};
@@ -14,6 +14,12 @@ pub const SHORT_TEXT: usize = 4_194_304;
 
 /// The most sites of a text.
 pub const SITE_LIMIT: usize = 262_144;
+
+/// Bytes of data and zeroed bytes together.
+pub const INIT_LIMIT: usize = 33_554_432;
+
+/// The most symbols of a source, and of objects that are linked.
+pub const SYMBOL_LIMIT: usize = 65_536;
 
 /// The format in which the sites of a text of so many bytes are written.
 #[tactic(auto, unfolding(crate::specs::Limits::format_of))]

@@ -52,6 +52,7 @@ fn falls(bytes: &[u8], least: u64, a: usize) -> bool
     bytes.len() >= a + 4 && (word(bytes, a) as u64) < least
 }
 
+/// Whether the byte is there, and is the number of no kind of site.
 pub fn has_no_kind(bytes: &[u8], at: usize) -> bool
     ensures { result ≡ has_no_kind bytes.now at }
 {

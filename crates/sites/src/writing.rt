@@ -6,6 +6,7 @@ ghost use Rattle.sites.specs.Formats.{sites_in};
 
 use crate::gapped::write_gapped;
 use crate::kind::number;
+use crate::limits::SITE_LIMIT;
 use crate::site::{Site, Sites};
 use std::alloc::{AllocError, Global};
 
@@ -18,7 +19,7 @@ fn put_site(out: &mut Vec<u8>, s: &Site) -> Result<(), AllocError>
 }
 
 fn write_placed(alloc: Global, sites: &[Site]) -> Result<Vec<u8>, AllocError>
-    requires { length sites.now ≤ 262144 }
+    requires { length sites.now ≤ SITE_LIMIT }
     ensures { IfOk result (λ v. v.items ≡ placed sites.now) }
 {
     let mut out = Vec::new(alloc);
@@ -32,7 +33,7 @@ fn write_placed(alloc: Global, sites: &[Site]) -> Result<Vec<u8>, AllocError>
 
 #[tactic(auto, unfolding(crate::specs::Spelling::spelling))]
 fn written(alloc: Global, sites: &Sites) -> Result<Vec<u8>, AllocError>
-    requires count { length sites.now.list ≤ 262144 }
+    requires count { length sites.now.list ≤ SITE_LIMIT }
     requires sites { IsWritable sites.now }
     ensures { IfOk result (λ v. v.items ≡ spelling sites.now) }
 {
@@ -44,7 +45,7 @@ fn written(alloc: Global, sites: &Sites) -> Result<Vec<u8>, AllocError>
 
 /// The one spelling of the sites in their format.
 pub fn write_sites(alloc: Global, sites: &Sites) -> Result<Vec<u8>, AllocError>
-    requires count { length sites.now.list ≤ 262144 }
+    requires count { length sites.now.list ≤ SITE_LIMIT }
     requires sites { IsWritable sites.now }
     ensures spelling { IfOk result (λ v. v.items ≡ spelling sites.now) }
     // It is read as the same sites.

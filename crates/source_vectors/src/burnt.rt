@@ -4,7 +4,7 @@ use crate::gcc::FROM_GCC;
 use crate::rest::{Rest, holds, put_times, sides, told, unmarked};
 use afterburner::{BurnFault, burn};
 use asm_parse::parse;
-use elf_form::{DefinedIn, Object, Reloc, Symbol};
+use elf_form::{Object, Place, Reloc, Symbol};
 use std::alloc::Global;
 use std::process::Abort;
 
@@ -76,10 +76,10 @@ symbols .LFB0 text 0;.L4 data 0;.L2 text 26;.L3 text 16;_start text 0 global; re
 
 fn place_of(symbol: &Symbol) -> &'static str {
     match symbol.place {
-        DefinedIn::Undefined => "none",
-        DefinedIn::Text => "text",
-        DefinedIn::Init => "data",
-        DefinedIn::Bss => "bss",
+        Place::Undefined => "none",
+        Place::Text => "text",
+        Place::Init => "data",
+        Place::Bss => "bss",
     }
 }
 

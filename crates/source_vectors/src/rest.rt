@@ -13,6 +13,7 @@ pub struct Rest<'a> {
 }
 
 impl<'a> Rest<'a> {
+    /// Nothing of the text has come.
     pub fn new(text: &'a [u8]) -> Rest<'a> {
         Rest { text, agrees: true }
     }

@@ -1,3 +1,5 @@
+//! Arithmetic and logic.
+
 /// As GNU as assembles them.
 pub const ARITHMETIC: &str = "\
 addb %cl,%bl => 00 cb

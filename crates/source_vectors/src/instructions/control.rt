@@ -1,3 +1,5 @@
+//! Jumps, calls, conditions and interrupts.
+
 /// As GNU as assembles them.
 pub const CONTROL: &str = "\
 jmp foo => e9 fc ff ff ff imm 1 0 relative

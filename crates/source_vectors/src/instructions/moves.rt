@@ -1,3 +1,5 @@
+//! Moves, and LEA and XCHG.
+
 /// As GNU as assembles them.
 pub const MOVES: &str = "\
 mov %al,%bl => 88 c3

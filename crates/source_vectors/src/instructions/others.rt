@@ -1,3 +1,5 @@
+//! Flags, strings, system instructions, ports and addresses.
+
 /// As GNU as assembles them.
 pub const OTHERS: &str = "\
 cwtl => 98

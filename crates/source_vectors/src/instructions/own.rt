@@ -1,3 +1,5 @@
+//! Spellings in which GNU as differs.
+
 /// This project's own choice, where GNU as takes another spelling or no such suffix.
 pub const OWN: &str = "\
 jmpl foo-1 => e9 fb ff ff ff imm 1 0 relative

@@ -1,3 +1,5 @@
+//! Shifts and rotations.
+
 /// As GNU as assembles them.
 pub const SHIFTS: &str = "\
 rolb $1,%al => d0 c0

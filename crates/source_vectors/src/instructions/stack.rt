@@ -1,3 +1,5 @@
+//! The stack.
+
 /// As GNU as assembles them.
 pub const STACK: &str = "\
 push %eax => 50

@@ -51,26 +51,13 @@ linked_by-requires-clause-few c = c.requires.few
 pub linked_by-requires-clause-linkable : goal.linked_by-requires-clause-linkable
 linked_by-requires-clause-linkable c = c.requires.linkable
 
+pub linked_by-requires-clause-passed : goal.linked_by-requires-clause-passed
+linked_by-requires-clause-passed c = c.in_ok-all.ensures.exact
+
 pub linked_by-requires-clause-gathered : goal.linked_by-requires-clause-gathered
-linked_by-requires-clause-gathered c = c.in_ok-all.ensures.exact
-
-pub linked_by-requires-clause-within : goal.linked_by-requires-clause-within
-linked_by-requires-clause-within c = c.in_ok-all.ensures.within
-
-pub linked_by-requires-clause-fits : goal.linked_by-requires-clause-fits
-linked_by-requires-clause-fits c = c.in_ok-all.ensures.fits
-
-pub linked_by-requires-clause-sites : goal.linked_by-requires-clause-sites
-linked_by-requires-clause-sites c = c.in_ok-all.ensures.sites
-
-pub linked_by-requires-clause-below : goal.linked_by-requires-clause-below
-linked_by-requires-clause-below c = c.in_ok-all.ensures.below
-
-pub linked_by-requires-clause-count : goal.linked_by-requires-clause-count
-linked_by-requires-clause-count c = c.in_ok-all.ensures.count
-
-pub linked_by-requires-clause-gaps : goal.linked_by-requires-clause-gaps
-linked_by-requires-clause-gaps c = c.in_ok-all.ensures.gaps
+linked_by-requires-clause-gathered c =
+    let all = c.in_ok-all.ensures in
+    record { within = all.within; fits = all.fits; moved = all.sites; below = all.below; count = all.count; gaps = all.gaps }
 
 pub returns-clause-laid_out : goal.returns-clause-laid_out
 returns-clause-laid_out c = c.linked_by.ensures.laid_out

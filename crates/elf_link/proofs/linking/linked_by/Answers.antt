@@ -10,24 +10,24 @@ use Rattle.elf_link.proofs.linking.linked_by.Goals as goal
 
 pub returns-in_err-relocs_tested-clause-exact : goal.returns-in_err-relocs_tested-clause-exact
 returns-in_err-relocs_tested-clause-exact c =
-    gives_err (λ (image : ImageParts). image) c.from_residual.result c.in_err-relocs_tested.field-0.0 _ c.from_residual.ensures.1 (relocs_fail_all c.args.objects.now.items c.requires.gathered c.in_err-relocs_tested.field-0.0 c.in_err-relocs_tested.ensures)
+    gives_err (λ (image : ImageParts). image) c.from_residual.result c.in_err-relocs_tested.field-0.0 _ c.from_residual.ensures.1 (relocs_fail_all c.args.objects.now.items c.requires.passed c.in_err-relocs_tested.field-0.0 c.in_err-relocs_tested.ensures)
 
 pub returns-in_err-entry-clause-exact : goal.returns-in_err-entry-clause-exact
 returns-in_err-entry-clause-exact c =
     let same = entered_same c.args.objects.now.items c.args.plan.now.bases.items c.args.plan.now.globals c.requires.plan.bases c.requires.plan.globals in
     gives_err (λ (image : ImageParts). image) c.from_residual-in_err-entry.result c.in_err-entry.field-0.0 _ c.from_residual-in_err-entry.ensures.1
-    (start_fails c.args.objects.now.items c.requires.gathered c.in_ok-relocs_tested.ensures c.in_err-entry.field-0.0 (subst (λ (r : Result ℕ Refused). Fails c.in_err-entry.field-0.0 r) (sym same) c.in_err-entry.ensures))
+    (start_fails c.args.objects.now.items c.requires.passed c.in_ok-relocs_tested.ensures c.in_err-entry.field-0.0 (subst (λ (r : Result ℕ Refused). Fails c.in_err-entry.field-0.0 r) (sym same) c.in_err-entry.ensures))
 
 pub placed-requires-clause-entry : goal.placed-requires-clause-entry
 placed-requires-clause-entry c =
     let same = entered_same c.args.objects.now.items c.args.plan.now.bases.items c.args.plan.now.globals c.requires.plan.bases c.requires.plan.globals in
-    let ok = linked_ok c.args.objects.now.items c.requires.gathered c.in_ok-relocs_tested.ensures c.in_ok-entry.entry (same ∙ c.in_ok-entry.ensures) in
+    let ok = linked_ok c.args.objects.now.items c.requires.passed c.in_ok-relocs_tested.ensures c.in_ok-entry.entry (same ∙ c.in_ok-entry.ensures) in
     ok.1
 
 pub returns-clause-exact : goal.returns-clause-exact
 returns-clause-exact c =
     let same = entered_same c.args.objects.now.items c.args.plan.now.bases.items c.args.plan.now.globals c.requires.plan.bases c.requires.plan.globals in
-    let ok = linked_ok c.args.objects.now.items c.requires.gathered c.in_ok-relocs_tested.ensures c.in_ok-entry.entry (same ∙ c.in_ok-entry.ensures) in
+    let ok = linked_ok c.args.objects.now.items c.requires.passed c.in_ok-relocs_tested.ensures c.in_ok-entry.entry (same ∙ c.in_ok-entry.ensures) in
     ok.0 ∙ ap Ok (sym c.in_ok-placed.ensures.image)
 
 pub returns-in_err-relocs_tested-clause-laid_out : goal.returns-in_err-relocs_tested-clause-laid_out
@@ -75,26 +75,11 @@ placed-requires-clause-few c = c.requires.few
 pub placed-requires-clause-linkable : goal.placed-requires-clause-linkable
 placed-requires-clause-linkable c = c.requires.linkable
 
-pub placed-requires-clause-within : goal.placed-requires-clause-within
-placed-requires-clause-within c = c.requires.within
-
-pub placed-requires-clause-fits : goal.placed-requires-clause-fits
-placed-requires-clause-fits c = c.requires.fits
+pub placed-requires-clause-gathered : goal.placed-requires-clause-gathered
+placed-requires-clause-gathered c = c.requires.gathered
 
 pub placed-requires-clause-plan : goal.placed-requires-clause-plan
 placed-requires-clause-plan c = c.requires.plan
-
-pub placed-requires-clause-sites : goal.placed-requires-clause-sites
-placed-requires-clause-sites c = c.requires.sites
-
-pub placed-requires-clause-below : goal.placed-requires-clause-below
-placed-requires-clause-below c = c.requires.below
-
-pub placed-requires-clause-count : goal.placed-requires-clause-count
-placed-requires-clause-count c = c.requires.count
-
-pub placed-requires-clause-gaps : goal.placed-requires-clause-gaps
-placed-requires-clause-gaps c = c.requires.gaps
 
 pub returns-clause-laid_out : goal.returns-clause-laid_out
 returns-clause-laid_out c = c.in_ok-placed.ensures.laid_out
