@@ -1,5 +1,6 @@
 pub mod Halts
 pub mod Readings
+pub mod Failures
 mod Sources
 mod Objects
 mod Kernels

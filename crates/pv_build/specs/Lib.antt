@@ -3,6 +3,7 @@ pub mod NumberWords
 pub mod Lines
 pub mod Texts
 pub mod Readings
+pub mod Failures
 pub mod Telling
 pub mod Sources
 pub mod Objects

@@ -8,6 +8,7 @@ ghost use Rattle.trace_check.specs.Reading.{choices_in};
 ghost use Rattle.pv_build.specs.Images.{HasImage};
 ghost use Rattle.pv_build.specs.Scripts.{HasScript};
 ghost use Rattle.pv_build.specs.Readings.{OnlyRead};
+ghost use Rattle.pv_build.specs.Failures.{NoneFailedIn};
 ghost use Rattle.pv_build.specs.Telling.{HaltsOverFiles};
 ghost use Rattle.pv_build.specs.CertificateLines.{certificate_line, certificate_refusal};
 ghost use Rattle.pv_build.specs.Certificates.{HasChoices, HasNoChoices, NoReplay, FindsReplay};
@@ -31,6 +32,7 @@ pub struct Replayable {
 }
 
 /// What files hold for a replay. They are read in this order, and none behind one that is refused.
+#[tactic(auto, using(crate::proofs::Failures::none_here, crate::proofs::Failures::none_since, crate::proofs::Failures::none_in))]
 pub fn replayable_in_files<F: Files>(
     alloc: Global,
     image: &str,
@@ -48,6 +50,7 @@ pub fn replayable_in_files<F: Files>(
     ensures halted { IfErr result (HaltsOverFiles F.Files (FindsReplay (F.held files.old) image.now script.now certificate.now text.now)
         files.old files.new (NoReplay (F.held files.old) image.now script.now certificate.now)) }
     ensures read { OnlyRead F.Files (FindsReplay (F.held files.old) image.now script.now certificate.now text.now) files.old files.new }
+    ensures kept { NoneFailedIn F.Files files.old files.new result }
 {
     let runnable = runnable_in_files(alloc, image, script, files)?;
     let choices = choices_in_file(alloc, certificate, files)?;
@@ -60,12 +63,14 @@ pub fn replayable_in_files<F: Files>(
 }
 
 // The choices that a file says.
+#[tactic(auto, using(crate::proofs::Failures::none_here, crate::proofs::Failures::none_since, crate::proofs::Failures::none_in))]
 fn choices_in_file<F: Files>(alloc: Global, name: &str, files: &mut F) -> Result<Choices, Halt>
     ensures choices { IfOk result (λ choices. HasChoices (F.held files.old) name.now choices.list) }
     ensures entries { IfOk result (λ choices. AreChoices choices.list) }
     ensures halted { IfErr result (HaltsOverFiles F.Files (IsHeld (F.held files.old) name.now)
         files.old files.new (λ line. (at : ℕ) × HasNoChoices (F.held files.old) name.now at × (line ≡ certificate_refusal at))) }
     ensures read { OnlyRead F.Files (IsHeld (F.held files.old) name.now) files.old files.new }
+    ensures kept { NoneFailedIn F.Files files.old files.new result }
 {
     let file = load(alloc, name, files)?;
     match read_choices(alloc, &file) {

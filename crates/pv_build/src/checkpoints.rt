@@ -9,6 +9,7 @@ ghost use Rattle.checkpoint.specs.States.{IsInForm, checkpoint_bytes, checkpoint
 ghost use Rattle.checkpoint.specs.Fits.{fits_of};
 ghost use Rattle.pv_build.specs.Lines.{place_line};
 ghost use Rattle.pv_build.specs.Readings.{OnlyRead};
+ghost use Rattle.pv_build.specs.Failures.{NoneFailedIn};
 ghost use Rattle.pv_build.specs.Telling.{HaltsOverFiles};
 ghost use Rattle.pv_build.specs.Images.{HasImage};
 ghost use Rattle.pv_build.specs.Scripts.{HasScript};
@@ -37,6 +38,7 @@ pub struct Resumable {
 
 /// The image, the script and the checkpoint that files hold, read in this order, where the checkpoint fits the image, the
 /// machine and the count of steps.
+#[tactic(auto, using(crate::proofs::Failures::none_here, crate::proofs::Failures::none_since, crate::proofs::Failures::none_in))]
 pub fn resumable_in_files<F: Files>(
     alloc: Global,
     image: &str,
@@ -55,8 +57,11 @@ pub fn resumable_in_files<F: Files>(
     ensures text { IfOk result (λ found. part found.state.ram 0x100000 (length found.image.text) ≡ found.image.text) }
     ensures steps { IfOk result (λ found. found.state.step ≤ n) }
     ensures able { IfOk result (λ found. wedge ≡ true → IsAble found.state.cpu) }
-    ensures halted { IfErr result (HaltsOverFiles F.Files (FindsState (F.held files.old) image.now script.now name.now) files.old files.new (NoResumption (F.held files.old) image.now script.now name.now wedge n)) }
+    ensures halted { IfErr result (HaltsOverFiles F.Files
+        (FindsState (F.held files.old) image.now script.now name.now) files.old files.new
+        (NoResumption (F.held files.old) image.now script.now name.now wedge n)) }
     ensures read { OnlyRead F.Files (FindsState (F.held files.old) image.now script.now name.now) files.old files.new }
+    ensures kept { NoneFailedIn F.Files files.old files.new result }
 {
     let found = runnable_in_files(alloc, image, script, files)?;
     let state = state_in(alloc, name, files)?;
@@ -72,11 +77,15 @@ pub fn resumable_in_files<F: Files>(
 }
 
 // The state whose checkpoint a file is.
+#[tactic(auto, using(crate::proofs::Failures::none_here, crate::proofs::Failures::none_since, crate::proofs::Failures::none_in))]
 fn state_in<F: Files>(alloc: Global, name: &str, files: &mut F) -> Result<State, Halt>
     ensures state { IfOk result (λ state. HasState (F.held files.old) name.now state) }
     ensures form { IfOk result (λ state. IsInForm state) }
-    ensures halted { IfErr result (HaltsOverFiles F.Files (IsHeld (F.held files.old) name.now) files.old files.new (λ line. (at : ℕ) × HasNoState (F.held files.old) name.now at × (line ≡ place_line (checkpoint_number CheckpointCause.Form) at))) }
+    ensures halted { IfErr result (HaltsOverFiles F.Files (IsHeld (F.held files.old) name.now) files.old files.new
+        (λ line. (at : ℕ) × HasNoState (F.held files.old) name.now at
+        × (line ≡ place_line (checkpoint_number CheckpointCause.Form) at))) }
     ensures read { OnlyRead F.Files (IsHeld (F.held files.old) name.now) files.old files.new }
+    ensures kept { NoneFailedIn F.Files files.old files.new result }
 {
     let file = load(alloc, name, files)?;
     match read_checkpoint(alloc, &file) {

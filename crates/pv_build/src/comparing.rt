@@ -29,7 +29,8 @@ pub fn tell_both<S: Sink>(
     texts: &Texts,
     out: &mut S,
 ) -> Status
-    ensures { TellsBoth (told_line number image.now texts.now.second.items texts.now.fills) texts.now.first.items texts.now.second.items (S.taken out.old) (S.taken out.new) (S.faults out.old) (S.faults out.new) result }
+    ensures { TellsBoth (told_line number image.now texts.now.second.items texts.now.fills) texts.now.first.items texts.now.second.items
+        (S.taken out.old) (S.taken out.new) (S.faults out.old) (S.faults out.new) result }
 {
     let told = Told {
         number,

@@ -7,6 +7,7 @@ ghost use Rattle.elf_form.specs.ImageLayout.{IsWritableImage, image_bytes};
 ghost use Rattle.image_check.specs.Refusals.{Refusal, Refuses};
 ghost use Rattle.pv_build.specs.Lines.{image_line, place_line, form_number};
 ghost use Rattle.pv_build.specs.Readings.{OnlyRead};
+ghost use Rattle.pv_build.specs.Failures.{NoneFailedIn};
 ghost use Rattle.pv_build.specs.Telling.{HaltsOverFiles, RefusesAs};
 ghost use Rattle.pv_build.specs.Images.{HasImage, HasNoImage, ImageReadsBack, accepted_line, format_words, image_made_line};
 
@@ -21,10 +22,13 @@ use sites::count;
 use std::alloc::{AllocError, Global};
 
 /// The accepted image that a file is.
+#[tactic(auto, using(crate::proofs::Failures::none_here, crate::proofs::Failures::none_since, crate::proofs::Failures::none_in))]
 pub fn accepted<F: Files>(alloc: Global, name: &str, files: &mut F) -> Result<Checked, Halt>
     ensures image { IfOk result (HasImage (F.held files.old) name.now) }
-    ensures halted { IfErr result (HaltsOverFiles F.Files (IsHeld (F.held files.old) name.now) files.old files.new (λ line. (refusal : Refusal) × HasNoImage (F.held files.old) name.now refusal × (line ≡ image_line refusal))) }
+    ensures halted { IfErr result (HaltsOverFiles F.Files (IsHeld (F.held files.old) name.now) files.old files.new
+        (λ line. (refusal : Refusal) × HasNoImage (F.held files.old) name.now refusal × (line ≡ image_line refusal))) }
     ensures read { OnlyRead F.Files (IsHeld (F.held files.old) name.now) files.old files.new }
+    ensures kept { NoneFailedIn F.Files files.old files.new result }
 {
     let file = load(alloc, name, files)?;
     match check(alloc, &file) {
@@ -46,7 +50,8 @@ pub fn refusal_of(alloc: Global, fault: &CheckFault) -> Halt
 
 // Why a file is no image.
 fn form_refusal(alloc: Global, fault: &ElfFault) -> Halt
-    ensures { RefusesAs (λ line. (f : Fault) × (fault.now ≡ ElfFault.At f.at f.cause) × (line ≡ place_line (form_number f.cause) f.at)) result }
+    ensures { RefusesAs (λ line. (f : Fault) × (fault.now ≡ ElfFault.At f.at f.cause)
+        × (line ≡ place_line (form_number f.cause) f.at)) result }
 {
     match fault {
         ElfFault::At { at, cause } => refused(place_line(alloc, number_of_form(*cause), *at)),

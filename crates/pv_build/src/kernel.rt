@@ -5,6 +5,7 @@ ghost use Rattle.std.specs.List.{All};
 ghost use Rattle.board.specs.Scripts.{is_script};
 ghost use Rattle.guest_sched.specs.Schedules.{IsSchedule};
 ghost use Rattle.pv_build.specs.Readings.{OnlyRead};
+ghost use Rattle.pv_build.specs.Failures.{NoneFailedIn};
 ghost use Rattle.pv_build.specs.ScheduleLines.{schedule_number};
 ghost use Rattle.pv_build.specs.Telling.{HaltsOverFiles};
 ghost use Rattle.pv_build.specs.Kernels.{names_in_pairs, AreKernels, IsShared, FindsKernels, FindsShared, NoKernel, NoShared};
@@ -26,6 +27,7 @@ pub struct Shared {
 
 /// The schedule and the kernels that files hold; the names are by turns those of an image and of its script. The schedule's
 /// file is loaded first and read last. Each kernel is read before the next is loaded.
+#[tactic(auto, using(crate::proofs::Failures::none_here, crate::proofs::Failures::none_since, crate::proofs::Failures::none_in))]
 pub fn shared_in_files<F: Files>(
     alloc: Global,
     schedule: &str,
@@ -33,12 +35,16 @@ pub fn shared_in_files<F: Files>(
     files: &mut F,
 ) -> Result<Shared, Halt>
     requires { length names.now ≤ 8 }
-    ensures shared { IfOk result (λ found. IsShared (F.held files.old) schedule.now (names_in_pairs (map string_bytes names.now)) found.kernels.items found.schedule.list) }
+    ensures shared { IfOk result (λ found. IsShared (F.held files.old) schedule.now
+        (names_in_pairs (map string_bytes names.now)) found.kernels.items found.schedule.list) }
     ensures scripts { IfOk result (λ found. All (λ kernel. is_script kernel.script.list ≡ true) found.kernels.items) }
     ensures form { IfOk result (λ found. IsSchedule (length found.kernels.items) found.schedule.list) }
-    ensures halted { IfErr result (HaltsOverFiles F.Files (FindsShared (F.held files.old) schedule.now (names_in_pairs (map string_bytes names.now)))
+    ensures halted { IfErr result (HaltsOverFiles F.Files
+        (FindsShared (F.held files.old) schedule.now (names_in_pairs (map string_bytes names.now)))
         files.old files.new (NoShared (F.held files.old) schedule.now (names_in_pairs (map string_bytes names.now)))) }
-    ensures read { OnlyRead F.Files (FindsShared (F.held files.old) schedule.now (names_in_pairs (map string_bytes names.now))) files.old files.new }
+    ensures read { OnlyRead F.Files (FindsShared (F.held files.old) schedule.now
+        (names_in_pairs (map string_bytes names.now))) files.old files.new }
+    ensures kept { NoneFailedIn F.Files files.old files.new result }
 {
     let text = load(alloc, schedule, files)?;
     let kernels = kernels_behind(alloc, Vec::new(alloc), names, files)?;
@@ -63,6 +69,7 @@ fn kernels_behind<F: Files>(
     ensures halted { IfErr result (HaltsOverFiles F.Files (FindsKernels (F.held files.old) (names_in_pairs (map string_bytes names.now)))
         files.old files.new (NoKernel (F.held files.old) (names_in_pairs (map string_bytes names.now)))) }
     ensures read { OnlyRead F.Files (FindsKernels (F.held files.old) (names_in_pairs (map string_bytes names.now))) files.old files.new }
+    ensures kept { NoneFailedIn F.Files files.old files.new result }
 {
     match names {
         [image, script, later @ ..] => {

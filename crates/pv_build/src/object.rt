@@ -7,6 +7,7 @@ ghost use Rattle.elf_form.specs.ObjectLayout.{IsWholeObject, object_bytes};
 ghost use Rattle.elf_form.specs.Linkable.{IsLinkable};
 ghost use Rattle.pv_build.specs.Lines.{form_number, object_place_line};
 ghost use Rattle.pv_build.specs.Readings.{OnlyRead};
+ghost use Rattle.pv_build.specs.Failures.{NoneFailedIn};
 ghost use Rattle.pv_build.specs.Telling.{HaltsOverFiles};
 ghost use Rattle.pv_build.specs.Objects.{HasObject, HasNoObject, HasObjects, FindsObjects, FirstFault, ReadsBack, object_made_line};
 
@@ -20,6 +21,7 @@ use sites::count;
 use std::alloc::{AllocError, Global};
 
 /// The objects that files hold, at most 64, each read before the next is loaded.
+#[tactic(auto, using(crate::proofs::Failures::none_here, crate::proofs::Failures::none_since, crate::proofs::Failures::none_in))]
 pub fn objects_in<F: Files>(
     alloc: Global,
     names: &[String],
@@ -29,8 +31,12 @@ pub fn objects_in<F: Files>(
     ensures objects { IfOk result (λ os. HasObjects (F.held files.old) (map string_bytes names.now) os.items) }
     ensures few { IfOk result (λ os. length os.items ≤ 64) }
     ensures linkable { IfOk result (λ os. All IsLinkable os.items) }
-    ensures halted { IfErr result (HaltsOverFiles F.Files (FindsObjects (F.held files.old) (map string_bytes names.now)) files.old files.new (λ line. (i : ℕ) × (fault : Fault) × FirstFault (F.held files.old) (map string_bytes names.now) i fault × (line ≡ object_place_line (form_number fault.cause) i fault.at))) }
+    ensures halted { IfErr result (HaltsOverFiles F.Files
+        (FindsObjects (F.held files.old) (map string_bytes names.now)) files.old files.new
+        (λ line. (i : ℕ) × (fault : Fault) × FirstFault (F.held files.old) (map string_bytes names.now) i fault
+        × (line ≡ object_place_line (form_number fault.cause) i fault.at))) }
     ensures read { OnlyRead F.Files (FindsObjects (F.held files.old) (map string_bytes names.now)) files.old files.new }
+    ensures kept { NoneFailedIn F.Files files.old files.new result }
 {
     let mut objects = Vec::new(alloc);
     for (i, name) in names.iter().enumerate() {
@@ -41,11 +47,15 @@ pub fn objects_in<F: Files>(
 }
 
 // The object that a file holds; `index` counts the objects from 0.
+#[tactic(auto, using(crate::proofs::Failures::none_here, crate::proofs::Failures::none_since, crate::proofs::Failures::none_in))]
 fn object_in<F: Files>(alloc: Global, index: u32, name: &str, files: &mut F) -> Result<Object, Halt>
     ensures object { IfOk result (λ o. HasObject (F.held files.old) name.now o) }
     ensures linkable { IfOk result (λ o. IsLinkable o) }
-    ensures halted { IfErr result (HaltsOverFiles F.Files (IsHeld (F.held files.old) name.now) files.old files.new (λ line. (fault : Fault) × HasNoObject (F.held files.old) name.now fault × (line ≡ object_place_line (form_number fault.cause) index fault.at))) }
+    ensures halted { IfErr result (HaltsOverFiles F.Files (IsHeld (F.held files.old) name.now) files.old files.new
+        (λ line. (fault : Fault) × HasNoObject (F.held files.old) name.now fault
+        × (line ≡ object_place_line (form_number fault.cause) index fault.at))) }
     ensures read { OnlyRead F.Files (IsHeld (F.held files.old) name.now) files.old files.new }
+    ensures kept { NoneFailedIn F.Files files.old files.new result }
 {
     let file = load(alloc, name, files)?;
     match read_object(alloc, &file) {

@@ -6,6 +6,7 @@ ghost use Rattle.asm_lex.specs.declared.fault.SourceCause.{SourceCause};
 ghost use Rattle.asm_source.specs.Readable.{IsReadable};
 ghost use Rattle.asm_parse.specs.Source.{SourceAs};
 ghost use Rattle.pv_build.specs.Readings.{OnlyRead};
+ghost use Rattle.pv_build.specs.Failures.{NoneFailedIn};
 ghost use Rattle.pv_build.specs.Telling.{HaltsOverFiles, RefusesAs};
 ghost use Rattle.pv_build.specs.Sources.{IsNoSource, HasSource, HasNoSource, source_line};
 
@@ -21,7 +22,8 @@ use std::alloc::Global;
 pub fn source_of_text(alloc: Global, text: &[u8]) -> Result<Source, Halt>
     ensures source { IfOk result (λ s. SourceAs text.now s) }
     ensures readable { IfOk result IsReadable }
-    ensures refused { IfErr result (RefusesAs (λ line. (at : ℕ) × (cause : SourceCause) × IsNoSource text.now (at, cause) × (line ≡ source_line at cause))) }
+    ensures refused { IfErr result (RefusesAs
+        (λ line. (at : ℕ) × (cause : SourceCause) × IsNoSource text.now (at, cause) × (line ≡ source_line at cause))) }
 {
     match parse(alloc, text) {
         Ok(source) => Ok(source),
@@ -33,11 +35,15 @@ pub fn source_of_text(alloc: Global, text: &[u8]) -> Result<Source, Halt>
 }
 
 /// The source that a file holds.
+#[tactic(auto, using(crate::proofs::Failures::none_here, crate::proofs::Failures::none_since, crate::proofs::Failures::none_in))]
 pub fn source_in_file<F: Files>(alloc: Global, name: &str, files: &mut F) -> Result<Source, Halt>
     ensures source { IfOk result (λ s. HasSource (F.held files.old) name.now s) }
     ensures readable { IfOk result IsReadable }
-    ensures halted { IfErr result (HaltsOverFiles F.Files (IsHeld (F.held files.old) name.now) files.old files.new (λ line. (at : ℕ) × (cause : SourceCause) × HasNoSource (F.held files.old) name.now (at, cause) × (line ≡ source_line at cause))) }
+    ensures halted { IfErr result (HaltsOverFiles F.Files (IsHeld (F.held files.old) name.now) files.old files.new
+        (λ line. (at : ℕ) × (cause : SourceCause) × HasNoSource (F.held files.old) name.now (at, cause)
+        × (line ≡ source_line at cause))) }
     ensures read { OnlyRead F.Files (IsHeld (F.held files.old) name.now) files.old files.new }
+    ensures kept { NoneFailedIn F.Files files.old files.new result }
 {
     let file = load(alloc, name, files)?;
     source_of_text(alloc, &file)

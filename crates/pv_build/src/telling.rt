@@ -3,6 +3,7 @@
 ghost use Rattle.std.specs.Prelude.{◌≡◌, Ok, IfOk, IfErr};
 ghost use Rattle.pv_io.specs.Files.{Holds, IsHeld};
 ghost use Rattle.pv_build.specs.Readings.{OnlyRead};
+ghost use Rattle.pv_build.specs.Failures.{NoneFailedIn};
 ghost use Rattle.pv_build.specs.Telling.{HaltsOverFiles, RefusesAs, Says, Ends, ToldAs};
 
 use crate::halt::{Halt, Line};
@@ -18,6 +19,7 @@ pub fn load<F: Files>(alloc: Global, name: &str, files: &mut F) -> Result<Vec<u8
     ensures loaded { IfOk result (λ file. Holds (F.held files.old) name.now file.items) }
     ensures halted { IfErr result (HaltsOverFiles F.Files (IsHeld (F.held files.old) name.now) files.old files.new (λ line. ⊥)) }
     ensures read { OnlyRead F.Files (IsHeld (F.held files.old) name.now) files.old files.new }
+    ensures kept { NoneFailedIn F.Files files.old files.new result }
 {
     let mut file = Vec::new(alloc);
     match files.load(alloc, name, &mut file) {

@@ -20,7 +20,8 @@ pub fn count_lines(text: &[u8]) -> usize
 
 /// The first line, from 1, in which two texts differ or which one of them lacks.
 pub fn difference(first: &[u8], second: &[u8]) -> Option<usize>
-    ensures { MatchOption result (first.now ≡ second.now) (λ line. (n : ℕ) × (line ≡ n + 1) × DifferBehind (lines first.now) (lines second.now) n) }
+    ensures { MatchOption result (first.now ≡ second.now)
+        (λ line. (n : ℕ) × (line ≡ n + 1) × DifferBehind (lines first.now) (lines second.now) n) }
 {
     let mut line: usize = 1;
     for (i, b) in first.iter().enumerate() {

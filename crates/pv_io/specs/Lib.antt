@@ -5,3 +5,4 @@ pub mod Held
 pub mod MemSink
 pub mod MemFiles
 pub mod Writer
+pub mod Taking

@@ -23,12 +23,14 @@ pub trait Files {
     ghost sure: { Self → Bool };
 
     /// Appends the bytes of a file. It changes no file, and after a refusal `into` is as before. `Failed`
-    /// comes only where the count of load faults rose, and a name that isn't held makes it rise.
+    /// comes only where the count of load faults rose, and a name that isn't held makes it rise. A load that
+    /// is done leaves the count.
     fn load(&mut self, alloc: Global, name: &str, into: &mut Vec<u8>) -> Result<(), IoAnswer>
         ensures loads { OnOk result (Loads (held self.old) name.now into.old.items into.new.items) }
         ensures err { OnErr result (into.new.items ≡ into.old.items) }
         ensures held { held self.new ≡ held self.old }
         ensures cause { HasCause (load_faults self.old) (load_faults self.new) result }
+        ensures kept { OnOk result (load_faults self.new ≡ load_faults self.old) }
         ensures missing { IsMissing (held self.old) name.now → Rose (load_faults self.old) (load_faults self.new) }
         ensures other_count { store_faults self.new ≡ store_faults self.old }
         ensures sure { sure self.new ≡ sure self.old }
@@ -36,12 +38,14 @@ pub trait Files {
             (load_faults self.new ≡ load_faults self.old) × (IsErrOf result IoAnswer.Failed → ⊥) };
 
     /// Makes the name hold exactly these bytes. `Failed` comes only where the count of store faults rose;
-    /// the other names are then as before, and the bytes of this one are open. `Memory` changes nothing.
+    /// the other names are then as before, and the bytes of this one are open. `Memory` changes nothing. A
+    /// store that is done leaves the count.
     fn store(&mut self, name: &str, bytes: &[u8]) -> Result<(), IoAnswer>
         ensures stores { OnOk result (Stores (held self.old) (held self.new) name.now bytes.now) }
         ensures failed { IsErrOf result IoAnswer.Failed → ChangesAt (held self.old) (held self.new) name.now }
         ensures memory { IsErrOf result IoAnswer.Memory → held self.new ≡ held self.old }
         ensures cause { HasCause (store_faults self.old) (store_faults self.new) result }
+        ensures kept { OnOk result (store_faults self.new ≡ store_faults self.old) }
         ensures other_count { load_faults self.new ≡ load_faults self.old }
         ensures sure { sure self.new ≡ sure self.old }
         ensures sure_store { sure self.old ≡ true →

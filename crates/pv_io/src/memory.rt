@@ -65,6 +65,7 @@ impl Files for MemFiles {
         ensures err { OnErr result (into.new.items ≡ into.old.items) }
         ensures held { self.new.files ≡ self.old.files }
         ensures cause { HasCause self.old.load_faults self.new.load_faults result }
+        ensures kept { OnOk result (self.new.load_faults ≡ self.old.load_faults) }
         ensures missing { IsMissing (Some (held_of self.old.files)) name.now → Rose self.old.load_faults self.new.load_faults }
         ensures other_count { self.new.store_faults ≡ self.old.store_faults }
 
@@ -97,11 +98,12 @@ impl Files for MemFiles {
         ensures failed { IsErrOf result IoAnswer.Failed → ChangesAt (Some (held_of self.old.files)) (Some (held_of self.new.files)) name.now }
         ensures memory { IsErrOf result IoAnswer.Memory → held_of self.new.files ≡ held_of self.old.files }
         ensures cause { HasCause self.old.store_faults self.new.store_faults result }
+        ensures kept { OnOk result (self.new.store_faults ≡ self.old.store_faults) }
         ensures other_count { self.new.load_faults ≡ self.old.load_faults }
 
         ensures refused { is_among self.old.calls self.old.fail.items ≡ true → result ≡ Err IoAnswer.Failed }
         ensures granted { is_among self.old.calls self.old.fail.items ≡ false → IsErrOf result IoAnswer.Failed → ⊥ }
-        ensures kept { IsErrOf result IoAnswer.Failed → self.new.files ≡ self.old.files }
+        ensures unchanged { IsErrOf result IoAnswer.Failed → self.new.files ≡ self.old.files }
         ensures counted { self.new.store_faults ≡
             (if is_among self.old.calls self.old.fail.items then one_more self.old.store_faults else self.old.store_faults) }
         ensures calls { self.new.calls ≡ one_more self.old.calls }

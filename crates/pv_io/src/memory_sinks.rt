@@ -96,6 +96,7 @@ impl Sink for MemSink {
         ensures failed { OnErr result (AppendsFront (Some self.old.bytes) (Some self.new.bytes) bytes.now) }
         ensures later { self.old.faults ≤ self.new.faults }
         ensures cause { OnErr result (Rose self.old.faults self.new.faults) }
+        ensures kept { OnOk result (self.new.faults ≡ self.old.faults) }
 
         ensures answer { is_err result ≡ is_refused self.old bytes.now }
         ensures after { self.new ≡ put_to self.old bytes.now }
@@ -116,6 +117,7 @@ impl Sink for MemSink {
 pub struct SureSink {}
 
 impl SureSink {
+    /// It has no state.
     pub fn new() -> SureSink {
         SureSink {}
     }

@@ -16,6 +16,7 @@ use Rattle.checkpoint.specs.declared.state.CheckpointCause.{CheckpointCause}
 use Rattle.checkpoint.specs.Moved.{rested_from}
 use Rattle.checkpoint.specs.Fits.{fits_of}
 use Rattle.checkpoint.specs.Continued.{WedgeGoesTo}
+use Rattle.trace_check.proofs.NotedRuns.{around_of}
 use Rattle.pv_build.specs.Telling.{Whole, Cut, status_of, ToldAs}
 use Rattle.pv_build.specs.Images.{HasImage}
 use Rattle.pv_build.specs.Scripts.{HasScript}
@@ -63,7 +64,7 @@ continued_bare image events n s old mid new before middle now (Err (fault.TooSma
 continued_bare image events n s old mid new before middle now (Err fault.Memory) c memory st h said = absurd h
 
 continued_wedge : (image : Image) (events : Events) (n : ℕ) (s : State) (old mid new : Option (List ℕ)) (before middle now : ℕ) (r : Result Ended RunFault) (c c2 : Counts) (memory : List ℕ) (st : Status)
-    → WedgeGoesTo (wedge image events (frames_of s)) n (rested_from s) old mid before middle c c2 memory r → ToldAs r mid new middle now st
+    → WedgeGoesTo (wedge image events (frames_of s)) n (rested_from s) (around_of old mid before middle c c2) memory r → ToldAs r mid new middle now st
     → RanAs (ContinuesOn mode.Wedge n image events s) old new before now c c2 memory st
 continued_wedge image events n s old mid new before middle now (Ok e) c c2 memory st h said =
     let p = h.1 in

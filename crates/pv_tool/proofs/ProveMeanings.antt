@@ -16,6 +16,7 @@ use Rattle.image_load.specs.declared.fault.RunFault.TheVariants as fault
 use Rattle.run_trace.specs.declared.items.Ended.{Ended}
 use Rattle.run_trace.specs.Notes.{Note}
 use Rattle.machine_model.specs.State.{wedge}
+use Rattle.trace_check.proofs.NotedRuns.{around_of}
 use Rattle.trace_check.specs.Form.{choices_bytes, most_choices}
 use Rattle.trace_check.specs.Kept.{Kept, AreKept, choices_of}
 use Rattle.trace_check.specs.Proved.{IsProved, NotedAnswers}
@@ -114,7 +115,7 @@ gives_proof files image script frames n name program events w has says h = with_
 
 -- a run that was printed, and what was told of its notes
 pub proved : (image script : List ℕ) (frames n : ℕ) (name : List ℕ) (program : Image) (events : Events) (o : Outside) (mid : Option (List ℕ)) (puts : ℕ) (e : Ended) (kept : Kept) (meant st : Status)
-    → HasImage o.files image program → HasScript o.files script events → NotedAnswers program events frames n kept o.taken mid o.puts puts o.completed o.completed_after o.memory_after (Ok e) → meant ≡ status_of e.end
+    → HasImage o.files image program → HasScript o.files script events → NotedAnswers program events frames n kept (around_of o.taken mid o.puts puts o.completed o.completed_after) o.memory_after (Ok e) → meant ≡ status_of e.end
     → ((told : List Note) → AreKept kept told → Certifies name told meant o.files o.files_after o.sure o.stores o.stores_after mid o.taken_after puts o.puts_after st)
     → Means (Prove image script frames n name) o st
 proved image script frames n name program events o mid puts e kept meant st has says h is tells =
@@ -140,7 +141,7 @@ proved image script frames n name program events o mid puts e kept meant st has 
 
 -- a run that was refused, or whose output failed
 pub unproved : (image script : List ℕ) (frames n : ℕ) (name : List ℕ) (program : Image) (events : Events) (o : Outside) (mid : Option (List ℕ)) (puts : ℕ) (f : RunFault) (kept : Kept) (st : Status)
-    → HasImage o.files image program → HasScript o.files script events → NotedAnswers program events frames n kept o.taken mid o.puts puts o.completed o.completed_after o.memory_after (Err f)
+    → HasImage o.files image program → HasScript o.files script events → NotedAnswers program events frames n kept (around_of o.taken mid o.puts puts o.completed o.completed_after) o.memory_after (Err f)
     → o.files_after ≡ o.files → ToldAs (Err f) mid o.taken_after puts o.puts_after st → Means (Prove image script frames n name) o st
 unproved image script frames n name program events o mid puts fault.Write kept st has read h same told =
     let g = h.4 in
@@ -162,11 +163,11 @@ unproved image script frames n name program events o mid puts fault.Write kept s
 unproved image script frames n name program events o mid puts (fault.TooSmall small) kept st has read h same (inl said) =
     let w = refused (small_line small.need small.have) in
     let gives = gives_proof o.files image script frames n name program events w has read (Small h.0 (ap (λ s. refused (small_line s.need s.have)) h.1)) in
-    let here = subst (λ (k : ℕ). Says (small_line small.need small.have) status.Refused o.taken o.taken_after k o.puts_after st) h.3
-    (subst (λ (t : Option (List ℕ)). Says (small_line small.need small.have) status.Refused t o.taken_after puts o.puts_after st) h.2 said) in
-    says (Prove image script frames n name) o w st tt refl gives same (λ end. h.4) here
+    let here = subst (λ (k : ℕ). Says (small_line small.need small.have) status.Refused o.taken o.taken_after k o.puts_after st) h.2.1
+    (subst (λ (t : Option (List ℕ)). Says (small_line small.need small.have) status.Refused t o.taken_after puts o.puts_after st) h.2.0 said) in
+    says (Prove image script frames n name) o w st tt refl gives same (λ end. h.2.2) here
 unproved image script frames n name program events o mid puts (fault.TooSmall small) kept st has read h same (inr none) =
-    subst (λ (s : Status). Means (Prove image script frames n name) o s) (sym none.0) (same, inl (none.1 ∙ h.2, h.4))
+    subst (λ (s : Status). Means (Prove image script frames n name) o s) (sym none.0) (same, inl (none.1 ∙ h.2.0, h.2.2))
 unproved image script frames n name program events o mid puts fault.Memory kept st has read h same told =
     subst (λ (s : Status). Means (Prove image script frames n name) o s) (sym told.0) (same, inl (told.1 ∙ h.0, h.2))
 

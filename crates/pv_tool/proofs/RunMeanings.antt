@@ -20,7 +20,7 @@ use Rattle.machine_model.specs.Step.{Report}
 use Rattle.machine_model.specs.Run.{stopping, trace_of}
 use Rattle.bare_machine.specs.Answers.{RunAnswers}
 use Rattle.wedge_core.specs.Slices.{Counts}
-use Rattle.wedge_core.specs.Promises.{WedgeAnswers}
+use Rattle.wedge_core.proofs.AnsweredBy.{WedgeAnswers}
 use Rattle.pv_build.specs.Lines.{small_line}
 use Rattle.pv_build.specs.Telling.{Says, Whole, Cut, status_of, ToldAs}
 use Rattle.pv_build.specs.Images.{HasImage}
@@ -30,7 +30,8 @@ use Rattle.pv_build.specs.declared.status.Status.TheVariants as status
 use Rattle.pv_tool.specs.Words.{Command}
 use Rattle.pv_tool.specs.Outside.{Outside}
 use Rattle.pv_tool.specs.Outcome.{Outcome, HostedRun, HasEnded, refused, ended, ended_on_host}
-use Rattle.pv_tool.specs.Running.{RunsBare, RunsPatched, RunsOn, Ran, Small, ReadsScript, ReadsImage, Reads, WithFrames, Runs, AnswersOn, RanAs}
+use Rattle.pv_tool.specs.Running.{RunsBare, RunsPatched, RunsOn, Ran, Small, ReadsScript, ReadsImage, Reads, WithFrames, Runs, RanAs}
+use Rattle.pv_tool.specs.Answering.{AnswersOn}
 use Rattle.pv_tool.specs.Meaning.{Means, Gives, Finds}
 use Rattle.pv_tool.specs.View.{run_command}
 use Rattle.pv_tool.specs.declared.words.RunWords.{RunWords}
@@ -126,9 +127,9 @@ ran_patched image events frames n old mid new before middle now (Err fault.Write
       λ end. absurd (no_write h.2 (sym told.0 ∙ end)),
     )
 ran_patched image events frames n old mid new before middle now (Err (fault.TooSmall small)) c c2 memory st h (inl said) =
-    too_small (RunsPatched frames n image events) image frames old new before now c c2 memory small st h.0 h.1 h.4
-    (says_from (small_line small.need small.have) old mid new before middle now st h.2 h.3 said)
-ran_patched image events frames n old mid new before middle now (Err (fault.TooSmall small)) c c2 memory st h (inr none) = inr (none.0, none.1 ∙ h.2, h.4)
+    too_small (RunsPatched frames n image events) image frames old new before now c c2 memory small st h.0 h.1 h.2.2
+    (says_from (small_line small.need small.have) old mid new before middle now st h.2.0 h.2.1 said)
+ran_patched image events frames n old mid new before middle now (Err (fault.TooSmall small)) c c2 memory st h (inr none) = inr (none.0, none.1 ∙ h.2.0, h.2.2)
 ran_patched image events frames n old mid new before middle now (Err fault.Memory) c c2 memory st h told = inr (told.0, told.1 ∙ h.0, h.2)
 
 -- what runs come to on a machine

@@ -15,7 +15,8 @@ use Rattle.guest_sched.specs.declared.kernel.SharedFault.TheVariants as fault
 use Rattle.guest_sched.specs.declared.schedule.Slice.{Slice}
 use Rattle.guest_sched.specs.declared.fault.ScheduleCause.{ScheduleCause}
 use Rattle.guest_sched.specs.Pieces.{piece_text, shared_text}
-use Rattle.guest_sched.specs.Shared.{SharedAnswers, AllFit, LinesAreAlone, FailsInTurn, FailsAtEnd}
+use Rattle.guest_sched.specs.Shared.{AllFit, LinesAreAlone, FailsInTurn, FailsAtEnd}
+use Rattle.guest_sched.proofs.AnsweredBy.{SharedAnswers}
 use Rattle.guest_sched.proofs.ReadAlone.{lines_alone}
 use Rattle.pv_build.specs.Lines.{small_line}
 use Rattle.pv_build.specs.Telling.{Whole, ToldAs}
@@ -117,10 +118,10 @@ share_means schedule frames names o st kernels slices mid middle (Err fault.Writ
     subst (λ (s : Status). Means (Share schedule frames names) o s) (sym said.0) (write_fails schedule frames names o kernels slices mid middle shared same h.0 said.1 said.2 h.2 h.1)
 share_means schedule frames names o st kernels slices mid middle (Err (fault.TooSmall small)) shared same h (inl said) =
     let line = small_line small.need small.have in
-    says_told (Share schedule frames names) o (refused line) st tt refl (by_shared o.files schedule frames names kernels slices (refused line) shared (Small small h.0 refl)) same (λ end. h.3)
-    (says_from line o.taken mid o.taken_after o.puts middle o.puts_after st h.1 h.2 said)
+    says_told (Share schedule frames names) o (refused line) st tt refl (by_shared o.files schedule frames names kernels slices (refused line) shared (Small small h.0 refl)) same (λ end. h.1.2)
+    (says_from line o.taken mid o.taken_after o.puts middle o.puts_after st h.1.0 h.1.1 said)
 share_means schedule frames names o st kernels slices mid middle (Err (fault.TooSmall small)) shared same h (inr none) =
-    subst (λ (s : Status). Means (Share schedule frames names) o s) (sym none.0) (same, inl (none.1 ∙ h.1, h.3))
+    subst (λ (s : Status). Means (Share schedule frames names) o s) (sym none.0) (same, inl (none.1 ∙ h.1.0, h.1.2))
 share_means schedule frames names o st kernels slices mid middle (Err fault.Memory) shared same h said =
     subst (λ (s : Status). Means (Share schedule frames names) o s) (sym said.0) (same, inl (said.1 ∙ h.0, h.2))
 

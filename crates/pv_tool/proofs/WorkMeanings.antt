@@ -7,7 +7,8 @@ use Rattle.run_trace.specs.declared.items.End.{End}
 use Rattle.run_trace.specs.declared.items.Ended.{Ended}
 use Rattle.machine_model.specs.Run.{stopping}
 use Rattle.wedge_core.specs.Slices.{Counts}
-use Rattle.wedge_core.specs.Promises.{Promise, HasOwnFills, WedgeAnswers}
+use Rattle.wedge_core.specs.Promises.{Promise, HasOwnFills}
+use Rattle.wedge_core.proofs.AnsweredBy.{WedgeAnswers}
 use Rattle.pv_build.specs.Texts.{Compares}
 use Rattle.pv_build.specs.Telling.{RefusesAs, Says, Whole, Cut, Ends}
 use Rattle.pv_build.specs.Building.{Builds, built_of}

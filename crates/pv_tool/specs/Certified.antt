@@ -13,7 +13,7 @@ use Rattle.machine_model.specs.Step.{Report}
 use Rattle.machine_model.specs.Run.{Set, Run}
 use Rattle.machine_model.specs.Agreement.{bound_on_bare, end_on_bare}
 use Rattle.bare_machine.specs.Machine.{bare}
-use Rattle.wedge_core.specs.Slices.{CountsOn}
+use Rattle.wedge_core.specs.Counts.{CountsOn}
 use Rattle.wedge_core.specs.Promises.{HasMemory}
 use Rattle.trace_check.specs.declared.list.Choice.{Choice}
 use Rattle.trace_check.specs.declared.answer.Verdict.{Verdict}

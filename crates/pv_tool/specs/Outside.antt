@@ -4,7 +4,7 @@ use Rattle.pv_io.specs.Files.{FileMap}
 use Rattle.pv_io.specs.declared.files.Files as disk
 use Rattle.pv_io.specs.declared.sink.Sink as sink
 use Rattle.host_cpl3.specs.declared.host.Host as hosts
-use Rattle.wedge_core.specs.Slices.{Counts}
+use Rattle.wedge_core.specs.Counts.{Counts}
 
 -- What the files hold and the output has taken before the call and after it, and the counts of faults. What the host has
 -- completed before and after, and the bytes of its memory after.

@@ -12,7 +12,7 @@ use Rattle.machine_model.specs.State.{Setting, boot, wedge}
 use Rattle.machine_model.specs.Step.{Report}
 use Rattle.bare_machine.specs.Answers.{WholeAs}
 use Rattle.bare_machine.specs.Machine.{bare}
-use Rattle.wedge_core.specs.Slices.{Counts}
+use Rattle.wedge_core.specs.Counts.{Counts}
 use Rattle.checkpoint.specs.declared.state.State.{State}
 use Rattle.checkpoint.specs.declared.rested.Rested.{Rested}
 use Rattle.checkpoint.specs.declared.rested.Rested.TheVariants as rest
@@ -52,7 +52,14 @@ abbrev pub AnswersOnwards : RunMode → ℕ → Image → Events → State → O
 AnswersOnwards mode.Bare n image events s old new before now completed completed2 memory2 result =
     WholeAs (bare image events (frames_of s)) n (rested_from s) old new before now result × (completed2 ≡ completed)
 AnswersOnwards mode.Wedge n image events s old new before now completed completed2 memory2 result =
-    WedgeGoesTo (wedge image events (frames_of s)) n (rested_from s) old new before now completed completed2 memory2 result
+    WedgeGoesTo (wedge image events (frames_of s)) n (rested_from s) (record {
+      taken = old;
+      taken_after = new;
+      faults = before;
+      faults_after = now;
+      counts = completed;
+      counts_after = completed2;
+    }) memory2 result
 
 -- a checkpoint can be made of the state, where there is one
 abbrev pub HasForm : Result Rested RunFault → Type 0

@@ -8,16 +8,14 @@ use Rattle.image_check.specs.Image.{Image}
 use Rattle.image_check.specs.Refusals.{Refusal}
 use Rattle.image_check.specs.Checking.{image_of}
 use Rattle.image_load.specs.Boot.{need}
-use Rattle.image_load.specs.declared.fault.RunFault.{RunFault}
 use Rattle.run_trace.specs.declared.items.End.{End}
-use Rattle.run_trace.specs.declared.items.Ended.{Ended}
 use Rattle.machine_model.specs.State.{State, boot, wedge}
 use Rattle.machine_model.specs.Step.{Report}
 use Rattle.machine_model.specs.Run.{Set, Run, stopping}
 use Rattle.machine_model.specs.Keeping.{Kept}
-use Rattle.bare_machine.specs.Answers.{HasRun, RunAnswers}
-use Rattle.wedge_core.specs.Slices.{Counts, CountsOn}
-use Rattle.wedge_core.specs.Promises.{HasMemory, WedgeAnswers}
+use Rattle.bare_machine.specs.Answers.{HasRun}
+use Rattle.wedge_core.specs.Counts.{Counts, CountsOn}
+use Rattle.wedge_core.specs.Promises.{HasMemory}
 use Rattle.guest_sched.specs.Pieces.{counts_over}
 use Rattle.guest_sched.specs.Shared.{sites_in}
 use Rattle.pv_build.specs.Lines.{image_line, script_line, small_line}
@@ -25,8 +23,6 @@ use Rattle.pv_build.specs.Telling.{Says}
 use Rattle.pv_build.specs.declared.status.Status.{Status}
 use Rattle.pv_build.specs.declared.status.Status.TheVariants as status
 use Rattle.pv_tool.specs.Outcome.{Outcome, HostPart, Nothing, KeptRun, EndedRun, SomeSteps, Turns, refused, ended, ended_on_host}
-use Rattle.pv_tool.specs.declared.mode.RunMode.{RunMode}
-use Rattle.pv_tool.specs.declared.mode.RunMode.TheVariants as mode
 
 -- a run of the bare machine, with its text
 pub record RunsBare (frames n : ℕ) (image : Image) (events : Events) (w : Outcome) : Type 0 where
@@ -80,13 +76,6 @@ HostDid (KeptRun r stopped) completed completed2 memory2 = CountsOn r.setting r.
 HostDid (EndedRun r) completed completed2 memory2 = CountsOn r.setting r.reports completed completed2 × HasMemory r.setting r.last r.end memory2
 HostDid (SomeSteps setting reports) completed completed2 memory2 = CountsOn setting reports completed completed2
 HostDid (Turns kernels pieces) completed completed2 memory2 = completed2 ≡ counts_over (sites_in kernels) completed pieces
-
--- what the run of an image answers: on the bare machine the host does nothing
-abbrev pub AnswersOn : RunMode → ℕ → ℕ → Image → Events → Option (List ℕ) → Option (List ℕ) → ℕ → ℕ → Counts → Counts → List ℕ → Result Ended RunFault → Type 0
-AnswersOn mode.Bare frames n image events old new before now completed completed2 memory2 result =
-    RunAnswers image events frames n old new before now result × (completed2 ≡ completed)
-AnswersOn mode.Wedge frames n image events old new before now completed completed2 memory2 result =
-    WedgeAnswers image events frames n 512 old new before now completed completed2 memory2 result
 
 -- A run's text was put, or a refusal's line, and the host has done what is its part, unless no memory was found.
 abbrev pub RanAs : (Outcome → Type 0) → Option (List ℕ) → Option (List ℕ) → ℕ → ℕ → Counts → Counts → List ℕ → Status → Type 0

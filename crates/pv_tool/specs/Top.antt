@@ -57,6 +57,13 @@ KeepsOthers words o = (command : Command) → Asks words command → Keeps (save
 abbrev pub CountsFaults : List (List ℕ) → Outside → Type 0
 CountsFaults words o = (command : Command) → Asks words command → Counts command o
 
+-- A load that failed ends the work as a read fault, and a store that failed as a write fault: where the work ends otherwise, and
+-- memory was found, the count is as it was. A count that stands at its type's end before can't tell.
+abbrev pub EndsAtFaults : Outside → Status → Type 0
+EndsAtFaults o st =
+    (st ≢ status.ReadFault → st ≢ status.Memory → o.loads_after ≡ o.loads)
+    × (st ≢ status.WriteFault → st ≢ status.Memory → o.stores_after ≡ o.stores)
+
 -- what is left where the command is done
 abbrev pub LeavesFiles : List (List ℕ) → Outside → Status → Type 0
 LeavesFiles words o st = (command : Command) → Asks words command → st ≡ status.Done → Leaves command o.files o.files_after

@@ -10,7 +10,7 @@ use Rattle.machine_model.specs.State.{Setting, State, boot, wedge}
 use Rattle.machine_model.specs.Step.{Report}
 use Rattle.machine_model.specs.Run.{Set, Run, stopping, trace_of}
 use Rattle.bare_machine.specs.FreshRuns.{fresh_run, course_text}
-use Rattle.wedge_core.specs.Slices.{Counts}
+use Rattle.wedge_core.specs.Counts.{Counts}
 use Rattle.wedge_core.specs.Promises.{Promise, HasOwnFills}
 use Rattle.pv_build.specs.Lines.{small_line}
 use Rattle.pv_build.specs.Texts.{Compares}

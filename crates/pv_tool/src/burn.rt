@@ -5,11 +5,13 @@ ghost use Rattle.pv_io.specs.Files.{IsHeld};
 ghost use Rattle.elf_form.specs.ObjectParts.{ObjectParts};
 ghost use Rattle.elf_form.specs.ObjectLayout.{object_bytes};
 ghost use Rattle.pv_build.specs.Readings.{OnlyRead};
+ghost use Rattle.pv_build.specs.Failures.{NoneFailedIn};
 ghost use Rattle.pv_build.specs.Telling.{HaltsOverFiles};
 ghost use Rattle.pv_build.specs.Objects.{ReadsBack, object_made_line};
 ghost use Rattle.wedge_core.specs.Slices.{Counts as HostCounts};
 ghost use Rattle.pv_tool.specs.Words.{Burn};
 ghost use Rattle.pv_tool.specs.Outside.{beside};
+ghost use Rattle.pv_tool.specs.Faulting.{FaultsEnd};
 ghost use Rattle.pv_tool.specs.Outcome.{refused};
 ghost use Rattle.pv_tool.specs.Burning.{Burns, HasBurnt};
 ghost use Rattle.pv_tool.specs.Meaning.{Means, Counts, Leaves};
@@ -28,9 +30,12 @@ pub fn burn<F: Files, S: Sink>(
     files: &mut F,
     out: &mut S,
 ) -> Status
-    ensures meaning { (completed : HostCounts) (memory : List ℕ) → Means (Burn source.now object.now) (beside F.Files S.Sink files.old files.new out.old out.new completed memory) result }
-    ensures counts { (completed : HostCounts) (memory : List ℕ) → Counts (Burn source.now object.now) (beside F.Files S.Sink files.old files.new out.old out.new completed memory) }
+    ensures meaning { (completed : HostCounts) (memory : List ℕ)
+        → Means (Burn source.now object.now) (beside F.Files S.Sink files.old files.new out.old out.new completed memory) result }
+    ensures counts { (completed : HostCounts) (memory : List ℕ)
+        → Counts (Burn source.now object.now) (beside F.Files S.Sink files.old files.new out.old out.new completed memory) }
     ensures leaves { result ≡ Status.Done → Leaves (Burn source.now object.now) (F.held files.old) (F.held files.new) }
+    ensures ends { FaultsEnd F.Files files.old files.new result }
 {
     match made(alloc, source, files) {
         Err(halt) => end(&halt, out),
@@ -40,9 +45,12 @@ pub fn burn<F: Files, S: Sink>(
 
 // The object of a source that a file holds, as a file, and its line.
 fn made<F: Files>(alloc: Global, name: &str, files: &mut F) -> Result<Made, Halt>
-    ensures made { IfOk result (λ m. (o : ObjectParts) × HasBurnt (F.held files.old) name.now o × (m.file.items ≡ object_bytes o) × (m.line ≡ object_made_line o) × ReadsBack o) }
-    ensures halted { IfErr result (HaltsOverFiles F.Files (IsHeld (F.held files.old) name.now) files.old files.new (λ line. (object : List ℕ) → Burns (F.held files.old) name.now object (refused line))) }
+    ensures made { IfOk result (λ m. (o : ObjectParts) × HasBurnt (F.held files.old) name.now o × (m.file.items ≡ object_bytes o)
+        × (m.line ≡ object_made_line o) × ReadsBack o) }
+    ensures halted { IfErr result (HaltsOverFiles F.Files (IsHeld (F.held files.old) name.now) files.old files.new
+        (λ line. (object : List ℕ) → Burns (F.held files.old) name.now object (refused line))) }
     ensures read { OnlyRead F.Files (IsHeld (F.held files.old) name.now) files.old files.new }
+    ensures kept { NoneFailedIn F.Files files.old files.new result }
 {
     let source = source_in_file(alloc, name, files)?;
     match burn_source(alloc, &source) {

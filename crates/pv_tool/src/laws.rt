@@ -23,8 +23,10 @@ use checkpoint::legs_are_a_run;
 /// parts are checked as, with its text, data and entry: `check` and `run` go on with that.
 pub fn chains()
     ensures found { (command : Command) (told : FileMap) (w : Outcome) → Gives command (Some told) w → Finds command (Some told) }
-    ensures objects { (told : FileMap) (names : List (List ℕ)) (os : List ObjectParts) → HoldObjects told names os → HasObjects (Some told) names os }
-    ensures image { (told : FileMap) (name : List ℕ) (p : ImageParts) (program : Image) → told name ≡ Some (image_bytes p) → length (image_bytes p) ≤ 33554432 → ImageReadsBack p →
+    ensures objects { (told : FileMap) (names : List (List ℕ)) (os : List ObjectParts) → HoldObjects told names os
+        → HasObjects (Some told) names os }
+    ensures image { (told : FileMap) (name : List ℕ) (p : ImageParts) (program : Image) → told name ≡ Some (image_bytes p)
+        → length (image_bytes p) ≤ 33554432 → ImageReadsBack p →
         image_from p ≡ Ok program → HasImage (Some told) name program }
     ensures stored { (told : FileMap) (new : Option FileMap) (name bytes : List ℕ) → Stores (Some told) new name bytes →
         (later : FileMap) × (new ≡ Some later) × (later name ≡ Some bytes) × ((q : List ℕ) → bytes_eq q name ≡ false → later q ≡ told q) }

@@ -4,12 +4,14 @@ ghost use Rattle.std.specs.Prelude.{◌≡◌, ◌≤◌, List, ℕ, IfOk, IfErr
 ghost use Rattle.elf_form.specs.ImageParts.{ImageParts};
 ghost use Rattle.elf_form.specs.ImageLayout.{image_bytes};
 ghost use Rattle.pv_build.specs.Readings.{OnlyRead};
+ghost use Rattle.pv_build.specs.Failures.{NoneFailedIn};
 ghost use Rattle.pv_build.specs.Telling.{HaltsOverFiles};
 ghost use Rattle.pv_build.specs.Objects.{FindsObjects};
 ghost use Rattle.pv_build.specs.Images.{image_made_line};
 ghost use Rattle.wedge_core.specs.Slices.{Counts as HostCounts};
 ghost use Rattle.pv_tool.specs.Words.{Link};
 ghost use Rattle.pv_tool.specs.Outside.{beside};
+ghost use Rattle.pv_tool.specs.Faulting.{FaultsEnd};
 ghost use Rattle.pv_tool.specs.Outcome.{refused};
 ghost use Rattle.pv_tool.specs.Linking.{Links, HasLinked};
 ghost use Rattle.pv_tool.specs.Meaning.{Means, Counts, Leaves};
@@ -29,9 +31,14 @@ pub fn link<F: Files, S: Sink>(
     out: &mut S,
 ) -> Status
     requires { length objects.now ≤ 64 }
-    ensures meaning { (completed : HostCounts) (memory : List ℕ) → Means (Link image.now (map string_bytes objects.now)) (beside F.Files S.Sink files.old files.new out.old out.new completed memory) result }
-    ensures counts { (completed : HostCounts) (memory : List ℕ) → Counts (Link image.now (map string_bytes objects.now)) (beside F.Files S.Sink files.old files.new out.old out.new completed memory) }
+    ensures meaning { (completed : HostCounts) (memory : List ℕ)
+        → Means (Link image.now (map string_bytes objects.now))
+        (beside F.Files S.Sink files.old files.new out.old out.new completed memory) result }
+    ensures counts { (completed : HostCounts) (memory : List ℕ)
+        → Counts (Link image.now (map string_bytes objects.now))
+        (beside F.Files S.Sink files.old files.new out.old out.new completed memory) }
     ensures leaves { result ≡ Status.Done → Leaves (Link image.now (map string_bytes objects.now)) (F.held files.old) (F.held files.new) }
+    ensures ends { FaultsEnd F.Files files.old files.new result }
 {
     match made(alloc, objects, files) {
         Err(halt) => end(&halt, out),
@@ -42,9 +49,13 @@ pub fn link<F: Files, S: Sink>(
 // The image of the objects that files hold, as a file, and its line.
 fn made<F: Files>(alloc: Global, names: &[String], files: &mut F) -> Result<Made, Halt>
     requires { length names.now ≤ 64 }
-    ensures made { IfOk result (λ m. (p : ImageParts) × HasLinked (F.held files.old) (map string_bytes names.now) p × (m.file.items ≡ image_bytes p) × (m.line ≡ image_made_line p)) }
-    ensures halted { IfErr result (HaltsOverFiles F.Files (FindsObjects (F.held files.old) (map string_bytes names.now)) files.old files.new (λ line. (image : List ℕ) → Links (F.held files.old) image (map string_bytes names.now) (refused line))) }
+    ensures made { IfOk result (λ m. (p : ImageParts) × HasLinked (F.held files.old) (map string_bytes names.now) p
+        × (m.file.items ≡ image_bytes p) × (m.line ≡ image_made_line p)) }
+    ensures halted { IfErr result (HaltsOverFiles F.Files
+        (FindsObjects (F.held files.old) (map string_bytes names.now)) files.old files.new
+        (λ line. (image : List ℕ) → Links (F.held files.old) image (map string_bytes names.now) (refused line))) }
     ensures read { OnlyRead F.Files (FindsObjects (F.held files.old) (map string_bytes names.now)) files.old files.new }
+    ensures kept { NoneFailedIn F.Files files.old files.new result }
 {
     let objects = objects_in(alloc, names, files)?;
     match linked(alloc, &objects) {

@@ -2,8 +2,7 @@
 
 ghost use Rattle.std.specs.Prelude.{◌≡◌, ◌≤◌, ◌^◌, true};
 ghost use Rattle.board.specs.Scripts.{is_script};
-ghost use Rattle.wedge_core.specs.Promises.{WedgeAnswers};
-ghost use Rattle.pv_tool.specs.Outside.{completed_by};
+ghost use Rattle.wedge_core.specs.Answers.{WedgeAnswers, around};
 
 use board::Script;
 use host_cpl3::Host;
@@ -30,7 +29,8 @@ pub fn patched_run<H: Host, S: Sink>(
     requires script { is_script events.now.list ≡ true }
     requires limits { (2048 ≤ frames) × (frames ≤ 16384) × (n ≤ 2 ^ 40) }
     requires room { H.retired host.old ≤ 2 ^ 63 }
-    ensures { WedgeAnswers image.now events.now.list frames n 512 (S.taken out.old) (S.taken out.new) (S.faults out.old) (S.faults out.new) (completed_by H.Host host.old) (completed_by H.Host host.new) (H.bytes host.new) result }
+    ensures { WedgeAnswers image.now events.now.list frames n 512 (around H.Host S.Sink host.old host.new out.old out.new)
+        (H.bytes host.new) result }
 {
     run_wedge(alloc, image, events, frames, n, POOL, host, out)
 }

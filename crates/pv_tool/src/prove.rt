@@ -12,6 +12,7 @@ ghost use Rattle.pv_build.specs.Telling.{Says, status_of};
 ghost use Rattle.pv_tool.specs.Words.{Prove};
 ghost use Rattle.pv_tool.specs.View.{AreWithin, prove_command};
 ghost use Rattle.pv_tool.specs.Outside.{outside, NotRead};
+ghost use Rattle.pv_tool.specs.Faulting.{FaultsEnd};
 ghost use Rattle.pv_tool.specs.Proving.{are_few};
 ghost use Rattle.pv_tool.specs.Certifying.{Certifies};
 ghost use Rattle.pv_tool.specs.Meaning.{Means, Counts};
@@ -39,6 +40,7 @@ pub fn prove<F: Files, S: Sink, H: Host>(
         (outside F.Files S.Sink H.Host files.old files.new out.old out.new host.old host.new) result }
     ensures counts { Counts (prove_command words.entry certificate.now)
         (outside F.Files S.Sink H.Host files.old files.new out.old out.new host.old host.new) }
+    ensures ends { FaultsEnd F.Files files.old files.new result }
 {
     match runnable_in_files(alloc, words.image, words.script, files) {
         Err(halt) => end(&halt, out),
@@ -56,6 +58,7 @@ pub fn prove<F: Files, S: Sink, H: Host>(
 }
 
 // Runs what was found, and stores its certificate.
+#[tactic(auto, using(crate::proofs::Faults::ends_none))]
 fn prove_found<F: Files, S: Sink, H: Host>(
     alloc: Global,
     found: &Runnable,
@@ -69,9 +72,12 @@ fn prove_found<F: Files, S: Sink, H: Host>(
     requires script { is_script found.now.script.list ≡ true }
     requires limits { (2048 ≤ frames) × (frames ≤ 16384) × (n ≤ 2 ^ 40) }
     requires room { H.retired host.old ≤ 2 ^ 63 }
-    ensures meaning { (image script : List ℕ) → HasImage (F.held files.old) image found.now.image → HasScript (F.held files.old) script found.now.script.list →
-        Means (Prove image script frames n certificate.now) (outside F.Files S.Sink H.Host files.old files.new out.old out.new host.old host.new) result }
+    ensures meaning { (image script : List ℕ) → HasImage (F.held files.old) image found.now.image
+        → HasScript (F.held files.old) script found.now.script.list →
+        Means (Prove image script frames n certificate.now)
+        (outside F.Files S.Sink H.Host files.old files.new out.old out.new host.old host.new) result }
     ensures stored { NotRead F.Files files.old files.new }
+    ensures ends { FaultsEnd F.Files files.old files.new result }
 {
     match KeptNotes::new(alloc) {
         Err(_) => Status::Memory,
@@ -105,6 +111,7 @@ fn status_of(end: End) -> Status
 }
 
 // Stores the certificate of notes, and tells of it. The status is the one that is meant unless that fails.
+#[tactic(auto, using(crate::proofs::Faults::ends_none))]
 fn certify<F: Files, S: Sink>(
     alloc: Global,
     notes: &KeptNotes,
@@ -115,9 +122,11 @@ fn certify<F: Files, S: Sink>(
 ) -> Status
     requires { (told : List Note) × AreKept notes.now told × (length told ≤ most_choices → AreChoices (choices_of told)) }
     ensures certified { (told : List Note) → AreKept notes.now told →
-        Certifies name.now told meant (F.held files.old) (F.held files.new) (F.sure files.old) (F.store_faults files.old) (F.store_faults files.new)
+        Certifies name.now told meant (F.held files.old) (F.held files.new) (F.sure files.old) (F.store_faults files.old)
+        (F.store_faults files.new)
         (S.taken out.old) (S.taken out.new) (S.faults out.old) (S.faults out.new) result }
     ensures stored { NotRead F.Files files.old files.new }
+    ensures ends { FaultsEnd F.Files files.old files.new result }
 {
     match notes.choices() {
         None => tell_none(meant, out),
@@ -139,6 +148,7 @@ fn tell_none<S: Sink>(meant: Status, out: &mut S) -> Status
 }
 
 // Stores a file, and then prints its line.
+#[tactic(auto, using(crate::proofs::Faults::ends_same, crate::proofs::Faults::ends_written, crate::proofs::Faults::ends_memory))]
 fn store<F: Files, S: Sink>(
     made: &Made,
     meant: Status,
@@ -146,10 +156,13 @@ fn store<F: Files, S: Sink>(
     files: &mut F,
     out: &mut S,
 ) -> Status
-    ensures certified { (told : List Note) → are_few told ≡ true → made.now.file.items ≡ choices_bytes (choices_of told) → made.now.line ≡ certificate_line (length told) →
-        Certifies name.now told meant (F.held files.old) (F.held files.new) (F.sure files.old) (F.store_faults files.old) (F.store_faults files.new)
+    ensures certified { (told : List Note) → are_few told ≡ true → made.now.file.items ≡ choices_bytes (choices_of told)
+        → made.now.line ≡ certificate_line (length told) →
+        Certifies name.now told meant (F.held files.old) (F.held files.new) (F.sure files.old) (F.store_faults files.old)
+        (F.store_faults files.new)
         (S.taken out.old) (S.taken out.new) (S.faults out.old) (S.faults out.new) result }
     ensures stored { NotRead F.Files files.old files.new }
+    ensures ends { FaultsEnd F.Files files.old files.new result }
 {
     match files.store(name, &made.file) {
         Ok(()) => print(&made.line, meant, out),

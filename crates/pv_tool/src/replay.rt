@@ -6,6 +6,7 @@ ghost use Rattle.trace_check.specs.Form.{AreChoices};
 ghost use Rattle.wedge_core.specs.Slices.{Counts as HostCounts};
 ghost use Rattle.pv_tool.specs.View.{AreWithin, replay_command};
 ghost use Rattle.pv_tool.specs.Outside.{beside};
+ghost use Rattle.pv_tool.specs.Faulting.{FaultsEnd};
 ghost use Rattle.pv_tool.specs.Replaying.{JudgesAs};
 ghost use Rattle.pv_tool.specs.Meaning.{Means, Counts};
 
@@ -29,6 +30,7 @@ pub fn replay<F: Files, S: Sink>(
         (beside F.Files S.Sink files.old files.new out.old out.new completed memory) result }
     ensures counts { (completed : HostCounts) (memory : List ℕ) → Counts (replay_command words.entry certificate.now text.now)
         (beside F.Files S.Sink files.old files.new out.old out.new completed memory) }
+    ensures ends { FaultsEnd F.Files files.old files.new result }
 {
     match replayable_in_files(alloc, words.image, words.script, certificate, text, files) {
         Err(halt) => end(&halt, out),

@@ -8,6 +8,7 @@ ghost use Rattle.wedge_core.specs.Slices.{Counts as HostCounts};
 ghost use Rattle.checkpoint.specs.States.{IsInForm};
 ghost use Rattle.pv_tool.specs.View.{AreWithin, save_command, save_from_command};
 ghost use Rattle.pv_tool.specs.Outside.{beside, outside, completed_by, NotRead};
+ghost use Rattle.pv_tool.specs.Faulting.{FaultsEnd};
 ghost use Rattle.pv_tool.specs.Resting.{AnswersStart, AnswersState, HasForm, LeavesAs};
 ghost use Rattle.pv_tool.specs.Meaning.{Means, Counts, Leaves};
 
@@ -43,6 +44,7 @@ pub fn save<F: Files, S: Sink, H: Host>(
         (outside F.Files S.Sink H.Host files.old files.new out.old out.new host.old host.new) }
     ensures leaves { result ≡ Status.Done → Leaves (save_command mode words.entry file.now) (F.held files.old) (F.held files.new) }
     ensures host { mode ≡ RunMode.Bare → host.new ≡ host.old }
+    ensures ends { FaultsEnd F.Files files.old files.new result }
 {
     match runnable_in_files(alloc, words.image, words.script, files) {
         Err(halt) => end(&halt, out),
@@ -71,6 +73,7 @@ pub fn save_from<F: Files, S: Sink, H: Host>(
         (outside F.Files S.Sink H.Host files.old files.new out.old out.new host.old host.new) }
     ensures leaves { result ≡ Status.Done → Leaves (save_from_command mode words.entry new.now) (F.held files.old) (F.held files.new) }
     ensures host { mode ≡ RunMode.Bare → host.new ≡ host.old }
+    ensures ends { FaultsEnd F.Files files.old files.new result }
 {
     let wedge = is_wedge(mode);
     match resumable_in_files(
@@ -103,7 +106,8 @@ fn rest_found<S: Sink, H: Host>(
     requires script { is_script found.now.script.list ≡ true }
     requires limits { (2048 ≤ frames) × (frames ≤ 16384) × (n ≤ 2 ^ 40) }
     requires room { H.retired host.old ≤ 2 ^ 63 }
-    ensures answers { AnswersStart mode frames n found.now.image found.now.script.list (S.taken out.old) (S.taken out.new) (S.faults out.old) (S.faults out.new)
+    ensures answers { AnswersStart mode frames n found.now.image found.now.script.list (S.taken out.old) (S.taken out.new)
+        (S.faults out.old) (S.faults out.new)
         (completed_by H.Host host.old) (completed_by H.Host host.new) (H.bytes host.new) result }
     ensures form { HasForm result }
     ensures host { mode ≡ RunMode.Bare → host.new ≡ host.old }
@@ -130,7 +134,8 @@ fn rest_again<S: Sink, H: Host>(
     requires begun { found.state.step ≤ n }
     requires bound { n ≤ 2 ^ 40 }
     requires room { H.retired host.old ≤ 2 ^ 63 }
-    ensures answers { AnswersState mode n found.image found.script.list found.state (S.taken out.old) (S.taken out.new) (S.faults out.old) (S.faults out.new)
+    ensures answers { AnswersState mode n found.image found.script.list found.state (S.taken out.old) (S.taken out.new) (S.faults out.old)
+        (S.faults out.new)
         (completed_by H.Host host.old) (completed_by H.Host host.new) (H.bytes host.new) result }
     ensures form { HasForm result }
     ensures host { mode ≡ RunMode.Bare → host.new ≡ host.old }
@@ -147,6 +152,7 @@ fn rest_again<S: Sink, H: Host>(
 }
 
 // Stores the state of a run that rests, and prints the line for it; or tells how a run ended that doesn't.
+#[tactic(auto, using(crate::proofs::Faults::ends_none))]
 fn leave<F: Files, S: Sink>(
     alloc: Global,
     rested: Result<Rested, RunFault>,
@@ -155,8 +161,10 @@ fn leave<F: Files, S: Sink>(
     out: &mut S,
 ) -> Status
     requires form { HasForm rested }
-    ensures leaves { (completed : HostCounts) (memory : List ℕ) → LeavesAs rested name.now (beside F.Files S.Sink files.old files.new out.old out.new completed memory) result }
+    ensures leaves { (completed : HostCounts) (memory : List ℕ)
+        → LeavesAs rested name.now (beside F.Files S.Sink files.old files.new out.old out.new completed memory) result }
     ensures stored { NotRead F.Files files.old files.new }
+    ensures ends { FaultsEnd F.Files files.old files.new result }
 {
     match rested {
         Ok(Rested::At(state)) => match checkpoint_file(alloc, &state) {

@@ -4,6 +4,7 @@ ghost use Rattle.std.specs.Prelude.{◌≡◌, ◌≤◌, ◌^◌, true};
 ghost use Rattle.std.specs.List.{list_any};
 ghost use Rattle.pv_tool.specs.View.{AreKernels, share_command};
 ghost use Rattle.pv_tool.specs.Outside.{outside};
+ghost use Rattle.pv_tool.specs.Faulting.{FaultsEnd};
 ghost use Rattle.pv_tool.specs.Meaning.{Means, Counts};
 ghost use Rattle.pv_tool.specs.Sharing.{SharedToldAs, has_stopped, run_fault, status_of_all};
 
@@ -30,6 +31,7 @@ pub fn share<F: Files, S: Sink, H: Host>(
         (outside F.Files S.Sink H.Host files.old files.new out.old out.new host.old host.new) result }
     ensures counts { Counts (share_command words.entry)
         (outside F.Files S.Sink H.Host files.old files.new out.old out.new host.old host.new) }
+    ensures ends { FaultsEnd F.Files files.old files.new result }
 {
     match shared_in_files(alloc, words.schedule, words.kernels, files) {
         Err(halt) => end(&halt, out),

@@ -4,8 +4,11 @@ ghost use Rattle.std.specs.Prelude.{◌≡◌, ◌≢◌, ◌↔◌, ◌≤◌, 
 ghost use Rattle.pv_tool.specs.Words.{form_of};
 ghost use Rattle.pv_tool.specs.View.{command_view, IsWithin};
 ghost use Rattle.pv_tool.specs.Outside.{outside, Untouched};
+ghost use Rattle.pv_tool.specs.Faulting.{FaultsEnd};
 ghost use Rattle.pv_tool.specs.Meaning.{Means, Counts, Leaves, is_on_host, reads_files};
-ghost use Rattle.pv_tool.specs.Top.{Meaning, KeepsOthers, CountsFaults, LeavesFiles, RefusesWork, Headlines, RunsOnBare, RunsOnHost, Compared, WorkDone, WorkRefused, BurnsAll, LinksAll, ChecksAll, SharesAll, SavesAll, SavesAgain, ContinuesAll, Proves, ProvesAll, Judges, JudgesAll};
+ghost use Rattle.pv_tool.specs.Top.{Meaning, KeepsOthers, CountsFaults, EndsAtFaults, LeavesFiles, RefusesWork, Headlines};
+ghost use Rattle.pv_tool.specs.Top.{RunsOnBare, RunsOnHost, Compared, WorkDone, WorkRefused, BurnsAll, LinksAll, ChecksAll};
+ghost use Rattle.pv_tool.specs.Top.{SharesAll, SavesAll, SavesAgain, ContinuesAll, Proves, ProvesAll, Judges, JudgesAll};
 
 use crate::burn::burn;
 use crate::check::check;
@@ -38,7 +41,8 @@ pub fn top<F: Files, S: Sink, H: Host>(
 
     // Words: exactly where the words are of no form. It is told before any file, and nothing is printed.
     ensures words { (result ≡ Status.Words) ↔ (form_of (map string_bytes words.now.items) ≡ None) }
-    ensures untouched { result ≡ Status.Words → Untouched (outside F.Files S.Sink H.Host files.old files.new out.old out.new host.old host.new) }
+    ensures untouched { result ≡ Status.Words
+        → Untouched (outside F.Files S.Sink H.Host files.old files.new out.old out.new host.old host.new) }
 
     // What each other status says of the files and of what was printed.
     ensures meaning { Meaning (map string_bytes words.now.items)
@@ -49,7 +53,8 @@ pub fn top<F: Files, S: Sink, H: Host>(
     ensures host { is_on_host (form_of (map string_bytes words.now.items)) ≡ false → host.new ≡ host.old }
 
     // `work` touches no file, and neither do words of no form. No load fails then.
-    ensures files { reads_files (form_of (map string_bytes words.now.items)) ≡ false → (files.new ≡ files.old) × (result ≢ Status.ReadFault) }
+    ensures files { reads_files (form_of (map string_bytes words.now.items)) ≡ false → (files.new ≡ files.old)
+        × (result ≢ Status.ReadFault) }
 
     // The headline. Where `run --wedge` is done or stopped, the files hold an accepted image and a script, and what was printed
     // is the text of a trace that the unpatched image can give.
@@ -63,6 +68,9 @@ pub fn top<F: Files, S: Sink, H: Host>(
     // Files that are sure stay so. Over them no store fails, and no load where each file that is reached is held.
     ensures counts { CountsFaults (map string_bytes words.now.items)
         (outside F.Files S.Sink H.Host files.old files.new out.old out.new host.old host.new) }
+
+    // A load that failed ends the work as a read fault, and a store that failed as a write fault: it isn't tried again.
+    ensures ends { EndsAtFaults (outside F.Files S.Sink H.Host files.old files.new out.old out.new host.old host.new) result }
 
     // Where no load, store or put failed and memory was found:
     // Refused, exactly where the work of the command is refused; the line of its first refusal is printed, and no file was written.
@@ -146,6 +154,7 @@ pub fn top<F: Files, S: Sink, H: Host>(
     }
 }
 
+#[tactic(auto, using(crate::proofs::Faults::ends_none))]
 fn do_command<F: Files, S: Sink, H: Host>(
     alloc: Global,
     command: CommandWords<'_>,
@@ -155,11 +164,14 @@ fn do_command<F: Files, S: Sink, H: Host>(
 ) -> Status
     requires within { IsWithin command }
     requires room { H.retired host.old ≤ 2 ^ 63 }
-    ensures meaning { Means (command_view command.entry) (outside F.Files S.Sink H.Host files.old files.new out.old out.new host.old host.new) result }
-    ensures counts { Counts (command_view command.entry) (outside F.Files S.Sink H.Host files.old files.new out.old out.new host.old host.new) }
+    ensures meaning { Means (command_view command.entry)
+        (outside F.Files S.Sink H.Host files.old files.new out.old out.new host.old host.new) result }
+    ensures counts { Counts (command_view command.entry)
+        (outside F.Files S.Sink H.Host files.old files.new out.old out.new host.old host.new) }
     ensures leaves { result ≡ Status.Done → Leaves (command_view command.entry) (F.held files.old) (F.held files.new) }
     ensures host { is_on_host (Some (command_view command.entry)) ≡ false → host.new ≡ host.old }
     ensures files { reads_files (Some (command_view command.entry)) ≡ false → (files.new ≡ files.old) × (result ≢ Status.ReadFault) }
+    ensures ends { FaultsEnd F.Files files.old files.new result }
 {
     match command {
         CommandWords::Burn { source, object } => burn(alloc, source, object, files, out),

@@ -30,7 +30,8 @@ const STEPS: u64 = 100_000;
 /// Builds the kernel of a number, runs it on the bare machine and patched on a host, and tells whether both print the same.
 pub fn work<S: Sink, H: Host>(alloc: Global, number: u32, out: &mut S, host: &mut H) -> Status
     requires room { H.retired host.old ≤ 2 ^ 63 }
-    ensures { WorkedAs number (S.taken out.old) (S.taken out.new) (S.faults out.old) (S.faults out.new) (completed_by H.Host host.old) (completed_by H.Host host.new) (H.bytes host.new) result }
+    ensures { WorkedAs number (S.taken out.old) (S.taken out.new) (S.faults out.old) (S.faults out.new) (completed_by H.Host host.old)
+        (completed_by H.Host host.new) (H.bytes host.new) result }
 {
     match built(alloc, number) {
         Err(halt) => end(&halt, out),
@@ -44,7 +45,8 @@ pub fn work<S: Sink, H: Host>(alloc: Global, number: u32, out: &mut S, host: &mu
 // Runs an image on the bare machine with nothing cached, and then patched on a host, each under an empty script.
 fn both<H: Host>(alloc: Global, image: &Checked, host: &mut H) -> Result<Texts, Halt>
     requires room { H.retired host.old ≤ 2 ^ 63 }
-    ensures texts { IfOk result (λ t. HasTexts image.now t.first.items t.second.items t.fills (completed_by H.Host host.old) (completed_by H.Host host.new) (H.bytes host.new)) }
+    ensures texts { IfOk result (λ t. HasTexts image.now t.first.items t.second.items t.fills (completed_by H.Host host.old)
+        (completed_by H.Host host.new) (H.bytes host.new)) }
     ensures refused { IfErr result (RefusesAs (IsTooLarge image.now (completed_by H.Host host.old) (completed_by H.Host host.new))) }
 {
     let events = Script {
@@ -82,7 +84,10 @@ fn patched<H: Host>(
 ) -> Result<(Vec<u8>, u64), Halt>
     requires events { events.now.list ≡ [] }
     requires room { H.retired host.old ≤ 2 ^ 63 }
-    ensures text { IfOk result (λ ran. (count : ℕ) × (end : End) × (run : Promise (second_setting image.now) 100000 512 ran.0.items count end (completed_by H.Host host.old) (completed_by H.Host host.new) (H.bytes host.new)) × HasOwnFills (second_setting image.now) 100000 512 run.sets run.last end run.run.ends ran.1) }
+    ensures text { IfOk result (λ ran. (count : ℕ) × (end : End)
+        × (run : Promise (second_setting image.now) 100000 512 ran.0.items count end (completed_by H.Host host.old)
+        (completed_by H.Host host.new) (H.bytes host.new))
+        × HasOwnFills (second_setting image.now) 100000 512 run.sets run.last end run.run.ends ran.1) }
     ensures refused { IfErr result (RefusesAs (IsTooLarge image.now (completed_by H.Host host.old) (completed_by H.Host host.new))) }
 {
     let mut kept = Kept::new(alloc);
@@ -94,7 +99,8 @@ fn patched<H: Host>(
 
 // Why a run into a sink that keeps its text has no end: such a sink fails only for want of memory.
 fn halt_of(alloc: Global, fault: RunFault) -> Halt
-    ensures { RefusesAs (λ line. (small : TooSmall) × (fault ≡ RunFault.TooSmall small) × (line ≡ small_line small.need small.have)) result }
+    ensures { RefusesAs (λ line. (small : TooSmall) × (fault ≡ RunFault.TooSmall small)
+        × (line ≡ small_line small.need small.have)) result }
 {
     match fault {
         RunFault::TooSmall(small) => refused(small_line(alloc, small)),

@@ -3,6 +3,7 @@ use Rattle.std.proofs.lemmas.Result.{err_from_is_err_and}
 use Rattle.pv_io.specs.Files.{FileMap, Holds, IsHeld}
 use Rattle.pv_build.specs.Certificates.{HasChoices, HasNoChoices, FindsReplay, NoRunnable, NoChoices}
 use Rattle.pv_build.proofs.Halts.{halts_as, halts_since}
+use Rattle.pv_build.proofs.Failures.{none_since}
 use Rattle.pv_build.proofs.Readings.{read_for, read_on}
 use Rattle.pv_build.proofs.certificates.replayable_in_files.Goals as goal
 
@@ -89,3 +90,13 @@ returns-clause-choices g c =
 pub returns-clause-text : goal.returns-clause-text
 returns-clause-text g c =
     subst (λ (f : Option FileMap). Holds f c.args.text.now c.in_ok-text.text.items) (c.in_ok-choices.ensures.read.held ∙ c.in_ok-runnable.ensures.read.held) c.in_ok-text.ensures.loaded
+
+pub returns-in_err-choices-clause-kept : goal.returns-in_err-choices-clause-kept
+returns-in_err-choices-clause-kept g c =
+    let p = err_from_is_err_and c.from_residual-in_err-choices.result c.from_residual-in_err-choices.ensures.1 in
+    rw (p.1, p.2) (none_since _ _ _ c.in_err-choices.field-0.0 c.in_ok-runnable.ensures.kept c.in_err-choices.ensures.kept)
+
+pub returns-in_err-text-clause-kept : goal.returns-in_err-text-clause-kept
+returns-in_err-text-clause-kept g c =
+    let p = err_from_is_err_and c.from_residual-in_err-text.result c.from_residual-in_err-text.ensures.1 in
+    rw (p.1, p.2) (none_since _ _ _ c.in_err-text.field-0.0 (c.in_ok-choices.ensures.kept ∙ c.in_ok-runnable.ensures.kept) c.in_err-text.ensures.kept)

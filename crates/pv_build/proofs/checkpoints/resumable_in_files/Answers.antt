@@ -4,6 +4,7 @@ use Rattle.pv_io.specs.Files.{FileMap, IsHeld}
 use Rattle.pv_build.specs.Lines.{place_line}
 use Rattle.pv_build.specs.Checkpoints.{HasState, HasNoState, FindsState, NothingToRun, NoState, Unfit}
 use Rattle.pv_build.proofs.Halts.{halts_as, halts_since, refuses_as, refused_here, line_is}
+use Rattle.pv_build.proofs.Failures.{none_since}
 use Rattle.pv_build.proofs.Readings.{read_for, read_on}
 use Rattle.pv_build.proofs.checkpoints.resumable_in_files.Goals as goal
 
@@ -45,3 +46,8 @@ returns-in-Err-clause-halted g c =
     (λ line ok. Unfit found.image found.script.list c.in_ok-state.state c.in-Err.at c.in-Err.cause has.image has.script
     (subst (λ (f : Option FileMap). HasState f c.args.name.now c.in_ok-state.state) first.held c.in_ok-state.ensures.state) (sym c.in-Err.ensures.answer)
     (line_is _ line _ c.place_line.ensures ok ∙ ap (λ (n : ℕ). place_line n c.in-Err.at) c.number_of_checkpoint.ensures)) c.refused.ensures)
+
+pub returns-in_err-state-clause-kept : goal.returns-in_err-state-clause-kept
+returns-in_err-state-clause-kept g c =
+    let p = err_from_is_err_and c.from_residual-in_err-state.result c.from_residual-in_err-state.ensures.1 in
+    rw (p.1, p.2) (none_since _ _ _ c.in_err-state.field-0.0 c.in_ok-found.ensures.kept c.in_err-state.ensures.kept)

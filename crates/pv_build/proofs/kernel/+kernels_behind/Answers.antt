@@ -3,6 +3,7 @@ use Rattle.std.proofs.lemmas.Result.{err_from_is_err_and}
 use Rattle.pv_io.specs.Files.{FileMap}
 use Rattle.pv_build.specs.Kernels.{KernelNames, names_in_pairs, HasKernel, FindsKernels, NoKernel}
 use Rattle.pv_build.proofs.Halts.{halts_as, halts_since}
+use Rattle.pv_build.proofs.Failures.{none_on}
 use Rattle.pv_build.proofs.Readings.{read_on, read_for}
 use Rattle.pv_build.proofs.Kernels.{pairs_are, pairs_none, none_behind, all_behind, err_to}
 use Rattle.pv_build.proofs.kernel.+kernels_behind.Goals as goal
@@ -71,3 +72,7 @@ returns-in_ok-push-in-len2-up-clause-read g t c =
     read_on _ _ _ _ _ _ (read_for _ (FindsKernels held (names_in_pairs (map string_bytes c.args.names.now))) _ _ _ found.ensures.read (λ finds. (subst (λ (l : List KernelNames). FindsKernels held l) pairs finds).0))
     c.kernels_behind.ensures.read
     (λ finds. subst (λ (f : Option FileMap). FindsKernels f more) (sym found.ensures.read.held) ((subst (λ (l : List KernelNames). FindsKernels held l) pairs finds).1 _ has))
+
+pub returns-in_ok-push-in-len2-up-clause-kept : goal.returns-in_ok-push-in-len2-up-clause-kept
+returns-in_ok-push-in-len2-up-clause-kept g t c =
+    none_on g.F.Files c.args.files.now c.runnable_in_files.new.files c.kernels_behind.new.files c.kernels_behind.result c.in_ok-found-in-len2-up.ensures.kept c.kernels_behind.ensures.kept

@@ -6,6 +6,7 @@ use Rattle.guest_sched.specs.Texts.{schedule_of}
 use Rattle.pv_build.specs.Lines.{line_line}
 use Rattle.pv_build.specs.Kernels.{names_in_pairs, HasKernels, FindsKernels, NoKernel, NoneRead, NoSchedule}
 use Rattle.pv_build.proofs.Halts.{halts_as, halts_since, refused_here, refuses_as, line_is}
+use Rattle.pv_build.proofs.Failures.{none_since}
 use Rattle.pv_build.proofs.Kernels.{kernels_few}
 use Rattle.pv_build.proofs.kernel.shared_in_files.Goals as goal
 
@@ -43,3 +44,8 @@ returns-clause-halted g c =
     (refuses_as _ _ c.refused.result
     (λ line ok. NoSchedule c.in_ok-text.text.items c.in_ok-kernels.kernels.items c.in-Err-At.line c.in-Err-At.cause c.in_ok-text.ensures.loaded has says
     (line_is _ line _ c.line_line.ensures ok ∙ ap (λ (n : ℕ). line_line n c.in-Err-At.line) c.number_of_schedule.ensures)) c.refused.ensures)
+
+pub returns-in_err-kernels-clause-kept : goal.returns-in_err-kernels-clause-kept
+returns-in_err-kernels-clause-kept g c =
+    let p = err_from_is_err_and c.from_residual-in_err-kernels.result c.from_residual-in_err-kernels.ensures.1 in
+    rw (p.1, p.2) (none_since _ _ _ c.in_err-kernels.field-0.0 c.in_ok-text.ensures.kept c.in_err-kernels.ensures.kept)

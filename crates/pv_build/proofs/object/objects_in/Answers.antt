@@ -6,6 +6,7 @@ use Rattle.pv_io.specs.Files.{FileMap}
 use Rattle.elf_form.specs.ObjectParts.{ObjectParts}
 use Rattle.pv_build.specs.Objects.{HasObject, HasNoObject, HasObjects, FirstFault}
 use Rattle.pv_build.proofs.Halts.{halts_as, halts_since}
+use Rattle.pv_build.proofs.Failures.{none_since}
 use Rattle.pv_build.proofs.Readings.{read_on}
 use Rattle.pv_build.proofs.Objects.{one_more, first_fault, split_at, taken_on, taken_length, found_next, all_more}
 use Rattle.pv_build.proofs.object.objects_in.Goals as goal
@@ -58,6 +59,7 @@ loop-i-preserved g c =
     let objects = one_more (g.F.Files.held c.args.files.now) before c.loop-i.objects.items name c.in_ok-object.object c.loop-i.invariant.objects
     (subst (λ (f : Option FileMap). HasObject f name c.in_ok-object.object) read.held c.in_ok-object.ensures.object) in
     record {
+      kept = c.in_ok-object.ensures.kept ∙ c.loop-i.invariant.kept;
       objects = subst (λ (l : List (List ℕ)). HasObjects (g.F.Files.held c.args.files.now) l c.push.new.self.items) (sym names_are)
           (subst (λ (os : List ObjectParts). HasObjects (g.F.Files.held c.args.files.now) (before ++ name ∷ []) os) (sym c.in_ok-push.ensures.items) objects);
       linkable = subst (λ (os : List ObjectParts). All IsLinkable os) (sym c.in_ok-push.ensures.items)
@@ -67,3 +69,8 @@ loop-i-preserved g c =
           (found_next string_bytes (g.F.Files.held c.args.files.now) (g.F.Files.held c.loop-i.files) c.args.names.now c.loop-i.i c.index-names-i.result c.as_str.result.now c.loop-i.objects.items
           c.loop-i-test.true c.index-names-i.is c.as_str.ensures.value c.loop-i.invariant.read.held c.loop-i.invariant.objects);
     }
+
+pub returns-in_err-object-clause-kept : goal.returns-in_err-object-clause-kept
+returns-in_err-object-clause-kept g c =
+    let p = err_from_is_err_and c.from_residual.result c.from_residual.ensures.1 in
+    rw (p.1, p.2) (none_since _ _ _ c.in_err-object.field-0.0 c.loop-i.invariant.kept c.in_err-object.ensures.kept)

@@ -10,5 +10,6 @@ invariant-loop-i g l = record {
   objects : HasObjects (g.F.Files.held l.fn.files) (map string_bytes (take l.i l.names)) l.objects.items;
   linkable : All IsLinkable l.objects.items;
   count : length l.objects.items ≡ l.i;
+  kept : g.F.Files.load_faults l.files ≡ g.F.Files.load_faults l.fn.files;
   read : OnlyRead g.F.Files (FindsObjects (g.F.Files.held l.fn.files) (map string_bytes l.names)) l.fn.files l.files;
 }

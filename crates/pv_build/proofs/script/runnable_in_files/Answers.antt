@@ -3,6 +3,7 @@ use Rattle.std.proofs.lemmas.Result.{err_from_is_err_and}
 use Rattle.pv_io.specs.Files.{FileMap, IsHeld}
 use Rattle.pv_build.specs.Scripts.{HasScript, HasNoScript, FindsRun, NoImage, NoScript}
 use Rattle.pv_build.proofs.Halts.{halts_as, halts_since}
+use Rattle.pv_build.proofs.Failures.{none_since}
 use Rattle.pv_build.proofs.Readings.{read_for, read_on}
 use Rattle.pv_build.proofs.script.runnable_in_files.Goals as goal
 
@@ -43,3 +44,8 @@ pub returns-clause-script : goal.returns-clause-script
 returns-clause-script g c =
     let first = c.in_ok-image.ensures.read in
     subst (λ (f : Option FileMap). HasScript f c.args.script.now c.in_ok-script.script.list) first.held c.in_ok-script.ensures.script
+
+pub returns-in_err-script-clause-kept : goal.returns-in_err-script-clause-kept
+returns-in_err-script-clause-kept g c =
+    let p = err_from_is_err_and c.from_residual-in_err-script.result c.from_residual-in_err-script.ensures.1 in
+    rw (p.1, p.2) (none_since _ _ _ c.in_err-script.field-0.0 c.in_ok-image.ensures.kept c.in_err-script.ensures.kept)

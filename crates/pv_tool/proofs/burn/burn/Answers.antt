@@ -6,6 +6,7 @@ use Rattle.pv_tool.specs.Outside.{beside}
 use Rattle.pv_tool.proofs.Deliveries.{halts, delivered, counts_read, counts_stored}
 use Rattle.pv_tool.proofs.BurnMeanings.{is_burnt}
 use Rattle.pv_tool.proofs.CommandLaws.{stored_done, not_ended}
+use Rattle.pv_tool.proofs.Faults.{ends_halted, ends_since}
 use Rattle.pv_tool.proofs.burn.burn.Goals as goal
 
 pub returns-in-Err-clause-meaning : goal.returns-in-Err-clause-meaning
@@ -47,3 +48,12 @@ returns-in-Ok-clause-leaves g c =
           (subst (λ (f : Option FileMap). Stores f (g.F.Files.held c.deliver.new.files) c.args.object.now c.in-Ok.made.file.items) c.in-Ok.ensures.read.held
           (stored_done o c.args.object.now c.in-Ok.made.file.items c.in-Ok.made.line c.deliver.result (c.deliver.ensures.delivers none []) done)),
     )
+
+pub returns-in-Err-clause-ends : goal.returns-in-Err-clause-ends
+returns-in-Err-clause-ends g c =
+    ends_halted g.F.Files c.args.files.now c.made.new.files c.in-Err.halt (g.S.Sink.taken c.args.out.now) (g.S.Sink.taken c.end.new.out)
+    (g.S.Sink.faults c.args.out.now) (g.S.Sink.faults c.end.new.out) c.end.result c.in-Err.ensures.kept c.in-Err.ensures.read.same_stores c.end.ensures
+
+pub returns-in-Ok-clause-ends : goal.returns-in-Ok-clause-ends
+returns-in-Ok-clause-ends g c =
+    ends_since g.F.Files c.args.files.now c.made.new.files c.deliver.new.files c.deliver.result c.in-Ok.ensures.kept c.in-Ok.ensures.read.same_stores c.deliver.ensures.ends

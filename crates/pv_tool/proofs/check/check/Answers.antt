@@ -2,6 +2,7 @@ use Rattle.std.proofs.Common.{refl}
 use Rattle.pv_tool.specs.Words.{Check}
 use Rattle.pv_tool.proofs.Deliveries.{halts, counts_read}
 use Rattle.pv_tool.proofs.CheckMeanings.{refuses_image, tells_image}
+use Rattle.pv_tool.proofs.Faults.{ends_halted}
 use Rattle.pv_tool.proofs.check.check.Goals as goal
 
 pub returns-in-Err-clause-meaning : goal.returns-in-Err-clause-meaning
@@ -18,3 +19,8 @@ returns-in-Err-clause-counts g c = λ completed memory. counts_read g.F.Files g.
 
 pub returns-clause-counts : goal.returns-clause-counts
 returns-clause-counts g c = λ completed memory. counts_read g.F.Files g.S.Sink (Check c.args.name.now) c.args.files.now c.accepted.new.files c.args.out.now c.print.new.out completed memory c.in-Ok.ensures.read
+
+pub returns-in-Err-clause-ends : goal.returns-in-Err-clause-ends
+returns-in-Err-clause-ends g c =
+    ends_halted g.F.Files c.args.files.now c.accepted.new.files c.in-Err.halt (g.S.Sink.taken c.args.out.now) (g.S.Sink.taken c.end.new.out)
+    (g.S.Sink.faults c.args.out.now) (g.S.Sink.faults c.end.new.out) c.end.result c.in-Err.ensures.kept c.in-Err.ensures.read.same_stores c.end.ensures

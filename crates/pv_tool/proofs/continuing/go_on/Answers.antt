@@ -3,6 +3,7 @@ use Rattle.pv_tool.specs.Continuing.{ContinuesOn}
 use Rattle.pv_tool.specs.View.{continue_command}
 use Rattle.pv_tool.proofs.Deliveries.{halts, counts_host}
 use Rattle.pv_tool.proofs.ContinueMeanings.{no_rest, continued, continue_means}
+use Rattle.pv_tool.proofs.Faults.{ends_halted, ends_same}
 use Rattle.pv_tool.proofs.continuing.go_on.Goals as goal
 
 pub returns-in-Err-clause-meaning : goal.returns-in-Err-clause-meaning
@@ -33,3 +34,11 @@ pub returns-in-Ok-clause-counts : goal.returns-in-Ok-clause-counts
 returns-in-Ok-clause-counts g c =
     let words = c.args.words in
     counts_host g.F.Files g.S.Sink g.H.Host (continue_command c.args.mode words) c.args.files.now c.resumable_in_files.new.files c.args.out.now c.tell_run.new.out c.args.host.now c.run_onwards-ran.new.host c.in-Ok.ensures.read
+
+pub returns-in-Err-clause-ends : goal.returns-in-Err-clause-ends
+returns-in-Err-clause-ends g c =
+    ends_halted g.F.Files c.args.files.now c.resumable_in_files.new.files c.in-Err.halt (g.S.Sink.taken c.args.out.now) (g.S.Sink.taken c.end.new.out)
+    (g.S.Sink.faults c.args.out.now) (g.S.Sink.faults c.end.new.out) c.end.result c.in-Err.ensures.kept c.in-Err.ensures.read.same_stores c.end.ensures
+
+pub returns-in-Ok-clause-ends : goal.returns-in-Ok-clause-ends
+returns-in-Ok-clause-ends g c = ends_same g.F.Files c.args.files.now c.resumable_in_files.new.files c.tell_run.result c.in-Ok.ensures.kept c.in-Ok.ensures.read.same_stores

@@ -2,6 +2,7 @@ use Rattle.std.proofs.Common.{map, string_bytes}
 use Rattle.std.proofs.lemmas.Result.{err_from_is_err_and}
 use Rattle.pv_build.proofs.Halts.{halts_as, refused_here, refuses_as, line_is}
 use Rattle.pv_tool.proofs.LinkMeanings.{no_object, not_linked}
+use Rattle.pv_build.proofs.Failures.{none_here}
 use Rattle.pv_tool.proofs.link.made.Goals as goal
 
 pub returns-in_err-objects-clause-halted : goal.returns-in_err-objects-clause-halted
@@ -16,3 +17,6 @@ returns-clause-halted g c =
     (refuses_as _ _ c.refused.result
     (λ line ok image. not_linked _ (map string_bytes c.args.names.now) image line c.in_ok-objects.objects.items (record { object = c.in-Err-At.object; cause = c.in-Err-At.cause }) c.in_ok-objects.ensures.objects
     (rw c.in-Err-At.field-0-is at c.in-Err-At.ensures.exact) (line_is _ line _ c.link_line.ensures ok)) c.refused.ensures)
+
+pub returns-clause-kept : goal.returns-clause-kept
+returns-clause-kept g c = none_here _ _ c.refused.result c.in_ok-objects.ensures.kept

@@ -9,6 +9,7 @@ use Rattle.pv_tool.specs.View.{prove_command}
 use Rattle.pv_tool.proofs.Deliveries.{halts, counts_host}
 use Rattle.pv_tool.proofs.RunMeanings.{no_run}
 use Rattle.pv_tool.proofs.ProveMeanings.{since_read, counts_proved}
+use Rattle.pv_tool.proofs.Faults.{ends_halted, ends_since}
 use Rattle.pv_tool.proofs.prove.prove.Goals as goal
 
 pub returns-in-Err-clause-meaning : goal.returns-in-Err-clause-meaning
@@ -38,3 +39,12 @@ returns-in-Ok-clause-counts g c =
     let words = c.args.words in
     counts_proved g.F.Files g.S.Sink g.H.Host words.image.now words.script.now words.frames words.n c.args.certificate.now c.args.files.now c.runnable_in_files.new.files c.prove_found.new.files c.args.out.now c.prove_found.new.out c.args.host.now c.prove_found.new.host
     c.in-Ok.ensures.read c.prove_found.ensures.stored
+
+pub returns-in-Err-clause-ends : goal.returns-in-Err-clause-ends
+returns-in-Err-clause-ends g c =
+    ends_halted g.F.Files c.args.files.now c.runnable_in_files.new.files c.in-Err.halt (g.S.Sink.taken c.args.out.now) (g.S.Sink.taken c.end.new.out)
+    (g.S.Sink.faults c.args.out.now) (g.S.Sink.faults c.end.new.out) c.end.result c.in-Err.ensures.kept c.in-Err.ensures.read.same_stores c.end.ensures
+
+pub returns-in-Ok-clause-ends : goal.returns-in-Ok-clause-ends
+returns-in-Ok-clause-ends g c =
+    ends_since g.F.Files c.args.files.now c.runnable_in_files.new.files c.prove_found.new.files c.prove_found.result c.in-Ok.ensures.kept c.in-Ok.ensures.read.same_stores c.prove_found.ensures.ends

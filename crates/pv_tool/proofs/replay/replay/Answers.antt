@@ -3,6 +3,7 @@ use Rattle.pv_tool.specs.View.{replay_command}
 use Rattle.pv_tool.specs.Outside.{beside}
 use Rattle.pv_tool.proofs.Deliveries.{halts, counts_read}
 use Rattle.pv_tool.proofs.ReplayMeanings.{no_replay, replay_means}
+use Rattle.pv_tool.proofs.Faults.{ends_halted, ends_same}
 use Rattle.pv_tool.proofs.replay.replay.Goals as goal
 
 pub returns-in-Err-clause-meaning : goal.returns-in-Err-clause-meaning
@@ -28,3 +29,11 @@ returns-in-Err-clause-counts g c = λ completed memory.
 pub returns-in-Ok-clause-counts : goal.returns-in-Ok-clause-counts
 returns-in-Ok-clause-counts g c = λ completed memory.
     counts_read g.F.Files g.S.Sink (replay_command c.args.words c.args.certificate.now c.args.text.now) c.args.files.now c.replayable_in_files.new.files c.args.out.now c.judge.new.out completed memory c.in-Ok.ensures.read
+
+pub returns-in-Err-clause-ends : goal.returns-in-Err-clause-ends
+returns-in-Err-clause-ends g c =
+    ends_halted g.F.Files c.args.files.now c.replayable_in_files.new.files c.in-Err.halt (g.S.Sink.taken c.args.out.now) (g.S.Sink.taken c.end.new.out)
+    (g.S.Sink.faults c.args.out.now) (g.S.Sink.faults c.end.new.out) c.end.result c.in-Err.ensures.kept c.in-Err.ensures.read.same_stores c.end.ensures
+
+pub returns-in-Ok-clause-ends : goal.returns-in-Ok-clause-ends
+returns-in-Ok-clause-ends g c = ends_same g.F.Files c.args.files.now c.replayable_in_files.new.files c.judge.result c.in-Ok.ensures.kept c.in-Ok.ensures.read.same_stores

@@ -7,6 +7,7 @@ use Rattle.pv_tool.specs.View.{run_command}
 use Rattle.pv_tool.specs.Running.{WithFrames}
 use Rattle.pv_tool.proofs.Deliveries.{halts, counts_host}
 use Rattle.pv_tool.proofs.RunMeanings.{runs_of, ran_on, ends_of, told_of, gives_run, finds_run, no_run, run_means}
+use Rattle.pv_tool.proofs.Faults.{ends_halted, ends_same}
 use Rattle.pv_tool.proofs.run.run.Goals as goal
 
 pub returns-in-Err-clause-meaning : goal.returns-in-Err-clause-meaning
@@ -39,3 +40,11 @@ returns-in-Ok-clause-counts g c =
     let held = g.F.Files.held c.args.files.now in
     counts_host g.F.Files g.S.Sink g.H.Host (run_command c.args.mode words) c.args.files.now c.runnable_in_files.new.files c.args.out.now c.tell_run.new.out c.args.host.now c.run_found-ran.new.host
     (read_for g.F.Files (Finds (run_command c.args.mode words) held) (FindsRun held words.image.now words.script.now) c.args.files.now c.runnable_in_files.new.files c.in-Ok.ensures.read (finds_run c.args.mode words held))
+
+pub returns-in-Err-clause-ends : goal.returns-in-Err-clause-ends
+returns-in-Err-clause-ends g c =
+    ends_halted g.F.Files c.args.files.now c.runnable_in_files.new.files c.in-Err.halt (g.S.Sink.taken c.args.out.now) (g.S.Sink.taken c.end.new.out)
+    (g.S.Sink.faults c.args.out.now) (g.S.Sink.faults c.end.new.out) c.end.result c.in-Err.ensures.kept c.in-Err.ensures.read.same_stores c.end.ensures
+
+pub returns-in-Ok-clause-ends : goal.returns-in-Ok-clause-ends
+returns-in-Ok-clause-ends g c = ends_same g.F.Files c.args.files.now c.runnable_in_files.new.files c.tell_run.result c.in-Ok.ensures.kept c.in-Ok.ensures.read.same_stores

@@ -11,6 +11,7 @@ use Rattle.pv_tool.proofs.RunMeanings.{no_run}
 use Rattle.pv_tool.proofs.CommandLaws.{not_ended}
 use Rattle.pv_tool.proofs.RestMeanings.{started_means}
 use Rattle.pv_tool.proofs.RestDone.{fits_on, saves_boot, small_boot, counts_rested, starts_stop, left_state}
+use Rattle.pv_tool.proofs.Faults.{ends_halted, ends_since}
 use Rattle.pv_tool.proofs.save.save.Goals as goal
 
 pub returns-in-Err-clause-meaning : goal.returns-in-Err-clause-meaning
@@ -59,3 +60,12 @@ returns-in-Ok-clause-leaves g c = λ done.
     let o = beside g.F.Files g.S.Sink c.runnable_in_files.new.files c.leave.new.files c.rest_found-rested.new.out c.leave.new.out none [] in
     subst (λ (f : Option FileMap). LeavesState c.args.file.now f (g.F.Files.held c.leave.new.files)) c.in-Ok.ensures.read.held
     (left_state c.rest_found-rested.result c.args.file.now o c.leave.result (starts_stop _ _ _ _ _ _ _ c.rest_found-rested.result c.rest_found-rested.ensures.answers) (c.leave.ensures.leaves none []) done)
+
+pub returns-in-Err-clause-ends : goal.returns-in-Err-clause-ends
+returns-in-Err-clause-ends g c =
+    ends_halted g.F.Files c.args.files.now c.runnable_in_files.new.files c.in-Err.halt (g.S.Sink.taken c.args.out.now) (g.S.Sink.taken c.end.new.out)
+    (g.S.Sink.faults c.args.out.now) (g.S.Sink.faults c.end.new.out) c.end.result c.in-Err.ensures.kept c.in-Err.ensures.read.same_stores c.end.ensures
+
+pub returns-in-Ok-clause-ends : goal.returns-in-Ok-clause-ends
+returns-in-Ok-clause-ends g c =
+    ends_since g.F.Files c.args.files.now c.runnable_in_files.new.files c.leave.new.files c.leave.result c.in-Ok.ensures.kept c.in-Ok.ensures.read.same_stores c.leave.ensures.ends

@@ -12,6 +12,7 @@ use Rattle.pv_tool.proofs.CommandLaws.{not_ended}
 use Rattle.pv_tool.proofs.RestMeanings.{rested_means}
 use Rattle.pv_tool.proofs.ContinueMeanings.{no_rest}
 use Rattle.pv_tool.proofs.RestDone.{saves_state, counts_rested, rests_stop, left_state}
+use Rattle.pv_tool.proofs.Faults.{ends_halted, ends_since}
 use Rattle.pv_tool.proofs.save.save_from.Goals as goal
 
 pub returns-in-Err-clause-meaning : goal.returns-in-Err-clause-meaning
@@ -60,3 +61,12 @@ returns-in-Ok-clause-leaves g c = λ done.
     let o = beside g.F.Files g.S.Sink c.resumable_in_files.new.files c.leave.new.files c.rest_again-rested.new.out c.leave.new.out none [] in
     subst (λ (f : Option FileMap). LeavesState c.args.new.now f (g.F.Files.held c.leave.new.files)) c.in-Ok.ensures.read.held
     (left_state c.rest_again-rested.result c.args.new.now o c.leave.result (rests_stop _ _ _ _ _ _ _ _ c.rest_again-rested.result c.rest_again-rested.ensures.answers) (c.leave.ensures.leaves none []) done)
+
+pub returns-in-Err-clause-ends : goal.returns-in-Err-clause-ends
+returns-in-Err-clause-ends g c =
+    ends_halted g.F.Files c.args.files.now c.resumable_in_files.new.files c.in-Err.halt (g.S.Sink.taken c.args.out.now) (g.S.Sink.taken c.end.new.out)
+    (g.S.Sink.faults c.args.out.now) (g.S.Sink.faults c.end.new.out) c.end.result c.in-Err.ensures.kept c.in-Err.ensures.read.same_stores c.end.ensures
+
+pub returns-in-Ok-clause-ends : goal.returns-in-Ok-clause-ends
+returns-in-Ok-clause-ends g c =
+    ends_since g.F.Files c.args.files.now c.resumable_in_files.new.files c.leave.new.files c.leave.result c.in-Ok.ensures.kept c.in-Ok.ensures.read.same_stores c.leave.ensures.ends

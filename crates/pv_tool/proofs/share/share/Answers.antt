@@ -8,6 +8,7 @@ use Rattle.pv_tool.specs.View.{share_command}
 use Rattle.pv_tool.specs.Words.{makes_pairs}
 use Rattle.pv_tool.proofs.Deliveries.{halts, counts_host}
 use Rattle.pv_tool.proofs.ShareMeanings.{none_shared, share_means, pairs_few, kernels_few}
+use Rattle.pv_tool.proofs.Faults.{ends_halted, ends_same}
 use Rattle.pv_tool.proofs.share.share.Goals as goal
 
 pub shared_in_files-requires : goal.shared_in_files-requires
@@ -48,3 +49,11 @@ returns-in-Ok-clause-counts g c =
     let held = g.F.Files.held c.args.files.now in
     counts_host g.F.Files g.S.Sink g.H.Host (share_command words) c.args.files.now c.shared_in_files.new.files c.args.out.now c.tell_shared.new.out c.args.host.now c.run_shared-ran.new.host
     (read_for g.F.Files (Finds (share_command words) held) (FindsShared held words.schedule.now (names_in_pairs (map string_bytes words.kernels.now))) c.args.files.now c.shared_in_files.new.files c.in-Ok.ensures.read (λ found. found))
+
+pub returns-in-Err-clause-ends : goal.returns-in-Err-clause-ends
+returns-in-Err-clause-ends g c =
+    ends_halted g.F.Files c.args.files.now c.shared_in_files.new.files c.in-Err.halt (g.S.Sink.taken c.args.out.now) (g.S.Sink.taken c.end.new.out)
+    (g.S.Sink.faults c.args.out.now) (g.S.Sink.faults c.end.new.out) c.end.result c.in-Err.ensures.kept c.in-Err.ensures.read.same_stores c.end.ensures
+
+pub returns-in-Ok-clause-ends : goal.returns-in-Ok-clause-ends
+returns-in-Ok-clause-ends g c = ends_same g.F.Files c.args.files.now c.shared_in_files.new.files c.tell_shared.result c.in-Ok.ensures.kept c.in-Ok.ensures.read.same_stores
