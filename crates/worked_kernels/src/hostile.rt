@@ -118,7 +118,8 @@ $ wedge 4 12
 end steps 6 stop 12 NotAStart
 $ : A handler within an instruction.
 $ build
-_start: .data; register: .word 0x1f; .long gates; gates: .zero 32; .text; movl $bad+1,%eax; movl %eax,gates+24; movw $8,gates+26; movl %eax,gates+28; movw $0x8e00,gates+28; lidt register; int3; bad: movl $0x90909090,%eax
+_start: .data; register: .word 0x1f; .long gates; gates: .zero 32; .text; movl $bad+1,%eax; movl %eax,gates+24; \
+    movw $8,gates+26; movl %eax,gates+28; movw $0x8e00,gates+28; lidt register; int3; bad: movl $0x90909090,%eax
 $ bare 0 12
 end steps 12
 $ wedge 4 12
@@ -166,7 +167,8 @@ $ wedge 4 12
 end steps 5 stop 15 UserFlags
 $ : User code in a frame that is also the table of the page that it writes.
 $ build
-_start: movl $0x004085C7,0xC0020000; movl $0x1180,0xC0020004; movl $0x20007,0xC0021000; movl $0x21007,0xC0001114; movl $0x20007,0xC0001118; pushl $0x23; pushl $0; pushl $0x202; pushl $0x1b; pushl $0x11400000; iret
+_start: movl $0x004085C7,0xC0020000; movl $0x1180,0xC0020004; movl $0x20007,0xC0021000; movl $0x21007,0xC0001114; \
+    movl $0x20007,0xC0001118; pushl $0x23; pushl $0; pushl $0x202; pushl $0x1b; pushl $0x11400000; iret
 $ bare 0 12
 end steps 12
 $ wedge 4 12
@@ -242,14 +244,16 @@ end steps 0 stop 4 DeliveryFailed
 pub const LARGE: &str = "\
 $ : The one word of such a page has the accessed and the dirty flag.
 $ build
-_start: movl $16,%eax; movl %eax,%cr4; movl $0x400083,0xC0001114; movl $0x5a,0x11400010; movl 0xC0001114,%eax; outl %eax,$0x80; movl 0xC0400010,%eax; outl %eax,$0x80
+_start: movl $16,%eax; movl %eax,%cr4; movl $0x400083,0xC0001114; movl $0x5a,0x11400010; movl 0xC0001114,%eax; \
+    outl %eax,$0x80; movl 0xC0400010,%eax; outl %eax,$0x80
 $ runs 0 13
 7 out32 0080 004000e3
 12 out32 0080 0000005a
 end steps 13
 $ : Bit 13 of it is reserved.
 $ build
-_start: movl $16,%eax; movl %eax,%cr4; movl $0x402083,0xC0001114; movl $0x5a,0x11400010; movl 0xC0001114,%eax; outl %eax,$0x80; movl 0xC0400010,%eax; outl %eax,$0x80
+_start: movl $16,%eax; movl %eax,%cr4; movl $0x402083,0xC0001114; movl $0x5a,0x11400010; movl 0xC0001114,%eax; \
+    outl %eax,$0x80; movl 0xC0400010,%eax; outl %eax,$0x80
 $ runs 4 13
 end steps 5 stop 5 ControlBits
 $ : Without PSE bit 7 of a directory word is ignored, and the word names a table.
@@ -260,7 +264,9 @@ $ runs 0 10
 end steps 10
 $ : With PSE an INVLPG of the last page of a directory index drops the first one too.
 $ build
-_start: movl $16,%eax; movl %eax,%cr4; movl $0x400083,0xC0001114; movl $0x5a,0xC0400010; movl $0x66,0xC0000010; movl 0x11400010,%eax; outl %eax,$0x80; movl $0x83,0xC0001114; invlpg 0x117FF000; movl 0x11400010,%eax; outl %eax,$0x80
+_start: movl $16,%eax; movl %eax,%cr4; movl $0x400083,0xC0001114; movl $0x5a,0xC0400010; movl $0x66,0xC0000010; \
+    movl 0x11400010,%eax; outl %eax,$0x80; movl $0x83,0xC0001114; invlpg 0x117FF000; movl 0x11400010,%eax; \
+    outl %eax,$0x80
 $ runs 0 17
 8 out32 0080 0000005a
 15 out32 0080 00000066

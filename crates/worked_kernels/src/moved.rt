@@ -145,3 +145,47 @@ $ 4 save --wedge I B 2048 40 N
 end steps 39 stop 15 UserFlags
 $ lost N
 ";
+
+/// Of a source S: the text has all of the memory behind its first megabyte, and goes on from what was saved.
+pub const FILLS_MEMORY: &str = "\
+$ store B
+$ 0 burn S O
+object text 7340030 data 0 bss 0 sites 0
+$ 0 link I O
+image text 7340032 data 0 bss 0 sites 0
+$ 0 save --bare I B 2048 0 C
+saved steps 0
+$ 0 continue --bare I B C 3
+end steps 3
+$ 0 continue --wedge I B C 3
+end steps 3
+";
+
+/// Of a source with one byte more, whose text needs a further page. In what was saved of the other text that one's loop stands
+/// where this one has a NOP.
+pub const PASSES_MEMORY: &str = "\
+$ 0 burn S O
+object text 7340031 data 0 bss 0 sites 0
+$ 0 link J O
+image text 7340033 data 0 bss 0 sites 0
+$ 3 save --wedge J B 2048 0 D
+refused 90 need 2049 have 2048
+$ lost D
+$ 0 save --wedge J B 2049 0 D
+saved steps 0
+$ 0 continue --bare J B D 3
+end steps 3
+$ 3 continue --bare J B C 3
+refused 111 at 7340030
+";
+
+/// What was saved of it has lost its last page, and with it the text's last byte.
+pub const LACKS_A_BYTE: &str = "\
+$ 3 continue --bare J B D 3
+refused 111 at 7340032
+$ 3 continue --wedge J B D 3
+refused 111 at 7340032
+$ 3 save --wedge J B from D 3 N
+refused 111 at 7340032
+$ lost N
+";

@@ -42,6 +42,195 @@ jnz b
 hlt
 ";
 
+/// A kernel as I, with its script B, whose interrupts come while they are held off. STI is step 35, at 0x10000050, and a MOV to
+/// SS is step 53, at 0x10000055. A NOP behind each is a step still, so the interrupt is the step but one behind, and the saved
+/// EIP, which is shown, that of the NOP behind the first or of the next one.
+pub const IS_HELD_OFF: &str = "\
+$ build
+.data
+idt_register: .word 0x7ff
+.long idt
+.bss
+.p2align 3
+idt: .zero 2048
+.text
+_start: movl $on_line,%eax
+movl %eax,idt+0x108
+movw $0x08,idt+0x10a
+movl %eax,idt+0x10c
+movw $0x8e00,idt+0x10c
+lidt idt_register
+movb $0x11,%al
+outb %al,$0x20
+movb $0x20,%al
+outb %al,$0x21
+movb $4,%al
+outb %al,$0x21
+movb $1,%al
+outb %al,$0x21
+movb $0xfd,%al
+outb %al,$0x21
+movl %ss,%ebx
+sti
+movl %ebx,%ss
+hlt
+on_line: popl %eax
+outl %eax,$0x80
+pushl %eax
+movb $0x20,%al
+outb %al,$0x20
+iret
+$ store B
+35 line 1
+54 line 1
+$ runs 0 70
+7 out8 0020 11
+12 out8 0021 20
+17 out8 0021 04
+22 out8 0021 01
+27 out8 0021 fd
+37 irq 21
+39 out32 0080 10000052
+45 out8 0020 20
+55 irq 21
+57 out32 0080 10000058
+63 out8 0020 20
+end steps 70
+";
+
+/// It shares a host with a kernel that sends a byte, J. One of its turns ends behind STI, and one behind the MOV.
+pub const TURNS_END_HELD_OFF: &str = "\
+$ store S
+_start: movl $0x3f8,%edx; movb $0x48,%al; outb %al,%dx; hlt
+$ 0 burn S O
+object text 17 data 0 bss 0 sites 2
+$ 0 link J O
+image text 19 data 0 bss 0 sites 2
+$ store E
+$ store C
+0 36
+1 3
+0 18
+1 5
+0 16
+$ 0 share C 2048 I B J E
+0 7 out8 0020 11
+0 12 out8 0021 20
+0 17 out8 0021 04
+0 22 out8 0021 01
+0 27 out8 0021 fd
+1 2 out8 03f8 48
+1 2 tx 48
+0 37 irq 21
+0 39 out32 0080 10000052
+0 45 out8 0020 20
+0 55 irq 21
+0 57 out32 0080 10000058
+0 63 out8 0020 20
+0 end steps 70
+1 end steps 8
+";
+
+/// Turns in which it shares a host with itself, four times: those of the first end behind STI, of the second behind the NOP, of
+/// the third before STI, of the last behind the MOV.
+pub const FOUR_IN_TURNS: &str = "\
+0 36
+1 37
+2 35
+3 54
+0 34
+1 33
+2 35
+3 16
+";
+
+/// What is printed of these turns.
+pub const FOUR_TIMES: &str = "\
+0 7 out8 0020 11
+0 12 out8 0021 20
+0 17 out8 0021 04
+0 22 out8 0021 01
+0 27 out8 0021 fd
+1 7 out8 0020 11
+1 12 out8 0021 20
+1 17 out8 0021 04
+1 22 out8 0021 01
+1 27 out8 0021 fd
+2 7 out8 0020 11
+2 12 out8 0021 20
+2 17 out8 0021 04
+2 22 out8 0021 01
+2 27 out8 0021 fd
+3 7 out8 0020 11
+3 12 out8 0021 20
+3 17 out8 0021 04
+3 22 out8 0021 01
+3 27 out8 0021 fd
+3 37 irq 21
+3 39 out32 0080 10000052
+3 45 out8 0020 20
+0 37 irq 21
+0 39 out32 0080 10000052
+0 45 out8 0020 20
+0 55 irq 21
+0 57 out32 0080 10000058
+0 63 out8 0020 20
+1 37 irq 21
+1 39 out32 0080 10000052
+1 45 out8 0020 20
+1 55 irq 21
+1 57 out32 0080 10000058
+1 63 out8 0020 20
+2 37 irq 21
+2 39 out32 0080 10000052
+2 45 out8 0020 20
+2 55 irq 21
+2 57 out32 0080 10000058
+2 63 out8 0020 20
+3 55 irq 21
+3 57 out32 0080 10000058
+3 63 out8 0020 20
+0 end steps 70
+1 end steps 70
+2 end steps 70
+3 end steps 70
+";
+
+/// Images that need 2,305 and 2,306 frames, L and M, and a small one, I: the first one that has too few is told, in one put, and
+/// nothing else is written. What the schedule says is tested before.
+pub const ARE_TOO_LARGE: &str = "\
+$ build
+.bss
+.zero 8388608
+$ copy L I
+$ build
+.bss
+.zero 8392704
+$ copy M I
+$ build
+nop
+$ store C
+1 1
+0 2
+$ 3 share C 2048 I B L B M B
+refused 90 need 2305 have 2048
+$ 3 share C 2048 M B I B L B
+refused 90 need 2306 have 2048
+$ 3 share C 2305 I B L B I B M B
+refused 90 need 2306 have 2305
+$ cut 1 3 share C 2048 I B L B
+refused 90 need 2305 have 2048
+$ cut 0 6 share C 2048 I B L B
+$ 0 share C 2306 L B M B
+0 end steps 2
+1 end steps 1
+$ store C
+1 1
+2 1
+$ 3 share C 2048 L B M B
+refused 101 line 2
+";
+
 /// Turns of a kernel that sends a byte, I, by itself, twice, and beside one that reads its own text, J.
 pub const SHARED: &str = "\
 $ build
@@ -89,6 +278,13 @@ $ store C
 2 5
 $ 3 share C 2048 I B I B
 refused 101 line 1
+$ : lines without words are skipped, and one with two spaces has no form
+$ store C
+# 0 1
+
+0  3
+$ 3 share C 2048 I B I B
+refused 100 line 3
 $ 5 share X 2048 I B
 $ : the image is read before the schedule
 $ 3 share C 2048 B B

@@ -1,10 +1,11 @@
 //! What `prove` stores and prints is judged yes by `replay`, and what else is given to it is refused or told by its place.
 
 use crate::commands::{add, answer, are_same, built, is_so, joined, store};
+use crate::sessions::follow_over;
 use pv_io::MemFiles;
 use std::alloc::Global;
 use std::process::Abort;
-use worked_kernels::GOES_OVER_FORTY_TABLES;
+use worked_kernels::{GOES_OVER_FORTY_TABLES, NEEDS_MORE_FRAMES};
 
 const SENDS_A_BYTE: &str = "_start: movl $0x3f8,%edx\nmovb $0x48,%al\noutb %al,%dx\nhlt\n";
 
@@ -209,4 +210,10 @@ fn what_is_proved_is_judged_yes(rt: HostRuntime) {
     is_proved(&rt, alloc, READS_ITS_TEXT, 8, 4, "yes before stop 9\n");
     is_proved(&rt, alloc, GOES_OVER_FORTY_TABLES, 2000, 0, "yes\n");
     is_proved(&rt, alloc, HAS_A_LARGE_PAGE, 13, 0, "yes\n");
+}
+
+#[test]
+fn an_image_that_needs_more_frames_is_refused_last(rt: HostRuntime) {
+    let mut files = sent(&rt, rt.alloc());
+    follow_over(&rt, rt.alloc(), &mut files, NEEDS_MORE_FRAMES);
 }

@@ -1,13 +1,13 @@
 //! Kernels that are saved, go on from what was saved, and move between the machines.
 
-use crate::commands::{add, answer, are_same, file, holds, is_so, store};
+use crate::commands::{add, answer, are_same, file, holds, is_so, no_files, repeated, store};
 use crate::sessions::{follow, follow_over};
 use pv_io::MemFiles;
 use std::alloc::Global;
 use std::process::Abort;
 use worked_kernels::{
-    BETWEEN_STEPS, EVENTS, GOES_ON, IS_SAVED, NAMED, SAVED_IN_PLACE, SPOILED, USER,
-    USER_WITHOUT_INTERRUPTS,
+    BETWEEN_STEPS, EVENTS, FILLS_MEMORY, GOES_ON, IS_SAVED, LACKS_A_BYTE, NAMED, PASSES_MEMORY,
+    SAVED_IN_PLACE, SPOILED, USER, USER_WITHOUT_INTERRUPTS,
 };
 
 /// Bytes in hexadecimal, one space between two.
@@ -127,6 +127,33 @@ fn a_file_of_another_length_or_text_is_refused(rt: HostRuntime) {
     refuses(&rt, alloc, &mut files, &bytes, "refused 110 at 112\n");
 }
 
+/// Of 1,791 pages, each a NOP and what fills it, and then so many NOPs.
+fn long_source(rt: &impl Abort, alloc: Global, nops: usize) -> Vec<u8> {
+    let pages = repeated(rt, alloc, b"", b"nop; .p2align 12\n", 1791);
+    repeated(rt, alloc, &pages, b"nop\n", nops)
+}
+
+/// What was saved with 2,049 frames, as if there had been one less: the fourth byte behind the file's name is the low one of their
+/// number, and the last page is left out.
+fn loses_a_page(rt: &impl Abort, alloc: Global, files: &mut MemFiles, name: &str) {
+    let mut bytes = file(rt, alloc, files, name);
+    set(&mut bytes, 4, 0);
+    bytes.truncate(8_388_864);
+    store(rt, files, name, &bytes);
+}
+
+#[test]
+fn a_text_may_end_with_the_saved_memory_and_not_pass_it(rt: HostRuntime) {
+    let alloc = rt.alloc();
+    let mut files = no_files(&rt, alloc);
+    store(&rt, &mut files, "S", &long_source(&rt, alloc, 4094));
+    follow_over(&rt, alloc, &mut files, FILLS_MEMORY);
+    store(&rt, &mut files, "S", &long_source(&rt, alloc, 4095));
+    follow_over(&rt, alloc, &mut files, PASSES_MEMORY);
+    loses_a_page(&rt, alloc, &mut files, "D");
+    follow_over(&rt, alloc, &mut files, LACKS_A_BYTE);
+}
+
 /// Image, script and then the store, which fails: what was printed before stands.
 #[test]
 fn a_store_that_fails_leaves_what_was_printed(rt: HostRuntime) {
@@ -225,30 +252,12 @@ fn has_one_trace(rt: &impl Abort, alloc: Global, number: usize, counts: &[usize]
     holds(rt, number, are_same(&text, kernel.printed.as_bytes()));
 }
 
-/// A kernel whose timer interrupts it inside padding, with a move at each of ten steps from one on.
-fn moves_ten_times(rt: &impl Abort, alloc: Global, first: usize) {
-    let counts = from_on(rt, alloc, first, 10);
-    has_one_trace(rt, alloc, 1, &counts);
-}
-
+/// A kernel whose timer interrupts it inside padding: the count's bytes are written, it runs, and its first edge interrupts a NOP,
+/// to which IRET comes back.
 #[test]
-fn moves_before_the_count_runs_leave_one_trace(rt: HostRuntime) {
-    moves_ten_times(&rt, rt.alloc(), 36);
-}
-
-#[test]
-fn moves_while_the_count_runs_leave_one_trace(rt: HostRuntime) {
-    moves_ten_times(&rt, rt.alloc(), 46);
-}
-
-#[test]
-fn moves_about_the_interrupt_leave_one_trace(rt: HostRuntime) {
-    moves_ten_times(&rt, rt.alloc(), 56);
-}
-
-#[test]
-fn moves_behind_the_interrupt_leave_one_trace(rt: HostRuntime) {
-    moves_ten_times(&rt, rt.alloc(), 66);
+fn a_move_at_each_of_forty_steps_leaves_one_trace(rt: HostRuntime) {
+    let counts = from_on(&rt, rt.alloc(), 36, 40);
+    has_one_trace(&rt, rt.alloc(), 1, &counts);
 }
 
 /// A user, whose faults and gates lead to level 0 and back.

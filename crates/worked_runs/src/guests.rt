@@ -78,6 +78,7 @@ fn prints(rt: &impl Abort, alloc: Global, image: &Checked, first: u64, each: u64
     out
 }
 
+/// Whether two processors are one.
 pub fn is_same(mine: &Cpu, yours: &Cpu) -> bool {
     *mine == *yours
 }

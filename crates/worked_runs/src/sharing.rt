@@ -6,7 +6,8 @@ use pv_io::MemFiles;
 use std::alloc::Global;
 use std::process::Abort;
 use worked_kernels::{
-    COUNTS_AT_LEVEL_3, GOES_OVER_MANY_TABLES, IS_INTERRUPTED, SENDS_A_BYTE, SHARED,
+    ARE_TOO_LARGE, COUNTS_AT_LEVEL_3, FOUR_IN_TURNS, FOUR_TIMES, GOES_OVER_MANY_TABLES,
+    IS_HELD_OFF, IS_INTERRUPTED, SENDS_A_BYTE, SHARED, TURNS_END_HELD_OFF,
 };
 
 /// A kernel with its number, its source, the names of its object and image, and all of its steps.
@@ -100,6 +101,34 @@ fn a_schedule_has_its_limits(rt: HostRuntime) {
         &mut files,
         "$ 3 share C 2048 I B\nrefused 102 line 1025\n",
     );
+}
+
+#[test]
+fn a_turn_ends_while_interrupts_are_held_off(rt: HostRuntime) {
+    let alloc = rt.alloc();
+    let mut files = follow(&rt, alloc, IS_HELD_OFF);
+    follow_over(&rt, alloc, &mut files, TURNS_END_HELD_OFF);
+}
+
+#[test]
+fn one_image_runs_four_times_side_by_side(rt: HostRuntime) {
+    let alloc = rt.alloc();
+    let mut files = follow(&rt, alloc, IS_HELD_OFF);
+    store(&rt, &mut files, "C", FOUR_IN_TURNS.as_bytes());
+    let share = "share C 2048 I B I B I B I B";
+    let (number, out) = answer(&rt, alloc, &mut files, share, &[]);
+    assert_eq!(rt; number, 0);
+    took(&rt, &out, FOUR_TIMES.as_bytes());
+    let (_, alone) = answer(&rt, alloc, &mut files, "run --wedge I B 2048 70", &[]);
+    for (row, kernel) in b"0123".iter().enumerate() {
+        let mine = lines_of(&rt, alloc, out.bytes(), *kernel);
+        holds(&rt, row, are_same(&mine, alone.bytes()));
+    }
+}
+
+#[test]
+fn the_first_kernel_that_needs_more_frames_is_told(rt: HostRuntime) {
+    follow(&rt, rt.alloc(), ARE_TOO_LARGE);
 }
 
 #[test]

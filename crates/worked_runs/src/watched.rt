@@ -21,6 +21,7 @@ pub struct Watched {
 }
 
 impl Watched {
+    /// No run has begun.
     pub fn new() -> Watched
         ensures { result.machine.retired ≡ 0 }
     {
