@@ -5,7 +5,7 @@ use Rattle.asm_source.specs.declared.tree.Body.TheVariants as body
 use Rattle.asm_source.specs.declared.tree.SourceItem.{SourceItem}
 use Rattle.asm_source.specs.Readable.{names_in}
 use Rattle.elf_form.specs.ObjectParts.{ObjectParts}
-use Rattle.sites.specs.declared.limits.TheConstants.{TEXT_LIMIT, SITE_LIMIT}
+use Rattle.sites.specs.declared.limits.TheConstants.{TEXT_LIMIT, SITE_LIMIT, INIT_LIMIT}
 use Rattle.afterburner.specs.declared.fault.BurnCause.{BurnCause}
 use Rattle.afterburner.specs.declared.fault.BurnCause.TheVariants as cause
 use Rattle.afterburner.specs.declared.fault.BurnFault.{BurnFault}
@@ -32,7 +32,7 @@ made names st (body.Instruction rep name args) = instruction names st rep name a
 unfoldable pub limited : ObjectSoFar → Result ObjectSoFar BurnCause
 limited st =
     if nat_lt TEXT_LIMIT (length st.text) then Err cause.TextTooLarge
-    else if nat_lt 33554432 (length st.init + st.bss) then Err cause.InitTooLarge
+    else if nat_lt INIT_LIMIT (length st.init + st.bss) then Err cause.InitTooLarge
     else if nat_lt SITE_LIMIT (length st.sites) then Err cause.TooManySites
     else Ok st
 

@@ -1,6 +1,7 @@
 -- The directives, by families.
 use Rattle.std.specs.Prelude.{ℕ, ◌+◌, Bool, true, false, not, nat_lt, List, [], ◌∷◌, ◌++◌, length, replicate, fold, Option, Some, None, Result, Ok, Err, if◌then◌else◌}
 use Rattle.std.specs.List.{flat_map, list_all}
+use Rattle.sites.specs.declared.limits.TheConstants.{INIT_LIMIT}
 use Rattle.asm_source.specs.declared.tree.Argument.{Argument}
 use Rattle.asm_source.specs.Names.{symbol_in, name_number}
 use Rattle.elf_form.specs.declared.object.Reloc.{Reloc}
@@ -66,7 +67,7 @@ strings st ended args = in_init st (record st { init = st.init ++ flat_map (stri
 -- zero bytes; too many are not made first
 abbrev pub zeros_in : ObjectSoFar → Section → ℕ → Result ObjectSoFar BurnCause
 zeros_in st section.Text n = Err cause.DataInText
-zeros_in st section.Init n = if nat_lt 33554432 (length st.init + st.bss + n) then Err cause.InitTooLarge else Ok (record st { init = st.init ++ replicate n 0 })
+zeros_in st section.Init n = if nat_lt INIT_LIMIT (length st.init + st.bss + n) then Err cause.InitTooLarge else Ok (record st { init = st.init ++ replicate n 0 })
 zeros_in st section.Bss n = Ok (record st { bss = st.bss + n })
 
 abbrev pub zeros : ObjectSoFar → ℕ → Result ObjectSoFar BurnCause

@@ -1,6 +1,6 @@
 -- What the items so far make.
 use Rattle.std.specs.Prelude.{ℕ, Bool, false, List, [], length, replicate}
-use Rattle.elf_form.specs.declared.object.DefinedIn.TheVariants as place
+use Rattle.elf_form.specs.declared.object.Place.TheVariants as place
 use Rattle.elf_form.specs.declared.object.Reloc.{Reloc}
 use Rattle.sites.specs.declared.site.Site.{Site}
 use Rattle.afterburner.specs.declared.section.Section.{Section}

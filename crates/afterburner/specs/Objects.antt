@@ -1,7 +1,7 @@
 -- The object of what all items made.
 use Rattle.std.specs.Prelude.{ℕ, ◌+◌, Bool, true, false, not, List, [], ◌∷◌, ◌++◌, length, take, map, filter, count_by, slice_index, if◌then◌else◌}
-use Rattle.elf_form.specs.declared.object.DefinedIn.{DefinedIn}
-use Rattle.elf_form.specs.declared.object.DefinedIn.TheVariants as place
+use Rattle.elf_form.specs.declared.object.Place.{Place}
+use Rattle.elf_form.specs.declared.object.Place.TheVariants as place
 use Rattle.elf_form.specs.declared.object.Symbol.{Symbol}
 use Rattle.elf_form.specs.declared.object.Reloc.{Reloc}
 use Rattle.elf_form.specs.ObjectParts.{ObjectParts}
@@ -19,14 +19,14 @@ is_wide binding.Global = true
 is_wide _ = false
 
 -- An undefined name is global, and has the value 0.
-abbrev pub reaches : DefinedIn → Binding → Bool
+abbrev pub reaches : Place → Binding → Bool
 reaches place.Undefined b = true
 reaches p b = is_wide b
 
 abbrev pub is_global : Definition → Bool
 is_global d = reaches d.place d.binding
 
-abbrev pub value_at : DefinedIn → ℕ → ℕ
+abbrev pub value_at : Place → ℕ → ℕ
 value_at place.Undefined value = 0
 value_at p value = value
 

@@ -6,7 +6,7 @@ use Rattle.asm_source.specs.declared.tree.Body.TheVariants as body
 use Rattle.asm_source.specs.declared.directive_table.DirectiveName.{DirectiveName}
 use Rattle.asm_source.specs.declared.directive_table.DirectiveName.TheVariants as directive
 use Rattle.asm_instruction.specs.Refusals.{IsRefused, IsUnknown, IsWithoutRow, HasUnfitNumber}
-use Rattle.sites.specs.declared.limits.TheConstants.{TEXT_LIMIT, SITE_LIMIT}
+use Rattle.sites.specs.declared.limits.TheConstants.{TEXT_LIMIT, SITE_LIMIT, INIT_LIMIT}
 use Rattle.afterburner.specs.declared.fault.BurnCause.{BurnCause}
 use Rattle.afterburner.specs.declared.fault.BurnCause.TheVariants as cause
 use Rattle.ia32_types.specs.declared.size.Size.{Size}
@@ -46,9 +46,9 @@ pub data IsReason (names : List (List ℕ)) (st : ObjectSoFar) : Body → BurnCa
   range : {name : List ℕ} {args : List Argument} (w : Size) → given_size (directive_of name) ≡ Some w → all_fit w args ≡ false → IsReason names st (body.Directive name args) cause.ValueRange
   data_outside : {name : List ℕ} {args : List Argument} → gives_data (directive_of name) ≡ true → is_init st.section ≡ false → IsReason names st (body.Directive name args) cause.DataInText
   zeros_in_text : {name : List ℕ} {args : List Argument} → directive_of name ≡ directive.Zeros → is_text st.section ≡ true → IsReason names st (body.Directive name args) cause.DataInText
-  many_zeros : {name : List ℕ} {args : List Argument} → directive_of name ≡ directive.Zeros → is_init st.section ≡ true → 33554432 < length st.init + st.bss + count_at args 0 → IsReason names st (body.Directive name args) cause.InitTooLarge
+  many_zeros : {name : List ℕ} {args : List Argument} → directive_of name ≡ directive.Zeros → is_init st.section ≡ true → INIT_LIMIT < length st.init + st.bss + count_at args 0 → IsReason names st (body.Directive name args) cause.InitTooLarge
   long_text : {b : Body} (new : ObjectSoFar) → made names st b ≡ Ok new → TEXT_LIMIT < length new.text → IsReason names st b cause.TextTooLarge
-  large_data : {b : Body} (new : ObjectSoFar) → made names st b ≡ Ok new → 33554432 < length new.init + new.bss → IsReason names st b cause.InitTooLarge
+  large_data : {b : Body} (new : ObjectSoFar) → made names st b ≡ Ok new → INIT_LIMIT < length new.init + new.bss → IsReason names st b cause.InitTooLarge
   many_sites : {b : Body} (new : ObjectSoFar) → made names st b ≡ Ok new → SITE_LIMIT < length new.sites → IsReason names st b cause.TooManySites
 
 -- The condition of this cause holds of the item, and that of no cause with a lower number.

@@ -1,8 +1,8 @@
 -- The three sections, and what an item adds to the one it stands in.
 use Rattle.std.specs.Prelude.{ℕ, ◌+◌, Bool, true, false, ◌||◌, List, ◌++◌, length, replicate, codes, nat_lt, Option, Some, None, if◌then◌else◌}
 use Rattle.asm_source.specs.DirectiveTable.{begins}
-use Rattle.elf_form.specs.declared.object.DefinedIn.{DefinedIn}
-use Rattle.elf_form.specs.declared.object.DefinedIn.TheVariants as place
+use Rattle.elf_form.specs.declared.object.Place.{Place}
+use Rattle.elf_form.specs.declared.object.Place.TheVariants as place
 use Rattle.elf_form.specs.Output.{pad}
 use Rattle.afterburner.specs.declared.section.Section.{Section}
 use Rattle.afterburner.specs.declared.section.Section.TheVariants as section
@@ -17,7 +17,7 @@ abbrev pub is_init : Section → Bool
 is_init section.Init = true
 is_init _ = false
 
-abbrev pub place_of : Section → DefinedIn
+abbrev pub place_of : Section → Place
 place_of section.Text = place.Text
 place_of section.Init = place.Init
 place_of section.Bss = place.Bss

@@ -3,7 +3,7 @@ use Rattle.std.specs.Prelude.{◌≡◌, ℕ, ◌+◌, ◌<◌, ◌≤◌, max, 
 use Rattle.elf_form.specs.declared.object.Reloc.{Reloc}
 use Rattle.elf_form.specs.ObjectParts.{ObjectParts}
 use Rattle.sites.specs.declared.site.Site.{Site}
-use Rattle.sites.specs.declared.limits.TheConstants.{TEXT_LIMIT, SITE_LIMIT}
+use Rattle.sites.specs.declared.limits.TheConstants.{TEXT_LIMIT, SITE_LIMIT, INIT_LIMIT}
 use Rattle.sites.specs.Spelling.{spelling, AreInGaps, IsInForm}
 use Rattle.sites.specs.Limits.{in_text}
 use Rattle.asm_source.specs.Names.{holds}
@@ -36,7 +36,7 @@ pub record IsSound (count : ℕ) (st : ObjectSoFar) : Type 0 where
 -- The limits hold.
 pub record IsWithin (st : ObjectSoFar) : Type 0 where
   pub text : length st.text ≤ TEXT_LIMIT
-  pub init : length st.init + st.bss ≤ 33554432
+  pub init : length st.init + st.bss ≤ INIT_LIMIT
   pub sites : length st.sites ≤ SITE_LIMIT
 
 -- The names are among those of the source.
@@ -56,4 +56,4 @@ pub record IsAnnotated (o : ObjectParts) : Type 0 where
 -- The limits hold of an object.
 pub record IsSmall (o : ObjectParts) : Type 0 where
   pub text : length o.text ≤ TEXT_LIMIT
-  pub init : length o.init + o.bss ≤ 33554432
+  pub init : length o.init + o.bss ≤ INIT_LIMIT

@@ -1,6 +1,6 @@
 -- What labels and directives say of names.
 use Rattle.std.specs.Prelude.{ℕ, List, Option, Some, None, slice_index_or, slice_set, nat_lt, if◌then◌else◌}
-use Rattle.elf_form.specs.declared.object.DefinedIn.{DefinedIn}
+use Rattle.elf_form.specs.declared.object.Place.{Place}
 use Rattle.afterburner.specs.declared.symbol.Definition.{Definition}
 use Rattle.afterburner.specs.declared.symbol.Binding.{Binding}
 use Rattle.afterburner.specs.declared.symbol.Binding.TheVariants as binding
@@ -19,14 +19,14 @@ stronger a b = if nat_lt (strength a) (strength b) then b else a
 abbrev pub definition_of : List Definition → ℕ → Definition
 definition_of ds k = slice_index_or ds k undefined
 
-abbrev pub with_place : List Definition → ℕ → DefinedIn → ℕ → List Definition
+abbrev pub with_place : List Definition → ℕ → Place → ℕ → List Definition
 with_place ds k place value = slice_set ds k (record (definition_of ds k) { place = place; value = value })
 
 abbrev pub with_binding : List Definition → ℕ → Binding → List Definition
 with_binding ds k b = slice_set ds k (record (definition_of ds k) { binding = stronger (definition_of ds k).binding b })
 
 -- the name is defined at this place
-abbrev pub defined_at : List (List ℕ) → List Definition → List ℕ → DefinedIn → ℕ → List Definition
+abbrev pub defined_at : List (List ℕ) → List Definition → List ℕ → Place → ℕ → List Definition
 defined_at names ds name place value = with_place ds (name_number names name) place value
 
 -- a directive says how far the name reaches

@@ -6,7 +6,7 @@ ghost use Rattle.afterburner.specs.ObjectSoFar.{fresh, undefined};
 use crate::section::Section;
 use crate::symbol::{Binding, Definition};
 use asm_source::Names;
-use elf_form::{DefinedIn, Reloc};
+use elf_form::{Place, Reloc};
 use sites::Site;
 use std::alloc::{AllocError, Global};
 use std::marker::Model;
@@ -20,10 +20,12 @@ pub struct Assembly {
     pub after_sti: bool,
     pub text: Vec<u8>,
     pub init: Vec<u8>,
+    /// How many zeroed bytes there are.
     pub bss: usize,
     pub sites: Vec<Site>,
     pub text_relocs: Vec<Reloc>,
     pub data_relocs: Vec<Reloc>,
+    /// By the number of the name, in the order in which names were first seen.
     pub definitions: Vec<Definition>,
 }
 
@@ -32,14 +34,24 @@ impl Model for Assembly {
 
     ghost Value = { ObjectSoFar };
 
-    ghost view = { λ s. record { section = s.section; after_sti = s.after_sti; text = s.text.items; init = s.init.items; bss = s.bss; sites = s.sites.items; text_relocs = s.text_relocs.items; data_relocs = s.data_relocs.items; definitions = s.definitions.items } };
+    ghost view = { λ s. record {
+      section = s.section;
+      after_sti = s.after_sti;
+      text = s.text.items;
+      init = s.init.items;
+      bss = s.bss;
+      sites = s.sites.items;
+      text_relocs = s.text_relocs.items;
+      data_relocs = s.data_relocs.items;
+      definitions = s.definitions.items;
+    } };
 }
 
 fn undefined() -> Definition
     ensures { result ≡ undefined }
 {
     Definition {
-        place: DefinedIn::Undefined,
+        place: Place::Undefined,
         value: 0,
         binding: Binding::Unsaid,
     }

@@ -19,6 +19,7 @@ use crate::names::names_of;
 use crate::object::object;
 use asm_source::{Body, Names, Source, SourceItem};
 use elf_form::{Object, object_length};
+use sites::SYMBOL_LIMIT;
 use std::alloc::{AllocError, Global};
 
 impl Assembly {
@@ -31,7 +32,7 @@ impl Assembly {
     /// What an item makes.
     #[tactic(auto, unfolding(crate::specs::Burnt::made), using(crate::proofs::Items::labelled_sound, crate::proofs::Items::directed_sound))]
     fn make(&mut self, names: &Names, body: &Body) -> Result<(), ItemFault>
-        requires few { length names.now ≤ 65536 }
+        requires few { length names.now ≤ SYMBOL_LIMIT }
         requires size { body_count body.now ≤ LIMIT }
         requires held { AreHeld names.now (body_names body.now) }
         requires sound { IsSound (length names.now) self.old }
@@ -60,7 +61,7 @@ impl Assembly {
     /// What an item makes, within the limits.
     #[tactic(auto, unfolding(crate::specs::Burnt::item_made))]
     fn make_item(&mut self, names: &Names, body: &Body) -> Result<(), ItemFault>
-        requires few { length names.now ≤ 65536 }
+        requires few { length names.now ≤ SYMBOL_LIMIT }
         requires size { body_count body.now ≤ LIMIT }
         requires held { AreHeld names.now (body_names body.now) }
         requires sound { IsSound (length names.now) self.old }
@@ -114,7 +115,9 @@ pub fn burn(alloc: Global, source: &Source) -> Result<Object, BurnFault>
     // What is refused is the first item of which a cause's condition holds, for the lowest such cause.
     ensures first { Refuses source.now result }
     // Where an item is refused first in these words, the source is refused so, unless memory runs out.
-    ensures first_only { (line : ℕ) (cause : CauseView) → IsFirstRefused (names_in source.now) (fresh (names_in source.now)) source.now line cause → RefusesAs line cause result }
+    ensures first_only { (line : ℕ) (cause : CauseView)
+        → IsFirstRefused (names_in source.now) (fresh (names_in source.now)) source.now line cause
+        → RefusesAs line cause result }
     // A file can be written of the object.
     ensures writable { IfOk result (λ o. IsWholeObject o) }
     // Its annotations are those of sites in its text, in the format for so long a text.

@@ -8,13 +8,13 @@ ghost use Rattle.afterburner.specs.Directives as spec;
 use crate::argument::{number, symbol_in, text};
 use crate::assembly::Assembly;
 use crate::fault::{BurnCause, ItemFault};
-use crate::limits::INIT_LIMIT;
 use crate::section::{Section, is_init, put};
 use crate::value::put_value;
 use asm_instruction::fits_field;
 use asm_source::{Argument, Names};
 use elf_form::Reloc;
 use ia32_types::Size;
+use sites::{INIT_LIMIT, SYMBOL_LIMIT};
 use std::alloc::AllocError;
 
 fn all_fit(size: Size, arguments: &[Argument]) -> bool
@@ -71,7 +71,7 @@ impl Assembly {
 
     /// A value of four bytes, with the relocation of its name.
     fn put_long(&mut self, names: &Names, argument: &Argument) -> Result<(), AllocError>
-        requires few { length names.now ≤ 65536 }
+        requires few { length names.now ≤ SYMBOL_LIMIT }
         requires room { length self.old.init < 2 ^ 32 }
         ensures { OnOk result (self.new ≡ spec.with_long names.now self.old argument.now) }
     {
@@ -87,7 +87,7 @@ impl Assembly {
     }
 
     fn put_longs(&mut self, names: &Names, arguments: &[Argument]) -> Result<(), AllocError>
-        requires few { length names.now ≤ 65536 }
+        requires few { length names.now ≤ SYMBOL_LIMIT }
         requires room { length self.old.init + 4 * length arguments.now < 2 ^ 32 }
         ensures { OnOk result (self.new ≡ fold (spec.with_long names.now) self.old arguments.now) }
     {
@@ -100,7 +100,7 @@ impl Assembly {
     /// Values of four bytes.
     #[tactic(auto, unfolding(crate::specs::Directives::longs))]
     pub fn longs(&mut self, names: &Names, arguments: &[Argument]) -> Result<(), ItemFault>
-        requires few { length names.now ≤ 65536 }
+        requires few { length names.now ≤ SYMBOL_LIMIT }
         requires room { length self.old.init + 4 * length arguments.now < 2 ^ 32 }
         ensures { Makes self.new result (spec.longs names.now self.old arguments.now) }
     {

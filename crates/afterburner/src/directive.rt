@@ -11,6 +11,7 @@ use crate::section::{Section, section_named};
 use crate::symbol::Binding;
 use asm_source::{Argument, DirectiveName, Names, directive_name};
 use ia32_types::Size;
+use sites::SYMBOL_LIMIT;
 
 /// The directive of this name. One that is none says nothing, as one that is skipped.
 pub fn directive_of(name: &[u8]) -> DirectiveName
@@ -55,7 +56,7 @@ impl Assembly {
         directive: DirectiveName,
         arguments: &[Argument],
     ) -> Result<(), ItemFault>
-        requires few { length names.now ≤ 65536 }
+        requires few { length names.now ≤ SYMBOL_LIMIT }
         requires data { length self.old.init + 4 * length arguments.now < 2 ^ 32 }
         requires bss { self.old.bss + 4096 < 2 ^ 32 }
         ensures { Makes self.new result (spec.directed names.now self.old directive arguments.now) }

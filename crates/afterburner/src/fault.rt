@@ -8,23 +8,31 @@ use std::alloc::{AllocError, AllocFailed};
 use thiserror::Error;
 
 /// Why an item is refused. Of several causes of one item the first of these is told.
-#[derive(Clone, Copy, Debug, PartialEq, Eq)]
+#[derive(Clone, Copy, Debug, PartialEq, Eq, Error)]
 pub enum BurnCause {
     /// No instruction has the name.
+    #[error("no instruction has the name")]
     UnknownInstruction,
     /// The name is that of an instruction that is refused.
+    #[error("an instruction that is refused by its name")]
     RefusedInstruction,
     /// The instruction takes no such operands.
+    #[error("the instruction takes no such operands")]
     Operands,
     /// A number doesn't fit its field.
+    #[error("a number that doesn't fit its field")]
     ValueRange,
     /// The text is longer than 16,777,216 bytes.
+    #[error("more than 16777216 bytes of text")]
     TextTooLarge,
     /// The data and the zeroed bytes are more than 33,554,432 bytes together.
+    #[error("more than 33554432 bytes of data and zeroed bytes")]
     InitTooLarge,
     /// Data in text, data that isn't zero in zeroed bytes, or an instruction outside text.
+    #[error("data in text, data that isn't zero in zeroed bytes, or an instruction outside text")]
     DataInText,
     /// More than 262,144 sites.
+    #[error("more than 262144 sites")]
     TooManySites,
 }
 
@@ -49,16 +57,18 @@ impl BurnCause {
 /// The line of the first item that is refused and its cause, or that no memory was found.
 #[derive(Debug, Drop, Error)]
 pub enum BurnFault {
-    #[error("refused at line {line}: {cause:?}")]
+    #[error("refused at line {line}: {cause}")]
     At { line: u32, cause: BurnCause },
     #[error("no memory was found")]
     Memory,
 }
 
 /// Why the work at an item stops.
-#[derive(Drop)]
+#[derive(Debug, Drop, Error)]
 pub enum ItemFault {
+    #[error("{0}")]
     Cause(BurnCause),
+    #[error("no memory was found")]
     Memory,
 }
 

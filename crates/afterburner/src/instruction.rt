@@ -17,7 +17,7 @@ use asm_instruction::{Assembled, Named, Refusal, assemble};
 use asm_source::{Argument, Names};
 use elf_form::Reloc;
 use ia32_types::{SiteKind, sensitive};
-use sites::{Site, TEXT_LIMIT};
+use sites::{SYMBOL_LIMIT, Site, TEXT_LIMIT};
 use std::alloc::AllocError;
 
 /// NOP.
@@ -93,7 +93,7 @@ fn put_field(
     arguments: &[Argument],
     field: Option<Named>,
 ) -> Result<(), AllocError>
-    requires few { length names.now ≤ 65536 }
+    requires few { length names.now ≤ SYMBOL_LIMIT }
     requires room { at < 2 ^ 31 }
     ensures { OnOk result (relocs.new.items ≡ relocs.old.items ++ spec.field_reloc names.now at arguments.now field) }
 {
@@ -126,7 +126,9 @@ fn put_bytes(
     assembled: &Assembled,
 ) -> Result<(), AllocError>
     requires { assembled.now.spelling.len ≤ 16 }
-    ensures { OnOk result (out.new.items ≡ out.old.items ++ take assembled.now.spelling.len assembled.now.spelling.bytes ++ spec.nops (spec.nops_behind kind assembled.now.spelling.len)) }
+    ensures { OnOk result (out.new.items ≡ out.old.items
+        ++ take assembled.now.spelling.len assembled.now.spelling.bytes
+        ++ spec.nops (spec.nops_behind kind assembled.now.spelling.len)) }
 {
     out.extend_from_slice(spelled(assembled))?;
     put(out, nops_behind(kind, assembled.spelling.len), NOP)
@@ -140,9 +142,11 @@ fn put_fields(
     arguments: &[Argument],
     assembled: &Assembled,
 ) -> Result<(), AllocError>
-    requires few { length names.now ≤ 65536 }
+    requires few { length names.now ≤ SYMBOL_LIMIT }
     requires room { at < 2 ^ 31 }
-    ensures { OnOk result (relocs.new.items ≡ relocs.old.items ++ spec.field_reloc names.now at arguments.now assembled.now.disp ++ spec.field_reloc names.now at arguments.now assembled.now.imm) }
+    ensures { OnOk result (relocs.new.items ≡ relocs.old.items
+        ++ spec.field_reloc names.now at arguments.now assembled.now.disp
+        ++ spec.field_reloc names.now at arguments.now assembled.now.imm) }
 {
     put_field(relocs, names, at, arguments, assembled.disp)?;
     put_field(relocs, names, at, arguments, assembled.imm)
@@ -157,7 +161,7 @@ impl Assembly {
         arguments: &[Argument],
         assembled: &Assembled,
     ) -> Result<(), AllocError>
-        requires few { length names.now ≤ 65536 }
+        requires few { length names.now ≤ SYMBOL_LIMIT }
         requires room { length self.old.text < 2 ^ 31 }
         requires len { assembled.now.spelling.len ≤ 16 }
         ensures made { OnOk result (self.new ≡ spec.added names.now self.old arguments.now assembled.now) }
@@ -198,7 +202,7 @@ impl Assembly {
         arguments: &[Argument],
         assembled: &Assembled,
     ) -> Result<(), AllocError>
-        requires few { length names.now ≤ 65536 }
+        requires few { length names.now ≤ SYMBOL_LIMIT }
         requires room { length self.old.text ≤ TEXT_LIMIT }
         requires short { HasBoundedLength assembled.now }
         requires fields { HasFields arguments.now assembled.now }
@@ -224,7 +228,7 @@ impl Assembly {
         name: &[u8],
         arguments: &[Argument],
     ) -> Result<(), ItemFault>
-        requires few { length names.now ≤ 65536 }
+        requires few { length names.now ≤ SYMBOL_LIMIT }
         requires room { length self.old.text ≤ TEXT_LIMIT }
         requires held { AreHeld names.now (argument_names arguments.now) }
         requires sound { IsSound (length names.now) self.old }

@@ -16,17 +16,25 @@ ghost use Rattle.afterburner.specs.Objects.{symbol, symbols_seen, ordered, order
 /// A relocation names the symbol of its argument: in the order of an object's symbols, local ones
 /// first, the symbol of the name that was seen as number k has the number that its relocations get.
 pub fn relocations_name_their_symbols()
-    ensures { (names : List (List ℕ)) (ds : List DefinitionView) (k : ℕ) (name : List ℕ) → length names ≡ length ds → slice_get names k ≡ Some name → slice_get (ordered (symbols_seen names ds)) (ordered_number ds k) ≡ Some (symbol name (definition_of ds k)) }
+    ensures { (names : List (List ℕ)) (ds : List DefinitionView) (k : ℕ) (name : List ℕ) → length names ≡ length ds
+        → slice_get names k ≡ Some name → slice_get (ordered (symbols_seen names ds)) (ordered_number ds k)
+        ≡ Some (symbol name (definition_of ds k)) }
 {}
 
 /// Of the causes whose conditions hold of an item the lowest is told, and an item of which none holds is made.
 pub fn lowest_cause_is_told()
-    ensures told { (names : List (List ℕ)) (so_far : ObjectSoFar) (body : BodyView) (cause : CauseView) → item_made names so_far body ≡ Err cause → IsLowestReason names so_far body cause }
-    ensures only { (names : List (List ℕ)) (so_far : ObjectSoFar) (body : BodyView) (cause : CauseView) → IsLowestReason names so_far body cause → item_made names so_far body ≡ Err cause }
-    ensures made { (names : List (List ℕ)) (so_far made : ObjectSoFar) (body : BodyView) (cause : CauseView) → item_made names so_far body ≡ Ok made → IsReason names so_far body cause → ⊥ }
+    ensures told { (names : List (List ℕ)) (so_far : ObjectSoFar) (body : BodyView) (cause : CauseView)
+        → item_made names so_far body ≡ Err cause → IsLowestReason names so_far body cause }
+    ensures only { (names : List (List ℕ)) (so_far : ObjectSoFar) (body : BodyView) (cause : CauseView)
+        → IsLowestReason names so_far body cause → item_made names so_far body ≡ Err cause }
+    ensures made { (names : List (List ℕ)) (so_far made : ObjectSoFar) (body : BodyView) (cause : CauseView)
+        → item_made names so_far body ≡ Ok made → IsReason names so_far body cause → ⊥ }
 {}
 
 /// Items have one line and one cause alone with which one of them is refused first.
 pub fn one_refusal_comes_first()
-    ensures { (items : List ItemView) (line other : ℕ) (cause second : CauseView) → IsFirstRefused (names_in items) (fresh (names_in items)) items line cause → IsFirstRefused (names_in items) (fresh (names_in items)) items other second → (line ≡ other) × (cause ≡ second) }
+    ensures { (items : List ItemView) (line other : ℕ) (cause second : CauseView)
+        → IsFirstRefused (names_in items) (fresh (names_in items)) items line cause
+        → IsFirstRefused (names_in items) (fresh (names_in items)) items other second → (line ≡ other)
+        × (cause ≡ second) }
 {}

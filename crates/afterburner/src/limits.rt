@@ -6,10 +6,7 @@ ghost use Rattle.afterburner.specs.Sound.{IsWithin};
 
 use crate::assembly::Assembly;
 use crate::fault::{BurnCause, ItemFault};
-use sites::{SITE_LIMIT, TEXT_LIMIT};
-
-/// Bytes of data and zeroed bytes together.
-pub const INIT_LIMIT: usize = 33554432;
+use sites::{INIT_LIMIT, SITE_LIMIT, TEXT_LIMIT};
 
 /// Tests the limits behind an item.
 #[tactic(auto, unfolding(crate::specs::Burnt::limited))]

@@ -9,8 +9,8 @@ ghost use Rattle.elf_form.specs.declared.object.Reloc.{Reloc};
 use crate::assembly::Assembly;
 use crate::symbol::{Binding, Definition};
 use asm_source::Names;
-use elf_form::{Bytes, DefinedIn, Object, Reloc, Symbol};
-use sites::{of_text, write_sites};
+use elf_form::{Bytes, Object, Place, Reloc, Symbol};
+use sites::{SITE_LIMIT, SYMBOL_LIMIT, of_text, write_sites};
 use std::alloc::{AllocError, Global};
 
 fn is_wide(binding: Binding) -> bool
@@ -27,7 +27,7 @@ fn is_global(definition: Definition) -> bool
     ensures { result ≡ spec.is_global definition }
 {
     match definition.place {
-        DefinedIn::Undefined => true,
+        Place::Undefined => true,
         _ => is_wide(definition.binding),
     }
 }
@@ -36,7 +36,7 @@ fn value(definition: Definition) -> u32
     ensures { result ≡ spec.value_at definition.place definition.value }
 {
     match definition.place {
-        DefinedIn::Undefined => 0,
+        Place::Undefined => 0,
         _ => definition.value,
     }
 }
@@ -119,7 +119,7 @@ fn local_count(definitions: &[Definition]) -> usize
 
 /// For the number of each name that of its symbol: local symbols come before global ones.
 fn ordered_numbers(alloc: Global, definitions: &[Definition]) -> Result<Vec<u32>, AllocError>
-    requires { length definitions.now ≤ 65536 }
+    requires { length definitions.now ≤ SYMBOL_LIMIT }
     ensures numbers { IfOk result (λ v. v.items ≡ map (spec.ordered_number definitions.now) (range_with_len 0 (length definitions.now))) }
     ensures count { IfOk result (λ v. length v.items ≡ length definitions.now) }
 {
@@ -176,7 +176,7 @@ fn relocs(
     text: &[Reloc],
     init: &[Reloc],
 ) -> Result<Vec<Reloc>, AllocError>
-    requires count { length definitions.now ≤ 65536 }
+    requires count { length definitions.now ≤ SYMBOL_LIMIT }
     requires text { All (λ (r : Reloc). r.symbol < length definitions.now) text.now }
     requires init { All (λ (r : Reloc). r.symbol < length definitions.now) init.now }
     ensures { IfOk result (λ v. v.items ≡ map (spec.renumbered definitions.now) (text.now ++ init.now)) }
@@ -192,11 +192,11 @@ fn relocs(
 #[tactic(auto, unfolding(crate::specs::Objects::object))]
 pub fn object(alloc: Global, names: &Names, made: Assembly) -> Result<Object, AllocError>
     requires definitions { length made.definitions ≡ length names.now }
-    requires count { length made.definitions ≤ 65536 }
+    requires count { length made.definitions ≤ SYMBOL_LIMIT }
     requires text { All (λ (r : Reloc). r.symbol < length made.definitions) made.text_relocs }
     requires init { All (λ (r : Reloc). r.symbol < length made.definitions) made.data_relocs }
     requires bss { made.bss < 2 ^ 32 }
-    requires few { length made.sites ≤ 262144 }
+    requires few { length made.sites ≤ SITE_LIMIT }
     requires sites { AreSites 0 made.sites }
     requires gaps { AreGapped 0 made.sites }
     ensures { IfOk result (λ o. o ≡ spec.object names.now made) }

@@ -5,7 +5,7 @@ ghost use Rattle.afterburner.specs.Sections as spec;
 
 use crate::assembly::Assembly;
 use asm_source::begins;
-use elf_form::{DefinedIn, pad};
+use elf_form::{Place, pad};
 use std::alloc::AllocError;
 
 /// The section that a piece of a source stands in: text, data or zeroed bytes.
@@ -16,6 +16,7 @@ pub enum Section {
     Bss,
 }
 
+/// Whether it is the section of text.
 pub fn is_text(section: Section) -> bool
     ensures { result ≡ spec.is_text section }
 {
@@ -25,6 +26,7 @@ pub fn is_text(section: Section) -> bool
     }
 }
 
+/// Whether it is the section of data.
 pub fn is_init(section: Section) -> bool
     ensures { result ≡ spec.is_init section }
 {
@@ -34,13 +36,14 @@ pub fn is_init(section: Section) -> bool
     }
 }
 
-pub fn place_of(section: Section) -> DefinedIn
+/// How an object's symbols name the section.
+pub fn place_of(section: Section) -> Place
     ensures { result ≡ spec.place_of section }
 {
     match section {
-        Section::Text => DefinedIn::Text,
-        Section::Init => DefinedIn::Init,
-        Section::Bss => DefinedIn::Bss,
+        Section::Text => Place::Text,
+        Section::Init => Place::Init,
+        Section::Bss => Place::Bss,
     }
 }
 
@@ -92,6 +95,7 @@ impl Assembly {
         }
     }
 
+    /// From here on items stand in this section.
     pub fn enter(&mut self, section: Section)
         ensures { self.new ≡ spec.entered self.old section }
     {

@@ -8,12 +8,13 @@ ghost use Rattle.afterburner.specs.Sections as sections;
 use crate::assembly::Assembly;
 use crate::section::place_of;
 use asm_source::{Name, Names};
-use elf_form::{DefinedIn, pad};
+use elf_form::{Place, pad};
 
 /// How far a name reaches, by the strongest directive that spoke of it. A name of which none spoke
 /// is local, unless it is undefined.
 #[derive(Clone, Copy)]
 pub enum Binding {
+    /// No directive spoke of it.
     Unsaid,
     /// `.comm`: global.
     Common,
@@ -26,7 +27,7 @@ pub enum Binding {
 /// Where a name is defined, as an offset in its section, and how far it reaches.
 #[derive(Clone, Copy)]
 pub struct Definition {
-    pub place: DefinedIn,
+    pub place: Place,
     pub value: u32,
     pub binding: Binding,
 }
@@ -48,7 +49,7 @@ fn stronger(a: Binding, b: Binding) -> Binding
     if strength(a) < strength(b) { b } else { a }
 }
 
-fn define(definitions: &mut [Definition], number: usize, place: DefinedIn, value: u32)
+fn define(definitions: &mut [Definition], number: usize, place: Place, value: u32)
     ensures { definitions.new ≡ spec.with_place definitions.old number place value }
 {
     if number < definitions.len() {
@@ -107,7 +108,7 @@ impl Assembly {
         if let Some(name) = name {
             let value = self.bss as u32;
             let number = names.number_of(&name.bytes);
-            define(&mut self.definitions, number, DefinedIn::Bss, value);
+            define(&mut self.definitions, number, Place::Bss, value);
         }
     }
 

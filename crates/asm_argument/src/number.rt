@@ -18,7 +18,8 @@ fn digit_of(b: u8) -> u8
 /// The number that these digits go on with, where it is below 2^32.
 fn digits_value(base: u8, so_far: u32, bytes: &[u8]) -> Option<u32>
     requires base { 1 ≤ base }
-    ensures { result ≡ (if nat_lt (spec.digits_value base so_far bytes.now) (2 ^ 32) then Some (spec.digits_value base so_far bytes.now) else None) }
+    ensures { result ≡ (if nat_lt (spec.digits_value base so_far bytes.now) (2 ^ 32)
+        then Some (spec.digits_value base so_far bytes.now) else None) }
 {
     let mut value = so_far;
     for b in bytes {

@@ -154,6 +154,7 @@ pub fn discard(so_far: Partial) {
     }
 }
 
+/// An operand in memory: displacement, base, index, and a scale of 1, 2, 4 or 8.
 pub fn of_memory(value: Option<Value>, base: Option<Name>, index: Option<Name>, scale: u8) -> Form
     ensures { result ≡ shapes.of_memory value base index scale }
 {
@@ -473,6 +474,7 @@ pub fn finished(so_far: Partial) -> Option<Form>
     }
 }
 
+/// Whether the argument may end here.
 pub fn is_finished(so_far: &Partial) -> bool
     ensures { result ≡ spec.is_finished so_far.now }
 {
@@ -482,6 +484,7 @@ pub fn is_finished(so_far: &Partial) -> bool
     }
 }
 
+/// Whether nothing was read of an argument that may not be absent.
 pub fn is_nothing(so_far: &Partial) -> bool
     ensures { result ≡ spec.is_nothing so_far.now }
 {

@@ -42,6 +42,7 @@ fn is_alignment(n: u32) -> bool
 }
 
 impl Shape {
+    /// Whether registers and memory may stand there.
     pub(crate) fn is_operand(self) -> bool
         ensures { result ≡ shapes.is_operand self }
     {
@@ -51,6 +52,7 @@ impl Shape {
         }
     }
 
+    /// Whether a name may stand there.
     pub(crate) fn takes_names(self) -> bool
         ensures { result ≡ shapes.takes_names self }
     {
@@ -60,6 +62,7 @@ impl Shape {
         }
     }
 
+    /// Whether a name may have a constant behind it.
     pub(crate) fn takes_sums(self) -> bool
         ensures { result ≡ shapes.takes_sums self }
     {
@@ -69,6 +72,7 @@ impl Shape {
         }
     }
 
+    /// Whether a number may have a minus before it.
     pub(crate) fn takes_minus(self) -> bool
         ensures { result ≡ shapes.takes_minus self }
     {
@@ -83,6 +87,7 @@ impl Shape {
         }
     }
 
+    /// Whether a number may stand there.
     pub(crate) fn takes_numbers(self) -> bool
         ensures { result ≡ shapes.takes_numbers self }
     {
@@ -110,6 +115,7 @@ impl Shape {
         }
     }
 
+    /// Whether a string may stand there.
     pub(crate) fn takes_text(self) -> bool
         ensures { result ≡ shapes.takes_text self }
     {

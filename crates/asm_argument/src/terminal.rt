@@ -9,6 +9,7 @@ use asm_lex::TokenKind;
 use asm_source::Name;
 use std::alloc::{AllocError, Global};
 
+/// A terminal of the grammar: a mark, a name, a number, a string, or the end of a statement.
 #[derive(Drop)]
 pub enum Terminal {
     Percent,

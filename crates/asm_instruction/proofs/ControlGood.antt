@@ -22,8 +22,7 @@ use Rattle.asm_instruction.specs.Sizes.{agreed}
 use Rattle.asm_instruction.specs.Draft.{nothing, register_or_memory, said, instruction, with_number, alone}
 use Rattle.asm_instruction.specs.Arithmetic.{one}
 use Rattle.asm_instruction.specs.Control.{distance, to_symbol, is_symbol, to_operand, direct, indirect, return_of, returned, with_selector, far, with_condition, set, control_draft}
-use Rattle.asm_instruction.proofs.Goods.{When, bind_from, bind_any, choice, word_below, distance_below, PlaceGood, MemoryGood, GivenGood, OperandsGood, DraftGood, family_good, branch_direct, branch_indirect}
-use Rattle.asm_instruction.proofs.Goods.{Good, instruction_good, instruction_op, instruction_numbered, rom_good, Plain}
+use Rattle.asm_instruction.proofs.Goods.{When, bind_from, bind_any, choice, word_below, distance_below, PlaceGood, MemoryGood, GivenGood, OperandsGood, DraftGood, family_good, branch_direct, branch_indirect, Good, instruction_good, instruction_op, instruction_numbered, rom_good, Plain}
 
 module _ (args : List Argument) where
   pub both_true_first : (a b : Bool) → (a && b) ≡ true → a ≡ true

@@ -24,8 +24,7 @@ use Rattle.asm_instruction.specs.Strings.{as_string, string_draft}
 use Rattle.asm_instruction.specs.Flags.{without_operands, plain_draft}
 use Rattle.asm_instruction.specs.System.{through, between, ported, memory_alone, of_memory, task, system_draft}
 use Rattle.asm_instruction.specs.Mnemonic.{by_family, repeated, drafted, without_repeat}
-use Rattle.asm_instruction.proofs.Goods.{When, bind_from, bind_any, choice, PlaceGood, GivenGood, OperandsGood, DraftGood, family_good, not_direct}
-use Rattle.asm_instruction.proofs.Goods.{Good, instruction_good, instruction_op, instruction_numbered, rom_good, arithmetic_good, shift_good}
+use Rattle.asm_instruction.proofs.Goods.{When, bind_from, bind_any, choice, PlaceGood, GivenGood, OperandsGood, DraftGood, family_good, not_direct, Good, instruction_good, instruction_op, instruction_numbered, rom_good, arithmetic_good, shift_good}
 use Rattle.asm_instruction.proofs.MovesGood.{move_good, stack_good}
 use Rattle.asm_instruction.proofs.ControlGood.{control_good}
 

@@ -27,8 +27,7 @@ use Rattle.asm_instruction.specs.Sizes.{agreed}
 use Rattle.asm_instruction.specs.Draft.{of_operand, nothing, register_operand, register_or_memory, said, paired}
 use Rattle.asm_instruction.specs.Moves.{special, from_segment, to_segment, from_control, to_control, general, moved, into_long, extended, effective, with_register, exchange, exchanged, move_draft}
 use Rattle.asm_instruction.specs.Stack.{of_long, of_general, of_number, pushed, popped, stack_draft}
-use Rattle.asm_instruction.proofs.Goods.{bind_from, bind_any, PlaceGood, PairGood, GivenGood, OperandsGood, DraftGood, family_good, not_direct}
-use Rattle.asm_instruction.proofs.Goods.{Good, instruction_good, instruction_numbered, rom_good, paired_good, of_pair_good, to_register_good}
+use Rattle.asm_instruction.proofs.Goods.{bind_from, bind_any, PlaceGood, PairGood, GivenGood, OperandsGood, DraftGood, family_good, not_direct, Good, instruction_good, instruction_numbered, rom_good, paired_good, of_pair_good, to_register_good}
 
 module _ (args : List Argument) where
   pub special_good : (o : Op) (f : Option Size) (g : Given) (a b : NumberedOperand) → is_direct_branch o ≡ false → PlaceGood a → PlaceGood b → Good args (special o f g a b)

@@ -154,6 +154,7 @@ fn product(suffix: Option<Size>, operands: Operands) -> Option<Draft>
     }
 }
 
+/// The instruction of this kind with these operands, which stand in AT&T order. None where the kind has no such form.
 #[tactic(auto, unfolding(crate::specs::Arithmetic::arithmetic_draft))]
 pub fn arithmetic_draft(kind: Arithmetic, suffix: Option<Size>, operands: Operands) -> Option<Draft>
     ensures { result ≡ spec.arithmetic_draft kind suffix operands }

@@ -32,6 +32,8 @@ pub struct Named {
 pub struct Assembled {
     pub spelling: ArrayBytes,
     pub insn: Insn,
+    /// The displacement, where it names a symbol.
     pub disp: Option<Named>,
+    /// The immediate or distance, where it names a symbol.
     pub imm: Option<Named>,
 }

@@ -133,7 +133,8 @@ pub fn assemble(rep: bool, name: &[u8], arguments: &[Argument]) -> Result<Assemb
     // No row has such operands.
     ensures operands { (result ≡ Err Refusal.Operands) ↔ IsWithoutRow rep name.now arguments.now }
     // A row has them, and a number doesn't fit its field.
-    ensures range { (result ≡ Err Refusal.ValueRange) ↔ ((IsWithoutRow rep name.now arguments.now → ⊥) × HasUnfitNumber rep name.now arguments.now) }
+    ensures range { (result ≡ Err Refusal.ValueRange) ↔
+        ((IsWithoutRow rep name.now arguments.now → ⊥) × HasUnfitNumber rep name.now arguments.now) }
 {
     by_name(rep, name, arguments)
 }

@@ -172,6 +172,7 @@ fn far(selector: Number, offset: Number) -> Option<Draft>
     })
 }
 
+/// The instruction of this kind with these operands, which stand in AT&T order. None where the kind has no such form.
 #[tactic(auto, unfolding(crate::specs::Control::control_draft))]
 pub fn control_draft(kind: Control, suffix: Option<Size>, operands: Operands) -> Option<Draft>
     ensures { result ≡ spec.control_draft kind suffix operands }

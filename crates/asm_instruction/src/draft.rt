@@ -38,6 +38,7 @@ pub enum Pair {
     FromMemory(NumberedOperand, u8),
 }
 
+/// No operand.
 pub const NOTHING: NumberedOperand = NumberedOperand {
     operand: Operand::Absent,
     displacement: None,
@@ -53,12 +54,14 @@ pub fn of_operand(operand: Operand) -> NumberedOperand
     }
 }
 
+/// A general register, by its number at the instruction's size.
 pub fn register_operand(number: u8) -> NumberedOperand
     ensures { result ≡ spec.register_operand number }
 {
     of_operand(Operand::Register(number))
 }
 
+/// Memory, with the number that its displacement is.
 pub fn memory(memory: Memory) -> NumberedOperand
     ensures { result ≡ spec.memory memory }
 {

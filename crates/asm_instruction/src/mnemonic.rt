@@ -33,6 +33,7 @@ pub enum Family {
 #[derive(Clone, Copy)]
 pub struct Mnemonic {
     pub family: Family,
+    /// The operand size that it says.
     pub suffix: Option<Size>,
 }
 

@@ -222,6 +222,7 @@ fn exchanged(suffix: Option<Size>, source: Given, destination: Given) -> Option<
     }
 }
 
+/// The instruction of this kind with these operands, which stand in AT&T order. None where the kind has no such form.
 #[tactic(auto, unfolding(crate::specs::Moves::move_draft))]
 pub fn move_draft(kind: Moves, suffix: Option<Size>, operands: Operands) -> Option<Draft>
     ensures { result ≡ spec.move_draft kind suffix operands }

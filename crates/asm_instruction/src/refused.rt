@@ -26,6 +26,7 @@ const REFUSED_NAMES: [(&[u8], Refused); 16] = [
     (b"wrmsr", Refused::Wrmsr),
 ];
 
+/// The instruction that is refused by this name. Names are in lower case.
 #[tactic(auto, unfolding(crate::specs::Refused::refused_names))]
 pub fn refused_name(name: &[u8]) -> Option<Refused>
     ensures { result ≡ found spec.refused_names name.now }

@@ -71,6 +71,7 @@ const SEGMENT_REGISTERS: [(&[u8], Seg); 4] = [
     (b"ds", Seg::Ds),
 ];
 
+/// The segment register of a name, without its `%`. FS and GS have none (profile).
 #[tactic(auto, unfolding(crate::specs::Register::segment_registers))]
 pub fn segment_register(name: &[u8]) -> Option<Seg>
     ensures { result ≡ found segment_registers name.now }

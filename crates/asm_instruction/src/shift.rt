@@ -65,6 +65,7 @@ fn by_register(op: Op, suffix: Option<Size>, given: Given) -> Option<Draft>
     Some(instruction(op, size, place, register_operand(1)))
 }
 
+/// The shift by 1, by a number or by CL, with these operands. None where there is no such form.
 #[tactic(auto, unfolding(crate::specs::Shift::shift_draft))]
 pub fn shift_draft(op: Op, suffix: Option<Size>, operands: Operands) -> Option<Draft>
     ensures { result ≡ spec.shift_draft op suffix operands }

@@ -105,6 +105,7 @@ fn popped(suffix: Option<Size>, given: Given) -> Option<Draft>
     }
 }
 
+/// PUSH or POP of one operand. None where there is no such form.
 #[tactic(auto, unfolding(crate::specs::Stack::stack_draft))]
 pub fn stack_draft(kind: Stack, suffix: Option<Size>, operands: Operands) -> Option<Draft>
     ensures { result ≡ spec.stack_draft kind suffix operands }

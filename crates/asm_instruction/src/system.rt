@@ -112,6 +112,7 @@ fn task(suffix: Option<Size>, given: Given) -> Option<Draft>
     Some(unary(Op::LoadTask, Size::Long, place))
 }
 
+/// The instruction of this kind with these operands, which stand in AT&T order. None where the kind has no such form.
 #[tactic(auto, unfolding(crate::specs::System::system_draft))]
 pub fn system_draft(kind: System, suffix: Option<Size>, operands: Operands) -> Option<Draft>
     ensures { result ≡ spec.system_draft kind suffix operands }

@@ -10,12 +10,14 @@ ghost use Rattle.asm_lex.specs.Tokens.{AreTokens};
 
 /// The words of a refusal fit a text with one line and one cause alone.
 pub fn one_refusal_fits()
-    ensures { (text : List ℕ) (line other : ℕ) (cause second : CauseView) → IsRefused text line cause → IsRefused text other second → (line ≡ other) × (cause ≡ second) }
+    ensures { (text : List ℕ) (line other : ℕ) (cause second : CauseView) → IsRefused text line cause →
+        IsRefused text other second → (line ≡ other) × (cause ≡ second) }
 {}
 
 /// What is refused in these words has no tokens.
 pub fn refused_has_no_tokens()
-    ensures { (text : List ℕ) (line : ℕ) (cause : CauseView) (tokens : List TokenView) → IsRefused text line cause → AreTokens text tokens → ⊥ }
+    ensures { (text : List ℕ) (line : ℕ) (cause : CauseView) (tokens : List TokenView) → IsRefused text line cause →
+        AreTokens text tokens → ⊥ }
 {}
 
 /// What has no tokens is refused in some line for some cause.
@@ -30,5 +32,6 @@ pub fn one_line_is_first_dead()
 
 /// The line of what is wrong first is that line, but for a comment that doesn't end.
 pub fn refused_line_is_first_dead()
-    ensures { (text : List ℕ) (line : ℕ) (cause : CauseView) → IsRefused text line cause → (cause ≡ OpenComment → ⊥) → IsFirstDead text line }
+    ensures { (text : List ℕ) (line : ℕ) (cause : CauseView) → IsRefused text line cause →
+        (cause ≡ OpenComment → ⊥) → IsFirstDead text line }
 {}

@@ -1,9 +1,8 @@
 //! The tokens of a source.
 
-ghost use Rattle.std.specs.Prelude.{◌≡◌, ◌<◌, ◌≤◌, ◌++◌, ◌∷◌, [], length, List, IfOk, OnOk};
+ghost use Rattle.std.specs.Prelude.{◌≡◌, ◌<◌, ◌≤◌, ◌++◌, ◌∷◌, [], length, List, IfOk, OnOk, ℕ};
 ghost use Rattle.std.specs.Option.{option_to_list};
 ghost use Rattle.asm_lex.specs.declared.token.Token.{Token};
-ghost use Rattle.std.specs.Prelude.{ℕ};
 ghost use Rattle.asm_lex.specs.declared.fault.SourceCause.{SourceCause as CauseView};
 ghost use Rattle.asm_lex.specs.declared.fault.SourceCause.TheVariants.{TooLong};
 ghost use Rattle.asm_lex.specs.declared.fault.SourceFault.TheVariants.{At};
@@ -129,7 +128,8 @@ pub fn lex(alloc: Global, text: &[u8]) -> Result<Vec<Token>, SourceFault>
     ensures cause { length text.now ≤ LIMIT → RefusedFor text.now result }
 
     // Where these words say a line and a cause of the text, it is refused so, unless memory runs out.
-    ensures cause_only { length text.now ≤ LIMIT → (line : ℕ) (cause : CauseView) → IsRefused text.now line cause → RefusesAs line cause result }
+    ensures cause_only { length text.now ≤ LIMIT → (line : ℕ) (cause : CauseView) → IsRefused text.now line cause →
+        RefusesAs line cause result }
 
     // The scan from left to right, with the first fault and its line.
     ensures exact { length text.now ≤ LIMIT → spec.LexesTo result (spec.token_scan spec.between 0 1 (text.now ++ 10 ∷ [])) }

@@ -1,6 +1,6 @@
 -- A line that ends outside a comment leaves nothing open, so the text up to it has a reading.
-use Rattle.std.proofs.Common.{◌≡◌, ℕ, Bool, true, false, cond, List, [], ◌∷◌, ◌++◌, length, Option, Some, None, Result, Ok, Err, refl, sym, ap, subst, ◌∙◌}
-use Rattle.std.specs.Prelude.{nat_lt}
+use Rattle.std.proofs.Common.{◌≡◌, ℕ, Bool, true, false, cond, List, [], ◌∷◌, ◌++◌, length, Option, Some, None, Result, Ok, Err, refl, sym, ap, subst, ◌∙◌, zero, suc}
+use Rattle.std.specs.Prelude.{nat_lt, ◌==◌, ◌&&◌, ◌+◌}
 use Rattle.asm_lex.specs.declared.fault.SourceCause.{SourceCause}
 use Rattle.asm_lex.specs.declared.fault.SourceCause.TheVariants as cause
 use Rattle.asm_argument.specs.declared.terminal.Terminal.{Terminal}
@@ -34,8 +34,6 @@ use Rattle.asm_lex.specs.Lines.{first_lines}
 use Rattle.asm_statement.specs.Running.{Running, goes_on, second_does, byte_does, one_byte_over, moved, one_byte, run, start, closed, read}
 use Rattle.asm_parse.proofs.Lines.{bind_ok, IsRead, run_ok}
 use Rattle.asm_parse.proofs.Linking.{goes_is}
-use Rattle.std.proofs.Common.{zero, suc}
-use Rattle.std.specs.Prelude.{◌==◌, ◌&&◌, ◌+◌}
 use Rattle.std.proofs.lemmas.Bool.{eqb-true}
 use Rattle.asm_argument.specs.Operand.{operand_step, is_finished}
 use Rattle.asm_statement.specs.Statement.{at_shape, complete, end_behind, ended, is_bare, argument_step, nothing_yet, of_directive, step, next_step, fault_line}

@@ -14,10 +14,9 @@ use Rattle.asm_statement.specs.ScopeView.{ScopeView}
 use Rattle.asm_statement.specs.Scope.{fresh}
 use Rattle.asm_argument.specs.Terminals.{terminal_of}
 use Rattle.asm_statement.specs.Reading.{placed, ending_at, next_word}
-use Rattle.asm_statement.specs.Items.{is_part}
+use Rattle.asm_statement.specs.Items.{is_part, sectioned}
 use Rattle.asm_parse.proofs.Words.{read_words}
 use Rattle.asm_statement.specs.Statement.{next_step, fault_line}
-use Rattle.asm_statement.specs.Items.{sectioned}
 use Rattle.asm_parse.specs.Statements.{is_inner, are_flags, terminals, text_of, Touch, IsStatement, Statements}
 use Rattle.asm_parse.proofs.Stated.{is_naming, not_longer}
 use Rattle.asm_parse.proofs.Quiet.{WordGoes, word_goes, Answer}

@@ -31,11 +31,10 @@ use Rattle.asm_lex.specs.declared.token.TokenKind.{TokenKind}
 use Rattle.asm_lex.specs.declared.token.TokenKind.TheVariants as token
 use Rattle.asm_argument.specs.Terminals.{mark_terminal, number_terminal, number_value, terminal_of}
 use Rattle.asm_statement.specs.Reading.{Fault, placed, is_longer, ending_at, next_word}
-use Rattle.asm_statement.specs.Items.{is_part}
+use Rattle.asm_statement.specs.Items.{is_part, item_of, resumed, sectioned, is_passed}
 use Rattle.asm_statement.specs.Running.{◌>>=◌}
 use Rattle.asm_parse.proofs.Words.{read_words}
 use Rattle.asm_statement.specs.Statement.{with_name, after_step, at_shape, within, argument_step, nothing_yet, named_step, colon_behind, label, labelled, unless_skipping, other_behind, of_directive, skip, sectioned_step, flags_step, start_step, step, strayed, next_step, fault_line, with_scope}
-use Rattle.asm_statement.specs.Items.{item_of, resumed, sectioned, is_passed}
 use Rattle.asm_statement.specs.Directives.{shape_at, least, defines, is_instruction, is_dotted, directive_of, is_section}
 use Rattle.asm_source.specs.Names.{symbol_in}
 use Rattle.asm_parse.specs.Statements.{IsSeen, Sees, IsArgument, Separated, HasArguments, is_inner, is_unlabelled, is_nameless, are_flags, has_list, Statement, terminals, text_of, Touch, IsStatement, Statements}

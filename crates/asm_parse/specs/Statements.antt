@@ -18,8 +18,7 @@ use Rattle.asm_statement.specs.Scope.{has_room, pushed, noted, defined_too}
 use Rattle.asm_argument.specs.Shapes.{is_operand}
 use Rattle.asm_argument.specs.Grammar.{IsForm}
 use Rattle.asm_argument.specs.Terminals.{terminal_of}
-use Rattle.asm_statement.specs.Items.{is_part}
-use Rattle.asm_statement.specs.Items.{item_of, resumed, sectioned, is_rep, is_passed}
+use Rattle.asm_statement.specs.Items.{is_part, item_of, resumed, sectioned, is_rep, is_passed}
 use Rattle.asm_statement.specs.Directives.{shape_at, least, defines, is_dotted, is_section, directive_of}
 
 -- ---- names

@@ -14,7 +14,8 @@ pub fn sources_are_readable()
 
 /// In the grammar's words a text is refused in one line and for one cause alone.
 pub fn one_cause_fits()
-    ensures { (text : List ℕ) (line other : ℕ) (cause second : SourceCause) → Refused text line cause → Refused text other second → (line ≡ other) × (cause ≡ second) }
+    ensures { (text : List ℕ) (line other : ℕ) (cause second : SourceCause) → Refused text line cause →
+        Refused text other second → (line ≡ other) × (cause ≡ second) }
 {}
 
 /// What is refused in the grammar's words has no reading.

@@ -1,7 +1,6 @@
 //! The items of a source.
 
-ghost use Rattle.std.specs.Prelude.{◌≡◌, ◌≤◌, ◌<◌};
-ghost use Rattle.std.specs.Prelude.{ℕ, length, List, IfOk};
+ghost use Rattle.std.specs.Prelude.{◌≡◌, ◌≤◌, ◌<◌, ℕ, length, List, IfOk};
 ghost use Rattle.asm_source.specs.declared.tree.SourceItem.{SourceItem};
 ghost use Rattle.asm_parse.specs.Source.{SourceAs, ReadsAs, DeadAt, AliveBefore};
 ghost use Rattle.asm_source.specs.Readable.{IsReadable};
@@ -48,7 +47,8 @@ pub fn parse(alloc: Global, text: &[u8]) -> Result<Source, SourceFault>
     ensures cause { length text.now ≤ LIMIT → RefusedFor text.now result }
 
     // Where these words say a line and a cause of the text, it is refused so, unless memory runs out.
-    ensures cause_only { length text.now ≤ LIMIT → (line : ℕ) (cause : CauseView) → Refused text.now line cause → RefusesAs line cause result }
+    ensures cause_only { length text.now ≤ LIMIT → (line : ℕ) (cause : CauseView) → Refused text.now line cause →
+        RefusesAs line cause result }
 {
     read_text(alloc, text)
 }

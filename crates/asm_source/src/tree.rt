@@ -20,6 +20,7 @@ impl Model for Name {
 #[derive(Drop)]
 pub struct Value {
     pub name: Option<Name>,
+    /// The number, or the constant that is added to the name's address.
     pub number: i64,
 }
 

@@ -342,6 +342,7 @@ pub fn argument_step(
     }
 }
 
+/// A statement that begins in this line, before its first argument.
 pub fn nothing_yet(alloc: Global, line: u32, head: Head) -> Open
     ensures { result ≡ spec.nothing_yet line head }
 {

@@ -33,6 +33,7 @@ pub enum Head {
     Directive { kind: Directive, name: Name },
 }
 
+/// What may stand as the argument at this place, counted from 0. None where there is none.
 pub fn shape_at(head: &Head, index: usize) -> Option<Shape>
     ensures { result ≡ spec.shape_at head.now index }
 {
@@ -91,6 +92,7 @@ fn directive_shape(kind: Directive, index: usize) -> Option<Shape>
     }
 }
 
+/// How many arguments there must be.
 pub fn least(head: &Head) -> usize
     ensures { result ≡ spec.least head.now }
 {
@@ -110,6 +112,7 @@ fn directive_least(kind: Directive) -> usize
     }
 }
 
+/// Whether the statement is an instruction.
 pub fn is_instruction(head: &Head) -> bool
     ensures { result ≡ spec.is_instruction head.now }
 {
@@ -132,6 +135,7 @@ pub fn defines(head: &Head, index: usize) -> bool
     }
 }
 
+/// Whether the name is the prefix REP.
 #[tactic(auto, unfolding(crate::specs::Items::is_rep))]
 pub fn is_rep(name: &Name) -> bool
     ensures { result ≡ is_rep name.now }
@@ -169,6 +173,7 @@ fn directive_of(name: &[u8]) -> Option<Directive>
     }
 }
 
+/// What the arguments of the directive of this name are, its dot included. None where no directive has the name.
 pub fn directive_named(name: &Name) -> Option<Directive>
     ensures { result ≡ spec.directive_of name.now }
 {
@@ -184,6 +189,7 @@ fn begins_with_dot(name: &[u8]) -> bool
     }
 }
 
+/// Whether it is a directive's name by its first byte.
 pub fn is_dotted(name: &Name) -> bool
     ensures { result ≡ spec.is_dotted name.now }
 {
@@ -210,12 +216,14 @@ fn is_unread(name: &[u8]) -> bool
         || begins(name, b".eh_frame")
 }
 
+/// Whether `.section` may name it, to be read or to be skipped.
 pub fn is_section(name: &Name) -> bool
     ensures { result ≡ spec.is_section name.now }
 {
     is_known(&name.bytes) || is_unread(&name.bytes)
 }
 
+/// Whether what stands in the section is skipped: notes, comments, debug lines and unwind tables (profile).
 pub fn is_skipped_section(name: &Name) -> bool
     ensures { result ≡ spec.is_unread name.now }
 {
@@ -241,6 +249,7 @@ pub fn is_defining(directive: Option<Directive>) -> bool
     }
 }
 
+/// Whether the directive of this name begins another section.
 pub fn changes_section(name: &Name) -> bool
     ensures { result ≡ spec.changes_section name.now }
 {

@@ -6,6 +6,7 @@ ghost use Rattle.asm_statement.specs.declared.fault.StepFault.TheVariants.{Memor
 use asm_lex::SourceCause;
 use std::alloc::{AllocError, AllocFailed};
 
+/// Why the statement isn't read on: the source is refused, or memory isn't found.
 #[derive(Drop)]
 pub enum StepFault {
     Cause(SourceCause),

@@ -12,12 +12,6 @@ mod state;
 mod statement;
 mod text;
 
-pub use asm_argument::{Escape, Partial, Shape, Terminal, Unescaped, ValuePlace};
-pub use asm_lex::LIMIT;
-pub use asm_source::{
-    Argument, Arguments, Body, DirectiveName, Form, Name, Source, SourceItem, Value, begins,
-    directive_name,
-};
 pub use directive::{Directive, Head};
 pub use fault::StepFault;
 pub use scope::Scope;

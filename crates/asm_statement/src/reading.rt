@@ -130,7 +130,8 @@ fn feed_word(
     bytes: &[u8],
 ) -> Result<StatementState, SourceFault>
     requires { at + length bytes.now < 2 ^ 63 }
-    ensures { spec.Feeds scope.new result (spec.placed (fault_line scope.old state line) (spec.next_word scope.old state (record { kind = kind; at = at; line = line; bytes = bytes.now }))) }
+    ensures { spec.Feeds scope.new result (spec.placed (fault_line scope.old state line)
+        (spec.next_word scope.old state (record { kind = kind; at = at; line = line; bytes = bytes.now }))) }
 {
     let end = at + bytes.len();
     if is_longer(&state, at, kind, bytes) {

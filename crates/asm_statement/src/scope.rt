@@ -27,6 +27,7 @@ impl Model for Scope {
 }
 
 impl Scope {
+    /// Before the first statement: no item, no name, nothing skipped.
     pub fn new(alloc: Global) -> Scope
         ensures { result ≡ spec.fresh }
     {
@@ -38,18 +39,21 @@ impl Scope {
         }
     }
 
+    /// Whether statements are skipped, since the section is one that isn't read.
     pub fn is_skipping(&self) -> bool
         ensures { result ≡ self.now.skipping }
     {
         self.skipping
     }
 
+    /// Whether a statement before has defined the name.
     pub fn is_defined(&self, name: &Name) -> bool
         ensures { result ≡ holds self.now.defined name.now }
     {
         self.defined.holds(&name.bytes)
     }
 
+    /// Whether the name was seen, or is one of the first 65,536 (profile).
     pub fn has_room(&self, name: &Name) -> bool
         ensures { result ≡ spec.has_room self.now name.now }
     {
@@ -63,6 +67,7 @@ impl Scope {
         self.defined.len() >= 65536
     }
 
+    /// From here on statements are skipped, or read.
     pub fn set_skipping(&mut self, skipping: bool)
         ensures { self.new ≡ record self.old { skipping = skipping } }
     {
@@ -108,6 +113,7 @@ impl Scope {
         discard_names(defined);
     }
 
+    /// The items in the order of the source.
     pub fn into_items(self) -> Vec<SourceItem>
         ensures { result.items ≡ self.items }
     {

@@ -8,16 +8,21 @@ use asm_source::{Arguments, Name};
 /// A directive or an instruction as far as it has been read.
 #[derive(Drop)]
 pub struct Open {
+    /// The line of its first token, counted from 1.
     pub line: u32,
     pub head: Head,
+    /// Those that are whole.
     pub arguments: Arguments,
+    /// Whether `*` stands before the argument that is read.
     pub star: bool,
+    /// The argument that is read.
     pub so_far: Partial,
 }
 
 /// What a statement has left open.
 #[derive(Drop)]
 pub enum StatementState {
+    /// Nothing.
     Start,
     /// A name, which may be a label or begin a directive or an instruction, and its line.
     Named {

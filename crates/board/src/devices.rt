@@ -1,3 +1,5 @@
+//! The board: its devices, what comes to them, their ports and their interrupts.
+
 ghost use Rattle.std.specs.Prelude.{◌≡◌, ◌<◌, false, true, not, ◌&&◌, Some, IsSome};
 ghost use Rattle.board.specs.Scripts.{event_fits, is_script};
 ghost use Rattle.board.specs.Boards.{at_reset, serial_line, edged, board_steps, with_uart, happened, given, comes_within, vector, acknowledged};
@@ -21,6 +23,7 @@ const SERIAL_LINE: u8 = 4;
 /// What a read of a port gives.
 #[derive(Clone, Copy, Debug, PartialEq, Eq)]
 pub enum PortRead {
+    /// 8 or 32 bits, as the read is wide.
     Value(u32),
     /// The board doesn't serve this read, and nothing changed.
     Stop,

@@ -1,3 +1,5 @@
+//! Why a script is refused.
+
 use thiserror::Error;
 
 /// Why a line of a script is refused. The program prints 80 to 84 for them, in this order.

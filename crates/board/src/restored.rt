@@ -64,6 +64,7 @@ fn chip_at(bytes: &[u8; 64], at: usize) -> Chip
     }
 }
 
+/// Both controllers: the master's seven bytes from 0 on, the slave's from 7 on.
 pub fn controllers_at(bytes: &[u8; 64]) -> Pair
     ensures { result ≡ controllers_at bytes.now }
 {
@@ -90,6 +91,7 @@ fn count_of(period: u32, next_period: u32, left: u64) -> Option<Count>
     })
 }
 
+/// The timer, of bytes 14 to 31: its phase, a low byte that waits, its period and its next one, and the steps left.
 pub fn timer_at(bytes: &[u8; 64]) -> Timer
     ensures { result ≡ timer_at bytes.now }
 {
@@ -103,6 +105,7 @@ pub fn timer_at(bytes: &[u8; 64]) -> Timer
     }
 }
 
+/// What the serial port was set to, of bytes 32 to 37.
 pub fn settings_at(bytes: &[u8; 64]) -> Settings
     ensures { result ≡ settings_at bytes.now }
 {
@@ -171,7 +174,8 @@ fn port_meets(bytes: &[u8; 64]) -> bool
 }
 
 fn are_met(bytes: &[u8; 64]) -> bool
-    ensures { result ≡ (all_met (chip_demands bytes.now 0) && all_met (chip_demands bytes.now 7) && stands_for_slave (controllers_at bytes.now) && all_met (timer_demands bytes.now) && all_met (port_demands bytes.now)) }
+    ensures { result ≡ (all_met (chip_demands bytes.now 0) && all_met (chip_demands bytes.now 7)
+        && stands_for_slave (controllers_at bytes.now) && all_met (timer_demands bytes.now) && all_met (port_demands bytes.now)) }
 {
     chip_meets(bytes, 0)
         && chip_meets(bytes, 7)

@@ -1,3 +1,5 @@
+//! A script: events from outside, by the step that they come in.
+
 ghost use Rattle.std.specs.Prelude.{◌≡◌, true};
 ghost use Rattle.std.specs.List.Sorted.{IsNonDecreasingBy};
 ghost use Rattle.ia32_types.specs.Firsts.{IsFirst};

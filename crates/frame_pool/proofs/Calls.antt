@@ -12,37 +12,11 @@ use Rattle.frame_pool.proofs.Chains.{AreSame-from_but, free_list-same, Stands-sa
 pub SameBut-with_word32 : (m : List ℕ) (f o v : ℕ) → 4096 * f + o + 4 ≤ length m → o + 4 ≤ 4096 → SameBut f m (with_word32 m (4096 * f + o) v)
 SameBut-with_word32 m f o v h l = record { size = length-with_word32 m (4096 * f + o) v h; others = λ g ne. frame-with_word32 m f o v g h l ne }
 
-pub SameBut-with_part : (m : List ℕ) (f o : ℕ) (bs : List ℕ) → 4096 * f + o + length bs ≤ length m → o + length bs ≤ 4096 → SameBut f m (with_part m (4096 * f + o) bs)
-SameBut-with_part m f o bs h l = record { size = length-with_part m (4096 * f + o) bs h; others = λ g ne. frame-with_part m f o bs g h l ne }
-
-pub SameBut-refl : (f : ℕ) (m : List ℕ) → SameBut f m m
-SameBut-refl f m = record { size = refl; others = λ g ne. refl }
-
-pub SameBut-trans : (f : ℕ) (m m' m'' : List ℕ) → SameBut f m m' → SameBut f m' m'' → SameBut f m m''
-SameBut-trans f m m' m'' s t = record { size = t.size ∙ s.size; others = λ g ne. t.others g ne ∙ s.others g ne }
-
--- a frame outside the pool is none of its free frames
-pub IsNotIn-from_outside : (b n f : ℕ) (gs : List ℕ) → (f < b) ⊎ (b + n ≤ f) → AreWithin b n gs → IsNotIn f gs
-IsNotIn-from_outside b n f [] o w = tt
-IsNotIn-from_outside b n f (g ∷ gs) o w =
-    let low = w.0 in let high = w.1 in
-    (elim o [ inl h ↦ λ e. omega (arith, h, e, low) | inr h ↦ λ e. omega (arith, h, e, high) ], IsNotIn-from_outside b n f gs o w.2)
-
-pub free_list-outside : (p : Pool) (m m' : List ℕ) (f : ℕ) → Stands p m → (f < p.base) ⊎ (p.base + p.count ≤ f) → SameBut f m m' → free_list p m' ≡ free_list p m
-free_list-outside p m m' f s o t = free_list-same p m m' (AreSame-from_but m m' f _ t (IsNotIn-from_outside p.base p.count f _ o s.within))
-
-pub Stands-outside : (p : Pool) (m m' : List ℕ) (f : ℕ) → Stands p m → (f < p.base) ⊎ (p.base + p.count ≤ f) → SameBut f m m' → Stands p m'
-Stands-outside p m m' f s o t = Stands-same p m m' t.size (AreSame-from_but m m' f _ t (IsNotIn-from_outside p.base p.count f _ o s.within)) s
-
 -- a frame that is out stays out where the free list is the same
 pub IsOut-same : (p : Pool) (m m' : List ℕ) (f : ℕ) → free_list p m' ≡ free_list p m → IsOut p m f → IsOut p m' f
 IsOut-same p m m' f e o = record { low = o.low; high = o.high; out = subst (IsNotIn f) (sym e) o.out }
 
 -- ---- `take`
-
--- it was not out
-pub Takes-was_not_out : (p p' : Pool) (m m' : List ℕ) (f : ℕ) → Takes p p' m m' f → IsOut p m f → ⊥
-Takes-was_not_out p p' m m' f t o = let n = subst (IsNotIn f) t.list o.out in n.0 refl
 
 -- what was out still is, and is another frame
 pub Takes-others : (p p' : Pool) (m m' : List ℕ) (f g : ℕ) → Takes p p' m m' f → IsOut p m g → IsOut p' m' g × (g ≢ f)

@@ -51,9 +51,6 @@ Stands-same p m m' l h s =
 pub free_list-out : (p : Pool) (m m' : List ℕ) (f : ℕ) → IsOut p m f → SameBut f m m' → free_list p m' ≡ free_list p m
 free_list-out p m m' f o s = free_list-same p m m' (AreSame-from_but m m' f (free_list p m) s o.out)
 
-pub Stands-out : (p : Pool) (m m' : List ℕ) (f : ℕ) → IsOut p m f → SameBut f m m' → Stands p m → Stands p m'
-Stands-out p m m' f o s = Stands-same p m m' s.size (AreSame-from_but m m' f (free_list p m) s o.out)
-
 -- ---- `give`
 
 pub give-fits : (p : Pool) (m : List ℕ) (f : ℕ) → Stands p m → IsOut p m f → p.free < p.count

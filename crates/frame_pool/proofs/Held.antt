@@ -149,9 +149,6 @@ Stands-apart p m m' s e = Stands-same p m m' e.size (same-of m m' (free_list p m
 pub Moves-kept : (p : Pool) (m m' fs fs' : List ℕ) → Owns p m fs → fs' ≡ fs → Writes fs m m' → Moves p p m m' fs fs'
 Moves-kept p m m' fs fs' o e w = Moves-counts p p m m' fs fs fs' (λ f. ap (times f) e) (Moves-writes p m m' fs o w)
 
-pub length-kept : (p : Pool) (m m' fs : List ℕ) → Owns p m fs → Writes fs m m' → length (free_list p m') ≡ length (free_list p m)
-length-kept p m m' fs o w = ap length (free_list-writes p m m' fs o w)
-
 -- a frame that is given back is held no more
 pub Moves-give : (p p' : Pool) (m m' fs : List ℕ) (f : ℕ) → free_list p' m' ≡ f ∷ free_list p m → Stands p' m' → SameFrames p p' → SameBut f m m' → Moves p p' m m' (f ∷ fs) fs
 Moves-give p p' m m' fs f list stands same but =
@@ -200,7 +197,3 @@ Owns-counts p m fs gs e o =
 pub Moves-counts_from : (p p' : Pool) (m m' fs gs fs' : List ℕ) → ((f : ℕ) → times f gs ≡ times f fs) → Moves p p' m m' fs fs' → Moves p p' m m' gs fs'
 Moves-counts_from p p' m m' fs gs fs' e v =
     Moves-from p p' m m' gs fs' v.size v.same v.stands (λ f. (let t = v.together f in let c = e f in omega (arith, t, c))) (λ g a b. v.others g a (let c = e g in omega (arith, c, b)))
-
-pub Holds-counts : (m fs gs : List ℕ) → ((f : ℕ) → times f gs ≡ times f fs) → Holds m fs → Holds m gs
-Holds-counts m fs gs e h =
-    record { room = λ f k. h.room f (let c = e f in omega (arith, c, k)); once = λ f. (let c = e f in let s = h.once f in omega (arith, c, s)) }

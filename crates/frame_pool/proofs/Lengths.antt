@@ -22,9 +22,6 @@ hit-self f = elim (hit-is f f) [ inl t ↦ t.1 | inr n ↦ absurd (n.0 refl) ]
 pub hit-other : (f g : ℕ) → f ≢ g → hit f g ≡ 0
 hit-other f g ne = elim (hit-is f g) [ inl t ↦ absurd (ne t.0) | inr n ↦ n.1 ]
 
-pub hit-le : (f g : ℕ) → hit f g ≤ 1
-hit-le f g = elim (hit-is f g) [ inl t ↦ let e = t.1 in omega (arith, e) | inr n ↦ let e = n.1 in omega (arith, e) ]
-
 pub times-cons : (f g : ℕ) (gs : List ℕ) → times f (g ∷ gs) ≡ hit f g + times f gs
 unfolding times
 times-cons f g gs = refl

@@ -1,3 +1,5 @@
+//! How an instruction of the host, or a run of it, ends.
+
 use ia32_types::Regs;
 
 /// Why the host doesn't go on. The registers are those before the exiting instruction.

@@ -75,7 +75,8 @@ fn fetching<'a>(
     requires root { 4096 * root < length ram.now }
     requires kept { AreKept walks.old ram.now root }
     requires one { at % 4096 + len ≤ 4096 }
-    ensures fetching { MatchResult result (λ bytes. fetching ram.now root at len ≡ Ok bytes.now) (λ exit. fetching ram.now root at len ≡ Err exit) }
+    ensures fetching { MatchResult result (λ bytes. fetching ram.now root at len ≡ Ok bytes.now)
+        (λ exit. fetching ram.now root at len ≡ Err exit) }
     ensures count { IfOk result (λ bytes. length bytes.now ≡ len) }
     ensures kept { AreKept walks.new ram.now root }
 {

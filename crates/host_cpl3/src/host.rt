@@ -1,3 +1,5 @@
+//! The unprivileged processor and its memory, as a trait.
+
 ghost use Rattle.std.specs.Prelude.{◌≡◌, ◌+◌, ◌*◌, ◌<◌, ◌≤◌, ◌^◌, ℕ, List, Bool, true, length, replicate, OnErr, OnOk};
 ghost use Rattle.std.specs.Borrow.{sem, Lends};
 ghost use Rattle.guest_ram.specs.contracts.Ram.{the_row};

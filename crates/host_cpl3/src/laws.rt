@@ -1,3 +1,5 @@
+//! Laws of the host's runs.
+
 ghost use Rattle.host_cpl3.specs.Borders.{BeginsBelow, EachBeginsBelow, EntersTheWindow, ExitsInTheWindow};
 ghost use Rattle.host_cpl3.specs.RunsTo.{EachIsRun};
 

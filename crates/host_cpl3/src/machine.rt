@@ -1,3 +1,5 @@
+//! A host that does each instruction by its definition.
+
 ghost use Rattle.std.specs.Prelude.{◌≡◌, ◌+◌, ◌*◌, ◌<◌, ◌^◌, length, Some, false, is_some, refl};
 ghost use Rattle.ia32_exec.specs.Digest.{digest};
 ghost use Rattle.host_cpl3.specs.HostRun.{host_run};
@@ -65,7 +67,8 @@ fn run(
 ) -> Exit
     requires root { 4096 * view.now.root < length ram.old }
     requires room { retired.old + k < 2 ^ 64 }
-    ensures runs { host_run view.now k (standing regs.old ram.old retired.old passed.old) ≡ (result, standing regs.new ram.new retired.new passed.new) }
+    ensures runs { host_run view.now k (standing regs.old ram.old retired.old passed.old)
+        ≡ (result, standing regs.new ram.new retired.new passed.new) }
     ensures len { length ram.new ≡ length ram.old }
 {
     walks.forget();

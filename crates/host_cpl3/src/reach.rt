@@ -6,8 +6,11 @@ ghost use Rattle.std.specs.Prelude.{◌<◌, ◌^◌};
 /// address.
 #[derive(Clone, Copy)]
 pub struct Reach {
+    /// The linear address of its first byte.
     pub at: u32,
+    /// In bytes.
     pub len: u32,
+    /// The number of the frame of its first page, and of its last.
     pub first: u32,
     pub last: u32,
     ghost small: { (first < 2 ^ 20) × (last < 2 ^ 20) },
@@ -17,6 +20,7 @@ impl Reach {
     ghost use Rattle.std.specs.Prelude.{◌≡◌};
     ghost use Rattle.host_cpl3.specs.Reaches.{holds, placed};
 
+    /// A range of no bytes.
     pub fn none() -> Reach
         ensures { result.len ≡ 0 }
     {
@@ -28,6 +32,7 @@ impl Reach {
         }
     }
 
+    /// Whether the linear address is one of the range's.
     pub fn holds(&self, at: u32) -> bool
         ensures { result ≡ holds self.now at }
     {

@@ -94,7 +94,8 @@ fn finish(
     requires read_of { IsOf (ranges_of insn.now regs.now).read read }
     requires write_of { IsOf (ranges_of insn.now regs.now).write write }
     requires kept { AreKept walks.old ram.old view.now.root }
-    ensures gives { Gives result ram.old ram.new (finished view.now insn.now.op ram.old (user_effect (selectors_of view.now) insn.now len regs.now (byte_at ram.old view.now.root))) }
+    ensures gives { Gives result ram.old ram.new (finished view.now insn.now.op ram.old
+        (user_effect (selectors_of view.now) insn.now len regs.now (byte_at ram.old view.now.root))) }
     ensures len { length ram.new ≡ length ram.old }
     ensures kept { AreKept walks.new ram.new view.now.root }
 {

@@ -1,3 +1,5 @@
+//! What a view lets its code see. The windows and the limit are the profile's.
+
 ghost use Rattle.std.specs.Prelude.{◌≡◌};
 ghost use Rattle.host_cpl3.specs.Views.{selectors_of, is_null, is_entry, is_past_limit};
 
@@ -9,16 +11,21 @@ use ia32_types::Seg;
 /// access.
 #[derive(Clone, Copy, Debug, PartialEq, Eq)]
 pub struct View {
+    /// Whether it is the kernel's view or a user's.
     pub kernel: bool,
+    /// The number of the directory's frame in the host's memory.
     pub root: u32,
+    /// The selectors that the code reads.
     pub cs: u16,
     pub ss: u16,
     pub ds: u16,
     pub es: u16,
+    /// Whether DS is null, and then whether ES is.
     pub ds_null: bool,
     pub es_null: bool,
 }
 
+/// What the segment registers show to the code.
 pub fn selectors_of(view: &View) -> Selectors
     ensures { result ≡ selectors_of view.now }
 {
@@ -30,6 +37,7 @@ pub fn selectors_of(view: &View) -> Selectors
     }
 }
 
+/// Whether the segment denies every access. CS and SS never do.
 pub fn is_null(view: &View, seg: Seg) -> bool
     ensures { result ≡ is_null view.now seg }
 {

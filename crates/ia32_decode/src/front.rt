@@ -1,3 +1,5 @@
+//! How many bytes of one page an instruction may have.
+
 ghost use Rattle.std.specs.Prelude.{◌≡◌, ◌+◌, ◌%◌, ◌<◌, ◌≤◌};
 ghost use Rattle.ia32_decode.specs.Front.{front_len};
 

@@ -1,3 +1,5 @@
+//! Laws of `decode` over the spellings.
+
 ghost use Rattle.std.specs.Prelude.{◌≡◌, ℕ, List, ◌++◌, length};
 ghost use Rattle.ia32_types.specs.declared.insn.Insn.{Insn};
 ghost use Rattle.ia32_rows.specs.Spells.{Spells, AreBytes};

@@ -1,3 +1,5 @@
+//! `encode`: the chosen spelling of an instruction.
+
 ghost use Rattle.std.specs.Prelude.{◌≡◌, ◌↔◌, ◌==◌, ◌&&◌, ◌||◌, not, ℕ, List, take, IsTrue, Option, Some, None, OnOk, OnErr, IfOk, MatchResult, IsErr};
 ghost use Rattle.ia32_rows.specs.Fields.{imm_len};
 ghost use Rattle.ia32_rows.specs.Spelling.{insn_of};

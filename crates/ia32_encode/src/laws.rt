@@ -1,3 +1,5 @@
+//! Laws of chosen spellings: which of several forms is taken.
+
 ghost use Rattle.std.specs.Prelude.{◌≡◌, ◌+◌, ◌*◌, ◌%◌, ◌<◌, ◌∷◌, [], ℕ, Bool, true, Some, None};
 ghost use Rattle.ia32_types.specs.declared.insn.Op.TheVariants.{Return, Push, Pop, Mov, Jmp, Call, Jcc};
 ghost use Rattle.ia32_types.specs.declared.insn.Operand.TheVariants.{Absent, Register, Memory};
@@ -31,7 +33,8 @@ pub fn short_forms()
 pub fn branches_are_long()
     ensures jmp { (w : Bool) (distance : ℕ) → Begins (0xe9 ∷ []) 5 (chosen (with_wide w) (by_distance Jmp 0 distance)) }
     ensures call { (w : Bool) (distance : ℕ) → Begins (0xe8 ∷ []) 5 (chosen (with_wide w) (by_distance Call 0 distance)) }
-    ensures jcc { (w : Bool) (condition distance : ℕ) → condition < 16 → Begins (0x0f ∷ (0x80 + condition) ∷ []) 6 (chosen (with_wide w) (by_distance Jcc condition distance)) }
+    ensures jcc { (w : Bool) (condition distance : ℕ) → condition < 16 →
+        Begins (0x0f ∷ (0x80 + condition) ∷ []) 6 (chosen (with_wide w) (by_distance Jcc condition distance)) }
 {}
 
 /// ADD, OR, ADC, SBB, AND, SUB, XOR and CMP of a register, or of what an address names, and a number that
@@ -39,18 +42,25 @@ pub fn branches_are_long()
 /// symbol.
 #[tactic(auto, using(crate::proofs::SecondOperand::short_number, crate::proofs::SecondOperand::short_number_at))]
 pub fn numbers_are_short()
-    ensures register { (k n imm : ℕ) → k < 8 → n < 8 → is_signed_byte imm ≡ true → Begins (0x83 ∷ (0xc0 + 8 * k + n) ∷ (imm % 256) ∷ []) 3 (chosen plain (with_number (arithmetic k) (Register n) imm)) }
-    ensures memory { (w : Bool) (k imm : ℕ) (a : Address) → k < 8 → address_fits a ≡ true → is_signed_byte imm ≡ true → IsSpelledByDigit 0x83 k imm (chosen (with_displacement w) (with_number (arithmetic k) (Memory a) imm)) }
+    ensures register { (k n imm : ℕ) → k < 8 → n < 8 → is_signed_byte imm ≡ true →
+        Begins (0x83 ∷ (0xc0 + 8 * k + n) ∷ (imm % 256) ∷ []) 3
+        (chosen plain (with_number (arithmetic k) (Register n) imm)) }
+    ensures memory { (w : Bool) (k imm : ℕ) (a : Address) → k < 8 → address_fits a ≡ true → is_signed_byte imm ≡ true →
+        IsSpelledByDigit 0x83 k imm (chosen (with_displacement w) (with_number (arithmetic k) (Memory a) imm)) }
 {}
 
 /// Between two registers the r/m field names the destination.
 #[tactic(auto, using(crate::proofs::SecondOperand::rm_is_destination, crate::proofs::SecondOperand::rm_is_byte_destination, crate::proofs::SecondOperand::moved_to_rm, crate::proofs::SecondOperand::moved_bytes_to_rm, crate::proofs::SecondOperand::moved_words_to_rm))]
 pub fn destinations_are_in_rm()
-    ensures arithmetic { (k m n : ℕ) → k < 8 → m < 8 → n < 8 → Begins ((8 * k + 1) ∷ (0xc0 + 8 * n + m) ∷ []) 2 (chosen plain (with_registers (arithmetic k) Long m n)) }
-    ensures arithmetic_bytes { (k m n : ℕ) → k < 8 → m < 8 → n < 8 → Begins ((8 * k) ∷ (0xc0 + 8 * n + m) ∷ []) 2 (chosen plain (with_registers (arithmetic k) Byte m n)) }
+    ensures arithmetic { (k m n : ℕ) → k < 8 → m < 8 → n < 8 →
+        Begins ((8 * k + 1) ∷ (0xc0 + 8 * n + m) ∷ []) 2 (chosen plain (with_registers (arithmetic k) Long m n)) }
+    ensures arithmetic_bytes { (k m n : ℕ) → k < 8 → m < 8 → n < 8 →
+        Begins ((8 * k) ∷ (0xc0 + 8 * n + m) ∷ []) 2 (chosen plain (with_registers (arithmetic k) Byte m n)) }
     ensures moved { (m n : ℕ) → m < 8 → n < 8 → Begins (0x89 ∷ (0xc0 + 8 * n + m) ∷ []) 2 (chosen plain (with_registers Mov Long m n)) }
-    ensures moved_bytes { (m n : ℕ) → m < 8 → n < 8 → Begins (0x88 ∷ (0xc0 + 8 * n + m) ∷ []) 2 (chosen plain (with_registers Mov Byte m n)) }
-    ensures moved_words { (m n : ℕ) → m < 8 → n < 8 → Begins (0x66 ∷ 0x89 ∷ (0xc0 + 8 * n + m) ∷ []) 3 (chosen plain (with_registers Mov Word m n)) }
+    ensures moved_bytes { (m n : ℕ) → m < 8 → n < 8 →
+        Begins (0x88 ∷ (0xc0 + 8 * n + m) ∷ []) 2 (chosen plain (with_registers Mov Byte m n)) }
+    ensures moved_words { (m n : ℕ) → m < 8 → n < 8 →
+        Begins (0x66 ∷ 0x89 ∷ (0xc0 + 8 * n + m) ∷ []) 3 (chosen plain (with_registers Mov Word m n)) }
 {}
 
 /// ADD, OR, ADC, SBB, AND, SUB, XOR and CMP have no form of 16 bits (profile).

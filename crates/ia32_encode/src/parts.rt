@@ -1,3 +1,5 @@
+//! The parts that an instruction has in a row, and whether the row's form can spell them.
+
 ghost use Rattle.std.specs.Prelude.{◌≡◌, List};
 ghost use Rattle.ia32_rows.specs.Fields.{has_place};
 ghost use Rattle.ia32_rows.specs.Spelling.{insn_of};

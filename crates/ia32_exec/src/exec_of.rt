@@ -1,3 +1,5 @@
+//! `exec`: an instruction done in the registers and in memory.
+
 ghost use Rattle.std.specs.Prelude.{◌≡◌, ◌+◌, ◌*◌, ◌<◌, ℕ, length, slice_index};
 ghost use Rattle.ia32_exec.specs.Memory.{all_stored};
 ghost use Rattle.ia32_exec.specs.Ranges.{AreAll};
@@ -50,7 +52,8 @@ pub fn exec<M: LinearMem>(insn: &Insn, len: u8, regs: &mut Regs, mem: &mut M) ->
     requires ready { IsReady (M.readable mem.old) (M.writable mem.old) (ranges_of insn.now regs.old) }
     ensures answer { result ≡ answer_of (effect insn.now len regs.old (M.byte mem.old)) }
     ensures registers { regs.new ≡ registers_of (effect insn.now len regs.old (M.byte mem.old)) regs.old }
-    ensures memory { M.byte mem.new ≡ all_stored (M.same mem.old) (list_of (stores_of (effect insn.now len regs.old (M.byte mem.old)))) (M.byte mem.old) }
+    ensures memory { M.byte mem.new ≡ all_stored (M.same mem.old)
+        (list_of (stores_of (effect insn.now len regs.old (M.byte mem.old)))) (M.byte mem.old) }
     ensures places { M.same mem.new ≡ M.same mem.old }
     ensures kept { IsKeptUnlessWritten (stores_of (effect insn.now len regs.old (M.byte mem.old))) mem.old mem.new }
 {

@@ -1,3 +1,5 @@
+//! What an instruction accesses in memory, told by the registers alone.
+
 ghost use Rattle.std.specs.Prelude.{◌≡◌, ◌<◌, ◌≤◌, ◌+◌, slice_index};
 ghost use Rattle.ia32_types.specs.declared.size.Size.TheVariants.{Long};
 ghost use Rattle.ia32_exec.specs.Registers.{with_whole};

@@ -1,3 +1,5 @@
+//! Segment registers read and pushed. Intel SDM volume 2, MOV and PUSH.
+
 ghost use Rattle.std.specs.Prelude.{◌≡◌, ◌<◌};
 ghost use Rattle.ia32_types.specs.Shape.{IsNamed};
 ghost use Rattle.ia32_exec.specs.Selectors.{selector_of, selector_to, selector_read, selector_pushed};

@@ -1,3 +1,5 @@
+//! Instructions that use the stack. Intel SDM volume 2, PUSH, POP, PUSHA, POPA, CALL, LEAVE, PUSHF and POPF.
+
 ghost use Rattle.std.specs.Prelude.{◌≡◌, ◌<◌, ◌≤◌, ◌+◌, ◌^◌, Some, slice_index};
 ghost use Rattle.ia32_types.specs.declared.size.Size.TheVariants.{Long};
 ghost use Rattle.ia32_exec.specs.Memory.{IsAllAt};

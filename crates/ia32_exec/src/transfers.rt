@@ -1,3 +1,5 @@
+//! RET, and jumps and calls through an operand. Intel SDM volume 2, RET, JMP and CALL.
+
 ghost use Rattle.std.specs.Prelude.{◌≡◌, ◌<◌, ◌+◌};
 ghost use Rattle.ia32_types.specs.declared.size.Size.TheVariants.{Long};
 ghost use Rattle.ia32_types.specs.Shape.{IsNamed};

@@ -1,3 +1,5 @@
+//! What an instruction comes to as user code does it by itself.
+
 ghost use Rattle.std.specs.Prelude.{◌≡◌};
 ghost use Rattle.ia32_types.specs.Shape.{IsShaped};
 ghost use Rattle.ia32_exec.specs.Effect.{ranges_of, IsReadReady};

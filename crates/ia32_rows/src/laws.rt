@@ -1,3 +1,5 @@
+//! Laws of spellings: one meaning, no prefixes, lengths, pieces, shapes, and which instructions are sites.
+
 ghost use Rattle.std.specs.Prelude.{◌≡◌, ◌<◌, ◌≤◌, ◌↔◌, ℕ, List, [], ◌++◌, length, Some, Ok};
 ghost use Rattle.ia32_types.specs.declared.insn.Insn.{Insn};
 ghost use Rattle.ia32_types.specs.Site.{sensitive_kind};
@@ -42,12 +44,14 @@ pub fn lengths()
 /// Of what bytes spell, the instructions of the list of sites are those that `sensitive` names, each
 /// with the kind that it has in the list.
 pub fn site_kinds()
-    ensures { (bytes : List ℕ) (insn : Insn) (kind : SiteKind) → Spells bytes insn → (sensitive_kind insn ≡ Some kind) ↔ IsSite bytes insn kind }
+    ensures { (bytes : List ℕ) (insn : Insn) (kind : SiteKind) → Spells bytes insn →
+        (sensitive_kind insn ≡ Some kind) ↔ IsSite bytes insn kind }
 {}
 
 /// The bytes of a row are its pieces, one behind the other.
 pub fn in_pieces()
-    ensures { (row : Row) → Contains rows row → (p : Parts) (bytes : List ℕ) → (parts_at row.form bytes ≡ Ok (p, [])) ↔ IsLaidOut row.form p bytes }
+    ensures { (row : Row) → Contains rows row → (p : Parts) (bytes : List ℕ) →
+        (parts_at row.form bytes ≡ Ok (p, [])) ↔ IsLaidOut row.form p bytes }
 {}
 
 /// What is spelled names registers below 8, and has at most one operand in memory.

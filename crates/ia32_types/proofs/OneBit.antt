@@ -2,11 +2,9 @@
 use Rattle.std.proofs.Common.{◌≡◌, ℕ, suc, ◌+◌, ◌-◌, ◌*◌, ◌/◌, ◌%◌, ◌^◌, ◌<◌, ◌≤◌, ◌≢◌, Bool, true, false, arith, sym, ap, ◌∙◌, inl, inr, subst}
 use Rattle.std.specs.Prelude.{◌==◌}
 use Rattle.std.specs.Int.Bits.{bit_and, bit_or, or_add_and}
-use Rattle.std.proofs.lemmas.Nat.{and-not, and_comm, and_le_l, one_shl, pow_below}
-use Rattle.std.proofs.lemmas.Nat.Bits.{and_pow}
+use Rattle.std.proofs.lemmas.Nat.{and-not, and_comm, and_le_l, one_shl, pow_below, pow_pos, mod_below, shr_split}
+use Rattle.std.proofs.lemmas.Nat.Bits.{and_pow, bit_at_cat_low, bit_at_cat_high, bit_at-suc, bit_at_lowest, bit_at-lt, same_from_bits}
 use Rattle.std.specs.Int.{bit_at}
-use Rattle.std.proofs.lemmas.Nat.{pow_pos, mod_below, shr_split}
-use Rattle.std.proofs.lemmas.Nat.Bits.{bit_at_cat_low, bit_at_cat_high, bit_at-suc, bit_at_lowest, bit_at-lt, same_from_bits}
 use Rattle.std.proofs.lemmas.Bool.{cases_order}
 use Rattle.ia32_types.specs.Bits.{bit, worth, with_bit}
 

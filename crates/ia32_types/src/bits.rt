@@ -1,3 +1,5 @@
+//! Bits of a byte, and numbers extended by their sign.
+
 ghost use Rattle.std.specs.Prelude.{◌≡◌, ◌<◌};
 ghost use Rattle.ia32_types.specs.Bits.{bit, with_bit, sign_extended};
 ghost use Rattle.ia32_types.specs.Size.{span};

@@ -1,3 +1,5 @@
+//! The kinds of sensitive instructions, and the names that are refused.
+
 ghost use Rattle.std.specs.Prelude.{◌≡◌};
 ghost use Rattle.ia32_types.specs.Site.{sensitive_kind};
 

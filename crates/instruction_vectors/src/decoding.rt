@@ -1,3 +1,5 @@
+//! Bytes, and the instructions that GNU objdump shows for them.
+
 use crate::spelled::Spelled;
 use ia32_decode::{Decoded, decode};
 use ia32_types::{Insn, same_insn};

@@ -1,3 +1,5 @@
+//! Instructions, and the spellings that are chosen for them.
+
 use crate::spelled::Spelled;
 use ia32_decode::{Decoded, decode};
 use ia32_encode::{ArrayBytes, NoForm, Wide, encode};

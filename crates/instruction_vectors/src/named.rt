@@ -1,3 +1,5 @@
+//! Which instructions are sites, and which are refused by name.
+
 use ia32_types::{Insn, Op, Operand, Reg, SiteKind, Size, Stop, sensitive};
 
 /// The kinds of sites, with their numbers, and the instructions that make them.

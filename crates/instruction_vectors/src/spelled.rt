@@ -7,6 +7,7 @@ pub struct Spelled {
 }
 
 impl Spelled {
+    /// The bytes without the zeros.
     pub fn as_slice(&self) -> &[u8] {
         match self.all.as_slice().get(..self.len) {
             Some(bytes) => bytes,

@@ -1,3 +1,5 @@
+//! The source of a generated kernel.
+
 ghost use Rattle.std.specs.Prelude.{◌≡◌, ◌++◌, IfOk, OnOk, decimal};
 ghost use Rattle.kernel_gen.specs.Kernels.{next, place_of, lines_of, text_of, kernel_text};
 

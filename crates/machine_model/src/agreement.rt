@@ -1,3 +1,5 @@
+//! Laws of what a monitor's rules add to steps and runs, and of what a step reports.
+
 ghost use Rattle.machine_model.specs.Agreement.{BareIsPlain, StepsAgree, RunsAgree};
 ghost use Rattle.machine_model.specs.Owned.{OwnsItsBytes};
 ghost use Rattle.machine_model.specs.Written.{WritesAreNoted, WalksAreNoted};

@@ -1,3 +1,5 @@
+//! Laws of steps that stand one behind the other.
+
 ghost use Rattle.machine_model.specs.Joined.{StepsJoin, TakenJoin, CountsJoin, DigestsJoin, StepsAreTaken, KeptOn, KeptBefore};
 
 /// Steps of a run, and others behind them, are steps of a run: those that are taken stand one

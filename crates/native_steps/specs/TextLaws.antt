@@ -12,9 +12,8 @@ use Rattle.ia32_decode.specs.declared.answer.Decoded.TheVariants as begins
 use Rattle.sites.specs.Patched.{patched}
 use Rattle.image_check.specs.Image.{Image}
 use Rattle.image_check.specs.Sweep.{Swept}
-use Rattle.image_check.specs.Places.{swept_of, is_start, StandsOutside}
+use Rattle.image_check.specs.Places.{swept_of, is_start, StandsOutside, linear}
 use Rattle.image_laws.specs.WaysIn.{IsWayIn}
-use Rattle.image_check.specs.Places.{linear}
 
 pub record TextLaws (image : Image) : Type 0 where
   pub whole : (s : Swept) → Contains (swept_of image.text) s → (n : ℕ) → s.len ≤ n → (more : List ℕ) → decoded (part image.text s.at n ++ more) ≡ begins.Insn s.insn s.len

@@ -1,3 +1,5 @@
+//! The laws of what instructions come to, in one.
+
 ghost use Rattle.native_steps.specs.EffectLaws.{EffectLaws};
 
 use ia32_exec::{same_over_ranges, system_flags_stay};

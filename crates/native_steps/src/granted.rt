@@ -1,3 +1,5 @@
+//! A law of what a step's translations leave for the host.
+
 ghost use Rattle.native_steps.specs.Granted.{Grants};
 
 use crate::effects::effects;

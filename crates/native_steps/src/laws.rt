@@ -1,3 +1,5 @@
+//! Laws of one instruction, and of a stretch of them, on the guest and on the host.
+
 ghost use Rattle.native_steps.specs.Forward.{Forward, NotEntered, AtSites};
 ghost use Rattle.native_steps.specs.Backward.{Backward, NativeCompletes};
 ghost use Rattle.native_steps.specs.Again.{Again};

@@ -1,3 +1,5 @@
+//! The laws of an accepted image's text, in one.
+
 ghost use Rattle.image_check.specs.Image.{Image};
 ghost use Rattle.image_check.specs.Accepts.{IsAccepted};
 ghost use Rattle.native_steps.specs.TextLaws.{TextLaws};

@@ -1,3 +1,5 @@
+//! The guest's memory as one step reaches it, as a trait.
+
 ghost use Rattle.std.specs.Prelude.{◌≡◌, ◌+◌, ◌≤◌, ◌^◌, ◌<◌, IsTrue};
 ghost use Rattle.paging.specs.Space.{Space, Earlier, Span, IsReady, IsReadyEarlier, IsWritable, Readied, FitsSize, earlier_of, loaded, loaded_earlier, saved};
 ghost use Rattle.paging.specs.Uses.{uses};

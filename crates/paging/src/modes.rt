@@ -1,3 +1,5 @@
+//! Laws of what a monitor's rules add to a translation.
+
 ghost use Rattle.paging.specs.Agreement.{UsesAgree, FetchesAgree};
 
 /// A translation under the monitor's rules is the bare machine's, unless one of the monitor's stops ends it.

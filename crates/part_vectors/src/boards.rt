@@ -1,3 +1,5 @@
+//! The board: ports, scripts, interrupts, and its state as 64 bytes.
+
 ghost use Rattle.std.specs.Prelude.{◌≡◌, true};
 ghost use Rattle.board.specs.Scripts.{is_script};
 

@@ -1,3 +1,5 @@
+//! The buffer of translations.
+
 use paging::Entry;
 use std::process::Abort;
 use xlate_buffer::Buffer;

@@ -1,3 +1,5 @@
+//! Two 8259As by their data sheet and the profile.
+
 use ia32_types::Did;
 use pic8259::Pics;
 use std::process::Abort;

@@ -1,3 +1,5 @@
+//! Generated kernels, against texts that were made apart.
+
 use kernel_gen::kernel;
 use sha2::{Digest, Sha256};
 use std::alloc::Global;

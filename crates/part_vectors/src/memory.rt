@@ -1,3 +1,5 @@
+//! Memory by bytes, words and parts.
+
 ghost use Rattle.std.specs.Prelude.{◌≡◌, ◌+◌, ◌≤◌, true};
 
 use guest_ram::Ram;

@@ -1,3 +1,5 @@
+//! The pool of frames.
+
 use frame_pool::Pool;
 use guest_ram::{FRAME, Ram};
 

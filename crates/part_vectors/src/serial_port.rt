@@ -1,3 +1,5 @@
+//! The 16550 by its data sheet and the profile.
+
 use ia32_types::Did;
 use std::process::Abort;
 use uart16550::Uart;

@@ -1,3 +1,5 @@
+//! The 8254 by its data sheet and the profile.
+
 use ia32_types::Did;
 use pit8254::Pit;
 use std::process::Abort;

@@ -1,3 +1,6 @@
+//! One 8259A: its registers, and each byte that is written to it or read. Intel 8259A data sheet: command words,
+//! reading the status.
+
 ghost use Rattle.std.specs.Prelude.{◌≡◌, ◌<◌, IfSome};
 ghost use Rattle.pic8259.specs.Chips.{unstarted, started, ended_at, even_written, odd_written, even_read_of, with_request, highest_request, served, after_raised};
 ghost use Rattle.pic8259.specs.Writes.{ChipWritten};
@@ -22,6 +25,7 @@ pub struct Chip {
     pub once_ready: bool,
     pub interrupt_request: u8,
     pub in_service: u8,
+    /// A level whose bit is set raises nothing.
     pub interrupt_mask: u8,
     /// The vector of level 0.
     pub base: u8,

@@ -1,3 +1,5 @@
+//! The two controllers of the board, by their ports and lines. Intel 8259A data sheet: cascade mode.
+
 ghost use Rattle.std.specs.Prelude.{◌≡◌, ◌<◌, ◌≢◌, true, Some, None, IsSome, if◌then◌else◌};
 ghost use Rattle.ia32_types.specs.declared.stop.Did.TheVariants.{Stop};
 ghost use Rattle.pic8259.specs.Chips.{unstarted};

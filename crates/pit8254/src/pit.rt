@@ -1,3 +1,6 @@
+//! Channel 0 of an 8254: writes, single steps and many at once. Intel 8254 data sheet: control word format, write
+//! operations, mode 2 and mode 3.
+
 ghost use Rattle.std.specs.Prelude.{◌≡◌, ◌+◌, ◌*◌, ◌<◌, ◌≤◌, true, Some, None, if◌then◌else◌};
 ghost use Rattle.std.specs.Option.{ForSome};
 ghost use Rattle.ia32_types.specs.Firsts.{IsFirst};

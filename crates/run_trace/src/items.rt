@@ -10,7 +10,9 @@ pub enum What {
     In32(u16, u32),
     Out8(u16, u8),
     Out32(u16, u32),
+    /// A byte at the serial line.
     Sent(u8),
+    /// An interrupt's vector.
     Irq(u8),
 }
 

@@ -75,7 +75,8 @@ pub fn open(ram: &mut Ram, pool: &mut Pool, root: u32, d: u32)
     requires index { d < 1024 }
     requires stands { Stands pool.old ram.old }
     requires free { 1 ≤ length (free_list pool.old ram.old) }
-    ensures opens { (rs : List ℕ) → Owns pool.old ram.old (owned ram.old rs) → IsIn root rs → Opens pool.old pool.new ram.old ram.new rs root d }
+    ensures opens { (rs : List ℕ) → Owns pool.old ram.old (owned ram.old rs) → IsIn root rs →
+        Opens pool.old pool.new ram.old ram.new rs root d }
     ensures grows { dir ram.old root d ≡ 0 → Grows pool.old pool.new ram.old ram.new root d }
     ensures there { dir ram.old root d ≢ 0 → (pool.new ≡ pool.old) × (ram.new ≡ ram.old) }
 {
@@ -93,7 +94,8 @@ pub fn close(ram: &mut Ram, pool: &mut Pool, root: u32, d: u32)
     requires view { IsView ram.old root }
     requires owned { IsOwned pool.old ram.old root }
     requires index { d < 1024 }
-    ensures closes { (rs : List ℕ) → Owns pool.old ram.old (owned ram.old rs) → IsIn root rs → Closes pool.old pool.new ram.old ram.new rs root d }
+    ensures closes { (rs : List ℕ) → Owns pool.old ram.old (owned ram.old rs) → IsIn root rs →
+        Closes pool.old pool.new ram.old ram.new rs root d }
     ensures shrinks { dir ram.old root d ≢ 0 → Shrinks pool.old pool.new ram.old ram.new root d }
     ensures none { dir ram.old root d ≡ 0 → (pool.new ≡ pool.old) × (ram.new ≡ ram.old) }
 {
@@ -109,7 +111,8 @@ pub fn close(ram: &mut Ram, pool: &mut Pool, root: u32, d: u32)
 /// Gives all tables of a view back.
 pub fn empty(ram: &mut Ram, pool: &mut Pool, root: u32)
     requires { IsOwned pool.old ram.old root }
-    ensures empties { (rs : List ℕ) → Owns pool.old ram.old (owned ram.old rs) → IsIn root rs → Empties pool.old pool.new ram.old ram.new rs root 1024 }
+    ensures empties { (rs : List ℕ) → Owns pool.old ram.old (owned ram.old rs) → IsIn root rs →
+        Empties pool.old pool.new ram.old ram.new rs root 1024 }
 {
     for d in 0..1024 {
         close(ram, pool, root, d);

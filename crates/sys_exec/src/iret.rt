@@ -22,6 +22,7 @@ pub struct Popped {
 /// The stack of an outer level.
 #[derive(Clone, Copy)]
 pub struct Outer {
+    /// ESP of that level.
     pub top: u32,
     pub sel: u16,
 }
@@ -188,6 +189,7 @@ fn return_outer<M: GuestMem>(
     Ok(returned(cpu, p, outer.top, cpl, seg))
 }
 
+/// IRET in protected mode, to the same level or to an outer one. Intel SDM volume 2, IRET.
 #[tactic(auto, unfolding(crate::specs::Iret::interrupt_return))]
 pub fn interrupt_return<M: GuestMem>(cpu: &Cpu, mem: &mut M) -> Result<Cpu, Refusal>
     requires { (M.space mem.old).pages ≤ 50 }

@@ -13,19 +13,23 @@ use ia32_exec::{address_of, esp_above, esp_below, segment_of};
 use ia32_types::{Address, Operand, Seg, Size, Stop};
 use paging::GuestMem;
 
+/// The run stops: the profile has no such instruction.
 pub const UNSUPPORTED: Refusal = Refusal::Stop(Stop::Unsupported);
 
+/// A general protection fault with error code 0.
 pub const PROTECTION_0: Refusal = Refusal::Raise {
     vector: 13,
     code: 0,
 };
 
+/// The visible part of a segment register.
 pub fn selector_in(cpu: &Cpu, seg: Seg) -> u16
     ensures { result ≡ selector_in cpu.now seg }
 {
     cpu.segment(seg).sel
 }
 
+/// A general register of 32 bits. Of its number the low three bits count.
 pub fn reg_at(cpu: &Cpu, k: u8) -> u32
     ensures { result ≡ reg_at cpu.now k }
 {
@@ -162,6 +166,7 @@ pub fn gone_to(cpu: &Cpu, eip: u32) -> Cpu
     after
 }
 
+/// The next instruction follows; the machine has nothing more to do.
 pub fn next(cpu: Cpu) -> SysOutcome
     ensures { result ≡ record { cpu = cpu; effect = SysEffect.Next } }
 {

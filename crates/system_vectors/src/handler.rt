@@ -1,3 +1,5 @@
+//! The processor with which an interrupted program goes on.
+
 ghost use Rattle.std.specs.Prelude.{◌≡◌};
 ghost use Rattle.sys_exec.specs.Iret.{kept_segment};
 ghost use Rattle.system_vectors.specs.Resumed.{resumed, ResumesAs};

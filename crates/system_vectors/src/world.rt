@@ -17,20 +17,26 @@ use xlate_buffer::Buffer;
 /// Where the tables, the stacks and an operand lie. Each page is mapped to the frame of its number.
 pub const GDT: u32 = 0x3000;
 
+/// The interrupt descriptor table.
 pub const IDT: u32 = 0x4000;
 
+/// The task state segment.
 pub const TASK: u32 = 0x5000;
 
+/// The top of the stack of level 0.
 pub const KERNEL_STACK: u32 = 0x7000;
 
+/// The top of the stack of level 3.
 pub const USER_STACK: u32 = 0x9000;
 
+/// An operand in memory.
 pub const OPERAND: u32 = 0xA000;
 /// The user may read this page and not write it.
 pub const READ_ONLY: u32 = 0xD000;
 /// The first page that is not present.
 pub const ABSENT: u32 = 0xF000;
 
+/// Where the instruction begins.
 pub const EIP: u32 = 0x1234_5600;
 /// The limit of the global table with all its descriptors.
 pub const ALL: u16 = 0xAF;
@@ -75,6 +81,7 @@ pub enum Answer {
 /// Words of memory, each with its place. What isn't used is the word 0 at 0, which is 0 anyway.
 pub type Words = [(u32, u32); 8];
 
+/// No word.
 pub const NONE: Words = [(0, 0); 8];
 
 /// One row: a processor, what stands in memory besides the tables, what is done, and what comes of it: the answer, the
@@ -98,6 +105,7 @@ enum Seen {
     Memory,
 }
 
+/// Writes a word, where there is memory.
 pub fn put32(ram: &mut Ram, at: u32, v: u32) {
     if ram.len() >= 4 && at <= ram.len() - 4 {
         ram.write32(at, v);

@@ -1,3 +1,5 @@
+//! What a serial port was set to. National PC16550D, section 8.
+
 /// What the registers were set to.
 #[derive(Clone, Copy)]
 pub struct Settings {
@@ -9,6 +11,7 @@ pub struct Settings {
     pub modem_control: u8,
     /// The scratch register.
     pub scratch: u8,
+    /// The two bytes of the divisor latch. They are kept, and change no speed (profile).
     pub divisor_latch_low: u8,
     pub divisor_latch_high: u8,
 }

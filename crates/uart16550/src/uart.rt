@@ -1,3 +1,5 @@
+//! A 16550 by its registers, with a receiver of 16 bytes. National PC16550D, section 8, as the profile narrows it.
+
 ghost use Rattle.std.specs.Prelude.{◌≡◌, ◌≤◌, true, Some, None, if◌then◌else◌};
 ghost use Rattle.ia32_types.specs.declared.stop.Did.TheVariants.{Stop};
 ghost use Rattle.uart16550.specs.Ports.{at_reset, divisor_latch_access, waits, interrupt_line, written, read_at, after_read, received};

@@ -1,3 +1,5 @@
+//! What keeps translations for a machine, as a trait, and the buffer as one.
+
 ghost use Rattle.std.specs.Prelude.{◌≡◌, ◌≢◌, ℕ, ◌/◌, ◌<◌, ◌^◌, Bool, true, false, Some, None};
 ghost use Rattle.std.specs.FinMap.{FinMap, get};
 ghost use Rattle.std.specs.Ordering.{nat_cmp};
@@ -24,7 +26,8 @@ pub trait Cache: Drop {
         requires page { entry.page < 2 ^ 20 }
         ensures kept { get (entries self.new) entry.page ≡ Some entry }
         ensures others { (page : ℕ) → page ≢ entry.page → IsSameOrGone (get (entries self.old) page) (get (entries self.new) page) }
-        ensures exact { is_exact self.old ≡ true → (page : ℕ) → page ≢ entry.page → get (entries self.new) page ≡ get (entries self.old) page }
+        ensures exact { is_exact self.old ≡ true → (page : ℕ) → page ≢ entry.page →
+            get (entries self.new) page ≡ get (entries self.old) page }
         ensures same { is_exact self.new ≡ is_exact self.old };
 
     /// The page is kept no longer.

@@ -1,3 +1,5 @@
+//! ADD, OR, ADC, SBB, AND, SUB, XOR and CMP.
+
 use super::{Spelling, are_decoded, spelling};
 
 /// ADD to CMP, as GNU objdump reads the bytes.

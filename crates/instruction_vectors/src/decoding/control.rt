@@ -1,3 +1,5 @@
+//! Branches, SETcc, interrupts, strings and single bytes.
+
 use super::{Spelling, are_decoded, spelling};
 
 /// Branches, SETcc, interrupts, strings and single bytes, as GNU objdump reads the bytes.

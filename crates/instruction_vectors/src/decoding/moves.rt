@@ -1,3 +1,5 @@
+//! MOV, LEA, XCHG, PUSH and POP.
+
 use super::{Spelling, are_decoded, spelling};
 
 /// MOV, LEA, XCHG, PUSH and POP, as GNU objdump reads the bytes.

@@ -1,3 +1,5 @@
+//! Bytes that end too early, and bytes that spell nothing.
+
 use crate::spelled::{Spelled, bytes};
 use ia32_decode::{Decoded, decode, refused};
 use ia32_types::Refused;

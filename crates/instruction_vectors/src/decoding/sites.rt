@@ -1,3 +1,5 @@
+//! The sensitive instructions.
+
 use super::{Spelling, are_decoded, spelling};
 
 /// The sensitive instructions, as GNU objdump reads the bytes.

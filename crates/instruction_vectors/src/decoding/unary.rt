@@ -1,3 +1,5 @@
+//! TEST, products, INC, DEC, shifts and rotations.
+
 use super::{Spelling, are_decoded, spelling};
 
 /// TEST, products, INC, DEC, shifts and rotations, as GNU objdump reads the bytes.

@@ -1,3 +1,5 @@
+//! Arithmetic, logic and shifts, of registers and of memory.
+
 use super::{
     AT_EBP_PLUS_4, AT_EBP_PLUS_8, AT_EDI, AT_EDI_PLUS_2, AT_EDI_PLUS_3, AT_ESI,
     AT_ESI_ECX_BY_2_PLUS_4, AT_ESI_PLUS_1, AT_ESI_PLUS_12, AT_ESP, Case, REGISTERS, agree,

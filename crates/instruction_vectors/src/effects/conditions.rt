@@ -1,3 +1,5 @@
+//! SETcc and Jcc over flags.
+
 use super::{Flat, PLAIN, START, step};
 use ia32_types::{Flags, Insn, Op, Operand, Regs};
 

@@ -1,3 +1,5 @@
+//! MOV, MOVZX, MOVSX, LEA, XCHG, CWDE and CDQ, single flags, and NOP.
+
 use super::{
     AT_10010, AT_EAX_ECX_BY_8_LESS_4, AT_EDI, AT_ESI, AT_ESI_PLUS_2, AT_ESI_PLUS_6, AT_ESI_PLUS_85,
     AT_ESP_ECX_BY_8, Case, REGISTERS, agree,

@@ -1,3 +1,5 @@
+//! MUL, IMUL, DIV and IDIV of registers and of memory.
+
 use super::{AT_EDI, AT_ESI, AT_ESI_PLUS_4, Case, REGISTERS, agree};
 use ia32_types::{Op, Operand, Size};
 

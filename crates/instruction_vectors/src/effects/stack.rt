@@ -1,3 +1,5 @@
+//! PUSH, POP, PUSHA, POPA, LEAVE, PUSHF and POPF.
+
 use super::{AT_ESP_PLUS_4, AT_ESP_PLUS_8, Case, REGISTERS, agree};
 use ia32_types::{Op, Operand, Size};
 

@@ -1,3 +1,5 @@
+//! String instructions, by bytes and longs, with and without REP.
+
 use super::{Case, REGISTERS, agree};
 use ia32_types::{Op, Operand, Size};
 

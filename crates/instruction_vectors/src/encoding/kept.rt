@@ -1,3 +1,5 @@
+//! Spellings that are the chosen ones themselves.
+
 use super::is_kept;
 use crate::spelled::{Spelled, bytes};
 

@@ -1,3 +1,5 @@
+//! Instructions that have no spelling.
+
 use super::{NARROW, has_no_form};
 use crate::spelled::{Spelled, bytes};
 use ia32_decode::{Decoded, decode};

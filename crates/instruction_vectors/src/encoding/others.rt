@@ -1,3 +1,5 @@
+//! Spellings in whose place another one is chosen.
+
 use super::{Choice, are_chosen, choice};
 
 /// Instructions in another spelling, and the chosen one: that of GNU as, but for direct branches, which always

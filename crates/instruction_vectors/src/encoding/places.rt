@@ -1,3 +1,5 @@
+//! Fields of four bytes for what names a symbol, and their places.
+
 use super::{Placed, are_placed, placed};
 use ia32_encode::Wide;
 

@@ -1,3 +1,5 @@
+//! Results and flags of AND, OR, XOR and TEST.
+
 use super::{Row, agree};
 use ia32_types::{Op, Size};
 

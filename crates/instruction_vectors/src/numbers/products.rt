@@ -1,3 +1,5 @@
+//! Products and flags of MUL and IMUL.
+
 use ia32_alu::multiply;
 use ia32_types::{Flags, Size};
 

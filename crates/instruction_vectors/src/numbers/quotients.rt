@@ -1,3 +1,5 @@
+//! Quotients and remainders of DIV and IDIV.
+
 use ia32_alu::divide;
 use ia32_types::Size;
 

@@ -1,3 +1,5 @@
+//! Results and flags of ROL, ROR, SHL, SHR and SAR.
+
 use super::{Row, agree};
 use ia32_types::{Op, Size};
 

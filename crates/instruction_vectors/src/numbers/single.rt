@@ -1,3 +1,5 @@
+//! Results and flags of INC, DEC, NEG and NOT.
+
 use super::{Row, agree};
 use ia32_types::{Op, Size};
 

@@ -1,3 +1,5 @@
+//! Results and flags of ADD, ADC, SUB, SBB and CMP.
+
 use super::{Row, agree};
 use ia32_types::{Op, Size};
 

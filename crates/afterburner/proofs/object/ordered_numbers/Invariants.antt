@@ -1,8 +1,7 @@
 use Rattle.std.proofs.Common.{◌≡◌, ◌≤◌, take, length}
-use Rattle.std.specs.Prelude.{map, count_by}
+use Rattle.std.specs.Prelude.{map, count_by, true, false}
 use Rattle.std.specs.List.{range_with_len}
 use Rattle.afterburner.specs.Objects.{ordered_number, defines}
-use Rattle.std.specs.Prelude.{true, false}
 use Rattle.afterburner.proofs.object.ordered_numbers.Given as goal
 
 abbrev pub invariant-loop-definition : goal.invariant-loop-definition
