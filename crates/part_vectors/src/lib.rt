@@ -23,4 +23,6 @@ mod serial_port;
 #[cfg(test)]
 mod shadows;
 #[cfg(test)]
+mod step_memory;
+#[cfg(test)]
 mod timer;

@@ -1,0 +1,167 @@
+//! The guest's memory of a step of a patched run, over shadows that are lent to it.
+
+ghost use Rattle.std.specs.Prelude.{◌≡◌, ◌≤◌, length, true};
+ghost use Rattle.std.specs.FinMap.{empty};
+ghost use Rattle.frame_pool.specs.Held.{Owns};
+ghost use Rattle.frame_pool.specs.Pool.{base_of};
+ghost use Rattle.paging.specs.declared.entry.Touch.TheVariants.{Ready};
+ghost use Rattle.shadow_tables.specs.Entries.{entries_of};
+
+use descriptors::{Cpu, Hidden, Table, Task};
+use frame_pool::Pool;
+use guest_ram::Ram;
+use ia32_types::{Flags, Regs, Size};
+use paging::{Access, GuestMem, Touch};
+use shadow_cache::Roots;
+use shadow_tables::{Shadow, Shadows, Side};
+use std::alloc::Global;
+use std::process::Abort;
+use wedge_mem::WedgeMem;
+
+/// The guest's frames, of 32; the pool has the others.
+const FRAMES: u32 = 16;
+
+/// Where an instruction of the text lies, and where its operand does (profile: the text is at 0x10000000, and level 0 has its
+/// data from 0x11000000 on).
+const CODE: u32 = 0x1000_0FF0;
+
+const DATA: u32 = 0x1140_0010;
+
+/// The operand's place in memory.
+const PLACE: u32 = 0x5010;
+
+/// Where a second operand lies, which is only read, and its place.
+const SOURCE: u32 = 0x1140_0020;
+
+const SOURCE_PLACE: u32 = 0x5020;
+
+/// A processor at level 0 with paging on, write protection on, and its directory in frame 1.
+fn processor() -> Cpu {
+    let flat = Hidden {
+        sel: 0x10,
+        null: false,
+        dpl: 0,
+    };
+    Cpu {
+        regs: Regs {
+            r: [0; 8],
+            eip: CODE,
+            flags: Flags { bits: 2 },
+        },
+        cpl: 0,
+        seg: [flat; 4],
+        cr0: 0x8001_0011,
+        cr2: 0,
+        cr3: 0x1000,
+        cr4: 0,
+        gdt: Table { base: 0, limit: 0 },
+        idt: Table { base: 0, limit: 0 },
+        task: Task {
+            sel: 0,
+            base: 0,
+            limit: 0,
+            loaded: false,
+        },
+        halted: false,
+        held: false,
+    }
+}
+
+/// The tables of both pages are in frames 2 and 3. The text's page lies in frame 4, and that of data in frame 5, for the user
+/// too; both may be written.
+fn put_tables(ram: &mut Ram)
+    requires { length ram.old ≡ 131072 }
+    ensures { length ram.new ≡ 131072 }
+{
+    ram.write32(0x1100, 0x2007);
+    ram.write32(0x2000, 0x4007);
+    ram.write32(0x1114, 0x3007);
+    ram.write32(0x3000, 0x5007);
+    ram.write32(PLACE, 0x1122_3344);
+    ram.write32(SOURCE_PLACE, 0x5566);
+}
+
+fn is_ready(met: &Touch) -> bool
+    ensures { result ≡ true → met.now ≡ Ready }
+{
+    match met {
+        Touch::Ready => true,
+        _ => false,
+    }
+}
+
+/// The instruction is fetched, then one operand is read and another read and written, in the other's page. The next step
+/// only reads, and the one after it does nothing.
+fn step<S: Shadows>(rt: &impl Abort, ram: &mut Ram, pool: &mut Pool, shadows: &mut S)
+    requires stands { ∥ S.stands shadows.old ram.old ∥₁ }
+    requires owns { Owns pool.old ram.old (S.frames shadows.old ram.old) }
+    requires below { 16 ≤ base_of pool.old }
+    requires none { entries_of (S.slots shadows.old ram.old) ≡ empty }
+{
+    let mut memory = WedgeMem::new(ram, pool, shadows, &processor(), FRAMES, 0x4000, 1);
+    let fetched = memory.fetch(CODE, 4, false);
+    assert!(rt; is_ready(&fetched));
+    memory.own(CODE, 4);
+    let read = Access {
+        write: false,
+        user: false,
+    };
+    let touched = memory.touch(SOURCE, 4, read);
+    assert!(rt; is_ready(&touched));
+    let touched = memory.touch(
+        DATA,
+        4,
+        Access {
+            write: true,
+            user: false,
+        },
+    );
+    assert!(rt; is_ready(&touched));
+    assert!(rt; memory.load(DATA, Size::Long) == 0x1122_3344);
+    assert!(rt; memory.load_earlier(SOURCE, Size::Long) == 0x5566);
+    memory.save(DATA, Size::Word, 0x5566);
+    assert!(rt; memory.finish(Side::Kernel) == Some(2));
+    let touched = memory.touch(SOURCE, 4, read);
+    assert!(rt; is_ready(&touched));
+    assert!(rt; memory.finish(Side::Kernel) == Some(1));
+    assert!(rt; memory.finish(Side::Kernel) == Some(0));
+}
+
+/// What the step left in memory: its write, and the flags that its walks set. Intel SDM volume 3, 32-bit paging: A is bit 5
+/// and D bit 6.
+fn check(rt: &impl Abort, ram: &Ram) {
+    assert!(rt; ram.len() == 131072);
+    assert!(rt; ram.read32(PLACE) == 0x1122_5566);
+    assert!(rt; ram.read32(0x1100) == 0x2027);
+    assert!(rt; ram.read32(0x2000) == 0x4027);
+    assert!(rt; ram.read32(0x1114) == 0x3027);
+    assert!(rt; ram.read32(0x3000) == 0x5067);
+}
+
+fn memory(rt: &impl Abort, alloc: Global) -> Ram
+    ensures { length result ≡ 131072 }
+{
+    let mut ram = Ram::new(alloc, 32).expect(rt, "memory");
+    assert!(rt; ram.len() == 131072);
+    put_tables(&mut ram);
+    ram
+}
+
+#[test]
+fn step_over_one_pair_of_views(rt: HostRuntime) {
+    let mut ram = memory(&rt, rt.alloc());
+    let mut pool = Pool::new(&mut ram, FRAMES, 16);
+    let mut shadow = Shadow::new(&mut ram, &mut pool);
+    step(&rt, &mut ram, &mut pool, &mut shadow);
+    check(&rt, &ram);
+}
+
+#[test]
+fn step_over_pairs_for_several_values(rt: HostRuntime) {
+    let mut ram = memory(&rt, rt.alloc());
+    let mut pool = Pool::new(&mut ram, FRAMES, 16);
+    assert!(rt; pool.free() >= 2);
+    let mut roots = Roots::new(rt.alloc(), &mut ram, &mut pool, 0x1000).expect(&rt, "memory");
+    step(&rt, &mut ram, &mut pool, &mut roots);
+    check(&rt, &ram);
+}
