@@ -3,7 +3,7 @@ use Rattle.std.proofs.Common.{◌≡◌, ℕ, ◌+◌, Bool, true, false, List, 
 use Rattle.std.specs.Prelude.{◌&&◌, not, ◌==◌}
 use Rattle.std.specs.List.{list_all}
 use Rattle.std.proofs.lemmas.List.{length-append}
-use Rattle.std.proofs.lemmas.Bool.{eqb-true}
+use Rattle.std.proofs.lemmas.Bool.{eqb-true, both_ways, not-true, and_parts}
 use Rattle.asm_lex.specs.declared.machine.Digits.{Digits}
 use Rattle.asm_lex.specs.declared.machine.Mode.{Mode}
 use Rattle.asm_lex.specs.declared.machine.Mode.TheVariants as mode
@@ -15,7 +15,7 @@ use Rattle.asm_lex.specs.Machine.{first_digit, next_digit, is_whole}
 use Rattle.asm_lex.specs.Words.{Scan, scan, line_after}
 use Rattle.asm_lex.specs.Source.{is_inside_line, lines_after}
 use Rattle.asm_lex.specs.Refusals.{is_unclosed, IsInString, IsWrong}
-use Rattle.asm_lex.proofs.Again.{and_both, not_true, comment_mode, in_body, in_string_byte, inside_parts, inside_stays, class_digit, numeral_is, digits_after, no_digits, more_digits, string_mode, escape_line}
+use Rattle.asm_lex.proofs.Again.{comment_mode, in_body, in_string_byte, inside_parts, inside_stays, class_digit, numeral_is, digits_after, no_digits, more_digits, string_mode, escape_line}
 
 -- where a scan stops, no word more is found
 abbrev pub Breaks : Mode → List ℕ → ℕ → ℕ → List ℕ → ℕ → SourceCause → Type 0
@@ -34,7 +34,7 @@ newline_source b h = by_test (b == 10) refl
 line_breaks : (bs rest : List ℕ) (next : ℕ) (seen : List ℕ) (at line : ℕ) → list_all is_inside_line bs ≡ true → is_source next ≡ false → Breaks mode.Line seen at line (bs ++ (next ∷ rest)) (lines_after line bs) cause.NotAscii
 line_breaks [] rest next seen at line all h = rw (newline_source next h, h) refl
 line_breaks (b ∷ bs) rest next seen at line all h =
-    let two = and_both (is_inside_line b) (list_all is_inside_line bs) all in
+    let two = and_parts (is_inside_line b) (list_all is_inside_line bs) all in
     rw ((inside_parts b two.0).1, (inside_parts b two.0).0) (line_breaks bs rest next (seen ++ b ∷ []) (at + 1) (line_after line b) two.1 h)
 
 unsourced : (b k : ℕ) → is_source k ≡ true → is_source b ≡ false → (b == k) ≡ false
@@ -63,9 +63,9 @@ source_backslash = refl
 -- a byte of a comment that goes on
 pub unclosed_parts : (star : Bool) (b : ℕ) (bs : List ℕ) → is_unclosed star (b ∷ bs) ≡ true → (is_source b ≡ true) × ((star && (b == 47)) ≡ false) × (is_unclosed (b == 42) bs ≡ true)
 unclosed_parts star b bs h =
-    let outer = and_both (is_source b && not (star && (b == 47))) (is_unclosed (b == 42) bs) h in
-    let inner = and_both (is_source b) (not (star && (b == 47))) outer.0 in
-    (inner.0, not_true (star && (b == 47)) inner.1, outer.1)
+    let outer = and_parts (is_source b && not (star && (b == 47))) (is_unclosed (b == 42) bs) h in
+    let inner = and_parts (is_source b) (not (star && (b == 47))) outer.0 in
+    (inner.0, not-true (star && (b == 47)) inner.1, outer.1)
 
 comment_breaks : (bs rest : List ℕ) (next : ℕ) (star : Bool) (seen : List ℕ) (at line l : ℕ) → is_unclosed star bs ≡ true → is_source next ≡ false → Breaks (comment_mode star l) seen at line (bs ++ (next ∷ rest)) (lines_after line bs) cause.NotAscii
 comment_breaks [] rest next true seen at line l u h = rw (unsourced next 47 source_slash h, unsourced next 42 source_star h, h) refl
@@ -82,28 +82,25 @@ comment_empty (b ∷ bs) star seen at line l u =
     let p = unclosed_parts star b bs u in
     ap (λ (x : Scan). x.words) (in_body star b bs seen at line l p.0 p.1) ∙ comment_empty bs (b == 42) (seen ++ b ∷ []) (at + 1) (line_after line b) l p.2
 
-both_ways : {t : Bool} → t ≡ true → t ≡ false → ⊥
-both_ways e f = absurd cc
-
 whole_before : (d : Digits) → is_whole (digits_after d []) ≡ false → is_whole d ≡ false
 whole_before d h = by_test (is_whole d) refl
   where
     by_test : (t : Bool) → is_whole d ≡ t → is_whole d ≡ false
-    by_test true e = absurd (both_ways (no_digits d e) h)
+    by_test true e = absurd (both_ways _ h (no_digits d e))
     by_test false e = e
 
 whole_behind : (d : Digits) (b : ℕ) (bs : List ℕ) → is_whole (digits_after d (b ∷ bs)) ≡ false → is_whole (digits_after (next_digit d b) bs) ≡ false
 whole_behind d b bs h = by_test (is_whole (digits_after (next_digit d b) bs)) refl
   where
     by_test : (t : Bool) → is_whole (digits_after (next_digit d b) bs) ≡ t → is_whole (digits_after (next_digit d b) bs) ≡ false
-    by_test true e = absurd (both_ways (more_digits d b bs e) h)
+    by_test true e = absurd (both_ways _ h (more_digits d b bs e))
     by_test false e = e
 
 number_breaks : (bs rest : List ℕ) (next : ℕ) (d : Digits) (s : ℕ) (seen : List ℕ) (at line : ℕ) → list_all is_word bs ≡ true → is_word next ≡ false → is_whole (digits_after d bs) ≡ false
     → Breaks (mode.Number s d) seen at line (bs ++ (next ∷ rest)) (lines_after line bs) cause.BadNumber
 number_breaks [] rest next d s seen at line all h whole = rw (h, whole_before d whole) refl
 number_breaks (b ∷ bs) rest next d s seen at line all h whole =
-    let p = and_both (is_word b) (list_all is_word bs) all in
+    let p = and_parts (is_word b) (list_all is_word bs) all in
     rw p.0 (number_breaks bs rest next (next_digit d b) s (seen ++ b ∷ []) (at + 1) (line_after line b) p.1 h (whole_behind d b bs whole))
 
 -- what a string's bytes lead to, whatever has been seen

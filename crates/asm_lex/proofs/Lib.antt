@@ -8,3 +8,4 @@ pub mod Refusals
 pub mod Spans
 pub mod Breaking
 pub mod OneRefusal
+pub mod Readings

@@ -108,7 +108,7 @@ fn lexed(alloc: Global, text: &[u8]) -> Result<Vec<Token>, SourceFault>
 }
 
 /// The tokens of the text. A last line that lacks its newline is read as if it had one.
-#[tactic(auto, using(crate::proofs::TextTokens::are_tokens, crate::proofs::TextTokens::are_found, crate::proofs::FaultLines::refused_at, crate::proofs::Refusals::refused_for, crate::proofs::OneRefusal::refused_only, crate::proofs::Spans::are_spans))]
+#[tactic(auto, using(crate::proofs::Readings::readings))]
 pub fn lex(alloc: Global, text: &[u8]) -> Result<Vec<Token>, SourceFault>
     ensures long { LIMIT < length text.now → result ≡ Err (At 1 TooLong) }
 

@@ -125,7 +125,7 @@ impl Pit {
     }
 
     /// Makes k steps, however many, in one. True where one of them has an edge.
-    #[tactic(auto, unfolding(crate::specs::Counts::IsAfter), using(crate::proofs::Runs::stays_after, crate::proofs::Runs::stays_within, crate::proofs::Runs::within_is))]
+    #[tactic(auto, unfolding(crate::specs::Counts::IsAfter), using(crate::proofs::Runs::passing))]
     pub fn pass(&mut self, k: u64) -> bool
         ensures after { self.new ≡ after_steps k self.old }
         ensures edge { result ≡ edge_within k self.old }
