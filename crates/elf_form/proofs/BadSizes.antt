@@ -3,7 +3,7 @@ use Rattle.std.proofs.Common.{◌≡◌, ◌≢◌, ℕ, zero, suc, ◌+◌, ◌
 use Rattle.std.specs.Prelude.{◌==◌, filter, slice_get}
 use Rattle.std.specs.Bool.{then_some}
 use Rattle.std.specs.List.{Contains, sum_by, find}
-use Rattle.std.proofs.lemmas.Bool.{cond-true, cond-false, cases_lt, lt-ltb, ltb-true, and_parts, and_from}
+use Rattle.std.proofs.lemmas.Bool.{cond-true, cond-false, cases_lt, lt-ltb, ltb-true, and_parts, and_from, both_ways}
 use Rattle.std.proofs.lemmas.List.Sums.{sum_by-cons}
 use Rattle.guest_ram.specs.Bytes.{word16, word32}
 use Rattle.elf_form.specs.declared.roles.Role.{Role}
@@ -22,7 +22,6 @@ use Rattle.elf_form.specs.Order.{IsLowest}
 use Rattle.elf_form.specs.Reasons.{IsOf, in_pages, IsTooMuch, IsSymbolTable, IsRelocs, IsBadEntrySize, IsBadObjectSize, loaded, IsBadImageSize}
 use Rattle.elf_form.proofs.Lowest.{has_first, has_later, Finds, finds_as, finds_at, finds_lower, finds_else, finds_bad, finds_field, finds_if, finds_some, finds_first_entry, entry_from}
 use Rattle.elf_form.proofs.BadSections.{role_is, is_role}
-use Rattle.elf_form.proofs.TableLaws.{both_ways}
 
 -- ---- sizes that come to too much together
 
@@ -97,7 +96,7 @@ module _ (r : Role) (bytes : List ℕ) where
     )
       where
         above : (m : ℕ) → nat_lt m 4294967296 ≡ false → 4294967296 ≤ m
-        above m e = elim (cases_lt m 4294967296) [ inl lt ↦ absurd (both_ways (lt-ltb m 4294967296 lt) e) | inr le ↦ le ]
+        above m e = elim (cases_lt m 4294967296) [ inl lt ↦ absurd (both_ways _ e (lt-ltb m 4294967296 lt)) | inr le ↦ le ]
 
     by : (b : Bool) → has_role r (names bytes) bytes at ≡ b → ((more : ℕ) → Finds (joined_fault r (names bytes) bytes more (entries (at + 40) 40 n)) (Over r bytes more (entries (at + 40) 40 n)))
         → Finds (cond b (cond (nat_lt (total + (size bytes at + pad 4096 (size bytes at))) 4294967296) (joined_fault r (names bytes) bytes (total + (size bytes at + pad 4096 (size bytes at))) (entries (at + 40) 40 n)) (Some (at + 20))) (joined_fault r (names bytes) bytes total (entries (at + 40) 40 n)))
@@ -106,7 +105,7 @@ module _ (r : Role) (bytes : List ℕ) where
     by false has ih =
         finds_as (joined_fault r (names bytes) bytes total (entries (at + 40) 40 n)) (Over r bytes total (entries (at + 40) 40 n)) (Over r bytes total (at ∷ entries (at + 40) 40 n))
         (λ k h. step_to at (entries (at + 40) 40 n) total total k (λ b. omega (arith, sum_next at b has)) h)
-        (λ k h. step_from at (entries (at + 40) 40 n) total total k (λ b. omega (arith, sum_next at b has)) (λ is over. absurd (both_ways (is_role r (names bytes) bytes at is) has)) h)
+        (λ k h. step_from at (entries (at + 40) 40 n) total total k (λ b. omega (arith, sum_next at b has)) (λ is over. absurd (both_ways _ has (is_role r (names bytes) bytes at is))) h)
         (ih total)
 
   abbrev Joined : ℕ → Type 0

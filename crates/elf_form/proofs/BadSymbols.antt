@@ -4,7 +4,7 @@ use Rattle.std.specs.Prelude.{◌==◌, filter}
 use Rattle.std.specs.Bool.{then_some}
 use Rattle.std.specs.List.{Contains, flat_map, find}
 use Rattle.std.specs.Option.{option_or}
-use Rattle.std.proofs.lemmas.Bool.{eqb-true, eqb-false, eq-eqb, ne_eqb, or_cases, or_left, or_right, and_parts, and_from, not-true, not_from_false}
+use Rattle.std.proofs.lemmas.Bool.{eqb-true, eqb-false, eq-eqb, ne_eqb, or_cases, or_left, or_right, and_parts, and_from, not-true, not_from_false, both_ways}
 use Rattle.std.proofs.lemmas.List.Elements.{Contains-append_left, Contains-append_right, Contains-append_cases}
 use Rattle.std.proofs.lemmas.List.Concat.{flat_map-cons}
 use Rattle.guest_ram.specs.Bytes.{word16, word32}
@@ -25,7 +25,6 @@ use Rattle.elf_form.specs.Reasons.{IsOf, IsSymbolTable, IsRelocs, IsNameless, Is
 use Rattle.elf_form.proofs.Lowest.{some, has_first, has_later, first_or_later, has_none, Finds, finds_so, so_finds, finds_as, finds_at, finds_lower, finds_else, finds_bad, finds_not, finds_if, finds_some, finds_fold}
 use Rattle.elf_form.proofs.BadSections.{role_is, is_role, nameless_finds}
 use Rattle.elf_form.proofs.BadSizes.{then_of, finds_then, first_of_role, relocs_so, so_relocs}
-use Rattle.elf_form.proofs.TableLaws.{both_ways}
 
 -- ---- the symbol table
 
@@ -94,10 +93,10 @@ module _ (bytes : List ℕ) where
   section_names_finds : Finds (section_names_fault bytes) (λ k. NoNames k ⊎ NoName k)
   section_names_finds = by (has_strings bytes (word16 bytes 50)) (section_count bytes == 0) refl refl where
     by : (t u : Bool) → has_strings bytes (word16 bytes 50) ≡ t → (section_count bytes == 0) ≡ u → Finds (cond (t || u) (nameless bytes) (Some 50)) (λ k. NoNames k ⊎ NoName k)
-    by true u has count = finds_as (nameless bytes) (IsNameless bytes) (λ k. NoNames k ⊎ NoName k) (λ k h. inr (has, h)) (λ k p. elim p [ inl n ↦ absurd (both_ways has n.0) | inr n ↦ n.1 ]) (nameless_finds bytes)
+    by true u has count = finds_as (nameless bytes) (IsNameless bytes) (λ k. NoNames k ⊎ NoName k) (λ k h. inr (has, h)) (λ k p. elim p [ inl n ↦ absurd (both_ways _ n.0 has) | inr n ↦ n.1 ]) (nameless_finds bytes)
     by false true has count =
-        finds_as (nameless bytes) (IsNameless bytes) (λ k. NoNames k ⊎ NoName k) (λ k h. absurd (no_sections (eqb-true (section_count bytes) 0 count) k h)) (λ k p. elim p [ inl n ↦ absurd (n.1 (eqb-true (section_count bytes) 0 count)) | inr n ↦ absurd (both_ways n.0 has) ]) (nameless_finds bytes)
-    by false false has count = (inl (has, eqb-false (section_count bytes) 0 count, refl), λ k p. elim p [ inl n ↦ omega (arith, n.2) | inr n ↦ absurd (both_ways n.0 has) ])
+        finds_as (nameless bytes) (IsNameless bytes) (λ k. NoNames k ⊎ NoName k) (λ k h. absurd (no_sections (eqb-true (section_count bytes) 0 count) k h)) (λ k p. elim p [ inl n ↦ absurd (n.1 (eqb-true (section_count bytes) 0 count)) | inr n ↦ absurd (both_ways _ has n.0) ]) (nameless_finds bytes)
+    by false false has count = (inl (has, eqb-false (section_count bytes) 0 count, refl), λ k p. elim p [ inl n ↦ omega (arith, n.2) | inr n ↦ absurd (both_ways _ has n.0) ])
 
   abbrev NoTable : ℕ → ℕ → Type 0
   NoTable s k = (has_strings bytes (word32 bytes (s + 24)) ≡ false) × (k ≡ s + 24)
@@ -198,7 +197,7 @@ has_filter p f (x ∷ xs) e s there is h = by (p x) refl (first_or_later x s xs 
   by : (b : Bool) → p x ≡ b → (x ≡ s) ⊎ Contains xs s → (Contains xs s → Contains (flat_map f (filter p xs)) e) → Contains (flat_map f (cond b (x ∷ filter p xs) (filter p xs))) e
   by true at (inl same) ih = subst (λ (es : List Entry). Contains es e) (sym (flat_map-cons f x (filter p xs))) (Contains-append_left (f x) (flat_map f (filter p xs)) e (subst (λ (y : ℕ). Contains (f y) e) (sym same) h))
   by true at (inr later) ih = subst (λ (es : List Entry). Contains es e) (sym (flat_map-cons f x (filter p xs))) (Contains-append_right (f x) (flat_map f (filter p xs)) e (ih later))
-  by false at (inl same) ih = absurd (both_ways (ap p same ∙ is) at)
+  by false at (inl same) ih = absurd (both_ways _ at (ap p same ∙ is))
   by false at (inr later) ih = ih later
 
 module _ (bytes : List ℕ) where
@@ -271,7 +270,7 @@ module _ (bytes : List ℕ) where
   unfolding symbol_fault
   symbol_finds y = by (is_file bytes y) refl where
     by : (t : Bool) → is_file bytes y ≡ t → Finds (cond t None (option_or (then_some (not (has_binding bytes y)) (y + 12)) (then_some (not (has_place (names bytes) bytes y)) (y + 14)))) (SymbolBad y)
-    by true is = λ k h. both_ways is h.0
+    by true is = λ k h. both_ways _ h.0 is
     by false is = finds_as (option_or (then_some (not (has_binding bytes y)) (y + 12)) (then_some (not (has_place (names bytes) bytes y)) (y + 14))) (λ k. ((has_binding bytes y ≡ false) × (k ≡ y + 12)) ⊎ ((has_place (names bytes) bytes y ≡ false) × (k ≡ y + 14))) (SymbolBad y)
         (λ k h. (is, h)) (λ k h. h.1)
         (finds_else (then_some (not (has_binding bytes y)) (y + 12)) (then_some (not (has_place (names bytes) bytes y)) (y + 14)) (λ k. (has_binding bytes y ≡ false) × (k ≡ y + 12)) (λ k. (has_place (names bytes) bytes y ≡ false) × (k ≡ y + 14)) (λ i j a b. omega (arith, a.1, b.1))

@@ -1,5 +1,5 @@
 -- What each entry of a list has, and what tests say that found no place.
-use Rattle.std.proofs.Common.{◌≡◌, ℕ, zero, suc, ◌<◌, Bool, true, false, ◌||◌, not, List, [], ◌∷◌, ◌++◌, length, map, get_or, Option, None, refl, arith}
+use Rattle.std.proofs.Common.{◌≡◌, ℕ, zero, suc, ◌<◌, List, [], ◌∷◌, ◌++◌, length, map, get_or, Option, None, arith}
 use Rattle.std.specs.Prelude.{fold}
 use Rattle.elf_form.specs.declared.object.Reloc.{Reloc}
 use Rattle.elf_form.specs.declared.symbols.Entry.{Entry}
@@ -38,11 +38,3 @@ fold_none t a (e ∷ es) h =
     let rest = fold_none t (a or_lower t e) es h in
     let both = lower_none a (t e) rest.0 in
     (both.0, (both.1, rest.1))
-
-pub or_false : (a b : Bool) → (a || b) ≡ false → (a ≡ false) × (b ≡ false)
-or_false true b h = cc
-or_false false b h = (refl, h)
-
-pub not_false : (b : Bool) → not b ≡ false → b ≡ true
-not_false true h = refl
-not_false false h = cc

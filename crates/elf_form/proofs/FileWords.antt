@@ -147,6 +147,24 @@ numbers_placed p fits at = omega arith
 pub numbers_fit : (p : ImageParts) → IsWritableImage p → HasNumbers p
 numbers_fit p fits = numbers_placed p fits (laid_out p)
 
+pub text_fits : (p : ImageParts) → IsWritableImage p → length p.text < 2 ^ 32
+text_fits p fits = (numbers_fit p fits).text
+
+pub sites_fit : (p : ImageParts) → IsWritableImage p → length p.sites < 2 ^ 32
+sites_fit p fits = (numbers_fit p fits).sites_size
+
+pub init_placed : (p : ImageParts) → IsWritableImage p → init_from p < 2 ^ 32
+init_placed p fits = (numbers_fit p fits).init
+
+pub sites_placed : (p : ImageParts) → IsWritableImage p → sites_from p < 2 ^ 32
+sites_placed p fits = (numbers_fit p fits).sites
+
+pub names_placed : (p : ImageParts) → IsWritableImage p → names_from p < 2 ^ 32
+names_placed p fits = (numbers_fit p fits).names
+
+-- what writing a number as four bytes takes
+pub ruleset numbers = (text_fits, sites_fit, init_placed, sites_placed, names_placed)
+
 pub text_program : (p : ImageParts) → HasNumbers p → HasLongs p → IsProgram (image_bytes p) 52 4096 p.text_at (length p.text) (length p.text) 5
 text_program p small longs = record {
   kind = program_word p 0 52 (lit< tt) (lit< tt) refl;

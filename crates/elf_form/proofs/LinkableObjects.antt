@@ -8,6 +8,7 @@ use Rattle.std.proofs.lemmas.Bool.Decides.{nat_tests}
 use Rattle.std.proofs.lemmas.List.{length-map, length-replicate}
 use Rattle.std.proofs.lemmas.Grind.{common_steps}
 use Rattle.std.proofs.Math.Nat.{mod-le}
+use Rattle.std.proofs.lemmas.Bool.{and_parts, or_left, or_right, not-false, or_parts}
 use Rattle.guest_ram.specs.Bytes.{word32, part}
 use Rattle.guest_ram.proofs.Bytes.{length-part}
 use Rattle.elf_form.specs.declared.cause.ElfCause.TheVariants.{Truncated, Sizes, SectionForm, SymbolForm, RelocForm}
@@ -33,7 +34,7 @@ use Rattle.elf_form.proofs.ObjectAcceptance.{if_read}
 use Rattle.elf_form.proofs.WholeLaws.{section_at}
 use Rattle.elf_form.specs.Linkable.{IsLinkable}
 use Rattle.elf_form.specs.Symbols.{symbols_of, section_of, role_at, is_listed, is_file, has_binding, has_place, symbol_fault, target, target_role, is_reloc_section_of, entry, relocs_in, relocs_of, size_at, is_outside, named_symbol, has_symbol, symbol_of, has_kind, names_none, named_fault, form_fault, reloc_test, relocs_fault, start_in, start_at, numbers, reloc_at, symbol_at, symbols_in}
-use Rattle.elf_form.proofs.EachEntry.{Each, each_append, each_map, each_both, each_all, fold_none, or_false, not_false}
+use Rattle.elf_form.proofs.EachEntry.{Each, each_append, each_map, each_both, each_all, fold_none}
 use Rattle.elf_form.proofs.FormLaws.{then_none, else_none, lower_none}
 
 -- ---- entries of a table
@@ -71,8 +72,8 @@ listed_by : (file binding place : Bool) (y : ℕ) → file ≡ false → cond fi
 listed_by true binding place y is h = cc
 listed_by false binding place y is h =
     let both = else_none (then_some (not binding) (y + 12)) (then_some (not place) (y + 14)) h in
-    let has_binding = not_false binding (then_none (not binding) (y + 12) both.0) in
-    let has_place = not_false place (then_none (not place) (y + 14) both.1) in
+    let has_binding = not-false binding (then_none (not binding) (y + 12) both.0) in
+    let has_place = not-false place (then_none (not place) (y + 14) both.1) in
     rw (has_binding, has_place) refl
 
 -- a symbol that a relocation names
@@ -94,14 +95,6 @@ when_true false x is h = cc
 abbrev pub HasTarget : ℕ → List ℕ → List ℕ → Entry → Type 0
 HasTarget number ns bytes e = (role_number (target_role ns bytes e.section) == number) ≡ true
 
-and_first : (a b : Bool) → (a && b) ≡ true → a ≡ true
-and_first true b h = refl
-and_first false b h = cc
-
-and_second : (a b : Bool) → (a && b) ≡ true → b ≡ true
-and_second true b h = h
-and_second false b h = cc
-
 each_in : (number : ℕ) (ns bytes : List ℕ) (s : ℕ) (ys : List ℕ) → (role_number (target_role ns bytes s) == number) ≡ true → Each (HasTarget number ns bytes) (map (entry s) ys)
 each_in number ns bytes s [] is = tt
 each_in number ns bytes s (y ∷ ys) is = (is, each_in number ns bytes s ys is)
@@ -117,7 +110,7 @@ each_of : (r : Role) (ns bytes ss : List ℕ) → Each (HasTarget (role_number r
 each_of r ns bytes [] = tt
 each_of r ns bytes (s ∷ ss) =
     each_on (is_reloc_section_of r ns bytes s) (role_number r) ns bytes s (filter (is_reloc_section_of r ns bytes) ss)
-    (λ is. and_second (has_role role.Relocs ns bytes s) (role_number (target_role ns bytes s) == role_number r) is) (each_of r ns bytes ss)
+    (λ is. (and_parts (has_role role.Relocs ns bytes s) (role_number (target_role ns bytes s) == role_number r) is).1) (each_of r ns bytes ss)
 
 relocs_target : (r : Role) (ns bytes : List ℕ) → Each (HasTarget (role_number r) ns bytes) (relocs_of r ns bytes)
 unfolding relocs_of
@@ -156,15 +149,11 @@ whole bytes h =
       section_parts = part_none bytes 16 _ d.1;
     }
 
-pub and_false : (a b : Bool) → a ≡ true → (a && b) ≡ false → b ≡ false
-and_false true b is h = h
-and_false false b is h = cc
-
 contents_length : (bytes : List ℕ) (s : ℕ) → word32 bytes (s + 4) ≡ 1 → IsSection bytes s → length (contents bytes s) ≡ size bytes s
 unfolding contents
 contents_length bytes s kind is =
     let has : has_contents bytes s ≡ true = subst (λ (k : ℕ). (not (k == 0) && not (k == 8)) ≡ true) (sym kind) refl in
-    let room = not_below (length bytes) (word32 bytes (s + 16) + word32 bytes (s + 20)) (and_false (has_contents bytes s) _ has is.1) in
+    let room = not_below (length bytes) (word32 bytes (s + 16) + word32 bytes (s + 20)) (rw has at is.1) in
     subst (λ (b : Bool). length (cond b (part bytes (word32 bytes (s + 16)) (word32 bytes (s + 20))) []) ≡ size bytes s) (sym has) (length-part bytes (word32 bytes (s + 16)) (word32 bytes (s + 20)) room)
 
 -- text or data
@@ -317,12 +306,12 @@ symbol_in_list : (table : Table) (ns bytes : List ℕ) (e : Entry) → IsTested 
     → get_or (numbers ns bytes 0 (symbols_of table)) (named_symbol bytes e.at - 1) 0 < length (filter (is_listed ns bytes) (symbols_of table))
 symbol_in_list table ns bytes e tested =
     let form = else_none (then_some (is_outside ns bytes e) e.at) _ tested.1 in
-    let kinds = or_false (not (has_kind bytes e.at)) (names_none table bytes e.at) (then_none _ (e.at + 4) form.1) in
+    let kinds = or_parts (not (has_kind bytes e.at)) (names_none table bytes e.at) (then_none _ (e.at + 4) form.1) in
     let has = has_names (has_symbol table bytes e.at) (is_file bytes (symbol_of table bytes e.at)) kinds.1 in
     let fault = when_true (has_symbol table bytes e.at) (symbol_fault ns bytes (symbol_of table bytes e.at)) has.0 tested.0 in
     let is_there = listed ns bytes (symbol_of table bytes e.at) has.1 fault in
-    let positive = not_zero (named_symbol bytes e.at) (and_first (not (named_symbol bytes e.at == 0)) (nat_lt (named_symbol bytes e.at) table.count) has.0) in
-    let few = below (named_symbol bytes e.at) table.count (and_second (not (named_symbol bytes e.at == 0)) (nat_lt (named_symbol bytes e.at) table.count) has.0) in
+    let positive = not_zero (named_symbol bytes e.at) (and_parts (not (named_symbol bytes e.at == 0)) (nat_lt (named_symbol bytes e.at) table.count) has.0).0 in
+    let few = below (named_symbol bytes e.at) table.count (and_parts (not (named_symbol bytes e.at == 0)) (nat_lt (named_symbol bytes e.at) table.count) has.0).1 in
     let place : get_or (symbols_of table) (named_symbol bytes e.at - 1) 0 ≡ symbol_of table bytes e.at =
     entry_at (table.at + 16) 16 (table.count - 1) (named_symbol bytes e.at - 1) (omega (arith, positive, few)) ∙ omega (arith, positive) in
     let count = entries_length (table.at + 16) 16 (table.count - 1) in
@@ -339,7 +328,7 @@ section_there : (table : Table) (ns bytes : List ℕ) (e : Entry) → form_fault
 unfolding size_at
 section_there table ns bytes e h =
     let form = else_none (then_some (is_outside ns bytes e) e.at) _ h in
-    let out = or_false (role_number (target_role ns bytes e.section) == 4) (nat_lt (size_at bytes (target bytes e.section)) (word32 bytes e.at + 4)) (then_none (is_outside ns bytes e) e.at form.0) in
+    let out = or_parts (role_number (target_role ns bytes e.section) == 4) (nat_lt (size_at bytes (target bytes e.section)) (word32 bytes e.at + 4)) (then_none (is_outside ns bytes e) e.at form.0) in
     size_on (nat_lt (target bytes e.section) (section_count bytes)) (size bytes (section_of bytes (target bytes e.section))) (word32 bytes e.at)
     (not_below (size_at bytes (target bytes e.section)) (word32 bytes e.at + 4) out.1)
 
@@ -351,14 +340,6 @@ role_there : (number : ℕ) (ns bytes : List ℕ) (t : ℕ) → (role_number rol
     → (role_number (role_of ns bytes (section_of bytes t)) == number) ≡ true
 unfolding role_at
 role_there number ns bytes t other is = role_on (is_index bytes t) number (role_of ns bytes (section_of bytes t)) other is
-
-or_second : (a b : Bool) → b ≡ true → (a || b) ≡ true
-or_second true b h = refl
-or_second false b h = h
-
-or_first : (a b : Bool) → a ≡ true → (a || b) ≡ true
-or_first true b h = refl
-or_first false b h = cc
 
 section_is : (bytes : List ℕ) (t : ℕ) → nat_lt t (section_count bytes) ≡ true → get_or (sections bytes) t 0 ≡ section_of bytes t
 section_is bytes t is = entry_at (section_table bytes) 40 (section_count bytes) t (below t (section_count bytes) is)
@@ -379,7 +360,7 @@ text_room bytes t whole form is role_is =
     let has : has_role role.Text (names bytes) bytes s ≡ true = role_there 2 (names bytes) bytes t refl role_is in
     let inside = in_filter (has_role role.Text (names bytes) bytes) s (sections bytes) has (subst (λ (x : ℕ). In x (sections bytes)) (section_is bytes t is) (in_at (sections bytes) t (section_in bytes t is))) in
     let one = found_one (filter (has_role role.Text (names bytes) bytes) (sections bytes)) s inside (second_none bytes form) in
-    let kind = data_kind (names bytes) bytes s (or_first (role_number (role_of (names bytes) bytes s) == 2) (role_number (role_of (names bytes) bytes s) == 3) has) in
+    let kind = data_kind (names bytes) bytes s (or_left (role_number (role_of (names bytes) bytes s) == 2) (role_number (role_of (names bytes) bytes s) == 3) has) in
     let full = contents_length bytes s kind (section_at bytes (section_table bytes) (section_count bytes) t refl refl whole (below t (section_count bytes) is)) in
     subst (λ (f : Found). size bytes s ≤ length (text_in bytes f)) (sym one) (omega (arith, full))
 
@@ -390,7 +371,7 @@ init_room bytes t whole is role_is =
     let has : has_role role.Init (names bytes) bytes (section_of bytes t) ≡ true = role_there 3 (names bytes) bytes t refl role_is in
     let full = each_entries (IsFull (names bytes) bytes) (section_table bytes) 40 (section_count bytes)
     (λ i lt kept. contents_length bytes (section_table bytes + 40 * i)
-    (data_kind (names bytes) bytes (section_table bytes + 40 * i) (or_second (role_number (role_of (names bytes) bytes (section_table bytes + 40 * i)) == 2) (role_number (role_of (names bytes) bytes (section_table bytes + 40 * i)) == 3) kept))
+    (data_kind (names bytes) bytes (section_table bytes + 40 * i) (or_right (role_number (role_of (names bytes) bytes (section_table bytes + 40 * i)) == 2) (role_number (role_of (names bytes) bytes (section_table bytes + 40 * i)) == 3) kept))
     (section_at bytes (section_table bytes) (section_count bytes) i refl refl whole lt)) in
     subst (λ (s : ℕ). get_or (starts role.Init (names bytes) bytes 0 (sections bytes)) t 0 + size bytes s ≤ length (joined (names bytes) bytes [] (sections bytes))) (section_is bytes t is)
     (joined_room (names bytes) bytes [] (sections bytes) t full (section_in bytes t is) (subst (λ (s : ℕ). has_role role.Init (names bytes) bytes s ≡ true) (sym (section_is bytes t is)) has))

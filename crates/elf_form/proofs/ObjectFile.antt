@@ -1,9 +1,10 @@
 -- All that is known of the file of a whole object.
-use Rattle.std.proofs.Common.{◌≡◌, ◌≢◌, ℕ, ◌+◌, ◌*◌, ◌<◌, ◌≤◌, ◌^◌, Bool, true, false, cond, not, List, ◌++◌, length, get_or, replicate, refl, sym, ap, ◌∙◌, subst, arith, append_assoc}
+use Rattle.std.proofs.Common.{◌≡◌, ◌≢◌, ℕ, ◌+◌, ◌*◌, ◌<◌, ◌≤◌, ◌^◌, Bool, true, false, cond, List, ◌++◌, length, get_or, replicate, refl, sym, ap, ◌∙◌, subst, arith, append_assoc}
 use Rattle.std.specs.Prelude.{All, count_by, filter}
 use Rattle.std.specs.List.{flat_map, AllByRecursion}
 use Rattle.std.proofs.lemmas.List.{length-append}
 use Rattle.std.proofs.lemmas.List.Elements.{All-filter, filter_passes, All-from_recursion, recursion_from_All}
+use Rattle.std.proofs.lemmas.Bool.{not-true}
 use Rattle.guest_ram.specs.Bytes.{part}
 use Rattle.elf_form.specs.declared.object.Symbol.{Symbol}
 use Rattle.elf_form.specs.declared.object.Reloc.{Reloc}
@@ -38,12 +39,8 @@ whole_symbols o whole values =
 whole_text : (o : ObjectParts) (r : Reloc) → is_of true r ≡ true → r.symbol < length o.symbols → r.at + 4 ≤ length (relocated_part o r) → IsWholeReloc true (length o.text) (length o.symbols) r
 whole_text o r is symbol field = record { kind = is; field = subst (λ (b : Bool). r.at + 4 ≤ length (cond b o.text o.init)) is field; symbol = symbol }
 
-is_false : (b : Bool) → not b ≡ true → b ≡ false
-is_false true e = absurd cc
-is_false false e = refl
-
 whole_data : (o : ObjectParts) (r : Reloc) → is_of false r ≡ true → r.symbol < length o.symbols → r.at + 4 ≤ length (relocated_part o r) → IsWholeReloc false (length o.init) (length o.symbols) r
-whole_data o r is symbol field = record { kind = is_false r.in_text is; field = subst (λ (b : Bool). r.at + 4 ≤ length (cond b o.text o.init)) (is_false r.in_text is) field; symbol = symbol }
+whole_data o r is symbol field = record { kind = not-true r.in_text is; field = subst (λ (b : Bool). r.at + 4 ≤ length (cond b o.text o.init)) (not-true r.in_text is) field; symbol = symbol }
 
 whole_texts : (o : ObjectParts) → IsWholeObject o → AllByRecursion (IsWholeReloc true (length o.text) (length o.symbols)) (filter (is_of true) o.relocs)
 whole_texts o whole =

@@ -1,9 +1,9 @@
 -- A written object passes the tests of its parts and of its sections.
 use Rattle.std.proofs.Common.{◌≡◌, ℕ, ◌+◌, ◌*◌, ◌%◌, ◌<◌, ◌≤◌, Bool, true, false, ltb, List, length, None, refl, ap, ◌∙◌, arith, eq-eqb}
-use Rattle.std.specs.Prelude.{◌&&◌, count_by}
+use Rattle.std.specs.Prelude.{count_by}
 use Rattle.std.specs.List.{find}
 use Rattle.std.specs.Option.{option_or}
-use Rattle.std.proofs.lemmas.Bool.{le-ltb, lt-ltb}
+use Rattle.std.proofs.lemmas.Bool.{le-ltb, lt-ltb, and_right}
 use Rattle.guest_ram.specs.Bytes.{word32}
 use Rattle.elf_form.specs.declared.roles.Role.TheVariants as role
 use Rattle.elf_form.specs.declared.symbols.Table.{Table}
@@ -28,12 +28,8 @@ none_of_ten : (p : ℕ → Bool) (s : ℕ) → p s ≡ false → p (s + 40) ≡ 
 unfolding rows
 none_of_ten p s a b c d e g h i j k = rw (a, b, c, d, e, g, h, i, j, k) refl
 
-both : (a b : Bool) → b ≡ false → (a && b) ≡ false
-both true b e = e
-both false b e = refl
-
 stays : (f : List ℕ) (s n k g o z : ℕ) → IsRow f s n k g o z → o + z ≤ length f → section_passes f s ≡ false
-stays f s n k g o z row le = rw (row.offset, row.size) (both _ _ (le-ltb (length f) (o + z) le))
+stays f s n k g o z row le = rw (row.offset, row.size) (and_right _ _ (le-ltb (length f) (o + z) le))
 
 pub not_cut : (f : List ℕ) (o : ObjectParts) → IsFileOf f o → cut f ≡ None
 unfolding cut

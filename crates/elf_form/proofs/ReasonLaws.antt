@@ -2,7 +2,7 @@
 use Rattle.std.proofs.Common.{◌≡◌, ◌≢◌, ℕ, ◌+◌, ◌%◌, Bool, true, false, not, ◌&&◌, List, [], ◌∷◌, length, Option, Some, None, Result, Err, refl, sym, ◌∙◌, subst, inl, inr, ◌⊎◌, arith}
 use Rattle.std.specs.Prelude.{◌↔◌, ◌==◌}
 use Rattle.std.specs.Bool.{then_some}
-use Rattle.std.proofs.lemmas.Bool.{eqb-true, eqb-false, eq-eqb, ne_eqb, and_parts, and_from, not-true, not_from_false}
+use Rattle.std.proofs.lemmas.Bool.{eqb-true, eqb-false, eq-eqb, ne_eqb, and_parts, and_from, not-true, not_from_false, both_ways}
 use Rattle.guest_ram.specs.Bytes.{byte, word16, word32}
 use Rattle.elf_form.specs.declared.cause.ElfCause.{ElfCause}
 use Rattle.elf_form.specs.declared.cause.ElfCause.TheVariants.{Truncated, Magic, Class, Encoding, Version, FileType, Machine, Sizes, SectionForm, Compressed, StringPlace, SymbolForm, RelocForm}
@@ -27,7 +27,6 @@ use Rattle.elf_form.proofs.BadSymbols.{string_places_finds, symbol_form_finds, r
 use Rattle.elf_form.proofs.FirstCauses.{first_in_list, list_first}
 use Rattle.elf_form.proofs.Acceptance.{if_first, read_by_first}
 use Rattle.elf_form.proofs.ObjectAcceptance.{if_first as object_first, object_by_first}
-use Rattle.elf_form.proofs.TableLaws.{both_ways}
 
 -- ---- the program headers and the section of sites of an image
 
@@ -43,7 +42,7 @@ module _ (bytes : List ℕ) where
       let both = and_parts (is_executable bytes a) (not (is_executable bytes b)) is in
       let two : AreTwo bytes = record { text = a; init = b; are = e; executable = eqb-true (word32 bytes (a + 24) % 2) 1 both.0; other = eqb-false (word32 bytes (b + 24) % 2) 1 (not-true (is_executable bytes b) both.1) } in
       λ k p. p.0 two
-  two_is a b e false is = (((λ t. both_ways (test t (same_text a b t (sym e ∙ t.are)) (same_init a b t (sym e ∙ t.are))) is), refl), λ k p. omega (arith, p.1)) where
+  two_is a b e false is = (((λ t. both_ways _ is (test t (same_text a b t (sym e ∙ t.are)) (same_init a b t (sym e ∙ t.are)))), refl), λ k p. omega (arith, p.1)) where
     same_text : (a b : ℕ) (t : AreTwo bytes) → a ∷ b ∷ [] ≡ t.text ∷ t.init ∷ [] → t.text ≡ a
     same_text a b t h = cc
 

@@ -8,9 +8,9 @@ use denote.Ref.{Bor}
 use Rattle.std.proofs.lemmas.List.{length-append, append-nil}
 use Rattle.std.proofs.lemmas.Slice.Eq.{bytes_eq-Decides}
 use Rattle.std.specs.Str.{bytes_eq}
+use Rattle.std.proofs.lemmas.Bool.{both_ways}
 use Rattle.elf_form.specs.Tables.{further}
 use Rattle.elf_form.specs.StringTable.{place_in, unless_placed, with_name, table_bytes, IsStringTable}
-use Rattle.elf_form.proofs.TableLaws.{both_ways}
 
 pub table_bytes-append : (names : List (List ℕ)) (name : List ℕ) → table_bytes (names ++ name ∷ []) ≡ table_bytes names ++ (name ++ 0 ∷ [])
 unfolding table_bytes
@@ -56,8 +56,8 @@ place_in-new names name q at none e = split (bytes_eq name q) (bytes_eq q name) 
   split : (b c : Bool) → bytes_eq name q ≡ b → bytes_eq q name ≡ c → cond b (Some at) (place_in names q) ≡ else_last (place_in names q) c (length (table_bytes names))
   split true true is back = last_true at _ (place_in names q) (subst (λ (x : List ℕ). place_in names x ≡ None) ((bytes_eq-Decides name q).0 is) none) e
   split false false is back = last_false _ (place_in names q)
-  split true false is back = absurd (both_ways ((bytes_eq-Decides q name).1 (sym ((bytes_eq-Decides name q).0 is))) back)
-  split false true is back = absurd (both_ways ((bytes_eq-Decides name q).1 (sym ((bytes_eq-Decides q name).0 back))) is)
+  split true false is back = absurd (both_ways _ back ((bytes_eq-Decides q name).1 (sym ((bytes_eq-Decides name q).0 is))))
+  split false true is back = absurd (both_ways _ is ((bytes_eq-Decides name q).1 (sym ((bytes_eq-Decides q name).0 back))))
 
 no_place : (o : Option ℕ) → is_some o ≡ false → o ≡ None
 no_place None e = refl

@@ -100,9 +100,6 @@ pub first_some-end : (f : ℕ → Option ℕ) (at k n i : ℕ) → n ≤ i → f
 unfolding first_some
 first_some-end f at k n i le = ap (first_some f) (entries-end at k n i le)
 
-pub both_ways : {b : Bool} → b ≡ true → b ≡ false → ⊥
-both_ways e f = absurd cc
-
 pub not_some : (o : Option ℕ) → ((at : ℕ) → o ≡ Some at → ⊥) → o ≡ None
 not_some None never = refl
 not_some (Some at) never = absurd (never at refl)

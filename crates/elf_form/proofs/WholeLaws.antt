@@ -1,7 +1,7 @@
 -- The entries of a file in which no part passes the end.
-use Rattle.std.proofs.Common.{◌≡◌, ℕ, ◌+◌, ◌*◌, ◌<◌, List, Bool, true, false, not, ◌&&◌, nat_lt, refl, arith}
+use Rattle.std.proofs.Common.{◌≡◌, ℕ, ◌+◌, ◌*◌, ◌<◌, List, true, not, ◌&&◌, nat_lt, refl, arith}
 use Rattle.std.specs.Prelude.{◌==◌}
-use Rattle.std.proofs.lemmas.Bool.{ltb-true}
+use Rattle.std.proofs.lemmas.Bool.{ltb-true, and_parts}
 use Rattle.elf_form.specs.Sections.{is_index}
 use Rattle.guest_ram.specs.Bytes.{word16, word32}
 use Rattle.elf_form.specs.Header.{header_passes, section_passes, section_count, IsWhole, IsHeader, IsSection}
@@ -19,11 +19,6 @@ section_at bytes table count i t n whole lt =
     let below : i < word16 bytes 48 = omega arith in
     rw t (omega arith, none_passes (section_passes bytes) (word32 bytes 32) 40 (word16 bytes 48) i whole.section_parts below)
 
-third : (a b c : Bool) → (a && b && c) ≡ true → c ≡ true
-third true true c h = h
-third true false c h = absurd cc
-third false b c h = absurd cc
-
 -- the section that an index names
 pub section_of_index : (bytes : List ℕ) (table index : ℕ) → table ≡ word32 bytes 32 → IsWhole bytes → is_index bytes index ≡ true → IsSection bytes (table + 40 * index)
-section_of_index bytes table index t whole h = section_at bytes table (section_count bytes) index t refl whole (ltb-true index (section_count bytes) (third (not (index == 0)) (nat_lt index 0xFF00) (nat_lt index (section_count bytes)) h))
+section_of_index bytes table index t whole h = section_at bytes table (section_count bytes) index t refl whole (ltb-true index (section_count bytes) (and_parts (not (index == 0) && nat_lt index 0xFF00) (nat_lt index (section_count bytes)) h).1)

@@ -15,7 +15,7 @@ use std::alloc::{AllocError, Global};
 
 const NAMES: [u8; 38] = *b"\0.text\0.data\0.bss\0.pv_sites\0.shstrtab\0";
 
-#[tactic(auto, unfolding(crate::specs::ImageLayout::init_from, crate::specs::ImageLayout::sites_from, crate::specs::ImageLayout::names_from, crate::specs::ImageLayout::sections_from))]
+#[tactic(auto, unfolding(crate::specs::ImageLayout::init_from), using(crate::proofs::FileWords::numbers))]
 fn init_from(image: &Image) -> usize
     requires { IsWritableImage image.now }
     ensures { result ≡ init_from image.now }
@@ -24,7 +24,7 @@ fn init_from(image: &Image) -> usize
     end + pad(4096, end)
 }
 
-#[tactic(auto, unfolding(crate::specs::ImageLayout::init_from, crate::specs::ImageLayout::sites_from, crate::specs::ImageLayout::names_from, crate::specs::ImageLayout::sections_from))]
+#[tactic(auto, unfolding(crate::specs::ImageLayout::sites_from), using(crate::proofs::FileWords::numbers))]
 fn sites_from(image: &Image) -> usize
     requires { IsWritableImage image.now }
     ensures { result ≡ sites_from image.now }
@@ -33,7 +33,7 @@ fn sites_from(image: &Image) -> usize
     end + pad(4, end)
 }
 
-#[tactic(auto, unfolding(crate::specs::ImageLayout::init_from, crate::specs::ImageLayout::sites_from, crate::specs::ImageLayout::names_from, crate::specs::ImageLayout::sections_from))]
+#[tactic(auto, unfolding(crate::specs::ImageLayout::names_from), using(crate::proofs::FileWords::numbers))]
 fn names_from(image: &Image) -> usize
     requires { IsWritableImage image.now }
     ensures { result ≡ names_from image.now }
@@ -41,7 +41,7 @@ fn names_from(image: &Image) -> usize
     sites_from(image) + image.sites.len()
 }
 
-#[tactic(auto, unfolding(crate::specs::ImageLayout::init_from, crate::specs::ImageLayout::sites_from, crate::specs::ImageLayout::names_from, crate::specs::ImageLayout::sections_from))]
+#[tactic(auto, unfolding(crate::specs::ImageLayout::sections_from), using(crate::proofs::FileWords::numbers))]
 fn sections_from(image: &Image) -> usize
     requires { IsWritableImage image.now }
     ensures { result ≡ sections_from image.now }
@@ -69,7 +69,8 @@ fn program_numbers(
     init: u32,
     memory: u32,
 ) -> [u32; 16]
-    ensures numbers { result ≡ 1 ∷ 4096 ∷ text_at ∷ text_at ∷ text ∷ text ∷ 5 ∷ 4096 ∷ 1 ∷ from ∷ init_at ∷ init_at ∷ init ∷ memory ∷ 6 ∷ 4096 ∷ [] }
+    ensures numbers { result ≡ 1 ∷ 4096 ∷ text_at ∷ text_at ∷ text ∷ text ∷ 5 ∷ 4096
+        ∷ 1 ∷ from ∷ init_at ∷ init_at ∷ init ∷ memory ∷ 6 ∷ 4096 ∷ [] }
     ensures text_small { text_at < 2 ^ 32 }
     ensures init_small { init_at < 2 ^ 32 }
 {
@@ -93,7 +94,7 @@ fn program_numbers(
     ]
 }
 
-#[tactic(auto, unfolding(crate::specs::ImageLayout::header, crate::specs::ImageLayout::init_from, crate::specs::ImageLayout::sites_from, crate::specs::ImageLayout::names_from, crate::specs::ImageLayout::sections_from))]
+#[tactic(auto, unfolding(crate::specs::ImageLayout::header))]
 fn put_header(out: &mut Vec<u8>, image: &Image) -> Result<(), AllocError>
     requires { IsWritableImage image.now }
     ensures bytes { OnOk result (out.new.items ≡ out.old.items ++ header image.now) }
@@ -107,7 +108,7 @@ fn put_header(out: &mut Vec<u8>, image: &Image) -> Result<(), AllocError>
     Ok(())
 }
 
-#[tactic(auto, unfolding(crate::specs::ImageLayout::init_from, crate::specs::ImageLayout::sites_from, crate::specs::ImageLayout::names_from, crate::specs::ImageLayout::sections_from))]
+#[tactic(auto, using(crate::proofs::FileWords::numbers))]
 fn put_programs(out: &mut Vec<u8>, image: &Image) -> Result<(), AllocError>
     requires { IsWritableImage image.now }
     ensures bytes { OnOk result (out.new.items ≡ out.old.items ++ longs (program_numbers image.now)) }
@@ -121,7 +122,7 @@ fn put_programs(out: &mut Vec<u8>, image: &Image) -> Result<(), AllocError>
     put_longs(out, &numbers)
 }
 
-#[tactic(auto, unfolding(crate::specs::ImageLayout::init_from, crate::specs::ImageLayout::sites_from, crate::specs::ImageLayout::names_from, crate::specs::ImageLayout::sections_from))]
+#[tactic(auto, using(crate::proofs::FileWords::numbers))]
 fn put_sections(out: &mut Vec<u8>, image: &Image) -> Result<(), AllocError>
     requires { IsWritableImage image.now }
     ensures { OnOk result (out.new.items ≡ out.old.items ++ longs (section_numbers image.now)) }
@@ -143,7 +144,7 @@ fn put_sections(out: &mut Vec<u8>, image: &Image) -> Result<(), AllocError>
     put_headers(out, &headers)
 }
 
-#[tactic(auto, unfolding(crate::specs::ImageLayout::body, crate::specs::ImageLayout::init_from, crate::specs::ImageLayout::sites_from, crate::specs::ImageLayout::names_from, crate::specs::ImageLayout::sections_from))]
+#[tactic(auto, unfolding(crate::specs::ImageLayout::body), using(crate::proofs::FileWords::numbers))]
 fn put_body(out: &mut Vec<u8>, image: &Image) -> Result<(), AllocError>
     requires { IsWritableImage image.now }
     ensures { OnOk result (out.new.items ≡ out.old.items ++ body image.now) }

@@ -15,7 +15,9 @@ ghost use Rattle.elf_form.specs.declared.cause.ElfCause.{ElfCause};
 #[tactic(auto, using(crate::proofs::ObjectBounds::bounds))]
 pub fn object_length()
     ensures exact { (o : ObjectParts) → length (object_bytes o) ≡ (layout o).sections + 400 }
-    ensures bound { (o : ObjectParts) → (layout o).sections ≤ 52 + length o.text + length o.init + length o.sites + 8 * length o.relocs + 16 * (length o.symbols + 1) + (sum_by (λ s. length s.name) o.symbols + length o.symbols + 1) + 74 + 40 }
+    ensures bound { (o : ObjectParts) → (layout o).sections
+        ≤ 52 + length o.text + length o.init + length o.sites + 8 * length o.relocs + 16 * (length o.symbols + 1)
+        + (sum_by (λ s. length s.name) o.symbols + length o.symbols + 1) + 74 + 40 }
 {}
 
 /// A file is wrong as an object by a cause, at a place, exactly where the condition of that cause
@@ -24,23 +26,27 @@ pub fn object_length()
 pub fn object_causes_are_conditions()
     ensures exact { (bytes : List ℕ) (cause : ElfCause) (at : ℕ) → (wrong_object bytes cause ≡ Some at)
         ↔ HasPlace (IsBadObject bytes) bytes cause at }
-    ensures none { (bytes : List ℕ) (cause : ElfCause) → (wrong_object bytes cause ≡ None) ↔ ((at : ℕ) → IsBadObject bytes cause at → ⊥) }
+    ensures none { (bytes : List ℕ) (cause : ElfCause) → (wrong_object bytes cause ≡ None)
+        ↔ ((at : ℕ) → IsBadObject bytes cause at → ⊥) }
 {}
 
 /// The same of an image.
 pub fn image_causes_are_conditions()
     ensures exact { (bytes : List ℕ) (cause : ElfCause) (at : ℕ) → (wrong_image bytes cause ≡ Some at)
         ↔ HasPlace (IsBadImage bytes) bytes cause at }
-    ensures none { (bytes : List ℕ) (cause : ElfCause) → (wrong_image bytes cause ≡ None) ↔ ((at : ℕ) → IsBadImage bytes cause at → ⊥) }
+    ensures none { (bytes : List ℕ) (cause : ElfCause) → (wrong_image bytes cause ≡ None)
+        ↔ ((at : ℕ) → IsBadImage bytes cause at → ⊥) }
 {}
 
 /// A file is refused as an object, by a cause and at a place, exactly where the cause has this
 /// place and the condition of none that comes before it holds at any.
 pub fn objects_refused_in_order()
-    ensures { (bytes : List ℕ) (at : ℕ) (cause : ElfCause) → (object_in bytes ≡ no_object at cause) ↔ IsRefusedObject bytes at cause }
+    ensures { (bytes : List ℕ) (at : ℕ) (cause : ElfCause) → (object_in bytes ≡ no_object at cause)
+        ↔ IsRefusedObject bytes at cause }
 {}
 
 /// The same of an image.
 pub fn images_refused_in_order()
-    ensures { (bytes : List ℕ) (at : ℕ) (cause : ElfCause) → (image_in bytes ≡ no_image at cause) ↔ IsRefusedImage bytes at cause }
+    ensures { (bytes : List ℕ) (at : ℕ) (cause : ElfCause) → (image_in bytes ≡ no_image at cause)
+        ↔ IsRefusedImage bytes at cause }
 {}

@@ -249,7 +249,8 @@ fn section_tested(alloc: Global, bytes: &[u8]) -> Result<Object, ElfFault>
 #[tactic(auto, unfolding(crate::specs::Faults::tested, crate::specs::ObjectReading::wrong_object))]
 fn header_tested(alloc: Global, bytes: &[u8]) -> Result<Object, ElfFault>
     requires { IsWhole bytes.now }
-    ensures { Gives (λ o. o) result (and_then (identified ET_REL bytes.now) (tested (wrong_object bytes.now) (Sizes ∷ section_causes) (object_at bytes.now))) }
+    ensures { Gives (λ o. o) result (and_then (identified ET_REL bytes.now)
+        (tested (wrong_object bytes.now) (Sizes ∷ section_causes) (object_at bytes.now))) }
 {
     identified(bytes, ET_REL)?;
     test(ElfCause::Sizes, object_sizes(bytes))?;

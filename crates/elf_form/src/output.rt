@@ -8,24 +8,28 @@ use std::alloc::AllocError;
 /// The identification: the class, the encoding and the version of what is written.
 pub const IDENTITY: [u8; 16] = *b"\x7FELF\x01\x01\x01\0\0\0\0\0\0\0\0\0";
 
+/// Adds each number, its lowest byte first.
+macro_rules! put_each {
+    ($out:expr, $numbers:expr) => {{
+        for n in $numbers {
+            $out.extend_from_slice(&n.to_le_bytes())?;
+        }
+        Ok(())
+    }};
+}
+
 /// Adds numbers of two bytes.
 pub fn put_halves(out: &mut Vec<u8>, numbers: &[u16]) -> Result<(), AllocError>
     ensures { OnOk result (out.new.items ≡ out.old.items ++ halves numbers.now) }
 {
-    for n in numbers {
-        out.extend_from_slice(&n.to_le_bytes())?;
-    }
-    Ok(())
+    put_each!(out, numbers)
 }
 
 /// Adds numbers of four bytes.
 pub fn put_longs(out: &mut Vec<u8>, numbers: &[u32]) -> Result<(), AllocError>
     ensures { OnOk result (out.new.items ≡ out.old.items ++ longs numbers.now) }
 {
-    for n in numbers {
-        out.extend_from_slice(&n.to_le_bytes())?;
-    }
-    Ok(())
+    put_each!(out, numbers)
 }
 
 /// Adds zero bytes.

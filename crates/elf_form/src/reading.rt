@@ -45,7 +45,8 @@ fn section_tested(bytes: &[u8]) -> Result<(usize, usize, usize), ElfFault>
 #[tactic(auto, unfolding(crate::specs::Faults::tested, crate::specs::Reading::wrong_image))]
 fn header_tested(bytes: &[u8]) -> Result<(usize, usize, usize), ElfFault>
     requires { IsWhole bytes.now }
-    ensures exact { Gives (parts_by bytes.now) result (and_then (identified ET_EXEC bytes.now) (tested (wrong_image bytes.now) (Sizes ∷ section_causes) (image_at bytes.now))) }
+    ensures exact { Gives (parts_by bytes.now) result (and_then (identified ET_EXEC bytes.now)
+        (tested (wrong_image bytes.now) (Sizes ∷ section_causes) (image_at bytes.now))) }
     ensures places { IfOk result (ArePlaces bytes.now) }
 {
     identified(bytes, ET_EXEC)?;
