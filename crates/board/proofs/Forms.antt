@@ -1,11 +1,12 @@
 -- What follows from the form of a saved board.
-use Rattle.std.proofs.Common.{◌≡◌, ℕ, ◌+◌, ◌-◌, ◌*◌, ◌≤◌, Bool, true, false, List, ◌++◌, length, drop, refl, ap, sym, ◌∙◌, arith, inl, inr}
+use Rattle.std.proofs.Common.{◌≡◌, ℕ, ◌+◌, ◌-◌, ◌*◌, ◌≤◌, Bool, true, List, ◌++◌, length, drop, refl, ap, sym, ◌∙◌, arith, inl, inr}
 use Rattle.std.specs.Prelude.{◌&&◌, ◌||◌, ◌==◌, nat_le, nat_lt, ◌%◌, if◌then◌else◌, slice_index}
 use Rattle.std.proofs.lemmas.List.Folds.{list_all-append}
 use Rattle.std.proofs.lemmas.List.{length-take}
 use Rattle.std.proofs.Math.Nat.{min-le_left}
 use Rattle.std.proofs.lemmas.Bool.{leb-true, le-leb, and_parts, and_from}
 use Rattle.std.proofs.lemmas.Bool.Decides.{eqb_tells}
+use Rattle.std.proofs.Math.Bool.{and-true}
 use Rattle.pic8259.specs.Phases.{phase_fits}
 use Rattle.pic8259.specs.Requests.{chip_fits, pair_fits, stands_for_slave}
 use Rattle.pit8254.specs.Counts.{is_period, is_next_period, is_count}
@@ -19,10 +20,6 @@ parts bytes =
 
 and_same : (a b c : Bool) → b ≡ c → (a && b) ≡ (a && c)
 and_same a b c e = ap (λ x. a && x) e
-
-and_true : (b : Bool) → (b && true) ≡ b
-and_true true = refl
-and_true false = refl
 
 pub form_is : (bytes : List ℕ) → board_form bytes ≡ parts bytes
 unfolding board_form demands
@@ -39,11 +36,11 @@ form_is bytes =
     ∙ ap (λ x. x && all_met t)
     (list_all-append met (a ++ b) p
     ∙ ap (λ x. x && all_met p) (list_all-append met a b)
-    ∙ ap (λ x. all_met a && all_met b && x) (and_true (stands_for_slave (controllers_at bytes)))))
+    ∙ ap (λ x. all_met a && all_met b && x) (and-true (stands_for_slave (controllers_at bytes)))))
 
 pub last_decides : (a b c d e : Bool) → a ≡ true → b ≡ true → c ≡ true → d ≡ true →
     (a && (b && (c && (d && (e && true))))) ≡ e
-last_decides a b c d e is_a is_b is_c is_d = rw (is_a, is_b, is_c, is_d) (and_true e)
+last_decides a b c d e is_a is_b is_c is_d = rw (is_a, is_b, is_c, is_d) (and-true e)
 
 part_facts : (bytes : List ℕ) → board_form bytes ≡ true →
     (all_met (chip_demands bytes 0) ≡ true) × (all_met (chip_demands bytes 7) ≡ true)

@@ -1,8 +1,8 @@
 -- Decimal numbers byte by byte, and texts that are cut at a byte.
-use Rattle.std.proofs.Common.{◌≡◌, ℕ, suc, ◌+◌, ◌-◌, ◌*◌, ◌<◌, ◌≤◌, Bool, true, false, Some, None, List, [], ◌∷◌, length, get_or, drop, take, refl, ap, ◌∙◌, arith, inl, inr, add-one, drop-cons, Err}
+use Rattle.std.proofs.Common.{◌≡◌, ℕ, suc, ◌+◌, ◌-◌, ◌*◌, ◌<◌, ◌≤◌, Bool, true, false, Some, None, List, [], ◌∷◌, length, get_or, drop, take, refl, ap, ◌∙◌, arith, inl, inr, Err}
 use Rattle.std.specs.Prelude.{◌&&◌, nat_le, ◌==◌, position, if◌then◌else◌}
 use Rattle.std.proofs.lemmas.Bool.{le-leb}
-use Rattle.std.proofs.lemmas.List.{drop_all}
+use Rattle.std.proofs.lemmas.List.{drop_all, drop_more}
 use Rattle.std.specs.List.{list_all, position_or_len}
 use Rattle.std.proofs.lemmas.Bool.Decides.{leb_tells}
 use Rattle.std.proofs.lemmas.List.Splits.{slice_split_first, slice_split_none, length-slice_split}
@@ -12,9 +12,6 @@ use Rattle.std.specs.Char.{is_ascii_digit}
 use Rattle.board.specs.Texts.{decimal_after, number_after, cut_at, event_in}
 use Rattle.board.specs.declared.fault.ScriptCause.TheVariants.{NoForm}
 use Rattle.board.specs.Cuts.{IsCut}
-
-split : (ys : List ℕ) (i : ℕ) → i < length ys → drop i ys ≡ get_or ys i 0 ∷ drop (i + 1) ys
-split ys i h = rw (add-one, drop-cons ys i 0) refl
 
 digit_here : (limit n b : ℕ) (rest : List ℕ) → is_ascii_digit b ≡ true →
     number_after limit n (b ∷ rest) ≡ number_after limit (10 * n + (b - 48)) rest
@@ -44,13 +41,13 @@ too_large limit n rest h = elim (leb_tells (decimal_after n rest) limit) [
 pub digit_step : (limit n : ℕ) (word : List ℕ) (i : ℕ) → i < length word → is_ascii_digit (get_or word i 0) ≡ true →
     number_after limit n (drop i word) ≡ number_after limit (10 * n + (get_or word i 0 - 48)) (drop (i + 1) word)
 digit_step limit n word i h is =
-    ap (number_after limit n) (split word i h) ∙ digit_here limit n (get_or word i 0) (drop (i + 1) word) is
+    ap (number_after limit n) (drop_more word i 0 h) ∙ digit_here limit n (get_or word i 0) (drop (i + 1) word) is
 
 -- and at another byte
 pub other_step : (limit n : ℕ) (word : List ℕ) (i : ℕ) → i < length word → is_ascii_digit (get_or word i 0) ≡ false →
     number_after limit n (drop i word) ≡ None
 other_step limit n word i h is =
-    ap (number_after limit n) (split word i h) ∙ other_here limit n (get_or word i 0) (drop (i + 1) word) is
+    ap (number_after limit n) (drop_more word i 0 h) ∙ other_here limit n (get_or word i 0) (drop (i + 1) word) is
 
 pub number_end : (limit n : ℕ) (word : List ℕ) (i : ℕ) → length word ≤ i → n ≤ limit → number_after limit n (drop i word) ≡ Some n
 unfolding number_after

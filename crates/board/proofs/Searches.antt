@@ -5,6 +5,7 @@ use Rattle.std.specs.Prelude.{◌&&◌, ◌||◌, nat_lt, nat_le}
 use Rattle.std.proofs.lemmas.Bool.{ne_eqb, leb-true, le-leb, and_parts}
 use Rattle.std.proofs.lemmas.Bool.Decides.{leb_tells, nat_tests}
 use Rattle.std.specs.List.Sorted.{IsNonDecreasingBy}
+use Rattle.std.proofs.Math.Bool.{or-false}
 use Rattle.ia32_types.specs.Firsts.{IsFirst}
 use Rattle.board.specs.declared.script.Event.{Event}
 use Rattle.board.specs.declared.script.Event.TheVariants.{Rx}
@@ -108,14 +109,10 @@ first_after step xs (y ∷ ys) d h is some =
 either_min : (a b n : ℕ) → (nat_le a n || nat_le b n) ≡ nat_le (min a b) n
 either_min a b n = grind (arith, nat_tests)
 
-or_false : (b : Bool) → (b || false) ≡ b
-or_false true = refl
-or_false false = refl
-
 pub first_of_both : (p q : ℕ → Bool) (a b : Option ℕ) → IsFirst p a → IsFirst q b → IsFirst (λ n. p n || q n) (earlier a b)
 first_of_both p q None None f g = λ n. rw (f n, g n) refl
 first_of_both p q None (Some b) f g = λ n. rw (f n) (g n)
-first_of_both p q (Some a) None f g = λ n. rw (f n, g n) (or_false (nat_le a n))
+first_of_both p q (Some a) None f g = λ n. rw (f n, g n) (or-false (nat_le a n))
 first_of_both p q (Some a) (Some b) f g = λ n. rw (f n, g n) (either_min a b n)
 
 -- a step's events are among those after an earlier step

@@ -16,4 +16,5 @@ pub use fault::{ScriptCause, ScriptFault};
 pub use laws::steps_are_quiet;
 pub use read::number_upto;
 pub use reading::read_script;
+pub use restored::{are_zero, controllers_at, eight_at, four_at, is_period_or_none};
 pub use script::{Event, Script};

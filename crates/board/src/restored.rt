@@ -10,14 +10,16 @@ use pic8259::{Chip, Pair, Phase as ChipPhase, Selected};
 use pit8254::{Count, Phase as TimerPhase, Timer};
 use uart16550::Settings;
 
-fn four_at(bytes: &[u8; 64], at: usize) -> u32
+/// The number of four bytes at a place of a board's bytes, the lowest byte first.
+pub fn four_at(bytes: &[u8; 64], at: usize) -> u32
     requires { at + 4 ≤ 64 }
     ensures { result ≡ four_at bytes.now at }
 {
     u32::from_le_bytes([bytes[at], bytes[at + 1], bytes[at + 2], bytes[at + 3]])
 }
 
-fn eight_at(bytes: &[u8; 64], at: usize) -> u64
+/// The number of eight bytes at a place of a board's bytes, the lowest byte first.
+pub fn eight_at(bytes: &[u8; 64], at: usize) -> u64
     requires { at + 8 ≤ 64 }
     ensures { result ≡ eight_at bytes.now at }
 {
@@ -119,7 +121,8 @@ pub fn settings_at(bytes: &[u8; 64]) -> Settings
     }
 }
 
-fn are_zero(bytes: &[u8]) -> bool
+/// Whether all of these bytes are zero, as those that a board leaves unused.
+pub fn are_zero(bytes: &[u8]) -> bool
     ensures { result ≡ are_zero bytes.now }
 {
     bytes.iter().all(|b| *b == 0)
@@ -138,7 +141,8 @@ fn chip_meets(bytes: &[u8; 64], at: usize) -> bool
     bytes[at] <= 4 && once_ready <= 1 && phase_fits && bytes[at + 5] % 8 == 0 && bytes[at + 6] <= 1
 }
 
-fn is_period_or_none(number: u32) -> bool
+/// Whether a number is a period of the timer, 2 to 65,536, or 0 where it has none.
+pub fn is_period_or_none(number: u32) -> bool
     ensures { result ≡ is_period_or_none number }
 {
     number == 0 || 2 <= number && number <= 65536

@@ -1,72 +1,12 @@
 //! What the board's bytes of a checkpoint are to meet.
 
 ghost use Rattle.std.specs.Prelude.{◌≡◌, ◌+◌, ◌<◌, ◌≤◌, ◌^◌, min, map};
-ghost use Rattle.board.specs.Restored.{four_at, eight_at, phase_of, chip_at, controllers_at, are_zero, is_period_or_none, chip_demands, pair_demands, timer_demands, port_demands};
+ghost use Rattle.board.specs.Restored.{chip_demands, pair_demands, timer_demands, port_demands};
 ghost use Rattle.checkpoint.specs.Demands.{first_bad};
 ghost use Rattle.checkpoint.specs.Form.{fits_phase, low_fits, next_fits, left_fits, board_demand, board_demands};
 
 use crate::demand::{Demand, earlier, first_bad};
-use pic8259::{Chip, Pair, Phase, Selected};
-
-fn four_at(bytes: &[u8; 64], at: usize) -> u32
-    requires { at + 4 ≤ 64 }
-    ensures { result ≡ four_at bytes.now at }
-{
-    u32::from_le_bytes([bytes[at], bytes[at + 1], bytes[at + 2], bytes[at + 3]])
-}
-
-fn eight_at(bytes: &[u8; 64], at: usize) -> u64
-    requires { at + 8 ≤ 64 }
-    ensures { result ≡ eight_at bytes.now at }
-{
-    u64::from_le_bytes([
-        bytes[at],
-        bytes[at + 1],
-        bytes[at + 2],
-        bytes[at + 3],
-        bytes[at + 4],
-        bytes[at + 5],
-        bytes[at + 6],
-        bytes[at + 7],
-    ])
-}
-
-fn are_zero(bytes: &[u8]) -> bool
-    ensures { result ≡ are_zero bytes.now }
-{
-    bytes.iter().all(|b| *b == 0)
-}
-
-fn phase_of(number: u8) -> Phase
-    ensures { result ≡ phase_of number }
-{
-    match number {
-        0 => Phase::Never,
-        1 => Phase::AwaitsBase,
-        2 => Phase::AwaitsCascade,
-        3 => Phase::AwaitsMode,
-        _ => Phase::Ready,
-    }
-}
-
-fn chip_at(bytes: &[u8; 64], at: usize) -> Chip
-    requires { at + 7 ≤ 64 }
-    ensures { result ≡ chip_at bytes.now at }
-{
-    Chip {
-        phase: phase_of(bytes[at]),
-        once_ready: bytes[at + 1] == 1,
-        interrupt_request: bytes[at + 2],
-        in_service: bytes[at + 3],
-        interrupt_mask: bytes[at + 4],
-        base: bytes[at + 5],
-        selected: if bytes[at + 6] == 0 {
-            Selected::InterruptRequest
-        } else {
-            Selected::InService
-        },
-    }
-}
+use board::{are_zero, controllers_at, eight_at, four_at, is_period_or_none};
 
 fn board_demand(at: u32, met: bool) -> Demand
     requires { at < 2 ^ 30 }
@@ -112,17 +52,7 @@ fn chip_demands(bytes: &[u8; 64], at: usize) -> [Demand; 5]
 fn pair_demands(bytes: &[u8; 64]) -> [Demand; 1]
     ensures { result ≡ map board_demand (pair_demands bytes.now) }
 {
-    let pair = Pair {
-        master: chip_at(bytes, 0),
-        slave: chip_at(bytes, 7),
-    };
-    [board_demand(11, pair.stands_for_slave())]
-}
-
-fn is_period_or_none(number: u32) -> bool
-    ensures { result ≡ is_period_or_none number }
-{
-    number == 0 || 2 <= number && number <= 65536
+    [board_demand(11, controllers_at(bytes).stands_for_slave())]
 }
 
 fn next_fits(period: u32, next_period: u32) -> bool
