@@ -1,12 +1,12 @@
 -- Each object tested in turn.
-use Rattle.std.proofs.Common.{◌≡◌, ℕ, ◌+◌, ◌<◌, ◌≤◌, Bool, true, false, List, [], ◌∷◌, ◌++◌, length, get_or, take, Option, Some, None, Ok, refl, ap, sym, ◌∙◌, subst, arith}
+use Rattle.std.proofs.Common.{◌≡◌, ℕ, ◌+◌, ◌<◌, ◌≤◌, Bool, false, List, [], ◌∷◌, ◌++◌, length, get_or, take, Option, Some, None, Ok, refl, ap, sym, ◌∙◌, subst, arith}
 use Rattle.std.specs.Prelude.{sum_by, map, nat_lt, not, ◌||◌, ◌&&◌}
 use Rattle.std.specs.Bool.{then_some}
 use Rattle.std.specs.List.{flat_map}
 use Rattle.std.specs.Option.{option_or}
 use Rattle.std.proofs.lemmas.List.{take_all, length-append, length-map, append-nil}
 use Rattle.std.proofs.lemmas.List.Concat.{flat_map-append}
-use Rattle.std.proofs.lemmas.Bool.{ltb-false, lt-ltb, not-false}
+use Rattle.std.proofs.lemmas.Bool.{ltb-false, lt-ltb, not-false, or_parts}
 use Rattle.elf_form.specs.ObjectParts.{ObjectParts}
 use Rattle.sites.specs.declared.site.Site.{Site}
 use Rattle.sites.specs.declared.limits.TheConstants.{TEXT_LIMIT, SHORT_TEXT, SITE_LIMIT}
@@ -27,7 +27,7 @@ use Rattle.elf_link.specs.Refusals.{refused, doubled, doubled_cause, object_caus
 use Rattle.elf_link.specs.Steps.{IsWithin, AreBelow, totals, with_object, size_cause, is_crowded, sites_wrong_by, step_cause, tested}
 use Rattle.elf_link.specs.Answers.{Fails}
 use Rattle.elf_form.proofs.FormLaws.{then_none, else_none}
-use Rattle.elf_form.proofs.LinkableObjects.{and_false}
+use Rattle.sites.proofs.Inverse.{second_false}
 use Rattle.elf_link.proofs.FirstLaws.{Passed, first_next, first_end, fails_here}
 use Rattle.elf_link.proofs.LayoutLaws.{sum-more, text_end-more, text_end-le, memory_limit}
 use Rattle.elf_link.proofs.BaseLaws.{numbered_at, length-numbered, take-numbered}
@@ -44,10 +44,6 @@ or_assoc None None c d = refl
 
 passed : (b : Bool) (cause : LinkCause) (later : Option LinkCause) → option_or (then_some b cause) later ≡ None → (b ≡ false) × (later ≡ None)
 passed b cause later h = let both = else_none (then_some b cause) later h in (then_none b cause both.0, both.1)
-
-or_second : (a b : Bool) → (a || b) ≡ false → b ≡ false
-or_second true b h = cc
-or_second false b h = h
 
 abbrev chain : Bool → Bool → Bool → Bool → Option LinkCause → Option LinkCause
 chain a b c d e = option_or (then_some a TextTooLarge) (option_or (then_some b InitTooLarge) (option_or (then_some c TooManySymbols) (option_or (then_some d SitesForm) e)))
@@ -165,8 +161,8 @@ module _ (os : List ObjectParts) (i : ℕ) (o : ObjectParts) (t : Totals) (gs : 
   gaps_are : object_cause os (i, o) ≡ None → SHORT_TEXT < text_end (take (i + 1) os) + 2 → AreGapped 0 (first_sites os (i + 1))
   unfolding sites_wrong
   gaps_are none long =
-      let right = or_second _ (crowded os (i + 1)) (sites_right none) in
-      gapped_by 0 (first_sites os (i + 1)) (not-false (are_gapped 0 (first_sites os (i + 1))) (and_false (nat_lt SHORT_TEXT (text_end (take (i + 1) os) + 2)) (not (are_gapped 0 (first_sites os (i + 1)))) (lt-ltb SHORT_TEXT (text_end (take (i + 1) os) + 2) long) right))
+      let right = (or_parts _ (crowded os (i + 1)) (sites_right none)).1 in
+      gapped_by 0 (first_sites os (i + 1)) (not-false (are_gapped 0 (first_sites os (i + 1))) (second_false (nat_lt SHORT_TEXT (text_end (take (i + 1) os) + 2)) (not (are_gapped 0 (first_sites os (i + 1)))) (lt-ltb SHORT_TEXT (text_end (take (i + 1) os) + 2) long) right))
 
   count_is : (t' : Totals) (sites' : List Site) → t' ≡ with_object t o → sites' ≡ sites ++ map (moved t.text) (sites_of o) → length sites' ≡ t'.sites
   unfolding with_object

@@ -154,7 +154,8 @@ fn placed_sites(
 fn gather(alloc: Global, number: u32, object: &Object, all: &mut Gathered) -> Result<(), LinkFault>
     requires linkable { IsLinkable object.now }
     requires within { IsWithin all.old.totals }
-    ensures exact { Gives (λ _. tt) result (tested (refused number (step_cause all.old.totals all.old.sites.items all.old.globals (number, object.now)))) }
+    ensures exact { Gives (λ _. tt) result (tested (refused number
+        (step_cause all.old.totals all.old.sites.items all.old.globals (number, object.now)))) }
     ensures totals { OnOk result (all.new.totals ≡ with_object all.old.totals object.now) }
     ensures globals { OnOk result (all.new.globals ≡ all.old.globals ++ exports (number, object.now)) }
     ensures sites { OnOk result (all.new.sites.items ≡ all.old.sites.items ++ map (moved all.old.totals.text) (sites_of object.now)) }

@@ -67,7 +67,10 @@ pub fn relocations_refused()
     ensures no_symbol { (gs : List (List ℕ × TargetView)) (i : ℕ) (o : ObjectParts) (r : RelocView) (s : SymbolView)
         → slice_get o.symbols r.symbol ≡ Some s → target_of gs i s ≡ None
         → reloc_cause gs (i, o) r ≡ Some (NoSymbol s.name) }
-    ensures not_text { (gs : List (List ℕ × TargetView)) (i : ℕ) (o : ObjectParts) (r : RelocView) (s : SymbolView) (t : TargetView) → slice_get o.symbols r.symbol ≡ Some s → target_of gs i s ≡ Some t → reloc_cause gs (i, o) r ≡ (if r.in_text && r.relative && not (is_text t.place) then Some (NotText r.at) else None) }
+    ensures not_text { (gs : List (List ℕ × TargetView)) (i : ℕ) (o : ObjectParts) (r : RelocView) (s : SymbolView)
+        (t : TargetView) → slice_get o.symbols r.symbol ≡ Some s → target_of gs i s ≡ Some t
+        → reloc_cause gs (i, o) r
+        ≡ (if r.in_text && r.relative && not (is_text t.place) then Some (NotText r.at) else None) }
 {}
 
 /// A name is told as defined twice exactly where it stands behind itself: it is the first of an
@@ -92,7 +95,7 @@ pub fn objects_in_order()
 /// What an object is refused for, in this order, over the objects up to and with it, laid out by
 /// themselves: their text with its last jump is above its limit; their data and zeroed bytes are;
 /// they have too many symbols; the object's sites are wrong; it defines a name again.
-#[tactic(auto, using(crate::proofs::OrderLaws::text_first, crate::proofs::OrderLaws::init_second, crate::proofs::OrderLaws::symbols_third, crate::proofs::OrderLaws::sites_fourth, crate::proofs::OrderLaws::names_last))]
+#[tactic(auto, using(crate::proofs::OrderLaws::causes))]
 pub fn causes_in_order()
     ensures text { (os : List ObjectParts) (p : ℕ × ObjectParts) → TEXT_LIMIT < text_end (up_to os p) + 2
         → object_cause os p ≡ Some TextTooLarge }
@@ -109,7 +112,7 @@ pub fn causes_in_order()
 /// An object's sites are wrong exactly where their section is malformed, one of them ends behind
 /// the text, there are more than 262,144 in the objects up to and with this one, or a long text
 /// leaves a gap between two of them that can't be written.
-#[tactic(auto, using(crate::proofs::OrderLaws::malformed, crate::proofs::OrderLaws::past_text, crate::proofs::OrderLaws::too_many, crate::proofs::OrderLaws::gaps_wrong, crate::proofs::OrderLaws::sites_right))]
+#[tactic(auto, using(crate::proofs::OrderLaws::site_causes))]
 pub fn sites_refused()
     ensures malformed { (os : List ObjectParts) (p : ℕ × ObjectParts) (at : ℕ) → sites_in p.1.sites ≡ Err at → sites_wrong os p ≡ true }
     ensures past_text { (os : List ObjectParts) (p : ℕ × ObjectParts) (sites : SitesView) (k : ℕ) (s : SiteView)
@@ -139,7 +142,7 @@ pub fn relocations_in_order()
 
 /// All objects are tested before any relocation, and all relocations before the entry: `_start`
 /// is refused exactly where it is defined outside text.
-#[tactic(auto, using(crate::proofs::OrderLaws::objects_first, crate::proofs::OrderLaws::relocs_second, crate::proofs::OrderLaws::no_start, crate::proofs::OrderLaws::start_in_text, crate::proofs::OrderLaws::start_elsewhere))]
+#[tactic(auto, using(crate::proofs::OrderLaws::stages))]
 pub fn stages_in_order()
     ensures objects { (os : List ObjectParts) (r : Refused) → first_some (object_refusal os) (numbered os) ≡ Some r → refusal os ≡ Some r }
     ensures relocations { (os : List ObjectParts) (r : Refused)

@@ -37,7 +37,7 @@ use Rattle.image_check.specs.Accepts.{IsWithin, IsEntrance, IsAccepted, Accepts}
 use Rattle.image_check.proofs.FileLimits.{text_bytes}
 use Rattle.image_check.proofs.Offsets.{any_at, swept_in}
 use Rattle.image_check.proofs.Passed.{bind_ok, IsPlaced, has_passed, within_parts}
-use Rattle.image_check.proofs.Starts.{contains_any, any_contains, same_number}
+use Rattle.image_check.proofs.Starts.{contains_any, any_contains}
 use Rattle.image_check.proofs.SweepLaws.{sweep_exact}
 
 -- ---- two lists of sites
@@ -63,7 +63,7 @@ same_site s t e =
     ∙ ap (λ n. record { at = t.at; kind = t.kind; len = t.len; total = n }) total
 
 pub is_itself : (s : Site) → is_same s s ≡ true
-is_itself s = rw (same_number s.at, same_number (number s.kind), same_number s.len, same_number s.total) refl
+is_itself s = rw (eq-eqb s.at s.at refl, eq-eqb (number s.kind) (number s.kind) refl, eq-eqb s.len s.len refl, eq-eqb s.total s.total refl) refl
 
 found_same : (b : Bool) (x : Option ℕ) (at : ℕ) → cond b x (Some at) ≡ None → (b ≡ true) × (x ≡ None)
 found_same true x at e = (refl, e)

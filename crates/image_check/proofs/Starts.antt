@@ -1,11 +1,12 @@
 -- Flags of the offsets at which instructions stand.
-use Rattle.std.proofs.Common.{◌≡◌, ℕ, ◌<◌, ◌≤◌, Bool, true, false, ◌||◌, List, [], ◌∷◌, ◌++◌, length, nat_lt, sym, ap, subst, ◌∙◌, arith}
+use Rattle.std.proofs.Common.{◌≡◌, ℕ, ◌<◌, ◌≤◌, Bool, true, false, ◌||◌, List, [], ◌∷◌, ◌++◌, length, nat_lt, refl, sym, ap, subst, ◌∙◌, arith}
 use Rattle.std.specs.Prelude.{IsTrue, ◌↔◌, ◌==◌, slice_set, slice_index_or, replicate}
 use Rattle.std.specs.List.{Contains}
 use Rattle.std.proofs.lemmas.Bool.Decides.{nat_tests}
 use Rattle.std.proofs.lemmas.Grind.{common_steps}
 use Rattle.std.proofs.lemmas.List.{get_or_read}
 use Rattle.std.proofs.lemmas.List.Folds.{list_any-append, Any-from_list_any, list_any-from_Any}
+use Rattle.std.proofs.lemmas.Bool.{eq-eqb}
 use Rattle.guest_ram.specs.Among.{is_among}
 use Rattle.image_check.specs.declared.piece.Piece.{Piece}
 use Rattle.image_check.specs.Pieces.{is_piece_start}
@@ -30,11 +31,8 @@ mark_more starts ps p at i e lt so_far =
 equal_numbers : (k at : ℕ) → (at == k) ≡ true → k ≡ at
 equal_numbers k at e = grind (arith, nat_tests)
 
-pub same_number : (at : ℕ) → (at == at) ≡ true
-same_number at = grind (arith, nat_tests)
-
 pub contains_any : (starts : List ℕ) (at : ℕ) → Contains starts at → is_among at starts ≡ true
-contains_any starts at h = list_any-from_Any (λ (k : ℕ). at == k) starts (h.0, at, h.1, h.2, same_number at)
+contains_any starts at h = list_any-from_Any (λ (k : ℕ). at == k) starts (h.0, at, h.1, h.2, eq-eqb at at refl)
 
 pub any_contains : (starts : List ℕ) (at : ℕ) → is_among at starts ≡ true → Contains starts at
 any_contains starts at h =

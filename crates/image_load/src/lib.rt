@@ -71,7 +71,10 @@ fn tables_for(pages: u32) -> u32
 fn directory(ram: &mut Ram, frames: u32, text_pages: u32, data_pages: u32)
     requires room { 2 ^ 20 ≤ length ram.old }
     requires few { (frames ≤ 16384) × (text_pages ≤ 4096) × (data_pages ≤ 8192) }
-    ensures words { ram.new ≡ with_part (with_part (with_part ram.old 0x1C00 (frame_words 4 (tables_of frames) 3)) 0x1100 (frame_words 0x14 (tables_of text_pages) 3)) 0x1110 (frame_words 0x18 (tables_of data_pages) 3) }
+    ensures words { ram.new ≡ with_part (with_part (with_part ram.old
+        0x1C00 (frame_words 4 (tables_of frames) 3))
+        0x1100 (frame_words 0x14 (tables_of text_pages) 3))
+        0x1110 (frame_words 0x18 (tables_of data_pages) 3) }
     ensures len { length ram.new ≡ length ram.old }
 {
     put_frames(ram, 0x1C00, 4, tables_for(frames), 3);
@@ -82,7 +85,10 @@ fn directory(ram: &mut Ram, frames: u32, text_pages: u32, data_pages: u32)
 fn tables(ram: &mut Ram, frames: u32, text_pages: u32, data_pages: u32)
     requires room { 2 ^ 20 ≤ length ram.old }
     requires few { (frames ≤ 16384) × (text_pages ≤ 4096) × (data_pages ≤ 8192) }
-    ensures words { ram.new ≡ with_part (with_part (with_part ram.old 0x4000 (frame_words 0 frames 3)) 0x14000 (frame_words 0x100 text_pages 1)) 0x18000 (frame_words (0x100 + text_pages) data_pages 3) }
+    ensures words { ram.new ≡ with_part (with_part (with_part ram.old
+        0x4000 (frame_words 0 frames 3))
+        0x14000 (frame_words 0x100 text_pages 1))
+        0x18000 (frame_words (0x100 + text_pages) data_pages 3) }
     ensures len { length ram.new ≡ length ram.old }
 {
     put_frames(ram, 0x4000, 0, frames, 3);

@@ -70,9 +70,11 @@ impl Files for MemFiles {
         ensures other_count { self.new.store_faults ≡ self.old.store_faults }
 
         ensures refused { load_fails self.old.calls self.old.fail.items self.old.files name.now ≡ true → result ≡ Err IoAnswer.Failed }
-        ensures granted { load_fails self.old.calls self.old.fail.items self.old.files name.now ≡ false → IsErrOf result IoAnswer.Failed → ⊥ }
+        ensures granted { load_fails self.old.calls self.old.fail.items self.old.files name.now ≡ false
+            → IsErrOf result IoAnswer.Failed → ⊥ }
         ensures counted { self.new.load_faults ≡
-            (if load_fails self.old.calls self.old.fail.items self.old.files name.now then one_more self.old.load_faults else self.old.load_faults) }
+            (if load_fails self.old.calls self.old.fail.items self.old.files name.now then one_more self.old.load_faults
+            else self.old.load_faults) }
         ensures calls { self.new.calls ≡ one_more self.old.calls }
         ensures list { self.new.fail.items ≡ self.old.fail.items }
     {
@@ -95,7 +97,8 @@ impl Files for MemFiles {
     /// Fails exactly where the call's number is in the list; it then changes no file.
     fn store(&mut self, name: &str, bytes: &[u8]) -> Result<(), IoAnswer>
         ensures stores { OnOk result (Stores (Some (held_of self.old.files)) (Some (held_of self.new.files)) name.now bytes.now) }
-        ensures failed { IsErrOf result IoAnswer.Failed → ChangesAt (Some (held_of self.old.files)) (Some (held_of self.new.files)) name.now }
+        ensures failed { IsErrOf result IoAnswer.Failed
+            → ChangesAt (Some (held_of self.old.files)) (Some (held_of self.new.files)) name.now }
         ensures memory { IsErrOf result IoAnswer.Memory → held_of self.new.files ≡ held_of self.old.files }
         ensures cause { HasCause self.old.store_faults self.new.store_faults result }
         ensures kept { OnOk result (self.new.store_faults ≡ self.old.store_faults) }

@@ -1,7 +1,7 @@
 -- Writing sites of format 2 one after the other, and testing whether they can be written so.
 use Rattle.std.proofs.Common.{◌≡◌, ℕ, ◌+◌, ◌-◌, ◌<◌, ◌≤◌, ◌^◌, Bool, true, false, eqb, ltb, List, [], ◌∷◌, ◌++◌, length, get_or, drop, refl, sym, ap, ◌∙◌, subst, arith, append_assoc, lt-ltb, le-ltb, eq-eqb}
 use Rattle.std.specs.Prelude.{not, ◌&&◌, max}
-use Rattle.std.proofs.lemmas.Bool.{ltb-false, ltb-true, eqb-true}
+use Rattle.std.proofs.lemmas.Bool.{ltb-false, ltb-true, eqb-true, and_parts, not-true}
 use Rattle.std.proofs.lemmas.List.{drop_more, drop_all, append-nil}
 use Rattle.sites.specs.declared.site.Site.{Site}
 use Rattle.sites.specs.Spelling.{gap, gaps, AreGapped}
@@ -38,14 +38,6 @@ pub test_end : (from : ℕ) (xs : List Site) (i : ℕ) → length xs ≤ i → a
 unfolding are_gapped
 test_end from xs i le = ap (are_gapped from) (drop_all i xs le)
 
-and_first : (a b : Bool) → (a && b) ≡ true → a ≡ true
-and_first true b h = refl
-and_first false b h = cc
-
-and_second : (a b : Bool) → (a && b) ≡ true → b ≡ true
-and_second true b h = h
-and_second false b h = cc
-
 -- the tests of one site
 record IsGapped (from : ℕ) (s : Site) : Type 0 where
   rises : from ≤ s.at
@@ -61,31 +53,27 @@ by_test from s h =
     let t2 = ltb 0 s.len in
     let t3 = ltb s.len 12 in
     let t4 = eqb s.total (max 5 s.len) in
-    let h3 = and_first (t0 && t1 && t2 && t3) t4 h in
-    let h2 = and_first (t0 && t1 && t2) t3 h3 in
-    let h1 = and_first (t0 && t1) t2 h2 in
-    let rises : from ≤ s.at = ltb-false s.at from (was_not (ltb s.at from) (and_first t0 t1 h1)) in
-    let near = ltb-true (s.at - from) 16777216 (and_second t0 t1 h1) in
-    let some = ltb-true 0 s.len (and_second (t0 && t1) t2 h2) in
-    let most = ltb-true s.len 12 (and_second (t0 && t1 && t2) t3 h3) in
+    let h3 = (and_parts (t0 && t1 && t2 && t3) t4 h).0 in
+    let h2 = (and_parts (t0 && t1 && t2) t3 h3).0 in
+    let h1 = (and_parts (t0 && t1) t2 h2).0 in
+    let rises : from ≤ s.at = ltb-false s.at from (not-true (ltb s.at from) (and_parts t0 t1 h1).0) in
+    let near = ltb-true (s.at - from) 16777216 (and_parts t0 t1 h1).1 in
+    let some = ltb-true 0 s.len (and_parts (t0 && t1) t2 h2).1 in
+    let most = ltb-true s.len 12 (and_parts (t0 && t1 && t2) t3 h3).1 in
     record {
       rises = rises;
       near = omega arith;
       some = omega arith;
       most = omega arith;
-      total = eqb-true _ _ (and_second (t0 && t1 && t2 && t3) t4 h);
+      total = eqb-true _ _ (and_parts (t0 && t1 && t2 && t3) t4 h).1;
     }
-  where
-    was_not : (b : Bool) → not b ≡ true → b ≡ false
-    was_not true h = cc
-    was_not false h = refl
 
 pub gapped_by : (from : ℕ) (sites : List Site) → are_gapped from sites ≡ true → AreGapped from sites
 unfolding are_gapped
 gapped_by from [] h = tt
 gapped_by from (s ∷ sites) h =
-    let is = by_test from s (and_first (is_gapped from s) (are_gapped (s.at + s.total) sites) h) in
-    (is.rises, is.near, is.some, is.most, is.total, gapped_by (s.at + s.total) sites (and_second (is_gapped from s) (are_gapped (s.at + s.total) sites) h))
+    let is = by_test from s (and_parts (is_gapped from s) (are_gapped (s.at + s.total) sites) h).0 in
+    (is.rises, is.near, is.some, is.most, is.total, gapped_by (s.at + s.total) sites (and_parts (is_gapped from s) (are_gapped (s.at + s.total) sites) h).1)
 
 tested : (from : ℕ) (s : Site) → from ≤ s.at → s.at < from + 2 ^ 24 → 1 ≤ s.len → s.len ≤ 11 → s.total ≡ max 5 s.len → is_gapped from s ≡ true
 tested from s rises near some most total =

@@ -1,6 +1,8 @@
-use Rattle.std.proofs.Common.{◌≡◌, ℕ, ◌+◌, ◌<◌, ◌≤◌, ◌||◌, Bool, true, false, cond, List, length, Result, Ok, Err, refl, lt-ltb, le-ltb, sym, ap, ◌∙◌, arith, [], ◌∷◌, zero, suc, ltb-false}
+use Rattle.std.proofs.Common.{◌≡◌, ℕ, ◌+◌, ◌<◌, ◌≤◌, ◌||◌, Bool, true, false, cond, List, length, Result, Ok, Err, lt-ltb, le-ltb, sym, ap, ◌∙◌, arith, [], ◌∷◌, zero, suc, ltb-false}
 use Rattle.std.specs.Prelude.{All, nat_lt}
 use Rattle.std.specs.List.{list_any}
+use Rattle.std.proofs.lemmas.Bool.{or_parts}
+use Rattle.std.proofs.Math.Bool.{or-true}
 use Rattle.elf_form.specs.ObjectParts.{ObjectParts}
 use Rattle.sites.specs.SitesParts.{SitesParts}
 use Rattle.sites.specs.declared.site.Site.{Site}
@@ -27,13 +29,9 @@ listed : (o : ObjectParts) (sites : SitesParts) → sites_in o.sites ≡ Ok site
 unfolding sites_of
 listed o sites read = ap or_none read
 
-or-right : (a : Bool) → (a || true) ≡ true
-or-right true = refl
-or-right false = refl
-
 too_many : (before : ℕ) (o : ObjectParts) (sites : SitesParts) → sites_in o.sites ≡ Ok sites → SITE_LIMIT < before + length sites.list → own_sites_wrong before o ≡ true
 too_many before o sites read over =
-    ap (λ (b : Bool). misplaced (length o.text) (sites_in o.sites) || b) (ap (λ (ss : List Site). nat_lt SITE_LIMIT (before + length ss)) (listed o sites read) ∙ lt-ltb SITE_LIMIT (before + length sites.list) over) ∙ or-right (misplaced (length o.text) (sites_in o.sites))
+    ap (λ (b : Bool). misplaced (length o.text) (sites_in o.sites) || b) (ap (λ (ss : List Site). nat_lt SITE_LIMIT (before + length ss)) (listed o sites read) ∙ lt-ltb SITE_LIMIT (before + length sites.list) over) ∙ or-true (misplaced (length o.text) (sites_in o.sites))
 
 keeps : (i before : ℕ) (o : ObjectParts) (sites : SitesParts) → sites_in o.sites ≡ Ok sites → misplaced (length o.text) (sites_in o.sites) ≡ false → before + length sites.list ≤ SITE_LIMIT → own_sites i before o ≡ Ok sites.list
 unfolding own_sites
@@ -41,18 +39,10 @@ keeps i before o sites read placed few =
     let below : nat_lt SITE_LIMIT (before + length (sites_of o)) ≡ false = ap (λ (ss : List Site). nat_lt SITE_LIMIT (before + length ss)) (listed o sites read) ∙ le-ltb SITE_LIMIT (before + length sites.list) few in
     (λ j. cond {A = Result (List Site) Refused} (placed j || below j) (Err (record { object = i; cause = SitesForm })) (Ok (sites_of o))) ∙ ap Ok (listed o sites read)
 
-first_false : (a b : Bool) → (a || b) ≡ false → a ≡ false
-first_false true b e = e
-first_false false b e = refl
-
-then_false : (a b : Bool) → (a || b) ≡ false → b ≡ false
-then_false true b e = absurd (cc)
-then_false false b e = e
-
 passed : (test : Site → Bool) (sites : List Site) → list_any test sites ≡ false → All (λ s. test s ≡ false) sites
 passed test [] e k d lt = absurd (omega arith)
-passed test (s ∷ sites) e zero d lt = first_false (test s) (list_any test sites) e
-passed test (s ∷ sites) e (suc k) d lt = passed test sites (then_false (test s) (list_any test sites) e) k d (omega arith)
+passed test (s ∷ sites) e zero d lt = (or_parts (test s) (list_any test sites) e).0
+passed test (s ∷ sites) e (suc k) d lt = passed test sites (or_parts (test s) (list_any test sites) e).1 k d (omega arith)
 
 placed_below : (o : ObjectParts) (sites : SitesParts) → sites_in o.sites ≡ Ok sites → misplaced (length o.text) (sites_in o.sites) ≡ false → All (λ s. s.at + s.total ≤ length o.text) sites.list
 placed_below o sites read placed k d lt = ltb-false _ _ (passed (λ s. nat_lt (length o.text) (s.at + s.total)) sites.list (sym (ap (misplaced (length o.text)) read) ∙ placed) k d lt)
