@@ -1,6 +1,6 @@
 -- One byte more of the source.
 use Rattle.std.proofs.Common.{◌≡◌, ℕ, ◌+◌, ◌<◌, List, [], ◌∷◌, ◌++◌, length, get_or, take, drop, Result, Ok, Err, refl, sym, ap, subst, ◌∙◌}
-use Rattle.std.proofs.lemmas.List.{take_more}
+use Rattle.std.proofs.lemmas.List.{take_more, drop_more}
 use Rattle.asm_lex.specs.declared.fault.SourceFault.{SourceFault}
 use Rattle.asm_lex.specs.declared.fault.SourceFault.TheVariants as fault
 use Rattle.asm_lex.specs.declared.machine.Mode.{Mode}
@@ -9,7 +9,6 @@ use Rattle.asm_statement.specs.declared.state.StatementState.{StatementState}
 use Rattle.asm_statement.specs.ScopeView.{ScopeView}
 use Rattle.asm_statement.specs.Reading.{Fault}
 use Rattle.asm_statement.specs.Running.{Running, one_byte_over, one_byte, run, DoesByte, Runs}
-use Rattle.asm_lex.proofs.Scanning.{drop_one}
 
 abbrev pub here : ScopeView → StatementState → Mode → List ℕ → ℕ → ℕ → Running
 here sc st m source i line = record { scope = sc; state = st; mode = m; seen = take i source; at = i; line = line }
@@ -36,14 +35,14 @@ pub advanced : (sc new : ScopeView) (st st2 : StatementState) (m m2 : Mode) (sou
     → run (here new st2 m2 source (i + 1) (line_after line b)) (drop (i + 1) source) ≡ total
 advanced sc new st st2 m m2 source i line b total lt is h so_far =
     let e = step_ok sc st m (take i source) (take (i + 1) source) i line b (drop (i + 1) source) (drop i source) (new, st2, m2)
-    (take_more source i 0 lt ∙ ap (λ (y : ℕ). take i source ++ y ∷ []) (sym is)) (drop_one source i lt ∙ ap (λ (y : ℕ). y ∷ drop (i + 1) source) (sym is)) h in
+    (take_more source i 0 lt ∙ ap (λ (y : ℕ). take i source ++ y ∷ []) (sym is)) (drop_more source i 0 lt ∙ ap (λ (y : ℕ). y ∷ drop (i + 1) source) (sym is)) h in
     sym e ∙ so_far
 
 pub failed : (sc : ScopeView) (st : StatementState) (m : Mode) (source : List ℕ) (i line b : ℕ) (g : Fault) (total : Result Running Fault) → i < length source → b ≡ get_or source i 0
     → one_byte_over sc st m (take (i + 1) source) i line b ≡ Err g → run (here sc st m source i line) (drop i source) ≡ total → total ≡ Err g
 failed sc st m source i line b g total lt is h so_far =
     let e = step_err sc st m (take i source) (take (i + 1) source) i line b (drop (i + 1) source) (drop i source) g
-    (take_more source i 0 lt ∙ ap (λ (y : ℕ). take i source ++ y ∷ []) (sym is)) (drop_one source i lt ∙ ap (λ (y : ℕ). y ∷ drop (i + 1) source) (sym is)) h in
+    (take_more source i 0 lt ∙ ap (λ (y : ℕ). take i source ++ y ∷ []) (sym is)) (drop_more source i 0 lt ∙ ap (λ (y : ℕ). y ∷ drop (i + 1) source) (sym is)) h in
     sym so_far ∙ e
 
 pub failed_runs : (x : SourceFault) (sc new : ScopeView) (st : StatementState) (m : Mode) (source : List ℕ) (i line b : ℕ) (total : Result Running Fault) → i < length source → b ≡ get_or source i 0

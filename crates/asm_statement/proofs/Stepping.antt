@@ -7,8 +7,7 @@ use Rattle.asm_lex.specs.declared.token.Token.{Token}
 use Rattle.asm_lex.specs.declared.machine.Mode.{Mode}
 use Rattle.asm_lex.specs.declared.machine.Next.TheVariants.{Goes}
 use Rattle.asm_lex.specs.Machine.{stepped, start_of}
-use Rattle.asm_lex.proofs.Stepping.{FitsIn, sound}
-use Rattle.asm_lex.proofs.Stepping as low
+use Rattle.asm_lex.proofs.Stepping.{FitsIn, sound, starts_next}
 use Rattle.asm_statement.specs.Reading.{Fits}
 
 fits_is : (seen : List ℕ) (n : ℕ) (t : Option Token) → length seen ≡ n → FitsIn n t → Fits seen t
@@ -20,9 +19,6 @@ fits_first seen m at line b e h = fits_is seen (at + 1) _ e (sound m at line b h
 
 pub fits_second : (seen : List ℕ) (m : Mode) (at line b : ℕ) → length seen ≡ at + 1 → start_of m at ≤ at → Fits seen (stepped m at line b).second
 fits_second seen m at line b e h = fits_is seen (at + 1) _ e (sound m at line b h).second
-
-pub starts_next : (m : Mode) (at line b : ℕ) (n : Mode) → start_of m at ≤ at → (stepped m at line b).next ≡ Goes n → start_of n (at + 1) ≤ at + 1
-starts_next m at line b n h e = low.starts_next m at line b n h e
 
 pub begins_next : (m : Mode) (at line b : ℕ) (s : Stepped) (r : Result (StatementState × Mode) SourceFault) → s ≡ stepped m at line b → start_of m at ≤ at
     → IfOk r (λ x. s.next ≡ Goes x.1) → IfOk r (λ x. start_of x.1 (at + 1) ≤ at + 1)

@@ -46,48 +46,16 @@ pub fn shape_at(head: &Head, index: usize) -> Option<Shape>
 fn directive_shape(kind: Directive, index: usize) -> Option<Shape>
     ensures { result ≡ spec.directive_shape kind index }
 {
-    match kind {
-        Directive::Bytes => Some(Shape::Number),
-        Directive::Longs => Some(Shape::Value),
-        Directive::Strings => Some(Shape::Text),
-        Directive::Global => if index == 0 { Some(Shape::Name) } else { None },
-        Directive::Zero => if index == 0 { Some(Shape::Count) } else { None },
-        Directive::Aligned => if index == 0 {
-            Some(Shape::Alignment)
-        } else {
-            None
-        },
-        Directive::Powered => {
-            if index == 0 {
-                Some(Shape::Power)
-            } else if index == 1 {
-                Some(Shape::Fill)
-            } else if index == 2 {
-                Some(Shape::Count)
-            } else {
-                None
-            }
-        }
-        Directive::Common => {
-            if index == 0 {
-                Some(Shape::Name)
-            } else if index == 1 {
-                Some(Shape::Count)
-            } else if index == 2 {
-                Some(Shape::Alignment)
-            } else {
-                None
-            }
-        }
-        Directive::LocalCommon => {
-            if index == 0 {
-                Some(Shape::Name)
-            } else if index == 1 {
-                Some(Shape::Count)
-            } else {
-                None
-            }
-        }
+    match (kind, index) {
+        (Directive::Bytes, _) => Some(Shape::Number),
+        (Directive::Longs, _) => Some(Shape::Value),
+        (Directive::Strings, _) => Some(Shape::Text),
+        (Directive::Global | Directive::Common | Directive::LocalCommon, 0) => Some(Shape::Name),
+        (Directive::Common | Directive::LocalCommon, 1) => Some(Shape::Count),
+        (Directive::Zero, 0) | (Directive::Powered, 2) => Some(Shape::Count),
+        (Directive::Aligned, 0) | (Directive::Common, 2) => Some(Shape::Alignment),
+        (Directive::Powered, 0) => Some(Shape::Power),
+        (Directive::Powered, 1) => Some(Shape::Fill),
         _ => None,
     }
 }
