@@ -1,9 +1,9 @@
 -- What is read word by word are statements.
-use Rattle.std.proofs.Common.{◌≡◌, ℕ, Bool, true, false, List, [], ◌∷◌, ◌++◌, length, Ok, Err, refl, sym, ap, subst, ◌∙◌, append_assoc}
-use Rattle.std.specs.Prelude.{◌==◌, ◌&&◌, ◌+◌}
+use Rattle.std.proofs.Common.{◌≡◌, ℕ, Bool, true, false, List, [], ◌∷◌, ◌++◌, length, Ok, refl, sym, ap, subst, ◌∙◌, append_assoc}
+use Rattle.std.specs.Prelude.{◌==◌, ◌+◌}
 use Rattle.std.specs.List.{list_all}
 use Rattle.std.proofs.lemmas.List.{append-nil}
-use Rattle.std.proofs.lemmas.Bool.{eqb-true}
+use Rattle.std.proofs.lemmas.Bool.{eqb-true, and_parts}
 use Rattle.asm_lex.specs.declared.fault.SourceCause.TheVariants as cause
 use Rattle.asm_lex.specs.Words.{Word}
 use Rattle.asm_argument.specs.declared.terminal.Terminal.{Terminal}
@@ -19,8 +19,8 @@ use Rattle.asm_parse.proofs.Words.{read_words}
 use Rattle.asm_statement.specs.Statement.{next_step, fault_line}
 use Rattle.asm_parse.specs.Statements.{is_inner, are_flags, terminals, text_of, Touch, IsStatement, Statements}
 use Rattle.asm_parse.proofs.Stated.{is_naming, not_longer}
-use Rattle.asm_parse.proofs.Quiet.{WordGoes, word_goes, Answer}
-use Rattle.asm_parse.proofs.Lines.{bind_ok}
+use Rattle.asm_parse.proofs.Quiet.{WordGoes, word_goes, ok_same}
+use Rattle.asm_parse.proofs.Lines.{bind_ok, placed_goes}
 use Rattle.asm_parse.proofs.Said.{IsNaming, Begun, start_begun, begun_more, next_begun}
 
 -- where words end that go on from this place
@@ -99,9 +99,6 @@ terminals_end (p ∷ ps) w = ap (λ (x : List Terminal). terminal_of p.kind p.by
 held_is : (sc0 : ScopeView) (w : Word) (ps : List Word) (x y : ScopeView × StatementState) → x ≡ y → HeldBy sc0 y.1 w ps y.0 → HeldBy sc0 x.1 w ps x.0
 held_is sc0 w ps x y e h = subst (λ (z : ScopeView × StatementState). HeldBy sc0 z.1 w ps z.0) (sym e) h
 
-ok_state : (x y : ScopeView × StatementState) → ◌≡◌ {A = Answer} (Ok x) (Ok y) → x ≡ y
-ok_state x y e = cc
-
 -- the first two words of a section's name
 first_name : (sc0 sc : ScopeView) (p : Word) (ps : List Word) (b e : ℕ) (n m : List ℕ) → ((v : Word) → ps ≡ v ∷ [] → e ≡ v.at + length v.bytes) → b ≡ p.line → terminals (p ∷ ps) ≡ terminal.Name n ∷ terminal.Name m ∷ [] → IsNaming sc0 n m → InName sc0 (p ∷ ps) b n m e
 first_name sc0 sc p [] b e n m last line is naming = absurd cc
@@ -170,15 +167,10 @@ name_terminal sc0 sc b n m e p ps w y same g _ is h = absurd cc
 name_more : (sc0 sc : ScopeView) (b : ℕ) (n m : List ℕ) (e : ℕ) (p : Word) (ps : List Word) (w : Word) (z : ScopeView × StatementState) → HeldBy sc0 (state.Sectioned b n m e) p ps sc → next_word sc (state.Sectioned b n m e) w ≡ Ok z → HeldBy sc0 z.1 p (ps ++ w ∷ []) z.0
 name_more sc0 sc b n m e p ps w z g h = elim (word_goes sc (state.Sectioned b n m e) w z h) [
   | WordGoes.on t k ↦
-      let both = and_two (e == w.at) (is_part w.kind w.bytes) t in
+      let both = and_parts (e == w.at) (is_part w.kind w.bytes) t in
       held_is sc0 p (ps ++ w ∷ []) z (sc, state.Sectioned b n (m ++ w.bytes) (w.at + length w.bytes)) k (g.0, name_longer sc0 (p ∷ ps) w b n m e g.1 (eqb-true e w.at both.0) both.1)
   | WordGoes.as_terminal y t f k ↦ held_is sc0 p (ps ++ w ∷ []) z (y.0, ending_at (w.at + length w.bytes) y.1) k (name_terminal sc0 sc b n m e p ps w y g.0 g.1 (terminal_of w.kind w.bytes) refl f)
 ]
-  where
-    and_two : (a b : Bool) → (a && b) ≡ true → (a ≡ true) × (b ≡ true)
-    and_two true true h = (refl, refl)
-    and_two true false h = absurd cc
-    and_two false b h = absurd cc
 
 flags_stay : (sc0 sc : ScopeView) (b : ℕ) (n m : List ℕ) (p : Word) (ps : List Word) (w : Word) (y : ScopeView × StatementState) → sc0 ≡ sc → InFlags sc0 (p ∷ ps) b n m → (s : Terminal) → terminal_of w.kind w.bytes ≡ s → is_inner s ≡ true
     → (sc, state.Flags b n m) ≡ y → HeldBy sc0 (ending_at (w.at + length w.bytes) y.1) p (ps ++ w ∷ []) y.0
@@ -194,8 +186,8 @@ flags_terminal sc0 sc b n m p ps w y same g terminal.End is h =
     let k : (sectioned sc b n m, state.Start) ≡ y = cc in
     let st : IsStatement sc0 (p ∷ (ps ++ w ∷ [])) (sectioned sc b n m) = subst (λ (x : ScopeView). IsStatement sc0 (p ∷ (ps ++ w ∷ [])) (sectioned x b n m)) same (g (w ∷ []) [] (ap (λ (x : Terminal). x ∷ []) is) refl) in
     subst (λ (z : ScopeView × StatementState). HeldBy sc0 (ending_at (w.at + length w.bytes) z.1) p (ps ++ w ∷ []) z.0) k st
-flags_terminal sc0 sc b n m p ps w y same g terminal.Percent is h = flags_stay sc0 sc b n m p ps w y same g terminal.Percent is refl (ok_state (sc, state.Flags b n m) y h)
-flags_terminal sc0 sc b n m p ps w y same g s is h = flags_stay sc0 sc b n m p ps w y same g s is refl (ok_state (sc, state.Flags b n m) y h)
+flags_terminal sc0 sc b n m p ps w y same g terminal.Percent is h = flags_stay sc0 sc b n m p ps w y same g terminal.Percent is refl (ok_same (sc, state.Flags b n m) y h)
+flags_terminal sc0 sc b n m p ps w y same g s is h = flags_stay sc0 sc b n m p ps w y same g s is refl (ok_same (sc, state.Flags b n m) y h)
 
 pub held_more : (sc0 sc : ScopeView) (st : StatementState) (p : Word) (ps : List Word) (w : Word) (z : ScopeView × StatementState) → (st ≡ state.Start → ⊥) → HeldBy sc0 st p ps sc → next_word sc st w ≡ Ok z → HeldBy sc0 z.1 p (ps ++ w ∷ []) z.0
 held_more sc0 sc state.Start p ps w z inside g h = absurd (inside refl)
@@ -218,10 +210,6 @@ first_held sc w z h = elim (word_goes sc state.Start w z h) [
       held_is sc w [] z (y.0, ending_at (w.at + length w.bytes) y.1) k (begun_held sc y.0 y.1 w [] (w.at + length w.bytes) (λ v e. absurd cc) b)
 ]
 
-pub placed_ok : (line : ℕ) (r : Answer) (z : ScopeView × StatementState) → placed line r ≡ Ok z → r ≡ Ok z
-placed_ok line (Ok x) z h = let e : x ≡ z = cc in ap (λ (q : ScopeView × StatementState). Ok q) e
-placed_ok line (Err c) z h = absurd cc
-
 abbrev Collects : List Word → ScopeView → Type 0
 Collects ws scz = (sc0 sc : ScopeView) (st : StatementState) (piece : List Word) → Held sc0 st piece sc → read_words sc st ws ≡ Ok (scz, state.Start) → Statements sc0 (piece ++ ws) scz
 
@@ -234,13 +222,13 @@ collect [] scz sc0 sc st [] held h = let e : (sc, st) ≡ (scz, state.Start) = c
 collect [] scz sc0 sc st (w ∷ ps) held h = let e : (sc, st) ≡ (scz, state.Start) = cc in absurd (held.0 (ap (λ (x : ScopeView × StatementState). x.1) e))
 collect (w ∷ ws) scz sc0 sc st [] held h =
     let z = bind_ok (placed (fault_line sc st w.line) (next_word sc st w)) (λ z. read_words z.0 z.1 ws) (scz, state.Start) h in
-    let e = placed_ok (fault_line sc st w.line) (next_word sc st w) z.0 z.1 in
+    let e = placed_goes (fault_line sc st w.line) (next_word sc st w) z.0 z.1 in
     let e2 : next_word sc state.Start w ≡ Ok z.0 = subst (λ (x : StatementState). next_word sc x w ≡ Ok z.0) held.0 e in
     let b : HeldBy sc0 z.0.1 w [] z.0.0 = subst (λ (x : ScopeView). HeldBy x z.0.1 w [] z.0.0) (sym held.1) (first_held sc w z.0 e2) in
     next_piece w [] ws sc0 scz z.0.0 z.0.1 b z.2 (collect ws scz)
 collect (w ∷ ws) scz sc0 sc st (p ∷ ps) held h =
     let z = bind_ok (placed (fault_line sc st w.line) (next_word sc st w)) (λ z. read_words z.0 z.1 ws) (scz, state.Start) h in
-    let e = placed_ok (fault_line sc st w.line) (next_word sc st w) z.0 z.1 in
+    let e = placed_goes (fault_line sc st w.line) (next_word sc st w) z.0 z.1 in
     let all : Statements sc0 (p ∷ ((ps ++ w ∷ []) ++ ws)) scz = next_piece p (ps ++ w ∷ []) ws sc0 scz z.0.0 z.0.1 (held_more sc0 sc st p ps w z.0 held.0 held.1 e) z.2 (collect ws scz) in
     subst (λ (x : List Word). Statements sc0 (p ∷ x) scz) (append_assoc ps (w ∷ []) ws) all
 

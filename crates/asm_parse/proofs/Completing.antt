@@ -1,7 +1,7 @@
 -- What has been read of a statement can go on to its end.
 use Rattle.std.proofs.Common.{◌≡◌, ℕ, zero, suc, ◌+◌, ◌≤◌, ◌<◌, Bool, true, false, cond, List, [], ◌∷◌, ◌++◌, length, Option, Some, None, Ok, refl, sym, ap, subst, ◌∙◌, ◌⊎◌, inl, inr, arith}
 use Rattle.std.proofs.lemmas.List.{length-append, length-replicate}
-use Rattle.std.proofs.lemmas.Bool.{ltb-true, ltb-false, le-ltb, ne_eqb, not-false}
+use Rattle.std.proofs.lemmas.Bool.{ltb-true, ltb-false, le-ltb, ne_eqb, not-false, or_right}
 use Rattle.std.proofs.lemmas.Cmp.{nat_list_eq_equiv}
 use Rattle.std.proofs.lemmas.Slice.Eq.{bytes_eq-Decides}
 use Rattle.std.proofs.lemmas.Map.Made.{length-le_from_is_member}
@@ -43,7 +43,7 @@ use Rattle.asm_parse.specs.Statements.{IsSeen, IsArgument, IsNext, Separated, Ha
 use Rattle.asm_parse.proofs.Words.{read_words}
 use Rattle.asm_argument.proofs.Operands.{ok, operand_run}
 use Rattle.asm_parse.proofs.Names.{named_in}
-use Rattle.asm_parse.proofs.Scopes.{Each, GoodIn, or_right, same_name, same_holds}
+use Rattle.asm_parse.proofs.Scopes.{Each, GoodIn, same_holds}
 use Rattle.asm_parse.proofs.Quiet.{IsOpen, StateIs}
 use Rattle.asm_parse.proofs.Stated.{inners, inners_append, inners_words, word_is, open_at, instruction_operand, Gains, form_runs, comma_runs, end_runs, statement_runs, named_section, rest_runs}
 use Rattle.asm_parse.proofs.Written.{Piece, words_at, terminals_of, ArePieces, pieces-append, terminals_of-append, terminals-words_at, IsName, name_piece, one_piece, zero_piece, text_piece, end_piece, percent_piece, close_piece, comma_piece, colon_piece, letter, letter_name, low, low_name, text_section, section_name_is, the_name, the_one, the_zero, the_text, the_end, the_mark}
@@ -239,9 +239,6 @@ arguments_completed sc o w =
 
 -- ---- names that can still be said
 
-known_or_new : (a b : Bool) → b ≡ true → (a || b) ≡ true
-known_or_new a b h = or_right a b h
-
 record Sayable (sc : ScopeView) : Type 0 where
   name : List ℕ
   is : IsName name
@@ -252,10 +249,10 @@ sayable sc g = by_room (nat_lt (length sc.names) 65536) refl
   where
     first_name : (ns : List (List ℕ)) → Each IsName ns → 1 ≤ length ns → (n : List ℕ) × IsName n × (holds ns n ≡ true)
     first_name [] each le = absurd (omega arith)
-    first_name (n ∷ ns) each le = (n, each.0, rw (same_name n) refl)
+    first_name (n ∷ ns) each le = (n, each.0, rw (nat_list_eq_equiv.refl n) refl)
 
     by_room : (t : Bool) → nat_lt (length sc.names) 65536 ≡ t → Sayable sc
-    by_room true e = record { name = letter; is = letter_name; room = known_or_new (holds sc.names letter) (nat_lt (length sc.names) 65536) e }
+    by_room true e = record { name = letter; is = letter_name; room = or_right (holds sc.names letter) (nat_lt (length sc.names) 65536) e }
     by_room false e =
         let f = first_name sc.names g.each (omega (arith, ltb-false (length sc.names) 65536 e)) in
         record { name = f.0; is = f.1; room = rw f.2 refl }
@@ -306,7 +303,7 @@ undefined defined (n ∷ ns) each = by_test (holds defined n) refl (undefined de
 
     by_test : (t : Bool) → holds defined n ≡ t → ((m : List ℕ) × IsName m × (holds ns m ≡ true) × (holds defined m ≡ false)) ⊎ ((q : List ℕ) → holds ns q ≡ true → holds defined q ≡ true)
         → ((m : List ℕ) × IsName m × (holds (n ∷ ns) m ≡ true) × (holds defined m ≡ false)) ⊎ ((q : List ℕ) → holds (n ∷ ns) q ≡ true → holds defined q ≡ true)
-    by_test false d rest = inl (n, each.0, rw (same_name n) refl, d)
+    by_test false d rest = inl (n, each.0, rw (nat_list_eq_equiv.refl n) refl, d)
     by_test true d (inl (m, is, k, new)) = inl (m, is, or_right (bytes_eq m n) (holds ns m) k, new)
     by_test true d (inr all) = inr (λ q h. either q (bytes_eq q n) refl h d all)
 
@@ -318,7 +315,7 @@ definable sc g spent = by_room (nat_lt (length sc.names) 65536) refl
     few false e h = absurd cc
 
     by_room : (t : Bool) → nat_lt (length sc.names) 65536 ≡ t → Definable sc
-    by_room true e = record { name = long sc.defined; is = long_name sc.defined; room = known_or_new (holds sc.names (long sc.defined)) (nat_lt (length sc.names) 65536) e; new = long_new sc.defined }
+    by_room true e = record { name = long sc.defined; is = long_name sc.defined; room = or_right (holds sc.names (long sc.defined)) (nat_lt (length sc.names) 65536) e; new = long_new sc.defined }
     by_room false e = elim (undefined sc.defined sc.names g.each) [
       | inl (n, is, k, new) ↦ record { name = n; is = is; room = rw k refl; new = new }
       | inr all ↦

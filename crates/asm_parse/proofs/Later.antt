@@ -21,7 +21,7 @@ use Rattle.asm_argument.specs.Operand.{operand_step, is_finished, name_in}
 use Rattle.asm_statement.specs.Directives.{shape_at, least, directive_of, is_dotted, is_section, defines}
 use Rattle.asm_statement.specs.Statement.{noting, after_noting, with_name, after_step, at_shape, argument_of, comma_behind, end_behind, ended, complete, is_bare, takes_star, within, argument_step, nothing_yet, labelled, rep_step, section_name, of_directive, with_scope, sectioned_step, skip, named_step, step, unless_skipping, is_place, fault_line, strayed, next_step}
 use Rattle.asm_statement.specs.Items.{is_rep, is_passed}
-use Rattle.asm_parse.proofs.Quiet.{Answer}
+use Rattle.asm_parse.proofs.Quiet.{Answer, ok_same}
 
 abbrev pub is_later : StatementState → Bool
 is_later (state.Named b n) = false
@@ -131,9 +131,6 @@ pub data Leads-on (sc : ScopeView) (st : StatementState) (line : ℕ) (s : Termi
   later : is_later y.1 ≡ true → Leads-on sc st line s y
   name : (n : List ℕ) → st ≡ state.Start → s ≡ terminal.Name n → y ≡ (sc, state.Named line n) → Leads-on sc st line s y
   astray : (c : SourceCause) → s ≡ terminal.Percent → step sc st line terminal.Percent ≡ Err c → is_place c ≡ true → y ≡ (fresh, state.Stray (fault_line sc st line) c) → Leads-on sc st line s y
-
-ok_same : (x y : ScopeView × StatementState) → ◌≡◌ {A = Answer} (Ok x) (Ok y) → x ≡ y
-ok_same x y h = cc
 
 start_name : (sc : ScopeView) (line : ℕ) (s : Terminal) (y : ScopeView × StatementState) → step sc state.Start line s ≡ Ok y → Leads-on sc state.Start line s y
 start_name sc line terminal.End y h = Leads-on.later (ap (λ (z : ScopeView × StatementState). is_later z.1) (sym (ok_same (sc, state.Start) y h)))

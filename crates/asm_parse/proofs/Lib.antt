@@ -1,6 +1,7 @@
 pub mod Names
 pub mod Words
 pub mod Scopes
+pub mod ScopeItems
 pub mod Quiet
 pub mod Lines
 pub mod Linking

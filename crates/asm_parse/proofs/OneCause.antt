@@ -22,8 +22,7 @@ use Rattle.asm_lex.specs.Refusals.{RefusesAs}
 use Rattle.asm_parse.proofs.Words.{read_words}
 use Rattle.asm_parse.proofs.Scopes.{GoodIn, fresh_good}
 use Rattle.asm_parse.proofs.Quiet.{Any, any_next, Answer}
-use Rattle.asm_parse.proofs.Lines.{bind_ok}
-use Rattle.asm_parse.proofs.Collected.{placed_ok}
+use Rattle.asm_parse.proofs.Lines.{bind_ok, placed_goes}
 use Rattle.asm_parse.proofs.Dying.{words_doomed}
 use Rattle.asm_parse.proofs.Stated.{words_append, statements_run}
 use Rattle.asm_parse.proofs.Closing.{AreNamed}
@@ -43,7 +42,7 @@ good_words : (ws : List Word) (sc : ScopeView) (st : StatementState) (y : Pair) 
 good_words [] sc st y good h = let e : (sc, st) ≡ y = cc in subst (λ (x : Pair). GoodIn Any x.0) e good
 good_words (w ∷ ws) sc st y good h =
     let z = bind_ok (placed (fault_line sc st w.line) (next_word sc st w)) (λ z. read_words z.0 z.1 ws) y h in
-    let n = any_next sc st w z.0 good (placed_ok (fault_line sc st w.line) (next_word sc st w) z.0 z.1) in
+    let n = any_next sc st w z.0 good (placed_goes (fault_line sc st w.line) (next_word sc st w) z.0 z.1) in
     good_words ws z.0.0 z.0.1 y n.scope z.2
 
 record Begins (ws : List Word) : Type 0 where

@@ -1,9 +1,10 @@
 -- What has been read of a statement leads to a place, and what is refused there has its cause.
 use Rattle.std.proofs.Common.{◌≡◌, ℕ, Bool, true, false, cond, List, [], ◌∷◌, ◌++◌, length, Option, Some, None, Result, Ok, Err, refl, sym, ap, subst, ◌∙◌, inl, inr}
 use Rattle.std.proofs.lemmas.List.{append-nil}
-use Rattle.std.specs.Prelude.{◌==◌, ◌&&◌, ◌||◌, ◌+◌, ◌^◌, nat_lt, unwrap_or}
+use Rattle.std.specs.Prelude.{◌==◌, ◌&&◌, ◌+◌, ◌^◌, nat_lt, unwrap_or}
 use Rattle.std.specs.List.{list_all}
 use Rattle.std.specs.Bool.{then_some}
+use Rattle.std.proofs.lemmas.Bool.{or_parts}
 use Rattle.asm_lex.specs.declared.fault.SourceCause.{SourceCause}
 use Rattle.asm_lex.specs.declared.fault.SourceCause.TheVariants as cause
 use Rattle.asm_lex.specs.Words.{Word}
@@ -35,6 +36,7 @@ use Rattle.asm_statement.specs.Statement.{misplaced, noting, with_scope, nothing
 use Rattle.asm_parse.specs.Statements.{IsArgument, has_list, is_inner, Statement, terminals, Touch}
 use Rattle.asm_parse.specs.Refusals.{StatementPlace, Leads, Opens, LeadsTo, last_of, is_percent, other_cause, name_cause, operand_cause, value_cause, directive_cause, named_cause, cause_at, percent_cause, behind_cause, refused_cause, byte_cause}
 use Rattle.asm_argument.proofs.Operands.{run_spelled, spelled_form, Spelled}
+use Rattle.asm_parse.proofs.Words.{terminals-append}
 use Rattle.asm_parse.proofs.Said.{stars, InArguments, IsNaming, fresh_arguments}
 use Rattle.asm_parse.proofs.Collected.{InName, Held}
 use Rattle.asm_parse.proofs.Tails.{percents, spelled_tail}
@@ -181,10 +183,6 @@ start_suits sc = record {
 at_start : (sc : ScopeView) → Standing sc state.Start [] sc
 at_start sc = record { place = StatementPlace.first; stands = LeadsTo.first; suits = start_suits sc }
 
-or_false : (a b : Bool) → (a || b) ≡ false → b ≡ false
-or_false true b h = absurd cc
-or_false false b h = h
-
 not_doomed : (t : Bool) (b : ℕ) → then_some t b ≡ None → t ≡ false
 not_doomed true b h = absurd cc
 not_doomed false b h = refl
@@ -196,7 +194,7 @@ named_byte sc b n c alive = by_test (is_unknown sc n) refl
     by_test : (t : Bool) → is_unknown sc n ≡ t → unwrap_or (pending sc (state.Named b n)) c ≡ byte_cause sc (StatementPlace.named n) c
     by_test true e = rw e refl
     by_test false e =
-        let lacks : lacks_names sc n ≡ false = or_false (is_unknown sc n && is_taken sc n) (lacks_names sc n) (not_doomed _ b alive) in
+        let lacks : lacks_names sc n ≡ false = (or_parts (is_unknown sc n && is_taken sc n) (lacks_names sc n) (not_doomed _ b alive)).1 in
         rw (e, lacks) refl
 
 pub named_suits : (sc : ScopeView) (b : ℕ) (n : List ℕ) → doom sc (state.Named b n) ≡ None → Suits sc (StatementPlace.named n) sc (state.Named b n)
@@ -268,10 +266,6 @@ all_more [] ys p q = q
 all_more (terminal.End ∷ xs) ys p q = absurd cc
 all_more (x ∷ xs) ys p q = all_more xs ys p q
 
-pub terminals_append : (ps qs : List Word) → terminals (ps ++ qs) ≡ terminals ps ++ terminals qs
-terminals_append [] qs = refl
-terminals_append (p ∷ ps) qs = ap (λ (x : List Terminal). terminal_of p.kind p.bytes ∷ x) (terminals_append ps qs)
-
 pub all_and : (s : Terminal) (ss : List Terminal) → is_inner s ≡ true → list_all is_inner ss ≡ true → list_all is_inner (s ∷ ss) ≡ true
 all_and terminal.End ss p q = absurd cc
 all_and s ss p q = q
@@ -287,7 +281,7 @@ section_words sc0 ps b n m e g more inner = record {
   more = terminals (g.parts ++ more);
   whole = rw (g.whole, g.named, g.behind) refl;
   naming = g.naming;
-  inner = ap (list_all is_inner) (terminals_append g.parts more) ∙ all_more (terminals g.parts) (terminals more) (touch_inner (g.second.at + length g.second.bytes) g.parts g.touch) inner;
+  inner = ap (list_all is_inner) (terminals-append g.parts more) ∙ all_more (terminals g.parts) (terminals more) (touch_inner (g.second.at + length g.second.bytes) g.parts g.touch) inner;
 }
 
 sectioned_fails : (sc : ScopeView) (b : ℕ) (n m : List ℕ) (s : Terminal) (c : SourceCause) → sectioned_step sc b n m s ≡ Err c → other_cause s ≡ c

@@ -3,6 +3,7 @@ use Rattle.std.proofs.Common.{◌≡◌, ℕ, Bool, true, false, cond, List, [],
 use Rattle.std.proofs.lemmas.List.{length-append}
 use Rattle.std.specs.Prelude.{not, ◌&&◌, ◌||◌, is_none, nat_lt, ◌+◌, unwrap_or}
 use Rattle.std.specs.Bool.{then_some}
+use Rattle.std.proofs.lemmas.Bool.{not-true, and_parts, or_cases}
 use Rattle.asm_lex.specs.declared.fault.SourceCause.{SourceCause}
 use Rattle.asm_lex.specs.declared.fault.SourceCause.TheVariants as cause
 use Rattle.asm_argument.specs.declared.terminal.Terminal.{Terminal}
@@ -37,20 +38,14 @@ use Rattle.asm_statement.specs.Directives.{shape_at, least, defines, is_instruct
 abbrev pub Answer : Type 0
 Answer = Result (ScopeView × StatementState) SourceCause
 
--- ---- what is dead
+pub ok_same : (x y : ScopeView × StatementState) → ◌≡◌ {A = Answer} (Ok x) (Ok y) → x ≡ y
+ok_same x y h = cc
 
-pub and_two : (a b : Bool) → (a && b) ≡ true → (a ≡ true) × (b ≡ true)
-and_two true true h = (refl, refl)
-and_two true false h = absurd cc
-and_two false b h = absurd cc
+-- ---- what is dead
 
 pub doomed_is : (t : Bool) (b l : ℕ) → then_some t b ≡ Some l → t ≡ true
 doomed_is true b l h = refl
 doomed_is false b l h = absurd cc
-
-not_false : (b : Bool) → not b ≡ true → b ≡ false
-not_false true h = absurd cc
-not_false false h = refl
 
 none_is : {A : Type 0} (o : Option A) → is_none o ≡ true → o ≡ None
 none_is None h = refl
@@ -135,23 +130,19 @@ named_lacks P sc b l line n terminal.Percent x d sk dotted def g spent h =
     strayed_dead l (other_behind sc b n terminal.Percent) c.0 x c.1 (sym (ap (λ (o : Option ℕ). strayed (unwrap_or o line) (other_behind sc b n terminal.Percent)) d) ∙ h)
 named_lacks P sc b l line n s x d sk dotted def g spent h = let c = lacks_behind P sc b n s sk dotted def g spent in absurd (err_ok (other_behind sc b n s) c.1 h)
 
-or_two : (a b : Bool) → (a || b) ≡ true → (a ≡ true) ⊎ (b ≡ true)
-or_two true b h = inl refl
-or_two false b h = inr h
-
 pub doomed_stays : (P : List ℕ → Type 0) (sc : ScopeView) (st : StatementState) (l line : ℕ) (s : Terminal) (x : ScopeView × StatementState) → GoodIn P sc → doom sc st ≡ Some l → next_step sc st line s ≡ Ok x → Dead l x
 doomed_stays P sc (state.Stray a c) l line s x g e h = absurd (stray_stops sc a line c s x h)
-doomed_stays P sc (state.Named b n) l line s x g e h = elim (or_two (is_unknown sc n && is_taken sc n) (lacks_names sc n) (doomed_is ((is_unknown sc n && is_taken sc n) || lacks_names sc n) b l e)) [
+doomed_stays P sc (state.Named b n) l line s x g e h = elim (or_cases (is_unknown sc n && is_taken sc n) (lacks_names sc n) (doomed_is ((is_unknown sc n && is_taken sc n) || lacks_names sc n) b l e)) [
   | inl t ↦
-      let both = and_two (is_unknown sc n) (is_taken sc n) t in
-      let known = and_two (is_dotted n && not sc.skipping) (is_none (directive_of n)) both.0 in
-      let front = and_two (is_dotted n) (not sc.skipping) known.0 in
-      absurd (named_stops sc b line n s x (not_false sc.skipping front.1) front.0 (none_is (directive_of n) known.1) both.1 h)
+      let both = and_parts (is_unknown sc n) (is_taken sc n) t in
+      let known = and_parts (is_dotted n && not sc.skipping) (is_none (directive_of n)) both.0 in
+      let front = and_parts (is_dotted n) (not sc.skipping) known.0 in
+      absurd (named_stops sc b line n s x (not-true sc.skipping front.1) front.0 (none_is (directive_of n) known.1) both.1 h)
   | inr t ↦
-      let spent = and_two (is_dotted n && not sc.skipping && is_defining (directive_of n)) (is_spent sc) t in
-      let def = and_two (is_dotted n && not sc.skipping) (is_defining (directive_of n)) spent.0 in
-      let front = and_two (is_dotted n) (not sc.skipping) def.0 in
-      named_lacks P sc b l line n s x e (not_false sc.skipping front.1) front.0 def.1 g spent.1 h
+      let spent = and_parts (is_dotted n && not sc.skipping && is_defining (directive_of n)) (is_spent sc) t in
+      let def = and_parts (is_dotted n && not sc.skipping) (is_defining (directive_of n)) spent.0 in
+      let front = and_parts (is_dotted n) (not sc.skipping) def.0 in
+      named_lacks P sc b l line n s x e (not-true sc.skipping front.1) front.0 def.1 g spent.1 h
 ]
 doomed_stays P sc state.Start l line s x g e h = absurd cc
 doomed_stays P sc state.Skip l line s x g e h = absurd cc
@@ -251,7 +242,7 @@ module _ (P : List ℕ → Type 0) where
 
   star_open : (o : Open) → takes_star o ≡ true → IsOpen (record o { star = true })
   star_open o h =
-      let a = and_two (is_nothing o.so_far && not o.star) (is_instruction o.head) h in
+      let a = and_parts (is_nothing o.so_far && not o.star) (is_instruction o.head) h in
       record { shape = shape.Operand; may = operand_first o.head (length o.arguments) a.1; first = λ k. inl a.1 }
     where
       operand_first : (h : Head) (i : ℕ) → is_instruction h ≡ true → shape_at h i ≡ Some shape.Operand

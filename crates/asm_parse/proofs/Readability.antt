@@ -1,11 +1,11 @@
 -- The items of a source name at most 65,536 symbols, none with a zero byte.
 use Rattle.std.proofs.Common.{◌≡◌, ℕ, zero, suc, ◌≤◌, Bool, true, false, cond, List, [], ◌∷◌, ◌++◌, length, Option, Some, None, refl, sym, ap, subst, ◌∙◌, arith}
-use Rattle.std.proofs.lemmas.List.{length-append, append-nil}
+use Rattle.std.proofs.lemmas.List.{append-nil}
 use Rattle.std.proofs.lemmas.List.Sums.{fold-append}
 use Rattle.std.proofs.lemmas.List.Elements.{All-nil, All-cons, All-push}
 use Rattle.std.proofs.lemmas.Grind.{flat_map-append}
-use Rattle.std.proofs.lemmas.Bool.{ltb-true}
-use Rattle.std.specs.Prelude.{◌||◌, ◌==◌, ◌^◌, nat_lt, fold, All, IfOk, Result, Ok, Err}
+use Rattle.std.proofs.lemmas.Bool.{and_parts}
+use Rattle.std.specs.Prelude.{◌==◌, ◌^◌, nat_lt, fold, All, IfOk, Result, Ok, Err}
 use Rattle.std.specs.Option.{option_to_list}
 use Rattle.std.specs.List.{flat_map, list_all}
 use Rattle.asm_lex.specs.declared.lexing.TheConstants.{LIMIT}
@@ -39,8 +39,10 @@ use Rattle.asm_source.specs.Readable.{argument_names, body_names, names_in, IsRe
 use Rattle.asm_parse.specs.Source.{Says, SourceAs}
 use Rattle.asm_statement.specs.Running.{Parses, read}
 use Rattle.asm_parse.proofs.Sources.{parsed_is}
-use Rattle.asm_parse.proofs.Sizes.{source_pays, terminals-append}
-use Rattle.asm_parse.proofs.Quiet.{and_two}
+use Rattle.asm_parse.proofs.Sizes.{source_pays}
+use Rattle.asm_parse.proofs.Words.{terminals-append}
+use Rattle.asm_parse.proofs.Scopes.{added_few}
+use Rattle.asm_parse.proofs.ScopeItems.{resumed_items}
 
 -- ---- bytes and tokens
 
@@ -80,7 +82,7 @@ letter_some (suc b) h = omega arith
 
 words_plain : (bs : List ℕ) → list_all is_word bs ≡ true → Plain bs
 words_plain [] h = All-nil (λ (x : ℕ). 1 ≤ x)
-words_plain (b ∷ bs) h = let p = and_two (is_word b) (list_all is_word bs) h in All-cons (λ (x : ℕ). 1 ≤ x) b bs (word_some b p.0) (words_plain bs p.1)
+words_plain (b ∷ bs) h = let p = and_parts (is_word b) (list_all is_word bs) h in All-cons (λ (x : ℕ). 1 ≤ x) b bs (word_some b p.0) (words_plain bs p.1)
 
 plain_either : (t : Bool) (a b : Terminal) → PlainTerminal a → PlainTerminal b → PlainTerminal (cond t a b)
 plain_either true a b p q = p
@@ -134,13 +136,6 @@ argument_plain (IsArgument.starred h f) p = form_plain f p.1
 record Fit (sc : ScopeView) : Type 0 where
   few : length sc.names ≤ 65536
   named : All (λ (n : List ℕ). Plain n) sc.names
-
-added_few : (names : List (List ℕ)) (n : List ℕ) → (holds names n || nat_lt (length names) 65536) ≡ true → length names ≤ 65536 → length (added names n) ≤ 65536
-added_few names n room few = by_test (holds names n) room
-  where
-    by_test : (t : Bool) → (t || nat_lt (length names) 65536) ≡ true → length (cond t names (names ++ n ∷ [])) ≤ 65536
-    by_test true h = few
-    by_test false h = omega (arith, ltb-true (length names) 65536 h, length-append names (n ∷ []))
 
 added_named : (names : List (List ℕ)) (n : List ℕ) → Plain n → All (λ (m : List ℕ). Plain m) names → All (λ (m : List ℕ). Plain m) (added names n)
 added_named names n plain named = by_test (holds names n)
@@ -229,11 +224,6 @@ tracks_on sc sc1 sc2 i t g same new = record {
       ap names_in (new ∙ ap (λ (x : List SourceItem). x ++ i ∷ []) g.items)
       ∙ (names_in-end sc.items i ∙ (ap (λ (x : List (List ℕ)). fold added x (body_names i.body)) t.names ∙ (sym g.names ∙ sym same)));
 }
-
-resumed_items : (sc : ScopeView) (h : Head) → (resumed sc h).items ≡ sc.items
-resumed_items sc (head.Instruction r n) = refl
-resumed_items sc (head.Directive directive.Plain n) = refl
-resumed_items sc (head.Directive _ n) = refl
 
 resumed_names : (sc : ScopeView) (h : Head) → (resumed sc h).names ≡ sc.names
 resumed_names sc (head.Instruction r n) = refl

@@ -23,8 +23,7 @@ use Rattle.asm_statement.specs.Running.{◌>>=◌}
 use Rattle.asm_parse.specs.Statements.{is_inner, terminals}
 use Rattle.asm_parse.specs.Refusals.{StatementPlace}
 use Rattle.asm_parse.proofs.Words.{read_words}
-use Rattle.asm_parse.proofs.Lines.{bind_ok}
-use Rattle.asm_parse.proofs.Collected.{placed_ok}
+use Rattle.asm_parse.proofs.Lines.{bind_ok, placed_goes}
 use Rattle.asm_parse.proofs.Quiet.{WordGoes, word_goes, Answer}
 use Rattle.asm_parse.proofs.Stated.{inner, inners, is_naming, not_longer}
 use Rattle.asm_parse.proofs.Places.{Suits, flags_suits, section_suits}
@@ -80,7 +79,7 @@ ending_stray st e l c h = ap (ending_at e) h
 pub on_word : (sc : ScopeView) (st : StatementState) (w : Word) (ws : List Word) (fin : Pair) → is_naming st ≡ false → read_words sc st (w ∷ ws) ≡ Ok fin → doom fin.0 fin.1 ≡ None → OnWord sc st w ws fin
 on_word sc st w ws fin plain h alive =
     let z = bind_ok (placed (fault_line sc st w.line) (next_word sc st w)) (λ z. read_words z.0 z.1 ws) fin h in
-    by_goes z.0 (word_goes sc st w z.0 (placed_ok (fault_line sc st w.line) (next_word sc st w) z.0 z.1)) z.2
+    by_goes z.0 (word_goes sc st w z.0 (placed_goes (fault_line sc st w.line) (next_word sc st w) z.0 z.1)) z.2
   where
     both : {t : Bool} → t ≡ true → t ≡ false → ⊥
     both e f = absurd cc
@@ -146,7 +145,7 @@ section_stays [] sc0 sc b n m e fin inside h alive = suits_at sc0 StatementPlace
 section_stays (w ∷ ws) sc0 sc b n m e fin inside h alive =
     let p = inner_parts (terminal_of w.kind w.bytes) (terminals ws) inside in
     let z = bind_ok (placed (fault_line sc (state.Sectioned b n m e) w.line) (next_word sc (state.Sectioned b n m e) w)) (λ z. read_words z.0 z.1 ws) fin h in
-    by_goes p.0 p.1 z.0 (word_goes sc (state.Sectioned b n m e) w z.0 (placed_ok (fault_line sc (state.Sectioned b n m e) w.line) (next_word sc (state.Sectioned b n m e) w) z.0 z.1)) z.2
+    by_goes p.0 p.1 z.0 (word_goes sc (state.Sectioned b n m e) w z.0 (placed_goes (fault_line sc (state.Sectioned b n m e) w.line) (next_word sc (state.Sectioned b n m e) w) z.0 z.1)) z.2
     (λ m2 e2 k. section_stays ws sc0 sc b n m2 e2 fin p.1 k alive)
   where
     by_step : is_inner (terminal_of w.kind w.bytes) ≡ true → list_all is_inner (terminals ws) ≡ true → (y : Pair) → (step sc (state.Sectioned b n m e) w.line (terminal_of w.kind w.bytes) ≡ Ok y) ⊎ ((l : ℕ) × (c : SourceCause) × (y ≡ (fresh, state.Stray l c)))

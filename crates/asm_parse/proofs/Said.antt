@@ -3,7 +3,7 @@ use Rattle.std.proofs.Common.{◌≡◌, ℕ, Bool, true, false, cond, List, [],
 use Rattle.std.specs.Prelude.{◌==◌, ◌&&◌, not, nat_lt}
 use Rattle.std.specs.List.{list_all}
 use Rattle.std.proofs.lemmas.List.{append-nil, nil_from_length}
-use Rattle.std.proofs.lemmas.Bool.{eqb-true}
+use Rattle.std.proofs.lemmas.Bool.{eqb-true, not-true}
 use Rattle.asm_lex.specs.declared.fault.SourceCause.{SourceCause}
 use Rattle.asm_lex.specs.declared.fault.SourceCause.TheVariants as cause
 use Rattle.asm_argument.specs.declared.terminal.Terminal.{Terminal}
@@ -112,10 +112,6 @@ and_three true true true h = (refl, refl, refl)
 and_three true true false h = absurd cc
 and_three true false c h = absurd cc
 and_three false b c h = absurd cc
-
-not_true : (b : Bool) → not b ≡ true → b ≡ false
-not_true true h = absurd cc
-not_true false h = refl
 
 nothing_is : (p : Partial) → is_nothing p ≡ true → p ≡ partial.Nothing
 nothing_is partial.Nothing h = refl
@@ -246,7 +242,7 @@ module _ (sc0 : ScopeView) (line : ℕ) (o : Open) (ss : List Terminal) (sc : Sc
   bare_begun bare h =
       let b = and_three (is_nothing o.so_far) (not o.star) (length o.arguments == 0) bare in
       let nothing = nothing_is o.so_far b.0 in
-      let star = not_true o.star b.1 in
+      let star = not-true o.star b.1 in
       let done = no_length o.arguments b.2 in
       let front = separated_none w.separated done in
       let seen : w.behind ≡ sc = sees_none w.behind sc (defines o.head (length o.arguments)) (named_in o.so_far) (ap named_in nothing) w.sees in
@@ -268,7 +264,7 @@ module _ (sc0 : ScopeView) (line : ℕ) (o : Open) (ss : List Terminal) (sc : Sc
   star_begun false e h = within_begun terminal.Star h
   star_begun true e h =
       let b = and_three (is_nothing o.so_far) (not o.star) (is_instruction o.head) e in
-      let star = not_true o.star b.1 in
+      let star = not-true o.star b.1 in
       let arg = no_arg (nothing_is o.so_far b.0) in
       let nil : stars o.star ++ w.arg ≡ [] = rw (star, arg) refl in
       let new : InArguments sc0 line (record o { star = true }) (ss ++ terminal.Star ∷ []) sc = record {

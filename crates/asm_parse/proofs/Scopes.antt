@@ -13,6 +13,7 @@ use Rattle.asm_lex.specs.declared.fault.SourceCause.{SourceCause}
 use Rattle.asm_lex.specs.declared.fault.SourceCause.TheVariants as cause
 use Rattle.asm_statement.specs.ScopeView.{ScopeView}
 use Rattle.asm_source.specs.Names.{holds, added}
+use Rattle.asm_source.proofs.Held.{holds_more, added_holds}
 use Rattle.asm_statement.specs.Scope.{fresh, has_room, is_spent}
 use Rattle.asm_statement.specs.Statement.{noting}
 use Rattle.asm_parse.specs.Statements.{IsSeen}
@@ -40,23 +41,6 @@ each_end : (P : List ℕ → Type 0) (ns : List (List ℕ)) (n : List ℕ) → E
 each_end P [] n h p = (p, tt)
 each_end P (m ∷ ns) n h p = (h.0, each_end P ns n h.1 p)
 
-or_left : (a b : Bool) → a ≡ true → (a || b) ≡ true
-or_left a b h = rw h refl
-
-pub or_right : (a b : Bool) → b ≡ true → (a || b) ≡ true
-or_right true b h = refl
-or_right false b h = h
-
-pub same_name : (n : List ℕ) → bytes_eq n n ≡ true
-same_name n = nat_list_eq_equiv.refl n
-
-pub holds_more : (ns : List (List ℕ)) (n q : List ℕ) → holds ns q ≡ true → holds (added ns n) q ≡ true
-holds_more ns n q h = by_test (holds ns n)
-  where
-    by_test : (t : Bool) → holds (cond t ns (ns ++ n ∷ [])) q ≡ true
-    by_test true = h
-    by_test false = list_any-append (λ (m : List ℕ). bytes_eq q m) ns (n ∷ []) ∙ or_left (holds ns q) (holds (n ∷ []) q) h
-
 pub holds_new : (ns : List (List ℕ)) (n q : List ℕ) → holds (added ns n) q ≡ true → (holds ns q ≡ false) → bytes_eq q n ≡ true
 holds_new ns n q h none = by_test (holds ns n) h
   where
@@ -82,19 +66,12 @@ added_each P ns n h p = by_test (holds ns n)
     by_test true = h
     by_test false = each_end P ns n h p
 
-added_few : (ns : List (List ℕ)) (n : List ℕ) → (holds ns n || nat_lt (length ns) 65536) ≡ true → length ns ≤ 65536 → length (added ns n) ≤ 65536
+pub added_few : (ns : List (List ℕ)) (n : List ℕ) → (holds ns n || nat_lt (length ns) 65536) ≡ true → length ns ≤ 65536 → length (added ns n) ≤ 65536
 added_few ns n room few = by_test (holds ns n) room
   where
     by_test : (t : Bool) → (t || nat_lt (length ns) 65536) ≡ true → length (cond t ns (ns ++ n ∷ [])) ≤ 65536
     by_test true h = few
     by_test false h = omega (arith, ltb-true (length ns) 65536 h, length-append ns (n ∷ []))
-
-added_holds : (ns : List (List ℕ)) (n : List ℕ) → holds (added ns n) n ≡ true
-added_holds ns n = by_test (holds ns n) refl
-  where
-    by_test : (t : Bool) → holds ns n ≡ t → holds (cond t ns (ns ++ n ∷ [])) n ≡ true
-    by_test true e = e
-    by_test false e = list_any-append (λ (m : List ℕ). bytes_eq n m) ns (n ∷ []) ∙ or_right (holds ns n) (holds (n ∷ []) n) (or_left (bytes_eq n n) false (same_name n))
 
 pub same_holds : (ns : List (List ℕ)) (q n : List ℕ) → bytes_eq q n ≡ true → holds ns q ≡ holds ns n
 same_holds [] q n e = refl

@@ -1,5 +1,5 @@
 -- What is read is no more than the text.
-use Rattle.std.proofs.Common.{◌≡◌, ℕ, ◌+◌, ◌≤◌, Bool, true, false, List, [], ◌∷◌, ◌++◌, length, Option, Some, None, refl, sym, ap, subst, ◌∙◌, ◌⊎◌, inl, inr, arith}
+use Rattle.std.proofs.Common.{◌≡◌, ℕ, ◌+◌, ◌≤◌, true, false, List, [], ◌∷◌, ◌++◌, length, Option, Some, refl, sym, ap, subst, ◌∙◌, ◌⊎◌, inl, inr, arith}
 use Rattle.std.proofs.lemmas.List.{length-append}
 use Rattle.asm_lex.specs.declared.lexing.TheConstants.{LIMIT}
 use Rattle.asm_lex.specs.Words.{Word}
@@ -14,7 +14,6 @@ use Rattle.asm_source.specs.declared.tree.Form.TheVariants as form
 use Rattle.asm_source.specs.declared.tree.Argument.{Argument}
 use Rattle.asm_source.specs.declared.tree.Body.TheVariants as body
 use Rattle.asm_source.specs.declared.tree.SourceItem.{SourceItem}
-use Rattle.asm_statement.specs.declared.directive.Directive.TheVariants as kind
 use Rattle.asm_statement.specs.declared.directive.Head.{Head}
 use Rattle.asm_statement.specs.declared.directive.Head.TheVariants as head
 use Rattle.asm_statement.specs.ScopeView.{ScopeView}
@@ -22,9 +21,9 @@ use Rattle.asm_statement.specs.Scope.{pushed}
 use Rattle.asm_argument.specs.Operand.{begun}
 use Rattle.asm_argument.specs.Shapes.{takes_absent}
 use Rattle.asm_argument.specs.Grammar.{IsValue, IsAddress, IsForm}
-use Rattle.asm_statement.specs.Items.{item_of, resumed, sectioned}
+use Rattle.asm_statement.specs.Items.{item_of, sectioned}
 use Rattle.asm_statement.specs.Directives.{shape_at}
-use Rattle.asm_parse.specs.Statements.{IsSeen, Sees, IsArgument, Separated, HasArguments, Statement, terminals, text_of, IsStatement, Statements}
+use Rattle.asm_parse.specs.Statements.{IsArgument, Separated, HasArguments, Statement, terminals, text_of, IsStatement, Statements}
 use Rattle.std.specs.Prelude.{IfOk, Result, Ok, Err}
 use Rattle.asm_lex.specs.declared.fault.SourceFault.{SourceFault}
 use Rattle.asm_argument.specs.Terminals.{terminal_of}
@@ -33,6 +32,7 @@ use Rattle.asm_statement.specs.Running.{Parses, read}
 use Rattle.asm_parse.proofs.Sources.{parsed_is}
 use Rattle.asm_source.specs.Size.{name_size, form_size, arguments_size, body_size, body_count, items_size, items_count}
 use Rattle.asm_argument.proofs.Operands.{absent_begun}
+use Rattle.asm_parse.proofs.ScopeItems.{sees_items, resumed_items}
 use Rattle.asm_parse.proofs.Stated.{first_shape}
 use Rattle.asm_parse.proofs.Costs.{cost, costs, costs-append, weight, ArePaid, paid_costs, lexed_pays}
 
@@ -78,11 +78,6 @@ size-append : (xs ys : List Argument) → arguments_size (xs ++ ys) ≡ argument
 size-append [] ys = omega arith
 size-append (x ∷ xs) ys = omega (arith, size-append xs ys)
 
-sees_same : (sc sc2 : ScopeView) (d : Bool) (n : Option (List ℕ)) → Sees sc d n sc2 → sc2.items ≡ sc.items
-sees_same sc sc2 d None h = ap (λ (x : ScopeView). x.items) (sym h)
-sees_same sc sc2 d (Some n) (IsSeen.used room) = refl
-sees_same sc sc2 d (Some n) (IsSeen.defined new room) = refl
-
 nothing_absent : {A : Type 0} (p : Partial) → p ≡ partial.Nothing → p ≡ partial.Absent → A
 nothing_absent p e f = absurd cc
 
@@ -115,7 +110,7 @@ separated_pays {h} (Separated.more {ss} {ts} {before} {a} {sc1} {sc2} sep next) 
             omega (arith, one, ap length e, length-append before (a ∷ []), length-append ss (ts ++ terminal.Comma ∷ []), length-append ts (terminal.Comma ∷ []))
         | inr le ↦ omega (arith, le, length-append before (a ∷ []), length-append ss (ts ++ terminal.Comma ∷ []), length-append ts (terminal.Comma ∷ []))
       ]);
-      same = sees_same sc1 sc2 _ _ next.sees ∙ p.same;
+      same = sees_items sc1 sc2 _ _ next.sees ∙ p.same;
     }
 
 arguments_pay : {h : Head} {sc sc2 : ScopeView} {ss : List Terminal} {args : List Argument} → HasArguments h sc ss args sc2 → ListPays h sc sc2 ss args
@@ -132,7 +127,7 @@ arguments_pay {h} (HasArguments.some {ss} {ts} {before} {a} {sc1} {sc2} sep next
             omega (arith, one, ap length e, length-append before (a ∷ []), length-append ss ts)
         | inr le ↦ omega (arith, le, length-append before (a ∷ []), length-append ss ts)
       ];
-      same = sees_same sc1 sc2 _ _ next.sees ∙ p.same;
+      same = sees_items sc1 sc2 _ _ next.sees ∙ p.same;
     }
 
 -- ---- statements
@@ -140,11 +135,6 @@ arguments_pay {h} (HasArguments.some {ss} {ts} {before} {a} {sc1} {sc2} sep next
 items_end : (xs : List SourceItem) (x : SourceItem) → (items_size (xs ++ x ∷ []) ≡ items_size xs + body_size x.body) × (items_count (xs ++ x ∷ []) ≡ items_count xs + body_count x.body)
 items_end [] x = (omega arith, omega arith)
 items_end (y ∷ xs) x = let p = items_end xs x in (omega (arith, p.0), omega (arith, p.1))
-
-resumed_same : (sc : ScopeView) (h : Head) → (resumed sc h).items ≡ sc.items
-resumed_same sc (head.Instruction r n) = refl
-resumed_same sc (head.Directive kind.Plain n) = refl
-resumed_same sc (head.Directive _ n) = refl
 
 pub record StatementPays (sc sc2 : ScopeView) (ss : List Terminal) : Type 0 where
   pub size : items_size sc2.items + 1 ≤ items_size sc.items + costs ss
@@ -163,7 +153,7 @@ same_pays sc s ss = record { size = omega (arith, costs-append ss (terminal.End 
 statement_pays : {sc sc2 : ScopeView} {line : ℕ} {ss : List Terminal} → Statement sc line ss sc2 → StatementPays sc sc2 ss
 statement_pays Statement.empty = record { size = omega arith; count = omega arith }
 statement_pays {sc} {line} (Statement.label {sc2} {n} sk seen) =
-    pushed_pays sc sc2 _ (record { line = line; body = body.Label n }) (terminal.Name n ∷ terminal.Colon ∷ []) (sees_same sc sc2 true (Some n) seen) refl (omega arith) (omega arith)
+    pushed_pays sc sc2 _ (record { line = line; body = body.Label n }) (terminal.Name n ∷ terminal.Colon ∷ []) (sees_items sc sc2 true (Some n) seen) refl (omega arith) (omega arith)
 statement_pays {sc} {line} (Statement.instruction {sc2} {n} {ss} {args} passed dotted rep has) =
     let p = arguments_pay has in
     pushed_pays sc sc2 _ (item_of line (head.Instruction false n) args) (terminal.Name n ∷ (ss ++ terminal.End ∷ [])) p.same refl (omega (arith, p.size, costs-append ss (terminal.End ∷ []))) (omega (arith, p.count, length-append ss (terminal.End ∷ [])))
@@ -172,7 +162,7 @@ statement_pays {sc} {line} (Statement.repeated {sc2} {r} {n} {ss} {args} passed 
     pushed_pays sc sc2 _ (item_of line (head.Instruction true n) args) (terminal.Name r ∷ terminal.Name n ∷ (ss ++ terminal.End ∷ [])) p.same refl (omega (arith, p.size, costs-append ss (terminal.End ∷ []))) (omega (arith, p.count, length-append ss (terminal.End ∷ [])))
 statement_pays {sc} {line} (Statement.directive {sc2} {n} {k} {ss} {args} passed dotted dir list has count) =
     let p = arguments_pay has in
-    pushed_pays sc sc2 _ (item_of line (head.Directive k n) args) (terminal.Name n ∷ (ss ++ terminal.End ∷ [])) p.same (resumed_same (pushed sc2 (item_of line (head.Directive k n) args)) (head.Directive k n))
+    pushed_pays sc sc2 _ (item_of line (head.Directive k n) args) (terminal.Name n ∷ (ss ++ terminal.End ∷ [])) p.same (resumed_items (pushed sc2 (item_of line (head.Directive k n) args)) (head.Directive k n))
     (omega (arith, p.size, costs-append ss (terminal.End ∷ []))) (omega (arith, p.count, length-append ss (terminal.End ∷ [])))
 statement_pays {sc} (Statement.skipped_directive {n} ss passed dotted dir u h) = same_pays sc (terminal.Name n) ss
 statement_pays {sc} (Statement.skipped_label {n} sk) = record { size = omega arith; count = omega arith }
@@ -180,10 +170,6 @@ statement_pays {sc} (Statement.skipped {n} ss passed u h) = same_pays sc (termin
 statement_pays {sc} (Statement.nameless {s} ss sk k h) = same_pays sc s ss
 
 -- ---- a source
-
-pub terminals-append : (ws vs : List Word) → terminals (ws ++ vs) ≡ terminals ws ++ terminals vs
-terminals-append [] vs = refl
-terminals-append (w ∷ ws) vs = ap (λ (x : List Terminal). terminal_of w.kind w.bytes ∷ x) (terminals-append ws vs)
 
 terminals-length : (ws : List Word) → length (terminals ws) ≡ length ws
 terminals-length [] = refl

@@ -1,6 +1,6 @@
 -- In a directive or an instruction a terminal that is refused has the cause of its place.
 use Rattle.std.proofs.Common.{◌≡◌, ℕ, Bool, true, false, cond, List, [], ◌∷◌, ◌++◌, length, Option, Some, None, Result, Ok, Err, refl, sym, ap, subst, ◌∙◌, ◌⊎◌, inl, inr, arith}
-use Rattle.std.proofs.lemmas.Bool.{ltb-true}
+use Rattle.std.proofs.lemmas.Bool.{ltb-true, and_parts}
 use Rattle.std.specs.Prelude.{◌==◌, ◌&&◌, not, nat_lt}
 use Rattle.asm_lex.specs.declared.fault.SourceCause.{SourceCause}
 use Rattle.asm_lex.specs.declared.fault.SourceCause.TheVariants as cause
@@ -57,15 +57,11 @@ comma_fails sc o c true e h =
     let g = shape_fails sc o.line o.head (o.arguments ++ record { star = o.star; form = f.0 } ∷ []) (shape_at o.head (length (o.arguments ++ record { star = o.star; form = f.0 } ∷ []))) c (sym (ap (λ (x : Option Form). comma_behind sc (ended_as o x)) f.1) ∙ h) in
     Fails.many (length (o.arguments ++ record { star = o.star; form = f.0 } ∷ [])) refl e g.0 g.1
 
-and_first : (a b : Bool) → (a && b) ≡ true → a ≡ true
-and_first true b h = refl
-and_first false b h = absurd cc
-
 end_fails : (sc : ScopeView) (o : Open) (c : SourceCause) (t : Bool) → is_bare o ≡ t → (u : Bool) → is_finished o.so_far ≡ u
     → ◌≡◌ {A = Answer} (cond t (complete sc o.line o.head o.arguments) (cond u (end_behind sc (ended o)) (within sc o terminal.End))) (Err c) → Fails sc o terminal.End c
 end_fails sc o c true e u f h =
     let g = count_fails (nat_lt (length o.arguments) (least o.head)) _ c h in
-    Fails.few (length o.arguments) refl (inl (and_first (is_nothing o.so_far) (not o.star) (and_first (is_nothing o.so_far && not o.star) (length o.arguments == 0) e))) g.0 g.1
+    Fails.few (length o.arguments) refl (inl (and_parts (is_nothing o.so_far) (not o.star) (and_parts (is_nothing o.so_far && not o.star) (length o.arguments == 0) e).0).0) g.0 g.1
 end_fails sc o c false e false f h = Fails.inside h (λ k. f)
 end_fails sc o c false e true f h =
     let k = is_finished_some o.so_far f in

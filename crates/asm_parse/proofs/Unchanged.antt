@@ -1,5 +1,5 @@
 -- A statement that leaves what was said as it is, and what is read of one that isn't read.
-use Rattle.std.proofs.Common.{◌≡◌, ℕ, ◌+◌, Bool, true, false, List, [], ◌∷◌, ◌++◌, length, Option, Some, None, Ok, refl, sym, ap, subst, ◌∙◌, ◌⊎◌, inl, inr, arith}
+use Rattle.std.proofs.Common.{◌≡◌, ℕ, ◌+◌, Bool, true, false, List, [], ◌∷◌, ◌++◌, length, None, Ok, refl, sym, ap, subst, ◌∙◌, ◌⊎◌, inl, inr, arith}
 use Rattle.std.specs.List.{list_all}
 use Rattle.std.proofs.lemmas.List.{length-append}
 use Rattle.asm_lex.specs.declared.fault.SourceCause.TheVariants as cause
@@ -9,7 +9,6 @@ use Rattle.asm_argument.specs.declared.terminal.Terminal.TheVariants as terminal
 use Rattle.asm_source.specs.declared.tree.Argument.{Argument}
 use Rattle.asm_source.specs.declared.tree.SourceItem.{SourceItem}
 use Rattle.asm_source.specs.declared.tree.Body.TheVariants as body
-use Rattle.asm_statement.specs.declared.directive.Directive.TheVariants as kind
 use Rattle.asm_statement.specs.declared.directive.Head.{Head}
 use Rattle.asm_statement.specs.declared.directive.Head.TheVariants as head
 use Rattle.asm_statement.specs.declared.state.StatementState.{StatementState}
@@ -20,21 +19,14 @@ use Rattle.asm_argument.specs.Terminals.{terminal_of}
 use Rattle.asm_statement.specs.Statement.{skip, unless_skipping, other_behind, step, doom, with_scope}
 use Rattle.asm_statement.specs.Items.{item_of, resumed}
 use Rattle.asm_statement.specs.Reading.{ending_at}
-use Rattle.asm_parse.specs.Statements.{IsSeen, Sees, Separated, HasArguments, is_inner, is_unlabelled, is_nameless, Statement, terminals}
+use Rattle.asm_parse.specs.Statements.{Separated, HasArguments, is_inner, is_unlabelled, is_nameless, Statement, terminals}
 use Rattle.asm_source.specs.Names.{symbol_in}
 use Rattle.asm_statement.specs.Directives.{defines}
 use Rattle.asm_parse.proofs.Words.{read_words}
+use Rattle.asm_parse.proofs.ScopeItems.{seen_items, sees_items, resumed_items}
 use Rattle.asm_parse.proofs.Reread.{Pair, on_word, inner_parts, skip_stays, same_pair, skip_inner}
 
 -- ---- what a statement says is one item more
-
-seen_items : {sc sc2 : ScopeView} {d : Bool} {n : List ℕ} → IsSeen sc d n sc2 → sc2.items ≡ sc.items
-seen_items (IsSeen.used room) = refl
-seen_items (IsSeen.defined new room) = refl
-
-sees_items : (sc sc2 : ScopeView) (d : Bool) (o : Option (List ℕ)) → Sees sc d o sc2 → sc2.items ≡ sc.items
-sees_items sc sc2 d None e = ap (λ (x : ScopeView). x.items) (sym e)
-sees_items sc sc2 d (Some n) seen = seen_items seen
 
 separated_items : {h : Head} {sc sc2 : ScopeView} {ss : List Terminal} {args : List Argument} → Separated h sc ss args sc2 → sc2.items ≡ sc.items
 separated_items Separated.none = refl
@@ -48,10 +40,6 @@ one_more_item : (xs : List SourceItem) (x : SourceItem) → xs ++ x ∷ [] ≡ x
 one_more_item xs x e =
     let size : length (xs ++ x ∷ []) ≡ length xs = ap (λ (ys : List SourceItem). length ys) e in
     omega (arith, size, length-append xs (x ∷ []))
-
-resumed_items : (sc : ScopeView) (h : Head) → (resumed sc h).items ≡ sc.items
-resumed_items sc (head.Directive kind.Plain n) = refl
-resumed_items sc _ = refl
 
 pushed_not : (sc sc2 : ScopeView) (h : Head) (x : SourceItem) → sc2.items ≡ sc.items → resumed (pushed sc2 x) h ≡ sc → ⊥
 pushed_not sc sc2 h x e same =

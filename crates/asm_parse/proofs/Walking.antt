@@ -1,6 +1,7 @@
 -- The first word that is refused, and where all words go on, what ends them.
 use Rattle.std.proofs.Common.{◌≡◌, ℕ, Bool, true, false, cond, List, [], ◌∷◌, ◌++◌, length, Option, Some, None, Result, Ok, Err, refl, sym, ap, ◌∙◌, inl, inr, append_assoc}
 use Rattle.std.specs.Prelude.{◌&&◌, ◌||◌, ◌+◌, not, is_none, unwrap_or}
+use Rattle.std.proofs.lemmas.Bool.{and_parts}
 use Rattle.asm_lex.specs.declared.fault.SourceCause.{SourceCause}
 use Rattle.asm_lex.specs.declared.fault.SourceCause.TheVariants as cause
 use Rattle.asm_lex.specs.Words.{Word}
@@ -118,12 +119,6 @@ stray_fault sc l c (w ∷ ws) e f is h = by_terminal (terminal_of w.kind w.bytes
 
 -- ---- what a word makes dead
 
-and_last : (a b c : Bool) → (a && b && c) ≡ true → c ≡ true
-and_last true true true h = refl
-and_last true true false h = absurd cc
-and_last true false c h = absurd cc
-and_last false b c h = absurd cc
-
 and_third : (a b c d : Bool) → (a && b && c && d) ≡ true → c ≡ true
 and_third true true true d h = refl
 and_third true true false d h = absurd cc
@@ -140,7 +135,7 @@ name_pending sc b l n c d = by_test (is_unknown sc n) refl
   where
     by_test : (t : Bool) → is_unknown sc n ≡ t → unwrap_or (pending sc (state.Named b n)) c ≡ first_name_cause sc n []
     by_test true e =
-        let none : is_none (directive_of n) ≡ true = and_last (is_dotted n) (not sc.skipping) (is_none (directive_of n)) e in
+        let none : is_none (directive_of n) ≡ true = (and_parts (is_dotted n && not sc.skipping) (is_none (directive_of n)) e).1 in
         rw (e, none) refl
     by_test false e =
         let either : ((is_unknown sc n && is_taken sc n) || lacks_names sc n) ≡ true = doomed_is _ b l d in
