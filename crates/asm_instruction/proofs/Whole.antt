@@ -14,7 +14,7 @@ use Rattle.asm_instruction.specs.declared.assembled.Refusal.TheVariants as refus
 use Rattle.asm_instruction.specs.Argument.{argument_named, names_symbol}
 use Rattle.asm_instruction.specs.Assembled.{named_field, widths, whole, with_spelling, spelled, drafted_of, by_draft, by_mnemonic, HasBoundedLength, SpellsItsInstruction, IsField, HasFields, Before, AreInOrder, IsRight, named_in}
 
-symbol_there : (o : Option (List ℕ)) → is_some o ≡ true → (n : List ℕ) × (o ≡ Some n)
+pub symbol_there : (o : Option (List ℕ)) → is_some o ≡ true → (n : List ℕ) × (o ≡ Some n)
 symbol_there (Some n) h = (n, refl)
 symbol_there None h = absurd cc
 

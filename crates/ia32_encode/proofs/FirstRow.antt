@@ -1,6 +1,6 @@
 -- The first row that can have an instruction: rows that can't suit are passed by.
 use Rattle.std.proofs.Common.{◌≡◌, ℕ, Bool, true, false, List, [], ◌∷◌, ◌++◌, Some, None, refl, sym, ap, ◌∙◌, arith}
-use Rattle.std.specs.Prelude.{◌==◌, ◌&&◌, not, nat_le}
+use Rattle.std.specs.Prelude.{◌&&◌, not, nat_le}
 use Rattle.std.specs.List.{list_all}
 use Rattle.std.specs.Cmp.Derive.{both_true}
 use Rattle.std.proofs.lemmas.Bool.{eq-eqb, and_parts}
@@ -65,9 +65,6 @@ is_of o s r = same_op r.op o && same_size r.size s
 pub needs_same : (w : Wide) (i : Insn) → Needs (is_of i.op i.size) w i
 unfolding insn_of
 needs_same w i r s = both_true (true_same the_type r.op i.op (ap (λ (j : Insn). j.op) s.means)) (eq-eqb (width r.size) (width i.size) (ap (λ (j : Insn). width j.size) s.means))
-
-pub itself : (n : ℕ) → (n == n) ≡ true
-itself n = grind (arith, nat_tests)
 
 pub code_itself : (n : ℕ) → (nat_le n n && nat_le n n) ≡ true
 code_itself n = grind (arith, nat_tests)

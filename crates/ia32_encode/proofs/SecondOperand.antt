@@ -2,7 +2,7 @@
 use Rattle.std.proofs.Common.{◌≡◌, ℕ, zero, suc, ◌+◌, ◌*◌, ◌%◌, ◌<◌, Bool, true, false, List, [], ◌∷◌, ◌++◌, Some, None, length, replicate, take, drop, refl, sym, ap, subst, ◌∙◌, arith}
 use Rattle.std.specs.Prelude.{◌-◌, ◌==◌, ◌&&◌, ◌||◌, not}
 use Rattle.std.specs.Cmp.Derive.{both_true}
-use Rattle.std.proofs.lemmas.Bool.{lt-ltb, and_parts}
+use Rattle.std.proofs.lemmas.Bool.{lt-ltb, and_parts, eq-eqb}
 use Rattle.std.proofs.lemmas.List.{take_at}
 use Rattle.ia32_types.specs.declared.insn.Address.{Address}
 use Rattle.ia32_types.specs.declared.insn.Insn.{Insn}
@@ -33,7 +33,7 @@ use Rattle.ia32_encode.specs.Pushed.{laid_out}
 use Rattle.ia32_encode.specs.Text.{is_signed_byte, index_number, base_number, disp_len_of, memory_len, mode_for, scale_bits, disp_bytes, modrm, has_sib, memory_bytes}
 use Rattle.ia32_encode.specs.Short.{arithmetic, with_number, with_registers, plain, with_displacement, Begins, IsSpelledByDigit}
 use Rattle.ia32_encode.proofs.Back.{base_below}
-use Rattle.ia32_encode.proofs.FirstRow.{none_can, first_of, none_of, is_of, needs_same, itself, code_itself, Needs}
+use Rattle.ia32_encode.proofs.FirstRow.{none_can, first_of, none_of, is_of, needs_same, code_itself, Needs}
 
 -- ---- a number that fits a signed byte
 
@@ -70,7 +70,7 @@ short_suits : (w : Bool) (k imm : ℕ) (o : Op) (a : Operand) → k < 8 → rm_f
 unfolding parts_for form_fits insn_of
 short_suits w k imm o a lt fit short four = record {
   means = refl;
-  fits = both_true (both_true (both_true (lt-ltb k 8 lt) (itself k)) fit) (both_true short refl);
+  fits = both_true (both_true (both_true (lt-ltb k 8 lt) (eq-eqb k k refl)) fit) (both_true short refl);
   widths = both_true four refl;
 }
 
@@ -313,3 +313,5 @@ pub moved_words_to_rm : (m n : ℕ) → m < 8 → n < 8 → Begins (0x66 ∷ 0x8
 unfolding rows
 moved_words_to_rm m n a b =
     subst (Begins (0x66 ∷ 0x89 ∷ (0xc0 + 8 * n + m) ∷ []) 3) (sym (pair_is_chosen (take 145 rows) (drop 146 rows) lead.Word 0x89 Mov Word m n refl a b refl refl)) (laid_words 0x89 Mov m n)
+
+pub ruleset into_rm = (rm_is_destination, rm_is_byte_destination, moved_to_rm, moved_bytes_to_rm, moved_words_to_rm)

@@ -158,3 +158,5 @@ conditional_laid n d lt = (ap (λ (m : ℕ). 0x0f ∷ m ∷ []) (condition_is n 
 pub jcc_by_four_bytes : (w : Bool) (condition distance : ℕ) → condition < 16 → Begins (0x0f ∷ (0x80 + condition) ∷ []) 6 (chosen (with_wide w) (by_distance Jcc condition distance))
 jcc_by_four_bytes w n d lt =
     subst (Begins (0x0f ∷ (0x80 + n) ∷ []) 6) (sym (chosen_by 169 conditional (with_wide w) (by_distance Jcc n d) jcc_first refl refl (conditional_suits w n d lt))) (conditional_laid n d lt)
+
+pub ruleset long_branches = (jmp_by_four_bytes, call_by_four_bytes, jcc_by_four_bytes)

@@ -29,7 +29,7 @@ pub fn short_forms()
 {}
 
 /// JMP, CALL and Jcc by a distance take E9, E8 and 0F 80 + c, however short the distance.
-#[tactic(auto, using(crate::proofs::ShortForms::jmp_by_four_bytes, crate::proofs::ShortForms::call_by_four_bytes, crate::proofs::ShortForms::jcc_by_four_bytes))]
+#[tactic(auto, using(crate::proofs::ShortForms::long_branches))]
 pub fn branches_are_long()
     ensures jmp { (w : Bool) (distance : ℕ) → Begins (0xe9 ∷ []) 5 (chosen (with_wide w) (by_distance Jmp 0 distance)) }
     ensures call { (w : Bool) (distance : ℕ) → Begins (0xe8 ∷ []) 5 (chosen (with_wide w) (by_distance Call 0 distance)) }
@@ -50,7 +50,7 @@ pub fn numbers_are_short()
 {}
 
 /// Between two registers the r/m field names the destination.
-#[tactic(auto, using(crate::proofs::SecondOperand::rm_is_destination, crate::proofs::SecondOperand::rm_is_byte_destination, crate::proofs::SecondOperand::moved_to_rm, crate::proofs::SecondOperand::moved_bytes_to_rm, crate::proofs::SecondOperand::moved_words_to_rm))]
+#[tactic(auto, using(crate::proofs::SecondOperand::into_rm))]
 pub fn destinations_are_in_rm()
     ensures arithmetic { (k m n : ℕ) → k < 8 → m < 8 → n < 8 →
         Begins ((8 * k + 1) ∷ (0xc0 + 8 * n + m) ∷ []) 2 (chosen plain (with_registers (arithmetic k) Long m n)) }
