@@ -1,5 +1,5 @@
 -- The names of items are among those of the source.
-use Rattle.std.proofs.Common.{◌≡◌, ◌<◌, ◌+◌, ℕ, zero, suc, Bool, true, false, List, [], ◌∷◌, ◌++◌, length, get_or, Option, Some, None, refl, ap, ◌∙◌, cond, arith, fold, eq-eqb, subst}
+use Rattle.std.proofs.Common.{◌≡◌, ◌<◌, ◌+◌, ℕ, zero, suc, Bool, true, false, List, [], ◌∷◌, ◌++◌, length, get_or, Option, Some, None, ap, ◌∙◌, cond, arith, fold, subst}
 use Rattle.std.specs.Prelude.{◌||◌, slice_get, not}
 use Rattle.std.specs.Option.{option_to_list}
 use Rattle.std.specs.List.{flat_map, list_any, position_or_len}
@@ -7,6 +7,7 @@ use Rattle.std.specs.Str.{bytes_eq}
 use Rattle.asm_source.specs.declared.tree.Argument.{Argument}
 use Rattle.asm_source.specs.declared.tree.SourceItem.{SourceItem}
 use Rattle.asm_source.specs.Names.{symbol_in, holds, added, name_number}
+use Rattle.asm_source.proofs.Held.{holds_more, added_holds}
 use Rattle.asm_source.specs.Readable.{argument_names, body_names, names_in}
 use Rattle.afterburner.specs.Sound.{AreHeld}
 
@@ -19,35 +20,13 @@ found_within p (x ∷ xs) e =
 pub held_number : (names : List (List ℕ)) (n : List ℕ) → holds names n ≡ true → name_number names n < length names
 held_number names n e = found_within (λ m. bytes_eq n m) names e
 
-any_append : {X : Type 0} (p : X → Bool) (xs ys : List X) → list_any p xs ≡ true → list_any p (xs ++ ys) ≡ true
-any_append p [] ys e = cc
-any_append p (x ∷ xs) ys e =
-    let at : (b : Bool) → (b || list_any p xs) ≡ true → (b || list_any p (xs ++ ys)) ≡ true = λ b. elim b as (λ v. (v || list_any p xs) ≡ true → (v || list_any p (xs ++ ys)) ≡ true) [ true ↦ λ _. refl | false ↦ λ h. any_append p xs ys h ] in
-    at (p x) e
-
-pub same_bytes : (n : List ℕ) → bytes_eq n n ≡ true
-same_bytes [] = refl
-same_bytes (b ∷ n) = rw (eq-eqb b b refl) (same_bytes n)
-
-held_added : (names : List (List ℕ)) (n m : List ℕ) → holds names n ≡ true → holds (added names m) n ≡ true
-held_added names n m e = elim (holds names m) as (λ b. holds (cond b names (names ++ m ∷ [])) n ≡ true) [ true ↦ e | false ↦ any_append (λ x. bytes_eq n x) names (m ∷ []) e ]
-
-any_last : {X : Type 0} (p : X → Bool) (xs : List X) (x : X) → p x ≡ true → list_any p (xs ++ x ∷ []) ≡ true
-any_last p [] x e = ap (λ (b : Bool). b || false) e
-any_last p (y ∷ xs) x e = elim (p y) as (λ b. (b || list_any p (xs ++ x ∷ [])) ≡ true) [ true ↦ refl | false ↦ any_last p xs x e ]
-
-added_held : (names : List (List ℕ)) (n : List ℕ) → holds (added names n) n ≡ true
-added_held names n =
-    let at : (b : Bool) → holds names n ≡ b → holds (cond b names (names ++ n ∷ [])) n ≡ true = λ b. elim b as (λ v. holds names n ≡ v → holds (cond v names (names ++ n ∷ [])) n ≡ true) [ true ↦ λ h. h | false ↦ λ h. any_last (λ x. bytes_eq n x) names n (same_bytes n) ] in
-    at (holds names n) refl
-
 pub held_fold : (names ns : List (List ℕ)) (n : List ℕ) → holds names n ≡ true → holds (fold added names ns) n ≡ true
 held_fold names [] n e = e
-held_fold names (m ∷ ns) n e = held_fold (added names m) ns n (held_added names n m e)
+held_fold names (m ∷ ns) n e = held_fold (added names m) ns n (holds_more names m n e)
 
 pub all_held : (names ns : List (List ℕ)) → AreHeld (fold added names ns) ns
 all_held names [] = tt
-all_held names (n ∷ ns) = (held_fold (added names n) ns n (added_held names n), all_held (added names n) ns)
+all_held names (n ∷ ns) = (held_fold (added names n) ns n (added_holds names n), all_held (added names n) ns)
 
 pub held_left : (names ns ms : List (List ℕ)) → AreHeld names (ns ++ ms) → AreHeld names ns
 held_left names [] ms h = tt
