@@ -45,6 +45,7 @@ use Rattle.asm_instruction.specs.Control.{distance, to_symbol}
 use Rattle.asm_instruction.specs.Mnemonic.{known_name, drafted}
 use Rattle.asm_instruction.specs.Assembled.{named_field, widths, whole, spelled, drafted_of, by_draft, by_mnemonic, by_name, assembled, spelling_bytes}
 use Rattle.asm_instruction.proofs.Answered.{spelling_is}
+use Rattle.asm_instruction.proofs.Whole.{symbol_there as some_name}
 use Rattle.afterburner.specs.Arguments.{number_in as constant_in}
 use Rattle.built_images.specs.Fields.{imm_size, disp_place, imm_place}
 use Rattle.built_images.proofs.Drafts.{IsBranch, meant_sound}
@@ -250,10 +251,6 @@ pub record IsFielded (args : List Argument) (a : Assembled) : Type 0 where
   pub disp : (f : Named) → a.disp ≡ Some f → (parts.disp_len ≡ 4) × (f.at ≡ disp_place row (spelling_bytes a))
   pub imm : (f : Named) → a.imm ≡ Some f → (imm_len row.form.immediate ≡ 4) × (f.at ≡ imm_place row (spelling_bytes a))
   pub branch : is_direct_branch a.insn.op ≡ true → BranchField args a
-
-some_name : (o : Option (List ℕ)) → is_some o ≡ true → (n : List ℕ) × (o ≡ Some n)
-some_name (Some n) h = (n, refl)
-some_name None h = absurd cc
 
 first_of : (a b c : Bool) → (a && b && c) ≡ true → a ≡ true
 first_of a b c e = (and_parts a b (and_parts (a && b) c e).0).0
