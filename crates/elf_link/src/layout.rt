@@ -7,13 +7,9 @@ ghost use Rattle.elf_link.specs.Steps.{IsWithin, totals};
 use crate::base::Base;
 use crate::totals::round_up;
 use elf_form::Object;
+use ia32_types::{DATA_ADDRESS, TEXT_ADDRESS};
 use sites::INIT_LIMIT;
 use std::alloc::{AllocError, Global};
-
-/// The linear address of the text.
-pub const TEXT_AT: u32 = 0x1000_0000;
-/// The linear address of the data.
-pub const INIT_AT: u32 = 0x1100_0000;
 
 /// The room of some parts, each at a multiple of 4,096, and where the last that isn't empty ends.
 #[derive(Clone, Copy)]
@@ -101,9 +97,9 @@ pub fn bases(alloc: Global, objects: &Vec<Object>) -> Result<Vec<Base>, AllocErr
     ensures { IfOk result (λ v. v.items ≡ bases objects.now.items) }
 {
     let mut out = Vec::new(alloc);
-    let mut text = TEXT_AT;
-    let mut init = INIT_AT;
-    let mut bss = INIT_AT + init_span(objects).room as u32;
+    let mut text = TEXT_ADDRESS;
+    let mut init = DATA_ADDRESS;
+    let mut bss = DATA_ADDRESS + init_span(objects).room as u32;
     for object in objects {
         out.push(Base { text, init, bss })?;
         text += round_up(16, object.text.len()) as u32;

@@ -18,9 +18,10 @@ ghost use Rattle.elf_link.specs.Facts.{IsGathered, IsPlan, IsLaidOut};
 use crate::fault::{LinkCause, LinkFault};
 use crate::gathering::{gather_all, refuse};
 use crate::globals::Globals;
-use crate::layout::{INIT_AT, TEXT_AT, bases, init_end, memory_end, text_end};
+use crate::layout::{bases, init_end, memory_end, text_end};
 use crate::relocations::{Plan, address, is_text, relocs_cause, with_fields};
 use elf_form::{Image, Object, pad, write_image};
+use ia32_types::{DATA_ADDRESS, TEXT_ADDRESS};
 use sites::{Site, of_text, write_sites};
 use std::alloc::{AllocError, Global};
 
@@ -93,7 +94,7 @@ fn entered(plan: &Plan) -> Result<u32, LinkFault>
     ensures { Gives (λ entry. entry) result (entered plan.now.bases.items plan.now.globals) }
 {
     match plan.globals.get(b"_start") {
-        None => Ok(TEXT_AT),
+        None => Ok(TEXT_ADDRESS),
         Some(target) => {
             if !is_text(target.place) {
                 return Err(LinkFault::At {
@@ -134,8 +135,8 @@ fn placed(
         init,
         bss: (memory_end(objects) - init_end) as u32,
         entry,
-        text_at: TEXT_AT,
-        init_at: INIT_AT,
+        text_at: TEXT_ADDRESS,
+        init_at: DATA_ADDRESS,
         sites,
     })
 }

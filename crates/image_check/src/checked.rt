@@ -4,8 +4,8 @@ ghost use Rattle.std.specs.Prelude.{◌≡◌, ◌↔◌, Ok, IsTrue, length};
 ghost use Rattle.std.specs.List.{Contains};
 
 use crate::place::{AtOffset, site_at};
-use crate::placing::TEXT_AT;
 use elf_form::Image;
+use ia32_types::TEXT_ADDRESS;
 use sites::Sites;
 use std::marker::Model;
 
@@ -142,9 +142,9 @@ impl Checked {
     pub fn place_at(&self, eip: u32) -> AtOffset
         ensures { result ≡ place_at self.now eip }
     {
-        if eip < TEXT_AT {
+        if eip < TEXT_ADDRESS {
             return AtOffset::NotAStart;
         }
-        self.place(eip - TEXT_AT)
+        self.place(eip - TEXT_ADDRESS)
     }
 }

@@ -23,11 +23,12 @@ ghost use Rattle.image_check.specs.declared.fault.CheckCause.TheVariants.{SiteWr
 use crate::checked::Checked;
 use crate::fault::{CheckCause, CheckFault};
 use crate::piece::Piece;
-use crate::placing::{TEXT_AT, placed, test};
+use crate::placing::{placed, test};
 use crate::site::{differ, find_sites};
 use crate::sweeping::{Swept, sweep};
 use crate::target::{entrances, wrong_target};
 use elf_form::{ElfFault, Image, read_image};
+use ia32_types::TEXT_ADDRESS;
 use sites::{Sites, SitesFault, read_sites};
 use std::alloc::Global;
 
@@ -94,10 +95,10 @@ fn sites_tested(alloc: Global, sites: &Sites, pieces: &[Piece]) -> Result<(), Ch
 }
 
 fn entry_start(image: &Image, entrances: &[bool]) -> Option<u32>
-    requires { 0x1000_0000 ≤ image.now.entry }
+    requires { TEXT_ADDRESS ≤ image.now.entry }
     ensures { result ≡ entry_start_by (λ i. slice_index_or entrances.now i false) image.now }
 {
-    let at = image.entry - TEXT_AT;
+    let at = image.entry - TEXT_ADDRESS;
     let index = at as usize;
     (index >= entrances.len() || !entrances[index]).then_some(at)
 }
@@ -119,7 +120,7 @@ fn annotated(alloc: Global, image: &Image, pieces: &[Piece]) -> Result<Sites, Ch
 #[tactic(auto, unfolding(crate::specs::Checking::entered))]
 fn entered(alloc: Global, image: &Image, swept: &Swept, sites: &Sites) -> Result<(), CheckFault>
     requires starts { (i : ℕ) → slice_index_or swept.now.starts.items i false ≡ is_piece_start swept.now.pieces.items i }
-    requires entry { 0x1000_0000 ≤ image.now.entry }
+    requires entry { TEXT_ADDRESS ≤ image.now.entry }
     ensures { Gives (λ _. tt) result (entered image.now swept.now.pieces.items sites.now.list) }
 {
     let entrances = entrances(alloc, &swept.starts, &sites.list)?;

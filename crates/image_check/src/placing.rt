@@ -7,12 +7,8 @@ ghost use Rattle.image_check.specs.Checking.{placed};
 
 use crate::fault::{CheckCause, CheckFault};
 use elf_form::Image;
+use ia32_types::{DATA_ADDRESS, TEXT_ADDRESS};
 use sites::{INIT_LIMIT, TEXT_LIMIT};
-
-/// The linear address of the text.
-pub const TEXT_AT: u32 = 0x1000_0000;
-/// The linear address of the data.
-const INIT_AT: u32 = 0x1100_0000;
 
 /// Passes where there is no place.
 pub fn test(cause: CheckCause, place: Option<u32>) -> Result<(), CheckFault>
@@ -27,13 +23,13 @@ pub fn test(cause: CheckCause, place: Option<u32>) -> Result<(), CheckFault>
 fn text_place(image: &Image) -> Option<u32>
     ensures { result ≡ text_place image.now }
 {
-    (image.text_at != TEXT_AT).then_some(0)
+    (image.text_at != TEXT_ADDRESS).then_some(0)
 }
 
 fn init_place(image: &Image) -> Option<u32>
     ensures { result ≡ init_place image.now }
 {
-    (image.init_at != INIT_AT).then_some(0)
+    (image.init_at != DATA_ADDRESS).then_some(0)
 }
 
 fn text_size(image: &Image) -> Option<u32>
@@ -52,7 +48,7 @@ fn entry_place(image: &Image) -> Option<u32>
     ensures { result ≡ entry_place image.now }
 {
     let entry = u64::from(image.entry);
-    let start = u64::from(TEXT_AT);
+    let start = u64::from(TEXT_ADDRESS);
     (entry < start || entry >= start + image.text.len() as u64).then_some(0)
 }
 
@@ -62,7 +58,7 @@ pub fn placed(image: &Image) -> Result<(), CheckFault>
     ensures exact { Gives (λ _. tt) result (placed image.now) }
     ensures text { OnOk result ((1 ≤ length image.now.text) × (length image.now.text ≤ TEXT_LIMIT)) }
     ensures init { OnOk result (length image.now.init + image.now.bss ≤ INIT_LIMIT) }
-    ensures entry { OnOk result ((0x1000_0000 ≤ image.now.entry) × (image.now.entry < 0x1000_0000 + length image.now.text)) }
+    ensures entry { OnOk result ((TEXT_ADDRESS ≤ image.now.entry) × (image.now.entry < TEXT_ADDRESS + length image.now.text)) }
 {
     test(CheckCause::TextPlace, text_place(image))?;
     test(CheckCause::InitPlace, init_place(image))?;

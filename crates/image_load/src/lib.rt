@@ -13,7 +13,7 @@ pub use boot::{Boot, TooSmall};
 use descriptors::{Cpu, Hidden, Table, Task};
 pub use fault::{RunFault, StartFault};
 use guest_ram::Ram;
-use ia32_types::{Flags, Regs};
+use ia32_types::{Flags, Regs, TEXT_FRAME, TEXT_PLACE};
 use image_check::Checked;
 pub use run_trace::Pause;
 
@@ -37,18 +37,18 @@ pub fn load(image: &Checked, ram: &mut Ram, frames: u32) -> Result<Boot, TooSmal
 {
     let text_pages = pages(image.text().len() as u32);
     let data_pages = pages(image.init().len() as u32 + image.bss());
-    let need = 0x100 + text_pages + data_pages;
+    let need = TEXT_FRAME + text_pages + data_pages;
     if frames < need {
         return Err(TooSmall { need, have: frames });
     }
     ram.put(0x2000, &DESCRIPTORS);
     directory(ram, frames, text_pages, data_pages);
     tables(ram, frames, text_pages, data_pages);
-    ram.put(0x100000, image.text());
-    ram.put(4096 * (0x100 + text_pages), image.init());
+    ram.put(TEXT_PLACE, image.text());
+    ram.put(4096 * (TEXT_FRAME + text_pages), image.init());
     Ok(Boot {
         cpu: cpu_at(image.entry(), frames, need),
-        text_at: 0x100000,
+        text_at: TEXT_PLACE,
         text_frames: text_pages,
         first_free: 4096 * need,
     })
@@ -87,13 +87,13 @@ fn tables(ram: &mut Ram, frames: u32, text_pages: u32, data_pages: u32)
     requires few { (frames ≤ 16384) × (text_pages ≤ 4096) × (data_pages ≤ 8192) }
     ensures words { ram.new ≡ with_part (with_part (with_part ram.old
         0x4000 (frame_words 0 frames 3))
-        0x14000 (frame_words 0x100 text_pages 1))
-        0x18000 (frame_words (0x100 + text_pages) data_pages 3) }
+        0x14000 (frame_words TEXT_FRAME text_pages 1))
+        0x18000 (frame_words (TEXT_FRAME + text_pages) data_pages 3) }
     ensures len { length ram.new ≡ length ram.old }
 {
     put_frames(ram, 0x4000, 0, frames, 3);
-    put_frames(ram, 0x14000, 0x100, text_pages, 1);
-    put_frames(ram, 0x18000, 0x100 + text_pages, data_pages, 3);
+    put_frames(ram, 0x14000, TEXT_FRAME, text_pages, 1);
+    put_frames(ram, 0x18000, TEXT_FRAME + text_pages, data_pages, 3);
 }
 
 fn put_frames(ram: &mut Ram, at: u32, first: u32, count: u32, flags: u32)
