@@ -3,6 +3,7 @@
 use board::Script;
 use image_check::Checked;
 use image_load::TooSmall;
+use thiserror::Error;
 
 /// A kernel that shares the host: its image, and what comes to its board.
 #[derive(Drop)]
@@ -12,9 +13,12 @@ pub struct Kernel {
 }
 
 /// Why several kernels have no end.
-#[derive(Clone, Copy, Debug)]
+#[derive(Clone, Copy, Debug, Error)]
 pub enum SharedFault {
+    #[error("the trace can't be written")]
     Write,
+    #[error("{0}")]
     TooSmall(TooSmall),
+    #[error("no memory was found")]
     Memory,
 }

@@ -3,6 +3,7 @@
 use ia32_types::Stop;
 use image_load::TooSmall;
 use run_trace::End;
+use thiserror::Error;
 
 /// What a replay says of a text: it is that of the run; it is, before a stop of a monitor's own, which the bare machine
 /// hasn't; the choice at this place, counted from 0, can't be made; or this line, counted from 1, is the first that differs
@@ -16,9 +17,11 @@ pub enum Verdict {
 }
 
 /// Why nothing is said.
-#[derive(Clone, Copy, Debug)]
+#[derive(Clone, Copy, Debug, Error)]
 pub enum ReplayFault {
+    #[error("{0}")]
     TooSmall(TooSmall),
+    #[error("no memory was found")]
     Memory,
 }
 
