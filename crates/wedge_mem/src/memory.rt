@@ -10,7 +10,7 @@ ghost use Rattle.shadow_tables.specs.Entries.{entries_of};
 ghost use Rattle.step_mem.specs.Changes.{AreWithin};
 ghost use Rattle.step_mem.specs.Shown.{beyond};
 ghost use Rattle.wedge_mem.specs.Finished.{IsSettled};
-ghost use Rattle.wedge_mem.specs.Progress.{HasRange, owning, space_at_first, space_in};
+ghost use Rattle.wedge_mem.specs.Progress.{HasRange, KeepsOthers, owning, space_at_first, space_in};
 ghost use Rattle.wedge_mem.specs.Seen.{IsGoingBy};
 ghost use Rattle.wedge_mem.specs.Settled.{IsCount, pages_of};
 
@@ -87,6 +87,8 @@ impl<'a, S: Shadows> WedgeMem<'a, S> {
             ≤ (⟦<WedgeMem<'a, S> as GuestMem>⟧.space self.old).pages + 1 }
         ensures ready { Readied (⟦<WedgeMem<'a, S> as GuestMem>⟧.space self.new) at len false result }
         ensures found { result ≡ Touch.Ready → HasRange (⟦<WedgeMem<'a, S> as GuestMem>⟧.space self.new) at len }
+        ensures others { KeepsOthers (⟦<WedgeMem<'a, S> as GuestMem>⟧.space self.old)
+            (⟦<WedgeMem<'a, S> as GuestMem>⟧.space self.new) (at / 4096) }
         ensures frame { ⟦<WedgeMem<'a, S> as GuestMem>⟧.frame self.new ≡ ⟦<WedgeMem<'a, S> as GuestMem>⟧.frame self.old }
     {
         let lent = Lent {
@@ -96,7 +98,8 @@ impl<'a, S: Shadows> WedgeMem<'a, S> {
         serving::fetch(self.ram, &lent, &mut self.step, at, len, user)
     }
 
-    /// Names the bytes of this step's instruction, which fetches of this step made ready: no walk may set a flag in them.
+    /// Names the bytes of this step's instruction, which fetches of this step made ready, in one page or two: no walk may set
+    /// a flag in them. A page that a fetch made ready is found, and stays so over a fetch of another page.
     pub fn own(&mut self, at: u32, len: u32)
         requires some { 1 ≤ len }
         requires short { len ≤ 4096 }

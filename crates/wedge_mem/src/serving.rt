@@ -1,10 +1,10 @@
 //! A step's accesses, over any keeper of translations.
 
-ghost use Rattle.std.specs.Prelude.{◌≡◌, ◌+◌, ◌%◌, ◌≤◌, ◌^◌, false};
+ghost use Rattle.std.specs.Prelude.{◌≡◌, ◌+◌, ◌/◌, ◌%◌, ◌≤◌, ◌^◌, false};
 ghost use Rattle.paging.specs.Space.{FitsSize, IsReady, IsReadyEarlier, IsWritable, Readied, earlier_of, loaded, loaded_earlier, saved};
 ghost use Rattle.paging.specs.Uses.{fetches, uses};
 ghost use Rattle.step_mem.specs.Sound.{IsSoundOver, space_at};
-ghost use Rattle.wedge_mem.specs.Progress.{HasRange, IsGoingOver, IsTheSame, KeepsBeyond, owning, space_in};
+ghost use Rattle.wedge_mem.specs.Progress.{HasRange, IsGoingOver, IsTheSame, KeepsBeyond, KeepsOthers, owning, space_in};
 
 use crate::progress::Progress;
 use guest_ram::Ram;
@@ -60,6 +60,7 @@ pub fn fetch<B: Kept>(
     ensures pages { step.new.state.pages ≤ step.old.state.pages + 1 }
     ensures ready { Readied (space_in (B.entries base.now) ram.new step.new) at len false result }
     ensures found { result ≡ Touch.Ready → HasRange (space_in (B.entries base.now) ram.new step.new) at len }
+    ensures others { KeepsOthers (space_in (B.entries base.now) ram.old step.old) (space_in (B.entries base.now) ram.new step.new) (at / 4096) }
     ensures same { IsTheSame step.old step.new }
     ensures beyond { KeepsBeyond step.old ram.old ram.new }
 {
