@@ -8,36 +8,50 @@ use std::alloc::{AllocError, AllocFailed};
 use thiserror::Error;
 
 /// What is wrong with a source (profile).
-#[derive(Clone, Copy, Debug, PartialEq, Eq)]
+#[derive(Clone, Copy, Debug, PartialEq, Eq, Error)]
 pub enum SourceCause {
     /// A byte above 0x7E, or a control other than tab and newline.
+    #[error("a byte above 0x7E, or a control other than tab and newline")]
     NotAscii,
     /// A character that begins no token.
+    #[error("a character that begins no token")]
     BadCharacter,
     /// A comment `/*` that does not end.
+    #[error("a comment that does not end")]
     OpenComment,
     /// A string that does not end on its line.
+    #[error("a string that does not end on its line")]
     OpenString,
     /// An escape in a string that is not one of the listed ones.
+    #[error("an escape that is not listed")]
     BadEscape,
     /// A word that begins with a digit and is no number, a `'` that begins none, or a number out
     /// of range.
+    #[error("a number that there is not, or one out of range")]
     BadNumber,
     /// A `%` without a register behind it.
+    #[error("a `%` without a register behind it")]
     BadRegister,
     /// A token with which no statement can go on.
+    #[error("a token with which no statement can go on")]
     BadOperand,
     /// A scale other than 1, 2, 4 or 8.
+    #[error("a scale other than 1, 2, 4 or 8")]
     BadScale,
     /// A name with a leading `.` that is neither a label nor a directive.
+    #[error("an unknown directive")]
     UnknownDirective,
     /// An argument of a directive that is missing, too many, of another kind or out of range.
+    #[error("an argument of a directive that is missing, too many, of another kind or out of range")]
     BadArgument,
     /// A name that was defined before in this source.
+    #[error("a name that was defined before")]
     DoubledLabel,
     /// More than 4,194,304 bytes.
+    #[error("more than 4194304 bytes")]
     TooLong,
     /// The 65,537th different symbol.
+    #[error("more than 65536 symbols")]
     TooManySymbols,
 }
 
