@@ -4,16 +4,20 @@ ghost use Rattle.std.specs.Prelude.{◌≡◌};
 ghost use Rattle.pv_io.specs.declared.answer.IoAnswer.TheVariants.{Memory};
 
 use std::alloc::{AllocError, AllocFailed};
+use thiserror::Error;
 
 /// Why a load or a store isn't done: the outside failed, or no memory was found.
-#[derive(Clone, Copy, Debug)]
+#[derive(Clone, Copy, Debug, Error)]
 pub enum IoAnswer {
+    #[error("the outside failed")]
     Failed,
+    #[error("no memory was found")]
     Memory,
 }
 
 /// The sink failed.
-#[derive(Clone, Copy, Debug)]
+#[derive(Clone, Copy, Debug, Error)]
+#[error("the sink failed")]
 pub struct Failed;
 
 impl From<AllocError> for IoAnswer {
