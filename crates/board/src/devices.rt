@@ -32,9 +32,9 @@ pub enum PortRead {
 /// The interrupt controllers, the timer and the serial port.
 #[derive(Drop)]
 pub struct Board {
-    pub pics: Pics,
-    pub pit: Pit,
-    pub uart: Uart,
+    pub(crate) pics: Pics,
+    pub(crate) pit: Pit,
+    pub(crate) uart: Uart,
 }
 
 impl Board {
