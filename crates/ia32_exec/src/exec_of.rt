@@ -8,7 +8,7 @@ ghost use Rattle.ia32_types.specs.Shape.{IsShaped, IsDone};
 ghost use Rattle.ia32_exec.specs.Commit.{list_of, longs_to, answer_of, registers_of, stores_of, AreStored, IsKeptUnlessWritten, IsReady};
 
 use crate::effect_of::effect;
-use crate::memory::LinearMem;
+use crate::memory::{LinearMem, Reads};
 use crate::outcome::{Effect, Outcome, Stores};
 use ia32_types::{Insn, Regs, Size};
 
@@ -57,7 +57,7 @@ pub fn exec<M: LinearMem>(insn: &Insn, len: u8, regs: &mut Regs, mem: &mut M) ->
     ensures places { M.same mem.new ≡ M.same mem.old }
     ensures kept { IsKeptUnlessWritten (stores_of (effect insn.now len regs.old (M.byte mem.old))) mem.old mem.new }
 {
-    match effect(insn, len, regs, mem) {
+    match effect(insn, len, regs, &Reads { mem: &*mem }) {
         Outcome::Done(after, stores) => {
             write_all(&stores, mem);
             *regs = after;

@@ -10,7 +10,7 @@ mod stack;
 mod steps;
 mod strings;
 
-use ia32_exec::{Effect, LinearBytes, LinearMem, Range, exec, ranges};
+use ia32_exec::{Effect, LinearMem, Range, exec, ranges};
 use ia32_types::{Address, Flags, Insn, Op, Operand, Reg, Regs, Size};
 use std::process::Abort;
 
@@ -22,35 +22,38 @@ struct Flat {
     bytes: [u8; 256],
 }
 
-impl LinearBytes for Flat {
-    ghost use Rattle.std.specs.Prelude.{◌<◌, ◌≤◌, ◌^◌};
-    ghost use Rattle.std.proofs.Common.{arith};
-    ghost use Rattle.instruction_vectors.specs.Flat.{byte_at};
+impl LinearMem for Flat {
+    ghost use Rattle.std.specs.Prelude.{◌≡◌, ◌<◌, ◌≤◌, ◌-◌, ◌^◌};
+    ghost use Rattle.std.proofs.Common.{arith, refl};
+    ghost use Rattle.std.proofs.lemmas.Bool.{eq-eqb};
+    ghost use Rattle.instruction_vectors.specs.Flat.{byte_at, is_same};
 
     ghost byte = { λ m. byte_at m.bytes };
 
     ghost readable = { λ m at. (65536 ≤ at) × (at < 65792) };
 
-    ghost read_in_space = { λ m at h. Prim.omega arith };
-
-    fn byte(&self, at: u32) -> u32 {
-        u32::from(self.bytes[(at - BASE) as usize])
-    }
-}
-
-impl LinearMem for Flat {
-    ghost use Rattle.std.specs.Prelude.{◌≡◌, ◌<◌, ◌≤◌, ◌-◌, ◌^◌};
-    ghost use Rattle.std.proofs.Common.{arith, refl};
-    ghost use Rattle.std.proofs.lemmas.Bool.{eq-eqb};
-    ghost use Rattle.instruction_vectors.specs.Flat.{is_same};
-
     ghost same = { λ m. is_same };
 
     ghost writable = { λ m at. (65536 ≤ at) × (at < 65792) };
 
+    ghost read_in_space = { λ m at h. Prim.omega arith };
+
     ghost write_in_space = { λ m at h. Prim.omega arith };
 
     ghost own_byte = { λ m at h. eq-eqb (at - 65536) (at - 65536) refl };
+
+    fn read(&self, at: u32, size: Size) -> u32 {
+        match size {
+            Size::Byte => self.byte(at),
+            Size::Word => self.byte(at) + self.byte(at + 1) * 0x100,
+            Size::Long => {
+                self.byte(at)
+                    + self.byte(at + 1) * 0x100
+                    + self.byte(at + 2) * 0x1_0000
+                    + self.byte(at + 3) * 0x100_0000
+            }
+        }
+    }
 
     fn write(&mut self, at: u32, size: Size, value: u32) {
         self.put((at - BASE) as usize, size, value);
@@ -58,9 +61,18 @@ impl LinearMem for Flat {
 }
 
 impl Flat {
-    ghost use Rattle.std.specs.Prelude.{◌≡◌, ◌≤◌, ◌+◌, ◌/◌};
+    ghost use Rattle.std.specs.Prelude.{◌≡◌, ◌<◌, ◌≤◌, ◌+◌, ◌/◌};
     ghost use Rattle.ia32_types.specs.Size.{width};
-    ghost use Rattle.instruction_vectors.specs.Flat.{put};
+    ghost use Rattle.instruction_vectors.specs.Flat.{byte_at, put};
+
+    /// The byte at an address.
+    fn byte(&self, at: u32) -> u32
+        requires { (65536 ≤ at) × (at < 65792) }
+        ensures value { result ≡ byte_at self.now.bytes at }
+        ensures small { result < 256 }
+    {
+        u32::from(self.bytes[(at - BASE) as usize])
+    }
 
     /// Writes the low bits of a number, from the byte with that index on.
     fn put(&mut self, at: usize, size: Size, value: u32)
