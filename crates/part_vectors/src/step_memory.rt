@@ -21,19 +21,21 @@ use wedge_mem::WedgeMem;
 /// The guest's frames, of 32; the pool has the others.
 const FRAMES: u32 = 16;
 
-/// Where an instruction of the text lies, and where its operand does (profile: the text is at 0x10000000, and level 0 has its
-/// data from 0x11000000 on).
-const CODE: u32 = 0x1000_0FF0;
+/// Where an instruction of the text lies, half of it in the text's second page, and where its operand does (profile: the text
+/// is at 0x10000000, and level 0 has its data from 0x11000000 on).
+const CODE: u32 = 0x1000_0FFE;
+
+const SECOND_PAGE: u32 = 0x1000_1000;
 
 const DATA: u32 = 0x1140_0010;
 
 /// The operand's place in memory.
-const PLACE: u32 = 0x5010;
+const PLACE: u32 = 0x6010;
 
 /// Where a second operand lies, which is only read, and its place.
 const SOURCE: u32 = 0x1140_0020;
 
-const SOURCE_PLACE: u32 = 0x5020;
+const SOURCE_PLACE: u32 = 0x6020;
 
 /// A processor at level 0 with paging on, write protection on, and its directory in frame 1.
 fn processor() -> Cpu {
@@ -67,16 +69,17 @@ fn processor() -> Cpu {
     }
 }
 
-/// The tables of both pages are in frames 2 and 3. The text's page lies in frame 4, and that of data in frame 5, for the user
-/// too; both may be written.
+/// The tables of text and data are in frames 2 and 3. The text's pages lie in frames 4 and 5, and that of data in frame 6, for
+/// the user too; all may be written.
 fn put_tables(ram: &mut Ram)
     requires { length ram.old ≡ 131072 }
     ensures { length ram.new ≡ 131072 }
 {
     ram.write32(0x1100, 0x2007);
     ram.write32(0x2000, 0x4007);
+    ram.write32(0x2004, 0x5007);
     ram.write32(0x1114, 0x3007);
-    ram.write32(0x3000, 0x5007);
+    ram.write32(0x3000, 0x6007);
     ram.write32(PLACE, 0x1122_3344);
     ram.write32(SOURCE_PLACE, 0x5566);
 }
@@ -90,16 +93,19 @@ fn is_ready(met: &Touch) -> bool
     }
 }
 
-/// The instruction is fetched, then one operand is read and another read and written, in the other's page. The next step
-/// only reads, and the one after it does nothing.
+/// The instruction is fetched from two pages, the second behind the first, then one operand is read and another read and
+/// written, in the other's page. The next step only reads, and the one after it does nothing.
 fn step<S: Shadows>(rt: &impl Abort, ram: &mut Ram, pool: &mut Pool, shadows: &mut S)
     requires stands { ∥ S.stands shadows.old ram.old ∥₁ }
     requires owns { Owns pool.old ram.old (S.frames shadows.old ram.old) }
     requires below { 16 ≤ base_of pool.old }
     requires none { entries_of (S.slots shadows.old ram.old) ≡ empty }
 {
-    let mut memory = WedgeMem::new(ram, pool, shadows, &processor(), FRAMES, 0x4000, 1);
-    let fetched = memory.fetch(CODE, 4, false);
+    let mut memory = WedgeMem::new(ram, pool, shadows, &processor(), FRAMES, 0x4000, 2);
+    let fetched = memory.fetch(CODE, 2, false);
+    assert!(rt; is_ready(&fetched));
+    memory.own(CODE, 2);
+    let fetched = memory.fetch(SECOND_PAGE, 2, false);
     assert!(rt; is_ready(&fetched));
     memory.own(CODE, 4);
     let read = Access {
@@ -120,7 +126,7 @@ fn step<S: Shadows>(rt: &impl Abort, ram: &mut Ram, pool: &mut Pool, shadows: &m
     assert!(rt; memory.load(DATA, Size::Long) == 0x1122_3344);
     assert!(rt; memory.load_earlier(SOURCE, Size::Long) == 0x5566);
     memory.save(DATA, Size::Word, 0x5566);
-    assert!(rt; memory.finish(Side::Kernel) == Some(2));
+    assert!(rt; memory.finish(Side::Kernel) == Some(3));
     let touched = memory.touch(SOURCE, 4, read);
     assert!(rt; is_ready(&touched));
     assert!(rt; memory.finish(Side::Kernel) == Some(1));
@@ -134,8 +140,9 @@ fn check(rt: &impl Abort, ram: &Ram) {
     assert!(rt; ram.read32(PLACE) == 0x1122_5566);
     assert!(rt; ram.read32(0x1100) == 0x2027);
     assert!(rt; ram.read32(0x2000) == 0x4027);
+    assert!(rt; ram.read32(0x2004) == 0x5027);
     assert!(rt; ram.read32(0x1114) == 0x3027);
-    assert!(rt; ram.read32(0x3000) == 0x5067);
+    assert!(rt; ram.read32(0x3000) == 0x6067);
 }
 
 fn memory(rt: &impl Abort, alloc: Global) -> Ram
