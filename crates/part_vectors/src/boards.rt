@@ -258,11 +258,12 @@ const WORK: [(u16, u8); 8] = [
     (0x40, 5),
 ];
 
-/// A board in the midst of its work.
-fn working() -> Board {
+/// A board in the midst of its work, which began with a script's events of step 0.
+fn working(script: &Script) -> Board
+    requires { is_script script.now.list ≡ true }
+{
     let mut board = started();
-    board.uart.receive(0x48);
-    board.uart.receive(0x69);
+    board.begin(script, 0);
     for row in &WORK {
         let (port, v) = *row;
         let _ = sent(&mut board, port, v);
@@ -294,7 +295,8 @@ fn is_saved(board: &Board) -> bool {
 
 #[test]
 fn board_is_saved_and_restored(rt: HostRuntime) {
-    assert!(rt; is_saved(&working()));
+    let script = script(&rt, rt.alloc(), b"0 rx 48\n0 rx 69");
+    assert!(rt; is_saved(&working(&script)));
     let mut board = Board::restore(&WORKING).expect(&rt, "the form");
     assert!(rt; is_saved(&board));
     follow(&rt, &mut board, &SAVED);
