@@ -90,12 +90,13 @@ some_kept None P Q f h = tt
 some_kept (Some x) P Q f h = f x h
 
 -- one more is kept, in the place of its number modulo 64
-pub keep_kept : (buffer new : FinMap nat_cmp Entry) (tables : List ℕ) (m : List ℕ) (root page table : ℕ) (e : Entry) → length tables ≡ 64
+pub keep_kept : (K L : ℕ → Entry → ℕ → Type 0) (buffer new : FinMap nat_cmp Entry) (tables : List ℕ) (page table : ℕ) (e : Entry) → length tables ≡ 64
     → new ≡ insert (retain_keys buffer (λ k. not (eqb (k % 64) (e.page % 64)))) e.page e → e.page ≡ page
-    → ((q : ℕ) → IfSome (get buffer q) (λ x. IsKept m root q x (get_or tables (q % 64) 0))) → IsKept m root page e table
-    → (q : ℕ) → IfSome (get new q) (λ x. IsKept m root q x (get_or (set tables (page % 64) table) (q % 64) 0))
-keep_kept buffer new tables m root page table e n is same old k q =
-    let P : Entry → Type 0 = λ x. IsKept m root q x (get_or (set tables (page % 64) table) (q % 64) 0) in
+    → ((q : ℕ) (x : Entry) (t : ℕ) → K q x t → L q x t)
+    → ((q : ℕ) → IfSome (get buffer q) (λ x. K q x (get_or tables (q % 64) 0))) → L page e table
+    → (q : ℕ) → IfSome (get new q) (λ x. L q x (get_or (set tables (page % 64) table) (q % 64) 0))
+keep_kept K L buffer new tables page table e n is same wider old k q =
+    let P : Entry → Type 0 = λ x. L q x (get_or (set tables (page % 64) table) (q % 64) 0) in
     let found : get new q ≡ cond (eqb (q % 64) (e.page % 64)) (cond (eqb q e.page) (Some e) None) (get buffer q) = ap (λ b. get b q) is ∙ keep_get buffer e q in
     subst (λ (o : Option Entry). IfSome o P) (sym found)
     (elim (eqb_tells (q % 64) (e.page % 64)) [
@@ -107,14 +108,14 @@ keep_kept buffer new tables m root page table e n is same old k q =
                 let here : get_or (set tables (page % 64) table) (page % 64) 0 ≡ table = get_or-set_same tables (page % 64) table 0 lt in
                 let at : page ≡ q = sym (s.1 ∙ same) in
                 subst (λ (b : Bool). IfSome (cond b (Some e) None) P) (sym s.0)
-                (subst (λ (p : ℕ). IsKept m root p e (get_or (set tables (page % 64) table) (p % 64) 0)) at (subst (IsKept m root page e) (sym here) k))
+                (subst (λ (p : ℕ). L p e (get_or (set tables (page % 64) table) (p % 64) 0)) at (subst (L page e) (sym here) k))
             | inr f ↦ subst (λ (b : Bool). IfSome (cond b (Some e) None) P) (sym f.0) tt
           ])
       | inr f ↦
           let other : q % 64 ≡ page % 64 → ⊥ = λ x. f.1 (x ∙ ap (λ p. p % 64) (sym same)) in
           let there : get_or (set tables (page % 64) table) (q % 64) 0 ≡ get_or tables (q % 64) 0 = get_or-set_other tables (page % 64) (q % 64) table 0 other in
           subst (λ (b : Bool). IfSome (cond b (cond (eqb q e.page) (Some e) None) (get buffer q)) P) (sym f.0)
-          (some_kept (get buffer q) (λ x. IsKept m root q x (get_or tables (q % 64) 0)) P (λ x h. subst (IsKept m root q x) (sym there) h) (old q))
+          (some_kept (get buffer q) (λ x. K q x (get_or tables (q % 64) 0)) P (λ x h. subst (L q x) (sym there) (wider q x (get_or tables (q % 64) 0) h)) (old q))
     ])
 
 -- what a walk has just found

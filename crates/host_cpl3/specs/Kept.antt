@@ -1,5 +1,5 @@
 -- Walks that are kept: what a walk would find now, with the frame of the table that it was read from.
-use Rattle.std.specs.Prelude.{◌≡◌, ℕ, ◌+◌, ◌*◌, ◌/◌, ◌%◌, ◌<◌, ◌^◌, List, length, slice_index, Some, IfSome, is_some, if◌then◌else◌}
+use Rattle.std.specs.Prelude.{◌≡◌, ℕ, ◌+◌, ◌*◌, ◌/◌, ◌%◌, ◌<◌, ◌≤◌, ◌^◌, List, length, slice_index, Some, IfSome, is_some, if◌then◌else◌}
 use Rattle.std.specs.FinMap.{get}
 use Rattle.guest_ram.specs.Bytes.{word32, frame}
 use Rattle.paging.specs.declared.entry.Entry.{Entry}
@@ -17,9 +17,17 @@ pub record IsKept (m : List ℕ) (root page : ℕ) (entry : Entry) (table : ℕ)
   pub inside : entry.frame < length m / 4096
   pub read_from : table ≡ table_of m root page
 
+-- between the least and the greatest number of a kept table's frame
+abbrev pub IsWithin : Walks → ℕ → Type 0
+IsWithin w table = (w.lowest ≤ table) × (table ≤ w.highest)
+
+-- a walk that is kept, with its table
+abbrev pub IsKeptWithin : Walks → List ℕ → ℕ → ℕ → Entry → ℕ → Type 0
+IsKeptWithin w m root page entry table = IsKept m root page entry table × IsWithin w table
+
 -- of every page, each in the place of its number modulo 64
 abbrev pub AreKept : Walks → List ℕ → ℕ → Type 0
-AreKept w m root = (page : ℕ) → IfSome (get w.buffer page) (λ entry. IsKept m root page entry (slice_index w.tables (page % 64)))
+AreKept w m root = (page : ℕ) → IfSome (get w.buffer page) (λ entry. IsKeptWithin w m root page entry (slice_index w.tables (page % 64)))
 
 -- how many walks there were
 abbrev pub count_of : Walks → ℕ

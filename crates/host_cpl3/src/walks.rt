@@ -1,13 +1,10 @@
 //! Walks of a view's tables, of which some are kept.
 
-ghost use Rattle.std.specs.Prelude.{◌≡◌, ◌≢◌, ◌*◌, ◌/◌, ◌<◌, ◌^◌, length, IfSome, ℕ, List, slice_index, false};
+ghost use Rattle.std.specs.Prelude.{◌≡◌, ◌≢◌, ◌*◌, ◌/◌, ◌<◌, ◌≤◌, ◌^◌, length, IfSome, ℕ, List, slice_index, false};
 
 use guest_ram::Ram;
 use paging::{Entry, Walk, walk};
 use xlate_buffer::Buffer;
-
-/// No frame has this number.
-const NONE: u32 = u32::MAX;
 
 /// Walks the tables, and keeps up to 64 entries that walks found, with the frames of the tables that they were read
 /// from.
@@ -15,12 +12,15 @@ const NONE: u32 = u32::MAX;
 pub struct Walks {
     buffer: Buffer,
     tables: [u32; 64],
+    // The frames of the kept walks' tables are not below the one, and not above the other.
+    lowest: u32,
+    highest: u32,
     count: u64,
 }
 
 impl Walks {
     ghost use Rattle.host_cpl3.specs.Pages.{walked, entry_in};
-    ghost use Rattle.host_cpl3.specs.Kept.{AreKept, SameBut, count_of, count_after};
+    ghost use Rattle.host_cpl3.specs.Kept.{AreKept, IsWithin, SameBut, count_of, count_after};
 
     /// Nothing is kept.
     pub fn new() -> Walks
@@ -29,7 +29,9 @@ impl Walks {
     {
         Walks {
             buffer: Buffer::new(),
-            tables: [NONE; 64],
+            tables: [0; 64],
+            lowest: u32::MAX,
+            highest: 0,
             count: 0,
         }
     }
@@ -47,7 +49,8 @@ impl Walks {
         ensures count { count_of self.new ≡ count_of self.old }
     {
         self.buffer.drop_all();
-        self.tables = [NONE; 64];
+        self.lowest = u32::MAX;
+        self.highest = 0;
     }
 
     /// The entry of a page, where both its words are there.
@@ -66,7 +69,10 @@ impl Walks {
         self.count = self.count.wrapping_add(1);
         match walk(ram, ram.len() / 4096, root * 4096, false, page) {
             Walk::Found { entry, word_at, .. } => {
-                self.tables[page as usize % 64] = word_at / 4096;
+                let table = word_at / 4096;
+                self.tables[page as usize % 64] = table;
+                self.lowest = self.lowest.min(table);
+                self.highest = self.highest.max(table);
                 self.buffer.keep(entry);
                 Some(entry)
             }
@@ -77,9 +83,11 @@ impl Walks {
     // Whether a kept walk may have been read from the frame.
     fn reads(&self, root: u32, frame: u32) -> bool
         ensures root { result ≡ false → frame ≢ root }
-        ensures tables { result ≡ false → (k : ℕ) → k < 64 → slice_index self.now.tables k ≢ frame }
+        ensures tables { result ≡ false → (k : ℕ) → k < 64 → IsWithin self.now (slice_index self.now.tables k) →
+            slice_index self.now.tables k ≢ frame }
     {
-        frame == root || self.tables.contains(&frame)
+        frame == root
+            || (self.lowest <= frame && frame <= self.highest && self.tables.contains(&frame))
     }
 
     /// Two frames were written. Nothing is kept any longer, if a kept walk was read from one of them.
