@@ -1,5 +1,5 @@
 -- A walk that is kept is what a walk would find, as long as its table and the directory aren't written.
-use Rattle.std.proofs.Common.{◌≡◌, ◌≢◌, ℕ, ◌+◌, ◌*◌, ◌/◌, ◌%◌, ◌^◌, ◌<◌, List, length, Bool, true, false, not, cond, eqb, Option, Some, None, sym, ap, ◌∙◌, subst, inl, inr, arith, get_or, set}
+use Rattle.std.proofs.Common.{◌≡◌, ◌≢◌, ℕ, ◌+◌, ◌*◌, ◌/◌, ◌%◌, ◌^◌, ◌<◌, List, length, Bool, true, false, not, cond, eqb, Option, Some, None, refl, sym, ap, ◌∙◌, subst, inl, inr, arith, get_or, set}
 use Rattle.std.proofs.Math.Dec.{leb, ltb}
 use Rattle.std.specs.Prelude.{IfSome}
 use Rattle.std.specs.FinMap.{FinMap, get, insert, retain_keys}
@@ -88,6 +88,25 @@ none_kept (Some x) P e = absurd cc
 pub some_kept : (o : Option Entry) (P Q : Entry → Type 0) → ((x : Entry) → P x → Q x) → IfSome o P → IfSome o Q
 some_kept None P Q f h = tt
 some_kept (Some x) P Q f h = f x h
+
+pub none_last : (b : Bool) (o : Option Entry) → o ≡ None → cond b o None ≡ None
+none_last true o e = e
+none_last false o e = refl
+
+-- what is kept by itself is of its page
+pub last_kept : (K : ℕ → Entry → Type 0) (o : Option Entry) (page : ℕ) → IfSome o (K page) → (q : ℕ) → IfSome (cond (eqb q page) o None) (K q)
+last_kept K o page h q = elim (eqb_tells q page) [
+  | inl t ↦ subst (λ (b : Bool). IfSome (cond b o None) (K q)) (sym t.0) (subst (λ (p : ℕ). IfSome o (K p)) (sym t.1) h)
+  | inr f ↦ subst (λ (b : Bool). IfSome (cond b o None) (K q)) (sym f.0) tt
+]
+
+-- the page whose entry was kept last has it
+pub kept_is : (buffer new : FinMap nat_cmp Entry) (e : Entry) (page : ℕ) → new ≡ insert (retain_keys buffer (λ k. not (eqb (k % 64) (e.page % 64)))) e.page e → e.page ≡ page → Some e ≡ get new page
+kept_is buffer new e page is same =
+    let P : Bool → Bool → Option Entry = λ a b. cond a (cond b (Some e) None) (get buffer page) in
+    let one : eqb (page % 64) (e.page % 64) ≡ true = grind (arith, nat_tests) in
+    let two : eqb page e.page ≡ true = grind (arith, nat_tests) in
+    sym (ap (λ b. get b page) is ∙ keep_get buffer e page ∙ ap (λ b. P b (eqb page e.page)) one ∙ ap (P true) two)
 
 -- one more is kept, in the place of its number modulo 64
 pub keep_kept : (K L : ℕ → Entry → ℕ → Type 0) (buffer new : FinMap nat_cmp Entry) (tables : List ℕ) (page table : ℕ) (e : Entry) → length tables ≡ 64

@@ -1,5 +1,5 @@
 -- Walks that are kept: what a walk would find now, with the frame of the table that it was read from.
-use Rattle.std.specs.Prelude.{◌≡◌, ℕ, ◌+◌, ◌*◌, ◌/◌, ◌%◌, ◌<◌, ◌≤◌, ◌^◌, List, length, slice_index, Some, IfSome, is_some, if◌then◌else◌}
+use Rattle.std.specs.Prelude.{◌≡◌, ℕ, ◌+◌, ◌*◌, ◌/◌, ◌%◌, ◌<◌, ◌≤◌, ◌^◌, List, length, slice_index, Bool, true, false, ◌==◌, Option, Some, None, IfSome, is_some, if◌then◌else◌}
 use Rattle.std.specs.FinMap.{get}
 use Rattle.guest_ram.specs.Bytes.{word32, frame}
 use Rattle.paging.specs.declared.entry.Entry.{Entry}
@@ -25,17 +25,28 @@ IsWithin w table = (w.lowest ≤ table) × (table ≤ w.highest)
 abbrev pub IsKeptWithin : Walks → List ℕ → ℕ → ℕ → Entry → ℕ → Type 0
 IsKeptWithin w m root page entry table = IsKept m root page entry table × IsWithin w table
 
--- of every page, each in the place of its number modulo 64
+-- the walk of the last fetch, if it was of the page
+abbrev pub code_of : Walks → ℕ → Option Entry
+code_of w page = if page == w.code.page then w.code.entry else None
+
+-- of every page, each in the place of its number modulo 64, and of the last fetch
 abbrev pub AreKept : Walks → List ℕ → ℕ → Type 0
-AreKept w m root = (page : ℕ) → IfSome (get w.buffer page) (λ entry. IsKeptWithin w m root page entry (slice_index w.tables (page % 64)))
+AreKept w m root =
+    ((page : ℕ) → IfSome (get w.buffer page) (λ entry. IsKeptWithin w m root page entry (slice_index w.tables (page % 64))))
+    × ((page : ℕ) → IfSome (code_of w page) (λ entry. IsKeptWithin w m root page entry w.code.table))
 
 -- how many walks there were
 abbrev pub count_of : Walks → ℕ
 count_of w = w.count
 
 -- a page that is kept is walked no more
-abbrev pub count_after : Walks → ℕ → ℕ
-count_after w page = if is_some (get w.buffer page) then w.count else (w.count + 1) % 2 ^ 64
+abbrev pub walk_count : Walks → ℕ → ℕ
+walk_count w page = if is_some (get w.buffer page) then w.count else (w.count + 1) % 2 ^ 64
+
+-- nor is that of the last fetch by the next
+abbrev pub count_after : Walks → Bool → ℕ → ℕ
+count_after w false page = walk_count w page
+count_after w true page = if is_some (code_of w page) then w.count else walk_count w page
 
 -- memory is as long, and the same in all frames but two
 pub record SameBut (m m' : List ℕ) (first last : ℕ) : Type 0 where

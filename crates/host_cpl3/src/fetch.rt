@@ -81,7 +81,7 @@ fn fetching<'a>(
     ensures kept { AreKept walks.new ram.now root }
 {
     let _len = ram.len();
-    let frame = page_met(walks, ram, root, false, at)?;
+    let frame = page_met(walks, ram, root, true, false, at)?;
     Ok(ram.part(4096 * frame + at % 4096, len))
 }
 

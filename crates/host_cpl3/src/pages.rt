@@ -20,16 +20,25 @@ fn page_fault(there: bool, write: bool, at: u32) -> Exit
     }
 }
 
-/// The frame of an address's page, where the view lets the access pass. `at` is the first byte of the access there.
+/// The frame of an address's page, where the view lets the access pass. `at` is the first byte of the access there. It
+/// is a fetch, or an access of data.
 #[tactic(auto, unfolding(crate::specs::Pages::page_met))]
-pub fn page_met(walks: &mut Walks, ram: &Ram, root: u32, write: bool, at: u32) -> Result<u32, Exit>
+#[inline(always)]
+pub fn page_met(
+    walks: &mut Walks,
+    ram: &Ram,
+    root: u32,
+    fetch: bool,
+    write: bool,
+    at: u32,
+) -> Result<u32, Exit>
     requires root { 4096 * root < length ram.now }
     requires kept { AreKept walks.old ram.now root }
     ensures met { result ≡ page_met ram.now root write at }
     ensures frame { IfOk result (λ frame. frame < length ram.now / 4096) }
     ensures kept { AreKept walks.new ram.now root }
 {
-    match walks.entry(ram, root, at / 4096) {
+    match walks.entry(ram, root, fetch, at / 4096) {
         None => Err(page_fault(false, write, at)),
         Some(entry) => {
             let access = Access { write, user: true };

@@ -42,12 +42,12 @@ fn pages_met(
     ensures frames { IfOk result (λ frames. (frames.0 < length ram.now / 4096) × (frames.1 < length ram.now / 4096)) }
     ensures kept { AreKept walks.new ram.now root }
 {
-    let first = page_met(walks, ram, root, write, range.at)?;
+    let first = page_met(walks, ram, root, false, write, range.at)?;
     let last_page = (range.at + (range.len - 1)) / 4096;
     if last_page == range.at / 4096 {
         return Ok((first, first));
     }
-    let last = page_met(walks, ram, root, write, last_page * 4096)?;
+    let last = page_met(walks, ram, root, false, write, last_page * 4096)?;
     Ok((first, last))
 }
 

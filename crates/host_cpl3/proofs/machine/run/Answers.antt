@@ -1,4 +1,4 @@
-use Rattle.std.proofs.Common.{◌+◌, ◌-◌, sym, ap, ◌∙◌, arith}
+use Rattle.std.proofs.Common.{◌≡◌, ◌+◌, ◌-◌, refl, sym, ap, ◌∙◌, arith}
 use Rattle.host_cpl3.specs.HostRun.{host_run}
 use Rattle.host_cpl3.specs.Hosts.{standing}
 use Rattle.host_cpl3.proofs.Runs.{run_on, run_enters, run_exits, run_ends}
@@ -15,6 +15,17 @@ returns-in-Err-clause-runs c =
     let l = c.loop-done in
     l.invariant.run ∙ run_exits c.args.view.now c.args.k l._done (standing l.regs l.ram l.retired l.passed) c.in-Err.exit c.host_step.new.ram c.loop-done-test.true c.in-Err.ensures.gives.0
     c.in-Err.ensures.gives.1
+
+pub loop-done-init : goal.loop-done-init
+loop-done-init c =
+    let a = c.args in
+    let all : a.k ≡ a.k - 0 = omega arith in
+    record {
+      run = ap (λ k. host_run a.view.now k (standing a.regs.now a.ram.now a.retired.now a.passed.now)) all;
+      len = refl;
+      count = omega arith;
+      kept = c.forget.ensures.kept a.ram.now a.view.now.root;
+    }
 
 pub loop-done-preserved : goal.loop-done-preserved
 loop-done-preserved c =
