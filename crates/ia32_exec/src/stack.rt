@@ -68,12 +68,8 @@ pub fn popped<M: LinearBytes>(insn: &Insn, len: u8, regs: &Regs, mem: &M) -> Out
 {
     let value = top_of_stack(regs, mem);
     let risen = with_whole(4, esp_above(4, regs), *regs);
-    let (after, stores) = to_destination(
-        insn.a,
-        Size::Long,
-        value,
-        eip_past(u32::from(len), risen),
-    );
+    let mut after = eip_past(u32::from(len), risen);
+    let stores = to_destination(insn.a, Size::Long, value, &mut after);
     Outcome::Done(after, stores)
 }
 
