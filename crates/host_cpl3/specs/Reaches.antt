@@ -2,7 +2,11 @@
 use Rattle.std.specs.Prelude.{◌≡◌, ℕ, ◌+◌, ◌*◌, ◌/◌, ◌%◌, ◌<◌, ◌≤◌, ◌^◌, List, length, Bool, ◌==◌, ◌&&◌, nat_le, nat_lt, Option, Some, None, Result, Ok, Err, if◌then◌else◌}
 use Rattle.ia32_exec.specs.declared.access.Range.{Range}
 use Rattle.host_cpl3.specs.declared.exit.Exit.{Exit}
+use Rattle.ia32_types.specs.declared.flags.Regs.{Regs}
 use Rattle.host_cpl3.specs.declared.exit.Completion.{Completion}
+use Rattle.host_cpl3.specs.declared.exit.Completion.TheVariants as done
+use Rattle.host_cpl3.specs.declared.exit.Ending.{Ending}
+use Rattle.host_cpl3.specs.declared.exit.Ending.TheVariants as endings
 use Rattle.host_cpl3.specs.declared.reach.Reach.{Reach}
 use Rattle.host_cpl3.specs.Met.{Met}
 use Rattle.host_cpl3.specs.Pages.{place}
@@ -45,7 +49,12 @@ abbrev pub passes : {A : Type 0} → Result A Exit → Met (Unit {0})
 passes (Ok x) = Ok tt
 passes (Err exit) = Err exit
 
--- the function returned what the step gives, and left memory so; after an exit memory is as before
-abbrev pub Gives : Result Completion Exit → (old new : List ℕ) → Met (Completion × List ℕ) → Type 0
-Gives (Ok done) old new met = met ≡ Ok (done, new)
-Gives (Err exit) old new met = (met ≡ Err exit) × (new ≡ old)
+-- with the registers that were left in place
+abbrev pub completion : Ending → Regs → Completion
+completion endings.Completed r = done.Completed r
+completion endings.Entered r = done.Entered r
+
+-- the function returned what the step gives, and left registers and memory so; after an exit both are as before
+abbrev pub Gives : Result Ending Exit → (old new : Regs) → (before after : List ℕ) → Met (Completion × List ℕ) → Type 0
+Gives (Ok ending) old new before after met = met ≡ Ok (completion ending new, after)
+Gives (Err exit) old new before after met = (met ≡ Err exit) × (new ≡ old) × (after ≡ before)

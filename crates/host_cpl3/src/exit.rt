@@ -21,11 +21,20 @@ pub enum Exit {
     Budget,
 }
 
-/// How an instruction is completed.
+/// How an instruction is completed, with the registers that it leaves, as the definitions say it.
 #[derive(Clone, Copy)]
 pub enum Completion {
     /// It counts, and leaves these registers.
     Completed(Regs),
     /// It is a jump into the wedge window, in the kernel view.
     Entered(Regs),
+}
+
+/// How an instruction is completed that left its registers in place.
+#[derive(Clone, Copy)]
+pub enum Ending {
+    /// It counts.
+    Completed,
+    /// It is a jump into the wedge window, in the kernel view.
+    Entered,
 }

@@ -6,7 +6,7 @@ ghost use Rattle.host_cpl3.specs.HostRun.{host_run};
 ghost use Rattle.host_cpl3.specs.Hosts.{standing, held};
 ghost use Rattle.host_cpl3.specs.Walked.{walks_of};
 
-use crate::exit::{Completion, Exit};
+use crate::exit::{Ending, Exit};
 use crate::host::Host;
 use crate::step::host_step;
 use crate::view::View;
@@ -73,16 +73,13 @@ fn run(
 {
     walks.forget();
     for _done in 0..k {
+        let eip = regs.eip;
         match host_step(walks, ram, view, regs) {
-            Ok(Completion::Completed(after)) => {
+            Ok(Ending::Completed) => {
                 *retired += 1;
-                *passed = digest(*passed, regs.eip);
-                *regs = after;
+                *passed = digest(*passed, eip);
             }
-            Ok(Completion::Entered(after)) => {
-                *regs = after;
-                return Exit::Entry(after.eip);
-            }
+            Ok(Ending::Entered) => return Exit::Entry(regs.eip),
             Err(exit) => return exit,
         }
     }

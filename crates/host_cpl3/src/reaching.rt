@@ -1,6 +1,6 @@
 //! The ranges of an instruction.
 
-ghost use Rattle.std.specs.Prelude.{◌≡◌, ◌+◌, ◌*◌, ◌/◌, ◌<◌, ◌≤◌, ◌^◌, length, IfOk, Ok, Err, MatchResult};
+ghost use Rattle.std.specs.Prelude.{◌≡◌, ◌+◌, ◌*◌, ◌/◌, ◌<◌, ◌≤◌, ◌^◌, length, IfOk, Ok, Err, Some, MatchResult};
 ghost use Rattle.ia32_exec.specs.Short.{IsShort};
 ghost use Rattle.host_cpl3.specs.Access.{segment_met, pages_met, range_met, access_met, last_page};
 ghost use Rattle.host_cpl3.specs.Kept.{AreKept};
@@ -76,7 +76,35 @@ fn range_met(
     pages_met(walks, ram, view.root, write, range)
 }
 
+// A range that there is.
+#[inline(never)]
+fn reached(
+    walks: &mut Walks,
+    ram: &Ram,
+    view: &View,
+    write: bool,
+    range: Range,
+) -> Result<Reach, Exit>
+    requires root { 4096 * view.now.root < length ram.now }
+    requires kept { AreKept walks.old ram.now view.now.root }
+    requires short { (1 ≤ range.len) × (range.len ≤ 32) }
+    ensures met { passes result ≡ access_met ram.now view.now write (Some range) }
+    ensures reach { IfOk result (IsReach ram.now view.now.root) }
+    ensures range { IfOk result (IsOf (Some range)) }
+    ensures kept { AreKept walks.new ram.now view.now.root }
+{
+    let _len = ram.len();
+    let (first, last) = range_met(walks, ram, view, write, range)?;
+    Ok(Reach {
+        at: range.at,
+        len: range.len,
+        first,
+        last,
+    })
+}
+
 /// Reaches a range, if there is one.
+#[inline(always)]
 pub fn reach(
     walks: &mut Walks,
     ram: &Ram,
@@ -92,17 +120,8 @@ pub fn reach(
     ensures range { IfOk result (IsOf range) }
     ensures kept { AreKept walks.new ram.now view.now.root }
 {
-    let _len = ram.len();
     match range {
         None => Ok(Reach::none()),
-        Some(range) => {
-            let (first, last) = range_met(walks, ram, view, write, range)?;
-            Ok(Reach {
-                at: range.at,
-                len: range.len,
-                first,
-                last,
-            })
-        }
+        Some(range) => reached(walks, ram, view, write, range),
     }
 }

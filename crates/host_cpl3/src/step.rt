@@ -6,14 +6,16 @@ ghost use Rattle.ia32_types.specs.Shape.{IsShaped};
 ghost use Rattle.ia32_exec.specs.UserEffect.{IsUserDone, user_effect};
 ghost use Rattle.ia32_exec.specs.Effect.{ranges_of};
 ghost use Rattle.ia32_exec.specs.Short.{IsShort};
+ghost use Rattle.ia32_exec.specs.Commit.{AreStored, list_of};
+ghost use Rattle.host_cpl3.specs.Store.{all_stored};
 ghost use Rattle.host_cpl3.specs.Views.{selectors_of};
 ghost use Rattle.host_cpl3.specs.Pages.{byte_at};
 ghost use Rattle.host_cpl3.specs.Kept.{AreKept};
 ghost use Rattle.host_cpl3.specs.HostStep.{is_jump, exit_of, ended, finished, accessed, worked, host_step};
-ghost use Rattle.host_cpl3.specs.Reaches.{IsReach, IsOf, Gives};
+ghost use Rattle.host_cpl3.specs.Reaches.{IsReach, IsOf, IsWritten, Gives, completion, placed};
 
 use crate::bytes::Bytes;
-use crate::exit::{Completion, Exit};
+use crate::exit::{Ending, Exit};
 use crate::fetch::{fetch, spelled};
 use crate::permit::permitted;
 use crate::reach::Reach;
@@ -31,13 +33,13 @@ fn is_jump(op: Op) -> bool
     matches!(op, Op::Jmp | Op::Jcc | Op::JumpTo)
 }
 
-fn ended(view: &View, op: Op, regs: Regs) -> Completion
-    ensures { result ≡ ended view.now op regs }
+fn ended(view: &View, op: Op, regs: &Regs) -> Ending
+    ensures { completion result regs.now ≡ ended view.now op regs.now }
 {
     if is_jump(op) && is_entry(view, regs.eip) {
-        Completion::Entered(regs)
+        Ending::Entered
     } else {
-        Completion::Completed(regs)
+        Ending::Completed
     }
 }
 
@@ -76,43 +78,59 @@ fn outcome(
     user_effect(&selectors_of(view), insn, len, regs, &bytes)
 }
 
+// Writes, and forgets the walks whose tables it may have written.
+fn stored(walks: &mut Walks, ram: &mut Ram, root: u32, write: &Reach, stores: &Stores)
+    requires stores { AreStored (IsWritten (length ram.old) write.now) stores.now }
+    requires kept { AreKept walks.old ram.old root }
+    ensures memory { ram.new ≡ all_stored (placed write.now) ram.old (list_of stores.now) }
+    ensures len { length ram.new ≡ length ram.old }
+    ensures kept { AreKept walks.new ram.new root }
+{
+    match stores {
+        Stores::Nothing => {}
+        _ => {
+            store_all(ram, write, stores);
+            walks.written(root, write.first, write.last);
+        }
+    }
+}
+
 // Both ranges are reached.
 fn finish(
     walks: &mut Walks,
     view: &View,
     ram: &mut Ram,
-    regs: &Regs,
+    regs: &mut Regs,
     insn: &Insn,
     len: u8,
     read: Reach,
     write: Reach,
-) -> Result<Completion, Exit>
+) -> Result<Ending, Exit>
     requires done { IsUserDone insn.now.op }
     requires shape { IsShaped insn.now }
     requires read { IsReach ram.old view.now.root read }
     requires write { IsReach ram.old view.now.root write }
-    requires read_of { IsOf (ranges_of insn.now regs.now).read read }
-    requires write_of { IsOf (ranges_of insn.now regs.now).write write }
+    requires read_of { IsOf (ranges_of insn.now regs.old).read read }
+    requires write_of { IsOf (ranges_of insn.now regs.old).write write }
     requires kept { AreKept walks.old ram.old view.now.root }
-    ensures gives { Gives result ram.old ram.new (finished view.now insn.now.op ram.old
-        (user_effect (selectors_of view.now) insn.now len regs.now (byte_at ram.old view.now.root))) }
+    ensures gives { Gives result regs.old regs.new ram.old ram.new (finished view.now insn.now.op ram.old
+        (user_effect (selectors_of view.now) insn.now len regs.old (byte_at ram.old view.now.root))) }
     ensures len { length ram.new ≡ length ram.old }
     ensures kept { AreKept walks.new ram.new view.now.root }
 {
-    match outcome(view, ram, regs, insn, len, read, write) {
-        Outcome::Done(regs, stores) => {
-            store_all(ram, &write, &stores);
-            if stores != Stores::Nothing {
-                walks.written(view.root, write.first, write.last);
-            }
+    let came = outcome(view, ram, regs, insn, len, read, write);
+    match &came {
+        Outcome::Done(after, stores) => {
+            stored(walks, ram, view.root, &write, stores);
+            *regs = *after;
             Ok(ended(view, insn.op, regs))
         }
         Outcome::Raise(vector, code) => Err(Exit::Fault {
-            vector,
-            code,
+            vector: *vector,
+            code: *code,
             cr2: 0,
         }),
-        Outcome::Stop(stop) => Err(exit_of(stop)),
+        Outcome::Stop(stop) => Err(exit_of(*stop)),
     }
 }
 
@@ -121,18 +139,18 @@ fn access(
     walks: &mut Walks,
     ram: &mut Ram,
     view: &View,
-    regs: &Regs,
+    regs: &mut Regs,
     insn: &Insn,
     len: u8,
     ranges: Ranges,
-) -> Result<Completion, Exit>
+) -> Result<Ending, Exit>
     requires root { 4096 * view.now.root < length ram.old }
     requires kept { AreKept walks.old ram.old view.now.root }
     requires done { IsUserDone insn.now.op }
     requires shape { IsShaped insn.now }
-    requires ranges { ranges ≡ ranges_of insn.now regs.now }
+    requires ranges { ranges ≡ ranges_of insn.now regs.old }
     requires short { IsShort ranges.read × IsShort ranges.write }
-    ensures gives { Gives result ram.old ram.new (accessed view.now ram.old regs.now insn.now len) }
+    ensures gives { Gives result regs.old regs.new ram.old ram.new (accessed view.now ram.old regs.old insn.now len) }
     ensures len { length ram.new ≡ length ram.old }
     ensures kept { AreKept walks.new ram.new view.now.root }
 {
@@ -147,14 +165,14 @@ fn work(
     walks: &mut Walks,
     ram: &mut Ram,
     view: &View,
-    regs: &Regs,
+    regs: &mut Regs,
     insn: &Insn,
     len: u8,
-) -> Result<Completion, Exit>
+) -> Result<Ending, Exit>
     requires root { 4096 * view.now.root < length ram.old }
     requires kept { AreKept walks.old ram.old view.now.root }
     requires spelled { (bytes : List ℕ) × Spells bytes insn.now }
-    ensures gives { Gives result ram.old ram.new (worked view.now ram.old regs.now insn.now len) }
+    ensures gives { Gives result regs.old regs.new ram.old ram.new (worked view.now ram.old regs.old insn.now len) }
     ensures len { length ram.new ≡ length ram.old }
     ensures kept { AreKept walks.new ram.new view.now.root }
 {
@@ -171,11 +189,11 @@ pub fn host_step(
     walks: &mut Walks,
     ram: &mut Ram,
     view: &View,
-    regs: &Regs,
-) -> Result<Completion, Exit>
+    regs: &mut Regs,
+) -> Result<Ending, Exit>
     requires root { 4096 * view.now.root < length ram.old }
     requires kept { AreKept walks.old ram.old view.now.root }
-    ensures gives { Gives result ram.old ram.new (host_step view.now ram.old regs.now) }
+    ensures gives { Gives result regs.old regs.new ram.old ram.new (host_step view.now ram.old regs.old) }
     ensures len { length ram.new ≡ length ram.old }
     ensures kept { AreKept walks.new ram.new view.now.root }
 {
