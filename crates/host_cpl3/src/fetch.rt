@@ -1,8 +1,7 @@
 //! Reading the instruction at EIP.
 
-ghost use Rattle.std.specs.Prelude.{◌≡◌, ◌+◌, ◌*◌, ◌-◌, ◌/◌, ◌%◌, ◌<◌, ◌≤◌, ◌^◌, ◌++◌, length, List, ℕ, IfOk, MatchResult};
-ghost use Rattle.ia32_rows.specs.Spells.{Spells};
-ghost use Rattle.host_cpl3.specs.Fetch.{fetching, fetched_on, fetched, spelled};
+ghost use Rattle.std.specs.Prelude.{◌≡◌, ◌+◌, ◌*◌, ◌-◌, ◌/◌, ◌%◌, ◌<◌, ◌≤◌, ◌^◌, ◌++◌, length, IfOk, MatchResult};
+ghost use Rattle.host_cpl3.specs.Fetch.{fetching, fetched_on, fetched};
 ghost use Rattle.ia32_decode.specs.Spelled.{IsSpelled};
 ghost use Rattle.host_cpl3.specs.Kept.{AreKept};
 
@@ -12,7 +11,6 @@ use crate::walks::Walks;
 use arrayvec::ArrayVec;
 use guest_ram::Ram;
 use ia32_decode::{Decoded, LONGEST, decode, front_len};
-use ia32_types::Insn;
 
 type Bytes = ArrayVec<u8, 32>;
 
@@ -27,9 +25,10 @@ pub fn fetch(walks: &mut Walks, ram: &Ram, root: u32, eip: u32) -> Result<Decode
     ensures kept { AreKept walks.new ram.now root }
 {
     let front = fetching(walks, ram, root, eip, front_len(eip))?;
-    match decode(front) {
-        Decoded::Insn(insn, len) => Ok(Decoded::Insn(insn, len)),
-        Decoded::Outside => Ok(Decoded::Outside),
+    let begun = decode(front);
+    match begun {
+        Decoded::Insn(_, _) => Ok(begun),
+        Decoded::Outside => Ok(begun),
         Decoded::Short => {
             if eip / 4096 == 1048575 {
                 return Err(Exit::Wrap);
@@ -91,17 +90,5 @@ fn append(from: &[u8], to: &mut Bytes)
 {
     for byte in from {
         to.push(*byte);
-    }
-}
-
-/// The instruction and its length, where bytes spell one.
-pub fn spelled(decoded: Decoded) -> Result<(Insn, u8), Exit>
-    requires { IsSpelled decoded }
-    ensures met { result ≡ spelled decoded }
-    ensures spelled { IfOk result (λ read. (bytes : List ℕ) × Spells bytes read.0) }
-{
-    match decoded {
-        Decoded::Insn(insn, len) => Ok((insn, len)),
-        _ => Err(Exit::Outside),
     }
 }

@@ -16,8 +16,8 @@ use guest_ram::Ram;
 use ia32_exec::Range;
 
 /// A null segment denies every access.
-pub fn segment_met(view: &View, range: Option<Range>) -> Result<(), Exit>
-    ensures { result ≡ segment_met view.now range }
+pub fn segment_met(view: &View, range: &Option<Range>) -> Result<(), Exit>
+    ensures { result ≡ segment_met view.now range.now }
 {
     match range {
         Some(range) if is_null(view, range.seg) => Err(protection()),
@@ -83,18 +83,18 @@ fn reached(
     ram: &Ram,
     view: &View,
     write: bool,
-    range: Range,
+    range: &Range,
 ) -> Result<Reach, Exit>
     requires root { 4096 * view.now.root < length ram.now }
     requires kept { AreKept walks.old ram.now view.now.root }
-    requires short { (1 ≤ range.len) × (range.len ≤ 32) }
-    ensures met { passes result ≡ access_met ram.now view.now write (Some range) }
+    requires short { (1 ≤ range.now.len) × (range.now.len ≤ 32) }
+    ensures met { passes result ≡ access_met ram.now view.now write (Some range.now) }
     ensures reach { IfOk result (IsReach ram.now view.now.root) }
-    ensures range { IfOk result (IsOf (Some range)) }
+    ensures range { IfOk result (IsOf (Some range.now)) }
     ensures kept { AreKept walks.new ram.now view.now.root }
 {
     let _len = ram.len();
-    let (first, last) = range_met(walks, ram, view, write, range)?;
+    let (first, last) = range_met(walks, ram, view, write, *range)?;
     Ok(Reach {
         at: range.at,
         len: range.len,
@@ -110,14 +110,14 @@ pub fn reach(
     ram: &Ram,
     view: &View,
     write: bool,
-    range: Option<Range>,
+    range: &Option<Range>,
 ) -> Result<Reach, Exit>
     requires root { 4096 * view.now.root < length ram.now }
     requires kept { AreKept walks.old ram.now view.now.root }
-    requires short { IsShort range }
-    ensures met { passes result ≡ access_met ram.now view.now write range }
+    requires short { IsShort range.now }
+    ensures met { passes result ≡ access_met ram.now view.now write range.now }
     ensures reach { IfOk result (IsReach ram.now view.now.root) }
-    ensures range { IfOk result (IsOf range) }
+    ensures range { IfOk result (IsOf range.now) }
     ensures kept { AreKept walks.new ram.now view.now.root }
 {
     match range {

@@ -16,7 +16,7 @@ ghost use Rattle.host_cpl3.specs.Reaches.{IsReach, IsOf, IsWritten, Gives, compl
 
 use crate::bytes::Bytes;
 use crate::exit::{Ending, Exit};
-use crate::fetch::{fetch, spelled};
+use crate::fetch::fetch;
 use crate::permit::permitted;
 use crate::reach::Reach;
 use crate::reaching::{reach, segment_met};
@@ -24,6 +24,7 @@ use crate::store::store_all;
 use crate::view::{View, is_entry, selectors_of};
 use crate::walks::Walks;
 use guest_ram::Ram;
+use ia32_decode::Decoded;
 use ia32_exec::{Outcome, Ranges, Stores, ranges, user_effect};
 use ia32_types::{Insn, Op, Regs, Stop};
 
@@ -142,20 +143,20 @@ fn access(
     regs: &mut Regs,
     insn: &Insn,
     len: u8,
-    ranges: Ranges,
+    ranges: &Ranges,
 ) -> Result<Ending, Exit>
     requires root { 4096 * view.now.root < length ram.old }
     requires kept { AreKept walks.old ram.old view.now.root }
     requires done { IsUserDone insn.now.op }
     requires shape { IsShaped insn.now }
-    requires ranges { ranges ≡ ranges_of insn.now regs.old }
-    requires short { IsShort ranges.read × IsShort ranges.write }
+    requires ranges { ranges.now ≡ ranges_of insn.now regs.old }
+    requires short { IsShort ranges.now.read × IsShort ranges.now.write }
     ensures gives { Gives result regs.old regs.new ram.old ram.new (accessed view.now ram.old regs.old insn.now len) }
     ensures len { length ram.new ≡ length ram.old }
     ensures kept { AreKept walks.new ram.new view.now.root }
 {
-    let read = reach(walks, ram, view, false, ranges.read)?;
-    let write = reach(walks, ram, view, true, ranges.write)?;
+    let read = reach(walks, ram, view, false, &ranges.read)?;
+    let write = reach(walks, ram, view, true, &ranges.write)?;
     finish(walks, view, ram, regs, insn, len, read, write)
 }
 
@@ -178,9 +179,9 @@ fn work(
 {
     permitted(insn)?;
     let ranges = ranges(insn, regs);
-    segment_met(view, ranges.read)?;
-    segment_met(view, ranges.write)?;
-    access(walks, ram, view, regs, insn, len, ranges)
+    segment_met(view, &ranges.read)?;
+    segment_met(view, &ranges.write)?;
+    access(walks, ram, view, regs, insn, len, &ranges)
 }
 
 /// Does the instruction at EIP, or exits before it.
@@ -201,6 +202,9 @@ pub fn host_step(
         return Err(Exit::Entry(regs.eip));
     }
     let begun = fetch(walks, ram, view.root, regs.eip)?;
-    let (insn, len) = spelled(begun)?;
-    work(walks, ram, view, regs, &insn, len)
+    match &begun {
+        Decoded::Insn(insn, len) => work(walks, ram, view, regs, insn, *len),
+        Decoded::Short => Err(Exit::Outside),
+        Decoded::Outside => Err(Exit::Outside),
+    }
 }
