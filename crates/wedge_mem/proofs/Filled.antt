@@ -34,7 +34,7 @@ kept-by : (a b : Bool) (x y : Option Slot) → b ≡ true → cond (a && not b) 
 kept-by true b x y e = ap (λ t. cond (not t) x y) e
 kept-by false b x y e = refl
 
-self : (q : ℕ) → eqb q q ≡ true
+pub self : (q : ℕ) → eqb q q ≡ true
 self q = elim (eqb_tells q q) [ inl t ↦ t.0 | inr n ↦ absurd (n.1 refl) ]
 
 pub here-same : (xs : List ℕ) (i : ℕ) (old now : ℕ → Option Slot) (fill : ℕ → Option Slot) → i < length xs → ((q : ℕ) → q < 2 ^ 20 → now q ≡ cond (is_among q xs && not (is_among q (drop i xs))) (fill q) (old q)) → get_or xs i 0 < 2 ^ 20 → now (get_or xs i 0) ≡ old (get_or xs i 0)
@@ -55,7 +55,7 @@ among-all q xs zero e = e
 among-all q [] (suc i) e = e
 among-all q (x ∷ xs) (suc i) e = among-cons q x xs (among-all q xs i e)
 
-filled-by : (a b : Bool) (x y : Option Slot) → a ≡ true → b ≡ false → cond (a && not b) x y ≡ x
+pub filled-by : (a b : Bool) (x y : Option Slot) → a ≡ true → b ≡ false → cond (a && not b) x y ≡ x
 filled-by a b x y e h = ap (λ t. cond (t && not b) x y) e ∙ ap (λ t. cond (not t) x y) h
 
 pub fill-more :
@@ -88,7 +88,7 @@ fill-more xs i old now new fill v l e h k q small =
 
 -- ---- the entries after all fills
 
-last-none : (f : Option (Option Entry)) (cs : List Change) (q : ℕ) → is_among q (map page_of cs) ≡ false → last_change f cs q ≡ f
+pub last-none : (f : Option (Option Entry)) (cs : List Change) (q : ℕ) → is_among q (map page_of cs) ≡ false → last_change f cs q ≡ f
 last-none f [] q e = refl
 last-none f (c ∷ cs) q e =
     elim (eqb_tells q (page_of c)) [
@@ -110,7 +110,7 @@ not-second q (x ∷ xs) ys e =
       | inr f ↦ not-second q xs ys f
     ]
 
-last-beyond : (f : Option (Option Entry)) (cs : List Change) (q : ℕ) → AreOfPages cs → 2 ^ 20 ≤ q → last_change f cs q ≡ f
+pub last-beyond : (f : Option (Option Entry)) (cs : List Change) (q : ℕ) → AreOfPages cs → 2 ^ 20 ≤ q → last_change f cs q ≡ f
 last-beyond f [] q a h = refl
 last-beyond f (c ∷ cs) q a h =
     elim (eqb_tells (page_of c) q) [

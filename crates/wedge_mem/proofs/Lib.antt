@@ -6,3 +6,6 @@ pub mod Others
 pub mod Plain
 pub mod Rests
 pub mod Told
+pub mod Due
+pub mod Losing
+pub mod Visited

@@ -41,11 +41,11 @@ among-later x xs i h e = among-at x xs i h ∙ ap (λ b. b || is_among x (drop (
 abbrev pub is_last_use : FinMap nat_cmp Entry → List ℕ → ℕ → Bool
 is_last_use set xs i = has_entry (get set (get_or xs i 0)) && not (is_among (get_or xs i 0) (drop (i + 1) xs))
 
-used-by : (b : Bool) (x : ℕ) (ys : List ℕ) → length (cond b (x ∷ ys) ys) ≡ cond b 1 0 + length ys
+pub used-by : (b : Bool) (x : ℕ) (ys : List ℕ) → length (cond b (x ∷ ys) ys) ≡ cond b 1 0 + length ys
 used-by true x ys = omega arith
 used-by false x ys = omega arith
 
-used-cons : (set : FinMap nat_cmp Entry) (x : ℕ) (xs : List ℕ) → length (used set (x ∷ xs)) ≡ cond (has_entry (get set x) && not (is_among x xs)) 1 0 + length (used set xs)
+pub used-cons : (set : FinMap nat_cmp Entry) (x : ℕ) (xs : List ℕ) → length (used set (x ∷ xs)) ≡ cond (has_entry (get set x) && not (is_among x xs)) 1 0 + length (used set xs)
 used-cons set x xs = used-by (has_entry (get set x) && not (is_among x xs)) x (used set xs)
 
 pub used-at : (set : FinMap nat_cmp Entry) (xs : List ℕ) (i : ℕ) → i < length xs → length (used set (drop i xs)) ≡ cond (is_last_use set xs i) 1 0 + length (used set (drop (i + 1) xs))

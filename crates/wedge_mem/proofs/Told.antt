@@ -21,14 +21,14 @@ or-assoc false b c = refl
 
 -- ---- one frame
 
-guest-one : (frame : ℕ) → frame < 16384 → guest_frames (frame ∷ []) ≡ frame ∷ []
+pub guest-one : (frame : ℕ) → frame < 16384 → guest_frames (frame ∷ []) ≡ frame ∷ []
 guest-one frame l =
     elim (leb_tells 16384 frame) [
       | inl t ↦ absurd (let h = t.1 in omega (arith, h, l))
       | inr t ↦ ap (λ b. cond (not b) (frame ∷ []) []) t.0
     ]
 
-guest-none : (frame : ℕ) → (frame < 16384 → ⊥) → guest_frames (frame ∷ []) ≡ []
+pub guest-none : (frame : ℕ) → (frame < 16384 → ⊥) → guest_frames (frame ∷ []) ≡ []
 guest-none frame n =
     elim (leb_tells 16384 frame) [
       | inl t ↦ ap (λ b. cond (not b) (frame ∷ []) []) t.0
@@ -61,7 +61,7 @@ first-spared xs = subst (λ (ys : List Aside). AreSame ys xs) (sym (none-written
 
 -- ---- one frame more is noted
 
-guest-more : (fs : List ℕ) (i : ℕ) → i < length fs → guest_frames (take (i + 1) fs) ≡ guest_frames (take i fs) ++ guest_frames (get_or fs i 0 ∷ [])
+pub guest-more : (fs : List ℕ) (i : ℕ) → i < length fs → guest_frames (take (i + 1) fs) ≡ guest_frames (take i fs) ++ guest_frames (get_or fs i 0 ∷ [])
 guest-more fs i l = ap guest_frames (take_more fs i 0 l) ∙ filter-append (λ frame. not (leb 16384 frame)) (take i fs) (get_or fs i 0 ∷ [])
 
 pub more-noted : (fs : List ℕ) (i : ℕ) (first old new : ℕ → Bool) → i < length fs

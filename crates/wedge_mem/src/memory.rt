@@ -15,6 +15,7 @@ ghost use Rattle.wedge_mem.specs.Seen.{IsGoingBy};
 ghost use Rattle.wedge_mem.specs.Settled.{IsCount, pages_of};
 
 use crate::lent::Lent;
+use crate::pages::entries_used;
 use crate::progress::Progress;
 use crate::{serving, settling};
 use descriptors::Cpu;
@@ -138,9 +139,13 @@ impl<'a, S: Shadows> WedgeMem<'a, S> {
     {
         let text = self.step.text();
         let state = self.step.state(&text);
-        let count = settling::settle(self.shadows, self.ram, self.pool, &state, side);
+        let used = entries_used(self.shadows, self.ram, &state);
+        let filled = settling::settle(self.shadows, self.ram, self.pool, &state, side);
         self.step = Progress::new(self.step.state.control, self.step.first, self.step.count);
-        count
+        match filled {
+            Some(_) => Some(used),
+            None => None,
+        }
     }
 }
 

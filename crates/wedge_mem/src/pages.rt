@@ -4,7 +4,7 @@ ghost use Rattle.std.specs.Prelude.{◌≡◌, ◌+◌, ◌<◌, ◌≤◌, ◌^
 ghost use Rattle.std.specs.FinMap.{get};
 ghost use Rattle.shadow_tables.specs.Entries.{entries_of};
 ghost use Rattle.guest_ram.specs.Among.{is_among};
-ghost use Rattle.step_mem.specs.Changes.{AreOfPages};
+ghost use Rattle.step_mem.specs.Changes.{AreOfPages, AreToldIn};
 ghost use Rattle.wedge_mem.specs.Seen.{set_after};
 ghost use Rattle.wedge_mem.specs.Settled.{has_entry, pages_of, used};
 
@@ -68,7 +68,7 @@ fn is_used<S: Shadows>(shadows: &S, ram: &Ram, changes: &Changes, page: u32, lat
 }
 
 /// How many of the pages have an entry, each counted once.
-pub fn count_used<S: Shadows>(shadows: &S, ram: &Ram, changes: &Changes, pages: &[u32]) -> u32
+fn count_used<S: Shadows>(shadows: &S, ram: &Ram, changes: &Changes, pages: &[u32]) -> u32
     requires stands { ∥ S.stands shadows.now ram.now ∥₁ }
     requires few { length pages.now ≤ 128 }
     ensures { result ≡ length (used (set_after S.Shadows shadows.now ram.now changes.now) pages.now) }
@@ -80,4 +80,15 @@ pub fn count_used<S: Shadows>(shadows: &S, ram: &Ram, changes: &Changes, pages: 
         }
     }
     count
+}
+
+/// How many entries the step used. The pages that it changed are some of those that it went through.
+pub fn entries_used<S: Shadows>(shadows: &S, ram: &Ram, state: &StepState) -> u32
+    requires stands { ∥ S.stands shadows.now ram.now ∥₁ }
+    requires few { length state.now.visited ≤ 128 }
+    requires told { AreToldIn state.now.visited state.now.changes }
+    ensures { result ≡ length (used (set_after S.Shadows shadows.now ram.now state.now.changes)
+        (pages_of state.now.visited state.now.changes)) }
+{
+    count_used(shadows, ram, &state.changes, state.visited.as_slice())
 }

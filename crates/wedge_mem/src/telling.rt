@@ -1,14 +1,14 @@
 //! Telling the shadows which frames a step read as tables, and which it wrote.
 
-ghost use Rattle.std.specs.Prelude.{◌≡◌, ◌^◌, ◌<◌, ◌≤◌, ℕ, length, [], ◌∷◌, Bool};
+ghost use Rattle.std.specs.Prelude.{◌≡◌, ◌≤◌, ℕ, length, [], ◌∷◌, Bool};
 ghost use Rattle.frame_pool.specs.Pool.{free_list};
 ghost use Rattle.frame_pool.specs.Held.{Owns, Moves, Writes};
 ghost use Rattle.shadow_tables.specs.Aside.{AreSame, LoseWrites, all_spared};
-ghost use Rattle.shadow_tables.specs.Calls.{IsWithin};
 ghost use Rattle.shadow_tables.specs.Entries.{entries_of};
 ghost use Rattle.shadow_tables.specs.Slots.{SameSlots};
 ghost use Rattle.shadow_tables.specs.declared.words.Side.{Side as View};
 ghost use Rattle.wedge_mem.specs.Seen.{KnowsWritten};
+ghost use Rattle.wedge_mem.specs.Settled.{LosesSome};
 ghost use Rattle.wedge_mem.specs.Told.{guest_frames, read_by};
 
 use frame_pool::Pool;
@@ -23,7 +23,7 @@ fn note_table<S: Shadows>(shadows: &mut S, ram: &mut Ram, frame: u32)
     ensures marked { S.marked shadows.new ≡ S.marked shadows.old }
     ensures value { S.value shadows.new ≡ S.value shadows.old }
     ensures asides { LoseWrites (guest_frames (frame ∷ [])) (S.asides shadows.old ram.old) (S.asides shadows.new ram.new) }
-    ensures slots { (page : ℕ) → page < 2 ^ 20 → IsWithin (S.slots shadows.new ram.new page) (S.slots shadows.old ram.old page) }
+    ensures slots { LosesSome (guest_frames (frame ∷ [])) (S.slots shadows.old ram.old) (S.slots shadows.new ram.new) }
     ensures entries { entries_of (S.slots shadows.new ram.new) ≡ entries_of (S.slots shadows.old ram.old) }
     ensures opened { (indices : ℕ → Bool) → S.opened shadows.old ram.old indices → S.opened shadows.new ram.new indices }
     ensures roots { (view : View) → S.directory shadows.new view ≡ S.directory shadows.old view }
@@ -43,7 +43,7 @@ pub fn note_tables<S: Shadows>(shadows: &mut S, ram: &mut Ram, tables: &[u32])
     ensures marked { S.marked shadows.new ≡ S.marked shadows.old }
     ensures value { S.value shadows.new ≡ S.value shadows.old }
     ensures asides { LoseWrites (guest_frames tables.now) (S.asides shadows.old ram.old) (S.asides shadows.new ram.new) }
-    ensures slots { (page : ℕ) → page < 2 ^ 20 → IsWithin (S.slots shadows.new ram.new page) (S.slots shadows.old ram.old page) }
+    ensures slots { LosesSome (guest_frames tables.now) (S.slots shadows.old ram.old) (S.slots shadows.new ram.new) }
     ensures entries { entries_of (S.slots shadows.new ram.new) ≡ entries_of (S.slots shadows.old ram.old) }
     ensures opened { (indices : ℕ → Bool) → S.opened shadows.old ram.old indices → S.opened shadows.new ram.new indices }
     ensures roots { (view : View) → S.directory shadows.new view ≡ S.directory shadows.old view }

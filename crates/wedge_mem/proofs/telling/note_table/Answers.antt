@@ -1,6 +1,19 @@
-use Rattle.std.proofs.Common.{arith}
-use Rattle.wedge_mem.proofs.Told.{none-lose}
+use Rattle.std.proofs.Common.{List, ℕ, sym, subst, arith}
+use Rattle.wedge_mem.specs.Settled.{LosesSome}
+use Rattle.wedge_mem.proofs.Losing.{none-loses, one-loses}
+use Rattle.wedge_mem.proofs.Told.{guest-one, none-lose}
 use Rattle.wedge_mem.proofs.telling.note_table.Goals as goal
+
+pub returns-then-frame-lt16384-clause-slots : goal.returns-then-frame-lt16384-clause-slots
+returns-then-frame-lt16384-clause-slots g c =
+    let s = c.args.shadows.now in let m = c.args.ram.now in let n = c.note.new in
+    let old = g.S.Shadows.slots s m in let new = g.S.Shadows.slots n.self n.ram in
+    subst (λ (fs : List ℕ). LosesSome fs old new) (sym (guest-one c.args.frame c.if-frame-lt16384.true))
+    (one-loses c.args.frame old new (g.S.Shadows.tracked s) (g.S.Shadows.tracked n.self) c.note.ensures.tracked c.note.ensures.slots
+    (λ page slot l e. g.met.S.Shadows.barred s m page slot c.requires.stands l e))
+
+pub returns-else-frame-lt16384-clause-slots : goal.returns-else-frame-lt16384-clause-slots
+returns-else-frame-lt16384-clause-slots g c = none-loses _ _
 
 pub returns-else-frame-lt16384-clause-asides : goal.returns-else-frame-lt16384-clause-asides
 returns-else-frame-lt16384-clause-asides g c =

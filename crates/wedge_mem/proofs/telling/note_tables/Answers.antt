@@ -2,7 +2,7 @@ use Rattle.std.proofs.Common.{ℕ, List, refl, ◌∙◌, subst}
 use Rattle.frame_pool.specs.Held.{Writes}
 use Rattle.frame_pool.proofs.Held.{Writes-refl, Writes-trans}
 use Rattle.shadow_tables.proofs.Asides.{lose-none, same-refl}
-use Rattle.shadow_tables.proofs.Lists.{within-refl, within-trans}
+use Rattle.wedge_mem.proofs.Losing.{more-loses, none-loses}
 use Rattle.wedge_mem.proofs.Told.{first-noted, more-noted, more-lose}
 use Rattle.wedge_mem.proofs.telling.note_tables.Goals as goal
 
@@ -15,7 +15,7 @@ loop-frame-init g c =
       value = refl;
       asides = lose-none a a (same-refl a);
       stands = c.requires.stands;
-      slots = λ page h. within-refl _;
+      slots = none-loses _ _;
       entries = refl;
       roots = λ view. refl;
       opened = λ indices h. h;
@@ -33,7 +33,7 @@ loop-frame-preserved g c =
       value = e.value ∙ l.invariant.value;
       asides = more-lose c.args.tables.now l.frame-index (a c.args.shadows.now c.args.ram.now) (a l.shadows l.ram) (a n.shadows n.ram) c.loop-frame-test.true l.invariant.asides e.asides;
       stands = e.stands;
-      slots = λ page h. within-trans _ _ _ (e.slots page h) (l.invariant.slots page h);
+      slots = more-loses c.args.tables.now l.frame-index (g.S.Shadows.slots c.args.shadows.now c.args.ram.now) (g.S.Shadows.slots l.shadows l.ram) (g.S.Shadows.slots n.shadows n.ram) c.loop-frame-test.true l.invariant.slots e.slots;
       entries = e.entries ∙ l.invariant.entries;
       roots = λ view. e.roots view ∙ l.invariant.roots view;
       opened = λ indices h. e.opened indices (l.invariant.opened indices h);

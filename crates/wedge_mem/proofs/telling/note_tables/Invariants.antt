@@ -1,8 +1,8 @@
-use Rattle.std.proofs.Common.{◌≡◌, ℕ, Bool, take, ◌^◌, ◌<◌}
+use Rattle.std.proofs.Common.{◌≡◌, ℕ, Bool, take}
 use Rattle.frame_pool.specs.Held.{Writes}
 use Rattle.shadow_tables.specs.Aside.{LoseWrites}
-use Rattle.shadow_tables.specs.Calls.{IsWithin}
 use Rattle.shadow_tables.specs.Entries.{entries_of}
+use Rattle.wedge_mem.specs.Settled.{LosesSome}
 use Rattle.wedge_mem.specs.Told.{guest_frames, read_by}
 use Rattle.wedge_mem.proofs.telling.note_tables.Given as goal
 
@@ -13,7 +13,7 @@ invariant-loop-frame g l = record {
   value : g.S.Shadows.value l.shadows ≡ g.S.Shadows.value l.fn.shadows;
   asides : LoseWrites (guest_frames (take l.frame-index l.tables)) (g.S.Shadows.asides l.fn.shadows l.fn.ram) (g.S.Shadows.asides l.shadows l.ram);
   stands : ∥ g.S.Shadows.stands l.shadows l.ram ∥₁;
-  slots : (page : ℕ) → page < 2 ^ 20 → IsWithin (g.S.Shadows.slots l.shadows l.ram page) (g.S.Shadows.slots l.fn.shadows l.fn.ram page);
+  slots : LosesSome (guest_frames (take l.frame-index l.tables)) (g.S.Shadows.slots l.fn.shadows l.fn.ram) (g.S.Shadows.slots l.shadows l.ram);
   entries : entries_of (g.S.Shadows.slots l.shadows l.ram) ≡ entries_of (g.S.Shadows.slots l.fn.shadows l.fn.ram);
   roots : (view : _) → g.S.Shadows.directory l.shadows view ≡ g.S.Shadows.directory l.fn.shadows view;
   opened : (indices : ℕ → Bool) → g.S.Shadows.opened l.fn.shadows l.fn.ram indices → g.S.Shadows.opened l.shadows l.ram indices;
