@@ -6,19 +6,19 @@ use Rattle.image_check.specs.Image.{Image}
 use Rattle.image_load.specs.Boot.{text_pages}
 use Rattle.shadow_tables.specs.Entries.{entries_of}
 use Rattle.guest_ram.specs.Among.{is_among}
-use Rattle.shadow_tables.specs.Slots.{Slot, entry_in}
+use Rattle.shadow_tables.specs.Slots.{Slot, barred, entry_in}
 use Rattle.shadow_tables.specs.declared.words.Side.{Side}
-use Rattle.step_mem.specs.Changes.{changed}
+use Rattle.step_mem.specs.Changes.{AreToldIn, changed}
 use Rattle.step_mem.specs.declared.changes.Change.{Change}
-use Rattle.wedge_mem.specs.Settled.{Settles, pages_of, used}
+use Rattle.wedge_mem.specs.Settled.{HasRoom, IsFillCount, Settles}
 use Rattle.machine_model.specs.Run.{Set}
 use Rattle.wedge_step.specs.Closed.{MayClose, Closes}
 use Rattle.wedge_step.specs.Opened.{is_entry_open}
 use Rattle.wedge_step.specs.Parts.{left_of}
 use Rattle.wedge_step.specs.Standing.{AreOpen}
-use Rattle.wedge_step.proofs.Filling.{changed_few}
+use Rattle.wedge_step.proofs.Filling.{changed_filled}
 use Rattle.wedge_step.proofs.Opening.{settled_open, empty_open}
-use Rattle.wedge_step.proofs.UsedPages.{used_few, pages_long}
+use Rattle.wedge_step.proofs.UsedPages.{filled_few}
 
 pub settled_left : (new set : Set) (result : Option ℕ) → MatchOption result (new ≡ empty) (λ n. new ≡ set) → new ≡ left_of (is_none result) set
 settled_left new set None is = is
@@ -32,33 +32,29 @@ module _ (old new : ℕ → Option Slot) (set : Set) (pages : List ℕ) (side : 
   settled_shows image count (Some n) is kept at tested count_is h =
       settled_open image wp old new set pages side tracked kept (λ page e. subst (λ (k : ℕ). is_entry_open k side (get set page) ≡ true) count_is (tested page e)) h
 
-  pub settled_whole : (count free : ℕ) (wrote : List ℕ) (result : Option ℕ) → MatchOption result (free < length (used set pages)) (λ n. (n ≡ length (used set pages)) × (length (used set pages) ≤ free))
+  pub settled_whole : (count free : ℕ) (wrote : List ℕ) (result : Option ℕ) → HasRoom set pages free result
       → MatchOption result (entries_of new ≡ empty) (λ n. entries_of new ≡ set) → IfSome result (λ n. Settles old new set pages side wp tracked)
       → (IsSome result → (frame : ℕ) → is_among frame wrote ≡ true → is_among frame tracked ≡ false) → MayClose count side set pages free → (is_none result ≡ false) × Closes old new set pages side wp tracked wrote
   settled_whole count free wrote None few is kept untracked may = let room = may.room in absurd (omega (arith, room, few))
   settled_whole count free wrote (Some n) few is kept untracked may = (refl, record { settles = kept; untracked = untracked refl; entries = is })
 
--- how many pages that is
-pub settled_few : (set : Set) (visited : List ℕ) (changes : List Change) (free : ℕ) (result : Option ℕ) → MatchOption result (free < length (used set (pages_of visited changes))) (λ n. (n ≡ length (used set (pages_of visited changes))) × (length (used set (pages_of visited changes)) ≤ free))
-    → length visited + length changes ≤ 128 → IfSome result (λ n. n ≤ 128)
-settled_few set visited changes free None count enough = tt
-settled_few set visited changes free (Some n) count enough =
-    let is = count.0 in
-    let few = used_few set (pages_of visited changes) in
-    let long = pages_long visited changes in
-    omega (arith, is, few, long, enough)
+-- how many pages were filled, of those that the step went through
+module _ (kept : ℕ → Option Slot) (old : Set) (changes : List Change) (tables visited : List ℕ) (side : Side) (wp : Bool) where
+  abbrev Count : ℕ → Type 0
+  Count n = IsFillCount kept (changed old changes) changes tables visited side wp n
 
-pub settled_exact : (set : Set) (pages : List ℕ) (free : ℕ) (result : Option ℕ) → MatchOption result (free < length (used set pages)) (λ n. (n ≡ length (used set pages)) × (length (used set pages) ≤ free))
-    → IfSome result (λ n. n ≡ length (used set pages))
-settled_exact set pages free None count = tt
-settled_exact set pages free (Some n) count = count.0
+  pub settled_few : (result : Option ℕ) → IfSome result (λ n. Count n) → length visited ≤ 128 → IfSome result (λ n. n ≤ 128)
+  settled_few None count enough = tt
+  settled_few (Some n) count enough =
+      let is = count.exact in
+      let few = filled_few (λ page. barred count.lost (kept page)) (changed old changes) changes side wp visited in
+      omega (arith, is, few, enough)
 
-pub settled_filled : (old new : Set) (visited : List ℕ) (changes : List Change) (free : ℕ) (result : Option ℕ)
-    → MatchOption result (free < length (used (changed old changes) (pages_of visited changes))) (λ n. (n ≡ length (used (changed old changes) (pages_of visited changes))) × (length (used (changed old changes) (pages_of visited changes)) ≤ free))
-    → MatchOption result (new ≡ empty) (λ n. new ≡ changed old changes) → IfSome result (λ n. len new ≤ len old + n)
-settled_filled old new visited changes free None count is = tt
-settled_filled old new visited changes free (Some n) count is =
-    let few = changed_few old visited changes in
-    let same = ap (λ (set : Set). len set) is in
-    let all = count.0 in
-    omega (arith, few, same, all)
+  pub settled_filled : (new : Set) (result : Option ℕ) → AreToldIn visited changes → IfSome result (λ n. Count n) → MatchOption result (new ≡ empty) (λ n. new ≡ changed old changes)
+      → IfSome result (λ n. len new ≤ len old + n)
+  settled_filled new None told count is = tt
+  settled_filled new (Some n) told count is =
+      let few = changed_filled (λ page. barred count.lost (kept page)) old changes side wp visited told in
+      let same = ap (λ (set : Set). len set) is in
+      let all = count.exact in
+      omega (arith, few, same, all)

@@ -15,12 +15,14 @@ use Rattle.std.proofs.lemmas.Map.Made.{length-le_from_is_member}
 use Rattle.std.proofs.lemmas.Bool.Decides.{eqb_tells}
 use Rattle.paging.specs.declared.entry.Entry.{Entry}
 use Rattle.guest_ram.specs.Among.{is_among}
-use Rattle.step_mem.specs.Changes.{changed, page_of, entry_of}
+use Rattle.shadow_tables.specs.Slots.{Slot}
+use Rattle.shadow_tables.specs.declared.words.Side.{Side}
+use Rattle.step_mem.specs.Changes.{AreToldIn, changed, page_of, entry_of}
 use Rattle.step_mem.specs.declared.changes.Change.{Change}
 use Rattle.step_mem.proofs.Changed.{get_with_other}
-use Rattle.wedge_mem.specs.Settled.{used, has_entry, pages_of}
+use Rattle.wedge_mem.specs.Settled.{has_entry, is_due, refilled, serves}
 use Rattle.machine_model.specs.Run.{Set}
-use Rattle.wedge_step.specs.Filled.{FillsOn, fills_of}
+use Rattle.wedge_step.specs.Filled.{FillsOn}
 use Rattle.wedge_step.specs.Parts.{IsPartOf}
 use Rattle.std.proofs.lemmas.Bool.{cases_Bool}
 
@@ -72,39 +74,46 @@ or_right : (a : Bool) → (a || true) ≡ true
 or_right true = refl
 or_right false = refl
 
--- a page that has an entry is one of those used
-in_used : (set : Set) (q : ℕ) → has_entry (get set q) ≡ true → (pages : List ℕ) → is_among q pages ≡ true → is_among q (used set pages) ≡ true
-in_used set q has [] h = h
-in_used set q has (p ∷ pages) h =
-    elim (cases_Bool (is_among q pages)) [
-      | inl t ↦ later (has_entry (get set p) && not (is_among p pages)) (in_used set q has pages t)
-      | inr n ↦ elim (eqb_tells q p) [
-        | inl e ↦
-            let here : (has_entry (get set p) && not (is_among p pages)) ≡ true =
-            ap (λ k. has_entry (get set k) && not (is_among k pages)) (sym e.1) ∙ (ap (λ b. b && not (is_among q pages)) has ∙ ap not n) in
-            ap (λ (b : Bool). is_among q (cond {A = List ℕ} b (p ∷ used set pages) (used set pages))) here ∙ ap (λ b. b || is_among q (used set pages)) e.0
-        | inr o ↦ absurd (let f : true ≡ false = sym h ∙ (ap (λ b. b || is_among q pages) o.0 ∙ n) in cc)
-      ]
-    ]
-  where
-    later : (b : Bool) → is_among q (used set pages) ≡ true → is_among q (cond {A = List ℕ} b (p ∷ used set pages) (used set pages)) ≡ true
-    later true h = ap (λ b. (q == p) || b) h ∙ or_right (q == p)
-    later false h = h
+three : (a b c : Bool) → a ≡ true → b ≡ false → c ≡ true → ((a && not b) && c) ≡ true
+three a b c e f g = ap (λ x. (x && not b) && c) e ∙ (ap (λ x. not x && c) f ∙ g)
 
-pub grown : (old new : Set) (pages : List ℕ) → ((q : ℕ) → is_some (get new q) ≡ true → (is_some (get old q) ≡ true) ⊎ (is_among q pages ≡ true)) → len new ≤ len old + length (used new pages)
-grown old new pages each =
-    let some = length-le_from_is_member (eq_by_cmp_equiv nat_cmp_total) (keys new) (keys old ++ used new pages) (distinct new)
+-- a page that has an entry and is due is one of those that are filled
+module _ (kept : ℕ → Option Slot) (set : Set) (changes : List Change) (side : Side) (wp : Bool) where
+  in_filled : (q : ℕ) → has_entry (get set q) ≡ true → is_due kept changes side wp q ≡ true → (pages : List ℕ) → is_among q pages ≡ true → is_among q (refilled kept set changes side wp pages) ≡ true
+  in_filled q has due [] h = h
+  in_filled q has due (p ∷ pages) h =
+      elim (cases_Bool (is_among q pages)) [
+        | inl t ↦ later ((has_entry (get set p) && not (is_among p pages)) && is_due kept changes side wp p) (in_filled q has due pages t)
+        | inr n ↦ elim (eqb_tells q p) [
+          | inl e ↦
+              let here : ((has_entry (get set p) && not (is_among p pages)) && is_due kept changes side wp p) ≡ true =
+              ap (λ k. (has_entry (get set k) && not (is_among k pages)) && is_due kept changes side wp k) (sym e.1)
+              ∙ three (has_entry (get set q)) (is_among q pages) (is_due kept changes side wp q) has n due in
+              ap (λ (b : Bool). is_among q (cond {A = List ℕ} b (p ∷ refilled kept set changes side wp pages) (refilled kept set changes side wp pages))) here
+              ∙ ap (λ b. b || is_among q (refilled kept set changes side wp pages)) e.0
+          | inr o ↦ absurd (let f : true ≡ false = sym h ∙ (ap (λ b. b || is_among q pages) o.0 ∙ n) in cc)
+        ]
+      ]
+    where
+      later : (b : Bool) → is_among q (refilled kept set changes side wp pages) ≡ true
+          → is_among q (cond {A = List ℕ} b (p ∷ refilled kept set changes side wp pages) (refilled kept set changes side wp pages)) ≡ true
+      later true h = ap (λ b. (q == p) || b) h ∙ or_right (q == p)
+      later false h = h
+
+grown : (old new : Set) (more : List ℕ) → ((q : ℕ) → is_some (get new q) ≡ true → (is_some (get old q) ≡ true) ⊎ (is_among q more ≡ true)) → len new ≤ len old + length more
+grown old new more each =
+    let some = length-le_from_is_member (eq_by_cmp_equiv nat_cmp_total) (keys new) (keys old ++ more) (distinct new)
     (λ q h.
     let has : is_some (get new q) ≡ true = contains_key-keys new q ∙ h in
-    list_any-append (eq_by_cmp nat_cmp q) (keys old) (used new pages) ∙ elim (each q has) [
-      | inl t ↦ ap (λ b. b || list_any (eq_by_cmp nat_cmp q) (used new pages)) (sym (contains_key-keys old q) ∙ t)
+    list_any-append (eq_by_cmp nat_cmp q) (keys old) more ∙ elim (each q has) [
+      | inl t ↦ ap (λ b. b || list_any (eq_by_cmp nat_cmp q) more) (sym (contains_key-keys old q) ∙ t)
       | inr t ↦
-          ap (λ b. list_any (eq_by_cmp nat_cmp q) (keys old) || b) (among_keys q (used new pages) ∙ in_used new q (has_some (get new q) has) pages t)
+          ap (λ b. list_any (eq_by_cmp nat_cmp q) (keys old) || b) (among_keys q more ∙ t)
           ∙ or_right (list_any (eq_by_cmp nat_cmp q) (keys old))
     ]) in
     let a = counts_keys new in
     let b = counts_keys old in
-    let c = length-append (keys old) (used new pages) in
+    let c = length-append (keys old) more in
     omega (arith, some, a, b, c)
 
 -- ---- a part, and what a step changed
@@ -130,13 +139,15 @@ by_changes set (c ∷ cs) q h =
       ]
     ]
 
-among_later : (q : ℕ) (xs ys : List ℕ) → is_among q ys ≡ true → is_among q (xs ++ ys) ≡ true
-among_later q [] ys h = h
-among_later q (x ∷ xs) ys h = ap (λ b. (q == x) || b) (among_later q xs ys h) ∙ or_right (q == x)
-
-pub changed_few : (set : Set) (visited : List ℕ) (changes : List Change) → len (changed set changes) ≤ len set + length (used (changed set changes) (pages_of visited changes))
-changed_few set visited changes =
-    grown set (changed set changes) (pages_of visited changes) (λ q h. elim (by_changes set changes q h) [ inl t ↦ inl t | inr t ↦ inr (among_later q visited (map page_of changes) t) ])
+-- a page that comes is one of those that are filled
+pub changed_filled : (kept : ℕ → Option Slot) (set : Set) (changes : List Change) (side : Side) (wp : Bool) (visited : List ℕ) → AreToldIn visited changes
+    → len (changed set changes) ≤ len set + length (refilled kept (changed set changes) changes side wp visited)
+changed_filled kept set changes side wp visited told =
+    grown set (changed set changes) (refilled kept (changed set changes) changes side wp visited)
+    (λ q h. elim (by_changes set changes q h) [
+      | inl t ↦ inl t
+      | inr t ↦ inr (in_filled kept (changed set changes) changes side wp q (has_some (get (changed set changes) q) h) (ap (λ (b : Bool). b || not (serves side wp (kept q))) t) visited (told q t))
+    ])
 
 -- ---- one call, and two
 
@@ -162,10 +173,10 @@ fills_within pages few new before after le f = let e = f.enough in record { rise
 pub empty_few : (set : Set) → set ≡ empty → len set ≡ 0
 empty_few set is = ap (λ (s : Set). len s) is ∙ len-empty nat_cmp Entry
 
--- where nothing was dropped behind a step, all that it used was filled
-pub fills_unlost : (old new : ℕ) (set : Set) (pages : List ℕ) (kept left : Bool) → (kept || left) ≡ false → new ≡ old + fills_of kept set pages → new ≡ old + fills_of false set pages
-fills_unlost old new set pages true left unlost is = absurd (let f : true ≡ false = unlost in cc)
-fills_unlost old new set pages false left unlost is = is
+-- nothing was dropped behind a step, in either of two ways
+pub unlost_first : (P : Bool → Type 0) (kept left : Bool) → (kept || left) ≡ false → P kept → P false
+unlost_first P true left unlost p = absurd (let f : true ≡ false = unlost in cc)
+unlost_first P false left unlost p = p
 
 -- what is held, where all that is free or held is counted before, and what is free after
 pub held_by : (free held free2 a b a2 b2 : ℕ) → free ≡ a → held ≡ b → free2 ≡ a2 → a2 + b2 ≡ a + b → (free + held) - free2 ≡ b2

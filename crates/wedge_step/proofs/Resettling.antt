@@ -1,5 +1,5 @@
 -- What is kept behind a step whose pages were settled, or for which frames lacked: for each value of CR3.
-use Rattle.std.proofs.Common.{◌≡◌, ℕ, ◌+◌, ◌^◌, ◌<◌, ◌≤◌, List, [], length, Bool, true, false, ◌||◌, Option, Some, None, refl, sym, ap, subst, ◌∙◌, arith}
+use Rattle.std.proofs.Common.{◌≡◌, ℕ, ◌+◌, ◌^◌, ◌<◌, ◌≤◌, List, [], Bool, true, false, ◌||◌, Option, Some, None, refl, sym, ap, subst, ◌∙◌, arith}
 use Rattle.std.specs.Prelude.{MatchOption, IfSome, IsSome, is_none}
 use Rattle.std.specs.FinMap.{get, empty, get-empty, len}
 use Rattle.std.specs.Ordering.{nat_cmp}
@@ -11,15 +11,15 @@ use Rattle.shadow_tables.specs.Entries.{entries_of}
 use Rattle.guest_ram.specs.Among.{is_among}
 use Rattle.shadow_tables.specs.Slots.{Slot, entry_in}
 use Rattle.shadow_tables.specs.declared.shadows.Shadows as shadows
+use Rattle.shadow_tables.specs.declared.words.Side.{Side}
 use Rattle.step_mem.specs.declared.state.StepState.{StepState}
 use Rattle.machine_model.specs.Run.{Set}
 use Rattle.machine_model.specs.State.{Setting}
 use Rattle.native_steps.specs.Mirrors.{shown}
-use Rattle.wedge_mem.specs.Settled.{used}
 use Rattle.wedge_mem.specs.Told.{guest_frames, read_by}
 use Rattle.wedge_step.specs.Filled.{pages_aside, pages_kept}
 use Rattle.wedge_step.specs.Ready.{AllOpen, IsReadyBut, IsReadyBehind}
-use Rattle.wedge_step.specs.Stand.{IsFilledBy, Stand, count_in, pages_through, set_behind}
+use Rattle.wedge_step.specs.Stand.{FillsIn, IsFilledBy, Stand, count_in}
 use Rattle.wedge_step.proofs.Behind.{any_none}
 use Rattle.wedge_step.proofs.Opening.{no_slot}
 use Rattle.wedge_step.proofs.Readying.{none_ready, none_pages, settled_ready}
@@ -88,8 +88,8 @@ module _ {S : Type 0} (slots : S → List ℕ → ℕ → Option Slot) (noted : 
       unwritten f none r = by f (is_among f wrote) refl none r
 
 -- how many were filled, and how many are kept then
-module _ {S : Type 0} (g : shadows.Ghosts S) (old new : Stand S) (state : StepState) where
-  pub counts_join : (result : Option ℕ) → IfSome result (λ n. n ≤ 128) → IfSome result (λ n. n ≡ length (used (set_behind g old state) (pages_through state)))
-      → IfSome result (λ n. count_in g new ≤ count_in g old + n) → IfSome result (λ n. IsFilledBy g old new state n)
+module _ {S : Type 0} (g : shadows.Ghosts S) (side : Side) (old new : Stand S) (state : StepState) where
+  pub counts_join : (result : Option ℕ) → IfSome result (λ n. n ≤ 128) → IfSome result (λ n. FillsIn g side old state n)
+      → IfSome result (λ n. count_in g new ≤ count_in g old + n) → IfSome result (λ n. IsFilledBy g side old new state n)
   counts_join None few exact filled = tt
   counts_join (Some n) few exact filled = record { few = few; exact = exact; filled = filled }

@@ -1,25 +1,26 @@
 -- How many pages a step may have used.
-use Rattle.std.proofs.Common.{◌≡◌, ℕ, zero, suc, ◌==◌, ◌+◌, ◌≤◌, ◌<◌, List, [], ◌∷◌, ◌++◌, length, length-append, take, take-suc, get_or, add-one, Bool, true, false, ◌&&◌, ◌||◌, not, cond, inl, inr, refl, sym, ap, ◌∙◌, arith}
-use Rattle.std.proofs.lemmas.List.{take_all, length-map}
+use Rattle.std.proofs.Common.{◌≡◌, ℕ, zero, suc, ◌==◌, ◌+◌, ◌≤◌, ◌<◌, List, [], ◌∷◌, ◌++◌, length, take, take-suc, get_or, add-one, Bool, true, false, ◌&&◌, ◌||◌, not, cond, Option, inl, inr, refl, sym, ap, ◌∙◌, arith}
+use Rattle.std.proofs.lemmas.List.{take_all}
 use Rattle.std.proofs.lemmas.Bool.Decides.{eqb_tells}
 use Rattle.step_mem.specs.declared.changes.Change.{Change}
 use Rattle.std.specs.FinMap.{FinMap, get}
 use Rattle.std.specs.Ordering.{nat_cmp}
 use Rattle.paging.specs.declared.entry.Entry.{Entry}
 use Rattle.guest_ram.specs.Among.{is_among}
-use Rattle.wedge_mem.specs.Settled.{used, has_entry, pages_of}
+use Rattle.shadow_tables.specs.Slots.{Slot}
+use Rattle.shadow_tables.specs.declared.words.Side.{Side}
+use Rattle.wedge_mem.specs.Settled.{has_entry, is_due, refilled}
 use Rattle.std.proofs.lemmas.Bool.{cases_Bool}
 
 used_by : (b : Bool) (page : ℕ) (rest pages : List ℕ) → length rest ≤ length pages → length (cond b (page ∷ rest) rest) ≤ length (page ∷ pages)
 used_by true page rest pages h = omega (arith, h)
 used_by false page rest pages h = omega (arith, h)
 
-pub used_few : (set : FinMap nat_cmp Entry) (pages : List ℕ) → length (used set pages) ≤ length pages
-used_few set [] = omega arith
-used_few set (page ∷ pages) = used_by (has_entry (get set page) && not (is_among page pages)) page (used set pages) pages (used_few set pages)
-
-pub pages_long : (visited : List ℕ) (changes : List Change) → length (pages_of visited changes) ≡ length visited + length changes
-pages_long visited changes = rw (length-append, length-map) refl
+-- no more are filled
+pub filled_few : (kept : ℕ → Option Slot) (set : FinMap nat_cmp Entry) (changes : List Change) (side : Side) (wp : Bool) (pages : List ℕ) → length (refilled kept set changes side wp pages) ≤ length pages
+filled_few kept set changes side wp [] = omega arith
+filled_few kept set changes side wp (page ∷ pages) =
+    used_by ((has_entry (get set page) && not (is_among page pages)) && is_due kept changes side wp page) page (refilled kept set changes side wp pages) pages (filled_few kept set changes side wp pages)
 
 among-append : (x : ℕ) (xs : List ℕ) (y : ℕ) → is_among x (xs ++ y ∷ []) ≡ true → is_among x xs ≡ false → x ≡ y
 among-append x [] y h e = elim (eqb_tells x y) [ inl t ↦ t.1 | inr n ↦ (let q = n.0 in absurd (let z : false ≡ true = sym (ap (λ b. b || false) q) ∙ h in cc)) ]

@@ -1,5 +1,5 @@
 -- What the end of a step asks for, and what it makes of the guest and its counts.
-use Rattle.std.specs.Prelude.{◌≡◌, ◌+◌, ◌*◌, ◌^◌, ◌<◌, ◌≤◌, false, length}
+use Rattle.std.specs.Prelude.{◌≡◌, ◌==◌, ℕ, ◌+◌, ◌*◌, ◌^◌, ◌<◌, ◌≤◌, Bool, true, false, length}
 use Rattle.board.specs.Boards.{board_step}
 use Rattle.descriptors.specs.Controls.{wp_of}
 use Rattle.descriptors.specs.declared.cpu.Cpu.{Cpu}
@@ -7,9 +7,10 @@ use Rattle.shadow_tables.specs.declared.shadows.Shadows as shadows
 use Rattle.step_mem.specs.declared.state.StepState.{StepState}
 use Rattle.machine_step.specs.Worked.{IsDropped}
 use Rattle.machine_step.specs.declared.worked.Worked.{Worked}
-use Rattle.wedge_step.specs.Filled.{FillsOn, fills_of}
+use Rattle.wedge_step.specs.Filled.{FillsOn}
 use Rattle.wedge_step.specs.Scene.{Scene, free, frames_in, kept_in}
-use Rattle.wedge_step.specs.Stand.{IsSoundIn, Stand, pages_through, set_behind, stand}
+use Rattle.wedge_step.specs.Stand.{FillsIn, IsSoundIn, Stand, stand}
+use Rattle.wedge_step.specs.Standing.{side_of}
 use Rattle.wedge_step.specs.declared.running.Running.{Running}
 
 -- the guest's shadows, with the pool and the memory
@@ -48,17 +49,21 @@ module _ {S : Type 0} (g : shadows.Ghosts S) where
     pub bound : c.guest.step < 2 ^ 40
     pub enough : 4 ≤ free c + length (frames_in g c)
 
-  -- The frames that are held are counted, and so are the pages that were filled: none where all were dropped.
+  -- So many pages were filled behind a step: none where all were dropped.
+  abbrev pub HasFilled : Bool → Scene S → StepState → ℕ → Type 0
+  HasFilled true c state n = n ≡ 0
+  HasFilled false c state n = FillsIn g (side_of (c.guest.cpu.cpl == 3)) (standing c) state n
+
+  -- The frames that are held are counted, and so are the pages that were filled.
   pub record KeepsCount (old new : Scene S) (state : StepState) : Type 0 where
     pub counted : new.guest.held ≡ length (frames_in g new)
     pub fills : new.guest.fills ≤ old.guest.fills + 128
-    pub exact : new.guest.fills ≡ old.guest.fills + fills_of new.guest.lost.after (set_behind g (standing old) state) (pages_through state)
+    pub exact : (n : ℕ) × (new.guest.fills ≡ old.guest.fills + n) × HasFilled new.guest.lost.after old state n
     pub filled : FillsOn (kept_in g old) (kept_in g new) old.guest.fills new.guest.fills
 
   -- So it is at the end of a step, whose count rose with them.
   pub record EndsCount (old new : Scene S) (state : StepState) : Type 0 where
     pub counted : new.guest.held ≡ length (frames_in g new)
     pub fills : new.guest.fills ≤ 128 * new.guest.step
-    pub exact : new.guest.lost.after ≡ false
-        → new.guest.fills ≡ old.guest.fills + fills_of false (set_behind g (standing old) state) (pages_through state)
+    pub exact : new.guest.lost.after ≡ false → (n : ℕ) × (new.guest.fills ≡ old.guest.fills + n) × HasFilled false old state n
     pub filled : FillsOn (kept_in g old) (kept_in g new) old.guest.fills new.guest.fills

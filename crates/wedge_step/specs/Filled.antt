@@ -1,11 +1,9 @@
 -- How many pages were filled, beside how many are kept.
-use Rattle.std.specs.Prelude.{ℕ, ◌+◌, ◌≤◌, Bool, List, [], ◌∷◌, length, Option, if◌then◌else◌}
+use Rattle.std.specs.Prelude.{ℕ, ◌+◌, ◌≤◌, List, [], ◌∷◌, Option}
 use Rattle.std.specs.FinMap.{len}
 use Rattle.shadow_tables.specs.Aside.{Aside}
 use Rattle.shadow_tables.specs.Entries.{entries_of}
 use Rattle.shadow_tables.specs.Slots.{Slot}
-use Rattle.machine_model.specs.Run.{Set}
-use Rattle.wedge_mem.specs.Settled.{used}
 
 -- how many pages are kept for values of CR3 that aren't present
 abbrev pub pages_aside : List Aside → ℕ
@@ -16,11 +14,6 @@ module _ {S : Type 0} (slots : S → List ℕ → ℕ → Option Slot) (asides :
   -- and for all values, the present one among them
   abbrev pub pages_kept : S → List ℕ → ℕ
   pages_kept s memory = len (entries_of (slots s memory)) + pages_aside (asides s memory)
-
--- How many pages a step fills: those that it used, each once, and that have an entry in the set which it left. None where
--- all are dropped behind it.
-abbrev pub fills_of : Bool → Set → List ℕ → ℕ
-fills_of dropped set pages = if dropped then 0 else length (used set pages)
 
 -- The count of filled pages doesn't fall, and the pages that are kept grow by no more than it rises.
 pub record FillsOn (old new before after : ℕ) : Type 0 where

@@ -11,7 +11,7 @@ use Rattle.shadow_tables.specs.declared.words.Side.{Side}
 use Rattle.step_mem.specs.Changes.{changed}
 use Rattle.step_mem.specs.Sound.{IsSound}
 use Rattle.step_mem.specs.declared.state.StepState.{StepState}
-use Rattle.wedge_mem.specs.Settled.{pages_of, used}
+use Rattle.wedge_mem.specs.Settled.{IsFillCount, pages_of}
 use Rattle.machine_model.specs.Run.{Set}
 use Rattle.machine_model.specs.State.{Setting}
 use Rattle.machine_step.specs.declared.worked.Dropped.{Dropped}
@@ -103,11 +103,16 @@ module _ {S : Type 0} (g : bound.Ghosts S) where
       Closes (g.slots old.shadows old.memory) (g.slots new.shadows new.memory) (set_behind old state) (pages_through state) side
       state.control.wp (g.tracked new.shadows) state.wrote
 
-  -- So many pages were filled: those that the step went through and that have an entry, each once. No more are kept than were
-  -- before and these.
-  pub record IsFilledBy (old new : Stand S) (state : StepState) (n : ℕ) : Type 0 where
+  -- So many pages are filled behind a step, on this side: of those that it went through, each once that has an entry, if the
+  -- step changed that or what is kept doesn't let the host do there all that it does.
+  abbrev pub FillsIn : Side → Stand S → StepState → ℕ → Type 0
+  FillsIn side c state n =
+      IsFillCount (g.slots c.shadows c.memory) (set_behind c state) state.changes state.tables state.visited side state.control.wp n
+
+  -- So many pages were filled. No more are kept than were before and these.
+  pub record IsFilledBy (side : Side) (old new : Stand S) (state : StepState) (n : ℕ) : Type 0 where
     pub few : n ≤ 128
-    pub exact : n ≡ length (used (set_behind old state) (pages_through state))
+    pub exact : FillsIn side old state n
     pub filled : count_in new ≤ count_in old + n
 
   -- The rules are the same, and what is kept beside what is present. Where the instruction drops all, nothing was done.

@@ -53,7 +53,7 @@ pub fn close<S: Shadows>(
     ensures opens { (image : Image) (wp : Bool)
         → AllOpen image wp (S.asides shadows.old ram.old) → AllOpen image wp (S.asides shadows.new ram.new) }
     ensures filled { IfSome result
-        (λ n. IsFilledBy S.Shadows (stand shadows.old pool.old ram.old) (stand shadows.new pool.new ram.new) state.now n) }
+        (λ n. IsFilledBy S.Shadows side (stand shadows.old pool.old ram.old) (stand shadows.new pool.new ram.new) state.now n) }
     ensures fewer { is_none result ≡ true → count_in S.Shadows (stand shadows.new pool.new ram.new) ≡ 0 }
     ensures told { is_none result ≡ false
         → Tells state.now.tables state.now.wrote (sight S.Shadows shadows.old ram.old) (sight S.Shadows shadows.new ram.new) }

@@ -6,7 +6,7 @@ use Rattle.step_mem.specs.Changes.{changed}
 use Rattle.shadow_tables.specs.Entries.{entries_of}
 use Rattle.wedge_mem.specs.Owned.{first, owns}
 use Rattle.wedge_mem.specs.Settled.{pages_of}
-use Rattle.wedge_step.proofs.Closing.{settled_left, settled_shows, settled_whole, settled_few, settled_exact, settled_filled}
+use Rattle.wedge_step.proofs.Closing.{settled_left, settled_shows, settled_whole, settled_few, settled_filled}
 use Rattle.wedge_step.proofs.Opening.{none_open}
 use Rattle.wedge_step.proofs.Memories.{front_same, shown_same}
 use Rattle.wedge_step.proofs.Readying.{none_ready, none_pages}
@@ -68,7 +68,7 @@ returns-clause-shows g c = λ image is h.
 
 pub returns-clause-whole : goal.returns-clause-whole
 returns-clause-whole g c = λ may.
-    settled_whole (old g c) (new g c) (set g c) (pages g c) c.args.side c.args.state.now.control.wp (g.S.Shadows.tracked c.settle.new.shadows) c.args.count (free g c) c.args.state.now.wrote c.settle.result c.settle.ensures.count c.settle.ensures.settled.entries c.settle.ensures.settled.filled
+    settled_whole (old g c) (new g c) (set g c) (pages g c) c.args.side c.args.state.now.control.wp (g.S.Shadows.tracked c.settle.new.shadows) c.args.count (free g c) c.args.state.now.wrote c.settle.result c.settle.ensures.room c.settle.ensures.settled.entries c.settle.ensures.settled.filled
     c.settle.ensures.settled.untracked may
 
 -- what the end of the step makes of what is kept
@@ -139,11 +139,12 @@ returns-clause-moved g c = let e = c.settle.ensures in record { stands = e.stand
 
 pub returns-clause-filled : goal.returns-clause-filled
 returns-clause-filled g c =
-    counts_join g.S.Shadows (stand c.args.shadows.now c.args.pool.now c.args.ram.now) (stand c.settle.new.shadows c.settle.new.pool c.settle.new.ram) c.args.state.now c.settle.result
-    (settled_few (set g c) c.args.state.now.visited c.args.state.now.changes (free g c) c.settle.result c.settle.ensures.count (omega (arith, c.requires.sound.noted, c.requires.sound.counted, c.requires.sound.few)))
-    (settled_exact (set g c) (pages g c) (free g c) c.settle.result c.settle.ensures.count)
-    (closed_filled c.settle.result c.args.state.now.tables c.args.state.now.wrote (entries_of (old g c)) (entries_of (new g c)) (g.S.Shadows.asides c.args.shadows.now c.args.ram.now) (g.S.Shadows.asides c.settle.new.shadows c.settle.new.ram) c.settle.ensures.settled.asides
-    (settled_filled (entries_of (old g c)) (entries_of (new g c)) c.args.state.now.visited c.args.state.now.changes (free g c) c.settle.result c.settle.ensures.count c.settle.ensures.settled.entries))
+    let state = c.args.state.now in let wp = c.args.state.now.control.wp in
+    counts_join g.S.Shadows c.args.side (stand c.args.shadows.now c.args.pool.now c.args.ram.now) (stand c.settle.new.shadows c.settle.new.pool c.settle.new.ram) state c.settle.result
+    (settled_few (old g c) (entries_of (old g c)) state.changes state.tables state.visited c.args.side wp c.settle.result c.settle.ensures.count (omega (arith, c.requires.sound.noted, c.requires.sound.few)))
+    c.settle.ensures.count
+    (closed_filled c.settle.result state.tables state.wrote (entries_of (old g c)) (entries_of (new g c)) (g.S.Shadows.asides c.args.shadows.now c.args.ram.now) (g.S.Shadows.asides c.settle.new.shadows c.settle.new.ram) c.settle.ensures.settled.asides
+    (settled_filled (old g c) (entries_of (old g c)) state.changes state.tables state.visited c.args.side wp (entries_of (new g c)) c.settle.result c.requires.sound.told c.settle.ensures.count c.settle.ensures.settled.entries))
 
 pub returns-clause-told : goal.returns-clause-told
 returns-clause-told g c = λ e.

@@ -6,12 +6,14 @@ use Rattle.native_steps.specs.Mirrors.{shown}
 use Rattle.frame_pool.specs.Pool.{base_of, free_list}
 use Rattle.frame_pool.proofs.Held.{Moves-trans}
 use Rattle.wedge_mem.specs.Settled.{pages_of}
+use Rattle.wedge_step.specs.Ending.{HasFilled}
+use Rattle.wedge_step.specs.Scene.{scene}
 use Rattle.wedge_step.specs.Ready.{AreFound, IsReady, IsReadyBut, leaving}
 use Rattle.wedge_step.specs.Sight.{sight}
 use Rattle.wedge_step.specs.Standing.{AreOpen}
 use Rattle.wedge_step.specs.declared.running.Running.{Running}
 use Rattle.wedge_step.proofs.Parts.{left_twice}
-use Rattle.wedge_step.proofs.Filling.{held_by, fills_join, fills_fewer, fills_unlost}
+use Rattle.wedge_step.proofs.Filling.{held_by, fills_join, fills_fewer, unlost_first}
 use Rattle.shadow_tables.specs.Entries.{entries_of}
 use Rattle.step_mem.specs.Changes.{changed}
 use Rattle.wedge_step.specs.Parts.{left_of}
@@ -103,7 +105,10 @@ returns-clause-counts g c =
     record {
       counted = held_by _ _ _ _ _ _ _ (c.free.ensures.count c.keep.new.ram) c.keep.ensures.counts.counted (c.free-2.ensures.count c.leave-left.new.ram) c.leave-left.ensures.moved.moves.lengths;
       fills = omega (arith, k, s, mid, f);
-      exact = λ unlost. fills_unlost _ _ _ _ _ c.leave-left.result.none unlost c.keep.ensures.counts.exact;
+      exact = λ unlost.
+          let old = c.args.running.now in let mid = c.keep.new.running in
+          unlost_first (λ (lost : Bool). (n : ℕ) × (mid.fills ≡ old.fills + n) × HasFilled g.S.Shadows lost (scene old c.args.pool.now c.args.ram.now) c.args.state.now n)
+          mid.lost.after c.leave-left.result.none unlost c.keep.ensures.counts.exact;
       filled = fills_join _ _ _ _ _ _ c.keep.ensures.counts.filled (fills_fewer _ _ _ c.leave-left.ensures.fewer);
     }
 

@@ -1,5 +1,7 @@
-use Rattle.std.proofs.Common.{◌≡◌, true, false, refl, ap, arith}
+use Rattle.std.proofs.Common.{◌≡◌, true, false, refl, ap, subst, arith}
 use Rattle.std.proofs.lemmas.Bool.{both_ways}
+use Rattle.shadow_tables.specs.declared.words.Side.{Side}
+use Rattle.wedge_step.specs.Stand.{FillsIn, stand}
 use Rattle.wedge_step.proofs.Filling.{fills_fewer, held_by}
 use Rattle.wedge_step.proofs.single.keep.Goals as goal
 
@@ -62,7 +64,7 @@ pub returns-in-None-clause-counts : goal.returns-in-None-clause-counts
 returns-in-None-clause-counts g c = record {
   counted = held_by _ _ _ _ _ _ _ (c.free.ensures.count c.args.ram.now) c.requires.under.counted (c.free-2.ensures.count c.close-settled.new.ram) c.close-settled.ensures.moved.moves.lengths;
   fills = omega arith;
-  exact = omega arith;
+  exact = (0, omega arith, refl);
   filled = let none = c.close-settled.ensures.fewer (ap Rattle.std.specs.Prelude.is_none c.in-None.is) in fills_fewer _ _ _ (omega (arith, none));
 }
 
@@ -70,11 +72,14 @@ pub returns-in-Some-clause-counts : goal.returns-in-Some-clause-counts
 returns-in-Some-clause-counts g c =
     let e = c.in-Some.ensures.filled in
     let few = e.few in
-    let exact = e.exact in
     let more = e.filled in
     record {
       counted = held_by _ _ _ _ _ _ _ (c.free.ensures.count c.args.ram.now) c.requires.under.counted (c.free-2.ensures.count c.close-settled.new.ram) c.close-settled.ensures.moved.moves.lengths;
       fills = omega (arith, few);
-      exact = omega (arith, exact);
+      exact = (
+        c.in-Some.filled,
+        omega arith,
+        subst (λ (side : Side). FillsIn g.S.Shadows side (stand c.args.running.now.shadows c.args.pool.now c.args.ram.now) c.args.state.now c.in-Some.filled) c.side_of-side.ensures e.exact,
+      );
       filled = record { rises = omega arith; enough = omega (arith, more) };
     }
