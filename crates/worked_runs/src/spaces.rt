@@ -31,11 +31,12 @@ fn shows(rt: &impl Abort, alloc: Global, source: &[u8]) {
     }
 }
 
-// A step that the wedge does itself, at a site or inside one, fills each page that it uses, and so does an instruction that
-// the host can't do before. The writes of the beginning fill nine pages, and the text's with each: 18. The seven steps of a
-// load and an OUT fill 7, in nine turns 63; the sites behind the rounds have 3 + 4 + 3 + 4 + 4 steps: 18. The change fills
-// 2, and so does the first space's turn behind it, whose pages have left by then. These are 103. A turn in a round fills 2
-// more where its page isn't kept: in three turns, or in all nine and for both reads of the third space at the end.
+// A step that the wedge does itself, at a site or inside one, fills those of its pages that aren't kept with their rights, and
+// so does an instruction that the host can't do before. The writes of the beginning fill nine pages and the text's: 10. A load
+// of CR3 drops the text's page from the space that it leaves, so each of the nine turns fills it again: 9. The change fills
+// its page, the first space's turn behind it 2, since its pages have left by then, and the third's the text's. These are 23. A
+// turn in a round fills 1 more where its page isn't kept: in three turns, or in all nine and for both reads of the third space
+// at the end.
 #[test]
 fn a_space_that_comes_back_has_its_pages_and_fills_less(rt: HostRuntime) {
     let alloc = rt.alloc();
@@ -47,5 +48,5 @@ fn a_space_that_comes_back_has_its_pages_and_fills_less(rt: HostRuntime) {
     let small = fills_of(&rt, alloc, &same, 16, shown);
     let same = fills_of(&rt, alloc, &same, 512, shown);
     let new = fills_of(&rt, alloc, &new, 512, shown);
-    assert!(rt; same == 103 + 3 * 2 && new == 103 + 11 * 2 && same < small);
+    assert!(rt; same == 23 + 3 && new == 23 + 11 && same < small);
 }
