@@ -134,6 +134,9 @@ fn number<B: Kept>(
                 + 256 * u32::from(byte(ram, base, guard, frames, changes, at + 1))
         }
         Size::Long => {
+            if at % 4096 <= 4092 {
+                return long_in_page(ram, base, guard, frames, changes, at);
+            }
             let low = u32::from(byte(ram, base, guard, frames, changes, at))
                 + 256 * u32::from(byte(ram, base, guard, frames, changes, at + 1));
             let high = u32::from(byte(ram, base, guard, frames, changes, at + 2))
@@ -141,6 +144,34 @@ fn number<B: Kept>(
             low + 65536 * high
         }
     }
+}
+
+/// Reads a number of four bytes that lie in one page, after these changes.
+#[tactic(auto, unfolding(paging::specs::Space::loaded, paging::specs::Space::byte_at, paging::specs::Space::place))]
+fn long_in_page<B: Kept>(
+    ram: &Ram,
+    base: &B,
+    guard: &Guard,
+    frames: u32,
+    changes: &[Change],
+    at: u32,
+) -> u32
+    requires frames { 4096 * frames ≤ length ram.now }
+    requires laid { IsLaid guard.now.text.now frames }
+    requires stands { ∥ B.stands base.now ram.now ∥₁ }
+    requires within { AreWithin frames (changed (B.entries base.now ram.now) changes.now) }
+    requires found { HasEntry (changed (B.entries base.now ram.now) changes.now) at }
+    requires one { at % 4096 ≤ 4092 }
+    ensures value { (control : Control) (rest : Rest) → control.frames ≡ frames
+        → result ≡ loaded (space_of (B.entries base.now) ram.now control guard.now changes.now rest) at Size.Long }
+    ensures fits { result < 2 ^ 32 }
+{
+    let place = place_in(ram, base, guard, frames, changes, at);
+    let low = u32::from(read(ram, guard, frames, place))
+        + 256 * u32::from(read(ram, guard, frames, place + 1));
+    let high = u32::from(read(ram, guard, frames, place + 2))
+        + 256 * u32::from(read(ram, guard, frames, place + 3));
+    low + 65536 * high
 }
 
 /// Reads where the last touch was ready.
@@ -181,7 +212,6 @@ pub fn load_earlier<B: Kept>(ram: &Ram, base: &B, state: &StepState, at: u32, si
 }
 
 /// Writes a byte of the guest's.
-#[tactic(auto, unfolding(paging::specs::Space::with_byte, paging::specs::Space::place))]
 fn put_byte<B: Kept>(ram: &mut Ram, base: &B, state: &StepState, at: u32, v: u8)
     requires sound { IsSoundOver B.Kept base.now ram.old state.now }
     requires found { HasEntry (space_at (B.entries base.now) ram.old state.now).set at }
@@ -191,8 +221,23 @@ fn put_byte<B: Kept>(ram: &mut Ram, base: &B, state: &StepState, at: u32, v: u8)
     ensures after { space_at (B.entries base.now) ram.new state.now ≡ with_ram (space_at (B.entries base.now) ram.old state.now)
         (with_byte (space_at (B.entries base.now) ram.old state.now) (space_at (B.entries base.now) ram.old state.now).ram at v) }
 {
-    let at = place(ram, base, state, at);
-    store(ram, base, &state.guard, state.control.frames, at, v);
+    let physical = place(ram, base, state, at);
+    put_at(ram, base, state, at, physical, v);
+}
+
+/// Writes a byte of the guest's, whose address has this physical place.
+#[tactic(auto, unfolding(paging::specs::Space::with_byte))]
+fn put_at<B: Kept>(ram: &mut Ram, base: &B, state: &StepState, at: u32, physical: u32, v: u8)
+    requires sound { IsSoundOver B.Kept base.now ram.old state.now }
+    requires place { physical ≡ place (space_at (B.entries base.now) ram.old state.now) at }
+    requires within { physical < 4096 * state.now.control.frames }
+    requires no_text { is_text (mode_of state.now.guard) (physical / 4096) ≡ false }
+    ensures sound { IsSoundOver B.Kept base.now ram.new state.now }
+    ensures hidden { hidden state.now.guard state.now.control.frames ram.new ≡ hidden state.now.guard state.now.control.frames ram.old }
+    ensures after { space_at (B.entries base.now) ram.new state.now ≡ with_ram (space_at (B.entries base.now) ram.old state.now)
+        (with_byte (space_at (B.entries base.now) ram.old state.now) (space_at (B.entries base.now) ram.old state.now).ram at v) }
+{
+    store(ram, base, &state.guard, state.control.frames, physical, v);
 }
 
 /// Writes a byte below the floor, which changes no kept translation.
@@ -212,6 +257,46 @@ fn store<B: Kept>(ram: &mut Ram, base: &B, guard: &Guard, frames: u32, place: u3
     write(ram, guard, frames, place, v);
 }
 
+/// Writes a number of four bytes that lie in one page.
+#[tactic(auto, unfolding(paging::specs::Space::written, paging::specs::Space::with_byte, paging::specs::Space::place))]
+fn save_in_page<B: Kept>(ram: &mut Ram, base: &B, state: &StepState, at: u32, value: u32)
+    requires sound { IsSoundOver B.Kept base.now ram.old state.now }
+    requires found { HasEntry (space_at (B.entries base.now) ram.old state.now).set at }
+    requires apart { IsApartAt (mode_of state.now.guard) (space_at (B.entries base.now) ram.old state.now).set at }
+    requires one { at % 4096 ≤ 4092 }
+    ensures sound { IsSoundOver B.Kept base.now ram.new state.now }
+    ensures hidden { hidden state.now.guard state.now.control.frames ram.new ≡ hidden state.now.guard state.now.control.frames ram.old }
+    ensures saved { space_at (B.entries base.now) ram.new state.now
+        ≡ saved (space_at (B.entries base.now) ram.old state.now) at Size.Long value }
+{
+    let physical = place(ram, base, state, at);
+    put_at(ram, base, state, at, physical, (value % 256) as u8);
+    put_at(
+        ram,
+        base,
+        state,
+        at + 1,
+        physical + 1,
+        (value / 256 % 256) as u8,
+    );
+    put_at(
+        ram,
+        base,
+        state,
+        at + 2,
+        physical + 2,
+        (value / 65536 % 256) as u8,
+    );
+    put_at(
+        ram,
+        base,
+        state,
+        at + 3,
+        physical + 3,
+        (value / 16777216) as u8,
+    );
+}
+
 /// Writes where the last touch was ready for a write.
 #[tactic(auto, unfolding(paging::specs::Space::written, paging::specs::Space::with_byte, paging::specs::Space::place))]
 pub fn save<B: Kept>(ram: &mut Ram, base: &B, state: &StepState, at: u32, size: Size, value: u32)
@@ -229,6 +314,10 @@ pub fn save<B: Kept>(ram: &mut Ram, base: &B, state: &StepState, at: u32, size: 
             put_byte(ram, base, state, at + 1, (value / 256 % 256) as u8);
         }
         Size::Long => {
+            if at % 4096 <= 4092 {
+                save_in_page(ram, base, state, at, value);
+                return;
+            }
             put_byte(ram, base, state, at, (value % 256) as u8);
             put_byte(ram, base, state, at + 1, (value / 256 % 256) as u8);
             put_byte(ram, base, state, at + 2, (value / 65536 % 256) as u8);
