@@ -20,21 +20,21 @@ use step_mem::Changes;
 use xlate_buffer::Cache;
 
 /// The end of a step that concluded: what it changed of the translations is kept, the count rises, and the board advances.
-pub fn finish_step<C: Cache>(machine: &mut Bare<C>, cpu: Cpu, changes: &Changes, dropped: Dropped)
+pub fn finish_step<C: Cache>(machine: &mut Bare<C>, cpu: &Cpu, changes: &Changes, dropped: Dropped)
     requires bound { machine.old.step < 2 ^ 40 }
     requires ram { 4096 * machine.old.frames ≤ length machine.old.ram }
     requires within { AreWithin machine.old.frames (changed (C.entries machine.old.kept.cache) changes.now) }
     requires page { IsDropped dropped }
     ensures goes { (whats : List Shown) (completed : Option Completed) (s : Space) → s.ram ≡ machine.old.ram
         → s.set ≡ dropping dropped (changed (C.entries machine.old.kept.cache) changes.now)
-        → Goes (concluded whats completed (state_of C.entries machine.old) cpu machine.old.board s)
+        → Goes (concluded whats completed (state_of C.entries machine.old) cpu.now machine.old.board s)
         machine.old.step whats (C.is_exact machine.old.kept.cache) (state_of C.entries machine.new) }
     ensures goes_on { GoesOn C.entries C.is_exact machine.old machine.new }
     ensures count { machine.new.step ≡ machine.old.step + 1 }
 {
     settle(&mut machine.kept, changes);
     drop_from(&mut machine.kept, dropped);
-    machine.cpu = cpu;
+    machine.cpu = *cpu;
     machine.step += 1;
     machine.board.advance(1);
 }

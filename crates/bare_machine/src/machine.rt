@@ -7,7 +7,7 @@ ghost use Rattle.step_mem.specs.Changes.{AreWithin, changed};
 ghost use Rattle.step_mem.specs.Sound.{space_at};
 ghost use Rattle.machine_model.specs.State.{State};
 ghost use Rattle.machine_model.specs.Step.{stepped};
-ghost use Rattle.machine_step.specs.Worked.{ComesTo, IsDropped};
+ghost use Rattle.machine_step.specs.Worked.{ComesTo, IsDropped, answer_of};
 ghost use Rattle.bare_machine.specs.Machine.{bare, state_of, own_step, StepAs, IsKept, GoesOn};
 
 use crate::finish::finish_step;
@@ -60,13 +60,14 @@ pub fn first_state() -> StepState<'static> {
     )
 }
 
-/// One step, or the stop that it meets. Its state takes the place of the step's before. After a stop the machine must
-/// not go on.
+/// One step, or the stop that it meets. Its state and what it comes to take the places of the step's before. After a stop
+/// the machine must not go on.
 #[tactic(auto, unfolding(machine_model::specs::Step::step_of))]
 pub fn step<C: Cache>(
     machine: &mut Bare<C>,
     script: &Script,
     state: &mut StepState<'static>,
+    worked: &mut Worked,
 ) -> Result<Seen, Stop>
     requires script { is_script script.now.list ≡ true }
     requires kept { IsKept machine.old.frames (state_of C.entries machine.old) }
@@ -80,8 +81,9 @@ pub fn step<C: Cache>(
     ensures count { MatchResult result (λ _. machine.new.step ≡ machine.old.step + 1) (λ _. machine.new.step ≡ machine.old.step) }
 {
     machine.board.begin(script, machine.step);
+    worked.cpu = machine.cpu;
     let result = tried(
-        &machine.cpu,
+        worked,
         &mut machine.board,
         &mut machine.ram,
         &machine.kept,
@@ -89,8 +91,8 @@ pub fn step<C: Cache>(
         state,
     );
     match result {
-        Ok(worked) => {
-            finish_step(machine, worked.cpu, &state.changes, worked.dropped);
+        Ok(()) => {
+            finish_step(machine, &worked.cpu, &state.changes, worked.dropped);
             Ok(worked.seen)
         }
         Err(stop) => Err(stop),
@@ -99,24 +101,24 @@ pub fn step<C: Cache>(
 
 /// What a step comes to, by no rules and over no text that is kept from the guest. Its translations are still to be kept.
 fn tried<C: Cache>(
-    cpu: &Cpu,
+    worked: &mut Worked,
     board: &mut Board,
     ram: &mut Ram,
     kept: &Cached<C>,
     frames: u32,
     state: &mut StepState<'static>,
-) -> Result<Worked, Stop>
+) -> Result<(), Stop>
     requires ram { 4096 * frames ≤ length ram.old }
     requires within { AreWithin frames (C.entries kept.now.cache) }
     ensures ram { 4096 * frames ≤ length ram.new }
     ensures size { length ram.new ≡ length ram.old }
     ensures within { AreWithin frames (changed (C.entries kept.now.cache) state.new.changes) }
-    ensures page { IfOk result (λ w. IsDropped w.dropped) }
+    ensures page { IfOk (answer_of result worked.new) (λ w. IsDropped w.dropped) }
     ensures memory { (space_at (λ _. C.entries kept.now.cache) ram.new state.new).ram ≡ ram.new }
     ensures comes { (image : Image) (script : Events) (b : State) → ComesTo
         (stepped (bare image script frames)
-        (record b { cpu = cpu.now; ram = ram.old; set = C.entries kept.now.cache; board = board.old }))
-        b result board.new (space_at (λ _. C.entries kept.now.cache) ram.new state.new) }
+        (record b { cpu = worked.old.cpu; ram = ram.old; set = C.entries kept.now.cache; board = board.old }))
+        b (answer_of result worked.new) board.new (space_at (λ _. C.entries kept.now.cache) ram.new state.new) }
 {
     let _len = ram.len();
     let guard = Guard {
@@ -124,5 +126,5 @@ fn tried<C: Cache>(
         own: NO_BYTES,
     };
     let rules = Rules { image: None };
-    machine_step::step_again(&rules, cpu, board, ram, kept, frames, guard, state)
+    machine_step::step_again(&rules, worked, board, ram, kept, frames, guard, state)
 }

@@ -73,6 +73,10 @@ second_owned eip insn len more t u same h =
     ap (λ (n : ℕ). Ok (begins.Insn insn len, owns_back (next_page eip) n t)) (sym same)
     ∙ ap (λ (x : Space). Ok (begins.Insn insn len, x)) (sym h)
 
+-- bytes of two pages, one behind the other
+pub joined : (front more first both slice : List ℕ) → first ≡ [] ++ front → both ≡ first ++ more → slice ≡ both → slice ≡ front ++ more
+joined front more first both slice a b e = e ∙ (b ∙ ap (λ (l : List ℕ). l ++ more) a)
+
 -- what is kept from the guest goes by the text alone
 pub hidden_on : (old new : Guard) (k l : Control) (a b : List ℕ) → new.text ≡ old.text → l ≡ k → hidden new l.frames b ≡ hidden new l.frames a → hidden old k.frames b ≡ hidden old k.frames a
 hidden_on old new k l a b e f h = rw (f, e) at h

@@ -46,14 +46,12 @@ use Rattle.machine_model.specs.Instruction.{is_plain, done_plainly, instructed}
 use Rattle.machine_model.specs.Taken.{is_load, is_write, is_control_3}
 use Rattle.machine_model.proofs.AbleRows.{flags_tested}
 use Rattle.machine_model.proofs.Yielding.{Ends, Yields, then_yields, any_yields, gives_yields, if_yields, by_yields}
-use Rattle.machine_step.specs.declared.worked.Begun.{Begun}
-use Rattle.machine_step.specs.declared.worked.Begun.TheVariants as begun
 use Rattle.machine_step.specs.declared.worked.Completed.{Completed}
 use Rattle.machine_step.specs.declared.worked.Dropped.TheVariants as drops
 use Rattle.machine_step.specs.declared.worked.Seen.TheVariants as seen
 use Rattle.machine_step.specs.declared.worked.Worked.{Worked}
 use Rattle.machine_step.specs.Worked.{completed_of, completed_by, is_all}
-use Rattle.machine_step.specs.Roots.{RootsAs, RootsBegun, KeepsRoots, EndsWith, dropped_by, EffectRoots}
+use Rattle.machine_step.specs.Roots.{RootsAs, KeepsRoots, EndsWith, dropped_by, EffectRoots}
 
 pub if_ok_as : {T E : Type 0} (P Q : T → Type 0) (r : Result T E) → ((x : T) → P x → Q x) → IfOk r P → IfOk r Q
 if_ok_as P Q (Ok x) f h = f x h
@@ -98,10 +96,6 @@ ended_roots completed before after w h k =
 -- a hold is none of these registers
 pub unheld_roots : (cpu : Cpu) (w : Worked) → RootsAs (record cpu { held = false }) w → RootsAs cpu w
 unheld_roots cpu w h = record { through = h.through; load = h.load; all = h.all; page_size = h.page_size }
-
-pub unheld_begun : (cpu : Cpu) (x : Begun) → RootsBegun (record cpu { held = false }) x → RootsBegun cpu x
-unheld_begun cpu (begun.Worked worked) h = unheld_roots cpu worked h
-unheld_begun cpu (begun.Fetched insn len by) h = tt
 
 -- ---- deliveries
 

@@ -1,17 +1,13 @@
 -- A step's memory over a keeper of translations, and where a step begins, by what the keeper shows.
 use Rattle.std.specs.Prelude.{ℕ, List, ◌==◌}
 use Rattle.descriptors.specs.declared.cpu.Cpu.{Cpu}
-use Rattle.ia32_decode.specs.declared.answer.Decoded.{Decoded}
 use Rattle.paging.specs.Space.{Space}
-use Rattle.paging.specs.Work.{Outcome}
 use Rattle.step_mem.specs.declared.guard.Guard.{Guard}
 use Rattle.step_mem.specs.declared.kept.Kept as kept
 use Rattle.step_mem.specs.declared.state.StepState.{StepState}
 use Rattle.step_mem.specs.Guard.{mode_of}
 use Rattle.step_mem.specs.Shown.{shown}
 use Rattle.step_mem.specs.Sound.{space_at}
-use Rattle.sys_exec.specs.declared.effect.Refusal.{Refusal}
-use Rattle.machine_model.specs.Instruction.{fetched}
 use Rattle.machine_model.specs.State.{Setting, State, space_at_start}
 use Rattle.machine_model.specs.Step as steps
 use Rattle.machine_model.specs.UsedPages.{Uses}
@@ -35,10 +31,6 @@ begins_over g base ram guard frames b = record b { ram = shown guard frames ram;
 -- the step from a state, in a memory of which nothing was used
 abbrev pub stepped_in : Setting → State → Space → steps.Result
 stepped_in m b s = steps.by_interrupt m (steps.interrupt_of b.cpu b.board) (steps.unheld b) s
-
--- the instruction at EIP
-abbrev pub read_next : Cpu → Space → Outcome Refusal Decoded
-read_next cpu s = fetched (cpu.cpl == 3) cpu.regs.eip s
 
 -- what a part of a step used is as at this processor's level
 abbrev pub UsesBy : Cpu → Space → Space → Type 0

@@ -5,8 +5,6 @@ use Rattle.descriptors.specs.declared.cpu.Cpu.{Cpu}
 use Rattle.sys_exec.specs.declared.effect.SysEffect.{SysEffect}
 use Rattle.sys_exec.specs.declared.effect.SysEffect.TheVariants as effects
 use Rattle.machine_model.specs.Taken.{is_load}
-use Rattle.machine_step.specs.declared.worked.Begun.{Begun}
-use Rattle.machine_step.specs.declared.worked.Begun.TheVariants as begun
 use Rattle.machine_step.specs.declared.worked.Completed.{Completed}
 use Rattle.machine_step.specs.declared.worked.Dropped.{Dropped}
 use Rattle.machine_step.specs.declared.worked.Dropped.TheVariants as dropped
@@ -20,11 +18,6 @@ pub record RootsAs (before : Cpu) (w : Worked) : Type 0 where
   pub load : is_load (completed_by w.completed) ≡ true → (is_all w.dropped ≡ true) × (w.cpu.cr0 ≡ before.cr0) × (w.cpu.cr4 ≡ before.cr4)
   pub all : is_all w.dropped ≡ true → is_load (completed_by w.completed) ≡ false → (pse_of w.cpu ≡ pse_of before → ⊥)
   pub page_size : (pse_of w.cpu ≡ pse_of before → ⊥) → is_all w.dropped ≡ true
-
--- so where a step went as it began
-abbrev pub RootsBegun : Cpu → Begun → Type 0
-RootsBegun before (begun.Worked worked) = RootsAs before worked
-RootsBegun before (begun.Fetched insn len cpu) = Unit {0}
 
 -- CR0, CR3 and CR4 are as before
 pub record KeepsRoots (before after : Cpu) : Type 0 where

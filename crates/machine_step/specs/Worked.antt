@@ -1,8 +1,10 @@
 -- What one step comes to, as a value, in the words of the definitions.
-use Rattle.std.specs.Prelude.{◌≡◌, ◌<◌, ◌^◌, Bool, true, false, List, [], ◌∷◌, Option, Some, None, Result, Ok, Err}
+use Rattle.std.specs.Prelude.{◌≡◌, ◌==◌, ◌<◌, ◌^◌, Bool, true, false, List, [], ◌∷◌, Option, Some, None, Result, Ok, Err}
 use Rattle.std.specs.FinMap.{FinMap, remove, empty}
 use Rattle.std.specs.Ordering.{nat_cmp}
+use Rattle.ia32_types.specs.declared.insn.Insn.{Insn}
 use Rattle.ia32_types.specs.declared.stop.Stop.{Stop}
+use Rattle.descriptors.specs.declared.cpu.Cpu.{Cpu}
 use Rattle.paging.specs.declared.entry.Entry.{Entry}
 use Rattle.paging.specs.Space.{Space}
 use Rattle.paging.specs.Uses.{without_dir}
@@ -28,6 +30,10 @@ completed_of done = record { insn = done.insn; eip = done.eip; user = done.user 
 abbrev pub completed_by : Option Completed → Option steps.Completed
 completed_by None = None
 completed_by (Some done) = Some (completed_of done)
+
+-- an instruction that completes, which this processor began
+abbrev pub done_by : Insn → Cpu → Completed
+done_by insn cpu = record { insn = insn; eip = cpu.regs.eip; user = cpu.cpl == 3 }
 
 -- what leaves the set at the end of a step
 abbrev pub dropping : Dropped → FinMap nat_cmp Entry → FinMap nat_cmp Entry
@@ -57,3 +63,8 @@ went_as b worked board s =
 abbrev pub ComesTo : steps.Result → State → Result Worked Stop → Board → Space → Type 0
 ComesTo result b (Ok worked) board s = result ≡ went_as b worked board s
 ComesTo result b (Err stop) board s = result ≡ steps.Halts stop
+
+-- the answer, where a step that went is told in its place
+abbrev pub answer_of : Result (Unit {0}) Stop → Worked → Result Worked Stop
+answer_of (Ok done) worked = Ok worked
+answer_of (Err stop) worked = Err stop

@@ -12,7 +12,7 @@ ghost use Rattle.machine_model.specs.UsedPages.{Uses, AtRefusal};
 ghost use Rattle.machine_step.specs.Over.{space, UsesBy};
 ghost use Rattle.machine_step.specs.Roots.{RootsAs, EndsWith};
 ghost use Rattle.machine_step.specs.Ruled.{IsRuled};
-ghost use Rattle.machine_step.specs.Worked.{ComesTo, IsDropped, completed_of};
+ghost use Rattle.machine_step.specs.Worked.{ComesTo, IsDropped, answer_of, completed_of, done_by};
 
 use crate::rules::{Rules, entered};
 use crate::worked::{Completed, Seen, Worked};
@@ -20,7 +20,7 @@ use board::Board;
 use descriptors::Cpu;
 use event_entry::{Kind, NotDelivered};
 use guest_ram::Ram;
-use ia32_types::Stop;
+use ia32_types::{Insn, Stop};
 use machine_model::works_use;
 use run_trace::What;
 use step_exec::deliver_in;
@@ -31,31 +31,38 @@ use sys_exec::{Refusal, past};
 #[tactic(auto, unfolding(machine_model::specs::Step::interrupted))]
 pub fn deliver<B: Kept>(
     rules: &Rules,
-    cpu: &Cpu,
+    worked: &mut Worked,
     board: &mut Board,
     ram: &mut Ram,
     kept: &B,
     state: &mut StepState,
     vector: u8,
-) -> Result<Worked, Stop>
+) -> Result<(), Stop>
     requires pending { vector_of board.old ≡ Some vector }
     requires sound { IsSoundOver B.Kept kept.now ram.old state.old }
     requires pages { state.old.pages ≤ 48 }
     ensures sound { IsSoundOver B.Kept kept.now ram.new state.new }
-    ensures uses { OnOk result (UsesBy cpu.now (space B.Kept kept.now ram.old state.old) (space B.Kept kept.now ram.new state.new)) }
+    ensures uses { OnOk result (UsesBy worked.old.cpu (space B.Kept kept.now ram.old state.old) (space B.Kept kept.now ram.new state.new)) }
     ensures step { (m : Setting) (b : Whole) → IsRuled m rules.now → ComesTo
-        (interrupted m (record b { cpu = cpu.now; board = board.old }) vector (space B.Kept kept.now ram.old state.old))
-        b result board.new (space B.Kept kept.now ram.new state.new) }
+        (interrupted m (record b { cpu = worked.old.cpu; board = board.old }) vector (space B.Kept kept.now ram.old state.old))
+        b (answer_of result worked.new) board.new (space B.Kept kept.now ram.new state.new) }
     ensures board { board.new ≡ acknowledged board.old }
-    ensures dropped { IfOk result (λ w. IsDropped w.dropped) }
-    ensures roots { IfOk result (RootsAs cpu.now) }
+    ensures dropped { IfOk (answer_of result worked.new) (λ w. IsDropped w.dropped) }
+    ensures roots { IfOk (answer_of result worked.new) (RootsAs worked.old.cpu) }
     ensures stays { StaysIn state.old state.new ram.old ram.new }
 {
     works_use();
     let _vector = board.acknowledge();
-    let mut after = *cpu;
-    match deliver_in(&mut after, ram, kept, state, vector, Kind::External, None) {
-        Ok(()) => entered(rules, Seen::One(What::Irq(vector)), None, after),
+    match deliver_in(
+        &mut worked.cpu,
+        ram,
+        kept,
+        state,
+        vector,
+        Kind::External,
+        None,
+    ) {
+        Ok(()) => entered(rules, Seen::One(What::Irq(vector)), None, worked),
         Err(refused) => Err(stop_of(refused)),
     }
 }
@@ -63,38 +70,52 @@ pub fn deliver<B: Kept>(
 /// INT enters the handler with the EIP behind it. Where the gate may not be used at this level, #GP is raised at the instruction.
 pub fn enter<B: Kept>(
     rules: &Rules,
-    cpu: &Cpu,
+    insn: &Insn,
+    len: u8,
+    before: &Cpu,
+    worked: &mut Worked,
     ram: &mut Ram,
     kept: &B,
     state: &mut StepState,
-    completed: Completed,
-    len: u8,
     vector: u8,
-) -> Result<Worked, Stop>
+) -> Result<(), Stop>
     requires sound { IsSoundOver B.Kept kept.now ram.old state.old }
     requires pages { state.old.pages ≤ 32 }
-    requires no_load { is_load (Some (completed_of completed)) ≡ false }
+    requires no_load { is_load (Some (completed_of (done_by insn.now before.now))) ≡ false }
     ensures sound { IsSoundOver B.Kept kept.now ram.new state.new }
-    ensures uses { OnOk result (UsesBy cpu.now (space B.Kept kept.now ram.old state.old) (space B.Kept kept.now ram.new state.new)) }
+    ensures uses { OnOk result (UsesBy before.now (space B.Kept kept.now ram.old state.old) (space B.Kept kept.now ram.new state.new)) }
     ensures step { (m : Setting) (b : Whole) → IsRuled m rules.now → ComesTo
-        (interrupts_by m (record b { cpu = cpu.now }) (completed_of completed) len vector (space B.Kept kept.now ram.old state.old))
-        b result b.board (space B.Kept kept.now ram.new state.new) }
-    ensures dropped { IfOk result (λ w. IsDropped w.dropped) }
-    ensures roots { IfOk result (RootsAs cpu.now) }
+        (interrupts_by m (record b { cpu = before.now }) (completed_of (done_by insn.now before.now)) len vector
+        (space B.Kept kept.now ram.old state.old))
+        b (answer_of result worked.new) b.board (space B.Kept kept.now ram.new state.new) }
+    ensures dropped { IfOk (answer_of result worked.new) (λ w. IsDropped w.dropped) }
+    ensures roots { IfOk (answer_of result worked.new) (RootsAs before.now) }
     ensures stays { StaysIn state.old state.new ram.old ram.new }
 {
     works_use();
-    let mut after = past(cpu, len);
-    match deliver_in(&mut after, ram, kept, state, vector, Kind::Soft, None) {
-        Ok(()) => entered(rules, Seen::Nothing, Some(completed), after),
+    worked.cpu = past(before, len);
+    match deliver_in(&mut worked.cpu, ram, kept, state, vector, Kind::Soft, None) {
+        Ok(()) => {
+            let completed = Completed::of(insn, before);
+            entered(rules, Seen::Nothing, Some(completed), worked)
+        }
         Err(NotDelivered::Privilege) => {
-            raise(rules, *cpu, ram, kept, state, 13, 8 * u32::from(vector) + 2)
+            worked.cpu = *before;
+            raise(
+                rules,
+                worked,
+                ram,
+                kept,
+                state,
+                13,
+                8 * u32::from(vector) + 2,
+            )
         }
         Err(NotDelivered::Stop(stop)) => Err(stop),
     }
 }
 
-/// A fetch is denied or stops.
+/// A fetch by this processor is denied or stops.
 pub fn refuse<B: Kept>(
     rules: &Rules,
     cpu: &Cpu,
@@ -118,13 +139,41 @@ pub fn refuse<B: Kept>(
     ensures guard { state.new.guard ≡ state.old.guard }
     ensures hidden { hidden state.old.guard state.old.control.frames ram.new ≡ hidden state.old.guard state.old.control.frames ram.old }
 {
+    let mut worked = Worked::at(cpu);
+    match refuse_at(rules, &mut worked, ram, kept, state, refusal) {
+        Ok(()) => Ok(worked),
+        Err(stop) => Err(stop),
+    }
+}
+
+/// The same, where the step is told in its place.
+pub fn refuse_at<B: Kept>(
+    rules: &Rules,
+    worked: &mut Worked,
+    ram: &mut Ram,
+    kept: &B,
+    state: &mut StepState,
+    refusal: Refusal,
+) -> Result<(), Stop>
+    requires sound { IsSoundOver B.Kept kept.now ram.old state.old }
+    requires pages { state.old.pages ≤ 48 }
+    ensures sound { IsSoundOver B.Kept kept.now ram.new state.new }
+    ensures uses { OnOk result (UsesBy worked.old.cpu (space B.Kept kept.now ram.old state.old) (space B.Kept kept.now ram.new state.new)) }
+    ensures goes_on { (s : Space) → AtRefusal (worked.old.cpu.cpl == 3) s refusal (space B.Kept kept.now ram.old state.old)
+        → OnOk result (UsesBy worked.old.cpu s (space B.Kept kept.now ram.new state.new)) }
+    ensures step { (m : Setting) (b : Whole) → IsRuled m rules.now → ComesTo
+        (after_refusal m (record b { cpu = worked.old.cpu }) refusal (space B.Kept kept.now ram.old state.old))
+        b (answer_of result worked.new) b.board (space B.Kept kept.now ram.new state.new) }
+    ensures dropped { IfOk (answer_of result worked.new) (λ w. IsDropped w.dropped) }
+    ensures roots { IfOk (answer_of result worked.new) (RootsAs worked.old.cpu) }
+    ensures stays { StaysIn state.old state.new ram.old ram.new }
+{
     match refusal {
         Refusal::Stop(stop) => Err(stop),
-        Refusal::Raise { vector, code } => raise(rules, *cpu, ram, kept, state, vector, code),
+        Refusal::Raise { vector, code } => raise(rules, worked, ram, kept, state, vector, code),
         Refusal::Fault { code, at } => {
-            let mut cpu = *cpu;
-            cpu.cr2 = at;
-            raise(rules, cpu, ram, kept, state, 14, code)
+            worked.cpu.cr2 = at;
+            raise(rules, worked, ram, kept, state, 14, code)
         }
     }
 }
@@ -132,29 +181,28 @@ pub fn refuse<B: Kept>(
 /// Delivers a raised vector, from this processor, whose EIP is that of the instruction.
 pub fn raise<B: Kept>(
     rules: &Rules,
-    cpu: Cpu,
+    worked: &mut Worked,
     ram: &mut Ram,
     kept: &B,
     state: &mut StepState,
     vector: u8,
     code: u32,
-) -> Result<Worked, Stop>
+) -> Result<(), Stop>
     requires sound { IsSoundOver B.Kept kept.now ram.old state.old }
     requires pages { state.old.pages ≤ 48 }
     ensures sound { IsSoundOver B.Kept kept.now ram.new state.new }
     ensures uses { (user : Bool) → OnOk result (Uses user
         (space B.Kept kept.now ram.old state.old) (space B.Kept kept.now ram.new state.new)) }
     ensures step { (m : Setting) (b : Whole) → IsRuled m rules.now → ComesTo
-        (raised m b cpu vector code (space B.Kept kept.now ram.old state.old))
-        b result b.board (space B.Kept kept.now ram.new state.new) }
-    ensures dropped { IfOk result (λ w. IsDropped w.dropped) }
-    ensures ends { IfOk result (EndsWith None cpu) }
+        (raised m b worked.old.cpu vector code (space B.Kept kept.now ram.old state.old))
+        b (answer_of result worked.new) b.board (space B.Kept kept.now ram.new state.new) }
+    ensures dropped { IfOk (answer_of result worked.new) (λ w. IsDropped w.dropped) }
+    ensures ends { IfOk (answer_of result worked.new) (EndsWith None worked.old.cpu) }
     ensures stays { StaysIn state.old state.new ram.old ram.new }
 {
     works_use();
-    let mut after = cpu;
     match deliver_in(
-        &mut after,
+        &mut worked.cpu,
         ram,
         kept,
         state,
@@ -162,7 +210,7 @@ pub fn raise<B: Kept>(
         Kind::Raised,
         code_of(vector, code),
     ) {
-        Ok(()) => entered(rules, Seen::Nothing, None, after),
+        Ok(()) => entered(rules, Seen::Nothing, None, worked),
         Err(refused) => Err(stop_of(refused)),
     }
 }

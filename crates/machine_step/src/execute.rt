@@ -17,72 +17,71 @@ use step_exec::{plain, sys_in};
 use step_mem::{Kept, StepState};
 use sys_exec::{Refusal, SysEffect};
 
-/// Does an instruction that some bytes spell, and answers with its effect and the processor afterwards.
+/// Does an instruction that some bytes spell, and answers with its effect. Where it raises or stops, only CR2 may have
+/// changed of the processor.
 #[tactic(auto, unfolding(machine_model::specs::Instruction::instructed))]
 pub fn execute<B: Kept>(
     insn: &Insn,
     len: u8,
-    cpu: &Cpu,
+    cpu: &mut Cpu,
     ram: &mut Ram,
     kept: &B,
     state: &mut StepState,
-) -> (SysEffect, Cpu)
+) -> SysEffect
     requires spelled { (bytes : List ℕ) × Spells bytes insn.now }
     requires sound { IsSoundOver B.Kept kept.now ram.old state.old }
     requires room { state.old.pages ≤ 32 }
     ensures sound { IsSoundOver B.Kept kept.now ram.new state.new }
-    ensures told { told cpu.now (instructed insn.now len cpu.now (space B.Kept kept.now ram.old state.old))
-        ≡ (result.0, result.1, space B.Kept kept.now ram.new state.new) }
+    ensures told { told cpu.old (instructed insn.now len cpu.old (space B.Kept kept.now ram.old state.old))
+        ≡ (result, cpu.new, space B.Kept kept.now ram.new state.new) }
     ensures pages { state.new.pages ≤ state.old.pages + 16 }
     ensures stays { StaysIn state.old state.new ram.old ram.new }
-    ensures asked { IsAsked result.0 }
+    ensures asked { IsAsked result }
 {
     if is_plain(insn) {
         return execute_plain(insn, len, cpu, ram, kept, state);
     }
-    let mut after = *cpu;
-    let effect = sys_in(insn, len, &mut after, ram, kept, state);
-    (effect, after)
+    sys_in(insn, len, cpu, ram, kept, state)
 }
 
 // An insensitive instruction.
 fn execute_plain<B: Kept>(
     insn: &Insn,
     len: u8,
-    cpu: &Cpu,
+    cpu: &mut Cpu,
     ram: &mut Ram,
     kept: &B,
     state: &mut StepState,
-) -> (SysEffect, Cpu)
+) -> SysEffect
     requires spelled { (bytes : List ℕ) × Spells bytes insn.now }
     requires plain { is_plain insn.now.op ≡ true }
     requires sound { IsSoundOver B.Kept kept.now ram.old state.old }
     requires room { state.old.pages ≤ 32 }
     ensures sound { IsSoundOver B.Kept kept.now ram.new state.new }
-    ensures told { told cpu.now (done_plainly (executed insn.now len cpu.now (space B.Kept kept.now ram.old state.old)))
-        ≡ (result.0, result.1, space B.Kept kept.now ram.new state.new) }
+    ensures told { told cpu.old (done_plainly (executed insn.now len cpu.old (space B.Kept kept.now ram.old state.old)))
+        ≡ (result, cpu.new, space B.Kept kept.now ram.new state.new) }
     ensures pages { state.new.pages ≤ state.old.pages + 16 }
     ensures stays { StaysIn state.old state.new ram.old ram.new }
-    ensures asked { IsAsked result.0 }
+    ensures asked { IsAsked result }
 {
     match plain(insn, len, cpu, ram, kept, state) {
-        Ok(after) => (SysEffect::Next, after),
-        Err(refusal) => refused(*cpu, refusal),
+        Ok(()) => SysEffect::Next,
+        Err(refusal) => refused(cpu, refusal),
     }
 }
 
 /// What is not done raises a vector or stops. A page fault leaves its address in CR2.
-pub fn refused(cpu: Cpu, refusal: Refusal) -> (SysEffect, Cpu)
-    ensures told { (s : Space) → told_refusal cpu refusal s ≡ (result.0, result.1, s) }
-    ensures asked { IsAsked result.0 }
+pub fn refused(cpu: &mut Cpu, refusal: Refusal) -> SysEffect
+    ensures told { (s : Space) → told_refusal cpu.old refusal s ≡ (result, cpu.new, s) }
+    ensures asked { IsAsked result }
 {
     match refusal {
-        Refusal::Fault { code, at } => (
-            SysEffect::Raise { vector: 14, code },
-            Cpu { cr2: at, ..cpu },
-        ),
-        Refusal::Raise { vector, code } => (SysEffect::Raise { vector, code }, cpu),
-        Refusal::Stop(stop) => (SysEffect::Stop(stop), cpu),
+        Refusal::Fault { code, at } => {
+            cpu.cr2 = at;
+            SysEffect::Raise { vector: 14, code }
+        }
+        Refusal::Raise { vector, code } => SysEffect::Raise { vector, code },
+        Refusal::Stop(stop) => SysEffect::Stop(stop),
     }
 }
 

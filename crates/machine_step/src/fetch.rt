@@ -1,16 +1,18 @@
 //! Reading the instruction at a linear address.
 
-ghost use Rattle.std.specs.Prelude.{◌≡◌, ◌+◌, ◌*◌, ◌-◌, ◌/◌, ◌%◌, ◌<◌, ◌≤◌, ◌^◌, ◌++◌, [], length, List, ℕ, IfOk, OnOk, IfErr, IsSome, false};
-ghost use Rattle.std.specs.FinMap.{get};
-ghost use Rattle.paging.specs.Space.{place};
+ghost use Rattle.std.specs.Prelude.{◌≡◌, ◌+◌, ◌*◌, ◌-◌, ◌/◌, ◌%◌, ◌<◌, ◌≤◌, ◌^◌, ◌++◌, [], length, List, ℕ, IfOk, OnOk, IfErr};
+ghost use Rattle.ia32_decode.specs.Decoding.{decoded};
+ghost use Rattle.ia32_decode.specs.Front.{front_len};
+ghost use Rattle.ia32_decode.specs.Spelled.{IsSpelled};
 ghost use Rattle.paging.specs.Work.{Gives};
+ghost use Rattle.step_mem.specs.Changes.{HasEntry};
+ghost use Rattle.step_mem.specs.Pages.{bytes_from};
 ghost use Rattle.step_mem.specs.Shown.{hidden};
 ghost use Rattle.step_mem.specs.Sound.{IsSoundOver, StaysIn, FetchesIn};
 ghost use Rattle.machine_model.specs.Instruction.{fetching, fetched_on, fetched};
 ghost use Rattle.machine_model.specs.UsedPages.{Uses, AtRefusal};
 ghost use Rattle.machine_step.specs.Over.{space};
 ghost use Rattle.machine_step.specs.Fetches.{GivesAs};
-ghost use Rattle.ia32_decode.specs.Spelled.{IsSpelled};
 
 use arrayvec::ArrayVec;
 use guest_ram::Ram;
@@ -66,8 +68,9 @@ fn fetch_pages<B: Kept>(
     ensures pages { state.new.pages ≤ state.old.pages + 2 }
     ensures stays { FetchesIn state.old state.new ram.old ram.new }
 {
-    let mut front = fetching(ram, kept, state, user, at, front_len(at))?;
-    match decode(front.as_slice()) {
+    let front = front_len(at);
+    fetch_page(ram, kept, state, user, at, front)?;
+    match decode_page(ram, kept, state, at, front) {
         Decoded::Insn(insn, len) => {
             own_front(ram, kept, state, at, u32::from(len));
             Ok(Decoded::Insn(insn, len))
@@ -77,45 +80,42 @@ fn fetch_pages<B: Kept>(
             if at / 4096 == 1048575 {
                 return Err(Refusal::Stop(Stop::WrapAccess));
             }
-            fetch_on(ram, kept, state, user, at, &mut front)
+            fetch_on(ram, kept, state, user, at)
         }
     }
 }
 
-// With bytes of the second page too.
+// With bytes of the second page too, behind those that the first page has now.
 fn fetch_on<B: Kept>(
     ram: &mut Ram,
     kept: &B,
     state: &mut StepState,
     user: bool,
     at: u32,
-    front: &mut Bytes,
 ) -> Result<Decoded, Refusal>
     requires sound { IsSoundOver B.Kept kept.now ram.old state.old }
     requires room { state.old.pages ≤ 63 }
-    requires found { IsSome (get (space B.Kept kept.now ram.old state.old).set (at / 4096)) }
+    requires found { HasEntry (space B.Kept kept.now ram.old state.old).set at }
     requires not_last { at / 4096 < 1048575 }
-    requires few { length front.old.items ≤ 11 }
     ensures sound { IsSoundOver B.Kept kept.now ram.new state.new }
-    ensures fetched { Gives result (space B.Kept kept.now ram.new state.new) (fetched_on user at front.old.items
+    ensures fetched { Gives result (space B.Kept kept.now ram.new state.new)
+        (fetched_on user at (bytes_from (space B.Kept kept.now ram.old state.old) at (front_len at))
         (space B.Kept kept.now ram.old state.old)) }
     ensures spelled { IfOk result IsSpelled }
     ensures pages { state.new.pages ≤ state.old.pages + 1 }
     ensures stays { FetchesIn state.old state.new ram.old ram.new }
 {
-    own_front(ram, kept, state, at, front_len(at));
+    let mut bytes: Bytes = ArrayVec::new();
+    let front = front_len(at);
+    read_page(ram, kept, state, at, front, &mut bytes);
+    own_front(ram, kept, state, at, front);
     let next = at / 4096 * 4096 + 4096;
-    let more = fetching(ram, kept, state, user, next, LONGEST)?;
-    append(more.as_slice(), front);
-    match decode(front.as_slice()) {
+    fetch_page(ram, kept, state, user, next, LONGEST)?;
+    read_page(ram, kept, state, next, LONGEST, &mut bytes);
+    match decode(bytes.as_slice()) {
         Decoded::Insn(insn, len) => {
-            own_back(
-                ram,
-                kept,
-                state,
-                next,
-                u32::from(len).saturating_sub(front_len(at)),
-            );
+            let back = u32::from(len).saturating_sub(front);
+            own_back(ram, kept, state, next, back);
             Ok(Decoded::Insn(insn, len))
         }
         Decoded::Outside => Ok(Decoded::Outside),
@@ -123,40 +123,84 @@ fn fetch_on<B: Kept>(
     }
 }
 
-// Bytes of one page.
-#[tactic(auto, unfolding(machine_model::specs::Instruction::fetching))]
-fn fetching<B: Kept>(
+// Translates the page of a fetch.
+fn fetch_page<B: Kept>(
     ram: &mut Ram,
     kept: &B,
     state: &mut StepState,
     user: bool,
     at: u32,
     len: u32,
-) -> Result<Bytes, Refusal>
+) -> Result<(), Refusal>
     requires sound { IsSoundOver B.Kept kept.now ram.old state.old }
     requires room { state.old.pages ≤ 63 }
     requires some { 0 < len }
-    requires few { len ≤ 11 }
     requires one { at % 4096 + len ≤ 4096 }
     ensures sound { IsSoundOver B.Kept kept.now ram.new state.new }
-    ensures fetching { GivesAs (λ bytes. bytes.items) result (space B.Kept kept.now ram.new state.new)
-        (fetching user at len (space B.Kept kept.now ram.old state.old)) }
-    ensures count { IfOk result (λ bytes. length bytes.items ≡ len) }
-    ensures found { OnOk result (IsSome (get (space B.Kept kept.now ram.new state.new).set (at / 4096))) }
+    ensures fetching { GivesAs (λ _. bytes_from (space B.Kept kept.now ram.new state.new) at len) result
+        (space B.Kept kept.now ram.new state.new) (fetching user at len (space B.Kept kept.now ram.old state.old)) }
+    ensures found { OnOk result (HasEntry (space B.Kept kept.now ram.new state.new).set at) }
     ensures pages { state.new.pages ≤ state.old.pages + 1 }
     ensures stays { StaysIn state.old state.new ram.old ram.new }
 {
     match step_mem::fetch(ram, kept, state, at, len, user) {
-        Touch::Ready => {
-            let mut bytes: Bytes = ArrayVec::new();
-            let found = step_mem::bytes(ram, kept, state, at, len);
-            append(found.text, &mut bytes);
-            append(found.ram, &mut bytes);
-            Ok(bytes)
-        }
+        Touch::Ready => Ok(()),
         Touch::Fault { code, at } => Err(Refusal::Fault { code, at }),
         Touch::Stop(stop) => Err(Refusal::Stop(stop)),
     }
+}
+
+// What the bytes of a page begin with, from an address on.
+fn decode_page<B: Kept>(ram: &Ram, kept: &B, state: &StepState, at: u32, len: u32) -> Decoded
+    requires sound { IsSoundOver B.Kept kept.now ram.now state.now }
+    requires found { HasEntry (space B.Kept kept.now ram.now state.now).set at }
+    requires few { len ≤ 11 }
+    requires one { at % 4096 + len ≤ 4096 }
+    ensures exact { result ≡ decoded (bytes_from (space B.Kept kept.now ram.now state.now) at len) }
+    ensures spelled { IsSpelled result }
+{
+    let found = step_mem::bytes(ram, kept, state, at, len);
+    decode_pieces(found.text, found.ram)
+}
+
+// What bytes begin with that lie in two pieces, of which one is mostly empty.
+fn decode_pieces(front: &[u8], back: &[u8]) -> Decoded
+    requires few { length front.now + length back.now ≤ 11 }
+    ensures exact { result ≡ decoded (front.now ++ back.now) }
+    ensures spelled { IsSpelled result }
+{
+    if front.is_empty() {
+        return decode(back);
+    }
+    if back.is_empty() {
+        return decode(front);
+    }
+    decode_joined(front, back)
+}
+
+fn decode_joined(front: &[u8], back: &[u8]) -> Decoded
+    requires few { length front.now + length back.now ≤ 11 }
+    ensures exact { result ≡ decoded (front.now ++ back.now) }
+    ensures spelled { IsSpelled result }
+{
+    let mut bytes: Bytes = ArrayVec::new();
+    append(front, &mut bytes);
+    append(back, &mut bytes);
+    decode(bytes.as_slice())
+}
+
+// Puts the bytes of a page, from an address on, behind others.
+fn read_page<B: Kept>(ram: &Ram, kept: &B, state: &StepState, at: u32, len: u32, to: &mut Bytes)
+    requires sound { IsSoundOver B.Kept kept.now ram.now state.now }
+    requires found { HasEntry (space B.Kept kept.now ram.now state.now).set at }
+    requires one { at % 4096 + len ≤ 4096 }
+    requires room { length to.old.items + len ≤ 32 }
+    ensures bytes { to.new.items ≡ to.old.items ++ bytes_from (space B.Kept kept.now ram.now state.now) at len }
+    ensures len { length to.new.items ≡ length to.old.items + len }
+{
+    let found = step_mem::bytes(ram, kept, state, at, len);
+    append(found.text, to);
+    append(found.ram, to);
 }
 
 fn append(from: &[u8], to: &mut Bytes)

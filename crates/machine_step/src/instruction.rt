@@ -13,13 +13,13 @@ ghost use Rattle.machine_step.specs.Begun.{AtEffect};
 ghost use Rattle.machine_step.specs.Over.{space, UsesBy};
 ghost use Rattle.machine_step.specs.Roots.{RootsAs, EffectRoots};
 ghost use Rattle.machine_step.specs.Ruled.{IsRuled};
-ghost use Rattle.machine_step.specs.Worked.{ComesTo, IsDropped, completed_of};
+ghost use Rattle.machine_step.specs.Worked.{ComesTo, IsDropped, answer_of, completed_of, done_by};
 
 use crate::delivery::{enter, raise};
 use crate::execute::execute;
 use crate::ports::{read, write};
 use crate::rules::{Rules, ended};
-use crate::worked::{Completed, Dropped, Seen, Worked};
+use crate::worked::{Dropped, Seen, Worked};
 use board::Board;
 use descriptors::Cpu;
 use guest_ram::Ram;
@@ -29,7 +29,7 @@ use machine_model::works_use;
 use step_mem::{Kept, StepState};
 use sys_exec::SysEffect;
 
-/// Does the instruction that was fetched. INT and INT3 are deliveries.
+/// Does the instruction that was fetched, by this processor. INT and INT3 are deliveries.
 pub fn carry_out<B: Kept>(
     rules: &Rules,
     insn: &Insn,
@@ -55,24 +55,46 @@ pub fn carry_out<B: Kept>(
     ensures guard { state.new.guard ≡ state.old.guard }
     ensures hidden { hidden state.old.guard state.old.control.frames ram.new ≡ hidden state.old.guard state.old.control.frames ram.old }
 {
-    let completed = Completed {
-        insn: *insn,
-        eip: cpu.regs.eip,
-        user: cpu.cpl == 3,
-    };
+    let mut worked = Worked::at(cpu);
+    match carry_out_at(rules, insn, len, &mut worked, board, ram, kept, state) {
+        Ok(()) => Ok(worked),
+        Err(stop) => Err(stop),
+    }
+}
+
+/// The same, where the step is told in its place.
+pub fn carry_out_at<B: Kept>(
+    rules: &Rules,
+    insn: &Insn,
+    len: u8,
+    worked: &mut Worked,
+    board: &mut Board,
+    ram: &mut Ram,
+    kept: &B,
+    state: &mut StepState,
+) -> Result<(), Stop>
+    requires spelled { (bytes : List ℕ) × Spells bytes insn.now }
+    requires sound { IsSoundOver B.Kept kept.now ram.old state.old }
+    requires pages { state.old.pages ≤ 8 }
+    ensures sound { IsSoundOver B.Kept kept.now ram.new state.new }
+    ensures uses { OnOk result (UsesBy worked.old.cpu (space B.Kept kept.now ram.old state.old) (space B.Kept kept.now ram.new state.new)) }
+    ensures step { (m : Setting) (b : Whole) → IsRuled m rules.now → ComesTo
+        (by_decoded m (record b { cpu = worked.old.cpu; board = board.old }) (Decoded.Insn insn.now len)
+        (space B.Kept kept.now ram.old state.old))
+        b (answer_of result worked.new) board.new (space B.Kept kept.now ram.new state.new) }
+    ensures stopped { OnErr result (board.new ≡ board.old) }
+    ensures dropped { IfOk (answer_of result worked.new) (λ w. IsDropped w.dropped) }
+    ensures roots { IfOk (answer_of result worked.new) (RootsAs worked.old.cpu) }
+    ensures stays { StaysIn state.old state.new ram.old ram.new }
+{
+    let before = worked.cpu;
     match insn.op {
-        Op::Int => enter(
-            rules,
-            cpu,
-            ram,
-            kept,
-            state,
-            completed,
-            len,
-            (insn.imm % 256) as u8,
-        ),
-        Op::Int3 => enter(rules, cpu, ram, kept, state, completed, len, 3),
-        _ => perform(rules, insn, len, cpu, board, ram, kept, state, completed),
+        Op::Int => {
+            let vector = (insn.imm % 256) as u8;
+            enter(rules, insn, len, &before, worked, ram, kept, state, vector)
+        }
+        Op::Int3 => enter(rules, insn, len, &before, worked, ram, kept, state, 3),
+        _ => perform(rules, insn, len, &before, worked, board, ram, kept, state),
     }
 }
 
@@ -81,83 +103,85 @@ fn perform<B: Kept>(
     rules: &Rules,
     insn: &Insn,
     len: u8,
-    cpu: &Cpu,
+    before: &Cpu,
+    worked: &mut Worked,
     board: &mut Board,
     ram: &mut Ram,
     kept: &B,
     state: &mut StepState,
-    completed: Completed,
-) -> Result<Worked, Stop>
+) -> Result<(), Stop>
     requires spelled { (bytes : List ℕ) × Spells bytes insn.now }
     requires sound { IsSoundOver B.Kept kept.now ram.old state.old }
     requires pages { state.old.pages ≤ 8 }
-    requires insn { completed.insn ≡ insn.now }
+    requires same { worked.old.cpu ≡ before.now }
     ensures sound { IsSoundOver B.Kept kept.now ram.new state.new }
-    ensures uses { OnOk result (UsesBy cpu.now (space B.Kept kept.now ram.old state.old) (space B.Kept kept.now ram.new state.new)) }
+    ensures uses { OnOk result (UsesBy before.now (space B.Kept kept.now ram.old state.old) (space B.Kept kept.now ram.new state.new)) }
     ensures step { (m : Setting) (b : Whole) → IsRuled m rules.now → ComesTo
-        (after_instruction m (record b { cpu = cpu.now; board = board.old }) (completed_of completed)
-        (instructed insn.now len cpu.now (space B.Kept kept.now ram.old state.old)))
-        b result board.new (space B.Kept kept.now ram.new state.new) }
+        (after_instruction m (record b { cpu = before.now; board = board.old }) (completed_of (done_by insn.now before.now))
+        (instructed insn.now len before.now (space B.Kept kept.now ram.old state.old)))
+        b (answer_of result worked.new) board.new (space B.Kept kept.now ram.new state.new) }
     ensures stopped { OnErr result (board.new ≡ board.old) }
-    ensures dropped { IfOk result (λ w. IsDropped w.dropped) }
-    ensures roots { IfOk result (RootsAs cpu.now) }
+    ensures dropped { IfOk (answer_of result worked.new) (λ w. IsDropped w.dropped) }
+    ensures roots { IfOk (answer_of result worked.new) (RootsAs before.now) }
     ensures stays { StaysIn state.old state.new ram.old ram.new }
 {
     works_use();
-    let (effect, after) = execute(insn, len, cpu, ram, kept, state);
-    follow(
-        rules, cpu, effect, after, board, ram, kept, state, completed,
-    )
+    let effect = execute(insn, len, &mut worked.cpu, ram, kept, state);
+    follow(rules, insn, before, effect, worked, board, ram, kept, state)
 }
 
-/// What an instruction's effect comes to.
+/// What an instruction's effect comes to, which this processor began. The processor behind it stands in the step's place.
 fn follow<B: Kept>(
     rules: &Rules,
+    insn: &Insn,
     before: &Cpu,
     effect: SysEffect,
-    cpu: Cpu,
+    worked: &mut Worked,
     board: &mut Board,
     ram: &mut Ram,
     kept: &B,
     state: &mut StepState,
-    completed: Completed,
-) -> Result<Worked, Stop>
+) -> Result<(), Stop>
     requires sound { IsSoundOver B.Kept kept.now ram.old state.old }
     requires pages { state.old.pages ≤ 48 }
     requires asked { IsAsked effect }
-    requires roots { EffectRoots completed before.now effect cpu }
+    requires roots { EffectRoots (done_by insn.now before.now) before.now effect worked.old.cpu }
     ensures sound { IsSoundOver B.Kept kept.now ram.new state.new }
     ensures uses { (s : Space) → AtEffect (before.now.cpl == 3) s effect (space B.Kept kept.now ram.old state.old)
         → OnOk result (UsesBy before.now s (space B.Kept kept.now ram.new state.new)) }
     ensures step { (m : Setting) (b : Whole) → IsRuled m rules.now → ComesTo
-        (after_effect m (record b { cpu = before.now; board = board.old }) (completed_of completed) effect cpu
-        (space B.Kept kept.now ram.old state.old))
-        b result board.new (space B.Kept kept.now ram.new state.new) }
+        (after_effect m (record b { cpu = before.now; board = board.old }) (completed_of (done_by insn.now before.now)) effect
+        worked.old.cpu (space B.Kept kept.now ram.old state.old))
+        b (answer_of result worked.new) board.new (space B.Kept kept.now ram.new state.new) }
     ensures stopped { OnErr result (board.new ≡ board.old) }
-    ensures dropped { IfOk result (λ w. IsDropped w.dropped) }
-    ensures roots { IfOk result (RootsAs before.now) }
+    ensures dropped { IfOk (answer_of result worked.new) (λ w. IsDropped w.dropped) }
+    ensures roots { IfOk (answer_of result worked.new) (RootsAs before.now) }
     ensures stays { StaysIn state.old state.new ram.old ram.new }
 {
     match effect {
-        SysEffect::Next => ended(rules, completed, before, cpu),
-        SysEffect::Halted => completes(completed, cpu, Dropped::Nothing),
-        SysEffect::DropPage(page) => completes(completed, cpu, Dropped::Page(page)),
-        SysEffect::DropDir(index) => completes(completed, cpu, Dropped::Dir(index)),
-        SysEffect::DropAll => completes(completed, cpu, Dropped::All),
-        SysEffect::PortIn { port, wide } => read(cpu, board, completed, port, wide),
-        SysEffect::PortOut { port, wide, value } => write(cpu, board, completed, port, wide, value),
-        SysEffect::Raise { vector, code } => raise(rules, cpu, ram, kept, state, vector, code),
+        SysEffect::Next => ended(rules, insn, before, worked),
+        SysEffect::Halted => completes(insn, before, worked, Dropped::Nothing),
+        SysEffect::DropPage(page) => completes(insn, before, worked, Dropped::Page(page)),
+        SysEffect::DropDir(index) => completes(insn, before, worked, Dropped::Dir(index)),
+        SysEffect::DropAll => completes(insn, before, worked, Dropped::All),
+        SysEffect::PortIn { port, wide } => read(insn, before, worked, board, port, wide),
+        SysEffect::PortOut { port, wide, value } => {
+            write(insn, before, worked, board, port, wide, value)
+        }
+        SysEffect::Raise { vector, code } => raise(rules, worked, ram, kept, state, vector, code),
         SysEffect::Stop(stop) => Err(stop),
     }
 }
 
-fn completes(completed: Completed, cpu: Cpu, dropped: Dropped) -> Result<Worked, Stop>
-    ensures { result ≡ Ok (record { seen = Seen.Nothing; completed = Some completed; cpu = cpu; dropped = dropped }) }
+fn completes(insn: &Insn, before: &Cpu, worked: &mut Worked, dropped: Dropped) -> Result<(), Stop>
+    ensures went { result ≡ Ok tt }
+    ensures told { worked.new ≡ record {
+      seen = Seen.Nothing;
+      completed = Some (done_by insn.now before.now);
+      cpu = worked.old.cpu;
+      dropped = dropped;
+    } }
 {
-    Ok(Worked {
-        seen: Seen::Nothing,
-        completed: Some(completed),
-        cpu,
-        dropped,
-    })
+    worked.complete(insn, before, Seen::Nothing, dropped);
+    Ok(())
 }

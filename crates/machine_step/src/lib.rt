@@ -18,5 +18,5 @@ pub use instruction::carry_out;
 pub use laws::plain_divides;
 pub use resting::{is_resting, quiet_steps};
 pub use rules::Rules;
-pub use stepping::{begin, interrupt, start, step, step_again, step_in};
-pub use worked::{Begun, Completed, Dropped, Seen, Worked, items_of};
+pub use stepping::{begin, begin_again, interrupt, step, step_again, step_in};
+pub use worked::{Completed, Dropped, Seen, Worked, items_of};

@@ -7,38 +7,44 @@ ghost use Rattle.machine_model.specs.State.{State as Whole};
 ghost use Rattle.machine_model.specs.Instruction.{with_accumulator};
 ghost use Rattle.machine_model.specs.Step.{after_read, after_write, in_item, out_item};
 ghost use Rattle.machine_step.specs.Roots.{EndsWith};
-ghost use Rattle.machine_step.specs.Worked.{ComesTo, IsDropped, completed_of};
+ghost use Rattle.machine_step.specs.Worked.{ComesTo, IsDropped, answer_of, completed_of, done_by};
 
-use crate::worked::{Completed, Dropped, Seen, Worked};
+use crate::worked::{Dropped, Seen, Worked};
 use board::{Board, PortRead};
 use descriptors::Cpu;
 use ia32_exec::with_register;
-use ia32_types::{Did, Size, Stop};
+use ia32_types::{Did, Insn, Size, Stop};
 use run_trace::What;
 
 /// IN puts what the board gives into AL or EAX.
 pub fn read(
-    cpu: Cpu,
+    insn: &Insn,
+    before: &Cpu,
+    worked: &mut Worked,
     board: &mut Board,
-    completed: Completed,
     port: u16,
     wide: bool,
-) -> Result<Worked, Stop>
+) -> Result<(), Stop>
     ensures step { (b : Whole) (s : Space) → ComesTo
-        (after_read b (completed_of completed) cpu port wide s (port_read board.old port wide)) b result board.new s }
+        (after_read b (completed_of (done_by insn.now before.now)) worked.old.cpu port wide s (port_read board.old port wide))
+        b (answer_of result worked.new) board.new s }
     ensures board { board.new ≡ (port_read board.old port wide).1 }
     ensures stopped { OnErr result (board.new ≡ board.old) }
-    ensures dropped { IfOk result (λ w. IsDropped w.dropped) }
-    ensures ends { IfOk result (EndsWith (Some completed) cpu) }
+    ensures dropped { IfOk (answer_of result worked.new) (λ w. IsDropped w.dropped) }
+    ensures ends { IfOk (answer_of result worked.new) (EndsWith (Some (done_by insn.now before.now)) worked.old.cpu) }
 {
     match board.port_in(port, wide) {
         PortRead::Stop => Err(Stop::DeviceUse),
-        PortRead::Value(value) => Ok(Worked {
-            seen: Seen::One(in_item(port, wide, value)),
-            completed: Some(completed),
-            cpu: with_accumulator(wide, value, cpu),
-            dropped: Dropped::Nothing,
-        }),
+        PortRead::Value(value) => {
+            worked.cpu = with_accumulator(wide, value, worked.cpu);
+            worked.complete(
+                insn,
+                before,
+                Seen::One(in_item(port, wide, value)),
+                Dropped::Nothing,
+            );
+            Ok(())
+        }
     }
 }
 
@@ -66,21 +72,23 @@ fn in_item(port: u16, wide: bool, value: u32) -> What
 
 /// OUT of AL or EAX.
 pub fn write(
-    cpu: Cpu,
+    insn: &Insn,
+    before: &Cpu,
+    worked: &mut Worked,
     board: &mut Board,
-    completed: Completed,
     port: u16,
     wide: bool,
     value: u32,
-) -> Result<Worked, Stop>
+) -> Result<(), Stop>
     requires fits { wide ≡ false → value < 256 }
     ensures step { (b : Whole) (s : Space) → ComesTo
-        (after_write b (completed_of completed) cpu (out_item port wide value) s (port_written board.old port wide value))
-        b result board.new s }
+        (after_write b (completed_of (done_by insn.now before.now)) worked.old.cpu (out_item port wide value) s
+        (port_written board.old port wide value))
+        b (answer_of result worked.new) board.new s }
     ensures board { board.new ≡ (port_written board.old port wide value).1 }
     ensures stopped { OnErr result (board.new ≡ board.old) }
-    ensures dropped { IfOk result (λ w. IsDropped w.dropped) }
-    ensures ends { IfOk result (EndsWith (Some completed) cpu) }
+    ensures dropped { IfOk (answer_of result worked.new) (λ w. IsDropped w.dropped) }
+    ensures ends { IfOk (answer_of result worked.new) (EndsWith (Some (done_by insn.now before.now)) worked.old.cpu) }
 {
     let item = out_item(port, wide, value);
     let seen = match board.port_out(port, wide, value) {
@@ -88,12 +96,8 @@ pub fn write(
         Did::Done => Seen::One(item),
         Did::Sent(byte) => Seen::Two(item, What::Sent(byte)),
     };
-    Ok(Worked {
-        seen,
-        completed: Some(completed),
-        cpu,
-        dropped: Dropped::Nothing,
-    })
+    worked.complete(insn, before, seen, Dropped::Nothing);
+    Ok(())
 }
 
 fn out_item(port: u16, wide: bool, value: u32) -> What

@@ -8,11 +8,11 @@ ghost use Rattle.machine_model.specs.Rules.{is_start, is_open, stands_well, may_
 ghost use Rattle.machine_model.specs.Step as steps;
 ghost use Rattle.machine_step.specs.Roots.{EndsWith};
 ghost use Rattle.machine_step.specs.Ruled.{IsRuled};
-ghost use Rattle.machine_step.specs.Worked.{ComesTo, IsDropped, completed_of, completed_by, whats};
+ghost use Rattle.machine_step.specs.Worked.{ComesTo, IsDropped, answer_of, completed_of, completed_by, done_by, whats};
 
 use crate::worked::{Completed, Dropped, Seen, Worked};
 use descriptors::Cpu;
-use ia32_types::Stop;
+use ia32_types::{Insn, Stop};
 use image_check::Checked;
 
 /// The image over which a monitor's rules hold; none on the bare machine.
@@ -74,41 +74,36 @@ pub fn entered(
     rules: &Rules,
     seen: Seen,
     completed: Option<Completed>,
-    cpu: Cpu,
-) -> Result<Worked, Stop>
+    worked: &mut Worked,
+) -> Result<(), Stop>
     ensures step { (m : Setting) (b : Whole) (board : Board) (s : Space) → IsRuled m rules.now → ComesTo
-        (steps.entered m (whats seen) (completed_by completed) b cpu board s) b result board s }
-    ensures dropped { IfOk result (λ w. IsDropped w.dropped) }
-    ensures ends { IfOk result (EndsWith completed cpu) }
+        (steps.entered m (whats seen) (completed_by completed) b worked.old.cpu board s) b (answer_of result worked.new) board s }
+    ensures dropped { IfOk (answer_of result worked.new) (λ w. IsDropped w.dropped) }
+    ensures ends { IfOk (answer_of result worked.new) (EndsWith completed worked.old.cpu) }
 {
-    let well = stands_well(rules, &cpu);
+    let well = stands_well(rules, &worked.cpu);
     if well {
-        Ok(Worked {
-            seen,
-            completed,
-            cpu,
-            dropped: Dropped::Nothing,
-        })
+        worked.seen = seen;
+        worked.completed = completed;
+        worked.dropped = Dropped::Nothing;
+        Ok(())
     } else {
         Err(Stop::NotAStart)
     }
 }
 
-/// An instruction ended that asks nothing of the machine.
-pub fn ended(rules: &Rules, completed: Completed, before: &Cpu, cpu: Cpu) -> Result<Worked, Stop>
+/// An instruction ended that asks nothing of the machine, and that this processor began.
+pub fn ended(rules: &Rules, insn: &Insn, before: &Cpu, worked: &mut Worked) -> Result<(), Stop>
     ensures step { (m : Setting) (b : Whole) (s : Space) → IsRuled m rules.now → ComesTo
-        (steps.ended m (completed_of completed) (record b { cpu = before.now }) cpu s) b result b.board s }
-    ensures dropped { IfOk result (λ w. IsDropped w.dropped) }
-    ensures ends { IfOk result (EndsWith (Some completed) cpu) }
+        (steps.ended m (completed_of (done_by insn.now before.now)) (record b { cpu = before.now }) worked.old.cpu s)
+        b (answer_of result worked.new) b.board s }
+    ensures dropped { IfOk (answer_of result worked.new) (λ w. IsDropped w.dropped) }
+    ensures ends { IfOk (answer_of result worked.new) (EndsWith (Some (done_by insn.now before.now)) worked.old.cpu) }
 {
-    let may = may_leave(rules, before, &cpu);
+    let may = may_leave(rules, before, &worked.cpu);
     if may {
-        Ok(Worked {
-            seen: Seen::Nothing,
-            completed: Some(completed),
-            cpu,
-            dropped: Dropped::Nothing,
-        })
+        worked.complete(insn, before, Seen::Nothing, Dropped::Nothing);
+        Ok(())
     } else {
         Err(Stop::UserFlags)
     }

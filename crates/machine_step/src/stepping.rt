@@ -1,24 +1,25 @@
 //! One step.
 
-ghost use Rattle.std.specs.Prelude.{◌≡◌, ◌*◌, ◌≤◌, length, true, false, IfOk, OnOk, OnErr, None};
+ghost use Rattle.std.specs.Prelude.{◌≡◌, ◌*◌, ◌≤◌, length, IfOk, OnOk, OnErr};
 ghost use Rattle.step_mem.specs.Changes.{AreWithin};
 ghost use Rattle.step_mem.specs.Guard.{IsLaid};
 ghost use Rattle.step_mem.specs.Shown.{hidden};
 ghost use Rattle.step_mem.specs.Sound.{IsSoundOver, FetchesIn, begun};
 ghost use Rattle.machine_model.specs.Rules.{stands_well};
 ghost use Rattle.machine_model.specs.State.{Setting, State as Whole};
-ghost use Rattle.machine_model.specs.Step.{stepped, worked, interrupt_of};
-ghost use Rattle.machine_step.specs.Begun.{control_of, taken_by, BeginsAs, ReadAs, IsBegun, IsFetchedBy};
-ghost use Rattle.machine_step.specs.Over.{space, first_space, under, begins_over, stepped_in, read_next, UsesBy};
-ghost use Rattle.machine_step.specs.Roots.{RootsAs, RootsBegun};
+ghost use Rattle.machine_model.specs.Step.{stepped, interrupt_of};
+ghost use Rattle.machine_model.specs.Step as steps;
+ghost use Rattle.machine_step.specs.Begun.{control_of, taken_by};
+ghost use Rattle.machine_step.specs.Over.{space, first_space, under, begins_over, stepped_in, UsesBy};
+ghost use Rattle.machine_step.specs.Roots.{RootsAs};
 ghost use Rattle.machine_step.specs.Ruled.{IsRuled};
-ghost use Rattle.machine_step.specs.Worked.{ComesTo, IsDropped};
+ghost use Rattle.machine_step.specs.Worked.{ComesTo, IsDropped, answer_of};
 
-use crate::delivery::{deliver, refuse};
+use crate::delivery::{deliver, refuse_at};
 use crate::fetch::fetch;
-use crate::instruction::carry_out;
+use crate::instruction::carry_out_at;
 use crate::rules::{Rules, stands_well};
-use crate::worked::{Begun, Dropped, Seen, Worked};
+use crate::worked::{Dropped, Seen, Worked};
 use board::Board;
 use descriptors::Cpu;
 use guest_ram::Ram;
@@ -58,36 +59,36 @@ pub fn step<'g, B: Kept>(
     (result, state)
 }
 
-/// The same over the state of an earlier step, whose place this step's takes.
+/// The same over the state of an earlier step, whose place this step's takes; and what it comes to is told in its place.
 pub fn step_again<'g, B: Kept>(
     rules: &Rules,
-    cpu: &Cpu,
+    worked: &mut Worked,
     board: &mut Board,
     ram: &mut Ram,
     kept: &B,
     frames: u32,
     guard: Guard<'g>,
     state: &mut StepState<'g>,
-) -> Result<Worked, Stop>
+) -> Result<(), Stop>
     requires frames { 4096 * frames ≤ length ram.old }
     requires below { 4096 * frames ≤ B.floor kept.now }
     requires stands { ∥ B.stands kept.now ram.old ∥₁ }
     requires within { AreWithin frames (B.entries kept.now ram.old) }
     requires laid { IsLaid guard.text.now frames }
     ensures sound { IsSoundOver B.Kept kept.now ram.new state.new }
-    ensures uses { OnOk result (UsesBy cpu.now
-        (first_space B.Kept kept.now ram.old guard.entry frames cpu.now) (space B.Kept kept.now ram.new state.new)) }
+    ensures uses { OnOk result (UsesBy worked.old.cpu
+        (first_space B.Kept kept.now ram.old guard.entry frames worked.old.cpu) (space B.Kept kept.now ram.new state.new)) }
     ensures step { (m : Setting) (b : Whole) → IsRuled (under m guard.entry frames) rules.now → ComesTo
         (stepped (under m guard.entry frames)
-        (begins_over B.Kept kept.now ram.old guard.entry frames (record b { cpu = cpu.now; board = board.old })))
-        b result board.new (space B.Kept kept.now ram.new state.new) }
-    ensures stopped { OnErr result (board.new ≡ taken_by (interrupt_of cpu.now board.old) board.old) }
-    ensures dropped { IfOk result (λ w. IsDropped w.dropped) }
-    ensures roots { IfOk result (RootsAs cpu.now) }
-    ensures stays { FetchesIn (begun (control_of frames cpu.now) guard.entry) state.new ram.old ram.new }
+        (begins_over B.Kept kept.now ram.old guard.entry frames (record b { cpu = worked.old.cpu; board = board.old })))
+        b (answer_of result worked.new) board.new (space B.Kept kept.now ram.new state.new) }
+    ensures stopped { OnErr result (board.new ≡ taken_by (interrupt_of worked.old.cpu board.old) board.old) }
+    ensures dropped { IfOk (answer_of result worked.new) (λ w. IsDropped w.dropped) }
+    ensures roots { IfOk (answer_of result worked.new) (RootsAs worked.old.cpu) }
+    ensures stays { FetchesIn (begun (control_of frames worked.old.cpu) guard.entry) state.new ram.old ram.new }
 {
-    begin_again(cpu, ram, kept, frames, guard, state);
-    step_in(rules, cpu, board, ram, kept, state)
+    begin_again(&worked.cpu, ram, kept, frames, guard, state);
+    step_at(rules, worked, board, ram, kept, state)
 }
 
 /// What a walk goes by: the frames, the directory, and the two flags.
@@ -127,7 +128,7 @@ pub fn begin<'g, B: Kept>(
 }
 
 /// The same in the place of an earlier step's.
-fn begin_again<'g, B: Kept>(
+pub fn begin_again<'g, B: Kept>(
     cpu: &Cpu,
     ram: &Ram,
     kept: &B,
@@ -144,6 +145,7 @@ fn begin_again<'g, B: Kept>(
     ensures space { space B.Kept kept.now ram.now state.new ≡ first_space B.Kept kept.now ram.now guard.entry frames cpu.now }
     ensures pages { state.new.pages ≡ 0 }
     ensures control { state.new.control ≡ control_of frames cpu.now }
+    ensures frames { state.new.control.frames ≡ frames }
     ensures guard { state.new.guard ≡ guard.entry }
 {
     let _len = ram.len();
@@ -173,46 +175,40 @@ pub fn step_in<B: Kept>(
     ensures text { state.new.guard.text ≡ state.old.guard.text }
     ensures hidden { hidden state.old.guard state.old.control.frames ram.new ≡ hidden state.old.guard state.old.control.frames ram.old }
 {
-    match start(rules, cpu, board, ram, kept, state)? {
-        Begun::Worked(worked) => Ok(worked),
-        Begun::Fetched { insn, len, cpu } => {
-            carry_out(rules, &insn, len, &cpu, board, ram, kept, state)
-        }
+    let mut worked = Worked::at(cpu);
+    match step_at(rules, &mut worked, board, ram, kept, state) {
+        Ok(()) => Ok(worked),
+        Err(stop) => Err(stop),
     }
 }
 
-/// Begins a step: an interrupt is delivered, a halted processor does nothing, and another fetches its instruction.
-pub fn start<B: Kept>(
+/// The same, where the step is told in its place: an interrupt is delivered, or the processor works. A hold lasts for one
+/// step.
+fn step_at<B: Kept>(
     rules: &Rules,
-    cpu: &Cpu,
+    worked: &mut Worked,
     board: &mut Board,
     ram: &mut Ram,
     kept: &B,
     state: &mut StepState,
-) -> Result<Begun, Stop>
+) -> Result<(), Stop>
     requires sound { IsSoundOver B.Kept kept.now ram.old state.old }
     requires pages { state.old.pages ≡ 0 }
     ensures sound { IsSoundOver B.Kept kept.now ram.new state.new }
-    ensures uses { OnOk result (UsesBy cpu.now (space B.Kept kept.now ram.old state.old) (space B.Kept kept.now ram.new state.new)) }
-    ensures fetched { IfOk result (IsFetchedBy (record cpu.now { held = false })) }
-    ensures begins { (m : Setting) (b : Whole) → IsRuled m rules.now → BeginsAs m
-        (stepped_in m (record b { cpu = cpu.now; board = board.old }) (space B.Kept kept.now ram.old state.old))
-        b result board.new (space B.Kept kept.now ram.new state.new) }
-    ensures reads { (m : Setting) → IsRuled m rules.now → interrupt_of cpu.now board.old ≡ None → cpu.now.halted ≡ false
-        → stands_well m cpu.now ≡ true → ReadAs (record cpu.now { held = false }) result
-        (space B.Kept kept.now ram.new state.new) (read_next cpu.now (space B.Kept kept.now ram.old state.old)) }
-    ensures board { board.new ≡ taken_by (interrupt_of cpu.now board.old) board.old }
-    ensures begun { IfOk result (λ x. IsBegun x state.new.pages) }
-    ensures roots { IfOk result (RootsBegun cpu.now) }
+    ensures uses { OnOk result (UsesBy worked.old.cpu (space B.Kept kept.now ram.old state.old) (space B.Kept kept.now ram.new state.new)) }
+    ensures step { (m : Setting) (b : Whole) → IsRuled m rules.now → ComesTo
+        (stepped_in m (record b { cpu = worked.old.cpu; board = board.old }) (space B.Kept kept.now ram.old state.old))
+        b (answer_of result worked.new) board.new (space B.Kept kept.now ram.new state.new) }
+    ensures stopped { OnErr result (board.new ≡ taken_by (interrupt_of worked.old.cpu board.old) board.old) }
+    ensures dropped { IfOk (answer_of result worked.new) (λ w. IsDropped w.dropped) }
+    ensures roots { IfOk (answer_of result worked.new) (RootsAs worked.old.cpu) }
     ensures stays { FetchesIn state.old state.new ram.old ram.new }
 {
-    let mut unheld = *cpu;
-    unheld.held = false;
-    match interrupt(cpu, board) {
-        None => work(rules, &unheld, ram, kept, state),
-        Some(vector) => Ok(Begun::Worked(deliver(
-            rules, &unheld, board, ram, kept, state, vector,
-        )?)),
+    let taken = interrupt(&worked.cpu, board);
+    worked.cpu.held = false;
+    match taken {
+        None => work(rules, worked, board, ram, kept, state),
+        Some(vector) => deliver(rules, worked, board, ram, kept, state, vector),
     }
 }
 
@@ -228,48 +224,44 @@ pub fn interrupt(cpu: &Cpu, board: &Board) -> Option<u8>
     }
 }
 
-/// A halted processor does nothing, and another fetches the instruction at EIP.
+/// A halted processor does nothing, and another does the instruction at EIP.
 #[tactic(auto, unfolding(machine_model::specs::Step::worked))]
 fn work<B: Kept>(
     rules: &Rules,
-    cpu: &Cpu,
+    worked: &mut Worked,
+    board: &mut Board,
     ram: &mut Ram,
     kept: &B,
     state: &mut StepState,
-) -> Result<Begun, Stop>
+) -> Result<(), Stop>
     requires sound { IsSoundOver B.Kept kept.now ram.old state.old }
     requires pages { state.old.pages ≡ 0 }
     ensures sound { IsSoundOver B.Kept kept.now ram.new state.new }
-    ensures uses { OnOk result (UsesBy cpu.now (space B.Kept kept.now ram.old state.old) (space B.Kept kept.now ram.new state.new)) }
-    ensures fetched { IfOk result (IsFetchedBy cpu.now) }
-    ensures begins { (m : Setting) (b : Whole) → IsRuled m rules.now → BeginsAs m
-        (worked m (record b { cpu = cpu.now }) (space B.Kept kept.now ram.old state.old))
-        b result b.board (space B.Kept kept.now ram.new state.new) }
-    ensures reads { (m : Setting) → IsRuled m rules.now → cpu.now.halted ≡ false → stands_well m cpu.now ≡ true
-        → ReadAs cpu.now result (space B.Kept kept.now ram.new state.new) (read_next cpu.now (space B.Kept kept.now ram.old state.old)) }
-    ensures begun { IfOk result (λ x. IsBegun x state.new.pages) }
-    ensures roots { IfOk result (RootsBegun cpu.now) }
+    ensures uses { OnOk result (UsesBy worked.old.cpu (space B.Kept kept.now ram.old state.old) (space B.Kept kept.now ram.new state.new)) }
+    ensures step { (m : Setting) (b : Whole) → IsRuled m rules.now → ComesTo
+        (steps.worked m (record b { cpu = worked.old.cpu; board = board.old }) (space B.Kept kept.now ram.old state.old))
+        b (answer_of result worked.new) board.new (space B.Kept kept.now ram.new state.new) }
+    ensures stopped { OnErr result (board.new ≡ board.old) }
+    ensures dropped { IfOk (answer_of result worked.new) (λ w. IsDropped w.dropped) }
+    ensures roots { IfOk (answer_of result worked.new) (RootsAs worked.old.cpu) }
     ensures stays { FetchesIn state.old state.new ram.old ram.new }
 {
-    if cpu.halted {
-        return Ok(Begun::Worked(Worked {
-            seen: Seen::Nothing,
-            completed: None,
-            cpu: *cpu,
-            dropped: Dropped::Nothing,
-        }));
+    if worked.cpu.halted {
+        worked.seen = Seen::Nothing;
+        worked.completed = None;
+        worked.dropped = Dropped::Nothing;
+        return Ok(());
     }
-    let well = stands_well(rules, cpu);
+    let well = stands_well(rules, &worked.cpu);
     if !well {
         return Err(Stop::NotAStart);
     }
-    match fetch(ram, kept, state, cpu.cpl == 3, cpu.regs.eip) {
-        Ok(Decoded::Insn(insn, len)) => Ok(Begun::Fetched {
-            insn,
-            len,
-            cpu: *cpu,
-        }),
+    let user = worked.cpu.cpl == 3;
+    match fetch(ram, kept, state, user, worked.cpu.regs.eip) {
+        Ok(Decoded::Insn(insn, len)) => {
+            carry_out_at(rules, &insn, len, worked, board, ram, kept, state)
+        }
         Ok(_) => Err(Stop::Unsupported),
-        Err(refusal) => Ok(Begun::Worked(refuse(rules, cpu, ram, kept, state, refusal)?)),
+        Err(refusal) => refuse_at(rules, worked, ram, kept, state, refusal),
     }
 }

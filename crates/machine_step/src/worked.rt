@@ -1,9 +1,9 @@
 //! What one step comes to.
 
-ghost use Rattle.std.specs.Prelude.{◌≡◌, ◌≤◌};
+ghost use Rattle.std.specs.Prelude.{◌≡◌, ◌≤◌, None, Some};
 ghost use Rattle.run_trace.specs.Steps.{items_of};
 ghost use Rattle.machine_model.specs.Step.{items_at};
-ghost use Rattle.machine_step.specs.Worked.{whats};
+ghost use Rattle.machine_step.specs.Worked.{done_by, whats};
 
 use descriptors::Cpu;
 use ia32_types::{Insn, Stop};
@@ -45,12 +45,40 @@ pub struct Worked {
     pub dropped: Dropped,
 }
 
-/// How a step begins: it went, or an instruction was fetched and nothing of it is done. The processor is that of the
-/// fetch.
-#[derive(Clone, Copy)]
-pub enum Begun {
-    Worked(Worked),
-    Fetched { insn: Insn, len: u8, cpu: Cpu },
+impl Completed {
+    /// The instruction, which this processor began.
+    pub fn of(insn: &Insn, before: &Cpu) -> Completed
+        ensures { result ≡ done_by insn.now before.now }
+    {
+        Completed {
+            insn: *insn,
+            eip: before.regs.eip,
+            user: before.cpl == 3,
+        }
+    }
+}
+
+impl Worked {
+    /// A place in which steps are told, where nothing is told yet but the processor.
+    pub fn at(cpu: &Cpu) -> Worked
+        ensures { result ≡ record { seen = Seen.Nothing; completed = None; cpu = cpu.now; dropped = Dropped.Nothing } }
+    {
+        Worked {
+            seen: Seen::Nothing,
+            completed: None,
+            cpu: *cpu,
+            dropped: Dropped::Nothing,
+        }
+    }
+
+    /// An instruction completed that this processor began.
+    pub fn complete(&mut self, insn: &Insn, before: &Cpu, seen: Seen, dropped: Dropped)
+        ensures { self.new ≡ record { seen = seen; completed = Some (done_by insn.now before.now); cpu = self.old.cpu; dropped = dropped } }
+    {
+        self.seen = seen;
+        self.completed = Some(Completed::of(insn, before));
+        self.dropped = dropped;
+    }
 }
 
 /// What a step lets be seen, as items.

@@ -1,13 +1,13 @@
 //! One plain instruction.
 
-ghost use Rattle.std.specs.Prelude.{◌≡◌, ◌+◌, ◌≤◌, OnOk};
+ghost use Rattle.std.specs.Prelude.{◌≡◌, ◌+◌, ◌≤◌, OnOk, OnErr};
 ghost use Rattle.ia32_types.specs.Shape.{IsShaped, IsDone};
 ghost use Rattle.ia32_exec.specs.Effect.{effect, ranges_of};
 ghost use Rattle.ia32_exec.specs.Short.{IsShort};
 ghost use Rattle.paging.specs.Work.{Gives};
 ghost use Rattle.step_mem.specs.Shown.{hidden};
 ghost use Rattle.step_mem.specs.Sound.{IsSoundOver, StaysIn, space_at};
-ghost use Rattle.step_exec.specs.Plain.{executed};
+ghost use Rattle.step_exec.specs.Plain.{executed, Does};
 ghost use Rattle.step_exec.specs.Divided.{both_reached, completed, divided, byte_of};
 ghost use Rattle.step_exec.specs.Ready.{AreMade};
 
@@ -22,22 +22,23 @@ use step_mem::{Kept, StepState};
 use sys_exec::Refusal;
 
 /// Does an insensitive instruction. Both its ranges are tested for null segments before one is translated, and both
-/// are translated before a byte is read or written.
+/// are translated before a byte is read or written. Where it is not done the processor is as before.
 pub fn plain<B: Kept>(
     insn: &Insn,
     len: u8,
-    cpu: &Cpu,
+    cpu: &mut Cpu,
     ram: &mut Ram,
     kept: &B,
     state: &mut StepState,
-) -> Result<Cpu, Refusal>
+) -> Result<(), Refusal>
     requires kind { IsDone insn.now.op }
     requires shape { IsShaped insn.now }
     requires sound { IsSoundOver B.Kept kept.now ram.old state.old }
     requires room { state.old.pages ≤ 60 }
     ensures sound { IsSoundOver B.Kept kept.now ram.new state.new }
-    ensures gives { Gives result (space_at (B.entries kept.now) ram.new state.new)
-        (executed insn.now len cpu.now (space_at (B.entries kept.now) ram.old state.old)) }
+    ensures does { Does result cpu.new (space_at (B.entries kept.now) ram.new state.new)
+        (executed insn.now len cpu.old (space_at (B.entries kept.now) ram.old state.old)) }
+    ensures refused { OnErr result (cpu.new ≡ cpu.old) }
     ensures pages { state.new.pages ≤ state.old.pages + 4 }
     ensures control { state.new.control ≡ state.old.control }
     ensures guard { state.new.guard ≡ state.old.guard }
@@ -50,18 +51,19 @@ pub fn plain<B: Kept>(
 fn in_parts<B: Kept>(
     insn: &Insn,
     len: u8,
-    cpu: &Cpu,
+    cpu: &mut Cpu,
     ram: &mut Ram,
     kept: &B,
     state: &mut StepState,
-) -> Result<Cpu, Refusal>
+) -> Result<(), Refusal>
     requires kind { IsDone insn.now.op }
     requires shape { IsShaped insn.now }
     requires sound { IsSoundOver B.Kept kept.now ram.old state.old }
     requires room { state.old.pages ≤ 60 }
     ensures sound { IsSoundOver B.Kept kept.now ram.new state.new }
-    ensures gives { Gives result (space_at (B.entries kept.now) ram.new state.new)
-        (divided insn.now len cpu.now (space_at (B.entries kept.now) ram.old state.old)) }
+    ensures does { Does result cpu.new (space_at (B.entries kept.now) ram.new state.new)
+        (divided insn.now len cpu.old (space_at (B.entries kept.now) ram.old state.old)) }
+    ensures refused { OnErr result (cpu.new ≡ cpu.old) }
     ensures pages { state.new.pages ≤ state.old.pages + 4 }
     ensures stays { StaysIn state.old state.new ram.old ram.new }
 {
@@ -127,18 +129,19 @@ fn reach_in<B: Kept>(
 pub fn complete<B: Kept>(
     insn: &Insn,
     len: u8,
-    cpu: &Cpu,
+    cpu: &mut Cpu,
     ram: &mut Ram,
     kept: &B,
     state: &StepState,
-) -> Result<Cpu, Refusal>
+) -> Result<(), Refusal>
     requires kind { IsDone insn.now.op }
     requires shape { IsShaped insn.now }
     requires sound { IsSoundOver B.Kept kept.now ram.old state.now }
-    requires made { AreMade (ranges_of insn.now cpu.now.regs) state.now }
+    requires made { AreMade (ranges_of insn.now cpu.old.regs) state.now }
     ensures sound { IsSoundOver B.Kept kept.now ram.new state.now }
-    ensures gives { Gives result (space_at (B.entries kept.now) ram.new state.now)
-        (completed insn.now len cpu.now (space_at (B.entries kept.now) ram.old state.now)) }
+    ensures does { Does result cpu.new (space_at (B.entries kept.now) ram.new state.now)
+        (completed insn.now len cpu.old (space_at (B.entries kept.now) ram.old state.now)) }
+    ensures refused { OnErr result (cpu.new ≡ cpu.old) }
     ensures hidden { hidden state.now.guard state.now.control.frames ram.new ≡ hidden state.now.guard state.now.control.frames ram.old }
 {
     complete_in(&ranges(insn, &cpu.regs), insn, len, cpu, ram, kept, state)
@@ -150,25 +153,27 @@ fn complete_in<B: Kept>(
     ranges: &Ranges,
     insn: &Insn,
     len: u8,
-    cpu: &Cpu,
+    cpu: &mut Cpu,
     ram: &mut Ram,
     kept: &B,
     state: &StepState,
-) -> Result<Cpu, Refusal>
-    requires ranges { ranges.now ≡ ranges_of insn.now cpu.now.regs }
+) -> Result<(), Refusal>
+    requires ranges { ranges.now ≡ ranges_of insn.now cpu.old.regs }
     requires kind { IsDone insn.now.op }
     requires shape { IsShaped insn.now }
     requires sound { IsSoundOver B.Kept kept.now ram.old state.now }
-    requires made { AreMade (ranges_of insn.now cpu.now.regs) state.now }
+    requires made { AreMade (ranges_of insn.now cpu.old.regs) state.now }
     ensures sound { IsSoundOver B.Kept kept.now ram.new state.now }
-    ensures gives { Gives result (space_at (B.entries kept.now) ram.new state.now)
-        (completed insn.now len cpu.now (space_at (B.entries kept.now) ram.old state.now)) }
+    ensures does { Does result cpu.new (space_at (B.entries kept.now) ram.new state.now)
+        (completed insn.now len cpu.old (space_at (B.entries kept.now) ram.old state.now)) }
+    ensures refused { OnErr result (cpu.new ≡ cpu.old) }
     ensures hidden { hidden state.now.guard state.now.control.frames ram.new ≡ hidden state.now.guard state.now.control.frames ram.old }
 {
     match outcome(ranges, insn, len, cpu, ram, kept, state) {
         Outcome::Done(regs, stores) => {
             store_all(ram, kept, state, &stores);
-            Ok(Cpu { regs, ..*cpu })
+            cpu.regs = regs;
+            Ok(())
         }
         Outcome::Raise(vector, code) => Err(Refusal::Raise { vector, code }),
         Outcome::Stop(stop) => Err(Refusal::Stop(stop)),

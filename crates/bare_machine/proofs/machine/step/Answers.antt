@@ -21,7 +21,7 @@ returns-in-Ok-clause-step g c = λ image.
     let m = c.args.machine.now in
     let s = bare image c.args.script.now.list m.frames in
     let b = state_of g.C.Cache.entries m in
-    let w = c.in-Ok.worked in
+    let w = c.tried-result.new.worked in
     let x = space_at (λ _. g.C.Cache.entries m.kept.cache) c.tried-result.new.ram c.tried-result.new.state in
     let is = subst (λ (d : Board). stepped s (record b { board = d }) ≡ went_as b w c.tried-result.new.board x) c.begin.ensures (c.in-Ok.ensures.comes image c.args.script.now.list b) in
     subst (λ (r : steps.Result). Goes r m.step (whats w.seen) (g.C.Cache.is_exact m.kept.cache) (state_of g.C.Cache.entries c.finish_step.new.machine)) (sym is)

@@ -1,7 +1,4 @@
 use Rattle.std.proofs.Common.{◌≡◌, ℕ, Bool, List, [], ◌∷◌, ◌++◌, refl, ◌∙◌, subst, arith}
-use Rattle.pv_io.specs.Sink.{Appends, AppendsFront}
-use Rattle.run_trace.specs.declared.items.Item.{Item}
-use Rattle.run_trace.specs.Text.{lines_of}
 use Rattle.machine_model.specs.Step.{Halts, step_of}
 use Rattle.machine_step.specs.Worked.{whats}
 use Rattle.bare_machine.specs.Machine.{bare, state_of, Goes, Rests}
@@ -25,11 +22,10 @@ loop-machine-preserved g c = record {
       let goes = subst (λ (f : ℕ). Goes (step_of (bare image c.args.script.now.list f) (state_of e m) (e m.kept.cache)) m.step (whats c.in-Ok.seen) exact (state_of e c.step.new.machine)) c.loop-machine.invariant.goes_on.frames
       (subst (λ (x : Bool). Goes (step_of (bare image c.args.script.now.list m.frames) (state_of e m) (e m.kept.cache)) m.step (whats c.in-Ok.seen) x (state_of e c.step.new.machine)) c.loop-machine.invariant.goes_on.exact (c.in-Ok.ensures.step image)) in
       let rests = subst (λ (f : ℕ). Rests (bare image c.args.script.now.list f) (state_of e c.step.new.machine) goes.whole (state_of e c.rest.new.machine)) (c.in-Ok.ensures.frames ∙ c.loop-machine.invariant.goes_on.frames) (c.rest.ensures.rests image goes.whole goes.part) in
-      let put = subst (λ (l : List Item). Appends (g.O.Sink.taken c.loop-machine.out) (g.O.Sink.taken c.put_step.new.out) (lines_of l)) c.items_of.ensures.items c.in-Ok-put_step.ensures.ok in
-      going_on (bare image c.args.script.now.list c.args.machine.now.frames) exact (state_of e c.args.machine.now) (state_of e m) (state_of e c.step.new.machine) (state_of e c.rest.new.machine) (whats c.in-Ok.seen) (g.O.Sink.taken c.args.out.now) (g.O.Sink.taken c.loop-machine.out) (g.O.Sink.taken c.put_step.new.out)
-      (c.loop-machine.invariant.going image) goes put rests;
+      going_on (bare image c.args.script.now.list c.args.machine.now.frames) exact (state_of e c.args.machine.now) (state_of e m) (state_of e c.step.new.machine) (state_of e c.rest.new.machine) (whats c.in-Ok.seen) (g.O.Sink.taken c.args.out.now) (g.O.Sink.taken c.loop-machine.out) (g.O.Sink.taken c.put_seen.new.out)
+      (c.loop-machine.invariant.going image) goes c.in-Ok-put_seen.ensures.ok rests;
   goes_on = goes_further _ _ _ (goes_further _ _ _ c.loop-machine.invariant.goes_on c.in-Ok.ensures.goes_on) c.rest.ensures.goes_on;
-  later = omega (arith, c.loop-machine.invariant.later, c.in-Ok-put_step.ensures.later);
+  later = omega (arith, c.loop-machine.invariant.later, c.in-Ok-put_seen.ensures.later);
   bound = c.rest.ensures.within;
 }
 
@@ -46,21 +42,20 @@ returns-in-Err-clause-slice g c = λ image.
       text = going.text;
     }
 
-pub returns-in-Err-put_step-clause-slice : goal.returns-in-Err-put_step-clause-slice
-returns-in-Err-put_step-clause-slice g c = λ image.
+pub returns-in-Err-put_seen-clause-slice : goal.returns-in-Err-put_seen-clause-slice
+returns-in-Err-put_seen-clause-slice g c = λ image.
     let e = g.C.Cache.entries in
     let m = c.loop-machine.machine in
     let exact = g.C.Cache.is_exact c.args.machine.now.kept.cache in
     let goes = subst (λ (f : ℕ). Goes (step_of (bare image c.args.script.now.list f) (state_of e m) (e m.kept.cache)) m.step (whats c.in-Ok.seen) exact (state_of e c.step.new.machine)) c.loop-machine.invariant.goes_on.frames
     (subst (λ (x : Bool). Goes (step_of (bare image c.args.script.now.list m.frames) (state_of e m) (e m.kept.cache)) m.step (whats c.in-Ok.seen) x (state_of e c.step.new.machine)) c.loop-machine.invariant.goes_on.exact (c.in-Ok.ensures.step image)) in
-    let put = subst (λ (l : List Item). AppendsFront (g.O.Sink.taken c.loop-machine.out) (g.O.Sink.taken c.put_step.new.out) (lines_of l)) c.items_of.ensures.items c.in-Err-put_step.ensures.failed in
     let going = c.loop-machine.invariant.going image in
     record {
       reports = going.reports ++ goes.report ∷ [];
       last = state_of e c.step.new.machine;
       passes = passes_on _ _ _ (state_of e m) (state_of e c.step.new.machine) (whats c.in-Ok.seen) _ _ going goes;
       ends = omega (arith, c.in-Ok.ensures.count, c.loop-machine-test.true);
-      text = front_on _ _ _ (state_of e m) (state_of e c.step.new.machine) (whats c.in-Ok.seen) _ _ _ going goes put;
+      text = front_on _ _ _ (state_of e m) (state_of e c.step.new.machine) (whats c.in-Ok.seen) _ _ _ going goes c.in-Err-put_seen.ensures.failed;
     }
 
 pub returns-clause-slice : goal.returns-clause-slice

@@ -7,7 +7,7 @@ use Rattle.paging.specs.Work.{Outcome}
 use Rattle.run_trace.specs.declared.items.What.TheVariants.{Irq}
 use Rattle.step_mem.specs.Sound.{space_at}
 use Rattle.machine_model.specs.Step.{interrupted, entered, after_delivery}
-use Rattle.machine_step.specs.Worked.{ComesTo}
+use Rattle.machine_step.specs.Worked.{ComesTo, answer_of}
 use Rattle.machine_step.proofs.Used.{if_ok, entered_uses}
 use Rattle.std.specs.Prelude.{◌==◌}
 use Rattle.machine_step.specs.Roots.{RootsAs, EndsWith}
@@ -18,23 +18,24 @@ pub returns-in-Ok-clause-step : goal.returns-in-Ok-clause-step
 unfolding interrupted
 returns-in-Ok-clause-step g c = λ m b k.
     let a = c.args in
-    let here = record b { cpu = a.cpu.now; board = a.board.now } in
+    let here = record b { cpu = a.worked.now.cpu; board = a.board.now } in
     let s = space_at (g.B.Kept.entries a.kept.now) c.deliver_in.new.ram c.deliver_in.new.state in
     let board = c.acknowledge-vector.new.self in
-    let stood = subst (λ (d : Board). ComesTo (entered m (Irq a.vector ∷ []) None here c.deliver_in.new.cpu d s) b c.entered.result board s) c.acknowledge-vector.ensures.after
+    let answer = answer_of c.entered.result c.entered.new.worked in
+    let stood = subst (λ (d : Board). ComesTo (entered m (Irq a.vector ∷ []) None here c.deliver_in.new.cpu d s) b answer board s) c.acknowledge-vector.ensures.after
     (c.entered.ensures.step m here board s k) in
-    subst (λ (o : Outcome NotDelivered Cpu). ComesTo (after_delivery m (Irq a.vector ∷ []) here (acknowledged a.board.now) o) b c.entered.result board s)
+    subst (λ (o : Outcome NotDelivered Cpu). ComesTo (after_delivery m (Irq a.vector ∷ []) here (acknowledged a.board.now) o) b answer board s)
     (sym (rw c.in-Ok.is at c.deliver_in.ensures.delivers)) stood
 
 pub returns-in-Ok-clause-uses : goal.returns-in-Ok-clause-uses
 returns-in-Ok-clause-uses g c =
     let s = space_at (g.B.Kept.entries c.args.kept.now) c.args.ram.now c.args.state.now in
     let t = space_at (g.B.Kept.entries c.args.kept.now) c.deliver_in.new.ram c.deliver_in.new.state in
-    if_ok c.entered.result (entered_uses c.works_use.ensures.delivered (c.args.cpu.now.cpl == 3) _ _ _ _ _ s t (rw c.in-Ok.is at c.deliver_in.ensures.delivers))
+    if_ok c.entered.result (entered_uses c.works_use.ensures.delivered (c.args.worked.now.cpu.cpl == 3) _ _ _ _ _ s t (rw c.in-Ok.is at c.deliver_in.ensures.delivers))
 
 pub returns-in-Ok-clause-roots : goal.returns-in-Ok-clause-roots
 returns-in-Ok-clause-roots g c =
-    let cpu = c.args.cpu.now in
+    let cpu = c.args.worked.now.cpu in
     let after = c.deliver_in.new.cpu in
-    if_ok_as (EndsWith None after) (RootsAs cpu) c.entered.result
+    if_ok_as (EndsWith None after) (RootsAs cpu) (answer_of c.entered.result c.entered.new.worked)
     (λ w k. kept_roots None cpu w refl (ends_on None cpu after w (entered_keeps cpu after _ _ _ _ _ (rw c.in-Ok.is at c.deliver_in.ensures.delivers)) k)) c.entered.ensures.ends

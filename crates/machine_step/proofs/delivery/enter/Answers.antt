@@ -4,7 +4,7 @@ use Rattle.event_entry.specs.declared.refusal.NotDelivered.{NotDelivered}
 use Rattle.paging.specs.Work.{Outcome}
 use Rattle.step_mem.specs.Sound.{space_at}
 use Rattle.machine_model.specs.Step.{after_software}
-use Rattle.machine_step.specs.Worked.{ComesTo, completed_of}
+use Rattle.machine_step.specs.Worked.{ComesTo, answer_of, completed_of, done_by}
 use Rattle.machine_step.proofs.Used.{if_ok, if_ok_on, entered_uses, denied_uses}
 use Rattle.std.specs.Prelude.{Bool, ◌==◌}
 use Rattle.machine_step.specs.Roots.{RootsAs, EndsWith}
@@ -15,26 +15,26 @@ use Rattle.machine_step.proofs.delivery.enter.Goals as goal
 
 pub returns-in-Err-Privilege-clause-step : goal.returns-in-Err-Privilege-clause-step
 returns-in-Err-Privilege-clause-step g c = λ m b k.
-    let h = rw (c.in-Err-Privilege.field-0-is, c.past-after.ensures) at c.in-Err-Privilege.ensures.delivers in
-    subst (λ (o : Outcome NotDelivered Cpu). ComesTo (after_software m (record b { cpu = c.args.cpu.now }) (completed_of c.args.completed) c.args.vector o) b c.raise.result b.board (space_at (g.B.Kept.entries c.args.kept.now) c.raise.new.ram c.raise.new.state))
-    (sym h) (rw c.from.ensures at (c.raise.ensures.step m (record b { cpu = c.args.cpu.now }) k))
+    let h = rw (c.in-Err-Privilege.field-0-is, c.past-worked.ensures) at c.in-Err-Privilege.ensures.delivers in
+    subst (λ (o : Outcome NotDelivered Cpu). ComesTo (after_software m (record b { cpu = c.args.before.now }) (completed_of (done_by c.args.insn.now c.args.before.now)) c.args.vector o) b (answer_of c.raise.result c.raise.new.worked) b.board (space_at (g.B.Kept.entries c.args.kept.now) c.raise.new.ram c.raise.new.state))
+    (sym h) (rw c.from.ensures at (c.raise.ensures.step m (record b { cpu = c.args.before.now }) k))
 
 pub returns-in-Ok-clause-step : goal.returns-in-Ok-clause-step
 returns-in-Ok-clause-step g c = λ m b k.
-    let here = record b { cpu = c.args.cpu.now } in
+    let here = record b { cpu = c.args.before.now } in
     let s = space_at (g.B.Kept.entries c.args.kept.now) c.deliver_in.new.ram c.deliver_in.new.state in
-    subst (λ (o : Outcome NotDelivered Cpu). ComesTo (after_software m here (completed_of c.args.completed) c.args.vector o) b c.entered.result b.board s)
-    (sym (rw (c.in-Ok.is, c.past-after.ensures) at c.deliver_in.ensures.delivers)) (c.entered.ensures.step m here b.board s k)
+    subst (λ (o : Outcome NotDelivered Cpu). ComesTo (after_software m here (completed_of (done_by c.args.insn.now c.args.before.now)) c.args.vector o) b (answer_of c.entered.result c.entered.new.worked) b.board s)
+    (sym (rw (c.in-Ok.is, c.past-worked.ensures) at c.deliver_in.ensures.delivers)) (rw c.of-completed.ensures at (c.entered.ensures.step m here b.board s k))
 
 pub returns-in-Ok-clause-uses : goal.returns-in-Ok-clause-uses
 returns-in-Ok-clause-uses g c =
     let s = space_at (g.B.Kept.entries c.args.kept.now) c.args.ram.now c.args.state.now in
     let t = space_at (g.B.Kept.entries c.args.kept.now) c.deliver_in.new.ram c.deliver_in.new.state in
-    if_ok c.entered.result (entered_uses c.works_use.ensures.delivered (c.args.cpu.now.cpl == 3) _ _ _ _ _ s t (rw c.in-Ok.is at c.deliver_in.ensures.delivers))
+    if_ok c.entered.result (entered_uses c.works_use.ensures.delivered (c.args.before.now.cpl == 3) _ _ _ _ _ s t (rw c.in-Ok.is at c.deliver_in.ensures.delivers))
 
 pub returns-in-Err-Privilege-clause-uses : goal.returns-in-Err-Privilege-clause-uses
 returns-in-Err-Privilege-clause-uses g c =
-    let user : Bool = c.args.cpu.now.cpl == 3 in
+    let user : Bool = c.args.before.now.cpl == 3 in
     let s = space_at (g.B.Kept.entries c.args.kept.now) c.args.ram.now c.args.state.now in
     let t = space_at (g.B.Kept.entries c.args.kept.now) c.deliver_in.new.ram c.deliver_in.new.state in
     let u = space_at (g.B.Kept.entries c.args.kept.now) c.raise.new.ram c.raise.new.state in
@@ -44,14 +44,14 @@ returns-in-Err-Privilege-clause-uses g c =
 
 pub returns-in-Ok-clause-roots : goal.returns-in-Ok-clause-roots
 returns-in-Ok-clause-roots g c =
-    let cpu = c.args.cpu.now in
+    let cpu = c.args.before.now in
     let after = c.deliver_in.new.cpu in
-    let done = Some c.args.completed in
-    let k : KeepsRoots (past cpu c.args.len) after = entered_keeps (past cpu c.args.len) after _ _ _ _ _ (rw (c.in-Ok.is, c.past-after.ensures) at c.deliver_in.ensures.delivers) in
-    if_ok_as (EndsWith done after) (RootsAs cpu) c.entered.result
-    (λ w h. kept_roots done cpu w c.requires.no_load (ends_on done cpu after w (record { cr0 = k.cr0; cr3 = k.cr3; cr4 = k.cr4 }) h)) c.entered.ensures.ends
+    let done = Some (done_by c.args.insn.now c.args.before.now) in
+    let k : KeepsRoots (past cpu c.args.len) after = entered_keeps (past cpu c.args.len) after _ _ _ _ _ (rw (c.in-Ok.is, c.past-worked.ensures) at c.deliver_in.ensures.delivers) in
+    if_ok_as (EndsWith done after) (RootsAs cpu) (answer_of c.entered.result c.entered.new.worked)
+    (λ w h. kept_roots done cpu w c.requires.no_load (ends_on done cpu after w (record { cr0 = k.cr0; cr3 = k.cr3; cr4 = k.cr4 }) h)) (rw c.of-completed.ensures at c.entered.ensures.ends)
 
 pub returns-in-Err-Privilege-clause-roots : goal.returns-in-Err-Privilege-clause-roots
 returns-in-Err-Privilege-clause-roots g c =
-    let cpu = c.args.cpu.now in
-    if_ok_as (EndsWith None cpu) (RootsAs cpu) c.raise.result (λ w k. kept_roots None cpu w refl k) c.raise.ensures.ends
+    let cpu = c.args.before.now in
+    if_ok_as (EndsWith None cpu) (RootsAs cpu) (answer_of c.raise.result c.raise.new.worked) (λ w k. kept_roots None cpu w refl k) c.raise.ensures.ends

@@ -4,7 +4,7 @@ use Rattle.event_entry.specs.declared.refusal.NotDelivered.{NotDelivered}
 use Rattle.paging.specs.Work.{Outcome}
 use Rattle.step_mem.specs.Sound.{space_at}
 use Rattle.machine_model.specs.Step.{after_delivery}
-use Rattle.machine_step.specs.Worked.{ComesTo}
+use Rattle.machine_step.specs.Worked.{ComesTo, answer_of}
 use Rattle.machine_step.proofs.Used.{if_ok, entered_uses}
 use Rattle.machine_step.specs.Roots.{EndsWith}
 use Rattle.machine_step.proofs.Rooted.{if_ok_as, ends_on, entered_keeps}
@@ -13,7 +13,7 @@ use Rattle.machine_step.proofs.delivery.raise.Goals as goal
 pub returns-in-Ok-clause-step : goal.returns-in-Ok-clause-step
 returns-in-Ok-clause-step g c = λ m b k.
     let s = space_at (g.B.Kept.entries c.args.kept.now) c.deliver_in.new.ram c.deliver_in.new.state in
-    subst (λ (o : Outcome NotDelivered Cpu). ComesTo (after_delivery m [] b b.board o) b c.entered.result b.board s)
+    subst (λ (o : Outcome NotDelivered Cpu). ComesTo (after_delivery m [] b b.board o) b (answer_of c.entered.result c.entered.new.worked) b.board s)
     (sym (rw (c.in-Ok.is, c.code_of.ensures) at c.deliver_in.ensures.delivers)) (c.entered.ensures.step m b b.board s k)
 
 pub returns-in-Ok-clause-uses : goal.returns-in-Ok-clause-uses
@@ -24,7 +24,7 @@ returns-in-Ok-clause-uses g c = λ user.
 
 pub returns-in-Ok-clause-ends : goal.returns-in-Ok-clause-ends
 returns-in-Ok-clause-ends g c =
-    let cpu = c.args.cpu in
+    let cpu = c.args.worked.now.cpu in
     let after = c.deliver_in.new.cpu in
-    if_ok_as (EndsWith None after) (EndsWith None cpu) c.entered.result
+    if_ok_as (EndsWith None after) (EndsWith None cpu) (answer_of c.entered.result c.entered.new.worked)
     (λ w k. ends_on None cpu after w (entered_keeps cpu after _ _ _ _ _ (rw c.in-Ok.is at c.deliver_in.ensures.delivers)) k) c.entered.ensures.ends

@@ -1,45 +1,16 @@
-use Rattle.std.proofs.Common.{None, refl}
-use Rattle.step_mem.specs.Sound.{space_at}
-use Rattle.machine_step.proofs.Used.{if_ok_on}
-use Rattle.std.specs.Prelude.{Bool, ◌==◌}
-use Rattle.machine_step.specs.Roots.{RootsAs, EndsWith}
-use Rattle.machine_step.proofs.Rooted.{if_ok_as, ends_on, kept_roots}
 use Rattle.machine_step.proofs.delivery.refuse.Goals as goal
 
-pub returns-in-Raise-clause-step : goal.returns-in-Raise-clause-step
-returns-in-Raise-clause-step g c = λ m b k. rw c.in-Raise.is (c.raise.ensures.step m (record b { cpu = c.args.cpu.now }) k)
+pub returns-in-Ok-clause-uses : goal.returns-in-Ok-clause-uses
+returns-in-Ok-clause-uses g c = rw c.at-worked.ensures at c.in-Ok.ensures.uses
 
-pub returns-in-Fault-clause-step : goal.returns-in-Fault-clause-step
-returns-in-Fault-clause-step g c = λ m b k. rw c.in-Fault.is (c.raise-in-Fault.ensures.step m (record b { cpu = c.args.cpu.now }) k)
+pub returns-in-Ok-clause-goes_on : goal.returns-in-Ok-clause-goes_on
+returns-in-Ok-clause-goes_on g c = rw c.at-worked.ensures at c.in-Ok.ensures.goes_on
 
-pub returns-in-Raise-clause-uses : goal.returns-in-Raise-clause-uses
-returns-in-Raise-clause-uses g c = c.raise.ensures.uses (c.args.cpu.now.cpl == 3)
+pub returns-in-Ok-clause-step : goal.returns-in-Ok-clause-step
+returns-in-Ok-clause-step g c = rw c.at-worked.ensures at c.in-Ok.ensures.step
 
-pub returns-in-Fault-clause-uses : goal.returns-in-Fault-clause-uses
-returns-in-Fault-clause-uses g c = c.raise-in-Fault.ensures.uses (c.args.cpu.now.cpl == 3)
+pub returns-in-Ok-clause-roots : goal.returns-in-Ok-clause-roots
+returns-in-Ok-clause-roots g c = rw c.at-worked.ensures at c.in-Ok.ensures.roots
 
-pub returns-in-Raise-clause-goes_on : goal.returns-in-Raise-clause-goes_on
-returns-in-Raise-clause-goes_on g c = λ s h.
-    let user : Bool = c.args.cpu.now.cpl == 3 in
-    let t = space_at (g.B.Kept.entries c.args.kept.now) c.args.ram.now c.args.state.now in
-    let u = space_at (g.B.Kept.entries c.args.kept.now) c.raise.new.ram c.raise.new.state in
-    if_ok_on user s t u c.raise.result (rw c.in-Raise.is at h) (c.raise.ensures.uses user)
-
-pub returns-in-Fault-clause-goes_on : goal.returns-in-Fault-clause-goes_on
-returns-in-Fault-clause-goes_on g c = λ s h.
-    let user : Bool = c.args.cpu.now.cpl == 3 in
-    let t = space_at (g.B.Kept.entries c.args.kept.now) c.args.ram.now c.args.state.now in
-    let u = space_at (g.B.Kept.entries c.args.kept.now) c.raise-in-Fault.new.ram c.raise-in-Fault.new.state in
-    if_ok_on user s t u c.raise-in-Fault.result (rw c.in-Fault.is at h) (c.raise-in-Fault.ensures.uses user)
-
-pub returns-in-Raise-clause-roots : goal.returns-in-Raise-clause-roots
-returns-in-Raise-clause-roots g c =
-    let cpu = c.args.cpu.now in
-    if_ok_as (EndsWith None cpu) (RootsAs cpu) c.raise.result (λ w k. kept_roots None cpu w refl k) c.raise.ensures.ends
-
-pub returns-in-Fault-clause-roots : goal.returns-in-Fault-clause-roots
-returns-in-Fault-clause-roots g c =
-    let cpu = c.args.cpu.now in
-    let faulted = record cpu { cr2 = c.in-Fault.at } in
-    if_ok_as (EndsWith None faulted) (RootsAs cpu) c.raise-in-Fault.result
-    (λ w k. kept_roots None cpu w refl (ends_on None cpu faulted w (record { cr0 = refl; cr3 = refl; cr4 = refl }) k)) c.raise-in-Fault.ensures.ends
+pub returns-in-Err-clause-step : goal.returns-in-Err-clause-step
+returns-in-Err-clause-step g c = rw c.at-worked.ensures at c.in-Err.ensures.step

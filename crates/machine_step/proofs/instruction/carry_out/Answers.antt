@@ -1,32 +1,13 @@
-use Rattle.std.proofs.Common.{◌&&◌, refl, sym, ap, subst}
-use Rattle.ia32_types.specs.declared.insn.Op.{Op}
-use Rattle.step_mem.specs.Sound.{space_at}
-use Rattle.machine_model.specs.Step.{by_op}
-use Rattle.machine_step.specs.Worked.{ComesTo}
-use Rattle.machine_step.proofs.Used.{on_err}
-use Rattle.machine_model.specs.Taken.{is_write, is_control_3}
 use Rattle.machine_step.proofs.instruction.carry_out.Goals as goal
 
-pub returns-in-Int-clause-step : goal.returns-in-Int-clause-step
-returns-in-Int-clause-step g c = λ m b k.
-    let here = record b { cpu = c.args.cpu.now; board = c.args.board.now } in
-    subst (λ (o : Op). ComesTo (by_op m o here c.args.insn.now c.args.len (space_at (g.B.Kept.entries c.args.kept.now) c.args.ram.now c.args.state.now)) b c.enter.result c.args.board.now (space_at (g.B.Kept.entries c.args.kept.now) c.enter.new.ram c.enter.new.state))
-    (sym c.in-Int.is) (c.enter.ensures.step m here k)
+pub returns-in-Ok-clause-uses : goal.returns-in-Ok-clause-uses
+returns-in-Ok-clause-uses g c = rw c.at-worked.ensures at c.in-Ok.ensures.uses
 
-pub returns-in-Int3-clause-step : goal.returns-in-Int3-clause-step
-returns-in-Int3-clause-step g c = λ m b k.
-    let here = record b { cpu = c.args.cpu.now; board = c.args.board.now } in
-    subst (λ (o : Op). ComesTo (by_op m o here c.args.insn.now c.args.len (space_at (g.B.Kept.entries c.args.kept.now) c.args.ram.now c.args.state.now)) b c.enter-in-Int3.result c.args.board.now (space_at (g.B.Kept.entries c.args.kept.now) c.enter-in-Int3.new.ram c.enter-in-Int3.new.state))
-    (sym c.in-Int3.is) (c.enter-in-Int3.ensures.step m here k)
+pub returns-in-Ok-clause-step : goal.returns-in-Ok-clause-step
+returns-in-Ok-clause-step g c = rw c.at-worked.ensures at c.in-Ok.ensures.step
 
-pub enter-requires-clause-no_load : goal.enter-requires-clause-no_load
-enter-requires-clause-no_load g c = ap (λ (o : Op). is_write o && is_control_3 c.args.insn.now.a) c.in-Int.is
+pub returns-in-Ok-clause-roots : goal.returns-in-Ok-clause-roots
+returns-in-Ok-clause-roots g c = rw c.at-worked.ensures at c.in-Ok.ensures.roots
 
-pub enter-requires-in-Int3-clause-no_load : goal.enter-requires-in-Int3-clause-no_load
-enter-requires-in-Int3-clause-no_load g c = ap (λ (o : Op). is_write o && is_control_3 c.args.insn.now.a) c.in-Int3.is
-
-pub returns-in-Int-clause-stopped : goal.returns-in-Int-clause-stopped
-returns-in-Int-clause-stopped g c = on_err c.enter.result refl
-
-pub returns-in-Int3-clause-stopped : goal.returns-in-Int3-clause-stopped
-returns-in-Int3-clause-stopped g c = on_err c.enter-in-Int3.result refl
+pub returns-in-Err-clause-step : goal.returns-in-Err-clause-step
+returns-in-Err-clause-step g c = rw c.at-worked.ensures at c.in-Err.ensures.step

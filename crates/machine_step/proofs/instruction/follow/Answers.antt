@@ -1,10 +1,8 @@
 use Rattle.step_mem.specs.Sound.{space_at}
 use Rattle.machine_step.proofs.Used.{if_ok, on_err, if_ok_on}
 use Rattle.std.specs.Prelude.{Bool, ◌==◌}
-use Rattle.std.proofs.Common.{Result, Some, None, refl, sym, subst}
-use Rattle.std.specs.Prelude.{IfOk}
-use Rattle.ia32_types.specs.declared.stop.Stop.{Stop}
-use Rattle.machine_step.specs.declared.worked.Worked.{Worked}
+use Rattle.std.proofs.Common.{Some, None, refl}
+use Rattle.machine_step.specs.Worked.{answer_of, done_by}
 use Rattle.machine_step.specs.Roots.{RootsAs, EndsWith}
 use Rattle.machine_step.proofs.Rooted.{if_ok_as, ends_on, kept_roots, ended_roots}
 use Rattle.machine_step.proofs.instruction.follow.Goals as goal
@@ -55,38 +53,62 @@ returns-in-Raise-clause-uses g c = λ s h.
 pub returns-in-Next-clause-roots : goal.returns-in-Next-clause-roots
 returns-in-Next-clause-roots g c =
     let before = c.args.before.now in
-    if_ok_as (EndsWith (Some c.args.completed) c.args.cpu) (RootsAs before) c.ended.result
-    (λ w k. ended_roots c.args.completed before c.args.cpu w (rw c.in-Next.is at c.requires.roots) k) c.ended.ensures.ends
+    if_ok_as (EndsWith (Some (done_by c.args.insn.now c.args.before.now)) c.args.worked.now.cpu) (RootsAs before) (answer_of c.ended.result c.ended.new.worked)
+    (λ w k. ended_roots (done_by c.args.insn.now c.args.before.now) before c.args.worked.now.cpu w (rw c.in-Next.is at c.requires.roots) k) c.ended.ensures.ends
 
 pub returns-in-PortIn-clause-roots : goal.returns-in-PortIn-clause-roots
 returns-in-PortIn-clause-roots g c =
     let before = c.args.before.now in
-    if_ok_as (EndsWith (Some c.args.completed) c.args.cpu) (RootsAs before) c.read.result
-    (λ w k. ended_roots c.args.completed before c.args.cpu w (rw c.in-PortIn.is at c.requires.roots) k) c.read.ensures.ends
+    if_ok_as (EndsWith (Some (done_by c.args.insn.now c.args.before.now)) c.args.worked.now.cpu) (RootsAs before) (answer_of c.read.result c.read.new.worked)
+    (λ w k. ended_roots (done_by c.args.insn.now c.args.before.now) before c.args.worked.now.cpu w (rw c.in-PortIn.is at c.requires.roots) k) c.read.ensures.ends
 
 pub returns-in-PortOut-clause-roots : goal.returns-in-PortOut-clause-roots
 returns-in-PortOut-clause-roots g c =
     let before = c.args.before.now in
-    if_ok_as (EndsWith (Some c.args.completed) c.args.cpu) (RootsAs before) c.write.result
-    (λ w k. ended_roots c.args.completed before c.args.cpu w (rw c.in-PortOut.is at c.requires.roots) k) c.write.ensures.ends
+    if_ok_as (EndsWith (Some (done_by c.args.insn.now c.args.before.now)) c.args.worked.now.cpu) (RootsAs before) (answer_of c.write.result c.write.new.worked)
+    (λ w k. ended_roots (done_by c.args.insn.now c.args.before.now) before c.args.worked.now.cpu w (rw c.in-PortOut.is at c.requires.roots) k) c.write.ensures.ends
 
 pub returns-in-Halted-clause-roots : goal.returns-in-Halted-clause-roots
-returns-in-Halted-clause-roots g c = subst (λ (r : Result Worked Stop). IfOk r (RootsAs c.args.before.now)) (sym c.completes.ensures) (rw c.in-Halted.is at c.requires.roots)
+returns-in-Halted-clause-roots g c = rw (c.completes.ensures.went, c.completes.ensures.told) (rw c.in-Halted.is at c.requires.roots)
+
+pub returns-in-Halted-clause-step : goal.returns-in-Halted-clause-step
+returns-in-Halted-clause-step g c = λ m b k. rw (c.in-Halted.is, c.completes.ensures.went, c.completes.ensures.told) refl
+
+pub returns-in-Halted-clause-dropped : goal.returns-in-Halted-clause-dropped
+returns-in-Halted-clause-dropped g c = rw (c.completes.ensures.went, c.completes.ensures.told) (rw c.in-Halted.is at c.requires.asked)
 
 pub returns-in-DropPage-clause-roots : goal.returns-in-DropPage-clause-roots
-returns-in-DropPage-clause-roots g c = subst (λ (r : Result Worked Stop). IfOk r (RootsAs c.args.before.now)) (sym c.completes-in-DropPage.ensures) (rw c.in-DropPage.is at c.requires.roots)
+returns-in-DropPage-clause-roots g c = rw (c.completes-in-DropPage.ensures.went, c.completes-in-DropPage.ensures.told) (rw c.in-DropPage.is at c.requires.roots)
+
+pub returns-in-DropPage-clause-step : goal.returns-in-DropPage-clause-step
+returns-in-DropPage-clause-step g c = λ m b k. rw (c.in-DropPage.is, c.completes-in-DropPage.ensures.went, c.completes-in-DropPage.ensures.told) refl
+
+pub returns-in-DropPage-clause-dropped : goal.returns-in-DropPage-clause-dropped
+returns-in-DropPage-clause-dropped g c = rw (c.completes-in-DropPage.ensures.went, c.completes-in-DropPage.ensures.told) (rw c.in-DropPage.is at c.requires.asked)
 
 pub returns-in-DropDir-clause-roots : goal.returns-in-DropDir-clause-roots
-returns-in-DropDir-clause-roots g c = subst (λ (r : Result Worked Stop). IfOk r (RootsAs c.args.before.now)) (sym c.completes-in-DropDir.ensures) (rw c.in-DropDir.is at c.requires.roots)
+returns-in-DropDir-clause-roots g c = rw (c.completes-in-DropDir.ensures.went, c.completes-in-DropDir.ensures.told) (rw c.in-DropDir.is at c.requires.roots)
+
+pub returns-in-DropDir-clause-step : goal.returns-in-DropDir-clause-step
+returns-in-DropDir-clause-step g c = λ m b k. rw (c.in-DropDir.is, c.completes-in-DropDir.ensures.went, c.completes-in-DropDir.ensures.told) refl
+
+pub returns-in-DropDir-clause-dropped : goal.returns-in-DropDir-clause-dropped
+returns-in-DropDir-clause-dropped g c = rw (c.completes-in-DropDir.ensures.went, c.completes-in-DropDir.ensures.told) (rw c.in-DropDir.is at c.requires.asked)
 
 pub returns-in-DropAll-clause-roots : goal.returns-in-DropAll-clause-roots
-returns-in-DropAll-clause-roots g c = subst (λ (r : Result Worked Stop). IfOk r (RootsAs c.args.before.now)) (sym c.completes-in-DropAll.ensures) (rw c.in-DropAll.is at c.requires.roots)
+returns-in-DropAll-clause-roots g c = rw (c.completes-in-DropAll.ensures.went, c.completes-in-DropAll.ensures.told) (rw c.in-DropAll.is at c.requires.roots)
+
+pub returns-in-DropAll-clause-step : goal.returns-in-DropAll-clause-step
+returns-in-DropAll-clause-step g c = λ m b k. rw (c.in-DropAll.is, c.completes-in-DropAll.ensures.went, c.completes-in-DropAll.ensures.told) refl
+
+pub returns-in-DropAll-clause-dropped : goal.returns-in-DropAll-clause-dropped
+returns-in-DropAll-clause-dropped g c = rw (c.completes-in-DropAll.ensures.went, c.completes-in-DropAll.ensures.told) (rw c.in-DropAll.is at c.requires.asked)
 
 pub returns-in-Raise-clause-roots : goal.returns-in-Raise-clause-roots
 returns-in-Raise-clause-roots g c =
     let before = c.args.before.now in
-    if_ok_as (EndsWith None c.args.cpu) (RootsAs before) c.raise.result
-    (λ w k. kept_roots None before w refl (ends_on None before c.args.cpu w (rw c.in-Raise.is at c.requires.roots) k)) c.raise.ensures.ends
+    if_ok_as (EndsWith None c.args.worked.now.cpu) (RootsAs before) (answer_of c.raise.result c.raise.new.worked)
+    (λ w k. kept_roots None before w refl (ends_on None before c.args.worked.now.cpu w (rw c.in-Raise.is at c.requires.roots) k)) c.raise.ensures.ends
 
 pub returns-in-Next-clause-stopped : goal.returns-in-Next-clause-stopped
 returns-in-Next-clause-stopped g c = on_err c.ended.result refl

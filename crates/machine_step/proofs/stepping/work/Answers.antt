@@ -1,57 +1,56 @@
-use Rattle.std.proofs.Common.{refl, sym, ap, ◌∙◌, rules, arith}
-use Rattle.step_mem.specs.Sound.{space_at}
+use Rattle.std.proofs.Common.{refl, sym, ap, subst, ◌∙◌, rules}
+use Rattle.std.specs.Prelude.{IfOk, ◌==◌}
+use Rattle.descriptors.specs.declared.cpu.Cpu.{Cpu}
+use Rattle.machine_model.specs.Step as steps
 use Rattle.machine_model.specs.Step.{after_fetch}
+use Rattle.step_mem.specs.Sound.{space_at}
+use Rattle.machine_step.specs.Worked.{ComesTo, answer_of}
 use Rattle.machine_step.proofs.Fetched.{as_fetch, fetches_on, works_on}
+use Rattle.machine_step.proofs.Used.{if_ok_on, on_err}
 use Rattle.machine_step.proofs.stepping.work.Goals as goal
 
-pub returns-in_ok-refuse-in-Err-clause-uses : goal.returns-in_ok-refuse-in-Err-clause-uses
-returns-in_ok-refuse-in-Err-clause-uses g c =
+pub returns-in-Ok-Insn-clause-uses : goal.returns-in-Ok-Insn-clause-uses
+returns-in-Ok-Insn-clause-uses g c =
     let s = space_at (g.B.Kept.entries c.args.kept.now) c.args.ram.now c.args.state.now in
-    c.in_ok-refuse-in-Err.ensures.goes_on s c.in-Err.ensures.refused
+    let t = space_at (g.B.Kept.entries c.args.kept.now) c.fetch.new.ram c.fetch.new.state in
+    let u = space_at (g.B.Kept.entries c.args.kept.now) c.carry_out_at.new.ram c.carry_out_at.new.state in
+    if_ok_on (c.args.worked.now.cpu.cpl == 3) s t u c.carry_out_at.result c.in-Ok-Insn.ensures.uses c.carry_out_at.ensures.uses
 
-pub returns-in_ok-refuse-in-Err-clause-roots : goal.returns-in_ok-refuse-in-Err-clause-roots
-returns-in_ok-refuse-in-Err-clause-roots g c = c.in_ok-refuse-in-Err.ensures.roots
+pub returns-in-Err-clause-uses : goal.returns-in-Err-clause-uses
+returns-in-Err-clause-uses g c =
+    let s = space_at (g.B.Kept.entries c.args.kept.now) c.args.ram.now c.args.state.now in
+    c.refuse_at.ensures.goes_on s c.in-Err.ensures.refused
 
-pub returns-in_ok-refuse-in-Err-clause-begins : goal.returns-in_ok-refuse-in-Err-clause-begins
-returns-in_ok-refuse-in-Err-clause-begins g c = λ m b k.
-    let here = record b { cpu = c.args.cpu.now } in
-    works_on m here (space_at (g.B.Kept.entries c.args.kept.now) c.args.ram.now c.args.state.now) c.if-cpu.false (sym (c.stands_well-well.ensures m k) ∙ c.if-not-well.false)
-    ∙ (ap (after_fetch m here) c.in-Err.ensures.fetched ∙ c.in_ok-refuse-in-Err.ensures.step m here k)
+pub returns-in-Ok-Insn-clause-step : goal.returns-in-Ok-Insn-clause-step
+returns-in-Ok-Insn-clause-step g c = λ m b k.
+    let here = record b { cpu = c.args.worked.now.cpu; board = c.args.board.now } in
+    let s = space_at (g.B.Kept.entries c.args.kept.now) c.args.ram.now c.args.state.now in
+    let goes = works_on m here s c.if-worked.false (sym (c.stands_well-well.ensures m k) ∙ c.if-not-well.false) ∙ ap (after_fetch m here) (rw c.in-Ok-Insn.field-0-is at c.in-Ok-Insn.ensures.fetched) in
+    subst (λ (r : steps.Result). ComesTo r b (answer_of c.carry_out_at.result c.carry_out_at.new.worked) c.carry_out_at.new.board (space_at (g.B.Kept.entries c.args.kept.now) c.carry_out_at.new.ram c.carry_out_at.new.state)) (sym goes)
+    (c.carry_out_at.ensures.step m here k)
 
-pub returns-in-Ok-Insn-clause-begins : goal.returns-in-Ok-Insn-clause-begins
-returns-in-Ok-Insn-clause-begins g c = λ m b k.
-    let here = record b { cpu = c.args.cpu.now } in
-    works_on m here (space_at (g.B.Kept.entries c.args.kept.now) c.args.ram.now c.args.state.now) c.if-cpu.false (sym (c.stands_well-well.ensures m k) ∙ c.if-not-well.false)
-    ∙ ap (after_fetch m here) (rw c.in-Ok-Insn.field-0-is at c.in-Ok-Insn.ensures.fetched)
+pub returns-in-Err-clause-step : goal.returns-in-Err-clause-step
+returns-in-Err-clause-step g c = λ m b k.
+    let here = record b { cpu = c.args.worked.now.cpu; board = c.args.board.now } in
+    let s = space_at (g.B.Kept.entries c.args.kept.now) c.args.ram.now c.args.state.now in
+    let goes = works_on m here s c.if-worked.false (sym (c.stands_well-well.ensures m k) ∙ c.if-not-well.false) ∙ ap (after_fetch m here) c.in-Err.ensures.fetched in
+    subst (λ (r : steps.Result). ComesTo r b (answer_of c.refuse_at.result c.refuse_at.new.worked) c.args.board.now (space_at (g.B.Kept.entries c.args.kept.now) c.refuse_at.new.ram c.refuse_at.new.state)) (sym goes)
+    (c.refuse_at.ensures.step m here k)
 
-pub returns-in_ok-refuse-in-Err-clause-stays : goal.returns-in_ok-refuse-in-Err-clause-stays
-returns-in_ok-refuse-in-Err-clause-stays g c =
-    fetches_on c.args.state.now c.fetch.new.state c.refuse.new.state c.args.ram.now c.fetch.new.ram c.refuse.new.ram
+pub returns-in-Ok-Insn-clause-stays : goal.returns-in-Ok-Insn-clause-stays
+returns-in-Ok-Insn-clause-stays g c =
+    fetches_on c.args.state.now c.fetch.new.state c.carry_out_at.new.state c.args.ram.now c.fetch.new.ram c.carry_out_at.new.ram
     (c.fetch.ensures.control, c.fetch.ensures.text, c.fetch.ensures.hidden)
-    (as_fetch c.fetch.new.state c.refuse.new.state c.fetch.new.ram c.refuse.new.ram (c.refuse.ensures.control, c.refuse.ensures.guard, c.refuse.ensures.hidden))
+    (as_fetch c.fetch.new.state c.carry_out_at.new.state c.fetch.new.ram c.carry_out_at.new.ram c.carry_out_at.ensures.stays)
 
-pub returns-in_err-refuse-in-Err-clause-stays : goal.returns-in_err-refuse-in-Err-clause-stays
-returns-in_err-refuse-in-Err-clause-stays g c =
-    fetches_on c.args.state.now c.fetch.new.state c.refuse.new.state c.args.ram.now c.fetch.new.ram c.refuse.new.ram
+pub returns-in-Err-clause-stays : goal.returns-in-Err-clause-stays
+returns-in-Err-clause-stays g c =
+    fetches_on c.args.state.now c.fetch.new.state c.refuse_at.new.state c.args.ram.now c.fetch.new.ram c.refuse_at.new.ram
     (c.fetch.ensures.control, c.fetch.ensures.text, c.fetch.ensures.hidden)
-    (as_fetch c.fetch.new.state c.refuse.new.state c.fetch.new.ram c.refuse.new.ram (c.refuse.ensures.control, c.refuse.ensures.guard, c.refuse.ensures.hidden))
+    (as_fetch c.fetch.new.state c.refuse_at.new.state c.fetch.new.ram c.refuse_at.new.ram c.refuse_at.ensures.stays)
 
-pub returns-in_err-refuse-in-Err-clause-begins : goal.returns-in_err-refuse-in-Err-clause-begins
-returns-in_err-refuse-in-Err-clause-begins g c = λ m b k.
-    let here = record b { cpu = c.args.cpu.now } in
-    rw (works_on m here (space_at (g.B.Kept.entries c.args.kept.now) c.args.ram.now c.args.state.now) c.if-cpu.false (sym (c.stands_well-well.ensures m k) ∙ c.if-not-well.false)
-    ∙ (ap (after_fetch m here) c.in-Err.ensures.fetched ∙ c.in_err-refuse-in-Err.ensures.step m here k)) (search rules)
+pub returns-in-Err-clause-stopped : goal.returns-in-Err-clause-stopped
+returns-in-Err-clause-stopped g c = on_err c.refuse_at.result refl
 
-pub returns-in-Ok-Insn-clause-begun : goal.returns-in-Ok-Insn-clause-begun
-returns-in-Ok-Insn-clause-begun g c = (rw c.in-Ok-Insn.field-0-is at c.in-Ok-Insn.ensures.spelled, omega arith)
-
-pub returns-in-Ok-Insn-clause-reads : goal.returns-in-Ok-Insn-clause-reads
-returns-in-Ok-Insn-clause-reads g c = λ m k awake well.
-    let e = rw c.in-Ok-Insn.field-0-is at c.in-Ok-Insn.ensures.fetched in
-    rw e (refl, refl)
-
-pub returns-in_ok-refuse-in-Err-clause-reads : goal.returns-in_ok-refuse-in-Err-clause-reads
-returns-in_ok-refuse-in-Err-clause-reads g c = λ m k awake well. rw c.in-Err.ensures.fetched tt
-
-pub returns-in_err-refuse-in-Err-clause-reads : goal.returns-in_err-refuse-in-Err-clause-reads
-returns-in_err-refuse-in-Err-clause-reads g c = λ m k awake well. rw c.in-Err.ensures.fetched (search rules)
+pub carry_out_at-requires-clause-spelled : goal.carry_out_at-requires-clause-spelled
+carry_out_at-requires-clause-spelled g c = rw c.in-Ok-Insn.field-0-is at c.in-Ok-Insn.ensures.spelled

@@ -1,0 +1,5 @@
+use Rattle.machine_step.proofs.Spelled.{spelled_by}
+use Rattle.machine_step.proofs.fetch.decode_joined.Goals as goal
+
+pub returns-clause-spelled : goal.returns-clause-spelled
+returns-clause-spelled c = spelled_by _ c.decode.result c.decode.ensures.insn
