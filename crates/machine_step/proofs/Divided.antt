@@ -3,7 +3,7 @@ use Rattle.std.proofs.Common.{◌≡◌, ℕ, Bool, true, cond, Ok, Err, refl, a
 use Rattle.ia32_types.specs.declared.insn.Insn.{Insn}
 use Rattle.ia32_exec.specs.Effect.{ranges_of}
 use Rattle.paging.specs.Space.{Space}
-use Rattle.paging.specs.Work.{Outcome, ◌>>=◌, on_value}
+use Rattle.paging.specs.Work.{Outcome, on_value}
 use Rattle.sys_exec.specs.declared.effect.Refusal.{Refusal}
 use Rattle.sys_exec.specs.Sys.{sys_work}
 use Rattle.step_exec.specs.Plain.{executed}

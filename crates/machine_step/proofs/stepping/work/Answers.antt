@@ -1,6 +1,5 @@
-use Rattle.std.proofs.Common.{refl, sym, ap, subst, ◌∙◌, rules}
-use Rattle.std.specs.Prelude.{IfOk, ◌==◌}
-use Rattle.descriptors.specs.declared.cpu.Cpu.{Cpu}
+use Rattle.std.proofs.Common.{refl, sym, ap, subst, ◌∙◌}
+use Rattle.std.specs.Prelude.{◌==◌}
 use Rattle.machine_model.specs.Step as steps
 use Rattle.machine_model.specs.Step.{after_fetch}
 use Rattle.step_mem.specs.Sound.{space_at}
