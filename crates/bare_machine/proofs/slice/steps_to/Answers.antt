@@ -1,4 +1,4 @@
-use Rattle.std.proofs.Common.{◌≡◌, ℕ, Bool, List, [], ◌∷◌, ◌++◌, refl, ◌∙◌, subst, arith}
+use Rattle.std.proofs.Common.{◌≡◌, ℕ, Bool, [], ◌∷◌, ◌++◌, refl, ◌∙◌, subst, arith}
 use Rattle.machine_model.specs.Step.{Halts, step_of}
 use Rattle.machine_step.specs.Worked.{whats}
 use Rattle.bare_machine.specs.Machine.{bare, state_of, Goes, Rests}
