@@ -24,6 +24,7 @@ pub mod UsingRows
 pub mod UsingDeliveries
 pub mod UsingPlain
 pub mod UsingSteps
+pub mod HeldPages
 pub mod MoreFlags
 pub mod FoundStill
 pub mod Following

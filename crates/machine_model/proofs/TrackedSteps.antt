@@ -267,7 +267,7 @@ words_stay_found m b set report b2 cr3 pse tables page e room small is none foun
     (λ at even within held. (steps_keep_memory m b set report b2 is).words at even within (λ c. both_ways (tables (at / 4096)) (none (at / 4096) c) held)) found
 
 pub found_are_cacheable : FoundAreCacheable
-found_are_cacheable m b tables page e k = record { dir_at = k.dir_at; word_at = k.word_at; dirty = k.dirty; found = k.found; accessed = k.accessed; is_dirty = k.is_dirty }
+found_are_cacheable m b tables page e small k = record { page_in = small; dir_at = k.dir_at; word_at = k.word_at; dirty = k.dirty; found = k.found; accessed = k.accessed; is_dirty = k.is_dirty }
 
 found_there : (m : Setting) (b : State) (set : Set) (report : Report) (b2 : State) (h : IsLeftBy (space_at_start m.mode m.frames b.cpu b.ram set) report b2) (tables : ℕ → Bool) (page : ℕ) (e : Entry)
     → IsFoundBy h.last.ram h.last.frames h.last.cr3 h.last.pse tables page e → IsFoundBy b2.ram m.frames b.cpu.cr3 (pse_of b.cpu) tables page e

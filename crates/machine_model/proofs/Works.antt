@@ -265,7 +265,7 @@ loosened : (m : Setting) (b : State) (set : Set) → Loosened m b set → Loosen
 loosened m b set h = record {
   each = λ page e is. elim (h.each page e is) [
     | inl k ↦ inl k
-    | inr k ↦ inr (record { dir_at = k.dir_at; word_at = k.word_at; dirty = k.dirty; found = k.found; accessed = k.accessed; is_dirty = k.is_dirty })
+    | inr k ↦ inr (record { page_in = k.page_in; dir_at = k.dir_at; word_at = k.word_at; dirty = k.dirty; found = k.found; accessed = k.accessed; is_dirty = k.is_dirty })
   ];
 }
 

@@ -76,7 +76,7 @@ SetsAreFound =
     → AreApart report.tables report.wrote → (tables : ℕ → Bool) → HoldsOf tables report.tables → (page : ℕ) → page < 2 ^ 20
     → ForSome (get b2.set page) (λ e. (get set page ≡ Some e) ⊎ IsFoundBy b2.ram m.frames b.cpu.cr3 (pse_of b.cpu) tables page e)
 
--- what is found from the directory in use may be added to the translations before a step
+-- what is found of a page from the directory in use may be added to the translations before a step
 abbrev pub FoundAreCacheable : Type 0
 FoundAreCacheable =
-    (m : Setting) (b : State) (tables : ℕ → Bool) (page : ℕ) (e : Entry) → IsFoundBy b.ram m.frames b.cpu.cr3 (pse_of b.cpu) tables page e → IsCacheable m b page e
+    (m : Setting) (b : State) (tables : ℕ → Bool) (page : ℕ) (e : Entry) → page < 2 ^ 20 → IsFoundBy b.ram m.frames b.cpu.cr3 (pse_of b.cpu) tables page e → IsCacheable m b page e

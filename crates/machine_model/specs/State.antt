@@ -1,5 +1,5 @@
 -- The state of a machine, what it runs with, and the state in which it starts.
-use Rattle.std.specs.Prelude.{◌≡◌, ◌⊎◌, ℕ, Bool, true, List, Some}
+use Rattle.std.specs.Prelude.{◌≡◌, ◌⊎◌, ℕ, ◌^◌, ◌<◌, Bool, true, List, Some}
 use Rattle.std.specs.Option.{ForSome}
 use Rattle.std.specs.FinMap.{FinMap, get, empty}
 use Rattle.std.specs.Ordering.{nat_cmp}
@@ -52,9 +52,10 @@ pub record State : Type 0 where
 abbrev pub boot : Setting → State
 boot s = record { cpu = boot_cpu s.image s.frames; ram = boot_ram s.image s.frames; set = empty; board = at_reset; step = 0 }
 
--- A fresh walk of a page finds this entry, though its dirty flag may be clear in the entry, with the accessed flag set
--- in both words, which for a page of 4 MB are one word.
+-- A fresh walk of a page of the address space finds this entry, though its dirty flag may be clear in the entry, with the
+-- accessed flag set in both words, which for a page of 4 MB are one word.
 pub record IsCacheable (s : Setting) (b : State) (page : ℕ) (e : Entry) : Type 0 where
+  pub page_in : page < 2 ^ 20
   pub dir_at : ℕ
   pub word_at : ℕ
   pub dirty : Bool

@@ -1,6 +1,7 @@
 //! Laws of the pages that a step uses: where their translations lead, and that no other translation changes. So a view may
-//! show each of them.
+//! show each of them, and translations stay those of pages of the address space.
 
+ghost use Rattle.machine_model.specs.HeldPages.{StepsLeavePages, RunsHoldPages};
 ghost use Rattle.machine_model.specs.UsedPages.{FetchedUses, RangesUse, InstructedUses, DeliveredUses, StepsUse, UsedPagesLeadWell};
 
 /// Pages lead well over each part of a step that is done, or refused without a stop.
@@ -20,4 +21,10 @@ pub fn steps_use()
 /// text window, with the frame that the loader gave it, or lies behind the window and leads to no text.
 pub fn used_pages_are_open()
     ensures { UsedPagesLeadWell }
+{}
+
+/// Where steps use pages of the address space alone, translations of such pages alone are left and gone by.
+pub fn sets_hold_pages()
+    ensures steps { StepsLeavePages }
+    ensures runs { RunsHoldPages }
 {}
