@@ -29,6 +29,7 @@ use Rattle.sys_exec.specs.declared.effect.Refusal.{Refusal}
 use Rattle.sys_exec.specs.declared.effect.Refusal.TheVariants as refusal
 use Rattle.machine_model.specs.State.{Setting, State, space_at_start}
 use Rattle.machine_model.specs.Run.{Set}
+use Rattle.machine_model.specs.Taken.{Taken}
 use Rattle.machine_model.specs.Instruction.{bytes_fetched, fetching, owning_front, owning_back, next_page, owned, fetched_on, fetched_by, fetched}
 use Rattle.machine_model.specs.Clash.{Use, fetch_uses, range_uses, uses_by, is_refused_by, clash_behind, clash_in, instruction_clashes, has_instruction, clashes_from}
 use Rattle.machine_model.specs.Reloading.{IsFoundBy, Follows, FetchesFollow, FoundOver}
@@ -336,16 +337,24 @@ both_true : (a x y : Bool) → (x ≡ true → y ≡ true) → (a && x) ≡ true
 both_true true x y h e = h e
 both_true false x y h e = e
 
+-- what is found is of pages of the address space
+none_beyond : (m : Setting) (b : State) (c : ℕ) (steps : List Taken) (set : Set) → AllFound m b c steps set → (q : ℕ) → 2 ^ 20 ≤ q → get set q ≡ None
+none_beyond m b c steps set found q beyond = by (get set q) refl
+  where
+    by : (o : Option Entry) → get set q ≡ o → get set q ≡ None
+    by None at = at
+    by (Some e) at = let small = (found q e at).0 in absurd (omega (arith, small, beyond))
+
 pub clashes_agree : FetchesFollow → FoundOver → ClashesAgree
 unfolding clashes_from
-clashes_agree follow over m b steps kept others room fit sub found none h =
+clashes_agree follow over m b steps kept others room fit sub found h =
     both_true (has_instruction m b) (instruction_clashes m (record b { set = kept })) (instruction_clashes m (record b { set = others }))
-    (instructions_agree follow over m b (was_read steps) kept others room fit sub none found) h
+    (instructions_agree follow over m b (was_read steps) kept others room fit sub (none_beyond m b b.cpu.cr3 steps others found) (λ q small e there. (found q e there).1)) h
 
 -- ---- behind a load of CR3
 
 pub clashes_are_judged : FetchesFollow → FoundOver → ClashesAreJudged
-clashes_are_judged follow over m steps t b kept old left since loads room fit value found o sub none h =
+clashes_are_judged follow over m steps t b kept old left since loads room fit value found o sub h =
     let held_is : held (steps ++ t ∷ []) b ≡ left.set = held_back steps t b old left since loads o.split o.is_left o.is_last in
     let all : AllFound m b b.cpu.cr3 (steps ++ t ∷ []) left.set = subst (λ c. AllFound m b c (steps ++ t ∷ []) left.set) (sym value) (found.each t.after.cpu.cr3 old left since o) in
-    subst (λ (set : Set). clashes_from m (record b { set = set }) ≡ true) (sym held_is) (clashes_agree follow over m b (steps ++ t ∷ []) kept left.set room fit sub all none h)
+    subst (λ (set : Set). clashes_from m (record b { set = set }) ≡ true) (sym held_is) (clashes_agree follow over m b (steps ++ t ∷ []) kept left.set room fit sub all h)

@@ -59,17 +59,18 @@ and_right false b e = clash true refl (sym e)
 by_split : WordsStayFound → (m : Setting) (steps : List Taken) (t : Taken) → step_of m t.before t.set ≡ Went t.report t.after → 4096 * m.frames ≤ length t.before.ram
     → (loads_root t ≡ true → Unwritten (steps ++ t ∷ []) → AllFound m t.before t.before.cpu.cr3 steps t.set) → IsFoundStill m steps t.before
     → (c : ℕ) (old : List Taken) (left : Taken) (since : List Taken) → IsOwed m (steps ++ t ∷ []) t.after c old left since → Split steps t old left since → AllFound m t.after c (steps ++ t ∷ []) left.set
-by_split law m steps t is room loads h c old left since o (At_end at at_t none) page small e there =
+by_split law m steps t is room loads h c old left since o (At_end at at_t none) page e there =
     let leaving : leaves c t ≡ true = subst (λ (u : Taken). leaves c u ≡ true) at_t o.is_left in
     let value : t.before.cpu.cr3 ≡ c = eqb-true t.before.cpu.cr3 c (and_right (loads_root t) (t.before.cpu.cr3 == c) leaving) in
     let pse : pse_of t.after.cpu ≡ pse_of t.before.cpu = same_pse t.after t.before (o.same_now.1 ∙ ap (λ (u : Taken). u.before.cpu.cr4) at_t) in
-    let found : IsFoundBy t.before.ram m.frames t.before.cpu.cr3 (pse_of t.before.cpu) (was_read steps) page e =
-    loads (and_left (loads_root t) (t.before.cpu.cr3 == c) leaving) o.unwritten page small e (subst (λ (u : Taken). get u.set page ≡ Some e) at_t there) in
-    found_on law m steps t c page e is room small o.unwritten pse (subst (λ v. IsFoundBy t.before.ram m.frames v (pse_of t.before.cpu) (was_read steps) page e) value found)
-by_split law m steps t is room loads h c old left since o (Within before split at) page small e there =
+    let found : (page < 2 ^ 20) × IsFoundBy t.before.ram m.frames t.before.cpu.cr3 (pse_of t.before.cpu) (was_read steps) page e =
+    loads (and_left (loads_root t) (t.before.cpu.cr3 == c) leaving) o.unwritten page e (subst (λ (u : Taken). get u.set page ≡ Some e) at_t there) in
+    (found.0, found_on law m steps t c page e is room found.0 o.unwritten pse (subst (λ v. IsFoundBy t.before.ram m.frames v (pse_of t.before.cpu) (was_read steps) page e) value found.1))
+by_split law m steps t is room loads h c old left since o (Within before split at) page e there =
     let p = owed_front m steps t t.after c old left since before o split at in
     let pse : pse_of t.after.cpu ≡ pse_of t.before.cpu = same_pse t.after t.before (o.same_now.1 ∙ sym p.same_now.1) in
-    found_on law m steps t c page e is room small o.unwritten pse (h.each c old left before p page small e there)
+    let found = h.each c old left before p page e there in
+    (found.0, found_on law m steps t c page e is room found.0 o.unwritten pse found.1)
 
 pub found_goes_on : WordsStayFound → FoundGoesOn
 found_goes_on law m steps t is room loads h =

@@ -1,9 +1,7 @@
 -- What a run knows between two of its steps goes on over its steps.
 use Rattle.std.proofs.Common.{◌≡◌, ℕ, ◌*◌, ◌≤◌, length, List, [], ◌∷◌, ◌++◌, Bool, true, false, cond, not, refl, sym, ap, subst, ◌∙◌, ◌⊎◌, inl, inr}
 use Rattle.std.specs.Prelude.{reverse}
-use Rattle.std.specs.List.{All}
 use Rattle.std.specs.FinMap.{empty}
-use Rattle.std.proofs.lemmas.List.Elements.{All-head, All-tail, All-cons, All-nil, All-append}
 use Rattle.std.proofs.lemmas.Bool.{false_from_ne_true}
 use Rattle.guest_ram.specs.Bytes.{AreBytes}
 use Rattle.paging.specs.Fresh.{has}
@@ -19,7 +17,7 @@ use Rattle.kept_laws.specs.Remembered.{ComesFrom, Unwritten, IsOwed, IsRemembere
 use Rattle.kept_laws.specs.OverSteps.{IsTold, IsCause}
 use Rattle.kept_laws.specs.Judged.{AllFound, IsFoundStill, FoundGoesOn}
 use Rattle.kept_laws.specs.Carried.{IsReadyFor, NextIsKept}
-use Rattle.kept_laws.specs.Known.{IsOfPages, IsNextKept, IsKnown, RulesStay, StayAside, EmptyAside, IsStep, KnownAtStart, KnownStill, KnownQuiet, KnownOn}
+use Rattle.kept_laws.specs.Known.{IsNextKept, IsKnown, RulesStay, StayAside, EmptyAside, IsStep, KnownAtStart, KnownStill, KnownQuiet, KnownOn}
 use Rattle.kept_laws.proofs.Counts.{clash}
 use Rattle.kept_laws.proofs.Owed.{causes_owe_nothing}
 use Rattle.kept_laws.proofs.OwedStays.{start_remembers, still_remembers, dropped_remembers, steps_remember, same_remembers, loads_remember, returned}
@@ -32,7 +30,6 @@ pub known_at_start : KnownAtStart
 known_at_start m b noted marked none unmarked = record {
   remembered = start_remembers m b noted marked none unmarked;
   found = found_at_start m b;
-  of_pages = All-nil (λ (t : Taken). IsOfPages t.set);
   left = refl;
   next = λ set h. elim h [ inl same ↦ same | inr k ↦ k.0 ];
 }
@@ -46,7 +43,6 @@ pub known_still : KnownStill
 known_still m steps b noted noted2 marked marked2 asides asides2 kept stay k = record {
   remembered = still m steps b noted noted2 marked marked2 asides asides2 stay k.remembered;
   found = k.found;
-  of_pages = k.of_pages;
   left = k.left;
   next = k.next;
 }
@@ -55,14 +51,6 @@ known_still m steps b noted noted2 marked marked2 asides asides2 kept stay k = r
 
 next_over : NextIsKept → (m : Setting) (steps : List Taken) (t : Taken) (kept : Set) → IsReadyFor m steps t t.after kept → IsNextKept m (steps ++ t ∷ []) t.after kept
 next_over law m steps t kept r set h = law m steps t t.after set kept r h
-
-at_split : {X : Type 0} (P : X → Type 0) (xs : List X) (y : X) (ys : List X) → All P (xs ++ y ∷ ys) → P y
-at_split P [] y ys h = All-head P y ys h
-at_split P (x ∷ xs) y ys h = at_split P xs y ys (All-tail P x (xs ++ y ∷ ys) h)
-
-pages_more : (m : Setting) (steps : List Taken) (t : Taken) → IsOfPages t.set → All (λ (u : Taken). IsOfPages u.set) steps → All (λ (u : Taken). IsOfPages u.set) (steps ++ t ∷ [])
-pages_more m steps t here h =
-    All-append (λ (u : Taken). IsOfPages u.set) steps (t ∷ []) h (All-cons (λ (u : Taken). IsOfPages u.set) t [] here (All-nil (λ (u : Taken). IsOfPages u.set)))
 
 -- what a step without a load left is kept, or nothing where the step changed CR0.WP
 abbrev IsLeft : Taken → Set → Type 0
@@ -83,25 +71,22 @@ left_over m steps t kept left back = subst (λ (l : List Taken). LeftBehind m (s
 -- what the law of the next step asks of the memory that a load left
 record IsLaidOut (m : Setting) (t : Taken) : Type 0 where
   went : step_of m t.before t.set ≡ Went t.report t.after
-  of_pages : IsOfPages t.set
   room : 4096 * m.frames ≤ length t.before.ram
   room_after : loads_root t ≡ true → 4096 * m.frames ≤ length t.after.ram
   bytes : loads_root t ≡ true → AreBytes t.after.ram
 
 laid_out : (m : Setting) (t : Taken) → IsStep m t → IsLaidOut m t
-laid_out m t step = record { went = step.went; of_pages = step.of_pages; room = step.room; room_after = λ e. step.room_after; bytes = λ e. step.bytes }
+laid_out m t step = record { went = step.went; room = step.room; room_after = λ e. step.room_after; bytes = λ e. step.bytes }
 
 over : FoundGoesOn → NextIsKept → (m : Setting) (steps : List Taken) (t : Taken) (noted : ℕ → Bool) (marked : Bool) (asides : List Aside) (kept : Set) → IsLaidOut m t
     → (loads_root t ≡ true → Unwritten (steps ++ t ∷ []) → AllFound m t.before t.before.cpu.cr3 steps t.set)
-    → IsFoundStill m steps t.before → All (λ (u : Taken). IsOfPages u.set) steps → IsRemembered m (steps ++ t ∷ []) t.after noted marked asides → IsLeft t kept → IsBack m steps t kept
+    → IsFoundStill m steps t.before → IsRemembered m (steps ++ t ∷ []) t.after noted marked asides → IsLeft t kept → IsBack m steps t kept
     → IsKnown m (steps ++ t ∷ []) t.after noted marked asides kept
-over goes_on law m steps t noted marked asides kept step finds found pages remembered left back =
+over goes_on law m steps t noted marked asides kept step finds found remembered left back =
     let still_found : IsFoundStill m (steps ++ t ∷ []) t.after = goes_on m steps t step.went step.room finds found in
-    let of_pages : All (λ (u : Taken). IsOfPages u.set) (steps ++ t ∷ []) = pages_more m steps t step.of_pages pages in
     record {
       remembered = remembered;
       found = still_found;
-      of_pages = of_pages;
       left = left_over m steps t kept left back;
       next = next_over law m steps t kept (record {
         stays = left;
@@ -110,20 +95,19 @@ over goes_on law m steps t noted marked asides kept step finds found pages remem
         value = refl;
         room = step.room_after;
         bytes = step.bytes;
-        of_pages = λ old u since o. at_split (λ (v : Taken). IsOfPages v.set) old u since (subst (All (λ (v : Taken). IsOfPages v.set)) o.split of_pages);
       });
     }
 
 past_by : FoundGoesOn → NextIsKept → (m : Setting) (steps : List Taken) (t : Taken) (noted : ℕ → Bool) (marked : Bool) (asides : List Aside) (kept : Set) → IsLaidOut m t → loads_root t ≡ false
     → t.after.cpu.cr3 ≡ t.before.cpu.cr3 → IsKnown m steps t.before noted marked asides kept → IsKnown m (steps ++ t ∷ []) t.after noted marked asides t.after.set
 past_by goes_on law m steps t noted marked asides kept laid plain value k =
-    over goes_on law m steps t noted marked asides t.after.set laid (λ e u. clash (loads_root t) e plain) k.found k.of_pages
+    over goes_on law m steps t noted marked asides t.after.set laid (λ e u. clash (loads_root t) e plain) k.found
     (same_remembers m steps t noted marked asides plain value k.remembered) (λ e. inl refl) (λ e old u since o. clash (loads_root t) e plain)
 
 pub known_quiet : FoundGoesOn → NextIsKept → KnownQuiet
 known_quiet goes_on law m steps t noted marked asides kept past k =
     past_by goes_on law m steps t noted marked asides kept
-    (record { went = past.went; of_pages = past.of_pages; room = past.room; room_after = λ e. clash (loads_root t) e past.plain; bytes = λ e. clash (loads_root t) e past.plain })
+    (record { went = past.went; room = past.room; room_after = λ e. clash (loads_root t) e past.plain; bytes = λ e. clash (loads_root t) e past.plain })
     past.plain past.value k
 
 -- ---- the rules
@@ -205,7 +189,7 @@ known_on goes_on law m steps t noted noted2 marked marked2 slots2 asides asides2
   where
     known : IsRemembered m (steps ++ t ∷ []) t.after noted2 marked2 asides2 → IsLeft t (entries_of slots2) → IsBack m steps t (entries_of slots2)
         → IsKnown m (steps ++ t ∷ []) t.after noted2 marked2 asides2 (entries_of slots2)
-    known remembered left back = over goes_on law m steps t noted2 marked2 asides2 (entries_of slots2) (laid_out m t step) finds k.found k.of_pages remembered left back
+    known remembered left back = over goes_on law m steps t noted2 marked2 asides2 (entries_of slots2) (laid_out m t step) finds k.found remembered left back
 
     told : loads_root t ≡ false → IsRemembered m (steps ++ t ∷ []) t.after o.noted1 o.marked1 o.asides1
     told plain = steps_remember m steps t noted o.noted1 marked o.marked1 asides o.asides1 plain (step.through plain) o.told k.remembered

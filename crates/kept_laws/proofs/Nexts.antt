@@ -40,7 +40,7 @@ reloads follow over m steps t now set kept loads r (inl is) old left since h apa
 reloads follow over m steps t now set kept loads r (inr k) old left since h apart =
     let o = returned m (steps ++ t ∷ []) now t.after.cpu.cr3 old left since h in
     let by_rule : clashes m (steps ++ t ∷ []) now ≡ true =
-    clashes_are_judged follow over m steps t now kept old left since loads (r.room loads) (r.bytes loads) r.value r.found o (r.back loads old left since o).only (r.of_pages old left since o) k.1 in
+    clashes_are_judged follow over m steps t now kept old left since loads (r.room loads) (r.bytes loads) r.value r.found o (r.back loads old left since o).only k.1 in
     clash (clashes m (steps ++ t ∷ []) now) by_rule apart
 
 -- ---- either way

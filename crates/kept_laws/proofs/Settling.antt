@@ -12,6 +12,7 @@ use Rattle.shadow_tables.specs.Slots.{entry_in}
 use Rattle.shadow_tables.specs.Entries.{entries_of}
 use Rattle.shadow_tables.specs.Laws.Entries.{get-entries_of, none-entries_of}
 use Rattle.wedge_mem.specs.Told.{guest_frames, read_by}
+use Rattle.machine_model.specs.Run.{Set}
 use Rattle.machine_model.specs.Taken.{Taken}
 use Rattle.kept_laws.specs.OverSteps.{IsNotedBy, SettlingTells, DroppedComesFrom}
 
@@ -58,12 +59,12 @@ settling_tells t noted noted2 marked marked2 asides asides2 notes marks others =
 -- ---- what is kept before a load
 
 pub dropped_comes_from : DroppedComesFrom
-dropped_comes_from t whole slots same gone stays none = record { has = has; only = only }
+dropped_comes_from t whole first slots is_first same gone stays = record { has = has; only = only }
   where
     has : (page : ℕ) (e : Entry) → get t.set page ≡ Some e → is_among page t.report.pages ≡ false → get (entries_of slots) page ≡ Some e
     has page e is unused = elim (cases_lt page (2 ^ 20)) [
       | inl l ↦ get-entries_of slots page l ∙ (stays page l unused ∙ (same page unused ∙ is))
-      | inr g ↦ absurd (none-some e (sym (none page g) ∙ is))
+      | inr g ↦ absurd (none-some e (sym (ap (λ (x : Set). get x page) is_first ∙ none-entries_of first page g) ∙ is))
     ]
 
     kept : (page : ℕ) (e : Entry) → page < 2 ^ 20 → (b : Bool) → is_among page t.report.pages ≡ b → entry_in (slots page) ≡ Some e → get t.set page ≡ Some e

@@ -1,7 +1,7 @@
 -- What a run knows between two steps, and that its next step then goes by what the rule for kept translations asks.
-use Rattle.std.specs.Prelude.{◌≡◌, ◌⊎◌, ℕ, ◌+◌, ◌*◌, ◌/◌, ◌^◌, ◌≤◌, true, false, eqb, List, [], ◌∷◌, ◌++◌, length, map, None}
+use Rattle.std.specs.Prelude.{◌≡◌, ◌⊎◌, ℕ, ◌+◌, ◌*◌, ◌/◌, ◌≤◌, true, false, eqb, List, [], ◌∷◌, ◌++◌, length, map}
 use Rattle.std.specs.Set.{is_member, distinct_count}
-use Rattle.std.specs.FinMap.{get, empty}
+use Rattle.std.specs.FinMap.{empty}
 use Rattle.guest_ram.specs.Bytes.{AreBytes}
 use Rattle.machine_model.specs.State.{Setting, State}
 use Rattle.machine_model.specs.Run.{Set}
@@ -12,7 +12,7 @@ use Rattle.kept_laws.specs.Remembered.{ComesFrom, IsOwed}
 use Rattle.kept_laws.specs.Judged.{IsFoundStill}
 
 -- Behind a step, what is kept: all that it left, or nothing where it changed CR0.WP; and behind a load of CR3 what was left
--- with the loaded value, if it is owed. What is owed is found in memory as it is, and is of pages of the address space.
+-- with the loaded value, if it is owed. What is owed is found in memory as it is.
 pub record IsReadyFor (m : Setting) (steps : List Taken) (t : Taken) (b : State) (kept : Set) : Type 0 where
   pub stays : loads_root t ≡ false → (kept ≡ b.set) ⊎ ((kept ≡ empty) × (changes_protection t ≡ true))
   pub back : loads_root t ≡ true → (old : List Taken) (left : Taken) (since : List Taken) → IsOwed m (steps ++ t ∷ []) b t.after.cpu.cr3 old left since → ComesFrom left kept
@@ -20,7 +20,6 @@ pub record IsReadyFor (m : Setting) (steps : List Taken) (t : Taken) (b : State)
   pub value : b.cpu.cr3 ≡ t.after.cpu.cr3
   pub room : loads_root t ≡ true → 4096 * m.frames ≤ length b.ram
   pub bytes : loads_root t ≡ true → AreBytes b.ram
-  pub of_pages : (old : List Taken) (left : Taken) (since : List Taken) → IsOwed m (steps ++ t ∷ []) b t.after.cpu.cr3 old left since → (page : ℕ) → 2 ^ 20 ≤ page → get left.set page ≡ None
 
 -- The next step goes by what is kept, or by nothing where it clashes by that.
 abbrev pub NextIsKept : Type 0

@@ -1,5 +1,5 @@
 -- By which translations a run judges that a step clashes, and by which the rule for kept translations does.
-use Rattle.std.specs.Prelude.{◌≡◌, ℕ, ◌*◌, ◌^◌, ◌<◌, ◌≤◌, true, false, List, [], ◌∷◌, ◌++◌, length, Some, None}
+use Rattle.std.specs.Prelude.{◌≡◌, ℕ, ◌*◌, ◌^◌, ◌<◌, ◌≤◌, true, false, List, [], ◌∷◌, ◌++◌, length, Some}
 use Rattle.std.specs.List.{All}
 use Rattle.std.specs.Option.{ForSome}
 use Rattle.std.specs.FinMap.{get}
@@ -30,10 +30,10 @@ HeldBack =
     (steps : List Taken) (t : Taken) (b : State) (old : List Taken) (left : Taken) (since : List Taken) → loads_root t ≡ true → steps ++ t ∷ [] ≡ old ++ left ∷ since
     → leaves t.after.cpu.cr3 left ≡ true → All (λ u. leaves t.after.cpu.cr3 u ≡ false) since → held (steps ++ t ∷ []) b ≡ left.set
 
--- a walk from the directory of this value finds each of these translations, by words in frames that walks of these steps
--- read as a directory or table
+-- Each of these translations is of a page of the address space, and a walk from the directory of this value finds it, by
+-- words in frames that walks of these steps read as a directory or table.
 abbrev pub AllFound : Setting → State → ℕ → List Taken → Set → Type 0
-AllFound m b c steps set = (page : ℕ) → page < 2 ^ 20 → ForSome (get set page) (λ e. IsFoundBy b.ram m.frames c (pse_of b.cpu) (was_read steps) page e)
+AllFound m b c steps set = (page : ℕ) → ForSome (get set page) (λ e. (page < 2 ^ 20) × IsFoundBy b.ram m.frames c (pse_of b.cpu) (was_read steps) page e)
 
 -- What is owed is found in memory as it is now.
 pub record IsFoundStill (m : Setting) (steps : List Taken) (now : State) : Type 0 where
@@ -54,7 +54,7 @@ FoundGoesOn =
 abbrev pub ClashesAgree : Type 0
 ClashesAgree =
     (m : Setting) (b : State) (steps : List Taken) (kept others : Set) → 4096 * m.frames ≤ length b.ram → AreBytes b.ram
-    → ((page : ℕ) → ForSome (get kept page) (λ e. get others page ≡ Some e)) → AllFound m b b.cpu.cr3 steps others → ((page : ℕ) → 2 ^ 20 ≤ page → get others page ≡ None)
+    → ((page : ℕ) → ForSome (get kept page) (λ e. get others page ≡ Some e)) → AllFound m b b.cpu.cr3 steps others
     → clashes_from m (record b { set = kept }) ≡ true → clashes_from m (record b { set = others }) ≡ true
 
 -- So behind a load of CR3 a run that drops all, since the next step clashes by what came back, has a cause by the rule.
@@ -62,5 +62,5 @@ abbrev pub ClashesAreJudged : Type 0
 ClashesAreJudged =
     (m : Setting) (steps : List Taken) (t : Taken) (b : State) (kept : Set) (old : List Taken) (left : Taken) (since : List Taken) → loads_root t ≡ true → 4096 * m.frames ≤ length b.ram → AreBytes b.ram
     → b.cpu.cr3 ≡ t.after.cpu.cr3 → IsFoundStill m (steps ++ t ∷ []) b → IsOwed m (steps ++ t ∷ []) b t.after.cpu.cr3 old left since
-    → ((page : ℕ) → ForSome (get kept page) (λ e. get left.set page ≡ Some e)) → ((page : ℕ) → 2 ^ 20 ≤ page → get left.set page ≡ None)
+    → ((page : ℕ) → ForSome (get kept page) (λ e. get left.set page ≡ Some e))
     → clashes_from m (record b { set = kept }) ≡ true → clashes m (steps ++ t ∷ []) b ≡ true

@@ -1,7 +1,6 @@
 -- What a run knows between two of its steps, and how a step that was settled and ended goes on with it.
-use Rattle.std.specs.Prelude.{◌≡◌, ◌⊎◌, ℕ, ◌*◌, ◌^◌, ◌≤◌, Bool, true, false, Option, List, [], ◌∷◌, ◌++◌, length, None}
-use Rattle.std.specs.List.{All}
-use Rattle.std.specs.FinMap.{get, empty}
+use Rattle.std.specs.Prelude.{◌≡◌, ◌⊎◌, ℕ, ◌*◌, ◌≤◌, Bool, true, false, Option, List, [], ◌∷◌, ◌++◌, length}
+use Rattle.std.specs.FinMap.{empty}
 use Rattle.guest_ram.specs.Bytes.{AreBytes}
 use Rattle.descriptors.specs.Controls.{pse_of, wp_of}
 use Rattle.shadow_tables.specs.Aside.{Aside, AreSame}
@@ -17,10 +16,6 @@ use Rattle.kept_laws.specs.Remembered.{ComesFrom, IsRemembered, Unwritten}
 use Rattle.kept_laws.specs.OverSteps.{IsTold, IsLoaded}
 use Rattle.kept_laws.specs.Judged.{AllFound, IsFoundStill}
 
--- no translation is of a page beyond the address space
-abbrev pub IsOfPages : Set → Type 0
-IsOfPages set = (page : ℕ) → 2 ^ 20 ≤ page → get set page ≡ None
-
 -- The next step goes as the rule asks, where it goes by what is kept, or by nothing where it clashes by that.
 abbrev pub IsNextKept : Setting → List Taken → State → Set → Type 0
 IsNextKept m steps b kept =
@@ -31,7 +26,6 @@ IsNextKept m steps b kept =
 pub record IsKnown (m : Setting) (steps : List Taken) (b : State) (noted : ℕ → Bool) (marked : Bool) (asides : List Aside) (kept : Set) : Type 0 where
   pub remembered : IsRemembered m steps b noted marked asides
   pub found : IsFoundStill m steps b
-  pub of_pages : All (λ (t : Taken). IsOfPages t.set) steps
   pub left : IsLeftBehind m steps b kept
   pub next : IsNextKept m steps b kept
 
@@ -76,7 +70,6 @@ pub record IsOver (t : Taken) (noted noted2 : ℕ → Bool) (marked marked2 : Bo
 -- what is said of a step that went, for what is kept
 pub record IsStep (m : Setting) (t : Taken) : Type 0 where
   pub went : step_of m t.before t.set ≡ Went t.report t.after
-  pub of_pages : IsOfPages t.set
   pub room : 4096 * m.frames ≤ length t.before.ram
   pub room_after : 4096 * m.frames ≤ length t.after.ram
   pub bytes : AreBytes t.after.ram
@@ -86,7 +79,6 @@ pub record IsStep (m : Setting) (t : Taken) : Type 0 where
 -- what is said of a step in which the run has no part, and that loads no CR3
 pub record IsPast (m : Setting) (t : Taken) : Type 0 where
   pub went : step_of m t.before t.set ≡ Went t.report t.after
-  pub of_pages : IsOfPages t.set
   pub room : 4096 * m.frames ≤ length t.before.ram
   pub plain : loads_root t ≡ false
   pub value : t.after.cpu.cr3 ≡ t.before.cpu.cr3

@@ -1,5 +1,5 @@
 -- How what shadows remember goes on over the steps of a run: the statements of the laws.
-use Rattle.std.specs.Prelude.{◌≡◌, ◌⊎◌, ℕ, ◌^◌, ◌<◌, ◌≤◌, Bool, true, false, ◌||◌, List, [], ◌∷◌, ◌++◌, Option, Some, None}
+use Rattle.std.specs.Prelude.{◌≡◌, ◌⊎◌, ℕ, ◌^◌, ◌<◌, Bool, true, false, ◌||◌, List, [], ◌∷◌, ◌++◌, Option, Some, None}
 use Rattle.std.specs.List.{Contains, list_any}
 use Rattle.shadow_tables.specs.Aside.{Aside, IsSame, AreSame, LoseWrites, all_spared}
 use Rattle.shadow_tables.specs.Entries.{entries_of}
@@ -53,13 +53,12 @@ SettlingTells =
     → LoseWrites (guest_frames t.report.tables) (all_spared t.report.wrote asides) asides2 → IsTold t noted noted2 marked marked2 asides asides2
 
 -- Before CR3 is loaded the pages that the step used are dropped from what is kept of the set that its accesses left. No
--- access changed another page. So what is kept comes from the set before the step.
+-- access changed another page. So what is kept comes from the set before the step, which was what was kept then.
 abbrev pub DroppedComesFrom : Type 0
 DroppedComesFrom =
-    (t : Taken) (whole : Set) (slots : ℕ → Option Slot) → ((page : ℕ) → is_among page t.report.pages ≡ false → get whole page ≡ get t.set page)
+    (t : Taken) (whole : Set) (first slots : ℕ → Option Slot) → t.set ≡ entries_of first → ((page : ℕ) → is_among page t.report.pages ≡ false → get whole page ≡ get t.set page)
     → ((page : ℕ) → page < 2 ^ 20 → is_among page t.report.pages ≡ true → slots page ≡ None)
     → ((page : ℕ) → page < 2 ^ 20 → is_among page t.report.pages ≡ false → entry_in (slots page) ≡ get whole page)
-    → ((page : ℕ) → 2 ^ 20 ≤ page → get t.set page ≡ None)
     → ComesFrom t (entries_of slots)
 
 -- A step that doesn't load CR3 keeps it.
