@@ -14,7 +14,6 @@ use Rattle.image_check.specs.Image.{Image}
 use Rattle.image_load.specs.Boot.{text_pages}
 use Rattle.shadow_tables.specs.Aside.{Aside, AreSame}
 use Rattle.shadow_tables.specs.Entries.{entries_of}
-use Rattle.shadow_tables.specs.Laws.Entries.{none-entries_of}
 use Rattle.guest_ram.specs.Among.{is_among}
 use Rattle.shadow_tables.specs.Slots.{Slot, is_user}
 use Rattle.shadow_tables.proofs.Asides.{same-refl}
@@ -30,7 +29,7 @@ use Rattle.machine_step.specs.declared.worked.Worked.{Worked}
 use Rattle.machine_step.specs.Worked.{went_as}
 use Rattle.native_steps.specs.Mirrors.{shown}
 use Rattle.kept_laws.specs.Carried.{IndicesGrow, indices_in}
-use Rattle.kept_laws.specs.Known.{IsKnown, IsOfPages, KnownOn, KnownStill}
+use Rattle.kept_laws.specs.Known.{IsKnown, KnownOn, KnownStill}
 use Rattle.kept_laws.specs.OverSteps.{SettlingTells, DroppedComesFrom}
 use Rattle.wedge_step.specs.Carried.{IsTakenFrom}
 use Rattle.wedge_step.specs.Closed.{MayClose}
@@ -104,9 +103,6 @@ module _ {S : Type 0} (slots : S → List ℕ → ℕ → Option Slot) (noted : 
       abbrev m : Setting
       m = wedge image script n
 
-      none : IsOfPages t.set
-      none page beyond = ap (λ (x : Set). get x page) (d.by ∙ d.set) ∙ none-entries_of (slots s memory) page beyond
-
       room_before : 4096 * n ≤ length t.before.ram
       room_before = subst (λ (l : List ℕ). 4096 * n ≤ length l) (sym d.taken.ram) d.room
 
@@ -123,9 +119,9 @@ module _ {S : Type 0} (slots : S → List ℕ → ℕ → Option Slot) (noted : 
           let base_is = d.entries ∙ (sym d.set ∙ sym d.by) in
           let base = entries_of (slots s then) in
           on m steps t (noted s) v'.noted (marked s) v'.marked v'.slots (asides s then) v'.asides kept
-          (a_step tells comes t b.cpu w last (value s) base changes a d.taken.cpu roots ready.value_is set base_is told none m b d.taken room_before room_after bytes)
+          (a_step tells comes t b.cpu w last (value s) base changes a d.taken.cpu roots ready.value_is set base_is told (slots s memory) (d.by ∙ d.set) m b d.taken room_before room_after bytes)
           (λ load un. all_found m steps t b.cpu (shown (ground image n) memory) (noted s) (marked s) (slots s memory) d.taken.cpu (d.taken.ram ∙ d.ram) (d.by ∙ d.set) (λ free page lt. ready.present free page lt refl) known.remembered.noted_read known.remembered.unmarked un)
-          (over tells comes t b.cpu w last (value s) base changes a d.taken.cpu roots ready.value_is set base_is told none (sight_by s then) v' refl ends)
+          (over tells comes t b.cpu w last (value s) base changes a d.taken.cpu roots ready.value_is set base_is told (slots s memory) (d.by ∙ d.set) (sight_by s then) v' refl ends)
           known_then
 
       -- behind one that the host does, and that loads no CR3 and leaves the rules and the translations
@@ -140,7 +136,6 @@ module _ {S : Type 0} (slots : S → List ℕ → ℕ → Option Slot) (noted : 
           on m steps t (noted s) v'.noted (marked s) v'.marked v'.slots (asides s then) v'.asides kept
           (record {
             went = d.taken.went;
-            of_pages = none;
             room = room_before;
             room_after = room_after;
             bytes = bytes;

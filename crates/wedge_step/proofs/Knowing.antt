@@ -1,5 +1,6 @@
 -- A step that was settled and ended goes on with what a run knows.
-use Rattle.std.proofs.Common.{◌≡◌, ℕ, ◌*◌, ◌^◌, ◌<◌, ◌≤◌, Bool, true, false, List, [], ◌∷◌, ◌++◌, map, length, append_assoc, Option, Some, None, refl, sym, ap, subst, ◌∙◌}
+use Rattle.std.proofs.Common.{◌≡◌, ℕ, ◌*◌, ◌^◌, ◌<◌, ◌≤◌, Bool, true, false, List, [], ◌∷◌, ◌++◌, map, length, append_assoc, Option, Some, None, refl, sym, ap, subst, ◌∙◌, inl, inr}
+use Rattle.std.proofs.lemmas.Bool.{cases_lt}
 use Rattle.std.specs.Option.{ForSome}
 use Rattle.std.specs.FinMap.{get, empty}
 use Rattle.guest_ram.specs.Among.{is_among}
@@ -11,7 +12,7 @@ use Rattle.descriptors.specs.Controls.{pse_of, wp_of}
 use Rattle.descriptors.specs.declared.cpu.Cpu.{Cpu}
 use Rattle.shadow_tables.specs.Aside.{IsSame, AreSame}
 use Rattle.shadow_tables.specs.Entries.{entries_of}
-use Rattle.shadow_tables.specs.Laws.Entries.{get-entries_of}
+use Rattle.shadow_tables.specs.Laws.Entries.{get-entries_of, none-entries_of}
 use Rattle.shadow_tables.specs.Slots.{Slot, entry_in}
 use Rattle.shadow_cache.specs.Reloaded.{put_by, coming, staying}
 use Rattle.step_mem.specs.Changes.{changed, page_of, AreToldIn}
@@ -28,7 +29,7 @@ use Rattle.machine_step.specs.declared.worked.Dropped.TheVariants as dropped
 use Rattle.machine_step.specs.declared.worked.Worked.{Worked}
 use Rattle.machine_step.specs.Worked.{completed_by, dropping, went_as}
 use Rattle.kept_laws.specs.Judged.{AllFound}
-use Rattle.kept_laws.specs.Known.{IsOver, IsStep, IsOfPages, RulesStay, ReloadAside}
+use Rattle.kept_laws.specs.Known.{IsOver, IsStep, RulesStay, ReloadAside}
 use Rattle.kept_laws.specs.OverSteps.{IsTold, SettlingTells, DroppedComesFrom}
 use Rattle.kept_laws.specs.Remembered.{Unwritten, was_read}
 use Rattle.wedge_step.specs.Carried.{IsTakenFrom}
@@ -38,7 +39,7 @@ use Rattle.wedge_step.specs.Sight.{Sight}
 use Rattle.machine_step.specs.Roots.{RootsAs}
 use Rattle.wedge_step.proofs.Shedding.{found_tables}
 use Rattle.wedge_step.proofs.AmongPages.{told_among, among_first, changed_other}
-use Rattle.wedge_step.proofs.Bools.{clash, not_true}
+use Rattle.wedge_step.proofs.Bools.{clash, none_some, not_true}
 
 -- ---- what a step reported
 
@@ -99,7 +100,7 @@ told_by tells t v v' tables wrote tables_are wrote_are told =
 
 module _ (tells : SettlingTells) (comes : DroppedComesFrom) (t : Taken) (before : Cpu) (w : Worked) (s : Space) (value : Option ℕ) (base : Set) (changes : List Change)
     (a : IsAnswer t w s) (cpu : t.before.cpu ≡ before) (roots : RootsAs before w) (value_is : value ≡ Some before.cr3) (set : s.set ≡ changed base changes) (base_is : base ≡ t.set)
-    (told : AreToldIn s.visited changes) (none : IsOfPages t.set)
+    (told : AreToldIn s.visited changes) (first : ℕ → Option Slot) (by_first : t.set ≡ entries_of first)
   where
     load_is : loads_root t ≡ is_load (completed_by w.completed)
     load_is = ap is_load a.completed
@@ -152,11 +153,10 @@ module _ (tells : SettlingTells) (comes : DroppedComesFrom) (t : Taken) (before 
               slots1 = x.slots;
               asides1 = x.asides;
               stay = r.sheds.stay;
-              comes = comes t s.set x.slots left (λ q lt e1. r.sheds.gone q lt (among_first q s.visited (map page_of changes) (is_used q e1)))
+              comes = comes t s.set first x.slots by_first left (λ q lt e1. r.sheds.gone q lt (among_first q s.visited (map page_of changes) (is_used q e1)))
                   (λ q lt e1.
                   ap entry_in (r.sheds.others q lt (not_true (is_among q (pages_of s.visited changes)) (λ c. clash (is_among q s.visited) (told_among s.visited changes told q c) (unused q e1))))
-                  ∙ (sym (get-entries_of e.between.slots q lt) ∙ ap (λ (y : Set). get y q) e.entries))
-                  none;
+                  ∙ (sym (get-entries_of e.between.slots q lt) ∙ ap (λ (y : Set). get y q) e.entries));
               loaded = record {
                 present =
                     subst (λ (c : ℕ). IsSame (coming c (put_by (Some t.before.cpu.cr3) x.marked x.noted x.slots x.asides)) (record { cr3 = c; tables = v'.noted; slots = v'.slots })) (sym cr3_now)
@@ -171,7 +171,6 @@ module _ (tells : SettlingTells) (comes : DroppedComesFrom) (t : Taken) (before 
     pub a_step : (m : Setting) (b : State) → IsTakenFrom m b t → 4096 * m.frames ≤ length t.before.ram → 4096 * m.frames ≤ length s.ram → AreBytes s.ram → IsStep m t
     a_step m b taken room room_after bytes = record {
       went = taken.went;
-      of_pages = none;
       room = room;
       room_after = subst (λ (l : List ℕ). 4096 * m.frames ≤ length l) (sym a.ram) room_after;
       bytes = subst AreBytes (sym a.ram) bytes;
@@ -188,12 +187,16 @@ unwritten_before steps t u front x back e = u front x (back ++ t ∷ []) (ap (λ
 pub all_found : (m : Setting) (steps : List Taken) (t : Taken) (cpu : Cpu) (ram : List ℕ) (noted : ℕ → Bool) (marked : Bool) (slots : ℕ → Option Slot) → t.before.cpu ≡ cpu → t.before.ram ≡ ram → t.set ≡ entries_of slots
     → (marked ≡ false → (page : ℕ) → page < 2 ^ 20 → ForSome (slots page) (λ (slot : Slot). IsFoundBy ram m.frames cpu.cr3 (pse_of cpu) noted page slot.entry))
     → ((frame : ℕ) → noted frame ≡ true → was_read steps frame ≡ true) → (Unwritten steps → marked ≡ false) → Unwritten (steps ++ t ∷ []) → AllFound m t.before t.before.cpu.cr3 steps t.set
-all_found m steps t cpu ram noted marked slots cpu_is ram_is set_is present read unmarked un page lt e there =
-    by (slots page) refl (sym (get-entries_of slots page lt) ∙ (ap (λ (x : Set). get x page) (sym set_is) ∙ there))
+all_found m steps t cpu ram noted marked slots cpu_is ram_is set_is present read unmarked un page e there =
+    let kept : get (entries_of slots) page ≡ Some e = ap (λ (x : Set). get x page) (sym set_is) ∙ there in
+    elim (cases_lt page (2 ^ 20)) [
+      | inl lt ↦ (lt, by lt (slots page) refl (sym (get-entries_of slots page lt) ∙ kept))
+      | inr ge ↦ absurd (none_some e (sym (none-entries_of slots page ge) ∙ kept))
+    ]
   where
-    by : (o : Option Slot) → slots page ≡ o → entry_in (slots page) ≡ Some e → IsFoundBy t.before.ram m.frames t.before.cpu.cr3 (pse_of t.before.cpu) (was_read steps) page e
-    by None at there = absurd (let x : ◌≡◌ {A = Option _} None (Some e) = sym (ap entry_in at) ∙ there in cc)
-    by (Some slot) at there =
+    by : page < 2 ^ 20 → (o : Option Slot) → slots page ≡ o → entry_in (slots page) ≡ Some e → IsFoundBy t.before.ram m.frames t.before.cpu.cr3 (pse_of t.before.cpu) (was_read steps) page e
+    by lt None at there = absurd (let x : ◌≡◌ {A = Option _} None (Some e) = sym (ap entry_in at) ∙ there in cc)
+    by lt (Some slot) at there =
         let same : slot.entry ≡ e = (let x : Some slot.entry ≡ Some e = sym (ap entry_in at) ∙ there in cc) in
         let here = present (unmarked (unwritten_before steps t un)) page lt slot at in
         let more = found_tables ram m.frames cpu.cr3 (pse_of cpu) noted (was_read steps) page slot.entry read here in

@@ -67,7 +67,7 @@ module _ (m : Setting) (cpu : Cpu) (ram : List ℕ) (cr3 : ℕ) (tables : ℕ �
         (subst (λ (c : ℕ). IsFoundBy b.ram n.frames c (pse_of cpu) tables page e) (sym cr3_is)
         (subst (λ (r : List ℕ). IsFoundBy r n.frames cr3 (pse_of cpu) tables page e) (sym ram_is)
         (subst (λ (k : ℕ). IsFoundBy ram k cr3 (pse_of cpu) tables page e) (sym frames_are) here))) in
-        inr (record { dir_at = there.dir_at; word_at = there.word_at; dirty = there.dirty; found = there.found; accessed = there.accessed; is_dirty = there.is_dirty });
+        inr (record { page_in = s.0; dir_at = there.dir_at; word_at = there.word_at; dirty = there.dirty; found = there.found; accessed = there.accessed; is_dirty = there.is_dirty });
   }
 
 -- what is left behind a step
