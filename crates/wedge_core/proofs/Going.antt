@@ -24,7 +24,6 @@ use Rattle.machine_model.specs.Clash.{clashes_from}
 use Rattle.machine_model.specs.Keeping.{Roomy, Kept}
 use Rattle.machine_model.specs.Notes.{AreLeft, AreNotes, is_dropped, set_told}
 use Rattle.native_steps.specs.Stretch.{IsQuiet}
-use Rattle.kept_laws.specs.Known.{IsOfPages}
 use Rattle.wedge_step.specs.Carried.{IsTakenFrom}
 use Rattle.wedge_step.specs.CarryLaws.{CarryLaws}
 use Rattle.wedge_step.specs.Filled.{FillsOn}
@@ -127,9 +126,9 @@ chosen_there m now whole chosen = refl
 -- steps in which nothing is seen
 
 pub going_past : (m : Setting) (old now new : State) (a b c : Counts) (told tells : Option (List ℕ)) (pages fills mid filled : ℕ) (wanted : Bool) (notes_on : List Note → Type 0) (begins : Type 0) (carried : Set → List Taken → State → Type 0) → (g : Going m old now a b told tells pages fills mid wanted notes_on begins carried) → mid ≤ filled → FillsOn pages (len new.set) fills filled
-    → CarryLaws → CarriesPast m carried → IsOfPages now.set → 4096 * m.frames ≤ length now.ram → Passes m now new b c → Going m old new a c told tells pages fills filled wanted notes_on begins carried
+    → CarryLaws → CarriesPast m carried → 4096 * m.frames ≤ length now.ram → Passes m now new b c → Going m old new a c told tells pages fills filled wanted notes_on begins carried
 unfolding Steps
-going_past m old now new a b c told tells pages fills mid filled wanted notes_on begins carried g rises enough laws goes pages_of room p = by p.n p.steps p.sets p.quiet
+going_past m old now new a b c told tells pages fills mid filled wanted notes_on begins carried g rises enough laws goes room p = by p.n p.steps p.sets p.quiet
   where
     silent : trace_of (g.reports ++ p.reports) ≡ trace_of g.reports
     silent = trace_join g.reports p.reports ∙ (ap (λ (l : List Item). trace_of g.reports ++ l) p.silent ∙ append-nil (trace_of g.reports))
@@ -164,7 +163,7 @@ going_past m old now new a b c told tells pages fills mid filled wanted notes_on
         let one : IsQuiet (step_taken (with_set now g.whole) now.set steps.1 steps.0) = record { through = q.through; cr0 = q.cr0; cr3 = q.cr3; cr4 = q.cr4; size = q.size } in
         let so_far = λ (s : begins). some_more laws m carried goes old n g.sets g.reports (with_set now g.whole) steps.0 new now.set steps.1 steps.2
         g.steps g.allowed (chosen_there m now g.whole now.set ∙ steps.4) steps.5 (left.1 steps.1 steps.0 steps.4) one
-        (All-tail IsQuiet (step_taken now now.set steps.1 steps.0) (steps_by m steps.0 (replicate n now.set)) both) pages_of room (record { rule = g.rule s; carries = g.carries s }) in
+        (All-tail IsQuiet (step_taken now now.set steps.1 steps.0) (steps_by m steps.0 (replicate n now.set)) both) room (record { rule = g.rule s; carries = g.carries s }) in
         let count = steps_counted m now (replicate (suc n) now.set) p.reports new steps in
         let later : now.step < new.step = omega (arith, count) in
         let first : EachFilled pages fills filled (replicate (suc n) now.set) = All-replicate (λ (set : Set). FillsOn pages (len set) fills filled) (suc n) now.set (enough_later pages (len now.set) fills mid filled rises g.enough) in

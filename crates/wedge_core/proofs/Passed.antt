@@ -9,7 +9,7 @@ use Rattle.machine_model.specs.Taken.{Taken, behind, steps_by}
 use Rattle.machine_model.specs.Notes.{AreLeft}
 use Rattle.machine_model.specs.Keeping.{Roomy, Kept, IsLeftBehind}
 use Rattle.native_steps.specs.Stretch.{IsQuiet}
-use Rattle.kept_laws.specs.Known.{IsOfPages, IsNextKept, IsPast}
+use Rattle.kept_laws.specs.Known.{IsNextKept, IsPast}
 use Rattle.wedge_step.specs.CarryLaws.{CarryLaws}
 use Rattle.wedge_core.proofs.Joined.{steps_join, steps_one}
 
@@ -47,26 +47,26 @@ module _ (laws : CarryLaws) (m : Setting) (carried : Set → List Taken → Stat
             subst (λ (l : List Taken). carried after.set l after) (sym joined) (goes.past kept (steps_by m old sets) t past (k.carries before));
       }
 
-  is_past : (b after : State) (kept : Set) (report : Report) → step_of m b kept ≡ Went report after → IsOfPages kept → 4096 * m.frames ≤ length b.ram → IsQuiet (step_taken b kept report after)
+  is_past : (b after : State) (kept : Set) (report : Report) → step_of m b kept ≡ Went report after → 4096 * m.frames ≤ length b.ram → IsQuiet (step_taken b kept report after)
       → IsPast m (step_taken b kept report after)
-  is_past b after kept report is pages room quiet = record { went = is; of_pages = pages; room = room; plain = quiet.through; value = quiet.cr3 }
+  is_past b after kept report is room quiet = record { went = is; room = room; plain = quiet.through; value = quiet.cr3 }
 
   -- some steps more, each by what the one before left
   pub some_more : (n : ℕ) (sets : List Set) (reports : List Report) (b mid new : State) (kept : Set) (report : Report) (later : List Report)
       → Steps m old sets reports b → Loosened m b kept → step_of m b kept ≡ Went report mid → Steps m mid (replicate n kept) later new → AreLeft m mid (replicate n kept)
-      → IsQuiet (step_taken b kept report mid) → All IsQuiet (steps_by m mid (replicate n kept)) → IsOfPages kept → 4096 * m.frames ≤ length b.ram
+      → IsQuiet (step_taken b kept report mid) → All IsQuiet (steps_by m mid (replicate n kept)) → 4096 * m.frames ≤ length b.ram
       → SoFarKept m carried old sets b kept → SoFarKept m carried old (sets ++ kept ∷ replicate n kept) new new.set
   unfolding Steps
-  some_more zero sets reports b mid new kept report later steps allowed is rest left quiet quiets pages room k =
+  some_more zero sets reports b mid new kept report later steps allowed is rest left quiet quiets room k =
       subst (λ (x : State). SoFarKept m carried old (sets ++ kept ∷ []) x x.set) (sym rest.1)
-      (one_more sets reports b mid kept report steps is (is_past b mid kept report is pages room quiet) k)
-  some_more (suc n) sets reports b mid new kept report later steps allowed is rest left quiet quiets pages room k =
-      let here = one_more sets reports b mid kept report steps is (is_past b mid kept report is pages room quiet) k in
+      (one_more sets reports b mid kept report steps is (is_past b mid kept report is room quiet) k)
+  some_more (suc n) sets reports b mid new kept report later steps allowed is rest left quiet quiets room k =
+      let here = one_more sets reports b mid kept report steps is (is_past b mid kept report is room quiet) k in
       let t = step_taken mid kept rest.1 rest.0 in
       let next : All IsQuiet (t ∷ steps_by m rest.0 (replicate n kept)) = subst (All IsQuiet) (taken_first m mid rest.0 kept (replicate n kept) rest.1 rest.4) quiets in
       let steps_then : Steps m old (sets ++ kept ∷ []) (reports ++ report ∷ []) mid = steps_join m old b mid sets (kept ∷ []) reports (report ∷ []) steps (steps_one m b mid kept report allowed is) in
       let size = quiet.size in
       subst (λ (l : List Set). SoFarKept m carried old l new new.set) (append_assoc sets (kept ∷ []) (kept ∷ replicate n kept))
       (some_more n (sets ++ kept ∷ []) (reports ++ report ∷ []) mid rest.0 new kept rest.1 rest.2 steps_then rest.3 rest.4 rest.5 (left.1 rest.1 rest.0 rest.4)
-      (All-head IsQuiet t (steps_by m rest.0 (replicate n kept)) next) (All-tail IsQuiet t (steps_by m rest.0 (replicate n kept)) next) pages (omega (arith, room, size))
+      (All-head IsQuiet t (steps_by m rest.0 (replicate n kept)) next) (All-tail IsQuiet t (steps_by m rest.0 (replicate n kept)) next) (omega (arith, room, size))
       (subst (SoFarKept m carried old (sets ++ kept ∷ []) mid) (sym left.0) here))

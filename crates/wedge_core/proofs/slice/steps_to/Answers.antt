@@ -14,7 +14,6 @@ use Rattle.run_trace.specs.Text.{lines_of}
 use Rattle.machine_model.specs.State.{Setting, State, wedge}
 use Rattle.machine_model.specs.Run.{Set}
 use Rattle.machine_model.specs.Taken.{Taken}
-use Rattle.kept_laws.specs.Known.{IsOfPages}
 use Rattle.wedge_step.specs.Carried.{IsCarried}
 use Rattle.wedge_step.specs.CarryLaws.{CarryLaws}
 use Rattle.machine_model.specs.Step.{items_at}
@@ -62,9 +61,6 @@ module _ (g : Over) where
       → SameIn (g.S.Shadows.frames r.shadows memory) memory then → (steps : List Taken) (b : State) → Knows m r memory kept steps b → Knows m mid then kept steps b
   known_there laws m r mid memory then kept is stand same steps b =
       carried_there g.S.Shadows.stands g.S.Shadows.frames g.S.Shadows.slots g.S.Shadows.noted g.S.Shadows.marked g.S.Shadows.asides g.S.Shadows.opened widens laws m r.shadows mid.shadows memory then kept steps b is stand same
-
-  of_pages : (r : Running g.row.S.Denot) (memory : List ℕ) → IsOfPages (entries_of (g.S.Shadows.slots r.shadows memory))
-  of_pages r memory = λ page beyond. g.met.S.Shadows.none_beyond r.shadows memory page beyond
 
   ready_at : (image : Image) (f n : ℕ) (cpu : Cpu) (s : g.row.S.Denot) (memory : List ℕ) → f ≡ n → IsReady g.S.Shadows.slots g.S.Shadows.noted g.S.Shadows.marked g.S.Shadows.value g.S.Shadows.asides (ground image f) cpu s memory → IsReady g.S.Shadows.slots g.S.Shadows.noted g.S.Shadows.marked g.S.Shadows.value g.S.Shadows.asides (ground image n) cpu s memory
   ready_at image f n cpu s memory is h = subst (λ (k : ℕ). IsReady g.S.Shadows.slots g.S.Shadows.noted g.S.Shadows.marked g.S.Shadows.value g.S.Shadows.asides (ground image k) cpu s memory) is h
@@ -121,7 +117,7 @@ loop-running-preserved-then-stretch-gt0 g c =
       going = going_turned m old (at f mid then_memory) counts mid_counts told tells (pages_kept g.S.Shadows.slots g.S.Shadows.asides c.args.running.now.shadows (g.H.Host.bytes c.args.host.now)) c.args.running.now.fills mid.fills (g.L.Notes.wants c.args.notes.now) on begins (Knows g m r memory) (Knows g m mid then_memory)
           (known_there g laws m r mid memory then_memory (entries_of (g.S.Shadows.slots mid.shadows then_memory)) c.stretch.ensures.leaves.kept inv.held.stand c.stretch.ensures.leaves.apart)
           (going_past m old (at f r memory) (at f mid then_memory) counts so_far mid_counts told tells (pages_kept g.S.Shadows.slots g.S.Shadows.asides c.args.running.now.shadows (g.H.Host.bytes c.args.host.now)) c.args.running.now.fills r.fills mid.fills (g.L.Notes.wants c.args.notes.now) on begins (Knows g m r memory) inv.going c.stretch.ensures.leaves.filled.rises
-          (few g mid then_memory _ _ _ (fills_join _ _ _ _ _ _ inv.filled c.stretch.ensures.leaves.filled)) laws (known_past g laws m r memory) (of_pages g r memory)
+          (few g mid then_memory _ _ _ (fills_join _ _ _ _ _ _ inv.filled c.stretch.ensures.leaves.filled)) laws (known_past g laws m r memory)
           (room_at g.S.Shadows.stands g.S.Shadows.frames g.S.Shadows.slots g.S.Shadows.noted g.S.Shadows.marked g.S.Shadows.asides g.S.Shadows.opened c.args.image.now c.args.script.now.list f r c.loop-running.pool memory inv.held) passes);
       held = held_at g.S.Shadows.stands g.S.Shadows.frames g.S.Shadows.slots c.args.image.now r.frames f mid c.loop-running.pool then_memory inv.frames (c.stretch.ensures.leaves.held c.loop-running.pool (held_given g.S.Shadows.stands g.S.Shadows.frames g.S.Shadows.slots c.args.image.now c.args.running.now.frames c.loop-running.running.frames c.loop-running.running c.begin.new.self c.loop-running.pool (g.H.Host.bytes c.loop-running.host) c.loop-running.invariant.frames c.loop-running.invariant.held));
       ready = ready_at g c.args.image.now r.frames f mid.cpu mid.shadows then_memory inv.frames (c.stretch.ensures.leaves.ready (ready_at g c.args.image.now f r.frames r.cpu r.shadows memory (sym inv.frames) inv.ready));
@@ -332,7 +328,7 @@ loop-running-preserved g c =
           (going_past m old (at f new new_memory) (at f rested new_memory) counts new_counts new_counts told last (pages_kept g.S.Shadows.slots g.S.Shadows.asides c.args.running.now.shadows (g.H.Host.bytes c.args.host.now)) c.args.running.now.fills new.fills rested.fills wanted (NotesOn wanted first after) begins (Knows g m new new_memory) stepped
           (subst (λ (x : Running g.row.S.Denot). new.fills ≤ x.fills) (sym as_were) (omega arith))
           (subst (λ (x : Running g.row.S.Denot). FillsOn (pages_kept g.S.Shadows.slots g.S.Shadows.asides c.args.running.now.shadows (g.H.Host.bytes c.args.host.now)) (len (entries_of (g.S.Shadows.slots x.shadows new_memory))) c.args.running.now.fills x.fills) (sym as_were) more)
-          laws (known_past g laws m new new_memory) (of_pages g new new_memory) (room_at g.S.Shadows.stands g.S.Shadows.frames g.S.Shadows.slots g.S.Shadows.noted g.S.Shadows.marked g.S.Shadows.asides g.S.Shadows.opened c.args.image.now c.args.script.now.list f new c.one_step.new.pool new_memory held_new) passes);
+          laws (known_past g laws m new new_memory) (room_at g.S.Shadows.stands g.S.Shadows.frames g.S.Shadows.slots g.S.Shadows.noted g.S.Shadows.marked g.S.Shadows.asides g.S.Shadows.opened c.args.image.now c.args.script.now.list f new c.one_step.new.pool new_memory held_new) passes);
       held = subst (λ (x : Running g.row.S.Denot). IsHeld g.S.Shadows.stands g.S.Shadows.frames g.S.Shadows.slots (ground c.args.image.now f) x c.one_step.new.pool new_memory) (sym as_were) held;
       ready = subst (λ (x : Running g.row.S.Denot). IsReady g.S.Shadows.slots g.S.Shadows.noted g.S.Shadows.marked g.S.Shadows.value g.S.Shadows.asides (ground c.args.image.now f) x.cpu x.shadows new_memory) (sym as_were)
           (ready_at g c.args.image.now mid.frames f new.cpu new.shadows new_memory (c.stretch.ensures.leaves.frames ∙ inv.frames) c.in-Ok.ensures.steps.leaves.ready);
