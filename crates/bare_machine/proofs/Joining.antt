@@ -23,7 +23,7 @@ change_goes_on s old now reports set l h = record { sets = l.sets; whole = l.who
 held : (s : Setting) (now : State) (whole : Set) (page : ℕ) (e : Entry) → Loosened s (with_set now whole) now.set
     → (get now.set page ≡ Some e) ⊎ IsCacheable s now page e → (get whole page ≡ Some e) ⊎ IsCacheable s (with_set now whole) page e
 held s now whole page e l (inl is) = l.each page e is
-held s now whole page e l (inr c) = inr (record { dir_at = c.dir_at; word_at = c.word_at; dirty = c.dirty; found = c.found; accessed = c.accessed; is_dirty = c.is_dirty })
+held s now whole page e l (inr c) = inr (record { page_in = c.page_in; dir_at = c.dir_at; word_at = c.word_at; dirty = c.dirty; found = c.found; accessed = c.accessed; is_dirty = c.is_dirty })
 
 pub loss_goes_on : LossGoesOn
 loss_goes_on s old now reports set l h = record {
