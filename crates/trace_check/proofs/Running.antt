@@ -1,8 +1,8 @@
 -- The course of choices is a run of the bare machine.
-use Rattle.std.proofs.Common.{◌≡◌, ℕ, zero, suc, ◌+◌, ◌≤◌, Bool, true, false, cond, List, [], ◌∷◌, ◌++◌, Option, Some, None, Result, Ok, Err, refl, sym, ap, subst, ◌∙◌, arith, inl, inr, append_assoc}
-use Rattle.std.specs.Prelude.{◌==◌, ◌&&◌, nat_le, find, length}
+use Rattle.std.proofs.Common.{◌≡◌, ℕ, zero, suc, ◌+◌, ◌^◌, ◌<◌, ◌≤◌, Bool, true, false, cond, List, [], ◌∷◌, ◌++◌, Option, Some, None, Result, Ok, Err, refl, sym, ap, subst, ◌∙◌, arith, inl, inr, append_assoc}
+use Rattle.std.specs.Prelude.{◌==◌, ◌&&◌, nat_le, nat_lt, find, length}
 use Rattle.std.proofs.lemmas.List.{append-nil}
-use Rattle.std.proofs.lemmas.Bool.{leb-true}
+use Rattle.std.proofs.lemmas.Bool.{leb-true, ltb-true}
 use Rattle.paging.specs.Agreement.{is_extra_stop}
 use Rattle.run_trace.specs.declared.items.Item.{Item}
 use Rattle.std.specs.Str.{bytes_eq}
@@ -48,16 +48,17 @@ both_true : (p q : Bool) → (p && q) ≡ true → (p ≡ true) × (q ≡ true)
 both_true true q e = (refl, e)
 both_true false q e = absurd cc
 
-by_walk : (s : Setting) (b : State) (page : ℕ) (e : Entry) (w : Walk) → fresh b.ram s.frames b.cpu.cr3 (pse_of b.cpu) page ≡ w → usable b.ram w ≡ Some e → IsCacheable s b page e
-by_walk s b page e Absent is h = absurd (none-some e h)
-by_walk s b page e Beyond is h = absurd (none-some e h)
-by_walk s b page e Reserved is h = absurd (none-some e h)
-by_walk s b page e (Found entry dir_at word_at) is h = by (has (word32 b.ram dir_at) 0x20 && has (word32 b.ram word_at) 0x20) refl h
+by_walk : (s : Setting) (b : State) (page : ℕ) (e : Entry) (w : Walk) → page < 2 ^ 20 → fresh b.ram s.frames b.cpu.cr3 (pse_of b.cpu) page ≡ w → usable b.ram w ≡ Some e → IsCacheable s b page e
+by_walk s b page e Absent small is h = absurd (none-some e h)
+by_walk s b page e Beyond small is h = absurd (none-some e h)
+by_walk s b page e Reserved small is h = absurd (none-some e h)
+by_walk s b page e (Found entry dir_at word_at) small is h = by (has (word32 b.ram dir_at) 0x20 && has (word32 b.ram word_at) 0x20) refl h
   where
     by : (t : Bool) → (has (word32 b.ram dir_at) 0x20 && has (word32 b.ram word_at) 0x20) ≡ t → cond t (Some entry) None ≡ Some e → IsCacheable s b page e
     by true flags same =
         let at : entry ≡ e = cc in
         record {
+          page_in = small;
           dir_at = dir_at;
           word_at = word_at;
           dirty = e.dirty;
@@ -91,11 +92,19 @@ added_allowed s b page x set good h = record {
   ];
 }
 
+-- what may be added is of a page of the address space
+by_page : (s : Setting) (b : State) (page : ℕ) (e : Entry) → addable s b page ≡ Some e → IsCacheable s b page e
+by_page s b page e is = by (nat_lt page (2 ^ 20)) refl is
+  where
+    by : (t : Bool) → nat_lt page (2 ^ 20) ≡ t → cond t (usable b.ram (fresh b.ram s.frames b.cpu.cr3 (pse_of b.cpu) page)) None ≡ Some e → IsCacheable s b page e
+    by true small found = by_walk s b page e (fresh b.ram s.frames b.cpu.cr3 (pse_of b.cpu) page) (ltb-true page (2 ^ 20) small) refl found
+    by false beyond found = absurd (none-some e found)
+
 by_entry : (s : Setting) (b : State) (page : ℕ) (set new : Set) (o : Option Entry) → addable s b page ≡ o → option_map (λ entry. insert set page entry) o ≡ Some new → Loosened s b set → Loosened s b new
 by_entry s b page set new None is h allowed = absurd cc
 by_entry s b page set new (Some x) is h allowed =
     let to : insert set page x ≡ new = cc in
-    subst (Loosened s b) to (added_allowed s b page x set (by_walk s b page x (fresh b.ram s.frames b.cpu.cr3 (pse_of b.cpu) page) refl is) allowed)
+    subst (Loosened s b) to (added_allowed s b page x set (by_page s b page x is) allowed)
 
 made_allowed : (s : Setting) (b : State) (kind : ChoiceKind) (page : ℕ) (set new : Set) → made s b kind page set ≡ Some new → Loosened s b set → Loosened s b new
 made_allowed s b Drop page set new is h = let to : remove set page ≡ new = cc in subst (Loosened s b) to (removed_allowed s b page set h)

@@ -1,5 +1,5 @@
 -- The course of a run of the bare machine before each step of which choices change the set of translations.
-use Rattle.std.specs.Prelude.{ℕ, zero, suc, ◌+◌, ◌==◌, ◌&&◌, if◌then◌else◌, List, [], ◌∷◌, Option, Some, None, Result, Ok, Err}
+use Rattle.std.specs.Prelude.{ℕ, zero, suc, ◌+◌, ◌^◌, ◌==◌, ◌&&◌, nat_lt, if◌then◌else◌, List, [], ◌∷◌, Option, Some, None, Result, Ok, Err}
 use Rattle.std.specs.Option.{option_map}
 use Rattle.std.specs.FinMap.{empty, insert, remove}
 use Rattle.guest_ram.specs.Bytes.{word32}
@@ -29,9 +29,9 @@ usable ram Beyond = None
 usable ram Reserved = None
 usable ram (Found entry dir_at word_at) = if has (word32 ram dir_at) 0x20 && has (word32 ram word_at) 0x20 then Some entry else None
 
--- the translation of a page that may be added before a step from this state
+-- the translation of a page of the address space that may be added before a step from this state
 abbrev pub addable : Setting → State → ℕ → Option Entry
-addable s b page = usable b.ram (fresh b.ram s.frames b.cpu.cr3 (pse_of b.cpu) page)
+addable s b page = if nat_lt page (2 ^ 20) then usable b.ram (fresh b.ram s.frames b.cpu.cr3 (pse_of b.cpu) page) else None
 
 -- the set with one choice made, which is none where an added page isn't found so
 abbrev pub made : Setting → State → ChoiceKind → ℕ → Set → Option Set
