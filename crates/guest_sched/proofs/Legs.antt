@@ -24,7 +24,7 @@ loosened_on : (m : Setting) (b : State) (end set : Set) → Loosened m b end →
 loosened_on m b end set first second = record {
   each = λ page e is. elim (second.each page e is) [
     | inl kept ↦ first.each page e kept
-    | inr found ↦ inr (record { dir_at = found.dir_at; word_at = found.word_at; dirty = found.dirty; found = found.found; accessed = found.accessed; is_dirty = found.is_dirty })
+    | inr found ↦ inr (record { page_in = found.page_in; dir_at = found.dir_at; word_at = found.word_at; dirty = found.dirty; found = found.found; accessed = found.accessed; is_dirty = found.is_dirty })
   ];
 }
 
