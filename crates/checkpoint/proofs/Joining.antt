@@ -25,7 +25,7 @@ empty_allowed m b = record { each = λ page e is. absurd (none-some e (sym (get-
 
 -- what may be cached doesn't depend on what is
 cacheable : (m : Setting) (b : State) (old new : Set) (page : ℕ) (e : Entry) → IsCacheable m (with_set b old) page e → IsCacheable m (with_set b new) page e
-cacheable m b old new page e c = record { dir_at = c.dir_at; word_at = c.word_at; dirty = c.dirty; found = c.found; accessed = c.accessed; is_dirty = c.is_dirty }
+cacheable m b old new page e c = record { page_in = c.page_in; dir_at = c.dir_at; word_at = c.word_at; dirty = c.dirty; found = c.found; accessed = c.accessed; is_dirty = c.is_dirty }
 
 through : (m : Setting) (b : State) (old new : Set) (page : ℕ) (e : Entry) → Loosened m (with_set b new) old
     → (get old page ≡ Some e) ⊎ IsCacheable m (with_set b old) page e → (get new page ≡ Some e) ⊎ IsCacheable m (with_set b new) page e
