@@ -18,6 +18,7 @@ ghost use Rattle.machine_step.specs.Roots.{RootsAs};
 ghost use Rattle.machine_step.specs.Ruled.{IsRuled};
 ghost use Rattle.machine_step.specs.Worked.{IsDropped};
 ghost use Rattle.wedge_step.specs.Leaves.{Accounts, IsBetween};
+ghost use Rattle.wedge_step.specs.Original.{IsOriginal};
 ghost use Rattle.wedge_step.specs.Parts.{left_of};
 ghost use Rattle.wedge_step.specs.Scene.{scene, set_in};
 ghost use Rattle.wedge_step.specs.Standing.{IsAble, ground};
@@ -38,16 +39,14 @@ use ia32_exec::Outcome;
 use ia32_types::{Insn, Op, Stop, sensitive};
 use image_check::Checked;
 use machine_model::works_use;
-use machine_step::{Rules, Seen, Worked, begin, carry_out, fetch_at, refuse};
+use machine_step::{Rules, Seen, Worked, carry_out, fetch_at, refuse};
 use shadow_cache::Reloads;
 use shadow_tables::Shadows;
 use step_exec::{reach_both, user_outcome};
-use step_mem::{Guard, Kept, StepState};
+use step_mem::{Kept, StepState, Text};
 use sys_exec::Refusal;
 use wedge_mem::Lent;
-use wedge_step::{
-    NOT_YET, Running, are_bytes, clashes, go, keep, known_laws, original, text_frames,
-};
+use wedge_step::{Running, are_bytes, begin_over, clashes, go, keep, known_laws, text_frames};
 
 /// Such a step went, or the host is to do it: its pages are filled, and nothing else is done.
 #[derive(Clone, Copy)]
@@ -78,13 +77,17 @@ fn is_native(insn: &Insn, cpu: &Cpu) -> bool
 }
 
 /// Begins the step of a processor that takes no interrupt, is not halted, and is at level 3 or at a start outside sites.
-pub fn begin_native<S: Reloads + Drop>(
+/// Its state takes the place of an earlier step's.
+pub fn begin_native<'t, S: Reloads + Drop>(
     running: &mut Running<S>,
     pool: &mut Pool,
     ram: &mut Ram,
     image: &Checked,
+    text: &'t Option<Text<'t>>,
     wanted: bool,
+    state: &mut StepState<'t>,
 ) -> Result<Attempt, Stop>
+    requires text { IsOriginal image.now text.now }
     requires between { IsBetween S.Shadows image.now (scene running.old pool.old ram.old) }
     requires able { IsAble running.old.cpu }
     requires runs { may_run running.old.cpu running.old.board image.now ≡ true }
@@ -96,17 +99,20 @@ pub fn begin_native<S: Reloads + Drop>(
 {
     known_laws();
     make_room(running, pool, ram, image);
-    try_once(running, pool, ram, image, wanted)
+    try_once(running, pool, ram, image, text, wanted, state)
 }
 
 /// The same where frames are free for the pages of an instruction, and the next one doesn't clash with what is kept.
-fn try_once<S: Reloads + Drop>(
+fn try_once<'t, S: Reloads + Drop>(
     running: &mut Running<S>,
     pool: &mut Pool,
     ram: &mut Ram,
     image: &Checked,
+    text: &'t Option<Text<'t>>,
     wanted: bool,
+    state: &mut StepState<'t>,
 ) -> Result<Attempt, Stop>
+    requires text { IsOriginal image.now text.now }
     requires held { IsHeldIn S.Shadows (ground image.now running.old.frames) (scene running.old pool.old ram.old) }
     requires ready { IsReadyIn S.Shadows (ground image.now running.old.frames) (scene running.old pool.old ram.old) }
     requires able { IsAble running.old.cpu }
@@ -123,11 +129,6 @@ fn try_once<S: Reloads + Drop>(
     known_laws();
     are_bytes(ram, image, running.frames);
     eip_fits(&running.cpu);
-    let text = Some(original(image));
-    let guard = Guard {
-        text: &text,
-        own: NOT_YET,
-    };
     let rules = Rules { image: Some(image) };
     let kept = Lent {
         shadows: &running.shadows,
@@ -135,17 +136,17 @@ fn try_once<S: Reloads + Drop>(
     };
     let mut cpu = running.cpu;
     cpu.held = false;
-    let mut state = begin(&cpu, ram, &kept, running.frames, guard);
-    match try_native(&rules, &cpu, &mut running.board, ram, &kept, &mut state) {
+    begin_over(&cpu, ram, &kept, running.frames, image, text, state);
+    match try_native(&rules, &cpu, &mut running.board, ram, &kept, state) {
         Err(stop) => Err(stop),
         Ok(Some(worked)) => {
             are_bytes(ram, image, running.frames);
             let count = text_frames(image);
-            go(running, pool, ram, &state, &worked, count, wanted);
+            go(running, pool, ram, state, &worked, count, wanted);
             Ok(Attempt::Stepped(worked.seen))
         }
         Ok(None) => {
-            keep(running, pool, ram, &state, text_frames(image));
+            keep(running, pool, ram, state, text_frames(image));
             Ok(Attempt::Asked)
         }
     }

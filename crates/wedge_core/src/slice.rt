@@ -25,7 +25,7 @@ use machine_step::{Seen, items_of};
 use pv_io::{Failed, Sink};
 use run_trace::{Notes, Pause, put_step};
 use shadow_cache::Reloads;
-use wedge_step::{Running, carry_laws};
+use wedge_step::{Running, carry_laws, first_state, original};
 
 /// Steps up to a count of steps, or to a stop. The lines of a step go to the sink at its end. Before which steps all
 /// translations were dropped is told, where notes are wanted; then no translations are kept for another value of CR3.
@@ -58,13 +58,15 @@ pub fn steps_to<S: Reloads + Drop, H: Host, O: Sink, L: Notes>(
 {
     let wanted = notes.wanted();
     carry_laws();
+    let text = Some(original(image));
+    let mut state = first_state(&text);
     while running.step < bound {
         running.board.begin(script, running.step);
         if stretch(running, host, image, script, bound) > 0 {
             continue;
         }
         let before = running.step;
-        match one_step(running, pool, host, image, wanted) {
+        match one_step(running, pool, host, image, &text, wanted, &mut state) {
             Err(stop) => {
                 tell(notes, running.lost.before, before);
                 return Ok(Pause::Stopped(stop));

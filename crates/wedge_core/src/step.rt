@@ -2,6 +2,7 @@
 
 ghost use Rattle.std.specs.Prelude.{◌≡◌, ◌+◌, ◌*◌, ◌≤◌, ◌<◌, ◌^◌, true, false};
 ghost use Rattle.wedge_step.specs.Leaves.{Accounts, IsBetween};
+ghost use Rattle.wedge_step.specs.Original.{IsOriginal};
 ghost use Rattle.wedge_step.specs.Scene.{scene};
 ghost use Rattle.wedge_step.specs.Standing.{IsAble};
 ghost use Rattle.wedge_core.specs.Attempted.{Attempts};
@@ -19,16 +20,21 @@ use image_check::Checked;
 use machine_model::steps_keep_able;
 use machine_step::Seen;
 use shadow_cache::Reloads;
+use step_mem::{StepState, Text};
 use wedge_step::{Lost, Running, are_bytes, known_laws, step_alone};
 
-/// One step, whose events were given. Whether all translations were dropped before it or after it is noted.
-pub fn one_step<S: Reloads + Drop, H: Host>(
+/// One step, whose events were given. Whether all translations were dropped before it or after it is noted. The text is the
+/// image's, and the step's state takes the place of an earlier one's.
+pub fn one_step<'t, S: Reloads + Drop, H: Host>(
     running: &mut Running<S>,
     pool: &mut Pool,
     host: &mut H,
     image: &Checked,
+    text: &'t Option<Text<'t>>,
     wanted: bool,
+    state: &mut StepState<'t>,
 ) -> Result<Seen, Stop>
+    requires text { IsOriginal image.now text.now }
     requires started { H.is_started host.old ≡ true }
     requires between { IsBetween S.Shadows image.now (scene running.old pool.old (H.bytes host.old)) }
     requires able { IsAble running.old.cpu }
@@ -48,19 +54,22 @@ pub fn one_step<S: Reloads + Drop, H: Host>(
         back: false,
     };
     if !may_run(&running.cpu, &running.board, image) {
-        return by_rules(running, pool, host, image, wanted);
+        return by_rules(running, pool, host, image, text, wanted, state);
     }
-    on_host(running, pool, host, image, wanted)
+    on_host(running, pool, host, image, text, wanted, state)
 }
 
 /// The same where the host may do the instruction, and nothing is lost yet.
-fn on_host<S: Reloads + Drop, H: Host>(
+fn on_host<'t, S: Reloads + Drop, H: Host>(
     running: &mut Running<S>,
     pool: &mut Pool,
     host: &mut H,
     image: &Checked,
+    text: &'t Option<Text<'t>>,
     wanted: bool,
+    state: &mut StepState<'t>,
 ) -> Result<Seen, Stop>
+    requires text { IsOriginal image.now text.now }
     requires started { H.is_started host.old ≡ true }
     requires between { IsBetween S.Shadows image.now (scene running.old pool.old (H.bytes host.old)) }
     requires able { IsAble running.old.cpu }
@@ -77,7 +86,7 @@ fn on_host<S: Reloads + Drop, H: Host>(
     known_laws();
     steps_keep_able();
     let frames = running.frames;
-    match attempt(running, pool, host, image, wanted) {
+    match attempt(running, pool, host, image, text, wanted, state) {
         Err(stop) => Err(stop),
         Ok(Attempt::Stepped(seen)) => Ok(seen),
         Ok(Attempt::Asked) => {
@@ -89,13 +98,16 @@ fn on_host<S: Reloads + Drop, H: Host>(
 }
 
 /// An attempt at a step whose instruction the host may do, over the host's memory. The host completes nothing yet.
-fn attempt<S: Reloads + Drop, H: Host>(
+fn attempt<'t, S: Reloads + Drop, H: Host>(
     running: &mut Running<S>,
     pool: &mut Pool,
     host: &mut H,
     image: &Checked,
+    text: &'t Option<Text<'t>>,
     wanted: bool,
+    state: &mut StepState<'t>,
 ) -> Result<Attempt, Stop>
+    requires text { IsOriginal image.now text.now }
     requires started { H.is_started host.old ≡ true }
     requires between { IsBetween S.Shadows image.now (scene running.old pool.old (H.bytes host.old)) }
     requires able { IsAble running.old.cpu }
@@ -108,17 +120,20 @@ fn attempt<S: Reloads + Drop, H: Host>(
     ensures counts { CountsNone (counts_of H.Host host.old) (counts_of H.Host host.new) }
     ensures started { H.is_started host.new ≡ true }
 {
-    begin_native(running, pool, host.ram_mut(), image, wanted)
+    begin_native(running, pool, host.ram_mut(), image, text, wanted, state)
 }
 
 /// One step by the rules alone, over the host's memory. The host completes nothing.
-fn by_rules<S: Reloads + Drop, H: Host>(
+fn by_rules<'t, S: Reloads + Drop, H: Host>(
     running: &mut Running<S>,
     pool: &mut Pool,
     host: &mut H,
     image: &Checked,
+    text: &'t Option<Text<'t>>,
     wanted: bool,
+    state: &mut StepState<'t>,
 ) -> Result<Seen, Stop>
+    requires text { IsOriginal image.now text.now }
     requires started { H.is_started host.old ≡ true }
     requires between { IsBetween S.Shadows image.now (scene running.old pool.old (H.bytes host.old)) }
     requires bound { running.old.step < 2 ^ 40 }
@@ -128,5 +143,5 @@ fn by_rules<S: Reloads + Drop, H: Host>(
     ensures counts { CountsNone (counts_of H.Host host.old) (counts_of H.Host host.new) }
     ensures started { H.is_started host.new ≡ true }
 {
-    step_alone(running, pool, host.ram_mut(), image, wanted)
+    step_alone(running, pool, host.ram_mut(), image, text, wanted, state)
 }

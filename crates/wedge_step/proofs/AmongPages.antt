@@ -11,7 +11,10 @@ use Rattle.step_mem.specs.declared.changes.Change.{Change}
 use Rattle.step_mem.specs.Changes.{changed, page_of, entry_of, AreToldIn}
 use Rattle.step_mem.proofs.Changed.{get_with_other}
 use Rattle.machine_model.specs.Run.{Set}
+use Rattle.machine_step.specs.declared.worked.Dropped.{Dropped}
+use Rattle.machine_step.specs.declared.worked.Dropped.TheVariants as dropped
 use Rattle.wedge_mem.specs.Settled.{has_entry, pages_of, used}
+use Rattle.wedge_step.specs.Ready.{leaving}
 use Rattle.wedge_step.proofs.Bools.{or_true, right_false}
 use Rattle.std.proofs.lemmas.Bool.{cases_Bool}
 
@@ -123,3 +126,22 @@ used_more set z zs ws rest h =
 pub used_within : (set : FinMap nat_cmp Entry) (zs ws : List ℕ) → ((q : ℕ) → is_among q zs ≡ true → is_among q ws ≡ true) → length (used set zs) ≤ length ws
 used_within set [] ws h = omega arith
 used_within set (z ∷ zs) ws h = used_more set z zs ws (used_within set zs) h
+
+-- the pages that a step went through or changed are those that it went through
+pub among_through : (visited : List ℕ) (changes : List Change) (pages : List ℕ) → AreToldIn visited changes → pages ≡ visited → (q : ℕ) → is_among q (pages_of visited changes) ≡ is_among q pages
+among_through visited changes pages told same q =
+    elim (cases_Bool (is_among q visited)) [
+      | inl a ↦ among_first q visited (map page_of changes) a ∙ (sym a ∙ sym (ap (is_among q) same))
+      | inr n ↦
+          elim (cases_Bool (is_among q (pages_of visited changes))) [
+            | inl a ↦ absurd (let f : true ≡ false = sym (told_among visited changes told q a) ∙ n in cc)
+            | inr none ↦ none ∙ (sym n ∙ sym (ap (is_among q) same))
+          ]
+    ]
+
+-- and so are those that leave with an instruction
+pub leaving_through : (d : Dropped) (visited : List ℕ) (changes : List Change) (pages : List ℕ) → AreToldIn visited changes → pages ≡ visited → (q : ℕ) → leaving d (pages_of visited changes) q ≡ leaving d pages q
+leaving_through dropped.Nothing visited changes pages told same q = refl
+leaving_through (dropped.Page gone) visited changes pages told same q = refl
+leaving_through (dropped.Dir index) visited changes pages told same q = refl
+leaving_through dropped.All visited changes pages told same q = among_through visited changes pages told same q

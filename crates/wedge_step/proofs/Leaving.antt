@@ -75,6 +75,21 @@ module _ {S : Type 0} (g : shadows.Ghosts S) (cr3 : ℕ) (pages : List ℕ) (v' 
   loads_from old mid memory between s m h =
       subst (λ (x : S). Loads cr3 pages (sight g x memory) v') s (subst (λ (r : List ℕ). Loads cr3 pages (sight g mid r) v') m h)
 
+-- and so it is of the same pages in another list
+loads_through : (cr3 : ℕ) (pages others : List ℕ) (v v' : Sight) → ((page : ℕ) → is_among page pages ≡ is_among page others) → Loads cr3 pages v v' → Loads cr3 others v v'
+loads_through cr3 pages others v v' there h = record {
+  between = h.between;
+  value = h.value;
+  sheds = record {
+    stay = h.sheds.stay;
+    gone = λ page lt is. h.sheds.gone page lt (there page ∙ is);
+    others = λ page lt none. h.sheds.others page lt (there page ∙ none);
+  };
+  present = h.present;
+  put = h.put;
+  unmarked = h.unmarked;
+}
+
 pub same_free : (pool mid : Pool) (memory between : List ℕ) → mid ≡ pool → between ≡ memory → 2 ≤ length (free_list pool memory) → 2 ≤ length (free_list mid between)
 same_free pool mid memory between p m h =
     let first = ap (λ (x : Pool). length (free_list x between)) p in
@@ -84,12 +99,12 @@ same_free pool mid memory between p m h =
 -- ---- the end of a step that went
 
 pub ended : (d : Dropped) (before mid after : Cpu) (pages pages1 tables wrote : List ℕ) (set : Set) (v between v' : Sight)
-    → mid ≡ before → between.value ≡ v.value → pages1 ≡ pages → entries_of between.slots ≡ set → Tells tables wrote v between
+    → mid ≡ before → between.value ≡ v.value → ((page : ℕ) → is_among page pages1 ≡ is_among page pages) → entries_of between.slots ≡ set → Tells tables wrote v between
     → (RulesSame mid after → after.cr3 ≡ mid.cr3 → is_all d ≡ false → StaysBeside between v' × (entries_of v'.slots ≡ dropping d (entries_of between.slots)))
     → ((RulesSame mid after → ⊥) → after.cr3 ≡ mid.cr3 → EmptiesBeside between v' × (entries_of v'.slots ≡ empty))
     → (RulesSame mid after → is_all d ≡ true → Loads after.cr3 pages1 between v')
     → Ends d before after pages tables wrote set v v'
-ended d before mid after pages pages1 tables wrote set v between v' cpu value p entries told stay lost loads =
+ended d before mid after pages pages1 tables wrote set v between v' cpu value there entries told stay lost loads =
     let cr3 : mid.cr3 ≡ before.cr3 = ap (λ (x : Cpu). x.cr3) cpu in
     record {
       between = between;
@@ -101,5 +116,5 @@ ended d before mid after pages pages1 tables wrote set v between v' cpu value p 
           (k.0, k.1 ∙ ap (dropping d) entries);
       lost = λ rules same. lost (λ r. rules (subst (λ (x : Cpu). RulesSame x after) cpu r)) (same ∙ sym cr3);
       loaded = λ rules all.
-          subst (λ (l : List ℕ). Loads after.cr3 l between v') p (loads (subst (λ (x : Cpu). RulesSame x after) (sym cpu) rules) all);
+          loads_through after.cr3 pages1 pages between v' there (loads (subst (λ (x : Cpu). RulesSame x after) (sym cpu) rules) all);
     }

@@ -26,3 +26,4 @@ pub mod Knowing
 mod Ended
 mod Leaving
 pub mod Widening
+mod Texts

@@ -16,3 +16,4 @@ pub mod CarryLaws
 pub mod Alone
 pub mod Leaves
 pub mod Ending
+pub mod Original

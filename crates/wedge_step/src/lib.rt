@@ -2,6 +2,7 @@
 //! rules while shadows stand, and what they keep at its end.
 #![tactic(auto)]
 
+mod beginning;
 mod carrying;
 mod clash;
 mod close;
@@ -11,8 +12,9 @@ mod running;
 mod sight;
 mod single;
 
+pub use beginning::{begin_over, first_state, original};
 pub use carrying::{carry_laws, known_laws};
 pub use clash::clashes;
 pub use running::{Lost, Running};
 pub use sight::are_bytes;
-pub use single::{NOT_YET, go, keep, original, side_of, step_alone, text_frames};
+pub use single::{go, keep, side_of, step_alone, text_frames};

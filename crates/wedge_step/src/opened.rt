@@ -12,7 +12,7 @@ ghost use Rattle.image_load.specs.Boot.{text_pages};
 ghost use Rattle.shadow_tables.specs.Entries.{entries_of};
 ghost use Rattle.guest_ram.specs.Among.{is_among};
 ghost use Rattle.shadow_tables.specs.Slots.{is_user};
-ghost use Rattle.step_mem.specs.Changes.{changed};
+ghost use Rattle.step_mem.specs.Changes.{AreToldIn, changed};
 ghost use Rattle.native_steps.specs.Lends.{IsOpen};
 ghost use Rattle.wedge_mem.specs.Settled.{pages_of};
 ghost use Rattle.wedge_step.specs.Opened.{is_entry_open};
@@ -22,7 +22,7 @@ use guest_ram::Ram;
 use paging::Entry;
 use shadow_tables::{Shadows, Side};
 use step_mem::StepState;
-use wedge_mem::{entry_of, pages_of};
+use wedge_mem::entry_of;
 
 /// The frame of the text's first byte.
 pub const TEXT_FRAME: u32 = 0x100;
@@ -70,7 +70,8 @@ fn is_entry_open(count: u32, side: Side, entry: Option<Entry>) -> bool
     }
 }
 
-/// The view of this side may show every page that the step went through or changed.
+/// The view of this side may show every page that the step went through or changed. Each that it changed is one that it
+/// went through.
 pub fn are_open<S: Shadows>(
     shadows: &S,
     ram: &Ram,
@@ -79,14 +80,13 @@ pub fn are_open<S: Shadows>(
     count: u32,
 ) -> bool
     requires stands { ∥ S.stands shadows.now ram.now ∥₁ }
-    requires few { length state.now.visited + length state.now.changes ≤ 128 }
+    requires told { AreToldIn state.now.visited state.now.changes }
     ensures opened { result ≡ true → (page : ℕ) → is_among page (pages_of state.now.visited state.now.changes) ≡ true
         → is_entry_open count side (get (changed (entries_of (S.slots shadows.now ram.now)) state.now.changes) page) ≡ true }
     ensures barred { result ≡ false → (page : ℕ) × (is_among page (pages_of state.now.visited state.now.changes) ≡ true)
         × (is_entry_open count side (get (changed (entries_of (S.slots shadows.now ram.now)) state.now.changes) page) ≡ false) }
 {
-    let pages = pages_of(state);
-    for page in pages.as_slice() {
+    for page in state.visited.as_slice() {
         if !is_entry_open(count, side, entry_of(shadows, ram, &state.changes, *page)) {
             return false;
         }

@@ -13,6 +13,7 @@ ghost use Rattle.wedge_step.specs.Alone.{AloneAs};
 ghost use Rattle.wedge_step.specs.Ending.{EndsCount, IsUnderWay, IsWorked, KeepsCount, KeepsRest, MayEnd, Passes};
 ghost use Rattle.wedge_step.specs.Leaves.{Accounts, CarriesOn, IsBetween, Stays};
 ghost use Rattle.wedge_step.specs.Leaving.{Ends, IsToldOf};
+ghost use Rattle.wedge_step.specs.Original.{IsOriginal};
 ghost use Rattle.wedge_step.specs.Parts.{left_of};
 ghost use Rattle.wedge_step.specs.Ready.{AllOpen, leaving};
 ghost use Rattle.wedge_step.specs.Scene.{scene, state_in};
@@ -20,9 +21,9 @@ ghost use Rattle.wedge_step.specs.Sight.{sight};
 ghost use Rattle.wedge_step.specs.Stand.{AreFoundIn, AreUnder, ClosesIn, IsReadyBehindIn, IsReadyButIn, IsReadyIn, MayCloseIn, Moved, OpensFor, Suffices, pages_through, room_in, set_behind, set_in, stand};
 ghost use Rattle.wedge_step.specs.Standing.{AreOpen, side_of};
 
+use crate::beginning::begin_over;
 use crate::carrying::known_laws;
 use crate::close::{close, leave};
-use crate::opened::TEXT_FRAME;
 use crate::running::Running;
 use crate::sight::are_bytes;
 use board::Board;
@@ -32,11 +33,11 @@ use guest_ram::Ram;
 use ia32_types::Stop;
 use image_check::Checked;
 use machine_model::steps_follow;
-use machine_step::{Rules, Seen, Worked, begin, step_in};
+use machine_step::{Rules, Seen, Worked, step_in};
 use shadow_cache::Reloads;
 use shadow_tables::{Shadows, Side};
-use step_mem::{Guard, Own, StepState, Text};
-use wedge_mem::{Lent, pages_of};
+use step_mem::{StepState, Text};
+use wedge_mem::Lent;
 
 /// How many frames hold the text, the last one in part perhaps.
 pub fn text_frames(image: &Checked) -> u32
@@ -52,36 +53,18 @@ pub fn side_of(cpl: u8) -> Side
     if cpl == 3 { Side::User } else { Side::Kernel }
 }
 
-/// The text as the guest sees it.
-pub fn original(image: &Checked) -> Text<'_>
-    ensures first { result.first ≡ 256 }
-    ensures count { result.count ≡ text_pages image.now }
-    ensures bytes { result.bytes.now ≡ image.now.text }
-{
-    Text {
-        first: TEXT_FRAME,
-        count: text_frames(image),
-        bytes: image.text(),
-    }
-}
-
-/// What is an instruction's own before it is fetched: no byte.
-pub const NOT_YET: Own = Own {
-    front: 0,
-    front_len: 0,
-    back: 0,
-    back_len: 0,
-};
-
 /// One step by the rules, or the stop that it meets. The events of the step were given. Where notes are wanted nothing
-/// comes back with a value of CR3.
-pub fn step_alone<S: Reloads + Drop>(
+/// comes back with a value of CR3. The text is the image's, and the step's state takes the place of an earlier one's.
+pub fn step_alone<'t, S: Reloads + Drop>(
     running: &mut Running<S>,
     pool: &mut Pool,
     ram: &mut Ram,
     image: &Checked,
+    text: &'t Option<Text<'t>>,
     wanted: bool,
+    state: &mut StepState<'t>,
 ) -> Result<Seen, Stop>
+    requires text { IsOriginal image.now text.now }
     requires between { IsBetween S.Shadows image.now (scene running.old pool.old ram.old) }
     requires bound { running.old.step < 2 ^ 40 }
     ensures between { OnOk result (IsBetween S.Shadows image.now (scene running.new pool.new ram.new)) }
@@ -96,32 +79,20 @@ pub fn step_alone<S: Reloads + Drop>(
     ensures stays { OnErr result (Stays (scene running.old pool.old ram.old) (scene running.new pool.new ram.new)) }
     ensures accounts { Accounts S.Shadows (scene running.old pool.old ram.old) (scene running.new pool.new ram.new) }
 {
-    let text = Some(original(image));
-    let guard = Guard {
-        text: &text,
-        own: NOT_YET,
-    };
     let rules = Rules { image: Some(image) };
     let kept = Lent {
         shadows: &running.shadows,
         pool: &*pool,
     };
-    let mut state = begin(&running.cpu, ram, &kept, running.frames, guard);
-    let outcome = step_in(
-        &rules,
-        &running.cpu,
-        &mut running.board,
-        ram,
-        &kept,
-        &mut state,
-    );
+    begin_over(&running.cpu, ram, &kept, running.frames, image, text, state);
+    let outcome = step_in(&rules, &running.cpu, &mut running.board, ram, &kept, state);
     match outcome {
         Ok(worked) => {
             steps_follow();
             known_laws();
             are_bytes(ram, image, running.frames);
             let count = text_frames(image);
-            go(running, pool, ram, &state, &worked, count, wanted);
+            go(running, pool, ram, state, &worked, count, wanted);
             Ok(worked.seen)
         }
         Err(stop) => Err(stop),
@@ -219,14 +190,13 @@ pub fn go<S: Reloads + Drop>(
 {
     keep(running, pool, ram, state, count);
     let all = pool.free() + running.held;
-    let pages = pages_of(state);
     let left = leave(
         &mut running.shadows,
         pool,
         ram,
         &running.cpu,
         worked,
-        pages.as_slice(),
+        state.visited.as_slice(),
         wanted,
     );
     running.lost.after |= left.none;

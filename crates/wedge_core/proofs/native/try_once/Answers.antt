@@ -10,7 +10,7 @@ use Rattle.frame_pool.specs.declared.Pool.{Pool}
 use Rattle.image_check.specs.Image.{Image}
 use Rattle.image_load.specs.Boot.{text_pages}
 use Rattle.paging.specs.declared.entry.Entry.{Entry}
-use Rattle.paging.specs.Space.{Wedge, no_own, Space}
+use Rattle.paging.specs.Space.{Space}
 use Rattle.shadow_tables.specs.Entries.{entries_of}
 use Rattle.shadow_tables.specs.declared.words.Side.{Side}
 use Rattle.step_mem.specs.Changes.{AreWithin, changed}
@@ -20,7 +20,7 @@ use Rattle.wedge_mem.specs.Owned.{first, owns}
 use Rattle.wedge_mem.specs.Settled.{pages_of}
 use Rattle.machine_model.specs.Clash.{instruction_clashes}
 use Rattle.machine_model.specs.Run.{Set, with_set}
-use Rattle.machine_model.specs.State.{Setting, State, wedge, wedge_mode, space_at_start}
+use Rattle.machine_model.specs.State.{Setting, State, wedge, space_at_start}
 use Rattle.machine_model.specs.Step.{fetches_next, stepped, unheld}
 use Rattle.machine_step.specs.Worked.{dropping, went_as}
 use Rattle.native_steps.specs.Again as again
@@ -82,11 +82,11 @@ module _ (g : Over) where
 -- ---- the step stops
 
 module _ (g : Over) (c : goal.In-Err g) where
-  stopped : Tried g.S.Shadows.stands g.S.Shadows.frames g.S.Shadows.slots g.S.Shadows.asides c.args.image.now c.args.running.now c.args.pool.now c.args.ram.now c.try_native.new.ram c.begin-state.result c.try_native.new.state
+  stopped : Tried g.S.Shadows.stands g.S.Shadows.frames g.S.Shadows.slots g.S.Shadows.asides c.args.image.now c.args.running.now c.args.pool.now c.args.ram.now c.try_native.new.ram c.begin_over.new.state c.try_native.new.state
   stopped =
       tried_from g.S.Shadows.stands g.S.Shadows.frames g.S.Shadows.slots g.S.Shadows.asides g.met.S.Shadows.above g.met.S.Shadows.same_frames g.met.S.Shadows.same_slots g.met.S.Shadows.same_entries g.met.S.Shadows.same_asides c.args.image.now c.args.running.now c.args.pool.now c.args.ram.now
-      c.try_native.new.ram c.begin-state.result c.try_native.new.state c.original.result.first c.original.result.count c.original.result.bytes.now _ c.begin-state.ensures.guard c.original.ensures.first c.original.ensures.count c.original.ensures.bytes (λ m. refl) (λ m. refl) c.requires.held
-      c.begin-state.ensures.space c.begin-state.ensures.frames c.try_native.ensures.stays.0 c.try_native.ensures.stays.1 c.try_native.ensures.stays.2 c.try_native.ensures.sound.frames_in c.try_native.ensures.sound.within c.are_bytes.ensures.bytes c.are_bytes.ensures.length c.requires.runs
+      c.try_native.new.ram c.begin_over.new.state c.try_native.new.state 256 (text_pages c.args.image.now) c.args.image.now.text c.begin_over.new.state.guard refl refl refl refl (λ m. c.begin_over.ensures.hides c.args.running.now.frames m) (λ m. c.begin_over.ensures.lays c.args.running.now.frames m) c.requires.held
+      c.begin_over.ensures.space c.begin_over.ensures.frames c.try_native.ensures.stays.0 c.try_native.ensures.stays.1 c.try_native.ensures.stays.2 c.try_native.ensures.sound.frames_in c.try_native.ensures.sound.within c.are_bytes.ensures.bytes c.are_bytes.ensures.length c.requires.runs
       c.eip_fits.ensures
 
 pub returns-in-Err-clause-accounts : goal.returns-in-Err-clause-accounts
@@ -94,7 +94,7 @@ returns-in-Err-clause-accounts g c = record {
   stands = first c.try_native.ensures.sound.stands_now;
   counted = (stopped g c).counted1;
   pool = keeps_still g.S.Shadows.stands g.S.Shadows.frames g.S.Shadows.slots c.args.image.now c.args.running.now c.args.pool.now c.args.ram.now c.try_native.new.ram c.requires.held (stopped g c).a;
-  filled = filled_from g c.args.image.now c.args.running.now c.args.pool.now c.args.ram.now c.try_native.new.ram c.begin-state.result c.try_native.new.state (stopped g c);
+  filled = filled_from g c.args.image.now c.args.running.now c.args.pool.now c.args.ram.now c.try_native.new.ram c.begin_over.new.state c.try_native.new.state (stopped g c);
   frames = refl;
 }
 
@@ -123,11 +123,11 @@ returns-in-Err-clause-tries g c = record {
 -- ---- it went
 
 module _ (g : Over) (c : goal.After-worked-in-Ok-Some-1 g) where
-  gone : Tried g.S.Shadows.stands g.S.Shadows.frames g.S.Shadows.slots g.S.Shadows.asides c.args.image.now c.args.running.now c.args.pool.now c.args.ram.now c.try_native.new.ram c.begin-state.result c.try_native.new.state
+  gone : Tried g.S.Shadows.stands g.S.Shadows.frames g.S.Shadows.slots g.S.Shadows.asides c.args.image.now c.args.running.now c.args.pool.now c.args.ram.now c.try_native.new.ram c.begin_over.new.state c.try_native.new.state
   gone =
       tried_from g.S.Shadows.stands g.S.Shadows.frames g.S.Shadows.slots g.S.Shadows.asides g.met.S.Shadows.above g.met.S.Shadows.same_frames g.met.S.Shadows.same_slots g.met.S.Shadows.same_entries g.met.S.Shadows.same_asides c.args.image.now c.args.running.now c.args.pool.now c.args.ram.now
-      c.try_native.new.ram c.begin-state.result c.try_native.new.state c.original.result.first c.original.result.count c.original.result.bytes.now _ c.begin-state.ensures.guard c.original.ensures.first c.original.ensures.count c.original.ensures.bytes (λ m. refl) (λ m. refl) c.requires.held
-      c.begin-state.ensures.space c.begin-state.ensures.frames c.try_native.ensures.stays.0 c.try_native.ensures.stays.1 c.try_native.ensures.stays.2 c.try_native.ensures.sound.frames_in c.try_native.ensures.sound.within c.are_bytes.ensures.bytes c.are_bytes.ensures.length c.requires.runs
+      c.try_native.new.ram c.begin_over.new.state c.try_native.new.state 256 (text_pages c.args.image.now) c.args.image.now.text c.begin_over.new.state.guard refl refl refl refl (λ m. c.begin_over.ensures.hides c.args.running.now.frames m) (λ m. c.begin_over.ensures.lays c.args.running.now.frames m) c.requires.held
+      c.begin_over.ensures.space c.begin_over.ensures.frames c.try_native.ensures.stays.0 c.try_native.ensures.stays.1 c.try_native.ensures.stays.2 c.try_native.ensures.sound.frames_in c.try_native.ensures.sound.within c.are_bytes.ensures.bytes c.are_bytes.ensures.length c.requires.runs
       c.eip_fits.ensures
 
 module _ (g : Over) (c : goal.After-go g) where
@@ -160,7 +160,7 @@ module _ (g : Over) (c : goal.After-go g) where
   ready2 =
       let k = gone g c.before in
       let behind1 = went_ready g.S.Shadows.slots g.S.Shadows.noted g.S.Shadows.marked g.S.Shadows.value g.S.Shadows.asides image running.frames (state_at g image [] running ram0) running.shadows ram0 ram1
-      (steps_from g image running c.args.pool.now ram0 ram1 c.begin-state.result state1 c.requires.held k) c.requires.ready c.native_laws.ensures.steps c.in-Ok-Some.worked c.try_native.new.board (space g running ram1 state1) state1.changes (went []) (k.ram1_is []) refl in
+      (steps_from g image running c.args.pool.now ram0 ram1 c.begin_over.new.state state1 c.requires.held k) c.requires.ready c.native_laws.ensures.steps c.in-Ok-Some.worked c.try_native.new.board (space g running ram1 state1) state1.changes (went []) (k.ram1_is []) refl in
       c.go.ensures.ready (ground image running.frames) (sym k.frames1) c.text_frames-count.ensures k.open1 behind1
 
 pub returns-in-Ok-Some-clause-accounts : goal.returns-in-Ok-Some-clause-accounts
@@ -168,7 +168,7 @@ returns-in-Ok-Some-clause-accounts g c = record {
   stands = c.go.ensures.moved.stands;
   counted = c.go.ensures.counts.counted;
   pool = keeps_then g.S.Shadows.stands g.S.Shadows.frames g.S.Shadows.slots c.args.image.now c.args.running.now c.go.new.running c.args.pool.now c.go.new.pool c.args.ram.now c.try_native.new.ram c.go.new.ram c.requires.held (gone g c.before).a c.go.ensures.moved.moves;
-  filled = fills_join _ _ _ _ _ _ (filled_from g c.args.image.now c.args.running.now c.args.pool.now c.args.ram.now c.try_native.new.ram c.begin-state.result c.try_native.new.state (gone g c.before)) c.go.ensures.counts.filled;
+  filled = fills_join _ _ _ _ _ _ (filled_from g c.args.image.now c.args.running.now c.args.pool.now c.args.ram.now c.try_native.new.ram c.begin_over.new.state c.try_native.new.state (gone g c.before)) c.go.ensures.counts.filled;
   frames = c.go.ensures.passes.frames;
 }
 
@@ -201,13 +201,11 @@ returns-in-Ok-Some-clause-tries g c = record {
       let running = c.args.running.now in
       let image = c.args.image.now in
       let k = gone g c.before in
-      let o = c.original in
       let state1 = c.try_native.new.state in
       let last = space g running c.try_native.new.ram state1 in
       let sound = c.try_native.ensures.sound in
       let pages = sound.noted in
       let most = sound.few in
-      let mode_is : wedge_mode image ≡ Wedge o.result.first o.result.count no_own = λ i. Wedge (sym o.ensures.first i) (sym o.ensures.count i) no_own in
       let r = rw c.in-Ok-Some.field-0-is at c.in-Ok-Some.ensures.roots in
       let bytes = c.are_bytes-in-Ok-Some.ensures in
       let ram_is : last.ram ≡ shown (ground image running.frames) c.try_native.new.ram = k.ram1_is script ∙ any_script image script running.frames c.try_native.new.ram in
@@ -215,8 +213,8 @@ returns-in-Ok-Some-clause-tries g c = record {
       let same = ap length ram_is in
       went_on g.S.Shadows.stands g.S.Shadows.frames g.S.Shadows.slots g.S.Shadows.noted g.S.Shadows.marked g.S.Shadows.value g.S.Shadows.asides g.S.Shadows.opened (widens g) c.known_laws.ensures image script running c.args.pool.now c.args.ram.now c.try_native.new.ram
       c.requires.held k.a steps t kept free roomy taken by carried last state1.changes refl sound.told c.go.new.running.shadows c.go.new.ram c.go.ensures.opened c.in-Ok-Some.worked c.try_native.new.board (went g c script)
-      (record { through = r.through; load = r.load; all = r.all; page_size = r.page_size }) c.requires.ready (omega (arith, long, same)) (subst AreBytes (sym ram_is) bytes.bytes) (space g running c.args.ram.now c.begin-state.result) c.text_frames-count.result state1.control.frames
-      c.text_frames-count.ensures c.in-Ok-Some.ensures.uses (ap (λ (x : Space). x.visited) c.begin-state.ensures.space) (ap (λ (x : Space). x.mode) c.begin-state.ensures.space ∙ sym mode_is) sound.within (omega (arith, pages, most)) (c.go.ensures.ends unwanted);
+      (record { through = r.through; load = r.load; all = r.all; page_size = r.page_size }) c.requires.ready (omega (arith, long, same)) (subst AreBytes (sym ram_is) bytes.bytes) (space g running c.args.ram.now c.begin_over.new.state) c.text_frames-count.result state1.control.frames
+      c.text_frames-count.ensures c.in-Ok-Some.ensures.uses (ap (λ (x : Space). x.visited) c.begin_over.ensures.space) (ap (λ (x : Space). x.mode) c.begin_over.ensures.space) sound.within (omega (arith, pages, most)) (c.go.ensures.ends unwanted);
   carried_asked = tt;
   leaves = record {
     held =
@@ -247,11 +245,11 @@ returns-in-Ok-Some-clause-tries g c = record {
 -- ---- the host is to do it
 
 module _ (g : Over) (c : goal.After-text_frames g) where
-  asked : Tried g.S.Shadows.stands g.S.Shadows.frames g.S.Shadows.slots g.S.Shadows.asides c.args.image.now c.args.running.now c.args.pool.now c.args.ram.now c.try_native.new.ram c.begin-state.result c.try_native.new.state
+  asked : Tried g.S.Shadows.stands g.S.Shadows.frames g.S.Shadows.slots g.S.Shadows.asides c.args.image.now c.args.running.now c.args.pool.now c.args.ram.now c.try_native.new.ram c.begin_over.new.state c.try_native.new.state
   asked =
       tried_from g.S.Shadows.stands g.S.Shadows.frames g.S.Shadows.slots g.S.Shadows.asides g.met.S.Shadows.above g.met.S.Shadows.same_frames g.met.S.Shadows.same_slots g.met.S.Shadows.same_entries g.met.S.Shadows.same_asides c.args.image.now c.args.running.now c.args.pool.now c.args.ram.now
-      c.try_native.new.ram c.begin-state.result c.try_native.new.state c.original.result.first c.original.result.count c.original.result.bytes.now _ c.begin-state.ensures.guard c.original.ensures.first c.original.ensures.count c.original.ensures.bytes (λ m. refl) (λ m. refl) c.requires.held
-      c.begin-state.ensures.space c.begin-state.ensures.frames c.try_native.ensures.stays.0 c.try_native.ensures.stays.1 c.try_native.ensures.stays.2 c.try_native.ensures.sound.frames_in c.try_native.ensures.sound.within c.are_bytes.ensures.bytes c.are_bytes.ensures.length c.requires.runs
+      c.try_native.new.ram c.begin_over.new.state c.try_native.new.state 256 (text_pages c.args.image.now) c.args.image.now.text c.begin_over.new.state.guard refl refl refl refl (λ m. c.begin_over.ensures.hides c.args.running.now.frames m) (λ m. c.begin_over.ensures.lays c.args.running.now.frames m) c.requires.held
+      c.begin_over.ensures.space c.begin_over.ensures.frames c.try_native.ensures.stays.0 c.try_native.ensures.stays.1 c.try_native.ensures.stays.2 c.try_native.ensures.sound.frames_in c.try_native.ensures.sound.within c.are_bytes.ensures.bytes c.are_bytes.ensures.length c.requires.runs
       c.eip_fits.ensures
 
 module _ (g : Over) (c : goal.After-keep g) where
@@ -280,10 +278,10 @@ module _ (g : Over) (c : goal.After-keep g) where
     abbrev b : State
     b = state_at g c.args.image.now script r c.args.ram.now
 
-    e : Begun g.S.Shadows.stands g.S.Shadows.frames g.S.Shadows.slots g.S.Shadows.asides c.args.image.now r c.args.ram.now c.begin-state.result script
+    e : Begun g.S.Shadows.stands g.S.Shadows.frames g.S.Shadows.slots g.S.Shadows.asides c.args.image.now r c.args.ram.now c.begin_over.new.state script
     e = (asked g c.before).begun script
 
-    prepared : (c.try_native.new.board ≡ r.board) × IsPrepared (unheld b) (space g r c.args.ram.now c.begin-state.result) last
+    prepared : (c.try_native.new.board ≡ r.board) × IsPrepared (unheld b) (space g r c.args.ram.now c.begin_over.new.state) last
     prepared = rw c.in-Ok-None.field-0-is at (c.in-Ok-None.ensures.tries m (unheld b) (record { has = refl; over = refl }))
 
     p : IsPrepared (unheld b) (space_at_start m.mode m.frames b.cpu b.ram b.set) last
@@ -305,7 +303,7 @@ returns-in-Ok-None-clause-accounts g c = record {
   stands = c.keep.ensures.moved.stands;
   counted = c.keep.ensures.counts.counted;
   pool = keeps_then g.S.Shadows.stands g.S.Shadows.frames g.S.Shadows.slots c.args.image.now c.args.running.now c.keep.new.running c.args.pool.now c.keep.new.pool c.args.ram.now c.try_native.new.ram c.keep.new.ram c.requires.held (asked g c.before).a c.keep.ensures.moved.moves;
-  filled = fills_join _ _ _ _ _ _ (filled_from g c.args.image.now c.args.running.now c.args.pool.now c.args.ram.now c.try_native.new.ram c.begin-state.result c.try_native.new.state (asked g c.before)) c.keep.ensures.counts.filled;
+  filled = fills_join _ _ _ _ _ _ (filled_from g c.args.image.now c.args.running.now c.args.pool.now c.args.ram.now c.try_native.new.ram c.begin_over.new.state c.try_native.new.state (asked g c.before)) c.keep.ensures.counts.filled;
   frames = ap (λ (x : Running g.row.S.Denot). x.frames) c.keep.ensures.same.same;
 }
 
@@ -374,7 +372,7 @@ returns-in-Ok-None-clause-tries g c = record {
         let m0 = ground image running.frames in
         let k = asked g c.before in
         let behind1 = followed_ready g.S.Shadows.slots g.S.Shadows.noted g.S.Shadows.marked g.S.Shadows.value g.S.Shadows.asides image running.frames (b g c []) running.shadows c.args.ram.now c.try_native.new.ram
-        (steps_from g image running c.args.pool.now c.args.ram.now c.try_native.new.ram c.begin-state.result c.try_native.new.state c.requires.held k) c.requires.ready (λ page. false) (last g c) (last g c).set
+        (steps_from g image running c.args.pool.now c.args.ram.now c.try_native.new.ram c.begin_over.new.state c.try_native.new.state c.requires.held k) c.requires.ready (λ page. false) (last g c) (last g c).set
         (prepared_follows c.native_laws.ensures.on c.native_laws.ensures.fetched c.native_laws.ensures.ranges (unheld (b g c [])) _ (last g c) (p g c [])) (k.ram1_is []) refl in
         subst (λ (x : Cpu). IsReady g.S.Shadows.slots g.S.Shadows.noted g.S.Shadows.marked g.S.Shadows.value g.S.Shadows.asides m0 x c.keep.new.running.shadows c.keep.new.ram) (sym (cpu_is g c)) (c.keep.ensures.ready (λ page. false) m0 running.cpu (sym k.frames1) behind1);
     back = λ w. c.keep.ensures.same.back ∙ c.requires.kept;
@@ -391,17 +389,20 @@ returns-in-Ok-None-clause-tries g c = record {
 pub keep-requires-clause-fills : goal.keep-requires-clause-fills
 keep-requires-clause-fills g c = let f = c.requires.held.fills in let b = c.requires.bound in omega (arith, f, b)
 
-pub begin-state-requires-clause-within : goal.begin-state-requires-clause-within
-begin-state-requires-clause-within g c = c.requires.held.within
+pub begin_over-requires-clause-within : goal.begin_over-requires-clause-within
+begin_over-requires-clause-within g c = c.requires.held.within
 
-pub begin-state-requires-clause-below : goal.begin-state-requires-clause-below
-begin-state-requires-clause-below g c = (let h = c.requires.held.behind in omega (arith, h))
+pub begin_over-requires-clause-below : goal.begin_over-requires-clause-below
+begin_over-requires-clause-below g c = (let h = c.requires.held.behind in omega (arith, h))
+
+pub begin_over-requires-clause-room : goal.begin_over-requires-clause-room
+begin_over-requires-clause-room g c = c.requires.held.wedge.room
 
 pub try_native-requires-clause-sound : goal.try_native-requires-clause-sound
-try_native-requires-clause-sound g c = c.begin-state.ensures.sound
+try_native-requires-clause-sound g c = c.begin_over.ensures.sound
 
 pub try_native-requires-clause-pages : goal.try_native-requires-clause-pages
-try_native-requires-clause-pages g c = c.begin-state.ensures.pages
+try_native-requires-clause-pages g c = c.begin_over.ensures.pages
 
 pub go-requires-clause-under : goal.go-requires-clause-under
 go-requires-clause-under g c = record { sound = c.try_native.ensures.sound; counted = (gone g c).counted1; few = (gone g c).few1 }

@@ -488,6 +488,9 @@ stretch-requires-clause-bound g c = c.requires.bound
 pub stretch-requires-clause-room : goal.stretch-requires-clause-room
 stretch-requires-clause-room g c = c.loop-running.invariant.room
 
+pub one_step-requires-clause-text : goal.one_step-requires-clause-text
+one_step-requires-clause-text g c = let e = c.original.ensures in (e.first, e.count, e.bytes)
+
 pub one_step-requires-clause-started : goal.one_step-requires-clause-started
 one_step-requires-clause-started g c = c.stretch.ensures.started
 

@@ -8,6 +8,7 @@ use Rattle.wedge_core.proofs.step.attempt.Goals as goal
 -- the memory before is the host's
 pub begin_native-requires : goal.begin_native-requires
 begin_native-requires g c = record {
+  text = c.requires.text;
   between = subst (λ (l : List ℕ). IsBetween g.S.Shadows c.args.image.now (scene c.args.running.now c.args.pool.now l)) (sym c.ram_mut.ensures.ram) c.requires.between;
   able = c.requires.able;
   runs = c.requires.runs;

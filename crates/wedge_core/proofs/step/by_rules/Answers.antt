@@ -13,6 +13,7 @@ use Rattle.wedge_core.proofs.step.by_rules.Goals as goal
 pub step_alone-requires : goal.step_alone-requires
 step_alone-requires g c =
     record {
+      text = c.requires.text;
       between = subst (λ (l : List ℕ). IsBetween g.S.Shadows c.args.image.now (scene c.args.running.now c.args.pool.now l)) (sym c.ram_mut.ensures.ram) c.requires.between;
       bound = c.requires.bound;
     }

@@ -132,6 +132,7 @@ between_lost g image c lost h = record {
 
 pub by_rules-requires : goal.by_rules-requires
 by_rules-requires g c = record {
+  text = c.requires.text;
   started = c.requires.started;
   between = between_lost g.S.Shadows c.args.image.now (scene c.args.running.now c.args.pool.now (g.H.Host.bytes c.args.host.now)) _ c.requires.between;
   bound = c.requires.bound;
@@ -139,6 +140,7 @@ by_rules-requires g c = record {
 
 pub on_host-requires : goal.on_host-requires
 on_host-requires g c = record {
+  text = c.requires.text;
   started = c.requires.started;
   between = between_lost g.S.Shadows c.args.image.now (scene c.args.running.now c.args.pool.now (g.H.Host.bytes c.args.host.now)) _ c.requires.between;
   able = c.requires.able;

@@ -18,8 +18,8 @@ use Rattle.wedge_step.proofs.close.close.Given.{Over}
 use Rattle.wedge_step.proofs.Leaving.{tells_by}
 use Rattle.wedge_step.proofs.close.close.Goals as goal
 
-pub are_open-requires-clause-few : goal.are_open-requires-clause-few
-are_open-requires-clause-few g c = omega (arith, c.requires.sound.noted, c.requires.sound.counted, c.requires.sound.few)
+pub are_open-requires-clause-told : goal.are_open-requires-clause-told
+are_open-requires-clause-told g c = c.requires.sound.told
 
 pub are_open-requires-clause-stands : goal.are_open-requires-clause-stands
 are_open-requires-clause-stands g c = first c.requires.sound.stands_now

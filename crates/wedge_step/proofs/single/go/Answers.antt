@@ -1,4 +1,4 @@
-use Rattle.std.proofs.Common.{◌≡◌, ℕ, ◌+◌, ◌≤◌, Bool, true, List, length, ap, sym, subst, ◌∙◌, arith}
+use Rattle.std.proofs.Common.{◌≡◌, ℕ, ◌+◌, ◌≤◌, Bool, true, length, ap, sym, subst, ◌∙◌, arith}
 use Rattle.board.specs.Boards.{board_step}
 use Rattle.descriptors.specs.declared.cpu.Cpu.{Cpu}
 use Rattle.descriptors.specs.Controls.{wp_of}
@@ -12,6 +12,7 @@ use Rattle.wedge_step.specs.Ready.{AreFound, IsReady, IsReadyBut, leaving}
 use Rattle.wedge_step.specs.Sight.{sight}
 use Rattle.wedge_step.specs.Standing.{AreOpen}
 use Rattle.wedge_step.specs.declared.running.Running.{Running}
+use Rattle.wedge_step.proofs.AmongPages.{among_through, leaving_through}
 use Rattle.wedge_step.proofs.Parts.{left_twice}
 use Rattle.wedge_step.proofs.Filling.{held_by, fills_join, fills_fewer, unlost_first}
 use Rattle.shadow_tables.specs.Entries.{entries_of}
@@ -50,8 +51,8 @@ returns-clause-ready g c = λ m frames is opened h.
     let low : m.frames ≤ base_of c.keep.new.pool = omega (arith, below, same, frames) in
     let opened_mid = subst (λ (b : Bool). AreOpen m.image b (g.S.Shadows.slots mid.shadows c.keep.new.ram)) (sym wp) (c.keep.ensures.shows m.image is opened) in
     let ready = c.keep.ensures.ready (leaving d pages) m old.cpu frames h in
-    let pages_are : pages ≡ _ = sym c.pages_of-pages.ensures.all ∙ sym c.as_slice.ensures in
-    let ready_mid = subst (λ (l : List ℕ). IsReadyBut g.S.Shadows.slots g.S.Shadows.noted g.S.Shadows.marked g.S.Shadows.value g.S.Shadows.asides (leaving d l) m mid.cpu mid.shadows c.keep.new.ram) pages_are
+    let there = λ (page : ℕ). leaving_through d state.visited state.changes c.as_slice.result.now c.requires.under.sound.told c.as_slice.ensures page in
+    let ready_mid = subst (λ (out : ℕ → Bool). IsReadyBut g.S.Shadows.slots g.S.Shadows.noted g.S.Shadows.marked g.S.Shadows.value g.S.Shadows.asides out m mid.cpu mid.shadows c.keep.new.ram) (λ i page. there page i)
     (subst (λ (x : Cpu). IsReadyBut g.S.Shadows.slots g.S.Shadows.noted g.S.Shadows.marked g.S.Shadows.value g.S.Shadows.asides (leaving d pages) m x mid.shadows c.keep.new.ram) (sym cpu_is) ready) in
     let new = c.leave-left.new in
     let slots = g.S.Shadows.slots in
@@ -74,11 +75,11 @@ returns-clause-ends g c = λ w may indices all o room.
     let slots = g.S.Shadows.slots in
     let set = changed (entries_of (slots old.shadows c.args.ram.now)) state.changes in
     let unlost = (k.whole may).0 in
-    let pages_are : _ ≡ pages = c.as_slice.ensures ∙ c.pages_of-pages.ensures.all in
+    let there = λ (page : ℕ). among_through state.visited state.changes c.as_slice.result.now c.requires.under.sound.told c.as_slice.ensures page in
     let enough : 2 ≤ length (free_list c.keep.new.pool c.keep.new.ram) = (let l = k.moved.moves.lengths in let r = room mid.shadows c.keep.new.ram k.moved.stands (k.opened indices all o) in omega (arith, l, r)) in
     ended c.args.worked.now.dropped old.cpu mid.cpu c.args.worked.now.cpu pages _ state.tables state.wrote set
     (sight g.S.Shadows old.shadows c.args.ram.now) (sight g.S.Shadows mid.shadows c.keep.new.ram) (sight g.S.Shadows new.shadows new.ram)
-    (ap (λ (r : Running g.row.S.Denot). r.cpu) k.same.same) k.told.value pages_are (k.left ∙ ap (λ (b : Bool). left_of b set) unlost) (k.told.tells unlost)
+    (ap (λ (r : Running g.row.S.Denot). r.cpu) k.same.same) k.told.value (λ page. sym (there page)) (k.left ∙ ap (λ (b : Bool). left_of b set) unlost) (k.told.tells unlost)
     c.leave-left.ensures.leaves.stay c.leave-left.ensures.leaves.lost (λ rules out. c.leave-left.ensures.leaves.loads rules out w enough)
 
 pub keep-requires-clause-under : goal.keep-requires-clause-under

@@ -5,11 +5,10 @@ use Rattle.wedge_step.proofs.CarriedStep.{went_on}
 use Rattle.descriptors.specs.declared.cpu.Cpu.{Cpu}
 use Rattle.descriptors.specs.Controls.{wp_of}
 use Rattle.frame_pool.specs.Pool.{base_of}
-use Rattle.paging.specs.Space.{Mode, Wedge, no_own, Space}
+use Rattle.paging.specs.Space.{Space}
 use Rattle.shadow_tables.specs.Entries.{entries_of}
 use Rattle.step_mem.specs.Changes.{AreWithin, changed}
 use Rattle.step_mem.specs.Shown as laying
-use Rattle.step_mem.specs.declared.guard.Guard.{Guard}
 use Rattle.step_mem.specs.declared.walking.Control.{Control}
 use Rattle.wedge_mem.specs.Owned.{first, owns}
 use Rattle.step_mem.specs.Sound.{space_at}
@@ -23,6 +22,7 @@ use Rattle.wedge_step.proofs.Memories.{step_leaves, shown_is, front_same, shown_
 use Rattle.wedge_step.proofs.Filling.{fills_same, fills_join}
 use Rattle.board.specs.Scripts.{Events}
 use Rattle.image_check.specs.Image.{Image}
+use Rattle.image_load.specs.Boot.{text_pages}
 use Rattle.shadow_tables.specs.Aside.{AreSame}
 use Rattle.step_mem.specs.declared.state.StepState as kept_state
 use Rattle.machine_model.specs.State.{Setting, State}
@@ -48,14 +48,11 @@ returns-in-Err-clause-step g c = λ script.
     let ram0 = c.args.ram.now in
     let ram1 = c.step_in-outcome.new.ram in
     let state1 = c.step_in-outcome.new.state in
-    let o = c.original in
     let held = c.requires.between.held in
     let m = wedge image script n in
     let b = state_of g.S.Shadows.stands g.S.Shadows.frames g.S.Shadows.slots m running ram0 in
-    let mode : Mode = Wedge o.result.first o.result.count no_own in
-    let mode_is : wedge_mode image ≡ mode = λ i. Wedge (sym o.ensures.first i) (sym o.ensures.count i) no_own in
-    let laid = shown_is m o.result.bytes.now o.result.first ram0 o.ensures.bytes o.ensures.first in
-    let start = began m b mode (space_at (λ r. entries_of (g.S.Shadows.slots running.shadows r)) ram0 c.begin-state.result) mode_is (laying.laid o.result.bytes.now o.result.first n ram0) laid c.begin-state.ensures.space in
+    let laid = shown_is m image.text 256 ram0 refl refl in
+    let start = began m b (wedge_mode image) (space_at (λ r. entries_of (g.S.Shadows.slots running.shadows r)) ram0 c.begin_over.new.state) refl (laying.laid image.text 256 n ram0) laid c.begin_over.ensures.space in
     let raw = rw c.in-Err.is at (c.step_in-outcome.ensures.step m b (record { has = refl; over = refl })) in
     sym start ∙ raw
 
@@ -80,22 +77,21 @@ module _ (g : Over) (c : goal.After-worked-1 g) where
   state1 = c.step_in-outcome.new.state
 
   frames1 : state1.control.frames ≡ n
-  frames1 = ap (λ (k : Control). k.frames) c.step_in-outcome.ensures.control ∙ c.begin-state.ensures.frames
+  frames1 = ap (λ (k : Control). k.frames) c.step_in-outcome.ensures.control ∙ c.begin_over.ensures.frames
 
   a : After g.S.Shadows.stands g.S.Shadows.frames g.S.Shadows.slots image n running.shadows c.args.pool.now ram0 ram1
   a =
-      let o = c.original in
-      let hid = subst (λ (x : Guard). laying.hidden x n ram1 ≡ laying.hidden x n ram0) c.begin-state.ensures.guard
-      (subst (λ (k : ℕ). laying.hidden c.begin-state.result.guard k ram1 ≡ laying.hidden c.begin-state.result.guard k ram0) c.begin-state.ensures.frames c.step_in-outcome.ensures.hidden) in
+      let hid = sym (c.begin_over.ensures.hides n ram1)
+      ∙ (subst (λ (k : ℕ). laying.hidden c.begin_over.new.state.guard k ram1 ≡ laying.hidden c.begin_over.new.state.guard k ram0) c.begin_over.ensures.frames c.step_in-outcome.ensures.hidden ∙ c.begin_over.ensures.hides n ram0) in
       let fits1 : 4096 * n ≤ length ram1 = (let q = c.step_in-outcome.ensures.sound.frames_in in omega (arith, q, frames1)) in
-      after g.S.Shadows.stands g.S.Shadows.frames g.S.Shadows.slots g.met.S.Shadows.above g.met.S.Shadows.same_frames g.met.S.Shadows.same_slots g.met.S.Shadows.same_entries image running c.args.pool.now ram0 ram1 o.result.first o.result.count c.requires.between.held fits1
-      o.ensures.first o.ensures.count hid
+      after g.S.Shadows.stands g.S.Shadows.frames g.S.Shadows.slots g.met.S.Shadows.above g.met.S.Shadows.same_frames g.met.S.Shadows.same_slots g.met.S.Shadows.same_entries image running c.args.pool.now ram0 ram1 256 (text_pages image) c.requires.between.held fits1
+      refl refl hid
 
   asides1 : AreSame (g.S.Shadows.asides running.shadows ram0) (g.S.Shadows.asides running.shadows ram1)
   asides1 = g.met.S.Shadows.same_asides running.shadows ram0 ram1 c.requires.between.held.stand a.same
 
   wp1 : state1.control.wp ≡ wp_of running.cpu
-  wp1 = ap (λ (k : Control). k.wp) c.step_in-outcome.ensures.control ∙ ap (λ (x : Space). x.wp) c.begin-state.ensures.space
+  wp1 = ap (λ (k : Control). k.wp) c.step_in-outcome.ensures.control ∙ ap (λ (x : Space). x.wp) c.begin_over.ensures.space
 
   open1 : AreOpen image state1.control.wp (g.S.Shadows.slots running.shadows ram1)
   open1 = subst (λ (x : Bool). AreOpen image x (g.S.Shadows.slots running.shadows ram1)) (sym wp1) (same_open image (wp_of running.cpu) (g.S.Shadows.slots running.shadows ram0) (g.S.Shadows.slots running.shadows ram1) a.slots_same c.requires.between.held.open_to)
@@ -122,22 +118,17 @@ module _ (g : Over) (c : goal.After-worked-1 g) where
         let im = c.args.image.now in
         let k = r.frames in
         let old = c.args.ram.now in
-        let o = c.original in
         let m1 = wedge im script k in
         let b1 = state_of g.S.Shadows.stands g.S.Shadows.frames g.S.Shadows.slots m1 r old in
-        let mode : Mode = Wedge o.result.first o.result.count no_own in
-        let mode_is : wedge_mode im ≡ mode = λ i. Wedge (sym o.ensures.first i) (sym o.ensures.count i) no_own in
-        let laid = shown_is m1 o.result.bytes.now o.result.first old o.ensures.bytes o.ensures.first in
-        let start = began m1 b1 mode (space_at (λ x. entries_of (g.S.Shadows.slots r.shadows x)) old c.begin-state.result) mode_is (laying.laid o.result.bytes.now o.result.first k old) laid c.begin-state.ensures.space in
+        let laid = shown_is m1 im.text 256 old refl refl in
+        let start = began m1 b1 (wedge_mode im) (space_at (λ x. entries_of (g.S.Shadows.slots r.shadows x)) old c.begin_over.new.state) refl (laying.laid im.text 256 k old) laid c.begin_over.ensures.space in
         let raw = rw c.in-Ok.is at (c.step_in-outcome.ensures.step m1 b1 (record { has = refl; over = refl })) in
         sym start ∙ raw
 
     ram1_is : s1.ram ≡ shown m ram1
     ram1_is =
-        let o = c.original in
-        let text1 = c.step_in-outcome.ensures.text ∙ ap (λ (x : Guard). x.text) c.begin-state.ensures.guard in
-        let here : laying.laid o.result.bytes.now o.result.first n ram1 ≡ s1.ram = λ i. laying.shown_by (sym text1 i).now (sym frames1 i) ram1 in
-        sym here ∙ shown_is m o.result.bytes.now o.result.first ram1 o.ensures.bytes o.ensures.first
+        let here : s1.ram ≡ laying.shown c.begin_over.new.state.guard n ram1 = λ i. laying.shown_by (c.step_in-outcome.ensures.text i).now (frames1 i) ram1 in
+        here ∙ (c.begin_over.ensures.lays n ram1 ∙ shown_is m image.text 256 ram1 refl refl)
 
   behind1 : IsReadyBehind g.S.Shadows.slots g.S.Shadows.noted g.S.Shadows.marked g.S.Shadows.value g.S.Shadows.asides (leaving c.in-Ok.worked.dropped (pages_of state1.visited state1.changes)) (ground image n) running.cpu running.shadows ram1
       (changed (entries_of (g.S.Shadows.slots running.shadows ram1)) state1.changes) state1.tables state1.wrote
@@ -180,10 +171,8 @@ returns-in-Ok-clause-step g c = λ script.
 pub returns-in-Ok-clause-carried : goal.returns-in-Ok-clause-carried
 returns-in-Ok-clause-carried g c = λ script steps t unwanted free roomy taken by carried.
     let d = c.before in
-    let o = c.original in
     let last = s1 g d script in
-    let begun = space_at (λ r. entries_of (g.S.Shadows.slots (running g d).shadows r)) (ram0 g d) c.begin-state.result in
-    let mode_is : wedge_mode (image g d) ≡ Wedge o.result.first o.result.count no_own = λ i. Wedge (sym o.ensures.first i) (sym o.ensures.count i) no_own in
+    let begun = space_at (λ r. entries_of (g.S.Shadows.slots (running g d).shadows r)) (ram0 g d) c.begin_over.new.state in
     let widens : Widens g.S.Shadows.stands g.S.Shadows.frames g.S.Shadows.asides g.S.Shadows.opened = record { same_asides = g.met.S.Shadows.same_asides; same_opened = g.met.S.Shadows.same_opened; wider = g.met.S.Shadows.wider; sized = g.met.S.Reloads.sized } in
     let sound = c.step_in-outcome.ensures.sound in
     let pages = sound.noted in
@@ -194,19 +183,22 @@ returns-in-Ok-clause-carried g c = λ script steps t unwanted free roomy taken b
     went_on g.S.Shadows.stands g.S.Shadows.frames g.S.Shadows.slots g.S.Shadows.noted g.S.Shadows.marked g.S.Shadows.value g.S.Shadows.asides g.S.Shadows.opened widens c.known_laws.ensures (image g d) script (running g d) c.args.pool.now (ram0 g d) (ram1 g d)
     c.requires.between.held (a g d) steps t (entries_of (g.S.Shadows.slots (running g d).shadows (ram0 g d))) free roomy taken by (record { known = carried.known; opened_to = carried.opened_to }) last (state1 g d).changes refl sound.told c.go.new.running.shadows c.go.new.ram c.go.ensures.opened
     c.in-Ok.worked c.step_in-outcome.new.board (went g d script) (rw c.in-Ok.is at c.step_in-outcome.ensures.roots) c.requires.between.ready (omega (arith, long, same)) (subst AreBytes (sym ram_is) c.are_bytes.ensures.bytes) begun c.text_frames-count.result (state1 g d).control.frames c.text_frames-count.ensures
-    (rw c.in-Ok.is at c.step_in-outcome.ensures.uses) (ap (λ (x : Space). x.visited) c.begin-state.ensures.space) (ap (λ (x : Space). x.mode) c.begin-state.ensures.space ∙ sym mode_is) sound.within (omega (arith, pages, most)) (c.go.ensures.ends unwanted)
+    (rw c.in-Ok.is at c.step_in-outcome.ensures.uses) (ap (λ (x : Space). x.visited) c.begin_over.ensures.space) (ap (λ (x : Space). x.mode) c.begin_over.ensures.space) sound.within (omega (arith, pages, most)) (c.go.ensures.ends unwanted)
 
-pub begin-state-requires-clause-below : goal.begin-state-requires-clause-below
-begin-state-requires-clause-below g c = (let h = c.requires.between.held.behind in omega (arith, h))
+pub begin_over-requires-clause-below : goal.begin_over-requires-clause-below
+begin_over-requires-clause-below g c = (let h = c.requires.between.held.behind in omega (arith, h))
 
-pub begin-state-requires-clause-within : goal.begin-state-requires-clause-within
-begin-state-requires-clause-within g c = c.requires.between.held.within
+pub begin_over-requires-clause-within : goal.begin_over-requires-clause-within
+begin_over-requires-clause-within g c = c.requires.between.held.within
+
+pub begin_over-requires-clause-room : goal.begin_over-requires-clause-room
+begin_over-requires-clause-room g c = c.requires.between.held.wedge.room
 
 pub step_in-outcome-requires-clause-sound : goal.step_in-outcome-requires-clause-sound
-step_in-outcome-requires-clause-sound g c = c.begin-state.ensures.sound
+step_in-outcome-requires-clause-sound g c = c.begin_over.ensures.sound
 
 pub step_in-outcome-requires-clause-pages : goal.step_in-outcome-requires-clause-pages
-step_in-outcome-requires-clause-pages g c = c.begin-state.ensures.pages
+step_in-outcome-requires-clause-pages g c = c.begin_over.ensures.pages
 
 pub returns-in-Ok-clause-wanted : goal.returns-in-Ok-clause-wanted
 returns-in-Ok-clause-wanted g c = c.go.ensures.wanted
@@ -258,13 +250,12 @@ returns-in-Err-clause-accounts g c =
     let ram0 = c.args.ram.now in
     let ram1 = c.step_in-outcome.new.ram in
     let state1 = c.step_in-outcome.new.state in
-    let o = c.original in
     let held = c.requires.between.held in
-    let frames1 : state1.control.frames ≡ n = ap (λ (k : Control). k.frames) c.step_in-outcome.ensures.control ∙ c.begin-state.ensures.frames in
-    let hid = subst (λ (x : Guard). laying.hidden x n ram1 ≡ laying.hidden x n ram0) c.begin-state.ensures.guard
-    (subst (λ (k : ℕ). laying.hidden c.begin-state.result.guard k ram1 ≡ laying.hidden c.begin-state.result.guard k ram0) c.begin-state.ensures.frames c.step_in-outcome.ensures.hidden) in
+    let frames1 : state1.control.frames ≡ n = ap (λ (k : Control). k.frames) c.step_in-outcome.ensures.control ∙ c.begin_over.ensures.frames in
+    let hid = sym (c.begin_over.ensures.hides n ram1)
+    ∙ (subst (λ (k : ℕ). laying.hidden c.begin_over.new.state.guard k ram1 ≡ laying.hidden c.begin_over.new.state.guard k ram0) c.begin_over.ensures.frames c.step_in-outcome.ensures.hidden ∙ c.begin_over.ensures.hides n ram0) in
     let fits1 : 4096 * n ≤ length ram1 = (let q = c.step_in-outcome.ensures.sound.frames_in in omega (arith, q, frames1)) in
-    let left = step_leaves image n o.result.first o.result.count ram0 ram1 held.wedge.room held.host.room fits1 o.ensures.first o.ensures.count hid in
+    let left = step_leaves image n 256 (text_pages image) ram0 ram1 held.wedge.room held.host.room fits1 refl refl hid in
     let behind : 4096 * n ≤ 4096 * base_of c.args.pool.now = (let h = held.behind in omega (arith, h)) in
     let same = g.met.S.Shadows.above running.shadows c.args.pool.now ram0 ram1 (4096 * n) held.owns behind left.above left.size in
     let frames_same = g.met.S.Shadows.same_frames running.shadows ram0 ram1 held.stand same in

@@ -1,0 +1,78 @@
+//! How a step begins: over the text as the guest sees it, in the place of the step before.
+
+ghost use Rattle.std.specs.Prelude.{◌≡◌, ℕ, List, ◌+◌, ◌*◌, ◌≤◌, length};
+ghost use Rattle.image_load.specs.Boot.{text_pages};
+ghost use Rattle.step_mem.specs.Changes.{AreWithin};
+ghost use Rattle.step_mem.specs.Shown.{beyond, hidden, laid, shown};
+ghost use Rattle.step_mem.specs.Sound.{IsSoundOver};
+ghost use Rattle.machine_model.specs.State.{space_at_start, wedge_mode};
+ghost use Rattle.machine_step.specs.Over.{space};
+ghost use Rattle.wedge_step.specs.Original.{IsOriginal};
+
+use crate::opened::TEXT_FRAME;
+use crate::single::text_frames;
+use descriptors::Cpu;
+use guest_ram::Ram;
+use image_check::Checked;
+use machine_step::begin_again;
+use step_mem::{Control, Guard, Kept, Own, StepState, Text};
+
+/// The text as the guest sees it.
+pub fn original(image: &Checked) -> Text<'_>
+    ensures first { result.first ≡ 256 }
+    ensures count { result.count ≡ text_pages image.now }
+    ensures bytes { result.bytes.now ≡ image.now.text }
+{
+    Text {
+        first: TEXT_FRAME,
+        count: text_frames(image),
+        bytes: image.text(),
+    }
+}
+
+/// What is an instruction's own before it is fetched: no byte.
+const NOT_YET: Own = Own {
+    front: 0,
+    front_len: 0,
+    back: 0,
+    back_len: 0,
+};
+
+/// A state whose place the first step's takes.
+pub fn first_state<'t>(text: &'t Option<Text<'t>>) -> StepState<'t> {
+    let control = Control {
+        frames: 0,
+        cr3: 0,
+        pse: false,
+        wp: false,
+    };
+    StepState::new(control, Guard { text, own: NOT_YET })
+}
+
+/// A step over this image's text begins, in the place of an earlier one: none of its accesses is done yet.
+pub fn begin_over<'t, B: Kept>(
+    cpu: &Cpu,
+    ram: &Ram,
+    kept: &B,
+    frames: u32,
+    image: &Checked,
+    text: &'t Option<Text<'t>>,
+    state: &mut StepState<'t>,
+)
+    requires frames { 4096 * frames ≤ length ram.now }
+    requires below { 4096 * frames ≤ B.floor kept.now }
+    requires stands { ∥ B.stands kept.now ram.now ∥₁ }
+    requires within { AreWithin frames (B.entries kept.now ram.now) }
+    requires room { 256 + text_pages image.now ≤ frames }
+    requires text { IsOriginal image.now text.now }
+    ensures sound { IsSoundOver B.Kept kept.now ram.now state.new }
+    ensures space { space B.Kept kept.now ram.now state.new ≡ space_at_start (wedge_mode image.now) frames cpu.now
+        (laid image.now.text 256 frames ram.now) (B.entries kept.now ram.now) }
+    ensures pages { state.new.pages ≡ 0 }
+    ensures frames { state.new.control.frames ≡ frames }
+    ensures hides { (n : ℕ) (memory : List ℕ) → hidden state.new.guard n memory ≡ beyond 256 (text_pages image.now) n memory }
+    ensures lays { (n : ℕ) (memory : List ℕ) → shown state.new.guard n memory ≡ laid image.now.text 256 n memory }
+{
+    let guard = Guard { text, own: NOT_YET };
+    begin_again(cpu, ram, kept, frames, guard, state);
+}
