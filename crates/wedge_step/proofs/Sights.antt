@@ -1,12 +1,15 @@
 -- The guest's memory is bytes, also with marks.
-use Rattle.std.proofs.Common.{◌≡◌, ℕ, suc, zero, ◌+◌, ◌*◌, ◌≤◌, ◌<◌, List, [], ◌∷◌, ◌++◌, length, take, append_assoc, refl, sym, ap, subst, ◌∙◌, arith, bit_or}
+use Rattle.std.proofs.Common.{◌≡◌, ◌⊎◌, inl, inr, ℕ, suc, zero, ◌+◌, ◌-◌, ◌*◌, ◌≤◌, ◌<◌, List, [], ◌∷◌, ◌++◌, length, take, drop, append_assoc, refl, sym, ap, subst, ◌∙◌, arith, bit_or}
 use Rattle.std.proofs.lemmas.List.{length-take-le, places, same_lists}
 use Rattle.std.specs.List.{All}
-use Rattle.guest_ram.specs.Bytes.{AreBytes, byte, part, with_byte}
+use Rattle.guest_ram.specs.Bytes.{AreBytes, byte, part, with_byte, with_part}
 use Rattle.guest_ram.proofs.Bytes.{byte_lt, bytes-part, part-append, bytes-with_part, length-with_part, length-with_byte}
 use Rattle.machine_model.specs.State.{Setting}
 use Rattle.native_steps.specs.Looking.{marked}
 use Rattle.native_steps.specs.Mirrors.{shown}
+use Rattle.step_mem.specs.Shown.{laid}
+use Rattle.step_mem.proofs.Laid.{laid_part}
+use Rattle.wedge_step.proofs.Memories.{shown_is}
 use Rattle.native_steps.proofs.Marks.{or_32, bytes_with}
 
 front_fit : (l : List ℕ) (n : ℕ) → AreBytes l → AreBytes (take n l)
@@ -61,3 +64,19 @@ pub part_next : (m xs ys zs : List ℕ) (a i v : ℕ) → a + i < length m → y
 part_next m xs ys zs a i v lt e f g =
     g ∙ (ap (λ l. l ++ v ∷ []) e ∙ (append_assoc xs (part m a i) (v ∷ [])
     ∙ (ap (λ n. xs ++ (part m a i ++ n ∷ [])) f ∙ (ap (λ l. xs ++ (part m a i ++ l)) (sym (one_part m (a + i) lt)) ∙ ap (λ l. xs ++ l) (part-append m a i 1)))))
+
+-- bytes that all stand in the text, or all beside it
+pub shown_beside : (m : Setting) (ram : List ℕ) (at n : ℕ) → 4096 * m.frames ≤ length ram → 0x100000 + length m.image.text ≤ 4096 * m.frames → at + n ≤ 4096 * m.frames
+    → (at + n ≤ 0x100000) ⊎ (0x100000 + length m.image.text ≤ at) → part ram at n ≡ part (shown m ram) at n
+shown_beside m ram at n room fits within beside =
+    sym (laid_part m.image.text 256 m.frames ram at n room (record { room = fits; within = within; beside = beside })) ∙ ap (λ (l : List ℕ). part l at n) (shown_is m m.image.text 256 ram refl refl)
+
+laid_within : (bytes : List ℕ) (text frames : ℕ) (ram : List ℕ) (at n : ℕ) → 4096 * frames ≤ length ram → 4096 * text + length bytes ≤ 4096 * frames → 4096 * text ≤ at → at + n ≤ 4096 * text + length bytes
+    → take n (drop (at - 4096 * text) bytes) ≡ part (laid bytes text frames ram) at n
+unfolding part laid with_part
+laid_within bytes text frames ram at n room fits low high = same_lists _ _ (grind (arith, places)) (λ k d i. grind (arith, places))
+
+pub shown_within : (m : Setting) (ram : List ℕ) (at n : ℕ) → 4096 * m.frames ≤ length ram → 0x100000 + length m.image.text ≤ 4096 * m.frames → 0x100000 ≤ at → at + n ≤ 0x100000 + length m.image.text
+    → take n (drop (at - 0x100000) m.image.text) ≡ part (shown m ram) at n
+shown_within m ram at n room fits low high =
+    laid_within m.image.text 256 m.frames ram at n room fits low high ∙ ap (λ (l : List ℕ). part l at n) (shown_is m m.image.text 256 ram refl refl)

@@ -13,7 +13,7 @@ ghost use Rattle.step_mem.specs.Changes.{AreWithin};
 ghost use Rattle.wedge_step.specs.Clashing.{AreIn, looked, marks_of, map_seen, seen_of};
 ghost use Rattle.wedge_step.specs.Looked.{bytes_of, ground_of, looked_at, set_at};
 
-use crate::opened::{is_given, is_text};
+use crate::opened::{TEXT_FRAME, is_given, is_text};
 use crate::sight::{GuestView, are_bytes, byte, walk};
 use crate::single::text_frames;
 use arrayvec::ArrayVec;
@@ -159,8 +159,91 @@ fn byte_seen(view: &GuestView<'_>, earlier: Option<Marks>, marks: Option<Marks>,
     flag(first, is_marked(marks, place))
 }
 
+/// The bytes of a range that all stand in the text, or all beside it.
+fn plain<'a>(view: &GuestView<'a>, at: u32, len: u32) -> Option<&'a [u8]>
+    requires within { at + len ≤ 4096 * view.now.frames }
+    ensures bytes { IfSome result (λ bytes. bytes.now ≡ part (bytes_of view.now) at len) }
+    ensures len { IfSome result (λ bytes. length bytes.now ≡ len) }
+{
+    let _len = view.ram.len();
+    let text = view.image.text();
+    let start = TEXT_FRAME * 4096;
+    let end = start + text.len() as u32;
+    if at + len <= start {
+        return Some(view.ram.part(at, len));
+    }
+    if at >= end {
+        return Some(view.ram.part(at, len));
+    }
+    if at < start || at + len > end {
+        return None;
+    }
+    let from = (at - start) as usize;
+    Some(&text[from..from + len as usize])
+}
+
+/// The bytes that a fetch reads of a page, where they stand so and its walks mark none.
+fn unmarked<'a>(
+    view: &GuestView<'a>,
+    earlier: Option<Marks>,
+    seen: Seen,
+    at: u32,
+    len: u32,
+) -> Option<&'a [u8]>
+    requires frame { seen.frame < view.now.frames }
+    requires one { at % 4096 + len ≤ 4096 }
+    ensures bytes { IfSome result (λ bytes. bytes.now
+        ≡ part (marked (marked (bytes_of view.now) (marks_of earlier)) (marks_of seen.marks)) (4096 * seen.frame + at % 4096) len) }
+    ensures len { IfSome result (λ bytes. length bytes.now ≡ len) }
+{
+    match earlier {
+        Some(_) => None,
+        None => match seen.marks {
+            Some(_) => None,
+            None => {
+                let _len = view.ram.len();
+                plain(view, 4096 * seen.frame + at % 4096, len)
+            }
+        },
+    }
+}
+
+fn append(from: &[u8], to: &mut Bytes)
+    requires { length to.old.items + length from.now ≤ 32 }
+    ensures { to.new.items ≡ to.old.items ++ from.now }
+{
+    match to.try_extend_from_slice(from) {
+        Ok(()) => {}
+        Err(_) => unreachable!(),
+    }
+}
+
 /// Bytes of a page as a fetch reads them, whose walks have set their flags by then.
 pub(crate) fn read(
+    view: &GuestView<'_>,
+    earlier: Option<Marks>,
+    seen: Seen,
+    at: u32,
+    len: u32,
+    into: &mut Bytes,
+)
+    requires earlier { AreIn view.now.frames (marks_of earlier) }
+    requires marks { AreIn view.now.frames (marks_of seen.marks) }
+    requires frame { seen.frame < view.now.frames }
+    requires one { at % 4096 + len ≤ 4096 }
+    requires few { len ≤ 11 }
+    requires room { length into.old.items ≤ 11 }
+    ensures { into.new.items ≡ into.old.items
+        ++ part (marked (marked (bytes_of view.now) (marks_of earlier)) (marks_of seen.marks)) (4096 * seen.frame + at % 4096) len }
+{
+    match unmarked(view, earlier, seen, at, len) {
+        Some(bytes) => append(bytes, into),
+        None => read_marked(view, earlier, seen, at, len, into),
+    }
+}
+
+/// The same byte by byte.
+fn read_marked(
     view: &GuestView<'_>,
     earlier: Option<Marks>,
     seen: Seen,

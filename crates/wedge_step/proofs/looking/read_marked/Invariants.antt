@@ -4,7 +4,7 @@ use Rattle.native_steps.specs.Looking.{marked}
 use Rattle.wedge_step.specs.Looked.{bytes_of}
 use Rattle.wedge_step.specs.Clashing.{marks_of}
 use Rattle.std.specs.Prelude.{length}
-use Rattle.wedge_step.proofs.looking.read.Given as goal
+use Rattle.wedge_step.proofs.looking.read_marked.Given as goal
 
 abbrev pub invariant-loop-i : goal.invariant-loop-i
 invariant-loop-i l =
