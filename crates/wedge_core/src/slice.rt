@@ -16,7 +16,7 @@ ghost use Rattle.wedge_core.specs.Sliced.{BeginsCarried, FaultsOf, SliceIn, Slic
 use crate::noting::{tell, tell_both};
 use crate::rest::rest;
 use crate::step::one_step;
-use crate::stretch::stretch;
+use crate::stretch::{may_run, stretch};
 use board::Script;
 use frame_pool::Pool;
 use host_cpl3::Host;
@@ -62,11 +62,12 @@ pub fn steps_to<S: Reloads + Drop, H: Host, O: Sink, L: Notes>(
     let mut state = first_state(&text);
     while running.step < bound {
         running.board.begin(script, running.step);
-        if stretch(running, host, image, script, bound) > 0 {
+        let runs = may_run(&running.cpu, &running.board, image);
+        if stretch(running, host, image, script, bound, runs) > 0 {
             continue;
         }
         let before = running.step;
-        match one_step(running, pool, host, image, &text, wanted, &mut state) {
+        match one_step(running, pool, host, image, &text, wanted, runs, &mut state) {
             Err(stop) => {
                 tell(notes, running.lost.before, before);
                 return Ok(Pause::Stopped(stop));

@@ -12,7 +12,7 @@ ghost use Rattle.wedge_core.specs.Views.{may_run};
 
 use crate::laws::alones_go;
 use crate::native::{Attempt, begin_native};
-use crate::stretch::{may_run, run_on};
+use crate::stretch::run_on;
 use frame_pool::Pool;
 use host_cpl3::Host;
 use ia32_types::Stop;
@@ -23,8 +23,8 @@ use shadow_cache::Reloads;
 use step_mem::{StepState, Text};
 use wedge_step::{Lost, Running, are_bytes, known_laws, step_alone};
 
-/// One step, whose events were given. Whether all translations were dropped before it or after it is noted. The text is the
-/// image's, and the step's state takes the place of an earlier one's.
+/// One step, whose events were given. Whether all translations were dropped before it or after it is noted. It runs where
+/// the host may do it. The text is the image's, and the step's state takes the place of an earlier one's.
 pub fn one_step<'t, S: Reloads + Drop, H: Host>(
     running: &mut Running<S>,
     pool: &mut Pool,
@@ -32,8 +32,10 @@ pub fn one_step<'t, S: Reloads + Drop, H: Host>(
     image: &Checked,
     text: &'t Option<Text<'t>>,
     wanted: bool,
+    runs: bool,
     state: &mut StepState<'t>,
 ) -> Result<Seen, Stop>
+    requires runs { runs ≡ may_run running.old.cpu running.old.board image.now }
     requires text { IsOriginal image.now text.now }
     requires started { H.is_started host.old ≡ true }
     requires between { IsBetween S.Shadows image.now (scene running.old pool.old (H.bytes host.old)) }
@@ -53,7 +55,7 @@ pub fn one_step<'t, S: Reloads + Drop, H: Host>(
         after: false,
         back: false,
     };
-    if !may_run(&running.cpu, &running.board, image) {
+    if !runs {
         return by_rules(running, pool, host, image, text, wanted, state);
     }
     on_host(running, pool, host, image, text, wanted, state)

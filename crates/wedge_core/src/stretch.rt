@@ -101,20 +101,21 @@ pub fn run_on<S: Shadows + Drop, H: Host>(running: &mut Running<S>, host: &mut H
 }
 
 /// A stretch up to the bound, the next edge or the next event: of so many instructions the host does as many as it can one
-/// behind the other. The events of this step were given.
+/// behind the other, and none where the next one doesn't run there. The events of this step were given.
 pub fn stretch<S: Shadows + Drop, H: Host>(
     running: &mut Running<S>,
     host: &mut H,
     image: &Checked,
     script: &Script,
     bound: u64,
+    runs: bool,
 ) -> u64
+    requires runs { runs ≡ may_run running.old.cpu running.old.board image.now }
     requires started { H.is_started host.old ≡ true }
     requires held { (pool : Frames) × IsHeldIn S.Shadows (ground image.now running.old.frames) (scene running.old pool (H.bytes host.old)) }
     requires able { IsAble running.old.cpu }
     requires script { is_script script.now.list ≡ true }
-    requires begun { running.old.step ≤ bound }
-    requires bound { bound ≤ 2 ^ 40 }
+    requires bound { (running.old.step ≤ bound) × (bound ≤ 2 ^ 40) }
     requires room { H.retired host.old + (bound - running.old.step) < 2 ^ 64 }
     ensures goes { StretchGoes S.Shadows (wedge image.now script.now.list running.old.frames) running.old running.new
         (H.bytes host.old) (H.bytes host.new) result (counts_of H.Host host.old) (counts_of H.Host host.new) }
@@ -126,7 +127,7 @@ pub fn stretch<S: Shadows + Drop, H: Host>(
         (hosted H.Host host.new) }
     ensures started { H.is_started host.new ≡ true }
 {
-    if running.cpu.held || !may_run(&running.cpu, &running.board, image) {
+    if running.cpu.held || !runs {
         return 0;
     }
     views_lend();

@@ -19,6 +19,7 @@ use Rattle.wedge_step.specs.CarryLaws.{CarryLaws}
 use Rattle.machine_model.specs.Step.{items_at}
 use Rattle.machine_step.specs.Worked.{whats}
 use Rattle.wedge_step.specs.declared.running.Running.{Running}
+use Rattle.wedge_core.specs.Views.{may_run}
 use Rattle.wedge_core.specs.Noted.{NotesOn, emptied_if, notes_then}
 use Rattle.wedge_step.specs.Pools.{Keeps}
 use Rattle.wedge_core.specs.Slices.{Counts}
@@ -479,14 +480,20 @@ stretch-requires-clause-able g c = c.loop-running.invariant.able
 pub stretch-requires-clause-script : goal.stretch-requires-clause-script
 stretch-requires-clause-script g c = c.requires.script
 
-pub stretch-requires-clause-begun : goal.stretch-requires-clause-begun
-stretch-requires-clause-begun g c = c.loop-running.invariant.bound
-
 pub stretch-requires-clause-bound : goal.stretch-requires-clause-bound
-stretch-requires-clause-bound g c = c.requires.bound
+stretch-requires-clause-bound g c = (c.loop-running.invariant.bound, c.requires.bound)
 
 pub stretch-requires-clause-room : goal.stretch-requires-clause-room
 stretch-requires-clause-room g c = c.loop-running.invariant.room
+
+pub stretch-requires-clause-runs : goal.stretch-requires-clause-runs
+stretch-requires-clause-runs g c = c.may_run-runs.ensures
+
+-- a stretch that did nothing left the processor and the board
+pub one_step-requires-clause-runs : goal.one_step-requires-clause-runs
+one_step-requires-clause-runs g c =
+    let none : c.stretch.result ≡ 0 = omega (arith, c.if-stretch-gt0.false) in
+    c.may_run-runs.ensures ∙ ap (λ (b : State). may_run b.cpu b.board c.args.image.now) (sym (c.stretch.ensures.goes.stays none))
 
 pub one_step-requires-clause-text : goal.one_step-requires-clause-text
 one_step-requires-clause-text g c = let e = c.original.ensures in (e.first, e.count, e.bytes)

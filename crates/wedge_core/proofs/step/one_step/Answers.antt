@@ -40,8 +40,8 @@ unlost = record { before = false; after = false; back = false }
 left_all : (dropped : Bool) (set : Set) → dropped ≡ false → left_of dropped set ≡ set
 left_all dropped set e = ap (λ (x : Bool). left_of x set) e
 
-pub returns-then-not-may_run-clause-steps : goal.returns-then-not-may_run-clause-steps
-returns-then-not-may_run-clause-steps g c = record {
+pub returns-then-not-runs-clause-steps : goal.returns-then-not-runs-clause-steps
+returns-then-not-runs-clause-steps g c = record {
   step = λ script.
       let m = wedge c.args.image.now script c.args.running.now.frames in
       let old = state_of g.S.Shadows.stands g.S.Shadows.frames g.S.Shadows.slots m c.args.running.now (g.H.Host.bytes c.args.host.now) in
@@ -50,7 +50,7 @@ returns-then-not-may_run-clause-steps g c = record {
       let same = counts_same (g.H.Host.retired c.args.host.now) (g.H.Host.retired c.by_rules.new.host) (g.H.Host.passed c.args.host.now) (g.H.Host.passed c.by_rules.new.host) c.by_rules.ensures.counts.retired c.by_rules.ensures.counts.passed in
       let lost = c.by_rules.new.running.lost in
       subst (λ (x : Counts). StepAs m old lost c.by_rules.result new before x) (sym same)
-      (c.alones_go.ensures m old lost c.by_rules.result new before refl c.requires.able.level (sym c.may_run.ensures ∙ c.if-not-may_run.true) c.by_rules.ensures.alone.before (c.by_rules.ensures.alone.step script));
+      (c.alones_go.ensures m old lost c.by_rules.result new before refl c.requires.able.level (sym c.requires.runs ∙ c.if-not-runs.true) c.by_rules.ensures.alone.before (c.by_rules.ensures.alone.step script));
   able =
       let m = ground c.args.image.now c.args.running.now.frames in
       let at = λ (r : Running g.row.S.Denot) (memory : List ℕ). state_of g.S.Shadows.stands g.S.Shadows.frames g.S.Shadows.slots m r memory in
@@ -71,8 +71,8 @@ returns-then-not-may_run-clause-steps g c = record {
   };
 }
 
-pub returns-then-not-may_run-clause-accounts : goal.returns-then-not-may_run-clause-accounts
-returns-then-not-may_run-clause-accounts g c = record {
+pub returns-then-not-runs-clause-accounts : goal.returns-then-not-runs-clause-accounts
+returns-then-not-runs-clause-accounts g c = record {
   stands = c.by_rules.ensures.accounts.stands;
   counted = c.by_rules.ensures.accounts.counted;
   pool = c.by_rules.ensures.accounts.pool;
@@ -80,16 +80,16 @@ returns-then-not-may_run-clause-accounts g c = record {
   frames = c.by_rules.ensures.accounts.frames;
 }
 
-pub returns-then-not-may_run-clause-counts : goal.returns-then-not-may_run-clause-counts
-returns-then-not-may_run-clause-counts g c = record {
+pub returns-then-not-runs-clause-counts : goal.returns-then-not-runs-clause-counts
+returns-then-not-runs-clause-counts g c = record {
   few =
       let same = c.by_rules.ensures.counts.retired in omega (arith, same);
   retired = if_err c.by_rules.result c.by_rules.ensures.counts.retired;
   passed = if_err c.by_rules.result c.by_rules.ensures.counts.passed;
 }
 
-pub returns-then-not-may_run-clause-started : goal.returns-then-not-may_run-clause-started
-returns-then-not-may_run-clause-started g c = c.by_rules.ensures.started
+pub returns-then-not-runs-clause-started : goal.returns-then-not-runs-clause-started
+returns-then-not-runs-clause-started g c = c.by_rules.ensures.started
 
 -- ---- with the host
 
@@ -146,6 +146,6 @@ on_host-requires g c = record {
   able = c.requires.able;
   bound = c.requires.bound;
   room = c.requires.room;
-  runs = sym c.may_run.ensures ∙ c.if-not-may_run.false;
+  runs = sym c.requires.runs ∙ c.if-not-runs.false;
   kept = (refl, refl);
 }

@@ -49,11 +49,11 @@ returns g c =
     let views = c.views_lend.ensures in
     let view = view_by (directory old.shadows) old.cpu in
     let start = standing old.cpu.regs memory retired passed in
-    let may = may_runs old.cpu old.board image c.may_run.result c.may_run.ensures c.if-not-may_run.false in
+    let may = may_runs old.cpu old.board image c.args.runs c.requires.runs c.if-not-runs.false in
     let quiet = c.steps_until_next-k.ensures.quiet in
     let few = ran.few in
     let most = c.steps_until_next-k.ensures.most in
-    let begun = c.requires.begun in
+    let begun = c.requires.bound.0 in
     let count : now.step ≡ old.step + done = step_then stands frames slots directory old now view start k done memory_then retired_then passed_then ran in
     let noted = g.S.Shadows.noted in
     let marked = g.S.Shadows.marked in
@@ -139,4 +139,11 @@ returns-then-running-clause-leaves g c =
     }
 
 pub returns-then-running-clause-counts : goal.returns-then-running-clause-counts
-returns-then-running-clause-counts g c = record { count = omega arith; most = c.requires.begun; retired = omega arith; passed = λ none. refl }
+returns-then-running-clause-counts g c = record { count = omega arith; most = c.requires.bound.0; retired = omega arith; passed = λ none. refl }
+
+pub run_on-requires-clause-bound : goal.run_on-requires-clause-bound
+run_on-requires-clause-bound g c =
+    let low = c.requires.bound.0 in
+    let high = c.requires.bound.1 in
+    let most = c.steps_until_next-k.ensures.most in
+    omega (arith, low, high, most)
