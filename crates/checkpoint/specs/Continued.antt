@@ -11,7 +11,7 @@ use Rattle.machine_model.specs.State.{Setting, State}
 use Rattle.machine_model.specs.Step.{Report}
 use Rattle.machine_model.specs.Run.{Set, Run, trace_of}
 use Rattle.bare_machine.specs.Answers.{RunsTo}
-use Rattle.wedge_core.specs.Answers.{Around, IsUntouched}
+use Rattle.wedge_core.specs.Surroundings.{Around, IsUntouched}
 use Rattle.wedge_core.specs.Counts.{Counts, CountsOn}
 use Rattle.wedge_core.specs.Promises.{HasMemory}
 

@@ -8,7 +8,7 @@ ghost use Rattle.run_trace.specs.Pauses.{end_of};
 ghost use Rattle.wedge_step.specs.Leaves.{IsBetween};
 ghost use Rattle.wedge_step.specs.Scene.{scene, state_in};
 ghost use Rattle.wedge_step.specs.Standing.{IsAble};
-ghost use Rattle.wedge_core.specs.Answers.{around};
+ghost use Rattle.wedge_core.specs.Surroundings.{around};
 ghost use Rattle.wedge_core.specs.OfRoots.{of_roots};
 ghost use Rattle.checkpoint.specs.States.{IsInForm};
 ghost use Rattle.checkpoint.specs.Moved.{rested_from};

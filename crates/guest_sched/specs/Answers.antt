@@ -4,7 +4,7 @@ use Rattle.std.specs.declared.alloc.Global.{Global}
 use Rattle.pv_io.specs.Causes.{Rose}
 use Rattle.pv_io.specs.Sink.{Appends}
 use Rattle.run_trace.specs.declared.items.Ended.{Ended}
-use Rattle.wedge_core.specs.Answers.{Around, IsUntouched}
+use Rattle.wedge_core.specs.Surroundings.{Around, IsUntouched}
 use Rattle.guest_sched.specs.Shared.{AllFit, FailsAtEnd, FailsInTurn, FirstTooSmall, SharedRun}
 use Rattle.guest_sched.specs.declared.kernel.Kernel.{Kernel}
 use Rattle.guest_sched.specs.declared.kernel.SharedFault.{SharedFault}

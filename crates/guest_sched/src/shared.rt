@@ -4,7 +4,7 @@ ghost use Rattle.std.specs.Prelude.{◌≡◌, ◌+◌, ◌≤◌, ◌<◌, ◌^
 ghost use Rattle.std.specs.List.{All};
 ghost use Rattle.board.specs.Scripts.{is_script};
 ghost use Rattle.pv_io.specs.Causes.{Rose};
-ghost use Rattle.wedge_core.specs.Answers.{around};
+ghost use Rattle.wedge_core.specs.Surroundings.{around};
 ghost use Rattle.wedge_core.specs.Counts.{counts_of};
 ghost use Rattle.wedge_core.specs.Sliced.{outward};
 ghost use Rattle.guest_sched.specs.Answers.{SharedAnswers};

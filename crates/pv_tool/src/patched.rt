@@ -2,7 +2,8 @@
 
 ghost use Rattle.std.specs.Prelude.{◌≡◌, ◌≤◌, ◌^◌, true};
 ghost use Rattle.board.specs.Scripts.{is_script};
-ghost use Rattle.wedge_core.specs.Answers.{WedgeAnswers, around};
+ghost use Rattle.wedge_core.specs.Answers.{WedgeAnswers};
+ghost use Rattle.wedge_core.specs.Surroundings.{around};
 
 use board::Script;
 use host_cpl3::Host;

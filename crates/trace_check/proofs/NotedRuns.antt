@@ -19,7 +19,7 @@ use Rattle.machine_model.specs.Run.{Set, Steps, Run, trace_of}
 use Rattle.machine_model.specs.Notes.{AreTold, AreNotes, step_in}
 use Rattle.wedge_step.specs.Filled.{FillsOn}
 use Rattle.wedge_core.specs.Noted.{EndsTold, NotesOn}
-use Rattle.wedge_core.specs.Answers.{Around}
+use Rattle.wedge_core.specs.Surroundings.{Around}
 use Rattle.wedge_core.specs.Counts.{Counts}
 use Rattle.wedge_core.specs.Promises.{HasFills, with_patches}
 use Rattle.wedge_core.specs.Slices.{PausesAs}

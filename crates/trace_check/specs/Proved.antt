@@ -13,7 +13,7 @@ use Rattle.machine_model.specs.State.{State, boot, wedge}
 use Rattle.machine_model.specs.Step.{Report}
 use Rattle.machine_model.specs.Run.{Set, Run, trace_of}
 use Rattle.machine_model.specs.Notes.{AreTold, AreNotes}
-use Rattle.wedge_core.specs.Answers.{Around, RefusedWedge}
+use Rattle.wedge_core.specs.Surroundings.{Around, RefusedWedge}
 use Rattle.wedge_core.specs.Counts.{CountsOn}
 use Rattle.wedge_core.specs.Promises.{HasMemory, HasFills}
 use Rattle.trace_check.specs.Form.{AreChoices, most_choices}

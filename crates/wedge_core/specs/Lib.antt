@@ -7,6 +7,7 @@ pub mod Stepping
 pub mod Starts
 pub mod Promises
 pub mod Guests
+pub mod Surroundings
 pub mod Answers
 pub mod AloneLaws
 pub mod Attempts

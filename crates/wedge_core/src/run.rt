@@ -8,7 +8,8 @@ ghost use Rattle.run_trace.specs.Pauses.{end_of};
 ghost use Rattle.wedge_step.specs.Leaves.{IsBetween};
 ghost use Rattle.wedge_step.specs.Scene.{free, kept_in, scene, state_in};
 ghost use Rattle.wedge_step.specs.Standing.{IsAble};
-ghost use Rattle.wedge_core.specs.Answers.{WedgeAnswers, around};
+ghost use Rattle.wedge_core.specs.Answers.{WedgeAnswers};
+ghost use Rattle.wedge_core.specs.Surroundings.{around};
 ghost use Rattle.wedge_core.specs.OfRoots.{of_roots};
 
 use crate::guest::Guest;

@@ -2,7 +2,7 @@ use Rattle.std.proofs.Common.{ℕ, ◌/◌, length, refl, subst}
 use Rattle.machine_model.specs.State as model
 use Rattle.machine_model.specs.State.{wedge}
 use Rattle.wedge_step.specs.Scene.{scene, state_in}
-use Rattle.wedge_core.specs.Answers.{Around, around}
+use Rattle.wedge_core.specs.Surroundings.{Around, around}
 use Rattle.wedge_core.specs.Counts.{Counts}
 use Rattle.wedge_core.specs.OfRoots.{of_roots}
 use Rattle.checkpoint.specs.Continued.{WedgeGoesTo}

@@ -2,7 +2,7 @@ use Rattle.std.proofs.Common.{◌≡◌, ℕ, [], sym, subst, arith}
 use Rattle.machine_model.specs.State.{boot, wedge}
 use Rattle.wedge_step.specs.Scene.{scene, state_in}
 use Rattle.wedge_step.specs.Standing.{ground}
-use Rattle.wedge_core.specs.Answers.{Around, around}
+use Rattle.wedge_core.specs.Surroundings.{Around, around}
 use Rattle.wedge_core.specs.Counts.{Counts, counts_of}
 use Rattle.wedge_core.specs.OfRoots.{of_roots}
 use Rattle.wedge_core.specs.Scenes.{IsHeldIn, IsReadyIn}
