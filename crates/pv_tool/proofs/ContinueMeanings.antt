@@ -10,7 +10,7 @@ use Rattle.run_trace.specs.declared.items.Ended.{Ended}
 use Rattle.machine_model.specs.State.{wedge}
 use Rattle.bare_machine.specs.Answers.{WholeAs}
 use Rattle.bare_machine.specs.Machine.{bare}
-use Rattle.wedge_core.specs.Slices.{Counts}
+use Rattle.wedge_core.specs.Counts.{Counts}
 use Rattle.checkpoint.specs.declared.state.State.{State}
 use Rattle.checkpoint.specs.declared.state.CheckpointCause.{CheckpointCause}
 use Rattle.checkpoint.specs.Moved.{rested_from}
@@ -25,8 +25,8 @@ use Rattle.pv_build.specs.declared.status.Status.{Status}
 use Rattle.pv_tool.specs.Words.{Command}
 use Rattle.pv_tool.specs.Outside.{Outside}
 use Rattle.pv_tool.specs.Outcome.{Outcome, HostedRun, refused, told, run_text}
-use Rattle.pv_tool.specs.Running.{Reads, RanAs}
-use Rattle.pv_tool.specs.Resting.{AnswersOnwards}
+use Rattle.pv_tool.specs.Running.{Reads}
+use Rattle.pv_tool.specs.Answering.{AnswersOnwards}
 use Rattle.pv_tool.specs.Saving.{WhereFits, OnState, FromFile, frames_of, is_wedge}
 use Rattle.pv_tool.specs.Continuing.{ContinuesOn, run_on}
 use Rattle.pv_tool.specs.Meaning.{Means, Gives}
@@ -34,14 +34,14 @@ use Rattle.pv_tool.specs.declared.mode.RunMode.{RunMode}
 use Rattle.pv_tool.specs.declared.mode.RunMode.TheVariants as mode
 use Rattle.pv_tool.proofs.Deliveries.{says_told, idle}
 use Rattle.pv_tool.proofs.Works.{ended_is_end, with_both}
-use Rattle.pv_tool.proofs.RunMeanings.{appends_on, front_on, rose_on, text_at, no_write, no_run}
+use Rattle.pv_tool.proofs.RunMeanings.{RanAs, appends_on, front_on, rose_on, text_at, no_write, no_run}
 use Rattle.pv_tool.proofs.RestLaws.{continues_ended, continues_told, with_state}
 
 -- ---- one run
 
 continued_bare : (image : Image) (events : Events) (n : ℕ) (s : State) (old mid new : Option (List ℕ)) (before middle now : ℕ) (r : Result Ended RunFault) (c : Counts) (memory : List ℕ) (st : Status)
     → WholeAs (bare image events (frames_of s)) n (rested_from s) old mid before middle r → ToldAs r mid new middle now st
-    → RanAs (ContinuesOn mode.Bare n image events s) old new before now c c memory st
+    → RanAs (ContinuesOn mode.Bare n image events s) (around_of old new before now c c) memory st
 continued_bare image events n s old mid new before middle now (Ok e) c memory st h said =
     let p = h.1 in
     let run : HostedRun = record { setting = bare image events (frames_of s); sets = p.sets; reports = p.reports; last = p.last; end = e.end } in
@@ -65,7 +65,7 @@ continued_bare image events n s old mid new before middle now (Err fault.Memory)
 
 continued_wedge : (image : Image) (events : Events) (n : ℕ) (s : State) (old mid new : Option (List ℕ)) (before middle now : ℕ) (r : Result Ended RunFault) (c c2 : Counts) (memory : List ℕ) (st : Status)
     → WedgeGoesTo (wedge image events (frames_of s)) n (rested_from s) (around_of old mid before middle c c2) memory r → ToldAs r mid new middle now st
-    → RanAs (ContinuesOn mode.Wedge n image events s) old new before now c c2 memory st
+    → RanAs (ContinuesOn mode.Wedge n image events s) (around_of old new before now c c2) memory st
 continued_wedge image events n s old mid new before middle now (Ok e) c c2 memory st h said =
     let p = h.1 in
     let run : HostedRun = record { setting = wedge image events (frames_of s); sets = p.sets; reports = p.reports; last = p.last; end = e.end } in
@@ -89,10 +89,10 @@ continued_wedge image events n s old mid new before middle now (Err fault.Memory
 
 -- what was answered on a machine was told
 pub continued : (on : RunMode) (image : Image) (events : Events) (n : ℕ) (s : State) (old mid new : Option (List ℕ)) (before middle now : ℕ) (r : Result Ended RunFault) (c c2 : Counts) (memory : List ℕ) (st : Status)
-    → AnswersOnwards on n image events s old mid before middle c c2 memory r → ToldAs r mid new middle now st
-    → RanAs (ContinuesOn on n image events s) old new before now c c2 memory st
+    → AnswersOnwards on n image events s (around_of old mid before middle c c2) memory r → ToldAs r mid new middle now st
+    → RanAs (ContinuesOn on n image events s) (around_of old new before now c c2) memory st
 continued mode.Bare image events n s old mid new before middle now r c c2 memory st h said =
-    subst (λ (x : Counts). RanAs (ContinuesOn mode.Bare n image events s) old new before now c x memory st) (sym h.1)
+    subst (λ (x : Counts). RanAs (ContinuesOn mode.Bare n image events s) (around_of old new before now c x) memory st) (sym h.1)
     (continued_bare image events n s old mid new before middle now r c memory st h.0 said)
 continued mode.Wedge image events n s old mid new before middle now r c c2 memory st h said =
     continued_wedge image events n s old mid new before middle now r c c2 memory st h said
@@ -119,7 +119,7 @@ no_rest goes on asked n files image script name line is (Unfit program events s 
 pub continue_means : (command : Command) (on : RunMode) (asked : Bool) (n : ℕ) (image script name : List ℕ) (o : Outside) (st : Status) (i : Image) (e : Events) (s : State)
     → ((w : Outcome) → Reads (FromFile (ContinuesOn on n) on n o.files name) o.files image script w → Gives command o.files w)
     → HasImage o.files image i → HasScript o.files script e → HasState o.files name s → asked ≡ is_wedge on → fits_of s i asked n ≡ Ok tt → o.files_after ≡ o.files
-    → RanAs (ContinuesOn on n i e s) o.taken o.taken_after o.puts o.puts_after o.completed o.completed_after o.memory_after st → Means command o st
+    → RanAs (ContinuesOn on n i e s) (around_of o.taken o.taken_after o.puts o.puts_after o.completed o.completed_after) o.memory_after st → Means command o st
 continue_means command on asked n image script name o st i e s gives has has_script state is fit same (inl (w, h, said, does)) =
     let fits = subst (λ (b : Bool). fits_of s i b n ≡ Ok tt) is fit in
     says_told command o w st (ended_is_end w.status (continues_ended on n i e s w h)) (continues_told on n i e s w h)

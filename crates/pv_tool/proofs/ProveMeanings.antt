@@ -29,7 +29,8 @@ use Rattle.pv_build.specs.Telling.{Says, Whole, Cut, ToldAs, status_of}
 use Rattle.pv_build.specs.declared.status.Status.{Status}
 use Rattle.pv_build.specs.declared.status.Status.TheVariants as status
 use Rattle.pv_tool.specs.Words.{Command, Prove}
-use Rattle.pv_tool.specs.Outside.{Outside, outside, NotRead}
+use Rattle.pv_tool.specs.Outside.{Outside, outside}
+use Rattle.pv_tool.specs.Unread.{NotRead}
 use Rattle.pv_tool.specs.Outcome.{Outcome, HostedRun, refused, run_text}
 use Rattle.pv_tool.specs.Running.{RunsOn, Ran, Small, WithFrames}
 use Rattle.pv_tool.specs.Proving.{are_few, certificate_file, certificate_told, proved_as, ProvesRun}
@@ -77,10 +78,14 @@ line_told command o w line mid puts st end gives stored does first le same (Cut 
       }) (rose_later o.puts puts o.puts_after le rose),
     ))
 
+-- the outside of what is told behind a run whose text was put
+abbrev pub behind : Outside → Option (List ℕ) → ℕ → Outside
+behind o mid puts = record o { taken = mid; puts = puts; completed = o.completed_after }
+
 -- what was told of the certificate of a run whose text was put
 certified : (image script : List ℕ) (frames n : ℕ) (name : List ℕ) (r : HostedRun) (notes : List Note) (o : Outside) (mid : Option (List ℕ)) (puts : ℕ) (st : Status)
     → Gives (Prove image script frames n name) o.files (proved_as name r notes) → HostDoes (proved_as name r notes) o → Appends o.taken mid (run_text r) → o.puts ≤ puts
-    → Certifies name notes (status_of r.end) o.files o.files_after o.sure o.stores o.stores_after mid o.taken_after puts o.puts_after st → Means (Prove image script frames n name) o st
+    → Certifies name notes (status_of r.end) (behind o mid puts) st → Means (Prove image script frames n name) o st
 certified image script frames n name r notes o mid puts st gives does first le (TooMany few same said) =
     line_told (Prove image script frames n name) o (proved_as name r notes) no_certificate_line mid puts st (ended_is_end (status_of r.end) (has_ended r.end)) gives (saved_none name notes o.files o.files_after few same) does first le (none_told notes few) said
 certified image script frames n name r notes o mid puts st gives does first le (Certified few stores said) =
@@ -116,7 +121,7 @@ gives_proof files image script frames n name program events w has says h = with_
 -- a run that was printed, and what was told of its notes
 pub proved : (image script : List ℕ) (frames n : ℕ) (name : List ℕ) (program : Image) (events : Events) (o : Outside) (mid : Option (List ℕ)) (puts : ℕ) (e : Ended) (kept : Kept) (meant st : Status)
     → HasImage o.files image program → HasScript o.files script events → NotedAnswers program events frames n kept (around_of o.taken mid o.puts puts o.completed o.completed_after) o.memory_after (Ok e) → meant ≡ status_of e.end
-    → ((told : List Note) → AreKept kept told → Certifies name told meant o.files o.files_after o.sure o.stores o.stores_after mid o.taken_after puts o.puts_after st)
+    → ((told : List Note) → AreKept kept told → Certifies name told meant (behind o mid puts) st)
     → Means (Prove image script frames n name) o st
 proved image script frames n name program events o mid puts e kept meant st has says h is tells =
     let p = h.1 in
@@ -137,7 +142,7 @@ proved image script frames n name program events o mid puts e kept meant st has 
     } in
     let gives = gives_proof o.files image script frames n name program events (proved_as name r p.notes) has says (Ran h.2 proves) in
     certified image script frames n name r p.notes o mid puts st gives (p.counts, p.memory_is) (subst (Appends o.taken mid) text h.4) h.5
-    (subst (λ (m : Status). Certifies name p.notes m o.files o.files_after o.sure o.stores o.stores_after mid o.taken_after puts o.puts_after st) is (tells p.notes p.tells.are_kept))
+    (subst (λ (m : Status). Certifies name p.notes m (behind o mid puts) st) is (tells p.notes p.tells.are_kept))
 
 -- a run that was refused, or whose output failed
 pub unproved : (image script : List ℕ) (frames n : ℕ) (name : List ℕ) (program : Image) (events : Events) (o : Outside) (mid : Option (List ℕ)) (puts : ℕ) (f : RunFault) (kept : Kept) (st : Status)
@@ -186,7 +191,7 @@ since_read command o files sure loads stores st same_files same_sure same_stores
     subst (λ (n : ℕ). Means command (record o { files = files; sure = sure; stores = n; loads = loads }) st) same_stores over_sure
 
 pub counts_proved : {F S H : Type 0} (f : disk.Ghosts F) (s : sink.Ghosts S) (h : hosts.Ghosts H) (image script : List ℕ) (frames n : ℕ) (name : List ℕ) (a b c : F) (out out2 : S) (host host2 : H)
-    → OnlyRead f (Finds (Prove image script frames n name) (f.held a)) a b → NotRead f b c → Counts (Prove image script frames n name) (outside f s h a c out out2 host host2)
+    → OnlyRead f (Finds (Prove image script frames n name) (f.held a)) a b → NotRead f b c → Counts (Prove image script frames n name) (outside f s h (a, c) (out, out2) (host, host2))
 counts_proved f s h image script frames n name a b c out out2 host host2 read stored = record {
   same_sure = stored.same_sure ∙ read.same_sure;
   loads = omega (arith, read.later, stored.same_loads);

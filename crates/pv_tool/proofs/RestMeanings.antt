@@ -15,7 +15,7 @@ use Rattle.machine_model.specs.State as model
 use Rattle.machine_model.specs.State.{Setting, boot}
 use Rattle.machine_model.specs.Step.{Report}
 use Rattle.machine_model.specs.Run.{trace_of}
-use Rattle.wedge_core.specs.Slices.{Counts, CountsOn}
+use Rattle.wedge_core.specs.Counts.{Counts, CountsOn}
 use Rattle.checkpoint.specs.declared.state.State.{State}
 use Rattle.checkpoint.specs.declared.rested.Rested.{Rested}
 use Rattle.checkpoint.specs.declared.rested.Rested.TheVariants as rest
@@ -30,9 +30,9 @@ use Rattle.pv_build.specs.declared.status.Status.TheVariants as status
 use Rattle.pv_tool.specs.Words.{Command}
 use Rattle.pv_tool.specs.Outside.{Outside}
 use Rattle.pv_tool.specs.Outcome.{Outcome, refused, told}
-use Rattle.pv_tool.specs.Delivery.{Delivers, Stored, NotStored, NoMemory}
+use Rattle.pv_tool.specs.Delivery.{Delivers, Stored, NotStored, NoMemory, LeavesAs}
 use Rattle.pv_tool.specs.Running.{HostDid}
-use Rattle.pv_tool.specs.Resting.{LeavesAs, PrintsLines}
+use Rattle.pv_tool.specs.Resting.{PrintsLines}
 use Rattle.pv_tool.specs.Saving.{SavesRun, Rested as Rest, Stopped as Stop, RestsText, steps_on, saved_as}
 use Rattle.pv_tool.specs.Meaning.{Means, Gives, Begins, HostDoes, HasPrinted, TakesFirst, NoStore, NoPut, IsStored}
 use Rattle.pv_tool.specs.declared.mode.RunMode.{RunMode}

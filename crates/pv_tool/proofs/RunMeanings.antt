@@ -1,5 +1,5 @@
 -- The meaning of `run`, on either machine.
-use Rattle.std.proofs.Common.{◌≡◌, inl, inr, ℕ, ◌<◌, List, Option, Result, Ok, Err, refl, sym, ap, subst, ◌∙◌}
+use Rattle.std.proofs.Common.{◌≡◌, ◌⊎◌, inl, inr, ℕ, ◌<◌, List, Option, Result, Ok, Err, refl, sym, ap, subst, ◌∙◌}
 use Rattle.pv_io.specs.Causes.{Rose}
 use Rattle.pv_io.specs.Files.{FileMap}
 use Rattle.pv_io.specs.Sink.{Appends, AppendsFront}
@@ -19,8 +19,10 @@ use Rattle.machine_model.specs.State.{wedge}
 use Rattle.machine_model.specs.Step.{Report}
 use Rattle.machine_model.specs.Run.{stopping, trace_of}
 use Rattle.bare_machine.specs.Answers.{RunAnswers}
-use Rattle.wedge_core.specs.Slices.{Counts}
+use Rattle.wedge_core.specs.Counts.{Counts}
+use Rattle.wedge_core.specs.Surroundings.{Around}
 use Rattle.wedge_core.proofs.AnsweredBy.{WedgeAnswers}
+use Rattle.trace_check.proofs.NotedRuns.{around_of}
 use Rattle.pv_build.specs.Lines.{small_line}
 use Rattle.pv_build.specs.Telling.{Says, Whole, Cut, status_of, ToldAs}
 use Rattle.pv_build.specs.Images.{HasImage}
@@ -30,7 +32,7 @@ use Rattle.pv_build.specs.declared.status.Status.TheVariants as status
 use Rattle.pv_tool.specs.Words.{Command}
 use Rattle.pv_tool.specs.Outside.{Outside}
 use Rattle.pv_tool.specs.Outcome.{Outcome, HostedRun, HasEnded, refused, ended, ended_on_host}
-use Rattle.pv_tool.specs.Running.{RunsBare, RunsPatched, RunsOn, Ran, Small, ReadsScript, ReadsImage, Reads, WithFrames, Runs, RanAs}
+use Rattle.pv_tool.specs.Running.{RunsBare, RunsPatched, RunsOn, Ran, Small, ReadsScript, ReadsImage, Reads, WithFrames, Runs, HostDid}
 use Rattle.pv_tool.specs.Answering.{AnswersOn}
 use Rattle.pv_tool.specs.Meaning.{Means, Gives, Finds}
 use Rattle.pv_tool.specs.View.{run_command}
@@ -57,10 +59,16 @@ pub says_from : (line : List ℕ) (old mid new : Option (List ℕ)) (before midd
 says_from line old mid new before middle now st same count h =
     subst (λ (n : ℕ). Says line status.Refused old new n now st) count (subst (λ (t : Option (List ℕ)). Says line status.Refused t new middle now st) same h)
 
+-- A run's text was put, or a refusal's line, and the host has done what is its part, unless no memory was found.
+abbrev pub RanAs : (Outcome → Type 0) → Around → List ℕ → Status → Type 0
+RanAs runs a memory result =
+    ((w : Outcome) × runs w × Says w.text w.status a.taken a.taken_after a.faults a.faults_after result × (result ≡ w.status → HostDid w.hosted a.counts a.counts_after memory))
+    ⊎ ((result ≡ status.Memory) × (a.taken_after ≡ a.taken) × (a.counts_after ≡ a.counts))
+
 -- the line of memory that is too small was put
 too_small : (ran : Outcome → Type 0) (image : Image) (frames : ℕ) (old new : Option (List ℕ)) (before now : ℕ) (c c2 : Counts) (memory : List ℕ) (small : TooSmall) (st : Status)
     → frames < need image → small ≡ record { need = need image; have = frames } → c2 ≡ c → Says (small_line small.need small.have) status.Refused old new before now st
-    → RanAs (RunsOn ran image frames) old new before now c c2 memory st
+    → RanAs (RunsOn ran image frames) (around_of old new before now c c2) memory st
 too_small ran image frames old new before now c c2 memory small st lt is none said =
     inl (
       refused (small_line small.need small.have),
@@ -72,7 +80,7 @@ too_small ran image frames old new before now c c2 memory small st lt is none sa
 -- what the bare machine answered was told
 ran_bare : (image : Image) (events : Events) (frames n : ℕ) (old mid new : Option (List ℕ)) (before middle now : ℕ) (r : Result Ended RunFault) (c : Counts) (memory : List ℕ) (st : Status)
     → RunAnswers image events frames n old mid before middle r → ToldAs r mid new middle now st
-    → RanAs (RunsOn (RunsBare frames n image events) image frames) old new before now c c memory st
+    → RanAs (RunsOn (RunsBare frames n image events) image frames) (around_of old new before now c c) memory st
 ran_bare image events frames n old mid new before middle now (Ok e) c memory st h told =
     inl (
       ended e.end h.0,
@@ -105,7 +113,7 @@ text_at reports text count last end is same = is ∙ ap (λ (n : ℕ). text_of (
 -- what was answered of a patched run was told
 ran_patched : (image : Image) (events : Events) (frames n : ℕ) (old mid new : Option (List ℕ)) (before middle now : ℕ) (r : Result Ended RunFault) (c c2 : Counts) (memory : List ℕ) (st : Status)
     → WedgeAnswers image events frames n 512 old mid before middle c c2 memory r → ToldAs r mid new middle now st
-    → RanAs (RunsOn (RunsPatched frames n image events) image frames) old new before now c c2 memory st
+    → RanAs (RunsOn (RunsPatched frames n image events) image frames) (around_of old new before now c c2) memory st
 ran_patched image events frames n old mid new before middle now (Ok e) c c2 memory st h told =
     let p = h.1 in
     let stopped = stopping (wedge image events frames) n p.last e.end p.run.ends in
@@ -139,10 +147,10 @@ runs_of mode.Wedge frames n image events w = RunsPatched frames n image events w
 
 -- what was answered on a machine was told
 pub ran_on : (on : RunMode) (image : Image) (events : Events) (frames n : ℕ) (old mid new : Option (List ℕ)) (before middle now : ℕ) (r : Result Ended RunFault) (c c2 : Counts) (memory : List ℕ) (st : Status)
-    → AnswersOn on frames n image events old mid before middle c c2 memory r → ToldAs r mid new middle now st
-    → RanAs (RunsOn (runs_of on frames n image events) image frames) old new before now c c2 memory st
+    → AnswersOn on frames n image events (around_of old mid before middle c c2) memory r → ToldAs r mid new middle now st
+    → RanAs (RunsOn (runs_of on frames n image events) image frames) (around_of old new before now c c2) memory st
 ran_on mode.Bare image events frames n old mid new before middle now r c c2 memory st h told =
-    subst (λ (x : Counts). RanAs (RunsOn (RunsBare frames n image events) image frames) old new before now c x memory st) (sym h.1)
+    subst (λ (x : Counts). RanAs (RunsOn (RunsBare frames n image events) image frames) (around_of old new before now c x) memory st) (sym h.1)
     (ran_bare image events frames n old mid new before middle now r c memory st h.0 told)
 ran_on mode.Wedge image events frames n old mid new before middle now r c c2 memory st h told =
     ran_patched image events frames n old mid new before middle now r c c2 memory st h told
@@ -186,7 +194,7 @@ no_run goes files image script line (NoScript i at cause has none is) =
 -- a run of the files' image and script
 pub run_means : (command : Command) (runs : Image → Events → Outcome → Type 0) (image script : List ℕ) (frames : ℕ) (o : Outside) (st : Status) (i : Image) (s : Events) → AreEnds runs → AreTold runs
     → ((w : Outcome) → Runs runs frames o.files image script w → Gives command o.files w) → HasImage o.files image i → HasScript o.files script s → o.files_after ≡ o.files
-    → RanAs (RunsOn (runs i s) i frames) o.taken o.taken_after o.puts o.puts_after o.completed o.completed_after o.memory_after st → Means command o st
+    → RanAs (RunsOn (runs i s) i frames) (around_of o.taken o.taken_after o.puts o.puts_after o.completed o.completed_after) o.memory_after st → Means command o st
 run_means command runs image script frames o st i s are told gives has has_script same (inl (w, h, said, does)) =
     says_told command o w st (runs_end runs i s frames w are h) (runs_told runs i s frames w told h) (gives w (with_both (WithFrames runs frames) o.files image script i s w has has_script h)) same does said
 run_means command runs image script frames o st i s are told gives has has_script same (inr (is, none, still)) =

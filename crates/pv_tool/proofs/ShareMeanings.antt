@@ -26,7 +26,8 @@ use Rattle.pv_build.specs.declared.status.Status.TheVariants as status
 use Rattle.pv_tool.specs.Words.{Share, makes_pairs}
 use Rattle.pv_tool.specs.Outside.{Outside}
 use Rattle.pv_tool.specs.Outcome.{Outcome, Turns, refused, told}
-use Rattle.pv_tool.specs.Sharing.{has_stopped, status_of_all, SharesTurns, SharesOn, Ran, Small, BySchedule, Shares, NoneShared, AllRead, SharedToldAs, run_fault}
+use Rattle.pv_tool.specs.Sharing.{has_stopped, status_of_all, SharesTurns, SharesOn, Ran, Small, BySchedule, Shares, NoneShared, AllRead}
+use Rattle.pv_tool.specs.Told.{SharedToldAs, run_fault}
 use Rattle.pv_tool.specs.Meaning.{Means, NoPut}
 use Rattle.pv_tool.proofs.Deliveries.{says_told, past_none}
 use Rattle.pv_tool.proofs.RunMeanings.{appends_on, front_on, rose_on, says_from}

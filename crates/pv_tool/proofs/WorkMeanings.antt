@@ -6,9 +6,10 @@ use Rattle.board.specs.Scripts.{Events}
 use Rattle.run_trace.specs.declared.items.End.{End}
 use Rattle.run_trace.specs.declared.items.Ended.{Ended}
 use Rattle.machine_model.specs.Run.{stopping}
-use Rattle.wedge_core.specs.Slices.{Counts}
+use Rattle.wedge_core.specs.Counts.{Counts}
 use Rattle.wedge_core.specs.Promises.{Promise, HasOwnFills}
 use Rattle.wedge_core.proofs.AnsweredBy.{WedgeAnswers}
+use Rattle.trace_check.proofs.NotedRuns.{around_of}
 use Rattle.pv_build.specs.Texts.{Compares}
 use Rattle.pv_build.specs.Telling.{RefusesAs, Says, Whole, Cut, Ends}
 use Rattle.pv_build.specs.Building.{Builds, built_of}
@@ -21,7 +22,8 @@ use Rattle.pv_tool.specs.Words.{Work}
 use Rattle.pv_tool.specs.Outside.{Outside}
 use Rattle.pv_tool.specs.Outcome.{Outcome, HostedRun, refused, compared}
 use Rattle.pv_tool.specs.Running.{Ran, Small}
-use Rattle.pv_tool.specs.Working.{second_setting, HasTexts, IsTooLarge, RunsTwice, WorksOn, Works, WorkedAs}
+use Rattle.pv_tool.specs.Working.{second_setting, RunsTwice, WorksOn, Works}
+use Rattle.pv_tool.specs.Told.{HasTexts, IsTooLarge, WorkedAs}
 use Rattle.pv_tool.specs.Meaning.{Means}
 use Rattle.pv_tool.proofs.Deliveries.{says_told}
 use Rattle.pv_tool.proofs.Works.{IsEnd, IsTold}
@@ -53,7 +55,7 @@ second_ran image events old text before now c c2 memory ended none first answers
 
 -- work that has ended with a refusal, or without memory
 pub work_ends : (number : ℕ) (told : List ℕ → Type 0) (h : Halt) (old new : Option (List ℕ)) (before now : ℕ) (c c2 : Counts) (memory : List ℕ) (st : Status) → RefusesAs told h
-    → ((line : List ℕ) → told line → Works number (refused line) × (c2 ≡ c)) → Ends h old new before now st → WorkedAs number old new before now c c2 memory st
+    → ((line : List ℕ) → told line → Works number (refused line) × (c2 ≡ c)) → Ends h old new before now st → WorkedAs number (around_of old new before now c c2) memory st
 work_ends number told (halt.Refused line) old new before now c c2 memory st is to ends =
     let both = to line is in
     inl (refused line, both.0, ends, λ end. both.1)
@@ -69,7 +71,7 @@ too_large number image c c2 line h large = (record { made = Ok image; builds = h
 -- both runs were told
 pub work_tells : (number : ℕ) (image : Image) (first second : List ℕ) (fills : ℕ) (old new : Option (List ℕ)) (before now : ℕ) (c c2 : Counts) (memory : List ℕ) (st : Status)
     → Builds (kernel_text number) (Ok image) → HasTexts image first second fills c c2 memory → TellsBoth (told_line number image second fills) first second old new before now st
-    → WorkedAs number old new before now c c2 memory st
+    → WorkedAs number (around_of old new before now c c2) memory st
 work_tells number image first second fills old new before now c c2 memory st h t (inl (told, compares, said)) =
     let p = t.promise in
     let stopped = stopping (second_setting image) 100000 p.last t.end p.run.ends in
@@ -139,7 +141,7 @@ works_once number w v is h k =
 -- ---- what the status means
 
 pub work_means : (number : ℕ) (o : Outside) (st : Status) → o.files_after ≡ o.files
-    → WorkedAs number o.taken o.taken_after o.puts o.puts_after o.completed o.completed_after o.memory_after st → Means (Work number) o st
+    → WorkedAs number (around_of o.taken o.taken_after o.puts o.puts_after o.completed o.completed_after) o.memory_after st → Means (Work number) o st
 work_means number o st same (inl (w, h, said, does)) =
     says_told (Work number) o w st (works_end number w h) (works_told number w h) h same does said
 work_means number o st same (inr (is, none)) = subst (λ (x : Status). Means (Work number) o x) (sym is) (same, inl (none, tt))
@@ -149,6 +151,6 @@ said_no_read w old new before now st end (Whole is appends) = λ read. subst (λ
 said_no_read w old new before now st end (Cut is front rose) = λ read. cc (is, read)
 
 -- no load fails
-pub work_no_read : (number : ℕ) (old new : Option (List ℕ)) (before now : ℕ) (c c2 : Counts) (memory : List ℕ) (st : Status) → WorkedAs number old new before now c c2 memory st → st ≢ status.ReadFault
+pub work_no_read : (number : ℕ) (old new : Option (List ℕ)) (before now : ℕ) (c c2 : Counts) (memory : List ℕ) (st : Status) → WorkedAs number (around_of old new before now c c2) memory st → st ≢ status.ReadFault
 work_no_read number old new before now c c2 memory st (inl (w, h, said, does)) = said_no_read w old new before now st (works_end number w h) said
 work_no_read number old new before now c c2 memory st (inr (is, none)) = λ read. cc (is, read)

@@ -1,5 +1,5 @@
 -- The work of `replay`: a text is judged by the run of the bare machine that goes by a certificate.
-use Rattle.std.specs.Prelude.{◌≡◌, ◌⊎◌, ℕ, List, Option, Result, Ok, Err}
+use Rattle.std.specs.Prelude.{◌≡◌, ℕ, List, Option, Result, Ok, Err}
 use Rattle.pv_io.specs.Files.{FileMap, Holds}
 use Rattle.board.specs.Scripts.{Events}
 use Rattle.image_check.specs.Image.{Image}
@@ -7,9 +7,6 @@ use Rattle.trace_check.specs.declared.list.Choice.{Choice}
 use Rattle.trace_check.specs.Reading.{choices_in}
 use Rattle.trace_check.specs.Judged.{judged}
 use Rattle.pv_build.specs.CertificateLines.{certificate_refusal, verdict_line}
-use Rattle.pv_build.specs.Telling.{Says}
-use Rattle.pv_build.specs.declared.status.Status.{Status}
-use Rattle.pv_build.specs.declared.status.Status.TheVariants as status
 use Rattle.pv_tool.specs.Outcome.{Outcome, refused, printed}
 use Rattle.pv_tool.specs.Running.{RunsOn}
 
@@ -26,8 +23,3 @@ ByChoices frames n files text image events (Err at) w = w ≡ refused (certifica
 abbrev pub Replays : ℕ → ℕ → Option FileMap → List ℕ → List ℕ → Image → Events → Outcome → Type 0
 Replays frames n files certificate text image events w =
     (file : List ℕ) × Holds files certificate file × ByChoices frames n files text image events (choices_in file) w
-
--- The line of what a text comes to was put, or no memory was found.
-abbrev pub JudgesAs : ℕ → ℕ → Image → Events → List Choice → List ℕ → Option (List ℕ) → Option (List ℕ) → ℕ → ℕ → Status → Type 0
-JudgesAs frames n image events list text old new before now result =
-    ((w : Outcome) × Judges frames n image events list text w × Says w.text w.status old new before now result) ⊎ ((result ≡ status.Memory) × (new ≡ old))

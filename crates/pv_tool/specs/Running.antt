@@ -1,5 +1,5 @@
 -- The work of `run`: the image, then the script, then the run of both.
-use Rattle.std.specs.Prelude.{◌≡◌, ◌⊎◌, ℕ, ◌<◌, ◌≤◌, List, ◌++◌, Option, Result, Ok, Err}
+use Rattle.std.specs.Prelude.{◌≡◌, ℕ, ◌<◌, ◌≤◌, List, ◌++◌, Option, Result, Ok, Err}
 use Rattle.pv_io.specs.Files.{FileMap, Holds}
 use Rattle.board.specs.Scripts.{Events}
 use Rattle.board.specs.Texts.{script_of}
@@ -19,9 +19,6 @@ use Rattle.wedge_core.specs.Promises.{HasMemory}
 use Rattle.guest_sched.specs.Pieces.{counts_over}
 use Rattle.guest_sched.specs.Shared.{sites_in}
 use Rattle.pv_build.specs.Lines.{image_line, script_line, small_line}
-use Rattle.pv_build.specs.Telling.{Says}
-use Rattle.pv_build.specs.declared.status.Status.{Status}
-use Rattle.pv_build.specs.declared.status.Status.TheVariants as status
 use Rattle.pv_tool.specs.Outcome.{Outcome, HostPart, Nothing, KeptRun, EndedRun, SomeSteps, Turns, refused, ended, ended_on_host}
 
 -- a run of the bare machine, with its text
@@ -76,9 +73,3 @@ HostDid (KeptRun r stopped) completed completed2 memory2 = CountsOn r.setting r.
 HostDid (EndedRun r) completed completed2 memory2 = CountsOn r.setting r.reports completed completed2 × HasMemory r.setting r.last r.end memory2
 HostDid (SomeSteps setting reports) completed completed2 memory2 = CountsOn setting reports completed completed2
 HostDid (Turns kernels pieces) completed completed2 memory2 = completed2 ≡ counts_over (sites_in kernels) completed pieces
-
--- A run's text was put, or a refusal's line, and the host has done what is its part, unless no memory was found.
-abbrev pub RanAs : (Outcome → Type 0) → Option (List ℕ) → Option (List ℕ) → ℕ → ℕ → Counts → Counts → List ℕ → Status → Type 0
-RanAs runs old new before now completed completed2 memory2 result =
-    ((w : Outcome) × runs w × Says w.text w.status old new before now result × (result ≡ w.status → HostDid w.hosted completed completed2 memory2))
-    ⊎ ((result ≡ status.Memory) × (new ≡ old) × (completed2 ≡ completed))

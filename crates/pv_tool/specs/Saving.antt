@@ -96,8 +96,12 @@ abbrev pub OnState : (State → Outcome → Type 0) → RunMode → ℕ → Imag
 OnState goes on n image (Ok s) w = WhereFits goes s (fits_of s image (is_wedge on) n) w
 OnState goes on n image (Err at) w = w ≡ refused (place_line (checkpoint_number checkpoint.Form) at)
 
+-- what work comes to that goes on from a state, with an image and events
+abbrev pub FromState : Type 1
+FromState = Image → Events → State → Outcome → Type 0
+
 -- what an image and events come to that go on so from the checkpoint that a name holds
-abbrev pub FromFile : (Image → Events → State → Outcome → Type 0) → RunMode → ℕ → Option FileMap → List ℕ → Image → Events → Outcome → Type 0
+abbrev pub FromFile : FromState → RunMode → ℕ → Option FileMap → List ℕ → Image → Events → Outcome → Type 0
 FromFile goes on n files name image events w = (file : List ℕ) × Holds files name file × OnState (goes image events) on n image (checkpoint_in file) w
 
 -- what is printed of such a run from the start, or from a checkpoint that fits, before a file is stored

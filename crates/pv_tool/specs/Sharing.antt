@@ -1,24 +1,18 @@
 -- The work of `share`: several kernels run on one host, in the turns of a schedule.
-use Rattle.std.specs.Prelude.{◌≡◌, ◌⊎◌, ℕ, ◌≤◌, Bool, true, false, List, [], ◌∷◌, ◌++◌, length, Option, Result, Ok, Err, Vec, if◌then◌else◌}
+use Rattle.std.specs.Prelude.{◌≡◌, ℕ, ◌≤◌, Bool, true, false, List, [], ◌∷◌, ◌++◌, length, Option, Result, Ok, Err, if◌then◌else◌}
 use Rattle.std.specs.List.{list_any, flat_map}
-use Rattle.std.specs.declared.alloc.Global.{Global}
 use Rattle.pv_io.specs.Files.{FileMap, Holds}
 use Rattle.image_load.specs.declared.boot.TooSmall.{TooSmall}
-use Rattle.image_load.specs.declared.fault.RunFault.{RunFault}
-use Rattle.image_load.specs.declared.fault.RunFault.TheVariants as alone
 use Rattle.run_trace.specs.declared.items.End.{End}
 use Rattle.run_trace.specs.declared.items.End.TheVariants.{Bound, Stopped}
 use Rattle.run_trace.specs.declared.items.Ended.{Ended}
 use Rattle.guest_sched.specs.declared.kernel.Kernel.{Kernel}
-use Rattle.guest_sched.specs.declared.kernel.SharedFault.{SharedFault}
-use Rattle.guest_sched.specs.declared.kernel.SharedFault.TheVariants as fault
 use Rattle.guest_sched.specs.declared.schedule.Slice.{Slice}
 use Rattle.guest_sched.specs.declared.fault.ScheduleCause.{ScheduleCause}
 use Rattle.guest_sched.specs.Texts.{schedule_of}
 use Rattle.guest_sched.specs.Pieces.{Piece, AreTurns, piece_text, shared_text}
 use Rattle.guest_sched.specs.Shared.{EachRan, EachBegan, LinesAreAlone, FirstTooSmall, AllFit}
 use Rattle.pv_build.specs.Lines.{small_line}
-use Rattle.pv_build.specs.Telling.{Says}
 use Rattle.pv_build.specs.ScheduleLines.{schedule_line}
 use Rattle.pv_build.specs.Kernels.{KernelNames, HasKernels, NoKernel, IsShared}
 use Rattle.pv_build.specs.declared.status.Status.{Status}
@@ -81,17 +75,3 @@ pub record SharesText (files : Option FileMap) (schedule : List ℕ) (frames : �
   pub few : length last.reports ≤ slice.steps
   pub each : EachBegan 0 frames (pieces ++ last ∷ []) kernels
   pub text_is : text ≡ flat_map piece_text pieces ++ piece_text last
-
--- why they have no end, as of one run
-abbrev pub run_fault : SharedFault → RunFault
-run_fault fault.Write = alone.Write
-run_fault (fault.TooSmall small) = alone.TooSmall small
-run_fault fault.Memory = alone.Memory
-
--- How the answer of several kernels is told: their text was put before, or a refusal's line is, unless no memory is found for it.
-abbrev pub SharedToldAs : Result (Vec Ended Global) SharedFault → Option (List ℕ) → Option (List ℕ) → ℕ → ℕ → Status → Type 0
-SharedToldAs (Ok ended) old new before now result = (result ≡ status_of_all ended.items) × (new ≡ old) × (now ≡ before)
-SharedToldAs (Err fault.Write) old new before now result = (result ≡ status.WriteFault) × (new ≡ old) × (now ≡ before)
-SharedToldAs (Err (fault.TooSmall small)) old new before now result =
-    Says (small_line small.need small.have) status.Refused old new before now result ⊎ ((result ≡ status.Memory) × (new ≡ old))
-SharedToldAs (Err fault.Memory) old new before now result = (result ≡ status.Memory) × (new ≡ old)

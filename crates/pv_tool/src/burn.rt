@@ -8,7 +8,7 @@ ghost use Rattle.pv_build.specs.Readings.{OnlyRead};
 ghost use Rattle.pv_build.specs.Failures.{NoneFailedIn};
 ghost use Rattle.pv_build.specs.Telling.{HaltsOverFiles};
 ghost use Rattle.pv_build.specs.Objects.{ReadsBack, object_made_line};
-ghost use Rattle.wedge_core.specs.Slices.{Counts as HostCounts};
+ghost use Rattle.wedge_core.specs.Counts.{Counts as HostCounts};
 ghost use Rattle.pv_tool.specs.Words.{Burn};
 ghost use Rattle.pv_tool.specs.Outside.{beside};
 ghost use Rattle.pv_tool.specs.Faulting.{FaultsEnd};
@@ -31,9 +31,9 @@ pub fn burn<F: Files, S: Sink>(
     out: &mut S,
 ) -> Status
     ensures meaning { (completed : HostCounts) (memory : List ℕ)
-        → Means (Burn source.now object.now) (beside F.Files S.Sink files.old files.new out.old out.new completed memory) result }
+        → Means (Burn source.now object.now) (beside F.Files S.Sink (files.old, files.new) (out.old, out.new) completed memory) result }
     ensures counts { (completed : HostCounts) (memory : List ℕ)
-        → Counts (Burn source.now object.now) (beside F.Files S.Sink files.old files.new out.old out.new completed memory) }
+        → Counts (Burn source.now object.now) (beside F.Files S.Sink (files.old, files.new) (out.old, out.new) completed memory) }
     ensures leaves { result ≡ Status.Done → Leaves (Burn source.now object.now) (F.held files.old) (F.held files.new) }
     ensures ends { FaultsEnd F.Files files.old files.new result }
 {

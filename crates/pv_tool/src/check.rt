@@ -1,7 +1,7 @@
 //! The command `check`.
 
 ghost use Rattle.std.specs.Prelude.{List, ℕ};
-ghost use Rattle.wedge_core.specs.Slices.{Counts as HostCounts};
+ghost use Rattle.wedge_core.specs.Counts.{Counts as HostCounts};
 ghost use Rattle.pv_tool.specs.Words.{Check};
 ghost use Rattle.pv_tool.specs.Outside.{beside};
 ghost use Rattle.pv_tool.specs.Faulting.{FaultsEnd};
@@ -15,9 +15,9 @@ use std::alloc::Global;
 #[tactic(auto, using(crate::proofs::Faults::ends_same))]
 pub fn check<F: Files, S: Sink>(alloc: Global, name: &str, files: &mut F, out: &mut S) -> Status
     ensures meaning { (completed : HostCounts) (memory : List ℕ)
-        → Means (Check name.now) (beside F.Files S.Sink files.old files.new out.old out.new completed memory) result }
+        → Means (Check name.now) (beside F.Files S.Sink (files.old, files.new) (out.old, out.new) completed memory) result }
     ensures counts { (completed : HostCounts) (memory : List ℕ)
-        → Counts (Check name.now) (beside F.Files S.Sink files.old files.new out.old out.new completed memory) }
+        → Counts (Check name.now) (beside F.Files S.Sink (files.old, files.new) (out.old, out.new) completed memory) }
     ensures ends { FaultsEnd F.Files files.old files.new result }
 {
     match accepted(alloc, name, files) {

@@ -4,11 +4,12 @@ ghost use Rattle.std.specs.Prelude.{◌≡◌, ◌≤◌, ◌^◌, true, length}
 ghost use Rattle.guest_ram.specs.Bytes.{part};
 ghost use Rattle.board.specs.Scripts.{is_script};
 ghost use Rattle.machine_model.specs.Able.{IsAble};
+ghost use Rattle.wedge_core.specs.Surroundings.{around};
 ghost use Rattle.checkpoint.specs.States.{IsInForm};
 ghost use Rattle.pv_tool.specs.View.{continue_command};
-ghost use Rattle.pv_tool.specs.Outside.{outside, completed_by};
+ghost use Rattle.pv_tool.specs.Outside.{outside};
 ghost use Rattle.pv_tool.specs.Faulting.{FaultsEnd};
-ghost use Rattle.pv_tool.specs.Resting.{AnswersOnwards};
+ghost use Rattle.pv_tool.specs.Answering.{AnswersOnwards};
 ghost use Rattle.pv_tool.specs.Meaning.{Means, Counts};
 
 use crate::machine::is_wedge;
@@ -34,9 +35,9 @@ pub fn go_on<F: Files, S: Sink, H: Host>(
     requires within { words.n ≤ 2 ^ 40 }
     requires room { H.retired host.old ≤ 2 ^ 63 }
     ensures meaning { Means (continue_command mode words.entry)
-        (outside F.Files S.Sink H.Host files.old files.new out.old out.new host.old host.new) result }
+        (outside F.Files S.Sink H.Host (files.old, files.new) (out.old, out.new) (host.old, host.new)) result }
     ensures counts { Counts (continue_command mode words.entry)
-        (outside F.Files S.Sink H.Host files.old files.new out.old out.new host.old host.new) }
+        (outside F.Files S.Sink H.Host (files.old, files.new) (out.old, out.new) (host.old, host.new)) }
     ensures host { mode ≡ RunMode.Bare → host.new ≡ host.old }
     ensures ends { FaultsEnd F.Files files.old files.new result }
 {
@@ -74,9 +75,8 @@ fn run_onwards<S: Sink, H: Host>(
     requires begun { found.state.step ≤ n }
     requires bound { n ≤ 2 ^ 40 }
     requires room { H.retired host.old ≤ 2 ^ 63 }
-    ensures answers { AnswersOnwards mode n found.image found.script.list found.state (S.taken out.old) (S.taken out.new)
-        (S.faults out.old) (S.faults out.new)
-        (completed_by H.Host host.old) (completed_by H.Host host.new) (H.bytes host.new) result }
+    ensures answers { AnswersOnwards mode n found.image found.script.list found.state
+        (around H.Host S.Sink host.old host.new out.old out.new) (H.bytes host.new) result }
     ensures host { mode ≡ RunMode.Bare → host.new ≡ host.old }
 {
     let Resumable {

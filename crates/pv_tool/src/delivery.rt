@@ -1,8 +1,9 @@
 //! What a command makes is delivered to the outside.
 
 ghost use Rattle.std.specs.Prelude.{List, ℕ};
-ghost use Rattle.wedge_core.specs.Slices.{Counts as HostCounts};
-ghost use Rattle.pv_tool.specs.Outside.{beside, NotRead};
+ghost use Rattle.wedge_core.specs.Counts.{Counts as HostCounts};
+ghost use Rattle.pv_tool.specs.Outside.{beside};
+ghost use Rattle.pv_tool.specs.Unread.{NotRead};
 ghost use Rattle.pv_tool.specs.Faulting.{FaultsEnd};
 ghost use Rattle.pv_tool.specs.Delivery.{Delivers};
 
@@ -14,7 +15,7 @@ use pv_io::{Files, IoAnswer, Sink};
 pub fn deliver<F: Files, S: Sink>(made: &Made, name: &str, files: &mut F, out: &mut S) -> Status
     ensures delivers { (completed : HostCounts) (memory : List ℕ)
         → Delivers name.now made.now.file.items made.now.line
-        (beside F.Files S.Sink files.old files.new out.old out.new completed memory) result }
+        (beside F.Files S.Sink (files.old, files.new) (out.old, out.new) completed memory) result }
     ensures stored { NotRead F.Files files.old files.new }
     ensures ends { FaultsEnd F.Files files.old files.new result }
 {

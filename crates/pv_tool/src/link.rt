@@ -8,7 +8,7 @@ ghost use Rattle.pv_build.specs.Failures.{NoneFailedIn};
 ghost use Rattle.pv_build.specs.Telling.{HaltsOverFiles};
 ghost use Rattle.pv_build.specs.Objects.{FindsObjects};
 ghost use Rattle.pv_build.specs.Images.{image_made_line};
-ghost use Rattle.wedge_core.specs.Slices.{Counts as HostCounts};
+ghost use Rattle.wedge_core.specs.Counts.{Counts as HostCounts};
 ghost use Rattle.pv_tool.specs.Words.{Link};
 ghost use Rattle.pv_tool.specs.Outside.{beside};
 ghost use Rattle.pv_tool.specs.Faulting.{FaultsEnd};
@@ -33,10 +33,10 @@ pub fn link<F: Files, S: Sink>(
     requires { length objects.now ≤ 64 }
     ensures meaning { (completed : HostCounts) (memory : List ℕ)
         → Means (Link image.now (map string_bytes objects.now))
-        (beside F.Files S.Sink files.old files.new out.old out.new completed memory) result }
+        (beside F.Files S.Sink (files.old, files.new) (out.old, out.new) completed memory) result }
     ensures counts { (completed : HostCounts) (memory : List ℕ)
         → Counts (Link image.now (map string_bytes objects.now))
-        (beside F.Files S.Sink files.old files.new out.old out.new completed memory) }
+        (beside F.Files S.Sink (files.old, files.new) (out.old, out.new) completed memory) }
     ensures leaves { result ≡ Status.Done → Leaves (Link image.now (map string_bytes objects.now)) (F.held files.old) (F.held files.new) }
     ensures ends { FaultsEnd F.Files files.old files.new result }
 {

@@ -3,6 +3,7 @@
 ghost use Rattle.std.specs.Prelude.{◌≡◌, ◌≤◌, ◌^◌, true, List, ℕ, length};
 ghost use Rattle.board.specs.Scripts.{is_script};
 ghost use Rattle.run_trace.specs.Notes.{Note};
+ghost use Rattle.wedge_core.specs.Counts.{Counts as HostCounts};
 ghost use Rattle.trace_check.specs.Form.{AreChoices, most_choices, choices_bytes};
 ghost use Rattle.trace_check.specs.Kept.{AreKept, choices_of};
 ghost use Rattle.pv_build.specs.Images.{HasImage};
@@ -11,7 +12,8 @@ ghost use Rattle.pv_build.specs.CertificateLines.{certificate_line, no_certifica
 ghost use Rattle.pv_build.specs.Telling.{Says, status_of};
 ghost use Rattle.pv_tool.specs.Words.{Prove};
 ghost use Rattle.pv_tool.specs.View.{AreWithin, prove_command};
-ghost use Rattle.pv_tool.specs.Outside.{outside, NotRead};
+ghost use Rattle.pv_tool.specs.Outside.{beside, outside};
+ghost use Rattle.pv_tool.specs.Unread.{NotRead};
 ghost use Rattle.pv_tool.specs.Faulting.{FaultsEnd};
 ghost use Rattle.pv_tool.specs.Proving.{are_few};
 ghost use Rattle.pv_tool.specs.Certifying.{Certifies};
@@ -37,9 +39,9 @@ pub fn prove<F: Files, S: Sink, H: Host>(
     requires within { AreWithin words }
     requires room { H.retired host.old ≤ 2 ^ 63 }
     ensures meaning { Means (prove_command words.entry certificate.now)
-        (outside F.Files S.Sink H.Host files.old files.new out.old out.new host.old host.new) result }
+        (outside F.Files S.Sink H.Host (files.old, files.new) (out.old, out.new) (host.old, host.new)) result }
     ensures counts { Counts (prove_command words.entry certificate.now)
-        (outside F.Files S.Sink H.Host files.old files.new out.old out.new host.old host.new) }
+        (outside F.Files S.Sink H.Host (files.old, files.new) (out.old, out.new) (host.old, host.new)) }
     ensures ends { FaultsEnd F.Files files.old files.new result }
 {
     match runnable_in_files(alloc, words.image, words.script, files) {
@@ -75,7 +77,7 @@ fn prove_found<F: Files, S: Sink, H: Host>(
     ensures meaning { (image script : List ℕ) → HasImage (F.held files.old) image found.now.image
         → HasScript (F.held files.old) script found.now.script.list →
         Means (Prove image script frames n certificate.now)
-        (outside F.Files S.Sink H.Host files.old files.new out.old out.new host.old host.new) result }
+        (outside F.Files S.Sink H.Host (files.old, files.new) (out.old, out.new) (host.old, host.new)) result }
     ensures stored { NotRead F.Files files.old files.new }
     ensures ends { FaultsEnd F.Files files.old files.new result }
 {
@@ -121,10 +123,8 @@ fn certify<F: Files, S: Sink>(
     out: &mut S,
 ) -> Status
     requires { (told : List Note) × AreKept notes.now told × (length told ≤ most_choices → AreChoices (choices_of told)) }
-    ensures certified { (told : List Note) → AreKept notes.now told →
-        Certifies name.now told meant (F.held files.old) (F.held files.new) (F.sure files.old) (F.store_faults files.old)
-        (F.store_faults files.new)
-        (S.taken out.old) (S.taken out.new) (S.faults out.old) (S.faults out.new) result }
+    ensures certified { (completed : HostCounts) (memory : List ℕ) (told : List Note) → AreKept notes.now told →
+        Certifies name.now told meant (beside F.Files S.Sink (files.old, files.new) (out.old, out.new) completed memory) result }
     ensures stored { NotRead F.Files files.old files.new }
     ensures ends { FaultsEnd F.Files files.old files.new result }
 {
@@ -156,11 +156,9 @@ fn store<F: Files, S: Sink>(
     files: &mut F,
     out: &mut S,
 ) -> Status
-    ensures certified { (told : List Note) → are_few told ≡ true → made.now.file.items ≡ choices_bytes (choices_of told)
-        → made.now.line ≡ certificate_line (length told) →
-        Certifies name.now told meant (F.held files.old) (F.held files.new) (F.sure files.old) (F.store_faults files.old)
-        (F.store_faults files.new)
-        (S.taken out.old) (S.taken out.new) (S.faults out.old) (S.faults out.new) result }
+    ensures certified { (completed : HostCounts) (memory : List ℕ) (told : List Note) → are_few told ≡ true
+        → made.now.file.items ≡ choices_bytes (choices_of told) → made.now.line ≡ certificate_line (length told) →
+        Certifies name.now told meant (beside F.Files S.Sink (files.old, files.new) (out.old, out.new) completed memory) result }
     ensures stored { NotRead F.Files files.old files.new }
     ensures ends { FaultsEnd F.Files files.old files.new result }
 {

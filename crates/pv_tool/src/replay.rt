@@ -1,13 +1,14 @@
 //! The command `replay`: a text is judged by a certificate.
 
 ghost use Rattle.std.specs.Prelude.{◌≡◌, ◌≤◌, ◌^◌, true, List, ℕ};
+ghost use Rattle.pv_io.specs.Taking.{taking};
 ghost use Rattle.board.specs.Scripts.{is_script};
 ghost use Rattle.trace_check.specs.Form.{AreChoices};
-ghost use Rattle.wedge_core.specs.Slices.{Counts as HostCounts};
+ghost use Rattle.wedge_core.specs.Counts.{Counts as HostCounts};
 ghost use Rattle.pv_tool.specs.View.{AreWithin, replay_command};
 ghost use Rattle.pv_tool.specs.Outside.{beside};
 ghost use Rattle.pv_tool.specs.Faulting.{FaultsEnd};
-ghost use Rattle.pv_tool.specs.Replaying.{JudgesAs};
+ghost use Rattle.pv_tool.specs.Told.{JudgesAs};
 ghost use Rattle.pv_tool.specs.Meaning.{Means, Counts};
 
 use crate::words::RunWords;
@@ -27,9 +28,9 @@ pub fn replay<F: Files, S: Sink>(
 ) -> Status
     requires within { AreWithin words }
     ensures meaning { (completed : HostCounts) (memory : List ℕ) → Means (replay_command words.entry certificate.now text.now)
-        (beside F.Files S.Sink files.old files.new out.old out.new completed memory) result }
+        (beside F.Files S.Sink (files.old, files.new) (out.old, out.new) completed memory) result }
     ensures counts { (completed : HostCounts) (memory : List ℕ) → Counts (replay_command words.entry certificate.now text.now)
-        (beside F.Files S.Sink files.old files.new out.old out.new completed memory) }
+        (beside F.Files S.Sink (files.old, files.new) (out.old, out.new) completed memory) }
     ensures ends { FaultsEnd F.Files files.old files.new result }
 {
     match replayable_in_files(alloc, words.image, words.script, certificate, text, files) {
@@ -44,7 +45,7 @@ fn judge<S: Sink>(alloc: Global, found: &Replayable, frames: u32, n: u64, out: &
     requires limits { (2048 ≤ frames) × (frames ≤ 16384) × (n ≤ 2 ^ 40) }
     requires entries { AreChoices found.now.choices.list }
     ensures { JudgesAs frames n found.now.runnable.image found.now.runnable.script.list found.now.choices.list found.now.text.items
-        (S.taken out.old) (S.taken out.new) (S.faults out.old) (S.faults out.new) result }
+        (taking S.Sink out.old out.new) result }
 {
     let runnable = &found.runnable;
     let judged = replay_text(

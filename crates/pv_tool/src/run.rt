@@ -3,7 +3,8 @@
 ghost use Rattle.std.specs.Prelude.{◌≡◌, ◌≤◌, ◌^◌, true};
 ghost use Rattle.board.specs.Scripts.{is_script};
 ghost use Rattle.pv_tool.specs.View.{AreWithin, run_command};
-ghost use Rattle.pv_tool.specs.Outside.{outside, completed_by};
+ghost use Rattle.wedge_core.specs.Surroundings.{around};
+ghost use Rattle.pv_tool.specs.Outside.{outside};
 ghost use Rattle.pv_tool.specs.Faulting.{FaultsEnd};
 ghost use Rattle.pv_tool.specs.Answering.{AnswersOn};
 ghost use Rattle.pv_tool.specs.Meaning.{Means, Counts};
@@ -31,9 +32,9 @@ pub fn run<F: Files, S: Sink, H: Host>(
     requires within { AreWithin words }
     requires room { H.retired host.old ≤ 2 ^ 63 }
     ensures meaning { Means (run_command mode words.entry)
-        (outside F.Files S.Sink H.Host files.old files.new out.old out.new host.old host.new) result }
+        (outside F.Files S.Sink H.Host (files.old, files.new) (out.old, out.new) (host.old, host.new)) result }
     ensures counts { Counts (run_command mode words.entry)
-        (outside F.Files S.Sink H.Host files.old files.new out.old out.new host.old host.new) }
+        (outside F.Files S.Sink H.Host (files.old, files.new) (out.old, out.new) (host.old, host.new)) }
     ensures host { mode ≡ RunMode.Bare → host.new ≡ host.old }
     ensures ends { FaultsEnd F.Files files.old files.new result }
 {
@@ -59,8 +60,8 @@ fn run_found<S: Sink, H: Host>(
     requires script { is_script found.now.script.list ≡ true }
     requires limits { (2048 ≤ frames) × (frames ≤ 16384) × (n ≤ 2 ^ 40) }
     requires room { H.retired host.old ≤ 2 ^ 63 }
-    ensures answers { AnswersOn mode frames n found.now.image found.now.script.list (S.taken out.old) (S.taken out.new) (S.faults out.old)
-        (S.faults out.new) (completed_by H.Host host.old) (completed_by H.Host host.new) (H.bytes host.new) result }
+    ensures answers { AnswersOn mode frames n found.now.image found.now.script.list
+        (around H.Host S.Sink host.old host.new out.old out.new) (H.bytes host.new) result }
     ensures host { mode ≡ RunMode.Bare → host.new ≡ host.old }
 {
     match mode {

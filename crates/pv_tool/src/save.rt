@@ -4,12 +4,15 @@ ghost use Rattle.std.specs.Prelude.{◌≡◌, ◌≤◌, ◌^◌, true, ℕ, Li
 ghost use Rattle.guest_ram.specs.Bytes.{part};
 ghost use Rattle.board.specs.Scripts.{is_script};
 ghost use Rattle.machine_model.specs.Able.{IsAble};
-ghost use Rattle.wedge_core.specs.Slices.{Counts as HostCounts};
+ghost use Rattle.wedge_core.specs.Counts.{Counts as HostCounts};
+ghost use Rattle.wedge_core.specs.Surroundings.{around};
 ghost use Rattle.checkpoint.specs.States.{IsInForm};
 ghost use Rattle.pv_tool.specs.View.{AreWithin, save_command, save_from_command};
-ghost use Rattle.pv_tool.specs.Outside.{beside, outside, completed_by, NotRead};
+ghost use Rattle.pv_tool.specs.Outside.{beside, outside};
+ghost use Rattle.pv_tool.specs.Unread.{NotRead};
 ghost use Rattle.pv_tool.specs.Faulting.{FaultsEnd};
-ghost use Rattle.pv_tool.specs.Resting.{AnswersStart, AnswersState, HasForm, LeavesAs};
+ghost use Rattle.pv_tool.specs.Answering.{AnswersStart, AnswersState, HasForm};
+ghost use Rattle.pv_tool.specs.Delivery.{LeavesAs};
 ghost use Rattle.pv_tool.specs.Meaning.{Means, Counts, Leaves};
 
 use crate::delivery::deliver;
@@ -39,9 +42,9 @@ pub fn save<F: Files, S: Sink, H: Host>(
     requires within { AreWithin words }
     requires room { H.retired host.old ≤ 2 ^ 63 }
     ensures meaning { Means (save_command mode words.entry file.now)
-        (outside F.Files S.Sink H.Host files.old files.new out.old out.new host.old host.new) result }
+        (outside F.Files S.Sink H.Host (files.old, files.new) (out.old, out.new) (host.old, host.new)) result }
     ensures counts { Counts (save_command mode words.entry file.now)
-        (outside F.Files S.Sink H.Host files.old files.new out.old out.new host.old host.new) }
+        (outside F.Files S.Sink H.Host (files.old, files.new) (out.old, out.new) (host.old, host.new)) }
     ensures leaves { result ≡ Status.Done → Leaves (save_command mode words.entry file.now) (F.held files.old) (F.held files.new) }
     ensures host { mode ≡ RunMode.Bare → host.new ≡ host.old }
     ensures ends { FaultsEnd F.Files files.old files.new result }
@@ -68,9 +71,9 @@ pub fn save_from<F: Files, S: Sink, H: Host>(
     requires within { words.n ≤ 2 ^ 40 }
     requires room { H.retired host.old ≤ 2 ^ 63 }
     ensures meaning { Means (save_from_command mode words.entry new.now)
-        (outside F.Files S.Sink H.Host files.old files.new out.old out.new host.old host.new) result }
+        (outside F.Files S.Sink H.Host (files.old, files.new) (out.old, out.new) (host.old, host.new)) result }
     ensures counts { Counts (save_from_command mode words.entry new.now)
-        (outside F.Files S.Sink H.Host files.old files.new out.old out.new host.old host.new) }
+        (outside F.Files S.Sink H.Host (files.old, files.new) (out.old, out.new) (host.old, host.new)) }
     ensures leaves { result ≡ Status.Done → Leaves (save_from_command mode words.entry new.now) (F.held files.old) (F.held files.new) }
     ensures host { mode ≡ RunMode.Bare → host.new ≡ host.old }
     ensures ends { FaultsEnd F.Files files.old files.new result }
@@ -106,9 +109,8 @@ fn rest_found<S: Sink, H: Host>(
     requires script { is_script found.now.script.list ≡ true }
     requires limits { (2048 ≤ frames) × (frames ≤ 16384) × (n ≤ 2 ^ 40) }
     requires room { H.retired host.old ≤ 2 ^ 63 }
-    ensures answers { AnswersStart mode frames n found.now.image found.now.script.list (S.taken out.old) (S.taken out.new)
-        (S.faults out.old) (S.faults out.new)
-        (completed_by H.Host host.old) (completed_by H.Host host.new) (H.bytes host.new) result }
+    ensures answers { AnswersStart mode frames n found.now.image found.now.script.list
+        (around H.Host S.Sink host.old host.new out.old out.new) (H.bytes host.new) result }
     ensures form { HasForm result }
     ensures host { mode ≡ RunMode.Bare → host.new ≡ host.old }
 {
@@ -134,9 +136,8 @@ fn rest_again<S: Sink, H: Host>(
     requires begun { found.state.step ≤ n }
     requires bound { n ≤ 2 ^ 40 }
     requires room { H.retired host.old ≤ 2 ^ 63 }
-    ensures answers { AnswersState mode n found.image found.script.list found.state (S.taken out.old) (S.taken out.new) (S.faults out.old)
-        (S.faults out.new)
-        (completed_by H.Host host.old) (completed_by H.Host host.new) (H.bytes host.new) result }
+    ensures answers { AnswersState mode n found.image found.script.list found.state
+        (around H.Host S.Sink host.old host.new out.old out.new) (H.bytes host.new) result }
     ensures form { HasForm result }
     ensures host { mode ≡ RunMode.Bare → host.new ≡ host.old }
 {
@@ -162,7 +163,7 @@ fn leave<F: Files, S: Sink>(
 ) -> Status
     requires form { HasForm rested }
     ensures leaves { (completed : HostCounts) (memory : List ℕ)
-        → LeavesAs rested name.now (beside F.Files S.Sink files.old files.new out.old out.new completed memory) result }
+        → LeavesAs rested name.now (beside F.Files S.Sink (files.old, files.new) (out.old, out.new) completed memory) result }
     ensures stored { NotRead F.Files files.old files.new }
     ensures ends { FaultsEnd F.Files files.old files.new result }
 {

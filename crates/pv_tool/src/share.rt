@@ -6,7 +6,8 @@ ghost use Rattle.pv_tool.specs.View.{AreKernels, share_command};
 ghost use Rattle.pv_tool.specs.Outside.{outside};
 ghost use Rattle.pv_tool.specs.Faulting.{FaultsEnd};
 ghost use Rattle.pv_tool.specs.Meaning.{Means, Counts};
-ghost use Rattle.pv_tool.specs.Sharing.{SharedToldAs, has_stopped, run_fault, status_of_all};
+ghost use Rattle.pv_tool.specs.Sharing.{has_stopped, status_of_all};
+ghost use Rattle.pv_tool.specs.Told.{SharedToldAs, run_fault};
 
 use crate::words::ShareWords;
 use guest_sched::{SharedFault, run_shared};
@@ -28,9 +29,9 @@ pub fn share<F: Files, S: Sink, H: Host>(
     requires within { AreKernels words }
     requires room { H.retired host.old ≤ 2 ^ 63 }
     ensures meaning { Means (share_command words.entry)
-        (outside F.Files S.Sink H.Host files.old files.new out.old out.new host.old host.new) result }
+        (outside F.Files S.Sink H.Host (files.old, files.new) (out.old, out.new) (host.old, host.new)) result }
     ensures counts { Counts (share_command words.entry)
-        (outside F.Files S.Sink H.Host files.old files.new out.old out.new host.old host.new) }
+        (outside F.Files S.Sink H.Host (files.old, files.new) (out.old, out.new) (host.old, host.new)) }
     ensures ends { FaultsEnd F.Files files.old files.new result }
 {
     match shared_in_files(alloc, words.schedule, words.kernels, files) {

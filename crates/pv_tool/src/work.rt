@@ -3,12 +3,14 @@
 ghost use Rattle.std.specs.Prelude.{◌≡◌, ◌≤◌, ◌<◌, ◌^◌, ℕ, [], IfOk, IfErr};
 ghost use Rattle.image_load.specs.Boot.{need};
 ghost use Rattle.image_load.specs.declared.boot.TooSmall.{TooSmall};
+ghost use Rattle.wedge_core.specs.Counts.{counts_of};
 ghost use Rattle.wedge_core.specs.Promises.{Promise, HasOwnFills};
+ghost use Rattle.wedge_core.specs.Surroundings.{around};
 ghost use Rattle.run_trace.specs.declared.items.End.{End};
 ghost use Rattle.pv_build.specs.Lines.{small_line};
 ghost use Rattle.pv_build.specs.Telling.{RefusesAs};
-ghost use Rattle.pv_tool.specs.Outside.{completed_by};
-ghost use Rattle.pv_tool.specs.Working.{first_text, second_setting, HasTexts, IsTooLarge, WorkedAs};
+ghost use Rattle.pv_tool.specs.Working.{first_text, second_setting};
+ghost use Rattle.pv_tool.specs.Told.{HasTexts, IsTooLarge, WorkedAs};
 
 use crate::keeping::Kept;
 use crate::patched::patched_run;
@@ -30,8 +32,7 @@ const STEPS: u64 = 100_000;
 /// Builds the kernel of a number, runs it on the bare machine and patched on a host, and tells whether both print the same.
 pub fn work<S: Sink, H: Host>(alloc: Global, number: u32, out: &mut S, host: &mut H) -> Status
     requires room { H.retired host.old ≤ 2 ^ 63 }
-    ensures { WorkedAs number (S.taken out.old) (S.taken out.new) (S.faults out.old) (S.faults out.new) (completed_by H.Host host.old)
-        (completed_by H.Host host.new) (H.bytes host.new) result }
+    ensures { WorkedAs number (around H.Host S.Sink host.old host.new out.old out.new) (H.bytes host.new) result }
 {
     match built(alloc, number) {
         Err(halt) => end(&halt, out),
@@ -45,9 +46,9 @@ pub fn work<S: Sink, H: Host>(alloc: Global, number: u32, out: &mut S, host: &mu
 // Runs an image on the bare machine with nothing cached, and then patched on a host, each under an empty script.
 fn both<H: Host>(alloc: Global, image: &Checked, host: &mut H) -> Result<Texts, Halt>
     requires room { H.retired host.old ≤ 2 ^ 63 }
-    ensures texts { IfOk result (λ t. HasTexts image.now t.first.items t.second.items t.fills (completed_by H.Host host.old)
-        (completed_by H.Host host.new) (H.bytes host.new)) }
-    ensures refused { IfErr result (RefusesAs (IsTooLarge image.now (completed_by H.Host host.old) (completed_by H.Host host.new))) }
+    ensures texts { IfOk result (λ t. HasTexts image.now t.first.items t.second.items t.fills (counts_of H.Host host.old)
+        (counts_of H.Host host.new) (H.bytes host.new)) }
+    ensures refused { IfErr result (RefusesAs (IsTooLarge image.now (counts_of H.Host host.old) (counts_of H.Host host.new))) }
 {
     let events = Script {
         list: Vec::new(alloc),
@@ -85,10 +86,10 @@ fn patched<H: Host>(
     requires events { events.now.list ≡ [] }
     requires room { H.retired host.old ≤ 2 ^ 63 }
     ensures text { IfOk result (λ ran. (count : ℕ) × (end : End)
-        × (run : Promise (second_setting image.now) 100000 512 ran.0.items count end (completed_by H.Host host.old)
-        (completed_by H.Host host.new) (H.bytes host.new))
+        × (run : Promise (second_setting image.now) 100000 512 ran.0.items count end (counts_of H.Host host.old)
+        (counts_of H.Host host.new) (H.bytes host.new))
         × HasOwnFills (second_setting image.now) 100000 512 run.sets run.last end run.run.ends ran.1) }
-    ensures refused { IfErr result (RefusesAs (IsTooLarge image.now (completed_by H.Host host.old) (completed_by H.Host host.new))) }
+    ensures refused { IfErr result (RefusesAs (IsTooLarge image.now (counts_of H.Host host.old) (counts_of H.Host host.new))) }
 {
     let mut kept = Kept::new(alloc);
     match patched_run(alloc, image, events, FRAMES, STEPS, host, &mut kept) {

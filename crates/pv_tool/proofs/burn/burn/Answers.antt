@@ -1,7 +1,7 @@
 use Rattle.std.proofs.Common.{ℕ, List, [], Option, refl, subst}
 use Rattle.pv_io.specs.Files.{FileMap, Stores}
 use Rattle.pv_tool.specs.Words.{Burn}
-use Rattle.wedge_core.specs.Slices.{Counts}
+use Rattle.wedge_core.specs.Counts.{Counts}
 use Rattle.pv_tool.specs.Outside.{beside}
 use Rattle.pv_tool.proofs.Deliveries.{halts, delivered, counts_read, counts_stored}
 use Rattle.pv_tool.proofs.BurnMeanings.{is_burnt}
@@ -18,7 +18,7 @@ pub returns-in-Ok-clause-meaning : goal.returns-in-Ok-clause-meaning
 returns-in-Ok-clause-meaning g c = λ completed memory.
     let made = c.in-Ok.ensures.made in
     let read = c.in-Ok.ensures.read in
-    let o = beside g.F.Files g.S.Sink c.made.new.files c.deliver.new.files c.args.out.now c.deliver.new.out completed memory in
+    let o = beside g.F.Files g.S.Sink (c.made.new.files, c.deliver.new.files) (c.args.out.now, c.deliver.new.out) completed memory in
     delivered (Burn c.args.source.now c.args.object.now) o (g.F.Files.held c.args.files.now) (g.F.Files.sure c.args.files.now) (g.F.Files.load_faults c.args.files.now) (g.F.Files.store_faults c.args.files.now)
     c.args.object.now c.in-Ok.made.file.items c.in-Ok.made.line c.deliver.result read.held read.same_sure read.same_stores read.later (λ same. same)
     (is_burnt _ c.args.source.now c.args.object.now c.in-Ok.made.file.items c.in-Ok.made.line made.0 made.1 made.2 made.3) refl (c.deliver.ensures.delivers completed memory)
@@ -39,7 +39,7 @@ pub returns-in-Ok-clause-leaves : goal.returns-in-Ok-clause-leaves
 returns-in-Ok-clause-leaves g c =
     let made = c.in-Ok.ensures.made in
     let none : Counts = record { retired = 0; passed = 0 } in
-    let o = beside g.F.Files g.S.Sink c.made.new.files c.deliver.new.files c.args.out.now c.deliver.new.out none [] in
+    let o = beside g.F.Files g.S.Sink (c.made.new.files, c.deliver.new.files) (c.args.out.now, c.deliver.new.out) none [] in
     λ done. (
       made.0,
       made.1,

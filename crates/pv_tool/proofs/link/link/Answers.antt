@@ -1,7 +1,7 @@
 use Rattle.std.proofs.Common.{ℕ, List, [], Option, refl, subst, map, string_bytes}
 use Rattle.pv_io.specs.Files.{FileMap, Stores}
 use Rattle.pv_tool.specs.Words.{Link}
-use Rattle.wedge_core.specs.Slices.{Counts}
+use Rattle.wedge_core.specs.Counts.{Counts}
 use Rattle.pv_tool.specs.Outside.{beside}
 use Rattle.pv_tool.proofs.Deliveries.{halts, delivered, counts_read, counts_stored}
 use Rattle.pv_tool.proofs.LinkMeanings.{is_linked}
@@ -17,7 +17,7 @@ returns-in-Err-clause-meaning g c = λ completed memory.
 pub returns-in-Ok-clause-meaning : goal.returns-in-Ok-clause-meaning
 returns-in-Ok-clause-meaning g c = λ completed memory.
     let read = c.in-Ok.ensures.read in
-    let o = beside g.F.Files g.S.Sink c.made.new.files c.deliver.new.files c.args.out.now c.deliver.new.out completed memory in
+    let o = beside g.F.Files g.S.Sink (c.made.new.files, c.deliver.new.files) (c.args.out.now, c.deliver.new.out) completed memory in
     delivered (Link c.args.image.now (map string_bytes c.args.objects.now)) o (g.F.Files.held c.args.files.now) (g.F.Files.sure c.args.files.now) (g.F.Files.load_faults c.args.files.now) (g.F.Files.store_faults c.args.files.now)
     c.args.image.now c.in-Ok.made.file.items c.in-Ok.made.line c.deliver.result read.held read.same_sure read.same_stores read.later (λ same. same)
     (is_linked _ (map string_bytes c.args.objects.now) c.args.image.now c.in-Ok.made.file.items c.in-Ok.made.line c.in-Ok.ensures.made) refl (c.deliver.ensures.delivers completed memory)
@@ -38,7 +38,7 @@ pub returns-in-Ok-clause-leaves : goal.returns-in-Ok-clause-leaves
 returns-in-Ok-clause-leaves g c =
     let made = c.in-Ok.ensures.made in
     let none : Counts = record { retired = 0; passed = 0 } in
-    let o = beside g.F.Files g.S.Sink c.made.new.files c.deliver.new.files c.args.out.now c.deliver.new.out none [] in
+    let o = beside g.F.Files g.S.Sink (c.made.new.files, c.deliver.new.files) (c.args.out.now, c.deliver.new.out) none [] in
     λ done. (
       made.0,
       made.1,

@@ -30,7 +30,7 @@ returns-in-Ok-clause-meaning g c =
     let read = c.in-Ok.ensures.read in
     let has = subst (λ (f : Option FileMap). HasImage f words.image.now c.in-Ok.found.image) (sym read.held) c.in-Ok.ensures.image in
     let says = subst (λ (f : Option FileMap). HasScript f words.script.now c.in-Ok.found.script.list) (sym read.held) c.in-Ok.ensures.script in
-    let o = outside g.F.Files g.S.Sink g.H.Host c.runnable_in_files.new.files c.prove_found.new.files c.args.out.now c.prove_found.new.out c.args.host.now c.prove_found.new.host in
+    let o = outside g.F.Files g.S.Sink g.H.Host (c.runnable_in_files.new.files, c.prove_found.new.files) (c.args.out.now, c.prove_found.new.out) (c.args.host.now, c.prove_found.new.host) in
     since_read (prove_command words c.args.certificate.now) o (g.F.Files.held c.args.files.now) (g.F.Files.sure c.args.files.now) (g.F.Files.load_faults c.args.files.now) (g.F.Files.store_faults c.args.files.now) c.prove_found.result
     read.held read.same_sure read.same_stores read.later (c.prove_found.ensures.meaning words.image.now words.script.now has says)
 

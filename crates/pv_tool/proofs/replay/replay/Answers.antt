@@ -19,7 +19,7 @@ returns-in-Ok-clause-meaning g c = λ completed memory.
     let found = c.in-Ok.found in
     let h = c.in-Ok.ensures in
     replay_means words.image.now words.script.now c.args.certificate.now c.args.text.now words.frames words.n
-    (beside g.F.Files g.S.Sink c.args.files.now c.replayable_in_files.new.files c.args.out.now c.judge.new.out completed memory) c.judge.result
+    (beside g.F.Files g.S.Sink (c.args.files.now, c.replayable_in_files.new.files) (c.args.out.now, c.judge.new.out) completed memory) c.judge.result
     found.runnable.image found.runnable.script.list found.choices.list found.text.items h.image h.script h.choices h.text h.read.held refl c.judge.ensures
 
 pub returns-in-Err-clause-counts : goal.returns-in-Err-clause-counts

@@ -4,8 +4,7 @@ use Rattle.checkpoint.specs.declared.rested.Rested.{Rested}
 use Rattle.checkpoint.specs.declared.rested.Rested.TheVariants as rest
 use Rattle.checkpoint.specs.States.{checkpoint_bytes, checkpoint_in}
 use Rattle.pv_tool.specs.Outside.{beside}
-use Rattle.pv_tool.specs.Delivery.{Delivers}
-use Rattle.pv_tool.specs.Resting.{LeavesAs}
+use Rattle.pv_tool.specs.Delivery.{Delivers, LeavesAs}
 use Rattle.pv_tool.proofs.save.leave.Goals as goal
 
 pub returns-in-Ok-At-clause-leaves : goal.returns-in-Ok-At-clause-leaves
@@ -13,7 +12,7 @@ returns-in-Ok-At-clause-leaves g c = λ completed memory.
     let state = c.in-Ok-At.state in
     let made = c.in-Ok.made in
     let name = c.args.name.now in
-    let o = beside g.F.Files g.S.Sink c.args.files.now c.deliver.new.files c.args.out.now c.deliver.new.out completed memory in
+    let o = beside g.F.Files g.S.Sink (c.args.files.now, c.deliver.new.files) (c.args.out.now, c.deliver.new.out) completed memory in
     let is : c.args.rested ≡ Ok (rest.At state) = cc (c.in-Ok-At.is, c.in-Ok-At.field-0-is) in
     let bytes = subst (λ (b : List ℕ). Delivers name b made.line o c.deliver.result) c.in-Ok.ensures.file (c.deliver.ensures.delivers completed memory) in
     let done = subst (λ (l : List ℕ). Delivers name (checkpoint_bytes state) l o c.deliver.result) c.in-Ok.ensures.line bytes in

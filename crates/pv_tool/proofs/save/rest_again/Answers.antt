@@ -2,8 +2,8 @@ use Rattle.std.proofs.Common.{◌≡◌, List, refl, sym, subst, ◌∙◌}
 use Rattle.machine_model.specs.Step.{Report}
 use Rattle.bare_machine.specs.Machine.{bare}
 use Rattle.checkpoint.specs.Moved.{rested_from}
-use Rattle.pv_tool.specs.Outside.{completed_by}
-use Rattle.pv_tool.specs.Resting.{HostStepped, AnswersState}
+use Rattle.wedge_core.specs.Surroundings.{around}
+use Rattle.pv_tool.specs.Answering.{HostStepped, AnswersState}
 use Rattle.pv_tool.specs.Saving.{frames_of}
 use Rattle.pv_tool.specs.declared.mode.RunMode.{RunMode}
 use Rattle.pv_tool.specs.declared.mode.RunMode.TheVariants as mode
@@ -24,20 +24,17 @@ returns-in-Bare-clause-answers g c =
     let image = c.args.found.image in
     let events = c.args.found.script.list in
     let s = c.args.found.state in
-    let told = g.S.Sink.taken c.args.out.now in
-    let tells = g.S.Sink.taken c.save_bare_from.new.out in
-    let before = g.S.Sink.faults c.args.out.now in
-    let now = g.S.Sink.faults c.save_bare_from.new.out in
-    let did = completed_by g.H.Host c.args.host.now in
+    let a = around g.H.Host g.S.Sink c.args.host.now c.args.host.now c.args.out.now c.save_bare_from.new.out in
     let memory = g.H.Host.bytes c.args.host.now in
-    subst (λ (on : RunMode). AnswersState on c.args.n image events s told tells before now did did memory c.save_bare_from.result) (sym c.in-Bare.is)
-    (rests_counted (bare image events (frames_of s)) c.args.n (rested_from s) uncounted (HostStepped mode.Bare image events (frames_of s) did did memory) told tells before now c.save_bare_from.result (λ reports. refl)
+    subst (λ (on : RunMode). AnswersState on c.args.n image events s a memory c.save_bare_from.result) (sym c.in-Bare.is)
+    (rests_counted (bare image events (frames_of s)) c.args.n (rested_from s) uncounted (HostStepped mode.Bare image events (frames_of s) a memory) a.taken a.taken_after a.faults a.faults_after c.save_bare_from.result (λ reports. refl)
     (c.save_bare_from.ensures.rests image))
 
 pub returns-clause-answers : goal.returns-clause-answers
 returns-clause-answers g c =
-    subst (λ (on : RunMode). AnswersState on c.args.n c.args.found.image c.args.found.script.list c.args.found.state (g.S.Sink.taken c.args.out.now) (g.S.Sink.taken c.save_wedge_from.new.out) (g.S.Sink.faults c.args.out.now) (g.S.Sink.faults c.save_wedge_from.new.out)
-    (completed_by g.H.Host c.args.host.now) (completed_by g.H.Host c.save_wedge_from.new.host) (g.H.Host.bytes c.save_wedge_from.new.host) c.save_wedge_from.result) (sym c.in-Wedge.is) c.save_wedge_from.ensures.rests
+    let a = around g.H.Host g.S.Sink c.args.host.now c.save_wedge_from.new.host c.args.out.now c.save_wedge_from.new.out in
+    subst (λ (on : RunMode). AnswersState on c.args.n c.args.found.image c.args.found.script.list c.args.found.state a (g.H.Host.bytes c.save_wedge_from.new.host) c.save_wedge_from.result)
+    (sym c.in-Wedge.is) c.save_wedge_from.ensures.rests
 
 pub returns-in-Bare-clause-form : goal.returns-in-Bare-clause-form
 returns-in-Bare-clause-form g c = has_form _ _ _ _ _ _ _ _ c.save_bare_from.result (c.save_bare_from.ensures.rests c.args.found.image)

@@ -1,8 +1,8 @@
 use Rattle.std.proofs.Common.{◌≡◌, List, refl, sym, subst, ◌∙◌}
 use Rattle.machine_model.specs.Step.{Report}
 use Rattle.bare_machine.specs.Machine.{bare}
-use Rattle.pv_tool.specs.Outside.{completed_by}
-use Rattle.pv_tool.specs.Resting.{HostStepped, AnswersStart}
+use Rattle.wedge_core.specs.Surroundings.{around}
+use Rattle.pv_tool.specs.Answering.{HostStepped, AnswersStart}
 use Rattle.pv_tool.specs.declared.mode.RunMode.{RunMode}
 use Rattle.pv_tool.specs.declared.mode.RunMode.TheVariants as mode
 use Rattle.pv_tool.proofs.RestDone.{starts_counted}
@@ -22,16 +22,13 @@ returns-in-Bare-clause-answers g c =
     let image = c.args.found.now.image in
     let events = c.args.found.now.script.list in
     let frames = c.args.frames in
-    let told = g.S.Sink.taken c.args.out.now in
-    let tells = g.S.Sink.taken c.save_bare.new.out in
-    let before = g.S.Sink.faults c.args.out.now in
-    let now = g.S.Sink.faults c.save_bare.new.out in
-    let did = completed_by g.H.Host c.args.host.now in
+    let a = around g.H.Host g.S.Sink c.args.host.now c.args.host.now c.args.out.now c.save_bare.new.out in
     let memory = g.H.Host.bytes c.args.host.now in
-    subst (λ (on : RunMode). AnswersStart on frames c.args.n image events told tells before now did did memory c.save_bare.result) (sym c.in-Bare.is)
-    (starts_counted (bare image events frames) c.args.n uncounted (HostStepped mode.Bare image events frames did did memory) told tells before now c.save_bare.result (λ reports. refl) c.save_bare.ensures.rests)
+    subst (λ (on : RunMode). AnswersStart on frames c.args.n image events a memory c.save_bare.result) (sym c.in-Bare.is)
+    (starts_counted (bare image events frames) c.args.n uncounted (HostStepped mode.Bare image events frames a memory) a.taken a.taken_after a.faults a.faults_after c.save_bare.result (λ reports. refl) c.save_bare.ensures.rests)
 
 pub returns-in-Wedge-clause-answers : goal.returns-in-Wedge-clause-answers
 returns-in-Wedge-clause-answers g c =
-    subst (λ (on : RunMode). AnswersStart on c.args.frames c.args.n c.args.found.now.image c.args.found.now.script.list (g.S.Sink.taken c.args.out.now) (g.S.Sink.taken c.save_wedge.new.out) (g.S.Sink.faults c.args.out.now) (g.S.Sink.faults c.save_wedge.new.out)
-    (completed_by g.H.Host c.args.host.now) (completed_by g.H.Host c.save_wedge.new.host) (g.H.Host.bytes c.save_wedge.new.host) c.save_wedge.result) (sym c.in-Wedge.is) c.save_wedge.ensures.rests
+    let a = around g.H.Host g.S.Sink c.args.host.now c.save_wedge.new.host c.args.out.now c.save_wedge.new.out in
+    subst (λ (on : RunMode). AnswersStart on c.args.frames c.args.n c.args.found.now.image c.args.found.now.script.list a (g.H.Host.bytes c.save_wedge.new.host) c.save_wedge.result)
+    (sym c.in-Wedge.is) c.save_wedge.ensures.rests

@@ -1,7 +1,7 @@
 use Rattle.std.proofs.Common.{[], Option, refl, subst}
 use Rattle.pv_io.specs.Files.{FileMap}
-use Rattle.wedge_core.specs.Slices.{Counts}
-use Rattle.pv_tool.specs.Outside.{beside, outside, completed_by}
+use Rattle.wedge_core.specs.Counts.{Counts, counts_of}
+use Rattle.pv_tool.specs.Outside.{beside, outside}
 use Rattle.pv_tool.specs.Running.{WithFrames}
 use Rattle.pv_tool.specs.Saving.{SavesBoot, setting_on}
 use Rattle.pv_tool.specs.Meaning.{LeavesState}
@@ -31,14 +31,14 @@ returns-in-Ok-clause-meaning g c =
     let read = c.in-Ok.ensures.read in
     let between = c.runnable_in_files.new.files in
     let host2 = c.rest_found-rested.new.host in
-    let o = outside g.F.Files g.S.Sink g.H.Host c.args.files.now c.leave.new.files c.args.out.now c.leave.new.out c.args.host.now host2 in
+    let o = outside g.F.Files g.S.Sink g.H.Host (c.args.files.now, c.leave.new.files) (c.args.out.now, c.leave.new.out) (c.args.host.now, host2) in
     started_means (save_command on words c.args.file.now) o on (setting_on on found.image found.script.list words.frames) words.n c.args.file.now
     (g.S.Sink.taken c.rest_found-rested.new.out) (g.S.Sink.faults c.rest_found-rested.new.out) (g.F.Files.held between) (g.F.Files.sure between) (g.F.Files.load_faults between) (g.F.Files.store_faults between)
-    (completed_by g.H.Host host2) c.rest_found-rested.result c.leave.result
+    (counts_of g.H.Host host2) c.rest_found-rested.result c.leave.result
     (λ fits. saves_boot on words.image.now words.script.now words.frames words.n c.args.file.now o found.image found.script.list c.in-Ok.ensures.image c.in-Ok.ensures.script
     (fits_on on found.image found.script.list words.frames fits))
     (λ lt. small_boot on words.image.now words.script.now words.frames words.n c.args.file.now o.files found.image found.script.list c.in-Ok.ensures.image c.in-Ok.ensures.script lt)
-    read.held read.same_sure read.same_stores c.rest_found-rested.ensures.answers (c.leave.ensures.leaves (completed_by g.H.Host host2) (g.H.Host.bytes host2))
+    read.held read.same_sure read.same_stores c.rest_found-rested.ensures.answers (c.leave.ensures.leaves (counts_of g.H.Host host2) (g.H.Host.bytes host2))
 
 pub returns-in-Err-clause-counts : goal.returns-in-Err-clause-counts
 returns-in-Err-clause-counts g c =
@@ -57,7 +57,7 @@ returns-in-Err-clause-leaves g c = λ done. absurd (not_ended c.in-Err.halt _ _ 
 pub returns-in-Ok-clause-leaves : goal.returns-in-Ok-clause-leaves
 returns-in-Ok-clause-leaves g c = λ done.
     let none : Counts = record { retired = 0; passed = 0 } in
-    let o = beside g.F.Files g.S.Sink c.runnable_in_files.new.files c.leave.new.files c.rest_found-rested.new.out c.leave.new.out none [] in
+    let o = beside g.F.Files g.S.Sink (c.runnable_in_files.new.files, c.leave.new.files) (c.rest_found-rested.new.out, c.leave.new.out) none [] in
     subst (λ (f : Option FileMap). LeavesState c.args.file.now f (g.F.Files.held c.leave.new.files)) c.in-Ok.ensures.read.held
     (left_state c.rest_found-rested.result c.args.file.now o c.leave.result (starts_stop _ _ _ _ _ _ _ c.rest_found-rested.result c.rest_found-rested.ensures.answers) (c.leave.ensures.leaves none []) done)
 

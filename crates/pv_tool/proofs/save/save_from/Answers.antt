@@ -1,9 +1,9 @@
 use Rattle.std.proofs.Common.{◌≡◌, [], Bool, Ok, Option, refl, subst}
 use Rattle.pv_io.specs.Files.{FileMap}
-use Rattle.wedge_core.specs.Slices.{Counts}
+use Rattle.wedge_core.specs.Counts.{Counts, counts_of}
 use Rattle.checkpoint.specs.Moved.{rested_from}
 use Rattle.checkpoint.specs.Fits.{fits_of}
-use Rattle.pv_tool.specs.Outside.{beside, outside, completed_by}
+use Rattle.pv_tool.specs.Outside.{beside, outside}
 use Rattle.pv_tool.specs.Saving.{SavesOn, setting_on, frames_of}
 use Rattle.pv_tool.specs.Meaning.{LeavesState}
 use Rattle.pv_tool.specs.View.{save_from_command}
@@ -33,13 +33,13 @@ returns-in-Ok-clause-meaning g c =
     let read = c.in-Ok.ensures.read in
     let between = c.resumable_in_files.new.files in
     let host2 = c.rest_again-rested.new.host in
-    let o = outside g.F.Files g.S.Sink g.H.Host c.args.files.now c.leave.new.files c.args.out.now c.leave.new.out c.args.host.now host2 in
+    let o = outside g.F.Files g.S.Sink g.H.Host (c.args.files.now, c.leave.new.files) (c.args.out.now, c.leave.new.out) (c.args.host.now, host2) in
     let fit = subst (λ (b : Bool). fits_of found.state found.image b words.n ≡ Ok tt) c.is_wedge-wedge.ensures c.in-Ok.ensures.fits in
     rested_means (save_from_command on words c.args.new.now) o on (setting_on on found.image found.script.list (frames_of found.state)) words.n (rested_from found.state) c.args.new.now
     (g.S.Sink.taken c.rest_again-rested.new.out) (g.S.Sink.faults c.rest_again-rested.new.out) (g.F.Files.held between) (g.F.Files.sure between) (g.F.Files.load_faults between) (g.F.Files.store_faults between)
-    (completed_by g.H.Host host2) c.rest_again-rested.result c.leave.result
+    (counts_of g.H.Host host2) c.rest_again-rested.result c.leave.result
     (saves_state on words.image.now words.script.now words.file.now words.n c.args.new.now o found.image found.script.list found.state c.in-Ok.ensures.image c.in-Ok.ensures.script c.in-Ok.ensures.state fit)
-    read.held read.same_sure read.same_stores c.rest_again-rested.ensures.answers (c.leave.ensures.leaves (completed_by g.H.Host host2) (g.H.Host.bytes host2))
+    read.held read.same_sure read.same_stores c.rest_again-rested.ensures.answers (c.leave.ensures.leaves (counts_of g.H.Host host2) (g.H.Host.bytes host2))
 
 pub returns-in-Err-clause-counts : goal.returns-in-Err-clause-counts
 returns-in-Err-clause-counts g c =
@@ -58,7 +58,7 @@ returns-in-Err-clause-leaves g c = λ done. absurd (not_ended c.in-Err.halt _ _ 
 pub returns-in-Ok-clause-leaves : goal.returns-in-Ok-clause-leaves
 returns-in-Ok-clause-leaves g c = λ done.
     let none : Counts = record { retired = 0; passed = 0 } in
-    let o = beside g.F.Files g.S.Sink c.resumable_in_files.new.files c.leave.new.files c.rest_again-rested.new.out c.leave.new.out none [] in
+    let o = beside g.F.Files g.S.Sink (c.resumable_in_files.new.files, c.leave.new.files) (c.rest_again-rested.new.out, c.leave.new.out) none [] in
     subst (λ (f : Option FileMap). LeavesState c.args.new.now f (g.F.Files.held c.leave.new.files)) c.in-Ok.ensures.read.held
     (left_state c.rest_again-rested.result c.args.new.now o c.leave.result (rests_stop _ _ _ _ _ _ _ _ c.rest_again-rested.result c.rest_again-rested.ensures.answers) (c.leave.ensures.leaves none []) done)
 

@@ -3,7 +3,7 @@ use Rattle.std.specs.Prelude.{Result, Vec}
 use Rattle.std.specs.declared.alloc.Global.{Global}
 use Rattle.run_trace.specs.declared.items.Ended.{Ended}
 use Rattle.guest_sched.specs.declared.kernel.SharedFault.{SharedFault}
-use Rattle.pv_tool.specs.Sharing.{SharedToldAs}
+use Rattle.pv_tool.specs.Told.{SharedToldAs}
 use Rattle.pv_tool.proofs.ShareMeanings.{told_fault}
 use Rattle.pv_tool.proofs.share.tell_shared.Goals as goal
 

@@ -1,4 +1,4 @@
-use Rattle.pv_tool.specs.Outside.{completed_by}
+use Rattle.wedge_core.specs.Counts.{counts_of}
 use Rattle.std.proofs.Common.{refl}
 use Rattle.pv_tool.specs.Words.{Work}
 use Rattle.pv_build.proofs.Readings.{read_none}
@@ -8,22 +8,22 @@ use Rattle.pv_tool.proofs.WorkMeanings.{work_means, work_no_read}
 use Rattle.pv_tool.proofs.tool.do_command.Goals as goal
 
 pub returns-in-Burn-clause-meaning : goal.returns-in-Burn-clause-meaning
-returns-in-Burn-clause-meaning g c = rw c.in-Burn.is (c.burn.ensures.meaning (completed_by g.H.Host c.args.host.now) (g.H.Host.bytes c.args.host.now))
+returns-in-Burn-clause-meaning g c = rw c.in-Burn.is (c.burn.ensures.meaning (counts_of g.H.Host c.args.host.now) (g.H.Host.bytes c.args.host.now))
 
 pub returns-in-Burn-clause-counts : goal.returns-in-Burn-clause-counts
-returns-in-Burn-clause-counts g c = rw c.in-Burn.is (c.burn.ensures.counts (completed_by g.H.Host c.args.host.now) (g.H.Host.bytes c.args.host.now))
+returns-in-Burn-clause-counts g c = rw c.in-Burn.is (c.burn.ensures.counts (counts_of g.H.Host c.args.host.now) (g.H.Host.bytes c.args.host.now))
 
 pub returns-in-Link-clause-meaning : goal.returns-in-Link-clause-meaning
-returns-in-Link-clause-meaning g c = rw c.in-Link.is (c.link.ensures.meaning (completed_by g.H.Host c.args.host.now) (g.H.Host.bytes c.args.host.now))
+returns-in-Link-clause-meaning g c = rw c.in-Link.is (c.link.ensures.meaning (counts_of g.H.Host c.args.host.now) (g.H.Host.bytes c.args.host.now))
 
 pub returns-in-Link-clause-counts : goal.returns-in-Link-clause-counts
-returns-in-Link-clause-counts g c = rw c.in-Link.is (c.link.ensures.counts (completed_by g.H.Host c.args.host.now) (g.H.Host.bytes c.args.host.now))
+returns-in-Link-clause-counts g c = rw c.in-Link.is (c.link.ensures.counts (counts_of g.H.Host c.args.host.now) (g.H.Host.bytes c.args.host.now))
 
 pub returns-in-Check-clause-meaning : goal.returns-in-Check-clause-meaning
-returns-in-Check-clause-meaning g c = rw c.in-Check.is (c.check.ensures.meaning (completed_by g.H.Host c.args.host.now) (g.H.Host.bytes c.args.host.now))
+returns-in-Check-clause-meaning g c = rw c.in-Check.is (c.check.ensures.meaning (counts_of g.H.Host c.args.host.now) (g.H.Host.bytes c.args.host.now))
 
 pub returns-in-Check-clause-counts : goal.returns-in-Check-clause-counts
-returns-in-Check-clause-counts g c = rw c.in-Check.is (c.check.ensures.counts (completed_by g.H.Host c.args.host.now) (g.H.Host.bytes c.args.host.now))
+returns-in-Check-clause-counts g c = rw c.in-Check.is (c.check.ensures.counts (counts_of g.H.Host c.args.host.now) (g.H.Host.bytes c.args.host.now))
 
 pub returns-in-Work-clause-meaning : goal.returns-in-Work-clause-meaning
 returns-in-Work-clause-meaning g c = rw c.in-Work.is (work_means c.in-Work.number _ c.work.result refl c.work.ensures)
@@ -41,10 +41,10 @@ pub returns-in-Share-clause-meaning : goal.returns-in-Share-clause-meaning
 returns-in-Share-clause-meaning g c = rw c.in-Share.is c.share.ensures.meaning
 
 pub returns-in-Replay-clause-meaning : goal.returns-in-Replay-clause-meaning
-returns-in-Replay-clause-meaning g c = rw c.in-Replay.is (c.replay.ensures.meaning (completed_by g.H.Host c.args.host.now) (g.H.Host.bytes c.args.host.now))
+returns-in-Replay-clause-meaning g c = rw c.in-Replay.is (c.replay.ensures.meaning (counts_of g.H.Host c.args.host.now) (g.H.Host.bytes c.args.host.now))
 
 pub returns-in-Replay-clause-counts : goal.returns-in-Replay-clause-counts
-returns-in-Replay-clause-counts g c = rw c.in-Replay.is (c.replay.ensures.counts (completed_by g.H.Host c.args.host.now) (g.H.Host.bytes c.args.host.now))
+returns-in-Replay-clause-counts g c = rw c.in-Replay.is (c.replay.ensures.counts (counts_of g.H.Host c.args.host.now) (g.H.Host.bytes c.args.host.now))
 
 pub returns-in-Save-clause-host : goal.returns-in-Save-clause-host
 returns-in-Save-clause-host g c = λ none. c.save.ensures.host (bare_mode c.in-Save.mode (rw c.in-Save.is at none))
