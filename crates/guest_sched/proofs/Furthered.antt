@@ -25,7 +25,8 @@ use Rattle.guest_sched.specs.Between.{EachStands, StandsSo, IsNext, stops_of}
 use Rattle.guest_sched.specs.Pieces.{Piece, MakesSteps, has_stopped, piece_text, counts_over, reports_of, own_text, stop_line}
 use Rattle.guest_sched.specs.Schedules.{bound_of}
 use Rattle.guest_sched.specs.Seating.{seats_from, HasGoneOn}
-use Rattle.guest_sched.specs.Shared.{alone, sites_in, IsBegun, BeganAlone, EachBegan, FailsInTurn}
+use Rattle.guest_sched.specs.Shared.{alone, sites_in, IsBegun, BeganAlone, EachBegan}
+use Rattle.guest_sched.specs.SharedRuns.{FailsInTurn}
 use Rattle.guest_sched.specs.Tags.{tag_of}
 use Rattle.guest_sched.specs.Went.{EndsSo, HasFailed}
 use Rattle.guest_sched.specs.declared.kernel.Kernel.{Kernel}

@@ -10,7 +10,7 @@ use Rattle.wedge_core.specs.Slices.{Counts}
 use Rattle.guest_sched.specs.Apart.{MayGoOn, AreApart, EachStays}
 use Rattle.guest_sched.specs.Between.{IsNext, stops_of}
 use Rattle.guest_sched.specs.Seating.{seats_from, HasBrought, HasMadeRoom, GoesOn, HasGoneOn}
-use Rattle.guest_sched.specs.Shared.{FailsInTurn}
+use Rattle.guest_sched.specs.SharedRuns.{FailsInTurn}
 use Rattle.guest_sched.specs.Went.{HasFailed}
 use Rattle.guest_sched.specs.declared.kernel.Kernel.{Kernel}
 use Rattle.guest_sched.specs.declared.schedule.Slice.{Slice}

@@ -5,7 +5,8 @@ use Rattle.pv_io.specs.Causes.{Rose}
 use Rattle.pv_io.specs.Sink.{Appends}
 use Rattle.run_trace.specs.declared.items.Ended.{Ended}
 use Rattle.wedge_core.specs.Surroundings.{Around, IsUntouched}
-use Rattle.guest_sched.specs.Shared.{AllFit, FailsAtEnd, FailsInTurn, FirstTooSmall, SharedRun}
+use Rattle.guest_sched.specs.Shared.{AllFit, FirstTooSmall}
+use Rattle.guest_sched.specs.SharedRuns.{FailsAtEnd, FailsInTurn, SharedRun}
 use Rattle.guest_sched.specs.declared.kernel.Kernel.{Kernel}
 use Rattle.guest_sched.specs.declared.kernel.SharedFault.{SharedFault}
 use Rattle.guest_sched.specs.declared.kernel.SharedFault.TheVariants as fault

@@ -18,7 +18,8 @@ use Rattle.guest_sched.specs.Legs.{HasRun, HasStopped}
 use Rattle.guest_sched.specs.Pieces.{Piece, AreTurns, has_stopped, piece_text, reports_of, own_text, counts_over}
 use Rattle.guest_sched.specs.Schedules.{IsSchedule, bound_of}
 use Rattle.guest_sched.specs.Seating.{seats_from}
-use Rattle.guest_sched.specs.Shared.{alone, sites_in, AllFit, FailsInTurn, FirstTooSmall}
+use Rattle.guest_sched.specs.Shared.{alone, sites_in, AllFit, FirstTooSmall}
+use Rattle.guest_sched.specs.SharedRuns.{FailsInTurn}
 use Rattle.guest_sched.specs.Stages.{Stage, stage}
 use Rattle.guest_sched.specs.declared.kernel.Kernel.{Kernel}
 use Rattle.guest_sched.specs.declared.kernel.SharedFault.{SharedFault}

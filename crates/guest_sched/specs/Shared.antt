@@ -1,7 +1,5 @@
 -- What `run_shared` promises.
-use Rattle.std.specs.Prelude.{◌≡◌, ◌⊎◌, ℕ, zero, suc, ◌≤◌, ◌<◌, List, [], ◌∷◌, ◌++◌, length, Option}
-use Rattle.std.specs.List.{flat_map}
-use Rattle.pv_io.specs.Sink.{Appends, AppendsFront}
+use Rattle.std.specs.Prelude.{◌≡◌, ◌⊎◌, ℕ, zero, suc, ◌≤◌, ◌<◌, List, [], ◌∷◌, ◌++◌}
 use Rattle.sites.specs.declared.site.Site.{Site}
 use Rattle.run_trace.specs.declared.items.Ended.{Ended}
 use Rattle.run_trace.specs.declared.items.End.TheVariants.{Stopped}
@@ -12,12 +10,11 @@ use Rattle.image_load.specs.declared.boot.TooSmall.{TooSmall}
 use Rattle.machine_model.specs.State.{Setting, State, boot, wedge}
 use Rattle.machine_model.specs.Step.{Report}
 use Rattle.machine_model.specs.Run.{Set, Run, Steps, StopHolds, trace_of}
-use Rattle.wedge_core.specs.Counts.{Counts}
 use Rattle.wedge_core.specs.Promises.{HasFills}
 use Rattle.guest_sched.specs.declared.kernel.Kernel.{Kernel}
 use Rattle.guest_sched.specs.declared.schedule.Slice.{Slice}
 use Rattle.guest_sched.specs.Schedules.{bound_of}
-use Rattle.guest_sched.specs.Pieces.{Piece, AreTurns, piece_text, shared_text, reports_of, own_text, bound_line, counts_over, lines_of_kernel}
+use Rattle.guest_sched.specs.Pieces.{Piece, reports_of, own_text, bound_line, lines_of_kernel}
 
 -- a kernel's own run, as if it were alone
 abbrev pub alone : Kernel → ℕ → Setting
@@ -52,16 +49,6 @@ LinesAreAlone number text pieces [] = Unit {0}
 LinesAreAlone number text pieces (ended ∷ more) =
     (lines_of_kernel number text ≡ text_of (trace_of (reports_of number pieces)) ended.steps ended.end) × LinesAreAlone (suc number) text pieces more
 
--- The turns are those of the schedule, in its order. Each kernel's turns make a run of it alone, and the host's counts follow
--- all of them.
-pub record SharedRun (kernels : List Kernel) (slices : List Slice) (frames : ℕ) (before after : Counts) (text : List ℕ) (ended : List Ended) : Type 0 where
-  pub pieces : List Piece
-  pub turns : AreTurns [] slices pieces
-  pub each : EachRan 0 frames slices pieces kernels ended
-  pub text_is : text ≡ shared_text pieces ended
-  pub lines : LinesAreAlone 0 text pieces ended
-  pub counts : after ≡ counts_over (sites_in kernels) before pieces
-
 -- a kernel's first steps, as if it were alone, and their lines: with the last one where it met a stop behind them
 abbrev pub IsBegun : Setting → List Report → State → List ℕ → Type 0
 IsBegun m reports last text =
@@ -76,31 +63,6 @@ pub record BeganAlone (m : Setting) (reports : List Report) (text : List ℕ) : 
 abbrev pub EachBegan : ℕ → ℕ → List Piece → List Kernel → Type 0
 EachBegan number frames pieces [] = Unit {0}
 EachBegan number frames pieces (kernel ∷ kernels) = BeganAlone (alone kernel frames) (reports_of number pieces) (own_text number pieces) × EachBegan (suc number) frames pieces kernels
-
--- The sink has failed in a turn: it has taken the text of the turns before, and a front of what the first steps of this one
--- give.
-pub record FailsInTurn (kernels : List Kernel) (slices : List Slice) (frames : ℕ) (old new : Option (List ℕ)) : Type 0 where
-  pub done : List Slice
-  pub slice : Slice
-  pub rest : List Slice
-  pub slices_are : slices ≡ done ++ slice ∷ rest
-  pub pieces : List Piece
-  pub last : Piece
-  pub turns : AreTurns [] done pieces
-  pub kernel_is : last.kernel ≡ slice.kernel
-  pub few : length last.reports ≤ slice.steps
-  pub each : EachBegan 0 frames (pieces ++ last ∷ []) kernels
-  pub between : Option (List ℕ)
-  pub text : Appends old between (flat_map piece_text pieces)
-  pub front : AppendsFront between new (piece_text last)
-
--- The sink has failed in the last lines, behind all turns.
-pub record FailsAtEnd (kernels : List Kernel) (slices : List Slice) (frames : ℕ) (old new : Option (List ℕ)) : Type 0 where
-  pub pieces : List Piece
-  pub ended : List Ended
-  pub turns : AreTurns [] slices pieces
-  pub each : EachRan 0 frames slices pieces kernels ended
-  pub front : AppendsFront old new (shared_text pieces ended)
 
 -- the first kernel whose image needs more frames than there are
 abbrev pub FirstTooSmall : ℕ → List Kernel → TooSmall → Type 0

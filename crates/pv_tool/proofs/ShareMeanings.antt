@@ -15,7 +15,8 @@ use Rattle.guest_sched.specs.declared.kernel.SharedFault.TheVariants as fault
 use Rattle.guest_sched.specs.declared.schedule.Slice.{Slice}
 use Rattle.guest_sched.specs.declared.fault.ScheduleCause.{ScheduleCause}
 use Rattle.guest_sched.specs.Pieces.{piece_text, shared_text}
-use Rattle.guest_sched.specs.Shared.{AllFit, LinesAreAlone, FailsInTurn, FailsAtEnd}
+use Rattle.guest_sched.specs.Shared.{AllFit, LinesAreAlone}
+use Rattle.guest_sched.specs.SharedRuns.{FailsInTurn, FailsAtEnd}
 use Rattle.guest_sched.proofs.AnsweredBy.{SharedAnswers}
 use Rattle.guest_sched.proofs.ReadAlone.{lines_alone}
 use Rattle.pv_build.specs.Lines.{small_line}

@@ -5,7 +5,7 @@ use Rattle.wedge_core.specs.Slices.{Counts}
 use Rattle.guest_sched.specs.Between.{ended_of}
 use Rattle.guest_sched.specs.Pieces.{shared_text}
 use Rattle.guest_sched.specs.Schedules.{SliceList}
-use Rattle.guest_sched.specs.Shared.{SharedRun, FailsInTurn}
+use Rattle.guest_sched.specs.SharedRuns.{SharedRun, FailsInTurn}
 use Rattle.guest_sched.specs.declared.schedule.Slice.{Slice}
 use Rattle.guest_sched.proofs.Ends.{ends_shared, ends_put, ends_fail}
 use Rattle.guest_sched.proofs.SharedEnds.{on_err, on_ok, is_next}
