@@ -19,7 +19,8 @@ use Rattle.machine_model.specs.State.{wedge}
 use Rattle.trace_check.proofs.NotedRuns.{around_of}
 use Rattle.trace_check.specs.Form.{choices_bytes, most_choices}
 use Rattle.trace_check.specs.Kept.{Kept, AreKept, choices_of}
-use Rattle.trace_check.specs.Proved.{IsProved, NotedAnswers}
+use Rattle.trace_check.specs.Proved.{IsProved}
+use Rattle.trace_check.specs.Noted.{NotedAnswers}
 use Rattle.pv_build.specs.CertificateLines.{certificate_line, no_certificate_line}
 use Rattle.pv_build.specs.Lines.{small_line}
 use Rattle.pv_build.specs.Images.{HasImage}

@@ -13,7 +13,7 @@ use Rattle.trace_check.specs.declared.list.Choice.{Choice}
 use Rattle.trace_check.specs.Form.{most_choices}
 use Rattle.trace_check.specs.Reading.{choices_in}
 use Rattle.trace_check.specs.Judged.{judged}
-use Rattle.trace_check.specs.Runs.{YesIsARun, YesBeforeIsSteps}
+use Rattle.trace_check.specs.RunLaws.{YesIsARun, YesBeforeIsSteps}
 use Rattle.trace_check.proofs.Inverse.{laid_read}
 use Rattle.pv_build.specs.CertificateLines.{certificate_refusal, verdict_line}
 use Rattle.pv_build.specs.Images.{HasImage}

@@ -16,7 +16,8 @@ use Rattle.trace_check.specs.declared.list.ChoiceKind.TheVariants.{Drop, Empty, 
 use Rattle.trace_check.specs.declared.list.ChoicesFault.{ChoicesFault}
 use Rattle.trace_check.specs.Lists.{ChoiceList}
 use Rattle.trace_check.specs.Form.{IsPageOf, AreFrom, most_choices, AreChoices, kind_number, choice_bytes, choices_bytes}
-use Rattle.trace_check.specs.Reading.{word64, reaches, differs, cut_before, has_other_front, counts_too_many, head_fault, falls, is_no_page, is_no_kind, choice_fault, choices_fault, kind_numbered, choice_at, choices_at, unless, choices_in, Gives}
+use Rattle.trace_check.specs.Reading.{word64, reaches, differs, cut_before, has_other_front, counts_too_many, head_fault, falls, is_no_page, is_no_kind, choice_fault, choices_fault, kind_numbered, choice_at, choices_at, unless, choices_in}
+use Rattle.trace_check.specs.ReadBack.{Gives}
 
 -- ---- tests
 

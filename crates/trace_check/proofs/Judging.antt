@@ -23,7 +23,8 @@ use Rattle.trace_check.specs.Matches.{Matched, DiffersAs, line_behind}
 use Rattle.trace_check.specs.Courses.{Course, course, course_of}
 use Rattle.trace_check.specs.Follows.{FollowsAs}
 use Rattle.trace_check.specs.Tells.{IsLastLine}
-use Rattle.trace_check.specs.Judged.{unless_differs, judged_whole, judged_end, judged_before, judged_by, judged, Replays}
+use Rattle.trace_check.specs.Judged.{unless_differs, judged_whole, judged_end, judged_before, judged_by, judged}
+use Rattle.trace_check.specs.Replayed.{Replays}
 use Rattle.trace_check.specs.Begins.{by_end, end_verdict, before_by, DiffersUnlessBad, ReplaysWhole, ReplaysBefore}
 use Rattle.trace_check.proofs.Comparing.{Known, compared}
 

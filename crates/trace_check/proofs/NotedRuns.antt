@@ -28,9 +28,10 @@ use Rattle.wedge_core.proofs.SlicedBy.{SliceAs}
 use Rattle.wedge_core.proofs.WholeRuns.{text_is, ends_by, count_by, memory_by}
 use Rattle.trace_check.specs.Kept.{Kept, AreKept, choices_of}
 use Rattle.trace_check.specs.Judged.{judged}
-use Rattle.trace_check.specs.Runs.{StopsTold, NotesAreJudged, NotesAreChoices}
+use Rattle.trace_check.specs.Runs.{StopsTold}
+use Rattle.trace_check.specs.RunLaws.{NotesAreJudged, NotesAreChoices}
 use Rattle.trace_check.proofs.NotesForm.{first_of, later_of}
-use Rattle.trace_check.specs.Proved.{NotedAnswers}
+use Rattle.trace_check.specs.Noted.{NotedAnswers}
 
 -- ---- how many notes there are
 

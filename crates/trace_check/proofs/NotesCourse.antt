@@ -29,7 +29,7 @@ use Rattle.trace_check.specs.Kept.{choices_of}
 use Rattle.trace_check.specs.Lines.{lines, last_of, before_last, differing, steps_told, stop_told}
 use Rattle.trace_check.specs.Courses.{Course, chosen, after_step, after_choices, course, course_of}
 use Rattle.trace_check.specs.Judged.{unless_differs, judged_whole, judged_before, judged_by, judged}
-use Rattle.trace_check.specs.Runs.{NotesAreJudged}
+use Rattle.trace_check.specs.RunLaws.{NotesAreJudged}
 use Rattle.trace_check.proofs.Differing.{none_differs}
 use Rattle.trace_check.proofs.Going.{counted}
 use Rattle.trace_check.proofs.Holding.{with_same, with_other}

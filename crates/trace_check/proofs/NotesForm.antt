@@ -8,7 +8,7 @@ use Rattle.machine_model.specs.Notes.{step_in, is_ordered, IsPage}
 use Rattle.trace_check.specs.declared.list.Choice.{Choice}
 use Rattle.trace_check.specs.Form.{AreFrom}
 use Rattle.trace_check.specs.Kept.{choices_of}
-use Rattle.trace_check.specs.Runs.{NotesAreChoices}
+use Rattle.trace_check.specs.RunLaws.{NotesAreChoices}
 
 both_true : (p q : Bool) → (p && q) ≡ true → (p ≡ true) × (q ≡ true)
 both_true true q e = (refl, e)

@@ -37,7 +37,8 @@ use Rattle.trace_check.specs.declared.answer.Verdict.TheVariants.{Yes, YesBefore
 use Rattle.trace_check.specs.Lines.{lines, begun_by, differing, last_of, before_last, steps_told, stop_told, monitor_stops}
 use Rattle.trace_check.specs.Courses.{Course, usable, addable, made, after_made, chosen, after_step, after_choices, course, course_of}
 use Rattle.trace_check.specs.Judged.{unless_differs, judged_whole, judged_end, judged_before, judged_by, judged}
-use Rattle.trace_check.specs.Runs.{AreChosen, StopsBy, IsRunText, YesIsARun, AreItemsBefore, YesBeforeIsSteps}
+use Rattle.trace_check.specs.Runs.{AreChosen, StopsBy, IsRunText, AreItemsBefore}
+use Rattle.trace_check.specs.RunLaws.{YesIsARun, YesBeforeIsSteps}
 use Rattle.trace_check.proofs.Holding.{with_same, with_other}
 use Rattle.trace_check.proofs.Comparing.{bytes_true}
 use Rattle.trace_check.proofs.Going.{counted}

@@ -21,7 +21,8 @@ use Rattle.trace_check.specs.declared.answer.ReplayFault.{ReplayFault}
 use Rattle.trace_check.specs.Lines.{lines, differing}
 use Rattle.trace_check.specs.Matches.{line_behind}
 use Rattle.trace_check.specs.Courses.{Course, course_of}
-use Rattle.trace_check.specs.Judged.{unless_differs, judged_whole, ReplayFails}
+use Rattle.trace_check.specs.Judged.{unless_differs, judged_whole}
+use Rattle.trace_check.specs.Replayed.{ReplayFails}
 
 -- the set that a machine with a whole set goes by
 abbrev pub whole_entries : Set → Set

@@ -1,9 +1,8 @@
 -- What is said of a text and of choices: whether the run that goes by the choices has the text.
-use Rattle.std.specs.Prelude.{◌≡◌, ℕ, List, length, Option, Some, None, Result, Ok, Err, ◌<◌, ◌≤◌}
+use Rattle.std.specs.Prelude.{ℕ, List, length, Option, Some, None}
 use Rattle.ia32_types.specs.declared.stop.Stop.{Stop}
 use Rattle.board.specs.Scripts.{Events}
 use Rattle.image_check.specs.Image.{Image}
-use Rattle.image_load.specs.Boot.{need}
 use Rattle.run_trace.specs.declared.items.End.{End}
 use Rattle.run_trace.specs.declared.items.End.TheVariants.{Bound, Stopped}
 use Rattle.run_trace.specs.Text.{lines_of, text_of}
@@ -13,8 +12,6 @@ use Rattle.trace_check.specs.declared.answer.CourseEnd.{CourseEnd}
 use Rattle.trace_check.specs.declared.answer.CourseEnd.TheVariants.{Ended, BadAt}
 use Rattle.trace_check.specs.declared.answer.Verdict.{Verdict}
 use Rattle.trace_check.specs.declared.answer.Verdict.TheVariants.{Yes, YesBefore, BadEntry, Differs}
-use Rattle.trace_check.specs.declared.answer.ReplayFault.{ReplayFault}
-use Rattle.trace_check.specs.declared.answer.ReplayFault.TheVariants as faults
 use Rattle.trace_check.specs.Lines.{lines, last_of, before_last, differing, steps_told, stop_told}
 use Rattle.trace_check.specs.Courses.{Course, course_of}
 
@@ -46,12 +43,3 @@ judged_by image script frames n list text (Some stop) =
 
 unfoldable pub judged : Image → Events → ℕ → ℕ → List Choice → List ℕ → Verdict
 judged image script frames n list text = judged_by image script frames n list text (stop_told n (last_of (lines text)))
-
--- The answer is the judgement. The image may need more frames than there are.
-abbrev pub ReplayFails : Image → ℕ → ReplayFault → Type 0
-ReplayFails image frames (faults.TooSmall small) = (frames < need image) × (small ≡ record { need = need image; have = frames })
-ReplayFails image frames faults.Memory = Unit {0}
-
-abbrev pub Replays : Image → Events → ℕ → ℕ → List Choice → List ℕ → Result Verdict ReplayFault → Type 0
-Replays image script frames n list text (Ok verdict) = (need image ≤ frames) × (verdict ≡ judged image script frames n list text)
-Replays image script frames n list text (Err fault) = ReplayFails image frames fault

@@ -1,32 +1,13 @@
 -- What a patched run promises of which the notes are kept: its text is judged yes by their choices.
-use Rattle.std.specs.Prelude.{◌≡◌, ℕ, ◌≤◌, ◌<◌, List, length, Result, Ok, Err}
-use Rattle.pv_io.specs.Sink.{Appends}
+use Rattle.std.specs.Prelude.{◌≡◌, ℕ, ◌≤◌, ◌<◌, List, length}
 use Rattle.board.specs.Scripts.{Events}
 use Rattle.image_check.specs.Image.{Image}
-use Rattle.image_load.specs.Boot.{need}
-use Rattle.image_load.specs.declared.fault.RunFault.{RunFault}
 use Rattle.run_trace.specs.declared.items.End.{End}
-use Rattle.run_trace.specs.declared.items.Ended.{Ended}
 use Rattle.run_trace.specs.Notes.{Note}
-use Rattle.run_trace.specs.Text.{text_of}
-use Rattle.machine_model.specs.State.{State, boot, wedge}
-use Rattle.machine_model.specs.Step.{Report}
-use Rattle.machine_model.specs.Run.{Set, Run, trace_of}
-use Rattle.machine_model.specs.Notes.{AreTold, AreNotes}
-use Rattle.wedge_core.specs.Surroundings.{Around, RefusedWedge}
-use Rattle.wedge_core.specs.Counts.{CountsOn}
-use Rattle.wedge_core.specs.Promises.{HasMemory, HasFills}
 use Rattle.trace_check.specs.Form.{AreChoices, most_choices}
-use Rattle.trace_check.specs.Kept.{Kept, AreKept, choices_of}
+use Rattle.trace_check.specs.Kept.{choices_of}
 use Rattle.trace_check.specs.Judged.{judged}
-use Rattle.trace_check.specs.Runs.{StopsTold, verdict_of}
-
--- The notes tell the translations that each step of a run went by, the one that stops included, and are kept.
-pub record TellsSets (image : Image) (script : Events) (frames : ℕ) (sets : List Set) (last : State) (end : End) (kept : Kept) (notes : List Note) : Type 0 where
-  pub are_kept : AreKept kept notes
-  pub told : AreTold (wedge image script frames) (boot (wedge image script frames)) sets notes
-  pub are : AreNotes (wedge image script frames) (boot (wedge image script frames)) sets last.step notes
-  pub stops : StopsTold (wedge image script frames) last notes end
+use Rattle.trace_check.specs.Runs.{verdict_of}
 
 -- The text is judged yes by the choices of the notes, or yes before the stop where that is one of a monitor's own. They have
 -- the form of a file where they are few enough, as they always are in so few steps.
@@ -34,26 +15,3 @@ pub record IsProved (image : Image) (script : Events) (frames n : ℕ) (text : L
   pub is_judged : judged image script frames n (choices_of notes) text ≡ verdict_of end
   pub form : length notes ≤ most_choices → AreChoices (choices_of notes)
   pub few : n < 16384 → length notes ≤ most_choices
-
--- One run from the start has this text, count of steps and end. The host completed exactly its direct instructions, and where
--- it has done all its steps, its memory is the host's first frames with the text patched. Its notes are kept, and prove its
--- text.
-pub record NotedRun (image : Image) (script : Events) (frames n : ℕ) (text : List ℕ) (ended : Ended) (a : Around) (memory : List ℕ) (kept : Kept) : Type 0 where
-  pub sets : List Set
-  pub reports : List Report
-  pub last : State
-  pub run : Run (wedge image script frames) n (boot (wedge image script frames)) sets reports last ended.end
-  pub count_is : ended.steps ≡ last.step
-  pub text_is : text ≡ text_of (trace_of reports) ended.steps ended.end
-  pub counts : CountsOn (wedge image script frames) reports a.counts a.counts_after
-  pub memory_is : HasMemory (wedge image script frames) last ended.end memory
-  pub notes : List Note
-  pub tells : TellsSets image script frames sets last ended.end kept notes
-  pub proved : IsProved image script frames n text ended.end notes
-
--- what stands after such a run, with the notes that are kept and the host's memory
-abbrev pub NotedAnswers : Image → Events → ℕ → ℕ → Kept → Around → List ℕ → Result Ended RunFault → Type 0
-NotedAnswers image script frames n kept a memory (Ok ended) =
-    (text : List ℕ) × (run : NotedRun image script frames n text ended a memory kept) × (need image ≤ frames)
-    × HasFills (wedge image script frames) run.sets run.last ended.fills × Appends a.taken a.taken_after text × (a.faults ≤ a.faults_after)
-NotedAnswers image script frames n kept a memory (Err fault) = RefusedWedge image script frames n a fault

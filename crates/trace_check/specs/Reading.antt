@@ -1,5 +1,5 @@
 -- What is read of the bytes of a file of choices, or the place of the first bad field.
-use Rattle.std.specs.Prelude.{◌≡◌, ℕ, zero, suc, ◌+◌, ◌^◌, Bool, not, ◌&&◌, ◌||◌, List, [], ◌∷◌, length, Option, Some, None, Result, Ok, Err, nat_lt, nat_le, ◌==◌, if◌then◌else◌}
+use Rattle.std.specs.Prelude.{ℕ, zero, suc, ◌+◌, ◌^◌, Bool, not, ◌&&◌, ◌||◌, List, [], ◌∷◌, length, Option, Some, None, Result, Ok, Err, nat_lt, nat_le, ◌==◌, if◌then◌else◌}
 use Rattle.std.specs.Bool.{then_some}
 use Rattle.std.specs.Option.{option_or}
 use Rattle.std.specs.Int.{w64, from_le_bytes}
@@ -7,9 +7,6 @@ use Rattle.guest_ram.specs.Bytes.{part, byte, word32}
 use Rattle.trace_check.specs.declared.list.Choice.{Choice}
 use Rattle.trace_check.specs.declared.list.ChoiceKind.{ChoiceKind}
 use Rattle.trace_check.specs.declared.list.ChoiceKind.TheVariants.{Drop, Empty, Add}
-use Rattle.trace_check.specs.declared.list.ChoicesFault.{ChoicesFault}
-use Rattle.trace_check.specs.declared.list.ChoicesFault.TheVariants as faults
-use Rattle.trace_check.specs.Lists.{ChoiceList}
 use Rattle.trace_check.specs.Form.{most_choices}
 
 -- the number of eight bytes at a, the lowest first
@@ -87,12 +84,3 @@ unless (Some at) list = Err at
 -- the choices, or the first bad field
 unfoldable pub choices_in : List ℕ → Result (List Choice) ℕ
 choices_in bytes = unless (option_or (head_fault bytes) (choices_fault bytes 0 (word32 bytes 4) 8)) (choices_at bytes (word32 bytes 4) 8)
-
--- what was answered is what reading gives, unless memory ran out
-abbrev pub Fails : ChoicesFault → Result (List Choice) ℕ → Type 0
-Fails faults.Memory read = Unit {0}
-Fails (faults.Form at) read = read ≡ Err at
-
-abbrev pub Gives : Result ChoiceList ChoicesFault → Result (List Choice) ℕ → Type 0
-Gives (Ok choices) read = read ≡ Ok choices.list
-Gives (Err fault) read = Fails fault read

@@ -1,5 +1,5 @@
 -- What a judgement says of runs of the bare machine, and what notes say of a judgement.
-use Rattle.std.specs.Prelude.{◌≡◌, ℕ, ◌≤◌, ◌<◌, ◌^◌, true, cond, List, [], ◌∷◌, length, Ok}
+use Rattle.std.specs.Prelude.{◌≡◌, ℕ, ◌≤◌, true, cond, List, [], ◌∷◌, Ok}
 use Rattle.ia32_types.specs.declared.stop.Stop.{Stop}
 use Rattle.paging.specs.Agreement.{is_extra_stop}
 use Rattle.board.specs.Scripts.{Events}
@@ -8,18 +8,15 @@ use Rattle.run_trace.specs.Notes.{Note}
 use Rattle.run_trace.specs.declared.items.End.{End}
 use Rattle.run_trace.specs.declared.items.End.TheVariants.{Bound, Stopped}
 use Rattle.run_trace.specs.Text.{text_of}
-use Rattle.machine_model.specs.State.{Setting, State, boot, wedge}
+use Rattle.machine_model.specs.State.{Setting, State, boot}
 use Rattle.machine_model.specs.Step.{Report, Went, Halts, step_of}
-use Rattle.machine_model.specs.Run.{Set, Steps, Run, CanGive, trace_of}
-use Rattle.machine_model.specs.Notes.{AreTold, AreNotes, set_told}
+use Rattle.machine_model.specs.Run.{Set, Steps, CanGive, trace_of}
+use Rattle.machine_model.specs.Notes.{set_told}
 use Rattle.bare_machine.specs.Machine.{bare}
 use Rattle.trace_check.specs.declared.list.Choice.{Choice}
 use Rattle.trace_check.specs.declared.answer.Verdict.{Verdict}
 use Rattle.trace_check.specs.declared.answer.Verdict.TheVariants.{Yes, YesBefore}
-use Rattle.trace_check.specs.Form.{AreChoices, most_choices}
-use Rattle.trace_check.specs.Kept.{choices_of}
 use Rattle.trace_check.specs.Courses.{chosen}
-use Rattle.trace_check.specs.Judged.{judged}
 
 -- each step's set is the one that the choices make of what the step before left
 abbrev pub AreChosen : Setting → List Choice → State → List Set → Type 0
@@ -40,12 +37,6 @@ pub record IsRunText (image : Image) (script : Events) (frames n : ℕ) (list : 
   pub by_choices : AreChosen (bare image script frames) list (boot (bare image script frames)) given.sets
   pub stops : StopsBy (bare image script frames) list given.last end
 
--- Where the judgement is yes, the run of the bare machine that goes by the choices has the text.
-abbrev pub YesIsARun : Type 0
-YesIsARun =
-    (image : Image) (script : Events) (frames n : ℕ) (list : List Choice) (text : List ℕ)
-    → judged image script frames n list text ≡ Yes → IsRunText image script frames n list text
-
 -- some steps of the bare machine, by these choices, have these items, and the text goes on with a last line that tells the
 -- stop behind them
 pub record AreItemsBefore (image : Image) (script : Events) (frames n : ℕ) (list : List Choice) (stop : Stop) (text : List ℕ) : Type 0 where
@@ -58,13 +49,6 @@ pub record AreItemsBefore (image : Image) (script : Events) (frames n : ℕ) (li
   pub own : is_extra_stop stop ≡ true
   pub text_is : text ≡ text_of (trace_of reports) last.step (Stopped stop)
 
--- Where it is yes before a stop, a run of the bare machine by the choices has the items, in as many steps; the stop isn't
--- judged.
-abbrev pub YesBeforeIsSteps : Type 0
-YesBeforeIsSteps =
-    (image : Image) (script : Events) (frames n : ℕ) (list : List Choice) (text : List ℕ) (stop : Stop)
-    → judged image script frames n list text ≡ YesBefore stop → AreItemsBefore image script frames n list stop text
-
 -- what is judged of the text of a run under a monitor's rules: where it ended at a stop of the monitor's own, that it is
 -- right before it
 abbrev pub verdict_of : End → Verdict
@@ -75,20 +59,3 @@ verdict_of (Stopped stop) = cond (is_extra_stop stop) (YesBefore stop) Yes
 abbrev pub StopsTold : Setting → State → List Note → End → Type 0
 StopsTold m last notes Bound = Unit {0}
 StopsTold m last notes (Stopped stop) = step_of m last (set_told notes last.step last.set) ≡ Halts stop
-
--- The text of a run under a monitor's rules is judged yes by the choices that its notes tell, or yes before a stop of the
--- monitor's own. (A bound is at most 2 ^ 40, as of every run.)
-abbrev pub NotesAreJudged : Type 0
-NotesAreJudged =
-    (image : Image) (script : Events) (frames n : ℕ) (sets : List Set) (reports : List Report) (last : State) (end : End) (notes : List Note)
-    → n ≤ 2 ^ 40
-    → Run (wedge image script frames) n (boot (wedge image script frames)) sets reports last end
-    → AreTold (wedge image script frames) (boot (wedge image script frames)) sets notes
-    → StopsTold (wedge image script frames) last notes end
-    → judged image script frames n (choices_of notes) (text_of (trace_of reports) last.step end) ≡ verdict_of end
-
--- The choices that a run's notes tell have the form of a file, where they are few enough.
-abbrev pub NotesAreChoices : Type 0
-NotesAreChoices =
-    (m : Setting) (old : State) (sets : List Set) (last : ℕ) (notes : List Note)
-    → last < 2 ^ 64 → length notes ≤ most_choices → AreNotes m old sets last notes → AreChoices (choices_of notes)

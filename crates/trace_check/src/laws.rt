@@ -1,6 +1,6 @@
 //! What a judgement says of runs of the bare machine.
 
-ghost use Rattle.trace_check.specs.Runs.{YesIsARun, YesBeforeIsSteps, NotesAreJudged, NotesAreChoices};
+ghost use Rattle.trace_check.specs.RunLaws.{YesIsARun, YesBeforeIsSteps, NotesAreJudged, NotesAreChoices};
 
 use machine_model::steps_agree;
 

@@ -11,7 +11,7 @@ ghost use Rattle.wedge_step.specs.Standing.{IsAble};
 ghost use Rattle.wedge_core.specs.Surroundings.{around};
 ghost use Rattle.wedge_core.specs.OfRoots.{of_roots};
 ghost use Rattle.trace_check.specs.Kept.{AreKept};
-ghost use Rattle.trace_check.specs.Proved.{NotedAnswers};
+ghost use Rattle.trace_check.specs.Noted.{NotedAnswers};
 
 use crate::kept_notes::KeptNotes;
 use crate::laws::notes_are_judged;

@@ -3,7 +3,8 @@
 ghost use Rattle.std.specs.Prelude.{◌≡◌, List, IfOk, ◌<◌, ◌≤◌, ◌+◌, ◌^◌, length, IfNone, IfSome, Ok};
 ghost use Rattle.guest_ram.specs.Bytes.{word32};
 ghost use Rattle.trace_check.specs.Form.{AreChoices, choices_bytes, most_choices};
-ghost use Rattle.trace_check.specs.Reading.{word64, reaches, differs, has_other_front, head_fault, falls, is_no_page, is_no_kind, kind_numbered, choice_fault, choices_fault, choice_at, choices_at, choices_in, Gives};
+ghost use Rattle.trace_check.specs.Reading.{word64, reaches, differs, has_other_front, head_fault, falls, is_no_page, is_no_kind, kind_numbered, choice_fault, choices_fault, choice_at, choices_at, choices_in};
+ghost use Rattle.trace_check.specs.ReadBack.{Gives};
 
 use crate::list::{Choice, ChoiceKind, Choices, ChoicesFault};
 use guest_ram::{byte, word};

@@ -3,7 +3,8 @@
 ghost use Rattle.std.specs.Prelude.{◌≡◌, ◌≤◌, ◌^◌, true, length};
 ghost use Rattle.board.specs.Scripts.{is_script};
 ghost use Rattle.trace_check.specs.Form.{AreChoices};
-ghost use Rattle.trace_check.specs.Judged.{Replays, unless_differs};
+ghost use Rattle.trace_check.specs.Judged.{unless_differs};
+ghost use Rattle.trace_check.specs.Replayed.{Replays};
 ghost use Rattle.trace_check.specs.Begins.{BeginsAs, EndsAlone, DiffersUnlessBad, ReplaysWhole, ReplaysBefore, end_verdict};
 
 use crate::answer::{CourseEnd, ReplayFault, Verdict};

@@ -3,7 +3,7 @@ use Rattle.board.specs.Scripts.{Events}
 use Rattle.image_check.specs.Image.{Image}
 use Rattle.trace_check.specs.declared.list.Choice.{Choice}
 use Rattle.trace_check.specs.declared.answer.ReplayFault.{ReplayFault}
-use Rattle.trace_check.specs.Judged.{Replays}
+use Rattle.trace_check.specs.Replayed.{Replays}
 use Rattle.pv_tool.proofs.ReplayMeanings.{tells_small, tells_verdict}
 use Rattle.pv_tool.proofs.replay.judge.Goals as goal
 

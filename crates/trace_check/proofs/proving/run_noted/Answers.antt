@@ -6,7 +6,7 @@ use Rattle.wedge_core.specs.Surroundings.{Around, around}
 use Rattle.wedge_core.specs.Counts.{Counts, counts_of}
 use Rattle.wedge_core.specs.OfRoots.{of_roots}
 use Rattle.wedge_core.specs.Scenes.{IsHeldIn, IsReadyIn}
-use Rattle.trace_check.specs.Proved.{NotedAnswers}
+use Rattle.trace_check.specs.Noted.{NotedAnswers}
 use Rattle.trace_check.proofs.proving.run_noted.Goals as goal
 
 pub whole-requires-clause-between : goal.whole-requires-clause-between

@@ -1,6 +1,6 @@
 use Rattle.std.proofs.Common.{◌≡◌, List, ap, subst, ◌∙◌}
 use Rattle.trace_check.specs.declared.list.Choice.{Choice}
-use Rattle.trace_check.specs.Judged.{Replays}
+use Rattle.trace_check.specs.Replayed.{Replays}
 use Rattle.trace_check.proofs.Judging.{whole_replayed, before_replayed}
 use Rattle.trace_check.proofs.replaying.replay.Goals as goal
 
