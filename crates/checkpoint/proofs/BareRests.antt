@@ -15,7 +15,8 @@ use Rattle.bare_machine.specs.Slices.{SliceAs}
 use Rattle.bare_machine.proofs.Runs.{part_allowed, same_step}
 use Rattle.checkpoint.specs.States.{IsInForm}
 use Rattle.checkpoint.specs.Moved.{kept_of}
-use Rattle.checkpoint.specs.Rested.{RestsTo, RestsWith}
+use Rattle.checkpoint.specs.Rested.{RestsTo}
+use Rattle.checkpoint.specs.RestAnswers.{RestsWith}
 use Rattle.checkpoint.proofs.Resting.{text_is, FailsIn, fails_in_lines, fails_at_end}
 
 -- what holds where a slice has done its steps

@@ -16,7 +16,8 @@ use Rattle.wedge_core.proofs.RunPieces.{put_both}
 use Rattle.wedge_core.proofs.WholeRuns.{ends_by, count_by}
 use Rattle.checkpoint.specs.States.{IsInForm}
 use Rattle.checkpoint.specs.Moved.{kept_of}
-use Rattle.checkpoint.specs.Rested.{RestsTo, RestsWith, host_counts}
+use Rattle.checkpoint.specs.Rested.{RestsTo}
+use Rattle.checkpoint.specs.RestAnswers.{RestsWith, host_counts}
 use Rattle.checkpoint.proofs.Resting.{text_is, FailsIn, fails_in_lines, fails_at_end}
 
 module _ {m : Setting} {old new : State} {out : Outward} {filling : Filling} {noting : Noting} {begins : Type 0} where

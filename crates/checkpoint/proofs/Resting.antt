@@ -16,7 +16,8 @@ use Rattle.machine_model.proofs.Ending.{each_ends}
 use Rattle.wedge_core.proofs.RunPieces.{run_join, seen_join, lines_both, put_front, put_none}
 use Rattle.checkpoint.specs.declared.rested.Rested.{Rested}
 use Rattle.checkpoint.specs.declared.rested.Rested.TheVariants.{At, Stopped}
-use Rattle.checkpoint.specs.Rested.{rested_text, RestsTo, RestsAs, RestsFromStart}
+use Rattle.checkpoint.specs.Rested.{rested_text, RestsTo}
+use Rattle.checkpoint.specs.RestAnswers.{RestsAs, RestsFromStart}
 
 pub text_is : (reports : List Report) (count : ℕ) (end : End) → lines_of (trace_of reports) ++ end_line count end ≡ text_of (trace_of reports) count end
 unfolding text_of

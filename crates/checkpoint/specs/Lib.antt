@@ -9,4 +9,5 @@ pub mod Moved
 pub mod Guests
 pub mod Continued
 pub mod Rested
+pub mod RestAnswers
 pub mod Least

@@ -7,7 +7,7 @@ ghost use Rattle.machine_model.specs.Fit.{Fit};
 ghost use Rattle.bare_machine.specs.Machine.{bare, state_of, IsKept};
 ghost use Rattle.checkpoint.specs.States.{IsInForm};
 ghost use Rattle.checkpoint.specs.Moved.{rested_from};
-ghost use Rattle.checkpoint.specs.Rested.{RestsAs, RestsFromStart, no_counts};
+ghost use Rattle.checkpoint.specs.RestAnswers.{RestsAs, RestsFromStart, no_counts};
 
 use crate::bare::{bare_from, state_of_bare};
 use crate::rested::Rested;

@@ -12,7 +12,7 @@ ghost use Rattle.wedge_core.specs.Counts.{counts_of};
 ghost use Rattle.wedge_core.specs.OfRoots.{of_roots};
 ghost use Rattle.checkpoint.specs.States.{IsInForm};
 ghost use Rattle.checkpoint.specs.Moved.{rested_from};
-ghost use Rattle.checkpoint.specs.Rested.{RestsAs, RestsFromStart, host_counts};
+ghost use Rattle.checkpoint.specs.RestAnswers.{RestsAs, RestsFromStart, host_counts};
 
 use crate::guest::{POOL_FRAMES, guest_from, state_of_guest};
 use crate::rested::Rested;

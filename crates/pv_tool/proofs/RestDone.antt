@@ -18,7 +18,7 @@ use Rattle.checkpoint.specs.declared.rested.Rested.TheVariants as rest
 use Rattle.checkpoint.specs.States.{IsInForm, checkpoint_bytes}
 use Rattle.checkpoint.specs.Moved.{rested_from}
 use Rattle.checkpoint.specs.Fits.{fits_of}
-use Rattle.checkpoint.specs.Rested.{NothingDone, RestsWith, RestsAs, RestsFromStart}
+use Rattle.checkpoint.specs.RestAnswers.{NothingDone, RestsWith, RestsAs, RestsFromStart}
 use Rattle.pv_build.specs.Checkpoints.{saved_line, HasState}
 use Rattle.pv_build.specs.Lines.{small_line}
 use Rattle.pv_build.specs.Images.{HasImage}

@@ -21,7 +21,8 @@ use Rattle.checkpoint.specs.declared.rested.Rested.{Rested}
 use Rattle.checkpoint.specs.declared.rested.Rested.TheVariants as rest
 use Rattle.checkpoint.specs.States.{checkpoint_bytes, checkpoint_in}
 use Rattle.checkpoint.specs.Moved.{kept_of}
-use Rattle.checkpoint.specs.Rested.{RestsTo, RestsWith, RestsAs, RestsFromStart, NothingDone}
+use Rattle.checkpoint.specs.Rested.{RestsTo}
+use Rattle.checkpoint.specs.RestAnswers.{RestsWith, RestsAs, RestsFromStart, NothingDone}
 use Rattle.pv_build.specs.Checkpoints.{saved_line}
 use Rattle.pv_build.specs.Lines.{small_line}
 use Rattle.pv_build.specs.Telling.{Says, Whole, Cut, status_of, ToldAs}

@@ -15,7 +15,7 @@ use Rattle.checkpoint.specs.declared.rested.Rested.{Rested}
 use Rattle.checkpoint.specs.declared.rested.Rested.TheVariants as rest
 use Rattle.checkpoint.specs.States.{IsInForm}
 use Rattle.checkpoint.specs.Moved.{rested_from}
-use Rattle.checkpoint.specs.Rested.{RestsAs, RestsFromStart}
+use Rattle.checkpoint.specs.RestAnswers.{RestsAs, RestsFromStart}
 use Rattle.checkpoint.specs.Continued.{WedgeGoesTo}
 use Rattle.pv_tool.specs.Running.{HostDid}
 use Rattle.pv_tool.specs.Saving.{setting_on, steps_on, frames_of}

@@ -3,7 +3,7 @@ use Rattle.xlate_buffer.specs.declared.Buffer.{Buffer}
 use Rattle.machine_model.specs.State as model
 use Rattle.machine_model.specs.Fit.{Fit}
 use Rattle.bare_machine.specs.Machine.{bare, state_of}
-use Rattle.checkpoint.specs.Rested.{RestsAs, no_counts}
+use Rattle.checkpoint.specs.RestAnswers.{RestsAs, no_counts}
 use Rattle.checkpoint.proofs.Resting.{from_start}
 use Rattle.checkpoint.proofs.bare_rest.save_bare.Goals as goal
 

@@ -2,7 +2,7 @@ use Rattle.std.proofs.Common.{◌≡◌, ℕ, ◌/◌, length, subst, arith}
 use Rattle.xlate_buffer.specs.declared.Buffer.{Buffer}
 use Rattle.machine_model.specs.State as model
 use Rattle.bare_machine.specs.Machine.{bare, state_of}
-use Rattle.checkpoint.specs.Rested.{RestsAs, no_counts}
+use Rattle.checkpoint.specs.RestAnswers.{RestsAs, no_counts}
 use Rattle.checkpoint.proofs.bare_rest.save_bare_from.Goals as goal
 
 pub returns : goal.returns

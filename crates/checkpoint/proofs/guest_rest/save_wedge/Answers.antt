@@ -4,7 +4,7 @@ use Rattle.machine_model.specs.State.{wedge}
 use Rattle.wedge_step.specs.Scene.{free, scene, state_in}
 use Rattle.wedge_core.specs.Counts.{Counts, counts_of}
 use Rattle.wedge_core.specs.OfRoots.{of_roots}
-use Rattle.checkpoint.specs.Rested.{RestsAs, host_counts}
+use Rattle.checkpoint.specs.RestAnswers.{RestsAs, host_counts}
 use Rattle.checkpoint.proofs.GuestForms.{between}
 use Rattle.checkpoint.proofs.Resting.{from_start}
 use Rattle.checkpoint.proofs.guest_rest.save_wedge.Goals as goal

@@ -5,7 +5,7 @@ use Rattle.wedge_step.specs.Scene.{scene, state_in}
 use Rattle.wedge_core.specs.Counts.{Counts, counts_of}
 use Rattle.wedge_core.specs.OfRoots.{of_roots}
 use Rattle.checkpoint.specs.Moved.{rested_from}
-use Rattle.checkpoint.specs.Rested.{RestsAs, host_counts}
+use Rattle.checkpoint.specs.RestAnswers.{RestsAs, host_counts}
 use Rattle.checkpoint.proofs.GuestForms.{seated_between}
 use Rattle.checkpoint.proofs.guest_rest.save_wedge_from.Goals as goal
 
