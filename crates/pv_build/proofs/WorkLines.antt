@@ -6,8 +6,7 @@ use Rattle.pv_io.specs.Sink.{Appends, AppendsFront}
 use Rattle.pv_io.proofs.Pieces.{appends_both}
 use Rattle.pv_build.specs.Lines.{work_line, differ_line}
 use Rattle.pv_build.specs.Texts.{lines, DifferBehind, Compares, Differ}
-use Rattle.pv_build.specs.Telling.{Says, Cut}
-use Rattle.pv_build.specs.Comparing.{TellsBoth}
+use Rattle.pv_build.specs.Telling.{Says, Cut, TellsBoth}
 use Rattle.pv_build.specs.declared.status.Status.{Status}
 use Rattle.pv_build.specs.declared.status.Status.TheVariants as status
 

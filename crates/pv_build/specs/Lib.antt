@@ -4,6 +4,7 @@ pub mod Lines
 pub mod Texts
 pub mod Readings
 pub mod Failures
+pub mod Statuses
 pub mod Telling
 pub mod Sources
 pub mod Objects

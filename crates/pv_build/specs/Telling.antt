@@ -1,14 +1,14 @@
 -- How the work of a command is told to the outside.
-use Rattle.std.specs.Prelude.{◌≡◌, ◌⊎◌, ℕ, Bool, true, List, Option, Result, Ok, Err}
+use Rattle.std.specs.Prelude.{◌≡◌, ◌⊎◌, ℕ, Bool, true, List, ◌++◌, Option, Result, Ok, Err}
 use Rattle.pv_io.specs.Causes.{Rose}
 use Rattle.pv_io.specs.Sink.{Appends, AppendsFront}
 use Rattle.pv_io.specs.declared.files.Files as disk
 use Rattle.image_load.specs.declared.fault.RunFault.{RunFault}
 use Rattle.image_load.specs.declared.fault.RunFault.TheVariants as fault
-use Rattle.run_trace.specs.declared.items.End.{End}
-use Rattle.run_trace.specs.declared.items.End.TheVariants.{Bound, Stopped}
 use Rattle.run_trace.specs.declared.items.Ended.{Ended}
 use Rattle.pv_build.specs.Lines.{small_line}
+use Rattle.pv_build.specs.Texts.{Compares}
+use Rattle.pv_build.specs.Statuses.{status_of}
 use Rattle.pv_build.specs.declared.halt.Halt.{Halt}
 use Rattle.pv_build.specs.declared.halt.Halt.TheVariants as halt
 use Rattle.pv_build.specs.declared.status.Status.{Status}
@@ -42,11 +42,6 @@ RefusesAs told (halt.Refused line) = told line
 RefusesAs told halt.ReadFault = ⊥
 RefusesAs told halt.Memory = Unit {0}
 
--- a run is done, or a stop ends it
-abbrev pub status_of : End → Status
-status_of Bound = status.Done
-status_of (Stopped stop) = status.Stopped
-
 -- How a run's answer is told: its text was put before, or a refusal's line is, unless no memory is found for it.
 abbrev pub ToldAs : Result Ended RunFault → Option (List ℕ) → Option (List ℕ) → ℕ → ℕ → Status → Type 0
 ToldAs (Ok ended) old new before now result = (result ≡ status_of ended.end) × (new ≡ old) × (now ≡ before)
@@ -54,3 +49,8 @@ ToldAs (Err fault.Write) old new before now result = (result ≡ status.WriteFau
 ToldAs (Err (fault.TooSmall small)) old new before now result =
     Says (small_line small.need small.have) status.Refused old new before now result ⊎ ((result ≡ status.Memory) × (new ≡ old))
 ToldAs (Err fault.Memory) old new before now result = (result ≡ status.Memory) × (new ≡ old)
+
+-- both lines of `work` were put, or no memory was found
+abbrev pub TellsBoth : List ℕ → List ℕ → List ℕ → Option (List ℕ) → Option (List ℕ) → ℕ → ℕ → Status → Type 0
+TellsBoth line first second old new before now result =
+    ((told : List ℕ) × Compares first second told × Says (line ++ told) status.Done old new before now result) ⊎ ((result ≡ status.Memory) × (new ≡ old))

@@ -2,8 +2,8 @@
 
 ghost use Rattle.std.specs.Prelude.{IfOk, ◌++◌};
 ghost use Rattle.pv_build.specs.Texts.{Compares};
-ghost use Rattle.pv_build.specs.Telling.{Says};
-ghost use Rattle.pv_build.specs.Comparing.{told_line, TellsBoth};
+ghost use Rattle.pv_build.specs.Telling.{Says, TellsBoth};
+ghost use Rattle.pv_build.specs.Comparing.{told_line};
 
 use crate::halt::Line;
 use crate::lines::{Told, differ_line, same_line, work_line};

@@ -17,7 +17,8 @@ use Rattle.checkpoint.specs.Moved.{rested_from}
 use Rattle.checkpoint.specs.Fits.{fits_of}
 use Rattle.checkpoint.specs.Continued.{WedgeGoesTo}
 use Rattle.trace_check.proofs.NotedRuns.{around_of}
-use Rattle.pv_build.specs.Telling.{Whole, Cut, status_of, ToldAs}
+use Rattle.pv_build.specs.Telling.{Whole, Cut, ToldAs}
+use Rattle.pv_build.specs.Statuses.{status_of}
 use Rattle.pv_build.specs.Images.{HasImage}
 use Rattle.pv_build.specs.Scripts.{HasScript}
 use Rattle.pv_build.specs.Checkpoints.{HasState, NoResumption, NothingToRun, NoState, Unfit}

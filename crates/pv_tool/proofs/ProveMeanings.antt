@@ -26,7 +26,8 @@ use Rattle.pv_build.specs.Lines.{small_line}
 use Rattle.pv_build.specs.Images.{HasImage}
 use Rattle.pv_build.specs.Scripts.{HasScript}
 use Rattle.pv_build.specs.Readings.{OnlyRead}
-use Rattle.pv_build.specs.Telling.{Says, Whole, Cut, ToldAs, status_of}
+use Rattle.pv_build.specs.Telling.{Says, Whole, Cut, ToldAs}
+use Rattle.pv_build.specs.Statuses.{status_of}
 use Rattle.pv_build.specs.declared.status.Status.{Status}
 use Rattle.pv_build.specs.declared.status.Status.TheVariants as status
 use Rattle.pv_tool.specs.Words.{Command, Prove}

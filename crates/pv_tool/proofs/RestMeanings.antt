@@ -25,7 +25,8 @@ use Rattle.checkpoint.specs.Rested.{RestsTo}
 use Rattle.checkpoint.specs.RestAnswers.{RestsWith, RestsAs, RestsFromStart, NothingDone}
 use Rattle.pv_build.specs.Checkpoints.{saved_line}
 use Rattle.pv_build.specs.Lines.{small_line}
-use Rattle.pv_build.specs.Telling.{Says, Whole, Cut, status_of, ToldAs}
+use Rattle.pv_build.specs.Telling.{Says, Whole, Cut, ToldAs}
+use Rattle.pv_build.specs.Statuses.{status_of}
 use Rattle.pv_build.specs.declared.status.Status.{Status}
 use Rattle.pv_build.specs.declared.status.Status.TheVariants as status
 use Rattle.pv_tool.specs.Words.{Command}

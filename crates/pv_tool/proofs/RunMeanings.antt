@@ -24,7 +24,8 @@ use Rattle.wedge_core.specs.Surroundings.{Around}
 use Rattle.wedge_core.proofs.AnsweredBy.{WedgeAnswers}
 use Rattle.trace_check.proofs.NotedRuns.{around_of}
 use Rattle.pv_build.specs.Lines.{small_line}
-use Rattle.pv_build.specs.Telling.{Says, Whole, Cut, status_of, ToldAs}
+use Rattle.pv_build.specs.Telling.{Says, Whole, Cut, ToldAs}
+use Rattle.pv_build.specs.Statuses.{status_of}
 use Rattle.pv_build.specs.Images.{HasImage}
 use Rattle.pv_build.specs.Scripts.{HasScript, NoRun, NoImage, NoScript, FindsRun}
 use Rattle.pv_build.specs.declared.status.Status.{Status}

@@ -11,9 +11,9 @@ use Rattle.wedge_core.specs.Promises.{Promise, HasOwnFills}
 use Rattle.wedge_core.proofs.AnsweredBy.{WedgeAnswers}
 use Rattle.trace_check.proofs.NotedRuns.{around_of}
 use Rattle.pv_build.specs.Texts.{Compares}
-use Rattle.pv_build.specs.Telling.{RefusesAs, Says, Whole, Cut, Ends}
+use Rattle.pv_build.specs.Telling.{RefusesAs, Says, Whole, Cut, Ends, TellsBoth}
 use Rattle.pv_build.specs.Building.{Builds, built_of}
-use Rattle.pv_build.specs.Comparing.{told_line, TellsBoth}
+use Rattle.pv_build.specs.Comparing.{told_line}
 use Rattle.pv_build.specs.declared.halt.Halt.{Halt}
 use Rattle.pv_build.specs.declared.halt.Halt.TheVariants as halt
 use Rattle.pv_build.specs.declared.status.Status.{Status}

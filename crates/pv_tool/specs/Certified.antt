@@ -27,7 +27,7 @@ use Rattle.pv_build.specs.CertificateLines.{verdict_line}
 use Rattle.pv_build.specs.Images.{HasImage}
 use Rattle.pv_build.specs.Scripts.{HasScript}
 use Rattle.pv_build.specs.Certificates.{HasChoices}
-use Rattle.pv_build.specs.Telling.{status_of}
+use Rattle.pv_build.specs.Statuses.{status_of}
 use Rattle.pv_build.specs.declared.status.Status.{Status}
 use Rattle.pv_tool.specs.Outside.{Outside}
 use Rattle.pv_tool.specs.Outcome.{HostedRun, run_text}

@@ -8,7 +8,7 @@ use Rattle.machine_model.specs.Step.{Report}
 use Rattle.machine_model.specs.Run.{Set, Run}
 use Rattle.checkpoint.specs.declared.state.State.{State}
 use Rattle.checkpoint.specs.Moved.{rested_from}
-use Rattle.pv_build.specs.Telling.{status_of}
+use Rattle.pv_build.specs.Statuses.{status_of}
 use Rattle.pv_tool.specs.Outcome.{Outcome, HostedRun, HostPart, Nothing, EndedRun, told, run_text}
 use Rattle.pv_tool.specs.Saving.{setting_on, frames_of}
 use Rattle.pv_tool.specs.declared.mode.RunMode.{RunMode}

@@ -12,7 +12,7 @@ use Rattle.machine_model.specs.Keeping.{Kept}
 use Rattle.machine_model.specs.Agreement.{bound_on_bare, end_on_bare}
 use Rattle.bare_machine.specs.Machine.{bare}
 use Rattle.wedge_core.specs.Promises.{Promise}
-use Rattle.pv_build.specs.Telling.{status_of}
+use Rattle.pv_build.specs.Statuses.{status_of}
 use Rattle.pv_build.specs.Images.{HasImage}
 use Rattle.pv_build.specs.Scripts.{HasScript}
 use Rattle.pv_build.specs.declared.status.Status.{Status}

@@ -7,7 +7,7 @@ use Rattle.machine_model.specs.Step.{Report}
 use Rattle.machine_model.specs.Run.{Set, trace_of}
 use Rattle.guest_sched.specs.declared.kernel.Kernel.{Kernel}
 use Rattle.guest_sched.specs.Pieces.{Piece}
-use Rattle.pv_build.specs.Telling.{status_of}
+use Rattle.pv_build.specs.Statuses.{status_of}
 use Rattle.pv_build.specs.declared.status.Status.{Status}
 use Rattle.pv_build.specs.declared.status.Status.TheVariants as status
 
