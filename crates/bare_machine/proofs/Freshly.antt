@@ -24,12 +24,14 @@ use Rattle.machine_model.proofs.Counting.{each_counts}
 use Rattle.board.specs.Scripts.{Events}
 use Rattle.image_check.specs.Image.{Image}
 use Rattle.image_load.specs.Boot.{need}
-use Rattle.bare_machine.specs.Machine.{bare, Passes, FirstIs}
+use Rattle.bare_machine.specs.Machine.{Passes, FirstIs}
+use Rattle.bare_machine.specs.Settings.{bare}
 use Rattle.bare_machine.specs.Slices.{SliceAs}
 use Rattle.bare_machine.specs.Answers.{RunsTo, WholeAs, RunAnswers}
 use Rattle.bare_machine.specs.Ending.{EndsAs}
 use Rattle.bare_machine.specs.Starts.{NotBegun}
-use Rattle.bare_machine.specs.FreshRuns.{Course, after_step, fresh_course, course_text, IsFreshRun, EachCourseIsARun, CourseAs, Comes, FreshAnswers}
+use Rattle.bare_machine.specs.FreshRuns.{Course, after_step, fresh_course, course_text, IsFreshRun, EachCourseIsARun}
+use Rattle.bare_machine.specs.FreshTexts.{CourseAs, Comes, FreshAnswers}
 use Rattle.bare_machine.proofs.Runs.{same_step, trace_join}
 use Rattle.bare_machine.proofs.Going.{lines_join}
 use Rattle.bare_machine.proofs.Ones.{steps_counted}

@@ -18,9 +18,10 @@ use Rattle.machine_model.specs.State.{Setting, State, boot}
 use Rattle.machine_model.specs.Step.{Report}
 use Rattle.machine_model.specs.Run.{Run, trace_of, with_set}
 use Rattle.machine_model.proofs.Ending.{each_ends}
-use Rattle.bare_machine.specs.Machine.{bare}
+use Rattle.bare_machine.specs.Settings.{bare}
 use Rattle.bare_machine.specs.Slices.{SliceAs}
-use Rattle.bare_machine.specs.Answers.{RunsTo, HasRun, WholeAs, RunAnswers, RefusedRun}
+use Rattle.bare_machine.specs.Answers.{RunsTo, WholeAs, RunAnswers, RefusedRun}
+use Rattle.bare_machine.specs.Runs.{HasRun}
 use Rattle.bare_machine.specs.Ending.{EndsAs}
 use Rattle.bare_machine.specs.Starts.{NotBegun}
 use Rattle.run_trace.specs.Pauses.{end_of}

@@ -1,9 +1,6 @@
 -- The bare machine's values as states, and what steps of it say.
 use Rattle.std.specs.Prelude.{◌≡◌, ℕ, ◌*◌, ◌≤◌, Bool, true, List, length, [], ◌∷◌, ◌++◌, Result, Ok, Err}
 use Rattle.ia32_types.specs.declared.stop.Stop.{Stop}
-use Rattle.paging.specs.Space.{Bare}
-use Rattle.board.specs.Scripts.{Events}
-use Rattle.image_check.specs.Image.{Image}
 use Rattle.run_trace.specs.declared.items.What.{What}
 use Rattle.step_mem.specs.Changes.{AreWithin}
 use Rattle.paging.specs.Part.{IsPartOf}
@@ -14,10 +11,6 @@ use Rattle.machine_model.specs.Step.{Report, Went, Halts, step_of, items_at}
 use Rattle.bare_machine.specs.declared.machine.Bare as machines
 use Rattle.machine_step.specs.declared.worked.Seen.{Seen}
 use Rattle.machine_step.specs.Worked.{whats}
-
--- what the bare machine runs with
-abbrev pub bare : Image → Events → ℕ → Setting
-bare image script frames = record { mode = Bare; image = image; script = script; frames = frames }
 
 -- the machine's state, whose set is what the cache holds
 abbrev pub state_of : {C : Type 0} → (C → Set) → machines.Bare C → State

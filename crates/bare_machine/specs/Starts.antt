@@ -9,7 +9,8 @@ use Rattle.image_load.specs.declared.fault.RunFault.{RunFault}
 use Rattle.image_load.specs.declared.fault.RunFault.TheVariants as fault
 use Rattle.machine_model.specs.State.{boot}
 use Rattle.machine_model.specs.Run.{Set}
-use Rattle.bare_machine.specs.Machine.{bare, state_of, IsKept}
+use Rattle.bare_machine.specs.Machine.{state_of, IsKept}
+use Rattle.bare_machine.specs.Settings.{bare}
 use Rattle.bare_machine.specs.declared.machine.Bare as machines
 
 -- the machine stands where every run begins

@@ -3,9 +3,11 @@
 ghost use Rattle.std.specs.Prelude.{◌≡◌, ◌≤◌, ◌^◌, true};
 ghost use Rattle.board.specs.Scripts.{is_script};
 ghost use Rattle.image_check.specs.Image.{Image};
-ghost use Rattle.bare_machine.specs.Machine.{bare, state_of, IsKept};
+ghost use Rattle.bare_machine.specs.Machine.{state_of, IsKept};
+ghost use Rattle.bare_machine.specs.Settings.{bare};
 ghost use Rattle.bare_machine.specs.Answers.{RunAnswers};
-ghost use Rattle.bare_machine.specs.FreshRuns.{FreshAnswers, CourseAs, StepsAs, fresh_course};
+ghost use Rattle.bare_machine.specs.FreshRuns.{fresh_course};
+ghost use Rattle.bare_machine.specs.FreshTexts.{FreshAnswers, CourseAs, StepsAs};
 
 use crate::ending::{begun, end_run};
 use crate::machine::Bare;

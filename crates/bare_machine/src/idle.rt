@@ -7,7 +7,8 @@ ghost use Rattle.image_check.specs.Image.{Image};
 ghost use Rattle.machine_model.specs.Run.{Set};
 ghost use Rattle.machine_model.specs.Step.{interrupt_of};
 ghost use Rattle.paging.specs.Part.{IsPartOf};
-ghost use Rattle.bare_machine.specs.Machine.{bare, state_of, IsKept, GoesOn, Rests};
+ghost use Rattle.bare_machine.specs.Machine.{state_of, IsKept, GoesOn, Rests};
+ghost use Rattle.bare_machine.specs.Settings.{bare};
 
 use crate::machine::Bare;
 use board::Script;

@@ -8,7 +8,8 @@ ghost use Rattle.step_mem.specs.Sound.{space_at};
 ghost use Rattle.machine_model.specs.State.{State};
 ghost use Rattle.machine_model.specs.Step.{stepped};
 ghost use Rattle.machine_step.specs.Worked.{ComesTo, IsDropped, answer_of};
-ghost use Rattle.bare_machine.specs.Machine.{bare, state_of, own_step, StepAs, IsKept, GoesOn};
+ghost use Rattle.bare_machine.specs.Machine.{state_of, own_step, StepAs, IsKept, GoesOn};
+ghost use Rattle.bare_machine.specs.Settings.{bare};
 
 use crate::finish::finish_step;
 use bare_mem::Cached;

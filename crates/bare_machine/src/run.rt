@@ -3,7 +3,8 @@
 ghost use Rattle.std.specs.Prelude.{◌≡◌, ◌≤◌, ◌^◌, true, IfOk};
 ghost use Rattle.board.specs.Scripts.{is_script};
 ghost use Rattle.image_check.specs.Image.{Image};
-ghost use Rattle.bare_machine.specs.Machine.{bare, state_of, IsKept};
+ghost use Rattle.bare_machine.specs.Machine.{state_of, IsKept};
+ghost use Rattle.bare_machine.specs.Settings.{bare};
 ghost use Rattle.bare_machine.specs.Answers.{RunAnswers, WholeAs};
 ghost use Rattle.run_trace.specs.Pauses.{end_of};
 

@@ -9,7 +9,7 @@ use Rattle.image_load.specs.declared.fault.RunFault.TheVariants as fault
 use Rattle.run_trace.specs.declared.items.Ended.{Ended}
 use Rattle.machine_model.specs.State.{wedge}
 use Rattle.bare_machine.specs.Answers.{WholeAs}
-use Rattle.bare_machine.specs.Machine.{bare}
+use Rattle.bare_machine.specs.Settings.{bare}
 use Rattle.wedge_core.specs.Counts.{Counts}
 use Rattle.checkpoint.specs.declared.state.State.{State}
 use Rattle.checkpoint.specs.declared.state.CheckpointCause.{CheckpointCause}

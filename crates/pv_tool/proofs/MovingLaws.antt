@@ -11,7 +11,7 @@ use Rattle.machine_model.specs.State as model
 use Rattle.machine_model.specs.State.{Setting, boot}
 use Rattle.machine_model.specs.Step.{Report}
 use Rattle.machine_model.specs.Run.{Set, Steps, Run, trace_of}
-use Rattle.bare_machine.specs.Machine.{bare}
+use Rattle.bare_machine.specs.Settings.{bare}
 use Rattle.wedge_core.proofs.RunPieces.{seen_join, lines_both}
 use Rattle.wedge_core.proofs.WholeRuns.{text_is}
 use Rattle.checkpoint.specs.declared.state.State.{State}

@@ -7,7 +7,7 @@ use Rattle.run_trace.specs.declared.items.Ended.{Ended}
 use Rattle.machine_model.specs.State.{wedge}
 use Rattle.machine_model.specs.Step.{Report}
 use Rattle.bare_machine.specs.Answers.{RunAnswers, WholeAs}
-use Rattle.bare_machine.specs.Machine.{bare}
+use Rattle.bare_machine.specs.Settings.{bare}
 use Rattle.wedge_core.specs.Answers.{WedgeAnswers}
 use Rattle.wedge_core.specs.Surroundings.{Around}
 use Rattle.checkpoint.specs.declared.state.State.{State}

@@ -13,7 +13,7 @@ use Rattle.elf_form.specs.ImageLayout.{image_bytes}
 use Rattle.image_check.specs.Image.{Image}
 use Rattle.board.specs.Scripts.{Events}
 use Rattle.run_trace.specs.declared.items.End.{End}
-use Rattle.bare_machine.specs.Answers.{HasRun}
+use Rattle.bare_machine.specs.Runs.{HasRun}
 use Rattle.image_load.specs.Boot.{need}
 use Rattle.checkpoint.specs.declared.state.State as checkpoint
 use Rattle.checkpoint.specs.States.{checkpoint_bytes, checkpoint_in}

@@ -13,7 +13,7 @@ use Rattle.machine_model.specs.State.{State, boot, wedge}
 use Rattle.machine_model.specs.Step.{Report}
 use Rattle.machine_model.specs.Run.{Set, Run, stopping}
 use Rattle.machine_model.specs.Keeping.{Kept}
-use Rattle.bare_machine.specs.Answers.{HasRun}
+use Rattle.bare_machine.specs.Runs.{HasRun}
 use Rattle.wedge_core.specs.Counts.{Counts, CountsOn}
 use Rattle.wedge_core.specs.Promises.{HasMemory}
 use Rattle.guest_sched.specs.Pieces.{counts_over}

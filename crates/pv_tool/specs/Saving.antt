@@ -12,7 +12,7 @@ use Rattle.machine_model.specs.Run.{Set, Run, trace_of}
 use Rattle.run_trace.specs.declared.items.End.{End}
 use Rattle.run_trace.specs.declared.items.End.TheVariants as ends
 use Rattle.run_trace.specs.Text.{lines_of, text_of}
-use Rattle.bare_machine.specs.Machine.{bare}
+use Rattle.bare_machine.specs.Settings.{bare}
 use Rattle.checkpoint.specs.declared.state.State.{State}
 use Rattle.checkpoint.specs.declared.state.CheckpointCause.{CheckpointCause}
 use Rattle.checkpoint.specs.declared.state.CheckpointCause.TheVariants as checkpoint

@@ -13,7 +13,7 @@ use Rattle.step_mem.specs.Changes.{AreWithin}
 use Rattle.board.specs.Scripts.{Events}
 use Rattle.image_check.specs.Image.{Image}
 use Rattle.machine_model.specs.State.{Setting, State}
-use Rattle.bare_machine.specs.Machine.{bare}
+use Rattle.bare_machine.specs.Settings.{bare}
 use Rattle.machine_model.specs.Run.{Set, with_set}
 use Rattle.trace_check.specs.declared.list.Choice.{Choice}
 use Rattle.trace_check.specs.declared.list.ChoiceKind.{ChoiceKind}

@@ -18,7 +18,8 @@ use Rattle.machine_model.specs.Step.{Report, Went, Halts, step_of}
 use Rattle.machine_model.specs.Run.{Set, with_set, trace_of}
 use Rattle.machine_model.specs.Ends.{StepsTo}
 use Rattle.machine_model.proofs.Counting.{each_counts}
-use Rattle.bare_machine.specs.Machine.{bare, StepsBy, translations_of}
+use Rattle.bare_machine.specs.Machine.{StepsBy, translations_of}
+use Rattle.bare_machine.specs.Settings.{bare}
 use Rattle.bare_machine.specs.Slices.{SliceAs}
 use Rattle.bare_machine.proofs.Runs.{same_step, trace_join}
 use Rattle.bare_machine.proofs.Going.{lines_join}

@@ -10,7 +10,7 @@ use Rattle.run_trace.specs.declared.items.End.TheVariants.{Bound, Stopped}
 use Rattle.run_trace.specs.Text.{lines_of, text_of, end_line}
 use Rattle.machine_model.specs.State.{State, boot}
 use Rattle.machine_model.specs.Run.{trace_of}
-use Rattle.bare_machine.specs.Machine.{bare}
+use Rattle.bare_machine.specs.Settings.{bare}
 use Rattle.trace_check.specs.declared.list.Choice.{Choice}
 use Rattle.trace_check.specs.declared.told.Told.{Told}
 use Rattle.trace_check.specs.declared.answer.CourseEnd.{CourseEnd}

@@ -27,7 +27,7 @@ use Rattle.machine_model.specs.State.{Setting, State, Loosened, IsCacheable, boo
 use Rattle.machine_model.specs.Step as steps
 use Rattle.machine_model.specs.Step.{Report, Went, Halts, step_of}
 use Rattle.machine_model.specs.Run.{Set, Steps, EndsIn, trace_of}
-use Rattle.bare_machine.specs.Machine.{bare}
+use Rattle.bare_machine.specs.Settings.{bare}
 use Rattle.trace_check.specs.declared.list.Choice.{Choice}
 use Rattle.trace_check.specs.declared.list.ChoiceKind.{ChoiceKind}
 use Rattle.trace_check.specs.declared.list.ChoiceKind.TheVariants.{Drop, Empty, Add}

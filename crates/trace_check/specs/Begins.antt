@@ -9,7 +9,8 @@ use Rattle.run_trace.specs.declared.items.End.TheVariants.{Bound, Stopped}
 use Rattle.run_trace.specs.Text.{lines_of}
 use Rattle.machine_model.specs.State.{boot}
 use Rattle.machine_model.specs.Run.{Set, trace_of}
-use Rattle.bare_machine.specs.Machine.{bare, state_of, IsKept}
+use Rattle.bare_machine.specs.Machine.{state_of, IsKept}
+use Rattle.bare_machine.specs.Settings.{bare}
 use Rattle.bare_machine.specs.declared.machine.Bare as machines
 use Rattle.trace_check.specs.declared.list.Choice.{Choice}
 use Rattle.trace_check.specs.declared.told.Told.{Told}

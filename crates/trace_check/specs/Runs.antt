@@ -12,7 +12,7 @@ use Rattle.machine_model.specs.State.{Setting, State, boot}
 use Rattle.machine_model.specs.Step.{Report, Went, Halts, step_of}
 use Rattle.machine_model.specs.Run.{Set, Steps, CanGive, trace_of}
 use Rattle.machine_model.specs.Notes.{set_told}
-use Rattle.bare_machine.specs.Machine.{bare}
+use Rattle.bare_machine.specs.Settings.{bare}
 use Rattle.trace_check.specs.declared.list.Choice.{Choice}
 use Rattle.trace_check.specs.declared.answer.Verdict.{Verdict}
 use Rattle.trace_check.specs.declared.answer.Verdict.TheVariants.{Yes, YesBefore}

@@ -1,7 +1,8 @@
 //! Runs of the bare machine that pause and go on.
 
 ghost use Rattle.std.specs.Prelude.{◌≡◌, ◌+◌, ◌≤◌, ◌^◌, true};
-ghost use Rattle.bare_machine.specs.Machine.{bare, state_of, IsKept};
+ghost use Rattle.bare_machine.specs.Machine.{state_of, IsKept};
+ghost use Rattle.bare_machine.specs.Settings.{bare};
 ghost use Rattle.board.specs.Scripts.{is_script, Events};
 ghost use Rattle.machine_model.specs.State.{boot};
 

@@ -5,7 +5,8 @@ use Rattle.pv_io.specs.declared.answer.Failed.{Failed}
 use Rattle.run_trace.specs.declared.pause.Pause.{Pause}
 use Rattle.run_trace.specs.declared.pause.Pause.TheVariants.{Reached, Stopped}
 use Rattle.machine_model.specs.State.{State}
-use Rattle.bare_machine.specs.Machine.{bare, state_of}
+use Rattle.bare_machine.specs.Machine.{state_of}
+use Rattle.bare_machine.specs.Settings.{bare}
 use Rattle.machine_model.specs.Run.{with_set}
 use Rattle.bare_machine.specs.Slices.{SliceAs}
 use Rattle.bare_machine.proofs.Begun.{none_within}

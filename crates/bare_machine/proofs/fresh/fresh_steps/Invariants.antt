@@ -1,6 +1,7 @@
 use Rattle.std.proofs.Common.{◌≡◌, ◌-◌, ◌≤◌}
 use Rattle.image_check.specs.Image.{Image}
-use Rattle.bare_machine.specs.Machine.{bare, state_of, IsKept}
+use Rattle.bare_machine.specs.Machine.{state_of, IsKept}
+use Rattle.bare_machine.specs.Settings.{bare}
 use Rattle.bare_machine.proofs.Freshly.{Nears}
 use Rattle.bare_machine.proofs.fresh.fresh_steps.Given as goal
 

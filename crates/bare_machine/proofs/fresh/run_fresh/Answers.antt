@@ -1,7 +1,9 @@
 use Rattle.std.proofs.Common.{ℕ, subst}
 use Rattle.xlate_buffer.specs.declared.Buffer.{Buffer}
-use Rattle.bare_machine.specs.FreshRuns.{CourseAs, fresh_course}
-use Rattle.bare_machine.specs.Machine.{bare, state_of}
+use Rattle.bare_machine.specs.FreshRuns.{fresh_course}
+use Rattle.bare_machine.specs.FreshTexts.{CourseAs}
+use Rattle.bare_machine.specs.Machine.{state_of}
+use Rattle.bare_machine.specs.Settings.{bare}
 use Rattle.bare_machine.proofs.Freshly.{fresh_answered, fresh_run_answered, fresh_unbegun}
 use Rattle.bare_machine.proofs.Wholes.{unbegun}
 use Rattle.bare_machine.proofs.fresh.run_fresh.Goals as goal

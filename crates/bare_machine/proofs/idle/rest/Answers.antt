@@ -1,5 +1,6 @@
 use Rattle.std.proofs.Common.{◌≡◌, ◌+◌, ◌-◌, arith, true, false, sym, ◌∙◌}
-use Rattle.bare_machine.specs.Machine.{bare, state_of}
+use Rattle.bare_machine.specs.Machine.{state_of}
+use Rattle.bare_machine.specs.Settings.{bare}
 use Rattle.bare_machine.proofs.Resting.{rests_none, rests_some}
 use Rattle.bare_machine.proofs.idle.rest.Goals as goal
 

@@ -4,7 +4,8 @@ use Rattle.step_mem.specs.Sound.{space_at}
 use Rattle.machine_model.specs.Step as steps
 use Rattle.machine_model.specs.Step.{step_of, stepped, Halts}
 use Rattle.machine_step.specs.Worked.{whats, completed_by, dropping, went_as}
-use Rattle.bare_machine.specs.Machine.{bare, state_of, Goes}
+use Rattle.bare_machine.specs.Machine.{state_of, Goes}
+use Rattle.bare_machine.specs.Settings.{bare}
 use Rattle.bare_machine.proofs.machine.step.Goals as goal
 
 pub returns-in-Err-clause-step : goal.returns-in-Err-clause-step

@@ -1,6 +1,6 @@
 use Rattle.std.proofs.Common.{◌≡◌, ◌*◌, length, drop, refl, ap, arith, length-drop}
 use Rattle.step_mem.specs.declared.walking.Control.{Control}
-use Rattle.bare_machine.specs.Machine.{bare}
+use Rattle.bare_machine.specs.Settings.{bare}
 use Rattle.bare_machine.proofs.machine.tried.Goals as goal
 
 pub returns-clause-memory : goal.returns-clause-memory

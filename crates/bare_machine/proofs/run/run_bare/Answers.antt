@@ -1,7 +1,8 @@
 use Rattle.std.proofs.Common.{ℕ, subst}
 use Rattle.xlate_buffer.specs.declared.Buffer.{Buffer}
 use Rattle.bare_machine.specs.Answers.{WholeAs}
-use Rattle.bare_machine.specs.Machine.{bare, state_of}
+use Rattle.bare_machine.specs.Machine.{state_of}
+use Rattle.bare_machine.specs.Settings.{bare}
 use Rattle.bare_machine.proofs.Wholes.{answered, unbegun}
 use Rattle.bare_machine.proofs.run.run_bare.Goals as goal
 

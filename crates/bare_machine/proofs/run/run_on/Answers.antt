@@ -1,7 +1,8 @@
 use Rattle.std.proofs.Common.{◌≡◌, ℕ, ◌+◌, ◌-◌, Ok, Err, subst, arith}
 use Rattle.run_trace.specs.declared.items.End.{End}
 use Rattle.bare_machine.specs.Ending.{EndsAs}
-use Rattle.bare_machine.specs.Machine.{bare, state_of}
+use Rattle.bare_machine.specs.Machine.{state_of}
+use Rattle.bare_machine.specs.Settings.{bare}
 use Rattle.bare_machine.specs.Slices.{SliceAs}
 use Rattle.bare_machine.proofs.Wholes.{whole_ended, whole_front}
 use Rattle.bare_machine.proofs.run.run_on.Goals as goal

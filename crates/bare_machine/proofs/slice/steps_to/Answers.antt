@@ -1,7 +1,8 @@
 use Rattle.std.proofs.Common.{◌≡◌, ℕ, Bool, [], ◌∷◌, ◌++◌, refl, ◌∙◌, subst, arith}
 use Rattle.machine_model.specs.Step.{Halts, step_of}
 use Rattle.machine_step.specs.Worked.{whats}
-use Rattle.bare_machine.specs.Machine.{bare, state_of, Goes, Rests}
+use Rattle.bare_machine.specs.Machine.{state_of, Goes, Rests}
+use Rattle.bare_machine.specs.Settings.{bare}
 use Rattle.bare_machine.proofs.Going.{going_none, going_on, passes_here, passes_on, front_on, goes_further}
 use Rattle.bare_machine.proofs.slice.steps_to.Goals as goal
 

@@ -1,6 +1,7 @@
 use Rattle.std.proofs.Common.{◌-◌, ◌≤◌}
 use Rattle.image_check.specs.Image.{Image}
-use Rattle.bare_machine.specs.Machine.{bare, state_of, GoesOn}
+use Rattle.bare_machine.specs.Machine.{state_of, GoesOn}
+use Rattle.bare_machine.specs.Settings.{bare}
 use Rattle.bare_machine.proofs.Going.{Going}
 use Rattle.bare_machine.proofs.slice.steps_to.Given as goal
 

@@ -1,7 +1,8 @@
 use Rattle.std.proofs.Common.{◌≡◌, ℕ, ◌/◌, length, subst, arith}
 use Rattle.xlate_buffer.specs.declared.Buffer.{Buffer}
 use Rattle.machine_model.specs.State as model
-use Rattle.bare_machine.specs.Machine.{bare, state_of}
+use Rattle.bare_machine.specs.Machine.{state_of}
+use Rattle.bare_machine.specs.Settings.{bare}
 use Rattle.checkpoint.specs.RestAnswers.{RestsAs, no_counts}
 use Rattle.checkpoint.proofs.bare_rest.save_bare_from.Goals as goal
 

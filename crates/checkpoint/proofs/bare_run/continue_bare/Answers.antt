@@ -1,7 +1,7 @@
 use Rattle.std.proofs.Common.{◌≡◌, ℕ, ◌/◌, length, subst, arith}
 use Rattle.machine_model.specs.State as model
 use Rattle.bare_machine.specs.Answers.{WholeAs}
-use Rattle.bare_machine.specs.Machine.{bare}
+use Rattle.bare_machine.specs.Settings.{bare}
 use Rattle.checkpoint.specs.Moved.{rested_from}
 use Rattle.checkpoint.proofs.bare_run.continue_bare.Goals as goal
 

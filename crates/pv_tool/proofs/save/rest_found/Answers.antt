@@ -1,6 +1,6 @@
 use Rattle.std.proofs.Common.{◌≡◌, List, refl, sym, subst, ◌∙◌}
 use Rattle.machine_model.specs.Step.{Report}
-use Rattle.bare_machine.specs.Machine.{bare}
+use Rattle.bare_machine.specs.Settings.{bare}
 use Rattle.wedge_core.specs.Surroundings.{around}
 use Rattle.pv_tool.specs.Answering.{HostStepped, AnswersStart}
 use Rattle.pv_tool.specs.declared.mode.RunMode.{RunMode}

@@ -1,7 +1,8 @@
 use Rattle.std.proofs.Common.{◌≡◌, ◌+◌, ◌-◌, ℕ, refl, sym, ap, subst, ◌∙◌, arith, Ok, Err}
 use Rattle.run_trace.specs.declared.pause.Pause.{Pause}
 use Rattle.run_trace.specs.declared.pause.Pause.TheVariants as pause
-use Rattle.bare_machine.specs.Machine.{bare, state_of}
+use Rattle.bare_machine.specs.Machine.{state_of}
+use Rattle.bare_machine.specs.Settings.{bare}
 use Rattle.trace_check.specs.Follows.{next_step, Splits, FollowsAs}
 use Rattle.trace_check.specs.declared.answer.CourseEnd.TheVariants as ends
 use Rattle.run_trace.specs.declared.items.End.TheVariants as end

@@ -1,6 +1,7 @@
 use Rattle.std.proofs.Common.{◌≡◌, ◌-◌, ◌≤◌, true}
 use Rattle.image_check.specs.Image.{Image}
-use Rattle.bare_machine.specs.Machine.{bare, state_of, IsKept}
+use Rattle.bare_machine.specs.Machine.{state_of, IsKept}
+use Rattle.bare_machine.specs.Settings.{bare}
 use Rattle.trace_check.specs.Follows.{Splits}
 use Rattle.trace_check.proofs.Going.{Nears}
 use Rattle.trace_check.proofs.course.follow.Given as goal

@@ -1,4 +1,5 @@
-use Rattle.bare_machine.specs.Machine.{bare, state_of}
+use Rattle.bare_machine.specs.Machine.{state_of}
+use Rattle.bare_machine.specs.Settings.{bare}
 use Rattle.bare_machine.proofs.Begun.{none_within}
 use Rattle.trace_check.specs.declared.list.ChoiceKind.TheVariants.{Add}
 use Rattle.trace_check.proofs.Choosing.{removed_within, of_kind}

@@ -2,7 +2,8 @@ use Rattle.std.proofs.Common.{◌≡◌, ℕ, refl, sym, ap, subst, ◌∙◌, a
 use Rattle.std.specs.Prelude.{slice_get}
 use Rattle.machine_model.specs.State.{State}
 use Rattle.machine_model.specs.Run.{with_set}
-use Rattle.bare_machine.specs.Machine.{bare, state_of}
+use Rattle.bare_machine.specs.Machine.{state_of}
+use Rattle.bare_machine.specs.Settings.{bare}
 use Rattle.trace_check.specs.Courses.{made}
 use Rattle.trace_check.specs.Follows.{IsMade, due}
 use Rattle.trace_check.proofs.Choosing.{at_first, at_place, due_some, next_is, page_of_next, one_on, one_made, none_made, splits_next, none_due}

@@ -2,7 +2,8 @@ use Rattle.std.proofs.Common.{◌≡◌, ◌-◌, length, drop, true}
 use Rattle.board.specs.Scripts.{Events}
 use Rattle.image_check.specs.Image.{Image}
 use Rattle.machine_model.specs.Run.{with_set}
-use Rattle.bare_machine.specs.Machine.{bare, state_of, IsKept}
+use Rattle.bare_machine.specs.Machine.{state_of, IsKept}
+use Rattle.bare_machine.specs.Settings.{bare}
 use Rattle.trace_check.specs.Courses.{chosen}
 use Rattle.trace_check.proofs.Choosing.{SoFar}
 use Rattle.trace_check.proofs.course.make_all.Given as goal

@@ -1,5 +1,5 @@
 use Rattle.std.proofs.Common.{ap, sym, subst, []}
-use Rattle.bare_machine.specs.Machine.{bare}
+use Rattle.bare_machine.specs.Settings.{bare}
 use Rattle.machine_model.specs.Fit.{Fit}
 use Rattle.machine_model.specs.State.{State}
 use Rattle.worked_runs.proofs.adopted.first.Goals as goal

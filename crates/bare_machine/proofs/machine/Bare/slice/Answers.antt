@@ -1,6 +1,7 @@
 use Rattle.std.proofs.Common.{◌+◌, ap}
 use Rattle.bare_machine.proofs.Ones.{one_step}
-use Rattle.bare_machine.specs.Machine.{bare, state_of}
+use Rattle.bare_machine.specs.Machine.{state_of}
+use Rattle.bare_machine.specs.Settings.{bare}
 use Rattle.bare_machine.proofs.FitBehind.{any_image, fit_behind}
 use Rattle.bare_machine.proofs.machine.Bare.slice.Goals as goal
 
