@@ -42,7 +42,7 @@ use Rattle.pv_tool.specs.Saving.{SavesBoot, SavesOn, FromFile}
 use Rattle.pv_tool.specs.Continuing.{ContinuesOn}
 use Rattle.pv_tool.specs.Proving.{ProvesRun}
 use Rattle.pv_tool.specs.Replaying.{Replays}
-use Rattle.pv_tool.specs.Meaning.{Gives, Finds, saved, Keeps, Counts, NoLoadFault, NoStoreFault, NoFault, ComesTo, PrintsRun, Leaves, IsStored, NoStore, NoPut, Means}
+use Rattle.pv_tool.specs.Meaning.{Gives, Finds, saved, Keeps, FaultCounts, NoLoadFault, NoStoreFault, NoFault, ComesTo, PrintsRun, Leaves, IsStored, NoStore, NoPut, Means}
 use Rattle.pv_tool.proofs.SameFiles.{same_file}
 use Rattle.pv_tool.proofs.BurnMeanings.{is_burnt, burns_once}
 use Rattle.pv_tool.proofs.LinkMeanings.{links_once, links_found}
@@ -320,8 +320,8 @@ asks_nothing form command none is = absurd (let e : None ≡ Some command = none
 pub means_of : (a : Command) (form : Option Command) (o : Outside) (st : Status) → Some a ≡ form → Means a o st → (command : Command) → form ≡ Some command → Means command o st
 means_of a form o st is h command be = subst (λ (k : Command). Means k o st) (same_command a command form is be) h
 
-pub counts_of : (a : Command) (form : Option Command) (o : Outside) → Some a ≡ form → Counts a o → (command : Command) → form ≡ Some command → Counts command o
-counts_of a form o is h command be = subst (λ (k : Command). Counts k o) (same_command a command form is be) h
+pub counts_of : (a : Command) (form : Option Command) (o : Outside) → Some a ≡ form → FaultCounts a o → (command : Command) → form ≡ Some command → FaultCounts command o
+counts_of a form o is h command be = subst (λ (k : Command). FaultCounts k o) (same_command a command form is be) h
 
 pub leaves_of : (a : Command) (form : Option Command) (old new : Option FileMap) → Some a ≡ form → Leaves a old new → (command : Command) → form ≡ Some command → Leaves command old new
 leaves_of a form old new is h command be = subst (λ (k : Command). Leaves k old new) (same_command a command form is be) h

@@ -18,7 +18,7 @@ use Rattle.pv_tool.specs.Outside.{Outside, beside, outside}
 use Rattle.pv_tool.specs.Unread.{NotRead}
 use Rattle.pv_tool.specs.Outcome.{Outcome, refused, stored_as}
 use Rattle.pv_tool.specs.Delivery.{Delivers, Stored, NotStored, NoMemory}
-use Rattle.pv_tool.specs.Meaning.{Means, Gives, Finds, Counts, KeepsCount, IsStored, HostDoes, IsIdle, AppendsPast, TakesFirst, PrintsOnly, HasPrinted, NoStore, NoPut, saved}
+use Rattle.pv_tool.specs.Meaning.{Means, Gives, Finds, FaultCounts, KeepsCount, IsStored, HostDoes, IsIdle, AppendsPast, TakesFirst, PrintsOnly, HasPrinted, NoStore, NoPut, saved}
 use Rattle.pv_tool.proofs.Works.{IsEnd, IsTold}
 
 -- ---- what is printed
@@ -154,7 +154,7 @@ same_count (Some name) before now same = omega (arith, same)
 
 -- of work that stored nothing
 pub counts_read : {F S : Type 0} (f : disk.Ghosts F) (s : sink.Ghosts S) (command : Command) (a b : F) (out out2 : S) (completed : host.Counts) (memory : List ℕ)
-    → OnlyRead f (Finds command (f.held a)) a b → Counts command (beside f s (a, b) (out, out2) completed memory)
+    → OnlyRead f (Finds command (f.held a)) a b → FaultCounts command (beside f s (a, b) (out, out2) completed memory)
 counts_read f s command a b out out2 completed memory read = record {
   same_sure = read.same_sure;
   loads = read.later;
@@ -165,7 +165,7 @@ counts_read f s command a b out out2 completed memory read = record {
 
 -- the same beside a host
 pub counts_host : {F S H : Type 0} (f : disk.Ghosts F) (s : sink.Ghosts S) (h : hosts.Ghosts H) (command : Command) (a b : F) (out out2 : S) (host host2 : H)
-    → OnlyRead f (Finds command (f.held a)) a b → Counts command (outside f s h (a, b) (out, out2) (host, host2))
+    → OnlyRead f (Finds command (f.held a)) a b → FaultCounts command (outside f s h (a, b) (out, out2) (host, host2))
 counts_host f s h command a b out out2 host host2 read = record {
   same_sure = read.same_sure;
   loads = read.later;
@@ -177,7 +177,7 @@ counts_host f s h command a b out out2 host host2 read = record {
 -- of work that stored
 pub counts_stored : {F S : Type 0} (f : disk.Ghosts F) (s : sink.Ghosts S) (command : Command) (a b c : F) (out out2 : S) (completed : host.Counts) (memory : List ℕ)
     → (f.store_faults a ≤ f.store_faults c → KeepsCount (saved command) (f.store_faults a) (f.store_faults c))
-    → OnlyRead f (Finds command (f.held a)) a b → NotRead f b c → Counts command (beside f s (a, c) (out, out2) completed memory)
+    → OnlyRead f (Finds command (f.held a)) a b → NotRead f b c → FaultCounts command (beside f s (a, c) (out, out2) completed memory)
 counts_stored f s command a b c out out2 completed memory keeps read stored = record {
   same_sure = stored.same_sure ∙ read.same_sure;
   loads = omega (arith, read.later, stored.same_loads);

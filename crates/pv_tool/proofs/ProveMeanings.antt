@@ -37,7 +37,7 @@ use Rattle.pv_tool.specs.Outcome.{Outcome, HostedRun, refused, run_text}
 use Rattle.pv_tool.specs.Running.{RunsOn, Ran, Small, WithFrames}
 use Rattle.pv_tool.specs.Proving.{are_few, certificate_file, certificate_told, proved_as, ProvesRun}
 use Rattle.pv_tool.specs.Certifying.{Certifies, TooMany, Certified, Unstored, Unmade}
-use Rattle.pv_tool.specs.Meaning.{Means, Gives, Finds, IsStored, HostDoes, NoStore, NoPut, Counts}
+use Rattle.pv_tool.specs.Meaning.{Means, Gives, Finds, IsStored, HostDoes, NoStore, NoPut, FaultCounts}
 use Rattle.pv_tool.proofs.Deliveries.{prints, says, since_loads}
 use Rattle.pv_tool.proofs.RunMeanings.{text_at, has_ended}
 use Rattle.pv_tool.proofs.Works.{IsEnd, ended_is_end, with_both}
@@ -193,7 +193,7 @@ since_read command o files sure loads stores st same_files same_sure same_stores
     subst (λ (n : ℕ). Means command (record o { files = files; sure = sure; stores = n; loads = loads }) st) same_stores over_sure
 
 pub counts_proved : {F S H : Type 0} (f : disk.Ghosts F) (s : sink.Ghosts S) (h : hosts.Ghosts H) (image script : List ℕ) (frames n : ℕ) (name : List ℕ) (a b c : F) (out out2 : S) (host host2 : H)
-    → OnlyRead f (Finds (Prove image script frames n name) (f.held a)) a b → NotRead f b c → Counts (Prove image script frames n name) (outside f s h (a, c) (out, out2) (host, host2))
+    → OnlyRead f (Finds (Prove image script frames n name) (f.held a)) a b → NotRead f b c → FaultCounts (Prove image script frames n name) (outside f s h (a, c) (out, out2) (host, host2))
 counts_proved f s h image script frames n name a b c out out2 host host2 read stored = record {
   same_sure = stored.same_sure ∙ read.same_sure;
   loads = omega (arith, read.later, stored.same_loads);

@@ -35,7 +35,7 @@ use Rattle.pv_tool.specs.Running.{Ran, Small, WithFrames}
 use Rattle.pv_tool.specs.Answering.{HasForm}
 use Rattle.pv_tool.specs.Delivery.{LeavesAs}
 use Rattle.pv_tool.specs.Saving.{SavesBoot, SavesOn, FromFile, setting_on, frames_of, is_wedge}
-use Rattle.pv_tool.specs.Meaning.{Gives, Finds, Counts, KeepsCount, LeavesState, saved}
+use Rattle.pv_tool.specs.Meaning.{Gives, Finds, FaultCounts, KeepsCount, LeavesState, saved}
 use Rattle.pv_tool.specs.declared.mode.RunMode.{RunMode}
 use Rattle.pv_tool.specs.declared.mode.RunMode.TheVariants as mode
 use Rattle.pv_tool.proofs.Works.{with_both}
@@ -83,7 +83,7 @@ saves_state on image script file n new o i e s has says state fit = record {
 
 pub counts_rested : {F S H : Type 0} (f : disk.Ghosts F) (s : sink.Ghosts S) (h : hosts.Ghosts H) (command : Command) (a b c : F) (out out2 : S) (host host2 : H)
     → (f.store_faults a ≤ f.store_faults c → KeepsCount (saved command) (f.store_faults a) (f.store_faults c))
-    → OnlyRead f (Finds command (f.held a)) a b → NotRead f b c → Counts command (outside f s h (a, c) (out, out2) (host, host2))
+    → OnlyRead f (Finds command (f.held a)) a b → NotRead f b c → FaultCounts command (outside f s h (a, c) (out, out2) (host, host2))
 counts_rested f s h command a b c out out2 host host2 keeps read stored = record {
   same_sure = stored.same_sure ∙ read.same_sure;
   loads = omega (arith, read.later, stored.same_loads);

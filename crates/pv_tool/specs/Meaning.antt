@@ -211,7 +211,7 @@ KeepsCount None before now = now ≡ before
 KeepsCount (Some name) before now = before ≤ now
 
 -- What becomes of the counts. Files that are sure stay so; over them no store fails, and no load where what is reached is held.
-pub record Counts (command : Command) (o : Outside) : Type 0 where
+pub record FaultCounts (command : Command) (o : Outside) : Type 0 where
   pub same_sure : o.sure_after ≡ o.sure
   pub loads : o.loads ≤ o.loads_after
   pub stores : KeepsCount (saved command) o.stores o.stores_after

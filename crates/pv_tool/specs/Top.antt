@@ -37,7 +37,7 @@ use Rattle.pv_tool.specs.Working.{Works}
 use Rattle.pv_tool.specs.Saving.{SavesBoot, SavesOn, is_wedge}
 use Rattle.pv_tool.specs.Continuing.{ContinuesOn}
 use Rattle.pv_tool.specs.Sharing.{SharesTurns}
-use Rattle.pv_tool.specs.Meaning.{Means, Gives, Keeps, Counts, NoFault, ComesTo, PrintsRun, Leaves, saved}
+use Rattle.pv_tool.specs.Meaning.{Means, Gives, Keeps, FaultCounts, NoFault, ComesTo, PrintsRun, Leaves, saved}
 use Rattle.pv_tool.specs.Headline.{IsHeadline, HasHeadline}
 use Rattle.pv_tool.specs.Comparison.{IsComparison, HasComparison}
 use Rattle.pv_tool.specs.Certified.{IsProof, HasProof, HasVerdict}
@@ -55,7 +55,7 @@ KeepsOthers words o = (command : Command) → Asks words command → Keeps (save
 
 -- what becomes of the counts of faults
 abbrev pub CountsFaults : List (List ℕ) → Outside → Type 0
-CountsFaults words o = (command : Command) → Asks words command → Counts command o
+CountsFaults words o = (command : Command) → Asks words command → FaultCounts command o
 
 -- A load that failed ends the work as a read fault, and a store that failed as a write fault: where the work ends otherwise, and
 -- memory was found, the count is as it was. A count that stands at its type's end before can't tell.

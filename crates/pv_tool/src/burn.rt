@@ -14,7 +14,7 @@ ghost use Rattle.pv_tool.specs.Outside.{beside};
 ghost use Rattle.pv_tool.specs.Faulting.{FaultsEnd};
 ghost use Rattle.pv_tool.specs.Outcome.{refused};
 ghost use Rattle.pv_tool.specs.Burning.{Burns, HasBurnt};
-ghost use Rattle.pv_tool.specs.Meaning.{Means, Counts, Leaves};
+ghost use Rattle.pv_tool.specs.Meaning.{Means, FaultCounts, Leaves};
 
 use crate::delivery::deliver;
 use afterburner::{BurnFault, burn as burn_source};
@@ -33,7 +33,7 @@ pub fn burn<F: Files, S: Sink>(
     ensures meaning { (completed : HostCounts) (memory : List ℕ)
         → Means (Burn source.now object.now) (beside F.Files S.Sink (files.old, files.new) (out.old, out.new) completed memory) result }
     ensures counts { (completed : HostCounts) (memory : List ℕ)
-        → Counts (Burn source.now object.now) (beside F.Files S.Sink (files.old, files.new) (out.old, out.new) completed memory) }
+        → FaultCounts (Burn source.now object.now) (beside F.Files S.Sink (files.old, files.new) (out.old, out.new) completed memory) }
     ensures leaves { result ≡ Status.Done → Leaves (Burn source.now object.now) (F.held files.old) (F.held files.new) }
     ensures ends { FaultsEnd F.Files files.old files.new result }
 {

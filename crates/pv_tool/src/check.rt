@@ -5,7 +5,7 @@ ghost use Rattle.wedge_core.specs.Counts.{Counts as HostCounts};
 ghost use Rattle.pv_tool.specs.Words.{Check};
 ghost use Rattle.pv_tool.specs.Outside.{beside};
 ghost use Rattle.pv_tool.specs.Faulting.{FaultsEnd};
-ghost use Rattle.pv_tool.specs.Meaning.{Means, Counts};
+ghost use Rattle.pv_tool.specs.Meaning.{Means, FaultCounts};
 
 use pv_build::{Status, accepted, accepted_line, end, print};
 use pv_io::{Files, Sink};
@@ -17,7 +17,7 @@ pub fn check<F: Files, S: Sink>(alloc: Global, name: &str, files: &mut F, out: &
     ensures meaning { (completed : HostCounts) (memory : List ℕ)
         → Means (Check name.now) (beside F.Files S.Sink (files.old, files.new) (out.old, out.new) completed memory) result }
     ensures counts { (completed : HostCounts) (memory : List ℕ)
-        → Counts (Check name.now) (beside F.Files S.Sink (files.old, files.new) (out.old, out.new) completed memory) }
+        → FaultCounts (Check name.now) (beside F.Files S.Sink (files.old, files.new) (out.old, out.new) completed memory) }
     ensures ends { FaultsEnd F.Files files.old files.new result }
 {
     match accepted(alloc, name, files) {

@@ -9,17 +9,17 @@ use std::alloc::Global;
 
 /// Keeps all bytes. A put fails only where no memory was found for them, and is counted then.
 #[derive(Drop)]
-pub struct Kept {
+pub struct TextSink {
     pub text: Vec<u8>,
     faults: u64,
 }
 
-impl Kept {
+impl TextSink {
     /// A sink that has taken nothing, and asks this allocator for its memory.
-    pub fn new(alloc: Global) -> Kept
+    pub fn new(alloc: Global) -> TextSink
         ensures { result.text.items ≡ [] }
     {
-        Kept {
+        TextSink {
             text: Vec::new(alloc),
             faults: 0,
         }
@@ -29,12 +29,12 @@ impl Kept {
     pub fn into_text(self) -> Vec<u8>
         ensures { result ≡ self.text }
     {
-        let Kept { text, .. } = self;
+        let TextSink { text, .. } = self;
         text
     }
 }
 
-impl Sink for Kept {
+impl Sink for TextSink {
     ghost taken = { λ s. Some s.text.items };
 
     ghost faults = { λ s. s.faults };

@@ -14,7 +14,7 @@ ghost use Rattle.pv_tool.specs.Outside.{beside};
 ghost use Rattle.pv_tool.specs.Faulting.{FaultsEnd};
 ghost use Rattle.pv_tool.specs.Outcome.{refused};
 ghost use Rattle.pv_tool.specs.Linking.{Links, HasLinked};
-ghost use Rattle.pv_tool.specs.Meaning.{Means, Counts, Leaves};
+ghost use Rattle.pv_tool.specs.Meaning.{Means, FaultCounts, Leaves};
 
 use crate::delivery::deliver;
 use elf_link::{LinkFault, linked};
@@ -35,7 +35,7 @@ pub fn link<F: Files, S: Sink>(
         → Means (Link image.now (map string_bytes objects.now))
         (beside F.Files S.Sink (files.old, files.new) (out.old, out.new) completed memory) result }
     ensures counts { (completed : HostCounts) (memory : List ℕ)
-        → Counts (Link image.now (map string_bytes objects.now))
+        → FaultCounts (Link image.now (map string_bytes objects.now))
         (beside F.Files S.Sink (files.old, files.new) (out.old, out.new) completed memory) }
     ensures leaves { result ≡ Status.Done → Leaves (Link image.now (map string_bytes objects.now)) (F.held files.old) (F.held files.new) }
     ensures ends { FaultsEnd F.Files files.old files.new result }

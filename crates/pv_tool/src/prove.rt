@@ -18,7 +18,7 @@ ghost use Rattle.pv_tool.specs.Unread.{NotRead};
 ghost use Rattle.pv_tool.specs.Faulting.{FaultsEnd};
 ghost use Rattle.pv_tool.specs.Proving.{are_few};
 ghost use Rattle.pv_tool.specs.Certifying.{Certifies};
-ghost use Rattle.pv_tool.specs.Meaning.{Means, Counts};
+ghost use Rattle.pv_tool.specs.Meaning.{Means, FaultCounts};
 
 use crate::words::RunWords;
 use host_cpl3::Host;
@@ -41,7 +41,7 @@ pub fn prove<F: Files, S: Sink, H: Host>(
     requires room { H.retired host.old ≤ 2 ^ 63 }
     ensures meaning { Means (prove_command words.entry certificate.now)
         (outside F.Files S.Sink H.Host (files.old, files.new) (out.old, out.new) (host.old, host.new)) result }
-    ensures counts { Counts (prove_command words.entry certificate.now)
+    ensures counts { FaultCounts (prove_command words.entry certificate.now)
         (outside F.Files S.Sink H.Host (files.old, files.new) (out.old, out.new) (host.old, host.new)) }
     ensures ends { FaultsEnd F.Files files.old files.new result }
 {

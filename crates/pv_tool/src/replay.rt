@@ -9,7 +9,7 @@ ghost use Rattle.pv_tool.specs.View.{AreWithin, replay_command};
 ghost use Rattle.pv_tool.specs.Outside.{beside};
 ghost use Rattle.pv_tool.specs.Faulting.{FaultsEnd};
 ghost use Rattle.pv_tool.specs.Told.{JudgesAs};
-ghost use Rattle.pv_tool.specs.Meaning.{Means, Counts};
+ghost use Rattle.pv_tool.specs.Meaning.{Means, FaultCounts};
 
 use crate::words::RunWords;
 use pv_build::{Replayable, Status, end, print, replayable_in_files, small_line, verdict_line};
@@ -29,7 +29,7 @@ pub fn replay<F: Files, S: Sink>(
     requires within { AreWithin words }
     ensures meaning { (completed : HostCounts) (memory : List ℕ) → Means (replay_command words.entry certificate.now text.now)
         (beside F.Files S.Sink (files.old, files.new) (out.old, out.new) completed memory) result }
-    ensures counts { (completed : HostCounts) (memory : List ℕ) → Counts (replay_command words.entry certificate.now text.now)
+    ensures counts { (completed : HostCounts) (memory : List ℕ) → FaultCounts (replay_command words.entry certificate.now text.now)
         (beside F.Files S.Sink (files.old, files.new) (out.old, out.new) completed memory) }
     ensures ends { FaultsEnd F.Files files.old files.new result }
 {

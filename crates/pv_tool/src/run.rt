@@ -7,7 +7,7 @@ ghost use Rattle.wedge_core.specs.Surroundings.{around};
 ghost use Rattle.pv_tool.specs.Outside.{outside};
 ghost use Rattle.pv_tool.specs.Faulting.{FaultsEnd};
 ghost use Rattle.pv_tool.specs.Answering.{AnswersOn};
-ghost use Rattle.pv_tool.specs.Meaning.{Means, Counts};
+ghost use Rattle.pv_tool.specs.Meaning.{Means, FaultCounts};
 
 use crate::mode::RunMode;
 use crate::patched::patched_run;
@@ -33,7 +33,7 @@ pub fn run<F: Files, S: Sink, H: Host>(
     requires room { H.retired host.old ≤ 2 ^ 63 }
     ensures meaning { Means (run_command mode words.entry)
         (outside F.Files S.Sink H.Host (files.old, files.new) (out.old, out.new) (host.old, host.new)) result }
-    ensures counts { Counts (run_command mode words.entry)
+    ensures counts { FaultCounts (run_command mode words.entry)
         (outside F.Files S.Sink H.Host (files.old, files.new) (out.old, out.new) (host.old, host.new)) }
     ensures host { mode ≡ RunMode.Bare → host.new ≡ host.old }
     ensures ends { FaultsEnd F.Files files.old files.new result }

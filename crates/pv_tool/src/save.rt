@@ -13,7 +13,7 @@ ghost use Rattle.pv_tool.specs.Unread.{NotRead};
 ghost use Rattle.pv_tool.specs.Faulting.{FaultsEnd};
 ghost use Rattle.pv_tool.specs.Answering.{AnswersStart, AnswersState, HasForm};
 ghost use Rattle.pv_tool.specs.Delivery.{LeavesAs};
-ghost use Rattle.pv_tool.specs.Meaning.{Means, Counts, Leaves};
+ghost use Rattle.pv_tool.specs.Meaning.{Means, FaultCounts, Leaves};
 
 use crate::delivery::deliver;
 use crate::machine::is_wedge;
@@ -43,7 +43,7 @@ pub fn save<F: Files, S: Sink, H: Host>(
     requires room { H.retired host.old ≤ 2 ^ 63 }
     ensures meaning { Means (save_command mode words.entry file.now)
         (outside F.Files S.Sink H.Host (files.old, files.new) (out.old, out.new) (host.old, host.new)) result }
-    ensures counts { Counts (save_command mode words.entry file.now)
+    ensures counts { FaultCounts (save_command mode words.entry file.now)
         (outside F.Files S.Sink H.Host (files.old, files.new) (out.old, out.new) (host.old, host.new)) }
     ensures leaves { result ≡ Status.Done → Leaves (save_command mode words.entry file.now) (F.held files.old) (F.held files.new) }
     ensures host { mode ≡ RunMode.Bare → host.new ≡ host.old }
@@ -72,7 +72,7 @@ pub fn save_from<F: Files, S: Sink, H: Host>(
     requires room { H.retired host.old ≤ 2 ^ 63 }
     ensures meaning { Means (save_from_command mode words.entry new.now)
         (outside F.Files S.Sink H.Host (files.old, files.new) (out.old, out.new) (host.old, host.new)) result }
-    ensures counts { Counts (save_from_command mode words.entry new.now)
+    ensures counts { FaultCounts (save_from_command mode words.entry new.now)
         (outside F.Files S.Sink H.Host (files.old, files.new) (out.old, out.new) (host.old, host.new)) }
     ensures leaves { result ≡ Status.Done → Leaves (save_from_command mode words.entry new.now) (F.held files.old) (F.held files.new) }
     ensures host { mode ≡ RunMode.Bare → host.new ≡ host.old }

@@ -5,7 +5,7 @@ ghost use Rattle.std.specs.List.{list_any};
 ghost use Rattle.pv_tool.specs.View.{AreKernels, share_command};
 ghost use Rattle.pv_tool.specs.Outside.{outside};
 ghost use Rattle.pv_tool.specs.Faulting.{FaultsEnd};
-ghost use Rattle.pv_tool.specs.Meaning.{Means, Counts};
+ghost use Rattle.pv_tool.specs.Meaning.{Means, FaultCounts};
 ghost use Rattle.pv_tool.specs.Sharing.{has_stopped, status_of_all};
 ghost use Rattle.pv_tool.specs.Told.{SharedToldAs, run_fault};
 
@@ -30,7 +30,7 @@ pub fn share<F: Files, S: Sink, H: Host>(
     requires room { H.retired host.old ≤ 2 ^ 63 }
     ensures meaning { Means (share_command words.entry)
         (outside F.Files S.Sink H.Host (files.old, files.new) (out.old, out.new) (host.old, host.new)) result }
-    ensures counts { Counts (share_command words.entry)
+    ensures counts { FaultCounts (share_command words.entry)
         (outside F.Files S.Sink H.Host (files.old, files.new) (out.old, out.new) (host.old, host.new)) }
     ensures ends { FaultsEnd F.Files files.old files.new result }
 {

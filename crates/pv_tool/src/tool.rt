@@ -5,7 +5,7 @@ ghost use Rattle.pv_tool.specs.Words.{form_of};
 ghost use Rattle.pv_tool.specs.View.{command_view, IsWithin};
 ghost use Rattle.pv_tool.specs.Outside.{outside, Untouched};
 ghost use Rattle.pv_tool.specs.Faulting.{FaultsEnd};
-ghost use Rattle.pv_tool.specs.Meaning.{Means, Counts, Leaves, is_on_host, reads_files};
+ghost use Rattle.pv_tool.specs.Meaning.{Means, FaultCounts, Leaves, is_on_host, reads_files};
 ghost use Rattle.pv_tool.specs.Top.{Meaning, KeepsOthers, CountsFaults, EndsAtFaults, LeavesFiles, RefusesWork, Headlines};
 ghost use Rattle.pv_tool.specs.Top.{RunsOnBare, RunsOnHost, Compared, WorkDone, WorkRefused, BurnsAll, LinksAll, ChecksAll};
 ghost use Rattle.pv_tool.specs.Top.{SharesAll, SavesAll, SavesAgain, ContinuesAll, Proves, ProvesAll, Judges, JudgesAll};
@@ -166,7 +166,7 @@ fn do_command<F: Files, S: Sink, H: Host>(
     requires room { H.retired host.old ≤ 2 ^ 63 }
     ensures meaning { Means (command_view command.entry)
         (outside F.Files S.Sink H.Host (files.old, files.new) (out.old, out.new) (host.old, host.new)) result }
-    ensures counts { Counts (command_view command.entry)
+    ensures counts { FaultCounts (command_view command.entry)
         (outside F.Files S.Sink H.Host (files.old, files.new) (out.old, out.new) (host.old, host.new)) }
     ensures leaves { result ≡ Status.Done → Leaves (command_view command.entry) (F.held files.old) (F.held files.new) }
     ensures host { is_on_host (Some (command_view command.entry)) ≡ false → host.new ≡ host.old }

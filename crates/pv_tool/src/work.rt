@@ -12,7 +12,7 @@ ghost use Rattle.pv_build.specs.Telling.{RefusesAs};
 ghost use Rattle.pv_tool.specs.Working.{first_text, second_setting};
 ghost use Rattle.pv_tool.specs.Told.{HasTexts, IsTooLarge, WorkedAs};
 
-use crate::keeping::Kept;
+use crate::keeping::TextSink;
 use crate::patched::patched_run;
 use bare_machine::run_fresh;
 use board::Script;
@@ -69,7 +69,7 @@ fn fresh(alloc: Global, image: &Checked, events: &Script) -> Result<Vec<u8>, Hal
     ensures fits { IfOk result (λ text. need image.now ≤ 4096) }
     ensures refused { IfErr result (RefusesAs (λ line. (4096 < need image.now) × (line ≡ small_line (need image.now) 4096))) }
 {
-    let mut kept = Kept::new(alloc);
+    let mut kept = TextSink::new(alloc);
     match run_fresh(alloc, image, events, FRAMES, STEPS, &mut kept) {
         Ok(_) => Ok(kept.into_text()),
         Err(fault) => Err(halt_of(alloc, fault)),
@@ -91,7 +91,7 @@ fn patched<H: Host>(
         × HasOwnFills (second_setting image.now) 100000 512 run.sets run.last end run.run.ends ran.1) }
     ensures refused { IfErr result (RefusesAs (IsTooLarge image.now (counts_of H.Host host.old) (counts_of H.Host host.new))) }
 {
-    let mut kept = Kept::new(alloc);
+    let mut kept = TextSink::new(alloc);
     match patched_run(alloc, image, events, FRAMES, STEPS, host, &mut kept) {
         Ok(ended) => Ok((kept.into_text(), ended.fills)),
         Err(fault) => Err(halt_of(alloc, fault)),
