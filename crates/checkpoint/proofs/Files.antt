@@ -16,7 +16,8 @@ use Rattle.checkpoint.specs.Ranges.{IsSized}
 use Rattle.checkpoint.specs.Head.{spelled, head_at}
 use Rattle.checkpoint.specs.Demands.{first_bad}
 use Rattle.checkpoint.specs.Form.{demands}
-use Rattle.checkpoint.specs.States.{head_of, cpu_of, checkpoint_bytes, front, size, misses, fault_of, state_by, unless, checkpoint_in, IsInForm}
+use Rattle.checkpoint.specs.States.{head_of, cpu_of, checkpoint_bytes, front, size, misses, fault_of, state_by, unless, checkpoint_in}
+use Rattle.checkpoint.specs.InForm.{IsInForm}
 use Rattle.checkpoint.proofs.Heads.{length-spelled, head_back, spelled_again}
 use Rattle.checkpoint.proofs.Boards.{board_again}
 use Rattle.checkpoint.proofs.AllMet.{Groups, groups_from_none, none_from_groups}

@@ -16,7 +16,7 @@ use Rattle.wedge_step.proofs.Memories.{text_within}
 use Rattle.wedge_core.specs.OfRoots.{of_roots}
 use Rattle.wedge_core.specs.Scenes.{IsHeldIn, IsReadyIn}
 use Rattle.checkpoint.specs.Guests.{GoesOnFrom}
-use Rattle.checkpoint.specs.States.{IsInForm}
+use Rattle.checkpoint.specs.InForm.{IsInForm}
 use Rattle.checkpoint.specs.Moved.{kept_of}
 use Rattle.checkpoint.proofs.Seats.{shown_long}
 

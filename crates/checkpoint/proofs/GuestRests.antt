@@ -14,7 +14,7 @@ use Rattle.machine_model.specs.Run.{Run, trace_of}
 use Rattle.wedge_core.specs.Slices.{Filling, Noting, Outward, SliceAs}
 use Rattle.wedge_core.proofs.RunPieces.{put_both}
 use Rattle.wedge_core.proofs.WholeRuns.{ends_by, count_by}
-use Rattle.checkpoint.specs.States.{IsInForm}
+use Rattle.checkpoint.specs.InForm.{IsInForm}
 use Rattle.checkpoint.specs.Moved.{kept_of}
 use Rattle.checkpoint.specs.Rested.{RestsTo}
 use Rattle.checkpoint.specs.RestAnswers.{RestsWith, host_counts}

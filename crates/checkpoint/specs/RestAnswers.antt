@@ -13,7 +13,7 @@ use Rattle.machine_model.specs.State.{Setting, boot}
 use Rattle.wedge_core.specs.Counts.{Counts, CountsOn}
 use Rattle.checkpoint.specs.declared.rested.Rested.{Rested}
 use Rattle.checkpoint.specs.declared.rested.Rested.TheVariants.{At, Stopped}
-use Rattle.checkpoint.specs.States.{IsInForm}
+use Rattle.checkpoint.specs.InForm.{IsInForm}
 use Rattle.checkpoint.specs.Moved.{kept_of}
 use Rattle.checkpoint.specs.Rested.{Counting, RestsTo}
 

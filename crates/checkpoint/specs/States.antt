@@ -1,5 +1,5 @@
 -- A checkpoint: what bytes are those of a state, and what state bytes say, or where they are bad first.
-use Rattle.std.specs.Prelude.{◌≡◌, ℕ, ◌+◌, ◌-◌, ◌*◌, ◌/◌, ◌%◌, ◌^◌, ◌≤◌, ◌==◌, List, [], ◌∷◌, ◌++◌, take, drop, length, replicate, Option, Some, None, Result, Ok, Err, nat_lt, if◌then◌else◌}
+use Rattle.std.specs.Prelude.{ℕ, ◌+◌, ◌-◌, ◌*◌, ◌/◌, ◌==◌, List, [], ◌∷◌, ◌++◌, take, drop, length, replicate, Option, Some, None, Result, Ok, Err, nat_lt, if◌then◌else◌}
 use Rattle.std.specs.Option.{option_or}
 use Rattle.ia32_types.specs.Bits.{worth}
 use Rattle.descriptors.specs.declared.cpu.Cpu.{Cpu}
@@ -7,11 +7,7 @@ use Rattle.descriptors.specs.declared.cpu.Hidden.{Hidden}
 use Rattle.descriptors.specs.Segments.{seg_of}
 use Rattle.board.specs.Saved.{saved}
 use Rattle.board.specs.Restored.{board_at}
-use Rattle.machine_model.specs.Fit.{Fit}
 use Rattle.checkpoint.specs.declared.state.State.{State}
-use Rattle.checkpoint.specs.declared.state.CheckpointFault.{CheckpointFault}
-use Rattle.checkpoint.specs.declared.state.CheckpointFault.TheVariants.{At, Memory}
-use Rattle.checkpoint.specs.declared.state.CheckpointCause.TheVariants as cause
 use Rattle.checkpoint.specs.declared.head.Head.{Head}
 use Rattle.checkpoint.specs.declared.head.Segment.{Segment}
 use Rattle.checkpoint.specs.Head.{spelled, head_at}
@@ -102,21 +98,3 @@ unless (Some at) state = Err at
 -- the state that bytes say, or the first bad place
 unfoldable pub checkpoint_in : List ℕ → Result State ℕ
 checkpoint_in bytes = let h = head_at (front bytes) in unless (fault_of h (length bytes)) (state_by h (drop 256 bytes))
-
--- What `read_checkpoint` returned is what reading gives, unless memory ran out.
-abbrev pub Fails : CheckpointFault → Result State ℕ → Type 0
-Fails Memory read = Unit {0}
-Fails (At at cause.Form) read = read ≡ Err at
-Fails (At at cause.TextChanged) read = ⊥
-Fails (At at cause.UserFlags) read = ⊥
-Fails (At at cause.StepsPast) read = ⊥
-
-abbrev pub Gives : Result State CheckpointFault → Result State ℕ → Type 0
-Gives (Ok state) read = read ≡ Ok state
-Gives (Err fault) read = Fails fault read
-
--- what a state meets that a checkpoint can be made of
-pub record IsInForm (s : State) : Type 0 where
-  pub step : s.step ≤ 2 ^ 40
-  pub ram : (2048 * 4096 ≤ length s.ram) × (length s.ram ≤ 16384 * 4096) × (length s.ram % 4096 ≡ 0)
-  pub fit : Fit s.cpu

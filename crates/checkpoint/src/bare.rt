@@ -4,7 +4,7 @@ ghost use Rattle.std.specs.Prelude.{◌≡◌, ◌*◌, ◌≤◌, ◌^◌, leng
 ghost use Rattle.std.specs.FinMap.{empty};
 ghost use Rattle.machine_model.specs.Fit.{Fit};
 ghost use Rattle.bare_machine.specs.Machine.{state_of, IsKept};
-ghost use Rattle.checkpoint.specs.States.{IsInForm};
+ghost use Rattle.checkpoint.specs.InForm.{IsInForm};
 ghost use Rattle.checkpoint.specs.Moved.{rested_from, kept_of};
 
 use crate::state::State;

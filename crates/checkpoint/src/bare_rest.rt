@@ -6,7 +6,7 @@ ghost use Rattle.image_check.specs.Image.{Image};
 ghost use Rattle.machine_model.specs.Fit.{Fit};
 ghost use Rattle.bare_machine.specs.Machine.{state_of, IsKept};
 ghost use Rattle.bare_machine.specs.Settings.{bare};
-ghost use Rattle.checkpoint.specs.States.{IsInForm};
+ghost use Rattle.checkpoint.specs.InForm.{IsInForm};
 ghost use Rattle.checkpoint.specs.Moved.{rested_from};
 ghost use Rattle.checkpoint.specs.RestAnswers.{RestsAs, RestsFromStart, no_counts};
 

@@ -5,7 +5,7 @@ ghost use Rattle.board.specs.Scripts.{is_script};
 ghost use Rattle.image_check.specs.Image.{Image};
 ghost use Rattle.bare_machine.specs.Answers.{WholeAs};
 ghost use Rattle.bare_machine.specs.Settings.{bare};
-ghost use Rattle.checkpoint.specs.States.{IsInForm};
+ghost use Rattle.checkpoint.specs.InForm.{IsInForm};
 ghost use Rattle.checkpoint.specs.Moved.{rested_from};
 
 use crate::bare::bare_from;

@@ -13,7 +13,7 @@ ghost use Rattle.wedge_core.specs.OfRoots.{of_roots};
 ghost use Rattle.wedge_core.specs.Scenes.{IsHeldIn};
 ghost use Rattle.wedge_core.specs.Stepped.{CountsNone};
 ghost use Rattle.checkpoint.specs.Guests.{GoesOnFrom, state_at};
-ghost use Rattle.checkpoint.specs.States.{IsInForm};
+ghost use Rattle.checkpoint.specs.InForm.{IsInForm};
 ghost use Rattle.checkpoint.specs.Moved.{rested_from, kept_of};
 
 use crate::state::State;

@@ -10,7 +10,7 @@ ghost use Rattle.wedge_step.specs.Scene.{scene, state_in};
 ghost use Rattle.wedge_step.specs.Standing.{IsAble};
 ghost use Rattle.wedge_core.specs.Surroundings.{around};
 ghost use Rattle.wedge_core.specs.OfRoots.{of_roots};
-ghost use Rattle.checkpoint.specs.States.{IsInForm};
+ghost use Rattle.checkpoint.specs.InForm.{IsInForm};
 ghost use Rattle.checkpoint.specs.Moved.{rested_from};
 ghost use Rattle.checkpoint.specs.Continued.{WedgeGoesTo};
 

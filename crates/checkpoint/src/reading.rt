@@ -2,7 +2,8 @@
 
 ghost use Rattle.std.specs.Prelude.{◌≡◌, ◌+◌, ◌*◌, ◌≤◌, ◌<◌, ◌^◌, IfOk, IfNone, IfSome, length, drop};
 ghost use Rattle.checkpoint.specs.Head.{head_at};
-ghost use Rattle.checkpoint.specs.States.{IsInForm, checkpoint_bytes, checkpoint_in, front, size, misses, fault_of, Gives};
+ghost use Rattle.checkpoint.specs.States.{checkpoint_bytes, checkpoint_in, front, size, misses, fault_of};
+ghost use Rattle.checkpoint.specs.InForm.{IsInForm, Gives};
 
 use crate::form::bad_field;
 use crate::head::{Head, head_at};

@@ -1,7 +1,8 @@
 //! Writing a checkpoint.
 
 ghost use Rattle.std.specs.Prelude.{◌≡◌, Ok, IfOk};
-ghost use Rattle.checkpoint.specs.States.{IsInForm, checkpoint_bytes, checkpoint_in};
+ghost use Rattle.checkpoint.specs.States.{checkpoint_bytes, checkpoint_in};
+ghost use Rattle.checkpoint.specs.InForm.{IsInForm};
 
 use crate::head::put_head;
 use crate::processor::head_of;

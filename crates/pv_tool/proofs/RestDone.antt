@@ -15,7 +15,8 @@ use Rattle.machine_model.specs.Step.{Report}
 use Rattle.checkpoint.specs.declared.state.State.{State}
 use Rattle.checkpoint.specs.declared.rested.Rested.{Rested}
 use Rattle.checkpoint.specs.declared.rested.Rested.TheVariants as rest
-use Rattle.checkpoint.specs.States.{IsInForm, checkpoint_bytes}
+use Rattle.checkpoint.specs.States.{checkpoint_bytes}
+use Rattle.checkpoint.specs.InForm.{IsInForm}
 use Rattle.checkpoint.specs.Moved.{rested_from}
 use Rattle.checkpoint.specs.Fits.{fits_of}
 use Rattle.checkpoint.specs.RestAnswers.{NothingDone, RestsWith, RestsAs, RestsFromStart}

@@ -13,7 +13,7 @@ use Rattle.wedge_core.specs.Surroundings.{Around}
 use Rattle.checkpoint.specs.declared.state.State.{State}
 use Rattle.checkpoint.specs.declared.rested.Rested.{Rested}
 use Rattle.checkpoint.specs.declared.rested.Rested.TheVariants as rest
-use Rattle.checkpoint.specs.States.{IsInForm}
+use Rattle.checkpoint.specs.InForm.{IsInForm}
 use Rattle.checkpoint.specs.Moved.{rested_from}
 use Rattle.checkpoint.specs.RestAnswers.{RestsAs, RestsFromStart}
 use Rattle.checkpoint.specs.Continued.{WedgeGoesTo}

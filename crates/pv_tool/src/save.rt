@@ -6,7 +6,7 @@ ghost use Rattle.board.specs.Scripts.{is_script};
 ghost use Rattle.machine_model.specs.Able.{IsAble};
 ghost use Rattle.wedge_core.specs.Counts.{Counts as HostCounts};
 ghost use Rattle.wedge_core.specs.Surroundings.{around};
-ghost use Rattle.checkpoint.specs.States.{IsInForm};
+ghost use Rattle.checkpoint.specs.InForm.{IsInForm};
 ghost use Rattle.pv_tool.specs.View.{AreWithin, save_command, save_from_command};
 ghost use Rattle.pv_tool.specs.Outside.{beside, outside};
 ghost use Rattle.pv_tool.specs.Unread.{NotRead};

@@ -3,7 +3,7 @@ use Rattle.run_trace.specs.declared.pause.Pause.{Pause}
 use Rattle.bare_machine.specs.Machine.{state_of}
 use Rattle.bare_machine.specs.Settings.{bare}
 use Rattle.bare_machine.specs.Slices.{SliceAs}
-use Rattle.checkpoint.specs.States.{IsInForm}
+use Rattle.checkpoint.specs.InForm.{IsInForm}
 use Rattle.checkpoint.proofs.BareRests.{reached_so, bare_rests, bare_stops, bare_unput, bare_fails}
 use Rattle.checkpoint.proofs.bare_rest.rest_bare.Goals as goal
 

@@ -1,5 +1,5 @@
 use Rattle.std.proofs.Common.{◌≡◌, ℕ, ◌+◌, ◌-◌, ◌*◌, length, refl, subst, ◌∙◌, inr, arith}
-use Rattle.checkpoint.specs.States.{IsInForm}
+use Rattle.checkpoint.specs.InForm.{IsInForm}
 use Rattle.checkpoint.specs.Moved.{kept_of}
 use Rattle.machine_model.specs.State.{State, wedge}
 use Rattle.shadow_cache.specs.Views as roots
