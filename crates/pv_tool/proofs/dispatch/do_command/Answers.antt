@@ -5,7 +5,7 @@ use Rattle.pv_build.proofs.Readings.{read_none}
 use Rattle.pv_tool.proofs.Deliveries.{counts_host}
 use Rattle.pv_tool.proofs.RestLaws.{bare_mode}
 use Rattle.pv_tool.proofs.WorkMeanings.{work_means, work_no_read}
-use Rattle.pv_tool.proofs.tool.do_command.Goals as goal
+use Rattle.pv_tool.proofs.dispatch.do_command.Goals as goal
 
 pub returns-in-Burn-clause-meaning : goal.returns-in-Burn-clause-meaning
 returns-in-Burn-clause-meaning g c = rw c.in-Burn.is (c.burn.ensures.meaning (counts_of g.H.Host c.args.host.now) (g.H.Host.bytes c.args.host.now))

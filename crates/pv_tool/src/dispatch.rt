@@ -1,0 +1,68 @@
+//! Which part of the program does the work of which command.
+
+ghost use Rattle.std.specs.Prelude.{◌≡◌, ◌≢◌, ◌≤◌, ◌^◌, false, Some};
+ghost use Rattle.pv_tool.specs.View.{command_view, IsWithin};
+ghost use Rattle.pv_tool.specs.Outside.{outside};
+ghost use Rattle.pv_tool.specs.Faulting.{FaultsEnd};
+ghost use Rattle.pv_tool.specs.Meaning.{Means, FaultCounts, Leaves, is_on_host, reads_files};
+
+use crate::burn::burn;
+use crate::check::check;
+use crate::continuing::go_on;
+use crate::link::link;
+use crate::mode::RunMode;
+use crate::prove::prove;
+use crate::replay::replay;
+use crate::run::run;
+use crate::save::{save, save_from};
+use crate::share::share;
+use crate::words::CommandWords;
+use crate::work::work;
+use host_cpl3::Host;
+use pv_build::Status;
+use pv_io::{Files, Sink};
+use std::alloc::Global;
+
+/// Does the work of a command.
+#[tactic(auto, using(crate::proofs::Faults::ends_none))]
+pub fn do_command<F: Files, S: Sink, H: Host>(
+    alloc: Global,
+    command: CommandWords<'_>,
+    files: &mut F,
+    out: &mut S,
+    host: &mut H,
+) -> Status
+    requires within { IsWithin command }
+    requires room { H.retired host.old ≤ 2 ^ 63 }
+    ensures meaning { Means (command_view command.entry)
+        (outside F.Files S.Sink H.Host (files.old, files.new) (out.old, out.new) (host.old, host.new)) result }
+    ensures counts { FaultCounts (command_view command.entry)
+        (outside F.Files S.Sink H.Host (files.old, files.new) (out.old, out.new) (host.old, host.new)) }
+    ensures leaves { result ≡ Status.Done → Leaves (command_view command.entry) (F.held files.old) (F.held files.new) }
+    ensures host { is_on_host (Some (command_view command.entry)) ≡ false → host.new ≡ host.old }
+    ensures files { reads_files (Some (command_view command.entry)) ≡ false → (files.new ≡ files.old) × (result ≢ Status.ReadFault) }
+    ensures ends { FaultsEnd F.Files files.old files.new result }
+{
+    match command {
+        CommandWords::Burn { source, object } => burn(alloc, source, object, files, out),
+        CommandWords::Link { image, objects } => link(alloc, image, objects, files, out),
+        CommandWords::Check(image) => check(alloc, image, files, out),
+        CommandWords::RunBare(words) => run(alloc, RunMode::Bare, words, files, out, host),
+        CommandWords::RunWedge(words) => run(alloc, RunMode::Wedge, words, files, out, host),
+        CommandWords::Work(number) => work(alloc, number, out, host),
+        CommandWords::Share(words) => share(alloc, words, files, out, host),
+        CommandWords::Save { mode, run, file } => save(alloc, mode, run, file, files, out, host),
+        CommandWords::SaveFrom { mode, rest, new } => {
+            save_from(alloc, mode, rest, new, files, out, host)
+        }
+        CommandWords::Continue { mode, rest } => go_on(alloc, mode, rest, files, out, host),
+        CommandWords::Prove { run, certificate } => {
+            prove(alloc, run, certificate, files, out, host)
+        }
+        CommandWords::Replay {
+            run,
+            certificate,
+            text,
+        } => replay(alloc, run, certificate, text, files, out),
+    }
+}
