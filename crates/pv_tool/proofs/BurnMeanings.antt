@@ -5,6 +5,7 @@ use Rattle.asm_lex.specs.declared.fault.SourceCause.{SourceCause}
 use Rattle.asm_source.specs.declared.tree.SourceItem.{SourceItem}
 use Rattle.asm_parse.specs.Source.{SourceAs}
 use Rattle.asm_parse.proofs.Sources.{is_read}
+use Rattle.asm_parse.proofs.OneCause.{one_fault, no_reading}
 use Rattle.elf_form.specs.ObjectParts.{ObjectParts}
 use Rattle.elf_form.specs.ObjectLayout.{object_bytes}
 use Rattle.afterburner.specs.Burnt.{Fault, burnt}
@@ -43,15 +44,15 @@ read_once text i j h k =
 
 read_or_not : (text : List ℕ) (i : List SourceItem) (fault : ℕ × SourceCause) → SourceAs text i → IsNoSource text fault → ⊥
 read_or_not text i fault h (inl k) = absurd (omega (arith, h.0, k.0))
-read_or_not text i fault h (inr k) =
-    let a = is_read text i h.1 in
-    cc (a.1, k.1)
+read_or_not text i fault h (inr k) = no_reading text k.1 (i, h.1)
 
 fault_once : (text : List ℕ) (f g : ℕ × SourceCause) → IsNoSource text f → IsNoSource text g → f ≡ g
 fault_once text f g (inl h) (inl k) = h.1 ∙ sym k.1
 fault_once text f g (inl h) (inr k) = absurd (omega (arith, h.0, k.0))
 fault_once text f g (inr h) (inl k) = absurd (omega (arith, h.0, k.0))
-fault_once text f g (inr h) (inr k) = cc (h.1, k.1)
+fault_once text f g (inr h) (inr k) =
+    let one = one_fault text h.1 k.1 in
+    λ i. (one.0 i, one.1 i)
 
 -- a text says one thing
 pub said_once : (text : List ℕ) (r s : Result (List SourceItem) (ℕ × SourceCause)) → SaysSource text r → SaysSource text s → r ≡ s
