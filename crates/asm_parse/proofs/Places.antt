@@ -32,7 +32,8 @@ use Rattle.asm_statement.specs.Items.{is_part, is_rep, is_passed}
 use Rattle.asm_argument.specs.Operand.{is_unbegun, is_nothing, awaits_register}
 use Rattle.asm_argument.specs.Shapes.{is_operand}
 use Rattle.asm_statement.specs.Directives.{shape_at, is_instruction, directive_of, is_dotted, is_section}
-use Rattle.asm_statement.specs.Statement.{misplaced, noting, with_scope, nothing_yet, argument_step, labelled, label, rep_step, section_name, of_directive, directive_step, unless_skipping, named_step, sectioned_step, step, skip, is_unknown, is_taken, lacks_names, doom, fault_line, is_place, strayed, next_step, pending}
+use Rattle.asm_statement.specs.Statement.{noting, with_scope, nothing_yet, argument_step, labelled, label, rep_step, section_name, of_directive, directive_step, unless_skipping, named_step, sectioned_step, step, skip, is_unknown, is_taken, lacks_names, doom, fault_line, is_place, strayed, next_step, pending}
+use Rattle.asm_statement.specs.Openings.{misplaced}
 use Rattle.asm_parse.specs.Statements.{IsArgument, has_list, is_inner, Statement, terminals, Touch}
 use Rattle.asm_parse.specs.Refusals.{StatementPlace, Leads, Opens, LeadsTo, last_of, is_percent, other_cause, name_cause, operand_cause, value_cause, directive_cause, named_cause, cause_at, percent_cause, behind_cause, refused_cause, byte_cause}
 use Rattle.asm_argument.proofs.Operands.{run_spelled, spelled_form, Spelled}

@@ -19,7 +19,8 @@ use Rattle.asm_statement.specs.Scope.{has_room, noted, defined_too}
 use Rattle.asm_argument.specs.Operand.{counted, allowed, registered, first, next_terminal, operand_step, is_finished, is_unbegun, name_in}
 use Rattle.asm_argument.specs.Shapes.{is_operand, takes_names, takes_sums, takes_minus, takes_numbers, takes_text, fits, is_low, is_register, is_scale}
 use Rattle.asm_statement.specs.Directives.{shape_at, defines}
-use Rattle.asm_statement.specs.Statement.{noting, misplaced, argument_cause}
+use Rattle.asm_statement.specs.Statement.{noting, argument_cause}
+use Rattle.asm_statement.specs.Openings.{misplaced}
 use Rattle.asm_parse.specs.Refusals.{name_cause, operand_cause, takes_name, value_cause}
 use Rattle.asm_argument.proofs.Operands.{ok, registered_ok, Spelled}
 use Rattle.asm_parse.proofs.Tails.{percents, indexed, minuses, signs, frees, Tail}

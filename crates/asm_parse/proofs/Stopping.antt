@@ -23,7 +23,8 @@ use Rattle.asm_statement.specs.ScopeView.{ScopeView}
 use Rattle.asm_argument.specs.Operand.{next_terminal, operand_step, is_finished, is_unbegun, is_nothing, name_in}
 use Rattle.asm_argument.specs.Shapes.{is_operand, takes_names}
 use Rattle.asm_statement.specs.Directives.{shape_at, directive_shape, least, defines, is_instruction}
-use Rattle.asm_statement.specs.Statement.{noting, misplaced, argument_cause, cause_in, after_noting, with_name, after_step, at_shape, within, argument_of, ended, ended_as, comma_behind, end_behind, complete, is_bare, takes_star, with_scope, argument_step}
+use Rattle.asm_statement.specs.Statement.{noting, argument_cause, cause_in, after_noting, with_name, after_step, at_shape, within, argument_of, ended, ended_as, comma_behind, end_behind, complete, is_bare, takes_star, with_scope, argument_step}
+use Rattle.asm_statement.specs.Openings.{misplaced}
 use Rattle.asm_parse.specs.Refusals.{name_cause, takes_name, value_cause, in_argument}
 use Rattle.asm_argument.proofs.Operands.{ok, allowed_ok, Spelled}
 use Rattle.asm_parse.proofs.Names.{named_in, name_step, is_finished_some, operand_next}

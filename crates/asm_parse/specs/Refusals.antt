@@ -25,7 +25,7 @@ use Rattle.asm_source.specs.Names.{holds}
 use Rattle.asm_statement.specs.Scope.{fresh}
 use Rattle.asm_argument.specs.Shapes.{takes_names, is_low, is_register}
 use Rattle.asm_statement.specs.Directives.{shape_at, defines, is_instruction, is_dotted, directive_of, is_section}
-use Rattle.asm_statement.specs.Statement.{misplaced}
+use Rattle.asm_statement.specs.Openings.{misplaced}
 use Rattle.asm_statement.specs.Items.{is_passed, is_rep}
 use Rattle.asm_parse.specs.Statements.{IsArgument, Separated, has_list, is_inner, Statement, terminals, Statements}
 use Rattle.asm_argument.specs.Terminals.{terminal_of}

@@ -27,19 +27,7 @@ use Rattle.asm_statement.specs.Scope.{has_room, is_spent, fresh, pushed, noted, 
 use Rattle.asm_argument.specs.Operand.{operand_step, begun, finished, is_finished, is_nothing, is_unbegun, awaits_register, name_in}
 use Rattle.asm_argument.specs.Shapes.{is_register}
 use Rattle.asm_statement.specs.Items.{item_of, resumed, sectioned, is_rep, is_passed}
-
--- a token with which no argument begins
-abbrev pub begins_nothing : Terminal → Bool
-begins_nothing terminal.Plus = true
-begins_nothing terminal.Close = true
-begins_nothing terminal.Colon = true
-begins_nothing terminal.At = true
-begins_nothing _ = false
-
--- where an argument of another kind, or none, stands in an argument's place
-abbrev pub misplaced : Terminal → SourceCause
-misplaced terminal.Big = cause.BadNumber
-misplaced s = if begins_nothing s then cause.BadOperand else cause.BadArgument
+use Rattle.asm_statement.specs.Openings.{misplaced}
 
 -- a fault in an argument of a directive
 abbrev pub argument_cause : Bool → SourceCause → SourceCause → SourceCause

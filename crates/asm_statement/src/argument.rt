@@ -2,6 +2,7 @@
 
 ghost use Rattle.std.specs.Prelude.{◌≡◌, length};
 ghost use Rattle.asm_argument.specs.declared.terminal.Terminal.TheVariants as terminal;
+ghost use Rattle.asm_statement.specs.Openings as openings;
 ghost use Rattle.asm_statement.specs.Statement as spec;
 
 use crate::directive::{Directive, Head, defines, is_instruction, least, shape_at};
@@ -18,7 +19,7 @@ use std::alloc::Global;
 
 /// Whether no argument begins with the terminal.
 fn begins_nothing(terminal: &Terminal) -> bool
-    ensures { result ≡ spec.begins_nothing terminal.now }
+    ensures { result ≡ openings.begins_nothing terminal.now }
 {
     match terminal {
         Terminal::Plus | Terminal::Close | Terminal::Colon | Terminal::At => true,
@@ -28,7 +29,7 @@ fn begins_nothing(terminal: &Terminal) -> bool
 
 /// Where an argument of another kind, or none, stands in an argument's place.
 pub fn misplaced(terminal: &Terminal) -> SourceCause
-    ensures { result ≡ spec.misplaced terminal.now }
+    ensures { result ≡ openings.misplaced terminal.now }
 {
     if let Terminal::Big = terminal {
         return SourceCause::BadNumber;
