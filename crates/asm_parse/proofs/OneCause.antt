@@ -14,7 +14,7 @@ use Rattle.asm_statement.specs.Scope.{fresh}
 use Rattle.asm_argument.specs.Terminals.{terminal_of}
 use Rattle.asm_statement.specs.Statement.{doom, fault_line}
 use Rattle.asm_statement.specs.Reading.{placed, next_word}
-use Rattle.asm_parse.specs.Source.{HasReading}
+use Rattle.asm_parse.specs.Reads.{HasReading}
 use Rattle.asm_statement.specs.Running.{◌>>=◌, read, Parses}
 use Rattle.asm_parse.specs.Statements.{terminals, Statements}
 use Rattle.asm_parse.specs.Refusals.{Ending, Worded, IsBeginning, IsNoBeginning, StatementPlace, Reaches, refused_cause, byte_cause, Refused}

@@ -16,7 +16,8 @@ use Rattle.asm_statement.specs.declared.state.StatementState.TheVariants as stat
 use Rattle.asm_statement.specs.ScopeView.{ScopeView}
 use Rattle.asm_statement.specs.Scope.{fresh}
 use Rattle.asm_lex.specs.Lines.{first_lines}
-use Rattle.asm_parse.specs.Source.{Says, SourceAs, ReadsAs, DeadAt, GoesOn, AliveBefore}
+use Rattle.asm_parse.specs.Source.{Says, SourceAs}
+use Rattle.asm_parse.specs.Reads.{ReadsAs, DeadAt, GoesOn, AliveBefore}
 use Rattle.asm_statement.specs.Running.{Running, closed, run, start, read, Parses}
 use Rattle.asm_parse.proofs.Words.{read_words}
 use Rattle.asm_parse.proofs.Lines.{bind_ok}

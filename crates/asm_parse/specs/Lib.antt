@@ -1,3 +1,4 @@
 pub mod Statements
 pub mod Source
+pub mod Reads
 pub mod Refusals

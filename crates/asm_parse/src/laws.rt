@@ -3,7 +3,8 @@
 ghost use Rattle.std.specs.Prelude.{◌≡◌, List, ℕ};
 ghost use Rattle.asm_source.specs.declared.tree.SourceItem.{SourceItem};
 ghost use Rattle.asm_lex.specs.declared.fault.SourceCause.{SourceCause};
-ghost use Rattle.asm_parse.specs.Source.{SourceAs, HasReading};
+ghost use Rattle.asm_parse.specs.Source.{SourceAs};
+ghost use Rattle.asm_parse.specs.Reads.{HasReading};
 ghost use Rattle.asm_parse.specs.Refusals.{Refused};
 ghost use Rattle.asm_source.specs.Readable.{IsReadable};
 

@@ -2,7 +2,8 @@
 
 ghost use Rattle.std.specs.Prelude.{◌≡◌, ◌≤◌, ◌<◌, ℕ, length, List, IfOk};
 ghost use Rattle.asm_source.specs.declared.tree.SourceItem.{SourceItem};
-ghost use Rattle.asm_parse.specs.Source.{SourceAs, ReadsAs, DeadAt, AliveBefore};
+ghost use Rattle.asm_parse.specs.Source.{SourceAs};
+ghost use Rattle.asm_parse.specs.Reads.{ReadsAs, DeadAt, AliveBefore};
 ghost use Rattle.asm_source.specs.Readable.{IsReadable};
 ghost use Rattle.asm_source.specs.Size.{items_size, items_count};
 ghost use Rattle.asm_lex.specs.declared.fault.SourceCause.TheVariants.{TooLong};

@@ -3,7 +3,8 @@ use Rattle.std.specs.Prelude.{IfOk}
 use Rattle.asm_source.specs.declared.tree.SourceItem.{SourceItem}
 use Rattle.asm_source.specs.Readable.{IsReadable}
 use Rattle.asm_source.specs.Size.{items_size, items_count}
-use Rattle.asm_parse.specs.Source.{SourceAs, ReadsAs}
+use Rattle.asm_parse.specs.Source.{SourceAs}
+use Rattle.asm_parse.specs.Reads.{ReadsAs}
 use Rattle.asm_parse.proofs.Lengths.{by_length}
 use Rattle.asm_parse.proofs.Sources.{parsed_is, are_parsed, none_parsed, refused_line, refused_alive}
 use Rattle.asm_parse.proofs.Sizes.{parsed_size, parsed_count}
