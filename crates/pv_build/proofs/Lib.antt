@@ -3,7 +3,6 @@ pub mod Readings
 pub mod Failures
 mod Sources
 mod Objects
-mod Kernels
 mod Builds
 mod LineTexts
 mod WorkLines

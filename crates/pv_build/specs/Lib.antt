@@ -12,8 +12,3 @@ pub mod Images
 pub mod Scripts
 pub mod Building
 pub mod Comparing
-pub mod Kernels
-pub mod ScheduleLines
-pub mod CertificateLines
-pub mod Checkpoints
-pub mod Certificates

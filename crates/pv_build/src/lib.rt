@@ -2,13 +2,9 @@
 #![tactic(auto)]
 
 mod build;
-mod certificate_lines;
-mod certificates;
-mod checkpoints;
 mod comparing;
 mod halt;
 mod image;
-mod kernel;
 mod lines;
 mod made;
 mod number_words;
@@ -20,18 +16,14 @@ mod telling;
 mod texts;
 
 pub use build::built;
-pub use certificate_lines::{no_certificate_line, verdict_line};
-pub use certificates::{Replayable, certificate_file, replayable_in_files};
-pub use checkpoints::{Resumable, checkpoint_file, resumable_in_files};
 pub use comparing::{Texts, tell_both};
 pub use halt::{Halt, Line};
 pub use image::{accepted, accepted_line, image_file};
-pub use kernel::{Shared, shared_in_files};
-pub use lines::{line_line, link_line, small_line};
+pub use lines::{line_line, link_line, place_line, small_line};
 pub use made::Made;
 pub use number_words::number;
 pub use object::{object_file, objects_in};
 pub use script::{Runnable, runnable_in_files};
 pub use source::source_in_file;
 pub use status::Status;
-pub use telling::{end, print, refused, tell_run};
+pub use telling::{end, load, print, refused, tell_run};

@@ -12,8 +12,8 @@ use Rattle.checkpoint.specs.declared.state.State.{State}
 use Rattle.checkpoint.specs.Fits.{fits_of}
 use Rattle.pv_build.specs.Images.{HasImage}
 use Rattle.pv_build.specs.Scripts.{HasScript}
-use Rattle.pv_build.specs.Kernels.{KernelNames, IsShared}
-use Rattle.pv_build.specs.Checkpoints.{HasState}
+use Rattle.pv_runs.specs.Kernels.{KernelNames, IsShared}
+use Rattle.pv_runs.specs.Checkpoints.{HasState}
 use Rattle.pv_build.specs.declared.status.Status.{Status}
 use Rattle.pv_build.specs.declared.status.Status.TheVariants as status
 use Rattle.pv_tool.specs.Words.{Command, Share, Save, SaveFrom, Continue}

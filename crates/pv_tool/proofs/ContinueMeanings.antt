@@ -21,7 +21,7 @@ use Rattle.pv_build.specs.Telling.{Whole, Cut, ToldAs}
 use Rattle.pv_build.specs.Statuses.{status_of}
 use Rattle.pv_build.specs.Images.{HasImage}
 use Rattle.pv_build.specs.Scripts.{HasScript}
-use Rattle.pv_build.specs.Checkpoints.{HasState, NoResumption, NothingToRun, NoState, Unfit}
+use Rattle.pv_runs.specs.Checkpoints.{HasState, NoResumption, NothingToRun, NoState, Unfit}
 use Rattle.pv_build.specs.declared.status.Status.{Status}
 use Rattle.pv_tool.specs.Words.{Command}
 use Rattle.pv_tool.specs.Outside.{Outside}

@@ -20,7 +20,7 @@ use Rattle.checkpoint.specs.States.{checkpoint_bytes, checkpoint_in}
 use Rattle.checkpoint.specs.Moved.{kept_of, rested_from}
 use Rattle.checkpoint.specs.Fits.{fits_of}
 use Rattle.checkpoint.specs.Legs.{Leg, Legs, in_mode, rested, reports_of, LegsAreARun, LegsAreParts}
-use Rattle.pv_build.specs.Checkpoints.{HasState}
+use Rattle.pv_runs.specs.Checkpoints.{HasState}
 use Rattle.pv_build.specs.declared.status.Status.{Status}
 use Rattle.pv_build.specs.declared.status.Status.TheVariants as status
 use Rattle.pv_tool.specs.Outcome.{Outcome, refused, HasEnded}

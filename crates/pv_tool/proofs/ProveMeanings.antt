@@ -21,7 +21,7 @@ use Rattle.trace_check.specs.Form.{choices_bytes, most_choices}
 use Rattle.trace_check.specs.Kept.{Kept, AreKept, choices_of}
 use Rattle.trace_check.specs.Proved.{IsProved}
 use Rattle.trace_check.specs.Noted.{NotedAnswers}
-use Rattle.pv_build.specs.CertificateLines.{certificate_line, no_certificate_line}
+use Rattle.pv_runs.specs.CertificateLines.{certificate_line, no_certificate_line}
 use Rattle.pv_build.specs.Lines.{small_line}
 use Rattle.pv_build.specs.Images.{HasImage}
 use Rattle.pv_build.specs.Scripts.{HasScript}

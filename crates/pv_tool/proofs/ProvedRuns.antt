@@ -15,10 +15,10 @@ use Rattle.trace_check.specs.Reading.{choices_in}
 use Rattle.trace_check.specs.Judged.{judged}
 use Rattle.trace_check.specs.RunLaws.{YesIsARun, YesBeforeIsSteps}
 use Rattle.trace_check.proofs.Inverse.{laid_read}
-use Rattle.pv_build.specs.CertificateLines.{certificate_refusal, verdict_line}
+use Rattle.pv_runs.specs.CertificateLines.{certificate_refusal, verdict_line}
 use Rattle.pv_build.specs.Images.{HasImage}
 use Rattle.pv_build.specs.Scripts.{HasScript}
-use Rattle.pv_build.specs.Certificates.{HasChoices}
+use Rattle.pv_runs.specs.Certificates.{HasChoices}
 use Rattle.pv_build.specs.declared.status.Status.{Status}
 use Rattle.pv_build.specs.declared.status.Status.TheVariants as status
 use Rattle.pv_tool.specs.Words.{Prove, Replay}

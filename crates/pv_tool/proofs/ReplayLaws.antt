@@ -9,8 +9,8 @@ use Rattle.trace_check.specs.Form.{choices_bytes}
 use Rattle.trace_check.specs.Kept.{choices_of}
 use Rattle.trace_check.specs.Reading.{choices_in}
 use Rattle.trace_check.specs.Judged.{judged}
-use Rattle.pv_build.specs.CertificateLines.{certificate_refusal, verdict_line}
-use Rattle.pv_build.specs.Certificates.{HasChoices, FindsReplay}
+use Rattle.pv_runs.specs.CertificateLines.{certificate_refusal, verdict_line}
+use Rattle.pv_runs.specs.Certificates.{HasChoices, FindsReplay}
 use Rattle.pv_tool.specs.Outcome.{Outcome, refused, printed, HasEnded}
 use Rattle.pv_tool.specs.Running.{Ran, Small, Reads}
 use Rattle.pv_tool.specs.Proving.{are_few, ProvesRun}

@@ -9,11 +9,11 @@ use Rattle.image_load.specs.declared.boot.TooSmall.{TooSmall}
 use Rattle.trace_check.specs.declared.list.Choice.{Choice}
 use Rattle.trace_check.specs.declared.answer.Verdict.{Verdict}
 use Rattle.trace_check.specs.Judged.{judged}
-use Rattle.pv_build.specs.CertificateLines.{verdict_line}
+use Rattle.pv_runs.specs.CertificateLines.{verdict_line}
 use Rattle.pv_build.specs.Lines.{small_line}
 use Rattle.pv_build.specs.Images.{HasImage}
 use Rattle.pv_build.specs.Scripts.{HasScript}
-use Rattle.pv_build.specs.Certificates.{HasChoices, NoReplay, NoRunnable, NoChoices}
+use Rattle.pv_runs.specs.Certificates.{HasChoices, NoReplay, NoRunnable, NoChoices}
 use Rattle.pv_build.specs.Telling.{Says}
 use Rattle.pv_build.specs.declared.status.Status.{Status}
 use Rattle.pv_build.specs.declared.status.Status.TheVariants as status

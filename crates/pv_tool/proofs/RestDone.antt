@@ -20,7 +20,7 @@ use Rattle.checkpoint.specs.InForm.{IsInForm}
 use Rattle.checkpoint.specs.Moved.{rested_from}
 use Rattle.checkpoint.specs.Fits.{fits_of}
 use Rattle.checkpoint.specs.RestAnswers.{NothingDone, RestsWith, RestsAs, RestsFromStart}
-use Rattle.pv_build.specs.Checkpoints.{saved_line, HasState}
+use Rattle.pv_runs.specs.Checkpoints.{saved_line, HasState}
 use Rattle.pv_build.specs.Lines.{small_line}
 use Rattle.pv_build.specs.Images.{HasImage}
 use Rattle.pv_build.specs.Scripts.{HasScript}

@@ -11,7 +11,7 @@ use Rattle.checkpoint.specs.declared.state.CheckpointCause.TheVariants as checkp
 use Rattle.checkpoint.specs.States.{checkpoint_in}
 use Rattle.checkpoint.specs.Fits.{fits_of}
 use Rattle.pv_build.specs.Lines.{place_line}
-use Rattle.pv_build.specs.Checkpoints.{HasState, FindsState, checkpoint_number}
+use Rattle.pv_runs.specs.Checkpoints.{HasState, FindsState, checkpoint_number}
 use Rattle.pv_build.specs.declared.status.Status.TheVariants as status
 use Rattle.pv_tool.specs.Outcome.{Outcome, refused, HasEnded}
 use Rattle.pv_tool.specs.Running.{Reads}

@@ -23,7 +23,7 @@ use Rattle.checkpoint.specs.States.{checkpoint_bytes, checkpoint_in}
 use Rattle.checkpoint.specs.Moved.{kept_of}
 use Rattle.checkpoint.specs.Rested.{RestsTo}
 use Rattle.checkpoint.specs.RestAnswers.{RestsWith, RestsAs, RestsFromStart, NothingDone}
-use Rattle.pv_build.specs.Checkpoints.{saved_line}
+use Rattle.pv_runs.specs.Checkpoints.{saved_line}
 use Rattle.pv_build.specs.Lines.{small_line}
 use Rattle.pv_build.specs.Telling.{Says, Whole, Cut, ToldAs}
 use Rattle.pv_build.specs.Statuses.{status_of}

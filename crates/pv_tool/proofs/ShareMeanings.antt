@@ -21,7 +21,7 @@ use Rattle.guest_sched.proofs.AnsweredBy.{SharedAnswers}
 use Rattle.guest_sched.proofs.ReadAlone.{lines_alone}
 use Rattle.pv_build.specs.Lines.{small_line}
 use Rattle.pv_build.specs.Telling.{Whole, ToldAs}
-use Rattle.pv_build.specs.Kernels.{KernelNames, names_in_pairs, HasKernels, IsShared, NoShared, NoneRead, NoSchedule}
+use Rattle.pv_runs.specs.Kernels.{KernelNames, names_in_pairs, HasKernels, IsShared, NoShared, NoneRead, NoSchedule}
 use Rattle.pv_build.specs.declared.status.Status.{Status}
 use Rattle.pv_build.specs.declared.status.Status.TheVariants as status
 use Rattle.pv_tool.specs.Words.{Share, makes_pairs}

@@ -23,10 +23,10 @@ use Rattle.trace_check.specs.Reading.{choices_in}
 use Rattle.trace_check.specs.Kept.{choices_of}
 use Rattle.trace_check.specs.Judged.{judged}
 use Rattle.trace_check.specs.Runs.{IsRunText, AreItemsBefore, verdict_of}
-use Rattle.pv_build.specs.CertificateLines.{verdict_line}
+use Rattle.pv_runs.specs.CertificateLines.{verdict_line}
 use Rattle.pv_build.specs.Images.{HasImage}
 use Rattle.pv_build.specs.Scripts.{HasScript}
-use Rattle.pv_build.specs.Certificates.{HasChoices}
+use Rattle.pv_runs.specs.Certificates.{HasChoices}
 use Rattle.pv_build.specs.Statuses.{status_of}
 use Rattle.pv_build.specs.declared.status.Status.{Status}
 use Rattle.pv_tool.specs.Outside.{Outside}

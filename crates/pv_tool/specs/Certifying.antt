@@ -5,7 +5,7 @@ use Rattle.pv_io.specs.Files.{Stores, ChangesAt}
 use Rattle.run_trace.specs.Notes.{Note}
 use Rattle.trace_check.specs.Form.{choices_bytes}
 use Rattle.trace_check.specs.Kept.{choices_of}
-use Rattle.pv_build.specs.CertificateLines.{certificate_line, no_certificate_line}
+use Rattle.pv_runs.specs.CertificateLines.{certificate_line, no_certificate_line}
 use Rattle.pv_build.specs.Telling.{Says}
 use Rattle.pv_build.specs.declared.status.Status.{Status}
 use Rattle.pv_build.specs.declared.status.Status.TheVariants as status

@@ -6,7 +6,7 @@ use Rattle.image_load.specs.declared.fault.RunFault.{RunFault}
 use Rattle.checkpoint.specs.declared.rested.Rested.{Rested}
 use Rattle.checkpoint.specs.declared.rested.Rested.TheVariants as rest
 use Rattle.checkpoint.specs.States.{checkpoint_bytes, checkpoint_in}
-use Rattle.pv_build.specs.Checkpoints.{saved_line}
+use Rattle.pv_runs.specs.Checkpoints.{saved_line}
 use Rattle.pv_build.specs.Telling.{Says, ToldAs}
 use Rattle.pv_build.specs.declared.status.Status.{Status}
 use Rattle.pv_build.specs.declared.status.Status.TheVariants as status

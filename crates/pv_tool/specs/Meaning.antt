@@ -20,9 +20,9 @@ use Rattle.checkpoint.specs.States.{checkpoint_bytes, checkpoint_in}
 use Rattle.pv_build.specs.Objects.{ReadsBack, FindsObjects}
 use Rattle.pv_build.specs.Scripts.{FindsRun, HasScript}
 use Rattle.pv_build.specs.Images.{HasImage}
-use Rattle.pv_build.specs.Kernels.{FindsKernels}
-use Rattle.pv_build.specs.Checkpoints.{FindsState}
-use Rattle.pv_build.specs.Certificates.{FindsReplay}
+use Rattle.pv_runs.specs.Kernels.{FindsKernels}
+use Rattle.pv_runs.specs.Checkpoints.{FindsState}
+use Rattle.pv_runs.specs.Certificates.{FindsReplay}
 use Rattle.pv_build.specs.declared.status.Status.{Status}
 use Rattle.pv_build.specs.declared.status.Status.TheVariants as status
 use Rattle.pv_tool.specs.Burning.{Burns, HasBurnt}

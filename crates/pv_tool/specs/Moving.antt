@@ -18,7 +18,7 @@ use Rattle.checkpoint.specs.States.{checkpoint_bytes, checkpoint_in}
 use Rattle.checkpoint.specs.Legs.{Leg, Parts, in_mode, sets_of, reports_of}
 use Rattle.pv_build.specs.Images.{HasImage}
 use Rattle.pv_build.specs.Scripts.{HasScript}
-use Rattle.pv_build.specs.Checkpoints.{HasState}
+use Rattle.pv_runs.specs.Checkpoints.{HasState}
 use Rattle.pv_build.specs.Statuses.{status_of}
 use Rattle.pv_build.specs.declared.status.Status.TheVariants as status
 use Rattle.pv_tool.specs.Words.{Save, SaveFrom, Continue}

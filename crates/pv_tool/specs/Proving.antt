@@ -12,7 +12,7 @@ use Rattle.trace_check.specs.Form.{most_choices, choices_bytes}
 use Rattle.trace_check.specs.Kept.{choices_of}
 use Rattle.trace_check.specs.Runs.{StopsTold}
 use Rattle.trace_check.specs.Proved.{IsProved}
-use Rattle.pv_build.specs.CertificateLines.{certificate_line, no_certificate_line}
+use Rattle.pv_runs.specs.CertificateLines.{certificate_line, no_certificate_line}
 use Rattle.pv_build.specs.Statuses.{status_of}
 use Rattle.pv_tool.specs.Outcome.{Outcome, HostedRun, EndedRun, run_text}
 

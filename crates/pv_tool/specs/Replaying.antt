@@ -6,7 +6,7 @@ use Rattle.image_check.specs.Image.{Image}
 use Rattle.trace_check.specs.declared.list.Choice.{Choice}
 use Rattle.trace_check.specs.Reading.{choices_in}
 use Rattle.trace_check.specs.Judged.{judged}
-use Rattle.pv_build.specs.CertificateLines.{certificate_refusal, verdict_line}
+use Rattle.pv_runs.specs.CertificateLines.{certificate_refusal, verdict_line}
 use Rattle.pv_tool.specs.Outcome.{Outcome, refused, printed}
 use Rattle.pv_tool.specs.Running.{RunsOn}
 

@@ -13,7 +13,7 @@ use Rattle.checkpoint.specs.Fits.{fits_of}
 use Rattle.checkpoint.specs.Rested.{RestsTo}
 use Rattle.pv_build.specs.Images.{HasImage}
 use Rattle.pv_build.specs.Scripts.{HasScript}
-use Rattle.pv_build.specs.Checkpoints.{HasState}
+use Rattle.pv_runs.specs.Checkpoints.{HasState}
 use Rattle.pv_tool.specs.Outside.{Outside}
 use Rattle.pv_tool.specs.Running.{HostDid}
 use Rattle.pv_tool.specs.Saving.{setting_on, steps_on, frames_of, is_wedge}

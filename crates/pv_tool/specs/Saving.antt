@@ -23,7 +23,7 @@ use Rattle.checkpoint.specs.Rested.{RestsTo}
 use Rattle.pv_build.specs.Lines.{place_line}
 use Rattle.pv_build.specs.Images.{HasImage}
 use Rattle.pv_build.specs.Scripts.{HasScript}
-use Rattle.pv_build.specs.Checkpoints.{checkpoint_number, saved_line, HasState}
+use Rattle.pv_runs.specs.Checkpoints.{checkpoint_number, saved_line, HasState}
 use Rattle.pv_build.specs.declared.status.Status.TheVariants as status
 use Rattle.pv_tool.specs.Outcome.{Outcome, HostPart, Nothing, SomeSteps, refused, told}
 use Rattle.pv_tool.specs.declared.mode.RunMode.{RunMode}

@@ -19,14 +19,14 @@ use Rattle.checkpoint.specs.declared.state.State.{State}
 use Rattle.checkpoint.specs.Fits.{fits_of}
 use Rattle.trace_check.specs.declared.list.Choice.{Choice}
 use Rattle.trace_check.specs.Judged.{judged}
-use Rattle.pv_build.specs.CertificateLines.{verdict_line}
+use Rattle.pv_runs.specs.CertificateLines.{verdict_line}
 use Rattle.pv_build.specs.Objects.{HasObjects, object_made_line}
 use Rattle.pv_build.specs.Images.{HasImage, accepted_line, image_made_line}
 use Rattle.pv_build.specs.Scripts.{HasScript}
 use Rattle.pv_build.specs.Building.{Builds}
-use Rattle.pv_build.specs.Kernels.{KernelNames, IsShared}
-use Rattle.pv_build.specs.Checkpoints.{HasState}
-use Rattle.pv_build.specs.Certificates.{HasChoices}
+use Rattle.pv_runs.specs.Kernels.{KernelNames, IsShared}
+use Rattle.pv_runs.specs.Checkpoints.{HasState}
+use Rattle.pv_runs.specs.Certificates.{HasChoices}
 use Rattle.pv_build.specs.declared.status.Status.{Status}
 use Rattle.pv_build.specs.declared.status.Status.TheVariants as status
 use Rattle.pv_tool.specs.Words.{Command, Burn, Link, Check, RunBare, RunWedge, Work, Share, Save, SaveFrom, Continue, Prove, Replay, Asks}

@@ -18,8 +18,9 @@ use crate::words::RestWords;
 use checkpoint::{continue_bare, continue_wedge};
 use host_cpl3::Host;
 use image_load::RunFault;
-use pv_build::{Resumable, Status, end, resumable_in_files, tell_run};
+use pv_build::{Status, end, tell_run};
 use pv_io::{Files, Sink};
+use pv_runs::{Resumable, resumable_in_files};
 use run_trace::Ended;
 use std::alloc::Global;
 

@@ -8,7 +8,7 @@ ghost use Rattle.trace_check.specs.Form.{AreChoices, most_choices, choices_bytes
 ghost use Rattle.trace_check.specs.Kept.{AreKept, choices_of};
 ghost use Rattle.pv_build.specs.Images.{HasImage};
 ghost use Rattle.pv_build.specs.Scripts.{HasScript};
-ghost use Rattle.pv_build.specs.CertificateLines.{certificate_line, no_certificate_line};
+ghost use Rattle.pv_runs.specs.CertificateLines.{certificate_line, no_certificate_line};
 ghost use Rattle.pv_build.specs.Telling.{Says};
 ghost use Rattle.pv_build.specs.Statuses.{status_of};
 ghost use Rattle.pv_tool.specs.Words.{Prove};
@@ -22,8 +22,9 @@ ghost use Rattle.pv_tool.specs.Meaning.{Means, FaultCounts};
 
 use crate::words::RunWords;
 use host_cpl3::Host;
-use pv_build::{Made, Runnable, Status, certificate_file, end, print, runnable_in_files, tell_run};
+use pv_build::{Made, Runnable, Status, end, print, runnable_in_files, tell_run};
 use pv_io::{Files, IoAnswer, Sink};
+use pv_runs::certificate_file;
 use run_trace::End;
 use std::alloc::Global;
 use trace_check::{KeptNotes, run_noted};

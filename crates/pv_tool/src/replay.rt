@@ -12,8 +12,9 @@ ghost use Rattle.pv_tool.specs.Told.{JudgesAs};
 ghost use Rattle.pv_tool.specs.Meaning.{Means, FaultCounts};
 
 use crate::words::RunWords;
-use pv_build::{Replayable, Status, end, print, replayable_in_files, small_line, verdict_line};
+use pv_build::{Status, end, print, small_line};
 use pv_io::{Files, Sink};
+use pv_runs::{Replayable, replayable_in_files, verdict_line};
 use std::alloc::Global;
 use trace_check::{ReplayFault, replay as replay_text};
 

@@ -22,11 +22,9 @@ use crate::words::{RestWords, RunWords};
 use checkpoint::{Rested, save_bare, save_bare_from, save_wedge, save_wedge_from};
 use host_cpl3::Host;
 use image_load::RunFault;
-use pv_build::{
-    Resumable, Runnable, Status, checkpoint_file, end, resumable_in_files, runnable_in_files,
-    tell_run,
-};
+use pv_build::{Runnable, Status, end, runnable_in_files, tell_run};
 use pv_io::{Files, Sink};
+use pv_runs::{Resumable, checkpoint_file, resumable_in_files};
 use std::alloc::Global;
 
 /// Runs an image under a script for `n` steps, prints its items, and stores its state.

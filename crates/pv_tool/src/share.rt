@@ -13,8 +13,9 @@ use crate::words::ShareWords;
 use guest_sched::{SharedFault, run_shared};
 use host_cpl3::Host;
 use image_load::RunFault;
-use pv_build::{Status, end, shared_in_files, tell_run};
+use pv_build::{Status, end, tell_run};
 use pv_io::{Files, Sink};
+use pv_runs::shared_in_files;
 use run_trace::{End, Ended};
 use std::alloc::Global;
 

@@ -2,7 +2,7 @@ use Rattle.std.proofs.Common.{ℕ, length, ap, ◌∙◌}
 use Rattle.std.proofs.lemmas.List.{length-map}
 use Rattle.trace_check.specs.Form.{choices_bytes}
 use Rattle.trace_check.specs.Kept.{choice_of}
-use Rattle.pv_build.specs.CertificateLines.{certificate_line}
+use Rattle.pv_runs.specs.CertificateLines.{certificate_line}
 use Rattle.pv_tool.proofs.ProveMeanings.{few}
 use Rattle.pv_tool.proofs.prove.certify.Goals as goal
 

@@ -1,7 +1,7 @@
 use Rattle.std.proofs.Common.{◌≡◌, length, map, refl, ap, ◌∙◌}
 use Rattle.std.specs.Prelude.{string_bytes}
 use Rattle.std.proofs.lemmas.List.{length-map}
-use Rattle.pv_build.specs.Kernels.{FindsShared, names_in_pairs}
+use Rattle.pv_runs.specs.Kernels.{FindsShared, names_in_pairs}
 use Rattle.pv_build.proofs.Readings.{read_for}
 use Rattle.pv_tool.specs.Meaning.{Finds}
 use Rattle.pv_tool.specs.View.{share_command}

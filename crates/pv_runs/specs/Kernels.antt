@@ -6,7 +6,7 @@ use Rattle.board.specs.Scripts.{is_script}
 use Rattle.guest_sched.specs.declared.kernel.Kernel.{Kernel}
 use Rattle.guest_sched.specs.declared.fault.ScheduleCause.{ScheduleCause}
 use Rattle.guest_sched.specs.Texts.{schedule_of}
-use Rattle.pv_build.specs.ScheduleLines.{schedule_line}
+use Rattle.pv_runs.specs.ScheduleLines.{schedule_line}
 use Rattle.pv_build.specs.Images.{HasImage}
 use Rattle.pv_build.specs.Scripts.{HasScript, FindsRun, NoRun}
 use Rattle.guest_sched.specs.declared.schedule.Slice.{Slice}

@@ -6,15 +6,12 @@ ghost use Rattle.board.specs.Scripts.{is_script};
 ghost use Rattle.guest_sched.specs.Schedules.{IsSchedule};
 ghost use Rattle.pv_build.specs.Readings.{OnlyRead};
 ghost use Rattle.pv_build.specs.Failures.{NoneFailedIn};
-ghost use Rattle.pv_build.specs.ScheduleLines.{schedule_number};
+ghost use Rattle.pv_runs.specs.ScheduleLines.{schedule_number};
 ghost use Rattle.pv_build.specs.Telling.{HaltsOverFiles};
-ghost use Rattle.pv_build.specs.Kernels.{names_in_pairs, AreKernels, IsShared, FindsKernels, FindsShared, NoKernel, NoShared};
+ghost use Rattle.pv_runs.specs.Kernels.{names_in_pairs, AreKernels, IsShared, FindsKernels, FindsShared, NoKernel, NoShared};
 
-use crate::halt::Halt;
-use crate::lines::line_line;
-use crate::script::runnable_in_files;
-use crate::telling::{load, refused};
 use guest_sched::{Kernel, Schedule, ScheduleCause, ScheduleFault, read_schedule};
+use pv_build::{Halt, line_line, load, refused, runnable_in_files};
 use pv_io::Files;
 use std::alloc::Global;
 
@@ -27,7 +24,7 @@ pub struct Shared {
 
 /// The schedule and the kernels that files hold; the names are by turns those of an image and of its script. The schedule's
 /// file is loaded first and read last. Each kernel is read before the next is loaded.
-#[tactic(auto, using(crate::proofs::Failures::none_here, crate::proofs::Failures::none_since, crate::proofs::Failures::none_in))]
+#[tactic(auto, using(pv_build::proofs::Failures::none_here, pv_build::proofs::Failures::none_since, pv_build::proofs::Failures::none_in))]
 pub fn shared_in_files<F: Files>(
     alloc: Global,
     schedule: &str,

@@ -14,18 +14,14 @@ ghost use Rattle.pv_build.specs.Failures.{NoneFailedIn};
 ghost use Rattle.pv_build.specs.Telling.{HaltsOverFiles};
 ghost use Rattle.pv_build.specs.Images.{HasImage};
 ghost use Rattle.pv_build.specs.Scripts.{HasScript};
-ghost use Rattle.pv_build.specs.Checkpoints.{checkpoint_number, saved_line, HasState, HasNoState, FindsState, NoResumption};
+ghost use Rattle.pv_runs.specs.Checkpoints.{checkpoint_number, saved_line, HasState, HasNoState, FindsState, NoResumption};
 
-use crate::halt::{Halt, Line};
-use crate::lines::place_line;
-use crate::made::Made;
-use crate::script::{Runnable, runnable_in_files};
-use crate::telling::{load, refused};
 use board::Script;
 use checkpoint::{
     CheckpointCause, CheckpointFault, State, fits, read_checkpoint, write_checkpoint,
 };
 use image_check::Checked;
+use pv_build::{Halt, Line, Made, Runnable, load, place_line, refused, runnable_in_files};
 use pv_io::Files;
 use std::alloc::{AllocError, Global};
 
@@ -39,7 +35,7 @@ pub struct Resumable {
 
 /// The image, the script and the checkpoint that files hold, read in this order, where the checkpoint fits the image, the
 /// machine and the count of steps.
-#[tactic(auto, using(crate::proofs::Failures::none_here, crate::proofs::Failures::none_since, crate::proofs::Failures::none_in))]
+#[tactic(auto, using(pv_build::proofs::Failures::none_here, pv_build::proofs::Failures::none_since, pv_build::proofs::Failures::none_in))]
 pub fn resumable_in_files<F: Files>(
     alloc: Global,
     image: &str,
@@ -78,7 +74,7 @@ pub fn resumable_in_files<F: Files>(
 }
 
 // The state whose checkpoint a file is.
-#[tactic(auto, using(crate::proofs::Failures::none_here, crate::proofs::Failures::none_since, crate::proofs::Failures::none_in))]
+#[tactic(auto, using(pv_build::proofs::Failures::none_here, pv_build::proofs::Failures::none_since, pv_build::proofs::Failures::none_in))]
 fn state_in<F: Files>(alloc: Global, name: &str, files: &mut F) -> Result<State, Halt>
     ensures state { IfOk result (λ state. HasState (F.held files.old) name.now state) }
     ensures form { IfOk result (λ state. IsInForm state) }

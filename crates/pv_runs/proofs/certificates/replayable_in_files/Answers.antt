@@ -1,11 +1,11 @@
 use Rattle.std.proofs.Common.{Option, sym, subst, ◌∙◌, arith}
 use Rattle.std.proofs.lemmas.Result.{err_from_is_err_and}
 use Rattle.pv_io.specs.Files.{FileMap, Holds, IsHeld}
-use Rattle.pv_build.specs.Certificates.{HasChoices, HasNoChoices, FindsReplay, NoRunnable, NoChoices}
+use Rattle.pv_runs.specs.Certificates.{HasChoices, HasNoChoices, FindsReplay, NoRunnable, NoChoices}
 use Rattle.pv_build.proofs.Halts.{halts_as, halts_since}
 use Rattle.pv_build.proofs.Failures.{none_since}
 use Rattle.pv_build.proofs.Readings.{read_for, read_on}
-use Rattle.pv_build.proofs.certificates.replayable_in_files.Goals as goal
+use Rattle.pv_runs.proofs.certificates.replayable_in_files.Goals as goal
 
 pub returns-in_err-runnable-clause-halted : goal.returns-in_err-runnable-clause-halted
 returns-in_err-runnable-clause-halted g c =

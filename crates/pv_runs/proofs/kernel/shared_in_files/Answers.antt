@@ -4,11 +4,11 @@ use Rattle.pv_io.specs.Files.{FileMap}
 use Rattle.guest_sched.specs.declared.kernel.Kernel.{Kernel}
 use Rattle.guest_sched.specs.Texts.{schedule_of}
 use Rattle.pv_build.specs.Lines.{line_line}
-use Rattle.pv_build.specs.Kernels.{names_in_pairs, HasKernels, FindsKernels, NoKernel, NoneRead, NoSchedule}
+use Rattle.pv_runs.specs.Kernels.{names_in_pairs, HasKernels, FindsKernels, NoKernel, NoneRead, NoSchedule}
 use Rattle.pv_build.proofs.Halts.{halts_as, halts_since, refused_here, refuses_as, line_is}
 use Rattle.pv_build.proofs.Failures.{none_since}
-use Rattle.pv_build.proofs.Kernels.{kernels_few}
-use Rattle.pv_build.proofs.kernel.shared_in_files.Goals as goal
+use Rattle.pv_runs.proofs.Kernels.{kernels_few}
+use Rattle.pv_runs.proofs.kernel.shared_in_files.Goals as goal
 
 pub returns-in_err-kernels-clause-halted : goal.returns-in_err-kernels-clause-halted
 returns-in_err-kernels-clause-halted g c =

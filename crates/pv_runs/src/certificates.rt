@@ -10,15 +10,11 @@ ghost use Rattle.pv_build.specs.Scripts.{HasScript};
 ghost use Rattle.pv_build.specs.Readings.{OnlyRead};
 ghost use Rattle.pv_build.specs.Failures.{NoneFailedIn};
 ghost use Rattle.pv_build.specs.Telling.{HaltsOverFiles};
-ghost use Rattle.pv_build.specs.CertificateLines.{certificate_line, certificate_refusal};
-ghost use Rattle.pv_build.specs.Certificates.{HasChoices, HasNoChoices, NoReplay, FindsReplay};
+ghost use Rattle.pv_runs.specs.CertificateLines.{certificate_line, certificate_refusal};
+ghost use Rattle.pv_runs.specs.Certificates.{HasChoices, HasNoChoices, NoReplay, FindsReplay};
 
 use crate::certificate_lines::certificate_line;
-use crate::halt::Halt;
-use crate::lines::place_line;
-use crate::made::Made;
-use crate::script::{Runnable, runnable_in_files};
-use crate::telling::{load, refused};
+use pv_build::{Halt, Made, Runnable, load, place_line, refused, runnable_in_files};
 use pv_io::Files;
 use std::alloc::{AllocError, Global};
 use trace_check::{Choices, ChoicesFault, read_choices, write_choices};
@@ -32,7 +28,7 @@ pub struct Replayable {
 }
 
 /// What files hold for a replay. They are read in this order, and none behind one that is refused.
-#[tactic(auto, using(crate::proofs::Failures::none_here, crate::proofs::Failures::none_since, crate::proofs::Failures::none_in))]
+#[tactic(auto, using(pv_build::proofs::Failures::none_here, pv_build::proofs::Failures::none_since, pv_build::proofs::Failures::none_in))]
 pub fn replayable_in_files<F: Files>(
     alloc: Global,
     image: &str,
@@ -63,7 +59,7 @@ pub fn replayable_in_files<F: Files>(
 }
 
 // The choices that a file says.
-#[tactic(auto, using(crate::proofs::Failures::none_here, crate::proofs::Failures::none_since, crate::proofs::Failures::none_in))]
+#[tactic(auto, using(pv_build::proofs::Failures::none_here, pv_build::proofs::Failures::none_since, pv_build::proofs::Failures::none_in))]
 fn choices_in_file<F: Files>(alloc: Global, name: &str, files: &mut F) -> Result<Choices, Halt>
     ensures choices { IfOk result (λ choices. HasChoices (F.held files.old) name.now choices.list) }
     ensures entries { IfOk result (λ choices. AreChoices choices.list) }

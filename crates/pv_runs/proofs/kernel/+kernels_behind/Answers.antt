@@ -1,12 +1,12 @@
 use Rattle.std.proofs.Common.{inl, inr, List, ◌-◌, length, map, take, drop, string_bytes, Option, sym, subst}
 use Rattle.std.proofs.lemmas.Result.{err_from_is_err_and}
 use Rattle.pv_io.specs.Files.{FileMap}
-use Rattle.pv_build.specs.Kernels.{KernelNames, names_in_pairs, HasKernel, FindsKernels, NoKernel}
+use Rattle.pv_runs.specs.Kernels.{KernelNames, names_in_pairs, HasKernel, FindsKernels, NoKernel}
 use Rattle.pv_build.proofs.Halts.{halts_as, halts_since}
 use Rattle.pv_build.proofs.Failures.{none_on}
 use Rattle.pv_build.proofs.Readings.{read_on, read_for}
-use Rattle.pv_build.proofs.Kernels.{pairs_are, pairs_none, none_behind, all_behind, err_to}
-use Rattle.pv_build.proofs.kernel.+kernels_behind.Goals as goal
+use Rattle.pv_runs.proofs.Kernels.{pairs_are, pairs_none, none_behind, all_behind, err_to}
+use Rattle.pv_runs.proofs.kernel.+kernels_behind.Goals as goal
 
 pub returns-in_err-found-in-len2-up-clause-halted : goal.returns-in_err-found-in-len2-up-clause-halted
 returns-in_err-found-in-len2-up-clause-halted g t c =

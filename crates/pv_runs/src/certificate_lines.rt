@@ -1,10 +1,10 @@
 //! The lines that tell of certificates.
 
 ghost use Rattle.std.specs.Prelude.{◌≡◌, IfOk};
-ghost use Rattle.pv_build.specs.CertificateLines.{certificate_line, no_certificate_line, stop_number, verdict_line};
+ghost use Rattle.pv_runs.specs.CertificateLines.{certificate_line, no_certificate_line, stop_number, verdict_line};
 
-use crate::halt::Line;
 use ia32_types::Stop;
+use pv_build::Line;
 use std::alloc::{AllocError, Global};
 use trace_check::Verdict;
 

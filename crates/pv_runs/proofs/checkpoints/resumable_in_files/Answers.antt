@@ -2,11 +2,11 @@ use Rattle.std.proofs.Common.{ℕ, Option, sym, ap, subst, ◌∙◌}
 use Rattle.std.proofs.lemmas.Result.{err_from_is_err_and}
 use Rattle.pv_io.specs.Files.{FileMap, IsHeld}
 use Rattle.pv_build.specs.Lines.{place_line}
-use Rattle.pv_build.specs.Checkpoints.{HasState, HasNoState, FindsState, NothingToRun, NoState, Unfit}
+use Rattle.pv_runs.specs.Checkpoints.{HasState, HasNoState, FindsState, NothingToRun, NoState, Unfit}
 use Rattle.pv_build.proofs.Halts.{halts_as, halts_since, refuses_as, refused_here, line_is}
 use Rattle.pv_build.proofs.Failures.{none_since}
 use Rattle.pv_build.proofs.Readings.{read_for, read_on}
-use Rattle.pv_build.proofs.checkpoints.resumable_in_files.Goals as goal
+use Rattle.pv_runs.proofs.checkpoints.resumable_in_files.Goals as goal
 
 pub returns-in_err-found-clause-halted : goal.returns-in_err-found-clause-halted
 returns-in_err-found-clause-halted g c =

@@ -5,7 +5,7 @@ use Rattle.board.specs.Scripts.{Events}
 use Rattle.image_check.specs.Image.{Image}
 use Rattle.trace_check.specs.declared.list.Choice.{Choice}
 use Rattle.trace_check.specs.Reading.{choices_in}
-use Rattle.pv_build.specs.CertificateLines.{certificate_refusal}
+use Rattle.pv_runs.specs.CertificateLines.{certificate_refusal}
 use Rattle.pv_build.specs.Images.{HasImage}
 use Rattle.pv_build.specs.Scripts.{HasScript, FindsRun, NoRun}
 
