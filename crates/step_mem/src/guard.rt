@@ -4,11 +4,8 @@ ghost use Rattle.std.specs.Prelude.{◌≡◌, ◌+◌, ◌&&◌, nat_le, nat_lt
 ghost use Rattle.paging.specs.Uses.{is_text, is_own, is_given, is_barred, window_stop};
 ghost use Rattle.step_mem.specs.Guard.{mode_of};
 
-use ia32_types::Stop;
+use ia32_types::{DATA_ADDRESS, Stop, TEXT_ADDRESS, TEXT_PAGE, WINDOW_ADDRESS, WINDOW_END};
 use paging::Access;
-
-/// The first page of the text window.
-const TEXT_PAGE: u32 = 0x1_0000;
 
 /// The physical bytes of this step's instruction, as far as they were read: those in its first page and those in its
 /// second, each as a place and a length.
@@ -95,13 +92,13 @@ pub fn is_barred(guard: &Guard, fetch: bool, user: bool, page: u32, frame: u32) 
 pub fn window_stop(guard: &Guard, access: Access, at: u32) -> Option<Stop>
     ensures { result ≡ window_stop (mode_of guard.now) access at }
 {
-    if guard.text.is_none() || access.user || at >= 0x1100_0000 {
+    if guard.text.is_none() || access.user || at >= DATA_ADDRESS {
         return None;
     }
-    if at >= 0x1000_0000 {
+    if at >= TEXT_ADDRESS {
         return Some(Stop::TextTouched);
     }
-    if at >= 0x0400_0000 && at < 0x0600_0000 {
+    if at >= WINDOW_ADDRESS && at < WINDOW_END {
         return Some(Stop::WedgeTouched);
     }
     Some(Stop::LowTouched)
