@@ -13,6 +13,7 @@ ghost use Rattle.wedge_mem.specs.Settled.{Fills, FillsLast, filled_by, fills_at,
 use crate::pages::is_among;
 use frame_pool::Pool;
 use guest_ram::Ram;
+use ia32_types::PAGES;
 use paging::{Access, Entry, allows};
 use shadow_tables::{Shadows, Side};
 use step_mem::{Change, last_change};
@@ -166,7 +167,7 @@ fn fill_last<S: Shadows>(
     ensures filled { result ≡ ((has_entry (get (set_after S.Shadows shadows.old ram.old changes.now) page) && not (is_among page later.now))
         && is_due (S.slots shadows.old ram.old) changes.now side wp page) }
 {
-    if page >= 0x10_0000 || is_among(page, later) {
+    if page >= PAGES || is_among(page, later) {
         return false;
     }
     match last_change(changes, page) {

@@ -8,6 +8,7 @@ ghost use Rattle.wedge_mem.specs.Owned as laws;
 
 use frame_pool::Pool;
 use guest_ram::Ram;
+use ia32_types::PAGES;
 use paging::Entry;
 use shadow_tables::Shadows;
 use step_mem::Kept;
@@ -35,7 +36,7 @@ impl<'a, S: Shadows> Kept for Lent<'a, S> {
         (S.owned_above k.shadows.now k.pool.now old new limit (laws.first s) (laws.owns s) h same len) };
 
     fn entry(&self, ram: &Ram, page: u32) -> Option<Entry> {
-        if page >= 0x10_0000 {
+        if page >= PAGES {
             return None;
         }
         self.shadows.kept(ram, page)

@@ -9,6 +9,7 @@ ghost use Rattle.wedge_mem.specs.Seen.{set_after};
 ghost use Rattle.wedge_mem.specs.Settled.{has_entry, pages_of, used};
 
 use guest_ram::Ram;
+use ia32_types::PAGES;
 use paging::Entry;
 use shadow_tables::Shadows;
 use step_mem::{Changes, StepState, Visited, last_change};
@@ -53,7 +54,7 @@ fn kept<S: Shadows>(shadows: &S, ram: &Ram, page: u32) -> Option<Entry>
     requires { ∥ S.stands shadows.now ram.now ∥₁ }
     ensures { result ≡ get (entries_of (S.slots shadows.now ram.now)) page }
 {
-    if page >= 0x10_0000 {
+    if page >= PAGES {
         return None;
     }
     shadows.kept(ram, page)

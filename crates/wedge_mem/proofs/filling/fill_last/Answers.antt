@@ -7,16 +7,16 @@ use Rattle.shadow_tables.specs.Slots.{entry_in}
 use Rattle.step_mem.specs.Changes.{changed}
 use Rattle.wedge_mem.specs.Settled.{filled_by}
 use Rattle.wedge_mem.proofs.Due.{entry-changed, entry-unchanged, filled-again, filled-beyond, filled-changed, filled-later, takes-one, turned-last}
-use Rattle.wedge_mem.proofs.filling.fill_last.Goals.{then-page-ge1048576-via-then-page-ge1048576, then-page-ge1048576-via-else-page-ge1048576+then-is_among}
+use Rattle.wedge_mem.proofs.filling.fill_last.Goals.{then-page-ge-PAGES-via-then-page-ge-PAGES, then-page-ge-PAGES-via-else-page-ge-PAGES+then-is_among}
 use Rattle.wedge_mem.proofs.filling.fill_last.Goals as goal
 
-pub returns-then-page-ge1048576-clause-filled : goal.returns-then-page-ge1048576-clause-filled
-returns-then-page-ge1048576-clause-filled g c =
+pub returns-then-page-ge-PAGES-clause-filled : goal.returns-then-page-ge-PAGES-clause-filled
+returns-then-page-ge-PAGES-clause-filled g c =
     let kept = g.S.Shadows.slots c.args.shadows.now c.args.ram.now in
-    elim c.then-page-ge1048576.branch [
-      | then-page-ge1048576-via-then-page-ge1048576 w ↦
-          filled-beyond kept c.args.changes.now c.args.side c.args.wp c.args.page c.args.later.now c.requires.pages w.if-page-ge1048576.true
-      | then-page-ge1048576-via-else-page-ge1048576+then-is_among w ↦
+    elim c.then-page-ge-PAGES.branch [
+      | then-page-ge-PAGES-via-then-page-ge-PAGES w ↦
+          filled-beyond kept c.args.changes.now c.args.side c.args.wp c.args.page c.args.later.now c.requires.pages w.if-page-ge-PAGES.true
+      | then-page-ge-PAGES-via-else-page-ge-PAGES+then-is_among w ↦
           filled-later kept c.args.changes.now c.args.side c.args.wp c.args.page c.args.later.now (sym w.is_among.ensures ∙ w.if-is_among.true)
     ]
 
@@ -62,7 +62,7 @@ returns-in-Some-clause-filled g c =
 pub fill_again-requires-clause-free : goal.fill_again-requires-clause-free
 fill_again-requires-clause-free g c =
     let kept = g.S.Shadows.slots c.args.shadows.now c.args.ram.now in
-    let small : c.args.page < 2 ^ 20 = omega (arith, c.if-page-ge1048576.false) in
+    let small : c.args.page < 2 ^ 20 = omega (arith, c.if-page-ge-PAGES.false) in
     let one = takes-one (get (changed (entries_of kept) c.args.changes.now) c.args.page) (entry_in (kept c.args.page)) (is_among c.args.page c.args.later.now)
     (entry-unchanged kept c.args.changes.now c.args.page small (sym c.last_change.ensures ∙ c.in-None.is)) (sym c.is_among.ensures ∙ c.if-is_among.false) in
     let free = c.requires.free in
@@ -71,14 +71,14 @@ fill_again-requires-clause-free g c =
 pub returns-in-None-clause-slots : goal.returns-in-None-clause-slots
 returns-in-None-clause-slots g c =
     let s = g.S.Shadows.slots in let kept = s c.args.shadows.now c.args.ram.now in let n = c.fill_again.new in
-    let small : c.args.page < 2 ^ 20 = omega (arith, c.if-page-ge1048576.false) in
+    let small : c.args.page < 2 ^ 20 = omega (arith, c.if-page-ge-PAGES.false) in
     turned-last kept (s n.shadows n.ram) c.args.page c.args.later.now _ _ c.fill_again.ensures.turns (sym c.is_among.ensures ∙ c.if-is_among.false)
     (ap (filled_by c.args.side c.args.wp (g.S.Shadows.tracked c.args.shadows.now)) (sym (entry-unchanged kept c.args.changes.now c.args.page small (sym c.last_change.ensures ∙ c.in-None.is))))
 
 pub returns-in-None-clause-left : goal.returns-in-None-clause-left
 returns-in-None-clause-left g c =
     let kept = g.S.Shadows.slots c.args.shadows.now c.args.ram.now in
-    let small : c.args.page < 2 ^ 20 = omega (arith, c.if-page-ge1048576.false) in
+    let small : c.args.page < 2 ^ 20 = omega (arith, c.if-page-ge-PAGES.false) in
     let one = takes-one (get (changed (entries_of kept) c.args.changes.now) c.args.page) (entry_in (kept c.args.page)) (is_among c.args.page c.args.later.now)
     (entry-unchanged kept c.args.changes.now c.args.page small (sym c.last_change.ensures ∙ c.in-None.is)) (sym c.is_among.ensures ∙ c.if-is_among.false) in
     let left = c.fill_again.ensures.left in
@@ -87,6 +87,6 @@ returns-in-None-clause-left g c =
 pub returns-in-None-clause-filled : goal.returns-in-None-clause-filled
 returns-in-None-clause-filled g c =
     let kept = g.S.Shadows.slots c.args.shadows.now c.args.ram.now in
-    let small : c.args.page < 2 ^ 20 = omega (arith, c.if-page-ge1048576.false) in
+    let small : c.args.page < 2 ^ 20 = omega (arith, c.if-page-ge-PAGES.false) in
     c.fill_again.ensures.filled
     ∙ filled-again kept c.args.changes.now c.args.side c.args.wp c.args.page c.args.later.now small (sym c.last_change.ensures ∙ c.in-None.is) (sym c.is_among.ensures ∙ c.if-is_among.false)

@@ -5,5 +5,5 @@ use Rattle.wedge_mem.proofs.lent.LentKept.entry.Goals as goal
 pub kept-requires-clause-stands : goal.kept-requires-clause-stands
 kept-requires-clause-stands g c = first c.requires
 
-pub returns-then-page-ge1048576 : goal.returns-then-page-ge1048576
-returns-then-page-ge1048576 g c = sym (g.met.S.Shadows.none_beyond c.args.self.now.shadows.now c.args.ram.now c.args.page c.if-page-ge1048576.true)
+pub returns-then-page-ge-PAGES : goal.returns-then-page-ge-PAGES
+returns-then-page-ge-PAGES g c = sym (g.met.S.Shadows.none_beyond c.args.self.now.shadows.now c.args.ram.now c.args.page c.if-page-ge-PAGES.true)
