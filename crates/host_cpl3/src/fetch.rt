@@ -11,6 +11,7 @@ use crate::walks::Walks;
 use arrayvec::ArrayVec;
 use guest_ram::Ram;
 use ia32_decode::{Decoded, LONGEST, decode, front_len};
+use ia32_types::LAST_PAGE;
 
 type Bytes = ArrayVec<u8, 32>;
 
@@ -30,7 +31,7 @@ pub fn fetch(walks: &mut Walks, ram: &Ram, root: u32, eip: u32) -> Result<Decode
         Decoded::Insn(_, _) => Ok(begun),
         Decoded::Outside => Ok(begun),
         Decoded::Short => {
-            if eip / 4096 == 1048575 {
+            if eip / 4096 == LAST_PAGE {
                 return Err(Exit::Wrap);
             }
             fetch_on(walks, ram, root, eip, front)
@@ -49,7 +50,7 @@ fn fetch_on(
 ) -> Result<Decoded, Exit>
     requires root { 4096 * root < length ram.now }
     requires kept { AreKept walks.old ram.now root }
-    requires not_last { eip / 4096 < 1048575 }
+    requires not_last { eip / 4096 < LAST_PAGE }
     requires few { length front.now ≤ 11 }
     ensures fetched { result ≡ fetched_on ram.now root eip front.now }
     ensures spelled { IfOk result IsSpelled }

@@ -4,7 +4,7 @@ ghost use Rattle.std.specs.Prelude.{◌≡◌};
 ghost use Rattle.host_cpl3.specs.Views.{selectors_of, is_null, is_entry, is_past_limit};
 
 use ia32_exec::Selectors;
-use ia32_types::Seg;
+use ia32_types::{DATA_ADDRESS, Seg, WINDOW_ADDRESS, WINDOW_END};
 
 /// What the code sees: page tables by the frame of their directory, and segment registers. In the kernel view CS is
 /// flat, and SS, DS and ES expand down to 0x11000000; in the user view all are flat. A null DS or ES denies every
@@ -52,12 +52,12 @@ pub fn is_null(view: &View, seg: Seg) -> bool
 pub fn is_entry(view: &View, at: u32) -> bool
     ensures { result ≡ is_entry view.now at }
 {
-    view.kernel && 0x0400_0000 <= at && at < 0x0600_0000
+    view.kernel && WINDOW_ADDRESS <= at && at < WINDOW_END
 }
 
 /// In the kernel view data segments begin at 0x11000000.
 pub fn is_past_limit(view: &View, at: u32) -> bool
     ensures { result ≡ is_past_limit view.now at }
 {
-    view.kernel && at < 0x1100_0000
+    view.kernel && at < DATA_ADDRESS
 }
