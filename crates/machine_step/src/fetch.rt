@@ -17,7 +17,7 @@ ghost use Rattle.machine_step.specs.Fetches.{GivesAs};
 use arrayvec::ArrayVec;
 use guest_ram::Ram;
 use ia32_decode::{Decoded, LONGEST, decode, front_len};
-use ia32_types::Stop;
+use ia32_types::{LAST_PAGE, Stop};
 use machine_model::works_use;
 use paging::Touch;
 use step_mem::{Kept, StepState, own_back, own_front};
@@ -77,7 +77,7 @@ fn fetch_pages<B: Kept>(
         }
         Decoded::Outside => Ok(Decoded::Outside),
         Decoded::Short => {
-            if at / 4096 == 1048575 {
+            if at / 4096 == LAST_PAGE {
                 return Err(Refusal::Stop(Stop::WrapAccess));
             }
             fetch_on(ram, kept, state, user, at)
@@ -96,7 +96,7 @@ fn fetch_on<B: Kept>(
     requires sound { IsSoundOver B.Kept kept.now ram.old state.old }
     requires room { state.old.pages ≤ 63 }
     requires found { HasEntry (space B.Kept kept.now ram.old state.old).set at }
-    requires not_last { at / 4096 < 1048575 }
+    requires not_last { at / 4096 < LAST_PAGE }
     ensures sound { IsSoundOver B.Kept kept.now ram.new state.new }
     ensures fetched { Gives result (space B.Kept kept.now ram.new state.new)
         (fetched_on user at (bytes_from (space B.Kept kept.now ram.old state.old) at (front_len at))

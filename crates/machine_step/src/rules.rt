@@ -12,7 +12,7 @@ ghost use Rattle.machine_step.specs.Worked.{ComesTo, IsDropped, answer_of, compl
 
 use crate::worked::{Completed, Dropped, Seen, Worked};
 use descriptors::Cpu;
-use ia32_types::{Insn, Stop};
+use ia32_types::{Insn, Stop, TEXT_ADDRESS};
 use image_check::Checked;
 
 /// The image over which a monitor's rules hold; none on the bare machine.
@@ -24,10 +24,10 @@ pub struct Rules<'a> {
 fn is_start(image: &Checked, eip: u32) -> bool
     ensures { result ≡ is_start image.now eip }
 {
-    if eip < 0x1000_0000 {
+    if eip < TEXT_ADDRESS {
         return false;
     }
-    image.is_start(eip - 0x1000_0000)
+    image.is_start(eip - TEXT_ADDRESS)
 }
 
 /// Code at level 0 stands at a start of the text.
