@@ -9,10 +9,10 @@ ghost use Rattle.machine_model.specs.State.{space_at_start, wedge_mode};
 ghost use Rattle.machine_step.specs.Over.{space};
 ghost use Rattle.wedge_step.specs.Original.{IsOriginal};
 
-use crate::opened::TEXT_FRAME;
 use crate::single::text_frames;
 use descriptors::Cpu;
 use guest_ram::Ram;
+use ia32_types::TEXT_FRAME;
 use image_check::Checked;
 use machine_step::begin_again;
 use step_mem::{Control, Guard, Kept, Own, StepState, Text};

@@ -32,7 +32,7 @@ use descriptors::{Cpu, by_level};
 use guest_ram::Ram;
 use ia32_decode::{Decoded, LONGEST, decode, front_len};
 use ia32_exec::{Range, ranges};
-use ia32_types::Insn;
+use ia32_types::{Insn, LAST_PAGE, PAGES};
 use image_check::Checked;
 use native_steps::uses_are_seen;
 use paging::{Access, allows};
@@ -125,7 +125,7 @@ fn add_first<S: Shadows>(cpu: &Cpu, shadows: &S, view: &GuestView<'_>, first: Se
         Decoded::Insn(insn, _) => add_ranges(uses, &insn, cpu),
         Decoded::Outside => {}
         Decoded::Short => {
-            if eip / 4096 < 0xF_FFFF {
+            if eip / 4096 < LAST_PAGE {
                 add_next(cpu, shadows, view, first, &mut bytes, uses);
             }
         }
@@ -184,7 +184,7 @@ fn is_refused<S: Shadows>(shadows: &S, ram: &Ram, page: u32, access: Access, wp:
     requires stands { ∥ S.stands shadows.now ram.now ∥₁ }
     ensures { result ≡ is_refused_by (get (entries_of (S.slots shadows.now ram.now)) page) access wp }
 {
-    if page >= 0x10_0000 {
+    if page >= PAGES {
         return false;
     }
     match shadows.kept(ram, page) {

@@ -24,6 +24,7 @@ use crate::opened::are_open;
 use descriptors::Cpu;
 use frame_pool::Pool;
 use guest_ram::Ram;
+use ia32_types::PAGES;
 use machine_step::{Dropped, Worked};
 use shadow_cache::Reloads;
 use shadow_tables::{Shadows, Side};
@@ -135,7 +136,7 @@ fn drop_one<S: Shadows>(shadows: &mut S, ram: &mut Ram, page: u32)
     ensures moves { (p : Pool) → Owns p ram.old (S.frames shadows.old ram.old)
         → Moves p p ram.old ram.new (S.frames shadows.old ram.old) (S.frames shadows.new ram.new) }
 {
-    if page < 0x10_0000 {
+    if page < PAGES {
         shadows.drop_page(ram, page);
     }
 }

@@ -13,12 +13,13 @@ ghost use Rattle.step_mem.specs.Changes.{AreWithin};
 ghost use Rattle.wedge_step.specs.Clashing.{AreIn, looked, marks_of, map_seen, seen_of};
 ghost use Rattle.wedge_step.specs.Looked.{bytes_of, ground_of, looked_at, set_at};
 
-use crate::opened::{TEXT_FRAME, is_given, is_text};
+use crate::opened::{is_given, is_text};
 use crate::sight::{GuestView, are_bytes, byte, walk};
 use crate::single::text_frames;
 use arrayvec::ArrayVec;
 use descriptors::{Cpu, by_level};
 use ia32_decode::front_len;
+use ia32_types::TEXT_FRAME;
 use image_check::Checked;
 use native_steps::uses_are_seen;
 use paging::{Access, Walk, allows, grants};

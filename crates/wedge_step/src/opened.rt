@@ -19,18 +19,11 @@ ghost use Rattle.wedge_step.specs.Opened.{is_entry_open};
 ghost use Rattle.wedge_step.specs.Standing.{is_kernel};
 
 use guest_ram::Ram;
+use ia32_types::{DATA_PAGE, TEXT_FRAME, TEXT_PAGE};
 use paging::Entry;
 use shadow_tables::{Shadows, Side};
 use step_mem::StepState;
 use wedge_mem::entry_of;
-
-/// The frame of the text's first byte.
-pub const TEXT_FRAME: u32 = 0x100;
-
-/// The first page of the text window, and the first page behind it.
-const TEXT_PAGE: u32 = 0x1_0000;
-
-const DATA_PAGE: u32 = 0x1_1000;
 
 /// The frame is one of so many that hold text.
 pub(crate) fn is_text(count: u32, frame: u32) -> bool

@@ -6,8 +6,8 @@ ghost use Rattle.paging.specs.Fresh.{fresh, FoundIn};
 ghost use Rattle.native_steps.specs.Mirrors.{shown};
 ghost use Rattle.wedge_step.specs.Standing.{ground};
 
-use crate::opened::TEXT_FRAME;
 use guest_ram::{Ram, count};
+use ia32_types::TEXT_FRAME;
 use image_check::Checked;
 use paging::{Walk, Words};
 use step_mem::read_laid;

@@ -64,7 +64,7 @@ pub add_ranges-requires : goal.add_ranges-requires
 add_ranges-requires g c = let one = c.requires.single in record { room = omega (arith, one) }
 
 pub add_next-requires-clause-page : goal.add_next-requires-clause-page
-add_next-requires-clause-page g c = c.if-eip-lt1048575.true
+add_next-requires-clause-page g c = c.if-eip-lt-LAST_PAGE.true
 
 pub returns-in-Insn : goal.returns-in-Insn
 returns-in-Insn g c =
@@ -84,11 +84,11 @@ returns-in-Outside g c =
     let is = first_bytes b x _ c.read.new.into.items _ c.new-bytes.ensures c.read.ensures c.front_len.ensures.len in
     c.requires.one ∙ behind m b x c.read.new.into.items _ c.as_slice.ensures.value is begins.Outside c.in-Outside.ensures.exact
 
-pub returns-then-eip-lt1048575 : goal.returns-then-eip-lt1048575
-returns-then-eip-lt1048575 g c =
+pub returns-then-eip-lt-LAST_PAGE : goal.returns-then-eip-lt-LAST_PAGE
+returns-then-eip-lt-LAST_PAGE g c =
     let a = c.args in
     let m = ground_of a.view.now in
     let b = looked_at g.S.Shadows a.cpu.now a.shadows.now a.view.now in
     let x = seen_of a.first in
     let is = first_bytes b x _ c.read.new.into.items _ c.new-bytes.ensures c.read.ensures c.front_len.ensures.len in
-    goes_on m b x c.read.new.into.items _ c.as_slice.ensures.value is _ c.in-Short.ensures.exact c.if-eip-lt1048575.true c.add_next.ensures
+    goes_on m b x c.read.new.into.items _ c.as_slice.ensures.value is _ c.in-Short.ensures.exact c.if-eip-lt-LAST_PAGE.true c.add_next.ensures
