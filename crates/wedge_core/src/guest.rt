@@ -23,6 +23,7 @@ use descriptors::Cpu;
 use frame_pool::Pool;
 use guest_ram::Ram;
 use host_cpl3::Host;
+use ia32_types::TEXT_PLACE;
 use image_check::Checked;
 use image_laws::patching;
 use image_load::{StartFault, load};
@@ -34,9 +35,6 @@ use shadow_tables::Shadows;
 use sites::patch;
 use std::alloc::{AllocError, Global};
 use wedge_step::{Lost, Running, carry_laws};
-
-/// Where the text stands in the guest's memory.
-const TEXT_AT: u32 = 0x10_0000;
 
 /// A guest of a host: it runs its patched text there. Its memory is the front of the host's, and its shadows, for each value
 /// of CR3 that may come back, lie in frames of a pool.
@@ -263,7 +261,7 @@ fn adopt_in(
     image.accepted();
     let _free = pool.free();
     let shadows = Roots::new(alloc, ram, pool, cpu.cr3)?;
-    patch(ram, TEXT_AT, image.sites());
+    patch(ram, TEXT_PLACE, image.sites());
     Ok(Running {
         cpu,
         board,

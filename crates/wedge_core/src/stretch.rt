@@ -18,15 +18,12 @@ use crate::laws::views_lend;
 use board::{Board, Script};
 use descriptors::Cpu;
 use host_cpl3::{Exit, Host, View, borders, each_is_run};
-use ia32_types::Regs;
+use ia32_types::{Regs, WINDOW_BELOW};
 use image_check::{AtOffset, Checked};
 use machine_step::interrupt;
 use native_steps::advances;
 use shadow_tables::{Shadows, Side};
 use wedge_step::{Running, side_of};
-
-/// What a site's address in the window adds to the site's own.
-const WINDOW_BELOW: u32 = 0x0B0B_0B07;
 
 /// The processor's next instruction is one that the host may do: no interrupt is taken, and at level 0 it stands at a start outside sites.
 pub fn may_run(cpu: &Cpu, board: &Board, image: &Checked) -> bool
