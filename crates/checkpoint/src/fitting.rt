@@ -10,10 +10,8 @@ ghost use Rattle.checkpoint.specs.Fits.{first_change, has_user_flags, fits_of};
 use crate::state::{CheckpointCause, State};
 use descriptors::Cpu;
 use guest_ram::Ram;
+use ia32_types::TEXT_PLACE;
 use image_check::Checked;
-
-/// Where the text stands in the memory.
-const TEXT_AT: u32 = 0x10_0000;
 
 /// The first offset at which a text doesn't stand in the memory.
 fn first_change(ram: &Ram, text: &[u8]) -> Option<u32>
@@ -24,7 +22,7 @@ fn first_change(ram: &Ram, text: &[u8]) -> Option<u32>
     let len = ram.len();
     for (i, b) in text.iter().enumerate() {
         let offset = i as u32;
-        let at = TEXT_AT + offset;
+        let at = TEXT_PLACE + offset;
         if at >= len || ram.read8(at) != *b {
             return Some(offset);
         }

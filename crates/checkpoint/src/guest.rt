@@ -20,12 +20,10 @@ use crate::state::State;
 use frame_pool::Pool;
 use guest_ram::Ram;
 use host_cpl3::Host;
+use ia32_types::TEXT_PLACE;
 use image_check::Checked;
 use std::alloc::{AllocError, Global};
 use wedge_core::{Guest, Running};
-
-/// Where the text stands in the memory.
-const TEXT_AT: u32 = 0x10_0000;
 
 /// The frames of a guest's pool.
 pub const POOL_FRAMES: u32 = 512;
@@ -123,6 +121,6 @@ fn memory_of(alloc: Global, memory: &Ram, image: &Checked, frames: u32) -> Resul
 {
     let mut ram = Ram::new(alloc, frames)?;
     ram.put(0, memory.part(0, 4096 * frames));
-    ram.put(TEXT_AT, image.text());
+    ram.put(TEXT_PLACE, image.text());
     Ok(ram)
 }
