@@ -60,8 +60,8 @@ pub fn fetch<B: Kept>(
     ensures pages { step.new.state.pages ≤ step.old.state.pages + 1 }
     ensures ready { Readied (space_in (B.entries base.now) ram.new step.new) at len false result }
     ensures found { result ≡ Touch.Ready → HasRange (space_in (B.entries base.now) ram.new step.new) at len }
-    ensures others { KeepsOthers (space_in (B.entries base.now) ram.old step.old)
-        (space_in (B.entries base.now) ram.new step.new) (at / 4096) }
+    ensures others { KeepsOthers (space_in (B.entries base.now) ram.old step.old) (space_in (B.entries base.now) ram.new step.new)
+        (at / 4096) }
     ensures same { IsTheSame step.old step.new }
     ensures beyond { KeepsBeyond step.old ram.old ram.new }
 {
