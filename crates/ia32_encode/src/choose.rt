@@ -13,6 +13,7 @@ use crate::parts::{fits, parts};
 use crate::text::text;
 use ia32_rows::{Immediate, Parts, ROWS, Row, instruction};
 use ia32_types::{Insn, same_insn};
+use thiserror::Error;
 
 /// Which fields name a symbol, and so have four bytes.
 #[derive(Clone, Copy, Debug, PartialEq, Eq)]
@@ -22,7 +23,8 @@ pub struct Wide {
 }
 
 /// No row spells the instruction with these widths.
-#[derive(Clone, Copy, Debug, PartialEq, Eq)]
+#[derive(Clone, Copy, Debug, PartialEq, Eq, Error)]
+#[error("no row spells the instruction with these widths")]
 pub struct NoForm;
 
 fn immediate_is_long(row: &Row) -> bool
