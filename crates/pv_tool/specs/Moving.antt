@@ -9,7 +9,7 @@ use Rattle.paging.specs.Space.{Mode}
 use Rattle.run_trace.specs.declared.items.End.{End}
 use Rattle.run_trace.specs.Text.{text_of}
 use Rattle.machine_model.specs.State as model
-use Rattle.machine_model.specs.State.{Setting, boot}
+use Rattle.machine_model.specs.State.{boot}
 use Rattle.machine_model.specs.Run.{Run, EndsIn, trace_of, with_set, Set}
 use Rattle.machine_model.specs.Agreement.{bound_on_bare, end_on_bare}
 use Rattle.bare_machine.specs.Settings.{bare}
