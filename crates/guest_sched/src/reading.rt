@@ -113,8 +113,11 @@ impl Reading {
         requires form { IsSlice self.old.kernels slice }
         requires sum { bound_of slice.kernel self.old.slices + slice.steps ≤ max_steps }
         requires room { length self.old.slices < max_slices }
-        ensures { OnOk result (self.new ≡ record { kernels = self.old.kernels; line = self.old.line + 1;
-            slices = self.old.slices ++ slice ∷ [] }) }
+        ensures { OnOk result (self.new ≡ record {
+          kernels = self.old.kernels;
+          line = self.old.line + 1;
+          slices = self.old.slices ++ slice ∷ [];
+        }) }
     {
         self.slices.push(slice)?;
         self.line += 1;
