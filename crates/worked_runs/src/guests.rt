@@ -5,7 +5,9 @@ ghost use Rattle.board.specs.Scripts.{is_script};
 ghost use Rattle.worked_runs.specs.Going.{IsGoing};
 
 use crate::commands::{are_same, holds, image_of, sink, took};
-use crate::slices::{INTERRUPTED, SENT, begun, no_event, put_bound, steps_on};
+use crate::slices::{
+    FIRST_LINE, INTERRUPTED, SENT, begun, no_event, put_bound, second_put_fails, steps_on,
+};
 use board::Script;
 use descriptors::Cpu;
 use frame_pool::Pool;
@@ -129,4 +131,26 @@ fn patched_slices_print_the_same_and_both_machines_go_on_alike(rt: HostRuntime) 
         holds(&rt, pause as usize, are_same(parts.bytes(), whole.bytes()));
     }
     side_by_side(&rt, alloc, &image);
+}
+
+#[test]
+fn a_line_that_fails_ends_a_patched_slice_at_its_step(rt: HostRuntime) {
+    let alloc = rt.alloc();
+    let image = image_of(&rt, alloc, SENDS_A_BYTE.as_bytes());
+    let script = no_event(&rt, alloc);
+    let mut out = second_put_fails(&rt, alloc);
+    let mut host = Machine::new();
+    let (guest, pool) = started(&rt, alloc, &image, &mut host);
+    let mut guest = guest;
+    let mut pool = pool;
+    assert!(rt; Host::retired(&host) <= 1 << 62);
+    assert!(rt; u64::from(pool.free()) + u64::from(guest.held()) >= 16);
+    let answer = guest.slice(
+        &image, &script, 8, &mut pool, &mut host, &mut out, &mut NoNotes,
+    );
+    assert!(rt; answer.is_err());
+    assert!(rt; guest.step() == 3);
+    // the OUT was the monitor's
+    assert!(rt; Host::retired(&host) == 2);
+    took(&rt, &out, FIRST_LINE);
 }

@@ -19,6 +19,9 @@ use std::process::Abort;
 use worked_kernels::{IS_INTERRUPTED, SENDS_A_BYTE};
 use xlate_buffer::Buffer;
 
+/// The line that went out before the one that failed.
+pub const FIRST_LINE: &[u8] = b"2 out8 03f8 48\n";
+
 /// What is sent of that byte.
 pub const SENT: &[u8] = b"2 out8 03f8 48\n2 tx 48\nend steps 8\n";
 
@@ -63,6 +66,12 @@ pub fn steps_on(
         Ok(Pause::Reached) => {}
         _ => panic!(rt; "the machine stops"),
     }
+}
+
+/// A sink whose second put fails.
+pub fn second_put_fails(rt: &impl Abort, alloc: Global) -> MemSink {
+    let fail = Vec::from_slice(alloc, &[1u64]).expect(rt, "memory");
+    MemSink::new(alloc, 4096, fail).expect(rt, "memory")
 }
 
 /// The line of a run that made all its steps.
@@ -146,4 +155,17 @@ fn a_large_image_is_told_with_both_numbers_of_frames(rt: HostRuntime) {
     let fresh = run_fresh(alloc, &image, &script, 2048, 1, &mut out);
     assert!(rt; is_too_small(bare) && is_too_small(fresh));
     took(&rt, &out, b"");
+}
+
+#[test]
+fn a_line_that_fails_ends_a_slice_at_its_step(rt: HostRuntime) {
+    let alloc = rt.alloc();
+    let image = image_of(&rt, alloc, SENDS_A_BYTE.as_bytes());
+    let script = no_event(&rt, alloc);
+    let mut out = second_put_fails(&rt, alloc);
+    let mut machine = begun(&rt, alloc, &image);
+    let answer = machine.slice(&script, 8, &mut out);
+    assert!(rt; answer.is_err());
+    assert!(rt; machine.step() == 3);
+    took(&rt, &out, FIRST_LINE);
 }
