@@ -3,6 +3,7 @@ use Rattle.std.proofs.Common.{◌≡◌, ℕ, ◌+◌, ◌-◌, ◌*◌, ◌/◌
 use Rattle.std.specs.Prelude.{nat_lt, nat_le}
 use Rattle.std.specs.FinMap.{get}
 use Rattle.guest_ram.specs.Bytes.{word32}
+use Rattle.ia32_types.specs.declared.addresses.TheConstants.{DATA_ADDRESS, TEXT_ADDRESS, WINDOW_ADDRESS, WINDOW_END}
 use Rattle.ia32_types.specs.declared.stop.Stop as reason
 use Rattle.ia32_types.specs.declared.stop.Stop.TheVariants as stops
 use Rattle.paging.specs.declared.entry.Access.{Access}
@@ -122,7 +123,7 @@ in_windows false false false = refl
 
 window_extra : (mode : Mode) (access : Access) (at : ℕ) → IsExtraOr (window_stop mode access at)
 window_extra Bare access at = tt
-window_extra (Wedge text count own) access at = in_windows (access.user || nat_le 285212672 at) (nat_le 268435456 at) (nat_le 67108864 at && nat_lt at 100663296)
+window_extra (Wedge text count own) access at = in_windows (access.user || nat_le DATA_ADDRESS at) (nat_le TEXT_ADDRESS at) (nat_le WINDOW_ADDRESS at && nat_lt at WINDOW_END)
 
 window_agrees : (w : Option reason.Stop) (at len : ℕ) (access : Access) (s : Space) → IsExtraOr w → TouchAgrees (by_window w at len access s) (by_pages at len access (bare s))
 window_agrees None at len access s h = pages_agree at len access s

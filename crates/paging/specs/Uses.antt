@@ -4,6 +4,7 @@ use Rattle.std.specs.Prelude.{ℕ, ◌+◌, ◌-◌, ◌*◌, ◌/◌, ◌^◌, 
 use Rattle.std.specs.FinMap.{FinMap, get, insert, remove, retain_keys}
 use Rattle.std.specs.Ordering.{nat_cmp}
 use Rattle.guest_ram.specs.Bytes.{byte, word32}
+use Rattle.ia32_types.specs.declared.addresses.TheConstants.{DATA_ADDRESS, TEXT_ADDRESS, TEXT_PAGE, WINDOW_ADDRESS, WINDOW_END}
 use Rattle.ia32_types.specs.declared.stop.Stop as reason
 use Rattle.ia32_types.specs.declared.stop.Stop.TheVariants as stops
 use Rattle.paging.specs.declared.entry.Access.{Access}
@@ -26,11 +27,11 @@ is_own Bare at = false
 is_own (Wedge text count own) at =
     (nat_le own.front at && nat_lt at (own.front + own.front_len)) || (nat_le own.back at && nat_lt at (own.back + own.back_len))
 
--- the page of the text window to which the loader gave this frame: the window begins at page 0x10000
+-- the page of the text window to which the loader gave this frame
 abbrev pub is_given : Mode → ℕ → ℕ → Bool
 is_given Bare page frame = true
 is_given (Wedge text count own) page frame =
-    nat_le 0x10000 page && nat_lt page (0x10000 + count) && frame == text + (page - 0x10000)
+    nat_le TEXT_PAGE page && nat_lt page (TEXT_PAGE + count) && frame == text + (page - TEXT_PAGE)
 
 -- What a page may not be translated to: for data, and for code at level 3, a frame that holds text; for code at
 -- level 0 another frame than the loader gave.
@@ -41,9 +42,9 @@ is_barred mode fetch user page frame = if fetch && not user then not (is_given m
 abbrev pub window_stop : Mode → Access → ℕ → Option reason.Stop
 window_stop Bare access at = None
 window_stop (Wedge text count own) access at =
-    if access.user || nat_le 0x11000000 at then None else
-    (if nat_le 0x10000000 at then Some stops.TextTouched else
-    (if nat_le 0x04000000 at && nat_lt at 0x06000000 then Some stops.WedgeTouched else Some stops.LowTouched))
+    if access.user || nat_le DATA_ADDRESS at then None else
+    (if nat_le TEXT_ADDRESS at then Some stops.TextTouched else
+    (if nat_le WINDOW_ADDRESS at && nat_lt at WINDOW_END then Some stops.WedgeTouched else Some stops.LowTouched))
 
 -- what decides a fresh walk
 pub record Tables : Type 0 where
