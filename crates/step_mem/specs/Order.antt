@@ -3,6 +3,7 @@
 use Rattle.std.specs.Prelude.{◌≡◌, ℕ, ◌+◌, ◌-◌, ◌*◌, ◌/◌, ◌^◌, List, [], ◌∷◌, ◌++◌, Bool, true, false, ◌==◌, nat_lt, nat_le, ◌&&◌, ◌||◌, not, if◌then◌else◌, Option, Some, None}
 use Rattle.std.specs.FinMap.{get}
 use Rattle.guest_ram.specs.Bytes.{word32}
+use Rattle.ia32_types.specs.declared.addresses.TheConstants.{DATA_ADDRESS, TEXT_ADDRESS, WINDOW_ADDRESS, WINDOW_END}
 use Rattle.ia32_types.specs.declared.stop.Stop.TheVariants as stops
 use Rattle.paging.specs.declared.entry.Access.{Access}
 use Rattle.paging.specs.declared.entry.Entry.{Entry}
@@ -78,16 +79,16 @@ tests_by (Some entry) s fetch page at access = (is_barred s.mode fetch access.us
 abbrev pub page_tests : Space → (fetch : Bool) → ℕ → ℕ → Access → List Test
 page_tests s fetch page at access = tests_by (usable (get s.set page) access s.wp) s fetch page at access
 
--- a monitor's windows end at 0x11000000, and bar what has the rights of level 0
+-- a monitor's windows end where the data begins, and bar what has the rights of level 0
 abbrev pub is_windowed : Mode → Access → ℕ → Bool
 is_windowed Bare access at = false
-is_windowed (Wedge text count own) access at = not (access.user || nat_le 0x11000000 at)
+is_windowed (Wedge text count own) access at = not (access.user || nat_le DATA_ADDRESS at)
 
 -- of a range's first byte: 9, 10, 11
 abbrev pub window_tests : Mode → Access → ℕ → List Test
 window_tests mode access at =
-    (is_windowed mode access at && nat_le 0x10000000 at, Stop stops.TextTouched)
-    ∷ (is_windowed mode access at && (nat_le 0x04000000 at && nat_lt at 0x06000000), Stop stops.WedgeTouched)
+    (is_windowed mode access at && nat_le TEXT_ADDRESS at, Stop stops.TextTouched)
+    ∷ (is_windowed mode access at && (nat_le WINDOW_ADDRESS at && nat_lt at WINDOW_END), Stop stops.WedgeTouched)
     ∷ (is_windowed mode access at, Stop stops.LowTouched)
     ∷ []
 
