@@ -1,4 +1,5 @@
 -- Which images are accepted, in words that name no order of tests.
+use Rattle.ia32_types.specs.declared.addresses.TheConstants.{DATA_ADDRESS, TEXT_ADDRESS}
 use Rattle.ia32_types.specs.Shape.{is_direct_branch}
 use Rattle.std.specs.Prelude.{◌≡◌, ℕ, ◌+◌, ◌-◌, ◌≤◌, ◌<◌, true, false, Bool, List, length, map, slice_index_or, Some, Ok}
 use Rattle.std.specs.List.{Contains}
@@ -20,7 +21,7 @@ use Rattle.image_check.specs.Checking.{image_with, image_from}
 pub record IsWithin (image : Image) : Type 0 where
   pub text : (1 ≤ length image.text) × (length image.text ≤ TEXT_LIMIT)
   pub room : length image.init + image.bss ≤ INIT_LIMIT
-  pub entry : (0x1000_0000 ≤ image.entry) × (image.entry < 0x1000_0000 + length image.text)
+  pub entry : (TEXT_ADDRESS ≤ image.entry) × (image.entry < TEXT_ADDRESS + length image.text)
 
 -- A start of the sweep, and not in a site past its first byte.
 pub record IsEntrance (swept : List Swept) (sites : List Site) (at : ℕ) : Type 0 where
@@ -36,15 +37,15 @@ pub record IsAccepted (image : Image) : Type 0 where
   pub ends : ends_at image.text (last_at (map piece_of swept)) ≡ true
   pub sites : sites_of (map piece_of swept) ≡ Some image.sites
   pub targets : (s : Swept) → Contains swept s → is_direct_branch s.insn.op ≡ true → IsEntrance swept image.sites (target_of s.at s.len s.insn)
-  pub entry : IsEntrance swept image.sites (image.entry - 0x10000000)
+  pub entry : IsEntrance swept image.sites (image.entry - TEXT_ADDRESS)
 
 -- The file has the form of an image, its parts are at their places, its annotations are those of the sites of its
 -- text in one of the two formats, and the image is accepted.
 pub record Accepts (file : List ℕ) (image : Image) : Type 0 where
   pub parts : ImageParts
   pub form : ImageAs file parts
-  pub text_at : parts.text_at ≡ 0x10000000
-  pub init_at : parts.init_at ≡ 0x11000000
+  pub text_at : parts.text_at ≡ TEXT_ADDRESS
+  pub init_at : parts.init_at ≡ DATA_ADDRESS
   pub annotated : sites_in parts.sites ≡ Ok (record { list = image.sites; format = image.format })
   pub image_is : image ≡ image_with parts image.sites
   pub accepted : IsAccepted image

@@ -1,6 +1,7 @@
 -- The conditions on an image, each with the first place at which it is broken.
 use Rattle.std.specs.Prelude.{ℕ, ◌+◌, ◌-◌, Bool, not, ◌&&◌, ◌||◌, List, length, slice_get, slice_index, Option, Some, None, nat_lt, ◌==◌}
 use Rattle.std.specs.Bool.{then_some}
+use Rattle.ia32_types.specs.declared.addresses.TheConstants.{DATA_ADDRESS, TEXT_ADDRESS}
 use Rattle.elf_form.specs.Faults.{◌or_lower◌}
 use Rattle.elf_form.specs.ImageParts.{ImageParts}
 use Rattle.sites.specs.declared.limits.TheConstants.{TEXT_LIMIT, INIT_LIMIT}
@@ -10,10 +11,10 @@ use Rattle.image_check.specs.Targets.{is_entrance}
 use Rattle.image_check.specs.TextSites.{found_in, differ}
 
 abbrev pub text_place : ImageParts → Option ℕ
-text_place parts = then_some (not (parts.text_at == 0x10000000)) 0
+text_place parts = then_some (not (parts.text_at == TEXT_ADDRESS)) 0
 
 abbrev pub init_place : ImageParts → Option ℕ
-init_place parts = then_some (not (parts.init_at == 0x11000000)) 0
+init_place parts = then_some (not (parts.init_at == DATA_ADDRESS)) 0
 
 abbrev pub text_size : ImageParts → Option ℕ
 text_size parts = then_some (length parts.text == 0 || nat_lt TEXT_LIMIT (length parts.text)) 0
@@ -22,7 +23,7 @@ abbrev pub init_size : ImageParts → Option ℕ
 init_size parts = then_some (nat_lt INIT_LIMIT (length parts.init + parts.bss)) 0
 
 abbrev pub entry_place : ImageParts → Option ℕ
-entry_place parts = then_some (nat_lt parts.entry 0x10000000 || not (nat_lt parts.entry (0x10000000 + length parts.text))) 0
+entry_place parts = then_some (nat_lt parts.entry TEXT_ADDRESS || not (nat_lt parts.entry (TEXT_ADDRESS + length parts.text))) 0
 
 -- the offset of the last instruction
 abbrev pub at_of : Option Piece → ℕ
@@ -45,7 +46,7 @@ site_wrong sites ps = (found_in ps).lacking or_lower differ sites (found_in ps).
 
 -- the entry, as an offset in the text
 abbrev pub entry_at : ImageParts → ℕ
-entry_at parts = parts.entry - 0x10000000
+entry_at parts = parts.entry - TEXT_ADDRESS
 
 abbrev pub entry_start_by : (ℕ → Bool) → ImageParts → Option ℕ
 entry_start_by entrance parts = then_some (not (entrance (entry_at parts))) (entry_at parts)

@@ -2,6 +2,7 @@
 use Rattle.std.specs.Prelude.{◌≡◌, ℕ, ◌+◌, ◌-◌, Bool, ◌&&◌, List, Option, Some, None, is_some, nat_le, nat_lt, if◌then◌else◌}
 use Rattle.std.specs.List.{list_any, find, Contains}
 use Rattle.guest_ram.specs.Among.{is_among}
+use Rattle.ia32_types.specs.declared.addresses.TheConstants.{TEXT_ADDRESS}
 use Rattle.sites.specs.declared.site.Site.{Site}
 use Rattle.image_check.specs.declared.place.AtOffset.{AtOffset}
 use Rattle.image_check.specs.declared.place.AtOffset.TheVariants.{NotAStart, Outside, Inside}
@@ -38,11 +39,11 @@ place_of image at = if is_start image.text at then by_site (site_at image.sites 
 
 -- the linear address of an offset of the text
 abbrev pub linear : ℕ → ℕ
-linear at = 0x10000000 + at
+linear at = TEXT_ADDRESS + at
 
 -- whether an instruction of the text begins at a linear address
 abbrev pub is_start_at : List ℕ → ℕ → Bool
-is_start_at text eip = nat_le 0x10000000 eip && is_start text (eip - 0x10000000)
+is_start_at text eip = nat_le TEXT_ADDRESS eip && is_start text (eip - TEXT_ADDRESS)
 
 -- whether a linear address lies in one of the sites
 abbrev pub is_site_at : List Site → ℕ → Bool
@@ -50,7 +51,7 @@ is_site_at sites eip = list_any (λ (s : Site). nat_le (linear s.at) eip && nat_
 
 -- what stands at a linear address; below the text no instruction begins
 abbrev pub place_at : Image → ℕ → AtOffset
-place_at image eip = if nat_lt eip 0x10000000 then NotAStart else place_of image (eip - 0x10000000)
+place_at image eip = if nat_lt eip TEXT_ADDRESS then NotAStart else place_of image (eip - TEXT_ADDRESS)
 
 -- An instruction of the text stands there, and no site is around it.
 pub record StandsOutside (image : Image) (s : Swept) : Type 0 where

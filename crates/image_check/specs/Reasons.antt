@@ -1,6 +1,7 @@
 -- Why an image is not accepted: each cause by the condition that it stands for, and the order in which the causes count.
 use Rattle.std.specs.Prelude.{◌≡◌, ◌≢◌, ◌⊎◌, ℕ, ◌+◌, ◌-◌, ◌≤◌, ◌<◌, min, true, List, [], ◌∷◌, ◌++◌, length, drop, map, slice_get, Some, Err, Ok}
 use Rattle.std.specs.List.{Contains}
+use Rattle.ia32_types.specs.declared.addresses.TheConstants.{DATA_ADDRESS, TEXT_ADDRESS}
 use Rattle.ia32_types.specs.Shape.{is_direct_branch}
 use Rattle.ia32_types.specs.declared.site.Refused.{Refused}
 use Rattle.ia32_decode.specs.Named.{BeginsRefused}
@@ -73,18 +74,18 @@ pub record LeadsAstray (swept : List Swept) (sites : List Site) (at : ℕ) : Typ
 
 -- The condition of each cause, at a place: an offset of the text, of the annotations for those that have no form, or 0.
 abbrev pub IsWrong : CheckCause → ImageParts → ℕ → Type 0
-IsWrong TextPlace parts at = (parts.text_at ≢ 0x10000000) × (at ≡ 0)
-IsWrong InitPlace parts at = (parts.init_at ≢ 0x11000000) × (at ≡ 0)
+IsWrong TextPlace parts at = (parts.text_at ≢ TEXT_ADDRESS) × (at ≡ 0)
+IsWrong InitPlace parts at = (parts.init_at ≢ DATA_ADDRESS) × (at ≡ 0)
 IsWrong TextSize parts at = ((length parts.text ≡ 0) ⊎ (TEXT_LIMIT < length parts.text)) × (at ≡ 0)
 IsWrong InitSize parts at = (INIT_LIMIT < length parts.init + parts.bss) × (at ≡ 0)
-IsWrong EntryPlace parts at = ((parts.entry < 0x10000000) ⊎ (0x10000000 + length parts.text ≤ parts.entry)) × (at ≡ 0)
+IsWrong EntryPlace parts at = ((parts.entry < TEXT_ADDRESS) ⊎ (TEXT_ADDRESS + length parts.text ≤ parts.entry)) × (at ≡ 0)
 IsWrong RefusedCode parts at = MeetsNamed parts.text at
 IsWrong BadCode parts at = MeetsOther parts.text at
 IsWrong TextEnd parts at = EndsOtherwise parts.text at
 IsWrong SitesForm parts at = listed parts.sites ≡ Err at
 IsWrong SiteWrong parts at = (b : BothRead parts) × IsLowest (IsWrongAt b.swept b.sites) at
 IsWrong Target parts at = (b : BothRead parts) × LeadsAstray b.swept b.sites at
-IsWrong EntryStart parts at = (b : BothRead parts) × (IsEntrance b.swept b.sites (parts.entry - 0x10000000) → ⊥) × (at ≡ parts.entry - 0x10000000)
+IsWrong EntryStart parts at = (b : BothRead parts) × (IsEntrance b.swept b.sites (parts.entry - TEXT_ADDRESS) → ⊥) × (at ≡ parts.entry - TEXT_ADDRESS)
 
 -- An image is wrong by a cause, and by none that comes before it in the order of the causes.
 pub record IsRefused (parts : ImageParts) (at : ℕ) (cause : CheckCause) : Type 0 where
