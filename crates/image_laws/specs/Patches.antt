@@ -1,5 +1,6 @@
 -- The jump that is written at a site, and where it leads.
 use Rattle.std.specs.Prelude.{ℕ, ◌-◌, false}
+use Rattle.ia32_types.specs.declared.addresses.TheConstants.{WINDOW_BELOW}
 use Rattle.ia32_types.specs.declared.insn.Insn.{Insn}
 use Rattle.ia32_types.specs.declared.insn.Op.TheVariants as op
 use Rattle.ia32_types.specs.declared.insn.Operand.TheVariants as operand
@@ -12,4 +13,4 @@ jump_out = record { op = op.Jmp; size = size.Long; a = operand.Absent; b = opera
 
 -- the linear address to which it leads from an offset of the text
 abbrev pub window_at : ℕ → ℕ
-window_at at = linear at - 0x0B0B0B07
+window_at at = linear at - WINDOW_BELOW

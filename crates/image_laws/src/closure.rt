@@ -2,6 +2,7 @@
 
 ghost use Rattle.std.specs.Prelude.{◌≡◌, ◌⊎◌, ◌+◌, ◌-◌, ◌%◌, ◌^◌, ◌≤◌, ◌<◌, ℕ, List, true, false, ◌↔◌, length};
 ghost use Rattle.std.specs.List.{Contains};
+ghost use Rattle.ia32_types.specs.declared.addresses.TheConstants.{TEXT_ADDRESS};
 ghost use Rattle.ia32_types.specs.Shape.{is_direct_branch};
 ghost use Rattle.ia32_types.specs.declared.flags.Regs.{Regs};
 ghost use Rattle.ia32_exec.specs.declared.outcome.Outcome.TheVariants.{Done};
@@ -30,7 +31,7 @@ pub fn ways_on()
         → is_direct_branch s.insn.op ≡ true → IsWayIn image (target_of s.at s.len s.insn) }
     ensures here { (image : Image) → IsAccepted image → (s : Swept) → StandsOutside image s → IsWayIn image s.at }
     ensures site { (image : Image) → IsAccepted image → (site : Site) → Contains image.sites site → IsWayIn image site.at }
-    ensures entry { (image : Image) → IsAccepted image → (0x10000000 ≤ image.entry) × IsWayIn image (image.entry - 0x10000000) }
+    ensures entry { (image : Image) → IsAccepted image → (TEXT_ADDRESS ≤ image.entry) × IsWayIn image (image.entry - TEXT_ADDRESS) }
     ensures place { (image : Image) (at : ℕ) → IsWayIn image at → (place_of image at ≡ Outside)
         ⊎ ((site : Site) × (place_of image at ≡ Inside site) × (site.at ≡ at)) }
 {}
