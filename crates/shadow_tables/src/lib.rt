@@ -10,4 +10,4 @@ mod words;
 pub use calls::{Call, replay};
 pub use shadow::Shadow;
 pub use shadows::Shadows;
-pub use words::Side;
+pub use words::{Side, permits};

@@ -23,7 +23,8 @@ fn is_user(side: Side) -> bool
     }
 }
 
-fn permits(side: Side, entry: &Entry, write: bool, wp: bool) -> bool
+/// The entry lets the view of that side do the access, by the rights that CR0.WP gives it.
+pub fn permits(side: Side, entry: &Entry, write: bool, wp: bool) -> bool
     requires page { entry.now.page < 2 ^ 20 }
     requires frame { entry.now.frame < 2 ^ 20 }
     ensures { result ≡ permits side entry.now write wp }

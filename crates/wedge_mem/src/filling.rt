@@ -5,7 +5,7 @@ ghost use Rattle.std.specs.FinMap.{get};
 ghost use Rattle.frame_pool.specs.Pool.{free_list};
 ghost use Rattle.frame_pool.specs.Held.{Owns, Moves};
 ghost use Rattle.guest_ram.specs.Among.{is_among};
-ghost use Rattle.shadow_tables.specs.Slots.{Turns, entry_in, is_user, permits};
+ghost use Rattle.shadow_tables.specs.Slots.{Turns, entry_in};
 ghost use Rattle.step_mem.specs.Changes.{AreOfPages, AreWithin};
 ghost use Rattle.wedge_mem.specs.Seen.{KeepsRest, OpensFor, OpensUnder, set_after};
 ghost use Rattle.wedge_mem.specs.Settled.{Fills, FillsLast, filled_by, fills_at, has_entry, is_due, refilled, serves, used};
@@ -14,28 +14,9 @@ use crate::pages::is_among;
 use frame_pool::Pool;
 use guest_ram::Ram;
 use ia32_types::PAGES;
-use paging::{Access, Entry, allows};
-use shadow_tables::{Shadows, Side};
+use paging::Entry;
+use shadow_tables::{Shadows, Side, permits};
 use step_mem::{Change, last_change};
-
-fn is_user(side: Side) -> bool
-    ensures { result ≡ is_user side }
-{
-    match side {
-        Side::Kernel => false,
-        Side::User => true,
-    }
-}
-
-/// The entry lets the view of that side do the access.
-fn permits(side: Side, entry: &Entry, write: bool, wp: bool) -> bool
-    requires page { entry.now.page < 2 ^ 20 }
-    requires frame { entry.now.frame < 2 ^ 20 }
-    ensures { result ≡ permits side entry.now write wp }
-{
-    let user = is_user(side);
-    allows(entry, Access { write, user }, wp)
-}
 
 /// What is kept of the entry's page lets the host do on that side what the entry lets it do there, which is to read at least.
 fn serves<S: Shadows>(shadows: &S, ram: &Ram, side: Side, wp: bool, entry: &Entry) -> bool
