@@ -1,6 +1,7 @@
 -- The instruction at EIP: how it is fetched, and what it does to the processor and asks of the board.
 use Rattle.std.specs.Prelude.{ℕ, ◌+◌, ◌-◌, ◌*◌, ◌/◌, Bool, false, List, ◌++◌, ◌==◌, Ok, Err, is_none, if◌then◌else◌}
 use Rattle.guest_ram.specs.Bytes.{part}
+use Rattle.ia32_types.specs.declared.addresses.TheConstants.{LAST_PAGE}
 use Rattle.ia32_types.specs.Site.{kind_of}
 use Rattle.ia32_types.specs.declared.stop.Stop.TheVariants as stops
 use Rattle.ia32_types.specs.declared.insn.Insn.{Insn}
@@ -69,7 +70,7 @@ fetched_by user eip front (begins.Insn insn len) = do
   _ ← owning_front eip len
   gives (begins.Insn insn len)
 fetched_by user eip front begins.Outside = gives begins.Outside
-fetched_by user eip front begins.Short = if eip / 4096 == 0xFFFFF then refuses (refusal.Stop stops.WrapAccess) else fetched_on user eip front
+fetched_by user eip front begins.Short = if eip / 4096 == LAST_PAGE then refuses (refusal.Stop stops.WrapAccess) else fetched_on user eip front
 
 -- the instruction at a linear address
 unfoldable pub fetched : Bool → ℕ → Work Refusal Decoded

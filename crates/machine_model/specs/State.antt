@@ -11,6 +11,7 @@ use Rattle.paging.specs.declared.entry.Walk.TheVariants.{Found}
 use Rattle.paging.specs.Fresh.{fresh, has}
 use Rattle.paging.specs.Space.{Mode, Bare, Wedge, no_own}
 use Rattle.guest_ram.specs.Bytes.{word32}
+use Rattle.ia32_types.specs.declared.addresses.TheConstants.{TEXT_FRAME}
 use Rattle.board.specs.declared.devices.Board.{Board}
 use Rattle.board.specs.Scripts.{Events}
 use Rattle.board.specs.Boards.{at_reset}
@@ -28,10 +29,10 @@ pub record Setting : Type 0 where
 abbrev pub on_bare : Setting → Setting
 on_bare m = record m { mode = Bare }
 
--- A monitor's rules over so many frames of text: the loader gave it those from 0x100 on, and no byte is an
+-- A monitor's rules over so many frames of text: the loader gave it those from the text's first on, and no byte is an
 -- instruction's own yet.
 abbrev pub rules_over : ℕ → Mode
-rules_over count = Wedge 0x100 count no_own
+rules_over count = Wedge TEXT_FRAME count no_own
 
 -- those over an image
 abbrev pub wedge_mode : Image → Mode

@@ -3,6 +3,7 @@ use Rattle.std.specs.Prelude.{◌≡◌, ℕ, Bool, true, false, ◌||◌, ◌&&
 use Rattle.std.specs.List.{Contains}
 use Rattle.std.specs.Option.{ForSome}
 use Rattle.std.specs.FinMap.{get}
+use Rattle.ia32_types.specs.declared.addresses.TheConstants.{DATA_PAGE}
 use Rattle.ia32_types.specs.declared.insn.Insn.{Insn}
 use Rattle.ia32_exec.specs.Effect.{ranges_of}
 use Rattle.descriptors.specs.declared.cpu.Cpu.{Cpu}
@@ -22,10 +23,10 @@ use Rattle.machine_model.specs.Step.{Report, Went, step_of}
 use Rattle.machine_model.specs.Run.{Set}
 
 -- Where a page that a step uses may lead. At level 3 to no text. At level 0 the page is one of the text window, with the
--- frame that the loader gave it, or lies behind the window, from 0x11000 on, and leads to no text.
+-- frame that the loader gave it, or lies behind the window, where the data begins, and leads to no text.
 abbrev pub may_use : Mode → (user : Bool) → ℕ → ℕ → Bool
 may_use mode true page frame = not (is_text mode frame)
-may_use mode false page frame = is_given mode page frame || (nat_le 0x11000 page && not (is_text mode frame))
+may_use mode false page frame = is_given mode page frame || (nat_le DATA_PAGE page && not (is_text mode frame))
 
 -- each page that was used so far leads where it may, if it has a translation
 pub record LeadWell (user : Bool) (s : Space) : Type 0 where
