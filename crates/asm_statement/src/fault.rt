@@ -5,11 +5,14 @@ ghost use Rattle.asm_statement.specs.declared.fault.StepFault.TheVariants.{Memor
 
 use asm_lex::SourceCause;
 use std::alloc::{AllocError, AllocFailed};
+use thiserror::Error;
 
 /// Why the statement isn't read on: the source is refused, or memory isn't found.
-#[derive(Drop)]
+#[derive(Debug, Drop, Error)]
 pub enum StepFault {
+    #[error("{0}")]
     Cause(SourceCause),
+    #[error("no memory was found")]
     Memory,
 }
 
