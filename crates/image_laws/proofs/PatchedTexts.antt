@@ -5,6 +5,7 @@ use Rattle.std.proofs.lemmas.Bool.{cases_lt}
 use Rattle.std.proofs.lemmas.List.{same_lists, get_or_default}
 use Rattle.guest_ram.specs.Bytes.{byte, part, with_part}
 use Rattle.guest_ram.proofs.Bytes.{length-part, get_or-part, part-part, length-with_part, get_or-with_part_in, get_or-with_part_below, get_or-with_part_above, with_part-with_part, with_part-part}
+use Rattle.ia32_types.specs.declared.addresses.TheConstants.{WINDOW_ADDRESS, WINDOW_END}
 use Rattle.ia32_types.specs.declared.insn.Insn.{Insn}
 use Rattle.ia32_rows.specs.Reader.{word_at, long_at}
 use Rattle.ia32_rows.specs.Rows.{rows}
@@ -160,7 +161,7 @@ module _ (image : Image) (h : IsAccepted image) where
   unfolding effect jump
   jump_effect site c r here b = ap (λ eip. done_at r (((eip + 5) % 2 ^ 32 + jump_out.imm) % 2 ^ 32)) here ∙ ap (done_at r) (leads_out site c)
 
-  pub in_window : (site : Site) → Contains image.sites site → (0x04000000 ≤ window_at site.at) × (window_at site.at ≤ 0x05FFFFFF)
+  pub in_window : (site : Site) → Contains image.sites site → (WINDOW_ADDRESS ≤ window_at site.at) × (window_at site.at < WINDOW_END)
   in_window site c =
       let few = h.within.text.1 in
       let ends = (apart_bounds 0 image.sites (length image.text) (apart image h) site c).2 in

@@ -5,7 +5,7 @@ ghost use Rattle.std.specs.List.{Contains};
 ghost use Rattle.guest_ram.specs.Bytes.{byte, part, with_part};
 ghost use Rattle.ia32_decode.specs.Decoding.{decoded};
 ghost use Rattle.ia32_decode.specs.declared.answer.Decoded.TheVariants as answer;
-ghost use Rattle.ia32_types.specs.declared.addresses.TheConstants.{WINDOW_ADDRESS, WINDOW_BELOW};
+ghost use Rattle.ia32_types.specs.declared.addresses.TheConstants.{WINDOW_ADDRESS, WINDOW_BELOW, WINDOW_END};
 ghost use Rattle.ia32_types.specs.declared.flags.Regs.{Regs};
 ghost use Rattle.ia32_exec.specs.declared.outcome.Outcome.TheVariants.{Done};
 ghost use Rattle.ia32_exec.specs.declared.outcome.Stores.TheVariants.{Nothing};
@@ -55,7 +55,7 @@ pub fn jumps_out()
         → r.eip ≡ linear site.at → (b : ℕ → ℕ)
         → effect jump_out 5 r b ≡ Done (record r { eip = window_at site.at }) Nothing }
     ensures window { (image : Image) → IsAccepted image → (site : Site) → Contains image.sites site
-        → (WINDOW_ADDRESS ≤ window_at site.at) × (window_at site.at ≤ 0x05FFFFFF) }
+        → (WINDOW_ADDRESS ≤ window_at site.at) × (window_at site.at < WINDOW_END) }
     ensures one_site { (image : Image) → IsAccepted image → (s t : Site) → Contains image.sites s
         → Contains image.sites t → window_at s.at ≡ window_at t.at → s ≡ t }
     ensures names { (at : ℕ) → window_at at + WINDOW_BELOW ≡ linear at }
