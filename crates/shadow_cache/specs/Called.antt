@@ -1,13 +1,10 @@
 -- What a call leaves of pairs, over the memory before it and after it.
-use Rattle.std.specs.Prelude.{◌≡◌, ℕ, List, [], ◌∷◌, ◌++◌, Bool, false, Some}
-use Rattle.std.specs.FinMap.{insert}
+use Rattle.std.specs.Prelude.{◌≡◌, ℕ, List, [], ◌∷◌, ◌++◌, false, Some}
 use Rattle.frame_pool.specs.declared.Pool.{Pool}
 use Rattle.frame_pool.specs.Held.{Owns, Moves}
 use Rattle.guest_ram.specs.Among.{is_among}
-use Rattle.paging.specs.declared.entry.Entry.{Entry}
 use Rattle.shadow_tables.specs.Entries.{entries_of}
-use Rattle.shadow_tables.specs.Slots.{filled, ArePart, LosesWrites, SameSlots, Turns}
-use Rattle.shadow_tables.specs.declared.words.Side.{Side}
+use Rattle.shadow_tables.specs.Slots.{ArePart, LosesWrites, SameSlots}
 use Rattle.shadow_cache.specs.After.{beside, mark_of, noted_of, slots_of, value_of}
 use Rattle.shadow_cache.specs.Agreeing.{Agree}
 use Rattle.shadow_cache.specs.Others.{AreKept}
@@ -45,12 +42,6 @@ KeepsSlots ps ps' m m' =
 abbrev pub BarsSlots : (ps ps' : List Pair) → (m m' : List ℕ) → Type 0
 BarsSlots ps ps' m m' =
     LosesWrites (slots_of ps m) (slots_of ps' m') (tables_of ps') × (entries_of (slots_of ps' m') ≡ entries_of (slots_of ps m))
-
--- its page is held on that side, barred from writes where tables of any pair were read from its frame
-abbrev pub FillsSlot : Side → Entry → Bool → (ps ps' : List Pair) → (m m' : List ℕ) → Type 0
-FillsSlot side entry wp ps ps' m m' =
-    Turns (slots_of ps m) (slots_of ps' m') entry.page (Some (filled (is_among entry.frame (tables_of ps)) side entry wp))
-    × (entries_of (slots_of ps' m') ≡ insert (entries_of (slots_of ps m)) entry.page entry)
 
 -- no more frames are barred from writes, and this one isn't
 abbrev pub Frees : ℕ → (ps ps' : List Pair) → Type 0

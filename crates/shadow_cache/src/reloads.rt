@@ -8,6 +8,7 @@ ghost use Rattle.std.specs.Set.{is_member, distinct_count};
 ghost use Rattle.frame_pool.specs.Pool.{free_list};
 ghost use Rattle.frame_pool.specs.Held.{Owns, Moves};
 ghost use Rattle.shadow_tables.specs.Aside.{IsSame, AreSame};
+ghost use Rattle.shadow_tables.specs.Known.{KnowsNothing};
 ghost use Rattle.shadow_tables.specs.Slots.{ArePart};
 ghost use Rattle.shadow_cache.specs.Laws as laws;
 ghost use Rattle.shadow_cache.specs.Reloaded.{put_by, coming, staying};
@@ -47,12 +48,9 @@ pub trait Reloads: Shadows {
         ensures stands { ∥ Self.stands self.new ram.new ∥₁ }
         ensures none { (page : ℕ) → page < 2 ^ 20 → Self.slots self.new ram.new page ≡ None }
         ensures entries { entries_of (Self.slots self.new ram.new) ≡ empty }
-        ensures noted { (frame : ℕ) → Self.noted self.new frame ≡ false }
-        ensures marked { Self.marked self.new ≡ false }
-        ensures value { Self.value self.new ≡ Self.value self.old }
+        ensures known { KnowsNothing Self.noted Self.marked Self.value Self.tracked self.old self.new }
         ensures asides { Self.asides self.new ram.new ≡ [] }
         ensures opened { (indices : ℕ → Bool) → Self.opened self.new ram.new indices }
-        ensures tracked { ArePart (Self.tracked self.new) (Self.tracked self.old) }
         ensures roots { (side : Side) → Self.directory self.new side ≡ Self.directory self.old side }
         ensures two { length (Self.frames self.new ram.new) ≡ 2 }
         ensures owns { Owns pool.new ram.new (Self.frames self.new ram.new) }

@@ -1,14 +1,13 @@
 //! The views of the present value of CR3, and of values that may come back.
 
 ghost use Rattle.std.specs.Prelude.{◌≡◌, ℕ, ◌+◌, ◌/◌, ◌≤◌, ◌<◌, ◌^◌, Bool, List, [], ◌∷◌, ◌++◌, length, Some, None, false, IfOk, OnErr};
-ghost use Rattle.std.specs.FinMap.{empty, insert, remove};
+ghost use Rattle.std.specs.FinMap.{empty, remove};
 ghost use Rattle.frame_pool.specs.Pool.{free_list, Stands};
 ghost use Rattle.frame_pool.specs.declared.Pool.{Pool};
 ghost use Rattle.frame_pool.specs.Held.{Owns, Moves, Writes};
 ghost use Rattle.paging.specs.Uses.{without_dir};
-ghost use Rattle.shadow_tables.specs.Entries.{entries_of};
-ghost use Rattle.guest_ram.specs.Among.{is_among};
-ghost use Rattle.shadow_tables.specs.Slots.{filled, slot_at, root_of, ArePart, LosesDir, LosesWrites, SameSlots, Turns};
+ghost use Rattle.shadow_tables.specs.Entries.{FillsSlot, entries_of};
+ghost use Rattle.shadow_tables.specs.Slots.{slot_at, root_of, ArePart, LosesDir, LosesWrites, SameSlots, Turns};
 ghost use Rattle.shadow_tables.specs.declared.words.Side.{Side};
 ghost use Rattle.shadow_cache.specs.Pairs.{frames_of, tables_of, any_reads, AreShadows, IsRoots};
 ghost use Rattle.shadow_cache.specs.Others.{AreKept, AllLoseWrites};
@@ -112,7 +111,7 @@ impl Roots {
 impl Roots {
     ghost use Rattle.shadow_cache.specs.Roots.{pairs_of};
     ghost use Rattle.shadow_cache.specs.After.{slots_of, directory_of, OpensIn, KeepsIn, noted_in, written_in, emptied};
-    ghost use Rattle.shadow_cache.specs.Called.{BarsSlots, FillsSlot, Frees, GoesOn, KeepsPool, KeepsSlots, SamePairs};
+    ghost use Rattle.shadow_cache.specs.Called.{BarsSlots, Frees, GoesOn, KeepsPool, KeepsSlots, SamePairs};
     ghost use Rattle.shadow_cache.specs.declared.call_lists.RootsCall.TheVariants.{Shared};
     ghost use Rattle.shadow_tables.specs.declared.calls.Call.TheVariants.{Fill, DropPage, DropDir, DropAll, Note, Written};
 
@@ -163,7 +162,8 @@ impl Roots {
         requires fits { (entry.page < 2 ^ 20) × (entry.frame < 2 ^ 20) }
         ensures same { SamePairs (pairs_of self.old) (pairs_of self.new) ram.old ram.new }
         ensures stands { ∥ IsRoots (pairs_of self.new) ram.new ∥₁ }
-        ensures fills { FillsSlot side entry wp (pairs_of self.old) (pairs_of self.new) ram.old ram.new }
+        ensures fills { FillsSlot (tables_of (pairs_of self.old)) side entry wp
+            (slots_of (pairs_of self.old) ram.old) (slots_of (pairs_of self.new) ram.new) }
         ensures table { OpensIn (pairs_of self.old) ram.old ram.new side (entry.page / 1024) }
         ensures one { length (free_list pool.old ram.old) ≤ length (free_list pool.new ram.new) + 1 }
         ensures owns { Owns pool.new ram.new (frames_of (pairs_of self.new) ram.new) }

@@ -2,6 +2,7 @@ pub mod Slots
 pub mod Aside
 pub mod Opened
 pub mod Entries
+pub mod Known
 pub mod Host
 pub mod Laws
 pub mod Sweeps

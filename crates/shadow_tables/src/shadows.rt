@@ -1,6 +1,6 @@
 //! What keeps the translations of a guest for its host.
 
-ghost use Rattle.std.specs.Prelude.{◌≡◌, ℕ, ◌+◌, ◌*◌, ◌/◌, ◌≤◌, ◌<◌, ◌^◌, List, [], ◌∷◌, length, drop, Bool, Option, Some, None, IfSome, true, false, ◌||◌, ◌==◌};
+ghost use Rattle.std.specs.Prelude.{◌≡◌, ℕ, ◌+◌, ◌*◌, ◌/◌, ◌≤◌, ◌<◌, ◌^◌, List, [], ◌∷◌, length, drop, Bool, Option, Some, None, IfSome, true, false};
 ghost use Rattle.std.specs.FinMap.{get, insert, remove, empty};
 ghost use Rattle.frame_pool.specs.Pool.{base_of, free_list};
 ghost use Rattle.frame_pool.specs.declared.Pool.{Pool};
@@ -8,11 +8,12 @@ ghost use Rattle.frame_pool.specs.Held.{times, Holds, Owns, Writes, Moves, SameI
 ghost use Rattle.paging.specs.Reached.{reached, walk_frames};
 ghost use Rattle.paging.specs.Uses.{without_dir};
 ghost use Rattle.shadow_tables.specs.Aside.{Aside, AreSame, LoseWrites, AllFit, AllBarred, AllTracked, spared};
-ghost use Rattle.shadow_tables.specs.Entries.{entries_of};
+ghost use Rattle.shadow_tables.specs.Entries.{FillsSlot, entries_of};
 ghost use Rattle.shadow_tables.specs.Host.{lent};
+ghost use Rattle.shadow_tables.specs.Known.{KnowsNoMore, KnowsRead, KnowsWritten, SameBeside};
 ghost use Rattle.guest_ram.specs.Among.{is_among};
 ghost use Rattle.shadow_tables.specs.Opened.{HasOpened};
-ghost use Rattle.shadow_tables.specs.Slots.{Slot, filled, ArePart, entry_in, is_adequate, Turns, LosesDir, LosesWrites, SameSlots, Becomes, IsShadow, held, slot_at, root_of};
+ghost use Rattle.shadow_tables.specs.Slots.{Slot, filled, entry_in, is_adequate, Turns, LosesDir, LosesWrites, SameSlots, Becomes, IsShadow, held, slot_at, root_of};
 ghost use Rattle.shadow_tables.specs.declared.words.Side.{Side};
 ghost use Rattle.shadow_tables.specs.Laws as laws;
 
@@ -83,11 +84,7 @@ pub trait Shadows {
         ensures stands { ∥ stands self.new ram.new ∥₁ }
         ensures turns { Turns (slots self.old ram.old) (slots self.new ram.new) page None }
         ensures entries { entries_of (slots self.new ram.new) ≡ remove (entries_of (slots self.old ram.old)) page }
-        ensures noted { (f : ℕ) → noted self.new f ≡ noted self.old f }
-        ensures marked { marked self.new ≡ marked self.old }
-        ensures value { value self.new ≡ value self.old }
-        ensures asides { AreSame (asides self.old ram.old) (asides self.new ram.new) }
-        ensures tracked { tracked self.new ≡ tracked self.old }
+        ensures beside { SameBeside noted marked value tracked asides self.old self.new ram.old ram.new }
         ensures opened { (indices : ℕ → Bool) → opened self.old ram.old indices → opened self.new ram.new indices }
         ensures roots { (side : Side) → directory self.new side ≡ directory self.old side }
         ensures frames { frames self.new ram.new ≡ frames self.old ram.old }
@@ -102,11 +99,7 @@ pub trait Shadows {
         ensures stands { ∥ stands self.new ram.new ∥₁ }
         ensures loses { LosesDir (slots self.old ram.old) (slots self.new ram.new) index }
         ensures entries { entries_of (slots self.new ram.new) ≡ without_dir (entries_of (slots self.old ram.old)) index }
-        ensures noted { (f : ℕ) → noted self.new f ≡ noted self.old f }
-        ensures marked { marked self.new ≡ marked self.old }
-        ensures value { value self.new ≡ value self.old }
-        ensures asides { AreSame (asides self.old ram.old) (asides self.new ram.new) }
-        ensures tracked { tracked self.new ≡ tracked self.old }
+        ensures beside { SameBeside noted marked value tracked asides self.old self.new ram.old ram.new }
         ensures opened { (indices : ℕ → Bool) → opened self.old ram.old indices → opened self.new ram.new indices }
         ensures roots { (side : Side) → directory self.new side ≡ directory self.old side }
         ensures frames { frames self.new ram.new ≡ frames self.old ram.old }
@@ -120,17 +113,10 @@ pub trait Shadows {
         requires stands { ∥ stands self.old ram.old ∥₁ }
         requires owns { Owns pool.old ram.old (frames self.old ram.old) }
         requires free { 1 ≤ length (free_list pool.old ram.old) }
-        requires page { entry.page < 2 ^ 20 }
-        requires frame { entry.frame < 2 ^ 20 }
+        requires fits { (entry.page < 2 ^ 20) × (entry.frame < 2 ^ 20) }
         ensures stands { ∥ stands self.new ram.new ∥₁ }
-        ensures turns { Turns (slots self.old ram.old) (slots self.new ram.new) entry.page
-            (Some (filled (is_among entry.frame (tracked self.old)) side entry wp)) }
-        ensures entries { entries_of (slots self.new ram.new) ≡ insert (entries_of (slots self.old ram.old)) entry.page entry }
-        ensures noted { (f : ℕ) → noted self.new f ≡ noted self.old f }
-        ensures marked { marked self.new ≡ marked self.old }
-        ensures value { value self.new ≡ value self.old }
-        ensures asides { AreSame (asides self.old ram.old) (asides self.new ram.new) }
-        ensures tracked { tracked self.new ≡ tracked self.old }
+        ensures fills { FillsSlot (tracked self.old) side entry wp (slots self.old ram.old) (slots self.new ram.new) }
+        ensures beside { SameBeside noted marked value tracked asides self.old self.new ram.old ram.new }
         ensures opened { (indices : ℕ → Bool) → indices (entry.page / 1024) ≡ true
             → opened self.old ram.old indices → opened self.new ram.new indices }
         ensures roots { (side : Side) → directory self.new side ≡ directory self.old side }
@@ -145,11 +131,8 @@ pub trait Shadows {
         ensures stands { ∥ stands self.new ram.new ∥₁ }
         ensures none { (page : ℕ) → page < 2 ^ 20 → slots self.new ram.new page ≡ None }
         ensures entries { entries_of (slots self.new ram.new) ≡ empty }
-        ensures noted { (f : ℕ) → noted self.new f ≡ true → noted self.old f ≡ true }
-        ensures marked { marked self.new ≡ true → marked self.old ≡ true }
-        ensures value { value self.new ≡ value self.old }
+        ensures known { KnowsNoMore noted marked value tracked self.old self.new }
         ensures asides { asides self.new ram.new ≡ [] }
-        ensures tracked { ArePart (tracked self.new) (tracked self.old) }
         ensures opened { (indices : ℕ → Bool) → opened self.old ram.old indices → opened self.new ram.new indices }
         ensures roots { (side : Side) → directory self.new side ≡ directory self.old side }
         ensures two { length (frames self.new ram.new) ≡ 2 }
@@ -164,11 +147,8 @@ pub trait Shadows {
         ensures stands { ∥ stands self.new ram.new ∥₁ }
         ensures slots { LosesWrites (slots self.old ram.old) (slots self.new ram.new) (tracked self.new) }
         ensures entries { entries_of (slots self.new ram.new) ≡ entries_of (slots self.old ram.old) }
-        ensures noted { (f : ℕ) → noted self.new f ≡ (noted self.old f || (f == frame)) }
-        ensures marked { marked self.new ≡ marked self.old }
-        ensures value { value self.new ≡ value self.old }
+        ensures known { KnowsRead noted marked value tracked frame self.old self.new }
         ensures asides { LoseWrites (frame ∷ []) (asides self.old ram.old) (asides self.new ram.new) }
-        ensures tracked { ArePart (tracked self.new) (frame ∷ tracked self.old) }
         ensures opened { (indices : ℕ → Bool) → opened self.old ram.old indices → opened self.new ram.new indices }
         ensures roots { (side : Side) → directory self.new side ≡ directory self.old side }
         ensures frames { frames self.new ram.new ≡ frames self.old ram.old }
@@ -183,13 +163,8 @@ pub trait Shadows {
         ensures stands { ∥ stands self.new ram.new ∥₁ }
         ensures slots { SameSlots (slots self.old ram.old) (slots self.new ram.new) }
         ensures entries { entries_of (slots self.new ram.new) ≡ entries_of (slots self.old ram.old) }
-        ensures noted { (f : ℕ) → (f ≡ frame → ⊥) → noted self.new f ≡ noted self.old f }
-        ensures noted_there { noted self.new frame ≡ true → noted self.old frame ≡ true }
-        ensures marked { marked self.new ≡ (marked self.old || noted self.old frame) }
-        ensures value { value self.new ≡ value self.old }
+        ensures known { KnowsWritten noted marked value tracked frame self.old self.new }
         ensures asides { AreSame (spared frame (asides self.old ram.old)) (asides self.new ram.new) }
-        ensures tracked { ArePart (tracked self.new) (tracked self.old) }
-        ensures untracked { is_among frame (tracked self.new) ≡ false }
         ensures opened { (indices : ℕ → Bool) → opened self.old ram.old indices → opened self.new ram.new indices }
         ensures roots { (side : Side) → directory self.new side ≡ directory self.old side }
         ensures fewer { length (free_list pool.old ram.old) ≤ length (free_list pool.new ram.new) }
@@ -347,8 +322,7 @@ impl Shadows for Shadow {
         requires stands { ∥ IsShadow self.old ram.old ∥₁ }
         requires owns { Owns pool.old ram.old (held self.old ram.old) }
         requires free { 1 ≤ length (free_list pool.old ram.old) }
-        requires page { entry.page < 2 ^ 20 }
-        requires frame { entry.frame < 2 ^ 20 }
+        requires fits { (entry.page < 2 ^ 20) × (entry.frame < 2 ^ 20) }
         ensures same { self.new ≡ self.old }
         ensures becomes { Becomes self.old ram.old ram.new entry.page (Some (filled false side entry wp)) }
         ensures entries { entries_of (slot_at self.new ram.new) ≡ insert (entries_of (slot_at self.old ram.old)) entry.page entry }

@@ -28,10 +28,10 @@ loop-index-preserved g c =
     record {
       stands = e.stands;
       gone = next_below (slots l.shadows l.ram) (slots n.self n.ram) l.index e.loses l.invariant.gone;
-      noted = λ f. e.noted f ∙ l.invariant.noted f;
-      marked = e.marked ∙ l.invariant.marked;
-      value = e.value ∙ l.invariant.value;
-      asides = same-trans _ (asides l.shadows l.ram) _ l.invariant.asides e.asides;
+      noted = λ f. e.beside.noted f ∙ l.invariant.noted f;
+      marked = e.beside.marked ∙ l.invariant.marked;
+      value = e.beside.value ∙ l.invariant.value;
+      asides = same-trans _ (asides l.shadows l.ram) _ l.invariant.asides e.beside.asides;
       opened = λ indices o. e.opened indices (l.invariant.opened indices o);
       frames = e.frames ∙ l.invariant.frames;
       moves = λ p o.

@@ -108,7 +108,7 @@ returns-then-not-are_open-clause-fewer g c = λ e.
 
 pub returns-then-not-are_open-clause-ready : goal.returns-then-not-are_open-clause-ready
 returns-then-not-are_open-clause-ready g c = λ out m cpu frames h.
-    none_ready g.S.Shadows.slots g.S.Shadows.noted g.S.Shadows.marked g.S.Shadows.value g.S.Shadows.asides out m cpu c.drop_all.new.self c.drop_all.new.ram (c.drop_all.ensures.value ∙ h.value_is) c.drop_all.ensures.none c.drop_all.ensures.asides
+    none_ready g.S.Shadows.slots g.S.Shadows.noted g.S.Shadows.marked g.S.Shadows.value g.S.Shadows.asides out m cpu c.drop_all.new.self c.drop_all.new.ram (c.drop_all.ensures.known.value ∙ h.value_is) c.drop_all.ensures.none c.drop_all.ensures.asides
 
 pub returns-clause-opened : goal.returns-clause-opened
 returns-clause-opened g c = λ indices all o. c.settle.ensures.opened indices all o
@@ -120,7 +120,7 @@ pub returns-then-not-are_open-clause-opened : goal.returns-then-not-are_open-cla
 returns-then-not-are_open-clause-opened g c = λ indices all o. c.drop_all.ensures.opened indices o
 
 pub returns-then-not-are_open-clause-value : goal.returns-then-not-are_open-clause-value
-returns-then-not-are_open-clause-value g c = c.drop_all.ensures.value
+returns-then-not-are_open-clause-value g c = c.drop_all.ensures.known.value
 
 pub returns-then-not-are_open-clause-filled : goal.returns-then-not-are_open-clause-filled
 returns-then-not-are_open-clause-filled g c = tt

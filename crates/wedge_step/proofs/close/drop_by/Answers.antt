@@ -32,7 +32,7 @@ returns-else-not-is_all-clause-ready g c = λ m pages low h.
 pub returns-then-are_rules_changed-clause-ready : goal.returns-then-are_rules_changed-clause-ready
 returns-then-are_rules_changed-clause-ready g c = λ m pages low h.
     none_ready g.S.Shadows.slots g.S.Shadows.noted g.S.Shadows.marked g.S.Shadows.value g.S.Shadows.asides (left_out c.args.worked.now.dropped pages) m (record c.args.worked.now.cpu { cr3 = c.args.before.now.cr3 }) c.drop_all.new.self c.drop_all.new.ram
-    (c.drop_all.ensures.value ∙ h.value_is) c.drop_all.ensures.none c.drop_all.ensures.asides
+    (c.drop_all.ensures.known.value ∙ h.value_is) c.drop_all.ensures.none c.drop_all.ensures.asides
 
 pub drop_from-requires-clause-page : goal.drop_from-requires-clause-page
 drop_from-requires-clause-page g c = c.requires.page
@@ -101,7 +101,7 @@ returns-else-not-is_all-clause-left g c = λ no. absurd (both_ways _ no (sym c.i
 pub returns-then-are_rules_changed-clause-changed : goal.returns-then-are_rules_changed-clause-changed
 returns-then-are_rules_changed-clause-changed g c = λ yes.
     let e = c.drop_all.ensures in
-    record { rules = c.are_rules_changed.ensures.other c.if-are_rules_changed.true; none = e.none; beside = record { notes = e.noted; marks = e.marked; others = e.asides } }
+    record { rules = c.are_rules_changed.ensures.other c.if-are_rules_changed.true; none = e.none; beside = record { notes = e.known.noted; marks = e.known.marked; others = e.asides } }
 
 pub returns-then-not-is_all-clause-changed : goal.returns-then-not-is_all-clause-changed
 returns-then-not-is_all-clause-changed g c = λ yes. absurd (both_ways false refl yes)

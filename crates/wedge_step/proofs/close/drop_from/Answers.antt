@@ -16,35 +16,35 @@ use Rattle.wedge_step.proofs.Leaving.{stays_by, stays_same}
 use Rattle.wedge_step.proofs.close.drop_from.Goals as goal
 
 pub returns-in-Page-clause-fewer : goal.returns-in-Page-clause-fewer
-returns-in-Page-clause-fewer g c = fewer_pages _ _ _ _ (part_join _ _ _ (part_same _ _ c.drop_page.ensures.entries) (dropped_part (dropped.Page c.in-Page.page) _)) (same_shed _ _ c.drop_page.ensures.asides)
+returns-in-Page-clause-fewer g c = fewer_pages _ _ _ _ (part_join _ _ _ (part_same _ _ c.drop_page.ensures.entries) (dropped_part (dropped.Page c.in-Page.page) _)) (same_shed _ _ c.drop_page.ensures.beside.asides)
 
 pub returns-in-Dir-clause-fewer : goal.returns-in-Dir-clause-fewer
-returns-in-Dir-clause-fewer g c = fewer_pages _ _ _ _ (part_join _ _ _ (part_same _ _ c.drop_dir.ensures.entries) (dropped_part (dropped.Dir c.in-Dir.index) _)) (same_shed _ _ c.drop_dir.ensures.asides)
+returns-in-Dir-clause-fewer g c = fewer_pages _ _ _ _ (part_join _ _ _ (part_same _ _ c.drop_dir.ensures.entries) (dropped_part (dropped.Dir c.in-Dir.index) _)) (same_shed _ _ c.drop_dir.ensures.beside.asides)
 
 pub returns-in-Page-clause-ready : goal.returns-in-Page-clause-ready
 returns-in-Page-clause-ready g c = λ m cpu pages low all h.
     let moves = c.drop_page.ensures.moves c.args.pool.now c.requires.owned.owns in
     let front = front_same m.frames c.args.pool.now c.args.pool.now c.args.ram.now c.drop_page.new.ram _ _ low c.requires.owned.owns moves in
-    fewer_ready g.S.Shadows.slots g.S.Shadows.noted g.S.Shadows.marked g.S.Shadows.value g.S.Shadows.asides (leaving (dropped.Page c.in-Page.page) pages) (λ page. false) m cpu c.args.shadows.now c.drop_page.new.self c.args.ram.now c.drop_page.new.ram c.drop_page.ensures.value
-    (λ un. sym c.drop_page.ensures.marked ∙ un) (λ f n. c.drop_page.ensures.noted f ∙ n)
+    fewer_ready g.S.Shadows.slots g.S.Shadows.noted g.S.Shadows.marked g.S.Shadows.value g.S.Shadows.asides (leaving (dropped.Page c.in-Page.page) pages) (λ page. false) m cpu c.args.shadows.now c.drop_page.new.self c.args.ram.now c.drop_page.new.ram c.drop_page.ensures.beside.value
+    (λ un. sym c.drop_page.ensures.beside.marked ∙ un) (λ f n. c.drop_page.ensures.beside.noted f ∙ n)
     (λ page lt o. elim (eqb_tells page c.in-Page.page) [
       | inl e ↦ inl (subst (λ (k : ℕ). g.S.Shadows.slots c.drop_page.new.self c.drop_page.new.ram k ≡ None) (sym e.1) c.drop_page.ensures.turns.there)
       | inr n ↦ inr (n.0, within-same _ _ (c.drop_page.ensures.turns.others page lt n.1))
     ])
-    (same_shed _ _ c.drop_page.ensures.asides) (shown_same m c.args.ram.now c.drop_page.new.ram front)
+    (same_shed _ _ c.drop_page.ensures.beside.asides) (shown_same m c.args.ram.now c.drop_page.new.ram front)
     (subst (λ (d : Dropped). IsReadyBut g.S.Shadows.slots g.S.Shadows.noted g.S.Shadows.marked g.S.Shadows.value g.S.Shadows.asides (leaving d pages) m cpu c.args.shadows.now c.args.ram.now) c.in-Page.is h)
 
 pub returns-in-Dir-clause-ready : goal.returns-in-Dir-clause-ready
 returns-in-Dir-clause-ready g c = λ m cpu pages low all h.
     let moves = c.drop_dir.ensures.moves c.args.pool.now c.requires.owned.owns in
     let front = front_same m.frames c.args.pool.now c.args.pool.now c.args.ram.now c.drop_dir.new.ram _ _ low c.requires.owned.owns moves in
-    fewer_ready g.S.Shadows.slots g.S.Shadows.noted g.S.Shadows.marked g.S.Shadows.value g.S.Shadows.asides (leaving (dropped.Dir c.in-Dir.index) pages) (λ page. false) m cpu c.args.shadows.now c.drop_dir.new.self c.args.ram.now c.drop_dir.new.ram c.drop_dir.ensures.value
-    (λ un. sym c.drop_dir.ensures.marked ∙ un) (λ f n. c.drop_dir.ensures.noted f ∙ n)
+    fewer_ready g.S.Shadows.slots g.S.Shadows.noted g.S.Shadows.marked g.S.Shadows.value g.S.Shadows.asides (leaving (dropped.Dir c.in-Dir.index) pages) (λ page. false) m cpu c.args.shadows.now c.drop_dir.new.self c.args.ram.now c.drop_dir.new.ram c.drop_dir.ensures.beside.value
+    (λ un. sym c.drop_dir.ensures.beside.marked ∙ un) (λ f n. c.drop_dir.ensures.beside.noted f ∙ n)
     (λ page lt o. elim (eqb_tells (page / 1024) c.in-Dir.index) [
       | inl e ↦ inl (c.drop_dir.ensures.loses.gone page lt e.1)
       | inr n ↦ inr (n.0, within-same _ _ (c.drop_dir.ensures.loses.others page lt n.1))
     ])
-    (same_shed _ _ c.drop_dir.ensures.asides) (shown_same m c.args.ram.now c.drop_dir.new.ram front)
+    (same_shed _ _ c.drop_dir.ensures.beside.asides) (shown_same m c.args.ram.now c.drop_dir.new.ram front)
     (subst (λ (d : Dropped). IsReadyBut g.S.Shadows.slots g.S.Shadows.noted g.S.Shadows.marked g.S.Shadows.value g.S.Shadows.asides (leaving d pages) m cpu c.args.shadows.now c.args.ram.now) c.in-Dir.is h)
 
 pub returns-in-All-clause-fewer : goal.returns-in-All-clause-fewer
@@ -55,10 +55,10 @@ pub returns-in-Nothing-clause-stay : goal.returns-in-Nothing-clause-stay
 returns-in-Nothing-clause-stay g c = λ all. stays_same _ _ _
 
 pub returns-in-Page-clause-stay : goal.returns-in-Page-clause-stay
-returns-in-Page-clause-stay g c = λ all. let e = c.drop_page.ensures in stays_by _ _ _ _ _ _ e.noted e.marked e.asides
+returns-in-Page-clause-stay g c = λ all. let e = c.drop_page.ensures.beside in stays_by _ _ _ _ _ _ e.noted e.marked e.asides
 
 pub returns-in-Dir-clause-stay : goal.returns-in-Dir-clause-stay
-returns-in-Dir-clause-stay g c = λ all. let e = c.drop_dir.ensures in stays_by _ _ _ _ _ _ e.noted e.marked e.asides
+returns-in-Dir-clause-stay g c = λ all. let e = c.drop_dir.ensures.beside in stays_by _ _ _ _ _ _ e.noted e.marked e.asides
 
 pub returns-in-Page-clause-entries : goal.returns-in-Page-clause-entries
 returns-in-Page-clause-entries g c = rw c.in-Page.is c.drop_page.ensures.entries
@@ -106,13 +106,13 @@ pub returns-in-Page-clause-moved : goal.returns-in-Page-clause-moved
 returns-in-Page-clause-moved g c = record { stands = c.drop_page.ensures.stands; owns = Owns-moves _ _ _ _ _ _ c.requires.owned.owns (c.drop_page.ensures.moves c.args.pool.now c.requires.owned.owns); moves = c.drop_page.ensures.moves c.args.pool.now c.requires.owned.owns }
 
 pub returns-in-Page-clause-shown : goal.returns-in-Page-clause-shown
-returns-in-Page-clause-shown g c = λ image wp. record { present = λ h. turned_open image wp _ _ c.in-Page.page c.drop_page.ensures.turns h; others = λ h. open_shed image wp _ _ (same_shed _ _ c.drop_page.ensures.asides) h }
+returns-in-Page-clause-shown g c = λ image wp. record { present = λ h. turned_open image wp _ _ c.in-Page.page c.drop_page.ensures.turns h; others = λ h. open_shed image wp _ _ (same_shed _ _ c.drop_page.ensures.beside.asides) h }
 
 pub returns-in-Dir-clause-moved : goal.returns-in-Dir-clause-moved
 returns-in-Dir-clause-moved g c = record { stands = c.drop_dir.ensures.stands; owns = Owns-moves _ _ _ _ _ _ c.requires.owned.owns (c.drop_dir.ensures.moves c.args.pool.now c.requires.owned.owns); moves = c.drop_dir.ensures.moves c.args.pool.now c.requires.owned.owns }
 
 pub returns-in-Dir-clause-shown : goal.returns-in-Dir-clause-shown
-returns-in-Dir-clause-shown g c = λ image wp. record { present = λ h. lost_open image wp _ _ c.in-Dir.index c.drop_dir.ensures.loses h; others = λ h. open_shed image wp _ _ (same_shed _ _ c.drop_dir.ensures.asides) h }
+returns-in-Dir-clause-shown g c = λ image wp. record { present = λ h. lost_open image wp _ _ c.in-Dir.index c.drop_dir.ensures.loses h; others = λ h. open_shed image wp _ _ (same_shed _ _ c.drop_dir.ensures.beside.asides) h }
 
 pub returns-in-All-clause-moved : goal.returns-in-All-clause-moved
 returns-in-All-clause-moved g c = record { stands = c.drop_all.ensures.stands; owns = c.drop_all.ensures.owns; moves = c.drop_all.ensures.moves }

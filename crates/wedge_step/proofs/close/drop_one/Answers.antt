@@ -4,16 +4,16 @@ pub returns-then-page-lt-PAGES-clause-stands : goal.returns-then-page-lt-PAGES-c
 returns-then-page-lt-PAGES-clause-stands g c = c.drop_page.ensures.stands
 
 pub returns-then-page-lt-PAGES-clause-noted : goal.returns-then-page-lt-PAGES-clause-noted
-returns-then-page-lt-PAGES-clause-noted g c = c.drop_page.ensures.noted
+returns-then-page-lt-PAGES-clause-noted g c = c.drop_page.ensures.beside.noted
 
 pub returns-then-page-lt-PAGES-clause-marked : goal.returns-then-page-lt-PAGES-clause-marked
-returns-then-page-lt-PAGES-clause-marked g c = c.drop_page.ensures.marked
+returns-then-page-lt-PAGES-clause-marked g c = c.drop_page.ensures.beside.marked
 
 pub returns-then-page-lt-PAGES-clause-value : goal.returns-then-page-lt-PAGES-clause-value
-returns-then-page-lt-PAGES-clause-value g c = c.drop_page.ensures.value
+returns-then-page-lt-PAGES-clause-value g c = c.drop_page.ensures.beside.value
 
 pub returns-then-page-lt-PAGES-clause-asides : goal.returns-then-page-lt-PAGES-clause-asides
-returns-then-page-lt-PAGES-clause-asides g c = c.drop_page.ensures.asides
+returns-then-page-lt-PAGES-clause-asides g c = c.drop_page.ensures.beside.asides
 
 pub returns-then-page-lt-PAGES-clause-opened : goal.returns-then-page-lt-PAGES-clause-opened
 returns-then-page-lt-PAGES-clause-opened g c = c.drop_page.ensures.opened

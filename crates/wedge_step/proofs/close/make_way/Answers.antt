@@ -57,7 +57,7 @@ returns-else-free-lt2-clause-ready g c = λ m cpu low h.
 
 pub returns-then-free-lt2-clause-ready : goal.returns-then-free-lt2-clause-ready
 returns-then-free-lt2-clause-ready g c = λ m cpu low h.
-    none_ready g.S.Shadows.slots g.S.Shadows.noted g.S.Shadows.marked g.S.Shadows.value g.S.Shadows.asides (λ page. false) m cpu c.drop_all.new.self c.drop_all.new.ram (c.drop_all.ensures.value ∙ h.value_is) c.drop_all.ensures.none c.drop_all.ensures.asides
+    none_ready g.S.Shadows.slots g.S.Shadows.noted g.S.Shadows.marked g.S.Shadows.value g.S.Shadows.asides (λ page. false) m cpu c.drop_all.new.self c.drop_all.new.ram (c.drop_all.ensures.known.value ∙ h.value_is) c.drop_all.ensures.none c.drop_all.ensures.asides
 
 pub returns-then-free-lt2-clause-fewer : goal.returns-then-free-lt2-clause-fewer
 returns-then-free-lt2-clause-fewer g c =
@@ -76,7 +76,7 @@ pub drop_pages-requires : goal.drop_pages-requires
 drop_pages-requires g c = record { stands = c.requires.owned.stands }
 
 pub returns-then-free-lt2-clause-value : goal.returns-then-free-lt2-clause-value
-returns-then-free-lt2-clause-value g c = c.drop_all.ensures.value
+returns-then-free-lt2-clause-value g c = c.drop_all.ensures.known.value
 
 pub returns-then-free-lt2-clause-opened : goal.returns-then-free-lt2-clause-opened
 returns-then-free-lt2-clause-opened g c = c.drop_all.ensures.opened

@@ -8,14 +8,13 @@ use Rattle.shadow_cache.proofs.Noted.{emptied-value}
 use Rattle.shadow_cache.proofs.Openings.{renewed-opened}
 use Rattle.shadow_cache.proofs.reloads.RootsReloads.renew.Goals as goal
 
-pub returns-clause-noted : goal.returns-clause-noted
-returns-clause-noted c = λ frame. ap (λ (ps : List Pair). noted_of ps frame) c.drop_all.ensures.pairs ∙ no-reads frame
-
-pub returns-clause-marked : goal.returns-clause-marked
-returns-clause-marked c = ap mark_of c.drop_all.ensures.pairs
-
-pub returns-clause-value : goal.returns-clause-value
-returns-clause-value c = let r = c.args.self.now in emptied-value r.present r.others (pairs_of c.drop_all.new.self) c.drop_all.ensures.pairs
+pub returns-clause-known : goal.returns-clause-known
+returns-clause-known c = let r = c.args.self.now in record {
+  noted = λ frame. ap (λ (ps : List Pair). noted_of ps frame) c.drop_all.ensures.pairs ∙ no-reads frame;
+  marked = ap mark_of c.drop_all.ensures.pairs;
+  value = emptied-value r.present r.others (pairs_of c.drop_all.new.self) c.drop_all.ensures.pairs;
+  tracked = c.drop_all.ensures.tracked;
+}
 
 pub returns-clause-asides : goal.returns-clause-asides
 returns-clause-asides c = let r = c.args.self.now in none-beside r.present r.others (pairs_of c.drop_all.new.self) c.drop_all.new.ram c.drop_all.ensures.pairs

@@ -24,13 +24,14 @@ returns-clause-stands c =
 
 pub returns-clause-fills : goal.returns-clause-fills
 returns-clause-fills c =
-    let r = c.args.self.now in let e = c.hold.ensures.becomes in (
-      record {
+    let r = c.args.self.now in let e = c.hold.ensures.becomes in
+    record {
+      turns = record {
         there = e.there ∙ ap (λ b. Some (filled b c.args.side c.args.entry c.args.wp)) (c.tracks-barred.ensures ∙ sym (tables-any (pairs_of r) c.args.entry.frame));
         others = e.others;
-      },
-      c.hold.ensures.entries,
-    )
+      };
+      entries = c.hold.ensures.entries;
+    }
 
 pub returns-clause-owns : goal.returns-clause-owns
 returns-clause-owns c =
@@ -50,4 +51,4 @@ returns-clause-same c =
 pub returns-clause-told : goal.returns-clause-told
 returns-clause-told c = λ value calls a.
     let r = c.args.self.now in
-    step-fill value calls c.args.side c.args.entry c.args.wp r.present r.others c.args.ram.now c.hold.new.ram c.requires.fits.0 (returns-clause-same c).1 (returns-clause-fills c).0 c.hold.ensures.table a
+    step-fill value calls c.args.side c.args.entry c.args.wp r.present r.others c.args.ram.now c.hold.new.ram c.requires.fits.0 (returns-clause-same c).1 (returns-clause-fills c).turns c.hold.ensures.table a

@@ -4,14 +4,13 @@ use Rattle.shadow_cache.proofs.Noted.{emptied-reads, emptied-marked, emptied-val
 use Rattle.shadow_cache.proofs.Openings.{emptied-opened}
 use Rattle.shadow_cache.proofs.roots.RootsShadows.drop_all.Goals as goal
 
-pub returns-clause-noted : goal.returns-clause-noted
-returns-clause-noted c = λ f h. let r = c.args.self.now in emptied-reads r.present r.others (pairs_of c.drop_all.new.self) f c.drop_all.ensures.pairs h
-
-pub returns-clause-marked : goal.returns-clause-marked
-returns-clause-marked c = let r = c.args.self.now in emptied-marked r.present r.others (pairs_of c.drop_all.new.self) c.drop_all.ensures.pairs
-
-pub returns-clause-value : goal.returns-clause-value
-returns-clause-value c = let r = c.args.self.now in emptied-value r.present r.others (pairs_of c.drop_all.new.self) c.drop_all.ensures.pairs
+pub returns-clause-known : goal.returns-clause-known
+returns-clause-known c = let r = c.args.self.now in record {
+  noted = λ f h. emptied-reads r.present r.others (pairs_of c.drop_all.new.self) f c.drop_all.ensures.pairs h;
+  marked = emptied-marked r.present r.others (pairs_of c.drop_all.new.self) c.drop_all.ensures.pairs;
+  value = emptied-value r.present r.others (pairs_of c.drop_all.new.self) c.drop_all.ensures.pairs;
+  tracked = c.drop_all.ensures.tracked;
+}
 
 pub returns-clause-asides : goal.returns-clause-asides
 returns-clause-asides c = let r = c.args.self.now in none-beside r.present r.others (pairs_of c.drop_all.new.self) c.drop_all.new.ram c.drop_all.ensures.pairs

@@ -7,16 +7,13 @@ use Rattle.shadow_cache.proofs.Noted.{noted-exact}
 use Rattle.shadow_cache.proofs.Openings.{noted-opened}
 use Rattle.shadow_cache.proofs.roots.RootsShadows.note.Goals as goal
 
-pub returns-clause-noted : goal.returns-clause-noted
-returns-clause-noted c = λ f.
-    let r = c.args.self.now in
-    noted-exact r.present r.others (pairs_of c.note.new.self) c.args.frame f (had (pairs_of r) c.args.ram.now c.requires.stands).sized.0 c.requires.frame c.note.ensures.pairs
-
-pub returns-clause-marked : goal.returns-clause-marked
-returns-clause-marked c = ap mark_of c.note.ensures.pairs
-
-pub returns-clause-value : goal.returns-clause-value
-returns-clause-value c = ap value_of c.note.ensures.pairs
+pub returns-clause-known : goal.returns-clause-known
+returns-clause-known c = let r = c.args.self.now in record {
+  noted = λ f. noted-exact r.present r.others (pairs_of c.note.new.self) c.args.frame f (had (pairs_of r) c.args.ram.now c.requires.stands).sized.0 c.requires.frame c.note.ensures.pairs;
+  marked = ap mark_of c.note.ensures.pairs;
+  value = ap value_of c.note.ensures.pairs;
+  tracked = c.note.ensures.tracked;
+}
 
 pub returns-clause-asides : goal.returns-clause-asides
 returns-clause-asides c =

@@ -4,17 +4,15 @@ use Rattle.shadow_cache.proofs.Noted.{written-other, written-there, written-mark
 use Rattle.shadow_cache.proofs.Openings.{written-opened}
 use Rattle.shadow_cache.proofs.roots.RootsShadows.written.Goals as goal
 
-pub returns-clause-noted : goal.returns-clause-noted
-returns-clause-noted c = λ f n. let r = c.args.self.now in written-other r.present r.others (pairs_of c.written.new.self) c.args.frame f c.written.ensures.pairs n
-
-pub returns-clause-noted_there : goal.returns-clause-noted_there
-returns-clause-noted_there c = let r = c.args.self.now in written-there r.present r.others (pairs_of c.written.new.self) c.args.frame c.written.ensures.pairs
-
-pub returns-clause-marked : goal.returns-clause-marked
-returns-clause-marked c = let r = c.args.self.now in written-marked r.present r.others (pairs_of c.written.new.self) c.args.frame c.written.ensures.pairs
-
-pub returns-clause-value : goal.returns-clause-value
-returns-clause-value c = let r = c.args.self.now in written-value r.present r.others (pairs_of c.written.new.self) c.args.frame c.written.ensures.pairs
+pub returns-clause-known : goal.returns-clause-known
+returns-clause-known c = let r = c.args.self.now in record {
+  noted = λ f n. written-other r.present r.others (pairs_of c.written.new.self) c.args.frame f c.written.ensures.pairs n;
+  noted_there = written-there r.present r.others (pairs_of c.written.new.self) c.args.frame c.written.ensures.pairs;
+  marked = written-marked r.present r.others (pairs_of c.written.new.self) c.args.frame c.written.ensures.pairs;
+  value = written-value r.present r.others (pairs_of c.written.new.self) c.args.frame c.written.ensures.pairs;
+  tracked = c.written.ensures.frees.0;
+  untracked = c.written.ensures.frees.1;
+}
 
 pub returns-clause-asides : goal.returns-clause-asides
 returns-clause-asides c =
