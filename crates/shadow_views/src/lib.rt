@@ -4,14 +4,14 @@
 ghost use Rattle.std.specs.Prelude.{◌≡◌, ◌≢◌, ℕ, ◌+◌, ◌*◌, ◌/◌, ◌^◌, ◌<◌, ◌≤◌, ◌↔◌, List, length, IsTrue};
 ghost use Rattle.frame_pool.specs.Pool.{free_list, Stands};
 ghost use Rattle.frame_pool.specs.Held.{Holds, Owns};
-ghost use Rattle.shadow_views.specs.Tables.{dir, at, owned, IsIn, IsView, IsOwned, with_at, Puts, Opens, Grows, Closes, Shrinks, Empties};
+ghost use Rattle.shadow_views.specs.Tables.{dir, at, by_dir, owned, IsIn, IsView, IsOwned, with_at, Puts, Opens, Grows, Closes, Shrinks, Empties};
 
 use frame_pool::Pool;
 use guest_ram::{FRAME, Ram};
 
 /// A directory word.
 #[tactic(auto, unfolding(crate::specs::Tables::dir))]
-fn dir(ram: &Ram, root: u32, d: u32) -> u32
+pub fn dir(ram: &Ram, root: u32, d: u32) -> u32
     requires view { IsView ram.now root }
     requires index { d < 1024 }
     ensures { result ≡ dir ram.now root d }
@@ -20,18 +20,26 @@ fn dir(ram: &Ram, root: u32, d: u32) -> u32
     ram.read32(FRAME * root + 4 * d)
 }
 
+/// A word of the table that a directory word names, or 0 where it names none.
+pub fn word_in(ram: &Ram, table: u32, i: u32) -> u32
+    requires lies { table ≢ 0 → 4096 * (table / 4096) + 4096 ≤ length ram.now }
+    requires index { i < 1024 }
+    ensures { result ≡ by_dir ram.now table i }
+{
+    let _bytes = ram.len();
+    if table == 0 {
+        return 0;
+    }
+    ram.read32(FRAME * (table / 4096) + 4 * i)
+}
+
 /// The word of a page, or 0 where there is no table.
 pub fn look(ram: &Ram, root: u32, page: u32) -> u32
     requires view { IsView ram.now root }
     requires page { page < 2 ^ 20 }
     ensures { result ≡ at ram.now root page }
 {
-    let _bytes = ram.len();
-    let word = dir(ram, root, page / 1024);
-    if word == 0 {
-        return 0;
-    }
-    ram.read32(FRAME * (word / 4096) + 4 * (page % 1024))
+    word_in(ram, dir(ram, root, page / 1024), page % 1024)
 }
 
 /// A directory word names a table.
