@@ -1,5 +1,6 @@
 -- What is known of a plan and of a linked image.
 use Rattle.std.specs.Prelude.{◌≡◌, ◌+◌, ◌≤◌, ◌<◌, List, length, All}
+use Rattle.ia32_types.specs.declared.addresses.TheConstants.{DATA_ADDRESS, TEXT_ADDRESS}
 use Rattle.elf_form.specs.ObjectParts.{ObjectParts}
 use Rattle.elf_form.specs.ImageParts.{ImageParts}
 use Rattle.sites.specs.declared.site.Site.{Site}
@@ -28,8 +29,8 @@ pub record IsPlan (os : List ObjectParts) (plan : Plan) : Type 0 where
 -- The parts are at their places and within their limits, and the annotations are those of sites in the text, in the
 -- format for so long a text.
 pub record IsLaidOut (image : ImageParts) : Type 0 where
-  pub text_at : image.text_at ≡ 0x10000000
-  pub init_at : image.init_at ≡ 0x11000000
+  pub text_at : image.text_at ≡ TEXT_ADDRESS
+  pub init_at : image.init_at ≡ DATA_ADDRESS
   pub text : (2 ≤ length image.text) × (length image.text ≤ TEXT_LIMIT)
   pub room : length image.init + image.bss ≤ INIT_LIMIT
   pub sites : List Site

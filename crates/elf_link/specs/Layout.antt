@@ -1,6 +1,7 @@
 -- Where the parts of the objects stand: sums over the objects before.
 use Rattle.std.specs.Prelude.{ℕ, ◌+◌, ◌==◌, List, [], ◌∷◌, length, map, Option, Some, None, take, sum_by, if◌then◌else◌}
 use Rattle.std.specs.List.{enumerate_from}
+use Rattle.ia32_types.specs.declared.addresses.TheConstants.{DATA_ADDRESS, TEXT_ADDRESS}
 use Rattle.elf_form.specs.ObjectParts.{ObjectParts}
 use Rattle.elf_form.specs.Output.{pad}
 use Rattle.elf_link.specs.declared.base.Base.{Base}
@@ -41,7 +42,7 @@ bss_at os i = sum_by init_room os + sum_by bss_room (take i os)
 
 -- their linear addresses
 unfoldable pub base : List ObjectParts → ℕ → Base
-base os i = record { text = 0x10000000 + text_at os i; init = 0x11000000 + init_at os i; bss = 0x11000000 + bss_at os i }
+base os i = record { text = TEXT_ADDRESS + text_at os i; init = DATA_ADDRESS + init_at os i; bss = DATA_ADDRESS + bss_at os i }
 
 -- the end of the last text, also where it is empty
 unfoldable pub text_end : List ObjectParts → ℕ

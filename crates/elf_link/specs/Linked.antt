@@ -1,6 +1,7 @@
 -- The image that objects make.
 use Rattle.std.specs.Prelude.{ℕ, ◌-◌, true, false, List, [], ◌∷◌, ◌++◌, length, take, replicate, Option, Some, None, Result, Ok, Err}
 use Rattle.std.specs.List.{flat_map}
+use Rattle.ia32_types.specs.declared.addresses.TheConstants.{DATA_ADDRESS, TEXT_ADDRESS}
 use Rattle.elf_form.specs.ObjectParts.{ObjectParts}
 use Rattle.elf_form.specs.ImageParts.{ImageParts}
 use Rattle.elf_form.specs.ImageLayout.{image_bytes}
@@ -34,11 +35,11 @@ unfoldable pub linked_init : List ObjectParts → List ℕ
 linked_init os = take (init_end os) (inits os (numbered os))
 
 abbrev pub entry_at : List Base → Option Target → ℕ
-entry_at bs None = 0x10000000
+entry_at bs None = TEXT_ADDRESS
 entry_at bs (Some t) = address bs t
 
 unfoldable pub image : List ObjectParts → ImageParts
-image os = record { text = linked_text os; init = linked_init os; bss = memory_end os - init_end os; entry = entry_at (bases os) (start os); text_at = 0x10000000; init_at = 0x11000000; sites = spelling (in_text (length (linked_text os)) (linked_sites os)) }
+image os = record { text = linked_text os; init = linked_init os; bss = memory_end os - init_end os; entry = entry_at (bases os) (start os); text_at = TEXT_ADDRESS; init_at = DATA_ADDRESS; sites = spelling (in_text (length (linked_text os)) (linked_sites os)) }
 
 -- the image, or the first refusal
 unfoldable pub linked_image : List ObjectParts → Result ImageParts Refused
