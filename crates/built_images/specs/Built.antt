@@ -1,4 +1,5 @@
 -- Images whose text is made of padded instructions.
+use Rattle.ia32_types.specs.declared.addresses.TheConstants.{DATA_ADDRESS, TEXT_ADDRESS}
 use Rattle.ia32_types.specs.Shape.{is_direct_branch}
 use Rattle.std.specs.Prelude.{◌≡◌, ◌⊎◌, ℕ, ◌+◌, ◌-◌, ◌≤◌, true, List, [], ◌∷◌, ◌++◌, length, Ok, Err}
 use Rattle.std.specs.List.{Contains}
@@ -22,12 +23,12 @@ pub record IsBuilt (parts : ImageParts) (cs : List Chunk) : Type 0 where
   pub ends : cs ≡ body ++ (Alone last ∷ [])
   pub jump : last.bytes ≡ 0xEB ∷ 0xFE ∷ []
   pub annotated : listed parts.sites ≡ Ok (chunk_sites 0 cs)
-  pub text_at : parts.text_at ≡ 0x10000000
-  pub init_at : parts.init_at ≡ 0x11000000
+  pub text_at : parts.text_at ≡ TEXT_ADDRESS
+  pub init_at : parts.init_at ≡ DATA_ADDRESS
   pub size : length parts.text ≤ TEXT_LIMIT
   pub room : length parts.init + parts.bss ≤ INIT_LIMIT
-  pub entry_in : 0x10000000 ≤ parts.entry
-  pub entry : Begins cs (parts.entry - 0x10000000)
+  pub entry_in : TEXT_ADDRESS ≤ parts.entry
+  pub entry : Begins cs (parts.entry - TEXT_ADDRESS)
 
 -- Each direct branch leads to where a padded instruction begins.
 abbrev pub LeadsRight : List Chunk → Type 0
