@@ -1,9 +1,9 @@
 -- Taking the right to write from the words of a frame.
-use Rattle.std.proofs.Common.{◌≡◌, ◌≢◌, IsTrue, ℕ, zero, suc, ◌+◌, ◌-◌, ◌*◌, ◌/◌, ◌%◌, ◌^◌, ◌<◌, ◌≤◌, ◌⊎◌, List, [], ◌∷◌, Bool, true, false, ◌&&◌, ◌||◌, not, cond, eqb, Option, Some, None, refl, sym, ap, ◌∙◌, subst, inl, inr, arith}
+use Rattle.std.proofs.Common.{◌≡◌, ◌≢◌, IsTrue, ℕ, zero, suc, ◌+◌, ◌-◌, ◌*◌, ◌/◌, ◌%◌, ◌^◌, ◌<◌, ◌≤◌, ◌⊎◌, List, [], ◌∷◌, length, Bool, true, false, ◌&&◌, ◌||◌, not, cond, eqb, Option, Some, None, refl, sym, ap, ◌∙◌, subst, inl, inr, arith}
 use Rattle.std.proofs.lemmas.Bool.Decides.{eqb_tells}
 use Rattle.frame_pool.specs.Held.{Holds, Writes}
 use Rattle.frame_pool.proofs.Held.{Writes-refl, Writes-trans, Holds-writes}
-use Rattle.shadow_views.specs.Tables.{dir, at, owned, IsIn, Puts}
+use Rattle.shadow_views.specs.Tables.{dir, at, by_dir, owned, IsIn, IsView, Puts}
 use Rattle.shadow_views.proofs.Changes.{at-none}
 use Rattle.shadow_tables.specs.Opened.{KeepsTables}
 use Rattle.shadow_tables.proofs.Asides.{and-true}
@@ -155,10 +155,6 @@ pub put-in : (s : Shadow) (m n : List ℕ) (r k page frame : ℕ) → Holds m (h
 put-in s m n r k page frame h e i puts =
     subst (λ x. Puts m n (roots s) x page (barred_word frame (at m x page))) e (puts (roots s) h (subst (λ x. IsIn x (roots s)) (sym e) i))
 
-pub no-table : (b : Bool) (w : ℕ) → (IsTrue b → w ≢ 0) × (w ≢ 0 → IsTrue b) → b ≡ false → w ≡ 0
-no-table b w f e =
-    elim (eqb_tells w 0) [ inl t ↦ t.1 | inr n ↦ absurd (let t = f.1 n.1 in let q : false ≡ true = sym e ∙ t in cc) ]
-
 module _ (s : Shadow) (m m1 m2 : List ℕ) (page frame : ℕ) (h : IsShadow s m) (l : page < 2 ^ 20)
     (a : Puts m m1 (roots s) s.kernel page (barred_word frame (at m s.kernel page))) (b : Puts m1 m2 (roots s) s.user page (barred_word frame (at m1 s.user page))) where
   bar-kernel : at m2 s.kernel page ≡ barred_word frame (at m s.kernel page)
@@ -228,18 +224,41 @@ module _ (s : Shadow) (m m1 m2 : List ℕ) (page frame : ℕ) (h : IsShadow s m)
 
 -- ---- many pages
 
--- no page of a directory index without tables is kept
-pub dir-none : (s : Shadow) (m : List ℕ) (index page : ℕ) → dir m s.kernel index ≡ 0 → dir m s.user index ≡ 0 → page / 1024 ≡ index → slot_at s m page ≡ None
-dir-none s m index page a b e = slot-none s m page (at-none m s.kernel page (ap (dir m s.kernel) e ∙ a)) (at-none m s.user page (ap (dir m s.user) e ∙ b))
-
 abbrev pub without : Shadow → List ℕ → ℕ → ℕ → Option Slot
 without s m frame page = barred (frame ∷ []) (slot_at s m page)
 
-pub bars-none : (s : Shadow) (m : List ℕ) (index frame : ℕ) → IsShadow s m → dir m s.kernel index ≡ 0 → dir m s.user index ≡ 0 → Sweeps s m m (1024 * index) (1024 * index + 1024) (without s m frame)
-bars-none s m index frame h a b =
-    sweeps-over s m m (1024 * index) (1024 * index) (1024 * index + 1024) (without s m frame) (sweeps-none s m (1024 * index) (without s m frame) h) (omega arith) (omega arith)
-    (λ page l x y. (
-    let n = dir-none s m index page a b (omega (arith, x, y)) in n ∙ sym (ap (barred (frame ∷ [])) n)))
+-- the table that a directory word names lies in the memory
+pub table-lies : (m : List ℕ) (r index w : ℕ) → IsView m r → index < 1024 → w ≡ dir m r index → w ≢ 0 → 4096 * (w / 4096) + 4096 ≤ length m
+table-lies m r index w v l e ne = subst (λ x. 4096 * (x / 4096) + 4096 ≤ length m) (sym e) (v.table index l (λ z. ne (e ∙ z)))
+
+-- the word of a page stays where that of its table does
+pub word-still : (m : List ℕ) (r index frame first last : ℕ) → last ≤ 1024
+    → ((i : ℕ) → first ≤ i → i < last → barred_word frame (by_dir m (dir m r index) i) ≡ by_dir m (dir m r index) i)
+    → (page : ℕ) → 1024 * index + first ≤ page → page < 1024 * index + last → barred_word frame (at m r page) ≡ at m r page
+unfolding at
+word-still m r index frame first last few h page low high =
+    let place : page / 1024 ≡ index = omega (arith, few, low, high) in
+    let from : first ≤ page % 1024 = omega (arith, few, low, high) in
+    let below : page % 1024 < last = omega (arith, few, low, high) in
+    subst (λ d. barred_word frame (by_dir m (dir m r d) (page % 1024)) ≡ by_dir m (dir m r d) (page % 1024)) (sym place) (h (page % 1024) from below)
+
+-- and so does what is kept of it
+pub page-still : (s : Shadow) (m : List ℕ) (page frame : ℕ) → IsShadow s m → page < 2 ^ 20
+    → barred_word frame (at m s.kernel page) ≡ at m s.kernel page → barred_word frame (at m s.user page) ≡ at m s.user page
+    → slot_at s m page ≡ without s m frame page
+unfolding slot_at
+page-still s m page frame h l a b =
+    ap (λ x. by_words page x (at m s.user page)) (sym a)
+    ∙ ap (by_words page (barred_word frame (at m s.kernel page))) (sym b)
+    ∙ barred-by page frame (at m s.kernel page) (at m s.user page) (h.marks s.kernel page (in-kernel s) l) (h.marks s.user page (in-user s) l)
+
+-- pages that have no right to lose
+pub bars-over : (s : Shadow) (m n : List ℕ) (first from last frame : ℕ) → first ≤ from → from ≤ last → Sweeps s m n first from (without s m frame)
+    → ((page : ℕ) → page < 2 ^ 20 → from ≤ page → page < last → slot_at s n page ≡ without s n frame page) → Sweeps s m n first last (without s m frame)
+bars-over s m n first from last frame x y a h =
+    sweeps-over s m n first from last (without s m frame) a y x
+    (λ page l low high. (
+    let e = a.others page l (λ p q. absurd (omega (arith, q, low))) in sym e ∙ h page l low high ∙ ap (barred (frame ∷ [])) e))
 
 pub bars-more : (s : Shadow) (m m1 m2 : List ℕ) (first n frame : ℕ) → first ≤ n → n < 2 ^ 20 → Sweeps s m m1 first n (without s m frame) → Becomes s m1 m2 n (without s m1 frame n) → held s m2 ≡ held s m1 → Writes (held s m1) m1 m2 → KeepsTables s m1 m2 → Sweeps s m m2 first (n + 1) (without s m frame)
 bars-more s m m1 m2 first n frame le small a b f w k =
