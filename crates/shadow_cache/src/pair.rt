@@ -49,6 +49,21 @@ impl Pair {
         }
     }
 
+    /// The same in the place of another pair.
+    pub fn begin(&mut self, ram: &mut Ram, pool: &mut Pool, cr3: u32)
+        requires stands { Stands pool.old ram.old }
+        requires free { 2 ≤ length (free_list pool.old ram.old) }
+        ensures cr3 { self.new.cr3 ≡ cr3 }
+        ensures empty { IsEmpty self.new.shadow ram.new }
+        ensures tables { self.new.tables ≡ no_tables }
+        ensures marked { self.new.marked ≡ false }
+        ensures moves { Moves pool.old pool.new ram.old ram.new [] (held self.new.shadow ram.new) }
+    {
+        self.cr3 = cr3;
+        self.shadow = Shadow::new(ram, pool);
+        self.renew();
+    }
+
     /// The guest's tables were read from this frame.
     pub fn reads(&self, frame: u32) -> bool
         ensures { result ≡ reads self.now frame }

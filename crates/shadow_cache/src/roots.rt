@@ -74,8 +74,8 @@ impl Roots {
         if self.present.cr3 == cr3 && !self.present.marked {
             return;
         }
-        put_by(&mut self.others, ram, pool, self.present);
-        self.present = come(&mut self.others, ram, pool, cr3);
+        put_by(&mut self.others, ram, pool, &self.present);
+        come(&mut self.others, ram, pool, cr3, &mut self.present);
     }
 }
 

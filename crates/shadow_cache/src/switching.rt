@@ -14,20 +14,20 @@ use frame_pool::Pool;
 use guest_ram::Ram;
 
 /// The pair that was present joins the others, or leaves if it is marked.
-pub fn put_by(others: &mut Pairs, ram: &mut Ram, pool: &mut Pool, before: Pair)
-    requires roots { IsRoots (before ∷ others.old) ram.old }
-    requires owns { Owns pool.old ram.old (frames_of (before ∷ others.old) ram.old) }
-    ensures staying { others.new ≡ staying_pairs (before ∷ others.old) }
+pub fn put_by(others: &mut Pairs, ram: &mut Ram, pool: &mut Pool, before: &Pair)
+    requires roots { IsRoots (before.now ∷ others.old) ram.old }
+    requires owns { Owns pool.old ram.old (frames_of (before.now ∷ others.old) ram.old) }
+    ensures staying { others.new ≡ staying_pairs (before.now ∷ others.old) }
     ensures roots { IsRoots others.new ram.new }
     ensures unmarked { AreUnmarked others.new }
     ensures kept { AreKept others.new ram.old ram.new }
     ensures fewer { length (free_list pool.old ram.old) ≤ length (free_list pool.new ram.new) }
-    ensures moves { Moves pool.old pool.new ram.old ram.new (frames_of (before ∷ others.old) ram.old) (frames_of others.new ram.new) }
+    ensures moves { Moves pool.old pool.new ram.old ram.new (frames_of (before.now ∷ others.old) ram.old) (frames_of others.new ram.new) }
 {
     if before.marked {
         before.shadow.close(ram, pool);
     } else {
-        others.push(before);
+        others.push(*before);
     }
 }
 
@@ -48,21 +48,21 @@ fn make_room(others: &mut Pairs, ram: &mut Ram, pool: &mut Pool)
     }
 }
 
-/// The pair of this value, taken out, or a new one.
-pub fn come(others: &mut Pairs, ram: &mut Ram, pool: &mut Pool, cr3: u32) -> Pair
+/// The pair of this value, taken out, or a new one takes the place of the present one.
+pub fn come(others: &mut Pairs, ram: &mut Ram, pool: &mut Pool, cr3: u32, present: &mut Pair)
     requires roots { IsRoots others.old ram.old }
     requires unmarked { AreUnmarked others.old }
     requires owns { Owns pool.old ram.old (frames_of others.old ram.old) }
     requires free { 2 ≤ length (free_list pool.old ram.old) }
-    ensures comes { Comes others.old (result ∷ others.new) ram.old ram.new cr3 }
-    ensures roots { IsRoots (result ∷ others.new) ram.new }
-    ensures moves { Moves pool.old pool.new ram.old ram.new (frames_of others.old ram.old) (frames_of (result ∷ others.new) ram.new) }
+    ensures comes { Comes others.old (present.new ∷ others.new) ram.old ram.new cr3 }
+    ensures roots { IsRoots (present.new ∷ others.new) ram.new }
+    ensures moves { Moves pool.old pool.new ram.old ram.new (frames_of others.old ram.old) (frames_of (present.new ∷ others.new) ram.new) }
 {
     match find(others, cr3) {
-        Some(i) => others.take(i),
+        Some(i) => *present = others.take(i),
         None => {
             make_room(others, ram, pool);
-            Pair::new(ram, pool, cr3)
+            present.begin(ram, pool, cr3);
         }
     }
 }

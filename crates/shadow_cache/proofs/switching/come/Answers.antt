@@ -34,38 +34,38 @@ returns-in-Some-clause-comes c =
       kept = kept-refl qs m (returns-in-Some-clause-roots c).shadows;
     } in x)
 
-pub new-requires-clause-stands : goal.new-requires-clause-stands
-new-requires-clause-stands c = c.make_room.ensures.moves.stands
+pub begin-requires-clause-stands : goal.begin-requires-clause-stands
+begin-requires-clause-stands c = c.make_room.ensures.moves.stands
 
-pub new-requires-clause-free : goal.new-requires-clause-free
-new-requires-clause-free c = let a = c.make_room.ensures.fewer in let b = c.requires.free in omega (arith, a, b)
+pub begin-requires-clause-free : goal.begin-requires-clause-free
+begin-requires-clause-free c = let a = c.make_room.ensures.fewer in let b = c.requires.free in omega (arith, a, b)
 
 pub returns-in-None-clause-roots : goal.returns-in-None-clause-roots
 returns-in-None-clause-roots c =
-    let a = c.make_room.ensures in let e = c.new.ensures in
+    let a = c.make_room.ensures in let e = c.begin.ensures in
     let o = Owns-moves c.args.pool.now c.make_room.new.pool c.args.ram.now c.make_room.new.ram (frames_of c.args.others.now c.args.ram.now) (frames_of c.make_room.new.others c.make_room.new.ram) c.requires.owns a.moves in
     let few : length c.make_room.new.others ≤ 7 = (let t = length-take 7 c.args.others.now in let s = ap (λ (xs : List Pair). length xs) a.rest in omega (arith, t, s)) in
-    open-roots c.make_room.new.pool c.new.new.pool c.new.result c.make_room.new.others c.make_room.new.ram c.new.new.ram a.roots o e.moves e.empty e.tables few a.unmarked
+    open-roots c.make_room.new.pool c.begin.new.pool c.begin.new.self c.make_room.new.others c.make_room.new.ram c.begin.new.ram a.roots o e.moves e.empty e.tables few a.unmarked
 
 pub returns-in-None-clause-moves : goal.returns-in-None-clause-moves
 returns-in-None-clause-moves c =
-    let a = c.make_room.ensures in let e = c.new.ensures in
+    let a = c.make_room.ensures in let e = c.begin.ensures in
     let o = Owns-moves c.args.pool.now c.make_room.new.pool c.args.ram.now c.make_room.new.ram (frames_of c.args.others.now c.args.ram.now) (frames_of c.make_room.new.others c.make_room.new.ram) c.requires.owns a.moves in
     let few : length c.make_room.new.others ≤ 7 = (let t = length-take 7 c.args.others.now in let s = ap (λ (xs : List Pair). length xs) a.rest in omega (arith, t, s)) in
-    Moves-trans c.args.pool.now c.make_room.new.pool c.new.new.pool c.args.ram.now c.make_room.new.ram c.new.new.ram (frames_of c.args.others.now c.args.ram.now) (frames_of c.make_room.new.others c.make_room.new.ram) (frames_of (c.new.result ∷ c.make_room.new.others) c.new.new.ram)
-    a.moves (open-moves c.make_room.new.pool c.new.new.pool c.new.result c.make_room.new.others c.make_room.new.ram c.new.new.ram a.roots o e.moves e.empty e.tables few)
+    Moves-trans c.args.pool.now c.make_room.new.pool c.begin.new.pool c.args.ram.now c.make_room.new.ram c.begin.new.ram (frames_of c.args.others.now c.args.ram.now) (frames_of c.make_room.new.others c.make_room.new.ram) (frames_of (c.begin.new.self ∷ c.make_room.new.others) c.begin.new.ram)
+    a.moves (open-moves c.make_room.new.pool c.begin.new.pool c.begin.new.self c.make_room.new.others c.make_room.new.ram c.begin.new.ram a.roots o e.moves e.empty e.tables few)
 
 pub returns-in-None-clause-comes : goal.returns-in-None-clause-comes
 returns-in-None-clause-comes c =
-    let a = c.make_room.ensures in let e = c.new.ensures in
+    let a = c.make_room.ensures in let e = c.begin.ensures in
     let o = Owns-moves c.args.pool.now c.make_room.new.pool c.args.ram.now c.make_room.new.ram (frames_of c.args.others.now c.args.ram.now) (frames_of c.make_room.new.others c.make_room.new.ram) c.requires.owns a.moves in
     let few : length c.make_room.new.others ≤ 7 = (let t = length-take 7 c.args.others.now in let s = ap (λ (xs : List Pair). length xs) a.rest in omega (arith, t, s)) in
-    let ps = c.args.others.now in let qs : List Pair = c.new.result ∷ c.make_room.new.others in let m = c.args.ram.now in let n = c.new.new.ram in
+    let ps = c.args.others.now in let qs : List Pair = c.begin.new.self ∷ c.make_room.new.others in let m = c.args.ram.now in let n = c.begin.new.ram in
     subst (λ (o : Option ℕ). MatchOption o (Opens ps qs m n c.args.cr3) (λ i. ComesBack ps qs m n i)) (sym c.in-None.is ∙ c.find.ensures.place)
     (let x : Opens ps qs m n c.args.cr3 =
     record {
-      pair = c.new.result;
+      pair = c.begin.new.self;
       fresh = record { value = e.cr3; empty = e.empty; tables = e.tables; unmarked = e.marked };
-      front = ap (λ (xs : List Pair). c.new.result ∷ xs) a.rest;
-      kept = subst (λ (xs : List Pair). AreKept xs m n) a.rest (kept-trans c.make_room.new.others m c.make_room.new.ram n a.kept (open-kept c.make_room.new.pool c.new.new.pool c.new.result c.make_room.new.others c.make_room.new.ram c.new.new.ram a.roots o e.moves e.empty e.tables few));
+      front = ap (λ (xs : List Pair). c.begin.new.self ∷ xs) a.rest;
+      kept = subst (λ (xs : List Pair). AreKept xs m n) a.rest (kept-trans c.make_room.new.others m c.make_room.new.ram n a.kept (open-kept c.make_room.new.pool c.begin.new.pool c.begin.new.self c.make_room.new.others c.make_room.new.ram c.begin.new.ram a.roots o e.moves e.empty e.tables few));
     } in x)
