@@ -16,15 +16,15 @@ use Rattle.ia32_rows.proofs.Fields.{addressing_works, addressing_reads, immediat
 use Rattle.ia32_rows.proofs.TableLaws.{row_works}
 
 -- what is read to its end is read in front of anything
-whole_then : {A : Type 0} (n : ℕ) (p : Reader A) → Reads n p → (front more : List ℕ) (x : A) → p front ≡ Ok (x, []) → p (front ++ more) ≡ Ok (x, more)
+pub whole_then : {A : Type 0} (n : ℕ) (p : Reader A) → Reads n p → (front more : List ℕ) (x : A) → p front ≡ Ok (x, []) → p (front ++ more) ≡ Ok (x, more)
 whole_then n p r front more x e =
     let t = r.takes front x [] e in
     ap p (ap (λ bs. bs ++ more) (t.parts ∙ append-nil t.front)) ∙ t.again more
 
-whole : {A : Type 0} (n : ℕ) (p : Reader A) (bytes : List ℕ) (x : A) (rest : List ℕ) (t : Takes n p bytes x rest) → p t.front ≡ Ok (x, [])
+pub whole : {A : Type 0} (n : ℕ) (p : Reader A) (bytes : List ℕ) (x : A) (rest : List ℕ) (t : Takes n p bytes x rest) → p t.front ≡ Ok (x, [])
 whole n p bytes x rest t = ap p (sym (append-nil t.front)) ∙ t.again []
 
-byte_is : (test : ℕ → Bool) (bytes : List ℕ) (b : ℕ) (rest : List ℕ) → byte_where test bytes ≡ Ok (b, rest) → (bytes ≡ b ∷ rest) × (test b ≡ true)
+pub byte_is : (test : ℕ → Bool) (bytes : List ℕ) (b : ℕ) (rest : List ℕ) → byte_where test bytes ≡ Ok (b, rest) → (bytes ≡ b ∷ rest) × (test b ≡ true)
 byte_is test [] b rest e = absurd cc
 byte_is test (c ∷ bytes) b rest e = let s = test_met (test c) c b bytes rest e in (cc (s.1, s.2), ap test (sym s.1) ∙ s.0)
 

@@ -1,10 +1,11 @@
 -- Of what bytes spell, the instructions of the list of sites are the sensitive ones.
-use Rattle.std.proofs.Common.{◌≡◌, ℕ, zero, suc, ◌+◌, ◌-◌, ◌<◌, Bool, true, List, [], ◌∷◌, ◌++◌, length, get_or, map, Option, Some, None, refl, sym, ap, subst, ◌∙◌, zero-add, inl, inr, arith}
+use Rattle.std.proofs.Common.{◌≡◌, ℕ, zero, suc, ◌+◌, ◌-◌, ◌<◌, Bool, true, List, [], ◌∷◌, ◌++◌, length, get_or, map, Some, None, refl, sym, ap, subst, ◌∙◌, zero-add, inl, inr, arith}
 use Rattle.std.specs.Prelude.{◌↔◌, is_none}
 use Rattle.std.specs.List.{list_all, AllByRecursion, Contains}
 use Rattle.std.proofs.lemmas.Bool.{cases_lt}
 use Rattle.std.proofs.lemmas.List.{length-append}
 use Rattle.std.proofs.lemmas.List.Sums.{AllPass-from_list_all}
+use Rattle.plain_laws.proofs.Options.{none_is}
 use Rattle.ia32_types.specs.declared.insn.Insn.{Insn}
 use Rattle.ia32_types.specs.declared.site.SiteKind.{SiteKind}
 use Rattle.ia32_types.specs.Site.{kind_of, sensitive_kind}
@@ -31,10 +32,6 @@ each : {X : Type 0} (P : X → Type 0) (xs : List X) → AllByRecursion P xs →
 each P [] h k d lt = absurd (omega arith)
 each P (x ∷ xs) h zero d lt = h.0
 each P (x ∷ xs) h (suc k) d lt = each P xs h.1 k d (omega arith)
-
-none_is : {A : Type 0} (o : Option A) → is_none o ≡ true → o ≡ None
-none_is None e = refl
-none_is (Some x) e = absurd cc
 
 behind : (xs ys : List Row) (k : ℕ) (d : Row) → get_or (xs ++ ys) (length xs + k) d ≡ get_or ys k d
 behind [] ys k d = ap (λ n. get_or ys n d) (zero-add k)
