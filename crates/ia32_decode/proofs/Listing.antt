@@ -14,6 +14,7 @@ use Rattle.ia32_rows.specs.Reader.{Reader, and_then, ◌>>=◌}
 use Rattle.ia32_rows.specs.Spelling.{first_code, last_code, has_code, lead_at, coded_at, parts_at}
 use Rattle.ia32_rows.specs.Rows.{rows}
 use Rattle.ia32_rows.proofs.Readers.{tested}
+use Rattle.ia32_rows.proofs.Apart.{not_both}
 use Rattle.ia32_decode.specs.Index.{key, listed, Misses, IsIndex}
 
 -- ---- the test
@@ -101,10 +102,6 @@ abbrev Enough : List ℕ → Type 0
 Enough [] = ⊥
 Enough (b ∷ []) = (b == 0x0f) ≡ true → ⊥
 Enough (b ∷ c ∷ more) = Unit {0}
-
-not_both : (t : Bool) → t ≡ true → not t ≡ true → ⊥
-not_both true p q = cc
-not_both false p q = cc
 
 -- a row with no byte before its opcode has not the opcode 0F
 not_0f : (form : Form) (b : ℕ) → not (has_code form 0x0f) ≡ true → has_code form b ≡ true → (b == 0x0f) ≡ false
