@@ -1,3 +1,4 @@
 pub mod Drops
 pub mod Works
 pub mod Translations
+pub mod WithEntry

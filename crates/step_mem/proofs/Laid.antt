@@ -5,6 +5,7 @@ use Rattle.std.specs.Int.{w32, from_le_bytes}
 use Rattle.std.proofs.lemmas.List.{places, same_lists}
 use Rattle.std.proofs.lemmas.Bool.Decides.{nat_tests}
 use Rattle.std.proofs.lemmas.Bool.{cases_lt, or_parts}
+use Rattle.plain_laws.proofs.Tests.{second_false}
 use Rattle.guest_ram.specs.Bytes.{part, byte, word32, with_part, with_byte}
 use Rattle.guest_ram.proofs.Bytes.{length-with_byte, byte-part}
 use Rattle.paging.specs.declared.entry.Walk.{Walk}
@@ -125,10 +126,6 @@ second_of : (a b : Bool) → not a ≡ false → (a && b) ≡ false → b ≡ fa
 second_of true b h k = k
 second_of false b h k = absurd (cc)
 
-holding : (a b : Bool) → a ≡ true → (a && b) ≡ false → b ≡ false
-holding true b h k = k
-holding false b h k = absurd (cc)
-
 choose : (b : Bool) (w x y : Walk) → (b ≡ false → x ≡ y) → cond b w x ≡ cond b w y
 choose true w x y h = refl
 choose false w x y h = h refl
@@ -189,7 +186,7 @@ walks_apart kept own frames ram cr3 pse page wp room laid small h =
       root = parts.0;
       dir = λ in_frames.
           let tested : nat_lt (cr3 / 4096) frames ≡ true = grind (arith, nat_tests) in
-          rw (same_word kept own frames ram cr3 page room laid small parts.0 in_frames) at (holding (nat_lt (cr3 / 4096) frames) _ tested parts.1);
+          rw (same_word kept own frames ram cr3 page room laid small parts.0 in_frames) at (second_false (nat_lt (cr3 / 4096) frames) _ tested parts.1);
     }
 
 pub shown_fresh : (kept : Option Text) (own : Own) (frames : ℕ) (ram : List ℕ) (cr3 : ℕ) (pse : Bool) (page : ℕ) → 4096 * frames ≤ length ram → IsLaid kept frames → page < 2 ^ 20 → WalksApart kept own frames ram cr3 pse page
