@@ -1,8 +1,6 @@
 -- What is known once a test has passed.
 use Rattle.std.proofs.Common.{◌≡◌, ◌≤◌, ◌+◌, ℕ, List, Bool, true, false, cond, ltb, Option, Some, None, Ok, refl}
 use Rattle.std.specs.Prelude.{IfNone}
-use Rattle.std.specs.Bool.{then_some}
-use Rattle.std.specs.Option.{option_or}
 use Rattle.std.proofs.lemmas.Bool.{ltb-false}
 use Rattle.guest_ram.specs.Bytes.{word32}
 use Rattle.elf_form.specs.declared.cause.ElfCause.{ElfCause}
@@ -12,21 +10,12 @@ use Rattle.elf_form.specs.Faults.{test, ◌or_lower◌}
 use Rattle.elf_form.specs.Tables.{AllFound, first_of, second_of}
 use Rattle.elf_form.specs.Segments.{order, memory_sizes, first_size, second_size, sizes, loads, header_size, program_size, section_size, too_long}
 use Rattle.elf_form.specs.Sections.{one_of}
+pub use Rattle.plain_laws.proofs.Options.{then_none, else_none}
 
 -- no place was found
 pub tested_none : (cause : ElfCause) (place : Option ℕ) → test cause place ≡ Ok tt → place ≡ None
 tested_none cause None e = refl
 tested_none cause (Some at) e = absurd cc
-
--- a test that does not hold
-pub then_none : {A : Type 0} (b : Bool) (x : A) → then_some b x ≡ None → b ≡ false
-then_none true x h = absurd cc
-then_none false x h = refl
-
--- neither of two places
-pub else_none : {A : Type 0} (a b : Option A) → option_or a b ≡ None → (a ≡ None) × (b ≡ None)
-else_none None b h = (refl, h)
-else_none (Some x) b h = absurd cc
 
 lower_some : (t : Bool) (x y : ℕ) → cond t (Some x) (Some y) ≡ None → ⊥
 lower_some true x y h = cc

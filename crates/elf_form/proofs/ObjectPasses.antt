@@ -4,6 +4,7 @@ use Rattle.std.specs.Prelude.{count_by}
 use Rattle.std.specs.List.{find}
 use Rattle.std.specs.Option.{option_or}
 use Rattle.std.proofs.lemmas.Bool.{le-ltb, lt-ltb, and_right}
+use Rattle.plain_laws.proofs.Options.{neither, none_then}
 use Rattle.guest_ram.specs.Bytes.{word32}
 use Rattle.elf_form.specs.declared.roles.Role.TheVariants as role
 use Rattle.elf_form.specs.declared.symbols.Table.{Table}
@@ -18,7 +19,7 @@ use Rattle.elf_form.specs.Symbols.{section_test, sections_fault}
 use Rattle.elf_form.specs.ObjectReading.{has_strings, table_of, link_of, table_fault, inner_sizes, object_sizes, object_form, section_names_fault}
 use Rattle.elf_form.specs.ObjectLayout.{layout, is_of, object_names}
 use Rattle.elf_form.proofs.FileWords.{IsRow}
-use Rattle.elf_form.proofs.RoundTrip.{neither_first, is_good, bss_stays}
+use Rattle.elf_form.proofs.RoundTrip.{bss_stays}
 use Rattle.elf_form.proofs.ObjectFile.{IsFileOf}
 use Rattle.elf_form.proofs.ObjectSections.{rows, headers-are, sections-are, names-are, HasRoles, with-role, table-is, text_target, data_target, role_at-symbols}
 
@@ -36,13 +37,13 @@ unfolding cut
 not_cut f o is =
     let at = is.at in
     let s = (layout o).sections in
-    let a : header_cut f ≡ None = is_good (passes f 0 52) 0 (le-ltb (length f) 52 (omega arith)) in
-    let b : header_table_cut f ≡ None = is_good (passes f (header_table f) (32 * header_count f)) (header_table f) (rw (is.header.headers, is.header.programs) (le-ltb (length f) 0 (omega arith))) in
-    let c : section_table_cut f ≡ None = is_good (passes f (section_table f) (40 * section_count f)) (section_table f) (rw (is.header.sections, is.header.section_count) (le-ltb (length f) (s + 400) (omega arith))) in
+    let a : header_cut f ≡ None = none_then (passes f 0 52) 0 (le-ltb (length f) 52 (omega arith)) in
+    let b : header_table_cut f ≡ None = none_then (passes f (header_table f) (32 * header_count f)) (header_table f) (rw (is.header.headers, is.header.programs) (le-ltb (length f) 0 (omega arith))) in
+    let c : section_table_cut f ≡ None = none_then (passes f (section_table f) (40 * section_count f)) (section_table f) (rw (is.header.sections, is.header.section_count) (le-ltb (length f) (s + 400) (omega arith))) in
     let d : header_part_cut f ≡ None = ap (part_begins f 4) (ap (find (header_passes f)) (headers-are f o is)) in
     let e : section_part_cut f ≡ None = ap (part_begins f 16) (ap (find (section_passes f)) (sections-are f o is)
     ∙ none_of_ten (section_passes f) s (stays f _ _ _ _ _ _ is.null (omega arith)) (stays f _ _ _ _ _ _ is.text (omega arith)) (stays f _ _ _ _ _ _ is.init (omega arith)) (bss_stays f _ _ _ _ _ is.bss) (stays f _ _ _ _ _ _ is.sites (omega arith)) (stays f _ _ _ _ _ _ is.text_relocs (omega arith)) (stays f _ _ _ _ _ _ is.data_relocs (omega arith)) (stays f _ _ _ _ _ _ is.symbols (omega arith)) (stays f _ _ _ _ _ _ is.strings (omega arith)) (stays f _ _ _ _ _ _ is.names (omega arith))) in
-    neither_first (header_cut f) (option_or (header_table_cut f) (option_or (section_table_cut f) (option_or (header_part_cut f) (section_part_cut f)))) a (neither_first (header_table_cut f) (option_or (section_table_cut f) (option_or (header_part_cut f) (section_part_cut f))) b (neither_first (section_table_cut f) (option_or (header_part_cut f) (section_part_cut f)) c (neither_first (header_part_cut f) (section_part_cut f) d e)))
+    neither (header_cut f) (option_or (header_table_cut f) (option_or (section_table_cut f) (option_or (header_part_cut f) (section_part_cut f)))) a (neither (header_table_cut f) (option_or (section_table_cut f) (option_or (header_part_cut f) (section_part_cut f))) b (neither (section_table_cut f) (option_or (header_part_cut f) (section_part_cut f)) c (neither (header_part_cut f) (section_part_cut f) d e)))
 
 -- ---- sizes
 

@@ -1,10 +1,10 @@
 -- What is written is read again.
 use Rattle.std.proofs.Common.{◌≡◌, ℕ, ◌+◌, ◌*◌, ◌-◌, ◌≤◌, Bool, true, false, eqb, ltb, List, [], ◌∷◌, length, Option, None, Ok, refl, sym, ap, ◌∙◌, arith, eq-eqb, add_assoc, add-zero}
 use Rattle.std.specs.Prelude.{filter}
-use Rattle.std.specs.Bool.{then_some}
 use Rattle.std.specs.List.{find}
 use Rattle.std.specs.Option.{option_or}
 use Rattle.std.proofs.lemmas.Bool.{cond-true, cond-false, le-ltb}
+use Rattle.plain_laws.proofs.Options.{neither, none_then}
 use Rattle.guest_ram.specs.Bytes.{part, word32}
 use Rattle.elf_form.specs.declared.segments.Found.TheVariants.{One, Two}
 use Rattle.elf_form.specs.ImageParts.{ImageParts}
@@ -90,14 +90,8 @@ fourth_of_rows p s a b c d e g = rw (a, b, c, d, e, g) refl
 
 -- ---- no part passes the end
 
-pub neither_first : (a b : Option ℕ) → a ≡ None → b ≡ None → option_or a b ≡ None
-neither_first a b e g = rw (e, g) refl
-
 pub neither_lower : (a b : Option ℕ) → a ≡ None → b ≡ None → (a or_lower b) ≡ None
 neither_lower a b e g = rw (e, g) refl
-
-pub is_good : (is_bad : Bool) (at : ℕ) → is_bad ≡ false → then_some is_bad at ≡ None
-is_good is_bad at e = rw e refl
 
 null_stays : (f : List ℕ) (s n g o z : ℕ) → IsRow f s n 0 g o z → section_passes f s ≡ false
 null_stays f s n g o z row = rw row.kind refl
@@ -119,13 +113,13 @@ unfolding cut
 not_cut f p is =
     let at = is.at in
     let s = sections_from p in
-    let a : header_cut f ≡ None = is_good (passes f 0 52) 0 (le-ltb (length f) 52 (omega arith)) in
-    let b : header_table_cut f ≡ None = is_good (passes f (header_table f) (32 * header_count f)) (header_table f) (rw (is.header.headers, is.header.programs) (le-ltb (length f) 116 (omega arith))) in
-    let c : section_table_cut f ≡ None = is_good (passes f (section_table f) (40 * section_count f)) (section_table f) (rw (is.header.sections, is.header.section_count) (le-ltb (length f) (s + 240) (omega arith))) in
+    let a : header_cut f ≡ None = none_then (passes f 0 52) 0 (le-ltb (length f) 52 (omega arith)) in
+    let b : header_table_cut f ≡ None = none_then (passes f (header_table f) (32 * header_count f)) (header_table f) (rw (is.header.headers, is.header.programs) (le-ltb (length f) 116 (omega arith))) in
+    let c : section_table_cut f ≡ None = none_then (passes f (section_table f) (40 * section_count f)) (section_table f) (rw (is.header.sections, is.header.section_count) (le-ltb (length f) (s + 240) (omega arith))) in
     let d : header_part_cut f ≡ None = ap (part_begins f 4) (ap (find (header_passes f)) (headers-are f p is) ∙ not_first (header_passes f) 52 (84 ∷ []) (program_stays f 52 _ _ _ _ _ is.text (omega arith)) (not_first (header_passes f) 84 [] (program_stays f 84 _ _ _ _ _ is.init (omega arith)) refl)) in
     let e : section_part_cut f ≡ None = ap (part_begins f 16) (ap (find (section_passes f)) (sections-are f p is)
     ∙ none_of_rows (section_passes f) s (null_stays f _ _ _ _ _ is.row0) (bytes_stay f _ _ _ _ _ is.row1 (omega arith)) (bytes_stay f _ _ _ _ _ is.row2 (omega arith)) (bss_stays f _ _ _ _ _ is.row3) (bytes_stay f _ _ _ _ _ is.row4 (omega arith)) (names_stay f _ _ _ _ _ is.row5 (omega arith))) in
-    neither_first (header_cut f) (option_or (header_table_cut f) (option_or (section_table_cut f) (option_or (header_part_cut f) (section_part_cut f)))) a (neither_first (header_table_cut f) (option_or (section_table_cut f) (option_or (header_part_cut f) (section_part_cut f))) b (neither_first (section_table_cut f) (option_or (header_part_cut f) (section_part_cut f)) c (neither_first (header_part_cut f) (section_part_cut f) d e)))
+    neither (header_cut f) (option_or (header_table_cut f) (option_or (section_table_cut f) (option_or (header_part_cut f) (section_part_cut f)))) a (neither (header_table_cut f) (option_or (section_table_cut f) (option_or (header_part_cut f) (section_part_cut f))) b (neither (section_table_cut f) (option_or (header_part_cut f) (section_part_cut f)) c (neither (header_part_cut f) (section_part_cut f) d e)))
 
 -- ---- program headers
 

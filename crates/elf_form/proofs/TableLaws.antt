@@ -100,10 +100,6 @@ pub first_some-end : (f : ℕ → Option ℕ) (at k n i : ℕ) → n ≤ i → f
 unfolding first_some
 first_some-end f at k n i le = ap (first_some f) (entries-end at k n i le)
 
-pub not_some : (o : Option ℕ) → ((at : ℕ) → o ≡ Some at → ⊥) → o ≡ None
-not_some None never = refl
-not_some (Some at) never = absurd (never at refl)
-
 -- ---- filtered entries
 
 pub filter-here : (p : ℕ → Bool) (at k n i : ℕ) → i < n → p (at + k * i) ≡ true → filter p (entries (at + k * i) k (n - i)) ≡ (at + k * i) ∷ filter p (entries (at + k * (i + 1)) k (n - (i + 1)))

@@ -5,6 +5,7 @@ use Rattle.std.specs.List.{flat_map}
 use Rattle.std.specs.Int.{w32, to_le_bytes}
 use Rattle.std.specs.Option.{option_or}
 use Rattle.std.proofs.lemmas.Bool.{le-ltb}
+use Rattle.plain_laws.proofs.Options.{else_none}
 use Rattle.guest_ram.specs.Bytes.{byte, word32, AreBytes}
 use Rattle.sites.specs.declared.site.Site.{Site}
 use Rattle.sites.specs.declared.site.SitesFault.{SitesFault}
@@ -14,7 +15,7 @@ use Rattle.sites.specs.Reading.{head_fault, sites_fault, sites_at, placed_in, Gi
 use Rattle.sites.specs.Gapped.{end_at, gaps_fault, gap_sites, gapped_in}
 use Rattle.sites.specs.Formats.{told_format, told_count, sites_in, list_of, listed}
 use Rattle.sites.proofs.Walk.{in_first}
-use Rattle.sites.proofs.Inverse.{unless_ok, else_none, head_was, placed_read, placed_was, length-sites}
+use Rattle.sites.proofs.Inverse.{unless_ok, head_was, placed_read, placed_was, length-sites}
 use Rattle.sites.proofs.GapWalk.{in_second}
 use Rattle.sites.proofs.GapInverse.{gapped_read, gapped_was, length-gaps}
 

@@ -7,6 +7,8 @@ use Rattle.std.specs.Option.{option_or}
 use Rattle.std.proofs.lemmas.Bool.{lt-ltb, le-ltb, ltb-false, ltb-true, not-false}
 use Rattle.std.proofs.lemmas.List.{drop-drop, take-append-drop, length-append, drop_all}
 use Rattle.std.proofs.lemmas.Nat.{from_le_bytes-to_le_bytes_4}
+use Rattle.plain_laws.proofs.Options.{then_none, else_none}
+use Rattle.plain_laws.proofs.Tests.{second_false}
 use Rattle.guest_ram.specs.Bytes.{part, byte, word32, AreBytes}
 use Rattle.guest_ram.proofs.Bytes.{byte_lt, length-part, get_or-part, part-append}
 use Rattle.sites.specs.declared.site.Site.{Site}
@@ -18,7 +20,7 @@ use Rattle.sites.specs.SitesParts.{SitesParts}
 use Rattle.sites.specs.Reading.{cut_before, has_no_kind, head_fault}
 use Rattle.sites.specs.Gapped.{gap_at, end_at, passes, has_wrong_length, gap_fault, gaps_fault, gap_site, gap_sites, gapped_in}
 use Rattle.sites.proofs.GapWalk.{in_second}
-use Rattle.sites.proofs.Inverse.{kind_numbered-number, number-kind, byte-behind, head_good, head_was, unless_none, unless_ok, else_none, then_none, second_false, part-word, drop-eight}
+use Rattle.sites.proofs.Inverse.{kind_numbered-number, number-kind, byte-behind, head_good, head_was, unless_none, unless_ok, part-word, drop-eight}
 
 -- ---- what is spelled is read so
 

@@ -1,6 +1,6 @@
 -- Reading and writing are inverse to each other in format 1.
-use Rattle.std.proofs.Common.{◌≡◌, ℕ, zero, suc, ◌+◌, ◌-◌, ◌<◌, ◌≤◌, ◌^◌, Bool, true, false, eqb, ltb, List, [], ◌∷◌, ◌++◌, length, get_or, take, drop, Option, Some, None, ◌⊎◌, Ok, refl, sym, ap, ◌∙◌, subst, arith, eq-eqb, append_assoc, inl, inr}
-use Rattle.std.specs.Prelude.{◌*◌, not, ◌&&◌, ◌||◌, max, is_none, unwrap_or}
+use Rattle.std.proofs.Common.{◌≡◌, ℕ, zero, suc, ◌+◌, ◌-◌, ◌<◌, ◌≤◌, ◌^◌, true, false, eqb, ltb, List, [], ◌∷◌, ◌++◌, length, get_or, take, drop, Option, Some, None, ◌⊎◌, Ok, refl, sym, ap, ◌∙◌, subst, arith, eq-eqb, append_assoc, inl, inr}
+use Rattle.std.specs.Prelude.{◌*◌, not, ◌||◌, max, is_none, unwrap_or}
 use Rattle.std.specs.Bool.{then_some}
 use Rattle.std.specs.List.{flat_map}
 use Rattle.std.specs.Int.{w32, to_le_bytes, from_le_bytes}
@@ -8,6 +8,8 @@ use Rattle.std.specs.Option.{option_or}
 use Rattle.std.proofs.lemmas.Bool.{lt-ltb, le-ltb, ltb-false, eqb-true, not-false, or_cases, cases_Bool, agree_below_at, both_ways, or_parts, cond-true, cond-false}
 use Rattle.std.proofs.lemmas.List.{drop_at, drop-drop, take-append-drop, length-append, get_or-append-add, drop_all}
 use Rattle.std.proofs.lemmas.Nat.{from_le_bytes-to_le_bytes_4, le_bytes_4}
+use Rattle.plain_laws.proofs.Options.{then_none, else_none}
+use Rattle.plain_laws.proofs.Tests.{second_false}
 use Rattle.guest_ram.specs.Bytes.{part, byte, word32, AreBytes}
 use Rattle.guest_ram.proofs.Bytes.{word32_lt, bytes-part, length-part, get_or-part, part-append}
 use Rattle.sites.specs.declared.site.Site.{Site}
@@ -148,18 +150,6 @@ placed_read sites are lt =
     unless_none (option_or (head_fault (placed sites) 49) (sites_fault (placed sites) 0 (word32 (placed sites) 4) 8)) (in_first (sites_at (placed sites) (word32 (placed sites) 4) 8)) none ∙ ap (λ (v : List Site). Ok (in_first v)) all
 
 -- ---- what is read is spelled so
-
-pub else_none : (a b : Option ℕ) → option_or a b ≡ None → (a ≡ None) × (b ≡ None)
-else_none None b e = (refl, e)
-else_none (Some a) b e = absurd cc
-
-pub then_none : (is_bad : Bool) (at : ℕ) → then_some is_bad at ≡ None → is_bad ≡ false
-then_none true at e = absurd cc
-then_none false at e = refl
-
-pub second_false : (x y : Bool) → x ≡ true → (x && y) ≡ false → y ≡ false
-second_false true y e h = h
-second_false false y e h = absurd (both_ways false refl e)
 
 pub same_byte : (bytes : List ℕ) (at v : ℕ) → at < length bytes → differs bytes at v ≡ false → byte bytes at ≡ v
 same_byte bytes at v lt e = eqb-true _ _ (not-false _ (second_false (ltb at (length bytes)) (not (eqb (byte bytes at) v)) (lt-ltb _ _ lt) e))

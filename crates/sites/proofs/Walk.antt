@@ -1,14 +1,10 @@
 -- Reading sites of format 1 one after the other, as a loop does.
-use Rattle.std.proofs.Common.{◌≡◌, ℕ, suc, ◌+◌, ◌*◌, ◌-◌, ◌<◌, ◌≤◌, List, [], ◌∷◌, ◌++◌, length, Option, Some, None, Ok, Err, refl, sym, ap, ◌∙◌, arith, lt-ltb, le-ltb, append_assoc}
+use Rattle.std.proofs.Common.{◌≡◌, ℕ, suc, ◌+◌, ◌*◌, ◌-◌, ◌<◌, ◌≤◌, List, [], ◌∷◌, ◌++◌, length, Some, None, Ok, Err, refl, sym, ap, ◌∙◌, arith, lt-ltb, le-ltb, append_assoc}
 use Rattle.std.proofs.lemmas.List.{append-nil}
 use Rattle.guest_ram.specs.Bytes.{word32}
 use Rattle.sites.specs.declared.site.Site.{Site}
 use Rattle.sites.specs.SitesParts.{SitesParts}
 use Rattle.sites.specs.Reading.{head_fault, site_fault, sites_fault, site_at, sites_at, placed_in}
-
-pub not_some : (o : Option ℕ) → ((at : ℕ) → o ≡ Some at → ⊥) → o ≡ None
-not_some None h = refl
-not_some (Some at) h = absurd (h at refl)
 
 abbrev pub in_first : List Site → SitesParts
 in_first sites = record { list = sites; format = 1 }

@@ -1,6 +1,7 @@
 use Rattle.std.proofs.Common.{sym, ◌∙◌}
+use Rattle.plain_laws.proofs.Options.{not_some}
 use Rattle.elf_form.specs.Symbols.{sections_fault, section_test}
-use Rattle.elf_form.proofs.TableLaws.{first_some-here, first_some-next, first_some-end, not_some}
+use Rattle.elf_form.proofs.TableLaws.{first_some-here, first_some-next, first_some-end}
 use Rattle.elf_form.proofs.symbol_walks.sections_fault.Goals as goal
 
 pub returns-in-Some-clause-place : goal.returns-in-Some-clause-place

@@ -1,7 +1,8 @@
 use Rattle.std.proofs.Common.{◌+◌, ◌-◌, sym, ◌∙◌, refl}
+use Rattle.plain_laws.proofs.Options.{not_some}
 use Rattle.elf_form.specs.Tables.{entries, first_some}
 use Rattle.elf_form.specs.Symbols.{symbols_fault, symbol_test}
-use Rattle.elf_form.proofs.TableLaws.{first_some-here, first_some-next, first_some-end, not_some}
+use Rattle.elf_form.proofs.TableLaws.{first_some-here, first_some-next, first_some-end}
 use Rattle.elf_form.proofs.symbol_walks.symbols_fault.Goals as goal
 
 pub returns-then-table-eq0-clause-place : goal.returns-then-table-eq0-clause-place

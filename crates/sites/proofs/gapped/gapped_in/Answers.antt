@@ -1,7 +1,7 @@
 use Rattle.std.proofs.Common.{◌≡◌, ◌+◌, ◌*◌, None, sym, ap, ◌∙◌, arith}
+use Rattle.plain_laws.proofs.Options.{not_some}
 use Rattle.sites.specs.Reading.{head_fault}
 use Rattle.sites.specs.Gapped.{gap_fault, end_at}
-use Rattle.sites.proofs.Walk.{not_some}
 use Rattle.sites.proofs.GapWalk.{head_is_bad, site_is_bad, none_is_bad, here_bad, here_good, one_more, end_good, end_bad, at_end, gap_site-end}
 use Rattle.sites.proofs.gapped.gapped_in.Goals as goal
 

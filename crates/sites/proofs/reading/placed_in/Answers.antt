@@ -1,7 +1,8 @@
 use Rattle.std.proofs.Common.{◌≡◌, ◌+◌, ◌*◌, None, sym, ap, ◌∙◌, arith}
+use Rattle.plain_laws.proofs.Options.{not_some}
 use Rattle.guest_ram.specs.Bytes.{word32}
 use Rattle.sites.specs.Reading.{head_fault, site_fault}
-use Rattle.sites.proofs.Walk.{not_some, head_is_bad, site_is_bad, none_is_bad, here_bad, here_good, one_more, end_good, end_bad, at_end, site_at-at}
+use Rattle.sites.proofs.Walk.{head_is_bad, site_is_bad, none_is_bad, here_bad, here_good, one_more, end_good, end_bad, at_end, site_at-at}
 use Rattle.sites.proofs.reading.placed_in.Goals as goal
 
 pub returns-in-Some : goal.returns-in-Some
