@@ -6,7 +6,7 @@ use Rattle.std.proofs.lemmas.Bool.{or_parts}
 use Rattle.pit8254.specs.Timers.{edge_comes, edge_within, timer_step}
 use Rattle.board.specs.declared.devices.Board.{Board}
 use Rattle.board.specs.Scripts.{Events}
-use Rattle.board.specs.Boards.{edged, given, board_step, event_within, comes_within, vector}
+use Rattle.board.specs.Boards.{edged, given, board_step, board_steps, event_within, comes_within, vector}
 use Rattle.board.specs.Quiet.{StepsAreQuiet}
 
 -- no event in some steps after t: none in the first of them
@@ -19,7 +19,7 @@ given_quiet t j (x ∷ xs) h board =
     rw other (given_quiet t j xs parts.1 board)
 
 -- and none in the others
-quiet_later : (t j : ℕ) (script : Events) → event_within t (suc j) script ≡ false → event_within (t + 1) j script ≡ false
+pub quiet_later : (t j : ℕ) (script : Events) → event_within t (suc j) script ≡ false → event_within (t + 1) j script ≡ false
 quiet_later t j [] h = refl
 quiet_later t j (x ∷ xs) h =
     let parts = or_parts (nat_lt t x.0 && nat_le x.0 (t + suc j)) (event_within t (suc j) xs) h in
@@ -27,7 +27,7 @@ quiet_later t j (x ∷ xs) h =
     rw out (quiet_later t j xs parts.1)
 
 -- a step without an edge changes no vector
-vector_same : (board : Board) → edge_comes board.pit ≡ false → vector (board_step board) ≡ vector board
+pub vector_same : (board : Board) → edge_comes board.pit ≡ false → vector (board_step board) ≡ vector board
 unfolding vector board_step edged
 vector_same board h = rw h refl
 
@@ -41,3 +41,12 @@ quiet_from board script t j h =
       same_vector = vector_same board edges.0;
       later = rw (edges.1, quiet_later t j script both.1) refl;
     }
+
+pub no_step : (board : Board) → board_steps 0 board ≡ board
+unfolding board_steps
+no_step board = refl
+
+-- one step of the board
+pub one_step : (board : Board) → board_steps 1 board ≡ board_step board
+unfolding board_steps
+one_step board = refl

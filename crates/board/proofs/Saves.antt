@@ -69,11 +69,11 @@ phase_small AwaitsCascade = refl
 phase_small AwaitsMode = refl
 phase_small Ready = refl
 
-worth_back : (b : Bool) → (worth b == 1) ≡ b
+pub worth_back : (b : Bool) → (worth b == 1) ≡ b
 worth_back true = refl
 worth_back false = refl
 
-worth_small : (b : Bool) → nat_le (worth b) 1 ≡ true
+pub worth_small : (b : Bool) → nat_le (worth b) 1 ≡ true
 worth_small true = refl
 worth_small false = refl
 
