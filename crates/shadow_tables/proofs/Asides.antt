@@ -4,6 +4,7 @@ use Rattle.std.specs.List.{list_any}
 use Rattle.guest_ram.specs.Among.{is_among}
 use Rattle.shadow_tables.specs.Slots.{Slot, barred}
 use Rattle.shadow_tables.specs.Aside.{Aside, IsSame, LosesWritesTo, AreSame, LoseWrites, spared, all_spared}
+pub use Rattle.std.proofs.lemmas.List.Folds.{list_any-append as any-append}
 
 -- ---- the same
 
@@ -36,13 +37,8 @@ not-both true true b = refl
 not-both true false b = refl
 not-both false a b = refl
 
-or-assoc : (a b c : Bool) → (a || (b || c)) ≡ ((a || b) || c)
-or-assoc true b c = refl
-or-assoc false b c = refl
-
 pub among-append : (f : ℕ) (fs gs : List ℕ) → is_among f (fs ++ gs) ≡ (is_among f fs || is_among f gs)
-among-append f [] gs = refl
-among-append f (g ∷ fs) gs = ap (λ b. eqb f g || b) (among-append f fs gs) ∙ or-assoc (eqb f g) (is_among f fs) (is_among f gs)
+among-append f fs gs = any-append (eqb f) fs gs
 
 with-writes : Slot → Bool → Option Slot
 with-writes slot b = Some (record slot { writes = b })
@@ -52,7 +48,7 @@ unfolding with-writes
 barred-none None = refl
 barred-none (Some slot) = ap (with-writes slot) (and-true slot.writes)
 
-barred-twice : (fs gs : List ℕ) (o : Option Slot) → barred gs (barred fs o) ≡ barred (fs ++ gs) o
+pub barred-twice : (fs gs : List ℕ) (o : Option Slot) → barred gs (barred fs o) ≡ barred (fs ++ gs) o
 unfolding with-writes
 barred-twice fs gs None = refl
 barred-twice fs gs (Some slot) =
@@ -126,10 +122,6 @@ spared-lose fs frames [] (y ∷ ys) h = absurd h
 spared-lose fs frames (x ∷ xs) [] h = absurd h
 spared-lose fs frames (x ∷ xs) (y ∷ ys) h =
     lose-by fs (not (list_any x.tables frames)) (not (list_any y.tables frames)) x y (all_spared frames xs) (all_spared frames ys) (ap not (any-same x.tables y.tables frames h.0.tables)) h.0 (spared-lose fs frames xs ys h.1)
-
-pub any-append : (test : ℕ → Bool) (fs gs : List ℕ) → list_any test (fs ++ gs) ≡ (list_any test fs || list_any test gs)
-any-append test [] gs = refl
-any-append test (f ∷ fs) gs = ap (λ b. test f || b) (any-append test fs gs) ∙ or-assoc (test f) (list_any test fs) (list_any test gs)
 
 pub none-written : (xs : List Aside) → all_spared [] xs ≡ xs
 none-written [] = refl

@@ -5,3 +5,4 @@ pub mod Tabled
 pub mod Sweeps
 pub mod Bars
 pub mod Asides
+pub mod Sides

@@ -2,6 +2,8 @@
 use Rattle.std.proofs.Common.{◌≡◌, ◌↔◌, ℕ, zero, suc, ◌+◌, ◌/◌, ◌^◌, ◌<◌, ◌≤◌, ◌⊎◌, List, [], ◌∷◌, ◌++◌, length, take, get_or, Bool, true, false, ◌&&◌, not, cond, eqb, Option, Some, None, refl, sym, ap, ◌∙◌, subst, inl, inr, arith}
 use Rattle.std.proofs.lemmas.Bool.Decides.{eqb_tells}
 use Rattle.std.proofs.lemmas.List.{take_more}
+use Rattle.std.proofs.lemmas.Bool.{and_parts}
+use Rattle.std.proofs.lemmas.Option.{same_Some}
 use Rattle.paging.specs.declared.entry.Entry.{Entry}
 use Rattle.guest_ram.specs.Among.{is_among}
 use Rattle.shadow_tables.specs.Slots.{Slot, filled, barred, entry_in, is_side, is_adequate, permits, Turns, LosesDir, LosesWrites}
@@ -118,9 +120,6 @@ ends (c ∷ cs) page o =
 
 -- ---- the law
 
-same-some : (a b : Entry) → Some a ≡ Some b → a ≡ b
-same-some a b e = cc
-
 kept-from : (cs : List Call) (page : ℕ) (o now : Option Slot) (entry : Entry) → now ≡ after cs page o → entry_in now ≡ Some entry → IsEntryAfter cs page o entry
 kept-from cs page o now entry q e =
     elim (ends cs page o) [
@@ -128,7 +127,7 @@ kept-from cs page o now entry q e =
       | inr x ↦ elim x [
         | inl f ↦
             let s = ap entry_in (sym (q ∙ last-after cs page f.side f.entry f.wp o f.last)) ∙ e in
-            inl (f.side, f.wp, subst (λ y. LastFill cs page f.side y f.wp) (same-some f.entry entry s) f.last)
+            inl (f.side, f.wp, subst (λ y. LastFill cs page f.side y f.wp) (same_Some f.entry entry s) f.last)
         | inr n ↦ absurd (let s = ap entry_in (sym (q ∙ n)) ∙ e in cc)
       ]
     ]
@@ -208,7 +207,7 @@ within-call DropAll page a b h = tt
 within-call (Note frame) page a b h = h
 within-call (Written frame) page a b h = h
 
-within-kept : (a b : Option Slot) → IsWithin a b → entry_in a ≡ entry_in b
+pub within-kept : (a b : Option Slot) → IsWithin a b → entry_in a ≡ entry_in b
 within-kept None None h = refl
 within-kept (Some a) (Some b) h = ap (λ e. Some e) h.1
 within-kept None (Some b) h = absurd h
@@ -220,7 +219,7 @@ within-reads (Some a) (Some b) side h = ap (λ x. is_side x side && a.reads) h.0
 within-reads None (Some b) side h = absurd h
 within-reads (Some a) None side h = absurd h
 
-both-true : (p a b : Bool) → (a ≡ true → b ≡ true) → (p && a) ≡ true → (p && b) ≡ true
+pub both-true : (p a b : Bool) → (a ≡ true → b ≡ true) → (p && a) ≡ true → (p && b) ≡ true
 both-true true a b h e = h e
 both-true false a b h e = cc
 
@@ -250,7 +249,7 @@ fill-turned f f' x y at page t h l =
       | inr n ↦ subst (λ b. IsWithin (f' page) (cond b (Some y) (f page))) (sym n.0) (within-same (f' page) (f page) (t.others page l n.1))
     ]
 
-only-less : (b p : Bool) → (not b && p) ≡ true → p ≡ true
+pub only-less : (b p : Bool) → (not b && p) ≡ true → p ≡ true
 only-less true p e = cc
 only-less false p e = e
 
@@ -280,13 +279,9 @@ dir-exact f f' index page t l =
       | inr n ↦ t.others page l n.1 ∙ sym (ap (λ b. cond b None (f page)) n.0)
     ]
 
-both-first : (a b : Bool) → (a && b) ≡ true → a ≡ true
-both-first true b e = refl
-both-first false b e = e
-
 barred-within : (tracked : List ℕ) (o : Option Slot) → IsWithin (barred tracked o) o
 barred-within tracked None = tt
-barred-within tracked (Some slot) = (refl, refl, refl, both-first slot.writes (not (is_among slot.entry.frame tracked)))
+barred-within tracked (Some slot) = (refl, refl, refl, (λ e. (and_parts slot.writes (not (is_among slot.entry.frame tracked)) e).0))
 
 pub note-within : (f f' : ℕ → Option Slot) (tracked : List ℕ) (page : ℕ) → LosesWrites f f' tracked → page < 2 ^ 20 → IsWithin (f' page) (f page)
 note-within f f' tracked page t l = subst (λ x. IsWithin x (f page)) (sym (t page l)) (barred-within tracked (f page))

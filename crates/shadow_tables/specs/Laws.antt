@@ -4,10 +4,11 @@ pub mod Entries
 pub mod Hosts
 pub mod Props
 pub mod Openings
-use Rattle.std.proofs.Common.{◌≡◌, ◌≢◌, ℕ, zero, suc, ◌+◌, ◌*◌, ◌/◌, ◌%◌, ◌^◌, ◌<◌, ◌≤◌, List, [], ◌∷◌, length, length-append, drop, Bool, true, false, Option, Some, None, refl, sym, ap, ◌∙◌, subst, inl, inr, cond, eqb, arith}
+use Rattle.std.proofs.Common.{◌≡◌, ◌≢◌, ℕ, zero, suc, ◌+◌, ◌*◌, ◌/◌, ◌%◌, ◌^◌, ◌<◌, ◌≤◌, List, [], ◌∷◌, length, length-append, drop, Bool, true, false, Option, Some, refl, sym, ap, ◌∙◌, subst, inl, inr, cond, eqb, arith}
 use Rattle.std.proofs.Math.Logic.{∥∥₁_elim, ∥∥₁_map}
 use Rattle.std.proofs.lemmas.Bool.Decides.{eqb_tells}
-use Rattle.std.specs.FinMap.{FinMap, get}
+use Rattle.std.specs.FinMap.{FinMap}
+use Rattle.std.proofs.lemmas.Option.{same_Some}
 use Rattle.guest_ram.specs.Bytes.{word32}
 use Rattle.frame_pool.specs.Pool.{base_of}
 use Rattle.frame_pool.specs.declared.Pool.{Pool}
@@ -22,25 +23,20 @@ use Rattle.shadow_views.proofs.Changes.{high}
 use Rattle.shadow_tables.specs.Entries.{entries_of}
 use Rattle.shadow_tables.specs.Host.{lent}
 use Rattle.guest_ram.specs.Among.{is_among}
-use Rattle.shadow_tables.specs.Slots.{Slot, slot_of, by_words, entry_in, roots, root_of, held, slot_at, SameSlots, IsShadow}
+use Rattle.shadow_tables.specs.Slots.{Slot, slot_of, by_words, roots, root_of, held, slot_at, SameSlots, IsShadow}
 use Rattle.shadow_tables.specs.declared.shadow.Shadow.{Shadow}
 use Rattle.shadow_tables.specs.declared.words.Side.{Side}
 use Rattle.shadow_tables.specs.declared.words.Side.TheVariants.{Kernel, User}
 use Rattle.shadow_tables.specs.Laws.Views.{in-root, in-kernel, in-user, held-stays, slot_at-stays, IsShadow-stays}
-use Rattle.shadow_tables.specs.Laws.Entries.{get-entries_of, none-entries_of, entries_of-same}
+use Rattle.shadow_tables.specs.Laws.Entries.{entries_of-same}
 use Rattle.shadow_tables.specs.Laws.Hosts.{reached-is}
 use Rattle.shadow_tables.specs.Laws.Props.{IsShadow-prop}
+pub use Rattle.shadow_tables.specs.Laws.Entries.{get-entries_of as entry-at, none-entries_of as none-beyond}
 
 -- ---- laws of any shadows
 
 pub same-entries : (f f' : ℕ → Option Slot) → SameSlots f f' → entries_of f' ≡ entries_of f
 same-entries f f' h = entries_of-same f f' h
-
-pub entry-at : (f : ℕ → Option Slot) (page : ℕ) → page < 2 ^ 20 → get (entries_of f) page ≡ entry_in (f page)
-entry-at f page l = get-entries_of f page l
-
-pub none-beyond : (f : ℕ → Option Slot) (page : ℕ) → 2 ^ 20 ≤ page → get (entries_of f) page ≡ None
-none-beyond f page l = none-entries_of f page l
 
 pub same-above : (p : Pool) (m m' : List ℕ) (limit : ℕ) (fs : List ℕ) → Owns p m fs → limit ≤ 4096 * base_of p → drop limit m' ≡ drop limit m → length m' ≡ length m → SameIn fs m m'
 same-above p m m' limit fs o l e size = SameIn-above p m m' limit l e size fs o
@@ -113,19 +109,15 @@ walked s m side page f h l i =
       | inr t ↦ let n = t.1 in walked-table s m side page w f l (ap (word32 m) place) (omega (arith, c, n, i))
     ]
 
--- the entry of a word that keeps one
-same-slot : (a b : Slot) → Some a ≡ Some b → a ≡ b
-same-slot a b e = cc
-
 frame-fits : (w f : ℕ) → w < 2 ^ 32 → w / 4096 ≡ f → f < 2 ^ 20
 frame-fits w f h e = omega arith
 
 fits-by : (page k u : ℕ) (slot : Slot) → k < 2 ^ 32 → u < 2 ^ 32 → by_words page k u ≡ Some slot → (slot.entry.page ≡ page) × (slot.entry.frame < 2 ^ 20)
 fits-by page zero zero slot a b e = cc
 fits-by page zero (suc u) slot a b e =
-    let q = same-slot (slot_of User page (suc u)) slot e in (sym (ap (λ (x : Slot). x.entry.page) q), frame-fits (suc u) slot.entry.frame b (ap (λ (x : Slot). x.entry.frame) q))
+    let q = same_Some (slot_of User page (suc u)) slot e in (sym (ap (λ (x : Slot). x.entry.page) q), frame-fits (suc u) slot.entry.frame b (ap (λ (x : Slot). x.entry.frame) q))
 fits-by page (suc k) u slot a b e =
-    let q = same-slot (slot_of Kernel page (suc k)) slot e in (sym (ap (λ (x : Slot). x.entry.page) q), frame-fits (suc k) slot.entry.frame a (ap (λ (x : Slot). x.entry.frame) q))
+    let q = same_Some (slot_of Kernel page (suc k)) slot e in (sym (ap (λ (x : Slot). x.entry.page) q), frame-fits (suc k) slot.entry.frame a (ap (λ (x : Slot). x.entry.frame) q))
 
 pub fits : (s : Shadow) (m : List ℕ) (page : ℕ) (slot : Slot) → ∥ IsShadow s m ∥₁ → page < 2 ^ 20 → slot_at s m page ≡ Some slot → (slot.entry.page ≡ page) × (slot.entry.frame < 2 ^ 20)
 unfolding slot_at

@@ -1,27 +1,15 @@
 -- The map of what is kept, after each call.
-use Rattle.std.proofs.Common.{◌≡◌, ◌≢◌, ℕ, zero, suc, ◌/◌, ◌^◌, ◌<◌, ◌≤◌, List, Bool, true, false, not, cond, eqb, Option, Some, None, refl, sym, ap, ◌∙◌, inl, inr, arith}
+use Rattle.std.proofs.Common.{◌≡◌, ℕ, zero, suc, ◌/◌, ◌^◌, ◌<◌, ◌≤◌, List, Bool, true, false, not, cond, eqb, Option, Some, None, refl, sym, ap, ◌∙◌, inl, inr, arith}
 use Rattle.std.proofs.lemmas.Bool.{cases_lt}
 use Rattle.std.proofs.lemmas.Bool.Decides.{eqb_tells}
 use Rattle.std.proofs.lemmas.Cmp.{nat_cmp_total}
-use Rattle.std.specs.Cmp.{unsigned_tied}
-use Rattle.std.specs.FinMap.{FinMap, empty, get, get-empty, get-insert, get-remove, get-retain_keys, same_map, nat_cmp-IsAntisymmetric}
+use Rattle.std.specs.FinMap.{empty, get, get-empty, get-retain_keys, same_map, nat_cmp-IsAntisymmetric}
 use Rattle.std.specs.Ordering.{nat_cmp}
 use Rattle.paging.specs.declared.entry.Entry.{Entry}
 use Rattle.paging.specs.Uses.{with_entry, without_dir}
+use Rattle.paging.proofs.WithEntry.{get_with_same, get_with_other}
 use Rattle.shadow_tables.specs.Slots.{Slot, barred, entry_in, LosesDir, LosesWrites}
 use Rattle.shadow_tables.specs.Entries.{entries_below, entries_of}
-
-get_with : (set : FinMap nat_cmp Entry) (page : ℕ) (entry : Option Entry) (q : ℕ) → get (with_entry set page entry) q ≡ cond (eqb q page) entry (get set q)
-get_with set page None q = get-remove nat_cmp_total set page q ∙ ap (λ b. cond b None (get set q)) (unsigned_tied q page)
-get_with set page (Some entry) q = get-insert nat_cmp_total set page entry q ∙ ap (λ b. cond b (Some entry) (get set q)) (unsigned_tied q page)
-
-get_with_same : (set : FinMap nat_cmp Entry) (page : ℕ) (entry : Option Entry) → get (with_entry set page entry) page ≡ entry
-get_with_same set page entry =
-    get_with set page entry page ∙ elim (eqb_tells page page) [ inl t ↦ ap (λ b. cond b entry (get set page)) t.0 | inr f ↦ absurd (f.1 refl) ]
-
-get_with_other : (set : FinMap nat_cmp Entry) (page : ℕ) (entry : Option Entry) (q : ℕ) → q ≢ page → get (with_entry set page entry) q ≡ get set q
-get_with_other set page entry q n =
-    get_with set page entry q ∙ elim (eqb_tells q page) [ inl t ↦ absurd (n t.1) | inr f ↦ ap (λ b. cond b entry (get set q)) f.0 ]
 
 get_out : (n : ℕ) (f : ℕ → Option Slot) (q : ℕ) → n ≤ q → get (entries_below n f) q ≡ None
 unfolding entries_below
@@ -72,7 +60,7 @@ entries_of-same f f' h = same_map nat_cmp_total nat_cmp-IsAntisymmetric (entries
   | inr g ↦ none-entries_of f' q g ∙ sym (none-entries_of f q g)
 ])
 
-cond_none : (b : Bool) → cond {A = Option Entry} b None None ≡ None
+pub cond_none : (b : Bool) → cond {A = Option Entry} b None None ≡ None
 cond_none true = refl
 cond_none false = refl
 

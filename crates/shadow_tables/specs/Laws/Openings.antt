@@ -205,27 +205,27 @@ ne-is x y ne = elim (eqb_tells x y) [ inl t ↦ absurd (ne t.1) | inr f ↦ f.0 
 eq-told : (x y : ℕ) → eqb x y ≡ true → x ≡ y
 eq-told x y h = elim (eqb_tells x y) [ inl t ↦ t.1 | inr f ↦ absurd (let e = f.0 in cc) ]
 
-eqb-turned : (x y : ℕ) → eqb x y ≡ eqb y x
+pub eqb-turned : (x y : ℕ) → eqb x y ≡ eqb y x
 eqb-turned x y = elim (eqb_tells x y) [ inl t ↦ t.0 ∙ sym (eq-is y x (sym t.1)) | inr f ↦ f.0 ∙ sym (ne-is y x (λ e. f.1 (sym e))) ]
 
 equal : IsEquivalence eqb
 equal = record { refl = λ x. eq-is x x refl; symm = eqb-turned; congr = λ x y z h. ap (λ (v : ℕ). eqb v z) (eq-told x y h) }
 
-member-or : (x : ℕ) (xs : List ℕ) (q : ℕ) → is_member eqb (x ∷ xs) q ≡ true → (q ≡ x) ⊎ (is_member eqb xs q ≡ true)
+pub member-or : (x : ℕ) (xs : List ℕ) (q : ℕ) → is_member eqb (x ∷ xs) q ≡ true → (q ≡ x) ⊎ (is_member eqb xs q ≡ true)
 member-or x xs q = by (eqb q x) refl
   where
     by : (b : Bool) → eqb q x ≡ b → (b || is_member eqb xs q) ≡ true → (q ≡ x) ⊎ (is_member eqb xs q ≡ true)
     by true is h = inl (eq-told q x is)
     by false is h = inr h
 
-member-next : (x : ℕ) (xs : List ℕ) (q : ℕ) → is_member eqb xs q ≡ true → is_member eqb (x ∷ xs) q ≡ true
+pub member-next : (x : ℕ) (xs : List ℕ) (q : ℕ) → is_member eqb xs q ≡ true → is_member eqb (x ∷ xs) q ≡ true
 member-next x xs q h = by (eqb q x)
   where
     by : (b : Bool) → (b || is_member eqb xs q) ≡ true
     by true = refl
     by false = h
 
-unique-member : (xs : List ℕ) (q : ℕ) → is_member eqb xs q ≡ true → is_member eqb (unique_keys eqb xs) q ≡ true
+pub unique-member : (xs : List ℕ) (q : ℕ) → is_member eqb xs q ≡ true → is_member eqb (unique_keys eqb xs) q ≡ true
 unique-member [] q h = h
 unique-member (x ∷ xs) q h = by (is_member eqb xs x) refl (unique-member xs q) (member-or x xs q h)
   where
