@@ -2,18 +2,10 @@
 use Rattle.std.proofs.Common.{◌≡◌, ℕ, zero, suc, ◌≤◌, List, [], ◌∷◌, length, take, filter, Bool, true, false, ◌||◌, cond, eqb, Option, Some, None, refl, sym, ap, ◌∙◌, subst, inl, inr, arith}
 use Rattle.std.proofs.lemmas.Bool.Decides.{eqb_tells}
 use Rattle.std.proofs.lemmas.List.{length-take}
-use Rattle.std.proofs.lemmas.Bool.{or_from}
+use Rattle.std.proofs.lemmas.Bool.{or_from, or_parts}
+use Rattle.std.proofs.lemmas.Option.{same_Some, none-some}
 use Rattle.shadow_cache.specs.Past.{Past, unmarked, of_value, but_value, with_front, after_switch}
 use Rattle.shadow_cache.specs.Away.{has_value, AreApart}
-use Rattle.shadow_cache.proofs.Small.{same-some, none-some}
-
-pub first-false : (a b : Bool) → (a || b) ≡ false → a ≡ false
-first-false true b e = e
-first-false false b e = refl
-
-pub rest-false : (a b : Bool) → (a || b) ≡ false → b ≡ false
-rest-false true b e = cc
-rest-false false b e = e
 
 some-past : (a : Past) → Some a ≡ None → ⊥
 some-past a e = cc
@@ -32,14 +24,14 @@ of-none v (p ∷ ps) e = none-by (eqb p.value v) p (of_value v ps) (has_value v 
 pub none-of : (v : ℕ) (ps : List Past) → has_value v ps ≡ false → of_value v ps ≡ None
 none-of v [] e = refl
 none-of v (p ∷ ps) e =
-    ap (λ b. cond b (Some p) (of_value v ps)) (first-false (eqb p.value v) (has_value v ps) e)
-    ∙ none-of v ps (rest-false (eqb p.value v) (has_value v ps) e)
+    ap (λ b. cond b (Some p) (of_value v ps)) (or_parts (eqb p.value v) (has_value v ps) e).0
+    ∙ none-of v ps (or_parts (eqb p.value v) (has_value v ps) e).1
 
 pub of-is : (v : ℕ) (ps : List Past) (q : Past) → of_value v ps ≡ Some q → q.value ≡ v
 of-is v [] q e = absurd (none-some q e)
 of-is v (p ∷ ps) q e =
     elim (eqb_tells p.value v) [
-      | inl t ↦ ap (λ (x : Past). x.value) (sym (same-some p q (sym (ap (λ b. cond b (Some p) (of_value v ps)) t.0) ∙ e))) ∙ t.1
+      | inl t ↦ ap (λ (x : Past). x.value) (sym (same_Some p q (sym (ap (λ b. cond b (Some p) (of_value v ps)) t.0) ∙ e))) ∙ t.1
       | inr t ↦ of-is v ps q (sym (ap (λ b. cond b (Some p) (of_value v ps)) t.0) ∙ e)
     ]
 
@@ -47,29 +39,29 @@ of-is v (p ∷ ps) q e =
 
 cond-none : (b : Bool) (p : Past) (qs : List Past) (v : ℕ) → (eqb p.value v || has_value v qs) ≡ false → has_value v (cond b (p ∷ qs) qs) ≡ false
 cond-none true p qs v e = e
-cond-none false p qs v e = rest-false (eqb p.value v) (has_value v qs) e
+cond-none false p qs v e = (or_parts (eqb p.value v) (has_value v qs) e).1
 
 pub filter-none : (t : Past → Bool) (ps : List Past) (v : ℕ) → has_value v ps ≡ false → has_value v (filter t ps) ≡ false
 filter-none t [] v e = refl
 filter-none t (p ∷ ps) v e =
-    cond-none (t p) p (filter t ps) v (or_from (eqb p.value v) (has_value v (filter t ps)) (first-false (eqb p.value v) (has_value v ps) e)
-    (filter-none t ps v (rest-false (eqb p.value v) (has_value v ps) e)))
+    cond-none (t p) p (filter t ps) v (or_from (eqb p.value v) (has_value v (filter t ps)) (or_parts (eqb p.value v) (has_value v ps) e).0
+    (filter-none t ps v (or_parts (eqb p.value v) (has_value v ps) e).1))
 
 pub take-none : (n : ℕ) (ps : List Past) (v : ℕ) → has_value v ps ≡ false → has_value v (take n ps) ≡ false
 take-none zero ps v e = refl
 take-none (suc n) [] v e = refl
 take-none (suc n) (p ∷ ps) v e =
-    or_from (eqb p.value v) (has_value v (take n ps)) (first-false (eqb p.value v) (has_value v ps) e) (take-none n ps v (rest-false (eqb p.value v) (has_value v ps) e))
+    or_from (eqb p.value v) (has_value v (take n ps)) (or_parts (eqb p.value v) (has_value v ps) e).0 (take-none n ps v (or_parts (eqb p.value v) (has_value v ps) e).1)
 
 pub but-none : (w : ℕ) (ps : List Past) (v : ℕ) → has_value v ps ≡ false → has_value v (but_value w ps) ≡ false
 but-none w [] v e = refl
 but-none w (p ∷ ps) v e =
     elim (eqb_tells p.value w) [
-      | inl t ↦ ap (λ b. has_value v (cond b ps (p ∷ but_value w ps))) t.0 ∙ rest-false (eqb p.value v) (has_value v ps) e
+      | inl t ↦ ap (λ b. has_value v (cond b ps (p ∷ but_value w ps))) t.0 ∙ (or_parts (eqb p.value v) (has_value v ps) e).1
       | inr t ↦
           ap (λ b. has_value v (cond b ps (p ∷ but_value w ps))) t.0
-          ∙ or_from (eqb p.value v) (has_value v (but_value w ps)) (first-false (eqb p.value v) (has_value v ps) e)
-          (but-none w ps v (rest-false (eqb p.value v) (has_value v ps) e))
+          ∙ or_from (eqb p.value v) (has_value v (but_value w ps)) (or_parts (eqb p.value v) (has_value v ps) e).0
+          (but-none w ps v (or_parts (eqb p.value v) (has_value v ps) e).1)
     ]
 
 cond-apart : (b : Bool) (p : Past) (qs : List Past) → has_value p.value qs ≡ false → AreApart qs → AreApart (cond b (p ∷ qs) qs)

@@ -10,8 +10,8 @@ use Rattle.shadow_cache.specs.declared.call_lists.RootsCall.{RootsCall}
 use Rattle.shadow_cache.specs.declared.call_lists.RootsCall.TheVariants.{Shared, Switch}
 use Rattle.shadow_cache.proofs.Since.{pairs-more, pairs-join, calls-cons, calls-none}
 use Rattle.shadow_cache.proofs.Tabled.{all-but-other}
-use Rattle.shadow_cache.proofs.Apart.{first-false, rest-false, of-none, of-is, filter-none, filter-apart, but-apart, but-gone}
-use Rattle.std.proofs.lemmas.Bool.{false≢true, or_from}
+use Rattle.shadow_cache.proofs.Apart.{of-none, of-is, filter-none, filter-apart, but-apart, but-gone}
+use Rattle.std.proofs.lemmas.Bool.{false≢true, or_from, or_parts}
 use Rattle.shadow_cache.proofs.Whole.{marked-value}
 
 -- ---- the pairs before it
@@ -46,9 +46,9 @@ value-other q v e s = elim (eqb_tells q.value v) [ inl t ↦ false≢true (sym e
 fronts-but : (p : Past) (v : ℕ) (vs : List ℕ) (qs : List Past) → has_value v qs ≡ false → Fronts p vs qs → Fronts p (all_but v vs) qs
 fronts-but p v vs [] e f = tt
 fronts-but p v vs (q ∷ qs) e f = (
-  all-but-other q.value v vs (value-other q v (first-false (eqb q.value v) (has_value v qs) e)) ∙ f.0,
+  all-but-other q.value v vs (value-other q v (or_parts (eqb q.value v) (has_value v qs) e).0) ∙ f.0,
   f.1,
-  fronts-but p v vs qs (rest-false (eqb q.value v) (has_value v qs) e) f.2,
+  fronts-but p v vs qs (or_parts (eqb q.value v) (has_value v qs) e).1 f.2,
 )
 
 fronts-few : (p : Past) (vs : List ℕ) (qs : List Past) → AreApart qs → Fronts p vs qs → length qs ≤ length vs
@@ -105,14 +105,14 @@ but-front v (f ∷ fs) ps q e =
 of-behind : (v : ℕ) (fs ps : List Past) → has_value v fs ≡ false → of_value v (fs ++ ps) ≡ of_value v ps
 of-behind v [] ps e = refl
 of-behind v (f ∷ fs) ps e =
-    ap (λ b. cond b (Some f) (of_value v (fs ++ ps))) (first-false (eqb f.value v) (has_value v fs) e)
-    ∙ of-behind v fs ps (rest-false (eqb f.value v) (has_value v fs) e)
+    ap (λ b. cond b (Some f) (of_value v (fs ++ ps))) (or_parts (eqb f.value v) (has_value v fs) e).0
+    ∙ of-behind v fs ps (or_parts (eqb f.value v) (has_value v fs) e).1
 
 but-behind : (v : ℕ) (fs ps : List Past) → has_value v fs ≡ false → but_value v (fs ++ ps) ≡ fs ++ but_value v ps
 but-behind v [] ps e = refl
 but-behind v (f ∷ fs) ps e =
-    ap (λ b. cond b (fs ++ ps) (f ∷ but_value v (fs ++ ps))) (first-false (eqb f.value v) (has_value v fs) e)
-    ∙ ap (λ (xs : List Past). f ∷ xs) (but-behind v fs ps (rest-false (eqb f.value v) (has_value v fs) e))
+    ap (λ b. cond b (fs ++ ps) (f ∷ but_value v (fs ++ ps))) (or_parts (eqb f.value v) (has_value v fs) e).0
+    ∙ ap (λ (xs : List Past). f ∷ xs) (but-behind v fs ps (or_parts (eqb f.value v) (has_value v fs) e).1)
 
 take-behind : (n : ℕ) (fs : List Past) (p : Past) (ps : List Past) → length fs < n → take n (fs ++ p ∷ ps) ≡ fs ++ p ∷ take (n - suc (length fs)) ps
 take-behind zero fs p ps l = absurd (omega (arith, l))

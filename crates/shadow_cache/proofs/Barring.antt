@@ -1,5 +1,6 @@
 -- Taking the right to write from pair after pair.
 use Rattle.std.proofs.Common.{◌≡◌, ℕ, zero, suc, ◌+◌, ◌≤◌, List, [], ◌∷◌, ◌++◌, length, slice_get, Some, refl, sym, ap, ◌∙◌, subst, add-one, arith}
+use Rattle.std.proofs.lemmas.Option.{same_Some}
 use Rattle.frame_pool.specs.Held.{times, Holds, Writes, SameIn}
 use Rattle.shadow_tables.specs.Slots.{held, slot_at, barred, SameSlots, LosesWrites, IsShadow}
 use Rattle.shadow_cache.specs.Pairs.{frames_of, AreShadows}
@@ -8,7 +9,6 @@ use Rattle.shadow_cache.specs.declared.pair.Pair.{Pair}
 use Rattle.shadow_tables.specs.Opened.{KeepsTables}
 use Rattle.shadow_cache.specs.Laws.{keeps-same, frames-cons, times-frames, kept-same, kept-shadows, kept-frames}
 use Rattle.shadow_tables.specs.Laws.Views.{held-stays, slot_at-stays, IsShadow-stays}
-use Rattle.shadow_cache.proofs.Small.{same-some}
 
 -- the first n have lost it, and the others are as they were
 abbrev pub FirstLose : ℕ → List Pair → (m m' : List ℕ) → ℕ → Type 0
@@ -41,7 +41,7 @@ rest-holds q qs m h =
 
 held-in : (f : ℕ) (ps : List Pair) (i : ℕ) (p : Pair) (m : List ℕ) → slice_get ps i ≡ Some p → times f (held p.shadow m) ≤ times f (frames_of ps m)
 held-in f [] i p m e = absurd cc
-held-in f (q ∷ qs) zero p m e = let t = times-frames f q qs m in let s = ap (λ (x : Pair). times f (held x.shadow m)) (same-some q p e) in omega (arith, t, s)
+held-in f (q ∷ qs) zero p m e = let t = times-frames f q qs m in let s = ap (λ (x : Pair). times f (held x.shadow m)) (same_Some q p e) in omega (arith, t, s)
 held-in f (q ∷ qs) (suc i) p m e = let t = times-frames f q qs m in let r = held-in f qs i p m e in omega (arith, t, r)
 
 first-same : (q : Pair) (qs : List Pair) (i : ℕ) (p : Pair) (m m' : List ℕ) → slice_get qs i ≡ Some p → Holds m (frames_of (q ∷ qs) m) → Writes (held p.shadow m) m m' → SameIn (held q.shadow m) m m'
@@ -54,7 +54,7 @@ bar-writes ps i p m m' e w = record { size = w.size; others = λ g z. w.others g
 pub bar-shadows : (ps : List Pair) (i : ℕ) (p : Pair) (m m' : List ℕ) → slice_get ps i ≡ Some p → AreShadows ps m → Holds m (frames_of ps m) → IsShadow p.shadow m' → Writes (held p.shadow m) m m' → AreShadows ps m'
 bar-shadows [] i p m m' e h o s w = tt
 bar-shadows (q ∷ qs) zero p m m' e h o s w =
-    let same = same-some q p e in
+    let same = same_Some q p e in
     let w' : Writes (held q.shadow m) m m' = subst (λ (x : Pair). Writes (held x.shadow m) m m') (sym same) w in
     (subst (λ (x : Pair). IsShadow x.shadow m') (sym same) s, kept-shadows qs m m' (kept-same qs m m' h.1 (rest-same q qs m m' o w')))
 bar-shadows (q ∷ qs) (suc i) p m m' e h o s w =
@@ -68,7 +68,7 @@ pub barred-frames : (ps : List Pair) (i : ℕ) (p : Pair) (m m' : List ℕ) → 
 unfolding frames_of
 barred-frames [] i p m m' e h o s w = refl
 barred-frames (q ∷ qs) zero p m m' e h o s w =
-    let same = same-some q p e in
+    let same = same_Some q p e in
     let w' : Writes (held q.shadow m) m m' = subst (λ (x : Pair). Writes (held x.shadow m) m m') (sym same) w in
     both-frames q qs m m' (subst (λ (x : Pair). held x.shadow m' ≡ held x.shadow m) (sym same) s) (kept-frames qs m m' (kept-same qs m m' h.1 (rest-same q qs m m' o w')))
 barred-frames (q ∷ qs) (suc i) p m m' e h o s w =
@@ -84,7 +84,7 @@ kept-none (p ∷ ps) m m1 m2 frame h k =
 lose-suc : (i : ℕ) (ps : List Pair) (p : Pair) (m m1 m2 : List ℕ) (frame : ℕ) → slice_get ps i ≡ Some p → AreShadows ps m1 → Holds m1 (frames_of ps m1) → LosesWrites (slot_at p.shadow m1) (slot_at p.shadow m2) (frame ∷ []) → Writes (held p.shadow m1) m1 m2 → held p.shadow m2 ≡ held p.shadow m1 → KeepsTables p.shadow m1 m2 → FirstLose i ps m m1 frame → FirstLose (suc i) ps m m2 frame
 lose-suc i [] p m m1 m2 frame e h o s w d k f = tt
 lose-suc zero (q ∷ qs) p m m1 m2 frame e h o s w d k f =
-    let same = same-some q p e in
+    let same = same_Some q p e in
     let w' : Writes (held q.shadow m1) m1 m2 = subst (λ (x : Pair). Writes (held x.shadow m1) m1 m2) (sym same) w in
     let s' : LosesWrites (slot_at q.shadow m1) (slot_at q.shadow m2) (frame ∷ []) = subst (λ (x : Pair). LosesWrites (slot_at x.shadow m1) (slot_at x.shadow m2) (frame ∷ [])) (sym same) s in
     let d' : held q.shadow m2 ≡ held q.shadow m1 = subst (λ (x : Pair). held x.shadow m2 ≡ held x.shadow m1) (sym same) d in

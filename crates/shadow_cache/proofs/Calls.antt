@@ -1,6 +1,8 @@
 -- What each call comes to.
 use Rattle.std.proofs.Common.{◌≡◌, ℕ, zero, suc, ◌<◌, ◌≤◌, List, [], ◌∷◌, ◌++◌, length, filter, get_or, slice_set, Bool, true, false, not, ◌||◌, cond, refl, sym, ap, ◌∙◌, subst, inl, inr, arith}
 use Rattle.std.proofs.lemmas.Bool.{both_ways}
+use Rattle.std.proofs.lemmas.Option.{none-some}
+use Rattle.plain_laws.proofs.Tests.{either_less}
 use Rattle.frame_pool.specs.declared.Pool.{Pool}
 use Rattle.frame_pool.specs.Held.{Holds, Owns, Moves}
 use Rattle.frame_pool.proofs.Held.{Moves-trans, Owns-moves}
@@ -14,7 +16,7 @@ use Rattle.shadow_cache.specs.Laws.{frames-cons, kept-shadows, kept-barred, tabl
 use Rattle.shadow_cache.proofs.Leaving.{none-frames}
 use Rattle.shadow_cache.proofs.Present.{present-owns, move-roots, move-moves}
 use Rattle.shadow_cache.proofs.Beside.{bars-fewer, all-fewer, tables-part, few-filter, sized-filter, barred-filter, unmarked-filter, any-filter, none-reads, or-less, reads-set, reads-there, no-reads, no-length, beside-shadow, beside-held, beside-slots, beside-tables, beside-moves, beside-owns, beside-roots}
-use Rattle.shadow_cache.proofs.Small.{both-less, none-some, length-set}
+use Rattle.shadow_cache.proofs.Small.{length-set}
 
 -- ---- the same views
 
@@ -134,7 +136,7 @@ module _ (pool pool1 : Pool) (p p' : Pair) (ps ps' : List Pair) (m m1 : List ℕ
   pub spoilt-fewer : (x : ℕ) → any_reads (p' ∷ ps') x ≡ true → any_reads (p ∷ ps) x ≡ true
   spoilt-fewer x e =
       let f : any_reads (spoilt (reads p frame) p frame ∷ unspoilt frame ps) x ≡ true = sym (ap (λ (y : Pair). any_reads (y ∷ ps') x) q ∙ ap (λ (ys : List Pair). reads (spoilt (reads p frame) p frame) x || any_reads ys x) rest) ∙ e in
-      both-less (reads (spoilt (reads p frame) p frame) x) (any_reads (unspoilt frame ps) x) (reads p x) (any_reads ps x) (spoilt-reads (reads p frame) p frame x) (any-filter (λ y. not (reads y frame)) ps x) f
+      either_less (reads (spoilt (reads p frame) p frame) x) (any_reads (unspoilt frame ps) x) (reads p x) (any_reads ps x) (spoilt-reads (reads p frame) p frame x) (any-filter (λ y. not (reads y frame)) ps x) f
 
   pub spoilt-roots : IsRoots (p' ∷ ps') m1
   spoilt-roots =

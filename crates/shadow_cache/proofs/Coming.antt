@@ -12,9 +12,9 @@ use Rattle.shadow_cache.specs.declared.pair.Pair.{Pair}
 use Rattle.shadow_cache.specs.Laws.{frames-cons, times-frames, kept-same, kept-shadows, kept-frames, kept-barred}
 use Rattle.shadow_cache.proofs.Leaving.{kept-refl, kept-trans, times-remove, shadows-at, shadows-remove, any-at}
 use Rattle.shadow_cache.proofs.Beside.{all-fewer, or-less, no-reads, no-length}
-use Rattle.shadow_cache.proofs.Small.{none-some, same-some}
 use Rattle.std.proofs.lemmas.List.{append-nil, drop_all}
 use Rattle.std.proofs.lemmas.Bool.{or_right}
+use Rattle.std.proofs.lemmas.Option.{same_Some, none-some}
 
 -- ---- some of the pairs
 
@@ -36,7 +36,7 @@ unmarked-remove (q ∷ qs) (suc i) h = (h.0, unmarked-remove qs i h.1)
 
 pub unmarked-at : (ps : List Pair) (i : ℕ) (p : Pair) → slice_get ps i ≡ Some p → AreUnmarked ps → p.marked ≡ false
 unmarked-at [] i p e h = absurd cc
-unmarked-at (q ∷ qs) zero p e h = subst (λ (x : Pair). x.marked ≡ false) (same-some q p e) h.0
+unmarked-at (q ∷ qs) zero p e h = subst (λ (x : Pair). x.marked ≡ false) (same_Some q p e) h.0
 unmarked-at (q ∷ qs) (suc i) p e h = unmarked-at qs i p e h.1
 
 -- all of them, so all but the first
@@ -46,7 +46,7 @@ others-unmarked (p ∷ ps) h = h.1
 
 sized-at : (ps : List Pair) (i : ℕ) (p : Pair) → slice_get ps i ≡ Some p → AreSized ps → length p.tables ≡ 16384
 sized-at [] i p e h = absurd cc
-sized-at (q ∷ qs) zero p e h = subst (λ (x : Pair). length x.tables ≡ 16384) (same-some q p e) h.0
+sized-at (q ∷ qs) zero p e h = subst (λ (x : Pair). length x.tables ≡ 16384) (same_Some q p e) h.0
 sized-at (q ∷ qs) (suc i) p e h = sized-at qs i p e h.1
 
 pub barred-remove : (test : ℕ → Bool) (ps : List Pair) (i : ℕ) (m : List ℕ) → AllBarWrites test ps m → AllBarWrites test (remove ps i) m
@@ -57,7 +57,7 @@ barred-remove test (q ∷ qs) (suc i) m h = (h.0, barred-remove test qs i m h.1)
 
 barred-at : (test : ℕ → Bool) (ps : List Pair) (i : ℕ) (p : Pair) (m : List ℕ) → slice_get ps i ≡ Some p → AllBarWrites test ps m → BarsWrites test (slot_at p.shadow m)
 barred-at test [] i p m e h = absurd cc
-barred-at test (q ∷ qs) zero p m e h = subst (λ (x : Pair). BarsWrites test (slot_at x.shadow m)) (same-some q p e) h.0
+barred-at test (q ∷ qs) zero p m e h = subst (λ (x : Pair). BarsWrites test (slot_at x.shadow m)) (same_Some q p e) h.0
 barred-at test (q ∷ qs) (suc i) p m e h = barred-at test qs i p m e h.1
 
 pub any-remove : (ps : List Pair) (i x : ℕ) → any_reads (remove ps i) x ≡ true → any_reads ps x ≡ true
@@ -133,7 +133,7 @@ module _ (pool pool' : Pool) (q : Pair) (ps : List Pair) (m m' : List ℕ) (h : 
 
 pub kept-front : (ps : List Pair) (i : ℕ) (p : Pair) (m m' : List ℕ) → slice_get ps i ≡ Some p → AreKept ps m m' → AreKept (p ∷ remove ps i) m m'
 kept-front [] i p m m' e k = absurd cc
-kept-front (q ∷ qs) zero p m m' e k = subst (λ (x : Pair). AreKept (x ∷ qs) m m') (same-some q p e) k
+kept-front (q ∷ qs) zero p m m' e k = subst (λ (x : Pair). AreKept (x ∷ qs) m m') (same_Some q p e) k
 kept-front (q ∷ qs) (suc i) p m m' e k = let r = kept-front qs i p m m' e k.3 in (r.0, r.1, r.2, (k.0, k.1, k.2, r.3, k.4), r.4)
 
 pub kept-take : (n : ℕ) (ps : List Pair) (m m' : List ℕ) → AreKept ps m m' → AreKept (take n ps) m m'

@@ -1,7 +1,8 @@
 -- A pair that leaves while it isn't the present one.
 use Rattle.std.proofs.Common.{◌≡◌, ◌≢◌, ◌⊎◌, ℕ, zero, suc, ◌+◌, List, [], ◌∷◌, ◌++◌, length, take, filter, Bool, true, false, not, cond, eqb, Option, Some, None, refl, sym, ap, ◌∙◌, subst, inl, inr}
 use Rattle.std.proofs.lemmas.Bool.Decides.{eqb_tells}
-use Rattle.std.proofs.lemmas.Bool.{or_from, ne_eqb}
+use Rattle.std.proofs.lemmas.Bool.{or_from, ne_eqb, or_parts}
+use Rattle.std.proofs.lemmas.Option.{same_Some}
 use Rattle.guest_ram.specs.Among.{is_among}
 use Rattle.shadow_tables.specs.declared.calls.Call.{Call}
 use Rattle.shadow_tables.specs.declared.calls.Call.TheVariants.{Fill, DropPage, DropDir, DropAll, Note, Written}
@@ -10,9 +11,8 @@ use Rattle.shadow_cache.specs.Away.{has_value, AreApart, IsCause, HasCause, IsNo
 use Rattle.shadow_cache.specs.declared.call_lists.RootsCall.{RootsCall}
 use Rattle.shadow_cache.specs.declared.call_lists.RootsCall.TheVariants.{Shared, Switch}
 use Rattle.shadow_cache.proofs.Since.{pairs-more, pairs-join, calls-cons, calls-none}
-use Rattle.shadow_cache.proofs.Apart.{first-false, rest-false, none-of, of-is, filter-none, take-none, but-none}
+use Rattle.shadow_cache.proofs.Apart.{none-of, of-is, filter-none, take-none, but-none}
 use Rattle.shadow_cache.proofs.Whole.{marked-value, pairs-apart, call-apart}
-use Rattle.shadow_cache.proofs.Small.{same-some}
 
 -- ---- it is there as it was, or no pair of its value is
 
@@ -29,7 +29,7 @@ cons-was p q qs n w =
 rest-was : (p q : Past) (qs : List Past) → eqb q.value p.value ≡ false → AsWas p (q ∷ qs) → AsWas p qs
 rest-was p q qs n w =
     elim w [
-      | inl e ↦ inl (rest-false (eqb q.value p.value) (has_value p.value qs) e)
+      | inl e ↦ inl (or_parts (eqb q.value p.value) (has_value p.value qs) e).1
       | inr e ↦ inr (sym (ap (λ b. cond b (Some q) (of_value p.value qs)) n) ∙ e)
     ]
 
@@ -38,8 +38,8 @@ first-was : (p q : Past) (qs : List Past) → q.value ≡ p.value → AsWas p (q
 first-was p q qs s w =
     elim (eqb_tells q.value p.value) [
       | inl t ↦ elim w [
-        | inl e ↦ absurd (let x : true ≡ false = sym t.0 ∙ first-false (eqb q.value p.value) (has_value p.value qs) e in cc)
-        | inr e ↦ same-some q p (sym (ap (λ b. cond b (Some q) (of_value p.value qs)) t.0) ∙ e)
+        | inl e ↦ absurd (let x : true ≡ false = sym t.0 ∙ (or_parts (eqb q.value p.value) (has_value p.value qs) e).0 in cc)
+        | inr e ↦ same_Some q p (sym (ap (λ b. cond b (Some q) (of_value p.value qs)) t.0) ∙ e)
       ]
       | inr t ↦ absurd (t.1 s)
     ]
@@ -164,7 +164,7 @@ abbrev pub Gone : ℕ → List Past → Type 0
 Gone v ps = has_value v ps ≡ false
 
 cond-gone : (b : Bool) (v : ℕ) (q : Past) (qs : List Past) → Gone v (q ∷ qs) → Gone v (cond b qs (q ∷ qs))
-cond-gone true v q qs e = rest-false (eqb q.value v) (has_value v qs) e
+cond-gone true v q qs e = (or_parts (eqb q.value v) (has_value v qs) e).1
 cond-gone false v q qs e = e
 
 unmarked-gone : (v : ℕ) (ps : List Past) → Gone v ps → Gone v (unmarked ps)
@@ -184,13 +184,13 @@ shared-gone w n c [] g = g
 shared-gone w n (Fill side entry wp) (p ∷ ps) g = g
 shared-gone w n (DropPage page) (p ∷ ps) g = g
 shared-gone w n (DropDir index) (p ∷ ps) g = g
-shared-gone w n DropAll (p ∷ ps) g = or_from (eqb p.value w) false (first-false (eqb p.value w) (has_value w ps) g) refl
+shared-gone w n DropAll (p ∷ ps) g = or_from (eqb p.value w) false (or_parts (eqb p.value w) (has_value w ps) g).0 refl
 shared-gone w n (Note frame) (p ∷ ps) g = g
 shared-gone w n (Written frame) (p ∷ ps) g =
     let t : Past → Bool = λ q. not (is_among frame q.tables) in
     or_from (eqb (marked_at frame p).value w) (has_value w (filter t ps))
-    (ap (λ x. eqb x w) (marked-value (is_among frame p.tables) frame p) ∙ first-false (eqb p.value w) (has_value w ps) g)
-    (filter-none t ps w (rest-false (eqb p.value w) (has_value w ps) g))
+    (ap (λ x. eqb x w) (marked-value (is_among frame p.tables) frame p) ∙ (or_parts (eqb p.value w) (has_value w ps) g).0)
+    (filter-none t ps w (or_parts (eqb p.value w) (has_value w ps) g).1)
 
 calls-gone : (w n : ℕ) (cs : List RootsCall) (ps : List Past) → IsNotLoaded w cs → Gone w ps → Gone w (after_calls n cs ps)
 calls-gone w n [] ps l g = subst (Gone w) (sym (calls-none n ps)) g

@@ -2,6 +2,8 @@
 use Rattle.std.proofs.Common.{◌≡◌, ℕ, zero, suc, ◌+◌, ◌<◌, ◌≤◌, List, [], ◌∷◌, ◌++◌, ◌||◌, length, take, drop, slice_get, remove, filter, Bool, true, false, cond, eqb, Some, None, refl, sym, ap, ◌∙◌, subst, inl, inr, arith}
 use Rattle.std.proofs.lemmas.Bool.{cases_lt}
 use Rattle.std.proofs.lemmas.Bool.Decides.{eqb_tells}
+use Rattle.std.proofs.lemmas.Option.{same_Some}
+use Rattle.std.proofs.Math.Bool.{or-true}
 use Rattle.frame_pool.specs.declared.Pool.{Pool}
 use Rattle.frame_pool.specs.Held.{times, Owns, Moves}
 use Rattle.frame_pool.proofs.Lengths.{times-append}
@@ -10,21 +12,20 @@ use Rattle.shadow_tables.specs.Slots.{held, IsShadow}
 use Rattle.shadow_cache.specs.Pairs.{reads, any_reads, frames_of, AreShadows}
 use Rattle.shadow_cache.specs.Others.{AreKept, one_later, place_of}
 use Rattle.shadow_cache.specs.declared.pair.Pair.{Pair}
-use Rattle.shadow_cache.specs.Laws.{times-frames, kept-same, kept-frames, or-true}
-use Rattle.shadow_cache.proofs.Small.{same-some}
+use Rattle.shadow_cache.specs.Laws.{times-frames, kept-same, kept-frames}
 
 -- ---- lists
 
 pub times-remove : (f : ℕ) (ps : List Pair) (i : ℕ) (p : Pair) (m : List ℕ) → slice_get ps i ≡ Some p → times f (frames_of ps m) ≡ times f (held p.shadow m) + times f (frames_of (remove ps i) m)
 times-remove f [] i p m e = absurd cc
 times-remove f (q ∷ qs) zero p m e =
-    let t = times-frames f q qs m in let s = ap (λ (x : Pair). times f (held x.shadow m)) (same-some q p e) in omega (arith, t, s)
+    let t = times-frames f q qs m in let s = ap (λ (x : Pair). times f (held x.shadow m)) (same_Some q p e) in omega (arith, t, s)
 times-remove f (q ∷ qs) (suc i) p m e =
     let t = times-frames f q qs m in let r = times-remove f qs i p m e in let u = times-frames f q (remove qs i) m in omega (arith, t, r, u)
 
 pub shadows-at : (ps : List Pair) (i : ℕ) (p : Pair) (m : List ℕ) → slice_get ps i ≡ Some p → AreShadows ps m → IsShadow p.shadow m
 shadows-at [] i p m e h = absurd cc
-shadows-at (q ∷ qs) zero p m e h = subst (λ (x : Pair). IsShadow x.shadow m) (same-some q p e) h.0
+shadows-at (q ∷ qs) zero p m e h = subst (λ (x : Pair). IsShadow x.shadow m) (same_Some q p e) h.0
 shadows-at (q ∷ qs) (suc i) p m e h = shadows-at qs i p m e h.1
 
 pub shadows-remove : (ps : List Pair) (i : ℕ) (m : List ℕ) → AreShadows ps m → AreShadows (remove ps i) m
@@ -86,12 +87,12 @@ pruned-length test (p ∷ ps) (suc i) l = let e = pruned-length test ps i (omega
 
 pub pruned-stays : (test : Pair → Bool) (ps : List Pair) (i : ℕ) (p : Pair) → i < length ps → slice_get (pruned test ps (suc i)) i ≡ Some p → test p ≡ true → pruned test ps (suc i) ≡ pruned test ps i
 pruned-stays test [] i p l e t = absurd (omega (arith, l))
-pruned-stays test (q ∷ qs) zero p l e t = sym (ap (λ b. cond b (q ∷ filter test qs) (filter test qs)) (ap test (same-some q p e) ∙ t))
+pruned-stays test (q ∷ qs) zero p l e t = sym (ap (λ b. cond b (q ∷ filter test qs) (filter test qs)) (ap test (same_Some q p e) ∙ t))
 pruned-stays test (q ∷ qs) (suc i) p l e t = ap (λ (xs : List Pair). q ∷ xs) (pruned-stays test qs i p (omega (arith, l)) e t)
 
 pub pruned-goes : (test : Pair → Bool) (ps : List Pair) (i : ℕ) (p : Pair) → i < length ps → slice_get (pruned test ps (suc i)) i ≡ Some p → test p ≡ false → remove (pruned test ps (suc i)) i ≡ pruned test ps i
 pruned-goes test [] i p l e t = absurd (omega (arith, l))
-pruned-goes test (q ∷ qs) zero p l e t = sym (ap (λ b. cond b (q ∷ filter test qs) (filter test qs)) (ap test (same-some q p e) ∙ t))
+pruned-goes test (q ∷ qs) zero p l e t = sym (ap (λ b. cond b (q ∷ filter test qs) (filter test qs)) (ap test (same_Some q p e) ∙ t))
 pruned-goes test (q ∷ qs) (suc i) p l e t = ap (λ (xs : List Pair). q ∷ xs) (pruned-goes test qs i p (omega (arith, l)) e t)
 
 -- ---- no pair
@@ -108,7 +109,7 @@ none-frames m = refl
 
 pub any-at : (ps : List Pair) (i frame : ℕ) (p : Pair) → slice_get ps i ≡ Some p → reads p frame ≡ true → any_reads ps frame ≡ true
 any-at [] i frame p e t = absurd cc
-any-at (q ∷ qs) zero frame p e t = ap (λ b. b || any_reads qs frame) (ap (λ (x : Pair). reads x frame) (same-some q p e) ∙ t)
+any-at (q ∷ qs) zero frame p e t = ap (λ b. b || any_reads qs frame) (ap (λ (x : Pair). reads x frame) (same_Some q p e) ∙ t)
 any-at (q ∷ qs) (suc i) frame p e t = ap (λ b. reads q frame || b) (any-at qs i frame p e t) ∙ or-true (reads q frame)
 
 pub any-none : (ps : List Pair) (n frame : ℕ) → length ps ≤ n → ((k : ℕ) (p : Pair) → k < n → slice_get ps k ≡ Some p → reads p frame ≡ false) → any_reads ps frame ≡ false
@@ -122,7 +123,7 @@ place-at cr3 [] i p e t h = absurd cc
 place-at cr3 (q ∷ qs) zero p e t h =
     elim (eqb_tells q.cr3 cr3) [
       | inl x ↦ ap (λ b. cond b (Some 0) (one_later (place_of cr3 qs))) x.0
-      | inr x ↦ absurd (x.1 (ap (λ (y : Pair). y.cr3) (same-some q p e) ∙ t))
+      | inr x ↦ absurd (x.1 (ap (λ (y : Pair). y.cr3) (same_Some q p e) ∙ t))
     ]
 place-at cr3 (q ∷ qs) (suc i) p e t h =
     ap (λ b. cond b (Some 0) (one_later (place_of cr3 qs))) (h 0 q (omega arith) refl)
@@ -141,5 +142,5 @@ none-more test ps i p e t h k q l x =
       | inl y ↦ h k q y x
       | inr y ↦
           let same : k ≡ i = omega (arith, y, l) in
-          subst (λ (z : Pair). test z ≡ false) (same-some p q (sym e ∙ ap (slice_get ps) (sym same) ∙ x)) t
+          subst (λ (z : Pair). test z ≡ false) (same_Some p q (sym e ∙ ap (slice_get ps) (sym same) ∙ x)) t
     ]

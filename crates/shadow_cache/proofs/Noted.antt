@@ -2,12 +2,11 @@
 use Rattle.std.proofs.Common.{◌≡◌, ℕ, ◌<◌, List, ◌∷◌, length, get_or, slice_set, Bool, true, false, ◌||◌, eqb, Some, refl, sym, ap, ◌∙◌, inl, inr, arith}
 use Rattle.std.proofs.lemmas.Bool.Decides.{eqb_tells}
 use Rattle.std.proofs.lemmas.Bool.{both_ways}
+use Rattle.std.proofs.Math.Bool.{or-false, or-true}
 use Rattle.shadow_cache.specs.Pairs.{reads}
 use Rattle.shadow_cache.specs.After.{emptied, mark_of, noted_in, noted_of, value_of, written_in}
 use Rattle.shadow_cache.specs.declared.pair.Pair.{Pair}
 use Rattle.shadow_cache.proofs.Beside.{no-reads, reads-set, reads-there}
-use Rattle.shadow_cache.proofs.Small.{or-none}
-use Rattle.shadow_cache.specs.Laws.{or-true}
 use Rattle.shadow_cache.proofs.Calls.{spoilt}
 
 set-exact : (bits : List Bool) (i f : ℕ) → i < length bits → get_or (slice_set bits i true) f false ≡ (get_or bits f false || eqb f i)
@@ -18,7 +17,7 @@ set-exact bits i f l =
           ∙ sym (ap (λ b. get_or bits f false || b) t.0 ∙ or-true (get_or bits f false))
       | inr t ↦
           elim (reads-set bits i f true) [
-            | inl s ↦ s ∙ sym (ap (λ b. get_or bits f false || b) t.0 ∙ or-none (get_or bits f false))
+            | inl s ↦ s ∙ sym (ap (λ b. get_or bits f false || b) t.0 ∙ or-false (get_or bits f false))
             | inr u ↦ absurd (t.1 u.0)
           ]
     ]
@@ -42,7 +41,7 @@ written-there p ps qs frame e h = there-by (reads p frame) p frame (sym (ap (λ 
 
 marked-by : (b : Bool) (p : Pair) (frame : ℕ) → (spoilt b p frame).marked ≡ (p.marked || b)
 marked-by true p frame = sym (or-true p.marked)
-marked-by false p frame = sym (or-none p.marked)
+marked-by false p frame = sym (or-false p.marked)
 
 pub written-marked : (p : Pair) (ps qs : List Pair) (frame : ℕ) → qs ≡ written_in (p ∷ ps) frame → mark_of qs ≡ (p.marked || reads p frame)
 written-marked p ps qs frame e = ap mark_of e ∙ marked-by (reads p frame) p frame

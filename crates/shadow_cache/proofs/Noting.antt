@@ -11,14 +11,16 @@ use Rattle.shadow_cache.specs.Pairs.{no_tables, any_reads, tables_of, frames_of,
 use Rattle.shadow_cache.specs.Others.{AreKept, AllLoseWrites}
 use Rattle.shadow_cache.specs.declared.pair.Pair.{Pair}
 use Rattle.shadow_tables.specs.Opened.{KeepsTables}
-use Rattle.shadow_cache.specs.Laws.{keeps-same, frames-cons, times-frames, kept-same, kept-shadows, tables-any, or-true}
+use Rattle.shadow_cache.specs.Laws.{keeps-same, frames-cons, times-frames, kept-same, kept-shadows, tables-any}
 use Rattle.shadow_cache.proofs.Leaving.{none-frames}
 use Rattle.shadow_cache.proofs.Barring.{rest-holds}
 use Rattle.shadow_cache.proofs.Present.{apart, write-frames, write-memory}
 use Rattle.shadow_cache.proofs.Beside.{reads-set, reads-there, no-length}
-use Rattle.shadow_cache.proofs.Small.{same-some, none-some, length-set, or-none}
+use Rattle.shadow_cache.proofs.Small.{length-set}
 use Rattle.std.proofs.lemmas.List.{append-nil}
 use Rattle.std.proofs.lemmas.Bool.{and_left, false_from_ne_true}
+use Rattle.std.proofs.lemmas.Option.{same_Some, none-some}
+use Rattle.std.proofs.Math.Bool.{or-false, or-true}
 
 -- ---- a new pair
 
@@ -53,7 +55,7 @@ Bars test o = (slot : Slot) → o ≡ Some slot → test slot.entry.frame ≡ tr
 bars-one : (t u : ℕ → Bool) (frame : ℕ) (o : Option Slot) → ((x : ℕ) → u x ≡ true → (x ≡ frame) ⊎ (t x ≡ true)) → Bars t o → Bars u (barred (one frame) o)
 bars-one t u frame None i b = λ slot e y. absurd (none-some slot e)
 bars-one t u frame (Some s) i b = λ slot e y.
-    let q = same-some (record s { writes = s.writes && not (eqb s.entry.frame frame || false) }) slot e in
+    let q = same_Some (record s { writes = s.writes && not (eqb s.entry.frame frame || false) }) slot e in
     let z : u s.entry.frame ≡ true = ap (λ (x : Slot). u x.entry.frame) q ∙ y in
     sym (ap (λ (x : Slot). x.writes) q) ∙ elim (i s.entry.frame z) [
       | inl same ↦ elim (eqb_tells s.entry.frame frame) [ inl k ↦ out s.writes (eqb s.entry.frame frame) k.0 | inr k ↦ absurd (k.1 same) ]
@@ -79,7 +81,7 @@ all-lose (p ∷ ps) m m1 m2 frame k l = (
 -- the same right goes by all frames that are tracked then
 flags : (a b c : Bool) → (a ≡ true → b ≡ c) → (a && not (b || false)) ≡ (a && not c)
 flags false b c h = refl
-flags true b c h = ap (λ x. not (x || false)) (h refl) ∙ ap not (or-none c)
+flags true b c h = ap (λ x. not (x || false)) (h refl) ∙ ap not (or-false c)
 
 -- ---- pair after pair
 

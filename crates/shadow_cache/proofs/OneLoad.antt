@@ -1,7 +1,8 @@
 -- Which pairs leave at a call.
 use Rattle.std.proofs.Common.{◌≡◌, ◌≢◌, ℕ, zero, suc, ◌≤◌, List, [], ◌∷◌, ◌++◌, length, take, filter, slice_get, Bool, true, false, not, ◌&&◌, cond, eqb, Option, Some, None, refl, sym, ap, ◌∙◌, subst, inl, inr, arith}
 use Rattle.std.proofs.lemmas.Bool.Decides.{eqb_tells}
-use Rattle.std.proofs.lemmas.Bool.{or_from, ne_eqb, both_ways}
+use Rattle.std.proofs.lemmas.Bool.{or_from, ne_eqb, both_ways, or_parts}
+use Rattle.std.proofs.lemmas.Option.{same_Some, none-some}
 use Rattle.guest_ram.specs.Among.{is_among}
 use Rattle.shadow_tables.specs.declared.calls.Call.TheVariants.{Fill, DropPage, DropDir, DropAll, Note, Written}
 use Rattle.shadow_cache.specs.Past.{Past, begun, marked_at, unmarked, of_value, but_value, with_front, after_switch, after_call, pairs_after}
@@ -9,10 +10,10 @@ use Rattle.shadow_cache.specs.Away.{has_value, AreApart, is_of_value, leaves, Is
 use Rattle.shadow_cache.specs.declared.call_lists.RootsCall.{RootsCall}
 use Rattle.shadow_cache.specs.declared.call_lists.RootsCall.TheVariants.{Shared, Switch}
 use Rattle.shadow_cache.proofs.Since.{pairs-more}
-use Rattle.shadow_cache.proofs.Apart.{first-false, rest-false, of-none, none-of, of-is, unmarked-apart, unmarked-few}
+use Rattle.shadow_cache.proofs.Apart.{of-none, none-of, of-is, unmarked-apart, unmarked-few}
 use Rattle.shadow_cache.proofs.Whole.{marked-value, pairs-apart, pairs-few}
 use Rattle.shadow_cache.proofs.Gone.{filter-gone, front-gone, begins-by}
-use Rattle.shadow_cache.proofs.Small.{same-some, none-some}
+use Rattle.shadow_cache.proofs.Small.{not-first}
 
 -- ---- the pair of a value
 
@@ -21,8 +22,8 @@ eqb-self v = elim (eqb_tells v v) [ inl t ↦ t.0 | inr t ↦ absurd (t.1 refl) 
 
 has-at : (qs : List Past) (i : ℕ) (p : Past) (v : ℕ) → slice_get qs i ≡ Some p → has_value v qs ≡ false → eqb p.value v ≡ false
 has-at [] i p v e h = absurd (none-some p e)
-has-at (q ∷ qs) zero p v e h = ap (λ (x : Past). eqb x.value v) (sym (same-some q p e)) ∙ first-false (eqb q.value v) (has_value v qs) h
-has-at (q ∷ qs) (suc i) p v e h = has-at qs i p v e (rest-false (eqb q.value v) (has_value v qs) h)
+has-at (q ∷ qs) zero p v e h = ap (λ (x : Past). eqb x.value v) (sym (same_Some q p e)) ∙ (or_parts (eqb q.value v) (has_value v qs) h).0
+has-at (q ∷ qs) (suc i) p v e h = has-at qs i p v e (or_parts (eqb q.value v) (has_value v qs) h).1
 
 eqb-swap : (a b : ℕ) → eqb a b ≡ false → eqb b a ≡ false
 eqb-swap a b e = ne_eqb b a (λ s. (elim (eqb_tells a b) [ inl t ↦ both_ways (eqb a b) e t.0 | inr t ↦ t.1 (sym s) ]))
@@ -30,7 +31,7 @@ eqb-swap a b e = ne_eqb b a (λ s. (elim (eqb_tells a b) [ inl t ↦ both_ways (
 of-at : (qs : List Past) (i : ℕ) (p : Past) → slice_get qs i ≡ Some p → AreApart qs → of_value p.value qs ≡ Some p
 of-at [] i p e a = absurd (none-some p e)
 of-at (q ∷ qs) zero p e a =
-    let s = same-some q p e in
+    let s = same_Some q p e in
     ap (λ b. cond b (Some q) (of_value p.value qs)) (ap (λ (x : Past). eqb x.value p.value) s ∙ eqb-self p.value) ∙ ap (λ x. Some x) s
 of-at (q ∷ qs) (suc i) p e a =
     ap (λ b. cond b (Some q) (of_value p.value qs)) (eqb-swap p.value q.value (has-at qs i p q.value e a.0)) ∙ of-at qs i p e a.1
@@ -56,7 +57,7 @@ of-but w v (p ∷ ps) n =
 -- ---- the last of those that stay
 
 of-some : (w : ℕ) (p q : Past) (ps : List Past) → eqb q.value w ≡ true → of_value w (q ∷ ps) ≡ Some p → q ≡ p
-of-some w p q ps t e = same-some q p (sym (ap (λ b. cond b (Some q) (of_value w ps)) t) ∙ e)
+of-some w p q ps t e = same_Some q p (sym (ap (λ b. cond b (Some q) (of_value w ps)) t) ∙ e)
 
 short-none : (w : ℕ) (ps : List Past) (p : Past) → length ps ≤ 0 → of_value w ps ≡ Some p → ⊥
 short-none w [] p l e = none-some p e
@@ -114,16 +115,12 @@ both-false : (a b : Bool) → a ≡ false → (not a && b) ≡ b
 both-false true b e = cc
 both-false false b e = refl
 
-and-not : (a b : Bool) → (not a && b) ≡ true → a ≡ false
-and-not true b e = absurd (both_ways false refl e)
-and-not false b e = refl
-
 module _ (v : ℕ) (p : Past) (ps : List Past) (a : AreApart ps) (few : length ps ≤ 8) (here : of_value p.value ps ≡ Some p) where
   goes-by : (o : Option Past) → of_value v ps ≡ o → (not (has_value v ps) && is_of_value p.value (slice_get ps 7)) ≡ true → p.value ≢ v → has_value p.value (with_front v ps o) ≡ false
   goes-by None e h n =
       or_from (eqb v p.value) (has_value p.value (take 7 ps)) (ne_eqb v p.value (λ s. n (sym s)))
       (last-goes 7 p.value ps a (sym (both-false (has_value v ps) (is_of_value p.value (slice_get ps 7)) (of-none v ps e)) ∙ h))
-  goes-by (Some q) e h n = absurd (none-some q (sym (none-of v ps (and-not (has_value v ps) (is_of_value p.value (slice_get ps 7)) h)) ∙ e))
+  goes-by (Some q) e h n = absurd (none-some q (sym (none-of v ps (not-first (has_value v ps) (is_of_value p.value (slice_get ps 7)) h)) ∙ e))
 
   stays-by : (o : Option Past) → of_value v ps ≡ o → (not (has_value v ps) && is_of_value p.value (slice_get ps 7)) ≡ false → p.value ≢ v → of_value p.value (with_front v ps o) ≡ Some p
   stays-by None e h n =
@@ -140,7 +137,7 @@ module _ (v : ℕ) (p : Past) (ps : List Past) (a : AreApart ps) (few : length p
   load-goes : (not (has_value v ps) && is_of_value p.value (slice_get ps 7)) ≡ true → has_value p.value (after_switch v ps) ≡ false
   load-goes h =
       elim (eqb_tells p.value v) [
-        | inl t ↦ absurd (none-some p (sym (none-of v ps (and-not (has_value v ps) (is_of_value p.value (slice_get ps 7)) h)) ∙ its-own t.1))
+        | inl t ↦ absurd (none-some p (sym (none-of v ps (not-first (has_value v ps) (is_of_value p.value (slice_get ps 7)) h)) ∙ its-own t.1))
         | inr t ↦ goes-by (of_value v ps) refl h t.1
       ]
 

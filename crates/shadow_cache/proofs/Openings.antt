@@ -1,6 +1,7 @@
 -- For which directory indices pairs have tables, after each call.
 use Rattle.std.proofs.Common.{◌≡◌, ℕ, zero, suc, ◌<◌, ◌≤◌, List, [], ◌∷◌, length, length-append, take, filter, remove, slice_get, Bool, true, false, not, cond, Option, Some, None, sym, ap, subst, arith}
 use Rattle.std.specs.Prelude.{MatchOption, slice_set}
+use Rattle.std.proofs.lemmas.Option.{same_Some}
 use Rattle.shadow_tables.specs.Slots.{held, roots, IsEmpty}
 use Rattle.shadow_tables.specs.Opened.{HasOpenedOnly}
 use Rattle.shadow_tables.specs.Laws.Openings.{only-kept, only-opened, only-none}
@@ -11,7 +12,6 @@ use Rattle.shadow_cache.specs.Others.{AreKept, AllLoseWrites, place_of}
 use Rattle.shadow_cache.specs.After.{noted_in, written_in, emptied, OpensIn, KeepsIn}
 use Rattle.shadow_cache.specs.Switched.{IsFresh, staying_pairs, ComesBack, Opens, IsSwitched}
 use Rattle.shadow_cache.specs.declared.pair.Pair.{Pair}
-use Rattle.shadow_cache.proofs.Small.{same-some}
 
 no-longer : (xs ys : List ℕ) → xs ≡ ys → length xs ≤ length ys
 no-longer xs ys e = let f = ap (λ (l : List ℕ). length l) e in omega (arith, f)
@@ -88,7 +88,7 @@ remove-opened indices (q ∷ qs) (suc i) m h = (h.0, remove-opened indices qs i 
 
 at-opened : (indices : ℕ → Bool) (ps : List Pair) (i : ℕ) (p : Pair) (m : List ℕ) → slice_get ps i ≡ Some p → AllOpenedOnly indices ps m → HasOpenedOnly indices p.shadow m
 at-opened indices [] i p m e h = absurd cc
-at-opened indices (q ∷ qs) zero p m e h = subst (λ (x : Pair). HasOpenedOnly indices x.shadow m) (same-some q p e) h.0
+at-opened indices (q ∷ qs) zero p m e h = subst (λ (x : Pair). HasOpenedOnly indices x.shadow m) (same_Some q p e) h.0
 at-opened indices (q ∷ qs) (suc i) p m e h = at-opened indices qs i p m e h.1
 
 back-opened : (indices : ℕ → Bool) (ps qs : List Pair) (m m' : List ℕ) (i : ℕ) → ComesBack ps qs m m' i → AllOpenedOnly indices ps m → AllOpenedOnly indices qs m'

@@ -1,12 +1,13 @@
 -- Pairs and their pasts, after one call more.
 use Rattle.std.proofs.Common.{◌≡◌, ℕ, zero, suc, ◌+◌, ◌<◌, ◌≤◌, List, [], ◌∷◌, ◌++◌, length, take, remove, filter, slice_get, slice_set, get_or, Bool, true, false, not, ◌||◌, ◌&&◌, cond, eqb, Some, None, refl, sym, ap, ◌∙◌, subst, inl, inr, arith}
 use Rattle.std.proofs.lemmas.Bool.Decides.{eqb_tells}
-use Rattle.std.proofs.lemmas.Bool.{or_cases, eqb-true}
+use Rattle.std.proofs.lemmas.Bool.{or_cases, eqb-true, and_parts}
+use Rattle.std.proofs.lemmas.Option.{same_Some, none-some}
 use Rattle.guest_ram.specs.Among.{is_among}
 use Rattle.shadow_tables.specs.Slots.{is_side, held, slot_at, SameSlots, LosesWrites}
 use Rattle.shadow_tables.specs.Opened.{HasTable, KeepsTables, HasOpened}
 use Rattle.shadow_tables.specs.declared.words.Side.{Side}
-use Rattle.shadow_tables.specs.declared.words.Side.TheVariants.{Kernel, User}
+use Rattle.shadow_tables.proofs.Sides.{side-is}
 use Rattle.shadow_cache.specs.Pairs.{reads, any_reads}
 use Rattle.shadow_cache.specs.Others.{AreKept, AllLoseWrites, one_later, place_of}
 use Rattle.shadow_cache.specs.Switched.{staying_pairs, IsFresh}
@@ -18,7 +19,7 @@ use Rattle.shadow_cache.proofs.Beside.{reads-set, reads-there, no-reads}
 use Rattle.shadow_cache.proofs.Calls.{read-there}
 use Rattle.shadow_cache.proofs.Tabled.{Fewer, OneMore, all-but-there, all-but-other}
 use Rattle.shadow_cache.proofs.SlotSteps.{slot-stays, slot-noted}
-use Rattle.shadow_cache.proofs.Small.{same-some, none-some, some-none, none-later, later-is, later-none}
+use Rattle.shadow_cache.proofs.Small.{some-none, none-later, later-is, later-none}
 
 -- ---- pairs that keep what they kept, or lose a right to write
 
@@ -188,12 +189,12 @@ value-found v cs value [] (p ∷ ps) i x m a e g = absurd a
 value-found v cs value (q ∷ qs) [] i x m a e g = absurd a
 value-found v cs value (q ∷ qs) (p ∷ ps) zero x m a e g =
     elim (eqb_tells p.cr3 value) [
-      | inl t ↦ subst (λ (y : Pair). Found v cs value (q ∷ qs) ps y m) (same-some p x g) (first-found v cs value q qs p ps m t.0 a)
+      | inl t ↦ subst (λ (y : Pair). Found v cs value (q ∷ qs) ps y m) (same_Some p x g) (first-found v cs value q qs p ps m t.0 a)
       | inr t ↦ absurd (later-none (place_of value ps) (sym (ap (λ b. cond b (Some 0) (one_later (place_of value ps))) t.0) ∙ e))
     ]
 value-found v cs value (q ∷ qs) (p ∷ ps) (suc i) x m a e g =
     elim (eqb_tells p.cr3 value) [
-      | inl t ↦ absurd (let s = same-some 0 (suc i) (sym (ap (λ b. cond b (Some 0) (one_later (place_of value ps))) t.0) ∙ e) in omega (arith, s))
+      | inl t ↦ absurd (let s = same_Some 0 (suc i) (sym (ap (λ b. cond b (Some 0) (one_later (place_of value ps))) t.0) ∙ e) in omega (arith, s))
       | inr t ↦
           later-found v cs value q qs p x (remove ps i) m t.0 a.0
           (value-found v cs value qs ps i x m a.1 (later-is (place_of value ps) i (sym (ap (λ b. cond b (Some 0) (one_later (place_of value ps))) t.0) ∙ e)) g)
@@ -214,20 +215,6 @@ agrees-fresh v cs value p m f =
 
 -- ---- places
 
-pub side-is : (a b : Side) → is_side a b ≡ true → a ≡ b
-side-is Kernel Kernel e = refl
-side-is Kernel User e = cc
-side-is User Kernel e = cc
-side-is User User e = refl
-
-pub and-first : (a b : Bool) → (a && b) ≡ true → a ≡ true
-and-first true b e = refl
-and-first false b e = e
-
-pub and-second : (a b : Bool) → (a && b) ≡ true → b ≡ true
-and-second true b e = e
-and-second false b e = cc
-
 -- the places under which pages were filled have tables, and one more
 module _ (v : ℕ) (cs : List RootsCall) (q : Past) (p : Pair) (m m' : List ℕ) (a : Agrees v cs q p m) (side : Side) (index : ℕ) (low : index < 1024) (o : HasOpened p.shadow m m' side index) where
   here : DirSlot
@@ -241,8 +228,8 @@ module _ (v : ℕ) (cs : List RootsCall) (q : Past) (p : Pair) (m m' : List ℕ)
 
   at : (place : DirSlot) → (is_side place.side side && eqb place.index index) ≡ true → (place.index < 1024) × HasTable p.shadow m' place.side place.index
   at place t =
-      let s : place.side ≡ side = side-is place.side side (and-first (is_side place.side side) (eqb place.index index) t) in
-      let i : place.index ≡ index = eqb-true place.index index (and-second (is_side place.side side) (eqb place.index index) t) in
+      let s : place.side ≡ side = side-is place.side side (and_parts (is_side place.side side) (eqb place.index index) t).0 in
+      let i : place.index ≡ index = eqb-true place.index index (and_parts (is_side place.side side) (eqb place.index index) t).1 in
       (omega (arith, i, low), subst (λ x. HasTable p.shadow m' x place.index) (sym s) (subst (λ x. HasTable p.shadow m' side x) (sym i) o.there))
 
   opened-by : (b : Bool) → Opened (cond b q.places (record { side = side; index = index } ∷ q.places))

@@ -1,21 +1,21 @@
 -- The directory indices under which pages were filled in a pair.
 use Rattle.std.proofs.Common.{◌≡◌, ℕ, zero, suc, ◌/◌, List, [], ◌∷◌, ◌++◌, append_assoc, take, filter, Bool, true, false, not, ◌&&◌, cond, eqb, Option, Some, None, refl, sym, ap, ◌∙◌, subst, inl, inr}
 use Rattle.std.proofs.lemmas.Bool.Decides.{eqb_tells}
-use Rattle.std.proofs.lemmas.Bool.{or_cases, eqb-true}
+use Rattle.std.proofs.lemmas.Bool.{or_cases, eqb-true, and_parts}
+use Rattle.std.proofs.lemmas.Option.{same_Some, none-some}
 use Rattle.paging.specs.declared.entry.Entry.{Entry}
 use Rattle.guest_ram.specs.Among.{is_among}
 use Rattle.shadow_tables.specs.Slots.{is_side}
 use Rattle.shadow_tables.specs.declared.words.Side.{Side}
 use Rattle.shadow_tables.specs.declared.calls.Call.{Call}
 use Rattle.shadow_tables.specs.declared.calls.Call.TheVariants.{Fill, DropPage, DropDir, DropAll, Note, Written}
+use Rattle.shadow_tables.proofs.Sides.{side-is}
 use Rattle.shadow_cache.specs.Past.{MadeCall, DirSlot, Past, begun, is_place, with_place, all_but, unmarked, of_value, but_value, with_front, after_shared, after_call, pairs_after}
 use Rattle.shadow_cache.specs.Replayed.{IsFilledUnder, IsEachOnce, IsPlaced, ArePlaced}
 use Rattle.shadow_cache.specs.declared.call_lists.RootsCall.{RootsCall}
 use Rattle.shadow_cache.specs.declared.call_lists.RootsCall.TheVariants.{Shared, Switch}
-use Rattle.shadow_cache.proofs.PairSteps.{side-is, and-first, and-second}
 use Rattle.shadow_cache.proofs.Since.{pairs-are}
 use Rattle.shadow_cache.proofs.Whole.{calls-keep}
-use Rattle.shadow_cache.proofs.Small.{same-some, none-some}
 
 -- ---- one pair
 
@@ -34,7 +34,7 @@ filled-later done d place f =
 filled-now : (done : List MadeCall) (moment : ℕ) (side : Side) (entry : Entry) (wp : Bool) (place : DirSlot) → (is_side place.side side && eqb place.index (entry.page / 1024)) ≡ true
     → IsFilledUnder (done ++ record { moment = moment; call = Fill side entry wp } ∷ []) place
 filled-now done moment side entry wp place t =
-    let s : place.side ≡ side = side-is place.side side (and-first (is_side place.side side) (eqb place.index (entry.page / 1024)) t) in
+    let s : place.side ≡ side = side-is place.side side (and_parts (is_side place.side side) (eqb place.index (entry.page / 1024)) t).0 in
     record {
       before = done;
       later = [];
@@ -42,7 +42,7 @@ filled-now done moment side entry wp place t =
       entry = entry;
       wp = wp;
       fill = ap (λ x. done ++ record { moment = moment; call = Fill x entry wp } ∷ []) (sym s);
-      under = sym (eqb-true place.index (entry.page / 1024) (and-second (is_side place.side side) (eqb place.index (entry.page / 1024)) t));
+      under = sym (eqb-true place.index (entry.page / 1024) (and_parts (is_side place.side side) (eqb place.index (entry.page / 1024)) t).1);
     }
 
 -- a place more, where it isn't there
@@ -112,7 +112,7 @@ of-placed : (v : ℕ) (ps : List Past) (q : Past) → of_value v ps ≡ Some q �
 of-placed v [] q e a = absurd (none-some q e)
 of-placed v (p ∷ ps) q e a =
     elim (eqb_tells p.value v) [
-      | inl t ↦ subst IsPlaced (same-some p q (sym (ap (λ b. cond b (Some p) (of_value v ps)) t.0) ∙ e)) a.0
+      | inl t ↦ subst IsPlaced (same_Some p q (sym (ap (λ b. cond b (Some p) (of_value v ps)) t.0) ∙ e)) a.0
       | inr t ↦ of-placed v ps q (sym (ap (λ b. cond b (Some p) (of_value v ps)) t.0) ∙ e) a.1
     ]
 

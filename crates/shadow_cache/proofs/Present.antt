@@ -1,6 +1,7 @@
 -- A call on the present pair, beside which the others stay as they were.
 use Rattle.std.proofs.Common.{◌≡◌, ℕ, ◌/◌, ◌^◌, ◌<◌, List, ◌∷◌, ◌++◌, Bool, true, false, not, ◌&&◌, Option, Some, None, refl, sym, ap, ◌∙◌, subst, inl, inr}
 use Rattle.std.proofs.lemmas.Bool.Decides.{eqb_tells}
+use Rattle.std.proofs.lemmas.Option.{same_Some, none-some}
 use Rattle.frame_pool.specs.declared.Pool.{Pool}
 use Rattle.frame_pool.specs.Held.{Holds, Owns, Writes, Moves, SameIn}
 use Rattle.frame_pool.proofs.Held.{Owns-part, Owns-moves, Holds-from_Owns, Holds-writes, Moves-beside, SameIn-beside, SameIn-writes, Writes-more, Moves-kept}
@@ -11,7 +12,6 @@ use Rattle.shadow_cache.specs.Pairs.{any_reads, frames_of, BarsWrites, IsRoots}
 use Rattle.shadow_cache.specs.Others.{AreKept}
 use Rattle.shadow_cache.specs.declared.pair.Pair.{Pair}
 use Rattle.shadow_cache.specs.Laws.{frames-cons, kept-same, kept-shadows, kept-frames, kept-barred}
-use Rattle.shadow_cache.proofs.Small.{same-some, none-some}
 
 -- ---- rights to write
 
@@ -33,7 +33,7 @@ no-right false p e = cc
 pub bars-filled : (test : ℕ → Bool) (f f' : ℕ → Option Slot) (b : Bool) (side : Side) (entry : Entry) (wp : Bool) → b ≡ test entry.frame → BarsWrites test f → f' entry.page ≡ Some (filled b side entry wp) → ((q : ℕ) → q < 2 ^ 20 → (q ≡ entry.page → ⊥) → f' q ≡ f q) → BarsWrites test f'
 bars-filled test f f' b side entry wp same bars there others =
     bars-turned test f f' entry.page bars others (λ slot e t. (
-    let q = same-some (filled b side entry wp) slot (sym there ∙ e) in
+    let q = same_Some (filled b side entry wp) slot (sym there ∙ e) in
     let on : b ≡ true = same ∙ ap (λ (s : Slot). test s.entry.frame) q ∙ t in
     sym (ap (λ (s : Slot). s.writes) q) ∙ no-right b (permits side entry true wp) on))
 

@@ -2,6 +2,7 @@
 use Rattle.std.proofs.Common.{◌≡◌, ℕ, zero, suc, List, [], ◌∷◌, take, slice_get, remove, get_or, Bool, true, false, ◌||◌, cond, eqb, MatchOption, Option, Some, None, refl, sym, ap, ◌∙◌, subst, inl, inr, arith}
 use Rattle.std.proofs.lemmas.Bool.Decides.{eqb_tells}
 use Rattle.std.proofs.lemmas.Bool.{or_right}
+use Rattle.std.proofs.lemmas.Option.{same_Some, none-some}
 use Rattle.shadow_tables.specs.Aside.{Aside, IsSame, AreSame}
 use Rattle.shadow_tables.specs.Slots.{ArePart, slot_at}
 use Rattle.shadow_cache.specs.Pairs.{reads, any_reads, tables_of, AreUnmarked, OthersUnmarked}
@@ -15,7 +16,7 @@ use Rattle.shadow_cache.specs.declared.pair.Pair.{Pair}
 use Rattle.shadow_cache.proofs.Beside.{no-reads, tables-part, or-less}
 use Rattle.shadow_cache.proofs.Coming.{any-remove, unmarked-at}
 use Rattle.shadow_cache.proofs.Leaving.{any-at}
-use Rattle.shadow_cache.proofs.Small.{same-some, none-some, some-none, none-later, later-is, later-none}
+use Rattle.shadow_cache.proofs.Small.{some-none, none-later, later-is, later-none}
 
 -- ---- the present pair is put by
 
@@ -70,12 +71,12 @@ find-some : (cr3 : ℕ) (ps : List Pair) (i : ℕ) (x : Pair) (m : List ℕ) →
 find-some cr3 [] i x m e h = absurd (none-some i e)
 find-some cr3 (p ∷ ps) zero x m e h =
     elim (eqb_tells p.cr3 cr3) [
-      | inl t ↦ subst (λ (y : Pair). IsFound cr3 (p ∷ ps) ps y m) (same-some p x h) (found-first cr3 p ps m t.1 t.0)
+      | inl t ↦ subst (λ (y : Pair). IsFound cr3 (p ∷ ps) ps y m) (same_Some p x h) (found-first cr3 p ps m t.1 t.0)
       | inr t ↦ absurd (later-none (place_of cr3 ps) (sym (ap (λ b. cond b (Some 0) (one_later (place_of cr3 ps))) t.0) ∙ e))
     ]
 find-some cr3 (p ∷ ps) (suc i) x m e h =
     elim (eqb_tells p.cr3 cr3) [
-      | inl t ↦ absurd (let s = same-some 0 (suc i) (sym (ap (λ b. cond b (Some 0) (one_later (place_of cr3 ps))) t.0) ∙ e) in omega (arith, s))
+      | inl t ↦ absurd (let s = same_Some 0 (suc i) (sym (ap (λ b. cond b (Some 0) (one_later (place_of cr3 ps))) t.0) ∙ e) in omega (arith, s))
       | inr t ↦
           found-later cr3 p ps (remove ps i) x m t.0
           (find-some cr3 ps i x m (later-is (place_of cr3 ps) i (sym (ap (λ b. cond b (Some 0) (one_later (place_of cr3 ps))) t.0) ∙ e)) h)

@@ -1,7 +1,7 @@
 -- What is kept for a page, after one call more.
 use Rattle.std.proofs.Common.{◌≡◌, ℕ, ◌/◌, ◌^◌, ◌<◌, List, [], ◌∷◌, ◌++◌, length, Bool, true, false, not, ◌||◌, ◌&&◌, cond, eqb, Option, Some, None, refl, sym, ap, ◌∙◌, subst, inl, inr, arith}
 use Rattle.std.proofs.lemmas.Bool.Decides.{eqb_tells}
-use Rattle.std.proofs.lemmas.Bool.{or_from, false_from_ne_true, both_ways}
+use Rattle.std.proofs.lemmas.Bool.{or_from, false_from_ne_true, both_ways, or_parts}
 use Rattle.paging.specs.declared.entry.Entry.{Entry}
 use Rattle.shadow_tables.specs.Slots.{Slot, filled, barred, permits, Turns, LosesDir}
 use Rattle.shadow_tables.specs.declared.words.Side.{Side}
@@ -11,7 +11,6 @@ use Rattle.shadow_cache.specs.Agreeing.{Filling, filling_after, IsHeld, IsSlot}
 use Rattle.shadow_cache.specs.declared.call_lists.RootsCall.{RootsCall}
 use Rattle.shadow_cache.proofs.Since.{length-more, since-less, since-now, since-more, since-here}
 use Rattle.shadow_cache.proofs.Tabled.{Fewer, AsMany, OneMore, fewer-as}
-use Rattle.shadow_cache.proofs.Apart.{first-false, rest-false}
 
 -- ---- nothing changes
 
@@ -50,11 +49,11 @@ slot-noted v cs c frame (Some f) o o' w e h =
           ∙ ap (λ w. Some (record { side = f.side; entry = f.entry; reads = permits f.side f.entry false f.wp; writes = w })) (bar-more h.barred (permits f.side f.entry true f.wp) q);
       early = omega (arith, l, early);
       free = λ b.
-          let n = h.free (first-false h.barred q b) in
-          since-more v cs c f.moment f.entry.frame n (w f.entry.frame ∙ or_from q t (rest-false h.barred q b) (since-now v cs f.moment f.entry.frame h.early n));
+          let n = h.free (or_parts h.barred q b).0 in
+          since-more v cs c f.moment f.entry.frame n (w f.entry.frame ∙ or_from q t (or_parts h.barred q b).1 (since-now v cs f.moment f.entry.frame h.early n));
       still = λ n.
           let now = since-now v (cs ++ c ∷ []) f.moment f.entry.frame (omega (arith, l, early)) n in
-          or_from h.barred q (h.still (since-less v cs c f.moment f.entry.frame n)) (first-false q t (sym (w f.entry.frame) ∙ now));
+          or_from h.barred q (h.still (since-less v cs c f.moment f.entry.frame n)) (or_parts q t (sym (w f.entry.frame) ∙ now)).0;
     }
 
 -- ---- a page is filled

@@ -2,6 +2,9 @@
 use Rattle.std.proofs.Common.{◌≡◌, ℕ, zero, suc, List, [], ◌∷◌, ◌++◌, length, take, filter, Bool, true, false, not, ◌||◌, cond, eqb, Option, Some, None, refl, sym, ap, ◌∙◌, inl, inr}
 use Rattle.std.proofs.lemmas.Bool.Decides.{eqb_tells}
 use Rattle.std.proofs.lemmas.Bool.{or_right, ne_eqb, or_left}
+use Rattle.std.proofs.lemmas.Option.{same_Some, none-some}
+use Rattle.std.proofs.Math.Bool.{or_assoc}
+use Rattle.plain_laws.proofs.Tests.{either_less}
 use Rattle.paging.specs.declared.entry.Entry.{Entry}
 use Rattle.guest_ram.specs.Among.{is_among}
 use Rattle.shadow_tables.specs.declared.words.Side.{Side}
@@ -11,7 +14,6 @@ use Rattle.shadow_cache.specs.declared.call_lists.RootsCall.{RootsCall}
 use Rattle.shadow_cache.specs.declared.call_lists.RootsCall.TheVariants.{Shared, Switch}
 use Rattle.shadow_cache.proofs.Beside.{or-less}
 use Rattle.shadow_cache.proofs.Since.{pairs-more}
-use Rattle.shadow_cache.proofs.Small.{same-some, none-some, both-less}
 
 -- ---- all frames but one
 
@@ -73,7 +75,7 @@ but-less v [] f e = e
 but-less v (p ∷ ps) f e = rest-less (eqb p.value v) p (but_value v ps) ps f e (but-less v ps f)
 
 one-of : (b : Bool) (p q : Past) (o : Option Past) (ps : List Past) (f : ℕ) → cond b (Some p) o ≡ Some q → is_among f q.tables ≡ true → (o ≡ Some q → is_table ps f ≡ true) → is_table (p ∷ ps) f ≡ true
-one-of true p q o ps f e t h = or_left (is_among f p.tables) (is_table ps f) (ap (λ (x : Past). is_among f x.tables) (same-some p q e) ∙ t)
+one-of true p q o ps f e t h = or_left (is_among f p.tables) (is_table ps f) (ap (λ (x : Past). is_among f x.tables) (same_Some p q e) ∙ t)
 one-of false p q o ps f e t h = or_right (is_among f p.tables) (is_table ps f) (h e)
 
 of-less : (v : ℕ) (ps : List Past) (q : Past) (f : ℕ) → of_value v ps ≡ Some q → is_among f q.tables ≡ true → is_table ps f ≡ true
@@ -109,7 +111,7 @@ fewer-switch v cs value =
 written-less : (n frame : ℕ) (ps : List Past) (f : ℕ) → is_table (after_shared n (Written frame) ps) f ≡ true → is_table ps f ≡ true
 written-less n frame [] f e = e
 written-less n frame (p ∷ ps) f e =
-    both-less (is_among f (marked_at frame p).tables) (is_table (filter (λ (q : Past). not (is_among frame q.tables)) ps) f) (is_among f p.tables) (is_table ps f)
+    either_less (is_among f (marked_at frame p).tables) (is_table (filter (λ (q : Past). not (is_among frame q.tables)) ps) f) (is_among f p.tables) (is_table ps f)
     (marked-less (is_among frame p.tables) frame p f) (filter-less (λ (q : Past). not (is_among frame q.tables)) ps f) e
 
 pub fewer-written : (v : ℕ) (cs : List RootsCall) (frame : ℕ) → Fewer v cs (Shared (Written frame))
@@ -156,15 +158,11 @@ fewer-as v cs c h = λ f e. sym (h f) ∙ e
 
 -- ---- one more
 
-or-nested : (a b c : Bool) → ((a || b) || c) ≡ (a || (b || c))
-or-nested true b c = refl
-or-nested false b c = refl
-
 abbrev pub OneMore : ℕ → List RootsCall → RootsCall → ℕ → Type 0
 OneMore v cs c frame = (f : ℕ) → is_table (pairs_after v (cs ++ c ∷ [])) f ≡ (eqb f frame || is_table (pairs_after v cs) f)
 
 note-one : (n frame : ℕ) (p : Past) (ps : List Past) (f : ℕ) → is_table (after_shared n (Note frame) (p ∷ ps)) f ≡ (eqb f frame || is_table (p ∷ ps) f)
-note-one n frame p ps f = or-nested (eqb f frame) (is_among f p.tables) (is_table ps f)
+note-one n frame p ps f = or_assoc (eqb f frame) (is_among f p.tables) (is_table ps f)
 
 pub one-note : (v : ℕ) (cs : List RootsCall) (frame : ℕ) (p : Past) (ps : List Past) → pairs_after v cs ≡ p ∷ ps → OneMore v cs (Shared (Note frame)) frame
 one-note v cs frame p ps e = λ f.

@@ -13,16 +13,13 @@ use Rattle.shadow_cache.specs.Laws.{frames-cons}
 use Rattle.shadow_cache.proofs.Leaving.{none-frames}
 use Rattle.shadow_cache.specs.Pairs.{frames_of}
 use Rattle.shadow_tables.specs.Slots.{held}
+use Rattle.shadow_tables.proofs.Lists.{only-less}
 use Rattle.shadow_cache.specs.Replayed.{most_frames}
 use Rattle.std.proofs.Common.{◌≤◌, length, length-append, arith}
 use Rattle.shadow_cache.proofs.LastFills.{last-to, last-is}
+use Rattle.shadow_cache.proofs.Small.{not-first}
 use Rattle.std.proofs.lemmas.Bool.{false≢true}
-
-same-entry : (a b : Entry) → Some a ≡ Some b → a ≡ b
-same-entry a b e = cc
-
-none-entry : (a : Entry) → None ≡ Some a → ⊥
-none-entry a e = cc
+use Rattle.std.proofs.lemmas.Option.{none-some, same_Some}
 
 -- the fill, with what is kept of it
 record Filled (v : ℕ) (cs : List RootsCall) (done : List MadeCall) (page : ℕ) (o : Option Slot) : Type 0 where
@@ -31,7 +28,7 @@ record Filled (v : ℕ) (cs : List RootsCall) (done : List MadeCall) (page : ℕ
   held : IsHeld v cs fill o
 
 some-kept : (v : ℕ) (cs : List RootsCall) (done : List MadeCall) (page : ℕ) (x : Option Filling) (o : Option Slot) (entry : Entry) → last_of done page ≡ x → IsSlot v cs x o → entry_in o ≡ Some entry → Filled v cs done page o
-some-kept v cs done page None o entry l h e = absurd (none-entry entry (sym (ap entry_in h) ∙ e))
+some-kept v cs done page None o entry l h e = absurd (none-some entry (sym (ap entry_in h) ∙ e))
 some-kept v cs done page (Some f) o entry l h e = record { fill = f; last = last-is done page f l; held = h }
 
 some-adequate : (v : ℕ) (cs : List RootsCall) (done : List MadeCall) (page : ℕ) (x : Option Filling) (o : Option Slot) (side : Side) (write : Bool) → last_of done page ≡ x → IsSlot v cs x o → is_adequate o side write ≡ true → Filled v cs done page o
@@ -62,19 +59,11 @@ record Writes (b : Bool) (s side : Side) (entry : Entry) (wp : Bool) : Type 0 wh
   free : b ≡ false
   passes : permits side entry true wp ≡ true
 
-not-first : (b p : Bool) → (not b && p) ≡ true → b ≡ false
-not-first true p e = absurd (false≢true e)
-not-first false p e = refl
-
-not-second : (b p : Bool) → (not b && p) ≡ true → p ≡ true
-not-second true p e = absurd (false≢true e)
-not-second false p e = e
-
 writes-from : (b : Bool) (s side : Side) (entry : Entry) (wp : Bool) → is_adequate (Some (filled b s entry wp)) side true ≡ true → Writes b s side entry wp
-writes-from b Kernel Kernel entry wp h = record { same = refl; free = not-first b (permits Kernel entry true wp) h; passes = not-second b (permits Kernel entry true wp) h }
+writes-from b Kernel Kernel entry wp h = record { same = refl; free = not-first b (permits Kernel entry true wp) h; passes = only-less b (permits Kernel entry true wp) h }
 writes-from b Kernel User entry wp h = absurd (false≢true h)
 writes-from b User Kernel entry wp h = absurd (false≢true h)
-writes-from b User User entry wp h = record { same = refl; free = not-first b (permits User entry true wp) h; passes = not-second b (permits User entry true wp) h }
+writes-from b User User entry wp h = record { same = refl; free = not-first b (permits User entry true wp) h; passes = only-less b (permits User entry true wp) h }
 
 not-both : (b p : Bool) → b ≡ false → p ≡ true → (not b && p) ≡ true
 not-both true p e f = absurd (false≢true (sym e))
@@ -90,7 +79,7 @@ module _ (v : ℕ) (cs : List RootsCall) (done : List MadeCall) (page : ℕ) (o 
   kept-from : (entry : Entry) → entry_in o ≡ Some entry → IsEntryOf done page entry
   kept-from entry e =
       let f = some-kept v cs done page (last_of done page) o entry refl h e in
-      let same : f.fill.entry ≡ entry = same-entry f.fill.entry entry (sym (ap entry_in f.held.slot) ∙ e) in
+      let same : f.fill.entry ≡ entry = same_Some f.fill.entry entry (sym (ap entry_in f.held.slot) ∙ e) in
       (f.fill.side, f.fill.wp, f.fill.moment, subst (λ (x : Entry). LastFill done page f.fill.side x f.fill.wp f.fill.moment) same f.last)
 
   kept-to : (entry : Entry) → IsEntryOf done page entry → entry_in o ≡ Some entry

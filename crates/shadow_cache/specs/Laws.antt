@@ -26,8 +26,10 @@ use Rattle.shadow_cache.specs.Pairs.{reads, any_reads, places_from, tables_of, f
 use Rattle.shadow_tables.specs.Aside.{AreSame, AllFit, AllBarred, AllTracked}
 use Rattle.shadow_cache.specs.Asides.{asides_of}
 use Rattle.shadow_tables.specs.Laws.Openings.{only-same, held-size}
+use Rattle.shadow_tables.proofs.Asides.{among-append}
 use Rattle.shadow_cache.specs.Opening.{AllOpenedOnly}
 use Rattle.std.specs.Set.{is_member, distinct_count}
+use Rattle.std.proofs.Math.Bool.{or-true}
 use Rattle.shadow_cache.specs.Others.{AreKept}
 use Rattle.shadow_cache.specs.declared.pair.Pair.{Pair}
 
@@ -133,14 +135,6 @@ roots-stay ps m m' h e =
 
 -- ---- the frames that were read as tables
 
-or-assoc : (a b c : Bool) → (a || (b || c)) ≡ ((a || b) || c)
-or-assoc true b c = refl
-or-assoc false b c = refl
-
-among-append : (f : ℕ) (gs hs : List ℕ) → is_among f (gs ++ hs) ≡ (is_among f gs || is_among f hs)
-among-append f [] hs = refl
-among-append f (g ∷ gs) hs = ap (λ b. eqb f g || b) (among-append f gs hs) ∙ or-assoc (eqb f g) (is_among f gs) (is_among f hs)
-
 places-above : (f n : ℕ) (bits : List Bool) → f < n → is_among f (places_from n bits) ≡ false
 unfolding places_from
 places-above f n [] l = refl
@@ -225,10 +219,6 @@ all-barred t u (p ∷ ps) m i h = (λ page slot l e y. h.0 page slot l e (sym (i
 
 pub asides-barred : (p : Pair) (ps : List Pair) (m : List ℕ) → ∥ IsRoots (p ∷ ps) m ∥₁ → AllBarred (λ f. is_among f (tables_of (p ∷ ps))) (asides_of ps m)
 asides-barred p ps m h = all-barred (any_reads (p ∷ ps)) (λ f. is_among f (tables_of (p ∷ ps))) ps m (λ f. tables-any (p ∷ ps) f) (had (p ∷ ps) m h).barred.1
-
-pub or-true : (b : Bool) → (b || true) ≡ true
-or-true true = refl
-or-true false = refl
 
 pub noted-tracked : (p : Pair) (ps : List Pair) (frame : ℕ) → reads p frame ≡ true → is_among frame (tables_of (p ∷ ps)) ≡ true
 noted-tracked p ps frame e = tables-any (p ∷ ps) frame ∙ ap (λ b. b || any_reads ps frame) e
