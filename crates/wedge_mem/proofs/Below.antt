@@ -1,13 +1,13 @@
 -- What lies below a pool's first frame stays as it was.
-use Rattle.std.proofs.Common.{◌≡◌, ℕ, zero, suc, ◌+◌, ◌*◌, ◌<◌, ◌≤◌, ◌⊎◌, List, take, take-add, refl, sym, ap, ◌∙◌, inl, inr, arith}
+use Rattle.std.proofs.Common.{◌≡◌, ℕ, zero, suc, ◌+◌, ◌*◌, ◌<◌, ◌≤◌, List, take, take-add, refl, sym, ap, ◌∙◌, inl, inr, arith}
 use Rattle.guest_ram.specs.Bytes.{frame, part}
 use Rattle.frame_pool.specs.Pool.{base_of, free_list}
 use Rattle.frame_pool.specs.declared.Pool.{Pool}
 use Rattle.frame_pool.specs.Held.{times, Owns, Moves}
-use Rattle.frame_pool.proofs.Lengths.{times-within}
+use Rattle.frame_pool.proofs.Lengths.{times-within, zero-or}
 
 -- the first n frames are as they were where each of them is
-frames-same : (n : ℕ) (m m' : List ℕ) → ((g : ℕ) → g < n → frame m' g ≡ frame m g) → take (4096 * n) m' ≡ take (4096 * n) m
+pub frames-same : (n : ℕ) (m m' : List ℕ) → ((g : ℕ) → g < n → frame m' g ≡ frame m g) → take (4096 * n) m' ≡ take (4096 * n) m
 unfolding frame part
 frames-same zero m m' h = refl
 frames-same (suc n) m m' h =
@@ -15,10 +15,6 @@ frames-same (suc n) m m' h =
     let before = frames-same n m m' (λ g l. h g (omega (arith, l))) in
     let here = h n (omega arith) in
     ap (λ k. take k m') e ∙ take-add (4096 * n) 4096 m' ∙ cc (before, here) ∙ sym (take-add (4096 * n) 4096 m) ∙ sym (ap (λ k. take k m) e)
-
-zero-or : (n : ℕ) → (n ≡ 0) ⊎ (1 ≤ n)
-zero-or zero = inl refl
-zero-or (suc n) = inr (omega arith)
 
 none-low : (b n g : ℕ) (fs : List ℕ) → g < b → ((f : ℕ) → 1 ≤ times f fs → b ≤ f) → times g fs ≡ 0
 none-low b n g fs l h = elim (zero-or (times g fs)) [ inl z ↦ z | inr k ↦ absurd (let low = h g k in omega (arith, low, l)) ]

@@ -5,19 +5,20 @@ use Rattle.std.proofs.lemmas.Bool.Decides.{eqb_tells}
 use mir.Val.{bool_byte}
 use Rattle.std.specs.FinMap.{FinMap, get}
 use Rattle.std.specs.Ordering.{nat_cmp}
+use Rattle.std.proofs.lemmas.List.{drop_more}
 use Rattle.paging.specs.declared.entry.Entry.{Entry}
 use Rattle.guest_ram.specs.Among.{is_among}
 use Rattle.shadow_tables.specs.Entries.{entries_of}
 use Rattle.shadow_tables.specs.Laws.Entries.{get-entries_of, none-entries_of}
 use Rattle.shadow_tables.specs.Slots.{Slot, Turns, barred, entry_in, is_side, permits}
 use Rattle.shadow_tables.specs.declared.words.Side.{Side}
-use Rattle.shadow_tables.specs.declared.words.Side.TheVariants.{Kernel, User}
+use Rattle.shadow_tables.proofs.Sides.{side-is}
 use Rattle.step_mem.specs.Changes.{AreOfPages, changed, entry_of, last_change, page_of}
 use Rattle.step_mem.specs.declared.changes.Change.{Change}
 use Rattle.step_mem.proofs.Changed.{settle, get_changed}
 use Rattle.wedge_mem.specs.Settled.{IsFillCount, LosesSome, filled_by, has_entry, is_due, refilled, serves}
 use Rattle.wedge_mem.specs.Told.{guest_frames}
-use Rattle.wedge_mem.proofs.Lists.{rest-at, true-false, used-by}
+use Rattle.wedge_mem.proofs.Lists.{true-false, used-by}
 use Rattle.wedge_mem.proofs.Filled.{filled-by, last-beyond, last-none, self}
 
 -- ---- what serves is what a fill would make
@@ -30,12 +31,6 @@ parts true true true false false e = (refl, refl, refl)
 parts true true false p1 w e = absurd (true-false (sym e))
 parts true false r p1 w e = absurd (true-false (sym e))
 parts false m r p1 w e = absurd (true-false (sym e))
-
-side-is : (a b : Side) → is_side a b ≡ true → a ≡ b
-side-is Kernel Kernel e = refl
-side-is User User e = refl
-side-is Kernel User e = absurd (true-false (sym e))
-side-is User Kernel e = absurd (true-false (sym e))
 
 still : (w t p : Bool) → (t ≡ true → w ≡ false) → w ≡ p → w ≡ (not t && p)
 still w true p h e = h refl
@@ -176,7 +171,7 @@ module _ (kept : ℕ → Option Slot) (set : FinMap nat_cmp Entry) (cs : List Ch
   pub refilled-at : (xs : List ℕ) (i : ℕ) → i < length xs
       → length (refilled kept set cs side wp (drop i xs)) ≡ cond (is_filled_at xs i) 1 0 + length (refilled kept set cs side wp (drop (i + 1) xs))
   refilled-at xs i h =
-      ap (λ (ys : List ℕ). length (refilled kept set cs side wp ys)) (rest-at xs i h)
+      ap (λ (ys : List ℕ). length (refilled kept set cs side wp ys)) (drop_more xs i 0 h)
       ∙ used-by (is_filled_at xs i) (get_or xs i 0) (refilled kept set cs side wp (drop (i + 1) xs))
 
 module _ (f g : ℕ → Option Slot) (set : FinMap nat_cmp Entry) (cs : List Change) (side : Side) (wp : Bool)

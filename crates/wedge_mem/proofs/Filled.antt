@@ -102,7 +102,7 @@ last-none f (c ∷ cs) q e =
           ]
     ]
 
-not-second : (q : ℕ) (xs ys : List ℕ) → is_among q (xs ++ ys) ≡ false → is_among q ys ≡ false
+pub not-second : (q : ℕ) (xs ys : List ℕ) → is_among q (xs ++ ys) ≡ false → is_among q ys ≡ false
 not-second q [] ys e = e
 not-second q (x ∷ xs) ys e =
     elim (cases_Bool (is_among q (xs ++ ys))) [

@@ -1,6 +1,6 @@
 -- Lists of pages, gone through from the first on.
-use Rattle.std.proofs.Common.{◌≡◌, ℕ, zero, suc, ◌+◌, ◌-◌, ◌<◌, List, [], ◌∷◌, ◌++◌, length, drop, drop-cons, take, take-suc, get_or, add-one, zero-add, Bool, true, false, not, cond, eqb, ◌&&◌, ◌||◌, Option, Some, None, IfSome, refl, sym, ap, ◌∙◌, subst, inl, inr, arith}
-use Rattle.std.proofs.lemmas.List.{take_all, length-drop}
+use Rattle.std.proofs.Common.{◌≡◌, ℕ, zero, suc, ◌+◌, ◌-◌, ◌<◌, List, [], ◌∷◌, ◌++◌, length, drop, take, take-suc, get_or, add-one, zero-add, Bool, true, false, not, cond, eqb, ◌&&◌, ◌||◌, Option, Some, None, IfSome, refl, sym, ap, ◌∙◌, subst, inl, inr, arith}
+use Rattle.std.proofs.lemmas.List.{drop_more}
 use Rattle.std.proofs.lemmas.Bool.{cases_Bool, or_right}
 use Rattle.std.proofs.lemmas.Bool.Decides.{eqb_tells}
 use Rattle.std.specs.FinMap.{FinMap, get}
@@ -17,19 +17,12 @@ by-bool : (b : Bool) {c : Bool} → (b ≡ true → c ≡ true) → c ≡ false 
 by-bool true h e = sym (h refl) ∙ e
 by-bool false h e = refl
 
-pub later-is : (xs : List ℕ) (n : ℕ) → take (length xs - n) (drop n xs) ≡ drop n xs
-later-is xs n = take_all (length xs - n) (drop n xs) (let e = length-drop n xs in omega (arith, e))
-
 pub if-some : {A : Type 0} {P : A → Type 0} (o : Option A) → ((x : A) → o ≡ Some x → P x) → IfSome o P
 if-some None h = tt
 if-some (Some x) h = h x refl
 
--- the pages from the i-th on
-pub rest-at : (xs : List ℕ) (i : ℕ) → i < length xs → drop i xs ≡ get_or xs i 0 ∷ drop (i + 1) xs
-rest-at xs i h = rw add-one (drop-cons xs i 0 h)
-
 pub among-at : (x : ℕ) (xs : List ℕ) (i : ℕ) → i < length xs → is_among x (drop i xs) ≡ (eqb x (get_or xs i 0) || is_among x (drop (i + 1) xs))
-among-at x xs i h = ap (is_among x) (rest-at xs i h)
+among-at x xs i h = ap (is_among x) (drop_more xs i 0 h)
 
 pub among-here : (x : ℕ) (xs : List ℕ) (i : ℕ) → i < length xs → eqb x (get_or xs i 0) ≡ true → is_among x (drop i xs) ≡ true
 among-here x xs i h e = among-at x xs i h ∙ ap (λ b. b || is_among x (drop (i + 1) xs)) e
@@ -49,7 +42,7 @@ pub used-cons : (set : FinMap nat_cmp Entry) (x : ℕ) (xs : List ℕ) → lengt
 used-cons set x xs = used-by (has_entry (get set x) && not (is_among x xs)) x (used set xs)
 
 pub used-at : (set : FinMap nat_cmp Entry) (xs : List ℕ) (i : ℕ) → i < length xs → length (used set (drop i xs)) ≡ cond (is_last_use set xs i) 1 0 + length (used set (drop (i + 1) xs))
-used-at set xs i h = ap (λ ys. length (used set ys)) (rest-at xs i h) ∙ used-cons set (get_or xs i 0) (drop (i + 1) xs)
+used-at set xs i h = ap (λ ys. length (used set ys)) (drop_more xs i 0 h) ∙ used-cons set (get_or xs i 0) (drop (i + 1) xs)
 
 pub used-here : (set : FinMap nat_cmp Entry) (xs : List ℕ) (i : ℕ) → i < length xs → is_last_use set xs i ≡ true → length (used set (drop i xs)) ≡ 1 + length (used set (drop (i + 1) xs))
 used-here set xs i h e = used-at set xs i h ∙ ap (λ b. cond b 1 0 + length (used set (drop (i + 1) xs))) e
@@ -62,7 +55,7 @@ used-later set xs i h e = used-at set xs i h ∙ ap (λ b. cond b 1 0 + length (
 part-false : (x : ℕ) (fs gs : List ℕ) → ArePart fs gs → is_among x gs ≡ false → is_among x fs ≡ false
 part-false x fs gs h e = by-bool (is_among x fs) (h x) e
 
-among-append : (x : ℕ) (xs : List ℕ) (y : ℕ) → is_among x (xs ++ y ∷ []) ≡ true → is_among x xs ≡ false → x ≡ y
+pub among-append : (x : ℕ) (xs : List ℕ) (y : ℕ) → is_among x (xs ++ y ∷ []) ≡ true → is_among x xs ≡ false → x ≡ y
 among-append x [] y h e = elim (eqb_tells x y) [ inl t ↦ t.1 | inr n ↦ (let q = n.0 in cc) ]
 among-append x (z ∷ xs) y h e =
     elim (eqb_tells x z) [
@@ -81,7 +74,7 @@ untracked-more xs i old new l part here before x h =
 
 -- ---- frames that were noted
 
-not-both : (x : ℕ) (xs : List ℕ) (y : ℕ) → is_among x (xs ++ y ∷ []) ≡ false → (is_among x xs ≡ false) × (x ≡ y → ⊥)
+pub not-both : (x : ℕ) (xs : List ℕ) (y : ℕ) → is_among x (xs ++ y ∷ []) ≡ false → (is_among x xs ≡ false) × (x ≡ y → ⊥)
 not-both x [] y e = (refl, λ s. elim (eqb_tells x y) [ inl t ↦ true-false (sym (ap (λ b. b || false) t.0) ∙ e) | inr n ↦ n.1 s ])
 not-both x (z ∷ xs) y e =
     elim (eqb_tells x z) [

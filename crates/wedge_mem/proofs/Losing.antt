@@ -1,11 +1,12 @@
 -- What is kept loses the right to write to the frames that are noted as tables.
 use Rattle.std.proofs.Common.{◌≡◌, ℕ, ◌+◌, ◌^◌, ◌<◌, List, [], ◌∷◌, ◌++◌, length, take, get_or, Bool, true, false, not, eqb, ◌&&◌, ◌||◌, Option, Some, None, refl, sym, ap, ◌∙◌, subst, inl, inr}
-use Rattle.std.proofs.lemmas.Bool.{cases_Bool, or_right}
+use Rattle.std.proofs.lemmas.Bool.{cases_Bool}
 use Rattle.std.proofs.lemmas.Bool.Decides.{eqb_tells}
+use Rattle.plain_laws.proofs.Tests.{either_less}
 use Rattle.guest_ram.specs.Among.{is_among}
 use Rattle.shadow_tables.specs.Calls.{IsWithin}
 use Rattle.shadow_tables.specs.Slots.{Slot, ArePart, LosesWrites, SameSlots, barred}
-use Rattle.shadow_tables.proofs.Asides.{among-append, barred-none}
+use Rattle.shadow_tables.proofs.Asides.{among-append, barred-none, barred-twice}
 use Rattle.wedge_mem.specs.Settled.{LosesSome}
 use Rattle.wedge_mem.specs.Told.{guest_frames}
 use Rattle.wedge_mem.proofs.Lists.{true-false}
@@ -63,21 +64,6 @@ none-loses frames slots = record { lost = []; part = λ f h. absurd (true-false 
 
 -- ---- one frame more
 
-both-bits : (w a b : Bool) → ((w && not a) && not b) ≡ (w && not (a || b))
-both-bits true true b = refl
-both-bits true false b = refl
-both-bits false a b = refl
-
-barred-twice : (fs gs : List ℕ) (o : Option Slot) → barred gs (barred fs o) ≡ barred (fs ++ gs) o
-barred-twice fs gs None = refl
-barred-twice fs gs (Some s) =
-    ap (λ (b : Bool). Some (record s { writes = b }))
-    (both-bits s.writes (is_among s.entry.frame fs) (is_among s.entry.frame gs) ∙ ap (λ (b : Bool). s.writes && not b) (sym (among-append s.entry.frame fs gs)))
-
-either : (a b c d : Bool) → (a ≡ true → c ≡ true) → (b ≡ true → d ≡ true) → (a || b) ≡ true → (c || d) ≡ true
-either true b c d h k e = ap (λ (x : Bool). x || d) (h refl)
-either false b c d h k e = or_right c d (k e)
-
 pub more-loses : (fs : List ℕ) (i : ℕ) (first old new : ℕ → Option Slot) → i < length fs → LosesSome (guest_frames (take i fs)) first old → LosesSome (guest_frames (get_or fs i 0 ∷ [])) old new
     → LosesSome (guest_frames (take (i + 1) fs)) first new
 more-loses fs i first old new l h k =
@@ -86,7 +72,7 @@ more-loses fs i first old new l h k =
       lost = h.lost ++ k.lost;
       part = λ f t.
           ap (is_among f) (guest-more fs i l) ∙ among-append f gs hs
-          ∙ either (is_among f h.lost) (is_among f k.lost) (is_among f gs) (is_among f hs) (h.part f) (k.part f) (sym (among-append f h.lost k.lost) ∙ t);
+          ∙ either_less (is_among f h.lost) (is_among f k.lost) (is_among f gs) (is_among f hs) (h.part f) (k.part f) (sym (among-append f h.lost k.lost) ∙ t);
       loses = λ page s. k.loses page s ∙ ap (barred k.lost) (h.loses page s) ∙ barred-twice h.lost k.lost (first page);
     }
 

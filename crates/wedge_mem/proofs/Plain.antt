@@ -5,6 +5,7 @@ use Rattle.std.specs.FinMap.{FinMap, get, empty, get-empty}
 use Rattle.std.specs.Ordering.{nat_cmp}
 use Rattle.std.specs.Option.{ForSome}
 use Rattle.std.proofs.lemmas.Bool.Decides.{nat_tests}
+use Rattle.std.proofs.lemmas.Option.{none-some}
 use Rattle.frame_pool.specs.Held.{Moves, Owns}
 use Rattle.frame_pool.specs.declared.Pool.{Pool}
 use Rattle.paging.specs.declared.entry.Entry.{Entry}
@@ -100,11 +101,8 @@ going_first kept floor stands ram p control begins room low among s w guard h =
       earlier_reached = λ at l k. absurd (omega (arith, l, k));
     })
 
-none_some : (entry : Entry) → None ≡ Some entry → ⊥
-none_some entry e = cc
-
 none_within : (found : Option Entry) (page frames : ℕ) → found ≡ None → ForSome found (λ entry. (entry.page ≡ page) × (entry.frame < frames))
-none_within found page frames e = λ entry is. absurd (none_some entry (sym e ∙ is))
+none_within found page frames e = λ entry is. absurd (none-some entry (sym e ∙ is))
 
 -- what is left of a set at the end of a step is within the frames
 pub left_within : (result : Option ℕ) (left set : FinMap nat_cmp Entry) (frames : ℕ) → MatchOption result (left ≡ empty) (λ n. left ≡ set) → AreWithin frames set → AreWithin frames left

@@ -6,18 +6,11 @@ use Rattle.std.proofs.lemmas.Bool.Decides.{eqb_tells, leb_tells}
 use Rattle.std.proofs.lemmas.List.{take_more}
 use Rattle.std.proofs.lemmas.List.Elements.{filter-append}
 use Rattle.std.specs.List.{list_any}
+use Rattle.std.proofs.Math.Bool.{or-false, or_assoc}
 use Rattle.shadow_tables.specs.Aside.{Aside, AreSame, LoseWrites, spared, all_spared}
 use Rattle.guest_ram.specs.Among.{is_among}
 use Rattle.shadow_tables.proofs.Asides.{among-append, any-append, lose-more, lose-none, lose-same, none-written, same-refl, same-trans, spared-lose, spared-more, spared-same}
 use Rattle.wedge_mem.specs.Told.{guest_frames}
-
-or-false : (b : Bool) → (b || false) ≡ b
-or-false true = refl
-or-false false = refl
-
-or-assoc : (a b c : Bool) → ((a || b) || c) ≡ (a || (b || c))
-or-assoc true b c = refl
-or-assoc false b c = refl
 
 -- ---- one frame
 
@@ -70,7 +63,7 @@ pub more-noted : (fs : List ℕ) (i : ℕ) (first old new : ℕ → Bool) → i 
 more-noted fs i first old new l here before f =
     here f
     ∙ ap (λ b. b || is_among f (guest_frames (get_or fs i 0 ∷ []))) (before f)
-    ∙ or-assoc (first f) (is_among f (guest_frames (take i fs))) (is_among f (guest_frames (get_or fs i 0 ∷ [])))
+    ∙ or_assoc (first f) (is_among f (guest_frames (take i fs))) (is_among f (guest_frames (get_or fs i 0 ∷ [])))
     ∙ ap (λ b. first f || b) (sym (among-append f (guest_frames (take i fs)) (guest_frames (get_or fs i 0 ∷ []))))
     ∙ ap (λ (gs : List ℕ). first f || is_among f gs) (sym (guest-more fs i l))
 
@@ -103,10 +96,10 @@ marked-now : (a : Bool) (fs : List ℕ) (first old : ℕ → Bool) (x : ℕ) →
 marked-now a fs first old x less same =
     elim (cases_Bool (is_among x fs)) [
       | inl t ↦
-          or-assoc a (list_any first fs) (old x)
+          or_assoc a (list_any first fs) (old x)
           ∙ sym (joined a (list_any first fs) (old x) (λ h. any-there first fs x t (less h)))
           ∙ joined a (list_any first fs) (first x) (λ h. any-there first fs x t h)
-      | inr n ↦ or-assoc a (list_any first fs) (old x) ∙ ap (λ b. a || (list_any first fs || b)) (same n)
+      | inr n ↦ or_assoc a (list_any first fs) (old x) ∙ ap (λ b. a || (list_any first fs || b)) (same n)
     ]
 
 pub more-marked : (fs : List ℕ) (i : ℕ) (first old : ℕ → Bool) (a b c : Bool) → i < length fs → b ≡ (a || list_any first (take i fs)) → c ≡ (b || old (get_or fs i 0))

@@ -4,6 +4,7 @@ use Rattle.std.proofs.lemmas.Bool.{or_right}
 use Rattle.std.proofs.lemmas.Bool.Decides.{eqb_tells}
 use Rattle.std.specs.FinMap.{FinMap, get}
 use Rattle.std.specs.Ordering.{nat_cmp}
+use Rattle.std.proofs.Math.Bool.{or-false}
 use Rattle.paging.specs.declared.entry.Entry.{Entry}
 use Rattle.guest_ram.specs.Among.{is_among}
 use Rattle.shadow_tables.specs.Slots.{Slot}
@@ -32,10 +33,6 @@ sum-other hy hx ty tx a s l r n m e f g p q =
     let x = ap (λ (b : Bool). cond {A = ℕ} (hy && not b) 1 0) p in
     let y = ap (λ (b : Bool). cond {A = ℕ} (hx && not b) 1 0) q in
     omega (arith, e, f, g, x, y)
-
-or-false : (b : Bool) → (b || false) ≡ b
-or-false true = refl
-or-false false = refl
 
 self : (x : ℕ) → eqb x x ≡ true
 self x = elim (eqb_tells x x) [ inl t ↦ t.0 | inr n ↦ absurd (n.1 refl) ]

@@ -1,5 +1,6 @@
 use Rattle.std.proofs.Common.{◌≡◌, ℕ, Bool, ◌+◌, ◌-◌, ◌^◌, ◌<◌, ◌≤◌, length, take, drop, get_or, cond, not, ◌&&◌, eqb, Option, IfSome, sym, ap, ◌∙◌, subst, arith}
 use Rattle.std.specs.FinMap.{get}
+use Rattle.std.proofs.lemmas.List.{take_rest}
 use Rattle.frame_pool.proofs.Held.{Owns-moves, Moves-trans}
 use Rattle.frame_pool.specs.Pool.{free_list}
 use Rattle.paging.specs.declared.entry.Entry.{Entry}
@@ -8,7 +9,7 @@ use Rattle.guest_ram.specs.Among.{is_among}
 use Rattle.shadow_tables.specs.Slots.{Slot}
 use Rattle.step_mem.specs.Changes.{changed}
 use Rattle.wedge_mem.specs.Settled.{filled_by, has_entry}
-use Rattle.wedge_mem.proofs.Lists.{element-among, later-is, used-at, if-some}
+use Rattle.wedge_mem.proofs.Lists.{element-among, used-at, if-some}
 use Rattle.wedge_mem.proofs.Due.{filled-still, is_filled_at, refilled-at, worth-few, worth-is}
 use Rattle.wedge_mem.proofs.Filled.{entry-still, fill-more, here-same}
 use Rattle.wedge_mem.proofs.Rests.{rest-trans}
@@ -32,7 +33,7 @@ fill_last-filled-requires-clause-free g c =
     let count = used-at set xs c.loop-i.i c.loop-i-test.true in
     let left = c.loop-i.invariant.left in
     subst (λ o. cond (has_entry o && not (is_among page (take (length xs - (c.loop-i.i + 1)) (drop (c.loop-i.i + 1) xs)))) 1 0 ≤ length (free_list c.loop-i.pool c.loop-i.ram)) (sym (entry-still c.args.pages.now c.loop-i.i (g.S.Shadows.slots c.args.shadows.now c.args.ram.now) (g.S.Shadows.slots c.loop-i.shadows c.loop-i.ram) c.args.changes.now (λ q. filled_by c.args.side c.args.wp (g.S.Shadows.tracked c.args.shadows.now) (get (changed (entries_of (g.S.Shadows.slots c.args.shadows.now c.args.ram.now)) c.args.changes.now) q)) c.loop-i-test.true c.loop-i.invariant.slots))
-    (subst (λ ys. cond (has_entry (get set page) && not (is_among page ys)) 1 0 ≤ length (free_list c.loop-i.pool c.loop-i.ram)) (sym (later-is xs (c.loop-i.i + 1))) (omega (arith, count, left)))
+    (subst (λ ys. cond (has_entry (get set page) && not (is_among page ys)) 1 0 ≤ length (free_list c.loop-i.pool c.loop-i.ram)) (sym (take_rest xs (c.loop-i.i + 1))) (omega (arith, count, left)))
 
 pub loop-i-preserved : goal.loop-i-preserved
 loop-i-preserved g c =
@@ -45,7 +46,7 @@ loop-i-preserved g c =
     let new = g.S.Shadows.slots c.fill_last-filled.new.shadows c.fill_last-filled.new.ram in
     let tracked = g.S.Shadows.tracked c.args.shadows.now in
     let set = changed (entries_of old) c.args.changes.now in
-    let later : take (length xs - (l.i + 1)) (drop (l.i + 1) xs) ≡ drop (l.i + 1) xs = later-is xs (l.i + 1) in
+    let later : take (length xs - (l.i + 1)) (drop (l.i + 1) xs) ≡ drop (l.i + 1) xs = take_rest xs (l.i + 1) in
     let v : Option Slot = filled_by c.args.side c.args.wp (g.S.Shadows.tracked l.shadows) (get (changed (entries_of now) c.args.changes.now) page) in
     let v-is : v ≡ filled_by c.args.side c.args.wp tracked (get set page) =
     ap (λ t. filled_by c.args.side c.args.wp t (get (changed (entries_of now) c.args.changes.now) page)) l.invariant.rest.tracked
