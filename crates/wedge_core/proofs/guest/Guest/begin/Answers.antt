@@ -26,7 +26,7 @@ returns-clause-begins g c = record {
       let old = c.args.self.now.running in
       let d = c.renew in
       subst (λ (l : List ℕ). IsReady roots.slots roots.noted roots.marked roots.value roots.asides (ground image old.frames) old.cpu d.new.self l) (sym (g.met.H.Host.bytes_changed c.args.host.now d.new.ram))
-      (none_ready roots.slots roots.noted roots.marked roots.value roots.asides (λ page. false) (ground image old.frames) old.cpu d.new.self d.new.ram (d.ensures.value ∙ h.value_is) d.ensures.none d.ensures.asides);
+      (none_ready roots.slots roots.noted roots.marked roots.value roots.asides (λ page. false) (ground image old.frames) old.cpu d.new.self d.new.ram (d.ensures.known.value ∙ h.value_is) d.ensures.none d.ensures.asides);
   state = λ m is.
       let old = c.args.self.now.running in
       let d = c.renew in
@@ -51,7 +51,7 @@ returns-clause-begins g c = record {
   anew = λ two.
       let d = c.renew in
       subst (λ (l : List ℕ). IsAsNew roots.noted roots.marked roots.asides roots.opened d.new.self l) (sym (g.met.H.Host.bytes_changed c.args.host.now d.new.ram))
-      (record { unnoted = d.ensures.noted; unmarked = d.ensures.marked; alone = d.ensures.asides; unopened = d.ensures.opened });
+      (record { unnoted = d.ensures.known.noted; unmarked = d.ensures.known.marked; alone = d.ensures.asides; unopened = d.ensures.opened });
 }
 
 pub returns-clause-counts : goal.returns-clause-counts

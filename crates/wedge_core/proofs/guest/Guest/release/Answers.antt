@@ -32,7 +32,7 @@ returns-clause-releases g c = record {
       let old = c.args.self.now.running in
       let d = c.drop_all in
       subst (λ (l : List ℕ). IsReady roots.slots roots.noted roots.marked roots.value roots.asides (ground image old.frames) old.cpu d.new.self l) (sym (g.met.H.Host.bytes_changed c.args.host.now d.new.ram))
-      (none_ready roots.slots roots.noted roots.marked roots.value roots.asides (λ page. false) (ground image old.frames) old.cpu d.new.self d.new.ram (d.ensures.value ∙ h.value_is) d.ensures.none d.ensures.asides);
+      (none_ready roots.slots roots.noted roots.marked roots.value roots.asides (λ page. false) (ground image old.frames) old.cpu d.new.self d.new.ram (d.ensures.known.value ∙ h.value_is) d.ensures.none d.ensures.asides);
   cpu = refl;
   board = refl;
   frames = refl;
