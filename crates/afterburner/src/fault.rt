@@ -5,34 +5,27 @@ ghost use Rattle.afterburner.specs.declared.fault.ItemFault.TheVariants.{Memory}
 ghost use Rattle.afterburner.specs.Causes.{cause_number};
 
 use std::alloc::{AllocError, AllocFailed};
+use std::fmt;
 use thiserror::Error;
 
 /// Why an item is refused. Of several causes of one item the first of these is told.
-#[derive(Clone, Copy, Debug, PartialEq, Eq, Error)]
+#[derive(Clone, Copy, Debug, PartialEq, Eq)]
 pub enum BurnCause {
     /// No instruction has the name.
-    #[error("no instruction has the name")]
     UnknownInstruction,
     /// The name is that of an instruction that is refused.
-    #[error("an instruction that is refused by its name")]
     RefusedInstruction,
     /// The instruction takes no such operands.
-    #[error("the instruction takes no such operands")]
     Operands,
     /// A number doesn't fit its field.
-    #[error("a number that doesn't fit its field")]
     ValueRange,
     /// The text is longer than 16,777,216 bytes.
-    #[error("more than 16777216 bytes of text")]
     TextTooLarge,
     /// The data and the zeroed bytes are more than 33,554,432 bytes together.
-    #[error("more than 33554432 bytes of data and zeroed bytes")]
     InitTooLarge,
     /// Data in text, data that isn't zero in zeroed bytes, or an instruction outside text.
-    #[error("data in text, data that isn't zero in zeroed bytes, or an instruction outside text")]
     DataInText,
     /// More than 262,144 sites.
-    #[error("more than 262144 sites")]
     TooManySites,
 }
 
@@ -51,6 +44,22 @@ impl BurnCause {
             BurnCause::DataInText => 26,
             BurnCause::TooManySites => 27,
         }
+    }
+}
+
+impl fmt::Display for BurnCause {
+    fn fmt<W: fmt::Write>(&self, f: &mut fmt::Formatter<W>) -> fmt::Result {
+        f.write_str(match self {
+            BurnCause::UnknownInstruction => "no instruction has the name",
+            BurnCause::RefusedInstruction => "an instruction that is refused by its name",
+            BurnCause::Operands => "the instruction takes no such operands",
+            BurnCause::ValueRange => "a number that doesn't fit its field",
+            BurnCause::TextTooLarge => "more than 16777216 bytes of text",
+            BurnCause::InitTooLarge => "more than 33554432 bytes of data and zeroed bytes",
+            BurnCause::DataInText =>
+                "data in text, data that isn't zero in zeroed bytes, or an instruction outside text",
+            BurnCause::TooManySites => "more than 262144 sites",
+        })
     }
 }
 

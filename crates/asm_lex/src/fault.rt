@@ -5,53 +5,40 @@ ghost use Rattle.asm_lex.specs.Causes.{cause_number};
 ghost use Rattle.asm_lex.specs.declared.fault.SourceFault.TheVariants.{Memory};
 
 use std::alloc::{AllocError, AllocFailed};
+use std::fmt;
 use thiserror::Error;
 
 /// What is wrong with a source (profile).
-#[derive(Clone, Copy, Debug, PartialEq, Eq, Error)]
+#[derive(Clone, Copy, Debug, PartialEq, Eq)]
 pub enum SourceCause {
     /// A byte above 0x7E, or a control other than tab and newline.
-    #[error("a byte above 0x7E, or a control other than tab and newline")]
     NotAscii,
     /// A character that begins no token.
-    #[error("a character that begins no token")]
     BadCharacter,
     /// A comment `/*` that does not end.
-    #[error("a comment that does not end")]
     OpenComment,
     /// A string that does not end on its line.
-    #[error("a string that does not end on its line")]
     OpenString,
     /// An escape in a string that is not one of the listed ones.
-    #[error("an escape that is not listed")]
     BadEscape,
     /// A word that begins with a digit and is no number, a `'` that begins none, or a number out
     /// of range.
-    #[error("a number that there is not, or one out of range")]
     BadNumber,
     /// A `%` without a register behind it.
-    #[error("a `%` without a register behind it")]
     BadRegister,
     /// A token with which no statement can go on.
-    #[error("a token with which no statement can go on")]
     BadOperand,
     /// A scale other than 1, 2, 4 or 8.
-    #[error("a scale other than 1, 2, 4 or 8")]
     BadScale,
     /// A name with a leading `.` that is neither a label nor a directive.
-    #[error("an unknown directive")]
     UnknownDirective,
     /// An argument of a directive that is missing, too many, of another kind or out of range.
-    #[error("an argument of a directive that is missing, too many, of another kind or out of range")]
     BadArgument,
     /// A name that was defined before in this source.
-    #[error("a name that was defined before")]
     DoubledLabel,
     /// More than 4,194,304 bytes.
-    #[error("more than 4194304 bytes")]
     TooLong,
     /// The 65,537th different symbol.
-    #[error("more than 65536 symbols")]
     TooManySymbols,
 }
 
@@ -76,6 +63,28 @@ impl SourceCause {
             SourceCause::TooLong => 13,
             SourceCause::TooManySymbols => 14,
         }
+    }
+}
+
+impl fmt::Display for SourceCause {
+    fn fmt<W: fmt::Write>(&self, f: &mut fmt::Formatter<W>) -> fmt::Result {
+        f.write_str(match self {
+            SourceCause::NotAscii => "a byte above 0x7E, or a control other than tab and newline",
+            SourceCause::BadCharacter => "a character that begins no token",
+            SourceCause::OpenComment => "a comment that does not end",
+            SourceCause::OpenString => "a string that does not end on its line",
+            SourceCause::BadEscape => "an escape that is not listed",
+            SourceCause::BadNumber => "a number that there is not, or one out of range",
+            SourceCause::BadRegister => "a `%` without a register behind it",
+            SourceCause::BadOperand => "a token with which no statement can go on",
+            SourceCause::BadScale => "a scale other than 1, 2, 4 or 8",
+            SourceCause::UnknownDirective => "an unknown directive",
+            SourceCause::BadArgument =>
+                "an argument of a directive that is missing, too many, of another kind or out of range",
+            SourceCause::DoubledLabel => "a name that was defined before",
+            SourceCause::TooLong => "more than 4194304 bytes",
+            SourceCause::TooManySymbols => "more than 65536 symbols",
+        })
     }
 }
 

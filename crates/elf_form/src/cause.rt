@@ -4,37 +4,45 @@ ghost use Rattle.std.specs.Prelude.{◌≡◌};
 ghost use Rattle.elf_form.specs.declared.cause.ElfFault.TheVariants.{Memory};
 
 use std::alloc::{AllocError, AllocFailed};
+use std::fmt;
 use thiserror::Error;
 
 /// What is wrong with a file. The causes are tested in this order; each has its number, from 40.
-#[derive(Clone, Copy, Debug, PartialEq, Eq, Error)]
+#[derive(Clone, Copy, Debug, PartialEq, Eq)]
 pub enum ElfCause {
-    #[error("a part passes the end of the file")]
     Truncated = 40,
-    #[error("no ELF file")]
     Magic,
-    #[error("no file of 32 bits")]
     Class,
-    #[error("no little-endian file")]
     Encoding,
-    #[error("another version than 1")]
     Version,
-    #[error("another type of file")]
     FileType,
-    #[error("another machine than the 80386")]
     Machine,
-    #[error("a size that does not fit")]
     Sizes,
-    #[error("a section or segment that is not allowed or is missing")]
     SectionForm,
-    #[error("a compressed section")]
     Compressed,
-    #[error("a name outside its string table")]
     StringPlace,
-    #[error("a symbol that is not allowed")]
     SymbolForm,
-    #[error("a relocation that is not allowed")]
     RelocForm,
+}
+
+impl fmt::Display for ElfCause {
+    fn fmt<W: fmt::Write>(&self, f: &mut fmt::Formatter<W>) -> fmt::Result {
+        f.write_str(match self {
+            ElfCause::Truncated => "a part passes the end of the file",
+            ElfCause::Magic => "no ELF file",
+            ElfCause::Class => "no file of 32 bits",
+            ElfCause::Encoding => "no little-endian file",
+            ElfCause::Version => "another version than 1",
+            ElfCause::FileType => "another type of file",
+            ElfCause::Machine => "another machine than the 80386",
+            ElfCause::Sizes => "a size that does not fit",
+            ElfCause::SectionForm => "a section or segment that is not allowed or is missing",
+            ElfCause::Compressed => "a compressed section",
+            ElfCause::StringPlace => "a name outside its string table",
+            ElfCause::SymbolForm => "a symbol that is not allowed",
+            ElfCause::RelocForm => "a relocation that is not allowed",
+        })
+    }
 }
 
 /// What is wrong with a file, at the offset of the bad field, or that no memory was found.
