@@ -4,7 +4,7 @@ use ia32_encode::ArrayBytes;
 use ia32_types::Insn;
 
 /// Why a statement is no instruction. Of several causes the first is answered.
-#[derive(Clone, Copy, Debug, PartialEq, Eq)]
+#[derive(Clone, Copy, PartialEq, Eq)]
 pub enum Refusal {
     /// The name is none that is known.
     UnknownInstruction,

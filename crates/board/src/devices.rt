@@ -21,7 +21,7 @@ const TIMER_LINE: u8 = 0;
 const SERIAL_LINE: u8 = 4;
 
 /// What a read of a port gives.
-#[derive(Clone, Copy, Debug, PartialEq, Eq)]
+#[derive(Clone, Copy, PartialEq, Eq)]
 pub enum PortRead {
     /// 8 or 32 bits, as the read is wide.
     Value(u32),

@@ -9,7 +9,7 @@ ghost use Rattle.board.specs.Boards.{event_within, SameEvents};
 use std::marker::Model;
 
 /// What comes to the board from outside.
-#[derive(Clone, Copy, Debug, PartialEq, Eq)]
+#[derive(Clone, Copy, PartialEq, Eq)]
 pub enum Event {
     /// A byte at the serial line.
     Rx(u8),

@@ -5,7 +5,7 @@ ghost use Rattle.std.specs.Prelude.{◌≡◌};
 use std::marker::Model;
 
 /// Where a symbol is defined: nowhere, or in an object's text, data or zeroed bytes.
-#[derive(Clone, Copy, Debug, PartialEq, Eq)]
+#[derive(Clone, Copy, PartialEq, Eq)]
 pub enum Place {
     Undefined,
     Text,
@@ -45,7 +45,7 @@ pub struct Symbol {
 
 /// Four bytes of the text or of the data, at `at` there, to which the address of a symbol is
 /// added (R_386_32), or the distance from the field to it (R_386_PC32) where `relative` is set.
-#[derive(Clone, Copy, Debug, PartialEq, Eq)]
+#[derive(Clone, Copy, PartialEq, Eq)]
 pub struct Reloc {
     pub in_text: bool,
     pub at: u32,

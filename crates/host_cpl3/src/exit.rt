@@ -3,7 +3,7 @@
 use ia32_types::Regs;
 
 /// Why the host doesn't go on. The registers are those before the exiting instruction.
-#[derive(Clone, Copy, Debug, PartialEq, Eq)]
+#[derive(Clone, Copy, PartialEq, Eq)]
 pub enum Exit {
     /// The instruction lies at this address of the wedge window, in the kernel view.
     Entry(u32),

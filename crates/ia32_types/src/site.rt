@@ -6,7 +6,7 @@ ghost use Rattle.ia32_types.specs.Site.{sensitive_kind};
 use crate::insn::{Insn, Op};
 
 /// What kind of sensitive instruction stands at a site, in the order of its number from 1.
-#[derive(Clone, Copy, Debug, PartialEq, Eq)]
+#[derive(Clone, Copy, PartialEq, Eq)]
 pub enum SiteKind {
     Cli = 1,
     Sti,
@@ -34,7 +34,7 @@ pub enum SiteKind {
 }
 
 /// An instruction that is refused by its name.
-#[derive(Clone, Copy, Debug, PartialEq, Eq)]
+#[derive(Clone, Copy, PartialEq, Eq)]
 pub enum Refused {
     Rdtsc,
     Cpuid,

@@ -8,7 +8,7 @@ use sites::{Site, Sites};
 
 /// What stands at an offset of a text: no instruction begins there; one begins there that is in no
 /// site; or one that is in a site, the site's first included.
-#[derive(Clone, Copy, Debug, PartialEq, Eq)]
+#[derive(Clone, Copy, PartialEq, Eq)]
 pub enum AtOffset {
     NotAStart,
     Outside,

@@ -4,7 +4,7 @@ ghost use Rattle.std.specs.Prelude.{◌≡◌};
 ghost use Rattle.pv_build.specs.Numbers.{status_number};
 
 /// How the program ends, in the order of its exit status; `Words` is a command line that is none of the forms.
-#[derive(Clone, Copy, Debug)]
+#[derive(Clone, Copy)]
 pub enum Status {
     Done,
     Words,

@@ -8,7 +8,7 @@ ghost use Rattle.shadow_tables.specs.Slots.{is_user, permits, filled, worth, wor
 use paging::{Access, Entry, allows};
 
 /// Whose view it is.
-#[derive(Clone, Copy, Debug, PartialEq, Eq)]
+#[derive(Clone, Copy, PartialEq, Eq)]
 pub enum Side {
     Kernel,
     User,

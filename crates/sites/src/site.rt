@@ -10,7 +10,7 @@ use thiserror::Error;
 
 /// A site: its offset in its text, the kind of its instruction, and how many bytes are sensitive
 /// and in all (with the NOPs behind them).
-#[derive(Clone, Copy, Debug, PartialEq, Eq)]
+#[derive(Clone, Copy, PartialEq, Eq)]
 pub struct Site {
     pub at: u32,
     pub kind: SiteKind,
@@ -19,7 +19,7 @@ pub struct Site {
 }
 
 /// The sites of a text, in the order of their offsets, and the format of their annotations, 1 or 2.
-#[derive(Debug, Drop)]
+#[derive(Drop)]
 pub struct Sites {
     pub list: Vec<Site>,
     pub format: u8,

@@ -71,7 +71,7 @@ pub enum What {
 }
 
 /// What comes of it.
-#[derive(Clone, Copy, Debug, PartialEq, Eq)]
+#[derive(Clone, Copy, PartialEq, Eq)]
 pub enum Answer {
     Asks(SysEffect),
     Delivered(Result<(), NotDelivered>),
@@ -97,7 +97,7 @@ pub struct Case {
 }
 
 /// How a row came out: as it says, or what was otherwise.
-#[derive(Clone, Copy, Debug, PartialEq, Eq)]
+#[derive(Clone, Copy, PartialEq, Eq)]
 enum Seen {
     Right,
     Answer(Answer),
@@ -299,7 +299,7 @@ fn run(alloc: Global, case: &Case) -> Result<Seen, AllocError> {
 /// A case comes out as it says. `row` names it where it doesn't.
 pub fn comes_out(rt: &impl Abort, alloc: Global, row: usize, case: &Case) {
     let seen = run(alloc, case).expect(rt, "memory");
-    assert_eq!(rt; seen, Seen::Right, "row {row}");
+    assert!(rt; seen == Seen::Right, "row {row}");
 }
 
 /// An instruction that raises or stops: the processor and memory stay.

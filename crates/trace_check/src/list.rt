@@ -9,7 +9,7 @@ use thiserror::Error;
 
 /// How a set of translations is changed before a step: the page's is dropped, all are, or the one that a walk of the
 /// tables finds for the page is added.
-#[derive(Clone, Copy, Debug, PartialEq, Eq)]
+#[derive(Clone, Copy, PartialEq, Eq)]
 pub enum ChoiceKind {
     Drop,
     Empty,
@@ -18,7 +18,7 @@ pub enum ChoiceKind {
 
 /// A change of the set of translations before a step, counted from 0. The page is the number of a page of 4,096 bytes,
 /// and 0 where all are dropped.
-#[derive(Clone, Copy, Debug, PartialEq, Eq)]
+#[derive(Clone, Copy, PartialEq, Eq)]
 pub struct Choice {
     pub step: u64,
     pub page: u32,
@@ -27,7 +27,7 @@ pub struct Choice {
 
 /// Changes of a run's set of translations, in the order in which they are made. Seen as their list, and how many there
 /// is room for.
-#[derive(Debug, Drop)]
+#[derive(Drop)]
 pub struct Choices {
     pub list: Vec<Choice>,
 }
