@@ -4,8 +4,10 @@ pub mod Pages
 pub mod Fetch
 pub mod Permit
 pub mod Access
+pub mod Nothing
 pub mod Store
 pub mod HostStep
+pub mod Begun
 pub mod HostRun
 pub mod Reaches
 pub mod Hosts

@@ -1,7 +1,8 @@
 //! Reading the instruction at EIP.
 
 ghost use Rattle.std.specs.Prelude.{◌≡◌, ◌+◌, ◌*◌, ◌-◌, ◌/◌, ◌%◌, ◌<◌, ◌≤◌, ◌^◌, ◌++◌, length, IfOk, MatchResult};
-ghost use Rattle.host_cpl3.specs.Fetch.{fetching, fetched_on, fetched};
+ghost use Rattle.host_cpl3.specs.Fetch.{fetching, fetched_on, fetched_by};
+ghost use Rattle.ia32_decode.specs.declared.answer.Decoded.TheVariants.{Short};
 ghost use Rattle.ia32_decode.specs.Spelled.{IsSpelled};
 ghost use Rattle.host_cpl3.specs.Kept.{AreKept};
 
@@ -10,33 +11,32 @@ use crate::pages::page_met;
 use crate::walks::Walks;
 use arrayvec::ArrayVec;
 use guest_ram::Ram;
-use ia32_decode::{Decoded, LONGEST, decode, front_len};
+use ia32_decode::{Decoded, LONGEST, decode};
 use ia32_types::LAST_PAGE;
 
 type Bytes = ArrayVec<u8, 32>;
 
-/// What begins at a linear address. Where the bytes of the first page are a proper prefix of a spelling, the second
-/// page is reached too.
-#[tactic(auto, unfolding(crate::specs::Fetch::fetched))]
-pub fn fetch(walks: &mut Walks, ram: &Ram, root: u32, eip: u32) -> Result<Decoded, Exit>
+/// What begins at a linear address, where the bytes of its page are a proper prefix of a spelling: the second page is
+/// reached too.
+#[inline(never)]
+pub fn fetch_over(
+    walks: &mut Walks,
+    ram: &Ram,
+    root: u32,
+    eip: u32,
+    front: &[u8],
+) -> Result<Decoded, Exit>
     requires root { 4096 * root < length ram.now }
     requires kept { AreKept walks.old ram.now root }
-    ensures fetched { result ≡ fetched ram.now root eip }
+    requires few { length front.now ≤ 11 }
+    ensures fetched { result ≡ fetched_by ram.now root eip front.now Short }
     ensures spelled { IfOk result IsSpelled }
     ensures kept { AreKept walks.new ram.now root }
 {
-    let front = fetching(walks, ram, root, eip, front_len(eip))?;
-    let begun = decode(front);
-    match begun {
-        Decoded::Insn(_, _) => Ok(begun),
-        Decoded::Outside => Ok(begun),
-        Decoded::Short => {
-            if eip / 4096 == LAST_PAGE {
-                return Err(Exit::Wrap);
-            }
-            fetch_on(walks, ram, root, eip, front)
-        }
+    if eip / 4096 == LAST_PAGE {
+        return Err(Exit::Wrap);
     }
+    fetch_on(walks, ram, root, eip, front)
 }
 
 // With bytes of the second page too.
@@ -63,9 +63,10 @@ fn fetch_on(
     Ok(decode(bytes.as_slice()))
 }
 
-// Bytes of one page.
+/// Bytes of one page.
 #[tactic(auto, unfolding(crate::specs::Fetch::fetching))]
-fn fetching<'a>(
+#[inline(always)]
+pub fn fetching<'a>(
     walks: &mut Walks,
     ram: &'a Ram,
     root: u32,

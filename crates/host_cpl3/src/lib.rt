@@ -11,6 +11,7 @@ mod pages;
 mod permit;
 mod reach;
 mod reaching;
+mod registers;
 mod step;
 mod store;
 mod view;

@@ -35,6 +35,7 @@ pub fn limit_fault(seg: Seg) -> Exit
 
 /// Whether the host does it at all.
 #[tactic(auto, unfolding(crate::specs::Permit::permitted))]
+#[inline(always)]
 pub fn permitted(insn: &Insn) -> Result<(), Exit>
     ensures met { result ≡ permitted insn.now }
     ensures done { OnOk result (IsUserDone insn.now.op) }
