@@ -17,8 +17,8 @@ use board::{Board, Script};
 use descriptors::Cpu;
 use guest_ram::Ram;
 use ia32_types::Stop;
-use machine_step::{Rules, Seen, Worked};
-use step_mem::{Control, Guard, Own, StepState, Text};
+use machine_step::{NO_BYTES, Rules, Seen, Worked};
+use step_mem::{Guard, StepState, Text};
 use xlate_buffer::Cache;
 
 /// The bare machine: processor, memory, cached translations, board, the count of steps, and how many frames the memory
@@ -34,32 +34,7 @@ pub struct Bare<C: Cache> {
 }
 
 /// The bare machine keeps no text from the guest.
-static NO_TEXT: Option<Text<'static>> = None;
-
-/// Nothing was read yet.
-const NO_BYTES: Own = Own {
-    front: 0,
-    front_len: 0,
-    back: 0,
-    back_len: 0,
-};
-
-/// A state whose place the first step's takes.
-pub fn first_state() -> StepState<'static> {
-    let control = Control {
-        frames: 0,
-        cr3: 0,
-        pse: false,
-        wp: false,
-    };
-    StepState::new(
-        control,
-        Guard {
-            text: &NO_TEXT,
-            own: NO_BYTES,
-        },
-    )
-}
+pub static NO_TEXT: Option<Text<'static>> = None;
 
 /// One step, or the stop that it meets. Its state and what it comes to take the places of the step's before. After a stop
 /// the machine must not go on.

@@ -1,24 +1,20 @@
 //! A slice of a run.
 
-ghost use Rattle.std.specs.Prelude.{◌≡◌, ◌≤◌, ◌^◌, true, OnOk, OnErr};
+ghost use Rattle.std.specs.Prelude.{◌≡◌, ◌≤◌, ◌^◌, true, OnErr};
 ghost use Rattle.board.specs.Scripts.{is_script};
 ghost use Rattle.image_check.specs.Image.{Image};
-ghost use Rattle.machine_model.specs.Step.{items_at};
-ghost use Rattle.machine_step.specs.Worked.{whats};
 ghost use Rattle.pv_io.specs.Causes.{Rose};
-ghost use Rattle.pv_io.specs.Sink.{Appends, AppendsFront};
 ghost use Rattle.bare_machine.specs.Machine.{state_of, IsKept, GoesOn};
 ghost use Rattle.bare_machine.specs.Settings.{bare};
 ghost use Rattle.bare_machine.specs.Slices.{SliceAs};
 ghost use Rattle.run_trace.specs.Pauses.{IfReached};
-ghost use Rattle.run_trace.specs.Text.{lines_of};
 
 use crate::idle::rest;
-use crate::machine::{Bare, first_state, step};
+use crate::machine::{Bare, NO_TEXT, step};
 use board::Script;
-use machine_step::{Seen, Worked, items_of};
+use machine_step::{Worked, first_state, put_seen};
 use pv_io::{Failed, Sink};
-use run_trace::{Pause, put_step};
+use run_trace::Pause;
 use xlate_buffer::Cache;
 
 /// Steps up to a count of steps, or to a stop. The lines of a step go to the sink at its end.
@@ -40,7 +36,7 @@ pub fn steps_to<C: Cache, O: Sink>(
     ensures later { O.faults out.old ≤ O.faults out.new }
     ensures cause { OnErr result (Rose (O.faults out.old) (O.faults out.new)) }
 {
-    let mut state = first_state();
+    let mut state = first_state(&NO_TEXT);
     let mut worked = Worked::at(&machine.cpu);
     while machine.step < bound {
         let before = machine.step;
@@ -54,17 +50,4 @@ pub fn steps_to<C: Cache, O: Sink>(
         rest(machine, script, bound);
     }
     Ok(Pause::Reached)
-}
-
-/// Puts the lines of what a step let be seen, which mostly is nothing.
-fn put_seen<O: Sink>(step: u64, seen: Seen, out: &mut O) -> Result<(), Failed>
-    ensures ok { OnOk result (Appends (O.taken out.old) (O.taken out.new) (lines_of (items_at step (whats seen)))) }
-    ensures failed { OnErr result (AppendsFront (O.taken out.old) (O.taken out.new) (lines_of (items_at step (whats seen)))) }
-    ensures later { O.faults out.old ≤ O.faults out.new }
-    ensures cause { OnErr result (Rose (O.faults out.old) (O.faults out.new)) }
-{
-    if let Seen::Nothing = seen {
-        return Ok(());
-    }
-    put_step(&items_of(step, seen), out)
 }

@@ -23,7 +23,8 @@ use paging::Touch;
 use step_mem::{Kept, StepState, own_back, own_front};
 use sys_exec::Refusal;
 
-type Bytes = ArrayVec<u8, 32>;
+/// The bytes of an instruction, as far as they were read.
+pub type Bytes = ArrayVec<u8, 32>;
 
 /// The instruction at a linear address. Where the bytes of the first page are a proper prefix of a spelling, the
 /// second page is reached too.
@@ -203,7 +204,8 @@ fn read_page<B: Kept>(ram: &Ram, kept: &B, state: &StepState, at: u32, len: u32,
     append(found.ram, to);
 }
 
-fn append(from: &[u8], to: &mut Bytes)
+/// Puts these bytes behind those that were read.
+pub fn append(from: &[u8], to: &mut Bytes)
     requires { length to.old.items + length from.now ≤ 32 }
     ensures { to.new.items ≡ to.old.items ++ from.now }
 {

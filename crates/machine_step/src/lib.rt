@@ -13,10 +13,12 @@ mod stepping;
 mod worked;
 
 pub use delivery::refuse;
-pub use fetch::fetch as fetch_at;
+pub use fetch::{Bytes, append, fetch as fetch_at};
 pub use instruction::carry_out;
 pub use laws::plain_divides;
 pub use resting::{is_resting, quiet_steps};
 pub use rules::Rules;
-pub use stepping::{begin, begin_again, interrupt, step, step_again, step_in};
-pub use worked::{Completed, Dropped, Seen, Worked, items_of};
+pub use stepping::{
+    NO_BYTES, begin, begin_again, first_state, interrupt, step, step_again, step_in,
+};
+pub use worked::{Completed, Dropped, Seen, Worked, items_of, put_seen};

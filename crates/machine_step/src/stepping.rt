@@ -1,6 +1,6 @@
 //! One step.
 
-ghost use Rattle.std.specs.Prelude.{◌≡◌, ◌*◌, ◌≤◌, length, IfOk, OnOk, OnErr};
+ghost use Rattle.std.specs.Prelude.{◌≡◌, ◌*◌, ◌≤◌, length, false, IfOk, OnOk, OnErr};
 ghost use Rattle.step_mem.specs.Changes.{AreWithin};
 ghost use Rattle.step_mem.specs.Guard.{IsLaid};
 ghost use Rattle.step_mem.specs.Shown.{hidden};
@@ -25,7 +25,7 @@ use descriptors::Cpu;
 use guest_ram::Ram;
 use ia32_decode::Decoded;
 use ia32_types::Stop;
-use step_mem::{Control, Guard, Kept, StepState};
+use step_mem::{Control, Guard, Kept, Own, StepState, Text};
 
 /// One step, or the stop that it meets; and the step's state, with what it changed of the translations.
 pub fn step<'g, B: Kept>(
@@ -101,6 +101,35 @@ fn control(cpu: &Cpu, frames: u32) -> Control
         pse: cpu.pse(),
         wp: cpu.wp(),
     }
+}
+
+/// What is an instruction's own before it is fetched: no byte.
+pub const NO_BYTES: Own = Own {
+    front: 0,
+    front_len: 0,
+    back: 0,
+    back_len: 0,
+};
+
+/// A state before the first step, over this text, whose place the first step's takes.
+pub fn first_state<'t>(text: &'t Option<Text<'t>>) -> StepState<'t>
+    ensures state { result ≡ begun (record { frames = 0; cr3 = 0; pse = false; wp = false }) result.guard }
+    ensures text { result.guard.text.now ≡ text.now }
+    ensures own { result.guard.own ≡ record { front = 0; front_len = 0; back = 0; back_len = 0 } }
+{
+    let control = Control {
+        frames: 0,
+        cr3: 0,
+        pse: false,
+        wp: false,
+    };
+    StepState::new(
+        control,
+        Guard {
+            text,
+            own: NO_BYTES,
+        },
+    )
 }
 
 /// What a step keeps, before its first access.

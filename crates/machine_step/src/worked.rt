@@ -1,13 +1,17 @@
 //! What one step comes to.
 
-ghost use Rattle.std.specs.Prelude.{◌≡◌, ◌≤◌, None, Some};
+ghost use Rattle.std.specs.Prelude.{◌≡◌, ◌≤◌, None, Some, OnOk, OnErr};
+ghost use Rattle.pv_io.specs.Causes.{Rose};
+ghost use Rattle.pv_io.specs.Sink.{Appends, AppendsFront};
 ghost use Rattle.run_trace.specs.Steps.{items_of};
+ghost use Rattle.run_trace.specs.Text.{lines_of};
 ghost use Rattle.machine_model.specs.Step.{items_at};
 ghost use Rattle.machine_step.specs.Worked.{done_by, whats};
 
 use descriptors::Cpu;
 use ia32_types::{Insn, Stop};
-use run_trace::{Item, StepItems, What};
+use pv_io::{Failed, Sink};
+use run_trace::{Item, StepItems, What, put_step};
 
 /// What one step lets be seen.
 #[derive(Clone, Copy)]
@@ -96,4 +100,17 @@ pub fn items_of(step: u64, seen: Seen) -> StepItems
         }
     }
     items
+}
+
+/// Puts the lines of what a step let be seen, which mostly is nothing.
+pub fn put_seen<O: Sink>(step: u64, seen: Seen, out: &mut O) -> Result<(), Failed>
+    ensures ok { OnOk result (Appends (O.taken out.old) (O.taken out.new) (lines_of (items_at step (whats seen)))) }
+    ensures failed { OnErr result (AppendsFront (O.taken out.old) (O.taken out.new) (lines_of (items_at step (whats seen)))) }
+    ensures later { O.faults out.old ≤ O.faults out.new }
+    ensures cause { OnErr result (Rose (O.faults out.old) (O.faults out.new)) }
+{
+    if let Seen::Nothing = seen {
+        return Ok(());
+    }
+    put_step(&items_of(step, seen), out)
 }
