@@ -1,5 +1,5 @@
 -- Lists of pages, gone through from the first on.
-use Rattle.std.proofs.Common.{◌≡◌, ℕ, zero, suc, ◌+◌, ◌-◌, ◌<◌, List, [], ◌∷◌, ◌++◌, length, drop, take, take-suc, get_or, add-one, zero-add, Bool, true, false, not, cond, eqb, ◌&&◌, ◌||◌, Option, Some, None, IfSome, refl, sym, ap, ◌∙◌, subst, inl, inr, arith}
+use Rattle.std.proofs.Common.{◌≡◌, ℕ, zero, suc, ◌+◌, ◌-◌, ◌<◌, ◌≤◌, List, [], ◌∷◌, ◌++◌, length, drop, take, take-suc, get_or, add-one, zero-add, Bool, true, false, not, cond, eqb, ◌&&◌, ◌||◌, Option, Some, None, IfSome, refl, sym, ap, ◌∙◌, subst, inl, inr, arith}
 use Rattle.std.proofs.lemmas.List.{drop_more}
 use Rattle.std.proofs.lemmas.Bool.{cases_Bool, or_right}
 use Rattle.std.proofs.lemmas.Bool.Decides.{eqb_tells}
@@ -40,6 +40,17 @@ used-by false x ys = omega arith
 
 pub used-cons : (set : FinMap nat_cmp Entry) (x : ℕ) (xs : List ℕ) → length (used set (x ∷ xs)) ≡ cond (has_entry (get set x) && not (is_among x xs)) 1 0 + length (used set xs)
 used-cons set x xs = used-by (has_entry (get set x) && not (is_among x xs)) x (used set xs)
+
+one-few : (b : Bool) → cond {A = ℕ} b 1 0 ≤ 1
+one-few true = omega arith
+one-few false = omega arith
+
+-- no more pages are used than there are
+pub used-few : (set : FinMap nat_cmp Entry) (xs : List ℕ) → length (used set xs) ≤ length xs
+used-few set [] = omega arith
+used-few set (x ∷ xs) =
+    let e = used-cons set x xs in let rest = used-few set xs in let one = one-few (has_entry (get set x) && not (is_among x xs)) in
+    omega (arith, e, rest, one)
 
 pub used-at : (set : FinMap nat_cmp Entry) (xs : List ℕ) (i : ℕ) → i < length xs → length (used set (drop i xs)) ≡ cond (is_last_use set xs i) 1 0 + length (used set (drop (i + 1) xs))
 used-at set xs i h = ap (λ ys. length (used set ys)) (drop_more xs i 0 h) ∙ used-cons set (get_or xs i 0) (drop (i + 1) xs)

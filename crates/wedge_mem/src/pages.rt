@@ -1,6 +1,6 @@
 //! The pages of a step, and the entries that it left them.
 
-ghost use Rattle.std.specs.Prelude.{◌≡◌, ◌+◌, ◌<◌, ◌≤◌, ◌^◌, ◌&&◌, length, not, None};
+ghost use Rattle.std.specs.Prelude.{◌≡◌, ◌+◌, ◌<◌, ◌≤◌, ◌^◌, ◌&&◌, length, not, None, true, false};
 ghost use Rattle.std.specs.FinMap.{get};
 ghost use Rattle.shadow_tables.specs.Entries.{entries_of};
 ghost use Rattle.guest_ram.specs.Among.{is_among};
@@ -92,4 +92,21 @@ pub fn entries_used<S: Shadows>(shadows: &S, ram: &Ram, state: &StepState) -> u3
         (pages_of state.now.visited state.now.changes)) }
 {
     count_used(shadows, ram, &state.changes, state.visited.as_slice())
+}
+
+/// Fewer frames are free than the step used entries. It used no more than it went through pages, so they are counted only
+/// where those may be too many.
+pub fn lacks_frames<S: Shadows>(shadows: &S, ram: &Ram, state: &StepState, free: u32) -> bool
+    requires stands { ∥ S.stands shadows.now ram.now ∥₁ }
+    requires few { length state.now.visited ≤ 128 }
+    requires told { AreToldIn state.now.visited state.now.changes }
+    ensures lacks { result ≡ true → free < length (used (set_after S.Shadows shadows.now ram.now state.now.changes)
+        (pages_of state.now.visited state.now.changes)) }
+    ensures enough { result ≡ false → length (used (set_after S.Shadows shadows.now ram.now state.now.changes)
+        (pages_of state.now.visited state.now.changes)) ≤ free }
+{
+    if state.visited.as_slice().len() <= free as usize {
+        return false;
+    }
+    entries_used(shadows, ram, state) > free
 }

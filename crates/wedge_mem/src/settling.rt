@@ -11,7 +11,7 @@ ghost use Rattle.wedge_mem.specs.Seen.{IsSoundBy, OpensFor, set_after};
 ghost use Rattle.wedge_mem.specs.Settled.{HasRoom, IsFillCount, pages_of};
 
 use crate::filling::fill_pages;
-use crate::pages::entries_used;
+use crate::pages::lacks_frames;
 use crate::telling::{note_tables, tell_written};
 use frame_pool::Pool;
 use guest_ram::Ram;
@@ -48,7 +48,7 @@ pub fn settle<S: Shadows>(
     ensures guest { take (4096 * base_of pool.old) ram.new ≡ take (4096 * base_of pool.old) ram.old }
 {
     let _len = ram.len();
-    if entries_used(shadows, ram, state) > pool.free() {
+    if lacks_frames(shadows, ram, state, pool.free()) {
         shadows.drop_all(ram, pool);
         return None;
     }

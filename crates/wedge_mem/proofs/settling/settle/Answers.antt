@@ -24,8 +24,8 @@ use Rattle.wedge_mem.proofs.Visited.{among-visited, fills-visited, used-visited}
 use Rattle.wedge_mem.proofs.settling.settle.Given.{Over}
 use Rattle.wedge_mem.proofs.settling.settle.Goals as goal
 
-pub entries_used-requires-clause-stands : goal.entries_used-requires-clause-stands
-entries_used-requires-clause-stands g c = first c.requires.sound.stands_now
+pub lacks_frames-requires-clause-stands : goal.lacks_frames-requires-clause-stands
+lacks_frames-requires-clause-stands g c = first c.requires.sound.stands_now
 
 pub drop_all-requires-clause-stands : goal.drop_all-requires-clause-stands
 drop_all-requires-clause-stands g c = first c.requires.sound.stands_now
@@ -33,8 +33,8 @@ drop_all-requires-clause-stands g c = first c.requires.sound.stands_now
 pub drop_all-requires-clause-owns : goal.drop_all-requires-clause-owns
 drop_all-requires-clause-owns g c = owns c.requires.sound.stands_now
 
-pub returns-then-entries_used-free-clause-guest : goal.returns-then-entries_used-free-clause-guest
-returns-then-entries_used-free-clause-guest g c =
+pub returns-then-lacks_frames-clause-guest : goal.returns-then-lacks_frames-clause-guest
+returns-then-lacks_frames-clause-guest g c =
     let f = g.S.Shadows.frames in
     below-same c.args.pool.now c.drop_all.new.pool c.args.ram.now c.drop_all.new.ram (f c.args.shadows.now c.args.ram.now) (f c.drop_all.new.self c.drop_all.new.ram) (owns c.requires.sound.stands_now) c.drop_all.ensures.moves
 
@@ -59,13 +59,12 @@ fill_pages-filled-requires-clause-free g c =
     let old = changed (entries_of (s c.args.shadows.now c.args.ram.now)) st.changes in
     let mid = entries_of (s t.shadows t.ram) in
     let visited = used-visited old st.visited st.changes c.requires.sound.told in
-    let all = c.entries_used.ensures in
     let same : length (used (changed mid c.as_slice-3.result.now) c.as_slice-4.result.now) ≡ length (used old st.visited) =
     ap (λ (cs : List Change). length (used (changed mid cs) c.as_slice-4.result.now)) c.as_slice-3.ensures.changes
     ∙ (ap (λ (xs : List ℕ). length (used (changed mid st.changes) xs)) c.as_slice-4.ensures
     ∙ ap (λ (e : FinMap nat_cmp Entry). length (used (changed e st.changes) st.visited)) (c.tell_written.ensures.entries ∙ c.note_tables.ensures.entries)) in
-    let few = c.if-entries_used-free.false in let free = c.free.ensures.count n.ram in let more = c.tell_written.ensures.fewer in
-    omega (arith, visited, all, same, few, free, more)
+    let few = c.lacks_frames.ensures.enough c.if-lacks_frames.false in let free = c.free.ensures.count n.ram in let more = c.tell_written.ensures.fewer in
+    omega (arith, visited, same, few, free, more)
 
 pub returns-clause-owns : goal.returns-clause-owns
 returns-clause-owns g c =
