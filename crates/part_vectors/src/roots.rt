@@ -281,7 +281,7 @@ fn are_told(rt: &impl Abort, alloc: Global, frames: u32, calls: &[RootsCall], wa
     requires fit { AreFitCalls calls.now }
     requires frames { 2 ≤ frames × frames ≤ 64 }
 {
-    assert_eq!(rt; told(rt, alloc, frames, calls), want);
+    assert!(rt; told(rt, alloc, frames, calls) == want);
 }
 
 // As calls of a list. A write to a frame that was noted, by whichever pair, is not adequate until the frame was written
