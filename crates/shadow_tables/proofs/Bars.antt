@@ -155,6 +155,10 @@ pub put-in : (s : Shadow) (m n : List ℕ) (r k page frame : ℕ) → Holds m (h
 put-in s m n r k page frame h e i puts =
     subst (λ x. Puts m n (roots s) x page (barred_word frame (at m x page))) e (puts (roots s) h (subst (λ x. IsIn x (roots s)) (sym e) i))
 
+pub no-table : (b : Bool) (w : ℕ) → (IsTrue b → w ≢ 0) × (w ≢ 0 → IsTrue b) → b ≡ false → w ≡ 0
+no-table b w f e =
+    elim (eqb_tells w 0) [ inl t ↦ t.1 | inr n ↦ absurd (let t = f.1 n.1 in let q : false ≡ true = sym e ∙ t in cc) ]
+
 module _ (s : Shadow) (m m1 m2 : List ℕ) (page frame : ℕ) (h : IsShadow s m) (l : page < 2 ^ 20)
     (a : Puts m m1 (roots s) s.kernel page (barred_word frame (at m s.kernel page))) (b : Puts m1 m2 (roots s) s.user page (barred_word frame (at m1 s.user page))) where
   bar-kernel : at m2 s.kernel page ≡ barred_word frame (at m s.kernel page)
@@ -224,8 +228,18 @@ module _ (s : Shadow) (m m1 m2 : List ℕ) (page frame : ℕ) (h : IsShadow s m)
 
 -- ---- many pages
 
+-- no page of a directory index without tables is kept
+pub dir-none : (s : Shadow) (m : List ℕ) (index page : ℕ) → dir m s.kernel index ≡ 0 → dir m s.user index ≡ 0 → page / 1024 ≡ index → slot_at s m page ≡ None
+dir-none s m index page a b e = slot-none s m page (at-none m s.kernel page (ap (dir m s.kernel) e ∙ a)) (at-none m s.user page (ap (dir m s.user) e ∙ b))
+
 abbrev pub without : Shadow → List ℕ → ℕ → ℕ → Option Slot
 without s m frame page = barred (frame ∷ []) (slot_at s m page)
+
+pub bars-none : (s : Shadow) (m : List ℕ) (index frame : ℕ) → IsShadow s m → dir m s.kernel index ≡ 0 → dir m s.user index ≡ 0 → Sweeps s m m (1024 * index) (1024 * index + 1024) (without s m frame)
+bars-none s m index frame h a b =
+    sweeps-over s m m (1024 * index) (1024 * index) (1024 * index + 1024) (without s m frame) (sweeps-none s m (1024 * index) (without s m frame) h) (omega arith) (omega arith)
+    (λ page l x y. (
+    let n = dir-none s m index page a b (omega (arith, x, y)) in n ∙ sym (ap (barred (frame ∷ [])) n)))
 
 -- the table that a directory word names lies in the memory
 pub table-lies : (m : List ℕ) (r index w : ℕ) → IsView m r → index < 1024 → w ≡ dir m r index → w ≢ 0 → 4096 * (w / 4096) + 4096 ≤ length m

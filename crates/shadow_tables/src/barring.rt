@@ -10,7 +10,7 @@ ghost use Rattle.shadow_tables.specs.Sweeps.{Sweeps};
 use crate::shadow::Shadow;
 use crate::words::Side;
 use guest_ram::Ram;
-use shadow_views::{dir, look, set, word_in};
+use shadow_views::{dir, has_table, look, set, word_in};
 
 /// The word gives the right to write to this frame.
 fn gives(word: u32, frame: u32) -> bool
@@ -88,6 +88,11 @@ impl Shadow {
         ensures { Sweeps self.now ram.old ram.new (1024 * index) (1024 * index + 1024)
             (λ page. barred (frame ∷ []) (slot_at self.now ram.old page)) }
     {
+        let kernel = has_table(ram, self.root(Side::Kernel), index);
+        let user = has_table(ram, self.root(Side::User), index);
+        if !kernel && !user {
+            return;
+        }
         let mut word = self.next_to_bar(ram, index, frame, 0);
         while word < 1024 {
             self.bar_page(ram, 1024 * index + word, frame);
