@@ -17,7 +17,7 @@ returns-clause-released g c =
       none = d.ensures.none;
       entries = d.ensures.entries;
       asides = d.ensures.asides;
-      value = d.ensures.value;
+      value = d.ensures.known.value;
       filled = omega (arith, none);
       moves = subst (λ (l : List ℕ). Moves c.args.pool.now d.new.pool l d.new.ram (roots.frames old.shadows l) (roots.frames d.new.self d.new.ram)) c.ram_mut.ensures.ram d.ensures.moves;
     } in
