@@ -1,6 +1,7 @@
 -- Each cause holds exactly where its condition does, and a refusal is the first cause that holds.
 use Rattle.std.proofs.Common.{◌≡◌, ℕ, List, map, Option, Some, None, Result, Ok, Err, refl, sym, ap, ◌∙◌}
 use Rattle.std.specs.Prelude.{◌↔◌}
+use Rattle.plain_laws.proofs.Options.{not_some}
 use Rattle.ia32_rows.specs.Spells.{AreBytes}
 use Rattle.elf_form.specs.ImageParts.{ImageParts}
 use Rattle.elf_form.specs.Faults.{IsFirstOf}
@@ -21,7 +22,6 @@ use Rattle.image_check.specs.Causes.{form_stop, of_both, wrong, causes}
 use Rattle.image_check.specs.Reasons.{BothRead, IsWrongAt, LeadsAstray, IsWrong, IsRefused}
 use Rattle.elf_form.specs.Order.{IsLowest}
 use Rattle.elf_form.proofs.FirstCauses.{first_in_list, list_first}
-use Rattle.elf_form.proofs.TableLaws.{not_some}
 use Rattle.image_check.proofs.CauseLaws.{first_exact}
 use Rattle.image_check.proofs.SweepLaws.{sweep_exact}
 use Rattle.image_check.proofs.PlaceReasons.{some, text_place_is, init_place_is, text_size_is, init_size_is, entry_place_is, refused_stop_is, bad_stop_is, text_end_so, so_text_end}
