@@ -77,7 +77,7 @@ never_done X (Err e) h = tt
 
 -- ---- what is barred to a user
 
-first_refused : (e : Refusal) (test : Bool) (f : Unit {0} → Work Refusal SysOutcome) (s : Space) → test ≡ false → DoneIf ⊥ ((unless e test >>= f) s)
+pub first_refused : (e : Refusal) (test : Bool) (f : Unit {0} → Work Refusal SysOutcome) (s : Space) → test ≡ false → DoneIf ⊥ ((unless e test >>= f) s)
 first_refused e true f s h = absurd (both_ways true h refl)
 first_refused e false f s h = tt
 
@@ -110,7 +110,7 @@ module _ (cpu : Cpu) (user : cpu.cpl ≡ 3) (open_flags : is_open cpu ≡ true) 
   barred op.PortOut insn len s e = first_refused _ (is_within cpu) _ s not_within
   barred o insn len s e = absurd (let f : false ≡ true = e in cc)
 
-instructed_by : (o : Op) (insn : Insn) (len : ℕ) (cpu : Cpu) (s : Space) → insn.op ≡ o
+pub instructed_by : (o : Op) (insn : Insn) (len : ℕ) (cpu : Cpu) (s : Space) → insn.op ≡ o
     → instructed insn len cpu s ≡ cond (is_plain o) (done_plainly (executed insn len cpu s)) (row o insn len cpu s)
 unfolding instructed sys_work
 instructed_by o insn len cpu s e = ap (λ x. cond (is_plain x) (done_plainly (executed insn len cpu s)) (row x insn len cpu s)) e

@@ -18,7 +18,7 @@ use Rattle.machine_model.specs.Alone.{Reads, is_barred, is_native, WaitsCountNot
 use Rattle.machine_model.proofs.Completing.{each_done}
 
 -- nothing where each that could be completed leads nowhere
-never : (o : Option Completed) → ForSome o (λ c. ⊥) → o ≡ None
+pub never : (o : Option Completed) → ForSome o (λ c. ⊥) → o ≡ None
 never None h = refl
 never (Some c) h = absurd (h c refl)
 
@@ -70,7 +70,7 @@ one_read m b x y r s =
     let e : begins.Insn x r.len ≡ begins.Insn y s.len = ap (decoded_in (begins.Insn x r.len)) (sym r.fetches ∙ s.fetches) in
     ap (insn_in x) e
 
-soft_or_needs : (o : Op) → is_native true o ≡ false → is_barred o ≡ false → (not (is_software o) && not (needs_descriptor o)) ≡ false
+pub soft_or_needs : (o : Op) → is_native true o ≡ false → is_barred o ≡ false → (not (is_software o) && not (needs_descriptor o)) ≡ false
 soft_or_needs op.Int n k = refl
 soft_or_needs op.Int3 n k = refl
 soft_or_needs op.LoadSeg n k = refl

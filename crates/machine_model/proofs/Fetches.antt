@@ -1,11 +1,7 @@
 -- What a fetch leaves: whose rules hold, and the entries of other pages. So an instruction owns its bytes.
-use Rattle.std.proofs.Common.{◌≡◌, ◌≢◌, ℕ, ◌+◌, ◌-◌, ◌/◌, arith, cond, eqb, Bool, true, false, List, [], ◌∷◌, ◌++◌, refl, sym, ap, subst, ◌∙◌, ◌⊎◌, inl, inr, Option, Some, None, Ok, Err}
+use Rattle.std.proofs.Common.{◌≡◌, ◌≢◌, ℕ, ◌+◌, ◌-◌, ◌/◌, arith, cond, Bool, true, false, List, [], ◌∷◌, ◌++◌, refl, sym, ap, subst, ◌∙◌, ◌⊎◌, inl, inr, Option, Some, None, Ok, Err}
 use Rattle.std.specs.Prelude.{◌==◌}
-use Rattle.std.proofs.lemmas.Bool.Decides.{eqb_tells}
-use Rattle.std.proofs.lemmas.Cmp.{nat_cmp_total}
-use Rattle.std.specs.FinMap.{FinMap, get, get-insert, get-remove}
-use Rattle.std.specs.Ordering.{nat_cmp}
-use Rattle.std.specs.Cmp.{unsigned_tied}
+use Rattle.std.specs.FinMap.{get}
 use Rattle.ia32_types.specs.declared.stop.Stop.TheVariants as stops
 use Rattle.ia32_types.specs.declared.insn.Insn.{Insn}
 use Rattle.ia32_decode.specs.declared.answer.Decoded.{Decoded}
@@ -17,10 +13,11 @@ use Rattle.paging.specs.declared.entry.Entry.{Entry}
 use Rattle.paging.specs.declared.entry.Touch.{Touch}
 use Rattle.paging.specs.declared.entry.Touch.TheVariants.{Ready, Fault, Stop}
 use Rattle.paging.specs.Space.{Mode, Wedge, Own, Space, place_by, place}
-use Rattle.paging.specs.Uses.{with_entry, decided, tables_of, by_entry, usable, page_uses, go_on, unready, made_ready, is_barred, fetches, with_front, with_back}
+use Rattle.paging.specs.Uses.{decided, tables_of, by_entry, usable, page_uses, go_on, unready, made_ready, is_barred, fetches, with_front, with_back}
 use Rattle.paging.proofs.Translations.{clash}
 use Rattle.sys_exec.specs.declared.effect.Refusal.TheVariants as refusal
 use Rattle.paging.specs.Work.{Outcome, Work, on_value, refuses}
+use Rattle.paging.proofs.WithEntry.{get_with_other}
 use Rattle.ia32_decode.specs.Front.{longest, front_len}
 use Rattle.machine_model.specs.Instruction.{bytes_fetched, fetching, next_page, owning_front, owning_back, owned, fetched_on, fetched_by, fetched}
 use Rattle.machine_model.specs.Owned.{own_in_one, own_in_two, OwnsItsBytes}
@@ -30,21 +27,13 @@ pub record KeepsPage (old new : Space) (page : ℕ) : Type 0 where
   pub mode : new.mode ≡ old.mode
   pub entry : get new.set page ≡ get old.set page
 
-get_with : (set : FinMap nat_cmp Entry) (page : ℕ) (entry : Option Entry) (q : ℕ) → get (with_entry set page entry) q ≡ cond (eqb q page) entry (get set q)
-get_with set page None q = get-remove nat_cmp_total set page q ∙ ap (λ b. cond b None (get set q)) (unsigned_tied q page)
-get_with set page (Some entry) q = get-insert nat_cmp_total set page entry q ∙ ap (λ b. cond b (Some entry) (get set q)) (unsigned_tied q page)
-
-get_other : (set : FinMap nat_cmp Entry) (page : ℕ) (entry : Option Entry) (q : ℕ) → q ≢ page → get (with_entry set page entry) q ≡ get set q
-get_other set page entry q n =
-    get_with set page entry q ∙ elim (eqb_tells q page) [ inl t ↦ absurd (n t.1) | inr f ↦ ap (λ b. cond b entry (get set q)) f.0 ]
-
 either_leaves : (test : Bool) (s : Space) (q : ℕ) → KeepsPage s (cond {A = Touch × Space} test (Stop stops.TextMapped, s) (Ready, s)).1 q
 either_leaves true s q = record { mode = refl; entry = refl }
 either_leaves false s q = record { mode = refl; entry = refl }
 
 entry_leaves : (s : Space) (fetch : Bool) (page at : ℕ) (access : Access) (entry : Option Entry) (q : ℕ) → q ≢ page → KeepsPage s (by_entry s fetch page at access entry).1 q
 entry_leaves s fetch page at access None q n =
-    record { mode = refl; entry = get_other s.set page (decided (tables_of s) fetch page at access).entry q n }
+    record { mode = refl; entry = get_with_other s.set page (decided (tables_of s) fetch page at access).entry q n }
 entry_leaves s fetch page at access (Some entry) q n = either_leaves (is_barred s.mode fetch access.user page entry.frame) s q
 
 page_leaves : (s : Space) (fetch : Bool) (page at : ℕ) (access : Access) (q : ℕ) → q ≢ page → KeepsPage s (page_uses s fetch page at access).1 q

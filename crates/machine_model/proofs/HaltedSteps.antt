@@ -12,7 +12,7 @@ use Rattle.machine_model.specs.Step.{concluded, worked, begins_next, step_of, st
 use Rattle.machine_model.specs.Run.{Steps}
 use Rattle.machine_model.specs.Resting.{IsResting, resting, nothing, EachRests, AllRest, NothingIsSeen, HaltedSteps}
 
-halted_works : (m : Setting) (b : State) (s : Space) → b.cpu.halted ≡ true → worked m b s ≡ concluded [] None b b.cpu b.board s
+pub halted_works : (m : Setting) (b : State) (s : Space) → b.cpu.halted ≡ true → worked m b s ≡ concluded [] None b b.cpu b.board s
 unfolding worked
 halted_works m b s e = ap (λ (h : Bool). cond h (concluded [] None b b.cpu b.board s) (begins_next m b s)) e
 

@@ -34,3 +34,5 @@ pub mod TrackedRows
 pub mod TrackedDeliveries
 pub mod TrackedPlain
 pub mod TrackedSteps
+pub mod Counted
+pub mod Texts

@@ -54,7 +54,7 @@ digests_join sites p reports later =
     ap (passed_on p) (addresses_join sites reports later) ∙ passed_join p (direct_addresses sites reports) (direct_addresses sites later)
 
 -- one step, and those behind it
-taken_first : (m : Setting) (b after : State) (set : Set) (sets : List Set) (report : Report) → step_of m b set ≡ Went report after
+pub taken_first : (m : Setting) (b after : State) (set : Set) (sets : List Set) (report : Report) → step_of m b set ≡ Went report after
     → steps_by m b (set ∷ sets) ≡ record { before = b; set = set; report = report; after = after } ∷ steps_by m after sets
 taken_first m b after set sets report is = ap (λ (r : Result). behind b set r (λ a. steps_by m a sets)) is
 

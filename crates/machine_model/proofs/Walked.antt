@@ -41,10 +41,10 @@ else_finds false a b d w e h = (refl, h)
 within : (frames number : ℕ) → nat_le frames number ≡ false → nat_lt number frames ≡ true
 within frames number e = grind (arith, nat_tests)
 
-dir_frame : (cr3 page : ℕ) → page < 2 ^ 20 → dir_place cr3 page / 4096 ≡ cr3 / 4096
+pub dir_frame : (cr3 page : ℕ) → page < 2 ^ 20 → dir_place cr3 page / 4096 ≡ cr3 / 4096
 dir_frame cr3 page h = omega (arith, h)
 
-word_frame : (dir page : ℕ) → word_place dir page / 4096 ≡ dir / 4096
+pub word_frame : (dir page : ℕ) → word_place dir page / 4096 ≡ dir / 4096
 word_frame dir page = omega arith
 
 -- a walk that finds an entry by a table

@@ -269,7 +269,7 @@ loosened m b set h = record {
   ];
 }
 
-went_agrees : StepsAgree → (m : Setting) (b new : State) (set : Set) (report : Report) → step_of m b set ≡ Went report new → step_of (on_bare m) b set ≡ Went report new
+pub went_agrees : StepsAgree → (m : Setting) (b new : State) (set : Set) (report : Report) → step_of m b set ≡ Went report new → step_of (on_bare m) b set ≡ Went report new
 went_agrees law m b new set report is = elim (law m b set) [
   | inl h ↦ absurd (clash (ap is_extra (sym is) ∙ h))
   | inr h ↦ h ∙ is
@@ -288,7 +288,7 @@ all_steps law m old new (set ∷ sets) reports steps = (
   steps.6,
 )
 
-halts_agrees : StepsAgree → (m : Setting) (b : State) (set : Set) (stop : Stop) → is_extra_stop stop ≡ false → step_of m b set ≡ Halts stop → step_of (on_bare m) b set ≡ Halts stop
+pub halts_agrees : StepsAgree → (m : Setting) (b : State) (set : Set) (stop : Stop) → is_extra_stop stop ≡ false → step_of m b set ≡ Halts stop → step_of (on_bare m) b set ≡ Halts stop
 halts_agrees law m b set stop plain is = elim (law m b set) [
   | inl h ↦ absurd (clash (sym plain ∙ (ap is_extra (sym is) ∙ h)))
   | inr h ↦ h ∙ is
