@@ -6,6 +6,8 @@ use Rattle.std.specs.List.{Contains}
 use Rattle.std.specs.FinMap.{FinMap, get}
 use Rattle.std.specs.Ordering.{nat_cmp}
 use Rattle.std.proofs.lemmas.Bool.{eq-eqb, or_parts}
+use Rattle.std.proofs.Math.Bool.{or-true}
+use Rattle.plain_laws.proofs.Tests.{second_false}
 use Rattle.guest_ram.specs.Among.{is_among}
 use Rattle.descriptors.specs.Access.{by_level}
 use Rattle.descriptors.specs.Controls.{wp_of}
@@ -53,14 +55,10 @@ AreClear set user wp earlier (u ∷ later) =
 
 -- ---- as the model has them
 
-or_true : (a : Bool) → (a || true) ≡ true
-or_true true = refl
-or_true false = refl
-
 any_by : (q : ℕ) (ps : List ℕ) (k : ℕ) → k < length ps → slice_index_or ps k q ≡ q → is_among q ps ≡ true
 any_by q [] k lt e = absurd (omega (arith, lt))
 any_by q (p ∷ ps) zero lt e = ap (λ t. t || is_among q ps) (eq-eqb q p (sym e))
-any_by q (p ∷ ps) (suc k) lt e = ap (λ t. (q == p) || t) (any_by q ps k (omega (arith, lt)) e) ∙ or_true (q == p)
+any_by q (p ∷ ps) (suc k) lt e = ap (λ t. (q == p) || t) (any_by q ps k (omega (arith, lt)) e) ∙ or-true (q == p)
 
 not_refused : (o : Option Entry) (access : Access) (wp : Bool) → is_refused_by o access wp ≡ false → ForSome o (λ e. allows e access wp ≡ true)
 not_refused None access wp h x e = absurd cc
@@ -70,10 +68,6 @@ not_refused (Some y) access wp h x e = let same : y ≡ x = cc in ap (λ z. allo
     allowed true g = refl
     allowed false g = absurd cc
 
-one_of : (a r : Bool) → a ≡ true → (a && r) ≡ false → r ≡ false
-one_of true r e h = h
-one_of false r e h = absurd cc
-
 abbrev as_use : State → Use → clashing.Use
 as_use b u = record { page = u.page; access = by_level b.cpu u.write }
 
@@ -82,7 +76,7 @@ clear_told b ps [] h = tt
 clear_told b ps (u ∷ us) h =
     let access : Access = by_level b.cpu u.write in
     let p = or_parts (is_among u.page ps && is_refused_by (get b.set u.page) access (wp_of b.cpu)) (clash_behind (get b.set) (wp_of b.cpu) (u.page ∷ ps) (map (as_use b) us)) h in (
-      λ c. not_refused (get b.set u.page) access (wp_of b.cpu) (one_of (is_among u.page ps) (is_refused_by (get b.set u.page) access (wp_of b.cpu)) (any_by u.page ps c.0 c.1 c.2) p.0),
+      λ c. not_refused (get b.set u.page) access (wp_of b.cpu) (second_false (is_among u.page ps) (is_refused_by (get b.set u.page) access (wp_of b.cpu)) (any_by u.page ps c.0 c.1 c.2) p.0),
       clear_told b (u.page ∷ ps) us p.1,
     )
 

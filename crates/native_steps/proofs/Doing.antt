@@ -65,7 +65,7 @@ use Rattle.native_steps.proofs.Uses.{reaching_earlier}
 
 -- ---- plain instructions
 
-plainly : (cpu : Cpu) (s : Space) (o : exec.Outcome) → done_plainly (finished cpu s o) ≡ user_finished cpu o s
+pub plainly : (cpu : Cpu) (s : Space) (o : exec.Outcome) → done_plainly (finished cpu s o) ≡ user_finished cpu o s
 plainly cpu s (outcomes.Done regs stores) = refl
 plainly cpu s (outcomes.Raise vector code) = refl
 plainly cpu s (outcomes.Stop stop) = refl

@@ -4,6 +4,7 @@ use Rattle.std.specs.Prelude.{nat_le, nat_lt}
 use Rattle.std.specs.List.{Contains, list_any}
 use Rattle.std.specs.FinMap.{get}
 use Rattle.std.proofs.lemmas.Bool.{cond-true, cond-false, false_from_ne_true, le-ltb, eqb-true, eq-eqb, or_from, both_ways}
+use Rattle.std.proofs.Math.Bool.{or-false, and-false}
 use Rattle.guest_ram.specs.Bytes.{AreBytes, byte}
 use Rattle.ia32_types.specs.declared.stop.Stop.TheVariants as stops
 use Rattle.ia32_types.specs.declared.insn.Insn.{Insn}
@@ -46,16 +47,8 @@ owned_alike (Wedge text count own) at len page None access wp Beyond = refl
 owned_alike (Wedge text count own) at len page None access wp Reserved = refl
 owned_alike (Wedge text count own) at len page None access wp (Found e d t) = refl
 
-and_false : (x : Bool) → (x && false) ≡ false
-and_false true = refl
-and_false false = refl
-
-or_false : (x : Bool) → (x || false) ≡ x
-or_false true = refl
-or_false false = refl
-
 none_there : (k : ℕ) → (nat_le 0 k && nat_lt k (0 + 0)) ≡ false
-none_there k = ap (λ x. nat_le 0 k && x) (le-ltb k 0 (omega arith)) ∙ and_false (nat_le 0 k)
+none_there k = ap (λ x. nat_le 0 k && x) (le-ltb k 0 (omega arith)) ∙ and-false (nat_le 0 k)
 
 -- at first no byte is the instruction's own
 none_own : (image : Image) (k : ℕ) → is_own (wedge_mode image) k ≡ false
@@ -63,7 +56,7 @@ none_own image k = or_from _ _ (none_there k) (none_there k)
 
 -- and then those of the first page are
 front_own : (image : Image) (at len k : ℕ) → is_own (with_front (wedge_mode image) at len) k ≡ (nat_le at k && nat_lt k (at + len))
-front_own image at len k = ap (λ x. (nat_le at k && nat_lt k (at + len)) || x) (none_there k) ∙ or_false (nat_le at k && nat_lt k (at + len))
+front_own image at len k = ap (λ x. (nat_le at k && nat_lt k (at + len)) || x) (none_there k) ∙ or-false (nat_le at k && nat_lt k (at + len))
 
 any_same : (f g : ℕ → Bool) → ((k : ℕ) → f k ≡ g k) → (ks : List ℕ) → list_any f ks ≡ list_any g ks
 any_same f g h [] = refl
