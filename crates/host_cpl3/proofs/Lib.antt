@@ -2,7 +2,6 @@ pub mod Leading
 pub mod Reading
 pub mod Storing
 pub mod Finishing
-pub mod Spelling
 pub mod Runs
 pub mod Keeping
 pub mod Writing

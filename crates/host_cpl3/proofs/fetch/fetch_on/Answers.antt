@@ -1,4 +1,4 @@
-use Rattle.host_cpl3.proofs.Spelling.{spelled_by}
+use Rattle.ia32_decode.proofs.Fronts.{spelled_by}
 use Rattle.host_cpl3.proofs.fetch.fetch_on.Goals as goal
 
 pub returns-clause-spelled : goal.returns-clause-spelled

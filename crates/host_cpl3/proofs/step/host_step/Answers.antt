@@ -1,7 +1,7 @@
 use Rattle.std.proofs.Common.{subst}
 use Rattle.ia32_decode.specs.Spelled.{IsSpelled}
 use Rattle.ia32_decode.specs.declared.answer.Decoded.{Decoded}
-use Rattle.host_cpl3.proofs.Spelling.{spelled_by}
+use Rattle.ia32_decode.proofs.Fronts.{spelled_by}
 use Rattle.host_cpl3.proofs.step.host_step.Goals as goal
 
 pub work-requires-clause-spelled : goal.work-requires-clause-spelled
