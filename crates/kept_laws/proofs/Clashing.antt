@@ -34,6 +34,7 @@ use Rattle.machine_model.specs.Instruction.{bytes_fetched, fetching, owning_fron
 use Rattle.machine_model.specs.Clash.{Use, fetch_uses, range_uses, uses_by, is_refused_by, clash_behind, clash_in, instruction_clashes, has_instruction, clashes_from}
 use Rattle.machine_model.specs.Reloading.{IsFoundBy, Follows, FetchesFollow, FoundOver}
 use Rattle.native_steps.proofs.Marks.{or_32, or_96}
+use Rattle.shadow_tables.proofs.Lists.{both-true}
 use Rattle.kept_laws.specs.Remembered.{was_read}
 use Rattle.machine_model.specs.Keeping.{held}
 use Rattle.kept_laws.specs.Judged.{AllFound, ClashesAgree, ClashesAreJudged}
@@ -333,10 +334,6 @@ unfolding instruction_clashes
 instructions_agree follow over m b tables kept others room fit sub none found h =
     by_outcome follow over m b tables kept others room fit sub none found (fetched (b.cpu.cpl == 3) b.cpu.regs.eip (begun m b kept)) refl h
 
-both_true : (a x y : Bool) → (x ≡ true → y ≡ true) → (a && x) ≡ true → (a && y) ≡ true
-both_true true x y h e = h e
-both_true false x y h e = e
-
 -- what is found is of pages of the address space
 none_beyond : (m : Setting) (b : State) (c : ℕ) (steps : List Taken) (set : Set) → AllFound m b c steps set → (q : ℕ) → 2 ^ 20 ≤ q → get set q ≡ None
 none_beyond m b c steps set found q beyond = by (get set q) refl
@@ -348,7 +345,7 @@ none_beyond m b c steps set found q beyond = by (get set q) refl
 pub clashes_agree : FetchesFollow → FoundOver → ClashesAgree
 unfolding clashes_from
 clashes_agree follow over m b steps kept others room fit sub found h =
-    both_true (has_instruction m b) (instruction_clashes m (record b { set = kept })) (instruction_clashes m (record b { set = others }))
+    both-true (has_instruction m b) (instruction_clashes m (record b { set = kept })) (instruction_clashes m (record b { set = others }))
     (instructions_agree follow over m b (was_read steps) kept others room fit sub (none_beyond m b b.cpu.cr3 steps others found) (λ q small e there. (found q e there).1)) h
 
 -- ---- behind a load of CR3

@@ -1,7 +1,7 @@
 -- What is owed is found in memory over the steps of a run.
-use Rattle.std.proofs.Common.{◌≡◌, ℕ, ◌*◌, ◌/◌, ◌^◌, ◌<◌, ◌≤◌, List, [], ◌∷◌, ◌++◌, length, Bool, true, false, ◌&&◌, ◌==◌, Some, refl, sym, ap, subst, ◌∙◌}
+use Rattle.std.proofs.Common.{◌≡◌, ℕ, ◌*◌, ◌/◌, ◌^◌, ◌<◌, ◌≤◌, List, [], ◌∷◌, ◌++◌, length, Bool, true, false, ◌==◌, Some, refl, sym, ap, subst, ◌∙◌}
 use Rattle.std.specs.FinMap.{get}
-use Rattle.std.proofs.lemmas.Bool.{eqb-true}
+use Rattle.std.proofs.lemmas.Bool.{eqb-true, and_parts}
 use Rattle.descriptors.specs.Controls.{pse_of}
 use Rattle.paging.specs.declared.entry.Entry.{Entry}
 use Rattle.paging.specs.Fresh.{has}
@@ -15,7 +15,6 @@ use Rattle.kept_laws.specs.Remembered.{was_read, Unwritten, IsOwed}
 use Rattle.kept_laws.specs.Judged.{AllFound, IsFoundStill, FoundAtStart, FoundGoesOn}
 use Rattle.machine_model.proofs.Splits.{Split, At_end, Within, split_of}
 use Rattle.kept_laws.proofs.Lists.{all_at, read_more}
-use Rattle.kept_laws.proofs.Counts.{clash}
 use Rattle.kept_laws.proofs.Owed.{owed_front}
 
 none_split : (old : List Taken) (left : Taken) (since : List Taken) → [] ≡ old ++ left ∷ since → ⊥
@@ -48,23 +47,15 @@ found_on law m steps t c page e is room small u pse h =
 same_pse : (a b : State) → a.cpu.cr4 ≡ b.cpu.cr4 → pse_of a.cpu ≡ pse_of b.cpu
 same_pse a b e = ap (λ (w : ℕ). has w 16) e
 
-and_left : (a b : Bool) → (a && b) ≡ true → a ≡ true
-and_left true b e = refl
-and_left false b e = clash true refl (sym e)
-
-and_right : (a b : Bool) → (a && b) ≡ true → b ≡ true
-and_right true b e = e
-and_right false b e = clash true refl (sym e)
-
 by_split : WordsStayFound → (m : Setting) (steps : List Taken) (t : Taken) → step_of m t.before t.set ≡ Went t.report t.after → 4096 * m.frames ≤ length t.before.ram
     → (loads_root t ≡ true → Unwritten (steps ++ t ∷ []) → AllFound m t.before t.before.cpu.cr3 steps t.set) → IsFoundStill m steps t.before
     → (c : ℕ) (old : List Taken) (left : Taken) (since : List Taken) → IsOwed m (steps ++ t ∷ []) t.after c old left since → Split steps t old left since → AllFound m t.after c (steps ++ t ∷ []) left.set
 by_split law m steps t is room loads h c old left since o (At_end at at_t none) page e there =
     let leaving : leaves c t ≡ true = subst (λ (u : Taken). leaves c u ≡ true) at_t o.is_left in
-    let value : t.before.cpu.cr3 ≡ c = eqb-true t.before.cpu.cr3 c (and_right (loads_root t) (t.before.cpu.cr3 == c) leaving) in
+    let value : t.before.cpu.cr3 ≡ c = eqb-true t.before.cpu.cr3 c (and_parts (loads_root t) (t.before.cpu.cr3 == c) leaving).1 in
     let pse : pse_of t.after.cpu ≡ pse_of t.before.cpu = same_pse t.after t.before (o.same_now.1 ∙ ap (λ (u : Taken). u.before.cpu.cr4) at_t) in
     let found : (page < 2 ^ 20) × IsFoundBy t.before.ram m.frames t.before.cpu.cr3 (pse_of t.before.cpu) (was_read steps) page e =
-    loads (and_left (loads_root t) (t.before.cpu.cr3 == c) leaving) o.unwritten page e (subst (λ (u : Taken). get u.set page ≡ Some e) at_t there) in
+    loads (and_parts (loads_root t) (t.before.cpu.cr3 == c) leaving).0 o.unwritten page e (subst (λ (u : Taken). get u.set page ≡ Some e) at_t there) in
     (found.0, found_on law m steps t c page e is room found.0 o.unwritten pse (subst (λ v. IsFoundBy t.before.ram m.frames v (pse_of t.before.cpu) (was_read steps) page e) value found.1))
 by_split law m steps t is room loads h c old left since o (Within before split at) page e there =
     let p = owed_front m steps t t.after c old left since before o split at in

@@ -10,9 +10,10 @@ use Rattle.machine_model.specs.Taken.{Taken, loads_root, changes_protection}
 use Rattle.machine_model.specs.Clash.{clashes_from}
 use Rattle.machine_model.specs.Keeping.{pages_in, clashes, HasEntriesOf, Reloads, Stays, KeptBehind}
 use Rattle.machine_model.specs.Reloading.{FetchesFollow, FoundOver}
+use Rattle.shadow_tables.specs.Laws.Openings.{member-next, member-or}
 use Rattle.kept_laws.specs.Carried.{IsReadyFor, NextIsKept, indices_in, RoomyBefore, RoomyIsFew, IndicesGrow}
 use Rattle.kept_laws.proofs.Lists.{any_left, any_right}
-use Rattle.kept_laws.proofs.Counts.{clash, fewer, member_first, member_next, member_or}
+use Rattle.kept_laws.proofs.Counts.{clash, fewer, member_first}
 use Rattle.kept_laws.proofs.Holding.{held_stays, last_first}
 use Rattle.kept_laws.proofs.OwedStays.{returned}
 use Rattle.kept_laws.proofs.Clashing.{clashes_are_judged}
@@ -59,9 +60,9 @@ next_is_kept follow over m steps t now set kept r h =
 
 member_split : (xs ys : List ℕ) (p : ℕ) → is_member eqb (xs ++ ys) p ≡ true → (is_member eqb xs p ≡ true) ⊎ (is_member eqb ys p ≡ true)
 member_split [] ys p h = inr h
-member_split (x ∷ xs) ys p h = elim (member_or x (xs ++ ys) p h) [
+member_split (x ∷ xs) ys p h = elim (member-or x (xs ++ ys) p h) [
   | inl e ↦ inl (subst (λ (v : ℕ). is_member eqb (x ∷ xs) v ≡ true) (sym e) (member_first x xs))
-  | inr k ↦ elim (member_split xs ys p k) [ inl a ↦ inl (member_next x xs p a) | inr b ↦ inr b ]
+  | inr k ↦ elim (member_split xs ys p k) [ inl a ↦ inl (member-next x xs p a) | inr b ↦ inr b ]
 ]
 
 pages_more : (steps : List Taken) (t : Taken) (p : ℕ) → is_member eqb (pages_in steps) p ≡ true → is_member eqb (pages_in (steps ++ t ∷ [])) p ≡ true
@@ -78,16 +79,16 @@ pages_last (u ∷ us) t p h = any_right (eqb p) u.report.pages (pages_in (us ++ 
 -- a member of a list of indices is that of a page
 index_in : (ps : List ℕ) (p : ℕ) → is_member eqb ps p ≡ true → is_member eqb (map (λ page. page / 1024) ps) (p / 1024) ≡ true
 index_in [] p h = absurd (let e : false ≡ true = h in cc)
-index_in (x ∷ ps) p h = elim (member_or x ps p h) [
+index_in (x ∷ ps) p h = elim (member-or x ps p h) [
   | inl e ↦ subst (λ (v : ℕ). is_member eqb (map (λ page. page / 1024) (x ∷ ps)) (v / 1024) ≡ true) (sym e) (member_first (x / 1024) (map (λ page. page / 1024) ps))
-  | inr k ↦ member_next (x / 1024) (map (λ page. page / 1024) ps) (p / 1024) (index_in ps p k)
+  | inr k ↦ member-next (x / 1024) (map (λ page. page / 1024) ps) (p / 1024) (index_in ps p k)
 ]
 
 index_of : (ps : List ℕ) (index : ℕ) → is_member eqb (map (λ page. page / 1024) ps) index ≡ true → (p : ℕ) × (is_member eqb ps p ≡ true) × (p / 1024 ≡ index)
 index_of [] index h = absurd (let e : false ≡ true = h in cc)
-index_of (x ∷ ps) index h = elim (member_or (x / 1024) (map (λ page. page / 1024) ps) index h) [
+index_of (x ∷ ps) index h = elim (member-or (x / 1024) (map (λ page. page / 1024) ps) index h) [
   | inl e ↦ (x, member_first x ps, sym e)
-  | inr k ↦ let r = index_of ps index k in (r.0, member_next x ps r.0 r.1, r.2)
+  | inr k ↦ let r = index_of ps index k in (r.0, member-next x ps r.0 r.1, r.2)
 ]
 
 pub indices_grow : IndicesGrow

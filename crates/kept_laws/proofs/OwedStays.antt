@@ -1,8 +1,9 @@
 -- What is owed stays kept over the steps of a run.
-use Rattle.std.proofs.Common.{◌≡◌, ℕ, List, [], ◌∷◌, ◌++◌, Bool, true, false, cond, ◌&&◌, ◌==◌, eqb, Option, Some, refl, sym, subst, ◌∙◌, ◌⊎◌, inl, inr}
+use Rattle.std.proofs.Common.{◌≡◌, ℕ, List, [], ◌∷◌, ◌++◌, Bool, true, false, cond, ◌==◌, eqb, Option, Some, refl, sym, subst, ◌∙◌, ◌⊎◌, inl, inr}
 use Rattle.std.specs.List.{Contains}
 use Rattle.std.specs.Set.{is_member}
-use Rattle.std.proofs.lemmas.Bool.{eqb-true, eqb-false, false_from_ne_true}
+use Rattle.std.proofs.lemmas.Bool.{eqb-true, eqb-false, false_from_ne_true, and_parts}
+use Rattle.plain_laws.proofs.Tests.{second_false}
 use Rattle.shadow_tables.specs.Aside.{Aside, all_spared}
 use Rattle.shadow_tables.specs.Entries.{entries_of}
 use Rattle.shadow_tables.specs.Slots.{Slot}
@@ -192,20 +193,12 @@ loaded_own t loads = by (loads_root t) loads
     by true e = member_first t.after.cpu.cr3 []
     by false e = clash true refl (sym e)
 
-and_right : (a b : Bool) → (a && b) ≡ true → b ≡ true
-and_right true b e = e
-and_right false b e = clash true refl (sym e)
-
-and_false : (a b : Bool) → a ≡ true → (a && b) ≡ false → b ≡ false
-and_false true b e f = f
-and_false false b e f = clash true refl (sym e)
-
 -- a value that a step leaves is the one that CR3 had
 left_is : (c : ℕ) (t : Taken) → leaves c t ≡ true → t.before.cpu.cr3 ≡ c
-left_is c t e = eqb-true t.before.cpu.cr3 c (and_right (loads_root t) (t.before.cpu.cr3 == c) e)
+left_is c t e = eqb-true t.before.cpu.cr3 c (and_parts (loads_root t) (t.before.cpu.cr3 == c) e).1
 
 not_left : (c : ℕ) (t : Taken) → loads_root t ≡ true → leaves c t ≡ false → t.before.cpu.cr3 ≡ c → ⊥
-not_left c t loads e = eqb-false t.before.cpu.cr3 c (and_false (loads_root t) (t.before.cpu.cr3 == c) loads e)
+not_left c t loads e = eqb-false t.before.cpu.cr3 c (second_false (loads_root t) (t.before.cpu.cr3 == c) loads e)
 
 -- what is kept for all values but the present one, before the loaded one comes
 abbrev put_all : Taken → (ℕ → Bool) → Bool → (ℕ → Option Slot) → List Aside → List Aside

@@ -8,11 +8,12 @@ use Rattle.std.proofs.lemmas.Bool.{eqb-true, eqb-false, eq-eqb, ne_eqb}
 use Rattle.shadow_tables.specs.Aside.{Aside, AreSame, LoseWrites, all_spared}
 use Rattle.shadow_tables.specs.Entries.{entries_of}
 use Rattle.shadow_tables.specs.Laws.Entries.{entries_of-same, entries_of-barred}
+use Rattle.shadow_tables.specs.Laws.Openings.{member-or}
 use Rattle.shadow_cache.specs.Reloaded.{of_cr3, but_cr3, or_begun, coming, beside_coming, staying}
 use Rattle.machine_model.specs.Taken.{Taken}
 use Rattle.kept_laws.specs.Remembered.{ComesFrom, was_read, IsAbsent, AreOfOne, AllRead, IsThere}
 use Rattle.kept_laws.proofs.Lists.{read_more}
-use Rattle.kept_laws.proofs.Counts.{clash, but, but_member, member_or, absent_apart, no_more}
+use Rattle.kept_laws.proofs.Counts.{clash, but, but_member, absent_apart, no_more}
 
 -- ---- the same translations
 
@@ -207,11 +208,11 @@ seen_more : (c : ℕ) (loaded seen : List ℕ) (a : Aside) (xs : List Aside) →
 unfolding IsDistinct
 seen_more c loaded seen a xs h alone ne here = record {
   distinct = (absent_apart seen a.cr3 (not_seen c loaded seen a xs h), h.distinct);
-  pool = λ q m. elim (member_or a.cr3 seen q m) [
+  pool = λ q m. elim (member-or a.cr3 seen q m) [
     | inl e ↦ subst (λ (v : ℕ). is_member eqb (but c loaded) v ≡ true) (sym e) (but_member c loaded a.cr3 ne here)
     | inr k ↦ h.pool q k
   ];
-  absent = λ q m. elim (member_or a.cr3 seen q m) [
+  absent = λ q m. elim (member-or a.cr3 seen q m) [
     | inl e ↦ subst (λ (v : ℕ). IsAbsent v xs) (sym e) alone
     | inr k ↦ (h.absent q k).1
   ];
@@ -230,11 +231,11 @@ one_seen : (c w : ℕ) (loaded : List ℕ) (xs : List Aside) → (w ≡ c → �
 unfolding IsDistinct
 one_seen c w loaded xs ne here alone = record {
   distinct = (tt, tt);
-  pool = λ q m. elim (member_or w [] q m) [
+  pool = λ q m. elim (member-or w [] q m) [
     | inl e ↦ subst (λ (v : ℕ). is_member eqb (but c loaded) v ≡ true) (sym e) (but_member c loaded w ne here)
     | inr k ↦ absurd (let f : false ≡ true = k in cc)
   ];
-  absent = λ q m. elim (member_or w [] q m) [
+  absent = λ q m. elim (member-or w [] q m) [
     | inl e ↦ subst (λ (v : ℕ). IsAbsent v xs) (sym e) alone
     | inr k ↦ absurd (let f : false ≡ true = k in cc)
   ];
