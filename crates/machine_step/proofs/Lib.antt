@@ -1,5 +1,4 @@
 pub mod Ruled
-pub mod Spelled
 pub mod Refused
 pub mod Divided
 pub mod Fetched

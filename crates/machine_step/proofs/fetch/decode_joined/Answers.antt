@@ -1,4 +1,4 @@
-use Rattle.machine_step.proofs.Spelled.{spelled_by}
+use Rattle.ia32_decode.proofs.Fronts.{spelled_by}
 use Rattle.machine_step.proofs.fetch.decode_joined.Goals as goal
 
 pub returns-clause-spelled : goal.returns-clause-spelled

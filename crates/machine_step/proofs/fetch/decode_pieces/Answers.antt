@@ -1,4 +1,4 @@
-use Rattle.machine_step.proofs.Spelled.{spelled_by}
+use Rattle.ia32_decode.proofs.Fronts.{spelled_by}
 use Rattle.machine_step.proofs.fetch.decode_pieces.Goals as goal
 
 pub returns-then-is_empty-clause-spelled : goal.returns-then-is_empty-clause-spelled

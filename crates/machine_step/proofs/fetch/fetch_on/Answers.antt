@@ -2,11 +2,11 @@ use Rattle.std.proofs.Common.{◌≡◌, ℕ, ◌-◌, ◌∙◌, sym, ap, rules
 use Rattle.ia32_decode.specs.declared.answer.Decoded.TheVariants as begins
 use Rattle.ia32_decode.specs.Decoding.{decoded}
 use Rattle.ia32_decode.specs.Front.{front_len, longest}
+use Rattle.ia32_decode.proofs.Fronts.{spelled_by}
 use Rattle.step_mem.specs.Pages.{bytes_from}
 use Rattle.step_mem.specs.Sound.{space_at}
 use Rattle.machine_model.specs.Instruction.{fetched_on, next_page}
 use Rattle.machine_step.proofs.Fetched.{second_denied, second_read, second_owned, behind_own, own_behind, joined}
-use Rattle.machine_step.proofs.Spelled.{spelled_by}
 use Rattle.machine_step.proofs.fetch.fetch_on.Goals as goal
 
 pub returns-in-Insn-clause-spelled : goal.returns-in-Insn-clause-spelled
