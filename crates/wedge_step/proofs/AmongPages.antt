@@ -1,6 +1,5 @@
 -- Pages that are among others: those that a step changed among those that it went through, and how many have an entry.
-use Rattle.std.proofs.Common.{◌≡◌, ℕ, suc, ◌+◌, ◌≤◌, List, [], ◌∷◌, ◌++◌, length, map, Bool, true, false, cond, ◌||◌, ◌&&◌, not, ◌==◌, ◌⊎◌, inl, inr, refl, sym, ap, ◌∙◌, arith}
-use Rattle.std.specs.List.{Contains}
+use Rattle.std.proofs.Common.{◌≡◌, ℕ, ◌+◌, ◌≤◌, List, [], ◌∷◌, ◌++◌, length, map, Bool, true, false, cond, ◌||◌, ◌&&◌, not, ◌==◌, ◌⊎◌, inl, inr, refl, sym, ap, ◌∙◌, arith}
 use Rattle.std.specs.FinMap.{FinMap, get}
 use Rattle.std.specs.Ordering.{nat_cmp}
 use Rattle.std.proofs.lemmas.Bool.Decides.{eqb_tells}
@@ -15,8 +14,9 @@ use Rattle.machine_step.specs.declared.worked.Dropped.{Dropped}
 use Rattle.machine_step.specs.declared.worked.Dropped.TheVariants as dropped
 use Rattle.wedge_mem.specs.Settled.{has_entry, pages_of, used}
 use Rattle.wedge_step.specs.Ready.{leaving}
-use Rattle.wedge_step.proofs.Bools.{or_true, right_false}
-use Rattle.std.proofs.lemmas.Bool.{cases_Bool}
+use Rattle.wedge_step.proofs.Bools.{or_true}
+use Rattle.std.proofs.lemmas.Bool.{cases_Bool, or_parts}
+pub use Rattle.image_check.proofs.Starts.{any_contains as among_contains}
 
 pub among_split : (q : ℕ) (xs ys : List ℕ) → is_among q (xs ++ ys) ≡ true → (is_among q xs ≡ true) ⊎ (is_among q ys ≡ true)
 among_split q [] ys h = inr h
@@ -35,7 +35,7 @@ changed_other set [] q h = refl
 changed_other set (c ∷ cs) q h =
     elim (eqb_tells q (page_of c)) [
       | inl e ↦ absurd (let f : true ≡ false = sym (ap (λ (b : Bool). b || is_among q (map page_of cs)) e.0) ∙ h in cc)
-      | inr n ↦ changed_other (with_entry set (page_of c) (entry_of c)) cs q (right_false (q == page_of c) (is_among q (map page_of cs)) h) ∙ get_with_other set (page_of c) (entry_of c) q n.1
+      | inr n ↦ changed_other (with_entry set (page_of c) (entry_of c)) cs q (or_parts (q == page_of c) (is_among q (map page_of cs)) h).1 ∙ get_with_other set (page_of c) (entry_of c) q n.1
     ]
 
 -- each page that a step changed is one that it went through
@@ -44,14 +44,6 @@ told_among visited changes told q h = elim (among_split q visited (map page_of c
   | inl a ↦ a
   | inr c ↦ told q c
 ]
-
-pub among_contains : (xs : List ℕ) (q : ℕ) → is_among q xs ≡ true → Contains xs q
-among_contains [] q h = absurd (let f : false ≡ true = h in cc)
-among_contains (x ∷ xs) q h =
-    elim (eqb_tells q x) [
-      | inl e ↦ (0, omega arith, sym e.1)
-      | inr n ↦ let c = among_contains xs q (sym (ap (λ (b : Bool). b || is_among q xs) n.0) ∙ h) in (suc c.0, let lt = c.1 in omega (arith, lt), c.2)
-    ]
 
 pub among_first : (q : ℕ) (xs ys : List ℕ) → is_among q xs ≡ true → is_among q (xs ++ ys) ≡ true
 among_first q [] ys h = absurd (let f : false ≡ true = h in cc)

@@ -1,9 +1,10 @@
 -- What is kept may be used again behind the accesses of a step.
-use Rattle.std.proofs.Common.{◌≡◌, ◌⊎◌, ℕ, zero, suc, ◌*◌, ◌/◌, ◌^◌, ◌<◌, ◌≤◌, ◌==◌, List, [], ◌∷◌, length, Bool, true, false, ◌||◌, not, cond, Option, Some, None, refl, sym, ap, subst, ◌∙◌, inl, inr, arith}
+use Rattle.std.proofs.Common.{◌≡◌, ◌⊎◌, ℕ, ◌*◌, ◌/◌, ◌^◌, ◌<◌, ◌≤◌, ◌==◌, List, [], ◌∷◌, length, Bool, true, false, ◌||◌, not, cond, Option, Some, None, refl, sym, ap, subst, ◌∙◌, inl, inr, arith}
 use Rattle.std.proofs.lemmas.Bool.Decides.{eqb_tells, nat_tests}
 use Rattle.std.specs.Prelude.{nat_le}
 use Rattle.std.specs.List.{Contains, list_any}
 use Rattle.std.specs.FinMap.{get}
+use Rattle.std.proofs.lemmas.Bool.{or_parts}
 use Rattle.descriptors.specs.Controls.{pse_of}
 use Rattle.descriptors.specs.declared.cpu.Cpu.{Cpu}
 use Rattle.paging.specs.declared.entry.Entry.{Entry}
@@ -19,24 +20,20 @@ use Rattle.machine_model.proofs.FoundStill.{found_still}
 use Rattle.native_steps.specs.Mirrors.{shown}
 use Rattle.wedge_mem.specs.Told.{guest_frames, read_by}
 use Rattle.wedge_step.specs.Ready.{IsReadyAside, AreReady, AreReadyBehind, IsReady, IsReadyBehind}
-use Rattle.wedge_step.proofs.Bools.{none_some, clash, left_false, right_false, or_true, or_false}
+use Rattle.wedge_step.proofs.Bools.{none_some, clash, or_true, or_false}
 use Rattle.wedge_step.proofs.Shedding.{Sheds, found_tables, ready_shed}
 use Rattle.shadow_tables.proofs.Asides.{any-same}
+pub use Rattle.image_check.proofs.Starts.{contains_any as contains_among}
 
 -- ---- frames of a list
-
-pub contains_among : (xs : List ℕ) (q : ℕ) → Contains xs q → is_among q xs ≡ true
-contains_among [] q (k, lt, at) = absurd (omega (arith, lt))
-contains_among (x ∷ xs) q (zero, lt, at) = elim (eqb_tells q x) [ inl t ↦ ap (λ (b : Bool). b || is_among q xs) t.0 | inr n ↦ absurd (n.1 (sym at)) ]
-contains_among (x ∷ xs) q (suc k, lt, at) = ap (λ (b : Bool). (q == x) || b) (contains_among xs q (k, omega (arith, lt), at)) ∙ or_true (q == x)
 
 -- a test that holds of none of them
 pub any_none : (test : ℕ → Bool) (frames : List ℕ) → list_any test frames ≡ false → (f : ℕ) → is_among f frames ≡ true → test f ≡ false
 any_none test [] h f a = absurd (clash false a refl)
 any_none test (x ∷ xs) h f a =
     elim (eqb_tells f x) [
-      | inl e ↦ ap test e.1 ∙ left_false (test x) (list_any test xs) h
-      | inr n ↦ any_none test xs (right_false (test x) (list_any test xs) h) f (sym (or_false (f == x) (is_among f xs) n.0) ∙ a)
+      | inl e ↦ ap test e.1 ∙ (or_parts (test x) (list_any test xs) h).0
+      | inr n ↦ any_none test xs (or_parts (test x) (list_any test xs) h).1 f (sym (or_false (f == x) (is_among f xs) n.0) ∙ a)
     ]
 
 -- a frame that a guest has
@@ -57,12 +54,12 @@ among_guest (x ∷ xs) f a lt = by (nat_le 16384 x) refl (λ h. among_guest xs f
 module _ (noted : ℕ → Bool) (tables wrote : List ℕ) (low : (frame : ℕ) → Contains tables frame → frame < 16384) (none : list_any (read_by noted tables) wrote ≡ false) where
   -- no frame that was noted was written
   unwritten : (frame : ℕ) → noted frame ≡ true → Contains wrote frame → ⊥
-  unwritten frame n c = clash (noted frame) n (left_false (noted frame) (is_among frame (guest_frames tables)) (any_none (read_by noted tables) wrote none frame (contains_among wrote frame c)))
+  unwritten frame n c = clash (noted frame) n (or_parts (noted frame) (is_among frame (guest_frames tables)) (any_none (read_by noted tables) wrote none frame (contains_among wrote frame c))).0
 
   apart : (frame : ℕ) → Contains tables frame → Contains wrote frame → ⊥
   apart frame t c =
       clash (is_among frame (guest_frames tables)) (among_guest tables frame (contains_among tables frame t) (low frame t))
-      (right_false (noted frame) (is_among frame (guest_frames tables)) (any_none (read_by noted tables) wrote none frame (contains_among wrote frame c)))
+      (or_parts (noted frame) (is_among frame (guest_frames tables)) (any_none (read_by noted tables) wrote none frame (contains_among wrote frame c))).1
 
 holds_of : (noted : ℕ → Bool) (tables : List ℕ) → ((frame : ℕ) → Contains tables frame → frame < 16384) → (frame : ℕ) → Contains tables frame → read_by noted tables frame ≡ true
 holds_of noted tables low frame c = ap (λ (b : Bool). noted frame || b) (among_guest tables frame (contains_among tables frame c) (low frame c)) ∙ or_true (noted frame)

@@ -25,6 +25,8 @@ use Rattle.machine_model.specs.Run.{Set}
 use Rattle.wedge_step.specs.Filled.{FillsOn}
 use Rattle.wedge_step.specs.Parts.{IsPartOf}
 use Rattle.std.proofs.lemmas.Bool.{cases_Bool}
+use Rattle.std.proofs.Math.Bool.{or-true}
+use Rattle.plain_laws.proofs.Options.{some_is}
 
 -- ---- the pages of a set, each once
 
@@ -70,10 +72,6 @@ or_past : (a b : Bool) → a ≡ false → (a || b) ≡ true → b ≡ true
 or_past true b n h = absurd (let f : true ≡ false = n in cc)
 or_past false b n h = h
 
-or_right : (a : Bool) → (a || true) ≡ true
-or_right true = refl
-or_right false = refl
-
 three : (a b c : Bool) → a ≡ true → b ≡ false → c ≡ true → ((a && not b) && c) ≡ true
 three a b c e f g = ap (λ x. (x && not b) && c) e ∙ (ap (λ x. not x && c) f ∙ g)
 
@@ -97,7 +95,7 @@ module _ (kept : ℕ → Option Slot) (set : Set) (changes : List Change) (side 
     where
       later : (b : Bool) → is_among q (refilled kept set changes side wp pages) ≡ true
           → is_among q (cond {A = List ℕ} b (p ∷ refilled kept set changes side wp pages) (refilled kept set changes side wp pages)) ≡ true
-      later true h = ap (λ b. (q == p) || b) h ∙ or_right (q == p)
+      later true h = ap (λ b. (q == p) || b) h ∙ or-true (q == p)
       later false h = h
 
 grown : (old new : Set) (more : List ℕ) → ((q : ℕ) → is_some (get new q) ≡ true → (is_some (get old q) ≡ true) ⊎ (is_among q more ≡ true)) → len new ≤ len old + length more
@@ -109,7 +107,7 @@ grown old new more each =
       | inl t ↦ ap (λ b. b || list_any (eq_by_cmp nat_cmp q) more) (sym (contains_key-keys old q) ∙ t)
       | inr t ↦
           ap (λ b. list_any (eq_by_cmp nat_cmp q) (keys old) || b) (among_keys q more ∙ t)
-          ∙ or_right (list_any (eq_by_cmp nat_cmp q) (keys old))
+          ∙ or-true (list_any (eq_by_cmp nat_cmp q) (keys old))
     ]) in
     let a = counts_keys new in
     let b = counts_keys old in
@@ -118,13 +116,9 @@ grown old new more each =
 
 -- ---- a part, and what a step changed
 
-some_entry : (o : Option Entry) → is_some o ≡ true → (e : Entry) × (o ≡ Some e)
-some_entry None h = absurd (let f : false ≡ true = h in cc)
-some_entry (Some e) h = (e, refl)
-
 pub part_few : (part whole : Set) → IsPartOf part whole → len part ≤ len whole
 part_few part whole p =
-    let g = grown whole part [] (λ q h. let e = some_entry (get part q) h in inl (ap is_some (p.each q e.0 e.1))) in
+    let g = grown whole part [] (λ q h. let e = some_is (get part q) h in inl (ap is_some (p.each q e.0 e.1))) in
     omega (arith, g)
 
 -- a page whose entry the changes give, or that had it before
@@ -135,7 +129,7 @@ by_changes set (c ∷ cs) q h =
       | inl e ↦ inr (ap (λ b. b || is_among q (map page_of cs)) e.0)
       | inr n ↦ elim (by_changes (Rattle.paging.specs.Uses.with_entry set (page_of c) (entry_of c)) cs q h) [
         | inl t ↦ inl (ap is_some (sym (get_with_other set (page_of c) (entry_of c) q n.1)) ∙ t)
-        | inr t ↦ inr (ap (λ b. (q == page_of c) || b) t ∙ or_right (q == page_of c))
+        | inr t ↦ inr (ap (λ b. (q == page_of c) || b) t ∙ or-true (q == page_of c))
       ]
     ]
 

@@ -1,9 +1,8 @@
 -- What the end of a step makes of what is kept.
-use Rattle.std.proofs.Common.{◌≡◌, ℕ, ◌+◌, ◌^◌, ◌<◌, ◌≤◌, List, [], ◌∷◌, ◌++◌, length, take, take-suc, get_or, add-one, Bool, true, false, ◌||◌, not, Option, Some, None, refl, sym, ap, subst, ◌∙◌, inl, inr, arith}
+use Rattle.std.proofs.Common.{◌≡◌, ℕ, ◌+◌, ◌^◌, ◌<◌, ◌≤◌, List, [], length, take, take-suc, get_or, add-one, Bool, true, false, ◌||◌, not, Option, Some, None, sym, ap, subst, ◌∙◌, arith}
 use Rattle.std.specs.Prelude.{MatchOption, is_none}
 use Rattle.std.specs.FinMap.{empty}
 use Rattle.std.proofs.lemmas.List.{take_all}
-use Rattle.std.proofs.lemmas.Bool.Decides.{eqb_tells}
 use Rattle.std.specs.List.{list_any}
 use Rattle.frame_pool.specs.Pool.{free_list}
 use Rattle.frame_pool.specs.declared.Pool.{Pool}
@@ -15,6 +14,7 @@ use Rattle.shadow_tables.specs.Slots.{Slot}
 use Rattle.shadow_tables.proofs.Asides.{same-refl}
 use Rattle.shadow_tables.specs.declared.shadows.Shadows as shadows
 use Rattle.wedge_mem.specs.Told.{guest_frames, read_by}
+use Rattle.wedge_mem.proofs.Lists.{not-both}
 use Rattle.machine_model.specs.Run.{Set}
 use Rattle.machine_step.specs.declared.worked.Dropped.{Dropped}
 use Rattle.machine_step.specs.Worked.{dropping}
@@ -31,18 +31,9 @@ no_way false false c a h = let f : false ≡ true = a in cc
 
 -- ---- pages that are dropped one behind the other
 
-among_front : (x : ℕ) (xs : List ℕ) (y : ℕ) → is_among x (xs ++ y ∷ []) ≡ false → (is_among x xs ≡ false) × (x ≡ y → ⊥)
-among_front x [] y h = elim (eqb_tells x y) [ inl t ↦ absurd (let z : true ≡ false = sym (ap (λ (b : Bool). b || false) t.0) ∙ h in cc) | inr n ↦ (refl, n.1) ]
-among_front x (z ∷ xs) y h =
-    elim (eqb_tells x z) [
-      | inl t ↦ absurd (let f : true ≡ false = sym (ap (λ (b : Bool). b || is_among x (xs ++ y ∷ [])) t.0) ∙ h in cc)
-      | inr n ↦ let k = among_front x xs y (sym (ap (λ (b : Bool). b || is_among x (xs ++ y ∷ [])) n.0) ∙ h) in
-          (ap (λ (b : Bool). b || is_among x xs) n.0 ∙ k.0, k.1)
-    ]
-
 -- none of the first i + 1 is none of the first i, and not the next
 among_before : (x : ℕ) (xs : List ℕ) (i : ℕ) → i < length xs → is_among x (take (i + 1) xs) ≡ false → (is_among x (take i xs) ≡ false) × (x ≡ get_or xs i 0 → ⊥)
-among_before x xs i l h = among_front x (take i xs) (get_or xs i 0) (sym (ap (is_among x) (rw add-one (take-suc xs i 0 l))) ∙ h)
+among_before x xs i l h = not-both x (take i xs) (get_or xs i 0) (sym (ap (is_among x) (rw add-one (take-suc xs i 0 l))) ∙ h)
 
 pub none_of_all : (x : ℕ) (xs : List ℕ) (i : ℕ) → length xs ≤ i → is_among x xs ≡ false → is_among x (take i xs) ≡ false
 none_of_all x xs i l h = ap (is_among x) (take_all i xs l) ∙ h

@@ -13,7 +13,7 @@ use Rattle.step_mem.specs.Shown.{laid, beyond}
 use Rattle.machine_model.specs.State.{Setting}
 use Rattle.native_steps.specs.Mirrors.{IsHost, shown}
 
-append_both : (xs zs ys ws : List ℕ) → length xs ≡ length zs → xs ++ ys ≡ zs ++ ws → (xs ≡ zs) × (ys ≡ ws)
+pub append_both : (xs zs ys ws : List ℕ) → length xs ≡ length zs → xs ++ ys ≡ zs ++ ws → (xs ≡ zs) × (ys ≡ ws)
 append_both [] [] ys ws l e = (refl, e)
 append_both [] (z ∷ zs) ys ws l e = absurd (omega (arith, l))
 append_both (x ∷ xs) [] ys ws l e = absurd (omega (arith, l))

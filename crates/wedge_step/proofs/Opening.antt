@@ -5,6 +5,7 @@ use Rattle.std.proofs.lemmas.Bool.Decides.{nat_tests, eqb_tells}
 use Rattle.std.specs.Option.{ForSome}
 use Rattle.std.specs.FinMap.{FinMap, get, empty, get-empty}
 use Rattle.std.specs.Ordering.{nat_cmp}
+use Rattle.std.proofs.lemmas.Option.{same_Some}
 use Rattle.machine_model.specs.UsedPages.{may_use}
 use Rattle.machine_model.specs.State.{wedge_mode}
 use Rattle.paging.specs.declared.entry.Entry.{Entry}
@@ -62,18 +63,15 @@ open_within image wp a b w h = record {
       (subst (λ (e : Entry). IsOpen (is_kernel b.side) image e.page e.frame) (sym w.1) (h.leads write (lets_within a b w write l)));
 }
 
-pub some_is : (a b : Slot) → Some a ≡ Some b → a ≡ b
-some_is a b h = cc
-
 pub within_open : (image : Image) (wp : Bool) (a b : Option Slot) → IsWithin a b → ForSome b (IsOpenSlot image wp) → ForSome a (IsOpenSlot image wp)
 within_open image wp None b w h = λ slot e. absurd (none_some slot e)
 within_open image wp (Some a) None w h = absurd w
-within_open image wp (Some a) (Some b) w h = λ slot e. subst (IsOpenSlot image wp) (some_is a slot e) (open_within image wp a b w (h b refl))
+within_open image wp (Some a) (Some b) w h = λ slot e. subst (IsOpenSlot image wp) (same_Some a slot e) (open_within image wp a b w (h b refl))
 
 filled_so : (image : Image) (wp : Bool) (side : Side) (tracked : List ℕ) (o : Option Entry) → is_entry_open (text_pages image) side o ≡ true → ForSome (filled_by side wp tracked o) (IsOpenSlot image wp)
 filled_so image wp side tracked None h = λ slot e. absurd (none_some slot e)
 filled_so image wp side tracked (Some entry) h =
-    λ slot e. subst (IsOpenSlot image wp) (some_is (filled (is_among entry.frame tracked) side entry wp) slot e) (filled_open image (is_among entry.frame tracked) side entry wp h)
+    λ slot e. subst (IsOpenSlot image wp) (same_Some (filled (is_among entry.frame tracked) side entry wp) slot e) (filled_open image (is_among entry.frame tracked) side entry wp h)
 
 -- the pages of a step, and the others
 pub settled_open : (image : Image) (wp : Bool) (old new : ℕ → Option Slot) (set : FinMap nat_cmp Entry) (pages : List ℕ) (side : Side) (tracked : List ℕ)

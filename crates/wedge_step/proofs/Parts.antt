@@ -1,6 +1,6 @@
 -- Some of a set of translations.
-use Rattle.std.proofs.Common.{◌≡◌, ℕ, ◌/◌, ◌==◌, Bool, true, false, ◌||◌, cond, not, Option, Some, None, refl, sym, ap, ◌∙◌, inl, inr}
-use Rattle.std.specs.FinMap.{get, empty, remove, get-empty, get-retain_keys, same_map, nat_cmp-IsAntisymmetric}
+use Rattle.std.proofs.Common.{◌≡◌, ℕ, ◌/◌, ◌==◌, Bool, true, false, ◌||◌, cond, not, Option, None, refl, sym, ap, ◌∙◌, inl, inr}
+use Rattle.std.specs.FinMap.{get, empty, remove, get-empty, same_map, nat_cmp-IsAntisymmetric}
 use Rattle.std.specs.Ordering.{nat_cmp}
 use Rattle.std.proofs.lemmas.Cmp.{nat_cmp_total}
 use Rattle.std.proofs.lemmas.Bool.Decides.{eqb_tells}
@@ -13,6 +13,8 @@ use Rattle.machine_step.specs.declared.worked.Dropped.TheVariants as dropped
 use Rattle.machine_step.specs.Worked.{dropping}
 use Rattle.machine_model.specs.Run.{Set}
 use Rattle.machine_model.specs.State.{Setting, State, Loosened}
+use Rattle.machine_model.proofs.TrackedSteps.{not_dropped, retained}
+use Rattle.shadow_tables.specs.Laws.Entries.{cond_none}
 use Rattle.wedge_step.specs.Parts.{IsPartOf, left_of}
 use Rattle.wedge_step.proofs.Bools.{none_some}
 
@@ -36,20 +38,6 @@ part_loosened m b part set p h = record { each = λ page e is. h.each page e (p.
 pub part_within : (frames : ℕ) (part whole : Set) → IsPartOf part whole → AreWithin frames whole → AreWithin frames part
 part_within frames part whole p h = λ page e is. h page e (p.each page e is)
 
--- a page's entry, once those of a directory index are gone
-pub dir_get : (set : Set) (index q : ℕ) → get (without_dir set index) q ≡ cond (not (q / 1024 == index)) (get set q) None
-dir_get set index q =
-    let p : ℕ → Bool = λ x. not (x / 1024 == index) in
-    get-retain_keys set p q (λ x t. ap p (sym (nat_cmp-IsAntisymmetric q x t)))
-
-was_some : (stays : Bool) (o : Option Entry) (e : Entry) → cond stays o None ≡ Some e → o ≡ Some e
-was_some true o e h = h
-was_some false o e h = absurd (none_some e h)
-
-none_anyhow : (stays : Bool) → cond {A = Option Entry} stays None None ≡ None
-none_anyhow true = refl
-none_anyhow false = refl
-
 -- what leaves leaves a part
 pub dropped_part : (d : Dropped) (set : Set) → IsPartOf (dropping d set) set
 dropped_part dropped.Nothing set = part_same set set refl
@@ -60,7 +48,7 @@ dropped_part (dropped.Page page) set = record {
         | inr n ↦ sym (get_with_other set page None q n.1) ∙ is
       ];
 }
-dropped_part (dropped.Dir index) set = record { each = λ q e is. was_some (not (q / 1024 == index)) (get set q) e (sym (dir_get set index q) ∙ is) }
+dropped_part (dropped.Dir index) set = record { each = λ q e is. not_dropped (not (q / 1024 == index)) (get set q) e (sym (retained set index q) ∙ is) }
 dropped_part dropped.All set = part_empty empty set refl
 
 -- what is left of a set is a part
@@ -83,7 +71,7 @@ dropping_empty (dropped.Dir index) =
     same_map nat_cmp_total nat_cmp-IsAntisymmetric (without_dir none index) none
     (λ q.
     let stays : Bool = not (q / 1024 == index) in
-    dir_get none index q ∙ (ap (λ (o : Option Entry). cond stays o None) (get-empty nat_cmp q) ∙ (none_anyhow stays ∙ sym (get-empty nat_cmp q))))
+    retained none index q ∙ (ap (λ (o : Option Entry). cond stays o None) (get-empty nat_cmp q) ∙ (cond_none stays ∙ sym (get-empty nat_cmp q))))
 dropping_empty dropped.All = refl
 
 -- all may leave before some of them do, and behind that

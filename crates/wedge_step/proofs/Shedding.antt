@@ -6,6 +6,7 @@ use Rattle.std.specs.Option.{ForSome}
 use Rattle.std.specs.FinMap.{len, len-empty, same_map, nat_cmp-IsAntisymmetric}
 use Rattle.std.specs.Ordering.{nat_cmp}
 use Rattle.std.specs.List.{list_any}
+use Rattle.std.proofs.lemmas.Option.{same_Some}
 use Rattle.descriptors.specs.declared.cpu.Cpu.{Cpu}
 use Rattle.descriptors.specs.Controls.{wp_of}
 use Rattle.image_check.specs.Image.{Image}
@@ -14,8 +15,8 @@ use Rattle.shadow_tables.specs.Aside.{Aside, IsSame, AreSame, LoseWrites, all_sp
 use Rattle.shadow_tables.specs.Calls.{IsWithin}
 use Rattle.shadow_tables.specs.Entries.{entries_of}
 use Rattle.shadow_tables.specs.Laws.Entries.{get-entries_of, none-entries_of, entries_of-none}
-use Rattle.shadow_tables.specs.Slots.{Slot, entry_in}
-use Rattle.shadow_tables.proofs.Lists.{within-same, note-within}
+use Rattle.shadow_tables.specs.Slots.{Slot}
+use Rattle.shadow_tables.proofs.Lists.{within-same, note-within, within-kept}
 use Rattle.shadow_cache.specs.Reloaded.{put_by, of_cr3, but_cr3, begun_aside, coming, or_begun, beside_coming, staying}
 use Rattle.machine_model.specs.Reloading.{IsFoundBy}
 use Rattle.machine_model.specs.State.{Setting}
@@ -23,22 +24,16 @@ use Rattle.wedge_step.specs.Filled.{pages_aside}
 use Rattle.wedge_step.specs.Ready.{AreFound, IsReadyAside, AreReady, AllOpen, AreReadyBehind}
 use Rattle.wedge_step.specs.Standing.{AreOpen}
 use Rattle.wedge_step.proofs.Bools.{none_some}
-use Rattle.wedge_step.proofs.Opening.{some_is, within_open, none_open}
+use Rattle.wedge_step.proofs.Opening.{within_open, none_open}
 
 -- ---- slots with fewer rights
 
 abbrev pub AllWithin : (new old : ℕ → Option Slot) → Type 0
 AllWithin new old = (page : ℕ) → page < 2 ^ 20 → IsWithin (new page) (old page)
 
-within_entry : (a b : Option Slot) → IsWithin a b → entry_in a ≡ entry_in b
-within_entry None None w = refl
-within_entry None (Some b) w = absurd w
-within_entry (Some a) None w = absurd w
-within_entry (Some a) (Some b) w = ap (λ (e : Entry). Some e) w.1
-
 pub within_entries : (new old : ℕ → Option Slot) → AllWithin new old → entries_of new ≡ entries_of old
 within_entries new old h = same_map nat_cmp_total nat_cmp-IsAntisymmetric (entries_of new) (entries_of old) (λ q. elim (cases_lt q (2 ^ 20)) [
-  | inl l ↦ get-entries_of new q l ∙ (within_entry (new q) (old q) (h q l) ∙ sym (get-entries_of old q l))
+  | inl l ↦ get-entries_of new q l ∙ (within-kept (new q) (old q) (h q l) ∙ sym (get-entries_of old q l))
   | inr g ↦ none-entries_of new q g ∙ sym (none-entries_of old q g)
 ])
 
@@ -47,7 +42,7 @@ pub some_within : (P : Entry → Type 0) (a b : Option Slot) → IsWithin a b �
 some_within P None None w h = λ slot e. absurd (none_some slot e)
 some_within P None (Some b) w h = absurd w
 some_within P (Some a) None w h = absurd w
-some_within P (Some a) (Some b) w h = λ slot e. subst (λ (s : Slot). P s.entry) (some_is a slot e) (subst P (sym w.1) (h b refl))
+some_within P (Some a) (Some b) w h = λ slot e. subst (λ (s : Slot). P s.entry) (same_Some a slot e) (subst P (sym w.1) (h b refl))
 
 pub found_tables : (ram : List ℕ) (frames cr3 : ℕ) (pse : Bool) (tables more : ℕ → Bool) (page : ℕ) (e : Entry) → ((f : ℕ) → tables f ≡ true → more f ≡ true)
     → IsFoundBy ram frames cr3 pse tables page e → IsFoundBy ram frames cr3 pse more page e

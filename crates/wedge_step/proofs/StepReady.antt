@@ -1,5 +1,5 @@
 -- What is kept may be used again behind the accesses of a step that went, and of one of which nothing more is done.
-use Rattle.std.proofs.Common.{◌≡◌, ◌⊎◌, ℕ, ◌+◌, ◌^◌, ◌<◌, ◌≤◌, ◌==◌, List, [], ◌∷◌, ◌++◌, map, Bool, true, false, cond, not, Option, Some, None, refl, sym, ap, ◌∙◌, inl, inr, arith}
+use Rattle.std.proofs.Common.{◌≡◌, ◌⊎◌, ℕ, ◌+◌, ◌^◌, ◌<◌, ◌≤◌, ◌==◌, List, map, Bool, true, false, cond, not, Option, Some, None, refl, sym, ap, ◌∙◌, inl, inr, arith}
 use Rattle.std.proofs.lemmas.Bool.Decides.{eqb_tells}
 use Rattle.std.specs.Option.{ForSome}
 use Rattle.std.specs.FinMap.{get}
@@ -9,7 +9,6 @@ use Rattle.paging.specs.declared.entry.Entry.{Entry}
 use Rattle.paging.specs.Space.{Space}
 use Rattle.shadow_tables.specs.Aside.{Aside, AreSame}
 use Rattle.shadow_tables.specs.Entries.{entries_of}
-use Rattle.guest_ram.specs.Among.{is_among}
 use Rattle.shadow_tables.specs.Slots.{Slot, entry_in}
 use Rattle.step_mem.specs.Changes.{changed, page_of}
 use Rattle.step_mem.specs.declared.changes.Change.{Change}
@@ -23,33 +22,30 @@ use Rattle.machine_model.specs.Reloading.{Follows}
 use Rattle.machine_model.specs.Run.{Set}
 use Rattle.machine_model.specs.State.{Setting, State, space_at_start}
 use Rattle.machine_model.specs.Step.{Report, stepped, step_of}
+use Rattle.machine_model.proofs.TrackedSteps.{retained}
 use Rattle.native_steps.specs.Mirrors.{IsWedge, IsHost, shown}
 use Rattle.native_steps.proofs.Shown.{shown_length}
 use Rattle.wedge_mem.specs.Settled.{pages_of}
+use Rattle.wedge_mem.proofs.Filled.{not-second}
 use Rattle.wedge_step.specs.Ready.{IsReady, IsReadyBehind, leaving, is_all}
 use Rattle.wedge_step.specs.Standing.{ground}
 use Rattle.wedge_step.proofs.Behind.{IsStep, behind_ready}
-use Rattle.wedge_step.proofs.Parts.{dir_get}
-use Rattle.wedge_step.proofs.Bools.{clash, right_false}
+use Rattle.wedge_step.proofs.Bools.{clash}
 use Rattle.wedge_step.proofs.AmongPages.{changed_other}
 use Rattle.wedge_step.proofs.Boards.{none_given}
 
 -- ---- entries that a step leaves as they were
 
-not_among_later : (q : ℕ) (xs ys : List ℕ) → is_among q (xs ++ ys) ≡ false → is_among q ys ≡ false
-not_among_later q [] ys h = h
-not_among_later q (x ∷ xs) ys h = not_among_later q xs ys (right_false (q == x) (is_among q (xs ++ ys)) h)
-
 stays : (d : Dropped) (set : Set) (pages : List ℕ) (q : ℕ) → is_all d ≡ false → leaving d pages q ≡ false → get (dropping d set) q ≡ get set q
 stays dropped.Nothing set pages q a h = refl
 stays (dropped.Page page) set pages q a h = get_with_other set page None q (λ e. elim (eqb_tells q page) [ inl t ↦ clash (q == page) t.0 h | inr n ↦ n.1 e ])
-stays (dropped.Dir index) set pages q a h = dir_get set index q ∙ ap (λ (b : Bool). cond (not b) (get set q) None) h
+stays (dropped.Dir index) set pages q a h = retained set index q ∙ ap (λ (b : Bool). cond (not b) (get set q) None) h
 stays dropped.All set pages q a h = absurd (clash true refl a)
 
 -- an entry that it left, but for those that leave, was there or was left by its accesses
 kept_or_left : (d : Dropped) (base : Set) (visited : List ℕ) (cs : List Change) (first last : Set) → ((q : ℕ) → get base q ≡ get first q) → ((q : ℕ) → ForSome (get (dropping d (changed base cs)) q) (λ e. get last q ≡ Some e))
     → (page : ℕ) → leaving d (pages_of visited cs) page ≡ false → (e : Entry) → get (changed base cs) page ≡ Some e → (get first page ≡ Some e) ⊎ (get last page ≡ Some e)
-kept_or_left dropped.All base visited cs first last same left page out e is = inl (sym (changed_other base cs page (not_among_later page visited (map page_of cs) out) ∙ same page) ∙ is)
+kept_or_left dropped.All base visited cs first last same left page out e is = inl (sym (changed_other base cs page (not-second page visited (map page_of cs) out) ∙ same page) ∙ is)
 kept_or_left dropped.Nothing base visited cs first last same left page out e is = inr (left page e is)
 kept_or_left (dropped.Page gone) base visited cs first last same left page out e is = inr (left page e (stays (dropped.Page gone) (changed base cs) (pages_of visited cs) page refl out ∙ is))
 kept_or_left (dropped.Dir index) base visited cs first last same left page out e is = inr (left page e (stays (dropped.Dir index) (changed base cs) (pages_of visited cs) page refl out ∙ is))

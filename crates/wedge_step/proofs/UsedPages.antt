@@ -1,7 +1,6 @@
 -- How many pages a step may have used.
-use Rattle.std.proofs.Common.{◌≡◌, ℕ, zero, suc, ◌==◌, ◌+◌, ◌≤◌, ◌<◌, List, [], ◌∷◌, ◌++◌, length, take, take-suc, get_or, add-one, Bool, true, false, ◌&&◌, ◌||◌, not, cond, Option, inl, inr, refl, sym, ap, ◌∙◌, arith}
+use Rattle.std.proofs.Common.{◌≡◌, ℕ, ◌+◌, ◌≤◌, ◌<◌, List, [], ◌∷◌, length, take, take-suc, get_or, add-one, Bool, true, false, ◌&&◌, not, cond, Option, inl, inr, sym, ap, ◌∙◌, arith}
 use Rattle.std.proofs.lemmas.List.{take_all}
-use Rattle.std.proofs.lemmas.Bool.Decides.{eqb_tells}
 use Rattle.step_mem.specs.declared.changes.Change.{Change}
 use Rattle.std.specs.FinMap.{FinMap, get}
 use Rattle.std.specs.Ordering.{nat_cmp}
@@ -10,6 +9,7 @@ use Rattle.guest_ram.specs.Among.{is_among}
 use Rattle.shadow_tables.specs.Slots.{Slot}
 use Rattle.shadow_tables.specs.declared.words.Side.{Side}
 use Rattle.wedge_mem.specs.Settled.{has_entry, is_due, refilled}
+use Rattle.wedge_mem.proofs.Lists.{among-append}
 use Rattle.std.proofs.lemmas.Bool.{cases_Bool}
 
 used_by : (b : Bool) (page : ℕ) (rest pages : List ℕ) → length rest ≤ length pages → length (cond b (page ∷ rest) rest) ≤ length (page ∷ pages)
@@ -21,14 +21,6 @@ pub filled_few : (kept : ℕ → Option Slot) (set : FinMap nat_cmp Entry) (chan
 filled_few kept set changes side wp [] = omega arith
 filled_few kept set changes side wp (page ∷ pages) =
     used_by ((has_entry (get set page) && not (is_among page pages)) && is_due kept changes side wp page) page (refilled kept set changes side wp pages) pages (filled_few kept set changes side wp pages)
-
-among-append : (x : ℕ) (xs : List ℕ) (y : ℕ) → is_among x (xs ++ y ∷ []) ≡ true → is_among x xs ≡ false → x ≡ y
-among-append x [] y h e = elim (eqb_tells x y) [ inl t ↦ t.1 | inr n ↦ (let q = n.0 in absurd (let z : false ≡ true = sym (ap (λ b. b || false) q) ∙ h in cc)) ]
-among-append x (z ∷ xs) y h e =
-    elim (eqb_tells x z) [
-      | inl t ↦ (let q = t.0 in absurd (let f : true ≡ false = sym (ap (λ b. b || is_among x xs) q) ∙ e in cc))
-      | inr n ↦ among-append x xs y (sym (ap (λ b. b || is_among x (xs ++ y ∷ [])) n.0) ∙ h) (sym (ap (λ b. b || is_among x xs) n.0) ∙ e)
-    ]
 
 -- what holds of the pages before an index, and of the one there
 pub each_more : (test : ℕ → Bool) (xs : List ℕ) (i : ℕ) → i < length xs → test (get_or xs i 0) ≡ true → ((x : ℕ) → is_among x (take i xs) ≡ true → test x ≡ true) → (x : ℕ) → is_among x (take (i + 1) xs) ≡ true → test x ≡ true
@@ -45,16 +37,3 @@ each_all test xs i l all x h = all x (ap (is_among x) (take_all i xs l) ∙ h)
 
 pub each_none : (test : ℕ → Bool) (xs : List ℕ) → (x : ℕ) → is_among x (take 0 xs) ≡ true → test x ≡ true
 each_none test xs x h = absurd (let z : false ≡ true = h in cc)
-
--- the page at an index is one of them
-pub among_at : (xs : List ℕ) (i : ℕ) → i < length xs → is_among (get_or xs i 0) xs ≡ true
-among_at [] i l = absurd (omega (arith, l))
-among_at (x ∷ xs) zero l = ap (λ b. b || is_among x xs) (same x)
-  where
-    same : (n : ℕ) → (n == n) ≡ true
-    same n = elim (eqb_tells n n) [ inl t ↦ t.0 | inr n ↦ absurd (n.1 refl) ]
-among_at (x ∷ xs) (suc i) l = ap (λ b. (get_or xs i 0 == x) || b) (among_at xs i (omega (arith, l))) ∙ or_true (get_or xs i 0 == x)
-  where
-    or_true : (b : Bool) → (b || true) ≡ true
-    or_true true = refl
-    or_true false = refl

@@ -3,9 +3,10 @@ use Rattle.std.specs.FinMap.{get}
 use Rattle.shadow_tables.specs.Entries.{entries_of}
 use Rattle.guest_ram.specs.Among.{is_among}
 use Rattle.step_mem.specs.Changes.{changed, page_of}
+use Rattle.wedge_mem.proofs.Lists.{element-among}
 use Rattle.wedge_step.specs.Opened.{is_entry_open}
 use Rattle.wedge_step.proofs.AmongPages.{among_first, told_among}
-use Rattle.wedge_step.proofs.UsedPages.{each_more, each_all, each_none, among_at}
+use Rattle.wedge_step.proofs.UsedPages.{each_more, each_all, each_none}
 use Rattle.wedge_step.proofs.opened.are_open.Goals as goal
 
 pub loop-page-init : goal.loop-page-init
@@ -29,6 +30,6 @@ returns-then-not-is_entry_open-clause-barred g c = λ e.
     let pages = c.as_slice-page-items.result.now in
     let i = c.loop-page.page-index in (
       get_or pages i 0,
-      among_first (get_or pages i 0) c.args.state.now.visited (map page_of c.args.state.now.changes) (sym (ap (is_among (get_or pages i 0)) c.as_slice-page-items.ensures) ∙ among_at pages i c.loop-page-test.true),
+      among_first (get_or pages i 0) c.args.state.now.visited (map page_of c.args.state.now.changes) (sym (ap (is_among (get_or pages i 0)) c.as_slice-page-items.ensures) ∙ element-among pages i c.loop-page-test.true),
       ap (is_entry_open c.args.count c.args.side) (sym c.entry_of.ensures) ∙ (sym c.is_entry_open.ensures ∙ c.if-not-is_entry_open.true),
     )

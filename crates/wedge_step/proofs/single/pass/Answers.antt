@@ -1,5 +1,5 @@
 use Rattle.std.proofs.Common.{refl, ◌∙◌}
-use Rattle.wedge_step.proofs.Boards.{one_step}
+use Rattle.board.proofs.QuietSteps.{one_step}
 use Rattle.wedge_step.proofs.single.pass.Goals as goal
 
 pub returns-clause-cpu : goal.returns-clause-cpu
