@@ -7,7 +7,6 @@ pub mod Access
 pub mod Nothing
 pub mod Store
 pub mod HostStep
-pub mod Begun
 pub mod HostRun
 pub mod Reaches
 pub mod Hosts

@@ -1,6 +1,6 @@
 //! Reading the instruction at EIP.
 
-ghost use Rattle.std.specs.Prelude.{◌≡◌, ◌+◌, ◌*◌, ◌-◌, ◌/◌, ◌%◌, ◌<◌, ◌≤◌, ◌^◌, ◌++◌, length, IfOk, MatchResult};
+ghost use Rattle.std.specs.Prelude.{◌≡◌, ◌+◌, ◌*◌, ◌-◌, ◌/◌, ◌%◌, ◌<◌, ◌≤◌, ◌^◌, ◌++◌, length, IfOk, OnOk, Ok, Err, MatchResult};
 ghost use Rattle.host_cpl3.specs.Fetch.{fetching, fetched_on, fetched_by};
 ghost use Rattle.ia32_decode.specs.declared.answer.Decoded.TheVariants.{Short};
 ghost use Rattle.ia32_decode.specs.Spelled.{IsSpelled};
@@ -16,10 +16,9 @@ use ia32_types::LAST_PAGE;
 
 type Bytes = ArrayVec<u8, 32>;
 
-/// What begins at a linear address, where the bytes of its page are a proper prefix of a spelling: the second page is
-/// reached too.
+// Where the bytes of the first page are a proper prefix of a spelling, the second page is reached too.
 #[inline(never)]
-pub fn fetch_over(
+fn fetch_over(
     walks: &mut Walks,
     ram: &Ram,
     root: u32,
@@ -37,6 +36,36 @@ pub fn fetch_over(
         return Err(Exit::Wrap);
     }
     fetch_on(walks, ram, root, eip, front)
+}
+
+/// What begins at a linear address, from what the bytes of its page begin. That is what they begin, unless they are a
+/// proper prefix of a spelling: then the second page is reached too.
+#[inline(always)]
+pub fn fetch_whole(
+    walks: &mut Walks,
+    ram: &Ram,
+    root: u32,
+    eip: u32,
+    front: &[u8],
+    begun: &mut Decoded,
+) -> Result<(), Exit>
+    requires root { 4096 * root < length ram.now }
+    requires kept { AreKept walks.old ram.now root }
+    requires few { length front.now ≤ 11 }
+    requires spelled { IsSpelled begun.old }
+    ensures fetched { MatchResult result (λ _. fetched_by ram.now root eip front.now begun.old ≡ Ok begun.new)
+        (λ exit. fetched_by ram.now root eip front.now begun.old ≡ Err exit) }
+    ensures spelled { OnOk result (IsSpelled begun.new) }
+    ensures kept { AreKept walks.new ram.now root }
+{
+    match begun {
+        Decoded::Short => {
+            let whole = fetch_over(walks, ram, root, eip, front)?;
+            *begun = whole;
+            Ok(())
+        }
+        _ => Ok(()),
+    }
 }
 
 // With bytes of the second page too.

@@ -11,14 +11,12 @@ ghost use Rattle.host_cpl3.specs.Store.{all_stored};
 ghost use Rattle.host_cpl3.specs.Views.{selectors_of};
 ghost use Rattle.host_cpl3.specs.Pages.{byte_at};
 ghost use Rattle.host_cpl3.specs.Kept.{AreKept};
-ghost use Rattle.ia32_decode.specs.Spelled.{IsSpelled};
 ghost use Rattle.host_cpl3.specs.HostStep.{is_jump, exit_of, ended, finished, accessed, worked, host_step};
-ghost use Rattle.host_cpl3.specs.Begun.{begun};
 ghost use Rattle.host_cpl3.specs.Reaches.{IsReach, IsOf, IsWritten, Gives, completion, placed};
 
 use crate::bytes::Bytes;
 use crate::exit::{Ending, Exit};
-use crate::fetch::{fetch_over, fetching};
+use crate::fetch::{fetch_whole, fetching};
 use crate::permit::permitted;
 use crate::reach::Reach;
 use crate::reaching::{reach, segment_met};
@@ -37,7 +35,6 @@ fn is_jump(op: Op) -> bool
     matches!(op, Op::Jmp | Op::Jcc | Op::JumpTo)
 }
 
-#[inline(always)]
 fn ended(view: &View, op: Op, regs: &Regs) -> Ending
     ensures { completion result regs.now ≡ ended view.now op regs.now }
 {
@@ -57,7 +54,6 @@ fn exit_of(stop: Stop) -> Exit
     }
 }
 
-#[inline(always)]
 fn outcome(
     view: &View,
     ram: &Ram,
@@ -85,7 +81,6 @@ fn outcome(
 }
 
 // Writes, and forgets the walks whose tables it may have written.
-#[inline(always)]
 fn stored(walks: &mut Walks, ram: &mut Ram, root: u32, write: &Reach, stores: &Stores)
     requires stores { AreStored (IsWritten (length ram.old) write.now) stores.now }
     requires kept { AreKept walks.old ram.old root }
@@ -103,7 +98,6 @@ fn stored(walks: &mut Walks, ram: &mut Ram, root: u32, write: &Reach, stores: &S
 }
 
 // Both ranges are reached.
-#[inline(always)]
 fn finish(
     walks: &mut Walks,
     view: &View,
@@ -143,7 +137,6 @@ fn finish(
 }
 
 // Its ranges are to be reached.
-#[inline(always)]
 fn access(
     walks: &mut Walks,
     ram: &mut Ram,
@@ -168,9 +161,23 @@ fn access(
     finish(walks, view, ram, regs, insn, len, read, write)
 }
 
+// Its ranges, which cost no call where it works in registers alone.
+#[inline(always)]
+fn ranges_of(insn: &Insn, regs: &Regs) -> Ranges
+    ensures ranges { result ≡ ranges_of insn.now regs.now }
+    ensures short { IsShort result.read × IsShort result.write }
+{
+    if accesses_nothing(insn) {
+        return Ranges {
+            read: None,
+            write: None,
+        };
+    }
+    ranges(insn, regs)
+}
+
 // An instruction that was spelled.
 #[tactic(auto, unfolding(crate::specs::HostStep::worked))]
-#[inline(always)]
 fn work(
     walks: &mut Walks,
     ram: &mut Ram,
@@ -187,37 +194,10 @@ fn work(
     ensures kept { AreKept walks.new ram.new view.now.root }
 {
     permitted(insn)?;
-    if accesses_nothing(insn) {
-        let none = Reach::none();
-        return finish(walks, view, ram, regs, insn, len, none, none);
-    }
-    let ranges = ranges(insn, regs);
+    let ranges = ranges_of(insn, regs);
     segment_met(view, &ranges.read)?;
     segment_met(view, &ranges.write)?;
     access(walks, ram, view, regs, insn, len, &ranges)
-}
-
-// What was fetched from two pages.
-#[inline(never)]
-fn work_over(
-    walks: &mut Walks,
-    ram: &mut Ram,
-    view: &View,
-    regs: &mut Regs,
-    read: &Decoded,
-) -> Result<Ending, Exit>
-    requires root { 4096 * view.now.root < length ram.old }
-    requires kept { AreKept walks.old ram.old view.now.root }
-    requires spelled { IsSpelled read.now }
-    ensures gives { Gives result regs.old regs.new ram.old ram.new (begun view.now ram.old regs.old read.now) }
-    ensures len { length ram.new ≡ length ram.old }
-    ensures kept { AreKept walks.new ram.new view.now.root }
-{
-    match read {
-        Decoded::Insn(insn, len) => work(walks, ram, view, regs, insn, *len),
-        Decoded::Short => Err(Exit::Outside),
-        Decoded::Outside => Err(Exit::Outside),
-    }
 }
 
 /// Does the instruction at EIP, or exits before it. What lies in one page is decoded and done where it stands.
@@ -239,13 +219,11 @@ pub fn host_step(
         return Err(Exit::Entry(eip));
     }
     let front = fetching(walks, ram, view.root, eip, front_len(eip))?;
-    let begun = decode(front);
+    let mut begun = decode(front);
+    fetch_whole(walks, ram, view.root, eip, front, &mut begun)?;
     match &begun {
         Decoded::Insn(insn, len) => work(walks, ram, view, regs, insn, *len),
+        Decoded::Short => Err(Exit::Outside),
         Decoded::Outside => Err(Exit::Outside),
-        Decoded::Short => {
-            let whole = fetch_over(walks, ram, view.root, eip, front)?;
-            work_over(walks, ram, view, regs, &whole)
-        }
     }
 }
