@@ -1,6 +1,5 @@
 -- What accesses its operands alone, none of which is in memory, accesses nothing.
-use Rattle.std.proofs.Common.{◌≡◌, Bool, true, false, Option, Some, None, refl, arith}
-use Rattle.std.specs.Option.{option_or}
+use Rattle.std.proofs.Common.{◌≡◌, true, false, None, refl, arith}
 use Rattle.ia32_types.specs.declared.flags.Regs.{Regs}
 use Rattle.ia32_types.specs.declared.size.Size.{Size}
 use Rattle.ia32_types.specs.declared.size.Size.TheVariants.{Byte}
@@ -9,10 +8,9 @@ use Rattle.ia32_types.specs.declared.insn.Op.{Op}
 use Rattle.ia32_types.specs.declared.insn.Op.TheVariants.{Add, Or, Adc, Sbb, And, Sub, Xor, Not, Neg, Inc, Dec, Mov, Xchg, Cmp, Test, Imul, Rol, Ror, Shl, Shr, Sar, Mul, Div, Idiv, ImulBy, Movzx, Movsx, Setcc, Jcc, Jmp}
 use Rattle.ia32_types.specs.declared.insn.Operand.{Operand}
 use Rattle.ia32_types.specs.declared.insn.Operand.TheVariants.{Memory, Absent, Register, Segment, Control}
-use Rattle.ia32_exec.specs.declared.access.Range.{Range}
 use Rattle.ia32_exec.specs.declared.access.Ranges.{Ranges}
 use Rattle.ia32_exec.specs.Ranges.{operand_range}
-use Rattle.ia32_exec.specs.Effect.{reads, writes, ranges_row, ranges_of}
+use Rattle.ia32_exec.specs.Effect.{ranges_row, ranges_of}
 use Rattle.host_cpl3.specs.Nothing.{AccessesNothing, is_memory, is_by_operands}
 
 abbrev nothing : Ranges

@@ -1,4 +1,4 @@
-use Rattle.std.proofs.Common.{refl, ◌∙◌, sym}
+use Rattle.std.proofs.Common.{◌∙◌, sym}
 use Rattle.host_cpl3.proofs.Nothing.{accesses_none}
 use Rattle.host_cpl3.proofs.registers.accesses_nothing.Goals as goal
 
