@@ -1,5 +1,6 @@
 -- Taking the right to write from the words of a frame.
 use Rattle.std.proofs.Common.{◌≡◌, ◌≢◌, IsTrue, ℕ, zero, suc, ◌+◌, ◌-◌, ◌*◌, ◌/◌, ◌%◌, ◌^◌, ◌<◌, ◌≤◌, ◌⊎◌, List, [], ◌∷◌, length, Bool, true, false, ◌&&◌, ◌||◌, not, cond, eqb, Option, Some, None, refl, sym, ap, ◌∙◌, subst, inl, inr, arith}
+use Rattle.std.proofs.lemmas.Bool.{cases_lt}
 use Rattle.std.proofs.lemmas.Bool.Decides.{eqb_tells}
 use Rattle.frame_pool.specs.Held.{Holds, Writes}
 use Rattle.frame_pool.proofs.Held.{Writes-refl, Writes-trans, Holds-writes}
@@ -16,7 +17,7 @@ use Rattle.shadow_tables.specs.declared.words.Side.{Side}
 use Rattle.shadow_tables.specs.declared.words.Side.TheVariants.{Kernel, User}
 use Rattle.shadow_tables.specs.Laws.Views.{in-kernel, in-user, slot-same, Holds-along}
 use Rattle.shadow_tables.proofs.Fills.{by-none, by-user, by-kernel, roots-apart, slot-none, both}
-use Rattle.shadow_tables.proofs.Sweeps.{sweeps-none, sweeps-more, sweeps-over, sweeps-trans}
+use Rattle.shadow_tables.proofs.Sweeps.{sweeps-more, sweeps-over, sweeps-trans}
 
 -- ---- one word
 
@@ -232,14 +233,15 @@ module _ (s : Shadow) (m m1 m2 : List ℕ) (page frame : ℕ) (h : IsShadow s m)
 pub dir-none : (s : Shadow) (m : List ℕ) (index page : ℕ) → dir m s.kernel index ≡ 0 → dir m s.user index ≡ 0 → page / 1024 ≡ index → slot_at s m page ≡ None
 dir-none s m index page a b e = slot-none s m page (at-none m s.kernel page (ap (dir m s.kernel) e ∙ a)) (at-none m s.user page (ap (dir m s.user) e ∙ b))
 
+-- so it is of one index more
+pub none-more : (s : Shadow) (m : List ℕ) (first index : ℕ) → dir m s.kernel index ≡ 0 → dir m s.user index ≡ 0
+    → ((page : ℕ) → page < 2 ^ 20 → 1024 * first ≤ page → page < 1024 * index → slot_at s m page ≡ None)
+    → (page : ℕ) → page < 2 ^ 20 → 1024 * first ≤ page → page < 1024 * (index + 1) → slot_at s m page ≡ None
+none-more s m first index a b h page l low high =
+    elim (cases_lt page (1024 * index)) [ inl t ↦ h page l low t | inr t ↦ dir-none s m index page a b (omega (arith, t, high)) ]
+
 abbrev pub without : Shadow → List ℕ → ℕ → ℕ → Option Slot
 without s m frame page = barred (frame ∷ []) (slot_at s m page)
-
-pub bars-none : (s : Shadow) (m : List ℕ) (index frame : ℕ) → IsShadow s m → dir m s.kernel index ≡ 0 → dir m s.user index ≡ 0 → Sweeps s m m (1024 * index) (1024 * index + 1024) (without s m frame)
-bars-none s m index frame h a b =
-    sweeps-over s m m (1024 * index) (1024 * index) (1024 * index + 1024) (without s m frame) (sweeps-none s m (1024 * index) (without s m frame) h) (omega arith) (omega arith)
-    (λ page l x y. (
-    let n = dir-none s m index page a b (omega (arith, x, y)) in n ∙ sym (ap (barred (frame ∷ [])) n)))
 
 -- the table that a directory word names lies in the memory
 pub table-lies : (m : List ℕ) (r index w : ℕ) → IsView m r → index < 1024 → w ≡ dir m r index → w ≢ 0 → 4096 * (w / 4096) + 4096 ≤ length m
@@ -282,3 +284,7 @@ pub bars-trans : (s : Shadow) (m m1 m2 : List ℕ) (first n last frame : ℕ) �
 bars-trans s m m1 m2 first n last frame x y a b =
     sweeps-trans s m m1 m2 first n last (without s m frame) (without s m1 frame) x y a b
     (λ page l low high. ap (barred (frame ∷ [])) (a.others page l (λ p q. absurd (omega (arith, q, low)))))
+
+-- pages that aren't kept have no right to lose
+pub none-without : (s : Shadow) (m : List ℕ) (frame page : ℕ) → slot_at s m page ≡ None → slot_at s m page ≡ without s m frame page
+none-without s m frame page n = n ∙ sym (ap (barred (frame ∷ [])) n)

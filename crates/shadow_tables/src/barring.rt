@@ -1,6 +1,6 @@
 //! Taking the right to write from all pages of a frame.
 
-ghost use Rattle.std.specs.Prelude.{◌≡◌, ◌≢◌, ℕ, ◌+◌, ◌*◌, ◌/◌, ◌≤◌, ◌<◌, ◌^◌, List, [], ◌∷◌, false, length};
+ghost use Rattle.std.specs.Prelude.{◌≡◌, ◌≢◌, ℕ, ◌+◌, ◌*◌, ◌/◌, ◌≤◌, ◌<◌, ◌^◌, List, [], ◌∷◌, None, false, length};
 ghost use Rattle.frame_pool.specs.Held.{Holds, Writes};
 ghost use Rattle.shadow_views.specs.Tables.{at, by_dir, owned, IsIn, IsView, Puts};
 ghost use Rattle.shadow_tables.specs.Slots.{barred, barred_word, held, slot_at, IsShadow, Becomes, LosesWrites};
@@ -88,16 +88,29 @@ impl Shadow {
         ensures { Sweeps self.now ram.old ram.new (1024 * index) (1024 * index + 1024)
             (λ page. barred (frame ∷ []) (slot_at self.now ram.old page)) }
     {
-        let kernel = has_table(ram, self.root(Side::Kernel), index);
-        let user = has_table(ram, self.root(Side::User), index);
-        if !kernel && !user {
-            return;
-        }
         let mut word = self.next_to_bar(ram, index, frame, 0);
         while word < 1024 {
             self.bar_page(ram, 1024 * index + word, frame);
             word = self.next_to_bar(ram, index, frame, word + 1);
         }
+    }
+
+    /// The first directory index, from this one on, for which either view has a table; 1,024 where there is none.
+    fn next_opened(&self, ram: &Ram, from: u32) -> u32
+        requires shadow { IsShadow self.now ram.now }
+        requires from { from ≤ 1024 }
+        ensures behind { from ≤ result }
+        ensures within { result ≤ 1024 }
+        ensures none { (page : ℕ) → page < 2 ^ 20 → 1024 * from ≤ page → page < 1024 * result → slot_at self.now ram.now page ≡ None }
+    {
+        let kernel = self.root(Side::Kernel);
+        let user = self.root(Side::User);
+        for index in from..1024 {
+            if has_table(ram, kernel, index) || has_table(ram, user, index) {
+                return index;
+            }
+        }
+        1024
     }
 
     /// Takes the right to write from every page of this frame.
@@ -109,8 +122,10 @@ impl Shadow {
         ensures tables { KeepsTables self.now ram.old ram.new }
         ensures memory { Writes (held self.now ram.old) ram.old ram.new }
     {
-        for index in 0..1024 {
+        let mut index = self.next_opened(ram, 0);
+        while index < 1024 {
             self.bar_dir(ram, index, frame);
+            index = self.next_opened(ram, index + 1);
         }
     }
 }

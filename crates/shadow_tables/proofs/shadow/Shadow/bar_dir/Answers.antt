@@ -1,28 +1,7 @@
-use Rattle.std.proofs.Common.{◌≡◌, ℕ, ◌+◌, ◌*◌, ap, sym, ◌∙◌, subst, arith}
-use Rattle.shadow_views.specs.Tables.{dir, IsView}
-use Rattle.shadow_views.proofs.Changes.{IsView-from_Holds}
-use Rattle.shadow_tables.specs.Slots.{roots}
-use Rattle.shadow_tables.specs.Laws.Views.{in-kernel, in-user}
+use Rattle.std.proofs.Common.{ℕ, ◌+◌, ◌*◌, arith}
 use Rattle.shadow_tables.proofs.Sweeps.{sweeps-none}
-use Rattle.shadow_tables.proofs.Bars.{without, no-table, bars-none, bars-more, bars-over}
+use Rattle.shadow_tables.proofs.Bars.{without, bars-more, bars-over}
 use Rattle.shadow_tables.proofs.shadow.Shadow.bar_dir.Goals as goal
-
-pub has_table-kernel-requires-clause-view : goal.has_table-kernel-requires-clause-view
-has_table-kernel-requires-clause-view c =
-    let s = c.args.self.now in
-    subst (IsView c.args.ram.now) (sym c.root.ensures) (IsView-from_Holds c.args.ram.now (roots s) s.kernel c.requires.shadow.holds (in-kernel s))
-
-pub has_table-user-requires-clause-view : goal.has_table-user-requires-clause-view
-has_table-user-requires-clause-view c =
-    let s = c.args.self.now in
-    subst (IsView c.args.ram.now) (sym c.root-2.ensures) (IsView-from_Holds c.args.ram.now (roots s) s.user c.requires.shadow.holds (in-user s))
-
-pub returns-then-not-user : goal.returns-then-not-user
-returns-then-not-user c =
-    let s = c.args.self.now in let m = c.args.ram.now in
-    let k : dir m s.kernel c.args.index ≡ 0 = ap (λ r. dir m r c.args.index) (sym c.root.ensures) ∙ no-table c.has_table-kernel.result (dir m c.root.result c.args.index) c.has_table-kernel.ensures c.if-not-kernel.true in
-    let u : dir m s.user c.args.index ≡ 0 = ap (λ r. dir m r c.args.index) (sym c.root-2.ensures) ∙ no-table c.has_table-user.result (dir m c.root-2.result c.args.index) c.has_table-user.ensures c.if-not-user.true in
-    bars-none s m c.args.index c.args.frame c.requires.shadow k u
 
 pub loop-word-init : goal.loop-word-init
 loop-word-init c =
