@@ -1,13 +1,8 @@
 //! A slice of a patched run.
 
-ghost use Rattle.std.specs.Prelude.{◌≡◌, ◌+◌, ◌-◌, ◌*◌, ◌≤◌, ◌<◌, ◌^◌, true, false, OnOk, OnErr};
+ghost use Rattle.std.specs.Prelude.{◌≡◌, ◌+◌, ◌-◌, ◌*◌, ◌≤◌, ◌<◌, ◌^◌, true, false};
 ghost use Rattle.board.specs.Scripts.{is_script};
 ghost use Rattle.machine_model.specs.State.{wedge};
-ghost use Rattle.machine_model.specs.Step.{items_at};
-ghost use Rattle.machine_step.specs.Worked.{whats};
-ghost use Rattle.pv_io.specs.Causes.{Rose};
-ghost use Rattle.pv_io.specs.Sink.{Appends, AppendsFront};
-ghost use Rattle.run_trace.specs.Text.{lines_of};
 ghost use Rattle.wedge_step.specs.Leaves.{IsBetween};
 ghost use Rattle.wedge_step.specs.Scene.{scene};
 ghost use Rattle.wedge_step.specs.Standing.{IsAble};
@@ -21,11 +16,11 @@ use board::Script;
 use frame_pool::Pool;
 use host_cpl3::Host;
 use image_check::Checked;
-use machine_step::{Seen, items_of};
+use machine_step::{first_state, put_seen};
 use pv_io::{Failed, Sink};
-use run_trace::{Notes, Pause, put_step};
+use run_trace::{Notes, Pause};
 use shadow_cache::Reloads;
-use wedge_step::{Running, carry_laws, first_state, original};
+use wedge_step::{Running, carry_laws, original};
 
 /// Steps up to a count of steps, or to a stop. The lines of a step go to the sink at its end. Before which steps all
 /// translations were dropped is told, where notes are wanted; then no translations are kept for another value of CR3.
@@ -83,14 +78,4 @@ pub fn steps_to<S: Reloads + Drop, H: Host, O: Sink, L: Notes>(
         rest(running, script, bound);
     }
     Ok(Pause::Reached)
-}
-
-/// Puts the lines of what a step let be seen.
-fn put_seen<O: Sink>(step: u64, seen: Seen, out: &mut O) -> Result<(), Failed>
-    ensures ok { OnOk result (Appends (O.taken out.old) (O.taken out.new) (lines_of (items_at step (whats seen)))) }
-    ensures failed { OnErr result (AppendsFront (O.taken out.old) (O.taken out.new) (lines_of (items_at step (whats seen)))) }
-    ensures later { O.faults out.old ≤ O.faults out.new }
-    ensures cause { OnErr result (Rose (O.faults out.old) (O.faults out.new)) }
-{
-    put_step(&items_of(step, seen), out)
 }

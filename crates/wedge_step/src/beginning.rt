@@ -14,8 +14,8 @@ use descriptors::Cpu;
 use guest_ram::Ram;
 use ia32_types::TEXT_FRAME;
 use image_check::Checked;
-use machine_step::begin_again;
-use step_mem::{Control, Guard, Kept, Own, StepState, Text};
+use machine_step::{NO_BYTES, begin_again};
+use step_mem::{Guard, Kept, StepState, Text};
 
 /// The text as the guest sees it.
 pub fn original(image: &Checked) -> Text<'_>
@@ -28,25 +28,6 @@ pub fn original(image: &Checked) -> Text<'_>
         count: text_frames(image),
         bytes: image.text(),
     }
-}
-
-/// What is an instruction's own before it is fetched: no byte.
-const NOT_YET: Own = Own {
-    front: 0,
-    front_len: 0,
-    back: 0,
-    back_len: 0,
-};
-
-/// A state whose place the first step's takes.
-pub fn first_state<'t>(text: &'t Option<Text<'t>>) -> StepState<'t> {
-    let control = Control {
-        frames: 0,
-        cr3: 0,
-        pse: false,
-        wp: false,
-    };
-    StepState::new(control, Guard { text, own: NOT_YET })
 }
 
 /// A step over this image's text begins, in the place of an earlier one: none of its accesses is done yet.
@@ -73,6 +54,9 @@ pub fn begin_over<'t, B: Kept>(
     ensures hides { (n : ℕ) (memory : List ℕ) → hidden state.new.guard n memory ≡ beyond 256 (text_pages image.now) n memory }
     ensures lays { (n : ℕ) (memory : List ℕ) → shown state.new.guard n memory ≡ laid image.now.text 256 n memory }
 {
-    let guard = Guard { text, own: NOT_YET };
+    let guard = Guard {
+        text,
+        own: NO_BYTES,
+    };
     begin_again(cpu, ram, kept, frames, guard, state);
 }

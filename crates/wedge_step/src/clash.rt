@@ -25,7 +25,7 @@ ghost use Rattle.wedge_step.specs.Clashing.{looked, AreIn, marks_of, seen_of, be
 ghost use Rattle.wedge_step.specs.Looked.{bytes_of, ground_of, looked_at, set_at};
 ghost use Rattle.wedge_step.specs.Standing.{ground};
 
-use crate::looking::{Bytes, Seen, fetched, fetched_next, read};
+use crate::looking::{Seen, fetched, fetched_next, read};
 use crate::sight::{GuestView, are_bytes};
 use arrayvec::ArrayVec;
 use descriptors::{Cpu, by_level};
@@ -34,6 +34,7 @@ use ia32_decode::{Decoded, LONGEST, decode, front_len};
 use ia32_exec::{Range, ranges};
 use ia32_types::{Insn, LAST_PAGE, PAGES};
 use image_check::Checked;
+use machine_step::Bytes;
 use native_steps::uses_are_seen;
 use paging::{Access, allows};
 use shadow_tables::Shadows;

@@ -12,7 +12,7 @@ mod running;
 mod sight;
 mod single;
 
-pub use beginning::{begin_over, first_state, original};
+pub use beginning::{begin_over, original};
 pub use carrying::{carry_laws, known_laws};
 pub use clash::clashes;
 pub use running::{Lost, Running};

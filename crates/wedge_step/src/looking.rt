@@ -16,17 +16,14 @@ ghost use Rattle.wedge_step.specs.Looked.{bytes_of, ground_of, looked_at, set_at
 use crate::opened::{is_given, is_text};
 use crate::sight::{GuestView, are_bytes, byte, walk};
 use crate::single::text_frames;
-use arrayvec::ArrayVec;
 use descriptors::{Cpu, by_level};
 use ia32_decode::front_len;
 use ia32_types::TEXT_FRAME;
 use image_check::Checked;
+use machine_step::{Bytes, append};
 use native_steps::uses_are_seen;
 use paging::{Access, Walk, allows, grants};
 use shadow_tables::Shadows;
-
-/// The bytes that a fetch finds.
-pub type Bytes = ArrayVec<u8, 32>;
 
 /// The places of the two bytes in which a walk sets the accessed flag.
 #[derive(Clone, Copy)]
@@ -206,16 +203,6 @@ fn unmarked<'a>(
                 plain(view, 4096 * seen.frame + at % 4096, len)
             }
         },
-    }
-}
-
-fn append(from: &[u8], to: &mut Bytes)
-    requires { length to.old.items + length from.now ≤ 32 }
-    ensures { to.new.items ≡ to.old.items ++ from.now }
-{
-    match to.try_extend_from_slice(from) {
-        Ok(()) => {}
-        Err(_) => unreachable!(),
     }
 }
 
