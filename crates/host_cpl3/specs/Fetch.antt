@@ -1,6 +1,7 @@
 -- The instruction at EIP.
 use Rattle.std.specs.Prelude.{ℕ, ◌+◌, ◌*◌, ◌/◌, ◌%◌, List, ◌++◌, ◌==◌, false, Ok, Err, if◌then◌else◌}
 use Rattle.guest_ram.specs.Bytes.{part}
+use Rattle.ia32_types.specs.declared.addresses.TheConstants.{LAST_PAGE}
 use Rattle.ia32_types.specs.declared.insn.Insn.{Insn}
 use Rattle.ia32_decode.specs.declared.answer.Decoded.{Decoded}
 use Rattle.ia32_decode.specs.declared.answer.Decoded.TheVariants as begins
@@ -26,7 +27,7 @@ fetched_on m root eip front = do
 abbrev pub fetched_by : List ℕ → ℕ → ℕ → List ℕ → Decoded → Met Decoded
 fetched_by m root eip front (begins.Insn insn len) = gives (begins.Insn insn len)
 fetched_by m root eip front begins.Outside = gives begins.Outside
-fetched_by m root eip front begins.Short = if eip / 4096 == 0xFFFFF then Err exits.Wrap else fetched_on m root eip front
+fetched_by m root eip front begins.Short = if eip / 4096 == LAST_PAGE then Err exits.Wrap else fetched_on m root eip front
 
 unfoldable pub fetched : List ℕ → ℕ → ℕ → Met Decoded
 fetched m root eip = do

@@ -1,5 +1,6 @@
 -- What a view lets its code see. The windows and the limit are the profile's.
 use Rattle.std.specs.Prelude.{ℕ, Bool, false, nat_le, nat_lt, ◌&&◌}
+use Rattle.ia32_types.specs.declared.addresses.TheConstants.{DATA_ADDRESS, WINDOW_ADDRESS, WINDOW_END}
 use Rattle.ia32_types.specs.declared.register.Seg.{Seg}
 use Rattle.ia32_types.specs.declared.register.Seg.TheVariants.{Es, Ss, Ds}
 use Rattle.ia32_exec.specs.declared.selectors.Selectors.{Selectors}
@@ -17,15 +18,15 @@ is_null v _ = false
 
 -- the wedge window of linear addresses
 abbrev pub is_window : ℕ → Bool
-is_window at = nat_le 0x04000000 at && nat_lt at 0x06000000
+is_window at = nat_le WINDOW_ADDRESS at && nat_lt at WINDOW_END
 
 -- in the kernel view an instruction there isn't done by the host
 abbrev pub is_entry : View → ℕ → Bool
 is_entry v at = v.kernel && is_window at
 
--- in the kernel view SS, DS and ES expand down to 0x11000000
+-- in the kernel view SS, DS and ES expand down to where the data begins
 abbrev pub is_past_limit : View → ℕ → Bool
-is_past_limit v at = v.kernel && nat_lt at 0x11000000
+is_past_limit v at = v.kernel && nat_lt at DATA_ADDRESS
 
 -- the general protection fault without a selector
 abbrev pub protection : Exit
