@@ -1,12 +1,15 @@
 //! What schedules say.
 
-use crate::{ScheduleCause, ScheduleFault, Slice, read_schedule};
+use crate::{ScheduleCause, ScheduleFault, read_schedule};
 use std::alloc::Global;
 use std::process::Abort;
 
-fn says(rt: &impl Abort, alloc: Global, text: &[u8], want: &[Slice]) {
+fn says(rt: &impl Abort, alloc: Global, text: &[u8], want: &[(u8, u64)]) {
     let schedule = read_schedule(alloc, text, 2).expect(rt, "a schedule");
-    assert_eq!(rt; schedule.list.as_slice(), want);
+    assert_eq!(rt; schedule.list.len(), want.len());
+    for (slice, (kernel, steps)) in schedule.list.iter().zip(want) {
+        assert_eq!(rt; (slice.kernel, slice.steps), (*kernel, *steps));
+    }
 }
 
 fn refused(rt: &impl Abort, alloc: Global, text: &[u8], line: u64, cause: ScheduleCause) {
@@ -18,63 +21,42 @@ fn refused(rt: &impl Abort, alloc: Global, text: &[u8], line: u64, cause: Schedu
     }
 }
 
+/// Texts, and the slices that each says: kernel and steps.
+static READ: [(&[u8], &[(u8, u64)]); 4] = [
+    (b"", &[]),
+    (b"0 3\n# a comment\n\n1 8\n", &[(0, 3), (1, 8)]),
+    (b"0 3\n1 8", &[(0, 3), (1, 8)]),
+    (b"0 1099511627776\n1 1\n", &[(0, 1 << 40), (1, 1)]),
+];
+
 #[test]
 fn schedules_have_their_form(rt: HostRuntime) {
     let alloc = rt.alloc();
-    let first = Slice {
-        kernel: 0,
-        steps: 3,
-    };
-    let second = Slice {
-        kernel: 1,
-        steps: 8,
-    };
-    says(&rt, alloc, b"", &[]);
-    says(&rt, alloc, b"0 3\n# a comment\n\n1 8\n", &[first, second]);
-    says(&rt, alloc, b"0 3\n1 8", &[first, second]);
-    refused(&rt, alloc, b"2 5\n", 1, ScheduleCause::BadNumber);
-    refused(&rt, alloc, b"0 3\n0  3\n", 2, ScheduleCause::NoForm);
-    refused(&rt, alloc, b"\n0 3 \n", 2, ScheduleCause::NoForm);
-    refused(&rt, alloc, b"0 3\r\n", 1, ScheduleCause::NoForm);
-    refused(&rt, alloc, b"00 3\n", 1, ScheduleCause::BadNumber);
-    refused(&rt, alloc, b"0 03\n", 1, ScheduleCause::BadNumber);
-    refused(&rt, alloc, b"0 0\n", 1, ScheduleCause::BadNumber);
-    says(
-        &rt,
-        alloc,
-        b"0 1099511627776\n1 1\n",
-        &[
-            Slice {
-                kernel: 0,
-                steps: 1 << 40,
-            },
-            Slice {
-                kernel: 1,
-                steps: 1,
-            },
-        ],
-    );
-    refused(
-        &rt,
-        alloc,
-        b"0 1099511627777\n",
-        1,
-        ScheduleCause::BadNumber,
-    );
-    refused(
-        &rt,
-        alloc,
-        b"0 1099511627776\n1 4\n0 1\n",
-        3,
-        ScheduleCause::BadNumber,
-    );
-    refused(
-        &rt,
-        alloc,
-        b"0 99999999999999999999999\n",
-        1,
-        ScheduleCause::BadNumber,
-    );
+    for (text, slices) in &READ {
+        says(&rt, alloc, text, slices);
+    }
+}
+
+/// Texts, and the line and the cause by which each is refused.
+static REFUSED: [(&[u8], u64, ScheduleCause); 10] = [
+    (b"2 5\n", 1, ScheduleCause::BadNumber),
+    (b"0 3\n0  3\n", 2, ScheduleCause::NoForm),
+    (b"\n0 3 \n", 2, ScheduleCause::NoForm),
+    (b"0 3\r\n", 1, ScheduleCause::NoForm),
+    (b"00 3\n", 1, ScheduleCause::BadNumber),
+    (b"0 03\n", 1, ScheduleCause::BadNumber),
+    (b"0 0\n", 1, ScheduleCause::BadNumber),
+    (b"0 1099511627777\n", 1, ScheduleCause::BadNumber),
+    (b"0 1099511627776\n1 4\n0 1\n", 3, ScheduleCause::BadNumber),
+    (b"0 99999999999999999999999\n", 1, ScheduleCause::BadNumber),
+];
+
+#[test]
+fn schedules_of_another_form_are_refused(rt: HostRuntime) {
+    let alloc = rt.alloc();
+    for (text, line, cause) in &REFUSED {
+        refused(&rt, alloc, text, *line, *cause);
+    }
 }
 
 /// As many lines of one slice.
