@@ -4,6 +4,7 @@ use Rattle.std.specs.Prelude.{nat_lt}
 use Rattle.std.proofs.lemmas.Bool.{cases_lt, cond-true, le-leb, lt-ltb}
 use Rattle.descriptors.specs.Controls.{wp_of}
 use Rattle.guest_ram.specs.Bytes.{part}
+use Rattle.ia32_types.specs.declared.addresses.TheConstants.{WINDOW_ADDRESS, WINDOW_END}
 use Rattle.ia32_types.specs.declared.flags.Regs.{Regs}
 use Rattle.ia32_types.specs.declared.insn.Insn.{Insn}
 use Rattle.ia32_types.specs.declared.insn.Op.TheVariants as op
@@ -39,11 +40,11 @@ pub record IsSite (m : Setting) (at : ℕ) : Type 0 where
   pub jump : (more : List ℕ) → decoded (part (patched m.image.text 0 m.image.sites) at 5 ++ more) ≡ begins.Insn jump_out 5
   pub cut : (n : ℕ) → n < 5 → decoded (part (patched m.image.text 0 m.image.sites) at n) ≡ begins.Short
   pub leads : ((linear at + 5) % 2 ^ 32 + jump_out.imm) % 2 ^ 32 ≡ window_at at
-  pub low : 0x04000000 ≤ window_at at
-  pub high : window_at at ≤ 0x05FFFFFF
+  pub low : WINDOW_ADDRESS ≤ window_at at
+  pub high : window_at at < WINDOW_END
 
-in_window : (at : ℕ) → 0x04000000 ≤ at → at ≤ 0x05FFFFFF → is_window at ≡ true
-in_window at low high = ap (λ b. b && nat_lt at 100663296) (le-leb 67108864 at low) ∙ lt-ltb at 100663296 (omega (arith, high))
+in_window : (at : ℕ) → WINDOW_ADDRESS ≤ at → at < WINDOW_END → is_window at ≡ true
+in_window at low high = ap (λ b. b && nat_lt at WINDOW_END) (le-leb WINDOW_ADDRESS at low) ∙ lt-ltb at WINDOW_END high
 
 module _ (m : Setting) (w : IsWedge m) (memory : List ℕ) (v : View) (b : State) (stands : Mirrors m memory v b) (lends : Lends m memory v.root v.kernel (wp_of b.cpu) b.set)
     (kernel : v.kernel ≡ true) (at : ℕ) (place : b.cpu.regs.eip ≡ 0x10000000 + at) (site : IsSite m at)

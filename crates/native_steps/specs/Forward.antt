@@ -2,6 +2,7 @@
 use Rattle.std.specs.Prelude.{◌≡◌, ℕ, ◌+◌, ◌-◌, ◌*◌, ◌^◌, ◌≤◌, ◌<◌, List, [], length, drop, Bool, true, false, Some, None, Ok}
 use Rattle.descriptors.specs.Controls.{wp_of}
 use Rattle.guest_ram.specs.Bytes.{frame}
+use Rattle.ia32_types.specs.declared.addresses.TheConstants.{TEXT_ADDRESS}
 use Rattle.ia32_types.specs.declared.flags.Regs.{Regs}
 use Rattle.paging.specs.Fresh.{has}
 use Rattle.board.specs.Boards.{board_step}
@@ -24,9 +25,9 @@ use Rattle.machine_model.specs.Counts.{is_direct}
 
 -- the linear address is that of a way into the text
 pub record IsEntrance (image : Image) (eip : ℕ) : Type 0 where
-  pub above : 0x10000000 ≤ eip
+  pub above : TEXT_ADDRESS ≤ eip
   pub start : is_start image eip ≡ true
-  pub way_in : IsWayIn image (eip - 0x10000000)
+  pub way_in : IsWayIn image (eip - TEXT_ADDRESS)
 
 -- The processor is about to do an instruction: it isn't halted and takes no interrupt. At level 0 the instruction is
 -- one of the text, outside sites.
@@ -35,7 +36,7 @@ pub record IsNext (m : Setting) (kernel : Bool) (b : State) : Type 0 where
   pub quiet : step.interrupt_of b.cpu b.board ≡ None
   pub small : kernel ≡ false → b.cpu.regs.eip < 2 ^ 32
   pub start : kernel ≡ true → is_start m.image b.cpu.regs.eip ≡ true
-  pub outside : kernel ≡ true → site_at m.image.sites (b.cpu.regs.eip - 0x10000000) ≡ None
+  pub outside : kernel ≡ true → site_at m.image.sites (b.cpu.regs.eip - TEXT_ADDRESS) ≡ None
 
 -- The guest's step goes, with nothing seen and no walk. Its instruction counts, loads no CR3, and leaves these registers and, over
 -- this memory, the guest's. Nothing else changes but the board, and that a hold ends; IF stays. Of the host's memory nothing behind the
@@ -83,6 +84,6 @@ abbrev pub AtSites : Type 0
 AtSites =
     (m : Setting) (memory : List ℕ) (v : View) (b : State)
     → IsWedge m → Mirrors m memory v b → Lends m memory v.root v.kernel (wp_of b.cpu) b.set → v.kernel ≡ true
-    → (site : Site) → 0x10000000 ≤ b.cpu.regs.eip → site_at m.image.sites (b.cpu.regs.eip - 0x10000000) ≡ Some site → site.at ≡ b.cpu.regs.eip - 0x10000000
+    → (site : Site) → TEXT_ADDRESS ≤ b.cpu.regs.eip → site_at m.image.sites (b.cpu.regs.eip - TEXT_ADDRESS) ≡ Some site → site.at ≡ b.cpu.regs.eip - TEXT_ADDRESS
     → (done : Completion) (after_memory : List ℕ) → host_step v memory b.cpu.regs ≡ Ok (done, after_memory)
     → (done ≡ Entered (record b.cpu.regs { eip = window_at site.at })) × (after_memory ≡ memory)

@@ -4,6 +4,7 @@ use Rattle.std.specs.List.{Contains}
 use Rattle.std.specs.Option.{ForSome}
 use Rattle.std.specs.FinMap.{FinMap, get}
 use Rattle.std.specs.Ordering.{nat_cmp}
+use Rattle.ia32_types.specs.declared.addresses.TheConstants.{DATA_PAGE}
 use Rattle.paging.specs.declared.entry.Entry.{Entry}
 use Rattle.paging.specs.Fresh.{allows}
 use Rattle.paging.specs.Reached.{reached}
@@ -12,10 +13,10 @@ use Rattle.image_check.specs.Image.{Image}
 use Rattle.machine_model.specs.State.{Setting, wedge_mode}
 
 -- Where a page may lead. On the user's side: to a frame that holds no text. On the kernel's side: a page of the text
--- window to the frame that the loader gave it, and a page from 0x11000 on to a frame that holds no text.
+-- window to the frame that the loader gave it, and a page from the first of the data on to a frame that holds no text.
 abbrev pub IsOpen : Bool → Image → ℕ → ℕ → Type 0
 IsOpen false image page frame = is_text (wedge_mode image) frame ≡ false
-IsOpen true image page frame = (is_given (wedge_mode image) page frame ≡ true) ⊎ ((0x11000 ≤ page) × (is_text (wedge_mode image) frame ≡ false))
+IsOpen true image page frame = (is_given (wedge_mode image) page frame ≡ true) ⊎ ((DATA_PAGE ≤ page) × (is_text (wedge_mode image) frame ≡ false))
 
 -- the set has an entry of the page, with this frame, that lets the access of this side pass
 pub record IsLent (m : Setting) (kernel wp : Bool) (set : FinMap nat_cmp Entry) (write : Bool) (page frame : ℕ) : Type 0 where

@@ -6,6 +6,7 @@ use Rattle.std.specs.List.{list_any, All}
 use Rattle.std.specs.FinMap.{get}
 use Rattle.guest_ram.specs.Among.{is_among}
 use Rattle.guest_ram.specs.Bytes.{AreBytes, byte, part, with_byte}
+use Rattle.ia32_types.specs.declared.addresses.TheConstants.{LAST_PAGE}
 use Rattle.ia32_types.specs.declared.insn.Insn.{Insn}
 use Rattle.ia32_decode.specs.declared.answer.Decoded.{Decoded}
 use Rattle.ia32_decode.specs.declared.answer.Decoded.TheVariants as begins
@@ -86,7 +87,7 @@ abbrev pub uses_behind : Setting → State → Seen → List ℕ → Decoded →
 uses_behind m b x front (begins.Insn insn len) = fetch_uses b (b.cpu.regs.eip / 4096 ∷ []) ++ range_uses b (begins.Insn insn len)
 uses_behind m b x front begins.Outside = fetch_uses b (b.cpu.regs.eip / 4096 ∷ [])
 uses_behind m b x front begins.Short =
-    if b.cpu.regs.eip / 4096 == 0xFFFFF then fetch_uses b (b.cpu.regs.eip / 4096 ∷ []) else uses_on b (marked b.ram x.marks) front (next_seen m b x)
+    if b.cpu.regs.eip / 4096 == LAST_PAGE then fetch_uses b (b.cpu.regs.eip / 4096 ∷ []) else uses_on b (marked b.ram x.marks) front (next_seen m b x)
 
 abbrev pub uses_from : Setting → State → Option Seen → List Use
 uses_from m b None = fetch_uses b (b.cpu.regs.eip / 4096 ∷ [])

@@ -1,6 +1,7 @@
 -- What the guest's state is over the host's memory, its registers and the view.
 use Rattle.std.specs.Prelude.{◌≡◌, ℕ, ◌+◌, ◌*◌, ◌≤◌, List, length, take, Bool, true, false}
 use Rattle.guest_ram.specs.Bytes.{part, with_part}
+use Rattle.ia32_types.specs.declared.addresses.TheConstants.{TEXT_FRAME, TEXT_PLACE}
 use Rattle.descriptors.specs.declared.cpu.Cpu.{Cpu}
 use Rattle.sites.specs.Patched.{patched}
 use Rattle.image_check.specs.Accepts.{IsAccepted}
@@ -14,16 +15,16 @@ use Rattle.machine_model.specs.Rules.{is_open}
 pub record IsWedge (m : Setting) : Type 0 where
   pub mode : m.mode ≡ wedge_mode m.image
   pub accepted : IsAccepted m.image
-  pub room : 0x100 + text_pages m.image ≤ m.frames
+  pub room : TEXT_FRAME + text_pages m.image ≤ m.frames
 
 -- the guest's memory: the front of the host's, with the text as it was before it was patched
 unfoldable pub shown : Setting → List ℕ → List ℕ
-shown m memory = with_part (take (4096 * m.frames) memory) 0x100000 m.image.text
+shown m memory = with_part (take (4096 * m.frames) memory) TEXT_PLACE m.image.text
 
 -- the host's memory has the guest's frames at its front, and in them the patched text
 pub record IsHost (m : Setting) (memory : List ℕ) : Type 0 where
   pub room : 4096 * m.frames ≤ length memory
-  pub text : part memory 0x100000 (length m.image.text) ≡ patched m.image.text 0 m.image.sites
+  pub text : part memory TEXT_PLACE (length m.image.text) ≡ patched m.image.text 0 m.image.sites
 
 -- the level of the view's side
 abbrev pub IsLevelOf : Bool → ℕ → Type 0
