@@ -1,7 +1,7 @@
 -- What a tagged sink's inner sink has taken, line by line.
 use Rattle.std.proofs.Common.{◌≡◌, ℕ, ◌+◌, ◌-◌, ◌≤◌, Bool, true, false, List, [], ◌∷◌, ◌++◌, Option, Some, None, length, take, drop, refl, ap, sym, subst, ◌∙◌, arith, Result, Ok, Err, length-append}
 use Rattle.std.proofs.Math.Seq.{take-append_seam}
-use Rattle.std.proofs.lemmas.List.{append_assoc, take-append-drop}
+use Rattle.std.proofs.lemmas.List.{append-nil, append_assoc, length-drop, take_all, take-append-drop}
 use Rattle.std.specs.Prelude.{OnErr, OnOk, not, is_err, if◌then◌else◌}
 use Rattle.pv_io.specs.declared.answer.Failed.{Failed}
 use Rattle.pv_io.specs.Causes.{Rose}
@@ -99,6 +99,23 @@ fails_in name name' tag tag' faults faults' was was' text mid all done bytes res
       whole = append_assoc done (take n rest) (drop n rest) ∙ ap (λ (z : List ℕ). done ++ z) (take-append-drop n rest) ∙ bytes_is;
       taken = ap (λ (z : List ℕ). Some (told name tag faults was z)) (all_is ∙ ap (λ (z : List ℕ). z ++ take n rest) mid_is ∙ append_assoc text done (take n rest)) ∙ ap (λ (z : List ℕ). Some z) (told_more name tag faults was text (done ++ take n rest));
     })
+
+-- and where none fails: all of the bytes were given
+pub all_in : (name name' : ℕ) (tag tag' : List ℕ) (faults faults' : ℕ) (was was' : Option (List ℕ)) (text mid done bytes rest : List ℕ) →
+    name' ≡ name → tag' ≡ tag → faults' ≡ faults → was' ≡ was → mid ≡ text ++ done → done ++ rest ≡ bytes → rest ≡ [] →
+    Some (told name' tag' faults' was' mid) ≡ Some (told name tag faults was text ++ bytes)
+all_in name name' tag tag' faults faults' was was' text mid done bytes rest name_is tag_is faults_is was_is mid_is bytes_is none =
+    let whole : done ≡ bytes = sym (append-nil done) ∙ ap (λ (z : List ℕ). done ++ z) (sym none) ∙ bytes_is in
+    rw (name_is, tag_is, faults_is, was_is)
+    (ap (λ (z : List ℕ). Some (told name tag faults was z)) (mid_is ∙ ap (λ (z : List ℕ). text ++ z) whole) ∙ ap (λ (z : List ℕ). Some z) (told_more name tag faults was text bytes))
+
+-- the lines so far and one more, and what is left
+pub goes_on : (done bytes rest : List ℕ) (len n : ℕ) → len ≡ n → done ++ rest ≡ bytes → (done ++ take n rest) ++ take (length rest - len) (drop len rest) ≡ bytes
+goes_on done bytes rest len n len_is whole =
+    append_assoc done (take n rest) (take (length rest - len) (drop len rest))
+    ∙ ap (λ (z : List ℕ). done ++ z)
+    (ap (λ (z : List ℕ). take n rest ++ z) (take_all (length rest - len) (drop len rest) (omega (arith, length-drop len rest)) ∙ ap (λ (k : ℕ). drop k rest) len_is) ∙ take-append-drop n rest)
+    ∙ whole
 
 -- two lists that begin so are told apart
 split_at : (xs zs ys ws : List ℕ) → length xs ≡ length zs → xs ++ ys ≡ zs ++ ws → (xs ≡ zs) × (ys ≡ ws)

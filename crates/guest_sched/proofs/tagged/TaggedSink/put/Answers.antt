@@ -1,7 +1,10 @@
-use Rattle.std.proofs.Common.{◌∙◌}
+use Rattle.std.proofs.Common.{◌≡◌, ◌++◌, ℕ, List, [], ◌∷◌, length, take, refl, ap, sym, ◌∙◌, arith}
+use Rattle.std.specs.Prelude.{◌==◌, true}
+use Rattle.std.proofs.lemmas.Bool.{eqb-true}
+use Rattle.std.proofs.lemmas.List.{append_assoc}
 use Rattle.std.proofs.lemmas.Result.{err_from_is_err_and}
 use Rattle.guest_sched.specs.Tags.{line_len}
-use Rattle.guest_sched.proofs.Takes.{fails_in}
+use Rattle.guest_sched.proofs.Takes.{all_in, fails_in, goes_on}
 use Rattle.guest_sched.proofs.tagged.TaggedSink.put.Goals as goal
 
 pub returns-in_err-len-clause-failed : goal.returns-in_err-len-clause-failed
@@ -14,3 +17,34 @@ returns-in_err-len-clause-failed g c =
     c.args.self.now.since.taken c.put_line.new.self.since.taken c.args.self.now.since.text c.loop-rest.self.since.text c.put_line.new.self.since.text done.0 c.args.bytes.now c.loop-rest.rest.now (line_len c.loop-rest.rest.now)
     (line.same_sink ∙ c.loop-rest.invariant.sink) (line.tag ∙ c.loop-rest.invariant.tag) (line.since.1 ∙ c.loop-rest.invariant.faults) (line.since.0 ∙ c.loop-rest.invariant.was)
     done.2 line.text done.1)
+
+none_left : (rest : List ℕ) → (length rest == 0) ≡ true → rest ≡ []
+none_left [] none = refl
+none_left (x ∷ rest) none = absurd (let l = eqb-true (length (x ∷ rest)) 0 none in omega (arith, l))
+
+pub loop-rest-preserved : goal.loop-rest-preserved
+loop-rest-preserved g c =
+    let i = c.loop-rest.invariant in
+    let e = c.in_ok-len.ensures in
+    let rest = c.loop-rest.rest.now in
+    let line = take (line_len rest) rest in
+    record {
+      live = e.failed;
+      sink = e.same_sink ∙ i.sink;
+      tag = e.tag ∙ i.tag;
+      was = e.since.0 ∙ i.was;
+      faults = e.since.1 ∙ i.faults;
+      text = (
+        i.text.0 ++ line,
+        goes_on i.text.0 c.args.bytes.now rest c.in_ok-len.len (line_len rest) e.len.0 i.text.1,
+        e.text ∙ ap (λ (z : List ℕ). z ++ line) i.text.2 ∙ append_assoc c.args.self.now.since.text i.text.0 line,
+      );
+    }
+
+pub returns-clause-ok : goal.returns-clause-ok
+returns-clause-ok g c =
+    let i = c.loop-rest.invariant in
+    let self = c.loop-rest.self in
+    let old = c.args.self.now in
+    all_in old.out.ghost_name self.out.ghost_name old.tag self.tag old.since.faults self.since.faults old.since.taken self.since.taken old.since.text self.since.text i.text.0 c.args.bytes.now c.loop-rest.rest.now
+    i.sink i.tag i.faults i.was i.text.2 i.text.1 (none_left c.loop-rest.rest.now (sym c.is_empty.ensures ∙ c.loop-rest-test.false))
