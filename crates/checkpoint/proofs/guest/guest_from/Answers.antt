@@ -65,3 +65,27 @@ returns-clause-goes_on g c =
       filled = a.filled;
     } in
     subst (λ (k : ℕ). GoesOnFrom image (k / 4096) (rested_from s) new) c.len-frames.ensures.count goes
+
+pub returns-clause-started : goal.returns-clause-started
+returns-clause-started g c = c.adopt.ensures.started
+
+pub returns-clause-counts : goal.returns-clause-counts
+returns-clause-counts g c =
+    let memory = c.seated-pool.new.memory in
+    let e = c.adopt.ensures.counts in
+    record {
+      retired = e.retired ∙ (g.met.H.Host.retired_stays c.start.new.self memory ∙ c.start.ensures.retired);
+      passed = e.passed ∙ (g.met.H.Host.passed_stays c.start.new.self memory ∙ c.start.ensures.passed);
+    }
+
+pub returns-in_err-guest-clause-counts : goal.returns-in_err-guest-clause-counts
+returns-in_err-guest-clause-counts g c =
+    let memory = c.seated-pool.new.memory in
+    let e = c.adopt.ensures.counts in
+    record {
+      retired = e.retired ∙ (g.met.H.Host.retired_stays c.start.new.self memory ∙ c.start.ensures.retired);
+      passed = e.passed ∙ (g.met.H.Host.passed_stays c.start.new.self memory ∙ c.start.ensures.passed);
+    }
+
+pub returns-in_err-start-clause-counts : goal.returns-in_err-start-clause-counts
+returns-in_err-start-clause-counts g c = record { retired = c.start.ensures.retired; passed = c.start.ensures.passed }
