@@ -1,10 +1,10 @@
 -- The memory in which a guest starts, behind which its pool was made.
-use Rattle.std.proofs.Common.{◌≡◌, ℕ, zero, suc, ◌+◌, ◌*◌, ◌<◌, ◌≤◌, List, length, take, take-add, replicate, refl, sym, ap, ◌∙◌, inl, arith}
+use Rattle.std.proofs.Common.{◌≡◌, ℕ, ◌*◌, ◌≤◌, List, length, take, replicate, refl, sym, ap, ◌∙◌, inl, arith}
 use Rattle.std.proofs.Math.ListN.{length-replicate}
 use Rattle.std.proofs.lemmas.List.{places}
 use Rattle.std.specs.FinMap.{empty}
 use Rattle.descriptors.specs.declared.cpu.Cpu.{Cpu}
-use Rattle.guest_ram.specs.Bytes.{part, with_part, frame}
+use Rattle.guest_ram.specs.Bytes.{part, with_part}
 use Rattle.guest_ram.proofs.Bytes.{part-with_part, part-with_part_below}
 use Rattle.frame_pool.specs.Pool.{SameOutside}
 use Rattle.frame_pool.specs.declared.Pool.{Pool}
@@ -18,6 +18,7 @@ use Rattle.machine_model.specs.State.{State, wedge}
 use Rattle.wedge_step.specs.Standing.{IsHeld, ground}
 use Rattle.wedge_step.specs.declared.running.Running.{Running}
 use Rattle.wedge_step.proofs.Memories.{text_within, part_front}
+use Rattle.wedge_mem.proofs.Below.{frames-same}
 
 grows : (m : List ℕ) (a : ℕ) (bs : List ℕ) → length m ≤ length (with_part m a bs)
 unfolding with_part
@@ -38,20 +39,11 @@ text_there image frames fits =
     part-with_part_below (with_part z 0x100000 image.text) (4096 * data_frame image) image.init 0x100000 (length image.text) (omega (arith, with_text, fits)) (omega arith)
     ∙ part-with_part z 0x100000 image.text (length image.text) (omega (arith, long, fits)) refl
 
-frames_same : (n : ℕ) (m m' : List ℕ) → ((g : ℕ) → g < n → frame m' g ≡ frame m g) → take (4096 * n) m' ≡ take (4096 * n) m
-unfolding frame part
-frames_same zero m m' h = refl
-frames_same (suc n) m m' h =
-    let e : 4096 * suc n ≡ 4096 * n + 4096 = omega arith in
-    let before = frames_same n m m' (λ g l. h g (omega (arith, l))) in
-    let here = h n (omega arith) in
-    ap (λ k. take k m') e ∙ take-add (4096 * n) 4096 m' ∙ cc (before, here) ∙ sym (take-add (4096 * n) 4096 m) ∙ sym (ap (λ k. take k m) e)
-
 -- a pool behind the frames leaves them as they were
 pub front_stands : (image : Image) (frames count : ℕ) (old new : List ℕ) → SameOutside frames count old new → take (frames * 4096) old ≡ boot_ram image frames → take (4096 * frames) new ≡ boot_ram image frames
 front_stands image frames count old new same is =
     let e : 4096 * frames ≡ frames * 4096 = omega arith in
-    frames_same frames old new (λ g l. same.others g (inl l)) ∙ (ap (λ k. take k old) e ∙ is)
+    frames-same frames old new (λ g l. same.others g (inl l)) ∙ (ap (λ k. take k old) e ∙ is)
 
 pub text_stands : (image : Image) (frames : ℕ) (memory : List ℕ) → need image ≤ frames → take (4096 * frames) memory ≡ boot_ram image frames → part memory 0x100000 (length image.text) ≡ image.text
 text_stands image frames memory fits is =

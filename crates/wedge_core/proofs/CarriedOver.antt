@@ -27,8 +27,8 @@ use Rattle.wedge_step.specs.Parts.{left_of}
 use Rattle.wedge_step.specs.Pools.{Keeps}
 use Rattle.wedge_step.specs.Standing.{IsHeld, ground, set_of, state_of}
 use Rattle.wedge_step.proofs.Widening.{Widens}
+use Rattle.wedge_step.proofs.AfterTry.{any_script}
 use Rattle.wedge_core.proofs.Going.{DropClashes, StepCarries, eventful}
-use Rattle.wedge_core.proofs.Landing.{shown_any}
 use Rattle.wedge_core.proofs.Passed.{CarriesPast}
 
 module _ {S : Type 0} (stands : S → List ℕ → Type 0) (frames : S → List ℕ → List ℕ) (slots : S → List ℕ → ℕ → Option Slot) (noted : S → ℕ → Bool) (marked : S → Bool) (asides : S → List ℕ → List Aside) (opened : S → List ℕ → (ℕ → Bool) → Type 0) where
@@ -47,7 +47,7 @@ module _ {S : Type 0} (stands : S → List ℕ → Type 0) (frames : S → List 
   pub room_at : (image : Image) (script : Events) (f : ℕ) (g : Running S) (pool : Pool) (memory : List ℕ) → IsHeld stands frames slots (ground image f) g pool memory → 4096 * f ≤ length (shown (wedge image script f) memory)
   room_at image script f g pool memory h =
       let long = shown_length (ground image f) h.wedge memory h.host in
-      let same = ap (λ (l : List ℕ). length l) (shown_any image script f memory) in
+      let same = ap (λ (l : List ℕ). length l) (any_script image script f memory) in
       omega (arith, long, same)
 
   module _ (widens : Widens stands frames asides opened) (laws : CarryLaws) where
@@ -118,7 +118,7 @@ module _ {S : Type 0} (stands : S → List ℕ → Type 0) (frames : S → List 
           let count = held_mid.counted in
           clashed_at dropped (omega (arith, few, all, count)) script now
           (sym (ap (λ (x : State). x.cpu) stays))
-          (sym (ap (λ (x : State). x.ram) stays) ∙ shown_any image script f then)
+          (sym (ap (λ (x : State). x.ram) stays) ∙ any_script image script f then)
           (sym (ap (λ (x : State). x.set) stays))
           (sym events ∙ sym (ap (λ (x : State). x.board) stays))
         where

@@ -2,7 +2,6 @@
 use Rattle.std.proofs.Common.{◌≡◌, ◌⊎◌, inl, inr, ℕ, ◌+◌, ◌-◌, ◌*◌, ◌%◌, ◌^◌, ◌≤◌, ◌==◌, Bool, true, false, cond, not, ◌&&◌, ◌||◌, refl, sym, ap, ◌∙◌, List, [], ◌∷◌, ◌++◌, length, Option, Some, None, Ok, Err, is_some, is_none, nat_le, nat_lt, arith}
 use Rattle.std.proofs.lemmas.Bool.Decides.{nat_tests}
 use Rattle.std.specs.List.{find}
-use Rattle.std.specs.Option.{ForSome}
 use Rattle.guest_ram.specs.Among.{is_among}
 use Rattle.sites.specs.declared.site.Site.{Site}
 use Rattle.image_check.specs.Places.{lies_in, site_at, by_site, place_at}
@@ -14,11 +13,12 @@ use Rattle.machine_model.specs.Fit.{IsLevel}
 use Rattle.machine_model.specs.Rules.{is_start, may_begin, stands_well}
 use Rattle.image_check.specs.Places.{is_site_at}
 use Rattle.machine_model.specs.Counts.{direct_in, direct_addresses, passed_on}
-use Rattle.machine_model.specs.Step.{Completed, Report, Went, interrupt_of, stepped}
+use Rattle.machine_model.specs.Step.{Report, Went, interrupt_of, stepped}
 use Rattle.machine_model.specs.Alone.{StepsAreDone, WaitsCountNothing, SitesCountNothing}
 use Rattle.wedge_core.specs.AloneLaws.{AlonesGo}
 use Rattle.wedge_step.specs.Parts.{left_of}
 use Rattle.machine_model.specs.Run.{with_set}
+use Rattle.machine_model.proofs.CountingNone.{never}
 use Rattle.wedge_core.specs.Slices.{Counts, CountsOn}
 use Rattle.wedge_core.specs.Views.{is_outside, may_run}
 use Rattle.wedge_step.proofs.Bools.{clash, and_false, or_true}
@@ -91,10 +91,6 @@ unfolding site_at
 inside sites eip s above e = in_some sites eip s above e
 
 -- ---- one step
-
-never : (o : Option Completed) → ForSome o (λ c. ⊥) → o ≡ None
-never None h = refl
-never (Some c) h = absurd (h c refl)
 
 level_0 : (cpl : ℕ) → IsLevel cpl → (cpl == 3) ≡ false → cpl ≡ 0
 level_0 cpl (inl z) e = z

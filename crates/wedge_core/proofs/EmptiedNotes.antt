@@ -5,6 +5,7 @@ use Rattle.std.proofs.lemmas.Bool.Decides.{eqb_tells, nat_tests}
 use Rattle.std.proofs.lemmas.List.Elements.{All-nil, All-cons, All-head, All-tail, All-append, All-weaker, filter-append}
 use Rattle.std.proofs.lemmas.List.Folds.{list_any-append}
 use Rattle.std.proofs.Common.{length-append}
+use Rattle.std.proofs.lemmas.Bool.{and_parts}
 use Rattle.run_trace.specs.Notes.{Note, emptied_at, dropped_at}
 use Rattle.machine_model.specs.Run.{Set}
 use Rattle.machine_model.specs.Notes.{step_in, is_emptied, is_dropped, without, set_told, is_ordered, IsPage}
@@ -56,14 +57,6 @@ le_true a b le = grind (arith, nat_tests, le)
 and_true : (a b : Bool) → a ≡ true → b ≡ true → (a && b) ≡ true
 and_true a b p q = ap (λ (x : Bool). x && b) p ∙ q
 
-first_true : (a b : Bool) → (a && b) ≡ true → a ≡ true
-first_true true b h = refl
-first_true false b h = h
-
-then_true : (a b : Bool) → (a && b) ≡ true → b ≡ true
-then_true true b h = h
-then_true false b h = absurd (let f : false ≡ true = h in cc)
-
 low_first : (b : Bool) (low n : ℕ) → low ≤ n → is_ordered low (emptied_if b n) ≡ true
 low_first true low n le = and_true (nat_le low n) true (le_true low n le) refl
 low_first false low n le = refl
@@ -75,8 +68,8 @@ step_up_to n (dropped_at step page) h = absurd h
 ordered_more : (b : Bool) (low n : ℕ) (notes : List Note) → low ≤ n → All (IsUpTo n) notes → is_ordered low notes ≡ true → is_ordered low (notes ++ emptied_if b n) ≡ true
 ordered_more b low n [] le up h = low_first b low n le
 ordered_more b low n (x ∷ xs) le up h =
-    and_true (nat_le low (step_in x)) (is_ordered (step_in x) (xs ++ emptied_if b n)) (first_true (nat_le low (step_in x)) (is_ordered (step_in x) xs) h)
-    (ordered_more b (step_in x) n xs (step_up_to n x (All-head (IsUpTo n) x xs up)) (All-tail (IsUpTo n) x xs up) (then_true (nat_le low (step_in x)) (is_ordered (step_in x) xs) h))
+    and_true (nat_le low (step_in x)) (is_ordered (step_in x) (xs ++ emptied_if b n)) (and_parts (nat_le low (step_in x)) (is_ordered (step_in x) xs) h).0
+    (ordered_more b (step_in x) n xs (step_up_to n x (All-head (IsUpTo n) x xs up)) (All-tail (IsUpTo n) x xs up) (and_parts (nat_le low (step_in x)) (is_ordered (step_in x) xs) h).1)
 
 -- ---- how many there are of a step
 

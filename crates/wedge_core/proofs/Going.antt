@@ -23,6 +23,9 @@ use Rattle.machine_model.specs.Taken.{Taken, steps_by}
 use Rattle.machine_model.specs.Clash.{clashes_from}
 use Rattle.machine_model.specs.Keeping.{Roomy, Kept}
 use Rattle.machine_model.specs.Notes.{AreLeft, AreNotes, is_dropped, set_told}
+use Rattle.machine_model.proofs.Splits.{none_some}
+use Rattle.machine_model.proofs.Counted.{same_step, steps_counted}
+use Rattle.machine_model.proofs.Texts.{lines_join}
 use Rattle.native_steps.specs.Stretch.{IsQuiet}
 use Rattle.wedge_step.specs.Carried.{IsTakenFrom}
 use Rattle.wedge_step.specs.CarryLaws.{CarryLaws}
@@ -36,10 +39,10 @@ use Rattle.wedge_step.specs.declared.running.Lost.{Lost}
 use Rattle.wedge_step.proofs.Parts.{part_left, part_same, part_allowed, part_loosened}
 use Rattle.wedge_core.proofs.Joined.{steps_join, no_steps, steps_one, trace_join, counts_join, counts_none}
 use Rattle.wedge_step.proofs.Filling.{part_few}
-use Rattle.wedge_core.proofs.Texts.{appends_both, appends_none, front_of, lines_join}
+use Rattle.wedge_core.proofs.Texts.{appends_both, appends_none, front_of}
 use Rattle.wedge_core.proofs.EmptiedNotes.{SoFar, TriedNotes, none_yet, try_next, go_next, so_far_later, told_more, told_none, told_before, up_to_later, tried_none, none_dropped, dropped_once, are_pages, steps_until}
 use Rattle.wedge_core.proofs.Passed.{CarriesPast, some_more, step_taken, taken_first}
-use Rattle.wedge_core.proofs.ToldSteps.{ToldBy, told_nothing, told_one, told_join, told_on, left_behind, steps_counted, are_told}
+use Rattle.wedge_core.proofs.ToldSteps.{ToldBy, told_nothing, told_one, told_join, told_on, left_behind, are_told}
 
 -- each of these sets has no more pages than were kept at first and were filled since
 abbrev pub EachFilled : ℕ → ℕ → ℕ → List Set → Type 0
@@ -66,13 +69,9 @@ pub record Going (m : Setting) (old now : State) (before after : Counts) (told t
   pub text : Appends told tells (lines_of (trace_of reports))
   pub counts : CountsOn m reports before after
 
-none_split : {X : Type 0} (a : List X) (y : X) (b : List X) → [] ≡ a ++ y ∷ b → ⊥
-none_split [] y b e = cc
-none_split (z ∷ a) y b e = cc
-
 -- no step is kept or not
 kept_none : (m : Setting) (b : State) → Kept m b []
-kept_none m b = record { each = λ front set back reports now is there roomy. absurd (none_split front set back is) }
+kept_none m b = record { each = λ front set back reports now is there roomy. absurd (none_some front set back is) }
 
 pub going_none : (m : Setting) (b : State) (counts : Counts) (told : Option (List ℕ)) (pages fills : ℕ) (wanted : Bool) (notes_on : List Note → Type 0) (begins : Type 0) (carried : Set → List Taken → State → Type 0) → notes_on [] → len b.set ≤ pages → (begins → carried b.set [] b) → Going m b b counts counts told told pages fills fills wanted notes_on begins carried
 going_none m b counts told pages fills wanted notes_on begins carried none few start = record {
@@ -118,11 +117,6 @@ enough_later pages few before mid after le f =
     let e = f.enough in
     record { rises = omega (arith, r, le); enough = omega (arith, e, le) }
 
--- the same step, by what was chosen
-chosen_there : (m : Setting) (now : State) (whole chosen : Set) → step_of m (with_set now whole) chosen ≡ step_of m now chosen
-unfolding step_of
-chosen_there m now whole chosen = refl
-
 -- steps in which nothing is seen
 
 pub going_past : (m : Setting) (old now new : State) (a b c : Counts) (told tells : Option (List ℕ)) (pages fills mid filled : ℕ) (wanted : Bool) (notes_on : List Note → Type 0) (begins : Type 0) (carried : Set → List Taken → State → Type 0) → (g : Going m old now a b told tells pages fills mid wanted notes_on begins carried) → mid ≤ filled → FillsOn pages (len new.set) fills filled
@@ -162,7 +156,7 @@ going_past m old now new a b c told tells pages fills mid filled wanted notes_on
         let q = All-head IsQuiet (step_taken now now.set steps.1 steps.0) (steps_by m steps.0 (replicate n now.set)) both in
         let one : IsQuiet (step_taken (with_set now g.whole) now.set steps.1 steps.0) = record { through = q.through; cr0 = q.cr0; cr3 = q.cr3; cr4 = q.cr4; size = q.size } in
         let so_far = λ (s : begins). some_more laws m carried goes old n g.sets g.reports (with_set now g.whole) steps.0 new now.set steps.1 steps.2
-        g.steps g.allowed (chosen_there m now g.whole now.set ∙ steps.4) steps.5 (left.1 steps.1 steps.0 steps.4) one
+        g.steps g.allowed (same_step m now g.whole now.set ∙ steps.4) steps.5 (left.1 steps.1 steps.0 steps.4) one
         (All-tail IsQuiet (step_taken now now.set steps.1 steps.0) (steps_by m steps.0 (replicate n now.set)) both) room (record { rule = g.rule s; carries = g.carries s }) in
         let count = steps_counted m now (replicate (suc n) now.set) p.reports new steps in
         let later : now.step < new.step = omega (arith, count) in
@@ -173,7 +167,7 @@ going_past m old now new a b c told tells pages fills mid filled wanted notes_on
           whole = new.set;
           notes = g.notes;
           steps = steps_join m old (with_set now g.whole) new g.sets (replicate (suc n) now.set) g.reports p.reports g.steps
-              (steps.0, steps.1, steps.2, g.allowed, chosen_there m now g.whole now.set ∙ steps.4, steps.5, steps.6);
+              (steps.0, steps.1, steps.2, g.allowed, same_step m now g.whole now.set ∙ steps.4, steps.5, steps.6);
           allowed = part_allowed m (with_set new new.set) new.set (part_same new.set new.set refl);
           kept = λ w. sym (told_none now.step new.step new.set g.notes later g.so_far.until);
           by = λ w. told_join m old (with_set now g.whole) g.sets (replicate (suc n) now.set) g.reports g.notes g.steps (g.by w) (left_behind m now g.whole (replicate (suc n) now.set) g.notes (g.kept w) g.so_far.until left);

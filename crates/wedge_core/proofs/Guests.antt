@@ -1,9 +1,9 @@
 -- What a guest's calls say of its filled pages, of the bytes outside its pool, and of its memory.
-use Rattle.std.proofs.Common.{◌≡◌, ℕ, zero, suc, ◌+◌, ◌*◌, ◌<◌, ◌≤◌, ◌⊎◌, inl, inr, List, take, Result, Ok, Err, IfOk, refl, arith}
+use Rattle.std.proofs.Common.{◌≡◌, ℕ, ◌+◌, ◌*◌, ◌<◌, ◌≤◌, ◌⊎◌, inl, inr, List, take, Result, Ok, Err, IfOk, arith}
 use Rattle.frame_pool.specs.Pool.{base_of, count_of, free_list, SameOutside}
 use Rattle.frame_pool.specs.declared.Pool.{Pool}
 use Rattle.frame_pool.specs.Held.{times, Owns, Moves}
-use Rattle.frame_pool.proofs.Lengths.{times-within}
+use Rattle.frame_pool.proofs.Lengths.{times-within, zero-or}
 use Rattle.board.specs.Scripts.{Events}
 use Rattle.pv_io.specs.declared.answer.Failed.{Failed}
 use Rattle.image_check.specs.Image.{Image}
@@ -20,13 +20,9 @@ use Rattle.wedge_core.specs.declared.guest.Guest.{Guest}
 use Rattle.wedge_step.specs.declared.running.Running.{Running}
 use Rattle.wedge_core.proofs.WholeRuns.{front_held}
 
-zero_or : (n : ℕ) → (n ≡ 0) ⊎ (1 ≤ n)
-zero_or zero = inl refl
-zero_or (suc n) = inr (omega arith)
-
 not_between : (b n g : ℕ) (fs : List ℕ) → (g < b) ⊎ (b + n ≤ g) → ((f : ℕ) → 1 ≤ times f fs → (b ≤ f) × (f < b + n)) → times g fs ≡ 0
 not_between b n g fs out h =
-    elim (zero_or (times g fs)) [
+    elim (zero-or (times g fs)) [
       | inl none ↦ none
       | inr k ↦
           let here = h g k in

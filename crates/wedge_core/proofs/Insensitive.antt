@@ -10,18 +10,18 @@ use Rattle.ia32_types.specs.declared.insn.Insn.{Insn}
 use Rattle.ia32_decode.specs.declared.answer.Decoded.TheVariants as begins
 use Rattle.ia32_decode.specs.Decoding.{decoded}
 use Rattle.ia32_decode.specs.Front.{longest, front_len}
-use Rattle.paging.specs.declared.entry.Access.{Access}
 use Rattle.paging.specs.declared.entry.Entry.{Entry}
 use Rattle.paging.specs.declared.entry.Touch.{Touch}
 use Rattle.paging.specs.declared.entry.Touch.TheVariants.{Ready, Stop}
-use Rattle.paging.specs.Fresh.{has, dir_place, word_place, is_large, fresh}
+use Rattle.paging.specs.Fresh.{has, dir_place, is_large}
 use Rattle.paging.specs.Space.{Mode, Space, place}
-use Rattle.paging.specs.Uses.{Tables, tables_of, Decision, is_text, is_given, is_barred, walks_text, by_walk, decided, usable, by_entry, page_uses, and_then, unready, made_ready, fetches, with_front}
+use Rattle.paging.specs.Uses.{Tables, tables_of, Decision, is_text, is_given, is_barred, walks_text, decided, usable, by_entry, page_uses, and_then, unready, made_ready, fetches, with_front}
 use Rattle.image_load.specs.Boot.{text_pages}
 use Rattle.image_check.specs.Image.{Image}
 use Rattle.image_check.specs.Places.{site_at, StandsOutside}
 use Rattle.machine_model.specs.State.{Setting, State, wedge_mode, space_at_start}
 use Rattle.machine_model.specs.Instruction.{next_page, fetching, fetched}
+use Rattle.machine_model.proofs.Walked.{dir_frame, word_frame}
 use Rattle.native_steps.specs.Mirrors.{IsWedge, IsHost, shown}
 use Rattle.native_steps.specs.Forward.{IsNext}
 use Rattle.native_steps.specs.TextLaws.{TextLaws}
@@ -36,6 +36,7 @@ use Rattle.native_steps.proofs.Through.{Through, through_same, within_as, taken_
 use Rattle.native_steps.proofs.Walking.{IsWithin, IsServed, decided_readied}
 use Rattle.native_steps.proofs.Walks.{IsWalk, ByTable, Large, walk_parts, walk_in}
 use Rattle.native_steps.proofs.Ways.{Way}
+use Rattle.native_steps.proofs.TextWalks.{decided_clear}
 use Rattle.std.proofs.lemmas.Bool.{and_parts, not-false, or_parts, both_ways, eqb-true, eq-eqb, leb-true, le-leb, lt-ltb}
 
 -- ---- the frames of the text stay
@@ -49,14 +50,6 @@ last_of : (x y : Bool) → x ≡ false → (not x && y) ≡ false → y ≡ fals
 last_of false y e g = g
 last_of true y e g = absurd cc
 
-walks_apart : (s : Tables) (fetch : Bool) (page at : ℕ) (access : Access) → (decided s fetch page at access).met ≡ Ready → walks_text s page ≡ false
-unfolding decided
-walks_apart s fetch page at access e = by (walks_text s page) e
-  where
-    by : (text : Bool) → (cond {A = Decision} text (record { met = Stop stops.TableInText; entry = None; ram = s.ram }) (by_walk s fetch at access (fresh s.ram s.frames s.cr3 s.pse page))).met ≡ Ready → text ≡ false
-    by true x = absurd cc
-    by false x = refl
-
 -- the words of a walk lie in frames that hold no text; that of a page of 4 MB is one
 roots_apart : (s : Tables) (page : ℕ) → walks_text s page ≡ false → (is_text s.mode (s.cr3 / 4096) ≡ false)
     × (s.cr3 / 4096 < s.frames → has (word32 s.ram (dir_place s.cr3 page)) 1 ≡ true → is_large s.pse (word32 s.ram (dir_place s.cr3 page)) ≡ false → is_text s.mode (word32 s.ram (dir_place s.cr3 page) / 4096) ≡ false)
@@ -65,12 +58,6 @@ roots_apart s page e =
     let dir : ℕ = word32 s.ram (dir_place s.cr3 page) in
     let p = or_parts (is_text s.mode (s.cr3 / 4096)) _ e in
     (p.0, λ lt h small. last_of (is_large s.pse dir) (is_text s.mode (dir / 4096)) small (second_of (nat_lt (s.cr3 / 4096) s.frames) (has dir 1) _ (lt-ltb (s.cr3 / 4096) s.frames lt) h p.1))
-
-dir_frame : (cr3 page : ℕ) → page < 2 ^ 20 → dir_place cr3 page / 4096 ≡ cr3 / 4096
-dir_frame cr3 page small = omega arith
-
-word_frame : (dir page : ℕ) → word_place dir page / 4096 ≡ dir / 4096
-word_frame dir page = omega arith
 
 places_apart : (s : Tables) (page : ℕ) (e : Entry) (d t : ℕ) → page < 2 ^ 20 → walks_text s page ≡ false → IsWalk s.ram s.frames s.cr3 s.pse page e d t → (is_text s.mode (d / 4096) ≡ false) × (is_text s.mode (t / 4096) ≡ false)
 places_apart s page e d t small apart (ByTable h) =
@@ -116,7 +103,7 @@ module _ (m : Setting) (b : State) where
       by_usable None x =
           let met : (decided (tables_of s) fetch page at (record { write = write; user = false })).met ≡ Ready = ap (λ (o : Touch × Space). o.0) x in
           let r = decided_readied (tables_of s) fetch page at (record { write = write; user = false }) met in
-          let apart = walks_apart (tables_of s) fetch page at (record { write = write; user = false }) met in
+          let apart = decided_clear (tables_of s) fetch page at (record { write = write; user = false }) met in
           let walk = walk_parts s.ram s.frames s.cr3 s.pse page r.entry r.dir_at r.word_at r.found in
           let there = walk_in s.ram s.frames s.cr3 s.pse page r.entry r.dir_at r.word_at small walk in
           let free = places_apart (tables_of s) page r.entry r.dir_at r.word_at small apart walk in

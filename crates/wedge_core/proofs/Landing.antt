@@ -5,7 +5,6 @@ use Rattle.std.proofs.lemmas.Bool.Decides.{nat_tests}
 use Rattle.std.proofs.lemmas.Bool.{and_parts}
 use Rattle.board.specs.declared.devices.Board.{Board}
 use Rattle.board.specs.Boards.{board_steps, comes_within}
-use Rattle.board.specs.Scripts.{Events}
 use Rattle.descriptors.specs.declared.cpu.Cpu.{Cpu}
 use Rattle.ia32_types.specs.declared.flags.Regs.{Regs}
 use Rattle.sites.specs.declared.site.Site.{Site}
@@ -17,14 +16,12 @@ use Rattle.host_cpl3.specs.declared.view.View.{View}
 use Rattle.host_cpl3.specs.declared.exit.Exit.{Exit}
 use Rattle.host_cpl3.specs.declared.exit.Exit.TheVariants as exits
 use Rattle.host_cpl3.specs.HostRun.{Standing}
-use Rattle.machine_model.specs.State.{Setting, State, wedge}
+use Rattle.machine_model.specs.State.{Setting, State}
 use Rattle.machine_model.specs.Step.{Report, interrupt_of}
 use Rattle.machine_model.specs.Run.{Set, Steps}
-use Rattle.native_steps.specs.Mirrors.{shown}
 use Rattle.native_steps.specs.Forward.{IsEntrance}
 use Rattle.native_steps.specs.Stretch.{AreQuiet, board_now, board_after, EndsAs}
 use Rattle.wedge_core.specs.Ran.{landed}
-use Rattle.wedge_step.specs.Standing.{ground}
 use Rattle.wedge_core.specs.Views.{is_outside, may_run}
 use Rattle.wedge_step.proofs.Bools.{is_not, none_some, clash, none_of}
 
@@ -127,11 +124,6 @@ state_is x y a b c d e = λ i. record { cpu = a i; ram = b i; set = c i; board =
 pub board_some : (m : Setting) (b : State) (n : ℕ) → 0 < n → board_after m b n ≡ board_steps n (board_now m b)
 board_some m b zero lt = absurd (omega (arith, lt))
 board_some m b (suc n) lt = refl
-
--- events make no difference to what is shown
-pub shown_any : (image : Image) (script : Events) (f : ℕ) (memory : List ℕ) → shown (wedge image script f) memory ≡ shown (ground image f) memory
-unfolding shown
-shown_any image script f memory = refl
 
 pub steps_none : (m : Setting) (b after : State) (sets : List Set) (reports : List Report) → sets ≡ [] → Steps m b sets reports after → (reports ≡ []) × (after ≡ b)
 unfolding Steps

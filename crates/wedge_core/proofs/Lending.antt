@@ -11,6 +11,7 @@ use Rattle.shadow_tables.specs.Host.{lent, frame_below}
 use Rattle.shadow_tables.specs.Slots.{Slot, is_side, is_user, is_adequate, entry_in}
 use Rattle.shadow_tables.specs.declared.words.Side.{Side}
 use Rattle.shadow_tables.specs.declared.words.Side.TheVariants.{Kernel, User}
+use Rattle.shadow_tables.proofs.Sides.{side-is}
 use Rattle.step_mem.specs.Changes.{AreWithin}
 use Rattle.machine_model.specs.State.{Setting}
 use Rattle.machine_model.specs.Run.{Set}
@@ -18,12 +19,6 @@ use Rattle.native_steps.specs.Lends.{Lends, IsLent, IsOpen}
 use Rattle.wedge_step.specs.Parts.{IsPartOf}
 use Rattle.wedge_step.specs.Standing.{is_kernel, lets, IsOpenSlot, AreOpen}
 use Rattle.wedge_step.proofs.Bools.{none_some}
-
-same_side : (a b : Side) → is_side a b ≡ true → a ≡ b
-same_side Kernel Kernel h = refl
-same_side Kernel User h = absurd cc
-same_side User Kernel h = absurd cc
-same_side User User h = refl
 
 user_of : (side : Side) → is_user side ≡ not (is_kernel side)
 user_of Kernel = refl
@@ -53,7 +48,7 @@ by_slot : (m : Setting) (side : Side) (wp : Bool) (set : Set) (write : Bool) (pa
 by_slot m side wp set write page n slot opened kept page_is within false e = λ g h. absurd (none_some g h)
 by_slot m side wp set write page n slot opened kept page_is within true e =
     let parts = and_parts (is_side slot.side side) (lets slot write) e in
-    by_below m side wp set write page n slot.entry.frame (slot_lends m side wp set write page slot opened kept page_is within (same_side slot.side side parts.0) parts.1) (nat_le n slot.entry.frame)
+    by_below m side wp set write page n slot.entry.frame (slot_lends m side wp set write page slot opened kept page_is within (side-is slot.side side parts.0) parts.1) (nat_le n slot.entry.frame)
 
 by_kept : (m : Setting) (side : Side) (wp : Bool) (set : Set) (write : Bool) (page n : ℕ) (o : Option Slot) → ForSome o (IsOpenSlot m.image wp) → ForSome (entry_in o) (λ e. (get set page ≡ Some e) × (e.page ≡ page) × (e.frame < m.frames))
     → ForSome (lent n o side write) (IsLent m (is_kernel side) wp set write page)

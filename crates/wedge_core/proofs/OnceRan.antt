@@ -21,6 +21,7 @@ use Rattle.shadow_tables.specs.Slots.{Slot, SameSlots}
 use Rattle.step_mem.specs.Changes.{AreWithin}
 use Rattle.ia32_types.specs.declared.stop.Stop.{Stop}
 use Rattle.board.specs.Scripts.{Events}
+use Rattle.board.proofs.QuietSteps.{one_step}
 use Rattle.shadow_tables.specs.declared.words.Side.{Side}
 use Rattle.machine_step.specs.declared.worked.Seen.{Seen}
 use Rattle.machine_step.specs.declared.worked.Seen.TheVariants.{Nothing}
@@ -50,7 +51,6 @@ use Rattle.wedge_step.specs.declared.running.Lost.{Lost}
 use Rattle.wedge_step.specs.declared.running.Running.{Running}
 use Rattle.wedge_step.proofs.AfterTry.{any_script}
 use Rattle.wedge_core.proofs.Asked.{once_goes}
-use Rattle.wedge_step.proofs.Boards.{one_step}
 use Rattle.wedge_step.proofs.Knowing.{report_in, state_in}
 use Rattle.wedge_core.proofs.Counting.{none_counts, one_counts}
 use Rattle.wedge_step.proofs.Keeping.{keeps_join, keeps_above}

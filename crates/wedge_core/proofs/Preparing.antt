@@ -28,7 +28,7 @@ use Rattle.sys_exec.specs.declared.effect.Refusal.{Refusal}
 use Rattle.sys_exec.specs.declared.effect.Refusal.TheVariants as refusal
 use Rattle.sys_exec.specs.declared.effect.SysOutcome.{SysOutcome}
 use Rattle.sys_exec.specs.Sys.{sys_work}
-use Rattle.step_exec.specs.Plain.{is_denied, is_refused, is_in, reached, byte_by, finished, executed}
+use Rattle.step_exec.specs.Plain.{is_denied, is_refused, is_in, reached, byte_by, executed}
 use Rattle.step_exec.specs.Divided.{both_reached, byte_of, completed, divided}
 use Rattle.step_exec.specs.Users.{IsUser, IsUserSite, selectors_of, unnull, user_finished, user_form, user_executed}
 use Rattle.step_exec.proofs.Divided.{executed_divides}
@@ -41,7 +41,7 @@ use Rattle.machine_model.specs.Instruction.{is_plain, instructed, done_plainly, 
 use Rattle.machine_model.specs.State.{Setting, State}
 use Rattle.machine_model.specs.Step.{after_instruction, after_refusal, begun, by_decoded}
 use Rattle.machine_step.proofs.Refused.{refused_same}
-use Rattle.native_steps.proofs.Doing.{plain_effect}
+use Rattle.native_steps.proofs.Doing.{plain_effect, nothing_reached, plainly}
 use Rattle.native_steps.proofs.Together.{by_op_is, not_soft}
 use Rattle.native_steps.proofs.Uses.{reaching_earlier}
 use Rattle.wedge_core.specs.Prepared.{left_undone, effect_in, weighed, prepared}
@@ -113,11 +113,6 @@ user_cpu cpu able three =
 abbrev done_in : Insn → ℕ → Cpu → Work Refusal SysOutcome
 done_in insn len cpu s = user_finished cpu (effect_in insn len cpu s) s
 
-plainly : (cpu : Cpu) (s : Space) (o : exec.Outcome) → done_plainly (finished cpu s o) ≡ user_finished cpu o s
-plainly cpu s (outcomes.Done regs stores) = refl
-plainly cpu s (outcomes.Raise vector code) = refl
-plainly cpu s (outcomes.Stop stop) = refl
-
 plain_outcome : (insn : Insn) (len : ℕ) (cpu : Cpu) → is_plain insn.op ≡ true → (o : Outcome Refusal (Unit {0}))
     → done_plainly (on_value o (λ _. completed insn len cpu)) ≡ on_value o (λ _. done_in insn len cpu)
 unfolding completed
@@ -135,13 +130,10 @@ plain_divides insn len cpu s e =
 
 -- ---- a sensitive one, by a user
 
-same_space : (s t : Space) → ◌≡◌ {A = Outcome Refusal (Unit {0})} (Ok (tt, s)) (Ok (tt, t)) → s ≡ t
-same_space s t e = let p : ◌≡◌ {A = Unit {0} × Space} (tt, s) (tt, t) = cc in ap (λ (q : Unit {0} × Space). q.1) p
-
 -- bytes of the read range, by the translations that it had
 bytes_same : (cpu : Cpu) (read write : Option Range) (s t : Space) → reached cpu true write s ≡ Ok (tt, t) → byte_by read s t ≡ byte_of (record { read = read; write = write }) t
 unfolding byte_at place
-bytes_same cpu read None s t e = subst (λ (x : Space). byte_by read s x ≡ byte_of (record { read = read; write = None }) x) (same_space s t e) refl
+bytes_same cpu read None s t e = subst (λ (x : Space). byte_by read s x ≡ byte_of (record { read = read; write = None }) x) (nothing_reached s t e) refl
 bytes_same cpu read (Some w) s t e =
     ap (λ (x : FinMap nat_cmp Entry). λ (at : ℕ). cond (is_in read at) (bytes.byte t.ram (place_by (get x (at / 4096)) at)) (bytes.byte t.ram (place_by (get t.set (at / 4096)) at)))
     (sym (reaching_earlier s t w.at w.len (record { write = true; user = cpu.cpl == 3 }) e))
@@ -239,13 +231,13 @@ value_parts (Ok y) f x e = (y.1, (refl, e))
 value_parts (Err refused) f x e = absurd cc
 
 left_done : (o : exec.Outcome) (s t : Space) → left_undone o s ≡ Ok (tt, t) → (s ≡ t) × ((regs : Regs) × ((stores : Stores) × (o ≡ outcomes.Done regs stores)))
-left_done (outcomes.Done regs stores) s t e = (same_space s t e, (regs, (stores, refl)))
+left_done (outcomes.Done regs stores) s t e = (nothing_reached s t e, (regs, (stores, refl)))
 left_done (outcomes.Raise vector code) s t e = absurd cc
 left_done (outcomes.Stop stop) s t e = absurd cc
 
 unless_parts : (refused : Bool) (s t : Space) → unless (refusal.Raise 13 0) (not refused) s ≡ Ok (tt, t) → (refused ≡ false) × (s ≡ t)
 unless_parts true s t e = absurd cc
-unless_parts false s t e = (refl, same_space s t e)
+unless_parts false s t e = (refl, nothing_reached s t e)
 
 record AreReached (cpu : Cpu) (x : Ranges) (s t : Space) : Type 0 where
   free : is_refused cpu x ≡ false

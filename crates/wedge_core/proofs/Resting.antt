@@ -1,5 +1,5 @@
 -- Steps in which a halted processor has nothing to do.
-use Rattle.std.proofs.Common.{◌≡◌, ℕ, zero, suc, ◌+◌, ◌-◌, ◌<◌, Bool, true, false, List, [], ◌∷◌, replicate, length, cond, Option, None, refl, sym, ap, subst, ◌∙◌, inl, arith}
+use Rattle.std.proofs.Common.{◌≡◌, ℕ, zero, suc, ◌+◌, ◌-◌, ◌<◌, Bool, true, false, List, [], ◌∷◌, replicate, length, Option, None, refl, sym, ap, subst, ◌∙◌, inl, arith}
 use Rattle.std.specs.Prelude.{◌&&◌, ◌||◌, ◌==◌, nat_lt, nat_le, not, if◌then◌else◌}
 use Rattle.std.specs.List.{All}
 use Rattle.std.proofs.lemmas.Bool.Decides.{nat_tests}
@@ -7,7 +7,8 @@ use Rattle.std.proofs.lemmas.List.Elements.{All-nil, All-cons}
 use Rattle.pit8254.specs.Timers.{edge_comes, edge_within, timer_step}
 use Rattle.board.specs.declared.devices.Board.{Board}
 use Rattle.board.specs.Scripts.{Events}
-use Rattle.board.specs.Boards.{edged, given, board_step, board_steps, event_within, comes_within, vector}
+use Rattle.board.specs.Boards.{given, board_step, board_steps, event_within, comes_within}
+use Rattle.board.proofs.QuietSteps.{no_step, quiet_later, vector_same}
 use Rattle.descriptors.specs.declared.cpu.Cpu.{Cpu}
 use Rattle.paging.specs.Fresh.{has}
 use Rattle.machine_model.specs.State.{Setting, State, Loosened, space_at_start}
@@ -16,15 +17,14 @@ use Rattle.machine_model.specs.Run.{Set, Steps, trace_of}
 use Rattle.machine_model.specs.Taken.{Taken, behind, steps_by}
 use Rattle.machine_model.specs.Notes.{AreLeft}
 use Rattle.machine_model.proofs.Runs.{no_steps}
-use Rattle.paging.specs.Space.{Space}
 use Rattle.sites.specs.declared.site.Site.{Site}
-use Rattle.machine_model.specs.Step.{concluded, worked, begins_next}
 use Rattle.machine_model.specs.Counts.{direct_addresses, passed_on}
 use Rattle.machine_model.specs.Resting.{resting, nothing}
 use Rattle.native_steps.specs.Stretch.{IsQuiet}
 use Rattle.wedge_core.specs.Slices.{Counts, CountsOn}
 use Rattle.wedge_core.specs.Stepping.{Passes}
 use Rattle.machine_model.proofs.Runs.{went_there}
+use Rattle.machine_model.proofs.HaltedSteps.{halted_works}
 
 neither : (a b : Bool) → (a || b) ≡ false → (a ≡ false) × (b ≡ false)
 neither false b h = (refl, h)
@@ -38,14 +38,6 @@ given_quiet board t j (x ∷ xs) h =
     let parts = neither (nat_lt t x.0 && nat_le x.0 (t + suc j)) (event_within t (suc j) xs) h in
     let other : (x.0 == t + 1) ≡ false = grind (arith, nat_tests, parts.0) in
     rw other (given_quiet board t j xs parts.1)
-
--- and none in the others
-quiet_later : (t j : ℕ) (script : Events) → event_within t (suc j) script ≡ false → event_within (t + 1) j script ≡ false
-quiet_later t j [] h = refl
-quiet_later t j (x ∷ xs) h =
-    let parts = neither (nat_lt t x.0 && nat_le x.0 (t + suc j)) (event_within t (suc j) xs) h in
-    let out : (nat_lt (t + 1) x.0 && nat_le x.0 (t + 1 + j)) ≡ false = grind (arith, nat_tests, parts.0) in
-    rw out (quiet_later t j xs parts.1)
 
 -- nothing comes to the board in some steps: neither in the first of them, nor in the others
 pub record Quiet (board : Board) (script : Events) (t j : ℕ) : Type 0 where
@@ -64,22 +56,8 @@ quiet_from board script t j h =
       later = rw (edges.1, quiet_later t j script both.1) refl;
     }
 
--- a step of the board without an edge changes no vector
-vector_same : (board : Board) → edge_comes board.pit ≡ false → vector (board_step board) ≡ vector board
-unfolding vector board_step edged
-vector_same board h = rw h refl
-
 interrupt_same : (cpu : Cpu) (board : Board) → edge_comes board.pit ≡ false → interrupt_of cpu (board_step board) ≡ interrupt_of cpu board
 interrupt_same cpu board h = ap (λ (v : Option ℕ). if has cpu.regs.flags.bits 512 && not cpu.held then v else None) (vector_same board h)
-
-no_step : (board : Board) → board_steps 0 board ≡ board
-unfolding board_steps
-no_step board = refl
-
--- a halted processor does nothing
-halted_works : (m : Setting) (b : State) (s : Space) → b.cpu.halted ≡ true → worked m b s ≡ concluded [] None b b.cpu b.board s
-unfolding worked
-halted_works m b s e = ap (λ (h : Bool). cond h (concluded [] None b b.cpu b.board s) (begins_next m b s)) e
 
 -- one such step
 idle_step : (s : Setting) (cpu : Cpu) (ram : List ℕ) (whole set : Set) (board : Board) (step : ℕ)

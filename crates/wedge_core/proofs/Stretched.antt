@@ -43,8 +43,9 @@ use Rattle.wedge_step.proofs.Keeping.{keeps_above}
 use Rattle.wedge_step.proofs.Opening.{same_open}
 use Rattle.wedge_step.proofs.Parts.{part_same}
 use Rattle.wedge_core.proofs.Seeing.{side_is}
-use Rattle.wedge_core.proofs.Landing.{MayRun, quiet_steps, Lands, lands, state_is, board_some, shown_any, steps_none, no_sets}
+use Rattle.wedge_core.proofs.Landing.{MayRun, quiet_steps, Lands, lands, state_is, board_some, steps_none, no_sets}
 use Rattle.wedge_step.proofs.Boards.{none_given}
+use Rattle.wedge_step.proofs.AfterTry.{any_script}
 
 -- where no event is in a script, none comes
 front : (a b : Bool) → (a || b) ≡ false → (a || false) ≡ false
@@ -298,7 +299,7 @@ module _ {S : Type 0} (stands : S → List ℕ → Type 0) (frames : S → List 
           stays_on none =
               let e = state_same [] calm g.board (none_given g.board g.step) (kept memory) itself none in
               state_is (state_of stands frames slots (wedge image script f) now after_memory) (state_of stands frames slots (wedge image script f) g memory)
-              (ap (λ (x : State). x.cpu) e) (shown_any image script f after_memory ∙ (ap (λ (x : State). x.ram) e ∙ sym (shown_any image script f memory)))
+              (ap (λ (x : State). x.cpu) e) (any_script image script f after_memory ∙ (ap (λ (x : State). x.ram) e ∙ sym (any_script image script f memory)))
               (ap (λ (x : State). x.set) e) (ap (λ (x : State). x.board) e) (ap (λ (x : State). x.step) e)
 
           -- no frame to which the view lets no write pass, whatever the guest's frames hold, has changed

@@ -1,9 +1,7 @@
 -- Pieces of text, one behind the other, in a sink.
-use Rattle.std.proofs.Common.{◌≡◌, ℕ, List, [], ◌∷◌, ◌++◌, Option, Some, None, refl, sym, ap, subst, ◌∙◌, append_assoc}
+use Rattle.std.proofs.Common.{ℕ, List, [], ◌++◌, Option, Some, None, sym, ap, subst, ◌∙◌, append_assoc}
 use Rattle.std.proofs.lemmas.List.{append-nil}
 use Rattle.pv_io.specs.Sink.{Appends, AppendsFront}
-use Rattle.run_trace.specs.declared.items.Item.{Item}
-use Rattle.run_trace.specs.Text.{item_line, lines_of}
 
 pub appends_both : (a b c : Option (List ℕ)) (xs ys : List ℕ) → Appends a b xs → Appends b c ys → Appends a c (xs ++ ys)
 appends_both None b c xs ys p q = tt
@@ -23,7 +21,3 @@ front_of a b c before piece p q = record {
 pub appends_none : (a : Option (List ℕ)) → Appends a a []
 appends_none None = tt
 appends_none (Some old) = ap (λ (l : List ℕ). Some l) (sym (append-nil old))
-
-pub lines_join : (xs ys : List Item) → lines_of (xs ++ ys) ≡ lines_of xs ++ lines_of ys
-lines_join [] ys = refl
-lines_join (x ∷ xs) ys = ap (λ (l : List ℕ). item_line x ++ l) (lines_join xs ys) ∙ sym (append_assoc (item_line x) (lines_of xs) (lines_of ys))

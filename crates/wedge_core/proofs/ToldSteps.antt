@@ -1,37 +1,22 @@
 -- Steps that go by what the ones before left, but for what notes tell.
-use Rattle.std.proofs.Common.{◌≡◌, ℕ, ◌+◌, ◌≤◌, ◌<◌, List, [], ◌∷◌, ◌++◌, length, refl, sym, ap, subst, ◌∙◌, arith}
+use Rattle.std.proofs.Common.{◌≡◌, ℕ, ◌+◌, ◌≤◌, ◌<◌, List, [], ◌∷◌, ◌++◌, length, refl, sym, subst, ◌∙◌, arith}
 use Rattle.std.specs.List.{All}
 use Rattle.run_trace.specs.Notes.{Note}
 use Rattle.machine_model.specs.State.{Setting, State}
 use Rattle.machine_model.proofs.Splits.{heads, tails, none_some}
 use Rattle.machine_model.specs.Step.{Report, Result, Went, Halts, step_of}
 use Rattle.machine_model.specs.Run.{Set, Steps, with_set}
-use Rattle.machine_model.specs.Ends.{StepsTo}
 use Rattle.machine_model.specs.Taken.{Taken, behind, steps_by}
 use Rattle.machine_model.specs.Notes.{AreTold, AreLeft, set_told}
-use Rattle.machine_model.proofs.Counting.{each_counts}
 use Rattle.wedge_core.specs.Noted.{emptied_if}
 use Rattle.wedge_core.proofs.EmptiedNotes.{IsUpTo, told_none, told_before}
 use Rattle.machine_model.proofs.Runs.{went_there}
+use Rattle.machine_model.proofs.Counted.{counted_by, same_step}
 
 -- before each step the translations are those that the one before left, but for what the notes tell
 pub ToldBy : Setting → State → List Set → List Note → Type 0
 ToldBy m b [] notes = Unit {0}
 ToldBy m b (set ∷ sets) notes = (set ≡ set_told notes b.step b.set) × ((now : Report) (mid : State) → step_of m b set ≡ Went now mid → ToldBy m mid sets notes)
-
-counted_by : (m : Setting) (b mid : State) (set : Set) (now : Report) → step_of m b set ≡ Went now mid → mid.step ≡ b.step + 1
-counted_by m b mid set now is = subst (StepsTo (b.step + 1)) is (each_counts m b set)
-
--- each step was counted
-pub steps_counted : (m : Setting) (old : State) (sets : List Set) (reports : List Report) (last : State) → Steps m old sets reports last → last.step ≡ old.step + length sets
-unfolding Steps
-steps_counted m old [] reports last h =
-    let is = ap (λ (b : State). b.step) h.1 in
-    omega (arith, is)
-steps_counted m old (set ∷ sets) reports last h =
-    let one = counted_by m old h.0 set h.1 h.4 in
-    let more = steps_counted m h.0 sets h.2 last h.5 in
-    omega (arith, one, more)
 
 pub told_nothing : (m : Setting) (b : State) (notes : List Note) → ToldBy m b [] notes
 unfolding ToldBy
@@ -71,11 +56,6 @@ left_told m b (set ∷ sets) notes n lt up h = (
   h.0 ∙ sym (told_none n b.step b.set notes lt up),
   λ now mid is. let one = counted_by m b mid set now is in left_told m mid sets notes n (omega (arith, lt, one)) up (h.1 now mid is),
 )
-
--- the same step, by what was chosen
-same_step : (m : Setting) (b : State) (whole set : Set) → step_of m (with_set b whole) set ≡ step_of m b set
-unfolding step_of
-same_step m b whole set = refl
 
 -- and the first of them from what the last step left
 pub left_behind : (m : Setting) (b : State) (whole : Set) (sets : List Set) (notes : List Note) → b.set ≡ set_told notes b.step whole → All (IsUpTo b.step) notes → AreLeft m b sets → ToldBy m (with_set b whole) sets notes

@@ -1,6 +1,6 @@
 -- A step that goes on by a refusal completes nothing, and one whose instruction the host doesn't do completes nothing direct.
 use Rattle.std.proofs.Common.{◌≡◌, ◌⊎◌, inl, inr, ℕ, ◌+◌, ◌*◌, ◌/◌, ◌%◌, ◌==◌, nat_le, Bool, true, false, cond, not, ◌&&◌, refl, sym, ap, subst, ◌∙◌, List, [], ◌∷◌, Option, Some, None, Ok, Err}
-use Rattle.std.proofs.lemmas.Bool.{and_parts, both_ways, eqb-true}
+use Rattle.std.proofs.lemmas.Bool.{and_parts, eqb-true}
 use Rattle.ia32_types.specs.declared.stop.Stop.TheVariants as stops
 use Rattle.ia32_types.specs.declared.stop.Did.{Did}
 use Rattle.ia32_types.specs.declared.stop.Did.TheVariants as did
@@ -13,7 +13,7 @@ use Rattle.ia32_decode.specs.declared.answer.Decoded.TheVariants as begins
 use Rattle.descriptors.specs.declared.cpu.Cpu.{Cpu}
 use Rattle.paging.specs.Space.{Space}
 use Rattle.paging.specs.Fresh.{has}
-use Rattle.paging.specs.Work.{Outcome, Work, ◌>>=◌, unless}
+use Rattle.paging.specs.Work.{Outcome}
 use Rattle.step_exec.specs.Plain.{executed}
 use Rattle.sys_exec.specs.declared.effect.Refusal.{Refusal}
 use Rattle.sys_exec.specs.declared.effect.Refusal.TheVariants as refusal
@@ -25,7 +25,7 @@ use Rattle.sys_exec.specs.Flags.{clear_interrupts, set_interrupts, halt}
 use Rattle.sys_exec.specs.Iret.{is_within}
 use Rattle.sys_exec.specs.Table.{load_gdt, load_idt, load_tr, drop_page}
 use Rattle.sys_exec.specs.Port.{port_in, port_out}
-use Rattle.sys_exec.specs.Sys.{row, sys_work}
+use Rattle.sys_exec.specs.Sys.{row}
 use Rattle.event_entry.specs.declared.refusal.Kind.TheVariants.{Raised, Soft}
 use Rattle.event_entry.specs.declared.refusal.NotDelivered.{NotDelivered}
 use Rattle.event_entry.specs.declared.refusal.NotDelivered.TheVariants as not_delivered
@@ -43,6 +43,8 @@ use Rattle.machine_model.specs.Step.{Completed, Result, Went, Halts, entered, be
 use Rattle.machine_model.specs.Alone.{IsUser, is_barred, is_native}
 use Rattle.sys_exec.specs.Operand.{past}
 use Rattle.machine_model.specs.Counts.{is_software, needs_descriptor, is_direct, direct_in}
+use Rattle.machine_model.proofs.Completing.{first_refused, instructed_by}
+use Rattle.machine_model.proofs.CountingNone.{soft_or_needs}
 use Rattle.image_check.specs.Places.{is_site_at}
 use Rattle.machine_step.specs.declared.worked.Worked.{Worked}
 use Rattle.machine_step.specs.Worked.{went_as, completed_by}
@@ -70,10 +72,6 @@ never_done X (Ok x) h = absurd h
 never_done X (Err e) h = tt
 
 -- ---- what is barred to a user
-
-first_refused : (e : Refusal) (test : Bool) (f : Unit {0} → Work Refusal SysOutcome) (s : Space) → test ≡ false → DoneIf ⊥ ((unless e test >>= f) s)
-first_refused e true f s h = absurd (both_ways true h refl)
-first_refused e false f s h = tt
 
 module _ (cpu : Cpu) (user : cpu.cpl ≡ 3) (open_flags : is_open cpu ≡ true) where
   abbrev most : ℕ
@@ -109,11 +107,6 @@ module _ (cpu : Cpu) (user : cpu.cpl ≡ 3) (open_flags : is_open cpu ≡ true) 
   barred op.PortIn insn len s e = first_refused _ (is_within cpu) _ s not_within
   barred op.PortOut insn len s e = first_refused _ (is_within cpu) _ s not_within
   barred o insn len s e = absurd (let f : false ≡ true = e in cc)
-
-instructed_by : (o : Op) (insn : Insn) (len : ℕ) (cpu : Cpu) (s : Space) → insn.op ≡ o
-    → instructed insn len cpu s ≡ cond (is_plain o) (done_plainly (executed insn len cpu s)) (row o insn len cpu s)
-unfolding instructed sys_work
-instructed_by o insn len cpu s e = ap (λ x. cond (is_plain x) (done_plainly (executed insn len cpu s)) (row x insn len cpu s)) e
 
 -- ---- what a step comes to
 
@@ -176,26 +169,6 @@ refused_none m b r s worked board t e = subst (CompletesAs (λ (c : Option Compl
 indirect : (sites : List Site) (c : Completed) → is_direct sites c ≡ false → direct_in sites (Some c) ≡ []
 indirect sites c e = ap (λ (x : Bool). cond x (c.eip ∷ []) []) e
 
-needs_or_soft : (o : Op) → is_native true o ≡ false → is_barred o ≡ false → (not (is_software o) && not (needs_descriptor o)) ≡ false
-needs_or_soft op.Int n k = refl
-needs_or_soft op.Int3 n k = refl
-needs_or_soft op.LoadSeg n k = refl
-needs_or_soft op.PopSeg n k = refl
-needs_or_soft op.FarJump n k = refl
-needs_or_soft op.Iret n k = refl
-needs_or_soft op.Cli n k = absurd (both_ways true k refl)
-needs_or_soft op.Sti n k = absurd (both_ways true k refl)
-needs_or_soft op.Hlt n k = absurd (both_ways true k refl)
-needs_or_soft op.ReadControl n k = absurd (both_ways true k refl)
-needs_or_soft op.WriteControl n k = absurd (both_ways true k refl)
-needs_or_soft op.LoadGdt n k = absurd (both_ways true k refl)
-needs_or_soft op.LoadIdt n k = absurd (both_ways true k refl)
-needs_or_soft op.LoadTask n k = absurd (both_ways true k refl)
-needs_or_soft op.DropPage n k = absurd (both_ways true k refl)
-needs_or_soft op.PortIn n k = absurd (both_ways true k refl)
-needs_or_soft op.PortOut n k = absurd (both_ways true k refl)
-needs_or_soft o n k = absurd (both_ways true n refl)
-
 module _ (m : Setting) (b : State) (sites : List Site) where
   abbrev None_of : Option Completed → Type 0
   None_of c = direct_in sites c ≡ []
@@ -207,7 +180,7 @@ module _ (m : Setting) (b : State) (sites : List Site) where
   by_user insn user native free =
       indirect sites (begun b insn)
       (ap (λ (x : Bool). not (is_software insn.op) && cond x (not (needs_descriptor insn.op)) (not (is_site_at sites b.cpu.regs.eip))) user
-      ∙ needs_or_soft insn.op (ap (λ (x : Bool). is_native x insn.op) (sym user) ∙ native) free)
+      ∙ soft_or_needs insn.op (ap (λ (x : Bool). is_native x insn.op) (sym user) ∙ native) free)
 
   -- a user's instruction that isn't done by the host
   by_bar : (insn : Insn) (len : ℕ) (s : Space) → IsUser b.cpu → is_native (b.cpu.cpl == 3) insn.op ≡ false → (test : Bool) → is_barred insn.op ≡ test → DoneIf (None_of (Some (begun b insn))) (instructed insn len b.cpu s)

@@ -1,5 +1,5 @@
 -- From a slice and the last line to a whole run.
-use Rattle.std.proofs.Common.{◌≡◌, ℕ, ◌+◌, ◌*◌, ◌≤◌, Bool, List, [], ◌∷◌, ◌++◌, length, take, Option, Ok, Err, refl, sym, ap, subst, ◌∙◌, append_assoc, arith}
+use Rattle.std.proofs.Common.{◌≡◌, ℕ, ◌+◌, ◌*◌, ◌≤◌, Bool, List, [], ◌∷◌, ◌++◌, length, take, Option, Ok, Err, refl, sym, ap, subst, ◌∙◌, arith}
 use Rattle.std.specs.FinMap.{len}
 use Rattle.std.proofs.lemmas.List.{append-nil, length-take-le}
 use Rattle.std.proofs.lemmas.List.Elements.{All-weaker}
@@ -22,12 +22,12 @@ use Rattle.run_trace.specs.Text.{lines_of, end_line, text_of}
 use Rattle.shadow_cache.specs.Views as roots
 use Rattle.shadow_cache.specs.declared.roots.Roots.{Roots}
 use Rattle.machine_model.specs.State.{Setting, State, Loosened, boot, wedge}
-use Rattle.machine_model.specs.Step.{Report}
 use Rattle.machine_model.specs.Run.{Set, Steps, EndsIn, CanGive, stopping, trace_of}
 use Rattle.machine_model.specs.Taken.{steps_by}
 use Rattle.machine_model.specs.Keeping.{Roomy, Kept, IsLeftBehind}
 use Rattle.machine_model.specs.Joined.{KeptBefore}
 use Rattle.machine_model.proofs.Ending.{each_ends}
+use Rattle.machine_model.proofs.Texts.{text_join}
 use Rattle.native_steps.specs.Mirrors.{IsHost, shown}
 use Rattle.wedge_core.specs.Promises.{HasMemory, Promise, HasFills, HasOwnFills, IsEnd, with_patches}
 use Rattle.wedge_core.specs.Guests.{HasGuest}
@@ -39,7 +39,8 @@ use Rattle.wedge_step.specs.Standing.{IsHeld, ground, state_of}
 use Rattle.wedge_step.specs.Filled.{FillsOn}
 use Rattle.wedge_step.specs.declared.running.Running.{Running}
 use Rattle.wedge_step.proofs.Memories.{text_within, part_front}
-use Rattle.wedge_core.proofs.RunPieces.{run_join, seen_join, lines_both, put_both, put_front, put_none}
+use Rattle.wedge_core.proofs.RunPieces.{run_join, put_both, put_front, put_none}
+pub use Rattle.machine_model.proofs.Texts.{text_is}
 
 -- the host's first frames are the guest's memory with the text patched
 pub front_is : (m : Setting) (memory : List ℕ) → IsHost m memory → 0x100000 + length m.image.text ≤ 4096 * m.frames → take (4096 * m.frames) memory ≡ with_patches m.image (shown m memory)
@@ -80,10 +81,6 @@ guest_by : (m : Setting) (n : ℕ) (last new : State) (end : Set) (pause : Pause
     → HasGuest m last (end_of pause) end filled memory
 guest_by m n last new end Reached filled memory h s = (s.0, s.1, s.2, s.3 ∙ h.1, s.4)
 guest_by m n last new end (Stopped stop) filled memory h s = tt
-
-pub text_is : (reports : List Report) (count : ℕ) (end : End) → lines_of (trace_of reports) ++ end_line count end ≡ text_of (trace_of reports) count end
-unfolding text_of
-text_is reports count end = refl
 
 -- a slice that pauses ends so
 pub ends_by : (m : Setting) (n : ℕ) (last new : State) (end : Set) (pause : Pause) → PausesAs m n last new end (Ok pause) → EndsIn m n last (end_of pause)
@@ -137,7 +134,7 @@ allowed_by m n last new end Reached h = h.2
 allowed_by m n last new end (Stopped stop) h = h.2
 
 -- and what was filled in it
-has_fills : (m : Setting) (n : ℕ) (old new : State) (before after : Counts) (told tells : Option (List ℕ)) (pages fills filled : ℕ) (wanted : Bool) (notes_on : List Note → Type 0) (begins : Type 0) (pause : Pause)
+pub has_fills : (m : Setting) (n : ℕ) (old new : State) (before after : Counts) (told tells : Option (List ℕ)) (pages fills filled : ℕ) (wanted : Bool) (notes_on : List Note → Type 0) (begins : Type 0) (pause : Pause)
     → pages ≡ 0 → fills ≡ 0 → filled ≤ 128 * new.step → (h : SliceAs m n old new before after told tells pages fills filled wanted notes_on begins (Ok pause)) → HasFills m h.sets h.last filled
 has_fills m n old new before after told tells pages fills filled wanted notes_on begins pause first none few h = record {
   end = h.end;
@@ -191,13 +188,6 @@ whole_unput law image script frames n pool old new counts counts_after a b c pag
       put_front a b c (lines_of (trace_of h.reports)) (end_line new.step (end_of pause)) [] _ h.text put (ap (λ (l : List ℕ). lines_of (trace_of h.reports) ++ l) (sym (append-nil (end_line new.step (end_of pause))))),
       omega (arith, le, rose),
     )
-
--- the text of a run that goes on
-text_join : (reports later : List Report) (count : ℕ) (end : End) → text_of (trace_of (reports ++ later)) count end ≡ lines_of (trace_of reports) ++ (lines_of (trace_of later) ++ end_line count end)
-text_join reports later count end =
-    sym (text_is (reports ++ later) count end)
-    ∙ (ap (λ (l : List ℕ). l ++ end_line count end) (ap lines_of (seen_join reports later) ∙ lines_both (trace_of reports) (trace_of later))
-    ∙ append_assoc (lines_of (trace_of reports)) (lines_of (trace_of later)) (end_line count end))
 
 -- a front of the lines
 pub whole_front : (image : Image) (script : Events) (frames n pool : ℕ) (old new : State) (counts counts_after : Counts) (a b : Option (List ℕ)) (pages fills filled : ℕ) (wanted : Bool) (notes_on : List Note → Type 0) (begins : Type 0) (failed : Failed) (before now : ℕ) (memory : List ℕ)
