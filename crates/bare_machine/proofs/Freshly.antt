@@ -21,6 +21,8 @@ use Rattle.machine_model.specs.Step.{Report, Went, Halts, step_of}
 use Rattle.machine_model.specs.Run.{Set, Steps, trace_of, with_set}
 use Rattle.machine_model.specs.Ends.{StepsTo}
 use Rattle.machine_model.proofs.Counting.{each_counts}
+use Rattle.machine_model.proofs.Counted.{counted_by, steps_counted}
+use Rattle.machine_model.proofs.Texts.{reported}
 use Rattle.board.specs.Scripts.{Events}
 use Rattle.image_check.specs.Image.{Image}
 use Rattle.image_load.specs.Boot.{need}
@@ -32,9 +34,7 @@ use Rattle.bare_machine.specs.Ending.{EndsAs}
 use Rattle.bare_machine.specs.Starts.{NotBegun}
 use Rattle.bare_machine.specs.FreshRuns.{Course, after_step, fresh_course, course_text, IsFreshRun, EachCourseIsARun}
 use Rattle.bare_machine.specs.FreshTexts.{CourseAs, Comes, FreshAnswers}
-use Rattle.bare_machine.proofs.Runs.{same_step, trace_join}
-use Rattle.bare_machine.proofs.Going.{lines_join}
-use Rattle.bare_machine.proofs.Ones.{steps_counted}
+use Rattle.bare_machine.proofs.Runs.{same_step}
 use Rattle.bare_machine.proofs.Wholes.{answered}
 use Rattle.pv_io.proofs.Pieces.{appends_both, appends_none, front_of, rose_later}
 
@@ -42,7 +42,7 @@ use Rattle.pv_io.proofs.Pieces.{appends_both, appends_none, front_of, rose_later
 abbrev pub behind : List Report → Course → Course
 behind reports c = record c { reports = reports ++ c.reports }
 
-behind_join : (xs ys : List Report) (c : Course) → behind (xs ++ ys) c ≡ behind xs (behind ys c)
+pub behind_join : (xs ys : List Report) (c : Course) → behind (xs ++ ys) c ≡ behind xs (behind ys c)
 behind_join xs ys c = ap (λ (l : List Report). record c { reports = l }) (append_assoc xs ys c.reports)
 
 -- the set that a state holds does not tell
@@ -59,9 +59,6 @@ stood : (s : Setting) (k : ℕ) (b : State) (stop : Stop) → step_of s b empty 
 unfolding fresh_course
 stood s k b stop is = ap (λ (r : steps.Result). after_step b r (λ mid. fresh_course s k mid)) is
 
-counted : (s : Setting) (b mid : State) (set : Set) (now : Report) → step_of s b set ≡ Went now mid → mid.step ≡ b.step + 1
-counted s b mid set now is = subst (StepsTo (b.step + 1)) is (each_counts s b set)
-
 -- the course from a state up to a count of steps
 abbrev pub up_to : Setting → ℕ → State → Course
 up_to s n b = fresh_course s (n - b.step) b
@@ -73,7 +70,7 @@ no_step s n old last whole is =
 one_step : (s : Setting) (n : ℕ) (old mid last : State) (whole : Set) (now : Report) → old.step < n → step_of s old empty ≡ Went now mid → with_set last whole ≡ mid
     → up_to s n old ≡ behind (now ∷ []) (up_to s n last)
 one_step s n old mid last whole now less is to =
-    let count = counted s old mid empty now is in
+    let count = counted_by s old mid empty now is in
     let at : last.step ≡ mid.step = ap (λ (b : State). b.step) to in
     let left : n - old.step ≡ suc (n - last.step) = omega (arith, less, count, at) in
     ap (λ (k : ℕ). fresh_course s k old) left
@@ -117,13 +114,10 @@ nears_cleared s n old now set told tells h = record {
   text = h.text;
 }
 
-lines_behind : (xs ys : List Report) → lines_of (trace_of (xs ++ ys)) ≡ lines_of (trace_of xs) ++ lines_of (trace_of ys)
-lines_behind xs ys = ap lines_of (trace_join xs ys) ∙ lines_join (trace_of xs) (trace_of ys)
-
 text_behind : (reports : List Report) (c : Course) → course_text (behind reports c) ≡ lines_of (trace_of reports) ++ (lines_of (trace_of c.reports) ++ end_line c.count c.end)
 unfolding text_of
 text_behind reports c =
-    ap (λ (l : List ℕ). l ++ end_line c.count c.end) (lines_behind reports c.reports)
+    ap (λ (l : List ℕ). l ++ end_line c.count c.end) (reported reports c.reports)
     ∙ append_assoc (lines_of (trace_of reports)) (lines_of (trace_of c.reports)) (end_line c.count c.end)
 
 -- the course behind a slice of one step
@@ -141,7 +135,7 @@ nears_on s exact n old now new told tells last clear less h slice =
       reports = h.reports ++ slice.reports;
       course = slice_course s exact n old now slice.last h.reports slice.reports clear less most slice.passes h.course
           ∙ ap (λ (b : State). behind (h.reports ++ slice.reports) (up_to s n b)) (sym slice.ends.1);
-      text = subst (λ (l : List ℕ). Appends told last l) (sym (lines_behind h.reports slice.reports)) (appends_both told tells last _ _ h.text slice.text);
+      text = subst (λ (l : List ℕ). Appends told last l) (sym (reported h.reports slice.reports)) (appends_both told tells last _ _ h.text slice.text);
     }
 
 -- the sink failed in a slice of one step
@@ -151,7 +145,7 @@ nears_failed s exact n old now new told tells last failed before mid after clear
     let c = up_to s n slice.last in
     let is = slice_course s exact n old now slice.last h.reports slice.reports clear less slice.ends slice.passes h.course in
     let whole = ap course_text is ∙ (text_behind (h.reports ++ slice.reports) c
-    ∙ (ap (λ (l : List ℕ). l ++ (lines_of (trace_of c.reports) ++ end_line c.count c.end)) (lines_behind h.reports slice.reports)
+    ∙ (ap (λ (l : List ℕ). l ++ (lines_of (trace_of c.reports) ++ end_line c.count c.end)) (reported h.reports slice.reports)
     ∙ append_assoc (lines_of (trace_of h.reports)) (lines_of (trace_of slice.reports)) (lines_of (trace_of c.reports) ++ end_line c.count c.end))) in (
       front_of told tells last (lines_of (trace_of h.reports)) (lines_of (trace_of slice.reports)) (lines_of (trace_of c.reports) ++ end_line c.count c.end) _ h.text slice.text whole,
       rose_later before mid after le rose,
@@ -190,7 +184,7 @@ comes_stopped s exact n old now new told tells last stop clear less h slice =
           ∙ (ap (λ (c : Course). behind (h.reports ++ slice.reports) c) end
           ∙ (ap (λ (l : List Report). record { reports = l; count = slice.last.step; end = ends.Stopped stop }) (append-nil (h.reports ++ slice.reports))
           ∙ ap (λ (k : ℕ). record { reports = h.reports ++ slice.reports; count = k; end = ends.Stopped stop }) (sym slice.ends.1)));
-      text = subst (λ (l : List ℕ). Appends told last l) (sym (lines_behind h.reports slice.reports)) (appends_both told tells last _ _ h.text slice.text);
+      text = subst (λ (l : List ℕ). Appends told last l) (sym (reported h.reports slice.reports)) (appends_both told tells last _ _ h.text slice.text);
     }
 
 text_here : (x : Course) (count : ℕ) (end : End) (told tells : Option (List ℕ)) → (c : Comes x count end told tells) → course_text x ≡ lines_of (trace_of c.reports) ++ end_line count end

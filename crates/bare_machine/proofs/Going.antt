@@ -1,14 +1,15 @@
 -- A slice on its way.
-use Rattle.std.proofs.Common.{◌≡◌, ℕ, Bool, true, List, [], ◌∷◌, ◌++◌, Option, refl, sym, ap, subst, ◌∙◌, append_assoc}
+use Rattle.std.proofs.Common.{◌≡◌, ℕ, Bool, true, List, [], ◌∷◌, ◌++◌, Option, refl, sym, ap, subst, ◌∙◌}
 use Rattle.std.proofs.lemmas.List.{append-nil}
 use Rattle.pv_io.specs.Sink.{Appends, AppendsFront}
 use Rattle.run_trace.specs.declared.items.Item.{Item}
 use Rattle.run_trace.specs.declared.items.What.{What}
-use Rattle.run_trace.specs.Text.{item_line, lines_of}
+use Rattle.run_trace.specs.Text.{lines_of}
 use Rattle.paging.specs.Part.{IsPartOf}
 use Rattle.machine_model.specs.State.{Setting, State}
 use Rattle.machine_model.specs.Step.{Report, Went, step_of, items_at}
 use Rattle.machine_model.specs.Run.{Set, Steps, trace_of, with_set}
+pub use Rattle.machine_model.proofs.Texts.{lines_join}
 use Rattle.bare_machine.specs.Machine.{translations_of, Goes, GoesOn, Rests, Passes, StepsBy, FirstIs}
 use Rattle.bare_machine.specs.declared.machine.Bare as machines
 use Rattle.bare_machine.proofs.Runs.{part_allowed, part_same, same_step, no_steps, steps_on, steps_join, by_none, by_on, by_join, trace_on, trace_join}
@@ -70,10 +71,6 @@ passes_on s exact old m mid whats told tells g r = record {
   first = first_on old.set g.sets m.set (mid.set ∷ []) g.first;
   exactly = λ e. by_on s translations_of old m mid g.reports r.report (g.exactly e) (kept_all s exact m mid whats r e);
 }
-
-pub lines_join : (xs ys : List Item) → lines_of (xs ++ ys) ≡ lines_of xs ++ lines_of ys
-lines_join [] ys = refl
-lines_join (x ∷ xs) ys = ap (λ (l : List ℕ). item_line x ++ l) (lines_join xs ys) ∙ sym (append_assoc (item_line x) (lines_of xs) (lines_of ys))
 
 -- its lines
 pub lines_on : (reports : List Report) (now : Report) (items : List Item) → now.items ≡ items → lines_of (trace_of (reports ++ now ∷ [])) ≡ lines_of (trace_of reports) ++ lines_of items

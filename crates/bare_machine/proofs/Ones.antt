@@ -7,26 +7,11 @@ use Rattle.run_trace.specs.declared.pause.Pause.TheVariants.{Reached, Stopped}
 use Rattle.machine_model.specs.State.{Setting, State}
 use Rattle.machine_model.specs.Step.{Report, Went, Halts, step_of}
 use Rattle.machine_model.specs.Run.{Set, Steps, with_set}
-use Rattle.machine_model.specs.Ends.{StepsTo}
-use Rattle.machine_model.proofs.Counting.{each_counts}
 use Rattle.machine_model.proofs.Runs.{went_there}
+use Rattle.machine_model.proofs.Counted.{steps_counted, counted_by}
 use Rattle.bare_machine.specs.Machine.{translations_of, StepsBy, FirstIs}
 use Rattle.bare_machine.specs.Slices.{SliceAs, OneStepAs}
 use Rattle.bare_machine.proofs.Runs.{same_step}
-
-counted_by : (s : Setting) (b mid : State) (set : Set) (now : Report) → step_of s b set ≡ Went now mid → mid.step ≡ b.step + 1
-counted_by s b mid set now is = subst (StepsTo (b.step + 1)) is (each_counts s b set)
-
--- each step was counted
-pub steps_counted : (s : Setting) (old : State) (sets : List Set) (reports : List Report) (last : State) → Steps s old sets reports last → last.step ≡ old.step + length sets
-unfolding Steps
-steps_counted s old [] reports last h =
-    let is = ap (λ (b : State). b.step) h.1 in
-    omega (arith, is)
-steps_counted s old (set ∷ sets) reports last h =
-    let one = counted_by s old h.0 set h.1 h.4 in
-    let more = steps_counted s h.0 sets h.2 last h.5 in
-    omega (arith, one, more)
 
 by_one_counted : (s : Setting) (old : State) (reports : List Report) (last : State) → StepsBy s translations_of old reports last → last.step ≡ old.step + length reports
 unfolding StepsBy

@@ -2,6 +2,7 @@
 use Rattle.std.proofs.Common.{◌≡◌, ℕ, zero, suc, ◌+◌, ◌-◌, ◌<◌, Bool, true, false, List, [], ◌∷◌, replicate, None, refl, sym, ap, subst, inl, arith}
 use Rattle.board.specs.declared.devices.Board.{Board}
 use Rattle.board.specs.Boards.{board_step, board_steps, comes_within}
+use Rattle.board.proofs.QuietSteps.{no_step}
 use Rattle.descriptors.specs.declared.cpu.Cpu.{Cpu}
 use Rattle.machine_model.specs.State.{Setting, State}
 use Rattle.machine_model.specs.Step.{interrupt_of}
@@ -10,10 +11,6 @@ use Rattle.machine_model.specs.Resting.{IsResting, resting, nothing, HaltedSteps
 use Rattle.paging.specs.Part.{IsPartOf}
 use Rattle.bare_machine.specs.Machine.{Rests, StepsBy, translations_of}
 use Rattle.bare_machine.proofs.Runs.{part_same, no_steps, by_none}
-
-no_step : (board : Board) → board_steps 0 board ≡ board
-unfolding board_steps
-no_step board = refl
 
 -- no step passes
 pub rests_none : (s : Setting) (b : State) (whole : Set) → IsPartOf b.set whole → Rests s b whole b

@@ -8,6 +8,7 @@ use Rattle.machine_model.specs.Step.{Report, Went, step_of}
 use Rattle.machine_model.specs.Run.{Set, Steps, trace_of, with_set}
 pub use Rattle.machine_model.proofs.Runs.{steps_join, steps_one, no_steps, trace_join}
 use Rattle.bare_machine.specs.Machine.{StepsBy}
+pub use Rattle.machine_model.proofs.Counted.{same_step}
 
 -- a part of the set may be gone by
 pub part_allowed : (s : Setting) (b : State) (whole part : Set) → IsPartOf part whole → Loosened s (with_set b whole) part
@@ -15,11 +16,6 @@ part_allowed s b whole part h = record { each = λ page e is. inl (h.each page e
 
 pub part_same : (set : Set) → IsPartOf set set
 part_same set = record { each = λ page e is. is }
-
--- the set before the step is the one that was chosen
-pub same_step : (s : Setting) (b : State) (whole set : Set) → step_of s (with_set b whole) set ≡ step_of s b set
-unfolding step_of
-same_step s b whole set = refl
 
 -- one step more
 pub steps_on : (s : Setting) (old mid new : State) (sets : List Set) (set : Set) (reports : List Report) (now : Report)

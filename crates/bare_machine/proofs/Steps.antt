@@ -1,11 +1,9 @@
 -- What a step comes to, from what its parts did.
-use Rattle.std.proofs.Common.{◌≡◌, ℕ, ◌/◌, None, refl, sym, ◌∙◌, inl, inr}
+use Rattle.std.proofs.Common.{ℕ, ◌/◌, None, refl, sym, ◌∙◌, inl, inr}
 use Rattle.std.proofs.lemmas.Bool.Decides.{eqb_tells}
 use Rattle.std.specs.FinMap.{FinMap, empty}
 use Rattle.std.specs.Ordering.{nat_cmp}
 use Rattle.std.proofs.lemmas.Option.{none-some}
-use Rattle.board.specs.declared.devices.Board.{Board}
-use Rattle.board.specs.Boards.{board_step, board_steps}
 use Rattle.paging.specs.declared.entry.Entry.{Entry}
 use Rattle.paging.specs.Uses.{with_entry, without_dir}
 use Rattle.xlate_buffer.proofs.Caching.{dir_gone, dir_other}
@@ -34,8 +32,3 @@ within_dropped frames dropped.Nothing set part h p = part_within frames set part
 within_dropped frames (dropped.Page page) set part h p = part_within frames (with_entry set page None) part (Within_with frames set page None h tt) p
 within_dropped frames (dropped.Dir index) set part h p = part_within frames (without_dir set index) part (dir_within frames index set h) p
 within_dropped frames dropped.All set part h p = part_within frames empty part (none_within frames empty refl) p
-
--- one step of the board
-pub one_step : (board : Board) → board_steps 1 board ≡ board_step board
-unfolding board_steps
-one_step board = refl

@@ -1,5 +1,5 @@
 -- From a slice and the last line to a whole run.
-use Rattle.std.proofs.Common.{◌≡◌, ℕ, ◌≤◌, Bool, List, [], ◌++◌, Option, Result, Ok, Err, refl, sym, ap, subst, ◌∙◌, append_assoc, arith}
+use Rattle.std.proofs.Common.{◌≡◌, ℕ, ◌≤◌, Bool, List, [], ◌++◌, Option, Result, Ok, Err, refl, sym, ap, subst, ◌∙◌, arith}
 use Rattle.std.proofs.lemmas.List.{append-nil}
 use Rattle.pv_io.specs.declared.answer.Failed.{Failed}
 use Rattle.pv_io.specs.Causes.{Rose}
@@ -15,9 +15,9 @@ use Rattle.run_trace.specs.declared.items.End.{End}
 use Rattle.run_trace.specs.declared.items.Ended.{Ended}
 use Rattle.run_trace.specs.Text.{lines_of, end_line, text_of}
 use Rattle.machine_model.specs.State.{Setting, State, boot}
-use Rattle.machine_model.specs.Step.{Report}
 use Rattle.machine_model.specs.Run.{Run, trace_of, with_set}
 use Rattle.machine_model.proofs.Ending.{each_ends}
+use Rattle.machine_model.proofs.Texts.{text_join, text_is}
 use Rattle.bare_machine.specs.Settings.{bare}
 use Rattle.bare_machine.specs.Slices.{SliceAs}
 use Rattle.bare_machine.specs.Answers.{RunsTo, WholeAs, RunAnswers, RefusedRun}
@@ -25,13 +25,8 @@ use Rattle.bare_machine.specs.Runs.{HasRun}
 use Rattle.bare_machine.specs.Ending.{EndsAs}
 use Rattle.bare_machine.specs.Starts.{NotBegun}
 use Rattle.run_trace.specs.Pauses.{end_of}
-use Rattle.bare_machine.proofs.Runs.{part_allowed, same_step, steps_join, trace_join}
-use Rattle.bare_machine.proofs.Going.{lines_join}
+use Rattle.bare_machine.proofs.Runs.{part_allowed, same_step, steps_join}
 use Rattle.pv_io.proofs.Pieces.{appends_both, appends_none, front_of}
-
-text_is : (reports : List Report) (count : ℕ) (end : End) → lines_of (trace_of reports) ++ end_line count end ≡ text_of (trace_of reports) count end
-unfolding text_of
-text_is reports count end = refl
 
 -- the slice that ended is a run
 pub ran : (s : Setting) (exact : Bool) (n : ℕ) (old new : State) (told tells : Option (List ℕ)) (pause : Pause) → (h : SliceAs s exact n old new told tells (Ok pause))
@@ -86,13 +81,6 @@ whole_ended s exact n old new a b c pause before mid now (Ok ended) h le e =
 whole_ended s exact n old new a b c pause before mid now (Err fault.Write) h le e = whole_unput s exact n old new a b c pause before mid now h e.0 le e.1
 whole_ended s exact n old new a b c pause before mid now (Err (fault.TooSmall small)) h le e = absurd e
 whole_ended s exact n old new a b c pause before mid now (Err fault.Memory) h le e = absurd e
-
--- the text of a run that goes on
-text_join : (reports later : List Report) (count : ℕ) (end : End) → text_of (trace_of (reports ++ later)) count end ≡ lines_of (trace_of reports) ++ (lines_of (trace_of later) ++ end_line count end)
-text_join reports later count end =
-    sym (text_is (reports ++ later) count end)
-    ∙ (ap (λ (l : List ℕ). l ++ end_line count end) (ap lines_of (trace_join reports later) ∙ lines_join (trace_of reports) (trace_of later))
-    ∙ append_assoc (lines_of (trace_of reports)) (lines_of (trace_of later)) (end_line count end))
 
 -- a front of the lines
 pub whole_front : (s : Setting) (exact : Bool) (n : ℕ) (old new : State) (a b : Option (List ℕ)) (failed : Failed) (before now : ℕ) → SliceAs s exact n old new a b (Err failed) → Rose before now

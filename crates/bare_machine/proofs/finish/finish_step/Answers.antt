@@ -3,7 +3,8 @@ use Rattle.paging.specs.Part.{IsPartOf}
 use Rattle.step_mem.specs.Changes.{changed}
 use Rattle.machine_model.specs.Step.{items_at}
 use Rattle.machine_step.specs.Worked.{dropping}
-use Rattle.bare_machine.proofs.Steps.{within_dropped, one_step}
+use Rattle.board.proofs.QuietSteps.{one_step}
+use Rattle.bare_machine.proofs.Steps.{within_dropped}
 use Rattle.bare_machine.proofs.finish.finish_step.Goals as goal
 
 pub returns-clause-goes : goal.returns-clause-goes
