@@ -146,7 +146,13 @@ fn a_line_that_fails_ends_a_patched_slice_at_its_step(rt: HostRuntime) {
     assert!(rt; Host::retired(&host) <= 1 << 62);
     assert!(rt; u64::from(pool.free()) + u64::from(guest.held()) >= 16);
     let answer = guest.slice(
-        &image, &script, 8, &mut pool, &mut host, &mut out, &mut NoNotes,
+        &image,
+        &script,
+        8,
+        &mut pool,
+        &mut host,
+        &mut out,
+        &mut NoNotes,
     );
     assert!(rt; answer.is_err());
     assert!(rt; guest.step() == 3);
