@@ -19,7 +19,7 @@ use step_mem::{Guard, Kept, StepState, Text};
 
 /// The text as the guest sees it.
 pub fn original(image: &Checked) -> Text<'_>
-    ensures first { result.first ≡ 256 }
+    ensures first { result.first ≡ TEXT_FRAME }
     ensures count { result.count ≡ text_pages image.now }
     ensures bytes { result.bytes.now ≡ image.now.text }
 {
@@ -44,15 +44,15 @@ pub fn begin_over<'t, B: Kept>(
     requires below { 4096 * frames ≤ B.floor kept.now }
     requires stands { ∥ B.stands kept.now ram.now ∥₁ }
     requires within { AreWithin frames (B.entries kept.now ram.now) }
-    requires room { 256 + text_pages image.now ≤ frames }
+    requires room { TEXT_FRAME + text_pages image.now ≤ frames }
     requires text { IsOriginal image.now text.now }
     ensures sound { IsSoundOver B.Kept kept.now ram.now state.new }
     ensures space { space B.Kept kept.now ram.now state.new ≡ space_at_start (wedge_mode image.now) frames cpu.now
-        (laid image.now.text 256 frames ram.now) (B.entries kept.now ram.now) }
+        (laid image.now.text TEXT_FRAME frames ram.now) (B.entries kept.now ram.now) }
     ensures pages { state.new.pages ≡ 0 }
     ensures frames { state.new.control.frames ≡ frames }
-    ensures hides { (n : ℕ) (memory : List ℕ) → hidden state.new.guard n memory ≡ beyond 256 (text_pages image.now) n memory }
-    ensures lays { (n : ℕ) (memory : List ℕ) → shown state.new.guard n memory ≡ laid image.now.text 256 n memory }
+    ensures hides { (n : ℕ) (memory : List ℕ) → hidden state.new.guard n memory ≡ beyond TEXT_FRAME (text_pages image.now) n memory }
+    ensures lays { (n : ℕ) (memory : List ℕ) → shown state.new.guard n memory ≡ laid image.now.text TEXT_FRAME n memory }
 {
     let guard = Guard {
         text,

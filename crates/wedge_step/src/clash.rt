@@ -8,6 +8,7 @@ ghost use Rattle.guest_ram.specs.Among.{is_among};
 ghost use Rattle.descriptors.specs.Controls.{wp_of};
 ghost use Rattle.board.specs.declared.devices.Board.{Board};
 ghost use Rattle.board.specs.Scripts.{Events};
+ghost use Rattle.ia32_types.specs.declared.addresses.TheConstants.{TEXT_PLACE};
 ghost use Rattle.ia32_types.specs.declared.insn.Insn.{Insn};
 ghost use Rattle.ia32_decode.specs.declared.answer.Decoded.TheVariants as begins;
 ghost use Rattle.ia32_decode.specs.Decoding.{decoded};
@@ -146,7 +147,7 @@ fn add_next<S: Shadows>(
     requires kept { AreWithin view.now.frames (set_at S.Shadows shadows.now view.now) }
     requires marks { AreIn view.now.frames (marks_of first.marks) }
     requires frame { first.frame < view.now.frames }
-    requires page { cpu.now.regs.eip / 4096 < 1048575 }
+    requires page { cpu.now.regs.eip / 4096 < LAST_PAGE }
     requires few { length bytes.old.items ≤ 11 }
     requires one { model_uses (cpu.now.cpl == 3) uses.old.items
         ≡ record { page = cpu.now.regs.eip / 4096; access = record { write = false; user = cpu.now.cpl == 3 } } ∷ [] }
@@ -213,7 +214,7 @@ fn is_clash<S: Shadows>(cpu: &Cpu, shadows: &S, ram: &Ram, uses: &[PageUse]) -> 
 /// are those that the step itself uses, where its fetch gives an instruction; where it gives none, no clash is found.
 pub fn clashes<S: Shadows>(cpu: &Cpu, frames: u32, shadows: &S, ram: &Ram, image: &Checked) -> bool
     requires frames { 4096 * frames ≤ length ram.now }
-    requires laid { 0x100000 + length image.now.text ≤ 4096 * frames }
+    requires laid { TEXT_PLACE + length image.now.text ≤ 4096 * frames }
     requires stands { ∥ S.stands shadows.now ram.now ∥₁ }
     requires kept { AreWithin frames (entries_of (S.slots shadows.now ram.now)) }
     ensures looked { result ≡ clash_in (get (entries_of (S.slots shadows.now ram.now))) (wp_of cpu.now)

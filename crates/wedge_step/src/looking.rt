@@ -4,6 +4,7 @@
 ghost use Rattle.std.specs.Prelude.{◌≡◌, ℕ, ◌+◌, ◌*◌, ◌/◌, ◌%◌, ◌≤◌, ◌<◌, ◌^◌, ◌==◌, ◌&&◌, ◌||◌, ◌++◌, length, true, not, Bool, List, IfSome, bit_or, if◌then◌else◌};
 ghost use Rattle.guest_ram.specs.Among.{is_among};
 ghost use Rattle.guest_ram.specs.Bytes.{byte, part};
+ghost use Rattle.ia32_types.specs.declared.addresses.TheConstants.{LAST_PAGE};
 ghost use Rattle.machine_model.specs.Run.{Set};
 ghost use Rattle.machine_model.specs.State.{wedge_mode};
 ghost use Rattle.paging.specs.Fresh.{has};
@@ -297,7 +298,7 @@ pub(crate) fn fetched_next<S: Shadows>(
     requires kept { AreWithin view.now.frames (set_at S.Shadows shadows.now view.now) }
     requires marks { AreIn view.now.frames (marks_of first.marks) }
     requires frame { first.frame < view.now.frames }
-    requires page { cpu.now.regs.eip / 4096 < 1048575 }
+    requires page { cpu.now.regs.eip / 4096 < LAST_PAGE }
     ensures seen { map_seen result ≡ next_seen (ground_of view.now) (looked_at S.Shadows cpu.now shadows.now view.now) (seen_of first) }
     ensures marks { IfSome result (λ s. AreIn view.now.frames (marks_of s.marks)) }
     ensures frame { IfSome result (λ s. s.frame < view.now.frames) }

@@ -2,6 +2,7 @@
 
 ghost use Rattle.std.specs.Prelude.{◌≡◌, ◌+◌, ◌*◌, ◌/◌, ◌≤◌, ◌<◌, ◌^◌, length};
 ghost use Rattle.guest_ram.specs.Bytes.{AreBytes, byte, word32};
+ghost use Rattle.ia32_types.specs.declared.addresses.TheConstants.{TEXT_PLACE};
 ghost use Rattle.paging.specs.Fresh.{fresh, FoundIn};
 ghost use Rattle.native_steps.specs.Mirrors.{shown};
 ghost use Rattle.wedge_step.specs.Standing.{ground};
@@ -15,7 +16,7 @@ use step_mem::read_laid;
 /// Memory, as the guest sees it, is bytes, in so many frames.
 pub fn are_bytes(ram: &Ram, image: &Checked, frames: u32)
     requires frames { 4096 * frames ≤ length ram.now }
-    requires laid { 0x100000 + length image.now.text ≤ 4096 * frames }
+    requires laid { TEXT_PLACE + length image.now.text ≤ 4096 * frames }
     ensures bytes { AreBytes (shown (ground image.now frames) ram.now) }
     ensures length { length (shown (ground image.now frames) ram.now) ≡ 4096 * frames }
 {
@@ -30,7 +31,7 @@ pub(crate) struct GuestView<'a> {
     pub(crate) image: &'a Checked,
     pub(crate) frames: u32,
     ghost room: { 4096 * frames ≤ length ram.now },
-    ghost laid: { 0x100000 + length image.now.text ≤ 4096 * frames },
+    ghost laid: { TEXT_PLACE + length image.now.text ≤ 4096 * frames },
 }
 
 /// The byte at a place.
