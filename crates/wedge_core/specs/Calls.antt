@@ -2,6 +2,7 @@
 use Rattle.std.specs.Prelude.{◌≡◌, ℕ, ◌+◌, ◌*◌, ◌%◌, ◌≤◌, List, [], length, take, Result}
 use Rattle.std.specs.FinMap.{empty}
 use Rattle.guest_ram.specs.Bytes.{part}
+use Rattle.ia32_types.specs.declared.addresses.TheConstants.{TEXT_FRAME, TEXT_PLACE}
 use Rattle.frame_pool.specs.Held.{Moves, Owns}
 use Rattle.frame_pool.specs.Pool.{SameOutside, Stands, base_of, count_of, free_list}
 use Rattle.frame_pool.specs.declared.Pool.{Pool}
@@ -30,8 +31,8 @@ pub record MayAdopt (image : Image) (frames : ℕ) (pool : Pool) (memory : List 
   pub size : (2048 ≤ frames) × (frames ≤ 16384)
   pub room : 4096 * frames ≤ length memory
   pub whole : length memory % 4096 ≡ 0
-  pub fits : 0x100 + text_pages image ≤ frames
-  pub text : part memory 0x100000 (length image.text) ≡ image.text
+  pub fits : TEXT_FRAME + text_pages image ≤ frames
+  pub text : part memory TEXT_PLACE (length image.text) ≡ image.text
   pub behind : frames ≤ base_of pool
   pub stands : Stands pool memory
   pub free : 2 ≤ length (free_list pool memory)

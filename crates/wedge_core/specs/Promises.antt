@@ -3,6 +3,7 @@ use Rattle.std.specs.Prelude.{◌≡◌, ℕ, ◌*◌, ◌≤◌, List, ◌∷�
 use Rattle.std.specs.FinMap.{len}
 use Rattle.std.specs.List.{All}
 use Rattle.guest_ram.specs.Bytes.{with_part}
+use Rattle.ia32_types.specs.declared.addresses.TheConstants.{TEXT_PLACE}
 use Rattle.sites.specs.Patched.{patched}
 use Rattle.image_check.specs.Image.{Image}
 use Rattle.run_trace.specs.declared.items.End.{End}
@@ -17,7 +18,7 @@ use Rattle.wedge_core.specs.Counts.{Counts, CountsOn}
 
 -- the guest's memory as the host has it: with the patched text in the text's place
 abbrev pub with_patches : Image → List ℕ → List ℕ
-with_patches image ram = with_part ram 0x100000 (patched image.text 0 image.sites)
+with_patches image ram = with_part ram TEXT_PLACE (patched image.text 0 image.sites)
 
 abbrev pub HasMemory : Setting → State → End → List ℕ → Type 0
 HasMemory m last Bound memory = take (4096 * m.frames) memory ≡ with_patches m.image last.ram

@@ -1,5 +1,6 @@
 -- What the host did at one call, and where that leaves the guest.
 use Rattle.std.specs.Prelude.{◌≡◌, ℕ, ◌+◌, ◌≤◌, ◌<◌, List, true, false}
+use Rattle.ia32_types.specs.declared.addresses.TheConstants.{WINDOW_BELOW, WINDOW_END}
 use Rattle.ia32_types.specs.declared.flags.Regs.{Regs}
 use Rattle.board.specs.Boards.{board_steps, comes_within}
 use Rattle.board.specs.Scripts.{Events}
@@ -12,7 +13,7 @@ use Rattle.wedge_step.specs.declared.running.Running.{Running}
 
 -- The guest's registers behind an exit: a jump into the window is taken back, so that EIP is the site's.
 abbrev pub landed : Exit → Regs → Regs
-landed (exits.Entry at) regs = record regs { eip = at + 0x0B0B0B07 }
+landed (exits.Entry at) regs = record regs { eip = at + WINDOW_BELOW }
 landed (exits.Fault vector code cr2) regs = regs
 landed (exits.Soft vector) regs = regs
 landed exits.Outside regs = regs
@@ -22,7 +23,7 @@ landed exits.Budget regs = regs
 
 -- a jump into the window leads below its end
 abbrev pub LeadsLow : Exit → Type 0
-LeadsLow (exits.Entry at) = at < 0x06000000
+LeadsLow (exits.Entry at) = at < WINDOW_END
 LeadsLow (exits.Fault vector code cr2) = Unit {0}
 LeadsLow (exits.Soft vector) = Unit {0}
 LeadsLow exits.Outside = Unit {0}
