@@ -9,6 +9,7 @@ use Rattle.std.proofs.lemmas.List.{take-append-drop, length-take-le}
 use Rattle.std.specs.FinMap.{get, insert}
 use Rattle.paging.specs.declared.entry.Entry.{Entry}
 use Rattle.paging.specs.Uses.{with_entry}
+use Rattle.paging.proofs.WithEntry.{get_with_same, get_with_other}
 use Rattle.step_mem.specs.Changes.{AreWithin}
 use Rattle.board.specs.Scripts.{Events}
 use Rattle.image_check.specs.Image.{Image}
@@ -21,7 +22,6 @@ use Rattle.trace_check.specs.declared.list.ChoiceKind.TheVariants.{Drop, Empty, 
 use Rattle.trace_check.specs.Form.{AreFrom, IsPageOf}
 use Rattle.trace_check.specs.Courses.{made, after_made, chosen}
 use Rattle.trace_check.specs.Follows.{IsMade, due, AreBelow, Splits}
-use Rattle.trace_check.proofs.Holding.{with_same, with_other}
 
 -- ---- one choice
 
@@ -32,8 +32,8 @@ add_made old new e page o is at to =
 pub removed_within : (frames : ℕ) (old new : Set) (page : ℕ) → new ≡ with_entry old page None → AreWithin frames old → AreWithin frames new
 removed_within frames old new page is h = subst (AreWithin frames) (sym is) (λ q e found.
     elim (eqb_tells q page) [
-      | inl t ↦ absurd (none-some e (sym (with_same old page None) ∙ ap (get (with_entry old page None)) (sym t.1) ∙ found))
-      | inr f ↦ h q e (sym (with_other old page None q f.1) ∙ found)
+      | inl t ↦ absurd (none-some e (sym (get_with_same old page None) ∙ ap (get (with_entry old page None)) (sym t.1) ∙ found))
+      | inr f ↦ h q e (sym (get_with_other old page None q f.1) ∙ found)
     ])
 
 pub of_kind : (s : Setting) (b : State) (k kind : ChoiceKind) (page : ℕ) (old new : Set) (r : Bool) → kind ≡ k → IsMade (made s b k page old) new r → IsMade (made s b kind page old) new r

@@ -5,6 +5,7 @@ use Rattle.std.specs.Str.{bytes_eq}
 use Rattle.std.proofs.lemmas.Bool.{eqb-true}
 use Rattle.std.proofs.lemmas.List.{append-nil, drop_at}
 use Rattle.std.proofs.Math.Seq.{take-append_seam}
+use Rattle.std.proofs.lemmas.Option.{same_Some}
 use Rattle.pv_io.specs.declared.answer.Failed.{Failed}
 use Rattle.pv_io.specs.Causes.{Rose}
 use Rattle.pv_io.specs.Sink.{Appends, AppendsFront}
@@ -32,18 +33,15 @@ pub record Known (text whole : List ℕ) (m : Matched) : Type 0 where
   pub given : given_to m ++ rest ≡ whole
   pub done : (rest ≡ []) ⊎ IsSome m.wrong
 
-some_inner : (a b : List ℕ) → Some a ≡ Some b → a ≡ b
-some_inner a b h = cc
-
 pub known_whole : (text whole : List ℕ) (m : Matched) → Appends (Some (taken_by (fresh_of text))) (Some (taken_by m)) whole → Known text whole m
 known_whole text whole m h =
-    let all : taken_by m ≡ length text ∷ ((text ++ []) ++ whole) = some_inner _ _ h in
+    let all : taken_by m ≡ length text ∷ ((text ++ []) ++ whole) = same_Some _ _ h in
     let both = split_taken text m.text (given_to m) whole (all ∙ ap (λ (l : List ℕ). length text ∷ (l ++ whole)) (append-nil text)) in
     record { text_is = both.0; rest = []; given = append-nil (given_to m) ∙ both.1; done = inl refl }
 
 pub known_front : (text whole : List ℕ) (m : Matched) → AppendsFront (Some (taken_by (fresh_of text))) (Some (taken_by m)) whole → IsSome m.wrong → Known text whole m
 known_front text whole m h wrong =
-    let all : taken_by m ≡ length text ∷ ((text ++ []) ++ h.front) = some_inner _ _ h.taken in
+    let all : taken_by m ≡ length text ∷ ((text ++ []) ++ h.front) = same_Some _ _ h.taken in
     let both = split_taken text m.text (given_to m) h.front (all ∙ ap (λ (l : List ℕ). length text ∷ (l ++ h.front)) (append-nil text)) in
     record { text_is = both.0; rest = h.rest; given = ap (λ (l : List ℕ). l ++ h.rest) both.1 ∙ h.whole; done = inr wrong }
 

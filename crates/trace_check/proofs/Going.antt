@@ -16,13 +16,12 @@ use Rattle.machine_model.specs.State.{Setting, State}
 use Rattle.machine_model.specs.Step as steps
 use Rattle.machine_model.specs.Step.{Report, Went, Halts, step_of}
 use Rattle.machine_model.specs.Run.{Set, with_set, trace_of}
-use Rattle.machine_model.specs.Ends.{StepsTo}
-use Rattle.machine_model.proofs.Counting.{each_counts}
+use Rattle.machine_model.proofs.Counted.{counted_by}
+use Rattle.machine_model.proofs.Texts.{reported}
 use Rattle.bare_machine.specs.Machine.{StepsBy, translations_of}
 use Rattle.bare_machine.specs.Settings.{bare}
 use Rattle.bare_machine.specs.Slices.{SliceAs}
-use Rattle.bare_machine.proofs.Runs.{same_step, trace_join}
-use Rattle.bare_machine.proofs.Going.{lines_join}
+use Rattle.bare_machine.proofs.Runs.{same_step}
 use Rattle.trace_check.specs.declared.list.Choice.{Choice}
 use Rattle.trace_check.specs.declared.answer.CourseEnd.{CourseEnd}
 use Rattle.trace_check.specs.declared.answer.CourseEnd.TheVariants.{Ended, BadAt}
@@ -34,12 +33,6 @@ use Rattle.trace_check.proofs.Choosing.{untouched, below_later, next_is, none_le
 -- a course with reports before it
 abbrev pub behind : List Report → Course → Course
 behind reports c = record c { reports = reports ++ c.reports }
-
-behind_join : (xs ys : List Report) (c : Course) → behind (xs ++ ys) c ≡ behind xs (behind ys c)
-behind_join xs ys c = ap (λ (l : List Report). record c { reports = l }) (append_assoc xs ys c.reports)
-
-pub counted : (s : Setting) (b mid : State) (set : Set) (now : Report) → step_of s b set ≡ Went now mid → mid.step ≡ b.step + 1
-counted s b mid set now is = subst (StepsTo (b.step + 1)) is (each_counts s b set)
 
 -- the course up to a count of steps, and the same where the choices of the first step were made
 abbrev pub up_to : Setting → List Choice → ℕ → State → Course
@@ -67,9 +60,12 @@ at_bound : (s : Setting) (list : List Choice) (n : ℕ) (b : State) → n ≤ b.
 unfolding course
 at_bound s list n b le = let left : n - b.step ≡ 0 = omega arith in ap (λ (k : ℕ). course s list k b) left
 
+behind_join : (xs ys : List Report) (c : Course) → behind (xs ++ ys) c ≡ behind xs (behind ys c)
+behind_join xs ys c = ap (λ (l : List Report). record c { reports = l }) (append_assoc xs ys c.reports)
+
 went : (s : Setting) (list : List Choice) (n : ℕ) (b mid : State) (now : Report) → step_of s b b.set ≡ Went now mid → going s list n b ≡ behind (now ∷ []) (up_to s list n mid)
 went s list n b mid now is =
-    let count = counted s b mid b.set now is in
+    let count = counted_by s b mid b.set now is in
     ap (λ (r : steps.Result). after_step b.step r (λ m. course s list (n - (b.step + 1)) m)) is
     ∙ ap (λ (k : ℕ). behind (now ∷ []) (course s list (n - k) mid)) (sym count)
 
@@ -82,7 +78,7 @@ steps_counted : (s : Setting) (old last : State) (reports : List Report) → Ste
 unfolding StepsBy
 steps_counted s old last [] h = let e : old.step + 0 ≡ old.step = omega arith in ap (λ (b : State). b.step) h ∙ sym e
 steps_counted s old last (now ∷ later) h =
-    let count = counted s old h.0 old.set now h.1 in
+    let count = counted_by s old h.0 old.set now h.1 in
     let rest = steps_counted s h.0 last later h.2 in
     omega (arith, count, rest)
 
@@ -96,7 +92,7 @@ unfolding StepsBy
 gone s list n until from [] old last now le most bound free h =
     went s list n old h.0 now h.1 ∙ ap (λ (b : State). behind (now ∷ []) (up_to s list n b)) (sym h.2)
 gone s list n until from (next ∷ later) old last now le most bound free h =
-    let count = counted s old h.0 old.set now h.1 in
+    let count = counted_by s old h.0 old.set now h.1 in
     let rest = steps_counted s h.0 last (next ∷ later) h.2 in
     let more : h.0.step < last.step = omega (arith, rest) in
     let here = free h.0 (omega (arith, count)) (omega (arith, more)) in
@@ -193,9 +189,6 @@ pub record Nears (s : Setting) (list : List Choice) (n : ℕ) (first now : State
 pub nears_none : (s : Setting) (list : List Choice) (n : ℕ) (first : State) (told : Option (List ℕ)) → Nears s list n first first told told
 nears_none s list n first told = record { reports = []; course_is = refl; text = appends_none told }
 
-lines_both : (xs ys : List Report) → lines_of (trace_of (xs ++ ys)) ≡ lines_of (trace_of xs) ++ lines_of (trace_of ys)
-lines_both xs ys = ap lines_of (trace_join xs ys) ∙ lines_join (trace_of xs) (trace_of ys)
-
 -- what is known before a slice: the choices of its first step were made
 pub record Ready (s : Setting) (list : List Choice) (n at : ℕ) (now made : State) : Type 0 where
   pub less : now.step < n
@@ -228,7 +221,7 @@ nears_on s list n at first now made new told so_far tells near r h =
           ∙ ap (λ (c : Course). behind near.reports c) (going_made s list n at now made r ∙ whole)
           ∙ sym (behind_join near.reports h.reports (up_to s list n h.last))
           ∙ ap (λ (b : State). behind (near.reports ++ h.reports) (up_to s list n b)) (sym h.ends.1);
-      text = subst (Appends told tells) (sym (lines_both near.reports h.reports)) (appends_both told so_far tells _ _ near.text h.text);
+      text = subst (Appends told tells) (sym (reported near.reports h.reports)) (appends_both told so_far tells _ _ near.text h.text);
     }
 
 pub at_stop : (s : Setting) (list : List Choice) (n at : ℕ) (first now made new : State) (stop : Stop) (told so_far tells : Option (List ℕ)) → Nears s list n first now told so_far → Ready s list n at now made
@@ -243,7 +236,7 @@ at_stop s list n at first now made new stop told so_far tells near r h =
     let reports : (up_to s list n first).reports ≡ near.reports ++ h.reports = ap (λ (c : Course). c.reports) all ∙ append-nil (near.reports ++ h.reports) in (
       ap (λ (c : Course). c.end) all,
       ap (λ (c : Course). c.count) all ∙ sym h.ends.1,
-      subst (Appends told tells) (sym (ap (λ (l : List Report). lines_of (trace_of l)) reports ∙ lines_both near.reports h.reports)) (appends_both told so_far tells _ _ near.text h.text),
+      subst (Appends told tells) (sym (ap (λ (l : List Report). lines_of (trace_of l)) reports ∙ reported near.reports h.reports)) (appends_both told so_far tells _ _ near.text h.text),
     )
 
 pub at_failure : (s : Setting) (list : List Choice) (n at : ℕ) (first now made new : State) (failed : Failed) (told so_far tells : Option (List ℕ)) (count : ℕ) → Nears s list n first now told so_far → Ready s list n at now made
@@ -253,7 +246,7 @@ at_failure s list n at first now made new failed told so_far tells count near r 
     let reports : (up_to s list n first).reports ≡ near.reports ++ (h.reports ++ some.later) =
     ap (λ (c : Course). c.reports) (near.course_is ∙ ap (λ (c : Course). behind near.reports c) (going_made s list n at now made r)) ∙ ap (λ (l : List Report). near.reports ++ l) some.all in
     front_of told so_far tells (lines_of (trace_of near.reports)) (lines_of (trace_of h.reports)) (lines_of (trace_of some.later)) (lines_of (trace_of (up_to s list n first).reports)) near.text h.text
-    (ap (λ (l : List Report). lines_of (trace_of l)) reports ∙ lines_both near.reports (h.reports ++ some.later) ∙ ap (λ (l : List ℕ). lines_of (trace_of near.reports) ++ l) (lines_both h.reports some.later))
+    (ap (λ (l : List Report). lines_of (trace_of l)) reports ∙ reported near.reports (h.reports ++ some.later) ∙ ap (λ (l : List ℕ). lines_of (trace_of near.reports) ++ l) (reported h.reports some.later))
 
 pub at_bad : (s : Setting) (list : List Choice) (n at : ℕ) (first now : State) (told tells : Option (List ℕ)) → Nears s list n first now told tells → now.step < n → chosen s now 0 list now.set ≡ Err at
     → FollowsAs (up_to s list n first) now.step told tells (Ok (BadAt at))

@@ -1,40 +1,28 @@
 -- A set of translations as one word for each page, read by page.
-use Rattle.std.proofs.Common.{◌≡◌, ◌≢◌, ℕ, zero, suc, ◌+◌, ◌*◌, ◌<◌, ◌≤◌, ◌^◌, ◌/◌, ◌%◌, Bool, true, false, cond, eqb, List, [], ◌∷◌, length, get_or, set, refl, sym, ap, ◌∙◌, subst, arith, Option, Some, None, inl, inr, ◌⊎◌, lit<}
+use Rattle.std.proofs.Common.{◌≡◌, ◌≢◌, ℕ, zero, suc, ◌+◌, ◌*◌, ◌<◌, ◌≤◌, ◌^◌, ◌/◌, ◌%◌, Bool, true, false, cond, List, [], ◌∷◌, length, get_or, set, refl, sym, ap, ◌∙◌, subst, arith, Some, None, inl, inr, ◌⊎◌, lit<}
 use Rattle.std.specs.Prelude.{replicate}
-use Rattle.std.proofs.lemmas.Bool.{ne_eqb}
 use Rattle.std.proofs.lemmas.Bool.Decides.{eqb_tells}
 use Rattle.std.proofs.lemmas.List.{get_or-set_same, get_or-set_other}
 use Rattle.std.proofs.Math.ListN.{length-set, length-replicate}
 use Rattle.std.proofs.lemmas.Cmp.{nat_cmp_total}
-use Rattle.std.specs.FinMap.{FinMap, get, empty, get-empty, get-insert, get-remove, same_map, nat_cmp-IsAntisymmetric}
+use Rattle.std.specs.FinMap.{get, empty, get-empty, same_map, nat_cmp-IsAntisymmetric}
 use Rattle.std.specs.Ordering.{nat_cmp}
-use Rattle.std.specs.Cmp.{unsigned_tied}
 use Rattle.paging.specs.declared.entry.Entry.{Entry}
 use Rattle.paging.specs.Fresh.{has}
 use Rattle.paging.specs.Uses.{with_entry}
+use Rattle.paging.proofs.WithEntry.{get_with_same, get_with_other}
 use Rattle.trace_check.specs.Slots.{word_of, entry_in, entries_from, entries_of, IsWhole}
-
-eqb_self : (n : ℕ) → eqb n n ≡ true
-eqb_self n = elim (eqb_tells n n) [ inl t ↦ t.0 | inr f ↦ absurd (f.1 refl) ]
-
-pub with_same : (m : FinMap nat_cmp Entry) (page : ℕ) (o : Option Entry) → get (with_entry m page o) page ≡ o
-with_same m page None = get-remove nat_cmp_total m page page ∙ ap (λ b. cond b None (get m page)) (unsigned_tied page page ∙ eqb_self page)
-with_same m page (Some e) = get-insert nat_cmp_total m page e page ∙ ap (λ b. cond b (Some e) (get m page)) (unsigned_tied page page ∙ eqb_self page)
-
-pub with_other : (m : FinMap nat_cmp Entry) (page : ℕ) (o : Option Entry) (q : ℕ) → q ≢ page → get (with_entry m page o) q ≡ get m q
-with_other m page None q n = get-remove nat_cmp_total m page q ∙ ap (λ b. cond b None (get m q)) (unsigned_tied q page ∙ ne_eqb q page n)
-with_other m page (Some e) q n = get-insert nat_cmp_total m page e q ∙ ap (λ b. cond b (Some e) (get m q)) (unsigned_tied q page ∙ ne_eqb q page n)
 
 found : (words : List ℕ) (k i : ℕ) → get (entries_from k words) (k + i) ≡ entry_in (k + i) (get_or words i 0)
 unfolding entries_from
 found [] k i = get-empty nat_cmp (k + i)
 found (w ∷ words) k zero =
     let same : k + 0 ≡ k = omega arith in
-    subst (λ (q : ℕ). get (with_entry (entries_from (k + 1) words) k (entry_in k w)) q ≡ entry_in q w) (sym same) (with_same (entries_from (k + 1) words) k (entry_in k w))
+    subst (λ (q : ℕ). get (with_entry (entries_from (k + 1) words) k (entry_in k w)) q ≡ entry_in q w) (sym same) (get_with_same (entries_from (k + 1) words) k (entry_in k w))
 found (w ∷ words) k (suc i) =
     let same : k + suc i ≡ (k + 1) + i = omega arith in
     let other : k + suc i ≢ k = omega arith in
-    with_other (entries_from (k + 1) words) k (entry_in k w) (k + suc i) other ∙ subst (λ (q : ℕ). get (entries_from (k + 1) words) q ≡ entry_in q (get_or words i 0)) (sym same) (found words (k + 1) i)
+    get_with_other (entries_from (k + 1) words) k (entry_in k w) (k + suc i) other ∙ subst (λ (q : ℕ). get (entries_from (k + 1) words) q ≡ entry_in q (get_or words i 0)) (sym same) (found words (k + 1) i)
 
 -- the map at a page is what the page's word says
 pub get_entries : (words : List ℕ) (page : ℕ) → get (entries_of words) page ≡ entry_in page (get_or words page 0)
@@ -56,12 +44,6 @@ behind (w ∷ words) (suc page) le = behind words page (omega arith)
 
 pub get_behind : (words : List ℕ) (marks : List Bool) (page : ℕ) → IsWhole words marks → 1048576 ≤ page → get (entries_of words) page ≡ None
 get_behind words marks page h le = get_cleared words page (behind words page (omega (arith, h.pages)))
-
--- a mark that is set is one of the marks
-pub mark_there : (marks : List Bool) (i : ℕ) → get_or marks i false ≡ true → i < length marks
-mark_there [] i e = absurd cc
-mark_there (m ∷ marks) zero e = omega arith
-mark_there (m ∷ marks) (suc i) e = let lt = mark_there marks i e in omega arith
 
 -- ---- one word
 

@@ -1,15 +1,19 @@
 -- Reading and writing choices are inverse to each other.
-use Rattle.std.proofs.Common.{◌≡◌, ℕ, zero, suc, ◌+◌, ◌<◌, ◌≤◌, ◌^◌, Bool, true, false, eqb, ltb, List, [], ◌∷◌, ◌++◌, length, get_or, take, drop, Option, Some, None, Ok, Err, Result, refl, sym, ap, ◌∙◌, subst, arith, eq-eqb, append_assoc}
+use Rattle.std.proofs.Common.{◌≡◌, ℕ, zero, suc, ◌+◌, ◌<◌, ◌≤◌, ◌^◌, Bool, true, false, eqb, ltb, List, [], ◌∷◌, ◌++◌, length, take, drop, Option, Some, None, Ok, Err, Result, refl, sym, ap, ◌∙◌, subst, arith, eq-eqb, append_assoc}
 use Rattle.std.specs.Prelude.{not, ◌&&◌, ◌||◌, nat_lt, IfOk}
 use Rattle.std.specs.Bool.{then_some}
 use Rattle.std.specs.List.{flat_map}
 use Rattle.std.specs.Int.{w32, w64, to_le_bytes, from_le_bytes}
 use Rattle.std.specs.Option.{option_or}
-use Rattle.std.proofs.lemmas.Bool.{le-leb, leb-true, lt-ltb, le-ltb, ltb-false, ltb-true, eqb-true, not-false, both_ways, or_parts}
-use Rattle.std.proofs.lemmas.List.{drop_at, drop-drop, take-append-drop, length-append, get_or-append-add, drop_all}
-use Rattle.std.proofs.lemmas.Nat.{from_le_bytes-to_le_bytes_4, from_le_bytes-to_le_bytes_8, le_bytes_4, le_bytes_8}
+use Rattle.std.proofs.lemmas.Bool.{le-leb, leb-true, lt-ltb, le-ltb, ltb-false, ltb-true, eqb-true, not-false, or_parts}
+use Rattle.std.proofs.lemmas.List.{drop_at, drop-drop, take-append-drop, length-append, drop_all}
+use Rattle.std.proofs.lemmas.Nat.{from_le_bytes-to_le_bytes_4, from_le_bytes-to_le_bytes_8, le_bytes_8}
+use Rattle.plain_laws.proofs.Options.{then_none, none_then, neither, else_none}
+use Rattle.plain_laws.proofs.Tests.{second_false}
 use Rattle.guest_ram.specs.Bytes.{part, byte, word32, AreBytes}
-use Rattle.guest_ram.proofs.Bytes.{bytes-part, length-part, get_or-part, part-append}
+use Rattle.guest_ram.proofs.Bytes.{bytes-part, length-part, part-append}
+use Rattle.elf_form.proofs.RowLaws.{word32-front}
+use Rattle.sites.proofs.Inverse.{word32-behind, part-word, part-four, byte-behind}
 use Rattle.trace_check.specs.declared.list.Choice.{Choice}
 use Rattle.trace_check.specs.declared.list.ChoiceKind.{ChoiceKind}
 use Rattle.trace_check.specs.declared.list.ChoiceKind.TheVariants.{Drop, Empty, Add}
@@ -21,27 +25,9 @@ use Rattle.trace_check.specs.ReadBack.{Gives}
 
 -- ---- tests
 
-pub else_none : (a b : Option ℕ) → option_or a b ≡ None → (a ≡ None) × (b ≡ None)
-else_none None b e = (refl, e)
-else_none (Some a) b e = absurd cc
-
-pub then_none : (is_bad : Bool) (at : ℕ) → then_some is_bad at ≡ None → is_bad ≡ false
-then_none true at e = absurd cc
-then_none false at e = refl
-
-pub none_then : (is_bad : Bool) (at : ℕ) → is_bad ≡ false → then_some is_bad at ≡ None
-none_then is_bad at e = rw e refl
-
-pub second_false : (x y : Bool) → x ≡ true → (x && y) ≡ false → y ≡ false
-second_false true y e h = h
-second_false false y e h = absurd (both_ways false refl e)
-
 pub and_false : (x y : Bool) → y ≡ false → (x && y) ≡ false
 and_false true y e = e
 and_false false y e = refl
-
-pub neither : (a b : Option ℕ) → a ≡ None → b ≡ None → option_or a b ≡ None
-neither a b p q = rw (p, q) refl
 
 pub same_byte : (bytes : List ℕ) (at v : ℕ) → at + 1 ≤ length bytes → differs bytes at v ≡ false → byte bytes at ≡ v
 same_byte bytes at v le e = eqb-true _ _ (not-false _ (second_false (reaches bytes (at + 1)) (not (eqb (byte bytes at) v)) (le-leb _ _ le) e))
@@ -80,17 +66,9 @@ no_fault Add page h = refl
 
 -- ---- what is laid out is read so
 
-pub byte-behind : (front rest : List ℕ) (a k : ℕ) → length front ≡ a → byte (front ++ rest) (a + k) ≡ byte rest k
-unfolding byte
-byte-behind front rest a k e = rw (← e) (get_or-append-add front rest k 0)
-
 pub word64-behind : (front rest : List ℕ) (a : ℕ) → length front ≡ a → word64 (front ++ rest) a ≡ word64 rest 0
 unfolding word64 part
 word64-behind front rest a e = ap (λ (x : List ℕ). from_le_bytes w64 (take 8 x)) (drop_at front rest a e)
-
-pub word32-behind : (front rest : List ℕ) (a : ℕ) → length front ≡ a → word32 (front ++ rest) a ≡ word32 rest 0
-unfolding word32 part
-word32-behind front rest a e = ap (λ (x : List ℕ). from_le_bytes w32 (take 4 x)) (drop_at front rest a e)
 
 -- the fields of a choice that stands behind other bytes
 record ChoiceAt (bytes : List ℕ) (a : ℕ) (c : Choice) : Type 0 where
@@ -106,10 +84,6 @@ word64-laid : (n : ℕ) (rest : List ℕ) → n < 2 ^ 64 → word64 (to_le_bytes
 unfolding word64 part
 word64-laid n rest lt = from_le_bytes-to_le_bytes_8 n lt
 
-word32-laid : (n : ℕ) (rest : List ℕ) → n < 2 ^ 32 → word32 (to_le_bytes w32 n ++ rest) 0 ≡ n
-unfolding word32 part
-word32-laid n rest lt = from_le_bytes-to_le_bytes_4 n lt
-
 small_page : (kind : ChoiceKind) (page : ℕ) → IsPageOf kind page → page < 2 ^ 32
 small_page kind page h = let lt = is_page kind page h in omega arith
 
@@ -119,7 +93,7 @@ page_there front rest a c e lt =
     let step : List ℕ = to_le_bytes w64 c.step in
     let same : (front ++ step) ++ (to_le_bytes w32 c.page ++ tail) ≡ front ++ (choice_bytes c ++ rest) = append_assoc front step (to_le_bytes w32 c.page ++ tail) in
     let len : length (front ++ step) ≡ a + 8 = omega (arith, length-append front step) in
-    ap (λ (x : List ℕ). word32 x (a + 8)) (sym same) ∙ word32-behind (front ++ step) (to_le_bytes w32 c.page ++ tail) (a + 8) len ∙ word32-laid c.page tail lt
+    ap (λ (x : List ℕ). word32 x (a + 8)) (sym same) ∙ word32-behind (front ++ step) (to_le_bytes w32 c.page ++ tail) (a + 8) len ∙ word32-front c.page tail lt
 
 stands : (front rest : List ℕ) (a : ℕ) (c : Choice) → length front ≡ a → c.step < 2 ^ 64 → IsPageOf c.kind c.page → ChoiceAt (front ++ (choice_bytes c ++ rest)) a c
 unfolding byte
@@ -241,25 +215,6 @@ was_choice bytes least a e =
       third = same_byte bytes (a + 15) 0 (omega arith) (then_none (differs bytes (a + 15) 0) (a + 15) n5.0);
     }
 
-four : (xs : List ℕ) → length xs ≡ 4 → xs ≡ get_or xs 0 0 ∷ get_or xs 1 0 ∷ get_or xs 2 0 ∷ get_or xs 3 0 ∷ []
-four [] e = absurd (omega arith)
-four (a ∷ []) e = absurd (omega arith)
-four (a ∷ b ∷ []) e = absurd (omega arith)
-four (a ∷ b ∷ c ∷ []) e = absurd (omega arith)
-four (a ∷ b ∷ c ∷ d ∷ []) e = refl
-four (a ∷ b ∷ c ∷ d ∷ x ∷ xs) e = absurd (omega arith)
-
-part-four : (bytes : List ℕ) (a : ℕ) → a + 4 ≤ length bytes → part bytes a 4 ≡ byte bytes a ∷ byte bytes (a + 1) ∷ byte bytes (a + 2) ∷ byte bytes (a + 3) ∷ []
-unfolding byte
-part-four bytes a room =
-    let zero_more : a + 0 ≡ a = omega arith in
-    let b0 : get_or (part bytes a 4) 0 0 ≡ get_or bytes a 0 = get_or-part bytes a 4 0 (omega arith) ∙ ap (λ (k : ℕ). get_or bytes k 0) zero_more in
-    four (part bytes a 4) (length-part bytes a 4 room) ∙ rw (b0, get_or-part bytes a 4 1 (omega arith), get_or-part bytes a 4 2 (omega arith), get_or-part bytes a 4 3 (omega arith)) refl
-
-part-word32 : (bytes : List ℕ) (a : ℕ) → AreBytes bytes → a + 4 ≤ length bytes → part bytes a 4 ≡ to_le_bytes w32 (word32 bytes a)
-unfolding word32
-part-word32 bytes a fits room = sym (le_bytes_4 (part bytes a 4) (word32 bytes a) (length-part bytes a 4 room) (bytes-part bytes a 4 fits) refl)
-
 part-word64 : (bytes : List ℕ) (a : ℕ) → AreBytes bytes → a + 8 ≤ length bytes → part bytes a 8 ≡ to_le_bytes w64 (word64 bytes a)
 unfolding word64
 part-word64 bytes a fits room = sym (le_bytes_8 (part bytes a 8) (word64 bytes a) (length-part bytes a 8 room) (bytes-part bytes a 8 fits) refl)
@@ -282,7 +237,7 @@ choice-part bytes least a fits was =
     part-four bytes (a + 12) (omega arith) ∙ rw (e1, e2, e3, was.first, was.second, was.third) (ap (λ (n : ℕ). n ∷ 0 ∷ 0 ∷ 0 ∷ []) (sym was.kind)) in
     let e8 : a + 8 + 4 ≡ a + 12 = omega arith in
     let middle : part bytes (a + 8) 8 ≡ to_le_bytes w32 (word32 bytes (a + 8)) ++ (kind ∷ 0 ∷ 0 ∷ 0 ∷ []) =
-    sym (part-append bytes (a + 8) 4 4) ∙ ap (λ (k : ℕ). part bytes (a + 8) 4 ++ part bytes k 4) e8 ∙ ap (λ (x : List ℕ). x ++ part bytes (a + 12) 4) (part-word32 bytes (a + 8) fits (omega arith)) ∙ ap (λ (x : List ℕ). to_le_bytes w32 (word32 bytes (a + 8)) ++ x) tail in
+    sym (part-append bytes (a + 8) 4 4) ∙ ap (λ (k : ℕ). part bytes (a + 8) 4 ++ part bytes k 4) e8 ∙ ap (λ (x : List ℕ). x ++ part bytes (a + 12) 4) (part-word bytes (a + 8) fits (omega arith)) ∙ ap (λ (x : List ℕ). to_le_bytes w32 (word32 bytes (a + 8)) ++ x) tail in
     sym (part-append bytes a 8 8) ∙ ap (λ (x : List ℕ). x ++ part bytes (a + 8) 8) (part-word64 bytes a fits (omega arith)) ∙ ap (λ (x : List ℕ). to_le_bytes w64 (word64 bytes a) ++ x) middle
 
 drop-part : (bytes : List ℕ) (a n : ℕ) → drop a bytes ≡ part bytes a n ++ drop (a + n) bytes
@@ -352,7 +307,7 @@ read_laid bytes list fits e =
     let head = head_was bytes both.0 in
     let room : 8 ≤ length bytes = head.room in
     let all = choices_laid n bytes 0 8 fits both.1 in
-    let eight : part bytes 0 8 ≡ (80 ∷ 86 ∷ 84 ∷ 49 ∷ []) ++ to_le_bytes w32 n = sym (part-append bytes 0 4 4) ∙ ap (λ (x : List ℕ). x ++ part bytes 4 4) head.front ∙ ap (λ (x : List ℕ). (80 ∷ 86 ∷ 84 ∷ 49 ∷ []) ++ x) (part-word32 bytes 4 fits (omega arith)) in
+    let eight : part bytes 0 8 ≡ (80 ∷ 86 ∷ 84 ∷ 49 ∷ []) ++ to_le_bytes w32 n = sym (part-append bytes 0 4 4) ∙ ap (λ (x : List ℕ). x ++ part bytes 4 4) head.front ∙ ap (λ (x : List ℕ). (80 ∷ 86 ∷ 84 ∷ 49 ∷ []) ++ x) (part-word bytes 4 fits (omega arith)) in
     let whole : bytes ≡ ((80 ∷ 86 ∷ 84 ∷ 49 ∷ []) ++ to_le_bytes w32 n) ++ flat_map choice_bytes read = drop-part bytes 0 8 ∙ rw (eight, all.rest) refl in
     let counted : bytes ≡ choices_bytes read = subst (λ (k : ℕ). bytes ≡ ((80 ∷ 86 ∷ 84 ∷ 49 ∷ []) ++ to_le_bytes w32 k) ++ flat_map choice_bytes read) (sym all.count) whole in
     let few : length read ≤ most_choices = rw all.count head.few in

@@ -1,5 +1,5 @@
 -- Where the last line of a text begins.
-use Rattle.std.proofs.Common.{◌≡◌, ℕ, suc, ◌+◌, ◌*◌, ◌-◌, ◌<◌, ◌≤◌, Bool, true, false, cond, List, [], ◌∷◌, length, take, drop, get_or, Option, Some, None, refl, sym, ap, subst, ◌∙◌, arith, add-one, drop-cons}
+use Rattle.std.proofs.Common.{◌≡◌, ℕ, suc, ◌+◌, ◌*◌, ◌-◌, ◌<◌, ◌≤◌, Bool, true, false, cond, List, [], ◌∷◌, length, take, drop, get_or, Option, Some, None, refl, sym, ap, subst, ◌∙◌, arith}
 use Rattle.std.specs.Prelude.{◌==◌, ◌&&◌, nat_lt, nat_le, find}
 use Rattle.std.specs.Str.{bytes_eq}
 use Rattle.ia32_types.specs.declared.stop.Stop.{Stop}
@@ -7,7 +7,7 @@ use Rattle.run_trace.specs.declared.items.End.TheVariants.{Stopped}
 use Rattle.run_trace.specs.Text.{end_line}
 use Rattle.std.specs.List.{take_while, prefix_len}
 use Rattle.std.specs.Char.{is_ascii_digit}
-use Rattle.std.proofs.lemmas.List.{drop_all, length-drop, take_all}
+use Rattle.std.proofs.lemmas.List.{drop_all, length-drop, drop_more}
 use Rattle.std.proofs.lemmas.Bool.{lt-ltb, le-ltb, lt-leb, le-leb, eqb-true}
 use Rattle.std.proofs.lemmas.List.Sums.{sum_by-cons}
 use Rattle.board.specs.Texts.{decimal_after}
@@ -33,18 +33,15 @@ grows : (n : ℕ) (word : List ℕ) → n ≤ decimal_after n word
 grows n [] = omega arith
 grows n (b ∷ word) = omega (arith, grows (10 * n + (b - 48)) word)
 
-pub next_byte : (text : List ℕ) (i : ℕ) → i < length text → drop i text ≡ get_or text i 0 ∷ drop (i + 1) text
-next_byte text i lt = rw (add-one) (drop-cons text i 0 lt)
-
 -- what is still to be read
 abbrev pub left_of : ℕ → ℕ → List ℕ → ℕ
 left_of n i text = decimal_after n (take_while is_ascii_digit (drop i text))
 
 pub left_on : (n i : ℕ) (text : List ℕ) → i < length text → is_ascii_digit (get_or text i 0) ≡ true → left_of n i text ≡ left_of (10 * n + (get_or text i 0 - 48)) (i + 1) text
-left_on n i text lt is = ap (λ (l : List ℕ). decimal_after n (take_while is_ascii_digit l)) (next_byte text i lt) ∙ number_on n (get_or text i 0) (drop (i + 1) text) is
+left_on n i text lt is = ap (λ (l : List ℕ). decimal_after n (take_while is_ascii_digit l)) (drop_more text i 0 lt) ∙ number_on n (get_or text i 0) (drop (i + 1) text) is
 
 pub left_ends : (n i : ℕ) (text : List ℕ) → i < length text → is_ascii_digit (get_or text i 0) ≡ false → left_of n i text ≡ n
-left_ends n i text lt is = ap (λ (l : List ℕ). decimal_after n (take_while is_ascii_digit l)) (next_byte text i lt) ∙ number_ends n (get_or text i 0) (drop (i + 1) text) is
+left_ends n i text lt is = ap (λ (l : List ℕ). decimal_after n (take_while is_ascii_digit l)) (drop_more text i 0 lt) ∙ number_ends n (get_or text i 0) (drop (i + 1) text) is
 
 pub left_none : (n i : ℕ) (text : List ℕ) → length text ≤ i → left_of n i text ≡ n
 left_none n i text le = ap (λ (l : List ℕ). decimal_after n (take_while is_ascii_digit l)) (drop_all i text le)
@@ -102,7 +99,7 @@ more_there i text = by (drop (i + 1) text) refl
 
 pub ends_on : (i start : ℕ) (text : List ℕ) → i < length text → ends_at i start text ≡ ends_at (i + 1) (here_of (get_or text i 0 == 10) (nat_lt (i + 1) (length text)) i start) text
 ends_on i start text lt =
-    ap (λ (l : List ℕ). place_of (cut l) i start) (next_byte text i lt)
+    ap (λ (l : List ℕ). place_of (cut l) i start) (drop_more text i 0 lt)
     ∙ place_on (cut (drop (i + 1) text)) i start (get_or text i 0) (drop (i + 1) text)
     ∙ ap (λ (m : Bool). place_of (cut (drop (i + 1) text)) (i + 1) (here_of (get_or text i 0 == 10) m i start)) (more_there i text)
 
@@ -131,9 +128,6 @@ pub none_empty : (n : ℕ) → stop_told n (last_of (lines [])) ≡ None
 unfolding stop_told lines end_line
 none_empty n = nothing (nat_le 0 n)
 
-pub line_is : (text : List ℕ) (at : ℕ) → take (length text - at) (drop at text) ≡ drop at text
-line_is text at = take_all (length text - at) (drop at text) (omega (arith, length-drop at text))
-
 pub empty_of : (text : List ℕ) → (length text == 0) ≡ true → text ≡ []
 empty_of [] e = refl
 empty_of (b ∷ text) e = absurd (omega (arith, eqb-true (length (b ∷ text)) 0 e))
@@ -147,11 +141,11 @@ as_count b = cond b 1 0
 
 -- ---- the place is where the last line begins
 
-lines_end : (b : ℕ) (text : List ℕ) → (b == 10) ≡ true → lines (b ∷ text) ≡ (b ∷ []) ∷ lines text
+pub lines_end : (b : ℕ) (text : List ℕ) → (b == 10) ≡ true → lines (b ∷ text) ≡ (b ∷ []) ∷ lines text
 unfolding lines
 lines_end b text e = ap (λ (x : Bool). cond x ((b ∷ []) ∷ lines text) (begun_by b (lines text))) e
 
-lines_mid : (b : ℕ) (text : List ℕ) → (b == 10) ≡ false → lines (b ∷ text) ≡ begun_by b (lines text)
+pub lines_mid : (b : ℕ) (text : List ℕ) → (b == 10) ≡ false → lines (b ∷ text) ≡ begun_by b (lines text)
 unfolding lines
 lines_mid b text e = ap (λ (x : Bool). cond x ((b ∷ []) ∷ lines text) (begun_by b (lines text))) e
 

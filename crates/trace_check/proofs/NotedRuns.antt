@@ -2,9 +2,7 @@
 use Rattle.std.proofs.Common.{◌≡◌, ℕ, zero, suc, ◌+◌, ◌*◌, ◌≤◌, ◌^◌, Bool, true, false, cond, List, [], ◌∷◌, ◌++◌, length, take, Option, Ok, refl, ap, subst, ◌∙◌, arith}
 use Rattle.std.specs.Prelude.{◌==◌, nat_le}
 use Rattle.std.proofs.lemmas.Bool.{leb-true, leb-false, eqb-true, eqb-false}
-use Rattle.std.specs.FinMap.{len}
 use Rattle.std.specs.List.{All, filter}
-use Rattle.std.proofs.lemmas.List.Elements.{All-weaker}
 use Rattle.board.specs.Scripts.{Events}
 use Rattle.image_check.specs.Image.{Image}
 use Rattle.image_load.specs.Boot.{need}
@@ -14,18 +12,17 @@ use Rattle.run_trace.specs.declared.pause.Pause.TheVariants.{Reached, Stopped}
 use Rattle.run_trace.specs.Notes.{Note}
 use Rattle.run_trace.specs.Pauses.{end_of, IfReached}
 use Rattle.run_trace.specs.Text.{lines_of, end_line, text_of}
-use Rattle.machine_model.specs.State.{Setting, State, Loosened, boot, wedge}
+use Rattle.machine_model.specs.State.{Setting, State, boot, wedge}
 use Rattle.machine_model.specs.Run.{Set, Steps, Run, trace_of}
 use Rattle.machine_model.specs.Notes.{AreTold, AreNotes, step_in}
-use Rattle.wedge_step.specs.Filled.{FillsOn}
 use Rattle.wedge_core.specs.Noted.{EndsTold, NotesOn}
 use Rattle.wedge_core.specs.Surroundings.{Around}
 use Rattle.wedge_core.specs.Counts.{Counts}
-use Rattle.wedge_core.specs.Promises.{HasFills, with_patches}
+use Rattle.wedge_core.specs.Promises.{with_patches}
 use Rattle.wedge_core.specs.Slices.{PausesAs}
 use Rattle.wedge_core.proofs.RunPieces.{put_both}
 use Rattle.wedge_core.proofs.SlicedBy.{SliceAs}
-use Rattle.wedge_core.proofs.WholeRuns.{text_is, ends_by, count_by, memory_by}
+use Rattle.wedge_core.proofs.WholeRuns.{text_is, ends_by, count_by, memory_by, has_fills}
 use Rattle.trace_check.specs.Kept.{Kept, AreKept, choices_of}
 use Rattle.trace_check.specs.Judged.{judged}
 use Rattle.trace_check.specs.Runs.{StopsTold}
@@ -92,24 +89,10 @@ within : (m : Setting) (n : ℕ) (last new : State) (end : Set) (pause : Pause) 
 within m n last new end Reached h = let at = h.0 in omega (arith, at)
 within m n last new end (Stopped stop) h = let lt = h.0 in omega (arith, lt)
 
-allowed_by : (m : Setting) (n : ℕ) (last new : State) (end : Set) (pause : Pause) → PausesAs m n last new end (Ok pause) → Loosened m last end
-allowed_by m n last new end Reached h = h.2
-allowed_by m n last new end (Stopped stop) h = h.2
-
 -- The slice from the start that keeps its notes.
 abbrev Sliced : Image → Events → ℕ → ℕ → State → State → Counts → Counts → Option (List ℕ) → Option (List ℕ) → ℕ → ℕ → ℕ → Kept → Kept → Type 0 → Pause → Type 0
 Sliced image script frames n old new before after told tells pages fills filled kept kept_after begins pause =
     SliceAs (wedge image script frames) n old new before after told tells pages fills filled true (NotesOn true (AreKept kept) (AreKept kept_after)) begins (Ok pause)
-
-has_fills : (m : Setting) (n : ℕ) (old new : State) (before after : Counts) (told tells : Option (List ℕ)) (pages fills filled : ℕ) (wanted : Bool) (notes_on : List Note → Type 0) (begins : Type 0) (pause : Pause)
-    → pages ≡ 0 → fills ≡ 0 → filled ≤ 128 * new.step → (h : SliceAs m n old new before after told tells pages fills filled wanted notes_on begins (Ok pause)) → HasFills m h.sets h.last filled
-has_fills m n old new before after told tells pages fills filled wanted notes_on begins pause first none few h = record {
-  end = h.end;
-  allowed = allowed_by m n h.last new h.end pause h.ends;
-  enough = All-weaker (λ (set : Set). FillsOn pages (len set) fills filled) (λ (set : Set). len set ≤ filled) (λ set f. let e = f.enough in omega (arith, e, none, first))
-      (h.sets ++ h.end ∷ []) h.each_filled;
-  few = (let same = count_by m n h.last new h.end pause h.ends in omega (arith, few, same));
-}
 
 -- what is around a run, by each of its parts
 abbrev pub around_of : Option (List ℕ) → Option (List ℕ) → ℕ → ℕ → Counts → Counts → Around

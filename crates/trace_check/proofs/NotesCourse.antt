@@ -9,6 +9,7 @@ use Rattle.std.proofs.lemmas.Bool.Decides.{eqb_tells}
 use Rattle.std.proofs.lemmas.Cmp.{nat_cmp_total}
 use Rattle.ia32_types.specs.declared.stop.Stop.{Stop}
 use Rattle.paging.specs.Agreement.{is_extra_stop}
+use Rattle.paging.proofs.WithEntry.{get_with_same, get_with_other}
 use Rattle.board.specs.Scripts.{Events}
 use Rattle.image_check.specs.Image.{Image}
 use Rattle.run_trace.specs.Notes.{Note, emptied_at, dropped_at}
@@ -19,9 +20,12 @@ use Rattle.machine_model.specs.State.{Setting, State, boot, wedge, on_bare}
 use Rattle.machine_model.specs.Step as steps
 use Rattle.machine_model.specs.Step.{Report, Went, Halts, step_of}
 use Rattle.machine_model.specs.Run.{Set, Steps, trace_of}
-use Rattle.machine_model.specs.Taken.{Taken, behind, steps_by}
+use Rattle.machine_model.specs.Taken.{Taken, steps_by}
 use Rattle.machine_model.specs.Notes.{AreTold, is_emptied, without, set_told}
-use Rattle.machine_model.specs.Agreement.{is_extra, StepsAgree}
+use Rattle.machine_model.specs.Agreement.{StepsAgree}
+use Rattle.machine_model.proofs.Counted.{counted_by}
+use Rattle.machine_model.proofs.Runs.{taken_first}
+use Rattle.machine_model.proofs.Works.{halts_agrees, went_agrees}
 use Rattle.trace_check.specs.declared.list.Choice.{Choice}
 use Rattle.trace_check.specs.declared.answer.CourseEnd.TheVariants.{Ended}
 use Rattle.trace_check.specs.declared.answer.Verdict.TheVariants.{Yes, YesBefore}
@@ -31,8 +35,6 @@ use Rattle.trace_check.specs.Courses.{Course, chosen, after_step, after_choices,
 use Rattle.trace_check.specs.Judged.{unless_differs, judged_whole, judged_before, judged_by, judged}
 use Rattle.trace_check.specs.RunLaws.{NotesAreJudged}
 use Rattle.trace_check.proofs.Differing.{none_differs}
-use Rattle.trace_check.proofs.Going.{counted}
-use Rattle.trace_check.proofs.Holding.{with_same, with_other}
 use Rattle.trace_check.proofs.Telling.{steps_back, told_of, stop_back, text_last, text_before}
 
 -- ---- what the notes' choices make is the set that the notes tell
@@ -42,8 +44,8 @@ none_set = empty
 
 none_removed : (page : ℕ) → remove none_set page ≡ none_set
 none_removed page = same_map nat_cmp_total nat_cmp-IsAntisymmetric (remove none_set page) none_set (λ q. elim (eqb_tells q page) [
-  | inl t ↦ ap (get (remove none_set page)) t.1 ∙ with_same none_set page None ∙ sym (get-empty nat_cmp q)
-  | inr f ↦ with_other none_set page None q f.1
+  | inl t ↦ ap (get (remove none_set page)) t.1 ∙ get_with_same none_set page None ∙ sym (get-empty nat_cmp q)
+  | inr f ↦ get_with_other none_set page None q f.1
 ])
 
 none_without : (step : ℕ) (notes : List Note) → without step empty notes ≡ empty
@@ -89,28 +91,6 @@ and_more (set ∷ sets) k = suc (and_more sets k)
 abbrev reports_first : List Report → Course → Course
 reports_first reports c = record { reports = reports ++ c.reports; count = c.count; end = c.end }
 
-went_bare : StepsAgree → (m : Setting) (b new : State) (set : Set) (report : Report) → step_of m b set ≡ Went report new → step_of (on_bare m) b set ≡ Went report new
-went_bare law m b new set report is = elim (law m b set) [
-  | inl h ↦ absurd (clash (ap is_extra (sym is) ∙ h))
-  | inr h ↦ h ∙ is
-]
-  where
-    clash : false ≡ true → ⊥
-    clash h = cc
-
-halts_bare : StepsAgree → (m : Setting) (b : State) (set : Set) (stop : Stop) → is_extra_stop stop ≡ false → step_of m b set ≡ Halts stop → step_of (on_bare m) b set ≡ Halts stop
-halts_bare law m b set stop plain is = elim (law m b set) [
-  | inl h ↦ absurd (clash (sym plain ∙ (ap is_extra (sym is) ∙ h)))
-  | inr h ↦ h ∙ is
-]
-  where
-    clash : false ≡ true → ⊥
-    clash h = cc
-
-taken_first : (m : Setting) (b after : State) (set : Set) (sets : List Set) (report : Report) → step_of m b set ≡ Went report after
-    → steps_by m b (set ∷ sets) ≡ record { before = b; set = set; report = report; after = after } ∷ steps_by m after sets
-taken_first m b after set sets report is = ap (λ (r : steps.Result). behind b set r (λ a. steps_by m a sets)) is
-
 first_told : (m : Setting) (b after : State) (set : Set) (sets : List Set) (report : Report) (notes : List Note) → step_of m b set ≡ Went report after → AreTold m b (set ∷ sets) notes → set ≡ set_told notes b.step b.set
 first_told m b after set sets report notes is told =
     told.each [] (record { before = b; set = set; report = report; after = after }) (steps_by m after sets) (taken_first m b after set sets report is)
@@ -149,7 +129,7 @@ steps_first law m notes (set ∷ sets) old last reports k run told =
     let list = choices_of notes in
     let is = first_told m old run.0 set sets run.1 notes run.4 told in
     let choices : chosen s old 0 list old.set ≡ Ok set = chosen_told s old notes 0 old.set ∙ ap ok_of (sym is) in
-    one_first s list (and_more sets k) old run.0 set run.1 choices (went_bare law m old run.0 set run.1 run.4)
+    one_first s list (and_more sets k) old run.0 set run.1 choices (went_agrees law m old run.0 set run.1 run.4)
     ∙ ap (reports_first (run.1 ∷ [])) (steps_first law m notes sets run.0 last run.2 k run.5 (later_told m old run.0 set sets run.1 notes run.4 told))
     ∙ ap (λ (l : List Report). reports_first l (course s list k last)) (sym run.6)
 
@@ -157,7 +137,7 @@ steps_counted : (m : Setting) (sets : List Set) (old last : State) (reports : Li
 unfolding Steps
 steps_counted m [] old last reports k run = ap (λ (b : State). b.step + k) (sym run.1)
 steps_counted m (set ∷ sets) old last reports k run =
-    let one = counted m old run.0 set run.1 run.4 in
+    let one = counted_by m old run.0 set run.1 run.4 in
     omega (arith, one, steps_counted m sets run.0 last run.2 k run.5)
 
 -- ---- the law
@@ -239,7 +219,7 @@ stop_case law image script frames n k sets reports last notes stop false bound o
     whole_yes image script frames n (choices_of notes) reports last.step (Stopped stop)
     (to_end (course_of image script frames n (choices_of notes)) (course (on_bare m) (choices_of notes) (suc k) last) reports last.step (Stopped stop)
     (known_course law m notes sets (boot m) last reports (suc k) n run told refl total)
-    (halts_first (on_bare m) (choices_of notes) k last set stop (chosen_told (on_bare m) last notes 0 last.set) (halts_bare law m last set stop own halts)))
+    (halts_first (on_bare m) (choices_of notes) k last set stop (chosen_told (on_bare m) last notes 0 last.set) (halts_agrees law m last set stop own halts)))
     (told_last n reports last.step (Stopped stop) le bound ∙ ap (λ (b : Bool). cond b (Some stop) None) own)
 
 pub notes_are_judged : StepsAgree → NotesAreJudged

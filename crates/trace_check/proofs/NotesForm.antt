@@ -1,21 +1,14 @@
 -- The choices that a run's notes tell have the form of a file.
-use Rattle.std.proofs.Common.{◌≡◌, ℕ, suc, ◌<◌, ◌≤◌, ◌^◌, Bool, true, false, ◌&&◌, List, [], ◌∷◌, length, refl, ap, arith}
+use Rattle.std.proofs.Common.{◌≡◌, ℕ, suc, ◌<◌, ◌≤◌, ◌^◌, true, List, [], ◌∷◌, length, refl, ap, arith}
 use Rattle.std.specs.Prelude.{nat_le}
 use Rattle.std.specs.List.{All}
-use Rattle.std.proofs.lemmas.Bool.{leb-true}
+use Rattle.std.proofs.lemmas.Bool.{leb-true, and_parts}
 use Rattle.run_trace.specs.Notes.{Note, emptied_at, dropped_at}
 use Rattle.machine_model.specs.Notes.{step_in, is_ordered, IsPage}
 use Rattle.trace_check.specs.declared.list.Choice.{Choice}
 use Rattle.trace_check.specs.Form.{AreFrom}
 use Rattle.trace_check.specs.Kept.{choices_of}
 use Rattle.trace_check.specs.RunLaws.{NotesAreChoices}
-
-both_true : (p q : Bool) → (p && q) ≡ true → (p ≡ true) × (q ≡ true)
-both_true true q e = (refl, e)
-both_true false q e = absurd (clash e)
-  where
-    clash : false ≡ true → ⊥
-    clash h = cc
 
 as_many : (notes : List Note) → length (choices_of notes) ≡ length notes
 as_many [] = refl
@@ -31,7 +24,7 @@ later_of P note notes h = λ k d lt. h (suc k) d (omega (arith, lt))
 are_from : (low last : ℕ) (notes : List Note) → last < 2 ^ 64 → is_ordered low notes ≡ true → All (λ note. step_in note ≤ last) notes → All IsPage notes → AreFrom low (choices_of notes)
 are_from low last [] lt ordered until pages = tt
 are_from low last (emptied_at step ∷ notes) lt ordered until pages =
-    let h = both_true (nat_le low step) (is_ordered step notes) ordered in
+    let h = and_parts (nat_le low step) (is_ordered step notes) ordered in
     let at : step ≤ last = first_of (λ note. step_in note ≤ last) (emptied_at step) notes until in (
       leb-true low step h.0,
       omega (arith, at, lt),
@@ -39,7 +32,7 @@ are_from low last (emptied_at step ∷ notes) lt ordered until pages =
       are_from step last notes lt h.1 (later_of (λ note. step_in note ≤ last) (emptied_at step) notes until) (later_of IsPage (emptied_at step) notes pages),
     )
 are_from low last (dropped_at step page ∷ notes) lt ordered until pages =
-    let h = both_true (nat_le low step) (is_ordered step notes) ordered in
+    let h = and_parts (nat_le low step) (is_ordered step notes) ordered in
     let at : step ≤ last = first_of (λ note. step_in note ≤ last) (dropped_at step page) notes until in (
       leb-true low step h.0,
       omega (arith, at, lt),

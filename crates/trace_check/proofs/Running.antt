@@ -2,7 +2,7 @@
 use Rattle.std.proofs.Common.{◌≡◌, ℕ, zero, suc, ◌+◌, ◌^◌, ◌<◌, ◌≤◌, Bool, true, false, cond, List, [], ◌∷◌, ◌++◌, Option, Some, None, Result, Ok, Err, refl, sym, ap, subst, ◌∙◌, arith, inl, inr, append_assoc}
 use Rattle.std.specs.Prelude.{◌==◌, ◌&&◌, nat_le, nat_lt, find, length}
 use Rattle.std.proofs.lemmas.List.{append-nil}
-use Rattle.std.proofs.lemmas.Bool.{leb-true, ltb-true}
+use Rattle.std.proofs.lemmas.Bool.{leb-true, ltb-true, and_parts}
 use Rattle.paging.specs.Agreement.{is_extra_stop}
 use Rattle.run_trace.specs.declared.items.Item.{Item}
 use Rattle.std.specs.Str.{bytes_eq}
@@ -10,7 +10,7 @@ use Rattle.std.specs.Option.{option_map}
 use Rattle.std.specs.FinMap.{get, empty, insert, remove, get-empty}
 use Rattle.std.specs.Ordering.{nat_cmp}
 use Rattle.std.proofs.lemmas.Bool.Decides.{eqb_tells}
-use Rattle.std.proofs.lemmas.Option.{none-some}
+use Rattle.std.proofs.lemmas.Option.{none-some, same_Some}
 use Rattle.guest_ram.specs.Bytes.{word32}
 use Rattle.descriptors.specs.Controls.{pse_of}
 use Rattle.ia32_types.specs.declared.stop.Stop.{Stop}
@@ -18,6 +18,7 @@ use Rattle.paging.specs.declared.entry.Entry.{Entry}
 use Rattle.paging.specs.declared.entry.Walk.{Walk}
 use Rattle.paging.specs.declared.entry.Walk.TheVariants.{Absent, Beyond, Reserved, Found}
 use Rattle.paging.specs.Fresh.{fresh, has}
+use Rattle.paging.proofs.WithEntry.{get_with_same, get_with_other}
 use Rattle.board.specs.Scripts.{Events}
 use Rattle.image_check.specs.Image.{Image}
 use Rattle.run_trace.specs.declared.items.End.{End}
@@ -27,6 +28,8 @@ use Rattle.machine_model.specs.State.{Setting, State, Loosened, IsCacheable, boo
 use Rattle.machine_model.specs.Step as steps
 use Rattle.machine_model.specs.Step.{Report, Went, Halts, step_of}
 use Rattle.machine_model.specs.Run.{Set, Steps, EndsIn, trace_of}
+use Rattle.machine_model.proofs.Counted.{counted_by}
+use Rattle.machine_model.proofs.Runs.{went_there}
 use Rattle.bare_machine.specs.Settings.{bare}
 use Rattle.trace_check.specs.declared.list.Choice.{Choice}
 use Rattle.trace_check.specs.declared.list.ChoiceKind.{ChoiceKind}
@@ -39,15 +42,9 @@ use Rattle.trace_check.specs.Courses.{Course, usable, addable, made, after_made,
 use Rattle.trace_check.specs.Judged.{unless_differs, judged_whole, judged_end, judged_before, judged_by, judged}
 use Rattle.trace_check.specs.Runs.{AreChosen, StopsBy, IsRunText, AreItemsBefore}
 use Rattle.trace_check.specs.RunLaws.{YesIsARun, YesBeforeIsSteps}
-use Rattle.trace_check.proofs.Holding.{with_same, with_other}
 use Rattle.trace_check.proofs.Comparing.{bytes_true}
-use Rattle.trace_check.proofs.Going.{counted}
 
 -- ---- what choices make is loosened
-
-both_true : (p q : Bool) → (p && q) ≡ true → (p ≡ true) × (q ≡ true)
-both_true true q e = (refl, e)
-both_true false q e = absurd cc
 
 by_walk : (s : Setting) (b : State) (page : ℕ) (e : Entry) (w : Walk) → page < 2 ^ 20 → fresh b.ram s.frames b.cpu.cr3 (pse_of b.cpu) page ≡ w → usable b.ram w ≡ Some e → IsCacheable s b page e
 by_walk s b page e Absent small is h = absurd (none-some e h)
@@ -64,7 +61,7 @@ by_walk s b page e (Found entry dir_at word_at) small is h = by (has (word32 b.r
           word_at = word_at;
           dirty = e.dirty;
           found = is ∙ ap (λ (x : Entry). Found x dir_at word_at) at;
-          accessed = both_true (has (word32 b.ram dir_at) 0x20) (has (word32 b.ram word_at) 0x20) flags;
+          accessed = and_parts (has (word32 b.ram dir_at) 0x20) (has (word32 b.ram word_at) 0x20) flags;
           is_dirty = λ d. d;
         }
     by false flags same = absurd (none-some e same)
@@ -72,24 +69,21 @@ by_walk s b page e (Found entry dir_at word_at) small is h = by (has (word32 b.r
 removed_allowed : (s : Setting) (b : State) (page : ℕ) (set : Set) → Loosened s b set → Loosened s b (remove set page)
 removed_allowed s b page set h = record {
   each = λ q e found. elim (eqb_tells q page) [
-    | inl t ↦ absurd (none-some e (sym (with_same set page None) ∙ ap (get (remove set page)) (sym t.1) ∙ found))
-    | inr f ↦ h.each q e (sym (with_other set page None q f.1) ∙ found)
+    | inl t ↦ absurd (none-some e (sym (get_with_same set page None) ∙ ap (get (remove set page)) (sym t.1) ∙ found))
+    | inr f ↦ h.each q e (sym (get_with_other set page None q f.1) ∙ found)
   ];
 }
 
 none_allowed : (s : Setting) (b : State) → Loosened s b empty
 none_allowed s b = record { each = λ q e found. absurd (none-some e (sym (get-empty nat_cmp q) ∙ found)) }
 
-some_inner : (a b : Entry) → Some a ≡ Some b → a ≡ b
-some_inner a b h = cc
-
 added_allowed : (s : Setting) (b : State) (page : ℕ) (x : Entry) (set : Set) → IsCacheable s b page x → Loosened s b set → Loosened s b (insert set page x)
 added_allowed s b page x set good h = record {
   each = λ q e found. elim (eqb_tells q page) [
     | inl t ↦
-        let same : x ≡ e = some_inner x e (sym (with_same set page (Some x)) ∙ ap (get (insert set page x)) (sym t.1) ∙ found) in
+        let same : x ≡ e = same_Some x e (sym (get_with_same set page (Some x)) ∙ ap (get (insert set page x)) (sym t.1) ∙ found) in
         inr (subst (λ (k : ℕ). IsCacheable s b k e) (sym t.1) (subst (IsCacheable s b page) same good))
-    | inr f ↦ h.each q e (sym (with_other set page (Some x) q f.1) ∙ found)
+    | inr f ↦ h.each q e (sym (get_with_other set page (Some x) q f.1) ∙ found)
   ];
 }
 
@@ -163,9 +157,6 @@ no_steps : (s : Setting) (list : List Choice) (n : ℕ) (b : State) (c : Course)
 unfolding Steps
 no_steps s list n b c none count ends stops = record { sets = []; last = b; run = (none, refl); count_is = count; ends = ends; are_chosen = tt; stops = stops }
 
-went_same : (a d : Report) (b c : State) → Went a b ≡ Went d c → b ≡ c
-went_same a d b c h = cc
-
 one_step : (s : Setting) (list : List Choice) (n : ℕ) (b mid : State) (set : Set) (now : Report) (c : Course) → chosen s b 0 list b.set ≡ Ok set → Loosened s b set → step_of s b set ≡ Went now mid → IsRun s list n mid c
     → IsRun s list n b (record { reports = now ∷ c.reports; count = c.count; end = c.end })
 unfolding Steps
@@ -175,7 +166,7 @@ one_step s list n b mid set now c choices allowed is h = record {
   run = (mid, now, c.reports, allowed, is, h.run, refl);
   count_is = h.count_is;
   ends = h.ends;
-  are_chosen = (choices, λ other there to. subst (λ (x : State). AreChosen s list x h.sets) (went_same now other mid there (sym is ∙ to)) h.are_chosen);
+  are_chosen = (choices, λ other there to. subst (λ (x : State). AreChosen s list x h.sets) (went_there now other mid there (sym is ∙ to)) h.are_chosen);
   stops = h.stops;
 }
 
@@ -186,7 +177,7 @@ courses_run (suc k) s list n b at = by (λ mid to. courses_run k s list n mid to
   where
     went : ((mid : State) → mid.step + k ≡ n → IsRun s list n mid (course s list k mid)) → (set : Set) (r : steps.Result) → chosen s b 0 list b.set ≡ Ok set → Loosened s b set → step_of s b set ≡ r → IsRun s list n b (after_step b.step r (λ mid. course s list k mid))
     went later set (Went now mid) choices allowed is =
-        let count = counted s b mid set now is in
+        let count = counted_by s b mid set now is in
         one_step s list n b mid set now (course s list k mid) choices allowed is (later mid (omega (arith, at, count)))
     went later set (Halts stop) choices allowed is = no_steps s list n b _ refl refl (omega (arith, at), record { set = set; allowed = allowed; halts = is }) (set, choices, is)
 

@@ -16,7 +16,7 @@ use Rattle.run_trace.specs.declared.items.End.TheVariants.{Bound, Stopped}
 use Rattle.run_trace.specs.Text.{what_text, item_line, stop_name, end_text, end_line, lines_of, text_of}
 use Rattle.trace_check.specs.Lines.{lines, begun_by, last_of, before_last, steps_told, stop_told, monitor_stops}
 use Rattle.trace_check.proofs.Differing.{begins}
-use Rattle.trace_check.proofs.LastLine.{number_on, number_ends}
+use Rattle.trace_check.proofs.LastLine.{number_on, number_ends, lines_end, lines_mid}
 
 -- ---- a decimal number is read back
 
@@ -119,14 +119,6 @@ stop_back n k end le lt =
     ∙ found_there end
 
 -- ---- the lines of a text that goes on behind a newline
-
-lines_end : (b : ℕ) (text : List ℕ) → (b == 10) ≡ true → lines (b ∷ text) ≡ (b ∷ []) ∷ lines text
-unfolding lines
-lines_end b text e = ap (λ (x : Bool). cond x ((b ∷ []) ∷ lines text) (begun_by b (lines text))) e
-
-lines_mid : (b : ℕ) (text : List ℕ) → (b == 10) ≡ false → lines (b ∷ text) ≡ begun_by b (lines text)
-unfolding lines
-lines_mid b text e = ap (λ (x : Bool). cond x ((b ∷ []) ∷ lines text) (begun_by b (lines text))) e
 
 lines_none : lines [] ≡ []
 unfolding lines

@@ -1,13 +1,9 @@
 -- Reading choices one after the other, as a loop does.
-use Rattle.std.proofs.Common.{◌≡◌, ℕ, suc, ◌+◌, ◌*◌, ◌-◌, ◌<◌, ◌≤◌, List, [], ◌∷◌, ◌++◌, length, Option, Some, None, Ok, Err, refl, sym, ap, ◌∙◌, arith, lt-ltb, le-ltb, append_assoc}
+use Rattle.std.proofs.Common.{◌≡◌, ℕ, suc, ◌+◌, ◌*◌, ◌-◌, ◌<◌, ◌≤◌, List, [], ◌∷◌, ◌++◌, length, Some, None, Ok, Err, refl, sym, ap, ◌∙◌, arith, lt-ltb, le-ltb, append_assoc}
 use Rattle.std.proofs.lemmas.List.{append-nil}
 use Rattle.guest_ram.specs.Bytes.{word32}
 use Rattle.trace_check.specs.declared.list.Choice.{Choice}
 use Rattle.trace_check.specs.Reading.{word64, head_fault, choice_fault, choices_fault, choice_at, choices_at, choices_in}
-
-pub not_some : (o : Option ℕ) → ((at : ℕ) → o ≡ Some at → ⊥) → o ≡ None
-not_some None h = refl
-not_some (Some at) h = absurd (h at refl)
 
 pub head_is_bad : (bytes : List ℕ) (at : ℕ) → head_fault bytes ≡ Some at → choices_in bytes ≡ Err at
 unfolding choices_in

@@ -1,9 +1,10 @@
 use Rattle.std.proofs.Common.{◌≡◌, ℕ, ◌≤◌, ◌+◌, ◌*◌, List, Option, Some, None, sym, ap, ◌∙◌, arith}
 use Rattle.std.specs.Prelude.{IfNone}
+use Rattle.plain_laws.proofs.Options.{not_some}
 use Rattle.trace_check.specs.Form.{most_choices}
 use Rattle.guest_ram.specs.Bytes.{word32}
 use Rattle.trace_check.specs.Reading.{word64, head_fault, choice_fault}
-use Rattle.trace_check.proofs.Walk.{not_some, head_is_bad, choice_is_bad, none_is_bad, here_bad, here_good, one_more, end_good, end_bad, at_end, choice_at-step}
+use Rattle.trace_check.proofs.Walk.{head_is_bad, choice_is_bad, none_is_bad, here_bad, here_good, one_more, end_good, end_bad, at_end, choice_at-step}
 use Rattle.trace_check.proofs.reading.choices_in.Goals as goal
 
 pub returns-in-Some : goal.returns-in-Some

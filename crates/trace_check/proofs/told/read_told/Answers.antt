@@ -1,12 +1,13 @@
 use Rattle.std.proofs.Common.{◌≡◌, ◌≤◌, ℕ, List, drop, Option, Some, None, sym, ap, subst, ◌∙◌, arith}
 use Rattle.std.specs.Prelude.{find}
 use Rattle.std.specs.Str.{bytes_eq}
+use Rattle.std.proofs.lemmas.List.{take_rest}
 use Rattle.ia32_types.specs.declared.stop.Stop.{Stop}
 use Rattle.run_trace.specs.declared.items.End.TheVariants.{Stopped}
 use Rattle.run_trace.specs.Text.{end_line}
 use Rattle.trace_check.specs.Lines.{lines, last_of, number_of, steps_told, stop_told, monitor_stops}
 use Rattle.trace_check.specs.Tells.{IsNumber}
-use Rattle.trace_check.proofs.LastLine.{none_by, stop_by, none_empty, line_is, empty_of}
+use Rattle.trace_check.proofs.LastLine.{none_by, stop_by, none_empty, empty_of}
 use Rattle.trace_check.proofs.told.read_told.Goals as goal
 
 -- the number that was read is that of the last line
@@ -20,14 +21,14 @@ returns-then-is_empty c = ap (λ (t : List ℕ). stop_told c.args.n (last_of (li
 pub returns-in-None : goal.returns-in-None
 returns-in-None c =
     let text = c.args.text.now in
-    let last = line_is text c.last_line-at.result ∙ c.last_line-at.ensures.last in
+    let last = take_rest text c.last_line-at.result ∙ c.last_line-at.ensures.last in
     let more = number_is text c.behind_ten.result.now _ c.number_told.result None c.behind_ten.ensures last c.in-None.is c.number_told.ensures in
     none_by c.args.n (last_of (lines text)) (omega (arith, more, c.requires))
 
 pub returns-then-steps-n : goal.returns-then-steps-n
 returns-then-steps-n c =
     let text = c.args.text.now in
-    let last = line_is text c.last_line-at.result ∙ c.last_line-at.ensures.last in
+    let last = take_rest text c.last_line-at.result ∙ c.last_line-at.ensures.last in
     let is = number_is text c.behind_ten.result.now _ c.number_told.result (Some c.in-Some.steps) c.behind_ten.ensures last c.in-Some.is c.number_told.ensures in
     none_by c.args.n (last_of (lines text)) (omega (arith, is, c.if-steps-n.true))
 
@@ -43,14 +44,14 @@ found_is n steps text line o last is le h =
 pub returns-in-None-stop_in : goal.returns-in-None-stop_in
 returns-in-None-stop_in c =
     let text = c.args.text.now in
-    let last = line_is text c.last_line-at.result ∙ c.last_line-at.ensures.last in
+    let last = take_rest text c.last_line-at.result ∙ c.last_line-at.ensures.last in
     let is = number_is text c.behind_ten.result.now _ c.number_told.result (Some c.in-Some.steps) c.behind_ten.ensures last c.in-Some.is c.number_told.ensures in
     found_is c.args.n c.in-Some.steps text _ c.stop_in.result last is (omega (arith, c.if-steps-n.false)) c.stop_in.ensures ∙ c.in-None-stop_in.is
 
 pub returns-in-Some-stop_in : goal.returns-in-Some-stop_in
 returns-in-Some-stop_in c =
     let text = c.args.text.now in
-    let last = line_is text c.last_line-at.result ∙ c.last_line-at.ensures.last in
+    let last = take_rest text c.last_line-at.result ∙ c.last_line-at.ensures.last in
     let is = number_is text c.behind_ten.result.now _ c.number_told.result (Some c.in-Some.steps) c.behind_ten.ensures last c.in-Some.is c.number_told.ensures in
     let le : c.in-Some.steps ≤ c.args.n = omega (arith, c.if-steps-n.false) in (
       found_is c.args.n c.in-Some.steps text _ c.stop_in.result last is le c.stop_in.ensures ∙ c.in-Some-stop_in.is,

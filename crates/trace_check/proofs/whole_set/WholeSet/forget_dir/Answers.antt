@@ -1,12 +1,13 @@
 use Rattle.std.proofs.Common.{◌≡◌, true, false, get_or, sym, ap, ◌∙◌, arith, List, Bool}
 use Rattle.std.specs.FinMap.{get}
-use Rattle.trace_check.proofs.Holding.{get_cleared, get_same, whole_dir, mark_there}
+use Rattle.shadow_cache.proofs.Calls.{read-there}
+use Rattle.trace_check.proofs.Holding.{get_cleared, get_same, whole_dir}
 use Rattle.trace_check.proofs.whole_set.WholeSet.forget_dir.Goals as goal
 
 pub clear_dir-requires-clause-index : goal.clear_dir-requires-clause-index
 clear_dir-requires-clause-index c =
     let marked : get_or c.self.inside.marks.items c.args.index false ≡ true = ap (λ (l : List Bool). get_or l c.args.index false) (sym c.deref.ensures.value) ∙ sym c.is_marked.ensures ∙ c.if-is_marked.true in
-    let lt = mark_there c.self.inside.marks.items c.args.index marked in
+    let lt = read-there c.self.inside.marks.items c.args.index marked in
     omega (arith, lt, c.self.invariant.indices)
 
 pub invariant_of-self : goal.invariant_of-self
