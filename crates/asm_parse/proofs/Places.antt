@@ -3,8 +3,8 @@ use Rattle.std.proofs.Common.{◌≡◌, ℕ, Bool, true, false, cond, List, [],
 use Rattle.std.proofs.lemmas.List.{append-nil}
 use Rattle.std.specs.Prelude.{◌==◌, ◌&&◌, ◌+◌, ◌^◌, nat_lt, unwrap_or}
 use Rattle.std.specs.List.{list_all}
-use Rattle.std.specs.Bool.{then_some}
 use Rattle.std.proofs.lemmas.Bool.{or_parts}
+use Rattle.plain_laws.proofs.Options.{then_none}
 use Rattle.asm_lex.specs.declared.fault.SourceCause.{SourceCause}
 use Rattle.asm_lex.specs.declared.fault.SourceCause.TheVariants as cause
 use Rattle.asm_lex.specs.Words.{Word}
@@ -184,10 +184,6 @@ start_suits sc = record {
 at_start : (sc : ScopeView) → Standing sc state.Start [] sc
 at_start sc = record { place = StatementPlace.first; stands = LeadsTo.first; suits = start_suits sc }
 
-not_doomed : (t : Bool) (b : ℕ) → then_some t b ≡ None → t ≡ false
-not_doomed true b h = absurd cc
-not_doomed false b h = refl
-
 -- of a name that may still begin something, only that it is an unknown directive is known
 named_byte : (sc : ScopeView) (b : ℕ) (n : List ℕ) (c : SourceCause) → doom sc (state.Named b n) ≡ None → unwrap_or (pending sc (state.Named b n)) c ≡ byte_cause sc (StatementPlace.named n) c
 named_byte sc b n c alive = by_test (is_unknown sc n) refl
@@ -195,7 +191,7 @@ named_byte sc b n c alive = by_test (is_unknown sc n) refl
     by_test : (t : Bool) → is_unknown sc n ≡ t → unwrap_or (pending sc (state.Named b n)) c ≡ byte_cause sc (StatementPlace.named n) c
     by_test true e = rw e refl
     by_test false e =
-        let lacks : lacks_names sc n ≡ false = (or_parts (is_unknown sc n && is_taken sc n) (lacks_names sc n) (not_doomed _ b alive)).1 in
+        let lacks : lacks_names sc n ≡ false = (or_parts (is_unknown sc n && is_taken sc n) (lacks_names sc n) (then_none _ b alive)).1 in
         rw (e, lacks) refl
 
 pub named_suits : (sc : ScopeView) (b : ℕ) (n : List ℕ) → doom sc (state.Named b n) ≡ None → Suits sc (StatementPlace.named n) sc (state.Named b n)

@@ -4,6 +4,7 @@ use Rattle.std.proofs.lemmas.List.{length-append}
 use Rattle.std.specs.Prelude.{not, ◌&&◌, ◌||◌, is_none, nat_lt, ◌+◌, unwrap_or}
 use Rattle.std.specs.Bool.{then_some}
 use Rattle.std.proofs.lemmas.Bool.{not-true, and_parts, or_cases}
+use Rattle.plain_laws.proofs.Options.{none_is}
 use Rattle.asm_lex.specs.declared.fault.SourceCause.{SourceCause}
 use Rattle.asm_lex.specs.declared.fault.SourceCause.TheVariants as cause
 use Rattle.asm_argument.specs.declared.terminal.Terminal.{Terminal}
@@ -46,10 +47,6 @@ ok_same x y h = cc
 pub doomed_is : (t : Bool) (b l : ℕ) → then_some t b ≡ Some l → t ≡ true
 doomed_is true b l h = refl
 doomed_is false b l h = absurd cc
-
-none_is : {A : Type 0} (o : Option A) → is_none o ≡ true → o ≡ None
-none_is None h = refl
-none_is (Some x) h = absurd cc
 
 taken_noting : (sc : ScopeView) (n : List ℕ) → is_taken sc n ≡ true → (c : SourceCause) × (noting sc true n ≡ Err c)
 taken_noting sc n h = by_tests (holds sc.defined n) (has_room sc n) refl refl h
