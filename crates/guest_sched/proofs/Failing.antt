@@ -9,11 +9,10 @@ use Rattle.run_trace.specs.declared.items.End.TheVariants as end
 use Rattle.run_trace.specs.declared.items.Ended.{Ended}
 use Rattle.run_trace.specs.declared.pause.Pause.{Pause}
 use Rattle.run_trace.specs.declared.pause.Pause.TheVariants as pause
-use Rattle.machine_model.specs.Ends.{StepsTo}
 use Rattle.machine_model.specs.Run.{Set, Steps, StopHolds, trace_of}
 use Rattle.machine_model.specs.State.{Setting, State, wedge}
-use Rattle.machine_model.specs.Step.{Report, Went, step_of}
-use Rattle.machine_model.proofs.Counting.{each_counts}
+use Rattle.machine_model.specs.Step.{Report}
+use Rattle.machine_model.proofs.Counted.{counted_by}
 use Rattle.shadow_cache.specs.Views as roots
 use Rattle.wedge_core.specs.Slices.{PausesAs}
 use Rattle.wedge_step.specs.Standing.{state_of}
@@ -22,9 +21,6 @@ use Rattle.guest_sched.specs.Went.{HasFailed}
 use Rattle.guest_sched.specs.declared.kernel.Kernel.{Kernel}
 use Rattle.guest_sched.specs.declared.tenants.Tenant.{Tenant}
 use Rattle.guest_sched.proofs.Puts.{then_front}
-
-counted_by : (m : Setting) (b mid : State) (set : Set) (now : Report) → step_of m b set ≡ Went now mid → mid.step ≡ b.step + 1
-counted_by m b mid set now is = subst (StepsTo (b.step + 1)) is (each_counts m b set)
 
 pub on_err : {T E : Type 0} (result : Result T E) {P : Type 0} → P → OnErr result P
 on_err (Ok x) p = tt

@@ -15,6 +15,7 @@ use Rattle.machine_model.specs.Counts.{direct_count, passed_digest}
 use Rattle.machine_model.specs.Run.{Steps, StopHolds, trace_of}
 use Rattle.machine_model.specs.State.{Setting, State, boot, wedge}
 use Rattle.machine_model.specs.Step.{Report}
+use Rattle.machine_model.proofs.Texts.{reported}
 use Rattle.shadow_cache.specs.Views as roots
 use Rattle.sites.specs.declared.site.Site.{Site}
 use Rattle.wedge_core.specs.Slices.{Counts}
@@ -40,7 +41,7 @@ use Rattle.guest_sched.proofs.Legs.{began_on}
 use Rattle.guest_sched.proofs.Puts.{both}
 use Rattle.guest_sched.proofs.Stands.{went_stands, skip_stands}
 use Rattle.guest_sched.proofs.Wide.{HasTurned, IsBetween, TurnAs}
-use Rattle.guest_sched.proofs.Turned.{seat_here, piece_of, turned, Turned, lines_join, whole_text}
+use Rattle.guest_sched.proofs.Turned.{seat_here, piece_of, turned, Turned, whole_text}
 use Rattle.guest_sched.proofs.Turning.{flat_append, turns_on, counts_on, reports_on, text_on, reports_off, text_off}
 
 -- the turn over the kernel's own setting
@@ -79,7 +80,7 @@ begun_as : (m : Setting) (reports : List Report) (p : Piece) (pieces : List Piec
 begun_as m reports p pieces n last then_ text r t is count stops on = begun p.stop refl stops
   where
     joined : text ++ lines_of (trace_of p.reports) ≡ lines_of (trace_of (reports_of n pieces))
-    joined = ap (λ (l : List ℕ). l ++ lines_of (trace_of p.reports)) is ∙ sym (lines_join reports p.reports) ∙ ap (λ (l : List Report). lines_of (trace_of l)) (sym r)
+    joined = ap (λ (l : List ℕ). l ++ lines_of (trace_of p.reports)) is ∙ sym (reported reports p.reports) ∙ ap (λ (l : List Report). lines_of (trace_of l)) (sym r)
 
     begun : (o : Option Stop) → o ≡ p.stop → IfSome o (StopHolds m last) → IsBegun m (reports_of n pieces) then_ (own_text n pieces)
     begun None e h = inl (t ∙ ap (λ (o : Option Stop). text ++ (lines_of (trace_of p.reports) ++ stop_line p.steps o)) (sym e) ∙ ap (λ (l : List ℕ). text ++ l) (append-nil (lines_of (trace_of p.reports))) ∙ joined)

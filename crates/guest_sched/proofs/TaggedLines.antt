@@ -3,7 +3,7 @@ use Rattle.std.proofs.Common.{◌≡◌, ℕ, zero, suc, ◌+◌, ◌<◌, Bool,
 use Rattle.std.specs.Prelude.{◌==◌, ◌&&◌, if◌then◌else◌}
 use Rattle.std.specs.List.{All, flat_map}
 use Rattle.std.proofs.lemmas.Bool.Decides.{eqb_tells}
-use Rattle.std.proofs.lemmas.List.{append-nil}
+use Rattle.std.proofs.lemmas.List.{append-nil, append_assoc}
 use Rattle.std.proofs.lemmas.List.Elements.{All-nil, All-cons, All-head, All-tail, All-append}
 use Rattle.std.proofs.lemmas.List.Splits.{slice_split_at}
 use Rattle.std.proofs.lemmas.Grind.{flat_map-append}
@@ -18,10 +18,6 @@ use Rattle.machine_model.specs.Run.{trace_of}
 use Rattle.guest_sched.specs.Pieces.{Piece, stop_line, bound_line, bound_texts, piece_text, shared_text, own_text, without_tag, lines_of_kernel}
 use Rattle.guest_sched.specs.TaggedLines.{Line, IsLine, with_tag, stop_lines, lines_in, bound_lines, last_lines, shared_lines, BytesAreLines}
 use Rattle.guest_sched.proofs.LineEnds.{item_line_is, end_line_is}
-
-append_assoc : (xs ys zs : List ℕ) → (xs ++ ys) ++ zs ≡ xs ++ (ys ++ zs)
-append_assoc [] ys zs = refl
-append_assoc (x ∷ xs) ys zs = ap (λ (z : List ℕ). x ∷ z) (append_assoc xs ys zs)
 
 -- a line with its tag, and what follows it
 

@@ -1,6 +1,6 @@
 -- Texts with the tag before each of their lines.
 use Rattle.std.proofs.Common.{◌≡◌, ℕ, suc, ◌+◌, ◌<◌, ◌≤◌, true, false, List, [], ◌∷◌, ◌++◌, length, take, drop, get_or, refl, ap, sym, ◌∙◌, arith, inl, inr, add-one, drop-cons}
-use Rattle.std.proofs.lemmas.List.{drop_all}
+use Rattle.std.proofs.lemmas.List.{drop_all, append_assoc}
 use Rattle.std.proofs.lemmas.Bool.Decides.{eqb_tells}
 use Rattle.std.specs.Prelude.{◌==◌, if◌then◌else◌}
 use Rattle.guest_sched.specs.Tags.{due_behind, tagged_from, due_after, line_len, has_end}
@@ -16,10 +16,6 @@ line_past text i past = rw (drop_all i text past) refl
 
 pub end_past : (text : List ℕ) (i : ℕ) → length text ≤ i → has_end (drop i text) ≡ false
 end_past text i past = rw (drop_all i text past) refl
-
-append_assoc : (xs ys zs : List ℕ) → (xs ++ ys) ++ zs ≡ xs ++ (ys ++ zs)
-append_assoc [] ys zs = refl
-append_assoc (x ∷ xs) ys zs = ap (λ (z : List ℕ). x ∷ z) (append_assoc xs ys zs)
 
 -- one text behind another
 pub tagged_append : (tag due xs ys : List ℕ) → tagged_from tag due (xs ++ ys) ≡ tagged_from tag due xs ++ tagged_from tag (due_after tag due xs) ys

@@ -6,6 +6,7 @@ use Rattle.std.specs.Prelude.{OnErr, OnOk, not, is_err, if◌then◌else◌}
 use Rattle.pv_io.specs.declared.answer.Failed.{Failed}
 use Rattle.pv_io.specs.Causes.{Rose}
 use Rattle.pv_io.specs.Sink.{Appends, AppendsFront}
+use Rattle.wedge_step.proofs.Memories.{append_both}
 use Rattle.guest_sched.specs.Tags.{tagged, tagged_from, due_after, line_len, has_end}
 use Rattle.guest_sched.specs.Marks.{IsTaken, size, coded, told}
 use Rattle.guest_sched.proofs.Tags.{tagged_append, due_append, line_tagged, line_due}
@@ -117,17 +118,6 @@ goes_on done bytes rest len n len_is whole =
     (ap (λ (z : List ℕ). take n rest ++ z) (take_all (length rest - len) (drop len rest) (omega (arith, length-drop len rest)) ∙ ap (λ (k : ℕ). drop k rest) len_is) ∙ take-append-drop n rest)
     ∙ whole
 
--- two lists that begin so are told apart
-split_at : (xs zs ys ws : List ℕ) → length xs ≡ length zs → xs ++ ys ≡ zs ++ ws → (xs ≡ zs) × (ys ≡ ws)
-split_at [] [] ys ws l e = (refl, e)
-split_at [] (z ∷ zs) ys ws l e = absurd (omega (arith, l))
-split_at (x ∷ xs) [] ys ws l e = absurd (omega (arith, l))
-split_at (x ∷ xs) (z ∷ zs) ys ws l e =
-    let rest : xs ++ ys ≡ zs ++ ws = cc in
-    let first : x ≡ z = cc in
-    let t = split_at xs zs ys ws (omega (arith, l)) rest in
-    (let tail = t.0 in cc, t.1)
-
 coded_split : (a b : Option (List ℕ)) (x y : List ℕ) → coded a ++ x ≡ coded b ++ y → (a ≡ b) × (x ≡ y)
 coded_split None None x y e = (refl, cc)
 coded_split None (Some b) x y e = (let h : 0 ≡ 1 + length b = cc in absurd (omega (arith, h)))
@@ -135,7 +125,7 @@ coded_split (Some a) None x y e = (let h : 1 + length a ≡ 0 = cc in absurd (om
 coded_split (Some a) (Some b) x y e =
     let h : 1 + length a ≡ 1 + length b = cc in
     let rest : a ++ x ≡ b ++ y = cc in
-    let t = split_at a b x y (omega (arith, h)) rest in
+    let t = append_both a b x y (omega (arith, h)) rest in
     (let same = t.0 in cc, t.1)
 
 -- what a sink has told since it was new says that it is the same one still, and what text it was given

@@ -7,9 +7,10 @@ use Rattle.run_trace.specs.declared.items.Item.{Item}
 use Rattle.run_trace.specs.declared.items.End.TheVariants as end
 use Rattle.run_trace.specs.declared.pause.Pause.{Pause}
 use Rattle.run_trace.specs.declared.pause.Pause.TheVariants.{Reached, Stopped}
-use Rattle.machine_model.specs.Run.{trace_of, items_of}
+use Rattle.machine_model.specs.Run.{trace_of}
 use Rattle.machine_model.specs.State.{Setting, State}
 use Rattle.machine_model.specs.Step.{Report}
+use Rattle.machine_model.proofs.Texts.{reported}
 use Rattle.shadow_cache.specs.Views as roots
 use Rattle.wedge_core.specs.Slices.{Counts, Filling, Outward}
 use Rattle.wedge_step.specs.Filled.{pages_kept}
@@ -29,10 +30,7 @@ use Rattle.guest_sched.proofs.Failing.{reports_counted}
 use Rattle.guest_sched.proofs.Legs.{runs_on, stops_on}
 use Rattle.guest_sched.proofs.Puts.{both}
 use Rattle.guest_sched.proofs.Wide.{TurnAs}
-use Rattle.guest_sched.proofs.Turning.{flat_append, reports_on, text_on, stopped_on}
-
-pub lines_join : (reports later : List Report) → lines_of (trace_of (reports ++ later)) ≡ lines_of (trace_of reports) ++ lines_of (trace_of later)
-lines_join reports later = ap lines_of (flat_append items_of reports later) ∙ flat_append _ (trace_of reports) (trace_of later)
+use Rattle.guest_sched.proofs.Turning.{reports_on, text_on, stopped_on}
 
 pub whole_text : (items : List Item) (count : ℕ) (stop : Stop) → lines_of items ++ end_line count (end.Stopped stop) ≡ text_of items count (end.Stopped stop)
 unfolding text_of
@@ -91,7 +89,7 @@ module _ (n steps frames : ℕ) (whole done : List Slice) (slice : Slice) (piece
             subst (λ (r : List Report). HasRun m r t'.guest.running.fills new) (sym (reports_on n p refl pieces)) run.0,
             omega (arith, now, was, grows),
             text_on n p refl pieces ∙ ap (λ (l : List ℕ). own_text n pieces ++ l) (append-nil (lines_of (trace_of turn.reports))) ∙ ap (λ (l : List ℕ). l ++ lines_of (trace_of turn.reports)) h.2
-                ∙ sym (lines_join (reports_of n pieces) turn.reports) ∙ ap (λ (r : List Report). lines_of (trace_of r)) (sym (reports_on n p refl pieces)),
+                ∙ sym (reported (reports_of n pieces) turn.reports) ∙ ap (λ (r : List Report). lines_of (trace_of r)) (sym (reports_on n p refl pieces)),
             stopped_on n p refl pieces h.3,
           );
           text = subst (λ (o : Option Stop). Appends taken tells (piece_text (piece_of n turn.reports t'.guest.running.step o))) (sym stop)
@@ -113,7 +111,7 @@ module _ (n steps frames : ℕ) (whole done : List Slice) (slice : Slice) (piece
             subst (λ (r : List Report). HasStopped m (bound_of n whole) r t'.guest.running.fills stop t'.guest.running.step) (sym (reports_on n p refl pieces)) run,
             text_on n p refl pieces ∙ ap (λ (l : List ℕ). l ++ (lines_of (trace_of turn.reports) ++ end_line t'.guest.running.step (end.Stopped stop))) h.2
                 ∙ sym (append_assoc (lines_of (trace_of (reports_of n pieces))) (lines_of (trace_of turn.reports)) (end_line t'.guest.running.step (end.Stopped stop)))
-                ∙ ap (λ (l : List ℕ). l ++ end_line t'.guest.running.step (end.Stopped stop)) (sym (lines_join (reports_of n pieces) turn.reports))
+                ∙ ap (λ (l : List ℕ). l ++ end_line t'.guest.running.step (end.Stopped stop)) (sym (reported (reports_of n pieces) turn.reports))
                 ∙ whole_text (trace_of (reports_of n pieces ++ turn.reports)) t'.guest.running.step stop
                 ∙ ap (λ (r : List Report). text_of (trace_of r) t'.guest.running.step (end.Stopped stop)) (sym (reports_on n p refl pieces)),
             stopped_on n p refl pieces h.3,

@@ -2,11 +2,13 @@
 use Rattle.std.proofs.Common.{◌≡◌, ◌≢◌, inl, inr, ℕ, ◌+◌, ◌==◌, ◌&&◌, ◌||◌, Bool, true, false, List, [], ◌∷◌, ◌++◌, None, is_some, refl, ap, sym, subst, ◌∙◌, append_assoc, append-nil}
 use Rattle.std.specs.List.{flat_map}
 use Rattle.std.proofs.lemmas.Bool.Decides.{eqb_tells}
+use Rattle.std.proofs.Math.Bool.{or-false}
 use Rattle.run_trace.specs.Text.{lines_of}
 use Rattle.machine_model.specs.Run.{trace_of}
 use Rattle.machine_model.specs.Counts.{direct_count, passed_digest}
 use Rattle.sites.specs.declared.site.Site.{Site}
 use Rattle.wedge_core.specs.Slices.{Counts}
+use Rattle.shadow_cache.proofs.Beside.{or-less}
 use Rattle.guest_sched.specs.Pieces.{Piece, has_stopped, IsTurn, AreTurns, stop_line, piece_text, reports_of, own_text, counts_over}
 use Rattle.guest_sched.specs.declared.schedule.Slice.{Slice}
 
@@ -21,17 +23,9 @@ turns_on before (s ∷ slices) [] slice p h t = absurd h
 turns_on before (s ∷ slices) (q ∷ pieces) slice p h t =
     (h.0, turns_on (before ++ q ∷ []) slices pieces slice p h.1 (subst (λ (l : List Piece). IsTurn l slice p) (sym (append_assoc before (q ∷ []) pieces)) t))
 
-or_none : (b : Bool) → (b || false) ≡ b
-or_none true = refl
-or_none false = refl
-
 none_later : (b x y z : Bool) → (b || x) ≡ false → (x ≡ false → y ≡ z) → (b || y) ≡ z
 none_later true x y z e f = absurd (cc)
 none_later false x y z e f = f e
-
-some_later : (b x y : Bool) → (b || x) ≡ true → (x ≡ true → y ≡ true) → (b || y) ≡ true
-some_later true x y is f = refl
-some_later false x y is f = f is
 
 -- of the turn's kernel
 module _ (n : ℕ) (p : Piece) (mine : p.kernel ≡ n) where
@@ -55,12 +49,12 @@ module _ (n : ℕ) (p : Piece) (mine : p.kernel ≡ n) where
   ]
 
   pub stopped_on : (pieces : List Piece) → has_stopped n pieces ≡ false → has_stopped n (pieces ++ p ∷ []) ≡ is_some p.stop
-  stopped_on [] h = rw is_mine (or_none (is_some p.stop))
+  stopped_on [] h = rw is_mine (or-false (is_some p.stop))
   stopped_on (q ∷ pieces) h = none_later ((q.kernel == n) && is_some q.stop) (has_stopped n pieces) (has_stopped n (pieces ++ p ∷ [])) (is_some p.stop) h (λ e. stopped_on pieces e)
 
 pub stopped_still : (n : ℕ) (pieces more : List Piece) → has_stopped n pieces ≡ true → has_stopped n (pieces ++ more) ≡ true
 stopped_still n [] more is = absurd (cc)
-stopped_still n (q ∷ pieces) more is = some_later ((q.kernel == n) && is_some q.stop) (has_stopped n pieces) (has_stopped n (pieces ++ more)) is (λ e. stopped_still n pieces more e)
+stopped_still n (q ∷ pieces) more is = or-less ((q.kernel == n) && is_some q.stop) (has_stopped n pieces) (has_stopped n (pieces ++ more)) is (λ e. stopped_still n pieces more e)
 
 -- of another's turn
 module _ (n : ℕ) (p : Piece) (others : p.kernel ≢ n) where

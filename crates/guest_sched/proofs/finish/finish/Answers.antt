@@ -1,7 +1,8 @@
-use Rattle.std.proofs.Common.{◌≡◌, ◌<◌, ◌+◌, length, map, get_or, take, refl, ap, sym, subst, ◌∙◌, arith, Bool, true, false}
+use Rattle.std.proofs.Common.{◌≡◌, ◌<◌, ◌+◌, length, map, get_or, take, ap, sym, subst, ◌∙◌, arith, true, false}
 use Rattle.std.specs.Prelude.{is_none, not}
 use Rattle.std.proofs.lemmas.List.{length-set}
 use Rattle.std.proofs.lemmas.Result.{err_from_is_err_and}
+use Rattle.std.proofs.Math.Bool.{not-not}
 use Rattle.pv_io.specs.Sink.{Appends}
 use Rattle.run_trace.specs.Text.{end_line}
 use Rattle.guest_sched.specs.Between.{ended_of}
@@ -12,10 +13,6 @@ use Rattle.guest_sched.proofs.Finishing.{last_line_is, fails_there, goes_there, 
 use Rattle.guest_sched.proofs.finish.finish.Goals as goal
 use Rattle.guest_sched.proofs.finish.finish.Goals.{then-is_none+in_ok-put_last, else-is_none}
 
-twice : (b : Bool) → not (not b) ≡ b
-twice true = refl
-twice false = refl
-
 pub returns-in_err-put_last-clause-failed : goal.returns-in_err-put_last-clause-failed
 returns-in_err-put_last-clause-failed g c =
     let p = err_from_is_err_and c.from_residual.result c.from_residual.ensures.1 in
@@ -24,7 +21,7 @@ returns-in_err-put_last-clause-failed g c =
     let d = c.index-tenant.result.now in
     let within : l.number < length ts = (let a = c.loop-number-test.true in let b = c.len-number-end.ensures in omega (arith, a, b)) in
     let e = c.end_of-end.ensures in
-    let none : is_none d.stop ≡ true = ap not c.is_none.ensures ∙ twice c.is_none.result ∙ c.if-is_none.true in
+    let none : is_none d.stop ≡ true = ap not c.is_none.ensures ∙ not-not c.is_none.result ∙ c.if-is_none.true in
     rw p.1
     (fails_there (g.O.Sink.taken c.args.out.now) (g.O.Sink.taken l.out) (g.O.Sink.taken c.put_last.new.out) ts l.number d (tagged (tag_of l.number) (end_line c.end_of-end.result.steps c.end_of-end.result.end)) within
     (last_line_is ts l.number d c.end_of-end.result e.steps e.end none c.index-tenant.ensures) l.invariant.text c.in_err-put_last.ensures.failed)
@@ -41,7 +38,7 @@ loop-number-preserved g c =
     let len = length-set l.ended.items l.number c.end_of-end.result ∙ l.invariant.len in
     elim c.if-is_none.branch [
       | then-is_none+in_ok-put_last w ↦
-          let none : is_none d.stop ≡ true = ap not c.is_none.ensures ∙ twice c.is_none.result ∙ w.if-is_none.true in
+          let none : is_none d.stop ≡ true = ap not c.is_none.ensures ∙ not-not c.is_none.result ∙ w.if-is_none.true in
           record {
             len = len;
             ended = more;
@@ -51,7 +48,7 @@ loop-number-preserved g c =
             later = (let a = ap g.O.Sink.faults w.out-is in let b = l.invariant.later in let k = w.put_last.ensures.later in omega (arith, a, b, k));
           }
       | else-is_none w ↦
-          let some : is_none (get_or ts l.number d).stop ≡ false = ap (λ (t : Tenant). is_none t.stop) (sym c.index-tenant.ensures) ∙ ap not c.is_none.ensures ∙ twice c.is_none.result ∙ w.if-is_none.false in
+          let some : is_none (get_or ts l.number d).stop ≡ false = ap (λ (t : Tenant). is_none t.stop) (sym c.index-tenant.ensures) ∙ ap not c.is_none.ensures ∙ not-not c.is_none.result ∙ w.if-is_none.false in
           record {
             len = len;
             ended = more;
