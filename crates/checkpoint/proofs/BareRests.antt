@@ -11,13 +11,14 @@ use Rattle.run_trace.specs.Pauses.{IfReached}
 use Rattle.run_trace.specs.Text.{lines_of, end_line}
 use Rattle.machine_model.specs.State.{Setting, State}
 use Rattle.machine_model.specs.Run.{Run, trace_of, with_set}
+use Rattle.machine_model.proofs.Texts.{text_is}
 use Rattle.bare_machine.specs.Slices.{SliceAs}
 use Rattle.bare_machine.proofs.Runs.{part_allowed, same_step}
 use Rattle.checkpoint.specs.InForm.{IsInForm}
 use Rattle.checkpoint.specs.Moved.{kept_of}
 use Rattle.checkpoint.specs.Rested.{RestsTo}
 use Rattle.checkpoint.specs.RestAnswers.{RestsWith}
-use Rattle.checkpoint.proofs.Resting.{text_is, FailsIn, fails_in_lines, fails_at_end}
+use Rattle.checkpoint.proofs.Resting.{FailsIn, fails_in_lines, fails_at_end}
 
 -- what holds where a slice has done its steps
 pub reached_so : (pause : Pause) (P : Type 0) → IfReached (Ok pause) P → pause ≡ Reached → P

@@ -1,5 +1,5 @@
 -- From a slice of a patched run and the last line to the rest of a run.
-use Rattle.std.proofs.Common.{◌≡◌, ℕ, ◌*◌, ◌≤◌, List, [], ◌++◌, take, Option, Ok, Err, refl, sym, ap, subst, ◌∙◌, append_assoc, arith}
+use Rattle.std.proofs.Common.{◌≡◌, ℕ, ◌*◌, ◌≤◌, List, [], ◌++◌, take, Option, Ok, Err, refl, sym, ap, subst, ◌∙◌, arith}
 use Rattle.std.proofs.lemmas.List.{append-nil}
 use Rattle.pv_io.specs.declared.answer.Failed.{Failed}
 use Rattle.pv_io.specs.Causes.{Rose}
@@ -9,22 +9,15 @@ use Rattle.run_trace.specs.declared.items.End.{End}
 use Rattle.run_trace.specs.Text.{lines_of, end_line, text_of}
 use Rattle.run_trace.specs.Pauses.{end_of, IfReached}
 use Rattle.machine_model.specs.State.{Setting, State}
-use Rattle.machine_model.specs.Step.{Report}
 use Rattle.machine_model.specs.Run.{EndsIn, trace_of}
 use Rattle.machine_model.proofs.Ending.{each_ends}
+use Rattle.machine_model.proofs.Texts.{text_join}
 use Rattle.bare_machine.specs.Answers.{RunsTo}
 use Rattle.wedge_core.specs.Promises.{HasMemory, with_patches}
 use Rattle.wedge_core.specs.Slices.{Filling, Noting, Outward, SliceAs}
-use Rattle.wedge_core.proofs.RunPieces.{run_join, seen_join, lines_both, put_both, put_front, put_none}
+use Rattle.wedge_core.proofs.RunPieces.{run_join, put_both, put_front, put_none}
 use Rattle.wedge_core.proofs.WholeRuns.{text_is, ends_by, count_by, memory_by}
 use Rattle.checkpoint.specs.Continued.{PromiseFrom}
-
--- the text of a run that goes on
-text_join : (reports later : List Report) (count : ℕ) (end : End) → text_of (trace_of (reports ++ later)) count end ≡ lines_of (trace_of reports) ++ (lines_of (trace_of later) ++ end_line count end)
-text_join reports later count end =
-    sym (text_is (reports ++ later) count end)
-    ∙ (ap (λ (l : List ℕ). l ++ end_line count end) (ap lines_of (seen_join reports later) ∙ lines_both (trace_of reports) (trace_of later))
-    ∙ append_assoc (lines_of (trace_of reports)) (lines_of (trace_of later)) (end_line count end))
 
 module _ {m : Setting} {n : ℕ} {old new : State} {out : Outward} {filling : Filling} {noting : Noting} {begins : Type 0} where
   -- all lines and the last one were put

@@ -4,6 +4,8 @@ use Rattle.std.specs.Prelude.{◌&&◌, nat_le, nat_lt, min, replicate, IfNone}
 use Rattle.std.specs.Option.{option_or}
 use Rattle.std.proofs.lemmas.Bool.{le-ltb, ltb-false, leb-true, and_parts, cases_Bool}
 use Rattle.std.proofs.lemmas.List.{take_at, drop_at, take_all, take-append-drop, length-drop, append-nil, take_min, drop-replicate, drop_all}
+use Rattle.std.proofs.lemmas.Option.{same_Some}
+use Rattle.plain_laws.proofs.Options.{neither, else_none}
 use Rattle.guest_ram.specs.Bytes.{part, with_part, AreBytes}
 use Rattle.guest_ram.proofs.Bytes.{length-part, bytes-part}
 use Rattle.descriptors.specs.declared.cpu.Cpu.{Cpu}
@@ -22,9 +24,6 @@ use Rattle.checkpoint.proofs.Heads.{length-spelled, head_back, spelled_again}
 use Rattle.checkpoint.proofs.Boards.{board_again}
 use Rattle.checkpoint.proofs.AllMet.{Groups, groups_from_none, none_from_groups}
 use Rattle.checkpoint.proofs.Processors.{cpu_back, meets, fits_so, head_again}
-
-none_first : (a b : Option ℕ) → a ≡ None → b ≡ None → option_or a b ≡ None
-none_first a b p q = rw p q
 
 no_miss : (there : ℕ) (n : ℕ) → there ≡ n → misses there n ≡ None
 no_miss there n e =
@@ -53,7 +52,7 @@ decided h bytes s read none whole is =
     let of_head : Head → Result State ℕ = λ x.
     unless (option_or (first_bad (length bytes) (demands x)) (misses (length bytes) (size x.frames))) (state_by x (drop 256 bytes)) in
     let well : option_or (first_bad (length bytes) (demands h)) (misses (length bytes) (size h.frames)) ≡ None =
-    none_first (first_bad (length bytes) (demands h)) (misses (length bytes) (size h.frames)) none (no_miss (length bytes) (size h.frames) whole) in
+    neither (first_bad (length bytes) (demands h)) (misses (length bytes) (size h.frames)) none (no_miss (length bytes) (size h.frames) whole) in
     ap of_head read
     ∙ unless_none (option_or (first_bad (length bytes) (demands h)) (misses (length bytes) (size h.frames))) (state_by h (drop 256 bytes)) well
     ∙ ap read_as is
@@ -113,10 +112,6 @@ sized_so s h board len h_is board_is len_is sized =
 
 -- ---- what is read
 
-parts_none : (a b : Option ℕ) → option_or a b ≡ None → (a ≡ None) × (b ≡ None)
-parts_none None b e = (refl, e)
-parts_none (Some a) b e = absurd (cc)
-
 pub whole_size : (there n : ℕ) → misses there n ≡ None → there ≡ n
 whole_size there n none = by_cases (cases_Bool (nat_lt there n)) (cases_Bool (nat_lt n there)) where
   by_cases : (nat_lt there n ≡ true) ⊎ (nat_lt there n ≡ false) → (nat_lt n there ≡ true) ⊎ (nat_lt n there ≡ false) → there ≡ n
@@ -159,7 +154,7 @@ pub read_well : (bytes : List ℕ) → AreBytes bytes → fault_of (head_at (fro
 unfolding fault_of part
 read_well bytes are none =
     let h = head_at (front bytes) in
-    let both = parts_none (first_bad (length bytes) (demands h)) (misses (length bytes) (size h.frames)) none in
+    let both = else_none (first_bad (length bytes) (demands h)) (misses (length bytes) (size h.frames)) none in
     let whole = whole_size (length bytes) (size h.frames) both.1 in
     let zero : 256 - length bytes ≡ 0 = omega arith in
     let first : front bytes ≡ take 256 bytes = ap (λ (n : ℕ). take 256 bytes ++ replicate n 0) zero ∙ append-nil (take 256 bytes) in
@@ -242,9 +237,6 @@ never_lost bytes fr h fault board are fr_is h_is fault_is none board_is lost =
     board_is ∙ ap (λ (x : Head). restored x.board) t.0 ∙ board_restored bytes are t.1 in
     absurd (cc)
 
-some_is : {T : Type 0} (x y : T) → Some x ≡ Some y → x ≡ y
-some_is x y e = cc
-
 pub read_so : (bytes fr : List ℕ) (h : Head) (fault : Option ℕ) (restored_is : Option Board) (cpu : Cpu) (board : Board) (ram : List ℕ) → AreBytes bytes →
     fr ≡ front bytes → h ≡ head_at fr → fault ≡ fault_of h (length bytes) → fault ≡ None → restored_is ≡ restored h.board → restored_is ≡ Some board →
     cpu ≡ cpu_of h → ram ≡ drop 256 bytes →
@@ -252,7 +244,7 @@ pub read_so : (bytes fr : List ℕ) (h : Head) (fault : Option ℕ) (restored_is
 read_so bytes fr h fault restored_is cpu board ram are fr_is h_is fault_is none back_is some cpu_is ram_is =
     let t = told bytes fr h fault fr_is h_is fault_is none in
     let b : board ≡ board_at h.board =
-    some_is board (board_at h.board) (sym some ∙ back_is ∙ ap (λ (x : Head). restored x.board) t.0 ∙ board_restored bytes are t.1 ∙ ap (λ (x : Head). Some (board_at x.board)) (sym t.0)) in
+    same_Some board (board_at h.board) (sym some ∙ back_is ∙ ap (λ (x : Head). restored x.board) t.0 ∙ board_restored bytes are t.1 ∙ ap (λ (x : Head). Some (board_at x.board)) (sym t.0)) in
     let made : State = record { cpu = cpu; board = board; step = h.step; ram = ram } in
     let same : state_by (head_at (front bytes)) (drop 256 bytes) ≡ made =
     ap (λ (x : Head). state_by x (drop 256 bytes)) (sym t.0)

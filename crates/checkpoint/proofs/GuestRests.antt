@@ -11,6 +11,7 @@ use Rattle.machine_model.specs.State.{Setting, State}
 use Rattle.machine_model.specs.Fit.{Fit}
 use Rattle.machine_model.specs.StaysFit.{RunsKeepFit}
 use Rattle.machine_model.specs.Run.{Run, trace_of}
+use Rattle.machine_model.proofs.Texts.{text_is}
 use Rattle.wedge_core.specs.Slices.{Filling, Noting, Outward, SliceAs}
 use Rattle.wedge_core.proofs.RunPieces.{put_both}
 use Rattle.wedge_core.proofs.WholeRuns.{ends_by, count_by}
@@ -18,7 +19,7 @@ use Rattle.checkpoint.specs.InForm.{IsInForm}
 use Rattle.checkpoint.specs.Moved.{kept_of}
 use Rattle.checkpoint.specs.Rested.{RestsTo}
 use Rattle.checkpoint.specs.RestAnswers.{RestsWith, host_counts}
-use Rattle.checkpoint.proofs.Resting.{text_is, FailsIn, fails_in_lines, fails_at_end}
+use Rattle.checkpoint.proofs.Resting.{FailsIn, fails_in_lines, fails_at_end}
 
 module _ {m : Setting} {old new : State} {out : Outward} {filling : Filling} {noting : Noting} {begins : Type 0} where
   -- the same slice, with its bound named otherwise

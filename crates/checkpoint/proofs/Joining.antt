@@ -14,6 +14,7 @@ use Rattle.machine_model.specs.Step.{Report, step_of}
 use Rattle.machine_model.specs.Run.{Set, Steps, EndsIn, trace_of, with_set}
 use Rattle.machine_model.specs.Agreement.{RunsAgree, end_on_bare, bound_on_bare}
 use Rattle.machine_model.specs.Joined.{StepsJoin}
+use Rattle.machine_model.proofs.Runs.{trace_join}
 use Rattle.checkpoint.specs.Legs.{Leg, in_mode, rested, Legs, Parts, sets_of, reports_of, LegsAreSteps, LegsAreARun, LegsAreParts, TracesJoin}
 
 none-some : (e : Entry) → (let o : Option Entry = None in o) ≡ Some e → ⊥
@@ -161,13 +162,9 @@ legs_are_parts m n legs leg mid last end before h =
       ends_on (in_mode m leg.mode) n last q.whole end q.loosened h.ends,
     )
 
-trace-append : (reports later : List Report) → trace_of (reports ++ later) ≡ trace_of reports ++ trace_of later
-trace-append [] later = refl
-trace-append (r ∷ reports) later = ap (λ (xs : List Item). r.items ++ xs) (trace-append reports later) ∙ sym (append_assoc r.items (trace_of reports) (trace_of later))
-
 traces_of_legs : (legs : List Leg) → trace_of (reports_of legs) ≡ flat_map (λ (l : Leg). trace_of l.reports) legs
 traces_of_legs [] = refl
-traces_of_legs (leg ∷ legs) = trace-append leg.reports (reports_of legs) ∙ ap (λ (xs : List Item). trace_of leg.reports ++ xs) (traces_of_legs legs)
+traces_of_legs (leg ∷ legs) = trace_join leg.reports (reports_of legs) ∙ ap (λ (xs : List Item). trace_of leg.reports ++ xs) (traces_of_legs legs)
 
 pub traces_join : TracesJoin
-traces_join legs leg = trace-append (reports_of legs) leg.reports ∙ ap (λ (xs : List Item). xs ++ trace_of leg.reports) (traces_of_legs legs)
+traces_join legs leg = trace_join (reports_of legs) leg.reports ∙ ap (λ (xs : List Item). xs ++ trace_of leg.reports) (traces_of_legs legs)

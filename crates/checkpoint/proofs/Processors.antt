@@ -7,6 +7,7 @@ use Rattle.descriptors.specs.declared.cpu.Hidden.{Hidden}
 use Rattle.descriptors.specs.Segments.{seg_of}
 use Rattle.ia32_types.specs.Bits.{worth}
 use Rattle.board.specs.Restored.{board_form}
+use Rattle.board.proofs.Saves.{worth_back, worth_small}
 use Rattle.machine_model.specs.Fit.{Fit, IsLevel, IsSegment, AreFlags}
 use Rattle.checkpoint.specs.declared.head.Head.{Head}
 use Rattle.checkpoint.specs.declared.head.Segment.{Segment}
@@ -37,14 +38,6 @@ four_all P a b c e pa pb pc pe (suc (suc (suc zero))) d h = pe
 four_all P a b c e pa pb pc pe (suc (suc (suc (suc k)))) d h = absurd (omega arith)
 
 -- ---- a processor and back
-
-worth_back : (b : Bool) → (worth b == 1) ≡ b
-worth_back true = refl
-worth_back false = refl
-
-worth_low : (b : Bool) → nat_le (worth b) 1 ≡ true
-worth_low true = refl
-worth_low false = refl
 
 hidden_back : (s : Hidden) → hidden_from (segment_from s) ≡ s
 hidden_back s = ap (λ (b : Bool). let made : Hidden = record { sel = s.sel; null = b; dpl = s.dpl } in made) (worth_back s.null)
@@ -102,10 +95,10 @@ meets cpu board step frames fit long few low high form =
           (and_from (is_control_0 cpu.cr0) _ (and_from (bit_and cpu.cr0 0x80000011 == 0x80000011) (bit_and cpu.cr0 0x7FFAFFC0 == 0) (eq-eqb _ _ fit.controls.on) (eq-eqb _ _ fit.controls.others))
           (and_from (is_control_3 cpu.cr3) _ (eq-eqb _ _ fit.controls.directory)
           (and_from (is_control_4 cpu.cr4) _ (control_4_test cpu.cr4 fit.controls.extensions)
-          (and_from (nat_le (worth cpu.task.loaded) 1) _ (worth_low cpu.task.loaded)
+          (and_from (nat_le (worth cpu.task.loaded) 1) _ (worth_small cpu.task.loaded)
           (and_from (is_level cpu.cpl) _ (level_test cpu.cpl fit.level)
           (and_from (is_halt (worth cpu.halted) cpu.cpl) _ (halt_test cpu.halted cpu.cpl fit.halted)
-          (and_from (nat_le (worth cpu.held) 1) true (worth_low cpu.held) refl)))))));
+          (and_from (nat_le (worth cpu.held) 1) true (worth_small cpu.held) refl)))))));
       segments =
           and_from (is_null (segment_from (seg_of cpu 0))) _ (null_test (seg_of cpu 0) s0) (and_from (is_level (seg_of cpu 0).dpl) _ (level_test _ s0.level)
           (and_from (is_null (segment_from (seg_of cpu 1))) _ (null_test (seg_of cpu 1) s1) (and_from (is_level (seg_of cpu 1).dpl) _ (level_test _ s1.level)
@@ -164,7 +157,7 @@ record Segments (h : Head) : Type 0 where
 null_low : (s : Segment) → is_null s ≡ true → s.null ≤ 1
 null_low s null =
     let e = eqb-true s.null (worth (nat_lt s.selector 4)) null in
-    let small : worth (nat_lt s.selector 4) ≤ 1 = leb-true _ 1 (worth_low (nat_lt s.selector 4)) in omega arith
+    let small : worth (nat_lt s.selector 4) ≤ 1 = leb-true _ 1 (worth_small (nat_lt s.selector 4)) in omega arith
 
 to_segments : (h : Head) → all_met (segments_demands h) ≡ true → Segments h
 to_segments h met =

@@ -1,5 +1,5 @@
 -- A run that is to rest: what it puts, and what a sink has taken of it that failed.
-use Rattle.std.proofs.Common.{◌≡◌, ℕ, ◌≤◌, List, [], ◌++◌, Option, Result, Ok, Err, inl, inr, refl, sym, ap, ◌∙◌, append_assoc}
+use Rattle.std.proofs.Common.{◌≡◌, ℕ, ◌≤◌, List, [], ◌++◌, Option, Result, Ok, Err, inl, inr, refl, sym, ap, ◌∙◌}
 use Rattle.std.proofs.lemmas.List.{append-nil}
 use Rattle.pv_io.specs.Sink.{Appends, AppendsFront}
 use Rattle.ia32_types.specs.declared.stop.Stop as stops
@@ -13,29 +13,18 @@ use Rattle.machine_model.specs.State.{Setting, State, boot}
 use Rattle.machine_model.specs.Step.{Report}
 use Rattle.machine_model.specs.Run.{Set, Steps, Run, trace_of}
 use Rattle.machine_model.proofs.Ending.{each_ends}
+use Rattle.machine_model.proofs.Texts.{text_behind, text_is}
 use Rattle.wedge_core.proofs.RunPieces.{run_join, seen_join, lines_both, put_front, put_none}
 use Rattle.checkpoint.specs.declared.rested.Rested.{Rested}
 use Rattle.checkpoint.specs.declared.rested.Rested.TheVariants.{At, Stopped}
 use Rattle.checkpoint.specs.Rested.{rested_text, RestsTo}
 use Rattle.checkpoint.specs.RestAnswers.{RestsAs, RestsFromStart}
 
-pub text_is : (reports : List Report) (count : ℕ) (end : End) → lines_of (trace_of reports) ++ end_line count end ≡ text_of (trace_of reports) count end
-unfolding text_of
-text_is reports count end = refl
-
-text_join : (reports later : List Report) (count : ℕ) (end : End)
-    → text_of (trace_of (reports ++ later)) count end ≡ lines_of (trace_of reports) ++ text_of (trace_of later) count end
-text_join reports later count end =
-    sym (text_is (reports ++ later) count end)
-    ∙ (ap (λ (l : List ℕ). l ++ end_line count end) (ap lines_of (seen_join reports later) ∙ lines_both (trace_of reports) (trace_of later))
-    ∙ (append_assoc (lines_of (trace_of reports)) (lines_of (trace_of later)) (end_line count end)
-    ∙ ap (λ (l : List ℕ). lines_of (trace_of reports) ++ l) (text_is later count end)))
-
 -- what a run puts that goes on: the lines so far, and then what is put from there
 rested_join : (reports later : List Report) (count : ℕ) (end : End)
     → rested_text (trace_of (reports ++ later)) count end ≡ lines_of (trace_of reports) ++ rested_text (trace_of later) count end
 rested_join reports later count ends.Bound = ap lines_of (seen_join reports later) ∙ lines_both (trace_of reports) (trace_of later)
-rested_join reports later count (ends.Stopped stop) = text_join reports later count (ends.Stopped stop)
+rested_join reports later count (ends.Stopped stop) = text_behind reports later count (ends.Stopped stop)
 
 abbrev pub FailsIn : Setting → ℕ → State → Option (List ℕ) → Option (List ℕ) → Type 0
 FailsIn m n old a b = (last : State) × (end : End) × (text : List ℕ) × RestsTo m n old (λ _. Unit {0}) text last end × AppendsFront a b text

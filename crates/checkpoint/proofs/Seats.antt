@@ -1,22 +1,14 @@
 -- A checkpoint's memory at the front of a host's.
-use Rattle.std.proofs.Common.{◌≡◌, ℕ, zero, suc, ◌+◌, ◌*◌, ◌/◌, ◌%◌, ◌<◌, ◌≤◌, List, length, take, drop, take-add, refl, sym, ap, ◌∙◌, inl, arith}
+use Rattle.std.proofs.Common.{◌≡◌, ℕ, ◌+◌, ◌*◌, ◌/◌, ◌%◌, ◌≤◌, List, length, take, drop, sym, ap, ◌∙◌, inl, arith}
 use Rattle.std.proofs.lemmas.List.{take_at, take_all, length-take, length-take-le, length-drop}
-use Rattle.guest_ram.specs.Bytes.{part, with_part, frame}
+use Rattle.guest_ram.specs.Bytes.{part, with_part}
 use Rattle.guest_ram.proofs.Bytes.{length-part, length-with_part}
 use Rattle.frame_pool.specs.Pool.{SameOutside}
 use Rattle.image_load.specs.Boot.{text_pages}
 use Rattle.image_check.specs.Image.{Image}
 use Rattle.wedge_step.proofs.Memories.{part_front}
+use Rattle.wedge_mem.proofs.Below.{frames-same}
 use Rattle.checkpoint.proofs.Files.{put_all}
-
-frames_same : (n : ℕ) (m m' : List ℕ) → ((g : ℕ) → g < n → frame m' g ≡ frame m g) → take (4096 * n) m' ≡ take (4096 * n) m
-unfolding frame part
-frames_same zero m m' h = refl
-frames_same (suc n) m m' h =
-    let e : 4096 * suc n ≡ 4096 * n + 4096 = omega arith in
-    let before = frames_same n m m' (λ g l. h g (omega (arith, l))) in
-    let here = h n (omega arith) in
-    ap (λ k. take k m') e ∙ take-add (4096 * n) 4096 m' ∙ cc (before, here) ∙ sym (take-add (4096 * n) 4096 m) ∙ sym (ap (λ k. take k m) e)
 
 pub seat : (old mid new ram copy : List ℕ) (frames len : ℕ) → length ram ≡ 4096 * frames → len ≡ length ram → copy ≡ part ram 0 len →
     mid ≡ with_part old 0 copy → SameOutside frames 512 mid new → take (4096 * frames) new ≡ ram
@@ -24,7 +16,7 @@ unfolding part with_part
 seat old mid new ram copy frames len long len_is copy_is mid_is same =
     let whole : copy ≡ ram = copy_is ∙ ap (λ (n : ℕ). take n ram) len_is ∙ take_all (length ram) ram (omega arith) in
     let size : length copy ≡ 4096 * frames = ap length whole ∙ long in
-    frames_same frames mid new (λ g l. same.others g (inl l))
+    frames-same frames mid new (λ g l. same.others g (inl l))
     ∙ ap (take (4096 * frames)) mid_is
     ∙ take_at copy (drop (0 + length copy) old) (4096 * frames) size
     ∙ whole
