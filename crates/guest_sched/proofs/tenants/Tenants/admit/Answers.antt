@@ -1,9 +1,32 @@
-use Rattle.std.proofs.Common.{ℕ, ap, sym, subst, ◌∙◌, arith}
+use Rattle.std.proofs.Common.{ℕ, Result, Ok, Err, ap, sym, subst, ◌∙◌, arith}
+use Rattle.std.specs.Prelude.{IfErr}
+use Rattle.std.proofs.lemmas.Result.{err_from_is_err_and}
 use Rattle.frame_pool.specs.declared.Pool.{Pool}
 use Rattle.image_load.specs.declared.boot.Boot.{Boot}
-use Rattle.guest_sched.specs.Admitting.{HasBegun, MayBegin}
+use Rattle.guest_sched.specs.Admitting.{CantAdmit, HasBegun, IsMemory, MayBegin}
+use Rattle.guest_sched.specs.declared.kernel.Kernel.{Kernel}
+use Rattle.guest_sched.specs.declared.kernel.SharedFault.{SharedFault}
+use Rattle.guest_sched.specs.declared.kernel.SharedFault.TheVariants as fault
 use Rattle.guest_sched.proofs.Admitted.{parked_stands, parked_free, taken_in}
 use Rattle.guest_sched.proofs.tenants.Tenants.admit.Goals as goal
+
+-- no memory was found
+memory_lacks : (kernel : Kernel) (frames : ℕ) (f : SharedFault) → IsMemory f → CantAdmit kernel frames f
+memory_lacks kernel frames fault.Write h = absurd h
+memory_lacks kernel frames (fault.TooSmall small) h = absurd h
+memory_lacks kernel frames fault.Memory h = tt
+
+lacks_memory : {T : Type 0} (result : Result T SharedFault) (kernel : Kernel) (frames : ℕ) → IfErr result IsMemory → IfErr result (CantAdmit kernel frames)
+lacks_memory (Ok done) kernel frames h = tt
+lacks_memory (Err f) kernel frames h = memory_lacks kernel frames f h
+
+pub returns-in_err-guest-clause-refused : goal.returns-in_err-guest-clause-refused
+returns-in_err-guest-clause-refused g c =
+    let p = err_from_is_err_and c.from_residual-in_err-guest.result c.from_residual-in_err-guest.ensures.1 in
+    rw (p.1, p.2) (subst (λ (n : ℕ). CantAdmit c.args.kernel.now n c.in_err-guest.field-0.0) c.park.ensures.rest.1 c.in_err-guest.ensures.refused)
+
+pub returns-clause-refused : goal.returns-clause-refused
+returns-clause-refused g c = lacks_memory c.add.result c.args.kernel.now c.args.self.now.frames c.add.ensures.refused
 
 pub begin-requires-clause-may : goal.begin-requires-clause-may
 begin-requires-clause-may g c =
