@@ -46,8 +46,8 @@ module _ (kernel : Kernel) (frames : ℕ) (ram host between : List ℕ) (fits : 
         (held : IsHeld roots.stands roots.frames roots.slots (ground kernel.image frames) guest.running p' host')
         (state : (script : Events) → state_of roots.stands roots.frames roots.slots (wedge kernel.image script frames) guest.running host' ≡ record { cpu = cpu; ram = take (4096 * frames) between; set = empty; board = board; step = 0 })
         (two : guest.running.held ≡ 2) (fills : guest.running.fills ≡ 0)
-        (ready : IsReady roots.slots roots.noted roots.marked roots.value roots.asides (ground kernel.image frames) guest.running.cpu guest.running.shadows host')
-        (filled : IsFilled (pages_kept roots.slots roots.asides guest.running.shadows host') guest.running.fills)
+        (ready : IsReady roots.slots roots.read_from roots.stale roots.value roots.other_roots (ground kernel.image frames) guest.running.cpu guest.running.shadows host')
+        (filled : IsFilled (pages_kept roots.slots roots.other_roots guest.running.shadows host') guest.running.fills)
         (keeps : Keeps p p' between host' [] (roots.frames guest.running.shadows host')) (low : 4096 * frames ≤ length host)
       where
         able_still : IsAble guest.running.cpu

@@ -49,16 +49,16 @@ at_frames : (k : Kernel) (number steps : ℕ) (host host' : List ℕ) (t t' : Te
     → TurnAs (wedge k.image k.script.list t.guest.running.frames) (tag_of number) (t.guest.running.step + steps)
     (state_of roots.stands roots.frames roots.slots (wedge k.image k.script.list t.guest.running.frames) t.guest.running host)
     (state_of roots.stands roots.frames roots.slots (wedge k.image k.script.list t.guest.running.frames) t'.guest.running host')
-    now now' new between (pages_kept roots.slots roots.asides t.guest.running.shadows host) t.guest.running.fills t'.guest.running.fills (Ok pause)
+    now now' new between (pages_kept roots.slots roots.other_roots t.guest.running.shadows host) t.guest.running.fills t'.guest.running.fills (Ok pause)
     → TurnAs (alone k frames) (tag_of n) (t.guest.running.step + steps)
     (state_of roots.stands roots.frames roots.slots (alone k frames) t.guest.running host)
     (state_of roots.stands roots.frames roots.slots (alone k frames) t'.guest.running host')
-    now now' new between (pages_kept roots.slots roots.asides t.guest.running.shadows host) t.guest.running.fills t'.guest.running.fills (Ok pause)
+    now now' new between (pages_kept roots.slots roots.other_roots t.guest.running.shadows host) t.guest.running.fills t'.guest.running.fills (Ok pause)
 at_frames k number steps host host' t t' now now' new between pause frames n is same turn =
     subst (λ (x : ℕ). TurnAs (alone k frames) (tag_of x) (t.guest.running.step + steps) (state_of roots.stands roots.frames roots.slots (alone k frames) t.guest.running host)
-    (state_of roots.stands roots.frames roots.slots (alone k frames) t'.guest.running host') now now' new between (pages_kept roots.slots roots.asides t.guest.running.shadows host) t.guest.running.fills t'.guest.running.fills (Ok pause)) same
+    (state_of roots.stands roots.frames roots.slots (alone k frames) t'.guest.running host') now now' new between (pages_kept roots.slots roots.other_roots t.guest.running.shadows host) t.guest.running.fills t'.guest.running.fills (Ok pause)) same
     (subst (λ (f : ℕ). TurnAs (alone k f) (tag_of number) (t.guest.running.step + steps) (state_of roots.stands roots.frames roots.slots (alone k f) t.guest.running host)
-    (state_of roots.stands roots.frames roots.slots (alone k f) t'.guest.running host') now now' new between (pages_kept roots.slots roots.asides t.guest.running.shadows host) t.guest.running.fills t'.guest.running.fills (Ok pause)) is turn)
+    (state_of roots.stands roots.frames roots.slots (alone k f) t'.guest.running host') now now' new between (pages_kept roots.slots roots.other_roots t.guest.running.shadows host) t.guest.running.fills t'.guest.running.fills (Ok pause)) is turn)
 
 same_counts : (c : Counts) (retired passed : ℕ) → c.retired ≡ retired → c.passed ≡ passed → c ≡ record { retired = retired; passed = passed }
 same_counts c retired passed a b = ap (λ (x : ℕ). counts_with x c.passed) a ∙ ap (λ (x : ℕ). counts_with retired x) b
@@ -160,7 +160,7 @@ module _ (kernels : List Kernel) (frames : ℕ) (whole done : List Slice) (ts : 
 
       module _ (t' : Tenant) (pool' : Pool) (host' : List ℕ) (now' : Counts) (new' : Option (List ℕ)) (h : HasTurned k slice.kernel slice.steps host host' t t' now now' new new') (went : HasGoneOn k pool pool' host host' t t') where
         turn : TurnAs (alone k frames) (tag_of present) (t.guest.running.step + slice.steps) (state_of roots.stands roots.frames roots.slots (alone k frames) t.guest.running host)
-            (state_of roots.stands roots.frames roots.slots (alone k frames) t'.guest.running host') now now' new h.between (pages_kept roots.slots roots.asides t.guest.running.shadows host) t.guest.running.fills t'.guest.running.fills (Ok h.pause)
+            (state_of roots.stands roots.frames roots.slots (alone k frames) t'.guest.running host') now now' new h.between (pages_kept roots.slots roots.other_roots t.guest.running.shadows host) t.guest.running.fills t'.guest.running.fills (Ok h.pause)
         turn = at_frames k slice.kernel slice.steps host host' t t' now now' new h.between h.pause frames present frames_are (sym here) h.turn
 
         made : Turned present slice.steps frames whole done slice b.pieces k host host' t t' now now' new h.between new' (sym here) refl within grows may_go.filled h.few stands_live turn.reports

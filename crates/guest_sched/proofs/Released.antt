@@ -9,7 +9,7 @@ use Rattle.frame_pool.specs.Held.{Owns, SameIn}
 use Rattle.frame_pool.proofs.Above.{frame-above, Owns-above, free_list-above}
 use Rattle.machine_model.specs.Run.{Set}
 use Rattle.machine_model.specs.State.{Setting}
-use Rattle.shadow_tables.specs.Aside.{Aside, AreSame}
+use Rattle.shadow_tables.specs.OtherRoot.{OtherRoot, AreSame}
 use Rattle.shadow_tables.specs.Entries.{entries_of}
 use Rattle.shadow_tables.specs.Slots.{SameSlots}
 use Rattle.shadow_tables.specs.Laws.{same-entries}
@@ -31,7 +31,7 @@ use Rattle.guest_sched.specs.Apart.{Seat, held_by, HoldsFrames, MayGoOn, IsSeate
 use Rattle.guest_sched.proofs.Apart.{laid_length, laid_front, laid_behind, one_moves, seated_right, all_append, others_same}
 use Rattle.guest_sched.proofs.Stays.{state_with}
 
-none_same : (olds news : List Aside) → AreSame olds news → olds ≡ [] → news ≡ []
+none_same : (olds news : List OtherRoot) → AreSame olds news → olds ≡ [] → news ≡ []
 none_same olds [] same none = refl
 none_same [] (n ∷ news) same none = absurd same
 none_same (o ∷ olds) (n ∷ news) same none = absurd (cc)
@@ -82,11 +82,11 @@ module _ (frames : ℕ) (p p' : Pool) (host host' : List ℕ) (s : Seat) (new : 
     slots_same : SameSlots (roots.slots new host') (roots.slots new then_memory)
     slots_same = laws.same-slots new.present new.others host' then_memory d.stands still
 
-    asides_same : AreSame (roots.asides new host') (roots.asides new then_memory)
-    asides_same = laws.same-asides new.present new.others host' then_memory d.stands still
+    asides_same : AreSame (roots.other_roots new host') (roots.other_roots new then_memory)
+    asides_same = laws.same-other_roots new.present new.others host' then_memory d.stands still
 
-    no_asides : roots.asides new then_memory ≡ []
-    no_asides = none_same (roots.asides new host') (roots.asides new then_memory) asides_same d.asides
+    no_asides : roots.other_roots new then_memory ≡ []
+    no_asides = none_same (roots.other_roots new host') (roots.other_roots new then_memory) asides_same d.other_roots
 
     no_slots : (page : ℕ) → page < 2 ^ 20 → roots.slots new then_memory page ≡ None
     no_slots page lt = slots_same page lt ∙ d.none page lt
@@ -137,7 +137,7 @@ module _ (frames : ℕ) (p p' : Pool) (host host' : List ℕ) (s : Seat) (new : 
         let there = ap length held_there in
         let same = ap length frames_same in
         let free = ap length (free_list-above p' host' then_memory (4096 * frames) low goes' size' d.owns.stands) in
-        let pages = kept_same roots.slots roots.asides new host' then_memory set_same asides_same in
+        let pages = kept_same roots.slots roots.other_roots new host' then_memory set_same asides_same in
         let filled = d.filled in
         record {
           held = record {
@@ -158,7 +158,7 @@ module _ (frames : ℕ) (p p' : Pool) (host host' : List ℕ) (s : Seat) (new : 
           ready = record {
             value_is = d.value ∙ g.ready.value_is;
             present = λ unmarked page lt out slot is. absurd (none_some slot (sym (no_slots page lt) ∙ is));
-            others = subst (λ (l : List Aside). AreReady m s.running.cpu (shown m then_memory) l) (sym no_asides) tt;
+            others = subst (λ (l : List OtherRoot). AreReady m s.running.cpu (shown m then_memory) l) (sym no_asides) tt;
           };
           able = g.able;
           filled = omega (arith, pages, filled);

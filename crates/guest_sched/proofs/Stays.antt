@@ -8,7 +8,7 @@ use Rattle.descriptors.specs.Controls.{wp_of}
 use Rattle.machine_model.specs.Run.{Set}
 use Rattle.machine_model.specs.State.{Setting, State}
 use Rattle.step_mem.specs.Changes.{AreWithin}
-use Rattle.shadow_tables.specs.Aside.{AreSame}
+use Rattle.shadow_tables.specs.OtherRoot.{AreSame}
 use Rattle.shadow_tables.specs.Entries.{entries_of}
 use Rattle.shadow_tables.specs.Slots.{Slot, SameSlots}
 use Rattle.shadow_tables.specs.Laws.{same-entries}
@@ -39,8 +39,8 @@ module _ (frames : ℕ) (p p' : Pool) (s : Seat) (then_ : List ℕ) (size : leng
       slots_same : SameSlots (roots.slots s.running.shadows s.memory) (roots.slots s.running.shadows then_)
       slots_same = laws.same-slots s.running.shadows.present s.running.shadows.others s.memory then_ h.stand same
 
-      asides_same : AreSame (roots.asides s.running.shadows s.memory) (roots.asides s.running.shadows then_)
-      asides_same = laws.same-asides s.running.shadows.present s.running.shadows.others s.memory then_ h.stand same
+      asides_same : AreSame (roots.other_roots s.running.shadows s.memory) (roots.other_roots s.running.shadows then_)
+      asides_same = laws.same-other_roots s.running.shadows.present s.running.shadows.others s.memory then_ h.stand same
 
       set_same : entries_of (roots.slots s.running.shadows then_) ≡ entries_of (roots.slots s.running.shadows s.memory)
       set_same = same-entries (roots.slots s.running.shadows s.memory) (roots.slots s.running.shadows then_) slots_same
@@ -92,7 +92,7 @@ module _ (frames : ℕ) (p p' : Pool) (s : Seat) (then_ : List ℕ) (size : leng
               open_to = λ page lt. subst (λ (slot : Option Slot). ForSome slot (IsOpenSlot s.image (wp_of s.running.cpu))) (sym (slots_same page lt)) (g.held.open_to page lt);
             }
 
-        still_ready : IsReady roots.slots roots.noted roots.marked roots.value roots.asides (ground s.image frames) s.running.cpu s.running.shadows then_
+        still_ready : IsReady roots.slots roots.read_from roots.stale roots.value roots.other_roots (ground s.image frames) s.running.cpu s.running.shadows then_
         still_ready =
             let m = ground s.image frames in
             let cpu = s.running.cpu in
@@ -100,15 +100,15 @@ module _ (frames : ℕ) (p p' : Pool) (s : Seat) (then_ : List ℕ) (size : leng
             record {
               value_is = g.ready.value_is;
               present = λ unmarked page lt in_.
-                  subst (λ (l : List ℕ). ForSome (roots.slots s.running.shadows then_ page) (IsFoundIn m cpu l cpu.cr3 (roots.noted s.running.shadows) page)) (sym ram)
-                  (subst (λ (slot : Option Slot). ForSome slot (IsFoundIn m cpu (shown m s.memory) cpu.cr3 (roots.noted s.running.shadows) page)) (sym (slots_same page lt)) (g.ready.present unmarked page lt in_));
-              others = subst (λ (l : List ℕ). AreReady m cpu l (roots.asides s.running.shadows then_)) (sym ram)
-                  (all_ready_shed m cpu (shown m s.memory) (roots.asides s.running.shadows s.memory) (roots.asides s.running.shadows then_) (same_shed _ _ asides_same) g.ready.others);
+                  subst (λ (l : List ℕ). ForSome (roots.slots s.running.shadows then_ page) (IsFoundIn m cpu l cpu.cr3 (roots.read_from s.running.shadows) page)) (sym ram)
+                  (subst (λ (slot : Option Slot). ForSome slot (IsFoundIn m cpu (shown m s.memory) cpu.cr3 (roots.read_from s.running.shadows) page)) (sym (slots_same page lt)) (g.ready.present unmarked page lt in_));
+              others = subst (λ (l : List ℕ). AreReady m cpu l (roots.other_roots s.running.shadows then_)) (sym ram)
+                  (all_ready_shed m cpu (shown m s.memory) (roots.other_roots s.running.shadows s.memory) (roots.other_roots s.running.shadows then_) (same_shed _ _ asides_same) g.ready.others);
             }
 
         goes_still : MayGoOn frames p' (record s { memory = then_ })
         goes_still =
-            let pages = kept_same roots.slots roots.asides s.running.shadows s.memory then_ set_same asides_same in
+            let pages = kept_same roots.slots roots.other_roots s.running.shadows s.memory then_ set_same asides_same in
             let filled = g.filled in
             record { held = still_held; ready = still_ready; able = g.able; filled = omega (arith, pages, filled) }
 

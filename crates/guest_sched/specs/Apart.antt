@@ -37,9 +37,9 @@ pub record HoldsFrames (frames : ℕ) (pool : Pool) (s : Seat) : Type 0 where
 -- A slice of it may begin, once its memory is in the host's.
 pub record MayGoOn (frames : ℕ) (pool : Pool) (s : Seat) : Type 0 where
   pub held : IsHeld roots.stands roots.frames roots.slots (ground s.image frames) s.running pool s.memory
-  pub ready : IsReady roots.slots roots.noted roots.marked roots.value roots.asides (ground s.image frames) s.running.cpu s.running.shadows s.memory
+  pub ready : IsReady roots.slots roots.read_from roots.stale roots.value roots.other_roots (ground s.image frames) s.running.cpu s.running.shadows s.memory
   pub able : IsAble s.running.cpu
-  pub filled : IsFilled (pages_kept roots.slots roots.asides s.running.shadows s.memory) s.running.fills
+  pub filled : IsFilled (pages_kept roots.slots roots.other_roots s.running.shadows s.memory) s.running.fills
 
 pub record IsSeated (frames : ℕ) (pool : Pool) (s : Seat) : Type 0 where
   pub holds : HoldsFrames frames pool s

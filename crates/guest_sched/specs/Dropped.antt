@@ -16,9 +16,9 @@ pub record AllDropped (p p' : Pool) (host host' : List ℕ) (old new : Roots) (f
   pub two : length (roots.frames new host') ≡ 2
   pub none : (page : ℕ) → page < 2 ^ 20 → roots.slots new host' page ≡ None
   pub entries : entries_of (roots.slots new host') ≡ empty
-  pub asides : roots.asides new host' ≡ []
+  pub other_roots : roots.other_roots new host' ≡ []
   pub value : roots.value new ≡ roots.value old
-  pub filled : IsFilled (pages_kept roots.slots roots.asides new host') fills
+  pub filled : IsFilled (pages_kept roots.slots roots.other_roots new host') fills
   pub moves : Moves p p' host host' (roots.frames old host) (roots.frames new host')
 
 -- the kernel whose shadows these were

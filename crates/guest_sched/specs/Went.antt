@@ -30,7 +30,7 @@ pub record HasTurned (kernel : Kernel) (number steps : â„•) (host host' : List â
       (state_of roots.stands roots.frames roots.slots (wedge kernel.image kernel.script.list old.guest.running.frames) new.guest.running host')
       (record out { tells = between })
       (record {
-        pages = pages_kept roots.slots roots.asides old.guest.running.shadows host;
+        pages = pages_kept roots.slots roots.other_roots old.guest.running.shadows host;
         fills = old.guest.running.fills;
         filled = new.guest.running.fills;
       }) (Ok pause)

@@ -34,8 +34,8 @@ guest_any frame (t ∷ ts) h = by (nat_le 16384 t) (guest_any frame ts) h
         or_last false b e = e
     by false k h = both (frame == t) k h
 
-noted_by : (noted : ℕ → Bool) (t : Taken) (frame : ℕ) → read_by noted t.report.tables frame ≡ true → IsNotedBy noted t frame
-noted_by noted t frame e = elim (or_cases (noted frame) (is_among frame (guest_frames t.report.tables)) e) [ inl a ↦ inl a | inr b ↦ inr (guest_any frame t.report.tables b) ]
+noted_by : (read_from : ℕ → Bool) (t : Taken) (frame : ℕ) → read_by read_from t.report.tables frame ≡ true → IsNotedBy read_from t frame
+noted_by read_from t frame e = elim (or_cases (read_from frame) (is_among frame (guest_frames t.report.tables)) e) [ inl a ↦ inl a | inr b ↦ inr (guest_any frame t.report.tables b) ]
 
 one_of : (test : ℕ → Bool) (wrote : List ℕ) → list_any test wrote ≡ true → (frame : ℕ) × Contains wrote frame × (test frame ≡ true)
 one_of test [] e = absurd (let f : false ≡ true = e in cc)
@@ -46,12 +46,12 @@ one_of test (f ∷ fs) e = by (or_cases (test f) (list_any test fs) e) (one_of t
     by (inr b) k = let h = k b in (h.0, Contains-append_right (f ∷ []) fs h.0 h.1, h.2)
 
 pub settling_tells : SettlingTells
-settling_tells t noted noted2 marked marked2 asides asides2 notes marks others = record {
+settling_tells t read_from noted2 stale marked2 other_roots asides2 notes marks others = record {
   frames = guest_frames t.report.tables;
-  notes = λ frame e. noted_by noted t frame (notes frame e);
-  marks = λ e. elim (or_cases marked (list_any (read_by noted t.report.tables) t.report.wrote) (sym marks ∙ e)) [
+  notes = λ frame e. noted_by read_from t frame (notes frame e);
+  marks = λ e. elim (or_cases stale (list_any (read_by read_from t.report.tables) t.report.wrote) (sym marks ∙ e)) [
     | inl a ↦ inl a
-    | inr b ↦ let h = one_of (read_by noted t.report.tables) t.report.wrote b in inr (h.0, h.1, noted_by noted t h.0 h.2)
+    | inr b ↦ let h = one_of (read_by read_from t.report.tables) t.report.wrote b in inr (h.0, h.1, noted_by read_from t h.0 h.2)
   ];
   others = others;
 }

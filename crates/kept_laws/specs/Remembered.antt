@@ -5,7 +5,7 @@ use Rattle.std.specs.Set.{is_member, distinct_count}
 use Rattle.std.specs.Option.{ForSome}
 use Rattle.std.specs.FinMap.{get}
 use Rattle.guest_ram.specs.Among.{is_among}
-use Rattle.shadow_tables.specs.Aside.{Aside}
+use Rattle.shadow_tables.specs.OtherRoot.{OtherRoot}
 use Rattle.shadow_tables.specs.Entries.{entries_of}
 use Rattle.machine_model.specs.State.{Setting, State}
 use Rattle.machine_model.specs.Run.{Set}
@@ -35,19 +35,19 @@ pub record IsOwed (m : Setting) (steps : List Taken) (now : State) (c : ℕ) (ol
   pub unwritten : Unwritten steps
 
 -- nothing is kept for the value
-abbrev pub IsAbsent : ℕ → List Aside → Type 0
+abbrev pub IsAbsent : ℕ → List OtherRoot → Type 0
 IsAbsent value [] = Unit {0}
-IsAbsent value (a ∷ asides) = (a.cr3 ≡ value → ⊥) × IsAbsent value asides
+IsAbsent value (a ∷ other_roots) = (a.cr3 ≡ value → ⊥) × IsAbsent value other_roots
 
 -- no two are of one value
-abbrev pub AreOfOne : List Aside → Type 0
+abbrev pub AreOfOne : List OtherRoot → Type 0
 AreOfOne [] = Unit {0}
-AreOfOne (a ∷ asides) = IsAbsent a.cr3 asides × AreOfOne asides
+AreOfOne (a ∷ other_roots) = IsAbsent a.cr3 other_roots × AreOfOne other_roots
 
 -- the tables of each were read by walks of these steps
-abbrev pub AllRead : List Taken → List Aside → Type 0
+abbrev pub AllRead : List Taken → List OtherRoot → Type 0
 AllRead steps [] = Unit {0}
-AllRead steps (a ∷ asides) = ((frame : ℕ) → a.tables frame ≡ true → was_read steps frame ≡ true) × AllRead steps asides
+AllRead steps (a ∷ other_roots) = ((frame : ℕ) → a.tables frame ≡ true → was_read steps frame ≡ true) × AllRead steps other_roots
 
 -- this set has every entry of the set before a step, but perhaps those of pages that the step itself used, and no other
 pub record ComesFrom (left : Taken) (set : Set) : Type 0 where
@@ -55,19 +55,19 @@ pub record ComesFrom (left : Taken) (set : Set) : Type 0 where
   pub only : (page : ℕ) → ForSome (get set page) (λ e. get left.set page ≡ Some e)
 
 -- What is kept for c comes from the set before `left`. Before it stand only values that were loaded since.
-abbrev pub IsThere : ℕ → Taken → List ℕ → List Aside → Type 0
+abbrev pub IsThere : ℕ → Taken → List ℕ → List OtherRoot → Type 0
 IsThere c left loaded [] = ⊥
-IsThere c left loaded (a ∷ asides) =
-    ((a.cr3 ≡ c) × ComesFrom left (entries_of a.slots)) ⊎ ((a.cr3 ≡ c → ⊥) × (is_member eqb loaded a.cr3 ≡ true) × IsThere c left loaded asides)
+IsThere c left loaded (a ∷ other_roots) =
+    ((a.cr3 ≡ c) × ComesFrom left (entries_of a.slots)) ⊎ ((a.cr3 ≡ c → ⊥) × (is_member eqb loaded a.cr3 ≡ true) × IsThere c left loaded other_roots)
 
 -- Between two steps of a run, of which these were done: what is kept for each value of CR3 that isn't present, the last
 -- used first. What is owed is there. The frames that are noted as tables, of the present value and of each other, were
 -- read as tables by walks of the run, and the present tables are marked only where a step wrote in such a frame.
-pub record IsRemembered (m : Setting) (steps : List Taken) (now : State) (noted : ℕ → Bool) (marked : Bool) (asides : List Aside) : Type 0 where
-  pub other : IsAbsent now.cpu.cr3 asides
-  pub of_one : AreOfOne asides
-  pub noted_read : (frame : ℕ) → noted frame ≡ true → was_read steps frame ≡ true
-  pub all_read : AllRead steps asides
-  pub unmarked : Unwritten steps → marked ≡ false
+pub record IsRemembered (m : Setting) (steps : List Taken) (now : State) (read_from : ℕ → Bool) (stale : Bool) (other_roots : List OtherRoot) : Type 0 where
+  pub other : IsAbsent now.cpu.cr3 other_roots
+  pub of_one : AreOfOne other_roots
+  pub noted_read : (frame : ℕ) → read_from frame ≡ true → was_read steps frame ≡ true
+  pub all_read : AllRead steps other_roots
+  pub unmarked : Unwritten steps → stale ≡ false
   pub each : (c : ℕ) (old : List Taken) (left : Taken) (since : List Taken) → (c ≡ now.cpu.cr3 → ⊥) → IsOwed m steps now c old left since
-      → IsThere c left (roots_in (left ∷ since)) asides × (is_member eqb (roots_in (left ∷ since)) now.cpu.cr3 ≡ true)
+      → IsThere c left (roots_in (left ∷ since)) other_roots × (is_member eqb (roots_in (left ∷ since)) now.cpu.cr3 ≡ true)

@@ -100,7 +100,7 @@ unmarked-apart-by false p ps a = a
 
 pub unmarked-apart : (ps : List Past) → AreApart ps → AreApart (unmarked ps)
 unmarked-apart [] a = tt
-unmarked-apart (p ∷ ps) a = unmarked-apart-by p.marked p ps a
+unmarked-apart (p ∷ ps) a = unmarked-apart-by p.stale p ps a
 
 front-apart : (v : ℕ) (ps : List Past) (o : Option Past) → of_value v ps ≡ o → AreApart ps → AreApart (with_front v ps o)
 front-apart v ps None e a = (take-none 7 ps v (of-none v ps e), take-apart 7 ps a)
@@ -142,4 +142,4 @@ unmarked-few-by false p ps = omega arith
 
 pub unmarked-few : (ps : List Past) → length (unmarked ps) ≤ length ps
 unmarked-few [] = omega arith
-unmarked-few (p ∷ ps) = unmarked-few-by p.marked p ps
+unmarked-few (p ∷ ps) = unmarked-few-by p.stale p ps

@@ -1,6 +1,6 @@
 -- What is kept for values of CR3 that aren't present, after each call.
 use Rattle.std.proofs.Common.{◌≡◌, ℕ, List, [], ◌∷◌, filter, Bool, true, false, not, cond, refl, sym, ap, subst}
-use Rattle.shadow_tables.specs.Aside.{Aside, AreSame, LoseWrites, spared}
+use Rattle.shadow_tables.specs.OtherRoot.{OtherRoot, AreSame, LoseWrites, spared}
 use Rattle.shadow_cache.specs.Pairs.{reads}
 use Rattle.shadow_cache.specs.Others.{AreKept, AllLoseWrites}
 use Rattle.shadow_cache.specs.After.{beside, emptied, noted_in, written_in}
@@ -11,15 +11,15 @@ use Rattle.shadow_cache.specs.declared.pair.Pair.{Pair}
 pub others-kept : (p : Pair) (ps qs : List Pair) (m m' : List ℕ) → qs ≡ p ∷ ps → AreKept ps m m' → AreSame (asides_of ps m) (asides_of (beside qs) m')
 others-kept p ps qs m m' e k = subst (λ (xs : List Pair). AreSame (asides_of ps m) (asides_of (beside xs) m')) (sym e) (same-kept ps m m' k)
 
-asides-lose : (ps : List Pair) (m m' : List ℕ) (frame : ℕ) → AllLoseWrites ps m m' frame → LoseWrites (frame ∷ []) (asides_of ps m) (asides_of ps m')
-asides-lose [] m m' frame k = tt
-asides-lose (p ∷ ps) m m' frame k = (record { cr3 = refl; tables = λ f. refl; slots = k.0 }, asides-lose ps m m' frame k.1)
+other_roots-lose : (ps : List Pair) (m m' : List ℕ) (frame : ℕ) → AllLoseWrites ps m m' frame → LoseWrites (frame ∷ []) (asides_of ps m) (asides_of ps m')
+other_roots-lose [] m m' frame k = tt
+other_roots-lose (p ∷ ps) m m' frame k = (record { cr3 = refl; tables = λ f. refl; slots = k.0 }, other_roots-lose ps m m' frame k.1)
 
 pub others-lose : (p : Pair) (ps qs : List Pair) (m m' : List ℕ) (frame : ℕ) → qs ≡ noted_in (p ∷ ps) frame → AllLoseWrites (p ∷ ps) m m' frame → LoseWrites (frame ∷ []) (asides_of ps m) (asides_of (beside qs) m')
-others-lose p ps qs m m' frame e k = subst (λ (xs : List Pair). LoseWrites (frame ∷ []) (asides_of ps m) (asides_of (beside xs) m')) (sym e) (asides-lose ps m m' frame k.1)
+others-lose p ps qs m m' frame e k = subst (λ (xs : List Pair). LoseWrites (frame ∷ []) (asides_of ps m) (asides_of (beside xs) m')) (sym e) (other_roots-lose ps m m' frame k.1)
 
-one-aside : (b : Bool) (p : Pair) (qs : List Pair) (m : List ℕ) (xs : List Aside) → asides_of qs m ≡ xs → asides_of (cond b (p ∷ qs) qs) m ≡ cond b (aside_of p m ∷ xs) xs
-one-aside true p qs m xs e = ap (λ (ys : List Aside). aside_of p m ∷ ys) e
+one-aside : (b : Bool) (p : Pair) (qs : List Pair) (m : List ℕ) (xs : List OtherRoot) → asides_of qs m ≡ xs → asides_of (cond b (p ∷ qs) qs) m ≡ cond b (aside_of p m ∷ xs) xs
+one-aside true p qs m xs e = ap (λ (ys : List OtherRoot). aside_of p m ∷ ys) e
 one-aside false p qs m xs e = e
 
 spared-are : (frame : ℕ) (ps : List Pair) (m : List ℕ) → asides_of (filter (λ q. not (reads q frame)) ps) m ≡ spared frame (asides_of ps m)
@@ -28,7 +28,7 @@ spared-are frame (p ∷ ps) m = one-aside (not (reads p frame)) p (filter (λ q.
 
 written-kept : (p : Pair) (ps : List Pair) (m m' : List ℕ) (frame : ℕ) → AreKept (written_in (p ∷ ps) frame) m m' → AreSame (spared frame (asides_of ps m)) (asides_of (filter (λ q. not (reads q frame)) ps) m')
 written-kept p ps m m' frame k =
-    subst (λ (xs : List Aside). AreSame xs (asides_of (filter (λ q. not (reads q frame)) ps) m')) (spared-are frame ps m) (same-kept (filter (λ q. not (reads q frame)) ps) m m' k.3)
+    subst (λ (xs : List OtherRoot). AreSame xs (asides_of (filter (λ q. not (reads q frame)) ps) m')) (spared-are frame ps m) (same-kept (filter (λ q. not (reads q frame)) ps) m m' k.3)
 
 pub others-spared : (p : Pair) (ps qs : List Pair) (m m' : List ℕ) (frame : ℕ) → qs ≡ written_in (p ∷ ps) frame → AreKept qs m m' → AreSame (spared frame (asides_of ps m)) (asides_of (beside qs) m')
 others-spared p ps qs m m' frame e k =

@@ -12,7 +12,7 @@ use Rattle.shadow_cache.proofs.Since.{pairs-more, pairs-join, calls-cons, calls-
 use Rattle.shadow_cache.proofs.Tabled.{all-but-other}
 use Rattle.shadow_cache.proofs.Apart.{of-none, of-is, filter-none, filter-apart, but-apart, but-gone}
 use Rattle.std.proofs.lemmas.Bool.{false≢true, or_from, or_parts}
-use Rattle.shadow_cache.proofs.Whole.{marked-value}
+use Rattle.shadow_cache.proofs.Whole.{stale-value}
 
 -- ---- the pairs before it
 
@@ -210,11 +210,11 @@ unmarked-away P false q qs x y = y
 switch-away : (p : Past) (vs : List ℕ) (n v : ℕ) (ps : List Past) → length vs ≤ 7 → is_among v vs ≡ true → p.value ≢ v → Away p vs ps → Away p vs (after_call n (Switch v) ps)
 switch-away p vs n v ps few among other w =
     subst (λ (xs : List Past). Away p vs (after_switch v (unmarked xs))) (sym w.place)
-    (unmarked-away (λ (xs : List Past). Away p vs (after_switch v xs)) w.first.marked w.first (w.more ++ p ∷ w.rest)
+    (unmarked-away (λ (xs : List Past). Away p vs (after_switch v xs)) w.first.stale w.first (w.more ++ p ∷ w.rest)
     (load-away p vs few v among other w.more w.rest w.apart.1 w.fronts.2)
     (load-away p vs few v among other (w.first ∷ w.more) w.rest w.apart w.fronts))
 
-leave-away : (p : Past) (vs : List ℕ) (n v : ℕ) (ps : List Past) → length vs ≤ 7 → is_among v vs ≡ true → p.value ≢ v → p.marked ≡ false → IsPresent p ps → Away p vs (after_call n (Switch v) ps)
+leave-away : (p : Past) (vs : List ℕ) (n v : ℕ) (ps : List Past) → length vs ≤ 7 → is_among v vs ≡ true → p.value ≢ v → p.stale ≡ false → IsPresent p ps → Away p vs (after_call n (Switch v) ps)
 leave-away p vs n v ps few among other u i =
     subst (λ (xs : List Past). Away p vs (after_switch v (unmarked xs))) (sym i.first)
     (subst (λ b. Away p vs (after_switch v (cond b i.others (p ∷ i.others)))) (sym u)
@@ -236,7 +236,7 @@ written-away : (p : Past) (vs : List ℕ) (n frame : ℕ) (ps : List Past) → i
 written-away p vs n frame ps l w =
     let t : Past → Bool = λ q. not (is_among frame q.tables) in
     let q : Past = marked_at frame w.first in
-    let e : q.value ≡ w.first.value = marked-value (is_among frame w.first.tables) frame w.first in
+    let e : q.value ≡ w.first.value = stale-value (is_among frame w.first.tables) frame w.first in
     subst (λ (xs : List Past). Away p vs (after_shared n (Written frame) xs)) (sym w.place) (record {
       first = q;
       more = filter t w.more;
@@ -274,7 +274,7 @@ back p vs fs rest f =
 away-back : (p : Past) (vs : List ℕ) (n : ℕ) (ps : List Past) → Away p vs ps → IsPresent p (after_call n (Switch p.value) ps)
 away-back p vs n ps w =
     subst (λ (xs : List Past). IsPresent p (after_switch p.value (unmarked xs))) (sym w.place)
-    (unmarked-away (λ (xs : List Past). IsPresent p (after_switch p.value xs)) w.first.marked w.first (w.more ++ p ∷ w.rest)
+    (unmarked-away (λ (xs : List Past). IsPresent p (after_switch p.value xs)) w.first.stale w.first (w.more ++ p ∷ w.rest)
     (back p vs w.more w.rest w.fronts.2)
     (back p vs (w.first ∷ w.more) w.rest w.fronts))
 

@@ -111,7 +111,7 @@ pub barred-filter : (test : ℕ → Bool) (t : Pair → Bool) (ps : List Pair) (
 barred-filter test t [] m h = tt
 barred-filter test t (p ∷ ps) m h = one-barred test (t p) p (filter t ps) m h.0 (barred-filter test t ps m h.1)
 
-one-unmarked : (b : Bool) (p : Pair) (qs : List Pair) → p.marked ≡ false → AreUnmarked qs → AreUnmarked (cond b (p ∷ qs) qs)
+one-unmarked : (b : Bool) (p : Pair) (qs : List Pair) → p.stale ≡ false → AreUnmarked qs → AreUnmarked (cond b (p ∷ qs) qs)
 one-unmarked true p qs h k = (h, k)
 one-unmarked false p qs h k = k
 

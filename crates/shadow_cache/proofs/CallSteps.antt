@@ -23,7 +23,7 @@ use Rattle.shadow_cache.proofs.LastFills.{last-more}
 use Rattle.shadow_cache.proofs.Since.{pairs-more, pairs-none}
 use Rattle.shadow_cache.proofs.Tabled.{fewer-switch, fewer-written, fewer-as, as-fill, as-page, as-dir, one-note}
 use Rattle.shadow_cache.proofs.SlotSteps.{slot-filled, slot-dropped, slot-lost}
-use Rattle.shadow_cache.proofs.PairSteps.{all-kept, all-lost, any-table, noted-tables, agrees-marked, all-stay, all-first, all-unmarked, value-none, value-found, agrees-fresh, opened-more, few-more}
+use Rattle.shadow_cache.proofs.PairSteps.{all-kept, all-lost, any-table, read_from-tables, agrees-stale, all-stay, all-first, all-unmarked, value-none, value-found, agrees-fresh, has_tables_under-more, few-more}
 
 after-more : (v : ℕ) (cs : List RootsCall) (c : Call) (qs : List Past) (ps : List Pair) (m : List ℕ) → pairs_after v cs ≡ qs → AllAgree v (cs ++ Shared c ∷ []) (after_shared (length cs) c qs) ps m → Agree v (cs ++ Shared c ∷ []) ps m
 after-more v cs c qs ps m e a =
@@ -50,7 +50,7 @@ module _ (v : ℕ) (cs : List RootsCall) (side : Side) (entry : Entry) (wp : Boo
           mark = a.0.mark;
           slots = λ page l. subst (λ x. IsSlot v (cs ++ fill ∷ []) x (slot_at p.shadow m' page)) (sym (last-more q.calls (length cs) (Fill side entry wp) page))
               (slot-filled v cs fill side entry wp (is_among entry.frame (tables_of (p ∷ ps))) (last_of q.calls page) (slot_at p.shadow m) (slot_at p.shadow m') page many barred t l (a.0.slots page l));
-          opened = opened-more v cs q p m m' a.0 side (entry.page / 1024) index o;
+          has_tables_under = has_tables_under-more v cs q p m m' a.0 side (entry.page / 1024) index o;
           few = few-more v cs q p m m' a.0 side (entry.page / 1024) index o;
         },
         all-kept v cs fill qs ps m m' (fewer-as v cs fill many) k a.1,
@@ -72,7 +72,7 @@ module _ (v : ℕ) (cs : List RootsCall) (p : Pair) (ps : List Pair) (m m' : Lis
           mark = a.0.mark;
           slots = λ x l. subst (λ y. IsSlot v (cs ++ Shared (DropPage page) ∷ []) y (slot_at p.shadow m' x)) (sym (last-more q.calls (length cs) (DropPage page) x))
               (slot-dropped v cs (Shared (DropPage page)) page (last_of q.calls x) (slot_at p.shadow m) (slot_at p.shadow m') x many t l (a.0.slots x l));
-          opened = λ place y. (let z = a.0.opened place y in (z.0, keeps place.side place.index z.0 z.1));
+          has_tables_under = λ place y. (let z = a.0.has_tables_under place y in (z.0, keeps place.side place.index z.0 z.1));
           few = subst (λ (fs : List ℕ). length fs ≤ 2 + length q.places) (sym same) a.0.few;
         },
         all-kept v cs (Shared (DropPage page)) qs ps m m' (fewer-as v cs (Shared (DropPage page)) many) k a.1,
@@ -91,7 +91,7 @@ module _ (v : ℕ) (cs : List RootsCall) (p : Pair) (ps : List Pair) (m m' : Lis
           mark = a.0.mark;
           slots = λ x l. subst (λ y. IsSlot v (cs ++ Shared (DropDir index) ∷ []) y (slot_at p.shadow m' x)) (sym (last-more q.calls (length cs) (DropDir index) x))
               (slot-lost v cs (Shared (DropDir index)) index (last_of q.calls x) (slot_at p.shadow m) (slot_at p.shadow m') x many t l (a.0.slots x l));
-          opened = λ place y. (let z = a.0.opened place y in (z.0, keeps place.side place.index z.0 z.1));
+          has_tables_under = λ place y. (let z = a.0.has_tables_under place y in (z.0, keeps place.side place.index z.0 z.1));
           few = subst (λ (fs : List ℕ). length fs ≤ 2 + length q.places) (sym same) a.0.few;
         },
         all-kept v cs (Shared (DropDir index)) qs ps m m' (fewer-as v cs (Shared (DropDir index)) many) k a.1,
@@ -106,7 +106,7 @@ module _ (v : ℕ) (cs : List RootsCall) (p : Pair) (ps ps' : List Pair) (m m' :
   few-frames : length (held p.shadow m') ≤ 2
   few-frames =
       let x = ap (λ (xs : List Pair). length (frames_of xs m')) e in
-      let y = ap (λ (fs : List ℕ). length fs) (frames-cons (record p { tables = no_tables; marked = false }) [] m') in
+      let y = ap (λ (fs : List ℕ). length fs) (frames-cons (record p { tables = no_tables; stale = false }) [] m') in
       let z = length-append (held p.shadow m') (frames_of [] m') in
       omega (arith, two, x, y, z)
 
@@ -118,7 +118,7 @@ module _ (v : ℕ) (cs : List RootsCall) (p : Pair) (ps ps' : List Pair) (m m' :
       tables = λ x. no-reads x;
       mark = refl;
       slots = λ page l. none page l;
-      opened = λ place t. absurd (let f : false ≡ true = t in cc);
+      has_tables_under = λ place t. absurd (let f : false ≡ true = t in cc);
       few = omega (arith, few-frames);
     },
     tt,
@@ -132,17 +132,17 @@ module _ (v : ℕ) (cs : List RootsCall) (p : Pair) (ps ps' : List Pair) (m m' :
 -- ---- a frame is noted
 
 module _ (v : ℕ) (cs : List RootsCall) (frame : ℕ) (p : Pair) (ps ps' : List Pair) (m m' : List ℕ) (e : ps' ≡ noted_in (p ∷ ps) frame) (size : length p.tables ≡ 16384) (low : frame < 16384) (l : AllLoseWrites (p ∷ ps) m m' frame) where
-  noted-by : (qs : List Past) → pairs_after v cs ≡ qs → AllAgree v cs qs (p ∷ ps) m → AllAgree v (cs ++ Shared (Note frame) ∷ []) (after_shared (length cs) (Note frame) qs) (noted_in (p ∷ ps) frame) m'
-  noted-by [] q a = absurd a
-  noted-by (q ∷ qs) f a =
+  read_from-by : (qs : List Past) → pairs_after v cs ≡ qs → AllAgree v cs qs (p ∷ ps) m → AllAgree v (cs ++ Shared (Note frame) ∷ []) (after_shared (length cs) (Note frame) qs) (noted_in (p ∷ ps) frame) m'
+  read_from-by [] q a = absurd a
+  read_from-by (q ∷ qs) f a =
       let one = one-note v cs frame q qs f in
       let x = all-lost v cs (Shared (Note frame)) frame (q ∷ qs) (p ∷ ps) m m' one l a in (
         record {
           value_of = x.0.value_of;
-          tables = λ y. noted-tables p.tables q.tables frame y (omega (arith, size, low)) a.0.tables;
+          tables = λ y. read_from-tables p.tables q.tables frame y (omega (arith, size, low)) a.0.tables;
           mark = x.0.mark;
           slots = x.0.slots;
-          opened = x.0.opened;
+          has_tables_under = x.0.has_tables_under;
           few = x.0.few;
         },
         x.1,
@@ -151,14 +151,14 @@ module _ (v : ℕ) (cs : List RootsCall) (frame : ℕ) (p : Pair) (ps ps' : List
   pub step-note : Agree v cs (p ∷ ps) m → Agree v (cs ++ Shared (Note frame) ∷ []) ps' m'
   step-note a =
       subst (λ (xs : List Pair). Agree v (cs ++ Shared (Note frame) ∷ []) xs m') (sym e)
-      (after-more v cs (Note frame) (pairs_after v cs) (noted_in (p ∷ ps) frame) m' refl (noted-by (pairs_after v cs) refl a))
+      (after-more v cs (Note frame) (pairs_after v cs) (noted_in (p ∷ ps) frame) m' refl (read_from-by (pairs_after v cs) refl a))
 
 -- ---- a frame was written
 
 module _ (v : ℕ) (cs : List RootsCall) (frame : ℕ) (p : Pair) (ps ps' : List Pair) (m m' : List ℕ) (e : ps' ≡ written_in (p ∷ ps) frame) (k : AreKept ps' m m') where
   written-by : (qs : List Past) → AllAgree v cs qs (p ∷ ps) m → AllAgree v cs (after_shared (length cs) (Written frame) qs) (written_in (p ∷ ps) frame) m
   written-by [] a = absurd a
-  written-by (q ∷ qs) a = (agrees-marked v cs frame q p m a.0, all-stay v cs frame qs ps m a.1)
+  written-by (q ∷ qs) a = (agrees-stale v cs frame q p m a.0, all-stay v cs frame qs ps m a.1)
 
   pub step-written : Agree v cs (p ∷ ps) m → Agree v (cs ++ Shared (Written frame) ∷ []) ps' m'
   step-written a =

@@ -41,7 +41,7 @@ roots-shadow p p' ps m h e size i =
 -- ---- all dropped
 
 abbrev pub emptied_pair : Pair → Pair
-emptied_pair p = record p { tables = no_tables; marked = false }
+emptied_pair p = record p { tables = no_tables; stale = false }
 
 bars-empty : (test : ℕ → Bool) (p : Pair) (m : List ℕ) → IsEmpty p.shadow m → BarsWrites test (slot_at p.shadow m)
 bars-empty test p m e = λ page slot l q t. absurd (none-some slot (sym (e.none page l) ∙ q))
@@ -94,15 +94,15 @@ module _ (pool pool1 pool2 : Pool) (p : Pair) (ps ps' : List Pair) (m m1 m2 : Li
         ∙ ap (λ (fs : List ℕ). length fs) (frames-cons (emptied_pair p) [] m2 ∙ ap (λ (fs : List ℕ). held p.shadow m2 ++ fs) (none-frames m2))
         ∙ ap (λ (fs : List ℕ). length (fs ++ [])) e.frames
 
-    pub dropped-tracked : ArePart (tables_of (p' ∷ ps')) (tables_of (p ∷ ps))
-    dropped-tracked =
+    pub dropped-write_protected : ArePart (tables_of (p' ∷ ps')) (tables_of (p ∷ ps))
+    dropped-write_protected =
         subst (λ (xs : List Pair). ArePart (tables_of xs) (tables_of (p ∷ ps))) (sym (lists p' ps' q none))
         (tables-part (p ∷ ps) (emptied_pair p ∷ []) (λ x f. absurd (both_ways (any_reads (emptied_pair p ∷ []) x) (unread p x) f)))
 
 -- ---- a frame that was written
 
 abbrev pub spoilt : Bool → Pair → ℕ → Pair
-spoilt b p frame = cond b (record p { tables = slice_set p.tables frame false; marked = true }) p
+spoilt b p frame = cond b (record p { tables = slice_set p.tables frame false; stale = true }) p
 
 spoilt-shadow : (b : Bool) (p : Pair) (frame : ℕ) → (spoilt b p frame).shadow ≡ p.shadow
 spoilt-shadow true p frame = refl

@@ -34,9 +34,9 @@ unmarked-remove [] (suc i) h = tt
 unmarked-remove (q ∷ qs) zero h = h.1
 unmarked-remove (q ∷ qs) (suc i) h = (h.0, unmarked-remove qs i h.1)
 
-pub unmarked-at : (ps : List Pair) (i : ℕ) (p : Pair) → slice_get ps i ≡ Some p → AreUnmarked ps → p.marked ≡ false
+pub unmarked-at : (ps : List Pair) (i : ℕ) (p : Pair) → slice_get ps i ≡ Some p → AreUnmarked ps → p.stale ≡ false
 unmarked-at [] i p e h = absurd cc
-unmarked-at (q ∷ qs) zero p e h = subst (λ (x : Pair). x.marked ≡ false) (same_Some q p e) h.0
+unmarked-at (q ∷ qs) zero p e h = subst (λ (x : Pair). x.stale ≡ false) (same_Some q p e) h.0
 unmarked-at (q ∷ qs) (suc i) p e h = unmarked-at qs i p e h.1
 
 -- all of them, so all but the first
@@ -160,7 +160,7 @@ comes-after ps ps' m m1 m2 cr3 k x = comes-by (place_of cr3 ps) ps ps' m m1 m2 c
 first-place : (p : Pair) (ps : List Pair) (cr3 : ℕ) → p.cr3 ≡ cr3 → place_of cr3 (p ∷ ps) ≡ Some 0
 first-place p ps cr3 e = elim (eqb_tells p.cr3 cr3) [ inl t ↦ ap (λ b. cond b (Some 0) (one_later (place_of cr3 ps))) t.0 | inr t ↦ absurd (t.1 e) ]
 
-pub stays-here : (p : Pair) (ps : List Pair) (m : List ℕ) (cr3 : ℕ) → AreShadows (p ∷ ps) m → p.cr3 ≡ cr3 → p.marked ≡ false → IsSwitched (p ∷ ps) (p ∷ ps) m m cr3
+pub stays-here : (p : Pair) (ps : List Pair) (m : List ℕ) (cr3 : ℕ) → AreShadows (p ∷ ps) m → p.cr3 ≡ cr3 → p.stale ≡ false → IsSwitched (p ∷ ps) (p ∷ ps) m m cr3
 stays-here p ps m cr3 h e u =
     let back : ComesBack (p ∷ ps) (p ∷ ps) m m 0 = record { pair = p; here = refl; front = refl; kept = kept-refl (p ∷ ps) m h } in
     let comes : Comes (p ∷ ps) (p ∷ ps) m m cr3 =

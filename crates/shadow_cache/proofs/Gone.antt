@@ -12,7 +12,7 @@ use Rattle.shadow_cache.specs.declared.call_lists.RootsCall.{RootsCall}
 use Rattle.shadow_cache.specs.declared.call_lists.RootsCall.TheVariants.{Shared, Switch}
 use Rattle.shadow_cache.proofs.Since.{pairs-more, pairs-join, calls-cons, calls-none}
 use Rattle.shadow_cache.proofs.Apart.{none-of, of-is, filter-none, take-none, but-none}
-use Rattle.shadow_cache.proofs.Whole.{marked-value, pairs-apart, call-apart}
+use Rattle.shadow_cache.proofs.Whole.{stale-value, pairs-apart, call-apart}
 
 -- ---- it is there as it was, or no pair of its value is
 
@@ -134,7 +134,7 @@ switch-beside : (p : Past) (n v : ℕ) (ps : List Past) → p.value ≢ v → Be
 switch-beside p n v ps o b =
     subst (λ (xs : List Past). Beside p (after_switch v (unmarked xs))) (sym b.place)
     (let xs : List Past = unmarked (b.first ∷ b.more) in
-    front-beside p v xs (of_value v xs) o refl (unmarked-was p b.first.marked b.first b.more b.was (cons-was p b.first b.more b.other b.was)))
+    front-beside p v xs (of_value v xs) o refl (unmarked-was p b.first.stale b.first b.more b.was (cons-was p b.first b.more b.other b.was)))
 
 -- another in the place of the present one, of its value
 beside-instead : (p : Past) (ps : List Past) (b : Beside p ps) (q : Past) → q.value ≡ b.first.value → Beside p (q ∷ b.more)
@@ -144,7 +144,7 @@ written-beside : (p : Past) (n frame : ℕ) (ps : List Past) → AreApart ps →
 written-beside p n frame ps a b =
     let t : Past → Bool = λ q. not (is_among frame q.tables) in
     let q : Past = marked_at frame b.first in
-    let e : q.value ≡ b.first.value = marked-value (is_among frame b.first.tables) frame b.first in
+    let e : q.value ≡ b.first.value = stale-value (is_among frame b.first.tables) frame b.first in
     subst (λ (xs : List Past). Beside p (after_shared n (Written frame) xs)) (sym b.place)
     (record { first = q; more = filter t b.more; place = refl; other = ap (λ x. eqb x p.value) e ∙ b.other; was = filter-was p t b.more (subst AreApart b.place a).1 b.was })
 
@@ -169,7 +169,7 @@ cond-gone false v q qs e = e
 
 unmarked-gone : (v : ℕ) (ps : List Past) → Gone v ps → Gone v (unmarked ps)
 unmarked-gone v [] e = e
-unmarked-gone v (p ∷ ps) e = cond-gone p.marked v p ps e
+unmarked-gone v (p ∷ ps) e = cond-gone p.stale v p ps e
 
 pub front-gone : (w v : ℕ) (ps : List Past) (o : Option Past) → w ≢ v → of_value v ps ≡ o → Gone w ps → Gone w (with_front v ps o)
 front-gone w v ps None n e g = or_from (eqb v w) (has_value w (take 7 ps)) (ne_eqb v w (λ s. n (sym s))) (take-none 7 ps w g)
@@ -189,7 +189,7 @@ shared-gone w n (Note frame) (p ∷ ps) g = g
 shared-gone w n (Written frame) (p ∷ ps) g =
     let t : Past → Bool = λ q. not (is_among frame q.tables) in
     or_from (eqb (marked_at frame p).value w) (has_value w (filter t ps))
-    (ap (λ x. eqb x w) (marked-value (is_among frame p.tables) frame p) ∙ (or_parts (eqb p.value w) (has_value w ps) g).0)
+    (ap (λ x. eqb x w) (stale-value (is_among frame p.tables) frame p) ∙ (or_parts (eqb p.value w) (has_value w ps) g).0)
     (filter-none t ps w (or_parts (eqb p.value w) (has_value w ps) g).1)
 
 calls-gone : (w n : ℕ) (cs : List RootsCall) (ps : List Past) → IsNotLoaded w cs → Gone w ps → Gone w (after_calls n cs ps)
@@ -204,7 +204,7 @@ written-gone p n frame ps i a b =
     let t : Past → Bool = λ q. not (is_among frame q.tables) in
     subst (λ (xs : List Past). Gone p.value (after_shared n (Written frame) xs)) (sym b.place)
     (or_from (eqb (marked_at frame b.first).value p.value) (has_value p.value (filter t b.more))
-    (ap (λ x. eqb x p.value) (marked-value (is_among frame b.first.tables) frame b.first) ∙ b.other)
+    (ap (λ x. eqb x p.value) (stale-value (is_among frame b.first.tables) frame b.first) ∙ b.other)
     (filter-gone p t b.more (ap not i) (subst AreApart b.place a).1 b.was))
 
 cause-gone : (p : Past) (n : ℕ) (c : RootsCall) (ps : List Past) → IsCause p c → AreApart ps → Beside p ps → Gone p.value (after_call n c ps)
@@ -253,8 +253,8 @@ module _ (value other : ℕ) (before away : List RootsCall) (p : Past) (others :
   left : Gone p.value (after_call n (Switch other) (p ∷ others)) → Gone p.value (after_calls n (Switch other ∷ away) (p ∷ others))
   left g = subst (Gone p.value) (sym (calls-cons n (Switch other) away (p ∷ others))) (calls-gone p.value (suc n) away (after_call n (Switch other) (p ∷ others)) l.1 g)
 
-  marked-goes : p.marked ≡ true → Gone p.value (after_calls n (Switch other ∷ away) (p ∷ others))
-  marked-goes m =
+  stale-goes : p.stale ≡ true → Gone p.value (after_calls n (Switch other ∷ away) (p ∷ others))
+  stale-goes m =
       left (subst (λ b. Gone p.value (after_switch other (cond b others (p ∷ others)))) (sym m)
       (front-gone p.value other others (of_value other others) l.0 refl apart.0))
 
@@ -262,17 +262,17 @@ module _ (value other : ℕ) (before away : List RootsCall) (p : Past) (others :
   cause-goes h =
       let b : Beside p (after_call n (Switch other) (p ∷ others)) =
       (let xs : List Past = unmarked (p ∷ others) in
-      front-beside p other xs (of_value other xs) l.0 refl (unmarked-was p p.marked p others (inl apart.0) self-first))
+      front-beside p other xs (of_value other xs) l.0 refl (unmarked-was p p.stale p others (inl apart.0) self-first))
       in
       subst (Gone p.value) (sym (calls-cons n (Switch other) away (p ∷ others)))
       (away-gone p (suc n) away (after_call n (Switch other) (p ∷ others)) l.1 h (call-apart n (Switch other) (p ∷ others) apart) b)
 
-  goes : (p.marked ≡ true) ⊎ HasCause p away → Gone p.value (pairs_after value (before ++ Switch other ∷ away))
+  goes : (p.stale ≡ true) ⊎ HasCause p away → Gone p.value (pairs_after value (before ++ Switch other ∷ away))
   goes h =
       subst (Gone p.value) (sym (pairs-join value before (Switch other ∷ away) ∙ ap (after_calls n (Switch other ∷ away)) e))
-      (elim h [ inl m ↦ marked-goes m | inr k ↦ cause-goes k ])
+      (elim h [ inl m ↦ stale-goes m | inr k ↦ cause-goes k ])
 
-  back-new : (p.marked ≡ true) ⊎ HasCause p away → IsPresent (begun p.value) (pairs_after value (before ++ Switch other ∷ away ++ Switch p.value ∷ []))
+  back-new : (p.stale ≡ true) ⊎ HasCause p away → IsPresent (begun p.value) (pairs_after value (before ++ Switch other ∷ away ++ Switch p.value ∷ []))
   back-new h =
       let cs = before ++ Switch other ∷ away in
       subst (IsPresent (begun p.value)) (sym (pairs-more value cs (Switch p.value))) (gone-begins p.value (length cs) (pairs_after value cs) (goes h))

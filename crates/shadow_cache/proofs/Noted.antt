@@ -22,15 +22,15 @@ set-exact bits i f l =
           ]
     ]
 
-pub noted-exact : (p : Pair) (ps qs : List Pair) (frame f : ℕ) → length p.tables ≡ 16384 → frame < 16384 → qs ≡ noted_in (p ∷ ps) frame → noted_of qs f ≡ (reads p f || eqb f frame)
-noted-exact p ps qs frame f size low e = ap (λ xs. noted_of xs f) e ∙ set-exact p.tables frame f (omega (arith, size, low))
+pub read_from-exact : (p : Pair) (ps qs : List Pair) (frame f : ℕ) → length p.tables ≡ 16384 → frame < 16384 → qs ≡ noted_in (p ∷ ps) frame → noted_of qs f ≡ (reads p f || eqb f frame)
+read_from-exact p ps qs frame f size low e = ap (λ xs. noted_of xs f) e ∙ set-exact p.tables frame f (omega (arith, size, low))
 
-marked-other : (b : Bool) (p : Pair) (frame f : ℕ) → (f ≡ frame → ⊥) → reads (spoilt b p frame) f ≡ reads p f
-marked-other true p frame f n = elim (reads-set p.tables frame f false) [ inl s ↦ s | inr t ↦ absurd (n t.0) ]
-marked-other false p frame f n = refl
+stale-other : (b : Bool) (p : Pair) (frame f : ℕ) → (f ≡ frame → ⊥) → reads (spoilt b p frame) f ≡ reads p f
+stale-other true p frame f n = elim (reads-set p.tables frame f false) [ inl s ↦ s | inr t ↦ absurd (n t.0) ]
+stale-other false p frame f n = refl
 
 pub written-other : (p : Pair) (ps qs : List Pair) (frame f : ℕ) → qs ≡ written_in (p ∷ ps) frame → (f ≡ frame → ⊥) → noted_of qs f ≡ reads p f
-written-other p ps qs frame f e n = ap (λ xs. noted_of xs f) e ∙ marked-other (reads p frame) p frame f n
+written-other p ps qs frame f e n = ap (λ xs. noted_of xs f) e ∙ stale-other (reads p frame) p frame f n
 
 there-by : (b : Bool) (p : Pair) (frame : ℕ) → reads (spoilt b p frame) frame ≡ true → reads p frame ≡ true
 there-by true p frame h = elim (reads-set p.tables frame frame false) [ inl s ↦ sym s ∙ h | inr t ↦ absurd (both_ways (reads (spoilt true p frame) frame) t.2 h) ]
@@ -39,12 +39,12 @@ there-by false p frame h = h
 pub written-there : (p : Pair) (ps qs : List Pair) (frame : ℕ) → qs ≡ written_in (p ∷ ps) frame → noted_of qs frame ≡ true → reads p frame ≡ true
 written-there p ps qs frame e h = there-by (reads p frame) p frame (sym (ap (λ xs. noted_of xs frame) e) ∙ h)
 
-marked-by : (b : Bool) (p : Pair) (frame : ℕ) → (spoilt b p frame).marked ≡ (p.marked || b)
-marked-by true p frame = sym (or-true p.marked)
-marked-by false p frame = sym (or-false p.marked)
+stale-by : (b : Bool) (p : Pair) (frame : ℕ) → (spoilt b p frame).stale ≡ (p.stale || b)
+stale-by true p frame = sym (or-true p.stale)
+stale-by false p frame = sym (or-false p.stale)
 
-pub written-marked : (p : Pair) (ps qs : List Pair) (frame : ℕ) → qs ≡ written_in (p ∷ ps) frame → mark_of qs ≡ (p.marked || reads p frame)
-written-marked p ps qs frame e = ap mark_of e ∙ marked-by (reads p frame) p frame
+pub written-stale : (p : Pair) (ps qs : List Pair) (frame : ℕ) → qs ≡ written_in (p ∷ ps) frame → mark_of qs ≡ (p.stale || reads p frame)
+written-stale p ps qs frame e = ap mark_of e ∙ stale-by (reads p frame) p frame
 
 value-by : (b : Bool) (p : Pair) (frame : ℕ) → (spoilt b p frame).cr3 ≡ p.cr3
 value-by true p frame = refl
@@ -56,8 +56,8 @@ written-value p ps qs frame e = ap value_of e ∙ ap (λ v. Some v) (value-by (r
 pub emptied-reads : (p : Pair) (ps qs : List Pair) (f : ℕ) → qs ≡ emptied (p ∷ ps) → noted_of qs f ≡ true → reads p f ≡ true
 emptied-reads p ps qs f e h = absurd (both_ways (noted_of qs f) (ap (λ xs. noted_of xs f) e ∙ no-reads f) h)
 
-pub emptied-marked : (p : Pair) (ps qs : List Pair) → qs ≡ emptied (p ∷ ps) → mark_of qs ≡ true → p.marked ≡ true
-emptied-marked p ps qs e h = absurd (both_ways (mark_of qs) (ap mark_of e) h)
+pub emptied-stale : (p : Pair) (ps qs : List Pair) → qs ≡ emptied (p ∷ ps) → mark_of qs ≡ true → p.stale ≡ true
+emptied-stale p ps qs e h = absurd (both_ways (mark_of qs) (ap mark_of e) h)
 
 pub emptied-value : (p : Pair) (ps qs : List Pair) → qs ≡ emptied (p ∷ ps) → value_of qs ≡ Some p.cr3
 emptied-value p ps qs e = ap value_of e

@@ -62,12 +62,12 @@ bars-one t u frame (Some s) i b = λ slot e y.
       | inr old ↦ and_left s.writes (not (eqb s.entry.frame frame || false)) (b s refl old)
     ]
 
-bars-noted : (t u : ℕ → Bool) (frame : ℕ) (f f' : ℕ → Option Slot) → ((x : ℕ) → u x ≡ true → (x ≡ frame) ⊎ (t x ≡ true)) → LosesWrites f f' (one frame) → BarsWrites t f → BarsWrites u f'
-bars-noted t u frame f f' i l b = λ page slot low e y. bars-one t u frame (f page) i (λ s q z. b page s low q z) slot (sym (l page low) ∙ e) y
+bars-read_from : (t u : ℕ → Bool) (frame : ℕ) (f f' : ℕ → Option Slot) → ((x : ℕ) → u x ≡ true → (x ≡ frame) ⊎ (t x ≡ true)) → LosesWrites f f' (one frame) → BarsWrites t f → BarsWrites u f'
+bars-read_from t u frame f f' i l b = λ page slot low e y. bars-one t u frame (f page) i (λ s q z. b page s low q z) slot (sym (l page low) ∙ e) y
 
-all-noted : (t u : ℕ → Bool) (frame : ℕ) (ps : List Pair) (m m' : List ℕ) → ((x : ℕ) → u x ≡ true → (x ≡ frame) ⊎ (t x ≡ true)) → AllLoseWrites ps m m' frame → AllBarWrites t ps m → AllBarWrites u ps m'
-all-noted t u frame [] m m' i l b = tt
-all-noted t u frame (p ∷ ps) m m' i l b = (bars-noted t u frame (slot_at p.shadow m) (slot_at p.shadow m') i l.0 b.0, all-noted t u frame ps m m' i l.1 b.1)
+all-read_from : (t u : ℕ → Bool) (frame : ℕ) (ps : List Pair) (m m' : List ℕ) → ((x : ℕ) → u x ≡ true → (x ≡ frame) ⊎ (t x ≡ true)) → AllLoseWrites ps m m' frame → AllBarWrites t ps m → AllBarWrites u ps m'
+all-read_from t u frame [] m m' i l b = tt
+all-read_from t u frame (p ∷ ps) m m' i l b = (bars-read_from t u frame (slot_at p.shadow m) (slot_at p.shadow m') i l.0 b.0, all-read_from t u frame ps m m' i l.1 b.1)
 
 all-lose : (ps : List Pair) (m m1 m2 : List ℕ) (frame : ℕ) → AreKept ps m m1 → AllLoseWrites ps m1 m2 frame → AllLoseWrites ps m m2 frame
 all-lose [] m m1 m2 frame k l = tt
@@ -160,8 +160,8 @@ all-barred t frame (p ∷ ps) m e b = (
   λ side index h ne. ne,
 )
 
-pub tracked-loses : (ps : List Pair) (m : List ℕ) (frame : ℕ) → IsRoots ps m → any_reads ps frame ≡ true → AllLoseWrites ps m m frame
-tracked-loses ps m frame h e = all-barred (any_reads ps) frame ps m e h.barred
+pub write_protected-loses : (ps : List Pair) (m : List ℕ) (frame : ℕ) → IsRoots ps m → any_reads ps frame ≡ true → AllLoseWrites ps m m frame
+write_protected-loses ps m frame h e = all-barred (any_reads ps) frame ps m e h.barred
 
 -- ---- a frame that is noted
 
@@ -173,8 +173,8 @@ module _ (p : Pair) (ps : List Pair) (m m2 : List ℕ) (frame : ℕ) (h : IsRoot
   size : length (slice_set p.tables frame true) ≡ 16384
   size = length-set p.tables frame true ∙ h.sized.0
 
-  any-noted : (x : ℕ) → any_reads (with_noted p frame ∷ ps) x ≡ true → (x ≡ frame) ⊎ (any_reads (p ∷ ps) x ≡ true)
-  any-noted x e = elim (reads-set p.tables frame x true) [ inl s ↦ inr (sym (ap (λ b. b || any_reads ps x) s) ∙ e) | inr t ↦ inl t.0 ]
+  any-read_from : (x : ℕ) → any_reads (with_noted p frame ∷ ps) x ≡ true → (x ≡ frame) ⊎ (any_reads (p ∷ ps) x ≡ true)
+  any-read_from x e = elim (reads-set p.tables frame x true) [ inl s ↦ inr (sym (ap (λ b. b || any_reads ps x) s) ∙ e) | inr t ↦ inl t.0 ]
 
   pub note-frames : frames_of (with_noted p frame ∷ ps) m2 ≡ frames_of (p ∷ ps) m
   note-frames = frames-cons (with_noted p frame) ps m2 ∙ sym (frames-cons p ps m2) ∙ frames
@@ -190,8 +190,8 @@ module _ (p : Pair) (ps : List Pair) (m m2 : List ℕ) (frame : ℕ) (h : IsRoot
         shadows = shadows;
         sized = (size, h.sized.1);
         barred = (
-          bars-noted (any_reads (p ∷ ps)) (any_reads (with_noted p frame ∷ ps)) frame (slot_at p.shadow m) (slot_at p.shadow m2) any-noted loses.0 h.barred.0,
-          all-noted (any_reads (p ∷ ps)) (any_reads (with_noted p frame ∷ ps)) frame ps m m2 any-noted loses.1 h.barred.1,
+          bars-read_from (any_reads (p ∷ ps)) (any_reads (with_noted p frame ∷ ps)) frame (slot_at p.shadow m) (slot_at p.shadow m2) any-read_from loses.0 h.barred.0,
+          all-read_from (any_reads (p ∷ ps)) (any_reads (with_noted p frame ∷ ps)) frame ps m m2 any-read_from loses.1 h.barred.1,
         );
         unmarked = h.unmarked;
       }
@@ -202,7 +202,7 @@ module _ (p : Pair) (ps : List Pair) (m m2 : List ℕ) (frame : ℕ) (h : IsRoot
         | inl t ↦
             let z = h.sized.0 in
             t.0 ∙ sym (ap (λ y. get_or (slice_set p.tables frame true) y false || any_reads ps y) t.1 ∙ ap (λ b. b || any_reads ps frame) (reads-there p.tables frame true (omega (arith, z, low))))
-        | inr t ↦ t.0 ∙ sym (false_from_ne_true (any_reads (with_noted p frame ∷ ps) x) (λ y. elim (any-noted x y) [ inl s ↦ t.1 s | inr s ↦ (let q : false ≡ true = sym e ∙ s in cc) ]))
+        | inr t ↦ t.0 ∙ sym (false_from_ne_true (any_reads (with_noted p frame ∷ ps) x) (λ y. elim (any-read_from x y) [ inl s ↦ t.1 s | inr s ↦ (let q : false ≡ true = sym e ∙ s in cc) ]))
       ]
 
   same-rights : (o : Option Slot) → Bars (any_reads (p ∷ ps)) o → barred (frame ∷ []) o ≡ barred (tables_of (with_noted p frame ∷ ps)) o
@@ -215,9 +215,9 @@ module _ (p : Pair) (ps : List Pair) (m m2 : List ℕ) (frame : ℕ) (h : IsRoot
   pub note-slots : LosesWrites (slot_at p.shadow m) (slot_at p.shadow m2) (tables_of (with_noted p frame ∷ ps))
   note-slots page l = loses.0 page l ∙ same-rights (slot_at p.shadow m page) (λ s e y. h.barred.0 page s l e y)
 
-  pub note-tracked : ArePart (tables_of (with_noted p frame ∷ ps)) (frame ∷ tables_of (p ∷ ps))
-  note-tracked f e =
-      elim (any-noted f (sym (tables-any (with_noted p frame ∷ ps) f) ∙ e)) [
+  pub note-write_protected : ArePart (tables_of (with_noted p frame ∷ ps)) (frame ∷ tables_of (p ∷ ps))
+  note-write_protected f e =
+      elim (any-read_from f (sym (tables-any (with_noted p frame ∷ ps) f) ∙ e)) [
         | inl s ↦ elim (eqb_tells f frame) [ inl t ↦ ap (λ b. b || is_among f (tables_of (p ∷ ps))) t.0 | inr t ↦ absurd (t.1 s) ]
         | inr s ↦ ap (λ b. eqb f frame || b) (tables-any (p ∷ ps) f ∙ s) ∙ or-true (eqb f frame)
       ]

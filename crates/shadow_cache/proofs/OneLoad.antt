@@ -11,7 +11,7 @@ use Rattle.shadow_cache.specs.declared.call_lists.RootsCall.{RootsCall}
 use Rattle.shadow_cache.specs.declared.call_lists.RootsCall.TheVariants.{Shared, Switch}
 use Rattle.shadow_cache.proofs.Since.{pairs-more}
 use Rattle.shadow_cache.proofs.Apart.{of-none, none-of, of-is, unmarked-apart, unmarked-few}
-use Rattle.shadow_cache.proofs.Whole.{marked-value, pairs-apart, pairs-few}
+use Rattle.shadow_cache.proofs.Whole.{stale-value, pairs-apart, pairs-few}
 use Rattle.shadow_cache.proofs.Gone.{filter-gone, front-gone, begins-by}
 use Rattle.shadow_cache.proofs.Small.{not-first}
 
@@ -161,13 +161,13 @@ module _ (n : ℕ) (q : Past) (ps : List Past) (a : AreApart (q ∷ ps)) (few : 
   here : of_value p.value ps ≡ Some p
   here = of-at ps i p at a.1
 
-  marked-value-other : (frame : ℕ) → eqb (marked_at frame q).value p.value ≡ false
-  marked-value-other frame = ap (λ x. eqb x p.value) (marked-value (is_among frame q.tables) frame q) ∙ other
+  stale-value-other : (frame : ℕ) → eqb (marked_at frame q).value p.value ≡ false
+  stale-value-other frame = ap (λ x. eqb x p.value) (stale-value (is_among frame q.tables) frame q) ∙ other
 
   others-go : (c : RootsCall) → leaves c (q ∷ ps) p ≡ true → has_value p.value (after_call n c (q ∷ ps)) ≡ false
   others-go (Switch v) h =
       let xs : List Past = unmarked (q ∷ ps) in let f = unmarked-few (q ∷ ps) in
-      load-goes v p xs (unmarked-apart (q ∷ ps) a) (omega (arith, f, few)) (unmarked-of q.marked p.value p q ps other here) h
+      load-goes v p xs (unmarked-apart (q ∷ ps) a) (omega (arith, f, few)) (unmarked-of q.stale p.value p q ps other here) h
   others-go (Shared (Fill side entry wp)) h = absurd (both_ways false refl h)
   others-go (Shared (DropPage page)) h = absurd (both_ways false refl h)
   others-go (Shared (DropDir index)) h = absurd (both_ways false refl h)
@@ -175,7 +175,7 @@ module _ (n : ℕ) (q : Past) (ps : List Past) (a : AreApart (q ∷ ps)) (few : 
   others-go (Shared (Note frame)) h = absurd (both_ways false refl h)
   others-go (Shared (Written frame)) h =
       let t : Past → Bool = λ x. not (is_among frame x.tables) in
-      or_from (eqb (marked_at frame q).value p.value) (has_value p.value (filter t ps)) (marked-value-other frame) (filter-gone p t ps (ap not h) a.1 (inr here))
+      or_from (eqb (marked_at frame q).value p.value) (has_value p.value (filter t ps)) (stale-value-other frame) (filter-gone p t ps (ap not h) a.1 (inr here))
 
   abbrev Here : List Past → Type 0
   Here qs = of_value p.value qs ≡ Some p
@@ -186,7 +186,7 @@ module _ (n : ℕ) (q : Past) (ps : List Past) (a : AreApart (q ∷ ps)) (few : 
   others-stay : (c : RootsCall) → leaves c (q ∷ ps) p ≡ false → of_value p.value (after_call n c (q ∷ ps)) ≡ Some p
   others-stay (Switch v) h =
       let xs : List Past = unmarked (q ∷ ps) in let f = unmarked-few (q ∷ ps) in
-      load-stays v p xs (unmarked-apart (q ∷ ps) a) (omega (arith, f, few)) (unmarked-of q.marked p.value p q ps other here) h
+      load-stays v p xs (unmarked-apart (q ∷ ps) a) (omega (arith, f, few)) (unmarked-of q.stale p.value p q ps other here) h
   others-stay (Shared (Fill side entry wp)) h = changed _ refl
   others-stay (Shared (DropPage page)) h = changed _ refl
   others-stay (Shared (DropDir index)) h = changed _ refl
@@ -194,7 +194,7 @@ module _ (n : ℕ) (q : Past) (ps : List Past) (a : AreApart (q ∷ ps)) (few : 
   others-stay (Shared (Note frame)) h = changed _ refl
   others-stay (Shared (Written frame)) h =
       let t : Past → Bool = λ x. not (is_among frame x.tables) in
-      of-rest p.value (marked_at frame q) (filter t ps) (marked-value-other frame) ∙ of-filter t p.value ps p (ap not h) here
+      of-rest p.value (marked_at frame q) (filter t ps) (stale-value-other frame) ∙ of-filter t p.value ps p (ap not h) here
 
 pub others-leave-or-stay : OthersLeaveOrStay
 others-leave-or-stay value calls call present others i p e at =
@@ -222,7 +222,7 @@ pub present-leaves-or-stays : PresentLeavesOrStays
 present-leaves-or-stays value calls v q ps e =
     let a : AreApart (q ∷ ps) = subst AreApart e (pairs-apart value calls) in
     let few : length (q ∷ ps) ≤ 8 = subst (λ (xs : List Past). length xs ≤ 8) e (pairs-few value calls) in
-    let same : (w : ℕ) → pairs_after value (calls ++ Switch w ∷ []) ≡ after_switch w (cond q.marked ps (q ∷ ps)) =
+    let same : (w : ℕ) → pairs_after value (calls ++ Switch w ∷ []) ≡ after_switch w (cond q.stale ps (q ∷ ps)) =
     λ w. pairs-more value calls (Switch w) ∙ ap (after_call (length calls) (Switch w)) e
     in (
       (λ m n. ap (has_value q.value) (same v ∙ ap (λ b. after_switch v (cond b ps (q ∷ ps))) m) ∙ front-gone q.value v ps (of_value v ps) n refl a.0),

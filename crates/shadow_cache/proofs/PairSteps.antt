@@ -18,7 +18,7 @@ use Rattle.shadow_cache.specs.declared.call_lists.RootsCall.{RootsCall}
 use Rattle.shadow_cache.proofs.Beside.{reads-set, reads-there, no-reads}
 use Rattle.shadow_cache.proofs.Calls.{read-there}
 use Rattle.shadow_cache.proofs.Tabled.{Fewer, OneMore, all-but-there, all-but-other}
-use Rattle.shadow_cache.proofs.SlotSteps.{slot-stays, slot-noted}
+use Rattle.shadow_cache.proofs.SlotSteps.{slot-stays, slot-read_from}
 use Rattle.shadow_cache.proofs.Small.{some-none, none-later, later-is, later-none}
 
 -- ---- pairs that keep what they kept, or lose a right to write
@@ -30,7 +30,7 @@ agrees-kept v cs c q p m m' w e s k a =
       tables = a.tables;
       mark = a.mark;
       slots = λ page l. slot-stays v cs c (last_of q.calls page) (slot_at p.shadow m page) (slot_at p.shadow m' page) w (s page l) (a.slots page l);
-      opened = λ place t. (let o = a.opened place t in (o.0, k place.side place.index o.0 o.1));
+      has_tables_under = λ place t. (let o = a.has_tables_under place t in (o.0, k place.side place.index o.0 o.1));
       few = subst (λ (fs : List ℕ). length fs ≤ 2 + length q.places) (sym e) a.few;
     }
 
@@ -46,8 +46,8 @@ agrees-lost v cs c frame q p m m' w e s k a =
       value_of = a.value_of;
       tables = a.tables;
       mark = a.mark;
-      slots = λ page l. slot-noted v cs c frame (last_of q.calls page) (slot_at p.shadow m page) (slot_at p.shadow m' page) w (s page l) (a.slots page l);
-      opened = λ place t. (let o = a.opened place t in (o.0, k place.side place.index o.0 o.1));
+      slots = λ page l. slot-read_from v cs c frame (last_of q.calls page) (slot_at p.shadow m page) (slot_at p.shadow m' page) w (s page l) (a.slots page l);
+      has_tables_under = λ place t. (let o = a.has_tables_under place t in (o.0, k place.side place.index o.0 o.1));
       few = subst (λ (fs : List ℕ). length fs ≤ 2 + length q.places) (sym e) a.few;
     }
 
@@ -65,8 +65,8 @@ any-table v cs [] (p ∷ ps) m f a = absurd a
 any-table v cs (q ∷ qs) [] m f a = absurd a
 any-table v cs (q ∷ qs) (p ∷ ps) m f a = ap (λ b. b || any_reads ps f) (a.0.tables f) ∙ ap (λ b. is_among f q.tables || b) (any-table v cs qs ps m f a.1)
 
-pub noted-tables : (bits : List Bool) (fs : List ℕ) (frame f : ℕ) → frame < length bits → ((x : ℕ) → get_or bits x false ≡ is_among x fs) → get_or (slice_set bits frame true) f false ≡ (eqb f frame || is_among f fs)
-noted-tables bits fs frame f l h =
+pub read_from-tables : (bits : List Bool) (fs : List ℕ) (frame f : ℕ) → frame < length bits → ((x : ℕ) → get_or bits x false ≡ is_among x fs) → get_or (slice_set bits frame true) f false ≡ (eqb f frame || is_among f fs)
+read_from-tables bits fs frame f l h =
     elim (eqb_tells f frame) [
       | inl t ↦
           ap (λ x. get_or (slice_set bits frame true) x false) t.1 ∙ reads-there bits frame true l
@@ -90,22 +90,22 @@ lost-tables bits fs frame f r h =
     ]
 
 agrees-spoilt : (v : ℕ) (cs : List RootsCall) (b : Bool) (frame : ℕ) (q : Past) (p : Pair) (m : List ℕ) → reads p frame ≡ b → Agrees v cs q p m
-    → Agrees v cs (cond b (record q { tables = all_but frame q.tables; marked = true }) q) (cond b (record p { tables = slice_set p.tables frame false; marked = true }) p) m
+    → Agrees v cs (cond b (record q { tables = all_but frame q.tables; stale = true }) q) (cond b (record p { tables = slice_set p.tables frame false; stale = true }) p) m
 agrees-spoilt v cs true frame q p m r a =
     record {
       value_of = a.value_of;
       tables = λ f. lost-tables p.tables q.tables frame f r a.tables;
       mark = refl;
       slots = a.slots;
-      opened = a.opened;
+      has_tables_under = a.has_tables_under;
       few = a.few;
     }
 agrees-spoilt v cs false frame q p m r a = a
 
-pub agrees-marked : (v : ℕ) (cs : List RootsCall) (frame : ℕ) (q : Past) (p : Pair) (m : List ℕ) → Agrees v cs q p m
-    → Agrees v cs (cond (is_among frame q.tables) (record q { tables = all_but frame q.tables; marked = true }) q) (cond (reads p frame) (record p { tables = slice_set p.tables frame false; marked = true }) p) m
-agrees-marked v cs frame q p m a =
-    subst (λ b. Agrees v cs (cond b (record q { tables = all_but frame q.tables; marked = true }) q) (cond (reads p frame) (record p { tables = slice_set p.tables frame false; marked = true }) p) m) (a.tables frame)
+pub agrees-stale : (v : ℕ) (cs : List RootsCall) (frame : ℕ) (q : Past) (p : Pair) (m : List ℕ) → Agrees v cs q p m
+    → Agrees v cs (cond (is_among frame q.tables) (record q { tables = all_but frame q.tables; stale = true }) q) (cond (reads p frame) (record p { tables = slice_set p.tables frame false; stale = true }) p) m
+agrees-stale v cs frame q p m a =
+    subst (λ b. Agrees v cs (cond b (record q { tables = all_but frame q.tables; stale = true }) q) (cond (reads p frame) (record p { tables = slice_set p.tables frame false; stale = true }) p) m) (a.tables frame)
     (agrees-spoilt v cs (reads p frame) frame q p m refl a)
 
 -- ---- some of the pairs
@@ -140,7 +140,7 @@ all-unmarked v cs [] [] m a = tt
 all-unmarked v cs [] (p ∷ ps) m a = absurd a
 all-unmarked v cs (q ∷ qs) [] m a = absurd a
 all-unmarked v cs (q ∷ qs) (p ∷ ps) m a =
-    subst (λ b. AllAgree v cs (cond b qs (q ∷ qs)) (cond p.marked ps (p ∷ ps)) m) a.0.mark (all-unmarked-by v cs p.marked q qs p ps m a)
+    subst (λ b. AllAgree v cs (cond b qs (q ∷ qs)) (cond p.stale ps (p ∷ ps)) m) a.0.mark (all-unmarked-by v cs p.stale q qs p ps m a)
 
 -- ---- the pair of a value
 
@@ -209,7 +209,7 @@ agrees-fresh v cs value p m f =
       tables = λ x. ap (λ (bits : List Bool). get_or bits x false) f.tables ∙ no-reads x;
       mark = f.unmarked;
       slots = λ page l. f.empty.none page l;
-      opened = λ place t. absurd (let e : false ≡ true = t in cc);
+      has_tables_under = λ place t. absurd (let e : false ≡ true = t in cc);
       few = (let e = ap (λ (fs : List ℕ). length fs) f.empty.frames in omega (arith, e));
     }
 
@@ -224,7 +224,7 @@ module _ (v : ℕ) (cs : List RootsCall) (q : Past) (p : Pair) (m m' : List ℕ)
   Opened places = (place : DirSlot) → is_place place places ≡ true → (place.index < 1024) × HasTable p.shadow m' place.side place.index
 
   before : Opened q.places
-  before place t = (let x = a.opened place t in (x.0, o.others place.side place.index x.0 x.1))
+  before place t = (let x = a.has_tables_under place t in (x.0, o.others place.side place.index x.0 x.1))
 
   at : (place : DirSlot) → (is_side place.side side && eqb place.index index) ≡ true → (place.index < 1024) × HasTable p.shadow m' place.side place.index
   at place t =
@@ -232,16 +232,16 @@ module _ (v : ℕ) (cs : List RootsCall) (q : Past) (p : Pair) (m m' : List ℕ)
       let i : place.index ≡ index = eqb-true place.index index (and_parts (is_side place.side side) (eqb place.index index) t).1 in
       (omega (arith, i, low), subst (λ x. HasTable p.shadow m' x place.index) (sym s) (subst (λ x. HasTable p.shadow m' side x) (sym i) o.there))
 
-  opened-by : (b : Bool) → Opened (cond b q.places (record { side = side; index = index } ∷ q.places))
-  opened-by true = before
-  opened-by false = λ place t. elim (or_cases (is_side place.side side && eqb place.index index) (is_place place q.places) t) [ inl x ↦ at place x | inr x ↦ before place x ]
+  has_tables_under-by : (b : Bool) → Opened (cond b q.places (record { side = side; index = index } ∷ q.places))
+  has_tables_under-by true = before
+  has_tables_under-by false = λ place t. elim (or_cases (is_side place.side side && eqb place.index index) (is_place place q.places) t) [ inl x ↦ at place x | inr x ↦ before place x ]
 
-  pub opened-more : Opened (with_place (record { side = side; index = index }) q.places)
-  opened-more = opened-by (is_place (record { side = side; index = index }) q.places)
+  pub has_tables_under-more : Opened (with_place (record { side = side; index = index }) q.places)
+  has_tables_under-more = has_tables_under-by (is_place (record { side = side; index = index }) q.places)
 
   few-by : (b : Bool) → is_place (record { side = side; index = index }) q.places ≡ b → length (held p.shadow m') ≤ 2 + length (cond b q.places (record { side = side; index = index } ∷ q.places))
   few-by true e =
-      let x = a.opened (record { side = side; index = index }) e in
+      let x = a.has_tables_under (record { side = side; index = index }) e in
       let same = ap (λ (fs : List ℕ). length fs) (o.already x.1) in let few = a.few in omega (arith, same, few)
   few-by false e = let one = o.one in let few = a.few in omega (arith, one, few)
 

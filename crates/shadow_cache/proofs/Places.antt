@@ -77,9 +77,9 @@ placed-later p d a = record { filled = λ place t. filled-later p.calls d place 
 placed-begun : (v : ℕ) → IsPlaced (begun v)
 placed-begun v = record { filled = λ place t. absurd (let e : false ≡ true = t in cc); once = tt }
 
-placed-marked : (b : Bool) (frame : ℕ) (p : Past) → IsPlaced p → IsPlaced (cond b (record p { tables = all_but frame p.tables; marked = true }) p)
-placed-marked true frame p a = record { filled = a.filled; once = a.once }
-placed-marked false frame p a = a
+placed-stale : (b : Bool) (frame : ℕ) (p : Past) → IsPlaced p → IsPlaced (cond b (record p { tables = all_but frame p.tables; stale = true }) p)
+placed-stale true frame p a = record { filled = a.filled; once = a.once }
+placed-stale false frame p a = a
 
 -- ---- some pairs
 
@@ -106,7 +106,7 @@ but-placed v (p ∷ ps) a = rest-placed (eqb p.value v) p ps (but_value v ps) a.
 
 unmarked-placed : (ps : List Past) → ArePlaced ps → ArePlaced (unmarked ps)
 unmarked-placed [] a = tt
-unmarked-placed (p ∷ ps) a = rest-placed p.marked p ps ps a.0 a.1 a.1
+unmarked-placed (p ∷ ps) a = rest-placed p.stale p ps ps a.0 a.1 a.1
 
 of-placed : (v : ℕ) (ps : List Past) (q : Past) → of_value v ps ≡ Some q → ArePlaced ps → IsPlaced q
 of-placed v [] q e a = absurd (none-some q e)
@@ -129,7 +129,7 @@ shared-placed n (DropPage page) (p ∷ ps) a = (placed-later p (record { moment 
 shared-placed n (DropDir index) (p ∷ ps) a = (placed-later p (record { moment = n; call = DropDir index }) a.0, a.1)
 shared-placed n DropAll (p ∷ ps) a = (placed-begun p.value, tt)
 shared-placed n (Note frame) (p ∷ ps) a = (record { filled = a.0.filled; once = a.0.once }, a.1)
-shared-placed n (Written frame) (p ∷ ps) a = (placed-marked (is_among frame p.tables) frame p a.0, filter-placed (λ (q : Past). not (is_among frame q.tables)) ps a.1)
+shared-placed n (Written frame) (p ∷ ps) a = (placed-stale (is_among frame p.tables) frame p a.0, filter-placed (λ (q : Past). not (is_among frame q.tables)) ps a.1)
 
 call-placed : (n : ℕ) (c : RootsCall) (ps : List Past) → ArePlaced ps → ArePlaced (after_call n c ps)
 call-placed n (Shared c) ps a = shared-placed n c ps a

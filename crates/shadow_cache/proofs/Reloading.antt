@@ -3,7 +3,7 @@ use Rattle.std.proofs.Common.{◌≡◌, ℕ, zero, suc, List, [], ◌∷◌, ta
 use Rattle.std.proofs.lemmas.Bool.Decides.{eqb_tells}
 use Rattle.std.proofs.lemmas.Bool.{or_right}
 use Rattle.std.proofs.lemmas.Option.{same_Some, none-some}
-use Rattle.shadow_tables.specs.Aside.{Aside, IsSame, AreSame}
+use Rattle.shadow_tables.specs.OtherRoot.{OtherRoot, IsSame, AreSame}
 use Rattle.shadow_tables.specs.Slots.{ArePart, slot_at}
 use Rattle.shadow_cache.specs.Pairs.{reads, any_reads, tables_of, AreUnmarked, OthersUnmarked}
 use Rattle.shadow_cache.specs.Others.{AreKept, one_later, place_of}
@@ -24,15 +24,15 @@ left-by : (b : Bool) (p : Pair) (ps : List Pair) (m : List ℕ) → cond b (asid
 left-by true p ps m = refl
 left-by false p ps m = refl
 
-pub left-is : (p : Pair) (ps : List Pair) (m : List ℕ) → put_by (Some p.cr3) p.marked (reads p) (slot_at p.shadow m) (asides_of ps m) ≡ asides_of (staying_pairs (p ∷ ps)) m
-left-is p ps m = left-by p.marked p ps m
+pub left-is : (p : Pair) (ps : List Pair) (m : List ℕ) → put_by (Some p.cr3) p.stale (reads p) (slot_at p.shadow m) (asides_of ps m) ≡ asides_of (staying_pairs (p ∷ ps)) m
+left-is p ps m = left-by p.stale p ps m
 
-left-unmarked-by : (b : Bool) (p : Pair) (ps : List Pair) → p.marked ≡ b → AreUnmarked ps → AreUnmarked (cond b ps (p ∷ ps))
+left-unmarked-by : (b : Bool) (p : Pair) (ps : List Pair) → p.stale ≡ b → AreUnmarked ps → AreUnmarked (cond b ps (p ∷ ps))
 left-unmarked-by true p ps e h = h
 left-unmarked-by false p ps e h = (e, h)
 
 pub left-unmarked : (p : Pair) (ps : List Pair) → OthersUnmarked (p ∷ ps) → AreUnmarked (staying_pairs (p ∷ ps))
-left-unmarked p ps h = left-unmarked-by p.marked p ps refl h
+left-unmarked p ps h = left-unmarked-by p.stale p ps refl h
 
 -- ---- the pair of a value
 
@@ -64,7 +64,7 @@ found-later cr3 p ps rest x m t f =
     record {
       value = f.value;
       found = ap (λ b. cond b (Some (aside_of p m)) (of_cr3 cr3 (asides_of ps m))) t ∙ f.found;
-      others = ap (λ b. cond b (asides_of ps m) (aside_of p m ∷ but_cr3 cr3 (asides_of ps m))) t ∙ ap (λ (xs : List Aside). aside_of p m ∷ xs) f.others;
+      others = ap (λ b. cond b (asides_of ps m) (aside_of p m ∷ but_cr3 cr3 (asides_of ps m))) t ∙ ap (λ (xs : List OtherRoot). aside_of p m ∷ xs) f.others;
     }
 
 find-some : (cr3 : ℕ) (ps : List Pair) (i : ℕ) (x : Pair) (m : List ℕ) → place_of cr3 ps ≡ Some i → slice_get ps i ≡ Some x → IsFound cr3 ps (remove ps i) x m
@@ -84,54 +84,54 @@ find-some cr3 (p ∷ ps) (suc i) x m e h =
 
 -- ---- what comes and what stays
 
-abbrev pub first_aside : ℕ → List Pair → List ℕ → Aside
+abbrev pub first_aside : ℕ → List Pair → List ℕ → OtherRoot
 first_aside cr3 [] m = begun_aside cr3
 first_aside cr3 (p ∷ ps) m = record { cr3 = cr3; tables = reads p; slots = slot_at p.shadow m }
 
-pub record IsReloaded (cr3 : ℕ) (left : List Aside) (ps : List Pair) (m : List ℕ) : Type 0 where
+pub record IsReloaded (cr3 : ℕ) (left : List OtherRoot) (ps : List Pair) (m : List ℕ) : Type 0 where
   pub value : value_of ps ≡ Some cr3
-  pub marked : mark_of ps ≡ false
+  pub stale : mark_of ps ≡ false
   pub present : IsSame (coming cr3 left) (first_aside cr3 ps m)
-  pub asides : AreSame (staying cr3 left) (asides_of (beside ps) m)
+  pub other_roots : AreSame (staying cr3 left) (asides_of (beside ps) m)
 
-take-asides : (n : ℕ) (ps : List Pair) (m : List ℕ) → asides_of (take n ps) m ≡ take n (asides_of ps m)
-take-asides zero ps m = refl
-take-asides (suc n) [] m = refl
-take-asides (suc n) (p ∷ ps) m = ap (λ (xs : List Aside). aside_of p m ∷ xs) (take-asides n ps m)
+take-other_roots : (n : ℕ) (ps : List Pair) (m : List ℕ) → asides_of (take n ps) m ≡ take n (asides_of ps m)
+take-other_roots zero ps m = refl
+take-other_roots (suc n) [] m = refl
+take-other_roots (suc n) (p ∷ ps) m = ap (λ (xs : List OtherRoot). aside_of p m ∷ xs) (take-other_roots n ps m)
 
-opened-new : (cr3 : ℕ) (ps : List Pair) (m m' : List ℕ) (x : Pair) → of_cr3 cr3 (asides_of ps m) ≡ None → IsFresh x m' cr3 → AreKept (take 7 ps) m m' → IsReloaded cr3 (asides_of ps m) (x ∷ take 7 ps) m'
-opened-new cr3 ps m m' x none f k =
+has_tables_under-new : (cr3 : ℕ) (ps : List Pair) (m m' : List ℕ) (x : Pair) → of_cr3 cr3 (asides_of ps m) ≡ None → IsFresh x m' cr3 → AreKept (take 7 ps) m m' → IsReloaded cr3 (asides_of ps m) (x ∷ take 7 ps) m'
+has_tables_under-new cr3 ps m m' x none f k =
     record {
       value = ap (λ v. Some v) f.value;
-      marked = f.unmarked;
-      present = subst (λ (o : Option Aside). IsSame (or_begun cr3 o) (first_aside cr3 (x ∷ take 7 ps) m')) (sym none)
+      stale = f.unmarked;
+      present = subst (λ (o : Option OtherRoot). IsSame (or_begun cr3 o) (first_aside cr3 (x ∷ take 7 ps) m')) (sym none)
           (record { cr3 = refl; tables = λ frame. ap (λ bits. get_or bits frame false) f.tables ∙ no-reads frame; slots = λ page l. f.empty.none page l });
-      asides = subst (λ (o : Option Aside). AreSame (beside_coming cr3 (asides_of ps m) o) (asides_of (take 7 ps) m')) (sym none)
-          (subst (λ (xs : List Aside). AreSame xs (asides_of (take 7 ps) m')) (take-asides 7 ps m) (same-kept (take 7 ps) m m' k));
+      other_roots = subst (λ (o : Option OtherRoot). AreSame (beside_coming cr3 (asides_of ps m) o) (asides_of (take 7 ps) m')) (sym none)
+          (subst (λ (xs : List OtherRoot). AreSame xs (asides_of (take 7 ps) m')) (take-other_roots 7 ps m) (same-kept (take 7 ps) m m' k));
     }
 
-came_back : (cr3 : ℕ) (ps rest : List Pair) (m m' : List ℕ) (x : Pair) → IsFound cr3 ps rest x m → x.marked ≡ false → AreKept (x ∷ rest) m m' → IsReloaded cr3 (asides_of ps m) (x ∷ rest) m'
+came_back : (cr3 : ℕ) (ps rest : List Pair) (m m' : List ℕ) (x : Pair) → IsFound cr3 ps rest x m → x.stale ≡ false → AreKept (x ∷ rest) m m' → IsReloaded cr3 (asides_of ps m) (x ∷ rest) m'
 came_back cr3 ps rest m m' x f u k =
     record {
       value = ap (λ v. Some v) f.value;
-      marked = u;
-      present = subst (λ (o : Option Aside). IsSame (or_begun cr3 o) (first_aside cr3 (x ∷ rest) m')) (sym f.found)
+      stale = u;
+      present = subst (λ (o : Option OtherRoot). IsSame (or_begun cr3 o) (first_aside cr3 (x ∷ rest) m')) (sym f.found)
           (record { cr3 = sym f.value; tables = λ frame. refl; slots = k.2 });
-      asides = subst (λ (o : Option Aside). AreSame (beside_coming cr3 (asides_of ps m) o) (asides_of rest m')) (sym f.found)
-          (subst (λ (xs : List Aside). AreSame xs (asides_of rest m')) (sym f.others) (same-kept rest m m' k.3));
+      other_roots = subst (λ (o : Option OtherRoot). AreSame (beside_coming cr3 (asides_of ps m) o) (asides_of rest m')) (sym f.found)
+          (subst (λ (xs : List OtherRoot). AreSame xs (asides_of rest m')) (sym f.others) (same-kept rest m m' k.3));
     }
 
 reloaded-by : (o : Option ℕ) (cr3 : ℕ) (ps qs : List Pair) (m m' : List ℕ) → place_of cr3 ps ≡ o → AreUnmarked ps → MatchOption o (Opens ps qs m m' cr3) (λ i. ComesBack ps qs m m' i) → IsReloaded cr3 (asides_of ps m) qs m'
 reloaded-by None cr3 ps qs m m' e u x =
-    subst (λ (xs : List Pair). IsReloaded cr3 (asides_of ps m) xs m') (sym x.front) (opened-new cr3 ps m m' x.pair (find-none cr3 ps m e) x.fresh x.kept)
+    subst (λ (xs : List Pair). IsReloaded cr3 (asides_of ps m) xs m') (sym x.front) (has_tables_under-new cr3 ps m m' x.pair (find-none cr3 ps m e) x.fresh x.kept)
 reloaded-by (Some i) cr3 ps qs m m' e u x =
     subst (λ (xs : List Pair). IsReloaded cr3 (asides_of ps m) xs m') (sym x.front)
     (came_back cr3 ps (remove ps i) m m' x.pair (find-some cr3 ps i x.pair m e x.here) (unmarked-at ps i x.pair x.here u) (subst (λ (xs : List Pair). AreKept xs m m') x.front x.kept))
 
 pub reloaded : (cr3 : ℕ) (p : Pair) (ps qs : List Pair) (m m' : List ℕ) → OthersUnmarked (p ∷ ps) → IsSwitched (p ∷ ps) qs m m' cr3
-    → IsReloaded cr3 (put_by (Some p.cr3) p.marked (reads p) (slot_at p.shadow m) (asides_of ps m)) qs m'
+    → IsReloaded cr3 (put_by (Some p.cr3) p.stale (reads p) (slot_at p.shadow m) (asides_of ps m)) qs m'
 reloaded cr3 p ps qs m m' u x =
-    subst (λ (xs : List Aside). IsReloaded cr3 xs qs m') (sym (left-is p ps m))
+    subst (λ (xs : List OtherRoot). IsReloaded cr3 xs qs m') (sym (left-is p ps m))
     (reloaded-by (place_of cr3 (staying_pairs (p ∷ ps))) cr3 (staying_pairs (p ∷ ps)) qs m m' refl (left-unmarked p ps u) x)
 
 -- ---- no further frame is tracked
@@ -159,6 +159,6 @@ staying-by : (b : Bool) (p : Pair) (ps : List Pair) (f : ℕ) → any_reads (con
 staying-by true p ps f e = or_right (reads p f) (any_reads ps f) e
 staying-by false p ps f e = e
 
-pub reloaded-tracked : (cr3 : ℕ) (p : Pair) (ps qs : List Pair) (m m' : List ℕ) → IsSwitched (p ∷ ps) qs m m' cr3 → ArePart (tables_of qs) (tables_of (p ∷ ps))
-reloaded-tracked cr3 p ps qs m m' x =
-    tables-part (p ∷ ps) qs (λ f e. staying-by p.marked p ps f (fewer-by (place_of cr3 (staying_pairs (p ∷ ps))) cr3 (staying_pairs (p ∷ ps)) qs m m' f x e))
+pub reloaded-write_protected : (cr3 : ℕ) (p : Pair) (ps qs : List Pair) (m m' : List ℕ) → IsSwitched (p ∷ ps) qs m m' cr3 → ArePart (tables_of qs) (tables_of (p ∷ ps))
+reloaded-write_protected cr3 p ps qs m m' x =
+    tables-part (p ∷ ps) qs (λ f e. staying-by p.stale p ps f (fewer-by (place_of cr3 (staying_pairs (p ∷ ps))) cr3 (staying_pairs (p ∷ ps)) qs m m' f x e))

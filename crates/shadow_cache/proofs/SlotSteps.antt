@@ -37,9 +37,9 @@ bar-more false true false = refl
 bar-more false false true = refl
 bar-more false false false = refl
 
-pub slot-noted : (v : ℕ) (cs : List RootsCall) (c : RootsCall) (frame : ℕ) (x : Option Filling) (o o' : Option Slot) → OneMore v cs c frame → o' ≡ barred (frame ∷ []) o → IsSlot v cs x o → IsSlot v (cs ++ c ∷ []) x o'
-slot-noted v cs c frame None o o' w e h = e ∙ ap (barred (frame ∷ [])) h
-slot-noted v cs c frame (Some f) o o' w e h =
+pub slot-read_from : (v : ℕ) (cs : List RootsCall) (c : RootsCall) (frame : ℕ) (x : Option Filling) (o o' : Option Slot) → OneMore v cs c frame → o' ≡ barred (frame ∷ []) o → IsSlot v cs x o → IsSlot v (cs ++ c ∷ []) x o'
+slot-read_from v cs c frame None o o' w e h = e ∙ ap (barred (frame ∷ [])) h
+slot-read_from v cs c frame (Some f) o o' w e h =
     let l = length-more cs c in let early = h.early in
     let q : Bool = eqb f.entry.frame frame in
     let t : Bool = is_table (pairs_after v cs) f.entry.frame in

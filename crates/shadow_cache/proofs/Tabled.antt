@@ -49,9 +49,9 @@ all-but-other f frame (g ∷ gs) n =
 
 -- ---- no more tables than before
 
-marked-less : (b : Bool) (frame : ℕ) (p : Past) (f : ℕ) → is_among f (cond b (record p { tables = all_but frame p.tables; marked = true }) p).tables ≡ true → is_among f p.tables ≡ true
-marked-less true frame p f e = all-but-less f frame p.tables e
-marked-less false frame p f e = e
+stale-less : (b : Bool) (frame : ℕ) (p : Past) (f : ℕ) → is_among f (cond b (record p { tables = all_but frame p.tables; stale = true }) p).tables ≡ true → is_among f p.tables ≡ true
+stale-less true frame p f e = all-but-less f frame p.tables e
+stale-less false frame p f e = e
 
 one-less : (b : Bool) (p : Past) (qs ps : List Past) (f : ℕ) → is_table (cond b (p ∷ qs) qs) f ≡ true → (is_table qs f ≡ true → is_table ps f ≡ true) → is_table (p ∷ ps) f ≡ true
 one-less true p qs ps f e h = or-less (is_among f p.tables) (is_table qs f) (is_table ps f) e h
@@ -96,7 +96,7 @@ unmarked-less-by false p ps f e = e
 
 unmarked-less : (ps : List Past) (f : ℕ) → is_table (unmarked ps) f ≡ true → is_table ps f ≡ true
 unmarked-less [] f e = e
-unmarked-less (p ∷ ps) f e = unmarked-less-by p.marked p ps f e
+unmarked-less (p ∷ ps) f e = unmarked-less-by p.stale p ps f e
 
 abbrev pub Fewer : ℕ → List RootsCall → RootsCall → Type 0
 Fewer v cs c = (f : ℕ) → is_table (pairs_after v (cs ++ c ∷ [])) f ≡ true → is_table (pairs_after v cs) f ≡ true
@@ -112,7 +112,7 @@ written-less : (n frame : ℕ) (ps : List Past) (f : ℕ) → is_table (after_sh
 written-less n frame [] f e = e
 written-less n frame (p ∷ ps) f e =
     either_less (is_among f (marked_at frame p).tables) (is_table (filter (λ (q : Past). not (is_among frame q.tables)) ps) f) (is_among f p.tables) (is_table ps f)
-    (marked-less (is_among frame p.tables) frame p f) (filter-less (λ (q : Past). not (is_among frame q.tables)) ps f) e
+    (stale-less (is_among frame p.tables) frame p f) (filter-less (λ (q : Past). not (is_among frame q.tables)) ps f) e
 
 pub fewer-written : (v : ℕ) (cs : List RootsCall) (frame : ℕ) → Fewer v cs (Shared (Written frame))
 fewer-written v cs frame = from-more v cs (Shared (Written frame)) (λ f e. written-less (length cs) frame (pairs_after v cs) f e)

@@ -16,9 +16,9 @@ calls-keep P h n (c ∷ cs) ps p = subst P (sym (calls-cons n c cs ps)) (calls-k
 
 -- ---- no two have one value
 
-pub marked-value : (b : Bool) (frame : ℕ) (q : Past) → (cond b (record q { tables = all_but frame q.tables; marked = true }) q).value ≡ q.value
-marked-value true frame q = refl
-marked-value false frame q = refl
+pub stale-value : (b : Bool) (frame : ℕ) (q : Past) → (cond b (record q { tables = all_but frame q.tables; stale = true }) q).value ≡ q.value
+stale-value true frame q = refl
+stale-value false frame q = refl
 
 shared-apart : (n : ℕ) (c : Call) (ps : List Past) → AreApart ps → AreApart (after_shared n c ps)
 shared-apart n c [] a = a
@@ -29,7 +29,7 @@ shared-apart n DropAll (p ∷ ps) a = (refl, tt)
 shared-apart n (Note frame) (p ∷ ps) a = a
 shared-apart n (Written frame) (p ∷ ps) a =
     let t : Past → Bool = λ q. not (is_among frame q.tables) in
-    (ap (λ x. has_value x (filter t ps)) (marked-value (is_among frame p.tables) frame p) ∙ filter-none t ps p.value a.0, filter-apart t ps a.1)
+    (ap (λ x. has_value x (filter t ps)) (stale-value (is_among frame p.tables) frame p) ∙ filter-none t ps p.value a.0, filter-apart t ps a.1)
 
 pub call-apart : (n : ℕ) (c : RootsCall) (ps : List Past) → AreApart ps → AreApart (after_call n c ps)
 call-apart n (Shared c) ps a = shared-apart n c ps a
@@ -65,7 +65,7 @@ shared-present n (DropPage page) (p ∷ ps) v e = e
 shared-present n (DropDir index) (p ∷ ps) v e = e
 shared-present n DropAll (p ∷ ps) v e = e
 shared-present n (Note frame) (p ∷ ps) v e = e
-shared-present n (Written frame) (p ∷ ps) v e = ap (λ x. Some x) (marked-value (is_among frame p.tables) frame p) ∙ e
+shared-present n (Written frame) (p ∷ ps) v e = ap (λ x. Some x) (stale-value (is_among frame p.tables) frame p) ∙ e
 
 front-present : (v : ℕ) (ps : List Past) (o : Option Past) → of_value v ps ≡ o → present_value (with_front v ps o) ≡ Some v
 front-present v ps None e = refl

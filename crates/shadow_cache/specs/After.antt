@@ -24,7 +24,7 @@ value_of (p ∷ ps) = Some p.cr3
 
 abbrev pub mark_of : List Pair → Bool
 mark_of [] = false
-mark_of (p ∷ ps) = p.marked
+mark_of (p ∷ ps) = p.stale
 
 abbrev pub noted_of : List Pair → ℕ → Bool
 noted_of [] frame = false
@@ -52,7 +52,7 @@ noted_in (p ∷ ps) frame = record p { tables = slice_set p.tables frame true } 
 
 -- a pair whose tables were read from the frame is marked, and has it no longer among them
 abbrev pub marked_by : Pair → ℕ → Pair
-marked_by p frame = if reads p frame then record p { tables = slice_set p.tables frame false; marked = true } else p
+marked_by p frame = if reads p frame then record p { tables = slice_set p.tables frame false; stale = true } else p
 
 -- a frame was written: so is the present pair, and each other whose tables were read from it leaves
 abbrev pub written_in : List Pair → ℕ → List Pair
@@ -62,7 +62,7 @@ written_in (p ∷ ps) frame = marked_by p frame ∷ filter (λ q. not (reads q f
 -- one unmarked pair of the present value, whose tables weren't read yet
 abbrev pub emptied : List Pair → List Pair
 emptied [] = []
-emptied (p ∷ ps) = record p { tables = no_tables; marked = false } ∷ []
+emptied (p ∷ ps) = record p { tables = no_tables; stale = false } ∷ []
 
 -- the pairs of a new value
 pub record IsStart (ps : List Pair) (m : List ℕ) (cr3 : ℕ) : Type 0 where

@@ -1,13 +1,13 @@
 -- Pairs that aren't the present one, as what is kept for values of CR3 that may be loaded again.
 use Rattle.std.specs.Prelude.{ℕ, List, [], ◌∷◌}
-use Rattle.shadow_tables.specs.Aside.{Aside}
+use Rattle.shadow_tables.specs.OtherRoot.{OtherRoot}
 use Rattle.shadow_tables.specs.Slots.{slot_at}
 use Rattle.shadow_cache.specs.Pairs.{reads}
 use Rattle.shadow_cache.specs.declared.pair.Pair.{Pair}
 
-abbrev pub aside_of : Pair → List ℕ → Aside
+abbrev pub aside_of : Pair → List ℕ → OtherRoot
 aside_of p m = record { cr3 = p.cr3; tables = reads p; slots = slot_at p.shadow m }
 
-abbrev pub asides_of : List Pair → List ℕ → List Aside
+abbrev pub asides_of : List Pair → List ℕ → List OtherRoot
 asides_of [] m = []
 asides_of (p ∷ ps) m = aside_of p m ∷ asides_of ps m

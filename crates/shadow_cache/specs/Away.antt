@@ -55,7 +55,7 @@ pub record IsPresent (p : Past) (ps : List Past) : Type 0 where
 -- no frame of its tables was written and not all were dropped in between, and at most seven values were loaded.
 abbrev pub PairsComeBack : Type 0
 PairsComeBack =
-    (value other : ℕ) (before away : List RootsCall) (values : List ℕ) (p : Past) → IsPresent p (pairs_after value before) → p.marked ≡ false
+    (value other : ℕ) (before away : List RootsCall) (values : List ℕ) (p : Past) → IsPresent p (pairs_after value before) → p.stale ≡ false
     → AllLeaveBe p (Switch other ∷ away) → LoadsAmong values (Switch other ∷ away) → length values ≤ 7
     → IsPresent p (pairs_after value (before ++ Switch other ∷ away ++ Switch p.value ∷ []))
 
@@ -84,7 +84,7 @@ IsNotLoaded value (Switch other ∷ cs) = (value ≢ other) × IsNotLoaded value
 abbrev pub PairsLeave : Type 0
 PairsLeave =
     (value other : ℕ) (before away : List RootsCall) (p : Past) → IsPresent p (pairs_after value before)
-    → IsNotLoaded p.value (Switch other ∷ away) → (p.marked ≡ true) ⊎ HasCause p away
+    → IsNotLoaded p.value (Switch other ∷ away) → (p.stale ≡ true) ⊎ HasCause p away
     → IsPresent (begun p.value) (pairs_after value (before ++ Switch other ∷ away ++ Switch p.value ∷ []))
 
 abbrev pub is_of_value : ℕ → Option Past → Bool
@@ -114,6 +114,6 @@ OthersLeaveOrStay =
 abbrev pub PresentLeavesOrStays : Type 0
 PresentLeavesOrStays =
     (value : ℕ) (calls : List RootsCall) (other : ℕ) (present : Past) (others : List Past) → pairs_after value calls ≡ present ∷ others
-    → (present.marked ≡ true → present.value ≢ other → has_value present.value (pairs_after value (calls ++ Switch other ∷ [])) ≡ false)
-    × (present.marked ≡ true → IsPresent (begun present.value) (pairs_after value (calls ++ Switch present.value ∷ [])))
-    × (present.marked ≡ false → of_value present.value (pairs_after value (calls ++ Switch other ∷ [])) ≡ Some present)
+    → (present.stale ≡ true → present.value ≢ other → has_value present.value (pairs_after value (calls ++ Switch other ∷ [])) ≡ false)
+    × (present.stale ≡ true → IsPresent (begun present.value) (pairs_after value (calls ++ Switch present.value ∷ [])))
+    × (present.stale ≡ false → of_value present.value (pairs_after value (calls ++ Switch other ∷ [])) ≡ Some present)

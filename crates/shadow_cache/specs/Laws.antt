@@ -23,7 +23,7 @@ use Rattle.shadow_tables.specs.Laws as below
 use Rattle.shadow_tables.specs.Laws.Views.{in-root, held-stays, slot_at-stays, IsShadow-stays}
 use Rattle.shadow_tables.specs.Laws.Props.{IsShadow-prop}
 use Rattle.shadow_cache.specs.Pairs.{reads, any_reads, places_from, tables_of, frames_of, AreShadows, AreSized, BarsWrites, AllBarWrites, AreUnmarked, OthersUnmarked, IsRoots}
-use Rattle.shadow_tables.specs.Aside.{AreSame, AllFit, AllBarred, AllTracked}
+use Rattle.shadow_tables.specs.OtherRoot.{AreSame, AllFit, AllBarred, AllTracked}
 use Rattle.shadow_cache.specs.Asides.{asides_of}
 use Rattle.shadow_tables.specs.Laws.Openings.{only-same, held-size}
 use Rattle.shadow_tables.proofs.Asides.{among-append}
@@ -51,7 +51,7 @@ AllBarWrites-prop test (p ∷ ps) m =
 
 AreUnmarked-prop : (ps : List Pair) → IsProp (AreUnmarked ps)
 AreUnmarked-prop [] = Unit-prop
-AreUnmarked-prop (p ∷ ps) = let here : IsProp (p.marked ≡ false) = Prim.hlevel props in ×_prop here (AreUnmarked-prop ps)
+AreUnmarked-prop (p ∷ ps) = let here : IsProp (p.stale ≡ false) = Prim.hlevel props in ×_prop here (AreUnmarked-prop ps)
 
 OthersUnmarked-prop : (ps : List Pair) → IsProp (OthersUnmarked ps)
 OthersUnmarked-prop [] = Unit-prop
@@ -203,40 +203,40 @@ pub same-kept : (ps : List Pair) (m m' : List ℕ) → AreKept ps m m' → AreSa
 same-kept [] m m' k = tt
 same-kept (p ∷ ps) m m' k = (record { cr3 = refl; tables = λ f. refl; slots = k.2 }, same-kept ps m m' k.3)
 
-pub same-asides : (p : Pair) (ps : List Pair) (m m' : List ℕ) → ∥ IsRoots (p ∷ ps) m ∥₁ → SameIn (frames_of (p ∷ ps) m) m m' → AreSame (asides_of ps m) (asides_of ps m')
-same-asides p ps m m' h e = same-kept ps m m' (kept-same (p ∷ ps) m m' (had (p ∷ ps) m h).shadows e).3
+pub same-other_roots : (p : Pair) (ps : List Pair) (m m' : List ℕ) → ∥ IsRoots (p ∷ ps) m ∥₁ → SameIn (frames_of (p ∷ ps) m) m m' → AreSame (asides_of ps m) (asides_of ps m')
+same-other_roots p ps m m' h e = same-kept ps m m' (kept-same (p ∷ ps) m m' (had (p ∷ ps) m h).shadows e).3
 
 all-fit : (ps : List Pair) (m : List ℕ) → AreShadows ps m → AllFit (asides_of ps m)
 all-fit [] m h = tt
 all-fit (p ∷ ps) m h = (λ page slot l e. below.fits p.shadow m page slot (merely h.0) l e, all-fit ps m h.1)
 
-pub asides-fit : (p : Pair) (ps : List Pair) (m : List ℕ) → ∥ IsRoots (p ∷ ps) m ∥₁ → AllFit (asides_of ps m)
-asides-fit p ps m h = all-fit ps m (had (p ∷ ps) m h).shadows.1
+pub other_roots-fit : (p : Pair) (ps : List Pair) (m : List ℕ) → ∥ IsRoots (p ∷ ps) m ∥₁ → AllFit (asides_of ps m)
+other_roots-fit p ps m h = all-fit ps m (had (p ∷ ps) m h).shadows.1
 
 all-barred : (t u : ℕ → Bool) (ps : List Pair) (m : List ℕ) → ((f : ℕ) → u f ≡ t f) → AllBarWrites t ps m → AllBarred u (asides_of ps m)
 all-barred t u [] m i h = tt
 all-barred t u (p ∷ ps) m i h = (λ page slot l e y. h.0 page slot l e (sym (i slot.entry.frame) ∙ y), all-barred t u ps m i h.1)
 
-pub asides-barred : (p : Pair) (ps : List Pair) (m : List ℕ) → ∥ IsRoots (p ∷ ps) m ∥₁ → AllBarred (λ f. is_among f (tables_of (p ∷ ps))) (asides_of ps m)
-asides-barred p ps m h = all-barred (any_reads (p ∷ ps)) (λ f. is_among f (tables_of (p ∷ ps))) ps m (λ f. tables-any (p ∷ ps) f) (had (p ∷ ps) m h).barred.1
+pub other_roots-barred : (p : Pair) (ps : List Pair) (m : List ℕ) → ∥ IsRoots (p ∷ ps) m ∥₁ → AllBarred (λ f. is_among f (tables_of (p ∷ ps))) (asides_of ps m)
+other_roots-barred p ps m h = all-barred (any_reads (p ∷ ps)) (λ f. is_among f (tables_of (p ∷ ps))) ps m (λ f. tables-any (p ∷ ps) f) (had (p ∷ ps) m h).barred.1
 
-pub noted-tracked : (p : Pair) (ps : List Pair) (frame : ℕ) → reads p frame ≡ true → is_among frame (tables_of (p ∷ ps)) ≡ true
-noted-tracked p ps frame e = tables-any (p ∷ ps) frame ∙ ap (λ b. b || any_reads ps frame) e
+pub read_from-write_protected : (p : Pair) (ps : List Pair) (frame : ℕ) → reads p frame ≡ true → is_among frame (tables_of (p ∷ ps)) ≡ true
+read_from-write_protected p ps frame e = tables-any (p ∷ ps) frame ∙ ap (λ b. b || any_reads ps frame) e
 
-all-tracked : (t : ℕ → Bool) (ps : List Pair) (m : List ℕ) → ((f : ℕ) → any_reads ps f ≡ true → t f ≡ true) → AllTracked t (asides_of ps m)
-all-tracked t [] m h = tt
-all-tracked t (p ∷ ps) m h =
-    (λ f e. h f (ap (λ b. b || any_reads ps f) e), all-tracked t ps m (λ f e. h f (ap (λ b. reads p f || b) e ∙ or-true (reads p f))))
+all-write_protected : (t : ℕ → Bool) (ps : List Pair) (m : List ℕ) → ((f : ℕ) → any_reads ps f ≡ true → t f ≡ true) → AllTracked t (asides_of ps m)
+all-write_protected t [] m h = tt
+all-write_protected t (p ∷ ps) m h =
+    (λ f e. h f (ap (λ b. b || any_reads ps f) e), all-write_protected t ps m (λ f e. h f (ap (λ b. reads p f || b) e ∙ or-true (reads p f))))
 
-pub asides-tracked : (p : Pair) (ps : List Pair) (m : List ℕ) → AllTracked (λ f. is_among f (tables_of (p ∷ ps))) (asides_of ps m)
-asides-tracked p ps m = all-tracked (λ f. is_among f (tables_of (p ∷ ps))) ps m (λ f e. tables-any (p ∷ ps) f ∙ (ap (λ b. reads p f || b) e ∙ or-true (reads p f)))
+pub other_roots-write_protected : (p : Pair) (ps : List Pair) (m : List ℕ) → AllTracked (λ f. is_among f (tables_of (p ∷ ps))) (asides_of ps m)
+other_roots-write_protected p ps m = all-write_protected (λ f. is_among f (tables_of (p ∷ ps))) ps m (λ f e. tables-any (p ∷ ps) f ∙ (ap (λ b. reads p f || b) e ∙ or-true (reads p f)))
 
-asides-length : (ps : List Pair) (m : List ℕ) → length (asides_of ps m) ≡ length ps
-asides-length [] m = refl
-asides-length (p ∷ ps) m = ap suc (asides-length ps m)
+other_roots-length : (ps : List Pair) (m : List ℕ) → length (asides_of ps m) ≡ length ps
+other_roots-length [] m = refl
+other_roots-length (p ∷ ps) m = ap suc (other_roots-length ps m)
 
-pub few-asides : (p : Pair) (ps : List Pair) (m : List ℕ) → ∥ IsRoots (p ∷ ps) m ∥₁ → length (asides_of ps m) ≤ 7
-few-asides p ps m h = let few = (had (p ∷ ps) m h).few in let e = asides-length ps m in omega (arith, few, e)
+pub few-other_roots : (p : Pair) (ps : List Pair) (m : List ℕ) → ∥ IsRoots (p ∷ ps) m ∥₁ → length (asides_of ps m) ≤ 7
+few-other_roots p ps m h = let few = (had (p ∷ ps) m h).few in let e = other_roots-length ps m in omega (arith, few, e)
 
 -- ---- for which directory indices tables are there
 
@@ -244,12 +244,12 @@ all-same : (indices : ℕ → Bool) (ps : List Pair) (m m' : List ℕ) → SameI
 all-same indices [] m m' e h = tt
 all-same indices (p ∷ ps) m m' e h = (only-same indices p.shadow m m' (same-first p ps m m' e) h.0, all-same indices ps m m' (same-rest p ps m m' e) h.1)
 
-pub same-opened : (ps : List Pair) (m m' : List ℕ) (indices : ℕ → Bool) → SameIn (frames_of ps m) m m' → AllOpenedOnly indices ps m → AllOpenedOnly indices ps m'
-same-opened ps m m' indices e h = all-same indices ps m m' e h
+pub same-has_tables_under : (ps : List Pair) (m m' : List ℕ) (indices : ℕ → Bool) → SameIn (frames_of ps m) m m' → AllOpenedOnly indices ps m → AllOpenedOnly indices ps m'
+same-has_tables_under ps m m' indices e h = all-same indices ps m m' e h
 
-pub wider-opened : (ps : List Pair) (m : List ℕ) (indices more : ℕ → Bool) → ((index : ℕ) → indices index ≡ true → more index ≡ true) → AllOpenedOnly indices ps m → AllOpenedOnly more ps m
-wider-opened [] m indices more w h = tt
-wider-opened (p ∷ ps) m indices more w h = (λ side index l t. w index (h.0 side index l t), wider-opened ps m indices more w h.1)
+pub wider-has_tables_under : (ps : List Pair) (m : List ℕ) (indices more : ℕ → Bool) → ((index : ℕ) → indices index ≡ true → more index ≡ true) → AllOpenedOnly indices ps m → AllOpenedOnly more ps m
+wider-has_tables_under [] m indices more w h = tt
+wider-has_tables_under (p ∷ ps) m indices more w h = (λ side index l t. w index (h.0 side index l t), wider-has_tables_under ps m indices more w h.1)
 
 all-sized : (ps : List Pair) (m : List ℕ) (indices : ℕ → Bool) (xs : List ℕ) → AllOpenedOnly indices ps m → ((index : ℕ) → index < 1024 → indices index ≡ true → is_member eqb xs index ≡ true) → (n : ℕ) → length ps ≤ n
     → length (frames_of ps m) ≤ n * (2 + 2 * distinct_count eqb xs)

@@ -51,7 +51,7 @@ AllBarWrites test (p ∷ ps) m = BarsWrites test (slot_at p.shadow m) × AllBarW
 
 abbrev pub AreUnmarked : List Pair → Type 0
 AreUnmarked [] = Unit {0}
-AreUnmarked (p ∷ ps) = (p.marked ≡ false) × AreUnmarked ps
+AreUnmarked (p ∷ ps) = (p.stale ≡ false) × AreUnmarked ps
 
 -- only the present pair may be marked
 abbrev pub OthersUnmarked : List Pair → Type 0

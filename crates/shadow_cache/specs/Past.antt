@@ -27,11 +27,11 @@ pub record Past : Type 0 where
   pub calls : List MadeCall
   pub places : List DirSlot
   pub tables : List ℕ
-  pub marked : Bool
+  pub stale : Bool
 
 -- a pair as it begins
 abbrev pub begun : ℕ → Past
-begun value = record { value = value; calls = []; places = []; tables = []; marked = false }
+begun value = record { value = value; calls = []; places = []; tables = []; stale = false }
 
 abbrev pub is_place : DirSlot → List DirSlot → Bool
 is_place p ps = list_any (λ q. is_side p.side q.side && (p.index == q.index)) ps
@@ -50,7 +50,7 @@ all_but frame (f ∷ fs) = if frame == f then all_but frame fs else f ∷ all_bu
 
 -- a pair that has the frame among its tables is marked, and loses it from them
 abbrev pub marked_at : ℕ → Past → Past
-marked_at frame p = if is_among frame p.tables then record p { tables = all_but frame p.tables; marked = true } else p
+marked_at frame p = if is_among frame p.tables then record p { tables = all_but frame p.tables; stale = true } else p
 
 abbrev pub and_then : Past → ℕ → Call → Past
 and_then p moment call = record p { calls = p.calls ++ record { moment = moment; call = call } ∷ [] }
@@ -72,7 +72,7 @@ after_shared moment (Written frame) (p ∷ ps) = marked_at frame p ∷ filter (�
 -- a marked present pair leaves
 abbrev pub unmarked : List Past → List Past
 unmarked [] = []
-unmarked (p ∷ ps) = if p.marked then ps else p ∷ ps
+unmarked (p ∷ ps) = if p.stale then ps else p ∷ ps
 
 -- the pair of this value
 abbrev pub of_value : ℕ → List Past → Option Past

@@ -69,7 +69,7 @@ pub record IsKeptAs (value : ℕ) (calls : List RootsCall) (done : List MadeCall
 pub record IsPast (value : ℕ) (calls : List RootsCall) (past : Past) (p : Pair) (m : List ℕ) : Type 0 where
   pub value_of : p.cr3 ≡ past.value
   pub tables : (frame : ℕ) → reads p frame ≡ is_among frame past.tables
-  pub mark : p.marked ≡ past.marked
+  pub mark : p.stale ≡ past.stale
   pub slots : (page : ℕ) → page < 2 ^ 20 → IsKeptAs value calls past.calls page (slot_at p.shadow m page)
   pub frames : length (held p.shadow m) ≤ 2 + length past.places
 

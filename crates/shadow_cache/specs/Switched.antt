@@ -10,12 +10,12 @@ pub record IsFresh (p : Pair) (m : List ℕ) (cr3 : ℕ) : Type 0 where
   pub value : p.cr3 ≡ cr3
   pub empty : IsEmpty p.shadow m
   pub tables : p.tables ≡ no_tables
-  pub unmarked : p.marked ≡ false
+  pub unmarked : p.stale ≡ false
 
 -- a marked present pair leaves
 abbrev pub staying_pairs : List Pair → List Pair
 staying_pairs [] = []
-staying_pairs (p ∷ ps) = if p.marked then ps else p ∷ ps
+staying_pairs (p ∷ ps) = if p.stale then ps else p ∷ ps
 
 -- the pair in this place comes to the front
 pub record ComesBack (ps ps' : List Pair) (m m' : List ℕ) (i : ℕ) : Type 0 where

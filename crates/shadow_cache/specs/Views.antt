@@ -1,6 +1,6 @@
 -- What `Roots` keep over a memory, in the words of the traits that they meet.
 use Rattle.std.specs.Prelude.{ℕ, List, Bool, Option, Some}
-use Rattle.shadow_tables.specs.Aside.{Aside}
+use Rattle.shadow_tables.specs.OtherRoot.{OtherRoot}
 use Rattle.shadow_tables.specs.Slots.{Slot, slot_at}
 use Rattle.shadow_cache.specs.Asides.{asides_of}
 use Rattle.shadow_cache.specs.Opening.{AllOpenedOnly}
@@ -17,17 +17,17 @@ frames r m = frames_of (pairs_of r) m
 abbrev pub slots : Roots → List ℕ → ℕ → Option Slot
 slots r m page = slot_at r.present.shadow m page
 
-abbrev pub noted : Roots → ℕ → Bool
-noted r frame = reads r.present frame
+abbrev pub read_from : Roots → ℕ → Bool
+read_from r frame = reads r.present frame
 
-abbrev pub marked : Roots → Bool
-marked r = r.present.marked
+abbrev pub stale : Roots → Bool
+stale r = r.present.stale
 
 abbrev pub value : Roots → Option ℕ
 value r = Some r.present.cr3
 
-abbrev pub opened : Roots → List ℕ → (ℕ → Bool) → Type 0
-opened r m indices = AllOpenedOnly indices (pairs_of r) m
+abbrev pub has_tables_under : Roots → List ℕ → (ℕ → Bool) → Type 0
+has_tables_under r m indices = AllOpenedOnly indices (pairs_of r) m
 
-abbrev pub asides : Roots → List ℕ → List Aside
-asides r m = asides_of r.others m
+abbrev pub other_roots : Roots → List ℕ → List OtherRoot
+other_roots r m = asides_of r.others m

@@ -24,7 +24,7 @@ pub struct Pair {
     /// By its number, whether the guest's tables were read from a frame.
     pub tables: [bool; FRAMES],
     /// A table of it was written since.
-    pub marked: bool,
+    pub stale: bool,
 }
 
 impl Pair {
@@ -37,7 +37,7 @@ impl Pair {
         ensures empty { IsEmpty result.shadow ram.new }
         ensures entries { entries_of (slot_at result.shadow ram.new) ≡ no_entries }
         ensures tables { result.tables ≡ no_tables }
-        ensures marked { result.marked ≡ false }
+        ensures stale { result.stale ≡ false }
         ensures owns { Owns pool.new ram.new (held result.shadow ram.new) }
         ensures moves { Moves pool.old pool.new ram.old ram.new [] (held result.shadow ram.new) }
     {
@@ -45,7 +45,7 @@ impl Pair {
             cr3,
             shadow: Shadow::new(ram, pool),
             tables: [false; FRAMES],
-            marked: false,
+            stale: false,
         }
     }
 
@@ -56,7 +56,7 @@ impl Pair {
         ensures cr3 { self.new.cr3 ≡ cr3 }
         ensures empty { IsEmpty self.new.shadow ram.new }
         ensures tables { self.new.tables ≡ no_tables }
-        ensures marked { self.new.marked ≡ false }
+        ensures stale { self.new.stale ≡ false }
         ensures moves { Moves pool.old pool.new ram.old ram.new [] (held self.new.shadow ram.new) }
     {
         self.cr3 = cr3;
@@ -77,10 +77,10 @@ impl Pair {
     /// Makes the pair as new, with the same views.
     #[tactic(auto, unfolding(crate::specs::Pairs::no_tables))]
     pub fn renew(&mut self)
-        ensures { self.new ≡ record self.old { tables = no_tables; marked = false } }
+        ensures { self.new ≡ record self.old { tables = no_tables; stale = false } }
     {
         self.tables = [false; FRAMES];
-        self.marked = false;
+        self.stale = false;
     }
 
     /// The guest's tables were read from this frame too.
@@ -97,7 +97,7 @@ impl Pair {
     {
         if self.reads(frame) {
             self.tables[frame as usize] = false;
-            self.marked = true;
+            self.stale = true;
         }
     }
 }

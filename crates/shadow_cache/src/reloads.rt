@@ -7,7 +7,7 @@ ghost use Rattle.shadow_tables.specs.declared.words.Side.{Side};
 ghost use Rattle.std.specs.Set.{is_member, distinct_count};
 ghost use Rattle.frame_pool.specs.Pool.{free_list};
 ghost use Rattle.frame_pool.specs.Held.{Owns, Moves};
-ghost use Rattle.shadow_tables.specs.Aside.{IsSame, AreSame};
+ghost use Rattle.shadow_tables.specs.OtherRoot.{IsSame, AreSame};
 ghost use Rattle.shadow_tables.specs.Known.{KnowsNothing};
 ghost use Rattle.shadow_tables.specs.Slots.{ArePart};
 ghost use Rattle.shadow_cache.specs.Laws as laws;
@@ -29,15 +29,16 @@ pub trait Reloads: Shadows {
         requires free { 2 ≤ length (free_list pool.old ram.old) }
         ensures stands { ∥ Self.stands self.new ram.new ∥₁ }
         ensures value { Self.value self.new ≡ Some cr3 }
-        ensures marked { Self.marked self.new ≡ false }
-        ensures present { IsSame (coming cr3 (put_by (Self.value self.old) (Self.marked self.old) (Self.noted self.old)
-            (Self.slots self.old ram.old) (Self.asides self.old ram.old)))
-            (record { cr3 = cr3; tables = Self.noted self.new; slots = Self.slots self.new ram.new }) }
-        ensures asides { AreSame (staying cr3 (put_by (Self.value self.old) (Self.marked self.old) (Self.noted self.old)
-            (Self.slots self.old ram.old) (Self.asides self.old ram.old)))
-            (Self.asides self.new ram.new) }
-        ensures tracked { ArePart (Self.tracked self.new) (Self.tracked self.old) }
-        ensures opened { (indices : ℕ → Bool) → Self.opened self.old ram.old indices → Self.opened self.new ram.new indices }
+        ensures stale { Self.stale self.new ≡ false }
+        ensures present { IsSame (coming cr3 (put_by (Self.value self.old) (Self.stale self.old) (Self.read_from self.old)
+            (Self.slots self.old ram.old) (Self.other_roots self.old ram.old)))
+            (record { cr3 = cr3; tables = Self.read_from self.new; slots = Self.slots self.new ram.new }) }
+        ensures other_roots { AreSame (staying cr3 (put_by (Self.value self.old) (Self.stale self.old) (Self.read_from self.old)
+            (Self.slots self.old ram.old) (Self.other_roots self.old ram.old)))
+            (Self.other_roots self.new ram.new) }
+        ensures write_protected { ArePart (Self.write_protected self.new) (Self.write_protected self.old) }
+        ensures has_tables_under { (indices : ℕ → Bool) → Self.has_tables_under self.old ram.old indices
+            → Self.has_tables_under self.new ram.new indices }
         ensures owns { Owns pool.new ram.new (Self.frames self.new ram.new) }
         ensures moves { Moves pool.old pool.new ram.old ram.new (Self.frames self.old ram.old) (Self.frames self.new ram.new) };
 
@@ -48,20 +49,20 @@ pub trait Reloads: Shadows {
         ensures stands { ∥ Self.stands self.new ram.new ∥₁ }
         ensures none { (page : ℕ) → page < 2 ^ 20 → Self.slots self.new ram.new page ≡ None }
         ensures entries { entries_of (Self.slots self.new ram.new) ≡ empty }
-        ensures known { KnowsNothing Self.noted Self.marked Self.value Self.tracked self.old self.new }
-        ensures asides { Self.asides self.new ram.new ≡ [] }
-        ensures opened { (indices : ℕ → Bool) → Self.opened self.new ram.new indices }
+        ensures known { KnowsNothing Self.read_from Self.stale Self.value Self.write_protected self.old self.new }
+        ensures other_roots { Self.other_roots self.new ram.new ≡ [] }
+        ensures has_tables_under { (indices : ℕ → Bool) → Self.has_tables_under self.new ram.new indices }
         ensures roots { (side : Side) → Self.directory self.new side ≡ Self.directory self.old side }
         ensures two { length (Self.frames self.new ram.new) ≡ 2 }
         ensures owns { Owns pool.new ram.new (Self.frames self.new ram.new) }
         ensures moves { Moves pool.old pool.new ram.old ram.new (Self.frames self.old ram.old) (Self.frames self.new ram.new) };
 
     /// At most eight values are kept, the present one among them.
-    ghost few: { (s : Self) (m : List ℕ) → ∥ Self.stands s m ∥₁ → length (Self.asides s m) ≤ 7 };
+    ghost few: { (s : Self) (m : List ℕ) → ∥ Self.stands s m ∥₁ → length (Self.other_roots s m) ≤ 7 };
 
     /// Each of them holds two frames, and at most one more in each view for a directory index for which it has a table: so
     /// at most 400 where these are at most 24.
-    ghost sized: { (s : Self) (m : List ℕ) (indices : ℕ → Bool) (among : List ℕ) → ∥ Self.stands s m ∥₁ → Self.opened s m indices
+    ghost sized: { (s : Self) (m : List ℕ) (indices : ℕ → Bool) (among : List ℕ) → ∥ Self.stands s m ∥₁ → Self.has_tables_under s m indices
         → ((index : ℕ) → index < 1024 → indices index ≡ true → is_member eqb among index ≡ true)
         → length (Self.frames s m) ≤ 8 * (2 + 2 * distinct_count eqb among) };
 }
@@ -69,7 +70,7 @@ pub trait Reloads: Shadows {
 impl Reloads for Roots {
     ghost use Rattle.shadow_cache.specs.Roots.{pairs_of};
 
-    ghost few = { λ r m h. laws.few-asides r.present r.others m h };
+    ghost few = { λ r m h. laws.few-other_roots r.present r.others m h };
 
     ghost sized = { λ r m indices among h o all. laws.frames-sized r.present r.others m indices among h o all };
 

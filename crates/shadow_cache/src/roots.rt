@@ -52,7 +52,7 @@ impl Roots {
         ensures entries { IfOk result (λ r. entries_of (slots_of (pairs_of r) ram.new) ≡ empty) }
         ensures begins { IfOk result (λ r. BeginsUnder cr3 (pairs_of r)) }
         ensures alone { IfOk result (λ r. asides_of (beside (pairs_of r)) ram.new ≡ []) }
-        ensures opened { (indices : ℕ → Bool) → IfOk result (λ r. AllOpenedOnly indices (pairs_of r) ram.new) }
+        ensures has_tables_under { (indices : ℕ → Bool) → IfOk result (λ r. AllOpenedOnly indices (pairs_of r) ram.new) }
     {
         let others = Pairs::new(alloc)?;
         let present = Pair::new(ram, pool, cr3);
@@ -71,7 +71,7 @@ impl Roots {
             (frames_of (pairs_of self.old) ram.old) (frames_of (pairs_of self.new) ram.new) }
         ensures told { GoesOn (Switch cr3) (pairs_of self.old) (pairs_of self.new) ram.old ram.new }
     {
-        if self.present.cr3 == cr3 && !self.present.marked {
+        if self.present.cr3 == cr3 && !self.present.stale {
             return;
         }
         put_by(&mut self.others, ram, pool, &self.present);
@@ -184,7 +184,7 @@ impl Roots {
         ensures stands { ∥ IsRoots (pairs_of self.new) ram.new ∥₁ }
         ensures none { (page : ℕ) → page < 2 ^ 20 → slots_of (pairs_of self.new) ram.new page ≡ None }
         ensures entries { entries_of (slots_of (pairs_of self.new) ram.new) ≡ empty }
-        ensures tracked { ArePart (tables_of (pairs_of self.new)) (tables_of (pairs_of self.old)) }
+        ensures write_protected { ArePart (tables_of (pairs_of self.new)) (tables_of (pairs_of self.old)) }
         ensures roots { (side : Side) → directory_of (pairs_of self.new) side ≡ directory_of (pairs_of self.old) side }
         ensures two { length (frames_of (pairs_of self.new) ram.new) ≡ 2 }
         ensures owns { Owns pool.new ram.new (frames_of (pairs_of self.new) ram.new) }
@@ -206,7 +206,7 @@ impl Roots {
         ensures loses { AllLoseWrites (pairs_of self.old) ram.old ram.new frame }
         ensures stands { ∥ IsRoots (pairs_of self.new) ram.new ∥₁ }
         ensures bars { BarsSlots (pairs_of self.old) (pairs_of self.new) ram.old ram.new }
-        ensures tracked { ArePart (tables_of (pairs_of self.new)) (frame ∷ (tables_of (pairs_of self.old))) }
+        ensures write_protected { ArePart (tables_of (pairs_of self.new)) (frame ∷ (tables_of (pairs_of self.old))) }
         ensures roots { (side : Side) → directory_of (pairs_of self.new) side ≡ directory_of (pairs_of self.old) side }
         ensures frames { frames_of (pairs_of self.new) ram.new ≡ frames_of (pairs_of self.old) ram.old }
         ensures memory { Writes (frames_of (pairs_of self.old) ram.old) ram.old ram.new }
@@ -250,17 +250,17 @@ impl Shadows for Roots {
 
     ghost frames = { λ r m. frames_of (pairs_of r) m };
 
-    ghost tracked = { λ r. tables_of (pairs_of r) };
+    ghost write_protected = { λ r. tables_of (pairs_of r) };
 
-    ghost noted = { λ r f. reads r.present f };
+    ghost read_from = { λ r f. reads r.present f };
 
-    ghost marked = { λ r. r.present.marked };
+    ghost stale = { λ r. r.present.stale };
 
     ghost value = { λ r. Some r.present.cr3 };
 
-    ghost asides = { λ r m. asides_of r.others m };
+    ghost other_roots = { λ r m. asides_of r.others m };
 
-    ghost opened = { λ r m indices. AllOpenedOnly indices (pairs_of r) m };
+    ghost has_tables_under = { λ r m indices. AllOpenedOnly indices (pairs_of r) m };
 
     ghost slots = { λ r m page. slot_at r.present.shadow m page };
 
@@ -278,13 +278,13 @@ impl Shadows for Roots {
 
     ghost barred = { λ r m page slot h l e t. laws.barred r.present r.others m page slot h l e t };
 
-    ghost asides_fit = { λ r m h. laws.asides-fit r.present r.others m h };
+    ghost other_roots_fit = { λ r m h. laws.other_roots-fit r.present r.others m h };
 
-    ghost asides_barred = { λ r m h. laws.asides-barred r.present r.others m h };
+    ghost other_roots_barred = { λ r m h. laws.other_roots-barred r.present r.others m h };
 
-    ghost noted_tracked = { λ r frame unmarked n. laws.noted-tracked r.present r.others frame n };
+    ghost read_from_is_protected = { λ r frame unmarked n. laws.read_from-write_protected r.present r.others frame n };
 
-    ghost asides_tracked = { λ r m. laws.asides-tracked r.present r.others m };
+    ghost other_roots_protected = { λ r m. laws.other_roots-write_protected r.present r.others m };
 
     ghost stays = { λ r m m' h e. laws.stays (pairs_of r) m m' h e };
 
@@ -292,11 +292,11 @@ impl Shadows for Roots {
 
     ghost same_slots = { λ r m m' h e. laws.same-slots r.present r.others m m' h e };
 
-    ghost same_asides = { λ r m m' h e. laws.same-asides r.present r.others m m' h e };
+    ghost same_other_roots = { λ r m m' h e. laws.same-other_roots r.present r.others m m' h e };
 
-    ghost same_opened = { λ r m m' indices h e o. laws.same-opened (pairs_of r) m m' indices e o };
+    ghost same_tables_under = { λ r m m' indices h e o. laws.same-has_tables_under (pairs_of r) m m' indices e o };
 
-    ghost wider = { λ r m indices more w o. laws.wider-opened (pairs_of r) m indices more w o };
+    ghost wider = { λ r m indices more w o. laws.wider-has_tables_under (pairs_of r) m indices more w o };
 
     fn root(&self, side: Side) -> u32 {
         self.present.shadow.root(side)

@@ -24,7 +24,7 @@ pub fn put_by(others: &mut Pairs, ram: &mut Ram, pool: &mut Pool, before: &Pair)
     ensures fewer { length (free_list pool.old ram.old) ≤ length (free_list pool.new ram.new) }
     ensures moves { Moves pool.old pool.new ram.old ram.new (frames_of (before.now ∷ others.old) ram.old) (frames_of others.new ram.new) }
 {
-    if before.marked {
+    if before.stale {
         before.shadow.close(ram, pool);
     } else {
         others.push(*before);

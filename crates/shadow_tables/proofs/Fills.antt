@@ -16,7 +16,7 @@ use Rattle.frame_pool.proofs.Held.{Owns-none, Moves-take, Owns-moves, Holds-from
 use Rattle.shadow_views.proofs.Counts.{owned-root, owned-cons, tables-none}
 use Rattle.shadow_views.proofs.Changes.{at-none, high, zero-dir}
 use Rattle.shadow_tables.specs.Laws.Views.{in-kernel, in-user, slot-same, Holds-along, word_in, at-side, one-none, none-one}
-use Rattle.shadow_tables.proofs.Packed.{slot_of-word_of, word_of-some, word_of-marked}
+use Rattle.shadow_tables.proofs.Packed.{slot_of-word_of, word_of-some, word_of-stale}
 
 -- ---- the words of a page
 
@@ -200,7 +200,7 @@ module _ (s : Shadow) (m m1 m2 m3 : List ℕ) (b : Bool) (side : Side) (entry : 
         | inl x ↦ elim (eqb_tells t (root_of s side)) [
           | inl y ↦
               let e : at m3 t q ≡ word_of (filled b side entry wp) = ap (λ v. at m3 v q) y.1 ∙ ap (at m3 (root_of s side)) x.1 ∙ a.there in
-              subst IsMarked (sym e) (word_of-marked b side entry wp small)
+              subst IsMarked (sym e) (word_of-stale b side entry wp small)
           | inr y ↦ absurd (ne (ap (at m3 t) x.1 ∙ a.others t entry.page i l (λ v z. y.1 v) ∙ w t entry.page i l ∙ fill-zero t i))
         ]
       ]
@@ -230,13 +230,13 @@ module _ (s : Shadow) (p : Pool) (m m1 : List ℕ) (o : Owns p m (held s m)) (e 
   pub dropped-free : 1 ≤ length (free_list p m) → 1 ≤ length (free_list p m1)
   dropped-free h = subst (λ (gs : List ℕ). 1 ≤ length gs) (sym (free_list-writes p m m1 (held s m) o w)) h
 
-  pub opened-owns : (p' : Pool) (m2 : List ℕ) (r d : ℕ) → Opens p p' m1 m2 (roots s) r d → Owns p' m2 (held s m2)
-  opened-owns p' m2 r d v = Owns-moves p p' m1 m2 (held s m1) (held s m2) dropped-owns v.moves
+  pub has_tables_under-owns : (p' : Pool) (m2 : List ℕ) (r d : ℕ) → Opens p p' m1 m2 (roots s) r d → Owns p' m2 (held s m2)
+  has_tables_under-owns p' m2 r d v = Owns-moves p p' m1 m2 (held s m1) (held s m2) dropped-owns v.moves
 
   pub fill-takes : (p' : Pool) (m2 m3 : List ℕ) (r d page v : ℕ) → Opens p p' m1 m2 (roots s) r d → Puts m2 m3 (roots s) r page v → length (free_list p m) ≤ length (free_list p' m3) + 1
   fill-takes p' m2 m3 r d page v x a =
       let b = ap length (free_list-writes p m m1 (held s m) o w) in
-      let c = ap length (free_list-writes p' m2 m3 (held s m2) (opened-owns p' m2 r d x) a.writes) in
+      let c = ap length (free_list-writes p' m2 m3 (held s m2) (has_tables_under-owns p' m2 r d x) a.writes) in
       let one = x.one in omega (arith, b, c, one)
 
   pub fill-moves : (p' : Pool) (m2 m3 : List ℕ) (r d page v : ℕ) → Opens p p' m1 m2 (roots s) r d → Puts m2 m3 (roots s) r page v → Moves p p' m m3 (held s m) (held s m3)
@@ -244,7 +244,7 @@ module _ (s : Shadow) (p : Pool) (m m1 : List ℕ) (o : Owns p m (held s m)) (e 
       Moves-trans p p p' m m1 m3 (held s m) (held s m1) (held s m3) dropped-moves
       (Moves-trans p p' p' m1 m2 m3 (held s m1) (held s m2) (held s m3) x.moves
       (Moves-counts p' p' m2 m3 (held s m2) (held s m2) (held s m3) (λ f. ap (times f) a.frames)
-      (Moves-writes p' m2 m3 (held s m2) (opened-owns p' m2 r d x) a.writes)))
+      (Moves-writes p' m2 m3 (held s m2) (has_tables_under-owns p' m2 r d x) a.writes)))
 
 -- ---- views that keep nothing
 

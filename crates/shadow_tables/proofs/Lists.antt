@@ -264,9 +264,9 @@ turned f f' o at page t l =
       | inr n ↦ t.others page l n.1 ∙ sym (ap (λ b. cond b o (f page)) n.0)
     ]
 
-pub fill-exact : (f f' : ℕ → Option Slot) (tracked : List ℕ) (side : Side) (entry : Entry) (wp : Bool) (page : ℕ) → tracked ≡ [] → Turns f f' entry.page (Some (filled (is_among entry.frame tracked) side entry wp)) → page < 2 ^ 20 → f' page ≡ after_call (Fill side entry wp) page (f page)
-fill-exact f f' tracked side entry wp page e t l =
-    turned f f' (Some (filled (is_among entry.frame tracked) side entry wp)) entry.page page t l
+pub fill-exact : (f f' : ℕ → Option Slot) (write_protected : List ℕ) (side : Side) (entry : Entry) (wp : Bool) (page : ℕ) → write_protected ≡ [] → Turns f f' entry.page (Some (filled (is_among entry.frame write_protected) side entry wp)) → page < 2 ^ 20 → f' page ≡ after_call (Fill side entry wp) page (f page)
+fill-exact f f' write_protected side entry wp page e t l =
+    turned f f' (Some (filled (is_among entry.frame write_protected) side entry wp)) entry.page page t l
     ∙ ap (λ (fs : List ℕ). cond (eqb page entry.page) (Some (filled (is_among entry.frame fs) side entry wp)) (f page)) e
 
 pub drop-exact : (f f' : ℕ → Option Slot) (dropped page : ℕ) → Turns f f' dropped None → page < 2 ^ 20 → f' page ≡ after_call (DropPage dropped) page (f page)
@@ -279,12 +279,12 @@ dir-exact f f' index page t l =
       | inr n ↦ t.others page l n.1 ∙ sym (ap (λ b. cond b None (f page)) n.0)
     ]
 
-barred-within : (tracked : List ℕ) (o : Option Slot) → IsWithin (barred tracked o) o
-barred-within tracked None = tt
-barred-within tracked (Some slot) = (refl, refl, refl, (λ e. (and_parts slot.writes (not (is_among slot.entry.frame tracked)) e).0))
+barred-within : (write_protected : List ℕ) (o : Option Slot) → IsWithin (barred write_protected o) o
+barred-within write_protected None = tt
+barred-within write_protected (Some slot) = (refl, refl, refl, (λ e. (and_parts slot.writes (not (is_among slot.entry.frame write_protected)) e).0))
 
-pub note-within : (f f' : ℕ → Option Slot) (tracked : List ℕ) (page : ℕ) → LosesWrites f f' tracked → page < 2 ^ 20 → IsWithin (f' page) (f page)
-note-within f f' tracked page t l = subst (λ x. IsWithin x (f page)) (sym (t page l)) (barred-within tracked (f page))
+pub note-within : (f f' : ℕ → Option Slot) (write_protected : List ℕ) (page : ℕ) → LosesWrites f f' write_protected → page < 2 ^ 20 → IsWithin (f' page) (f page)
+note-within f f' write_protected page t l = subst (λ x. IsWithin x (f page)) (sym (t page l)) (barred-within write_protected (f page))
 
-pub note-exact : (f f' : ℕ → Option Slot) (tracked : List ℕ) (page : ℕ) → tracked ≡ [] → LosesWrites f f' tracked → page < 2 ^ 20 → f' page ≡ f page
-note-exact f f' tracked page e t l = t page l ∙ ap (λ (fs : List ℕ). barred fs (f page)) e ∙ barred-none (f page)
+pub note-exact : (f f' : ℕ → Option Slot) (write_protected : List ℕ) (page : ℕ) → write_protected ≡ [] → LosesWrites f f' write_protected → page < 2 ^ 20 → f' page ≡ f page
+note-exact f f' write_protected page e t l = t page l ∙ ap (λ (fs : List ℕ). barred fs (f page)) e ∙ barred-none (f page)

@@ -42,8 +42,8 @@ slot-parts : (side : Side) (page : ℕ) {f f' : ℕ} {u u' w w' d d' r r' h h' :
     slot side page f u w d r h ≡ slot side page f' u' w' d' r' h'
 slot-parts side page a b c d e g = cc
 
-marked : (f d w u h r : ℕ) → d ≤ 1 → w ≤ 1 → u ≤ 1 → h ≤ 1 → r ≤ 1 → h ≤ r → f < 2 ^ 20 → IsMarked (packed f d w u h r)
-marked f d w u h r ld lw lu lh lr le small = record { user = omega arith; reads = λ e. omega (arith, e); plain = omega arith; fits = omega arith }
+stale : (f d w u h r : ℕ) → d ≤ 1 → w ≤ 1 → u ≤ 1 → h ≤ 1 → r ≤ 1 → h ≤ r → f < 2 ^ 20 → IsMarked (packed f d w u h r)
+stale f d w u h r ld lw lu lh lr le small = record { user = omega arith; reads = λ e. omega (arith, e); plain = omega arith; fits = omega arith }
 
 pub slot_of-word_of : (s : Slot) → slot_of s.side s.entry.page (word_of s) ≡ s
 unfolding word_of
@@ -71,13 +71,13 @@ barred-le : (b : Bool) (side : Side) (entry : Entry) (wp : Bool) → worth (not 
 barred-le false side entry wp = permits-le side entry wp
 barred-le true side entry wp = omega arith
 
-pub word_of-marked : (b : Bool) (side : Side) (entry : Entry) (wp : Bool) → entry.frame < 2 ^ 20 → IsMarked (word_of (filled b side entry wp))
+pub word_of-stale : (b : Bool) (side : Side) (entry : Entry) (wp : Bool) → entry.frame < 2 ^ 20 → IsMarked (word_of (filled b side entry wp))
 unfolding word_of
-word_of-marked b side entry wp small =
+word_of-stale b side entry wp small =
     let e = entry in
     let d = worth-le e.dirty in let w = worth-le e.write in let u = worth-le e.user in
     let h = worth-le (not b && permits side entry true wp) in let r = worth-le (permits side entry false wp) in
-    marked e.frame (worth e.dirty) (worth e.write) (worth e.user) (worth (not b && permits side entry true wp)) (worth (permits side entry false wp)) d w u h r (barred-le b side entry wp) small
+    stale e.frame (worth e.dirty) (worth e.write) (worth e.user) (worth (not b && permits side entry true wp)) (worth (permits side entry false wp)) d w u h r (barred-le b side entry wp) small
 
 pub word_of-some : (s : Slot) → word_of s ≢ 0
 unfolding word_of

@@ -40,16 +40,16 @@ opens-there p p' m m' rs r d o ne a b =
 
 module _ (s : Shadow) (p p' : Pool) (m m1 m2 m3 : List ℕ) (side : Side) (r page v : ℕ) (l : page < 2 ^ 20) (root : r ≡ root_of s side) (same : held s m1 ≡ held s m) (keeps : KeepsTables s m m1)
     (o : Opens p p' m1 m2 (roots s) r (page / 1024)) (unless : dir m1 r (page / 1024) ≢ 0 → m2 ≡ m1) (a : Puts m2 m3 (roots s) r page v) where
-  opened-there : HasTable s m3 side (page / 1024)
-  opened-there = puts-keep s m2 m3 r page v a side (page / 1024) (high page l) (subst (λ x. dir m2 x (page / 1024) ≢ 0) root o.some)
+  has_tables_under-there : HasTable s m3 side (page / 1024)
+  has_tables_under-there = puts-keep s m2 m3 r page v a side (page / 1024) (high page l) (subst (λ x. dir m2 x (page / 1024) ≢ 0) root o.some)
 
-  opened-others : KeepsTables s m m3
-  opened-others = keeps-trans s m m1 m3 keeps (keeps-trans s m1 m2 m3 (opens-keep s p p' m1 m2 r (page / 1024) o) (puts-keep s m2 m3 r page v a))
+  has_tables_under-others : KeepsTables s m m3
+  has_tables_under-others = keeps-trans s m m1 m3 keeps (keeps-trans s m1 m2 m3 (opens-keep s p p' m1 m2 r (page / 1024) o) (puts-keep s m2 m3 r page v a))
 
-  opened-already : HasTable s m side (page / 1024) → held s m3 ≡ held s m
-  opened-already ne = a.frames ∙ ap (held s) (unless (subst (λ x. dir m1 x (page / 1024) ≢ 0) (sym root) (keeps side (page / 1024) (high page l) ne))) ∙ same
+  has_tables_under-already : HasTable s m side (page / 1024) → held s m3 ≡ held s m
+  has_tables_under-already ne = a.frames ∙ ap (held s) (unless (subst (λ x. dir m1 x (page / 1024) ≢ 0) (sym root) (keeps side (page / 1024) (high page l) ne))) ∙ same
 
-  pub opened-table : Moves p p' m m3 (held s m) (held s m3) → length (free_list p m) ≤ length (free_list p' m3) + 1 → HasOpened s m m3 side (page / 1024)
-  opened-table w one =
+  pub has_tables_under-table : Moves p p' m m3 (held s m) (held s m3) → length (free_list p m) ≤ length (free_list p' m3) + 1 → HasOpened s m m3 side (page / 1024)
+  has_tables_under-table w one =
       let e = w.lengths in
-      record { there = opened-there; others = opened-others; already = opened-already; one = omega (arith, e, one) }
+      record { there = has_tables_under-there; others = has_tables_under-others; already = has_tables_under-already; one = omega (arith, e, one) }

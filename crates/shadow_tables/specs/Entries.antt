@@ -19,6 +19,6 @@ entries_of f = entries_below 1048576 f
 
 -- Of what is kept only that of the entry's page changed, page by page and as a map. It is held on that side, barred from
 -- writes where its frame is one of these.
-pub record FillsSlot (tracked : List ℕ) (side : Side) (entry : Entry) (wp : Bool) (f f' : ℕ → Option Slot) : Type 0 where
-  pub turns : Turns f f' entry.page (Some (filled (is_among entry.frame tracked) side entry wp))
+pub record FillsSlot (write_protected : List ℕ) (side : Side) (entry : Entry) (wp : Bool) (f f' : ℕ → Option Slot) : Type 0 where
+  pub turns : Turns f f' entry.page (Some (filled (is_among entry.frame write_protected) side entry wp))
   pub entries : entries_of f' ≡ insert (entries_of f) entry.page entry

@@ -59,8 +59,8 @@ held-roots s m =
     let a = length-append (tables m s.kernel 1024) (owned m (s.user ∷ [])) in
     omega (arith, a)
 
-pub none-tracked : (frame : ℕ) (writes : Bool) → is_among frame [] ≡ true → writes ≡ false
-none-tracked frame writes e = cc
+pub none-write_protected : (frame : ℕ) (writes : Bool) → is_among frame [] ≡ true → writes ≡ false
+none-write_protected frame writes e = cc
 
 -- where nothing comes back, all tables that may are tracked
 pub never-unmarked : (frame : ℕ) → true ≡ false → is_among frame [] ≡ true

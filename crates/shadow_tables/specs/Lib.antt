@@ -1,5 +1,5 @@
 pub mod Slots
-pub mod Aside
+pub mod OtherRoot
 pub mod Opened
 pub mod Entries
 pub mod Known

@@ -31,8 +31,8 @@ filled barred side entry wp =
 
 -- the same without the right to write, where its frame is one of these
 abbrev pub barred : List ℕ → Option Slot → Option Slot
-barred tracked None = None
-barred tracked (Some slot) = Some (record slot { writes = slot.writes && not (is_among slot.entry.frame tracked) })
+barred write_protected None = None
+barred write_protected (Some slot) = Some (record slot { writes = slot.writes && not (is_among slot.entry.frame write_protected) })
 
 abbrev pub worth : Bool → ℕ
 worth b = if b then 1 else 0
@@ -141,6 +141,6 @@ pub record LosesDir (f f' : ℕ → Option Slot) (index : ℕ) : Type 0 where
 abbrev pub SameSlots : (f f' : ℕ → Option Slot) → Type 0
 SameSlots f f' = (page : ℕ) → page < 2 ^ 20 → f' page ≡ f page
 
--- what is kept lost the right to write to the frames of `tracked`, and nothing else changed
+-- what is kept lost the right to write to the frames of `write_protected`, and nothing else changed
 abbrev pub LosesWrites : (f f' : ℕ → Option Slot) → List ℕ → Type 0
-LosesWrites f f' tracked = (page : ℕ) → page < 2 ^ 20 → f' page ≡ barred tracked (f page)
+LosesWrites f f' write_protected = (page : ℕ) → page < 2 ^ 20 → f' page ≡ barred write_protected (f page)

@@ -36,7 +36,8 @@ fn apply<S: Shadows>(shadows: &mut S, ram: &mut Ram, pool: &mut Pool, call: Call
     ensures left { length (free_list pool.old ram.old) ≤ length (free_list pool.new ram.new) + fill_count call }
     ensures same { (IsTrue result → ⊥) → SameSlots (S.slots shadows.old ram.old) (S.slots shadows.new ram.new) }
     ensures within { IsTrue result → IsWithinCall call (S.slots shadows.old ram.old) (S.slots shadows.new ram.new) }
-    ensures slots { IsTrue result → TracksNone S.tracked → IsAfterCall call (S.slots shadows.old ram.old) (S.slots shadows.new ram.new) }
+    ensures slots { IsTrue result → TracksNone S.write_protected
+        → IsAfterCall call (S.slots shadows.old ram.old) (S.slots shadows.new ram.new) }
 {
     match call {
         Call::Fill(side, entry, wp) => {
@@ -69,8 +70,9 @@ pub fn replay<S: Shadows>(shadows: &mut S, ram: &mut Ram, pool: &mut Pool, calls
     ensures all { fills calls.now ≤ length (free_list pool.old ram.old) → result ≡ length calls.now }
     ensures stopped { result < length calls.now → BeginsWithFill (drop result calls.now) × (free_list pool.new ram.new ≡ []) }
     ensures law { AllFollow (take result calls.now) (S.slots shadows.old ram.old) (S.slots shadows.new ram.new) }
-    ensures slots { TracksNone S.tracked → IsAfterAll (take result calls.now) (S.slots shadows.old ram.old) (S.slots shadows.new ram.new) }
-    ensures adequate { TracksNone S.tracked
+    ensures slots { TracksNone S.write_protected
+        → IsAfterAll (take result calls.now) (S.slots shadows.old ram.old) (S.slots shadows.new ram.new) }
+    ensures adequate { TracksNone S.write_protected
         → AllAdequateAfter (take result calls.now) (S.slots shadows.old ram.old) (S.slots shadows.new ram.new) }
 {
     let mut count = 0;

@@ -7,7 +7,7 @@ ghost use Rattle.frame_pool.specs.declared.Pool.{Pool};
 ghost use Rattle.frame_pool.specs.Held.{times, Holds, Owns, Writes, Moves, SameIn};
 ghost use Rattle.paging.specs.Reached.{reached, walk_frames};
 ghost use Rattle.paging.specs.Uses.{without_dir};
-ghost use Rattle.shadow_tables.specs.Aside.{Aside, AreSame, LoseWrites, AllFit, AllBarred, AllTracked, spared};
+ghost use Rattle.shadow_tables.specs.OtherRoot.{OtherRoot, AreSame, LoseWrites, AllFit, AllBarred, AllTracked, spared};
 ghost use Rattle.shadow_tables.specs.Entries.{FillsSlot, entries_of};
 ghost use Rattle.shadow_tables.specs.Host.{lent};
 ghost use Rattle.shadow_tables.specs.Known.{KnowsNoMore, KnowsRead, KnowsWritten, SameBeside};
@@ -33,25 +33,25 @@ pub trait Shadows {
     ghost frames: { Self → List ℕ → List ℕ };
 
     /// The frames to which no access may write that they make adequate.
-    ghost tracked: { Self → List ℕ };
+    ghost write_protected: { Self → List ℕ };
 
     /// The frames from which the guest's present tables were read, as far as it matters here: all, where no other
     /// tables are kept than the present ones.
-    ghost noted: { Self → ℕ → Bool };
+    ghost read_from: { Self → ℕ → Bool };
 
     /// A frame from which the present tables were read was written: what is kept of them doesn't come back once another
     /// value of CR3 was loaded. So it is too where nothing comes back.
-    ghost marked: { Self → Bool };
+    ghost stale: { Self → Bool };
 
     /// The value of CR3 to which the present tables belong, where it is kept.
     ghost value: { Self → Option ℕ };
 
     /// What they keep for values of CR3 that aren't present and may be loaded again, the last used first.
-    ghost asides: { Self → List ℕ → List Aside };
+    ghost other_roots: { Self → List ℕ → List OtherRoot };
 
     /// They have tables only for pages under directory indices of which the test is true, those for other values of CR3
     /// too: as far as it matters how many frames they hold.
-    ghost opened: { Self → List ℕ → (ℕ → Bool) → Type 0 };
+    ghost has_tables_under: { Self → List ℕ → (ℕ → Bool) → Type 0 };
 
     /// What they keep for each page.
     ghost slots: { Self → List ℕ → ℕ → Option Slot };
@@ -84,8 +84,9 @@ pub trait Shadows {
         ensures stands { ∥ stands self.new ram.new ∥₁ }
         ensures turns { Turns (slots self.old ram.old) (slots self.new ram.new) page None }
         ensures entries { entries_of (slots self.new ram.new) ≡ remove (entries_of (slots self.old ram.old)) page }
-        ensures beside { SameBeside noted marked value tracked asides self.old self.new ram.old ram.new }
-        ensures opened { (indices : ℕ → Bool) → opened self.old ram.old indices → opened self.new ram.new indices }
+        ensures beside { SameBeside read_from stale value write_protected other_roots self.old self.new ram.old ram.new }
+        ensures has_tables_under { (indices : ℕ → Bool) → has_tables_under self.old ram.old indices
+            → has_tables_under self.new ram.new indices }
         ensures roots { (side : Side) → directory self.new side ≡ directory self.old side }
         ensures frames { frames self.new ram.new ≡ frames self.old ram.old }
         ensures memory { Writes (frames self.old ram.old) ram.old ram.new }
@@ -99,8 +100,9 @@ pub trait Shadows {
         ensures stands { ∥ stands self.new ram.new ∥₁ }
         ensures loses { LosesDir (slots self.old ram.old) (slots self.new ram.new) index }
         ensures entries { entries_of (slots self.new ram.new) ≡ without_dir (entries_of (slots self.old ram.old)) index }
-        ensures beside { SameBeside noted marked value tracked asides self.old self.new ram.old ram.new }
-        ensures opened { (indices : ℕ → Bool) → opened self.old ram.old indices → opened self.new ram.new indices }
+        ensures beside { SameBeside read_from stale value write_protected other_roots self.old self.new ram.old ram.new }
+        ensures has_tables_under { (indices : ℕ → Bool) → has_tables_under self.old ram.old indices
+            → has_tables_under self.new ram.new indices }
         ensures roots { (side : Side) → directory self.new side ≡ directory self.old side }
         ensures frames { frames self.new ram.new ≡ frames self.old ram.old }
         ensures memory { Writes (frames self.old ram.old) ram.old ram.new }
@@ -115,10 +117,10 @@ pub trait Shadows {
         requires free { 1 ≤ length (free_list pool.old ram.old) }
         requires fits { (entry.page < 2 ^ 20) × (entry.frame < 2 ^ 20) }
         ensures stands { ∥ stands self.new ram.new ∥₁ }
-        ensures fills { FillsSlot (tracked self.old) side entry wp (slots self.old ram.old) (slots self.new ram.new) }
-        ensures beside { SameBeside noted marked value tracked asides self.old self.new ram.old ram.new }
-        ensures opened { (indices : ℕ → Bool) → indices (entry.page / 1024) ≡ true
-            → opened self.old ram.old indices → opened self.new ram.new indices }
+        ensures fills { FillsSlot (write_protected self.old) side entry wp (slots self.old ram.old) (slots self.new ram.new) }
+        ensures beside { SameBeside read_from stale value write_protected other_roots self.old self.new ram.old ram.new }
+        ensures has_tables_under { (indices : ℕ → Bool) → indices (entry.page / 1024) ≡ true
+            → has_tables_under self.old ram.old indices → has_tables_under self.new ram.new indices }
         ensures roots { (side : Side) → directory self.new side ≡ directory self.old side }
         ensures one { length (free_list pool.old ram.old) ≤ length (free_list pool.new ram.new) + 1 }
         ensures owns { Owns pool.new ram.new (frames self.new ram.new) }
@@ -131,9 +133,10 @@ pub trait Shadows {
         ensures stands { ∥ stands self.new ram.new ∥₁ }
         ensures none { (page : ℕ) → page < 2 ^ 20 → slots self.new ram.new page ≡ None }
         ensures entries { entries_of (slots self.new ram.new) ≡ empty }
-        ensures known { KnowsNoMore noted marked value tracked self.old self.new }
-        ensures asides { asides self.new ram.new ≡ [] }
-        ensures opened { (indices : ℕ → Bool) → opened self.old ram.old indices → opened self.new ram.new indices }
+        ensures known { KnowsNoMore read_from stale value write_protected self.old self.new }
+        ensures other_roots { other_roots self.new ram.new ≡ [] }
+        ensures has_tables_under { (indices : ℕ → Bool) → has_tables_under self.old ram.old indices
+            → has_tables_under self.new ram.new indices }
         ensures roots { (side : Side) → directory self.new side ≡ directory self.old side }
         ensures two { length (frames self.new ram.new) ≡ 2 }
         ensures owns { Owns pool.new ram.new (frames self.new ram.new) }
@@ -145,11 +148,12 @@ pub trait Shadows {
         requires stands { ∥ stands self.old ram.old ∥₁ }
         requires frame { frame < 16384 }
         ensures stands { ∥ stands self.new ram.new ∥₁ }
-        ensures slots { LosesWrites (slots self.old ram.old) (slots self.new ram.new) (tracked self.new) }
+        ensures slots { LosesWrites (slots self.old ram.old) (slots self.new ram.new) (write_protected self.new) }
         ensures entries { entries_of (slots self.new ram.new) ≡ entries_of (slots self.old ram.old) }
-        ensures known { KnowsRead noted marked value tracked frame self.old self.new }
-        ensures asides { LoseWrites (frame ∷ []) (asides self.old ram.old) (asides self.new ram.new) }
-        ensures opened { (indices : ℕ → Bool) → opened self.old ram.old indices → opened self.new ram.new indices }
+        ensures known { KnowsRead read_from stale value write_protected frame self.old self.new }
+        ensures other_roots { LoseWrites (frame ∷ []) (other_roots self.old ram.old) (other_roots self.new ram.new) }
+        ensures has_tables_under { (indices : ℕ → Bool) → has_tables_under self.old ram.old indices
+            → has_tables_under self.new ram.new indices }
         ensures roots { (side : Side) → directory self.new side ≡ directory self.old side }
         ensures frames { frames self.new ram.new ≡ frames self.old ram.old }
         ensures memory { Writes (frames self.old ram.old) ram.old ram.new }
@@ -163,9 +167,10 @@ pub trait Shadows {
         ensures stands { ∥ stands self.new ram.new ∥₁ }
         ensures slots { SameSlots (slots self.old ram.old) (slots self.new ram.new) }
         ensures entries { entries_of (slots self.new ram.new) ≡ entries_of (slots self.old ram.old) }
-        ensures known { KnowsWritten noted marked value tracked frame self.old self.new }
-        ensures asides { AreSame (spared frame (asides self.old ram.old)) (asides self.new ram.new) }
-        ensures opened { (indices : ℕ → Bool) → opened self.old ram.old indices → opened self.new ram.new indices }
+        ensures known { KnowsWritten read_from stale value write_protected frame self.old self.new }
+        ensures other_roots { AreSame (spared frame (other_roots self.old ram.old)) (other_roots self.new ram.new) }
+        ensures has_tables_under { (indices : ℕ → Bool) → has_tables_under self.old ram.old indices
+            → has_tables_under self.new ram.new indices }
         ensures roots { (side : Side) → directory self.new side ≡ directory self.old side }
         ensures fewer { length (free_list pool.old ram.old) ≤ length (free_list pool.new ram.new) }
         ensures owns { Owns pool.new ram.new (frames self.new ram.new) }
@@ -192,18 +197,19 @@ pub trait Shadows {
 
     /// No write to a tracked frame is adequate.
     ghost barred: { (s : Self) (m : List ℕ) (page : ℕ) (slot : Slot) → ∥ stands s m ∥₁ → page < 2 ^ 20
-        → slots s m page ≡ Some slot → is_among slot.entry.frame (tracked s) ≡ true → slot.writes ≡ false };
+        → slots s m page ≡ Some slot → is_among slot.entry.frame (write_protected s) ≡ true → slot.writes ≡ false };
 
     /// The same of what is kept for other values of CR3.
-    ghost asides_fit: { (s : Self) (m : List ℕ) → ∥ stands s m ∥₁ → AllFit (asides s m) };
+    ghost other_roots_fit: { (s : Self) (m : List ℕ) → ∥ stands s m ∥₁ → AllFit (other_roots s m) };
 
-    ghost asides_barred: { (s : Self) (m : List ℕ) → ∥ stands s m ∥₁ → AllBarred (λ f. is_among f (tracked s)) (asides s m) };
+    ghost other_roots_barred: { (s : Self) (m : List ℕ) → ∥ stands s m ∥₁
+        → AllBarred (λ f. is_among f (write_protected s)) (other_roots s m) };
 
     /// The tables that what is kept was read from are tracked, as far as it may come back.
-    ghost noted_tracked: { (s : Self) (frame : ℕ) → marked s ≡ false → noted s frame ≡ true
-        → is_among frame (tracked s) ≡ true };
+    ghost read_from_is_protected: { (s : Self) (frame : ℕ) → stale s ≡ false → read_from s frame ≡ true
+        → is_among frame (write_protected s) ≡ true };
 
-    ghost asides_tracked: { (s : Self) (m : List ℕ) → AllTracked (λ f. is_among f (tracked s)) (asides s m) };
+    ghost other_roots_protected: { (s : Self) (m : List ℕ) → AllTracked (λ f. is_among f (write_protected s)) (other_roots s m) };
 
     /// A write in other frames makes no difference.
     ghost stays: { (s : Self) (m m' : List ℕ) → ∥ stands s m ∥₁ → SameIn (frames s m) m m' → ∥ stands s m' ∥₁ };
@@ -212,13 +218,14 @@ pub trait Shadows {
 
     ghost same_slots: { (s : Self) (m m' : List ℕ) → ∥ stands s m ∥₁ → SameIn (frames s m) m m' → SameSlots (slots s m) (slots s m') };
 
-    ghost same_asides: { (s : Self) (m m' : List ℕ) → ∥ stands s m ∥₁ → SameIn (frames s m) m m' → AreSame (asides s m) (asides s m') };
+    ghost same_other_roots: { (s : Self) (m m' : List ℕ) → ∥ stands s m ∥₁ → SameIn (frames s m) m m'
+        → AreSame (other_roots s m) (other_roots s m') };
 
-    ghost same_opened: { (s : Self) (m m' : List ℕ) (indices : ℕ → Bool) → ∥ stands s m ∥₁ → SameIn (frames s m) m m'
-        → opened s m indices → opened s m' indices };
+    ghost same_tables_under: { (s : Self) (m m' : List ℕ) (indices : ℕ → Bool) → ∥ stands s m ∥₁ → SameIn (frames s m) m m'
+        → has_tables_under s m indices → has_tables_under s m' indices };
 
     ghost wider: { (s : Self) (m : List ℕ) (indices more : ℕ → Bool)
-        → ((index : ℕ) → indices index ≡ true → more index ≡ true) → opened s m indices → opened s m more };
+        → ((index : ℕ) → indices index ≡ true → more index ≡ true) → has_tables_under s m indices → has_tables_under s m more };
 
     ghost same_entries: { (s : Self) (m m' : List ℕ) → ∥ stands s m ∥₁ → SameIn (frames s m) m m'
         → entries_of (slots s m') ≡ entries_of (slots s m) } = { λ s m m' h e.
@@ -250,17 +257,17 @@ impl Shadows for Shadow {
 
     ghost frames = { λ s m. held s m };
 
-    ghost tracked = { λ s. [] };
+    ghost write_protected = { λ s. [] };
 
-    ghost noted = { λ s f. true };
+    ghost read_from = { λ s f. true };
 
-    ghost marked = { λ s. true };
+    ghost stale = { λ s. true };
 
     ghost value = { λ s. None };
 
-    ghost asides = { λ s m. [] };
+    ghost other_roots = { λ s m. [] };
 
-    ghost opened = { λ s m indices. Unit {0} };
+    ghost has_tables_under = { λ s m indices. Unit {0} };
 
     ghost slots = { λ s m page. slot_at s m page };
 
@@ -276,15 +283,15 @@ impl Shadows for Shadow {
 
     ghost fits = { λ s m page slot h l e. laws.fits s m page slot h l e };
 
-    ghost barred = { λ s m page slot h l e t. laws.none-tracked slot.entry.frame slot.writes t };
+    ghost barred = { λ s m page slot h l e t. laws.none-write_protected slot.entry.frame slot.writes t };
 
-    ghost asides_fit = { λ s m h. tt };
+    ghost other_roots_fit = { λ s m h. tt };
 
-    ghost asides_barred = { λ s m h. tt };
+    ghost other_roots_barred = { λ s m h. tt };
 
-    ghost noted_tracked = { λ s frame unmarked n. laws.never-unmarked frame unmarked };
+    ghost read_from_is_protected = { λ s frame unmarked n. laws.never-unmarked frame unmarked };
 
-    ghost asides_tracked = { λ s m. tt };
+    ghost other_roots_protected = { λ s m. tt };
 
     ghost stays = { λ s m m' h e. laws.stays s m m' h e };
 
@@ -292,9 +299,9 @@ impl Shadows for Shadow {
 
     ghost same_slots = { λ s m m' h e. laws.same-slots s m m' h e };
 
-    ghost same_asides = { λ s m m' h e. tt };
+    ghost same_other_roots = { λ s m m' h e. tt };
 
-    ghost same_opened = { λ s m m' indices h e o. tt };
+    ghost same_tables_under = { λ s m m' indices h e o. tt };
 
     ghost wider = { λ s m indices more w o. tt };
 

@@ -44,7 +44,7 @@ pub record IsSound (kept : List ℕ → FinMap nat_cmp Entry) (floor : ℕ) (sta
   pub laid_in : IsLaid state.guard.text.now state.control.frames
   pub counted : length state.changes ≤ state.pages
   pub few : state.pages ≤ 64
-  pub noted : length state.visited ≡ state.pages
+  pub visits : length state.visited ≡ state.pages
   pub told : AreToldIn state.visited state.changes
   pub read : length state.tables ≤ 2 * state.pages
   pub written : length state.wrote ≤ 2 * state.pages

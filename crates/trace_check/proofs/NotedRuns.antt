@@ -108,7 +108,7 @@ pub noted_put : (image : Image) (script : Events) (frames n : ℕ) (old new : St
 noted_put image script frames n old new counts counts_after a b c pages fills filled kept kept_after begins pause before mid now memory judges forms bound untold fits is first none few has h put le more =
     let m = wedge image script frames in
     let end = end_of pause in
-    let noted = h.noted refl in
+    let noted = h.told_notes refl in
     let run : Run m n (boot m) h.sets h.reports h.last end = record { steps = subst (λ (s : State). Steps m s h.sets h.reports h.last) is h.steps; ends = ends_by m n h.last new h.end pause h.ends } in
     let told : AreTold m (boot m) h.sets h.notes = subst (λ (s : State). AreTold m s h.sets h.notes) is noted.told in
     let are : AreNotes m (boot m) h.sets h.last.step h.notes = subst (λ (s : State). AreNotes m s h.sets h.last.step h.notes) is noted.are in

@@ -60,11 +60,11 @@ new_frames r m n cr3 same h = laws.same-frames (pairs_of r) m n h.stand same
 pub new_empty : (r : Roots) (m : List ℕ) (cr3 : ℕ) → IsNew r m cr3 → entries_of (roots.slots r m) ≡ empty
 new_empty r m cr3 h = entries_of-none (roots.slots r m) h.none
 
-new_alone : (r : Roots) (m : List ℕ) (cr3 : ℕ) → IsNew r m cr3 → roots.asides r m ≡ []
+new_alone : (r : Roots) (m : List ℕ) (cr3 : ℕ) → IsNew r m cr3 → roots.other_roots r m ≡ []
 new_alone r m cr3 h = ap (λ (ps : List Pair). asides_of ps m) h.others
 
-pub new_ready : (s : Setting) (cpu : Cpu) (r : Roots) (m : List ℕ) → IsNew r m cpu.cr3 → IsReady roots.slots roots.noted roots.marked roots.value roots.asides s cpu r m
-new_ready s cpu r m h = none_ready roots.slots roots.noted roots.marked roots.value roots.asides (λ page. false) s cpu r m h.value h.none (new_alone r m cpu.cr3 h)
+pub new_ready : (s : Setting) (cpu : Cpu) (r : Roots) (m : List ℕ) → IsNew r m cpu.cr3 → IsReady roots.slots roots.read_from roots.stale roots.value roots.other_roots s cpu r m
+new_ready s cpu r m h = none_ready roots.slots roots.read_from roots.stale roots.value roots.other_roots (λ page. false) s cpu r m h.value h.none (new_alone r m cpu.cr3 h)
 
-pub new_pages : (r : Roots) (m : List ℕ) (cr3 : ℕ) → IsNew r m cr3 → pages_kept roots.slots roots.asides r m ≡ 0
-new_pages r m cr3 h = none_pages roots.slots roots.noted roots.marked roots.value roots.asides r m (new_empty r m cr3 h) (new_alone r m cr3 h)
+pub new_pages : (r : Roots) (m : List ℕ) (cr3 : ℕ) → IsNew r m cr3 → pages_kept roots.slots roots.other_roots r m ≡ 0
+new_pages r m cr3 h = none_pages roots.slots roots.read_from roots.stale roots.value roots.other_roots r m (new_empty r m cr3 h) (new_alone r m cr3 h)

@@ -135,10 +135,10 @@ fetch_few user eip insn len s t none e =
 
 -- ---- the view may show what was granted
 
-opened : (image : Image) (side : Side) (page frame : ℕ) → IsOpen (is_kernel side) image page frame → may_use (wedge_mode image) (is_user side) page frame ≡ true
-opened image User page frame h = ap not h
-opened image Kernel page frame (inl g) = ap (λ (b : Bool). b || (nat_le 0x11000 page && not (is_text (wedge_mode image) frame))) g
-opened image Kernel page frame (inr p) =
+has_tables_under : (image : Image) (side : Side) (page frame : ℕ) → IsOpen (is_kernel side) image page frame → may_use (wedge_mode image) (is_user side) page frame ≡ true
+has_tables_under image User page frame h = ap not h
+has_tables_under image Kernel page frame (inl g) = ap (λ (b : Bool). b || (nat_le 0x11000 page && not (is_text (wedge_mode image) frame))) g
+has_tables_under image Kernel page frame (inr p) =
     ap (λ (b : Bool). is_given (wedge_mode image) page frame || (b && not (is_text (wedge_mode image) frame))) (Rattle.std.proofs.lemmas.Bool.le-leb 0x11000 page p.0)
     ∙ ap (λ (b : Bool). is_given (wedge_mode image) page frame || not b) p.1
     ∙ or_true (is_given (wedge_mode image) page frame)
@@ -150,7 +150,7 @@ opened image Kernel page frame (inr p) =
 entry_open : (image : Image) (side : Side) (frames : ℕ) (s : Space) (wp write : Bool) (page : ℕ) → changes.AreWithin frames s.set → IsGranted image (is_kernel side) wp s write page → is_entry_open (text_pages image) side (get s.set page) ≡ true
 entry_open image side frames s wp write page within g =
     let page_is : g.entry.page ≡ page = (within page g.entry g.kept).0 in
-    ap (is_entry_open (text_pages image) side) g.kept ∙ opened image side g.entry.page g.entry.frame (subst (λ (p : ℕ). IsOpen (is_kernel side) image p g.entry.frame) (sym page_is) g.is_open)
+    ap (is_entry_open (text_pages image) side) g.kept ∙ has_tables_under image side g.entry.page g.entry.frame (subst (λ (p : ℕ). IsOpen (is_kernel side) image p g.entry.frame) (sym page_is) g.is_open)
 
 -- ---- the step
 
@@ -222,7 +222,7 @@ module _ (grants : Grants) (repeats : Again) (completes : NativeCompletes) (m : 
 
     -- ---- the pages are filled
 
-    module _ (old new : ℕ → Option Slot) (cs : List Change) (tracked : List ℕ) (memory : List ℕ) (closes : Closes old new t.set (pages_of t.visited cs) (side_of (b.cpu.cpl == 3)) (wp_of b.cpu) tracked t.wrote)
+    module _ (old new : ℕ → Option Slot) (cs : List Change) (write_protected : List ℕ) (memory : List ℕ) (closes : Closes old new t.set (pages_of t.visited cs) (side_of (b.cpu.cpl == 3)) (wp_of b.cpu) write_protected t.wrote)
         (beyond : (page : ℕ) → 2 ^ 20 ≤ page → get t.set page ≡ None)
         (host : (page : ℕ) (write : Bool) → page < 2 ^ 20 → reached memory (length memory / 4096) (directory (side_of (b.cpu.cpl == 3))) page write ≡ lent (length memory / 4096) (new page) (side_of (b.cpu.cpl == 3)) write)
         (within : (page : ℕ) (entry : Entry) → get t.set page ≡ Some entry → entry.frame < length memory / 4096)
@@ -230,7 +230,7 @@ module _ (grants : Grants) (repeats : Again) (completes : NativeCompletes) (m : 
       where
         reached_all : AreReached memory (directory (side_of (b.cpu.cpl == 3))) p.after_fetch.visited (ranges_of p.insn b.cpu.regs)
         reached_all =
-            all_reached m.image side (wp_of b.cpu) t old new (pages_of t.visited cs) tracked memory (directory side) closes
+            all_reached m.image side (wp_of b.cpu) t old new (pages_of t.visited cs) write_protected memory (directory side) closes
             (λ q c. among_first q t.visited _ (contains_among t.visited q c)) beyond host within p.after_fetch.visited ranges granted
 
         fetched_same : p.after_fetch.visited ≡ same_again.fetched.visited

@@ -8,7 +8,7 @@ use Rattle.board.specs.declared.devices.Board.{Board}
 use Rattle.board.specs.Boards.{given}
 use Rattle.board.specs.Scripts.{Events}
 use Rattle.image_check.specs.Image.{Image}
-use Rattle.shadow_tables.specs.Aside.{Aside}
+use Rattle.shadow_tables.specs.OtherRoot.{OtherRoot}
 use Rattle.shadow_tables.specs.Entries.{entries_of}
 use Rattle.shadow_tables.specs.Slots.{Slot}
 use Rattle.machine_model.specs.State.{Setting, State, wedge}
@@ -31,17 +31,17 @@ use Rattle.wedge_step.proofs.AfterTry.{any_script}
 use Rattle.wedge_core.proofs.Going.{DropClashes, StepCarries, eventful}
 use Rattle.wedge_core.proofs.Passed.{CarriesPast}
 
-module _ {S : Type 0} (stands : S → List ℕ → Type 0) (frames : S → List ℕ → List ℕ) (slots : S → List ℕ → ℕ → Option Slot) (noted : S → ℕ → Bool) (marked : S → Bool) (asides : S → List ℕ → List Aside) (opened : S → List ℕ → (ℕ → Bool) → Type 0) where
+module _ {S : Type 0} (stands : S → List ℕ → Type 0) (frames : S → List ℕ → List ℕ) (slots : S → List ℕ → ℕ → Option Slot) (read_from : S → ℕ → Bool) (stale : S → Bool) (other_roots : S → List ℕ → List OtherRoot) (has_tables_under : S → List ℕ → (ℕ → Bool) → Type 0) where
   -- all is known, where the next step goes by this set
   abbrev pub CarriedWith : Setting → S → List ℕ → Set → List Taken → State → Type 0
-  CarriedWith m s memory kept steps b = IsCarriedBy slots noted marked asides opened m steps b kept s memory
+  CarriedWith m s memory kept steps b = IsCarriedBy slots read_from stale other_roots has_tables_under m steps b kept s memory
 
-  pub with_kept : (m : Setting) (s : S) (memory : List ℕ) (steps : List Taken) (b : State) → IsCarried slots noted marked asides opened m steps b s memory → CarriedWith m s memory (entries_of (slots s memory)) steps b
+  pub with_kept : (m : Setting) (s : S) (memory : List ℕ) (steps : List Taken) (b : State) → IsCarried slots read_from stale other_roots has_tables_under m steps b s memory → CarriedWith m s memory (entries_of (slots s memory)) steps b
   with_kept m s memory steps b c = record { known = c.known; opened_to = c.opened_to }
 
-  as_kept : (m : Setting) (s : S) (memory : List ℕ) (kept : Set) (steps : List Taken) (b : State) → entries_of (slots s memory) ≡ kept → CarriedWith m s memory kept steps b → IsCarried slots noted marked asides opened m steps b s memory
+  as_kept : (m : Setting) (s : S) (memory : List ℕ) (kept : Set) (steps : List Taken) (b : State) → entries_of (slots s memory) ≡ kept → CarriedWith m s memory kept steps b → IsCarried slots read_from stale other_roots has_tables_under m steps b s memory
   as_kept m s memory kept steps b is c =
-      record { known = subst (IsKnown m steps b (noted s) (marked s) (asides s memory)) (sym is) c.known; opened_to = c.opened_to }
+      record { known = subst (IsKnown m steps b (read_from s) (stale s) (other_roots s memory)) (sym is) c.known; opened_to = c.opened_to }
 
   -- the guest's memory has all its frames
   pub room_at : (image : Image) (script : Events) (f : ℕ) (g : Running S) (pool : Pool) (memory : List ℕ) → IsHeld stands frames slots (ground image f) g pool memory → 4096 * f ≤ length (shown (wedge image script f) memory)
@@ -50,13 +50,13 @@ module _ {S : Type 0} (stands : S → List ℕ → Type 0) (frames : S → List 
       let same = ap (λ (l : List ℕ). length l) (any_script image script f memory) in
       omega (arith, long, same)
 
-  module _ (widens : Widens stands frames asides opened) (laws : CarryLaws) where
+  module _ (widens : Widens stands frames other_roots has_tables_under) (laws : CarryLaws) where
     pub carries_past : (m : Setting) (s : S) (memory : List ℕ) → CarriesPast m (CarriedWith m s memory)
     carries_past m s memory = record {
       next = λ kept steps b c. c.known.next;
       left = λ kept steps b c. c.known.left;
       past = λ kept steps t p c. record {
-        known = laws.quiet m steps t (noted s) (marked s) (asides s memory) kept p c.known;
+        known = laws.quiet m steps t (read_from s) (stale s) (other_roots s memory) kept p c.known;
         opened_to = widens.wider s memory (λ index. is_member eqb (indices_in steps) index) (λ index. is_member eqb (indices_in (steps ++ t ∷ [])) index) (laws.known.grow steps t).0 c.opened_to;
       };
     }
@@ -66,9 +66,9 @@ module _ {S : Type 0} (stands : S → List ℕ → Type 0) (frames : S → List 
         → CarriedWith m s memory kept steps b → CarriedWith m s' then kept steps b
     carried_there m s s' memory then kept steps b is stand same c =
         subst (λ (x : S). CarriedWith m x then kept steps b) (sym is) (record {
-          known = laws.known.still m steps b (noted s) (noted s) (marked s) (marked s) (asides s memory) (asides s then) kept
-              (record { notes = λ frame e. e; marks = λ e. e; others = widens.same_asides s memory then stand same }) c.known;
-          opened_to = widens.same_opened s memory then (λ index. is_member eqb (indices_in steps) index) stand same c.opened_to;
+          known = laws.known.still m steps b (read_from s) (read_from s) (stale s) (stale s) (other_roots s memory) (other_roots s then) kept
+              (record { notes = λ frame e. e; marks = λ e. e; others = widens.same_other_roots s memory then stand same }) c.known;
+          opened_to = widens.same_tables_under s memory then (λ index. is_member eqb (indices_in steps) index) stand same c.opened_to;
         })
 
     -- while the run is roomy few frames are held
@@ -83,7 +83,7 @@ module _ {S : Type 0} (stands : S → List ℕ → Type 0) (frames : S → List 
     Carries image n old new memory then pool wanted =
         (script : Events) (steps : List Taken) (t : Taken) → wanted ≡ false → length (free_list pool memory) + old.held ≡ 512 → Roomy (steps ++ t ∷ [])
         → IsTakenFrom (wedge image script n) (state_of stands frames slots (wedge image script n) old memory) t → t.set ≡ left_of new.lost.before (set_of stands frames slots old memory)
-        → IsCarried slots noted marked asides opened (wedge image script n) steps t.before old.shadows memory → IsCarried slots noted marked asides opened (wedge image script n) (steps ++ t ∷ []) t.after new.shadows then
+        → IsCarried slots read_from stale other_roots has_tables_under (wedge image script n) steps t.before old.shadows memory → IsCarried slots read_from stale other_roots has_tables_under (wedge image script n) (steps ++ t ∷ []) t.after new.shadows then
 
     abbrev pub Clashed : Image → ℕ → Running S → Running S → List ℕ → Pool → Type 0
     Clashed image n old new memory pool =

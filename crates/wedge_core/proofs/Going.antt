@@ -403,7 +403,7 @@ reached m bound old now a b told tells pages fills filled wanted notes_on begins
   ends = (n, refl, g.allowed);
   text = g.text;
   counts = g.counts;
-  noted = λ w. record {
+  told_notes = λ w. record {
     told = are_told m old g.sets g.notes (g.by w);
     are = are_notes m old g.sets now.step g.notes (tried_none old.step now.step g.notes g.so_far);
     held = none_held old.step now.step g.notes g.whole (tried_none old.step now.step g.notes g.so_far);
@@ -434,7 +434,7 @@ stopped m bound old now new lost stop a b told tells pages fills mid filled want
       ends = (lt, still, chosen_allowed m old now a b told tells pages fills mid wanted notes_on begins carried g lost.before, halts);
       text = g.text;
       counts = g.counts;
-      noted = λ w. record {
+      told_notes = λ w. record {
         told = are_told m old g.sets notes (by_then m old now a b told tells pages fills mid wanted notes_on begins carried g lost.before w);
         are = are_notes m old g.sets now.step notes (tried m old now a b told tells pages fills mid wanted notes_on begins carried g lost.before);
         held = none_held old.step now.step notes g.whole (tried m old now a b told tells pages fills mid wanted notes_on begins carried g lost.before);
@@ -461,7 +461,7 @@ failed m bound old now new seen fault a b told tells last pages fills filled wan
   ends = le;
   text = stepped_front m old now new seen a b told tells last pages fills filled wanted notes_on begins carried s put;
   counts = s.counts;
-  noted = λ w. record {
+  told_notes = λ w. record {
     told = are_told m old s.sets s.notes (s.by w);
     are = are_notes m old s.sets new.step s.notes (tried_none old.step new.step s.notes s.so_far);
     held = none_held old.step new.step s.notes s.whole (tried_none old.step new.step s.notes s.so_far);

@@ -5,7 +5,7 @@ use Rattle.std.proofs.lemmas.List.Elements.{All-weaker}
 use Rattle.pv_io.specs.declared.answer.Failed.{Failed}
 use Rattle.run_trace.specs.declared.pause.Pause.{Pause}
 use Rattle.run_trace.specs.Notes.{Note}
-use Rattle.shadow_tables.specs.Aside.{Aside}
+use Rattle.shadow_tables.specs.OtherRoot.{OtherRoot}
 use Rattle.shadow_tables.specs.Entries.{entries_of}
 use Rattle.shadow_tables.specs.Slots.{Slot}
 use Rattle.machine_model.specs.State.{Setting, State}
@@ -39,7 +39,7 @@ slice_begun m bound old new before after told tells first pages fills filled wan
   ends = h.ends;
   text = h.text;
   counts = h.counts;
-  noted = h.noted;
+  told_notes = h.told_notes;
   tells_notes = h.tells_notes;
   each_filled = All-weaker (λ (set : Set). FillsOn first (len set) fills filled) (λ (set : Set). FillsOn pages (len set) fills filled) (λ set f. more_first first pages (len set) fills filled le f) (h.sets ++ h.end ∷ []) h.each_filled;
   kept = λ s. h.kept (from s);
@@ -51,10 +51,10 @@ pauses_more (Ok pause) A B f a = f a
 pauses_more (Err failed) A B f a = tt
 
 -- where the present tables are as new and nothing is present, all is known
-pub anew_carries : {S : Type 0} (slots : S → List ℕ → ℕ → Option Slot) (noted : S → ℕ → Bool) (marked : S → Bool) (asides : S → List ℕ → List Aside) (opened : S → List ℕ → (ℕ → Bool) → Type 0) → CarryLaws → (m : Setting) (b : State) (s : S) (memory : List ℕ)
-    → entries_of (slots s memory) ≡ empty → IsAsNew noted marked asides opened s memory → IsCarried slots noted marked asides opened m [] b s memory
-anew_carries slots noted marked asides opened laws m b s memory none anew = record {
-  known = subst (IsKnown m [] b (noted s) (marked s) (asides s memory)) (sym none)
-      (subst (λ (l : List Aside). IsKnown m [] b (noted s) (marked s) l empty) (sym anew.alone) (laws.start m b (noted s) (marked s) anew.unnoted anew.unmarked));
+pub anew_carries : {S : Type 0} (slots : S → List ℕ → ℕ → Option Slot) (read_from : S → ℕ → Bool) (stale : S → Bool) (other_roots : S → List ℕ → List OtherRoot) (has_tables_under : S → List ℕ → (ℕ → Bool) → Type 0) → CarryLaws → (m : Setting) (b : State) (s : S) (memory : List ℕ)
+    → entries_of (slots s memory) ≡ empty → IsAsNew read_from stale other_roots has_tables_under s memory → IsCarried slots read_from stale other_roots has_tables_under m [] b s memory
+anew_carries slots read_from stale other_roots has_tables_under laws m b s memory none anew = record {
+  known = subst (IsKnown m [] b (read_from s) (stale s) (other_roots s memory)) (sym none)
+      (subst (λ (l : List OtherRoot). IsKnown m [] b (read_from s) (stale s) l empty) (sym anew.alone) (laws.start m b (read_from s) (stale s) anew.unnoted anew.unmarked));
   opened_to = anew.unopened _;
 }

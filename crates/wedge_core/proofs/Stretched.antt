@@ -126,8 +126,8 @@ module _ {S : Type 0} (stands : S → List ℕ → Type 0) (frames : S → List 
       within : AreWithin f (kept new)
       within = subst (AreWithin f) (sym set_same) h.within
 
-      opened : AreOpen image (wp_of g.cpu) (slots g.shadows new)
-      opened = same_open image (wp_of g.cpu) (slots g.shadows memory) (slots g.shadows new) (laws.same_slots g.shadows memory new h.stand same_in) h.open_to
+      has_tables_under : AreOpen image (wp_of g.cpu) (slots g.shadows new)
+      has_tables_under = same_open image (wp_of g.cpu) (slots g.shadows memory) (slots g.shadows new) (laws.same_slots g.shadows memory new h.stand same_in) h.open_to
 
       lends : ViewsLend → (script : Events) (whole : Set) → IsPartOf (kept memory) whole
           → Lends (wedge image script f) new (directory g.shadows (side_of (g.cpu.cpl == 3))) (not (g.cpu.cpl == 3)) (wp_of g.cpu) whole
@@ -137,7 +137,7 @@ module _ {S : Type 0} (stands : S → List ℕ → Type 0) (frames : S → List 
           let all : 4096 * (length new / 4096) ≡ length new = let w = whole_new in omega (arith, w) in
           let lent_here = views m new (directory g.shadows side) side (wp_of g.cpu) (slots g.shadows new) whole
           (λ page write lt. laws.host g.shadows new (length new / 4096) side page write stand all lt)
-          (λ page lt. laws.entry_at g.shadows new page lt) within opened (subst (λ (x : Set). IsPartOf x whole) (sym set_same) part) in
+          (λ page lt. laws.entry_at g.shadows new page lt) within has_tables_under (subst (λ (x : Set). IsPartOf x whole) (sym set_same) part) in
           subst (λ (x : Bool). Lends m new (directory g.shadows side) x (wp_of g.cpu) whole) (side_is g.cpu) lent_here
 
       -- the guest is held as before, at a later step
@@ -160,7 +160,7 @@ module _ {S : Type 0} (stands : S → List ℕ → Type 0) (frames : S → List 
             few = omega (arith, free, many, few);
             fills = (let n = h.fills in omega (arith, n, later));
             within = within;
-            open_to = opened;
+            open_to = has_tables_under;
           }
 
     -- ---- behind a run of the host

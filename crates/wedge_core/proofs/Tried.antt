@@ -9,7 +9,7 @@ use Rattle.frame_pool.specs.declared.Pool.{Pool}
 use Rattle.image_check.specs.Image.{Image}
 use Rattle.image_load.specs.Boot.{text_pages}
 use Rattle.paging.specs.Space.{Wedge, no_own, Space}
-use Rattle.shadow_tables.specs.Aside.{Aside, AreSame}
+use Rattle.shadow_tables.specs.OtherRoot.{OtherRoot, AreSame}
 use Rattle.shadow_tables.specs.Entries.{entries_of}
 use Rattle.shadow_tables.specs.Slots.{Slot, SameSlots}
 use Rattle.step_mem.specs.Changes.{AreWithin, changed}
@@ -30,7 +30,7 @@ use Rattle.wedge_step.proofs.Memories.{shown_is}
 use Rattle.wedge_core.proofs.Nexts.{next_from, starts}
 use Rattle.wedge_step.proofs.Opening.{same_open}
 
-module _ {S : Type 0} (stands : S → List ℕ → Type 0) (frames : S → List ℕ → List ℕ) (slots : S → List ℕ → ℕ → Option Slot) (asides : S → List ℕ → List Aside) where
+module _ {S : Type 0} (stands : S → List ℕ → Type 0) (frames : S → List ℕ → List ℕ) (slots : S → List ℕ → ℕ → Option Slot) (other_roots : S → List ℕ → List OtherRoot) where
   -- the state before it, in the words of a run with a script
   pub record Begun (image : Image) (r : Running S) (ram0 : List ℕ) (s0 : StepState) (script : Events) : Type 0 where
     pub start : space_at (λ x. entries_of (slots r.shadows x)) ram0 s0 ≡ space_at_start (wedge_mode image) r.frames r.cpu (shown (wedge image script r.frames) ram0) (entries_of (slots r.shadows ram0))
@@ -43,7 +43,7 @@ module _ {S : Type 0} (stands : S → List ℕ → Type 0) (frames : S → List 
   pub record Tried (image : Image) (r : Running S) (pool : Pool) (ram0 ram1 : List ℕ) (s0 s1 : StepState) : Type 0 where
     pub a : After stands frames slots image r.frames r.shadows pool ram0 ram1
     pub frames1 : s1.control.frames ≡ r.frames
-    pub asides1 : AreSame (asides r.shadows ram0) (asides r.shadows ram1)
+    pub asides1 : AreSame (other_roots r.shadows ram0) (other_roots r.shadows ram1)
     pub counted1 : r.held ≡ length (frames r.shadows ram1)
     pub few1 : length (free_list pool ram1) + length (frames r.shadows ram1) < 2 ^ 32
     pub wp1 : s1.control.wp ≡ wp_of r.cpu
@@ -56,7 +56,7 @@ module _ {S : Type 0} (stands : S → List ℕ → Type 0) (frames : S → List 
       (same_frames : (s : S) (m m' : List ℕ) → ∥ stands s m ∥₁ → SameIn (frames s m) m m' → frames s m' ≡ frames s m)
       (same_slots : (s : S) (m m' : List ℕ) → ∥ stands s m ∥₁ → SameIn (frames s m) m m' → SameSlots (slots s m) (slots s m'))
       (same_entries : (s : S) (m m' : List ℕ) → ∥ stands s m ∥₁ → SameIn (frames s m) m m' → entries_of (slots s m') ≡ entries_of (slots s m))
-      (same_asides : (s : S) (m m' : List ℕ) → ∥ stands s m ∥₁ → SameIn (frames s m) m m' → AreSame (asides s m) (asides s m'))
+      (same_other_roots : (s : S) (m m' : List ℕ) → ∥ stands s m ∥₁ → SameIn (frames s m) m m' → AreSame (other_roots s m) (other_roots s m'))
       (image : Image) (r : Running S) (pool : Pool) (ram0 ram1 : List ℕ) (s0 s1 : StepState) (first count : ℕ) (bytes : List ℕ) (guard : Guard) (guard0 : s0.guard ≡ guard)
       (first_is : first ≡ 256) (count_is : count ≡ text_pages image) (bytes_is : bytes ≡ image.text)
       (hides : (m : List ℕ) → laying.hidden guard r.frames m ≡ laying.beyond first count r.frames m) (lays : (m : List ℕ) → laying.shown_by guard.text.now r.frames m ≡ laying.laid bytes first r.frames m)
@@ -105,7 +105,7 @@ module _ {S : Type 0} (stands : S → List ℕ → Type 0) (frames : S → List 
       tried_from = record {
         a = left;
         frames1 = frames_same;
-        asides1 = same_asides r.shadows ram0 ram1 held.stand left.same;
+        asides1 = same_other_roots r.shadows ram0 ram1 held.stand left.same;
         counted1 = held.counted ∙ ap length (sym left.frames_same);
         few1 = few_after stands frames slots image r pool ram0 ram1 held left;
         wp1 = wp_same;

@@ -24,14 +24,14 @@ module _ {S : Type 0} (g : shadows.Ghosts S) where
   -- what is kept for other values of CR3, and what was noted, stays
   abbrev pub KeepsAside : S → S → List ℕ → List ℕ → Type 0
   KeepsAside old new memory then =
-      StayAside (g.noted old) (g.noted new) (g.marked old) (g.marked new) (g.asides old memory) (g.asides new then)
+      StayAside (g.read_from old) (g.read_from new) (g.stale old) (g.stale new) (g.other_roots old memory) (g.other_roots new then)
 
   -- What stays where translations are dropped: what is left can be found again, nothing is kept or opened that wasn't before,
   -- and the guest's memory is as it was.
   pub record StaysBeside (old new : Scene S) : Type 0 where
     pub ready : (m : Setting) → m.frames ≡ old.guest.frames → IsReadyIn g m old → IsReadyIn g m new
     pub back : new.guest.lost.back ≡ old.guest.lost.back
-    pub opened : (indices : ℕ → Bool) → g.opened old.guest.shadows old.memory indices → g.opened new.guest.shadows new.memory indices
+    pub has_tables_under : (indices : ℕ → Bool) → g.has_tables_under old.guest.shadows old.memory indices → g.has_tables_under new.guest.shadows new.memory indices
     pub fewer : kept_in g new ≤ kept_in g old
     pub guest : take (4096 * old.guest.frames) new.memory ≡ take (4096 * old.guest.frames) old.memory
 

@@ -10,12 +10,12 @@ abbrev pub of_roots : shadows.Ghosts Roots
 of_roots = record {
   stands = roots.stands;
   frames = roots.frames;
-  tracked = λ r. tables_of (pairs_of r);
-  noted = roots.noted;
-  marked = roots.marked;
+  write_protected = λ r. tables_of (pairs_of r);
+  read_from = roots.read_from;
+  stale = roots.stale;
   value = roots.value;
-  asides = roots.asides;
-  opened = roots.opened;
+  other_roots = roots.other_roots;
+  has_tables_under = roots.has_tables_under;
   slots = roots.slots;
   directory = λ r side. root_of r.present.shadow side;
 }

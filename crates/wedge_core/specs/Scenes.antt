@@ -13,7 +13,7 @@ module _ {S : Type 0} (g : shadows.Ghosts S) where
 
   -- what its shadows keep can be found again
   abbrev pub IsReadyIn : Setting → Scene S → Type 0
-  IsReadyIn m c = IsReady g.slots g.noted g.marked g.value g.asides m c.guest.cpu c.guest.shadows c.memory
+  IsReadyIn m c = IsReady g.slots g.read_from g.stale g.value g.other_roots m c.guest.cpu c.guest.shadows c.memory
 
   -- over whatever image it was held, it still is
   abbrev pub StaysHeld : Scene S → Scene S → Type 0

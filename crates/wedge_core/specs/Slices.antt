@@ -58,7 +58,7 @@ pub record SliceAs (m : Setting) (bound : ℕ) (old new : State) (out : Outward)
   pub ends : PausesAs m bound last new end result
   pub text : PutsAs (lines_of (trace_of reports)) out.told out.tells result
   pub counts : CountsOn m reports out.before out.after
-  pub noted : noting.wanted ≡ true → IsNoted m old new sets last notes result
+  pub told_notes : noting.wanted ≡ true → IsNoted m old new sets last notes result
   pub tells_notes : noting.on notes
   pub each_filled : All (λ (set : Set). FillsOn filling.pages (len set) filling.fills filling.filled) (sets ++ end ∷ [])
   pub kept : begins → Kept m old (sets ++ end ∷ [])

@@ -35,9 +35,9 @@ module _ {S : Type 0} (g : shadows.Ghosts S) where
         → IsHeld g.stands g.frames g.slots (ground image old.frames) new pool then
     pub pool : (pool : Pool) → IsHeld g.stands g.frames g.slots (ground image old.frames) old pool memory
         → Keeps pool pool memory then (g.frames old.shadows memory) (g.frames new.shadows then)
-    pub filled : FillsOn (pages_kept g.slots g.asides old.shadows memory) (pages_kept g.slots g.asides new.shadows then) old.fills new.fills
-    pub ready : IsReady g.slots g.noted g.marked g.value g.asides (ground image old.frames) old.cpu old.shadows memory
-        → IsReady g.slots g.noted g.marked g.value g.asides (ground image old.frames) new.cpu new.shadows then
+    pub filled : FillsOn (pages_kept g.slots g.other_roots old.shadows memory) (pages_kept g.slots g.other_roots new.shadows then) old.fills new.fills
+    pub ready : IsReady g.slots g.read_from g.stale g.value g.other_roots (ground image old.frames) old.cpu old.shadows memory
+        → IsReady g.slots g.read_from g.stale g.value g.other_roots (ground image old.frames) new.cpu new.shadows then
     pub kept : new.shadows ≡ old.shadows
     pub apart : SameIn (g.frames old.shadows memory) memory then
     pub able : IsAble new.cpu

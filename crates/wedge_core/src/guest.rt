@@ -118,7 +118,7 @@ impl Guest {
             (scene self.new.running pool.new (H.bytes host.new)) result }
         ensures own { GuestLeaves image.now script.now.list (scene self.old.running pool.old (H.bytes host.old))
             (scene self.new.running pool.new (H.bytes host.new)) result }
-        ensures noted { StaysSilent L.Notes notes.old notes.new }
+        ensures silent { StaysSilent L.Notes notes.old notes.new }
         ensures faults { FaultsOf (O.faults out.old) (O.faults out.new) result }
         ensures started { H.is_started host.new ≡ true }
     {

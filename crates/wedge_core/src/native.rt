@@ -5,7 +5,7 @@ ghost use Rattle.std.specs.FinMap.{empty};
 ghost use Rattle.frame_pool.specs.Pool.{free_list};
 ghost use Rattle.frame_pool.specs.Held.{Moves};
 ghost use Rattle.frame_pool.specs.declared.Pool.{Pool};
-ghost use Rattle.shadow_tables.specs.Aside.{AreSame};
+ghost use Rattle.shadow_tables.specs.OtherRoot.{AreSame};
 ghost use Rattle.shadow_tables.specs.Entries.{entries_of};
 ghost use Rattle.ia32_rows.specs.Spells.{Spells};
 ghost use Rattle.image_check.specs.Image.{Image};
@@ -46,7 +46,9 @@ use step_exec::{reach_both, user_outcome};
 use step_mem::{Kept, StepState, Text};
 use sys_exec::Refusal;
 use wedge_mem::Lent;
-use wedge_step::{Running, are_bytes, begin_over, clashes, go, keep, known_laws, text_frames};
+use wedge_step::{
+    Running, are_bytes, begin_over, clashes, fill_used, finish_step, known_laws, text_frames,
+};
 
 /// Such a step went, or the host is to do it: its pages are filled, and nothing else is done.
 #[derive(Clone, Copy)]
@@ -142,11 +144,11 @@ fn try_once<'t, S: Reloads + Drop>(
         Ok(Some(worked)) => {
             are_bytes(ram, image, running.frames);
             let count = text_frames(image);
-            go(running, pool, ram, state, &worked, count, wanted);
+            finish_step(running, pool, ram, state, &worked, count, wanted);
             Ok(Attempt::Stepped(worked.seen))
         }
         Ok(None) => {
-            keep(running, pool, ram, state, text_frames(image));
+            fill_used(running, pool, ram, state, text_frames(image));
             Ok(Attempt::Asked)
         }
     }
@@ -228,11 +230,12 @@ fn drop_dirs<S: Shadows>(shadows: &mut S, ram: &mut Ram)
     ensures stands { ∥ S.stands shadows.new ram.new ∥₁ }
     ensures none { (page : ℕ) → page < 2 ^ 20 → S.slots shadows.new ram.new page ≡ None }
     ensures entries { entries_of (S.slots shadows.new ram.new) ≡ empty }
-    ensures noted { (f : ℕ) → S.noted shadows.new f ≡ S.noted shadows.old f }
-    ensures marked { S.marked shadows.new ≡ S.marked shadows.old }
+    ensures read_from { (f : ℕ) → S.read_from shadows.new f ≡ S.read_from shadows.old f }
+    ensures stale { S.stale shadows.new ≡ S.stale shadows.old }
     ensures value { S.value shadows.new ≡ S.value shadows.old }
-    ensures asides { AreSame (S.asides shadows.old ram.old) (S.asides shadows.new ram.new) }
-    ensures opened { (indices : ℕ → Bool) → S.opened shadows.old ram.old indices → S.opened shadows.new ram.new indices }
+    ensures other_roots { AreSame (S.other_roots shadows.old ram.old) (S.other_roots shadows.new ram.new) }
+    ensures has_tables_under { (indices : ℕ → Bool) → S.has_tables_under shadows.old ram.old indices
+        → S.has_tables_under shadows.new ram.new indices }
     ensures frames { S.frames shadows.new ram.new ≡ S.frames shadows.old ram.old }
     ensures moves { MovesInEach S.Shadows shadows.old shadows.new ram.old ram.new }
 {

@@ -47,7 +47,7 @@ pub fn steps_to<S: Reloads + Drop, H: Host, O: Sink, L: Notes>(
         (BeginsCarried S.Shadows image.now script.now.list (scene running.old pool.old (H.bytes host.old)) (L.wants notes.old)) result }
     ensures leaves { SliceLeaves S.Shadows image.now bound (scene running.old pool.old (H.bytes host.old))
         (scene running.new pool.new (H.bytes host.new)) result }
-    ensures noted { StaysSilent L.Notes notes.old notes.new }
+    ensures silent { StaysSilent L.Notes notes.old notes.new }
     ensures faults { FaultsOf (O.faults out.old) (O.faults out.new) result }
     ensures started { H.is_started host.new ≡ true }
 {

@@ -42,13 +42,13 @@ slot side entry reads writes = record { side = side; entry = entry; reads = read
 slot-same : (s : Slot) (side : Side) (reads writes : Bool) → s.side ≡ side → s.reads ≡ reads → s.writes ≡ writes → Some s ≡ Some (slot side s.entry reads writes)
 slot-same s side reads writes a b c = λ i. Some (slot (a i) s.entry (b i) (c i))
 
-pub serves-same : (side : Side) (wp : Bool) (tracked : List ℕ) (o : Option Slot) → ((s : Slot) → o ≡ Some s → is_among s.entry.frame tracked ≡ true → s.writes ≡ false)
-    → serves side wp o ≡ true → o ≡ filled_by side wp tracked (entry_in o)
-serves-same side wp tracked None h e = refl
-serves-same side wp tracked (Some s) h e =
+pub serves-same : (side : Side) (wp : Bool) (write_protected : List ℕ) (o : Option Slot) → ((s : Slot) → o ≡ Some s → is_among s.entry.frame write_protected ≡ true → s.writes ≡ false)
+    → serves side wp o ≡ true → o ≡ filled_by side wp write_protected (entry_in o)
+serves-same side wp write_protected None h e = refl
+serves-same side wp write_protected (Some s) h e =
     let p = parts (permits side s.entry false wp) (is_side s.side side) s.reads (permits side s.entry true wp) s.writes e in
-    slot-same s side (permits side s.entry false wp) (not (is_among s.entry.frame tracked) && permits side s.entry true wp) (side-is s.side side p.0) p.1
-    (still s.writes (is_among s.entry.frame tracked) (permits side s.entry true wp) (h s refl) p.2)
+    slot-same s side (permits side s.entry false wp) (not (is_among s.entry.frame write_protected) && permits side s.entry true wp) (side-is s.side side p.0) p.1
+    (still s.writes (is_among s.entry.frame write_protected) (permits side s.entry true wp) (h s refl) p.2)
 
 pub served-not : (h s : Bool) → s ≡ true → false ≡ (h && not s)
 served-not true s e = sym (ap not e)

@@ -118,16 +118,16 @@ last-beyond f (c ∷ cs) q a h =
       | inr m ↦ ap (λ b. last_change (cond b (Some (entry_of c)) f) cs q) m.0 ∙ last-beyond f cs q (All-tail (λ (change : Change). page_of change < 2 ^ 20) c cs a) h
     ]
 
-entry-filled : (side : Side) (wp : Bool) (tracked : List ℕ) (o : Option Entry) → entry_in (filled_by side wp tracked o) ≡ o
-entry-filled side wp tracked None = refl
-entry-filled side wp tracked (Some e) = refl
+entry-filled : (side : Side) (wp : Bool) (write_protected : List ℕ) (o : Option Entry) → entry_in (filled_by side wp write_protected o) ≡ o
+entry-filled side wp write_protected None = refl
+entry-filled side wp write_protected (Some e) = refl
 
-module _ (old new : ℕ → Option Slot) (visited : List ℕ) (cs : List Change) (side : Side) (wp : Bool) (tracked : List ℕ) (a : AreOfPages cs) (fills : Fills old new (changed (entries_of old) cs) (pages_of visited cs) side wp tracked) where
+module _ (old new : ℕ → Option Slot) (visited : List ℕ) (cs : List Change) (side : Side) (wp : Bool) (write_protected : List ℕ) (a : AreOfPages cs) (fills : Fills old new (changed (entries_of old) cs) (pages_of visited cs) side wp write_protected) where
   entry-after : (q : ℕ) → get (entries_of new) q ≡ get (changed (entries_of old) cs) q
   entry-after q =
       elim (cases_lt q (2 ^ 20)) [
         | inl l ↦ elim (cases_Bool (is_among q (pages_of visited cs))) [
-          | inl t ↦ get-entries_of new q l ∙ ap entry_in (fills.through q l t) ∙ entry-filled side wp tracked (get (changed (entries_of old) cs) q)
+          | inl t ↦ get-entries_of new q l ∙ ap entry_in (fills.through q l t) ∙ entry-filled side wp write_protected (get (changed (entries_of old) cs) q)
           | inr f ↦
               get-entries_of new q l ∙ ap entry_in (fills.others q l f) ∙ sym (get-entries_of old q l)
               ∙ sym (get_changed (entries_of old) cs q ∙ ap (λ (o : Option (Option Entry)). settle o (get (entries_of old) q)) (last-none None cs q (not-second q visited (map page_of cs) f)))

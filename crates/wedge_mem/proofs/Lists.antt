@@ -95,13 +95,13 @@ not-both x (z ∷ xs) y e =
           (ap (λ b. b || is_among x xs) n.0 ∙ r.0, r.1)
     ]
 
-pub noted-less : (xs : List ℕ) (i : ℕ) (first old new : ℕ → Bool) → i < length xs → ((x : ℕ) → (x ≡ get_or xs i 0 → ⊥) → new x ≡ old x) → ((x : ℕ) → is_among x (take i xs) ≡ false → old x ≡ first x) → (x : ℕ) → is_among x (take (i + 1) xs) ≡ false → new x ≡ first x
-noted-less xs i first old new l here before x h =
+pub read_from-less : (xs : List ℕ) (i : ℕ) (first old new : ℕ → Bool) → i < length xs → ((x : ℕ) → (x ≡ get_or xs i 0 → ⊥) → new x ≡ old x) → ((x : ℕ) → is_among x (take i xs) ≡ false → old x ≡ first x) → (x : ℕ) → is_among x (take (i + 1) xs) ≡ false → new x ≡ first x
+read_from-less xs i first old new l here before x h =
     let b = not-both x (take i xs) (get_or xs i 0) (sym (ap (is_among x) (rw add-one (take-suc xs i 0 l))) ∙ h) in
     here x b.1 ∙ before x b.0
 
-pub noted-more : (xs : List ℕ) (i : ℕ) (old new : ℕ → Bool) → i < length xs → (get_or xs i 0 < 16384 → new (get_or xs i 0) ≡ true) → ((x : ℕ) → old x ≡ true → new x ≡ true) → ((x : ℕ) → is_among x (take i xs) ≡ true → x < 16384 → old x ≡ true) → (x : ℕ) → is_among x (take (i + 1) xs) ≡ true → x < 16384 → new x ≡ true
-noted-more xs i old new l here stays before x h low =
+pub read_from-more : (xs : List ℕ) (i : ℕ) (old new : ℕ → Bool) → i < length xs → (get_or xs i 0 < 16384 → new (get_or xs i 0) ≡ true) → ((x : ℕ) → old x ≡ true → new x ≡ true) → ((x : ℕ) → is_among x (take i xs) ≡ true → x < 16384 → old x ≡ true) → (x : ℕ) → is_among x (take (i + 1) xs) ≡ true → x < 16384 → new x ≡ true
+read_from-more xs i old new l here stays before x h low =
     elim (cases_Bool (is_among x (take i xs))) [
       | inl t ↦ stays x (before x t low)
       | inr n ↦

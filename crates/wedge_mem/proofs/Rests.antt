@@ -6,20 +6,20 @@ use Rattle.wedge_mem.specs.Seen.{KeepsRest}
 
 pub rest-refl : {S : Type 0} (g : shadows.Ghosts S) (a : S) (m : List ℕ) → KeepsRest g a a m m
 rest-refl g a m = record {
-  tracked = refl;
-  noted = λ frame. refl;
-  marked = refl;
+  write_protected = refl;
+  read_from = λ frame. refl;
+  stale = refl;
   value = refl;
-  asides = same-refl (g.asides a m);
+  other_roots = same-refl (g.other_roots a m);
   roots = λ view. refl;
 }
 
 pub rest-trans : {S : Type 0} (g : shadows.Ghosts S) (a b c : S) (m m1 m2 : List ℕ) → KeepsRest g a b m m1 → KeepsRest g b c m1 m2 → KeepsRest g a c m m2
 rest-trans g a b c m m1 m2 h k = record {
-  tracked = k.tracked ∙ h.tracked;
-  noted = λ frame. k.noted frame ∙ h.noted frame;
-  marked = k.marked ∙ h.marked;
+  write_protected = k.write_protected ∙ h.write_protected;
+  read_from = λ frame. k.read_from frame ∙ h.read_from frame;
+  stale = k.stale ∙ h.stale;
   value = k.value ∙ h.value;
-  asides = same-trans (g.asides a m) (g.asides b m1) (g.asides c m2) h.asides k.asides;
+  other_roots = same-trans (g.other_roots a m) (g.other_roots b m1) (g.other_roots c m2) h.other_roots k.other_roots;
   roots = λ view. k.roots view ∙ h.roots view;
 }

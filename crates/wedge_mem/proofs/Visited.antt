@@ -98,9 +98,9 @@ among-visited visited changes told q =
     let changed : List ℕ = map page_of changes in
     among-append q visited changed ∙ absorb (is_among q visited) (is_among q changed) (told q)
 
-pub fills-visited : (old new : ℕ → Option Slot) (set : FinMap nat_cmp Entry) (visited : List ℕ) (changes : List Change) (side : Side) (wp : Bool) (tracked : List ℕ)
-    → AreToldIn visited changes → Fills old new set visited side wp tracked → Fills old new set (pages_of visited changes) side wp tracked
-fills-visited old new set visited changes side wp tracked told f = record {
+pub fills-visited : (old new : ℕ → Option Slot) (set : FinMap nat_cmp Entry) (visited : List ℕ) (changes : List Change) (side : Side) (wp : Bool) (write_protected : List ℕ)
+    → AreToldIn visited changes → Fills old new set visited side wp write_protected → Fills old new set (pages_of visited changes) side wp write_protected
+fills-visited old new set visited changes side wp write_protected told f = record {
   through = λ page small there. f.through page small (sym (among-visited visited changes told page) ∙ there);
   others = λ page small none. f.others page small (sym (among-visited visited changes told page) ∙ none);
 }

@@ -8,7 +8,7 @@ use Rattle.frame_pool.specs.Pool.{base_of}
 use Rattle.frame_pool.specs.declared.Pool.{Pool}
 use Rattle.guest_ram.specs.Among.{is_among}
 use Rattle.paging.specs.declared.entry.Entry.{Entry}
-use Rattle.shadow_tables.specs.Aside.{AreSame}
+use Rattle.shadow_tables.specs.OtherRoot.{AreSame}
 use Rattle.shadow_tables.specs.Entries.{entries_of}
 use Rattle.shadow_tables.specs.Slots.{ArePart}
 use Rattle.shadow_tables.specs.declared.shadows.Shadows as shadows
@@ -42,32 +42,32 @@ module _ {S : Type 0} (g : shadows.Ghosts S) where
 
   -- all but what is kept of pages under the present tables
   pub record KeepsRest (old new : S) (m m' : List ℕ) : Type 0 where
-    pub tracked : g.tracked new ≡ g.tracked old
-    pub noted : (frame : ℕ) → g.noted new frame ≡ g.noted old frame
-    pub marked : g.marked new ≡ g.marked old
+    pub write_protected : g.write_protected new ≡ g.write_protected old
+    pub read_from : (frame : ℕ) → g.read_from new frame ≡ g.read_from old frame
+    pub stale : g.stale new ≡ g.stale old
     pub value : g.value new ≡ g.value old
-    pub asides : AreSame (g.asides old m) (g.asides new m')
+    pub other_roots : AreSame (g.other_roots old m) (g.other_roots new m')
     pub roots : (view : Side) → g.directory new view ≡ g.directory old view
 
   -- they open tables for the page's directory index alone
   abbrev pub OpensUnder : ℕ → (old new : S) → (m m' : List ℕ) → Type 0
   OpensUnder page old new m m' =
-      (indices : ℕ → Bool) → indices (page / 1024) ≡ true → g.opened old m indices → g.opened new m' indices
+      (indices : ℕ → Bool) → indices (page / 1024) ≡ true → g.has_tables_under old m indices → g.has_tables_under new m' indices
 
   -- for those of these pages alone
   abbrev pub OpensFor : List ℕ → (old new : S) → (m m' : List ℕ) → Type 0
   OpensFor pages old new m m' =
       (indices : ℕ → Bool) → ((page : ℕ) → is_among page pages ≡ true → indices (page / 1024) ≡ true)
-      → g.opened old m indices → g.opened new m' indices
+      → g.has_tables_under old m indices → g.has_tables_under new m' indices
 
   -- ---- what telling of writes leaves
 
   -- They know that these frames were written: none of them is tracked or noted any more, and the present tables are marked
   -- where one of them was noted.
   pub record KnowsWritten (wrote : List ℕ) (old new : S) : Type 0 where
-    pub noted : (frame : ℕ) → is_among frame wrote ≡ false → g.noted new frame ≡ g.noted old frame
-    pub noted_less : (frame : ℕ) → g.noted new frame ≡ true → g.noted old frame ≡ true
-    pub marked : g.marked new ≡ (g.marked old || list_any (g.noted old) wrote)
+    pub read_from : (frame : ℕ) → is_among frame wrote ≡ false → g.read_from new frame ≡ g.read_from old frame
+    pub noted_less : (frame : ℕ) → g.read_from new frame ≡ true → g.read_from old frame ≡ true
+    pub stale : g.stale new ≡ (g.stale old || list_any (g.read_from old) wrote)
     pub value : g.value new ≡ g.value old
-    pub tracked : ArePart (g.tracked new) (g.tracked old)
-    pub untracked : (frame : ℕ) → is_among frame wrote ≡ true → is_among frame (g.tracked new) ≡ false
+    pub write_protected : ArePart (g.write_protected new) (g.write_protected old)
+    pub untracked : (frame : ℕ) → is_among frame wrote ≡ true → is_among frame (g.write_protected new) ≡ false

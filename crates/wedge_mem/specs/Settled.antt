@@ -41,26 +41,26 @@ HasRoom set pages free result = MatchOption result (free < length (used set page
 abbrev pub LeavesSet : Option ℕ → (left set : FinMap nat_cmp Entry) → Type 0
 LeavesSet result left set = MatchOption result (left ≡ empty) (λ n. left ≡ set)
 
--- what a fill from an entry makes, where frames of `tracked` are barred from writes
+-- what a fill from an entry makes, where frames of `write_protected` are barred from writes
 abbrev pub filled_by : Side → Bool → List ℕ → Option Entry → Option Slot
-filled_by side wp tracked None = None
-filled_by side wp tracked (Some entry) = Some (filled (is_among entry.frame tracked) side entry wp)
+filled_by side wp write_protected None = None
+filled_by side wp write_protected (Some entry) = Some (filled (is_among entry.frame write_protected) side entry wp)
 
 -- the same of the set, where the page isn't filled later; of every other what is kept is what was
 abbrev pub FillsLast : (old new : ℕ → Option Slot) → FinMap nat_cmp Entry → (page : ℕ) → (later : List ℕ) → Side → Bool → List ℕ → Type 0
-FillsLast old new set page later side wp tracked =
+FillsLast old new set page later side wp write_protected =
     (q : ℕ) → q < 2 ^ 20
-    → new q ≡ (if (q == page) && not (is_among page later) then filled_by side wp tracked (get set page) else old q)
+    → new q ≡ (if (q == page) && not (is_among page later) then filled_by side wp write_protected (get set page) else old q)
 
 -- Each of these pages is held on that side with its entry of the set, or not at all where it has none. Of the others the
 -- same is kept, with no right that it hadn't.
-pub record Settles (old new : ℕ → Option Slot) (set : FinMap nat_cmp Entry) (pages : List ℕ) (side : Side) (wp : Bool) (tracked : List ℕ) : Type 0 where
-  pub through : (page : ℕ) → page < 2 ^ 20 → is_among page pages ≡ true → new page ≡ filled_by side wp tracked (get set page)
+pub record Settles (old new : ℕ → Option Slot) (set : FinMap nat_cmp Entry) (pages : List ℕ) (side : Side) (wp : Bool) (write_protected : List ℕ) : Type 0 where
+  pub through : (page : ℕ) → page < 2 ^ 20 → is_among page pages ≡ true → new page ≡ filled_by side wp write_protected (get set page)
   pub others : (page : ℕ) → page < 2 ^ 20 → is_among page pages ≡ false → IsWithin (new page) (old page)
 
 -- The same, where what is kept of the others is what was.
-pub record Fills (old new : ℕ → Option Slot) (set : FinMap nat_cmp Entry) (pages : List ℕ) (side : Side) (wp : Bool) (tracked : List ℕ) : Type 0 where
-  pub through : (page : ℕ) → page < 2 ^ 20 → is_among page pages ≡ true → new page ≡ filled_by side wp tracked (get set page)
+pub record Fills (old new : ℕ → Option Slot) (set : FinMap nat_cmp Entry) (pages : List ℕ) (side : Side) (wp : Bool) (write_protected : List ℕ) : Type 0 where
+  pub through : (page : ℕ) → page < 2 ^ 20 → is_among page pages ≡ true → new page ≡ filled_by side wp write_protected (get set page)
   pub others : (page : ℕ) → page < 2 ^ 20 → is_among page pages ≡ false → new page ≡ old page
 
 -- ---- which of the pages are filled

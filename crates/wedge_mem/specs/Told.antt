@@ -8,4 +8,4 @@ guest_frames frames = filter (λ frame. not (nat_le 16384 frame)) frames
 
 -- the guest's tables were read from the frame before the step, or are read from it by the step
 abbrev pub read_by : (ℕ → Bool) → List ℕ → ℕ → Bool
-read_by noted tables frame = noted frame || is_among frame (guest_frames tables)
+read_by read_from tables frame = read_from frame || is_among frame (guest_frames tables)

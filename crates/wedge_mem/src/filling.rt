@@ -75,9 +75,9 @@ fn fill_page<S: Shadows>(
     requires free { (if has_entry entry then 1 else 0) ≤ length (free_list pool.old ram.old) }
     ensures stands { ∥ S.stands shadows.new ram.new ∥₁ }
     ensures turns { Turns (S.slots shadows.old ram.old) (S.slots shadows.new ram.new) page
-        (filled_by side wp (S.tracked shadows.old) entry) }
+        (filled_by side wp (S.write_protected shadows.old) entry) }
     ensures rest { KeepsRest S.Shadows shadows.old shadows.new ram.old ram.new }
-    ensures opened { OpensUnder S.Shadows page shadows.old shadows.new ram.old ram.new }
+    ensures has_tables_under { OpensUnder S.Shadows page shadows.old shadows.new ram.old ram.new }
     ensures left { length (free_list pool.old ram.old) ≤ length (free_list pool.new ram.new) + (if has_entry entry then 1 else 0) }
     ensures moves { Moves pool.old pool.new ram.old ram.new (S.frames shadows.old ram.old) (S.frames shadows.new ram.new) }
 {
@@ -102,9 +102,9 @@ fn fill_again<S: Shadows>(
     requires free { (if has_entry (entry_in (S.slots shadows.old ram.old page)) then 1 else 0) ≤ length (free_list pool.old ram.old) }
     ensures stands { ∥ S.stands shadows.new ram.new ∥₁ }
     ensures turns { Turns (S.slots shadows.old ram.old) (S.slots shadows.new ram.new) page
-        (filled_by side wp (S.tracked shadows.old) (entry_in (S.slots shadows.old ram.old page))) }
+        (filled_by side wp (S.write_protected shadows.old) (entry_in (S.slots shadows.old ram.old page))) }
     ensures rest { KeepsRest S.Shadows shadows.old shadows.new ram.old ram.new }
-    ensures opened { OpensUnder S.Shadows page shadows.old shadows.new ram.old ram.new }
+    ensures has_tables_under { OpensUnder S.Shadows page shadows.old shadows.new ram.old ram.new }
     ensures left { length (free_list pool.old ram.old)
         ≤ length (free_list pool.new ram.new) + (if has_entry (entry_in (S.slots shadows.old ram.old page)) then 1 else 0) }
     ensures moves { Moves pool.old pool.new ram.old ram.new (S.frames shadows.old ram.old) (S.frames shadows.new ram.new) }
@@ -139,9 +139,9 @@ fn fill_last<S: Shadows>(
     requires free { fills_at (set_after S.Shadows shadows.old ram.old changes.now) page later.now ≤ length (free_list pool.old ram.old) }
     ensures stands { ∥ S.stands shadows.new ram.new ∥₁ }
     ensures slots { FillsLast (S.slots shadows.old ram.old) (S.slots shadows.new ram.new)
-        (set_after S.Shadows shadows.old ram.old changes.now) page later.now side wp (S.tracked shadows.old) }
+        (set_after S.Shadows shadows.old ram.old changes.now) page later.now side wp (S.write_protected shadows.old) }
     ensures rest { KeepsRest S.Shadows shadows.old shadows.new ram.old ram.new }
-    ensures opened { OpensUnder S.Shadows page shadows.old shadows.new ram.old ram.new }
+    ensures has_tables_under { OpensUnder S.Shadows page shadows.old shadows.new ram.old ram.new }
     ensures left { length (free_list pool.old ram.old)
         ≤ length (free_list pool.new ram.new) + fills_at (set_after S.Shadows shadows.old ram.old changes.now) page later.now }
     ensures moves { Moves pool.old pool.new ram.old ram.new (S.frames shadows.old ram.old) (S.frames shadows.new ram.new) }
@@ -179,9 +179,9 @@ pub fn fill_pages<S: Shadows>(
     requires few { length pages.now ≤ 128 }
     ensures stands { ∥ S.stands shadows.new ram.new ∥₁ }
     ensures fills { Fills (S.slots shadows.old ram.old) (S.slots shadows.new ram.new)
-        (set_after S.Shadows shadows.old ram.old changes.now) pages.now side wp (S.tracked shadows.old) }
+        (set_after S.Shadows shadows.old ram.old changes.now) pages.now side wp (S.write_protected shadows.old) }
     ensures rest { KeepsRest S.Shadows shadows.old shadows.new ram.old ram.new }
-    ensures opened { OpensFor S.Shadows pages.now shadows.old shadows.new ram.old ram.new }
+    ensures has_tables_under { OpensFor S.Shadows pages.now shadows.old shadows.new ram.old ram.new }
     ensures moves { Moves pool.old pool.new ram.old ram.new (S.frames shadows.old ram.old) (S.frames shadows.new ram.new) }
     ensures filled { result ≡ length (refilled (S.slots shadows.old ram.old)
         (set_after S.Shadows shadows.old ram.old changes.now) changes.now side wp pages.now) }

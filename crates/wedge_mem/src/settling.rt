@@ -44,7 +44,7 @@ pub fn settle<S: Shadows>(
     ensures settled { IsSettled S.Shadows shadows.old shadows.new ram.old ram.new
         (space_at (λ m. entries_of (S.slots shadows.old m)) ram.old state.now)
         (pages_of state.now.visited state.now.changes) side result }
-    ensures opened { OpensFor S.Shadows (pages_of state.now.visited state.now.changes) shadows.old shadows.new ram.old ram.new }
+    ensures has_tables_under { OpensFor S.Shadows (pages_of state.now.visited state.now.changes) shadows.old shadows.new ram.old ram.new }
     ensures guest { take (4096 * base_of pool.old) ram.new ≡ take (4096 * base_of pool.old) ram.old }
 {
     let _len = ram.len();

@@ -3,7 +3,7 @@
 ghost use Rattle.std.specs.Prelude.{◌≡◌, ◌≤◌, ℕ, length, [], ◌∷◌, Bool};
 ghost use Rattle.frame_pool.specs.Pool.{free_list};
 ghost use Rattle.frame_pool.specs.Held.{Owns, Moves, Writes};
-ghost use Rattle.shadow_tables.specs.Aside.{AreSame, LoseWrites, all_spared};
+ghost use Rattle.shadow_tables.specs.OtherRoot.{AreSame, LoseWrites, all_spared};
 ghost use Rattle.shadow_tables.specs.Entries.{entries_of};
 ghost use Rattle.shadow_tables.specs.Slots.{SameSlots};
 ghost use Rattle.shadow_tables.specs.declared.words.Side.{Side as View};
@@ -19,13 +19,14 @@ use shadow_tables::Shadows;
 fn note_table<S: Shadows>(shadows: &mut S, ram: &mut Ram, frame: u32)
     requires stands { ∥ S.stands shadows.old ram.old ∥₁ }
     ensures stands { ∥ S.stands shadows.new ram.new ∥₁ }
-    ensures noted { (f : ℕ) → S.noted shadows.new f ≡ read_by (S.noted shadows.old) (frame ∷ []) f }
-    ensures marked { S.marked shadows.new ≡ S.marked shadows.old }
+    ensures read_from { (f : ℕ) → S.read_from shadows.new f ≡ read_by (S.read_from shadows.old) (frame ∷ []) f }
+    ensures stale { S.stale shadows.new ≡ S.stale shadows.old }
     ensures value { S.value shadows.new ≡ S.value shadows.old }
-    ensures asides { LoseWrites (guest_frames (frame ∷ [])) (S.asides shadows.old ram.old) (S.asides shadows.new ram.new) }
+    ensures other_roots { LoseWrites (guest_frames (frame ∷ [])) (S.other_roots shadows.old ram.old) (S.other_roots shadows.new ram.new) }
     ensures slots { LosesSome (guest_frames (frame ∷ [])) (S.slots shadows.old ram.old) (S.slots shadows.new ram.new) }
     ensures entries { entries_of (S.slots shadows.new ram.new) ≡ entries_of (S.slots shadows.old ram.old) }
-    ensures opened { (indices : ℕ → Bool) → S.opened shadows.old ram.old indices → S.opened shadows.new ram.new indices }
+    ensures has_tables_under { (indices : ℕ → Bool) → S.has_tables_under shadows.old ram.old indices
+        → S.has_tables_under shadows.new ram.new indices }
     ensures roots { (view : View) → S.directory shadows.new view ≡ S.directory shadows.old view }
     ensures frames { S.frames shadows.new ram.new ≡ S.frames shadows.old ram.old }
     ensures memory { Writes (S.frames shadows.old ram.old) ram.old ram.new }
@@ -39,13 +40,14 @@ fn note_table<S: Shadows>(shadows: &mut S, ram: &mut Ram, frame: u32)
 pub fn note_tables<S: Shadows>(shadows: &mut S, ram: &mut Ram, tables: &[u32])
     requires stands { ∥ S.stands shadows.old ram.old ∥₁ }
     ensures stands { ∥ S.stands shadows.new ram.new ∥₁ }
-    ensures noted { (frame : ℕ) → S.noted shadows.new frame ≡ read_by (S.noted shadows.old) tables.now frame }
-    ensures marked { S.marked shadows.new ≡ S.marked shadows.old }
+    ensures read_from { (frame : ℕ) → S.read_from shadows.new frame ≡ read_by (S.read_from shadows.old) tables.now frame }
+    ensures stale { S.stale shadows.new ≡ S.stale shadows.old }
     ensures value { S.value shadows.new ≡ S.value shadows.old }
-    ensures asides { LoseWrites (guest_frames tables.now) (S.asides shadows.old ram.old) (S.asides shadows.new ram.new) }
+    ensures other_roots { LoseWrites (guest_frames tables.now) (S.other_roots shadows.old ram.old) (S.other_roots shadows.new ram.new) }
     ensures slots { LosesSome (guest_frames tables.now) (S.slots shadows.old ram.old) (S.slots shadows.new ram.new) }
     ensures entries { entries_of (S.slots shadows.new ram.new) ≡ entries_of (S.slots shadows.old ram.old) }
-    ensures opened { (indices : ℕ → Bool) → S.opened shadows.old ram.old indices → S.opened shadows.new ram.new indices }
+    ensures has_tables_under { (indices : ℕ → Bool) → S.has_tables_under shadows.old ram.old indices
+        → S.has_tables_under shadows.new ram.new indices }
     ensures roots { (view : View) → S.directory shadows.new view ≡ S.directory shadows.old view }
     ensures frames { S.frames shadows.new ram.new ≡ S.frames shadows.old ram.old }
     ensures memory { Writes (S.frames shadows.old ram.old) ram.old ram.new }
@@ -63,8 +65,9 @@ pub fn tell_written<S: Shadows>(shadows: &mut S, ram: &mut Ram, pool: &mut Pool,
     ensures slots { SameSlots (S.slots shadows.old ram.old) (S.slots shadows.new ram.new) }
     ensures entries { entries_of (S.slots shadows.new ram.new) ≡ entries_of (S.slots shadows.old ram.old) }
     ensures known { KnowsWritten S.Shadows wrote.now shadows.old shadows.new }
-    ensures asides { AreSame (all_spared wrote.now (S.asides shadows.old ram.old)) (S.asides shadows.new ram.new) }
-    ensures opened { (indices : ℕ → Bool) → S.opened shadows.old ram.old indices → S.opened shadows.new ram.new indices }
+    ensures other_roots { AreSame (all_spared wrote.now (S.other_roots shadows.old ram.old)) (S.other_roots shadows.new ram.new) }
+    ensures has_tables_under { (indices : ℕ → Bool) → S.has_tables_under shadows.old ram.old indices
+        → S.has_tables_under shadows.new ram.new indices }
     ensures roots { (view : View) → S.directory shadows.new view ≡ S.directory shadows.old view }
     ensures fewer { length (free_list pool.old ram.old) ≤ length (free_list pool.new ram.new) }
     ensures moves { Moves pool.old pool.new ram.old ram.new (S.frames shadows.old ram.old) (S.frames shadows.new ram.new) }

@@ -69,7 +69,7 @@ module _ {S : Type 0} (stands : S → List ℕ → Type 0) (frames : S → List 
       → Owns pool0 ram1 (frames old.shadows ram1) → Moves pool0 pool2 ram1 ram2 (frames old.shadows ram1) (frames new.shadows ram2) → ∥ stands new.shadows ram2 ∥₁ → Owns pool2 ram2 (frames new.shadows ram2)
       → new.held ≡ length (frames new.shadows ram2) → new.fills ≤ 128 * new.step → new.frames ≡ old.frames → AreWithin old.frames (entries_of (slots new.shadows ram2)) → AreOpen image (wp_of new.cpu) (slots new.shadows ram2)
       → IsHeld stands frames slots (ground image old.frames) new pool2 ram2
-  held_then image old new pool0 pool2 ram0 ram1 ram2 held a owned moves stand owns counted fills frames_are within opened =
+  held_then image old new pool0 pool2 ram0 ram1 ram2 held a owned moves stand owns counted fills frames_are within has_tables_under =
       let m = ground image old.frames in
       let room = held.wedge.room in
       let text = text_within image in
@@ -91,7 +91,7 @@ module _ {S : Type 0} (stands : S → List ℕ → Type 0) (frames : S → List 
         few = omega (arith, few, free, same, lengths);
         fills = fills;
         within = within;
-        open_to = opened;
+        open_to = has_tables_under;
       }
 
   pub keeps_then : (image : Image) (old new : Running S) (pool0 pool2 : Pool) (ram0 ram1 ram2 : List ℕ) → IsHeld stands frames slots (ground image old.frames) old pool0 ram0 → After image old.frames old.shadows pool0 ram0 ram1

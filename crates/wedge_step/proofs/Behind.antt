@@ -9,7 +9,7 @@ use Rattle.descriptors.specs.Controls.{pse_of}
 use Rattle.descriptors.specs.declared.cpu.Cpu.{Cpu}
 use Rattle.paging.specs.declared.entry.Entry.{Entry}
 use Rattle.paging.specs.Space.{Space}
-use Rattle.shadow_tables.specs.Aside.{Aside, IsSame, AreSame}
+use Rattle.shadow_tables.specs.OtherRoot.{OtherRoot, IsSame, AreSame}
 use Rattle.guest_ram.specs.Among.{is_among}
 use Rattle.shadow_tables.specs.Slots.{Slot, entry_in}
 use Rattle.shadow_tables.proofs.Lists.{within-same}
@@ -51,21 +51,21 @@ among_guest (x ∷ xs) f a lt = by (nat_le 16384 x) refl (λ h. among_guest xs f
       | inr n ↦ ap (λ (b : Bool). b || is_among f (guest_frames xs)) n.0 ∙ rest (sym (or_false (f == x) (is_among f xs) n.0) ∙ a)
     ]
 
-module _ (noted : ℕ → Bool) (tables wrote : List ℕ) (low : (frame : ℕ) → Contains tables frame → frame < 16384) (none : list_any (read_by noted tables) wrote ≡ false) where
+module _ (read_from : ℕ → Bool) (tables wrote : List ℕ) (low : (frame : ℕ) → Contains tables frame → frame < 16384) (none : list_any (read_by read_from tables) wrote ≡ false) where
   -- no frame that was noted was written
-  unwritten : (frame : ℕ) → noted frame ≡ true → Contains wrote frame → ⊥
-  unwritten frame n c = clash (noted frame) n (or_parts (noted frame) (is_among frame (guest_frames tables)) (any_none (read_by noted tables) wrote none frame (contains_among wrote frame c))).0
+  unwritten : (frame : ℕ) → read_from frame ≡ true → Contains wrote frame → ⊥
+  unwritten frame n c = clash (read_from frame) n (or_parts (read_from frame) (is_among frame (guest_frames tables)) (any_none (read_by read_from tables) wrote none frame (contains_among wrote frame c))).0
 
   apart : (frame : ℕ) → Contains tables frame → Contains wrote frame → ⊥
   apart frame t c =
       clash (is_among frame (guest_frames tables)) (among_guest tables frame (contains_among tables frame t) (low frame t))
-      (or_parts (noted frame) (is_among frame (guest_frames tables)) (any_none (read_by noted tables) wrote none frame (contains_among wrote frame c))).1
+      (or_parts (read_from frame) (is_among frame (guest_frames tables)) (any_none (read_by read_from tables) wrote none frame (contains_among wrote frame c))).1
 
-holds_of : (noted : ℕ → Bool) (tables : List ℕ) → ((frame : ℕ) → Contains tables frame → frame < 16384) → (frame : ℕ) → Contains tables frame → read_by noted tables frame ≡ true
-holds_of noted tables low frame c = ap (λ (b : Bool). noted frame || b) (among_guest tables frame (contains_among tables frame c) (low frame c)) ∙ or_true (noted frame)
+holds_of : (read_from : ℕ → Bool) (tables : List ℕ) → ((frame : ℕ) → Contains tables frame → frame < 16384) → (frame : ℕ) → Contains tables frame → read_by read_from tables frame ≡ true
+holds_of read_from tables low frame c = ap (λ (b : Bool). read_from frame || b) (among_guest tables frame (contains_among tables frame c) (low frame c)) ∙ or_true (read_from frame)
 
-noted_holds : (noted : ℕ → Bool) (tables : List ℕ) (frame : ℕ) → noted frame ≡ true → read_by noted tables frame ≡ true
-noted_holds noted tables frame e = ap (λ (b : Bool). b || is_among frame (guest_frames tables)) e
+noted_holds : (read_from : ℕ → Bool) (tables : List ℕ) (frame : ℕ) → read_from frame ≡ true → read_by read_from tables frame ≡ true
+noted_holds read_from tables frame e = ap (λ (b : Bool). b || is_among frame (guest_frames tables)) e
 
 -- over memory that follows, what is found by words in frames that weren't written is found still
 pub found_behind : (wrote ram then : List ℕ) (frames cr3 : ℕ) (pse : Bool) (tables : ℕ → Bool) (page : ℕ) (e : Entry) → page < 2 ^ 20 → 4096 * frames ≤ length ram → MemoryFollows wrote ram then
@@ -75,7 +75,7 @@ found_behind wrote ram then frames cr3 pse tables page e lt room follows free h 
 
 -- ---- what is kept for another value
 
-aside_behind : (wrote : List ℕ) (m : Setting) (cpu : Cpu) (ram then : List ℕ) (a : Aside) → 4096 * m.frames ≤ length ram → MemoryFollows wrote ram then → list_any a.tables wrote ≡ false
+aside_behind : (wrote : List ℕ) (m : Setting) (cpu : Cpu) (ram then : List ℕ) (a : OtherRoot) → 4096 * m.frames ≤ length ram → MemoryFollows wrote ram then → list_any a.tables wrote ≡ false
     → IsReadyAside m cpu ram a → IsReadyAside m cpu then a
 aside_behind wrote m cpu ram then a room follows none h = record {
   found = λ page lt slot e.
@@ -84,10 +84,10 @@ aside_behind wrote m cpu ram then a room follows none h = record {
   open_to = h.open_to;
 }
 
-shed : (a b : Aside) → IsSame a b → Sheds a b
+shed : (a b : OtherRoot) → IsSame a b → Sheds a b
 shed a b k = record { cr3 = k.cr3; tables = k.tables; slots = λ page lt. within-same (b.slots page) (a.slots page) (k.slots page lt) }
 
-pub asides_behind : (wrote : List ℕ) (m : Setting) (cpu : Cpu) (ram then : List ℕ) (olds news : List Aside) → 4096 * m.frames ≤ length ram → MemoryFollows wrote ram then → AreSame olds news
+pub asides_behind : (wrote : List ℕ) (m : Setting) (cpu : Cpu) (ram then : List ℕ) (olds news : List OtherRoot) → 4096 * m.frames ≤ length ram → MemoryFollows wrote ram then → AreSame olds news
     → AreReady m cpu ram olds → AreReadyBehind wrote m cpu then news
 asides_behind wrote m cpu ram then [] [] room follows same h = tt
 asides_behind wrote m cpu ram then [] (n ∷ ns) room follows same h = absurd same
@@ -98,7 +98,7 @@ asides_behind wrote m cpu ram then (o ∷ os) (n ∷ ns) room follows same h = (
   asides_behind wrote m cpu ram then os ns room follows same.1 h.1,
 )
 
-module _ {S : Type 0} (slots : S → List ℕ → ℕ → Option Slot) (noted : S → ℕ → Bool) (marked : S → Bool) (value : S → Option ℕ) (asides : S → List ℕ → List Aside) where
+module _ {S : Type 0} (slots : S → List ℕ → ℕ → Option Slot) (read_from : S → ℕ → Bool) (stale : S → Bool) (value : S → Option ℕ) (other_roots : S → List ℕ → List OtherRoot) where
   -- what a step's memory stands for before its first access and behind its last
   pub record IsStep (m : Setting) (cpu : Cpu) (s : S) (memory then : List ℕ) (first last : Space) : Type 0 where
     pub follows : Follows first last
@@ -111,10 +111,10 @@ module _ {S : Type 0} (slots : S → List ℕ → ℕ → Option Slot) (noted : 
     pub small : m.frames ≤ 16384
     pub untold : first.tables ≡ []
     pub kept : (page : ℕ) → page < 2 ^ 20 → get first.set page ≡ entry_in (slots s memory page)
-    pub same : AreSame (asides s memory) (asides s then)
+    pub same : AreSame (other_roots s memory) (other_roots s then)
 
   module _ (m : Setting) (cpu : Cpu) (s : S) (memory then : List ℕ) (first last : Space) (k : IsStep m cpu s memory then first last) (tables wrote : List ℕ) (tables_are : last.tables ≡ tables) (wrote_are : last.wrote ≡ wrote)
-      (h : IsReady slots noted marked value asides m cpu s memory)
+      (h : IsReady slots read_from stale value other_roots m cpu s memory)
     where
       follows : MemoryFollows wrote (shown m memory) (shown m then)
       follows =
@@ -131,42 +131,42 @@ module _ {S : Type 0} (slots : S → List ℕ → ℕ → Option Slot) (noted : 
           ]
 
       -- what was kept before
-      old_found : marked s ≡ false → list_any (read_by (noted s) tables) wrote ≡ false → (page : ℕ) → page < 2 ^ 20 → (e : Entry) → get first.set page ≡ Some e
-          → IsFoundBy (shown m then) m.frames cpu.cr3 (pse_of cpu) (read_by (noted s) tables) page e
+      old_found : stale s ≡ false → list_any (read_by (read_from s) tables) wrote ≡ false → (page : ℕ) → page < 2 ^ 20 → (e : Entry) → get first.set page ≡ Some e
+          → IsFoundBy (shown m then) m.frames cpu.cr3 (pse_of cpu) (read_by (read_from s) tables) page e
       old_found un none page lt e is = by (slots s memory page) refl
         where
-          by : (o : Option Slot) → slots s memory page ≡ o → IsFoundBy (shown m then) m.frames cpu.cr3 (pse_of cpu) (read_by (noted s) tables) page e
+          by : (o : Option Slot) → slots s memory page ≡ o → IsFoundBy (shown m then) m.frames cpu.cr3 (pse_of cpu) (read_by (read_from s) tables) page e
           by None at = absurd (none_some e (sym (k.kept page lt ∙ ap entry_in at) ∙ is))
           by (Some slot) at =
               let same : slot.entry ≡ e = (let x : Some slot.entry ≡ Some e = sym (k.kept page lt ∙ ap entry_in at) ∙ is in cc) in
               let here = h.present un page lt refl slot at in
-              let still = found_behind wrote (shown m memory) (shown m then) m.frames cpu.cr3 (pse_of cpu) (noted s) page slot.entry lt k.room follows (unwritten (noted s) tables wrote low none) here in
-              subst (λ (x : Entry). IsFoundBy (shown m then) m.frames cpu.cr3 (pse_of cpu) (read_by (noted s) tables) page x) same
-              (found_tables (shown m then) m.frames cpu.cr3 (pse_of cpu) (noted s) (read_by (noted s) tables) page slot.entry (noted_holds (noted s) tables) still)
+              let still = found_behind wrote (shown m memory) (shown m then) m.frames cpu.cr3 (pse_of cpu) (read_from s) page slot.entry lt k.room follows (unwritten (read_from s) tables wrote low none) here in
+              subst (λ (x : Entry). IsFoundBy (shown m then) m.frames cpu.cr3 (pse_of cpu) (read_by (read_from s) tables) page x) same
+              (found_tables (shown m then) m.frames cpu.cr3 (pse_of cpu) (read_from s) (read_by (read_from s) tables) page slot.entry (noted_holds (read_from s) tables) still)
 
       -- or what it left
-      new_found : marked s ≡ false → list_any (read_by (noted s) tables) wrote ≡ false → (page : ℕ) → page < 2 ^ 20 → (e : Entry) → get last.set page ≡ Some e
-          → IsFoundBy (shown m then) m.frames cpu.cr3 (pse_of cpu) (read_by (noted s) tables) page e
+      new_found : stale s ≡ false → list_any (read_by (read_from s) tables) wrote ≡ false → (page : ℕ) → page < 2 ^ 20 → (e : Entry) → get last.set page ≡ Some e
+          → IsFoundBy (shown m then) m.frames cpu.cr3 (pse_of cpu) (read_by (read_from s) tables) page e
       new_found un none page lt e is =
           let room = k.room in
           let fr = k.frames in
           let size = ap length k.ram in
           let there = k.follows.each (omega (arith, room, fr, size))
-          (λ frame t w. apart (noted s) tables wrote low none frame (subst (λ (l : List ℕ). Contains l frame) tables_are t) (subst (λ (l : List ℕ). Contains l frame) wrote_are w))
-          (read_by (noted s) tables) (λ frame t. holds_of (noted s) tables low frame (subst (λ (l : List ℕ). Contains l frame) tables_are t)) page lt e is in
+          (λ frame t w. apart (read_from s) tables wrote low none frame (subst (λ (l : List ℕ). Contains l frame) tables_are t) (subst (λ (l : List ℕ). Contains l frame) wrote_are w))
+          (read_by (read_from s) tables) (λ frame t. holds_of (read_from s) tables low frame (subst (λ (l : List ℕ). Contains l frame) tables_are t)) page lt e is in
           elim there [
             | inl was ↦ old_found un none page lt e was
             | inr found ↦
-                subst (λ (b : Bool). IsFoundBy (shown m then) m.frames cpu.cr3 b (read_by (noted s) tables) page e) (k.follows.pse ∙ k.pse)
-                (subst (λ (c : ℕ). IsFoundBy (shown m then) m.frames c last.pse (read_by (noted s) tables) page e) (k.follows.cr3 ∙ k.cr3)
-                (subst (λ (n : ℕ). IsFoundBy (shown m then) n last.cr3 last.pse (read_by (noted s) tables) page e) (k.follows.frames ∙ k.frames)
-                (subst (λ (l : List ℕ). IsFoundBy l last.frames last.cr3 last.pse (read_by (noted s) tables) page e) k.then_ram found)))
+                subst (λ (b : Bool). IsFoundBy (shown m then) m.frames cpu.cr3 b (read_by (read_from s) tables) page e) (k.follows.pse ∙ k.pse)
+                (subst (λ (c : ℕ). IsFoundBy (shown m then) m.frames c last.pse (read_by (read_from s) tables) page e) (k.follows.cr3 ∙ k.cr3)
+                (subst (λ (n : ℕ). IsFoundBy (shown m then) n last.cr3 last.pse (read_by (read_from s) tables) page e) (k.follows.frames ∙ k.frames)
+                (subst (λ (l : List ℕ). IsFoundBy l last.frames last.cr3 last.pse (read_by (read_from s) tables) page e) k.then_ram found)))
           ]
 
       pub behind_ready : (out : ℕ → Bool) (set : Set) → ((page : ℕ) → page < 2 ^ 20 → out page ≡ false → (e : Entry) → get set page ≡ Some e → (get first.set page ≡ Some e) ⊎ (get last.set page ≡ Some e))
-          → IsReadyBehind slots noted marked value asides out m cpu s then set tables wrote
+          → IsReadyBehind slots read_from stale value other_roots out m cpu s then set tables wrote
       behind_ready out set each = record {
         value_is = h.value_is;
         present = λ un none page lt o e is. elim (each page lt o e is) [ inl was ↦ old_found un none page lt e was | inr left ↦ new_found un none page lt e left ];
-        others = asides_behind wrote m cpu (shown m memory) (shown m then) (asides s memory) (asides s then) k.room follows k.same h.others;
+        others = asides_behind wrote m cpu (shown m memory) (shown m then) (other_roots s memory) (other_roots s then) k.room follows k.same h.others;
       }

@@ -24,17 +24,17 @@ pub settled_left : (new set : Set) (result : Option ℕ) → MatchOption result 
 settled_left new set None is = is
 settled_left new set (Some n) is = is
 
-module _ (old new : ℕ → Option Slot) (set : Set) (pages : List ℕ) (side : Side) (wp : Bool) (tracked : List ℕ) where
-  pub settled_shows : (image : Image) (count : ℕ) (result : Option ℕ) → MatchOption result (entries_of new ≡ empty) (λ n. entries_of new ≡ set) → IfSome result (λ n. Settles old new set pages side wp tracked)
+module _ (old new : ℕ → Option Slot) (set : Set) (pages : List ℕ) (side : Side) (wp : Bool) (write_protected : List ℕ) where
+  pub settled_shows : (image : Image) (count : ℕ) (result : Option ℕ) → MatchOption result (entries_of new ≡ empty) (λ n. entries_of new ≡ set) → IfSome result (λ n. Settles old new set pages side wp write_protected)
       → ((page : ℕ) → page < 2 ^ 20 → get (entries_of new) page ≡ entry_in (new page)) → ((page : ℕ) → is_among page pages ≡ true → is_entry_open count side (get set page) ≡ true) → count ≡ text_pages image
       → AreOpen image wp old → AreOpen image wp new
   settled_shows image count None is kept at tested count_is h = empty_open image wp new at is
   settled_shows image count (Some n) is kept at tested count_is h =
-      settled_open image wp old new set pages side tracked kept (λ page e. subst (λ (k : ℕ). is_entry_open k side (get set page) ≡ true) count_is (tested page e)) h
+      settled_open image wp old new set pages side write_protected kept (λ page e. subst (λ (k : ℕ). is_entry_open k side (get set page) ≡ true) count_is (tested page e)) h
 
   pub settled_whole : (count free : ℕ) (wrote : List ℕ) (result : Option ℕ) → HasRoom set pages free result
-      → MatchOption result (entries_of new ≡ empty) (λ n. entries_of new ≡ set) → IfSome result (λ n. Settles old new set pages side wp tracked)
-      → (IsSome result → (frame : ℕ) → is_among frame wrote ≡ true → is_among frame tracked ≡ false) → MayClose count side set pages free → (is_none result ≡ false) × Closes old new set pages side wp tracked wrote
+      → MatchOption result (entries_of new ≡ empty) (λ n. entries_of new ≡ set) → IfSome result (λ n. Settles old new set pages side wp write_protected)
+      → (IsSome result → (frame : ℕ) → is_among frame wrote ≡ true → is_among frame write_protected ≡ false) → MayClose count side set pages free → (is_none result ≡ false) × Closes old new set pages side wp write_protected wrote
   settled_whole count free wrote None few is kept untracked may = let room = may.room in absurd (omega (arith, room, few))
   settled_whole count free wrote (Some n) few is kept untracked may = (refl, record { settles = kept; untracked = untracked refl; entries = is })
 

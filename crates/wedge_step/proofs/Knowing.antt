@@ -10,7 +10,7 @@ use Rattle.paging.specs.Space.{Space}
 use Rattle.board.specs.declared.devices.Board.{Board}
 use Rattle.descriptors.specs.Controls.{pse_of, wp_of}
 use Rattle.descriptors.specs.declared.cpu.Cpu.{Cpu}
-use Rattle.shadow_tables.specs.Aside.{IsSame, AreSame}
+use Rattle.shadow_tables.specs.OtherRoot.{IsSame, AreSame}
 use Rattle.shadow_tables.specs.Entries.{entries_of}
 use Rattle.shadow_tables.specs.Laws.Entries.{get-entries_of, none-entries_of}
 use Rattle.shadow_tables.specs.Slots.{Slot, entry_in}
@@ -93,10 +93,10 @@ all_dropped dropped.All set e = refl
 
 -- it was told what the step read and wrote
 pub told_by : SettlingTells → (t : Taken) (v v' : Sight) (tables wrote : List ℕ) → t.report.tables ≡ tables → t.report.wrote ≡ wrote
-    → Tells tables wrote v v' → IsTold t v.noted v'.noted v.marked v'.marked v.asides v'.asides
+    → Tells tables wrote v v' → IsTold t v.read_from v'.read_from v.stale v'.stale v.other_roots v'.other_roots
 told_by tells t v v' tables wrote tables_are wrote_are told =
     let x = subst (λ (l : List ℕ). Tells t.report.tables l v v') (sym wrote_are) (subst (λ (l : List ℕ). Tells l wrote v v') (sym tables_are) told) in
-    tells t v.noted v'.noted v.marked v'.marked v.asides v'.asides x.notes x.marks x.others
+    tells t v.read_from v'.read_from v.stale v'.stale v.other_roots v'.other_roots x.notes x.marks x.others
 
 module _ (tells : SettlingTells) (comes : DroppedComesFrom) (t : Taken) (before : Cpu) (w : Worked) (s : Space) (value : Option ℕ) (base : Set) (changes : List Change)
     (a : IsAnswer t w s) (cpu : t.before.cpu ≡ before) (roots : RootsAs before w) (value_is : value ≡ Some before.cr3) (set : s.set ≡ changed base changes) (base_is : base ≡ t.set)
@@ -121,11 +121,11 @@ module _ (tells : SettlingTells) (comes : DroppedComesFrom) (t : Taken) (before 
     left q e = ap (λ (x : Set). get x q) set ∙ (unchanged base s.visited changes told q (unused q e) ∙ ap (λ (x : Set). get x q) base_is)
 
     pub over : (v v' : Sight) → v.value ≡ value → Ends w.dropped before w.cpu (pages_of s.visited changes) s.tables s.wrote s.set v v'
-        → IsOver t v.noted v'.noted v.marked v'.marked v'.slots v.asides v'.asides
+        → IsOver t v.read_from v'.read_from v.stale v'.stale v'.slots v.other_roots v'.other_roots
     over v v' is e = record {
-      noted1 = e.between.noted;
-      marked1 = e.between.marked;
-      asides1 = e.between.asides;
+      noted1 = e.between.read_from;
+      marked1 = e.between.stale;
+      asides1 = e.between.other_roots;
       told = told_by tells t v e.between s.tables s.wrote a.tables a.wrote e.told;
       through = λ go stay.
           let some : is_all w.dropped ≡ false = not_true (is_all w.dropped) (λ all. roots.all all (sym load_is ∙ go) (rules stay).1) in
@@ -141,17 +141,17 @@ module _ (tells : SettlingTells) (comes : DroppedComesFrom) (t : Taken) (before 
         cr3_now : t.after.cpu.cr3 ≡ w.cpu.cr3
         cr3_now = ap (λ (c : Cpu). c.cr3) a.cpu
 
-        loaded : loads_root t ≡ true → ReloadAside t e.between.noted v'.noted e.between.marked v'.marked v'.slots e.between.asides v'.asides
+        loaded : loads_root t ≡ true → ReloadAside t e.between.read_from v'.read_from e.between.stale v'.stale v'.slots e.between.other_roots v'.other_roots
         loaded go =
             let l = roots.load (sym load_is ∙ go) in
             let r = e.loaded (ap (λ (x : ℕ). has x 65536) l.1, ap (λ (x : ℕ). has x 16) l.2) l.0 in
             let x = r.between in
             let value_then : x.value ≡ Some t.before.cpu.cr3 = r.value ∙ (e.value ∙ value_now) in
             record {
-              noted1 = x.noted;
-              marked1 = x.marked;
+              noted1 = x.read_from;
+              marked1 = x.stale;
               slots1 = x.slots;
-              asides1 = x.asides;
+              asides1 = x.other_roots;
               stay = r.sheds.stay;
               comes = comes t s.set first x.slots by_first left (λ q lt e1. r.sheds.gone q lt (among_first q s.visited (map page_of changes) (is_used q e1)))
                   (λ q lt e1.
@@ -159,11 +159,11 @@ module _ (tells : SettlingTells) (comes : DroppedComesFrom) (t : Taken) (before 
                   ∙ (sym (get-entries_of e.between.slots q lt) ∙ ap (λ (y : Set). get y q) e.entries));
               loaded = record {
                 present =
-                    subst (λ (c : ℕ). IsSame (coming c (put_by (Some t.before.cpu.cr3) x.marked x.noted x.slots x.asides)) (record { cr3 = c; tables = v'.noted; slots = v'.slots })) (sym cr3_now)
-                    (subst (λ (k : Option ℕ). IsSame (coming w.cpu.cr3 (put_by k x.marked x.noted x.slots x.asides)) (record { cr3 = w.cpu.cr3; tables = v'.noted; slots = v'.slots })) value_then r.present);
+                    subst (λ (c : ℕ). IsSame (coming c (put_by (Some t.before.cpu.cr3) x.stale x.read_from x.slots x.other_roots)) (record { cr3 = c; tables = v'.read_from; slots = v'.slots })) (sym cr3_now)
+                    (subst (λ (k : Option ℕ). IsSame (coming w.cpu.cr3 (put_by k x.stale x.read_from x.slots x.other_roots)) (record { cr3 = w.cpu.cr3; tables = v'.read_from; slots = v'.slots })) value_then r.present);
                 others =
-                    subst (λ (c : ℕ). AreSame (staying c (put_by (Some t.before.cpu.cr3) x.marked x.noted x.slots x.asides)) v'.asides) (sym cr3_now)
-                    (subst (λ (k : Option ℕ). AreSame (staying w.cpu.cr3 (put_by k x.marked x.noted x.slots x.asides)) v'.asides) value_then r.put);
+                    subst (λ (c : ℕ). AreSame (staying c (put_by (Some t.before.cpu.cr3) x.stale x.read_from x.slots x.other_roots)) v'.other_roots) (sym cr3_now)
+                    (subst (λ (k : Option ℕ). AreSame (staying w.cpu.cr3 (put_by k x.stale x.read_from x.slots x.other_roots)) v'.other_roots) value_then r.put);
                 unmarked = r.unmarked;
               };
             }
@@ -184,10 +184,10 @@ pub unwritten_before : (steps : List Taken) (t : Taken) → Unwritten (steps ++ 
 unwritten_before steps t u front x back e = u front x (back ++ t ∷ []) (ap (λ (l : List Taken). l ++ t ∷ []) e ∙ append_assoc front (x ∷ back) (t ∷ []))
 
 -- from the directory in use, by words in frames that walks of the steps read
-pub all_found : (m : Setting) (steps : List Taken) (t : Taken) (cpu : Cpu) (ram : List ℕ) (noted : ℕ → Bool) (marked : Bool) (slots : ℕ → Option Slot) → t.before.cpu ≡ cpu → t.before.ram ≡ ram → t.set ≡ entries_of slots
-    → (marked ≡ false → (page : ℕ) → page < 2 ^ 20 → ForSome (slots page) (λ (slot : Slot). IsFoundBy ram m.frames cpu.cr3 (pse_of cpu) noted page slot.entry))
-    → ((frame : ℕ) → noted frame ≡ true → was_read steps frame ≡ true) → (Unwritten steps → marked ≡ false) → Unwritten (steps ++ t ∷ []) → AllFound m t.before t.before.cpu.cr3 steps t.set
-all_found m steps t cpu ram noted marked slots cpu_is ram_is set_is present read unmarked un page e there =
+pub all_found : (m : Setting) (steps : List Taken) (t : Taken) (cpu : Cpu) (ram : List ℕ) (read_from : ℕ → Bool) (stale : Bool) (slots : ℕ → Option Slot) → t.before.cpu ≡ cpu → t.before.ram ≡ ram → t.set ≡ entries_of slots
+    → (stale ≡ false → (page : ℕ) → page < 2 ^ 20 → ForSome (slots page) (λ (slot : Slot). IsFoundBy ram m.frames cpu.cr3 (pse_of cpu) read_from page slot.entry))
+    → ((frame : ℕ) → read_from frame ≡ true → was_read steps frame ≡ true) → (Unwritten steps → stale ≡ false) → Unwritten (steps ++ t ∷ []) → AllFound m t.before t.before.cpu.cr3 steps t.set
+all_found m steps t cpu ram read_from stale slots cpu_is ram_is set_is present read unmarked un page e there =
     let kept : get (entries_of slots) page ≡ Some e = ap (λ (x : Set). get x page) (sym set_is) ∙ there in
     elim (cases_lt page (2 ^ 20)) [
       | inl lt ↦ (lt, by lt (slots page) refl (sym (get-entries_of slots page lt) ∙ kept))
@@ -199,7 +199,7 @@ all_found m steps t cpu ram noted marked slots cpu_is ram_is set_is present read
     by lt (Some slot) at there =
         let same : slot.entry ≡ e = (let x : Some slot.entry ≡ Some e = sym (ap entry_in at) ∙ there in cc) in
         let here = present (unmarked (unwritten_before steps t un)) page lt slot at in
-        let more = found_tables ram m.frames cpu.cr3 (pse_of cpu) noted (was_read steps) page slot.entry read here in
+        let more = found_tables ram m.frames cpu.cr3 (pse_of cpu) read_from (was_read steps) page slot.entry read here in
         let now = subst (λ (c : Cpu). IsFoundBy ram m.frames c.cr3 (pse_of c) (was_read steps) page slot.entry) (sym cpu_is) more in
         let then = subst (λ (l : List ℕ). IsFoundBy l m.frames t.before.cpu.cr3 (pse_of t.before.cpu) (was_read steps) page slot.entry) (sym ram_is) now in
         subst (λ x. IsFoundBy t.before.ram m.frames t.before.cpu.cr3 (pse_of t.before.cpu) (was_read steps) page x) same then

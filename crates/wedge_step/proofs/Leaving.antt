@@ -7,7 +7,7 @@ use Rattle.std.specs.List.{list_any}
 use Rattle.frame_pool.specs.Pool.{free_list}
 use Rattle.frame_pool.specs.declared.Pool.{Pool}
 use Rattle.descriptors.specs.declared.cpu.Cpu.{Cpu}
-use Rattle.shadow_tables.specs.Aside.{Aside, AreSame, LoseWrites, all_spared}
+use Rattle.shadow_tables.specs.OtherRoot.{OtherRoot, AreSame, LoseWrites, all_spared}
 use Rattle.shadow_tables.specs.Entries.{entries_of}
 use Rattle.guest_ram.specs.Among.{is_among}
 use Rattle.shadow_tables.specs.Slots.{Slot}
@@ -44,19 +44,19 @@ next_stays old mid new xs i l rest before page lt h = let k = among_before page 
 
 -- ---- the same is kept beside what is present
 
-module _ (noted noted2 : ℕ → Bool) (marked marked2 : Bool) (asides asides2 : List Aside) where
-  pub stays_by : ((frame : ℕ) → noted2 frame ≡ noted frame) → marked2 ≡ marked → AreSame asides asides2 → StayAside noted noted2 marked marked2 asides asides2
+module _ (read_from noted2 : ℕ → Bool) (stale marked2 : Bool) (other_roots asides2 : List OtherRoot) where
+  pub stays_by : ((frame : ℕ) → noted2 frame ≡ read_from frame) → marked2 ≡ stale → AreSame other_roots asides2 → StayAside read_from noted2 stale marked2 other_roots asides2
   stays_by n m a = record { notes = λ frame h. sym (n frame) ∙ h; marks = λ h. sym m ∙ h; others = a }
 
 -- what a step that was settled was told
-pub tells_by : (v v' : Sight) (tables wrote : List ℕ) (result : Option ℕ) → ((frame : ℕ) → v'.noted frame ≡ true → read_by v.noted tables frame ≡ true)
-    → MatchOption result (v'.marked ≡ true → v.marked ≡ true) (λ n. v'.marked ≡ (v.marked || list_any (read_by v.noted tables) wrote))
-    → MatchOption result (v'.asides ≡ []) (λ n. LoseWrites (guest_frames tables) (all_spared wrote v.asides) v'.asides) → is_none result ≡ false → Tells tables wrote v v'
+pub tells_by : (v v' : Sight) (tables wrote : List ℕ) (result : Option ℕ) → ((frame : ℕ) → v'.read_from frame ≡ true → read_by v.read_from tables frame ≡ true)
+    → MatchOption result (v'.stale ≡ true → v.stale ≡ true) (λ n. v'.stale ≡ (v.stale || list_any (read_by v.read_from tables) wrote))
+    → MatchOption result (v'.other_roots ≡ []) (λ n. LoseWrites (guest_frames tables) (all_spared wrote v.other_roots) v'.other_roots) → is_none result ≡ false → Tells tables wrote v v'
 tells_by v v' tables wrote None n m a e = absurd (let f : true ≡ false = e in cc)
 tells_by v v' tables wrote (Some k) n m a e = record { notes = n; marks = m; others = a }
 
-pub stays_same : (noted : ℕ → Bool) (marked : Bool) (asides : List Aside) → StayAside noted noted marked marked asides asides
-stays_same noted marked asides = record { notes = λ frame h. h; marks = λ h. h; others = same-refl asides }
+pub stays_same : (read_from : ℕ → Bool) (stale : Bool) (other_roots : List OtherRoot) → StayAside read_from read_from stale stale other_roots other_roots
+stays_same read_from stale other_roots = record { notes = λ frame h. h; marks = λ h. h; others = same-refl other_roots }
 
 -- ---- a load of CR3
 

@@ -68,18 +68,18 @@ within_open image wp None b w h = λ slot e. absurd (none_some slot e)
 within_open image wp (Some a) None w h = absurd w
 within_open image wp (Some a) (Some b) w h = λ slot e. subst (IsOpenSlot image wp) (same_Some a slot e) (open_within image wp a b w (h b refl))
 
-filled_so : (image : Image) (wp : Bool) (side : Side) (tracked : List ℕ) (o : Option Entry) → is_entry_open (text_pages image) side o ≡ true → ForSome (filled_by side wp tracked o) (IsOpenSlot image wp)
-filled_so image wp side tracked None h = λ slot e. absurd (none_some slot e)
-filled_so image wp side tracked (Some entry) h =
-    λ slot e. subst (IsOpenSlot image wp) (same_Some (filled (is_among entry.frame tracked) side entry wp) slot e) (filled_open image (is_among entry.frame tracked) side entry wp h)
+filled_so : (image : Image) (wp : Bool) (side : Side) (write_protected : List ℕ) (o : Option Entry) → is_entry_open (text_pages image) side o ≡ true → ForSome (filled_by side wp write_protected o) (IsOpenSlot image wp)
+filled_so image wp side write_protected None h = λ slot e. absurd (none_some slot e)
+filled_so image wp side write_protected (Some entry) h =
+    λ slot e. subst (IsOpenSlot image wp) (same_Some (filled (is_among entry.frame write_protected) side entry wp) slot e) (filled_open image (is_among entry.frame write_protected) side entry wp h)
 
 -- the pages of a step, and the others
-pub settled_open : (image : Image) (wp : Bool) (old new : ℕ → Option Slot) (set : FinMap nat_cmp Entry) (pages : List ℕ) (side : Side) (tracked : List ℕ)
-    → Settles old new set pages side wp tracked → ((page : ℕ) → is_among page pages ≡ true → is_entry_open (text_pages image) side (get set page) ≡ true) → AreOpen image wp old → AreOpen image wp new
-settled_open image wp old new set pages side tracked s tested h page lt = by (is_among page pages) refl
+pub settled_open : (image : Image) (wp : Bool) (old new : ℕ → Option Slot) (set : FinMap nat_cmp Entry) (pages : List ℕ) (side : Side) (write_protected : List ℕ)
+    → Settles old new set pages side wp write_protected → ((page : ℕ) → is_among page pages ≡ true → is_entry_open (text_pages image) side (get set page) ≡ true) → AreOpen image wp old → AreOpen image wp new
+settled_open image wp old new set pages side write_protected s tested h page lt = by (is_among page pages) refl
   where
     by : (b : Bool) → is_among page pages ≡ b → ForSome (new page) (IsOpenSlot image wp)
-    by true e = subst (λ (o : Option Slot). ForSome o (IsOpenSlot image wp)) (sym (s.through page lt e)) (filled_so image wp side tracked (get set page) (tested page e))
+    by true e = subst (λ (o : Option Slot). ForSome o (IsOpenSlot image wp)) (sym (s.through page lt e)) (filled_so image wp side write_protected (get set page) (tested page e))
     by false e = within_open image wp (new page) (old page) (s.others page lt e) (h page lt)
 
 -- nothing is kept

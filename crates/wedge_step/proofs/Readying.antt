@@ -7,7 +7,7 @@ use Rattle.descriptors.specs.Controls.{pse_of, wp_of}
 use Rattle.descriptors.specs.declared.cpu.Cpu.{Cpu}
 use Rattle.image_check.specs.Image.{Image}
 use Rattle.paging.specs.declared.entry.Entry.{Entry}
-use Rattle.shadow_tables.specs.Aside.{Aside, IsSame, AreSame, all_spared}
+use Rattle.shadow_tables.specs.OtherRoot.{OtherRoot, IsSame, AreSame, all_spared}
 use Rattle.shadow_tables.specs.Calls.{IsWithin}
 use Rattle.shadow_tables.specs.Entries.{entries_of}
 use Rattle.shadow_tables.specs.Laws.Entries.{entries_of-none, entries_of-same}
@@ -31,28 +31,28 @@ by_entry P None e is h = λ slot x. absurd (none_some slot x)
 by_entry P (Some s) e is h = λ slot x. h slot.entry (is ∙ ap entry_in x)
 
 -- under the same rules
-pub rules_ready : (m : Setting) (before after : Cpu) (ram : List ℕ) (a : Aside) → pse_of after ≡ pse_of before → wp_of after ≡ wp_of before → IsReadyAside m before ram a → IsReadyAside m after ram a
+pub rules_ready : (m : Setting) (before after : Cpu) (ram : List ℕ) (a : OtherRoot) → pse_of after ≡ pse_of before → wp_of after ≡ wp_of before → IsReadyAside m before ram a → IsReadyAside m after ram a
 rules_ready m before after ram a pse wp h = record {
   found = λ page lt slot e. subst (λ (b : Bool). IsFoundBy ram m.frames a.cr3 b a.tables page slot.entry) (sym pse) (h.found page lt slot e);
   open_to = subst (λ (w : Bool). AreOpen m.image w a.slots) (sym wp) h.open_to;
 }
 
-pub all_rules : (m : Setting) (before after : Cpu) (ram : List ℕ) (asides : List Aside) → pse_of after ≡ pse_of before → wp_of after ≡ wp_of before → AreReady m before ram asides → AreReady m after ram asides
+pub all_rules : (m : Setting) (before after : Cpu) (ram : List ℕ) (other_roots : List OtherRoot) → pse_of after ≡ pse_of before → wp_of after ≡ wp_of before → AreReady m before ram other_roots → AreReady m after ram other_roots
 all_rules m before after ram [] pse wp h = tt
-all_rules m before after ram (a ∷ asides) pse wp h = (rules_ready m before after ram a pse wp h.0, all_rules m before after ram asides pse wp h.1)
+all_rules m before after ram (a ∷ other_roots) pse wp h = (rules_ready m before after ram a pse wp h.0, all_rules m before after ram other_roots pse wp h.1)
 
-module _ {S : Type 0} (slots : S → List ℕ → ℕ → Option Slot) (noted : S → ℕ → Bool) (marked : S → Bool) (value : S → Option ℕ) (asides : S → List ℕ → List Aside) where
+module _ {S : Type 0} (slots : S → List ℕ → ℕ → Option Slot) (read_from : S → ℕ → Bool) (stale : S → Bool) (value : S → Option ℕ) (other_roots : S → List ℕ → List OtherRoot) where
   -- ---- nothing is kept
 
-  pub none_ready : (out : ℕ → Bool) (m : Setting) (cpu : Cpu) (s : S) (memory : List ℕ) → value s ≡ Some cpu.cr3 → ((page : ℕ) → page < 2 ^ 20 → slots s memory page ≡ None) → asides s memory ≡ []
-      → IsReadyBut slots noted marked value asides out m cpu s memory
+  pub none_ready : (out : ℕ → Bool) (m : Setting) (cpu : Cpu) (s : S) (memory : List ℕ) → value s ≡ Some cpu.cr3 → ((page : ℕ) → page < 2 ^ 20 → slots s memory page ≡ None) → other_roots s memory ≡ []
+      → IsReadyBut slots read_from stale value other_roots out m cpu s memory
   none_ready out m cpu s memory is none alone = record {
     value_is = is;
     present = λ un page lt o slot e. absurd (none_some slot (sym (none page lt) ∙ e));
     others = subst (AreReady m cpu (shown m memory)) (sym alone) tt;
   }
 
-  pub none_pages : (s : S) (memory : List ℕ) → entries_of (slots s memory) ≡ empty → asides s memory ≡ [] → pages_kept slots asides s memory ≡ 0
+  pub none_pages : (s : S) (memory : List ℕ) → entries_of (slots s memory) ≡ empty → other_roots s memory ≡ [] → pages_kept slots other_roots s memory ≡ 0
   none_pages s memory is alone =
       let a = ap (λ (set : Set). len set) is ∙ Rattle.std.specs.FinMap.len-empty Rattle.std.specs.Ordering.nat_cmp Entry in
       let b = ap pages_aside alone in
@@ -61,82 +61,82 @@ module _ {S : Type 0} (slots : S → List ℕ → ℕ → Option Slot) (noted : 
   -- ---- less is kept
 
   pub fewer_ready : (out less : ℕ → Bool) (m : Setting) (cpu : Cpu) (old new : S) (memory then : List ℕ)
-      → value new ≡ value old → (marked new ≡ false → marked old ≡ false) → ((f : ℕ) → noted old f ≡ true → noted new f ≡ true)
+      → value new ≡ value old → (stale new ≡ false → stale old ≡ false) → ((f : ℕ) → read_from old f ≡ true → read_from new f ≡ true)
       → ((page : ℕ) → page < 2 ^ 20 → less page ≡ false → (slots new then page ≡ None) ⊎ ((out page ≡ false) × IsWithin (slots new then page) (slots old memory page)))
-      → AllShed (asides old memory) (asides new then) → shown m then ≡ shown m memory
-      → IsReadyBut slots noted marked value asides out m cpu old memory → IsReadyBut slots noted marked value asides less m cpu new then
+      → AllShed (other_roots old memory) (other_roots new then) → shown m then ≡ shown m memory
+      → IsReadyBut slots read_from stale value other_roots out m cpu old memory → IsReadyBut slots read_from stale value other_roots less m cpu new then
   fewer_ready out less m cpu old new memory then same unmarked wider each shed ram h = record {
     value_is = same ∙ h.value_is;
     present = λ un page lt o. by un page lt (each page lt o);
-    others = subst (λ (r : List ℕ). AreReady m cpu r (asides new then)) (sym ram) (all_ready_shed m cpu (shown m memory) (asides old memory) (asides new then) shed h.others);
+    others = subst (λ (r : List ℕ). AreReady m cpu r (other_roots new then)) (sym ram) (all_ready_shed m cpu (shown m memory) (other_roots old memory) (other_roots new then) shed h.others);
   }
     where
-      by : marked new ≡ false → (page : ℕ) → page < 2 ^ 20 → (slots new then page ≡ None) ⊎ ((out page ≡ false) × IsWithin (slots new then page) (slots old memory page))
-          → ForSome (slots new then page) (IsFoundIn m cpu (shown m then) cpu.cr3 (noted new) page)
+      by : stale new ≡ false → (page : ℕ) → page < 2 ^ 20 → (slots new then page ≡ None) ⊎ ((out page ≡ false) × IsWithin (slots new then page) (slots old memory page))
+          → ForSome (slots new then page) (IsFoundIn m cpu (shown m then) cpu.cr3 (read_from new) page)
       by un page lt (inl none) = λ slot e. absurd (none_some slot (sym none ∙ e))
       by un page lt (inr k) =
-          let P = λ (e : Entry). IsFoundBy (shown m then) m.frames cpu.cr3 (pse_of cpu) (noted new) page e in
+          let P = λ (e : Entry). IsFoundBy (shown m then) m.frames cpu.cr3 (pse_of cpu) (read_from new) page e in
           some_within P (slots new then page) (slots old memory page) k.1 (λ slot e.
-          subst (λ (r : List ℕ). IsFoundBy r m.frames cpu.cr3 (pse_of cpu) (noted new) page slot.entry) (sym ram)
-          (found_tables (shown m memory) m.frames cpu.cr3 (pse_of cpu) (noted old) (noted new) page slot.entry wider (h.present (unmarked un) page lt k.0 slot e)))
+          subst (λ (r : List ℕ). IsFoundBy r m.frames cpu.cr3 (pse_of cpu) (read_from new) page slot.entry) (sym ram)
+          (found_tables (shown m memory) m.frames cpu.cr3 (pse_of cpu) (read_from old) (read_from new) page slot.entry wider (h.present (unmarked un) page lt k.0 slot e)))
 
   -- ---- behind the accesses of a step
 
   -- all that the step left is kept
   pub settled_ready : (out : ℕ → Bool) (m : Setting) (cpu : Cpu) (old new : S) (memory then : List ℕ) (set : Set) (tables wrote : List ℕ)
-      → value new ≡ value old → (marked new ≡ false → (marked old ≡ false) × (list_any (read_by (noted old) tables) wrote ≡ false))
-      → (marked new ≡ false → (page : ℕ) → page < 2 ^ 20 → (e : Entry) → IsFoundBy (shown m memory) m.frames cpu.cr3 (pse_of cpu) (read_by (noted old) tables) page e → IsFoundBy (shown m memory) m.frames cpu.cr3 (pse_of cpu) (noted new) page e)
+      → value new ≡ value old → (stale new ≡ false → (stale old ≡ false) × (list_any (read_by (read_from old) tables) wrote ≡ false))
+      → (stale new ≡ false → (page : ℕ) → page < 2 ^ 20 → (e : Entry) → IsFoundBy (shown m memory) m.frames cpu.cr3 (pse_of cpu) (read_by (read_from old) tables) page e → IsFoundBy (shown m memory) m.frames cpu.cr3 (pse_of cpu) (read_from new) page e)
       → ((page : ℕ) → page < 2 ^ 20 → get set page ≡ entry_in (slots new then page))
-      → AllShed (all_spared wrote (asides old memory)) (asides new then) → shown m then ≡ shown m memory
-      → IsReadyBehind slots noted marked value asides out m cpu old memory set tables wrote → IsReadyBut slots noted marked value asides out m cpu new then
+      → AllShed (all_spared wrote (other_roots old memory)) (other_roots new then) → shown m then ≡ shown m memory
+      → IsReadyBehind slots read_from stale value other_roots out m cpu old memory set tables wrote → IsReadyBut slots read_from stale value other_roots out m cpu new then
   settled_ready out m cpu old new memory then set tables wrote same unmarked wider at shed ram h = record {
     value_is = same ∙ h.value_is;
     present = λ un page lt o.
         let u = unmarked un in
-        let P = λ (e : Entry). IsFoundBy (shown m then) m.frames cpu.cr3 (pse_of cpu) (noted new) page e in
+        let P = λ (e : Entry). IsFoundBy (shown m then) m.frames cpu.cr3 (pse_of cpu) (read_from new) page e in
         by_entry P (slots new then page) (get set page) (at page lt) (λ e is.
-        subst (λ (r : List ℕ). IsFoundBy r m.frames cpu.cr3 (pse_of cpu) (noted new) page e) (sym ram) (wider un page lt e (h.present u.0 u.1 page lt o e is)));
-    others = subst (λ (r : List ℕ). AreReady m cpu r (asides new then)) (sym ram)
-        (all_ready_shed m cpu (shown m memory) (all_spared wrote (asides old memory)) (asides new then) shed (ready_spared m cpu (shown m memory) wrote (asides old memory) h.others));
+        subst (λ (r : List ℕ). IsFoundBy r m.frames cpu.cr3 (pse_of cpu) (read_from new) page e) (sym ram) (wider un page lt e (h.present u.0 u.1 page lt o e is)));
+    others = subst (λ (r : List ℕ). AreReady m cpu r (other_roots new then)) (sym ram)
+        (all_ready_shed m cpu (shown m memory) (all_spared wrote (other_roots old memory)) (other_roots new then) shed (ready_spared m cpu (shown m memory) wrote (other_roots old memory) h.others));
   }
 
   -- ---- a load of CR3
 
-  put_ready : (m : Setting) (cpu : Cpu) (s : S) (memory : List ℕ) → AreOpen m.image (wp_of cpu) (slots s memory) → IsReady slots noted marked value asides m cpu s memory
-      → AreReady m cpu (shown m memory) (put_by (value s) (marked s) (noted s) (slots s memory) (asides s memory))
-  put_ready m cpu s memory opened h = by (value s) h.value_is (marked s) refl
+  put_ready : (m : Setting) (cpu : Cpu) (s : S) (memory : List ℕ) → AreOpen m.image (wp_of cpu) (slots s memory) → IsReady slots read_from stale value other_roots m cpu s memory
+      → AreReady m cpu (shown m memory) (put_by (value s) (stale s) (read_from s) (slots s memory) (other_roots s memory))
+  put_ready m cpu s memory has_tables_under h = by (value s) h.value_is (stale s) refl
     where
-      by : (v : Option ℕ) → v ≡ Some cpu.cr3 → (b : Bool) → marked s ≡ b → AreReady m cpu (shown m memory) (put_by v b (noted s) (slots s memory) (asides s memory))
+      by : (v : Option ℕ) → v ≡ Some cpu.cr3 → (b : Bool) → stale s ≡ b → AreReady m cpu (shown m memory) (put_by v b (read_from s) (slots s memory) (other_roots s memory))
       by None e b is = h.others
       by (Some cr3) e true is = h.others
       by (Some cr3) e false is = (
         record {
-          found = λ page lt slot x. subst (λ (c : ℕ). IsFoundBy (shown m memory) m.frames c (pse_of cpu) (noted s) page slot.entry) (let k : cr3 ≡ cpu.cr3 = cc in sym k) (h.present is page lt refl slot x);
-          open_to = opened;
+          found = λ page lt slot x. subst (λ (c : ℕ). IsFoundBy (shown m memory) m.frames c (pse_of cpu) (read_from s) page slot.entry) (let k : cr3 ≡ cpu.cr3 = cc in sym k) (h.present is page lt refl slot x);
+          open_to = has_tables_under;
         },
         h.others,
       )
 
-  put_open : (image : Image) (wp : Bool) (s : S) (memory : List ℕ) → AreOpen image wp (slots s memory) → AllOpen image wp (asides s memory)
-      → AllOpen image wp (put_by (value s) (marked s) (noted s) (slots s memory) (asides s memory))
-  put_open image wp s memory opened h = by (value s) (marked s)
+  put_open : (image : Image) (wp : Bool) (s : S) (memory : List ℕ) → AreOpen image wp (slots s memory) → AllOpen image wp (other_roots s memory)
+      → AllOpen image wp (put_by (value s) (stale s) (read_from s) (slots s memory) (other_roots s memory))
+  put_open image wp s memory has_tables_under h = by (value s) (stale s)
     where
-      by : (v : Option ℕ) (b : Bool) → AllOpen image wp (put_by v b (noted s) (slots s memory) (asides s memory))
+      by : (v : Option ℕ) (b : Bool) → AllOpen image wp (put_by v b (read_from s) (slots s memory) (other_roots s memory))
       by None b = h
       by (Some cr3) true = h
-      by (Some cr3) false = (opened, h)
+      by (Some cr3) false = (has_tables_under, h)
 
-  put_none : (s : S) (memory : List ℕ) → ((page : ℕ) → page < 2 ^ 20 → slots s memory page ≡ None) → asides s memory ≡ []
-      → Each (λ (a : Aside). (page : ℕ) → page < 2 ^ 20 → a.slots page ≡ None) (put_by (value s) (marked s) (noted s) (slots s memory) (asides s memory))
-  put_none s memory none alone = by (value s) (marked s)
+  put_none : (s : S) (memory : List ℕ) → ((page : ℕ) → page < 2 ^ 20 → slots s memory page ≡ None) → other_roots s memory ≡ []
+      → Each (λ (a : OtherRoot). (page : ℕ) → page < 2 ^ 20 → a.slots page ≡ None) (put_by (value s) (stale s) (read_from s) (slots s memory) (other_roots s memory))
+  put_none s memory none alone = by (value s) (stale s)
     where
-      P : Aside → Type 0
+      P : OtherRoot → Type 0
       P a = (page : ℕ) → page < 2 ^ 20 → a.slots page ≡ None
 
-      nothing : Each P (asides s memory)
+      nothing : Each P (other_roots s memory)
       nothing = subst (Each P) (sym alone) tt
 
-      by : (v : Option ℕ) (b : Bool) → Each P (put_by v b (noted s) (slots s memory) (asides s memory))
+      by : (v : Option ℕ) (b : Bool) → Each P (put_by v b (read_from s) (slots s memory) (other_roots s memory))
       by None b = nothing
       by (Some cr3) true = nothing
       by (Some cr3) false = (none, nothing)
@@ -144,48 +144,48 @@ module _ {S : Type 0} (slots : S → List ℕ → ℕ → Option Slot) (noted : 
   -- what is present and beside it, once a value is loaded
   pub record Switched (cr3 : ℕ) (old new : S) (memory then : List ℕ) : Type 0 where
     pub value_is : value new ≡ Some cr3
-    pub present : IsSame (coming cr3 (put_by (value old) (marked old) (noted old) (slots old memory) (asides old memory))) (record { cr3 = cr3; tables = noted new; slots = slots new then })
-    pub beside : AreSame (staying cr3 (put_by (value old) (marked old) (noted old) (slots old memory) (asides old memory))) (asides new then)
+    pub present : IsSame (coming cr3 (put_by (value old) (stale old) (read_from old) (slots old memory) (other_roots old memory))) (record { cr3 = cr3; tables = read_from new; slots = slots new then })
+    pub beside : AreSame (staying cr3 (put_by (value old) (stale old) (read_from old) (slots old memory) (other_roots old memory))) (other_roots new then)
 
   module _ (cr3 : ℕ) (old new : S) (memory then : List ℕ) (s : Switched cr3 old new memory then) where
-    abbrev put : List Aside
-    put = put_by (value old) (marked old) (noted old) (slots old memory) (asides old memory)
+    abbrev put : List OtherRoot
+    put = put_by (value old) (stale old) (read_from old) (slots old memory) (other_roots old memory)
 
     pub loaded_ready : (m : Setting) (before after : Cpu) → after.cr3 ≡ cr3 → pse_of after ≡ pse_of before → wp_of after ≡ wp_of before → shown m then ≡ shown m memory → AreOpen m.image (wp_of before) (slots old memory)
-        → IsReady slots noted marked value asides m before old memory
-        → IsReady slots noted marked value asides m after new then × AreFound m after (shown m then) cr3 (noted new) (slots new then)
-    loaded_ready m before after is pse wp ram opened h =
-        let all = ready_each m after (shown m memory) put (all_rules m before after (shown m memory) put pse wp (put_ready m before old memory opened h)) in
+        → IsReady slots read_from stale value other_roots m before old memory
+        → IsReady slots read_from stale value other_roots m after new then × AreFound m after (shown m then) cr3 (read_from new) (slots new then)
+    loaded_ready m before after is pse wp ram has_tables_under h =
+        let all = ready_each m after (shown m memory) put (all_rules m before after (shown m memory) put pse wp (put_ready m before old memory has_tables_under h)) in
         let here = each_coming (IsReadyAside m after (shown m memory)) cr3 put (begun_ready m after (shown m memory) cr3) all in
         let others = each_ready m after (shown m memory) (staying cr3 put) (each_staying (IsReadyAside m after (shown m memory)) cr3 put all) in
-        let found : AreFound m after (shown m then) cr3 (noted new) (slots new then) =
+        let found : AreFound m after (shown m then) cr3 (read_from new) (slots new then) =
         (λ page lt slot e.
-        subst (λ (r : List ℕ). IsFoundBy r m.frames cr3 (pse_of after) (noted new) page slot.entry) (sym ram)
-        (found_tables (shown m memory) m.frames cr3 (pse_of after) (coming cr3 put).tables (noted new) page slot.entry (λ f t. s.present.tables f ∙ t)
+        subst (λ (r : List ℕ). IsFoundBy r m.frames cr3 (pse_of after) (read_from new) page slot.entry) (sym ram)
+        (found_tables (shown m memory) m.frames cr3 (pse_of after) (coming cr3 put).tables (read_from new) page slot.entry (λ f t. s.present.tables f ∙ t)
         (subst (λ (c : ℕ). IsFoundBy (shown m memory) m.frames c (pse_of after) (coming cr3 put).tables page slot.entry) (coming_value cr3 put) (here.found page lt slot (sym (s.present.slots page lt) ∙ e))))) in (
           record {
             value_is = s.value_is ∙ ap (λ (c : ℕ). Some c) (sym is);
-            present = λ un page lt o slot e. subst (λ (c : ℕ). IsFoundBy (shown m then) m.frames c (pse_of after) (noted new) page slot.entry) (sym is) (found page lt slot e);
-            others = subst (λ (r : List ℕ). AreReady m after r (asides new then)) (sym ram) (all_ready_shed m after (shown m memory) (staying cr3 put) (asides new then) (same_shed (staying cr3 put) (asides new then) s.beside) others);
+            present = λ un page lt o slot e. subst (λ (c : ℕ). IsFoundBy (shown m then) m.frames c (pse_of after) (read_from new) page slot.entry) (sym is) (found page lt slot e);
+            others = subst (λ (r : List ℕ). AreReady m after r (other_roots new then)) (sym ram) (all_ready_shed m after (shown m memory) (staying cr3 put) (other_roots new then) (same_shed (staying cr3 put) (other_roots new then) s.beside) others);
           },
           found,
         )
 
-    pub loaded_shows : (image : Image) (wp : Bool) → AreOpen image wp (slots old memory) → AllOpen image wp (asides old memory) → AreOpen image wp (slots new then)
-    loaded_shows image wp opened h =
-        let P = λ (a : Aside). AreOpen image wp a.slots in
-        let here = each_coming P cr3 put (none_open image wp (begun_aside cr3).slots (λ page lt. refl)) (open_each image wp put (put_open image wp old memory opened h)) in
+    pub loaded_shows : (image : Image) (wp : Bool) → AreOpen image wp (slots old memory) → AllOpen image wp (other_roots old memory) → AreOpen image wp (slots new then)
+    loaded_shows image wp has_tables_under h =
+        let P = λ (a : OtherRoot). AreOpen image wp a.slots in
+        let here = each_coming P cr3 put (none_open image wp (begun_aside cr3).slots (λ page lt. refl)) (open_each image wp put (put_open image wp old memory has_tables_under h)) in
         same_open image wp (coming cr3 put).slots (slots new then) s.present.slots here
 
-    pub loaded_fewer : pages_kept slots asides new then ≤ pages_kept slots asides old memory
+    pub loaded_fewer : pages_kept slots other_roots new then ≤ pages_kept slots other_roots old memory
     loaded_fewer =
         let here = ap (λ (set : Set). len set) (entries_of-same (coming cr3 put).slots (slots new then) s.present.slots) in
-        let beside = shed_pages (staying cr3 put) (asides new then) (same_shed (staying cr3 put) (asides new then) s.beside) in
+        let beside = shed_pages (staying cr3 put) (other_roots new then) (same_shed (staying cr3 put) (other_roots new then) s.beside) in
         let all = loaded_pages cr3 put in
-        let few = put_by_pages (value old) (marked old) (noted old) (slots old memory) (asides old memory) in
+        let few = put_by_pages (value old) (stale old) (read_from old) (slots old memory) (other_roots old memory) in
         omega (arith, here, beside, all, few)
 
-    pub loaded_none : ((page : ℕ) → page < 2 ^ 20 → slots old memory page ≡ None) → asides old memory ≡ [] → entries_of (slots new then) ≡ empty
+    pub loaded_none : ((page : ℕ) → page < 2 ^ 20 → slots old memory page ≡ None) → other_roots old memory ≡ [] → entries_of (slots new then) ≡ empty
     loaded_none none alone =
-        let here = each_coming (λ (a : Aside). (page : ℕ) → page < 2 ^ 20 → a.slots page ≡ None) cr3 put (λ page lt. refl) (put_none old memory none alone) in
+        let here = each_coming (λ (a : OtherRoot). (page : ℕ) → page < 2 ^ 20 → a.slots page ≡ None) cr3 put (λ page lt. refl) (put_none old memory none alone) in
         entries_of-none (slots new then) (λ page lt. s.present.slots page lt ∙ here page lt)

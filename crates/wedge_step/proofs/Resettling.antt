@@ -6,7 +6,7 @@ use Rattle.std.specs.Ordering.{nat_cmp}
 use Rattle.std.specs.List.{list_any}
 use Rattle.descriptors.specs.declared.cpu.Cpu.{Cpu}
 use Rattle.image_check.specs.Image.{Image}
-use Rattle.shadow_tables.specs.Aside.{Aside, LoseWrites, all_spared}
+use Rattle.shadow_tables.specs.OtherRoot.{OtherRoot, LoseWrites, all_spared}
 use Rattle.shadow_tables.specs.Entries.{entries_of}
 use Rattle.guest_ram.specs.Among.{is_among}
 use Rattle.shadow_tables.specs.Slots.{Slot, entry_in}
@@ -31,21 +31,21 @@ or_parts true b c e f = absurd (let g : true ≡ false = sym e ∙ f in cc)
 or_parts false b c e f = (refl, sym e ∙ f)
 
 -- what is kept for other values
-abbrev pub AsidesAre : Option ℕ → (tables wrote : List ℕ) → (olds news : List Aside) → Type 0
+abbrev pub AsidesAre : Option ℕ → (tables wrote : List ℕ) → (olds news : List OtherRoot) → Type 0
 AsidesAre result tables wrote olds news = MatchOption result (news ≡ []) (λ n. LoseWrites (guest_frames tables) (all_spared wrote olds) news)
 
-pub closed_opens : (image : Image) (wp : Bool) (result : Option ℕ) (tables wrote : List ℕ) (olds news : List Aside) → AsidesAre result tables wrote olds news → AllOpen image wp olds → AllOpen image wp news
+pub closed_opens : (image : Image) (wp : Bool) (result : Option ℕ) (tables wrote : List ℕ) (olds news : List OtherRoot) → AsidesAre result tables wrote olds news → AllOpen image wp olds → AllOpen image wp news
 closed_opens image wp None tables wrote olds news is h = subst (AllOpen image wp) (sym is) tt
 closed_opens image wp (Some n) tables wrote olds news is h = open_shed image wp (all_spared wrote olds) news (lost_shed (guest_frames tables) (all_spared wrote olds) news is) (open_spared image wp wrote olds h)
 
-pub closed_pages : (result : Option ℕ) (tables wrote : List ℕ) (olds news : List Aside) → AsidesAre result tables wrote olds news → pages_aside news ≤ pages_aside olds
+pub closed_pages : (result : Option ℕ) (tables wrote : List ℕ) (olds news : List OtherRoot) → AsidesAre result tables wrote olds news → pages_aside news ≤ pages_aside olds
 closed_pages None tables wrote olds news is = let none = ap pages_aside is in omega (arith, none)
 closed_pages (Some n) tables wrote olds news is =
     let same = shed_pages (all_spared wrote olds) news (lost_shed (guest_frames tables) (all_spared wrote olds) news is) in
     let few = spared_pages wrote olds in
     omega (arith, same, few)
 
-pub closed_filled : (result : Option ℕ) (tables wrote : List ℕ) (old new : Set) (olds news : List Aside) → AsidesAre result tables wrote olds news → IfSome result (λ n. len new ≤ len old + n)
+pub closed_filled : (result : Option ℕ) (tables wrote : List ℕ) (old new : Set) (olds news : List OtherRoot) → AsidesAre result tables wrote olds news → IfSome result (λ n. len new ≤ len old + n)
     → IfSome result (λ n. len new + pages_aside news ≤ len old + pages_aside olds + n)
 closed_filled None tables wrote old new olds news is few = tt
 closed_filled (Some n) tables wrote old new olds news is few = let more = closed_pages (Some n) tables wrote olds news is in omega (arith, few, more)
@@ -54,37 +54,37 @@ closed_filled (Some n) tables wrote old new olds news is few = let more = closed
 pub no_slots : (slots : ℕ → Option Slot) → ((page : ℕ) → page < 2 ^ 20 → get (entries_of slots) page ≡ entry_in (slots page)) → entries_of slots ≡ empty → (page : ℕ) → page < 2 ^ 20 → slots page ≡ None
 no_slots slots at is page lt = no_slot (slots page) (sym (at page lt) ∙ (ap (λ (set : Set). get set page) is ∙ get-empty nat_cmp page))
 
-module _ {S : Type 0} (slots : S → List ℕ → ℕ → Option Slot) (noted : S → ℕ → Bool) (marked : S → Bool) (value : S → Option ℕ) (asides : S → List ℕ → List Aside) where
+module _ {S : Type 0} (slots : S → List ℕ → ℕ → Option Slot) (read_from : S → ℕ → Bool) (stale : S → Bool) (value : S → Option ℕ) (other_roots : S → List ℕ → List OtherRoot) where
   -- what the end of a step makes of them
   pub record Settled (old new : S) (memory then : List ℕ) (set : Set) (tables wrote : List ℕ) (result : Option ℕ) : Type 0 where
     pub entries : MatchOption result (entries_of (slots new then) ≡ empty) (λ n. entries_of (slots new then) ≡ set)
     pub at : (page : ℕ) → page < 2 ^ 20 → get (entries_of (slots new then)) page ≡ entry_in (slots new then page)
-    pub noted_is : IsSome result → (frame : ℕ) → is_among frame wrote ≡ false → noted new frame ≡ read_by (noted old) tables frame
-    pub marked_is : MatchOption result (marked new ≡ true → marked old ≡ true) (λ n. marked new ≡ (marked old || list_any (read_by (noted old) tables) wrote))
+    pub noted_is : IsSome result → (frame : ℕ) → is_among frame wrote ≡ false → read_from new frame ≡ read_by (read_from old) tables frame
+    pub marked_is : MatchOption result (stale new ≡ true → stale old ≡ true) (λ n. stale new ≡ (stale old || list_any (read_by (read_from old) tables) wrote))
     pub value_is : value new ≡ value old
-    pub asides_are : AsidesAre result tables wrote (asides old memory) (asides new then)
+    pub asides_are : AsidesAre result tables wrote (other_roots old memory) (other_roots new then)
 
-  pub closed_none : (old new : S) (memory then : List ℕ) (set : Set) (tables wrote : List ℕ) (result : Option ℕ) → Settled old new memory then set tables wrote result → is_none result ≡ true → pages_kept slots asides new then ≡ 0
-  closed_none old new memory then set tables wrote None s e = none_pages slots noted marked value asides new then s.entries s.asides_are
+  pub closed_none : (old new : S) (memory then : List ℕ) (set : Set) (tables wrote : List ℕ) (result : Option ℕ) → Settled old new memory then set tables wrote result → is_none result ≡ true → pages_kept slots other_roots new then ≡ 0
+  closed_none old new memory then set tables wrote None s e = none_pages slots read_from stale value other_roots new then s.entries s.asides_are
   closed_none old new memory then set tables wrote (Some n) s e = absurd (let f : false ≡ true = e in cc)
 
   pub closed_ready : (out : ℕ → Bool) (m : Setting) (cpu : Cpu) (old new : S) (memory then : List ℕ) (set : Set) (tables wrote : List ℕ) (result : Option ℕ) → Settled old new memory then set tables wrote result
-      → shown m then ≡ shown m memory → IsReadyBehind slots noted marked value asides out m cpu old memory set tables wrote → IsReadyBut slots noted marked value asides out m cpu new then
+      → shown m then ≡ shown m memory → IsReadyBehind slots read_from stale value other_roots out m cpu old memory set tables wrote → IsReadyBut slots read_from stale value other_roots out m cpu new then
   closed_ready out m cpu old new memory then set tables wrote None s ram h =
-      none_ready slots noted marked value asides out m cpu new then (s.value_is ∙ h.value_is) (no_slots (slots new then) s.at s.entries) s.asides_are
+      none_ready slots read_from stale value other_roots out m cpu new then (s.value_is ∙ h.value_is) (no_slots (slots new then) s.at s.entries) s.asides_are
   closed_ready out m cpu old new memory then set tables wrote (Some n) s ram h =
-      let parts = λ (un : marked new ≡ false). or_parts (marked old) (list_any (read_by (noted old) tables) wrote) (marked new) s.marked_is un in
-      settled_ready slots noted marked value asides out m cpu old new memory then set tables wrote s.value_is parts
-      (λ un page lt e. found_tables (shown m memory) m.frames cpu.cr3 (Rattle.descriptors.specs.Controls.pse_of cpu) (read_by (noted old) tables) (noted new) page e
+      let parts = λ (un : stale new ≡ false). or_parts (stale old) (list_any (read_by (read_from old) tables) wrote) (stale new) s.marked_is un in
+      settled_ready slots read_from stale value other_roots out m cpu old new memory then set tables wrote s.value_is parts
+      (λ un page lt e. found_tables (shown m memory) m.frames cpu.cr3 (Rattle.descriptors.specs.Controls.pse_of cpu) (read_by (read_from old) tables) (read_from new) page e
       (λ f r. s.noted_is refl f (unwritten f (parts un).1 r) ∙ r))
       (λ page lt. ap (λ (x : Set). get x page) (sym s.entries) ∙ s.at page lt)
-      (lost_shed (guest_frames tables) (all_spared wrote (asides old memory)) (asides new then) s.asides_are) ram h
+      (lost_shed (guest_frames tables) (all_spared wrote (other_roots old memory)) (other_roots new then) s.asides_are) ram h
     where
-      by : (f : ℕ) (b : Bool) → is_among f wrote ≡ b → list_any (read_by (noted old) tables) wrote ≡ false → read_by (noted old) tables f ≡ true → is_among f wrote ≡ false
-      by f true e none r = absurd (clash (read_by (noted old) tables f) r (any_none (read_by (noted old) tables) wrote none f e))
+      by : (f : ℕ) (b : Bool) → is_among f wrote ≡ b → list_any (read_by (read_from old) tables) wrote ≡ false → read_by (read_from old) tables f ≡ true → is_among f wrote ≡ false
+      by f true e none r = absurd (clash (read_by (read_from old) tables f) r (any_none (read_by (read_from old) tables) wrote none f e))
       by f false e none r = e
 
-      unwritten : (f : ℕ) → list_any (read_by (noted old) tables) wrote ≡ false → read_by (noted old) tables f ≡ true → is_among f wrote ≡ false
+      unwritten : (f : ℕ) → list_any (read_by (read_from old) tables) wrote ≡ false → read_by (read_from old) tables f ≡ true → is_among f wrote ≡ false
       unwritten f none r = by f (is_among f wrote) refl none r
 
 -- how many were filled, and how many are kept then

@@ -11,7 +11,7 @@ use Rattle.descriptors.specs.declared.cpu.Cpu.{Cpu}
 use Rattle.descriptors.specs.Controls.{wp_of}
 use Rattle.image_check.specs.Image.{Image}
 use Rattle.paging.specs.declared.entry.Entry.{Entry}
-use Rattle.shadow_tables.specs.Aside.{Aside, IsSame, AreSame, LoseWrites, all_spared}
+use Rattle.shadow_tables.specs.OtherRoot.{OtherRoot, IsSame, AreSame, LoseWrites, all_spared}
 use Rattle.shadow_tables.specs.Calls.{IsWithin}
 use Rattle.shadow_tables.specs.Entries.{entries_of}
 use Rattle.shadow_tables.specs.Laws.Entries.{get-entries_of, none-entries_of, entries_of-none}
@@ -67,27 +67,27 @@ module _ (m : Setting) (cpu : Cpu) (ram : List ℕ) where
 
 -- ---- values of CR3, each with fewer rights
 
-pub record Sheds (old new : Aside) : Type 0 where
+pub record Sheds (old new : OtherRoot) : Type 0 where
   pub cr3 : new.cr3 ≡ old.cr3
   pub tables : (f : ℕ) → new.tables f ≡ old.tables f
   pub slots : AllWithin new.slots old.slots
 
-abbrev pub AllShed : List Aside → List Aside → Type 0
+abbrev pub AllShed : List OtherRoot → List OtherRoot → Type 0
 AllShed [] [] = Unit {0}
 AllShed [] (n ∷ ns) = ⊥
 AllShed (o ∷ os) [] = ⊥
 AllShed (o ∷ os) (n ∷ ns) = Sheds o n × AllShed os ns
 
-is_shed : (old new : Aside) → IsSame old new → Sheds old new
+is_shed : (old new : OtherRoot) → IsSame old new → Sheds old new
 is_shed old new h = record { cr3 = h.cr3; tables = h.tables; slots = λ page lt. within-same (new.slots page) (old.slots page) (h.slots page lt) }
 
-pub same_shed : (olds news : List Aside) → AreSame olds news → AllShed olds news
+pub same_shed : (olds news : List OtherRoot) → AreSame olds news → AllShed olds news
 same_shed [] [] h = tt
 same_shed [] (n ∷ ns) h = h
 same_shed (o ∷ os) [] h = h
 same_shed (o ∷ os) (n ∷ ns) h = (is_shed o n h.0, same_shed os ns h.1)
 
-pub lost_shed : (frames : List ℕ) (olds news : List Aside) → LoseWrites frames olds news → AllShed olds news
+pub lost_shed : (frames : List ℕ) (olds news : List OtherRoot) → LoseWrites frames olds news → AllShed olds news
 lost_shed frames [] [] h = tt
 lost_shed frames [] (n ∷ ns) h = h
 lost_shed frames (o ∷ os) [] h = h
@@ -95,7 +95,7 @@ lost_shed frames (o ∷ os) (n ∷ ns) h =
     (record { cr3 = h.0.cr3; tables = h.0.tables; slots = λ page lt. note-within o.slots n.slots frames page h.0.slots lt }, lost_shed frames os ns h.1)
 
 -- as many pages
-pub shed_pages : (olds news : List Aside) → AllShed olds news → pages_aside news ≡ pages_aside olds
+pub shed_pages : (olds news : List OtherRoot) → AllShed olds news → pages_aside news ≡ pages_aside olds
 shed_pages [] [] h = refl
 shed_pages [] (n ∷ ns) h = absurd h
 shed_pages (o ∷ os) [] h = absurd h
@@ -104,144 +104,144 @@ shed_pages (o ∷ os) (n ∷ ns) h =
     let rest = shed_pages os ns h.1 in
     omega (arith, here, rest)
 
-pub open_shed : (image : Image) (wp : Bool) (olds news : List Aside) → AllShed olds news → AllOpen image wp olds → AllOpen image wp news
+pub open_shed : (image : Image) (wp : Bool) (olds news : List OtherRoot) → AllShed olds news → AllOpen image wp olds → AllOpen image wp news
 open_shed image wp [] [] h a = tt
 open_shed image wp [] (n ∷ ns) h a = absurd h
 open_shed image wp (o ∷ os) [] h a = absurd h
 open_shed image wp (o ∷ os) (n ∷ ns) h a = (λ page lt. within_open image wp (n.slots page) (o.slots page) (h.0.slots page lt) (a.0 page lt), open_shed image wp os ns h.1 a.1)
 
 -- some of them leave
-if_open : (image : Image) (wp b : Bool) (a : Aside) (rest : List Aside) → AreOpen image wp a.slots → AllOpen image wp rest → AllOpen image wp (cond b (a ∷ rest) rest)
+if_open : (image : Image) (wp b : Bool) (a : OtherRoot) (rest : List OtherRoot) → AreOpen image wp a.slots → AllOpen image wp rest → AllOpen image wp (cond b (a ∷ rest) rest)
 if_open image wp true a rest h k = (h, k)
 if_open image wp false a rest h k = k
 
-pub open_spared : (image : Image) (wp : Bool) (wrote : List ℕ) (asides : List Aside) → AllOpen image wp asides → AllOpen image wp (all_spared wrote asides)
+pub open_spared : (image : Image) (wp : Bool) (wrote : List ℕ) (other_roots : List OtherRoot) → AllOpen image wp other_roots → AllOpen image wp (all_spared wrote other_roots)
 open_spared image wp wrote [] h = tt
-open_spared image wp wrote (a ∷ asides) h = if_open image wp (not (list_any a.tables wrote)) a (all_spared wrote asides) h.0 (open_spared image wp wrote asides h.1)
+open_spared image wp wrote (a ∷ other_roots) h = if_open image wp (not (list_any a.tables wrote)) a (all_spared wrote other_roots) h.0 (open_spared image wp wrote other_roots h.1)
 
-if_pages : (b : Bool) (a : Aside) (rest all : List Aside) → pages_aside rest ≤ pages_aside all → pages_aside (cond b (a ∷ rest) rest) ≤ pages_aside (a ∷ all)
+if_pages : (b : Bool) (a : OtherRoot) (rest all : List OtherRoot) → pages_aside rest ≤ pages_aside all → pages_aside (cond b (a ∷ rest) rest) ≤ pages_aside (a ∷ all)
 if_pages true a rest all h = omega (arith, h)
 if_pages false a rest all h = omega (arith, h)
 
-pub spared_pages : (wrote : List ℕ) (asides : List Aside) → pages_aside (all_spared wrote asides) ≤ pages_aside asides
+pub spared_pages : (wrote : List ℕ) (other_roots : List OtherRoot) → pages_aside (all_spared wrote other_roots) ≤ pages_aside other_roots
 spared_pages wrote [] = omega arith
-spared_pages wrote (a ∷ asides) = if_pages (not (list_any a.tables wrote)) a (all_spared wrote asides) asides (spared_pages wrote asides)
+spared_pages wrote (a ∷ other_roots) = if_pages (not (list_any a.tables wrote)) a (all_spared wrote other_roots) other_roots (spared_pages wrote other_roots)
 
 module _ (m : Setting) (cpu : Cpu) (ram : List ℕ) where
-  pub ready_shed : (old new : Aside) → Sheds old new → IsReadyAside m cpu ram old → IsReadyAside m cpu ram new
+  pub ready_shed : (old new : OtherRoot) → Sheds old new → IsReadyAside m cpu ram old → IsReadyAside m cpu ram new
   ready_shed old new s h = record {
     found = found_within m cpu ram old.cr3 new.cr3 old.tables new.tables new.slots old.slots s.cr3 (λ f e. s.tables f ∙ e) s.slots h.found;
     open_to = λ page lt. within_open m.image (wp_of cpu) (new.slots page) (old.slots page) (s.slots page lt) (h.open_to page lt);
   }
 
-  pub all_ready_shed : (olds news : List Aside) → AllShed olds news → AreReady m cpu ram olds → AreReady m cpu ram news
+  pub all_ready_shed : (olds news : List OtherRoot) → AllShed olds news → AreReady m cpu ram olds → AreReady m cpu ram news
   all_ready_shed [] [] h a = tt
   all_ready_shed [] (n ∷ ns) h a = absurd h
   all_ready_shed (o ∷ os) [] h a = absurd h
   all_ready_shed (o ∷ os) (n ∷ ns) h a = (ready_shed o n h.0 a.0, all_ready_shed os ns h.1 a.1)
 
-  pub ready_open : (asides : List Aside) → AreReady m cpu ram asides → AllOpen m.image (wp_of cpu) asides
+  pub ready_open : (other_roots : List OtherRoot) → AreReady m cpu ram other_roots → AllOpen m.image (wp_of cpu) other_roots
   ready_open [] h = tt
-  ready_open (a ∷ asides) h = (h.0.open_to, ready_open asides h.1)
+  ready_open (a ∷ other_roots) h = (h.0.open_to, ready_open other_roots h.1)
 
-  ready_if : (b : Bool) (a : Aside) (rest : List Aside) → (b ≡ false → IsReadyAside m cpu ram a) → AreReady m cpu ram rest → AreReady m cpu ram (cond (not b) (a ∷ rest) rest)
+  ready_if : (b : Bool) (a : OtherRoot) (rest : List OtherRoot) → (b ≡ false → IsReadyAside m cpu ram a) → AreReady m cpu ram rest → AreReady m cpu ram (cond (not b) (a ∷ rest) rest)
   ready_if true a rest h k = k
   ready_if false a rest h k = (h refl, k)
 
   -- those whose tables were written leave
-  pub ready_spared : (wrote : List ℕ) (asides : List Aside) → AreReadyBehind wrote m cpu ram asides → AreReady m cpu ram (all_spared wrote asides)
+  pub ready_spared : (wrote : List ℕ) (other_roots : List OtherRoot) → AreReadyBehind wrote m cpu ram other_roots → AreReady m cpu ram (all_spared wrote other_roots)
   ready_spared wrote [] h = tt
-  ready_spared wrote (a ∷ asides) h = ready_if (list_any a.tables wrote) a (all_spared wrote asides) h.0 (ready_spared wrote asides h.1)
+  ready_spared wrote (a ∷ other_roots) h = ready_if (list_any a.tables wrote) a (all_spared wrote other_roots) h.0 (ready_spared wrote other_roots h.1)
 
 -- ---- a value is loaded
 
-pub taken_pages : (n : ℕ) (asides : List Aside) → pages_aside (take n asides) ≤ pages_aside asides
-taken_pages zero asides = omega arith
+pub taken_pages : (n : ℕ) (other_roots : List OtherRoot) → pages_aside (take n other_roots) ≤ pages_aside other_roots
+taken_pages zero other_roots = omega arith
 taken_pages (suc n) [] = omega arith
-taken_pages (suc n) (a ∷ asides) = let h = taken_pages n asides in omega (arith, h)
+taken_pages (suc n) (a ∷ other_roots) = let h = taken_pages n other_roots in omega (arith, h)
 
 begun_pages : (cr3 : ℕ) → len (entries_of (begun_aside cr3).slots) ≡ 0
 begun_pages cr3 = ap (λ (set : Rattle.machine_model.specs.Run.Set). len set) (entries_of-none (begun_aside cr3).slots (λ page lt. refl)) ∙ len-empty nat_cmp Entry
 
 -- how many pages there are for the value and beside it
-abbrev all_pages : ℕ → List Aside → ℕ
-all_pages cr3 asides = len (entries_of (coming cr3 asides).slots) + pages_aside (staying cr3 asides)
+abbrev all_pages : ℕ → List OtherRoot → ℕ
+all_pages cr3 other_roots = len (entries_of (coming cr3 other_roots).slots) + pages_aside (staying cr3 other_roots)
 
-one_pages : (cr3 : ℕ) (a : Aside) (asides : List Aside) (o : Option Aside)
-    → ((x : Aside) → o ≡ Some x → len (entries_of x.slots) + pages_aside (but_cr3 cr3 asides) ≤ pages_aside asides)
-    → (b : Bool) → (x : Aside) → cond b (Some a) o ≡ Some x → len (entries_of x.slots) + pages_aside (cond b asides (a ∷ but_cr3 cr3 asides)) ≤ pages_aside (a ∷ asides)
-one_pages cr3 a asides o h true x e =
+one_pages : (cr3 : ℕ) (a : OtherRoot) (other_roots : List OtherRoot) (o : Option OtherRoot)
+    → ((x : OtherRoot) → o ≡ Some x → len (entries_of x.slots) + pages_aside (but_cr3 cr3 other_roots) ≤ pages_aside other_roots)
+    → (b : Bool) → (x : OtherRoot) → cond b (Some a) o ≡ Some x → len (entries_of x.slots) + pages_aside (cond b other_roots (a ∷ but_cr3 cr3 other_roots)) ≤ pages_aside (a ∷ other_roots)
+one_pages cr3 a other_roots o h true x e =
     let is : a ≡ x = cc in
-    let same = ap (λ (y : Aside). len (entries_of y.slots)) is in
+    let same = ap (λ (y : OtherRoot). len (entries_of y.slots)) is in
     omega (arith, same)
-one_pages cr3 a asides o h false x e = let k = h x e in omega (arith, k)
+one_pages cr3 a other_roots o h false x e = let k = h x e in omega (arith, k)
 
-some_pages : (cr3 : ℕ) (asides : List Aside) (x : Aside) → of_cr3 cr3 asides ≡ Some x → len (entries_of x.slots) + pages_aside (but_cr3 cr3 asides) ≤ pages_aside asides
+some_pages : (cr3 : ℕ) (other_roots : List OtherRoot) (x : OtherRoot) → of_cr3 cr3 other_roots ≡ Some x → len (entries_of x.slots) + pages_aside (but_cr3 cr3 other_roots) ≤ pages_aside other_roots
 some_pages cr3 [] x e = absurd (none_some x e)
-some_pages cr3 (a ∷ asides) x e = one_pages cr3 a asides (of_cr3 cr3 asides) (some_pages cr3 asides) (a.cr3 == cr3) x e
+some_pages cr3 (a ∷ other_roots) x e = one_pages cr3 a other_roots (of_cr3 cr3 other_roots) (some_pages cr3 other_roots) (a.cr3 == cr3) x e
 
-pub loaded_pages : (cr3 : ℕ) (asides : List Aside) → all_pages cr3 asides ≤ pages_aside asides
-loaded_pages cr3 asides = by (of_cr3 cr3 asides) refl
+pub loaded_pages : (cr3 : ℕ) (other_roots : List OtherRoot) → all_pages cr3 other_roots ≤ pages_aside other_roots
+loaded_pages cr3 other_roots = by (of_cr3 cr3 other_roots) refl
   where
-    by : (o : Option Aside) → of_cr3 cr3 asides ≡ o → len (entries_of (or_begun cr3 (of_cr3 cr3 asides)).slots) + pages_aside (beside_coming cr3 asides (of_cr3 cr3 asides)) ≤ pages_aside asides
+    by : (o : Option OtherRoot) → of_cr3 cr3 other_roots ≡ o → len (entries_of (or_begun cr3 (of_cr3 cr3 other_roots)).slots) + pages_aside (beside_coming cr3 other_roots (of_cr3 cr3 other_roots)) ≤ pages_aside other_roots
     by None e =
-        let none = ap (λ (o : Option Aside). len (entries_of (or_begun cr3 o).slots)) e ∙ begun_pages cr3 in
-        let beside = ap (λ (o : Option Aside). pages_aside (beside_coming cr3 asides o)) e in
-        let few = taken_pages 7 asides in
+        let none = ap (λ (o : Option OtherRoot). len (entries_of (or_begun cr3 o).slots)) e ∙ begun_pages cr3 in
+        let beside = ap (λ (o : Option OtherRoot). pages_aside (beside_coming cr3 other_roots o)) e in
+        let few = taken_pages 7 other_roots in
         omega (arith, none, beside, few)
     by (Some x) e =
-        let here = ap (λ (o : Option Aside). len (entries_of (or_begun cr3 o).slots)) e in
-        let beside = ap (λ (o : Option Aside). pages_aside (beside_coming cr3 asides o)) e in
-        let few = some_pages cr3 asides x e in
+        let here = ap (λ (o : Option OtherRoot). len (entries_of (or_begun cr3 o).slots)) e in
+        let beside = ap (λ (o : Option OtherRoot). pages_aside (beside_coming cr3 other_roots o)) e in
+        let few = some_pages cr3 other_roots x e in
         omega (arith, here, beside, few)
 
-pub put_by_pages : (value : Option ℕ) (marked : Bool) (tables : ℕ → Bool) (slots : ℕ → Option Slot) (asides : List Aside) → pages_aside (put_by value marked tables slots asides) ≤ len (entries_of slots) + pages_aside asides
-put_by_pages None marked tables slots asides = omega arith
-put_by_pages (Some cr3) true tables slots asides = omega arith
-put_by_pages (Some cr3) false tables slots asides = omega arith
+pub put_by_pages : (value : Option ℕ) (stale : Bool) (tables : ℕ → Bool) (slots : ℕ → Option Slot) (other_roots : List OtherRoot) → pages_aside (put_by value stale tables slots other_roots) ≤ len (entries_of slots) + pages_aside other_roots
+put_by_pages None stale tables slots other_roots = omega arith
+put_by_pages (Some cr3) true tables slots other_roots = omega arith
+put_by_pages (Some cr3) false tables slots other_roots = omega arith
 
 -- what is said of each value is said of the one that comes, and of those beside it
-module _ (P : Aside → Type 0) where
-  abbrev pub Each : List Aside → Type 0
+module _ (P : OtherRoot → Type 0) where
+  abbrev pub Each : List OtherRoot → Type 0
   Each [] = Unit {0}
-  Each (a ∷ asides) = P a × Each asides
+  Each (a ∷ other_roots) = P a × Each other_roots
 
-  each_taken : (n : ℕ) (asides : List Aside) → Each asides → Each (take n asides)
-  each_taken zero asides h = tt
+  each_taken : (n : ℕ) (other_roots : List OtherRoot) → Each other_roots → Each (take n other_roots)
+  each_taken zero other_roots h = tt
   each_taken (suc n) [] h = tt
-  each_taken (suc n) (a ∷ asides) h = (h.0, each_taken n asides h.1)
+  each_taken (suc n) (a ∷ other_roots) h = (h.0, each_taken n other_roots h.1)
 
-  one_but : (b : Bool) (a : Aside) (asides rest : List Aside) → P a → Each asides → Each rest → Each (cond b asides (a ∷ rest))
-  one_but true a asides rest h all k = all
-  one_but false a asides rest h all k = (h, k)
+  one_but : (b : Bool) (a : OtherRoot) (other_roots rest : List OtherRoot) → P a → Each other_roots → Each rest → Each (cond b other_roots (a ∷ rest))
+  one_but true a other_roots rest h all k = all
+  one_but false a other_roots rest h all k = (h, k)
 
-  each_but : (cr3 : ℕ) (asides : List Aside) → Each asides → Each (but_cr3 cr3 asides)
+  each_but : (cr3 : ℕ) (other_roots : List OtherRoot) → Each other_roots → Each (but_cr3 cr3 other_roots)
   each_but cr3 [] h = tt
-  each_but cr3 (a ∷ asides) h = one_but (a.cr3 == cr3) a asides (but_cr3 cr3 asides) h.0 h.1 (each_but cr3 asides h.1)
+  each_but cr3 (a ∷ other_roots) h = one_but (a.cr3 == cr3) a other_roots (but_cr3 cr3 other_roots) h.0 h.1 (each_but cr3 other_roots h.1)
 
-  beside : (cr3 : ℕ) (asides : List Aside) (o : Option Aside) → Each asides → Each (beside_coming cr3 asides o)
-  beside cr3 asides None h = each_taken 7 asides h
-  beside cr3 asides (Some a) h = each_but cr3 asides h
+  beside : (cr3 : ℕ) (other_roots : List OtherRoot) (o : Option OtherRoot) → Each other_roots → Each (beside_coming cr3 other_roots o)
+  beside cr3 other_roots None h = each_taken 7 other_roots h
+  beside cr3 other_roots (Some a) h = each_but cr3 other_roots h
 
-  pub each_staying : (cr3 : ℕ) (asides : List Aside) → Each asides → Each (staying cr3 asides)
-  each_staying cr3 asides h = beside cr3 asides (of_cr3 cr3 asides) h
+  pub each_staying : (cr3 : ℕ) (other_roots : List OtherRoot) → Each other_roots → Each (staying cr3 other_roots)
+  each_staying cr3 other_roots h = beside cr3 other_roots (of_cr3 cr3 other_roots) h
 
-  one_of : (cr3 : ℕ) (b : Bool) (a : Aside) (o : Option Aside) → P a → P (or_begun cr3 o) → P (or_begun cr3 (cond b (Some a) o))
+  one_of : (cr3 : ℕ) (b : Bool) (a : OtherRoot) (o : Option OtherRoot) → P a → P (or_begun cr3 o) → P (or_begun cr3 (cond b (Some a) o))
   one_of cr3 true a o h k = h
   one_of cr3 false a o h k = k
 
-  pub each_coming : (cr3 : ℕ) (asides : List Aside) → P (begun_aside cr3) → Each asides → P (coming cr3 asides)
+  pub each_coming : (cr3 : ℕ) (other_roots : List OtherRoot) → P (begun_aside cr3) → Each other_roots → P (coming cr3 other_roots)
   each_coming cr3 [] none h = none
-  each_coming cr3 (a ∷ asides) none h = one_of cr3 (a.cr3 == cr3) a (of_cr3 cr3 asides) h.0 (each_coming cr3 asides none h.1)
+  each_coming cr3 (a ∷ other_roots) none h = one_of cr3 (a.cr3 == cr3) a (of_cr3 cr3 other_roots) h.0 (each_coming cr3 other_roots none h.1)
 
 -- the value that comes is the one that is loaded
-value_if : (cr3 : ℕ) (b : Bool) (a : Aside) (o : Option Aside) → (a.cr3 == cr3) ≡ b → (or_begun cr3 o).cr3 ≡ cr3 → (or_begun cr3 (cond b (Some a) o)).cr3 ≡ cr3
+value_if : (cr3 : ℕ) (b : Bool) (a : OtherRoot) (o : Option OtherRoot) → (a.cr3 == cr3) ≡ b → (or_begun cr3 o).cr3 ≡ cr3 → (or_begun cr3 (cond b (Some a) o)).cr3 ≡ cr3
 value_if cr3 true a o e k = (elim (Rattle.std.proofs.lemmas.Bool.Decides.eqb_tells a.cr3 cr3) [ inl t ↦ t.1 | inr n ↦ absurd (let f : true ≡ false = sym e ∙ n.0 in cc) ])
 value_if cr3 false a o e k = k
 
-pub coming_value : (cr3 : ℕ) (asides : List Aside) → (coming cr3 asides).cr3 ≡ cr3
+pub coming_value : (cr3 : ℕ) (other_roots : List OtherRoot) → (coming cr3 other_roots).cr3 ≡ cr3
 coming_value cr3 [] = refl
-coming_value cr3 (a ∷ asides) = value_if cr3 (a.cr3 == cr3) a (of_cr3 cr3 asides) refl (coming_value cr3 asides)
+coming_value cr3 (a ∷ other_roots) = value_if cr3 (a.cr3 == cr3) a (of_cr3 cr3 other_roots) refl (coming_value cr3 other_roots)
 
 module _ (m : Setting) (cpu : Cpu) (ram : List ℕ) where
   pub begun_ready : (cr3 : ℕ) → IsReadyAside m cpu ram (begun_aside cr3)
@@ -250,14 +250,14 @@ module _ (m : Setting) (cpu : Cpu) (ram : List ℕ) where
     open_to = none_open m.image (wp_of cpu) (begun_aside cr3).slots (λ page lt. refl);
   }
 
-  pub ready_each : (asides : List Aside) → AreReady m cpu ram asides → Each (IsReadyAside m cpu ram) asides
+  pub ready_each : (other_roots : List OtherRoot) → AreReady m cpu ram other_roots → Each (IsReadyAside m cpu ram) other_roots
   ready_each [] h = tt
-  ready_each (a ∷ asides) h = (h.0, ready_each asides h.1)
+  ready_each (a ∷ other_roots) h = (h.0, ready_each other_roots h.1)
 
-  pub each_ready : (asides : List Aside) → Each (IsReadyAside m cpu ram) asides → AreReady m cpu ram asides
+  pub each_ready : (other_roots : List OtherRoot) → Each (IsReadyAside m cpu ram) other_roots → AreReady m cpu ram other_roots
   each_ready [] h = tt
-  each_ready (a ∷ asides) h = (h.0, each_ready asides h.1)
+  each_ready (a ∷ other_roots) h = (h.0, each_ready other_roots h.1)
 
-pub open_each : (image : Image) (wp : Bool) (asides : List Aside) → AllOpen image wp asides → Each (λ (a : Aside). AreOpen image wp a.slots) asides
+pub open_each : (image : Image) (wp : Bool) (other_roots : List OtherRoot) → AllOpen image wp other_roots → Each (λ (a : OtherRoot). AreOpen image wp a.slots) other_roots
 open_each image wp [] h = tt
-open_each image wp (a ∷ asides) h = (h.0, open_each image wp asides h.1)
+open_each image wp (a ∷ other_roots) h = (h.0, open_each image wp other_roots h.1)

@@ -4,7 +4,7 @@ use Rattle.std.specs.FinMap.{empty}
 use Rattle.std.specs.List.{list_any}
 use Rattle.descriptors.specs.Controls.{pse_of, wp_of}
 use Rattle.descriptors.specs.declared.cpu.Cpu.{Cpu}
-use Rattle.shadow_tables.specs.Aside.{IsSame, AreSame, LoseWrites, all_spared}
+use Rattle.shadow_tables.specs.OtherRoot.{IsSame, AreSame, LoseWrites, all_spared}
 use Rattle.shadow_tables.specs.Entries.{entries_of}
 use Rattle.shadow_cache.specs.Reloaded.{coming, staying}
 use Rattle.wedge_mem.specs.Told.{guest_frames, read_by}
@@ -17,9 +17,9 @@ use Rattle.wedge_step.specs.Sight.{Sight, StaysBeside, EmptiesBeside, Sheds, wit
 
 -- What is kept was told which frames a step read as tables, and then which it wrote.
 pub record Tells (tables wrote : List ℕ) (v v' : Sight) : Type 0 where
-  pub notes : (frame : ℕ) → v'.noted frame ≡ true → read_by v.noted tables frame ≡ true
-  pub marks : v'.marked ≡ (v.marked || list_any (read_by v.noted tables) wrote)
-  pub others : LoseWrites (guest_frames tables) (all_spared wrote v.asides) v'.asides
+  pub notes : (frame : ℕ) → v'.read_from frame ≡ true → read_by v.read_from tables frame ≡ true
+  pub marks : v'.stale ≡ (v.stale || list_any (read_by v.read_from tables) wrote)
+  pub others : LoseWrites (guest_frames tables) (all_spared wrote v.other_roots) v'.other_roots
 
 -- The value of CR3 is the same; and unless all was dropped, what is kept was told.
 pub record IsToldOf (tables wrote : List ℕ) (dropped : Bool) (v v' : Sight) : Type 0 where
@@ -42,9 +42,9 @@ pub record Loads (cr3 : ℕ) (pages : List ℕ) (v v' : Sight) : Type 0 where
   pub between : Sight
   pub value : between.value ≡ v.value
   pub sheds : Sheds pages v between
-  pub present : IsSame (coming cr3 (with_present between)) (record { cr3 = cr3; tables = v'.noted; slots = v'.slots })
-  pub put : AreSame (staying cr3 (with_present between)) v'.asides
-  pub unmarked : v'.marked ≡ false
+  pub present : IsSame (coming cr3 (with_present between)) (record { cr3 = cr3; tables = v'.read_from; slots = v'.slots })
+  pub put : AreSame (staying cr3 (with_present between)) v'.other_roots
+  pub unmarked : v'.stale ≡ false
 
 -- What leaves at the end of a step that went, and what comes back. Where the rules and CR3 stay, what the instruction
 -- drops leaves. Where the rules change, all does. Where CR3 is loaded, no notes are wanted and frames are free, these pages

@@ -6,7 +6,7 @@ use Rattle.std.specs.List.{list_any}
 use Rattle.descriptors.specs.Controls.{pse_of, wp_of}
 use Rattle.descriptors.specs.declared.cpu.Cpu.{Cpu}
 use Rattle.image_check.specs.Image.{Image}
-use Rattle.shadow_tables.specs.Aside.{Aside}
+use Rattle.shadow_tables.specs.OtherRoot.{OtherRoot}
 use Rattle.guest_ram.specs.Among.{is_among}
 use Rattle.shadow_tables.specs.Slots.{Slot}
 use Rattle.machine_model.specs.Reloading.{IsFoundBy}
@@ -29,22 +29,22 @@ abbrev pub AreFound : Setting → Cpu → List ℕ → ℕ → (ℕ → Bool) �
 AreFound m cpu ram cr3 tables slots = (page : ℕ) → page < 2 ^ 20 → ForSome (slots page) (IsFoundIn m cpu ram cr3 tables page)
 
 -- What is kept under a value that isn't present is found, and the views may show it.
-pub record IsReadyAside (m : Setting) (cpu : Cpu) (ram : List ℕ) (a : Aside) : Type 0 where
+pub record IsReadyAside (m : Setting) (cpu : Cpu) (ram : List ℕ) (a : OtherRoot) : Type 0 where
   pub found : AreFound m cpu ram a.cr3 a.tables a.slots
   pub open_to : AreOpen m.image (wp_of cpu) a.slots
 
-abbrev pub AreReady : Setting → Cpu → List ℕ → List Aside → Type 0
+abbrev pub AreReady : Setting → Cpu → List ℕ → List OtherRoot → Type 0
 AreReady m cpu ram [] = Unit {0}
-AreReady m cpu ram (a ∷ asides) = IsReadyAside m cpu ram a × AreReady m cpu ram asides
+AreReady m cpu ram (a ∷ other_roots) = IsReadyAside m cpu ram a × AreReady m cpu ram other_roots
 
-abbrev pub AllOpen : Image → Bool → List Aside → Type 0
+abbrev pub AllOpen : Image → Bool → List OtherRoot → Type 0
 AllOpen image wp [] = Unit {0}
-AllOpen image wp (a ∷ asides) = AreOpen image wp a.slots × AllOpen image wp asides
+AllOpen image wp (a ∷ other_roots) = AreOpen image wp a.slots × AllOpen image wp other_roots
 
 -- those whose tables lie in none of the frames that were written
-abbrev pub AreReadyBehind : List ℕ → Setting → Cpu → List ℕ → List Aside → Type 0
+abbrev pub AreReadyBehind : List ℕ → Setting → Cpu → List ℕ → List OtherRoot → Type 0
 AreReadyBehind wrote m cpu ram [] = Unit {0}
-AreReadyBehind wrote m cpu ram (a ∷ asides) = (list_any a.tables wrote ≡ false → IsReadyAside m cpu ram a) × AreReadyBehind wrote m cpu ram asides
+AreReadyBehind wrote m cpu ram (a ∷ other_roots) = (list_any a.tables wrote ≡ false → IsReadyAside m cpu ram a) × AreReadyBehind wrote m cpu ram other_roots
 
 -- the pages that leave at the end of a step; where all leave, those that the step went through
 abbrev pub leaving : Dropped → List ℕ → ℕ → Bool
@@ -57,13 +57,13 @@ leaving dropped.All pages page = is_among page pages
 abbrev pub left_out : Dropped → List ℕ → ℕ → Bool
 left_out dropped pages page = is_all dropped && is_among page pages
 
-module _ {S : Type 0} (slots : S → List ℕ → ℕ → Option Slot) (noted : S → ℕ → Bool) (marked : S → Bool) (value : S → Option ℕ) (asides : S → List ℕ → List Aside) where
+module _ {S : Type 0} (slots : S → List ℕ → ℕ → Option Slot) (read_from : S → ℕ → Bool) (stale : S → Bool) (value : S → Option ℕ) (other_roots : S → List ℕ → List OtherRoot) where
   -- The shadows keep what is present under the processor's CR3, where no frame of its tables was written: it is found, but
   -- for the pages that the test leaves out. So is what is kept under other values.
   pub record IsReadyBut (out : ℕ → Bool) (m : Setting) (cpu : Cpu) (s : S) (memory : List ℕ) : Type 0 where
     pub value_is : value s ≡ Some cpu.cr3
-    pub present : marked s ≡ false → (page : ℕ) → page < 2 ^ 20 → out page ≡ false → ForSome (slots s memory page) (IsFoundIn m cpu (shown m memory) cpu.cr3 (noted s) page)
-    pub others : AreReady m cpu (shown m memory) (asides s memory)
+    pub present : stale s ≡ false → (page : ℕ) → page < 2 ^ 20 → out page ≡ false → ForSome (slots s memory page) (IsFoundIn m cpu (shown m memory) cpu.cr3 (read_from s) page)
+    pub others : AreReady m cpu (shown m memory) (other_roots s memory)
 
   abbrev pub IsReady : Setting → Cpu → S → List ℕ → Type 0
   IsReady m cpu s memory = IsReadyBut (λ page. false) m cpu s memory
@@ -72,6 +72,6 @@ module _ {S : Type 0} (slots : S → List ℕ → ℕ → Option Slot) (noted : 
   -- written those.
   pub record IsReadyBehind (out : ℕ → Bool) (m : Setting) (cpu : Cpu) (s : S) (memory : List ℕ) (set : Set) (tables wrote : List ℕ) : Type 0 where
     pub value_is : value s ≡ Some cpu.cr3
-    pub present : marked s ≡ false → list_any (read_by (noted s) tables) wrote ≡ false → (page : ℕ) → page < 2 ^ 20 → out page ≡ false
-        → ForSome (get set page) (IsFoundBy (shown m memory) m.frames cpu.cr3 (pse_of cpu) (read_by (noted s) tables) page)
-    pub others : AreReadyBehind wrote m cpu (shown m memory) (asides s memory)
+    pub present : stale s ≡ false → list_any (read_by (read_from s) tables) wrote ≡ false → (page : ℕ) → page < 2 ^ 20 → out page ≡ false
+        → ForSome (get set page) (IsFoundBy (shown m memory) m.frames cpu.cr3 (pse_of cpu) (read_by (read_from s) tables) page)
+    pub others : AreReadyBehind wrote m cpu (shown m memory) (other_roots s memory)

@@ -33,7 +33,7 @@ module _ {S : Type 0} (g : shadows.Ghosts S) where
 
   -- how many pages they keep, for all values of CR3
   abbrev pub kept_in : Scene S → ℕ
-  kept_in c = pages_kept g.slots g.asides c.guest.shadows c.memory
+  kept_in c = pages_kept g.slots g.other_roots c.guest.shadows c.memory
 
   -- the guest's state
   abbrev pub state_in : Setting → Scene S → State

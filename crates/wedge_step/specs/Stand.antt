@@ -56,7 +56,7 @@ module _ {S : Type 0} (g : bound.Ghosts S) where
 
   -- how many pages are kept, for all values of CR3
   abbrev pub count_in : Stand S → ℕ
-  count_in c = pages_kept g.slots g.asides c.shadows c.memory
+  count_in c = pages_kept g.slots g.other_roots c.shadows c.memory
 
   -- how many frames of the pool are free or held
   abbrev pub room_in : Stand S → ℕ
@@ -81,17 +81,17 @@ module _ {S : Type 0} (g : bound.Ghosts S) where
 
   -- they have tables under no other directory indices than before
   abbrev pub OpensNoMore : Stand S → Stand S → Type 0
-  OpensNoMore old new = (indices : ℕ → Bool) → g.opened old.shadows old.memory indices → g.opened new.shadows new.memory indices
+  OpensNoMore old new = (indices : ℕ → Bool) → g.has_tables_under old.shadows old.memory indices → g.has_tables_under new.shadows new.memory indices
 
   -- nor but for these pages
   abbrev pub OpensFor : List ℕ → Stand S → Stand S → Type 0
   OpensFor pages old new =
-      (indices : ℕ → Bool) → AreUnder pages indices → g.opened old.shadows old.memory indices → g.opened new.shadows new.memory indices
+      (indices : ℕ → Bool) → AreUnder pages indices → g.has_tables_under old.shadows old.memory indices → g.has_tables_under new.shadows new.memory indices
 
   -- with tables under these directory indices alone, two of so many frames stay free
   abbrev pub Suffices : (ℕ → Bool) → ℕ → Type 0
   Suffices indices room =
-      (s : S) (memory : List ℕ) → ∥ g.stands s memory ∥₁ → g.opened s memory indices → length (g.frames s memory) + 2 ≤ room
+      (s : S) (memory : List ℕ) → ∥ g.stands s memory ∥₁ → g.has_tables_under s memory indices → length (g.frames s memory) + 2 ≤ room
 
   -- a view of this side may show each page that the step went through, and frames suffice
   abbrev pub MayCloseIn : ℕ → Side → Stand S → StepState → Type 0
@@ -101,7 +101,7 @@ module _ {S : Type 0} (g : bound.Ghosts S) where
   abbrev pub ClosesIn : Side → Stand S → Stand S → StepState → Type 0
   ClosesIn side old new state =
       Closes (g.slots old.shadows old.memory) (g.slots new.shadows new.memory) (set_behind old state) (pages_through state) side
-      state.control.wp (g.tracked new.shadows) state.wrote
+      state.control.wp (g.write_protected new.shadows) state.wrote
 
   -- So many pages are filled behind a step, on this side: of those that it went through, each once that has an entry, if the
   -- step changed that or what is kept doesn't let the host do there all that it does.
@@ -123,16 +123,16 @@ module _ {S : Type 0} (g : bound.Ghosts S) where
 
   -- what is kept can be found again, but for the pages that the test leaves out
   abbrev pub IsReadyButIn : (ℕ → Bool) → Setting → Cpu → Stand S → Type 0
-  IsReadyButIn out m cpu c = IsReadyBut g.slots g.noted g.marked g.value g.asides out m cpu c.shadows c.memory
+  IsReadyButIn out m cpu c = IsReadyBut g.slots g.read_from g.stale g.value g.other_roots out m cpu c.shadows c.memory
 
   abbrev pub IsReadyIn : Setting → Cpu → Stand S → Type 0
-  IsReadyIn m cpu c = IsReady g.slots g.noted g.marked g.value g.asides m cpu c.shadows c.memory
+  IsReadyIn m cpu c = IsReady g.slots g.read_from g.stale g.value g.other_roots m cpu c.shadows c.memory
 
   -- so it is behind a step, of what the step left
   abbrev pub IsReadyBehindIn : (ℕ → Bool) → Setting → Cpu → Stand S → StepState → Type 0
   IsReadyBehindIn out m cpu c state =
-      IsReadyBehind g.slots g.noted g.marked g.value g.asides out m cpu c.shadows c.memory (set_behind c state) state.tables state.wrote
+      IsReadyBehind g.slots g.read_from g.stale g.value g.other_roots out m cpu c.shadows c.memory (set_behind c state) state.tables state.wrote
 
   -- each page that is kept is found from this directory
   abbrev pub AreFoundIn : Setting → Cpu → ℕ → Stand S → Type 0
-  AreFoundIn m cpu cr3 c = AreFound m cpu (shown m c.memory) cr3 (g.noted c.shadows) (g.slots c.shadows c.memory)
+  AreFoundIn m cpu cr3 c = AreFound m cpu (shown m c.memory) cr3 (g.read_from c.shadows) (g.slots c.shadows c.memory)

@@ -9,7 +9,7 @@ ghost use Rattle.descriptors.specs.Controls.{pse_of, wp_of};
 ghost use Rattle.descriptors.specs.declared.cpu.Cpu.{Cpu};
 ghost use Rattle.image_check.specs.Image.{Image};
 ghost use Rattle.image_load.specs.Boot.{text_pages};
-ghost use Rattle.shadow_tables.specs.Aside.{AreSame};
+ghost use Rattle.shadow_tables.specs.OtherRoot.{AreSame};
 ghost use Rattle.guest_ram.specs.Among.{is_among};
 ghost use Rattle.machine_step.specs.Worked.{dropping, IsDropped};
 ghost use Rattle.machine_model.specs.State.{Setting};
@@ -33,7 +33,7 @@ use wedge_mem::settle;
 
 /// Settles the shadows to what a step left. Answers how many pages were filled. None where a view of this side may not
 /// show one of its pages, or frames lack for them: all is dropped then.
-pub fn close<S: Shadows>(
+pub fn settle_or_drop<S: Shadows>(
     shadows: &mut S,
     pool: &mut Pool,
     ram: &mut Ram,
@@ -52,14 +52,14 @@ pub fn close<S: Shadows>(
         → (is_none result ≡ false)
         × ClosesIn S.Shadows side (stand shadows.old pool.old ram.old) (stand shadows.new pool.new ram.new) state.now }
     ensures opens { (image : Image) (wp : Bool)
-        → AllOpen image wp (S.asides shadows.old ram.old) → AllOpen image wp (S.asides shadows.new ram.new) }
+        → AllOpen image wp (S.other_roots shadows.old ram.old) → AllOpen image wp (S.other_roots shadows.new ram.new) }
     ensures filled { IfSome result
         (λ n. IsFilledBy S.Shadows side (stand shadows.old pool.old ram.old) (stand shadows.new pool.new ram.new) state.now n) }
     ensures fewer { is_none result ≡ true → count_in S.Shadows (stand shadows.new pool.new ram.new) ≡ 0 }
     ensures told { is_none result ≡ false
         → Tells state.now.tables state.now.wrote (sight S.Shadows shadows.old ram.old) (sight S.Shadows shadows.new ram.new) }
     ensures value { S.value shadows.new ≡ S.value shadows.old }
-    ensures opened { OpensFor S.Shadows (pages_through state.now)
+    ensures has_tables_under { OpensFor S.Shadows (pages_through state.now)
         (stand shadows.old pool.old ram.old) (stand shadows.new pool.new ram.new) }
     ensures ready { (out : ℕ → Bool) (m : Setting) (cpu : Cpu) → m.frames ≡ state.now.control.frames
         → IsReadyBehindIn S.Shadows out m cpu (stand shadows.old pool.old ram.old) state.now
@@ -83,7 +83,7 @@ pub fn drop_from<S: Shadows>(shadows: &mut S, pool: &mut Pool, ram: &mut Ram, dr
         → StayOpen image wp wp (sight S.Shadows shadows.old ram.old) (sight S.Shadows shadows.new ram.new) }
     ensures fewer { count_in S.Shadows (stand shadows.new pool.new ram.new) ≤ count_in S.Shadows (stand shadows.old pool.old ram.old) }
     ensures stay { is_all dropped ≡ false → StaysBeside (sight S.Shadows shadows.old ram.old) (sight S.Shadows shadows.new ram.new) }
-    ensures opened { OpensNoMore S.Shadows (stand shadows.old pool.old ram.old) (stand shadows.new pool.new ram.new) }
+    ensures has_tables_under { OpensNoMore S.Shadows (stand shadows.old pool.old ram.old) (stand shadows.new pool.new ram.new) }
     ensures ready { (m : Setting) (cpu : Cpu) (pages : List ℕ) → m.frames ≤ base_of pool.old → is_all dropped ≡ false
         → IsReadyButIn S.Shadows (leaving dropped pages) m cpu (stand shadows.old pool.old ram.old)
         → IsReadyIn S.Shadows m cpu (stand shadows.new pool.new ram.new) }
@@ -128,11 +128,12 @@ fn drop_one<S: Shadows>(shadows: &mut S, ram: &mut Ram, page: u32)
     ensures gone { page < 2 ^ 20 → S.slots shadows.new ram.new page ≡ None }
     ensures others { (other : ℕ) → other < 2 ^ 20 → (other ≡ page → ⊥)
         → S.slots shadows.new ram.new other ≡ S.slots shadows.old ram.old other }
-    ensures noted { (f : ℕ) → S.noted shadows.new f ≡ S.noted shadows.old f }
-    ensures marked { S.marked shadows.new ≡ S.marked shadows.old }
+    ensures read_from { (f : ℕ) → S.read_from shadows.new f ≡ S.read_from shadows.old f }
+    ensures stale { S.stale shadows.new ≡ S.stale shadows.old }
     ensures value { S.value shadows.new ≡ S.value shadows.old }
-    ensures asides { AreSame (S.asides shadows.old ram.old) (S.asides shadows.new ram.new) }
-    ensures opened { (indices : ℕ → Bool) → S.opened shadows.old ram.old indices → S.opened shadows.new ram.new indices }
+    ensures other_roots { AreSame (S.other_roots shadows.old ram.old) (S.other_roots shadows.new ram.new) }
+    ensures has_tables_under { (indices : ℕ → Bool) → S.has_tables_under shadows.old ram.old indices
+        → S.has_tables_under shadows.new ram.new indices }
     ensures moves { (p : Pool) → Owns p ram.old (S.frames shadows.old ram.old)
         → Moves p p ram.old ram.new (S.frames shadows.old ram.old) (S.frames shadows.new ram.new) }
 {
@@ -150,11 +151,12 @@ fn drop_pages<S: Shadows>(shadows: &mut S, ram: &mut Ram, pages: &[u32])
         → S.slots shadows.new ram.new page ≡ S.slots shadows.old ram.old page }
     ensures others { (page : ℕ) → page < 2 ^ 20
         → (S.slots shadows.new ram.new page ≡ None) ⊎ (S.slots shadows.new ram.new page ≡ S.slots shadows.old ram.old page) }
-    ensures noted { (f : ℕ) → S.noted shadows.new f ≡ S.noted shadows.old f }
-    ensures marked { S.marked shadows.new ≡ S.marked shadows.old }
+    ensures read_from { (f : ℕ) → S.read_from shadows.new f ≡ S.read_from shadows.old f }
+    ensures stale { S.stale shadows.new ≡ S.stale shadows.old }
     ensures value { S.value shadows.new ≡ S.value shadows.old }
-    ensures asides { AreSame (S.asides shadows.old ram.old) (S.asides shadows.new ram.new) }
-    ensures opened { (indices : ℕ → Bool) → S.opened shadows.old ram.old indices → S.opened shadows.new ram.new indices }
+    ensures other_roots { AreSame (S.other_roots shadows.old ram.old) (S.other_roots shadows.new ram.new) }
+    ensures has_tables_under { (indices : ℕ → Bool) → S.has_tables_under shadows.old ram.old indices
+        → S.has_tables_under shadows.new ram.new indices }
     ensures moves { (p : Pool) → Owns p ram.old (S.frames shadows.old ram.old)
         → Moves p p ram.old ram.new (S.frames shadows.old ram.old) (S.frames shadows.new ram.new) }
 {
@@ -179,7 +181,7 @@ fn make_way<S: Shadows>(
     ensures sheds { wanted ≡ false → 2 ≤ free_in (stand shadows.old pool.old ram.old)
         → Sheds pages.now (sight S.Shadows shadows.old ram.old) (sight S.Shadows shadows.new ram.new) }
     ensures value { S.value shadows.new ≡ S.value shadows.old }
-    ensures opened { OpensNoMore S.Shadows (stand shadows.old pool.old ram.old) (stand shadows.new pool.new ram.new) }
+    ensures has_tables_under { OpensNoMore S.Shadows (stand shadows.old pool.old ram.old) (stand shadows.new pool.new ram.new) }
     ensures fewer { count_in S.Shadows (stand shadows.new pool.new ram.new) ≤ count_in S.Shadows (stand shadows.old pool.old ram.old) }
     ensures shown { (image : Image) (wp : Bool)
         → StayOpen image wp wp (sight S.Shadows shadows.old ram.old) (sight S.Shadows shadows.new ram.new) }
@@ -210,10 +212,10 @@ fn load<S: Reloads>(
     ensures emptied { wanted ≡ true → set_in S.Shadows (stand shadows.new pool.new ram.new) ≡ empty }
     ensures loads { wanted ≡ false → 2 ≤ free_in (stand shadows.old pool.old ram.old)
         → Loads cr3 pages.now (sight S.Shadows shadows.old ram.old) (sight S.Shadows shadows.new ram.new) }
-    ensures opened { OpensNoMore S.Shadows (stand shadows.old pool.old ram.old) (stand shadows.new pool.new ram.new) }
+    ensures has_tables_under { OpensNoMore S.Shadows (stand shadows.old pool.old ram.old) (stand shadows.new pool.new ram.new) }
     ensures fewer { count_in S.Shadows (stand shadows.new pool.new ram.new) ≤ count_in S.Shadows (stand shadows.old pool.old ram.old) }
     ensures shows { (image : Image) (wp : Bool) → AreOpen image wp (S.slots shadows.old ram.old)
-        → AllOpen image wp (S.asides shadows.old ram.old) → AreOpen image wp (S.slots shadows.new ram.new) }
+        → AllOpen image wp (S.other_roots shadows.old ram.old) → AreOpen image wp (S.slots shadows.new ram.new) }
     ensures ready { (m : Setting) (before after : Cpu) → m.frames ≤ base_of pool.old → after.cr3 ≡ cr3
         → pse_of after ≡ pse_of before → wp_of after ≡ wp_of before → AreOpen m.image (wp_of before) (S.slots shadows.old ram.old)
         → IsReadyButIn S.Shadows (λ page. is_among page pages.now) m before (stand shadows.old pool.old ram.old)
@@ -242,7 +244,7 @@ fn drop_by<S: Shadows>(
         → ChangesRules before.now worked.now.cpu (sight S.Shadows shadows.old ram.old) (sight S.Shadows shadows.new ram.new) }
     ensures same { result ≡ false → KeepsRules S.Shadows worked.now.dropped before.now worked.now.cpu
         (stand shadows.old pool.old ram.old) (stand shadows.new pool.new ram.new) }
-    ensures opened { OpensNoMore S.Shadows (stand shadows.old pool.old ram.old) (stand shadows.new pool.new ram.new) }
+    ensures has_tables_under { OpensNoMore S.Shadows (stand shadows.old pool.old ram.old) (stand shadows.new pool.new ram.new) }
     ensures fewer { count_in S.Shadows (stand shadows.new pool.new ram.new) ≤ count_in S.Shadows (stand shadows.old pool.old ram.old) }
     ensures shown { (image : Image) → StayOpen image (wp_of before.now) (wp_of worked.now.cpu)
         (sight S.Shadows shadows.old ram.old) (sight S.Shadows shadows.new ram.new) }
@@ -282,7 +284,7 @@ fn is_lost(dropped: bool, by: Dropped) -> bool
 
 /// What leaves at the end of a step that went, and what comes back. An instruction that drops all has loaded CR3, unless
 /// the rules changed with it. These are the pages that the step went through or changed.
-pub fn leave<S: Reloads>(
+pub fn drop_and_switch<S: Reloads>(
     shadows: &mut S,
     pool: &mut Pool,
     ram: &mut Ram,
@@ -300,10 +302,10 @@ pub fn leave<S: Reloads>(
     ensures wanted { wanted ≡ true → result.back ≡ false }
     ensures leaves { Leaves worked.now before.now pages.now wanted (free_in (stand shadows.old pool.old ram.old))
         (sight S.Shadows shadows.old ram.old) (sight S.Shadows shadows.new ram.new) }
-    ensures opened { OpensNoMore S.Shadows (stand shadows.old pool.old ram.old) (stand shadows.new pool.new ram.new) }
+    ensures has_tables_under { OpensNoMore S.Shadows (stand shadows.old pool.old ram.old) (stand shadows.new pool.new ram.new) }
     ensures fewer { count_in S.Shadows (stand shadows.new pool.new ram.new) ≤ count_in S.Shadows (stand shadows.old pool.old ram.old) }
     ensures shows { (image : Image) → AreOpen image (wp_of before.now) (S.slots shadows.old ram.old)
-        → AllOpen image (wp_of before.now) (S.asides shadows.old ram.old)
+        → AllOpen image (wp_of before.now) (S.other_roots shadows.old ram.old)
         → AreOpen image (wp_of worked.now.cpu) (S.slots shadows.new ram.new) }
     ensures ready { (m : Setting) → m.frames ≤ base_of pool.old → AreOpen m.image (wp_of before.now) (S.slots shadows.old ram.old)
         → IsReadyButIn S.Shadows (leaving worked.now.dropped pages.now) m before.now (stand shadows.old pool.old ram.old)

@@ -17,4 +17,4 @@ pub use carrying::{carry_laws, known_laws};
 pub use clash::clashes;
 pub use running::{Lost, Running};
 pub use sight::are_bytes;
-pub use single::{go, keep, side_of, step_alone, text_frames};
+pub use single::{fill_used, finish_step, side_of, step_alone, text_frames};

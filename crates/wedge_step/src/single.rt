@@ -23,7 +23,7 @@ ghost use Rattle.wedge_step.specs.Standing.{AreOpen, side_of};
 
 use crate::beginning::begin_over;
 use crate::carrying::known_laws;
-use crate::close::{close, leave};
+use crate::close::{drop_and_switch, settle_or_drop};
 use crate::running::Running;
 use crate::sight::are_bytes;
 use board::Board;
@@ -92,7 +92,7 @@ pub fn step_alone<'t, S: Reloads + Drop>(
             known_laws();
             are_bytes(ram, image, running.frames);
             let count = text_frames(image);
-            go(running, pool, ram, state, &worked, count, wanted);
+            finish_step(running, pool, ram, state, &worked, count, wanted);
             Ok(worked.seen)
         }
         Err(stop) => Err(stop),
@@ -101,7 +101,7 @@ pub fn step_alone<'t, S: Reloads + Drop>(
 
 /// What a step left of its translations is kept, where so many frames hold the text; or nothing, where a view of its level
 /// may not show one of its pages, or frames lack for them. Which of both is noted, and the pages that were filled are counted.
-pub fn keep<S: Shadows + Drop>(
+pub fn fill_used<S: Shadows + Drop>(
     running: &mut Running<S>,
     pool: &mut Pool,
     ram: &mut Ram,
@@ -124,17 +124,17 @@ pub fn keep<S: Shadows + Drop>(
         → IsReadyBehindIn S.Shadows out m cpu (stand running.old.shadows pool.old ram.old) state.now
         → IsReadyButIn S.Shadows out m cpu (stand running.new.shadows pool.new ram.new) }
     ensures opens { (image : Image) (wp : Bool)
-        → AllOpen image wp (S.asides running.old.shadows ram.old) → AllOpen image wp (S.asides running.new.shadows ram.new) }
+        → AllOpen image wp (S.other_roots running.old.shadows ram.old) → AllOpen image wp (S.other_roots running.new.shadows ram.new) }
     ensures told { IsToldOf state.now.tables state.now.wrote running.new.lost.after
         (sight S.Shadows running.old.shadows ram.old) (sight S.Shadows running.new.shadows ram.new) }
-    ensures opened { OpensFor S.Shadows (pages_through state.now)
+    ensures has_tables_under { OpensFor S.Shadows (pages_through state.now)
         (stand running.old.shadows pool.old ram.old) (stand running.new.shadows pool.new ram.new) }
     ensures counts { KeepsCount S.Shadows (scene running.old pool.old ram.old) (scene running.new pool.new ram.new) state.now }
     ensures same { KeepsRest running.old running.new }
 {
     let all = pool.free() + running.held;
     let side = side_of(running.cpu.cpl);
-    let settled = close(&mut running.shadows, pool, ram, state, side, count);
+    let settled = settle_or_drop(&mut running.shadows, pool, ram, state, side, count);
     running.held = all - pool.free();
     match settled {
         None => running.lost.after = true,
@@ -148,7 +148,7 @@ pub fn keep<S: Shadows + Drop>(
 /// The end of a step that went: its translations are settled, the count rises, and the board advances. Whether all
 /// translations were dropped, or some came back, is noted. So many frames hold the text; where notes are wanted nothing
 /// comes back with a value of CR3.
-pub fn go<S: Reloads + Drop>(
+pub fn finish_step<S: Reloads + Drop>(
     running: &mut Running<S>,
     pool: &mut Pool,
     ram: &mut Ram,
@@ -165,11 +165,11 @@ pub fn go<S: Reloads + Drop>(
         ≡ left_of running.new.lost.after (dropping worked.now.dropped
         (set_behind S.Shadows (stand running.old.shadows pool.old ram.old) state.now)) }
     ensures wanted { wanted ≡ true → running.new.lost.back ≡ false }
-    ensures opened { OpensFor S.Shadows (pages_through state.now)
+    ensures has_tables_under { OpensFor S.Shadows (pages_through state.now)
         (stand running.old.shadows pool.old ram.old) (stand running.new.shadows pool.new ram.new) }
     ensures ends { wanted ≡ false
         → MayCloseIn S.Shadows count (side_of (running.old.cpu.cpl == 3)) (stand running.old.shadows pool.old ram.old) state.now
-        → (indices : ℕ → Bool) → AreUnder (pages_through state.now) indices → S.opened running.old.shadows ram.old indices
+        → (indices : ℕ → Bool) → AreUnder (pages_through state.now) indices → S.has_tables_under running.old.shadows ram.old indices
         → Suffices S.Shadows indices (room_in S.Shadows (stand running.old.shadows pool.old ram.old))
         → Ends worked.now.dropped running.old.cpu worked.now.cpu (pages_through state.now) state.now.tables state.now.wrote
         (set_behind S.Shadows (stand running.old.shadows pool.old ram.old) state.now)
@@ -183,14 +183,14 @@ pub fn go<S: Reloads + Drop>(
         → AreFoundIn S.Shadows m running.new.cpu running.new.cpu.cr3 (stand running.new.shadows pool.new ram.new)) }
     ensures shows { (image : Image) → count ≡ text_pages image
         → AreOpen image state.now.control.wp (S.slots running.old.shadows ram.old)
-        → AllOpen image state.now.control.wp (S.asides running.old.shadows ram.old)
+        → AllOpen image state.now.control.wp (S.other_roots running.old.shadows ram.old)
         → AreOpen image (wp_of worked.now.cpu) (S.slots running.new.shadows ram.new) }
     ensures counts { EndsCount S.Shadows (scene running.old pool.old ram.old) (scene running.new pool.new ram.new) state.now }
     ensures passes { Passes worked.now running.old running.new }
 {
-    keep(running, pool, ram, state, count);
+    fill_used(running, pool, ram, state, count);
     let all = pool.free() + running.held;
-    let left = leave(
+    let left = drop_and_switch(
         &mut running.shadows,
         pool,
         ram,

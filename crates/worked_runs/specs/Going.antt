@@ -14,5 +14,5 @@ abbrev pub IsGoing : Image → Guest → Pool → Option (List ℕ) → Type 0
 IsGoing image guest pool ram =
     (is_some ram ≡ true)
     × IsHeld roots.stands roots.frames roots.slots (ground image guest.running.frames) guest.running pool (held ram)
-    × IsReady roots.slots roots.noted roots.marked roots.value roots.asides (ground image guest.running.frames) guest.running.cpu guest.running.shadows (held ram)
+    × IsReady roots.slots roots.read_from roots.stale roots.value roots.other_roots (ground image guest.running.frames) guest.running.cpu guest.running.shadows (held ram)
     × IsAble guest.running.cpu

@@ -81,13 +81,13 @@ entries_of-lost f f' index h =
     lost_at f f' index h q
     ∙ sym (get-retain_keys (entries_of f) (λ page. not (eqb (page / 1024) index)) q (λ x t. ap (λ y. not (eqb (y / 1024) index)) (sym (nat_cmp-IsAntisymmetric q x t)))))
 
-barred_entry : (tracked : List ℕ) (o : Option Slot) → entry_in (barred tracked o) ≡ entry_in o
-barred_entry tracked None = refl
-barred_entry tracked (Some slot) = refl
+barred_entry : (write_protected : List ℕ) (o : Option Slot) → entry_in (barred write_protected o) ≡ entry_in o
+barred_entry write_protected None = refl
+barred_entry write_protected (Some slot) = refl
 
 -- a right to write is no part of an entry
-pub entries_of-barred : (f f' : ℕ → Option Slot) (tracked : List ℕ) → LosesWrites f f' tracked → entries_of f' ≡ entries_of f
-entries_of-barred f f' tracked h = same_map nat_cmp_total nat_cmp-IsAntisymmetric (entries_of f') (entries_of f) (λ q. elim (cases_lt q (2 ^ 20)) [
-  | inl l ↦ get-entries_of f' q l ∙ ap entry_in (h q l) ∙ barred_entry tracked (f q) ∙ sym (get-entries_of f q l)
+pub entries_of-barred : (f f' : ℕ → Option Slot) (write_protected : List ℕ) → LosesWrites f f' write_protected → entries_of f' ≡ entries_of f
+entries_of-barred f f' write_protected h = same_map nat_cmp_total nat_cmp-IsAntisymmetric (entries_of f') (entries_of f) (λ q. elim (cases_lt q (2 ^ 20)) [
+  | inl l ↦ get-entries_of f' q l ∙ ap entry_in (h q l) ∙ barred_entry write_protected (f q) ∙ sym (get-entries_of f q l)
   | inr g ↦ none-entries_of f' q g ∙ sym (none-entries_of f q g)
 ])

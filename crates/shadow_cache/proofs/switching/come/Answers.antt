@@ -65,7 +65,7 @@ returns-in-None-clause-comes c =
     (let x : Opens ps qs m n c.args.cr3 =
     record {
       pair = c.begin.new.self;
-      fresh = record { value = e.cr3; empty = e.empty; tables = e.tables; unmarked = e.marked };
+      fresh = record { value = e.cr3; empty = e.empty; tables = e.tables; unmarked = e.stale };
       front = ap (λ (xs : List Pair). c.begin.new.self ∷ xs) a.rest;
       kept = subst (λ (xs : List Pair). AreKept xs m n) a.rest (kept-trans c.make_room.new.others m c.make_room.new.ram n a.kept (open-kept c.make_room.new.pool c.begin.new.pool c.begin.new.self c.make_room.new.others c.make_room.new.ram c.begin.new.ram a.roots o e.moves e.empty e.tables few));
     } in x)

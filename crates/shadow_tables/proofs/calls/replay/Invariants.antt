@@ -12,5 +12,5 @@ invariant-loop-call g l = record {
   moves : Moves l.fn.pool l.pool l.fn.ram l.ram (g.S.Shadows.frames l.fn.shadows l.fn.ram) (g.S.Shadows.frames l.shadows l.ram);
   left : length (free_list l.fn.pool l.fn.ram) ≤ length (free_list l.pool l.ram) + fills (take l.call-index l.calls);
   within : (page : ℕ) → page < 2 ^ 20 → IsWithin (g.S.Shadows.slots l.shadows l.ram page) (after (take l.call-index l.calls) page (g.S.Shadows.slots l.fn.shadows l.fn.ram page));
-  slots : ((s : _) → g.S.Shadows.tracked s ≡ []) → (page : ℕ) → page < 2 ^ 20 → g.S.Shadows.slots l.shadows l.ram page ≡ after (take l.call-index l.calls) page (g.S.Shadows.slots l.fn.shadows l.fn.ram page);
+  slots : ((s : _) → g.S.Shadows.write_protected s ≡ []) → (page : ℕ) → page < 2 ^ 20 → g.S.Shadows.slots l.shadows l.ram page ≡ after (take l.call-index l.calls) page (g.S.Shadows.slots l.fn.shadows l.fn.ram page);
 }

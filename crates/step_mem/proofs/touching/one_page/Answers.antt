@@ -24,7 +24,7 @@ returns-clause-sound g c = record {
   laid_in = search rules;
   counted = search rules;
   few = search rules;
-  noted = (let e = ap (λ (l : List ℕ). length l) c.push.ensures in let a = length-append c.args.state.now.visited (c.args.page ∷ []) in let n = c.requires.sound.noted in omega (arith, e, a, n));
+  visits = (let e = ap (λ (l : List ℕ). length l) c.push.ensures in let a = length-append c.args.state.now.visited (c.args.page ∷ []) in let n = c.requires.sound.visits in omega (arith, e, a, n));
   read = search rules;
   written = search rules;
   fits = search rules;

@@ -37,7 +37,7 @@ pub try_once-requires-clause-ready : goal.try_once-requires-clause-ready
 try_once-requires-clause-ready g c =
     let running = c.args.running.now in
     let mid = c.make_room.new.running in
-    subst (λ (k : ℕ). IsReady g.S.Shadows.slots g.S.Shadows.noted g.S.Shadows.marked g.S.Shadows.value g.S.Shadows.asides (ground c.args.image.now k) mid.cpu mid.shadows c.make_room.new.ram) (sym (ap (λ (r : Running g.row.S.Denot). r.frames) c.make_room.ensures.same))
+    subst (λ (k : ℕ). IsReady g.S.Shadows.slots g.S.Shadows.read_from g.S.Shadows.stale g.S.Shadows.value g.S.Shadows.other_roots (ground c.args.image.now k) mid.cpu mid.shadows c.make_room.new.ram) (sym (ap (λ (r : Running g.row.S.Denot). r.frames) c.make_room.ensures.same))
     (c.make_room.ensures.beside.ready (ground c.args.image.now running.frames) refl c.requires.between.ready)
 
 -- ---- what the run knows goes on
@@ -91,7 +91,7 @@ module _ (g : Over) (c : goal.After-try_once g) where
     by_there t by = by ∙ (ap (λ (x : Bool). left_of x b.set) c.try_once.ensures.tries.before ∙ sym c.make_room.ensures.left)
 
     module _ (steps : List Taken) (t : Taken) (free : length (free_list c.args.pool.now ram0) + running.held ≡ 512) (roomy : Roomy (steps ++ t ∷ []))
-        (carried : IsCarried g.S.Shadows.slots g.S.Shadows.noted g.S.Shadows.marked g.S.Shadows.asides g.S.Shadows.opened m steps t.before running.shadows ram0)
+        (carried : IsCarried g.S.Shadows.slots g.S.Shadows.read_from g.S.Shadows.stale g.S.Shadows.other_roots g.S.Shadows.has_tables_under m steps t.before running.shadows ram0)
       where
         room : 8 ≤ length (free_list c.args.pool.now ram0)
         room =
@@ -107,18 +107,18 @@ module _ (g : Over) (c : goal.After-try_once g) where
             let after = c.make_room.ensures.held.counted in
             omega (arith, lengths, before, after, free)
 
-        carried_there : IsCarriedBy g.S.Shadows.slots g.S.Shadows.noted g.S.Shadows.marked g.S.Shadows.asides g.S.Shadows.opened m steps t.before (entries_of (g.S.Shadows.slots running.shadows ram0)) mid.shadows ram1
+        carried_there : IsCarriedBy g.S.Shadows.slots g.S.Shadows.read_from g.S.Shadows.stale g.S.Shadows.other_roots g.S.Shadows.has_tables_under m steps t.before (entries_of (g.S.Shadows.slots running.shadows ram0)) mid.shadows ram1
         carried_there = record {
-          known = c.known_laws.ensures.still m steps t.before (g.S.Shadows.noted running.shadows) (g.S.Shadows.noted mid.shadows) (g.S.Shadows.marked running.shadows) (g.S.Shadows.marked mid.shadows) (g.S.Shadows.asides running.shadows ram0)
-              (g.S.Shadows.asides mid.shadows ram1) (entries_of (g.S.Shadows.slots running.shadows ram0)) (c.make_room.ensures.stay room) carried.known;
-          opened_to = c.make_room.ensures.beside.opened (λ index. is_member eqb (indices_in steps) index) carried.opened_to;
+          known = c.known_laws.ensures.still m steps t.before (g.S.Shadows.read_from running.shadows) (g.S.Shadows.read_from mid.shadows) (g.S.Shadows.stale running.shadows) (g.S.Shadows.stale mid.shadows) (g.S.Shadows.other_roots running.shadows ram0)
+              (g.S.Shadows.other_roots mid.shadows ram1) (entries_of (g.S.Shadows.slots running.shadows ram0)) (c.make_room.ensures.stay room) carried.known;
+          opened_to = c.make_room.ensures.beside.has_tables_under (λ index. is_member eqb (indices_in steps) index) carried.opened_to;
         }
 
   -- what a try says, from there
   abbrev Carries : Running g.row.S.Denot → Events → List Taken → Taken → Type 0
   Carries r script steps t =
-      (set : Set) → IsCarriedBy g.S.Shadows.slots g.S.Shadows.noted g.S.Shadows.marked g.S.Shadows.asides g.S.Shadows.opened (wedge image script r.frames) steps t.before set r.shadows ram1
-      → IsCarried g.S.Shadows.slots g.S.Shadows.noted g.S.Shadows.marked g.S.Shadows.asides g.S.Shadows.opened (wedge image script r.frames) (steps ++ t ∷ []) t.after c.try_once.new.running.shadows c.try_once.new.ram
+      (set : Set) → IsCarriedBy g.S.Shadows.slots g.S.Shadows.read_from g.S.Shadows.stale g.S.Shadows.other_roots g.S.Shadows.has_tables_under (wedge image script r.frames) steps t.before set r.shadows ram1
+      → IsCarried g.S.Shadows.slots g.S.Shadows.read_from g.S.Shadows.stale g.S.Shadows.other_roots g.S.Shadows.has_tables_under (wedge image script r.frames) (steps ++ t ∷ []) t.after c.try_once.new.running.shadows c.try_once.new.ram
 
   abbrev IsTaken : Running g.row.S.Denot → Events → List Taken → Taken → Type 0 → Type 0
   IsTaken r script steps t fact =
@@ -200,7 +200,7 @@ returns-clause-attempts g c = record {
         let new = c.try_once.new.running in subst (λ (r : Running g.row.S.Denot). OnOk c.try_once.result (IsHeld g.S.Shadows.stands g.S.Shadows.frames g.S.Shadows.slots (ground c.args.image.now r.frames) (record new { step = r.step + 1 }) c.try_once.new.pool c.try_once.new.ram)) c.make_room.ensures.same c.try_once.ensures.tries.leaves.held;
     ready =
         let new = c.try_once.new.running in
-        subst (λ (r : Running g.row.S.Denot). OnOk c.try_once.result (IsReady g.S.Shadows.slots g.S.Shadows.noted g.S.Shadows.marked g.S.Shadows.value g.S.Shadows.asides (ground c.args.image.now r.frames) new.cpu new.shadows c.try_once.new.ram)) c.make_room.ensures.same
+        subst (λ (r : Running g.row.S.Denot). OnOk c.try_once.result (IsReady g.S.Shadows.slots g.S.Shadows.read_from g.S.Shadows.stale g.S.Shadows.value g.S.Shadows.other_roots (ground c.args.image.now r.frames) new.cpu new.shadows c.try_once.new.ram)) c.make_room.ensures.same
         c.try_once.ensures.tries.leaves.ready;
     back = c.try_once.ensures.tries.leaves.back;
     count = subst (λ (r : Running g.row.S.Denot). WhereStepped c.try_once.result (c.try_once.new.running.step ≡ r.step + 1)) c.make_room.ensures.same c.try_once.ensures.tries.leaves.count;
@@ -228,6 +228,6 @@ returns-clause-accounts g c = record {
       let new = c.try_once.new.running in
       let same = ap (λ (r : Running g.row.S.Denot). r.fills) c.make_room.ensures.same in
       fills_join _ _ _ running.fills running.fills new.fills (fills_fewer _ _ running.fills c.make_room.ensures.beside.fewer)
-      (subst (λ (k : ℕ). FillsOn (pages_kept g.S.Shadows.slots g.S.Shadows.asides c.make_room.new.running.shadows c.make_room.new.ram) (pages_kept g.S.Shadows.slots g.S.Shadows.asides new.shadows c.try_once.new.ram) k new.fills) same c.try_once.ensures.accounts.filled);
+      (subst (λ (k : ℕ). FillsOn (pages_kept g.S.Shadows.slots g.S.Shadows.other_roots c.make_room.new.running.shadows c.make_room.new.ram) (pages_kept g.S.Shadows.slots g.S.Shadows.other_roots new.shadows c.try_once.new.ram) k new.fills) same c.try_once.ensures.accounts.filled);
   frames = c.try_once.ensures.accounts.frames ∙ ap (λ (r : Running g.row.S.Denot). r.frames) c.make_room.ensures.same;
 }

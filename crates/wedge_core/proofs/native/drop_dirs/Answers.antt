@@ -9,11 +9,11 @@ pub loop-index-init : goal.loop-index-init
 loop-index-init g c = record {
   stands = c.requires.stands;
   gone = none_below _;
-  noted = λ f. refl;
-  marked = refl;
+  read_from = λ f. refl;
+  stale = refl;
   value = refl;
-  asides = same-refl _;
-  opened = λ indices o. o;
+  other_roots = same-refl _;
+  has_tables_under = λ indices o. o;
   frames = refl;
   moves = λ p o. Moves-refl p _ _ o.stands;
 }
@@ -24,15 +24,15 @@ loop-index-preserved g c =
     let e = c.drop_dir.ensures in
     let n = c.drop_dir.new in
     let slots = g.S.Shadows.slots in
-    let asides = g.S.Shadows.asides in
+    let other_roots = g.S.Shadows.other_roots in
     record {
       stands = e.stands;
       gone = next_below (slots l.shadows l.ram) (slots n.self n.ram) l.index e.loses l.invariant.gone;
-      noted = λ f. e.beside.noted f ∙ l.invariant.noted f;
-      marked = e.beside.marked ∙ l.invariant.marked;
+      read_from = λ f. e.beside.read_from f ∙ l.invariant.read_from f;
+      stale = e.beside.stale ∙ l.invariant.stale;
       value = e.beside.value ∙ l.invariant.value;
-      asides = same-trans _ (asides l.shadows l.ram) _ l.invariant.asides e.beside.asides;
-      opened = λ indices o. e.opened indices (l.invariant.opened indices o);
+      other_roots = same-trans _ (other_roots l.shadows l.ram) _ l.invariant.other_roots e.beside.other_roots;
+      has_tables_under = λ indices o. e.has_tables_under indices (l.invariant.has_tables_under indices o);
       frames = e.frames ∙ l.invariant.frames;
       moves = λ p o.
           let first = l.invariant.moves p o in

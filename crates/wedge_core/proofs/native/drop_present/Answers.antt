@@ -23,13 +23,13 @@ returns-clause-beside g c = λ any. record {
       let d = c.drop_dirs in
       let low = held.behind in
       let front = front_same m.frames pool pool c.args.ram.now d.new.ram _ _ (omega (arith, frames, low)) held.owns (d.ensures.moves pool held.owns) in
-      fewer_ready g.S.Shadows.slots g.S.Shadows.noted g.S.Shadows.marked g.S.Shadows.value g.S.Shadows.asides (λ page. false) (λ page. false) m running.cpu running.shadows d.new.shadows c.args.ram.now d.new.ram d.ensures.value
-      (λ un. sym d.ensures.marked ∙ un) (λ f n. d.ensures.noted f ∙ n)
+      fewer_ready g.S.Shadows.slots g.S.Shadows.read_from g.S.Shadows.stale g.S.Shadows.value g.S.Shadows.other_roots (λ page. false) (λ page. false) m running.cpu running.shadows d.new.shadows c.args.ram.now d.new.ram d.ensures.value
+      (λ un. sym d.ensures.stale ∙ un) (λ f n. d.ensures.read_from f ∙ n)
       (λ page lt o. inl (d.ensures.none page lt))
-      (same_shed _ _ d.ensures.asides) (shown_same m c.args.ram.now d.new.ram front) h;
+      (same_shed _ _ d.ensures.other_roots) (shown_same m c.args.ram.now d.new.ram front) h;
   back = refl;
-  opened = c.drop_dirs.ensures.opened;
-  fewer = fewer_pages _ _ _ _ (part_empty _ _ c.drop_dirs.ensures.entries) (same_shed _ _ c.drop_dirs.ensures.asides);
+  has_tables_under = c.drop_dirs.ensures.has_tables_under;
+  fewer = fewer_pages _ _ _ _ (part_empty _ _ c.drop_dirs.ensures.entries) (same_shed _ _ c.drop_dirs.ensures.other_roots);
   guest =
       let pool = c.requires.held.1 in
       let held = c.requires.held.2 in
@@ -38,9 +38,9 @@ returns-clause-beside g c = λ any. record {
 
 pub returns-clause-stay : goal.returns-clause-stay
 returns-clause-stay g c = record {
-  notes = λ frame n. sym (c.drop_dirs.ensures.noted frame) ∙ n;
-  marks = λ n. sym c.drop_dirs.ensures.marked ∙ n;
-  others = c.drop_dirs.ensures.asides;
+  notes = λ frame n. sym (c.drop_dirs.ensures.read_from frame) ∙ n;
+  marks = λ n. sym c.drop_dirs.ensures.stale ∙ n;
+  others = c.drop_dirs.ensures.other_roots;
 }
 
 pub returns-clause-held : goal.returns-clause-held

@@ -74,7 +74,7 @@ pub returns-else-clashes-clause-beside : goal.returns-else-clashes-clause-beside
 returns-else-clashes-clause-beside g c = record {
   ready = λ m frames h. h;
   back = refl;
-  opened = λ indices h. h;
+  has_tables_under = λ indices h. h;
   fewer = omega arith;
   guest = refl;
 }

@@ -58,12 +58,12 @@ module _ (g : Over) where
   abbrev space : Running g.row.S.Denot → List ℕ → kept_state.StepState → Space
   space r ram s = space_at (λ x. entries_of (g.S.Shadows.slots r.shadows x)) ram s
 
-  widens : Widens g.S.Shadows.stands g.S.Shadows.frames g.S.Shadows.asides g.S.Shadows.opened
-  widens = record { same_asides = g.met.S.Shadows.same_asides; same_opened = g.met.S.Shadows.same_opened; wider = g.met.S.Shadows.wider; sized = g.met.S.Reloads.sized }
+  widens : Widens g.S.Shadows.stands g.S.Shadows.frames g.S.Shadows.other_roots g.S.Shadows.has_tables_under
+  widens = record { same_other_roots = g.met.S.Shadows.same_other_roots; same_tables_under = g.met.S.Shadows.same_tables_under; wider = g.met.S.Shadows.wider; sized = g.met.S.Reloads.sized }
 
   steps_from : (image : Image) (r : Running g.row.S.Denot) (pool : Pool) (ram0 ram1 : List ℕ) (s0 s1 : kept_state.StepState) → IsHeld g.S.Shadows.stands g.S.Shadows.frames g.S.Shadows.slots (ground image r.frames) r pool ram0
-      → Tried g.S.Shadows.stands g.S.Shadows.frames g.S.Shadows.slots g.S.Shadows.asides image r pool ram0 ram1 s0 s1
-      → Steps g.S.Shadows.slots g.S.Shadows.noted g.S.Shadows.marked g.S.Shadows.value g.S.Shadows.asides image r.frames (state_at image [] r ram0) r.shadows ram0 ram1
+      → Tried g.S.Shadows.stands g.S.Shadows.frames g.S.Shadows.slots g.S.Shadows.other_roots image r pool ram0 ram1 s0 s1
+      → Steps g.S.Shadows.slots g.S.Shadows.read_from g.S.Shadows.stale g.S.Shadows.value g.S.Shadows.other_roots image r.frames (state_at image [] r ram0) r.shadows ram0 ram1
   steps_from image r pool ram0 ram1 s0 s1 held k = record {
     wedge = record { mode = held.wedge.mode; accepted = held.wedge.accepted; room = held.wedge.room };
     host = held.host;
@@ -75,16 +75,16 @@ module _ (g : Over) where
     same = k.asides1;
   }
 
-  filled_from : (image : Image) (r : Running g.row.S.Denot) (pool : Pool) (ram0 ram1 : List ℕ) (s0 s1 : kept_state.StepState) → Tried g.S.Shadows.stands g.S.Shadows.frames g.S.Shadows.slots g.S.Shadows.asides image r pool ram0 ram1 s0 s1
-      → FillsOn (pages_kept g.S.Shadows.slots g.S.Shadows.asides r.shadows ram0) (pages_kept g.S.Shadows.slots g.S.Shadows.asides r.shadows ram1) r.fills r.fills
-  filled_from image r pool ram0 ram1 s0 s1 k = fills_same _ _ r.fills (kept_same g.S.Shadows.slots g.S.Shadows.asides r.shadows ram0 ram1 k.a.entries_same k.asides1)
+  filled_from : (image : Image) (r : Running g.row.S.Denot) (pool : Pool) (ram0 ram1 : List ℕ) (s0 s1 : kept_state.StepState) → Tried g.S.Shadows.stands g.S.Shadows.frames g.S.Shadows.slots g.S.Shadows.other_roots image r pool ram0 ram1 s0 s1
+      → FillsOn (pages_kept g.S.Shadows.slots g.S.Shadows.other_roots r.shadows ram0) (pages_kept g.S.Shadows.slots g.S.Shadows.other_roots r.shadows ram1) r.fills r.fills
+  filled_from image r pool ram0 ram1 s0 s1 k = fills_same _ _ r.fills (kept_same g.S.Shadows.slots g.S.Shadows.other_roots r.shadows ram0 ram1 k.a.entries_same k.asides1)
 
 -- ---- the step stops
 
 module _ (g : Over) (c : goal.In-Err g) where
-  stopped : Tried g.S.Shadows.stands g.S.Shadows.frames g.S.Shadows.slots g.S.Shadows.asides c.args.image.now c.args.running.now c.args.pool.now c.args.ram.now c.try_native.new.ram c.begin_over.new.state c.try_native.new.state
+  stopped : Tried g.S.Shadows.stands g.S.Shadows.frames g.S.Shadows.slots g.S.Shadows.other_roots c.args.image.now c.args.running.now c.args.pool.now c.args.ram.now c.try_native.new.ram c.begin_over.new.state c.try_native.new.state
   stopped =
-      tried_from g.S.Shadows.stands g.S.Shadows.frames g.S.Shadows.slots g.S.Shadows.asides g.met.S.Shadows.above g.met.S.Shadows.same_frames g.met.S.Shadows.same_slots g.met.S.Shadows.same_entries g.met.S.Shadows.same_asides c.args.image.now c.args.running.now c.args.pool.now c.args.ram.now
+      tried_from g.S.Shadows.stands g.S.Shadows.frames g.S.Shadows.slots g.S.Shadows.other_roots g.met.S.Shadows.above g.met.S.Shadows.same_frames g.met.S.Shadows.same_slots g.met.S.Shadows.same_entries g.met.S.Shadows.same_other_roots c.args.image.now c.args.running.now c.args.pool.now c.args.ram.now
       c.try_native.new.ram c.begin_over.new.state c.try_native.new.state 256 (text_pages c.args.image.now) c.args.image.now.text c.begin_over.new.state.guard refl refl refl refl (λ m. c.begin_over.ensures.hides c.args.running.now.frames m) (λ m. c.begin_over.ensures.lays c.args.running.now.frames m) c.requires.held
       c.begin_over.ensures.space c.begin_over.ensures.frames c.try_native.ensures.stays.0 c.try_native.ensures.stays.1 c.try_native.ensures.stays.2 c.try_native.ensures.sound.frames_in c.try_native.ensures.sound.within c.are_bytes.ensures.bytes c.are_bytes.ensures.length c.requires.runs
       c.eip_fits.ensures
@@ -123,14 +123,14 @@ returns-in-Err-clause-tries g c = record {
 -- ---- it went
 
 module _ (g : Over) (c : goal.After-worked-in-Ok-Some-1 g) where
-  gone : Tried g.S.Shadows.stands g.S.Shadows.frames g.S.Shadows.slots g.S.Shadows.asides c.args.image.now c.args.running.now c.args.pool.now c.args.ram.now c.try_native.new.ram c.begin_over.new.state c.try_native.new.state
+  gone : Tried g.S.Shadows.stands g.S.Shadows.frames g.S.Shadows.slots g.S.Shadows.other_roots c.args.image.now c.args.running.now c.args.pool.now c.args.ram.now c.try_native.new.ram c.begin_over.new.state c.try_native.new.state
   gone =
-      tried_from g.S.Shadows.stands g.S.Shadows.frames g.S.Shadows.slots g.S.Shadows.asides g.met.S.Shadows.above g.met.S.Shadows.same_frames g.met.S.Shadows.same_slots g.met.S.Shadows.same_entries g.met.S.Shadows.same_asides c.args.image.now c.args.running.now c.args.pool.now c.args.ram.now
+      tried_from g.S.Shadows.stands g.S.Shadows.frames g.S.Shadows.slots g.S.Shadows.other_roots g.met.S.Shadows.above g.met.S.Shadows.same_frames g.met.S.Shadows.same_slots g.met.S.Shadows.same_entries g.met.S.Shadows.same_other_roots c.args.image.now c.args.running.now c.args.pool.now c.args.ram.now
       c.try_native.new.ram c.begin_over.new.state c.try_native.new.state 256 (text_pages c.args.image.now) c.args.image.now.text c.begin_over.new.state.guard refl refl refl refl (λ m. c.begin_over.ensures.hides c.args.running.now.frames m) (λ m. c.begin_over.ensures.lays c.args.running.now.frames m) c.requires.held
       c.begin_over.ensures.space c.begin_over.ensures.frames c.try_native.ensures.stays.0 c.try_native.ensures.stays.1 c.try_native.ensures.stays.2 c.try_native.ensures.sound.frames_in c.try_native.ensures.sound.within c.are_bytes.ensures.bytes c.are_bytes.ensures.length c.requires.runs
       c.eip_fits.ensures
 
-module _ (g : Over) (c : goal.After-go g) where
+module _ (g : Over) (c : goal.After-finish_step g) where
   abbrev image : Image
   image = c.args.image.now
 
@@ -155,21 +155,21 @@ module _ (g : Over) (c : goal.After-go g) where
       let tries = rw c.in-Ok-Some.field-0-is at (c.in-Ok-Some.ensures.tries m (unheld b) (record { has = refl; over = refl })) in
       step_is m b sees.level k.next ∙ (ap (fetches_next m (unheld b)) (sym k.start) ∙ tries.0)
 
-  ready2 : IsReady g.S.Shadows.slots g.S.Shadows.noted g.S.Shadows.marked g.S.Shadows.value g.S.Shadows.asides (ground image running.frames) c.go.new.running.cpu c.go.new.running.shadows c.go.new.ram
-      × (c.go.new.running.lost.back ≡ true → AreFound (ground image running.frames) c.go.new.running.cpu (shown (ground image running.frames) c.go.new.ram) c.go.new.running.cpu.cr3 (g.S.Shadows.noted c.go.new.running.shadows) (g.S.Shadows.slots c.go.new.running.shadows c.go.new.ram))
+  ready2 : IsReady g.S.Shadows.slots g.S.Shadows.read_from g.S.Shadows.stale g.S.Shadows.value g.S.Shadows.other_roots (ground image running.frames) c.finish_step.new.running.cpu c.finish_step.new.running.shadows c.finish_step.new.ram
+      × (c.finish_step.new.running.lost.back ≡ true → AreFound (ground image running.frames) c.finish_step.new.running.cpu (shown (ground image running.frames) c.finish_step.new.ram) c.finish_step.new.running.cpu.cr3 (g.S.Shadows.read_from c.finish_step.new.running.shadows) (g.S.Shadows.slots c.finish_step.new.running.shadows c.finish_step.new.ram))
   ready2 =
       let k = gone g c.before in
-      let behind1 = went_ready g.S.Shadows.slots g.S.Shadows.noted g.S.Shadows.marked g.S.Shadows.value g.S.Shadows.asides image running.frames (state_at g image [] running ram0) running.shadows ram0 ram1
+      let behind1 = went_ready g.S.Shadows.slots g.S.Shadows.read_from g.S.Shadows.stale g.S.Shadows.value g.S.Shadows.other_roots image running.frames (state_at g image [] running ram0) running.shadows ram0 ram1
       (steps_from g image running c.args.pool.now ram0 ram1 c.begin_over.new.state state1 c.requires.held k) c.requires.ready c.native_laws.ensures.steps c.in-Ok-Some.worked c.try_native.new.board (space g running ram1 state1) state1.changes (went []) (k.ram1_is []) refl in
-      c.go.ensures.ready (ground image running.frames) (sym k.frames1) c.text_frames-count.ensures k.open1 behind1
+      c.finish_step.ensures.ready (ground image running.frames) (sym k.frames1) c.text_frames-count.ensures k.open1 behind1
 
 pub returns-in-Ok-Some-clause-accounts : goal.returns-in-Ok-Some-clause-accounts
 returns-in-Ok-Some-clause-accounts g c = record {
-  stands = c.go.ensures.moved.stands;
-  counted = c.go.ensures.counts.counted;
-  pool = keeps_then g.S.Shadows.stands g.S.Shadows.frames g.S.Shadows.slots c.args.image.now c.args.running.now c.go.new.running c.args.pool.now c.go.new.pool c.args.ram.now c.try_native.new.ram c.go.new.ram c.requires.held (gone g c.before).a c.go.ensures.moved.moves;
-  filled = fills_join _ _ _ _ _ _ (filled_from g c.args.image.now c.args.running.now c.args.pool.now c.args.ram.now c.try_native.new.ram c.begin_over.new.state c.try_native.new.state (gone g c.before)) c.go.ensures.counts.filled;
-  frames = c.go.ensures.passes.frames;
+  stands = c.finish_step.ensures.moved.stands;
+  counted = c.finish_step.ensures.counts.counted;
+  pool = keeps_then g.S.Shadows.stands g.S.Shadows.frames g.S.Shadows.slots c.args.image.now c.args.running.now c.finish_step.new.running c.args.pool.now c.finish_step.new.pool c.args.ram.now c.try_native.new.ram c.finish_step.new.ram c.requires.held (gone g c.before).a c.finish_step.ensures.moved.moves;
+  filled = fills_join _ _ _ _ _ _ (filled_from g c.args.image.now c.args.running.now c.args.pool.now c.args.ram.now c.try_native.new.ram c.begin_over.new.state c.try_native.new.state (gone g c.before)) c.finish_step.ensures.counts.filled;
+  frames = c.finish_step.ensures.passes.frames;
 }
 
 pub returns-in-Ok-Some-clause-tries : goal.returns-in-Ok-Some-clause-tries
@@ -188,15 +188,15 @@ returns-in-Ok-Some-clause-tries g c = record {
       let users = others_users m e.wedge_is c.args.ram.now host0 b refl e.room e.bytes e.sound c.eip_fits.ensures (c.native_laws.ensures.text image held.wedge.accepted) e.next c.requires.able in
       let tries = rw c.in-Ok-Some.field-0-is at (c.in-Ok-Some.ensures.tries m (unheld b) (record { has = refl; over = refl })) in
       let none = tries.1 (subst (OthersAreUsers (unheld b)) (sym e.start) users) image.sites in
-      let front = front_same n c.args.pool.now c.go.new.pool c.try_native.new.ram c.go.new.ram (g.S.Shadows.frames running.shadows c.try_native.new.ram) (g.S.Shadows.frames c.go.new.running.shadows c.go.new.ram) held.behind (owns c.try_native.ensures.sound.stands_now) c.go.ensures.moved.moves in
-      let ram_is : shown m c.go.new.ram ≡ s1.ram = shown_same m c.try_native.new.ram c.go.new.ram front ∙ sym (k.ram1_is script) in
-      let new = state_of g.S.Shadows.stands g.S.Shadows.frames g.S.Shadows.slots m c.go.new.running c.go.new.ram in
+      let front = front_same n c.args.pool.now c.finish_step.new.pool c.try_native.new.ram c.finish_step.new.ram (g.S.Shadows.frames running.shadows c.try_native.new.ram) (g.S.Shadows.frames c.finish_step.new.running.shadows c.finish_step.new.ram) held.behind (owns c.try_native.ensures.sound.stands_now) c.finish_step.ensures.moved.moves in
+      let ram_is : shown m c.finish_step.new.ram ≡ s1.ram = shown_same m c.try_native.new.ram c.finish_step.new.ram front ∙ sym (k.ram1_is script) in
+      let new = state_of g.S.Shadows.stands g.S.Shadows.frames g.S.Shadows.slots m c.finish_step.new.running c.finish_step.new.ram in
       let whole = dropping c.in-Ok-Some.worked.dropped s1.set in
-      let left = is_left m new whole c.go.new.running.lost c.go.ensures.left
-      (λ back. all_loosened (ground image n) c.go.new.running.cpu (shown (ground image n) c.go.new.ram) c.go.new.running.cpu.cr3 (g.S.Shadows.noted c.go.new.running.shadows) (g.S.Shadows.slots c.go.new.running.shadows c.go.new.ram)
-      ((ready2 g c).1 back) m (with_set new whole) refl (any_script image script n c.go.new.ram) refl refl) in
-      idle m b c.go.new.running.lost c.in-Ok-Some.worked c.try_native.new.board s1 new (went g c script) c.go.ensures.passes.cpu ram_is c.go.ensures.passes.board c.go.ensures.passes.step left none;
-  before = c.go.ensures.passes.before;
+      let left = is_left m new whole c.finish_step.new.running.lost c.finish_step.ensures.left
+      (λ back. all_loosened (ground image n) c.finish_step.new.running.cpu (shown (ground image n) c.finish_step.new.ram) c.finish_step.new.running.cpu.cr3 (g.S.Shadows.read_from c.finish_step.new.running.shadows) (g.S.Shadows.slots c.finish_step.new.running.shadows c.finish_step.new.ram)
+      ((ready2 g c).1 back) m (with_set new whole) refl (any_script image script n c.finish_step.new.ram) refl refl) in
+      idle m b c.finish_step.new.running.lost c.in-Ok-Some.worked c.try_native.new.board s1 new (went g c script) c.finish_step.ensures.passes.cpu ram_is c.finish_step.ensures.passes.board c.finish_step.ensures.passes.step left none;
+  before = c.finish_step.ensures.passes.before;
   carried = λ script steps t unwanted free roomy taken by kept carried.
       let running = c.args.running.now in
       let image = c.args.image.now in
@@ -204,17 +204,17 @@ returns-in-Ok-Some-clause-tries g c = record {
       let state1 = c.try_native.new.state in
       let last = space g running c.try_native.new.ram state1 in
       let sound = c.try_native.ensures.sound in
-      let pages = sound.noted in
+      let pages = sound.visits in
       let most = sound.few in
       let r = rw c.in-Ok-Some.field-0-is at c.in-Ok-Some.ensures.roots in
       let bytes = c.are_bytes-in-Ok-Some.ensures in
       let ram_is : last.ram ≡ shown (ground image running.frames) c.try_native.new.ram = k.ram1_is script ∙ any_script image script running.frames c.try_native.new.ram in
       let long = bytes.length in
       let same = ap length ram_is in
-      went_on g.S.Shadows.stands g.S.Shadows.frames g.S.Shadows.slots g.S.Shadows.noted g.S.Shadows.marked g.S.Shadows.value g.S.Shadows.asides g.S.Shadows.opened (widens g) c.known_laws.ensures image script running c.args.pool.now c.args.ram.now c.try_native.new.ram
-      c.requires.held k.a steps t kept free roomy taken by carried last state1.changes refl sound.told c.go.new.running.shadows c.go.new.ram c.go.ensures.opened c.in-Ok-Some.worked c.try_native.new.board (went g c script)
+      went_on g.S.Shadows.stands g.S.Shadows.frames g.S.Shadows.slots g.S.Shadows.read_from g.S.Shadows.stale g.S.Shadows.value g.S.Shadows.other_roots g.S.Shadows.has_tables_under (widens g) c.known_laws.ensures image script running c.args.pool.now c.args.ram.now c.try_native.new.ram
+      c.requires.held k.a steps t kept free roomy taken by carried last state1.changes refl sound.told c.finish_step.new.running.shadows c.finish_step.new.ram c.finish_step.ensures.has_tables_under c.in-Ok-Some.worked c.try_native.new.board (went g c script)
       (record { through = r.through; load = r.load; all = r.all; page_size = r.page_size }) c.requires.ready (omega (arith, long, same)) (subst AreBytes (sym ram_is) bytes.bytes) (space g running c.args.ram.now c.begin_over.new.state) c.text_frames-count.result state1.control.frames
-      c.text_frames-count.ensures c.in-Ok-Some.ensures.uses (ap (λ (x : Space). x.visited) c.begin_over.ensures.space) (ap (λ (x : Space). x.mode) c.begin_over.ensures.space) sound.within (omega (arith, pages, most)) (c.go.ensures.ends unwanted);
+      c.text_frames-count.ensures c.in-Ok-Some.ensures.uses (ap (λ (x : Space). x.visited) c.begin_over.ensures.space) (ap (λ (x : Space). x.mode) c.begin_over.ensures.space) sound.within (omega (arith, pages, most)) (c.finish_step.ensures.ends unwanted);
   carried_asked = tt;
   leaves = record {
     held =
@@ -223,20 +223,20 @@ returns-in-Ok-Some-clause-tries g c = record {
         let n = running.frames in
         let m = ground image n in
         let k = gone g c.before in
-        let asides0 = g.S.Shadows.asides running.shadows c.args.ram.now in
-        let asides1 = g.S.Shadows.asides running.shadows c.try_native.new.ram in
+        let asides0 = g.S.Shadows.other_roots running.shadows c.args.ram.now in
+        let asides1 = g.S.Shadows.other_roots running.shadows c.try_native.new.ram in
         let opens1 = subst (λ (x : Bool). AllOpen image x asides1) (sym k.wp1) (open_shed image (wp_of running.cpu) asides0 asides1 (same_shed _ _ k.asides1) (ready_open m running.cpu (shown m c.args.ram.now) asides0 c.requires.ready.others)) in
-        let slots2 = g.S.Shadows.slots c.go.new.running.shadows c.go.new.ram in
-        let within2 = within_left n slots2 c.in-Ok-Some.worked.dropped c.go.new.running.lost (changed (entries_of (g.S.Shadows.slots running.shadows c.try_native.new.ram)) c.try_native.new.state.changes) c.go.ensures.left k.within1
-        (λ back. all_within m c.go.new.running.cpu (shown m c.go.new.ram) c.go.new.running.cpu.cr3 (g.S.Shadows.noted c.go.new.running.shadows) slots2 ((ready2 g c).1 back)) in
-        let open2 = c.go.ensures.shows image c.text_frames-count.ensures k.open1 opens1 in
-        let fills = c.go.ensures.counts.fills in
-        let count = c.go.ensures.passes.step in
-        held_then g.S.Shadows.stands g.S.Shadows.frames g.S.Shadows.slots image running (record c.go.new.running { step = running.step + 1 }) c.args.pool.now c.go.new.pool c.args.ram.now c.try_native.new.ram c.go.new.ram c.requires.held k.a (owns c.try_native.ensures.sound.stands_now) c.go.ensures.moved.moves
-        c.go.ensures.moved.stands c.go.ensures.moved.owns c.go.ensures.counts.counted (omega (arith, fills, count)) c.go.ensures.passes.frames within2 (subst (λ (x : Cpu). AreOpen image (wp_of x) slots2) (sym c.go.ensures.passes.cpu) open2);
+        let slots2 = g.S.Shadows.slots c.finish_step.new.running.shadows c.finish_step.new.ram in
+        let within2 = within_left n slots2 c.in-Ok-Some.worked.dropped c.finish_step.new.running.lost (changed (entries_of (g.S.Shadows.slots running.shadows c.try_native.new.ram)) c.try_native.new.state.changes) c.finish_step.ensures.left k.within1
+        (λ back. all_within m c.finish_step.new.running.cpu (shown m c.finish_step.new.ram) c.finish_step.new.running.cpu.cr3 (g.S.Shadows.read_from c.finish_step.new.running.shadows) slots2 ((ready2 g c).1 back)) in
+        let open2 = c.finish_step.ensures.shows image c.text_frames-count.ensures k.open1 opens1 in
+        let fills = c.finish_step.ensures.counts.fills in
+        let count = c.finish_step.ensures.passes.step in
+        held_then g.S.Shadows.stands g.S.Shadows.frames g.S.Shadows.slots image running (record c.finish_step.new.running { step = running.step + 1 }) c.args.pool.now c.finish_step.new.pool c.args.ram.now c.try_native.new.ram c.finish_step.new.ram c.requires.held k.a (owns c.try_native.ensures.sound.stands_now) c.finish_step.ensures.moved.moves
+        c.finish_step.ensures.moved.stands c.finish_step.ensures.moved.owns c.finish_step.ensures.counts.counted (omega (arith, fills, count)) c.finish_step.ensures.passes.frames within2 (subst (λ (x : Cpu). AreOpen image (wp_of x) slots2) (sym c.finish_step.ensures.passes.cpu) open2);
     ready = (ready2 g c).0;
-    back = c.go.ensures.wanted;
-    count = c.go.ensures.passes.step;
+    back = c.finish_step.ensures.wanted;
+    count = c.finish_step.ensures.passes.step;
     asked = tt;
     stays = tt;
   };
@@ -245,14 +245,14 @@ returns-in-Ok-Some-clause-tries g c = record {
 -- ---- the host is to do it
 
 module _ (g : Over) (c : goal.After-text_frames g) where
-  asked : Tried g.S.Shadows.stands g.S.Shadows.frames g.S.Shadows.slots g.S.Shadows.asides c.args.image.now c.args.running.now c.args.pool.now c.args.ram.now c.try_native.new.ram c.begin_over.new.state c.try_native.new.state
+  asked : Tried g.S.Shadows.stands g.S.Shadows.frames g.S.Shadows.slots g.S.Shadows.other_roots c.args.image.now c.args.running.now c.args.pool.now c.args.ram.now c.try_native.new.ram c.begin_over.new.state c.try_native.new.state
   asked =
-      tried_from g.S.Shadows.stands g.S.Shadows.frames g.S.Shadows.slots g.S.Shadows.asides g.met.S.Shadows.above g.met.S.Shadows.same_frames g.met.S.Shadows.same_slots g.met.S.Shadows.same_entries g.met.S.Shadows.same_asides c.args.image.now c.args.running.now c.args.pool.now c.args.ram.now
+      tried_from g.S.Shadows.stands g.S.Shadows.frames g.S.Shadows.slots g.S.Shadows.other_roots g.met.S.Shadows.above g.met.S.Shadows.same_frames g.met.S.Shadows.same_slots g.met.S.Shadows.same_entries g.met.S.Shadows.same_other_roots c.args.image.now c.args.running.now c.args.pool.now c.args.ram.now
       c.try_native.new.ram c.begin_over.new.state c.try_native.new.state 256 (text_pages c.args.image.now) c.args.image.now.text c.begin_over.new.state.guard refl refl refl refl (λ m. c.begin_over.ensures.hides c.args.running.now.frames m) (λ m. c.begin_over.ensures.lays c.args.running.now.frames m) c.requires.held
       c.begin_over.ensures.space c.begin_over.ensures.frames c.try_native.ensures.stays.0 c.try_native.ensures.stays.1 c.try_native.ensures.stays.2 c.try_native.ensures.sound.frames_in c.try_native.ensures.sound.within c.are_bytes.ensures.bytes c.are_bytes.ensures.length c.requires.runs
       c.eip_fits.ensures
 
-module _ (g : Over) (c : goal.After-keep g) where
+module _ (g : Over) (c : goal.After-fill_used g) where
   abbrev r : Running g.row.S.Denot
   r = c.args.running.now
 
@@ -260,13 +260,13 @@ module _ (g : Over) (c : goal.After-keep g) where
   last = space g c.args.running.now c.try_native.new.ram c.try_native.new.state
 
   abbrev directory : Side → ℕ
-  directory = g.S.Shadows.directory c.keep.new.running.shadows
+  directory = g.S.Shadows.directory c.fill_used.new.running.shadows
 
-  cpu_is : c.keep.new.running.cpu ≡ c.args.running.now.cpu
-  cpu_is = ap (λ (x : Running g.row.S.Denot). x.cpu) c.keep.ensures.same.same
+  cpu_is : c.fill_used.new.running.cpu ≡ c.args.running.now.cpu
+  cpu_is = ap (λ (x : Running g.row.S.Denot). x.cpu) c.fill_used.ensures.same.same
 
-  open3 : AreOpen c.args.image.now (wp_of c.args.running.now.cpu) (g.S.Shadows.slots c.keep.new.running.shadows c.keep.new.ram)
-  open3 = let k = asked g c.before in subst (λ (x : Bool). AreOpen c.args.image.now x (g.S.Shadows.slots c.keep.new.running.shadows c.keep.new.ram)) k.wp1 (c.keep.ensures.shows c.args.image.now c.text_frames.ensures k.open1)
+  open3 : AreOpen c.args.image.now (wp_of c.args.running.now.cpu) (g.S.Shadows.slots c.fill_used.new.running.shadows c.fill_used.new.ram)
+  open3 = let k = asked g c.before in subst (λ (x : Bool). AreOpen c.args.image.now x (g.S.Shadows.slots c.fill_used.new.running.shadows c.fill_used.new.ram)) k.wp1 (c.fill_used.ensures.shows c.args.image.now c.text_frames.ensures k.open1)
 
   sees : Sees (view_by directory r.cpu) r.cpu
   sees = c.native_laws.ensures.sees directory r.cpu c.requires.able
@@ -278,7 +278,7 @@ module _ (g : Over) (c : goal.After-keep g) where
     abbrev b : State
     b = state_at g c.args.image.now script r c.args.ram.now
 
-    e : Begun g.S.Shadows.stands g.S.Shadows.frames g.S.Shadows.slots g.S.Shadows.asides c.args.image.now r c.args.ram.now c.begin_over.new.state script
+    e : Begun g.S.Shadows.stands g.S.Shadows.frames g.S.Shadows.slots g.S.Shadows.other_roots c.args.image.now r c.args.ram.now c.begin_over.new.state script
     e = (asked g c.before).begun script
 
     prepared : (c.try_native.new.board ≡ r.board) × IsPrepared (unheld b) (space g r c.args.ram.now c.begin_over.new.state) last
@@ -300,11 +300,11 @@ module _ (g : Over) (c : goal.After-keep g) where
 
 pub returns-in-Ok-None-clause-accounts : goal.returns-in-Ok-None-clause-accounts
 returns-in-Ok-None-clause-accounts g c = record {
-  stands = c.keep.ensures.moved.stands;
-  counted = c.keep.ensures.counts.counted;
-  pool = keeps_then g.S.Shadows.stands g.S.Shadows.frames g.S.Shadows.slots c.args.image.now c.args.running.now c.keep.new.running c.args.pool.now c.keep.new.pool c.args.ram.now c.try_native.new.ram c.keep.new.ram c.requires.held (asked g c.before).a c.keep.ensures.moved.moves;
-  filled = fills_join _ _ _ _ _ _ (filled_from g c.args.image.now c.args.running.now c.args.pool.now c.args.ram.now c.try_native.new.ram c.begin_over.new.state c.try_native.new.state (asked g c.before)) c.keep.ensures.counts.filled;
-  frames = ap (λ (x : Running g.row.S.Denot). x.frames) c.keep.ensures.same.same;
+  stands = c.fill_used.ensures.moved.stands;
+  counted = c.fill_used.ensures.counts.counted;
+  pool = keeps_then g.S.Shadows.stands g.S.Shadows.frames g.S.Shadows.slots c.args.image.now c.args.running.now c.fill_used.new.running c.args.pool.now c.fill_used.new.pool c.args.ram.now c.try_native.new.ram c.fill_used.new.ram c.requires.held (asked g c.before).a c.fill_used.ensures.moved.moves;
+  filled = fills_join _ _ _ _ _ _ (filled_from g c.args.image.now c.args.running.now c.args.pool.now c.args.ram.now c.try_native.new.ram c.begin_over.new.state c.try_native.new.state (asked g c.before)) c.fill_used.ensures.counts.filled;
+  frames = ap (λ (x : Running g.row.S.Denot). x.frames) c.fill_used.ensures.same.same;
 }
 
 pub returns-in-Ok-None-clause-tries : goal.returns-in-Ok-None-clause-tries
@@ -319,75 +319,75 @@ returns-in-Ok-None-clause-tries g c = record {
       let held = c.requires.held in
       let changes = c.try_native.new.state.changes in
       let ram1 = c.try_native.new.ram in
-      let new = c.keep.new.running in
-      let ram3 = c.keep.new.ram in
+      let new = c.fill_used.new.running in
+      let ram3 = c.fill_used.new.ram in
       let side = side_of (running.cpu.cpl == 3) in
       let slots1 = g.S.Shadows.slots running.shadows ram1 in
       let slots3 = g.S.Shadows.slots new.shadows ram3 in
-      let kept_all = c.keep.ensures.whole (may g c script) in
-      let closes = subst (λ (x : Bool). Closes slots1 slots3 t.set (pages_of t.visited changes) side x (g.S.Shadows.tracked new.shadows) t.wrote) k.wp1 kept_all.1 in
-      let front = front_same n c.args.pool.now c.keep.new.pool ram1 ram3 (g.S.Shadows.frames running.shadows ram1) (g.S.Shadows.frames new.shadows ram3) held.behind (owns c.try_native.ensures.sound.stands_now) c.keep.ensures.moved.moves in
+      let kept_all = c.fill_used.ensures.whole (may g c script) in
+      let closes = subst (λ (x : Bool). Closes slots1 slots3 t.set (pages_of t.visited changes) side x (g.S.Shadows.write_protected new.shadows) t.wrote) k.wp1 kept_all.1 in
+      let front = front_same n c.args.pool.now c.fill_used.new.pool ram1 ram3 (g.S.Shadows.frames running.shadows ram1) (g.S.Shadows.frames new.shadows ram3) held.behind (owns c.try_native.ensures.sound.stands_now) c.fill_used.ensures.moved.moves in
       let ram_is : shown m0 ram3 ≡ t.ram = shown_same m0 ram1 ram3 front ∙ sym (k.ram1_is script) in
-      let size : length ram3 ≡ length c.args.ram.now = c.keep.ensures.moved.moves.size ∙ k.a.left.size in
+      let size : length ram3 ≡ length c.args.ram.now = c.fill_used.ensures.moved.moves.size ∙ k.a.left.size in
       let pages_of_ram : 4096 * (length ram3 / 4096) ≡ length ram3 = (let h = held.whole in omega (arith, size, h)) in
       let roomy : 4096 * n ≤ length ram3 = (let h = held.host.room in omega (arith, size, h)) in
-      let host = λ (page : ℕ) (write : Bool) (lt : page < 2 ^ 20). g.met.S.Shadows.host new.shadows ram3 (length ram3 / 4096) side page write c.keep.ensures.moved.stands pages_of_ram lt in
+      let host = λ (page : ℕ) (write : Bool) (lt : page < 2 ^ 20). g.met.S.Shadows.host new.shadows ram3 (length ram3 / 4096) side page write c.fill_used.ensures.moved.stands pages_of_ram lt in
       let beyond = λ (page : ℕ) (le : 2 ^ 20 ≤ page). ap (λ (set : FinMap nat_cmp Entry). get set page) (sym closes.entries) ∙ g.met.S.Shadows.none_beyond new.shadows ram3 page le in
       let within = λ (page : ℕ) (entry : Entry) (is : get t.set page ≡ Some entry). let lt : entry.frame < n = (k.within1 page entry is).1 in let below : entry.frame < length ram3 / 4096 = omega (arith, lt, roomy) in below in
       let text = text_within image in
       let fits = held.wedge.room in
-      let host3 : IsHost m0 ram3 = host_same m0 ram1 ram3 (omega (arith, fits, text)) c.keep.ensures.moved.moves.size front (host_left m0 (text_pages image) c.args.ram.now ram1 text k.a.left (record { room = held.host.room; text = held.host.text })) in
+      let host3 : IsHost m0 ram3 = host_same m0 ram1 ram3 (omega (arith, fits, text)) c.fill_used.ensures.moved.moves.size front (host_left m0 (text_pages image) c.args.ram.now ram1 text k.a.left (record { room = held.host.room; text = held.host.text })) in
       let lends = subst (λ (x : Bool). Lends m0 ram3 (directory g c side) x (wp_of running.cpu) t.set) (side_is running.cpu)
       (c.native_laws.ensures.lends m0 ram3 (directory g c side) side (wp_of running.cpu) slots3 t.set host (λ page lt. g.met.S.Shadows.entry_at new.shadows ram3 page lt) (subst (λ (set : FinMap nat_cmp Entry). AreWithin n set) (sym closes.entries) k.within1) (open3 g c)
       (part_same (entries_of slots3) t.set closes.entries)) in
       let state_is : state_of g.S.Shadows.stands g.S.Shadows.frames g.S.Shadows.slots m0 new ram3 ≡ again.settled (b g c script) t =
-      λ i. record { cpu = cpu_is g c i; ram = ram_is i; set = closes.entries i; board = (ap (λ (x : Running g.row.S.Denot). x.board) c.keep.ensures.same.same ∙ (prepared g c script).0) i; step = ap (λ (x : Running g.row.S.Denot). x.step) c.keep.ensures.same.same i } in
+      λ i. record { cpu = cpu_is g c i; ram = ram_is i; set = closes.entries i; board = (ap (λ (x : Running g.row.S.Denot). x.board) c.fill_used.ensures.same.same ∙ (prepared g c script).0) i; step = ap (λ (x : Running g.row.S.Denot). x.step) c.fill_used.ensures.same.same i } in
       let begun = e g c script in
-      asks c.native_laws.ensures.grants c.native_laws.ensures.again c.native_laws.ensures.completes m0 begun.wedge_is (directory g c) (b g c script) begun.room begun.bytes begun.sound (sees g c) begun.next c.eip_fits.ensures t (p g c script) (clear g c script) slots1 slots3 changes (g.S.Shadows.tracked new.shadows) ram3 closes
-      beyond host within (record { host = host3; ram = sym ram_is; sees = sees g c }) lends new.lost (kept_all.0, c.keep.ensures.same.back ∙ c.requires.kept) (state_of g.S.Shadows.stands g.S.Shadows.frames g.S.Shadows.slots m0 new ram3) state_is;
-  before = c.keep.ensures.same.before;
+      asks c.native_laws.ensures.grants c.native_laws.ensures.again c.native_laws.ensures.completes m0 begun.wedge_is (directory g c) (b g c script) begun.room begun.bytes begun.sound (sees g c) begun.next c.eip_fits.ensures t (p g c script) (clear g c script) slots1 slots3 changes (g.S.Shadows.write_protected new.shadows) ram3 closes
+      beyond host within (record { host = host3; ram = sym ram_is; sees = sees g c }) lends new.lost (kept_all.0, c.fill_used.ensures.same.back ∙ c.requires.kept) (state_of g.S.Shadows.stands g.S.Shadows.frames g.S.Shadows.slots m0 new ram3) state_is;
+  before = c.fill_used.ensures.same.before;
   carried = tt;
   carried_asked = λ script steps t unwanted free roomy taken by load rules set long bytes kept carried.
       let begun = e g c script in
-      let noted = reports c.native_laws.ensures.grants c.native_laws.ensures.again c.native_laws.ensures.completes (m g c script) begun.wedge_is (directory g c) (b g c script) begun.room begun.bytes begun.sound (sees g c) begun.next c.eip_fits.ensures (last g c) (p g c script) (clear g c script) t.report t.after
+      let read_from = reports c.native_laws.ensures.grants c.native_laws.ensures.again c.native_laws.ensures.completes (m g c script) begun.wedge_is (directory g c) (b g c script) begun.room begun.bytes begun.sound (sees g c) begun.next c.eip_fits.ensures (last g c) (p g c script) (clear g c script) t.report t.after
       (sym (ap (λ (x : Set). stepped (m g c script) (with_set (b g c script) x)) by) ∙ taken.stepped) in
-      asked_on g.S.Shadows.stands g.S.Shadows.frames g.S.Shadows.slots g.S.Shadows.noted g.S.Shadows.marked g.S.Shadows.value g.S.Shadows.asides g.S.Shadows.opened (widens g) c.known_laws.ensures c.args.image.now script c.args.running.now c.args.pool.now c.args.ram.now c.try_native.new.ram
-      c.requires.held (asked g c.before).a steps t kept free roomy taken by carried (last g c) c.try_native.new.state.changes refl c.try_native.ensures.sound.told c.keep.new.running.shadows c.keep.new.ram c.keep.ensures.opened noted.0 noted.1 noted.2 load rules set long bytes
-      (c.keep.ensures.told.tells (c.keep.ensures.whole (may g c script)).0);
+      asked_on g.S.Shadows.stands g.S.Shadows.frames g.S.Shadows.slots g.S.Shadows.read_from g.S.Shadows.stale g.S.Shadows.value g.S.Shadows.other_roots g.S.Shadows.has_tables_under (widens g) c.known_laws.ensures c.args.image.now script c.args.running.now c.args.pool.now c.args.ram.now c.try_native.new.ram
+      c.requires.held (asked g c.before).a steps t kept free roomy taken by carried (last g c) c.try_native.new.state.changes refl c.try_native.ensures.sound.told c.fill_used.new.running.shadows c.fill_used.new.ram c.fill_used.ensures.has_tables_under read_from.0 read_from.1 read_from.2 load rules set long bytes
+      (c.fill_used.ensures.told.tells (c.fill_used.ensures.whole (may g c script)).0);
   leaves = record {
     held =
         let running = c.args.running.now in
         let image = c.args.image.now in
         let k = asked g c.before in
-        let new = c.keep.new.running in
-        let fills = c.keep.ensures.counts.fills in
+        let new = c.fill_used.new.running in
+        let fills = c.fill_used.ensures.counts.fills in
         let before = c.requires.held.fills in
-        held_then g.S.Shadows.stands g.S.Shadows.frames g.S.Shadows.slots image running (record new { step = running.step + 1 }) c.args.pool.now c.keep.new.pool c.args.ram.now c.try_native.new.ram c.keep.new.ram c.requires.held k.a (owns c.try_native.ensures.sound.stands_now) c.keep.ensures.moved.moves
-        c.keep.ensures.moved.stands c.keep.ensures.moved.owns c.keep.ensures.counts.counted (omega (arith, fills, before)) (ap (λ (x : Running g.row.S.Denot). x.frames) c.keep.ensures.same.same)
-        (part_within running.frames _ (changed (entries_of (g.S.Shadows.slots running.shadows c.try_native.new.ram)) c.try_native.new.state.changes) (part_left _ _ _ c.keep.ensures.left) k.within1)
-        (subst (λ (x : Cpu). AreOpen image (wp_of x) (g.S.Shadows.slots new.shadows c.keep.new.ram)) (sym (cpu_is g c)) (open3 g c));
+        held_then g.S.Shadows.stands g.S.Shadows.frames g.S.Shadows.slots image running (record new { step = running.step + 1 }) c.args.pool.now c.fill_used.new.pool c.args.ram.now c.try_native.new.ram c.fill_used.new.ram c.requires.held k.a (owns c.try_native.ensures.sound.stands_now) c.fill_used.ensures.moved.moves
+        c.fill_used.ensures.moved.stands c.fill_used.ensures.moved.owns c.fill_used.ensures.counts.counted (omega (arith, fills, before)) (ap (λ (x : Running g.row.S.Denot). x.frames) c.fill_used.ensures.same.same)
+        (part_within running.frames _ (changed (entries_of (g.S.Shadows.slots running.shadows c.try_native.new.ram)) c.try_native.new.state.changes) (part_left _ _ _ c.fill_used.ensures.left) k.within1)
+        (subst (λ (x : Cpu). AreOpen image (wp_of x) (g.S.Shadows.slots new.shadows c.fill_used.new.ram)) (sym (cpu_is g c)) (open3 g c));
     ready =
         let running = c.args.running.now in
         let image = c.args.image.now in
         let m0 = ground image running.frames in
         let k = asked g c.before in
-        let behind1 = followed_ready g.S.Shadows.slots g.S.Shadows.noted g.S.Shadows.marked g.S.Shadows.value g.S.Shadows.asides image running.frames (b g c []) running.shadows c.args.ram.now c.try_native.new.ram
+        let behind1 = followed_ready g.S.Shadows.slots g.S.Shadows.read_from g.S.Shadows.stale g.S.Shadows.value g.S.Shadows.other_roots image running.frames (b g c []) running.shadows c.args.ram.now c.try_native.new.ram
         (steps_from g image running c.args.pool.now c.args.ram.now c.try_native.new.ram c.begin_over.new.state c.try_native.new.state c.requires.held k) c.requires.ready (λ page. false) (last g c) (last g c).set
         (prepared_follows c.native_laws.ensures.on c.native_laws.ensures.fetched c.native_laws.ensures.ranges (unheld (b g c [])) _ (last g c) (p g c [])) (k.ram1_is []) refl in
-        subst (λ (x : Cpu). IsReady g.S.Shadows.slots g.S.Shadows.noted g.S.Shadows.marked g.S.Shadows.value g.S.Shadows.asides m0 x c.keep.new.running.shadows c.keep.new.ram) (sym (cpu_is g c)) (c.keep.ensures.ready (λ page. false) m0 running.cpu (sym k.frames1) behind1);
-    back = λ w. c.keep.ensures.same.back ∙ c.requires.kept;
+        subst (λ (x : Cpu). IsReady g.S.Shadows.slots g.S.Shadows.read_from g.S.Shadows.stale g.S.Shadows.value g.S.Shadows.other_roots m0 x c.fill_used.new.running.shadows c.fill_used.new.ram) (sym (cpu_is g c)) (c.fill_used.ensures.ready (λ page. false) m0 running.cpu (sym k.frames1) behind1);
+    back = λ w. c.fill_used.ensures.same.back ∙ c.requires.kept;
     count = tt;
     asked =
-        let new = c.keep.new.running in
-        c.keep.ensures.same.same ∙ (λ i. record c.args.running.now { board = (prepared g c []).0 i; shadows = new.shadows; held = new.held; fills = new.fills; lost = new.lost });
+        let new = c.fill_used.new.running in
+        c.fill_used.ensures.same.same ∙ (λ i. record c.args.running.now { board = (prepared g c []).0 i; shadows = new.shadows; held = new.held; fills = new.fills; lost = new.lost });
     stays = tt;
   };
 }
 
 -- ---- what the calls ask for
 
-pub keep-requires-clause-fills : goal.keep-requires-clause-fills
-keep-requires-clause-fills g c = let f = c.requires.held.fills in let b = c.requires.bound in omega (arith, f, b)
+pub fill_used-requires-clause-fills : goal.fill_used-requires-clause-fills
+fill_used-requires-clause-fills g c = let f = c.requires.held.fills in let b = c.requires.bound in omega (arith, f, b)
 
 pub begin_over-requires-clause-within : goal.begin_over-requires-clause-within
 begin_over-requires-clause-within g c = c.requires.held.within
@@ -404,14 +404,14 @@ try_native-requires-clause-sound g c = c.begin_over.ensures.sound
 pub try_native-requires-clause-pages : goal.try_native-requires-clause-pages
 try_native-requires-clause-pages g c = c.begin_over.ensures.pages
 
-pub go-requires-clause-under : goal.go-requires-clause-under
-go-requires-clause-under g c = record { sound = c.try_native.ensures.sound; counted = (gone g c).counted1; few = (gone g c).few1 }
+pub finish_step-requires-clause-under : goal.finish_step-requires-clause-under
+finish_step-requires-clause-under g c = record { sound = c.try_native.ensures.sound; counted = (gone g c).counted1; few = (gone g c).few1 }
 
-pub go-requires-clause-counts : goal.go-requires-clause-counts
-go-requires-clause-counts g c = record { fills = c.requires.held.fills; bound = c.requires.bound; enough = (let free = ap length (gone g c).a.free_same in let room = c.requires.room in omega (arith, free, room)) }
+pub finish_step-requires-clause-counts : goal.finish_step-requires-clause-counts
+finish_step-requires-clause-counts g c = record { fills = c.requires.held.fills; bound = c.requires.bound; enough = (let free = ap length (gone g c).a.free_same in let room = c.requires.room in omega (arith, free, room)) }
 
-pub go-requires-clause-worked : goal.go-requires-clause-worked
-go-requires-clause-worked g c = record { page = rw c.in-Ok-Some.field-0-is at c.in-Ok-Some.ensures.dropped; rules = (gone g c).wp1 }
+pub finish_step-requires-clause-worked : goal.finish_step-requires-clause-worked
+finish_step-requires-clause-worked g c = record { page = rw c.in-Ok-Some.field-0-is at c.in-Ok-Some.ensures.dropped; rules = (gone g c).wp1 }
 
-pub keep-requires-clause-under : goal.keep-requires-clause-under
-keep-requires-clause-under g c = record { sound = c.try_native.ensures.sound; counted = (asked g c).counted1; few = (asked g c).few1 }
+pub fill_used-requires-clause-under : goal.fill_used-requires-clause-under
+fill_used-requires-clause-under g c = record { sound = c.try_native.ensures.sound; counted = (asked g c).counted1; few = (asked g c).few1 }

@@ -15,7 +15,7 @@ whole-requires-clause-between g c = record {
       subst (λ (f : ℕ). IsHeld roots.stands roots.frames roots.slots (ground c.args.image.now f) c.in-Ok.guest.running c.in-Ok.pool (g.H.Host.bytes c.start.new.host)) (sym b.held.frames_are) b.held;
   ready =
       let b = c.in-Ok.ensures.started.4 [] in
-      subst (λ (f : ℕ). IsReady roots.slots roots.noted roots.marked roots.value roots.asides (ground c.args.image.now f) c.in-Ok.guest.running.cpu c.in-Ok.guest.running.shadows (g.H.Host.bytes c.start.new.host)) (sym b.held.frames_are) c.in-Ok.ensures.ready;
+      subst (λ (f : ℕ). IsReady roots.slots roots.read_from roots.stale roots.value roots.other_roots (ground c.args.image.now f) c.in-Ok.guest.running.cpu c.in-Ok.guest.running.shadows (g.H.Host.bytes c.start.new.host)) (sym b.held.frames_are) c.in-Ok.ensures.ready;
   enough =
       let b = c.in-Ok.ensures.started.4 [] in
       let all = b.all in

@@ -45,7 +45,7 @@ slice-requires-clause-bound g c =
 pub returns-in-Err : goal.returns-in-Err
 returns-in-Err g c =
     let fills = c.args.guest.now.running.fills in
-    let pages = pages_kept roots.slots roots.asides c.args.guest.now.running.shadows (g.H.Host.bytes c.args.host.now) in
+    let pages = pages_kept roots.slots roots.other_roots c.args.guest.now.running.shadows (g.H.Host.bytes c.args.host.now) in
     let filled = c.slice.new.self.running.fills in
     let begun = ap (λ (b : State). b.step) c.requires.first in
     let is : c.args.guest.now.running.step + c.args.n ≡ c.args.n = omega (arith, begun) in
@@ -61,7 +61,7 @@ returns-in-Err g c =
 pub returns-in-Err-put_end : goal.returns-in-Err-put_end
 returns-in-Err-put_end g c =
     let fills = c.args.guest.now.running.fills in
-    let pages = pages_kept roots.slots roots.asides c.args.guest.now.running.shadows (g.H.Host.bytes c.args.host.now) in
+    let pages = pages_kept roots.slots roots.other_roots c.args.guest.now.running.shadows (g.H.Host.bytes c.args.host.now) in
     let filled = c.slice.new.self.running.fills in
     let begun = ap (λ (b : State). b.step) c.requires.first in
     let is : c.args.guest.now.running.step + c.args.n ≡ c.args.n = omega (arith, begun) in
@@ -84,7 +84,7 @@ returns-in-Err-put_end g c =
 pub returns-in-Ok-put_end : goal.returns-in-Ok-put_end
 returns-in-Ok-put_end g c =
     let fills = c.args.guest.now.running.fills in
-    let pages = pages_kept roots.slots roots.asides c.args.guest.now.running.shadows (g.H.Host.bytes c.args.host.now) in
+    let pages = pages_kept roots.slots roots.other_roots c.args.guest.now.running.shadows (g.H.Host.bytes c.args.host.now) in
     let filled = c.slice.new.self.running.fills in
     let begun = ap (λ (b : State). b.step) c.requires.first in
     let is : c.args.guest.now.running.step + c.args.n ≡ c.args.n = omega (arith, begun) in

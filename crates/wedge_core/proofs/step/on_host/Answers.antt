@@ -7,7 +7,7 @@ use Rattle.descriptors.specs.declared.cpu.Cpu.{Cpu}
 use Rattle.frame_pool.specs.Held.{Owns}
 use Rattle.frame_pool.specs.Pool.{base_of, free_list}
 use Rattle.host_cpl3.specs.Hosts.{standing}
-use Rattle.shadow_tables.specs.Aside.{AreSame}
+use Rattle.shadow_tables.specs.OtherRoot.{AreSame}
 use Rattle.shadow_tables.specs.Entries.{entries_of}
 use Rattle.machine_model.specs.Keeping.{Roomy}
 use Rattle.machine_model.specs.Run.{Set}
@@ -172,43 +172,43 @@ module _ (g : Over) (c : goal.After-ram g) where
   size : length m2 ≡ length m1
   size = size_is g.S.Shadows.stands g.S.Shadows.frames g.S.Shadows.slots g.S.Shadows.directory _ _ _ _ _ _ _ _ _ _ _ once
 
-  asides_same : AreSame (g.S.Shadows.asides r1.shadows m1) (g.S.Shadows.asides r1.shadows m2)
+  asides_same : AreSame (g.S.Shadows.other_roots r1.shadows m1) (g.S.Shadows.other_roots r1.shadows m2)
   asides_same =
       let h = c.in-Ok-Asked.ensures.attempts.leaves.held in
-      g.met.S.Shadows.same_asides r1.shadows m1 m2 h.stand (g.met.S.Shadows.above r1.shadows c.attempt.new.pool m1 m2 (4096 * n) h.owns under behind size)
+      g.met.S.Shadows.same_other_roots r1.shadows m1 m2 h.stand (g.met.S.Shadows.above r1.shadows c.attempt.new.pool m1 m2 (4096 * n) h.owns under behind size)
 
-  ready : IsReady g.S.Shadows.slots g.S.Shadows.noted g.S.Shadows.marked g.S.Shadows.value g.S.Shadows.asides (ground c.args.image.now n) r2.cpu r2.shadows m2
+  ready : IsReady g.S.Shadows.slots g.S.Shadows.read_from g.S.Shadows.stale g.S.Shadows.value g.S.Shadows.other_roots (ground c.args.image.now n) r2.cpu r2.shadows m2
   ready =
       let met = g.met.S.Shadows in
       let h = c.in-Ok-Asked.ensures.attempts.leaves.held in
-      let tracks : Tracks g.S.Shadows.stands g.S.Shadows.slots g.S.Shadows.noted g.S.Shadows.marked g.S.Shadows.value g.S.Shadows.asides g.S.Shadows.tracked g.S.Shadows.directory = record {
+      let tracks : Tracks g.S.Shadows.stands g.S.Shadows.slots g.S.Shadows.read_from g.S.Shadows.stale g.S.Shadows.value g.S.Shadows.other_roots g.S.Shadows.write_protected g.S.Shadows.directory = record {
         host = met.host;
         barred = met.barred;
-        noted_tracked = met.noted_tracked;
-        asides_tracked = met.asides_tracked;
+        read_from_is_protected = met.read_from_is_protected;
+        other_roots_protected = met.other_roots_protected;
       } in
       let rules = once_rules g.S.Shadows.stands g.S.Shadows.frames g.S.Shadows.slots g.S.Shadows.directory _ _ _ _ _ _ _ _ _ _ _ once in
       let cpu : r1.cpu ≡ r0.cpu = cpu_is g.S.Shadows.stands g.S.Shadows.frames g.S.Shadows.slots g.S.Shadows.directory _ _ _ _ _ _ _ _ _ _ _ once in
-      let untouched = λ (at : ℕ) (t : is_among at (g.S.Shadows.tracked r1.shadows) ≡ true).
+      let untouched = λ (at : ℕ) (t : is_among at (g.S.Shadows.write_protected r1.shadows) ≡ true).
       once_untouched g.S.Shadows.stands g.S.Shadows.frames g.S.Shadows.slots g.S.Shadows.directory _ _ _ _ _ _ _ _ _ _ _ once at
-      (unlent g.S.Shadows.stands g.S.Shadows.slots g.S.Shadows.noted g.S.Shadows.marked g.S.Shadows.value g.S.Shadows.asides g.S.Shadows.tracked g.S.Shadows.directory tracks r1.shadows m1 (side_of (r1.cpu.cpl == 3)) at h.stand h.whole t) in
-      let ready1 = subst (λ (x : Cpu). IsReady g.S.Shadows.slots g.S.Shadows.noted g.S.Shadows.marked g.S.Shadows.value g.S.Shadows.asides (ground c.args.image.now n) x r1.shadows m1) cpu c.in-Ok-Asked.ensures.attempts.leaves.ready in
-      subst (λ (x : g.row.S.Denot). IsReady g.S.Shadows.slots g.S.Shadows.noted g.S.Shadows.marked g.S.Shadows.value g.S.Shadows.asides (ground c.args.image.now n) r2.cpu x m2) (sym shadows_same)
-      (ready_on g.S.Shadows.stands g.S.Shadows.slots g.S.Shadows.noted g.S.Shadows.marked g.S.Shadows.value g.S.Shadows.asides g.S.Shadows.tracked g.S.Shadows.directory tracks (ground c.args.image.now n) h.wedge r0.cpu r2.cpu r1.shadows m1 m2
+      (unlent g.S.Shadows.stands g.S.Shadows.slots g.S.Shadows.read_from g.S.Shadows.stale g.S.Shadows.value g.S.Shadows.other_roots g.S.Shadows.write_protected g.S.Shadows.directory tracks r1.shadows m1 (side_of (r1.cpu.cpl == 3)) at h.stand h.whole t) in
+      let ready1 = subst (λ (x : Cpu). IsReady g.S.Shadows.slots g.S.Shadows.read_from g.S.Shadows.stale g.S.Shadows.value g.S.Shadows.other_roots (ground c.args.image.now n) x r1.shadows m1) cpu c.in-Ok-Asked.ensures.attempts.leaves.ready in
+      subst (λ (x : g.row.S.Denot). IsReady g.S.Shadows.slots g.S.Shadows.read_from g.S.Shadows.stale g.S.Shadows.value g.S.Shadows.other_roots (ground c.args.image.now n) r2.cpu x m2) (sym shadows_same)
+      (ready_on g.S.Shadows.stands g.S.Shadows.slots g.S.Shadows.read_from g.S.Shadows.stale g.S.Shadows.value g.S.Shadows.other_roots g.S.Shadows.write_protected g.S.Shadows.directory tracks (ground c.args.image.now n) h.wedge r0.cpu r2.cpu r1.shadows m1 m2
       h.host held.host rules.0 rules.1 rules.2 untouched kept.slots_are asides_same ready1)
 
-  filled : FillsOn (pages_kept g.S.Shadows.slots g.S.Shadows.asides r0.shadows m0) (pages_kept g.S.Shadows.slots g.S.Shadows.asides r2.shadows m2) r0.fills r2.fills
+  filled : FillsOn (pages_kept g.S.Shadows.slots g.S.Shadows.other_roots r0.shadows m0) (pages_kept g.S.Shadows.slots g.S.Shadows.other_roots r2.shadows m2) r0.fills r2.fills
   filled =
-      let pages = λ (s : g.row.S.Denot) (l : List ℕ). pages_kept g.S.Shadows.slots g.S.Shadows.asides s l in
+      let pages = λ (s : g.row.S.Denot) (l : List ℕ). pages_kept g.S.Shadows.slots g.S.Shadows.other_roots s l in
       once_fills g.S.Shadows.stands g.S.Shadows.frames g.S.Shadows.slots g.S.Shadows.directory _ _ _ _ _ _ _ _ _ _ _ once pages (pages r0.shadows m0)
-      (kept_same g.S.Shadows.slots g.S.Shadows.asides r1.shadows m1 m2 kept.entries_are asides_same) c.in-Ok-Asked.ensures.accounts.filled
+      (kept_same g.S.Shadows.slots g.S.Shadows.other_roots r1.shadows m1 m2 kept.entries_are asides_same) c.in-Ok-Asked.ensures.accounts.filled
 
   -- its pages were settled before
   asked_on : (script : Events) (steps : List Taken) (t : Taken) → AreBytes (shown (ground c.args.image.now n) m2) → c.args.wanted ≡ false → length (free_list c.args.pool.now m0) + r0.held ≡ 512 → Roomy (steps ++ t ∷ [])
       → IsTakenFrom (wedge c.args.image.now script n) (state_of g.S.Shadows.stands g.S.Shadows.frames g.S.Shadows.slots (wedge c.args.image.now script n) r0 m0) t
       → t.set ≡ left_of r2.lost.before (set_of g.S.Shadows.stands g.S.Shadows.frames g.S.Shadows.slots r0 m0)
-      → IsCarried g.S.Shadows.slots g.S.Shadows.noted g.S.Shadows.marked g.S.Shadows.asides g.S.Shadows.opened (wedge c.args.image.now script n) steps t.before r0.shadows m0
-      → IsCarried g.S.Shadows.slots g.S.Shadows.noted g.S.Shadows.marked g.S.Shadows.asides g.S.Shadows.opened (wedge c.args.image.now script n) (steps ++ t ∷ []) t.after r1.shadows m1
+      → IsCarried g.S.Shadows.slots g.S.Shadows.read_from g.S.Shadows.stale g.S.Shadows.other_roots g.S.Shadows.has_tables_under (wedge c.args.image.now script n) steps t.before r0.shadows m0
+      → IsCarried g.S.Shadows.slots g.S.Shadows.read_from g.S.Shadows.stale g.S.Shadows.other_roots g.S.Shadows.has_tables_under (wedge c.args.image.now script n) (steps ++ t ∷ []) t.after r1.shadows m1
   asked_on script steps t bytes unwanted free roomy taken by carried =
       let by1 : t.set ≡ left_of r1.lost.before (set_of g.S.Shadows.stands g.S.Shadows.frames g.S.Shadows.slots r0 m0) = by ∙ ap (λ (l : Lost). left_of l.before (set_of g.S.Shadows.stands g.S.Shadows.frames g.S.Shadows.slots r0 m0)) lost_same in
       let k = once_taken g.S.Shadows.stands g.S.Shadows.frames g.S.Shadows.slots g.S.Shadows.directory _ _ _ _ _ _ _ _ _ _ _ once script t taken by1 in
@@ -218,20 +218,20 @@ module _ (g : Over) (c : goal.After-ram g) where
       f script steps t unwanted free roomy taken by1 k.0 k.1 k.2 (omega (arith, long, size_is)) (subst AreBytes (sym k.3) bytes) carried
 
   -- and what is kept is as it was
-  carried_still : (m : Setting) (steps : List Taken) (b : State) → IsCarried g.S.Shadows.slots g.S.Shadows.noted g.S.Shadows.marked g.S.Shadows.asides g.S.Shadows.opened m steps b r1.shadows m1 → IsCarried g.S.Shadows.slots g.S.Shadows.noted g.S.Shadows.marked g.S.Shadows.asides g.S.Shadows.opened m steps b r2.shadows m2
+  carried_still : (m : Setting) (steps : List Taken) (b : State) → IsCarried g.S.Shadows.slots g.S.Shadows.read_from g.S.Shadows.stale g.S.Shadows.other_roots g.S.Shadows.has_tables_under m steps b r1.shadows m1 → IsCarried g.S.Shadows.slots g.S.Shadows.read_from g.S.Shadows.stale g.S.Shadows.other_roots g.S.Shadows.has_tables_under m steps b r2.shadows m2
   carried_still m steps b h =
       let s = r1.shadows in
       let e = c.in-Ok-Asked.ensures.attempts.leaves.held in
       let as_was = g.met.S.Shadows.above s c.attempt.new.pool m1 m2 (4096 * n) e.owns under behind size in
       let indices : ℕ → Bool = λ index. is_member eqb (indices_in steps) index in
-      let noted = g.S.Shadows.noted s in
-      let marked = g.S.Shadows.marked s in
-      let still = c.known_laws.ensures.still m steps b noted noted marked marked (g.S.Shadows.asides s m1) (g.S.Shadows.asides s m2) (entries_of (g.S.Shadows.slots s m1))
+      let read_from = g.S.Shadows.read_from s in
+      let stale = g.S.Shadows.stale s in
+      let still = c.known_laws.ensures.still m steps b read_from read_from stale stale (g.S.Shadows.other_roots s m1) (g.S.Shadows.other_roots s m2) (entries_of (g.S.Shadows.slots s m1))
       (record { notes = λ frame e. e; marks = λ e. e; others = asides_same }) h.known in
-      subst (λ (x : g.row.S.Denot). IsCarried g.S.Shadows.slots g.S.Shadows.noted g.S.Shadows.marked g.S.Shadows.asides g.S.Shadows.opened m steps b x m2) (sym shadows_same)
+      subst (λ (x : g.row.S.Denot). IsCarried g.S.Shadows.slots g.S.Shadows.read_from g.S.Shadows.stale g.S.Shadows.other_roots g.S.Shadows.has_tables_under m steps b x m2) (sym shadows_same)
       (record {
-        known = subst (λ (x : Set). IsKnown m steps b noted marked (g.S.Shadows.asides s m2) x) (sym kept.entries_are) still;
-        opened_to = g.met.S.Shadows.same_opened s m1 m2 indices e.stand as_was h.opened_to;
+        known = subst (λ (x : Set). IsKnown m steps b read_from stale (g.S.Shadows.other_roots s m2) x) (sym kept.entries_are) still;
+        opened_to = g.met.S.Shadows.same_tables_under s m1 m2 indices e.stand as_was h.opened_to;
       })
 
 pub run_on-one-requires : goal.run_on-one-requires

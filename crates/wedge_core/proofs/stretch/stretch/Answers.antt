@@ -55,17 +55,17 @@ returns g c =
     let most = c.steps_until_next-k.ensures.most in
     let begun = c.requires.bound.0 in
     let count : now.step ≡ old.step + done = step_then stands frames slots directory old now view start k done memory_then retired_then passed_then ran in
-    let noted = g.S.Shadows.noted in
-    let marked = g.S.Shadows.marked in
+    let read_from = g.S.Shadows.read_from in
+    let stale = g.S.Shadows.stale in
     let value = g.S.Shadows.value in
-    let asides = g.S.Shadows.asides in
-    let tracked = g.S.Shadows.tracked in
+    let other_roots = g.S.Shadows.other_roots in
+    let write_protected = g.S.Shadows.write_protected in
     let pool = c.requires.held.0 in
     let h = c.requires.held.1 in
     let shadows = shadows_is stands frames slots directory laws image old.frames old pool memory h views.lends views.sees c.advances.ensures c.requires.able may c.if-running.false retired passed k done now memory_then retired_then passed_then ran in
     let there = same_there stands frames slots directory laws image old.frames old pool memory h views.lends views.sees c.advances.ensures c.requires.able may c.if-running.false retired passed k done now memory_then retired_then passed_then ran script quiet in
     let inside = same_in stands frames slots directory laws image old.frames old pool memory h memory_then there in
-    let asides_then = met.same_asides old.shadows memory memory_then h.stand inside in
+    let asides_then = met.same_other_roots old.shadows memory memory_then h.stand inside in
     record {
       goes = record {
         passes = λ some board is.
@@ -79,25 +79,25 @@ returns g c =
         held = λ pool h. held_then stands frames slots directory laws image old.frames old pool memory h views.lends views.sees c.advances.ensures c.requires.able may c.if-running.false retired passed k done now memory_then retired_then passed_then ran script quiet;
         pool = λ pool h. keeps_then stands frames slots directory laws image old.frames old pool memory h views.lends views.sees c.advances.ensures c.requires.able may c.if-running.false retired passed k done now memory_then retired_then passed_then ran script quiet;
         filled =
-            subst (λ (s : g.row.S.Denot). FillsOn (pages_kept slots asides old.shadows memory) (pages_kept slots asides s memory_then) old.fills now.fills) (sym shadows)
-            (subst (λ (k : ℕ). FillsOn (pages_kept slots asides old.shadows memory) (pages_kept slots asides old.shadows memory_then) old.fills k) (sym (fills_then stands frames slots directory old now view start k done memory_then retired_then passed_then ran))
-            (fills_same _ _ old.fills (kept_same slots asides old.shadows memory memory_then (set_same stands frames slots directory laws image old.frames old pool memory h memory_then there) asides_then)));
+            subst (λ (s : g.row.S.Denot). FillsOn (pages_kept slots other_roots old.shadows memory) (pages_kept slots other_roots s memory_then) old.fills now.fills) (sym shadows)
+            (subst (λ (k : ℕ). FillsOn (pages_kept slots other_roots old.shadows memory) (pages_kept slots other_roots old.shadows memory_then) old.fills k) (sym (fills_then stands frames slots directory old now view start k done memory_then retired_then passed_then ran))
+            (fills_same _ _ old.fills (kept_same slots other_roots old.shadows memory memory_then (set_same stands frames slots directory laws image old.frames old pool memory h memory_then there) asides_then)));
         ready = λ ready.
-            let tracks : Tracks stands slots noted marked value asides tracked directory = record {
+            let tracks : Tracks stands slots read_from stale value other_roots write_protected directory = record {
               host = met.host;
               barred = met.barred;
-              noted_tracked = met.noted_tracked;
-              asides_tracked = met.asides_tracked;
+              read_from_is_protected = met.read_from_is_protected;
+              other_roots_protected = met.other_roots_protected;
             } in
             let rules = rules_then stands frames slots directory laws image old.frames old pool memory h views.lends views.sees c.advances.ensures c.requires.able may c.if-running.false retired passed k done now memory_then retired_then passed_then ran in
             let host_then = host_there stands frames slots directory laws image old.frames old pool memory h views.lends views.sees c.advances.ensures c.requires.able may c.if-running.false retired passed k done now memory_then retired_then passed_then ran script quiet in
-            let untouched = λ (at : ℕ) (t : is_among at (tracked old.shadows) ≡ true).
+            let untouched = λ (at : ℕ) (t : is_among at (write_protected old.shadows) ≡ true).
             untouched_then stands frames slots directory laws image old.frames old pool memory h views.lends views.sees c.advances.ensures c.requires.able may c.if-running.false retired passed k done now memory_then retired_then passed_then ran script quiet at
-            (λ other same. unlent stands slots noted marked value asides tracked directory tracks old.shadows other (side_of (old.cpu.cpl == 3)) at
+            (λ other same. unlent stands slots read_from stale value other_roots write_protected directory tracks old.shadows other (side_of (old.cpu.cpl == 3)) at
             (stand stands frames slots directory laws image old.frames old pool memory h other same) (whole_new stands frames slots directory laws image old.frames old pool memory h other same) t) in
             let slots_then = met.same_slots old.shadows memory memory_then h.stand inside in
-            subst (λ (s : g.row.S.Denot). IsReady slots noted marked value asides (ground image old.frames) now.cpu s memory_then) (sym shadows)
-            (ready_on stands slots noted marked value asides tracked directory tracks (ground image old.frames) h.wedge old.cpu now.cpu old.shadows memory memory_then h.host host_then rules.0 rules.1 rules.2 untouched slots_then asides_then ready);
+            subst (λ (s : g.row.S.Denot). IsReady slots read_from stale value other_roots (ground image old.frames) now.cpu s memory_then) (sym shadows)
+            (ready_on stands slots read_from stale value other_roots write_protected directory tracks (ground image old.frames) h.wedge old.cpu now.cpu old.shadows memory memory_then h.host host_then rules.0 rules.1 rules.2 untouched slots_then asides_then ready);
         kept = shadows;
         apart = inside;
         able = able_then stands frames slots directory laws image old.frames old c.requires.held.0 memory c.requires.held.1 views.lends views.sees c.advances.ensures c.requires.able may c.if-running.false retired passed k done now memory_then retired_then passed_then ran

@@ -40,7 +40,7 @@ pub returns-in-Some-clause-slots : goal.returns-in-Some-clause-slots
 returns-in-Some-clause-slots g c =
     let s = g.S.Shadows.slots in let kept = s c.args.shadows.now c.args.ram.now in let n = c.fill_page.new in
     turned-last kept (s n.shadows n.ram) c.args.page c.args.later.now _ _ c.fill_page.ensures.turns (sym c.is_among.ensures ∙ c.if-is_among.false)
-    (ap (filled_by c.args.side c.args.wp (g.S.Shadows.tracked c.args.shadows.now))
+    (ap (filled_by c.args.side c.args.wp (g.S.Shadows.write_protected c.args.shadows.now))
     (sym (entry-changed kept c.args.changes.now c.args.page c.in-Some.entry (sym c.last_change.ensures ∙ c.in-Some.is))))
 
 pub returns-in-Some-clause-left : goal.returns-in-Some-clause-left
@@ -73,7 +73,7 @@ returns-in-None-clause-slots g c =
     let s = g.S.Shadows.slots in let kept = s c.args.shadows.now c.args.ram.now in let n = c.fill_again.new in
     let small : c.args.page < 2 ^ 20 = omega (arith, c.if-page-ge-PAGES.false) in
     turned-last kept (s n.shadows n.ram) c.args.page c.args.later.now _ _ c.fill_again.ensures.turns (sym c.is_among.ensures ∙ c.if-is_among.false)
-    (ap (filled_by c.args.side c.args.wp (g.S.Shadows.tracked c.args.shadows.now)) (sym (entry-unchanged kept c.args.changes.now c.args.page small (sym c.last_change.ensures ∙ c.in-None.is))))
+    (ap (filled_by c.args.side c.args.wp (g.S.Shadows.write_protected c.args.shadows.now)) (sym (entry-unchanged kept c.args.changes.now c.args.page small (sym c.last_change.ensures ∙ c.in-None.is))))
 
 pub returns-in-None-clause-left : goal.returns-in-None-clause-left
 returns-in-None-clause-left g c =

@@ -4,7 +4,7 @@ use Rattle.std.specs.FinMap.{FinMap, get}
 use Rattle.std.specs.Ordering.{nat_cmp}
 use Rattle.paging.specs.declared.entry.Entry.{Entry}
 use Rattle.guest_ram.specs.Among.{is_among}
-use Rattle.shadow_tables.specs.Aside.{LoseWrites, AreSame, all_spared}
+use Rattle.shadow_tables.specs.OtherRoot.{LoseWrites, AreSame, all_spared}
 use Rattle.shadow_tables.specs.Calls.{IsWithin}
 use Rattle.shadow_tables.specs.Entries.{entries_of}
 use Rattle.shadow_tables.specs.Slots.{Slot}
@@ -15,7 +15,7 @@ use Rattle.wedge_mem.specs.Owned.{first, owns}
 use Rattle.wedge_mem.specs.Settled.{Fills, LosesSome, filled_by, pages_of, refilled, used}
 use Rattle.wedge_mem.specs.Told.{guest_frames, read_by}
 use Rattle.wedge_mem.proofs.Below.{below-same}
-use Rattle.wedge_mem.proofs.Passed.{owns-noted, owns-told, owns-all, moves-all}
+use Rattle.wedge_mem.proofs.Passed.{owns-read_from, owns-told, owns-all, moves-all}
 use Rattle.wedge_mem.proofs.Told.{all-told}
 use Rattle.wedge_mem.proofs.Due.{settled-count}
 use Rattle.wedge_mem.proofs.Filled.{entries-filled}
@@ -44,7 +44,7 @@ note_tables-requires g c = record { stands = first c.requires.sound.stands_now }
 pub tell_written-requires-clause-owns : goal.tell_written-requires-clause-owns
 tell_written-requires-clause-owns g c =
     let f = g.S.Shadows.frames in let n = c.note_tables.new in
-    owns-noted c.args.pool.now c.args.pool.now c.args.pool.now c.args.ram.now n.ram n.ram n.ram (f c.args.shadows.now c.args.ram.now) (f n.shadows n.ram) (f n.shadows n.ram) (f n.shadows n.ram)
+    owns-read_from c.args.pool.now c.args.pool.now c.args.pool.now c.args.ram.now n.ram n.ram n.ram (f c.args.shadows.now c.args.ram.now) (f n.shadows n.ram) (f n.shadows n.ram) (f n.shadows n.ram)
     (owns c.requires.sound.stands_now) c.note_tables.ensures.frames c.note_tables.ensures.memory
 
 pub fill_pages-filled-requires-clause-owns : goal.fill_pages-filled-requires-clause-owns
@@ -88,24 +88,24 @@ returns-clause-guest g c =
 pub returns-clause-roots : goal.returns-clause-roots
 returns-clause-roots g c = λ view. c.fill_pages-filled.ensures.rest.roots view ∙ c.tell_written.ensures.roots view ∙ c.note_tables.ensures.roots view
 
-pub returns-clause-opened : goal.returns-clause-opened
-returns-clause-opened g c = λ indices all opened.
-    c.fill_pages-filled.ensures.opened indices (λ page there. all page (among-visited c.args.state.now.visited c.args.state.now.changes c.requires.sound.told page ∙ (sym (ap (is_among page) c.as_slice-4.ensures) ∙ there)))
-    (c.tell_written.ensures.opened indices (c.note_tables.ensures.opened indices opened))
+pub returns-clause-has_tables_under : goal.returns-clause-has_tables_under
+returns-clause-has_tables_under g c = λ indices all has_tables_under.
+    c.fill_pages-filled.ensures.has_tables_under indices (λ page there. all page (among-visited c.args.state.now.visited c.args.state.now.changes c.requires.sound.told page ∙ (sym (ap (is_among page) c.as_slice-4.ensures) ∙ there)))
+    (c.tell_written.ensures.has_tables_under indices (c.note_tables.ensures.has_tables_under indices has_tables_under))
 
 -- what the fills leave, of all pages that the step used
 filled-all : (g : Over) (c : goal.After-fill_pages-filled g)
     → Fills (g.S.Shadows.slots c.tell_written.new.shadows c.tell_written.new.ram) (g.S.Shadows.slots c.fill_pages-filled.new.shadows c.fill_pages-filled.new.ram)
     (changed (entries_of (g.S.Shadows.slots c.tell_written.new.shadows c.tell_written.new.ram)) c.args.state.now.changes) (pages_of c.args.state.now.visited c.args.state.now.changes)
-    c.args.side c.args.state.now.control.wp (g.S.Shadows.tracked c.tell_written.new.shadows)
+    c.args.side c.args.state.now.control.wp (g.S.Shadows.write_protected c.tell_written.new.shadows)
 filled-all g c =
     let s = g.S.Shadows.slots in let t = c.tell_written.new in let u = c.fill_pages-filled.new in
     let st = c.args.state.now in
     let mid = s t.shadows t.ram in
     let fills = c.fill_pages-filled.ensures.fills in
-    fills-visited mid (s u.shadows u.ram) (changed (entries_of mid) st.changes) st.visited st.changes c.args.side st.control.wp (g.S.Shadows.tracked t.shadows) c.requires.sound.told
-    (subst (λ (xs : List ℕ). Fills mid (s u.shadows u.ram) (changed (entries_of mid) st.changes) xs c.args.side st.control.wp (g.S.Shadows.tracked t.shadows)) c.as_slice-4.ensures
-    (subst (λ (cs : List Change). Fills mid (s u.shadows u.ram) (changed (entries_of mid) cs) c.as_slice-4.result.now c.args.side st.control.wp (g.S.Shadows.tracked t.shadows)) c.as_slice-3.ensures.changes fills))
+    fills-visited mid (s u.shadows u.ram) (changed (entries_of mid) st.changes) st.visited st.changes c.args.side st.control.wp (g.S.Shadows.write_protected t.shadows) c.requires.sound.told
+    (subst (λ (xs : List ℕ). Fills mid (s u.shadows u.ram) (changed (entries_of mid) st.changes) xs c.args.side st.control.wp (g.S.Shadows.write_protected t.shadows)) c.as_slice-4.ensures
+    (subst (λ (cs : List Change). Fills mid (s u.shadows u.ram) (changed (entries_of mid) cs) c.as_slice-4.result.now c.args.side st.control.wp (g.S.Shadows.write_protected t.shadows)) c.as_slice-3.ensures.changes fills))
 
 pub returns-clause-count : goal.returns-clause-count
 returns-clause-count g c =
@@ -125,7 +125,7 @@ returns-clause-settled g c = record {
       let s = g.S.Shadows.slots in let t = c.tell_written.new in let u = c.fill_pages-filled.new in
       let cs = c.args.state.now.changes in let visited = c.args.state.now.visited in
       let same = c.tell_written.ensures.entries ∙ c.note_tables.ensures.entries in
-      entries-filled (s t.shadows t.ram) (s u.shadows u.ram) visited cs c.args.side c.args.state.now.control.wp (g.S.Shadows.tracked t.shadows) c.as_slice-3.ensures.pages (filled-all g c)
+      entries-filled (s t.shadows t.ram) (s u.shadows u.ram) visited cs c.args.side c.args.state.now.control.wp (g.S.Shadows.write_protected t.shadows) c.as_slice-3.ensures.pages (filled-all g c)
       ∙ ap (λ e. changed e cs) same;
   filled =
       let s = g.S.Shadows.slots in let n = c.note_tables.new in let t = c.tell_written.new in let u = c.fill_pages-filled.new in
@@ -134,37 +134,37 @@ returns-clause-settled g c = record {
       record {
         through = λ page small there.
             fills.through page small there
-            ∙ ap (λ (frames : List ℕ). filled_by c.args.side st.control.wp frames (get (changed (entries_of (s t.shadows t.ram)) st.changes) page)) (sym c.fill_pages-filled.ensures.rest.tracked)
-            ∙ ap (λ (e : FinMap nat_cmp Entry). filled_by c.args.side st.control.wp (g.S.Shadows.tracked u.shadows) (get (changed e st.changes) page)) same;
+            ∙ ap (λ (frames : List ℕ). filled_by c.args.side st.control.wp frames (get (changed (entries_of (s t.shadows t.ram)) st.changes) page)) (sym c.fill_pages-filled.ensures.rest.write_protected)
+            ∙ ap (λ (e : FinMap nat_cmp Entry). filled_by c.args.side st.control.wp (g.S.Shadows.write_protected u.shadows) (get (changed e st.changes) page)) same;
         others = λ page small none.
             subst (λ (o : Option Slot). IsWithin o (s c.args.shadows.now c.args.ram.now page))
             (sym (fills.others page small none ∙ c.tell_written.ensures.slots page small))
             (lost-within _ (s c.args.shadows.now c.args.ram.now) (s n.shadows n.ram) c.note_tables.ensures.slots page small);
       };
-  noted = λ some frame none.
-      c.fill_pages-filled.ensures.rest.noted frame
-      ∙ c.tell_written.ensures.known.noted frame (ap (is_among frame) c.as_slice-2.ensures ∙ none)
-      ∙ c.note_tables.ensures.noted frame
-      ∙ ap (λ (fs : List ℕ). read_by (g.S.Shadows.noted c.args.shadows.now) fs frame) c.as_slice.ensures;
-  noted_only = λ frame noted.
-      sym (c.note_tables.ensures.noted frame ∙ ap (λ (fs : List ℕ). read_by (g.S.Shadows.noted c.args.shadows.now) fs frame) c.as_slice.ensures)
-      ∙ c.tell_written.ensures.known.noted_less frame (sym (c.fill_pages-filled.ensures.rest.noted frame) ∙ noted);
-  marked =
-      let noted = g.S.Shadows.noted in let marked = g.S.Shadows.marked in let old = c.args.shadows.now in
+  read_from = λ some frame none.
+      c.fill_pages-filled.ensures.rest.read_from frame
+      ∙ c.tell_written.ensures.known.read_from frame (ap (is_among frame) c.as_slice-2.ensures ∙ none)
+      ∙ c.note_tables.ensures.read_from frame
+      ∙ ap (λ (fs : List ℕ). read_by (g.S.Shadows.read_from c.args.shadows.now) fs frame) c.as_slice.ensures;
+  noted_only = λ frame read_from.
+      sym (c.note_tables.ensures.read_from frame ∙ ap (λ (fs : List ℕ). read_by (g.S.Shadows.read_from c.args.shadows.now) fs frame) c.as_slice.ensures)
+      ∙ c.tell_written.ensures.known.noted_less frame (sym (c.fill_pages-filled.ensures.rest.read_from frame) ∙ read_from);
+  stale =
+      let read_from = g.S.Shadows.read_from in let stale = g.S.Shadows.stale in let old = c.args.shadows.now in
       let n = c.note_tables.new in let t = c.tell_written.new in let st = c.args.state.now in
-      c.fill_pages-filled.ensures.rest.marked
-      ∙ subst (λ (fs : List ℕ). marked t.shadows ≡ (marked n.shadows || list_any (noted n.shadows) fs)) c.as_slice-2.ensures c.tell_written.ensures.known.marked
-      ∙ ap (λ b. b || list_any (noted n.shadows) st.wrote) c.note_tables.ensures.marked
-      ∙ ap (λ b. marked old || b) (any-same (read_by (noted old) st.tables) (noted n.shadows) st.wrote
-      (λ f. c.note_tables.ensures.noted f ∙ ap (λ (fs : List ℕ). read_by (noted old) fs f) c.as_slice.ensures));
+      c.fill_pages-filled.ensures.rest.stale
+      ∙ subst (λ (fs : List ℕ). stale t.shadows ≡ (stale n.shadows || list_any (read_from n.shadows) fs)) c.as_slice-2.ensures c.tell_written.ensures.known.stale
+      ∙ ap (λ b. b || list_any (read_from n.shadows) st.wrote) c.note_tables.ensures.stale
+      ∙ ap (λ b. stale old || b) (any-same (read_by (read_from old) st.tables) (read_from n.shadows) st.wrote
+      (λ f. c.note_tables.ensures.read_from f ∙ ap (λ (fs : List ℕ). read_by (read_from old) fs f) c.as_slice.ensures));
   value = c.fill_pages-filled.ensures.rest.value ∙ c.tell_written.ensures.known.value ∙ c.note_tables.ensures.value;
-  asides =
-      let a = g.S.Shadows.asides in let n = c.note_tables.new in let t = c.tell_written.new in let u = c.fill_pages-filled.new in
+  other_roots =
+      let a = g.S.Shadows.other_roots in let n = c.note_tables.new in let t = c.tell_written.new in let u = c.fill_pages-filled.new in
       let st = c.args.state.now in
       all-told st.wrote st.tables (a c.args.shadows.now c.args.ram.now) (a n.shadows n.ram) (a t.shadows t.ram) (a u.shadows u.ram)
-      (subst (λ (fs : List ℕ). LoseWrites (guest_frames fs) (a c.args.shadows.now c.args.ram.now) (a n.shadows n.ram)) c.as_slice.ensures c.note_tables.ensures.asides)
-      (subst (λ (fs : List ℕ). AreSame (all_spared fs (a n.shadows n.ram)) (a t.shadows t.ram)) c.as_slice-2.ensures c.tell_written.ensures.asides)
-      c.fill_pages-filled.ensures.rest.asides;
+      (subst (λ (fs : List ℕ). LoseWrites (guest_frames fs) (a c.args.shadows.now c.args.ram.now) (a n.shadows n.ram)) c.as_slice.ensures c.note_tables.ensures.other_roots)
+      (subst (λ (fs : List ℕ). AreSame (all_spared fs (a n.shadows n.ram)) (a t.shadows t.ram)) c.as_slice-2.ensures c.tell_written.ensures.other_roots)
+      c.fill_pages-filled.ensures.rest.other_roots;
   untracked = λ some frame wrote.
-      ap (is_among frame) c.fill_pages-filled.ensures.rest.tracked ∙ c.tell_written.ensures.known.untracked frame (ap (is_among frame) c.as_slice-2.ensures ∙ wrote);
+      ap (is_among frame) c.fill_pages-filled.ensures.rest.write_protected ∙ c.tell_written.ensures.known.untracked frame (ap (is_among frame) c.as_slice-2.ensures ∙ wrote);
 }

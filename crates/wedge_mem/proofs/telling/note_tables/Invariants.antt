@@ -1,6 +1,6 @@
 use Rattle.std.proofs.Common.{◌≡◌, ℕ, Bool, take}
 use Rattle.frame_pool.specs.Held.{Writes}
-use Rattle.shadow_tables.specs.Aside.{LoseWrites}
+use Rattle.shadow_tables.specs.OtherRoot.{LoseWrites}
 use Rattle.shadow_tables.specs.Entries.{entries_of}
 use Rattle.wedge_mem.specs.Settled.{LosesSome}
 use Rattle.wedge_mem.specs.Told.{guest_frames, read_by}
@@ -8,15 +8,15 @@ use Rattle.wedge_mem.proofs.telling.note_tables.Given as goal
 
 abbrev pub invariant-loop-frame : goal.invariant-loop-frame
 invariant-loop-frame g l = record {
-  noted : (frame : ℕ) → g.S.Shadows.noted l.shadows frame ≡ read_by (g.S.Shadows.noted l.fn.shadows) (take l.frame-index l.tables) frame;
-  marked : g.S.Shadows.marked l.shadows ≡ g.S.Shadows.marked l.fn.shadows;
+  read_from : (frame : ℕ) → g.S.Shadows.read_from l.shadows frame ≡ read_by (g.S.Shadows.read_from l.fn.shadows) (take l.frame-index l.tables) frame;
+  stale : g.S.Shadows.stale l.shadows ≡ g.S.Shadows.stale l.fn.shadows;
   value : g.S.Shadows.value l.shadows ≡ g.S.Shadows.value l.fn.shadows;
-  asides : LoseWrites (guest_frames (take l.frame-index l.tables)) (g.S.Shadows.asides l.fn.shadows l.fn.ram) (g.S.Shadows.asides l.shadows l.ram);
+  other_roots : LoseWrites (guest_frames (take l.frame-index l.tables)) (g.S.Shadows.other_roots l.fn.shadows l.fn.ram) (g.S.Shadows.other_roots l.shadows l.ram);
   stands : ∥ g.S.Shadows.stands l.shadows l.ram ∥₁;
   slots : LosesSome (guest_frames (take l.frame-index l.tables)) (g.S.Shadows.slots l.fn.shadows l.fn.ram) (g.S.Shadows.slots l.shadows l.ram);
   entries : entries_of (g.S.Shadows.slots l.shadows l.ram) ≡ entries_of (g.S.Shadows.slots l.fn.shadows l.fn.ram);
   roots : (view : _) → g.S.Shadows.directory l.shadows view ≡ g.S.Shadows.directory l.fn.shadows view;
-  opened : (indices : ℕ → Bool) → g.S.Shadows.opened l.fn.shadows l.fn.ram indices → g.S.Shadows.opened l.shadows l.ram indices;
+  has_tables_under : (indices : ℕ → Bool) → g.S.Shadows.has_tables_under l.fn.shadows l.fn.ram indices → g.S.Shadows.has_tables_under l.shadows l.ram indices;
   frames : g.S.Shadows.frames l.shadows l.ram ≡ g.S.Shadows.frames l.fn.shadows l.fn.ram;
   memory : Writes (g.S.Shadows.frames l.fn.shadows l.fn.ram) l.fn.ram l.ram;
 }

@@ -1,7 +1,7 @@
 use Rattle.frame_pool.proofs.Held.{Moves-refl}
 use Rattle.std.proofs.Common.{Bool, true, false, List, refl, sym, subst, ◌∙◌, arith}
 use Rattle.std.proofs.lemmas.Bool.{both_ways}
-use Rattle.shadow_tables.specs.Aside.{Aside}
+use Rattle.shadow_tables.specs.OtherRoot.{OtherRoot}
 use Rattle.wedge_step.specs.Standing.{AreOpen}
 use Rattle.descriptors.specs.Controls.{wp_of}
 use Rattle.wedge_step.specs.Ready.{AllOpen, leaving, left_out}
@@ -13,41 +13,41 @@ use Rattle.wedge_step.proofs.close.drop_by.Goals as goal
 
 pub returns-then-are_rules_changed-clause-fewer : goal.returns-then-are_rules_changed-clause-fewer
 returns-then-are_rules_changed-clause-fewer g c =
-    let none = none_pages g.S.Shadows.slots g.S.Shadows.noted g.S.Shadows.marked g.S.Shadows.value g.S.Shadows.asides c.drop_all.new.self c.drop_all.new.ram c.drop_all.ensures.entries c.drop_all.ensures.asides in omega (arith, none)
+    let none = none_pages g.S.Shadows.slots g.S.Shadows.read_from g.S.Shadows.stale g.S.Shadows.value g.S.Shadows.other_roots c.drop_all.new.self c.drop_all.new.ram c.drop_all.ensures.entries c.drop_all.ensures.other_roots in omega (arith, none)
 
 pub returns-then-not-is_all-clause-ready : goal.returns-then-not-is_all-clause-ready
 returns-then-not-is_all-clause-ready g c = λ m pages low h.
     let same = c.are_rules_changed.ensures.same c.if-are_rules_changed.false in
     let d = c.args.worked.now.dropped in
-    rules_but g.S.Shadows.slots g.S.Shadows.noted g.S.Shadows.marked g.S.Shadows.value g.S.Shadows.asides (λ page. false) (left_out d pages) m c.args.before.now (record c.args.worked.now.cpu { cr3 = c.args.before.now.cr3 }) c.drop_from.new.shadows c.drop_from.new.ram refl same.1 same.0 (λ page o. refl)
+    rules_but g.S.Shadows.slots g.S.Shadows.read_from g.S.Shadows.stale g.S.Shadows.value g.S.Shadows.other_roots (λ page. false) (left_out d pages) m c.args.before.now (record c.args.worked.now.cpu { cr3 = c.args.before.now.cr3 }) c.drop_from.new.shadows c.drop_from.new.ram refl same.1 same.0 (λ page o. refl)
     (c.drop_from.ensures.ready m c.args.before.now pages low (sym c.is_all.ensures ∙ c.if-not-is_all.true) h)
 
 pub returns-else-not-is_all-clause-ready : goal.returns-else-not-is_all-clause-ready
 returns-else-not-is_all-clause-ready g c = λ m pages low h.
     let same = c.are_rules_changed.ensures.same c.if-are_rules_changed.false in
     let d = c.args.worked.now.dropped in
-    rules_but g.S.Shadows.slots g.S.Shadows.noted g.S.Shadows.marked g.S.Shadows.value g.S.Shadows.asides (leaving d pages) (left_out d pages) m c.args.before.now (record c.args.worked.now.cpu { cr3 = c.args.before.now.cr3 }) c.args.shadows.now c.args.ram.now refl same.1 same.0
+    rules_but g.S.Shadows.slots g.S.Shadows.read_from g.S.Shadows.stale g.S.Shadows.value g.S.Shadows.other_roots (leaving d pages) (left_out d pages) m c.args.before.now (record c.args.worked.now.cpu { cr3 = c.args.before.now.cr3 }) c.args.shadows.now c.args.ram.now refl same.1 same.0
     (λ page o. left_leaving d pages page (sym c.is_all.ensures ∙ c.if-not-is_all.false) o) h
 
 pub returns-then-are_rules_changed-clause-ready : goal.returns-then-are_rules_changed-clause-ready
 returns-then-are_rules_changed-clause-ready g c = λ m pages low h.
-    none_ready g.S.Shadows.slots g.S.Shadows.noted g.S.Shadows.marked g.S.Shadows.value g.S.Shadows.asides (left_out c.args.worked.now.dropped pages) m (record c.args.worked.now.cpu { cr3 = c.args.before.now.cr3 }) c.drop_all.new.self c.drop_all.new.ram
-    (c.drop_all.ensures.known.value ∙ h.value_is) c.drop_all.ensures.none c.drop_all.ensures.asides
+    none_ready g.S.Shadows.slots g.S.Shadows.read_from g.S.Shadows.stale g.S.Shadows.value g.S.Shadows.other_roots (left_out c.args.worked.now.dropped pages) m (record c.args.worked.now.cpu { cr3 = c.args.before.now.cr3 }) c.drop_all.new.self c.drop_all.new.ram
+    (c.drop_all.ensures.known.value ∙ h.value_is) c.drop_all.ensures.none c.drop_all.ensures.other_roots
 
 pub drop_from-requires-clause-page : goal.drop_from-requires-clause-page
 drop_from-requires-clause-page g c = c.requires.page
 
-pub returns-then-are_rules_changed-clause-opened : goal.returns-then-are_rules_changed-clause-opened
-returns-then-are_rules_changed-clause-opened g c = c.drop_all.ensures.opened
+pub returns-then-are_rules_changed-clause-has_tables_under : goal.returns-then-are_rules_changed-clause-has_tables_under
+returns-then-are_rules_changed-clause-has_tables_under g c = c.drop_all.ensures.has_tables_under
 
-pub returns-then-not-is_all-clause-opened : goal.returns-then-not-is_all-clause-opened
-returns-then-not-is_all-clause-opened g c = c.drop_from.ensures.opened
+pub returns-then-not-is_all-clause-has_tables_under : goal.returns-then-not-is_all-clause-has_tables_under
+returns-then-not-is_all-clause-has_tables_under g c = c.drop_from.ensures.has_tables_under
 
 pub returns-then-not-is_all-clause-fewer : goal.returns-then-not-is_all-clause-fewer
 returns-then-not-is_all-clause-fewer g c = c.drop_from.ensures.fewer
 
-pub returns-else-not-is_all-clause-opened : goal.returns-else-not-is_all-clause-opened
-returns-else-not-is_all-clause-opened g c = λ indices h. h
+pub returns-else-not-is_all-clause-has_tables_under : goal.returns-else-not-is_all-clause-has_tables_under
+returns-else-not-is_all-clause-has_tables_under g c = λ indices h. h
 
 pub drop_all-requires-clause-stands : goal.drop_all-requires-clause-stands
 drop_all-requires-clause-stands g c = c.requires.owned.stands
@@ -70,7 +70,7 @@ returns-else-not-is_all-clause-moved g c = let o = c.requires.owned in record { 
 pub returns-then-are_rules_changed-clause-shown : goal.returns-then-are_rules_changed-clause-shown
 returns-then-are_rules_changed-clause-shown g c = λ image. record {
   present = λ h. none_open image _ (g.S.Shadows.slots c.drop_all.new.self c.drop_all.new.ram) c.drop_all.ensures.none;
-  others = λ h. subst (λ (l : List Aside). AllOpen image (wp_of c.args.worked.now.cpu) l) (sym c.drop_all.ensures.asides) tt;
+  others = λ h. subst (λ (l : List OtherRoot). AllOpen image (wp_of c.args.worked.now.cpu) l) (sym c.drop_all.ensures.other_roots) tt;
 }
 
 pub returns-then-not-is_all-clause-shown : goal.returns-then-not-is_all-clause-shown
@@ -78,7 +78,7 @@ returns-then-not-is_all-clause-shown g c = λ image.
     let same = c.are_rules_changed.ensures.same c.if-are_rules_changed.false in
     record {
       present = λ h. subst (λ (w : Bool). AreOpen image w (g.S.Shadows.slots c.drop_from.new.shadows c.drop_from.new.ram)) (sym same.0) ((c.drop_from.ensures.shown image _).present h);
-      others = λ h. subst (λ (w : Bool). AllOpen image w (g.S.Shadows.asides c.drop_from.new.shadows c.drop_from.new.ram)) (sym same.0) ((c.drop_from.ensures.shown image _).others h);
+      others = λ h. subst (λ (w : Bool). AllOpen image w (g.S.Shadows.other_roots c.drop_from.new.shadows c.drop_from.new.ram)) (sym same.0) ((c.drop_from.ensures.shown image _).others h);
     }
 
 pub returns-else-not-is_all-clause-shown : goal.returns-else-not-is_all-clause-shown
@@ -86,7 +86,7 @@ returns-else-not-is_all-clause-shown g c = λ image.
     let same = c.are_rules_changed.ensures.same c.if-are_rules_changed.false in
     record {
       present = λ h. subst (λ (w : Bool). AreOpen image w (g.S.Shadows.slots c.args.shadows.now c.args.ram.now)) (sym same.0) h;
-      others = λ h. subst (λ (w : Bool). AllOpen image w (g.S.Shadows.asides c.args.shadows.now c.args.ram.now)) (sym same.0) h;
+      others = λ h. subst (λ (w : Bool). AllOpen image w (g.S.Shadows.other_roots c.args.shadows.now c.args.ram.now)) (sym same.0) h;
     }
 
 pub returns-then-are_rules_changed-clause-left : goal.returns-then-are_rules_changed-clause-left
@@ -101,7 +101,7 @@ returns-else-not-is_all-clause-left g c = λ no. absurd (both_ways _ no (sym c.i
 pub returns-then-are_rules_changed-clause-changed : goal.returns-then-are_rules_changed-clause-changed
 returns-then-are_rules_changed-clause-changed g c = λ yes.
     let e = c.drop_all.ensures in
-    record { rules = c.are_rules_changed.ensures.other c.if-are_rules_changed.true; none = e.none; beside = record { notes = e.known.noted; marks = e.known.marked; others = e.asides } }
+    record { rules = c.are_rules_changed.ensures.other c.if-are_rules_changed.true; none = e.none; beside = record { notes = e.known.read_from; marks = e.known.stale; others = e.other_roots } }
 
 pub returns-then-not-is_all-clause-changed : goal.returns-then-not-is_all-clause-changed
 returns-then-not-is_all-clause-changed g c = λ yes. absurd (both_ways false refl yes)

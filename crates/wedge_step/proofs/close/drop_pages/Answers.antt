@@ -11,11 +11,11 @@ loop-page-init g c = record {
   gone = λ page lt h. absurd (none_before page c.args.pages.now h);
   stays = λ page lt h. refl;
   others = λ page lt. inr refl;
-  noted = λ f. refl;
-  marked = refl;
+  read_from = λ f. refl;
+  stale = refl;
   value = refl;
-  asides = same-refl _;
-  opened = λ indices o. o;
+  other_roots = same-refl _;
+  has_tables_under = λ indices o. o;
   moves = λ p o. Moves-refl p _ _ o.stands;
 }
 
@@ -28,17 +28,17 @@ loop-page-preserved g c =
     let old = slots c.args.shadows.now c.args.ram.now in
     let mid = slots l.shadows l.ram in
     let new = slots n.shadows n.ram in
-    let asides = g.S.Shadows.asides in
+    let other_roots = g.S.Shadows.other_roots in
     record {
       stands = e.stands;
       gone = next_gone old mid new c.args.pages.now l.page-index c.loop-page-test.true e.gone e.others l.invariant.gone;
       stays = next_stays old mid new c.args.pages.now l.page-index c.loop-page-test.true e.others l.invariant.stays;
       others = next_others old mid new c.args.pages.now l.page-index c.loop-page-test.true e.gone e.others l.invariant.others;
-      noted = λ f. e.noted f ∙ l.invariant.noted f;
-      marked = e.marked ∙ l.invariant.marked;
+      read_from = λ f. e.read_from f ∙ l.invariant.read_from f;
+      stale = e.stale ∙ l.invariant.stale;
       value = e.value ∙ l.invariant.value;
-      asides = same-trans _ (asides l.shadows l.ram) _ l.invariant.asides e.asides;
-      opened = λ indices o. e.opened indices (l.invariant.opened indices o);
+      other_roots = same-trans _ (other_roots l.shadows l.ram) _ l.invariant.other_roots e.other_roots;
+      has_tables_under = λ indices o. e.has_tables_under indices (l.invariant.has_tables_under indices o);
       moves = λ p o.
           let first = l.invariant.moves p o in
           Moves-trans _ _ _ _ _ _ _ _ _ first (e.moves p (Owns-moves _ _ _ _ _ _ o first));

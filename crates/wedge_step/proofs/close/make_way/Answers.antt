@@ -4,7 +4,7 @@ use Rattle.frame_pool.specs.Pool.{free_list}
 use Rattle.frame_pool.proofs.Held.{Owns-moves}
 use Rattle.guest_ram.specs.Among.{is_among}
 use Rattle.wedge_step.proofs.Memories.{front_same, shown_same}
-use Rattle.shadow_tables.specs.Aside.{Aside}
+use Rattle.shadow_tables.specs.OtherRoot.{OtherRoot}
 use Rattle.wedge_step.specs.Ready.{AllOpen}
 use Rattle.wedge_step.proofs.Opening.{none_open, some_open}
 use Rattle.wedge_step.proofs.Readying.{fewer_ready, none_ready, none_pages}
@@ -50,21 +50,21 @@ returns-else-free-lt2-clause-ready g c = λ m cpu low h.
     let d = c.drop_pages in
     let moves = d.ensures.moves c.args.pool.now c.requires.owned.owns in
     let front = front_same m.frames c.args.pool.now c.args.pool.now c.args.ram.now d.new.ram _ _ low c.requires.owned.owns moves in
-    fewer_ready g.S.Shadows.slots g.S.Shadows.noted g.S.Shadows.marked g.S.Shadows.value g.S.Shadows.asides (λ page. is_among page c.args.pages.now) (λ page. false) m cpu c.args.shadows.now d.new.shadows c.args.ram.now d.new.ram d.ensures.value
-    (λ un. sym d.ensures.marked ∙ un) (λ f n. d.ensures.noted f ∙ n)
+    fewer_ready g.S.Shadows.slots g.S.Shadows.read_from g.S.Shadows.stale g.S.Shadows.value g.S.Shadows.other_roots (λ page. is_among page c.args.pages.now) (λ page. false) m cpu c.args.shadows.now d.new.shadows c.args.ram.now d.new.ram d.ensures.value
+    (λ un. sym d.ensures.stale ∙ un) (λ f n. d.ensures.read_from f ∙ n)
     (λ page lt o. chosen_out (is_among page c.args.pages.now) _ _ (d.ensures.gone page lt) (d.ensures.others page lt))
-    (same_shed _ _ d.ensures.asides) (shown_same m c.args.ram.now d.new.ram front) h
+    (same_shed _ _ d.ensures.other_roots) (shown_same m c.args.ram.now d.new.ram front) h
 
 pub returns-then-free-lt2-clause-ready : goal.returns-then-free-lt2-clause-ready
 returns-then-free-lt2-clause-ready g c = λ m cpu low h.
-    none_ready g.S.Shadows.slots g.S.Shadows.noted g.S.Shadows.marked g.S.Shadows.value g.S.Shadows.asides (λ page. false) m cpu c.drop_all.new.self c.drop_all.new.ram (c.drop_all.ensures.known.value ∙ h.value_is) c.drop_all.ensures.none c.drop_all.ensures.asides
+    none_ready g.S.Shadows.slots g.S.Shadows.read_from g.S.Shadows.stale g.S.Shadows.value g.S.Shadows.other_roots (λ page. false) m cpu c.drop_all.new.self c.drop_all.new.ram (c.drop_all.ensures.known.value ∙ h.value_is) c.drop_all.ensures.none c.drop_all.ensures.other_roots
 
 pub returns-then-free-lt2-clause-fewer : goal.returns-then-free-lt2-clause-fewer
 returns-then-free-lt2-clause-fewer g c =
-    let none = none_pages g.S.Shadows.slots g.S.Shadows.noted g.S.Shadows.marked g.S.Shadows.value g.S.Shadows.asides c.drop_all.new.self c.drop_all.new.ram c.drop_all.ensures.entries c.drop_all.ensures.asides in omega (arith, none)
+    let none = none_pages g.S.Shadows.slots g.S.Shadows.read_from g.S.Shadows.stale g.S.Shadows.value g.S.Shadows.other_roots c.drop_all.new.self c.drop_all.new.ram c.drop_all.ensures.entries c.drop_all.ensures.other_roots in omega (arith, none)
 
 pub returns-else-free-lt2-clause-fewer : goal.returns-else-free-lt2-clause-fewer
-returns-else-free-lt2-clause-fewer g c = fewer_pages _ _ _ _ (some_part _ _ c.drop_pages.ensures.others) (same_shed _ _ c.drop_pages.ensures.asides)
+returns-else-free-lt2-clause-fewer g c = fewer_pages _ _ _ _ (some_part _ _ c.drop_pages.ensures.others) (same_shed _ _ c.drop_pages.ensures.other_roots)
 
 pub drop_all-requires-clause-stands : goal.drop_all-requires-clause-stands
 drop_all-requires-clause-stands g c = c.requires.owned.stands
@@ -78,29 +78,29 @@ drop_pages-requires g c = record { stands = c.requires.owned.stands }
 pub returns-then-free-lt2-clause-value : goal.returns-then-free-lt2-clause-value
 returns-then-free-lt2-clause-value g c = c.drop_all.ensures.known.value
 
-pub returns-then-free-lt2-clause-opened : goal.returns-then-free-lt2-clause-opened
-returns-then-free-lt2-clause-opened g c = c.drop_all.ensures.opened
+pub returns-then-free-lt2-clause-has_tables_under : goal.returns-then-free-lt2-clause-has_tables_under
+returns-then-free-lt2-clause-has_tables_under g c = c.drop_all.ensures.has_tables_under
 
 pub returns-else-free-lt2-clause-value : goal.returns-else-free-lt2-clause-value
 returns-else-free-lt2-clause-value g c = c.drop_pages.ensures.value
 
-pub returns-else-free-lt2-clause-opened : goal.returns-else-free-lt2-clause-opened
-returns-else-free-lt2-clause-opened g c = c.drop_pages.ensures.opened
+pub returns-else-free-lt2-clause-has_tables_under : goal.returns-else-free-lt2-clause-has_tables_under
+returns-else-free-lt2-clause-has_tables_under g c = c.drop_pages.ensures.has_tables_under
 
 pub returns-then-free-lt2-clause-moved : goal.returns-then-free-lt2-clause-moved
 returns-then-free-lt2-clause-moved g c = record { stands = c.drop_all.ensures.stands; owns = c.drop_all.ensures.owns; moves = c.drop_all.ensures.moves }
 
 pub returns-then-free-lt2-clause-shown : goal.returns-then-free-lt2-clause-shown
-returns-then-free-lt2-clause-shown g c = λ image wp. record { present = λ h. none_open image wp (g.S.Shadows.slots c.drop_all.new.self c.drop_all.new.ram) c.drop_all.ensures.none; others = λ h. subst (λ (l : List Aside). AllOpen image wp l) (sym c.drop_all.ensures.asides) tt }
+returns-then-free-lt2-clause-shown g c = λ image wp. record { present = λ h. none_open image wp (g.S.Shadows.slots c.drop_all.new.self c.drop_all.new.ram) c.drop_all.ensures.none; others = λ h. subst (λ (l : List OtherRoot). AllOpen image wp l) (sym c.drop_all.ensures.other_roots) tt }
 
 pub returns-else-free-lt2-clause-moved : goal.returns-else-free-lt2-clause-moved
 returns-else-free-lt2-clause-moved g c = record { stands = c.drop_pages.ensures.stands; owns = Owns-moves _ _ _ _ _ _ c.requires.owned.owns (c.drop_pages.ensures.moves c.args.pool.now c.requires.owned.owns); moves = c.drop_pages.ensures.moves c.args.pool.now c.requires.owned.owns }
 
 pub returns-else-free-lt2-clause-shown : goal.returns-else-free-lt2-clause-shown
-returns-else-free-lt2-clause-shown g c = λ image wp. record { present = λ h. some_open image wp _ _ c.drop_pages.ensures.others h; others = λ h. open_shed image wp _ _ (same_shed _ _ c.drop_pages.ensures.asides) h }
+returns-else-free-lt2-clause-shown g c = λ image wp. record { present = λ h. some_open image wp _ _ c.drop_pages.ensures.others h; others = λ h. open_shed image wp _ _ (same_shed _ _ c.drop_pages.ensures.other_roots) h }
 
 pub returns-then-free-lt2-clause-emptied : goal.returns-then-free-lt2-clause-emptied
-returns-then-free-lt2-clause-emptied g c = λ w. record { none = c.drop_all.ensures.none; alone = c.drop_all.ensures.asides }
+returns-then-free-lt2-clause-emptied g c = λ w. record { none = c.drop_all.ensures.none; alone = c.drop_all.ensures.other_roots }
 
 pub returns-else-free-lt2-clause-emptied : goal.returns-else-free-lt2-clause-emptied
 returns-else-free-lt2-clause-emptied g c = λ yes. absurd (both_ways c.args.wanted (unwanted g c) yes)
@@ -109,4 +109,4 @@ pub returns-then-free-lt2-clause-sheds : goal.returns-then-free-lt2-clause-sheds
 returns-then-free-lt2-clause-sheds g c = λ unwished enough. absurd (lacking g c unwished enough)
 
 pub returns-else-free-lt2-clause-sheds : goal.returns-else-free-lt2-clause-sheds
-returns-else-free-lt2-clause-sheds g c = λ unwished enough. let e = c.drop_pages.ensures in record { stay = stays_by _ _ _ _ _ _ e.noted e.marked e.asides; gone = e.gone; others = e.stays }
+returns-else-free-lt2-clause-sheds g c = λ unwished enough. let e = c.drop_pages.ensures in record { stay = stays_by _ _ _ _ _ _ e.read_from e.stale e.other_roots; gone = e.gone; others = e.stays }

@@ -23,7 +23,7 @@ use Rattle.wedge_step.proofs.Filling.{fills_same, fills_join}
 use Rattle.board.specs.Scripts.{Events}
 use Rattle.image_check.specs.Image.{Image}
 use Rattle.image_load.specs.Boot.{text_pages}
-use Rattle.shadow_tables.specs.Aside.{AreSame}
+use Rattle.shadow_tables.specs.OtherRoot.{AreSame}
 use Rattle.step_mem.specs.declared.state.StepState as kept_state
 use Rattle.machine_model.specs.State.{Setting, State}
 use Rattle.machine_model.specs.Step.{stepped}
@@ -87,8 +87,8 @@ module _ (g : Over) (c : goal.After-worked-1 g) where
       after g.S.Shadows.stands g.S.Shadows.frames g.S.Shadows.slots g.met.S.Shadows.above g.met.S.Shadows.same_frames g.met.S.Shadows.same_slots g.met.S.Shadows.same_entries image running c.args.pool.now ram0 ram1 256 (text_pages image) c.requires.between.held fits1
       refl refl hid
 
-  asides1 : AreSame (g.S.Shadows.asides running.shadows ram0) (g.S.Shadows.asides running.shadows ram1)
-  asides1 = g.met.S.Shadows.same_asides running.shadows ram0 ram1 c.requires.between.held.stand a.same
+  asides1 : AreSame (g.S.Shadows.other_roots running.shadows ram0) (g.S.Shadows.other_roots running.shadows ram1)
+  asides1 = g.met.S.Shadows.same_other_roots running.shadows ram0 ram1 c.requires.between.held.stand a.same
 
   wp1 : state1.control.wp ≡ wp_of running.cpu
   wp1 = ap (λ (k : Control). k.wp) c.step_in-outcome.ensures.control ∙ ap (λ (x : Space). x.wp) c.begin_over.ensures.space
@@ -96,11 +96,11 @@ module _ (g : Over) (c : goal.After-worked-1 g) where
   open1 : AreOpen image state1.control.wp (g.S.Shadows.slots running.shadows ram1)
   open1 = subst (λ (x : Bool). AreOpen image x (g.S.Shadows.slots running.shadows ram1)) (sym wp1) (same_open image (wp_of running.cpu) (g.S.Shadows.slots running.shadows ram0) (g.S.Shadows.slots running.shadows ram1) a.slots_same c.requires.between.held.open_to)
 
-  opens1 : AllOpen image state1.control.wp (g.S.Shadows.asides running.shadows ram1)
+  opens1 : AllOpen image state1.control.wp (g.S.Shadows.other_roots running.shadows ram1)
   opens1 =
-      subst (λ (x : Bool). AllOpen image x (g.S.Shadows.asides running.shadows ram1)) (sym wp1)
-      (open_shed image (wp_of running.cpu) (g.S.Shadows.asides running.shadows ram0) (g.S.Shadows.asides running.shadows ram1) (same_shed _ _ asides1)
-      (ready_open (ground image n) running.cpu (shown (ground image n) ram0) (g.S.Shadows.asides running.shadows ram0) c.requires.between.ready.others))
+      subst (λ (x : Bool). AllOpen image x (g.S.Shadows.other_roots running.shadows ram1)) (sym wp1)
+      (open_shed image (wp_of running.cpu) (g.S.Shadows.other_roots running.shadows ram0) (g.S.Shadows.other_roots running.shadows ram1) (same_shed _ _ asides1)
+      (ready_open (ground image n) running.cpu (shown (ground image n) ram0) (g.S.Shadows.other_roots running.shadows ram0) c.requires.between.ready.others))
 
   module _ (script : Events) where
     abbrev m : Setting
@@ -130,11 +130,11 @@ module _ (g : Over) (c : goal.After-worked-1 g) where
         let here : s1.ram ≡ laying.shown c.begin_over.new.state.guard n ram1 = λ i. laying.shown_by (c.step_in-outcome.ensures.text i).now (frames1 i) ram1 in
         here ∙ (c.begin_over.ensures.lays n ram1 ∙ shown_is m image.text 256 ram1 refl refl)
 
-  behind1 : IsReadyBehind g.S.Shadows.slots g.S.Shadows.noted g.S.Shadows.marked g.S.Shadows.value g.S.Shadows.asides (leaving c.in-Ok.worked.dropped (pages_of state1.visited state1.changes)) (ground image n) running.cpu running.shadows ram1
+  behind1 : IsReadyBehind g.S.Shadows.slots g.S.Shadows.read_from g.S.Shadows.stale g.S.Shadows.value g.S.Shadows.other_roots (leaving c.in-Ok.worked.dropped (pages_of state1.visited state1.changes)) (ground image n) running.cpu running.shadows ram1
       (changed (entries_of (g.S.Shadows.slots running.shadows ram1)) state1.changes) state1.tables state1.wrote
   behind1 =
       let held = c.requires.between.held in
-      let k : Steps g.S.Shadows.slots g.S.Shadows.noted g.S.Shadows.marked g.S.Shadows.value g.S.Shadows.asides image n (b []) running.shadows ram0 ram1 = record {
+      let k : Steps g.S.Shadows.slots g.S.Shadows.read_from g.S.Shadows.stale g.S.Shadows.value g.S.Shadows.other_roots image n (b []) running.shadows ram0 ram1 = record {
         wedge = held.wedge;
         host = held.host;
         small = held.size.1;
@@ -144,28 +144,28 @@ module _ (g : Over) (c : goal.After-worked-1 g) where
         entries = a.entries_same;
         same = asides1;
       } in
-      went_ready g.S.Shadows.slots g.S.Shadows.noted g.S.Shadows.marked g.S.Shadows.value g.S.Shadows.asides image n (b []) running.shadows ram0 ram1 k c.requires.between.ready c.steps_follow.ensures c.in-Ok.worked c.step_in-outcome.new.board (s1 []) state1.changes (went []) (ram1_is []) refl
+      went_ready g.S.Shadows.slots g.S.Shadows.read_from g.S.Shadows.stale g.S.Shadows.value g.S.Shadows.other_roots image n (b []) running.shadows ram0 ram1 k c.requires.between.ready c.steps_follow.ensures c.in-Ok.worked c.step_in-outcome.new.board (s1 []) state1.changes (went []) (ram1_is []) refl
 
-module _ (g : Over) (c : goal.After-go g) where
+module _ (g : Over) (c : goal.After-finish_step g) where
   abbrev d : goal.After-worked-1 g
   d = c.before
 
-  ready1 : IsReady g.S.Shadows.slots g.S.Shadows.noted g.S.Shadows.marked g.S.Shadows.value g.S.Shadows.asides (ground (image g d) (n g d)) c.go.new.running.cpu c.go.new.running.shadows c.go.new.ram
-      × (c.go.new.running.lost.back ≡ true → AreFound (ground (image g d) (n g d)) c.go.new.running.cpu (shown (ground (image g d) (n g d)) c.go.new.ram) c.go.new.running.cpu.cr3 (g.S.Shadows.noted c.go.new.running.shadows) (g.S.Shadows.slots c.go.new.running.shadows c.go.new.ram))
-  ready1 = c.go.ensures.ready (ground (image g d) (n g d)) (sym (frames1 g d)) c.text_frames-count.ensures (open1 g d) (behind1 g d)
+  ready1 : IsReady g.S.Shadows.slots g.S.Shadows.read_from g.S.Shadows.stale g.S.Shadows.value g.S.Shadows.other_roots (ground (image g d) (n g d)) c.finish_step.new.running.cpu c.finish_step.new.running.shadows c.finish_step.new.ram
+      × (c.finish_step.new.running.lost.back ≡ true → AreFound (ground (image g d) (n g d)) c.finish_step.new.running.cpu (shown (ground (image g d) (n g d)) c.finish_step.new.ram) c.finish_step.new.running.cpu.cr3 (g.S.Shadows.read_from c.finish_step.new.running.shadows) (g.S.Shadows.slots c.finish_step.new.running.shadows c.finish_step.new.ram))
+  ready1 = c.finish_step.ensures.ready (ground (image g d) (n g d)) (sym (frames1 g d)) c.text_frames-count.ensures (open1 g d) (behind1 g d)
 
 pub returns-in-Ok-clause-step : goal.returns-in-Ok-clause-step
 returns-in-Ok-clause-step g c = λ script.
     let d = c.before in
     let m = wedge (image g d) script (n g d) in
-    let front = front_same (n g d) c.args.pool.now c.go.new.pool (ram1 g d) c.go.new.ram (g.S.Shadows.frames (running g d).shadows (ram1 g d)) (g.S.Shadows.frames c.go.new.running.shadows c.go.new.ram) c.requires.between.held.behind (owns c.step_in-outcome.ensures.sound.stands_now) c.go.ensures.moved.moves in
-    let ram_is : shown m c.go.new.ram ≡ (s1 g d script).ram = shown_same m (ram1 g d) c.go.new.ram front ∙ sym (ram1_is g d script) in
-    let new = state_of g.S.Shadows.stands g.S.Shadows.frames g.S.Shadows.slots m c.go.new.running c.go.new.ram in
+    let front = front_same (n g d) c.args.pool.now c.finish_step.new.pool (ram1 g d) c.finish_step.new.ram (g.S.Shadows.frames (running g d).shadows (ram1 g d)) (g.S.Shadows.frames c.finish_step.new.running.shadows c.finish_step.new.ram) c.requires.between.held.behind (owns c.step_in-outcome.ensures.sound.stands_now) c.finish_step.ensures.moved.moves in
+    let ram_is : shown m c.finish_step.new.ram ≡ (s1 g d script).ram = shown_same m (ram1 g d) c.finish_step.new.ram front ∙ sym (ram1_is g d script) in
+    let new = state_of g.S.Shadows.stands g.S.Shadows.frames g.S.Shadows.slots m c.finish_step.new.running c.finish_step.new.ram in
     let whole = dropping c.in-Ok.worked.dropped (s1 g d script).set in
-    let left = is_left m new whole c.go.new.running.lost c.go.ensures.left
-    (λ back. all_loosened (ground (image g d) (n g d)) c.go.new.running.cpu (shown (ground (image g d) (n g d)) c.go.new.ram) c.go.new.running.cpu.cr3 (g.S.Shadows.noted c.go.new.running.shadows) (g.S.Shadows.slots c.go.new.running.shadows c.go.new.ram)
-    ((ready1 g c).1 back) m (with_set new whole) refl (any_script (image g d) script (n g d) c.go.new.ram) refl refl) in
-    alone_from m (b g d script) c.go.new.running.lost c.in-Ok.worked c.step_in-outcome.new.board (s1 g d script) new (went g d script) c.go.ensures.passes.cpu ram_is c.go.ensures.passes.board c.go.ensures.passes.step left
+    let left = is_left m new whole c.finish_step.new.running.lost c.finish_step.ensures.left
+    (λ back. all_loosened (ground (image g d) (n g d)) c.finish_step.new.running.cpu (shown (ground (image g d) (n g d)) c.finish_step.new.ram) c.finish_step.new.running.cpu.cr3 (g.S.Shadows.read_from c.finish_step.new.running.shadows) (g.S.Shadows.slots c.finish_step.new.running.shadows c.finish_step.new.ram)
+    ((ready1 g c).1 back) m (with_set new whole) refl (any_script (image g d) script (n g d) c.finish_step.new.ram) refl refl) in
+    alone_from m (b g d script) c.finish_step.new.running.lost c.in-Ok.worked c.step_in-outcome.new.board (s1 g d script) new (went g d script) c.finish_step.ensures.passes.cpu ram_is c.finish_step.ensures.passes.board c.finish_step.ensures.passes.step left
 
 -- what the run carries goes on
 pub returns-in-Ok-clause-carried : goal.returns-in-Ok-clause-carried
@@ -173,17 +173,17 @@ returns-in-Ok-clause-carried g c = λ script steps t unwanted free roomy taken b
     let d = c.before in
     let last = s1 g d script in
     let begun = space_at (λ r. entries_of (g.S.Shadows.slots (running g d).shadows r)) (ram0 g d) c.begin_over.new.state in
-    let widens : Widens g.S.Shadows.stands g.S.Shadows.frames g.S.Shadows.asides g.S.Shadows.opened = record { same_asides = g.met.S.Shadows.same_asides; same_opened = g.met.S.Shadows.same_opened; wider = g.met.S.Shadows.wider; sized = g.met.S.Reloads.sized } in
+    let widens : Widens g.S.Shadows.stands g.S.Shadows.frames g.S.Shadows.other_roots g.S.Shadows.has_tables_under = record { same_other_roots = g.met.S.Shadows.same_other_roots; same_tables_under = g.met.S.Shadows.same_tables_under; wider = g.met.S.Shadows.wider; sized = g.met.S.Reloads.sized } in
     let sound = c.step_in-outcome.ensures.sound in
-    let pages = sound.noted in
+    let pages = sound.visits in
     let most = sound.few in
     let ram_is : last.ram ≡ shown (ground (image g d) (n g d)) (ram1 g d) = ram1_is g d script ∙ any_script (image g d) script (n g d) (ram1 g d) in
     let long = c.are_bytes.ensures.length in
     let same = ap length ram_is in
-    went_on g.S.Shadows.stands g.S.Shadows.frames g.S.Shadows.slots g.S.Shadows.noted g.S.Shadows.marked g.S.Shadows.value g.S.Shadows.asides g.S.Shadows.opened widens c.known_laws.ensures (image g d) script (running g d) c.args.pool.now (ram0 g d) (ram1 g d)
-    c.requires.between.held (a g d) steps t (entries_of (g.S.Shadows.slots (running g d).shadows (ram0 g d))) free roomy taken by (record { known = carried.known; opened_to = carried.opened_to }) last (state1 g d).changes refl sound.told c.go.new.running.shadows c.go.new.ram c.go.ensures.opened
+    went_on g.S.Shadows.stands g.S.Shadows.frames g.S.Shadows.slots g.S.Shadows.read_from g.S.Shadows.stale g.S.Shadows.value g.S.Shadows.other_roots g.S.Shadows.has_tables_under widens c.known_laws.ensures (image g d) script (running g d) c.args.pool.now (ram0 g d) (ram1 g d)
+    c.requires.between.held (a g d) steps t (entries_of (g.S.Shadows.slots (running g d).shadows (ram0 g d))) free roomy taken by (record { known = carried.known; opened_to = carried.opened_to }) last (state1 g d).changes refl sound.told c.finish_step.new.running.shadows c.finish_step.new.ram c.finish_step.ensures.has_tables_under
     c.in-Ok.worked c.step_in-outcome.new.board (went g d script) (rw c.in-Ok.is at c.step_in-outcome.ensures.roots) c.requires.between.ready (omega (arith, long, same)) (subst AreBytes (sym ram_is) c.are_bytes.ensures.bytes) begun c.text_frames-count.result (state1 g d).control.frames c.text_frames-count.ensures
-    (rw c.in-Ok.is at c.step_in-outcome.ensures.uses) (ap (λ (x : Space). x.visited) c.begin_over.ensures.space) (ap (λ (x : Space). x.mode) c.begin_over.ensures.space) sound.within (omega (arith, pages, most)) (c.go.ensures.ends unwanted)
+    (rw c.in-Ok.is at c.step_in-outcome.ensures.uses) (ap (λ (x : Space). x.visited) c.begin_over.ensures.space) (ap (λ (x : Space). x.mode) c.begin_over.ensures.space) sound.within (omega (arith, pages, most)) (c.finish_step.ensures.ends unwanted)
 
 pub begin_over-requires-clause-below : goal.begin_over-requires-clause-below
 begin_over-requires-clause-below g c = (let h = c.requires.between.held.behind in omega (arith, h))
@@ -201,13 +201,13 @@ pub step_in-outcome-requires-clause-pages : goal.step_in-outcome-requires-clause
 step_in-outcome-requires-clause-pages g c = c.begin_over.ensures.pages
 
 pub returns-in-Ok-clause-wanted : goal.returns-in-Ok-clause-wanted
-returns-in-Ok-clause-wanted g c = c.go.ensures.wanted
+returns-in-Ok-clause-wanted g c = c.finish_step.ensures.wanted
 
 pub returns-in-Ok-clause-before : goal.returns-in-Ok-clause-before
-returns-in-Ok-clause-before g c = c.go.ensures.passes.before
+returns-in-Ok-clause-before g c = c.finish_step.ensures.passes.before
 
 pub returns-in-Ok-clause-count : goal.returns-in-Ok-clause-count
-returns-in-Ok-clause-count g c = c.go.ensures.passes.step
+returns-in-Ok-clause-count g c = c.finish_step.ensures.passes.step
 
 pub returns-in-Err-clause-wanted : goal.returns-in-Err-clause-wanted
 returns-in-Err-clause-wanted g c = tt
@@ -221,23 +221,23 @@ returns-in-Err-clause-count g c = tt
 pub returns-in-Err-clause-before : goal.returns-in-Err-clause-before
 returns-in-Err-clause-before g c = refl
 
-pub go-requires-clause-under : goal.go-requires-clause-under
-go-requires-clause-under g c = record {
+pub finish_step-requires-clause-under : goal.finish_step-requires-clause-under
+finish_step-requires-clause-under g c = record {
   sound = c.step_in-outcome.ensures.sound;
   counted = c.requires.between.held.counted ∙ ap length (sym (a g c).frames_same);
   few = few_after g.S.Shadows.stands g.S.Shadows.frames g.S.Shadows.slots (image g c) (running g c) c.args.pool.now (ram0 g c) (ram1 g c) c.requires.between.held (a g c);
 }
 
-pub go-requires-clause-counts : goal.go-requires-clause-counts
-go-requires-clause-counts g c =
+pub finish_step-requires-clause-counts : goal.finish_step-requires-clause-counts
+finish_step-requires-clause-counts g c =
     let free = ap length (a g c).free_same in
     let same = ap length (a g c).frames_same in
     let counted = c.requires.between.held.counted in
     let enough = c.requires.between.enough in
     record { fills = c.requires.between.held.fills; bound = c.requires.bound; enough = omega (arith, free, same, counted, enough) }
 
-pub go-requires-clause-worked : goal.go-requires-clause-worked
-go-requires-clause-worked g c = record {
+pub finish_step-requires-clause-worked : goal.finish_step-requires-clause-worked
+finish_step-requires-clause-worked g c = record {
   page = c.in-Ok.ensures.dropped;
   rules = wp1 g c;
 }
@@ -266,7 +266,7 @@ returns-in-Err-clause-accounts g c =
       counted = held.counted ∙ ap length (sym frames_same);
       pool = keeps_above c.args.pool.now ram0 ram1 (4096 * n) fs gs held.owns.stands behind left.above left.size frames_same;
       filled = fills_same _ _ running.fills
-          (kept_same g.S.Shadows.slots g.S.Shadows.asides running.shadows ram0 ram1 (g.met.S.Shadows.same_entries running.shadows ram0 ram1 held.stand same) (g.met.S.Shadows.same_asides running.shadows ram0 ram1 held.stand same));
+          (kept_same g.S.Shadows.slots g.S.Shadows.other_roots running.shadows ram0 ram1 (g.met.S.Shadows.same_entries running.shadows ram0 ram1 held.stand same) (g.met.S.Shadows.same_other_roots running.shadows ram0 ram1 held.stand same));
       frames = refl;
     }
 
@@ -280,11 +280,11 @@ pub returns-in-Ok-clause-accounts : goal.returns-in-Ok-clause-accounts
 returns-in-Ok-clause-accounts g c =
     let d = c.before in
     record {
-      stands = c.go.ensures.moved.stands;
-      counted = c.go.ensures.counts.counted;
-      pool = keeps_then g.S.Shadows.stands g.S.Shadows.frames g.S.Shadows.slots (image g d) (running g d) c.go.new.running c.args.pool.now c.go.new.pool (ram0 g d) (ram1 g d) c.go.new.ram c.requires.between.held (a g d) c.go.ensures.moved.moves;
-      filled = fills_join _ _ _ _ _ _ (fills_same _ _ (running g d).fills (kept_same g.S.Shadows.slots g.S.Shadows.asides (running g d).shadows (ram0 g d) (ram1 g d) (a g d).entries_same (asides1 g d))) c.go.ensures.counts.filled;
-      frames = c.go.ensures.passes.frames;
+      stands = c.finish_step.ensures.moved.stands;
+      counted = c.finish_step.ensures.counts.counted;
+      pool = keeps_then g.S.Shadows.stands g.S.Shadows.frames g.S.Shadows.slots (image g d) (running g d) c.finish_step.new.running c.args.pool.now c.finish_step.new.pool (ram0 g d) (ram1 g d) c.finish_step.new.ram c.requires.between.held (a g d) c.finish_step.ensures.moved.moves;
+      filled = fills_join _ _ _ _ _ _ (fills_same _ _ (running g d).fills (kept_same g.S.Shadows.slots g.S.Shadows.other_roots (running g d).shadows (ram0 g d) (ram1 g d) (a g d).entries_same (asides1 g d))) c.finish_step.ensures.counts.filled;
+      frames = c.finish_step.ensures.passes.frames;
     }
 
 pub returns-in-Ok-clause-between : goal.returns-in-Ok-clause-between
@@ -293,24 +293,24 @@ returns-in-Ok-clause-between g c =
     let m = ground (image g d) (n g d) in
     let whole1 = changed (entries_of (g.S.Shadows.slots (running g d).shadows (ram1 g d))) (state1 g d).changes in
     let within1 = subst (λ (k : ℕ). AreWithin k whole1) (frames1 g d) c.step_in-outcome.ensures.sound.within in
-    let slots2 = g.S.Shadows.slots c.go.new.running.shadows c.go.new.ram in
-    let within2 = within_left (n g d) slots2 c.in-Ok.worked.dropped c.go.new.running.lost whole1 c.go.ensures.left within1
-    (λ back. all_within m c.go.new.running.cpu (shown m c.go.new.ram) c.go.new.running.cpu.cr3 (g.S.Shadows.noted c.go.new.running.shadows) slots2 ((ready1 g c).1 back)) in
-    let open2 = c.go.ensures.shows (image g d) c.text_frames-count.ensures (open1 g d) (opens1 g d) in
+    let slots2 = g.S.Shadows.slots c.finish_step.new.running.shadows c.finish_step.new.ram in
+    let within2 = within_left (n g d) slots2 c.in-Ok.worked.dropped c.finish_step.new.running.lost whole1 c.finish_step.ensures.left within1
+    (λ back. all_within m c.finish_step.new.running.cpu (shown m c.finish_step.new.ram) c.finish_step.new.running.cpu.cr3 (g.S.Shadows.read_from c.finish_step.new.running.shadows) slots2 ((ready1 g c).1 back)) in
+    let open2 = c.finish_step.ensures.shows (image g d) c.text_frames-count.ensures (open1 g d) (opens1 g d) in
     let all = c.requires.between.enough in
     let counted = c.requires.between.held.counted in
-    let now = c.go.ensures.counts.counted in
+    let now = c.finish_step.ensures.counts.counted in
     let free = ap length (a g d).free_same in
     let as_many = ap length (a g d).frames_same in
-    let lengths = c.go.ensures.moved.moves.lengths in
-    let new = c.go.new.running in
-    let frames = sym c.go.ensures.passes.frames in
-    let held = held_then g.S.Shadows.stands g.S.Shadows.frames g.S.Shadows.slots (image g d) (running g d) c.go.new.running c.args.pool.now c.go.new.pool (ram0 g d) (ram1 g d) c.go.new.ram c.requires.between.held (a g d) (owns c.step_in-outcome.ensures.sound.stands_now) c.go.ensures.moved.moves
-    c.go.ensures.moved.stands c.go.ensures.moved.owns c.go.ensures.counts.counted c.go.ensures.counts.fills c.go.ensures.passes.frames within2
-    (subst (λ (x : Cpu). AreOpen (image g d) (wp_of x) slots2) (sym c.go.ensures.passes.cpu) open2) in
+    let lengths = c.finish_step.ensures.moved.moves.lengths in
+    let new = c.finish_step.new.running in
+    let frames = sym c.finish_step.ensures.passes.frames in
+    let held = held_then g.S.Shadows.stands g.S.Shadows.frames g.S.Shadows.slots (image g d) (running g d) c.finish_step.new.running c.args.pool.now c.finish_step.new.pool (ram0 g d) (ram1 g d) c.finish_step.new.ram c.requires.between.held (a g d) (owns c.step_in-outcome.ensures.sound.stands_now) c.finish_step.ensures.moved.moves
+    c.finish_step.ensures.moved.stands c.finish_step.ensures.moved.owns c.finish_step.ensures.counts.counted c.finish_step.ensures.counts.fills c.finish_step.ensures.passes.frames within2
+    (subst (λ (x : Cpu). AreOpen (image g d) (wp_of x) slots2) (sym c.finish_step.ensures.passes.cpu) open2) in
     record {
-      held = subst (λ (k : ℕ). IsHeld g.S.Shadows.stands g.S.Shadows.frames g.S.Shadows.slots (ground (image g d) k) new c.go.new.pool c.go.new.ram) frames held;
-      ready = subst (λ (k : ℕ). IsReady g.S.Shadows.slots g.S.Shadows.noted g.S.Shadows.marked g.S.Shadows.value g.S.Shadows.asides (ground (image g d) k) new.cpu new.shadows c.go.new.ram) frames (ready1 g c).0;
+      held = subst (λ (k : ℕ). IsHeld g.S.Shadows.stands g.S.Shadows.frames g.S.Shadows.slots (ground (image g d) k) new c.finish_step.new.pool c.finish_step.new.ram) frames held;
+      ready = subst (λ (k : ℕ). IsReady g.S.Shadows.slots g.S.Shadows.read_from g.S.Shadows.stale g.S.Shadows.value g.S.Shadows.other_roots (ground (image g d) k) new.cpu new.shadows c.finish_step.new.ram) frames (ready1 g c).0;
       enough = omega (arith, all, counted, now, free, as_many, lengths);
     }
 

@@ -9,14 +9,14 @@ pub returns-clause-released : goal.returns-clause-released
 returns-clause-released g c =
     let old = c.args.self.now.guest.running in
     let d = c.drop_all in
-    let none = none_pages roots.slots roots.noted roots.marked roots.value roots.asides d.new.self d.new.ram d.ensures.entries d.ensures.asides in
+    let none = none_pages roots.slots roots.read_from roots.stale roots.value roots.other_roots d.new.self d.new.ram d.ensures.entries d.ensures.other_roots in
     let there : AllDropped c.args.pool.now d.new.pool (g.H.Host.bytes c.args.host.now) d.new.ram old.shadows d.new.self old.fills = record {
       stands = d.ensures.stands;
       owns = d.ensures.owns;
       two = d.ensures.two;
       none = d.ensures.none;
       entries = d.ensures.entries;
-      asides = d.ensures.asides;
+      other_roots = d.ensures.other_roots;
       value = d.ensures.known.value;
       filled = omega (arith, none);
       moves = subst (λ (l : List ℕ). Moves c.args.pool.now d.new.pool l d.new.ram (roots.frames old.shadows l) (roots.frames d.new.self d.new.ram)) c.ram_mut.ensures.ram d.ensures.moves;

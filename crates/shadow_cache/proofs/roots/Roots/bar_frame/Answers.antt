@@ -3,7 +3,7 @@ use Rattle.frame_pool.proofs.Held.{Writes-refl}
 use Rattle.shadow_cache.specs.Pairs.{frames_of}
 use Rattle.shadow_cache.specs.Roots.{pairs_of}
 use Rattle.shadow_cache.specs.Laws.{had}
-use Rattle.shadow_cache.proofs.Noting.{bar-rest, bar-holds, bar-both, bar-loses, bar-frames, bar-memory, tracked-loses}
+use Rattle.shadow_cache.proofs.Noting.{bar-rest, bar-holds, bar-both, bar-loses, bar-frames, bar-memory, write_protected-loses}
 use Rattle.shadow_cache.proofs.roots.Roots.bar_frame.Goals as goal
 
 pub bar-requires : goal.bar-requires
@@ -34,7 +34,7 @@ returns-then-tracks c =
     let r = c.args.self.now in let m = c.args.ram.now in let h = had (pairs_of r) m c.requires.stands in
     record {
       shadows = h.shadows;
-      loses = tracked-loses (pairs_of r) m c.args.frame h (sym c.tracks.ensures ∙ c.if-tracks.true);
+      loses = write_protected-loses (pairs_of r) m c.args.frame h (sym c.tracks.ensures ∙ c.if-tracks.true);
       frames = refl;
       memory = Writes-refl (frames_of (pairs_of r) m) m;
     }

@@ -6,7 +6,7 @@ use Rattle.shadow_cache.specs.declared.pair.Pair.{Pair}
 use Rattle.shadow_cache.specs.Roots.{pairs_of}
 use Rattle.shadow_cache.specs.Laws.{had}
 use Rattle.shadow_cache.proofs.Beside.{others-owns}
-use Rattle.shadow_cache.proofs.Calls.{alone-shadow, alone-owns, dropped-roots, dropped-moves, dropped-owns, dropped-two, dropped-tracked}
+use Rattle.shadow_cache.proofs.Calls.{alone-shadow, alone-owns, dropped-roots, dropped-moves, dropped-owns, dropped-two, dropped-write_protected}
 use Rattle.shadow_cache.proofs.CallSteps.{step-drop_all}
 use Rattle.shadow_cache.proofs.roots.Roots.drop_all.Goals as goal
 
@@ -33,10 +33,10 @@ returns-clause-stands c =
     let r = c.args.self.now in let m = c.args.ram.now in let h = had (pairs_of r) m c.requires.stands in
     merely (dropped-roots c.args.pool.now c.leave_all.new.pool c.drop_all.new.pool r.present r.others c.leave_all.new.pairs m c.leave_all.new.ram c.drop_all.new.ram h c.requires.owns c.leave_all.ensures.none c.leave_all.ensures.moves c.drop_all.ensures.empty c.drop_all.ensures.moves c.renew.new.self c.renew.ensures)
 
-pub returns-clause-tracked : goal.returns-clause-tracked
-returns-clause-tracked c =
+pub returns-clause-write_protected : goal.returns-clause-write_protected
+returns-clause-write_protected c =
     let r = c.args.self.now in let m = c.args.ram.now in let h = had (pairs_of r) m c.requires.stands in
-    dropped-tracked c.args.pool.now c.leave_all.new.pool c.drop_all.new.pool r.present r.others c.leave_all.new.pairs m c.leave_all.new.ram c.drop_all.new.ram h c.requires.owns c.leave_all.ensures.none c.leave_all.ensures.moves c.drop_all.ensures.empty c.drop_all.ensures.moves c.renew.new.self c.renew.ensures
+    dropped-write_protected c.args.pool.now c.leave_all.new.pool c.drop_all.new.pool r.present r.others c.leave_all.new.pairs m c.leave_all.new.ram c.drop_all.new.ram h c.requires.owns c.leave_all.ensures.none c.leave_all.ensures.moves c.drop_all.ensures.empty c.drop_all.ensures.moves c.renew.new.self c.renew.ensures
 
 pub returns-clause-two : goal.returns-clause-two
 returns-clause-two c =
@@ -54,7 +54,7 @@ returns-clause-moves c =
     dropped-moves c.args.pool.now c.leave_all.new.pool c.drop_all.new.pool r.present r.others c.leave_all.new.pairs m c.leave_all.new.ram c.drop_all.new.ram h c.requires.owns c.leave_all.ensures.none c.leave_all.ensures.moves c.drop_all.ensures.empty c.drop_all.ensures.moves c.renew.new.self c.renew.ensures
 
 pub returns-clause-pairs : goal.returns-clause-pairs
-returns-clause-pairs c = ap (λ (x : Pair). x ∷ c.leave_all.new.pairs) c.renew.ensures ∙ ap (λ (xs : List Pair). record c.args.self.now.present { tables = no_tables; marked = false } ∷ xs) c.leave_all.ensures.none
+returns-clause-pairs c = ap (λ (x : Pair). x ∷ c.leave_all.new.pairs) c.renew.ensures ∙ ap (λ (xs : List Pair). record c.args.self.now.present { tables = no_tables; stale = false } ∷ xs) c.leave_all.ensures.none
 
 pub returns-clause-told : goal.returns-clause-told
 returns-clause-told c = λ value calls a.

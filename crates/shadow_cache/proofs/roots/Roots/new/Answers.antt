@@ -6,7 +6,7 @@ use Rattle.shadow_cache.specs.declared.pair.Pair.{Pair}
 use Rattle.shadow_cache.proofs.Beside.{no-reads}
 use Rattle.shadow_cache.proofs.Noting.{alone-frames, fresh-roots}
 use Rattle.shadow_cache.proofs.CallSteps.{agree-start}
-use Rattle.shadow_cache.proofs.Openings.{start-opened}
+use Rattle.shadow_cache.proofs.Openings.{start-has_tables_under}
 use Rattle.shadow_cache.proofs.roots.Roots.new.Goals as goal
 
 pub returns-clause-stands : goal.returns-clause-stands
@@ -25,7 +25,7 @@ returns-clause-starts c =
     record {
       pair = c.new-present.result;
       alone = ap (λ (ps : List Pair). c.new-present.result ∷ ps) c.in_ok-others.ensures;
-      fresh = record { value = e.cr3; empty = e.empty; tables = e.tables; unmarked = e.marked };
+      fresh = record { value = e.cr3; empty = e.empty; tables = e.tables; unmarked = e.stale };
     }
 
 pub returns-clause-told : goal.returns-clause-told
@@ -36,10 +36,10 @@ returns-clause-told c =
 pub returns-clause-begins : goal.returns-clause-begins
 returns-clause-begins c =
     let e = c.new-present.ensures in
-    (ap (λ (v : ℕ). Some v) e.cr3, e.marked, λ f. ap (λ (bits : List Bool). get_or bits f false) e.tables ∙ no-reads f)
+    (ap (λ (v : ℕ). Some v) e.cr3, e.stale, λ f. ap (λ (bits : List Bool). get_or bits f false) e.tables ∙ no-reads f)
 
 pub returns-clause-alone : goal.returns-clause-alone
 returns-clause-alone c = ap (λ (ps : List Pair). asides_of ps c.new-present.new.ram) c.in_ok-others.ensures
 
-pub returns-clause-opened : goal.returns-clause-opened
-returns-clause-opened c = λ indices. start-opened indices c.new-present.result c.in_ok-others.others c.new-present.new.ram c.in_ok-others.ensures c.new-present.ensures.empty
+pub returns-clause-has_tables_under : goal.returns-clause-has_tables_under
+returns-clause-has_tables_under c = λ indices. start-has_tables_under indices c.new-present.result c.in_ok-others.others c.new-present.new.ram c.in_ok-others.ensures c.new-present.ensures.empty

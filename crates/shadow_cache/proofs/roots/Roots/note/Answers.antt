@@ -8,7 +8,7 @@ use Rattle.shadow_cache.specs.Pairs.{frames_of, tables_of, IsRoots}
 use Rattle.shadow_cache.specs.Roots.{pairs_of}
 use Rattle.shadow_cache.specs.declared.pair.Pair.{Pair}
 use Rattle.shadow_cache.specs.Laws.{had}
-use Rattle.shadow_cache.proofs.Noting.{note-roots, note-slots, note-tracked, note-frames, note-moves}
+use Rattle.shadow_cache.proofs.Noting.{note-roots, note-slots, note-write_protected, note-frames, note-moves}
 use Rattle.shadow_cache.proofs.CallSteps.{step-note}
 use Rattle.shadow_cache.proofs.roots.Roots.note.Goals as goal
 
@@ -24,10 +24,10 @@ returns-clause-bars c =
       subst (λ (x : Pair). entries_of (slot_at x.shadow n) ≡ entries_of (slot_at r.present.shadow m)) (sym c.note.ensures) (entries_of-barred (slot_at r.present.shadow m) (slot_at r.present.shadow n) (c.args.frame ∷ []) e.loses.0),
     )
 
-pub returns-clause-tracked : goal.returns-clause-tracked
-returns-clause-tracked c =
+pub returns-clause-write_protected : goal.returns-clause-write_protected
+returns-clause-write_protected c =
     let r = c.args.self.now in let m = c.args.ram.now in let n = c.bar_frame.new.ram in let h = had (pairs_of r) m c.requires.stands in let e = c.bar_frame.ensures in
-    subst (λ (x : Pair). ArePart (tables_of (x ∷ r.others)) (c.args.frame ∷ tables_of (pairs_of r))) (sym c.note.ensures) (note-tracked r.present r.others m n c.args.frame h c.requires.frame e.shadows e.loses e.frames e.memory)
+    subst (λ (x : Pair). ArePart (tables_of (x ∷ r.others)) (c.args.frame ∷ tables_of (pairs_of r))) (sym c.note.ensures) (note-write_protected r.present r.others m n c.args.frame h c.requires.frame e.shadows e.loses e.frames e.memory)
 
 pub returns-clause-frames : goal.returns-clause-frames
 returns-clause-frames c =

@@ -25,8 +25,8 @@ returns-clause-begins g c = record {
   ready = λ image h.
       let old = c.args.self.now.running in
       let d = c.renew in
-      subst (λ (l : List ℕ). IsReady roots.slots roots.noted roots.marked roots.value roots.asides (ground image old.frames) old.cpu d.new.self l) (sym (g.met.H.Host.bytes_changed c.args.host.now d.new.ram))
-      (none_ready roots.slots roots.noted roots.marked roots.value roots.asides (λ page. false) (ground image old.frames) old.cpu d.new.self d.new.ram (d.ensures.known.value ∙ h.value_is) d.ensures.none d.ensures.asides);
+      subst (λ (l : List ℕ). IsReady roots.slots roots.read_from roots.stale roots.value roots.other_roots (ground image old.frames) old.cpu d.new.self l) (sym (g.met.H.Host.bytes_changed c.args.host.now d.new.ram))
+      (none_ready roots.slots roots.read_from roots.stale roots.value roots.other_roots (λ page. false) (ground image old.frames) old.cpu d.new.self d.new.ram (d.ensures.known.value ∙ h.value_is) d.ensures.none d.ensures.other_roots);
   state = λ m is.
       let old = c.args.self.now.running in
       let d = c.renew in
@@ -45,13 +45,13 @@ returns-clause-begins g c = record {
       (keeps_moves c.args.pool.now d.new.pool (g.H.Host.bytes c.args.host.now) d.new.ram (roots.frames old.shadows (g.H.Host.bytes c.args.host.now)) (roots.frames d.new.self d.new.ram) moves);
   fewer =
       let d = c.renew in
-      let none = none_pages roots.slots roots.noted roots.marked roots.value roots.asides d.new.self d.new.ram d.ensures.entries d.ensures.asides in
-      let kept = pages_kept roots.slots roots.asides c.args.self.now.running.shadows (g.H.Host.bytes c.args.host.now) in
-      subst (λ (l : List ℕ). pages_kept roots.slots roots.asides d.new.self l ≤ kept) (sym (g.met.H.Host.bytes_changed c.args.host.now d.new.ram)) (omega (arith, none));
+      let none = none_pages roots.slots roots.read_from roots.stale roots.value roots.other_roots d.new.self d.new.ram d.ensures.entries d.ensures.other_roots in
+      let kept = pages_kept roots.slots roots.other_roots c.args.self.now.running.shadows (g.H.Host.bytes c.args.host.now) in
+      subst (λ (l : List ℕ). pages_kept roots.slots roots.other_roots d.new.self l ≤ kept) (sym (g.met.H.Host.bytes_changed c.args.host.now d.new.ram)) (omega (arith, none));
   anew = λ two.
       let d = c.renew in
-      subst (λ (l : List ℕ). IsAsNew roots.noted roots.marked roots.asides roots.opened d.new.self l) (sym (g.met.H.Host.bytes_changed c.args.host.now d.new.ram))
-      (record { unnoted = d.ensures.known.noted; unmarked = d.ensures.known.marked; alone = d.ensures.asides; unopened = d.ensures.opened });
+      subst (λ (l : List ℕ). IsAsNew roots.read_from roots.stale roots.other_roots roots.has_tables_under d.new.self l) (sym (g.met.H.Host.bytes_changed c.args.host.now d.new.ram))
+      (record { unnoted = d.ensures.known.read_from; unmarked = d.ensures.known.stale; alone = d.ensures.other_roots; unopened = d.ensures.has_tables_under });
 }
 
 pub returns-clause-counts : goal.returns-clause-counts

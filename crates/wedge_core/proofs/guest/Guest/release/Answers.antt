@@ -31,8 +31,8 @@ returns-clause-releases g c = record {
   ready = λ image h.
       let old = c.args.self.now.running in
       let d = c.drop_all in
-      subst (λ (l : List ℕ). IsReady roots.slots roots.noted roots.marked roots.value roots.asides (ground image old.frames) old.cpu d.new.self l) (sym (g.met.H.Host.bytes_changed c.args.host.now d.new.ram))
-      (none_ready roots.slots roots.noted roots.marked roots.value roots.asides (λ page. false) (ground image old.frames) old.cpu d.new.self d.new.ram (d.ensures.known.value ∙ h.value_is) d.ensures.none d.ensures.asides);
+      subst (λ (l : List ℕ). IsReady roots.slots roots.read_from roots.stale roots.value roots.other_roots (ground image old.frames) old.cpu d.new.self l) (sym (g.met.H.Host.bytes_changed c.args.host.now d.new.ram))
+      (none_ready roots.slots roots.read_from roots.stale roots.value roots.other_roots (λ page. false) (ground image old.frames) old.cpu d.new.self d.new.ram (d.ensures.known.value ∙ h.value_is) d.ensures.none d.ensures.other_roots);
   cpu = refl;
   board = refl;
   frames = refl;
@@ -41,8 +41,8 @@ returns-clause-releases g c = record {
   filled =
       let d = c.drop_all in
       let fills = c.args.self.now.running.fills in
-      subst (λ (l : List ℕ). IsFilled (pages_kept roots.slots roots.asides d.new.self l) fills) (sym (g.met.H.Host.bytes_changed c.args.host.now d.new.ram))
-      (none_kept (pages_kept roots.slots roots.asides d.new.self d.new.ram) fills (none_pages roots.slots roots.noted roots.marked roots.value roots.asides d.new.self d.new.ram d.ensures.entries d.ensures.asides));
+      subst (λ (l : List ℕ). IsFilled (pages_kept roots.slots roots.other_roots d.new.self l) fills) (sym (g.met.H.Host.bytes_changed c.args.host.now d.new.ram))
+      (none_kept (pages_kept roots.slots roots.other_roots d.new.self d.new.ram) fills (none_pages roots.slots roots.read_from roots.stale roots.value roots.other_roots d.new.self d.new.ram d.ensures.entries d.ensures.other_roots));
   outside =
       let d = c.drop_all in
       let p = c.args.pool.now in

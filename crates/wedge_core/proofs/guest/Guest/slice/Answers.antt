@@ -42,7 +42,7 @@ steps_to-requires-clause-between g c = record {
       let old = c.args.self.now.running in
       let begun = c.begin.new.self.running in
       let ready = c.begin.ensures.begins.ready c.args.image.now c.requires.between.ready in
-      subst (λ (n : ℕ). IsReady roots.slots roots.noted roots.marked roots.value roots.asides (ground c.args.image.now n) begun.cpu begun.shadows (g.H.Host.bytes c.begin.new.host)) (sym (same_frames old begun c.begin.ensures.begins.running)) ready;
+      subst (λ (n : ℕ). IsReady roots.slots roots.read_from roots.stale roots.value roots.other_roots (ground c.args.image.now n) begun.cpu begun.shadows (g.H.Host.bytes c.begin.new.host)) (sym (same_frames old begun c.begin.ensures.begins.running)) ready;
   enough =
       let held_now = c.begin.ensures.begins.held c.args.image.now c.requires.between.held in
       let count = c.requires.between.held.counted in
@@ -63,7 +63,7 @@ returns-clause-leaves g c = record {
       let old = c.args.self.now.running in
       let begun = c.begin.new.self.running in
       let end = c.steps_to.new.running in
-      subst (λ (n : ℕ). IfReached c.steps_to.result (IsReady roots.slots roots.noted roots.marked roots.value roots.asides (ground c.args.image.now n) end.cpu end.shadows (g.H.Host.bytes c.steps_to.new.host))) (same_frames old begun c.begin.ensures.begins.running) c.steps_to.ensures.leaves.ready;
+      subst (λ (n : ℕ). IfReached c.steps_to.result (IsReady roots.slots roots.read_from roots.stale roots.value roots.other_roots (ground c.args.image.now n) end.cpu end.shadows (g.H.Host.bytes c.steps_to.new.host))) (same_frames old begun c.begin.ensures.begins.running) c.steps_to.ensures.leaves.ready;
   able = c.steps_to.ensures.leaves.able;
   counted = c.steps_to.ensures.leaves.counted;
   stands = c.steps_to.ensures.leaves.stands;
@@ -80,9 +80,9 @@ returns-clause-leaves g c = record {
   filled =
       let old = c.args.self.now.running in
       let begun = c.begin.new.self.running in
-      let first = pages_kept roots.slots roots.asides begun.shadows (g.H.Host.bytes c.begin.new.host) in
-      let pages = pages_kept roots.slots roots.asides old.shadows (g.H.Host.bytes c.args.host.now) in
-      let last = pages_kept roots.slots roots.asides c.steps_to.new.running.shadows (g.H.Host.bytes c.steps_to.new.host) in
+      let first = pages_kept roots.slots roots.other_roots begun.shadows (g.H.Host.bytes c.begin.new.host) in
+      let pages = pages_kept roots.slots roots.other_roots old.shadows (g.H.Host.bytes c.args.host.now) in
+      let last = pages_kept roots.slots roots.other_roots c.steps_to.new.running.shadows (g.H.Host.bytes c.steps_to.new.host) in
       subst (λ (n : ℕ). FillsOn pages last n c.steps_to.new.running.fills) (same_fills old begun c.begin.ensures.begins.running) (more_first first pages last begun.fills c.steps_to.new.running.fills c.begin.ensures.begins.fewer c.steps_to.ensures.leaves.filled);
   frames = c.steps_to.ensures.leaves.frames ∙ same_frames c.args.self.now.running c.begin.new.self.running c.begin.ensures.begins.running;
 }
@@ -101,15 +101,15 @@ returns-clause-own g c = record {
   filled =
       let old = c.args.self.now.running in
       let begun = c.begin.new.self.running in
-      let first = pages_kept roots.slots roots.asides begun.shadows (g.H.Host.bytes c.begin.new.host) in
-      let pages = pages_kept roots.slots roots.asides old.shadows (g.H.Host.bytes c.args.host.now) in
-      let last = pages_kept roots.slots roots.asides c.steps_to.new.running.shadows (g.H.Host.bytes c.steps_to.new.host) in
+      let first = pages_kept roots.slots roots.other_roots begun.shadows (g.H.Host.bytes c.begin.new.host) in
+      let pages = pages_kept roots.slots roots.other_roots old.shadows (g.H.Host.bytes c.args.host.now) in
+      let last = pages_kept roots.slots roots.other_roots c.steps_to.new.running.shadows (g.H.Host.bytes c.steps_to.new.host) in
       still_filled pages last old.fills c.steps_to.new.running.fills
       (subst (λ (n : ℕ). FillsOn pages last n c.steps_to.new.running.fills) (same_fills old begun c.begin.ensures.begins.running) (more_first first pages last begun.fills c.steps_to.new.running.fills c.begin.ensures.begins.fewer c.steps_to.ensures.leaves.filled));
 }
 
-pub returns-clause-noted : goal.returns-clause-noted
-returns-clause-noted g c = c.steps_to.ensures.noted
+pub returns-clause-silent : goal.returns-clause-silent
+returns-clause-silent g c = c.steps_to.ensures.silent
 
 pub returns-clause-faults : goal.returns-clause-faults
 returns-clause-faults g c = c.steps_to.ensures.faults
@@ -136,9 +136,9 @@ returns-clause-slice g c =
     let tells = g.O.Sink.taken c.steps_to.new.out in
     let wanted = g.L.Notes.wants c.args.notes.now in
     let on = NotesOn wanted (g.L.Notes.tells c.args.notes.now) (g.L.Notes.tells c.steps_to.new.notes) in
-    let first = pages_kept roots.slots roots.asides begun.shadows m1 in
-    let pages = pages_kept roots.slots roots.asides old.shadows m0 in
-    let Knows = λ (n : ℕ). IsCarried roots.slots roots.noted roots.marked roots.asides roots.opened (wedge image script n) [] (state_of roots.stands roots.frames roots.slots (wedge image script n) begun m1) begun.shadows m1
+    let first = pages_kept roots.slots roots.other_roots begun.shadows m1 in
+    let pages = pages_kept roots.slots roots.other_roots old.shadows m0 in
+    let Knows = λ (n : ℕ). IsCarried roots.slots roots.read_from roots.stale roots.other_roots roots.has_tables_under (wedge image script n) [] (state_of roots.stands roots.frames roots.slots (wedge image script n) begun m1) begun.shadows m1
     × (length (free_list c.begin.new.pool m1) + begun.held ≡ 512) × (wanted ≡ false) in
     let starts = BeginsEmpty (entries_of (roots.slots old.shadows m0)) (length (free_list c.args.pool.now m0)) old.held wanted in
     let by_frames = subst (λ (n : ℕ). SliceAs (wedge image script n) bound (state_of roots.stands roots.frames roots.slots (wedge image script n) begun m1) (state_of roots.stands roots.frames roots.slots (wedge image script n) end m2) mid after told tells first begun.fills end.fills wanted on (Knows n) c.steps_to.result)
@@ -156,7 +156,7 @@ returns-clause-slice g c =
     let count_now = held_now.counted in
     let lengths = c.begin.ensures.begins.keeps.lengths in
     let others = s.others in (
-      anew_carries roots.slots roots.noted roots.marked roots.asides roots.opened c.carry_laws.ensures m (state_of roots.stands roots.frames roots.slots m begun m1) begun.shadows m1 none (c.begin.ensures.begins.anew s.two),
+      anew_carries roots.slots roots.read_from roots.stale roots.other_roots roots.has_tables_under c.carry_laws.ensures m (state_of roots.stands roots.frames roots.slots m begun m1) begun.shadows m1 none (c.begin.ensures.begins.anew s.two),
       omega (arith, count, count_now, lengths, others),
       s.silent,
     )) by_counts

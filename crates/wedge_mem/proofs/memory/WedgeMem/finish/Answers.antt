@@ -40,8 +40,8 @@ entries_used-used-requires-clause-told g c =
 pub entries_used-used-requires-clause-few : goal.entries_used-used-requires-clause-few
 entries_used-used-requires-clause-few g c =
     let sound = c.args.self.now.going c.state-state.result.guard c.state-state.ensures.guards in
-    let noted = sound.noted in let few = sound.few in
-    subst (λ (t : StepState). length t.visited ≤ 128) (sym c.state-state.ensures.state) (omega (arith, noted, few))
+    let visits = sound.visits in let few = sound.few in
+    subst (λ (t : StepState). length t.visited ≤ 128) (sym c.state-state.ensures.state) (omega (arith, visits, few))
 
 pub returns-in-Some-clause-count : goal.returns-in-Some-clause-count
 returns-in-Some-clause-count g c =
@@ -54,11 +54,11 @@ pub returns-in-Some-clause-settled : goal.returns-in-Some-clause-settled
 returns-in-Some-clause-settled g c = let s = rw c.in-Some.is at c.settle-filled.ensures.settled in record {
   entries = rw c.state-state.ensures.state at s.entries;
   filled = rw c.state-state.ensures.state at s.filled;
-  noted = rw c.state-state.ensures.state at s.noted;
+  read_from = rw c.state-state.ensures.state at s.read_from;
   noted_only = rw c.state-state.ensures.state at s.noted_only;
-  marked = rw c.state-state.ensures.state at s.marked;
+  stale = rw c.state-state.ensures.state at s.stale;
   value = s.value;
-  asides = rw c.state-state.ensures.state at s.asides;
+  other_roots = rw c.state-state.ensures.state at s.other_roots;
   untracked = rw c.state-state.ensures.state at s.untracked;
 }
 
@@ -66,10 +66,10 @@ pub returns-in-None-clause-settled : goal.returns-in-None-clause-settled
 returns-in-None-clause-settled g c = let s = rw c.in-None.is at c.settle-filled.ensures.settled in record {
   entries = s.entries;
   filled = s.filled;
-  noted = rw c.state-state.ensures.state at s.noted;
+  read_from = rw c.state-state.ensures.state at s.read_from;
   noted_only = rw c.state-state.ensures.state at s.noted_only;
-  marked = s.marked;
+  stale = s.stale;
   value = s.value;
-  asides = s.asides;
+  other_roots = s.other_roots;
   untracked = rw c.state-state.ensures.state at s.untracked;
 }

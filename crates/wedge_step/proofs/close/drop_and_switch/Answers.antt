@@ -10,7 +10,7 @@ use Rattle.wedge_step.specs.Sight.{sight}
 use Rattle.wedge_step.proofs.Returning.{rules_but, through_ready, loaded_left, through_left, nothing_out, out_among}
 use Rattle.machine_step.specs.Worked.{dropping}
 use Rattle.wedge_step.proofs.Leaving.{no_way, loads_from, same_free}
-use Rattle.wedge_step.proofs.close.leave.Goals as goal
+use Rattle.wedge_step.proofs.close.drop_and_switch.Goals as goal
 use Rattle.wedge_step.proofs.Bools.{not_true, not_false}
 
 pub returns-clause-left : goal.returns-clause-left
@@ -23,15 +23,15 @@ pub returns-clause-shows : goal.returns-clause-shows
 returns-clause-shows g c = λ image h a. c.load.ensures.shows image _ ((c.drop_by-changed.ensures.shown image).present h) ((c.drop_by-changed.ensures.shown image).others a)
 
 pub returns-clause-ready : goal.returns-clause-ready
-returns-clause-ready g c = λ m low opened h.
+returns-clause-ready g c = λ m low has_tables_under h.
     let mid = c.drop_by-changed.new in
     let d = c.args.worked.now.dropped in
     let cpu = record c.args.worked.now.cpu { cr3 = c.args.before.now.cr3 } in
     let same = c.drop_by-changed.ensures.moved.moves.same.0 in
     let low_mid : m.frames ≤ base_of mid.pool = omega (arith, low, same) in
-    let ready = rules_but g.S.Shadows.slots g.S.Shadows.noted g.S.Shadows.marked g.S.Shadows.value g.S.Shadows.asides (left_out d c.args.pages.now) (λ page. is_among page c.args.pages.now) m cpu cpu mid.shadows mid.ram refl refl refl (λ page o. out_among d c.args.pages.now page o)
+    let ready = rules_but g.S.Shadows.slots g.S.Shadows.read_from g.S.Shadows.stale g.S.Shadows.value g.S.Shadows.other_roots (left_out d c.args.pages.now) (λ page. is_among page c.args.pages.now) m cpu cpu mid.shadows mid.ram refl refl refl (λ page o. out_among d c.args.pages.now page o)
     (c.drop_by-changed.ensures.ready m c.args.pages.now low h) in
-    let p = c.load.ensures.ready m cpu c.args.worked.now.cpu low_mid refl refl refl ((c.drop_by-changed.ensures.shown m.image).present opened) ready in
+    let p = c.load.ensures.ready m cpu c.args.worked.now.cpu low_mid refl refl refl ((c.drop_by-changed.ensures.shown m.image).present has_tables_under) ready in
     (p.0, λ back. p.1)
 
 pub returns-then-is_through-clause-left : goal.returns-then-is_through-clause-left
@@ -44,23 +44,23 @@ returns-then-is_through-clause-left g c = λ back.
     ∙ ap (λ (x : Bool). left_of x (dropping d old)) (sym c.is_lost.ensures)
 
 pub returns-then-is_through-clause-ready : goal.returns-then-is_through-clause-ready
-returns-then-is_through-clause-ready g c = λ m low opened h.
+returns-then-is_through-clause-ready g c = λ m low has_tables_under h.
     let mid = c.drop_by-changed.new in
     let d = c.args.worked.now.dropped in
     let cpu = record c.args.worked.now.cpu { cr3 = c.args.before.now.cr3 } in
-    let ready = through_ready g.S.Shadows.slots g.S.Shadows.noted g.S.Shadows.marked g.S.Shadows.value g.S.Shadows.asides (left_out d c.args.pages.now) m cpu c.args.worked.now.cpu mid.shadows mid.ram (c.is_through.ensures.same c.if-is_through.true) refl refl
+    let ready = through_ready g.S.Shadows.slots g.S.Shadows.read_from g.S.Shadows.stale g.S.Shadows.value g.S.Shadows.other_roots (left_out d c.args.pages.now) m cpu c.args.worked.now.cpu mid.shadows mid.ram (c.is_through.ensures.same c.if-is_through.true) refl refl
     (λ page lt. elim (nothing_out d c.drop_by-changed.result c.args.pages.now page (c.is_through.ensures.other c.if-is_through.true)) [ inl gone ↦ inl ((c.drop_by-changed.ensures.changed gone).none page lt) | inr free ↦ inr free ])
     (c.drop_by-changed.ensures.ready m c.args.pages.now low h) in
     (ready, λ back. absurd (let f : false ≡ true = back in cc))
 
-pub returns-clause-opened : goal.returns-clause-opened
-returns-clause-opened g c = λ indices o. c.load.ensures.opened indices (c.drop_by-changed.ensures.opened indices o)
+pub returns-clause-has_tables_under : goal.returns-clause-has_tables_under
+returns-clause-has_tables_under g c = λ indices o. c.load.ensures.has_tables_under indices (c.drop_by-changed.ensures.has_tables_under indices o)
 
 pub drop_by-changed-requires-clause-page : goal.drop_by-changed-requires-clause-page
 drop_by-changed-requires-clause-page g c = c.requires.page
 
-pub returns-then-is_through-clause-opened : goal.returns-then-is_through-clause-opened
-returns-then-is_through-clause-opened g c = c.drop_by-changed.ensures.opened
+pub returns-then-is_through-clause-has_tables_under : goal.returns-then-is_through-clause-has_tables_under
+returns-then-is_through-clause-has_tables_under g c = c.drop_by-changed.ensures.has_tables_under
 
 pub returns-then-is_through-clause-fewer : goal.returns-then-is_through-clause-fewer
 returns-then-is_through-clause-fewer g c = c.drop_by-changed.ensures.fewer
