@@ -141,7 +141,7 @@ pub returns-clause-filled : goal.returns-clause-filled
 returns-clause-filled g c =
     let state = c.args.state.now in let wp = c.args.state.now.control.wp in
     counts_join g.S.Shadows c.args.side (stand c.args.shadows.now c.args.pool.now c.args.ram.now) (stand c.settle.new.shadows c.settle.new.pool c.settle.new.ram) state c.settle.result
-    (settled_few (old g c) (entries_of (old g c)) state.changes state.tables state.visited c.args.side wp c.settle.result c.settle.ensures.count (omega (arith, c.requires.sound.read_from, c.requires.sound.few)))
+    (settled_few (old g c) (entries_of (old g c)) state.changes state.tables state.visited c.args.side wp c.settle.result c.settle.ensures.count (omega (arith, c.requires.sound.visits, c.requires.sound.few)))
     c.settle.ensures.count
     (closed_filled c.settle.result state.tables state.wrote (entries_of (old g c)) (entries_of (new g c)) (g.S.Shadows.other_roots c.args.shadows.now c.args.ram.now) (g.S.Shadows.other_roots c.settle.new.shadows c.settle.new.ram) c.settle.ensures.settled.other_roots
     (settled_filled (old g c) (entries_of (old g c)) state.changes state.tables state.visited c.args.side wp (entries_of (new g c)) c.settle.result c.requires.sound.told c.settle.ensures.count c.settle.ensures.settled.entries))
