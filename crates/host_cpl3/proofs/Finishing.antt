@@ -5,7 +5,7 @@ use Rattle.ia32_types.specs.declared.insn.Insn.{Insn}
 use Rattle.ia32_exec.specs.declared.outcome.Stores.{Stores}
 use Rattle.ia32_exec.specs.declared.outcome.Outcome.TheVariants.{Done}
 use Rattle.ia32_exec.specs.declared.selectors.Selectors.{Selectors}
-use Rattle.ia32_exec.specs.Commit.{AreStored}
+use Rattle.ia32_exec.specs.Outcomes.{AreStored}
 use Rattle.ia32_exec.specs.Effect.{ranges_of}
 use Rattle.ia32_exec.specs.UserEffect.{user_effect}
 use Rattle.ia32_exec.proofs.UserWithin.{within_user}

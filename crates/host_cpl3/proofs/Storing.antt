@@ -9,7 +9,8 @@ use Rattle.ia32_exec.specs.declared.outcome.Stores.{Stores}
 use Rattle.ia32_exec.specs.declared.outcome.Stores.TheVariants.{Nothing, One, Eight}
 use Rattle.ia32_exec.specs.Memory.{store, IsAllAt}
 use Rattle.ia32_exec.specs.Ranges.{AreAll}
-use Rattle.ia32_exec.specs.Commit.{AreStored, list_of, longs_to}
+use Rattle.ia32_exec.specs.Commit.{list_of, longs_to}
+use Rattle.ia32_exec.specs.Outcomes.{AreStored}
 use Rattle.paging.specs.Numbers.{number_stored}
 use Rattle.host_cpl3.specs.Store.{all_stored}
 

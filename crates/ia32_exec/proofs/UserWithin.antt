@@ -17,7 +17,7 @@ use Rattle.ia32_exec.specs.declared.selectors.Selectors.{Selectors}
 use Rattle.ia32_exec.specs.Registers.{address_of, eip_past}
 use Rattle.ia32_exec.specs.Ranges.{operand_range, Covers}
 use Rattle.ia32_exec.specs.Effect.{ranges_row, ranges_of, effect}
-use Rattle.ia32_exec.specs.Commit.{AreStored, stores_of}
+use Rattle.ia32_exec.specs.Outcomes.{AreStored, stores_of}
 use Rattle.ia32_exec.specs.Stack.{pushed_number}
 use Rattle.ia32_types.specs.Places.{is_place}
 use Rattle.ia32_exec.specs.Transfers.{returned, jumped_through, called_through}

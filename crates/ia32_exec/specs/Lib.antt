@@ -9,6 +9,7 @@ pub mod Control
 pub mod Strings
 pub mod Effect
 pub mod Commit
+pub mod Outcomes
 pub mod Order
 pub mod Turns
 pub mod Transfers

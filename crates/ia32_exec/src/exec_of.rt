@@ -5,7 +5,8 @@ ghost use Rattle.ia32_exec.specs.Memory.{all_stored};
 ghost use Rattle.ia32_exec.specs.Ranges.{AreAll};
 ghost use Rattle.ia32_exec.specs.Effect.{effect, ranges_of};
 ghost use Rattle.ia32_types.specs.Shape.{IsShaped, IsDone};
-ghost use Rattle.ia32_exec.specs.Commit.{list_of, longs_to, answer_of, registers_of, stores_of, AreStored, IsKeptUnlessWritten, IsReady};
+ghost use Rattle.ia32_exec.specs.Commit.{list_of, longs_to};
+ghost use Rattle.ia32_exec.specs.Outcomes.{answer_of, registers_of, stores_of, AreStored, IsKeptUnlessWritten, IsReady};
 
 use crate::effect_of::effect;
 use crate::memory::{LinearMem, Reads};

@@ -14,7 +14,8 @@ use Rattle.ia32_types.specs.declared.stop.Stop.TheVariants as stops
 use Rattle.ia32_exec.specs.declared.outcome.Outcome as exec
 use Rattle.ia32_exec.specs.declared.outcome.Outcome.TheVariants as outcomes
 use Rattle.ia32_exec.specs.declared.outcome.Stores.{Stores}
-use Rattle.ia32_exec.specs.Commit.{AreStored, list_of}
+use Rattle.ia32_exec.specs.Commit.{list_of}
+use Rattle.ia32_exec.specs.Outcomes.{AreStored}
 use Rattle.ia32_exec.specs.Effect.{ranges_of, effect}
 use Rattle.ia32_exec.proofs.UserWithin.{within_user}
 use Rattle.descriptors.specs.declared.cpu.Cpu.{Cpu}

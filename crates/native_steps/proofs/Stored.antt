@@ -10,7 +10,8 @@ use Rattle.ia32_exec.specs.declared.outcome.Stores.{Stores}
 use Rattle.ia32_exec.specs.declared.outcome.Stores.TheVariants.{Nothing, One, Eight}
 use Rattle.ia32_exec.specs.Memory.{store, IsAllAt}
 use Rattle.ia32_exec.specs.Ranges.{AreAll}
-use Rattle.ia32_exec.specs.Commit.{AreStored, list_of, longs_to}
+use Rattle.ia32_exec.specs.Commit.{list_of, longs_to}
+use Rattle.ia32_exec.specs.Outcomes.{AreStored}
 use Rattle.paging.proofs.Drops.{drop-with_byte}
 use Rattle.paging.specs.Space.{Space, place, written, saved, with_ram}
 use Rattle.step_exec.specs.Plain.{stored_all}

@@ -2,7 +2,8 @@
 
 ghost use Rattle.std.specs.Prelude.{◌≡◌, ◌+◌, ◌*◌, ◌≤◌, ◌<◌, ◌^◌, length, ⊤, ℕ};
 ghost use Rattle.ia32_exec.specs.Ranges.{AreAll};
-ghost use Rattle.ia32_exec.specs.Commit.{AreStored, list_of, longs_to};
+ghost use Rattle.ia32_exec.specs.Commit.{list_of, longs_to};
+ghost use Rattle.ia32_exec.specs.Outcomes.{AreStored};
 ghost use Rattle.step_mem.specs.Shown.{hidden};
 ghost use Rattle.step_mem.specs.Sound.{IsSoundOver, space_at};
 ghost use Rattle.step_exec.specs.Plain.{stored_all};
