@@ -301,14 +301,14 @@ module _ (i : Insn) (len : ℕ) (r : Regs) where
   if_place true n ws h = h
   if_place false n ws h = tt
 
-  of_selector : (a : Operand) (v : ℕ) → Leaves r (selector_to a v (eip_past len r))
+  of_selector : (a : Operand) (v : ℕ) → Leaves r (selector_to a v len r)
   of_selector Absent v = tt
   of_selector (Register n) v = kept_same r.flags
   of_selector (Memory x) v = kept_same r.flags
   of_selector (Segment g) v = tt
   of_selector (Control n) v = tt
 
-  of_read : (g : Selectors) (from a : Operand) → Leaves r (read_from g from a (eip_past len r))
+  of_read : (g : Selectors) (from a : Operand) → Leaves r (read_from g from a len r)
   of_read g Absent a = tt
   of_read g (Register n) a = tt
   of_read g (Memory x) a = tt

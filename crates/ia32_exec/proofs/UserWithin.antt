@@ -30,7 +30,7 @@ module _ (P : ℕ → Type 0) where
   of_place true r ws h = h
   of_place false r ws h = tt
 
-  of_selector : (o : Operand) (v len : ℕ) (r : Regs) → Covers P (operand_range o Word r) → AreStored P (stores_of (selector_to o v (eip_past len r)))
+  of_selector : (o : Operand) (v len : ℕ) (r : Regs) → Covers P (operand_range o Word r) → AreStored P (stores_of (selector_to o v len r))
   unfolding address_of
   of_selector Absent v len r h = tt
   of_selector (Register n) v len r h = tt
@@ -38,7 +38,7 @@ module _ (P : ℕ → Type 0) where
   of_selector (Segment s) v len r h = tt
   of_selector (Control n) v len r h = tt
 
-  of_read : (g : Selectors) (from to : Operand) (len : ℕ) (r : Regs) → Covers P (operand_range to Word r) → AreStored P (stores_of (read_from g from to (eip_past len r)))
+  of_read : (g : Selectors) (from to : Operand) (len : ℕ) (r : Regs) → Covers P (operand_range to Word r) → AreStored P (stores_of (read_from g from to len r))
   of_read g (Segment s) to len r h = of_selector to _ len r h
   of_read g Absent to len r h = tt
   of_read g (Register n) to len r h = tt

@@ -23,19 +23,23 @@ selector_of g Cs = g.cs
 selector_of g Ss = g.ss
 selector_of g Ds = g.ds
 
--- a selector goes to a whole register, or to two bytes of memory
-abbrev pub selector_to : Operand → ℕ → Regs → Outcome
-selector_to (Register n) v r = Done (with_whole n v r) Nothing
-selector_to (Memory a) v r = Done r (One (store (address_of a r) Word v))
-selector_to _ v r = Stop Unsupported
+-- MOV of a selector to a general register: the registers after it
+abbrev pub selector_moved : (register selector len : ℕ) → Regs → Regs
+selector_moved register selector len r = eip_past len (with_whole register selector r)
 
-abbrev pub read_from : Selectors → Operand → Operand → Regs → Outcome
-read_from g (Segment seg) to r = selector_to to (selector_of g seg) r
-read_from g _ to r = Stop Unsupported
+-- a selector goes to a whole register, or to two bytes of memory
+abbrev pub selector_to : Operand → (selector len : ℕ) → Regs → Outcome
+selector_to (Register n) v len r = Done (selector_moved n v len r) Nothing
+selector_to (Memory a) v len r = Done (eip_past len r) (One (store (address_of a r) Word v))
+selector_to _ v len r = Stop Unsupported
+
+abbrev pub read_from : Selectors → (from to : Operand) → ℕ → Regs → Outcome
+read_from g (Segment seg) to len r = selector_to to (selector_of g seg) len r
+read_from g _ to len r = Stop Unsupported
 
 -- MOV from a segment register
 unfoldable pub selector_read : Selectors → Insn → ℕ → Regs → Outcome
-selector_read g i len r = read_from g i.b i.a (eip_past len r)
+selector_read g i len r = read_from g i.b i.a len r
 
 abbrev pub pushed_from : Selectors → Operand → Regs → Outcome
 pushed_from g (Segment seg) r = pushed_number (selector_of g seg) r

@@ -29,19 +29,20 @@ fn selector_of(selectors: &Selectors, seg: Seg) -> u16
     }
 }
 
-fn selector_to(to: Operand, value: u16, regs: Regs) -> Outcome
+fn selector_to(to: Operand, value: u16, len: u8, regs: &Regs) -> Outcome
     requires { IsNamed to }
-    ensures { result ≡ selector_to to value regs }
+    ensures { result ≡ selector_to to value len regs.now }
 {
     let value = u32::from(value);
+    let past = eip_past(u32::from(len), *regs);
     match to {
         Operand::Register(n) => {
-            Outcome::Done(with_whole(usize::from(n), value, regs), Stores::Nothing)
+            Outcome::Done(with_whole(usize::from(n), value, past), Stores::Nothing)
         }
         Operand::Memory(address) => {
-            let at = address_of(address, &regs);
+            let at = address_of(address, regs);
             let size = Size::Word;
-            Outcome::Done(regs, Stores::One(Store { at, size, value }))
+            Outcome::Done(past, Stores::One(Store { at, size, value }))
         }
         _ => Outcome::Stop(Stop::Unsupported),
     }
@@ -56,7 +57,7 @@ pub fn selector_read(selectors: &Selectors, insn: &Insn, len: u8, regs: &Regs) -
     match insn.b {
         Operand::Segment(seg) => {
             let value = selector_of(selectors, seg);
-            selector_to(insn.a, value, eip_past(u32::from(len), *regs))
+            selector_to(insn.a, value, len, regs)
         }
         _ => Outcome::Stop(Stop::Unsupported),
     }

@@ -293,7 +293,7 @@ module _ (m : Setting) (b : State) (c : Completed) where
     call (Memory a) len k h = same _ _ (ap (λ (o : Outcome Refusal ℕ). on_value o (λ (v : ℕ). next (gone_to (past_push cpu len) v))) (through a len h))
 
     abbrev selector_to : Operand → ℕ → ℕ → exec.Outcome
-    selector_to a len v = selectors.selector_to a v (registers.eip_past len cpu.regs)
+    selector_to a len v = selectors.selector_to a v len cpu.regs
 
     kept : (a : Operand) (len v : ℕ) → IsNamed a → Are (record { read = None; write = operand_range a Word cpu.regs })
         → Comes (selector_kept len cpu v a s) (user_finished cpu (selector_to a len v) u)
@@ -312,7 +312,7 @@ module _ (m : Setting) (b : State) (c : Completed) where
         (ap (λ (o : Outcome Refusal (Unit {0})). on_value o (λ (z : Unit {0}). writes (address_of a cpu.regs) Word v >>= (λ (y : Unit {0}). next (past cpu len)))) (operand_is cpu a 2 true s u free e))
 
     selector_read : (from a : Operand) (i : Insn) (len : ℕ) → IsNamed a → i.a ≡ a → Are (record { read = None; write = operand_range a Word cpu.regs })
-        → Comes (read_seg i from len cpu s) (user_finished cpu (selectors.read_from g from a (registers.eip_past len cpu.regs)) u)
+        → Comes (read_seg i from len cpu s) (user_finished cpu (selectors.read_from g from a len cpu.regs) u)
     unfolding read_seg
     selector_read Absent a i len k e h = refl
     selector_read (Register x) a i len k e h = refl

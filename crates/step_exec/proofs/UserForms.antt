@@ -174,7 +174,7 @@ popf_form len cpu s u =
 
 -- a selector goes to a register or to memory
 kept_form : (to : Operand) (sel len : ℕ) (cpu : Cpu) (s : Space) → IsPlace to → IsNamed to
-    → selector_kept len cpu sel to s ≡ user_form cpu (plain.writes (operand_range to Word cpu.regs)) (λ b. selector_to to sel (eip_past len cpu.regs)) s
+    → selector_kept len cpu sel to s ≡ user_form cpu (plain.writes (operand_range to Word cpu.regs)) (λ b. selector_to to sel len cpu.regs) s
 unfolding selector_kept operand_reached address_of
 kept_form (Register k) sel len cpu s p n = ap (λ j. next (with_regs cpu (eip_past len (with_whole j sel cpu.regs))) s) (let e : k % 8 ≡ k = omega arith in e)
 kept_form (Memory a) sel len cpu s p n =
@@ -186,11 +186,11 @@ kept_form (Segment g) sel len cpu s p n = absurd cc
 kept_form (Control k) sel len cpu s p n = absurd cc
 
 reads_form : (from : Operand) (insn : Insn) (len : ℕ) (cpu : Cpu) (s : Space) → IsPlace insn.a → IsSegment from → IsNamed insn.a
-    → read_seg insn from len cpu s ≡ user_form cpu (plain.writes (operand_range insn.a Word cpu.regs)) (λ b. read_from (selectors_of cpu) from insn.a (eip_past len cpu.regs)) s
+    → read_seg insn from len cpu s ≡ user_form cpu (plain.writes (operand_range insn.a Word cpu.regs)) (λ b. read_from (selectors_of cpu) from insn.a len cpu.regs) s
 unfolding read_seg
 reads_form (Segment g) insn len cpu s p f n =
     kept_form insn.a (selector_in cpu g) len cpu s p n
-    ∙ ap (λ v. user_form cpu (plain.writes (operand_range insn.a Word cpu.regs)) (λ b. selector_to insn.a v (eip_past len cpu.regs)) s) (sym (same_selector cpu g))
+    ∙ ap (λ v. user_form cpu (plain.writes (operand_range insn.a Word cpu.regs)) (λ b. selector_to insn.a v len cpu.regs) s) (sym (same_selector cpu g))
 reads_form Absent insn len cpu s p f n = absurd f
 reads_form (Register k) insn len cpu s p f n = absurd f
 reads_form (Memory a) insn len cpu s p f n = absurd f

@@ -4,13 +4,14 @@ use Rattle.ia32_types.specs.declared.flags.Flags.{Flags}
 use Rattle.ia32_types.specs.declared.stop.Stop.TheVariants as stops
 use Rattle.ia32_types.specs.Bits.{bit}
 use Rattle.ia32_types.specs.Flags.{interrupt_at, flag_put}
+use Rattle.ia32_exec.specs.Stack.{popf}
 use Rattle.paging.specs.Work.{Work, ◌>>=◌, gives, unless}
 use Rattle.descriptors.specs.declared.cpu.Cpu.{Cpu}
 use Rattle.sys_exec.specs.declared.effect.Refusal.{Refusal}
 use Rattle.sys_exec.specs.declared.effect.Refusal.TheVariants.{Stop}
 use Rattle.sys_exec.specs.declared.effect.SysEffect.TheVariants as effects
 use Rattle.sys_exec.specs.declared.effect.SysOutcome.{SysOutcome}
-use Rattle.sys_exec.specs.Operand.{protection_0, kernel_alone, pulled, pushed, with_regs, past, past_push, past_pop, next}
+use Rattle.sys_exec.specs.Operand.{protection_0, kernel_alone, pulled, pushed, with_regs, past, past_push, next}
 use Rattle.sys_exec.specs.Iret.{keeps_flags, is_within, new_flags}
 
 abbrev pub with_flags : Cpu → Flags → Cpu
@@ -45,4 +46,4 @@ unfoldable pub pop_flags : ℕ → Cpu → Work Refusal SysOutcome
 pop_flags len cpu = do
   image ← pulled cpu
   _ ← unless (Stop stops.FlagBits) (keeps_flags image)
-  next (with_flags (past_pop cpu len) (new_flags cpu image))
+  next (with_regs cpu (popf (new_flags cpu image) len cpu.regs))

@@ -9,7 +9,8 @@ use Rattle.ia32_types.specs.declared.size.Size.TheVariants as sizes
 use Rattle.ia32_types.specs.declared.stop.Stop.TheVariants as stops
 use Rattle.ia32_exec.specs.Registers.{address_of, with_whole, eip_past}
 use Rattle.ia32_exec.specs.Ranges.{segment_of}
-use Rattle.ia32_exec.specs.Stack.{stack_of, esp_below, esp_above}
+use Rattle.ia32_exec.specs.Stack.{stack_of, esp_below, with_push, with_pop}
+use Rattle.ia32_exec.specs.Transfers as transfers
 use Rattle.paging.specs.Work.{Work, ◌>>=◌, refuses, gives, unless, reads, writes}
 use Rattle.descriptors.specs.Segments.{segment_in}
 use Rattle.descriptors.specs.declared.cpu.Cpu.{Cpu}
@@ -89,14 +90,14 @@ past_with cpu len k v = with_regs cpu (eip_past len (with_whole k v cpu.regs))
 
 -- past the instruction, with ESP after a push and after a pop of four bytes
 abbrev pub past_push : Cpu → ℕ → Cpu
-past_push cpu len = past_with cpu len 4 (esp_below 4 cpu.regs)
+past_push cpu len = with_regs cpu (eip_past len (with_push cpu.regs))
 
 abbrev pub past_pop : Cpu → ℕ → Cpu
-past_pop cpu len = past_with cpu len 4 (esp_above 4 cpu.regs)
+past_pop cpu len = with_regs cpu (eip_past len (with_pop 4 cpu.regs))
 
 -- at a target
 abbrev pub gone_to : Cpu → ℕ → Cpu
-gone_to cpu eip = with_regs cpu (record cpu.regs { eip = eip })
+gone_to cpu eip = with_regs cpu (transfers.gone_to eip cpu.regs)
 
 abbrev pub next : Cpu → Work Refusal SysOutcome
 next cpu = gives (record { cpu = cpu; effect = effects.Next })
