@@ -2,6 +2,7 @@ pub mod Access
 pub mod Asked
 pub mod Operand
 pub mod Segment
+pub mod Purposes
 pub mod Control
 pub mod Iret
 pub mod Flags

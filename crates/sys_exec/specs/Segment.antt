@@ -14,8 +14,6 @@ use Rattle.descriptors.specs.declared.form.Descriptor.TheVariants as forms
 use Rattle.sys_exec.specs.declared.effect.Refusal.{Refusal}
 use Rattle.sys_exec.specs.declared.effect.Refusal.TheVariants.{Raise, Stop}
 use Rattle.sys_exec.specs.declared.effect.Loading.{Loading}
-use Rattle.sys_exec.specs.declared.segment.Purpose.{Purpose}
-use Rattle.sys_exec.specs.declared.segment.Purpose.TheVariants as purposes
 use Rattle.sys_exec.specs.Access.{denials}
 use Rattle.sys_exec.specs.Operand.{protection_0}
 
@@ -66,8 +64,7 @@ data_loading cpl sel high d = do
 unfoldable pub find_data : Cpu → ℕ → Work Refusal Loading
 find_data cpu sel = do
   pair ← selected cpu form_stop sel
-  _ ← data_tests cpu.cpl sel (descriptor_of pair.0 pair.1)
-  gives (loading sel pair.1 (descriptor_of pair.0 pair.1))
+  data_loading cpu.cpl sel pair.1 (descriptor_of pair.0 pair.1)
 
 -- the accessed flag is set where it is clear
 abbrev pub marked : Cpu → Loading → Work Refusal (Unit {0})
@@ -96,8 +93,7 @@ unfoldable pub find_stack : Cpu → ℕ → ℕ → Work Refusal Loading
 find_stack cpu cpl sel = do
   _ ← ends_if protection_0 (nat_lt sel 4)
   pair ← selected cpu form_stop sel
-  _ ← stack_tests cpl sel (descriptor_of pair.0 pair.1)
-  gives (loading sel pair.1 (descriptor_of pair.0 pair.1))
+  stack_loading cpl sel pair.1 (descriptor_of pair.0 pair.1)
 
 -- the code that an IRET goes to
 abbrev pub return_tests : ℕ → ℕ → Descriptor → Work Refusal (Unit {0})
@@ -116,8 +112,7 @@ unfoldable pub find_return : Cpu → ℕ → Work Refusal Loading
 find_return cpu sel = do
   _ ← ends_if protection_0 (nat_lt sel 4)
   pair ← selected cpu form_stop sel
-  _ ← return_tests cpu.cpl sel (descriptor_of pair.0 pair.1)
-  gives (loading sel pair.1 (descriptor_of pair.0 pair.1))
+  return_loading cpu.cpl sel pair.1 (descriptor_of pair.0 pair.1)
 
 -- the code that a far jump goes to; the register gets the level in use
 abbrev pub jump_tests : ℕ → ℕ → Descriptor → Work Refusal (Unit {0})
@@ -135,21 +130,7 @@ unfoldable pub find_jump : Cpu → ℕ → Work Refusal Loading
 find_jump cpu sel = do
   _ ← ends_if protection_0 (nat_lt sel 4)
   pair ← selected cpu form_stop sel
-  _ ← jump_tests cpu.cpl sel (descriptor_of pair.0 pair.1)
-  gives (loading (sel / 4 * 4 + cpu.cpl % 4) pair.1 (descriptor_of pair.0 pair.1))
-
--- what a load comes to, by what it is for
-abbrev pub judged : Purpose → ℕ → ℕ → ℕ → Descriptor → Work Refusal Loading
-judged purposes.Data cpl sel high d = data_loading cpl sel high d
-judged (purposes.Stack level) cpl sel high d = stack_loading level sel high d
-judged purposes.Return cpl sel high d = return_loading cpl sel high d
-judged purposes.Jump cpl sel high d = jump_loading cpl sel high d
-
-abbrev pub found : Purpose → Cpu → ℕ → Work Refusal Loading
-found purposes.Data cpu sel = find_data cpu sel
-found (purposes.Stack level) cpu sel = find_stack cpu level sel
-found purposes.Return cpu sel = find_return cpu sel
-found purposes.Jump cpu sel = find_jump cpu sel
+  jump_loading cpu.cpl sel pair.1 (descriptor_of pair.0 pair.1)
 
 -- the task register: type 1, a task of 16 bits, is not told; the task must be available, and becomes busy
 abbrev pub is_old_task : ℕ → Bool

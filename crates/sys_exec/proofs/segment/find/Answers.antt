@@ -7,7 +7,8 @@ use Rattle.sys_exec.specs.declared.effect.Refusal.{Refusal}
 use Rattle.sys_exec.specs.declared.segment.Purpose.{Purpose}
 use Rattle.sys_exec.specs.declared.segment.Purpose.TheVariants as purposes
 use Rattle.sys_exec.specs.Operand.{protection_0}
-use Rattle.sys_exec.specs.Segment.{form_stop, selected, judged, found, find_data, find_stack, find_return, find_jump}
+use Rattle.sys_exec.specs.Segment.{form_stop, selected, find_data, find_stack, find_return, find_jump}
+use Rattle.sys_exec.specs.Purposes.{judged, found}
 use Rattle.sys_exec.proofs.segment.find.Goals as goal
 
 null : (purpose : Purpose) (cpu : Cpu) (sel : ℕ) (s : Space) → sel < 4 → (purpose ≡ purposes.Data → 4 ≤ sel) → found purpose cpu sel s ≡ Err (protection_0, s)
