@@ -125,28 +125,6 @@ fn reach_in<B: Kept>(
     reach(ram, kept, state, cpu, true, ranges.write)
 }
 
-/// Does an instruction whose ranges are both translated.
-pub fn complete<B: Kept>(
-    insn: &Insn,
-    len: u8,
-    cpu: &mut Cpu,
-    ram: &mut Ram,
-    kept: &B,
-    state: &StepState,
-) -> Result<(), Refusal>
-    requires kind { IsDone insn.now.op }
-    requires shape { IsShaped insn.now }
-    requires sound { IsSoundOver B.Kept kept.now ram.old state.now }
-    requires made { AreMade (ranges_of insn.now cpu.old.regs) state.now }
-    ensures sound { IsSoundOver B.Kept kept.now ram.new state.now }
-    ensures does { Does result cpu.new (space_at (B.entries kept.now) ram.new state.now)
-        (completed insn.now len cpu.old (space_at (B.entries kept.now) ram.old state.now)) }
-    ensures refused { OnErr result (cpu.new ≡ cpu.old) }
-    ensures hidden { hidden state.now.guard state.now.control.frames ram.new ≡ hidden state.now.guard state.now.control.frames ram.old }
-{
-    complete_in(&ranges(insn, &cpu.regs), insn, len, cpu, ram, kept, state)
-}
-
 /// Does an instruction whose ranges are these, and both translated.
 #[tactic(auto, unfolding(crate::specs::Divided::completed))]
 fn complete_in<B: Kept>(

@@ -12,7 +12,7 @@ mod view;
 mod work;
 
 pub use agreement::plain_agrees;
-pub use instruction::{complete, plain, reach_both};
+pub use instruction::{plain, reach_both};
 pub use laws::{divides, has_user_form};
 pub use memory::StepMem;
 pub use ranges::is_refused;
