@@ -39,7 +39,8 @@ use Rattle.sys_exec.specs.declared.iret.Popped.{Popped}
 use Rattle.sys_exec.specs.Operand.{protection_0, kernel_alone, selector, selector_in, operand_reached, long_of, pulled, pushed, past, past_pop, next}
 use Rattle.sys_exec.specs.Segment.{protection, form_stop, absent, loading, ends_if, selected, marked, load_data, load_task, stack_tests, jump_tests, return_tests, find_stack, find_return, find_jump}
 use Rattle.sys_exec.specs.Iret.{is_within, with_interrupt, new_flags, kept_segment, popped, popped_outer, return_same, return_outer, interrupt_return}
-use Rattle.sys_exec.specs.Control.{control_stop, control_0_needed, control_0_refused, control_3_refused, changes_pse, control_of, load_control, write_control, read_control}
+use Rattle.descriptors.specs.Controls.{control_0_needed, control_0_refused, control_3_refused}
+use Rattle.sys_exec.specs.Control.{control_stop, changes_pse, control_of, load_control, write_control, read_control}
 use Rattle.sys_exec.specs.Flags.{with_flags, clear_interrupts, set_interrupts, halt, push_flags, pop_flags}
 use Rattle.sys_exec.specs.Table.{table_at, load_gdt, load_idt, load_tr, drop_at, dropped, drop_page}
 use Rattle.sys_exec.specs.Move.{selector_kept, read_seg, load_by, load_seg, push_seg, pop_seg, far_jump}

@@ -1,7 +1,8 @@
 -- What holds of a processor at the start of a run and after every step.
-use Rattle.std.specs.Prelude.{◌≡◌, ◌⊎◌, ℕ, true, false, nat_lt, All, bit_and}
+use Rattle.std.specs.Prelude.{◌≡◌, ◌⊎◌, ℕ, ◌+◌, true, false, nat_lt, All, bit_and}
 use Rattle.descriptors.specs.declared.cpu.Cpu.{Cpu}
 use Rattle.descriptors.specs.declared.cpu.Hidden.{Hidden}
+use Rattle.descriptors.specs.Controls.{cr0_et, cr4_pse, control_0_needed, control_0_refused, control_3_refused}
 use Rattle.descriptors.specs.Segments.{seg_of}
 
 -- of the four levels of privilege these are used
@@ -23,13 +24,13 @@ pub record AreFlags (bits : ℕ) : Type 0 where
   pub fixed : bit_and bits 2 ≡ 2
   pub others : bit_and bits 0xFFFFC128 ≡ 0
 
--- the values that MOV to a control register takes: paging and protection are on, bit 4 of CR0 is 1, and of CR4 only
--- PSE may be set
+-- the values that MOV to a control register takes: paging and protection are on, CR0.ET is 1, and of CR4 only PSE
+-- may be set
 pub record AreControls (cpu : Cpu) : Type 0 where
-  pub on : bit_and cpu.cr0 0x80000011 ≡ 0x80000011
-  pub others : bit_and cpu.cr0 0x7FFAFFC0 ≡ 0
-  pub directory : bit_and cpu.cr3 0xFE7 ≡ 0
-  pub extensions : (cpu.cr4 ≡ 0) ⊎ (cpu.cr4 ≡ 0x10)
+  pub on : bit_and cpu.cr0 (control_0_needed + cr0_et) ≡ control_0_needed + cr0_et
+  pub others : bit_and cpu.cr0 control_0_refused ≡ 0
+  pub directory : bit_and cpu.cr3 control_3_refused ≡ 0
+  pub extensions : (cpu.cr4 ≡ 0) ⊎ (cpu.cr4 ≡ cr4_pse)
 
 pub record Fit (cpu : Cpu) : Type 0 where
   pub level : IsLevel cpu.cpl

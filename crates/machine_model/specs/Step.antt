@@ -11,6 +11,7 @@ use Rattle.ia32_types.specs.declared.insn.Op.{Op}
 use Rattle.ia32_types.specs.declared.insn.Op.TheVariants as op
 use Rattle.ia32_decode.specs.declared.answer.Decoded.{Decoded}
 use Rattle.ia32_decode.specs.declared.answer.Decoded.TheVariants as begins
+use Rattle.descriptors.specs.Controls.{eflags_if}
 use Rattle.descriptors.specs.declared.cpu.Cpu.{Cpu}
 use Rattle.paging.specs.declared.entry.Entry.{Entry}
 use Rattle.paging.specs.Space.{Space}
@@ -187,7 +188,7 @@ worked m b s = if b.cpu.halted then concluded [] None b b.cpu b.board s else beg
 
 -- the interrupt that the processor takes: one is pending, IF is 1 and deliveries are not held off
 abbrev pub interrupt_of : Cpu → Board → Option ℕ
-interrupt_of cpu board = if has cpu.regs.flags.bits 0x200 && not cpu.held then vector board else None
+interrupt_of cpu board = if has cpu.regs.flags.bits eflags_if && not cpu.held then vector board else None
 
 -- an external interrupt is acknowledged and delivered, which is the processor's whole work
 unfoldable pub interrupted : Setting → State → ℕ → Space → Result

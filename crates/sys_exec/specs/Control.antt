@@ -4,6 +4,7 @@ use Rattle.ia32_types.specs.declared.insn.Operand.{Operand}
 use Rattle.ia32_types.specs.declared.insn.Operand.TheVariants.{Register, Control}
 use Rattle.ia32_types.specs.declared.stop.Stop.TheVariants as stops
 use Rattle.paging.specs.Work.{Work, ◌>>=◌, refuses, gives, unless}
+use Rattle.descriptors.specs.Controls.{cr0_et, cr4_pse, control_0_needed, control_0_refused, control_3_refused}
 use Rattle.descriptors.specs.declared.cpu.Cpu.{Cpu}
 use Rattle.sys_exec.specs.declared.effect.Refusal.{Refusal}
 use Rattle.sys_exec.specs.declared.effect.Refusal.TheVariants.{Stop}
@@ -14,36 +15,26 @@ use Rattle.sys_exec.specs.Operand.{unsupported, kernel_alone, reg_at, past, past
 abbrev pub control_stop : Refusal
 control_stop = Stop stops.ControlBits
 
--- CR0: PE (0) and PG (31) must be given; MP (1), EM (2), TS (3), NE (5), WP (16) and AM (18) may be; ET (4) is 1 whatever
--- is given. No other bit may be set.
-abbrev pub control_0_needed : ℕ
-control_0_needed = 0x8000_0001
-
-abbrev pub control_0_refused : ℕ
-control_0_refused = 0x7FFA_FFC0
-
+-- CR0: PE and PG must be given; MP, EM, TS, NE, WP and AM may be; ET is 1 whatever is given. No other bit may be set.
 abbrev pub load_control_0 : Cpu → ℕ → Work Refusal SysOutcome
 load_control_0 cpu v = do
   _ ← unless control_stop (bit_and v control_0_needed == control_0_needed && bit_and v control_0_refused == 0)
-  gives (record { cpu = record cpu { cr0 = bit_or v 0x10 }; effect = effects.Next })
+  gives (record { cpu = record cpu { cr0 = bit_or v cr0_et }; effect = effects.Next })
 
--- CR3: PWT (3) and PCD (4) and the frame may be given; the set is emptied
-abbrev pub control_3_refused : ℕ
-control_3_refused = 0xFE7
-
+-- CR3: PWT and PCD and the frame may be given; the set is emptied
 abbrev pub load_control_3 : Cpu → ℕ → Work Refusal SysOutcome
 load_control_3 cpu v = do
   _ ← unless control_stop (bit_and v control_3_refused == 0)
   gives (record { cpu = record cpu { cr3 = v }; effect = effects.DropAll })
 
--- a value of CR4 changes PSE (4)
+-- a value of CR4 changes PSE
 abbrev pub changes_pse : Cpu → ℕ → Bool
-changes_pse cpu v = not (v / 0x10 % 2 == cpu.cr4 / 0x10 % 2)
+changes_pse cpu v = not (v / cr4_pse % 2 == cpu.cr4 / cr4_pse % 2)
 
 -- CR4: PSE may be given, and where it changes the set is emptied
 abbrev pub load_control_4 : Cpu → ℕ → Work Refusal SysOutcome
 load_control_4 cpu v = do
-  _ ← unless control_stop (v == 0 || v == 0x10)
+  _ ← unless control_stop (v == 0 || v == cr4_pse)
   gives (record { cpu = record cpu { cr4 = v }; effect = if changes_pse cpu v then effects.DropAll else effects.Next })
 
 unfoldable pub load_control : Cpu → ℕ → ℕ → Work Refusal SysOutcome

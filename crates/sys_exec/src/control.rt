@@ -3,21 +3,37 @@
 ghost use Rattle.std.specs.Prelude.{◌≡◌, ◌==◌, ◌&&◌, bit_and};
 ghost use Rattle.paging.specs.Work.{Gives};
 ghost use Rattle.paging.specs.Space.{Space};
-ghost use Rattle.sys_exec.specs.Control.{control_0_needed, control_0_refused, load_control, write_control, control_of, read_control};
+ghost use Rattle.descriptors.specs.Controls.{control_0_needed, control_0_refused};
+ghost use Rattle.sys_exec.specs.Control.{load_control, write_control, control_of, read_control};
 ghost use Rattle.sys_exec.specs.Asked.{GivesAsked};
 
 use crate::effect::{Refusal, SysEffect, SysOutcome};
 use crate::operand::{PROTECTION_0, UNSUPPORTED, next, past, past_with, reg_at};
-use descriptors::Cpu;
+use descriptors::{
+    CR0_AM, CR0_EM, CR0_ET, CR0_MP, CR0_NE, CR0_PE, CR0_PG, CR0_TS, CR0_WP, CR3_PCD, CR3_PWT,
+    CR4_PSE, Cpu,
+};
 use ia32_types::{Operand, Stop};
 
 const CONTROL_BITS: Refusal = Refusal::Stop(Stop::ControlBits);
+
+/// The flags that CR0 must have.
+const NEEDED_0: u32 = CR0_PE | CR0_PG;
+
+/// The flags that CR0 may have besides.
+const ADMITTED_0: u32 = CR0_MP | CR0_EM | CR0_TS | CR0_ET | CR0_NE | CR0_WP | CR0_AM;
+
+/// The bits of CR0 that may not be set.
+const REFUSED_0: u32 = 0xFFFF_FFFF - (NEEDED_0 | ADMITTED_0);
+
+/// The bits of CR3 that may not be set.
+const REFUSED_3: u32 = 0xFFF - (CR3_PWT | CR3_PCD);
 
 /// A value of CR0 that has PE and PG, and no bit that may not be set.
 fn admits_0(v: u32) -> bool
     ensures { result ≡ (bit_and v control_0_needed == control_0_needed && bit_and v control_0_refused == 0) }
 {
-    v & 0x8000_0001 == 0x8000_0001 && v & 0x7FFA_FFC0 == 0
+    v & NEEDED_0 == NEEDED_0 && v & REFUSED_0 == 0
 }
 
 fn dropping_all(cpu: Cpu) -> SysOutcome
@@ -41,7 +57,7 @@ fn load_control(cpu: &Cpu, number: u8, v: u32) -> Result<SysOutcome, Refusal>
             if !admits_0(v) {
                 return Err(CONTROL_BITS);
             }
-            after.cr0 = v | 16;
+            after.cr0 = v | CR0_ET;
             Ok(next(after))
         }
         2 => {
@@ -49,18 +65,18 @@ fn load_control(cpu: &Cpu, number: u8, v: u32) -> Result<SysOutcome, Refusal>
             Ok(next(after))
         }
         3 => {
-            if v & 0xFE7 != 0 {
+            if v & REFUSED_3 != 0 {
                 return Err(CONTROL_BITS);
             }
             after.cr3 = v;
             Ok(dropping_all(after))
         }
         4 => {
-            if v != 0 && v != 16 {
+            if v != 0 && v != CR4_PSE {
                 return Err(CONTROL_BITS);
             }
             after.cr4 = v;
-            if v / 16 % 2 != cpu.cr4 / 16 % 2 {
+            if v / CR4_PSE % 2 != cpu.cr4 / CR4_PSE % 2 {
                 return Ok(dropping_all(after));
             }
             Ok(next(after))

@@ -6,7 +6,7 @@ ghost use Rattle.sys_exec.specs.Iret.{popped, popped_outer, keeps_flags, is_with
 
 use crate::effect::{Loading, Refusal};
 use crate::segment::{Purpose, find, find_return, mark_loaded};
-use descriptors::{Cpu, Hidden, by_level, reach};
+use descriptors::{Cpu, EFLAGS_IOPL, Hidden, by_level, reach};
 use ia32_exec::{is_foreign, taken};
 use ia32_types::{Flags, Size, Stop};
 use paging::GuestMem;
@@ -74,7 +74,7 @@ pub fn keeps_flags(image: u32) -> bool
 pub fn is_within(cpu: &Cpu) -> bool
     ensures { result ≡ is_within cpu.now }
 {
-    u32::from(cpu.cpl) <= cpu.regs.flags.bits / 4096 % 4
+    u32::from(cpu.cpl) <= cpu.regs.flags.bits / EFLAGS_IOPL % 4
 }
 
 fn with_interrupt(cpu: &Cpu, flags: Flags, image: Flags) -> Flags
