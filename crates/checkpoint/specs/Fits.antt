@@ -1,6 +1,7 @@
 -- Whether a checkpoint can be gone on from: with an image, by a machine, to a count of steps.
 use Rattle.std.specs.Prelude.{ℕ, ◌+◌, Bool, ◌&&◌, not, ◌==◌, nat_lt, List, [], ◌∷◌, length, Option, Some, None, Result, Ok, Err, if◌then◌else◌}
 use Rattle.guest_ram.specs.Bytes.{byte}
+use Rattle.ia32_types.specs.declared.addresses.TheConstants.{TEXT_PLACE}
 use Rattle.image_check.specs.Image.{Image}
 use Rattle.machine_model.specs.Rules.{is_open}
 use Rattle.checkpoint.specs.declared.state.State.{State}
@@ -9,7 +10,7 @@ use Rattle.checkpoint.specs.declared.state.CheckpointCause.TheVariants.{TextChan
 
 -- the memory has this byte at an offset of the text's place, which no byte behind its end is
 abbrev pub has_at : List ℕ → ℕ → ℕ → Bool
-has_at ram k b = nat_lt (0x100000 + k) (length ram) && byte ram (0x100000 + k) == b
+has_at ram k b = nat_lt (TEXT_PLACE + k) (length ram) && byte ram (TEXT_PLACE + k) == b
 
 -- the first offset, from k on, at which a text doesn't stand in the memory
 unfoldable pub first_change : List ℕ → ℕ → List ℕ → Option ℕ

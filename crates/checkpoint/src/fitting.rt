@@ -17,7 +17,7 @@ use image_check::Checked;
 fn first_change(ram: &Ram, text: &[u8]) -> Option<u32>
     requires { length text.now < 2 ^ 31 }
     ensures place { result ≡ first_change ram.now 0 text.now }
-    ensures text { IfNone result (part ram.now 0x100000 (length text.now) ≡ text.now) }
+    ensures text { IfNone result (part ram.now TEXT_PLACE (length text.now) ≡ text.now) }
 {
     let len = ram.len();
     for (i, b) in text.iter().enumerate() {
@@ -54,7 +54,7 @@ pub fn fits(
     n: u64,
 ) -> Result<(), (u32, CheckpointCause)>
     ensures answer { result ≡ fits_of state.now image.now wedge n }
-    ensures text { IfOk result (λ _. part state.now.ram 0x100000 (length image.now.text) ≡ image.now.text) }
+    ensures text { IfOk result (λ _. part state.now.ram TEXT_PLACE (length image.now.text) ≡ image.now.text) }
     ensures steps { IfOk result (λ _. state.now.step ≤ n) }
     ensures able { IfOk result (λ _. wedge ≡ true → Fit state.now.cpu → IsAble state.now.cpu) }
 {

@@ -53,7 +53,7 @@ pub fn guest_from<H: Host>(
 ) -> Result<(Guest, Pool), AllocError>
     requires form { IsInForm state }
     requires able { IsAble state.cpu }
-    requires text { part state.ram 0x100000 (length image.now.text) ≡ image.now.text }
+    requires text { part state.ram TEXT_PLACE (length image.now.text) ≡ image.now.text }
     ensures goes_on { IfOk result (λ r. GoesOnFrom image.now (length state.ram / 4096) (rested_from state)
         (scene r.0.running r.1 (H.bytes host.new))) }
     ensures started { IfOk result (λ _. H.is_started host.new ≡ true) }
@@ -115,8 +115,8 @@ pub fn state_of_guest<H: Host>(
 fn memory_of(alloc: Global, memory: &Ram, image: &Checked, frames: u32) -> Result<Ram, AllocError>
     requires frames { (2048 ≤ frames) × (frames ≤ 16384) }
     requires room { 4096 * frames ≤ length memory.now }
-    requires text { 0x100000 + length image.now.text ≤ 4096 * frames }
-    ensures ram { IfOk result (λ ram. ram ≡ with_part (take (4096 * frames) memory.now) 0x100000 image.now.text) }
+    requires text { TEXT_PLACE + length image.now.text ≤ 4096 * frames }
+    ensures ram { IfOk result (λ ram. ram ≡ with_part (take (4096 * frames) memory.now) TEXT_PLACE image.now.text) }
     ensures len { IfOk result (λ ram. length ram ≡ 4096 * frames) }
 {
     let mut ram = Ram::new(alloc, frames)?;

@@ -2,6 +2,7 @@
 
 ghost use Rattle.std.specs.Prelude.{◌≡◌, ◌/◌, ◌≤◌, ◌^◌, length, true};
 ghost use Rattle.guest_ram.specs.Bytes.{part};
+ghost use Rattle.ia32_types.specs.declared.addresses.TheConstants.{TEXT_PLACE};
 ghost use Rattle.board.specs.Scripts.{is_script};
 ghost use Rattle.machine_model.specs.Fit.{Fit};
 ghost use Rattle.machine_model.specs.State.{wedge};
@@ -70,7 +71,7 @@ pub fn save_wedge_from<H: Host, O: Sink>(
 ) -> Result<Rested, RunFault>
     requires form { IsInForm state }
     requires able { IsAble state.cpu }
-    requires text { part state.ram 0x100000 (length image.now.text) ≡ image.now.text }
+    requires text { part state.ram TEXT_PLACE (length image.now.text) ≡ image.now.text }
     requires script { is_script script.now.list ≡ true }
     requires begun { state.step ≤ n }
     requires bound { n ≤ 2 ^ 40 }

@@ -2,6 +2,7 @@
 
 ghost use Rattle.std.specs.Prelude.{◌≡◌, ◌≤◌, true, ℕ, List, IfOk, IfErr, Ok, length};
 ghost use Rattle.guest_ram.specs.Bytes.{part};
+ghost use Rattle.ia32_types.specs.declared.addresses.TheConstants.{TEXT_PLACE};
 ghost use Rattle.pv_io.specs.Files.{IsHeld};
 ghost use Rattle.board.specs.Scripts.{is_script};
 ghost use Rattle.machine_model.specs.Able.{IsAble};
@@ -51,7 +52,7 @@ pub fn resumable_in_files<F: Files>(
     ensures state { IfOk result (λ found. HasState (F.held files.old) name.now found.state) }
     ensures state_form { IfOk result (λ found. IsInForm found.state) }
     ensures fits { IfOk result (λ found. fits_of found.state found.image wedge n ≡ Ok tt) }
-    ensures text { IfOk result (λ found. part found.state.ram 0x100000 (length found.image.text) ≡ found.image.text) }
+    ensures text { IfOk result (λ found. part found.state.ram TEXT_PLACE (length found.image.text) ≡ found.image.text) }
     ensures steps { IfOk result (λ found. found.state.step ≤ n) }
     ensures able { IfOk result (λ found. wedge ≡ true → IsAble found.state.cpu) }
     ensures halted { IfErr result (HaltsOverFiles F.Files

@@ -2,6 +2,7 @@
 
 ghost use Rattle.std.specs.Prelude.{◌≡◌, ◌≤◌, ◌^◌, true, ℕ, List, length};
 ghost use Rattle.guest_ram.specs.Bytes.{part};
+ghost use Rattle.ia32_types.specs.declared.addresses.TheConstants.{TEXT_PLACE};
 ghost use Rattle.board.specs.Scripts.{is_script};
 ghost use Rattle.machine_model.specs.Able.{IsAble};
 ghost use Rattle.wedge_core.specs.Counts.{Counts as HostCounts};
@@ -130,7 +131,7 @@ fn rest_again<S: Sink, H: Host>(
     requires script { is_script found.script.list ≡ true }
     requires form { IsInForm found.state }
     requires able { mode ≡ RunMode.Wedge → IsAble found.state.cpu }
-    requires text { part found.state.ram 0x100000 (length found.image.text) ≡ found.image.text }
+    requires text { part found.state.ram TEXT_PLACE (length found.image.text) ≡ found.image.text }
     requires begun { found.state.step ≤ n }
     requires bound { n ≤ 2 ^ 40 }
     requires room { H.retired host.old ≤ 2 ^ 63 }

@@ -2,6 +2,7 @@
 use Rattle.std.specs.Prelude.{◌≡◌, ℕ, ◌+◌, ◌*◌, ◌/◌, ◌<◌, ◌^◌, Bool, false, List, [], ◌∷◌, length, slice_index, slice_index_or, Option, Some, None, if◌then◌else◌}
 use Rattle.std.specs.FinMap.{FinMap, empty}
 use Rattle.std.specs.Ordering.{nat_cmp}
+use Rattle.ia32_types.specs.declared.addresses.TheConstants.{PAGES}
 use Rattle.paging.specs.declared.entry.Entry.{Entry}
 use Rattle.paging.specs.Fresh.{has}
 use Rattle.paging.specs.Uses.{with_entry}
@@ -28,7 +29,7 @@ entries_of words = entries_from 0 words
 
 -- There is a word for each page, a frame has 32 bits, and the words of a directory index that isn't marked say nothing.
 pub record IsWhole (words : List ℕ) (marks : List Bool) : Type 0 where
-  pub pages : length words ≡ 1048576
+  pub pages : length words ≡ PAGES
   pub indices : length marks ≡ 1024
   pub small : (page : ℕ) → slice_index words page < 2 ^ 44
   pub clear : (page : ℕ) → slice_index_or marks (page / 1024) false ≡ false → slice_index words page ≡ 0

@@ -4,13 +4,11 @@ ghost use Rattle.std.specs.Prelude.{◌≡◌, ◌≢◌, ℕ, ◌/◌, ◌<◌,
 ghost use Rattle.std.specs.FinMap.{empty, get};
 ghost use Rattle.trace_check.specs.Slots.{word_of, entry_in};
 
+use ia32_types::PAGES;
 use paging::Entry;
 use std::alloc::{AllocError, Global};
 use std::marker::Model;
 use xlate_buffer::Cache;
-
-/// How many pages the address space has.
-const PAGES: usize = 1048576;
 
 /// One word for each page of the address space, and a mark for each directory index whose pages have entries. Seen as the
 /// map from each page to its entry.
@@ -42,7 +40,7 @@ impl WholeSet {
     pub fn new(alloc: Global) -> Result<WholeSet, AllocError>
         ensures { IfOk result (λ set. set ≡ empty) }
     {
-        let words = vec![in alloc; 0; PAGES]?;
+        let words = vec![in alloc; 0; PAGES as usize]?;
         let marks = vec![in alloc; false; 1024]?;
         Ok(WholeSet { words, marks })
     }
@@ -68,8 +66,8 @@ fn is_marked(marks: &[bool], index: usize) -> bool
 /// Clears the words of a directory index.
 fn clear_dir(words: &mut Vec<u64>, index: usize)
     requires index { index < 1024 }
-    requires all { length words.old.items ≡ 1048576 }
-    ensures all { length words.new.items ≡ 1048576 }
+    requires all { length words.old.items ≡ PAGES }
+    ensures all { length words.new.items ≡ PAGES }
     ensures clear { (page : ℕ) → page / 1024 ≡ index → slice_index words.new.items page ≡ 0 }
     ensures others { (page : ℕ) → page / 1024 ≢ index → slice_index words.new.items page ≡ slice_index words.old.items page }
 {
@@ -113,7 +111,7 @@ impl Cache for WholeSet {
     ghost is_exact = { λ _. true };
 
     fn find(&self, page: u32) -> Option<Entry> {
-        if (page as usize) < PAGES {
+        if page < PAGES {
             entry_in(page, self.words[page as usize])
         } else {
             None
@@ -126,7 +124,7 @@ impl Cache for WholeSet {
     }
 
     fn drop_page(&mut self, page: u32) {
-        if (page as usize) < PAGES {
+        if page < PAGES {
             self.words[page as usize] = 0;
         }
     }
