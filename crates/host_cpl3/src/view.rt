@@ -7,7 +7,7 @@ use ia32_exec::Selectors;
 use ia32_types::{DATA_ADDRESS, Seg, WINDOW_ADDRESS, WINDOW_END};
 
 /// What the code sees: page tables by the frame of their directory, and segment registers. In the kernel view CS is
-/// flat, and SS, DS and ES expand down to 0x11000000; in the user view all are flat. A null DS or ES denies every
+/// flat, and SS, DS and ES expand down to `DATA_ADDRESS`; in the user view all are flat. A null DS or ES denies every
 /// access.
 #[derive(Clone, Copy, PartialEq, Eq)]
 pub struct View {
@@ -55,7 +55,7 @@ pub fn is_entry(view: &View, at: u32) -> bool
     view.kernel && WINDOW_ADDRESS <= at && at < WINDOW_END
 }
 
-/// In the kernel view data segments begin at 0x11000000.
+/// In the kernel view data segments begin at `DATA_ADDRESS`.
 pub fn is_past_limit(view: &View, at: u32) -> bool
     ensures { result ≡ is_past_limit view.now at }
 {

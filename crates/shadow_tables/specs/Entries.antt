@@ -3,6 +3,7 @@ use Rattle.std.specs.Prelude.{◌≡◌, ℕ, zero, suc, Bool, List, Option, Som
 use Rattle.std.specs.FinMap.{FinMap, empty, insert}
 use Rattle.std.specs.Ordering.{nat_cmp}
 use Rattle.guest_ram.specs.Among.{is_among}
+use Rattle.ia32_types.specs.declared.addresses.TheConstants.{PAGES}
 use Rattle.paging.specs.declared.entry.Entry.{Entry}
 use Rattle.paging.specs.Uses.{with_entry}
 use Rattle.shadow_tables.specs.Slots.{Slot, Turns, entry_in, filled}
@@ -15,7 +16,7 @@ entries_below (suc n) f = with_entry (entries_below n f) n (entry_in (f n))
 
 -- and of all pages
 unfoldable pub entries_of : (ℕ → Option Slot) → FinMap nat_cmp Entry
-entries_of f = entries_below 1048576 f
+entries_of f = entries_below PAGES f
 
 -- Of what is kept only that of the entry's page changed, page by page and as a map. It is held on that side, barred from
 -- writes where its frame is one of these.

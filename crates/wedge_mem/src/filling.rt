@@ -173,7 +173,7 @@ pub fn fill_pages<S: Shadows>(
 ) -> u32
     requires stands { ∥ S.stands shadows.old ram.old ∥₁ }
     requires owns { Owns pool.old ram.old (S.frames shadows.old ram.old) }
-    requires within { AreWithin 1048576 (set_after S.Shadows shadows.old ram.old changes.now) }
+    requires within { AreWithin PAGES (set_after S.Shadows shadows.old ram.old changes.now) }
     requires pages { AreOfPages changes.now }
     requires free { length (used (set_after S.Shadows shadows.old ram.old changes.now) pages.now) ≤ length (free_list pool.old ram.old) }
     requires few { length pages.now ≤ 128 }

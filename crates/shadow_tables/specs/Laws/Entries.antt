@@ -5,6 +5,7 @@ use Rattle.std.proofs.lemmas.Bool.Decides.{eqb_tells}
 use Rattle.std.proofs.lemmas.Cmp.{nat_cmp_total}
 use Rattle.std.specs.FinMap.{empty, get, get-empty, get-retain_keys, same_map, nat_cmp-IsAntisymmetric}
 use Rattle.std.specs.Ordering.{nat_cmp}
+use Rattle.ia32_types.specs.declared.addresses.TheConstants.{PAGES}
 use Rattle.paging.specs.declared.entry.Entry.{Entry}
 use Rattle.paging.specs.Uses.{with_entry, without_dir}
 use Rattle.paging.proofs.WithEntry.{get_with_same, get_with_other}
@@ -29,11 +30,11 @@ get_in (suc n) f q h =
 
 pub get-entries_of : (f : ℕ → Option Slot) (q : ℕ) → q < 2 ^ 20 → get (entries_of f) q ≡ entry_in (f q)
 unfolding entries_of
-get-entries_of f q h = get_in 1048576 f q h
+get-entries_of f q h = get_in PAGES f q h
 
 pub none-entries_of : (f : ℕ → Option Slot) (q : ℕ) → 2 ^ 20 ≤ q → get (entries_of f) q ≡ None
 unfolding entries_of
-none-entries_of f q h = get_out 1048576 f q h
+none-entries_of f q h = get_out PAGES f q h
 
 turned_at : (f f' : ℕ → Option Slot) (page : ℕ) (o : Option Slot) → page < 2 ^ 20 → f' page ≡ o → ((q : ℕ) → q < 2 ^ 20 → (q ≡ page → ⊥) → f' q ≡ f q) → (q : ℕ) → get (entries_of f') q ≡ get (with_entry (entries_of f) page (entry_in o)) q
 turned_at f f' page o l t h q =
