@@ -6,8 +6,7 @@ ghost use Rattle.guest_ram.specs.Bytes.{part, with_part};
 ghost use Rattle.frame_pool.specs.Held.{Owns};
 ghost use Rattle.frame_pool.specs.Pool.{count_of, free_list};
 ghost use Rattle.shadow_cache.specs.Views as roots;
-ghost use Rattle.guest_sched.specs.Seating.{HasBrought, HasExchanged, HasMadeRoom, HasReleased};
-ghost use Rattle.guest_sched.specs.Seating.{KeepsMachines, MayMakeRoom, OneReleased, StaysApart};
+ghost use Rattle.guest_sched.specs.Seating.{HasBrought, HasExchanged, HasMadeRoom, HasReleased, KeepsMachines, MayMakeRoom, OneReleased, StaysApart};
 ghost use Rattle.guest_sched.specs.Stages.{stage};
 ghost use Rattle.guest_sched.specs.declared.tenants.Tenant.{Tenant};
 

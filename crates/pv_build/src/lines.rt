@@ -1,9 +1,7 @@
 //! The lines that are printed, and the numbers of the causes in them.
 
 ghost use Rattle.std.specs.Prelude.{◌≡◌, IfOk};
-ghost use Rattle.pv_build.specs.Lines.{sizes_line, place_line, line_line, small_line, object_place_line, object_name_line};
-ghost use Rattle.pv_build.specs.Lines.{object_line, link_line, work_line, same_line, differ_line, script_number, form_number};
-ghost use Rattle.pv_build.specs.Lines.{check_number};
+ghost use Rattle.pv_build.specs.Lines.{sizes_line, place_line, line_line, small_line, object_place_line, object_name_line, object_line, link_line, work_line, same_line, differ_line, script_number, form_number, check_number};
 
 use crate::halt::Line;
 use board::ScriptCause;

@@ -4,9 +4,7 @@ ghost use Rattle.std.specs.Prelude.{◌≡◌, ◌≢◌, ◌↔◌, ◌≤◌, 
 ghost use Rattle.pv_tool.specs.Words.{form_of};
 ghost use Rattle.pv_tool.specs.Outside.{outside, Untouched};
 ghost use Rattle.pv_tool.specs.Meaning.{is_on_host, reads_files};
-ghost use Rattle.pv_tool.specs.Top.{Meaning, KeepsOthers, CountsFaults, EndsAtFaults, LeavesFiles, RefusesWork, Headlines};
-ghost use Rattle.pv_tool.specs.Top.{RunsOnBare, RunsOnHost, Compared, WorkDone, WorkRefused, BurnsAll, LinksAll, ChecksAll};
-ghost use Rattle.pv_tool.specs.Top.{SharesAll, SavesAll, SavesAgain, ContinuesAll, Proves, ProvesAll, Judges, JudgesAll};
+ghost use Rattle.pv_tool.specs.Top.{Meaning, KeepsOthers, CountsFaults, EndsAtFaults, LeavesFiles, RefusesWork, Headlines, RunsOnBare, RunsOnHost, Compared, WorkDone, WorkRefused, BurnsAll, LinksAll, ChecksAll, SharesAll, SavesAll, SavesAgain, ContinuesAll, Proves, ProvesAll, Judges, JudgesAll};
 
 use crate::dispatch::do_command;
 use crate::words::form;

@@ -4,8 +4,7 @@ ghost use Rattle.std.specs.Prelude.{◌≡◌, ◌≢◌, ℕ, List, ◌+◌, �
 ghost use Rattle.frame_pool.specs.Pool.{free_list, Stands, Takes};
 ghost use Rattle.frame_pool.specs.declared.Pool.{Pool};
 ghost use Rattle.frame_pool.specs.Held.{Owns, Writes, Moves};
-ghost use Rattle.std.specs.FinMap.{get, insert, remove};
-ghost use Rattle.std.specs.FinMap.{empty as no_entries};
+ghost use Rattle.std.specs.FinMap.{get, insert, remove, empty as no_entries};
 ghost use Rattle.shadow_views.specs.Tables.{dir, owned, IsIn, IsView, Opens};
 ghost use Rattle.shadow_tables.specs.Entries.{entries_of};
 ghost use Rattle.paging.specs.Uses.{without_dir};
