@@ -1,150 +1,15 @@
 -- Walks that find an entry find it still where flags came on in their words.
-use Rattle.std.proofs.Common.{◌≡◌, ℕ, ◌+◌, ◌*◌, ◌/◌, ◌%◌, ◌^◌, ◌<◌, ◌≤◌, List, [], ◌∷◌, length, Bool, true, false, cond, ◌&&◌, ◌||◌, not, ◌==◌, refl, sym, ap, subst, ◌∙◌, ◌⊎◌, inl, inr, arith}
-use Rattle.std.specs.Prelude.{nat_le}
+use Rattle.std.proofs.Common.{◌≡◌, ℕ, ◌+◌, ◌*◌, ◌/◌, ◌%◌, ◌^◌, ◌<◌, ◌≤◌, List, [], ◌∷◌, length, Bool, true, false, ◌&&◌, ◌||◌, not, ◌==◌, refl, sym, ap, subst, ◌∙◌, inl, inr, arith}
 use Rattle.std.specs.List.{Contains}
-use Rattle.std.proofs.lemmas.Bool.{leb-false, lt-leb, not-false}
 use Rattle.guest_ram.specs.Bytes.{word32}
 use Rattle.paging.specs.declared.entry.Entry.{Entry}
-use Rattle.paging.specs.declared.entry.Walk.{Walk}
-use Rattle.paging.specs.declared.entry.Walk.TheVariants.{Absent, Beyond, Reserved, Found}
-use Rattle.paging.specs.Fresh.{has, dir_place, word_place, entry_of, is_large, has_reserved, large_frame, large_entry, by_word, by_large, by_table, by_dir, fresh, flagged, tables_read}
+use Rattle.paging.specs.declared.entry.Walk.TheVariants.{Found}
+use Rattle.paging.specs.Fresh.{has, word_place, entry_of, is_large, has_reserved, large_frame, large_entry, fresh, flagged, tables_read}
 use Rattle.paging.specs.Uses.{dirtied}
 use Rattle.machine_model.specs.Reloading.{HasMoreFlags, IsFoundBy, HoldsOf, FoundStays}
 use Rattle.machine_model.proofs.MoreFlags.{flagged_follows, flagged_dir, flagged_word, flagged_dirty}
 use Rattle.machine_model.proofs.Walked.{walks_are_noted}
-
--- ---- tests
-
-is_found : Walk → Bool
-is_found (Found entry dir_at word_at) = true
-is_found Absent = false
-is_found Beyond = false
-is_found Reserved = false
-
--- a test that ends the walk was not met
-second_found : (test : Bool) (a b : Walk) (e : Entry) (d t : ℕ) → is_found a ≡ false → cond test a b ≡ Found e d t → (test ≡ false) × (b ≡ Found e d t)
-unfolding is_found
-second_found true a b e d t n h = absurd (let g : true ≡ false = sym (ap is_found h) ∙ n in cc)
-second_found false a b e d t n h = (refl, h)
-
-chosen : (test : Bool) (x y : Walk) → test ≡ true → cond test x y ≡ x
-chosen test x y e = ap (λ t. cond t x y) e
-
-passed_by : (test : Bool) (x y : Walk) → test ≡ false → cond test x y ≡ y
-passed_by test x y e = ap (λ t. cond t x y) e
-
--- ---- the parts of a walk that finds an entry
-
--- the words of a walk
-abbrev dir_in : List ℕ → ℕ → ℕ → ℕ
-dir_in ram cr3 page = word32 ram (dir_place cr3 page)
-
-abbrev word_in : List ℕ → ℕ → ℕ → ℕ
-word_in ram cr3 page = word32 ram (word_place (dir_in ram cr3 page) page)
-
--- by a table
-record ByTable (ram : List ℕ) (frames cr3 : ℕ) (pse : Bool) (page : ℕ) (e : Entry) (d t : ℕ) : Type 0 where
-  root : cr3 / 4096 < frames
-  present : has (dir_in ram cr3 page) 1 ≡ true
-  small : is_large pse (dir_in ram cr3 page) ≡ false
-  table : dir_in ram cr3 page / 4096 < frames
-  word_present : has (word_in ram cr3 page) 1 ≡ true
-  within : word_in ram cr3 page / 4096 < frames
-  entry_is : entry_of page (dir_in ram cr3 page) (word_in ram cr3 page) ≡ e
-  dir_is : dir_place cr3 page ≡ d
-  word_is : word_place (dir_in ram cr3 page) page ≡ t
-
--- of a page of 4 MB
-record ByDirectory (ram : List ℕ) (frames cr3 : ℕ) (pse : Bool) (page : ℕ) (e : Entry) (d t : ℕ) : Type 0 where
-  root : cr3 / 4096 < frames
-  present : has (dir_in ram cr3 page) 1 ≡ true
-  large : is_large pse (dir_in ram cr3 page) ≡ true
-  clear : has_reserved (dir_in ram cr3 page) ≡ false
-  within : large_frame (dir_in ram cr3 page) page < frames
-  entry_is : large_entry page (dir_in ram cr3 page) ≡ e
-  dir_is : dir_place cr3 page ≡ d
-  word_is : dir_place cr3 page ≡ t
-
-abbrev IsWalk : List ℕ → ℕ → ℕ → Bool → ℕ → Entry → ℕ → ℕ → Type 0
-IsWalk ram frames cr3 pse page e d t = ByTable ram frames cr3 pse page e d t ⊎ ByDirectory ram frames cr3 pse page e d t
-
-walk_parts : (ram : List ℕ) (frames cr3 : ℕ) (pse : Bool) (page : ℕ) (e : Entry) (d t : ℕ) → fresh ram frames cr3 pse page ≡ Found e d t → IsWalk ram frames cr3 pse page e d t
-unfolding fresh is_found
-walk_parts ram frames cr3 pse page e d t h =
-    let dir = dir_in ram cr3 page in
-    let one = second_found (nat_le frames (cr3 / 4096)) Beyond (by_dir ram frames cr3 pse page dir) e d t refl h in
-    let two = second_found (not (has dir 1)) Absent (cond (is_large pse dir) (by_large frames cr3 page dir) (by_table ram frames cr3 page dir)) e d t refl one.1 in
-    by_size (leb-false frames (cr3 / 4096) one.0) (not-false (has dir 1) two.0) (is_large pse dir) refl two.1
-  where
-    of_table : cr3 / 4096 < frames → has (dir_in ram cr3 page) 1 ≡ true → is_large pse (dir_in ram cr3 page) ≡ false → by_table ram frames cr3 page (dir_in ram cr3 page) ≡ Found e d t → ByTable ram frames cr3 pse page e d t
-    of_table root present small g =
-        let dir = dir_in ram cr3 page in
-        let word = word_in ram cr3 page in
-        let three = second_found (nat_le frames (dir / 4096)) Beyond (by_word frames cr3 page dir word) e d t refl g in
-        let four = second_found (not (has word 1)) Absent (cond (nat_le frames (word / 4096)) Beyond (Found (entry_of page dir word) (dir_place cr3 page) (word_place dir page))) e d t refl three.1 in
-        let five = second_found (nat_le frames (word / 4096)) Beyond (Found (entry_of page dir word) (dir_place cr3 page) (word_place dir page)) e d t refl four.1 in
-        let is = five.1 in
-        record {
-          root = root;
-          present = present;
-          small = small;
-          table = leb-false frames (dir / 4096) three.0;
-          word_present = not-false (has word 1) four.0;
-          within = leb-false frames (word / 4096) five.0;
-          entry_is = cc;
-          dir_is = cc;
-          word_is = cc;
-        }
-
-    of_directory : cr3 / 4096 < frames → has (dir_in ram cr3 page) 1 ≡ true → is_large pse (dir_in ram cr3 page) ≡ true → by_large frames cr3 page (dir_in ram cr3 page) ≡ Found e d t → ByDirectory ram frames cr3 pse page e d t
-    of_directory root present large g =
-        let dir = dir_in ram cr3 page in
-        let three = second_found (has_reserved dir) Reserved (cond (nat_le frames (large_frame dir page)) Beyond (Found (large_entry page dir) (dir_place cr3 page) (dir_place cr3 page))) e d t refl g in
-        let four = second_found (nat_le frames (large_frame dir page)) Beyond (Found (large_entry page dir) (dir_place cr3 page) (dir_place cr3 page)) e d t refl three.1 in
-        let is = four.1 in
-        record {
-          root = root;
-          present = present;
-          large = large;
-          clear = three.0;
-          within = leb-false frames (large_frame dir page) four.0;
-          entry_is = cc;
-          dir_is = cc;
-          word_is = cc;
-        }
-
-    by_size : cr3 / 4096 < frames → has (dir_in ram cr3 page) 1 ≡ true → (large : Bool) → is_large pse (dir_in ram cr3 page) ≡ large
-        → cond large (by_large frames cr3 page (dir_in ram cr3 page)) (by_table ram frames cr3 page (dir_in ram cr3 page)) ≡ Found e d t → IsWalk ram frames cr3 pse page e d t
-    by_size root present true is g = inr (of_directory root present is g)
-    by_size root present false is g = inl (of_table root present is g)
-
-table_is : (ram : List ℕ) (frames cr3 : ℕ) (pse : Bool) (page : ℕ) (e : Entry) (d t : ℕ) → ByTable ram frames cr3 pse page e d t → fresh ram frames cr3 pse page ≡ Found e d t
-unfolding fresh
-table_is ram frames cr3 pse page e d t h =
-    let dir : ℕ = dir_in ram cr3 page in
-    let word : ℕ = word_in ram cr3 page in
-    passed_by (nat_le frames (cr3 / 4096)) Beyond _ (lt-leb frames (cr3 / 4096) h.root)
-    ∙ passed_by (not (has dir 1)) Absent _ (ap not h.present)
-    ∙ passed_by (is_large pse dir) (by_large frames cr3 page dir) _ h.small
-    ∙ passed_by (nat_le frames (dir / 4096)) Beyond _ (lt-leb frames (dir / 4096) h.table)
-    ∙ passed_by (not (has word 1)) Absent _ (ap not h.word_present)
-    ∙ passed_by (nat_le frames (word / 4096)) Beyond _ (lt-leb frames (word / 4096) h.within)
-    ∙ ap (λ x. Found x (dir_place cr3 page) (word_place dir page)) h.entry_is
-    ∙ ap (λ x. Found e x (word_place dir page)) h.dir_is
-    ∙ ap (λ x. Found e d x) h.word_is
-
-directory_is : (ram : List ℕ) (frames cr3 : ℕ) (pse : Bool) (page : ℕ) (e : Entry) (d t : ℕ) → ByDirectory ram frames cr3 pse page e d t → fresh ram frames cr3 pse page ≡ Found e d t
-unfolding fresh
-directory_is ram frames cr3 pse page e d t h =
-    let dir : ℕ = dir_in ram cr3 page in
-    passed_by (nat_le frames (cr3 / 4096)) Beyond _ (lt-leb frames (cr3 / 4096) h.root)
-    ∙ passed_by (not (has dir 1)) Absent _ (ap not h.present)
-    ∙ chosen (is_large pse dir) _ (by_table ram frames cr3 page dir) h.large
-    ∙ passed_by (has_reserved dir) Reserved _ h.clear
-    ∙ passed_by (nat_le frames (large_frame dir page)) Beyond _ (lt-leb frames (large_frame dir page) h.within)
-    ∙ ap (λ x. Found x (dir_place cr3 page) (dir_place cr3 page)) h.entry_is
-    ∙ ap (λ x. Found e x (dir_place cr3 page)) h.dir_is
-    ∙ ap (λ x. Found e d x) h.word_is
+use Rattle.machine_model.proofs.Walks.{IsByTable, IsLarge, IsWalk, ByTable, Large, dir_word, page_word, walk_parts, walk_is}
 
 -- ---- where the words lie
 
@@ -153,11 +18,11 @@ record AreEven (d t : ℕ) : Type 0 where
   word_even : t % 4 ≡ 0
 
 walk_even : (ram : List ℕ) (frames cr3 : ℕ) (pse : Bool) (page : ℕ) (e : Entry) (d t : ℕ) → IsWalk ram frames cr3 pse page e d t → AreEven d t
-walk_even ram frames cr3 pse page e d t (inl h) =
+walk_even ram frames cr3 pse page e d t (ByTable h) =
     let x = h.dir_is in
     let y = h.word_is in
     record { dir_even = omega (arith, x); word_even = omega (arith, y) }
-walk_even ram frames cr3 pse page e d t (inr h) =
+walk_even ram frames cr3 pse page e d t (Large h) =
     let x = h.dir_is in
     let y = h.word_is in
     record { dir_even = omega (arith, x); word_even = omega (arith, y) }
@@ -167,13 +32,13 @@ record AreWithin (frames d t : ℕ) : Type 0 where
   word_within : t + 4 ≤ 4096 * frames
 
 walk_within : (ram : List ℕ) (frames cr3 : ℕ) (pse : Bool) (page : ℕ) (e : Entry) (d t : ℕ) → page < 2 ^ 20 → IsWalk ram frames cr3 pse page e d t → AreWithin frames d t
-walk_within ram frames cr3 pse page e d t small (inl h) =
+walk_within ram frames cr3 pse page e d t small (ByTable h) =
     let x = h.dir_is in
     let y = h.word_is in
     let root = h.root in
     let table = h.table in
     record { dir_within = omega (arith, x, root, small); word_within = omega (arith, y, table) }
-walk_within ram frames cr3 pse page e d t small (inr h) =
+walk_within ram frames cr3 pse page e d t small (Large h) =
     let x = h.dir_is in
     let y = h.word_is in
     let root = h.root in
@@ -181,8 +46,8 @@ walk_within ram frames cr3 pse page e d t small (inr h) =
 
 -- the dirty flag of the entry is that of the second word
 dirty_of : (ram : List ℕ) (frames cr3 : ℕ) (pse : Bool) (page : ℕ) (e : Entry) (d t : ℕ) → IsWalk ram frames cr3 pse page e d t → e.dirty ≡ has (word32 ram t) 64
-dirty_of ram frames cr3 pse page e d t (inl h) = sym (ap (λ (x : Entry). x.dirty) h.entry_is) ∙ ap (λ n. has (word32 ram n) 64) h.word_is
-dirty_of ram frames cr3 pse page e d t (inr h) = sym (ap (λ (x : Entry). x.dirty) h.entry_is) ∙ ap (λ n. has (word32 ram n) 64) h.word_is
+dirty_of ram frames cr3 pse page e d t (ByTable h) = sym (ap (λ (x : Entry). x.dirty) h.entry_is) ∙ ap (λ n. has (word32 ram n) 64) h.word_is
+dirty_of ram frames cr3 pse page e d t (Large h) = sym (ap (λ (x : Entry). x.dirty) h.entry_is) ∙ ap (λ n. has (word32 ram n) 64) h.word_is
 
 -- ---- with more flags
 
@@ -223,19 +88,19 @@ directory_entry page w x h =
     ∙ ap (λ u. record { page = page; frame = large_frame w page; user = has w 4; write = u; dirty = has x 64 }) (has_2 w x h.low)
 
 table_still : (x y : List ℕ) (frames cr3 : ℕ) (pse : Bool) (page : ℕ) (e : Entry) (d t : ℕ) → HasMoreFlags (word32 x d) (word32 y d) → HasMoreFlags (word32 x t) (word32 y t)
-    → ByTable x frames cr3 pse page e d t → ByTable y frames cr3 pse page (record e { dirty = has (word32 y t) 64 }) d t
+    → IsByTable x frames cr3 pse page e d t → IsByTable y frames cr3 pse page (record e { dirty = has (word32 y t) 64 }) d t
 table_still x y frames cr3 pse page e d t at_dir at_word h =
-    let old : ℕ = dir_in x cr3 page in
-    let new : ℕ = dir_in y cr3 page in
+    let old : ℕ = dir_word x cr3 page in
+    let new : ℕ = dir_word y cr3 page in
     let dir : HasMoreFlags old new = subst (λ n. HasMoreFlags (word32 x n) (word32 y n)) (sym h.dir_is) at_dir in
     let place : word_place new page ≡ word_place old page = ap (λ n. n * 4096 + page % 1024 * 4) (same_frame old new dir.high) in
     let here : word_place new page ≡ t = place ∙ h.word_is in
-    let before : ℕ = word_in x cr3 page in
-    let after : ℕ = word_in y cr3 page in
+    let before : ℕ = page_word x cr3 page in
+    let after : ℕ = page_word y cr3 page in
     let is : after ≡ word32 y t = ap (word32 y) here in
     let word : HasMoreFlags before after = subst (λ n. HasMoreFlags n after) (ap (word32 x) (sym h.word_is)) (subst (HasMoreFlags (word32 x t)) (sym is) at_word) in
     let table = h.table in
-    let within = h.within in
+    let within = h.word_in in
     let dir_frame = same_frame old new dir.high in
     let word_frame = same_frame before after word.high in
     record {
@@ -244,26 +109,26 @@ table_still x y frames cr3 pse page e d t at_dir at_word h =
       small = same_size pse old new dir.high ∙ h.small;
       table = omega (arith, table, dir_frame);
       word_present = has_1 before after word.low ∙ h.word_present;
-      within = omega (arith, within, word_frame);
+      word_in = omega (arith, within, word_frame);
       entry_is = table_entry page old new before after dir word ∙ (ap (λ (z : Entry). record z { dirty = has after 64 }) h.entry_is ∙ ap (λ n. record e { dirty = has n 64 }) is);
       dir_is = h.dir_is;
       word_is = here;
     }
 
 directory_still : (x y : List ℕ) (frames cr3 : ℕ) (pse : Bool) (page : ℕ) (e : Entry) (d t : ℕ) → HasMoreFlags (word32 x d) (word32 y d)
-    → ByDirectory x frames cr3 pse page e d t → ByDirectory y frames cr3 pse page (record e { dirty = has (word32 y t) 64 }) d t
+    → IsLarge x frames cr3 pse page e d t → IsLarge y frames cr3 pse page (record e { dirty = has (word32 y t) 64 }) d t
 directory_still x y frames cr3 pse page e d t at_dir h =
-    let old : ℕ = dir_in x cr3 page in
-    let new : ℕ = dir_in y cr3 page in
+    let old : ℕ = dir_word x cr3 page in
+    let new : ℕ = dir_word y cr3 page in
     let dir : HasMoreFlags old new = subst (λ n. HasMoreFlags (word32 x n) (word32 y n)) (sym h.dir_is) at_dir in
     let frame = same_large old new page dir.high in
-    let within = h.within in
+    let within = h.frame_in in
     record {
       root = h.root;
       present = has_1 old new dir.low ∙ h.present;
       large = same_size pse old new dir.high ∙ h.large;
       clear = same_reserved old new dir.high ∙ h.clear;
-      within = omega (arith, within, frame);
+      frame_in = omega (arith, within, frame);
       entry_is = directory_entry page old new dir ∙ (ap (λ (z : Entry). record z { dirty = has new 64 }) h.entry_is ∙ ap (λ n. record e { dirty = has (word32 y n) 64 }) h.word_is);
       dir_is = h.dir_is;
       word_is = h.word_is;
@@ -271,8 +136,8 @@ directory_still x y frames cr3 pse page e d t at_dir h =
 
 walk_still : (x y : List ℕ) (frames cr3 : ℕ) (pse : Bool) (page : ℕ) (e : Entry) (d t : ℕ) → HasMoreFlags (word32 x d) (word32 y d) → HasMoreFlags (word32 x t) (word32 y t)
     → IsWalk x frames cr3 pse page e d t → fresh y frames cr3 pse page ≡ Found (record e { dirty = has (word32 y t) 64 }) d t
-walk_still x y frames cr3 pse page e d t dir word (inl h) = table_is y frames cr3 pse page (record e { dirty = has (word32 y t) 64 }) d t (table_still x y frames cr3 pse page e d t dir word h)
-walk_still x y frames cr3 pse page e d t dir word (inr h) = directory_is y frames cr3 pse page (record e { dirty = has (word32 y t) 64 }) d t (directory_still x y frames cr3 pse page e d t dir h)
+walk_still x y frames cr3 pse page e d t dir word (ByTable h) = walk_is y frames cr3 pse page (record e { dirty = has (word32 y t) 64 }) d t (ByTable (table_still x y frames cr3 pse page e d t dir word h))
+walk_still x y frames cr3 pse page e d t dir word (Large h) = walk_is y frames cr3 pse page (record e { dirty = has (word32 y t) 64 }) d t (Large (directory_still x y frames cr3 pse page e d t dir h))
 
 -- ---- entries that are found
 

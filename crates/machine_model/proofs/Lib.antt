@@ -26,6 +26,7 @@ pub mod UsingPlain
 pub mod UsingSteps
 pub mod HeldPages
 pub mod MoreFlags
+pub mod Walks
 pub mod FoundStill
 pub mod Following
 pub mod Tracking
