@@ -1,6 +1,6 @@
 //! Reading the instruction at EIP.
 
-ghost use Rattle.std.specs.Prelude.{◌≡◌, ◌+◌, ◌*◌, ◌-◌, ◌/◌, ◌%◌, ◌<◌, ◌≤◌, ◌^◌, ◌++◌, length, IfOk, OnOk, Ok, Err, MatchResult};
+ghost use Rattle.std.specs.Prelude.{◌≡◌, ◌+◌, ◌*◌, ◌-◌, ◌/◌, ◌%◌, ◌<◌, ◌≤◌, ◌^◌, length, IfOk, OnOk, Ok, Err, MatchResult};
 ghost use Rattle.host_cpl3.specs.Fetch.{fetching, fetched_on, fetched_by};
 ghost use Rattle.ia32_decode.specs.declared.answer.Decoded.TheVariants.{Short};
 ghost use Rattle.ia32_decode.specs.Spelled.{IsSpelled};
@@ -9,12 +9,9 @@ ghost use Rattle.host_cpl3.specs.Kept.{AreKept};
 use crate::exit::Exit;
 use crate::pages::page_met;
 use crate::walks::Walks;
-use arrayvec::ArrayVec;
 use guest_ram::Ram;
-use ia32_decode::{Decoded, LONGEST, decode};
+use ia32_decode::{Decoded, LONGEST, decode_joined};
 use ia32_types::LAST_PAGE;
-
-type Bytes = ArrayVec<u8, 32>;
 
 // Where the bytes of the first page are a proper prefix of a spelling, the second page is reached too.
 #[inline(never)]
@@ -86,10 +83,7 @@ fn fetch_on(
     ensures kept { AreKept walks.new ram.now root }
 {
     let more = fetching(walks, ram, root, eip / 4096 * 4096 + 4096, LONGEST)?;
-    let mut bytes: Bytes = ArrayVec::new();
-    append(front, &mut bytes);
-    append(more, &mut bytes);
-    Ok(decode(bytes.as_slice()))
+    Ok(decode_joined(front, more))
 }
 
 /// Bytes of one page.
@@ -113,13 +107,4 @@ pub fn fetching<'a>(
     let _len = ram.len();
     let frame = page_met(walks, ram, root, true, false, at)?;
     Ok(ram.part(4096 * frame + at % 4096, len))
-}
-
-fn append(from: &[u8], to: &mut Bytes)
-    requires { length to.old.items + length from.now ≤ 32 }
-    ensures { to.new.items ≡ to.old.items ++ from.now }
-{
-    for byte in from {
-        to.push(*byte);
-    }
 }

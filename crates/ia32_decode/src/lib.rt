@@ -2,6 +2,7 @@
 #![tactic(auto)]
 
 mod answer;
+mod bytes;
 mod fields;
 mod form;
 mod front;
@@ -11,6 +12,7 @@ mod named;
 mod numbers;
 
 pub use answer::{Decoded, decode};
+pub use bytes::{Bytes, append, decode_joined};
 pub use front::{LONGEST, front_len};
 pub use laws::{answers, reads_back};
 pub use named::refused;

@@ -16,15 +16,12 @@ ghost use Rattle.machine_step.specs.Fetches.{GivesAs};
 
 use arrayvec::ArrayVec;
 use guest_ram::Ram;
-use ia32_decode::{Decoded, LONGEST, decode, front_len};
+use ia32_decode::{Bytes, Decoded, LONGEST, append, decode, decode_joined, front_len};
 use ia32_types::{LAST_PAGE, Stop};
 use machine_model::works_use;
 use paging::Touch;
 use step_mem::{Kept, StepState, own_back, own_front};
 use sys_exec::Refusal;
-
-/// The bytes of an instruction, as far as they were read.
-pub type Bytes = ArrayVec<u8, 32>;
 
 /// The instruction at a linear address. Where the bytes of the first page are a proper prefix of a spelling, the
 /// second page is reached too.
@@ -179,17 +176,6 @@ fn decode_pieces(front: &[u8], back: &[u8]) -> Decoded
     decode_joined(front, back)
 }
 
-fn decode_joined(front: &[u8], back: &[u8]) -> Decoded
-    requires few { length front.now + length back.now ≤ 11 }
-    ensures exact { result ≡ decoded (front.now ++ back.now) }
-    ensures spelled { IsSpelled result }
-{
-    let mut bytes: Bytes = ArrayVec::new();
-    append(front, &mut bytes);
-    append(back, &mut bytes);
-    decode(bytes.as_slice())
-}
-
 // Puts the bytes of a page, from an address on, behind others.
 fn read_page<B: Kept>(ram: &Ram, kept: &B, state: &StepState, at: u32, len: u32, to: &mut Bytes)
     requires sound { IsSoundOver B.Kept kept.now ram.now state.now }
@@ -202,15 +188,4 @@ fn read_page<B: Kept>(ram: &Ram, kept: &B, state: &StepState, at: u32, len: u32,
     let found = step_mem::bytes(ram, kept, state, at, len);
     append(found.text, to);
     append(found.ram, to);
-}
-
-/// Puts these bytes behind those that were read.
-pub fn append(from: &[u8], to: &mut Bytes)
-    requires { length to.old.items + length from.now ≤ 32 }
-    ensures { to.new.items ≡ to.old.items ++ from.now }
-{
-    match to.try_extend_from_slice(from) {
-        Ok(()) => {}
-        Err(_) => unreachable!(),
-    }
 }

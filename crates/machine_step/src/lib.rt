@@ -13,7 +13,7 @@ mod stepping;
 mod worked;
 
 pub use delivery::refuse;
-pub use fetch::{Bytes, append, fetch as fetch_at};
+pub use fetch::fetch as fetch_at;
 pub use instruction::carry_out;
 pub use laws::plain_divides;
 pub use resting::{is_resting, quiet_steps};

@@ -1,0 +1,34 @@
+//! The bytes of an instruction, as they are read from one page or two.
+
+ghost use Rattle.std.specs.Prelude.{◌≡◌, ◌+◌, ◌≤◌, ◌++◌, length};
+ghost use Rattle.ia32_decode.specs.Decoding.{decoded};
+ghost use Rattle.ia32_decode.specs.Spelled.{IsSpelled};
+
+use crate::answer::{Decoded, decode};
+use arrayvec::ArrayVec;
+
+/// The bytes of an instruction, as far as they were read.
+pub type Bytes = ArrayVec<u8, 32>;
+
+/// Puts these bytes behind those that were read.
+pub fn append(from: &[u8], to: &mut Bytes)
+    requires { length to.old.items + length from.now ≤ 32 }
+    ensures { to.new.items ≡ to.old.items ++ from.now }
+{
+    match to.try_extend_from_slice(from) {
+        Ok(()) => {}
+        Err(_) => unreachable!(),
+    }
+}
+
+/// What bytes begin with that lie in two pieces.
+pub fn decode_joined(front: &[u8], back: &[u8]) -> Decoded
+    requires few { length front.now + length back.now ≤ 32 }
+    ensures exact { result ≡ decoded (front.now ++ back.now) }
+    ensures spelled { IsSpelled result }
+{
+    let mut bytes: Bytes = ArrayVec::new();
+    append(front, &mut bytes);
+    append(back, &mut bytes);
+    decode(bytes.as_slice())
+}
