@@ -1,6 +1,6 @@
 //! What a monitor keeps from the guest.
 
-ghost use Rattle.std.specs.Prelude.{◌≡◌, ◌+◌, ◌&&◌, nat_le, nat_lt};
+ghost use Rattle.std.specs.Prelude.{◌≡◌, ◌+◌, ◌-◌, ◌==◌, ◌&&◌, nat_le, nat_lt};
 ghost use Rattle.paging.specs.Uses.{is_text, is_own, is_given, is_barred, window_stop};
 ghost use Rattle.step_mem.specs.Guard.{mode_of};
 
@@ -40,7 +40,7 @@ pub fn is_text(guard: &Guard, frame: u32) -> bool
 {
     match guard.text {
         None => false,
-        Some(text) => frame >= text.first && frame - text.first < text.count,
+        Some(text) => lies_in(frame, text.first, text.count),
     }
 }
 
@@ -57,10 +57,18 @@ pub fn is_own(guard: &Guard, at: u32) -> bool
     }
 }
 
-fn lies_in(at: u32, start: u32, len: u32) -> bool
+/// The number is one of so many from `start` on.
+pub fn lies_in(at: u32, start: u32, len: u32) -> bool
     ensures { result ≡ nat_le start at && nat_lt at (start + len) }
 {
     at >= start && at - start < len
+}
+
+/// The frame is the one that the loader gave this page of the text window, of so many from the frame `first` on.
+pub fn is_loaded(first: u32, count: u32, page: u32, frame: u32) -> bool
+    ensures { result ≡ nat_le TEXT_PAGE page && nat_lt page (TEXT_PAGE + count) && frame == first + (page - TEXT_PAGE) }
+{
+    lies_in(page, TEXT_PAGE, count) && frame >= first && frame - first == page - TEXT_PAGE
 }
 
 /// The page of the text window to which the loader gave this frame.
@@ -69,12 +77,7 @@ fn is_given(guard: &Guard, page: u32, frame: u32) -> bool
 {
     match guard.text {
         None => true,
-        Some(text) => {
-            page >= TEXT_PAGE
-                && page - TEXT_PAGE < text.count
-                && frame >= text.first
-                && frame - text.first == page - TEXT_PAGE
-        }
+        Some(text) => is_loaded(text.first, text.count, page, frame),
     }
 }
 

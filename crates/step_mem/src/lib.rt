@@ -16,7 +16,7 @@ mod walking;
 
 pub use access::{bytes, load, load_earlier, save};
 pub use changes::{Change, Changes, last_change};
-pub use guard::{Guard, Own, Text};
+pub use guard::{Guard, Own, Text, is_loaded, lies_in};
 pub use kept::Kept;
 pub use laws::{fetches_in_order, ranges_in_order};
 pub use own::{own_back, own_front};

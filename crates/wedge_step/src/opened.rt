@@ -19,27 +19,24 @@ ghost use Rattle.wedge_step.specs.Opened.{is_entry_open};
 ghost use Rattle.wedge_step.specs.Standing.{is_kernel};
 
 use guest_ram::Ram;
-use ia32_types::{DATA_PAGE, TEXT_FRAME, TEXT_PAGE};
+use ia32_types::{DATA_PAGE, TEXT_FRAME};
 use paging::Entry;
 use shadow_tables::{Shadows, Side};
-use step_mem::StepState;
+use step_mem::{StepState, is_loaded, lies_in};
 use wedge_mem::entry_of;
 
 /// The frame is one of so many that hold text.
 pub(crate) fn is_text(count: u32, frame: u32) -> bool
     ensures { result ≡ is_text (rules_over count) frame }
 {
-    frame >= TEXT_FRAME && frame - TEXT_FRAME < count
+    lies_in(frame, TEXT_FRAME, count)
 }
 
 /// The frame is the one that the loader gave this page of the text window, of so many.
 pub(crate) fn is_given(count: u32, page: u32, frame: u32) -> bool
     ensures { result ≡ is_given (rules_over count) page frame }
 {
-    page >= TEXT_PAGE
-        && page - TEXT_PAGE < count
-        && frame >= TEXT_FRAME
-        && frame - TEXT_FRAME == page - TEXT_PAGE
+    is_loaded(TEXT_FRAME, count, page, frame)
 }
 
 /// The view of this side may show the page, where so many frames hold text.
