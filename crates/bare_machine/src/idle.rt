@@ -13,7 +13,7 @@ ghost use Rattle.bare_machine.specs.Settings.{bare};
 use crate::machine::Bare;
 use board::Script;
 use machine_model::halted_steps_rest;
-use machine_step::{is_resting, quiet_steps};
+use machine_step::resting_steps;
 use xlate_buffer::Cache;
 
 /// Passes the steps in which a halted processor has nothing to do and nothing can come to the board, up to the bound,
@@ -34,11 +34,11 @@ pub fn rest<C: Cache>(machine: &mut Bare<C>, script: &Script, n: u64)
     ensures later { machine.old.step ≤ machine.new.step }
     ensures within { machine.new.step ≤ n }
 {
-    if !is_resting(&machine.cpu, &machine.board) {
-        return;
+    let most = n - machine.step;
+    let k = resting_steps(&machine.cpu, &machine.board, script, machine.step, most);
+    if k > 0 {
+        halted_steps_rest();
+        machine.board.advance(k);
+        machine.step += k;
     }
-    halted_steps_rest();
-    let k = quiet_steps(&machine.board, script, machine.step, n - machine.step);
-    machine.board.advance(k);
-    machine.step += k;
 }

@@ -16,7 +16,7 @@ pub use delivery::refuse;
 pub use fetch::fetch as fetch_at;
 pub use instruction::carry_out;
 pub use laws::plain_divides;
-pub use resting::{is_resting, quiet_steps};
+pub use resting::resting_steps;
 pub use rules::Rules;
 pub use stepping::{
     NO_BYTES, begin, begin_again, first_state, interrupt, step, step_again, step_in,

@@ -10,7 +10,7 @@ use board::{Board, Script};
 use descriptors::Cpu;
 
 /// The processor is halted, and no interrupt that is pending can end that.
-pub fn is_resting(cpu: &Cpu, board: &Board) -> bool
+fn is_resting(cpu: &Cpu, board: &Board) -> bool
     ensures rests { result ≡ true → (cpu.now.halted ≡ true) × (cpu.now.held ≡ false) × (interrupt_of cpu.now board.now ≡ None) }
     ensures awake { cpu.now.halted ≡ true → cpu.now.held ≡ false → interrupt_of cpu.now board.now ≡ None → result ≡ true }
 {
@@ -24,7 +24,7 @@ pub fn is_resting(cpu: &Cpu, board: &Board) -> bool
 }
 
 /// How many steps, up to a number, pass before an edge or an event can come. The events of the step before were given.
-pub fn quiet_steps(board: &Board, script: &Script, step: u64, most: u64) -> u64
+fn quiet_steps(board: &Board, script: &Script, step: u64, most: u64) -> u64
     requires script { is_script script.now.list ≡ true }
     requires begun { 0 < step }
     ensures most { result ≤ most }
@@ -36,4 +36,22 @@ pub fn quiet_steps(board: &Board, script: &Script, step: u64, most: u64) -> u64
         None => most,
         Some(next) => most.min(next.saturating_sub(1)),
     }
+}
+
+/// How many steps, up to a number, a halted processor waits: until an edge or an event can come. One that isn't halted, or that an
+/// interrupt wakes, waits for none. The events of the step before were given.
+pub fn resting_steps(cpu: &Cpu, board: &Board, script: &Script, step: u64, most: u64) -> u64
+    requires script { is_script script.now.list ≡ true }
+    requires begun { 0 < step }
+    ensures most { result ≤ most }
+    ensures rests { 0 < result → (cpu.now.halted ≡ true) × (cpu.now.held ≡ false) × (interrupt_of cpu.now board.now ≡ None) }
+    ensures quiet { 0 < result → comes_within board.now script.now.list (step - 1) result ≡ false }
+    // Fewer than that number only where something comes in the next step.
+    ensures furthest { cpu.now.halted ≡ true → cpu.now.held ≡ false → interrupt_of cpu.now board.now ≡ None → result < most
+        → comes_within board.now script.now.list (step - 1) (result + 1) ≡ true }
+{
+    if !is_resting(cpu, board) {
+        return 0;
+    }
+    quiet_steps(board, script, step, most)
 }

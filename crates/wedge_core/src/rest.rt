@@ -11,7 +11,7 @@ ghost use Rattle.wedge_core.specs.Stepping.{Passes};
 ghost use Rattle.wedge_step.specs.Standing.{state_of};
 
 use board::Script;
-use machine_step::{is_resting, quiet_steps};
+use machine_step::resting_steps;
 use shadow_tables::Shadows;
 use wedge_step::Running;
 
@@ -33,10 +33,10 @@ pub fn rest<S: Shadows + Drop>(running: &mut Running<S>, script: &Script, bound:
     ensures later { running.old.step ≤ running.new.step }
     ensures within { running.new.step ≤ bound }
 {
-    if !is_resting(&running.cpu, &running.board) {
-        return;
+    let most = bound - running.step;
+    let k = resting_steps(&running.cpu, &running.board, script, running.step, most);
+    if k > 0 {
+        running.board.advance(k);
+        running.step += k;
     }
-    let k = quiet_steps(&running.board, script, running.step, bound - running.step);
-    running.board.advance(k);
-    running.step += k;
 }
