@@ -7,7 +7,6 @@ use Rattle.ia32_types.specs.declared.stop.Stop as stops
 use Rattle.run_trace.specs.declared.pause.Pause.{Pause}
 use Rattle.run_trace.specs.declared.pause.Pause.TheVariants.{Reached, Stopped}
 use Rattle.run_trace.specs.declared.items.End.TheVariants as ends
-use Rattle.run_trace.specs.Pauses.{IfReached}
 use Rattle.run_trace.specs.Text.{lines_of, end_line}
 use Rattle.machine_model.specs.State.{Setting, State}
 use Rattle.machine_model.specs.Run.{Run, trace_of, with_set}
@@ -19,11 +18,6 @@ use Rattle.checkpoint.specs.Moved.{kept_of}
 use Rattle.checkpoint.specs.Rested.{RestsTo}
 use Rattle.checkpoint.specs.RestAnswers.{RestsWith}
 use Rattle.checkpoint.proofs.Resting.{FailsIn, fails_in_lines, fails_at_end}
-
--- what holds where a slice has done its steps
-pub reached_so : (pause : Pause) (P : Type 0) → IfReached (Ok pause) P → pause ≡ Reached → P
-reached_so Reached P h e = h
-reached_so (Stopped stop) P h e = absurd (cc)
 
 pub bare_rests : (s : Setting) (exact : Bool) (n : ℕ) (old new : State) (a b : Option (List ℕ)) (before now : ℕ) (pause : Pause) → pause ≡ Reached
     → SliceAs s exact n old new a b (Ok pause) → before ≤ now → IsInForm (kept_of new) → length new.ram ≡ 4096 * s.frames

@@ -1,10 +1,11 @@
 use Rattle.std.proofs.Common.{◌≡◌, ℕ, ◌+◌, ◌-◌, Ok, Err, refl, subst, ◌∙◌, arith}
 use Rattle.run_trace.specs.declared.pause.Pause.{Pause}
+use Rattle.run_trace.proofs.Pauses.{reached_so}
 use Rattle.bare_machine.specs.Machine.{state_of}
 use Rattle.bare_machine.specs.Settings.{bare}
 use Rattle.bare_machine.specs.Slices.{SliceAs}
 use Rattle.checkpoint.specs.InForm.{IsInForm}
-use Rattle.checkpoint.proofs.BareRests.{reached_so, bare_rests, bare_stops, bare_unput, bare_fails}
+use Rattle.checkpoint.proofs.BareRests.{bare_rests, bare_stops, bare_unput, bare_fails}
 use Rattle.checkpoint.proofs.bare_rest.rest_bare.Goals as goal
 
 pub returns-in-Err : goal.returns-in-Err

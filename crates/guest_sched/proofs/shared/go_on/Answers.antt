@@ -1,12 +1,12 @@
 use Rattle.std.proofs.Common.{◌≡◌, ◌*◌, ◌≤◌, ℕ, List, Some, Ok, true, false, is_none, refl, sym, subst}
 use Rattle.frame_pool.specs.declared.Pool.{Pool}
 use Rattle.pv_io.specs.Sink.{Appends}
-use Rattle.run_trace.specs.Pauses.{IfReached}
 use Rattle.run_trace.specs.Text.{end_line}
 use Rattle.run_trace.specs.declared.items.End.{End}
 use Rattle.run_trace.specs.declared.items.End.TheVariants as end
 use Rattle.run_trace.specs.declared.pause.Pause.{Pause}
 use Rattle.run_trace.specs.declared.pause.Pause.TheVariants.{Reached, Stopped}
+use Rattle.run_trace.proofs.Pauses.{reached_so}
 use Rattle.wedge_step.specs.Scene.{scene}
 use Rattle.wedge_core.specs.Calls.{GuestLeaves}
 use Rattle.wedge_core.specs.OfRoots.{of_roots}
@@ -18,11 +18,6 @@ use Rattle.guest_sched.specs.declared.kernel.Kernel.{Kernel}
 use Rattle.guest_sched.specs.declared.tenants.Tenant.{Tenant}
 use Rattle.guest_sched.proofs.Failing.{on_err, failed_in_steps, failed_at_stop}
 use Rattle.guest_sched.proofs.shared.go_on.Goals as goal
-
--- what holds where all steps were done
-reached_so : (paused : Pause) (P : Type 0) → IfReached (Ok paused) P → paused ≡ Reached → P
-reached_so Reached P h e = h
-reached_so (Stopped stop) P h e = absurd (cc)
 
 -- behind the steps of a turn the kernel holds its frames, and may go on where it met no stop
 gone_on : (kernel : Kernel) (bound : ℕ) (p p' : Pool) (host host' : List ℕ) (old new : Tenant) (paused : Pause)
