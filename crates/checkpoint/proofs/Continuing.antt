@@ -4,6 +4,7 @@ use Rattle.std.proofs.lemmas.List.{append-nil}
 use Rattle.pv_io.specs.declared.answer.Failed.{Failed}
 use Rattle.pv_io.specs.Causes.{Rose}
 use Rattle.pv_io.specs.Sink.{Appends, AppendsFront}
+use Rattle.pv_io.proofs.Pieces.{appends_both, front_of, appends_none}
 use Rattle.run_trace.specs.declared.pause.Pause.{Pause}
 use Rattle.run_trace.specs.declared.items.End.{End}
 use Rattle.run_trace.specs.Text.{lines_of, end_line, text_of}
@@ -12,10 +13,10 @@ use Rattle.machine_model.specs.State.{Setting, State}
 use Rattle.machine_model.specs.Run.{EndsIn, trace_of}
 use Rattle.machine_model.proofs.Ending.{each_ends}
 use Rattle.machine_model.proofs.Texts.{text_join}
+use Rattle.machine_model.proofs.Runs.{steps_join}
 use Rattle.bare_machine.specs.Answers.{RunsTo}
 use Rattle.wedge_core.specs.Promises.{HasMemory, with_patches}
 use Rattle.wedge_core.specs.Slices.{Filling, Noting, Outward, SliceAs}
-use Rattle.wedge_core.proofs.RunPieces.{run_join, put_both, put_front, put_none}
 use Rattle.wedge_core.proofs.WholeRuns.{text_is, ends_by, count_by, memory_by}
 use Rattle.checkpoint.specs.Continued.{PromiseFrom}
 
@@ -37,7 +38,7 @@ module _ {m : Setting} {n : ℕ} {old new : State} {out : Outward} {filling : Fi
       counts = h.counts;
       memory_is = subst (λ (e : End). HasMemory m h.last e memory) (sym end_is) (memory_by m n h.last new h.end pause memory has h.ends);
     },
-    put_both out.told out.tells c _ _ h.text put,
+    appends_both out.told out.tells c _ _ h.text put,
     omega (arith, le, more),
   )
 
@@ -58,7 +59,7 @@ module _ {m : Setting} {n : ℕ} {old new : State} {out : Outward} {filling : Fi
       count_is = steps_is ∙ count_by m n h.last new h.end pause h.ends;
       text_is = text_is h.reports steps end;
     },
-    put_front out.told out.tells c (lines_of (trace_of h.reports)) (end_line steps end) [] _ h.text put
+    front_of out.told out.tells c (lines_of (trace_of h.reports)) (end_line steps end) [] _ h.text put
         (ap (λ (l : List ℕ). lines_of (trace_of h.reports) ++ l) (sym (append-nil (end_line steps end)))),
     omega (arith, le, rose),
   )
@@ -75,11 +76,11 @@ module _ {m : Setting} {n : ℕ} {old new : State} {out : Outward} {filling : Fi
           sets = h.sets ++ e.sets;
           reports = h.reports ++ e.reports;
           last = e.last;
-          run = record { steps = run_join m old h.last e.last h.sets e.sets h.reports e.reports h.steps e.run.steps; ends = e.run.ends };
+          run = record { steps = steps_join m old h.last e.last h.sets e.sets h.reports e.reports h.steps e.run.steps; ends = e.run.ends };
           count_is = refl;
           text_is = refl;
         },
-        put_front out.told out.told out.tells [] (lines_of (trace_of h.reports)) (lines_of (trace_of e.reports) ++ end_line e.last.step e.end) _ (put_none out.told) h.text
+        front_of out.told out.told out.tells [] (lines_of (trace_of h.reports)) (lines_of (trace_of e.reports) ++ end_line e.last.step e.end) _ (appends_none out.told) h.text
             (text_join h.reports e.reports e.last.step e.end),
         rose,
       )

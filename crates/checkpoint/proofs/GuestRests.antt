@@ -2,6 +2,7 @@
 use Rattle.std.proofs.Common.{◌≡◌, ℕ, ◌*◌, ◌≤◌, List, ◌++◌, Option, Result, Ok, Err, length, refl, sym, ap, subst, ◌∙◌}
 use Rattle.pv_io.specs.declared.answer.Failed.{Failed}
 use Rattle.pv_io.specs.Sink.{Appends, AppendsFront}
+use Rattle.pv_io.proofs.Pieces.{appends_both}
 use Rattle.ia32_types.specs.declared.stop.Stop as stops
 use Rattle.run_trace.specs.declared.pause.Pause.{Pause}
 use Rattle.run_trace.specs.declared.pause.Pause.TheVariants.{Reached, Stopped}
@@ -13,7 +14,6 @@ use Rattle.machine_model.specs.StaysFit.{RunsKeepFit}
 use Rattle.machine_model.specs.Run.{Run, trace_of}
 use Rattle.machine_model.proofs.Texts.{text_is}
 use Rattle.wedge_core.specs.Slices.{Filling, Noting, Outward, SliceAs}
-use Rattle.wedge_core.proofs.RunPieces.{put_both}
 use Rattle.wedge_core.proofs.WholeRuns.{ends_by, count_by}
 use Rattle.checkpoint.specs.InForm.{IsInForm}
 use Rattle.checkpoint.specs.Moved.{kept_of}
@@ -71,7 +71,7 @@ module _ {m : Setting} {n : ℕ} {old new : State} {out : Outward} {filling : Fi
           counted = h.counts;
         },
         same,
-        put_both out.told out.tells c _ _ h.text put,
+        appends_both out.told out.tells c _ _ h.text put,
       )
 
   pub guest_unput : (c : Option (List ℕ)) (stop : stops.Stop) (steps : ℕ) → steps ≡ new.step

@@ -2,6 +2,7 @@
 use Rattle.std.proofs.Common.{◌≡◌, ℕ, ◌≤◌, List, [], ◌++◌, Option, Result, Ok, Err, inl, inr, refl, sym, ap, ◌∙◌}
 use Rattle.std.proofs.lemmas.List.{append-nil}
 use Rattle.pv_io.specs.Sink.{Appends, AppendsFront}
+use Rattle.pv_io.proofs.Pieces.{front_of, appends_none}
 use Rattle.ia32_types.specs.declared.stop.Stop as stops
 use Rattle.image_load.specs.Boot.{need}
 use Rattle.image_load.specs.declared.fault.RunFault.{RunFault}
@@ -13,8 +14,8 @@ use Rattle.machine_model.specs.State.{Setting, State, boot}
 use Rattle.machine_model.specs.Step.{Report}
 use Rattle.machine_model.specs.Run.{Set, Steps, Run, trace_of}
 use Rattle.machine_model.proofs.Ending.{each_ends}
-use Rattle.machine_model.proofs.Texts.{text_behind, text_is}
-use Rattle.wedge_core.proofs.RunPieces.{run_join, seen_join, lines_both, put_front, put_none}
+use Rattle.machine_model.proofs.Texts.{text_behind, text_is, lines_join}
+use Rattle.machine_model.proofs.Runs.{steps_join, trace_join}
 use Rattle.checkpoint.specs.declared.rested.Rested.{Rested}
 use Rattle.checkpoint.specs.declared.rested.Rested.TheVariants.{At, Stopped}
 use Rattle.checkpoint.specs.Rested.{rested_text, RestsTo}
@@ -23,7 +24,7 @@ use Rattle.checkpoint.specs.RestAnswers.{RestsAs, RestsFromStart}
 -- what a run puts that goes on: the lines so far, and then what is put from there
 rested_join : (reports later : List Report) (count : ℕ) (end : End)
     → rested_text (trace_of (reports ++ later)) count end ≡ lines_of (trace_of reports) ++ rested_text (trace_of later) count end
-rested_join reports later count ends.Bound = ap lines_of (seen_join reports later) ∙ lines_both (trace_of reports) (trace_of later)
+rested_join reports later count ends.Bound = ap lines_of (trace_join reports later) ∙ lines_join (trace_of reports) (trace_of later)
 rested_join reports later count (ends.Stopped stop) = text_behind reports later count (ends.Stopped stop)
 
 abbrev pub FailsIn : Setting → ℕ → State → Option (List ℕ) → Option (List ℕ) → Type 0
@@ -40,11 +41,11 @@ fails_in_lines m n old mid sets reports a b steps within front =
       record {
         sets = sets ++ e.sets;
         reports = reports ++ e.reports;
-        run = record { steps = run_join m old mid e.last sets e.sets reports e.reports steps e.run.steps; ends = e.run.ends };
+        run = record { steps = steps_join m old mid e.last sets e.sets reports e.reports steps e.run.steps; ends = e.run.ends };
         text_is = refl;
         counted = tt;
       },
-      put_front a a b [] (lines_of (trace_of reports)) (rested_text (trace_of e.reports) e.last.step e.end) _ (put_none a) front
+      front_of a a b [] (lines_of (trace_of reports)) (rested_text (trace_of e.reports) e.last.step e.end) _ (appends_none a) front
           (rested_join reports e.reports e.last.step e.end),
     )
 
@@ -57,7 +58,7 @@ fails_at_end m n old last sets reports stop steps a b c run is put front = (
   ends.Stopped stop,
   text_of (trace_of reports) last.step (ends.Stopped stop),
   record { sets = sets; reports = reports; run = run; text_is = refl; counted = tt },
-  put_front a b c (lines_of (trace_of reports)) (end_line steps (ends.Stopped stop)) [] _ put front
+  front_of a b c (lines_of (trace_of reports)) (end_line steps (ends.Stopped stop)) [] _ put front
       (sym (text_is reports last.step (ends.Stopped stop))
       ∙ ap (λ (l : List ℕ). lines_of (trace_of reports) ++ l)
       (ap (λ (k : ℕ). end_line k (ends.Stopped stop)) (sym is) ∙ sym (append-nil (end_line steps (ends.Stopped stop))))),

@@ -5,15 +5,13 @@ use Rattle.std.proofs.lemmas.List.{append-nil}
 use Rattle.board.specs.Scripts.{Events}
 use Rattle.image_check.specs.Image.{Image}
 use Rattle.paging.specs.Space.{Mode}
-use Rattle.run_trace.specs.declared.items.End.{End}
-use Rattle.run_trace.specs.Text.{lines_of, text_of, end_line}
+use Rattle.run_trace.specs.Text.{lines_of}
 use Rattle.machine_model.specs.State as model
 use Rattle.machine_model.specs.State.{Setting, boot}
 use Rattle.machine_model.specs.Step.{Report}
 use Rattle.machine_model.specs.Run.{Set, Steps, Run, trace_of}
+use Rattle.machine_model.proofs.Texts.{reported, text_behind}
 use Rattle.bare_machine.specs.Settings.{bare}
-use Rattle.wedge_core.proofs.RunPieces.{seen_join, lines_both}
-use Rattle.wedge_core.proofs.WholeRuns.{text_is}
 use Rattle.checkpoint.specs.declared.state.State.{State}
 use Rattle.checkpoint.specs.declared.state.CheckpointCause.{CheckpointCause}
 use Rattle.checkpoint.specs.States.{checkpoint_bytes, checkpoint_in}
@@ -32,6 +30,7 @@ use Rattle.pv_tool.specs.declared.mode.RunMode.{RunMode}
 use Rattle.pv_tool.specs.declared.mode.RunMode.TheVariants as mode
 use Rattle.pv_tool.proofs.SameFiles.{same_file}
 use Rattle.pv_tool.proofs.Works.{reads_both, ended_ran}
+use Rattle.pv_tool.proofs.RestDone.{stopped_so}
 
 -- the rules of a machine over the same image, events and frames
 by_rules : (on : RunMode) (program : Image) (events : Events) (frames : ℕ) → in_mode (bare program events frames) (rules_of on program events frames) ≡ setting_on on program events frames
@@ -62,9 +61,6 @@ frames_on : (on : RunMode) (program : Image) (events : Events) (frames : ℕ) �
 frames_on mode.Bare program events frames = refl
 frames_on mode.Wedge program events frames = refl
 
-not_done : (st : Status) → st ≡ status.Stopped → st ≡ status.Done → ⊥
-not_done st h k = cc
-
 -- a command that has saved a state is a leg
 leg_of : (program : Image) (events : Events) (frames : ℕ) (on : RunMode) (n : ℕ) (old : model.State) (name : List ℕ) (move : Move) (s : State)
     → SavesRun on (setting_on on program events frames) n old name move.work → Leaves move s → LegOf program events frames on old move.work.first s
@@ -79,7 +75,7 @@ leg_of program events frames on n old name move s (Rested h) leaves =
       state_is = same_state (kept_of h.last) s same h.back leaves.read;
       size = h.size ∙ ap (λ (f : ℕ). 4096 * f) (frames_on on program events frames);
     }
-leg_of program events frames on n old name move s (Stopped h) leaves = absurd (not_done move.work.status (ap (λ (v : Outcome). v.status) h.comes) leaves.done)
+leg_of program events frames on n old name move s (Stopped h) leaves = absurd (stopped_so move.work.status (ap (λ (v : Outcome). v.status) h.comes) leaves.done)
 
 done_ended : (st : Status) → st ≡ status.Done → HasEnded st
 done_ended st is = subst HasEnded (sym is) tt
@@ -149,16 +145,6 @@ reports_more : (legs : List Leg) (leg : Leg) → reports_of (legs ++ leg ∷ [])
 reports_more [] leg = append-nil leg.reports
 reports_more (l ∷ legs) leg = ap (λ (r : List Report). l.reports ++ r) (reports_more legs leg) ∙ sym (append_assoc l.reports (reports_of legs) leg.reports)
 
-lines_join : (reports later : List Report) → lines_of (trace_of (reports ++ later)) ≡ lines_of (trace_of reports) ++ lines_of (trace_of later)
-lines_join reports later = ap lines_of (seen_join reports later) ∙ lines_both (trace_of reports) (trace_of later)
-
-text_join : (reports later : List Report) (count : ℕ) (end : End) → text_of (trace_of (reports ++ later)) count end ≡ lines_of (trace_of reports) ++ text_of (trace_of later) count end
-text_join reports later count end =
-    sym (text_is (reports ++ later) count end)
-    ∙ (ap (λ (l : List ℕ). l ++ end_line count end) (lines_join reports later)
-    ∙ (append_assoc (lines_of (trace_of reports)) (lines_of (trace_of later)) (end_line count end)
-    ∙ ap (λ (l : List ℕ). lines_of (trace_of reports) ++ l) (text_is later count end)))
-
 abbrev rules : Image → Events → ℕ → Move → Mode
 rules program events frames move = rules_of move.on program events frames
 
@@ -187,7 +173,7 @@ one_more program events frames moves lines s move t h leg =
       lines_are =
           ap (λ (x : List ℕ). x ++ move.work.first) h.lines_are
           ∙ (ap (λ (x : List ℕ). lines_of (trace_of (reports_of h.legs)) ++ x) leg.lines_are
-          ∙ (sym (lines_join (reports_of h.legs) leg.reports) ∙ ap (λ (r : List Report). lines_of (trace_of r)) (sym (reports_more h.legs l))));
+          ∙ (sym (reported (reports_of h.legs) leg.reports) ∙ ap (λ (r : List Report). lines_of (trace_of r)) (sym (reports_more h.legs l))));
       state_is = leg.state_is;
       size = leg.size;
     }
@@ -248,7 +234,7 @@ at_last law parts program events frames moves lines t move h last =
       text =
           ap (λ (x : List ℕ). x ++ move.work.text) h.lines_are
           ∙ (ap (λ (x : List ℕ). lines_of (trace_of (reports_of h.legs)) ++ x) (ap (λ (v : Outcome). v.text) goes.comes)
-          ∙ sym (text_join (reports_of h.legs) goes.reports goes.last.step goes.end));
+          ∙ sym (text_behind (reports_of h.legs) goes.reports goes.last.step goes.end));
       status_is = ap (λ (v : Outcome). v.status) goes.comes;
     }
 

@@ -101,7 +101,7 @@ IsStop (Ok (rest.At state)) = Unit {0}
 IsStop (Ok (rest.Stopped ended)) = status_of ended.end ≡ status.Done → ⊥
 IsStop (Err why) = Unit {0}
 
-stopped_so : (st : Status) → st ≡ status.Stopped → st ≡ status.Done → ⊥
+pub stopped_so : (st : Status) → st ≡ status.Stopped → st ≡ status.Done → ⊥
 stopped_so st a b = cc
 
 pub rests_stop : (m : Setting) (n : ℕ) (first : model.State) (counts : List Report → Type 0) (old new : Option (List ℕ)) (before now : ℕ) (r : Result Rested RunFault) → RestsAs m n first counts old new before now r → IsStop r

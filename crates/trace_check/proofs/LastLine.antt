@@ -8,7 +8,7 @@ use Rattle.run_trace.specs.Text.{end_line}
 use Rattle.std.specs.List.{take_while, prefix_len}
 use Rattle.std.specs.Char.{is_ascii_digit}
 use Rattle.std.proofs.lemmas.List.{drop_all, length-drop, drop_more}
-use Rattle.std.proofs.lemmas.Bool.{lt-ltb, le-ltb, lt-leb, le-leb, eqb-true}
+use Rattle.std.proofs.lemmas.Bool.{lt-ltb, le-ltb, lt-leb, le-leb}
 use Rattle.std.proofs.lemmas.List.Sums.{sum_by-cons}
 use Rattle.board.specs.Texts.{decimal_after}
 use Rattle.trace_check.specs.Lines.{lines, begun_by, last_of, before_last, steps_told, stop_told, monitor_stops}
@@ -127,10 +127,6 @@ nothing false = refl
 pub none_empty : (n : ℕ) → stop_told n (last_of (lines [])) ≡ None
 unfolding stop_told lines end_line
 none_empty n = nothing (nat_le 0 n)
-
-pub empty_of : (text : List ℕ) → (length text == 0) ≡ true → text ≡ []
-empty_of [] e = refl
-empty_of (b ∷ text) e = absurd (omega (arith, eqb-true (length (b ∷ text)) 0 e))
 
 pub some_of : (text : List ℕ) → (length text == 0) ≡ false → 0 < length text
 some_of [] e = absurd cc

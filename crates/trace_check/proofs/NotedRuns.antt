@@ -7,6 +7,7 @@ use Rattle.board.specs.Scripts.{Events}
 use Rattle.image_check.specs.Image.{Image}
 use Rattle.image_load.specs.Boot.{need}
 use Rattle.pv_io.specs.Sink.{Appends}
+use Rattle.pv_io.proofs.Pieces.{appends_both}
 use Rattle.run_trace.specs.declared.pause.Pause.{Pause}
 use Rattle.run_trace.specs.declared.pause.Pause.TheVariants.{Reached, Stopped}
 use Rattle.run_trace.specs.Notes.{Note}
@@ -20,7 +21,6 @@ use Rattle.wedge_core.specs.Surroundings.{Around}
 use Rattle.wedge_core.specs.Counts.{Counts}
 use Rattle.wedge_core.specs.Promises.{with_patches}
 use Rattle.wedge_core.specs.Slices.{PausesAs}
-use Rattle.wedge_core.proofs.RunPieces.{put_both}
 use Rattle.wedge_core.proofs.SlicedBy.{SliceAs}
 use Rattle.wedge_core.proofs.WholeRuns.{text_is, ends_by, count_by, memory_by, has_fills}
 use Rattle.trace_check.specs.Kept.{Kept, AreKept, choices_of}
@@ -138,6 +138,6 @@ noted_put image script frames n old new counts counts_after a b c pages fills fi
       },
       fits,
       has_fills m n old new counts counts_after a b pages fills filled true (NotesOn true (AreKept kept) (AreKept kept_after)) begins pause first none few h,
-      put_both a b c _ _ h.text put,
+      appends_both a b c _ _ h.text put,
       omega (arith, le, more),
     )

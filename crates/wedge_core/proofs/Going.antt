@@ -39,7 +39,7 @@ use Rattle.wedge_step.specs.declared.running.Lost.{Lost}
 use Rattle.wedge_step.proofs.Parts.{part_left, part_same, part_allowed, part_loosened}
 use Rattle.wedge_core.proofs.Joined.{steps_join, no_steps, steps_one, trace_join, counts_join, counts_none}
 use Rattle.wedge_step.proofs.Filling.{part_few}
-use Rattle.wedge_core.proofs.Texts.{appends_both, appends_none, front_of}
+use Rattle.pv_io.proofs.Pieces.{appends_both, appends_none, front_of}
 use Rattle.wedge_core.proofs.EmptiedNotes.{SoFar, TriedNotes, none_yet, try_next, go_next, so_far_later, told_more, told_none, told_before, up_to_later, tried_none, none_dropped, dropped_once, are_pages, steps_until}
 use Rattle.wedge_core.proofs.Passed.{CarriesPast, some_more, step_taken, taken_first}
 use Rattle.wedge_core.proofs.ToldSteps.{ToldBy, told_nothing, told_one, told_join, told_on, left_behind, are_told}
@@ -372,7 +372,8 @@ pub stepped_front : (m : Setting) (old now new : State) (seen : Seen) (a b : Cou
     → AppendsFront tells last (lines_of (items_at now.step (whats seen))) → AppendsFront told last (lines_of (trace_of s.reports))
 stepped_front m old now new seen a b told tells last pages fills filled wanted notes_on begins carried s put =
     let is : lines_of (trace_of s.reports) ≡ lines_of s.front ++ lines_of (items_at now.step (whats seen)) = ap lines_of s.trace ∙ lines_join s.front (items_at now.step (whats seen)) in
-    subst (λ (l : List ℕ). AppendsFront told last l) (sym is) (front_of told tells last (lines_of s.front) (lines_of (items_at now.step (whats seen))) s.text put)
+    subst (λ (l : List ℕ). AppendsFront told last l) (sym is) (front_of told tells last (lines_of s.front) (lines_of (items_at now.step (whats seen))) [] (lines_of s.front ++ lines_of (items_at now.step (whats seen))) s.text put
+        (ap (λ (l : List ℕ). lines_of s.front ++ l) (sym (append-nil (lines_of (items_at now.step (whats seen)))))))
 
 -- ---- where the slice ends
 

@@ -6,11 +6,9 @@ pub mod Patches
 pub mod Resting
 pub mod Staying
 pub mod Counting
-pub mod RunPieces
 pub mod WholeRuns
 pub mod Booted
 pub mod Released
-pub mod Texts
 pub mod Joined
 pub mod SlicedBy
 pub mod RanBy

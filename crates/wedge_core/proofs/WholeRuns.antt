@@ -9,6 +9,7 @@ use Rattle.frame_pool.specs.declared.Pool.{Pool}
 use Rattle.pv_io.specs.declared.answer.Failed.{Failed}
 use Rattle.pv_io.specs.Causes.{Rose}
 use Rattle.pv_io.specs.Sink.{Appends, AppendsFront}
+use Rattle.pv_io.proofs.Pieces.{appends_both, front_of, appends_none}
 use Rattle.sites.specs.Patched.{patched}
 use Rattle.board.specs.Scripts.{Events}
 use Rattle.image_check.specs.Image.{Image}
@@ -28,6 +29,7 @@ use Rattle.machine_model.specs.Keeping.{Roomy, Kept, IsLeftBehind}
 use Rattle.machine_model.specs.Joined.{KeptBefore}
 use Rattle.machine_model.proofs.Ending.{each_ends}
 use Rattle.machine_model.proofs.Texts.{text_join}
+use Rattle.machine_model.proofs.Runs.{steps_join}
 use Rattle.native_steps.specs.Mirrors.{IsHost, shown}
 use Rattle.wedge_core.specs.Promises.{HasMemory, Promise, HasFills, HasOwnFills, IsEnd, with_patches}
 use Rattle.wedge_core.specs.Guests.{HasGuest}
@@ -39,7 +41,6 @@ use Rattle.wedge_step.specs.Standing.{IsHeld, ground, state_of}
 use Rattle.wedge_step.specs.Filled.{FillsOn}
 use Rattle.wedge_step.specs.declared.running.Running.{Running}
 use Rattle.wedge_step.proofs.Memories.{text_within, part_front}
-use Rattle.wedge_core.proofs.RunPieces.{run_join, put_both, put_front, put_none}
 pub use Rattle.machine_model.proofs.Texts.{text_is}
 
 -- the host's first frames are the guest's memory with the text patched
@@ -168,7 +169,7 @@ whole_put law image script frames n pool old new counts counts_after a b c pages
   promised law (wedge image script frames) n pool old new counts counts_after a b pages fills filled wanted notes_on begins pause memory is from has h,
   fits,
   has_own (wedge image script frames) n pool old new counts counts_after a b pages fills filled wanted notes_on begins pause is from first none few h,
-  put_both a b c _ _ h.text put,
+  appends_both a b c _ _ h.text put,
   omega (arith, le, more),
   guest_by (wedge image script frames) n h.last new h.end pause filled memory h.ends stands,
 )
@@ -185,7 +186,7 @@ whole_unput law image script frames n pool old new counts counts_after a b c pag
       end_of pause,
       fits,
       given_by (wedge image script frames) n 0 text new.step (end_of pause) counts counts_after memory (promised law (wedge image script frames) n 0 old new counts counts_after a b pages fills filled wanted notes_on begins pause memory is (λ none. absurd (omega (arith, none))) has h),
-      put_front a b c (lines_of (trace_of h.reports)) (end_line new.step (end_of pause)) [] _ h.text put (ap (λ (l : List ℕ). lines_of (trace_of h.reports) ++ l) (sym (append-nil (end_line new.step (end_of pause))))),
+      front_of a b c (lines_of (trace_of h.reports)) (end_line new.step (end_of pause)) [] _ h.text put (ap (λ (l : List ℕ). lines_of (trace_of h.reports) ++ l) (sym (append-nil (end_line new.step (end_of pause))))),
       omega (arith, le, rose),
     )
 
@@ -205,12 +206,12 @@ whole_front image script frames n pool old new counts counts_after a b pages fil
         reports = h.reports ++ e.reports;
         last = e.last;
         run = record {
-          steps = subst (λ (s : State). Steps m s (h.sets ++ e.sets) (h.reports ++ e.reports) e.last) is (run_join m old h.last e.last h.sets e.sets h.reports e.reports h.steps e.run.steps);
+          steps = subst (λ (s : State). Steps m s (h.sets ++ e.sets) (h.reports ++ e.reports) e.last) is (steps_join m old h.last e.last h.sets e.sets h.reports e.reports h.steps e.run.steps);
           ends = e.run.ends;
         };
         count_is = refl;
         text_is = refl;
       },
-      put_front a a b [] (lines_of (trace_of h.reports)) (lines_of (trace_of e.reports) ++ end_line e.last.step e.end) _ (put_none a) h.text (text_join h.reports e.reports e.last.step e.end),
+      front_of a a b [] (lines_of (trace_of h.reports)) (lines_of (trace_of e.reports) ++ end_line e.last.step e.end) _ (appends_none a) h.text (text_join h.reports e.reports e.last.step e.end),
       rose,
     )

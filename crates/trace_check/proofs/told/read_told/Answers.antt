@@ -1,13 +1,14 @@
-use Rattle.std.proofs.Common.{◌≡◌, ◌≤◌, ℕ, List, drop, Option, Some, None, sym, ap, subst, ◌∙◌, arith}
+use Rattle.std.proofs.Common.{◌≡◌, ◌≤◌, ℕ, List, length, drop, Option, Some, None, sym, ap, subst, ◌∙◌, arith}
 use Rattle.std.specs.Prelude.{find}
 use Rattle.std.specs.Str.{bytes_eq}
-use Rattle.std.proofs.lemmas.List.{take_rest}
+use Rattle.std.proofs.lemmas.Bool.{eqb-true}
+use Rattle.std.proofs.lemmas.List.{take_rest, nil_from_length}
 use Rattle.ia32_types.specs.declared.stop.Stop.{Stop}
 use Rattle.run_trace.specs.declared.items.End.TheVariants.{Stopped}
 use Rattle.run_trace.specs.Text.{end_line}
 use Rattle.trace_check.specs.Lines.{lines, last_of, number_of, steps_told, stop_told, monitor_stops}
 use Rattle.trace_check.specs.Tells.{IsNumber}
-use Rattle.trace_check.proofs.LastLine.{none_by, stop_by, none_empty, empty_of}
+use Rattle.trace_check.proofs.LastLine.{none_by, stop_by, none_empty}
 use Rattle.trace_check.proofs.told.read_told.Goals as goal
 
 -- the number that was read is that of the last line
@@ -16,7 +17,7 @@ number_is text rest line r s is last same h =
     subst (IsNumber (steps_told (last_of (lines text)))) same (subst (λ (l : List ℕ). IsNumber (number_of l) r) (is ∙ ap (drop 10) last) h)
 
 pub returns-then-is_empty : goal.returns-then-is_empty
-returns-then-is_empty c = ap (λ (t : List ℕ). stop_told c.args.n (last_of (lines t))) (empty_of c.args.text.now (sym c.is_empty.ensures ∙ c.if-is_empty.true)) ∙ none_empty c.args.n
+returns-then-is_empty c = ap (λ (t : List ℕ). stop_told c.args.n (last_of (lines t))) (nil_from_length c.args.text.now (eqb-true (length c.args.text.now) 0 (sym c.is_empty.ensures ∙ c.if-is_empty.true))) ∙ none_empty c.args.n
 
 pub returns-in-None : goal.returns-in-None
 returns-in-None c =

@@ -1,7 +1,6 @@
-use Rattle.std.proofs.Common.{◌≡◌, ◌++◌, ℕ, List, [], ◌∷◌, length, take, refl, ap, sym, ◌∙◌, arith}
-use Rattle.std.specs.Prelude.{◌==◌, true}
+use Rattle.std.proofs.Common.{◌++◌, ℕ, List, length, take, ap, sym, ◌∙◌}
 use Rattle.std.proofs.lemmas.Bool.{eqb-true}
-use Rattle.std.proofs.lemmas.List.{append_assoc}
+use Rattle.std.proofs.lemmas.List.{append_assoc, nil_from_length}
 use Rattle.std.proofs.lemmas.Result.{err_from_is_err_and}
 use Rattle.guest_sched.specs.Tags.{line_len}
 use Rattle.guest_sched.proofs.Takes.{all_in, fails_in, goes_on}
@@ -17,10 +16,6 @@ returns-in_err-len-clause-failed g c =
     c.args.self.now.since.taken c.put_line.new.self.since.taken c.args.self.now.since.text c.loop-rest.self.since.text c.put_line.new.self.since.text done.0 c.args.bytes.now c.loop-rest.rest.now (line_len c.loop-rest.rest.now)
     (line.same_sink ∙ c.loop-rest.invariant.sink) (line.tag ∙ c.loop-rest.invariant.tag) (line.since.1 ∙ c.loop-rest.invariant.faults) (line.since.0 ∙ c.loop-rest.invariant.was)
     done.2 line.text done.1)
-
-none_left : (rest : List ℕ) → (length rest == 0) ≡ true → rest ≡ []
-none_left [] none = refl
-none_left (x ∷ rest) none = absurd (let l = eqb-true (length (x ∷ rest)) 0 none in omega (arith, l))
 
 pub loop-rest-preserved : goal.loop-rest-preserved
 loop-rest-preserved g c =
@@ -47,4 +42,4 @@ returns-clause-ok g c =
     let self = c.loop-rest.self in
     let old = c.args.self.now in
     all_in old.out.ghost_name self.out.ghost_name old.tag self.tag old.since.faults self.since.faults old.since.taken self.since.taken old.since.text self.since.text i.text.0 c.args.bytes.now c.loop-rest.rest.now
-    i.sink i.tag i.faults i.was i.text.2 i.text.1 (none_left c.loop-rest.rest.now (sym c.is_empty.ensures ∙ c.loop-rest-test.false))
+    i.sink i.tag i.faults i.was i.text.2 i.text.1 (nil_from_length c.loop-rest.rest.now (eqb-true (length c.loop-rest.rest.now) 0 (sym c.is_empty.ensures ∙ c.loop-rest-test.false)))
