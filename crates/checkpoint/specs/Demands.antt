@@ -1,15 +1,11 @@
 -- What numbers in a file are to meet, and the first field that is bad.
-use Rattle.std.specs.Prelude.{ℕ, ◌+◌, min, Bool, not, ◌&&◌, ◌==◌, nat_le, List, [], ◌∷◌, Option, Some, None, if◌then◌else◌}
+use Rattle.std.specs.Prelude.{ℕ, ◌+◌, Bool, not, ◌&&◌, ◌==◌, nat_le, List, [], ◌∷◌, Option, Some, None, if◌then◌else◌}
+use Rattle.board.specs.Scripts.{earlier}
 use Rattle.checkpoint.specs.declared.demand.Demand.{Demand}
 
 -- where it speaks, it is the field's that is bad
 abbrev pub bad_in : ℕ → Demand → Option ℕ
 bad_in there d = if nat_le d.end there && not d.met then Some d.at else None
-
-abbrev pub earlier : Option ℕ → Option ℕ → Option ℕ
-earlier None b = b
-earlier (Some a) None = Some a
-earlier (Some a) (Some b) = Some (min a b)
 
 -- the first field that is bad in a file of which so many bytes are there
 unfoldable pub first_bad : ℕ → List Demand → Option ℕ

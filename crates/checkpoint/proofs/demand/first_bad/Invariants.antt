@@ -1,5 +1,6 @@
 use Rattle.std.proofs.Common.{◌≡◌, drop}
-use Rattle.checkpoint.specs.Demands.{earlier, first_bad}
+use Rattle.board.specs.Scripts.{earlier}
+use Rattle.checkpoint.specs.Demands.{first_bad}
 use Rattle.checkpoint.proofs.demand.first_bad.Given as goal
 
 abbrev pub invariant-loop-demand : goal.invariant-loop-demand
