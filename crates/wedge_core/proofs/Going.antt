@@ -373,7 +373,7 @@ pub stepped_front : (m : Setting) (old now new : State) (seen : Seen) (a b : Cou
 stepped_front m old now new seen a b told tells last pages fills filled wanted notes_on begins carried s put =
     let is : lines_of (trace_of s.reports) ≡ lines_of s.front ++ lines_of (items_at now.step (whats seen)) = ap lines_of s.trace ∙ lines_join s.front (items_at now.step (whats seen)) in
     subst (λ (l : List ℕ). AppendsFront told last l) (sym is) (front_of told tells last (lines_of s.front) (lines_of (items_at now.step (whats seen))) [] (lines_of s.front ++ lines_of (items_at now.step (whats seen))) s.text put
-        (ap (λ (l : List ℕ). lines_of s.front ++ l) (sym (append-nil (lines_of (items_at now.step (whats seen)))))))
+    (ap (λ (l : List ℕ). lines_of s.front ++ l) (sym (append-nil (lines_of (items_at now.step (whats seen)))))))
 
 -- ---- where the slice ends
 
