@@ -7,9 +7,8 @@ use Rattle.machine_model.specs.Step.{after_software}
 use Rattle.machine_step.specs.Worked.{ComesTo, answer_of, completed_of, done_by}
 use Rattle.machine_step.proofs.Used.{if_ok, if_ok_on, entered_uses, denied_uses}
 use Rattle.std.specs.Prelude.{Bool, ◌==◌}
-use Rattle.machine_step.specs.Roots.{RootsAs, EndsWith}
+use Rattle.machine_step.specs.Roots.{RootsAs, EndsWith, KeepsRoots}
 use Rattle.sys_exec.specs.Operand.{past}
-use Rattle.machine_step.specs.Roots.{KeepsRoots}
 use Rattle.machine_step.proofs.Rooted.{if_ok_as, ends_on, kept_roots, entered_keeps}
 use Rattle.machine_step.proofs.delivery.enter.Goals as goal
 

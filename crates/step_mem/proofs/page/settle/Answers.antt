@@ -1,4 +1,4 @@
-use Rattle.std.proofs.Common.{◌≡◌, take, ◌++◌, ap, ◌∙◌, ◌*◌, subst, sym, false, Option, Some, IfSome, IsSome}
+use Rattle.std.proofs.Common.{◌≡◌, take, ◌++◌, ap, ◌∙◌, ◌*◌, subst, sym, false, Option, Some, IfSome, IsSome, List, true}
 use Rattle.std.proofs.lemmas.List.{take-append-le}
 use Rattle.std.specs.FinMap.{get}
 use Rattle.guest_ram.specs.Among.{is_among}
@@ -7,7 +7,6 @@ use Rattle.paging.specs.Fresh.{tables_read}
 use Rattle.paging.specs.Uses.{with_entry, settled, is_barred}
 use Rattle.step_mem.specs.Guard.{mode_of}
 use Rattle.std.specs.Prelude.{map}
-use Rattle.std.proofs.Common.{List, true}
 use Rattle.step_mem.specs.declared.changes.Change.{Change}
 use Rattle.step_mem.specs.Changes.{changed, AreWithin, page_of, entry_of}
 use Rattle.step_mem.specs.Space.{space_of, with_tables}

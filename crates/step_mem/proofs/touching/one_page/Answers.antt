@@ -1,7 +1,6 @@
 use Rattle.std.specs.Prelude.{take}
-use Rattle.step_mem.specs.Changes.{changed}
+use Rattle.step_mem.specs.Changes.{changed, AreToldIn}
 use Rattle.std.proofs.Common.{rules, arith, ap, length, length-append, ℕ, List, ◌∷◌, [], sym, subst}
-use Rattle.step_mem.specs.Changes.{AreToldIn}
 use Rattle.step_mem.proofs.Changed.{told_more}
 use Rattle.step_mem.proofs.touching.one_page.Goals as goal
 
