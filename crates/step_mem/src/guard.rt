@@ -58,6 +58,7 @@ pub fn is_own(guard: &Guard, at: u32) -> bool
 }
 
 /// The number is one of so many from `start` on.
+#[inline(always)]
 pub fn lies_in(at: u32, start: u32, len: u32) -> bool
     ensures { result ≡ nat_le start at && nat_lt at (start + len) }
 {
@@ -65,6 +66,7 @@ pub fn lies_in(at: u32, start: u32, len: u32) -> bool
 }
 
 /// The frame is the one that the loader gave this page of the text window, of so many from the frame `first` on.
+#[inline(always)]
 pub fn is_loaded(first: u32, count: u32, page: u32, frame: u32) -> bool
     ensures { result ≡ nat_le TEXT_PAGE page && nat_lt page (TEXT_PAGE + count) && frame == first + (page - TEXT_PAGE) }
 {
