@@ -18,7 +18,8 @@ struct Spelling {
     insn: Insn,
 }
 
-// How GNU objdump shows the bytes, which is for the reader; the bytes; name, size, destination, source, immediate, selector or condition, and whether it repeats.
+// How GNU objdump shows the bytes, which is for the reader; the bytes; name, size, destination, source,
+// immediate, selector or condition, and whether it repeats.
 macro_rules! spelling {
     (@ (-)) => { ia32_types::Operand::Absent };
     (@ (reg $number:literal)) => { ia32_types::Operand::Register($number) };

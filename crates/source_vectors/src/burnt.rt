@@ -58,13 +58,15 @@ addb $256,%al => line 1 23
 .bss~.byte 1 => line 2 26
 .bss; .ascii \"\" => line 1 26
 -- names reach as far as directives say
-.comm a,4; .local b; .comm b,4; .lcomm c,4; .globl c; .global d; .local d; e: call f-1; .data; d: .long e, f; g: => symbols b bss 4;e text 0;g data 8;a bss 0 global;c bss 8 global;d data 0 global;f none 0 global; relocs text 1 6 relative;data 0 1;data 4 6;
+.comm a,4; .local b; .comm b,4; .lcomm c,4; .globl c; .global d; .local d; e: call f-1; .data; d: .long e, f; g: => symbols \
+    b bss 4;e text 0;g data 8;a bss 0 global;c bss 8 global;d data 0 global;f none 0 global; relocs text 1 6 relative;data 0 1;data 4 6;
 -- symbols stand in the order in which they are seen
 movl $a+4,b-8 => symbols a none 0 global;b none 0 global; relocs text 2 1;text 6 0;
 -- the first worked source
 _start:~movl $0x3f8,%edx~movb $0x48,%al~outb %al,%dx~hlt => sites 50 56 53 31 02 00 00 00 07 00 00 00 14 01 05 00 0c 00 00 00 04 01 05 00
 -- a relocation by a name stands over the number beside it
-_start: pushl $2; pushl $2; pushl $2; pushl $2; pushl $bad+1; ret; bad: movl $0x9d9d9d9d,%eax => text 6a 02 6a 02 6a 02 6a 02 68 01 00 00 00 c3 90 90 90 90 b8 9d 9d 9d 9d sites 1
+_start: pushl $2; pushl $2; pushl $2; pushl $2; pushl $bad+1; ret; bad: movl $0x9d9d9d9d,%eax => text \
+    6a 02 6a 02 6a 02 6a 02 68 01 00 00 00 c3 90 90 90 90 b8 9d 9d 9d 9d sites 1
 ";
 
 /// What is made of the source of GCC.

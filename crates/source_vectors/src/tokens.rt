@@ -8,7 +8,8 @@ use std::process::Abort;
 
 /// A text, and its tokens: the kind, and a mark's character, the place and the number of bytes.
 const LEXED: &str = "\
-a:\t.long 'b, \"c;\" # d~-0x8F,a/* ~ */; => Name 0 1;Mark : 1 1;Name 3 5;Number 9 2;Mark , 11 1;Text 13 4;End 21 1;Mark - 22 1;Number 23 4;Mark , 27 1;Name 28 1;End 36 1;
+a:\t.long 'b, \"c;\" # d~-0x8F,a/* ~ */; => Name 0 1;Mark : 1 1;Name 3 5;Number 9 2;Mark , 11 1;Text 13 4;End 21 1;\
+    Mark - 22 1;Number 23 4;Mark , 27 1;Name 28 1;End 36 1;
 movl $1,%eex~ => Name 0 4;Mark $ 5 1;Number 6 1;Mark , 7 1;Mark % 8 1;Name 9 3;End 12 1;
 ";
 
