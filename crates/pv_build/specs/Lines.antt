@@ -6,6 +6,7 @@ use Rattle.elf_form.specs.declared.cause.ElfCause.{ElfCause}
 use Rattle.elf_form.specs.declared.cause.ElfCause.TheVariants as elf
 use Rattle.elf_link.specs.declared.fault.LinkCause.{LinkCause}
 use Rattle.elf_link.specs.declared.fault.LinkCause.TheVariants as link
+use Rattle.elf_link.specs.Numbers.{number}
 use Rattle.image_check.specs.declared.fault.CheckCause.{CheckCause}
 use Rattle.image_check.specs.declared.fault.CheckCause.TheVariants as check
 use Rattle.image_check.specs.Refusals.{Refusal, Form, Wrong}
@@ -83,15 +84,15 @@ object_name_line number object name = codes "refused " ++ (decimal number ++ (co
 abbrev pub object_line : ℕ → ℕ → List ℕ
 object_line number object = codes "refused " ++ (decimal number ++ (codes " object " ++ (decimal object ++ codes "\n")))
 
--- a refusal of objects that are not linked
+-- a refusal of an object that is not linked, with the number of its cause
+abbrev pub cause_line : ℕ → ℕ → LinkCause → List ℕ
+cause_line number object (link.NoSymbol name) = object_name_line number object name
+cause_line number object (link.Doubled name) = object_name_line number object name
+cause_line number object (link.NotText at) = object_place_line number object at
+cause_line number object _ = object_line number object
+
 abbrev pub link_line : ℕ → LinkCause → List ℕ
-link_line object (link.NoSymbol name) = object_name_line 30 object name
-link_line object (link.Doubled name) = object_name_line 31 object name
-link_line object (link.NotText at) = object_place_line 32 object at
-link_line object link.TextTooLarge = object_line 33 object
-link_line object link.InitTooLarge = object_line 34 object
-link_line object link.TooManySymbols = object_line 35 object
-link_line object link.SitesForm = object_line 36 object
+link_line object cause = cause_line (number cause) object cause
 
 -- what `work` tells: the number, how many bytes of text and how many sites the image has, how many items there were in the
 -- second run's trace, and how many fills

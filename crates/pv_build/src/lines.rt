@@ -111,14 +111,15 @@ pub fn object_line(alloc: Global, number: u32, object: u32) -> Result<Line, Allo
 pub fn link_line(alloc: Global, object: u32, cause: &LinkCause) -> Result<Line, AllocError>
     ensures { IfOk result (λ line. line ≡ link_line object cause.now) }
 {
+    let number = cause.number() as u32;
     match cause {
-        LinkCause::NoSymbol(name) => object_name_line(alloc, 30, object, &name.list),
-        LinkCause::Doubled(name) => object_name_line(alloc, 31, object, &name.list),
-        LinkCause::NotText(at) => object_place_line(alloc, 32, object, *at),
-        LinkCause::TextTooLarge => object_line(alloc, 33, object),
-        LinkCause::InitTooLarge => object_line(alloc, 34, object),
-        LinkCause::TooManySymbols => object_line(alloc, 35, object),
-        LinkCause::SitesForm => object_line(alloc, 36, object),
+        LinkCause::NoSymbol(name) => object_name_line(alloc, number, object, &name.list),
+        LinkCause::Doubled(name) => object_name_line(alloc, number, object, &name.list),
+        LinkCause::NotText(at) => object_place_line(alloc, number, object, *at),
+        LinkCause::TextTooLarge
+        | LinkCause::InitTooLarge
+        | LinkCause::TooManySymbols
+        | LinkCause::SitesForm => object_line(alloc, number, object),
     }
 }
 
