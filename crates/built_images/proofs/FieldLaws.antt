@@ -28,7 +28,7 @@ use Rattle.guest_ram.specs.Bytes.{word32, with_word32}
 use Rattle.std.specs.Int.{w32, to_le_bytes}
 use Rattle.ia32_encode.specs.Text.{offset_of}
 use Rattle.built_images.specs.Fields.{imm_size, imm_place, disp_place, moved, with_disp, with_imm, insn_disp, insn_imm}
-use Rattle.built_images.proofs.Words.{IsWord, word_in, filled, word_of, filled_word, word_there, two_bytes, four_bytes, whole}
+use Rattle.built_images.proofs.Words.{IsWord, word_in, filled, word_of, filled_word, word_there, two_bytes, four_bytes}
 use Rattle.built_images.proofs.ReadFields.{addressing_back, far_imm, imm_front, located, long_imm, pair}
 
 -- ---- in the bytes of the whole instruction

@@ -16,6 +16,7 @@ use Rattle.ia32_rows.specs.Reader.{Reader, and_then, ◌>>=◌, success, byte_at
 use Rattle.ia32_rows.specs.Fields.{mod_of, reg_of, rm_of, has_modrm, base_at, disp_at, memory_at, rm_at, addressing_at, immediate_at, imm_len}
 use Rattle.ia32_rows.proofs.Readers.{read, same_read, and_then_ok}
 use Rattle.ia32_rows.proofs.Fields.{base_reads}
+use Rattle.ia32_rows.proofs.Pieces.{byte_is}
 use Rattle.ia32_encode.specs.Text.{offset_of}
 use Rattle.built_images.specs.Fields.{imm_size, moved}
 use Rattle.built_images.proofs.Words.{two_bytes, four_bytes, long_then, long_front}
@@ -174,13 +175,6 @@ same_located a b e = (ap (λ (l : Located). l.reg) e, ap (λ (l : Located). l.rm
 abbrev plain_at : ℕ → Operand
 plain_at d = operand.Memory (record { base = None; index = None; scale = 1; disp = d })
 
-first_byte : (test : ℕ → Bool) (bytes : List ℕ) (m : ℕ) (rest : List ℕ) → byte_where test bytes ≡ Ok (m, rest) → (bytes ≡ m ∷ rest) × (test m ≡ true)
-first_byte test [] m rest e = absurd cc
-first_byte test (b ∷ bytes) m rest e = by_test (test b) refl e where
-  by_test : (t : Bool) → test b ≡ t → cond t (read b bytes) (Rattle.std.specs.Prelude.Err Rattle.ia32_rows.specs.declared.row.Miss.TheVariants.Outside) ≡ Ok (m, rest) → (b ∷ bytes ≡ m ∷ rest) × (test m ≡ true)
-  by_test true is h = let s = same_read b m bytes rest h in (cc (s.0, s.1), ap test (sym s.0) ∙ is)
-  by_test false is h = absurd cc
-
 pub addressing_back : (a : Addressing) (bytes : List ℕ) (reg : ℕ) (rm : Operand) → addressing_at a bytes ≡ Ok (located reg rm, []) → AtBack (addressing_at a) bytes rm (located reg)
 unfolding addressing_at
 addressing_back addressing.Nothing bytes reg rm e =
@@ -206,7 +200,7 @@ addressing_back (addressing.Modrm form) bytes reg rm e =
     let v = same_located (record { reg = reg_of r.0; rm = q.0.0; disp_len = q.0.1 }) (located reg rm) s.0 in
     let d : rm_at r.0 r.1 ≡ Ok ((rm, 4), []) = q.2 ∙ ap (λ (n : ℕ). read (q.0.0, n) q.1) v.2 ∙ ap (λ (o : Operand). read (sized o) q.1) v.1 ∙ ap (read (sized rm)) s.1 in
     let b = rm_back r.0 r.1 rm d in
-    let f = first_byte (has_modrm form) bytes r.0 r.1 r.2 in
+    let f = byte_is (has_modrm form) bytes r.0 r.1 r.2 in
     record {
       front = r.0 ∷ b.front;
       word = b.word;

@@ -4,9 +4,10 @@ use Rattle.std.specs.Int.{w32, from_le_bytes, to_le_bytes}
 use Rattle.std.proofs.lemmas.Nat.{from_le_bytes-to_le_bytes_4}
 use Rattle.guest_ram.specs.Bytes.{part, with_part, word32, with_word32}
 use Rattle.std.proofs.lemmas.List.{append-nil, length-append}
-use Rattle.ia32_rows.specs.Reader.{Reader, ◌>>=◌, success, word_at, long_at}
+use Rattle.ia32_rows.specs.Reader.{◌>>=◌, success, word_at, long_at}
 use Rattle.ia32_rows.specs.Spells.{AreBytes}
-use Rattle.ia32_rows.proofs.Readers.{Takes, Reads, read, same_read, and_then_ok, word_reads, long_reads}
+use Rattle.ia32_rows.proofs.Readers.{read, same_read, and_then_ok, word_reads, long_reads}
+use Rattle.ia32_rows.proofs.Pieces.{whole_then, whole}
 
 pub two_bytes : (bytes : List ℕ) (n : ℕ) → word_at bytes ≡ Ok (n, []) → length bytes ≡ 2
 unfolding word_at
@@ -75,14 +76,6 @@ word_there bytes at n w =
     (same_read (from_le_bytes w32 (word_in bytes at)) n [] [] (sym (long_of (word_in bytes at) four) ∙ w.is)).0
 
 -- what is read to its end is read in front of anything
-pub whole_then : {A : Type 0} (n : ℕ) (p : Reader A) → Reads n p → (front more : List ℕ) (x : A) → p front ≡ Ok (x, []) → p (front ++ more) ≡ Ok (x, more)
-whole_then n p r front more x e =
-    let t = r.takes front x [] e in
-    ap p (ap (λ bs. bs ++ more) (t.parts ∙ append-nil t.front)) ∙ t.again more
-
-pub whole : {A : Type 0} (n : ℕ) (p : Reader A) (bytes : List ℕ) (x : A) (rest : List ℕ) (t : Takes n p bytes x rest) → p t.front ≡ Ok (x, [])
-whole n p bytes x rest t = ap p (sym (append-nil t.front)) ∙ t.again []
-
 pub long_then : (word more : List ℕ) (n : ℕ) → long_at word ≡ Ok (n, []) → long_at (word ++ more) ≡ Ok (n, more)
 long_then word more n e = whole_then 4 long_at long_reads word more n e
 
