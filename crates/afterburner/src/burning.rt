@@ -17,9 +17,8 @@ use crate::fault::{BurnFault, ItemFault};
 use crate::limits::limited;
 use crate::names::names_of;
 use crate::object::object;
-use asm_source::{Body, Names, Source, SourceItem};
+use asm_source::{Body, Names, SYMBOL_LIMIT, Source, SourceItem};
 use elf_form::{Object, object_length};
-use sites::SYMBOL_LIMIT;
 use std::alloc::{AllocError, Global};
 
 impl Assembly {

@@ -11,10 +11,10 @@ use crate::fault::{BurnCause, ItemFault};
 use crate::section::{Section, is_init, put};
 use crate::value::put_value;
 use asm_instruction::fits_field;
-use asm_source::{Argument, Names};
+use asm_source::{Argument, Names, SYMBOL_LIMIT};
 use elf_form::Reloc;
 use ia32_types::Size;
-use sites::{INIT_LIMIT, SYMBOL_LIMIT};
+use sites::INIT_LIMIT;
 use std::alloc::AllocError;
 
 fn all_fit(size: Size, arguments: &[Argument]) -> bool

@@ -9,9 +9,8 @@ use crate::assembly::Assembly;
 use crate::fault::ItemFault;
 use crate::section::{Section, section_named};
 use crate::symbol::Binding;
-use asm_source::{Argument, DirectiveName, Names, directive_name};
+use asm_source::{Argument, DirectiveName, Names, SYMBOL_LIMIT, directive_name};
 use ia32_types::Size;
-use sites::SYMBOL_LIMIT;
 
 /// The directive of this name. One that is none says nothing, as one that is skipped.
 pub fn directive_of(name: &[u8]) -> DirectiveName

@@ -14,10 +14,10 @@ use crate::assembly::Assembly;
 use crate::fault::{BurnCause, ItemFault};
 use crate::section::{is_text, put};
 use asm_instruction::{Assembled, Named, Refusal, assemble};
-use asm_source::{Argument, Names};
+use asm_source::{Argument, Names, SYMBOL_LIMIT};
 use elf_form::Reloc;
 use ia32_types::{SiteKind, sensitive};
-use sites::{SYMBOL_LIMIT, Site, TEXT_LIMIT};
+use sites::{Site, TEXT_LIMIT};
 use std::alloc::AllocError;
 
 /// NOP.

@@ -8,9 +8,9 @@ ghost use Rattle.elf_form.specs.declared.object.Reloc.{Reloc};
 
 use crate::assembly::Assembly;
 use crate::symbol::{Binding, Definition};
-use asm_source::Names;
+use asm_source::{Names, SYMBOL_LIMIT};
 use elf_form::{Bytes, Object, Place, Reloc, Symbol};
-use sites::{SITE_LIMIT, SYMBOL_LIMIT, of_text, write_sites};
+use sites::{SITE_LIMIT, of_text, write_sites};
 use std::alloc::{AllocError, Global};
 
 fn is_wide(binding: Binding) -> bool

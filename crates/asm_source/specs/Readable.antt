@@ -3,6 +3,7 @@ use Rattle.std.specs.Prelude.{ℕ, ◌≤◌, List, [], ◌∷◌, length, fold,
 use Rattle.std.specs.Option.{option_to_list}
 use Rattle.std.specs.List.{flat_map}
 use Rattle.asm_lex.specs.declared.lexing.TheConstants.{LIMIT}
+use Rattle.asm_source.specs.declared.names.TheConstants.{SYMBOL_LIMIT}
 use Rattle.asm_source.specs.declared.tree.Argument.{Argument}
 use Rattle.asm_source.specs.declared.tree.Body.{Body}
 use Rattle.asm_source.specs.declared.tree.Body.TheVariants as body
@@ -23,9 +24,9 @@ body_names (body.Instruction rep n args) = argument_names args
 unfoldable pub names_in : List SourceItem → List (List ℕ)
 names_in items = fold added [] (flat_map (λ (i : SourceItem). body_names i.body) items)
 
--- The items say no more than the longest source can, and name at most 65,536 symbols, none with a zero byte.
+-- The items say no more than the longest source can, and name no more symbols than a source may, none with a zero byte.
 pub record IsReadable (items : List SourceItem) : Type 0 where
   pub size : items_size items ≤ LIMIT
   pub count : items_count items ≤ LIMIT
-  pub few : length (names_in items) ≤ 65536
+  pub few : length (names_in items) ≤ SYMBOL_LIMIT
   pub named : All (λ (n : List ℕ). All (λ b. 1 ≤ b) n) (names_in items)

@@ -8,5 +8,5 @@ mod tree;
 
 pub use bytes::{begins, is_text};
 pub use directive_table::{DirectiveName, directive_name};
-pub use names::Names;
+pub use names::{Names, SYMBOL_LIMIT};
 pub use tree::{Argument, Arguments, Body, Form, Name, Source, SourceItem, Value};

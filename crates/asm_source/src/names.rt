@@ -7,6 +7,9 @@ use indexmap::IndexSet;
 use std::alloc::{AllocError, Global};
 use std::marker::Model;
 
+/// The most names of a source (profile). An object has no more symbols either.
+pub const SYMBOL_LIMIT: usize = 65_536;
+
 /// Different names in the order in which they are first seen, each with its number. No call
 /// searches them one by one.
 #[derive(Drop)]

@@ -4,7 +4,7 @@ ghost use Rattle.std.specs.Prelude.{◌≡◌, OnOk, OnErr};
 ghost use Rattle.asm_source.specs.Names.{holds};
 ghost use Rattle.asm_statement.specs.Scope as spec;
 
-use asm_source::{Name, Names, SourceItem};
+use asm_source::{Name, Names, SYMBOL_LIMIT, SourceItem};
 use std::alloc::{AllocError, Global};
 use std::marker::Model;
 
@@ -53,18 +53,18 @@ impl Scope {
         self.defined.holds(&name.bytes)
     }
 
-    /// Whether the name was seen, or is one of the first 65,536 (profile).
+    /// Whether the name was seen, or may be one more of the source (profile).
     pub fn has_room(&self, name: &Name) -> bool
         ensures { result ≡ spec.has_room self.now name.now }
     {
-        self.names.holds(&name.bytes) || self.names.len() < 65536
+        self.names.holds(&name.bytes) || self.names.len() < SYMBOL_LIMIT
     }
 
-    /// Whether all 65,536 names are defined.
+    /// Whether as many names as a source may have are defined.
     pub fn is_spent(&self) -> bool
         ensures { result ≡ spec.is_spent self.now }
     {
-        self.defined.len() >= 65536
+        self.defined.len() >= SYMBOL_LIMIT
     }
 
     /// From here on statements are skipped, or read.

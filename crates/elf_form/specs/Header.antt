@@ -4,7 +4,7 @@ use Rattle.std.specs.Bool.{then_some}
 use Rattle.std.specs.List.{find}
 use Rattle.std.specs.Option.{option_or}
 use Rattle.guest_ram.specs.Bytes.{byte, word16, word32}
-use Rattle.elf_form.specs.declared.abi.TheConstants.{EI_CLASS, EI_DATA, EI_VERSION, ELFCLASS32, ELFDATA2LSB, ELFMAG, EM_386, EV_CURRENT, E_MACHINE, E_PHNUM, E_PHOFF, E_SHNUM, E_SHOFF, E_TYPE, E_VERSION, P_FILESZ, P_OFFSET, SHT_NOBITS, SHT_NULL, SH_OFFSET, SH_SIZE, SH_TYPE}
+use Rattle.elf_form.specs.declared.abi.TheConstants.{EHDR_SIZE, EI_CLASS, EI_DATA, EI_VERSION, ELFCLASS32, ELFDATA2LSB, ELFMAG, EM_386, EV_CURRENT, E_MACHINE, E_PHNUM, E_PHOFF, E_SHNUM, E_SHOFF, E_TYPE, E_VERSION, PHDR_SIZE, P_FILESZ, P_OFFSET, SHDR_SIZE, SHT_NOBITS, SHT_NULL, SH_OFFSET, SH_SIZE, SH_TYPE}
 use Rattle.elf_form.specs.declared.cause.ElfCause.{ElfCause}
 use Rattle.elf_form.specs.declared.cause.ElfCause.TheVariants.{Truncated, Magic, Class, Encoding, Version, FileType, Machine}
 use Rattle.elf_form.specs.Faults.{Fault, tested, header_causes, ◌or_lower◌}
@@ -24,10 +24,10 @@ abbrev pub section_count : List ℕ → ℕ
 section_count bytes = word16 bytes E_SHNUM
 
 abbrev pub headers : List ℕ → List ℕ
-headers bytes = entries (header_table bytes) 32 (header_count bytes)
+headers bytes = entries (header_table bytes) PHDR_SIZE (header_count bytes)
 
 abbrev pub sections : List ℕ → List ℕ
-sections bytes = entries (section_table bytes) 40 (section_count bytes)
+sections bytes = entries (section_table bytes) SHDR_SIZE (section_count bytes)
 
 -- whether a part passes the end
 abbrev pub passes : List ℕ → ℕ → ℕ → Bool
@@ -50,13 +50,13 @@ part_begins bytes field None = None
 part_begins bytes field (Some entry) = Some (word32 bytes (entry + field))
 
 abbrev pub header_cut : List ℕ → Option ℕ
-header_cut bytes = then_some (passes bytes 0 52) 0
+header_cut bytes = then_some (passes bytes 0 EHDR_SIZE) 0
 
 abbrev pub header_table_cut : List ℕ → Option ℕ
-header_table_cut bytes = then_some (passes bytes (header_table bytes) (32 * header_count bytes)) (header_table bytes)
+header_table_cut bytes = then_some (passes bytes (header_table bytes) (PHDR_SIZE * header_count bytes)) (header_table bytes)
 
 abbrev pub section_table_cut : List ℕ → Option ℕ
-section_table_cut bytes = then_some (passes bytes (section_table bytes) (40 * section_count bytes)) (section_table bytes)
+section_table_cut bytes = then_some (passes bytes (section_table bytes) (SHDR_SIZE * section_count bytes)) (section_table bytes)
 
 abbrev pub header_part_cut : List ℕ → Option ℕ
 header_part_cut bytes = part_begins bytes P_OFFSET (find (header_passes bytes) (headers bytes))
@@ -74,18 +74,18 @@ cut bytes =
 
 -- What a file has in which no part passes the end.
 pub record IsWhole (bytes : List ℕ) : Type 0 where
-  pub header : 52 ≤ length bytes
-  pub header_room : header_table bytes + 32 * header_count bytes ≤ length bytes
-  pub section_room : section_table bytes + 40 * section_count bytes ≤ length bytes
+  pub header : EHDR_SIZE ≤ length bytes
+  pub header_room : header_table bytes + PHDR_SIZE * header_count bytes ≤ length bytes
+  pub section_room : section_table bytes + SHDR_SIZE * section_count bytes ≤ length bytes
   pub header_parts : find (header_passes bytes) (headers bytes) ≡ None
   pub section_parts : find (section_passes bytes) (sections bytes) ≡ None
 
 -- a program header, and a section, of such a file
 abbrev pub IsHeader : List ℕ → ℕ → Type 0
-IsHeader bytes h = (h + 32 ≤ length bytes) × (header_passes bytes h ≡ false)
+IsHeader bytes h = (h + PHDR_SIZE ≤ length bytes) × (header_passes bytes h ≡ false)
 
 abbrev pub IsSection : List ℕ → ℕ → Type 0
-IsSection bytes s = (s + 40 ≤ length bytes) × (section_passes bytes s ≡ false)
+IsSection bytes s = (s + SHDR_SIZE ≤ length bytes) × (section_passes bytes s ≡ false)
 
 -- The fields that have one value.
 abbrev pub magic : List ℕ → Option ℕ

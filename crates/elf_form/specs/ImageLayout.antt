@@ -1,7 +1,7 @@
 -- The one layout of an image file (System V ABI, chapters 4 and 5). The order of the parts is the profile's.
 use Rattle.std.specs.Prelude.{ℕ, ◌+◌, ◌%◌, ◌<◌, ◌^◌, List, [], ◌∷◌, ◌++◌, length, replicate, codes}
 use Rattle.elf_form.specs.Output.{identity, halves, longs, pad}
-use Rattle.elf_form.specs.declared.abi.TheConstants.{EM_386, ET_EXEC, EV_CURRENT, PF_R, PF_W, PF_X, PT_LOAD}
+use Rattle.elf_form.specs.declared.abi.TheConstants.{EHDR_SIZE, EM_386, ET_EXEC, EV_CURRENT, PF_R, PF_W, PF_X, PHDR_SIZE, PT_LOAD, SHDR_SIZE}
 use Rattle.elf_form.specs.declared.section_header.SectionHeader.{SectionHeader}
 use Rattle.elf_form.specs.SectionHeaders.{no_section, text_section, data_section, bss_section, sites_section, names_section, placed, numbers_of}
 use Rattle.elf_form.specs.ImageParts.{ImageParts}
@@ -27,8 +27,8 @@ unfoldable pub header : ImageParts → List ℕ
 header p =
     identity
     ++ (halves (ET_EXEC ∷ EM_386 ∷ [])
-    ++ (longs (EV_CURRENT ∷ p.entry ∷ 52 ∷ sections_from p ∷ 0 ∷ [])
-    ++ halves (52 ∷ 32 ∷ 2 ∷ 40 ∷ 6 ∷ 5 ∷ [])))
+    ++ (longs (EV_CURRENT ∷ p.entry ∷ EHDR_SIZE ∷ sections_from p ∷ 0 ∷ [])
+    ++ halves (EHDR_SIZE ∷ PHDR_SIZE ∷ 2 ∷ SHDR_SIZE ∷ 6 ∷ 5 ∷ [])))
 
 -- type, offset, address (twice), bytes, memory, flags, alignment
 abbrev pub program_numbers : ImageParts → List ℕ

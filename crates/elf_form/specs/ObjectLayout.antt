@@ -1,13 +1,14 @@
 -- The one layout of an object file (System V ABI, chapter 4). The order of the parts is the profile's.
 use Rattle.std.specs.Prelude.{◌≡◌, ◌≢◌, ℕ, ◌+◌, ◌*◌, true, false, ◌<◌, ◌≤◌, ◌^◌, Bool, not, List, [], ◌∷◌, ◌++◌, length, fold, filter, count_by, All, replicate, codes, if◌then◌else◌}
 use Rattle.std.specs.List.{flat_map, position_or_len}
+use Rattle.elf_form.specs.declared.object.TheConstants.{SYMBOL_LIMIT}
 use Rattle.elf_form.specs.declared.object.Place.{Place}
 use Rattle.elf_form.specs.declared.object.Place.TheVariants.{Undefined, Text, Init, Bss}
 use Rattle.elf_form.specs.declared.object.Symbol.{Symbol}
 use Rattle.elf_form.specs.declared.object.Reloc.{Reloc}
 use Rattle.elf_form.specs.declared.object_writing.Layout.{Layout}
 use Rattle.elf_form.specs.declared.object_writing.Lengths.{Lengths}
-use Rattle.elf_form.specs.declared.abi.TheConstants.{EM_386, ET_REL, EV_CURRENT, R_386_32, R_386_PC32}
+use Rattle.elf_form.specs.declared.abi.TheConstants.{EHDR_SIZE, EM_386, ET_REL, EV_CURRENT, REL_SIZE, R_386_32, R_386_PC32, SHDR_SIZE, SYM_SIZE}
 use Rattle.elf_form.specs.declared.section_header.SectionHeader.{SectionHeader}
 use Rattle.elf_form.specs.SectionHeaders.{no_section, text_section, data_section, bss_section, sites_section, relocations_section, symbols_section, names_section, placed, numbers_of}
 use Rattle.elf_form.specs.ObjectParts.{ObjectParts}
@@ -29,15 +30,15 @@ strings_of symbols = table_bytes (names_of symbols)
 abbrev pub is_of : Bool → Reloc → Bool
 is_of in_text r = if in_text then r.in_text else not r.in_text
 
--- where the parts begin: the text at 52, and each other at the next multiple of 4
+-- where the parts begin: the text behind the header, and each other at the next multiple of 4
 unfoldable pub layout : ObjectParts → Layout
 layout o =
-    let init = next (52 + length o.text) in
+    let init = next (EHDR_SIZE + length o.text) in
     let sites = next (init + length o.init) in
     let text_relocs = next (sites + length o.sites) in
-    let data_relocs = text_relocs + 8 * count_by (is_of true) o.relocs in
-    let symbols = data_relocs + 8 * count_by (is_of false) o.relocs in
-    let strings = symbols + 16 * (length o.symbols + 1) in
+    let data_relocs = text_relocs + REL_SIZE * count_by (is_of true) o.relocs in
+    let symbols = data_relocs + REL_SIZE * count_by (is_of false) o.relocs in
+    let strings = symbols + SYM_SIZE * (length o.symbols + 1) in
     let names = next (strings + length (strings_of o.symbols)) in
     record { init = init; sites = sites; text_relocs = text_relocs; data_relocs = data_relocs; symbols = symbols; strings = strings; names = names; sections = next (names + 74) }
 
@@ -54,7 +55,7 @@ symbol_bytes names s = longs (name_place names s.name ∷ s.value ∷ 0 ∷ []) 
 
 -- the null symbol and the symbols in their order
 unfoldable pub symbol_table : List Symbol → List ℕ
-symbol_table symbols = replicate 16 0 ++ flat_map (symbol_bytes (names_of symbols)) symbols
+symbol_table symbols = replicate SYM_SIZE 0 ++ flat_map (symbol_bytes (names_of symbols)) symbols
 
 -- the number in the table of the first global symbol, or of what would follow the last one
 abbrev pub first_global : List Symbol → ℕ
@@ -76,22 +77,22 @@ object_header o =
     identity
     ++ (halves (ET_REL ∷ EM_386 ∷ [])
     ++ (longs (EV_CURRENT ∷ 0 ∷ 0 ∷ (layout o).sections ∷ 0 ∷ [])
-    ++ halves (52 ∷ 0 ∷ 0 ∷ 40 ∷ 10 ∷ 9 ∷ [])))
+    ++ halves (EHDR_SIZE ∷ 0 ∷ 0 ∷ SHDR_SIZE ∷ 10 ∷ 9 ∷ [])))
 
 -- the section headers of what an object has, and those of the tables
 abbrev pub part_headers : ObjectParts → List SectionHeader
 part_headers o =
     no_section
-    ∷ placed text_section 0 52 (length o.text)
+    ∷ placed text_section 0 EHDR_SIZE (length o.text)
     ∷ placed data_section 0 (layout o).init (length o.init)
     ∷ placed (bss_section 16) 0 0 o.bss
     ∷ placed sites_section 0 (layout o).sites (length o.sites) ∷ []
 
 abbrev pub table_headers : ObjectParts → List SectionHeader
 table_headers o =
-    placed (relocations_section 28 1) 0 (layout o).text_relocs (8 * count_by (is_of true) o.relocs)
-    ∷ placed (relocations_section 38 2) 0 (layout o).data_relocs (8 * count_by (is_of false) o.relocs)
-    ∷ placed (symbols_section (first_global o.symbols)) 0 (layout o).symbols (16 * (length o.symbols + 1))
+    placed (relocations_section 28 1) 0 (layout o).text_relocs (REL_SIZE * count_by (is_of true) o.relocs)
+    ∷ placed (relocations_section 38 2) 0 (layout o).data_relocs (REL_SIZE * count_by (is_of false) o.relocs)
+    ∷ placed (symbols_section (first_global o.symbols)) 0 (layout o).symbols (SYM_SIZE * (length o.symbols + 1))
     ∷ placed (names_section 56) 0 (layout o).strings (length (strings_of o.symbols))
     ∷ placed (names_section 64) 0 (layout o).names 74 ∷ []
 
@@ -104,7 +105,7 @@ table_sections o = numbers_of (table_headers o)
 -- text, data and annotations
 unfoldable pub object_parts : ObjectParts → List ℕ
 object_parts o =
-    o.text ++ (replicate (pad 4 (52 + length o.text)) 0
+    o.text ++ (replicate (pad 4 (EHDR_SIZE + length o.text)) 0
     ++ (o.init ++ (replicate (pad 4 ((layout o).init + length o.init)) 0
     ++ (o.sites ++ replicate (pad 4 ((layout o).sites + length o.sites)) 0))))
 
@@ -122,7 +123,7 @@ object_bytes o = object_header o ++ (object_parts o ++ (object_tables o ++ (long
 pub record IsWritableObject (o : ObjectParts) : Type 0 where
   pub file : (layout o).sections + 400 < 2 ^ 31
   pub memory : length o.init + o.bss < 2 ^ 31
-  pub count : length o.symbols ≤ 65536
+  pub count : length o.symbols ≤ SYMBOL_LIMIT
   pub named : All (λ r. r.symbol < length o.symbols) o.relocs
 
 -- An undefined symbol is global and has the value 0.
@@ -155,4 +156,4 @@ pub record AreLengths (o : ObjectParts) (lengths : Lengths) : Type 0 where
   pub data_relocs : lengths.data_relocs ≡ count_by (is_of false) o.relocs
   pub symbols : lengths.symbols ≡ length o.symbols
   pub strings : lengths.strings ≡ length (strings_of o.symbols)
-  pub small : lengths.text + lengths.init + lengths.sites + 8 * lengths.text_relocs + 8 * lengths.data_relocs + 16 * lengths.symbols + lengths.strings < 2 ^ 31
+  pub small : lengths.text + lengths.init + lengths.sites + REL_SIZE * lengths.text_relocs + REL_SIZE * lengths.data_relocs + SYM_SIZE * lengths.symbols + lengths.strings < 2 ^ 31

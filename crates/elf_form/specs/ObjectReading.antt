@@ -1,7 +1,7 @@
 -- What is read of an object, or the first fault.
 use Rattle.std.specs.Prelude.{◌≡◌, ℕ, ◌+◌, ◌%◌, ◌^◌, Bool, ◌&&◌, ◌||◌, List, [], ◌∷◌, ◌++◌, map, Option, Some, None, Result, ◌==◌, if◌then◌else◌}
 use Rattle.guest_ram.specs.Bytes.{word16, word32}
-use Rattle.elf_form.specs.declared.abi.TheConstants.{ET_REL, E_SHSTRNDX, SHT_STRTAB, SH_FLAGS, SH_LINK, SH_TYPE}
+use Rattle.elf_form.specs.declared.abi.TheConstants.{ET_REL, E_SHSTRNDX, SHT_STRTAB, SH_FLAGS, SH_LINK, SH_TYPE, SYM_SIZE}
 use Rattle.elf_form.specs.declared.cause.ElfCause.{ElfCause}
 use Rattle.elf_form.specs.declared.cause.ElfCause.TheVariants.{Sizes, SectionForm, Compressed, StringPlace, SymbolForm, RelocForm}
 use Rattle.elf_form.specs.declared.roles.Role.TheVariants as role
@@ -41,9 +41,9 @@ strings_of bytes = strings_in bytes (link_of bytes)
 
 abbrev pub table_fault : List ℕ → Found → Option ℕ
 table_fault bytes Nothing = None
-table_fault bytes (One s) = entries_fault 16 bytes s
-table_fault bytes (Two s t) = entries_fault 16 bytes s
-table_fault bytes (More s t) = entries_fault 16 bytes s
+table_fault bytes (One s) = entries_fault SYM_SIZE bytes s
+table_fault bytes (Two s t) = entries_fault SYM_SIZE bytes s
+table_fault bytes (More s t) = entries_fault SYM_SIZE bytes s
 
 unfoldable pub inner_sizes : List ℕ → Option ℕ
 inner_sizes bytes =

@@ -2,7 +2,7 @@
 use Rattle.std.specs.Prelude.{◌≡◌, ℕ, ◌+◌, ◌*◌, ◌≤◌, ◌<◌, List, ◌∷◌, ◌++◌, length, map, filter, slice_get, Some}
 use Rattle.std.specs.List.{Contains}
 use Rattle.guest_ram.specs.Bytes.{word32}
-use Rattle.elf_form.specs.declared.abi.TheConstants.{P_FILESZ, P_OFFSET, SH_OFFSET, SH_SIZE}
+use Rattle.elf_form.specs.declared.abi.TheConstants.{EHDR_SIZE, PHDR_SIZE, P_FILESZ, P_OFFSET, SHDR_SIZE, SH_OFFSET, SH_SIZE}
 use Rattle.elf_form.specs.declared.cause.ElfCause.{ElfCause}
 use Rattle.elf_form.specs.declared.cause.ElfCause.TheVariants.{Truncated}
 use Rattle.elf_form.specs.Header.{header_table, section_table, header_count, section_count, headers, sections, has_contents}
@@ -14,10 +14,10 @@ named_by_header bytes h = (word32 bytes (h + P_OFFSET), word32 bytes (h + P_FILE
 abbrev pub named_by_section : List ℕ → ℕ → ℕ × ℕ
 named_by_section bytes s = (word32 bytes (s + SH_OFFSET), word32 bytes (s + SH_SIZE))
 
--- the header of 52 bytes, the two tables, what the program headers name, and the contents of the sections
+-- the header, the two tables, what the program headers name, and the contents of the sections
 abbrev pub named_parts : List ℕ → List (ℕ × ℕ)
 named_parts bytes =
-    (0, 52) ∷ (header_table bytes, 32 * header_count bytes) ∷ (section_table bytes, 40 * section_count bytes)
+    (0, EHDR_SIZE) ∷ (header_table bytes, PHDR_SIZE * header_count bytes) ∷ (section_table bytes, SHDR_SIZE * section_count bytes)
     ∷ (map (named_by_header bytes) (headers bytes) ++ map (named_by_section bytes) (filter (has_contents bytes) (sections bytes)))
 
 -- A part that begins here passes the end of a file of so many bytes.

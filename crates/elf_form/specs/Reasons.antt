@@ -2,7 +2,8 @@
 use Rattle.std.specs.Prelude.{◌≡◌, ◌≢◌, ◌⊎◌, ℕ, ◌+◌, ◌%◌, ◌^◌, ◌≤◌, ◌<◌, true, false, List, [], ◌∷◌, ◌++◌, length, filter, slice_get, Some, Result, Err}
 use Rattle.std.specs.List.{Contains, sum_by}
 use Rattle.guest_ram.specs.Bytes.{byte, word16, word32}
-use Rattle.elf_form.specs.declared.abi.TheConstants.{EI_CLASS, EI_DATA, EI_VERSION, ELFCLASS32, ELFDATA2LSB, ELFMAG, EM_386, ET_EXEC, ET_REL, EV_CURRENT, E_EHSIZE, E_MACHINE, E_PHENTSIZE, E_PHNUM, E_SHENTSIZE, E_SHNUM, E_SHSTRNDX, E_TYPE, E_VERSION, PF_X, P_FILESZ, P_FLAGS, P_MEMSZ, R_INFO, SH_ADDRALIGN, SH_ENTSIZE, SH_FLAGS, SH_LINK, SH_SIZE, SH_TYPE, STB_LOCAL, ST_INFO, ST_SHNDX}
+use Rattle.elf_form.specs.declared.segments.TheConstants.{FILE_LIMIT}
+use Rattle.elf_form.specs.declared.abi.TheConstants.{EHDR_SIZE, EI_CLASS, EI_DATA, EI_VERSION, ELFCLASS32, ELFDATA2LSB, ELFMAG, EM_386, ET_EXEC, ET_REL, EV_CURRENT, E_EHSIZE, E_MACHINE, E_PHENTSIZE, E_PHNUM, E_SHENTSIZE, E_SHNUM, E_SHSTRNDX, E_TYPE, E_VERSION, PF_X, PHDR_SIZE, P_FILESZ, P_FLAGS, P_MEMSZ, REL_SIZE, R_INFO, SHDR_SIZE, SH_ADDRALIGN, SH_ENTSIZE, SH_FLAGS, SH_LINK, SH_SIZE, SH_TYPE, STB_LOCAL, ST_INFO, ST_SHNDX, SYM_SIZE}
 use Rattle.elf_form.specs.declared.cause.ElfCause.{ElfCause}
 use Rattle.elf_form.specs.declared.cause.ElfCause.TheVariants.{Truncated, Magic, Class, Encoding, Version, FileType, Machine, Sizes, SectionForm, Compressed, StringPlace, SymbolForm, RelocForm}
 use Rattle.elf_form.specs.declared.roles.Role.{Role}
@@ -67,13 +68,13 @@ pub data IsBadEntrySize (entry : ℕ) (bytes : List ℕ) (s at : ℕ) : Type 0 w
 
 -- A size of an object that is wrong: e_ehsize, e_shentsize, sh_size of a section with which those that are joined are too much, sh_size and sh_entsize of the symbol table and of relocations, or the file's own.
 pub data IsBadObjectSize (bytes : List ℕ) (at : ℕ) : Type 0 where
-  header : word16 bytes E_EHSIZE ≢ 52 → at ≡ E_EHSIZE → IsBadObjectSize bytes at
-  section_header : word16 bytes E_SHENTSIZE ≢ 40 → at ≡ E_SHENTSIZE → IsBadObjectSize bytes at
+  header : word16 bytes E_EHSIZE ≢ EHDR_SIZE → at ≡ E_EHSIZE → IsBadObjectSize bytes at
+  section_header : word16 bytes E_SHENTSIZE ≢ SHDR_SIZE → at ≡ E_SHENTSIZE → IsBadObjectSize bytes at
   init : (s : ℕ) → IsTooMuch role.Init bytes s → at ≡ s + SH_SIZE → IsBadObjectSize bytes at
   bss : (s : ℕ) → IsTooMuch role.Bss bytes s → at ≡ s + SH_SIZE → IsBadObjectSize bytes at
-  symbols : (s : ℕ) → IsSymbolTable bytes s → IsBadEntrySize 16 bytes s at → IsBadObjectSize bytes at
-  relocs : (s : ℕ) → IsRelocs bytes s → IsBadEntrySize 8 bytes s at → IsBadObjectSize bytes at
-  file : 33554432 < length bytes → at ≡ 33554432 → IsBadObjectSize bytes at
+  symbols : (s : ℕ) → IsSymbolTable bytes s → IsBadEntrySize SYM_SIZE bytes s at → IsBadObjectSize bytes at
+  relocs : (s : ℕ) → IsRelocs bytes s → IsBadEntrySize REL_SIZE bytes s at → IsBadObjectSize bytes at
+  file : FILE_LIMIT < length bytes → at ≡ FILE_LIMIT → IsBadObjectSize bytes at
 
 -- the program headers of parts that are loaded
 abbrev pub loaded : List ℕ → List ℕ
@@ -81,12 +82,12 @@ loaded bytes = filter (is_load bytes) (headers bytes)
 
 -- A size of an image that is wrong: e_ehsize, e_phentsize, e_shentsize, p_memsz of the first and of the second part that is loaded, or the file's own.
 pub data IsBadImageSize (bytes : List ℕ) (at : ℕ) : Type 0 where
-  header : word16 bytes E_EHSIZE ≢ 52 → at ≡ E_EHSIZE → IsBadImageSize bytes at
-  program_header : word16 bytes E_PHENTSIZE ≢ 32 → at ≡ E_PHENTSIZE → IsBadImageSize bytes at
-  section_header : word16 bytes E_SHENTSIZE ≢ 40 → at ≡ E_SHENTSIZE → IsBadImageSize bytes at
+  header : word16 bytes E_EHSIZE ≢ EHDR_SIZE → at ≡ E_EHSIZE → IsBadImageSize bytes at
+  program_header : word16 bytes E_PHENTSIZE ≢ PHDR_SIZE → at ≡ E_PHENTSIZE → IsBadImageSize bytes at
+  section_header : word16 bytes E_SHENTSIZE ≢ SHDR_SIZE → at ≡ E_SHENTSIZE → IsBadImageSize bytes at
   first : (h : ℕ) → slice_get (loaded bytes) 0 ≡ Some h → word32 bytes (h + P_MEMSZ) ≢ word32 bytes (h + P_FILESZ) → at ≡ h + P_MEMSZ → IsBadImageSize bytes at
   second : (h : ℕ) → slice_get (loaded bytes) 1 ≡ Some h → word32 bytes (h + P_MEMSZ) < word32 bytes (h + P_FILESZ) → at ≡ h + P_MEMSZ → IsBadImageSize bytes at
-  file : 33554432 < length bytes → at ≡ 33554432 → IsBadImageSize bytes at
+  file : FILE_LIMIT < length bytes → at ≡ FILE_LIMIT → IsBadImageSize bytes at
 
 -- ---- sections and segments
 

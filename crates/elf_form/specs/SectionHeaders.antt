@@ -1,7 +1,7 @@
 -- The section headers that are written (System V ABI, chapter 4, Sections).
 use Rattle.std.specs.Prelude.{ℕ, ◌+◌, List, [], ◌∷◌}
 use Rattle.std.specs.List.{flat_map}
-use Rattle.elf_form.specs.declared.abi.TheConstants.{SHF_ALLOC, SHF_EXECINSTR, SHF_WRITE, SHT_NOBITS, SHT_NULL, SHT_PROGBITS, SHT_REL, SHT_STRTAB, SHT_SYMTAB}
+use Rattle.elf_form.specs.declared.abi.TheConstants.{REL_SIZE, SHF_ALLOC, SHF_EXECINSTR, SHF_WRITE, SHT_NOBITS, SHT_NULL, SHT_PROGBITS, SHT_REL, SHT_STRTAB, SHT_SYMTAB, SYM_SIZE}
 use Rattle.elf_form.specs.declared.section_header.SectionHeader.{SectionHeader}
 
 -- the fields of a header in their order, each a number of four bytes
@@ -35,11 +35,11 @@ sites_section = record no_section { name = 18; kind = SHT_PROGBITS; alignment = 
 
 -- Relocations of a section: they name symbols of section 7.
 abbrev pub relocations_section : ℕ → ℕ → SectionHeader
-relocations_section name section = record no_section { name = name; kind = SHT_REL; link = 7; info = section; entry_size = 8 }
+relocations_section name section = record no_section { name = name; kind = SHT_REL; link = 7; info = section; entry_size = REL_SIZE }
 
 -- Symbols, of which this is the number of the first global one: their names stand in section 8.
 abbrev pub symbols_section : ℕ → SectionHeader
-symbols_section first_global = record no_section { name = 48; kind = SHT_SYMTAB; link = 8; info = first_global; entry_size = 16 }
+symbols_section first_global = record no_section { name = 48; kind = SHT_SYMTAB; link = 8; info = first_global; entry_size = SYM_SIZE }
 
 -- names, each ended by a zero byte
 abbrev pub names_section : ℕ → SectionHeader

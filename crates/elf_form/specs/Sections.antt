@@ -3,7 +3,7 @@ use Rattle.std.specs.Prelude.{ℕ, ◌+◌, ◌*◌, ◌%◌, ◌/◌, Bool, not
 use Rattle.std.specs.List.{starts_with, find}
 use Rattle.guest_ram.specs.Among.{is_among}
 use Rattle.guest_ram.specs.Bytes.{word16, word32, part}
-use Rattle.elf_form.specs.declared.abi.TheConstants.{E_SHNUM, E_SHSTRNDX, SHF_COMPRESSED, SHN_LORESERVE, SHN_UNDEF, SHT_NULL, SHT_STRTAB, SH_FLAGS, SH_OFFSET, SH_SIZE, SH_TYPE}
+use Rattle.elf_form.specs.declared.abi.TheConstants.{E_SHNUM, E_SHSTRNDX, SHDR_SIZE, SHF_COMPRESSED, SHN_LORESERVE, SHN_UNDEF, SHT_NULL, SHT_STRTAB, SH_FLAGS, SH_OFFSET, SH_SIZE, SH_TYPE}
 use Rattle.elf_form.specs.declared.segments.Found.{Found}
 use Rattle.elf_form.specs.declared.segments.Found.TheVariants.{Nothing, One, Two, More}
 use Rattle.elf_form.specs.Tables.{found, further}
@@ -19,7 +19,7 @@ is_index bytes index = not (index == SHN_UNDEF) && nat_lt index SHN_LORESERVE &&
 
 -- The header names the section that holds the names. It is there, and a string table; else there are no names.
 abbrev pub names_section : List ℕ → ℕ
-names_section bytes = section_table bytes + 40 * word16 bytes E_SHSTRNDX
+names_section bytes = section_table bytes + SHDR_SIZE * word16 bytes E_SHSTRNDX
 
 unfoldable pub names : List ℕ → List ℕ
 names bytes = if is_index bytes (word16 bytes E_SHSTRNDX) && (word32 bytes (names_section bytes + SH_TYPE) == SHT_STRTAB) then contents bytes (names_section bytes) else []

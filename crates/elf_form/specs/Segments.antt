@@ -2,7 +2,8 @@
 use Rattle.std.specs.Prelude.{ℕ, ◌+◌, ◌%◌, Bool, not, ◌&&◌, List, length, filter, Option, Some, None, nat_lt, ◌==◌}
 use Rattle.std.specs.Bool.{then_some}
 use Rattle.guest_ram.specs.Bytes.{word16, word32}
-use Rattle.elf_form.specs.declared.abi.TheConstants.{E_EHSIZE, E_PHENTSIZE, E_PHNUM, E_SHENTSIZE, PF_X, PT_LOAD, P_FILESZ, P_FLAGS, P_MEMSZ}
+use Rattle.elf_form.specs.declared.segments.TheConstants.{FILE_LIMIT}
+use Rattle.elf_form.specs.declared.abi.TheConstants.{EHDR_SIZE, E_EHSIZE, E_PHENTSIZE, E_PHNUM, E_SHENTSIZE, PF_X, PHDR_SIZE, PT_LOAD, P_FILESZ, P_FLAGS, P_MEMSZ, SHDR_SIZE}
 use Rattle.elf_form.specs.declared.segments.Found.{Found}
 use Rattle.elf_form.specs.declared.segments.Found.TheVariants.{Nothing, One, Two, More}
 use Rattle.elf_form.specs.Faults.{◌or_lower◌}
@@ -29,16 +30,16 @@ memory_sizes bytes (Two a b) = first_size bytes a or_lower second_size bytes b
 memory_sizes bytes (More a b) = first_size bytes a or_lower second_size bytes b
 
 abbrev pub header_size : List ℕ → Option ℕ
-header_size bytes = then_some (not (word16 bytes E_EHSIZE == 52)) E_EHSIZE
+header_size bytes = then_some (not (word16 bytes E_EHSIZE == EHDR_SIZE)) E_EHSIZE
 
 abbrev pub program_size : List ℕ → Option ℕ
-program_size bytes = then_some (not (word16 bytes E_PHENTSIZE == 32)) E_PHENTSIZE
+program_size bytes = then_some (not (word16 bytes E_PHENTSIZE == PHDR_SIZE)) E_PHENTSIZE
 
 abbrev pub section_size : List ℕ → Option ℕ
-section_size bytes = then_some (not (word16 bytes E_SHENTSIZE == 40)) E_SHENTSIZE
+section_size bytes = then_some (not (word16 bytes E_SHENTSIZE == SHDR_SIZE)) E_SHENTSIZE
 
 abbrev pub too_long : List ℕ → Option ℕ
-too_long bytes = then_some (nat_lt 33554432 (length bytes)) 33554432
+too_long bytes = then_some (nat_lt FILE_LIMIT (length bytes)) FILE_LIMIT
 
 -- The lowest size field that is wrong.
 unfoldable pub sizes : List ℕ → Option ℕ

@@ -5,7 +5,7 @@ use Rattle.std.specs.List.{before_first, flat_map}
 use Rattle.std.specs.Option.{option_or}
 use Rattle.guest_ram.specs.Among.{is_among}
 use Rattle.guest_ram.specs.Bytes.{byte, word16, word32}
-use Rattle.elf_form.specs.declared.abi.TheConstants.{R_386_32, R_386_PC32, R_INFO, SHN_UNDEF, SH_ENTSIZE, SH_INFO, SH_LINK, SH_OFFSET, SH_SIZE, STB_GLOBAL, STB_LOCAL, STB_WEAK, STT_FILE, ST_INFO, ST_SHNDX, ST_VALUE}
+use Rattle.elf_form.specs.declared.abi.TheConstants.{REL_SIZE, R_386_32, R_386_PC32, R_INFO, SHDR_SIZE, SHN_UNDEF, SH_ENTSIZE, SH_INFO, SH_LINK, SH_OFFSET, SH_SIZE, STB_GLOBAL, STB_LOCAL, STB_WEAK, STT_FILE, ST_INFO, ST_SHNDX, ST_VALUE, SYM_SIZE}
 use Rattle.elf_form.specs.declared.roles.Role.{Role}
 use Rattle.elf_form.specs.declared.roles.Role.TheVariants as role
 use Rattle.elf_form.specs.declared.object.Place.{Place}
@@ -33,13 +33,13 @@ use Rattle.elf_form.specs.Roles.{role as role_of, role_number, has_role, is_kept
 -- where the table is and how many symbols it has, none where there is no table
 abbrev pub table_at : List ℕ → Found → Table
 table_at bytes Nothing = record { section = 0; at = 0; count = 0 }
-table_at bytes (One s) = record { section = s; at = word32 bytes (s + SH_OFFSET); count = length (contents bytes s) / 16 }
-table_at bytes (Two s t) = record { section = s; at = word32 bytes (s + SH_OFFSET); count = length (contents bytes s) / 16 }
-table_at bytes (More s t) = record { section = s; at = word32 bytes (s + SH_OFFSET); count = length (contents bytes s) / 16 }
+table_at bytes (One s) = record { section = s; at = word32 bytes (s + SH_OFFSET); count = length (contents bytes s) / SYM_SIZE }
+table_at bytes (Two s t) = record { section = s; at = word32 bytes (s + SH_OFFSET); count = length (contents bytes s) / SYM_SIZE }
+table_at bytes (More s t) = record { section = s; at = word32 bytes (s + SH_OFFSET); count = length (contents bytes s) / SYM_SIZE }
 
 -- the symbols behind the null one
 abbrev pub symbols_of : Table → List ℕ
-symbols_of table = entries (table.at + 16) 16 (table.count - 1)
+symbols_of table = entries (table.at + SYM_SIZE) SYM_SIZE (table.count - 1)
 
 abbrev pub binding : List ℕ → ℕ → ℕ
 binding bytes y = byte bytes (y + ST_INFO) / 16
@@ -51,7 +51,7 @@ is_file bytes y = byte bytes (y + ST_INFO) % 16 == STT_FILE
 -- ---- places: the sections that are kept
 
 abbrev pub section_of : List ℕ → ℕ → ℕ
-section_of bytes index = section_table bytes + 40 * index
+section_of bytes index = section_table bytes + SHDR_SIZE * index
 
 abbrev pub place_by : Role → Place
 place_by role.Ignored = place.Undefined
@@ -106,15 +106,15 @@ abbrev pub entry : ℕ → ℕ → Entry
 entry s y = record { section = s; at = y }
 
 unfoldable pub relocs_in : List ℕ → ℕ → List Entry
-relocs_in bytes s = map (entry s) (entries (word32 bytes (s + SH_OFFSET)) 8 (length (contents bytes s) / 8))
+relocs_in bytes s = map (entry s) (entries (word32 bytes (s + SH_OFFSET)) REL_SIZE (length (contents bytes s) / REL_SIZE))
 
 unfoldable pub relocs_of : Role → List ℕ → List ℕ → List Entry
 relocs_of r names bytes = flat_map (relocs_in bytes) (filter (is_reloc_section_of r names bytes) (sections bytes))
 
 -- an entry of eight bytes, of a section, in the file
 pub record IsEntry (bytes : List ℕ) (e : Entry) : Type 0 where
-  pub section : e.section + 40 ≤ length bytes
-  pub at : e.at + 8 ≤ length bytes
+  pub section : e.section + SHDR_SIZE ≤ length bytes
+  pub at : e.at + REL_SIZE ≤ length bytes
 
 -- ---- the tests of sections, of symbols and of relocations
 
@@ -127,7 +127,7 @@ abbrev pub is_linked : Table → List ℕ → List ℕ → ℕ → Bool
 is_linked table names bytes s = (role_number (role_at names bytes (word32 bytes (s + SH_LINK))) == role_number role.Symbols) && (section_of bytes (word32 bytes (s + SH_LINK)) == table.section)
 
 abbrev pub section_test : SectionTest → Table → List ℕ → List ℕ → ℕ → Option ℕ
-section_test EntrySizes table names bytes s = if is_reloc_section names bytes s then entries_fault 8 bytes s else None
+section_test EntrySizes table names bytes s = if is_reloc_section names bytes s then entries_fault REL_SIZE bytes s else None
 section_test Links table names bytes s = if is_reloc_section names bytes s then then_some (not (is_linked table names bytes s)) (s + SH_LINK) else None
 
 unfoldable pub sections_fault : SectionTest → Table → List ℕ → List ℕ → Option ℕ
@@ -152,7 +152,7 @@ abbrev pub has_symbol : Table → List ℕ → ℕ → Bool
 has_symbol table bytes y = not (named_symbol bytes y == 0) && nat_lt (named_symbol bytes y) table.count
 
 abbrev pub symbol_of : Table → List ℕ → ℕ → ℕ
-symbol_of table bytes y = table.at + 16 * named_symbol bytes y
+symbol_of table bytes y = table.at + SYM_SIZE * named_symbol bytes y
 
 unfoldable pub size_at : List ℕ → ℕ → ℕ
 size_at bytes index = if nat_lt index (section_count bytes) then size bytes (section_of bytes index) else 0

@@ -71,6 +71,9 @@ pub const ET_EXEC: u16 = 2;
 /// The Intel 80386 (4, ELF Header).
 pub const EM_386: u16 = 3;
 
+/// How many bytes the ELF header has, `Elf32_Ehdr` (4, ELF Header).
+pub const EHDR_SIZE: usize = 52;
+
 // ---- chapter 4, Sections
 
 /// What a section holds, a long (4, Sections).
@@ -96,6 +99,9 @@ pub const SH_ADDRALIGN: usize = 32;
 
 /// How long one entry of a section of entries is, a long (4, Sections).
 pub const SH_ENTSIZE: usize = 36;
+
+/// How many bytes a section header has, `Elf32_Shdr` (4, Sections).
+pub const SHDR_SIZE: usize = 40;
 
 /// The type of a header of no section (4, Sections).
 pub const SHT_NULL: u32 = 0;
@@ -147,6 +153,9 @@ pub const ST_INFO: usize = 12;
 /// Which section a symbol is defined in, a half (4, Symbol Table).
 pub const ST_SHNDX: usize = 14;
 
+/// How many bytes a symbol has, `Elf32_Sym` (4, Symbol Table).
+pub const SYM_SIZE: usize = 16;
+
 /// The binding of a symbol that other objects don't see (4, Symbol Table).
 pub const STB_LOCAL: u8 = 0;
 
@@ -163,6 +172,9 @@ pub const STT_FILE: u8 = 4;
 
 /// A relocation's symbol, in the upper three bytes, and its type, in the lowest (4, Relocation).
 pub const R_INFO: usize = 4;
+
+/// How many bytes a relocation has, `Elf32_Rel` (4, Relocation).
+pub const REL_SIZE: usize = 8;
 
 /// The type of a field that takes a symbol's address plus its addend (i386, Relocation Types).
 pub const R_386_32: u32 = 1;
@@ -186,6 +198,9 @@ pub const P_MEMSZ: usize = 20;
 
 /// A segment's flags, a long (5, Program Header).
 pub const P_FLAGS: usize = 24;
+
+/// How many bytes a program header has, `Elf32_Phdr` (5, Program Header).
+pub const PHDR_SIZE: usize = 32;
 
 /// The type of a segment that is loaded (5, Program Header).
 pub const PT_LOAD: u32 = 1;

@@ -2,10 +2,11 @@
 
 ghost use Rattle.std.specs.Prelude.{◌≡◌, ◌≤◌, ◌<◌, ◌+◌, ◌*◌, ◌^◌, ◌++◌, length, All, OnOk, IfOk, IfSome};
 ghost use Rattle.guest_ram.specs.Bytes.{word16, word32};
+ghost use Rattle.elf_form.specs.declared.abi.TheConstants.{SYM_SIZE};
 ghost use Rattle.elf_form.specs.Header.{IsWhole, IsSection};
 ghost use Rattle.elf_form.specs.Symbols.{relocs_in, relocs_of, IsEntry, relocs_fault};
 
-use crate::abi::{E_SHNUM, E_SHOFF, SH_OFFSET};
+use crate::abi::{E_SHNUM, E_SHOFF, REL_SIZE, SH_OFFSET, SHDR_SIZE};
 use crate::header::lower;
 use crate::roles::Role;
 use crate::sections::contents;
@@ -20,9 +21,9 @@ fn put_entries(out: &mut Vec<Entry>, bytes: &[u8], s: usize) -> Result<(), Alloc
     ensures inside { OnOk result (All (IsEntry bytes.now) out.new.items) }
 {
     let first = word(bytes, s + SH_OFFSET) as usize;
-    let count = contents(bytes, s).len() / 8;
+    let count = contents(bytes, s).len() / REL_SIZE;
     for i in 0..count {
-        let at = first + 8 * i;
+        let at = first + REL_SIZE * i;
         out.push(Entry { section: s, at })?;
     }
     Ok(())
@@ -43,7 +44,7 @@ pub fn entries_of(
     let count = half(bytes, E_SHNUM) as usize;
     let mut out = Vec::new(alloc);
     for i in 0..count {
-        let s = table + 40 * i;
+        let s = table + SHDR_SIZE * i;
         if is_reloc_section_of(role, names, bytes, s) {
             put_entries(&mut out, bytes, s)?;
         }
@@ -60,7 +61,7 @@ pub fn relocs_fault(
     entries: &[Entry],
 ) -> Option<usize>
     requires whole { IsWhole bytes.now }
-    requires table { 0 < table.count → table.at + 16 * table.count ≤ length bytes.now }
+    requires table { 0 < table.count → table.at + SYM_SIZE * table.count ≤ length bytes.now }
     requires entries { All (IsEntry bytes.now) entries.now }
     ensures place { result ≡ relocs_fault test table names.now bytes.now entries.now }
     ensures small { IfSome result (λ at. at < length bytes.now) }

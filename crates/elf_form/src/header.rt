@@ -8,9 +8,9 @@ ghost use Rattle.elf_form.specs.Tables.{entries};
 ghost use Rattle.elf_form.specs.Header.{cut, part_begins, header_passes, section_passes, passes, IsWhole, magic, class, encoding, version, file_type, machine, identified};
 
 use crate::abi::{
-    E_MACHINE, E_PHNUM, E_PHOFF, E_SHNUM, E_SHOFF, E_TYPE, E_VERSION, EI_CLASS, EI_DATA,
-    EI_VERSION, ELFCLASS32, ELFDATA2LSB, ELFMAG, EM_386, EV_CURRENT, P_FILESZ, P_OFFSET, SH_OFFSET,
-    SH_SIZE, SH_TYPE, SHT_NOBITS, SHT_NULL,
+    E_MACHINE, E_PHNUM, E_PHOFF, E_SHNUM, E_SHOFF, E_TYPE, E_VERSION, EHDR_SIZE, EI_CLASS, EI_DATA,
+    EI_VERSION, ELFCLASS32, ELFDATA2LSB, ELFMAG, EM_386, EV_CURRENT, P_FILESZ, P_OFFSET, PHDR_SIZE,
+    SH_OFFSET, SH_SIZE, SH_TYPE, SHDR_SIZE, SHT_NOBITS, SHT_NULL,
 };
 use crate::cause::{ElfCause, ElfFault};
 use guest_ram::{byte, half, word};
@@ -34,7 +34,7 @@ fn passes_end(bytes: &[u8], at: u32, size: u64) -> bool
 }
 
 fn header_passes_end(bytes: &[u8], h: usize) -> bool
-    requires { h + 32 ≤ length bytes.now }
+    requires { h + PHDR_SIZE ≤ length bytes.now }
     ensures { result ≡ header_passes bytes.now h }
 {
     passes_end(
@@ -45,7 +45,7 @@ fn header_passes_end(bytes: &[u8], h: usize) -> bool
 }
 
 fn section_passes_end(bytes: &[u8], s: usize) -> bool
-    requires { s + 40 ≤ length bytes.now }
+    requires { s + SHDR_SIZE ≤ length bytes.now }
     ensures { result ≡ section_passes bytes.now s }
 {
     let kind = word(bytes, s + SH_TYPE);
@@ -60,11 +60,11 @@ fn section_passes_end(bytes: &[u8], s: usize) -> bool
 }
 
 fn cut_header(bytes: &[u8], table: usize, count: usize) -> Option<u32>
-    requires { table + 32 * count ≤ length bytes.now }
-    ensures { result ≡ part_begins bytes.now 4 (find (header_passes bytes.now) (entries table 32 count)) }
+    requires { table + PHDR_SIZE * count ≤ length bytes.now }
+    ensures { result ≡ part_begins bytes.now P_OFFSET (find (header_passes bytes.now) (entries table PHDR_SIZE count)) }
 {
     for i in 0..count {
-        let h = table + 32 * i;
+        let h = table + PHDR_SIZE * i;
         if header_passes_end(bytes, h) {
             return Some(word(bytes, h + P_OFFSET));
         }
@@ -73,11 +73,11 @@ fn cut_header(bytes: &[u8], table: usize, count: usize) -> Option<u32>
 }
 
 fn cut_section(bytes: &[u8], table: usize, count: usize) -> Option<u32>
-    requires { table + 40 * count ≤ length bytes.now }
-    ensures { result ≡ part_begins bytes.now 16 (find (section_passes bytes.now) (entries table 40 count)) }
+    requires { table + SHDR_SIZE * count ≤ length bytes.now }
+    ensures { result ≡ part_begins bytes.now SH_OFFSET (find (section_passes bytes.now) (entries table SHDR_SIZE count)) }
 {
     for i in 0..count {
-        let s = table + 40 * i;
+        let s = table + SHDR_SIZE * i;
         if section_passes_end(bytes, s) {
             return Some(word(bytes, s + SH_OFFSET));
         }
@@ -91,17 +91,17 @@ pub fn cut(bytes: &[u8]) -> Option<u32>
     ensures place { result ≡ cut bytes.now }
     ensures whole { IfNone result (IsWhole bytes.now) }
 {
-    if bytes.len() < 52 {
+    if bytes.len() < EHDR_SIZE {
         return Some(0);
     }
     let headers = word(bytes, E_PHOFF);
     let header_count = half(bytes, E_PHNUM);
-    if passes_end(bytes, headers, 32 * header_count as u64) {
+    if passes_end(bytes, headers, PHDR_SIZE as u64 * header_count as u64) {
         return Some(headers);
     }
     let sections = word(bytes, E_SHOFF);
     let section_count = half(bytes, E_SHNUM);
-    if passes_end(bytes, sections, 40 * section_count as u64) {
+    if passes_end(bytes, sections, SHDR_SIZE as u64 * section_count as u64) {
         return Some(sections);
     }
     if let Some(at) = cut_header(bytes, headers as usize, header_count as usize) {
@@ -111,28 +111,28 @@ pub fn cut(bytes: &[u8]) -> Option<u32>
 }
 
 fn magic(bytes: &[u8]) -> Option<usize>
-    requires { 52 ≤ length bytes.now }
+    requires { EHDR_SIZE ≤ length bytes.now }
     ensures { result ≡ magic bytes.now }
 {
     (word(bytes, 0) != ELFMAG).then_some(0)
 }
 
 fn class(bytes: &[u8]) -> Option<usize>
-    requires { 52 ≤ length bytes.now }
+    requires { EHDR_SIZE ≤ length bytes.now }
     ensures { result ≡ class bytes.now }
 {
     (byte(bytes, EI_CLASS) != ELFCLASS32).then_some(EI_CLASS)
 }
 
 fn encoding(bytes: &[u8]) -> Option<usize>
-    requires { 52 ≤ length bytes.now }
+    requires { EHDR_SIZE ≤ length bytes.now }
     ensures { result ≡ encoding bytes.now }
 {
     (byte(bytes, EI_DATA) != ELFDATA2LSB).then_some(EI_DATA)
 }
 
 fn version(bytes: &[u8]) -> Option<usize>
-    requires { 52 ≤ length bytes.now }
+    requires { EHDR_SIZE ≤ length bytes.now }
     ensures { result ≡ version bytes.now }
 {
     lower(
@@ -142,14 +142,14 @@ fn version(bytes: &[u8]) -> Option<usize>
 }
 
 fn file_type(bytes: &[u8], wanted: u16) -> Option<usize>
-    requires { 52 ≤ length bytes.now }
+    requires { EHDR_SIZE ≤ length bytes.now }
     ensures { result ≡ file_type wanted bytes.now }
 {
     (half(bytes, E_TYPE) != wanted).then_some(E_TYPE)
 }
 
 fn machine(bytes: &[u8]) -> Option<usize>
-    requires { 52 ≤ length bytes.now }
+    requires { EHDR_SIZE ≤ length bytes.now }
     ensures { result ≡ machine bytes.now }
 {
     (half(bytes, E_MACHINE) != EM_386).then_some(E_MACHINE)
@@ -172,7 +172,7 @@ pub fn test(cause: ElfCause, place: Option<usize>) -> Result<(), ElfFault>
 /// The tests of the identification, the type and the machine.
 #[tactic(auto, unfolding(crate::specs::Header::identified, crate::specs::Faults::tested))]
 pub fn identified(bytes: &[u8], wanted: u16) -> Result<(), ElfFault>
-    requires { 52 ≤ length bytes.now }
+    requires { EHDR_SIZE ≤ length bytes.now }
     ensures { Gives (λ _. tt) result (identified wanted bytes.now) }
 {
     test(ElfCause::Magic, magic(bytes))?;

@@ -1,11 +1,14 @@
 //! Writing an image.
 
 ghost use Rattle.std.specs.Prelude.{◌≡◌, [], ◌∷◌, ◌<◌, ◌≤◌, ◌+◌, ◌^◌, ◌++◌, ◌*◌, length, replicate, Ok, OnOk, IfOk};
+ghost use Rattle.elf_form.specs.declared.segments.TheConstants.{FILE_LIMIT};
 ghost use Rattle.elf_form.specs.Output.{halves, longs, pad};
 ghost use Rattle.elf_form.specs.ImageLayout.{init_from, sites_from, names_from, sections_from, header, program_numbers, section_numbers, body, image_bytes, IsWritableImage, section_names};
 ghost use Rattle.elf_form.specs.Reading.{image_in};
 
-use crate::abi::{EM_386, ET_EXEC, EV_CURRENT, PF_R, PF_W, PF_X, PT_LOAD};
+use crate::abi::{
+    EHDR_SIZE, EM_386, ET_EXEC, EV_CURRENT, PF_R, PF_W, PF_X, PHDR_SIZE, PT_LOAD, SHDR_SIZE,
+};
 use crate::image::Image;
 use crate::output::{IDENTITY, pad, put_halves, put_longs, put_padded, put_zeros};
 use crate::section_header::{
@@ -53,10 +56,10 @@ fn sections_from(image: &Image) -> usize
 /// The longs of the header: the version, where the image begins, its program headers and its
 /// section headers, and the flags.
 fn header_numbers(entry: u32, sections: u32) -> [u32; 5]
-    ensures numbers { result ≡ 1 ∷ entry ∷ 52 ∷ sections ∷ 0 ∷ [] }
+    ensures numbers { result ≡ 1 ∷ entry ∷ EHDR_SIZE ∷ sections ∷ 0 ∷ [] }
     ensures small { entry < 2 ^ 32 }
 {
-    [EV_CURRENT, entry, 52, sections, 0]
+    [EV_CURRENT, entry, EHDR_SIZE as u32, sections, 0]
 }
 
 /// The two program headers. The fields of each: type, offset, address (twice), bytes, memory,
@@ -104,7 +107,15 @@ fn put_header(out: &mut Vec<u8>, image: &Image) -> Result<(), AllocError>
     put_halves(out, &[ET_EXEC, EM_386])?;
     let sections = sections_from(image) as u32;
     put_longs(out, &header_numbers(image.entry, sections))?;
-    put_halves(out, &[52, 32, 2, 40, 6, 5])?;
+    let sizes = [
+        EHDR_SIZE as u16,
+        PHDR_SIZE as u16,
+        2,
+        SHDR_SIZE as u16,
+        6,
+        5,
+    ];
+    put_halves(out, &sizes)?;
     Ok(())
 }
 
@@ -155,12 +166,12 @@ fn put_body(out: &mut Vec<u8>, image: &Image) -> Result<(), AllocError>
     put_padded(out, 4, names_from(image), &NAMES)
 }
 
-/// The one layout of an image. A file of at most 33,554,432 bytes is read as the same image.
+/// The one layout of an image. A file of at most `FILE_LIMIT` bytes is read as the same image.
 #[tactic(auto, unfolding(crate::specs::ImageLayout::image_bytes))]
 pub fn write_image(alloc: Global, image: &Image) -> Result<Vec<u8>, AllocError>
     requires { IsWritableImage image.now }
     ensures layout { IfOk result (λ v. v.items ≡ image_bytes image.now) }
-    ensures read_back { IfOk result (λ v. length v.items ≤ 33554432 → image_in v.items ≡ Ok image.now) }
+    ensures read_back { IfOk result (λ v. length v.items ≤ FILE_LIMIT → image_in v.items ≡ Ok image.now) }
 {
     let mut out = Vec::new(alloc);
     put_header(&mut out, image)?;

@@ -5,7 +5,7 @@ ghost use Rattle.elf_form.specs.Header.{IsWhole, IsSection, sections};
 ghost use Rattle.elf_form.specs.declared.roles.Role.{Role};
 ghost use Rattle.elf_form.specs.Roles.{is_misaligned, misaligned, joined_fault, starts, joined_end, with_section, joined};
 
-use crate::abi::{E_SHNUM, E_SHOFF, SH_ADDRALIGN, SH_SIZE};
+use crate::abi::{E_SHNUM, E_SHOFF, SH_ADDRALIGN, SH_SIZE, SHDR_SIZE};
 use crate::output::{pad, put_zeros};
 use crate::roles::{Role, has_role, is_misaligned, up};
 use crate::sections::contents;
@@ -21,7 +21,7 @@ pub fn misaligned(names: &[u8], bytes: &[u8]) -> Option<usize>
     let table = word(bytes, E_SHOFF) as usize;
     let count = half(bytes, E_SHNUM) as usize;
     for i in 0..count {
-        let s = table + 40 * i;
+        let s = table + SHDR_SIZE * i;
         if is_misaligned(names, bytes, s) {
             return Some(s + SH_ADDRALIGN);
         }
@@ -39,7 +39,7 @@ pub fn joined_fault(role: Role, names: &[u8], bytes: &[u8]) -> Option<usize>
     let count = half(bytes, E_SHNUM) as usize;
     let mut total: usize = 0;
     for i in 0..count {
-        let s = table + 40 * i;
+        let s = table + SHDR_SIZE * i;
         if has_role(role, names, bytes, s) {
             let size = word(bytes, s + SH_SIZE) as usize;
             let more = total + (size + pad(4096, size));
@@ -69,7 +69,7 @@ pub fn starts(
     let mut list = Vec::new(alloc);
     let mut end: u64 = 0;
     for i in 0..count {
-        let s = table + 40 * i;
+        let s = table + SHDR_SIZE * i;
         let mut start: u64 = 0;
         if has_role(role, names, bytes, s) {
             start = up(word(bytes, s + SH_ADDRALIGN), end);
@@ -101,7 +101,7 @@ pub fn joined(alloc: Global, names: &[u8], bytes: &[u8]) -> Result<Vec<u8>, Allo
     let count = half(bytes, E_SHNUM) as usize;
     let mut out = Vec::new(alloc);
     for i in 0..count {
-        let s = table + 40 * i;
+        let s = table + SHDR_SIZE * i;
         if has_role(Role::Init, names, bytes, s) {
             put_section(&mut out, bytes, s)?;
         }

@@ -2,6 +2,7 @@
 
 ghost use Rattle.std.specs.Prelude.{◌≡◌, ◌↔◌, ◌≤◌, ◌+◌, ◌*◌, ℕ, List, length, Some, None};
 ghost use Rattle.std.specs.List.{sum_by};
+ghost use Rattle.elf_form.specs.declared.abi.TheConstants.{EHDR_SIZE, SYM_SIZE, REL_SIZE};
 ghost use Rattle.elf_form.specs.ObjectParts.{ObjectParts};
 ghost use Rattle.elf_form.specs.ObjectLayout.{layout, object_bytes};
 ghost use Rattle.elf_form.specs.Reading.{image_in, wrong_image};
@@ -16,7 +17,7 @@ ghost use Rattle.elf_form.specs.declared.cause.ElfCause.{ElfCause};
 pub fn object_length()
     ensures exact { (o : ObjectParts) → length (object_bytes o) ≡ (layout o).sections + 400 }
     ensures bound { (o : ObjectParts) → (layout o).sections
-        ≤ 52 + length o.text + length o.init + length o.sites + 8 * length o.relocs + 16 * (length o.symbols + 1)
+        ≤ EHDR_SIZE + length o.text + length o.init + length o.sites + REL_SIZE * length o.relocs + SYM_SIZE * (length o.symbols + 1)
         + (sum_by (λ s. length s.name) o.symbols + length o.symbols + 1) + 74 + 40 }
 {}
 

@@ -31,7 +31,7 @@ pub use laws::{
     image_causes_are_conditions, images_refused_in_order, object_causes_are_conditions,
     object_length, objects_refused_in_order,
 };
-pub use object::{Bytes, Object, Place, Reloc, Symbol};
+pub use object::{Bytes, Object, Place, Reloc, SYMBOL_LIMIT, Symbol};
 pub use object_reading::read_object;
 pub use object_writing::write_object;
 pub use output::pad;

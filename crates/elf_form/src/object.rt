@@ -4,6 +4,9 @@ ghost use Rattle.std.specs.Prelude.{◌≡◌};
 
 use std::marker::Model;
 
+/// The most symbols of an object, and of objects that are linked (profile).
+pub const SYMBOL_LIMIT: usize = 65_536;
+
 /// Where a symbol is defined: nowhere, or in an object's text, data or zeroed bytes.
 #[derive(Clone, Copy, PartialEq, Eq)]
 pub enum Place {

@@ -11,13 +11,14 @@ ghost use Rattle.elf_form.specs.Symbols.{entries_fault};
 ghost use Rattle.elf_form.specs.ObjectReading.{has_strings, strings_in, table_of, strings_of, link_of, table_fault, inner_sizes, object_sizes, first_field, second_field, object_form, section_names_fault, symbol_names_fault, string_places};
 
 use crate::abi::{
-    E_EHSIZE, E_SHENTSIZE, E_SHNUM, E_SHOFF, E_SHSTRNDX, SH_FLAGS, SH_LINK, SH_TYPE, SHT_STRTAB,
+    E_EHSIZE, E_SHENTSIZE, E_SHNUM, E_SHOFF, E_SHSTRNDX, EHDR_SIZE, SH_FLAGS, SH_LINK, SH_TYPE,
+    SHDR_SIZE, SHT_STRTAB, SYM_SIZE,
 };
 use crate::header::lower;
 use crate::joining::{joined_fault, misaligned};
 use crate::roles::{Role, with_role};
 use crate::sections::{contents, is_index, nameless, names};
-use crate::segments::{Found, LIMIT};
+use crate::segments::{FILE_LIMIT, Found};
 use crate::symbol_walks::{sections_fault, symbols_fault};
 use crate::symbols::{SectionTest, SymbolTest, Table, entries_fault, table_at};
 use guest_ram::{half, word};
@@ -27,7 +28,7 @@ fn has_strings(bytes: &[u8], link: usize) -> bool
     ensures { result ≡ has_strings bytes.now link }
 {
     let table = word(bytes, E_SHOFF) as usize;
-    is_index(bytes, link) && word(bytes, table + 40 * link + SH_TYPE) == SHT_STRTAB
+    is_index(bytes, link) && word(bytes, table + SHDR_SIZE * link + SH_TYPE) == SHT_STRTAB
 }
 
 /// The bytes of a string table, none where the section is no such table.
@@ -40,7 +41,7 @@ fn strings_in(bytes: &[u8], link: usize) -> &[u8]
     if !is_index(bytes, link) {
         return &[];
     }
-    let s = table + 40 * link;
+    let s = table + SHDR_SIZE * link;
     if word(bytes, s + SH_TYPE) != SHT_STRTAB {
         return &[];
     }
@@ -53,8 +54,8 @@ pub fn table_of(bytes: &[u8]) -> Table
     requires { IsWhole bytes.now }
     ensures table { result ≡ table_of bytes.now }
     ensures small { result.count < 2 ^ 28 }
-    ensures inside { 0 < result.count → result.at + 16 * result.count ≤ length bytes.now }
-    ensures section { result.section + 40 ≤ length bytes.now }
+    ensures inside { 0 < result.count → result.at + SYM_SIZE * result.count ≤ length bytes.now }
+    ensures section { result.section + SHDR_SIZE ≤ length bytes.now }
 {
     table_at(bytes, with_role(Role::Symbols, names(bytes), bytes))
 }
@@ -65,7 +66,10 @@ pub fn strings_of(bytes: &[u8]) -> &[u8]
     requires { IsWhole bytes.now }
     ensures { result.now ≡ strings_of bytes.now }
 {
-    strings_in(bytes, word(bytes, table_of(bytes).section + 24) as usize)
+    strings_in(
+        bytes,
+        word(bytes, table_of(bytes).section + SH_LINK) as usize,
+    )
 }
 
 fn table_fault(bytes: &[u8], found: Found) -> Option<usize>
@@ -75,7 +79,11 @@ fn table_fault(bytes: &[u8], found: Found) -> Option<usize>
 {
     match found {
         Found::Nothing => None,
-        Found::One(s) | Found::Two(s, _) | Found::More(s, _) => entries_fault(16, bytes, s),
+        Found::One(s) | Found::Two(s, _) | Found::More(s, _) => entries_fault(
+            SYM_SIZE as u32,
+            bytes,
+            s,
+        ),
     }
 }
 
@@ -92,9 +100,9 @@ fn inner_sizes(bytes: &[u8]) -> Option<usize>
     let bss = joined_fault(Role::Bss, names, bytes);
     let joined = lower(init, lower(bss, lower(table, relocs)));
     lower(
-        (half(bytes, E_EHSIZE) != 52).then_some(E_EHSIZE),
+        (half(bytes, E_EHSIZE) != EHDR_SIZE as u16).then_some(E_EHSIZE),
         lower(
-            (half(bytes, E_SHENTSIZE) != 40).then_some(E_SHENTSIZE),
+            (half(bytes, E_SHENTSIZE) != SHDR_SIZE as u16).then_some(E_SHENTSIZE),
             joined,
         ),
     )
@@ -106,14 +114,17 @@ pub fn object_sizes(bytes: &[u8]) -> Option<usize>
     requires { IsWhole bytes.now }
     ensures place { result ≡ object_sizes bytes.now }
     ensures small { IfSome result (λ at. at < 2 ^ 32) }
-    ensures limit { IfNone result (length bytes.now ≤ LIMIT) }
+    ensures limit { IfNone result (length bytes.now ≤ FILE_LIMIT) }
 {
-    lower(inner_sizes(bytes), (LIMIT < bytes.len()).then_some(LIMIT))
+    lower(
+        inner_sizes(bytes),
+        (FILE_LIMIT < bytes.len()).then_some(FILE_LIMIT),
+    )
 }
 
 fn first_field(bytes: &[u8], field: usize, found: Found) -> Option<usize>
     requires inside { AllFound (IsSection bytes.now) found }
-    requires field { field < 40 }
+    requires field { field < SHDR_SIZE }
     ensures place { result ≡ first_field field found }
     ensures inside { IfSome result (λ at. at < length bytes.now) }
 {
@@ -126,7 +137,7 @@ fn first_field(bytes: &[u8], field: usize, found: Found) -> Option<usize>
 
 fn second_field(bytes: &[u8], field: usize, found: Found) -> Option<usize>
     requires inside { AllFound (IsSection bytes.now) found }
-    requires field { field < 40 }
+    requires field { field < SHDR_SIZE }
     ensures place { result ≡ second_field field found }
     ensures inside { IfSome result (λ at. at < length bytes.now) }
 {

@@ -26,7 +26,7 @@ use crate::object_conditions::{object_form, object_sizes, string_places, strings
 use crate::records::{Starts, numbers, put_relocs, put_symbols};
 use crate::roles::{Role, with_role};
 use crate::sections::{compressed, contents, names};
-use crate::segments::{Found, LIMIT};
+use crate::segments::{FILE_LIMIT, Found};
 use crate::symbol_walks::{sections_fault, symbols_fault};
 use crate::symbols::{Entry, RelocTest, SectionTest, SymbolTest};
 use std::alloc::{AllocError, Global};
@@ -216,7 +216,7 @@ fn object_at(alloc: Global, bytes: &[u8], kept: &Kept) -> Result<Object, AllocEr
 #[tactic(auto, unfolding(crate::specs::Faults::tested, crate::specs::ObjectReading::wrong_object))]
 fn kept_tested(alloc: Global, bytes: &[u8], kept: &Kept) -> Result<Object, ElfFault>
     requires whole { IsWhole bytes.now }
-    requires limit { length bytes.now ≤ LIMIT }
+    requires limit { length bytes.now ≤ FILE_LIMIT }
     requires kept { AreKept bytes.now kept.now }
     ensures { Gives (λ o. o) result (tested (wrong_object bytes.now) late_causes (object_at bytes.now)) }
 {
@@ -227,7 +227,7 @@ fn kept_tested(alloc: Global, bytes: &[u8], kept: &Kept) -> Result<Object, ElfFa
 
 fn late_tested(alloc: Global, bytes: &[u8]) -> Result<Object, ElfFault>
     requires whole { IsWhole bytes.now }
-    requires limit { length bytes.now ≤ LIMIT }
+    requires limit { length bytes.now ≤ FILE_LIMIT }
     ensures { Gives (λ o. o) result (tested (wrong_object bytes.now) late_causes (object_at bytes.now)) }
 {
     let kept = kept_in(alloc, bytes)?;
@@ -237,7 +237,7 @@ fn late_tested(alloc: Global, bytes: &[u8]) -> Result<Object, ElfFault>
 #[tactic(auto, unfolding(crate::specs::Faults::tested, crate::specs::ObjectReading::wrong_object))]
 fn section_tested(alloc: Global, bytes: &[u8]) -> Result<Object, ElfFault>
     requires whole { IsWhole bytes.now }
-    requires limit { length bytes.now ≤ LIMIT }
+    requires limit { length bytes.now ≤ FILE_LIMIT }
     ensures { Gives (λ o. o) result (tested (wrong_object bytes.now) section_causes (object_at bytes.now)) }
 {
     test(ElfCause::SectionForm, object_form(bytes))?;

@@ -2,12 +2,16 @@
 
 ghost use Rattle.std.specs.Prelude.{◌≡◌, ℕ, List, [], ◌∷◌, ◌<◌, ◌≤◌, ◌+◌, ◌*◌, ◌^◌, ◌++◌, Bool, true, false, length, count_by, map, replicate, All, Ok, OnOk, IfOk};
 ghost use Rattle.std.specs.List.{flat_map};
+ghost use Rattle.elf_form.specs.declared.object.TheConstants.{SYMBOL_LIMIT};
+ghost use Rattle.elf_form.specs.declared.segments.TheConstants.{FILE_LIMIT};
 ghost use Rattle.elf_form.specs.Output.{halves, longs, pad};
 ghost use Rattle.elf_form.specs.StringTable.{name_place, IsStringTable, HasPlaces};
 ghost use Rattle.elf_form.specs.ObjectLayout.{next, layout as layout_of, names_of, strings_of, is_of, place_number, symbol_bytes, symbol_table, first_global, reloc_bytes, reloc_table, object_header, object_parts, object_tables, part_sections, table_sections, object_names, object_bytes, IsWritableObject, IsWholeObject, HasValues, AreLengths};
 ghost use Rattle.elf_form.specs.ObjectReading.{object_in};
 
-use crate::abi::{EM_386, ET_REL, EV_CURRENT, R_386_32, R_386_PC32};
+use crate::abi::{
+    EHDR_SIZE, EM_386, ET_REL, EV_CURRENT, R_386_32, R_386_PC32, REL_SIZE, SHDR_SIZE, SYM_SIZE,
+};
 use crate::object::{Object, Place, Reloc, Symbol, bytes_of};
 use crate::output::{IDENTITY, pad, put_halves, put_longs, put_padded, put_zeros};
 use crate::section_header::{
@@ -76,7 +80,7 @@ fn place_number(place: Place) -> u16
 
 #[tactic(auto, unfolding(crate::specs::ObjectLayout::reloc_bytes))]
 fn put_reloc(out: &mut Vec<u8>, reloc: &Reloc) -> Result<(), AllocError>
-    requires { reloc.now.symbol < 65536 }
+    requires { reloc.now.symbol < SYMBOL_LIMIT }
     ensures { OnOk result (out.new.items ≡ out.old.items ++ reloc_bytes reloc.now) }
 {
     let kind = if reloc.relative { R_386_PC32 } else { R_386_32 };
@@ -85,7 +89,7 @@ fn put_reloc(out: &mut Vec<u8>, reloc: &Reloc) -> Result<(), AllocError>
 
 #[tactic(auto, unfolding(crate::specs::ObjectLayout::reloc_table))]
 fn put_relocs(out: &mut Vec<u8>, relocs: &[Reloc], in_text: bool) -> Result<(), AllocError>
-    requires { All (λ r. r.symbol < 65536) relocs.now }
+    requires { All (λ r. r.symbol < SYMBOL_LIMIT) relocs.now }
     ensures { OnOk result (out.new.items ≡ out.old.items ++ reloc_table in_text relocs.now) }
 {
     for r in relocs {
@@ -126,10 +130,10 @@ fn put_symbol(out: &mut Vec<u8>, places: &Places, symbol: &Symbol) -> Result<(),
 
 fn put_symbols(out: &mut Vec<u8>, places: &Places, symbols: &[Symbol]) -> Result<(), AllocError>
     ensures bytes { OnOk result ((names : List (List ℕ)) → HasPlaces names places.now
-        → out.new.items ≡ out.old.items ++ (replicate 16 0 ++ flat_map (symbol_bytes names) symbols.now)) }
+        → out.new.items ≡ out.old.items ++ (replicate SYM_SIZE 0 ++ flat_map (symbol_bytes names) symbols.now)) }
     ensures values { OnOk result (All (λ s. s.value < 2 ^ 32) symbols.now) }
 {
-    put_zeros(out, 16)?;
+    put_zeros(out, SYM_SIZE)?;
     for s in symbols {
         put_symbol(out, places, s)?;
     }
@@ -171,12 +175,12 @@ fn layout_for(object: &Object, lengths: Lengths) -> Layout
     ensures { result ≡ layout_of object.now }
 {
     let _object = object;
-    let init = next(52 + lengths.text);
+    let init = next(EHDR_SIZE + lengths.text);
     let sites = next(init + lengths.init);
     let text_relocs = next(sites + lengths.sites);
-    let data_relocs = text_relocs + 8 * lengths.text_relocs;
-    let symbols = data_relocs + 8 * lengths.data_relocs;
-    let strings = symbols + 16 * (lengths.symbols + 1);
+    let data_relocs = text_relocs + REL_SIZE * lengths.text_relocs;
+    let symbols = data_relocs + REL_SIZE * lengths.data_relocs;
+    let strings = symbols + SYM_SIZE * (lengths.symbols + 1);
     let names = next(strings + lengths.strings);
     Layout {
         init: init as u32,
@@ -199,7 +203,7 @@ fn put_header(out: &mut Vec<u8>, object: &Object, layout: &Layout) -> Result<(),
     out.extend_from_slice(&IDENTITY)?;
     put_halves(out, &[ET_REL, EM_386])?;
     put_longs(out, &[EV_CURRENT, 0, 0, layout.sections, 0])?;
-    put_halves(out, &[52, 0, 0, 40, 10, 9])
+    put_halves(out, &[EHDR_SIZE as u16, 0, 0, SHDR_SIZE as u16, 10, 9])
 }
 
 #[tactic(auto, unfolding(crate::specs::ObjectLayout::object_parts))]
@@ -208,7 +212,7 @@ fn put_parts(out: &mut Vec<u8>, object: &Object, layout: &Layout) -> Result<(), 
     requires layout { layout.now ≡ layout_of object.now }
     ensures { OnOk result (out.new.items ≡ out.old.items ++ object_parts object.now) }
 {
-    put_padded(out, 4, 52, &object.text)?;
+    put_padded(out, 4, EHDR_SIZE, &object.text)?;
     put_padded(out, 4, layout.init as usize, &object.init)?;
     put_padded(out, 4, layout.sites as usize, &object.sites)
 }
@@ -237,9 +241,9 @@ fn put_tables(
 
 /// The number of the first global symbol in the symbol table.
 fn first_global(symbols: &[Symbol]) -> usize
-    requires { length symbols.now ≤ 65536 }
+    requires { length symbols.now ≤ SYMBOL_LIMIT }
     ensures number { result ≡ first_global symbols.now }
-    ensures small { result ≤ 65537 }
+    ensures small { result ≤ SYMBOL_LIMIT + 1 }
 {
     for (i, s) in symbols.iter().enumerate() {
         if s.global {
@@ -264,7 +268,7 @@ fn put_part_sections(
     let sites = lengths.sites as u32;
     let headers = [
         NO_SECTION,
-        TEXT_SECTION.at(0, 52, text),
+        TEXT_SECTION.at(0, EHDR_SIZE as u32, text),
         DATA_SECTION.at(0, layout.init, init),
         bss_section(16).at(0, 0, object.bss),
         SITES_SECTION.at(0, layout.sites, sites),
@@ -279,14 +283,14 @@ fn put_table_sections(
     lengths: &Lengths,
     layout: &Layout,
 ) -> Result<(), AllocError>
-    requires count { length object.now.symbols ≤ 65536 }
+    requires count { length object.now.symbols ≤ SYMBOL_LIMIT }
     requires lengths { AreLengths object.now lengths.now }
     requires layout { layout.now ≡ layout_of object.now }
     ensures { OnOk result (out.new.items ≡ out.old.items ++ longs (table_sections object.now)) }
 {
-    let text = 8 * lengths.text_relocs as u32;
-    let data = 8 * lengths.data_relocs as u32;
-    let symbols = 16 * (lengths.symbols as u32 + 1);
+    let text = REL_SIZE as u32 * lengths.text_relocs as u32;
+    let data = REL_SIZE as u32 * lengths.data_relocs as u32;
+    let symbols = SYM_SIZE as u32 * (lengths.symbols as u32 + 1);
     let strings = lengths.strings as u32;
     let global = first_global(&object.symbols) as u32;
     let headers = [
@@ -323,13 +327,13 @@ fn put_object(
     Ok(())
 }
 
-/// The one layout of an object. The file of a whole object, where it has at most 33,554,432
+/// The one layout of an object. The file of a whole object, where it has at most `FILE_LIMIT`
 /// bytes, is read as the same object.
 pub fn write_object(alloc: Global, object: &Object) -> Result<Vec<u8>, AllocError>
     requires { IsWritableObject object.now }
     ensures layout { IfOk result (λ v. v.items ≡ object_bytes object.now) }
     ensures size { IfOk result (λ v. length v.items ≡ (layout_of object.now).sections + 400) }
-    ensures read_back { IfOk result (λ v. IsWholeObject object.now → length v.items ≤ 33554432 → object_in v.items ≡ Ok object.now) }
+    ensures read_back { IfOk result (λ v. IsWholeObject object.now → length v.items ≤ FILE_LIMIT → object_in v.items ≡ Ok object.now) }
 {
     let (strings, places) = strings(alloc, &object.symbols)?;
     let mut out = Vec::new(alloc);

@@ -17,7 +17,7 @@ use crate::cause::{ElfCause, ElfFault};
 use crate::header::{cut, identified, lower, test};
 use crate::image::Image;
 use crate::sections::{compressed, contents, nameless, one_of, sites_sections};
-use crate::segments::{LIMIT, loads, order, sizes};
+use crate::segments::{FILE_LIMIT, loads, order, sizes};
 use guest_ram::word;
 use std::alloc::Global;
 
@@ -25,7 +25,7 @@ use std::alloc::Global;
 #[tactic(auto, unfolding(crate::specs::Faults::tested, crate::specs::Reading::wrong_image, crate::specs::Reading::section_form))]
 fn section_tested(bytes: &[u8]) -> Result<(usize, usize, usize), ElfFault>
     requires whole { IsWhole bytes.now }
-    requires limit { length bytes.now ≤ LIMIT }
+    requires limit { length bytes.now ≤ FILE_LIMIT }
     requires memory { memory_sizes bytes.now (loads bytes.now) ≡ None }
     ensures exact { Gives (parts_by bytes.now) result (tested (wrong_image bytes.now) section_causes (image_at bytes.now)) }
     ensures places { IfOk result (ArePlaces bytes.now) }

@@ -8,7 +8,7 @@ ghost use Rattle.elf_form.specs.declared.roles.Role.TheVariants.{Init, Bss};
 ghost use Rattle.elf_form.specs.Roles.{starts as starts_of};
 ghost use Rattle.elf_form.specs.Symbols.{IsEntry, start_at, name_in, symbol_at, symbols_in, numbers, symbols_of, reloc_at};
 
-use crate::abi::{R_386_PC32, R_INFO, SH_INFO, ST_INFO, ST_SHNDX, ST_VALUE, STB_GLOBAL};
+use crate::abi::{R_386_PC32, R_INFO, SH_INFO, ST_INFO, ST_SHNDX, ST_VALUE, STB_GLOBAL, SYM_SIZE};
 use crate::object::{Bytes, Reloc, Symbol};
 use crate::roles::{Role, role_number};
 use crate::sections::from;
@@ -71,7 +71,7 @@ fn symbol_at(
     requires whole { IsWhole bytes.now }
     requires init { starts.init.now ≡ starts_of Init names.now bytes.now 0 (sections bytes.now) }
     requires bss { starts.bss.now ≡ starts_of Bss names.now bytes.now 0 (sections bytes.now) }
-    requires inside { y + 16 ≤ length bytes.now }
+    requires inside { y + SYM_SIZE ≤ length bytes.now }
     ensures { IfOk result (λ s. s ≡ symbol_at strings.now names.now bytes.now y) }
 {
     let index = half(bytes, y + ST_SHNDX) as usize;
@@ -101,16 +101,16 @@ pub fn put_symbols(
     requires whole { IsWhole bytes.now }
     requires init { starts.init.now ≡ starts_of Init names.now bytes.now 0 (sections bytes.now) }
     requires bss { starts.bss.now ≡ starts_of Bss names.now bytes.now 0 (sections bytes.now) }
-    requires table { 0 < table.count → table.at + 16 * table.count ≤ length bytes.now }
+    requires table { 0 < table.count → table.at + SYM_SIZE * table.count ≤ length bytes.now }
     ensures { OnOk result (out.new.items ≡ out.old.items ++ symbols_in table strings.now names.now bytes.now) }
 {
     if table.count == 0 {
         return Ok(());
     }
-    let first = table.at + 16;
+    let first = table.at + SYM_SIZE;
     let count = table.count - 1;
     for i in 0..count {
-        let y = first + 16 * i;
+        let y = first + SYM_SIZE * i;
         if is_listed(names, bytes, y) {
             out.push(symbol_at(alloc, starts, strings, names, bytes, y)?)?;
         }
@@ -126,7 +126,7 @@ pub fn numbers(
     bytes: &[u8],
 ) -> Result<Vec<u32>, AllocError>
     requires whole { IsWhole bytes.now }
-    requires table { 0 < table.count → table.at + 16 * table.count ≤ length bytes.now }
+    requires table { 0 < table.count → table.at + SYM_SIZE * table.count ≤ length bytes.now }
     requires count { table.count < 2 ^ 28 }
     ensures { IfOk result (λ v. v.items ≡ numbers names.now bytes.now 0 (symbols_of table)) }
 {
@@ -134,12 +134,12 @@ pub fn numbers(
     if table.count == 0 {
         return Ok(out);
     }
-    let first = table.at + 16;
+    let first = table.at + SYM_SIZE;
     let count = table.count - 1;
     let mut number: u32 = 0;
     for i in 0..count {
         out.push(number)?;
-        if is_listed(names, bytes, first + 16 * i) {
+        if is_listed(names, bytes, first + SYM_SIZE * i) {
             number += 1;
         }
     }

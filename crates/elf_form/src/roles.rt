@@ -9,8 +9,8 @@ ghost use Rattle.elf_form.specs.Roles.{allocated_role, unallocated_role, role_by
 ghost use Rattle.elf_form.specs.Output.{pad};
 
 use crate::abi::{
-    E_SHNUM, E_SHOFF, SH_ADDRALIGN, SH_FLAGS, SH_TYPE, SHF_ALLOC, SHF_EXECINSTR, SHT_NOBITS,
-    SHT_NOTE, SHT_PROGBITS, SHT_REL, SHT_SYMTAB,
+    E_SHNUM, E_SHOFF, SH_ADDRALIGN, SH_FLAGS, SH_TYPE, SHDR_SIZE, SHF_ALLOC, SHF_EXECINSTR,
+    SHT_NOBITS, SHT_NOTE, SHT_PROGBITS, SHT_REL, SHT_SYMTAB,
 };
 use crate::sections::{is_null, is_sites};
 use crate::segments::Found;
@@ -66,7 +66,7 @@ fn role_by(kind: u32, flags: u32) -> Role
 /// of names.
 #[tactic(auto, unfolding(crate::specs::Roles::role))]
 pub fn section_role(names: &[u8], bytes: &[u8], s: usize) -> Role
-    requires { s + 40 ≤ length bytes.now }
+    requires { s + SHDR_SIZE ≤ length bytes.now }
     ensures { result ≡ role_of names.now bytes.now s }
 {
     if is_null(bytes, s) {
@@ -96,7 +96,7 @@ pub fn role_number(role: Role) -> u8
 
 /// Whether the section whose header begins at `s` is read as this.
 pub fn has_role(role: Role, names: &[u8], bytes: &[u8], s: usize) -> bool
-    requires { s + 40 ≤ length bytes.now }
+    requires { s + SHDR_SIZE ≤ length bytes.now }
     ensures { result ≡ has_role role names.now bytes.now s }
 {
     role_number(section_role(names, bytes, s)) == role_number(role)
@@ -122,7 +122,7 @@ pub fn with_role(role: Role, names: &[u8], bytes: &[u8]) -> Found
     let count = half(bytes, E_SHNUM) as usize;
     let mut found = Found::Nothing;
     for i in 0..count {
-        let s = table + 40 * i;
+        let s = table + SHDR_SIZE * i;
         if has_role(role, names, bytes, s) {
             found = found.with(s);
         }
@@ -154,7 +154,7 @@ fn is_alignment(number: u32) -> bool
 
 /// Whether it is a section of data or of zeroed bytes whose alignment isn't 0 or a power of 2 up to 4096 (profile).
 pub fn is_misaligned(names: &[u8], bytes: &[u8], s: usize) -> bool
-    requires { s + 40 ≤ length bytes.now }
+    requires { s + SHDR_SIZE ≤ length bytes.now }
     ensures { result ≡ is_misaligned names.now bytes.now s }
 {
     (has_role(Role::Init, names, bytes, s) || has_role(Role::Bss, names, bytes, s))

@@ -5,8 +5,8 @@ ghost use Rattle.elf_form.specs.Output.{longs};
 ghost use Rattle.elf_form.specs.SectionHeaders.{placed, bss_section, relocations_section, symbols_section, names_section, numbers_of};
 
 use crate::abi::{
-    SHF_ALLOC, SHF_EXECINSTR, SHF_WRITE, SHT_NOBITS, SHT_NULL, SHT_PROGBITS, SHT_REL, SHT_STRTAB,
-    SHT_SYMTAB,
+    REL_SIZE, SHF_ALLOC, SHF_EXECINSTR, SHF_WRITE, SHT_NOBITS, SHT_NULL, SHT_PROGBITS, SHT_REL,
+    SHT_STRTAB, SHT_SYMTAB, SYM_SIZE,
 };
 use crate::output::put_longs;
 use std::alloc::AllocError;
@@ -103,7 +103,7 @@ pub fn relocations_section(name: u32, section: u32) -> SectionHeader
         kind: SHT_REL,
         link: 7,
         info: section,
-        entry_size: 8,
+        entry_size: REL_SIZE as u32,
         ..NO_SECTION
     }
 }
@@ -117,7 +117,7 @@ pub fn symbols_section(first_global: u32) -> SectionHeader
         kind: SHT_SYMTAB,
         link: 8,
         info: first_global,
-        entry_size: 16,
+        entry_size: SYM_SIZE as u32,
         ..NO_SECTION
     }
 }

@@ -2,12 +2,13 @@
 
 ghost use Rattle.std.specs.Prelude.{◌≡◌, ◌≤◌, ◌<◌, ◌+◌, ◌^◌, length, drop, IfSome};
 ghost use Rattle.guest_ram.specs.Bytes.{word16, word32};
+ghost use Rattle.elf_form.specs.declared.abi.TheConstants.{EHDR_SIZE};
 ghost use Rattle.elf_form.specs.Tables.{AllFound};
 ghost use Rattle.elf_form.specs.Header.{IsWhole, IsSection, section_passes};
 ghost use Rattle.elf_form.specs.Sections.{contents, is_index, names, is_null, is_nameless, is_sites, is_compressed, sites_sections, one_of, compressed, nameless};
 
 use crate::abi::{
-    E_SHNUM, E_SHOFF, E_SHSTRNDX, SH_FLAGS, SH_OFFSET, SH_SIZE, SH_TYPE, SHF_COMPRESSED,
+    E_SHNUM, E_SHOFF, E_SHSTRNDX, SH_FLAGS, SH_OFFSET, SH_SIZE, SH_TYPE, SHDR_SIZE, SHF_COMPRESSED,
     SHN_LORESERVE, SHN_UNDEF, SHT_NOBITS, SHT_NULL, SHT_STRTAB,
 };
 use crate::segments::Found;
@@ -35,7 +36,7 @@ pub fn contents(bytes: &[u8], s: usize) -> &[u8]
 
 /// Whether an index names a section; `SHN_UNDEF` and the reserved ones name none.
 pub fn is_index(bytes: &[u8], index: usize) -> bool
-    requires { 52 ≤ length bytes.now }
+    requires { EHDR_SIZE ≤ length bytes.now }
     ensures { result ≡ is_index bytes.now index }
 {
     index != SHN_UNDEF && index < SHN_LORESERVE && index < half(bytes, E_SHNUM) as usize
@@ -52,7 +53,7 @@ pub fn names(bytes: &[u8]) -> &[u8]
     if !is_index(bytes, index) {
         return &[];
     }
-    let s = table + 40 * index;
+    let s = table + SHDR_SIZE * index;
     if word(bytes, s + SH_TYPE) != SHT_STRTAB {
         return &[];
     }
@@ -68,14 +69,14 @@ pub fn from(names: &[u8], at: usize) -> &[u8]
 
 /// Whether the section's type is SHT_NULL.
 pub fn is_null(bytes: &[u8], s: usize) -> bool
-    requires { s + 40 ≤ length bytes.now }
+    requires { s + SHDR_SIZE ≤ length bytes.now }
     ensures { result ≡ is_null bytes.now s }
 {
     word(bytes, s + SH_TYPE) == SHT_NULL
 }
 
 fn is_nameless(names: &[u8], bytes: &[u8], s: usize) -> bool
-    requires { s + 40 ≤ length bytes.now }
+    requires { s + SHDR_SIZE ≤ length bytes.now }
     ensures { result ≡ is_nameless names.now bytes.now s }
 {
     word(bytes, s + SH_TYPE) != SHT_NULL && !from(names, word(bytes, s) as usize).contains(&0)
@@ -83,7 +84,7 @@ fn is_nameless(names: &[u8], bytes: &[u8], s: usize) -> bool
 
 /// Whether the section has the name of the list of sites.
 pub fn is_sites(names: &[u8], bytes: &[u8], s: usize) -> bool
-    requires { s + 40 ≤ length bytes.now }
+    requires { s + SHDR_SIZE ≤ length bytes.now }
     ensures { result ≡ is_sites names.now bytes.now s }
 {
     word(bytes, s + SH_TYPE) != SHT_NULL
@@ -91,7 +92,7 @@ pub fn is_sites(names: &[u8], bytes: &[u8], s: usize) -> bool
 }
 
 fn is_compressed(bytes: &[u8], s: usize) -> bool
-    requires { s + 40 ≤ length bytes.now }
+    requires { s + SHDR_SIZE ≤ length bytes.now }
     ensures { result ≡ is_compressed bytes.now s }
 {
     word(bytes, s + SH_TYPE) != SHT_NULL && word(bytes, s + SH_FLAGS) / SHF_COMPRESSED % 2 == 1
@@ -108,7 +109,7 @@ pub fn sites_sections(bytes: &[u8]) -> Found
     let names = names(bytes);
     let mut found = Found::Nothing;
     for i in 0..count {
-        let s = table + 40 * i;
+        let s = table + SHDR_SIZE * i;
         if is_sites(names, bytes, s) {
             found = found.with(s);
         }
@@ -136,7 +137,7 @@ pub fn compressed(bytes: &[u8]) -> Option<usize>
     let table = word(bytes, E_SHOFF) as usize;
     let count = half(bytes, E_SHNUM) as usize;
     for i in 0..count {
-        let s = table + 40 * i;
+        let s = table + SHDR_SIZE * i;
         if is_compressed(bytes, s) {
             return Some(s + SH_FLAGS);
         }
@@ -154,7 +155,7 @@ pub fn nameless(bytes: &[u8]) -> Option<usize>
     let count = half(bytes, E_SHNUM) as usize;
     let names = names(bytes);
     for i in 0..count {
-        let s = table + 40 * i;
+        let s = table + SHDR_SIZE * i;
         if is_nameless(names, bytes, s) {
             return Some(s);
         }

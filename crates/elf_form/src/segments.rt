@@ -7,13 +7,14 @@ ghost use Rattle.elf_form.specs.Header.{IsWhole, IsHeader};
 ghost use Rattle.elf_form.specs.Segments.{loads, memory_sizes, first_size, second_size, sizes, order, is_executable};
 
 use crate::abi::{
-    E_EHSIZE, E_PHENTSIZE, E_PHNUM, E_PHOFF, E_SHENTSIZE, P_FILESZ, P_FLAGS, P_MEMSZ, PF_X, PT_LOAD,
+    E_EHSIZE, E_PHENTSIZE, E_PHNUM, E_PHOFF, E_SHENTSIZE, EHDR_SIZE, P_FILESZ, P_FLAGS, P_MEMSZ,
+    PF_X, PHDR_SIZE, PT_LOAD, SHDR_SIZE,
 };
 use crate::header::lower;
 use guest_ram::{half, word};
 
 /// The longest file that is read.
-pub const LIMIT: usize = 33_554_432;
+pub const FILE_LIMIT: usize = 33_554_432;
 
 /// The first two of the entries that were looked for.
 #[derive(Clone, Copy)]
@@ -68,7 +69,7 @@ pub fn loads(bytes: &[u8]) -> Found
     let count = half(bytes, E_PHNUM) as usize;
     let mut found = Found::Nothing;
     for i in 0..count {
-        let h = table + 32 * i;
+        let h = table + PHDR_SIZE * i;
         if word(bytes, h) == PT_LOAD {
             found = found.with(h);
         }
@@ -77,14 +78,14 @@ pub fn loads(bytes: &[u8]) -> Found
 }
 
 fn first_size(bytes: &[u8], h: usize) -> Option<usize>
-    requires { h + 32 ≤ length bytes.now }
+    requires { h + PHDR_SIZE ≤ length bytes.now }
     ensures { result ≡ first_size bytes.now h }
 {
     (word(bytes, h + P_MEMSZ) != word(bytes, h + P_FILESZ)).then_some(h + P_MEMSZ)
 }
 
 fn second_size(bytes: &[u8], h: usize) -> Option<usize>
-    requires { h + 32 ≤ length bytes.now }
+    requires { h + PHDR_SIZE ≤ length bytes.now }
     ensures { result ≡ second_size bytes.now h }
 {
     (word(bytes, h + P_MEMSZ) < word(bytes, h + P_FILESZ)).then_some(h + P_MEMSZ)
@@ -109,17 +110,17 @@ pub fn sizes(bytes: &[u8]) -> Option<usize>
     requires { IsWhole bytes.now }
     ensures place { result ≡ sizes bytes.now }
     ensures small { IfSome result (λ at. at < 2 ^ 32) }
-    ensures limit { IfNone result (length bytes.now ≤ LIMIT) }
+    ensures limit { IfNone result (length bytes.now ≤ FILE_LIMIT) }
     ensures memory { IfNone result (memory_sizes bytes.now (loads bytes.now) ≡ None) }
 {
     let memory = memory_sizes(bytes, loads(bytes));
-    let long = (LIMIT < bytes.len()).then_some(LIMIT);
+    let long = (FILE_LIMIT < bytes.len()).then_some(FILE_LIMIT);
     lower(
-        (half(bytes, E_EHSIZE) != 52).then_some(E_EHSIZE),
+        (half(bytes, E_EHSIZE) != EHDR_SIZE as u16).then_some(E_EHSIZE),
         lower(
-            (half(bytes, E_PHENTSIZE) != 32).then_some(E_PHENTSIZE),
+            (half(bytes, E_PHENTSIZE) != PHDR_SIZE as u16).then_some(E_PHENTSIZE),
             lower(
-                (half(bytes, E_SHENTSIZE) != 40).then_some(E_SHENTSIZE),
+                (half(bytes, E_SHENTSIZE) != SHDR_SIZE as u16).then_some(E_SHENTSIZE),
                 lower(memory, long),
             ),
         ),
@@ -127,7 +128,7 @@ pub fn sizes(bytes: &[u8]) -> Option<usize>
 }
 
 fn is_executable(bytes: &[u8], h: usize) -> bool
-    requires { h + 32 ≤ length bytes.now }
+    requires { h + PHDR_SIZE ≤ length bytes.now }
     ensures { result ≡ is_executable bytes.now h }
 {
     word(bytes, h + P_FLAGS) % 2 == PF_X

@@ -6,7 +6,7 @@ ghost use Rattle.elf_form.specs.Faults.{◌or_lower◌};
 ghost use Rattle.elf_form.specs.Header.{IsWhole, IsSection};
 ghost use Rattle.elf_form.specs.Symbols.{sections_fault, symbols_fault};
 
-use crate::abi::{E_SHNUM, E_SHOFF};
+use crate::abi::{E_SHNUM, E_SHOFF, SHDR_SIZE, SYM_SIZE};
 use crate::symbols::{SectionTest, SymbolTest, Table, section_test, symbol_test};
 use guest_ram::{half, word};
 
@@ -19,7 +19,7 @@ pub fn sections_fault(test: SectionTest, table: Table, names: &[u8], bytes: &[u8
     let first = word(bytes, E_SHOFF) as usize;
     let count = half(bytes, E_SHNUM) as usize;
     for i in 0..count {
-        if let Some(at) = section_test(test, table, names, bytes, first + 40 * i) {
+        if let Some(at) = section_test(test, table, names, bytes, first + SHDR_SIZE * i) {
             return Some(at);
         }
     }
@@ -35,17 +35,17 @@ pub fn symbols_fault(
     bytes: &[u8],
 ) -> Option<usize>
     requires whole { IsWhole bytes.now }
-    requires table { 0 < table.count → table.at + 16 * table.count ≤ length bytes.now }
+    requires table { 0 < table.count → table.at + SYM_SIZE * table.count ≤ length bytes.now }
     ensures place { result ≡ symbols_fault test table strings.now names.now bytes.now }
     ensures inside { IfSome result (λ at. at < length bytes.now) }
 {
     if table.count == 0 {
         return None;
     }
-    let first = table.at + 16;
+    let first = table.at + SYM_SIZE;
     let count = table.count - 1;
     for i in 0..count {
-        if let Some(at) = symbol_test(test, strings, names, bytes, first + 16 * i) {
+        if let Some(at) = symbol_test(test, strings, names, bytes, first + SYM_SIZE * i) {
             return Some(at);
         }
     }

@@ -2,13 +2,15 @@
 
 ghost use Rattle.std.specs.Prelude.{◌≡◌, ◌≤◌, ◌<◌, ◌+◌, ◌*◌, ◌^◌, length, IfSome};
 ghost use Rattle.guest_ram.specs.Bytes.{word16, word32};
+ghost use Rattle.elf_form.specs.declared.abi.TheConstants.{EHDR_SIZE};
 ghost use Rattle.elf_form.specs.Tables.{AllFound};
 ghost use Rattle.elf_form.specs.Header.{IsWhole, IsSection, section_table, section_count};
 ghost use Rattle.elf_form.specs.Symbols.{target_role, table_at, is_file, has_binding, has_place, is_listed, place_by, role_at, symbol_fault, global_fault, is_reloc_section, is_reloc_section_of, entries_fault, is_linked, section_test, is_unnamed, symbol_test, has_symbol, size_at, named_symbol, IsEntry, is_outside, has_kind, names_none, named_fault, form_fault, reloc_test};
 
 use crate::abi::{
-    E_SHNUM, E_SHOFF, R_386_32, R_386_PC32, R_INFO, SH_ENTSIZE, SH_INFO, SH_LINK, SH_OFFSET,
-    SH_SIZE, SHN_UNDEF, ST_INFO, ST_SHNDX, STB_LOCAL, STB_WEAK, STT_FILE,
+    E_SHNUM, E_SHOFF, R_386_32, R_386_PC32, R_INFO, REL_SIZE, SH_ENTSIZE, SH_INFO, SH_LINK,
+    SH_OFFSET, SH_SIZE, SHDR_SIZE, SHN_UNDEF, ST_INFO, ST_SHNDX, STB_LOCAL, STB_WEAK, STT_FILE,
+    SYM_SIZE,
 };
 use crate::object::Place;
 use crate::roles::{Role, has_role, is_kept, role_number, section_role};
@@ -57,11 +59,11 @@ pub enum RelocTest {
 /// and the number of its entries. All 0 where none was found.
 pub fn table_at(bytes: &[u8], found: Found) -> Table
     requires found { AllFound (IsSection bytes.now) found }
-    requires header { 52 ≤ length bytes.now }
+    requires header { EHDR_SIZE ≤ length bytes.now }
     ensures table { result ≡ table_at bytes.now found }
-    ensures section { result.section + 40 ≤ length bytes.now }
+    ensures section { result.section + SHDR_SIZE ≤ length bytes.now }
     ensures small { result.count < 2 ^ 28 }
-    ensures inside { 0 < result.count → result.at + 16 * result.count ≤ length bytes.now }
+    ensures inside { 0 < result.count → result.at + SYM_SIZE * result.count ≤ length bytes.now }
 {
     match found {
         Found::Nothing => Table {
@@ -72,21 +74,21 @@ pub fn table_at(bytes: &[u8], found: Found) -> Table
         Found::One(s) | Found::Two(s, _) | Found::More(s, _) => Table {
             section: s,
             at: word(bytes, s + SH_OFFSET) as usize,
-            count: contents(bytes, s).len() / 16,
+            count: contents(bytes, s).len() / SYM_SIZE,
         },
     }
 }
 
 /// Whether the symbol at `y` names a source file (STT_FILE).
 pub fn is_file(bytes: &[u8], y: usize) -> bool
-    requires { y + 16 ≤ length bytes.now }
+    requires { y + SYM_SIZE ≤ length bytes.now }
     ensures { result ≡ is_file bytes.now y }
 {
     byte(bytes, y + ST_INFO) % 16 == STT_FILE
 }
 
 fn has_binding(bytes: &[u8], y: usize) -> bool
-    requires { y + 16 ≤ length bytes.now }
+    requires { y + SYM_SIZE ≤ length bytes.now }
     ensures { result ≡ has_binding bytes.now y }
 {
     byte(bytes, y + ST_INFO) / 16 < STB_WEAK
@@ -115,12 +117,16 @@ pub fn role_at(names: &[u8], bytes: &[u8], index: usize) -> Role
     if !is_index(bytes, index) {
         return Role::Ignored;
     }
-    section_role(names, bytes, word(bytes, E_SHOFF) as usize + 40 * index)
+    section_role(
+        names,
+        bytes,
+        word(bytes, E_SHOFF) as usize + SHDR_SIZE * index,
+    )
 }
 
 fn has_place(names: &[u8], bytes: &[u8], y: usize) -> bool
     requires whole { IsWhole bytes.now }
-    requires inside { y + 16 ≤ length bytes.now }
+    requires inside { y + SYM_SIZE ≤ length bytes.now }
     ensures { result ≡ has_place names.now bytes.now y }
 {
     let index = half(bytes, y + ST_SHNDX) as usize;
@@ -131,7 +137,7 @@ fn has_place(names: &[u8], bytes: &[u8], y: usize) -> bool
 /// kept.
 pub fn is_listed(names: &[u8], bytes: &[u8], y: usize) -> bool
     requires whole { IsWhole bytes.now }
-    requires inside { y + 16 ≤ length bytes.now }
+    requires inside { y + SYM_SIZE ≤ length bytes.now }
     ensures { result ≡ is_listed names.now bytes.now y }
 {
     !is_file(bytes, y) && has_binding(bytes, y) && has_place(names, bytes, y)
@@ -141,7 +147,7 @@ pub fn is_listed(names: &[u8], bytes: &[u8], y: usize) -> bool
 #[tactic(auto, unfolding(crate::specs::Symbols::symbol_fault))]
 fn symbol_fault(names: &[u8], bytes: &[u8], y: usize) -> Option<usize>
     requires whole { IsWhole bytes.now }
-    requires inside { y + 16 ≤ length bytes.now }
+    requires inside { y + SYM_SIZE ≤ length bytes.now }
     ensures place { result ≡ symbol_fault names.now bytes.now y }
     ensures small { IfSome result (λ at. at < length bytes.now) }
 {
@@ -156,7 +162,7 @@ fn symbol_fault(names: &[u8], bytes: &[u8], y: usize) -> Option<usize>
 
 fn global_fault(names: &[u8], bytes: &[u8], y: usize) -> Option<usize>
     requires whole { IsWhole bytes.now }
-    requires inside { y + 16 ≤ length bytes.now }
+    requires inside { y + SYM_SIZE ≤ length bytes.now }
     ensures place { result ≡ global_fault names.now bytes.now y }
     ensures small { IfSome result (λ at. at < length bytes.now) }
 {
@@ -168,7 +174,7 @@ fn global_fault(names: &[u8], bytes: &[u8], y: usize) -> Option<usize>
 
 fn target_role(names: &[u8], bytes: &[u8], s: usize) -> Role
     requires whole { IsWhole bytes.now }
-    requires inside { s + 40 ≤ length bytes.now }
+    requires inside { s + SHDR_SIZE ≤ length bytes.now }
     ensures { result ≡ target_role names.now bytes.now s }
 {
     role_at(names, bytes, word(bytes, s + SH_INFO) as usize)
@@ -176,7 +182,7 @@ fn target_role(names: &[u8], bytes: &[u8], s: usize) -> Role
 
 fn is_reloc_section(names: &[u8], bytes: &[u8], s: usize) -> bool
     requires whole { IsWhole bytes.now }
-    requires inside { s + 40 ≤ length bytes.now }
+    requires inside { s + SHDR_SIZE ≤ length bytes.now }
     ensures { result ≡ is_reloc_section names.now bytes.now s }
 {
     has_role(Role::Relocs, names, bytes, s) && is_kept(target_role(names, bytes, s))
@@ -185,7 +191,7 @@ fn is_reloc_section(names: &[u8], bytes: &[u8], s: usize) -> bool
 /// Whether the section whose header begins at `s` relocates a section of this role.
 pub fn is_reloc_section_of(role: Role, names: &[u8], bytes: &[u8], s: usize) -> bool
     requires whole { IsWhole bytes.now }
-    requires inside { s + 40 ≤ length bytes.now }
+    requires inside { s + SHDR_SIZE ≤ length bytes.now }
     ensures { result ≡ is_reloc_section_of role names.now bytes.now s }
 {
     has_role(Role::Relocs, names, bytes, s)
@@ -195,7 +201,7 @@ pub fn is_reloc_section_of(role: Role, names: &[u8], bytes: &[u8], s: usize) -> 
 /// The offset of the first field that is bad: the size, where it isn't a multiple of the entry's, or the entry's size
 /// itself.
 pub fn entries_fault(entry: u32, bytes: &[u8], s: usize) -> Option<usize>
-    requires inside { s + 40 ≤ length bytes.now }
+    requires inside { s + SHDR_SIZE ≤ length bytes.now }
     requires entry { 0 < entry }
     ensures place { result ≡ entries_fault entry bytes.now s }
     ensures small { IfSome result (λ at. at < length bytes.now) }
@@ -208,12 +214,12 @@ pub fn entries_fault(entry: u32, bytes: &[u8], s: usize) -> Option<usize>
 
 fn is_linked(table: Table, names: &[u8], bytes: &[u8], s: usize) -> bool
     requires whole { IsWhole bytes.now }
-    requires inside { s + 40 ≤ length bytes.now }
+    requires inside { s + SHDR_SIZE ≤ length bytes.now }
     ensures { result ≡ is_linked table names.now bytes.now s }
 {
     let link = word(bytes, s + SH_LINK) as usize;
     role_number(role_at(names, bytes, link)) == role_number(Role::Symbols)
-        && word(bytes, E_SHOFF) as usize + 40 * link == table.section
+        && word(bytes, E_SHOFF) as usize + SHDR_SIZE * link == table.section
 }
 
 /// The offset of the field at which a section of relocations fails the test. Other sections pass.
@@ -225,7 +231,7 @@ pub fn section_test(
     s: usize,
 ) -> Option<usize>
     requires whole { IsWhole bytes.now }
-    requires inside { s + 40 ≤ length bytes.now }
+    requires inside { s + SHDR_SIZE ≤ length bytes.now }
     ensures place { result ≡ section_test test table names.now bytes.now s }
     ensures small { IfSome result (λ at. at < length bytes.now) }
 {
@@ -233,13 +239,13 @@ pub fn section_test(
         return None;
     }
     match test {
-        SectionTest::EntrySizes => entries_fault(8, bytes, s),
+        SectionTest::EntrySizes => entries_fault(REL_SIZE as u32, bytes, s),
         SectionTest::Links => (!is_linked(table, names, bytes, s)).then_some(s + SH_LINK),
     }
 }
 
 fn is_unnamed(strings: &[u8], bytes: &[u8], y: usize) -> bool
-    requires { y + 16 ≤ length bytes.now }
+    requires { y + SYM_SIZE ≤ length bytes.now }
     ensures { result ≡ is_unnamed strings.now bytes.now y }
 {
     !from(strings, word(bytes, y) as usize).contains(&0)
@@ -254,7 +260,7 @@ pub fn symbol_test(
     y: usize,
 ) -> Option<usize>
     requires whole { IsWhole bytes.now }
-    requires inside { y + 16 ≤ length bytes.now }
+    requires inside { y + SYM_SIZE ≤ length bytes.now }
     ensures place { result ≡ symbol_test test strings.now names.now bytes.now y }
     ensures small { IfSome result (λ at. at < length bytes.now) }
 {
@@ -265,7 +271,7 @@ pub fn symbol_test(
 }
 
 fn named_symbol(bytes: &[u8], y: usize) -> usize
-    requires { y + 8 ≤ length bytes.now }
+    requires { y + REL_SIZE ≤ length bytes.now }
     ensures number { result ≡ named_symbol bytes.now y }
     ensures small { result < 2 ^ 24 }
 {
@@ -273,7 +279,7 @@ fn named_symbol(bytes: &[u8], y: usize) -> usize
 }
 
 fn has_symbol(table: Table, bytes: &[u8], y: usize) -> bool
-    requires { y + 8 ≤ length bytes.now }
+    requires { y + REL_SIZE ≤ length bytes.now }
     ensures { result ≡ has_symbol table bytes.now y }
 {
     named_symbol(bytes, y) != 0 && named_symbol(bytes, y) < table.count
@@ -287,7 +293,10 @@ fn size_at(bytes: &[u8], index: usize) -> usize
     if index >= half(bytes, E_SHNUM) as usize {
         return 0;
     }
-    word(bytes, word(bytes, E_SHOFF) as usize + 40 * index + SH_SIZE) as usize
+    word(
+        bytes,
+        word(bytes, E_SHOFF) as usize + SHDR_SIZE * index + SH_SIZE,
+    ) as usize
 }
 
 fn is_outside(names: &[u8], bytes: &[u8], e: Entry) -> bool
@@ -304,40 +313,40 @@ fn is_outside(names: &[u8], bytes: &[u8], e: Entry) -> bool
 }
 
 fn has_kind(bytes: &[u8], y: usize) -> bool
-    requires { y + 8 ≤ length bytes.now }
+    requires { y + REL_SIZE ≤ length bytes.now }
     ensures { result ≡ has_kind bytes.now y }
 {
     word(bytes, y + R_INFO) % 256 == R_386_32 || word(bytes, y + R_INFO) % 256 == R_386_PC32
 }
 
 fn names_none(table: Table, bytes: &[u8], y: usize) -> bool
-    requires inside { y + 8 ≤ length bytes.now }
-    requires table { 0 < table.count → table.at + 16 * table.count ≤ length bytes.now }
+    requires inside { y + REL_SIZE ≤ length bytes.now }
+    requires table { 0 < table.count → table.at + SYM_SIZE * table.count ≤ length bytes.now }
     ensures { result ≡ names_none table bytes.now y }
 {
     if !has_symbol(table, bytes, y) {
         return true;
     }
-    is_file(bytes, table.at + 16 * named_symbol(bytes, y))
+    is_file(bytes, table.at + SYM_SIZE * named_symbol(bytes, y))
 }
 
 fn named_fault(table: Table, names: &[u8], bytes: &[u8], y: usize) -> Option<usize>
     requires whole { IsWhole bytes.now }
-    requires inside { y + 8 ≤ length bytes.now }
-    requires table { 0 < table.count → table.at + 16 * table.count ≤ length bytes.now }
+    requires inside { y + REL_SIZE ≤ length bytes.now }
+    requires table { 0 < table.count → table.at + SYM_SIZE * table.count ≤ length bytes.now }
     ensures place { result ≡ named_fault table names.now bytes.now y }
     ensures small { IfSome result (λ at. at < length bytes.now) }
 {
     if !has_symbol(table, bytes, y) {
         return None;
     }
-    symbol_fault(names, bytes, table.at + 16 * named_symbol(bytes, y))
+    symbol_fault(names, bytes, table.at + SYM_SIZE * named_symbol(bytes, y))
 }
 
 fn form_fault(table: Table, names: &[u8], bytes: &[u8], e: Entry) -> Option<usize>
     requires whole { IsWhole bytes.now }
     requires entry { IsEntry bytes.now e }
-    requires table { 0 < table.count → table.at + 16 * table.count ≤ length bytes.now }
+    requires table { 0 < table.count → table.at + SYM_SIZE * table.count ≤ length bytes.now }
     ensures place { result ≡ form_fault table names.now bytes.now e }
     ensures small { IfSome result (λ at. at < length bytes.now) }
 {
@@ -357,7 +366,7 @@ pub fn reloc_test(
 ) -> Option<usize>
     requires whole { IsWhole bytes.now }
     requires entry { IsEntry bytes.now e }
-    requires table { 0 < table.count → table.at + 16 * table.count ≤ length bytes.now }
+    requires table { 0 < table.count → table.at + SYM_SIZE * table.count ≤ length bytes.now }
     ensures place { result ≡ reloc_test test table names.now bytes.now e }
     ensures small { IfSome result (λ at. at < length bytes.now) }
 {

@@ -4,7 +4,8 @@ use Rattle.std.specs.Bool.{then_some}
 use Rattle.std.specs.Option.{option_or}
 use Rattle.elf_form.specs.ObjectParts.{ObjectParts}
 use Rattle.sites.specs.declared.site.Site.{Site}
-use Rattle.sites.specs.declared.limits.TheConstants.{TEXT_LIMIT, SHORT_TEXT, SITE_LIMIT, INIT_LIMIT, SYMBOL_LIMIT}
+use Rattle.sites.specs.declared.limits.TheConstants.{TEXT_LIMIT, SHORT_TEXT, SITE_LIMIT, INIT_LIMIT}
+use Rattle.elf_form.specs.declared.object.TheConstants.{SYMBOL_LIMIT}
 use Rattle.sites.specs.Formats.{sites_in}
 use Rattle.sites.specs.Gapped.{are_gapped}
 use Rattle.sites.specs.Spelling.{AreInForm}

@@ -6,8 +6,8 @@ ghost use Rattle.elf_link.specs.Sites.{sites_of};
 ghost use Rattle.elf_link.specs.Steps.{IsWithin, HasRoom, size_cause, with_object};
 
 use crate::fault::LinkCause;
-use elf_form::{Object, pad};
-use sites::{INIT_LIMIT, SITE_LIMIT, SYMBOL_LIMIT, TEXT_LIMIT};
+use elf_form::{Object, SYMBOL_LIMIT, pad};
+use sites::{INIT_LIMIT, SITE_LIMIT, TEXT_LIMIT};
 
 /// What some objects take: bytes of text and of data with zeroed bytes, each with the gap behind
 /// it, and numbers of symbols and sites.

@@ -1,5 +1,6 @@
 -- The images that objects are linked to, and that files hold.
 use Rattle.std.specs.Prelude.{◌≡◌, ◌≤◌, ℕ, List, Option, Ok, Err, length, codes, ◌==◌, if◌then◌else◌}
+use Rattle.elf_form.specs.declared.segments.TheConstants.{FILE_LIMIT}
 use Rattle.pv_io.specs.Files.{FileMap, Holds}
 use Rattle.elf_form.specs.ImageParts.{ImageParts}
 use Rattle.elf_form.specs.ImageLayout.{image_bytes}
@@ -16,7 +17,7 @@ image_made_line p = sizes_line (codes "image") (length p.text) (length p.init) p
 
 -- The file of an image is read as that image, unless it is too long.
 abbrev pub ImageReadsBack : ImageParts → Type 0
-ImageReadsBack p = length (image_bytes p) ≤ 33554432 → image_in (image_bytes p) ≡ Ok p
+ImageReadsBack p = length (image_bytes p) ≤ FILE_LIMIT → image_in (image_bytes p) ≡ Ok p
 
 -- the name holds an image that is accepted, or a file that isn't
 abbrev pub HasImage : Option FileMap → List ℕ → Image → Type 0

@@ -1,5 +1,6 @@
 -- The objects that sources are burnt to, and that files hold.
 use Rattle.std.specs.Prelude.{◌≡◌, ◌≤◌, ℕ, zero, suc, List, [], ◌∷◌, Option, Ok, Err, length, codes}
+use Rattle.elf_form.specs.declared.segments.TheConstants.{FILE_LIMIT}
 use Rattle.pv_io.specs.Files.{FileMap, Holds, IsHeld}
 use Rattle.elf_form.specs.Faults.{Fault}
 use Rattle.elf_form.specs.ObjectParts.{ObjectParts}
@@ -20,7 +21,7 @@ object_made_line o = sizes_line (codes "object") (length o.text) (length o.init)
 
 -- The file of an object is read as that object, unless it is too long.
 abbrev pub ReadsBack : ObjectParts → Type 0
-ReadsBack o = length (object_bytes o) ≤ 33554432 → object_in (object_bytes o) ≡ Ok o
+ReadsBack o = length (object_bytes o) ≤ FILE_LIMIT → object_in (object_bytes o) ≡ Ok o
 
 -- the name holds an object, or a file that is none
 abbrev pub HasObject : Option FileMap → List ℕ → ObjectParts → Type 0

@@ -11,7 +11,7 @@ mod words;
 mod writing;
 
 pub use gapped::are_gapped;
-pub use limits::{INIT_LIMIT, SHORT_TEXT, SITE_LIMIT, SYMBOL_LIMIT, TEXT_LIMIT, of_text};
+pub use limits::{INIT_LIMIT, SHORT_TEXT, SITE_LIMIT, TEXT_LIMIT, of_text};
 pub use patching::patch;
 pub use reading::{count, read_sites};
 pub use site::{Site, Sites, SitesFault};

@@ -18,9 +18,6 @@ pub const SITE_LIMIT: usize = 262_144;
 /// Bytes of data and zeroed bytes together.
 pub const INIT_LIMIT: usize = 33_554_432;
 
-/// The most symbols of a source, and of objects that are linked.
-pub const SYMBOL_LIMIT: usize = 65_536;
-
 /// The format in which the sites of a text of so many bytes are written.
 #[tactic(auto, unfolding(crate::specs::Limits::format_of))]
 fn format_of(text: usize) -> u8
