@@ -7,7 +7,8 @@ use Rattle.asm_lex.specs.declared.lexing.TheConstants.{LIMIT}
 use Rattle.asm_source.specs.declared.tree.Argument.{Argument}
 use Rattle.asm_source.specs.declared.tree.SourceItem.{SourceItem}
 use Rattle.asm_source.specs.Size.{body_count, items_count}
-use Rattle.asm_source.specs.Readable.{IsReadable, argument_names, body_names, names_in}
+use Rattle.asm_source.specs.Readable.{IsReadable}
+use Rattle.asm_source.specs.Names.{argument_names, body_names, names_in}
 use Rattle.afterburner.specs.declared.fault.BurnFault.{BurnFault}
 use Rattle.afterburner.specs.declared.fault.ItemFault.TheVariants as stop
 use Rattle.afterburner.specs.declared.fault.BurnCause.{BurnCause}
@@ -16,7 +17,8 @@ use Rattle.asm_source.specs.declared.directive_table.DirectiveName.{DirectiveNam
 use Rattle.afterburner.specs.ObjectSoFar.{ObjectSoFar, fresh}
 use Rattle.afterburner.specs.Sections.{labelled}
 use Rattle.afterburner.specs.Directives.{directed}
-use Rattle.afterburner.specs.Burnt.{Fault, parted, Makes, Fails, FaultOf, item_made, next_made, all_made}
+use Rattle.afterburner.specs.Burnt.{Fault, parted, item_made, next_made, all_made}
+use Rattle.afterburner.specs.Answers.{Makes, Fails, FaultOf}
 use Rattle.afterburner.specs.Sound.{IsSound, AreHeld}
 use Rattle.afterburner.proofs.Named.{item_held}
 use Rattle.afterburner.proofs.Sound.{sound_parted, sound_labelled, sound_directed}

@@ -6,9 +6,8 @@ use Rattle.std.specs.List.{flat_map, list_any, position_or_len}
 use Rattle.std.specs.Str.{bytes_eq}
 use Rattle.asm_source.specs.declared.tree.Argument.{Argument}
 use Rattle.asm_source.specs.declared.tree.SourceItem.{SourceItem}
-use Rattle.asm_source.specs.Names.{symbol_in, holds, added, name_number}
+use Rattle.asm_source.specs.Names.{symbol_in, holds, added, name_number, argument_names, body_names, names_in}
 use Rattle.asm_source.proofs.Held.{holds_more, added_holds}
-use Rattle.asm_source.specs.Readable.{argument_names, body_names, names_in}
 use Rattle.afterburner.specs.Sound.{AreHeld}
 
 pub found_within : {X : Type 0} (p : X → Bool) (xs : List X) → list_any p xs ≡ true → position_or_len p xs < length xs

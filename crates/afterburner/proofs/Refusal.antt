@@ -3,13 +3,14 @@ use Rattle.std.proofs.Common.{◌≡◌, ◌∙◌, sym, ap, ℕ, List, [], ◌�
 use Rattle.std.specs.Prelude.{Result, Ok, Err}
 use Rattle.std.proofs.lemmas.List.Sums.{fold-append}
 use Rattle.asm_source.specs.declared.tree.SourceItem.{SourceItem}
-use Rattle.asm_source.specs.Readable.{names_in}
+use Rattle.asm_source.specs.Names.{names_in}
 use Rattle.elf_form.specs.ObjectParts.{ObjectParts}
 use Rattle.afterburner.specs.declared.fault.BurnCause.{BurnCause}
 use Rattle.afterburner.specs.declared.fault.BurnFault.{BurnFault}
 use Rattle.afterburner.specs.declared.fault.BurnFault.TheVariants as faults
 use Rattle.afterburner.specs.ObjectSoFar.{ObjectSoFar, fresh}
-use Rattle.afterburner.specs.Burnt.{Fault, Fails, Gives, at_line, item_made, next_made, all_made, finished, burnt}
+use Rattle.afterburner.specs.Burnt.{Fault, at_line, item_made, next_made, all_made, finished, burnt}
+use Rattle.afterburner.specs.Answers.{Fails, Gives}
 use Rattle.afterburner.specs.Refused.{IsFirstRefused, Refuses, RefusesAs}
 use Rattle.afterburner.proofs.Items.{stays}
 use Rattle.afterburner.proofs.Lowest.{lowest_reason, lowest_told}

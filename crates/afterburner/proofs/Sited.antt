@@ -3,7 +3,7 @@ use Rattle.std.proofs.Common.{◌≤◌, ◌+◌, ◌^◌, ℕ, List, [], ◌∷
 use Rattle.std.specs.Prelude.{All}
 use Rattle.std.proofs.lemmas.List.Elements.{All-nil, All-cons}
 use Rattle.sites.specs.declared.site.Site.{Site}
-use Rattle.sites.specs.Spelling.{AreSites, AreGapped, AreInGaps}
+use Rattle.sites.specs.Form.{AreSites, AreGapped, AreInGaps}
 use Rattle.afterburner.specs.Sound.{AreApart}
 
 pub apart_sites : (least from to : ℕ) (sites : List Site) → least ≤ from → AreApart from sites to → AreSites least sites

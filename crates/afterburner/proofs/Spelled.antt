@@ -8,11 +8,10 @@ use Rattle.sites.specs.declared.site.Site.{Site}
 use Rattle.ia32_types.specs.declared.site.SiteKind.{SiteKind}
 use Rattle.ia32_types.specs.Site.{sensitive_kind}
 use Rattle.asm_source.specs.declared.tree.Argument.{Argument}
-use Rattle.asm_source.specs.Names.{symbol_in}
-use Rattle.asm_source.specs.Readable.{argument_names}
+use Rattle.asm_source.specs.Names.{symbol_in, argument_names}
 use Rattle.asm_instruction.specs.declared.assembled.Assembled.{Assembled}
 use Rattle.asm_instruction.specs.declared.assembled.Named.{Named}
-use Rattle.asm_instruction.specs.Assembled.{HasBoundedLength, IsField, HasFields}
+use Rattle.asm_instruction.specs.Right.{HasBoundedLength, IsField, HasFields}
 use Rattle.afterburner.specs.ObjectSoFar.{ObjectSoFar}
 use Rattle.afterburner.specs.Arguments.{symbol_of, symbol_at}
 use Rattle.afterburner.specs.Instructions.{nops, nops_behind, site_at, reloc_of, field_reloc, is_sti, added, paired, pair_site, no_site}

@@ -12,7 +12,8 @@ use Rattle.elf_form.specs.declared.object.Place.TheVariants as place
 use Rattle.elf_form.specs.declared.object.Symbol.{Symbol}
 use Rattle.elf_form.specs.declared.object.Reloc.{Reloc}
 use Rattle.elf_form.specs.ObjectParts.{ObjectParts}
-use Rattle.elf_form.specs.ObjectLayout.{layout, is_of, relocated_part, IsPlaced, IsWholeObject}
+use Rattle.elf_form.specs.ObjectLayout.{layout, is_of}
+use Rattle.elf_form.specs.Writable.{relocated_part, IsPlaced, IsWholeObject}
 use Rattle.sites.specs.Spelling.{spelling}
 use Rattle.sites.specs.Limits.{in_text}
 use Rattle.sites.proofs.TextSites.{in_form, forms, length-spelling}
@@ -23,9 +24,9 @@ use Rattle.asm_source.specs.declared.tree.Argument.{Argument}
 use Rattle.asm_source.specs.declared.tree.Body.{Body}
 use Rattle.asm_source.specs.declared.tree.Body.TheVariants as body
 use Rattle.asm_source.specs.declared.tree.SourceItem.{SourceItem}
-use Rattle.asm_source.specs.Names.{symbol_in, name_of, holds, added}
+use Rattle.asm_source.specs.Names.{symbol_in, name_of, holds, added, argument_names, body_names, names_in}
 use Rattle.asm_source.specs.Size.{name_size, value_size, form_size, arguments_size, body_size, items_size}
-use Rattle.asm_source.specs.Readable.{IsReadable, argument_names, body_names, names_in}
+use Rattle.asm_source.specs.Readable.{IsReadable}
 use Rattle.afterburner.specs.declared.symbol.Definition.{Definition}
 use Rattle.afterburner.specs.ObjectSoFar.{ObjectSoFar, undefined}
 use Rattle.afterburner.specs.Objects.{symbol, symbols_seen, are, defines, is_global, ordered, ordered_number, renumbered, object, reaches, value_at}

@@ -1,17 +1,13 @@
 -- The object of a source's items, or the first that is refused and why.
-use Rattle.std.specs.Prelude.{◌≡◌, ℕ, ◌+◌, false, nat_lt, List, length, fold, Result, Ok, Err, if◌then◌else◌}
+use Rattle.std.specs.Prelude.{ℕ, ◌+◌, false, nat_lt, List, length, fold, Result, Ok, Err, if◌then◌else◌}
 use Rattle.asm_source.specs.declared.tree.Body.{Body}
 use Rattle.asm_source.specs.declared.tree.Body.TheVariants as body
 use Rattle.asm_source.specs.declared.tree.SourceItem.{SourceItem}
-use Rattle.asm_source.specs.Readable.{names_in}
+use Rattle.asm_source.specs.Names.{names_in}
 use Rattle.elf_form.specs.ObjectParts.{ObjectParts}
 use Rattle.sites.specs.declared.limits.TheConstants.{TEXT_LIMIT, SITE_LIMIT, INIT_LIMIT}
 use Rattle.afterburner.specs.declared.fault.BurnCause.{BurnCause}
 use Rattle.afterburner.specs.declared.fault.BurnCause.TheVariants as cause
-use Rattle.afterburner.specs.declared.fault.BurnFault.{BurnFault}
-use Rattle.afterburner.specs.declared.fault.BurnFault.TheVariants as faults
-use Rattle.afterburner.specs.declared.fault.ItemFault.{ItemFault}
-use Rattle.afterburner.specs.declared.fault.ItemFault.TheVariants as stop
 use Rattle.afterburner.specs.ObjectSoFar.{ObjectSoFar, fresh}
 use Rattle.afterburner.specs.Sections.{labelled}
 use Rattle.afterburner.specs.Instructions.{instruction}
@@ -68,23 +64,3 @@ finished names (Ok st) = Ok (object names st)
 -- The object of the items in their order.
 unfoldable pub burnt : List SourceItem → Result ObjectParts Fault
 burnt items = finished (names_in items) (all_made items)
-
--- What was returned is what is meant, unless memory ran out.
-abbrev pub Fails : {A : Type 0} → BurnFault → Result A Fault → Type 0
-Fails faults.Memory r = Unit {0}
-Fails (faults.At line c) r = r ≡ Err (record { line = line; cause = c })
-
-abbrev pub Gives : {A : Type 0} → Result A BurnFault → Result A Fault → Type 0
-Gives (Ok x) r = r ≡ Ok x
-Gives (Err f) r = Fails f r
-
--- the fault of a stop at an item
-abbrev pub FaultOf : ℕ → ItemFault → BurnFault → Type 0
-FaultOf line (stop.Cause c) f = f ≡ faults.At line c
-FaultOf line stop.Memory f = f ≡ faults.Memory
-
--- What a step of the work returned is what it makes, unless memory ran out.
-abbrev pub Makes : ObjectSoFar → Result (Unit {0}) ItemFault → Result ObjectSoFar BurnCause → Type 0
-Makes new (Ok u) r = r ≡ Ok new
-Makes new (Err (stop.Cause c)) r = r ≡ Err c
-Makes new (Err stop.Memory) r = Unit {0}

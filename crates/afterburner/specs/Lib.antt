@@ -8,6 +8,7 @@ pub mod Instructions
 pub mod Directives
 pub mod Objects
 pub mod Burnt
+pub mod Answers
 pub mod Reasons
 pub mod Refused
 pub mod Sound

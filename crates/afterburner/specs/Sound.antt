@@ -4,7 +4,8 @@ use Rattle.elf_form.specs.declared.object.Reloc.{Reloc}
 use Rattle.elf_form.specs.ObjectParts.{ObjectParts}
 use Rattle.sites.specs.declared.site.Site.{Site}
 use Rattle.sites.specs.declared.limits.TheConstants.{TEXT_LIMIT, SITE_LIMIT, INIT_LIMIT}
-use Rattle.sites.specs.Spelling.{spelling, AreInGaps, IsInForm}
+use Rattle.sites.specs.Spelling.{spelling}
+use Rattle.sites.specs.Form.{AreInGaps, IsInForm}
 use Rattle.sites.specs.Limits.{in_text}
 use Rattle.asm_source.specs.Names.{holds}
 use Rattle.afterburner.specs.ObjectSoFar.{ObjectSoFar}

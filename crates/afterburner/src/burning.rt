@@ -1,11 +1,13 @@
 //! From the items of a source to its object.
 
 ghost use Rattle.std.specs.Prelude.{◌≡◌, ◌≤◌, ◌<◌, ◌+◌, ℕ, length, OnOk, IfOk};
-ghost use Rattle.asm_source.specs.Readable.{IsReadable, body_names, names_in};
+ghost use Rattle.asm_source.specs.Readable.{IsReadable};
+ghost use Rattle.asm_source.specs.Names.{body_names, names_in};
 ghost use Rattle.asm_source.specs.Size.{body_count};
 ghost use Rattle.asm_lex.specs.declared.lexing.TheConstants.{LIMIT};
-ghost use Rattle.elf_form.specs.ObjectLayout.{IsWholeObject};
-ghost use Rattle.afterburner.specs.Burnt.{Makes, Gives, FaultOf, parted, made, item_made, all_made, burnt};
+ghost use Rattle.elf_form.specs.Writable.{IsWholeObject};
+ghost use Rattle.afterburner.specs.Burnt.{parted, made, item_made, all_made, burnt};
+ghost use Rattle.afterburner.specs.Answers.{Makes, Gives, FaultOf};
 ghost use Rattle.afterburner.specs.declared.fault.BurnCause.{BurnCause as CauseView};
 ghost use Rattle.afterburner.specs.ObjectSoFar.{fresh};
 ghost use Rattle.afterburner.specs.Refused.{IsFirstRefused, Refuses, RefusesAs};

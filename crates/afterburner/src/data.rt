@@ -2,7 +2,7 @@
 
 ghost use Rattle.std.specs.Prelude.{◌≡◌, ◌≤◌, ◌<◌, ◌+◌, ◌*◌, ◌++◌, ◌^◌, length, fold, OnOk};
 ghost use Rattle.std.specs.List.{flat_map};
-ghost use Rattle.afterburner.specs.Burnt.{Makes};
+ghost use Rattle.afterburner.specs.Answers.{Makes};
 ghost use Rattle.afterburner.specs.Directives as spec;
 
 use crate::argument::{number, symbol_in, text};

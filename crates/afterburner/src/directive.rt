@@ -1,7 +1,7 @@
 //! The directives by what they do.
 
 ghost use Rattle.std.specs.Prelude.{◌≡◌, ◌≤◌, ◌<◌, ◌+◌, ◌*◌, ◌^◌, length};
-ghost use Rattle.afterburner.specs.Burnt.{Makes};
+ghost use Rattle.afterburner.specs.Answers.{Makes};
 ghost use Rattle.afterburner.specs.Directives as spec;
 
 use crate::argument::{alignment, count_at, limit_at, power, symbol_at, text_at};

@@ -2,9 +2,9 @@
 
 ghost use Rattle.std.specs.Prelude.{◌≡◌, ◌≤◌, ◌<◌, ◌+◌, ◌++◌, ◌^◌, length, take, OnOk};
 ghost use Rattle.ia32_types.specs.Site.{sensitive_kind};
-ghost use Rattle.asm_source.specs.Readable.{argument_names};
-ghost use Rattle.asm_instruction.specs.Assembled.{HasBoundedLength, HasFields};
-ghost use Rattle.afterburner.specs.Burnt.{Makes};
+ghost use Rattle.asm_source.specs.Names.{argument_names};
+ghost use Rattle.asm_instruction.specs.Right.{HasBoundedLength, HasFields};
+ghost use Rattle.afterburner.specs.Answers.{Makes};
 ghost use Rattle.afterburner.specs.Sound.{IsSound, AreHeld};
 ghost use Rattle.afterburner.specs.Causes.{cause_of};
 ghost use Rattle.afterburner.specs.Instructions as spec;

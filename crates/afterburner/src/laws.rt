@@ -3,7 +3,7 @@
 ghost use Rattle.std.specs.Prelude.{◌≡◌, ℕ, List, length, slice_get, Some, Ok, Err};
 ghost use Rattle.asm_source.specs.declared.tree.Body.{Body as BodyView};
 ghost use Rattle.asm_source.specs.declared.tree.SourceItem.{SourceItem as ItemView};
-ghost use Rattle.asm_source.specs.Readable.{names_in};
+ghost use Rattle.asm_source.specs.Names.{names_in};
 ghost use Rattle.afterburner.specs.declared.fault.BurnCause.{BurnCause as CauseView};
 ghost use Rattle.afterburner.specs.declared.symbol.Definition.{Definition as DefinitionView};
 ghost use Rattle.afterburner.specs.Burnt.{item_made};

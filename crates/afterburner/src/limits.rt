@@ -1,7 +1,8 @@
 //! The limits of an object.
 
 ghost use Rattle.std.specs.Prelude.{OnOk};
-ghost use Rattle.afterburner.specs.Burnt.{Makes, limited};
+ghost use Rattle.afterburner.specs.Burnt.{limited};
+ghost use Rattle.afterburner.specs.Answers.{Makes};
 ghost use Rattle.afterburner.specs.Sound.{IsWithin};
 
 use crate::assembly::Assembly;

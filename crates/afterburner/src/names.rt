@@ -1,8 +1,7 @@
 //! The names of a source.
 
 ghost use Rattle.std.specs.Prelude.{◌≡◌, fold, IfOk, OnOk};
-ghost use Rattle.asm_source.specs.Names.{added};
-ghost use Rattle.asm_source.specs.Readable.{argument_names, body_names, names_in};
+ghost use Rattle.asm_source.specs.Names.{added, argument_names, body_names, names_in};
 
 use crate::argument::symbol_in;
 use asm_source::{Argument, Body, Names, Source};
@@ -34,7 +33,7 @@ fn add_body(alloc: Global, names: &mut Names, body: &Body) -> Result<(), AllocEr
 }
 
 /// The names of a source.
-#[tactic(auto, unfolding(asm_source::specs::Readable::names_in))]
+#[tactic(auto, unfolding(asm_source::specs::Names::names_in))]
 pub fn names_of(alloc: Global, source: &Source) -> Result<Names, AllocError>
     ensures { IfOk result (λ names. names ≡ names_in source.now) }
 {

@@ -2,7 +2,7 @@
 
 ghost use Rattle.std.specs.Prelude.{◌≡◌, ◌≤◌, ◌<◌, ◌+◌, ◌++◌, ◌^◌, ◌∷◌, [], length, map, filter, false, count_by, All, OnOk, IfOk, if◌then◌else◌};
 ghost use Rattle.std.specs.List.{range_with_len};
-ghost use Rattle.sites.specs.Spelling.{AreSites, AreGapped};
+ghost use Rattle.sites.specs.Form.{AreSites, AreGapped};
 ghost use Rattle.afterburner.specs.Objects as spec;
 ghost use Rattle.elf_form.specs.declared.object.Reloc.{Reloc};
 

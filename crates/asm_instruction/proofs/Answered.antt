@@ -15,7 +15,8 @@ use Rattle.asm_instruction.specs.Names.{found}
 use Rattle.asm_instruction.specs.Argument.{operands_of, names_symbol}
 use Rattle.asm_instruction.specs.Mnemonic.{known_name, drafted}
 use Rattle.asm_instruction.specs.Refused.{refused_names}
-use Rattle.asm_instruction.specs.Assembled.{named_field, widths, whole, with_spelling, spelled, drafted_of, by_draft, by_mnemonic, by_name, assembled, IsRight, IsBranchRight, IsFromChosen}
+use Rattle.asm_instruction.specs.Assembled.{named_field, widths, whole, with_spelling, spelled, drafted_of, by_draft, by_mnemonic, by_name, assembled}
+use Rattle.asm_instruction.specs.Right.{IsRight, IsBranchRight, IsFromChosen}
 use Rattle.asm_instruction.proofs.Goods.{When, bind_from, OperandsGood, DraftGood}
 use Rattle.asm_instruction.proofs.Drafts.{drafted_good}
 use Rattle.asm_instruction.proofs.Naming.{operands_good, MnemonicGood, known_good}

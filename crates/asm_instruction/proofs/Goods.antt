@@ -8,7 +8,7 @@ use Rattle.ia32_types.specs.declared.insn.Op.TheVariants as op
 use Rattle.ia32_types.specs.declared.size.Size.{Size}
 use Rattle.ia32_types.specs.declared.size.Size.TheVariants as size
 use Rattle.ia32_types.specs.Shape.{is_direct_branch}
-use Rattle.ia32_encode.specs.Chosen.{IsOperandBounded, IsBounded}
+use Rattle.ia32_encode.specs.Good.{IsOperandBounded, IsBounded}
 use Rattle.asm_source.specs.declared.tree.Argument.{Argument}
 use Rattle.asm_instruction.specs.declared.argument.Number.{Number}
 use Rattle.asm_instruction.specs.declared.argument.Memory.{Memory}
@@ -35,7 +35,7 @@ use Rattle.asm_instruction.specs.Draft.{nothing, register_operand, register_or_m
 use Rattle.asm_instruction.specs.Arithmetic.{of_pair, memory_first, two, tested, one, into_register, to_register, multiplied, product, arithmetic_draft}
 use Rattle.asm_instruction.specs.Shift.{of_one, by_one, by_number, by_register, shift_draft}
 use Rattle.asm_instruction.specs.Control.{distance}
-use Rattle.asm_instruction.specs.Assembled.{constant_in}
+use Rattle.asm_instruction.specs.Right.{constant_in}
 
 -- ---- steps that may fail
 

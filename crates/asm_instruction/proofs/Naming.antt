@@ -30,7 +30,7 @@ use Rattle.asm_instruction.specs.Strings.{string_names}
 use Rattle.asm_instruction.specs.Flags.{plain_names}
 use Rattle.asm_instruction.specs.System.{system_names, page_names}
 use Rattle.asm_instruction.specs.Mnemonic.{exact_instruction, exact_name, sized_name, suffix, suffixed, with_suffix, without_suffix, known_name}
-use Rattle.asm_instruction.specs.Assembled.{constant_of, argument_constant, constant_in}
+use Rattle.asm_instruction.specs.Right.{constant_of, argument_constant, constant_in}
 use Rattle.asm_instruction.proofs.Goods.{When, bind_from, bind_any, either, choice, field_below, GivenGood, OperandsGood, family_good}
 
 -- ---- the operands

@@ -3,7 +3,8 @@ use Rattle.std.proofs.Common.{◌≡◌, ℕ, Bool, true, false, cond, List, Opt
 use Rattle.std.specs.Prelude.{◌↔◌}
 use Rattle.ia32_types.specs.declared.site.Refused.{Refused}
 use Rattle.ia32_encode.specs.declared.bytes.ArrayBytes.{ArrayBytes}
-use Rattle.ia32_encode.specs.Chosen.{SpellsWide, chosen, chosen_bytes}
+use Rattle.ia32_encode.specs.Chosen.{chosen}
+use Rattle.ia32_encode.specs.Good.{SpellsWide, chosen_bytes}
 use Rattle.ia32_encode.proofs.Laid.{none_spells}
 use Rattle.ia32_encode.proofs.Taking.{none_suit, chosen_good}
 use Rattle.asm_source.specs.declared.tree.Argument.{Argument}

@@ -3,7 +3,7 @@ use Rattle.std.proofs.Common.{◌≡◌, ℕ, ◌+◌, ◌≤◌, Bool, true, fa
 use Rattle.std.specs.Prelude.{IsTrue, IfOk, is_some, slice_get, take, if◌then◌else◌}
 use Rattle.ia32_encode.specs.declared.bytes.ArrayBytes.{ArrayBytes}
 use Rattle.ia32_encode.specs.declared.choose.Wide.{Wide}
-use Rattle.ia32_encode.specs.Chosen.{SpellsWide, IsReadBack, IsPlaced}
+use Rattle.ia32_encode.specs.Good.{SpellsWide, IsReadBack, IsPlaced}
 use Rattle.asm_source.specs.declared.tree.Argument.{Argument}
 use Rattle.asm_source.specs.Names.{symbol_in}
 use Rattle.asm_instruction.specs.declared.draft.Draft.{Draft}
@@ -12,7 +12,8 @@ use Rattle.asm_instruction.specs.declared.assembled.Assembled.{Assembled}
 use Rattle.asm_instruction.specs.declared.assembled.Refusal.{Refusal}
 use Rattle.asm_instruction.specs.declared.assembled.Refusal.TheVariants as refusal
 use Rattle.asm_instruction.specs.Argument.{argument_named, names_symbol}
-use Rattle.asm_instruction.specs.Assembled.{named_field, widths, whole, with_spelling, spelled, drafted_of, by_draft, by_mnemonic, HasBoundedLength, SpellsItsInstruction, IsField, HasFields, Before, AreInOrder, IsRight, named_in}
+use Rattle.asm_instruction.specs.Assembled.{named_field, widths, whole, with_spelling, spelled, drafted_of, by_draft, by_mnemonic}
+use Rattle.asm_instruction.specs.Right.{HasBoundedLength, SpellsItsInstruction, IsField, HasFields, Before, AreInOrder, IsRight, named_in}
 
 pub symbol_there : (o : Option (List ℕ)) → is_some o ≡ true → (n : List ℕ) × (o ≡ Some n)
 symbol_there (Some n) h = (n, refl)

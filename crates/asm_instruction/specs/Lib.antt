@@ -16,4 +16,5 @@ pub mod System
 pub mod Mnemonic
 pub mod Refused
 pub mod Assembled
+pub mod Right
 pub mod Refusals

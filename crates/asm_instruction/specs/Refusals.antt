@@ -4,7 +4,7 @@ use Rattle.std.specs.List.{Contains}
 use Rattle.ia32_types.specs.declared.site.Refused.{Refused}
 use Rattle.ia32_types.specs.declared.size.Size.{Size}
 use Rattle.ia32_types.specs.declared.size.Size.TheVariants as size
-use Rattle.ia32_encode.specs.Chosen.{SpellsWide}
+use Rattle.ia32_encode.specs.Good.{SpellsWide}
 use Rattle.asm_source.specs.declared.tree.Argument.{Argument}
 use Rattle.asm_instruction.specs.declared.argument.Given.{Given}
 use Rattle.asm_instruction.specs.declared.argument.Given.TheVariants as given

@@ -2,7 +2,8 @@
 
 ghost use Rattle.std.specs.Prelude.{◌≡◌, ◌≤◌, ◌↔◌, ◌+◌, IfOk, IsSome, take, Err};
 ghost use Rattle.asm_instruction.specs.Assembled as spec;
-ghost use Rattle.asm_instruction.specs.Assembled.{assembled, HasBoundedLength, HasFields, AreInOrder, SpellsItsInstruction, IsRight};
+ghost use Rattle.asm_instruction.specs.Assembled.{assembled};
+ghost use Rattle.asm_instruction.specs.Right.{HasBoundedLength, HasFields, AreInOrder, SpellsItsInstruction, IsRight};
 ghost use Rattle.asm_instruction.specs.Refusals.{IsRefused, IsUnknown, IsWithoutRow, HasUnfitNumber};
 
 use crate::argument::{names_symbol, operands_of};

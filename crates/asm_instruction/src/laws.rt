@@ -4,7 +4,8 @@ ghost use Rattle.std.specs.Prelude.{◌≡◌, ◌↔◌, ℕ, Bool, List, Ok, E
 ghost use Rattle.asm_source.specs.declared.tree.Argument.{Argument};
 ghost use Rattle.asm_instruction.specs.declared.assembled.Assembled.{Assembled};
 ghost use Rattle.asm_instruction.specs.declared.assembled.Refusal.TheVariants.{UnknownInstruction, RefusedInstruction, Operands, ValueRange};
-ghost use Rattle.asm_instruction.specs.Assembled.{assembled, IsRight, IsFromChosen, IsBranchRight};
+ghost use Rattle.asm_instruction.specs.Assembled.{assembled};
+ghost use Rattle.asm_instruction.specs.Right.{IsRight, IsFromChosen, IsBranchRight};
 ghost use Rattle.asm_instruction.specs.Refusals.{IsRefused, IsUnknown, IsWithoutRow, HasUnfitNumber};
 
 /// What is known of each answer: it is spelled and read back, short, and its fields name symbols; it is the

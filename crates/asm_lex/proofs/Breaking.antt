@@ -12,7 +12,8 @@ use Rattle.asm_lex.specs.declared.fault.SourceCause.{SourceCause}
 use Rattle.asm_lex.specs.declared.fault.SourceCause.TheVariants as cause
 use Rattle.asm_lex.specs.Bytes.{is_source, is_word}
 use Rattle.asm_lex.specs.Machine.{first_digit, next_digit, is_whole}
-use Rattle.asm_lex.specs.Words.{Scan, scan, line_after}
+use Rattle.asm_lex.specs.Words.{line_after}
+use Rattle.asm_lex.specs.Scans.{Scan, scan}
 use Rattle.asm_lex.specs.Source.{is_inside_line, lines_after}
 use Rattle.asm_lex.specs.Refusals.{is_unclosed, IsInString, IsWrong}
 use Rattle.asm_lex.proofs.Again.{comment_mode, in_body, in_string_byte, inside_parts, inside_stays, class_digit, numeral_is, digits_after, no_digits, more_digits, string_mode, escape_line}

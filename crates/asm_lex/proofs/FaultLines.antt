@@ -18,7 +18,8 @@ use Rattle.asm_lex.specs.declared.machine.Next.{Next}
 use Rattle.asm_lex.specs.declared.machine.Next.TheVariants.{Goes, Stops}
 use Rattle.asm_lex.specs.declared.machine.Stepped.{Stepped}
 use Rattle.asm_lex.specs.Machine.{stepped, begins, begun, after, goes, stops, emits, next_digit, is_whole}
-use Rattle.asm_lex.specs.Words.{Scan, scan, line_after}
+use Rattle.asm_lex.specs.Words.{line_after}
+use Rattle.asm_lex.specs.Scans.{Scan, scan}
 use Rattle.asm_lex.specs.Tokens.{Tokens, token_scan, LexesTo}
 use Rattle.asm_lex.specs.Lines.{first_lines, HasTokens, RefusedAt}
 use Rattle.asm_lex.proofs.TextTokens.{IsClosed, at_newline, same}

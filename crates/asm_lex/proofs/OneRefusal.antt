@@ -10,11 +10,12 @@ use Rattle.asm_lex.specs.declared.fault.SourceCause.{SourceCause}
 use Rattle.asm_lex.specs.declared.fault.SourceCause.TheVariants as cause
 use Rattle.asm_lex.specs.declared.fault.SourceFault.{SourceFault}
 use Rattle.asm_lex.specs.declared.fault.SourceFault.TheVariants as fault
-use Rattle.asm_lex.specs.Words.{Scan, scan, line_after}
+use Rattle.asm_lex.specs.Words.{line_after}
+use Rattle.asm_lex.specs.Scans.{Scan, scan}
 use Rattle.asm_lex.specs.Tokens.{token_scan, LexesTo, AreTokens}
 use Rattle.asm_lex.specs.Source.{lines_after}
 use Rattle.asm_lex.specs.Lines.{HasTokens, IsFirstDead}
-use Rattle.asm_lex.specs.Refusals.{Wrong, IsRefused, RefusesAs}
+use Rattle.asm_lex.specs.Refused.{Wrong, IsRefused, RefusesAs}
 use Rattle.asm_lex.proofs.Again.{comment_mode, class_line, skip_gap, over_token, again}
 use Rattle.asm_lex.proofs.TextTokens.{IsClosed, same, last_closed, are_tokens}
 use Rattle.asm_lex.proofs.FaultLines.{ends_has, refused_at}

@@ -21,7 +21,8 @@ use Rattle.asm_lex.specs.Machine.{stepped, first_digit, next_digit, is_whole}
 use Rattle.asm_lex.specs.Words.{line_after}
 use Rattle.asm_lex.specs.Tokens.{token_scan, LexesTo}
 use Rattle.asm_lex.specs.Source.{is_inside_line, IsGap, IsToken, lines_after}
-use Rattle.asm_lex.specs.Refusals.{is_unclosed, IsInString, IsWrong, Wrong, RefusedFor}
+use Rattle.asm_lex.specs.Refusals.{is_unclosed, IsInString, IsWrong}
+use Rattle.asm_lex.specs.Refused.{Wrong, RefusedFor}
 use Rattle.asm_lex.proofs.Again.{class_newline, class_line, more_digits, no_digits, fewer_digits, not_digits, class_digit, digits_after, numeral_is}
 use Rattle.asm_lex.proofs.FaultLines.{ends, leaves, byte_leaves}
 use Rattle.asm_lex.proofs.Found.{Closes, body_more, star_source, string_more, escape_more, backslash_source}

@@ -6,7 +6,8 @@ use Rattle.std.proofs.lemmas.List.{length-append}
 use Rattle.asm_lex.specs.declared.fault.SourceFault.{SourceFault}
 use Rattle.asm_lex.specs.declared.token.Token.{Token}
 use Rattle.asm_lex.specs.declared.token.TokenKind.{TokenKind}
-use Rattle.asm_lex.specs.Words.{Word, token_of}
+use Rattle.asm_lex.specs.Words.{Word}
+use Rattle.asm_lex.specs.Scans.{token_of}
 use Rattle.asm_lex.specs.Source.{IsToken, Lexed}
 use Rattle.asm_lex.specs.Tokens.{token_scan, between, LexesTo, AreTokens}
 use Rattle.asm_lex.specs.Spans.{AreSpans}

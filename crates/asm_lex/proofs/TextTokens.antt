@@ -15,7 +15,8 @@ use Rattle.asm_lex.specs.declared.machine.Next.{Next}
 use Rattle.asm_lex.specs.declared.machine.Next.TheVariants.{Goes, Stops}
 use Rattle.asm_lex.specs.declared.machine.Stepped.{Stepped}
 use Rattle.asm_lex.specs.Machine.{stepped, after, stops, is_whole, start_of}
-use Rattle.asm_lex.specs.Words.{Scan, scan, with_token, token_of, line_after}
+use Rattle.asm_lex.specs.Words.{line_after}
+use Rattle.asm_lex.specs.Scans.{Scan, scan, with_token, token_of}
 use Rattle.asm_lex.specs.declared.fault.SourceFault.TheVariants as fault
 use Rattle.asm_lex.specs.Tokens.{Tokens, in_front, token_scan, is_block, LexesTo, AreTokens, LexedAs}
 use Rattle.asm_lex.proofs.Stepping.{FitsIn, Starts, Sound, sound}

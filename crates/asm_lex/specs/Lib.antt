@@ -2,8 +2,10 @@ pub mod Causes
 pub mod Bytes
 pub mod Machine
 pub mod Words
+pub mod Scans
 pub mod Source
 pub mod Lines
 pub mod Tokens
 pub mod Refusals
+pub mod Refused
 pub mod Spans

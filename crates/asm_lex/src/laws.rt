@@ -5,7 +5,7 @@ ghost use Rattle.asm_lex.specs.declared.token.Token.{Token as TokenView};
 ghost use Rattle.asm_lex.specs.declared.fault.SourceCause.{SourceCause as CauseView};
 ghost use Rattle.asm_lex.specs.declared.fault.SourceCause.TheVariants.{OpenComment};
 ghost use Rattle.asm_lex.specs.Lines.{HasTokens, IsFirstDead};
-ghost use Rattle.asm_lex.specs.Refusals.{IsRefused};
+ghost use Rattle.asm_lex.specs.Refused.{IsRefused};
 ghost use Rattle.asm_lex.specs.Tokens.{AreTokens};
 
 /// The words of a refusal fit a text with one line and one cause alone.

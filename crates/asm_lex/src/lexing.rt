@@ -8,7 +8,7 @@ ghost use Rattle.asm_lex.specs.declared.fault.SourceCause.TheVariants.{TooLong};
 ghost use Rattle.asm_lex.specs.declared.fault.SourceFault.TheVariants.{At};
 ghost use Rattle.asm_lex.specs.Tokens as spec;
 ghost use Rattle.asm_lex.specs.Lines.{RefusedAt};
-ghost use Rattle.asm_lex.specs.Refusals.{RefusedFor, IsRefused, RefusesAs};
+ghost use Rattle.asm_lex.specs.Refused.{RefusedFor, IsRefused, RefusesAs};
 ghost use Rattle.asm_lex.specs.Spans.{AreSpans};
 ghost use Rattle.asm_lex.specs.Words as words;
 

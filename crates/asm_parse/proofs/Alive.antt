@@ -29,7 +29,8 @@ use Rattle.asm_lex.specs.declared.machine.Stepped.{Stepped}
 use Rattle.asm_lex.specs.Machine.{stepped, after, stops, is_whole}
 use Rattle.asm_argument.specs.Terminals.{terminal_of}
 use Rattle.asm_statement.specs.Reading.{Fault, fed, placed, is_longer, ending_at, with_end, next_word}
-use Rattle.asm_lex.specs.Words.{Word, word_of}
+use Rattle.asm_lex.specs.Words.{Word}
+use Rattle.asm_lex.specs.Scans.{word_of}
 use Rattle.asm_lex.specs.Lines.{first_lines}
 use Rattle.asm_statement.specs.Running.{Running, goes_on, second_does, byte_does, one_byte_over, moved, one_byte, run, start, closed, read}
 use Rattle.asm_parse.proofs.Lines.{bind_ok, IsRead, run_ok}

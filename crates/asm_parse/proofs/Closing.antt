@@ -8,7 +8,8 @@ use Rattle.asm_lex.specs.declared.machine.Mode.{Mode}
 use Rattle.asm_lex.specs.declared.machine.Mode.TheVariants as mode
 use Rattle.asm_lex.specs.declared.machine.Next.{Next}
 use Rattle.asm_lex.specs.declared.machine.Next.TheVariants.{Goes}
-use Rattle.asm_lex.specs.Words.{Word, Scan, scan}
+use Rattle.asm_lex.specs.Words.{Word}
+use Rattle.asm_lex.specs.Scans.{Scan, scan}
 use Rattle.asm_lex.specs.Source.{IsToken, Lexed}
 use Rattle.asm_lex.proofs.Again.{again}
 use Rattle.asm_lex.proofs.Found.{found}

@@ -5,7 +5,8 @@ use Rattle.asm_lex.specs.declared.fault.SourceCause.{SourceCause}
 use Rattle.asm_lex.specs.declared.fault.SourceCause.TheVariants.{OpenComment}
 use Rattle.asm_lex.specs.declared.machine.Mode.TheVariants as mode
 use Rattle.asm_lex.specs.declared.machine.Mode.{Mode}
-use Rattle.asm_lex.specs.Words.{Word, scan, line_after}
+use Rattle.asm_lex.specs.Words.{Word, line_after}
+use Rattle.asm_lex.specs.Scans.{scan}
 use Rattle.asm_statement.specs.declared.state.StatementState.{StatementState}
 use Rattle.asm_statement.specs.declared.state.StatementState.TheVariants as state
 use Rattle.asm_statement.specs.ScopeView.{ScopeView}

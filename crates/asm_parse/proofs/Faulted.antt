@@ -9,7 +9,8 @@ use Rattle.asm_lex.specs.declared.machine.Mode.TheVariants as mode
 use Rattle.asm_lex.specs.declared.machine.Next.{Next}
 use Rattle.asm_lex.specs.declared.machine.Next.TheVariants.{Goes, Stops}
 use Rattle.asm_lex.specs.Machine.{stepped}
-use Rattle.asm_lex.specs.Words.{Word, Scan, scan, with_token}
+use Rattle.asm_lex.specs.Words.{Word}
+use Rattle.asm_lex.specs.Scans.{Scan, scan, with_token}
 use Rattle.asm_lex.proofs.FaultLines.{StopsIn, step_in}
 use Rattle.asm_statement.specs.declared.state.StatementState.{StatementState}
 use Rattle.asm_statement.specs.declared.state.StatementState.TheVariants as state

@@ -7,7 +7,8 @@ use Rattle.asm_lex.specs.declared.machine.Next.TheVariants.{Goes, Stops}
 use Rattle.asm_lex.specs.declared.machine.Stepped.{Stepped}
 use Rattle.asm_lex.specs.declared.token.Token.{Token}
 use Rattle.asm_lex.specs.Machine.{stepped}
-use Rattle.asm_lex.specs.Words.{Word, word_of, line_after}
+use Rattle.asm_lex.specs.Words.{Word, line_after}
+use Rattle.asm_lex.specs.Scans.{word_of}
 use Rattle.asm_statement.specs.declared.state.StatementState.{StatementState}
 use Rattle.asm_statement.specs.ScopeView.{ScopeView}
 use Rattle.asm_statement.specs.Statement.{doom, fault_line, stopped}

@@ -7,7 +7,8 @@ use Rattle.asm_lex.specs.declared.machine.Next.{Next}
 use Rattle.asm_lex.specs.declared.machine.Next.TheVariants.{Goes, Stops}
 use Rattle.asm_lex.specs.declared.machine.Stepped.{Stepped}
 use Rattle.asm_lex.specs.Machine.{stepped}
-use Rattle.asm_lex.specs.Words.{Scan, scan, with_token, word_of, line_after}
+use Rattle.asm_lex.specs.Words.{line_after}
+use Rattle.asm_lex.specs.Scans.{Scan, scan, with_token, word_of}
 use Rattle.asm_lex.proofs.TextTokens.{IsClosed, at_newline, ending_same}
 use Rattle.asm_statement.specs.declared.state.StatementState.{StatementState}
 use Rattle.asm_statement.specs.ScopeView.{ScopeView}

@@ -18,7 +18,7 @@ use Rattle.asm_parse.specs.Reads.{HasReading}
 use Rattle.asm_statement.specs.Running.{◌>>=◌, read, Parses}
 use Rattle.asm_parse.specs.Statements.{terminals, Statements}
 use Rattle.asm_parse.specs.Refusals.{Ending, Worded, IsBeginning, IsNoBeginning, StatementPlace, Reaches, refused_cause, byte_cause, Refused}
-use Rattle.asm_lex.specs.Refusals.{RefusesAs}
+use Rattle.asm_lex.specs.Refused.{RefusesAs}
 use Rattle.asm_parse.proofs.Words.{read_words}
 use Rattle.asm_parse.proofs.Scopes.{GoodIn, fresh_good}
 use Rattle.asm_parse.proofs.Quiet.{Any, any_next, Answer}

@@ -6,7 +6,8 @@ use Rattle.asm_lex.specs.declared.machine.Mode.{Mode}
 use Rattle.asm_lex.specs.declared.machine.Mode.TheVariants as mode
 use Rattle.asm_lex.specs.declared.machine.Next.{Next}
 use Rattle.asm_lex.specs.declared.machine.Next.TheVariants.{Goes, Stops}
-use Rattle.asm_lex.specs.Words.{Word, Scan, scan, line_after}
+use Rattle.asm_lex.specs.Words.{Word, line_after}
+use Rattle.asm_lex.specs.Scans.{Scan, scan}
 use Rattle.asm_lex.specs.Source.{lines_after}
 use Rattle.asm_lex.proofs.Again.{skip_gap, over_token, comment_mode, class_line, with_word}
 use Rattle.asm_parse.specs.Refusals.{Ending, Worded}

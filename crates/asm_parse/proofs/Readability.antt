@@ -28,14 +28,14 @@ use Rattle.asm_statement.specs.declared.directive.Head.{Head}
 use Rattle.asm_statement.specs.declared.directive.Head.TheVariants as head
 use Rattle.asm_statement.specs.declared.directive.Directive.TheVariants as directive
 use Rattle.asm_statement.specs.ScopeView.{ScopeView}
-use Rattle.asm_source.specs.Names.{holds, added, symbol_in}
+use Rattle.asm_source.specs.Names.{holds, added, symbol_in, argument_names, body_names, names_in}
 use Rattle.asm_statement.specs.Scope.{fresh, pushed}
 use Rattle.asm_argument.specs.Grammar.{IsValue, IsForm}
 use Rattle.asm_argument.specs.Terminals.{number_value, mark_terminal, number_terminal, terminal_of}
 use Rattle.asm_statement.specs.Items.{item_of, resumed}
 use Rattle.asm_statement.specs.Directives.{defines}
 use Rattle.asm_parse.specs.Statements.{IsSeen, Sees, IsArgument, IsNext, Separated, HasArguments, Statement, terminals, text_of, IsStatement, Statements}
-use Rattle.asm_source.specs.Readable.{argument_names, body_names, names_in, IsReadable}
+use Rattle.asm_source.specs.Readable.{IsReadable}
 use Rattle.asm_parse.specs.Source.{Says, SourceAs}
 use Rattle.asm_statement.specs.Running.{Parses, read}
 use Rattle.asm_parse.proofs.Sources.{parsed_is}

@@ -7,7 +7,7 @@ use Rattle.asm_lex.specs.declared.machine.Next.TheVariants.{Goes}
 use Rattle.asm_lex.specs.declared.fault.SourceCause.TheVariants as cause
 use Rattle.asm_lex.specs.declared.fault.SourceFault.{SourceFault}
 use Rattle.asm_lex.specs.declared.fault.SourceFault.TheVariants as fault
-use Rattle.asm_lex.specs.Words.{Scan, scan}
+use Rattle.asm_lex.specs.Scans.{Scan, scan}
 use Rattle.asm_lex.proofs.Again.{again}
 use Rattle.asm_lex.proofs.Found.{found}
 use Rattle.asm_source.specs.declared.tree.SourceItem.{SourceItem}

@@ -8,10 +8,12 @@ use Rattle.asm_lex.specs.declared.machine.Next.TheVariants.{Goes, Stops}
 use Rattle.asm_lex.specs.declared.fault.SourceCause.{SourceCause}
 use Rattle.asm_lex.specs.declared.fault.SourceCause.TheVariants as cause
 use Rattle.asm_lex.specs.declared.fault.SourceFault.TheVariants as fault
-use Rattle.asm_lex.specs.Words.{Word, Scan, scan, line_after}
+use Rattle.asm_lex.specs.Words.{Word, line_after}
+use Rattle.asm_lex.specs.Scans.{Scan, scan}
 use Rattle.asm_lex.specs.Tokens.{token_scan}
 use Rattle.asm_lex.specs.Source.{lines_after, Lexed}
-use Rattle.asm_lex.specs.Refusals.{is_unclosed, Wrong}
+use Rattle.asm_lex.specs.Refusals.{is_unclosed}
+use Rattle.asm_lex.specs.Refused.{Wrong}
 use Rattle.asm_lex.proofs.Again.{skip_gap, over_token, comment_mode, in_body}
 use Rattle.asm_lex.proofs.Found.{found}
 use Rattle.asm_lex.proofs.TextTokens.{same, IsClosed, last_closed}

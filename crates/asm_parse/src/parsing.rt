@@ -9,7 +9,7 @@ ghost use Rattle.asm_source.specs.Size.{items_size, items_count};
 ghost use Rattle.asm_lex.specs.declared.fault.SourceCause.TheVariants.{TooLong};
 ghost use Rattle.asm_lex.specs.declared.fault.SourceFault.TheVariants.{At};
 ghost use Rattle.asm_lex.specs.declared.fault.SourceCause.{SourceCause as CauseView};
-ghost use Rattle.asm_lex.specs.Refusals.{RefusesAs};
+ghost use Rattle.asm_lex.specs.Refused.{RefusesAs};
 ghost use Rattle.asm_parse.specs.Refusals.{Refused, RefusedFor};
 ghost use Rattle.asm_statement.specs.Running as run;
 

@@ -12,7 +12,8 @@ use Rattle.asm_statement.specs.declared.fault.StepFault.{StepFault}
 use Rattle.asm_statement.specs.declared.fault.StepFault.TheVariants as step_fault
 use Rattle.asm_statement.specs.ScopeView.{ScopeView}
 use Rattle.asm_statement.specs.Statement.{next_step, fault_line}
-use Rattle.asm_lex.specs.Words.{Word, word_of}
+use Rattle.asm_lex.specs.Words.{Word}
+use Rattle.asm_lex.specs.Scans.{word_of}
 use Rattle.asm_statement.specs.Items.{is_part}
 
 -- ---- a section's name

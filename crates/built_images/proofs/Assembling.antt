@@ -43,7 +43,8 @@ use Rattle.asm_instruction.specs.Refused.{refused_names}
 use Rattle.asm_instruction.specs.Draft.{instruction}
 use Rattle.asm_instruction.specs.Control.{distance, to_symbol}
 use Rattle.asm_instruction.specs.Mnemonic.{known_name, drafted}
-use Rattle.asm_instruction.specs.Assembled.{named_field, widths, whole, spelled, drafted_of, by_draft, by_mnemonic, by_name, assembled, spelling_bytes}
+use Rattle.asm_instruction.specs.Assembled.{named_field, widths, whole, spelled, drafted_of, by_draft, by_mnemonic, by_name, assembled}
+use Rattle.asm_instruction.specs.Right.{spelling_bytes}
 use Rattle.asm_instruction.proofs.Answered.{spelling_is}
 use Rattle.asm_instruction.proofs.Whole.{symbol_there as some_name}
 use Rattle.afterburner.specs.Arguments.{number_in as constant_in}

@@ -16,7 +16,8 @@ use Rattle.sites.specs.Formats.{listed}
 use Rattle.image_check.specs.declared.fault.CheckCause.TheVariants.{Target}
 use Rattle.image_check.specs.declared.piece.Piece.{Piece}
 use Rattle.image_check.specs.Refusals.{Wrong}
-use Rattle.image_check.specs.Sweep.{Swept, Sweep, sweep}
+use Rattle.image_check.specs.Sweep.{Swept, sweep}
+use Rattle.image_check.specs.SweptTexts.{Sweep}
 use Rattle.image_check.specs.Pieces.{target_of, piece_of, pieces_in}
 use Rattle.image_check.specs.Targets.{is_entrance, wrong_target}
 use Rattle.image_check.specs.Conditions.{text_place, init_place, text_size, init_size, entry_place, at_of, last_at, ends_at, text_end, site_wrong, entry_at, entry_start}

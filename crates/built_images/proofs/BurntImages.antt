@@ -7,7 +7,8 @@ use Rattle.elf_form.specs.ObjectParts.{ObjectParts}
 use Rattle.elf_form.specs.ImageParts.{ImageParts}
 use Rattle.elf_form.specs.Faults.{Fault}
 use Rattle.elf_form.specs.Output.{pad}
-use Rattle.elf_form.specs.ImageLayout.{init_from, sites_from, names_from, sections_from, image_bytes, IsWritableImage, HasLongs}
+use Rattle.elf_form.specs.ImageLayout.{init_from, sites_from, names_from, sections_from, image_bytes}
+use Rattle.elf_form.specs.Writable.{IsWritableImage, HasLongs}
 use Rattle.elf_form.specs.Reading.{image_in}
 use Rattle.elf_form.proofs.RoundTrip.{read_again}
 use Rattle.elf_form.proofs.Acceptance.{read_as}

@@ -11,8 +11,7 @@ use Rattle.asm_source.specs.declared.tree.Body.{Body}
 use Rattle.asm_source.specs.declared.tree.Body.TheVariants as body
 use Rattle.asm_source.specs.declared.tree.SourceItem.{SourceItem}
 use Rattle.asm_source.specs.declared.tree.Argument.{Argument}
-use Rattle.asm_source.specs.Readable.{names_in}
-use Rattle.asm_source.specs.Names.{symbol_in, name_number}
+use Rattle.asm_source.specs.Names.{names_in, symbol_in, name_number}
 use Rattle.elf_form.specs.declared.object.Place.{Place}
 use Rattle.elf_form.specs.declared.object.Place.TheVariants as place
 use Rattle.elf_form.specs.declared.object.Symbol.{Symbol}

@@ -19,7 +19,8 @@ use Rattle.sites.specs.declared.site.Site.{Site}
 use Rattle.asm_instruction.specs.declared.assembled.Assembled.{Assembled}
 use Rattle.asm_instruction.specs.declared.assembled.Named.{Named}
 use Rattle.asm_instruction.specs.declared.assembled.Refusal.{Refusal}
-use Rattle.asm_instruction.specs.Assembled.{assembled, spelling_bytes}
+use Rattle.asm_instruction.specs.Assembled.{assembled}
+use Rattle.asm_instruction.specs.Right.{spelling_bytes}
 use Rattle.afterburner.specs.declared.symbol.Definition.{Definition}
 use Rattle.afterburner.specs.declared.fault.BurnCause.{BurnCause}
 use Rattle.afterburner.specs.declared.fault.BurnCause.TheVariants as cause

@@ -18,7 +18,8 @@ use Rattle.elf_form.specs.ImageParts.{ImageParts}
 use Rattle.sites.specs.declared.site.Site.{Site}
 use Rattle.ia32_types.specs.declared.site.SiteKind.{SiteKind}
 use Rattle.ia32_types.specs.Site.{sensitive_kind}
-use Rattle.sites.specs.Spelling.{spelling, AreInGaps}
+use Rattle.sites.specs.Spelling.{spelling}
+use Rattle.sites.specs.Form.{AreInGaps}
 use Rattle.sites.specs.Limits.{in_text}
 use Rattle.sites.proofs.TextSites.{in_form, forms, length-spelling}
 use Rattle.sites.specs.Formats.{list_of, listed}

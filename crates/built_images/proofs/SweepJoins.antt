@@ -10,7 +10,8 @@ use Rattle.ia32_rows.specs.Spelling.{insn_of, lead_at, coded_at, parts_at}
 use Rattle.ia32_decode.specs.Answer.{Begins}
 use Rattle.ia32_decode.specs.Decoding.{answer_from, decoded}
 use Rattle.ia32_decode.proofs.Whole.{reads_back}
-use Rattle.image_check.specs.Sweep.{Swept, SweepsTo, Sweep}
+use Rattle.image_check.specs.Sweep.{Swept}
+use Rattle.image_check.specs.SweptTexts.{SweepsTo, Sweep}
 use Rattle.image_check.proofs.SweepLaws.{begun}
 use Rattle.built_images.specs.Joined.{swept_later, nop, sti, hlt, jump_to_itself, nops_at}
 

@@ -1,7 +1,7 @@
 //! The sites of padded texts.
 
 ghost use Rattle.std.specs.Prelude.{◌≡◌, ℕ, List, map, Some};
-ghost use Rattle.image_check.specs.Sweep.{Sweep};
+ghost use Rattle.image_check.specs.SweptTexts.{Sweep};
 ghost use Rattle.image_check.specs.Accepts.{IsEntrance};
 ghost use Rattle.image_check.specs.Pieces.{piece_of};
 ghost use Rattle.image_check.specs.TextSites.{sites_of};

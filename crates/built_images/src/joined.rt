@@ -2,7 +2,8 @@
 
 ghost use Rattle.std.specs.Prelude.{◌++◌, ◌∷◌, [], ℕ, List, length, map, replicate};
 ghost use Rattle.ia32_rows.specs.Spells.{Spells};
-ghost use Rattle.image_check.specs.Sweep.{Swept, Sweep};
+ghost use Rattle.image_check.specs.Sweep.{Swept};
+ghost use Rattle.image_check.specs.SweptTexts.{Sweep};
 ghost use Rattle.built_images.specs.Joined.{swept_later, nop, sti, hlt, jump_to_itself, nops_at};
 
 /// The sweep of two texts, one behind the other, is that of the first and then that of the second, further on by the

@@ -5,7 +5,8 @@ use Rattle.std.proofs.lemmas.Nat.{from_le_bytes-to_le_bytes_4}
 use Rattle.guest_ram.specs.Bytes.{part, byte, word16, word32}
 use Rattle.elf_form.specs.ImageParts.{ImageParts}
 use Rattle.elf_form.specs.Output.{longs, pad}
-use Rattle.elf_form.specs.ImageLayout.{init_from, sites_from, names_from, sections_from, section_names, header, program_numbers, section_numbers, body, image_bytes, IsWritableImage, HasLongs}
+use Rattle.elf_form.specs.ImageLayout.{init_from, sites_from, names_from, sections_from, section_names, header, program_numbers, section_numbers, body, image_bytes}
+use Rattle.elf_form.specs.Writable.{IsWritableImage, HasLongs}
 use Rattle.elf_form.proofs.RowLaws.{part-middle, row_behind, length-longs}
 
 -- a section header of the file f at s

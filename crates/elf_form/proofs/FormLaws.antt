@@ -7,7 +7,8 @@ use Rattle.elf_form.specs.declared.cause.ElfCause.{ElfCause}
 use Rattle.elf_form.specs.declared.segments.Found.{Found}
 use Rattle.elf_form.specs.declared.segments.Found.TheVariants.{Nothing, One, Two, More}
 use Rattle.elf_form.specs.Faults.{test, ◌or_lower◌}
-use Rattle.elf_form.specs.Tables.{AllFound, first_of, second_of}
+use Rattle.elf_form.specs.Tables.{first_of, second_of}
+use Rattle.elf_form.specs.Whole.{AllFound}
 use Rattle.elf_form.specs.Segments.{order, memory_sizes, first_size, second_size, sizes, loads, header_size, program_size, section_size, too_long}
 use Rattle.elf_form.specs.Sections.{one_of}
 pub use Rattle.plain_laws.proofs.Options.{then_none, else_none}

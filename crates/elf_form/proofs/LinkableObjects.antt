@@ -22,14 +22,14 @@ use Rattle.elf_form.specs.declared.symbols.RelocTest.TheVariants.{Named, Form}
 use Rattle.elf_form.specs.declared.symbols.Table.{Table}
 use Rattle.elf_form.specs.ObjectParts.{ObjectParts}
 use Rattle.elf_form.specs.Tables.{entries, found}
-use Rattle.elf_form.specs.Header.{header_table, section_table, section_count, sections, passes, has_contents, part_begins, header_cut, header_table_cut, section_table_cut, header_part_cut, section_part_cut, cut, IsSection, IsWhole}
+use Rattle.elf_form.specs.Header.{header_table, section_table, section_count, sections, passes, has_contents, part_begins, header_cut, header_table_cut, section_table_cut, header_part_cut, section_part_cut, cut}
+use Rattle.elf_form.specs.Whole.{IsSection, IsWhole}
 use Rattle.elf_form.specs.Sections.{contents, is_index, names, is_null, is_sites}
 use Rattle.elf_form.specs.Output.{pad}
 use Rattle.elf_form.specs.Roles.{role as role_of, role_number, has_role, with_role, size, alignment, up, starts, with_section, joined}
-use Rattle.elf_form.specs.ObjectReading.{table_of, strings_of, kept_relocs, second_field, text_in, sites_in, object_at, symbol_form, reloc_form, object_form, object_sizes, wrong_object, ObjectAs}
+use Rattle.elf_form.specs.ObjectReading.{table_of, strings_of, kept_relocs, second_field, text_in, sites_in, object_at, symbol_form, reloc_form, object_form, object_sizes, wrong_object, ObjectAs, object_in}
 use Rattle.elf_form.specs.declared.cause.ElfFault.{ElfFault}
 use Rattle.elf_form.specs.Faults.{Gives}
-use Rattle.elf_form.specs.ObjectReading.{object_in}
 use Rattle.elf_form.proofs.ObjectAcceptance.{if_read}
 use Rattle.elf_form.proofs.WholeLaws.{section_at}
 use Rattle.elf_form.specs.Linkable.{IsLinkable}

@@ -10,7 +10,8 @@ use Rattle.elf_form.specs.declared.object.Symbol.{Symbol}
 use Rattle.elf_form.specs.declared.object.Reloc.{Reloc}
 use Rattle.elf_form.specs.ObjectParts.{ObjectParts}
 use Rattle.elf_form.specs.StringTable.{table_bytes}
-use Rattle.elf_form.specs.ObjectLayout.{layout, names_of, strings_of, is_of, symbol_bytes, symbol_table, reloc_table, object_names, object_bytes, IsPlaced, relocated_part, IsWritableObject, IsWholeObject, HasValues}
+use Rattle.elf_form.specs.ObjectLayout.{layout, names_of, strings_of, is_of, symbol_bytes, symbol_table, reloc_table, object_names, object_bytes}
+use Rattle.elf_form.specs.Writable.{IsPlaced, relocated_part, IsWritableObject, IsWholeObject, HasValues}
 use Rattle.elf_form.proofs.FileWords.{IsRow}
 use Rattle.elf_form.proofs.ObjectSizes.{ArePlaced, are_placed}
 use Rattle.elf_form.proofs.ObjectBounds.{length-object}

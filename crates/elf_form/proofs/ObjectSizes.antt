@@ -2,7 +2,8 @@
 use Rattle.std.proofs.Common.{◌≡◌, ℕ, ◌+◌, ◌*◌, ◌<◌, ◌≤◌, ◌^◌, true, false, length, refl, arith}
 use Rattle.std.specs.Prelude.{count_by, All}
 use Rattle.elf_form.specs.ObjectParts.{ObjectParts}
-use Rattle.elf_form.specs.ObjectLayout.{next, layout, strings_of, is_of, IsWritableObject}
+use Rattle.elf_form.specs.ObjectLayout.{next, layout, strings_of, is_of}
+use Rattle.elf_form.specs.Writable.{IsWritableObject}
 
 next-least : (n : ℕ) → n ≤ next n
 unfolding next

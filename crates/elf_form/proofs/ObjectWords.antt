@@ -6,7 +6,8 @@ use Rattle.std.proofs.lemmas.Nat.{from_le_bytes-to_le_bytes_4}
 use Rattle.guest_ram.specs.Bytes.{part, byte, word16, word32}
 use Rattle.elf_form.specs.ObjectParts.{ObjectParts}
 use Rattle.elf_form.specs.Output.{longs, pad}
-use Rattle.elf_form.specs.ObjectLayout.{next, layout, strings_of, is_of, symbol_table, reloc_table, object_header, object_names, part_sections, table_sections, object_parts, object_tables, object_bytes, IsWritableObject}
+use Rattle.elf_form.specs.ObjectLayout.{next, layout, strings_of, is_of, symbol_table, reloc_table, object_header, object_names, part_sections, table_sections, object_parts, object_tables, object_bytes}
+use Rattle.elf_form.specs.Writable.{IsWritableObject}
 use Rattle.elf_form.proofs.FileWords.{IsRow, AreSmall, row_of}
 use Rattle.elf_form.proofs.RowLaws.{part-middle, row_behind, length-longs}
 use Rattle.elf_form.proofs.ObjectSizes.{ArePlaced}

@@ -14,7 +14,8 @@ use Rattle.elf_form.specs.Header.{headers, sections, passes, header_passes, sect
 use Rattle.elf_form.specs.Segments.{is_load, loads, memory_sizes, sizes, order}
 use Rattle.elf_form.specs.Sections.{contents, names, is_sites, is_nameless, is_compressed, sites_sections, compressed, nameless}
 use Rattle.elf_form.specs.Reading.{parts_at, section_form, wrong_image, image_at, image_in}
-use Rattle.elf_form.specs.ImageLayout.{init_from, sites_from, names_from, sections_from, section_names, image_bytes, IsWritableImage, HasLongs}
+use Rattle.elf_form.specs.ImageLayout.{init_from, sites_from, names_from, sections_from, section_names, image_bytes}
+use Rattle.elf_form.specs.Writable.{IsWritableImage, HasLongs}
 use Rattle.elf_form.proofs.FileWords.{IsRow, IsProgram, HasHeader, IsLaidOut, laid_out, length-file, header_is, numbers_fit, text_program, init_program, null_row, text_row, data_row, bss_row, sites_row, names_row, text_part, init_part, sites_part, names_part}
 
 -- all that is known of the file f of p

@@ -10,7 +10,8 @@ use Rattle.std.proofs.lemmas.Slice.Eq.{bytes_eq-Decides}
 use Rattle.std.specs.Str.{bytes_eq}
 use Rattle.std.proofs.lemmas.Bool.{both_ways}
 use Rattle.elf_form.specs.Tables.{further}
-use Rattle.elf_form.specs.StringTable.{place_in, unless_placed, with_name, table_bytes, IsStringTable}
+use Rattle.elf_form.specs.StringTable.{place_in, unless_placed, with_name, table_bytes}
+use Rattle.elf_form.specs.Writable.{IsStringTable}
 
 pub table_bytes-append : (names : List (List ℕ)) (name : List ℕ) → table_bytes (names ++ name ∷ []) ≡ table_bytes names ++ (name ++ 0 ∷ [])
 unfolding table_bytes

@@ -6,7 +6,8 @@ use Rattle.std.specs.Option.{option_or}
 use Rattle.std.proofs.lemmas.Bool.{cond-true, cond-false}
 use Rattle.elf_form.specs.declared.segments.Found.{Found}
 use Rattle.elf_form.specs.declared.segments.Found.TheVariants.{Nothing, One, Two, More}
-use Rattle.elf_form.specs.Tables.{entries, found, with_one, AllFound, first_some}
+use Rattle.elf_form.specs.Tables.{entries, found, with_one, first_some}
+use Rattle.elf_form.specs.Whole.{AllFound}
 
 -- what is left at the entry i, and one further on
 pub entries-more : (at k n i : ℕ) → i < n → entries (at + k * i) k (n - i) ≡ (at + k * i) ∷ entries (at + k * (i + 1)) k (n - (i + 1))

@@ -10,7 +10,8 @@ use Rattle.elf_form.specs.declared.object.Symbol.{Symbol}
 use Rattle.elf_form.specs.declared.object.Reloc.{Reloc}
 use Rattle.elf_form.specs.Output.{halves, longs}
 use Rattle.elf_form.specs.StringTable.{name_place}
-use Rattle.elf_form.specs.ObjectLayout.{place_number, symbol_bytes, reloc_bytes, IsPlaced}
+use Rattle.elf_form.specs.ObjectLayout.{place_number, symbol_bytes, reloc_bytes}
+use Rattle.elf_form.specs.Writable.{IsPlaced}
 use Rattle.elf_form.proofs.RowLaws.{row_behind}
 use Rattle.elf_form.proofs.ObjectBounds.{length-symbol, length-reloc}
 use Rattle.elf_form.proofs.NamePlaces.{IsRead}

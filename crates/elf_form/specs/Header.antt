@@ -1,5 +1,5 @@
 -- The header of a file (System V ABI, chapter 4, ELF Header) and where its tables and their contents pass the end.
-use Rattle.std.specs.Prelude.{◌≡◌, ◌≤◌, ℕ, ◌+◌, ◌*◌, Bool, false, not, ◌&&◌, List, length, Option, Some, None, Result, nat_lt, ◌==◌}
+use Rattle.std.specs.Prelude.{ℕ, ◌+◌, ◌*◌, Bool, not, ◌&&◌, List, length, Option, Some, None, Result, nat_lt, ◌==◌}
 use Rattle.std.specs.Bool.{then_some}
 use Rattle.std.specs.List.{find}
 use Rattle.std.specs.Option.{option_or}
@@ -71,21 +71,6 @@ cut bytes =
     (option_or (header_table_cut bytes)
     (option_or (section_table_cut bytes)
     (option_or (header_part_cut bytes) (section_part_cut bytes))))
-
--- What a file has in which no part passes the end.
-pub record IsWhole (bytes : List ℕ) : Type 0 where
-  pub header : EHDR_SIZE ≤ length bytes
-  pub header_room : header_table bytes + PHDR_SIZE * header_count bytes ≤ length bytes
-  pub section_room : section_table bytes + SHDR_SIZE * section_count bytes ≤ length bytes
-  pub header_parts : find (header_passes bytes) (headers bytes) ≡ None
-  pub section_parts : find (section_passes bytes) (sections bytes) ≡ None
-
--- a program header, and a section, of such a file
-abbrev pub IsHeader : List ℕ → ℕ → Type 0
-IsHeader bytes h = (h + PHDR_SIZE ≤ length bytes) × (header_passes bytes h ≡ false)
-
-abbrev pub IsSection : List ℕ → ℕ → Type 0
-IsSection bytes s = (s + SHDR_SIZE ≤ length bytes) × (section_passes bytes s ≡ false)
 
 -- The fields that have one value.
 abbrev pub magic : List ℕ → Option ℕ

@@ -1,5 +1,5 @@
 -- The one layout of an image file (System V ABI, chapters 4 and 5). The order of the parts is the profile's.
-use Rattle.std.specs.Prelude.{ℕ, ◌+◌, ◌%◌, ◌<◌, ◌^◌, List, [], ◌∷◌, ◌++◌, length, replicate, codes}
+use Rattle.std.specs.Prelude.{ℕ, ◌+◌, ◌%◌, ◌^◌, List, [], ◌∷◌, ◌++◌, length, replicate, codes}
 use Rattle.elf_form.specs.Output.{identity, halves, longs, pad}
 use Rattle.elf_form.specs.declared.abi.TheConstants.{EHDR_SIZE, EM_386, ET_EXEC, EV_CURRENT, PF_R, PF_W, PF_X, PHDR_SIZE, PT_LOAD, SHDR_SIZE}
 use Rattle.elf_form.specs.declared.section_header.SectionHeader.{SectionHeader}
@@ -57,14 +57,3 @@ body p =
 
 unfoldable pub image_bytes : ImageParts → List ℕ
 image_bytes p = header p ++ (longs (program_numbers p) ++ (replicate 3980 0 ++ (body p ++ longs (section_numbers p))))
-
--- The file, and the data with the zeroed bytes, are shorter than 2 ^ 31 bytes.
-pub record IsWritableImage (p : ImageParts) : Type 0 where
-  pub file : sections_from p + 240 < 2 ^ 31
-  pub memory : length p.init + p.bss < 2 ^ 31
-
--- Its numbers have four bytes.
-pub record HasLongs (p : ImageParts) : Type 0 where
-  pub entry : p.entry < 2 ^ 32
-  pub text_at : p.text_at < 2 ^ 32
-  pub init_at : p.init_at < 2 ^ 32

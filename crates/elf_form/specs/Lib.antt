@@ -4,6 +4,7 @@ pub mod ImageParts
 pub mod Faults
 pub mod Tables
 pub mod Header
+pub mod Whole
 pub mod Segments
 pub mod Sections
 pub mod Reading
@@ -11,6 +12,7 @@ pub mod Output
 pub mod SectionHeaders
 pub mod ImageLayout
 pub mod ObjectLayout
+pub mod Writable
 pub mod Accepted
 pub mod Roles
 pub mod Symbols

@@ -1,13 +1,11 @@
 -- The one layout of an object file (System V ABI, chapter 4). The order of the parts is the profile's.
-use Rattle.std.specs.Prelude.{◌≡◌, ◌≢◌, ℕ, ◌+◌, ◌*◌, true, false, ◌<◌, ◌≤◌, ◌^◌, Bool, not, List, [], ◌∷◌, ◌++◌, length, fold, filter, count_by, All, replicate, codes, if◌then◌else◌}
+use Rattle.std.specs.Prelude.{ℕ, ◌+◌, ◌*◌, true, false, Bool, not, List, [], ◌∷◌, ◌++◌, length, fold, filter, count_by, replicate, codes, if◌then◌else◌}
 use Rattle.std.specs.List.{flat_map, position_or_len}
-use Rattle.elf_form.specs.declared.object.TheConstants.{SYMBOL_LIMIT}
 use Rattle.elf_form.specs.declared.object.Place.{Place}
 use Rattle.elf_form.specs.declared.object.Place.TheVariants.{Undefined, Text, Init, Bss}
 use Rattle.elf_form.specs.declared.object.Symbol.{Symbol}
 use Rattle.elf_form.specs.declared.object.Reloc.{Reloc}
 use Rattle.elf_form.specs.declared.object_writing.Layout.{Layout}
-use Rattle.elf_form.specs.declared.object_writing.Lengths.{Lengths}
 use Rattle.elf_form.specs.declared.abi.TheConstants.{EHDR_SIZE, EM_386, ET_REL, EV_CURRENT, REL_SIZE, R_386_32, R_386_PC32, SHDR_SIZE, SYM_SIZE}
 use Rattle.elf_form.specs.declared.section_header.SectionHeader.{SectionHeader}
 use Rattle.elf_form.specs.SectionHeaders.{no_section, text_section, data_section, bss_section, sites_section, relocations_section, symbols_section, names_section, placed, numbers_of}
@@ -118,42 +116,3 @@ object_tables o =
 
 unfoldable pub object_bytes : ObjectParts → List ℕ
 object_bytes o = object_header o ++ (object_parts o ++ (object_tables o ++ (longs (part_sections o) ++ longs (table_sections o))))
-
--- The file, and the data with the zeroed bytes, are shorter than 2 ^ 31 bytes. There are at most 65,536 symbols, and each relocation names one.
-pub record IsWritableObject (o : ObjectParts) : Type 0 where
-  pub file : (layout o).sections + 400 < 2 ^ 31
-  pub memory : length o.init + o.bss < 2 ^ 31
-  pub count : length o.symbols ≤ SYMBOL_LIMIT
-  pub named : All (λ r. r.symbol < length o.symbols) o.relocs
-
--- An undefined symbol is global and has the value 0.
-abbrev pub IsPlaced : Symbol → Type 0
-IsPlaced s = s.place ≡ Undefined → (s.global ≡ true) × (s.value ≡ 0)
-
--- the bytes that a relocation is in: the text, or the data
-abbrev pub relocated_part : ObjectParts → Reloc → List ℕ
-relocated_part o r = if r.in_text then o.text else o.init
-
--- An object of which a file is made that is read as it. In its lists the local symbols come before the global ones, and the relocations of the text before those of the data. No name holds a zero byte. The field of each relocation, of four bytes, lies in its section.
-pub record IsWholeObject (o : ObjectParts) : Type 0 where
-  pub writable : IsWritableObject o
-  pub split : o.symbols ≡ filter (λ s. not s.global) o.symbols ++ filter (λ s. s.global) o.symbols
-  pub names : All (λ s. All (λ b. b ≢ 0) s.name) o.symbols
-  pub undefined : All IsPlaced o.symbols
-  pub fields : All (λ r. r.at + 4 ≤ length (relocated_part o r)) o.relocs
-  pub ordered : o.relocs ≡ filter (is_of true) o.relocs ++ filter (is_of false) o.relocs
-
--- Its values have four bytes.
-pub record HasValues (o : ObjectParts) : Type 0 where
-  pub values : All (λ s. s.value < 2 ^ 32) o.symbols
-
--- how long the parts are, together less than 2 ^ 31 bytes
-pub record AreLengths (o : ObjectParts) (lengths : Lengths) : Type 0 where
-  pub text : lengths.text ≡ length o.text
-  pub init : lengths.init ≡ length o.init
-  pub sites : lengths.sites ≡ length o.sites
-  pub text_relocs : lengths.text_relocs ≡ count_by (is_of true) o.relocs
-  pub data_relocs : lengths.data_relocs ≡ count_by (is_of false) o.relocs
-  pub symbols : lengths.symbols ≡ length o.symbols
-  pub strings : lengths.strings ≡ length (strings_of o.symbols)
-  pub small : lengths.text + lengths.init + lengths.sites + REL_SIZE * lengths.text_relocs + REL_SIZE * lengths.data_relocs + SYM_SIZE * lengths.symbols + lengths.strings < 2 ^ 31

@@ -1,5 +1,5 @@
 -- What is read of an image, or the first fault.
-use Rattle.std.specs.Prelude.{◌≤◌, ℕ, ◌+◌, ◌-◌, List, Option, None, Result}
+use Rattle.std.specs.Prelude.{ℕ, ◌+◌, ◌-◌, List, Option, None, Result}
 use Rattle.guest_ram.specs.Bytes.{word32, part}
 use Rattle.elf_form.specs.declared.abi.TheConstants.{ET_EXEC, E_ENTRY, P_FILESZ, P_MEMSZ, P_OFFSET, P_VADDR}
 use Rattle.elf_form.specs.declared.cause.ElfCause.{ElfCause}
@@ -7,7 +7,7 @@ use Rattle.elf_form.specs.declared.cause.ElfCause.TheVariants.{Sizes, SectionFor
 use Rattle.elf_form.specs.ImageParts.{ImageParts}
 use Rattle.elf_form.specs.Faults.{Fault, tested, causes, ◌or_lower◌}
 use Rattle.elf_form.specs.Tables.{first_of, second_of}
-use Rattle.elf_form.specs.Header.{wrong_file, IsHeader, IsSection}
+use Rattle.elf_form.specs.Header.{wrong_file}
 use Rattle.elf_form.specs.Segments.{loads, sizes, order}
 use Rattle.elf_form.specs.Sections.{sites_sections, one_of, contents, compressed, nameless}
 
@@ -47,7 +47,3 @@ image_at bytes = parts_at bytes (first_of (loads bytes)) (second_of (loads bytes
 
 unfoldable pub image_in : List ℕ → Result ImageParts Fault
 image_in bytes = tested (wrong_image bytes) causes (image_at bytes)
-
--- two program headers and a section of the file
-abbrev pub ArePlaces : List ℕ → ℕ × ℕ × ℕ → Type 0
-ArePlaces bytes at = IsHeader bytes at.0 × IsHeader bytes at.1 × IsSection bytes at.2 × (word32 bytes (at.1 + P_FILESZ) ≤ word32 bytes (at.1 + P_MEMSZ))

@@ -1,10 +1,7 @@
 -- String tables (System V ABI, chapter 4, String Table): names, each ended by a zero byte. The empty name stands first, so a table begins with a zero byte.
-use Rattle.std.specs.Prelude.{◌≡◌, ℕ, ◌+◌, List, [], ◌∷◌, ◌++◌, length, Option, Some, None, unwrap_or, if◌then◌else◌}
+use Rattle.std.specs.Prelude.{ℕ, ◌+◌, List, [], ◌∷◌, ◌++◌, length, Option, Some, None, unwrap_or, if◌then◌else◌}
 use Rattle.std.specs.List.{flat_map}
 use Rattle.std.specs.Str.{bytes_eq}
-use Rattle.std.specs.HashMap as hash
-use Rattle.std.specs.HashMap.{HashMap}
-use denote.Ref.{Bor}
 use Rattle.elf_form.specs.Tables.{further}
 
 -- where a name begins among the names of a table, if it is there
@@ -26,12 +23,3 @@ table_bytes names = flat_map (λ name. name ++ 0 ∷ []) names
 -- where a name begins in a table that has it
 unfoldable pub name_place : List (List ℕ) → List ℕ → ℕ
 name_place names name = unwrap_or (place_in names name) 0
-
--- a map with the places of a table's names
-pub record HasPlaces {S : Type 0} (names : List (List ℕ)) (map : HashMap (Bor (List ℕ)) ℕ S) : Type 0 where
-  pub places : (name : List ℕ) → hash.get_by (λ k. bytes_eq name k.now) map ≡ place_in names name
-
--- a table's bytes, and such a map
-pub record IsStringTable {S : Type 0} (names : List (List ℕ)) (strings : List ℕ) (map : HashMap (Bor (List ℕ)) ℕ S) : Type 0 where
-  pub bytes : strings ≡ table_bytes names
-  pub has : HasPlaces names map

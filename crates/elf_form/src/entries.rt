@@ -3,7 +3,7 @@
 ghost use Rattle.std.specs.Prelude.{◌≡◌, ◌≤◌, ◌<◌, ◌+◌, ◌*◌, ◌^◌, ◌++◌, length, All, OnOk, IfOk, IfSome};
 ghost use Rattle.guest_ram.specs.Bytes.{word16, word32};
 ghost use Rattle.elf_form.specs.declared.abi.TheConstants.{SYM_SIZE};
-ghost use Rattle.elf_form.specs.Header.{IsWhole, IsSection};
+ghost use Rattle.elf_form.specs.Whole.{IsWhole, IsSection};
 ghost use Rattle.elf_form.specs.Symbols.{relocs_in, relocs_of, IsEntry, relocs_fault};
 
 use crate::abi::{E_SHNUM, E_SHOFF, REL_SIZE, SH_OFFSET, SHDR_SIZE};

@@ -5,7 +5,8 @@ ghost use Rattle.std.specs.List.{find};
 ghost use Rattle.guest_ram.specs.Bytes.{byte, word16, word32};
 ghost use Rattle.elf_form.specs.Faults.{test, Gives, ◌or_lower◌};
 ghost use Rattle.elf_form.specs.Tables.{entries};
-ghost use Rattle.elf_form.specs.Header.{cut, part_begins, header_passes, section_passes, passes, IsWhole, magic, class, encoding, version, file_type, machine, identified};
+ghost use Rattle.elf_form.specs.Header.{cut, part_begins, header_passes, section_passes, passes, magic, class, encoding, version, file_type, machine, identified};
+ghost use Rattle.elf_form.specs.Whole.{IsWhole};
 
 use crate::abi::{
     E_MACHINE, E_PHNUM, E_PHOFF, E_SHNUM, E_SHOFF, E_TYPE, E_VERSION, EHDR_SIZE, EI_CLASS, EI_DATA,

@@ -3,7 +3,8 @@
 ghost use Rattle.std.specs.Prelude.{◌≡◌, [], ◌∷◌, ◌<◌, ◌≤◌, ◌+◌, ◌^◌, ◌++◌, ◌*◌, length, replicate, Ok, OnOk, IfOk};
 ghost use Rattle.elf_form.specs.declared.segments.TheConstants.{FILE_LIMIT};
 ghost use Rattle.elf_form.specs.Output.{halves, longs, pad};
-ghost use Rattle.elf_form.specs.ImageLayout.{init_from, sites_from, names_from, sections_from, header, program_numbers, section_numbers, body, image_bytes, IsWritableImage, section_names};
+ghost use Rattle.elf_form.specs.ImageLayout.{init_from, sites_from, names_from, sections_from, header, program_numbers, section_numbers, body, image_bytes, section_names};
+ghost use Rattle.elf_form.specs.Writable.{IsWritableImage};
 ghost use Rattle.elf_form.specs.Reading.{image_in};
 
 use crate::abi::{

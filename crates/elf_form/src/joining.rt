@@ -1,7 +1,8 @@
 //! Sections of one role, joined each at its alignment.
 
 ghost use Rattle.std.specs.Prelude.{◌≡◌, ◌≤◌, ◌<◌, ◌+◌, ◌*◌, ◌^◌, length, [], OnOk, IfOk, IfNone, IfSome};
-ghost use Rattle.elf_form.specs.Header.{IsWhole, IsSection, sections};
+ghost use Rattle.elf_form.specs.Header.{sections};
+ghost use Rattle.elf_form.specs.Whole.{IsWhole, IsSection};
 ghost use Rattle.elf_form.specs.declared.roles.Role.{Role};
 ghost use Rattle.elf_form.specs.Roles.{is_misaligned, misaligned, joined_fault, starts, joined_end, with_section, joined};
 

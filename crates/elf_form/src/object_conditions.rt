@@ -3,8 +3,7 @@
 ghost use Rattle.std.specs.Prelude.{◌≡◌, ◌≤◌, ◌<◌, ◌+◌, ◌*◌, ◌^◌, length, IfNone, IfSome};
 ghost use Rattle.guest_ram.specs.Bytes.{word16, word32};
 ghost use Rattle.elf_form.specs.declared.roles.Role.TheVariants as role;
-ghost use Rattle.elf_form.specs.Tables.{AllFound};
-ghost use Rattle.elf_form.specs.Header.{IsWhole, IsSection};
+ghost use Rattle.elf_form.specs.Whole.{AllFound, IsWhole, IsSection};
 ghost use Rattle.elf_form.specs.Sections.{names as names_of};
 ghost use Rattle.elf_form.specs.Roles.{with_role};
 ghost use Rattle.elf_form.specs.Symbols.{entries_fault};

@@ -4,9 +4,9 @@ ghost use Rattle.std.specs.Prelude.{◌≡◌, ℕ, ◌≤◌, ◌<◌, ◌+◌,
 ghost use Rattle.elf_form.specs.declared.roles.Role.TheVariants as role;
 ghost use Rattle.elf_form.specs.declared.cause.ElfCause.{ElfCause};
 ghost use Rattle.elf_form.specs.declared.cause.ElfCause.TheVariants.{Sizes};
-ghost use Rattle.elf_form.specs.Tables.{AllFound};
+ghost use Rattle.elf_form.specs.Whole.{AllFound, IsWhole, IsSection};
 ghost use Rattle.elf_form.specs.Faults.{tested, causes, section_causes, late_causes, Gives, IsFirstOf, and_then};
-ghost use Rattle.elf_form.specs.Header.{IsWhole, IsSection, sections, identified};
+ghost use Rattle.elf_form.specs.Header.{sections, identified};
 ghost use Rattle.elf_form.specs.Sections.{names as names_in};
 ghost use Rattle.elf_form.specs.Roles.{with_role, starts as starts_of};
 ghost use Rattle.elf_form.specs.Symbols.{IsEntry, relocs_of};

@@ -5,8 +5,9 @@ ghost use Rattle.std.specs.List.{flat_map};
 ghost use Rattle.elf_form.specs.declared.object.TheConstants.{SYMBOL_LIMIT};
 ghost use Rattle.elf_form.specs.declared.segments.TheConstants.{FILE_LIMIT};
 ghost use Rattle.elf_form.specs.Output.{halves, longs, pad};
-ghost use Rattle.elf_form.specs.StringTable.{name_place, IsStringTable, HasPlaces};
-ghost use Rattle.elf_form.specs.ObjectLayout.{next, layout as layout_of, names_of, strings_of, is_of, place_number, symbol_bytes, symbol_table, first_global, reloc_bytes, reloc_table, object_header, object_parts, object_tables, part_sections, table_sections, object_names, object_bytes, IsWritableObject, IsWholeObject, HasValues, AreLengths};
+ghost use Rattle.elf_form.specs.StringTable.{name_place};
+ghost use Rattle.elf_form.specs.Writable.{IsStringTable, HasPlaces, IsWritableObject, IsWholeObject, HasValues, AreLengths};
+ghost use Rattle.elf_form.specs.ObjectLayout.{next, layout as layout_of, names_of, strings_of, is_of, place_number, symbol_bytes, symbol_table, first_global, reloc_bytes, reloc_table, object_header, object_parts, object_tables, part_sections, table_sections, object_names, object_bytes};
 ghost use Rattle.elf_form.specs.ObjectReading.{object_in};
 
 use crate::abi::{

@@ -3,7 +3,8 @@
 ghost use Rattle.std.specs.Prelude.{◌≡◌, ◌≤◌, ◌<◌, ◌+◌, ◌*◌, ◌^◌, ◌++◌, ◌==◌, length, map, All, OnOk, IfOk};
 ghost use Rattle.std.specs.List.{position_or_len};
 ghost use Rattle.guest_ram.specs.Bytes.{word16, word32};
-ghost use Rattle.elf_form.specs.Header.{IsWhole, sections};
+ghost use Rattle.elf_form.specs.Header.{sections};
+ghost use Rattle.elf_form.specs.Whole.{IsWhole};
 ghost use Rattle.elf_form.specs.declared.roles.Role.TheVariants.{Init, Bss};
 ghost use Rattle.elf_form.specs.Roles.{starts as starts_of};
 ghost use Rattle.elf_form.specs.Symbols.{IsEntry, start_at, name_in, symbol_at, symbols_in, numbers, symbols_of, reloc_at};

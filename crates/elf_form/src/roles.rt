@@ -3,8 +3,9 @@
 ghost use Rattle.std.specs.Prelude.{◌≡◌, ◌≤◌, ◌<◌, ◌+◌, ◌*◌, ◌^◌, length, filter, IfSome};
 ghost use Rattle.guest_ram.specs.Bytes.{word16, word32};
 ghost use Rattle.guest_ram.specs.Among.{is_among};
-ghost use Rattle.elf_form.specs.Tables.{entries, found, AllFound};
-ghost use Rattle.elf_form.specs.Header.{IsWhole, IsSection, sections};
+ghost use Rattle.elf_form.specs.Tables.{entries, found};
+ghost use Rattle.elf_form.specs.Whole.{AllFound, IsWhole, IsSection};
+ghost use Rattle.elf_form.specs.Header.{sections};
 ghost use Rattle.elf_form.specs.Roles.{allocated_role, unallocated_role, role_by, role as role_of, role_number, has_role, with_role, is_kept, alignments, is_misaligned, misaligned, joined_fault, up};
 ghost use Rattle.elf_form.specs.Output.{pad};
 

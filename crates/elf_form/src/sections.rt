@@ -3,8 +3,8 @@
 ghost use Rattle.std.specs.Prelude.{◌≡◌, ◌≤◌, ◌<◌, ◌+◌, ◌^◌, length, drop, IfSome};
 ghost use Rattle.guest_ram.specs.Bytes.{word16, word32};
 ghost use Rattle.elf_form.specs.declared.abi.TheConstants.{EHDR_SIZE};
-ghost use Rattle.elf_form.specs.Tables.{AllFound};
-ghost use Rattle.elf_form.specs.Header.{IsWhole, IsSection, section_passes};
+ghost use Rattle.elf_form.specs.Whole.{AllFound, IsWhole, IsSection};
+ghost use Rattle.elf_form.specs.Header.{section_passes};
 ghost use Rattle.elf_form.specs.Sections.{contents, is_index, names, is_null, is_nameless, is_sites, is_compressed, sites_sections, one_of, compressed, nameless};
 
 use crate::abi::{

@@ -1,7 +1,8 @@
 //! String tables: names, each ended by a zero byte.
 
 ghost use Rattle.std.specs.Prelude.{◌≡◌, ℕ, ◌+◌, ◌<◌, ◌^◌, List, length, OnOk, IfOk};
-ghost use Rattle.elf_form.specs.StringTable.{with_name, IsStringTable};
+ghost use Rattle.elf_form.specs.StringTable.{with_name};
+ghost use Rattle.elf_form.specs.Writable.{IsStringTable};
 ghost use Rattle.elf_form.specs.ObjectLayout.{names_of, strings_of};
 
 use crate::object::{Symbol, bytes_of};

@@ -3,7 +3,7 @@
 ghost use Rattle.std.specs.Prelude.{◌≡◌, ◌≤◌, ◌<◌, ◌+◌, ◌*◌, ◌^◌, ◌++◌, length, All, OnOk, IfOk, IfSome};
 ghost use Rattle.guest_ram.specs.Bytes.{word16, word32};
 ghost use Rattle.elf_form.specs.Faults.{◌or_lower◌};
-ghost use Rattle.elf_form.specs.Header.{IsWhole, IsSection};
+ghost use Rattle.elf_form.specs.Whole.{IsWhole, IsSection};
 ghost use Rattle.elf_form.specs.Symbols.{sections_fault, symbols_fault};
 
 use crate::abi::{E_SHNUM, E_SHOFF, SHDR_SIZE, SYM_SIZE};

@@ -3,8 +3,8 @@
 ghost use Rattle.std.specs.Prelude.{◌≡◌, ◌≤◌, ◌<◌, ◌+◌, ◌*◌, ◌^◌, length, IfSome};
 ghost use Rattle.guest_ram.specs.Bytes.{word16, word32};
 ghost use Rattle.elf_form.specs.declared.abi.TheConstants.{EHDR_SIZE};
-ghost use Rattle.elf_form.specs.Tables.{AllFound};
-ghost use Rattle.elf_form.specs.Header.{IsWhole, IsSection, section_table, section_count};
+ghost use Rattle.elf_form.specs.Whole.{AllFound, IsWhole, IsSection};
+ghost use Rattle.elf_form.specs.Header.{section_table, section_count};
 ghost use Rattle.elf_form.specs.Symbols.{target_role, table_at, is_file, has_binding, has_place, is_listed, place_by, role_at, symbol_fault, global_fault, is_reloc_section, is_reloc_section_of, entries_fault, is_linked, section_test, is_unnamed, symbol_test, has_symbol, size_at, named_symbol, IsEntry, is_outside, has_kind, names_none, named_fault, form_fault, reloc_test};
 
 use crate::abi::{

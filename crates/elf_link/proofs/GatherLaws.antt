@@ -12,7 +12,7 @@ use Rattle.elf_form.specs.ObjectParts.{ObjectParts}
 use Rattle.sites.specs.declared.site.Site.{Site}
 use Rattle.sites.specs.declared.limits.TheConstants.{TEXT_LIMIT, SHORT_TEXT, SITE_LIMIT}
 use Rattle.sites.specs.Formats.{sites_in}
-use Rattle.sites.specs.Spelling.{AreGapped}
+use Rattle.sites.specs.Form.{AreGapped}
 use Rattle.sites.specs.Gapped.{are_gapped}
 use Rattle.sites.proofs.Gaps.{gapped_by}
 use Rattle.elf_link.specs.declared.target.Target.{Target}

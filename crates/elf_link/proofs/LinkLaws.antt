@@ -8,7 +8,8 @@ use Rattle.std.proofs.lemmas.List.Sums.{sum_by-cons}
 use Rattle.elf_form.specs.ObjectParts.{ObjectParts}
 use Rattle.elf_form.specs.ImageParts.{ImageParts}
 use Rattle.elf_form.specs.Output.{pad}
-use Rattle.elf_form.specs.ImageLayout.{IsWritableImage, init_from, sites_from, names_from, sections_from}
+use Rattle.elf_form.specs.ImageLayout.{init_from, sites_from, names_from, sections_from}
+use Rattle.elf_form.specs.Writable.{IsWritableImage}
 use Rattle.sites.specs.declared.limits.TheConstants.{TEXT_LIMIT}
 use Rattle.sites.specs.Spelling.{spelling}
 use Rattle.sites.specs.Limits.{in_text}

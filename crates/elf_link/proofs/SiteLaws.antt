@@ -2,7 +2,7 @@
 use Rattle.std.proofs.Common.{◌≡◌, ℕ, zero, suc, ◌+◌, ◌<◌, ◌≤◌, ◌^◌, max, List, [], ◌∷◌, ◌++◌, subst, arith}
 use Rattle.std.specs.Prelude.{All, map}
 use Rattle.sites.specs.declared.site.Site.{Site}
-use Rattle.sites.specs.Spelling.{AreSites, AreInForm}
+use Rattle.sites.specs.Form.{AreSites, AreInForm}
 use Rattle.elf_link.specs.Sites.{moved}
 use Rattle.elf_link.specs.Steps.{AreBelow}
 

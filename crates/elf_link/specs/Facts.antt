@@ -5,7 +5,8 @@ use Rattle.elf_form.specs.ObjectParts.{ObjectParts}
 use Rattle.elf_form.specs.ImageParts.{ImageParts}
 use Rattle.sites.specs.declared.site.Site.{Site}
 use Rattle.sites.specs.declared.limits.TheConstants.{TEXT_LIMIT, SHORT_TEXT, INIT_LIMIT, SITE_LIMIT}
-use Rattle.sites.specs.Spelling.{spelling, IsInForm, AreGapped}
+use Rattle.sites.specs.Spelling.{spelling}
+use Rattle.sites.specs.Form.{IsInForm, AreGapped}
 use Rattle.sites.specs.Limits.{in_text}
 use Rattle.elf_link.specs.declared.relocations.Plan.{Plan}
 use Rattle.elf_link.specs.Layout.{bases, text_end}

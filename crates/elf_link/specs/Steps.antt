@@ -8,7 +8,7 @@ use Rattle.sites.specs.declared.limits.TheConstants.{TEXT_LIMIT, SHORT_TEXT, SIT
 use Rattle.elf_form.specs.declared.object.TheConstants.{SYMBOL_LIMIT}
 use Rattle.sites.specs.Formats.{sites_in}
 use Rattle.sites.specs.Gapped.{are_gapped}
-use Rattle.sites.specs.Spelling.{AreInForm}
+use Rattle.sites.specs.Form.{AreInForm}
 use Rattle.elf_link.specs.declared.base.Base.{Base}
 use Rattle.elf_link.specs.declared.target.Target.{Target}
 use Rattle.elf_link.specs.declared.totals.Totals.{Totals}

@@ -6,7 +6,7 @@ ghost use Rattle.elf_link.specs.Layout.{numbered, text_end};
 ghost use Rattle.elf_link.specs.Symbols.{exports, globals};
 ghost use Rattle.elf_link.specs.Sites.{sites_of, moved, linked_sites};
 ghost use Rattle.elf_form.specs.Linkable.{IsLinkable};
-ghost use Rattle.sites.specs.Spelling.{AreGapped};
+ghost use Rattle.sites.specs.Form.{AreGapped};
 ghost use Rattle.elf_form.specs.Tables.{first_some};
 ghost use Rattle.elf_link.specs.Refusals.{refused, doubled_cause, object_refusal};
 ghost use Rattle.elf_link.specs.Steps.{IsWithin, AreBelow, totals, with_object, step_cause, is_crowded, own_sites, placed_sites, tested};

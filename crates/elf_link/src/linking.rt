@@ -1,7 +1,7 @@
 //! The image that objects make.
 
 ghost use Rattle.std.specs.Prelude.{◌≡◌, ◌+◌, ◌≤◌, ◌<◌, ◌^◌, ◌++◌, All, List, length, replicate, Ok, OnOk, IfOk};
-ghost use Rattle.elf_form.specs.ImageLayout.{IsWritableImage, HasLongs};
+ghost use Rattle.elf_form.specs.Writable.{IsWritableImage, HasLongs};
 ghost use Rattle.elf_form.specs.Output.{pad};
 ghost use Rattle.sites.specs.declared.site.Site.{Site as SiteView};
 ghost use Rattle.elf_link.specs.Layout.{numbered, bases};

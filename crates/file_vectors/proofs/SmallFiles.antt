@@ -4,9 +4,9 @@ use Rattle.std.specs.Prelude.{All}
 use Rattle.std.specs.List.{sum_by}
 use Rattle.elf_form.specs.declared.object.Symbol.{Symbol}
 use Rattle.elf_form.specs.ImageParts.{ImageParts}
-use Rattle.elf_form.specs.ImageLayout.{init_from, sites_from, names_from, sections_from, IsWritableImage}
+use Rattle.elf_form.specs.ImageLayout.{init_from, sites_from, names_from, sections_from}
+use Rattle.elf_form.specs.Writable.{IsWritableImage, IsWritableObject}
 use Rattle.elf_form.specs.ObjectParts.{ObjectParts}
-use Rattle.elf_form.specs.ObjectLayout.{IsWritableObject}
 use Rattle.elf_form.proofs.ObjectBounds.{sections-most}
 
 pub small_image : (p : ImageParts) → length p.text + length p.init + length p.sites + p.bss ≤ 4096 → IsWritableImage p

@@ -1,8 +1,7 @@
 //! Files that are written, against bytes that other tools read.
 
 ghost use Rattle.std.specs.Prelude.{IfOk};
-ghost use Rattle.elf_form.specs.ImageLayout.{IsWritableImage};
-ghost use Rattle.elf_form.specs.ObjectLayout.{IsWritableObject};
+ghost use Rattle.elf_form.specs.Writable.{IsWritableImage, IsWritableObject};
 
 use crate::agree::{Held, Number, Part, add, are_bytes, are_held, list, put_times};
 use crate::object_rows::{Named, Parts, symbol};

@@ -17,7 +17,8 @@ use Rattle.ia32_rows.specs.Rows.{rows}
 use Rattle.ia32_rows.specs.Spelling.{insn_of}
 use Rattle.ia32_encode.specs.declared.choose.Wide.{Wide}
 use Rattle.ia32_encode.specs.Same.{same_op, same_size}
-use Rattle.ia32_encode.specs.Chosen.{Suits, chosen, chosen_from}
+use Rattle.ia32_encode.specs.Chosen.{chosen, chosen_from}
+use Rattle.ia32_encode.specs.Good.{Suits}
 use Rattle.ia32_encode.specs.Parts.{parts_for}
 use Rattle.ia32_encode.specs.Pushed.{laid_out}
 use Rattle.ia32_encode.proofs.Function.{suits_true, fails}

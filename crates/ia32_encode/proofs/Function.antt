@@ -39,7 +39,8 @@ use Rattle.ia32_encode.specs.Pushed.{laid_out}
 use Rattle.ia32_encode.specs.Text.{disp_bytes, has_sib, memory_bytes, modrm_bytes, addressing_bytes, immediate_bytes, lead_bytes, head_bytes, disp_len_of}
 use Rattle.ia32_encode.proofs.Laid.{parts_len, width_of, chosen_spells, chosen_length}
 use Rattle.ia32_encode.specs.Same.{same_op, same_size, same_register, same_address, same_segment, same_operand, same_flag, same_insn}
-use Rattle.ia32_encode.specs.Chosen.{widths_fit, Suits, IsChosen, NoneSuits, does_suit, chosen_from, chosen, IsPlaced}
+use Rattle.ia32_encode.specs.Chosen.{widths_fit, does_suit, chosen_from, chosen}
+use Rattle.ia32_encode.specs.Good.{Suits, IsChosen, NoneSuits, IsPlaced}
 
 -- ---- the test of two instructions
 

@@ -27,7 +27,8 @@ use Rattle.ia32_rows.specs.Fields.{reg_of}
 use Rattle.ia32_rows.specs.Rows.{rows, row, digit, slash_r}
 use Rattle.ia32_rows.specs.Spelling.{has_code, operands_of, repeats, insn_of}
 use Rattle.ia32_encode.specs.declared.choose.Wide.{Wide}
-use Rattle.ia32_encode.specs.Chosen.{Suits, chosen}
+use Rattle.ia32_encode.specs.Chosen.{chosen}
+use Rattle.ia32_encode.specs.Good.{Suits}
 use Rattle.ia32_encode.specs.Parts.{rm_from, parts_for, form_fits, address_fits, rm_fits, is_offset, addressing_fits, immediate_fits}
 use Rattle.ia32_encode.specs.Pushed.{laid_out}
 use Rattle.ia32_encode.specs.Text.{is_signed_byte, index_number, base_number, disp_len_of, memory_len, mode_for, scale_bits, disp_bytes, modrm, has_sib, memory_bytes}

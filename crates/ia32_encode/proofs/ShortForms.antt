@@ -16,7 +16,8 @@ use Rattle.ia32_rows.specs.declared.row.Operands.TheVariants as operands
 use Rattle.ia32_rows.specs.Rows.{rows, row, no_modrm}
 use Rattle.ia32_rows.specs.Spelling.{insn_of}
 use Rattle.ia32_encode.specs.declared.choose.Wide.{Wide}
-use Rattle.ia32_encode.specs.Chosen.{Suits, chosen}
+use Rattle.ia32_encode.specs.Chosen.{chosen}
+use Rattle.ia32_encode.specs.Good.{Suits}
 use Rattle.ia32_encode.specs.Parts.{parts_for, form_fits}
 use Rattle.ia32_encode.specs.Pushed.{laid_out}
 use Rattle.ia32_encode.specs.Short.{with_operand, by_distance, plain, with_wide, bare, Begins}

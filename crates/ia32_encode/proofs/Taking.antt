@@ -35,7 +35,8 @@ use Rattle.ia32_encode.specs.declared.choose.Wide.{Wide}
 use Rattle.ia32_encode.specs.Text.{word_bytes, long_bytes, base_number, index_number, scale_bits, mode_for, disp_bytes, modrm, has_sib, modrm_bytes, offset_of, addressing_bytes, immediate_bytes, lead_bytes, head_bytes, form_bytes}
 use Rattle.ia32_encode.specs.Parts.{rm_from, sel_from, parts_for, form_fits, addressing_fits, immediate_fits}
 use Rattle.ia32_encode.specs.Pushed.{laid_out}
-use Rattle.ia32_encode.specs.Chosen.{Suits, IsChosen, NoneSuits, does_suit, chosen_from, chosen, IsOperandBounded, IsBounded, IsGood}
+use Rattle.ia32_encode.specs.Chosen.{does_suit, chosen_from, chosen}
+use Rattle.ia32_encode.specs.Good.{Suits, IsChosen, NoneSuits, IsOperandBounded, IsBounded, IsGood}
 use Rattle.ia32_encode.proofs.Back.{base_below, index_below}
 use Rattle.ia32_encode.proofs.Laid.{FirstFail, is_chosen, chosen_spells, chosen_back, fits_below}
 use Rattle.ia32_encode.proofs.Function.{suits_true, true_suits, chosen_placed}

@@ -6,7 +6,8 @@ ghost use Rattle.ia32_rows.specs.Spelling.{insn_of};
 ghost use Rattle.ia32_rows.specs.Rows.{rows};
 ghost use Rattle.ia32_rows.specs.Spells.{AreBytes};
 ghost use Rattle.ia32_encode.specs.Parts.{parts_for};
-ghost use Rattle.ia32_encode.specs.Chosen.{SpellsWide, IsReadBack, Suits, NoneSuits, IsChosen, IsPlaced, chosen};
+ghost use Rattle.ia32_encode.specs.Chosen.{chosen};
+ghost use Rattle.ia32_encode.specs.Good.{SpellsWide, IsReadBack, Suits, NoneSuits, IsChosen, IsPlaced};
 
 use crate::bytes::ArrayBytes;
 use crate::parts::{fits, parts};

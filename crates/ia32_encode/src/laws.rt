@@ -11,7 +11,8 @@ ghost use Rattle.ia32_encode.specs.Parts.{address_fits};
 ghost use Rattle.ia32_types.specs.declared.insn.Insn.{Insn};
 ghost use Rattle.ia32_encode.specs.declared.bytes.ArrayBytes.{ArrayBytes};
 ghost use Rattle.ia32_encode.specs.declared.choose.Wide.{Wide};
-ghost use Rattle.ia32_encode.specs.Chosen.{IsBounded, IsChosen, IsGood, NoneSuits, chosen};
+ghost use Rattle.ia32_encode.specs.Chosen.{chosen};
+ghost use Rattle.ia32_encode.specs.Good.{IsBounded, IsChosen, IsGood, NoneSuits};
 
 /// What the function answers is the chosen spelling; where it answers none, no row suits.
 pub fn choices()

@@ -26,7 +26,8 @@ use Rattle.sites.proofs.Inverse.{kind_numbered-number}
 use Rattle.image_check.specs.declared.piece.Role.TheVariants as role
 use Rattle.image_check.specs.declared.piece.Piece.{Piece}
 use Rattle.image_check.specs.Image.{Image}
-use Rattle.image_check.specs.Sweep.{Swept, Sweep, sweep}
+use Rattle.image_check.specs.Sweep.{Swept, sweep}
+use Rattle.image_check.specs.SweptTexts.{Sweep}
 use Rattle.image_check.specs.Pieces.{is_nop, target_of, site_role, piece_of, pieces_of, pieces_in, is_piece_start}
 use Rattle.image_check.specs.TextSites.{is_same, differ, Found, found_in, unless_lacking, sites_of}
 use Rattle.image_check.specs.Targets.{is_inside, is_entrance, leads_wrong, wrong_target}

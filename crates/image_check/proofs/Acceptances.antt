@@ -11,7 +11,8 @@ use Rattle.image_check.specs.declared.fault.CheckCause.{CheckCause}
 use Rattle.image_check.specs.declared.fault.CheckFault.{CheckFault}
 use Rattle.image_check.specs.declared.fault.CheckFault.TheVariants as faults
 use Rattle.image_check.specs.Image.{Image}
-use Rattle.image_check.specs.Refusals.{Refusal, Form, Wrong, Gives, ◌>>=◌}
+use Rattle.image_check.specs.Refusals.{Refusal, Form, Wrong, ◌>>=◌}
+use Rattle.image_check.specs.Answers.{Gives}
 use Rattle.image_check.specs.Checking.{as_form, image_from, image_of}
 use Rattle.image_check.specs.Accepts.{Accepts}
 use Rattle.image_check.specs.Causes.{wrong, causes}

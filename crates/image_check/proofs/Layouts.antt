@@ -9,12 +9,14 @@ use Rattle.ia32_rows.specs.Spells.{AreBytes}
 use Rattle.ia32_rows.proofs.Readers.{AreBytes-append}
 use Rattle.sites.specs.declared.site.Site.{Site}
 use Rattle.image_check.specs.Image.{Image}
-use Rattle.image_check.specs.Sweep.{Swept, SweepsTo, Sweep, swept_or_none, starts_of}
+use Rattle.image_check.specs.Sweep.{Swept, swept_or_none, starts_of}
+use Rattle.image_check.specs.SweptTexts.{SweepsTo, Sweep}
 use Rattle.image_check.specs.Pieces.{piece_of}
 use Rattle.image_check.specs.TextSites.{found_in}
 use Rattle.image_check.specs.Accepts.{IsAccepted}
 use Rattle.image_check.specs.Layout.{AreApart}
-use Rattle.image_check.specs.Places.{swept_of, is_start, lies_in, site_at, is_in_site}
+use Rattle.image_check.specs.Places.{is_start}
+use Rattle.image_check.specs.Standing.{swept_of, lies_in, site_at, is_in_site}
 use Rattle.image_check.proofs.SweepLaws.{sweep_exact}
 use Rattle.image_check.proofs.Acceptance.{were_found}
 use Rattle.image_check.proofs.Starts.{contains_any, any_contains}

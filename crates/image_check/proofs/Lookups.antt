@@ -10,7 +10,8 @@ use Rattle.image_check.specs.declared.place.AtOffset.TheVariants.{NotAStart, Out
 use Rattle.image_check.specs.Image.{Image}
 use Rattle.image_check.specs.Sweep.{starts_of}
 use Rattle.image_check.specs.Layout.{AreApart}
-use Rattle.image_check.specs.Places.{is_start, site_at, by_site, place_of}
+use Rattle.image_check.specs.Places.{is_start}
+use Rattle.image_check.specs.Standing.{site_at, by_site, place_of}
 use Rattle.image_check.proofs.Laid.{apart_bounds}
 use Rattle.image_check.proofs.Layouts.{start_exact, listed_site, around_none}
 

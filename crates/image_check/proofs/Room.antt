@@ -33,7 +33,8 @@ use Rattle.image_check.specs.declared.piece.Role.TheVariants as role
 use Rattle.image_check.specs.declared.piece.Piece.{Piece}
 use Rattle.image_check.specs.declared.site.Here.{Here}
 use Rattle.image_check.specs.declared.site.Here.TheVariants as here
-use Rattle.image_check.specs.Sweep.{Swept, SweepsTo}
+use Rattle.image_check.specs.Sweep.{Swept}
+use Rattle.image_check.specs.SweptTexts.{SweepsTo}
 use Rattle.image_check.specs.Pieces as pieces
 use Rattle.image_check.specs.Pieces.{piece_of, target_of, site_role}
 use Rattle.image_check.specs.TextSites.{is_nop_role, is_sti, is_hlt, has_nops, has_hlt, pair, single, padded, by_role, begun_by, Found, found_by, found_behind}

@@ -6,7 +6,8 @@ use Rattle.image_check.specs.declared.piece.Piece.{Piece}
 use Rattle.elf_form.specs.declared.cause.ElfFault.TheVariants as elf
 use Rattle.image_check.specs.declared.fault.CheckFault.{CheckFault}
 use Rattle.image_check.specs.declared.fault.CheckFault.TheVariants as faults
-use Rattle.image_check.specs.Refusals.{Refusal, Form, Wrong, Fails}
+use Rattle.image_check.specs.Refusals.{Refusal, Form, Wrong}
+use Rattle.image_check.specs.Answers.{Fails}
 use Rattle.image_check.specs.Sweep.{Swept, swept_at, sweep_from, sweep, ◌>>=◌}
 use Rattle.image_check.specs.Pieces.{piece_of, piece_as, pieces_of, pieces_in, stop_cause}
 use Rattle.image_check.proofs.SweepLaws.{step_is, ends}

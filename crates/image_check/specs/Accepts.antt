@@ -11,7 +11,8 @@ use Rattle.sites.specs.declared.site.Site.{Site}
 use Rattle.sites.specs.declared.limits.TheConstants.{TEXT_LIMIT, INIT_LIMIT}
 use Rattle.sites.specs.Formats.{sites_in}
 use Rattle.image_check.specs.Image.{Image}
-use Rattle.image_check.specs.Sweep.{Swept, Sweep, starts_of}
+use Rattle.image_check.specs.Sweep.{Swept, starts_of}
+use Rattle.image_check.specs.SweptTexts.{Sweep}
 use Rattle.image_check.specs.Pieces.{target_of, piece_of}
 use Rattle.image_check.specs.TextSites.{sites_of}
 use Rattle.image_check.specs.Conditions.{last_at, ends_at}

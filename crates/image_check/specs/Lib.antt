@@ -1,6 +1,8 @@
 pub mod Image
 pub mod Refusals
+pub mod Answers
 pub mod Sweep
+pub mod SweptTexts
 pub mod Pieces
 pub mod TextSites
 pub mod Targets
@@ -10,4 +12,5 @@ pub mod Accepts
 pub mod Causes
 pub mod Reasons
 pub mod Places
+pub mod Standing
 pub mod Layout

@@ -11,7 +11,8 @@ use Rattle.sites.specs.declared.limits.TheConstants.{TEXT_LIMIT, INIT_LIMIT}
 use Rattle.sites.specs.Formats.{listed}
 use Rattle.image_check.specs.declared.fault.CheckCause.{CheckCause}
 use Rattle.image_check.specs.declared.fault.CheckCause.TheVariants.{TextPlace, InitPlace, TextSize, InitSize, EntryPlace, RefusedCode, BadCode, TextEnd, SiteWrong, SitesForm, Target, EntryStart}
-use Rattle.image_check.specs.Sweep.{Swept, Sweep, SweepStops}
+use Rattle.image_check.specs.Sweep.{Swept}
+use Rattle.image_check.specs.SweptTexts.{Sweep, SweepStops}
 use Rattle.image_check.specs.Pieces.{target_of, piece_of}
 use Rattle.image_check.specs.TextSites.{found_in}
 use Rattle.image_check.specs.Conditions.{last_at}

@@ -1,7 +1,6 @@
 -- The sweep of a text: the instructions that stand in it, one directly behind the other.
-use Rattle.std.specs.Prelude.{◌≡◌, ◌≢◌, ℕ, zero, suc, ◌+◌, List, [], ◌∷◌, length, drop, map, Result, Ok, Err}
+use Rattle.std.specs.Prelude.{ℕ, zero, suc, ◌+◌, List, [], ◌∷◌, length, drop, map, Result, Ok, Err}
 use Rattle.ia32_types.specs.declared.insn.Insn.{Insn}
-use Rattle.ia32_decode.specs.Answer.{Begins}
 use Rattle.ia32_decode.specs.Decoding.{decoded}
 use Rattle.ia32_decode.specs.declared.answer.Decoded.{Decoded}
 use Rattle.ia32_decode.specs.declared.answer.Decoded.TheVariants as answer
@@ -12,25 +11,7 @@ pub record Swept : Type 0 where
   pub len : ℕ
   pub insn : Insn
 
--- The spellings of the instructions, joined in order, stand at the front of the bytes. They lead from one offset to
--- another, and some bytes are left.
-abbrev pub SweepsTo : ℕ → List ℕ → List Swept → ℕ → List ℕ → Type 0
-SweepsTo from bytes [] to rest = (from ≡ to) × (bytes ≡ rest)
-SweepsTo from bytes (s ∷ swept) to rest = (s.at ≡ from) × Begins bytes s.insn s.len × SweepsTo (from + s.len) (drop s.len bytes) swept to rest
-
--- The spellings of the instructions, joined in order, are the text.
-abbrev pub Sweep : List ℕ → List Swept → Type 0
-Sweep text swept = SweepsTo 0 text swept (length text) []
-
--- Behind some instructions no spelling begins the bytes that are left, although some are.
-pub record SweepStops (text : List ℕ) (at : ℕ) : Type 0 where
-  pub swept : List Swept
-  pub rest : List ℕ
-  pub reached : SweepsTo 0 text swept at rest
-  pub some : rest ≢ []
-  pub none : (insn : Insn) (n : ℕ) → Begins rest insn n → ⊥
-
--- The same as a function: the instructions of the text, or the offset at which the sweep stops. Each has a byte, so
+-- The instructions of the text, or the offset at which the sweep stops. Each has a byte, so
 -- there are no more of them than bytes.
 infixl 10 ◌>>=◌
 abbrev pub ◌>>=◌ : {A B : Type 0} → Result A ℕ → (A → Result B ℕ) → Result B ℕ

@@ -2,7 +2,7 @@
 
 ghost use Rattle.std.specs.Prelude.{◌≡◌, ℕ};
 ghost use Rattle.image_check.specs.Layout.{AreApart};
-ghost use Rattle.image_check.specs.Places.{site_at};
+ghost use Rattle.image_check.specs.Standing.{site_at};
 
 use sites::{Site, Sites};
 

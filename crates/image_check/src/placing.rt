@@ -1,7 +1,8 @@
 //! The places and sizes of an image's parts.
 
 ghost use Rattle.std.specs.Prelude.{◌≡◌, ◌≤◌, ◌<◌, ◌+◌, length, OnOk, IfOk};
-ghost use Rattle.image_check.specs.Refusals.{test, Gives};
+ghost use Rattle.image_check.specs.Refusals.{test};
+ghost use Rattle.image_check.specs.Answers.{Gives};
 ghost use Rattle.image_check.specs.Conditions.{text_place, init_place, text_size, init_size, entry_place};
 ghost use Rattle.image_check.specs.Checking.{placed};
 

@@ -2,7 +2,7 @@
 
 ghost use Rattle.std.specs.Prelude.{◌≡◌, ℕ, ◌+◌, ◌<◌, ◌≤◌, ◌≢◌, length, drop, slice_index_or, false, IfOk, IsTrue, IsNone, is_some};
 ghost use Rattle.sites.specs.declared.limits.TheConstants.{TEXT_LIMIT};
-ghost use Rattle.image_check.specs.Refusals.{Gives};
+ghost use Rattle.image_check.specs.Answers.{Gives};
 ghost use Rattle.image_check.specs.Sweep.{swept_at};
 ghost use Rattle.image_check.specs.Pieces.{is_refused, stop_cause, piece_as, pieces_in, is_piece_start};
 ghost use Rattle.ia32_decode.specs.Decoding.{decoded};

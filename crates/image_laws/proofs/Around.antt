@@ -10,7 +10,7 @@ use Rattle.image_check.specs.Image.{Image}
 use Rattle.image_check.specs.Sweep.{Swept}
 use Rattle.image_check.specs.Accepts.{IsAccepted}
 use Rattle.image_check.specs.Layout.{PartOf, BeginsSite}
-use Rattle.image_check.specs.Places.{swept_of, site_at, StandsOutside, StandsInside}
+use Rattle.image_check.specs.Standing.{swept_of, site_at, StandsOutside, StandsInside}
 use Rattle.image_check.proofs.Laid.{IsClear, IsHeld, apart_bounds}
 use Rattle.image_check.proofs.Layouts.{sweeps, laid_in, apart, lies, site_listed, listed_site, none_around, around_none}
 use Rattle.image_laws.proofs.Instructions.{between, begun_there}

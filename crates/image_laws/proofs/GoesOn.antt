@@ -15,7 +15,8 @@ use Rattle.image_check.specs.Image.{Image}
 use Rattle.image_check.specs.Sweep.{Swept}
 use Rattle.image_check.specs.Pieces.{target_of}
 use Rattle.image_check.specs.Accepts.{IsAccepted}
-use Rattle.image_check.specs.Places.{linear, StandsOutside}
+use Rattle.image_check.specs.Places.{linear}
+use Rattle.image_check.specs.Standing.{StandsOutside}
 use Rattle.image_laws.specs.WaysIn.{IsWayIn}
 use Rattle.image_laws.proofs.WaysOn.{next_outside, branch_way, here_way, next_address, branch_address}
 

@@ -11,7 +11,8 @@ use Rattle.image_check.specs.Image.{Image}
 use Rattle.image_check.specs.Sweep.{Swept}
 use Rattle.image_check.specs.Accepts.{IsAccepted}
 use Rattle.image_check.specs.Layout.{PartOf, Alone, PairSti, PairHlt, Padding, BeginsSite}
-use Rattle.image_check.specs.Places.{is_start, site_at, StandsInside}
+use Rattle.image_check.specs.Places.{is_start}
+use Rattle.image_check.specs.Standing.{site_at, StandsInside}
 use Rattle.image_check.proofs.Laid.{apart_bounds}
 use Rattle.image_check.proofs.Layouts.{apart, started}
 use Rattle.image_laws.proofs.Around.{site_there, room, first_part, held}

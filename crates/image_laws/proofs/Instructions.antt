@@ -4,7 +4,8 @@ use Rattle.std.specs.Prelude.{slice_get}
 use Rattle.std.specs.List.{Contains}
 use Rattle.std.proofs.lemmas.List.{drop-drop}
 use Rattle.ia32_decode.specs.Answer.{Begins}
-use Rattle.image_check.specs.Sweep.{Swept, SweepsTo}
+use Rattle.image_check.specs.Sweep.{Swept}
+use Rattle.image_check.specs.SweptTexts.{SweepsTo}
 use Rattle.image_check.specs.Pieces.{piece_of}
 use Rattle.image_check.specs.Conditions.{at_of, last_at}
 use Rattle.image_check.proofs.Begun.{begun_has_byte}

@@ -28,7 +28,8 @@ use Rattle.sites.specs.Patched.{patch_bytes, patched}
 use Rattle.image_check.specs.Image.{Image}
 use Rattle.image_check.specs.Sweep.{Swept}
 use Rattle.image_check.specs.Accepts.{IsAccepted}
-use Rattle.image_check.specs.Places.{swept_of, site_at, linear, StandsOutside}
+use Rattle.image_check.specs.Places.{linear}
+use Rattle.image_check.specs.Standing.{swept_of, site_at, StandsOutside}
 use Rattle.image_check.proofs.Laid.{apart_bounds}
 use Rattle.image_check.proofs.Layouts.{apart, none_around}
 use Rattle.image_laws.specs.Patches.{jump_out, window_at}

@@ -24,7 +24,8 @@ use Rattle.image_check.specs.Sweep.{Swept}
 use Rattle.image_check.specs.Pieces.{target_of, piece_of}
 use Rattle.image_check.specs.Conditions.{last_at, ends_at}
 use Rattle.image_check.specs.Accepts.{IsEntrance, IsAccepted}
-use Rattle.image_check.specs.Places.{swept_of, is_start, lies_in, site_at, is_in_site, is_start_at, is_site_at, by_site, place_of, place_at, linear, StandsOutside, StandsInside}
+use Rattle.image_check.specs.Places.{is_start, is_start_at, is_site_at, linear}
+use Rattle.image_check.specs.Standing.{swept_of, lies_in, site_at, is_in_site, by_site, place_of, place_at, StandsOutside, StandsInside}
 use Rattle.image_check.specs.Layout.{BeginsSite}
 use Rattle.image_check.proofs.Laid.{apart_bounds}
 use Rattle.image_check.proofs.Layouts.{site_any, apart, sweeps, swept_is, starts_are, start_exact, started, starts, site_listed}

@@ -5,7 +5,8 @@ use Rattle.sites.specs.declared.site.Site.{Site}
 use Rattle.image_check.specs.Image.{Image}
 use Rattle.image_check.specs.Sweep.{Swept}
 use Rattle.image_check.specs.Pieces.{target_of}
-use Rattle.image_check.specs.Places.{is_start, site_at}
+use Rattle.image_check.specs.Places.{is_start}
+use Rattle.image_check.specs.Standing.{site_at}
 
 -- An instruction of the text begins there; and if it is in a site, it is the site's first.
 pub record IsWayIn (image : Image) (at : ℕ) : Type 0 where

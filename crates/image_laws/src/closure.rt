@@ -14,7 +14,8 @@ ghost use Rattle.image_check.specs.Image.{Image};
 ghost use Rattle.image_check.specs.Accepts.{IsAccepted};
 ghost use Rattle.image_check.specs.Sweep.{Swept};
 ghost use Rattle.image_check.specs.Pieces.{target_of};
-ghost use Rattle.image_check.specs.Places.{swept_of, is_start, is_in_site, is_start_at, is_site_at, place_of, place_at, linear, StandsOutside};
+ghost use Rattle.image_check.specs.Places.{is_start, is_start_at, is_site_at, linear};
+ghost use Rattle.image_check.specs.Standing.{swept_of, is_in_site, place_of, place_at, StandsOutside};
 ghost use Rattle.image_laws.specs.WaysIn.{IsWayIn, IsLast};
 
 use ia32_exec::eip_goes_on;

@@ -10,7 +10,7 @@ ghost use Rattle.sites.specs.Patched.{patched};
 ghost use Rattle.image_check.specs.Image.{Image};
 ghost use Rattle.image_check.specs.Accepts.{IsAccepted};
 ghost use Rattle.image_check.specs.Sweep.{Swept};
-ghost use Rattle.image_check.specs.Places.{swept_of, StandsOutside};
+ghost use Rattle.image_check.specs.Standing.{swept_of, StandsOutside};
 ghost use Rattle.image_laws.specs.Patches.{jump_out};
 
 /// Where an instruction of the text stands, any bytes that begin with its own are decoded to it,

@@ -10,8 +10,10 @@ ghost use Rattle.sites.specs.declared.site.Site.{Site};
 ghost use Rattle.image_check.specs.declared.place.AtOffset.TheVariants.{Outside, Inside};
 ghost use Rattle.image_check.specs.Image.{Image};
 ghost use Rattle.image_check.specs.Accepts.{IsAccepted};
-ghost use Rattle.image_check.specs.Sweep.{Swept, Sweep, starts_of};
-ghost use Rattle.image_check.specs.Places.{swept_of, is_start, site_at, place_of, StandsOutside, StandsInside};
+ghost use Rattle.image_check.specs.Sweep.{Swept, starts_of};
+ghost use Rattle.image_check.specs.SweptTexts.{Sweep};
+ghost use Rattle.image_check.specs.Places.{is_start};
+ghost use Rattle.image_check.specs.Standing.{swept_of, site_at, place_of, StandsOutside, StandsInside};
 ghost use Rattle.image_check.specs.Layout.{AreApart, PartOf, BeginsSite};
 
 /// The tests of an offset say what the sweep and the list of sites say.

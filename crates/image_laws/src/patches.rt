@@ -14,7 +14,8 @@ ghost use Rattle.sites.specs.declared.site.Site.{Site};
 ghost use Rattle.sites.specs.Patched.{patch_bytes, patched};
 ghost use Rattle.image_check.specs.Image.{Image};
 ghost use Rattle.image_check.specs.Accepts.{IsAccepted};
-ghost use Rattle.image_check.specs.Places.{site_at, linear};
+ghost use Rattle.image_check.specs.Places.{linear};
+ghost use Rattle.image_check.specs.Standing.{site_at};
 ghost use Rattle.image_laws.specs.Patches.{jump_out, window_at};
 
 /// Outside sites the patched text is the text, and a site is E9 with F4 behind it. Patching a memory in

@@ -10,7 +10,8 @@ use Rattle.descriptors.specs.declared.cpu.Cpu.{Cpu}
 use Rattle.descriptors.specs.Controls.{wp_of}
 use Rattle.board.specs.Quiet.{StepsAreQuiet}
 use Rattle.sites.specs.declared.site.Site.{Site}
-use Rattle.image_check.specs.Places.{linear, site_at}
+use Rattle.image_check.specs.Places.{linear}
+use Rattle.image_check.specs.Standing.{site_at}
 use Rattle.image_laws.specs.Patches.{window_at}
 use Rattle.host_cpl3.specs.declared.view.View.{View}
 use Rattle.host_cpl3.specs.declared.exit.Exit.{Exit}

@@ -39,7 +39,8 @@ use Rattle.host_cpl3.proofs.Reading.{parts_stored}
 use Rattle.image_check.specs.Image.{Image}
 use Rattle.image_check.specs.Sweep.{Swept}
 use Rattle.image_check.specs.Places as places
-use Rattle.image_check.specs.Places.{StandsOutside, linear}
+use Rattle.image_check.specs.Places.{linear}
+use Rattle.image_check.specs.Standing.{StandsOutside}
 use Rattle.image_laws.specs.WaysIn.{IsWayIn}
 use Rattle.machine_model.specs.State.{Setting, State}
 use Rattle.machine_model.specs.Rules as rules

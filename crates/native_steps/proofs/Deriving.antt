@@ -25,7 +25,8 @@ use Rattle.host_cpl3.specs.Views.{is_window}
 use Rattle.host_cpl3.specs.HostStep.{finished, host_step}
 use Rattle.sites.specs.Patched.{patched}
 use Rattle.image_check.specs.Sweep.{Swept}
-use Rattle.image_check.specs.Places.{site_at, StandsOutside, linear}
+use Rattle.image_check.specs.Places.{linear}
+use Rattle.image_check.specs.Standing.{site_at, StandsOutside}
 use Rattle.machine_model.specs.State.{Setting, State, space_at_start}
 use Rattle.machine_model.specs.Instruction.{is_plain, fetched}
 use Rattle.native_steps.specs.Lends.{Lends}

@@ -7,7 +7,7 @@ use Rattle.ia32_types.specs.declared.flags.Regs.{Regs}
 use Rattle.paging.specs.Fresh.{has}
 use Rattle.board.specs.Boards.{board_step}
 use Rattle.sites.specs.declared.site.Site.{Site}
-use Rattle.image_check.specs.Places.{site_at}
+use Rattle.image_check.specs.Standing.{site_at}
 use Rattle.image_check.specs.Image.{Image}
 use Rattle.image_laws.specs.WaysIn.{IsWayIn}
 use Rattle.image_laws.specs.Patches.{window_at}

@@ -7,7 +7,8 @@ use Rattle.guest_ram.specs.Bytes.{frame}
 use Rattle.board.specs.declared.devices.Board.{Board}
 use Rattle.board.specs.Boards.{given, board_steps, comes_within}
 use Rattle.sites.specs.declared.site.Site.{Site}
-use Rattle.image_check.specs.Places.{linear, site_at}
+use Rattle.image_check.specs.Places.{linear}
+use Rattle.image_check.specs.Standing.{site_at}
 use Rattle.image_laws.specs.Patches.{window_at}
 use Rattle.host_cpl3.specs.declared.view.View.{View}
 use Rattle.host_cpl3.specs.declared.exit.Exit.{Exit}

@@ -12,7 +12,8 @@ use Rattle.ia32_decode.specs.declared.answer.Decoded.TheVariants as begins
 use Rattle.sites.specs.Patched.{patched}
 use Rattle.image_check.specs.Image.{Image}
 use Rattle.image_check.specs.Sweep.{Swept}
-use Rattle.image_check.specs.Places.{swept_of, is_start, StandsOutside, linear}
+use Rattle.image_check.specs.Places.{is_start, linear}
+use Rattle.image_check.specs.Standing.{swept_of, StandsOutside}
 use Rattle.image_laws.specs.WaysIn.{IsWayIn}
 
 pub record TextLaws (image : Image) : Type 0 where

@@ -3,9 +3,10 @@
 ghost use Rattle.std.specs.Prelude.{[], ◌∷◌, Ok, Err, IfOk, IfErr};
 ghost use Rattle.kernel_gen.specs.Kernels.{kernel_text};
 ghost use Rattle.asm_source.specs.Readable.{IsReadable};
-ghost use Rattle.elf_form.specs.ImageLayout.{IsWritableImage, image_bytes};
+ghost use Rattle.elf_form.specs.ImageLayout.{image_bytes};
+ghost use Rattle.elf_form.specs.Writable.{IsWritableImage, IsWholeObject};
 ghost use Rattle.elf_form.specs.Linkable.{IsLinkable};
-ghost use Rattle.elf_form.specs.ObjectLayout.{IsWholeObject, object_bytes};
+ghost use Rattle.elf_form.specs.ObjectLayout.{object_bytes};
 ghost use Rattle.elf_form.specs.ObjectReading.{object_in};
 ghost use Rattle.afterburner.specs.Burnt.{burnt};
 ghost use Rattle.elf_link.specs.Linked.{linked_image};

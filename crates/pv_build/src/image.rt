@@ -3,8 +3,10 @@
 ghost use Rattle.std.specs.Prelude.{◌≡◌, IfOk, IfErr, OnOk};
 ghost use Rattle.pv_io.specs.Files.{IsHeld};
 ghost use Rattle.elf_form.specs.Faults.{Fault};
-ghost use Rattle.elf_form.specs.ImageLayout.{IsWritableImage, image_bytes};
-ghost use Rattle.image_check.specs.Refusals.{Refusal, Refuses};
+ghost use Rattle.elf_form.specs.ImageLayout.{image_bytes};
+ghost use Rattle.elf_form.specs.Writable.{IsWritableImage};
+ghost use Rattle.image_check.specs.Refusals.{Refusal};
+ghost use Rattle.image_check.specs.Answers.{Refuses};
 ghost use Rattle.pv_build.specs.Lines.{image_line, place_line, form_number};
 ghost use Rattle.pv_build.specs.Readings.{OnlyRead};
 ghost use Rattle.pv_build.specs.Failures.{NoneFailedIn};

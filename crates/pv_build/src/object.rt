@@ -3,7 +3,8 @@
 ghost use Rattle.std.specs.Prelude.{◌≡◌, ◌≤◌, ℕ, All, IfOk, IfErr, OnOk, length, map, string_bytes};
 ghost use Rattle.pv_io.specs.Files.{IsHeld};
 ghost use Rattle.elf_form.specs.Faults.{Fault};
-ghost use Rattle.elf_form.specs.ObjectLayout.{IsWholeObject, object_bytes};
+ghost use Rattle.elf_form.specs.ObjectLayout.{object_bytes};
+ghost use Rattle.elf_form.specs.Writable.{IsWholeObject};
 ghost use Rattle.elf_form.specs.Linkable.{IsLinkable};
 ghost use Rattle.pv_build.specs.Lines.{form_number, object_place_line};
 ghost use Rattle.pv_build.specs.Readings.{OnlyRead};

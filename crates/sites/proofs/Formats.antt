@@ -10,8 +10,10 @@ use Rattle.guest_ram.specs.Bytes.{byte, word32, AreBytes}
 use Rattle.sites.specs.declared.site.Site.{Site}
 use Rattle.sites.specs.declared.site.SitesFault.{SitesFault}
 use Rattle.sites.specs.SitesParts.{SitesParts}
-use Rattle.sites.specs.Spelling.{site, placed, gaps, gapped, spelling, IsInForm}
-use Rattle.sites.specs.Reading.{head_fault, sites_fault, sites_at, placed_in, Gives}
+use Rattle.sites.specs.Spelling.{site, placed, gaps, gapped, spelling}
+use Rattle.sites.specs.Form.{IsInForm}
+use Rattle.sites.specs.Reading.{head_fault, sites_fault, sites_at, placed_in}
+use Rattle.sites.specs.Answers.{Gives}
 use Rattle.sites.specs.Gapped.{end_at, gaps_fault, gap_sites, gapped_in}
 use Rattle.sites.specs.Formats.{told_format, told_count, sites_in, list_of, listed}
 use Rattle.sites.proofs.Walk.{in_first}

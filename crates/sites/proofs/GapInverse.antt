@@ -15,7 +15,8 @@ use Rattle.sites.specs.declared.site.Site.{Site}
 use Rattle.ia32_types.specs.declared.site.SiteKind.{SiteKind}
 use Rattle.ia32_types.specs.declared.site.SiteKind.TheVariants.{Cli}
 use Rattle.sites.specs.Kinds.{number, kind_numbered}
-use Rattle.sites.specs.Spelling.{gap, gaps, gapped, AreInGaps}
+use Rattle.sites.specs.Spelling.{gap, gaps, gapped}
+use Rattle.sites.specs.Form.{AreInGaps}
 use Rattle.sites.specs.SitesParts.{SitesParts}
 use Rattle.sites.specs.Reading.{cut_before, has_no_kind, head_fault}
 use Rattle.sites.specs.Gapped.{gap_at, end_at, passes, has_wrong_length, gap_fault, gaps_fault, gap_site, gap_sites, gapped_in}

@@ -4,7 +4,8 @@ use Rattle.std.specs.Prelude.{not, ◌&&◌, max}
 use Rattle.std.proofs.lemmas.Bool.{ltb-false, ltb-true, eqb-true, and_parts, not-true}
 use Rattle.std.proofs.lemmas.List.{drop_more, drop_all, append-nil}
 use Rattle.sites.specs.declared.site.Site.{Site}
-use Rattle.sites.specs.Spelling.{gap, gaps, AreGapped}
+use Rattle.sites.specs.Spelling.{gap, gaps}
+use Rattle.sites.specs.Form.{AreGapped}
 use Rattle.sites.specs.Gapped.{is_gapped, are_gapped}
 
 here : (xs : List Site) (i : ℕ) (d : Site) → i < length xs → drop i xs ≡ get_or xs i d ∷ drop (i + 1) xs

@@ -16,7 +16,8 @@ use Rattle.sites.specs.declared.site.Site.{Site}
 use Rattle.ia32_types.specs.declared.site.SiteKind.{SiteKind}
 use Rattle.ia32_types.specs.declared.site.SiteKind.TheVariants.{Cli, Sti, StiHlt, Hlt, PushFlags, PopFlags, Iret, ReadControl, WriteControl, LoadGdt, LoadIdt, LoadTask, DropPage, ReadSeg, LoadSeg, PushSeg, PopSeg, FarJump, PortIn, PortOut, Return, JumpTo, CallTo}
 use Rattle.sites.specs.Kinds.{kinds, number, kind_numbered}
-use Rattle.sites.specs.Spelling.{site, placed, AreInForm}
+use Rattle.sites.specs.Spelling.{site, placed}
+use Rattle.sites.specs.Form.{AreInForm}
 use Rattle.sites.specs.SitesParts.{SitesParts}
 use Rattle.sites.specs.Reading.{differs, cut_before, falls, has_no_kind, has_wrong_total, unless, head_fault, site_fault, sites_fault, site_at, sites_at, placed_in}
 use Rattle.sites.proofs.Walk.{in_first}

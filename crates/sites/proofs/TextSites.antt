@@ -6,7 +6,8 @@ use Rattle.sites.specs.declared.site.Site.{Site}
 use Rattle.sites.specs.declared.site.SitesFault.{SitesFault}
 use Rattle.sites.specs.declared.limits.TheConstants.{SHORT_TEXT}
 use Rattle.sites.specs.SitesParts.{SitesParts}
-use Rattle.sites.specs.Spelling.{placed, gapped, spelling, AreSites, AreInForm, AreGapped, AreInGaps, IsWritable, IsInForm}
+use Rattle.sites.specs.Spelling.{placed, gapped, spelling}
+use Rattle.sites.specs.Form.{AreSites, AreInForm, AreGapped, AreInGaps, IsWritable, IsInForm}
 use Rattle.sites.specs.Limits.{format_of, in_text}
 use Rattle.sites.proofs.Formats.{length-placed, length-gapped}
 

@@ -2,7 +2,9 @@ pub mod SitesParts
 pub mod Kinds
 pub mod Padded
 pub mod Spelling
+pub mod Form
 pub mod Reading
+pub mod Answers
 pub mod Gapped
 pub mod Formats
 pub mod Limits

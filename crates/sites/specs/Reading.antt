@@ -1,11 +1,9 @@
 -- What is read of a list of sites in format 1, or the first bad byte.
-use Rattle.std.specs.Prelude.{◌≡◌, ℕ, zero, suc, ◌+◌, max, Bool, not, ◌&&◌, List, [], ◌∷◌, length, Option, Some, None, Result, Ok, Err, is_none, unwrap_or, nat_lt, ◌==◌}
+use Rattle.std.specs.Prelude.{ℕ, zero, suc, ◌+◌, max, Bool, not, ◌&&◌, List, [], ◌∷◌, length, Option, Some, None, Result, Ok, Err, is_none, unwrap_or, nat_lt, ◌==◌}
 use Rattle.std.specs.Bool.{then_some}
 use Rattle.std.specs.Option.{option_or}
 use Rattle.guest_ram.specs.Bytes.{byte, word32}
 use Rattle.sites.specs.declared.site.Site.{Site}
-use Rattle.sites.specs.declared.site.SitesFault.{SitesFault}
-use Rattle.sites.specs.declared.site.SitesFault.TheVariants as faults
 use Rattle.ia32_types.specs.declared.site.SiteKind.TheVariants.{Cli}
 use Rattle.sites.specs.SitesParts.{SitesParts}
 use Rattle.sites.specs.Kinds.{kind_numbered}
@@ -65,12 +63,3 @@ unless (Some at) sites = Err at
 -- format 1
 unfoldable pub placed_in : List ℕ → Result SitesParts ℕ
 placed_in bytes = unless (option_or (head_fault bytes 49) (sites_fault bytes 0 (word32 bytes 4) 8)) (record { list = sites_at bytes (word32 bytes 4) 8; format = 1 })
-
--- What `read_sites` returned is what reading gives, unless memory ran out.
-abbrev pub Fails : SitesFault → Result SitesParts ℕ → Type 0
-Fails faults.Memory read = Unit {0}
-Fails (faults.Form at) read = read ≡ Err at
-
-abbrev pub Gives : Result SitesParts SitesFault → Result SitesParts ℕ → Type 0
-Gives (Ok sites) read = read ≡ Ok sites
-Gives (Err e) read = Fails e read

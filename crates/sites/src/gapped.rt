@@ -1,8 +1,10 @@
 //! Format 2: each site by the gap from the end of the one before.
 
 ghost use Rattle.std.specs.Prelude.{◌≡◌, ◌<◌, ◌≤◌, ◌+◌, ◌^◌, ◌++◌, IsTrue, length, IfNone, IfSome, OnOk, IfOk};
-ghost use Rattle.sites.specs.Spelling.{gap, gapped, AreGapped};
-ghost use Rattle.sites.specs.Reading.{cut_before, Gives};
+ghost use Rattle.sites.specs.Spelling.{gap, gapped};
+ghost use Rattle.sites.specs.Form.{AreGapped};
+ghost use Rattle.sites.specs.Reading.{cut_before};
+ghost use Rattle.sites.specs.Answers.{Gives};
 ghost use Rattle.sites.specs.Gapped as spec;
 
 use crate::kind::{kind_numbered, number};

@@ -2,7 +2,7 @@
 
 ghost use Rattle.std.specs.Prelude.{◌≡◌, ◌<◌};
 ghost use Rattle.sites.specs.Limits.{format_of, in_text};
-ghost use Rattle.sites.specs.Spelling.{AreSites, AreGapped, IsWritable};
+ghost use Rattle.sites.specs.Form.{AreSites, AreGapped, IsWritable};
 
 use crate::site::{Site, Sites};
 

@@ -2,8 +2,10 @@
 
 ghost use Rattle.std.specs.Prelude.{◌≡◌, IfOk, ◌<◌, ◌≤◌, ◌+◌, ◌^◌, length, IfNone, IfSome};
 ghost use Rattle.sites.specs.SitesParts.{SitesParts};
-ghost use Rattle.sites.specs.Spelling.{spelling, AreInForm, IsInForm};
-ghost use Rattle.sites.specs.Reading.{differs, cut_before, head_fault, falls, has_no_kind, has_wrong_total, site_fault, sites_fault, site_at, sites_at, placed_in, Gives};
+ghost use Rattle.sites.specs.Spelling.{spelling};
+ghost use Rattle.sites.specs.Form.{AreInForm, IsInForm};
+ghost use Rattle.sites.specs.Reading.{differs, cut_before, head_fault, falls, has_no_kind, has_wrong_total, site_fault, sites_fault, site_at, sites_at, placed_in};
+ghost use Rattle.sites.specs.Answers.{Gives};
 ghost use Rattle.sites.specs.Formats.{told_format, told_count, sites_in};
 
 use crate::gapped::gapped_in;

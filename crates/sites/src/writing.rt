@@ -1,7 +1,8 @@
 //! Writing a list of sites.
 
 ghost use Rattle.std.specs.Prelude.{◌≡◌, ◌≤◌, ◌++◌, length, OnOk, IfOk};
-ghost use Rattle.sites.specs.Spelling.{site, placed, spelling, IsWritable, IsInForm};
+ghost use Rattle.sites.specs.Spelling.{site, placed, spelling};
+ghost use Rattle.sites.specs.Form.{IsWritable, IsInForm};
 ghost use Rattle.sites.specs.Formats.{sites_in};
 
 use crate::gapped::write_gapped;

@@ -4,7 +4,7 @@ use Rattle.std.proofs.lemmas.Bool.Decides.{nat_tests}
 use Rattle.std.specs.List.{find}
 use Rattle.guest_ram.specs.Among.{is_among}
 use Rattle.sites.specs.declared.site.Site.{Site}
-use Rattle.image_check.specs.Places.{lies_in, site_at, by_site, place_at}
+use Rattle.image_check.specs.Standing.{lies_in, site_at, by_site, place_at}
 use Rattle.image_check.specs.Places as places
 use Rattle.image_check.specs.declared.place.AtOffset.TheVariants.{NotAStart}
 use Rattle.paging.specs.Space.{Mode}

@@ -18,7 +18,7 @@ use Rattle.paging.specs.Space.{Mode, Space, place}
 use Rattle.paging.specs.Uses.{Tables, tables_of, Decision, is_text, is_given, is_barred, walks_text, decided, usable, by_entry, page_uses, and_then, unready, made_ready, fetches, with_front}
 use Rattle.image_load.specs.Boot.{text_pages}
 use Rattle.image_check.specs.Image.{Image}
-use Rattle.image_check.specs.Places.{site_at, StandsOutside}
+use Rattle.image_check.specs.Standing.{site_at, StandsOutside}
 use Rattle.machine_model.specs.State.{Setting, State, wedge_mode, space_at_start}
 use Rattle.machine_model.specs.Instruction.{next_page, fetching, fetched}
 use Rattle.machine_model.proofs.Walked.{dir_frame, word_frame}

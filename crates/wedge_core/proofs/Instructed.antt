@@ -6,7 +6,7 @@ use Rattle.descriptors.specs.declared.cpu.Cpu.{Cpu}
 use Rattle.board.specs.Boards.{given}
 use Rattle.board.specs.declared.devices.Board.{Board}
 use Rattle.image_check.specs.Image.{Image}
-use Rattle.image_check.specs.Places.{place_at}
+use Rattle.image_check.specs.Standing.{place_at}
 use Rattle.machine_model.specs.Clash.{clashes_from, has_instruction, instruction_clashes}
 use Rattle.machine_model.specs.State.{Setting, State}
 use Rattle.machine_model.specs.Step.{interrupt_of}

@@ -10,7 +10,7 @@ use Rattle.ia32_types.specs.declared.flags.Regs.{Regs}
 use Rattle.sites.specs.declared.site.Site.{Site}
 use Rattle.image_check.specs.Image.{Image}
 use Rattle.image_check.specs.Places as places
-use Rattle.image_check.specs.Places.{site_at, by_site, place_at}
+use Rattle.image_check.specs.Standing.{site_at, by_site, place_at}
 use Rattle.image_check.specs.declared.place.AtOffset.TheVariants.{NotAStart}
 use Rattle.host_cpl3.specs.declared.view.View.{View}
 use Rattle.host_cpl3.specs.declared.exit.Exit.{Exit}

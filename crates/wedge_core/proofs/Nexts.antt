@@ -11,7 +11,7 @@ use Rattle.board.specs.Boards.{board_step}
 use Rattle.board.specs.declared.devices.Board.{Board}
 use Rattle.paging.specs.Space.{Mode, Space}
 use Rattle.sites.specs.declared.site.Site.{Site}
-use Rattle.image_check.specs.Places.{site_at, by_site, place_at}
+use Rattle.image_check.specs.Standing.{site_at, by_site, place_at}
 use Rattle.image_check.specs.Places as places
 use Rattle.image_check.specs.declared.place.AtOffset.TheVariants.{NotAStart}
 use Rattle.machine_step.specs.declared.worked.Worked.{Worked}

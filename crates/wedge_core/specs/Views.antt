@@ -5,7 +5,7 @@ use Rattle.board.specs.declared.devices.Board.{Board}
 use Rattle.image_check.specs.Image.{Image}
 use Rattle.image_check.specs.declared.place.AtOffset.{AtOffset}
 use Rattle.image_check.specs.declared.place.AtOffset.TheVariants.{NotAStart, Outside, Inside}
-use Rattle.image_check.specs.Places.{place_at}
+use Rattle.image_check.specs.Standing.{place_at}
 use Rattle.descriptors.specs.Segments.{seg_of}
 use Rattle.shadow_tables.specs.declared.words.Side.{Side}
 use Rattle.host_cpl3.specs.declared.view.View.{View}

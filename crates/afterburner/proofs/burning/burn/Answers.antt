@@ -1,5 +1,5 @@
 use Rattle.std.proofs.Common.{length, arith, rules}
-use Rattle.asm_source.specs.Readable.{names_in}
+use Rattle.asm_source.specs.Names.{names_in}
 use Rattle.afterburner.specs.Sound.{IsSound}
 use Rattle.afterburner.proofs.Sited.{apart_sites, apart_gapped}
 use Rattle.afterburner.proofs.Whole.{whole, annotated, small}

@@ -1,6 +1,5 @@
 use Rattle.std.proofs.Common.{◌≡◌, fold, take}
-use Rattle.asm_source.specs.Names.{added}
-use Rattle.asm_source.specs.Readable.{argument_names}
+use Rattle.asm_source.specs.Names.{added, argument_names}
 use Rattle.afterburner.proofs.names.add_arguments.Given as goal
 
 abbrev pub invariant-loop-argument : goal.invariant-loop-argument

@@ -1,8 +1,7 @@
 use Rattle.std.proofs.Common.{◌≡◌, fold, take, []}
 use Rattle.std.specs.List.{flat_map}
-use Rattle.asm_source.specs.Names.{added}
+use Rattle.asm_source.specs.Names.{added, body_names}
 use Rattle.asm_source.specs.declared.tree.SourceItem.{SourceItem}
-use Rattle.asm_source.specs.Readable.{body_names}
 use Rattle.afterburner.proofs.names.names_of.Given as goal
 
 abbrev pub invariant-loop-item : goal.invariant-loop-item

@@ -1,5 +1,5 @@
 use Rattle.std.proofs.Common.{subst, take}
-use Rattle.ia32_encode.specs.Chosen.{SpellsWide, IsReadBack}
+use Rattle.ia32_encode.specs.Good.{SpellsWide, IsReadBack}
 use Rattle.asm_instruction.proofs.Whole.{whole_right}
 use Rattle.asm_instruction.proofs.assembling.spelled.Goals as goal
 

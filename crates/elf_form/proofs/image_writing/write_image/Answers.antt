@@ -1,5 +1,6 @@
 use Rattle.std.proofs.Common.{◌≡◌, ℕ, ◌≤◌, List, length, subst, append_assoc}
-use Rattle.elf_form.specs.ImageLayout.{image_bytes, HasLongs}
+use Rattle.elf_form.specs.ImageLayout.{image_bytes}
+use Rattle.elf_form.specs.Writable.{HasLongs}
 use Rattle.elf_form.proofs.RoundTrip.{read_again}
 use Rattle.elf_form.proofs.image_writing.write_image.Goals as goal
 

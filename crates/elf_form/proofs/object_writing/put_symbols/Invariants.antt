@@ -1,7 +1,7 @@
 use Rattle.std.proofs.Common.{◌≡◌, ℕ, ◌<◌, ◌^◌, List, ◌++◌, replicate, take}
 use Rattle.std.specs.Prelude.{All}
 use Rattle.std.specs.List.{flat_map}
-use Rattle.elf_form.specs.StringTable.{HasPlaces}
+use Rattle.elf_form.specs.Writable.{HasPlaces}
 use Rattle.elf_form.specs.ObjectLayout.{symbol_bytes}
 use Rattle.elf_form.proofs.object_writing.put_symbols.Given as goal
 

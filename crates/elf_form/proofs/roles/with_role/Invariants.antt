@@ -1,7 +1,7 @@
 use Rattle.std.proofs.Common.{◌≡◌, ◌+◌, ◌*◌, ◌-◌}
 use Rattle.std.specs.Prelude.{filter}
-use Rattle.elf_form.specs.Tables.{entries, found, AllFound}
-use Rattle.elf_form.specs.Header.{IsSection}
+use Rattle.elf_form.specs.Tables.{entries, found}
+use Rattle.elf_form.specs.Whole.{AllFound, IsSection}
 use Rattle.elf_form.specs.Roles.{has_role}
 use Rattle.elf_form.proofs.TableLaws.{found_on}
 use Rattle.elf_form.proofs.roles.with_role.Given as goal

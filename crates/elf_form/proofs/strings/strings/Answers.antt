@@ -3,7 +3,8 @@ use Rattle.std.proofs.lemmas.List.{take_all}
 use Rattle.elf_form.specs.declared.object.Symbol.{Symbol}
 use Rattle.std.specs.Map.{lookup}
 use Rattle.std.specs.Str.{bytes_eq}
-use Rattle.elf_form.specs.StringTable.{with_name, table_bytes, IsStringTable}
+use Rattle.elf_form.specs.StringTable.{with_name, table_bytes}
+use Rattle.elf_form.specs.Writable.{IsStringTable}
 use Rattle.elf_form.specs.ObjectLayout.{names_of}
 use Rattle.elf_form.proofs.SymbolNames.{names_of-fits, names_of-more}
 use Rattle.elf_form.proofs.strings.strings.Goals as goal

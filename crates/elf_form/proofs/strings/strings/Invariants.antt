@@ -1,5 +1,5 @@
 use Rattle.std.proofs.Common.{take}
-use Rattle.elf_form.specs.StringTable.{IsStringTable}
+use Rattle.elf_form.specs.Writable.{IsStringTable}
 use Rattle.elf_form.specs.ObjectLayout.{names_of}
 use Rattle.elf_form.proofs.strings.strings.Given as goal
 

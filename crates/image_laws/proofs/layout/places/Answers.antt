@@ -1,6 +1,6 @@
 use Rattle.std.proofs.Common.{length, []}
 use Rattle.image_check.proofs.Layouts.{start_is_among, text_fits, sweeps, start_exact, started, starts, apart, site_listed, listed_site, none_around, around_none}
-use Rattle.image_check.specs.Places.{swept_of}
+use Rattle.image_check.specs.Standing.{swept_of}
 use Rattle.image_laws.proofs.Instructions.{one_there}
 use Rattle.image_laws.proofs.WaysOn.{outside_there, inside_there}
 use Rattle.image_laws.proofs.layout.places.Goals as goal

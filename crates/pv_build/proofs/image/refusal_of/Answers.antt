@@ -2,7 +2,8 @@ use Rattle.std.proofs.Common.{◌≡◌, ℕ, refl, sym, ap, subst, ◌∙◌}
 use Rattle.elf_form.specs.declared.cause.ElfFault.{ElfFault}
 use Rattle.image_check.specs.declared.fault.CheckFault.{CheckFault}
 use Rattle.image_check.specs.declared.fault.CheckFault.TheVariants as faults
-use Rattle.image_check.specs.Refusals.{Refusal, Refuses, Form, Wrong}
+use Rattle.image_check.specs.Refusals.{Refusal, Form, Wrong}
+use Rattle.image_check.specs.Answers.{Refuses}
 use Rattle.pv_build.specs.Lines.{image_line, place_line}
 use Rattle.pv_build.specs.Telling.{RefusesAs}
 use Rattle.pv_build.proofs.Halts.{refuses_as, line_is}

@@ -1,6 +1,7 @@
 use Rattle.std.proofs.Common.{◌≡◌, ◌++◌, ◌∷◌, length, drop}
 use Rattle.std.specs.Int.{w32, to_le_bytes}
-use Rattle.sites.specs.Spelling.{gaps, AreGapped}
+use Rattle.sites.specs.Spelling.{gaps}
+use Rattle.sites.specs.Form.{AreGapped}
 use Rattle.sites.proofs.gapped.write_gapped.Given as goal
 
 abbrev pub invariant-loop-s : goal.invariant-loop-s

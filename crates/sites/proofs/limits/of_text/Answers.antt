@@ -1,5 +1,5 @@
 use Rattle.std.proofs.Common.{ℕ, sym, subst}
-use Rattle.sites.specs.Spelling.{IsWritable}
+use Rattle.sites.specs.Form.{IsWritable}
 use Rattle.sites.proofs.Formats.{of_format}
 use Rattle.sites.proofs.TextSites.{writable}
 use Rattle.sites.proofs.limits.of_text.Goals as goal

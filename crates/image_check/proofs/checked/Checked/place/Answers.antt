@@ -1,7 +1,7 @@
 use Rattle.std.proofs.Common.{List, length, sym, ap, subst, ◌∙◌}
 use Rattle.sites.specs.declared.site.Site.{Site}
 use Rattle.image_check.specs.Layout.{AreApart}
-use Rattle.image_check.specs.Places.{site_at}
+use Rattle.image_check.specs.Standing.{site_at}
 use Rattle.image_check.proofs.Lookups.{start_test, place_not, place_outside, place_inside}
 use Rattle.image_check.proofs.checked.Checked.place.Goals as goal
 
