@@ -29,6 +29,22 @@ movl 0x11400000,%eax
 outl %eax,$0x80
 ";
 
+/// The same for a page whose place in the buffer of the bare machine, its number modulo 64, no other page of the kernel has.
+pub const READS_A_STALE_PAGE_ALONE: &str = "\
+movl $1,0xC0400000
+movl $2,0xC0401000
+movl $0x20007,0xC0001114
+movl $0x00400007,0xC0020014
+movl 0x11405000,%eax
+outl %eax,$0x80
+movl $0x00401007,0xC0020014
+movl 0x11405000,%eax
+outl %eax,$0x80
+invlpg 0x11405000
+movl 0x11405000,%eax
+outl %eax,$0x80
+";
+
 /// Three times 1 is added to each of 40 pages that are 4 MB apart.
 pub const GOES_OVER_FORTY_TABLES: &str = "\
 movl $0xC0001200,%edi

@@ -14,10 +14,11 @@ use std::alloc::Global;
 use std::process::Abort;
 use wedge_core::run_wedge;
 use worked_kernels::{
-    COPIES_WITHIN_A_STALE_PAGE, GOES_OVER_FORTY_TABLES, READS_A_STALE_PAGE, SENDS_A_BYTE,
+    COPIES_WITHIN_A_STALE_PAGE, GOES_OVER_FORTY_TABLES, READS_A_STALE_PAGE,
+    READS_A_STALE_PAGE_ALONE, SENDS_A_BYTE,
 };
 
-/// What may be printed of that kernel: the second read is of the old frame or of the new one.
+/// What may be printed of those kernels: the second read is of the old frame or of the new one.
 const OLD: &[u8] =
     b"5 out32 0080 00000001\n11 out32 0080 00000001\n17 out32 0080 00000002\nend steps 40\n";
 
@@ -164,16 +165,18 @@ fn steps_leave_their_bytes_in_memory(rt: HostRuntime) {
     assert!(rt; are_same(&bare, &[1, 0, 0, 0]) || are_same(&bare, &[2, 0, 0, 0]));
 }
 
-/// A run, and what it may print beside the old read.
-static STALE: [(&str, &[u8]); 2] = [
-    ("run --bare I B 2048 40", NEW),
-    ("run --wedge I B 2048 40", OLD),
+/// A kernel, a run, and what it may print beside the old read. The first kernel's page shares its place in the bare machine's
+/// buffer with the text, whose fetches drop it; nothing drops that of the second.
+static STALE: [(&str, &str, &[u8]); 3] = [
+    (READS_A_STALE_PAGE, "run --bare I B 2048 40", NEW),
+    (READS_A_STALE_PAGE, "run --wedge I B 2048 40", OLD),
+    (READS_A_STALE_PAGE_ALONE, "run --bare I B 2048 40", OLD),
 ];
 
 #[test]
 fn a_page_stays_stale_until_invlpg(rt: HostRuntime) {
-    let mut files = built(&rt, rt.alloc(), READS_A_STALE_PAGE.as_bytes());
-    for (run, may_be) in STALE.iter() {
+    for (source, run, may_be) in STALE.iter() {
+        let mut files = built(&rt, rt.alloc(), source.as_bytes());
         let (number, out) = answer(&rt, rt.alloc(), &mut files, run, &[]);
         is_so(&rt, run, number == 0);
         is_so(
