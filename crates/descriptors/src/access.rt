@@ -2,7 +2,8 @@
 
 ghost use Rattle.std.specs.Prelude.{◌≡◌, ◌+◌, ◌≤◌, OnOk};
 ghost use Rattle.paging.specs.Work.{Gives};
-ghost use Rattle.paging.specs.Space.{IsReach, earlier_of};
+ghost use Rattle.paging.specs.Ready.{IsReach};
+ghost use Rattle.paging.specs.Space.{earlier_of};
 ghost use Rattle.descriptors.specs.Segments.{slot};
 ghost use Rattle.descriptors.specs.Access.{Denials, reaching, by_processor, by_level, pair_at, byte_set, mark};
 

@@ -1,4 +1,5 @@
 pub mod Drops
 pub mod Works
 pub mod Translations
+pub mod Staying
 pub mod WithEntry

@@ -1,5 +1,5 @@
 -- What the guest's memory stands for within one step.
-use Rattle.std.specs.Prelude.{◌≡◌, ℕ, ◌+◌, ◌-◌, ◌*◌, ◌/◌, ◌%◌, ◌<◌, ◌≤◌, ◌^◌, ◌==◌, List, [], ◌∷◌, Bool, true, Option, Some, None, if◌then◌else◌}
+use Rattle.std.specs.Prelude.{ℕ, ◌+◌, ◌-◌, ◌*◌, ◌/◌, ◌%◌, ◌<◌, ◌≤◌, ◌^◌, ◌==◌, List, [], ◌∷◌, Bool, Option, Some, None, if◌then◌else◌}
 use Rattle.std.specs.FinMap.{FinMap, get}
 use Rattle.std.specs.Ordering.{nat_cmp}
 use Rattle.guest_ram.specs.Bytes as bytes
@@ -7,8 +7,6 @@ use Rattle.ia32_types.specs.declared.size.Size.{Size}
 use Rattle.ia32_types.specs.declared.size.Size.TheVariants.{Byte, Word, Long}
 use Rattle.ia32_types.specs.Bytes.{size_in_bytes}
 use Rattle.paging.specs.declared.entry.Entry.{Entry}
-use Rattle.paging.specs.declared.entry.Touch.{Touch}
-use Rattle.paging.specs.declared.entry.Touch.TheVariants.{Ready, Fault, Stop}
 use Rattle.paging.specs.Numbers.{number_stored}
 
 -- The physical bytes of the instruction of this step, as far as they were read: those in its first page and those
@@ -70,21 +68,6 @@ FitsSize Byte v = v < 256
 FitsSize Word v = v < 65536
 FitsSize Long v = v < 2 ^ 32
 
--- the range lies in what was made ready
-pub record IsReady (s : Space) (at : ℕ) (size : Size) : Type 0 where
-  pub above : s.ready.start ≤ at
-  pub below : at + size_in_bytes size ≤ s.ready.start + s.ready.len
-
-pub record IsWritable (s : Space) (at : ℕ) (size : Size) : Type 0 where
-  pub above : s.ready.start ≤ at
-  pub below : at + size_in_bytes size ≤ s.ready.start + s.ready.len
-  pub write : s.ready.write ≡ true
-
--- this range is what was made ready
-pub record IsReach (s : Space) (at len : ℕ) (write : Bool) : Type 0 where
-  pub range : s.ready ≡ record { start = at; len = len; write = write }
-  pub fits : at + len ≤ 2 ^ 32
-
 -- the range lies in what the touch before the last made ready
 pub record IsReadyEarlier (s : Space) (at : ℕ) (size : Size) : Type 0 where
   pub above : s.earlier.start ≤ at
@@ -97,12 +80,6 @@ earlier_of s = record { start = s.ready.start; len = s.ready.len; set = s.set }
 -- memory seen through the translations that held earlier
 abbrev pub as_earlier : Space → Space
 as_earlier s = record s { set = s.earlier.set }
-
--- what a touch of this range makes ready, where it is ready
-abbrev pub Readied : Space → ℕ → ℕ → Bool → Touch → Type 0
-Readied s at len write Ready = IsReach s at len write
-Readied s at len write (Fault code cr2) = Unit {0}
-Readied s at len write (Stop stop) = Unit {0}
 
 -- the physical place of an address, by the entry of its page
 abbrev pub place_by : Option Entry → ℕ → ℕ

@@ -9,6 +9,6 @@ mod words;
 
 pub use entry::{Access, Entry, Touch, Walk};
 pub use memory::GuestMem;
-pub use modes::{fetches_agree, uses_agree};
+pub use modes::{fetches_agree, ranges_stay, uses_agree};
 pub use walking::{allows, grants, set_flags, walk};
 pub use words::Words;

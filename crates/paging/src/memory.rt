@@ -1,7 +1,9 @@
 //! The guest's memory as one step reaches it, as a trait.
 
 ghost use Rattle.std.specs.Prelude.{◌≡◌, ◌+◌, ◌≤◌, ◌^◌, ◌<◌, IsTrue};
-ghost use Rattle.paging.specs.Space.{Space, Earlier, Span, IsReady, IsReadyEarlier, IsWritable, Readied, FitsSize, earlier_of, loaded, loaded_earlier, saved};
+ghost use Rattle.ia32_types.specs.Bytes.{size_in_bytes};
+ghost use Rattle.paging.specs.Ready.{IsReadable, IsWritable, Readied};
+ghost use Rattle.paging.specs.Space.{Space, Earlier, Span, IsReadyEarlier, FitsSize, earlier_of, loaded, loaded_earlier, saved};
 ghost use Rattle.paging.specs.Uses.{uses};
 
 use crate::entry::{Access, Touch};
@@ -28,9 +30,9 @@ pub trait GuestMem {
         ensures earlier { (space self.new).earlier ≡ earlier_of (space self.old) }
         ensures frame { frame self.new ≡ frame self.old };
 
-    /// Reads where the last touch was ready.
+    /// Reads where this step's touches made the range ready.
     fn load(&mut self, at: u32, size: Size) -> u32
-        requires { IsReady (space self.old) at size }
+        requires { IsReadable (space self.old) at (size_in_bytes size) }
         ensures value { result ≡ loaded (space self.old) at size }
         ensures fits { FitsSize size result }
         ensures same { space self.new ≡ space self.old }
@@ -44,9 +46,9 @@ pub trait GuestMem {
         ensures same { space self.new ≡ space self.old }
         ensures frame { frame self.new ≡ frame self.old };
 
-    /// Writes where the last touch was ready for a write.
+    /// Writes where this step's touches made the range ready for a write.
     fn save(&mut self, at: u32, size: Size, value: u32)
-        requires { IsWritable (space self.old) at size }
+        requires { IsWritable (space self.old) at (size_in_bytes size) }
         ensures saved { space self.new ≡ saved (space self.old) at size value }
         ensures frame { frame self.new ≡ frame self.old };
 }

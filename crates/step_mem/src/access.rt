@@ -4,7 +4,8 @@ ghost use Rattle.std.specs.Prelude.{◌≡◌, ◌+◌, ◌*◌, ◌/◌, ◌%�
 ghost use Rattle.guest_ram.specs.Bytes as in_ram;
 ghost use Rattle.std.specs.FinMap.{get};
 ghost use Rattle.ia32_types.specs.Bytes.{size_in_bytes};
-ghost use Rattle.paging.specs.Space.{FitsSize, IsReady, IsReadyEarlier, IsWritable, loaded, loaded_earlier, place, place_by, saved, with_byte, with_ram};
+ghost use Rattle.paging.specs.Ready.{IsReadable, IsWritable};
+ghost use Rattle.paging.specs.Space.{FitsSize, IsReadyEarlier, loaded, loaded_earlier, place, place_by, saved, with_byte, with_ram};
 ghost use Rattle.paging.specs.Uses.{is_text};
 ghost use Rattle.step_mem.specs.Changes.{changed, AreWithin, HasEntry, HaveEntries};
 ghost use Rattle.step_mem.specs.Guard.{mode_of, IsLaid, IsApartAt};
@@ -174,10 +175,10 @@ fn long_in_page<B: Kept>(
     low + 65536 * high
 }
 
-/// Reads where the last touch was ready.
+/// Reads where each byte's page has an entry, as where this step's touches were ready.
 pub fn load<B: Kept>(ram: &Ram, base: &B, state: &StepState, at: u32, size: Size) -> u32
     requires sound { IsSoundOver B.Kept base.now ram.now state.now }
-    requires ready { IsReady (space_at (B.entries base.now) ram.now state.now) at size }
+    requires ready { IsReadable (space_at (B.entries base.now) ram.now state.now) at (size_in_bytes size) }
     ensures value { result ≡ loaded (space_at (B.entries base.now) ram.now state.now) at size }
     ensures fits { FitsSize size result }
 {
@@ -297,11 +298,11 @@ fn save_in_page<B: Kept>(ram: &mut Ram, base: &B, state: &StepState, at: u32, va
     );
 }
 
-/// Writes where the last touch was ready for a write.
+/// Writes where each byte's page has an entry that leads to no text, as where this step's touches were ready for a write.
 #[tactic(auto, unfolding(paging::specs::Space::written, paging::specs::Space::with_byte, paging::specs::Space::place))]
 pub fn save<B: Kept>(ram: &mut Ram, base: &B, state: &StepState, at: u32, size: Size, value: u32)
     requires sound { IsSoundOver B.Kept base.now ram.old state.now }
-    requires ready { IsWritable (space_at (B.entries base.now) ram.old state.now) at size }
+    requires ready { IsWritable (space_at (B.entries base.now) ram.old state.now) at (size_in_bytes size) }
     ensures sound { IsSoundOver B.Kept base.now ram.new state.now }
     ensures hidden { hidden state.now.guard state.now.control.frames ram.new ≡ hidden state.now.guard state.now.control.frames ram.old }
     ensures saved { space_at (B.entries base.now) ram.new state.now

@@ -2,7 +2,8 @@
 
 ghost use Rattle.std.specs.Prelude.{◌≡◌, ◌≢◌, ℕ, ◌+◌, ◌*◌, ◌/◌, ◌%◌, ◌≤◌, ◌<◌, ◌^◌, length, ◌++◌, IsSome, false, true};
 ghost use Rattle.std.specs.FinMap.{get};
-ghost use Rattle.paging.specs.Space.{Readied, IsReach, earlier_of, frame_by, frames_of};
+ghost use Rattle.paging.specs.Ready.{Readied, IsReach};
+ghost use Rattle.paging.specs.Space.{earlier_of, frame_by, frames_of};
 ghost use Rattle.paging.specs.Uses.{unready, page_uses, second_page, made_ready, by_pages, uses, fetches};
 ghost use Rattle.step_mem.specs.Changes.{changed, HasEntry, HaveEntries};
 ghost use Rattle.step_mem.specs.Guard.{mode_of, IsApart, IsApartAt, AreApart};

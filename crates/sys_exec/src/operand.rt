@@ -2,7 +2,7 @@
 
 ghost use Rattle.std.specs.Prelude.{◌≡◌, ◌+◌, ◌*◌, ◌%◌, ◌≤◌, ◌<◌, ◌^◌, OnOk};
 ghost use Rattle.paging.specs.Work.{Gives};
-ghost use Rattle.paging.specs.Space.{IsReach};
+ghost use Rattle.paging.specs.Ready.{IsReach};
 ghost use Rattle.ia32_exec.specs.Registers.{address_of, with_whole, eip_past};
 ghost use Rattle.ia32_exec.specs.Ranges.{segment_of};
 ghost use Rattle.sys_exec.specs.Operand.{selector_in, reg_at, operand_reached, selector, long_of, pulled, pushed, past, past_with, past_push, past_pop, gone_to};

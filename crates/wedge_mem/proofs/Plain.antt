@@ -11,7 +11,8 @@ use Rattle.frame_pool.specs.declared.Pool.{Pool}
 use Rattle.paging.specs.declared.entry.Entry.{Entry}
 use Rattle.paging.specs.declared.entry.Touch.{Touch}
 use Rattle.paging.specs.declared.entry.Touch.TheVariants.{Ready}
-use Rattle.paging.specs.Space.{IsReach, Mode, Readied, Space, Span, place}
+use Rattle.paging.specs.Ready.{HasRange, IsReach, Readied}
+use Rattle.paging.specs.Space.{Mode, Space, place}
 use Rattle.paging.specs.Uses.{with_front, with_back}
 use Rattle.step_mem.specs.Changes.{changed, AreWithin}
 use Rattle.step_mem.specs.Guard.{mode_by, IsApart, IsLaid}
@@ -21,7 +22,7 @@ use Rattle.step_mem.specs.declared.guard.Text.{Text}
 use Rattle.step_mem.specs.declared.state.StepState.{StepState}
 use Rattle.step_mem.specs.declared.walking.Control.{Control}
 use Rattle.wedge_mem.specs.declared.progress.Progress.{Progress}
-use Rattle.wedge_mem.specs.Progress.{Guards, HasRange, IsGoing, IsPlain, left_in_page, owning, space_in, state_by}
+use Rattle.wedge_mem.specs.Progress.{Guards, IsGoing, IsPlain, left_in_page, owning, space_in, state_by}
 
 short : (bytes : List ℕ) (n : ℕ) → bytes ≡ [] → length bytes ≤ n
 short bytes n e = rw e (omega arith)
@@ -67,13 +68,11 @@ going_after kept floor stands ram state p sound is by guard h =
     }
 
 -- what a fetch made ready has entries
-pub found_after : (kept : List ℕ → FinMap nat_cmp Entry) (floor : ℕ) (stands : List ℕ → Type 0) (ram : List ℕ) (state : StepState) (p : Progress) (at len : ℕ) (met : Touch)
-    → IsSound kept floor stands ram state → state ≡ state_by state.guard p → Readied (space_at kept ram state) at len false met → met ≡ Ready → HasRange (space_in kept ram p) at len
-found_after kept floor stands ram state p at len met sound is ready r byte low high =
+pub found_after : (kept : List ℕ → FinMap nat_cmp Entry) (ram : List ℕ) (state : StepState) (p : Progress) (at len : ℕ) (met : Touch)
+    → state ≡ state_by state.guard p → Readied (space_at kept ram state) at len false met → met ≡ Ready → HasRange (space_in kept ram p) at len
+found_after kept ram state p at len met is ready r byte low high =
     let reach : IsReach (space_at kept ram state) at len false = subst (Readied (space_at kept ram state) at len false) r ready in
-    let start : state.ready.start ≡ at = ap (λ (x : Span). x.start) reach.range in
-    let size : state.ready.len ≡ len = ap (λ (x : Span). x.len) reach.range in
-    subst (λ (t : StepState). IsSome (get (changed (kept ram) t.changes) (byte / 4096))) is (sound.reached byte (omega (arith, start, low)) (omega (arith, start, size, high)))
+    subst (λ (t : StepState). IsSome (get (changed (kept ram) t.changes) (byte / 4096))) is (reach.found byte low high)
 
 -- nothing is used yet
 pub going_first : (kept : List ℕ → FinMap nat_cmp Entry) (floor : ℕ) (stands : List ℕ → Type 0) (ram : List ℕ) (p : Progress) (control : Control) (begins : p.state ≡ begun control p.state.guard)

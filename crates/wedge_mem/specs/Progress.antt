@@ -1,6 +1,6 @@
 -- What a step of a guest's memory did so far, over memory as it stands: the frames of the text are kept from data, and
 -- what lies in them is what memory has.
-use Rattle.std.specs.Prelude.{◌≡◌, ◌≢◌, ℕ, ◌+◌, ◌-◌, ◌/◌, ◌%◌, ◌<◌, ◌≤◌, List, [], take, Option, Some, None, IsSome, nat_le, if◌then◌else◌}
+use Rattle.std.specs.Prelude.{◌≡◌, ◌≢◌, ℕ, ◌+◌, ◌-◌, ◌/◌, ◌%◌, ◌<◌, ◌≤◌, List, [], take, Option, Some, None, nat_le, if◌then◌else◌}
 use Rattle.std.specs.FinMap.{FinMap, get}
 use Rattle.std.specs.Ordering.{nat_cmp}
 use Rattle.paging.specs.declared.entry.Entry.{Entry}
@@ -66,10 +66,6 @@ space_in kept ram p =
 abbrev pub space_at_first : List ℕ → FinMap nat_cmp Entry → (frames : ℕ) → Cpu → (first count : ℕ) → Space
 space_at_first ram set frames cpu first count =
     space_at_start (Wedge first count no_own) frames cpu (laid [] first frames ram) set
-
--- each byte of a range has an entry in the set
-abbrev pub HasRange : Space → (at len : ℕ) → Type 0
-HasRange s at len = (byte : ℕ) → at ≤ byte → byte < at + len → IsSome (get s.set (byte / 4096))
 
 -- every other page's entry is as it was
 abbrev pub KeepsOthers : (before after : Space) (page : ℕ) → Type 0

@@ -4,13 +4,13 @@ ghost use Rattle.std.proofs.Props.{props};
 ghost use Rattle.std.specs.Prelude.{◌≡◌, ◌+◌, ◌*◌, ◌/◌, ◌%◌, ◌≤◌, ◌^◌, length, take, false};
 ghost use Rattle.frame_pool.specs.Held.{Moves, Owns};
 ghost use Rattle.frame_pool.specs.Pool.{base_of, free_list};
-ghost use Rattle.paging.specs.Space.{Readied};
+ghost use Rattle.paging.specs.Ready.{HasRange, Readied};
 ghost use Rattle.paging.specs.Uses.{fetches};
 ghost use Rattle.shadow_tables.specs.Entries.{entries_of};
 ghost use Rattle.step_mem.specs.Changes.{AreWithin};
 ghost use Rattle.step_mem.specs.Shown.{beyond};
 ghost use Rattle.wedge_mem.specs.Finished.{IsSettled};
-ghost use Rattle.wedge_mem.specs.Progress.{HasRange, KeepsOthers, owning, space_at_first, space_in};
+ghost use Rattle.wedge_mem.specs.Progress.{KeepsOthers, owning, space_at_first, space_in};
 ghost use Rattle.wedge_mem.specs.Seen.{IsGoingBy};
 ghost use Rattle.wedge_mem.specs.Settled.{IsCount, pages_of};
 

@@ -1,10 +1,12 @@
 //! A step's accesses, over any keeper of translations.
 
 ghost use Rattle.std.specs.Prelude.{◌≡◌, ◌+◌, ◌/◌, ◌%◌, ◌≤◌, ◌^◌, false};
-ghost use Rattle.paging.specs.Space.{FitsSize, IsReady, IsReadyEarlier, IsWritable, Readied, earlier_of, loaded, loaded_earlier, saved};
+ghost use Rattle.ia32_types.specs.Bytes.{size_in_bytes};
+ghost use Rattle.paging.specs.Ready.{HasRange, IsReadable, IsWritable, Readied};
+ghost use Rattle.paging.specs.Space.{FitsSize, IsReadyEarlier, earlier_of, loaded, loaded_earlier, saved};
 ghost use Rattle.paging.specs.Uses.{fetches, uses};
 ghost use Rattle.step_mem.specs.Sound.{IsSoundOver, space_at};
-ghost use Rattle.wedge_mem.specs.Progress.{HasRange, IsGoingOver, IsTheSame, KeepsBeyond, KeepsOthers, owning, space_in};
+ghost use Rattle.wedge_mem.specs.Progress.{IsGoingOver, IsTheSame, KeepsBeyond, KeepsOthers, owning, space_in};
 
 use crate::progress::Progress;
 use guest_ram::Ram;
@@ -72,10 +74,10 @@ pub fn fetch<B: Kept>(
     met
 }
 
-/// Reads where the last touch or fetch was ready.
+/// Reads where this step's touches or fetches made the range ready.
 pub fn load<B: Kept>(ram: &Ram, base: &B, step: &Progress, at: u32, size: Size) -> u32
     requires going { IsGoingOver B.Kept base.now ram.now step.now }
-    requires ready { IsReady (space_in (B.entries base.now) ram.now step.now) at size }
+    requires ready { IsReadable (space_in (B.entries base.now) ram.now step.now) at (size_in_bytes size) }
     ensures value { result ≡ loaded (space_in (B.entries base.now) ram.now step.now) at size }
     ensures fits { FitsSize size result }
 {
@@ -96,10 +98,10 @@ pub fn load_earlier<B: Kept>(ram: &Ram, base: &B, step: &Progress, at: u32, size
     step_mem::load_earlier(ram, base, &state, at, size)
 }
 
-/// Writes where the last touch was ready for a write.
+/// Writes where this step's touches made the range ready for a write.
 pub fn save<B: Kept>(ram: &mut Ram, base: &B, step: &Progress, at: u32, size: Size, value: u32)
     requires going { IsGoingOver B.Kept base.now ram.old step.now }
-    requires ready { IsWritable (space_in (B.entries base.now) ram.old step.now) at size }
+    requires ready { IsWritable (space_in (B.entries base.now) ram.old step.now) at (size_in_bytes size) }
     ensures going { IsGoingOver B.Kept base.now ram.new step.now }
     ensures saved { space_in (B.entries base.now) ram.new step.now ≡ saved (space_in (B.entries base.now) ram.old step.now) at size value }
     ensures beyond { KeepsBeyond step.now ram.old ram.new }

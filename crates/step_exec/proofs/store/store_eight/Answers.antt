@@ -14,7 +14,12 @@ save-requires-clause-ready g c =
     let lt3 : 4 * c.loop-k.k + 3 < 32 = omega arith in
     let here = c.requires.open_to (4 * c.loop-k.k) lt in
     let last = c.requires.open_to (4 * c.loop-k.k + 3) lt3 in
-    record { above = here.above; below = omega (arith, last.below); write = here.write_is }
+    let sound = c.loop-k.invariant.sound in
+    record {
+      fits = omega (arith, last.below, sound.fits);
+      found = λ byte low high. sound.reached byte (omega (arith, here.above, low)) (omega (arith, last.below, high));
+      apart = λ byte low high. sound.apart here.write_is byte (omega (arith, here.above, low)) (omega (arith, last.below, high));
+    }
 
 pub loop-k-preserved : goal.loop-k-preserved
 loop-k-preserved g c = record {

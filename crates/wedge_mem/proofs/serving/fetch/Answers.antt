@@ -6,7 +6,9 @@ pub returns-clause-going : goal.returns-clause-going
 returns-clause-going g c = going_after _ _ _ _ c.fetch-met.new.state c.follow.new.self c.fetch-met.ensures.sound c.follow.ensures.state c.follow.ensures.guards
 
 pub returns-clause-found : goal.returns-clause-found
-returns-clause-found g c = found_after _ _ _ _ c.fetch-met.new.state c.follow.new.self c.args.at c.args.len c.fetch-met.result c.fetch-met.ensures.sound c.follow.ensures.state c.fetch-met.ensures.ready
+returns-clause-found g c =
+    found_after (g.B.Kept.entries c.args.base.now) c.fetch-met.new.ram c.fetch-met.new.state c.follow.new.self c.args.at c.args.len c.fetch-met.result c.follow.ensures.state
+    c.fetch-met.ensures.ready
 
 pub returns-clause-others : goal.returns-clause-others
 returns-clause-others g c =
