@@ -1,11 +1,15 @@
 -- Taking the right to write from the words of a frame.
-use Rattle.std.proofs.Common.{◌≡◌, ◌≢◌, IsTrue, ℕ, zero, suc, ◌+◌, ◌-◌, ◌*◌, ◌/◌, ◌%◌, ◌^◌, ◌<◌, ◌≤◌, ◌⊎◌, List, [], ◌∷◌, length, Bool, true, false, ◌&&◌, ◌||◌, not, cond, eqb, Option, Some, None, refl, sym, ap, ◌∙◌, subst, inl, inr, arith}
+use Rattle.std.proofs.Common.{◌≡◌, ◌≢◌, ℕ, zero, suc, ◌+◌, ◌-◌, ◌*◌, ◌/◌, ◌%◌, ◌^◌, ◌<◌, ◌≤◌, ◌⊎◌, List, [], ◌∷◌, length, Bool, true, false, ◌&&◌, ◌||◌, not, cond, eqb, Option, Some, None, refl, sym, ap, ◌∙◌, subst, inl, inr, lit≤, arith}
 use Rattle.std.proofs.lemmas.Bool.{cases_lt}
 use Rattle.std.proofs.lemmas.Bool.Decides.{eqb_tells}
+use Rattle.std.specs.Int.{w64, from_le_bytes}
+use Rattle.guest_ram.specs.Bytes.{part, byte, word32}
+use Rattle.guest_ram.proofs.Bytes.{word32-part, word32-is}
 use Rattle.frame_pool.specs.Held.{Holds, Writes}
 use Rattle.frame_pool.proofs.Held.{Writes-refl, Writes-trans, Holds-writes}
 use Rattle.shadow_views.specs.Tables.{dir, at, by_dir, owned, IsIn, IsView, Puts}
 use Rattle.shadow_views.proofs.Changes.{at-none}
+use Rattle.shadow_views.proofs.Counts.{by_dir-some}
 use Rattle.shadow_tables.specs.Opened.{KeepsTables}
 use Rattle.shadow_tables.proofs.Asides.{and-true}
 use Rattle.shadow_tables.proofs.Tabled.{keeps-trans, puts-keep}
@@ -156,10 +160,6 @@ pub put-in : (s : Shadow) (m n : List ℕ) (r k page frame : ℕ) → Holds m (h
 put-in s m n r k page frame h e i puts =
     subst (λ x. Puts m n (roots s) x page (barred_word frame (at m x page))) e (puts (roots s) h (subst (λ x. IsIn x (roots s)) (sym e) i))
 
-pub no-table : (b : Bool) (w : ℕ) → (IsTrue b → w ≢ 0) × (w ≢ 0 → IsTrue b) → b ≡ false → w ≡ 0
-no-table b w f e =
-    elim (eqb_tells w 0) [ inl t ↦ t.1 | inr n ↦ absurd (let t = f.1 n.1 in let q : false ≡ true = sym e ∙ t in cc) ]
-
 module _ (s : Shadow) (m m1 m2 : List ℕ) (page frame : ℕ) (h : IsShadow s m) (l : page < 2 ^ 20)
     (a : Puts m m1 (roots s) s.kernel page (barred_word frame (at m s.kernel page))) (b : Puts m1 m2 (roots s) s.user page (barred_word frame (at m1 s.user page))) where
   bar-kernel : at m2 s.kernel page ≡ barred_word frame (at m s.kernel page)
@@ -233,15 +233,77 @@ module _ (s : Shadow) (m m1 m2 : List ℕ) (page frame : ℕ) (h : IsShadow s m)
 pub dir-none : (s : Shadow) (m : List ℕ) (index page : ℕ) → dir m s.kernel index ≡ 0 → dir m s.user index ≡ 0 → page / 1024 ≡ index → slot_at s m page ≡ None
 dir-none s m index page a b e = slot-none s m page (at-none m s.kernel page (ap (dir m s.kernel) e ∙ a)) (at-none m s.user page (ap (dir m s.user) e ∙ b))
 
--- so it is of one index more
-pub none-more : (s : Shadow) (m : List ℕ) (first index : ℕ) → dir m s.kernel index ≡ 0 → dir m s.user index ≡ 0
-    → ((page : ℕ) → page < 2 ^ 20 → 1024 * first ≤ page → page < 1024 * index → slot_at s m page ≡ None)
-    → (page : ℕ) → page < 2 ^ 20 → 1024 * first ≤ page → page < 1024 * (index + 1) → slot_at s m page ≡ None
-none-more s m first index a b h page l low high =
-    elim (cases_lt page (1024 * index)) [ inl t ↦ h page l low t | inr t ↦ dir-none s m index page a b (omega (arith, t, high)) ]
-
 abbrev pub without : Shadow → List ℕ → ℕ → ℕ → Option Slot
 without s m frame page = barred (frame ∷ []) (slot_at s m page)
+
+-- ---- words that are 0
+
+zero-sum : (w a b c d : ℕ) → w ≡ a + b * 256 + c * 65536 + d * 16777216 → a ≡ 0 → b ≡ 0 → c ≡ 0 → d ≡ 0 → w ≡ 0
+zero-sum w a b c d e p q r s = omega (arith, e, p, q, r, s)
+
+-- two words from this place on are 0
+abbrev pub IsNoneAt : List ℕ → ℕ → Type 0
+IsNoneAt m a = (k : ℕ) → k < 2 → word32 m (a + 4 * k) ≡ 0
+
+-- so they are where their eight bytes make 0
+pub none-at : (m : List ℕ) (a : ℕ) → from_le_bytes w64 (part m a 8) ≡ 0 → IsNoneAt m a
+unfolding byte
+none-at m a e zero l =
+    let p : List ℕ = part m a 8 in
+    sym (word32-part m a 8 0 (lit≤ tt))
+    ∙ zero-sum (word32 p 0) _ _ _ _ (word32-is p 0) (omega (arith, e)) (omega (arith, e)) (omega (arith, e)) (omega (arith, e))
+none-at m a e (suc zero) l =
+    let p : List ℕ = part m a 8 in
+    sym (word32-part m a 8 4 (lit≤ tt))
+    ∙ zero-sum (word32 p 4) _ _ _ _ (word32-is p 4) (omega (arith, e)) (omega (arith, e)) (omega (arith, e)) (omega (arith, e))
+none-at m a e (suc (suc k)) l = absurd (omega (arith, l))
+
+pub is-zero : (n w : ℕ) → w ≡ n → eqb w 0 ≡ true → n ≡ 0
+is-zero n w e t = elim (eqb_tells w 0) [ inl u ↦ sym e ∙ u.1 | inr u ↦ absurd (let q : false ≡ true = sym u.0 ∙ t in cc) ]
+
+pair-none : (m : List ℕ) (a f i j : ℕ) → a ≡ 4096 * f + 4 * i → IsNoneAt m a → i ≤ j → j < i + 2 → word32 m (4096 * f + 4 * j) ≡ 0
+pair-none m a f i j s h low high =
+    let e : a + 4 * (j - i) ≡ 4096 * f + 4 * j = omega (arith, s, low) in
+    ap (word32 m) (sym e) ∙ h (j - i) (omega (arith, low, high))
+
+-- words of a frame that are 0
+abbrev pub AreNone : List ℕ → ℕ → ℕ → ℕ → Type 0
+AreNone m f first last = (j : ℕ) → first ≤ j → j < last → word32 m (4096 * f + 4 * j) ≡ 0
+
+-- and two more
+pub none-pairs : (m : List ℕ) (f first pair : ℕ) → IsNoneAt m (4096 * f + 8 * pair) → AreNone m f first (2 * pair) → AreNone m f first (2 * (pair + 1))
+none-pairs m f first pair n h j low high =
+    elim (cases_lt j (2 * pair)) [
+      | inl t ↦ h j low t
+      | inr t ↦ pair-none m (4096 * f + 8 * pair) f (2 * pair) j (omega arith) n t (omega (arith, high))
+    ]
+
+-- words of a table that give no right, up to here
+abbrev pub AreStill : List ℕ → ℕ → ℕ → ℕ → ℕ → Type 0
+AreStill m table frame first last = (j : ℕ) → first ≤ j → j < last → barred_word frame (by_dir m table j) ≡ by_dir m table j
+
+-- and then as many as are 0
+pub still-pairs : (m : List ℕ) (table frame first i next : ℕ) → table ≢ 0 → i % 2 ≡ 0 → IsNoneAt m (4096 * (table / 4096) + 4 * i)
+    → AreNone m (table / 4096) (2 * (i / 2 + 1)) (2 * next) → AreStill m table frame first i → AreStill m table frame first (2 * next)
+still-pairs m table frame first i next ne even n rest h j low high =
+    let still : word32 m (4096 * (table / 4096) + 4 * j) ≡ 0 → barred_word frame (by_dir m table j) ≡ by_dir m table j =
+        λ e. let z : by_dir m table j ≡ 0 = by_dir-some m table j ne ∙ e in barred-zero frame (by_dir m table j) z ∙ sym z in
+    elim (cases_lt j i) [
+      | inl t ↦ h j low t
+      | inr t ↦ elim (cases_lt j (i + 2)) [
+        | inl u ↦ still (pair-none m (4096 * (table / 4096) + 4 * i) (table / 4096) i j refl n t u)
+        | inr u ↦ still (rest j (omega (arith, even, u)) high)
+      ]
+    ]
+
+-- no page is kept of directory indices without tables
+pub dirs-none : (s : Shadow) (m : List ℕ) (first last : ℕ) → AreNone m s.kernel first last → AreNone m s.user first last
+    → (page : ℕ) → page < 2 ^ 20 → 1024 * first ≤ page → page < 1024 * last → slot_at s m page ≡ None
+unfolding dir
+dirs-none s m first last a b page l low high =
+    let from : first ≤ page / 1024 = omega (arith, low) in
+    let below : page / 1024 < last = omega (arith, high) in
+    dir-none s m (page / 1024) page (a (page / 1024) from below) (b (page / 1024) from below) refl
 
 -- the table that a directory word names lies in the memory
 pub table-lies : (m : List ℕ) (r index w : ℕ) → IsView m r → index < 1024 → w ≡ dir m r index → w ≢ 0 → 4096 * (w / 4096) + 4096 ≤ length m
