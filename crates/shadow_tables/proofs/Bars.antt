@@ -2,14 +2,13 @@
 use Rattle.std.proofs.Common.{◌≡◌, ◌≢◌, ℕ, zero, suc, ◌+◌, ◌-◌, ◌*◌, ◌/◌, ◌%◌, ◌^◌, ◌<◌, ◌≤◌, ◌⊎◌, List, [], ◌∷◌, length, Bool, true, false, ◌&&◌, ◌||◌, not, cond, eqb, Option, Some, None, refl, sym, ap, ◌∙◌, subst, inl, inr, lit≤, arith}
 use Rattle.std.proofs.lemmas.Bool.{cases_lt}
 use Rattle.std.proofs.lemmas.Bool.Decides.{eqb_tells}
-use Rattle.std.specs.Int.{w64, from_le_bytes}
-use Rattle.guest_ram.specs.Bytes.{part, byte, word32}
-use Rattle.guest_ram.proofs.Bytes.{word32-part, word32-is}
+use Rattle.guest_ram.specs.Bytes.{word32}
 use Rattle.frame_pool.specs.Held.{Holds, Writes}
 use Rattle.frame_pool.proofs.Held.{Writes-refl, Writes-trans, Holds-writes}
 use Rattle.shadow_views.specs.Tables.{dir, at, by_dir, owned, IsIn, IsView, Puts}
 use Rattle.shadow_views.proofs.Changes.{at-none}
 use Rattle.shadow_views.proofs.Counts.{by_dir-some}
+use Rattle.shadow_views.proofs.Nones.{IsNoneAt, AreNone, pair-none}
 use Rattle.shadow_tables.specs.Opened.{KeepsTables}
 use Rattle.shadow_tables.proofs.Asides.{and-true}
 use Rattle.shadow_tables.proofs.Tabled.{keeps-trans, puts-keep}
@@ -238,46 +237,6 @@ without s m frame page = barred (frame ∷ []) (slot_at s m page)
 
 -- ---- words that are 0
 
-zero-sum : (w a b c d : ℕ) → w ≡ a + b * 256 + c * 65536 + d * 16777216 → a ≡ 0 → b ≡ 0 → c ≡ 0 → d ≡ 0 → w ≡ 0
-zero-sum w a b c d e p q r s = omega (arith, e, p, q, r, s)
-
--- two words from this place on are 0
-abbrev pub IsNoneAt : List ℕ → ℕ → Type 0
-IsNoneAt m a = (k : ℕ) → k < 2 → word32 m (a + 4 * k) ≡ 0
-
--- so they are where their eight bytes make 0
-pub none-at : (m : List ℕ) (a : ℕ) → from_le_bytes w64 (part m a 8) ≡ 0 → IsNoneAt m a
-unfolding byte
-none-at m a e zero l =
-    let p : List ℕ = part m a 8 in
-    sym (word32-part m a 8 0 (lit≤ tt))
-    ∙ zero-sum (word32 p 0) _ _ _ _ (word32-is p 0) (omega (arith, e)) (omega (arith, e)) (omega (arith, e)) (omega (arith, e))
-none-at m a e (suc zero) l =
-    let p : List ℕ = part m a 8 in
-    sym (word32-part m a 8 4 (lit≤ tt))
-    ∙ zero-sum (word32 p 4) _ _ _ _ (word32-is p 4) (omega (arith, e)) (omega (arith, e)) (omega (arith, e)) (omega (arith, e))
-none-at m a e (suc (suc k)) l = absurd (omega (arith, l))
-
-pub is-zero : (n w : ℕ) → w ≡ n → eqb w 0 ≡ true → n ≡ 0
-is-zero n w e t = elim (eqb_tells w 0) [ inl u ↦ sym e ∙ u.1 | inr u ↦ absurd (let q : false ≡ true = sym u.0 ∙ t in cc) ]
-
-pair-none : (m : List ℕ) (a f i j : ℕ) → a ≡ 4096 * f + 4 * i → IsNoneAt m a → i ≤ j → j < i + 2 → word32 m (4096 * f + 4 * j) ≡ 0
-pair-none m a f i j s h low high =
-    let e : a + 4 * (j - i) ≡ 4096 * f + 4 * j = omega (arith, s, low) in
-    ap (word32 m) (sym e) ∙ h (j - i) (omega (arith, low, high))
-
--- words of a frame that are 0
-abbrev pub AreNone : List ℕ → ℕ → ℕ → ℕ → Type 0
-AreNone m f first last = (j : ℕ) → first ≤ j → j < last → word32 m (4096 * f + 4 * j) ≡ 0
-
--- and two more
-pub none-pairs : (m : List ℕ) (f first pair : ℕ) → IsNoneAt m (4096 * f + 8 * pair) → AreNone m f first (2 * pair) → AreNone m f first (2 * (pair + 1))
-none-pairs m f first pair n h j low high =
-    elim (cases_lt j (2 * pair)) [
-      | inl t ↦ h j low t
-      | inr t ↦ pair-none m (4096 * f + 8 * pair) f (2 * pair) j (omega arith) n t (omega (arith, high))
-    ]
-
 -- words of a table that give no right, up to here
 abbrev pub AreStill : List ℕ → ℕ → ℕ → ℕ → ℕ → Type 0
 AreStill m table frame first last = (j : ℕ) → first ≤ j → j < last → barred_word frame (by_dir m table j) ≡ by_dir m table j
@@ -297,9 +256,8 @@ still-pairs m table frame first i next ne even n rest h j low high =
     ]
 
 -- no page is kept of directory indices without tables
-pub dirs-none : (s : Shadow) (m : List ℕ) (first last : ℕ) → AreNone m s.kernel first last → AreNone m s.user first last
+pub dirs-none : (s : Shadow) (m : List ℕ) (first last : ℕ) → ((d : ℕ) → first ≤ d → d < last → dir m s.kernel d ≡ 0) → ((d : ℕ) → first ≤ d → d < last → dir m s.user d ≡ 0)
     → (page : ℕ) → page < 2 ^ 20 → 1024 * first ≤ page → page < 1024 * last → slot_at s m page ≡ None
-unfolding dir
 dirs-none s m first last a b page l low high =
     let from : first ≤ page / 1024 = omega (arith, low) in
     let below : page / 1024 < last = omega (arith, high) in

@@ -1,7 +1,6 @@
 //! Taking the right to write from all pages of a frame.
 
-ghost use Rattle.std.specs.Prelude.{◌≡◌, ◌≢◌, ℕ, ◌+◌, ◌*◌, ◌/◌, ◌≤◌, ◌<◌, ◌^◌, List, [], ◌∷◌, None, true, false, length};
-ghost use Rattle.guest_ram.specs.Bytes.{word32};
+ghost use Rattle.std.specs.Prelude.{◌≡◌, ◌≢◌, ℕ, ◌+◌, ◌*◌, ◌/◌, ◌≤◌, ◌<◌, ◌^◌, List, [], ◌∷◌, None, false, length};
 ghost use Rattle.frame_pool.specs.Held.{Holds, Writes};
 ghost use Rattle.shadow_views.specs.Tables.{at, by_dir, owned, IsIn, IsView, Puts};
 ghost use Rattle.shadow_tables.specs.Slots.{barred, barred_word, held, slot_at, IsShadow, Becomes, LosesWrites};
@@ -11,33 +10,7 @@ ghost use Rattle.shadow_tables.specs.Sweeps.{Sweeps};
 use crate::shadow::Shadow;
 use crate::words::Side;
 use guest_ram::{FRAME, Ram};
-use shadow_views::{dir, look, set, word_in};
-
-/// The two words from this place on are 0, as most words of a directory and of a table are.
-fn are_none(ram: &Ram, at: u32) -> bool
-    requires lies { at + 8 ≤ length ram.now }
-    ensures none { result ≡ true → (k : ℕ) → k < 2 → word32 ram.now (at + 4 * k) ≡ 0 }
-{
-    let p = ram.part(at, 8);
-    u64::from_le_bytes([p[0], p[1], p[2], p[3], p[4], p[5], p[6], p[7]]) == 0
-}
-
-/// The first pair of words of a frame, from this one on, that aren't both 0; 512 where there is none.
-fn next_pair(ram: &Ram, frame: u32, from: u32) -> u32
-    requires lies { 4096 * frame + 4096 ≤ length ram.now }
-    requires from { from ≤ 512 }
-    ensures behind { from ≤ result }
-    ensures within { result ≤ 512 }
-    ensures none { (i : ℕ) → 2 * from ≤ i → i < 2 * result → word32 ram.now (4096 * frame + 4 * i) ≡ 0 }
-{
-    let _bytes = ram.len();
-    for pair in from..512 {
-        if !are_none(ram, FRAME * frame + 8 * pair) {
-            return pair;
-        }
-    }
-    512
-}
+use shadow_views::{are_none, dir, look, next_dir, next_pair, set, word_in};
 
 /// The word gives the right to write to this frame.
 fn gives(word: u32, frame: u32) -> bool
@@ -138,8 +111,7 @@ impl Shadow {
     {
         let kernel = self.root(Side::Kernel);
         let user = self.root(Side::User);
-        let pair = next_pair(ram, kernel, from / 2).min(next_pair(ram, user, from / 2));
-        from.max(2 * pair)
+        next_dir(ram, kernel, from).min(next_dir(ram, user, from))
     }
 
     /// Takes the right to write from every page of this frame.

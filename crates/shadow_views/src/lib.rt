@@ -1,7 +1,8 @@
 //! Views of a guest's memory that a host walks: directories and tables in frames of a pool.
 #![tactic(auto)]
 
-ghost use Rattle.std.specs.Prelude.{◌≡◌, ◌≢◌, ℕ, ◌+◌, ◌*◌, ◌/◌, ◌^◌, ◌<◌, ◌≤◌, ◌↔◌, List, length, IsTrue};
+ghost use Rattle.std.specs.Prelude.{◌≡◌, ◌≢◌, ℕ, ◌+◌, ◌*◌, ◌/◌, ◌^◌, ◌<◌, ◌≤◌, ◌↔◌, List, length, true, IsTrue};
+ghost use Rattle.guest_ram.specs.Bytes.{word32};
 ghost use Rattle.frame_pool.specs.Pool.{free_list, Stands};
 ghost use Rattle.frame_pool.specs.Held.{Holds, Owns};
 ghost use Rattle.shadow_views.specs.Tables.{dir, at, by_dir, owned, IsIn, IsView, IsOwned, with_at, Puts, Opens, Grows, Closes, Shrinks, Empties};
@@ -31,6 +32,43 @@ pub fn word_in(ram: &Ram, table: u32, i: u32) -> u32
         return 0;
     }
     ram.read32(FRAME * (table / 4096) + 4 * i)
+}
+
+/// The two words from this place on are 0, as most words of a directory and of a table are.
+pub fn are_none(ram: &Ram, at: u32) -> bool
+    requires lies { at + 8 ≤ length ram.now }
+    ensures none { result ≡ true → (k : ℕ) → k < 2 → word32 ram.now (at + 4 * k) ≡ 0 }
+{
+    let p = ram.part(at, 8);
+    u64::from_le_bytes([p[0], p[1], p[2], p[3], p[4], p[5], p[6], p[7]]) == 0
+}
+
+/// The first pair of words of a frame, from this one on, that aren't both 0; 512 where there is none.
+pub fn next_pair(ram: &Ram, frame: u32, from: u32) -> u32
+    requires lies { 4096 * frame + 4096 ≤ length ram.now }
+    requires from { from ≤ 512 }
+    ensures behind { from ≤ result }
+    ensures within { result ≤ 512 }
+    ensures none { (i : ℕ) → 2 * from ≤ i → i < 2 * result → word32 ram.now (4096 * frame + 4 * i) ≡ 0 }
+{
+    let _bytes = ram.len();
+    for pair in from..512 {
+        if !are_none(ram, FRAME * frame + 8 * pair) {
+            return pair;
+        }
+    }
+    512
+}
+
+/// A directory word, this one or behind it, before which no other names a table; 1,024 where none does.
+pub fn next_dir(ram: &Ram, root: u32, from: u32) -> u32
+    requires view { IsView ram.now root }
+    requires from { from ≤ 1024 }
+    ensures behind { from ≤ result }
+    ensures within { result ≤ 1024 }
+    ensures none { (d : ℕ) → from ≤ d → d < result → dir ram.now root d ≡ 0 }
+{
+    from.max(2 * next_pair(ram, root, from / 2))
 }
 
 /// The word of a page, or 0 where there is no table.
@@ -122,7 +160,9 @@ pub fn empty(ram: &mut Ram, pool: &mut Pool, root: u32)
     ensures empties { (rs : List ℕ) → Owns pool.old ram.old (owned ram.old rs) → IsIn root rs →
         Empties pool.old pool.new ram.old ram.new rs root 1024 }
 {
-    for d in 0..1024 {
+    let mut d = next_dir(ram, root, 0);
+    while d < 1024 {
         close(ram, pool, root, d);
+        d = next_dir(ram, root, d + 1);
     }
 }

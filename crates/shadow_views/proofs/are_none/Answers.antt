@@ -1,8 +1,8 @@
 use Rattle.std.proofs.Common.{◌∙◌, ap}
 use Rattle.std.specs.Int.{w64, from_le_bytes}
 use Rattle.guest_ram.specs.Bytes.{part}
-use Rattle.shadow_tables.proofs.Bars.{is-zero, none-at}
-use Rattle.shadow_tables.proofs.barring.are_none.Goals as goal
+use Rattle.shadow_views.proofs.Nones.{is-zero, none-at}
+use Rattle.shadow_views.proofs.are_none.Goals as goal
 
 pub returns : goal.returns
 returns c =

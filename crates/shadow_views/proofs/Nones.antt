@@ -1,0 +1,77 @@
+-- Words that are 0, two by two.
+use Rattle.std.proofs.Common.{◌≡◌, ℕ, zero, suc, ◌+◌, ◌-◌, ◌*◌, ◌<◌, ◌≤◌, List, Bool, true, false, eqb, sym, ap, ◌∙◌, inl, inr, lit≤, arith}
+use Rattle.std.proofs.lemmas.Bool.{cases_lt}
+use Rattle.std.proofs.lemmas.Bool.Decides.{eqb_tells}
+use Rattle.std.specs.Int.{w64, from_le_bytes}
+use Rattle.guest_ram.specs.Bytes.{part, byte, word32}
+use Rattle.guest_ram.proofs.Bytes.{word32-part, word32-is}
+use Rattle.frame_pool.specs.declared.Pool.{Pool}
+use Rattle.frame_pool.specs.Held.{Owns}
+use Rattle.frame_pool.proofs.Held.{Owns-moves}
+use Rattle.shadow_views.specs.Tables.{dir, owned, IsIn, Closes, Empties}
+use Rattle.shadow_views.proofs.Changes.{empties-more}
+
+zero-sum : (w a b c d : ℕ) → w ≡ a + b * 256 + c * 65536 + d * 16777216 → a ≡ 0 → b ≡ 0 → c ≡ 0 → d ≡ 0 → w ≡ 0
+zero-sum w a b c d e p q r s = omega (arith, e, p, q, r, s)
+
+-- two words from this place on are 0
+abbrev pub IsNoneAt : List ℕ → ℕ → Type 0
+IsNoneAt m a = (k : ℕ) → k < 2 → word32 m (a + 4 * k) ≡ 0
+
+-- so they are where their eight bytes make 0
+pub none-at : (m : List ℕ) (a : ℕ) → from_le_bytes w64 (part m a 8) ≡ 0 → IsNoneAt m a
+unfolding byte
+none-at m a e zero l =
+    let p : List ℕ = part m a 8 in
+    sym (word32-part m a 8 0 (lit≤ tt))
+    ∙ zero-sum (word32 p 0) _ _ _ _ (word32-is p 0) (omega (arith, e)) (omega (arith, e)) (omega (arith, e)) (omega (arith, e))
+none-at m a e (suc zero) l =
+    let p : List ℕ = part m a 8 in
+    sym (word32-part m a 8 4 (lit≤ tt))
+    ∙ zero-sum (word32 p 4) _ _ _ _ (word32-is p 4) (omega (arith, e)) (omega (arith, e)) (omega (arith, e)) (omega (arith, e))
+none-at m a e (suc (suc k)) l = absurd (omega (arith, l))
+
+pub is-zero : (n w : ℕ) → w ≡ n → eqb w 0 ≡ true → n ≡ 0
+is-zero n w e t = elim (eqb_tells w 0) [ inl u ↦ sym e ∙ u.1 | inr u ↦ absurd (let q : false ≡ true = sym u.0 ∙ t in cc) ]
+
+pub pair-none : (m : List ℕ) (a f i j : ℕ) → a ≡ 4096 * f + 4 * i → IsNoneAt m a → i ≤ j → j < i + 2 → word32 m (4096 * f + 4 * j) ≡ 0
+pair-none m a f i j s h low high =
+    let e : a + 4 * (j - i) ≡ 4096 * f + 4 * j = omega (arith, s, low) in
+    ap (word32 m) (sym e) ∙ h (j - i) (omega (arith, low, high))
+
+-- words of a frame that are 0
+abbrev pub AreNone : List ℕ → ℕ → ℕ → ℕ → Type 0
+AreNone m f first last = (j : ℕ) → first ≤ j → j < last → word32 m (4096 * f + 4 * j) ≡ 0
+
+-- and two more
+pub none-pairs : (m : List ℕ) (f first pair : ℕ) → IsNoneAt m (4096 * f + 8 * pair) → AreNone m f first (2 * pair) → AreNone m f first (2 * (pair + 1))
+none-pairs m f first pair n h j low high =
+    elim (cases_lt j (2 * pair)) [
+      | inl t ↦ h j low t
+      | inr t ↦ pair-none m (4096 * f + 8 * pair) f (2 * pair) j (omega arith) n t (omega (arith, high))
+    ]
+
+
+-- so many directory words are
+abbrev pub NoDirs : List ℕ → ℕ → ℕ → ℕ → Type 0
+NoDirs m r first last = (d : ℕ) → first ≤ d → d < last → dir m r d ≡ 0
+
+pub none-dirs : (m : List ℕ) (r first last : ℕ) → AreNone m r first last → NoDirs m r first last
+unfolding dir
+none-dirs m r first last h d low high = h d low high
+
+-- a view that has given back the tables before them has given back theirs too
+pub empties-over : (p q : Pool) (m n rs : List ℕ) (r first last : ℕ) → Empties p q m n rs r first → NoDirs n r first last → Empties p q m n rs r last
+empties-over p q m n rs r first last e h =
+    record {
+      moves = e.moves;
+      gone = λ d l. elim (cases_lt d first) [ inl t ↦ e.gone d t | inr t ↦ h d t l ];
+      dirs = e.dirs;
+    }
+
+-- and once one more is closed, one more
+pub emptied-more : (p q t : Pool) (m n k : List ℕ) (r d : ℕ) → d < 1024 → ((rs : List ℕ) → Owns p m (owned m rs) → IsIn r rs → Empties p q m n rs r d)
+    → ((rs : List ℕ) → Owns q n (owned n rs) → IsIn r rs → Closes q t n k rs r d) → (rs : List ℕ) → Owns p m (owned m rs) → IsIn r rs → Empties p t m k rs r (d + 1)
+emptied-more p q t m n k r d l before closes rs o i =
+    let e = before rs o i in
+    empties-more p q t m n k rs r d l i e (closes rs (Owns-moves p q m n (owned m rs) (owned n rs) o e.moves) i)
