@@ -10,6 +10,9 @@ mod laws;
 use guest_ram::{FRAME, Ram};
 pub use laws::writes_elsewhere_keep_the_pool;
 
+/// The bytes of a frame that is taken.
+const ZEROS: [u8; FRAME as usize] = [0; FRAME as usize];
+
 /// A part of a memory's frames, some of them free. The free ones' links lie in the memory, so each call is handed the
 /// memory as the pool left it. Frames are numbered from the memory's beginning, and have 4,096 bytes.
 #[derive(Drop)]
@@ -72,7 +75,7 @@ impl Pool {
         let frame = self.head;
         self.head = ram.read32(FRAME * frame);
         self.free -= 1;
-        ram.put(FRAME * frame, &[0; FRAME as usize]);
+        ram.put(FRAME * frame, &ZEROS);
         Some(frame)
     }
 
