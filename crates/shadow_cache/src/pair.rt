@@ -79,7 +79,7 @@ impl Pair {
     pub fn renew(&mut self)
         ensures { self.new ≡ record self.old { tables = no_tables; stale = false } }
     {
-        self.tables = [false; FRAMES];
+        self.tables.fill(false);
         self.stale = false;
     }
 
