@@ -132,10 +132,10 @@ pub ranges_stay : RangesStay
 ranges_stay s at len access r = record {
   readable = λ other size h. record { fits = h.fits; found = λ byte low high. (uses_keep s at len access r).found (byte / 4096) (h.found byte low high) };
   writable = λ other size h.
-    let k = uses_keep s at len access r in
-    record {
-      fits = h.fits;
-      found = λ byte low high. k.found (byte / 4096) (h.found byte low high);
-      apart = λ byte low high. subst (λ (m : Mode). IsApart m (get (uses s at len access).1.set (byte / 4096))) (sym k.mode) (k.apart (byte / 4096) (h.apart byte low high));
-    };
+      let k = uses_keep s at len access r in
+      record {
+        fits = h.fits;
+        found = λ byte low high. k.found (byte / 4096) (h.found byte low high);
+        apart = λ byte low high. subst (λ (m : Mode). IsApart m (get (uses s at len access).1.set (byte / 4096))) (sym k.mode) (k.apart (byte / 4096) (h.apart byte low high));
+      };
 }

@@ -246,7 +246,7 @@ pub still-pairs : (m : List ℕ) (table frame first i next : ℕ) → table ≢ 
     → AreNone m (table / 4096) (2 * (i / 2 + 1)) (2 * next) → AreStill m table frame first i → AreStill m table frame first (2 * next)
 still-pairs m table frame first i next ne even n rest h j low high =
     let still : word32 m (4096 * (table / 4096) + 4 * j) ≡ 0 → barred_word frame (by_dir m table j) ≡ by_dir m table j =
-        λ e. let z : by_dir m table j ≡ 0 = by_dir-some m table j ne ∙ e in barred-zero frame (by_dir m table j) z ∙ sym z in
+    λ e. let z : by_dir m table j ≡ 0 = by_dir-some m table j ne ∙ e in barred-zero frame (by_dir m table j) z ∙ sym z in
     elim (cases_lt j i) [
       | inl t ↦ h j low t
       | inr t ↦ elim (cases_lt j (i + 2)) [

@@ -51,7 +51,6 @@ none-pairs m f first pair n h j low high =
       | inr t ↦ pair-none m (4096 * f + 8 * pair) f (2 * pair) j (omega arith) n t (omega (arith, high))
     ]
 
-
 -- so many directory words are
 abbrev pub NoDirs : List ℕ → ℕ → ℕ → ℕ → Type 0
 NoDirs m r first last = (d : ℕ) → first ≤ d → d < last → dir m r d ≡ 0
