@@ -126,7 +126,7 @@ puts-none m rs r page e =
 
 -- ---- one more table
 
-zero-sum : (w a b c d : ℕ) → w ≡ a + b * 256 + c * 65536 + d * 16777216 → a ≡ 0 → b ≡ 0 → c ≡ 0 → d ≡ 0 → w ≡ 0
+pub zero-sum : (w a b c d : ℕ) → w ≡ a + b * 256 + c * 65536 + d * 16777216 → a ≡ 0 → b ≡ 0 → c ≡ 0 → d ≡ 0 → w ≡ 0
 zero-sum w a b c d e p q r s = omega (arith, e, p, q, r, s)
 
 zero-word : (m : List ℕ) (f o : ℕ) → frame m f ≡ replicate 4096 0 → o + 4 ≤ 4096 → word32 m (4096 * f + o) ≡ 0

@@ -9,10 +9,7 @@ use Rattle.frame_pool.specs.declared.Pool.{Pool}
 use Rattle.frame_pool.specs.Held.{Owns}
 use Rattle.frame_pool.proofs.Held.{Owns-moves}
 use Rattle.shadow_views.specs.Tables.{dir, owned, IsIn, Closes, Empties}
-use Rattle.shadow_views.proofs.Changes.{empties-more}
-
-zero-sum : (w a b c d : ℕ) → w ≡ a + b * 256 + c * 65536 + d * 16777216 → a ≡ 0 → b ≡ 0 → c ≡ 0 → d ≡ 0 → w ≡ 0
-zero-sum w a b c d e p q r s = omega (arith, e, p, q, r, s)
+use Rattle.shadow_views.proofs.Changes.{empties-more, zero-sum}
 
 -- two words from this place on are 0
 abbrev pub IsNoneAt : List ℕ → ℕ → Type 0
