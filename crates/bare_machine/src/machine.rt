@@ -4,7 +4,7 @@ ghost use Rattle.std.specs.Prelude.{◌≡◌, ◌+◌, ◌*◌, ◌≤◌, ◌<
 ghost use Rattle.board.specs.Scripts.{is_script, Events};
 ghost use Rattle.image_check.specs.Image.{Image};
 ghost use Rattle.step_mem.specs.Changes.{AreWithin, changed};
-ghost use Rattle.step_mem.specs.Sound.{space_at};
+ghost use Rattle.step_mem.specs.Sound.{space};
 ghost use Rattle.machine_model.specs.State.{State};
 ghost use Rattle.machine_model.specs.Step.{stepped};
 ghost use Rattle.machine_step.specs.Worked.{ComesTo, IsDropped, answer_of};
@@ -90,11 +90,11 @@ fn tried<C: Cache>(
     ensures size { length ram.new ≡ length ram.old }
     ensures within { AreWithin frames (changed (C.entries kept.now.cache) state.new.changes) }
     ensures page { IfOk (answer_of result worked.new) (λ w. IsDropped w.dropped) }
-    ensures memory { (space_at (λ _. C.entries kept.now.cache) ram.new state.new).ram ≡ ram.new }
+    ensures memory { (space ⟦<Cached<C> as step_mem::Kept>⟧ kept.now ram.new state.new).ram ≡ ram.new }
     ensures comes { (image : Image) (script : Events) (b : State) → ComesTo
         (stepped (bare image script frames)
         (record b { cpu = worked.old.cpu; ram = ram.old; set = C.entries kept.now.cache; board = board.old }))
-        b (answer_of result worked.new) board.new (space_at (λ _. C.entries kept.now.cache) ram.new state.new) }
+        b (answer_of result worked.new) board.new (space ⟦<Cached<C> as step_mem::Kept>⟧ kept.now ram.new state.new) }
 {
     let _len = ram.len();
     let guard = Guard {

@@ -1,22 +1,16 @@
--- A step's memory over a keeper of translations, and where a step begins, by what the keeper shows.
+-- Where a step over a keeper of translations begins, by what the keeper shows.
 use Rattle.std.specs.Prelude.{ℕ, List, ◌==◌}
 use Rattle.descriptors.specs.declared.cpu.Cpu.{Cpu}
 use Rattle.paging.specs.Space.{Space}
 use Rattle.step_mem.specs.declared.guard.Guard.{Guard}
 use Rattle.step_mem.specs.declared.kept.Kept as kept
-use Rattle.step_mem.specs.declared.state.StepState.{StepState}
 use Rattle.step_mem.specs.Guard.{mode_of}
 use Rattle.step_mem.specs.Shown.{shown}
-use Rattle.step_mem.specs.Sound.{space_at}
 use Rattle.machine_model.specs.State.{Setting, State, space_at_start}
 use Rattle.machine_model.specs.Step as steps
 use Rattle.machine_model.specs.UsedPages.{Uses}
 
--- what a step's memory stands for
-abbrev pub space : {B : Type 0} → kept.Ghosts B → B → List ℕ → StepState → Space
-space g base ram state = space_at (g.entries base) ram state
-
--- the same before anything is used, by this processor's tables
+-- what a step's memory stands for before anything is used, by this processor's tables
 abbrev pub first_space : {B : Type 0} → kept.Ghosts B → B → List ℕ → Guard → ℕ → Cpu → Space
 first_space g base ram guard frames cpu = space_at_start (mode_of guard) frames cpu (shown guard frames ram) (g.entries base ram)
 

@@ -3,13 +3,13 @@
 ghost use Rattle.std.specs.Prelude.{◌≡◌, ◌+◌, ◌*◌, ◌==◌, ◌≤◌, Bool, false, None, Some, IfOk, OnOk};
 ghost use Rattle.paging.specs.Space.{Space};
 ghost use Rattle.step_mem.specs.Shown.{hidden};
-ghost use Rattle.step_mem.specs.Sound.{IsSoundOver, StaysIn};
+ghost use Rattle.step_mem.specs.Sound.{IsSoundOver, StaysIn, space};
 ghost use Rattle.board.specs.Boards.{vector as vector_of, acknowledged};
 ghost use Rattle.machine_model.specs.State.{Setting, State as Whole};
 ghost use Rattle.machine_model.specs.Step.{interrupted, interrupts_by, after_refusal, raised, code_of, stop_of};
 ghost use Rattle.machine_model.specs.Taken.{is_load};
 ghost use Rattle.machine_model.specs.UsedPages.{Uses, AtRefusal};
-ghost use Rattle.machine_step.specs.Over.{space, UsesBy};
+ghost use Rattle.machine_step.specs.Over.{UsesBy};
 ghost use Rattle.machine_step.specs.Roots.{RootsAs, EndsWith};
 ghost use Rattle.machine_step.specs.Ruled.{IsRuled};
 ghost use Rattle.machine_step.specs.Worked.{ComesTo, IsDropped, answer_of, completed_of, done_by};

@@ -2,12 +2,11 @@
 
 ghost use Rattle.std.specs.Prelude.{◌≡◌, ◌+◌, ◌≤◌, List, ℕ, true};
 ghost use Rattle.ia32_rows.specs.Spells.{Spells};
-ghost use Rattle.step_mem.specs.Sound.{IsSoundOver, StaysIn};
+ghost use Rattle.step_mem.specs.Sound.{IsSoundOver, StaysIn, space};
 ghost use Rattle.sys_exec.specs.Sys.{told, told_refusal};
 ghost use Rattle.sys_exec.specs.Asked.{IsAsked};
 ghost use Rattle.machine_model.specs.Instruction.{is_plain, instructed, done_plainly};
 ghost use Rattle.step_exec.specs.Plain.{executed};
-ghost use Rattle.machine_step.specs.Over.{space};
 ghost use Rattle.paging.specs.Space.{Space};
 
 use descriptors::Cpu;

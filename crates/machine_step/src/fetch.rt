@@ -8,10 +8,9 @@ ghost use Rattle.paging.specs.Work.{Gives};
 ghost use Rattle.step_mem.specs.Changes.{HasEntry};
 ghost use Rattle.step_mem.specs.Pages.{bytes_from};
 ghost use Rattle.step_mem.specs.Shown.{hidden};
-ghost use Rattle.step_mem.specs.Sound.{IsSoundOver, StaysIn, FetchesIn};
+ghost use Rattle.step_mem.specs.Sound.{IsSoundOver, StaysIn, FetchesIn, space};
 ghost use Rattle.machine_model.specs.Instruction.{fetching, fetched_on, fetched};
 ghost use Rattle.machine_model.specs.UsedPages.{Uses, AtRefusal};
-ghost use Rattle.machine_step.specs.Over.{space};
 ghost use Rattle.machine_step.specs.Fetches.{GivesAs};
 
 use arrayvec::ArrayVec;

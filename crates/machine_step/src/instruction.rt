@@ -3,14 +3,14 @@
 ghost use Rattle.std.specs.Prelude.{◌≡◌, ◌==◌, ◌≤◌, List, ℕ, IfOk, OnOk, OnErr, Ok, Some};
 ghost use Rattle.paging.specs.Space.{Space};
 ghost use Rattle.step_mem.specs.Shown.{hidden};
-ghost use Rattle.step_mem.specs.Sound.{IsSoundOver, StaysIn};
+ghost use Rattle.step_mem.specs.Sound.{IsSoundOver, StaysIn, space};
 ghost use Rattle.ia32_rows.specs.Spells.{Spells};
 ghost use Rattle.sys_exec.specs.Asked.{IsAsked};
 ghost use Rattle.machine_model.specs.State.{Setting, State as Whole};
 ghost use Rattle.machine_model.specs.Instruction.{instructed};
 ghost use Rattle.machine_model.specs.Step.{by_decoded, after_instruction, after_effect};
 ghost use Rattle.machine_step.specs.Begun.{AtEffect};
-ghost use Rattle.machine_step.specs.Over.{space, UsesBy};
+ghost use Rattle.machine_step.specs.Over.{UsesBy};
 ghost use Rattle.machine_step.specs.Roots.{RootsAs, EffectRoots};
 ghost use Rattle.machine_step.specs.Ruled.{IsRuled};
 ghost use Rattle.machine_step.specs.Worked.{ComesTo, IsDropped, answer_of, completed_of, done_by};

@@ -4,13 +4,13 @@ ghost use Rattle.std.specs.Prelude.{◌≡◌, ◌*◌, ◌≤◌, length, false
 ghost use Rattle.step_mem.specs.Changes.{AreWithin};
 ghost use Rattle.step_mem.specs.Guard.{IsLaid};
 ghost use Rattle.step_mem.specs.Shown.{hidden};
-ghost use Rattle.step_mem.specs.Sound.{IsSoundOver, FetchesIn, begun};
+ghost use Rattle.step_mem.specs.Sound.{IsSoundOver, FetchesIn, begun, space};
 ghost use Rattle.machine_model.specs.Rules.{stands_well};
 ghost use Rattle.machine_model.specs.State.{Setting, State as Whole};
 ghost use Rattle.machine_model.specs.Step.{stepped, interrupt_of};
 ghost use Rattle.machine_model.specs.Step as steps;
 ghost use Rattle.machine_step.specs.Begun.{control_of, taken_by};
-ghost use Rattle.machine_step.specs.Over.{space, first_space, under, begins_over, stepped_in, UsesBy};
+ghost use Rattle.machine_step.specs.Over.{first_space, under, begins_over, stepped_in, UsesBy};
 ghost use Rattle.machine_step.specs.Roots.{RootsAs};
 ghost use Rattle.machine_step.specs.Ruled.{IsRuled};
 ghost use Rattle.machine_step.specs.Worked.{ComesTo, IsDropped, answer_of};

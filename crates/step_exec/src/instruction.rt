@@ -6,7 +6,7 @@ ghost use Rattle.ia32_exec.specs.Effect.{effect, ranges_of};
 ghost use Rattle.ia32_exec.specs.Short.{IsShort};
 ghost use Rattle.paging.specs.Work.{Gives};
 ghost use Rattle.step_mem.specs.Shown.{hidden};
-ghost use Rattle.step_mem.specs.Sound.{IsSoundOver, StaysIn, space_at};
+ghost use Rattle.step_mem.specs.Sound.{IsSoundOver, StaysIn, space};
 ghost use Rattle.step_exec.specs.Plain.{executed, Does};
 ghost use Rattle.step_exec.specs.Divided.{both_reached, completed, divided, byte_of};
 ghost use Rattle.step_exec.specs.Ready.{AreMade};
@@ -36,8 +36,8 @@ pub fn plain<B: Kept>(
     requires sound { IsSoundOver B.Kept kept.now ram.old state.old }
     requires room { state.old.pages ≤ 60 }
     ensures sound { IsSoundOver B.Kept kept.now ram.new state.new }
-    ensures does { Does result cpu.new (space_at (B.entries kept.now) ram.new state.new)
-        (executed insn.now len cpu.old (space_at (B.entries kept.now) ram.old state.old)) }
+    ensures does { Does result cpu.new (space B.Kept kept.now ram.new state.new)
+        (executed insn.now len cpu.old (space B.Kept kept.now ram.old state.old)) }
     ensures refused { OnErr result (cpu.new ≡ cpu.old) }
     ensures pages { state.new.pages ≤ state.old.pages + 4 }
     ensures control { state.new.control ≡ state.old.control }
@@ -61,8 +61,8 @@ fn in_parts<B: Kept>(
     requires sound { IsSoundOver B.Kept kept.now ram.old state.old }
     requires room { state.old.pages ≤ 60 }
     ensures sound { IsSoundOver B.Kept kept.now ram.new state.new }
-    ensures does { Does result cpu.new (space_at (B.entries kept.now) ram.new state.new)
-        (divided insn.now len cpu.old (space_at (B.entries kept.now) ram.old state.old)) }
+    ensures does { Does result cpu.new (space B.Kept kept.now ram.new state.new)
+        (divided insn.now len cpu.old (space B.Kept kept.now ram.old state.old)) }
     ensures refused { OnErr result (cpu.new ≡ cpu.old) }
     ensures pages { state.new.pages ≤ state.old.pages + 4 }
     ensures stays { StaysIn state.old state.new ram.old ram.new }
@@ -84,8 +84,8 @@ pub fn reach_both<B: Kept>(
     requires sound { IsSoundOver B.Kept kept.now ram.old state.old }
     requires room { state.old.pages ≤ 60 }
     ensures sound { IsSoundOver B.Kept kept.now ram.new state.new }
-    ensures gives { Gives result (space_at (B.entries kept.now) ram.new state.new)
-        (both_reached cpu.now (ranges_of insn.now cpu.now.regs) (space_at (B.entries kept.now) ram.old state.old)) }
+    ensures gives { Gives result (space B.Kept kept.now ram.new state.new)
+        (both_reached cpu.now (ranges_of insn.now cpu.now.regs) (space B.Kept kept.now ram.old state.old)) }
     ensures made { OnOk result (AreMade (ranges_of insn.now cpu.now.regs) state.new) }
     ensures pages { state.new.pages ≤ state.old.pages + 4 }
     ensures control { state.new.control ≡ state.old.control }
@@ -109,8 +109,8 @@ fn reach_in<B: Kept>(
     requires sound { IsSoundOver B.Kept kept.now ram.old state.old }
     requires room { state.old.pages ≤ 60 }
     ensures sound { IsSoundOver B.Kept kept.now ram.new state.new }
-    ensures gives { Gives result (space_at (B.entries kept.now) ram.new state.new)
-        (both_reached cpu.now ranges.now (space_at (B.entries kept.now) ram.old state.old)) }
+    ensures gives { Gives result (space B.Kept kept.now ram.new state.new)
+        (both_reached cpu.now ranges.now (space B.Kept kept.now ram.old state.old)) }
     ensures made { OnOk result (AreMade ranges.now state.new) }
     ensures pages { state.new.pages ≤ state.old.pages + 4 }
     ensures stays { StaysIn state.old state.new ram.old ram.new }
@@ -142,8 +142,8 @@ fn complete_in<B: Kept>(
     requires sound { IsSoundOver B.Kept kept.now ram.old state.now }
     requires made { AreMade (ranges_of insn.now cpu.old.regs) state.now }
     ensures sound { IsSoundOver B.Kept kept.now ram.new state.now }
-    ensures does { Does result cpu.new (space_at (B.entries kept.now) ram.new state.now)
-        (completed insn.now len cpu.old (space_at (B.entries kept.now) ram.old state.now)) }
+    ensures does { Does result cpu.new (space B.Kept kept.now ram.new state.now)
+        (completed insn.now len cpu.old (space B.Kept kept.now ram.old state.now)) }
     ensures refused { OnErr result (cpu.new ≡ cpu.old) }
     ensures hidden { hidden state.now.guard state.now.control.frames ram.new ≡ hidden state.now.guard state.now.control.frames ram.old }
 {
@@ -173,7 +173,7 @@ fn outcome<B: Kept>(
     requires sound { IsSoundOver B.Kept kept.now ram.now state.now }
     requires made { AreMade (ranges_of insn.now cpu.now.regs) state.now }
     ensures { result ≡ effect insn.now len cpu.now.regs
-        (byte_of (ranges_of insn.now cpu.now.regs) (space_at (B.entries kept.now) ram.now state.now)) }
+        (byte_of (ranges_of insn.now cpu.now.regs) (space B.Kept kept.now ram.now state.now)) }
 {
     let view = View {
         ram,

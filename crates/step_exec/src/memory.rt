@@ -3,7 +3,7 @@
 ghost use Rattle.std.proofs.Props.{props};
 ghost use Rattle.std.specs.Prelude.{◌≡◌};
 ghost use Rattle.step_mem.specs.Shown.{hidden};
-ghost use Rattle.step_mem.specs.Sound.{IsSoundOver, space_at};
+ghost use Rattle.step_mem.specs.Sound.{IsSoundOver, space};
 
 use guest_ram::Ram;
 use ia32_types::Size;
@@ -23,7 +23,7 @@ impl<'a, 'g, B: Kept> StepMem<'a, 'g, B> {
     /// This state is the step's so far.
     pub fn over(ram: &'a mut Ram, kept: &'a B, state: &StepState<'g>) -> StepMem<'a, 'g, B>
         requires { IsSoundOver B.Kept kept.now ram.old state.now }
-        ensures space { ⟦<StepMem<'a, 'g, B> as GuestMem>⟧.space result ≡ space_at (B.entries kept.now) ram.old state.now }
+        ensures space { ⟦<StepMem<'a, 'g, B> as GuestMem>⟧.space result ≡ space B.Kept kept.now ram.old state.now }
         ensures same_memory { result.ram.ghost_name ≡ ram.entry.ghost_name }
         ensures memory { result.ram.now ≡ ram.old }
         ensures kept { result.kept.now ≡ kept.now }
@@ -46,7 +46,7 @@ impl<'a, 'g, B: Kept> StepMem<'a, 'g, B> {
 }
 
 impl<'a, 'g, B: Kept> GuestMem for StepMem<'a, 'g, B> {
-    ghost space = { λ m. space_at (B.entries m.kept.now) m.ram.now m.state };
+    ghost space = { λ m. space B.Kept m.kept.now m.ram.now m.state };
 
     /// The name of the reference to memory, the keeper, the registers that govern a walk, whose rules hold, and
     /// what the step doesn't reach.

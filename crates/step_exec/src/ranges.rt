@@ -2,7 +2,7 @@
 
 ghost use Rattle.std.specs.Prelude.{◌≡◌, ◌+◌, ◌≤◌, OnOk, Option};
 ghost use Rattle.paging.specs.Work.{Gives};
-ghost use Rattle.step_mem.specs.Sound.{IsSoundOver, StaysIn, space_at};
+ghost use Rattle.step_mem.specs.Sound.{IsSoundOver, StaysIn, space};
 ghost use Rattle.ia32_exec.specs.Short.{IsShort};
 ghost use Rattle.step_exec.specs.Plain.{reached, is_null, is_denied, is_refused};
 ghost use Rattle.step_exec.specs.Ready.{IsLast, IsReady, IsReadMade};
@@ -53,8 +53,8 @@ pub fn reach<B: Kept>(
     requires room { state.old.pages ≤ 62 }
     requires short { IsShort range }
     ensures sound { IsSoundOver B.Kept kept.now ram.new state.new }
-    ensures gives { Gives result (space_at (B.entries kept.now) ram.new state.new)
-        (reached cpu.now write range (space_at (B.entries kept.now) ram.old state.old)) }
+    ensures gives { Gives result (space B.Kept kept.now ram.new state.new)
+        (reached cpu.now write range (space B.Kept kept.now ram.old state.old)) }
     ensures last { OnOk result (IsLast range write state.new) }
     ensures before { (other : Option Bytes) → IsReady other state.old → OnOk result (IsReadMade other range state.new) }
     ensures pages { state.new.pages ≤ state.old.pages + 2 }

@@ -5,7 +5,7 @@ ghost use Rattle.ia32_exec.specs.Ranges.{AreAll};
 ghost use Rattle.ia32_exec.specs.Commit.{list_of, longs_to};
 ghost use Rattle.ia32_exec.specs.Outcomes.{AreStored};
 ghost use Rattle.step_mem.specs.Shown.{hidden};
-ghost use Rattle.step_mem.specs.Sound.{IsSoundOver, space_at};
+ghost use Rattle.step_mem.specs.Sound.{IsSoundOver, space};
 ghost use Rattle.step_exec.specs.Plain.{stored_all};
 ghost use Rattle.step_exec.specs.Ready.{IsOpenTo};
 
@@ -19,8 +19,8 @@ fn store_one<B: Kept>(ram: &mut Ram, kept: &B, state: &StepState, store: Store)
     requires open_to { AreStored (IsOpenTo state.now.ready.start state.now.ready.len state.now.ready.write) (Stores.One store) }
     ensures sound { IsSoundOver B.Kept kept.now ram.new state.now }
     ensures hidden { hidden state.now.guard state.now.control.frames ram.new ≡ hidden state.now.guard state.now.control.frames ram.old }
-    ensures stored { space_at (B.entries kept.now) ram.new state.now
-        ≡ stored_all (space_at (B.entries kept.now) ram.old state.now) (list_of (Stores.One store)) }
+    ensures stored { space B.Kept kept.now ram.new state.now
+        ≡ stored_all (space B.Kept kept.now ram.old state.now) (list_of (Stores.One store)) }
 {
     step_mem::save(ram, kept, state, store.at, store.size, store.value);
 }
@@ -30,8 +30,8 @@ fn store_eight<B: Kept>(ram: &mut Ram, kept: &B, state: &StepState, at: u32, val
     requires open_to { AreAll (IsOpenTo state.now.ready.start state.now.ready.len state.now.ready.write) at 32 }
     ensures sound { IsSoundOver B.Kept kept.now ram.new state.now }
     ensures hidden { hidden state.now.guard state.now.control.frames ram.new ≡ hidden state.now.guard state.now.control.frames ram.old }
-    ensures stored { space_at (B.entries kept.now) ram.new state.now
-        ≡ stored_all (space_at (B.entries kept.now) ram.old state.now) (longs_to 8 at values) }
+    ensures stored { space B.Kept kept.now ram.new state.now
+        ≡ stored_all (space B.Kept kept.now ram.old state.now) (longs_to 8 at values) }
 {
     for k in 0..8u32 {
         step_mem::save(ram, kept, state, at + 4 * k, Size::Long, values[k as usize]);
@@ -44,8 +44,8 @@ pub fn store_all<B: Kept>(ram: &mut Ram, kept: &B, state: &StepState, stores: &S
     requires open_to { AreStored (IsOpenTo state.now.ready.start state.now.ready.len state.now.ready.write) stores.now }
     ensures sound { IsSoundOver B.Kept kept.now ram.new state.now }
     ensures hidden { hidden state.now.guard state.now.control.frames ram.new ≡ hidden state.now.guard state.now.control.frames ram.old }
-    ensures stored { space_at (B.entries kept.now) ram.new state.now
-        ≡ stored_all (space_at (B.entries kept.now) ram.old state.now) (list_of stores.now) }
+    ensures stored { space B.Kept kept.now ram.new state.now
+        ≡ stored_all (space B.Kept kept.now ram.old state.now) (list_of stores.now) }
 {
     match *stores {
         Stores::Nothing => {}

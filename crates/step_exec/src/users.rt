@@ -4,7 +4,7 @@ ghost use Rattle.std.specs.Prelude.{◌≡◌};
 ghost use Rattle.ia32_types.specs.Shape.{IsShaped};
 ghost use Rattle.ia32_exec.specs.Effect.{ranges_of};
 ghost use Rattle.ia32_exec.specs.UserEffect.{user_effect, IsUserDone};
-ghost use Rattle.step_mem.specs.Sound.{IsSoundOver, space_at};
+ghost use Rattle.step_mem.specs.Sound.{IsSoundOver, space};
 ghost use Rattle.step_exec.specs.Divided.{byte_of};
 ghost use Rattle.step_exec.specs.Ready.{AreMade};
 ghost use Rattle.step_exec.specs.Users.{selectors_of};
@@ -41,7 +41,7 @@ pub fn user_outcome<B: Kept>(
     requires sound { IsSoundOver B.Kept kept.now ram.now state.now }
     requires made { AreMade (ranges_of insn.now cpu.now.regs) state.now }
     ensures { result ≡ user_effect (selectors_of cpu.now) insn.now len cpu.now.regs
-        (byte_of (ranges_of insn.now cpu.now.regs) (space_at (B.entries kept.now) ram.now state.now)) }
+        (byte_of (ranges_of insn.now cpu.now.regs) (space B.Kept kept.now ram.now state.now)) }
 {
     let view = View {
         ram,

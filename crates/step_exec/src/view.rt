@@ -27,11 +27,11 @@ fn is_in(range: Option<Range>, at: u32) -> bool
 }
 
 impl<B: Kept> LinearBytes for View<'_, B> {
-    ghost use Rattle.step_mem.specs.Sound.{IsSoundOver, space_at};
+    ghost use Rattle.step_mem.specs.Sound.{IsSoundOver, space};
     ghost use Rattle.step_exec.specs.Divided.{byte_of};
     ghost use Rattle.step_exec.specs.Ready.{IsOpen};
 
-    ghost byte = { λ m at. byte_of m.ranges (space_at (B.entries m.kept.now) m.ram.now m.state.now) at };
+    ghost byte = { λ m at. byte_of m.ranges (space B.Kept m.kept.now m.ram.now m.state.now) at };
 
     ghost readable = { λ m at. IsSoundOver B.Kept m.kept.now m.ram.now m.state.now × IsOpen m.ranges m.state.now at };
 

@@ -2,7 +2,7 @@
 
 ghost use Rattle.std.specs.Prelude.{◌≡◌, ◌+◌, ◌≤◌, OnErr};
 ghost use Rattle.step_mem.specs.Shown.{hidden};
-ghost use Rattle.step_mem.specs.Sound.{IsSoundOver, space_at};
+ghost use Rattle.step_mem.specs.Sound.{IsSoundOver, space};
 ghost use Rattle.sys_exec.specs.Asked.{IsAsked};
 ghost use Rattle.sys_exec.specs.Sys.{sys_work, told};
 ghost use Rattle.event_entry.specs.Deliver.{delivered, Delivers};
@@ -28,8 +28,8 @@ pub fn sys_in<'g, B: Kept>(
     requires sound { IsSoundOver B.Kept kept.now ram.old state.old }
     requires pages { state.old.pages ≤ 48 }
     ensures sound { IsSoundOver B.Kept kept.now ram.new state.new }
-    ensures does { told cpu.old (sys_work insn.now len cpu.old (space_at (B.entries kept.now) ram.old state.old))
-        ≡ (result, cpu.new, space_at (B.entries kept.now) ram.new state.new) }
+    ensures does { told cpu.old (sys_work insn.now len cpu.old (space B.Kept kept.now ram.old state.old))
+        ≡ (result, cpu.new, space B.Kept kept.now ram.new state.new) }
     ensures asked { IsAsked result }
     ensures pages { state.new.pages ≤ state.old.pages + 16 }
     ensures control { state.new.control ≡ state.old.control }
@@ -56,8 +56,8 @@ pub fn deliver_in<'g, B: Kept>(
     requires sound { IsSoundOver B.Kept kept.now ram.old state.old }
     requires pages { state.old.pages ≤ 48 }
     ensures sound { IsSoundOver B.Kept kept.now ram.new state.new }
-    ensures delivers { Delivers result cpu.new (space_at (B.entries kept.now) ram.new state.new)
-        (delivered cpu.old vector kind code (space_at (B.entries kept.now) ram.old state.old)) }
+    ensures delivers { Delivers result cpu.new (space B.Kept kept.now ram.new state.new)
+        (delivered cpu.old vector kind code (space B.Kept kept.now ram.old state.old)) }
     ensures refused { OnErr result (cpu.new ≡ cpu.old) }
     ensures pages { state.new.pages ≤ state.old.pages + 16 }
     ensures control { state.new.control ≡ state.old.control }

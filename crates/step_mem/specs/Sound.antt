@@ -58,7 +58,10 @@ pub record IsSound (kept : List ℕ → FinMap nat_cmp Entry) (floor : ℕ) (sta
   pub earlier_within : AreWithin state.control.frames (changed (kept ram) (take state.earlier.count state.changes))
   pub earlier_reached : HaveEntries (changed (kept ram) (take state.earlier.count state.changes)) state.earlier.start state.earlier.len
 
--- the same over a keeper of translations, by what it shows
+-- what they stand for over a keeper of translations, and what holds of them, by what it shows
+abbrev pub space : {B : Type 0} → kept.Ghosts B → B → List ℕ → StepState → Space
+space g base ram state = space_at (g.entries base) ram state
+
 abbrev pub IsSoundOver : {B : Type 0} → kept.Ghosts B → B → List ℕ → StepState → Type 0
 IsSoundOver g base ram state = IsSound (g.entries base) (g.floor base) (g.stands base) ram state
 

@@ -12,7 +12,7 @@ ghost use Rattle.step_mem.specs.Guard.{mode_of, IsLaid, IsApartAt};
 ghost use Rattle.step_mem.specs.Pages.{bytes_from};
 ghost use Rattle.step_mem.specs.Shown.{shown, hidden};
 ghost use Rattle.step_mem.specs.Space.{Rest, space_of};
-ghost use Rattle.step_mem.specs.Sound.{IsSoundOver, space_at};
+ghost use Rattle.step_mem.specs.Sound.{IsSoundOver, space};
 
 use crate::changes::Change;
 use crate::guard::Guard;
@@ -33,9 +33,9 @@ pub fn bytes<'a, B: Kept>(
     len: u32,
 ) -> Bytes<'a>
     requires sound { IsSoundOver B.Kept base.now ram.now state.now }
-    requires found { HasEntry (space_at (B.entries base.now) ram.now state.now).set at }
+    requires found { HasEntry (space B.Kept base.now ram.now state.now).set at }
     requires one { at % 4096 + len ≤ 4096 }
-    ensures bytes { result.text.now ++ result.ram.now ≡ bytes_from (space_at (B.entries base.now) ram.now state.now) at len }
+    ensures bytes { result.text.now ++ result.ram.now ≡ bytes_from (space B.Kept base.now ram.now state.now) at len }
     ensures len { length result.text.now + length result.ram.now ≡ len }
 {
     part(
@@ -77,11 +77,11 @@ fn place_in<B: Kept>(
 #[tactic(auto, unfolding(paging::specs::Space::place))]
 pub fn place<B: Kept>(ram: &Ram, base: &B, state: &StepState, at: u32) -> u32
     requires sound { IsSoundOver B.Kept base.now ram.now state.now }
-    requires found { HasEntry (space_at (B.entries base.now) ram.now state.now).set at }
-    ensures place { result ≡ place (space_at (B.entries base.now) ram.now state.now) at }
+    requires found { HasEntry (space B.Kept base.now ram.now state.now).set at }
+    ensures place { result ≡ place (space B.Kept base.now ram.now state.now) at }
     ensures offset { result % 4096 ≡ at % 4096 }
     ensures within { result < 4096 * state.now.control.frames }
-    ensures apart { IsApartAt (mode_of state.now.guard) (space_at (B.entries base.now) ram.now state.now).set at
+    ensures apart { IsApartAt (mode_of state.now.guard) (space B.Kept base.now ram.now state.now).set at
         → is_text (mode_of state.now.guard) (result / 4096) ≡ false }
 {
     place_in(
@@ -178,8 +178,8 @@ fn long_in_page<B: Kept>(
 /// Reads where each byte's page has an entry, as where this step's touches were ready.
 pub fn load<B: Kept>(ram: &Ram, base: &B, state: &StepState, at: u32, size: Size) -> u32
     requires sound { IsSoundOver B.Kept base.now ram.now state.now }
-    requires ready { IsReadable (space_at (B.entries base.now) ram.now state.now) at (size_in_bytes size) }
-    ensures value { result ≡ loaded (space_at (B.entries base.now) ram.now state.now) at size }
+    requires ready { IsReadable (space B.Kept base.now ram.now state.now) at (size_in_bytes size) }
+    ensures value { result ≡ loaded (space B.Kept base.now ram.now state.now) at size }
     ensures fits { FitsSize size result }
 {
     number(
@@ -196,8 +196,8 @@ pub fn load<B: Kept>(ram: &Ram, base: &B, state: &StepState, at: u32, size: Size
 /// Reads where the touch before the last was ready, at the places that its range had then.
 pub fn load_earlier<B: Kept>(ram: &Ram, base: &B, state: &StepState, at: u32, size: Size) -> u32
     requires sound { IsSoundOver B.Kept base.now ram.now state.now }
-    requires ready { IsReadyEarlier (space_at (B.entries base.now) ram.now state.now) at size }
-    ensures value { result ≡ loaded_earlier (space_at (B.entries base.now) ram.now state.now) at size }
+    requires ready { IsReadyEarlier (space B.Kept base.now ram.now state.now) at size }
+    ensures value { result ≡ loaded_earlier (space B.Kept base.now ram.now state.now) at size }
     ensures fits { FitsSize size result }
 {
     let changes = &state.changes.as_slice()[..state.earlier.count];
@@ -215,12 +215,12 @@ pub fn load_earlier<B: Kept>(ram: &Ram, base: &B, state: &StepState, at: u32, si
 /// Writes a byte of the guest's.
 fn put_byte<B: Kept>(ram: &mut Ram, base: &B, state: &StepState, at: u32, v: u8)
     requires sound { IsSoundOver B.Kept base.now ram.old state.now }
-    requires found { HasEntry (space_at (B.entries base.now) ram.old state.now).set at }
-    requires apart { IsApartAt (mode_of state.now.guard) (space_at (B.entries base.now) ram.old state.now).set at }
+    requires found { HasEntry (space B.Kept base.now ram.old state.now).set at }
+    requires apart { IsApartAt (mode_of state.now.guard) (space B.Kept base.now ram.old state.now).set at }
     ensures sound { IsSoundOver B.Kept base.now ram.new state.now }
     ensures hidden { hidden state.now.guard state.now.control.frames ram.new ≡ hidden state.now.guard state.now.control.frames ram.old }
-    ensures after { space_at (B.entries base.now) ram.new state.now ≡ with_ram (space_at (B.entries base.now) ram.old state.now)
-        (with_byte (space_at (B.entries base.now) ram.old state.now) (space_at (B.entries base.now) ram.old state.now).ram at v) }
+    ensures after { space B.Kept base.now ram.new state.now ≡ with_ram (space B.Kept base.now ram.old state.now)
+        (with_byte (space B.Kept base.now ram.old state.now) (space B.Kept base.now ram.old state.now).ram at v) }
 {
     let physical = place(ram, base, state, at);
     put_at(ram, base, state, at, physical, v);
@@ -230,13 +230,13 @@ fn put_byte<B: Kept>(ram: &mut Ram, base: &B, state: &StepState, at: u32, v: u8)
 #[tactic(auto, unfolding(paging::specs::Space::with_byte))]
 fn put_at<B: Kept>(ram: &mut Ram, base: &B, state: &StepState, at: u32, physical: u32, v: u8)
     requires sound { IsSoundOver B.Kept base.now ram.old state.now }
-    requires place { physical ≡ place (space_at (B.entries base.now) ram.old state.now) at }
+    requires place { physical ≡ place (space B.Kept base.now ram.old state.now) at }
     requires within { physical < 4096 * state.now.control.frames }
     requires no_text { is_text (mode_of state.now.guard) (physical / 4096) ≡ false }
     ensures sound { IsSoundOver B.Kept base.now ram.new state.now }
     ensures hidden { hidden state.now.guard state.now.control.frames ram.new ≡ hidden state.now.guard state.now.control.frames ram.old }
-    ensures after { space_at (B.entries base.now) ram.new state.now ≡ with_ram (space_at (B.entries base.now) ram.old state.now)
-        (with_byte (space_at (B.entries base.now) ram.old state.now) (space_at (B.entries base.now) ram.old state.now).ram at v) }
+    ensures after { space B.Kept base.now ram.new state.now ≡ with_ram (space B.Kept base.now ram.old state.now)
+        (with_byte (space B.Kept base.now ram.old state.now) (space B.Kept base.now ram.old state.now).ram at v) }
 {
     store(ram, base, &state.guard, state.control.frames, physical, v);
 }
@@ -262,13 +262,13 @@ fn store<B: Kept>(ram: &mut Ram, base: &B, guard: &Guard, frames: u32, place: u3
 #[tactic(auto, unfolding(paging::specs::Space::written, paging::specs::Space::with_byte, paging::specs::Space::place))]
 fn save_in_page<B: Kept>(ram: &mut Ram, base: &B, state: &StepState, at: u32, value: u32)
     requires sound { IsSoundOver B.Kept base.now ram.old state.now }
-    requires found { HasEntry (space_at (B.entries base.now) ram.old state.now).set at }
-    requires apart { IsApartAt (mode_of state.now.guard) (space_at (B.entries base.now) ram.old state.now).set at }
+    requires found { HasEntry (space B.Kept base.now ram.old state.now).set at }
+    requires apart { IsApartAt (mode_of state.now.guard) (space B.Kept base.now ram.old state.now).set at }
     requires one { at % 4096 ≤ 4092 }
     ensures sound { IsSoundOver B.Kept base.now ram.new state.now }
     ensures hidden { hidden state.now.guard state.now.control.frames ram.new ≡ hidden state.now.guard state.now.control.frames ram.old }
-    ensures saved { space_at (B.entries base.now) ram.new state.now
-        ≡ saved (space_at (B.entries base.now) ram.old state.now) at Size.Long value }
+    ensures saved { space B.Kept base.now ram.new state.now
+        ≡ saved (space B.Kept base.now ram.old state.now) at Size.Long value }
 {
     let physical = place(ram, base, state, at);
     put_at(ram, base, state, at, physical, (value % 256) as u8);
@@ -302,11 +302,11 @@ fn save_in_page<B: Kept>(ram: &mut Ram, base: &B, state: &StepState, at: u32, va
 #[tactic(auto, unfolding(paging::specs::Space::written, paging::specs::Space::with_byte, paging::specs::Space::place))]
 pub fn save<B: Kept>(ram: &mut Ram, base: &B, state: &StepState, at: u32, size: Size, value: u32)
     requires sound { IsSoundOver B.Kept base.now ram.old state.now }
-    requires ready { IsWritable (space_at (B.entries base.now) ram.old state.now) at (size_in_bytes size) }
+    requires ready { IsWritable (space B.Kept base.now ram.old state.now) at (size_in_bytes size) }
     ensures sound { IsSoundOver B.Kept base.now ram.new state.now }
     ensures hidden { hidden state.now.guard state.now.control.frames ram.new ≡ hidden state.now.guard state.now.control.frames ram.old }
-    ensures saved { space_at (B.entries base.now) ram.new state.now
-        ≡ saved (space_at (B.entries base.now) ram.old state.now) at size value }
+    ensures saved { space B.Kept base.now ram.new state.now
+        ≡ saved (space B.Kept base.now ram.old state.now) at size value }
 {
     match size {
         Size::Byte => put_byte(ram, base, state, at, (value % 256) as u8),

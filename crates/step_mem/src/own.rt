@@ -5,7 +5,7 @@ ghost use Rattle.paging.specs.Space.{place};
 ghost use Rattle.paging.specs.Uses.{with_front, with_back};
 ghost use Rattle.step_mem.specs.Guard.{mode_of};
 ghost use Rattle.step_mem.specs.Changes.{HasEntry};
-ghost use Rattle.step_mem.specs.Sound.{IsSoundOver, space_at};
+ghost use Rattle.step_mem.specs.Sound.{IsSoundOver, space};
 
 use crate::access::place;
 use crate::guard::Own;
@@ -16,10 +16,10 @@ use guest_ram::Ram;
 /// The bytes at an address are those of this step's instruction in its first page, and so far its only ones.
 pub fn own_front<B: Kept>(ram: &Ram, base: &B, state: &mut StepState, at: u32, len: u32)
     requires sound { IsSoundOver B.Kept base.now ram.now state.old }
-    requires found { HasEntry (space_at (B.entries base.now) ram.now state.old).set at }
+    requires found { HasEntry (space B.Kept base.now ram.now state.old).set at }
     ensures sound { IsSoundOver B.Kept base.now ram.now state.new }
-    ensures owns { space_at (B.entries base.now) ram.now state.new ≡ record (space_at (B.entries base.now) ram.now state.old) {
-      mode = with_front (mode_of state.old.guard) (place (space_at (B.entries base.now) ram.now state.old) at) len;
+    ensures owns { space B.Kept base.now ram.now state.new ≡ record (space B.Kept base.now ram.now state.old) {
+      mode = with_front (mode_of state.old.guard) (place (space B.Kept base.now ram.now state.old) at) len;
     } }
     ensures pages { state.new.pages ≡ state.old.pages }
     ensures control { state.new.control ≡ state.old.control }
@@ -41,10 +41,10 @@ pub fn own_front<B: Kept>(ram: &Ram, base: &B, state: &mut StepState, at: u32, l
 /// The bytes at an address are those of this step's instruction in its second page.
 pub fn own_back<B: Kept>(ram: &Ram, base: &B, state: &mut StepState, at: u32, len: u32)
     requires sound { IsSoundOver B.Kept base.now ram.now state.old }
-    requires found { HasEntry (space_at (B.entries base.now) ram.now state.old).set at }
+    requires found { HasEntry (space B.Kept base.now ram.now state.old).set at }
     ensures sound { IsSoundOver B.Kept base.now ram.now state.new }
-    ensures owns { space_at (B.entries base.now) ram.now state.new ≡ record (space_at (B.entries base.now) ram.now state.old) {
-      mode = with_back (mode_of state.old.guard) (place (space_at (B.entries base.now) ram.now state.old) at) len;
+    ensures owns { space B.Kept base.now ram.now state.new ≡ record (space B.Kept base.now ram.now state.old) {
+      mode = with_back (mode_of state.old.guard) (place (space B.Kept base.now ram.now state.old) at) len;
     } }
     ensures pages { state.new.pages ≡ state.old.pages }
     ensures control { state.new.control ≡ state.old.control }

@@ -9,7 +9,7 @@ ghost use Rattle.step_mem.specs.Changes.{changed, HasEntry, HaveEntries};
 ghost use Rattle.step_mem.specs.Guard.{mode_of, IsApart, IsApartAt, AreApart};
 ghost use Rattle.step_mem.specs.Pages.{IsShortRange, KeepsReady};
 ghost use Rattle.step_mem.specs.Shown.{hidden};
-ghost use Rattle.step_mem.specs.Sound.{IsSoundOver, StaysIn, space_at};
+ghost use Rattle.step_mem.specs.Sound.{IsSoundOver, StaysIn, space};
 
 use crate::changes::Changes;
 use crate::guard::window_stop;
@@ -24,7 +24,7 @@ use paging::{Access, Touch};
 fn begin<B: Kept>(ram: &Ram, base: &B, state: &mut StepState)
     requires { IsSoundOver B.Kept base.now ram.now state.old }
     ensures sound { IsSoundOver B.Kept base.now ram.now state.new }
-    ensures space { space_at (B.entries base.now) ram.now state.new ≡ unready (space_at (B.entries base.now) ram.now state.old) }
+    ensures space { space B.Kept base.now ram.now state.new ≡ unready (space B.Kept base.now ram.now state.old) }
     ensures pages { state.new.pages ≡ state.old.pages }
     ensures control { state.new.control ≡ state.old.control }
     ensures guard { state.new.guard ≡ state.old.guard }
@@ -58,17 +58,17 @@ fn one_page<B: Kept>(
     requires page { page < 2 ^ 20 }
     requires unready { state.old.ready.len ≡ 0 }
     ensures sound { IsSoundOver B.Kept base.now ram.new state.new }
-    ensures uses { page_uses (space_at (B.entries base.now) ram.old state.old) fetch page at access
-        ≡ (result, space_at (B.entries base.now) ram.new state.new) }
+    ensures uses { page_uses (space B.Kept base.now ram.old state.old) fetch page at access
+        ≡ (result, space B.Kept base.now ram.new state.new) }
     ensures pages { state.new.pages ≡ state.old.pages + 1 }
     ensures stays { StaysIn state.old state.new ram.old ram.new }
-    ensures keeps { KeepsReady state.old state.new (space_at (B.entries base.now) ram.old state.old)
-        (space_at (B.entries base.now) ram.new state.new) }
-    ensures found { result ≡ Touch.Ready → IsSome (get (space_at (B.entries base.now) ram.new state.new).set page) }
+    ensures keeps { KeepsReady state.old state.new (space B.Kept base.now ram.old state.old)
+        (space B.Kept base.now ram.new state.new) }
+    ensures found { result ≡ Touch.Ready → IsSome (get (space B.Kept base.now ram.new state.new).set page) }
     ensures apart { result ≡ Touch.Ready → fetch ≡ false
-        → IsApart (mode_of state.new.guard) (get (space_at (B.entries base.now) ram.new state.new).set page) }
-    ensures others { (other : ℕ) → other ≢ page → get (space_at (B.entries base.now) ram.new state.new).set other
-        ≡ get (space_at (B.entries base.now) ram.old state.old).set other }
+        → IsApart (mode_of state.new.guard) (get (space B.Kept base.now ram.new state.new).set page) }
+    ensures others { (other : ℕ) → other ≢ page → get (space B.Kept base.now ram.new state.new).set other
+        ≡ get (space B.Kept base.now ram.old state.old).set other }
 {
     state.pages += 1;
     state.visited.push(page);
@@ -103,16 +103,16 @@ fn second_page<B: Kept>(
     requires unready { state.old.ready.len ≡ 0 }
     ensures sound { IsSoundOver B.Kept base.now ram.new state.new }
     ensures more { state.old.pages ≤ state.new.pages }
-    ensures uses { second_page at len access (space_at (B.entries base.now) ram.old state.old)
-        ≡ (result, space_at (B.entries base.now) ram.new state.new) }
+    ensures uses { second_page at len access (space B.Kept base.now ram.old state.old)
+        ≡ (result, space B.Kept base.now ram.new state.new) }
     ensures pages { state.new.pages ≤ state.old.pages + 1 }
     ensures stays { StaysIn state.old state.new ram.old ram.new }
-    ensures keeps { KeepsReady state.old state.new (space_at (B.entries base.now) ram.old state.old)
-        (space_at (B.entries base.now) ram.new state.new) }
-    ensures found { result ≡ Touch.Ready → HasEntry (space_at (B.entries base.now) ram.old state.old).set at
-        → HaveEntries (space_at (B.entries base.now) ram.new state.new).set at len }
-    ensures apart { result ≡ Touch.Ready → IsApartAt (mode_of state.new.guard) (space_at (B.entries base.now) ram.old state.old).set at
-        → AreApart (mode_of state.new.guard) (space_at (B.entries base.now) ram.new state.new).set at len }
+    ensures keeps { KeepsReady state.old state.new (space B.Kept base.now ram.old state.old)
+        (space B.Kept base.now ram.new state.new) }
+    ensures found { result ≡ Touch.Ready → HasEntry (space B.Kept base.now ram.old state.old).set at
+        → HaveEntries (space B.Kept base.now ram.new state.new).set at len }
+    ensures apart { result ≡ Touch.Ready → IsApartAt (mode_of state.new.guard) (space B.Kept base.now ram.old state.old).set at
+        → AreApart (mode_of state.new.guard) (space B.Kept base.now ram.new state.new).set at len }
 {
     let last = (at + (len - 1)) / 4096;
     if last == at / 4096 {
@@ -135,13 +135,13 @@ fn touch_pages<B: Kept>(
     requires range { IsShortRange at len }
     requires unready { state.old.ready.len ≡ 0 }
     ensures sound { IsSoundOver B.Kept base.now ram.new state.new }
-    ensures uses { by_pages at len access (space_at (B.entries base.now) ram.old state.old)
-        ≡ (result, space_at (B.entries base.now) ram.new state.new) }
+    ensures uses { by_pages at len access (space B.Kept base.now ram.old state.old)
+        ≡ (result, space B.Kept base.now ram.new state.new) }
     ensures pages { state.new.pages ≤ state.old.pages + 2 }
     ensures stays { StaysIn state.old state.new ram.old ram.new }
-    ensures ready { Readied (space_at (B.entries base.now) ram.new state.new) at len access.write result }
-    ensures earlier { (space_at (B.entries base.now) ram.new state.new).earlier
-        ≡ (space_at (B.entries base.now) ram.old state.old).earlier }
+    ensures ready { Readied (space B.Kept base.now ram.new state.new) at len access.write result }
+    ensures earlier { (space B.Kept base.now ram.new state.new).earlier
+        ≡ (space B.Kept base.now ram.old state.old).earlier }
 {
     match one_page(ram, base, state, false, at / 4096, at, access) {
         Touch::Ready => {}
@@ -170,15 +170,15 @@ pub fn touch<B: Kept>(
     requires some { 1 ≤ len }
     requires short { len ≤ 32 }
     ensures sound { IsSoundOver B.Kept base.now ram.new state.new }
-    ensures uses { uses (space_at (B.entries base.now) ram.old state.old) at len access
-        ≡ (result, space_at (B.entries base.now) ram.new state.new) }
+    ensures uses { uses (space B.Kept base.now ram.old state.old) at len access
+        ≡ (result, space B.Kept base.now ram.new state.new) }
     ensures pages { state.new.pages ≤ state.old.pages + 2 }
     ensures control { state.new.control ≡ state.old.control }
     ensures hidden { hidden state.old.guard state.old.control.frames ram.new ≡ hidden state.old.guard state.old.control.frames ram.old }
     ensures guard { state.new.guard ≡ state.old.guard }
-    ensures ready { Readied (space_at (B.entries base.now) ram.new state.new) at len access.write result }
-    ensures earlier { (space_at (B.entries base.now) ram.new state.new).earlier
-        ≡ earlier_of (space_at (B.entries base.now) ram.old state.old) }
+    ensures ready { Readied (space B.Kept base.now ram.new state.new) at len access.write result }
+    ensures earlier { (space B.Kept base.now ram.new state.new).earlier
+        ≡ earlier_of (space B.Kept base.now ram.old state.old) }
 {
     begin(ram, base, state);
     if len - 1 > u32::MAX - at {
@@ -195,17 +195,17 @@ fn make_ready<B: Kept>(ram: &Ram, base: &B, state: &mut StepState, at: u32, len:
     requires sound { IsSoundOver B.Kept base.now ram.now state.old }
     requires room { length state.old.wrote + 2 ≤ 2 * state.old.pages }
     requires range { IsShortRange at len }
-    requires found { HaveEntries (space_at (B.entries base.now) ram.now state.old).set at len }
-    requires apart { AreApart (mode_of state.old.guard) (space_at (B.entries base.now) ram.now state.old).set at len }
+    requires found { HaveEntries (space B.Kept base.now ram.now state.old).set at len }
+    requires apart { AreApart (mode_of state.old.guard) (space B.Kept base.now ram.now state.old).set at len }
     ensures sound { IsSoundOver B.Kept base.now ram.now state.new }
-    ensures made { made_ready at len write (space_at (B.entries base.now) ram.now state.old)
-        ≡ (Touch.Ready, space_at (B.entries base.now) ram.now state.new) }
+    ensures made { made_ready at len write (space B.Kept base.now ram.now state.old)
+        ≡ (Touch.Ready, space B.Kept base.now ram.now state.new) }
     ensures pages { state.new.pages ≡ state.old.pages }
     ensures control { state.new.control ≡ state.old.control }
     ensures guard { state.new.guard ≡ state.old.guard }
-    ensures ready { IsReach (space_at (B.entries base.now) ram.now state.new) at len write }
-    ensures earlier { (space_at (B.entries base.now) ram.now state.new).earlier
-        ≡ (space_at (B.entries base.now) ram.now state.old).earlier }
+    ensures ready { IsReach (space B.Kept base.now ram.now state.new) at len write }
+    ensures earlier { (space B.Kept base.now ram.now state.new).earlier
+        ≡ (space B.Kept base.now ram.now state.old).earlier }
 {
     if write {
         note_written(ram, base, state, at, len);
@@ -222,9 +222,9 @@ fn note_written<B: Kept>(ram: &Ram, base: &B, state: &mut StepState, at: u32, le
     requires sound { IsSoundOver B.Kept base.now ram.now state.old }
     requires room { length state.old.wrote ≤ 126 }
     requires range { IsShortRange at len }
-    requires found { HaveEntries (space_at (B.entries base.now) ram.now state.old).set at len }
+    requires found { HaveEntries (space B.Kept base.now ram.now state.old).set at len }
     ensures noted { state.new
-        ≡ record state.old { wrote = state.old.wrote ++ frames_of (space_at (B.entries base.now) ram.now state.old) at len } }
+        ≡ record state.old { wrote = state.old.wrote ++ frames_of (space B.Kept base.now ram.now state.old) at len } }
     ensures few { length state.new.wrote ≤ length state.old.wrote + 2 }
 {
     let last = (at + (len - 1)) / 4096;
@@ -261,13 +261,13 @@ fn fetch_page<B: Kept>(
     requires one { at % 4096 + len ≤ 4096 }
     requires unready { state.old.ready.len ≡ 0 }
     ensures sound { IsSoundOver B.Kept base.now ram.new state.new }
-    ensures uses { page_uses (space_at (B.entries base.now) ram.old state.old) true (at / 4096) at access
-        ≡ (result, space_at (B.entries base.now) ram.new state.new) }
+    ensures uses { page_uses (space B.Kept base.now ram.old state.old) true (at / 4096) at access
+        ≡ (result, space B.Kept base.now ram.new state.new) }
     ensures pages { state.new.pages ≡ state.old.pages + 1 }
     ensures stays { StaysIn state.old state.new ram.old ram.new }
-    ensures keeps { KeepsReady state.old state.new (space_at (B.entries base.now) ram.old state.old)
-        (space_at (B.entries base.now) ram.new state.new) }
-    ensures found { result ≡ Touch.Ready → HaveEntries (space_at (B.entries base.now) ram.new state.new).set at len }
+    ensures keeps { KeepsReady state.old state.new (space B.Kept base.now ram.old state.old)
+        (space B.Kept base.now ram.new state.new) }
+    ensures found { result ≡ Touch.Ready → HaveEntries (space B.Kept base.now ram.new state.new).set at len }
 {
     one_page(ram, base, state, true, at / 4096, at, access)
 }
@@ -286,13 +286,13 @@ pub fn fetch<B: Kept>(
     requires room { state.old.pages ≤ 63 }
     requires one { at % 4096 + len ≤ 4096 }
     ensures sound { IsSoundOver B.Kept base.now ram.new state.new }
-    ensures fetches { fetches (space_at (B.entries base.now) ram.old state.old) at len user
-        ≡ (result, space_at (B.entries base.now) ram.new state.new) }
+    ensures fetches { fetches (space B.Kept base.now ram.old state.old) at len user
+        ≡ (result, space B.Kept base.now ram.new state.new) }
     ensures pages { state.new.pages ≤ state.old.pages + 1 }
     ensures control { state.new.control ≡ state.old.control }
     ensures hidden { hidden state.old.guard state.old.control.frames ram.new ≡ hidden state.old.guard state.old.control.frames ram.old }
     ensures guard { state.new.guard ≡ state.old.guard }
-    ensures ready { Readied (space_at (B.entries base.now) ram.new state.new) at len false result }
+    ensures ready { Readied (space B.Kept base.now ram.new state.new) at len false result }
 {
     begin(ram, base, state);
     let access = Access { write: false, user };

@@ -11,9 +11,6 @@ use Rattle.ia32_exec.specs.UserEffect.{user_effect}
 use Rattle.descriptors.specs.declared.cpu.Cpu.{Cpu}
 use Rattle.paging.specs.Space.{Space}
 use Rattle.paging.specs.Work.{Work, ◌>>=◌}
-use Rattle.step_mem.specs.Sound.{space_at}
-use Rattle.step_mem.specs.declared.kept.Kept as kept
-use Rattle.step_mem.specs.declared.state.StepState.{StepState}
 use Rattle.sys_exec.specs.declared.effect.Refusal.{Refusal}
 use Rattle.sys_exec.specs.declared.effect.Refusal.TheVariants as refusal
 use Rattle.step_exec.specs.Divided.{both_reached, byte_of}
@@ -22,10 +19,6 @@ use Rattle.machine_model.specs.State.{Setting, State}
 use Rattle.machine_model.specs.Step as steps
 use Rattle.machine_step.specs.declared.worked.Worked.{Worked}
 use Rattle.machine_step.specs.Worked.{went_as, completed_by}
-
--- what a step over a keeper of translations sees
-abbrev pub space_over : {B : Type 0} → kept.Ghosts B → B → List ℕ → StepState → Space
-space_over g base ram state = space_at (g.entries base) ram state
 
 -- an effect that is done is left undone; another raises or stops
 abbrev pub left_undone : exec.Outcome → Work Refusal (Unit {0})

@@ -10,7 +10,7 @@ ghost use Rattle.shadow_tables.specs.Entries.{entries_of};
 ghost use Rattle.ia32_rows.specs.Spells.{Spells};
 ghost use Rattle.image_check.specs.Image.{Image};
 ghost use Rattle.paging.specs.Work.{Gives};
-ghost use Rattle.step_mem.specs.Sound.{FetchesIn, IsSoundOver, StaysIn};
+ghost use Rattle.step_mem.specs.Sound.{FetchesIn, IsSoundOver, StaysIn, space};
 ghost use Rattle.machine_model.specs.Alone.{is_native};
 ghost use Rattle.machine_model.specs.State.{Setting, State as Whole};
 ghost use Rattle.machine_model.specs.UsedPages.{AtRefusal, Uses};
@@ -24,7 +24,7 @@ ghost use Rattle.wedge_step.specs.Scene.{scene, set_in};
 ghost use Rattle.wedge_step.specs.Standing.{IsAble, ground};
 ghost use Rattle.wedge_core.specs.Attempted.{Attempts, TriesOnce};
 ghost use Rattle.wedge_core.specs.Losing.{IsClearIn, KeepsAside, LosesByClash, MovesInEach, StaysBeside};
-ghost use Rattle.wedge_core.specs.Prepared.{PreparesAs, gone, prepared, space_over};
+ghost use Rattle.wedge_core.specs.Prepared.{PreparesAs, gone, prepared};
 ghost use Rattle.wedge_core.specs.Scenes.{IsHeldIn, IsReadyIn, StaysHeld};
 ghost use Rattle.wedge_core.specs.Tries.{TriesAs};
 ghost use Rattle.wedge_core.specs.Views.{may_run};
@@ -257,10 +257,10 @@ fn try_native<B: Kept>(
     requires sound { IsSoundOver B.Kept kept.now ram.old state.old }
     requires pages { state.old.pages ≡ 0 }
     ensures sound { IsSoundOver B.Kept kept.now ram.new state.new }
-    ensures uses { IfOk result (λ _. Uses (cpu.now.cpl == 3) (space_over B.Kept kept.now ram.old state.old)
-        (space_over B.Kept kept.now ram.new state.new)) }
+    ensures uses { IfOk result (λ _. Uses (cpu.now.cpl == 3) (space B.Kept kept.now ram.old state.old)
+        (space B.Kept kept.now ram.new state.new)) }
     ensures tries { (m : Setting) (b : Whole) → IsRuled m rules.now → TriesAs m (record b { cpu = cpu.now; board = board.old })
-        (space_over B.Kept kept.now ram.old state.old) result board.new (space_over B.Kept kept.now ram.new state.new) }
+        (space B.Kept kept.now ram.old state.old) result board.new (space B.Kept kept.now ram.new state.new) }
     ensures dropped { IfOk result (λ o. IfSome o (λ w. IsDropped w.dropped)) }
     ensures roots { IfOk result (λ o. IfSome o (λ w. RootsAs cpu.now w)) }
     ensures stays { FetchesIn state.old state.new ram.old ram.new }
@@ -304,10 +304,10 @@ fn prepare<B: Kept>(
     requires sound { IsSoundOver B.Kept kept.now ram.old state.old }
     requires pages { state.old.pages ≤ 8 }
     ensures sound { IsSoundOver B.Kept kept.now ram.new state.new }
-    ensures uses { IfOk result (λ _. Uses (cpu.now.cpl == 3) (space_over B.Kept kept.now ram.old state.old)
-        (space_over B.Kept kept.now ram.new state.new)) }
+    ensures uses { IfOk result (λ _. Uses (cpu.now.cpl == 3) (space B.Kept kept.now ram.old state.old)
+        (space B.Kept kept.now ram.new state.new)) }
     ensures prepares { (m : Setting) (b : Whole) → IsRuled m rules.now → PreparesAs m (record b { cpu = cpu.now }) insn.now len
-        (space_over B.Kept kept.now ram.old state.old) result (space_over B.Kept kept.now ram.new state.new) }
+        (space B.Kept kept.now ram.old state.old) result (space B.Kept kept.now ram.new state.new) }
     ensures dropped { IfOk result (λ o. IfSome o (λ w. IsDropped w.dropped)) }
     ensures roots { IfOk result (λ o. IfSome o (λ w. RootsAs cpu.now w)) }
     ensures stays { StaysIn state.old state.new ram.old ram.new }
@@ -334,12 +334,12 @@ fn weigh<B: Kept>(
     requires sound { IsSoundOver B.Kept kept.now ram.old state.old }
     requires pages { state.old.pages ≤ 8 }
     ensures sound { IsSoundOver B.Kept kept.now ram.new state.new }
-    ensures uses { IfOk result (λ _. Uses (cpu.now.cpl == 3) (space_over B.Kept kept.now ram.old state.old)
-        (space_over B.Kept kept.now ram.new state.new)) }
-    ensures refused { IfErr result (λ refusal. AtRefusal (cpu.now.cpl == 3) (space_over B.Kept kept.now ram.old state.old) refusal
-        (space_over B.Kept kept.now ram.new state.new)) }
-    ensures prepared { Gives result (space_over B.Kept kept.now ram.new state.new)
-        (prepared insn.now len cpu.now (space_over B.Kept kept.now ram.old state.old)) }
+    ensures uses { IfOk result (λ _. Uses (cpu.now.cpl == 3) (space B.Kept kept.now ram.old state.old)
+        (space B.Kept kept.now ram.new state.new)) }
+    ensures refused { IfErr result (λ refusal. AtRefusal (cpu.now.cpl == 3) (space B.Kept kept.now ram.old state.old) refusal
+        (space B.Kept kept.now ram.new state.new)) }
+    ensures prepared { Gives result (space B.Kept kept.now ram.new state.new)
+        (prepared insn.now len cpu.now (space B.Kept kept.now ram.old state.old)) }
     ensures pages { state.new.pages ≤ state.old.pages + 4 }
     ensures stays { StaysIn state.old state.new ram.old ram.new }
 {

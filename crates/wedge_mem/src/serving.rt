@@ -5,7 +5,7 @@ ghost use Rattle.ia32_types.specs.Bytes.{size_in_bytes};
 ghost use Rattle.paging.specs.Ready.{HasRange, IsReadable, IsWritable, Readied};
 ghost use Rattle.paging.specs.Space.{FitsSize, IsReadyEarlier, earlier_of, loaded, loaded_earlier, saved};
 ghost use Rattle.paging.specs.Uses.{fetches, uses};
-ghost use Rattle.step_mem.specs.Sound.{IsSoundOver, space_at};
+ghost use Rattle.step_mem.specs.Sound.{IsSoundOver, space};
 ghost use Rattle.wedge_mem.specs.Progress.{IsGoingOver, IsTheSame, KeepsBeyond, KeepsOthers, owning, space_in};
 
 use crate::progress::Progress;
@@ -117,9 +117,9 @@ fn own_in<B: Kept>(ram: &Ram, base: &B, state: &mut StepState, at: u32, len: u32
     requires some { 1 ≤ len }
     requires short { len ≤ 4096 }
     requires fits { at + len ≤ 2 ^ 32 }
-    requires found { HasRange (space_at (B.entries base.now) ram.now state.old) at len }
+    requires found { HasRange (space B.Kept base.now ram.now state.old) at len }
     ensures sound { IsSoundOver B.Kept base.now ram.now state.new }
-    ensures owns { space_at (B.entries base.now) ram.now state.new ≡ owning (space_at (B.entries base.now) ram.now state.old) at len }
+    ensures owns { space B.Kept base.now ram.now state.new ≡ owning (space B.Kept base.now ram.now state.old) at len }
     ensures control { state.new.control ≡ state.old.control }
     ensures text { state.new.guard.text ≡ state.old.guard.text }
 {

@@ -4,9 +4,8 @@ ghost use Rattle.std.specs.Prelude.{◌≡◌, ℕ, List, ◌+◌, ◌*◌, ◌�
 ghost use Rattle.image_load.specs.Boot.{text_pages};
 ghost use Rattle.step_mem.specs.Changes.{AreWithin};
 ghost use Rattle.step_mem.specs.Shown.{beyond, hidden, laid, shown};
-ghost use Rattle.step_mem.specs.Sound.{IsSoundOver};
+ghost use Rattle.step_mem.specs.Sound.{IsSoundOver, space};
 ghost use Rattle.machine_model.specs.State.{space_at_start, wedge_mode};
-ghost use Rattle.machine_step.specs.Over.{space};
 ghost use Rattle.wedge_step.specs.Original.{IsOriginal};
 
 use crate::single::text_frames;

@@ -1,7 +1,7 @@
 use Rattle.std.proofs.Common.{◌==◌, sym, ap, subst, ◌∙◌, arith}
 use Rattle.std.specs.Prelude.{IfOk, IfSome, Option, Result}
 use Rattle.ia32_types.specs.declared.stop.Stop.{Stop}
-use Rattle.step_mem.specs.Sound.{space_at}
+use Rattle.step_mem.specs.Sound.{space}
 use Rattle.step_mem.specs.declared.guard.Guard.{Guard}
 use Rattle.step_mem.specs.declared.walking.Control.{Control}
 use Rattle.machine_model.specs.UsedPages.{Uses}
@@ -27,9 +27,9 @@ returns-in-Ok g c = record {
 
 pub returns-in-Err : goal.returns-in-Err
 returns-in-Err g c =
-    let before = space_at (g.B.Kept.entries c.args.kept.now) c.args.ram.now c.args.state.now in
-    let refused = space_at (g.B.Kept.entries c.args.kept.now) c.weigh.new.ram c.weigh.new.state in
-    let after = space_at (g.B.Kept.entries c.args.kept.now) c.refuse.new.ram c.refuse.new.state in
+    let before = space g.B.Kept c.args.kept.now c.args.ram.now c.args.state.now in
+    let refused = space g.B.Kept c.args.kept.now c.weigh.new.ram c.weigh.new.state in
+    let after = space g.B.Kept c.args.kept.now c.refuse.new.ram c.refuse.new.state in
     let is = sym c.gone.ensures in
     record {
       sound = c.refuse.ensures.sound;
