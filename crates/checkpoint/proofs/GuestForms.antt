@@ -21,8 +21,8 @@ use Rattle.checkpoint.specs.Moved.{kept_of}
 use Rattle.checkpoint.proofs.Seats.{shown_long}
 
 pub guest_size : (image : Image) (script : Events) (g : Running Roots) (pool : Pool) (memory : List ℕ)
-    → IsHeld roots.stands roots.frames roots.slots (ground image g.frames) g pool memory
-    → length (state_of roots.stands roots.frames roots.slots (wedge image script g.frames) g memory).ram ≡ 4096 * g.frames
+    → IsHeld of_roots (ground image g.frames) g pool memory
+    → length (state_of of_roots (wedge image script g.frames) g memory).ram ≡ 4096 * g.frames
 unfolding shown
 guest_size image script g pool memory h =
     let room = h.wedge.room in
@@ -30,8 +30,8 @@ guest_size image script g pool memory h =
     shown_long memory image.text g.frames h.host.room (omega (arith, room, within))
 
 pub guest_form : (image : Image) (script : Events) (g : Running Roots) (pool : Pool) (memory : List ℕ)
-    → IsHeld roots.stands roots.frames roots.slots (ground image g.frames) g pool memory → Fit g.cpu → g.step ≤ 2 ^ 40
-    → IsInForm (kept_of (state_of roots.stands roots.frames roots.slots (wedge image script g.frames) g memory))
+    → IsHeld of_roots (ground image g.frames) g pool memory → Fit g.cpu → g.step ≤ 2 ^ 40
+    → IsInForm (kept_of (state_of of_roots (wedge image script g.frames) g memory))
 guest_form image script g pool memory h fit step =
     let low = h.size.0 in
     let high = h.size.1 in

@@ -26,4 +26,4 @@ pub record GoesOnFrom (image : Image) (count : ℕ) (first : State) (new : Scene
 
 -- the state of a guest over this memory of its host, under any script
 abbrev pub state_at : Image → Events → Running Roots → List ℕ → State
-state_at image script r memory = state_of roots.stands roots.frames roots.slots (wedge image script r.frames) r memory
+state_at image script r memory = state_of of_roots (wedge image script r.frames) r memory

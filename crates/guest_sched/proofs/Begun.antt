@@ -10,6 +10,7 @@ use Rattle.guest_ram.specs.Bytes.{part, with_part}
 use Rattle.image_load.specs.Boot.{need, boot_cpu, boot_ram}
 use Rattle.machine_model.specs.State.{State, wedge}
 use Rattle.shadow_cache.specs.Views as roots
+use Rattle.wedge_core.specs.OfRoots.{of_roots}
 use Rattle.wedge_step.specs.Filled.{IsFilled, pages_kept}
 use Rattle.wedge_step.specs.Pools.{Keeps}
 use Rattle.wedge_step.specs.Ready.{IsReady}
@@ -43,11 +44,11 @@ module _ (kernel : Kernel) (frames : ℕ) (ram host between : List ℕ) (fits : 
 
     module _ (p p' : Pool) (host' : List ℕ) (guest : Guest) (cpu : Cpu) (board : Board) (size : length between ≡ length host)
         (cpu_is : cpu ≡ boot_cpu kernel.image frames) (board_is : board ≡ at_reset) (able : IsAble (boot_cpu kernel.image frames))
-        (held : IsHeld roots.stands roots.frames roots.slots (ground kernel.image frames) guest.running p' host')
-        (state : (script : Events) → state_of roots.stands roots.frames roots.slots (wedge kernel.image script frames) guest.running host' ≡ record { cpu = cpu; ram = take (4096 * frames) between; set = empty; board = board; step = 0 })
+        (held : IsHeld of_roots (ground kernel.image frames) guest.running p' host')
+        (state : (script : Events) → state_of of_roots (wedge kernel.image script frames) guest.running host' ≡ record { cpu = cpu; ram = take (4096 * frames) between; set = empty; board = board; step = 0 })
         (two : guest.running.held ≡ 2) (fills : guest.running.fills ≡ 0)
-        (ready : IsReady roots.slots roots.read_from roots.stale roots.value roots.other_roots (ground kernel.image frames) guest.running.cpu guest.running.shadows host')
-        (filled : IsFilled (pages_kept roots.slots roots.other_roots guest.running.shadows host') guest.running.fills)
+        (ready : IsReady of_roots (ground kernel.image frames) guest.running.cpu guest.running.shadows host')
+        (filled : IsFilled (pages_kept of_roots guest.running.shadows host') guest.running.fills)
         (keeps : Keeps p p' between host' [] (roots.frames guest.running.shadows host')) (low : 4096 * frames ≤ length host)
       where
         able_still : IsAble guest.running.cpu

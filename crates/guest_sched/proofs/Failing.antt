@@ -13,7 +13,7 @@ use Rattle.machine_model.specs.Run.{Set, Steps, StopHolds, trace_of}
 use Rattle.machine_model.specs.State.{Setting, State, wedge}
 use Rattle.machine_model.specs.Step.{Report}
 use Rattle.machine_model.proofs.Counted.{counted_by}
-use Rattle.shadow_cache.specs.Views as roots
+use Rattle.wedge_core.specs.OfRoots.{of_roots}
 use Rattle.wedge_core.specs.Slices.{PausesAs}
 use Rattle.wedge_step.specs.Standing.{state_of}
 use Rattle.guest_sched.specs.Tags.{tag_of, tagged}
@@ -53,7 +53,7 @@ module _ (kernel : Kernel) (number steps : ℕ) (host : List ℕ) (old : Tenant)
   m = wedge kernel.image kernel.script.list old.guest.running.frames
 
   abbrev first : State
-  first = state_of roots.stands roots.frames roots.slots m old.guest.running host
+  first = state_of of_roots m old.guest.running host
 
   -- in the lines of its steps
   pub failed_in_steps : (sets : List Set) (reports : List Report) (last : State) → Steps m first sets reports last → last.step ≤ old.guest.running.step + steps → AppendsFront taken tells (tagged (tag_of number) (lines_of (trace_of reports)))

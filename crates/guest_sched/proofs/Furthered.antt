@@ -16,7 +16,7 @@ use Rattle.machine_model.specs.Run.{Steps, StopHolds, trace_of}
 use Rattle.machine_model.specs.State.{Setting, State, boot, wedge}
 use Rattle.machine_model.specs.Step.{Report}
 use Rattle.machine_model.proofs.Texts.{reported}
-use Rattle.shadow_cache.specs.Views as roots
+use Rattle.wedge_core.specs.OfRoots.{of_roots}
 use Rattle.sites.specs.declared.site.Site.{Site}
 use Rattle.wedge_core.specs.Slices.{Counts}
 use Rattle.wedge_step.specs.Filled.{pages_kept}
@@ -47,18 +47,18 @@ use Rattle.guest_sched.proofs.Turning.{flat_append, turns_on, counts_on, reports
 -- the turn over the kernel's own setting
 at_frames : (k : Kernel) (number steps : ℕ) (host host' : List ℕ) (t t' : Tenant) (now now' : Counts) (new between : Option (List ℕ)) (pause : Pause) (frames n : ℕ) → t.guest.running.frames ≡ frames → number ≡ n
     → TurnAs (wedge k.image k.script.list t.guest.running.frames) (tag_of number) (t.guest.running.step + steps)
-    (state_of roots.stands roots.frames roots.slots (wedge k.image k.script.list t.guest.running.frames) t.guest.running host)
-    (state_of roots.stands roots.frames roots.slots (wedge k.image k.script.list t.guest.running.frames) t'.guest.running host')
-    now now' new between (pages_kept roots.slots roots.other_roots t.guest.running.shadows host) t.guest.running.fills t'.guest.running.fills (Ok pause)
+    (state_of of_roots (wedge k.image k.script.list t.guest.running.frames) t.guest.running host)
+    (state_of of_roots (wedge k.image k.script.list t.guest.running.frames) t'.guest.running host')
+    now now' new between (pages_kept of_roots t.guest.running.shadows host) t.guest.running.fills t'.guest.running.fills (Ok pause)
     → TurnAs (alone k frames) (tag_of n) (t.guest.running.step + steps)
-    (state_of roots.stands roots.frames roots.slots (alone k frames) t.guest.running host)
-    (state_of roots.stands roots.frames roots.slots (alone k frames) t'.guest.running host')
-    now now' new between (pages_kept roots.slots roots.other_roots t.guest.running.shadows host) t.guest.running.fills t'.guest.running.fills (Ok pause)
+    (state_of of_roots (alone k frames) t.guest.running host)
+    (state_of of_roots (alone k frames) t'.guest.running host')
+    now now' new between (pages_kept of_roots t.guest.running.shadows host) t.guest.running.fills t'.guest.running.fills (Ok pause)
 at_frames k number steps host host' t t' now now' new between pause frames n is same turn =
-    subst (λ (x : ℕ). TurnAs (alone k frames) (tag_of x) (t.guest.running.step + steps) (state_of roots.stands roots.frames roots.slots (alone k frames) t.guest.running host)
-    (state_of roots.stands roots.frames roots.slots (alone k frames) t'.guest.running host') now now' new between (pages_kept roots.slots roots.other_roots t.guest.running.shadows host) t.guest.running.fills t'.guest.running.fills (Ok pause)) same
-    (subst (λ (f : ℕ). TurnAs (alone k f) (tag_of number) (t.guest.running.step + steps) (state_of roots.stands roots.frames roots.slots (alone k f) t.guest.running host)
-    (state_of roots.stands roots.frames roots.slots (alone k f) t'.guest.running host') now now' new between (pages_kept roots.slots roots.other_roots t.guest.running.shadows host) t.guest.running.fills t'.guest.running.fills (Ok pause)) is turn)
+    subst (λ (x : ℕ). TurnAs (alone k frames) (tag_of x) (t.guest.running.step + steps) (state_of of_roots (alone k frames) t.guest.running host)
+    (state_of of_roots (alone k frames) t'.guest.running host') now now' new between (pages_kept of_roots t.guest.running.shadows host) t.guest.running.fills t'.guest.running.fills (Ok pause)) same
+    (subst (λ (f : ℕ). TurnAs (alone k f) (tag_of number) (t.guest.running.step + steps) (state_of of_roots (alone k f) t.guest.running host)
+    (state_of of_roots (alone k f) t'.guest.running host') now now' new between (pages_kept of_roots t.guest.running.shadows host) t.guest.running.fills t'.guest.running.fills (Ok pause)) is turn)
 
 same_counts : (c : Counts) (retired passed : ℕ) → c.retired ≡ retired → c.passed ≡ passed → c ≡ record { retired = retired; passed = passed }
 same_counts c retired passed a b = ap (λ (x : ℕ). counts_with x c.passed) a ∙ ap (λ (x : ℕ). counts_with retired x) b
@@ -159,8 +159,8 @@ module _ (kernels : List Kernel) (frames : ℕ) (whole done : List Slice) (ts : 
           omega (arith, most, step)
 
       module _ (t' : Tenant) (pool' : Pool) (host' : List ℕ) (now' : Counts) (new' : Option (List ℕ)) (h : HasTurned k slice.kernel slice.steps host host' t t' now now' new new') (went : HasGoneOn k pool pool' host host' t t') where
-        turn : TurnAs (alone k frames) (tag_of present) (t.guest.running.step + slice.steps) (state_of roots.stands roots.frames roots.slots (alone k frames) t.guest.running host)
-            (state_of roots.stands roots.frames roots.slots (alone k frames) t'.guest.running host') now now' new h.between (pages_kept roots.slots roots.other_roots t.guest.running.shadows host) t.guest.running.fills t'.guest.running.fills (Ok h.pause)
+        turn : TurnAs (alone k frames) (tag_of present) (t.guest.running.step + slice.steps) (state_of of_roots (alone k frames) t.guest.running host)
+            (state_of of_roots (alone k frames) t'.guest.running host') now now' new h.between (pages_kept of_roots t.guest.running.shadows host) t.guest.running.fills t'.guest.running.fills (Ok h.pause)
         turn = at_frames k slice.kernel slice.steps host host' t t' now now' new h.between h.pause frames present frames_are (sym here) h.turn
 
         made : Turned present slice.steps frames whole done slice b.pieces k host host' t t' now now' new h.between new' (sym here) refl within grows may_go.filled h.few stands_live turn.reports
@@ -287,9 +287,9 @@ module _ (kernels : List Kernel) (frames : ℕ) (whole done : List Slice) (ts : 
             let at = is_here here dk d live in
             let fr = frames_are here dk d live in
             let run = stands_live here dk d live in
-            let first = state_of roots.stands roots.frames roots.slots m_here (get_or ts present d).guest.running host in
+            let first = state_of of_roots m_here (get_or ts present d).guest.running host in
             let on = began_on m_here (reports_of present b.pieces) h.piece.reports (get_or ts present d).guest.running.fills first h.last h.sets run.0
-            (subst (λ (f : ℕ). Steps (alone (get_or kernels present dk) f) (state_of roots.stands roots.frames roots.slots (alone (get_or kernels present dk) f) (get_or ts present d).guest.running host) h.sets h.piece.reports h.last) fr h.steps_are) in
+            (subst (λ (f : ℕ). Steps (alone (get_or kernels present dk) f) (state_of of_roots (alone (get_or kernels present dk) f) (get_or ts present d).guest.running host) h.sets h.piece.reports h.last) fr h.steps_are) in
             record {
               sets = on.sets;
               last = on.then_;

@@ -14,6 +14,7 @@ use Rattle.shadow_tables.specs.Entries.{entries_of}
 use Rattle.shadow_tables.specs.Slots.{SameSlots}
 use Rattle.shadow_tables.specs.Laws.{same-entries}
 use Rattle.shadow_cache.specs.Views as roots
+use Rattle.wedge_core.specs.OfRoots.{of_roots}
 use Rattle.shadow_cache.specs.Roots.{pairs_of}
 use Rattle.shadow_cache.specs.Laws as laws
 use Rattle.shadow_cache.specs.declared.roots.Roots.{Roots}
@@ -137,7 +138,7 @@ module _ (frames : ℕ) (p p' : Pool) (host host' : List ℕ) (s : Seat) (new : 
         let there = ap length held_there in
         let same = ap length frames_same in
         let free = ap length (free_list-above p' host' then_memory (4096 * frames) low goes' size' d.owns.stands) in
-        let pages = kept_same roots.slots roots.other_roots new host' then_memory set_same asides_same in
+        let pages = kept_same of_roots new host' then_memory set_same asides_same in
         let filled = d.filled in
         record {
           held = record {

@@ -6,7 +6,7 @@ use Rattle.run_trace.specs.Text.{lines_of, text_of}
 use Rattle.run_trace.specs.declared.items.End.TheVariants.{Stopped}
 use Rattle.machine_model.specs.Run.{trace_of}
 use Rattle.machine_model.specs.Step.{Report}
-use Rattle.shadow_cache.specs.Views as roots
+use Rattle.wedge_core.specs.OfRoots.{of_roots}
 use Rattle.wedge_step.specs.Standing.{state_of}
 use Rattle.guest_sched.specs.Apart.{Seat, StaysSo, EachStays}
 use Rattle.guest_sched.specs.Between.{StandsSo, EachStands}
@@ -24,8 +24,8 @@ use Rattle.guest_sched.proofs.Turning.{reports_on, text_on, stopped_still, repor
 stands_on : (n frames : ℕ) (whole done done' : List Slice) (pieces pieces' : List Piece) (k : Kernel) (s s' : Seat) (stop : Option Stop) → StaysSo frames s s' → reports_of n pieces' ≡ reports_of n pieces → own_text n pieces' ≡ own_text n pieces
     → has_stopped n pieces' ≡ has_stopped n pieces → bound_of n done' ≡ bound_of n done → StandsSo n frames whole done pieces k s stop → StandsSo n frames whole done' pieces' k s' stop
 stands_on n frames whole done done' pieces pieces' k s s' None same reports text stopped bound h = (
-  subst (λ (r : List Report). HasRun (alone k frames) r s'.running.fills (state_of roots.stands roots.frames roots.slots (alone k frames) s'.running s'.memory)) (sym reports)
-      (subst (λ (f : ℕ). HasRun (alone k frames) (reports_of n pieces) f (state_of roots.stands roots.frames roots.slots (alone k frames) s'.running s'.memory)) (sym same.fills)
+  subst (λ (r : List Report). HasRun (alone k frames) r s'.running.fills (state_of of_roots (alone k frames) s'.running s'.memory)) (sym reports)
+      (subst (λ (f : ℕ). HasRun (alone k frames) (reports_of n pieces) f (state_of of_roots (alone k frames) s'.running s'.memory)) (sym same.fills)
       (forgotten (alone k frames) (reports_of n pieces) s.running.fills _ _ (same.state (alone k frames) refl) h.0)),
   same.step ∙ h.1 ∙ sym bound,
   text ∙ h.2 ∙ ap (λ (r : List Report). lines_of (trace_of r)) (sym reports),

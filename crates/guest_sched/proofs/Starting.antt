@@ -10,7 +10,7 @@ use Rattle.pv_io.specs.Sink.{Appends}
 use Rattle.machine_model.specs.Run.{Set, Steps}
 use Rattle.machine_model.specs.State.{State, Setting, Loosened, boot}
 use Rattle.wedge_step.proofs.Bools.{none_some}
-use Rattle.shadow_cache.specs.Views as roots
+use Rattle.wedge_core.specs.OfRoots.{of_roots}
 use Rattle.wedge_step.specs.Standing.{state_of}
 use Rattle.wedge_core.specs.Slices.{Counts}
 use Rattle.guest_sched.specs.Legs.{HasRun}
@@ -50,9 +50,9 @@ each_begins number frames whole host present [] (t ∷ ts) len each = absurd (om
 each_begins number frames whole host present (k ∷ ks) [] len each = absurd (omega (arith, len))
 each_begins number frames whole host present (k ∷ ks) (t ∷ ts) len each =
     (here t.stop each.0.live (seat_of frames host present number k t) each.0.state each.0.fills, each_begins (suc number) frames whole host present ks ts (omega (arith, len)) each.1) where
-      here : (stop : Option Stop) → is_none stop ≡ true → (s : Seat) → state_of roots.stands roots.frames roots.slots (alone k frames) s.running s.memory ≡ boot (alone k frames) → s.running.fills ≡ 0
+      here : (stop : Option Stop) → is_none stop ≡ true → (s : Seat) → state_of of_roots (alone k frames) s.running s.memory ≡ boot (alone k frames) → s.running.fills ≡ 0
           → StandsSo number frames whole [] [] k s stop
-      here None live s state fills = (no_steps (alone k frames) s.running.fills (state_of roots.stands roots.frames roots.slots (alone k frames) s.running s.memory) state fills, ap (λ (b : State). b.step) state, refl, refl)
+      here None live s state fills = (no_steps (alone k frames) s.running.fills (state_of of_roots (alone k frames) s.running s.memory) state fills, ap (λ (b : State). b.step) state, refl, refl)
       here (Some stop) live s state fills = absurd (cc)
 
 nothing_put : (taken : Option (List ℕ)) → Appends taken taken []

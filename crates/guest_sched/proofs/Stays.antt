@@ -13,6 +13,7 @@ use Rattle.shadow_tables.specs.Entries.{entries_of}
 use Rattle.shadow_tables.specs.Slots.{Slot, SameSlots}
 use Rattle.shadow_tables.specs.Laws.{same-entries}
 use Rattle.shadow_cache.specs.Views as roots
+use Rattle.wedge_core.specs.OfRoots.{of_roots}
 use Rattle.shadow_cache.specs.Roots.{pairs_of}
 use Rattle.shadow_cache.specs.Laws as laws
 use Rattle.shadow_cache.specs.declared.roots.Roots.{Roots}
@@ -45,7 +46,7 @@ module _ (frames : ℕ) (p p' : Pool) (s : Seat) (then_ : List ℕ) (size : leng
       set_same : entries_of (roots.slots s.running.shadows then_) ≡ entries_of (roots.slots s.running.shadows s.memory)
       set_same = same-entries (roots.slots s.running.shadows s.memory) (roots.slots s.running.shadows then_) slots_same
 
-      state_still : (m : Setting) → m.frames ≡ frames → state_of roots.stands roots.frames roots.slots m s.running then_ ≡ state_of roots.stands roots.frames roots.slots m s.running s.memory
+      state_still : (m : Setting) → m.frames ≡ frames → state_of of_roots m s.running then_ ≡ state_of of_roots m s.running s.memory
       state_still m is = state_by (shown_same m s.memory then_ (subst (λ (n : ℕ). take (4096 * n) then_ ≡ take (4096 * n) s.memory) (sym is) front)) set_same
         where
           state_by : {ram ram' : List ℕ} {set set' : Set} → ram' ≡ ram → set' ≡ set → state_with s.running ram' set' ≡ state_with s.running ram set
@@ -70,7 +71,7 @@ module _ (frames : ℕ) (p p' : Pool) (s : Seat) (then_ : List ℕ) (size : leng
       }
 
       module _ (g : MayGoOn frames p s) where
-        still_held : IsHeld roots.stands roots.frames roots.slots (ground s.image frames) s.running p' then_
+        still_held : IsHeld of_roots (ground s.image frames) s.running p' then_
         still_held =
             let room = g.held.wedge.room in
             let within = text_within s.image in
@@ -92,7 +93,7 @@ module _ (frames : ℕ) (p p' : Pool) (s : Seat) (then_ : List ℕ) (size : leng
               open_to = λ page lt. subst (λ (slot : Option Slot). ForSome slot (IsOpenSlot s.image (wp_of s.running.cpu))) (sym (slots_same page lt)) (g.held.open_to page lt);
             }
 
-        still_ready : IsReady roots.slots roots.read_from roots.stale roots.value roots.other_roots (ground s.image frames) s.running.cpu s.running.shadows then_
+        still_ready : IsReady of_roots (ground s.image frames) s.running.cpu s.running.shadows then_
         still_ready =
             let m = ground s.image frames in
             let cpu = s.running.cpu in
@@ -108,7 +109,7 @@ module _ (frames : ℕ) (p p' : Pool) (s : Seat) (then_ : List ℕ) (size : leng
 
         goes_still : MayGoOn frames p' (record s { memory = then_ })
         goes_still =
-            let pages = kept_same roots.slots roots.other_roots s.running.shadows s.memory then_ set_same asides_same in
+            let pages = kept_same of_roots s.running.shadows s.memory then_ set_same asides_same in
             let filled = g.filled in
             record { held = still_held; ready = still_ready; able = g.able; filled = omega (arith, pages, filled) }
 

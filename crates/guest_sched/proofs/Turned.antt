@@ -11,7 +11,7 @@ use Rattle.machine_model.specs.Run.{trace_of}
 use Rattle.machine_model.specs.State.{Setting, State}
 use Rattle.machine_model.specs.Step.{Report}
 use Rattle.machine_model.proofs.Texts.{reported}
-use Rattle.shadow_cache.specs.Views as roots
+use Rattle.wedge_core.specs.OfRoots.{of_roots}
 use Rattle.wedge_core.specs.Slices.{Counts, Filling, Outward}
 use Rattle.wedge_step.specs.Filled.{pages_kept}
 use Rattle.wedge_step.specs.Standing.{state_of}
@@ -46,26 +46,26 @@ seat_here k host t = record { image = k.image; running = t.guest.running; memory
 module _ (n steps frames : ℕ) (whole done : List Slice) (slice : Slice) (pieces : List Piece) (k : Kernel) (host host' : List ℕ) (t t' : Tenant) (before after : Counts) (taken between tells : Option (List ℕ))
     (here : slice.kernel ≡ n) (steps_are : slice.steps ≡ steps)
     (bound : t.guest.running.step + steps ≤ bound_of n whole) (grows : bound_of n (done ++ slice ∷ []) ≡ bound_of n done + steps)
-    (kept : pages_kept roots.slots roots.other_roots t.guest.running.shadows host ≤ t.guest.running.fills) (few : t'.guest.running.fills ≤ 128 * t'.guest.running.step)
+    (kept : pages_kept of_roots t.guest.running.shadows host ≤ t.guest.running.fills) (few : t'.guest.running.fills ≤ 128 * t'.guest.running.step)
     (h : StandsSo n frames whole done pieces k (seat_here k host t) None)
   where
     abbrev m : Setting
     m = alone k frames
 
     abbrev old : State
-    old = state_of roots.stands roots.frames roots.slots m t.guest.running host
+    old = state_of of_roots m t.guest.running host
 
     abbrev new : State
-    new = state_of roots.stands roots.frames roots.slots m t'.guest.running host'
+    new = state_of of_roots m t'.guest.running host'
 
     abbrev Turn : Pause → Type 0
-    Turn pause = TurnAs m (tag_of n) (t.guest.running.step + steps) old new before after taken between (pages_kept roots.slots roots.other_roots t.guest.running.shadows host) t.guest.running.fills t'.guest.running.fills (Ok pause)
+    Turn pause = TurnAs m (tag_of n) (t.guest.running.step + steps) old new before after taken between (pages_kept of_roots t.guest.running.shadows host) t.guest.running.fills t'.guest.running.fills (Ok pause)
 
     abbrev out : Outward
     out = record { before = before; after = after; told = taken; tells = between }
 
     abbrev filling : Filling
-    filling = record { pages = pages_kept roots.slots roots.other_roots t.guest.running.shadows host; fills = t.guest.running.fills; filled = t'.guest.running.fills }
+    filling = record { pages = pages_kept of_roots t.guest.running.shadows host; fills = t.guest.running.fills; filled = t'.guest.running.fills }
 
     -- how it stands then, what its text is, and how many steps it made
     pub record Turned (reports : List Report) : Type 0 where

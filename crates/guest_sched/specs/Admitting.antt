@@ -6,7 +6,7 @@ use Rattle.frame_pool.specs.Pool.{base_of, count_of, free_list, Stands}
 use Rattle.frame_pool.specs.declared.Pool.{Pool}
 use Rattle.image_load.specs.Boot.{need, boot_cpu, boot_ram}
 use Rattle.machine_model.specs.State.{boot}
-use Rattle.shadow_cache.specs.Views as roots
+use Rattle.wedge_core.specs.OfRoots.{of_roots}
 use Rattle.wedge_step.specs.Pools.{Keeps}
 use Rattle.wedge_step.specs.Standing.{state_of}
 use Rattle.wedge_core.specs.declared.guest.Guest.{Guest}
@@ -20,7 +20,7 @@ use Rattle.guest_sched.specs.declared.tenants.Tenant.{Tenant}
 
 -- a kernel that stands where its run begins
 pub record IsAtStart (kernel : Kernel) (frames : ℕ) (s : Seat) : Type 0 where
-  pub state : state_of roots.stands roots.frames roots.slots (alone kernel frames) s.running s.memory ≡ boot (alone kernel frames)
+  pub state : state_of of_roots (alone kernel frames) s.running s.memory ≡ boot (alone kernel frames)
   pub fills : s.running.fills ≡ 0
   pub live : s.live ≡ true
 

@@ -8,6 +8,7 @@ use Rattle.image_check.specs.Image.{Image}
 use Rattle.machine_model.specs.Run.{with_set}
 use Rattle.machine_model.specs.State.{Setting, State}
 use Rattle.shadow_cache.specs.Views as roots
+use Rattle.wedge_core.specs.OfRoots.{of_roots}
 use Rattle.shadow_cache.specs.declared.roots.Roots.{Roots}
 use Rattle.wedge_step.specs.Filled.{IsFilled, pages_kept}
 use Rattle.wedge_step.specs.Ready.{IsReady}
@@ -36,10 +37,10 @@ pub record HoldsFrames (frames : ℕ) (pool : Pool) (s : Seat) : Type 0 where
 
 -- A slice of it may begin, once its memory is in the host's.
 pub record MayGoOn (frames : ℕ) (pool : Pool) (s : Seat) : Type 0 where
-  pub held : IsHeld roots.stands roots.frames roots.slots (ground s.image frames) s.running pool s.memory
-  pub ready : IsReady roots.slots roots.read_from roots.stale roots.value roots.other_roots (ground s.image frames) s.running.cpu s.running.shadows s.memory
+  pub held : IsHeld of_roots (ground s.image frames) s.running pool s.memory
+  pub ready : IsReady of_roots (ground s.image frames) s.running.cpu s.running.shadows s.memory
   pub able : IsAble s.running.cpu
-  pub filled : IsFilled (pages_kept roots.slots roots.other_roots s.running.shadows s.memory) s.running.fills
+  pub filled : IsFilled (pages_kept of_roots s.running.shadows s.memory) s.running.fills
 
 pub record IsSeated (frames : ℕ) (pool : Pool) (s : Seat) : Type 0 where
   pub holds : HoldsFrames frames pool s
@@ -80,7 +81,7 @@ MayForget old new = (new ≡ old) ⊎ (new ≡ with_set old empty)
 pub record StaysSo (frames : ℕ) (old new : Seat) : Type 0 where
   pub step : new.running.step ≡ old.running.step
   pub fills : new.running.fills ≡ old.running.fills
-  pub state : (m : Setting) → m.frames ≡ frames → MayForget (state_of roots.stands roots.frames roots.slots m old.running old.memory) (state_of roots.stands roots.frames roots.slots m new.running new.memory)
+  pub state : (m : Setting) → m.frames ≡ frames → MayForget (state_of of_roots m old.running old.memory) (state_of of_roots m new.running new.memory)
 
 -- so of each kernel
 abbrev pub EachStays : ℕ → List Seat → List Seat → Type 0

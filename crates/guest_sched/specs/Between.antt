@@ -10,7 +10,7 @@ use Rattle.run_trace.specs.declared.items.End.TheVariants.{Bound, Stopped}
 use Rattle.run_trace.specs.declared.items.Ended.{Ended}
 use Rattle.run_trace.specs.Text.{lines_of, text_of}
 use Rattle.machine_model.specs.Run.{trace_of}
-use Rattle.shadow_cache.specs.Views as roots
+use Rattle.wedge_core.specs.OfRoots.{of_roots}
 use Rattle.wedge_step.specs.Standing.{state_of}
 use Rattle.wedge_core.specs.Slices.{Counts, Outward}
 use Rattle.guest_sched.specs.Apart.{Seat, AreApart}
@@ -39,7 +39,7 @@ ended_of tenant = record { steps = tenant.guest.running.step; end = end_with ten
 -- How far the run of a kernel alone has come by these turns, and its text. One that has met a stop goes no further.
 abbrev pub StandsSo : ℕ → ℕ → List Slice → List Slice → List Piece → Kernel → Seat → Option Stop → Type 0
 StandsSo number frames whole done pieces kernel seat None =
-    HasRun (alone kernel frames) (reports_of number pieces) seat.running.fills (state_of roots.stands roots.frames roots.slots (alone kernel frames) seat.running seat.memory)
+    HasRun (alone kernel frames) (reports_of number pieces) seat.running.fills (state_of of_roots (alone kernel frames) seat.running seat.memory)
     × (seat.running.step ≡ bound_of number done) × (own_text number pieces ≡ lines_of (trace_of (reports_of number pieces))) × (has_stopped number pieces ≡ false)
 StandsSo number frames whole done pieces kernel seat (Some stop) =
     HasStopped (alone kernel frames) (bound_of number whole) (reports_of number pieces) seat.running.fills stop seat.running.step

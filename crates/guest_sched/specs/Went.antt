@@ -7,7 +7,7 @@ use Rattle.run_trace.specs.declared.pause.Pause.{Pause}
 use Rattle.run_trace.specs.declared.pause.Pause.TheVariants.{Reached, Stopped}
 use Rattle.machine_model.specs.Run.{Set, Steps, StopHolds}
 use Rattle.machine_model.specs.State.{State, wedge}
-use Rattle.shadow_cache.specs.Views as roots
+use Rattle.wedge_core.specs.OfRoots.{of_roots}
 use Rattle.wedge_core.specs.Slices.{Outward}
 use Rattle.wedge_step.specs.Filled.{pages_kept}
 use Rattle.wedge_step.specs.Standing.{state_of}
@@ -26,11 +26,11 @@ pub record HasTurned (kernel : Kernel) (number steps : ℕ) (host host' : List �
   pub pause : Pause
   pub between : Option (List ℕ)
   pub turn : TurnAs (wedge kernel.image kernel.script.list old.guest.running.frames) (tag_of number) (old.guest.running.step + steps)
-      (state_of roots.stands roots.frames roots.slots (wedge kernel.image kernel.script.list old.guest.running.frames) old.guest.running host)
-      (state_of roots.stands roots.frames roots.slots (wedge kernel.image kernel.script.list old.guest.running.frames) new.guest.running host')
+      (state_of of_roots (wedge kernel.image kernel.script.list old.guest.running.frames) old.guest.running host)
+      (state_of of_roots (wedge kernel.image kernel.script.list old.guest.running.frames) new.guest.running host')
       (record out { tells = between })
       (record {
-        pages = pages_kept roots.slots roots.other_roots old.guest.running.shadows host;
+        pages = pages_kept of_roots old.guest.running.shadows host;
         fills = old.guest.running.fills;
         filled = new.guest.running.fills;
       }) (Ok pause)
@@ -44,7 +44,7 @@ pub record HasFailed (kernel : Kernel) (number steps : ℕ) (host : List ℕ) (o
   pub last : State
   pub number_is : piece.kernel ≡ number
   pub steps_are : Steps (wedge kernel.image kernel.script.list old.guest.running.frames)
-      (state_of roots.stands roots.frames roots.slots (wedge kernel.image kernel.script.list old.guest.running.frames) old.guest.running host) sets piece.reports last
+      (state_of of_roots (wedge kernel.image kernel.script.list old.guest.running.frames) old.guest.running host) sets piece.reports last
   pub few : length piece.reports ≤ steps
   pub count : piece.steps ≡ last.step
   pub stops : IfSome piece.stop (StopHolds (wedge kernel.image kernel.script.list old.guest.running.frames) last)

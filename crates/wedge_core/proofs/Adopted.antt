@@ -12,6 +12,7 @@ use Rattle.shadow_cache.specs.Laws as laws
 use Rattle.shadow_cache.specs.Pairs.{frames_of, IsRoots}
 use Rattle.shadow_cache.specs.Roots.{pairs_of}
 use Rattle.shadow_cache.specs.Views as roots
+use Rattle.wedge_core.specs.OfRoots.{of_roots}
 use Rattle.shadow_cache.specs.declared.pair.Pair.{Pair}
 use Rattle.shadow_cache.specs.declared.roots.Roots.{Roots}
 use Rattle.machine_model.specs.State.{Setting}
@@ -63,8 +64,8 @@ new_empty r m cr3 h = entries_of-none (roots.slots r m) h.none
 new_alone : (r : Roots) (m : List ℕ) (cr3 : ℕ) → IsNew r m cr3 → roots.other_roots r m ≡ []
 new_alone r m cr3 h = ap (λ (ps : List Pair). asides_of ps m) h.others
 
-pub new_ready : (s : Setting) (cpu : Cpu) (r : Roots) (m : List ℕ) → IsNew r m cpu.cr3 → IsReady roots.slots roots.read_from roots.stale roots.value roots.other_roots s cpu r m
-new_ready s cpu r m h = none_ready roots.slots roots.read_from roots.stale roots.value roots.other_roots (λ page. false) s cpu r m h.value h.none (new_alone r m cpu.cr3 h)
+pub new_ready : (s : Setting) (cpu : Cpu) (r : Roots) (m : List ℕ) → IsNew r m cpu.cr3 → IsReady of_roots s cpu r m
+new_ready s cpu r m h = none_ready of_roots (λ page. false) s cpu r m h.value h.none (new_alone r m cpu.cr3 h)
 
-pub new_pages : (r : Roots) (m : List ℕ) (cr3 : ℕ) → IsNew r m cr3 → pages_kept roots.slots roots.other_roots r m ≡ 0
-new_pages r m cr3 h = none_pages roots.slots roots.read_from roots.stale roots.value roots.other_roots r m (new_empty r m cr3 h) (new_alone r m cr3 h)
+pub new_pages : (r : Roots) (m : List ℕ) (cr3 : ℕ) → IsNew r m cr3 → pages_kept of_roots r m ≡ 0
+new_pages r m cr3 h = none_pages of_roots r m (new_empty r m cr3 h) (new_alone r m cr3 h)

@@ -12,7 +12,7 @@ use Rattle.board.specs.declared.devices.Board.{Board}
 use Rattle.board.specs.Scripts.{Events}
 use Rattle.image_check.specs.Image.{Image}
 use Rattle.image_load.specs.Boot.{need, data_frame, boot_ram, boot_descriptors, with_tables, with_directory}
-use Rattle.shadow_cache.specs.Views as roots
+use Rattle.wedge_core.specs.OfRoots.{of_roots}
 use Rattle.shadow_cache.specs.declared.roots.Roots.{Roots}
 use Rattle.machine_model.specs.State.{State, wedge}
 use Rattle.wedge_step.specs.Standing.{IsHeld, ground}
@@ -59,7 +59,7 @@ begun_is cpu cpu2 ram ram2 board board2 p q t = λ i. record { cpu = p i; ram = 
 
 -- what a guest stands for doesn't depend on events
 pub held_with : (image : Image) (script : Events) (frames : ℕ) (g : Running Roots) (pool : Pool) (memory : List ℕ)
-    → IsHeld roots.stands roots.frames roots.slots (ground image frames) g pool memory → IsHeld roots.stands roots.frames roots.slots (wedge image script frames) g pool memory
+    → IsHeld of_roots (ground image frames) g pool memory → IsHeld of_roots (wedge image script frames) g pool memory
 held_with image script frames g pool memory h = record {
   wedge = record { mode = refl; accepted = h.wedge.accepted; room = h.wedge.room };
   frames_are = h.frames_are;

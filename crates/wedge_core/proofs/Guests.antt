@@ -9,7 +9,7 @@ use Rattle.pv_io.specs.declared.answer.Failed.{Failed}
 use Rattle.image_check.specs.Image.{Image}
 use Rattle.run_trace.specs.declared.pause.Pause.{Pause}
 use Rattle.image_load.specs.declared.fault.StartFault.{StartFault}
-use Rattle.shadow_cache.specs.Views as roots
+use Rattle.wedge_core.specs.OfRoots.{of_roots}
 use Rattle.machine_model.specs.State.{wedge}
 use Rattle.native_steps.specs.Mirrors.{shown}
 use Rattle.wedge_step.specs.Filled.{FillsOn, IsFilled, pages_kept}
@@ -46,7 +46,7 @@ still_filled old new before after f h = let e = f.enough in omega (arith, e, h)
 
 -- the host's first frames, where a slice has done its steps
 pub front_after : (result : Result Pause Failed) (image : Image) (script : Events) (frames : ℕ) (g : Running Rattle.shadow_cache.specs.declared.roots.Roots.Roots) (pool : Pool) (memory : List ℕ)
-    → IfReached result (IsHeld roots.stands roots.frames roots.slots (ground image frames) g pool memory) → IfReached result (take (4096 * frames) memory ≡ with_patches image (shown (wedge image script frames) memory))
+    → IfReached result (IsHeld of_roots (ground image frames) g pool memory) → IfReached result (take (4096 * frames) memory ≡ with_patches image (shown (wedge image script frames) memory))
 front_after (Ok pause) image script frames g pool memory h = front_held pause image script frames g pool memory h
 front_after (Err failed) image script frames g pool memory h = tt
 
@@ -54,7 +54,7 @@ front_after (Err failed) image script frames g pool memory h = tt
 pub none_kept : (pages fills : ℕ) → pages ≡ 0 → IsFilled pages fills
 none_kept pages fills none = omega (arith, none)
 
-pub none_kept_ok : (memory : List ℕ) (result : Result (Guest × Pool) StartFault) → IfOk result (λ started. pages_kept roots.slots roots.other_roots started.0.running.shadows memory ≡ 0)
-    → IfOk result (λ started. IsFilled (pages_kept roots.slots roots.other_roots started.0.running.shadows memory) started.0.running.fills)
-none_kept_ok memory (Ok started) none = none_kept (pages_kept roots.slots roots.other_roots started.0.running.shadows memory) started.0.running.fills none
+pub none_kept_ok : (memory : List ℕ) (result : Result (Guest × Pool) StartFault) → IfOk result (λ started. pages_kept of_roots started.0.running.shadows memory ≡ 0)
+    → IfOk result (λ started. IsFilled (pages_kept of_roots started.0.running.shadows memory) started.0.running.fills)
+none_kept_ok memory (Ok started) none = none_kept (pages_kept of_roots started.0.running.shadows memory) started.0.running.fills none
 none_kept_ok memory (Err fault) none = tt

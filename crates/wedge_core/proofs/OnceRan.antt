@@ -1,5 +1,5 @@
 -- One instruction that the host was asked to do, as the guest's step.
-use Rattle.std.proofs.Common.{◌≡◌, ℕ, ◌+◌, ◌*◌, ◌%◌, ◌==◌, ◌≤◌, List, [], ◌∷◌, length, drop, Bool, false, cond, Option, Result, Ok, Err, OnOk, refl, sym, ap, subst, ◌∙◌, arith}
+use Rattle.std.proofs.Common.{◌≡◌, ℕ, ◌+◌, ◌*◌, ◌%◌, ◌==◌, ◌≤◌, List, [], ◌∷◌, length, drop, Bool, false, cond, Result, Ok, Err, OnOk, refl, sym, ap, subst, ◌∙◌, arith}
 use Rattle.guest_ram.specs.Bytes.{frame}
 use Rattle.descriptors.specs.Controls.{pse_of, wp_of}
 use Rattle.frame_pool.specs.Held.{Owns}
@@ -17,12 +17,12 @@ use Rattle.host_cpl3.specs.declared.exit.Exit.TheVariants.{Budget}
 use Rattle.host_cpl3.specs.HostRun.{Standing, host_run, after_step, counted}
 use Rattle.host_cpl3.specs.Hosts.{standing}
 use Rattle.shadow_tables.specs.Entries.{entries_of}
-use Rattle.shadow_tables.specs.Slots.{Slot, SameSlots}
+use Rattle.shadow_tables.specs.Slots.{SameSlots}
 use Rattle.step_mem.specs.Changes.{AreWithin}
 use Rattle.ia32_types.specs.declared.stop.Stop.{Stop}
 use Rattle.board.specs.Scripts.{Events}
 use Rattle.board.proofs.QuietSteps.{one_step}
-use Rattle.shadow_tables.specs.declared.words.Side.{Side}
+use Rattle.shadow_tables.specs.declared.shadows.Shadows as shadows
 use Rattle.machine_step.specs.declared.worked.Seen.{Seen}
 use Rattle.machine_step.specs.declared.worked.Seen.TheVariants.{Nothing}
 use Rattle.machine_model.specs.State.{Setting, State, wedge, wedge_mode}
@@ -107,27 +107,27 @@ counts_one m v b memory regs after_memory before after f retired passed =
     let c = one_counts m f.report before b.cpu.regs.eip here in
     record { retired = retired ∙ c.retired; passed = passed ∙ c.passed }
 
-module _ {S : Type 0} (stands : S → List ℕ → Type 0) (frames : S → List ℕ → List ℕ) (slots : S → List ℕ → ℕ → Option Slot) where
+module _ {S : Type 0} (shows : shadows.Ghosts S) where
   -- what the guest stands for behind it
-  after_is : (m : Setting) (v : View) (old new : Running S) (memory now : List ℕ) (regs : Regs) (after_memory : List ℕ) → (f : Follows m v (state_of stands frames slots m old memory) memory regs after_memory)
-      → new ≡ record old { cpu = record old.cpu { regs = regs; held = false }; board = board_step old.board; step = old.step + 1 } → now ≡ after_memory → entries_of (slots old.shadows now) ≡ entries_of (slots old.shadows memory)
-      → f.after ≡ state_of stands frames slots m new now
+  after_is : (m : Setting) (v : View) (old new : Running S) (memory now : List ℕ) (regs : Regs) (after_memory : List ℕ) → (f : Follows m v (state_of shows m old memory) memory regs after_memory)
+      → new ≡ record old { cpu = record old.cpu { regs = regs; held = false }; board = board_step old.board; step = old.step + 1 } → now ≡ after_memory → entries_of (shows.slots old.shadows now) ≡ entries_of (shows.slots old.shadows memory)
+      → f.after ≡ state_of shows m new now
   after_is m v old new memory now regs after_memory f is memory_is entries =
       (λ i. record { cpu = f.cpu i; ram = (f.stands.ram ∙ ap (shown m) (sym memory_is)) i; set = (f.set ∙ sym entries) i; board = f.board i; step = f.count i })
-      ∙ ap (λ (g : Running S). state_of stands frames slots m g now) (sym is)
+      ∙ ap (λ (g : Running S). state_of shows m g now) (sym is)
 
   -- it went, from what was kept before the instruction's pages were filled
   pub asked_goes : (m : Setting) (v : View) (b : State) (old new : Running S) (memory now : List ℕ) (before after : Counts) (done : ℕ) (lost : Lost)
-      → (a : Asks m v b lost.before lost (state_of stands frames slots m old memory) memory)
+      → (a : Asks m v b lost.before lost (state_of shows m old memory) memory)
       → Ran v 1 (standing old.cpu.regs memory before.retired before.passed) old done new now after.retired after.passed
-      → entries_of (slots old.shadows now) ≡ entries_of (slots old.shadows memory)
-      → Goes m b lost Nothing (state_of stands frames slots m new now) before after
+      → entries_of (shows.slots old.shadows now) ≡ entries_of (shows.slots old.shadows memory)
+      → Goes m b lost Nothing (state_of shows m new now) before after
   asked_goes m v b old new memory now before after done lost a ran entries =
-      let filled = state_of stands frames slots m old memory in
+      let filled = state_of shows m old memory in
       let f = a.completes.follows in
       let r = ran_once m v filled old memory a.regs before after done new now refl a.completes ran in
       let is = after_is m v old new memory now a.regs a.completes.after_memory f r.new_is r.memory_is entries in
-      once_goes m b filled (state_of stands frames slots m new now) before after lost a.kept
+      once_goes m b filled (state_of shows m new now) before after lost a.kept
       (record { report = f.report; went = f.went ∙ ap (λ (x : State). Went f.report x) is; silent = f.unseen; counts = counts_one m v filled memory a.regs a.completes.after_memory before after f r.retired r.passed })
       a.same
 
@@ -136,10 +136,10 @@ module _ {S : Type 0} (stands : S → List ℕ → Type 0) (frames : S → List 
   -- what the host writes in the guest's frames leaves all that lies behind them
   pub held_done : (image : Image) (n : ℕ) (g : Running S) (cpu : Cpu) (board : Board) (step : ℕ) (pool : Pool) (old now : List ℕ)
       → drop (4096 * n) now ≡ drop (4096 * n) old → length now ≡ length old → IsHost (ground image n) now
-      → ∥ stands g.shadows now ∥₁ → Owns pool now (frames g.shadows now) → frames g.shadows now ≡ frames g.shadows old
-      → SameSlots (slots g.shadows old) (slots g.shadows now) → entries_of (slots g.shadows now) ≡ entries_of (slots g.shadows old)
+      → ∥ shows.stands g.shadows now ∥₁ → Owns pool now (shows.frames g.shadows now) → shows.frames g.shadows now ≡ shows.frames g.shadows old
+      → SameSlots (shows.slots g.shadows old) (shows.slots g.shadows now) → entries_of (shows.slots g.shadows now) ≡ entries_of (shows.slots g.shadows old)
       → wp_of cpu ≡ wp_of g.cpu → g.step ≤ step
-      → IsHeld stands frames slots (ground image n) g pool old → IsHeld stands frames slots (ground image n) (record g { cpu = cpu; board = board; step = step }) pool now
+      → IsHeld shows (ground image n) g pool old → IsHeld shows (ground image n) (record g { cpu = cpu; board = board; step = step }) pool now
   held_done image n g cpu board step pool old now above size host stand owns same_frames same_slots same_entries wp later h =
       let low = h.behind in
       let free = ap length (free_list-above pool old now (4096 * n) (omega (arith, low)) above size h.owns.stands) in
@@ -158,39 +158,39 @@ module _ {S : Type 0} (stands : S → List ℕ → Type 0) (frames : S → List 
         few = omega (arith, few, free, same);
         fills = (let f = h.fills in omega (arith, later, f));
         within = subst (λ (set : Set). AreWithin n set) (sym same_entries) h.within;
-        open_to = subst (λ (w : Bool). AreOpen image w (slots g.shadows now)) (sym wp) (same_open image (wp_of g.cpu) (slots g.shadows old) (slots g.shadows now) same_slots h.open_to);
+        open_to = subst (λ (w : Bool). AreOpen image w (shows.slots g.shadows now)) (sym wp) (same_open image (wp_of g.cpu) (shows.slots g.shadows old) (shows.slots g.shadows now) same_slots h.open_to);
       }
 
   -- what is kept stands over another memory as it did
   pub record SameKept (s : S) (pool : Pool) (old now : List ℕ) : Type 0 where
-    pub stand : ∥ stands s now ∥₁
-    pub owns : Owns pool now (frames s now)
-    pub frames_are : frames s now ≡ frames s old
-    pub slots_are : SameSlots (slots s old) (slots s now)
-    pub entries_are : entries_of (slots s now) ≡ entries_of (slots s old)
+    pub stand : ∥ shows.stands s now ∥₁
+    pub owns : Owns pool now (shows.frames s now)
+    pub frames_are : shows.frames s now ≡ shows.frames s old
+    pub slots_are : SameSlots (shows.slots s old) (shows.slots s now)
+    pub entries_are : entries_of (shows.slots s now) ≡ entries_of (shows.slots s old)
 
   -- The guest g0 was asked for one instruction: its pages were filled, which gave g1, and the host did it, which gave g2.
-  pub record IsOnce (directory : S → Side → ℕ) (image : Image) (g0 g1 g2 : Running S) (pool : Pool) (m0 m1 m2 : List ℕ) (before after : Counts) (done : ℕ) : Type 0 where
-    pub asks : (script : Events) → Asks (wedge image script g0.frames) (view_by (directory g1.shadows) g0.cpu) (state_of stands frames slots (wedge image script g0.frames) g0 m0) g1.lost.before g1.lost (state_of stands frames slots (wedge image script g0.frames) g1 m1) m1
-    pub ran : Ran (view_by (directory g1.shadows) g1.cpu) 1 (standing g1.cpu.regs m1 before.retired before.passed) g1 done g2 m2 after.retired after.passed
+  pub record IsOnce (image : Image) (g0 g1 g2 : Running S) (pool : Pool) (m0 m1 m2 : List ℕ) (before after : Counts) (done : ℕ) : Type 0 where
+    pub asks : (script : Events) → Asks (wedge image script g0.frames) (view_by (shows.directory g1.shadows) g0.cpu) (state_of shows (wedge image script g0.frames) g0 m0) g1.lost.before g1.lost (state_of shows (wedge image script g0.frames) g1 m1) m1
+    pub ran : Ran (view_by (shows.directory g1.shadows) g1.cpu) 1 (standing g1.cpu.regs m1 before.retired before.passed) g1 done g2 m2 after.retired after.passed
     pub same : g1 ≡ record g0 { shadows = g1.shadows; held = g1.held; fills = g1.fills; lost = g1.lost }
-    pub held : IsHeld stands frames slots (ground image g0.frames) (record g1 { step = g0.step + 1 }) pool m1
+    pub held : IsHeld shows (ground image g0.frames) (record g1 { step = g0.step + 1 }) pool m1
     pub kept : drop (4096 * g0.frames) m2 ≡ drop (4096 * g0.frames) m1 → length m2 ≡ length m1 → SameKept g1.shadows pool m1 m2
 
-  module _ (directory : S → Side → ℕ) (image : Image) (g0 g1 g2 : Running S) (pool : Pool) (m0 m1 m2 : List ℕ) (before after : Counts) (done : ℕ) (o : IsOnce directory image g0 g1 g2 pool m0 m1 m2 before after done) where
+  module _ (image : Image) (g0 g1 g2 : Running S) (pool : Pool) (m0 m1 m2 : List ℕ) (before after : Counts) (done : ℕ) (o : IsOnce image g0 g1 g2 pool m0 m1 m2 before after done) where
     pub cpu_is : g1.cpu ≡ g0.cpu
     cpu_is = ap (λ (g : Running S). g.cpu) o.same
 
     step_is : g1.step ≡ g0.step
     step_is = ap (λ (g : Running S). g.step) o.same
 
-    asks_now : (script : Events) → Asks (wedge image script g0.frames) (view_by (directory g1.shadows) g1.cpu) (state_of stands frames slots (wedge image script g0.frames) g0 m0) g1.lost.before g1.lost (state_of stands frames slots (wedge image script g0.frames) g1 m1) m1
+    asks_now : (script : Events) → Asks (wedge image script g0.frames) (view_by (shows.directory g1.shadows) g1.cpu) (state_of shows (wedge image script g0.frames) g0 m0) g1.lost.before g1.lost (state_of shows (wedge image script g0.frames) g1 m1) m1
     asks_now script =
-        subst (λ (x : Cpu). Asks (wedge image script g0.frames) (view_by (directory g1.shadows) x) (state_of stands frames slots (wedge image script g0.frames) g0 m0) g1.lost.before g1.lost (state_of stands frames slots (wedge image script g0.frames) g1 m1) m1) (sym cpu_is) (o.asks script)
+        subst (λ (x : Cpu). Asks (wedge image script g0.frames) (view_by (shows.directory g1.shadows) x) (state_of shows (wedge image script g0.frames) g0 m0) g1.lost.before g1.lost (state_of shows (wedge image script g0.frames) g1 m1) m1) (sym cpu_is) (o.asks script)
 
-    ran : (a : Asks (ground image g0.frames) (view_by (directory g1.shadows) g1.cpu) (state_of stands frames slots (ground image g0.frames) g0 m0) g1.lost.before g1.lost (state_of stands frames slots (ground image g0.frames) g1 m1) m1)
+    ran : (a : Asks (ground image g0.frames) (view_by (shows.directory g1.shadows) g1.cpu) (state_of shows (ground image g0.frames) g0 m0) g1.lost.before g1.lost (state_of shows (ground image g0.frames) g1 m1) m1)
         → RanOnce g1 a.regs a.completes.after_memory done g2 m2 before after
-    ran a = ran_once (ground image g0.frames) (view_by (directory g1.shadows) g1.cpu) (state_of stands frames slots (ground image g0.frames) g1 m1) g1 m1 a.regs before after done g2 m2 refl a.completes o.ran
+    ran a = ran_once (ground image g0.frames) (view_by (shows.directory g1.shadows) g1.cpu) (state_of shows (ground image g0.frames) g1 m1) g1 m1 a.regs before after done g2 m2 refl a.completes o.ran
 
     pub behind_is : drop (4096 * g0.frames) m2 ≡ drop (4096 * g0.frames) m1
     behind_is = let a = asks_now [] in ap (λ (l : List ℕ). drop (4096 * g0.frames) l) (ran a).memory_is ∙ a.completes.follows.behind
@@ -207,10 +207,10 @@ module _ {S : Type 0} (stands : S → List ℕ → Type 0) (frames : S → List 
     pub lost_is : g2.lost ≡ g1.lost
     lost_is = let a = asks_now [] in ap (λ (g : Running S). g.lost) (ran a).new_is
 
-    pub once_goes_on : (script : Events) → Goes (wedge image script g0.frames) (state_of stands frames slots (wedge image script g0.frames) g0 m0) g2.lost Nothing (state_of stands frames slots (wedge image script g0.frames) g2 m2) before after
+    pub once_goes_on : (script : Events) → Goes (wedge image script g0.frames) (state_of shows (wedge image script g0.frames) g0 m0) g2.lost Nothing (state_of shows (wedge image script g0.frames) g2 m2) before after
     once_goes_on script =
-        subst (λ (x : Lost). Goes (wedge image script g0.frames) (state_of stands frames slots (wedge image script g0.frames) g0 m0) x Nothing (state_of stands frames slots (wedge image script g0.frames) g2 m2) before after) (sym lost_is)
-        (asked_goes (wedge image script g0.frames) (view_by (directory g1.shadows) g1.cpu) (state_of stands frames slots (wedge image script g0.frames) g0 m0) g1 g2 m1 m2 before after done g1.lost (asks_now script) o.ran kept.entries_are)
+        subst (λ (x : Lost). Goes (wedge image script g0.frames) (state_of shows (wedge image script g0.frames) g0 m0) x Nothing (state_of shows (wedge image script g0.frames) g2 m2) before after) (sym lost_is)
+        (asked_goes (wedge image script g0.frames) (view_by (shows.directory g1.shadows) g1.cpu) (state_of shows (wedge image script g0.frames) g0 m0) g1 g2 m1 m2 before after done g1.lost (asks_now script) o.ran kept.entries_are)
 
     pub once_frames : g2.frames ≡ g0.frames
     once_frames = let a = asks_now [] in ap (λ (g : Running S). g.frames) (ran a).new_is ∙ ap (λ (g : Running S). g.frames) o.same
@@ -221,18 +221,18 @@ module _ {S : Type 0} (stands : S → List ℕ → Type 0) (frames : S → List 
     pub once_few : after.retired ≡ before.retired + 1
     once_few = (ran (asks_now [])).retired
 
-    pub once_stands : ∥ stands g2.shadows m2 ∥₁
-    once_stands = subst (λ (s : S). ∥ stands s m2 ∥₁) (sym shadows_are) kept.stand
+    pub once_stands : ∥ shows.stands g2.shadows m2 ∥₁
+    once_stands = subst (λ (s : S). ∥ shows.stands s m2 ∥₁) (sym shadows_are) kept.stand
 
     pub once_able : StepsKeepAble → IsAble g0.cpu → IsAble g2.cpu
     once_able keeps able =
         let a = asks_now [] in
         let f = a.completes.follows in
         let able_now = subst (λ (x : Cpu). IsAble x) (sym cpu_is) able in
-        let k = keeps (ground image g0.frames) (state_of stands frames slots (ground image g0.frames) g1 m1) refl able_now f.report f.after f.went in
+        let k = keeps (ground image g0.frames) (state_of shows (ground image g0.frames) g1 m1) refl able_now f.report f.after f.went in
         subst (λ (x : Cpu). IsAble x) (f.cpu ∙ sym (ap (λ (g : Running S). g.cpu) (ran a).new_is)) k
 
-    pub once_held : IsHeld stands frames slots (ground image g0.frames) g2 pool m2
+    pub once_held : IsHeld shows (ground image g0.frames) g2 pool m2
     once_held =
         let a = asks_now [] in
         let f = a.completes.follows in
@@ -240,15 +240,15 @@ module _ {S : Type 0} (stands : S → List ℕ → Type 0) (frames : S → List 
         let host = subst (λ (l : List ℕ). IsHost (ground image g0.frames) l) (sym r.memory_is) f.stands.host in
         let k = kept in
         let same = step_is in
-        subst (λ (g : Running S). IsHeld stands frames slots (ground image g0.frames) g pool m2) (sym r.new_is)
+        subst (λ (g : Running S). IsHeld shows (ground image g0.frames) g pool m2) (sym r.new_is)
         (held_done image g0.frames (record g1 { step = g0.step + 1 }) (record g1.cpu { regs = a.regs; held = false }) (board_step g1.board) (g1.step + 1) pool m1 m2 behind_is size_is host k.stand k.owns k.frames_are k.slots_are k.entries_are refl (omega (arith, same)) o.held)
 
-    pub once_keeps : (p0 : Pool) → Keeps p0 pool m0 m1 (frames g0.shadows m0) (frames g1.shadows m1) → Keeps p0 pool m0 m2 (frames g0.shadows m0) (frames g2.shadows m2)
+    pub once_keeps : (p0 : Pool) → Keeps p0 pool m0 m1 (shows.frames g0.shadows m0) (shows.frames g1.shadows m1) → Keeps p0 pool m0 m2 (shows.frames g0.shadows m0) (shows.frames g2.shadows m2)
     once_keeps p0 first =
         let low = o.held.behind in
-        subst (λ (s : S). Keeps p0 pool m0 m2 (frames g0.shadows m0) (frames s m2)) (sym shadows_are)
-        (keeps_join p0 pool pool m0 m1 m2 (frames g0.shadows m0) (frames g1.shadows m1) (frames g1.shadows m2) first
-        (keeps_above pool m1 m2 (4096 * g0.frames) (frames g1.shadows m1) (frames g1.shadows m2) o.held.owns.stands (omega (arith, low)) behind_is size_is kept.frames_are))
+        subst (λ (s : S). Keeps p0 pool m0 m2 (shows.frames g0.shadows m0) (shows.frames s m2)) (sym shadows_are)
+        (keeps_join p0 pool pool m0 m1 m2 (shows.frames g0.shadows m0) (shows.frames g1.shadows m1) (shows.frames g1.shadows m2) first
+        (keeps_above pool m1 m2 (4096 * g0.frames) (shows.frames g1.shadows m1) (shows.frames g1.shadows m2) o.held.owns.stands (omega (arith, low)) behind_is size_is kept.frames_are))
 
     pub once_fills : (pages : S → List ℕ → ℕ) (old : ℕ) → pages g1.shadows m2 ≡ pages g1.shadows m1 → FillsOn old (pages g1.shadows m1) g0.fills g1.fills → FillsOn old (pages g2.shadows m2) g0.fills g2.fills
     once_fills pages old same first =
@@ -259,7 +259,7 @@ module _ {S : Type 0} (stands : S → List ℕ → Type 0) (frames : S → List 
         (subst (λ (k : ℕ). FillsOn old k g0.fills g1.fills) (sym same) first))
 
     -- no frame to which the view lets no write pass has changed
-    pub once_untouched : (at : ℕ) → IsUnlent m1 (directory g1.shadows (side_of (g1.cpu.cpl == 3))) at → frame (shown (ground image g0.frames) m2) at ≡ frame (shown (ground image g0.frames) m1) at
+    pub once_untouched : (at : ℕ) → IsUnlent m1 (shows.directory g1.shadows (side_of (g1.cpu.cpl == 3))) at → frame (shown (ground image g0.frames) m2) at ≡ frame (shown (ground image g0.frames) m1) at
     once_untouched at unlent =
         let a = asks_now [] in
         let f = a.completes.follows in
@@ -273,15 +273,15 @@ module _ {S : Type 0} (stands : S → List ℕ → Type 0) (frames : S → List 
 
     -- It is the step of a run that goes by what was left: it loads no CR3, leaves the control registers, and leaves what is
     -- kept, and this memory.
-    pub once_taken : (script : Events) (t : Taken) → IsTakenFrom (wedge image script g0.frames) (state_of stands frames slots (wedge image script g0.frames) g0 m0) t → t.set ≡ left_of g1.lost.before (entries_of (slots g0.shadows m0))
-        → (is_load t.report.completed ≡ false) × ((t.after.cpu.cr0 ≡ g0.cpu.cr0) × (t.after.cpu.cr3 ≡ g0.cpu.cr3) × (t.after.cpu.cr4 ≡ g0.cpu.cr4)) × (t.after.set ≡ entries_of (slots g1.shadows m1)) × (t.after.ram ≡ shown (ground image g0.frames) m2)
+    pub once_taken : (script : Events) (t : Taken) → IsTakenFrom (wedge image script g0.frames) (state_of shows (wedge image script g0.frames) g0 m0) t → t.set ≡ left_of g1.lost.before (entries_of (shows.slots g0.shadows m0))
+        → (is_load t.report.completed ≡ false) × ((t.after.cpu.cr0 ≡ g0.cpu.cr0) × (t.after.cpu.cr3 ≡ g0.cpu.cr3) × (t.after.cpu.cr4 ≡ g0.cpu.cr4)) × (t.after.set ≡ entries_of (shows.slots g1.shadows m1)) × (t.after.ram ≡ shown (ground image g0.frames) m2)
     once_taken script t taken by =
         let m = wedge image script g0.frames in
-        let b = state_of stands frames slots m g0 m0 in
+        let b = state_of shows m g0 m0 in
         let a = asks_now script in
         let f = a.completes.follows in
         let s = a.same f.report f.after f.went in
-        let r = ran_once m (view_by (directory g1.shadows) g1.cpu) (state_of stands frames slots m g1 m1) g1 m1 a.regs before after done g2 m2 refl a.completes o.ran in
+        let r = ran_once m (view_by (shows.directory g1.shadows) g1.cpu) (state_of shows m g1 m1) g1 m1 a.regs before after done g2 m2 refl a.completes o.ran in
         let is : Went t.report t.after ≡ Went (record f.report { tables = s.0; wrote = s.1 }) f.after = sym taken.stepped ∙ (ap (λ (x : Set). stepped m (with_set b x)) by ∙ s.2) in
         let report = ap (report_in t.report) is in
         let state = ap (state_in t.after) is in

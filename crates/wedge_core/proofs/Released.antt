@@ -8,6 +8,7 @@ use Rattle.frame_pool.specs.Held.{Owns, Moves}
 use Rattle.image_check.specs.Image.{Image}
 use Rattle.shadow_tables.specs.Entries.{entries_of}
 use Rattle.shadow_cache.specs.Views as roots
+use Rattle.wedge_core.specs.OfRoots.{of_roots}
 use Rattle.shadow_cache.specs.declared.roots.Roots.{Roots}
 use Rattle.machine_model.specs.Run.{Set}
 use Rattle.wedge_step.specs.Standing.{IsHeld, ground}
@@ -18,8 +19,8 @@ use Rattle.wedge_step.proofs.Opening.{none_open}
 
 pub held_on : (image : Image) (frames : ℕ) (g : Running Roots) (s : Roots) (p p' : Pool) (m m' : List ℕ)
     → ∥ roots.stands s m' ∥₁ → ((page : ℕ) → page < 2 ^ 20 → roots.slots s m' page ≡ None) → entries_of (roots.slots s m') ≡ empty → length (roots.frames s m') ≡ 2 → Owns p' m' (roots.frames s m')
-    → Moves p p' m m' (roots.frames g.shadows m) (roots.frames s m') → IsHeld roots.stands roots.frames roots.slots (ground image frames) g p m
-    → IsHeld roots.stands roots.frames roots.slots (ground image frames) (record g { shadows = s; held = 2 }) p' m'
+    → Moves p p' m m' (roots.frames g.shadows m) (roots.frames s m') → IsHeld of_roots (ground image frames) g p m
+    → IsHeld of_roots (ground image frames) (record g { shadows = s; held = 2 }) p' m'
 held_on image frames g s p p' m m' stands none entries two owns moves h =
     let room = h.wedge.room in
     let within = text_within image in

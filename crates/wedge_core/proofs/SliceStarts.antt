@@ -7,7 +7,7 @@ use Rattle.run_trace.specs.declared.pause.Pause.{Pause}
 use Rattle.run_trace.specs.Notes.{Note}
 use Rattle.shadow_tables.specs.OtherRoot.{OtherRoot}
 use Rattle.shadow_tables.specs.Entries.{entries_of}
-use Rattle.shadow_tables.specs.Slots.{Slot}
+use Rattle.shadow_tables.specs.declared.shadows.Shadows as shadows
 use Rattle.machine_model.specs.State.{Setting, State}
 use Rattle.machine_model.specs.Run.{Set}
 use Rattle.kept_laws.specs.Known.{IsKnown}
@@ -51,10 +51,10 @@ pauses_more (Ok pause) A B f a = f a
 pauses_more (Err failed) A B f a = tt
 
 -- where the present tables are as new and nothing is present, all is known
-pub anew_carries : {S : Type 0} (slots : S → List ℕ → ℕ → Option Slot) (read_from : S → ℕ → Bool) (stale : S → Bool) (other_roots : S → List ℕ → List OtherRoot) (has_tables_under : S → List ℕ → (ℕ → Bool) → Type 0) → CarryLaws → (m : Setting) (b : State) (s : S) (memory : List ℕ)
-    → entries_of (slots s memory) ≡ empty → IsAsNew read_from stale other_roots has_tables_under s memory → IsCarried slots read_from stale other_roots has_tables_under m [] b s memory
-anew_carries slots read_from stale other_roots has_tables_under laws m b s memory none anew = record {
-  known = subst (IsKnown m [] b (read_from s) (stale s) (other_roots s memory)) (sym none)
-      (subst (λ (l : List OtherRoot). IsKnown m [] b (read_from s) (stale s) l empty) (sym anew.alone) (laws.start m b (read_from s) (stale s) anew.unnoted anew.unmarked));
+pub anew_carries : {S : Type 0} (shows : shadows.Ghosts S) → CarryLaws → (m : Setting) (b : State) (s : S) (memory : List ℕ)
+    → entries_of (shows.slots s memory) ≡ empty → IsAsNew shows s memory → IsCarried shows m [] b s memory
+anew_carries shows laws m b s memory none anew = record {
+  known = subst (IsKnown m [] b (shows.read_from s) (shows.stale s) (shows.other_roots s memory)) (sym none)
+      (subst (λ (l : List OtherRoot). IsKnown m [] b (shows.read_from s) (shows.stale s) l empty) (sym anew.alone) (laws.start m b (shows.read_from s) (shows.stale s) anew.unnoted anew.unmarked));
   opened_to = anew.unopened _;
 }

@@ -1,5 +1,5 @@
 -- A guest behind a run of its host: its steps, and that it is held as before.
-use Rattle.std.proofs.Common.{◌≡◌, ℕ, zero, suc, ◌+◌, ◌-◌, ◌*◌, ◌/◌, ◌%◌, ◌≤◌, ◌<◌, ◌^◌, ◌==◌, Bool, true, false, ◌||◌, not, List, [], length, drop, replicate, Option, refl, sym, ap, subst, ◌∙◌, arith}
+use Rattle.std.proofs.Common.{◌≡◌, ℕ, zero, suc, ◌+◌, ◌-◌, ◌*◌, ◌/◌, ◌%◌, ◌≤◌, ◌<◌, ◌^◌, ◌==◌, Bool, true, false, ◌||◌, not, List, [], length, drop, replicate, refl, sym, ap, subst, ◌∙◌, arith}
 use Rattle.std.specs.FinMap.{get}
 use Rattle.guest_ram.specs.Bytes.{frame}
 use Rattle.descriptors.specs.Controls.{pse_of, wp_of}
@@ -15,8 +15,9 @@ use Rattle.board.specs.Scripts.{Events}
 use Rattle.ia32_types.specs.declared.flags.Regs.{Regs}
 use Rattle.shadow_tables.specs.Entries.{entries_of}
 use Rattle.shadow_tables.specs.Host.{lent}
-use Rattle.shadow_tables.specs.Slots.{Slot, SameSlots, entry_in}
+use Rattle.shadow_tables.specs.Slots.{SameSlots, entry_in}
 use Rattle.shadow_tables.specs.declared.words.Side.{Side}
+use Rattle.shadow_tables.specs.declared.shadows.Shadows as shadows
 use Rattle.step_mem.specs.Changes.{AreWithin}
 use Rattle.image_check.specs.Image.{Image}
 use Rattle.host_cpl3.specs.declared.view.View.{View}
@@ -56,17 +57,17 @@ none_comes : (board : Board) (script : Events) (step n : ℕ) → comes_within b
 unfolding comes_within
 none_comes board script step n e = front (edge_within n board.pit) (event_within step n script) e
 
-module _ {S : Type 0} (stands : S → List ℕ → Type 0) (frames : S → List ℕ → List ℕ) (slots : S → List ℕ → ℕ → Option Slot) (directory : S → Side → ℕ) where
+module _ {S : Type 0} (shows : shadows.Ghosts S) where
   -- the laws of shadows
   pub record Laws : Type 0 where
-    pub host : (s : S) (m : List ℕ) (n : ℕ) (side : Side) (page : ℕ) (write : Bool) → ∥ stands s m ∥₁ → 4096 * n ≡ length m → page < 2 ^ 20 → reached m n (directory s side) page write ≡ lent n (slots s m page) side write
-    pub stays : (s : S) (m m' : List ℕ) → ∥ stands s m ∥₁ → SameIn (frames s m) m m' → ∥ stands s m' ∥₁
-    pub same_frames : (s : S) (m m' : List ℕ) → ∥ stands s m ∥₁ → SameIn (frames s m) m m' → frames s m' ≡ frames s m
-    pub same_slots : (s : S) (m m' : List ℕ) → ∥ stands s m ∥₁ → SameIn (frames s m) m m' → SameSlots (slots s m) (slots s m')
-    pub same_entries : (s : S) (m m' : List ℕ) → ∥ stands s m ∥₁ → SameIn (frames s m) m m' → entries_of (slots s m') ≡ entries_of (slots s m)
-    pub entry_at : (s : S) (m : List ℕ) (page : ℕ) → page < 2 ^ 20 → get (entries_of (slots s m)) page ≡ entry_in (slots s m page)
-    pub above : (s : S) (p : Pool) (m m' : List ℕ) (limit : ℕ) → Owns p m (frames s m) → limit ≤ 4096 * base_of p → drop limit m' ≡ drop limit m → length m' ≡ length m → SameIn (frames s m) m m'
-    pub owned_above : (s : S) (p : Pool) (m m' : List ℕ) (limit : ℕ) → ∥ stands s m ∥₁ → Owns p m (frames s m) → limit ≤ 4096 * base_of p → drop limit m' ≡ drop limit m → length m' ≡ length m → Owns p m' (frames s m')
+    pub host : (s : S) (m : List ℕ) (n : ℕ) (side : Side) (page : ℕ) (write : Bool) → ∥ shows.stands s m ∥₁ → 4096 * n ≡ length m → page < 2 ^ 20 → reached m n (shows.directory s side) page write ≡ lent n (shows.slots s m page) side write
+    pub stays : (s : S) (m m' : List ℕ) → ∥ shows.stands s m ∥₁ → SameIn (shows.frames s m) m m' → ∥ shows.stands s m' ∥₁
+    pub same_frames : (s : S) (m m' : List ℕ) → ∥ shows.stands s m ∥₁ → SameIn (shows.frames s m) m m' → shows.frames s m' ≡ shows.frames s m
+    pub same_slots : (s : S) (m m' : List ℕ) → ∥ shows.stands s m ∥₁ → SameIn (shows.frames s m) m m' → SameSlots (shows.slots s m) (shows.slots s m')
+    pub same_entries : (s : S) (m m' : List ℕ) → ∥ shows.stands s m ∥₁ → SameIn (shows.frames s m) m m' → entries_of (shows.slots s m') ≡ entries_of (shows.slots s m)
+    pub entry_at : (s : S) (m : List ℕ) (page : ℕ) → page < 2 ^ 20 → get (entries_of (shows.slots s m)) page ≡ entry_in (shows.slots s m page)
+    pub above : (s : S) (p : Pool) (m m' : List ℕ) (limit : ℕ) → Owns p m (shows.frames s m) → limit ≤ 4096 * base_of p → drop limit m' ≡ drop limit m → length m' ≡ length m → SameIn (shows.frames s m) m m'
+    pub owned_above : (s : S) (p : Pool) (m m' : List ℕ) (limit : ℕ) → ∥ shows.stands s m ∥₁ → Owns p m (shows.frames s m) → limit ≤ 4096 * base_of p → drop limit m' ≡ drop limit m → length m' ≡ length m → Owns p m' (shows.frames s m')
 
   -- what follows from the run alone
   module _ (g now : Running S) (view : View) (start : Standing) (k done : ℕ) (after_memory : List ℕ) (retired_then passed_then : ℕ) (r : Ran view k start g done now after_memory retired_then passed_then) where
@@ -95,9 +96,9 @@ module _ {S : Type 0} (stands : S → List ℕ → Type 0) (frames : S → List 
         by zero t = let e = ap (λ (x : Running S). x.step) (t.0 refl) in omega (arith, e)
         by (suc n) t = ap (λ (x : Running S). x.step) (t.1 (omega arith))
 
-  module _ (laws : Laws) (image : Image) (f : ℕ) (g : Running S) (pool : Pool) (memory : List ℕ) (h : IsHeld stands frames slots (ground image f) g pool memory) where
+  module _ (laws : Laws) (image : Image) (f : ℕ) (g : Running S) (pool : Pool) (memory : List ℕ) (h : IsHeld shows (ground image f) g pool memory) where
     abbrev kept : List ℕ → Set
-    kept m = entries_of (slots g.shadows m)
+    kept m = entries_of (shows.slots g.shadows m)
 
     -- ---- memory that is the same behind the guest's frames
 
@@ -105,16 +106,16 @@ module _ {S : Type 0} (stands : S → List ℕ → Type 0) (frames : S → List 
       pub limit : 4096 * f ≤ 4096 * base_of pool
       limit = let b = h.behind in omega (arith, b)
 
-      pub same_in : SameIn (frames g.shadows memory) memory new
+      pub same_in : SameIn (shows.frames g.shadows memory) memory new
       same_in = laws.above g.shadows pool memory new (4096 * f) h.owns limit same.beyond same.size
 
-      pub stand : ∥ stands g.shadows new ∥₁
+      pub stand : ∥ shows.stands g.shadows new ∥₁
       stand = laws.stays g.shadows memory new h.stand same_in
 
-      owned : Owns pool new (frames g.shadows new)
+      owned : Owns pool new (shows.frames g.shadows new)
       owned = laws.owned_above g.shadows pool memory new (4096 * f) h.stand h.owns limit same.beyond same.size
 
-      frames_same : frames g.shadows new ≡ frames g.shadows memory
+      frames_same : shows.frames g.shadows new ≡ shows.frames g.shadows memory
       frames_same = laws.same_frames g.shadows memory new h.stand same_in
 
       pub set_same : kept new ≡ kept memory
@@ -126,23 +127,23 @@ module _ {S : Type 0} (stands : S → List ℕ → Type 0) (frames : S → List 
       within : AreWithin f (kept new)
       within = subst (AreWithin f) (sym set_same) h.within
 
-      has_tables_under : AreOpen image (wp_of g.cpu) (slots g.shadows new)
-      has_tables_under = same_open image (wp_of g.cpu) (slots g.shadows memory) (slots g.shadows new) (laws.same_slots g.shadows memory new h.stand same_in) h.open_to
+      has_tables_under : AreOpen image (wp_of g.cpu) (shows.slots g.shadows new)
+      has_tables_under = same_open image (wp_of g.cpu) (shows.slots g.shadows memory) (shows.slots g.shadows new) (laws.same_slots g.shadows memory new h.stand same_in) h.open_to
 
       lends : ViewsLend → (script : Events) (whole : Set) → IsPartOf (kept memory) whole
-          → Lends (wedge image script f) new (directory g.shadows (side_of (g.cpu.cpl == 3))) (not (g.cpu.cpl == 3)) (wp_of g.cpu) whole
+          → Lends (wedge image script f) new (shows.directory g.shadows (side_of (g.cpu.cpl == 3))) (not (g.cpu.cpl == 3)) (wp_of g.cpu) whole
       lends views script whole part =
           let m = wedge image script f in
           let side = side_of (g.cpu.cpl == 3) in
           let all : 4096 * (length new / 4096) ≡ length new = let w = whole_new in omega (arith, w) in
-          let lent_here = views m new (directory g.shadows side) side (wp_of g.cpu) (slots g.shadows new) whole
+          let lent_here = views m new (shows.directory g.shadows side) side (wp_of g.cpu) (shows.slots g.shadows new) whole
           (λ page write lt. laws.host g.shadows new (length new / 4096) side page write stand all lt)
           (λ page lt. laws.entry_at g.shadows new page lt) within has_tables_under (subst (λ (x : Set). IsPartOf x whole) (sym set_same) part) in
-          subst (λ (x : Bool). Lends m new (directory g.shadows side) x (wp_of g.cpu) whole) (side_is g.cpu) lent_here
+          subst (λ (x : Bool). Lends m new (shows.directory g.shadows side) x (wp_of g.cpu) whole) (side_is g.cpu) lent_here
 
       -- the guest is held as before, at a later step
       held_on : IsHost (ground image f) new → (regs : Regs) (held : Bool) (board : Board) (step : ℕ) → g.step ≤ step
-          → IsHeld stands frames slots (ground image f) (record g { cpu = record g.cpu { regs = regs; held = held }; board = board; step = step }) pool new
+          → IsHeld shows (ground image f) (record g { cpu = record g.cpu { regs = regs; held = held }; board = board; step = step }) pool new
       held_on host regs held board step later =
           let free = ap length (free_list-above pool memory new (4096 * f) limit same.beyond same.size h.owns.stands) in
           let many = ap length frames_same in
@@ -166,10 +167,10 @@ module _ {S : Type 0} (stands : S → List ℕ → Type 0) (frames : S → List 
     -- ---- behind a run of the host
 
     module _ (views : ViewsLend) (sees : ViewsSee) (advances : Advances) (able : IsAble g.cpu) (may : MayRun g.cpu g.board image) (unheld : g.cpu.held ≡ false) (retired passed k done : ℕ) (now : Running S) (after_memory : List ℕ) (retired_then passed_then : ℕ)
-        (r : Ran (view_by (directory g.shadows) g.cpu) k (standing g.cpu.regs memory retired passed) g done now after_memory retired_then passed_then)
+        (r : Ran (view_by (shows.directory g.shadows) g.cpu) k (standing g.cpu.regs memory retired passed) g done now after_memory retired_then passed_then)
       where
         abbrev view : View
-        view = view_by (directory g.shadows) g.cpu
+        view = view_by (shows.directory g.shadows) g.cpu
 
         abbrev start : Standing
         start = standing g.cpu.regs memory retired passed
@@ -202,7 +203,7 @@ module _ {S : Type 0} (stands : S → List ℕ → Type 0) (frames : S → List 
 
           beside : Beside m view begun start
           beside = record {
-            stands = record { host = record { room = h.host.room; text = h.host.text }; ram = refl; sees = sees (directory g.shadows) g.cpu able };
+            stands = record { host = record { room = h.host.room; text = h.host.text }; ram = refl; sees = sees (shows.directory g.shadows) g.cpu able };
             lends = λ new same. lends new (record { size = same.size; beyond = same.beyond }) views script whole part;
             regs = refl;
             awake = may.awake;
@@ -233,14 +234,14 @@ module _ {S : Type 0} (stands : S → List ℕ → Type 0) (frames : S → List 
           set_is : kept after_memory ≡ kept memory
           set_is = set_same after_memory behind_is
 
-          now_set : set_of stands frames slots now after_memory ≡ kept memory
-          now_set = ap (λ (s : S). entries_of (slots s after_memory)) shadows_is ∙ set_is
+          now_set : set_of shows now after_memory ≡ kept memory
+          now_set = ap (λ (s : S). entries_of (shows.slots s after_memory)) shadows_is ∙ set_is
 
           -- some instructions were done
 
           module _ (some : 0 < done) where
             abbrev then_state : State
-            then_state = with_set (state_of stands frames slots m now after_memory) whole
+            then_state = with_set (state_of shows m now after_memory) whole
 
             after_is : advanced.after ≡ then_state
             after_is =
@@ -252,11 +253,11 @@ module _ {S : Type 0} (stands : S → List ℕ → Type 0) (frames : S → List 
                 (advanced.board ∙ (ap (board_after m begun) count_is ∙ (board_some m begun done some ∙ (ap (board_steps done) is ∙ sym (ap (λ (x : Running S). x.board) now_is)))))
                 (advanced.count ∙ (ap (λ (n : ℕ). g.step + n) count_is ∙ sym (ap (λ (x : Running S). x.step) now_is)))
 
-            pub passes_on : whole ≡ kept memory → Passes m begun (state_of stands frames slots m now after_memory) (record { retired = retired; passed = passed }) (record { retired = retired_then; passed = passed_then })
+            pub passes_on : whole ≡ kept memory → Passes m begun (state_of shows m now after_memory) (record { retired = retired; passed = passed }) (record { retired = retired_then; passed = passed_then })
             passes_on exact = record {
               n = advanced.n;
               reports = advanced.reports;
-              steps = subst (Steps m begun (replicate advanced.n whole) advanced.reports) (after_is ∙ ap (with_set (state_of stands frames slots m now after_memory)) (exact ∙ sym now_set)) advanced.steps;
+              steps = subst (Steps m begun (replicate advanced.n whole) advanced.reports) (after_is ∙ ap (with_set (state_of shows m now after_memory)) (exact ∙ sym now_set)) advanced.steps;
               sets = advanced.sets;
               quiet = advanced.quiet;
               silent = advanced.unseen;
@@ -272,10 +273,10 @@ module _ {S : Type 0} (stands : S → List ℕ → Type 0) (frames : S → List 
             shown_same : shown m after_memory ≡ shown m memory
             shown_same = sym ram_is ∙ ap (λ (x : State). x.ram) nothing.1
 
-            state_same : state_of stands frames slots m now after_memory ≡ state_of stands frames slots m g memory
+            state_same : state_of shows m now after_memory ≡ state_of shows m g memory
             state_same =
                 let now_is = r.none none in
-                state_is (state_of stands frames slots m now after_memory) (state_of stands frames slots m g memory) (ap (λ (x : Running S). x.cpu) now_is) shown_same now_set (ap (λ (x : Running S). x.board) now_is) (ap (λ (x : Running S). x.step) now_is)
+                state_is (state_of shows m now after_memory) (state_of shows m g memory) (ap (λ (x : Running S). x.cpu) now_is) shown_same now_set (ap (λ (x : Running S). x.board) now_is) (ap (λ (x : Running S). x.step) now_is)
 
             passed_same : passed_then ≡ passed
             passed_same = lands_there.passed ∙ (advanced.passed ∙ ap (Rattle.machine_model.specs.Counts.passed_digest image.sites passed) nothing.0)
@@ -295,15 +296,15 @@ module _ {S : Type 0} (stands : S → List ℕ → Type 0) (frames : S → List 
           pub host_there : IsHost (ground image f) after_memory
           host_there = host_is [] calm g.board (none_given g.board g.step) (kept memory) itself
 
-          pub stays_on : done ≡ 0 → state_of stands frames slots (wedge image script f) now after_memory ≡ state_of stands frames slots (wedge image script f) g memory
+          pub stays_on : done ≡ 0 → state_of shows (wedge image script f) now after_memory ≡ state_of shows (wedge image script f) g memory
           stays_on none =
               let e = state_same [] calm g.board (none_given g.board g.step) (kept memory) itself none in
-              state_is (state_of stands frames slots (wedge image script f) now after_memory) (state_of stands frames slots (wedge image script f) g memory)
+              state_is (state_of shows (wedge image script f) now after_memory) (state_of shows (wedge image script f) g memory)
               (ap (λ (x : State). x.cpu) e) (any_script image script f after_memory ∙ (ap (λ (x : State). x.ram) e ∙ sym (any_script image script f memory)))
               (ap (λ (x : State). x.set) e) (ap (λ (x : State). x.board) e) (ap (λ (x : State). x.step) e)
 
           -- no frame to which the view lets no write pass, whatever the guest's frames hold, has changed
-          pub untouched_then : (at : ℕ) → ((new : List ℕ) → SameBehind (ground image f) memory new → IsUnlent new (directory g.shadows (side_of (g.cpu.cpl == 3))) at)
+          pub untouched_then : (at : ℕ) → ((new : List ℕ) → SameBehind (ground image f) memory new → IsUnlent new (shows.directory g.shadows (side_of (g.cpu.cpl == 3))) at)
               → frame (shown (ground image f) after_memory) at ≡ frame (shown (ground image f) memory) at
           untouched_then at unlent =
               let a = advanced [] calm g.board (none_given g.board g.step) (kept memory) itself in
@@ -313,20 +314,20 @@ module _ {S : Type 0} (stands : S → List ℕ → Type 0) (frames : S → List 
           passed_on none = passed_same [] calm g.board (none_given g.board g.step) (kept memory) itself none
 
           abbrev Held : Running S → Type 0
-          Held x = IsHeld stands frames slots (ground image f) x pool after_memory
+          Held x = IsHeld shows (ground image f) x pool after_memory
 
-          pub held_then : IsHeld stands frames slots (ground image f) now pool after_memory
+          pub held_then : IsHeld shows (ground image f) now pool after_memory
           held_then = by done r.none r.some
             where
               by : (n : ℕ) → (n ≡ 0 → now ≡ g) → (0 < n → now ≡ record g { cpu = record g.cpu { regs = landed r.exit r.regs; held = false }; board = board_steps n g.board; step = g.step + n }) → Held now
               by zero a b = subst Held (sym (a refl)) (held_on after_memory same_there host_there g.cpu.regs g.cpu.held g.board g.step (omega arith))
               by (suc n) a b = subst Held (sym (b (omega arith))) (held_on after_memory same_there host_there (landed r.exit r.regs) false (board_steps (suc n) g.board) (g.step + suc n) (omega arith))
 
-          pub keeps_then : Keeps pool pool memory after_memory (frames g.shadows memory) (frames now.shadows after_memory)
+          pub keeps_then : Keeps pool pool memory after_memory (shows.frames g.shadows memory) (shows.frames now.shadows after_memory)
           keeps_then =
               let same = same_there in
-              keeps_above pool memory after_memory (4096 * f) (frames g.shadows memory) (frames now.shadows after_memory) h.owns.stands (limit after_memory same) same.beyond same.size
-              (ap (λ (s : S). frames s after_memory) shadows_is ∙ frames_same after_memory same)
+              keeps_above pool memory after_memory (4096 * f) (shows.frames g.shadows memory) (shows.frames now.shadows after_memory) h.owns.stands (limit after_memory same) same.beyond same.size
+              (ap (λ (s : S). shows.frames s after_memory) shadows_is ∙ frames_same after_memory same)
 
           -- a user's flags stay open
           open_then : g.cpu.cpl ≡ 3 → is_open (record g.cpu { regs = landed r.exit r.regs; held = false }) ≡ true

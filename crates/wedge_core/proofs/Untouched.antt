@@ -12,6 +12,7 @@ use Rattle.shadow_tables.specs.Host.{lent, frame_below}
 use Rattle.guest_ram.specs.Among.{is_among}
 use Rattle.shadow_tables.specs.Slots.{Slot, is_side, is_adequate, SameSlots}
 use Rattle.shadow_tables.specs.declared.words.Side.{Side}
+use Rattle.shadow_tables.specs.declared.shadows.Shadows as shadows
 use Rattle.machine_model.specs.Reloading.{IsFoundBy}
 use Rattle.machine_model.specs.State.{Setting}
 use Rattle.native_steps.specs.Lends.{IsUnlent}
@@ -64,26 +65,26 @@ asides_on m cpu ram then size room long test same (a ∷ other_roots) t h = (
   asides_on m cpu ram then size room long test same other_roots t.1 h.1,
 )
 
-module _ {S : Type 0} (stands : S → List ℕ → Type 0) (slots : S → List ℕ → ℕ → Option Slot) (read_from : S → ℕ → Bool) (stale : S → Bool) (value : S → Option ℕ) (other_roots : S → List ℕ → List OtherRoot) (write_protected : S → List ℕ) (directory : S → Side → ℕ) where
+module _ {S : Type 0} (shows : shadows.Ghosts S) where
   -- the laws of shadows that speak of tables
   pub record Tracks : Type 0 where
-    pub host : (s : S) (m : List ℕ) (n : ℕ) (side : Side) (page : ℕ) (write : Bool) → ∥ stands s m ∥₁ → 4096 * n ≡ length m → page < 2 ^ 20 → reached m n (directory s side) page write ≡ lent n (slots s m page) side write
-    pub barred : (s : S) (m : List ℕ) (page : ℕ) (slot : Slot) → ∥ stands s m ∥₁ → page < 2 ^ 20 → slots s m page ≡ Some slot → is_among slot.entry.frame (write_protected s) ≡ true → slot.writes ≡ false
-    pub read_from_is_protected : (s : S) (frame : ℕ) → stale s ≡ false → read_from s frame ≡ true → is_among frame (write_protected s) ≡ true
-    pub other_roots_protected : (s : S) (m : List ℕ) → AllTracked (λ f. is_among f (write_protected s)) (other_roots s m)
+    pub host : (s : S) (m : List ℕ) (n : ℕ) (side : Side) (page : ℕ) (write : Bool) → ∥ shows.stands s m ∥₁ → 4096 * n ≡ length m → page < 2 ^ 20 → reached m n (shows.directory s side) page write ≡ lent n (shows.slots s m page) side write
+    pub barred : (s : S) (m : List ℕ) (page : ℕ) (slot : Slot) → ∥ shows.stands s m ∥₁ → page < 2 ^ 20 → shows.slots s m page ≡ Some slot → is_among slot.entry.frame (shows.write_protected s) ≡ true → slot.writes ≡ false
+    pub read_from_is_protected : (s : S) (frame : ℕ) → shows.stale s ≡ false → shows.read_from s frame ≡ true → is_among frame (shows.write_protected s) ≡ true
+    pub other_roots_protected : (s : S) (m : List ℕ) → AllTracked (λ f. is_among f (shows.write_protected s)) (shows.other_roots s m)
 
   module _ (laws : Tracks) where
     -- no view lets a write pass to a tracked frame
-    pub unlent : (s : S) (m : List ℕ) (side : Side) (at : ℕ) → ∥ stands s m ∥₁ → length m % 4096 ≡ 0 → is_among at (write_protected s) ≡ true → IsUnlent m (directory s side) at
+    pub unlent : (s : S) (m : List ℕ) (side : Side) (at : ℕ) → ∥ shows.stands s m ∥₁ → length m % 4096 ≡ 0 → is_among at (shows.write_protected s) ≡ true → IsUnlent m (shows.directory s side) at
     unlent s m side at stand whole t page lt h =
         let all : 4096 * (length m / 4096) ≡ length m = omega (arith, whole) in
-        let w = lent_writes (length m / 4096) at (slots s m page) side (sym (laws.host s m (length m / 4096) side page true stand all lt) ∙ h) in
-        clash w.slot.writes w.writes (laws.barred s m page w.slot stand lt w.there (ap (λ (f : ℕ). is_among f (write_protected s)) w.leads ∙ t))
+        let w = lent_writes (length m / 4096) at (shows.slots s m page) side (sym (laws.host s m (length m / 4096) side page true stand all lt) ∙ h) in
+        clash w.slot.writes w.writes (laws.barred s m page w.slot stand lt w.there (ap (λ (f : ℕ). is_among f (shows.write_protected s)) w.leads ∙ t))
 
     -- so what is kept is found again, where no tracked frame has changed
     pub ready_on : (m : Setting) (wedge : IsWedge m) (before after : Cpu) (s : S) (memory then : List ℕ) → IsHost m memory → IsHost m then → after.cr3 ≡ before.cr3 → pse_of after ≡ pse_of before → wp_of after ≡ wp_of before
-        → ((at : ℕ) → is_among at (write_protected s) ≡ true → frame (shown m then) at ≡ frame (shown m memory) at) → SameSlots (slots s memory) (slots s then) → AreSame (other_roots s memory) (other_roots s then)
-        → IsReady slots read_from stale value other_roots m before s memory → IsReady slots read_from stale value other_roots m after s then
+        → ((at : ℕ) → is_among at (shows.write_protected s) ≡ true → frame (shown m then) at ≡ frame (shown m memory) at) → SameSlots (shows.slots s memory) (shows.slots s then) → AreSame (shows.other_roots s memory) (shows.other_roots s then)
+        → IsReady shows m before s memory → IsReady shows m after s then
     ready_on m wedge before after s memory then host host_then cr3 pse wp same slots_same asides_same h =
         let ram = shown m memory in
         let new = shown m then in
@@ -96,9 +97,9 @@ module _ {S : Type 0} (stands : S → List ℕ → Type 0) (slots : S → List �
           value_is = h.value_is ∙ ap (λ (c : ℕ). Some c) (sym cr3);
           present = λ un page lt o slot e.
               let here = h.present un page lt refl slot (sym (slots_same page lt) ∙ e) in
-              let there = found_on m ram new size room long (read_from s) (λ at even within k. same_word ram new at even (same (at / 4096) (laws.read_from_is_protected s (at / 4096) un k))) before.cr3 (pse_of before) page slot.entry lt here in
-              subst (λ (b : Bool). IsFoundBy new m.frames after.cr3 b (read_from s) page slot.entry) (sym pse) (subst (λ (c : ℕ). IsFoundBy new m.frames c (pse_of before) (read_from s) page slot.entry) (sym cr3) there);
-          others = all_rules m before after new (other_roots s then) pse wp
-              (all_ready_shed m before new (other_roots s memory) (other_roots s then) (same_shed (other_roots s memory) (other_roots s then) asides_same)
-              (asides_on m before ram new size room long (λ f. is_among f (write_protected s)) same (other_roots s memory) (laws.other_roots_protected s memory) h.others));
+              let there = found_on m ram new size room long (shows.read_from s) (λ at even within k. same_word ram new at even (same (at / 4096) (laws.read_from_is_protected s (at / 4096) un k))) before.cr3 (pse_of before) page slot.entry lt here in
+              subst (λ (b : Bool). IsFoundBy new m.frames after.cr3 b (shows.read_from s) page slot.entry) (sym pse) (subst (λ (c : ℕ). IsFoundBy new m.frames c (pse_of before) (shows.read_from s) page slot.entry) (sym cr3) there);
+          others = all_rules m before after new (shows.other_roots s then) pse wp
+              (all_ready_shed m before new (shows.other_roots s memory) (shows.other_roots s then) (same_shed (shows.other_roots s memory) (shows.other_roots s then) asides_same)
+              (asides_on m before ram new size room long (λ f. is_among f (shows.write_protected s)) same (shows.other_roots s memory) (laws.other_roots_protected s memory) h.others));
         }

@@ -20,7 +20,7 @@ use Rattle.image_load.specs.declared.fault.RunFault.TheVariants as fault
 use Rattle.run_trace.specs.declared.items.End.{End}
 use Rattle.run_trace.specs.Notes.{Note}
 use Rattle.run_trace.specs.Text.{lines_of, end_line, text_of}
-use Rattle.shadow_cache.specs.Views as roots
+use Rattle.wedge_core.specs.OfRoots.{of_roots}
 use Rattle.shadow_cache.specs.declared.roots.Roots.{Roots}
 use Rattle.machine_model.specs.State.{Setting, State, Loosened, boot, wedge}
 use Rattle.machine_model.specs.Run.{Set, Steps, EndsIn, CanGive, stopping, trace_of}
@@ -59,7 +59,7 @@ front_is m memory host room =
 
 -- and so it is where a slice has done its steps
 pub front_held : (pause : Pause) (image : Image) (script : Events) (frames : ℕ) (g : Running Roots) (pool : Pool) (memory : List ℕ)
-    → IfReached (Ok pause) (IsHeld roots.stands roots.frames roots.slots (ground image frames) g pool memory) → IfReached (Ok pause) (take (4096 * frames) memory ≡ with_patches image (shown (wedge image script frames) memory))
+    → IfReached (Ok pause) (IsHeld of_roots (ground image frames) g pool memory) → IfReached (Ok pause) (take (4096 * frames) memory ≡ with_patches image (shown (wedge image script frames) memory))
 front_held Reached image script frames g pool memory h =
     let room = h.wedge.room in
     let within = text_within image in
@@ -69,12 +69,12 @@ front_held (Stopped stop) image script frames g pool memory h = tt
 -- and so the guest stands there
 abbrev pub Standing : Setting → State → ℕ → List ℕ → Type 0
 Standing m new filled memory =
-    (g : Running Roots) × (pool : Pool) × IsHeld roots.stands roots.frames roots.slots (ground m.image m.frames) g pool memory
-    × (state_of roots.stands roots.frames roots.slots m g memory ≡ new) × (g.fills ≡ filled)
+    (g : Running Roots) × (pool : Pool) × IsHeld of_roots (ground m.image m.frames) g pool memory
+    × (state_of of_roots m g memory ≡ new) × (g.fills ≡ filled)
 
 pub guest_held : (pause : Pause) (image : Image) (script : Events) (frames : ℕ) (g : Running Roots) (pool : Pool) (memory : List ℕ)
-    → IfReached (Ok pause) (IsHeld roots.stands roots.frames roots.slots (ground image frames) g pool memory)
-    → IfReached (Ok pause) (Standing (wedge image script frames) (state_of roots.stands roots.frames roots.slots (wedge image script frames) g memory) g.fills memory)
+    → IfReached (Ok pause) (IsHeld of_roots (ground image frames) g pool memory)
+    → IfReached (Ok pause) (Standing (wedge image script frames) (state_of of_roots (wedge image script frames) g memory) g.fills memory)
 guest_held Reached image script frames g pool memory h = (g, pool, h, refl, refl)
 guest_held (Stopped stop) image script frames g pool memory h = tt
 

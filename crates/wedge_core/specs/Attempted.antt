@@ -31,7 +31,7 @@ module _ {S : Type 0} (g : shadows.Ghosts S) where
 
   -- Where no step is counted for a host that is asked, the guest is held once it is.
   pub record AttemptLeaves (image : Image) (wanted : Bool) (old new : Scene S) (result : Result Attempt Stop) : Type 0 where
-    pub held : OnOk result (IsHeld g.stands g.frames g.slots (ground image old.guest.frames) (record new.guest { step = old.guest.step + 1 }) new.pool new.memory)
+    pub held : OnOk result (IsHeld g (ground image old.guest.frames) (record new.guest { step = old.guest.step + 1 }) new.pool new.memory)
     pub ready : OnOk result (IsReadyIn g (ground image old.guest.frames) new)
     pub back : OnOk result (wanted ≡ true → new.guest.lost.back ≡ false)
     pub count : WhereStepped result (new.guest.step ≡ old.guest.step + 1)
@@ -56,8 +56,8 @@ module _ {S : Type 0} (g : shadows.Ghosts S) where
   abbrev pub GoesOver : Image → Scene S → Scene S → Events → List Taken → Taken → Type 0
   GoesOver image old new script steps t =
       (set : Set)
-      → IsCarriedBy g.slots g.read_from g.stale g.other_roots g.has_tables_under (wedge image script old.guest.frames) steps t.before set old.guest.shadows old.memory
-      → IsCarried g.slots g.read_from g.stale g.other_roots g.has_tables_under (wedge image script old.guest.frames) (steps ++ t ∷ []) t.after new.guest.shadows new.memory
+      → IsCarriedBy g (wedge image script old.guest.frames) steps t.before set old.guest.shadows old.memory
+      → IsCarried g (wedge image script old.guest.frames) (steps ++ t ∷ []) t.after new.guest.shadows new.memory
 
   -- What is known of a run goes on over a step that the host does, once it has done it.
   abbrev pub CarriesOnAsked : Image → Bool → Set → Scene S → Scene S → Type 0
@@ -65,7 +65,7 @@ module _ {S : Type 0} (g : shadows.Ghosts S) where
       (script : Events) (steps : List Taken) (t : Taken) → WhereTaken image wanted set old script steps t
       (WhereByHost old new t
       (IsCarriedIn g image script steps t.before old
-      → IsCarried g.slots g.read_from g.stale g.other_roots g.has_tables_under (wedge image script old.guest.frames) (steps ++ t ∷ []) t.after new.guest.shadows new.memory))
+      → IsCarried g (wedge image script old.guest.frames) (steps ++ t ∷ []) t.after new.guest.shadows new.memory))
 
   -- An attempt where frames suffice and nothing clashes: by what is kept, of which nothing is dropped before.
   pub record TriesOnce (image : Image) (wanted : Bool) (old new : Scene S) (result : Result Attempt Stop) : Type 0 where

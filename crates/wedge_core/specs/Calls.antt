@@ -60,7 +60,7 @@ pub record BeginsSlice (old new : Scene Roots) : Type 0 where
   pub state : (m : Setting) → m.frames ≡ old.guest.frames → state_in of_roots m new ≡ state_in of_roots m old
   pub keeps : Keeps old.pool new.pool old.memory new.memory (frames_in of_roots old) (frames_in of_roots new)
   pub fewer : kept_in of_roots new ≤ kept_in of_roots old
-  pub anew : old.guest.held ≡ 2 → IsAsNew roots.read_from roots.stale roots.other_roots roots.has_tables_under new.guest.shadows new.memory
+  pub anew : old.guest.held ≡ 2 → IsAsNew of_roots new.guest.shadows new.memory
 
 -- Behind a slice: where all steps were done the front of the host's memory is the guest's, with the text patched. Unless the
 -- sink failed its frames are its own, and no more pages are kept than were filled, if that was so before.

@@ -5,7 +5,7 @@ use Rattle.run_trace.specs.declared.items.End.{End}
 use Rattle.run_trace.specs.declared.items.End.TheVariants.{Bound, Stopped}
 use Rattle.machine_model.specs.State.{Setting, State}
 use Rattle.machine_model.specs.Run.{Set, with_set}
-use Rattle.shadow_cache.specs.Views as roots
+use Rattle.wedge_core.specs.OfRoots.{of_roots}
 use Rattle.shadow_cache.specs.declared.roots.Roots.{Roots}
 use Rattle.wedge_step.specs.Standing.{IsHeld, ground, state_of}
 use Rattle.wedge_step.specs.declared.running.Running.{Running}
@@ -14,6 +14,6 @@ use Rattle.wedge_step.specs.declared.running.Running.{Running}
 -- pages.
 abbrev pub HasGuest : Setting → State → End → Set → ℕ → List ℕ → Type 0
 HasGuest m last Bound set fills memory =
-    (g : Running Roots) × (pool : Pool) × IsHeld roots.stands roots.frames roots.slots (ground m.image m.frames) g pool memory
-    × (state_of roots.stands roots.frames roots.slots m g memory ≡ with_set last set) × (g.fills ≡ fills)
+    (g : Running Roots) × (pool : Pool) × IsHeld of_roots (ground m.image m.frames) g pool memory
+    × (state_of of_roots m g memory ≡ with_set last set) × (g.fills ≡ fills)
 HasGuest m last (Stopped stop) set fills memory = Unit {0}

@@ -9,11 +9,11 @@ use Rattle.wedge_step.specs.Standing.{IsHeld, ground}
 module _ {S : Type 0} (g : shadows.Ghosts S) where
   -- the guest is held over the pool and the host's memory
   abbrev pub IsHeldIn : Setting → Scene S → Type 0
-  IsHeldIn m c = IsHeld g.stands g.frames g.slots m c.guest c.pool c.memory
+  IsHeldIn m c = IsHeld g m c.guest c.pool c.memory
 
   -- what its shadows keep can be found again
   abbrev pub IsReadyIn : Setting → Scene S → Type 0
-  IsReadyIn m c = IsReady g.slots g.read_from g.stale g.value g.other_roots m c.guest.cpu c.guest.shadows c.memory
+  IsReadyIn m c = IsReady g m c.guest.cpu c.guest.shadows c.memory
 
   -- over whatever image it was held, it still is
   abbrev pub StaysHeld : Scene S → Scene S → Type 0

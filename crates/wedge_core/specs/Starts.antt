@@ -7,7 +7,7 @@ use Rattle.image_check.specs.Image.{Image}
 use Rattle.image_load.specs.Boot.{need}
 use Rattle.image_load.specs.declared.fault.StartFault.{StartFault}
 use Rattle.image_load.specs.declared.fault.StartFault.TheVariants as start
-use Rattle.shadow_tables.specs.OtherRoot.{OtherRoot}
+use Rattle.shadow_tables.specs.declared.shadows.Shadows as shadows
 use Rattle.machine_model.specs.State.{Setting, boot, wedge}
 use Rattle.shadow_cache.specs.declared.roots.Roots.{Roots}
 use Rattle.wedge_step.specs.Scene.{Scene, free, scene, state_in}
@@ -25,14 +25,14 @@ pub record Begins (m : Setting) (c : Scene Roots) : Type 0 where
   pub two : c.guest.held ≡ 2
   pub all : free c + c.guest.held ≡ count_of c.pool
 
-module _ {S : Type 0} (read_from : S → ℕ → Bool) (stale : S → Bool) (other_roots : S → List ℕ → List OtherRoot) (has_tables_under : S → List ℕ → (ℕ → Bool) → Type 0) where
+module _ {S : Type 0} (g : shadows.Ghosts S) where
   -- No frame is noted of the present tables, and they aren't marked. Nothing is kept for another value of CR3, and there are
   -- no tables.
   pub record IsAsNew (s : S) (memory : List ℕ) : Type 0 where
-    pub unnoted : (frame : ℕ) → read_from s frame ≡ false
-    pub unmarked : stale s ≡ false
-    pub alone : other_roots s memory ≡ []
-    pub unopened : (indices : ℕ → Bool) → has_tables_under s memory indices
+    pub unnoted : (frame : ℕ) → g.read_from s frame ≡ false
+    pub unmarked : g.stale s ≡ false
+    pub alone : g.other_roots s memory ≡ []
+    pub unopened : (indices : ℕ → Bool) → g.has_tables_under s memory indices
 
 -- the host's memory has the guest's frames and the pool's
 abbrev pub StartedAs : Image → ℕ → ℕ → List ℕ → Result (Guest × Pool) StartFault → Type 0

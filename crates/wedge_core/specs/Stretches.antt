@@ -26,18 +26,18 @@ module _ {S : Type 0} (g : shadows.Ghosts S) where
   -- Steps in which nothing is seen lead there, whatever board became this one when its events were given; or nothing was done.
   pub record StretchGoes (m : Setting) (old new : Running S) (memory then : List ℕ) (done : ℕ) (before after : Counts) : Type 0 where
     pub passes : 0 < done → (board : Board) → given board m.script old.step ≡ old.board
-        → Passes m (record (state_of g.stands g.frames g.slots m old memory) { board = board }) (state_of g.stands g.frames g.slots m new then) before after
-    pub stays : done ≡ 0 → state_of g.stands g.frames g.slots m new then ≡ state_of g.stands g.frames g.slots m old memory
+        → Passes m (record (state_of g m old memory) { board = board }) (state_of g m new then) before after
+    pub stays : done ≡ 0 → state_of g m new then ≡ state_of g m old memory
 
   -- In whatever pool its frames are held, they still are; and its shadows stay.
   pub record StretchLeaves (image : Image) (old new : Running S) (memory then : List ℕ) : Type 0 where
-    pub held : (pool : Pool) → IsHeld g.stands g.frames g.slots (ground image old.frames) old pool memory
-        → IsHeld g.stands g.frames g.slots (ground image old.frames) new pool then
-    pub pool : (pool : Pool) → IsHeld g.stands g.frames g.slots (ground image old.frames) old pool memory
+    pub held : (pool : Pool) → IsHeld g (ground image old.frames) old pool memory
+        → IsHeld g (ground image old.frames) new pool then
+    pub pool : (pool : Pool) → IsHeld g (ground image old.frames) old pool memory
         → Keeps pool pool memory then (g.frames old.shadows memory) (g.frames new.shadows then)
-    pub filled : FillsOn (pages_kept g.slots g.other_roots old.shadows memory) (pages_kept g.slots g.other_roots new.shadows then) old.fills new.fills
-    pub ready : IsReady g.slots g.read_from g.stale g.value g.other_roots (ground image old.frames) old.cpu old.shadows memory
-        → IsReady g.slots g.read_from g.stale g.value g.other_roots (ground image old.frames) new.cpu new.shadows then
+    pub filled : FillsOn (pages_kept g old.shadows memory) (pages_kept g new.shadows then) old.fills new.fills
+    pub ready : IsReady g (ground image old.frames) old.cpu old.shadows memory
+        → IsReady g (ground image old.frames) new.cpu new.shadows then
     pub kept : new.shadows ≡ old.shadows
     pub apart : SameIn (g.frames old.shadows memory) memory then
     pub able : IsAble new.cpu

@@ -23,8 +23,8 @@ pub fn rest<S: Shadows + Drop>(running: &mut Running<S>, script: &Script, bound:
     requires bound { bound ≤ 2 ^ 40 }
     ensures passes { (image : Image) (memory : List ℕ) (counts : Counts)
         → Passes (wedge image script.now.list running.old.frames)
-        (state_of S.stands S.frames S.slots (wedge image script.now.list running.old.frames) running.old memory)
-        (state_of S.stands S.frames S.slots (wedge image script.now.list running.old.frames) running.new memory) counts counts }
+        (state_of S.Shadows (wedge image script.now.list running.old.frames) running.old memory)
+        (state_of S.Shadows (wedge image script.now.list running.old.frames) running.new memory) counts counts }
     ensures same { running.new ≡ record running.old { board = running.new.board; step = running.new.step } }
     // Short of the bound it ends only where something comes to the board in the next step.
     ensures furthest { running.old.cpu.halted ≡ true → running.old.cpu.held ≡ false

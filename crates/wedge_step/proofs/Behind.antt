@@ -23,6 +23,7 @@ use Rattle.wedge_step.specs.Ready.{IsReadyAside, AreReady, AreReadyBehind, IsRea
 use Rattle.wedge_step.proofs.Bools.{none_some, clash, or_true, or_false}
 use Rattle.wedge_step.proofs.Shedding.{Sheds, found_tables, ready_shed}
 use Rattle.shadow_tables.proofs.Asides.{any-same}
+use Rattle.shadow_tables.specs.declared.shadows.Shadows as shadows
 pub use Rattle.image_check.proofs.Starts.{contains_any as contains_among}
 
 -- ---- frames of a list
@@ -98,7 +99,7 @@ asides_behind wrote m cpu ram then (o ∷ os) (n ∷ ns) room follows same h = (
   asides_behind wrote m cpu ram then os ns room follows same.1 h.1,
 )
 
-module _ {S : Type 0} (slots : S → List ℕ → ℕ → Option Slot) (read_from : S → ℕ → Bool) (stale : S → Bool) (value : S → Option ℕ) (other_roots : S → List ℕ → List OtherRoot) where
+module _ {S : Type 0} (shows : shadows.Ghosts S) where
   -- what a step's memory stands for before its first access and behind its last
   pub record IsStep (m : Setting) (cpu : Cpu) (s : S) (memory then : List ℕ) (first last : Space) : Type 0 where
     pub follows : Follows first last
@@ -110,11 +111,11 @@ module _ {S : Type 0} (slots : S → List ℕ → ℕ → Option Slot) (read_fro
     pub room : 4096 * m.frames ≤ length (shown m memory)
     pub small : m.frames ≤ 16384
     pub untold : first.tables ≡ []
-    pub kept : (page : ℕ) → page < 2 ^ 20 → get first.set page ≡ entry_in (slots s memory page)
-    pub same : AreSame (other_roots s memory) (other_roots s then)
+    pub kept : (page : ℕ) → page < 2 ^ 20 → get first.set page ≡ entry_in (shows.slots s memory page)
+    pub same : AreSame (shows.other_roots s memory) (shows.other_roots s then)
 
   module _ (m : Setting) (cpu : Cpu) (s : S) (memory then : List ℕ) (first last : Space) (k : IsStep m cpu s memory then first last) (tables wrote : List ℕ) (tables_are : last.tables ≡ tables) (wrote_are : last.wrote ≡ wrote)
-      (h : IsReady slots read_from stale value other_roots m cpu s memory)
+      (h : IsReady shows m cpu s memory)
     where
       follows : MemoryFollows wrote (shown m memory) (shown m then)
       follows =
@@ -131,42 +132,42 @@ module _ {S : Type 0} (slots : S → List ℕ → ℕ → Option Slot) (read_fro
           ]
 
       -- what was kept before
-      old_found : stale s ≡ false → list_any (read_by (read_from s) tables) wrote ≡ false → (page : ℕ) → page < 2 ^ 20 → (e : Entry) → get first.set page ≡ Some e
-          → IsFoundBy (shown m then) m.frames cpu.cr3 (pse_of cpu) (read_by (read_from s) tables) page e
-      old_found un none page lt e is = by (slots s memory page) refl
+      old_found : shows.stale s ≡ false → list_any (read_by (shows.read_from s) tables) wrote ≡ false → (page : ℕ) → page < 2 ^ 20 → (e : Entry) → get first.set page ≡ Some e
+          → IsFoundBy (shown m then) m.frames cpu.cr3 (pse_of cpu) (read_by (shows.read_from s) tables) page e
+      old_found un none page lt e is = by (shows.slots s memory page) refl
         where
-          by : (o : Option Slot) → slots s memory page ≡ o → IsFoundBy (shown m then) m.frames cpu.cr3 (pse_of cpu) (read_by (read_from s) tables) page e
+          by : (o : Option Slot) → shows.slots s memory page ≡ o → IsFoundBy (shown m then) m.frames cpu.cr3 (pse_of cpu) (read_by (shows.read_from s) tables) page e
           by None at = absurd (none_some e (sym (k.kept page lt ∙ ap entry_in at) ∙ is))
           by (Some slot) at =
               let same : slot.entry ≡ e = (let x : Some slot.entry ≡ Some e = sym (k.kept page lt ∙ ap entry_in at) ∙ is in cc) in
               let here = h.present un page lt refl slot at in
-              let still = found_behind wrote (shown m memory) (shown m then) m.frames cpu.cr3 (pse_of cpu) (read_from s) page slot.entry lt k.room follows (unwritten (read_from s) tables wrote low none) here in
-              subst (λ (x : Entry). IsFoundBy (shown m then) m.frames cpu.cr3 (pse_of cpu) (read_by (read_from s) tables) page x) same
-              (found_tables (shown m then) m.frames cpu.cr3 (pse_of cpu) (read_from s) (read_by (read_from s) tables) page slot.entry (noted_holds (read_from s) tables) still)
+              let still = found_behind wrote (shown m memory) (shown m then) m.frames cpu.cr3 (pse_of cpu) (shows.read_from s) page slot.entry lt k.room follows (unwritten (shows.read_from s) tables wrote low none) here in
+              subst (λ (x : Entry). IsFoundBy (shown m then) m.frames cpu.cr3 (pse_of cpu) (read_by (shows.read_from s) tables) page x) same
+              (found_tables (shown m then) m.frames cpu.cr3 (pse_of cpu) (shows.read_from s) (read_by (shows.read_from s) tables) page slot.entry (noted_holds (shows.read_from s) tables) still)
 
       -- or what it left
-      new_found : stale s ≡ false → list_any (read_by (read_from s) tables) wrote ≡ false → (page : ℕ) → page < 2 ^ 20 → (e : Entry) → get last.set page ≡ Some e
-          → IsFoundBy (shown m then) m.frames cpu.cr3 (pse_of cpu) (read_by (read_from s) tables) page e
+      new_found : shows.stale s ≡ false → list_any (read_by (shows.read_from s) tables) wrote ≡ false → (page : ℕ) → page < 2 ^ 20 → (e : Entry) → get last.set page ≡ Some e
+          → IsFoundBy (shown m then) m.frames cpu.cr3 (pse_of cpu) (read_by (shows.read_from s) tables) page e
       new_found un none page lt e is =
           let room = k.room in
           let fr = k.frames in
           let size = ap length k.ram in
           let there = k.follows.each (omega (arith, room, fr, size))
-          (λ frame t w. apart (read_from s) tables wrote low none frame (subst (λ (l : List ℕ). Contains l frame) tables_are t) (subst (λ (l : List ℕ). Contains l frame) wrote_are w))
-          (read_by (read_from s) tables) (λ frame t. holds_of (read_from s) tables low frame (subst (λ (l : List ℕ). Contains l frame) tables_are t)) page lt e is in
+          (λ frame t w. apart (shows.read_from s) tables wrote low none frame (subst (λ (l : List ℕ). Contains l frame) tables_are t) (subst (λ (l : List ℕ). Contains l frame) wrote_are w))
+          (read_by (shows.read_from s) tables) (λ frame t. holds_of (shows.read_from s) tables low frame (subst (λ (l : List ℕ). Contains l frame) tables_are t)) page lt e is in
           elim there [
             | inl was ↦ old_found un none page lt e was
             | inr found ↦
-                subst (λ (b : Bool). IsFoundBy (shown m then) m.frames cpu.cr3 b (read_by (read_from s) tables) page e) (k.follows.pse ∙ k.pse)
-                (subst (λ (c : ℕ). IsFoundBy (shown m then) m.frames c last.pse (read_by (read_from s) tables) page e) (k.follows.cr3 ∙ k.cr3)
-                (subst (λ (n : ℕ). IsFoundBy (shown m then) n last.cr3 last.pse (read_by (read_from s) tables) page e) (k.follows.frames ∙ k.frames)
-                (subst (λ (l : List ℕ). IsFoundBy l last.frames last.cr3 last.pse (read_by (read_from s) tables) page e) k.then_ram found)))
+                subst (λ (b : Bool). IsFoundBy (shown m then) m.frames cpu.cr3 b (read_by (shows.read_from s) tables) page e) (k.follows.pse ∙ k.pse)
+                (subst (λ (c : ℕ). IsFoundBy (shown m then) m.frames c last.pse (read_by (shows.read_from s) tables) page e) (k.follows.cr3 ∙ k.cr3)
+                (subst (λ (n : ℕ). IsFoundBy (shown m then) n last.cr3 last.pse (read_by (shows.read_from s) tables) page e) (k.follows.frames ∙ k.frames)
+                (subst (λ (l : List ℕ). IsFoundBy l last.frames last.cr3 last.pse (read_by (shows.read_from s) tables) page e) k.then_ram found)))
           ]
 
       pub behind_ready : (out : ℕ → Bool) (set : Set) → ((page : ℕ) → page < 2 ^ 20 → out page ≡ false → (e : Entry) → get set page ≡ Some e → (get first.set page ≡ Some e) ⊎ (get last.set page ≡ Some e))
-          → IsReadyBehind slots read_from stale value other_roots out m cpu s then set tables wrote
+          → IsReadyBehind shows out m cpu s then set tables wrote
       behind_ready out set each = record {
         value_is = h.value_is;
         present = λ un none page lt o e is. elim (each page lt o e is) [ inl was ↦ old_found un none page lt e was | inr left ↦ new_found un none page lt e left ];
-        others = asides_behind wrote m cpu (shown m memory) (shown m then) (other_roots s memory) (other_roots s then) k.room follows k.same h.others;
+        others = asides_behind wrote m cpu (shown m memory) (shown m then) (shows.other_roots s memory) (shows.other_roots s then) k.room follows k.same h.others;
       }

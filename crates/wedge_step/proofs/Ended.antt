@@ -12,11 +12,12 @@ use Rattle.board.specs.Scripts.{Events}
 use Rattle.descriptors.specs.declared.cpu.Cpu.{Cpu}
 use Rattle.image_check.specs.Image.{Image}
 use Rattle.image_load.specs.Boot.{text_pages}
-use Rattle.shadow_tables.specs.OtherRoot.{OtherRoot, AreSame}
+use Rattle.shadow_tables.specs.OtherRoot.{AreSame}
 use Rattle.shadow_tables.specs.Entries.{entries_of}
 use Rattle.guest_ram.specs.Among.{is_among}
-use Rattle.shadow_tables.specs.Slots.{Slot, is_user}
+use Rattle.shadow_tables.specs.Slots.{is_user}
 use Rattle.shadow_tables.proofs.Asides.{same-refl}
+use Rattle.shadow_tables.specs.declared.shadows.Shadows as shadows
 use Rattle.step_mem.specs.Changes.{AreWithin, AreToldIn, changed}
 use Rattle.step_mem.specs.declared.changes.Change.{Change}
 use Rattle.wedge_mem.specs.Settled.{pages_of}
@@ -36,7 +37,7 @@ use Rattle.wedge_step.specs.Closed.{MayClose}
 use Rattle.wedge_step.specs.Leaving.{Tells, Ends}
 use Rattle.wedge_step.specs.Opened.{is_entry_open}
 use Rattle.wedge_step.specs.Ready.{IsReady}
-use Rattle.wedge_step.specs.Sight.{Sight}
+use Rattle.wedge_step.specs.Sight.{Sight, sight}
 use Rattle.machine_step.specs.Roots.{RootsAs}
 use Rattle.wedge_step.specs.Standing.{ground, side_of}
 use Rattle.wedge_step.proofs.Knowing.{answer_from, told_by, over, a_step, all_found}
@@ -81,23 +82,19 @@ index_used grow steps t visited changes pages told page h =
 
 -- ---- what is known
 
-module _ {S : Type 0} (slots : S → List ℕ → ℕ → Option Slot) (read_from : S → ℕ → Bool) (stale : S → Bool) (value : S → Option ℕ) (other_roots : S → List ℕ → List OtherRoot) where
-  -- what they show
-  abbrev pub sight_by : S → List ℕ → Sight
-  sight_by s memory = record { slots = slots s memory; read_from = read_from s; stale = stale s; value = value s; other_roots = other_roots s memory }
-
+module _ {S : Type 0} (shows : shadows.Ghosts S) where
   -- A step of a run, from what shadows keep over a memory, and the memory behind its accesses.
   pub record IsDone (image : Image) (script : Events) (n : ℕ) (t : Taken) (b : State) (s : S) (memory then : List ℕ) : Type 0 where
     pub taken : IsTakenFrom (wedge image script n) b t
     pub by : t.set ≡ b.set
     pub ram : b.ram ≡ shown (ground image n) memory
-    pub set : b.set ≡ entries_of (slots s memory)
+    pub set : b.set ≡ entries_of (shows.slots s memory)
     pub room : 4096 * n ≤ length b.ram
-    pub entries : entries_of (slots s then) ≡ entries_of (slots s memory)
-    pub same : AreSame (other_roots s memory) (other_roots s then)
+    pub entries : entries_of (shows.slots s then) ≡ entries_of (shows.slots s memory)
+    pub same : AreSame (shows.other_roots s memory) (shows.other_roots s then)
 
   module _ (tells : SettlingTells) (comes : DroppedComesFrom) (still : KnownStill) (on : KnownOn) (image : Image) (script : Events) (n : ℕ) (steps : List Taken) (t : Taken) (b : State) (kept : Set) (s : S) (memory then : List ℕ)
-      (d : IsDone image script n t b s memory then) (known : IsKnown (wedge image script n) steps t.before (read_from s) (stale s) (other_roots s memory) kept)
+      (d : IsDone image script n t b s memory then) (known : IsKnown (wedge image script n) steps t.before (shows.read_from s) (shows.stale s) (shows.other_roots s memory) kept)
       (v' : Sight)
     where
       abbrev m : Setting
@@ -106,34 +103,34 @@ module _ {S : Type 0} (slots : S → List ℕ → ℕ → Option Slot) (read_fro
       room_before : 4096 * n ≤ length t.before.ram
       room_before = subst (λ (l : List ℕ). 4096 * n ≤ length l) (sym d.taken.ram) d.room
 
-      known_then : IsKnown m steps t.before (read_from s) (stale s) (other_roots s then) kept
-      known_then = still m steps t.before (read_from s) (read_from s) (stale s) (stale s) (other_roots s memory) (other_roots s then) kept (record { notes = λ frame e. e; marks = λ e. e; others = d.same }) known
+      known_then : IsKnown m steps t.before (shows.read_from s) (shows.stale s) (shows.other_roots s then) kept
+      known_then = still m steps t.before (shows.read_from s) (shows.read_from s) (shows.stale s) (shows.stale s) (shows.other_roots s memory) (shows.other_roots s then) kept (record { notes = λ frame e. e; marks = λ e. e; others = d.same }) known
 
       -- behind a step that was ended
-      pub known_went : (w : Worked) (board : Board) (last : Space) (changes : List Change) → stepped m b ≡ went_as b w board last → RootsAs b.cpu w → IsReady slots read_from stale value other_roots (ground image n) b.cpu s memory
-          → last.set ≡ changed (entries_of (slots s then)) changes → AreToldIn last.visited changes → 4096 * n ≤ length last.ram → AreBytes last.ram
-          → Ends w.dropped b.cpu w.cpu (pages_of last.visited changes) last.tables last.wrote last.set (sight_by s then) v'
+      pub known_went : (w : Worked) (board : Board) (last : Space) (changes : List Change) → stepped m b ≡ went_as b w board last → RootsAs b.cpu w → IsReady shows (ground image n) b.cpu s memory
+          → last.set ≡ changed (entries_of (shows.slots s then)) changes → AreToldIn last.visited changes → 4096 * n ≤ length last.ram → AreBytes last.ram
+          → Ends w.dropped b.cpu w.cpu (pages_of last.visited changes) last.tables last.wrote last.set (sight shows s then) v'
           → IsKnown m (steps ++ t ∷ []) t.after v'.read_from v'.stale v'.other_roots (entries_of v'.slots)
       known_went w board last changes went roots ready set told room_after bytes ends =
           let a = answer_from m b t w board last d.taken d.by went in
           let base_is = d.entries ∙ (sym d.set ∙ sym d.by) in
-          let base = entries_of (slots s then) in
-          on m steps t (read_from s) v'.read_from (stale s) v'.stale v'.slots (other_roots s then) v'.other_roots kept
-          (a_step tells comes t b.cpu w last (value s) base changes a d.taken.cpu roots ready.value_is set base_is told (slots s memory) (d.by ∙ d.set) m b d.taken room_before room_after bytes)
-          (λ load un. all_found m steps t b.cpu (shown (ground image n) memory) (read_from s) (stale s) (slots s memory) d.taken.cpu (d.taken.ram ∙ d.ram) (d.by ∙ d.set) (λ free page lt. ready.present free page lt refl) known.remembered.noted_read known.remembered.unmarked un)
-          (over tells comes t b.cpu w last (value s) base changes a d.taken.cpu roots ready.value_is set base_is told (slots s memory) (d.by ∙ d.set) (sight_by s then) v' refl ends)
+          let base = entries_of (shows.slots s then) in
+          on m steps t (shows.read_from s) v'.read_from (shows.stale s) v'.stale v'.slots (shows.other_roots s then) v'.other_roots kept
+          (a_step tells comes t b.cpu w last (shows.value s) base changes a d.taken.cpu roots ready.value_is set base_is told (shows.slots s memory) (d.by ∙ d.set) m b d.taken room_before room_after bytes)
+          (λ load un. all_found m steps t b.cpu (shown (ground image n) memory) (shows.read_from s) (shows.stale s) (shows.slots s memory) d.taken.cpu (d.taken.ram ∙ d.ram) (d.by ∙ d.set) (λ free page lt. ready.present free page lt refl) known.remembered.noted_read known.remembered.unmarked un)
+          (over tells comes t b.cpu w last (shows.value s) base changes a d.taken.cpu roots ready.value_is set base_is told (shows.slots s memory) (d.by ∙ d.set) (sight shows s then) v' refl ends)
           known_then
 
       -- behind one that the host does, and that loads no CR3 and leaves the rules and the translations
       pub known_asked : (tables wrote : List ℕ) → t.report.tables ≡ tables → t.report.wrote ≡ wrote → is_load t.report.completed ≡ false
           → (t.after.cpu.cr0 ≡ b.cpu.cr0) × (t.after.cpu.cr3 ≡ b.cpu.cr3) × (t.after.cpu.cr4 ≡ b.cpu.cr4) → t.after.set ≡ entries_of v'.slots → 4096 * n ≤ length t.after.ram → AreBytes t.after.ram
-          → Tells tables wrote (sight_by s then) v'
+          → Tells tables wrote (sight shows s then) v'
           → IsKnown m (steps ++ t ∷ []) t.after v'.read_from v'.stale v'.other_roots (entries_of v'.slots)
       known_asked tables wrote tables_are wrote_are load same set room_after bytes told =
           let cpu = d.taken.cpu in
           let wp = ap (λ (x : ℕ). has x 65536) (same.0 ∙ sym (ap (λ (c : Cpu). c.cr0) cpu)) in
           let pse = ap (λ (x : ℕ). has x 16) (same.2 ∙ sym (ap (λ (c : Cpu). c.cr4) cpu)) in
-          on m steps t (read_from s) v'.read_from (stale s) v'.stale v'.slots (other_roots s then) v'.other_roots kept
+          on m steps t (shows.read_from s) v'.read_from (shows.stale s) v'.stale v'.slots (shows.other_roots s then) v'.other_roots kept
           (record {
             went = d.taken.went;
             room = room_before;
@@ -147,7 +144,7 @@ module _ {S : Type 0} (slots : S → List ℕ → ℕ → Option Slot) (read_fro
             noted1 = v'.read_from;
             marked1 = v'.stale;
             asides1 = v'.other_roots;
-            told = told_by tells t (sight_by s then) v' tables wrote tables_are wrote_are told;
+            told = told_by tells t (sight shows s then) v' tables wrote tables_are wrote_are told;
             through = λ go stay. (record { notes = λ frame e. e; marks = λ e. e; others = same-refl v'.other_roots }, sym set);
             lost = λ go no. absurd (no (record { wp = wp; pse = pse }));
             loaded = λ loads. absurd (let f : true ≡ false = sym loads ∙ load in cc);

@@ -54,37 +54,37 @@ closed_filled (Some n) tables wrote old new olds news is few = let more = closed
 pub no_slots : (slots : ℕ → Option Slot) → ((page : ℕ) → page < 2 ^ 20 → get (entries_of slots) page ≡ entry_in (slots page)) → entries_of slots ≡ empty → (page : ℕ) → page < 2 ^ 20 → slots page ≡ None
 no_slots slots at is page lt = no_slot (slots page) (sym (at page lt) ∙ (ap (λ (set : Set). get set page) is ∙ get-empty nat_cmp page))
 
-module _ {S : Type 0} (slots : S → List ℕ → ℕ → Option Slot) (read_from : S → ℕ → Bool) (stale : S → Bool) (value : S → Option ℕ) (other_roots : S → List ℕ → List OtherRoot) where
+module _ {S : Type 0} (shows : shadows.Ghosts S) where
   -- what the end of a step makes of them
   pub record Settled (old new : S) (memory then : List ℕ) (set : Set) (tables wrote : List ℕ) (result : Option ℕ) : Type 0 where
-    pub entries : MatchOption result (entries_of (slots new then) ≡ empty) (λ n. entries_of (slots new then) ≡ set)
-    pub at : (page : ℕ) → page < 2 ^ 20 → get (entries_of (slots new then)) page ≡ entry_in (slots new then page)
-    pub noted_is : IsSome result → (frame : ℕ) → is_among frame wrote ≡ false → read_from new frame ≡ read_by (read_from old) tables frame
-    pub marked_is : MatchOption result (stale new ≡ true → stale old ≡ true) (λ n. stale new ≡ (stale old || list_any (read_by (read_from old) tables) wrote))
-    pub value_is : value new ≡ value old
-    pub asides_are : AsidesAre result tables wrote (other_roots old memory) (other_roots new then)
+    pub entries : MatchOption result (entries_of (shows.slots new then) ≡ empty) (λ n. entries_of (shows.slots new then) ≡ set)
+    pub at : (page : ℕ) → page < 2 ^ 20 → get (entries_of (shows.slots new then)) page ≡ entry_in (shows.slots new then page)
+    pub noted_is : IsSome result → (frame : ℕ) → is_among frame wrote ≡ false → shows.read_from new frame ≡ read_by (shows.read_from old) tables frame
+    pub marked_is : MatchOption result (shows.stale new ≡ true → shows.stale old ≡ true) (λ n. shows.stale new ≡ (shows.stale old || list_any (read_by (shows.read_from old) tables) wrote))
+    pub value_is : shows.value new ≡ shows.value old
+    pub asides_are : AsidesAre result tables wrote (shows.other_roots old memory) (shows.other_roots new then)
 
-  pub closed_none : (old new : S) (memory then : List ℕ) (set : Set) (tables wrote : List ℕ) (result : Option ℕ) → Settled old new memory then set tables wrote result → is_none result ≡ true → pages_kept slots other_roots new then ≡ 0
-  closed_none old new memory then set tables wrote None s e = none_pages slots read_from stale value other_roots new then s.entries s.asides_are
+  pub closed_none : (old new : S) (memory then : List ℕ) (set : Set) (tables wrote : List ℕ) (result : Option ℕ) → Settled old new memory then set tables wrote result → is_none result ≡ true → pages_kept shows new then ≡ 0
+  closed_none old new memory then set tables wrote None s e = none_pages shows new then s.entries s.asides_are
   closed_none old new memory then set tables wrote (Some n) s e = absurd (let f : false ≡ true = e in cc)
 
   pub closed_ready : (out : ℕ → Bool) (m : Setting) (cpu : Cpu) (old new : S) (memory then : List ℕ) (set : Set) (tables wrote : List ℕ) (result : Option ℕ) → Settled old new memory then set tables wrote result
-      → shown m then ≡ shown m memory → IsReadyBehind slots read_from stale value other_roots out m cpu old memory set tables wrote → IsReadyBut slots read_from stale value other_roots out m cpu new then
+      → shown m then ≡ shown m memory → IsReadyBehind shows out m cpu old memory set tables wrote → IsReadyBut shows out m cpu new then
   closed_ready out m cpu old new memory then set tables wrote None s ram h =
-      none_ready slots read_from stale value other_roots out m cpu new then (s.value_is ∙ h.value_is) (no_slots (slots new then) s.at s.entries) s.asides_are
+      none_ready shows out m cpu new then (s.value_is ∙ h.value_is) (no_slots (shows.slots new then) s.at s.entries) s.asides_are
   closed_ready out m cpu old new memory then set tables wrote (Some n) s ram h =
-      let parts = λ (un : stale new ≡ false). or_parts (stale old) (list_any (read_by (read_from old) tables) wrote) (stale new) s.marked_is un in
-      settled_ready slots read_from stale value other_roots out m cpu old new memory then set tables wrote s.value_is parts
-      (λ un page lt e. found_tables (shown m memory) m.frames cpu.cr3 (Rattle.descriptors.specs.Controls.pse_of cpu) (read_by (read_from old) tables) (read_from new) page e
+      let parts = λ (un : shows.stale new ≡ false). or_parts (shows.stale old) (list_any (read_by (shows.read_from old) tables) wrote) (shows.stale new) s.marked_is un in
+      settled_ready shows out m cpu old new memory then set tables wrote s.value_is parts
+      (λ un page lt e. found_tables (shown m memory) m.frames cpu.cr3 (Rattle.descriptors.specs.Controls.pse_of cpu) (read_by (shows.read_from old) tables) (shows.read_from new) page e
       (λ f r. s.noted_is refl f (unwritten f (parts un).1 r) ∙ r))
       (λ page lt. ap (λ (x : Set). get x page) (sym s.entries) ∙ s.at page lt)
-      (lost_shed (guest_frames tables) (all_spared wrote (other_roots old memory)) (other_roots new then) s.asides_are) ram h
+      (lost_shed (guest_frames tables) (all_spared wrote (shows.other_roots old memory)) (shows.other_roots new then) s.asides_are) ram h
     where
-      by : (f : ℕ) (b : Bool) → is_among f wrote ≡ b → list_any (read_by (read_from old) tables) wrote ≡ false → read_by (read_from old) tables f ≡ true → is_among f wrote ≡ false
-      by f true e none r = absurd (clash (read_by (read_from old) tables f) r (any_none (read_by (read_from old) tables) wrote none f e))
+      by : (f : ℕ) (b : Bool) → is_among f wrote ≡ b → list_any (read_by (shows.read_from old) tables) wrote ≡ false → read_by (shows.read_from old) tables f ≡ true → is_among f wrote ≡ false
+      by f true e none r = absurd (clash (read_by (shows.read_from old) tables f) r (any_none (read_by (shows.read_from old) tables) wrote none f e))
       by f false e none r = e
 
-      unwritten : (f : ℕ) → list_any (read_by (read_from old) tables) wrote ≡ false → read_by (read_from old) tables f ≡ true → is_among f wrote ≡ false
+      unwritten : (f : ℕ) → list_any (read_by (shows.read_from old) tables) wrote ≡ false → read_by (shows.read_from old) tables f ≡ true → is_among f wrote ≡ false
       unwritten f none r = by f (is_among f wrote) refl none r
 
 -- how many were filled, and how many are kept then

@@ -13,6 +13,7 @@ use Rattle.shadow_tables.specs.Entries.{entries_of}
 use Rattle.shadow_tables.specs.Laws.Entries.{get-entries_of, none-entries_of}
 use Rattle.guest_ram.specs.Among.{is_among}
 use Rattle.shadow_tables.specs.Slots.{Slot, entry_in}
+use Rattle.shadow_tables.specs.declared.shadows.Shadows as shadows
 use Rattle.step_mem.specs.Changes.{AreWithin}
 use Rattle.machine_step.specs.declared.worked.Dropped.{Dropped}
 use Rattle.machine_step.specs.declared.worked.Dropped.TheVariants as dropped
@@ -114,30 +115,30 @@ chosen_out false new old gone (inr same) = inr (refl, within-same new old same)
 
 -- ---- under the same rules, and with less left out
 
-module _ {S : Type 0} (slots : S → List ℕ → ℕ → Option Slot) (read_from : S → ℕ → Bool) (stale : S → Bool) (value : S → Option ℕ) (other_roots : S → List ℕ → List OtherRoot) where
+module _ {S : Type 0} (shows : shadows.Ghosts S) where
   pub rules_but : (out less : ℕ → Bool) (m : Setting) (before after : Cpu) (s : S) (memory : List ℕ) → after.cr3 ≡ before.cr3 → pse_of after ≡ pse_of before → wp_of after ≡ wp_of before → ((page : ℕ) → less page ≡ false → out page ≡ false)
-      → IsReadyBut slots read_from stale value other_roots out m before s memory → IsReadyBut slots read_from stale value other_roots less m after s memory
+      → IsReadyBut shows out m before s memory → IsReadyBut shows less m after s memory
   rules_but out less m before after s memory cr3 pse wp fewer h = record {
     value_is = h.value_is ∙ ap (λ (c : ℕ). Some c) (sym cr3);
     present = λ un page lt o slot e.
-        subst (λ (b : Bool). IsFoundBy (shown m memory) m.frames after.cr3 b (read_from s) page slot.entry) (sym pse)
-        (subst (λ (c : ℕ). IsFoundBy (shown m memory) m.frames c (pse_of before) (read_from s) page slot.entry) (sym cr3) (h.present un page lt (fewer page o) slot e));
-    others = all_rules m before after (shown m memory) (other_roots s memory) pse wp h.others;
+        subst (λ (b : Bool). IsFoundBy (shown m memory) m.frames after.cr3 b (shows.read_from s) page slot.entry) (sym pse)
+        (subst (λ (c : ℕ). IsFoundBy (shown m memory) m.frames c (pse_of before) (shows.read_from s) page slot.entry) (sym cr3) (h.present un page lt (fewer page o) slot e));
+    others = all_rules m before after (shown m memory) (shows.other_roots s memory) pse wp h.others;
   }
 
   -- none of what is present is left out, or nothing is present
   pub through_ready : (out : ℕ → Bool) (m : Setting) (before after : Cpu) (s : S) (memory : List ℕ) → after.cr3 ≡ before.cr3 → pse_of after ≡ pse_of before → wp_of after ≡ wp_of before
-      → ((page : ℕ) → page < 2 ^ 20 → (slots s memory page ≡ None) ⊎ (out page ≡ false)) → IsReadyBut slots read_from stale value other_roots out m before s memory → IsReady slots read_from stale value other_roots m after s memory
+      → ((page : ℕ) → page < 2 ^ 20 → (shows.slots s memory page ≡ None) ⊎ (out page ≡ false)) → IsReadyBut shows out m before s memory → IsReady shows m after s memory
   through_ready out m before after s memory cr3 pse wp each h = record {
     value_is = h.value_is ∙ ap (λ (c : ℕ). Some c) (sym cr3);
     present = λ un page lt o slot e.
         elim (each page lt) [
           | inl none ↦ absurd (none_some slot (sym none ∙ e))
           | inr free ↦
-              subst (λ (b : Bool). IsFoundBy (shown m memory) m.frames after.cr3 b (read_from s) page slot.entry) (sym pse)
-              (subst (λ (c : ℕ). IsFoundBy (shown m memory) m.frames c (pse_of before) (read_from s) page slot.entry) (sym cr3) (h.present un page lt free slot e))
+              subst (λ (b : Bool). IsFoundBy (shown m memory) m.frames after.cr3 b (shows.read_from s) page slot.entry) (sym pse)
+              (subst (λ (c : ℕ). IsFoundBy (shown m memory) m.frames c (pse_of before) (shows.read_from s) page slot.entry) (sym cr3) (h.present un page lt free slot e))
         ];
-    others = all_rules m before after (shown m memory) (other_roots s memory) pse wp h.others;
+    others = all_rules m before after (shown m memory) (shows.other_roots s memory) pse wp h.others;
   }
 
 pub left_leaving : (d : Dropped) (pages : List ℕ) (page : ℕ) → is_all d ≡ true → left_out d pages page ≡ false → leaving d pages page ≡ false

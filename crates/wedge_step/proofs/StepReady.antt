@@ -1,5 +1,5 @@
 -- What is kept may be used again behind the accesses of a step that went, and of one of which nothing more is done.
-use Rattle.std.proofs.Common.{◌≡◌, ◌⊎◌, ℕ, ◌+◌, ◌^◌, ◌<◌, ◌≤◌, ◌==◌, List, map, Bool, true, false, cond, not, Option, Some, None, refl, sym, ap, ◌∙◌, inl, inr, arith}
+use Rattle.std.proofs.Common.{◌≡◌, ◌⊎◌, ℕ, ◌+◌, ◌^◌, ◌<◌, ◌≤◌, ◌==◌, List, map, Bool, true, false, cond, not, Some, None, refl, sym, ap, ◌∙◌, inl, inr, arith}
 use Rattle.std.proofs.lemmas.Bool.Decides.{eqb_tells}
 use Rattle.std.specs.Option.{ForSome}
 use Rattle.std.specs.FinMap.{get}
@@ -7,9 +7,10 @@ use Rattle.board.specs.declared.devices.Board.{Board}
 use Rattle.image_check.specs.Image.{Image}
 use Rattle.paging.specs.declared.entry.Entry.{Entry}
 use Rattle.paging.specs.Space.{Space}
-use Rattle.shadow_tables.specs.OtherRoot.{OtherRoot, AreSame}
+use Rattle.shadow_tables.specs.OtherRoot.{AreSame}
 use Rattle.shadow_tables.specs.Entries.{entries_of}
-use Rattle.shadow_tables.specs.Slots.{Slot, entry_in}
+use Rattle.shadow_tables.specs.Slots.{entry_in}
+use Rattle.shadow_tables.specs.declared.shadows.Shadows as shadows
 use Rattle.step_mem.specs.Changes.{changed, page_of}
 use Rattle.step_mem.specs.declared.changes.Change.{Change}
 use Rattle.step_mem.proofs.Changed.{get_with_other}
@@ -56,26 +57,26 @@ ground_step : (image : Image) (n : ℕ) (b : State) → step_of (ground image n)
 unfolding step_of
 ground_step image n b = ap (λ (d : Board). stepped (ground image n) (record b { board = d })) (none_given b.board b.step)
 
-module _ {S : Type 0} (slots : S → List ℕ → ℕ → Option Slot) (read_from : S → ℕ → Bool) (stale : S → Bool) (value : S → Option ℕ) (other_roots : S → List ℕ → List OtherRoot) where
+module _ {S : Type 0} (shows : shadows.Ghosts S) where
   -- what a guest's memory and shadows are before a step and behind its accesses
   pub record Steps (image : Image) (n : ℕ) (b : State) (s : S) (memory then : List ℕ) : Type 0 where
     pub wedge : IsWedge (ground image n)
     pub host : IsHost (ground image n) memory
     pub small : n ≤ 16384
     pub ram : b.ram ≡ shown (ground image n) memory
-    pub set : b.set ≡ entries_of (slots s memory)
-    pub at : (page : ℕ) → page < 2 ^ 20 → get (entries_of (slots s memory)) page ≡ entry_in (slots s memory page)
-    pub entries : entries_of (slots s then) ≡ entries_of (slots s memory)
-    pub same : AreSame (other_roots s memory) (other_roots s then)
+    pub set : b.set ≡ entries_of (shows.slots s memory)
+    pub at : (page : ℕ) → page < 2 ^ 20 → get (entries_of (shows.slots s memory)) page ≡ entry_in (shows.slots s memory page)
+    pub entries : entries_of (shows.slots s then) ≡ entries_of (shows.slots s memory)
+    pub same : AreSame (shows.other_roots s memory) (shows.other_roots s then)
 
-  module _ (image : Image) (n : ℕ) (b : State) (s : S) (memory then : List ℕ) (k : Steps image n b s memory then) (h : IsReady slots read_from stale value other_roots (ground image n) b.cpu s memory) where
+  module _ (image : Image) (n : ℕ) (b : State) (s : S) (memory then : List ℕ) (k : Steps image n b s memory then) (h : IsReady shows (ground image n) b.cpu s memory) where
     abbrev m : Setting
     m = ground image n
 
     abbrev first : Space
     first = space_at_start m.mode m.frames b.cpu b.ram b.set
 
-    step_from : (last : Space) → Follows first last → last.ram ≡ shown m then → IsStep slots read_from stale value other_roots m b.cpu s memory then first last
+    step_from : (last : Space) → Follows first last → last.ram ≡ shown m then → IsStep shows m b.cpu s memory then first last
     step_from last follows ram = record {
       follows = follows;
       ram = k.ram;
@@ -91,21 +92,21 @@ module _ {S : Type 0} (slots : S → List ℕ → ℕ → Option Slot) (read_fro
     }
 
     -- that went
-    pub went_ready : StepsFollow → (worked : Worked) (board : Board) (t : Space) (changes : List Change) → stepped m b ≡ went_as b worked board t → t.ram ≡ shown m then → t.set ≡ changed (entries_of (slots s then)) changes
-        → IsReadyBehind slots read_from stale value other_roots (leaving worked.dropped (pages_of t.visited changes)) m b.cpu s then (changed (entries_of (slots s then)) changes) t.tables t.wrote
+    pub went_ready : StepsFollow → (worked : Worked) (board : Board) (t : Space) (changes : List Change) → stepped m b ≡ went_as b worked board t → t.ram ≡ shown m then → t.set ≡ changed (entries_of (shows.slots s then)) changes
+        → IsReadyBehind shows (leaving worked.dropped (pages_of t.visited changes)) m b.cpu s then (changed (entries_of (shows.slots s then)) changes) t.tables t.wrote
     went_ready steps worked board t changes e ram set_is =
         let report : Report = record { items = Rattle.machine_model.specs.Step.items_at b.step (whats worked.seen); completed = completed_by worked.completed; pages = t.visited; tables = t.tables; wrote = t.wrote } in
         let after : State = record { cpu = worked.cpu; ram = t.ram; set = dropping worked.dropped t.set; board = Rattle.board.specs.Boards.board_step board; step = b.step + 1 } in
         let left = steps m b b.set report after (ground_step image n b ∙ e) in
-        behind_ready slots read_from stale value other_roots m b.cpu s memory then first left.last (step_from left.last left.follows (sym left.ram ∙ ram)) t.tables t.wrote (sym left.tables) (sym left.wrote) h
-        (leaving worked.dropped (pages_of t.visited changes)) (changed (entries_of (slots s then)) changes)
-        (λ page lt out x is. kept_or_left worked.dropped (entries_of (slots s then)) t.visited changes b.set left.last.set
+        behind_ready shows m b.cpu s memory then first left.last (step_from left.last left.follows (sym left.ram ∙ ram)) t.tables t.wrote (sym left.tables) (sym left.wrote) h
+        (leaving worked.dropped (pages_of t.visited changes)) (changed (entries_of (shows.slots s then)) changes)
+        (λ page lt out x is. kept_or_left worked.dropped (entries_of (shows.slots s then)) t.visited changes b.set left.last.set
         (λ q. ap (λ (set : Set). get set q) (k.entries ∙ sym k.set))
         (λ q y there. left.set q y (ap (λ (set : Set). get (dropping worked.dropped set) q) set_is ∙ there)) page out x is)
 
     -- of which nothing more is done
     pub followed_ready : (out : ℕ → Bool) (t : Space) (set : Set) → Follows first t → t.ram ≡ shown m then → t.set ≡ set
-        → IsReadyBehind slots read_from stale value other_roots out m b.cpu s then set t.tables t.wrote
+        → IsReadyBehind shows out m b.cpu s then set t.tables t.wrote
     followed_ready out t set follows ram set_is =
-        behind_ready slots read_from stale value other_roots m b.cpu s memory then first t (step_from t follows ram) t.tables t.wrote refl refl h out set
+        behind_ready shows m b.cpu s memory then first t (step_from t follows ram) t.tables t.wrote refl refl h out set
         (λ page lt free x is. inr (ap (λ (y : Set). get y page) set_is ∙ is))

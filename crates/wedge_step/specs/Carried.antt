@@ -1,9 +1,8 @@
 -- What a patched run knows of its steps, by what its shadows keep.
-use Rattle.std.specs.Prelude.{◌≡◌, ℕ, Bool, eqb, Option, List}
+use Rattle.std.specs.Prelude.{◌≡◌, ℕ, eqb, List}
 use Rattle.std.specs.Set.{is_member}
-use Rattle.shadow_tables.specs.OtherRoot.{OtherRoot}
 use Rattle.shadow_tables.specs.Entries.{entries_of}
-use Rattle.shadow_tables.specs.Slots.{Slot}
+use Rattle.shadow_tables.specs.declared.shadows.Shadows as shadows
 use Rattle.machine_model.specs.Run.{Set, with_set}
 use Rattle.machine_model.specs.State.{Setting, State}
 use Rattle.machine_model.specs.Step.{Went, step_of, stepped}
@@ -18,14 +17,14 @@ pub record IsTakenFrom (m : Setting) (b : State) (t : Taken) : Type 0 where
   pub went : step_of m t.before t.set ≡ Went t.report t.after
   pub stepped : stepped m (with_set b t.set) ≡ Went t.report t.after
 
-module _ {S : Type 0} (slots : S → List ℕ → ℕ → Option Slot) (read_from : S → ℕ → Bool) (stale : S → Bool) (other_roots : S → List ℕ → List OtherRoot) (has_tables_under : S → List ℕ → (ℕ → Bool) → Type 0) where
+module _ {S : Type 0} (g : shadows.Ghosts S) where
   -- Behind these steps, with what the shadows keep, all is known; and they have tables only under directory indices of pages
   -- that these steps used.
   pub record IsCarried (m : Setting) (steps : List Taken) (b : State) (s : S) (memory : List ℕ) : Type 0 where
-    pub known : IsKnown m steps b (read_from s) (stale s) (other_roots s memory) (entries_of (slots s memory))
-    pub opened_to : has_tables_under s memory (λ index. is_member eqb (indices_in steps) index)
+    pub known : IsKnown m steps b (g.read_from s) (g.stale s) (g.other_roots s memory) (entries_of (g.slots s memory))
+    pub opened_to : g.has_tables_under s memory (λ index. is_member eqb (indices_in steps) index)
 
   -- The same of steps behind which a step goes by other translations than what is present.
   pub record IsCarriedBy (m : Setting) (steps : List Taken) (b : State) (kept : Set) (s : S) (memory : List ℕ) : Type 0 where
-    pub known : IsKnown m steps b (read_from s) (stale s) (other_roots s memory) kept
-    pub opened_to : has_tables_under s memory (λ index. is_member eqb (indices_in steps) index)
+    pub known : IsKnown m steps b (g.read_from s) (g.stale s) (g.other_roots s memory) kept
+    pub opened_to : g.has_tables_under s memory (λ index. is_member eqb (indices_in steps) index)

@@ -22,8 +22,8 @@ pub record Stays {S : Type 0} (old new : Scene S) : Type 0 where
 module _ {S : Type 0} (g : shadows.Ghosts S) where
   -- It stands over the host's memory and the pool, what it keeps can be found again, and frames suffice for a step.
   pub record IsBetween (image : Image) (c : Scene S) : Type 0 where
-    pub held : IsHeld g.stands g.frames g.slots (ground image c.guest.frames) c.guest c.pool c.memory
-    pub ready : IsReady g.slots g.read_from g.stale g.value g.other_roots (ground image c.guest.frames) c.guest.cpu c.guest.shadows c.memory
+    pub held : IsHeld g (ground image c.guest.frames) c.guest c.pool c.memory
+    pub ready : IsReady g (ground image c.guest.frames) c.guest.cpu c.guest.shadows c.memory
     pub enough : 16 ≤ free c + c.guest.held
 
   -- However a step ended: the shadows stand, the same frames of the pool are held or free, and the counts are right.
@@ -37,7 +37,7 @@ module _ {S : Type 0} (g : shadows.Ghosts S) where
   -- behind these steps, all is known with what the shadows keep
   abbrev pub IsCarriedIn : Image → Events → List Taken → State → Scene S → Type 0
   IsCarriedIn image script steps b c =
-      IsCarried g.slots g.read_from g.stale g.other_roots g.has_tables_under (wedge image script c.guest.frames) steps b c.guest.shadows c.memory
+      IsCarried g (wedge image script c.guest.frames) steps b c.guest.shadows c.memory
 
   -- With a whole pool and no notes wanted, what is known of a run goes on over its next step, which goes by this set.
   abbrev pub CarriesOn : Image → Bool → Set → Scene S → Scene S → Type 0
@@ -45,4 +45,4 @@ module _ {S : Type 0} (g : shadows.Ghosts S) where
       (script : Events) (steps : List Taken) (t : Taken) → wanted ≡ false → free old + old.guest.held ≡ 512 → Roomy (steps ++ t ∷ [])
       → IsTakenFrom (wedge image script old.guest.frames) (state_in g (wedge image script old.guest.frames) old) t → t.set ≡ set
       → IsCarriedIn image script steps t.before old
-      → IsCarried g.slots g.read_from g.stale g.other_roots g.has_tables_under (wedge image script old.guest.frames) (steps ++ t ∷ []) t.after new.guest.shadows new.memory
+      → IsCarried g (wedge image script old.guest.frames) (steps ++ t ∷ []) t.after new.guest.shadows new.memory

@@ -9,6 +9,7 @@ use Rattle.image_check.specs.Image.{Image}
 use Rattle.shadow_tables.specs.OtherRoot.{OtherRoot}
 use Rattle.guest_ram.specs.Among.{is_among}
 use Rattle.shadow_tables.specs.Slots.{Slot}
+use Rattle.shadow_tables.specs.declared.shadows.Shadows as shadows
 use Rattle.machine_model.specs.Reloading.{IsFoundBy}
 use Rattle.machine_model.specs.Run.{Set}
 use Rattle.machine_model.specs.State.{Setting}
@@ -57,13 +58,13 @@ leaving dropped.All pages page = is_among page pages
 abbrev pub left_out : Dropped → List ℕ → ℕ → Bool
 left_out dropped pages page = is_all dropped && is_among page pages
 
-module _ {S : Type 0} (slots : S → List ℕ → ℕ → Option Slot) (read_from : S → ℕ → Bool) (stale : S → Bool) (value : S → Option ℕ) (other_roots : S → List ℕ → List OtherRoot) where
+module _ {S : Type 0} (g : shadows.Ghosts S) where
   -- The shadows keep what is present under the processor's CR3, where no frame of its tables was written: it is found, but
   -- for the pages that the test leaves out. So is what is kept under other values.
   pub record IsReadyBut (out : ℕ → Bool) (m : Setting) (cpu : Cpu) (s : S) (memory : List ℕ) : Type 0 where
-    pub value_is : value s ≡ Some cpu.cr3
-    pub present : stale s ≡ false → (page : ℕ) → page < 2 ^ 20 → out page ≡ false → ForSome (slots s memory page) (IsFoundIn m cpu (shown m memory) cpu.cr3 (read_from s) page)
-    pub others : AreReady m cpu (shown m memory) (other_roots s memory)
+    pub value_is : g.value s ≡ Some cpu.cr3
+    pub present : g.stale s ≡ false → (page : ℕ) → page < 2 ^ 20 → out page ≡ false → ForSome (g.slots s memory page) (IsFoundIn m cpu (shown m memory) cpu.cr3 (g.read_from s) page)
+    pub others : AreReady m cpu (shown m memory) (g.other_roots s memory)
 
   abbrev pub IsReady : Setting → Cpu → S → List ℕ → Type 0
   IsReady m cpu s memory = IsReadyBut (λ page. false) m cpu s memory
@@ -71,7 +72,7 @@ module _ {S : Type 0} (slots : S → List ℕ → ℕ → Option Slot) (read_fro
   -- The same behind the accesses of a step, for the translations that it left: it has read these frames as tables, and
   -- written those.
   pub record IsReadyBehind (out : ℕ → Bool) (m : Setting) (cpu : Cpu) (s : S) (memory : List ℕ) (set : Set) (tables wrote : List ℕ) : Type 0 where
-    pub value_is : value s ≡ Some cpu.cr3
-    pub present : stale s ≡ false → list_any (read_by (read_from s) tables) wrote ≡ false → (page : ℕ) → page < 2 ^ 20 → out page ≡ false
-        → ForSome (get set page) (IsFoundBy (shown m memory) m.frames cpu.cr3 (pse_of cpu) (read_by (read_from s) tables) page)
-    pub others : AreReadyBehind wrote m cpu (shown m memory) (other_roots s memory)
+    pub value_is : g.value s ≡ Some cpu.cr3
+    pub present : g.stale s ≡ false → list_any (read_by (g.read_from s) tables) wrote ≡ false → (page : ℕ) → page < 2 ^ 20 → out page ≡ false
+        → ForSome (get set page) (IsFoundBy (shown m memory) m.frames cpu.cr3 (pse_of cpu) (read_by (g.read_from s) tables) page)
+    pub others : AreReadyBehind wrote m cpu (shown m memory) (g.other_roots s memory)

@@ -29,12 +29,12 @@ module _ {S : Type 0} (g : shadows.Ghosts S) where
 
   -- the translations that they keep
   abbrev pub set_in : Scene S → Set
-  set_in c = set_of g.stands g.frames g.slots c.guest c.memory
+  set_in c = set_of g c.guest c.memory
 
   -- how many pages they keep, for all values of CR3
   abbrev pub kept_in : Scene S → ℕ
-  kept_in c = pages_kept g.slots g.other_roots c.guest.shadows c.memory
+  kept_in c = pages_kept g c.guest.shadows c.memory
 
   -- the guest's state
   abbrev pub state_in : Setting → Scene S → State
-  state_in m c = state_of g.stands g.frames g.slots m c.guest c.memory
+  state_in m c = state_of g m c.guest c.memory

@@ -1,16 +1,16 @@
 -- Shadows, the pool whose frames they hold, and the memory in which they stand, as one value.
-use Rattle.std.specs.Prelude.{◌≡◌, ℕ, ◌+◌, ◌*◌, ◌/◌, ◌≤◌, List, length, Bool, true}
+use Rattle.std.specs.Prelude.{◌≡◌, ℕ, ◌+◌, ◌/◌, ◌≤◌, List, length, Bool, true}
 use Rattle.descriptors.specs.declared.cpu.Cpu.{Cpu}
 use Rattle.frame_pool.specs.Held.{Owns, Moves}
-use Rattle.frame_pool.specs.Pool.{base_of, free_list}
+use Rattle.frame_pool.specs.Pool.{free_list}
 use Rattle.frame_pool.specs.declared.Pool.{Pool}
 use Rattle.guest_ram.specs.Among.{is_among}
 use Rattle.shadow_tables.specs.Entries.{entries_of}
 use Rattle.shadow_tables.specs.declared.shadows.Shadows as bound
 use Rattle.shadow_tables.specs.declared.words.Side.{Side}
 use Rattle.step_mem.specs.Changes.{changed}
-use Rattle.step_mem.specs.Sound.{IsSound}
 use Rattle.step_mem.specs.declared.state.StepState.{StepState}
+use Rattle.wedge_mem.specs.Seen.{IsSoundBy}
 use Rattle.wedge_mem.specs.Settled.{IsFillCount, pages_of}
 use Rattle.machine_model.specs.Run.{Set}
 use Rattle.machine_model.specs.State.{Setting}
@@ -56,7 +56,7 @@ module _ {S : Type 0} (g : bound.Ghosts S) where
 
   -- how many pages are kept, for all values of CR3
   abbrev pub count_in : Stand S → ℕ
-  count_in c = pages_kept g.slots g.other_roots c.shadows c.memory
+  count_in c = pages_kept g c.shadows c.memory
 
   -- how many frames of the pool are free or held
   abbrev pub room_in : Stand S → ℕ
@@ -75,9 +75,7 @@ module _ {S : Type 0} (g : bound.Ghosts S) where
 
   -- what a step did so far is sound over them
   abbrev pub IsSoundIn : Stand S → StepState → Type 0
-  IsSoundIn c state =
-      IsSound (λ m. entries_of (g.slots c.shadows m)) (4096 * base_of c.pool)
-      (λ m. (∥ g.stands c.shadows m ∥₁) × Owns c.pool m (g.frames c.shadows m)) c.memory state
+  IsSoundIn c state = IsSoundBy g c.shadows c.pool c.memory state
 
   -- they have tables under no other directory indices than before
   abbrev pub OpensNoMore : Stand S → Stand S → Type 0
@@ -123,15 +121,15 @@ module _ {S : Type 0} (g : bound.Ghosts S) where
 
   -- what is kept can be found again, but for the pages that the test leaves out
   abbrev pub IsReadyButIn : (ℕ → Bool) → Setting → Cpu → Stand S → Type 0
-  IsReadyButIn out m cpu c = IsReadyBut g.slots g.read_from g.stale g.value g.other_roots out m cpu c.shadows c.memory
+  IsReadyButIn out m cpu c = IsReadyBut g out m cpu c.shadows c.memory
 
   abbrev pub IsReadyIn : Setting → Cpu → Stand S → Type 0
-  IsReadyIn m cpu c = IsReady g.slots g.read_from g.stale g.value g.other_roots m cpu c.shadows c.memory
+  IsReadyIn m cpu c = IsReady g m cpu c.shadows c.memory
 
   -- so it is behind a step, of what the step left
   abbrev pub IsReadyBehindIn : (ℕ → Bool) → Setting → Cpu → Stand S → StepState → Type 0
   IsReadyBehindIn out m cpu c state =
-      IsReadyBehind g.slots g.read_from g.stale g.value g.other_roots out m cpu c.shadows c.memory (set_behind c state) state.tables state.wrote
+      IsReadyBehind g out m cpu c.shadows c.memory (set_behind c state) state.tables state.wrote
 
   -- each page that is kept is found from this directory
   abbrev pub AreFoundIn : Setting → Cpu → ℕ → Stand S → Type 0

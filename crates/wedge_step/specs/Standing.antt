@@ -8,6 +8,7 @@ use Rattle.paging.specs.Fresh.{allows}
 use Rattle.step_mem.specs.Changes.{AreWithin}
 use Rattle.shadow_tables.specs.Entries.{entries_of}
 use Rattle.shadow_tables.specs.Slots.{Slot, is_user}
+use Rattle.shadow_tables.specs.declared.shadows.Shadows as shadows
 use Rattle.shadow_tables.specs.declared.words.Side.{Side}
 use Rattle.shadow_tables.specs.declared.words.Side.TheVariants.{Kernel, User}
 use Rattle.descriptors.specs.Controls.{wp_of}
@@ -43,28 +44,28 @@ AreOpen image wp slots = (page : ℕ) → page < 2 ^ 20 → ForSome (slots page)
 abbrev pub ground : Image → ℕ → Setting
 ground image frames = wedge image [] frames
 
-module _ {S : Type 0} (stands : S → List ℕ → Type 0) (frames : S → List ℕ → List ℕ) (slots : S → List ℕ → ℕ → Option Slot) where
+module _ {S : Type 0} (g : shadows.Ghosts S) where
   -- the translations that the shadows keep
   abbrev pub set_of : Running S → List ℕ → Rattle.machine_model.specs.Run.Set
-  set_of g memory = entries_of (slots g.shadows memory)
+  set_of r memory = entries_of (g.slots r.shadows memory)
 
   -- The guest's state: its memory is the front of the host's, with the text as it was before it was patched.
   abbrev pub state_of : Setting → Running S → List ℕ → State
-  state_of m g memory = record { cpu = g.cpu; ram = shown m memory; set = set_of g memory; board = g.board; step = g.step }
+  state_of m r memory = record { cpu = r.cpu; ram = shown m memory; set = set_of r memory; board = r.board; step = r.step }
 
   -- The host's memory has the patched text in the guest's frames, and behind them the pool, of which the guest holds
   -- its shadows' frames.
-  pub record IsHeld (m : Setting) (g : Running S) (pool : Pool) (memory : List ℕ) : Type 0 where
+  pub record IsHeld (m : Setting) (r : Running S) (pool : Pool) (memory : List ℕ) : Type 0 where
     pub wedge : IsWedge m
-    pub frames_are : g.frames ≡ m.frames
+    pub frames_are : r.frames ≡ m.frames
     pub size : (2048 ≤ m.frames) × (m.frames ≤ 16384)
     pub host : IsHost m memory
     pub whole : length memory % 4096 ≡ 0
     pub behind : m.frames ≤ base_of pool
-    pub stand : ∥ stands g.shadows memory ∥₁
-    pub owns : Owns pool memory (frames g.shadows memory)
-    pub counted : g.held ≡ length (frames g.shadows memory)
-    pub few : length (free_list pool memory) + length (frames g.shadows memory) < 2 ^ 32
-    pub fills : g.fills ≤ 128 * g.step
-    pub within : AreWithin m.frames (set_of g memory)
-    pub open_to : AreOpen m.image (wp_of g.cpu) (slots g.shadows memory)
+    pub stand : ∥ g.stands r.shadows memory ∥₁
+    pub owns : Owns pool memory (g.frames r.shadows memory)
+    pub counted : r.held ≡ length (g.frames r.shadows memory)
+    pub few : length (free_list pool memory) + length (g.frames r.shadows memory) < 2 ^ 32
+    pub fills : r.fills ≤ 128 * r.step
+    pub within : AreWithin m.frames (set_of r memory)
+    pub open_to : AreOpen m.image (wp_of r.cpu) (g.slots r.shadows memory)

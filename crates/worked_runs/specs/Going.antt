@@ -3,7 +3,7 @@ use Rattle.std.specs.Prelude.{◌≡◌, ℕ, List, true, Option, is_some}
 use Rattle.frame_pool.specs.declared.Pool.{Pool}
 use Rattle.host_cpl3.specs.Hosts.{held}
 use Rattle.image_check.specs.Image.{Image}
-use Rattle.shadow_cache.specs.Views as roots
+use Rattle.wedge_core.specs.OfRoots.{of_roots}
 use Rattle.wedge_step.specs.Ready.{IsReady}
 use Rattle.wedge_step.specs.Standing.{IsHeld, IsAble, ground}
 use Rattle.wedge_core.specs.declared.guest.Guest.{Guest}
@@ -13,6 +13,6 @@ use Rattle.wedge_core.specs.declared.guest.Guest.{Guest}
 abbrev pub IsGoing : Image → Guest → Pool → Option (List ℕ) → Type 0
 IsGoing image guest pool ram =
     (is_some ram ≡ true)
-    × IsHeld roots.stands roots.frames roots.slots (ground image guest.running.frames) guest.running pool (held ram)
-    × IsReady roots.slots roots.read_from roots.stale roots.value roots.other_roots (ground image guest.running.frames) guest.running.cpu guest.running.shadows (held ram)
+    × IsHeld of_roots (ground image guest.running.frames) guest.running pool (held ram)
+    × IsReady of_roots (ground image guest.running.frames) guest.running.cpu guest.running.shadows (held ram)
     × IsAble guest.running.cpu

@@ -2,7 +2,7 @@ use Rattle.std.proofs.Common.{◌≡◌, ℕ, ◌+◌, ◌-◌, ◌*◌, length,
 use Rattle.checkpoint.specs.InForm.{IsInForm}
 use Rattle.checkpoint.specs.Moved.{kept_of}
 use Rattle.machine_model.specs.State.{State, wedge}
-use Rattle.shadow_cache.specs.Views as roots
+use Rattle.wedge_core.specs.OfRoots.{of_roots}
 use Rattle.wedge_step.specs.Standing.{state_of}
 use Rattle.checkpoint.proofs.GuestRests.{at_bound, paused_so, guest_rests, guest_stops, guest_unput, guest_fails}
 use Rattle.checkpoint.proofs.guest_rest.rest_wedge.Goals as goal
@@ -20,7 +20,7 @@ returns-in-Err-state_of_guest g c =
     let is : c.args.guest.running.step + (c.args.n - c.step.result) ≡ c.args.n = omega (arith, asked, c.requires.begun) in
     let script = c.args.script.now.list in
     let memory = g.H.Host.bytes c.slice.new.host in
-    let there : ℕ → State = λ f. state_of roots.stands roots.frames roots.slots (wedge c.args.image.now script f) c.slice.new.self.running memory in
+    let there : ℕ → State = λ f. state_of of_roots (wedge c.args.image.now script f) c.slice.new.self.running memory in
     let same = c.in-Ok.ensures.leaves.frames in
     let form = subst (λ (f : ℕ). IsInForm (kept_of (there f))) same (c.in-Err-state_of_guest.ensures.kept script) in
     let size = subst (λ (f : ℕ). length (there f).ram ≡ 4096 * f) same (c.in-Err-state_of_guest.ensures.size script) in
@@ -33,7 +33,7 @@ returns-in-Reached g c =
     let is : c.args.guest.running.step + (c.args.n - c.step.result) ≡ c.args.n = omega (arith, asked, c.requires.begun) in
     let script = c.args.script.now.list in
     let memory = g.H.Host.bytes c.slice.new.host in
-    let there : ℕ → State = λ f. state_of roots.stands roots.frames roots.slots (wedge c.args.image.now script f) c.slice.new.self.running memory in
+    let there : ℕ → State = λ f. state_of of_roots (wedge c.args.image.now script f) c.slice.new.self.running memory in
     let same = c.in-Ok.ensures.leaves.frames in
     let form = subst (λ (f : ℕ). IsInForm (kept_of (there f))) same (c.in-Ok-state_of_guest.ensures.kept script) in
     let size = subst (λ (f : ℕ). length (there f).ram ≡ 4096 * f) same (c.in-Ok-state_of_guest.ensures.size script) in

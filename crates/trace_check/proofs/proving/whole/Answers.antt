@@ -6,6 +6,7 @@ use Rattle.run_trace.specs.Notes.{Note}
 use Rattle.run_trace.specs.Pauses.{end_of}
 use Rattle.run_trace.specs.Text.{end_line}
 use Rattle.shadow_cache.specs.Views as roots
+use Rattle.wedge_core.specs.OfRoots.{of_roots}
 use Rattle.shadow_tables.specs.Entries.{entries_of}
 use Rattle.machine_model.specs.State.{State, wedge}
 use Rattle.wedge_step.specs.Filled.{pages_kept}
@@ -38,12 +39,12 @@ returns-in-Err g c =
     let m = wedge c.args.image.now c.args.script.now.list r.frames in
     let before : Counts = record { retired = g.H.Host.retired c.args.host.now; passed = g.H.Host.passed c.args.host.now } in
     let after : Counts = record { retired = g.H.Host.retired c.slice.new.host; passed = g.H.Host.passed c.slice.new.host } in
-    let old = state_of roots.stands roots.frames roots.slots m r memory in
-    let new = state_of roots.stands roots.frames roots.slots m c.slice.new.self.running (g.H.Host.bytes c.slice.new.host) in
+    let old = state_of of_roots m r memory in
+    let new = state_of of_roots m c.slice.new.self.running (g.H.Host.bytes c.slice.new.host) in
     let notes_on = notes_of c.args.notes.now c.slice.new.notes in
     let begins = BeginsEmpty (entries_of (roots.slots r.shadows memory)) (length (free_list c.args.pool.now memory)) r.held true in
-    let h = subst (λ (n : ℕ). SliceAs m n old new before after (g.O.Sink.taken c.args.out.now) (g.O.Sink.taken c.slice.new.out) (pages_kept roots.slots roots.other_roots r.shadows memory) r.fills c.slice.new.self.running.fills true notes_on begins (Err c.in-Err.field-0)) is c.in-Err.ensures.slice in
-    record { whole = whole_front c.args.image.now c.args.script.now.list r.frames c.args.n 0 old new before after _ _ (pages_kept roots.slots roots.other_roots r.shadows memory) r.fills c.slice.new.self.running.fills true notes_on begins c.in-Err.field-0 _ _ (g.H.Host.bytes c.slice.new.host) c.requires.fits c.requires.first h c.in-Err.ensures.faults.cause }
+    let h = subst (λ (n : ℕ). SliceAs m n old new before after (g.O.Sink.taken c.args.out.now) (g.O.Sink.taken c.slice.new.out) (pages_kept of_roots r.shadows memory) r.fills c.slice.new.self.running.fills true notes_on begins (Err c.in-Err.field-0)) is c.in-Err.ensures.slice in
+    record { whole = whole_front c.args.image.now c.args.script.now.list r.frames c.args.n 0 old new before after _ _ (pages_kept of_roots r.shadows memory) r.fills c.slice.new.self.running.fills true notes_on begins c.in-Err.field-0 _ _ (g.H.Host.bytes c.slice.new.host) c.requires.fits c.requires.first h c.in-Err.ensures.faults.cause }
 
 pub returns-in-Err-put_end : goal.returns-in-Err-put_end
 returns-in-Err-put_end g c =
@@ -56,14 +57,14 @@ returns-in-Err-put_end g c =
     let pause = c.in-Ok.pause in
     let before : Counts = record { retired = g.H.Host.retired c.args.host.now; passed = g.H.Host.passed c.args.host.now } in
     let after : Counts = record { retired = g.H.Host.retired c.slice.new.host; passed = g.H.Host.passed c.slice.new.host } in
-    let old = state_of roots.stands roots.frames roots.slots m r memory in
-    let new = state_of roots.stands roots.frames roots.slots m c.slice.new.self.running memory2 in
+    let old = state_of of_roots m r memory in
+    let new = state_of of_roots m c.slice.new.self.running memory2 in
     let notes_on = notes_of c.args.notes.now c.slice.new.notes in
     let begins = BeginsEmpty (entries_of (roots.slots r.shadows memory)) (length (free_list c.args.pool.now memory)) r.held true in
-    let h = subst (λ (n : ℕ). SliceAs m n old new before after (g.O.Sink.taken c.args.out.now) (g.O.Sink.taken c.slice.new.out) (pages_kept roots.slots roots.other_roots r.shadows memory) r.fills c.slice.new.self.running.fills true notes_on begins (Ok pause)) is c.in-Ok.ensures.slice in
+    let h = subst (λ (n : ℕ). SliceAs m n old new before after (g.O.Sink.taken c.args.out.now) (g.O.Sink.taken c.slice.new.out) (pages_kept of_roots r.shadows memory) r.fills c.slice.new.self.running.fills true notes_on begins (Ok pause)) is c.in-Ok.ensures.slice in
     let put = subst (λ (k : ℕ). AppendsFront (g.O.Sink.taken c.slice.new.out) (g.O.Sink.taken c.put_end.new.out) (end_line k (end_of pause))) c.step.ensures
     (subst (λ (x : End). AppendsFront (g.O.Sink.taken c.slice.new.out) (g.O.Sink.taken c.put_end.new.out) (end_line c.step.result x)) c.end_of.ensures c.in-Err-put_end.ensures.failed) in
-    record { whole = whole_unput c.kept_on.ensures.before c.args.image.now c.args.script.now.list r.frames c.args.n 0 old new before after _ _ _ (pages_kept roots.slots roots.other_roots r.shadows memory) r.fills c.slice.new.self.running.fills true notes_on begins pause _ (g.O.Sink.faults c.slice.new.out) _ memory2 c.requires.fits c.requires.first c.in-Ok.ensures.own.memory h put c.in-Ok.ensures.faults.later c.in-Err-put_end.ensures.cause }
+    record { whole = whole_unput c.kept_on.ensures.before c.args.image.now c.args.script.now.list r.frames c.args.n 0 old new before after _ _ _ (pages_kept of_roots r.shadows memory) r.fills c.slice.new.self.running.fills true notes_on begins pause _ (g.O.Sink.faults c.slice.new.out) _ memory2 c.requires.fits c.requires.first c.in-Ok.ensures.own.memory h put c.in-Ok.ensures.faults.later c.in-Err-put_end.ensures.cause }
 
 pub returns-in-Ok-put_end : goal.returns-in-Ok-put_end
 returns-in-Ok-put_end g c =
@@ -78,14 +79,14 @@ returns-in-Ok-put_end g c =
     let pause = c.in-Ok.pause in
     let before : Counts = record { retired = g.H.Host.retired c.args.host.now; passed = g.H.Host.passed c.args.host.now } in
     let after : Counts = record { retired = g.H.Host.retired c.slice.new.host; passed = g.H.Host.passed c.slice.new.host } in
-    let old = state_of roots.stands roots.frames roots.slots m r memory in
-    let new = state_of roots.stands roots.frames roots.slots m c.slice.new.self.running memory2 in
+    let old = state_of of_roots m r memory in
+    let new = state_of of_roots m c.slice.new.self.running memory2 in
     let notes_on = notes_of c.args.notes.now c.slice.new.notes in
     let begins = BeginsEmpty (entries_of (roots.slots r.shadows memory)) (length (free_list c.args.pool.now memory)) r.held true in
-    let h = subst (λ (n : ℕ). SliceAs m n old new before after (g.O.Sink.taken c.args.out.now) (g.O.Sink.taken c.slice.new.out) (pages_kept roots.slots roots.other_roots r.shadows memory) r.fills c.slice.new.self.running.fills true notes_on begins (Ok pause)) is c.in-Ok.ensures.slice in
+    let h = subst (λ (n : ℕ). SliceAs m n old new before after (g.O.Sink.taken c.args.out.now) (g.O.Sink.taken c.slice.new.out) (pages_kept of_roots r.shadows memory) r.fills c.slice.new.self.running.fills true notes_on begins (Ok pause)) is c.in-Ok.ensures.slice in
     let put = subst (λ (k : ℕ). Appends (g.O.Sink.taken c.slice.new.out) (g.O.Sink.taken c.put_end.new.out) (end_line k (end_of pause))) c.step.ensures
     (subst (λ (x : End). Appends (g.O.Sink.taken c.slice.new.out) (g.O.Sink.taken c.put_end.new.out) (end_line c.step.result x)) c.end_of.ensures c.in-Ok-put_end.ensures.ok) in
-    let done = noted_put image script r.frames c.args.n old new before after _ _ _ (pages_kept roots.slots roots.other_roots r.shadows memory) r.fills c.slice.new.self.running.fills c.args.notes.now c.slice.new.notes begins pause _ (g.O.Sink.faults c.slice.new.out) _ memory2
+    let done = noted_put image script r.frames c.args.n old new before after _ _ _ (pages_kept of_roots r.shadows memory) r.fills c.slice.new.self.running.fills c.args.notes.now c.slice.new.notes begins pause _ (g.O.Sink.faults c.slice.new.out) _ memory2
     c.notes_are_judged.ensures.judged c.notes_are_judged.ensures.form c.requires.bound c.requires.untold c.requires.fits c.requires.first c.requires.none c.requires.unfilled c.in-Ok.ensures.leaves.few c.in-Ok.ensures.own.memory h put c.in-Ok.ensures.faults.later c.in-Ok-put_end.ensures.later in
     let here = around_of (g.O.Sink.taken c.args.out.now) (g.O.Sink.taken c.put_end.new.out) (g.O.Sink.faults c.args.out.now) (g.O.Sink.faults c.put_end.new.out) before after in
     record {

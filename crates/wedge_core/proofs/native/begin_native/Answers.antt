@@ -37,7 +37,7 @@ pub try_once-requires-clause-ready : goal.try_once-requires-clause-ready
 try_once-requires-clause-ready g c =
     let running = c.args.running.now in
     let mid = c.make_room.new.running in
-    subst (λ (k : ℕ). IsReady g.S.Shadows.slots g.S.Shadows.read_from g.S.Shadows.stale g.S.Shadows.value g.S.Shadows.other_roots (ground c.args.image.now k) mid.cpu mid.shadows c.make_room.new.ram) (sym (ap (λ (r : Running g.row.S.Denot). r.frames) c.make_room.ensures.same))
+    subst (λ (k : ℕ). IsReady g.S.Shadows (ground c.args.image.now k) mid.cpu mid.shadows c.make_room.new.ram) (sym (ap (λ (r : Running g.row.S.Denot). r.frames) c.make_room.ensures.same))
     (c.make_room.ensures.beside.ready (ground c.args.image.now running.frames) refl c.requires.between.ready)
 
 -- ---- what the run knows goes on
@@ -72,10 +72,10 @@ module _ (g : Over) (c : goal.After-try_once g) where
     m = wedge image script running.frames
 
     abbrev b : State
-    b = state_of g.S.Shadows.stands g.S.Shadows.frames g.S.Shadows.slots m running ram0
+    b = state_of g.S.Shadows m running ram0
 
     abbrev d : State
-    d = state_of g.S.Shadows.stands g.S.Shadows.frames g.S.Shadows.slots m mid ram1
+    d = state_of g.S.Shadows m mid ram1
 
     taken_there : (t : Taken) → IsTakenFrom m b t → IsTakenFrom m d t
     taken_there t taken =
@@ -91,7 +91,7 @@ module _ (g : Over) (c : goal.After-try_once g) where
     by_there t by = by ∙ (ap (λ (x : Bool). left_of x b.set) c.try_once.ensures.tries.before ∙ sym c.make_room.ensures.left)
 
     module _ (steps : List Taken) (t : Taken) (free : length (free_list c.args.pool.now ram0) + running.held ≡ 512) (roomy : Roomy (steps ++ t ∷ []))
-        (carried : IsCarried g.S.Shadows.slots g.S.Shadows.read_from g.S.Shadows.stale g.S.Shadows.other_roots g.S.Shadows.has_tables_under m steps t.before running.shadows ram0)
+        (carried : IsCarried g.S.Shadows m steps t.before running.shadows ram0)
       where
         room : 8 ≤ length (free_list c.args.pool.now ram0)
         room =
@@ -107,7 +107,7 @@ module _ (g : Over) (c : goal.After-try_once g) where
             let after = c.make_room.ensures.held.counted in
             omega (arith, lengths, before, after, free)
 
-        carried_there : IsCarriedBy g.S.Shadows.slots g.S.Shadows.read_from g.S.Shadows.stale g.S.Shadows.other_roots g.S.Shadows.has_tables_under m steps t.before (entries_of (g.S.Shadows.slots running.shadows ram0)) mid.shadows ram1
+        carried_there : IsCarriedBy g.S.Shadows m steps t.before (entries_of (g.S.Shadows.slots running.shadows ram0)) mid.shadows ram1
         carried_there = record {
           known = c.known_laws.ensures.still m steps t.before (g.S.Shadows.read_from running.shadows) (g.S.Shadows.read_from mid.shadows) (g.S.Shadows.stale running.shadows) (g.S.Shadows.stale mid.shadows) (g.S.Shadows.other_roots running.shadows ram0)
               (g.S.Shadows.other_roots mid.shadows ram1) (entries_of (g.S.Shadows.slots running.shadows ram0)) (c.make_room.ensures.stay room) carried.known;
@@ -117,13 +117,13 @@ module _ (g : Over) (c : goal.After-try_once g) where
   -- what a try says, from there
   abbrev Carries : Running g.row.S.Denot → Events → List Taken → Taken → Type 0
   Carries r script steps t =
-      (set : Set) → IsCarriedBy g.S.Shadows.slots g.S.Shadows.read_from g.S.Shadows.stale g.S.Shadows.other_roots g.S.Shadows.has_tables_under (wedge image script r.frames) steps t.before set r.shadows ram1
-      → IsCarried g.S.Shadows.slots g.S.Shadows.read_from g.S.Shadows.stale g.S.Shadows.other_roots g.S.Shadows.has_tables_under (wedge image script r.frames) (steps ++ t ∷ []) t.after c.try_once.new.running.shadows c.try_once.new.ram
+      (set : Set) → IsCarriedBy g.S.Shadows (wedge image script r.frames) steps t.before set r.shadows ram1
+      → IsCarried g.S.Shadows (wedge image script r.frames) (steps ++ t ∷ []) t.after c.try_once.new.running.shadows c.try_once.new.ram
 
   abbrev IsTaken : Running g.row.S.Denot → Events → List Taken → Taken → Type 0 → Type 0
   IsTaken r script steps t fact =
       c.args.wanted ≡ false → length (free_list c.make_room.new.pool ram1) + r.held ≡ 512 → Roomy (steps ++ t ∷ [])
-      → IsTakenFrom (wedge image script r.frames) (state_of g.S.Shadows.stands g.S.Shadows.frames g.S.Shadows.slots (wedge image script r.frames) r ram1) t → t.set ≡ set_of g.S.Shadows.stands g.S.Shadows.frames g.S.Shadows.slots r ram1 → fact
+      → IsTakenFrom (wedge image script r.frames) (state_of g.S.Shadows (wedge image script r.frames) r ram1) t → t.set ≡ set_of g.S.Shadows r ram1 → fact
 
   tried : WhereStepped c.try_once.result ((script : Events) (steps : List Taken) (t : Taken) → IsTaken mid script steps t (Carries mid script steps t))
   tried = subst (λ (r : Running g.row.S.Denot). WhereStepped c.try_once.result ((script : Events) (steps : List Taken) (t : Taken) → IsTaken r script steps t (Carries r script steps t))) c.make_room.ensures.same c.try_once.ensures.tries.carried
@@ -131,7 +131,7 @@ module _ (g : Over) (c : goal.After-try_once g) where
   abbrev Does : Running g.row.S.Denot → Taken → Type 0 → Type 0
   Does r t fact =
       is_load t.report.completed ≡ false → (t.after.cpu.cr0 ≡ r.cpu.cr0) × (t.after.cpu.cr3 ≡ r.cpu.cr3) × (t.after.cpu.cr4 ≡ r.cpu.cr4)
-      → t.after.set ≡ set_of g.S.Shadows.stands g.S.Shadows.frames g.S.Shadows.slots c.try_once.new.running c.try_once.new.ram → 4096 * r.frames ≤ length t.after.ram → AreBytes t.after.ram → fact
+      → t.after.set ≡ set_of g.S.Shadows c.try_once.new.running c.try_once.new.ram → 4096 * r.frames ≤ length t.after.ram → AreBytes t.after.ram → fact
 
   asked : WhereAsked c.try_once.result ((script : Events) (steps : List Taken) (t : Taken) → IsTaken mid script steps t (Does mid t (Carries mid script steps t)))
   asked = subst (λ (r : Running g.row.S.Denot). WhereAsked c.try_once.result ((script : Events) (steps : List Taken) (t : Taken) → IsTaken r script steps t (Does r t (Carries r script steps t)))) c.make_room.ensures.same c.try_once.ensures.tries.carried_asked
@@ -139,7 +139,7 @@ module _ (g : Over) (c : goal.After-try_once g) where
 -- ---- what a try asks for
 
 pub try_once-requires-clause-held : goal.try_once-requires-clause-held
-try_once-requires-clause-held g c = subst (λ (k : ℕ). IsHeld g.S.Shadows.stands g.S.Shadows.frames g.S.Shadows.slots (ground c.args.image.now k) c.make_room.new.running c.make_room.new.pool c.make_room.new.ram) (sym (ap (λ (r : Running g.row.S.Denot). r.frames) c.make_room.ensures.same)) c.make_room.ensures.held
+try_once-requires-clause-held g c = subst (λ (k : ℕ). IsHeld g.S.Shadows (ground c.args.image.now k) c.make_room.new.running c.make_room.new.pool c.make_room.new.ram) (sym (ap (λ (r : Running g.row.S.Denot). r.frames) c.make_room.ensures.same)) c.make_room.ensures.held
 
 pub try_once-requires-clause-able : goal.try_once-requires-clause-able
 try_once-requires-clause-able g c = subst (λ (r : Running g.row.S.Denot). IsAble r.cpu) (sym c.make_room.ensures.same) c.requires.able
@@ -154,7 +154,7 @@ pub try_once-requires-clause-room : goal.try_once-requires-clause-room
 try_once-requires-clause-room g c = c.make_room.ensures.room
 
 pub try_once-requires-clause-clear : goal.try_once-requires-clause-clear
-try_once-requires-clause-clear g c = λ script. subst (λ (k : ℕ). IsClear (wedge c.args.image.now script k) (state_of g.S.Shadows.stands g.S.Shadows.frames g.S.Shadows.slots (wedge c.args.image.now script k) c.make_room.new.running c.make_room.new.ram)) (sym (ap (λ (r : Running g.row.S.Denot). r.frames) c.make_room.ensures.same)) (c.make_room.ensures.clear script)
+try_once-requires-clause-clear g c = λ script. subst (λ (k : ℕ). IsClear (wedge c.args.image.now script k) (state_of g.S.Shadows (wedge c.args.image.now script k) c.make_room.new.running c.make_room.new.ram)) (sym (ap (λ (r : Running g.row.S.Denot). r.frames) c.make_room.ensures.same)) (c.make_room.ensures.clear script)
 
 pub try_once-requires-clause-kept : goal.try_once-requires-clause-kept
 try_once-requires-clause-kept g c = c.make_room.ensures.beside.back ∙ c.requires.kept.1
@@ -172,14 +172,14 @@ returns-clause-attempts g c = record {
       let ram2 = c.try_once.new.ram in
       let new = c.try_once.new.running in
       let m = wedge image script running.frames in
-      let b = state_of g.S.Shadows.stands g.S.Shadows.frames g.S.Shadows.slots m running ram0 in
+      let b = state_of g.S.Shadows m running ram0 in
       let here = record running { shadows = mid.shadows; held = mid.held; lost = mid.lost } in
-      let d = state_of g.S.Shadows.stands g.S.Shadows.frames g.S.Shadows.slots m here ram1 in
+      let d = state_of g.S.Shadows m here ram1 in
       let view = view_by (g.S.Shadows.directory new.shadows) running.cpu in
-      let after = state_of g.S.Shadows.stands g.S.Shadows.frames g.S.Shadows.slots m new ram2 in
+      let after = state_of g.S.Shadows m new ram2 in
       let tried = subst (λ (r : Running g.row.S.Denot). AttemptAs (wedge image script r.frames) (view_by (g.S.Shadows.directory new.shadows) r.cpu)
-      (state_of g.S.Shadows.stands g.S.Shadows.frames g.S.Shadows.slots (wedge image script r.frames) r ram1) false new.lost c.try_once.result
-      (state_of g.S.Shadows.stands g.S.Shadows.frames g.S.Shadows.slots (wedge image script r.frames) new ram2) ram2) c.make_room.ensures.same (c.try_once.ensures.tries.step script) in
+      (state_of g.S.Shadows (wedge image script r.frames) r ram1) false new.lost c.try_once.result
+      (state_of g.S.Shadows (wedge image script r.frames) new ram2) ram2) c.make_room.ensures.same (c.try_once.ensures.tries.step script) in
       let is : d ≡ with_set b d.set = λ i. record b { ram = shown_same m ram0 ram1 c.make_room.ensures.beside.guest i; set = d.set } in
       let left : d.set ≡ left_of new.lost.before b.set = c.make_room.ensures.left ∙ ap (λ (x : Bool). left_of x b.set) (sym c.try_once.ensures.tries.before) in
       attempt_before m view b d new.lost.before new.lost c.try_once.result after ram2 is left tried;
@@ -197,10 +197,10 @@ returns-clause-attempts g c = record {
   clashed = λ lost room. c.make_room.ensures.clashed (sym c.try_once.ensures.tries.before ∙ lost) room;
   leaves = record {
     held =
-        let new = c.try_once.new.running in subst (λ (r : Running g.row.S.Denot). OnOk c.try_once.result (IsHeld g.S.Shadows.stands g.S.Shadows.frames g.S.Shadows.slots (ground c.args.image.now r.frames) (record new { step = r.step + 1 }) c.try_once.new.pool c.try_once.new.ram)) c.make_room.ensures.same c.try_once.ensures.tries.leaves.held;
+        let new = c.try_once.new.running in subst (λ (r : Running g.row.S.Denot). OnOk c.try_once.result (IsHeld g.S.Shadows (ground c.args.image.now r.frames) (record new { step = r.step + 1 }) c.try_once.new.pool c.try_once.new.ram)) c.make_room.ensures.same c.try_once.ensures.tries.leaves.held;
     ready =
         let new = c.try_once.new.running in
-        subst (λ (r : Running g.row.S.Denot). OnOk c.try_once.result (IsReady g.S.Shadows.slots g.S.Shadows.read_from g.S.Shadows.stale g.S.Shadows.value g.S.Shadows.other_roots (ground c.args.image.now r.frames) new.cpu new.shadows c.try_once.new.ram)) c.make_room.ensures.same
+        subst (λ (r : Running g.row.S.Denot). OnOk c.try_once.result (IsReady g.S.Shadows (ground c.args.image.now r.frames) new.cpu new.shadows c.try_once.new.ram)) c.make_room.ensures.same
         c.try_once.ensures.tries.leaves.ready;
     back = c.try_once.ensures.tries.leaves.back;
     count = subst (λ (r : Running g.row.S.Denot). WhereStepped c.try_once.result (c.try_once.new.running.step ≡ r.step + 1)) c.make_room.ensures.same c.try_once.ensures.tries.leaves.count;
@@ -228,6 +228,6 @@ returns-clause-accounts g c = record {
       let new = c.try_once.new.running in
       let same = ap (λ (r : Running g.row.S.Denot). r.fills) c.make_room.ensures.same in
       fills_join _ _ _ running.fills running.fills new.fills (fills_fewer _ _ running.fills c.make_room.ensures.beside.fewer)
-      (subst (λ (k : ℕ). FillsOn (pages_kept g.S.Shadows.slots g.S.Shadows.other_roots c.make_room.new.running.shadows c.make_room.new.ram) (pages_kept g.S.Shadows.slots g.S.Shadows.other_roots new.shadows c.try_once.new.ram) k new.fills) same c.try_once.ensures.accounts.filled);
+      (subst (λ (k : ℕ). FillsOn (pages_kept g.S.Shadows c.make_room.new.running.shadows c.make_room.new.ram) (pages_kept g.S.Shadows new.shadows c.try_once.new.ram) k new.fills) same c.try_once.ensures.accounts.filled);
   frames = c.try_once.ensures.accounts.frames ∙ ap (λ (r : Running g.row.S.Denot). r.frames) c.make_room.ensures.same;
 }

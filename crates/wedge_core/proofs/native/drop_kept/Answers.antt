@@ -11,11 +11,11 @@ use Rattle.wedge_core.proofs.native.drop_kept.Goals as goal
 pub returns-clause-beside : goal.returns-clause-beside
 returns-clause-beside g c = record {
   ready = λ m frames h.
-      none_ready g.S.Shadows.slots g.S.Shadows.read_from g.S.Shadows.stale g.S.Shadows.value g.S.Shadows.other_roots (λ page. false) m c.args.running.now.cpu c.drop_all.new.self c.drop_all.new.ram (c.drop_all.ensures.known.value ∙ h.value_is) c.drop_all.ensures.none c.drop_all.ensures.other_roots;
+      none_ready g.S.Shadows (λ page. false) m c.args.running.now.cpu c.drop_all.new.self c.drop_all.new.ram (c.drop_all.ensures.known.value ∙ h.value_is) c.drop_all.ensures.none c.drop_all.ensures.other_roots;
   back = refl;
   has_tables_under = c.drop_all.ensures.has_tables_under;
   fewer =
-      let none = none_pages g.S.Shadows.slots g.S.Shadows.read_from g.S.Shadows.stale g.S.Shadows.value g.S.Shadows.other_roots c.drop_all.new.self c.drop_all.new.ram c.drop_all.ensures.entries c.drop_all.ensures.other_roots in
+      let none = none_pages g.S.Shadows c.drop_all.new.self c.drop_all.new.ram c.drop_all.ensures.entries c.drop_all.ensures.other_roots in
       omega (arith, none);
   guest =
       let held = c.requires.held.1 in

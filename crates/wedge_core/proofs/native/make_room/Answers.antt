@@ -25,17 +25,17 @@ returns-else-clashes-clause-left g c =
 pub returns-then-free-lt-ROOM-clause-clear : goal.returns-then-free-lt-ROOM-clause-clear
 returns-then-free-lt-ROOM-clause-clear g c = λ script insn len after e.
     let m = wedge c.args.image.now script c.args.running.now.frames in
-    empty_clear m (state_of g.S.Shadows.stands g.S.Shadows.frames g.S.Shadows.slots m c.drop_kept.new.running c.drop_kept.new.ram) c.drop_kept.ensures.none
+    empty_clear m (state_of g.S.Shadows m c.drop_kept.new.running c.drop_kept.new.ram) c.drop_kept.ensures.none
 
 pub returns-then-clashes-clause-clear : goal.returns-then-clashes-clause-clear
 returns-then-clashes-clause-clear g c = λ script insn len after e.
     let m = wedge c.args.image.now script c.args.running.now.frames in
-    empty_clear m (state_of g.S.Shadows.stands g.S.Shadows.frames g.S.Shadows.slots m c.drop_present.new.running c.drop_present.new.ram) c.drop_present.ensures.none
+    empty_clear m (state_of g.S.Shadows m c.drop_present.new.running c.drop_present.new.ram) c.drop_present.ensures.none
 
 pub returns-else-clashes-clause-clear : goal.returns-else-clashes-clause-clear
 returns-else-clashes-clause-clear g c = λ script insn len after e.
     let m = wedge c.args.image.now script c.args.running.now.frames in
-    let b = state_of g.S.Shadows.stands g.S.Shadows.frames g.S.Shadows.slots m c.args.running.now c.args.ram.now in
+    let b = state_of g.S.Shadows m c.args.running.now c.args.ram.now in
     let is = any_script c.args.image.now script c.args.running.now.frames c.args.ram.now in
     let h = c.clashes.ensures.step script b insn len after refl is refl e in
     sym h ∙ c.if-clashes.false

@@ -53,17 +53,17 @@ use Rattle.wedge_core.proofs.native.try_once.Goals as goal
 
 module _ (g : Over) where
   abbrev state_at : Image → Events → Running g.row.S.Denot → List ℕ → State
-  state_at image script r ram = state_of g.S.Shadows.stands g.S.Shadows.frames g.S.Shadows.slots (wedge image script r.frames) r ram
+  state_at image script r ram = state_of g.S.Shadows (wedge image script r.frames) r ram
 
   abbrev space : Running g.row.S.Denot → List ℕ → kept_state.StepState → Space
   space r ram s = space_at (λ x. entries_of (g.S.Shadows.slots r.shadows x)) ram s
 
-  widens : Widens g.S.Shadows.stands g.S.Shadows.frames g.S.Shadows.other_roots g.S.Shadows.has_tables_under
+  widens : Widens g.S.Shadows
   widens = record { same_other_roots = g.met.S.Shadows.same_other_roots; same_tables_under = g.met.S.Shadows.same_tables_under; wider = g.met.S.Shadows.wider; sized = g.met.S.Reloads.sized }
 
-  steps_from : (image : Image) (r : Running g.row.S.Denot) (pool : Pool) (ram0 ram1 : List ℕ) (s0 s1 : kept_state.StepState) → IsHeld g.S.Shadows.stands g.S.Shadows.frames g.S.Shadows.slots (ground image r.frames) r pool ram0
-      → Tried g.S.Shadows.stands g.S.Shadows.frames g.S.Shadows.slots g.S.Shadows.other_roots image r pool ram0 ram1 s0 s1
-      → Steps g.S.Shadows.slots g.S.Shadows.read_from g.S.Shadows.stale g.S.Shadows.value g.S.Shadows.other_roots image r.frames (state_at image [] r ram0) r.shadows ram0 ram1
+  steps_from : (image : Image) (r : Running g.row.S.Denot) (pool : Pool) (ram0 ram1 : List ℕ) (s0 s1 : kept_state.StepState) → IsHeld g.S.Shadows (ground image r.frames) r pool ram0
+      → Tried g.S.Shadows image r pool ram0 ram1 s0 s1
+      → Steps g.S.Shadows image r.frames (state_at image [] r ram0) r.shadows ram0 ram1
   steps_from image r pool ram0 ram1 s0 s1 held k = record {
     wedge = record { mode = held.wedge.mode; accepted = held.wedge.accepted; room = held.wedge.room };
     host = held.host;
@@ -75,16 +75,16 @@ module _ (g : Over) where
     same = k.asides1;
   }
 
-  filled_from : (image : Image) (r : Running g.row.S.Denot) (pool : Pool) (ram0 ram1 : List ℕ) (s0 s1 : kept_state.StepState) → Tried g.S.Shadows.stands g.S.Shadows.frames g.S.Shadows.slots g.S.Shadows.other_roots image r pool ram0 ram1 s0 s1
-      → FillsOn (pages_kept g.S.Shadows.slots g.S.Shadows.other_roots r.shadows ram0) (pages_kept g.S.Shadows.slots g.S.Shadows.other_roots r.shadows ram1) r.fills r.fills
-  filled_from image r pool ram0 ram1 s0 s1 k = fills_same _ _ r.fills (kept_same g.S.Shadows.slots g.S.Shadows.other_roots r.shadows ram0 ram1 k.a.entries_same k.asides1)
+  filled_from : (image : Image) (r : Running g.row.S.Denot) (pool : Pool) (ram0 ram1 : List ℕ) (s0 s1 : kept_state.StepState) → Tried g.S.Shadows image r pool ram0 ram1 s0 s1
+      → FillsOn (pages_kept g.S.Shadows r.shadows ram0) (pages_kept g.S.Shadows r.shadows ram1) r.fills r.fills
+  filled_from image r pool ram0 ram1 s0 s1 k = fills_same _ _ r.fills (kept_same g.S.Shadows r.shadows ram0 ram1 k.a.entries_same k.asides1)
 
 -- ---- the step stops
 
 module _ (g : Over) (c : goal.In-Err g) where
-  stopped : Tried g.S.Shadows.stands g.S.Shadows.frames g.S.Shadows.slots g.S.Shadows.other_roots c.args.image.now c.args.running.now c.args.pool.now c.args.ram.now c.try_native.new.ram c.begin_over.new.state c.try_native.new.state
+  stopped : Tried g.S.Shadows c.args.image.now c.args.running.now c.args.pool.now c.args.ram.now c.try_native.new.ram c.begin_over.new.state c.try_native.new.state
   stopped =
-      tried_from g.S.Shadows.stands g.S.Shadows.frames g.S.Shadows.slots g.S.Shadows.other_roots g.met.S.Shadows.above g.met.S.Shadows.same_frames g.met.S.Shadows.same_slots g.met.S.Shadows.same_entries g.met.S.Shadows.same_other_roots c.args.image.now c.args.running.now c.args.pool.now c.args.ram.now
+      tried_from g.S.Shadows g.met.S.Shadows.above g.met.S.Shadows.same_frames g.met.S.Shadows.same_slots g.met.S.Shadows.same_entries g.met.S.Shadows.same_other_roots c.args.image.now c.args.running.now c.args.pool.now c.args.ram.now
       c.try_native.new.ram c.begin_over.new.state c.try_native.new.state 256 (text_pages c.args.image.now) c.args.image.now.text c.begin_over.new.state.guard refl refl refl refl (λ m. c.begin_over.ensures.hides c.args.running.now.frames m) (λ m. c.begin_over.ensures.lays c.args.running.now.frames m) c.requires.held
       c.begin_over.ensures.space c.begin_over.ensures.frames c.try_native.ensures.stays.0 c.try_native.ensures.stays.1 c.try_native.ensures.stays.2 c.try_native.ensures.sound.frames_in c.try_native.ensures.sound.within c.are_bytes.ensures.bytes c.are_bytes.ensures.length c.requires.runs
       c.eip_fits.ensures
@@ -93,7 +93,7 @@ pub returns-in-Err-clause-accounts : goal.returns-in-Err-clause-accounts
 returns-in-Err-clause-accounts g c = record {
   stands = first c.try_native.ensures.sound.stands_now;
   counted = (stopped g c).counted1;
-  pool = keeps_still g.S.Shadows.stands g.S.Shadows.frames g.S.Shadows.slots c.args.image.now c.args.running.now c.args.pool.now c.args.ram.now c.try_native.new.ram c.requires.held (stopped g c).a;
+  pool = keeps_still g.S.Shadows c.args.image.now c.args.running.now c.args.pool.now c.args.ram.now c.try_native.new.ram c.requires.held (stopped g c).a;
   filled = filled_from g c.args.image.now c.args.running.now c.args.pool.now c.args.ram.now c.try_native.new.ram c.begin_over.new.state c.try_native.new.state (stopped g c);
   frames = refl;
 }
@@ -123,9 +123,9 @@ returns-in-Err-clause-tries g c = record {
 -- ---- it went
 
 module _ (g : Over) (c : goal.After-worked-in-Ok-Some-1 g) where
-  gone : Tried g.S.Shadows.stands g.S.Shadows.frames g.S.Shadows.slots g.S.Shadows.other_roots c.args.image.now c.args.running.now c.args.pool.now c.args.ram.now c.try_native.new.ram c.begin_over.new.state c.try_native.new.state
+  gone : Tried g.S.Shadows c.args.image.now c.args.running.now c.args.pool.now c.args.ram.now c.try_native.new.ram c.begin_over.new.state c.try_native.new.state
   gone =
-      tried_from g.S.Shadows.stands g.S.Shadows.frames g.S.Shadows.slots g.S.Shadows.other_roots g.met.S.Shadows.above g.met.S.Shadows.same_frames g.met.S.Shadows.same_slots g.met.S.Shadows.same_entries g.met.S.Shadows.same_other_roots c.args.image.now c.args.running.now c.args.pool.now c.args.ram.now
+      tried_from g.S.Shadows g.met.S.Shadows.above g.met.S.Shadows.same_frames g.met.S.Shadows.same_slots g.met.S.Shadows.same_entries g.met.S.Shadows.same_other_roots c.args.image.now c.args.running.now c.args.pool.now c.args.ram.now
       c.try_native.new.ram c.begin_over.new.state c.try_native.new.state 256 (text_pages c.args.image.now) c.args.image.now.text c.begin_over.new.state.guard refl refl refl refl (λ m. c.begin_over.ensures.hides c.args.running.now.frames m) (λ m. c.begin_over.ensures.lays c.args.running.now.frames m) c.requires.held
       c.begin_over.ensures.space c.begin_over.ensures.frames c.try_native.ensures.stays.0 c.try_native.ensures.stays.1 c.try_native.ensures.stays.2 c.try_native.ensures.sound.frames_in c.try_native.ensures.sound.within c.are_bytes.ensures.bytes c.are_bytes.ensures.length c.requires.runs
       c.eip_fits.ensures
@@ -155,11 +155,11 @@ module _ (g : Over) (c : goal.After-finish_step g) where
       let tries = rw c.in-Ok-Some.field-0-is at (c.in-Ok-Some.ensures.tries m (unheld b) (record { has = refl; over = refl })) in
       step_is m b sees.level k.next ∙ (ap (fetches_next m (unheld b)) (sym k.start) ∙ tries.0)
 
-  ready2 : IsReady g.S.Shadows.slots g.S.Shadows.read_from g.S.Shadows.stale g.S.Shadows.value g.S.Shadows.other_roots (ground image running.frames) c.finish_step.new.running.cpu c.finish_step.new.running.shadows c.finish_step.new.ram
+  ready2 : IsReady g.S.Shadows (ground image running.frames) c.finish_step.new.running.cpu c.finish_step.new.running.shadows c.finish_step.new.ram
       × (c.finish_step.new.running.lost.back ≡ true → AreFound (ground image running.frames) c.finish_step.new.running.cpu (shown (ground image running.frames) c.finish_step.new.ram) c.finish_step.new.running.cpu.cr3 (g.S.Shadows.read_from c.finish_step.new.running.shadows) (g.S.Shadows.slots c.finish_step.new.running.shadows c.finish_step.new.ram))
   ready2 =
       let k = gone g c.before in
-      let behind1 = went_ready g.S.Shadows.slots g.S.Shadows.read_from g.S.Shadows.stale g.S.Shadows.value g.S.Shadows.other_roots image running.frames (state_at g image [] running ram0) running.shadows ram0 ram1
+      let behind1 = went_ready g.S.Shadows image running.frames (state_at g image [] running ram0) running.shadows ram0 ram1
       (steps_from g image running c.args.pool.now ram0 ram1 c.begin_over.new.state state1 c.requires.held k) c.requires.ready c.native_laws.ensures.steps c.in-Ok-Some.worked c.try_native.new.board (space g running ram1 state1) state1.changes (went []) (k.ram1_is []) refl in
       c.finish_step.ensures.ready (ground image running.frames) (sym k.frames1) c.text_frames-count.ensures k.open1 behind1
 
@@ -167,7 +167,7 @@ pub returns-in-Ok-Some-clause-accounts : goal.returns-in-Ok-Some-clause-accounts
 returns-in-Ok-Some-clause-accounts g c = record {
   stands = c.finish_step.ensures.moved.stands;
   counted = c.finish_step.ensures.counts.counted;
-  pool = keeps_then g.S.Shadows.stands g.S.Shadows.frames g.S.Shadows.slots c.args.image.now c.args.running.now c.finish_step.new.running c.args.pool.now c.finish_step.new.pool c.args.ram.now c.try_native.new.ram c.finish_step.new.ram c.requires.held (gone g c.before).a c.finish_step.ensures.moved.moves;
+  pool = keeps_then g.S.Shadows c.args.image.now c.args.running.now c.finish_step.new.running c.args.pool.now c.finish_step.new.pool c.args.ram.now c.try_native.new.ram c.finish_step.new.ram c.requires.held (gone g c.before).a c.finish_step.ensures.moved.moves;
   filled = fills_join _ _ _ _ _ _ (filled_from g c.args.image.now c.args.running.now c.args.pool.now c.args.ram.now c.try_native.new.ram c.begin_over.new.state c.try_native.new.state (gone g c.before)) c.finish_step.ensures.counts.filled;
   frames = c.finish_step.ensures.passes.frames;
 }
@@ -190,7 +190,7 @@ returns-in-Ok-Some-clause-tries g c = record {
       let none = tries.1 (subst (OthersAreUsers (unheld b)) (sym e.start) users) image.sites in
       let front = front_same n c.args.pool.now c.finish_step.new.pool c.try_native.new.ram c.finish_step.new.ram (g.S.Shadows.frames running.shadows c.try_native.new.ram) (g.S.Shadows.frames c.finish_step.new.running.shadows c.finish_step.new.ram) held.behind (owns c.try_native.ensures.sound.stands_now) c.finish_step.ensures.moved.moves in
       let ram_is : shown m c.finish_step.new.ram ≡ s1.ram = shown_same m c.try_native.new.ram c.finish_step.new.ram front ∙ sym (k.ram1_is script) in
-      let new = state_of g.S.Shadows.stands g.S.Shadows.frames g.S.Shadows.slots m c.finish_step.new.running c.finish_step.new.ram in
+      let new = state_of g.S.Shadows m c.finish_step.new.running c.finish_step.new.ram in
       let whole = dropping c.in-Ok-Some.worked.dropped s1.set in
       let left = is_left m new whole c.finish_step.new.running.lost c.finish_step.ensures.left
       (λ back. all_loosened (ground image n) c.finish_step.new.running.cpu (shown (ground image n) c.finish_step.new.ram) c.finish_step.new.running.cpu.cr3 (g.S.Shadows.read_from c.finish_step.new.running.shadows) (g.S.Shadows.slots c.finish_step.new.running.shadows c.finish_step.new.ram)
@@ -211,7 +211,7 @@ returns-in-Ok-Some-clause-tries g c = record {
       let ram_is : last.ram ≡ shown (ground image running.frames) c.try_native.new.ram = k.ram1_is script ∙ any_script image script running.frames c.try_native.new.ram in
       let long = bytes.length in
       let same = ap length ram_is in
-      went_on g.S.Shadows.stands g.S.Shadows.frames g.S.Shadows.slots g.S.Shadows.read_from g.S.Shadows.stale g.S.Shadows.value g.S.Shadows.other_roots g.S.Shadows.has_tables_under (widens g) c.known_laws.ensures image script running c.args.pool.now c.args.ram.now c.try_native.new.ram
+      went_on g.S.Shadows (widens g) c.known_laws.ensures image script running c.args.pool.now c.args.ram.now c.try_native.new.ram
       c.requires.held k.a steps t kept free roomy taken by carried last state1.changes refl sound.told c.finish_step.new.running.shadows c.finish_step.new.ram c.finish_step.ensures.has_tables_under c.in-Ok-Some.worked c.try_native.new.board (went g c script)
       (record { through = r.through; load = r.load; all = r.all; page_size = r.page_size }) c.requires.ready (omega (arith, long, same)) (subst AreBytes (sym ram_is) bytes.bytes) (space g running c.args.ram.now c.begin_over.new.state) c.text_frames-count.result state1.control.frames
       c.text_frames-count.ensures c.in-Ok-Some.ensures.uses (ap (λ (x : Space). x.visited) c.begin_over.ensures.space) (ap (λ (x : Space). x.mode) c.begin_over.ensures.space) sound.within (omega (arith, pages, most)) (c.finish_step.ensures.ends unwanted);
@@ -232,7 +232,7 @@ returns-in-Ok-Some-clause-tries g c = record {
         let open2 = c.finish_step.ensures.shows image c.text_frames-count.ensures k.open1 opens1 in
         let fills = c.finish_step.ensures.counts.fills in
         let count = c.finish_step.ensures.passes.step in
-        held_then g.S.Shadows.stands g.S.Shadows.frames g.S.Shadows.slots image running (record c.finish_step.new.running { step = running.step + 1 }) c.args.pool.now c.finish_step.new.pool c.args.ram.now c.try_native.new.ram c.finish_step.new.ram c.requires.held k.a (owns c.try_native.ensures.sound.stands_now) c.finish_step.ensures.moved.moves
+        held_then g.S.Shadows image running (record c.finish_step.new.running { step = running.step + 1 }) c.args.pool.now c.finish_step.new.pool c.args.ram.now c.try_native.new.ram c.finish_step.new.ram c.requires.held k.a (owns c.try_native.ensures.sound.stands_now) c.finish_step.ensures.moved.moves
         c.finish_step.ensures.moved.stands c.finish_step.ensures.moved.owns c.finish_step.ensures.counts.counted (omega (arith, fills, count)) c.finish_step.ensures.passes.frames within2 (subst (λ (x : Cpu). AreOpen image (wp_of x) slots2) (sym c.finish_step.ensures.passes.cpu) open2);
     ready = (ready2 g c).0;
     back = c.finish_step.ensures.wanted;
@@ -245,9 +245,9 @@ returns-in-Ok-Some-clause-tries g c = record {
 -- ---- the host is to do it
 
 module _ (g : Over) (c : goal.After-text_frames g) where
-  asked : Tried g.S.Shadows.stands g.S.Shadows.frames g.S.Shadows.slots g.S.Shadows.other_roots c.args.image.now c.args.running.now c.args.pool.now c.args.ram.now c.try_native.new.ram c.begin_over.new.state c.try_native.new.state
+  asked : Tried g.S.Shadows c.args.image.now c.args.running.now c.args.pool.now c.args.ram.now c.try_native.new.ram c.begin_over.new.state c.try_native.new.state
   asked =
-      tried_from g.S.Shadows.stands g.S.Shadows.frames g.S.Shadows.slots g.S.Shadows.other_roots g.met.S.Shadows.above g.met.S.Shadows.same_frames g.met.S.Shadows.same_slots g.met.S.Shadows.same_entries g.met.S.Shadows.same_other_roots c.args.image.now c.args.running.now c.args.pool.now c.args.ram.now
+      tried_from g.S.Shadows g.met.S.Shadows.above g.met.S.Shadows.same_frames g.met.S.Shadows.same_slots g.met.S.Shadows.same_entries g.met.S.Shadows.same_other_roots c.args.image.now c.args.running.now c.args.pool.now c.args.ram.now
       c.try_native.new.ram c.begin_over.new.state c.try_native.new.state 256 (text_pages c.args.image.now) c.args.image.now.text c.begin_over.new.state.guard refl refl refl refl (λ m. c.begin_over.ensures.hides c.args.running.now.frames m) (λ m. c.begin_over.ensures.lays c.args.running.now.frames m) c.requires.held
       c.begin_over.ensures.space c.begin_over.ensures.frames c.try_native.ensures.stays.0 c.try_native.ensures.stays.1 c.try_native.ensures.stays.2 c.try_native.ensures.sound.frames_in c.try_native.ensures.sound.within c.are_bytes.ensures.bytes c.are_bytes.ensures.length c.requires.runs
       c.eip_fits.ensures
@@ -278,7 +278,7 @@ module _ (g : Over) (c : goal.After-fill_used g) where
     abbrev b : State
     b = state_at g c.args.image.now script r c.args.ram.now
 
-    e : Begun g.S.Shadows.stands g.S.Shadows.frames g.S.Shadows.slots g.S.Shadows.other_roots c.args.image.now r c.args.ram.now c.begin_over.new.state script
+    e : Begun g.S.Shadows c.args.image.now r c.args.ram.now c.begin_over.new.state script
     e = (asked g c.before).begun script
 
     prepared : (c.try_native.new.board ≡ r.board) × IsPrepared (unheld b) (space g r c.args.ram.now c.begin_over.new.state) last
@@ -302,7 +302,7 @@ pub returns-in-Ok-None-clause-accounts : goal.returns-in-Ok-None-clause-accounts
 returns-in-Ok-None-clause-accounts g c = record {
   stands = c.fill_used.ensures.moved.stands;
   counted = c.fill_used.ensures.counts.counted;
-  pool = keeps_then g.S.Shadows.stands g.S.Shadows.frames g.S.Shadows.slots c.args.image.now c.args.running.now c.fill_used.new.running c.args.pool.now c.fill_used.new.pool c.args.ram.now c.try_native.new.ram c.fill_used.new.ram c.requires.held (asked g c.before).a c.fill_used.ensures.moved.moves;
+  pool = keeps_then g.S.Shadows c.args.image.now c.args.running.now c.fill_used.new.running c.args.pool.now c.fill_used.new.pool c.args.ram.now c.try_native.new.ram c.fill_used.new.ram c.requires.held (asked g c.before).a c.fill_used.ensures.moved.moves;
   filled = fills_join _ _ _ _ _ _ (filled_from g c.args.image.now c.args.running.now c.args.pool.now c.args.ram.now c.try_native.new.ram c.begin_over.new.state c.try_native.new.state (asked g c.before)) c.fill_used.ensures.counts.filled;
   frames = ap (λ (x : Running g.row.S.Denot). x.frames) c.fill_used.ensures.same.same;
 }
@@ -340,18 +340,18 @@ returns-in-Ok-None-clause-tries g c = record {
       let lends = subst (λ (x : Bool). Lends m0 ram3 (directory g c side) x (wp_of running.cpu) t.set) (side_is running.cpu)
       (c.native_laws.ensures.lends m0 ram3 (directory g c side) side (wp_of running.cpu) slots3 t.set host (λ page lt. g.met.S.Shadows.entry_at new.shadows ram3 page lt) (subst (λ (set : FinMap nat_cmp Entry). AreWithin n set) (sym closes.entries) k.within1) (open3 g c)
       (part_same (entries_of slots3) t.set closes.entries)) in
-      let state_is : state_of g.S.Shadows.stands g.S.Shadows.frames g.S.Shadows.slots m0 new ram3 ≡ again.settled (b g c script) t =
+      let state_is : state_of g.S.Shadows m0 new ram3 ≡ again.settled (b g c script) t =
       λ i. record { cpu = cpu_is g c i; ram = ram_is i; set = closes.entries i; board = (ap (λ (x : Running g.row.S.Denot). x.board) c.fill_used.ensures.same.same ∙ (prepared g c script).0) i; step = ap (λ (x : Running g.row.S.Denot). x.step) c.fill_used.ensures.same.same i } in
       let begun = e g c script in
       asks c.native_laws.ensures.grants c.native_laws.ensures.again c.native_laws.ensures.completes m0 begun.wedge_is (directory g c) (b g c script) begun.room begun.bytes begun.sound (sees g c) begun.next c.eip_fits.ensures t (p g c script) (clear g c script) slots1 slots3 changes (g.S.Shadows.write_protected new.shadows) ram3 closes
-      beyond host within (record { host = host3; ram = sym ram_is; sees = sees g c }) lends new.lost (kept_all.0, c.fill_used.ensures.same.back ∙ c.requires.kept) (state_of g.S.Shadows.stands g.S.Shadows.frames g.S.Shadows.slots m0 new ram3) state_is;
+      beyond host within (record { host = host3; ram = sym ram_is; sees = sees g c }) lends new.lost (kept_all.0, c.fill_used.ensures.same.back ∙ c.requires.kept) (state_of g.S.Shadows m0 new ram3) state_is;
   before = c.fill_used.ensures.same.before;
   carried = tt;
   carried_asked = λ script steps t unwanted free roomy taken by load rules set long bytes kept carried.
       let begun = e g c script in
       let read_from = reports c.native_laws.ensures.grants c.native_laws.ensures.again c.native_laws.ensures.completes (m g c script) begun.wedge_is (directory g c) (b g c script) begun.room begun.bytes begun.sound (sees g c) begun.next c.eip_fits.ensures (last g c) (p g c script) (clear g c script) t.report t.after
       (sym (ap (λ (x : Set). stepped (m g c script) (with_set (b g c script) x)) by) ∙ taken.stepped) in
-      asked_on g.S.Shadows.stands g.S.Shadows.frames g.S.Shadows.slots g.S.Shadows.read_from g.S.Shadows.stale g.S.Shadows.value g.S.Shadows.other_roots g.S.Shadows.has_tables_under (widens g) c.known_laws.ensures c.args.image.now script c.args.running.now c.args.pool.now c.args.ram.now c.try_native.new.ram
+      asked_on g.S.Shadows (widens g) c.known_laws.ensures c.args.image.now script c.args.running.now c.args.pool.now c.args.ram.now c.try_native.new.ram
       c.requires.held (asked g c.before).a steps t kept free roomy taken by carried (last g c) c.try_native.new.state.changes refl c.try_native.ensures.sound.told c.fill_used.new.running.shadows c.fill_used.new.ram c.fill_used.ensures.has_tables_under read_from.0 read_from.1 read_from.2 load rules set long bytes
       (c.fill_used.ensures.told.tells (c.fill_used.ensures.whole (may g c script)).0);
   leaves = record {
@@ -362,7 +362,7 @@ returns-in-Ok-None-clause-tries g c = record {
         let new = c.fill_used.new.running in
         let fills = c.fill_used.ensures.counts.fills in
         let before = c.requires.held.fills in
-        held_then g.S.Shadows.stands g.S.Shadows.frames g.S.Shadows.slots image running (record new { step = running.step + 1 }) c.args.pool.now c.fill_used.new.pool c.args.ram.now c.try_native.new.ram c.fill_used.new.ram c.requires.held k.a (owns c.try_native.ensures.sound.stands_now) c.fill_used.ensures.moved.moves
+        held_then g.S.Shadows image running (record new { step = running.step + 1 }) c.args.pool.now c.fill_used.new.pool c.args.ram.now c.try_native.new.ram c.fill_used.new.ram c.requires.held k.a (owns c.try_native.ensures.sound.stands_now) c.fill_used.ensures.moved.moves
         c.fill_used.ensures.moved.stands c.fill_used.ensures.moved.owns c.fill_used.ensures.counts.counted (omega (arith, fills, before)) (ap (λ (x : Running g.row.S.Denot). x.frames) c.fill_used.ensures.same.same)
         (part_within running.frames _ (changed (entries_of (g.S.Shadows.slots running.shadows c.try_native.new.ram)) c.try_native.new.state.changes) (part_left _ _ _ c.fill_used.ensures.left) k.within1)
         (subst (λ (x : Cpu). AreOpen image (wp_of x) (g.S.Shadows.slots new.shadows c.fill_used.new.ram)) (sym (cpu_is g c)) (open3 g c));
@@ -371,10 +371,10 @@ returns-in-Ok-None-clause-tries g c = record {
         let image = c.args.image.now in
         let m0 = ground image running.frames in
         let k = asked g c.before in
-        let behind1 = followed_ready g.S.Shadows.slots g.S.Shadows.read_from g.S.Shadows.stale g.S.Shadows.value g.S.Shadows.other_roots image running.frames (b g c []) running.shadows c.args.ram.now c.try_native.new.ram
+        let behind1 = followed_ready g.S.Shadows image running.frames (b g c []) running.shadows c.args.ram.now c.try_native.new.ram
         (steps_from g image running c.args.pool.now c.args.ram.now c.try_native.new.ram c.begin_over.new.state c.try_native.new.state c.requires.held k) c.requires.ready (λ page. false) (last g c) (last g c).set
         (prepared_follows c.native_laws.ensures.on c.native_laws.ensures.fetched c.native_laws.ensures.ranges (unheld (b g c [])) _ (last g c) (p g c [])) (k.ram1_is []) refl in
-        subst (λ (x : Cpu). IsReady g.S.Shadows.slots g.S.Shadows.read_from g.S.Shadows.stale g.S.Shadows.value g.S.Shadows.other_roots m0 x c.fill_used.new.running.shadows c.fill_used.new.ram) (sym (cpu_is g c)) (c.fill_used.ensures.ready (λ page. false) m0 running.cpu (sym k.frames1) behind1);
+        subst (λ (x : Cpu). IsReady g.S.Shadows m0 x c.fill_used.new.running.shadows c.fill_used.new.ram) (sym (cpu_is g c)) (c.fill_used.ensures.ready (λ page. false) m0 running.cpu (sym k.frames1) behind1);
     back = λ w. c.fill_used.ensures.same.back ∙ c.requires.kept;
     count = tt;
     asked =

@@ -8,7 +8,7 @@ pub returns-else-k-gt-0-clause-passes : goal.returns-else-k-gt-0-clause-passes
 returns-else-k-gt-0-clause-passes g c = λ image memory counts.
     let running = c.args.running.now in
     let m = wedge image c.args.script.now.list running.frames in
-    rests_none m (state_of g.S.Shadows.stands g.S.Shadows.frames g.S.Shadows.slots m running memory) counts
+    rests_none m (state_of g.S.Shadows m running memory) counts
 
 pub returns-then-k-gt-0-clause-passes : goal.returns-then-k-gt-0-clause-passes
 returns-then-k-gt-0-clause-passes g c = λ image memory counts.
@@ -16,7 +16,7 @@ returns-then-k-gt-0-clause-passes g c = λ image memory counts.
     let m = wedge image c.args.script.now.list running.frames in
     let some : 0 < c.resting_steps-k.result = omega (arith, c.if-k-gt-0.true) in
     let is = c.resting_steps-k.ensures.rests some in
-    rw c.advance.ensures (rests_some c.resting_steps-k.result m (state_of g.S.Shadows.stands g.S.Shadows.frames g.S.Shadows.slots m running memory) counts c.requires.begun is.0 is.1 is.2 c.resting_steps-k.ensures.quiet)
+    rw c.advance.ensures (rests_some c.resting_steps-k.result m (state_of g.S.Shadows m running memory) counts c.requires.begun is.0 is.1 is.2 c.resting_steps-k.ensures.quiet)
 
 pub returns-else-k-gt-0-clause-furthest : goal.returns-else-k-gt-0-clause-furthest
 returns-else-k-gt-0-clause-furthest g c = λ halted held none less.

@@ -1,6 +1,6 @@
 use Rattle.std.proofs.Common.{◌≡◌, ℕ, ◌+◌, [], length, sym, subst, ◌∙◌, arith}
 use Rattle.frame_pool.specs.Pool.{free_list}
-use Rattle.shadow_cache.specs.Views as roots
+use Rattle.wedge_core.specs.OfRoots.{of_roots}
 use Rattle.machine_model.specs.State.{boot, wedge}
 use Rattle.wedge_core.proofs.AnsweredBy.{WedgeAnswers}
 use Rattle.wedge_core.specs.Slices.{Counts}
@@ -12,10 +12,10 @@ pub whole-requires-clause-between : goal.whole-requires-clause-between
 whole-requires-clause-between g c = record {
   held =
       let b = c.in-Ok.ensures.started.4 [] in
-      subst (λ (f : ℕ). IsHeld roots.stands roots.frames roots.slots (ground c.args.image.now f) c.in-Ok.guest.running c.in-Ok.pool (g.H.Host.bytes c.start.new.host)) (sym b.held.frames_are) b.held;
+      subst (λ (f : ℕ). IsHeld of_roots (ground c.args.image.now f) c.in-Ok.guest.running c.in-Ok.pool (g.H.Host.bytes c.start.new.host)) (sym b.held.frames_are) b.held;
   ready =
       let b = c.in-Ok.ensures.started.4 [] in
-      subst (λ (f : ℕ). IsReady roots.slots roots.read_from roots.stale roots.value roots.other_roots (ground c.args.image.now f) c.in-Ok.guest.running.cpu c.in-Ok.guest.running.shadows (g.H.Host.bytes c.start.new.host)) (sym b.held.frames_are) c.in-Ok.ensures.ready;
+      subst (λ (f : ℕ). IsReady of_roots (ground c.args.image.now f) c.in-Ok.guest.running.cpu c.in-Ok.guest.running.shadows (g.H.Host.bytes c.start.new.host)) (sym b.held.frames_are) c.in-Ok.ensures.ready;
   enough =
       let b = c.in-Ok.ensures.started.4 [] in
       let all = b.all in
@@ -37,7 +37,7 @@ whole-requires-clause-fits g c =
 pub whole-requires-clause-first : goal.whole-requires-clause-first
 whole-requires-clause-first g c =
     let b = c.in-Ok.ensures.started.4 c.args.script.now.list in
-    subst (λ (f : ℕ). state_of roots.stands roots.frames roots.slots (wedge c.args.image.now c.args.script.now.list f) c.in-Ok.guest.running (g.H.Host.bytes c.start.new.host) ≡ boot (wedge c.args.image.now c.args.script.now.list f)) (sym b.held.frames_are) b.state
+    subst (λ (f : ℕ). state_of of_roots (wedge c.args.image.now c.args.script.now.list f) c.in-Ok.guest.running (g.H.Host.bytes c.start.new.host) ≡ boot (wedge c.args.image.now c.args.script.now.list f)) (sym b.held.frames_are) b.state
 
 pub returns-in-Ok : goal.returns-in-Ok
 returns-in-Ok g c =

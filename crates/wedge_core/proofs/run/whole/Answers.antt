@@ -7,6 +7,7 @@ use Rattle.run_trace.specs.Notes.{Note}
 use Rattle.run_trace.specs.Text.{end_line}
 use Rattle.shadow_tables.specs.Entries.{entries_of}
 use Rattle.shadow_cache.specs.Views as roots
+use Rattle.wedge_core.specs.OfRoots.{of_roots}
 use Rattle.shadow_cache.specs.declared.roots.Roots.{Roots}
 use Rattle.machine_model.specs.State.{Setting, State, boot, wedge}
 use Rattle.wedge_step.specs.Filled.{pages_kept}
@@ -33,7 +34,7 @@ module _ (g : Over) where
   abbrev empty_in : Pool → Running Roots → List ℕ → Type 0
   empty_in pool r memory = BeginsEmpty (entries_of (roots.slots r.shadows memory)) (length (free_list pool memory)) r.held false
 
-  begins_in : (m : Setting) (pool : Pool) (r : Running Roots) (memory : List ℕ) → state_of roots.stands roots.frames roots.slots m r memory ≡ boot m → r.held ≡ 2 → pool_in pool r memory ≡ 512 → empty_in pool r memory
+  begins_in : (m : Setting) (pool : Pool) (r : Running Roots) (memory : List ℕ) → state_of of_roots m r memory ≡ boot m → r.held ≡ 2 → pool_in pool r memory ≡ 512 → empty_in pool r memory
   begins_in m pool r memory first two all = record { empty_set = ap (λ (b : State). b.set) first; two = two; others = all; silent = refl }
 
 pub slice-requires-clause-bound : goal.slice-requires-clause-bound
@@ -45,7 +46,7 @@ slice-requires-clause-bound g c =
 pub returns-in-Err : goal.returns-in-Err
 returns-in-Err g c =
     let fills = c.args.guest.now.running.fills in
-    let pages = pages_kept roots.slots roots.other_roots c.args.guest.now.running.shadows (g.H.Host.bytes c.args.host.now) in
+    let pages = pages_kept of_roots c.args.guest.now.running.shadows (g.H.Host.bytes c.args.host.now) in
     let filled = c.slice.new.self.running.fills in
     let begun = ap (λ (b : State). b.step) c.requires.first in
     let is : c.args.guest.now.running.step + c.args.n ≡ c.args.n = omega (arith, begun) in
@@ -53,15 +54,15 @@ returns-in-Err g c =
     let m = wedge c.args.image.now c.args.script.now.list f in
     let before : Counts = record { retired = g.H.Host.retired c.args.host.now; passed = g.H.Host.passed c.args.host.now } in
     let after : Counts = record { retired = g.H.Host.retired c.slice.new.host; passed = g.H.Host.passed c.slice.new.host } in
-    let old = state_of roots.stands roots.frames roots.slots m c.args.guest.now.running (g.H.Host.bytes c.args.host.now) in
-    let new = state_of roots.stands roots.frames roots.slots m c.slice.new.self.running (g.H.Host.bytes c.slice.new.host) in
+    let old = state_of of_roots m c.args.guest.now.running (g.H.Host.bytes c.args.host.now) in
+    let new = state_of of_roots m c.slice.new.self.running (g.H.Host.bytes c.slice.new.host) in
     let h = subst (λ (n : ℕ). SliceAs m n old new before after (g.O.Sink.taken c.args.out.now) (g.O.Sink.taken c.slice.new.out) pages fills filled false no_notes (empty_in g c.args.pool.now c.args.guest.now.running (g.H.Host.bytes c.args.host.now)) (Err c.in-Err.field-0)) is c.in-Err.ensures.slice in
     record { whole = whole_front c.args.image.now c.args.script.now.list f c.args.n (pool_in g c.args.pool.now c.args.guest.now.running (g.H.Host.bytes c.args.host.now)) old new before after _ _ pages fills filled false no_notes (empty_in g c.args.pool.now c.args.guest.now.running (g.H.Host.bytes c.args.host.now)) c.in-Err.field-0 _ _ (g.H.Host.bytes c.slice.new.host) c.requires.fits c.requires.first h c.in-Err.ensures.faults.cause }
 
 pub returns-in-Err-put_end : goal.returns-in-Err-put_end
 returns-in-Err-put_end g c =
     let fills = c.args.guest.now.running.fills in
-    let pages = pages_kept roots.slots roots.other_roots c.args.guest.now.running.shadows (g.H.Host.bytes c.args.host.now) in
+    let pages = pages_kept of_roots c.args.guest.now.running.shadows (g.H.Host.bytes c.args.host.now) in
     let filled = c.slice.new.self.running.fills in
     let begun = ap (λ (b : State). b.step) c.requires.first in
     let is : c.args.guest.now.running.step + c.args.n ≡ c.args.n = omega (arith, begun) in
@@ -73,8 +74,8 @@ returns-in-Err-put_end g c =
     let memory = g.H.Host.bytes c.slice.new.host in
     let before : Counts = record { retired = g.H.Host.retired c.args.host.now; passed = g.H.Host.passed c.args.host.now } in
     let after : Counts = record { retired = g.H.Host.retired c.slice.new.host; passed = g.H.Host.passed c.slice.new.host } in
-    let old = state_of roots.stands roots.frames roots.slots m c.args.guest.now.running (g.H.Host.bytes c.args.host.now) in
-    let new = state_of roots.stands roots.frames roots.slots m c.slice.new.self.running memory in
+    let old = state_of of_roots m c.args.guest.now.running (g.H.Host.bytes c.args.host.now) in
+    let new = state_of of_roots m c.slice.new.self.running memory in
     let h = subst (λ (n : ℕ). SliceAs m n old new before after (g.O.Sink.taken c.args.out.now) (g.O.Sink.taken c.slice.new.out) pages fills filled false no_notes (empty_in g c.args.pool.now c.args.guest.now.running (g.H.Host.bytes c.args.host.now)) (Ok pause)) is c.in-Ok.ensures.slice in
     let has = front_held pause image script f c.slice.new.self.running c.slice.new.pool memory c.in-Ok.ensures.leaves.held in
     let put = subst (λ (k : ℕ). AppendsFront (g.O.Sink.taken c.slice.new.out) (g.O.Sink.taken c.put_end.new.out) (end_line k (end_of pause))) c.step.ensures
@@ -84,7 +85,7 @@ returns-in-Err-put_end g c =
 pub returns-in-Ok-put_end : goal.returns-in-Ok-put_end
 returns-in-Ok-put_end g c =
     let fills = c.args.guest.now.running.fills in
-    let pages = pages_kept roots.slots roots.other_roots c.args.guest.now.running.shadows (g.H.Host.bytes c.args.host.now) in
+    let pages = pages_kept of_roots c.args.guest.now.running.shadows (g.H.Host.bytes c.args.host.now) in
     let filled = c.slice.new.self.running.fills in
     let begun = ap (λ (b : State). b.step) c.requires.first in
     let is : c.args.guest.now.running.step + c.args.n ≡ c.args.n = omega (arith, begun) in
@@ -96,8 +97,8 @@ returns-in-Ok-put_end g c =
     let memory = g.H.Host.bytes c.slice.new.host in
     let before : Counts = record { retired = g.H.Host.retired c.args.host.now; passed = g.H.Host.passed c.args.host.now } in
     let after : Counts = record { retired = g.H.Host.retired c.slice.new.host; passed = g.H.Host.passed c.slice.new.host } in
-    let old = state_of roots.stands roots.frames roots.slots m c.args.guest.now.running (g.H.Host.bytes c.args.host.now) in
-    let new = state_of roots.stands roots.frames roots.slots m c.slice.new.self.running memory in
+    let old = state_of of_roots m c.args.guest.now.running (g.H.Host.bytes c.args.host.now) in
+    let new = state_of of_roots m c.slice.new.self.running memory in
     let h = subst (λ (n : ℕ). SliceAs m n old new before after (g.O.Sink.taken c.args.out.now) (g.O.Sink.taken c.slice.new.out) pages fills filled false no_notes (empty_in g c.args.pool.now c.args.guest.now.running (g.H.Host.bytes c.args.host.now)) (Ok pause)) is c.in-Ok.ensures.slice in
     let has = front_held pause image script f c.slice.new.self.running c.slice.new.pool memory c.in-Ok.ensures.leaves.held in
     let put = subst (λ (k : ℕ). Appends (g.O.Sink.taken c.slice.new.out) (g.O.Sink.taken c.put_end.new.out) (end_line k (end_of pause))) c.step.ensures

@@ -40,41 +40,41 @@ use Rattle.wedge_core.proofs.slice.steps_to.Goals as goal
 
 -- the pages of what is kept present are some of all
 module _ (g : Over) where
-  few : (r : Running g.row.S.Denot) (memory : List ℕ) (pages before after : ℕ) → FillsOn pages (pages_kept g.S.Shadows.slots g.S.Shadows.other_roots r.shadows memory) before after → FillsOn pages (len (entries_of (g.S.Shadows.slots r.shadows memory))) before after
-  few r memory pages before after f = fills_within pages (len (entries_of (g.S.Shadows.slots r.shadows memory))) (pages_kept g.S.Shadows.slots g.S.Shadows.other_roots r.shadows memory) before after (omega arith) f
+  few : (r : Running g.row.S.Denot) (memory : List ℕ) (pages before after : ℕ) → FillsOn pages (pages_kept g.S.Shadows r.shadows memory) before after → FillsOn pages (len (entries_of (g.S.Shadows.slots r.shadows memory))) before after
+  few r memory pages before after f = fills_within pages (len (entries_of (g.S.Shadows.slots r.shadows memory))) (pages_kept g.S.Shadows r.shadows memory) before after (omega arith) f
 
   -- how the slice begins, where its sets keep the rule
   abbrev Begun : Image → Events → ℕ → Running g.row.S.Denot → List ℕ → Pool → Bool → Type 0
   Begun image script f r memory pool wanted =
-      IsCarried g.S.Shadows.slots g.S.Shadows.read_from g.S.Shadows.stale g.S.Shadows.other_roots g.S.Shadows.has_tables_under (wedge image script f) [] (state_of g.S.Shadows.stands g.S.Shadows.frames g.S.Shadows.slots (wedge image script f) r memory) r.shadows memory
+      IsCarried g.S.Shadows (wedge image script f) [] (state_of g.S.Shadows (wedge image script f) r memory) r.shadows memory
       × (length (free_list pool memory) + r.held ≡ 512) × (wanted ≡ false)
 
   abbrev Knows : Setting → Running g.row.S.Denot → List ℕ → Set → List Taken → State → Type 0
-  Knows m r memory kept steps b = CarriedWith g.S.Shadows.stands g.S.Shadows.frames g.S.Shadows.slots g.S.Shadows.read_from g.S.Shadows.stale g.S.Shadows.other_roots g.S.Shadows.has_tables_under m r.shadows memory kept steps b
+  Knows m r memory kept steps b = CarriedWith g.S.Shadows m r.shadows memory kept steps b
 
-  widens : Widens g.S.Shadows.stands g.S.Shadows.frames g.S.Shadows.other_roots g.S.Shadows.has_tables_under
+  widens : Widens g.S.Shadows
   widens = record { same_other_roots = g.met.S.Shadows.same_other_roots; same_tables_under = g.met.S.Shadows.same_tables_under; wider = g.met.S.Shadows.wider; sized = g.met.S.Reloads.sized }
 
   known_past : CarryLaws → (m : Setting) (r : Running g.row.S.Denot) (memory : List ℕ) → CarriesPast m (Knows m r memory)
-  known_past laws m r memory = carries_past g.S.Shadows.stands g.S.Shadows.frames g.S.Shadows.slots g.S.Shadows.read_from g.S.Shadows.stale g.S.Shadows.other_roots g.S.Shadows.has_tables_under widens laws m r.shadows memory
+  known_past laws m r memory = carries_past g.S.Shadows widens laws m r.shadows memory
 
   known_there : CarryLaws → (m : Setting) (r mid : Running g.row.S.Denot) (memory then : List ℕ) (kept : Set) → mid.shadows ≡ r.shadows → ∥ g.S.Shadows.stands r.shadows memory ∥₁
       → SameIn (g.S.Shadows.frames r.shadows memory) memory then → (steps : List Taken) (b : State) → Knows m r memory kept steps b → Knows m mid then kept steps b
   known_there laws m r mid memory then kept is stand same steps b =
-      carried_there g.S.Shadows.stands g.S.Shadows.frames g.S.Shadows.slots g.S.Shadows.read_from g.S.Shadows.stale g.S.Shadows.other_roots g.S.Shadows.has_tables_under widens laws m r.shadows mid.shadows memory then kept steps b is stand same
+      carried_there g.S.Shadows widens laws m r.shadows mid.shadows memory then kept steps b is stand same
 
-  ready_at : (image : Image) (f n : ℕ) (cpu : Cpu) (s : g.row.S.Denot) (memory : List ℕ) → f ≡ n → IsReady g.S.Shadows.slots g.S.Shadows.read_from g.S.Shadows.stale g.S.Shadows.value g.S.Shadows.other_roots (ground image f) cpu s memory → IsReady g.S.Shadows.slots g.S.Shadows.read_from g.S.Shadows.stale g.S.Shadows.value g.S.Shadows.other_roots (ground image n) cpu s memory
-  ready_at image f n cpu s memory is h = subst (λ (k : ℕ). IsReady g.S.Shadows.slots g.S.Shadows.read_from g.S.Shadows.stale g.S.Shadows.value g.S.Shadows.other_roots (ground image k) cpu s memory) is h
+  ready_at : (image : Image) (f n : ℕ) (cpu : Cpu) (s : g.row.S.Denot) (memory : List ℕ) → f ≡ n → IsReady g.S.Shadows (ground image f) cpu s memory → IsReady g.S.Shadows (ground image n) cpu s memory
+  ready_at image f n cpu s memory is h = subst (λ (k : ℕ). IsReady g.S.Shadows (ground image k) cpu s memory) is h
 
 pub loop-running-init : goal.loop-running-init
 loop-running-init g c =
     let m = wedge c.args.image.now c.args.script.now.list c.args.running.now.frames in
     record {
-      going = going_none m (state_of g.S.Shadows.stands g.S.Shadows.frames g.S.Shadows.slots m c.args.running.now (g.H.Host.bytes c.args.host.now)) (counted (g.H.Host.retired c.args.host.now) (g.H.Host.passed c.args.host.now)) (g.O.Sink.taken c.args.out.now) (pages_kept g.S.Shadows.slots g.S.Shadows.other_roots c.args.running.now.shadows (g.H.Host.bytes c.args.host.now)) c.args.running.now.fills (g.L.Notes.wants c.args.notes.now)
+      going = going_none m (state_of g.S.Shadows m c.args.running.now (g.H.Host.bytes c.args.host.now)) (counted (g.H.Host.retired c.args.host.now) (g.H.Host.passed c.args.host.now)) (g.O.Sink.taken c.args.out.now) (pages_kept g.S.Shadows c.args.running.now.shadows (g.H.Host.bytes c.args.host.now)) c.args.running.now.fills (g.L.Notes.wants c.args.notes.now)
           (NotesOn (g.L.Notes.wants c.args.notes.now) (g.L.Notes.tells c.args.notes.now) (g.L.Notes.tells c.args.notes.now)) (Begun g c.args.image.now c.args.script.now.list c.args.running.now.frames c.args.running.now (g.H.Host.bytes c.args.host.now) c.args.pool.now (g.L.Notes.wants c.args.notes.now)) (Knows g m c.args.running.now (g.H.Host.bytes c.args.host.now))
           (notes_on_none (g.L.Notes.wants c.args.notes.now) (g.L.Notes.tells c.args.notes.now)) (omega arith)
-          (λ s. with_kept g.S.Shadows.stands g.S.Shadows.frames g.S.Shadows.slots g.S.Shadows.read_from g.S.Shadows.stale g.S.Shadows.other_roots g.S.Shadows.has_tables_under m c.args.running.now.shadows (g.H.Host.bytes c.args.host.now) []
-          (state_of g.S.Shadows.stands g.S.Shadows.frames g.S.Shadows.slots m c.args.running.now (g.H.Host.bytes c.args.host.now)) s.0);
+          (λ s. with_kept g.S.Shadows m c.args.running.now.shadows (g.H.Host.bytes c.args.host.now) []
+          (state_of g.S.Shadows m c.args.running.now (g.H.Host.bytes c.args.host.now)) s.0);
       held = c.requires.between.held;
       ready = c.requires.between.ready;
       able = c.requires.able;
@@ -91,13 +91,13 @@ loop-running-init g c =
     }
 
 pub stretch-requires-clause-held : goal.stretch-requires-clause-held
-stretch-requires-clause-held g c = (c.loop-running.pool, held_given g.S.Shadows.stands g.S.Shadows.frames g.S.Shadows.slots c.args.image.now c.args.running.now.frames c.loop-running.running.frames c.loop-running.running c.begin.new.self c.loop-running.pool (g.H.Host.bytes c.loop-running.host) c.loop-running.invariant.frames c.loop-running.invariant.held)
+stretch-requires-clause-held g c = (c.loop-running.pool, held_given g.S.Shadows c.args.image.now c.args.running.now.frames c.loop-running.running.frames c.loop-running.running c.begin.new.self c.loop-running.pool (g.H.Host.bytes c.loop-running.host) c.loop-running.invariant.frames c.loop-running.invariant.held)
 
 pub loop-running-preserved-then-stretch-gt0 : goal.loop-running-preserved-then-stretch-gt0
 loop-running-preserved-then-stretch-gt0 g c =
     let f = c.args.running.now.frames in
     let m = wedge c.args.image.now c.args.script.now.list f in
-    let at = λ (n : ℕ) (r : Running g.row.S.Denot) (memory : List ℕ). state_of g.S.Shadows.stands g.S.Shadows.frames g.S.Shadows.slots (wedge c.args.image.now c.args.script.now.list n) r memory in
+    let at = λ (n : ℕ) (r : Running g.row.S.Denot) (memory : List ℕ). state_of g.S.Shadows (wedge c.args.image.now c.args.script.now.list n) r memory in
     let old = at f c.args.running.now (g.H.Host.bytes c.args.host.now) in
     let counts = counted (g.H.Host.retired c.args.host.now) (g.H.Host.passed c.args.host.now) in
     let r = c.loop-running.running in
@@ -115,17 +115,17 @@ loop-running-preserved-then-stretch-gt0 g c =
     let laws = c.carry_laws.ensures in
     let begins = Begun g c.args.image.now c.args.script.now.list c.args.running.now.frames c.args.running.now (g.H.Host.bytes c.args.host.now) c.args.pool.now (g.L.Notes.wants c.args.notes.now) in
     record {
-      going = going_turned m old (at f mid then_memory) counts mid_counts told tells (pages_kept g.S.Shadows.slots g.S.Shadows.other_roots c.args.running.now.shadows (g.H.Host.bytes c.args.host.now)) c.args.running.now.fills mid.fills (g.L.Notes.wants c.args.notes.now) on begins (Knows g m r memory) (Knows g m mid then_memory)
+      going = going_turned m old (at f mid then_memory) counts mid_counts told tells (pages_kept g.S.Shadows c.args.running.now.shadows (g.H.Host.bytes c.args.host.now)) c.args.running.now.fills mid.fills (g.L.Notes.wants c.args.notes.now) on begins (Knows g m r memory) (Knows g m mid then_memory)
           (known_there g laws m r mid memory then_memory (entries_of (g.S.Shadows.slots mid.shadows then_memory)) c.stretch.ensures.leaves.kept inv.held.stand c.stretch.ensures.leaves.apart)
-          (going_past m old (at f r memory) (at f mid then_memory) counts so_far mid_counts told tells (pages_kept g.S.Shadows.slots g.S.Shadows.other_roots c.args.running.now.shadows (g.H.Host.bytes c.args.host.now)) c.args.running.now.fills r.fills mid.fills (g.L.Notes.wants c.args.notes.now) on begins (Knows g m r memory) inv.going c.stretch.ensures.leaves.filled.rises
+          (going_past m old (at f r memory) (at f mid then_memory) counts so_far mid_counts told tells (pages_kept g.S.Shadows c.args.running.now.shadows (g.H.Host.bytes c.args.host.now)) c.args.running.now.fills r.fills mid.fills (g.L.Notes.wants c.args.notes.now) on begins (Knows g m r memory) inv.going c.stretch.ensures.leaves.filled.rises
           (few g mid then_memory _ _ _ (fills_join _ _ _ _ _ _ inv.filled c.stretch.ensures.leaves.filled)) laws (known_past g laws m r memory)
-          (room_at g.S.Shadows.stands g.S.Shadows.frames g.S.Shadows.slots g.S.Shadows.read_from g.S.Shadows.stale g.S.Shadows.other_roots g.S.Shadows.has_tables_under c.args.image.now c.args.script.now.list f r c.loop-running.pool memory inv.held) passes);
-      held = held_at g.S.Shadows.stands g.S.Shadows.frames g.S.Shadows.slots c.args.image.now r.frames f mid c.loop-running.pool then_memory inv.frames (c.stretch.ensures.leaves.held c.loop-running.pool (held_given g.S.Shadows.stands g.S.Shadows.frames g.S.Shadows.slots c.args.image.now c.args.running.now.frames c.loop-running.running.frames c.loop-running.running c.begin.new.self c.loop-running.pool (g.H.Host.bytes c.loop-running.host) c.loop-running.invariant.frames c.loop-running.invariant.held));
+          (room_at g.S.Shadows c.args.image.now c.args.script.now.list f r c.loop-running.pool memory inv.held) passes);
+      held = held_at g.S.Shadows c.args.image.now r.frames f mid c.loop-running.pool then_memory inv.frames (c.stretch.ensures.leaves.held c.loop-running.pool (held_given g.S.Shadows c.args.image.now c.args.running.now.frames c.loop-running.running.frames c.loop-running.running c.begin.new.self c.loop-running.pool (g.H.Host.bytes c.loop-running.host) c.loop-running.invariant.frames c.loop-running.invariant.held));
       ready = ready_at g c.args.image.now r.frames f mid.cpu mid.shadows then_memory inv.frames (c.stretch.ensures.leaves.ready (ready_at g c.args.image.now f r.frames r.cpu r.shadows memory (sym inv.frames) inv.ready));
       able = c.stretch.ensures.leaves.able;
       pool = keeps_join c.args.pool.now c.loop-running.pool c.loop-running.pool (g.H.Host.bytes c.args.host.now) (g.H.Host.bytes c.loop-running.host) (g.H.Host.bytes c.stretch.new.host)
           (g.S.Shadows.frames c.args.running.now.shadows (g.H.Host.bytes c.args.host.now)) (g.S.Shadows.frames c.loop-running.running.shadows (g.H.Host.bytes c.loop-running.host)) (g.S.Shadows.frames c.stretch.new.running.shadows (g.H.Host.bytes c.stretch.new.host))
-          c.loop-running.invariant.pool (c.stretch.ensures.leaves.pool c.loop-running.pool (held_given g.S.Shadows.stands g.S.Shadows.frames g.S.Shadows.slots c.args.image.now c.args.running.now.frames c.loop-running.running.frames c.loop-running.running c.begin.new.self c.loop-running.pool (g.H.Host.bytes c.loop-running.host) c.loop-running.invariant.frames c.loop-running.invariant.held));
+          c.loop-running.invariant.pool (c.stretch.ensures.leaves.pool c.loop-running.pool (held_given g.S.Shadows c.args.image.now c.args.running.now.frames c.loop-running.running.frames c.loop-running.running c.begin.new.self c.loop-running.pool (g.H.Host.bytes c.loop-running.host) c.loop-running.invariant.frames c.loop-running.invariant.held));
       filled = fills_join _ _ _ _ _ _ inv.filled c.stretch.ensures.leaves.filled;
       started = c.stretch.ensures.started;
       frames = c.stretch.ensures.leaves.frames ∙ inv.frames;
@@ -140,8 +140,8 @@ loop-running-preserved-then-stretch-gt0 g c =
 pub one_step-requires-clause-between : goal.one_step-requires-clause-between
 one_step-requires-clause-between g c = record {
   held =
-      held_at g.S.Shadows.stands g.S.Shadows.frames g.S.Shadows.slots c.args.image.now c.loop-running.running.frames c.stretch.new.running.frames c.stretch.new.running c.loop-running.pool (g.H.Host.bytes c.stretch.new.host) (sym c.stretch.ensures.leaves.frames)
-      (c.stretch.ensures.leaves.held c.loop-running.pool (held_given g.S.Shadows.stands g.S.Shadows.frames g.S.Shadows.slots c.args.image.now c.args.running.now.frames c.loop-running.running.frames c.loop-running.running c.begin.new.self c.loop-running.pool (g.H.Host.bytes c.loop-running.host) c.loop-running.invariant.frames c.loop-running.invariant.held));
+      held_at g.S.Shadows c.args.image.now c.loop-running.running.frames c.stretch.new.running.frames c.stretch.new.running c.loop-running.pool (g.H.Host.bytes c.stretch.new.host) (sym c.stretch.ensures.leaves.frames)
+      (c.stretch.ensures.leaves.held c.loop-running.pool (held_given g.S.Shadows c.args.image.now c.args.running.now.frames c.loop-running.running.frames c.loop-running.running c.begin.new.self c.loop-running.pool (g.H.Host.bytes c.loop-running.host) c.loop-running.invariant.frames c.loop-running.invariant.held));
   ready =
       let f = c.args.running.now.frames in
       let r = c.loop-running.running in
@@ -151,18 +151,18 @@ one_step-requires-clause-between g c = record {
       (c.stretch.ensures.leaves.ready (ready_at g c.args.image.now f r.frames r.cpu r.shadows (g.H.Host.bytes c.loop-running.host) (sym inv.frames) inv.ready));
   enough =
       let f = c.args.running.now.frames in
-      enough_then g.S.Shadows.stands g.S.Shadows.frames g.S.Shadows.slots (ground c.args.image.now f) c.args.running.now c.stretch.new.running c.args.pool.now c.loop-running.pool (g.H.Host.bytes c.args.host.now) (g.H.Host.bytes c.stretch.new.host) c.requires.between.held
-      (held_at g.S.Shadows.stands g.S.Shadows.frames g.S.Shadows.slots c.args.image.now c.loop-running.running.frames f c.stretch.new.running c.loop-running.pool (g.H.Host.bytes c.stretch.new.host) c.loop-running.invariant.frames (c.stretch.ensures.leaves.held c.loop-running.pool (held_given g.S.Shadows.stands g.S.Shadows.frames g.S.Shadows.slots c.args.image.now c.args.running.now.frames c.loop-running.running.frames c.loop-running.running c.begin.new.self c.loop-running.pool (g.H.Host.bytes c.loop-running.host) c.loop-running.invariant.frames c.loop-running.invariant.held)))
+      enough_then g.S.Shadows (ground c.args.image.now f) c.args.running.now c.stretch.new.running c.args.pool.now c.loop-running.pool (g.H.Host.bytes c.args.host.now) (g.H.Host.bytes c.stretch.new.host) c.requires.between.held
+      (held_at g.S.Shadows c.args.image.now c.loop-running.running.frames f c.stretch.new.running c.loop-running.pool (g.H.Host.bytes c.stretch.new.host) c.loop-running.invariant.frames (c.stretch.ensures.leaves.held c.loop-running.pool (held_given g.S.Shadows c.args.image.now c.args.running.now.frames c.loop-running.running.frames c.loop-running.running c.begin.new.self c.loop-running.pool (g.H.Host.bytes c.loop-running.host) c.loop-running.invariant.frames c.loop-running.invariant.held)))
       (keeps_join c.args.pool.now c.loop-running.pool c.loop-running.pool (g.H.Host.bytes c.args.host.now) (g.H.Host.bytes c.loop-running.host) (g.H.Host.bytes c.stretch.new.host)
       (g.S.Shadows.frames c.args.running.now.shadows (g.H.Host.bytes c.args.host.now)) (g.S.Shadows.frames c.loop-running.running.shadows (g.H.Host.bytes c.loop-running.host)) (g.S.Shadows.frames c.stretch.new.running.shadows (g.H.Host.bytes c.stretch.new.host))
-      c.loop-running.invariant.pool (c.stretch.ensures.leaves.pool c.loop-running.pool (held_given g.S.Shadows.stands g.S.Shadows.frames g.S.Shadows.slots c.args.image.now c.args.running.now.frames c.loop-running.running.frames c.loop-running.running c.begin.new.self c.loop-running.pool (g.H.Host.bytes c.loop-running.host) c.loop-running.invariant.frames c.loop-running.invariant.held))) c.requires.between.enough;
+      c.loop-running.invariant.pool (c.stretch.ensures.leaves.pool c.loop-running.pool (held_given g.S.Shadows c.args.image.now c.args.running.now.frames c.loop-running.running.frames c.loop-running.running c.begin.new.self c.loop-running.pool (g.H.Host.bytes c.loop-running.host) c.loop-running.invariant.frames c.loop-running.invariant.held))) c.requires.between.enough;
 }
 
 pub returns-in-Err-clause-slice : goal.returns-in-Err-clause-slice
 returns-in-Err-clause-slice g c =
     let f = c.args.running.now.frames in
     let m = wedge c.args.image.now c.args.script.now.list f in
-    let at = λ (n : ℕ) (r : Running g.row.S.Denot) (memory : List ℕ). state_of g.S.Shadows.stands g.S.Shadows.frames g.S.Shadows.slots (wedge c.args.image.now c.args.script.now.list n) r memory in
+    let at = λ (n : ℕ) (r : Running g.row.S.Denot) (memory : List ℕ). state_of g.S.Shadows (wedge c.args.image.now c.args.script.now.list n) r memory in
     let old = at f c.args.running.now (g.H.Host.bytes c.args.host.now) in
     let counts = counted (g.H.Host.retired c.args.host.now) (g.H.Host.passed c.args.host.now) in
     let r = c.loop-running.running in
@@ -197,24 +197,24 @@ returns-in-Err-clause-slice g c =
     let rises : r.fills ≤ new.fills = (let e0 = c.stretch.ensures.leaves.filled in let e1 = c.in-Err.ensures.accounts.filled in let r0 = e0.rises in let r1 = e1.rises in omega (arith, r0, r1)) in
     let begins = Begun g c.args.image.now c.args.script.now.list c.args.running.now.frames c.args.running.now (g.H.Host.bytes c.args.host.now) c.args.pool.now (g.L.Notes.wants c.args.notes.now) in
     let laws = c.carry_laws.ensures in
-    let held_mid = held_at g.S.Shadows.stands g.S.Shadows.frames g.S.Shadows.slots c.args.image.now r.frames f mid c.loop-running.pool then_memory inv.frames (c.stretch.ensures.leaves.held c.loop-running.pool (held_given g.S.Shadows.stands g.S.Shadows.frames g.S.Shadows.slots c.args.image.now c.args.running.now.frames c.loop-running.running.frames c.loop-running.running c.begin.new.self c.loop-running.pool (g.H.Host.bytes c.loop-running.host) c.loop-running.invariant.frames c.loop-running.invariant.held)) in
+    let held_mid = held_at g.S.Shadows c.args.image.now r.frames f mid c.loop-running.pool then_memory inv.frames (c.stretch.ensures.leaves.held c.loop-running.pool (held_given g.S.Shadows c.args.image.now c.args.running.now.frames c.loop-running.running.frames c.loop-running.running c.begin.new.self c.loop-running.pool (g.H.Host.bytes c.loop-running.host) c.loop-running.invariant.frames c.loop-running.invariant.held)) in
     let keeps_mid = keeps_join c.args.pool.now c.loop-running.pool c.loop-running.pool (g.H.Host.bytes c.args.host.now) memory then_memory
     (g.S.Shadows.frames c.args.running.now.shadows (g.H.Host.bytes c.args.host.now)) (g.S.Shadows.frames r.shadows memory) (g.S.Shadows.frames mid.shadows then_memory)
-    inv.pool (c.stretch.ensures.leaves.pool c.loop-running.pool (held_given g.S.Shadows.stands g.S.Shadows.frames g.S.Shadows.slots c.args.image.now c.args.running.now.frames c.loop-running.running.frames c.loop-running.running c.begin.new.self c.loop-running.pool (g.H.Host.bytes c.loop-running.host) c.loop-running.invariant.frames c.loop-running.invariant.held)) in
+    inv.pool (c.stretch.ensures.leaves.pool c.loop-running.pool (held_given g.S.Shadows c.args.image.now c.args.running.now.frames c.loop-running.running.frames c.loop-running.running c.begin.new.self c.loop-running.pool (g.H.Host.bytes c.loop-running.host) c.loop-running.invariant.frames c.loop-running.invariant.held)) in
     let clash : DropClashes m (at f r memory) new.lost.before begins (Knows g m r memory) =
-    drop_clashes g.S.Shadows.stands g.S.Shadows.frames g.S.Shadows.slots g.S.Shadows.read_from g.S.Shadows.stale g.S.Shadows.other_roots g.S.Shadows.has_tables_under (widens g) laws c.args.image.now c.args.script.now.list f r mid new memory then_memory new_memory c.loop-running.pool c.begin.new.self begins c.wanted-wanted.result
+    drop_clashes g.S.Shadows (widens g) laws c.args.image.now c.args.script.now.list f r mid new memory then_memory new_memory c.loop-running.pool c.begin.new.self begins c.wanted-wanted.result
     (c.stretch.ensures.leaves.frames ∙ inv.frames) stays c.begin.ensures inv.held held_mid c.stretch.ensures.leaves.kept c.stretch.ensures.leaves.apart
-    (λ s. whole_then g.S.Shadows.stands g.S.Shadows.frames g.S.Shadows.slots g.S.Shadows.read_from g.S.Shadows.stale g.S.Shadows.other_roots g.S.Shadows.has_tables_under (widens g) laws (ground c.args.image.now f) c.args.running.now mid c.args.pool.now c.loop-running.pool (g.H.Host.bytes c.args.host.now) then_memory c.requires.between.held held_mid keeps_mid s.1)
+    (λ s. whole_then g.S.Shadows (widens g) laws (ground c.args.image.now f) c.args.running.now mid c.args.pool.now c.loop-running.pool (g.H.Host.bytes c.args.host.now) then_memory c.requires.between.held held_mid keeps_mid s.1)
     c.in-Err.ensures.steps.clashed in
-    let ends = stopped m c.args.bound old (at f r memory) (at f new new_memory) new.lost c.in-Err.stop counts so_far told tells (pages_kept g.S.Shadows.slots g.S.Shadows.other_roots c.args.running.now.shadows (g.H.Host.bytes c.args.host.now)) c.args.running.now.fills r.fills new.fills wanted (NotesOn wanted first before) (NotesOn wanted first after)
+    let ends = stopped m c.args.bound old (at f r memory) (at f new new_memory) new.lost c.in-Err.stop counts so_far told tells (pages_kept g.S.Shadows c.args.running.now.shadows (g.H.Host.bytes c.args.host.now)) c.args.running.now.fills r.fills new.fills wanted (NotesOn wanted first before) (NotesOn wanted first after)
     begins (Knows g m r memory) inv.going step c.loop-running-test.true still rises laws (known_past g laws m r memory) clash (notes_on_more wanted first before after (emptied_if new.lost.before r.step) told_now) in
-    subst (λ (x : Counts). SliceAs m c.args.bound old (at f new new_memory) counts x told tells (pages_kept g.S.Shadows.slots g.S.Shadows.other_roots c.args.running.now.shadows (g.H.Host.bytes c.args.host.now)) c.args.running.now.fills new.fills wanted (NotesOn wanted first after) begins (Ok (Stopped c.in-Err.stop))) (sym unmoved) ends
+    subst (λ (x : Counts). SliceAs m c.args.bound old (at f new new_memory) counts x told tells (pages_kept g.S.Shadows c.args.running.now.shadows (g.H.Host.bytes c.args.host.now)) c.args.running.now.fills new.fills wanted (NotesOn wanted first after) begins (Ok (Stopped c.in-Err.stop))) (sym unmoved) ends
 
 pub returns-in-Err-put_seen-clause-slice : goal.returns-in-Err-put_seen-clause-slice
 returns-in-Err-put_seen-clause-slice g c =
     let f = c.args.running.now.frames in
     let m = wedge c.args.image.now c.args.script.now.list f in
-    let at = λ (n : ℕ) (r : Running g.row.S.Denot) (memory : List ℕ). state_of g.S.Shadows.stands g.S.Shadows.frames g.S.Shadows.slots (wedge c.args.image.now c.args.script.now.list n) r memory in
+    let at = λ (n : ℕ) (r : Running g.row.S.Denot) (memory : List ℕ). state_of g.S.Shadows (wedge c.args.image.now c.args.script.now.list n) r memory in
     let old = at f c.args.running.now (g.H.Host.bytes c.args.host.now) in
     let counts = counted (g.H.Host.retired c.args.host.now) (g.H.Host.passed c.args.host.now) in
     let r = c.loop-running.running in
@@ -250,25 +250,25 @@ returns-in-Err-put_seen-clause-slice g c =
     let exact = λ (w : wanted ≡ true). c.in-Ok.ensures.steps.leaves.back (inv.wanted ∙ w) in
     let laws = c.carry_laws.ensures in
     let begins = Begun g c.args.image.now c.args.script.now.list c.args.running.now.frames c.args.running.now (g.H.Host.bytes c.args.host.now) c.args.pool.now (g.L.Notes.wants c.args.notes.now) in
-    let held_mid = held_at g.S.Shadows.stands g.S.Shadows.frames g.S.Shadows.slots c.args.image.now r.frames f mid c.loop-running.pool then_memory inv.frames (c.stretch.ensures.leaves.held c.loop-running.pool (held_given g.S.Shadows.stands g.S.Shadows.frames g.S.Shadows.slots c.args.image.now c.args.running.now.frames c.loop-running.running.frames c.loop-running.running c.begin.new.self c.loop-running.pool (g.H.Host.bytes c.loop-running.host) c.loop-running.invariant.frames c.loop-running.invariant.held)) in
+    let held_mid = held_at g.S.Shadows c.args.image.now r.frames f mid c.loop-running.pool then_memory inv.frames (c.stretch.ensures.leaves.held c.loop-running.pool (held_given g.S.Shadows c.args.image.now c.args.running.now.frames c.loop-running.running.frames c.loop-running.running c.begin.new.self c.loop-running.pool (g.H.Host.bytes c.loop-running.host) c.loop-running.invariant.frames c.loop-running.invariant.held)) in
     let keeps_mid = keeps_join c.args.pool.now c.loop-running.pool c.loop-running.pool (g.H.Host.bytes c.args.host.now) memory then_memory
     (g.S.Shadows.frames c.args.running.now.shadows (g.H.Host.bytes c.args.host.now)) (g.S.Shadows.frames r.shadows memory) (g.S.Shadows.frames mid.shadows then_memory)
-    inv.pool (c.stretch.ensures.leaves.pool c.loop-running.pool (held_given g.S.Shadows.stands g.S.Shadows.frames g.S.Shadows.slots c.args.image.now c.args.running.now.frames c.loop-running.running.frames c.loop-running.running c.begin.new.self c.loop-running.pool (g.H.Host.bytes c.loop-running.host) c.loop-running.invariant.frames c.loop-running.invariant.held)) in
+    inv.pool (c.stretch.ensures.leaves.pool c.loop-running.pool (held_given g.S.Shadows c.args.image.now c.args.running.now.frames c.loop-running.running.frames c.loop-running.running c.begin.new.self c.loop-running.pool (g.H.Host.bytes c.loop-running.host) c.loop-running.invariant.frames c.loop-running.invariant.held)) in
     let over : StepCarries m (at f r memory) (at f new new_memory) new.lost begins (Knows g m r memory) (Knows g m new new_memory) =
-    step_carries g.S.Shadows.stands g.S.Shadows.frames g.S.Shadows.slots g.S.Shadows.read_from g.S.Shadows.stale g.S.Shadows.other_roots g.S.Shadows.has_tables_under (widens g) laws c.args.image.now c.args.script.now.list f r mid new memory then_memory new_memory c.loop-running.pool c.begin.new.self begins c.wanted-wanted.result
+    step_carries g.S.Shadows (widens g) laws c.args.image.now c.args.script.now.list f r mid new memory then_memory new_memory c.loop-running.pool c.begin.new.self begins c.wanted-wanted.result
     (c.stretch.ensures.leaves.frames ∙ inv.frames) stays c.begin.ensures inv.held held_mid c.stretch.ensures.leaves.kept c.stretch.ensures.leaves.apart (λ s. inv.wanted ∙ s.2)
-    (λ s. whole_then g.S.Shadows.stands g.S.Shadows.frames g.S.Shadows.slots g.S.Shadows.read_from g.S.Shadows.stale g.S.Shadows.other_roots g.S.Shadows.has_tables_under (widens g) laws (ground c.args.image.now f) c.args.running.now mid c.args.pool.now c.loop-running.pool (g.H.Host.bytes c.args.host.now) then_memory c.requires.between.held held_mid keeps_mid s.1)
+    (λ s. whole_then g.S.Shadows (widens g) laws (ground c.args.image.now f) c.args.running.now mid c.args.pool.now c.loop-running.pool (g.H.Host.bytes c.args.host.now) then_memory c.requires.between.held held_mid keeps_mid s.1)
     c.in-Ok.ensures.steps.carried c.in-Ok.ensures.steps.clashed in
-    let s = going_on m old (at f r memory) (at f new new_memory) new.lost c.in-Ok.seen counts so_far new_counts told tells (pages_kept g.S.Shadows.slots g.S.Shadows.other_roots c.args.running.now.shadows (g.H.Host.bytes c.args.host.now)) c.args.running.now.fills r.fills new.fills wanted (NotesOn wanted first before) (NotesOn wanted first after)
+    let s = going_on m old (at f r memory) (at f new new_memory) new.lost c.in-Ok.seen counts so_far new_counts told tells (pages_kept g.S.Shadows c.args.running.now.shadows (g.H.Host.bytes c.args.host.now)) c.args.running.now.fills r.fills new.fills wanted (NotesOn wanted first before) (NotesOn wanted first after)
     begins (Knows g m r memory) (Knows g m new new_memory) inv.going step count rises more exact laws (known_past g laws m r memory) over (notes_on_more wanted first before after (notes_then new.lost r.step) told_now) in
-    failed m c.args.bound old (at f r memory) (at f new new_memory) c.in-Ok.seen c.in-Err-put_seen.failed counts new_counts told tells last (pages_kept g.S.Shadows.slots g.S.Shadows.other_roots c.args.running.now.shadows (g.H.Host.bytes c.args.host.now)) c.args.running.now.fills new.fills wanted (NotesOn wanted first after) begins (Knows g m new new_memory) s put
+    failed m c.args.bound old (at f r memory) (at f new new_memory) c.in-Ok.seen c.in-Err-put_seen.failed counts new_counts told tells last (pages_kept g.S.Shadows c.args.running.now.shadows (g.H.Host.bytes c.args.host.now)) c.args.running.now.fills new.fills wanted (NotesOn wanted first after) begins (Knows g m new new_memory) s put
     (let t = c.loop-running-test.true in omega (arith, count, t)) laws (known_past g laws m new new_memory)
 
 pub loop-running-preserved : goal.loop-running-preserved
 loop-running-preserved g c =
     let f = c.args.running.now.frames in
     let m = wedge c.args.image.now c.args.script.now.list f in
-    let at = λ (n : ℕ) (r : Running g.row.S.Denot) (memory : List ℕ). state_of g.S.Shadows.stands g.S.Shadows.frames g.S.Shadows.slots (wedge c.args.image.now c.args.script.now.list n) r memory in
+    let at = λ (n : ℕ) (r : Running g.row.S.Denot) (memory : List ℕ). state_of g.S.Shadows (wedge c.args.image.now c.args.script.now.list n) r memory in
     let old = at f c.args.running.now (g.H.Host.bytes c.args.host.now) in
     let counts = counted (g.H.Host.retired c.args.host.now) (g.H.Host.passed c.args.host.now) in
     let r = c.loop-running.running in
@@ -304,34 +304,34 @@ loop-running-preserved g c =
     let exact = λ (w : wanted ≡ true). c.in-Ok.ensures.steps.leaves.back (inv.wanted ∙ w) in
     let laws = c.carry_laws.ensures in
     let begins = Begun g c.args.image.now c.args.script.now.list c.args.running.now.frames c.args.running.now (g.H.Host.bytes c.args.host.now) c.args.pool.now (g.L.Notes.wants c.args.notes.now) in
-    let held_mid = held_at g.S.Shadows.stands g.S.Shadows.frames g.S.Shadows.slots c.args.image.now r.frames f mid c.loop-running.pool then_memory inv.frames (c.stretch.ensures.leaves.held c.loop-running.pool (held_given g.S.Shadows.stands g.S.Shadows.frames g.S.Shadows.slots c.args.image.now c.args.running.now.frames c.loop-running.running.frames c.loop-running.running c.begin.new.self c.loop-running.pool (g.H.Host.bytes c.loop-running.host) c.loop-running.invariant.frames c.loop-running.invariant.held)) in
+    let held_mid = held_at g.S.Shadows c.args.image.now r.frames f mid c.loop-running.pool then_memory inv.frames (c.stretch.ensures.leaves.held c.loop-running.pool (held_given g.S.Shadows c.args.image.now c.args.running.now.frames c.loop-running.running.frames c.loop-running.running c.begin.new.self c.loop-running.pool (g.H.Host.bytes c.loop-running.host) c.loop-running.invariant.frames c.loop-running.invariant.held)) in
     let keeps_mid = keeps_join c.args.pool.now c.loop-running.pool c.loop-running.pool (g.H.Host.bytes c.args.host.now) memory then_memory
     (g.S.Shadows.frames c.args.running.now.shadows (g.H.Host.bytes c.args.host.now)) (g.S.Shadows.frames r.shadows memory) (g.S.Shadows.frames mid.shadows then_memory)
-    inv.pool (c.stretch.ensures.leaves.pool c.loop-running.pool (held_given g.S.Shadows.stands g.S.Shadows.frames g.S.Shadows.slots c.args.image.now c.args.running.now.frames c.loop-running.running.frames c.loop-running.running c.begin.new.self c.loop-running.pool (g.H.Host.bytes c.loop-running.host) c.loop-running.invariant.frames c.loop-running.invariant.held)) in
+    inv.pool (c.stretch.ensures.leaves.pool c.loop-running.pool (held_given g.S.Shadows c.args.image.now c.args.running.now.frames c.loop-running.running.frames c.loop-running.running c.begin.new.self c.loop-running.pool (g.H.Host.bytes c.loop-running.host) c.loop-running.invariant.frames c.loop-running.invariant.held)) in
     let over : StepCarries m (at f r memory) (at f new new_memory) new.lost begins (Knows g m r memory) (Knows g m new new_memory) =
-    step_carries g.S.Shadows.stands g.S.Shadows.frames g.S.Shadows.slots g.S.Shadows.read_from g.S.Shadows.stale g.S.Shadows.other_roots g.S.Shadows.has_tables_under (widens g) laws c.args.image.now c.args.script.now.list f r mid new memory then_memory new_memory c.loop-running.pool c.begin.new.self begins c.wanted-wanted.result
+    step_carries g.S.Shadows (widens g) laws c.args.image.now c.args.script.now.list f r mid new memory then_memory new_memory c.loop-running.pool c.begin.new.self begins c.wanted-wanted.result
     (c.stretch.ensures.leaves.frames ∙ inv.frames) stays c.begin.ensures inv.held held_mid c.stretch.ensures.leaves.kept c.stretch.ensures.leaves.apart (λ s. inv.wanted ∙ s.2)
-    (λ s. whole_then g.S.Shadows.stands g.S.Shadows.frames g.S.Shadows.slots g.S.Shadows.read_from g.S.Shadows.stale g.S.Shadows.other_roots g.S.Shadows.has_tables_under (widens g) laws (ground c.args.image.now f) c.args.running.now mid c.args.pool.now c.loop-running.pool (g.H.Host.bytes c.args.host.now) then_memory c.requires.between.held held_mid keeps_mid s.1)
+    (λ s. whole_then g.S.Shadows (widens g) laws (ground c.args.image.now f) c.args.running.now mid c.args.pool.now c.loop-running.pool (g.H.Host.bytes c.args.host.now) then_memory c.requires.between.held held_mid keeps_mid s.1)
     c.in-Ok.ensures.steps.carried c.in-Ok.ensures.steps.clashed in
-    let s = going_on m old (at f r memory) (at f new new_memory) new.lost c.in-Ok.seen counts so_far new_counts told tells (pages_kept g.S.Shadows.slots g.S.Shadows.other_roots c.args.running.now.shadows (g.H.Host.bytes c.args.host.now)) c.args.running.now.fills r.fills new.fills wanted (NotesOn wanted first before) (NotesOn wanted first after)
+    let s = going_on m old (at f r memory) (at f new new_memory) new.lost c.in-Ok.seen counts so_far new_counts told tells (pages_kept g.S.Shadows c.args.running.now.shadows (g.H.Host.bytes c.args.host.now)) c.args.running.now.fills r.fills new.fills wanted (NotesOn wanted first before) (NotesOn wanted first after)
     begins (Knows g m r memory) (Knows g m new new_memory) inv.going step count rises more exact laws (known_past g laws m r memory) over (notes_on_more wanted first before after (notes_then new.lost r.step) told_now) in
-    let stepped = stepped_put m old (at f r memory) (at f new new_memory) c.in-Ok.seen counts new_counts told tells last (pages_kept g.S.Shadows.slots g.S.Shadows.other_roots c.args.running.now.shadows (g.H.Host.bytes c.args.host.now)) c.args.running.now.fills new.fills wanted (NotesOn wanted first after) begins (Knows g m new new_memory) s put in
+    let stepped = stepped_put m old (at f r memory) (at f new new_memory) c.in-Ok.seen counts new_counts told tells last (pages_kept g.S.Shadows c.args.running.now.shadows (g.H.Host.bytes c.args.host.now)) c.args.running.now.fills new.fills wanted (NotesOn wanted first after) begins (Knows g m new new_memory) s put in
     let rested = c.rest.new.running in
     let frames_then : new.frames ≡ f = c.in-Ok.ensures.accounts.frames ∙ (c.stretch.ensures.leaves.frames ∙ inv.frames) in
     let passes = subst (λ (n : ℕ). Passes (wedge c.args.image.now c.args.script.now.list n) (at n new new_memory) (at n rested new_memory) new_counts new_counts) frames_then
     (c.rest.ensures.passes c.args.image.now new_memory new_counts) in
-    let held_new = held_at g.S.Shadows.stands g.S.Shadows.frames g.S.Shadows.slots c.args.image.now mid.frames f new c.one_step.new.pool new_memory (c.stretch.ensures.leaves.frames ∙ inv.frames) c.in-Ok.ensures.steps.leaves.held in
-    let held = held_later g.S.Shadows.stands g.S.Shadows.frames g.S.Shadows.slots (ground c.args.image.now f) new rested.board rested.step c.one_step.new.pool new_memory c.rest.ensures.later held_new in
+    let held_new = held_at g.S.Shadows c.args.image.now mid.frames f new c.one_step.new.pool new_memory (c.stretch.ensures.leaves.frames ∙ inv.frames) c.in-Ok.ensures.steps.leaves.held in
+    let held = held_later g.S.Shadows (ground c.args.image.now f) new rested.board rested.step c.one_step.new.pool new_memory c.rest.ensures.later held_new in
     let as_were : rested ≡ record new { board = rested.board; step = rested.step } = c.rest.ensures.same in
     record {
-      going = going_turned m old (at f rested new_memory) counts new_counts told last (pages_kept g.S.Shadows.slots g.S.Shadows.other_roots c.args.running.now.shadows (g.H.Host.bytes c.args.host.now)) c.args.running.now.fills rested.fills wanted (NotesOn wanted first after) begins (Knows g m new new_memory) (Knows g m rested new_memory)
+      going = going_turned m old (at f rested new_memory) counts new_counts told last (pages_kept g.S.Shadows c.args.running.now.shadows (g.H.Host.bytes c.args.host.now)) c.args.running.now.fills rested.fills wanted (NotesOn wanted first after) begins (Knows g m new new_memory) (Knows g m rested new_memory)
           (known_there g laws m new rested new_memory new_memory (entries_of (g.S.Shadows.slots rested.shadows new_memory)) (ap (λ (x : Running g.row.S.Denot). x.shadows) as_were) held_new.stand (record { size = refl; frames = λ frame e. refl }))
-          (going_past m old (at f new new_memory) (at f rested new_memory) counts new_counts new_counts told last (pages_kept g.S.Shadows.slots g.S.Shadows.other_roots c.args.running.now.shadows (g.H.Host.bytes c.args.host.now)) c.args.running.now.fills new.fills rested.fills wanted (NotesOn wanted first after) begins (Knows g m new new_memory) stepped
+          (going_past m old (at f new new_memory) (at f rested new_memory) counts new_counts new_counts told last (pages_kept g.S.Shadows c.args.running.now.shadows (g.H.Host.bytes c.args.host.now)) c.args.running.now.fills new.fills rested.fills wanted (NotesOn wanted first after) begins (Knows g m new new_memory) stepped
           (subst (λ (x : Running g.row.S.Denot). new.fills ≤ x.fills) (sym as_were) (omega arith))
-          (subst (λ (x : Running g.row.S.Denot). FillsOn (pages_kept g.S.Shadows.slots g.S.Shadows.other_roots c.args.running.now.shadows (g.H.Host.bytes c.args.host.now)) (len (entries_of (g.S.Shadows.slots x.shadows new_memory))) c.args.running.now.fills x.fills) (sym as_were) more)
-          laws (known_past g laws m new new_memory) (room_at g.S.Shadows.stands g.S.Shadows.frames g.S.Shadows.slots g.S.Shadows.read_from g.S.Shadows.stale g.S.Shadows.other_roots g.S.Shadows.has_tables_under c.args.image.now c.args.script.now.list f new c.one_step.new.pool new_memory held_new) passes);
-      held = subst (λ (x : Running g.row.S.Denot). IsHeld g.S.Shadows.stands g.S.Shadows.frames g.S.Shadows.slots (ground c.args.image.now f) x c.one_step.new.pool new_memory) (sym as_were) held;
-      ready = subst (λ (x : Running g.row.S.Denot). IsReady g.S.Shadows.slots g.S.Shadows.read_from g.S.Shadows.stale g.S.Shadows.value g.S.Shadows.other_roots (ground c.args.image.now f) x.cpu x.shadows new_memory) (sym as_were)
+          (subst (λ (x : Running g.row.S.Denot). FillsOn (pages_kept g.S.Shadows c.args.running.now.shadows (g.H.Host.bytes c.args.host.now)) (len (entries_of (g.S.Shadows.slots x.shadows new_memory))) c.args.running.now.fills x.fills) (sym as_were) more)
+          laws (known_past g laws m new new_memory) (room_at g.S.Shadows c.args.image.now c.args.script.now.list f new c.one_step.new.pool new_memory held_new) passes);
+      held = subst (λ (x : Running g.row.S.Denot). IsHeld g.S.Shadows (ground c.args.image.now f) x c.one_step.new.pool new_memory) (sym as_were) held;
+      ready = subst (λ (x : Running g.row.S.Denot). IsReady g.S.Shadows (ground c.args.image.now f) x.cpu x.shadows new_memory) (sym as_were)
           (ready_at g c.args.image.now mid.frames f new.cpu new.shadows new_memory (c.stretch.ensures.leaves.frames ∙ inv.frames) c.in-Ok.ensures.steps.leaves.ready);
       able = subst IsAble (sym (ap (λ (x : Running g.row.S.Denot). x.cpu) as_were)) c.in-Ok.ensures.steps.able;
       pool = subst (λ (x : Running g.row.S.Denot). Keeps c.args.pool.now c.one_step.new.pool (g.H.Host.bytes c.args.host.now) new_memory (g.S.Shadows.frames c.args.running.now.shadows (g.H.Host.bytes c.args.host.now)) (g.S.Shadows.frames x.shadows new_memory)) (sym as_were)
@@ -339,8 +339,8 @@ loop-running-preserved g c =
           (g.S.Shadows.frames c.args.running.now.shadows (g.H.Host.bytes c.args.host.now)) (g.S.Shadows.frames c.stretch.new.running.shadows (g.H.Host.bytes c.stretch.new.host)) (g.S.Shadows.frames c.one_step.new.running.shadows (g.H.Host.bytes c.one_step.new.host))
           (keeps_join c.args.pool.now c.loop-running.pool c.loop-running.pool (g.H.Host.bytes c.args.host.now) (g.H.Host.bytes c.loop-running.host) (g.H.Host.bytes c.stretch.new.host)
           (g.S.Shadows.frames c.args.running.now.shadows (g.H.Host.bytes c.args.host.now)) (g.S.Shadows.frames c.loop-running.running.shadows (g.H.Host.bytes c.loop-running.host)) (g.S.Shadows.frames c.stretch.new.running.shadows (g.H.Host.bytes c.stretch.new.host))
-          c.loop-running.invariant.pool (c.stretch.ensures.leaves.pool c.loop-running.pool (held_given g.S.Shadows.stands g.S.Shadows.frames g.S.Shadows.slots c.args.image.now c.args.running.now.frames c.loop-running.running.frames c.loop-running.running c.begin.new.self c.loop-running.pool (g.H.Host.bytes c.loop-running.host) c.loop-running.invariant.frames c.loop-running.invariant.held))) c.in-Ok.ensures.accounts.pool);
-      filled = subst (λ (x : Running g.row.S.Denot). FillsOn (pages_kept g.S.Shadows.slots g.S.Shadows.other_roots c.args.running.now.shadows (g.H.Host.bytes c.args.host.now)) (pages_kept g.S.Shadows.slots g.S.Shadows.other_roots x.shadows new_memory) c.args.running.now.fills x.fills) (sym as_were)
+          c.loop-running.invariant.pool (c.stretch.ensures.leaves.pool c.loop-running.pool (held_given g.S.Shadows c.args.image.now c.args.running.now.frames c.loop-running.running.frames c.loop-running.running c.begin.new.self c.loop-running.pool (g.H.Host.bytes c.loop-running.host) c.loop-running.invariant.frames c.loop-running.invariant.held))) c.in-Ok.ensures.accounts.pool);
+      filled = subst (λ (x : Running g.row.S.Denot). FillsOn (pages_kept g.S.Shadows c.args.running.now.shadows (g.H.Host.bytes c.args.host.now)) (pages_kept g.S.Shadows x.shadows new_memory) c.args.running.now.fills x.fills) (sym as_were)
           (fills_join _ _ _ _ _ _ (fills_join _ _ _ _ _ _ inv.filled c.stretch.ensures.leaves.filled) c.in-Ok.ensures.accounts.filled);
       started = c.in-Ok.ensures.started;
       frames = ap (λ (x : Running g.row.S.Denot). x.frames) as_were ∙ frames_then;
@@ -356,7 +356,7 @@ pub returns-clause-slice : goal.returns-clause-slice
 returns-clause-slice g c =
     let f = c.args.running.now.frames in
     let m = wedge c.args.image.now c.args.script.now.list f in
-    let at = λ (n : ℕ) (r : Running g.row.S.Denot) (memory : List ℕ). state_of g.S.Shadows.stands g.S.Shadows.frames g.S.Shadows.slots (wedge c.args.image.now c.args.script.now.list n) r memory in
+    let at = λ (n : ℕ) (r : Running g.row.S.Denot) (memory : List ℕ). state_of g.S.Shadows (wedge c.args.image.now c.args.script.now.list n) r memory in
     let old = at f c.args.running.now (g.H.Host.bytes c.args.host.now) in
     let counts = counted (g.H.Host.retired c.args.host.now) (g.H.Host.passed c.args.host.now) in
     let r = c.loop-running.running in
@@ -365,7 +365,7 @@ returns-clause-slice g c =
     let told = g.O.Sink.taken c.args.out.now in
     let tells = g.O.Sink.taken c.loop-running.out in
     let inv = c.loop-running.invariant in
-    reached m c.args.bound old (at f r memory) counts so_far told tells (pages_kept g.S.Shadows.slots g.S.Shadows.other_roots c.args.running.now.shadows (g.H.Host.bytes c.args.host.now)) c.args.running.now.fills r.fills (g.L.Notes.wants c.args.notes.now) (NotesOn (g.L.Notes.wants c.args.notes.now) (g.L.Notes.tells c.args.notes.now) (g.L.Notes.tells c.loop-running.notes))
+    reached m c.args.bound old (at f r memory) counts so_far told tells (pages_kept g.S.Shadows c.args.running.now.shadows (g.H.Host.bytes c.args.host.now)) c.args.running.now.fills r.fills (g.L.Notes.wants c.args.notes.now) (NotesOn (g.L.Notes.wants c.args.notes.now) (g.L.Notes.tells c.args.notes.now) (g.L.Notes.tells c.loop-running.notes))
     (Begun g c.args.image.now c.args.script.now.list c.args.running.now.frames c.args.running.now (g.H.Host.bytes c.args.host.now) c.args.pool.now (g.L.Notes.wants c.args.notes.now)) (Knows g m r memory) inv.going
     (let a = inv.bound in let b = c.loop-running-test.false in omega (arith, a, b)) c.carry_laws.ensures (known_past g c.carry_laws.ensures m r memory)
 
@@ -393,9 +393,9 @@ returns-in-Err-clause-leaves g c = record {
       (g.S.Shadows.frames c.args.running.now.shadows (g.H.Host.bytes c.args.host.now)) (g.S.Shadows.frames c.stretch.new.running.shadows (g.H.Host.bytes c.stretch.new.host)) (g.S.Shadows.frames c.one_step.new.running.shadows (g.H.Host.bytes c.one_step.new.host))
       (keeps_join c.args.pool.now c.loop-running.pool c.loop-running.pool (g.H.Host.bytes c.args.host.now) (g.H.Host.bytes c.loop-running.host) (g.H.Host.bytes c.stretch.new.host)
       (g.S.Shadows.frames c.args.running.now.shadows (g.H.Host.bytes c.args.host.now)) (g.S.Shadows.frames c.loop-running.running.shadows (g.H.Host.bytes c.loop-running.host)) (g.S.Shadows.frames c.stretch.new.running.shadows (g.H.Host.bytes c.stretch.new.host))
-      c.loop-running.invariant.pool (c.stretch.ensures.leaves.pool c.loop-running.pool (held_given g.S.Shadows.stands g.S.Shadows.frames g.S.Shadows.slots c.args.image.now c.args.running.now.frames c.loop-running.running.frames c.loop-running.running c.begin.new.self c.loop-running.pool (g.H.Host.bytes c.loop-running.host) c.loop-running.invariant.frames c.loop-running.invariant.held))) c.in-Err.ensures.accounts.pool;
+      c.loop-running.invariant.pool (c.stretch.ensures.leaves.pool c.loop-running.pool (held_given g.S.Shadows c.args.image.now c.args.running.now.frames c.loop-running.running.frames c.loop-running.running c.begin.new.self c.loop-running.pool (g.H.Host.bytes c.loop-running.host) c.loop-running.invariant.frames c.loop-running.invariant.held))) c.in-Err.ensures.accounts.pool;
   few =
-      let held = c.stretch.ensures.leaves.held c.loop-running.pool (held_given g.S.Shadows.stands g.S.Shadows.frames g.S.Shadows.slots c.args.image.now c.args.running.now.frames c.loop-running.running.frames c.loop-running.running c.begin.new.self c.loop-running.pool (g.H.Host.bytes c.loop-running.host) c.loop-running.invariant.frames c.loop-running.invariant.held) in
+      let held = c.stretch.ensures.leaves.held c.loop-running.pool (held_given g.S.Shadows c.args.image.now c.args.running.now.frames c.loop-running.running.frames c.loop-running.running c.begin.new.self c.loop-running.pool (g.H.Host.bytes c.loop-running.host) c.loop-running.invariant.frames c.loop-running.invariant.held) in
       let few = held.fills in
       let same = c.in-Err.ensures.steps.leaves.stays.fills in
       let still = c.in-Err.ensures.steps.leaves.stays.step in

@@ -14,20 +14,20 @@ use Rattle.wedge_core.proofs.slice.steps_to.Given as goal
 abbrev pub invariant-loop-running : goal.invariant-loop-running
 invariant-loop-running g l = record {
   going : Going (wedge l.image l.script.list l.fn.running.frames)
-      (state_of g.S.Shadows.stands g.S.Shadows.frames g.S.Shadows.slots (wedge l.image l.script.list l.fn.running.frames) l.fn.running (g.H.Host.bytes l.fn.host))
-      (state_of g.S.Shadows.stands g.S.Shadows.frames g.S.Shadows.slots (wedge l.image l.script.list l.fn.running.frames) l.running (g.H.Host.bytes l.host))
+      (state_of g.S.Shadows (wedge l.image l.script.list l.fn.running.frames) l.fn.running (g.H.Host.bytes l.fn.host))
+      (state_of g.S.Shadows (wedge l.image l.script.list l.fn.running.frames) l.running (g.H.Host.bytes l.host))
       (record { retired = g.H.Host.retired l.fn.host; passed = g.H.Host.passed l.fn.host }) (record { retired = g.H.Host.retired l.host; passed = g.H.Host.passed l.host })
-      (g.O.Sink.taken l.fn.out) (g.O.Sink.taken l.out) (pages_kept g.S.Shadows.slots g.S.Shadows.other_roots l.fn.running.shadows (g.H.Host.bytes l.fn.host)) l.fn.running.fills l.running.fills (g.L.Notes.wants l.fn.notes)
+      (g.O.Sink.taken l.fn.out) (g.O.Sink.taken l.out) (pages_kept g.S.Shadows l.fn.running.shadows (g.H.Host.bytes l.fn.host)) l.fn.running.fills l.running.fills (g.L.Notes.wants l.fn.notes)
       (NotesOn (g.L.Notes.wants l.fn.notes) (g.L.Notes.tells l.fn.notes) (g.L.Notes.tells l.notes))
-      (IsCarried g.S.Shadows.slots g.S.Shadows.read_from g.S.Shadows.stale g.S.Shadows.other_roots g.S.Shadows.has_tables_under (wedge l.image l.script.list l.fn.running.frames) []
-      (state_of g.S.Shadows.stands g.S.Shadows.frames g.S.Shadows.slots (wedge l.image l.script.list l.fn.running.frames) l.fn.running (g.H.Host.bytes l.fn.host)) l.fn.running.shadows (g.H.Host.bytes l.fn.host)
+      (IsCarried g.S.Shadows (wedge l.image l.script.list l.fn.running.frames) []
+      (state_of g.S.Shadows (wedge l.image l.script.list l.fn.running.frames) l.fn.running (g.H.Host.bytes l.fn.host)) l.fn.running.shadows (g.H.Host.bytes l.fn.host)
       × (length (free_list l.fn.pool (g.H.Host.bytes l.fn.host)) + l.fn.running.held ≡ 512) × (g.L.Notes.wants l.fn.notes ≡ false))
-      (CarriedWith g.S.Shadows.stands g.S.Shadows.frames g.S.Shadows.slots g.S.Shadows.read_from g.S.Shadows.stale g.S.Shadows.other_roots g.S.Shadows.has_tables_under (wedge l.image l.script.list l.fn.running.frames) l.running.shadows (g.H.Host.bytes l.host));
-  held : IsHeld g.S.Shadows.stands g.S.Shadows.frames g.S.Shadows.slots (ground l.image l.fn.running.frames) l.running l.pool (g.H.Host.bytes l.host);
-  ready : IsReady g.S.Shadows.slots g.S.Shadows.read_from g.S.Shadows.stale g.S.Shadows.value g.S.Shadows.other_roots (ground l.image l.fn.running.frames) l.running.cpu l.running.shadows (g.H.Host.bytes l.host);
+      (CarriedWith g.S.Shadows (wedge l.image l.script.list l.fn.running.frames) l.running.shadows (g.H.Host.bytes l.host));
+  held : IsHeld g.S.Shadows (ground l.image l.fn.running.frames) l.running l.pool (g.H.Host.bytes l.host);
+  ready : IsReady g.S.Shadows (ground l.image l.fn.running.frames) l.running.cpu l.running.shadows (g.H.Host.bytes l.host);
   able : IsAble l.running.cpu;
   pool : Keeps l.fn.pool l.pool (g.H.Host.bytes l.fn.host) (g.H.Host.bytes l.host) (g.S.Shadows.frames l.fn.running.shadows (g.H.Host.bytes l.fn.host)) (g.S.Shadows.frames l.running.shadows (g.H.Host.bytes l.host));
-  filled : FillsOn (pages_kept g.S.Shadows.slots g.S.Shadows.other_roots l.fn.running.shadows (g.H.Host.bytes l.fn.host)) (pages_kept g.S.Shadows.slots g.S.Shadows.other_roots l.running.shadows (g.H.Host.bytes l.host)) l.fn.running.fills l.running.fills;
+  filled : FillsOn (pages_kept g.S.Shadows l.fn.running.shadows (g.H.Host.bytes l.fn.host)) (pages_kept g.S.Shadows l.running.shadows (g.H.Host.bytes l.host)) l.fn.running.fills l.running.fills;
   started : g.H.Host.is_started l.host ≡ true;
   frames : l.running.frames ≡ l.fn.running.frames;
   wants : g.L.Notes.wants l.notes ≡ g.L.Notes.wants l.fn.notes;

@@ -59,8 +59,8 @@ returns-in-Err g c = record {
 
 module _ (g : Over) (c : goal.In-Ok-Stepped g) where
   went : (script : Events) → Idle (wedge c.args.image.now script c.args.running.now.frames)
-      (state_of g.S.Shadows.stands g.S.Shadows.frames g.S.Shadows.slots (wedge c.args.image.now script c.args.running.now.frames) c.args.running.now (g.H.Host.bytes c.args.host.now)) c.attempt.new.running.lost.before c.attempt.new.running.lost c.in-Ok-Stepped.seen
-      (state_of g.S.Shadows.stands g.S.Shadows.frames g.S.Shadows.slots (wedge c.args.image.now script c.args.running.now.frames) c.attempt.new.running (g.H.Host.bytes c.attempt.new.host))
+      (state_of g.S.Shadows (wedge c.args.image.now script c.args.running.now.frames) c.args.running.now (g.H.Host.bytes c.args.host.now)) c.attempt.new.running.lost.before c.attempt.new.running.lost c.in-Ok-Stepped.seen
+      (state_of g.S.Shadows (wedge c.args.image.now script c.args.running.now.frames) c.attempt.new.running (g.H.Host.bytes c.attempt.new.host))
   went script = rw c.in-Ok-Stepped.field-0-is at (c.in-Ok-Stepped.ensures.attempts.step script)
 
   count : c.attempt.new.running.step ≡ c.args.running.now.step + 1
@@ -78,7 +78,7 @@ returns-in-Ok-Stepped g c =
         carried = rw c.in-Ok-Stepped.field-0-is at e.attempts.carried;
         clashed = λ lost room script b cpu ram set board. clashes_by (wedge c.args.image.now script c.args.running.now.frames) b c.args.running.now.cpu c.args.running.now.board c.args.image.now cpu board c.requires.runs (e.attempts.clashed lost room script b cpu ram set);
         leaves = record {
-          held = subst (λ (k : ℕ). IsHeld g.S.Shadows.stands g.S.Shadows.frames g.S.Shadows.slots (ground c.args.image.now c.args.running.now.frames) (record r { step = k }) c.attempt.new.pool (g.H.Host.bytes c.attempt.new.host)) (sym (count g c)) e.attempts.leaves.held;
+          held = subst (λ (k : ℕ). IsHeld g.S.Shadows (ground c.args.image.now c.args.running.now.frames) (record r { step = k }) c.attempt.new.pool (g.H.Host.bytes c.attempt.new.host)) (sym (count g c)) e.attempts.leaves.held;
           ready = e.attempts.leaves.ready;
           back = e.attempts.leaves.back;
           count = count g c;
@@ -115,7 +115,7 @@ module _ (g : Over) (c : goal.After-ram g) where
   n = c.args.running.now.frames
 
   kept_above : ∥ g.S.Shadows.stands r1.shadows m1 ∥₁ → Owns c.attempt.new.pool m1 (g.S.Shadows.frames r1.shadows m1) → n ≤ base_of c.attempt.new.pool → drop (4096 * n) m2 ≡ drop (4096 * n) m1 → length m2 ≡ length m1
-      → SameKept g.S.Shadows.stands g.S.Shadows.frames g.S.Shadows.slots r1.shadows c.attempt.new.pool m1 m2
+      → SameKept g.S.Shadows r1.shadows c.attempt.new.pool m1 m2
   kept_above stands owns low above size =
       let p = c.attempt.new.pool in
       let under : 4096 * n ≤ 4096 * base_of p = omega (arith, low) in
@@ -140,7 +140,7 @@ module _ (g : Over) (c : goal.After-ram g) where
   same : r1 ≡ record r0 { shadows = r1.shadows; held = r1.held; fills = r1.fills; lost = r1.lost }
   same = rw c.in-Ok-Asked.field-0-is at c.in-Ok-Asked.ensures.attempts.leaves.asked
 
-  once : IsOnce g.S.Shadows.stands g.S.Shadows.frames g.S.Shadows.slots g.S.Shadows.directory c.args.image.now r0 r1 r2 c.attempt.new.pool m0 m1 m2
+  once : IsOnce g.S.Shadows c.args.image.now r0 r1 r2 c.attempt.new.pool m0 m1 m2
       (counted (g.H.Host.retired c.args.host.now) (g.H.Host.passed c.args.host.now)) (counted (g.H.Host.retired c.run_on-one.new.host) (g.H.Host.passed c.run_on-one.new.host)) c.run_on-one.result
   once = record {
     asks = λ script. rw c.in-Ok-Asked.field-0-is at (c.in-Ok-Asked.ensures.attempts.step script);
@@ -150,75 +150,75 @@ module _ (g : Over) (c : goal.After-ram g) where
     kept = λ above size. kept_above c.in-Ok-Asked.ensures.attempts.leaves.held.stand c.in-Ok-Asked.ensures.attempts.leaves.held.owns c.in-Ok-Asked.ensures.attempts.leaves.held.behind above size;
   }
 
-  kept : SameKept g.S.Shadows.stands g.S.Shadows.frames g.S.Shadows.slots r1.shadows c.attempt.new.pool m1 m2
-  kept = once_kept g.S.Shadows.stands g.S.Shadows.frames g.S.Shadows.slots g.S.Shadows.directory _ _ _ _ _ _ _ _ _ _ _ once
+  kept : SameKept g.S.Shadows r1.shadows c.attempt.new.pool m1 m2
+  kept = once_kept g.S.Shadows _ _ _ _ _ _ _ _ _ _ _ once
 
-  held : IsHeld g.S.Shadows.stands g.S.Shadows.frames g.S.Shadows.slots (ground c.args.image.now n) r2 c.attempt.new.pool m2
-  held = once_held g.S.Shadows.stands g.S.Shadows.frames g.S.Shadows.slots g.S.Shadows.directory _ _ _ _ _ _ _ _ _ _ _ once
+  held : IsHeld g.S.Shadows (ground c.args.image.now n) r2 c.attempt.new.pool m2
+  held = once_held g.S.Shadows _ _ _ _ _ _ _ _ _ _ _ once
 
   shadows_same : r2.shadows ≡ r1.shadows
-  shadows_same = shadows_are g.S.Shadows.stands g.S.Shadows.frames g.S.Shadows.slots g.S.Shadows.directory _ _ _ _ _ _ _ _ _ _ _ once
+  shadows_same = shadows_are g.S.Shadows _ _ _ _ _ _ _ _ _ _ _ once
 
   lost_same : r2.lost ≡ r1.lost
-  lost_same = lost_is g.S.Shadows.stands g.S.Shadows.frames g.S.Shadows.slots g.S.Shadows.directory _ _ _ _ _ _ _ _ _ _ _ once
+  lost_same = lost_is g.S.Shadows _ _ _ _ _ _ _ _ _ _ _ once
 
   -- what is kept is behind the guest's frames, where the host wrote nothing
   under : 4096 * n ≤ 4096 * base_of c.attempt.new.pool
   under = let low = c.in-Ok-Asked.ensures.attempts.leaves.held.behind in omega (arith, low)
 
   behind : drop (4096 * n) m2 ≡ drop (4096 * n) m1
-  behind = behind_is g.S.Shadows.stands g.S.Shadows.frames g.S.Shadows.slots g.S.Shadows.directory _ _ _ _ _ _ _ _ _ _ _ once
+  behind = behind_is g.S.Shadows _ _ _ _ _ _ _ _ _ _ _ once
 
   size : length m2 ≡ length m1
-  size = size_is g.S.Shadows.stands g.S.Shadows.frames g.S.Shadows.slots g.S.Shadows.directory _ _ _ _ _ _ _ _ _ _ _ once
+  size = size_is g.S.Shadows _ _ _ _ _ _ _ _ _ _ _ once
 
   asides_same : AreSame (g.S.Shadows.other_roots r1.shadows m1) (g.S.Shadows.other_roots r1.shadows m2)
   asides_same =
       let h = c.in-Ok-Asked.ensures.attempts.leaves.held in
       g.met.S.Shadows.same_other_roots r1.shadows m1 m2 h.stand (g.met.S.Shadows.above r1.shadows c.attempt.new.pool m1 m2 (4096 * n) h.owns under behind size)
 
-  ready : IsReady g.S.Shadows.slots g.S.Shadows.read_from g.S.Shadows.stale g.S.Shadows.value g.S.Shadows.other_roots (ground c.args.image.now n) r2.cpu r2.shadows m2
+  ready : IsReady g.S.Shadows (ground c.args.image.now n) r2.cpu r2.shadows m2
   ready =
       let met = g.met.S.Shadows in
       let h = c.in-Ok-Asked.ensures.attempts.leaves.held in
-      let tracks : Tracks g.S.Shadows.stands g.S.Shadows.slots g.S.Shadows.read_from g.S.Shadows.stale g.S.Shadows.value g.S.Shadows.other_roots g.S.Shadows.write_protected g.S.Shadows.directory = record {
+      let tracks : Tracks g.S.Shadows = record {
         host = met.host;
         barred = met.barred;
         read_from_is_protected = met.read_from_is_protected;
         other_roots_protected = met.other_roots_protected;
       } in
-      let rules = once_rules g.S.Shadows.stands g.S.Shadows.frames g.S.Shadows.slots g.S.Shadows.directory _ _ _ _ _ _ _ _ _ _ _ once in
-      let cpu : r1.cpu ≡ r0.cpu = cpu_is g.S.Shadows.stands g.S.Shadows.frames g.S.Shadows.slots g.S.Shadows.directory _ _ _ _ _ _ _ _ _ _ _ once in
+      let rules = once_rules g.S.Shadows _ _ _ _ _ _ _ _ _ _ _ once in
+      let cpu : r1.cpu ≡ r0.cpu = cpu_is g.S.Shadows _ _ _ _ _ _ _ _ _ _ _ once in
       let untouched = λ (at : ℕ) (t : is_among at (g.S.Shadows.write_protected r1.shadows) ≡ true).
-      once_untouched g.S.Shadows.stands g.S.Shadows.frames g.S.Shadows.slots g.S.Shadows.directory _ _ _ _ _ _ _ _ _ _ _ once at
-      (unlent g.S.Shadows.stands g.S.Shadows.slots g.S.Shadows.read_from g.S.Shadows.stale g.S.Shadows.value g.S.Shadows.other_roots g.S.Shadows.write_protected g.S.Shadows.directory tracks r1.shadows m1 (side_of (r1.cpu.cpl == 3)) at h.stand h.whole t) in
-      let ready1 = subst (λ (x : Cpu). IsReady g.S.Shadows.slots g.S.Shadows.read_from g.S.Shadows.stale g.S.Shadows.value g.S.Shadows.other_roots (ground c.args.image.now n) x r1.shadows m1) cpu c.in-Ok-Asked.ensures.attempts.leaves.ready in
-      subst (λ (x : g.row.S.Denot). IsReady g.S.Shadows.slots g.S.Shadows.read_from g.S.Shadows.stale g.S.Shadows.value g.S.Shadows.other_roots (ground c.args.image.now n) r2.cpu x m2) (sym shadows_same)
-      (ready_on g.S.Shadows.stands g.S.Shadows.slots g.S.Shadows.read_from g.S.Shadows.stale g.S.Shadows.value g.S.Shadows.other_roots g.S.Shadows.write_protected g.S.Shadows.directory tracks (ground c.args.image.now n) h.wedge r0.cpu r2.cpu r1.shadows m1 m2
+      once_untouched g.S.Shadows _ _ _ _ _ _ _ _ _ _ _ once at
+      (unlent g.S.Shadows tracks r1.shadows m1 (side_of (r1.cpu.cpl == 3)) at h.stand h.whole t) in
+      let ready1 = subst (λ (x : Cpu). IsReady g.S.Shadows (ground c.args.image.now n) x r1.shadows m1) cpu c.in-Ok-Asked.ensures.attempts.leaves.ready in
+      subst (λ (x : g.row.S.Denot). IsReady g.S.Shadows (ground c.args.image.now n) r2.cpu x m2) (sym shadows_same)
+      (ready_on g.S.Shadows tracks (ground c.args.image.now n) h.wedge r0.cpu r2.cpu r1.shadows m1 m2
       h.host held.host rules.0 rules.1 rules.2 untouched kept.slots_are asides_same ready1)
 
-  filled : FillsOn (pages_kept g.S.Shadows.slots g.S.Shadows.other_roots r0.shadows m0) (pages_kept g.S.Shadows.slots g.S.Shadows.other_roots r2.shadows m2) r0.fills r2.fills
+  filled : FillsOn (pages_kept g.S.Shadows r0.shadows m0) (pages_kept g.S.Shadows r2.shadows m2) r0.fills r2.fills
   filled =
-      let pages = λ (s : g.row.S.Denot) (l : List ℕ). pages_kept g.S.Shadows.slots g.S.Shadows.other_roots s l in
-      once_fills g.S.Shadows.stands g.S.Shadows.frames g.S.Shadows.slots g.S.Shadows.directory _ _ _ _ _ _ _ _ _ _ _ once pages (pages r0.shadows m0)
-      (kept_same g.S.Shadows.slots g.S.Shadows.other_roots r1.shadows m1 m2 kept.entries_are asides_same) c.in-Ok-Asked.ensures.accounts.filled
+      let pages = λ (s : g.row.S.Denot) (l : List ℕ). pages_kept g.S.Shadows s l in
+      once_fills g.S.Shadows _ _ _ _ _ _ _ _ _ _ _ once pages (pages r0.shadows m0)
+      (kept_same g.S.Shadows r1.shadows m1 m2 kept.entries_are asides_same) c.in-Ok-Asked.ensures.accounts.filled
 
   -- its pages were settled before
   asked_on : (script : Events) (steps : List Taken) (t : Taken) → AreBytes (shown (ground c.args.image.now n) m2) → c.args.wanted ≡ false → length (free_list c.args.pool.now m0) + r0.held ≡ 512 → Roomy (steps ++ t ∷ [])
-      → IsTakenFrom (wedge c.args.image.now script n) (state_of g.S.Shadows.stands g.S.Shadows.frames g.S.Shadows.slots (wedge c.args.image.now script n) r0 m0) t
-      → t.set ≡ left_of r2.lost.before (set_of g.S.Shadows.stands g.S.Shadows.frames g.S.Shadows.slots r0 m0)
-      → IsCarried g.S.Shadows.slots g.S.Shadows.read_from g.S.Shadows.stale g.S.Shadows.other_roots g.S.Shadows.has_tables_under (wedge c.args.image.now script n) steps t.before r0.shadows m0
-      → IsCarried g.S.Shadows.slots g.S.Shadows.read_from g.S.Shadows.stale g.S.Shadows.other_roots g.S.Shadows.has_tables_under (wedge c.args.image.now script n) (steps ++ t ∷ []) t.after r1.shadows m1
+      → IsTakenFrom (wedge c.args.image.now script n) (state_of g.S.Shadows (wedge c.args.image.now script n) r0 m0) t
+      → t.set ≡ left_of r2.lost.before (set_of g.S.Shadows r0 m0)
+      → IsCarried g.S.Shadows (wedge c.args.image.now script n) steps t.before r0.shadows m0
+      → IsCarried g.S.Shadows (wedge c.args.image.now script n) (steps ++ t ∷ []) t.after r1.shadows m1
   asked_on script steps t bytes unwanted free roomy taken by carried =
-      let by1 : t.set ≡ left_of r1.lost.before (set_of g.S.Shadows.stands g.S.Shadows.frames g.S.Shadows.slots r0 m0) = by ∙ ap (λ (l : Lost). left_of l.before (set_of g.S.Shadows.stands g.S.Shadows.frames g.S.Shadows.slots r0 m0)) lost_same in
-      let k = once_taken g.S.Shadows.stands g.S.Shadows.frames g.S.Shadows.slots g.S.Shadows.directory _ _ _ _ _ _ _ _ _ _ _ once script t taken by1 in
+      let by1 : t.set ≡ left_of r1.lost.before (set_of g.S.Shadows r0 m0) = by ∙ ap (λ (l : Lost). left_of l.before (set_of g.S.Shadows r0 m0)) lost_same in
+      let k = once_taken g.S.Shadows _ _ _ _ _ _ _ _ _ _ _ once script t taken by1 in
       let long = shown_length (ground c.args.image.now n) held.wedge m2 held.host in
       let size_is = ap length k.3 in
       let f = rw c.in-Ok-Asked.field-0-is at c.in-Ok-Asked.ensures.attempts.carried_asked in
       f script steps t unwanted free roomy taken by1 k.0 k.1 k.2 (omega (arith, long, size_is)) (subst AreBytes (sym k.3) bytes) carried
 
   -- and what is kept is as it was
-  carried_still : (m : Setting) (steps : List Taken) (b : State) → IsCarried g.S.Shadows.slots g.S.Shadows.read_from g.S.Shadows.stale g.S.Shadows.other_roots g.S.Shadows.has_tables_under m steps b r1.shadows m1 → IsCarried g.S.Shadows.slots g.S.Shadows.read_from g.S.Shadows.stale g.S.Shadows.other_roots g.S.Shadows.has_tables_under m steps b r2.shadows m2
+  carried_still : (m : Setting) (steps : List Taken) (b : State) → IsCarried g.S.Shadows m steps b r1.shadows m1 → IsCarried g.S.Shadows m steps b r2.shadows m2
   carried_still m steps b h =
       let s = r1.shadows in
       let e = c.in-Ok-Asked.ensures.attempts.leaves.held in
@@ -228,7 +228,7 @@ module _ (g : Over) (c : goal.After-ram g) where
       let stale = g.S.Shadows.stale s in
       let still = c.known_laws.ensures.still m steps b read_from read_from stale stale (g.S.Shadows.other_roots s m1) (g.S.Shadows.other_roots s m2) (entries_of (g.S.Shadows.slots s m1))
       (record { notes = λ frame e. e; marks = λ e. e; others = asides_same }) h.known in
-      subst (λ (x : g.row.S.Denot). IsCarried g.S.Shadows.slots g.S.Shadows.read_from g.S.Shadows.stale g.S.Shadows.other_roots g.S.Shadows.has_tables_under m steps b x m2) (sym shadows_same)
+      subst (λ (x : g.row.S.Denot). IsCarried g.S.Shadows m steps b x m2) (sym shadows_same)
       (record {
         known = subst (λ (x : Set). IsKnown m steps b read_from stale (g.S.Shadows.other_roots s m2) x) (sym kept.entries_are) still;
         opened_to = g.met.S.Shadows.same_tables_under s m1 m2 indices e.stand as_was h.opened_to;
@@ -248,11 +248,11 @@ are_bytes-requires-clause-frames g c = subst (λ (l : List ℕ). 4096 * c.args.r
 pub returns-in-Ok-Asked : goal.returns-in-Ok-Asked
 returns-in-Ok-Asked g c =
     let o = once g c.before in
-    let few = once_few g.S.Shadows.stands g.S.Shadows.frames g.S.Shadows.slots g.S.Shadows.directory _ _ _ _ _ _ _ _ _ _ _ o in
+    let few = once_few g.S.Shadows _ _ _ _ _ _ _ _ _ _ _ o in
     record {
       steps = record {
-        step = λ script. once_goes_on g.S.Shadows.stands g.S.Shadows.frames g.S.Shadows.slots g.S.Shadows.directory _ _ _ _ _ _ _ _ _ _ _ o script;
-        able = once_able g.S.Shadows.stands g.S.Shadows.frames g.S.Shadows.slots g.S.Shadows.directory _ _ _ _ _ _ _ _ _ _ _ o c.steps_keep_able.ensures c.requires.able;
+        step = λ script. once_goes_on g.S.Shadows _ _ _ _ _ _ _ _ _ _ _ o script;
+        able = once_able g.S.Shadows _ _ _ _ _ _ _ _ _ _ _ o c.steps_keep_able.ensures c.requires.able;
         carried = λ script steps t unwanted free roomy taken by carried.
             carried_still g c.before (wedge c.args.image.now script c.args.running.now.frames) (steps ++ t ∷ []) t.after
             (asked_on g c.before script steps t (subst (λ (l : List ℕ). AreBytes (shown (ground c.args.image.now c.args.running.now.frames) l)) c.ram.ensures c.are_bytes.ensures.bytes) unwanted free roomy taken by carried);
@@ -262,17 +262,17 @@ returns-in-Ok-Asked g c =
         leaves = record {
           held = held g c.before;
           ready = ready g c.before;
-          back = λ w. once_back g.S.Shadows.stands g.S.Shadows.frames g.S.Shadows.slots g.S.Shadows.directory _ _ _ _ _ _ _ _ _ _ _ o (c.in-Ok-Asked.ensures.attempts.leaves.back w);
-          count = once_counts g.S.Shadows.stands g.S.Shadows.frames g.S.Shadows.slots g.S.Shadows.directory _ _ _ _ _ _ _ _ _ _ _ o;
+          back = λ w. once_back g.S.Shadows _ _ _ _ _ _ _ _ _ _ _ o (c.in-Ok-Asked.ensures.attempts.leaves.back w);
+          count = once_counts g.S.Shadows _ _ _ _ _ _ _ _ _ _ _ o;
           stays = tt;
         };
       };
       accounts = record {
-        stands = once_stands g.S.Shadows.stands g.S.Shadows.frames g.S.Shadows.slots g.S.Shadows.directory _ _ _ _ _ _ _ _ _ _ _ o;
+        stands = once_stands g.S.Shadows _ _ _ _ _ _ _ _ _ _ _ o;
         counted = (held g c.before).counted;
-        pool = once_keeps g.S.Shadows.stands g.S.Shadows.frames g.S.Shadows.slots g.S.Shadows.directory _ _ _ _ _ _ _ _ _ _ _ o c.args.pool.now c.in-Ok-Asked.ensures.accounts.pool;
+        pool = once_keeps g.S.Shadows _ _ _ _ _ _ _ _ _ _ _ o c.args.pool.now c.in-Ok-Asked.ensures.accounts.pool;
         filled = filled g c.before;
-        frames = once_frames g.S.Shadows.stands g.S.Shadows.frames g.S.Shadows.slots g.S.Shadows.directory _ _ _ _ _ _ _ _ _ _ _ o;
+        frames = once_frames g.S.Shadows _ _ _ _ _ _ _ _ _ _ _ o;
       };
       counts = record { few = omega (arith, few); retired = tt; passed = tt };
       started = c.run_on-one.ensures.started;

@@ -44,8 +44,8 @@ pub returns-then-not-runs-clause-steps : goal.returns-then-not-runs-clause-steps
 returns-then-not-runs-clause-steps g c = record {
   step = λ script.
       let m = wedge c.args.image.now script c.args.running.now.frames in
-      let old = state_of g.S.Shadows.stands g.S.Shadows.frames g.S.Shadows.slots m c.args.running.now (g.H.Host.bytes c.args.host.now) in
-      let new = state_of g.S.Shadows.stands g.S.Shadows.frames g.S.Shadows.slots m c.by_rules.new.running (g.H.Host.bytes c.by_rules.new.host) in
+      let old = state_of g.S.Shadows m c.args.running.now (g.H.Host.bytes c.args.host.now) in
+      let new = state_of g.S.Shadows m c.by_rules.new.running (g.H.Host.bytes c.by_rules.new.host) in
       let before = counted (g.H.Host.retired c.args.host.now) (g.H.Host.passed c.args.host.now) in
       let same = counts_same (g.H.Host.retired c.args.host.now) (g.H.Host.retired c.by_rules.new.host) (g.H.Host.passed c.args.host.now) (g.H.Host.passed c.by_rules.new.host) c.by_rules.ensures.counts.retired c.by_rules.ensures.counts.passed in
       let lost = c.by_rules.new.running.lost in
@@ -53,12 +53,12 @@ returns-then-not-runs-clause-steps g c = record {
       (c.alones_go.ensures m old lost c.by_rules.result new before refl c.requires.able.level (sym c.requires.runs ∙ c.if-not-runs.true) c.by_rules.ensures.alone.before (c.by_rules.ensures.alone.step script));
   able =
       let m = ground c.args.image.now c.args.running.now.frames in
-      let at = λ (r : Running g.row.S.Denot) (memory : List ℕ). state_of g.S.Shadows.stands g.S.Shadows.frames g.S.Shadows.slots m r memory in
+      let at = λ (r : Running g.row.S.Denot) (memory : List ℕ). state_of g.S.Shadows m r memory in
       alone_able c.steps_keep_able.ensures m (at c.args.running.now (g.H.Host.bytes c.args.host.now)) c.by_rules.new.running.lost c.by_rules.result (at c.by_rules.new.running (g.H.Host.bytes c.by_rules.new.host)) refl c.requires.able (c.by_rules.ensures.alone.step []);
   carried =
       on_ok c.by_rules.result
       (λ f script steps t unwanted free roomy taken by carried.
-      f script steps t unwanted free roomy taken (by ∙ left_all c.by_rules.new.running.lost.before (set_of g.S.Shadows.stands g.S.Shadows.frames g.S.Shadows.slots c.args.running.now (g.H.Host.bytes c.args.host.now)) c.by_rules.ensures.alone.before) carried)
+      f script steps t unwanted free roomy taken (by ∙ left_all c.by_rules.new.running.lost.before (set_of g.S.Shadows c.args.running.now (g.H.Host.bytes c.args.host.now)) c.by_rules.ensures.alone.before) carried)
       c.by_rules.ensures.alone.carried;
   clashed = λ dropped. absurd (let f : true ≡ false = sym dropped ∙ c.by_rules.ensures.alone.before in cc);
   leaves = record {
@@ -125,7 +125,7 @@ returns g c = record {
 -- what a step lost says nothing of what is held
 between_lost : {S : Type 0} (g : shadows.Ghosts S) (image : Image) (c : Scene S) (lost : Lost) → IsBetween g image c → IsBetween g image (scene (record c.guest { lost = lost }) c.pool c.memory)
 between_lost g image c lost h = record {
-  held = held_lost g.stands g.frames g.slots (ground image c.guest.frames) c.guest c.pool c.memory lost h.held;
+  held = held_lost g (ground image c.guest.frames) c.guest c.pool c.memory lost h.held;
   ready = h.ready;
   enough = h.enough;
 }

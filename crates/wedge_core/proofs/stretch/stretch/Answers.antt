@@ -16,12 +16,8 @@ use Rattle.wedge_core.proofs.stretch.stretch.Goals as goal
 
 pub returns : goal.returns
 returns g c =
-    let stands = g.S.Shadows.stands in
-    let frames = g.S.Shadows.frames in
-    let slots = g.S.Shadows.slots in
-    let directory = g.S.Shadows.directory in
     let met = g.met.S.Shadows in
-    let laws : Laws stands frames slots directory = record {
+    let laws : Laws g.S.Shadows = record {
       host = met.host;
       stays = met.stays;
       same_frames = met.same_frames;
@@ -47,68 +43,63 @@ returns g c =
     let done = c.run_on.result in
     let ran = c.run_on.ensures.ran in
     let views = c.views_lend.ensures in
-    let view = view_by (directory old.shadows) old.cpu in
+    let view = view_by (g.S.Shadows.directory old.shadows) old.cpu in
     let start = standing old.cpu.regs memory retired passed in
     let may = may_runs old.cpu old.board image c.args.runs c.requires.runs c.if-not-runs.false in
     let quiet = c.steps_until_next-k.ensures.quiet in
     let few = ran.few in
     let most = c.steps_until_next-k.ensures.most in
     let begun = c.requires.bound.0 in
-    let count : now.step ≡ old.step + done = step_then stands frames slots directory old now view start k done memory_then retired_then passed_then ran in
-    let read_from = g.S.Shadows.read_from in
-    let stale = g.S.Shadows.stale in
-    let value = g.S.Shadows.value in
-    let other_roots = g.S.Shadows.other_roots in
-    let write_protected = g.S.Shadows.write_protected in
+    let count : now.step ≡ old.step + done = step_then g.S.Shadows old now view start k done memory_then retired_then passed_then ran in
     let pool = c.requires.held.0 in
     let h = c.requires.held.1 in
-    let shadows = shadows_is stands frames slots directory laws image old.frames old pool memory h views.lends views.sees c.advances.ensures c.requires.able may c.if-running.false retired passed k done now memory_then retired_then passed_then ran in
-    let there = same_there stands frames slots directory laws image old.frames old pool memory h views.lends views.sees c.advances.ensures c.requires.able may c.if-running.false retired passed k done now memory_then retired_then passed_then ran script quiet in
-    let inside = same_in stands frames slots directory laws image old.frames old pool memory h memory_then there in
+    let shadows = shadows_is g.S.Shadows laws image old.frames old pool memory h views.lends views.sees c.advances.ensures c.requires.able may c.if-running.false retired passed k done now memory_then retired_then passed_then ran in
+    let there = same_there g.S.Shadows laws image old.frames old pool memory h views.lends views.sees c.advances.ensures c.requires.able may c.if-running.false retired passed k done now memory_then retired_then passed_then ran script quiet in
+    let inside = same_in g.S.Shadows laws image old.frames old pool memory h memory_then there in
     let asides_then = met.same_other_roots old.shadows memory memory_then h.stand inside in
     record {
       goes = record {
         passes = λ some board is.
-            let kept = set_of stands frames slots old memory in
-            passes_on stands frames slots directory laws image old.frames old c.requires.held.0 memory c.requires.held.1 views.lends views.sees c.advances.ensures c.requires.able may c.if-running.false retired passed k done now memory_then retired_then passed_then ran
+            let kept = set_of g.S.Shadows old memory in
+            passes_on g.S.Shadows laws image old.frames old c.requires.held.0 memory c.requires.held.1 views.lends views.sees c.advances.ensures c.requires.able may c.if-running.false retired passed k done now memory_then retired_then passed_then ran
             script quiet board is kept (part_same kept kept refl) some refl;
-        stays = stays_on stands frames slots directory laws image old.frames old c.requires.held.0 memory c.requires.held.1 views.lends views.sees c.advances.ensures c.requires.able may c.if-running.false retired passed k done now memory_then retired_then passed_then ran
+        stays = stays_on g.S.Shadows laws image old.frames old c.requires.held.0 memory c.requires.held.1 views.lends views.sees c.advances.ensures c.requires.able may c.if-running.false retired passed k done now memory_then retired_then passed_then ran
             script quiet;
       };
       leaves = record {
-        held = λ pool h. held_then stands frames slots directory laws image old.frames old pool memory h views.lends views.sees c.advances.ensures c.requires.able may c.if-running.false retired passed k done now memory_then retired_then passed_then ran script quiet;
-        pool = λ pool h. keeps_then stands frames slots directory laws image old.frames old pool memory h views.lends views.sees c.advances.ensures c.requires.able may c.if-running.false retired passed k done now memory_then retired_then passed_then ran script quiet;
+        held = λ pool h. held_then g.S.Shadows laws image old.frames old pool memory h views.lends views.sees c.advances.ensures c.requires.able may c.if-running.false retired passed k done now memory_then retired_then passed_then ran script quiet;
+        pool = λ pool h. keeps_then g.S.Shadows laws image old.frames old pool memory h views.lends views.sees c.advances.ensures c.requires.able may c.if-running.false retired passed k done now memory_then retired_then passed_then ran script quiet;
         filled =
-            subst (λ (s : g.row.S.Denot). FillsOn (pages_kept slots other_roots old.shadows memory) (pages_kept slots other_roots s memory_then) old.fills now.fills) (sym shadows)
-            (subst (λ (k : ℕ). FillsOn (pages_kept slots other_roots old.shadows memory) (pages_kept slots other_roots old.shadows memory_then) old.fills k) (sym (fills_then stands frames slots directory old now view start k done memory_then retired_then passed_then ran))
-            (fills_same _ _ old.fills (kept_same slots other_roots old.shadows memory memory_then (set_same stands frames slots directory laws image old.frames old pool memory h memory_then there) asides_then)));
+            subst (λ (s : g.row.S.Denot). FillsOn (pages_kept g.S.Shadows old.shadows memory) (pages_kept g.S.Shadows s memory_then) old.fills now.fills) (sym shadows)
+            (subst (λ (k : ℕ). FillsOn (pages_kept g.S.Shadows old.shadows memory) (pages_kept g.S.Shadows old.shadows memory_then) old.fills k) (sym (fills_then g.S.Shadows old now view start k done memory_then retired_then passed_then ran))
+            (fills_same _ _ old.fills (kept_same g.S.Shadows old.shadows memory memory_then (set_same g.S.Shadows laws image old.frames old pool memory h memory_then there) asides_then)));
         ready = λ ready.
-            let tracks : Tracks stands slots read_from stale value other_roots write_protected directory = record {
+            let tracks : Tracks g.S.Shadows = record {
               host = met.host;
               barred = met.barred;
               read_from_is_protected = met.read_from_is_protected;
               other_roots_protected = met.other_roots_protected;
             } in
-            let rules = rules_then stands frames slots directory laws image old.frames old pool memory h views.lends views.sees c.advances.ensures c.requires.able may c.if-running.false retired passed k done now memory_then retired_then passed_then ran in
-            let host_then = host_there stands frames slots directory laws image old.frames old pool memory h views.lends views.sees c.advances.ensures c.requires.able may c.if-running.false retired passed k done now memory_then retired_then passed_then ran script quiet in
-            let untouched = λ (at : ℕ) (t : is_among at (write_protected old.shadows) ≡ true).
-            untouched_then stands frames slots directory laws image old.frames old pool memory h views.lends views.sees c.advances.ensures c.requires.able may c.if-running.false retired passed k done now memory_then retired_then passed_then ran script quiet at
-            (λ other same. unlent stands slots read_from stale value other_roots write_protected directory tracks old.shadows other (side_of (old.cpu.cpl == 3)) at
-            (stand stands frames slots directory laws image old.frames old pool memory h other same) (whole_new stands frames slots directory laws image old.frames old pool memory h other same) t) in
+            let rules = rules_then g.S.Shadows laws image old.frames old pool memory h views.lends views.sees c.advances.ensures c.requires.able may c.if-running.false retired passed k done now memory_then retired_then passed_then ran in
+            let host_then = host_there g.S.Shadows laws image old.frames old pool memory h views.lends views.sees c.advances.ensures c.requires.able may c.if-running.false retired passed k done now memory_then retired_then passed_then ran script quiet in
+            let untouched = λ (at : ℕ) (t : is_among at (g.S.Shadows.write_protected old.shadows) ≡ true).
+            untouched_then g.S.Shadows laws image old.frames old pool memory h views.lends views.sees c.advances.ensures c.requires.able may c.if-running.false retired passed k done now memory_then retired_then passed_then ran script quiet at
+            (λ other same. unlent g.S.Shadows tracks old.shadows other (side_of (old.cpu.cpl == 3)) at
+            (stand g.S.Shadows laws image old.frames old pool memory h other same) (whole_new g.S.Shadows laws image old.frames old pool memory h other same) t) in
             let slots_then = met.same_slots old.shadows memory memory_then h.stand inside in
-            subst (λ (s : g.row.S.Denot). IsReady slots read_from stale value other_roots (ground image old.frames) now.cpu s memory_then) (sym shadows)
-            (ready_on stands slots read_from stale value other_roots write_protected directory tracks (ground image old.frames) h.wedge old.cpu now.cpu old.shadows memory memory_then h.host host_then rules.0 rules.1 rules.2 untouched slots_then asides_then ready);
+            subst (λ (s : g.row.S.Denot). IsReady g.S.Shadows (ground image old.frames) now.cpu s memory_then) (sym shadows)
+            (ready_on g.S.Shadows tracks (ground image old.frames) h.wedge old.cpu now.cpu old.shadows memory memory_then h.host host_then rules.0 rules.1 rules.2 untouched slots_then asides_then ready);
         kept = shadows;
         apart = inside;
-        able = able_then stands frames slots directory laws image old.frames old c.requires.held.0 memory c.requires.held.1 views.lends views.sees c.advances.ensures c.requires.able may c.if-running.false retired passed k done now memory_then retired_then passed_then ran
+        able = able_then g.S.Shadows laws image old.frames old c.requires.held.0 memory c.requires.held.1 views.lends views.sees c.advances.ensures c.requires.able may c.if-running.false retired passed k done now memory_then retired_then passed_then ran
             script quiet;
-        frames = frames_then stands frames slots directory old now view start k done memory_then retired_then passed_then ran;
+        frames = frames_then g.S.Shadows old now view start k done memory_then retired_then passed_then ran;
       };
       counts = record {
         count = count;
         most = omega (arith, count, few, most, begun);
         retired = ran.count;
-        passed = passed_on stands frames slots directory laws image old.frames old c.requires.held.0 memory c.requires.held.1 views.lends views.sees c.advances.ensures c.requires.able may c.if-running.false retired passed k done now memory_then retired_then passed_then ran
+        passed = passed_on g.S.Shadows laws image old.frames old c.requires.held.0 memory c.requires.held.1 views.lends views.sees c.advances.ensures c.requires.able may c.if-running.false retired passed k done now memory_then retired_then passed_then ran
             script quiet;
       };
       ran = λ _ _. record {

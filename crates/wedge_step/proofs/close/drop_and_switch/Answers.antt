@@ -29,7 +29,7 @@ returns-clause-ready g c = λ m low has_tables_under h.
     let cpu = record c.args.worked.now.cpu { cr3 = c.args.before.now.cr3 } in
     let same = c.drop_by-changed.ensures.moved.moves.same.0 in
     let low_mid : m.frames ≤ base_of mid.pool = omega (arith, low, same) in
-    let ready = rules_but g.S.Shadows.slots g.S.Shadows.read_from g.S.Shadows.stale g.S.Shadows.value g.S.Shadows.other_roots (left_out d c.args.pages.now) (λ page. is_among page c.args.pages.now) m cpu cpu mid.shadows mid.ram refl refl refl (λ page o. out_among d c.args.pages.now page o)
+    let ready = rules_but g.S.Shadows (left_out d c.args.pages.now) (λ page. is_among page c.args.pages.now) m cpu cpu mid.shadows mid.ram refl refl refl (λ page o. out_among d c.args.pages.now page o)
     (c.drop_by-changed.ensures.ready m c.args.pages.now low h) in
     let p = c.load.ensures.ready m cpu c.args.worked.now.cpu low_mid refl refl refl ((c.drop_by-changed.ensures.shown m.image).present has_tables_under) ready in
     (p.0, λ back. p.1)
@@ -48,7 +48,7 @@ returns-then-is_through-clause-ready g c = λ m low has_tables_under h.
     let mid = c.drop_by-changed.new in
     let d = c.args.worked.now.dropped in
     let cpu = record c.args.worked.now.cpu { cr3 = c.args.before.now.cr3 } in
-    let ready = through_ready g.S.Shadows.slots g.S.Shadows.read_from g.S.Shadows.stale g.S.Shadows.value g.S.Shadows.other_roots (left_out d c.args.pages.now) m cpu c.args.worked.now.cpu mid.shadows mid.ram (c.is_through.ensures.same c.if-is_through.true) refl refl
+    let ready = through_ready g.S.Shadows (left_out d c.args.pages.now) m cpu c.args.worked.now.cpu mid.shadows mid.ram (c.is_through.ensures.same c.if-is_through.true) refl refl
     (λ page lt. elim (nothing_out d c.drop_by-changed.result c.args.pages.now page (c.is_through.ensures.other c.if-is_through.true)) [ inl gone ↦ inl ((c.drop_by-changed.ensures.changed gone).none page lt) | inr free ↦ inr free ])
     (c.drop_by-changed.ensures.ready m c.args.pages.now low h) in
     (ready, λ back. absurd (let f : false ≡ true = back in cc))

@@ -13,25 +13,25 @@ use Rattle.wedge_step.proofs.close.drop_by.Goals as goal
 
 pub returns-then-are_rules_changed-clause-fewer : goal.returns-then-are_rules_changed-clause-fewer
 returns-then-are_rules_changed-clause-fewer g c =
-    let none = none_pages g.S.Shadows.slots g.S.Shadows.read_from g.S.Shadows.stale g.S.Shadows.value g.S.Shadows.other_roots c.drop_all.new.self c.drop_all.new.ram c.drop_all.ensures.entries c.drop_all.ensures.other_roots in omega (arith, none)
+    let none = none_pages g.S.Shadows c.drop_all.new.self c.drop_all.new.ram c.drop_all.ensures.entries c.drop_all.ensures.other_roots in omega (arith, none)
 
 pub returns-then-not-is_all-clause-ready : goal.returns-then-not-is_all-clause-ready
 returns-then-not-is_all-clause-ready g c = λ m pages low h.
     let same = c.are_rules_changed.ensures.same c.if-are_rules_changed.false in
     let d = c.args.worked.now.dropped in
-    rules_but g.S.Shadows.slots g.S.Shadows.read_from g.S.Shadows.stale g.S.Shadows.value g.S.Shadows.other_roots (λ page. false) (left_out d pages) m c.args.before.now (record c.args.worked.now.cpu { cr3 = c.args.before.now.cr3 }) c.drop_from.new.shadows c.drop_from.new.ram refl same.1 same.0 (λ page o. refl)
+    rules_but g.S.Shadows (λ page. false) (left_out d pages) m c.args.before.now (record c.args.worked.now.cpu { cr3 = c.args.before.now.cr3 }) c.drop_from.new.shadows c.drop_from.new.ram refl same.1 same.0 (λ page o. refl)
     (c.drop_from.ensures.ready m c.args.before.now pages low (sym c.is_all.ensures ∙ c.if-not-is_all.true) h)
 
 pub returns-else-not-is_all-clause-ready : goal.returns-else-not-is_all-clause-ready
 returns-else-not-is_all-clause-ready g c = λ m pages low h.
     let same = c.are_rules_changed.ensures.same c.if-are_rules_changed.false in
     let d = c.args.worked.now.dropped in
-    rules_but g.S.Shadows.slots g.S.Shadows.read_from g.S.Shadows.stale g.S.Shadows.value g.S.Shadows.other_roots (leaving d pages) (left_out d pages) m c.args.before.now (record c.args.worked.now.cpu { cr3 = c.args.before.now.cr3 }) c.args.shadows.now c.args.ram.now refl same.1 same.0
+    rules_but g.S.Shadows (leaving d pages) (left_out d pages) m c.args.before.now (record c.args.worked.now.cpu { cr3 = c.args.before.now.cr3 }) c.args.shadows.now c.args.ram.now refl same.1 same.0
     (λ page o. left_leaving d pages page (sym c.is_all.ensures ∙ c.if-not-is_all.false) o) h
 
 pub returns-then-are_rules_changed-clause-ready : goal.returns-then-are_rules_changed-clause-ready
 returns-then-are_rules_changed-clause-ready g c = λ m pages low h.
-    none_ready g.S.Shadows.slots g.S.Shadows.read_from g.S.Shadows.stale g.S.Shadows.value g.S.Shadows.other_roots (left_out c.args.worked.now.dropped pages) m (record c.args.worked.now.cpu { cr3 = c.args.before.now.cr3 }) c.drop_all.new.self c.drop_all.new.ram
+    none_ready g.S.Shadows (left_out c.args.worked.now.dropped pages) m (record c.args.worked.now.cpu { cr3 = c.args.before.now.cr3 }) c.drop_all.new.self c.drop_all.new.ram
     (c.drop_all.ensures.known.value ∙ h.value_is) c.drop_all.ensures.none c.drop_all.ensures.other_roots
 
 pub drop_from-requires-clause-page : goal.drop_from-requires-clause-page

@@ -25,31 +25,31 @@ pub returns-in-Page-clause-ready : goal.returns-in-Page-clause-ready
 returns-in-Page-clause-ready g c = λ m cpu pages low all h.
     let moves = c.drop_page.ensures.moves c.args.pool.now c.requires.owned.owns in
     let front = front_same m.frames c.args.pool.now c.args.pool.now c.args.ram.now c.drop_page.new.ram _ _ low c.requires.owned.owns moves in
-    fewer_ready g.S.Shadows.slots g.S.Shadows.read_from g.S.Shadows.stale g.S.Shadows.value g.S.Shadows.other_roots (leaving (dropped.Page c.in-Page.page) pages) (λ page. false) m cpu c.args.shadows.now c.drop_page.new.self c.args.ram.now c.drop_page.new.ram c.drop_page.ensures.beside.value
+    fewer_ready g.S.Shadows (leaving (dropped.Page c.in-Page.page) pages) (λ page. false) m cpu c.args.shadows.now c.drop_page.new.self c.args.ram.now c.drop_page.new.ram c.drop_page.ensures.beside.value
     (λ un. sym c.drop_page.ensures.beside.stale ∙ un) (λ f n. c.drop_page.ensures.beside.read_from f ∙ n)
     (λ page lt o. elim (eqb_tells page c.in-Page.page) [
       | inl e ↦ inl (subst (λ (k : ℕ). g.S.Shadows.slots c.drop_page.new.self c.drop_page.new.ram k ≡ None) (sym e.1) c.drop_page.ensures.turns.there)
       | inr n ↦ inr (n.0, within-same _ _ (c.drop_page.ensures.turns.others page lt n.1))
     ])
     (same_shed _ _ c.drop_page.ensures.beside.other_roots) (shown_same m c.args.ram.now c.drop_page.new.ram front)
-    (subst (λ (d : Dropped). IsReadyBut g.S.Shadows.slots g.S.Shadows.read_from g.S.Shadows.stale g.S.Shadows.value g.S.Shadows.other_roots (leaving d pages) m cpu c.args.shadows.now c.args.ram.now) c.in-Page.is h)
+    (subst (λ (d : Dropped). IsReadyBut g.S.Shadows (leaving d pages) m cpu c.args.shadows.now c.args.ram.now) c.in-Page.is h)
 
 pub returns-in-Dir-clause-ready : goal.returns-in-Dir-clause-ready
 returns-in-Dir-clause-ready g c = λ m cpu pages low all h.
     let moves = c.drop_dir.ensures.moves c.args.pool.now c.requires.owned.owns in
     let front = front_same m.frames c.args.pool.now c.args.pool.now c.args.ram.now c.drop_dir.new.ram _ _ low c.requires.owned.owns moves in
-    fewer_ready g.S.Shadows.slots g.S.Shadows.read_from g.S.Shadows.stale g.S.Shadows.value g.S.Shadows.other_roots (leaving (dropped.Dir c.in-Dir.index) pages) (λ page. false) m cpu c.args.shadows.now c.drop_dir.new.self c.args.ram.now c.drop_dir.new.ram c.drop_dir.ensures.beside.value
+    fewer_ready g.S.Shadows (leaving (dropped.Dir c.in-Dir.index) pages) (λ page. false) m cpu c.args.shadows.now c.drop_dir.new.self c.args.ram.now c.drop_dir.new.ram c.drop_dir.ensures.beside.value
     (λ un. sym c.drop_dir.ensures.beside.stale ∙ un) (λ f n. c.drop_dir.ensures.beside.read_from f ∙ n)
     (λ page lt o. elim (eqb_tells (page / 1024) c.in-Dir.index) [
       | inl e ↦ inl (c.drop_dir.ensures.loses.gone page lt e.1)
       | inr n ↦ inr (n.0, within-same _ _ (c.drop_dir.ensures.loses.others page lt n.1))
     ])
     (same_shed _ _ c.drop_dir.ensures.beside.other_roots) (shown_same m c.args.ram.now c.drop_dir.new.ram front)
-    (subst (λ (d : Dropped). IsReadyBut g.S.Shadows.slots g.S.Shadows.read_from g.S.Shadows.stale g.S.Shadows.value g.S.Shadows.other_roots (leaving d pages) m cpu c.args.shadows.now c.args.ram.now) c.in-Dir.is h)
+    (subst (λ (d : Dropped). IsReadyBut g.S.Shadows (leaving d pages) m cpu c.args.shadows.now c.args.ram.now) c.in-Dir.is h)
 
 pub returns-in-All-clause-fewer : goal.returns-in-All-clause-fewer
 returns-in-All-clause-fewer g c =
-    let none = none_pages g.S.Shadows.slots g.S.Shadows.read_from g.S.Shadows.stale g.S.Shadows.value g.S.Shadows.other_roots c.drop_all.new.self c.drop_all.new.ram c.drop_all.ensures.entries c.drop_all.ensures.other_roots in omega (arith, none)
+    let none = none_pages g.S.Shadows c.drop_all.new.self c.drop_all.new.ram c.drop_all.ensures.entries c.drop_all.ensures.other_roots in omega (arith, none)
 
 pub returns-in-Nothing-clause-stay : goal.returns-in-Nothing-clause-stay
 returns-in-Nothing-clause-stay g c = λ all. stays_same _ _ _

@@ -8,13 +8,13 @@ use Rattle.wedge_step.specs.Sight.{sight}
 use Rattle.wedge_step.proofs.close.load.Goals as goal
 
 module _ (g : Over) (c : goal.After-switch g) where
-  switched : Switched g.S.Shadows.slots g.S.Shadows.read_from g.S.Shadows.stale g.S.Shadows.value g.S.Shadows.other_roots c.args.cr3 c.make_way.new.shadows c.switch.new.self c.make_way.new.ram c.switch.new.ram
+  switched : Switched g.S.Shadows c.args.cr3 c.make_way.new.shadows c.switch.new.self c.make_way.new.ram c.switch.new.ram
   switched = record { value_is = c.switch.ensures.value; present = c.switch.ensures.present; beside = c.switch.ensures.other_roots }
 
 pub returns-clause-fewer : goal.returns-clause-fewer
 returns-clause-fewer g c =
     let first = c.make_way.ensures.fewer in
-    let then = loaded_fewer g.S.Shadows.slots g.S.Shadows.read_from g.S.Shadows.stale g.S.Shadows.value g.S.Shadows.other_roots c.args.cr3 c.make_way.new.shadows c.switch.new.self c.make_way.new.ram c.switch.new.ram (switched g c) in
+    let then = loaded_fewer g.S.Shadows c.args.cr3 c.make_way.new.shadows c.switch.new.self c.make_way.new.ram c.switch.new.ram (switched g c) in
     omega (arith, first, then)
 
 pub returns-clause-ready : goal.returns-clause-ready
@@ -22,7 +22,7 @@ returns-clause-ready g c = λ m before after low is pse wp has_tables_under h.
     let same = c.make_way.ensures.moved.moves.same.0 in
     let low_mid : m.frames ≤ base_of c.make_way.new.pool = omega (arith, low, same) in
     let front = front_same m.frames c.make_way.new.pool c.switch.new.pool c.make_way.new.ram c.switch.new.ram _ _ low_mid c.make_way.ensures.moved.owns c.switch.ensures.moves in
-    loaded_ready g.S.Shadows.slots g.S.Shadows.read_from g.S.Shadows.stale g.S.Shadows.value g.S.Shadows.other_roots c.args.cr3 c.make_way.new.shadows c.switch.new.self c.make_way.new.ram c.switch.new.ram (switched g c) m before after is pse wp (shown_same m c.make_way.new.ram c.switch.new.ram front)
+    loaded_ready g.S.Shadows c.args.cr3 c.make_way.new.shadows c.switch.new.self c.make_way.new.ram c.switch.new.ram (switched g c) m before after is pse wp (shown_same m c.make_way.new.ram c.switch.new.ram front)
     ((c.make_way.ensures.shown m.image _).present has_tables_under) (c.make_way.ensures.ready m before low h)
 
 pub make_way-requires-clause-enough : goal.make_way-requires-clause-enough
@@ -45,12 +45,12 @@ returns-clause-moved g c = record { stands = c.switch.ensures.stands; owns = c.s
 
 pub returns-clause-emptied : goal.returns-clause-emptied
 returns-clause-emptied g c = λ w.
-    loaded_none g.S.Shadows.slots g.S.Shadows.read_from g.S.Shadows.stale g.S.Shadows.value g.S.Shadows.other_roots c.args.cr3 c.make_way.new.shadows c.switch.new.self c.make_way.new.ram c.switch.new.ram (switched g c)
+    loaded_none g.S.Shadows c.args.cr3 c.make_way.new.shadows c.switch.new.self c.make_way.new.ram c.switch.new.ram (switched g c)
     (c.make_way.ensures.emptied w).none (c.make_way.ensures.emptied w).alone
 
 pub returns-clause-shows : goal.returns-clause-shows
 returns-clause-shows g c = λ image wp h a.
-    loaded_shows g.S.Shadows.slots g.S.Shadows.read_from g.S.Shadows.stale g.S.Shadows.value g.S.Shadows.other_roots c.args.cr3 c.make_way.new.shadows c.switch.new.self c.make_way.new.ram c.switch.new.ram (switched g c) image wp
+    loaded_shows g.S.Shadows c.args.cr3 c.make_way.new.shadows c.switch.new.self c.make_way.new.ram c.switch.new.ram (switched g c) image wp
     ((c.make_way.ensures.shown image wp).present h) ((c.make_way.ensures.shown image wp).others a)
 
 pub returns-clause-loads : goal.returns-clause-loads

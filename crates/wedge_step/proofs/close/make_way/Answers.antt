@@ -50,18 +50,18 @@ returns-else-free-lt2-clause-ready g c = λ m cpu low h.
     let d = c.drop_pages in
     let moves = d.ensures.moves c.args.pool.now c.requires.owned.owns in
     let front = front_same m.frames c.args.pool.now c.args.pool.now c.args.ram.now d.new.ram _ _ low c.requires.owned.owns moves in
-    fewer_ready g.S.Shadows.slots g.S.Shadows.read_from g.S.Shadows.stale g.S.Shadows.value g.S.Shadows.other_roots (λ page. is_among page c.args.pages.now) (λ page. false) m cpu c.args.shadows.now d.new.shadows c.args.ram.now d.new.ram d.ensures.value
+    fewer_ready g.S.Shadows (λ page. is_among page c.args.pages.now) (λ page. false) m cpu c.args.shadows.now d.new.shadows c.args.ram.now d.new.ram d.ensures.value
     (λ un. sym d.ensures.stale ∙ un) (λ f n. d.ensures.read_from f ∙ n)
     (λ page lt o. chosen_out (is_among page c.args.pages.now) _ _ (d.ensures.gone page lt) (d.ensures.others page lt))
     (same_shed _ _ d.ensures.other_roots) (shown_same m c.args.ram.now d.new.ram front) h
 
 pub returns-then-free-lt2-clause-ready : goal.returns-then-free-lt2-clause-ready
 returns-then-free-lt2-clause-ready g c = λ m cpu low h.
-    none_ready g.S.Shadows.slots g.S.Shadows.read_from g.S.Shadows.stale g.S.Shadows.value g.S.Shadows.other_roots (λ page. false) m cpu c.drop_all.new.self c.drop_all.new.ram (c.drop_all.ensures.known.value ∙ h.value_is) c.drop_all.ensures.none c.drop_all.ensures.other_roots
+    none_ready g.S.Shadows (λ page. false) m cpu c.drop_all.new.self c.drop_all.new.ram (c.drop_all.ensures.known.value ∙ h.value_is) c.drop_all.ensures.none c.drop_all.ensures.other_roots
 
 pub returns-then-free-lt2-clause-fewer : goal.returns-then-free-lt2-clause-fewer
 returns-then-free-lt2-clause-fewer g c =
-    let none = none_pages g.S.Shadows.slots g.S.Shadows.read_from g.S.Shadows.stale g.S.Shadows.value g.S.Shadows.other_roots c.drop_all.new.self c.drop_all.new.ram c.drop_all.ensures.entries c.drop_all.ensures.other_roots in omega (arith, none)
+    let none = none_pages g.S.Shadows c.drop_all.new.self c.drop_all.new.ram c.drop_all.ensures.entries c.drop_all.ensures.other_roots in omega (arith, none)
 
 pub returns-else-free-lt2-clause-fewer : goal.returns-else-free-lt2-clause-fewer
 returns-else-free-lt2-clause-fewer g c = fewer_pages _ _ _ _ (some_part _ _ c.drop_pages.ensures.others) (same_shed _ _ c.drop_pages.ensures.other_roots)

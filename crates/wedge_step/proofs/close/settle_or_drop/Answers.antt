@@ -73,7 +73,7 @@ returns-clause-whole g c = λ may.
 
 -- what the end of the step makes of what is kept
 module _ (g : Over) (c : goal.After-settle g) where
-  settled : Settled g.S.Shadows.slots g.S.Shadows.read_from g.S.Shadows.stale g.S.Shadows.value g.S.Shadows.other_roots c.args.shadows.now c.settle.new.shadows c.args.ram.now c.settle.new.ram (set g c) c.args.state.now.tables c.args.state.now.wrote c.settle.result
+  settled : Settled g.S.Shadows c.args.shadows.now c.settle.new.shadows c.args.ram.now c.settle.new.ram (set g c) c.args.state.now.tables c.args.state.now.wrote c.settle.result
   settled = record {
     entries = c.settle.ensures.settled.entries;
     at = λ page lt. g.met.S.Shadows.entry_at c.settle.new.shadows c.settle.new.ram page lt;
@@ -89,14 +89,14 @@ returns-clause-opens g c = λ image wp h.
 
 pub returns-clause-fewer : goal.returns-clause-fewer
 returns-clause-fewer g c = λ e.
-    closed_none g.S.Shadows.slots g.S.Shadows.read_from g.S.Shadows.stale g.S.Shadows.value g.S.Shadows.other_roots c.args.shadows.now c.settle.new.shadows c.args.ram.now c.settle.new.ram (set g c) c.args.state.now.tables c.args.state.now.wrote c.settle.result (settled g c) e
+    closed_none g.S.Shadows c.args.shadows.now c.settle.new.shadows c.args.ram.now c.settle.new.ram (set g c) c.args.state.now.tables c.args.state.now.wrote c.settle.result (settled g c) e
 
 pub returns-clause-ready : goal.returns-clause-ready
 returns-clause-ready g c = λ out m cpu frames h.
     let below = c.requires.sound.below in
     let low : m.frames ≤ base_of c.args.pool.now = omega (arith, below, frames) in
     let front = front_same m.frames c.args.pool.now c.settle.new.pool c.args.ram.now c.settle.new.ram _ _ low (owns c.requires.sound.stands_now) c.settle.ensures.moves in
-    closed_ready g.S.Shadows.slots g.S.Shadows.read_from g.S.Shadows.stale g.S.Shadows.value g.S.Shadows.other_roots out m cpu c.args.shadows.now c.settle.new.shadows c.args.ram.now c.settle.new.ram (set g c) c.args.state.now.tables c.args.state.now.wrote c.settle.result (settled g c)
+    closed_ready g.S.Shadows out m cpu c.args.shadows.now c.settle.new.shadows c.args.ram.now c.settle.new.ram (set g c) c.args.state.now.tables c.args.state.now.wrote c.settle.result (settled g c)
     (shown_same m c.args.ram.now c.settle.new.ram front) h
 
 pub returns-then-not-are_open-clause-opens : goal.returns-then-not-are_open-clause-opens
@@ -104,11 +104,11 @@ returns-then-not-are_open-clause-opens g c = λ image wp h. subst (AllOpen image
 
 pub returns-then-not-are_open-clause-fewer : goal.returns-then-not-are_open-clause-fewer
 returns-then-not-are_open-clause-fewer g c = λ e.
-    none_pages g.S.Shadows.slots g.S.Shadows.read_from g.S.Shadows.stale g.S.Shadows.value g.S.Shadows.other_roots c.drop_all.new.self c.drop_all.new.ram c.drop_all.ensures.entries c.drop_all.ensures.other_roots
+    none_pages g.S.Shadows c.drop_all.new.self c.drop_all.new.ram c.drop_all.ensures.entries c.drop_all.ensures.other_roots
 
 pub returns-then-not-are_open-clause-ready : goal.returns-then-not-are_open-clause-ready
 returns-then-not-are_open-clause-ready g c = λ out m cpu frames h.
-    none_ready g.S.Shadows.slots g.S.Shadows.read_from g.S.Shadows.stale g.S.Shadows.value g.S.Shadows.other_roots out m cpu c.drop_all.new.self c.drop_all.new.ram (c.drop_all.ensures.known.value ∙ h.value_is) c.drop_all.ensures.none c.drop_all.ensures.other_roots
+    none_ready g.S.Shadows out m cpu c.drop_all.new.self c.drop_all.new.ram (c.drop_all.ensures.known.value ∙ h.value_is) c.drop_all.ensures.none c.drop_all.ensures.other_roots
 
 pub returns-clause-has_tables_under : goal.returns-clause-has_tables_under
 returns-clause-has_tables_under g c = λ indices all o. c.settle.ensures.has_tables_under indices all o

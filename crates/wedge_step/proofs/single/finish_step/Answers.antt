@@ -52,12 +52,12 @@ returns-clause-ready g c = λ m frames is has_tables_under h.
     let opened_mid = subst (λ (b : Bool). AreOpen m.image b (g.S.Shadows.slots mid.shadows c.fill_used.new.ram)) (sym wp) (c.fill_used.ensures.shows m.image is has_tables_under) in
     let ready = c.fill_used.ensures.ready (leaving d pages) m old.cpu frames h in
     let there = λ (page : ℕ). leaving_through d state.visited state.changes c.as_slice.result.now c.requires.under.sound.told c.as_slice.ensures page in
-    let ready_mid = subst (λ (out : ℕ → Bool). IsReadyBut g.S.Shadows.slots g.S.Shadows.read_from g.S.Shadows.stale g.S.Shadows.value g.S.Shadows.other_roots out m mid.cpu mid.shadows c.fill_used.new.ram) (λ i page. there page i)
-    (subst (λ (x : Cpu). IsReadyBut g.S.Shadows.slots g.S.Shadows.read_from g.S.Shadows.stale g.S.Shadows.value g.S.Shadows.other_roots (leaving d pages) m x mid.shadows c.fill_used.new.ram) (sym cpu_is) ready) in
+    let ready_mid = subst (λ (out : ℕ → Bool). IsReadyBut g.S.Shadows out m mid.cpu mid.shadows c.fill_used.new.ram) (λ i page. there page i)
+    (subst (λ (x : Cpu). IsReadyBut g.S.Shadows (leaving d pages) m x mid.shadows c.fill_used.new.ram) (sym cpu_is) ready) in
     let new = c.drop_and_switch-left.new in
     let slots = g.S.Shadows.slots in
     let read_from = g.S.Shadows.read_from in
-    subst (λ (x : Cpu). IsReady slots read_from g.S.Shadows.stale g.S.Shadows.value g.S.Shadows.other_roots m x new.shadows new.ram
+    subst (λ (x : Cpu). IsReady g.S.Shadows m x new.shadows new.ram
     × (c.drop_and_switch-left.result.back ≡ true → AreFound m x (shown m new.ram) x.cr3 (read_from new.shadows) (slots new.shadows new.ram)))
     (sym c.pass.ensures.cpu) (c.drop_and_switch-left.ensures.ready m low opened_mid ready_mid)
 

@@ -50,7 +50,7 @@ returns-in-Err-clause-step g c = λ script.
     let state1 = c.step_in-outcome.new.state in
     let held = c.requires.between.held in
     let m = wedge image script n in
-    let b = state_of g.S.Shadows.stands g.S.Shadows.frames g.S.Shadows.slots m running ram0 in
+    let b = state_of g.S.Shadows m running ram0 in
     let laid = shown_is m image.text 256 ram0 refl refl in
     let start = began m b (wedge_mode image) (space_at (λ r. entries_of (g.S.Shadows.slots running.shadows r)) ram0 c.begin_over.new.state) refl (laying.laid image.text 256 n ram0) laid c.begin_over.ensures.space in
     let raw = rw c.in-Err.is at (c.step_in-outcome.ensures.step m b (record { has = refl; over = refl })) in
@@ -79,12 +79,12 @@ module _ (g : Over) (c : goal.After-worked-1 g) where
   frames1 : state1.control.frames ≡ n
   frames1 = ap (λ (k : Control). k.frames) c.step_in-outcome.ensures.control ∙ c.begin_over.ensures.frames
 
-  a : After g.S.Shadows.stands g.S.Shadows.frames g.S.Shadows.slots image n running.shadows c.args.pool.now ram0 ram1
+  a : After g.S.Shadows image n running.shadows c.args.pool.now ram0 ram1
   a =
       let hid = sym (c.begin_over.ensures.hides n ram1)
       ∙ (subst (λ (k : ℕ). laying.hidden c.begin_over.new.state.guard k ram1 ≡ laying.hidden c.begin_over.new.state.guard k ram0) c.begin_over.ensures.frames c.step_in-outcome.ensures.hidden ∙ c.begin_over.ensures.hides n ram0) in
       let fits1 : 4096 * n ≤ length ram1 = (let q = c.step_in-outcome.ensures.sound.frames_in in omega (arith, q, frames1)) in
-      after g.S.Shadows.stands g.S.Shadows.frames g.S.Shadows.slots g.met.S.Shadows.above g.met.S.Shadows.same_frames g.met.S.Shadows.same_slots g.met.S.Shadows.same_entries image running c.args.pool.now ram0 ram1 256 (text_pages image) c.requires.between.held fits1
+      after g.S.Shadows g.met.S.Shadows.above g.met.S.Shadows.same_frames g.met.S.Shadows.same_slots g.met.S.Shadows.same_entries image running c.args.pool.now ram0 ram1 256 (text_pages image) c.requires.between.held fits1
       refl refl hid
 
   asides1 : AreSame (g.S.Shadows.other_roots running.shadows ram0) (g.S.Shadows.other_roots running.shadows ram1)
@@ -107,7 +107,7 @@ module _ (g : Over) (c : goal.After-worked-1 g) where
     m = wedge image script n
 
     abbrev b : State
-    b = state_of g.S.Shadows.stands g.S.Shadows.frames g.S.Shadows.slots m running ram0
+    b = state_of g.S.Shadows m running ram0
 
     abbrev s1 : Space
     s1 = space_at (λ r. entries_of (g.S.Shadows.slots running.shadows r)) ram1 state1
@@ -119,7 +119,7 @@ module _ (g : Over) (c : goal.After-worked-1 g) where
         let k = r.frames in
         let old = c.args.ram.now in
         let m1 = wedge im script k in
-        let b1 = state_of g.S.Shadows.stands g.S.Shadows.frames g.S.Shadows.slots m1 r old in
+        let b1 = state_of g.S.Shadows m1 r old in
         let laid = shown_is m1 im.text 256 old refl refl in
         let start = began m1 b1 (wedge_mode im) (space_at (λ x. entries_of (g.S.Shadows.slots r.shadows x)) old c.begin_over.new.state) refl (laying.laid im.text 256 k old) laid c.begin_over.ensures.space in
         let raw = rw c.in-Ok.is at (c.step_in-outcome.ensures.step m1 b1 (record { has = refl; over = refl })) in
@@ -130,11 +130,11 @@ module _ (g : Over) (c : goal.After-worked-1 g) where
         let here : s1.ram ≡ laying.shown c.begin_over.new.state.guard n ram1 = λ i. laying.shown_by (c.step_in-outcome.ensures.text i).now (frames1 i) ram1 in
         here ∙ (c.begin_over.ensures.lays n ram1 ∙ shown_is m image.text 256 ram1 refl refl)
 
-  behind1 : IsReadyBehind g.S.Shadows.slots g.S.Shadows.read_from g.S.Shadows.stale g.S.Shadows.value g.S.Shadows.other_roots (leaving c.in-Ok.worked.dropped (pages_of state1.visited state1.changes)) (ground image n) running.cpu running.shadows ram1
+  behind1 : IsReadyBehind g.S.Shadows (leaving c.in-Ok.worked.dropped (pages_of state1.visited state1.changes)) (ground image n) running.cpu running.shadows ram1
       (changed (entries_of (g.S.Shadows.slots running.shadows ram1)) state1.changes) state1.tables state1.wrote
   behind1 =
       let held = c.requires.between.held in
-      let k : Steps g.S.Shadows.slots g.S.Shadows.read_from g.S.Shadows.stale g.S.Shadows.value g.S.Shadows.other_roots image n (b []) running.shadows ram0 ram1 = record {
+      let k : Steps g.S.Shadows image n (b []) running.shadows ram0 ram1 = record {
         wedge = held.wedge;
         host = held.host;
         small = held.size.1;
@@ -144,13 +144,13 @@ module _ (g : Over) (c : goal.After-worked-1 g) where
         entries = a.entries_same;
         same = asides1;
       } in
-      went_ready g.S.Shadows.slots g.S.Shadows.read_from g.S.Shadows.stale g.S.Shadows.value g.S.Shadows.other_roots image n (b []) running.shadows ram0 ram1 k c.requires.between.ready c.steps_follow.ensures c.in-Ok.worked c.step_in-outcome.new.board (s1 []) state1.changes (went []) (ram1_is []) refl
+      went_ready g.S.Shadows image n (b []) running.shadows ram0 ram1 k c.requires.between.ready c.steps_follow.ensures c.in-Ok.worked c.step_in-outcome.new.board (s1 []) state1.changes (went []) (ram1_is []) refl
 
 module _ (g : Over) (c : goal.After-finish_step g) where
   abbrev d : goal.After-worked-1 g
   d = c.before
 
-  ready1 : IsReady g.S.Shadows.slots g.S.Shadows.read_from g.S.Shadows.stale g.S.Shadows.value g.S.Shadows.other_roots (ground (image g d) (n g d)) c.finish_step.new.running.cpu c.finish_step.new.running.shadows c.finish_step.new.ram
+  ready1 : IsReady g.S.Shadows (ground (image g d) (n g d)) c.finish_step.new.running.cpu c.finish_step.new.running.shadows c.finish_step.new.ram
       × (c.finish_step.new.running.lost.back ≡ true → AreFound (ground (image g d) (n g d)) c.finish_step.new.running.cpu (shown (ground (image g d) (n g d)) c.finish_step.new.ram) c.finish_step.new.running.cpu.cr3 (g.S.Shadows.read_from c.finish_step.new.running.shadows) (g.S.Shadows.slots c.finish_step.new.running.shadows c.finish_step.new.ram))
   ready1 = c.finish_step.ensures.ready (ground (image g d) (n g d)) (sym (frames1 g d)) c.text_frames-count.ensures (open1 g d) (behind1 g d)
 
@@ -160,7 +160,7 @@ returns-in-Ok-clause-step g c = λ script.
     let m = wedge (image g d) script (n g d) in
     let front = front_same (n g d) c.args.pool.now c.finish_step.new.pool (ram1 g d) c.finish_step.new.ram (g.S.Shadows.frames (running g d).shadows (ram1 g d)) (g.S.Shadows.frames c.finish_step.new.running.shadows c.finish_step.new.ram) c.requires.between.held.behind (owns c.step_in-outcome.ensures.sound.stands_now) c.finish_step.ensures.moved.moves in
     let ram_is : shown m c.finish_step.new.ram ≡ (s1 g d script).ram = shown_same m (ram1 g d) c.finish_step.new.ram front ∙ sym (ram1_is g d script) in
-    let new = state_of g.S.Shadows.stands g.S.Shadows.frames g.S.Shadows.slots m c.finish_step.new.running c.finish_step.new.ram in
+    let new = state_of g.S.Shadows m c.finish_step.new.running c.finish_step.new.ram in
     let whole = dropping c.in-Ok.worked.dropped (s1 g d script).set in
     let left = is_left m new whole c.finish_step.new.running.lost c.finish_step.ensures.left
     (λ back. all_loosened (ground (image g d) (n g d)) c.finish_step.new.running.cpu (shown (ground (image g d) (n g d)) c.finish_step.new.ram) c.finish_step.new.running.cpu.cr3 (g.S.Shadows.read_from c.finish_step.new.running.shadows) (g.S.Shadows.slots c.finish_step.new.running.shadows c.finish_step.new.ram)
@@ -173,14 +173,14 @@ returns-in-Ok-clause-carried g c = λ script steps t unwanted free roomy taken b
     let d = c.before in
     let last = s1 g d script in
     let begun = space_at (λ r. entries_of (g.S.Shadows.slots (running g d).shadows r)) (ram0 g d) c.begin_over.new.state in
-    let widens : Widens g.S.Shadows.stands g.S.Shadows.frames g.S.Shadows.other_roots g.S.Shadows.has_tables_under = record { same_other_roots = g.met.S.Shadows.same_other_roots; same_tables_under = g.met.S.Shadows.same_tables_under; wider = g.met.S.Shadows.wider; sized = g.met.S.Reloads.sized } in
+    let widens : Widens g.S.Shadows = record { same_other_roots = g.met.S.Shadows.same_other_roots; same_tables_under = g.met.S.Shadows.same_tables_under; wider = g.met.S.Shadows.wider; sized = g.met.S.Reloads.sized } in
     let sound = c.step_in-outcome.ensures.sound in
     let pages = sound.visits in
     let most = sound.few in
     let ram_is : last.ram ≡ shown (ground (image g d) (n g d)) (ram1 g d) = ram1_is g d script ∙ any_script (image g d) script (n g d) (ram1 g d) in
     let long = c.are_bytes.ensures.length in
     let same = ap length ram_is in
-    went_on g.S.Shadows.stands g.S.Shadows.frames g.S.Shadows.slots g.S.Shadows.read_from g.S.Shadows.stale g.S.Shadows.value g.S.Shadows.other_roots g.S.Shadows.has_tables_under widens c.known_laws.ensures (image g d) script (running g d) c.args.pool.now (ram0 g d) (ram1 g d)
+    went_on g.S.Shadows widens c.known_laws.ensures (image g d) script (running g d) c.args.pool.now (ram0 g d) (ram1 g d)
     c.requires.between.held (a g d) steps t (entries_of (g.S.Shadows.slots (running g d).shadows (ram0 g d))) free roomy taken by (record { known = carried.known; opened_to = carried.opened_to }) last (state1 g d).changes refl sound.told c.finish_step.new.running.shadows c.finish_step.new.ram c.finish_step.ensures.has_tables_under
     c.in-Ok.worked c.step_in-outcome.new.board (went g d script) (rw c.in-Ok.is at c.step_in-outcome.ensures.roots) c.requires.between.ready (omega (arith, long, same)) (subst AreBytes (sym ram_is) c.are_bytes.ensures.bytes) begun c.text_frames-count.result (state1 g d).control.frames c.text_frames-count.ensures
     (rw c.in-Ok.is at c.step_in-outcome.ensures.uses) (ap (λ (x : Space). x.visited) c.begin_over.ensures.space) (ap (λ (x : Space). x.mode) c.begin_over.ensures.space) sound.within (omega (arith, pages, most)) (c.finish_step.ensures.ends unwanted)
@@ -225,7 +225,7 @@ pub finish_step-requires-clause-under : goal.finish_step-requires-clause-under
 finish_step-requires-clause-under g c = record {
   sound = c.step_in-outcome.ensures.sound;
   counted = c.requires.between.held.counted ∙ ap length (sym (a g c).frames_same);
-  few = few_after g.S.Shadows.stands g.S.Shadows.frames g.S.Shadows.slots (image g c) (running g c) c.args.pool.now (ram0 g c) (ram1 g c) c.requires.between.held (a g c);
+  few = few_after g.S.Shadows (image g c) (running g c) c.args.pool.now (ram0 g c) (ram1 g c) c.requires.between.held (a g c);
 }
 
 pub finish_step-requires-clause-counts : goal.finish_step-requires-clause-counts
@@ -266,7 +266,7 @@ returns-in-Err-clause-accounts g c =
       counted = held.counted ∙ ap length (sym frames_same);
       pool = keeps_above c.args.pool.now ram0 ram1 (4096 * n) fs gs held.owns.stands behind left.above left.size frames_same;
       filled = fills_same _ _ running.fills
-          (kept_same g.S.Shadows.slots g.S.Shadows.other_roots running.shadows ram0 ram1 (g.met.S.Shadows.same_entries running.shadows ram0 ram1 held.stand same) (g.met.S.Shadows.same_other_roots running.shadows ram0 ram1 held.stand same));
+          (kept_same g.S.Shadows running.shadows ram0 ram1 (g.met.S.Shadows.same_entries running.shadows ram0 ram1 held.stand same) (g.met.S.Shadows.same_other_roots running.shadows ram0 ram1 held.stand same));
       frames = refl;
     }
 
@@ -282,8 +282,8 @@ returns-in-Ok-clause-accounts g c =
     record {
       stands = c.finish_step.ensures.moved.stands;
       counted = c.finish_step.ensures.counts.counted;
-      pool = keeps_then g.S.Shadows.stands g.S.Shadows.frames g.S.Shadows.slots (image g d) (running g d) c.finish_step.new.running c.args.pool.now c.finish_step.new.pool (ram0 g d) (ram1 g d) c.finish_step.new.ram c.requires.between.held (a g d) c.finish_step.ensures.moved.moves;
-      filled = fills_join _ _ _ _ _ _ (fills_same _ _ (running g d).fills (kept_same g.S.Shadows.slots g.S.Shadows.other_roots (running g d).shadows (ram0 g d) (ram1 g d) (a g d).entries_same (asides1 g d))) c.finish_step.ensures.counts.filled;
+      pool = keeps_then g.S.Shadows (image g d) (running g d) c.finish_step.new.running c.args.pool.now c.finish_step.new.pool (ram0 g d) (ram1 g d) c.finish_step.new.ram c.requires.between.held (a g d) c.finish_step.ensures.moved.moves;
+      filled = fills_join _ _ _ _ _ _ (fills_same _ _ (running g d).fills (kept_same g.S.Shadows (running g d).shadows (ram0 g d) (ram1 g d) (a g d).entries_same (asides1 g d))) c.finish_step.ensures.counts.filled;
       frames = c.finish_step.ensures.passes.frames;
     }
 
@@ -305,12 +305,12 @@ returns-in-Ok-clause-between g c =
     let lengths = c.finish_step.ensures.moved.moves.lengths in
     let new = c.finish_step.new.running in
     let frames = sym c.finish_step.ensures.passes.frames in
-    let held = held_then g.S.Shadows.stands g.S.Shadows.frames g.S.Shadows.slots (image g d) (running g d) c.finish_step.new.running c.args.pool.now c.finish_step.new.pool (ram0 g d) (ram1 g d) c.finish_step.new.ram c.requires.between.held (a g d) (owns c.step_in-outcome.ensures.sound.stands_now) c.finish_step.ensures.moved.moves
+    let held = held_then g.S.Shadows (image g d) (running g d) c.finish_step.new.running c.args.pool.now c.finish_step.new.pool (ram0 g d) (ram1 g d) c.finish_step.new.ram c.requires.between.held (a g d) (owns c.step_in-outcome.ensures.sound.stands_now) c.finish_step.ensures.moved.moves
     c.finish_step.ensures.moved.stands c.finish_step.ensures.moved.owns c.finish_step.ensures.counts.counted c.finish_step.ensures.counts.fills c.finish_step.ensures.passes.frames within2
     (subst (λ (x : Cpu). AreOpen (image g d) (wp_of x) slots2) (sym c.finish_step.ensures.passes.cpu) open2) in
     record {
-      held = subst (λ (k : ℕ). IsHeld g.S.Shadows.stands g.S.Shadows.frames g.S.Shadows.slots (ground (image g d) k) new c.finish_step.new.pool c.finish_step.new.ram) frames held;
-      ready = subst (λ (k : ℕ). IsReady g.S.Shadows.slots g.S.Shadows.read_from g.S.Shadows.stale g.S.Shadows.value g.S.Shadows.other_roots (ground (image g d) k) new.cpu new.shadows c.finish_step.new.ram) frames (ready1 g c).0;
+      held = subst (λ (k : ℕ). IsHeld g.S.Shadows (ground (image g d) k) new c.finish_step.new.pool c.finish_step.new.ram) frames held;
+      ready = subst (λ (k : ℕ). IsReady g.S.Shadows (ground (image g d) k) new.cpu new.shadows c.finish_step.new.ram) frames (ready1 g c).0;
       enough = omega (arith, all, counted, now, free, as_many, lengths);
     }
 

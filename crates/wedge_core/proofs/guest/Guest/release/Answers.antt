@@ -5,6 +5,7 @@ use Rattle.wedge_step.specs.Filled.{IsFilled, pages_kept}
 use Rattle.wedge_step.specs.Ready.{IsReady}
 use Rattle.wedge_core.proofs.Guests.{none_kept, outside_of}
 use Rattle.shadow_cache.specs.Views as roots
+use Rattle.wedge_core.specs.OfRoots.{of_roots}
 use Rattle.wedge_step.specs.Standing.{IsHeld, ground}
 use Rattle.wedge_step.proofs.Readying.{none_ready, none_pages}
 use Rattle.wedge_core.proofs.Released.{held_on}
@@ -25,14 +26,14 @@ returns-clause-releases g c = record {
   again = λ image h.
       let old = c.args.self.now.running in
       let d = c.drop_all in
-      let here = subst (λ (l : List ℕ). IsHeld roots.stands roots.frames roots.slots (ground image old.frames) old c.args.pool.now l) (sym c.ram_mut.ensures.ram) h in
-      subst (λ (l : List ℕ). IsHeld roots.stands roots.frames roots.slots (ground image old.frames) (record old { shadows = d.new.self; held = 2 }) d.new.pool l) (sym (g.met.H.Host.bytes_changed c.args.host.now d.new.ram))
+      let here = subst (λ (l : List ℕ). IsHeld of_roots (ground image old.frames) old c.args.pool.now l) (sym c.ram_mut.ensures.ram) h in
+      subst (λ (l : List ℕ). IsHeld of_roots (ground image old.frames) (record old { shadows = d.new.self; held = 2 }) d.new.pool l) (sym (g.met.H.Host.bytes_changed c.args.host.now d.new.ram))
       (held_on image old.frames old d.new.self c.args.pool.now d.new.pool c.ram_mut.result.now d.new.ram d.ensures.stands d.ensures.none d.ensures.entries d.ensures.two d.ensures.owns d.ensures.moves here);
   ready = λ image h.
       let old = c.args.self.now.running in
       let d = c.drop_all in
-      subst (λ (l : List ℕ). IsReady roots.slots roots.read_from roots.stale roots.value roots.other_roots (ground image old.frames) old.cpu d.new.self l) (sym (g.met.H.Host.bytes_changed c.args.host.now d.new.ram))
-      (none_ready roots.slots roots.read_from roots.stale roots.value roots.other_roots (λ page. false) (ground image old.frames) old.cpu d.new.self d.new.ram (d.ensures.known.value ∙ h.value_is) d.ensures.none d.ensures.other_roots);
+      subst (λ (l : List ℕ). IsReady of_roots (ground image old.frames) old.cpu d.new.self l) (sym (g.met.H.Host.bytes_changed c.args.host.now d.new.ram))
+      (none_ready of_roots (λ page. false) (ground image old.frames) old.cpu d.new.self d.new.ram (d.ensures.known.value ∙ h.value_is) d.ensures.none d.ensures.other_roots);
   cpu = refl;
   board = refl;
   frames = refl;
@@ -41,8 +42,8 @@ returns-clause-releases g c = record {
   filled =
       let d = c.drop_all in
       let fills = c.args.self.now.running.fills in
-      subst (λ (l : List ℕ). IsFilled (pages_kept roots.slots roots.other_roots d.new.self l) fills) (sym (g.met.H.Host.bytes_changed c.args.host.now d.new.ram))
-      (none_kept (pages_kept roots.slots roots.other_roots d.new.self d.new.ram) fills (none_pages roots.slots roots.read_from roots.stale roots.value roots.other_roots d.new.self d.new.ram d.ensures.entries d.ensures.other_roots));
+      subst (λ (l : List ℕ). IsFilled (pages_kept of_roots d.new.self l) fills) (sym (g.met.H.Host.bytes_changed c.args.host.now d.new.ram))
+      (none_kept (pages_kept of_roots d.new.self d.new.ram) fills (none_pages of_roots d.new.self d.new.ram d.ensures.entries d.ensures.other_roots));
   outside =
       let d = c.drop_all in
       let p = c.args.pool.now in

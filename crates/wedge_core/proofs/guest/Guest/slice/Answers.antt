@@ -3,6 +3,7 @@ use Rattle.std.specs.FinMap.{empty}
 use Rattle.frame_pool.specs.Pool.{free_list}
 use Rattle.shadow_tables.specs.Entries.{entries_of}
 use Rattle.shadow_cache.specs.Views as roots
+use Rattle.wedge_core.specs.OfRoots.{of_roots}
 use Rattle.shadow_cache.specs.declared.roots.Roots.{Roots}
 use Rattle.machine_model.specs.State.{State, wedge}
 use Rattle.native_steps.specs.Mirrors.{shown}
@@ -36,13 +37,13 @@ pub steps_to-requires-clause-between : goal.steps_to-requires-clause-between
 steps_to-requires-clause-between g c = record {
   held =
       let begun = c.begin.new.self.running in
-      subst (λ (n : ℕ). IsHeld roots.stands roots.frames roots.slots (ground c.args.image.now n) begun c.begin.new.pool (g.H.Host.bytes c.begin.new.host)) (sym (same_frames c.args.self.now.running begun c.begin.ensures.begins.running))
+      subst (λ (n : ℕ). IsHeld of_roots (ground c.args.image.now n) begun c.begin.new.pool (g.H.Host.bytes c.begin.new.host)) (sym (same_frames c.args.self.now.running begun c.begin.ensures.begins.running))
       (c.begin.ensures.begins.held c.args.image.now c.requires.between.held);
   ready =
       let old = c.args.self.now.running in
       let begun = c.begin.new.self.running in
       let ready = c.begin.ensures.begins.ready c.args.image.now c.requires.between.ready in
-      subst (λ (n : ℕ). IsReady roots.slots roots.read_from roots.stale roots.value roots.other_roots (ground c.args.image.now n) begun.cpu begun.shadows (g.H.Host.bytes c.begin.new.host)) (sym (same_frames old begun c.begin.ensures.begins.running)) ready;
+      subst (λ (n : ℕ). IsReady of_roots (ground c.args.image.now n) begun.cpu begun.shadows (g.H.Host.bytes c.begin.new.host)) (sym (same_frames old begun c.begin.ensures.begins.running)) ready;
   enough =
       let held_now = c.begin.ensures.begins.held c.args.image.now c.requires.between.held in
       let count = c.requires.between.held.counted in
@@ -58,12 +59,12 @@ returns-clause-leaves g c = record {
   held =
       let old = c.args.self.now.running in
       let begun = c.begin.new.self.running in
-      subst (λ (n : ℕ). IfReached c.steps_to.result (IsHeld roots.stands roots.frames roots.slots (ground c.args.image.now n) c.steps_to.new.running c.steps_to.new.pool (g.H.Host.bytes c.steps_to.new.host))) (same_frames old begun c.begin.ensures.begins.running) c.steps_to.ensures.leaves.held;
+      subst (λ (n : ℕ). IfReached c.steps_to.result (IsHeld of_roots (ground c.args.image.now n) c.steps_to.new.running c.steps_to.new.pool (g.H.Host.bytes c.steps_to.new.host))) (same_frames old begun c.begin.ensures.begins.running) c.steps_to.ensures.leaves.held;
   ready =
       let old = c.args.self.now.running in
       let begun = c.begin.new.self.running in
       let end = c.steps_to.new.running in
-      subst (λ (n : ℕ). IfReached c.steps_to.result (IsReady roots.slots roots.read_from roots.stale roots.value roots.other_roots (ground c.args.image.now n) end.cpu end.shadows (g.H.Host.bytes c.steps_to.new.host))) (same_frames old begun c.begin.ensures.begins.running) c.steps_to.ensures.leaves.ready;
+      subst (λ (n : ℕ). IfReached c.steps_to.result (IsReady of_roots (ground c.args.image.now n) end.cpu end.shadows (g.H.Host.bytes c.steps_to.new.host))) (same_frames old begun c.begin.ensures.begins.running) c.steps_to.ensures.leaves.ready;
   able = c.steps_to.ensures.leaves.able;
   counted = c.steps_to.ensures.leaves.counted;
   stands = c.steps_to.ensures.leaves.stands;
@@ -80,9 +81,9 @@ returns-clause-leaves g c = record {
   filled =
       let old = c.args.self.now.running in
       let begun = c.begin.new.self.running in
-      let first = pages_kept roots.slots roots.other_roots begun.shadows (g.H.Host.bytes c.begin.new.host) in
-      let pages = pages_kept roots.slots roots.other_roots old.shadows (g.H.Host.bytes c.args.host.now) in
-      let last = pages_kept roots.slots roots.other_roots c.steps_to.new.running.shadows (g.H.Host.bytes c.steps_to.new.host) in
+      let first = pages_kept of_roots begun.shadows (g.H.Host.bytes c.begin.new.host) in
+      let pages = pages_kept of_roots old.shadows (g.H.Host.bytes c.args.host.now) in
+      let last = pages_kept of_roots c.steps_to.new.running.shadows (g.H.Host.bytes c.steps_to.new.host) in
       subst (λ (n : ℕ). FillsOn pages last n c.steps_to.new.running.fills) (same_fills old begun c.begin.ensures.begins.running) (more_first first pages last begun.fills c.steps_to.new.running.fills c.begin.ensures.begins.fewer c.steps_to.ensures.leaves.filled);
   frames = c.steps_to.ensures.leaves.frames ∙ same_frames c.args.self.now.running c.begin.new.self.running c.begin.ensures.begins.running;
 }
@@ -101,9 +102,9 @@ returns-clause-own g c = record {
   filled =
       let old = c.args.self.now.running in
       let begun = c.begin.new.self.running in
-      let first = pages_kept roots.slots roots.other_roots begun.shadows (g.H.Host.bytes c.begin.new.host) in
-      let pages = pages_kept roots.slots roots.other_roots old.shadows (g.H.Host.bytes c.args.host.now) in
-      let last = pages_kept roots.slots roots.other_roots c.steps_to.new.running.shadows (g.H.Host.bytes c.steps_to.new.host) in
+      let first = pages_kept of_roots begun.shadows (g.H.Host.bytes c.begin.new.host) in
+      let pages = pages_kept of_roots old.shadows (g.H.Host.bytes c.args.host.now) in
+      let last = pages_kept of_roots c.steps_to.new.running.shadows (g.H.Host.bytes c.steps_to.new.host) in
       still_filled pages last old.fills c.steps_to.new.running.fills
       (subst (λ (n : ℕ). FillsOn pages last n c.steps_to.new.running.fills) (same_fills old begun c.begin.ensures.begins.running) (more_first first pages last begun.fills c.steps_to.new.running.fills c.begin.ensures.begins.fewer c.steps_to.ensures.leaves.filled));
 }
@@ -136,27 +137,27 @@ returns-clause-slice g c =
     let tells = g.O.Sink.taken c.steps_to.new.out in
     let wanted = g.L.Notes.wants c.args.notes.now in
     let on = NotesOn wanted (g.L.Notes.tells c.args.notes.now) (g.L.Notes.tells c.steps_to.new.notes) in
-    let first = pages_kept roots.slots roots.other_roots begun.shadows m1 in
-    let pages = pages_kept roots.slots roots.other_roots old.shadows m0 in
-    let Knows = λ (n : ℕ). IsCarried roots.slots roots.read_from roots.stale roots.other_roots roots.has_tables_under (wedge image script n) [] (state_of roots.stands roots.frames roots.slots (wedge image script n) begun m1) begun.shadows m1
+    let first = pages_kept of_roots begun.shadows m1 in
+    let pages = pages_kept of_roots old.shadows m0 in
+    let Knows = λ (n : ℕ). IsCarried of_roots (wedge image script n) [] (state_of of_roots (wedge image script n) begun m1) begun.shadows m1
     × (length (free_list c.begin.new.pool m1) + begun.held ≡ 512) × (wanted ≡ false) in
     let starts = BeginsEmpty (entries_of (roots.slots old.shadows m0)) (length (free_list c.args.pool.now m0)) old.held wanted in
-    let by_frames = subst (λ (n : ℕ). SliceAs (wedge image script n) bound (state_of roots.stands roots.frames roots.slots (wedge image script n) begun m1) (state_of roots.stands roots.frames roots.slots (wedge image script n) end m2) mid after told tells first begun.fills end.fills wanted on (Knows n) c.steps_to.result)
+    let by_frames = subst (λ (n : ℕ). SliceAs (wedge image script n) bound (state_of of_roots (wedge image script n) begun m1) (state_of of_roots (wedge image script n) end m2) mid after told tells first begun.fills end.fills wanted on (Knows n) c.steps_to.result)
     (same_frames old begun c.begin.ensures.begins.running) c.steps_to.ensures.slice in
-    let by_fills = subst (λ (n : ℕ). SliceAs m bound (state_of roots.stands roots.frames roots.slots m begun m1) (state_of roots.stands roots.frames roots.slots m end m2) mid after told tells first n end.fills wanted on (Knows old.frames) c.steps_to.result)
+    let by_fills = subst (λ (n : ℕ). SliceAs m bound (state_of of_roots m begun m1) (state_of of_roots m end m2) mid after told tells first n end.fills wanted on (Knows old.frames) c.steps_to.result)
     (same_fills old begun c.begin.ensures.begins.running) by_frames in
-    let by_state = subst (λ (b : State). SliceAs m bound b (state_of roots.stands roots.frames roots.slots m end m2) mid after told tells first old.fills end.fills wanted on (Knows old.frames) c.steps_to.result) (c.begin.ensures.begins.state m refl) by_fills in
-    let by_counts = subst (λ (x : Counts). SliceAs m bound (state_of roots.stands roots.frames roots.slots m old m0) (state_of roots.stands roots.frames roots.slots m end m2) x after told tells first old.fills end.fills wanted on (Knows old.frames) c.steps_to.result)
+    let by_state = subst (λ (b : State). SliceAs m bound b (state_of of_roots m end m2) mid after told tells first old.fills end.fills wanted on (Knows old.frames) c.steps_to.result) (c.begin.ensures.begins.state m refl) by_fills in
+    let by_counts = subst (λ (x : Counts). SliceAs m bound (state_of of_roots m old m0) (state_of of_roots m end m2) x after told tells first old.fills end.fills wanted on (Knows old.frames) c.steps_to.result)
     (λ i. record { retired = c.begin.ensures.counts.retired i; passed = c.begin.ensures.counts.passed i }) by_state in
     let held_now = c.begin.ensures.begins.held image c.requires.between.held in
-    slice_begun m bound (state_of roots.stands roots.frames roots.slots m old m0) (state_of roots.stands roots.frames roots.slots m end m2) before after told tells first pages old.fills end.fills wanted on (Knows old.frames) starts c.steps_to.result c.begin.ensures.begins.fewer
+    slice_begun m bound (state_of of_roots m old m0) (state_of of_roots m end m2) before after told tells first pages old.fills end.fills wanted on (Knows old.frames) starts c.steps_to.result c.begin.ensures.begins.fewer
     (λ s.
     let none : entries_of (roots.slots begun.shadows m1) ≡ empty = ap (λ (b : State). b.set) (c.begin.ensures.begins.state m refl) ∙ s.empty_set in
     let count = c.requires.between.held.counted in
     let count_now = held_now.counted in
     let lengths = c.begin.ensures.begins.keeps.lengths in
     let others = s.others in (
-      anew_carries roots.slots roots.read_from roots.stale roots.other_roots roots.has_tables_under c.carry_laws.ensures m (state_of roots.stands roots.frames roots.slots m begun m1) begun.shadows m1 none (c.begin.ensures.begins.anew s.two),
+      anew_carries of_roots c.carry_laws.ensures m (state_of of_roots m begun m1) begun.shadows m1 none (c.begin.ensures.begins.anew s.two),
       omega (arith, count, count_now, lengths, others),
       s.silent,
     )) by_counts
