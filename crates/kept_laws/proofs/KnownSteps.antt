@@ -8,6 +8,7 @@ use Rattle.paging.specs.Fresh.{has}
 use Rattle.descriptors.specs.Controls.{pse_of, wp_of}
 use Rattle.shadow_tables.specs.OtherRoot.{OtherRoot, AreSame, LoseWrites, all_spared}
 use Rattle.shadow_tables.specs.Entries.{entries_of}
+use Rattle.shadow_tables.specs.Sight.{Sight, StaysBeside, EmptiesBeside}
 use Rattle.machine_model.specs.State.{Setting, State}
 use Rattle.machine_model.specs.Step.{Went, step_of}
 use Rattle.machine_model.specs.Run.{Set}
@@ -17,7 +18,7 @@ use Rattle.kept_laws.specs.Remembered.{ComesFrom, Unwritten, IsOwed, IsRemembere
 use Rattle.kept_laws.specs.OverSteps.{IsTold, IsCause}
 use Rattle.kept_laws.specs.Judged.{AllFound, IsFoundStill, FoundGoesOn}
 use Rattle.kept_laws.specs.Carried.{IsReadyFor, NextIsKept}
-use Rattle.kept_laws.specs.Known.{IsNextKept, IsKnown, RulesStay, StayAside, EmptyAside, IsStep, KnownAtStart, KnownStill, KnownQuiet, KnownOn}
+use Rattle.kept_laws.specs.Known.{IsNextKept, IsKnown, RulesStay, IsStep, KnownAtStart, KnownStill, KnownQuiet, KnownOn}
 use Rattle.kept_laws.proofs.Counts.{clash}
 use Rattle.kept_laws.proofs.Owed.{causes_owe_nothing}
 use Rattle.kept_laws.proofs.OwedStays.{start_remembers, still_remembers, dropped_remembers, steps_remember, same_remembers, loads_remember, returned}
@@ -27,21 +28,16 @@ use Rattle.kept_laws.proofs.FoundStays.{found_at_start}
 -- ---- the start, and the same is kept
 
 pub known_at_start : KnownAtStart
-known_at_start m b read_from stale none unmarked = record {
-  remembered = start_remembers m b read_from stale none unmarked;
+known_at_start m b v h = record {
+  remembered = start_remembers m b v h;
   found = found_at_start m b;
   left = refl;
   next = λ set h. elim h [ inl same ↦ same | inr k ↦ k.0 ];
 }
 
-still : (m : Setting) (steps : List Taken) (b : State) (read_from noted2 : ℕ → Bool) (stale marked2 : Bool) (other_roots asides2 : List OtherRoot)
-    → StayAside read_from noted2 stale marked2 other_roots asides2 → IsRemembered m steps b read_from stale other_roots → IsRemembered m steps b noted2 marked2 asides2
-still m steps b read_from noted2 stale marked2 other_roots asides2 stay r =
-    still_remembers m steps b read_from noted2 stale marked2 other_roots asides2 stay.notes stay.marks stay.others r
-
 pub known_still : KnownStill
-known_still m steps b read_from noted2 stale marked2 other_roots asides2 kept stay k = record {
-  remembered = still m steps b read_from noted2 stale marked2 other_roots asides2 stay k.remembered;
+known_still m steps b v v' kept stay k = record {
+  remembered = still_remembers m steps b v v' stay k.remembered;
   found = k.found;
   left = k.left;
   next = k.next;
@@ -78,11 +74,11 @@ record IsLaidOut (m : Setting) (t : Taken) : Type 0 where
 laid_out : (m : Setting) (t : Taken) → IsStep m t → IsLaidOut m t
 laid_out m t step = record { went = step.went; room = step.room; room_after = λ e. step.room_after; bytes = λ e. step.bytes }
 
-over : FoundGoesOn → NextIsKept → (m : Setting) (steps : List Taken) (t : Taken) (read_from : ℕ → Bool) (stale : Bool) (other_roots : List OtherRoot) (kept : Set) → IsLaidOut m t
+over : FoundGoesOn → NextIsKept → (m : Setting) (steps : List Taken) (t : Taken) (v : Sight) (kept : Set) → IsLaidOut m t
     → (loads_root t ≡ true → Unwritten (steps ++ t ∷ []) → AllFound m t.before t.before.cpu.cr3 steps t.set)
-    → IsFoundStill m steps t.before → IsRemembered m (steps ++ t ∷ []) t.after read_from stale other_roots → IsLeft t kept → IsBack m steps t kept
-    → IsKnown m (steps ++ t ∷ []) t.after read_from stale other_roots kept
-over goes_on law m steps t read_from stale other_roots kept step finds found remembered left back =
+    → IsFoundStill m steps t.before → IsRemembered m (steps ++ t ∷ []) t.after v → IsLeft t kept → IsBack m steps t kept
+    → IsKnown m (steps ++ t ∷ []) t.after v kept
+over goes_on law m steps t v kept step finds found remembered left back =
     let still_found : IsFoundStill m (steps ++ t ∷ []) t.after = goes_on m steps t step.went step.room finds found in
     record {
       remembered = remembered;
@@ -98,15 +94,15 @@ over goes_on law m steps t read_from stale other_roots kept step finds found rem
       });
     }
 
-past_by : FoundGoesOn → NextIsKept → (m : Setting) (steps : List Taken) (t : Taken) (read_from : ℕ → Bool) (stale : Bool) (other_roots : List OtherRoot) (kept : Set) → IsLaidOut m t → loads_root t ≡ false
-    → t.after.cpu.cr3 ≡ t.before.cpu.cr3 → IsKnown m steps t.before read_from stale other_roots kept → IsKnown m (steps ++ t ∷ []) t.after read_from stale other_roots t.after.set
-past_by goes_on law m steps t read_from stale other_roots kept laid plain value k =
-    over goes_on law m steps t read_from stale other_roots t.after.set laid (λ e u. clash (loads_root t) e plain) k.found
-    (same_remembers m steps t read_from stale other_roots plain value k.remembered) (λ e. inl refl) (λ e old u since o. clash (loads_root t) e plain)
+past_by : FoundGoesOn → NextIsKept → (m : Setting) (steps : List Taken) (t : Taken) (v : Sight) (kept : Set) → IsLaidOut m t → loads_root t ≡ false
+    → t.after.cpu.cr3 ≡ t.before.cpu.cr3 → IsKnown m steps t.before v kept → IsKnown m (steps ++ t ∷ []) t.after v t.after.set
+past_by goes_on law m steps t v kept laid plain value k =
+    over goes_on law m steps t v t.after.set laid (λ e u. clash (loads_root t) e plain) k.found
+    (same_remembers m steps t v plain value k.remembered) (λ e. inl refl) (λ e old u since o. clash (loads_root t) e plain)
 
 pub known_quiet : FoundGoesOn → NextIsKept → KnownQuiet
-known_quiet goes_on law m steps t read_from stale other_roots kept past k =
-    past_by goes_on law m steps t read_from stale other_roots kept
+known_quiet goes_on law m steps t v kept past k =
+    past_by goes_on law m steps t v kept
     (record { went = past.went; room = past.room; room_after = λ e. clash (loads_root t) e past.plain; bytes = λ e. clash (loads_root t) e past.plain })
     past.plain past.value k
 
@@ -164,52 +160,50 @@ lose_same frames (a ∷ xs) (b ∷ ys) (c ∷ zs) h k = (
   lose_same frames xs ys zs h.1 k.1,
 )
 
-told_over : (t : Taken) (read_from noted1 noted2 : ℕ → Bool) (stale marked1 marked2 : Bool) (other_roots asides1 asides2 : List OtherRoot)
-    → IsTold t read_from noted1 stale marked1 other_roots asides1 → StayAside noted1 noted2 marked1 marked2 asides1 asides2 → IsTold t read_from noted2 stale marked2 other_roots asides2
-told_over t read_from noted1 noted2 stale marked1 marked2 other_roots asides1 asides2 told stay = record {
+told_over : (t : Taken) (v between v' : Sight) → IsTold t v between → StaysBeside between v' → IsTold t v v'
+told_over t v between v' told stay = record {
   frames = told.frames;
   notes = λ frame e. told.notes frame (stay.notes frame e);
   marks = λ e. told.marks (stay.marks e);
-  others = lose_same told.frames (all_spared t.report.wrote other_roots) asides1 asides2 told.others stay.others;
+  others = lose_same told.frames (all_spared t.report.wrote v.other_roots) between.other_roots v'.other_roots told.others stay.others;
 }
 
 -- ---- a step that was settled
 
 -- nothing is owed behind a change of the rules
-emptied : (m : Setting) (steps : List Taken) (t : Taken) (noted1 noted2 : ℕ → Bool) (marked1 marked2 : Bool) (asides1 asides2 : List OtherRoot) → loads_root t ≡ false → (RulesStay t → ⊥)
-    → EmptyAside noted1 noted2 marked1 marked2 asides2 → IsRemembered m (steps ++ t ∷ []) t.after noted1 marked1 asides1 → IsRemembered m (steps ++ t ∷ []) t.after noted2 marked2 asides2
-emptied m steps t noted1 noted2 marked1 marked2 asides1 asides2 plain lost none r =
+emptied : (m : Setting) (steps : List Taken) (t : Taken) (v v' : Sight) → loads_root t ≡ false → (RulesStay t → ⊥)
+    → EmptiesBeside v v' → IsRemembered m (steps ++ t ∷ []) t.after v → IsRemembered m (steps ++ t ∷ []) t.after v'
+emptied m steps t v v' plain lost none r =
     let cause : IsCause m steps t = record { through = plain; by = inr (λ same. lost (rules_same t same)) } in
-    subst (IsRemembered m (steps ++ t ∷ []) t.after noted2 marked2) (sym none.others)
-    (dropped_remembers m (steps ++ t ∷ []) t.after noted2 marked2 (λ frame e. r.noted_read frame (none.notes frame e))
-    (λ u. false_from_ne_true marked2 (λ e. clash marked1 (none.marks e) (r.unmarked u))) (causes_owe_nothing m steps t cause))
+    dropped_remembers m (steps ++ t ∷ []) t.after v' (λ frame e. r.noted_read frame (none.notes frame e))
+    (λ u. false_from_ne_true v'.stale (λ e. clash v.stale (none.marks e) (r.unmarked u))) none.others (causes_owe_nothing m steps t cause)
 
 pub known_on : FoundGoesOn → NextIsKept → KnownOn
-known_on goes_on law m steps t read_from noted2 stale marked2 slots2 other_roots asides2 kept step finds o k = by (loads_root t) refl
+known_on goes_on law m steps t v v' kept step finds o k = by (loads_root t) refl
   where
-    known : IsRemembered m (steps ++ t ∷ []) t.after noted2 marked2 asides2 → IsLeft t (entries_of slots2) → IsBack m steps t (entries_of slots2)
-        → IsKnown m (steps ++ t ∷ []) t.after noted2 marked2 asides2 (entries_of slots2)
-    known remembered left back = over goes_on law m steps t noted2 marked2 asides2 (entries_of slots2) (laid_out m t step) finds k.found remembered left back
+    known : IsRemembered m (steps ++ t ∷ []) t.after v' → IsLeft t (entries_of v'.slots) → IsBack m steps t (entries_of v'.slots)
+        → IsKnown m (steps ++ t ∷ []) t.after v' (entries_of v'.slots)
+    known remembered left back = over goes_on law m steps t v' (entries_of v'.slots) (laid_out m t step) finds k.found remembered left back
 
-    told : loads_root t ≡ false → IsRemembered m (steps ++ t ∷ []) t.after o.noted1 o.marked1 o.asides1
-    told plain = steps_remember m steps t read_from o.noted1 stale o.marked1 other_roots o.asides1 plain (step.through plain) o.told k.remembered
+    told : loads_root t ≡ false → IsRemembered m (steps ++ t ∷ []) t.after o.between
+    told plain = steps_remember m steps t v o.between plain (step.through plain) o.told k.remembered
 
-    through : loads_root t ≡ false → RulesStay t ⊎ (RulesStay t → ⊥) → IsKnown m (steps ++ t ∷ []) t.after noted2 marked2 asides2 (entries_of slots2)
+    through : loads_root t ≡ false → RulesStay t ⊎ (RulesStay t → ⊥) → IsKnown m (steps ++ t ∷ []) t.after v' (entries_of v'.slots)
     through plain (inl stay) =
         let h = o.through plain stay in
-        known (still m (steps ++ t ∷ []) t.after o.noted1 noted2 o.marked1 marked2 o.asides1 asides2 h.0 (told plain)) (λ e. inl h.1) (λ e old u since w. clash (loads_root t) e plain)
+        known (still_remembers m (steps ++ t ∷ []) t.after o.between v' h.0 (told plain)) (λ e. inl h.1) (λ e old u since w. clash (loads_root t) e plain)
     through plain (inr lost) =
         let h = o.lost plain lost in
-        known (emptied m steps t o.noted1 noted2 o.marked1 marked2 o.asides1 asides2 plain lost h.0 (told plain)) (left_empty m t (entries_of slots2) step lost h.1)
+        known (emptied m steps t o.between v' plain lost h.0 (told plain)) (left_empty m t (entries_of v'.slots) step lost h.1)
         (λ e old u since w. clash (loads_root t) e plain)
 
-    reloaded : loads_root t ≡ true → IsKnown m (steps ++ t ∷ []) t.after noted2 marked2 asides2 (entries_of slots2)
+    reloaded : loads_root t ≡ true → IsKnown m (steps ++ t ∷ []) t.after v' (entries_of v'.slots)
     reloaded loads =
         let r = o.loaded loads in
-        let h = loads_remember m steps t read_from r.noted1 noted2 stale r.marked1 marked2 r.slots1 slots2 other_roots r.asides1 asides2 loads k.remembered
-        (told_over t read_from o.noted1 r.noted1 stale o.marked1 r.marked1 other_roots o.asides1 r.asides1 o.told r.stay) r.comes r.loaded in
+        let h = loads_remember m steps t v r.between v' loads k.remembered
+        (told_over t v o.between r.between o.told r.stay) r.comes r.loaded in
         known h.0 (λ plain. clash (loads_root t) loads plain) (λ e. h.1)
 
-    by : (b : Bool) → loads_root t ≡ b → IsKnown m (steps ++ t ∷ []) t.after noted2 marked2 asides2 (entries_of slots2)
+    by : (b : Bool) → loads_root t ≡ b → IsKnown m (steps ++ t ∷ []) t.after v' (entries_of v'.slots)
     by true is = reloaded is
     by false is = through is (rules_or t)

@@ -46,14 +46,14 @@ one_of test (f ∷ fs) e = by (or_cases (test f) (list_any test fs) e) (one_of t
     by (inr b) k = let h = k b in (h.0, Contains-append_right (f ∷ []) fs h.0 h.1, h.2)
 
 pub settling_tells : SettlingTells
-settling_tells t read_from noted2 stale marked2 other_roots asides2 notes marks others = record {
+settling_tells t v v' told = record {
   frames = guest_frames t.report.tables;
-  notes = λ frame e. noted_by read_from t frame (notes frame e);
-  marks = λ e. elim (or_cases stale (list_any (read_by read_from t.report.tables) t.report.wrote) (sym marks ∙ e)) [
+  notes = λ frame e. noted_by v.read_from t frame (told.notes frame e);
+  marks = λ e. elim (or_cases v.stale (list_any (read_by v.read_from t.report.tables) t.report.wrote) (sym told.marks ∙ e)) [
     | inl a ↦ inl a
-    | inr b ↦ let h = one_of (read_by read_from t.report.tables) t.report.wrote b in inr (h.0, h.1, noted_by read_from t h.0 h.2)
+    | inr b ↦ let h = one_of (read_by v.read_from t.report.tables) t.report.wrote b in inr (h.0, h.1, noted_by v.read_from t h.0 h.2)
   ];
-  others = others;
+  others = told.others;
 }
 
 -- ---- what is kept before a load

@@ -7,6 +7,7 @@ use Rattle.std.specs.FinMap.{get}
 use Rattle.guest_ram.specs.Among.{is_among}
 use Rattle.shadow_tables.specs.OtherRoot.{OtherRoot}
 use Rattle.shadow_tables.specs.Entries.{entries_of}
+use Rattle.shadow_tables.specs.Sight.{Sight}
 use Rattle.machine_model.specs.State.{Setting, State}
 use Rattle.machine_model.specs.Run.{Set}
 use Rattle.machine_model.specs.Taken.{Taken}
@@ -63,11 +64,11 @@ IsThere c left loaded (a ∷ other_roots) =
 -- Between two steps of a run, of which these were done: what is kept for each value of CR3 that isn't present, the last
 -- used first. What is owed is there. The frames that are noted as tables, of the present value and of each other, were
 -- read as tables by walks of the run, and the present tables are marked only where a step wrote in such a frame.
-pub record IsRemembered (m : Setting) (steps : List Taken) (now : State) (read_from : ℕ → Bool) (stale : Bool) (other_roots : List OtherRoot) : Type 0 where
-  pub other : IsAbsent now.cpu.cr3 other_roots
-  pub of_one : AreOfOne other_roots
-  pub noted_read : (frame : ℕ) → read_from frame ≡ true → was_read steps frame ≡ true
-  pub all_read : AllRead steps other_roots
-  pub unmarked : Unwritten steps → stale ≡ false
+pub record IsRemembered (m : Setting) (steps : List Taken) (now : State) (v : Sight) : Type 0 where
+  pub other : IsAbsent now.cpu.cr3 v.other_roots
+  pub of_one : AreOfOne v.other_roots
+  pub noted_read : (frame : ℕ) → v.read_from frame ≡ true → was_read steps frame ≡ true
+  pub all_read : AllRead steps v.other_roots
+  pub unmarked : Unwritten steps → v.stale ≡ false
   pub each : (c : ℕ) (old : List Taken) (left : Taken) (since : List Taken) → (c ≡ now.cpu.cr3 → ⊥) → IsOwed m steps now c old left since
-      → IsThere c left (roots_in (left ∷ since)) other_roots × (is_member eqb (roots_in (left ∷ since)) now.cpu.cr3 ≡ true)
+      → IsThere c left (roots_in (left ∷ since)) v.other_roots × (is_member eqb (roots_in (left ∷ since)) now.cpu.cr3 ≡ true)

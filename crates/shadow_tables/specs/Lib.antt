@@ -8,3 +8,4 @@ pub mod Laws
 pub mod Sweeps
 pub mod Steps
 pub mod Calls
+pub mod Sight

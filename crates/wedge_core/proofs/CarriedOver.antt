@@ -9,6 +9,7 @@ use Rattle.board.specs.Boards.{given}
 use Rattle.board.specs.Scripts.{Events}
 use Rattle.image_check.specs.Image.{Image}
 use Rattle.shadow_tables.specs.Entries.{entries_of}
+use Rattle.shadow_tables.specs.Sight.{sight}
 use Rattle.shadow_tables.specs.declared.shadows.Shadows as shadows
 use Rattle.machine_model.specs.State.{Setting, State, wedge}
 use Rattle.machine_model.specs.Run.{Set, with_set}
@@ -40,7 +41,7 @@ module _ {S : Type 0} (shows : shadows.Ghosts S) where
 
   as_kept : (m : Setting) (s : S) (memory : List ℕ) (kept : Set) (steps : List Taken) (b : State) → entries_of (shows.slots s memory) ≡ kept → CarriedWith m s memory kept steps b → IsCarried shows m steps b s memory
   as_kept m s memory kept steps b is c =
-      record { known = subst (IsKnown m steps b (shows.read_from s) (shows.stale s) (shows.other_roots s memory)) (sym is) c.known; opened_to = c.opened_to }
+      record { known = subst (IsKnown m steps b (sight shows s memory)) (sym is) c.known; opened_to = c.opened_to }
 
   -- the guest's memory has all its frames
   pub room_at : (image : Image) (script : Events) (f : ℕ) (g : Running S) (pool : Pool) (memory : List ℕ) → IsHeld shows (ground image f) g pool memory → 4096 * f ≤ length (shown (wedge image script f) memory)
@@ -55,7 +56,7 @@ module _ {S : Type 0} (shows : shadows.Ghosts S) where
       next = λ kept steps b c. c.known.next;
       left = λ kept steps b c. c.known.left;
       past = λ kept steps t p c. record {
-        known = laws.quiet m steps t (shows.read_from s) (shows.stale s) (shows.other_roots s memory) kept p c.known;
+        known = laws.quiet m steps t (sight shows s memory) kept p c.known;
         opened_to = widens.wider s memory (λ index. is_member eqb (indices_in steps) index) (λ index. is_member eqb (indices_in (steps ++ t ∷ [])) index) (laws.known.grow steps t).0 c.opened_to;
       };
     }
@@ -65,7 +66,7 @@ module _ {S : Type 0} (shows : shadows.Ghosts S) where
         → CarriedWith m s memory kept steps b → CarriedWith m s' then kept steps b
     carried_there m s s' memory then kept steps b is stand same c =
         subst (λ (x : S). CarriedWith m x then kept steps b) (sym is) (record {
-          known = laws.known.still m steps b (shows.read_from s) (shows.read_from s) (shows.stale s) (shows.stale s) (shows.other_roots s memory) (shows.other_roots s then) kept
+          known = laws.known.still m steps b (sight shows s memory) (sight shows s then) kept
               (record { notes = λ frame e. e; marks = λ e. e; others = widens.same_other_roots s memory then stand same }) c.known;
           opened_to = widens.same_tables_under s memory then (λ index. is_member eqb (indices_in steps) index) stand same c.opened_to;
         })

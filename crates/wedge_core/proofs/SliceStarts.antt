@@ -5,8 +5,8 @@ use Rattle.std.proofs.lemmas.List.Elements.{All-weaker}
 use Rattle.pv_io.specs.declared.answer.Failed.{Failed}
 use Rattle.run_trace.specs.declared.pause.Pause.{Pause}
 use Rattle.run_trace.specs.Notes.{Note}
-use Rattle.shadow_tables.specs.OtherRoot.{OtherRoot}
 use Rattle.shadow_tables.specs.Entries.{entries_of}
+use Rattle.shadow_tables.specs.Sight.{sight}
 use Rattle.shadow_tables.specs.declared.shadows.Shadows as shadows
 use Rattle.machine_model.specs.State.{Setting, State}
 use Rattle.machine_model.specs.Run.{Set}
@@ -54,7 +54,6 @@ pauses_more (Err failed) A B f a = tt
 pub anew_carries : {S : Type 0} (shows : shadows.Ghosts S) → CarryLaws → (m : Setting) (b : State) (s : S) (memory : List ℕ)
     → entries_of (shows.slots s memory) ≡ empty → IsAsNew shows s memory → IsCarried shows m [] b s memory
 anew_carries shows laws m b s memory none anew = record {
-  known = subst (IsKnown m [] b (shows.read_from s) (shows.stale s) (shows.other_roots s memory)) (sym none)
-      (subst (λ (l : List OtherRoot). IsKnown m [] b (shows.read_from s) (shows.stale s) l empty) (sym anew.alone) (laws.start m b (shows.read_from s) (shows.stale s) anew.unnoted anew.unmarked));
+  known = subst (IsKnown m [] b (sight shows s memory)) (sym none) (laws.start m b (sight shows s memory) (record { unnoted = anew.unnoted; unmarked = anew.unmarked; alone = anew.alone }));
   opened_to = anew.unopened _;
 }

@@ -2,11 +2,11 @@
 use Rattle.std.specs.Prelude.{◌≡◌, ℕ, ◌*◌, ◌≤◌, Bool, true, List, take}
 use Rattle.frame_pool.specs.Held.{Moves, Owns}
 use Rattle.frame_pool.specs.declared.Pool.{Pool}
+use Rattle.shadow_tables.specs.Sight as sights
 use Rattle.shadow_tables.specs.declared.shadows.Shadows as shadows
 use Rattle.board.specs.Boards.{given}
 use Rattle.board.specs.Scripts.{Events}
 use Rattle.image_check.specs.Image.{Image}
-use Rattle.kept_laws.specs.Known.{StayAside}
 use Rattle.machine_model.specs.Clash.{clashes_from, instruction_clashes}
 use Rattle.machine_model.specs.State.{Setting, State, wedge}
 use Rattle.native_steps.specs.Mirrors.{shown}
@@ -23,8 +23,7 @@ module _ {S : Type 0} (g : shadows.Ghosts S) where
 
   -- what is kept for other values of CR3, and what was noted, stays
   abbrev pub KeepsAside : S → S → List ℕ → List ℕ → Type 0
-  KeepsAside old new memory then =
-      StayAside (g.read_from old) (g.read_from new) (g.stale old) (g.stale new) (g.other_roots old memory) (g.other_roots new then)
+  KeepsAside old new memory then = sights.StaysBeside (sights.sight g old memory) (sights.sight g new then)
 
   -- What stays where translations are dropped: what is left can be found again, nothing is kept or opened that wasn't before,
   -- and the guest's memory is as it was.

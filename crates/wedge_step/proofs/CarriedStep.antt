@@ -29,9 +29,10 @@ use Rattle.kept_laws.specs.Carried.{indices_in}
 use Rattle.wedge_step.specs.Carried.{IsCarried, IsCarriedBy, IsTakenFrom}
 use Rattle.wedge_step.specs.CarryLaws.{KnownLaws}
 use Rattle.wedge_step.specs.Closed.{MayClose}
-use Rattle.wedge_step.specs.Leaving.{Tells, Ends}
+use Rattle.kept_laws.specs.OverSteps.{Tells}
+use Rattle.wedge_step.specs.Leaving.{Ends}
 use Rattle.wedge_step.specs.Ready.{IsReady}
-use Rattle.wedge_step.specs.Sight.{sight}
+use Rattle.shadow_tables.specs.Sight.{sight}
 use Rattle.wedge_step.specs.Standing.{IsHeld, ground, side_of, state_of}
 use Rattle.wedge_step.specs.declared.running.Running.{Running}
 use Rattle.wedge_step.proofs.AfterTry.{After, any_script}

@@ -31,13 +31,13 @@ use Rattle.machine_step.specs.Worked.{went_as}
 use Rattle.native_steps.specs.Mirrors.{shown}
 use Rattle.kept_laws.specs.Carried.{IndicesGrow, indices_in}
 use Rattle.kept_laws.specs.Known.{IsKnown, KnownOn, KnownStill}
-use Rattle.kept_laws.specs.OverSteps.{SettlingTells, DroppedComesFrom}
+use Rattle.kept_laws.specs.OverSteps.{SettlingTells, DroppedComesFrom, Tells}
 use Rattle.wedge_step.specs.Carried.{IsTakenFrom}
 use Rattle.wedge_step.specs.Closed.{MayClose}
-use Rattle.wedge_step.specs.Leaving.{Tells, Ends}
+use Rattle.wedge_step.specs.Leaving.{Ends}
 use Rattle.wedge_step.specs.Opened.{is_entry_open}
 use Rattle.wedge_step.specs.Ready.{IsReady}
-use Rattle.wedge_step.specs.Sight.{Sight, sight}
+use Rattle.shadow_tables.specs.Sight.{Sight, sight}
 use Rattle.machine_step.specs.Roots.{RootsAs}
 use Rattle.wedge_step.specs.Standing.{ground, side_of}
 use Rattle.wedge_step.proofs.Knowing.{answer_from, told_by, over, a_step, all_found}
@@ -94,7 +94,7 @@ module _ {S : Type 0} (shows : shadows.Ghosts S) where
     pub same : AreSame (shows.other_roots s memory) (shows.other_roots s then)
 
   module _ (tells : SettlingTells) (comes : DroppedComesFrom) (still : KnownStill) (on : KnownOn) (image : Image) (script : Events) (n : ℕ) (steps : List Taken) (t : Taken) (b : State) (kept : Set) (s : S) (memory then : List ℕ)
-      (d : IsDone image script n t b s memory then) (known : IsKnown (wedge image script n) steps t.before (shows.read_from s) (shows.stale s) (shows.other_roots s memory) kept)
+      (d : IsDone image script n t b s memory then) (known : IsKnown (wedge image script n) steps t.before (sight shows s memory) kept)
       (v' : Sight)
     where
       abbrev m : Setting
@@ -103,19 +103,19 @@ module _ {S : Type 0} (shows : shadows.Ghosts S) where
       room_before : 4096 * n ≤ length t.before.ram
       room_before = subst (λ (l : List ℕ). 4096 * n ≤ length l) (sym d.taken.ram) d.room
 
-      known_then : IsKnown m steps t.before (shows.read_from s) (shows.stale s) (shows.other_roots s then) kept
-      known_then = still m steps t.before (shows.read_from s) (shows.read_from s) (shows.stale s) (shows.stale s) (shows.other_roots s memory) (shows.other_roots s then) kept (record { notes = λ frame e. e; marks = λ e. e; others = d.same }) known
+      known_then : IsKnown m steps t.before (sight shows s then) kept
+      known_then = still m steps t.before (sight shows s memory) (sight shows s then) kept (record { notes = λ frame e. e; marks = λ e. e; others = d.same }) known
 
       -- behind a step that was ended
       pub known_went : (w : Worked) (board : Board) (last : Space) (changes : List Change) → stepped m b ≡ went_as b w board last → RootsAs b.cpu w → IsReady shows (ground image n) b.cpu s memory
           → last.set ≡ changed (entries_of (shows.slots s then)) changes → AreToldIn last.visited changes → 4096 * n ≤ length last.ram → AreBytes last.ram
           → Ends w.dropped b.cpu w.cpu (pages_of last.visited changes) last.tables last.wrote last.set (sight shows s then) v'
-          → IsKnown m (steps ++ t ∷ []) t.after v'.read_from v'.stale v'.other_roots (entries_of v'.slots)
+          → IsKnown m (steps ++ t ∷ []) t.after v' (entries_of v'.slots)
       known_went w board last changes went roots ready set told room_after bytes ends =
           let a = answer_from m b t w board last d.taken d.by went in
           let base_is = d.entries ∙ (sym d.set ∙ sym d.by) in
           let base = entries_of (shows.slots s then) in
-          on m steps t (shows.read_from s) v'.read_from (shows.stale s) v'.stale v'.slots (shows.other_roots s then) v'.other_roots kept
+          on m steps t (sight shows s then) v' kept
           (a_step tells comes t b.cpu w last (shows.value s) base changes a d.taken.cpu roots ready.value_is set base_is told (shows.slots s memory) (d.by ∙ d.set) m b d.taken room_before room_after bytes)
           (λ load un. all_found m steps t b.cpu (shown (ground image n) memory) (shows.read_from s) (shows.stale s) (shows.slots s memory) d.taken.cpu (d.taken.ram ∙ d.ram) (d.by ∙ d.set) (λ free page lt. ready.present free page lt refl) known.remembered.noted_read known.remembered.unmarked un)
           (over tells comes t b.cpu w last (shows.value s) base changes a d.taken.cpu roots ready.value_is set base_is told (shows.slots s memory) (d.by ∙ d.set) (sight shows s then) v' refl ends)
@@ -125,12 +125,12 @@ module _ {S : Type 0} (shows : shadows.Ghosts S) where
       pub known_asked : (tables wrote : List ℕ) → t.report.tables ≡ tables → t.report.wrote ≡ wrote → is_load t.report.completed ≡ false
           → (t.after.cpu.cr0 ≡ b.cpu.cr0) × (t.after.cpu.cr3 ≡ b.cpu.cr3) × (t.after.cpu.cr4 ≡ b.cpu.cr4) → t.after.set ≡ entries_of v'.slots → 4096 * n ≤ length t.after.ram → AreBytes t.after.ram
           → Tells tables wrote (sight shows s then) v'
-          → IsKnown m (steps ++ t ∷ []) t.after v'.read_from v'.stale v'.other_roots (entries_of v'.slots)
+          → IsKnown m (steps ++ t ∷ []) t.after v' (entries_of v'.slots)
       known_asked tables wrote tables_are wrote_are load same set room_after bytes told =
           let cpu = d.taken.cpu in
           let wp = ap (λ (x : ℕ). has x 65536) (same.0 ∙ sym (ap (λ (c : Cpu). c.cr0) cpu)) in
           let pse = ap (λ (x : ℕ). has x 16) (same.2 ∙ sym (ap (λ (c : Cpu). c.cr4) cpu)) in
-          on m steps t (shows.read_from s) v'.read_from (shows.stale s) v'.stale v'.slots (shows.other_roots s then) v'.other_roots kept
+          on m steps t (sight shows s then) v' kept
           (record {
             went = d.taken.went;
             room = room_before;
@@ -141,9 +141,7 @@ module _ {S : Type 0} (shows : shadows.Ghosts S) where
           })
           (λ loads. absurd (let f : true ≡ false = sym loads ∙ load in cc))
           (record {
-            noted1 = v'.read_from;
-            marked1 = v'.stale;
-            asides1 = v'.other_roots;
+            between = v';
             told = told_by tells t (sight shows s then) v' tables wrote tables_are wrote_are told;
             through = λ go stay. (record { notes = λ frame e. e; marks = λ e. e; others = same-refl v'.other_roots }, sym set);
             lost = λ go no. absurd (no (record { wp = wp; pse = pse }));

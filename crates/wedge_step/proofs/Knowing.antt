@@ -14,7 +14,7 @@ use Rattle.shadow_tables.specs.OtherRoot.{IsSame, AreSame}
 use Rattle.shadow_tables.specs.Entries.{entries_of}
 use Rattle.shadow_tables.specs.Laws.Entries.{get-entries_of, none-entries_of}
 use Rattle.shadow_tables.specs.Slots.{Slot, entry_in}
-use Rattle.shadow_cache.specs.Reloaded.{put_by, coming, staying}
+use Rattle.shadow_cache.specs.Reloaded.{coming, staying}
 use Rattle.step_mem.specs.Changes.{changed, page_of, AreToldIn}
 use Rattle.step_mem.specs.declared.changes.Change.{Change}
 use Rattle.wedge_mem.specs.Settled.{pages_of}
@@ -30,12 +30,12 @@ use Rattle.machine_step.specs.declared.worked.Worked.{Worked}
 use Rattle.machine_step.specs.Worked.{completed_by, dropping, went_as}
 use Rattle.kept_laws.specs.Judged.{AllFound}
 use Rattle.kept_laws.specs.Known.{IsOver, IsStep, RulesStay, ReloadAside}
-use Rattle.kept_laws.specs.OverSteps.{IsTold, SettlingTells, DroppedComesFrom}
+use Rattle.kept_laws.specs.OverSteps.{IsTold, SettlingTells, DroppedComesFrom, Tells, put_under, under_value}
 use Rattle.kept_laws.specs.Remembered.{Unwritten, was_read}
 use Rattle.wedge_step.specs.Carried.{IsTakenFrom}
-use Rattle.wedge_step.specs.Leaving.{Tells, RulesSame, Ends}
+use Rattle.wedge_step.specs.Leaving.{RulesSame, Ends}
 use Rattle.wedge_step.specs.Ready.{is_all}
-use Rattle.wedge_step.specs.Sight.{Sight}
+use Rattle.shadow_tables.specs.Sight.{Sight}
 use Rattle.machine_step.specs.Roots.{RootsAs}
 use Rattle.wedge_step.proofs.Shedding.{found_tables}
 use Rattle.wedge_step.proofs.AmongPages.{told_among, among_first, changed_other}
@@ -93,10 +93,9 @@ all_dropped dropped.All set e = refl
 
 -- it was told what the step read and wrote
 pub told_by : SettlingTells → (t : Taken) (v v' : Sight) (tables wrote : List ℕ) → t.report.tables ≡ tables → t.report.wrote ≡ wrote
-    → Tells tables wrote v v' → IsTold t v.read_from v'.read_from v.stale v'.stale v.other_roots v'.other_roots
+    → Tells tables wrote v v' → IsTold t v v'
 told_by tells t v v' tables wrote tables_are wrote_are told =
-    let x = subst (λ (l : List ℕ). Tells t.report.tables l v v') (sym wrote_are) (subst (λ (l : List ℕ). Tells l wrote v v') (sym tables_are) told) in
-    tells t v.read_from v'.read_from v.stale v'.stale v.other_roots v'.other_roots x.notes x.marks x.others
+    tells t v v' (subst (λ (l : List ℕ). Tells t.report.tables l v v') (sym wrote_are) (subst (λ (l : List ℕ). Tells l wrote v v') (sym tables_are) told))
 
 module _ (tells : SettlingTells) (comes : DroppedComesFrom) (t : Taken) (before : Cpu) (w : Worked) (s : Space) (value : Option ℕ) (base : Set) (changes : List Change)
     (a : IsAnswer t w s) (cpu : t.before.cpu ≡ before) (roots : RootsAs before w) (value_is : value ≡ Some before.cr3) (set : s.set ≡ changed base changes) (base_is : base ≡ t.set)
@@ -121,11 +120,9 @@ module _ (tells : SettlingTells) (comes : DroppedComesFrom) (t : Taken) (before 
     left q e = ap (λ (x : Set). get x q) set ∙ (unchanged base s.visited changes told q (unused q e) ∙ ap (λ (x : Set). get x q) base_is)
 
     pub over : (v v' : Sight) → v.value ≡ value → Ends w.dropped before w.cpu (pages_of s.visited changes) s.tables s.wrote s.set v v'
-        → IsOver t v.read_from v'.read_from v.stale v'.stale v'.slots v.other_roots v'.other_roots
+        → IsOver t v v'
     over v v' is e = record {
-      noted1 = e.between.read_from;
-      marked1 = e.between.stale;
-      asides1 = e.between.other_roots;
+      between = e.between;
       told = told_by tells t v e.between s.tables s.wrote a.tables a.wrote e.told;
       through = λ go stay.
           let some : is_all w.dropped ≡ false = not_true (is_all w.dropped) (λ all. roots.all all (sym load_is ∙ go) (rules stay).1) in
@@ -141,17 +138,14 @@ module _ (tells : SettlingTells) (comes : DroppedComesFrom) (t : Taken) (before 
         cr3_now : t.after.cpu.cr3 ≡ w.cpu.cr3
         cr3_now = ap (λ (c : Cpu). c.cr3) a.cpu
 
-        loaded : loads_root t ≡ true → ReloadAside t e.between.read_from v'.read_from e.between.stale v'.stale v'.slots e.between.other_roots v'.other_roots
+        loaded : loads_root t ≡ true → ReloadAside t e.between v'
         loaded go =
             let l = roots.load (sym load_is ∙ go) in
             let r = e.loaded (ap (λ (x : ℕ). has x 65536) l.1, ap (λ (x : ℕ). has x 16) l.2) l.0 in
             let x = r.between in
             let value_then : x.value ≡ Some t.before.cpu.cr3 = r.value ∙ (e.value ∙ value_now) in
             record {
-              noted1 = x.read_from;
-              marked1 = x.stale;
-              slots1 = x.slots;
-              asides1 = x.other_roots;
+              between = x;
               stay = r.sheds.stay;
               comes = comes t s.set first x.slots by_first left (λ q lt e1. r.sheds.gone q lt (among_first q s.visited (map page_of changes) (is_used q e1)))
                   (λ q lt e1.
@@ -159,11 +153,11 @@ module _ (tells : SettlingTells) (comes : DroppedComesFrom) (t : Taken) (before 
                   ∙ (sym (get-entries_of e.between.slots q lt) ∙ ap (λ (y : Set). get y q) e.entries));
               loaded = record {
                 present =
-                    subst (λ (c : ℕ). IsSame (coming c (put_by (Some t.before.cpu.cr3) x.stale x.read_from x.slots x.other_roots)) (record { cr3 = c; tables = v'.read_from; slots = v'.slots })) (sym cr3_now)
-                    (subst (λ (k : Option ℕ). IsSame (coming w.cpu.cr3 (put_by k x.stale x.read_from x.slots x.other_roots)) (record { cr3 = w.cpu.cr3; tables = v'.read_from; slots = v'.slots })) value_then r.present);
+                    subst (λ (c : ℕ). IsSame (coming c (put_under (Some t.before.cpu.cr3) x)) (under_value c v')) (sym cr3_now)
+                    (subst (λ (k : Option ℕ). IsSame (coming w.cpu.cr3 (put_under k x)) (under_value w.cpu.cr3 v')) value_then r.present);
                 others =
-                    subst (λ (c : ℕ). AreSame (staying c (put_by (Some t.before.cpu.cr3) x.stale x.read_from x.slots x.other_roots)) v'.other_roots) (sym cr3_now)
-                    (subst (λ (k : Option ℕ). AreSame (staying w.cpu.cr3 (put_by k x.stale x.read_from x.slots x.other_roots)) v'.other_roots) value_then r.put);
+                    subst (λ (c : ℕ). AreSame (staying c (put_under (Some t.before.cpu.cr3) x)) v'.other_roots) (sym cr3_now)
+                    (subst (λ (k : Option ℕ). AreSame (staying w.cpu.cr3 (put_under k x)) v'.other_roots) value_then r.put);
                 unmarked = r.unmarked;
               };
             }

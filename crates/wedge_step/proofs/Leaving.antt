@@ -18,10 +18,10 @@ use Rattle.wedge_mem.proofs.Lists.{not-both}
 use Rattle.machine_model.specs.Run.{Set}
 use Rattle.machine_step.specs.declared.worked.Dropped.{Dropped}
 use Rattle.machine_step.specs.Worked.{dropping}
-use Rattle.kept_laws.specs.Known.{StayAside}
-use Rattle.wedge_step.specs.Leaving.{Tells, Loads, Ends, RulesSame}
+use Rattle.kept_laws.specs.OverSteps.{Tells}
+use Rattle.wedge_step.specs.Leaving.{Loads, Ends, RulesSame}
 use Rattle.wedge_step.specs.Ready.{is_all}
-use Rattle.wedge_step.specs.Sight.{Sight, StaysBeside, EmptiesBeside, sight}
+use Rattle.shadow_tables.specs.Sight.{Sight, StaysBeside, EmptiesBeside, sight}
 
 -- the instruction dropped all, and the rules are the same: CR3 was loaded
 pub no_way : (changed all : Bool) → changed ≡ false → all ≡ true → (changed || not all) ≡ true → ⊥
@@ -44,9 +44,8 @@ next_stays old mid new xs i l rest before page lt h = let k = among_before page 
 
 -- ---- the same is kept beside what is present
 
-module _ (read_from noted2 : ℕ → Bool) (stale marked2 : Bool) (other_roots asides2 : List OtherRoot) where
-  pub stays_by : ((frame : ℕ) → noted2 frame ≡ read_from frame) → marked2 ≡ stale → AreSame other_roots asides2 → StayAside read_from noted2 stale marked2 other_roots asides2
-  stays_by n m a = record { notes = λ frame h. sym (n frame) ∙ h; marks = λ h. sym m ∙ h; others = a }
+pub stays_by : (v v' : Sight) → ((frame : ℕ) → v'.read_from frame ≡ v.read_from frame) → v'.stale ≡ v.stale → AreSame v.other_roots v'.other_roots → StaysBeside v v'
+stays_by v v' n m a = record { notes = λ frame h. sym (n frame) ∙ h; marks = λ h. sym m ∙ h; others = a }
 
 -- what a step that was settled was told
 pub tells_by : (v v' : Sight) (tables wrote : List ℕ) (result : Option ℕ) → ((frame : ℕ) → v'.read_from frame ≡ true → read_by v.read_from tables frame ≡ true)
@@ -55,8 +54,8 @@ pub tells_by : (v v' : Sight) (tables wrote : List ℕ) (result : Option ℕ) �
 tells_by v v' tables wrote None n m a e = absurd (let f : true ≡ false = e in cc)
 tells_by v v' tables wrote (Some k) n m a e = record { notes = n; marks = m; others = a }
 
-pub stays_same : (read_from : ℕ → Bool) (stale : Bool) (other_roots : List OtherRoot) → StayAside read_from read_from stale stale other_roots other_roots
-stays_same read_from stale other_roots = record { notes = λ frame h. h; marks = λ h. h; others = same-refl other_roots }
+pub stays_same : (v : Sight) → StaysBeside v v
+stays_same v = record { notes = λ frame h. h; marks = λ h. h; others = same-refl v.other_roots }
 
 -- ---- a load of CR3
 

@@ -2,6 +2,7 @@
 use Rattle.std.specs.Prelude.{◌≡◌, ℕ, eqb, List}
 use Rattle.std.specs.Set.{is_member}
 use Rattle.shadow_tables.specs.Entries.{entries_of}
+use Rattle.shadow_tables.specs.Sight.{sight}
 use Rattle.shadow_tables.specs.declared.shadows.Shadows as shadows
 use Rattle.machine_model.specs.Run.{Set, with_set}
 use Rattle.machine_model.specs.State.{Setting, State}
@@ -21,10 +22,10 @@ module _ {S : Type 0} (g : shadows.Ghosts S) where
   -- Behind these steps, with what the shadows keep, all is known; and they have tables only under directory indices of pages
   -- that these steps used.
   pub record IsCarried (m : Setting) (steps : List Taken) (b : State) (s : S) (memory : List ℕ) : Type 0 where
-    pub known : IsKnown m steps b (g.read_from s) (g.stale s) (g.other_roots s memory) (entries_of (g.slots s memory))
+    pub known : IsKnown m steps b (sight g s memory) (entries_of (g.slots s memory))
     pub opened_to : g.has_tables_under s memory (λ index. is_member eqb (indices_in steps) index)
 
   -- The same of steps behind which a step goes by other translations than what is present.
   pub record IsCarriedBy (m : Setting) (steps : List Taken) (b : State) (kept : Set) (s : S) (memory : List ℕ) : Type 0 where
-    pub known : IsKnown m steps b (g.read_from s) (g.stale s) (g.other_roots s memory) kept
+    pub known : IsKnown m steps b (sight g s memory) kept
     pub opened_to : g.has_tables_under s memory (λ index. is_member eqb (indices_in steps) index)

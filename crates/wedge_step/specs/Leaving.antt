@@ -1,25 +1,19 @@
 -- What the end of a step makes of what the shadows keep, for the present value of CR3 and for others.
-use Rattle.std.specs.Prelude.{◌≡◌, ℕ, ◌^◌, ◌<◌, ◌≤◌, Bool, true, false, ◌||◌, None, List}
+use Rattle.std.specs.Prelude.{◌≡◌, ℕ, ◌^◌, ◌<◌, ◌≤◌, Bool, true, false, None, List}
 use Rattle.std.specs.FinMap.{empty}
-use Rattle.std.specs.List.{list_any}
 use Rattle.descriptors.specs.Controls.{pse_of, wp_of}
 use Rattle.descriptors.specs.declared.cpu.Cpu.{Cpu}
-use Rattle.shadow_tables.specs.OtherRoot.{IsSame, AreSame, LoseWrites, all_spared}
+use Rattle.shadow_tables.specs.OtherRoot.{IsSame, AreSame}
 use Rattle.shadow_tables.specs.Entries.{entries_of}
+use Rattle.shadow_tables.specs.Sight.{EmptiesBeside, Sight, StaysBeside}
 use Rattle.shadow_cache.specs.Reloaded.{coming, staying}
-use Rattle.wedge_mem.specs.Told.{guest_frames, read_by}
+use Rattle.kept_laws.specs.OverSteps.{Tells, under_value}
 use Rattle.machine_model.specs.Run.{Set}
 use Rattle.machine_step.specs.declared.worked.Dropped.{Dropped}
 use Rattle.machine_step.specs.declared.worked.Worked.{Worked}
 use Rattle.machine_step.specs.Worked.{dropping}
 use Rattle.wedge_step.specs.Ready.{is_all}
-use Rattle.wedge_step.specs.Sight.{Sight, StaysBeside, EmptiesBeside, Sheds, with_present}
-
--- What is kept was told which frames a step read as tables, and then which it wrote.
-pub record Tells (tables wrote : List ℕ) (v v' : Sight) : Type 0 where
-  pub notes : (frame : ℕ) → v'.read_from frame ≡ true → read_by v.read_from tables frame ≡ true
-  pub marks : v'.stale ≡ (v.stale || list_any (read_by v.read_from tables) wrote)
-  pub others : LoseWrites (guest_frames tables) (all_spared wrote v.other_roots) v'.other_roots
+use Rattle.wedge_step.specs.Sight.{Sheds, with_present}
 
 -- The value of CR3 is the same; and unless all was dropped, what is kept was told.
 pub record IsToldOf (tables wrote : List ℕ) (dropped : Bool) (v v' : Sight) : Type 0 where
@@ -42,7 +36,7 @@ pub record Loads (cr3 : ℕ) (pages : List ℕ) (v v' : Sight) : Type 0 where
   pub between : Sight
   pub value : between.value ≡ v.value
   pub sheds : Sheds pages v between
-  pub present : IsSame (coming cr3 (with_present between)) (record { cr3 = cr3; tables = v'.read_from; slots = v'.slots })
+  pub present : IsSame (coming cr3 (with_present between)) (under_value cr3 v')
   pub put : AreSame (staying cr3 (with_present between)) v'.other_roots
   pub unmarked : v'.stale ≡ false
 

@@ -20,7 +20,7 @@ use Rattle.wedge_step.specs.Closed.{MayClose, Closes}
 use Rattle.wedge_step.specs.Filled.{pages_kept}
 use Rattle.wedge_step.specs.Leaving.{RulesSame}
 use Rattle.wedge_step.specs.Ready.{AreFound, IsReady, IsReadyBut, IsReadyBehind, is_all}
-use Rattle.wedge_step.specs.Sight.{Sight, StaysBeside, sight}
+use Rattle.shadow_tables.specs.Sight.{Sight, StaysBeside, sight}
 
 pub record Stand (S : Type 0) : Type 0 where
   pub shadows : S

@@ -16,8 +16,10 @@ ghost use Rattle.machine_model.specs.State.{Setting};
 ghost use Rattle.wedge_step.specs.Parts.{left_of};
 ghost use Rattle.wedge_step.specs.Ready.{AllOpen, is_all, leaving, left_out};
 ghost use Rattle.wedge_step.specs.Standing.{AreOpen};
-ghost use Rattle.wedge_step.specs.Sight.{IsBare, Sheds, StayOpen, StaysBeside, sight};
-ghost use Rattle.wedge_step.specs.Leaving.{ChangesRules, Leaves, Loads, RulesSame, Tells};
+ghost use Rattle.shadow_tables.specs.Sight.{StaysBeside, sight};
+ghost use Rattle.wedge_step.specs.Sight.{IsBare, Sheds, StayOpen};
+ghost use Rattle.kept_laws.specs.OverSteps.{Tells};
+ghost use Rattle.wedge_step.specs.Leaving.{ChangesRules, Leaves, Loads, RulesSame};
 ghost use Rattle.wedge_step.specs.Stand.{AreFoundIn, ClosesIn, IsFilledBy, IsOwned, IsReadyBehindIn, IsReadyButIn, IsReadyIn, IsSoundIn, KeepsRules, MayCloseIn, Moved, OpensFor, OpensNoMore, count_in, free_in, pages_through, room_in, set_behind, set_in, stand};
 
 use crate::opened::are_open;

@@ -17,7 +17,7 @@ ghost use Rattle.wedge_step.specs.Original.{IsOriginal};
 ghost use Rattle.wedge_step.specs.Parts.{left_of};
 ghost use Rattle.wedge_step.specs.Ready.{AllOpen, leaving};
 ghost use Rattle.wedge_step.specs.Scene.{scene, state_in};
-ghost use Rattle.wedge_step.specs.Sight.{sight};
+ghost use Rattle.shadow_tables.specs.Sight.{sight};
 ghost use Rattle.wedge_step.specs.Stand.{AreFoundIn, AreUnder, ClosesIn, IsReadyBehindIn, IsReadyButIn, IsReadyIn, MayCloseIn, Moved, OpensFor, Suffices, pages_through, room_in, set_behind, set_in, stand};
 ghost use Rattle.wedge_step.specs.Standing.{AreOpen, side_of};
 

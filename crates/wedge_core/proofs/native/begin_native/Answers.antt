@@ -6,6 +6,7 @@ use Rattle.ia32_types.specs.declared.stop.Stop.{Stop}
 use Rattle.board.specs.Scripts.{Events}
 use Rattle.image_check.specs.Image.{Image}
 use Rattle.shadow_tables.specs.Entries.{entries_of}
+use Rattle.shadow_tables.specs.Sight.{sight}
 use Rattle.machine_model.specs.Keeping.{Roomy}
 use Rattle.machine_model.specs.Run.{Set, with_set}
 use Rattle.machine_model.specs.Step.{stepped}
@@ -109,8 +110,7 @@ module _ (g : Over) (c : goal.After-try_once g) where
 
         carried_there : IsCarriedBy g.S.Shadows m steps t.before (entries_of (g.S.Shadows.slots running.shadows ram0)) mid.shadows ram1
         carried_there = record {
-          known = c.known_laws.ensures.still m steps t.before (g.S.Shadows.read_from running.shadows) (g.S.Shadows.read_from mid.shadows) (g.S.Shadows.stale running.shadows) (g.S.Shadows.stale mid.shadows) (g.S.Shadows.other_roots running.shadows ram0)
-              (g.S.Shadows.other_roots mid.shadows ram1) (entries_of (g.S.Shadows.slots running.shadows ram0)) (c.make_room.ensures.stay room) carried.known;
+          known = c.known_laws.ensures.still m steps t.before (sight g.S.Shadows running.shadows ram0) (sight g.S.Shadows mid.shadows ram1) (entries_of (g.S.Shadows.slots running.shadows ram0)) (c.make_room.ensures.stay room) carried.known;
           opened_to = c.make_room.ensures.beside.has_tables_under (λ index. is_member eqb (indices_in steps) index) carried.opened_to;
         }
 

@@ -9,6 +9,7 @@ use Rattle.frame_pool.specs.Pool.{base_of, free_list}
 use Rattle.host_cpl3.specs.Hosts.{standing}
 use Rattle.shadow_tables.specs.OtherRoot.{AreSame}
 use Rattle.shadow_tables.specs.Entries.{entries_of}
+use Rattle.shadow_tables.specs.Sight.{sight}
 use Rattle.machine_model.specs.Keeping.{Roomy}
 use Rattle.machine_model.specs.Run.{Set}
 use Rattle.machine_model.specs.State.{Setting, State, wedge}
@@ -224,13 +225,11 @@ module _ (g : Over) (c : goal.After-ram g) where
       let e = c.in-Ok-Asked.ensures.attempts.leaves.held in
       let as_was = g.met.S.Shadows.above s c.attempt.new.pool m1 m2 (4096 * n) e.owns under behind size in
       let indices : ℕ → Bool = λ index. is_member eqb (indices_in steps) index in
-      let read_from = g.S.Shadows.read_from s in
-      let stale = g.S.Shadows.stale s in
-      let still = c.known_laws.ensures.still m steps b read_from read_from stale stale (g.S.Shadows.other_roots s m1) (g.S.Shadows.other_roots s m2) (entries_of (g.S.Shadows.slots s m1))
+      let still = c.known_laws.ensures.still m steps b (sight g.S.Shadows s m1) (sight g.S.Shadows s m2) (entries_of (g.S.Shadows.slots s m1))
       (record { notes = λ frame e. e; marks = λ e. e; others = asides_same }) h.known in
       subst (λ (x : g.row.S.Denot). IsCarried g.S.Shadows m steps b x m2) (sym shadows_same)
       (record {
-        known = subst (λ (x : Set). IsKnown m steps b read_from stale (g.S.Shadows.other_roots s m2) x) (sym kept.entries_are) still;
+        known = subst (λ (x : Set). IsKnown m steps b (sight g.S.Shadows s m2) x) (sym kept.entries_are) still;
         opened_to = g.met.S.Shadows.same_tables_under s m1 m2 indices e.stand as_was h.opened_to;
       })
 

@@ -6,7 +6,7 @@ use Rattle.shadow_tables.specs.Laws.Entries.{entries_of-none}
 use Rattle.guest_ram.specs.Among.{is_among}
 use Rattle.wedge_step.specs.Parts.{left_of}
 use Rattle.wedge_step.specs.Ready.{left_out}
-use Rattle.wedge_step.specs.Sight.{sight}
+use Rattle.shadow_tables.specs.Sight.{sight}
 use Rattle.wedge_step.proofs.Returning.{rules_but, through_ready, loaded_left, through_left, nothing_out, out_among}
 use Rattle.machine_step.specs.Worked.{dropping}
 use Rattle.wedge_step.proofs.Leaving.{no_way, loads_from, same_free}

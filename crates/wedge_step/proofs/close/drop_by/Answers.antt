@@ -122,6 +122,6 @@ returns-then-not-is_all-clause-same g c = λ no. record {
 pub returns-else-not-is_all-clause-same : goal.returns-else-not-is_all-clause-same
 returns-else-not-is_all-clause-same g c = λ no. record {
   rules = c.are_rules_changed.ensures.same c.if-are_rules_changed.false;
-  beside = stays_same _ _ _;
+  beside = stays_same _;
   same = λ all. (refl, refl, refl);
 }

@@ -52,13 +52,13 @@ returns-in-All-clause-fewer g c =
     let none = none_pages g.S.Shadows c.drop_all.new.self c.drop_all.new.ram c.drop_all.ensures.entries c.drop_all.ensures.other_roots in omega (arith, none)
 
 pub returns-in-Nothing-clause-stay : goal.returns-in-Nothing-clause-stay
-returns-in-Nothing-clause-stay g c = λ all. stays_same _ _ _
+returns-in-Nothing-clause-stay g c = λ all. stays_same _
 
 pub returns-in-Page-clause-stay : goal.returns-in-Page-clause-stay
-returns-in-Page-clause-stay g c = λ all. let e = c.drop_page.ensures.beside in stays_by _ _ _ _ _ _ e.read_from e.stale e.other_roots
+returns-in-Page-clause-stay g c = λ all. let e = c.drop_page.ensures.beside in stays_by _ _ e.read_from e.stale e.other_roots
 
 pub returns-in-Dir-clause-stay : goal.returns-in-Dir-clause-stay
-returns-in-Dir-clause-stay g c = λ all. let e = c.drop_dir.ensures.beside in stays_by _ _ _ _ _ _ e.read_from e.stale e.other_roots
+returns-in-Dir-clause-stay g c = λ all. let e = c.drop_dir.ensures.beside in stays_by _ _ e.read_from e.stale e.other_roots
 
 pub returns-in-Page-clause-entries : goal.returns-in-Page-clause-entries
 returns-in-Page-clause-entries g c = rw c.in-Page.is c.drop_page.ensures.entries

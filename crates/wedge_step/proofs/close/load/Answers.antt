@@ -4,7 +4,7 @@ use Rattle.frame_pool.proofs.Held.{Moves-trans}
 use Rattle.wedge_step.proofs.Memories.{front_same, shown_same}
 use Rattle.wedge_step.proofs.Readying.{Switched, loaded_ready, loaded_shows, loaded_fewer, loaded_none}
 use Rattle.wedge_step.proofs.close.load.Given.{Over}
-use Rattle.wedge_step.specs.Sight.{sight}
+use Rattle.shadow_tables.specs.Sight.{sight}
 use Rattle.wedge_step.proofs.close.load.Goals as goal
 
 module _ (g : Over) (c : goal.After-switch g) where

@@ -109,4 +109,4 @@ pub returns-then-free-lt2-clause-sheds : goal.returns-then-free-lt2-clause-sheds
 returns-then-free-lt2-clause-sheds g c = λ unwished enough. absurd (lacking g c unwished enough)
 
 pub returns-else-free-lt2-clause-sheds : goal.returns-else-free-lt2-clause-sheds
-returns-else-free-lt2-clause-sheds g c = λ unwished enough. let e = c.drop_pages.ensures in record { stay = stays_by _ _ _ _ _ _ e.read_from e.stale e.other_roots; gone = e.gone; others = e.stays }
+returns-else-free-lt2-clause-sheds g c = λ unwished enough. let e = c.drop_pages.ensures in record { stay = stays_by _ _ e.read_from e.stale e.other_roots; gone = e.gone; others = e.stays }

@@ -12,7 +12,7 @@ use Rattle.wedge_step.proofs.Memories.{front_same, shown_same}
 use Rattle.wedge_step.proofs.Readying.{none_ready, none_pages}
 use Rattle.wedge_step.proofs.Resettling.{Settled, closed_opens, closed_none, closed_filled, closed_ready, counts_join}
 use Rattle.wedge_step.specs.Ready.{AllOpen}
-use Rattle.wedge_step.specs.Sight.{sight}
+use Rattle.shadow_tables.specs.Sight.{sight}
 use Rattle.wedge_step.specs.Stand.{stand}
 use Rattle.wedge_step.proofs.close.settle_or_drop.Given.{Over}
 use Rattle.wedge_step.proofs.Leaving.{tells_by}

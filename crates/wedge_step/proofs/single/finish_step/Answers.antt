@@ -9,7 +9,7 @@ use Rattle.wedge_mem.specs.Settled.{pages_of}
 use Rattle.wedge_step.specs.Ending.{HasFilled}
 use Rattle.wedge_step.specs.Scene.{scene}
 use Rattle.wedge_step.specs.Ready.{AreFound, IsReady, IsReadyBut, leaving}
-use Rattle.wedge_step.specs.Sight.{sight}
+use Rattle.shadow_tables.specs.Sight.{sight}
 use Rattle.wedge_step.specs.Standing.{AreOpen}
 use Rattle.wedge_step.specs.declared.running.Running.{Running}
 use Rattle.wedge_step.proofs.AmongPages.{among_through, leaving_through}
