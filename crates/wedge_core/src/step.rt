@@ -5,9 +5,8 @@ ghost use Rattle.wedge_step.specs.Leaves.{Accounts, IsBetween};
 ghost use Rattle.wedge_step.specs.Original.{IsOriginal};
 ghost use Rattle.wedge_step.specs.Scene.{scene};
 ghost use Rattle.wedge_step.specs.Standing.{IsAble};
-ghost use Rattle.wedge_core.specs.Attempted.{Attempts};
 ghost use Rattle.wedge_core.specs.Counts.{counts_of};
-ghost use Rattle.wedge_core.specs.Stepped.{CountsNone, CountsOne, StepsAlone, StepsOnce};
+ghost use Rattle.wedge_core.specs.Stepped.{CountsOne, StepsOnce};
 ghost use Rattle.wedge_core.specs.Views.{may_run};
 
 use crate::laws::alones_go;
@@ -56,7 +55,7 @@ pub fn one_step<'t, S: Reloads + Drop, H: Host>(
         back: false,
     };
     if !runs {
-        return by_rules(running, pool, host, image, text, wanted, state);
+        return step_alone(running, pool, host.ram_mut(), image, text, wanted, state);
     }
     on_host(running, pool, host, image, text, wanted, state)
 }
@@ -88,7 +87,7 @@ fn on_host<'t, S: Reloads + Drop, H: Host>(
     known_laws();
     steps_keep_able();
     let frames = running.frames;
-    match attempt(running, pool, host, image, text, wanted, state) {
+    match begin_native(running, pool, host.ram_mut(), image, text, wanted, state) {
         Err(stop) => Err(stop),
         Ok(Attempt::Stepped(seen)) => Ok(seen),
         Ok(Attempt::Asked) => {
@@ -97,53 +96,4 @@ fn on_host<'t, S: Reloads + Drop, H: Host>(
             Ok(Seen::Nothing)
         }
     }
-}
-
-/// An attempt at a step whose instruction the host may do, over the host's memory. The host completes nothing yet.
-fn attempt<'t, S: Reloads + Drop, H: Host>(
-    running: &mut Running<S>,
-    pool: &mut Pool,
-    host: &mut H,
-    image: &Checked,
-    text: &'t Option<Text<'t>>,
-    wanted: bool,
-    state: &mut StepState<'t>,
-) -> Result<Attempt, Stop>
-    requires text { IsOriginal image.now text.now }
-    requires started { H.is_started host.old ≡ true }
-    requires between { IsBetween S.Shadows image.now (scene running.old pool.old (H.bytes host.old)) }
-    requires able { IsAble running.old.cpu }
-    requires runs { may_run running.old.cpu running.old.board image.now ≡ true }
-    requires bound { running.old.step < 2 ^ 40 }
-    requires kept { (running.old.lost.before ≡ false) × (running.old.lost.back ≡ false) }
-    ensures attempts { Attempts S.Shadows image.now wanted (scene running.old pool.old (H.bytes host.old))
-        (scene running.new pool.new (H.bytes host.new)) result }
-    ensures accounts { Accounts S.Shadows (scene running.old pool.old (H.bytes host.old)) (scene running.new pool.new (H.bytes host.new)) }
-    ensures counts { CountsNone (counts_of H.Host host.old) (counts_of H.Host host.new) }
-    ensures started { H.is_started host.new ≡ true }
-{
-    begin_native(running, pool, host.ram_mut(), image, text, wanted, state)
-}
-
-/// One step by the rules alone, over the host's memory. The host completes nothing.
-fn by_rules<'t, S: Reloads + Drop, H: Host>(
-    running: &mut Running<S>,
-    pool: &mut Pool,
-    host: &mut H,
-    image: &Checked,
-    text: &'t Option<Text<'t>>,
-    wanted: bool,
-    state: &mut StepState<'t>,
-) -> Result<Seen, Stop>
-    requires text { IsOriginal image.now text.now }
-    requires started { H.is_started host.old ≡ true }
-    requires between { IsBetween S.Shadows image.now (scene running.old pool.old (H.bytes host.old)) }
-    requires bound { running.old.step < 2 ^ 40 }
-    ensures alone { StepsAlone S.Shadows image.now wanted (scene running.old pool.old (H.bytes host.old))
-        (scene running.new pool.new (H.bytes host.new)) result }
-    ensures accounts { Accounts S.Shadows (scene running.old pool.old (H.bytes host.old)) (scene running.new pool.new (H.bytes host.new)) }
-    ensures counts { CountsNone (counts_of H.Host host.old) (counts_of H.Host host.new) }
-    ensures started { H.is_started host.new ≡ true }
-{
-    step_alone(running, pool, host.ram_mut(), image, text, wanted, state)
 }
