@@ -4,7 +4,6 @@ use Rattle.frame_pool.specs.declared.Pool.{Pool}
 use Rattle.board.specs.Scripts.{Events}
 use Rattle.image_check.specs.Image.{Image}
 use Rattle.native_steps.specs.Mirrors.{shown}
-use Rattle.shadow_cache.specs.Views as roots
 use Rattle.shadow_cache.specs.declared.roots.Roots.{Roots}
 use Rattle.machine_model.specs.Fit.{Fit}
 use Rattle.machine_model.specs.State.{State, wedge}

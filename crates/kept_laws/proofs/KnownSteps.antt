@@ -9,7 +9,7 @@ use Rattle.descriptors.specs.Controls.{pse_of, wp_of}
 use Rattle.shadow_tables.specs.OtherRoot.{OtherRoot, AreSame, LoseWrites, all_spared}
 use Rattle.shadow_tables.specs.Entries.{entries_of}
 use Rattle.shadow_tables.specs.Sight.{Sight, StaysBeside, EmptiesBeside}
-use Rattle.machine_model.specs.State.{Setting, State}
+use Rattle.machine_model.specs.State.{Setting}
 use Rattle.machine_model.specs.Step.{Went, step_of}
 use Rattle.machine_model.specs.Run.{Set}
 use Rattle.machine_model.specs.Taken.{Taken, loads_root, changes_protection}

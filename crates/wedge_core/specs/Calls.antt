@@ -14,7 +14,6 @@ use Rattle.image_load.specs.Boot.{text_pages}
 use Rattle.pv_io.specs.declared.answer.Failed.{Failed}
 use Rattle.run_trace.specs.Pauses.{IfPaused, IfReached}
 use Rattle.run_trace.specs.declared.pause.Pause.{Pause}
-use Rattle.shadow_cache.specs.Views as roots
 use Rattle.shadow_cache.specs.declared.roots.Roots.{Roots}
 use Rattle.machine_model.specs.State.{Setting, State, wedge}
 use Rattle.wedge_step.specs.Filled.{IsFilled}

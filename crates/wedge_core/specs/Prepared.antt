@@ -1,6 +1,6 @@
 -- An instruction that the host does by itself, up to its effect: its ranges are translated, and its effect is found and
 -- left undone.
-use Rattle.std.specs.Prelude.{◌≡◌, ℕ, List, Option, Some, None, Result, Ok, Err}
+use Rattle.std.specs.Prelude.{◌≡◌, ℕ, Option, Some, None, Result, Ok, Err}
 use Rattle.ia32_types.specs.declared.stop.Stop.{Stop}
 use Rattle.ia32_types.specs.declared.insn.Insn.{Insn}
 use Rattle.ia32_decode.specs.declared.answer.Decoded.TheVariants as begins

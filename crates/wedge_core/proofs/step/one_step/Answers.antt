@@ -10,7 +10,6 @@ use Rattle.wedge_step.specs.Parts.{left_of}
 use Rattle.wedge_step.specs.Scene.{Scene, scene}
 use Rattle.wedge_step.specs.declared.running.Lost.{Lost}
 use Rattle.wedge_step.specs.Standing.{ground, set_of, state_of}
-use Rattle.wedge_step.specs.declared.running.Running.{Running}
 use Rattle.wedge_core.specs.Slices.{Counts}
 use Rattle.wedge_core.specs.Scenes.{IsHeldIn, IsReadyIn}
 use Rattle.wedge_core.specs.Stepped.{StepsAlone}
