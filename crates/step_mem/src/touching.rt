@@ -247,33 +247,8 @@ fn frame<B: Kept>(ram: &Ram, base: &B, changes: &Changes, page: u32) -> u32
     }
 }
 
-/// Translates the page of a fetch, while nothing is ready.
-fn fetch_page<B: Kept>(
-    ram: &mut Ram,
-    base: &B,
-    state: &mut StepState,
-    at: u32,
-    len: u32,
-    access: Access,
-) -> Touch
-    requires sound { IsSoundOver B.Kept base.now ram.old state.old }
-    requires room { state.old.pages < 64 }
-    requires one { at % 4096 + len ≤ 4096 }
-    requires unready { state.old.ready.len ≡ 0 }
-    ensures sound { IsSoundOver B.Kept base.now ram.new state.new }
-    ensures uses { page_uses (space B.Kept base.now ram.old state.old) true (at / 4096) at access
-        ≡ (result, space B.Kept base.now ram.new state.new) }
-    ensures pages { state.new.pages ≡ state.old.pages + 1 }
-    ensures stays { StaysIn state.old state.new ram.old ram.new }
-    ensures keeps { KeepsReady state.old state.new (space B.Kept base.now ram.old state.old)
-        (space B.Kept base.now ram.new state.new) }
-    ensures found { result ≡ Touch.Ready → HaveEntries (space B.Kept base.now ram.new state.new).set at len }
-{
-    one_page(ram, base, state, true, at / 4096, at, access)
-}
-
 /// Translates a fetch, which lies in one page.
-#[tactic(auto, unfolding(paging::specs::Uses::fetches))]
+#[tactic(auto, unfolding(paging::specs::Uses::fetches), using(crate::proofs::Changed::page_found))]
 pub fn fetch<B: Kept>(
     ram: &mut Ram,
     base: &B,
@@ -296,7 +271,7 @@ pub fn fetch<B: Kept>(
 {
     begin(ram, base, state);
     let access = Access { write: false, user };
-    match fetch_page(ram, base, state, at, len, access) {
+    match one_page(ram, base, state, true, at / 4096, at, access) {
         Touch::Ready => {}
         met => return met,
     }
