@@ -55,7 +55,7 @@ pub fn guest_from<H: Host>(
     requires able { IsAble state.cpu }
     requires text { part state.ram TEXT_PLACE (length image.now.text) ≡ image.now.text }
     ensures goes_on { IfOk result (λ r. GoesOnFrom image.now (length state.ram / 4096) (rested_from state)
-        (scene r.0.running r.1 (H.bytes host.new))) }
+        (scene r.0 r.1 (H.bytes host.new))) }
     ensures started { IfOk result (λ _. H.is_started host.new ≡ true) }
     ensures counts { CountsNone (counts_of H.Host host.old) (counts_of H.Host host.new) }
 {
@@ -80,18 +80,17 @@ pub fn state_of_guest<H: Host>(
     host: &H,
 ) -> Result<State, AllocError>
     requires started { H.is_started host.now ≡ true }
-    requires held { (pool : Pool) × IsHeldIn of_roots (ground image.now guest.running.frames)
-        (scene guest.running pool (H.bytes host.now)) }
-    requires fit { Fit guest.running.cpu }
-    requires step { guest.running.step ≤ 2 ^ 40 }
+    requires held { (pool : Pool) × IsHeldIn of_roots (ground image.now guest.frames)
+        (scene guest pool (H.bytes host.now)) }
+    requires fit { Fit guest.cpu }
+    requires step { guest.step ≤ 2 ^ 40 }
     ensures state { IfOk result (λ state. (script : Events)
-        → state ≡ kept_of (state_at image.now script guest.running (H.bytes host.now))) }
+        → state ≡ kept_of (state_at image.now script guest (H.bytes host.now))) }
     // Whether memory is found for it or not, a checkpoint can be made of the state.
-    ensures kept { (script : Events) → IsInForm (kept_of (state_at image.now script guest.running (H.bytes host.now))) }
+    ensures kept { (script : Events) → IsInForm (kept_of (state_at image.now script guest (H.bytes host.now))) }
     ensures size { (script : Events)
-        → length (state_at image.now script guest.running (H.bytes host.now)).ram ≡ 4096 * guest.running.frames }
+        → length (state_at image.now script guest (H.bytes host.now)).ram ≡ 4096 * guest.frames }
 {
-    let Guest { running } = guest;
     let Running {
         cpu,
         board,
@@ -101,7 +100,7 @@ pub fn state_of_guest<H: Host>(
         held: _,
         shadows: _,
         lost: _,
-    } = running;
+    } = guest.into_running();
     let ram = memory_of(alloc, host.ram(), image, frames)?;
     Ok(State {
         cpu,

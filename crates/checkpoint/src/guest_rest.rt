@@ -108,21 +108,21 @@ pub fn rest_wedge<H: Host, O: Sink>(
     out: &mut O,
 ) -> Result<Rested, RunFault>
     requires started { H.is_started host.old ≡ true }
-    requires between { IsBetween of_roots image.now (scene guest.running pool.old (H.bytes host.old)) }
-    requires able { IsAble guest.running.cpu }
-    requires fit { Fit guest.running.cpu }
+    requires between { IsBetween of_roots image.now (scene guest pool.old (H.bytes host.old)) }
+    requires able { IsAble guest.cpu }
+    requires fit { Fit guest.cpu }
     requires script { is_script script.now.list ≡ true }
-    requires begun { guest.running.step ≤ n }
+    requires begun { guest.step ≤ n }
     requires bound { n ≤ 2 ^ 40 }
     requires room { H.retired host.old ≤ 2 ^ 63 }
-    ensures rests { RestsAs (wedge image.now script.now.list guest.running.frames) n
-        (state_in of_roots (wedge image.now script.now.list guest.running.frames) (scene guest.running pool.old (H.bytes host.old)))
-        (host_counts (wedge image.now script.now.list guest.running.frames) (counts_of H.Host host.old) (counts_of H.Host host.new))
+    ensures rests { RestsAs (wedge image.now script.now.list guest.frames) n
+        (state_in of_roots (wedge image.now script.now.list guest.frames) (scene guest pool.old (H.bytes host.old)))
+        (host_counts (wedge image.now script.now.list guest.frames) (counts_of H.Host host.old) (counts_of H.Host host.new))
         (O.taken out.old) (O.taken out.new) (O.faults out.old) (O.faults out.new) result }
 {
     let mut guest = guest;
     runs_keep_fit();
-    segment_count(&guest.running.cpu.seg);
+    segment_count(&guest.cpu().seg);
     let k = n - guest.step();
     let pause = match guest.slice(image, script, k, pool, host, out, &mut NoNotes) {
         Err(_) => return Err(RunFault::Write),

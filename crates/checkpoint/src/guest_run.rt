@@ -68,15 +68,15 @@ fn whole<H: Host, O: Sink>(
     out: &mut O,
 ) -> Result<Ended, RunFault>
     requires started { H.is_started host.old ≡ true }
-    requires between { IsBetween of_roots image.now (scene guest.old.running pool.old (H.bytes host.old)) }
-    requires able { IsAble guest.old.running.cpu }
+    requires between { IsBetween of_roots image.now (scene guest.old pool.old (H.bytes host.old)) }
+    requires able { IsAble guest.old.cpu }
     requires script { is_script script.now.list ≡ true }
-    requires begun { guest.old.running.step ≤ n }
+    requires begun { guest.old.step ≤ n }
     requires bound { n ≤ 2 ^ 40 }
     requires room { H.retired host.old ≤ 2 ^ 63 }
-    ensures whole { WedgeGoesTo (wedge image.now script.now.list guest.old.running.frames) n
-        (state_in of_roots (wedge image.now script.now.list guest.old.running.frames)
-        (scene guest.old.running pool.old (H.bytes host.old)))
+    ensures whole { WedgeGoesTo (wedge image.now script.now.list guest.old.frames) n
+        (state_in of_roots (wedge image.now script.now.list guest.old.frames)
+        (scene guest.old pool.old (H.bytes host.old)))
         (around H.Host O.Sink host.old host.new out.old out.new) (H.bytes host.new) result }
 {
     let k = n - guest.step();

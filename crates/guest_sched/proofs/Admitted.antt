@@ -70,7 +70,7 @@ seats_more frames host present i n (y ∷ ks) (x ∷ ts) k t len at =
 
 -- the host's memory has become another, while none of these stands in it
 seat_in : List ℕ → Kernel → Tenant → Seat
-seat_in memory k t = record { image = k.image; running = t.guest.running; memory = memory; live = is_none t.stop }
+seat_in memory k t = record { image = k.image; running = t.guest; memory = memory; live = is_none t.stop }
 
 seats_behind : (frames : ℕ) (host host' : List ℕ) (present i : ℕ) (ks : List Kernel) (ts : List Tenant) → i + length ts ≤ present → All (λ (t : Tenant). 4096 * frames ≤ length t.ram) ts
     → seats_from frames host' present i ks ts ≡ map (behind_as frames host') (seats_from frames host present i ks ts)
@@ -91,8 +91,8 @@ seat_here : (frames : ℕ) (host : List ℕ) (n : ℕ) (k : Kernel) (guest : Gue
 unfolding seat_in
 seat_here frames host n k guest t is none =
     ap (λ (c : Bool). seat_in (cond c host (memory_with frames host t)) k t) (eq-eqb n n refl)
-    ∙ ap (λ (x : Guest). record { image = k.image; running = x.running; memory = host; live = is_none t.stop }) is
-    ∙ ap (λ (x : _). record { image = k.image; running = guest.running; memory = host; live = is_none x }) none
+    ∙ ap (λ (x : Guest). record { image = k.image; running = x; memory = host; live = is_none t.stop }) is
+    ∙ ap (λ (x : _). record { image = k.image; running = guest; memory = host; live = is_none x }) none
 
 -- where a run begins nothing is kept that could be forgotten
 at_start_still : (frames : ℕ) (kernel : Kernel) (s s' : Seat) → s'.live ≡ s.live → StaysSo frames s s' → IsAtStart kernel frames s → IsAtStart kernel frames s'

@@ -44,14 +44,14 @@ module _ (kernel : Kernel) (frames : ℕ) (ram host between : List ℕ) (fits : 
 
     module _ (p p' : Pool) (host' : List ℕ) (guest : Guest) (cpu : Cpu) (board : Board) (size : length between ≡ length host)
         (cpu_is : cpu ≡ boot_cpu kernel.image frames) (board_is : board ≡ at_reset) (able : IsAble (boot_cpu kernel.image frames))
-        (held : IsHeld of_roots (ground kernel.image frames) guest.running p' host')
-        (state : (script : Events) → state_of of_roots (wedge kernel.image script frames) guest.running host' ≡ record { cpu = cpu; ram = take (4096 * frames) between; set = empty; board = board; step = 0 })
-        (two : guest.running.held ≡ 2) (fills : guest.running.fills ≡ 0)
-        (ready : IsReady of_roots (ground kernel.image frames) guest.running.cpu guest.running.shadows host')
-        (filled : IsFilled (pages_kept of_roots guest.running.shadows host') guest.running.fills)
-        (keeps : Keeps p p' between host' [] (roots.frames guest.running.shadows host')) (low : 4096 * frames ≤ length host)
+        (held : IsHeld of_roots (ground kernel.image frames) guest p' host')
+        (state : (script : Events) → state_of of_roots (wedge kernel.image script frames) guest host' ≡ record { cpu = cpu; ram = take (4096 * frames) between; set = empty; board = board; step = 0 })
+        (two : guest.held ≡ 2) (fills : guest.fills ≡ 0)
+        (ready : IsReady of_roots (ground kernel.image frames) guest.cpu guest.shadows host')
+        (filled : IsFilled (pages_kept of_roots guest.shadows host') guest.fills)
+        (keeps : Keeps p p' between host' [] (roots.frames guest.shadows host')) (low : 4096 * frames ≤ length host)
       where
-        able_still : IsAble guest.running.cpu
+        able_still : IsAble guest.cpu
         able_still = subst IsAble (sym (ap (λ (b : State). b.cpu) (state []) ∙ cpu_is)) able
 
         seated : IsSeated frames p' (first_seat kernel guest host')

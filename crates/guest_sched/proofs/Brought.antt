@@ -34,9 +34,9 @@ pub same_seat : (frames : ℕ) (host host' : List ℕ) (present present' j : ℕ
     → seat_of frames host' present' j k t' ≡ seat_of frames host present j k t
 unfolding mem_of seat_with
 same_seat frames host host' present present' j k t t' guest stop memory =
-    ap (λ (g : Guest). seat_with k g.running (mem_of frames host' present' j t') (is_none t'.stop)) guest
-    ∙ ap (λ (m : List ℕ). seat_with k t.guest.running m (is_none t'.stop)) memory
-    ∙ ap (λ (s : Option Stop). seat_with k t.guest.running (mem_of frames host present j t) (is_none s)) stop
+    ap (λ (g : Guest). seat_with k g (mem_of frames host' present' j t') (is_none t'.stop)) guest
+    ∙ ap (λ (m : List ℕ). seat_with k t.guest m (is_none t'.stop)) memory
+    ∙ ap (λ (s : Option Stop). seat_with k t.guest (mem_of frames host present j t) (is_none s)) stop
 
 pub same_seats : (frames : ℕ) (host host' : List ℕ) (present present' i : ℕ) (kernels : List Kernel) (ts ts' : List Tenant) (d : Tenant) → length ts' ≡ length ts
     → ((j m : ℕ) (k : Kernel) → j < length ts → m ≡ i + j → seat_of frames host' present' m k (get_or ts' j d) ≡ seat_of frames host present m k (get_or ts j d))

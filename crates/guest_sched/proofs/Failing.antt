@@ -50,13 +50,13 @@ reports_counted m old (set ∷ sets) reports last h =
 
 module _ (kernel : Kernel) (number steps : ℕ) (host : List ℕ) (old : Tenant) (taken tells between : Option (List ℕ)) where
   abbrev m : Setting
-  m = wedge kernel.image kernel.script.list old.guest.running.frames
+  m = wedge kernel.image kernel.script.list old.guest.frames
 
   abbrev first : State
-  first = state_of of_roots m old.guest.running host
+  first = state_of of_roots m old.guest host
 
   -- in the lines of its steps
-  pub failed_in_steps : (sets : List Set) (reports : List Report) (last : State) → Steps m first sets reports last → last.step ≤ old.guest.running.step + steps → AppendsFront taken tells (tagged (tag_of number) (lines_of (trace_of reports)))
+  pub failed_in_steps : (sets : List Set) (reports : List Report) (last : State) → Steps m first sets reports last → last.step ≤ old.guest.step + steps → AppendsFront taken tells (tagged (tag_of number) (lines_of (trace_of reports)))
       → HasFailed kernel number steps host old taken tells
   failed_in_steps sets reports last h few front = record {
     sets = sets;
@@ -72,9 +72,9 @@ module _ (kernel : Kernel) (number steps : ℕ) (host : List ℕ) (old : Tenant)
 
   -- in the line of its stop
   pub failed_at_stop : (sets : List Set) (reports : List Report) (last new : State) (set : Set) (paused : Pause) (stop : Stop) (ended : Ended) → paused ≡ pause.Stopped stop → Steps m first sets reports last
-      → PausesAs m (old.guest.running.step + steps) last new set (Ok paused) → Appends taken between (tagged (tag_of number) (lines_of (trace_of reports)))
+      → PausesAs m (old.guest.step + steps) last new set (Ok paused) → Appends taken between (tagged (tag_of number) (lines_of (trace_of reports)))
       → ended.steps ≡ new.step → ended.end ≡ end.Stopped stop → AppendsFront between tells (tagged (tag_of number) (end_line ended.steps ended.end)) → HasFailed kernel number steps host old taken tells
-  failed_at_stop sets reports last new set paused stop ended is h ends put count end_is front = let e = halting m (old.guest.running.step + steps) last new set paused stop is ends in record {
+  failed_at_stop sets reports last new set paused stop ended is h ends put count end_is front = let e = halting m (old.guest.step + steps) last new set paused stop is ends in record {
     sets = sets;
     piece = record { kernel = number; reports = reports; steps = last.step; stop = Some stop };
     last = last;

@@ -28,7 +28,7 @@ map_append [] ys = refl
 map_append (x ∷ xs) ys = ap (λ (l : List Ended). ended_of x ∷ l) (map_append xs ys)
 
 abbrev pub last_of : ℕ → Tenant → List ℕ
-last_of n t = tagged (tag_of n) (bound_line t.guest.running.step (end_with t.stop))
+last_of n t = tagged (tag_of n) (bound_line t.guest.step (end_with t.stop))
 
 -- the lines of the first kernels, and of one more
 pub texts_more : (ts : List Tenant) (n : ℕ) (d : Tenant) → n < length ts → bound_texts 0 (map ended_of (take (n + 1) ts)) ≡ bound_texts 0 (map ended_of (take n ts)) ++ last_of n (get_or ts n d)
@@ -76,7 +76,7 @@ pub stays_there : (old mid : Option (List ℕ)) (ts : List Tenant) (n : ℕ) (d 
     → Appends old mid (bound_texts 0 (map ended_of (take n ts))) → Appends old mid (bound_texts 0 (map ended_of (take (n + 1) ts)))
 stays_there old mid ts n d lt some before =
     subst (λ (z : List ℕ). Appends old mid z)
-    (sym (texts_more ts n d lt ∙ ap (λ (z : List ℕ). bound_texts 0 (map ended_of (take n ts)) ++ z) (no_line_of n (get_or ts n d).guest.running.step (get_or ts n d).stop some) ∙ append-nil (bound_texts 0 (map ended_of (take n ts))))) before
+    (sym (texts_more ts n d lt ∙ ap (λ (z : List ℕ). bound_texts 0 (map ended_of (take n ts)) ++ z) (no_line_of n (get_or ts n d).guest.step (get_or ts n d).stop some) ∙ append-nil (bound_texts 0 (map ended_of (take n ts))))) before
 
 -- how one more has ended
 pub ends_more : (ts : List Tenant) (ends : List Ended) (n : ℕ) (d : Tenant) (e : Ended) → n < length ts → length ends ≡ length ts → e ≡ ended_of (get_or ts n d)
@@ -88,13 +88,13 @@ ends_more ts ends n d e lt len is before =
     ∙ ap (λ (x : Ended). map ended_of (take n ts) ++ x ∷ []) is
     ∙ sym (ap (map ended_of) (take_more ts n d lt) ∙ map_append (take n ts) (get_or ts n d ∷ []))
 
-pub ended_is : (e : Ended) (t : Tenant) → e.steps ≡ t.guest.running.step → e.fills ≡ t.guest.running.fills → e.end ≡ end_with t.stop → e ≡ ended_of t
+pub ended_is : (e : Ended) (t : Tenant) → e.steps ≡ t.guest.step → e.fills ≡ t.guest.fills → e.end ≡ end_with t.stop → e ≡ ended_of t
 ended_is e t steps fills end = λ i. record { steps = steps i; end = end i; fills = fills i }
 
 -- the line that is put for one that met no stop
-pub last_line_is : (ts : List Tenant) (n : ℕ) (d : Tenant) (e : Ended) → e.steps ≡ d.guest.running.step → e.end ≡ end_with d.stop → is_none d.stop ≡ true → d ≡ get_or ts n d → tagged (tag_of n) (end_line e.steps e.end) ≡ last_of n (get_or ts n d)
+pub last_line_is : (ts : List Tenant) (n : ℕ) (d : Tenant) (e : Ended) → e.steps ≡ d.guest.step → e.end ≡ end_with d.stop → is_none d.stop ≡ true → d ≡ get_or ts n d → tagged (tag_of n) (end_line e.steps e.end) ≡ last_of n (get_or ts n d)
 last_line_is ts n d e steps end none is =
     ap (λ (k : ℕ). tagged (tag_of n) (end_line k e.end)) steps
-    ∙ ap (λ (x : End). tagged (tag_of n) (end_line d.guest.running.step x)) end
-    ∙ line_of n d.guest.running.step d.stop none
+    ∙ ap (λ (x : End). tagged (tag_of n) (end_line d.guest.step x)) end
+    ∙ line_of n d.guest.step d.stop none
     ∙ ap (last_of n) is

@@ -45,20 +45,20 @@ use Rattle.guest_sched.proofs.Turned.{seat_here, piece_of, turned, Turned, whole
 use Rattle.guest_sched.proofs.Turning.{flat_append, turns_on, counts_on, reports_on, text_on, reports_off, text_off}
 
 -- the turn over the kernel's own setting
-at_frames : (k : Kernel) (number steps : ℕ) (host host' : List ℕ) (t t' : Tenant) (now now' : Counts) (new between : Option (List ℕ)) (pause : Pause) (frames n : ℕ) → t.guest.running.frames ≡ frames → number ≡ n
-    → TurnAs (wedge k.image k.script.list t.guest.running.frames) (tag_of number) (t.guest.running.step + steps)
-    (state_of of_roots (wedge k.image k.script.list t.guest.running.frames) t.guest.running host)
-    (state_of of_roots (wedge k.image k.script.list t.guest.running.frames) t'.guest.running host')
-    now now' new between (pages_kept of_roots t.guest.running.shadows host) t.guest.running.fills t'.guest.running.fills (Ok pause)
-    → TurnAs (alone k frames) (tag_of n) (t.guest.running.step + steps)
-    (state_of of_roots (alone k frames) t.guest.running host)
-    (state_of of_roots (alone k frames) t'.guest.running host')
-    now now' new between (pages_kept of_roots t.guest.running.shadows host) t.guest.running.fills t'.guest.running.fills (Ok pause)
+at_frames : (k : Kernel) (number steps : ℕ) (host host' : List ℕ) (t t' : Tenant) (now now' : Counts) (new between : Option (List ℕ)) (pause : Pause) (frames n : ℕ) → t.guest.frames ≡ frames → number ≡ n
+    → TurnAs (wedge k.image k.script.list t.guest.frames) (tag_of number) (t.guest.step + steps)
+    (state_of of_roots (wedge k.image k.script.list t.guest.frames) t.guest host)
+    (state_of of_roots (wedge k.image k.script.list t.guest.frames) t'.guest host')
+    now now' new between (pages_kept of_roots t.guest.shadows host) t.guest.fills t'.guest.fills (Ok pause)
+    → TurnAs (alone k frames) (tag_of n) (t.guest.step + steps)
+    (state_of of_roots (alone k frames) t.guest host)
+    (state_of of_roots (alone k frames) t'.guest host')
+    now now' new between (pages_kept of_roots t.guest.shadows host) t.guest.fills t'.guest.fills (Ok pause)
 at_frames k number steps host host' t t' now now' new between pause frames n is same turn =
-    subst (λ (x : ℕ). TurnAs (alone k frames) (tag_of x) (t.guest.running.step + steps) (state_of of_roots (alone k frames) t.guest.running host)
-    (state_of of_roots (alone k frames) t'.guest.running host') now now' new between (pages_kept of_roots t.guest.running.shadows host) t.guest.running.fills t'.guest.running.fills (Ok pause)) same
-    (subst (λ (f : ℕ). TurnAs (alone k f) (tag_of number) (t.guest.running.step + steps) (state_of of_roots (alone k f) t.guest.running host)
-    (state_of of_roots (alone k f) t'.guest.running host') now now' new between (pages_kept of_roots t.guest.running.shadows host) t.guest.running.fills t'.guest.running.fills (Ok pause)) is turn)
+    subst (λ (x : ℕ). TurnAs (alone k frames) (tag_of x) (t.guest.step + steps) (state_of of_roots (alone k frames) t.guest host)
+    (state_of of_roots (alone k frames) t'.guest host') now now' new between (pages_kept of_roots t.guest.shadows host) t.guest.fills t'.guest.fills (Ok pause)) same
+    (subst (λ (f : ℕ). TurnAs (alone k f) (tag_of number) (t.guest.step + steps) (state_of of_roots (alone k f) t.guest host)
+    (state_of of_roots (alone k f) t'.guest host') now now' new between (pages_kept of_roots t.guest.shadows host) t.guest.fills t'.guest.fills (Ok pause)) is turn)
 
 same_counts : (c : Counts) (retired passed : ℕ) → c.retired ≡ retired → c.passed ≡ passed → c ≡ record { retired = retired; passed = passed }
 same_counts c retired passed a b = ap (λ (x : ℕ). counts_with x c.passed) a ∙ ap (λ (x : ℕ). counts_with retired x) b
@@ -140,7 +140,7 @@ module _ (kernels : List Kernel) (frames : ℕ) (whole done : List Slice) (ts : 
       pub is_here : Here frames whole done b.pieces pool host present k t
       is_here = here_of frames whole done b.pieces kernels ts pool present host dk d b.rooms.there b.rooms.len b.apart.seated b.each
 
-      pub frames_are : t.guest.running.frames ≡ frames
+      pub frames_are : t.guest.frames ≡ frames
       frames_are = is_here.seated.holds.frames_are
 
       pub may_go : MayGoOn frames pool (seat_here k host t)
@@ -152,15 +152,15 @@ module _ (kernels : List Kernel) (frames : ℕ) (whole done : List Slice) (ts : 
       grows : bound_of present (done ++ slice ∷ []) ≡ bound_of present done + slice.steps
       grows = subst (λ (x : ℕ). bound_of x (done ++ slice ∷ []) ≡ bound_of x done + slice.steps) (sym here) (sums_of (length kernels) whole done slice next).0
 
-      pub within : t.guest.running.step + slice.steps ≤ bound_of present whole
+      pub within : t.guest.step + slice.steps ≤ bound_of present whole
       within =
           let most = subst (λ (x : ℕ). bound_of x done + slice.steps ≤ bound_of x whole) (sym here) (sums_of (length kernels) whole done slice next).1 in
           let step = stands_live.1 in
           omega (arith, most, step)
 
       module _ (t' : Tenant) (pool' : Pool) (host' : List ℕ) (now' : Counts) (new' : Option (List ℕ)) (h : HasTurned k slice.kernel slice.steps host host' t t' now now' new new') (went : HasGoneOn k pool pool' host host' t t') where
-        turn : TurnAs (alone k frames) (tag_of present) (t.guest.running.step + slice.steps) (state_of of_roots (alone k frames) t.guest.running host)
-            (state_of of_roots (alone k frames) t'.guest.running host') now now' new h.between (pages_kept of_roots t.guest.running.shadows host) t.guest.running.fills t'.guest.running.fills (Ok h.pause)
+        turn : TurnAs (alone k frames) (tag_of present) (t.guest.step + slice.steps) (state_of of_roots (alone k frames) t.guest host)
+            (state_of of_roots (alone k frames) t'.guest host') now now' new h.between (pages_kept of_roots t.guest.shadows host) t.guest.fills t'.guest.fills (Ok h.pause)
         turn = at_frames k slice.kernel slice.steps host host' t t' now now' new h.between h.pause frames present frames_are (sym here) h.turn
 
         made : Turned present slice.steps frames whole done slice b.pieces k host host' t t' now now' new h.between new' (sym here) refl within grows may_go.filled h.few stands_live turn.reports
@@ -168,7 +168,7 @@ module _ (kernels : List Kernel) (frames : ℕ) (whole done : List Slice) (ts : 
             (subst (λ (x : ℕ). EndsSo x t' h.between new' h.pause) (sym here) h.ends)
 
         p : Piece
-        p = piece_of present turn.reports t'.guest.running.step t'.stop
+        p = piece_of present turn.reports t'.guest.step t'.stop
 
         seated : IsSeated frames pool' (seat_here k host' t')
         seated = subst (λ (f : ℕ). IsSeated f pool' (seat_here k host' t')) frames_are went.seated
@@ -287,9 +287,9 @@ module _ (kernels : List Kernel) (frames : ℕ) (whole done : List Slice) (ts : 
             let at = is_here here dk d live in
             let fr = frames_are here dk d live in
             let run = stands_live here dk d live in
-            let first = state_of of_roots m_here (get_or ts present d).guest.running host in
-            let on = began_on m_here (reports_of present b.pieces) h.piece.reports (get_or ts present d).guest.running.fills first h.last h.sets run.0
-            (subst (λ (f : ℕ). Steps (alone (get_or kernels present dk) f) (state_of of_roots (alone (get_or kernels present dk) f) (get_or ts present d).guest.running host) h.sets h.piece.reports h.last) fr h.steps_are) in
+            let first = state_of of_roots m_here (get_or ts present d).guest host in
+            let on = began_on m_here (reports_of present b.pieces) h.piece.reports (get_or ts present d).guest.fills first h.last h.sets run.0
+            (subst (λ (f : ℕ). Steps (alone (get_or kernels present dk) f) (state_of of_roots (alone (get_or kernels present dk) f) (get_or ts present d).guest host) h.sets h.piece.reports h.last) fr h.steps_are) in
             record {
               sets = on.sets;
               last = on.then_;

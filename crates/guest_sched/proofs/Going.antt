@@ -11,7 +11,7 @@ use Rattle.guest_sched.proofs.Fronts.{front_front}
 use Rattle.guest_sched.proofs.Turned.{seat_here}
 
 seat_with : Kernel → Tenant → List ℕ → Seat
-seat_with k t m = record { image = k.image; running = t.guest.running; memory = m; live = is_none t.stop }
+seat_with k t m = record { image = k.image; running = t.guest; memory = m; live = is_none t.stop }
 
 pub seat_is_here : (frames : ℕ) (host : List ℕ) (present j : ℕ) (k : Kernel) (t : Tenant) → j ≡ present → seat_of frames host present j k t ≡ seat_here k host t
 unfolding seat_with

@@ -96,7 +96,7 @@ absent frames host present number i (k ∷ ks) (t ∷ ts) low lower =
     (ap (λ c. seat_in k t c) (ne_eqb i number (λ z. omega arith) ∙ sym (ne_eqb i present (λ z. omega arith))))
     ∙ ap (λ l. seat_of frames host present i k t ∷ l) (absent frames host present number (suc i) ks ts (omega arith) (omega arith)) where
       seat_in : Kernel → Tenant → Bool → Seat
-      seat_in k t c = record { image = k.image; running = t.guest.running; memory = cond c host (memory_with frames host t); live = is_none t.stop }
+      seat_in k t c = record { image = k.image; running = t.guest; memory = cond c host (memory_with frames host t); live = is_none t.stop }
 
 pub none_parked : (frames : ℕ) (host : List ℕ) (present : ℕ) (tenants : List Tenant) → length tenants ≤ present → All (λ (t : Tenant). 4096 * frames ≤ length t.ram) tenants → HasParked frames host host present tenants tenants
 none_parked frames host present tenants past theirs = record {

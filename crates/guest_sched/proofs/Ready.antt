@@ -92,14 +92,14 @@ module _ (kernels : List Kernel) (frames : ℕ) (whole done : List Slice) (ts : 
     goes_on_at =
         subst (λ (x : Kernel). GoesOn x pool host t) (sym k_is)
         (subst (λ (x : Tenant). GoesOn (get_or kernels slice.kernel k) pool host x) (sym t_is)
-        (subst (λ (f : ℕ). MayGoOn f pool (record { image = (get_or kernels slice.kernel k).image; running = (get_or ts slice.kernel t).guest.running; memory = host; live = true })) (sym (frames_are kernels frames whole done ts pool slice.kernel host before now old new b slice next refl k t live_at))
-        (subst (λ (l : Bool). MayGoOn frames pool (record { image = (get_or kernels slice.kernel k).image; running = (get_or ts slice.kernel t).guest.running; memory = host; live = l })) (ap is_none live_at)
+        (subst (λ (f : ℕ). MayGoOn f pool (record { image = (get_or kernels slice.kernel k).image; running = (get_or ts slice.kernel t).guest; memory = host; live = true })) (sym (frames_are kernels frames whole done ts pool slice.kernel host before now old new b slice next refl k t live_at))
+        (subst (λ (l : Bool). MayGoOn frames pool (record { image = (get_or kernels slice.kernel k).image; running = (get_or ts slice.kernel t).guest; memory = host; live = l })) (ap is_none live_at)
         (may_go kernels frames whole done ts pool slice.kernel host before now old new b slice next refl k t live_at))))
 
-    pub bound_at : t.guest.running.step + slice.steps ≤ 2 ^ 40
+    pub bound_at : t.guest.step + slice.steps ≤ 2 ^ 40
     bound_at =
         let w = within kernels frames whole done ts pool slice.kernel host before now old new b slice next refl k t live_at in
-        let same = ap (λ (x : Tenant). x.guest.running.step) t_is in
+        let same = ap (λ (x : Tenant). x.guest.step) t_is in
         let most = next.schedule.sums slice.kernel in
         omega (arith, w, same, most)
 

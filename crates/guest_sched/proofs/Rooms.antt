@@ -27,8 +27,8 @@ pub record IsAt (frames : ℕ) (p : Pool) (host : List ℕ) (t : Tenant) (all : 
   pub seated : IsSeated frames p s
   pub size : length s.memory ≡ length host
   pub behind : drop (4096 * frames) s.memory ≡ drop (4096 * frames) host
-  pub running : s.running ≡ t.guest.running
-  pub held : t.guest.running.held ≤ all
+  pub running : s.running ≡ t.guest
+  pub held : t.guest.held ≤ all
 
 pub is_at : (frames : ℕ) (p : Pool) (host : List ℕ) (present i n : ℕ) (ks : List Kernel) (ts : List Tenant) (d : Tenant) → n < length ts → length ks ≡ length ts
     → AreSeated frames p host (seats_from frames host present i ks ts) → IsAt frames p host (get_or ts n d) (all_held (seats_from frames host present i ks ts))
@@ -42,7 +42,7 @@ is_at frames p host present i (suc n) (k ∷ ks) (t ∷ ts) d lt len h =
 
 -- each that isn't the present one holds two at most from the n-th on
 pub held_bound : (frames : ℕ) (p : Pool) (host : List ℕ) (present i : ℕ) (ks : List Kernel) (ts : List Tenant) (d : Tenant) (top : ℕ) → length ks ≡ length ts → AreSeated frames p host (seats_from frames host present i ks ts)
-    → ((j m : ℕ) → m ≡ i + j → j < length ts → m ≢ present → (get_or ts j d).guest.running.held ≤ 2) → ((j m : ℕ) → m ≡ i + j → j < length ts → m ≡ present → (get_or ts j d).guest.running.held ≤ top)
+    → ((j m : ℕ) → m ≡ i + j → j < length ts → m ≢ present → (get_or ts j d).guest.held ≤ 2) → ((j m : ℕ) → m ≡ i + j → j < length ts → m ≡ present → (get_or ts j d).guest.held ≤ top)
     → (all_held (seats_from frames host present i ks ts) ≤ 2 * length ts + top) × (present < i → all_held (seats_from frames host present i ks ts) ≤ 2 * length ts)
 held_bound frames p host present i [] ts d top len h two one = (omega arith, λ lt. omega arith)
 held_bound frames p host present i (k ∷ ks) [] d top len h two one = (omega arith, λ lt. omega arith)
@@ -63,7 +63,7 @@ held_bound frames p host present i (k ∷ ks) (t ∷ ts) d top len h two one =
 
 -- its shadows are whole over the host's memory too
 pub over_host : (frames : ℕ) (p : Pool) (host : List ℕ) (t : Tenant) (all : ℕ) → frames ≤ base_of p → IsAt frames p host t all
-    → ∥ roots.stands t.guest.running.shadows host ∥₁ × Owns p host (roots.frames t.guest.running.shadows host)
+    → ∥ roots.stands t.guest.shadows host ∥₁ × Owns p host (roots.frames t.guest.shadows host)
 over_host frames p host t all behind a =
     let h = a.seated.holds in
     let low : 4096 * frames ≤ 4096 * base_of p = omega (arith, behind) in
@@ -112,8 +112,8 @@ module _ (p p' : Pool) (host host' : List ℕ) (present n : ℕ) (ts now then_ :
   gives_up : (o : Tenant) → MayGiveUp o (get_or now n d) → MayGiveUp o t'
   gives_up o g = record {
     running =
-        h.running ∙ ap (λ (r : Running Roots). record r { shadows = t'.guest.running.shadows; held = 2 }) g.running
-        ∙ ap (λ (k : ℕ). record o.guest.running { shadows = t'.guest.running.shadows; held = k }) (sym (ap (λ (r : Running Roots). r.held) h.running));
+        h.running ∙ ap (λ (r : Running Roots). record r { shadows = t'.guest.shadows; held = 2 }) g.running
+        ∙ ap (λ (k : ℕ). record o.guest { shadows = t'.guest.shadows; held = k }) (sym (ap (λ (r : Running Roots). r.held) h.running));
     ram = h.ram ∙ g.ram;
     stop = h.stop ∙ g.stop;
   }
@@ -124,8 +124,8 @@ module _ (p p' : Pool) (host host' : List ℕ) (present n : ℕ) (ts now then_ :
     | inr o ↦ subst (λ (t : Tenant). MayGiveUp (get_or ts j d) t) (sym (then_other j o.1)) (m.each j d)
   ]
 
-  pub then_held : (j : ℕ) → (j < n → (get_or now j d).guest.running.held ≤ 2) → j < n + 1 → (get_or then_ j d).guest.running.held ≤ 2
+  pub then_held : (j : ℕ) → (j < n → (get_or now j d).guest.held ≤ 2) → j < n + 1 → (get_or then_ j d).guest.held ≤ 2
   then_held j done lt1 = elim (eqb_tells j n) [
-    | inl e ↦ (let a = ap (λ (t : Tenant). t.guest.running.held) (then_here j e.1) in let b = ap (λ (r : Running Roots). r.held) h.running in omega (arith, a, b))
-    | inr o ↦ (let a = ap (λ (t : Tenant). t.guest.running.held) (then_other j o.1) in let ne = o.1 in let b = done (omega (arith, lt1, ne)) in omega (arith, a, b))
+    | inl e ↦ (let a = ap (λ (t : Tenant). t.guest.held) (then_here j e.1) in let b = ap (λ (r : Running Roots). r.held) h.running in omega (arith, a, b))
+    | inr o ↦ (let a = ap (λ (t : Tenant). t.guest.held) (then_other j o.1) in let ne = o.1 in let b = done (omega (arith, lt1, ne)) in omega (arith, a, b))
   ]

@@ -51,7 +51,7 @@ pub record HasParked (frames : ℕ) (host host' : List ℕ) (present : ℕ) (ten
   pub behind : drop (4096 * frames) host' ≡ drop (4096 * frames) host
 
 abbrev pub first_seat : Kernel → Guest → List ℕ → Seat
-first_seat kernel guest memory = record { image = kernel.image; running = guest.running; memory = memory; live = true }
+first_seat kernel guest memory = record { image = kernel.image; running = guest; memory = memory; live = true }
 
 -- A kernel's memory as it starts was put to the front of the host's, and its shadows were made in two frames that were free.
 pub record HasBegun (kernel : Kernel) (frames : ℕ) (p p' : Pool) (host host' : List ℕ) (guest : Guest) : Type 0 where

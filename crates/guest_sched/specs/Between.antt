@@ -34,7 +34,7 @@ end_with None = Bound
 end_with (Some stop) = Stopped stop
 
 abbrev pub ended_of : Tenant → Ended
-ended_of tenant = record { steps = tenant.guest.running.step; end = end_with tenant.stop; fills = tenant.guest.running.fills }
+ended_of tenant = record { steps = tenant.guest.step; end = end_with tenant.stop; fills = tenant.guest.fills }
 
 -- How far the run of a kernel alone has come by these turns, and its text. One that has met a stop goes no further.
 abbrev pub StandsSo : ℕ → ℕ → List Slice → List Slice → List Piece → Kernel → Seat → Option Stop → Type 0

@@ -20,7 +20,7 @@ memory_with frames host tenant = take (4096 * frames) tenant.ram ++ drop (4096 *
 abbrev pub seat_of : ℕ → List ℕ → ℕ → ℕ → Kernel → Tenant → Seat
 seat_of frames host present i kernel tenant = record {
   image = kernel.image;
-  running = tenant.guest.running;
+  running = tenant.guest;
   memory = if i == present then host else memory_with frames host tenant;
   live = is_none tenant.stop;
 }
@@ -51,8 +51,8 @@ pub record HasBrought (frames : ℕ) (host host' : List ℕ) (present present' :
 
 -- A kernel has dropped its shadows, and is as it was otherwise.
 pub record HasReleased (p p' : Pool) (host host' : List ℕ) (old new : Tenant) : Type 0 where
-  pub dropped : AllDropped p p' host host' old.guest.running.shadows new.guest.running.shadows old.guest.running.fills
-  pub running : new.guest.running ≡ record old.guest.running { shadows = new.guest.running.shadows; held = 2 }
+  pub dropped : AllDropped p p' host host' old.guest.shadows new.guest.shadows old.guest.fills
+  pub running : new.guest ≡ record old.guest { shadows = new.guest.shadows; held = 2 }
   pub ram : new.ram ≡ old.ram
   pub stop : new.stop ≡ old.stop
 
@@ -89,7 +89,7 @@ pub record MayMakeRoom (frames : ℕ) (s : Stage) : Type 0 where
 
 -- a kernel that may have given up frames, and is as it was otherwise
 pub record MayGiveUp (old new : Tenant) : Type 0 where
-  pub running : new.guest.running ≡ record old.guest.running { shadows = new.guest.running.shadows; held = new.guest.running.held }
+  pub running : new.guest ≡ record old.guest { shadows = new.guest.shadows; held = new.guest.held }
   pub ram : new.ram ≡ old.ram
   pub stop : new.stop ≡ old.stop
 
@@ -102,16 +102,16 @@ pub record HasMadeRoom (present : ℕ) (tenants tenants' : List Tenant) : Type 0
 
 -- a kernel that stands in the host's memory may go on
 abbrev pub GoesOn : Kernel → Pool → List ℕ → Tenant → Type 0
-GoesOn kernel pool host tenant = MayGoOn tenant.guest.running.frames pool (record { image = kernel.image; running = tenant.guest.running; memory = host; live = true })
+GoesOn kernel pool host tenant = MayGoOn tenant.guest.frames pool (record { image = kernel.image; running = tenant.guest; memory = host; live = true })
 
 -- It has met no stop, and it and the free frames have enough for a slice.
 pub record TakesTurn (kernel : Kernel) (pool : Pool) (host : List ℕ) (tenant : Tenant) : Type 0 where
   pub fresh : tenant.stop ≡ None
   pub goes_on : GoesOn kernel pool host tenant
-  pub enough : 16 ≤ length (free_list pool host) + tenant.guest.running.held
+  pub enough : 16 ≤ length (free_list pool host) + tenant.guest.held
 
 -- A kernel that stands in the host's memory has gone on, or has met a stop: it holds its frames, and may go on if it met none.
 pub record HasGoneOn (kernel : Kernel) (p p' : Pool) (host host' : List ℕ) (old new : Tenant) : Type 0 where
-  pub seated : IsSeated old.guest.running.frames p' (record { image = kernel.image; running = new.guest.running; memory = host'; live = is_none new.stop })
-  pub keeps : Keeps p p' host host' (roots.frames old.guest.running.shadows host) (roots.frames new.guest.running.shadows host')
+  pub seated : IsSeated old.guest.frames p' (record { image = kernel.image; running = new.guest; memory = host'; live = is_none new.stop })
+  pub keeps : Keeps p p' host host' (roots.frames old.guest.shadows host) (roots.frames new.guest.shadows host')
   pub ram : new.ram ≡ old.ram

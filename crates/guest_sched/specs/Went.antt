@@ -19,23 +19,23 @@ use Rattle.guest_sched.specs.declared.tenants.Tenant.{Tenant}
 
 abbrev pub EndsSo : ℕ → Tenant → Option (List ℕ) → Option (List ℕ) → Pause → Type 0
 EndsSo number new taken tells Reached = (new.stop ≡ None) × (tells ≡ taken)
-EndsSo number new taken tells (Stopped stop) = (new.stop ≡ Some stop) × Appends taken tells (tagged (tag_of number) (end_line new.guest.running.step (end.Stopped stop)))
+EndsSo number new taken tells (Stopped stop) = (new.stop ≡ Some stop) × Appends taken tells (tagged (tag_of number) (end_line new.guest.step (end.Stopped stop)))
 
 -- The steps of a turn were made, all of them or those up to a stop, whose line stands behind theirs.
 pub record HasTurned (kernel : Kernel) (number steps : ℕ) (host host' : List ℕ) (old new : Tenant) (out : Outward) : Type 0 where
   pub pause : Pause
   pub between : Option (List ℕ)
-  pub turn : TurnAs (wedge kernel.image kernel.script.list old.guest.running.frames) (tag_of number) (old.guest.running.step + steps)
-      (state_of of_roots (wedge kernel.image kernel.script.list old.guest.running.frames) old.guest.running host)
-      (state_of of_roots (wedge kernel.image kernel.script.list old.guest.running.frames) new.guest.running host')
+  pub turn : TurnAs (wedge kernel.image kernel.script.list old.guest.frames) (tag_of number) (old.guest.step + steps)
+      (state_of of_roots (wedge kernel.image kernel.script.list old.guest.frames) old.guest host)
+      (state_of of_roots (wedge kernel.image kernel.script.list old.guest.frames) new.guest host')
       (record out { tells = between })
       (record {
-        pages = pages_kept of_roots old.guest.running.shadows host;
-        fills = old.guest.running.fills;
-        filled = new.guest.running.fills;
+        pages = pages_kept of_roots old.guest.shadows host;
+        fills = old.guest.fills;
+        filled = new.guest.fills;
       }) (Ok pause)
   pub ends : EndsSo number new between out.tells pause
-  pub few : new.guest.running.fills ≤ 128 * new.guest.running.step
+  pub few : new.guest.fills ≤ 128 * new.guest.step
 
 -- The sink has failed: some first steps of the turn, and the stop behind them if its line was begun, with a front of their text.
 pub record HasFailed (kernel : Kernel) (number steps : ℕ) (host : List ℕ) (old : Tenant) (taken tells : Option (List ℕ)) : Type 0 where
@@ -43,9 +43,9 @@ pub record HasFailed (kernel : Kernel) (number steps : ℕ) (host : List ℕ) (o
   pub piece : Piece
   pub last : State
   pub number_is : piece.kernel ≡ number
-  pub steps_are : Steps (wedge kernel.image kernel.script.list old.guest.running.frames)
-      (state_of of_roots (wedge kernel.image kernel.script.list old.guest.running.frames) old.guest.running host) sets piece.reports last
+  pub steps_are : Steps (wedge kernel.image kernel.script.list old.guest.frames)
+      (state_of of_roots (wedge kernel.image kernel.script.list old.guest.frames) old.guest host) sets piece.reports last
   pub few : length piece.reports ≤ steps
   pub count : piece.steps ≡ last.step
-  pub stops : IfSome piece.stop (StopHolds (wedge kernel.image kernel.script.list old.guest.running.frames) last)
+  pub stops : IfSome piece.stop (StopHolds (wedge kernel.image kernel.script.list old.guest.frames) last)
   pub front : AppendsFront taken tells (piece_text piece)

@@ -109,7 +109,7 @@ fn go_on<H: Host, O: Sink>(
     requires started { H.is_started host.old ≡ true }
     requires takes { TakesTurn kernel.now pool.old (H.bytes host.old) tenant.old }
     requires script { is_script kernel.now.script.list ≡ true }
-    requires bound { tenant.old.guest.running.step + slice.now.steps ≤ 2 ^ 40 }
+    requires bound { tenant.old.guest.step + slice.now.steps ≤ 2 ^ 40 }
     requires room { H.retired host.old + slice.now.steps < 2 ^ 64 }
     ensures turned { OnOk result (HasTurned kernel.now slice.now.kernel slice.now.steps (H.bytes host.old) (H.bytes host.new)
         tenant.old tenant.new (outward H.Host O.Sink host.old host.new out.old out.new)) }
@@ -132,8 +132,8 @@ fn go_on<H: Host, O: Sink>(
 
 /// How a kernel has ended.
 pub(crate) fn end_of(tenant: &Tenant) -> Ended
-    ensures steps { result.steps ≡ tenant.now.guest.running.step }
-    ensures fills { result.fills ≡ tenant.now.guest.running.fills }
+    ensures steps { result.steps ≡ tenant.now.guest.step }
+    ensures fills { result.fills ≡ tenant.now.guest.fills }
     ensures end { result.end ≡ end_with tenant.now.stop }
 {
     let end = match tenant.stop {

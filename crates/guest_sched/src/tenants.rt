@@ -14,7 +14,6 @@ use frame_pool::Pool;
 use guest_ram::Ram;
 use host_cpl3::Host;
 use ia32_types::Stop;
-use shadow_tables::Shadows;
 use wedge_core::Guest;
 
 /// How many frames a slice needs, of the free ones and its kernel's own.
@@ -52,16 +51,14 @@ impl Tenant {
     /// Drops the kernel's shadows, whoever stands in the host's memory. It holds two frames then.
     fn release<H: Host>(&mut self, pool: &mut Pool, host: &mut H)
         requires started { H.is_started host.old ≡ true }
-        requires stands { ∥ roots.stands self.old.guest.running.shadows (H.bytes host.old) ∥₁ }
-        requires owns { Owns pool.old (H.bytes host.old) (roots.frames self.old.guest.running.shadows (H.bytes host.old)) }
+        requires stands { ∥ roots.stands self.old.guest.shadows (H.bytes host.old) ∥₁ }
+        requires owns { Owns pool.old (H.bytes host.old) (roots.frames self.old.guest.shadows (H.bytes host.old)) }
         ensures released { HasReleased pool.old pool.new (H.bytes host.old) (H.bytes host.new) self.old self.new }
         ensures started { H.is_started host.new ≡ true }
         ensures retired { H.retired host.new ≡ H.retired host.old }
         ensures passed { H.passed host.new ≡ H.passed host.old }
     {
-        let running = &mut self.guest.running;
-        Shadows::drop_all(&mut running.shadows, host.ram_mut(), pool);
-        running.held = 2;
+        self.guest.release(pool, host);
     }
 }
 
@@ -121,7 +118,7 @@ impl Tenants {
         requires started { H.is_started host.old ≡ true }
         requires may { MayMakeRoom self.old.frames (stage self.old (H.bytes host.old)) }
         ensures enough { (d : Tenant) → 16 ≤ length (free_list self.new.pool (H.bytes host.new))
-            + (slice_index_or self.new.list.items self.old.present d).guest.running.held }
+            + (slice_index_or self.new.list.items self.old.present d).guest.held }
         ensures apart { StaysApart self.old.frames (stage self.old (H.bytes host.old)) (stage self.new (H.bytes host.new)) }
         ensures made { HasMadeRoom self.old.present self.old.list.items self.new.list.items }
         ensures theirs { All (λ tenant. 4096 * self.old.frames ≤ length tenant.ram) self.new.list.items }
@@ -149,9 +146,9 @@ impl Tenants {
         requires known { kernel < length self.old.list.items }
         requires theirs { All (λ tenant. 4096 * self.old.frames ≤ length tenant.ram) self.old.list.items }
         requires stands { (d : Tenant) →
-            ∥ roots.stands (slice_index_or self.old.list.items kernel d).guest.running.shadows (H.bytes host.old) ∥₁ }
+            ∥ roots.stands (slice_index_or self.old.list.items kernel d).guest.shadows (H.bytes host.old) ∥₁ }
         requires owns { (d : Tenant) → Owns self.old.pool (H.bytes host.old)
-            (roots.frames (slice_index_or self.old.list.items kernel d).guest.running.shadows (H.bytes host.old)) }
+            (roots.frames (slice_index_or self.old.list.items kernel d).guest.shadows (H.bytes host.old)) }
         ensures list { OneReleased kernel (stage self.old (H.bytes host.old)) (stage self.new (H.bytes host.new)) }
         ensures apart { StaysApart self.old.frames (stage self.old (H.bytes host.old)) (stage self.new (H.bytes host.new)) }
         ensures stay { KeepsMachines self.old.frames (stage self.old (H.bytes host.old)) (stage self.new (H.bytes host.new)) }

@@ -35,17 +35,17 @@ pub(crate) fn steps_on<H: Host, O: Sink>(
 ) -> Result<Pause, Failed>
     requires number { number < 10 }
     requires started { H.is_started host.old ≡ true }
-    requires between { IsBetween of_roots kernel.now.image (scene guest.old.running pool.old (H.bytes host.old)) }
-    requires able { IsAble guest.old.running.cpu }
+    requires between { IsBetween of_roots kernel.now.image (scene guest.old pool.old (H.bytes host.old)) }
+    requires able { IsAble guest.old.cpu }
     requires script { is_script kernel.now.script.list ≡ true }
-    requires bound { guest.old.running.step + k ≤ 2 ^ 40 }
+    requires bound { guest.old.step + k ≤ 2 ^ 40 }
     requires room { H.retired host.old + k < 2 ^ 64 }
-    ensures turn { TurnIn kernel.now number k (scene guest.old.running pool.old (H.bytes host.old))
-        (scene guest.new.running pool.new (H.bytes host.new)) (outward H.Host O.Sink host.old host.new out.old out.new) result }
-    ensures leaves { SliceLeaves of_roots kernel.now.image (guest.old.running.step + k)
-        (scene guest.old.running pool.old (H.bytes host.old)) (scene guest.new.running pool.new (H.bytes host.new)) result }
-    ensures own { GuestLeaves kernel.now.image kernel.now.script.list (scene guest.old.running pool.old (H.bytes host.old))
-        (scene guest.new.running pool.new (H.bytes host.new)) result }
+    ensures turn { TurnIn kernel.now number k (scene guest.old pool.old (H.bytes host.old))
+        (scene guest.new pool.new (H.bytes host.new)) (outward H.Host O.Sink host.old host.new out.old out.new) result }
+    ensures leaves { SliceLeaves of_roots kernel.now.image (guest.old.step + k)
+        (scene guest.old pool.old (H.bytes host.old)) (scene guest.new pool.new (H.bytes host.new)) result }
+    ensures own { GuestLeaves kernel.now.image kernel.now.script.list (scene guest.old pool.old (H.bytes host.old))
+        (scene guest.new pool.new (H.bytes host.new)) result }
     ensures faults { FaultsOf (O.faults out.old) (O.faults out.new) result }
     ensures started { H.is_started host.new ≡ true }
 {

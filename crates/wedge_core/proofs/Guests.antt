@@ -54,7 +54,7 @@ front_after (Err failed) image script frames g pool memory h = tt
 pub none_kept : (pages fills : ℕ) → pages ≡ 0 → IsFilled pages fills
 none_kept pages fills none = omega (arith, none)
 
-pub none_kept_ok : (memory : List ℕ) (result : Result (Guest × Pool) StartFault) → IfOk result (λ started. pages_kept of_roots started.0.running.shadows memory ≡ 0)
-    → IfOk result (λ started. IsFilled (pages_kept of_roots started.0.running.shadows memory) started.0.running.fills)
-none_kept_ok memory (Ok started) none = none_kept (pages_kept of_roots started.0.running.shadows memory) started.0.running.fills none
+pub none_kept_ok : (memory : List ℕ) (result : Result (Guest × Pool) StartFault) → IfOk result (λ started. pages_kept of_roots started.0.shadows memory ≡ 0)
+    → IfOk result (λ started. IsFilled (pages_kept of_roots started.0.shadows memory) started.0.fills)
+none_kept_ok memory (Ok started) none = none_kept (pages_kept of_roots started.0.shadows memory) started.0.fills none
 none_kept_ok memory (Err fault) none = tt

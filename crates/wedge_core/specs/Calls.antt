@@ -1,5 +1,5 @@
 -- What the calls of a guest ask for and promise, over its scene.
-use Rattle.std.specs.Prelude.{◌≡◌, ℕ, ◌+◌, ◌*◌, ◌%◌, ◌≤◌, List, [], length, take, Result}
+use Rattle.std.specs.Prelude.{◌≡◌, ℕ, ◌+◌, ◌*◌, ◌%◌, ◌≤◌, ◌<◌, ◌^◌, List, [], length, take, None, Result}
 use Rattle.std.specs.FinMap.{empty}
 use Rattle.guest_ram.specs.Bytes.{part}
 use Rattle.ia32_types.specs.declared.addresses.TheConstants.{TEXT_FRAME, TEXT_PLACE}
@@ -18,7 +18,7 @@ use Rattle.shadow_cache.specs.declared.roots.Roots.{Roots}
 use Rattle.machine_model.specs.State.{Setting, State, wedge}
 use Rattle.wedge_step.specs.Filled.{IsFilled}
 use Rattle.wedge_step.specs.Pools.{Keeps}
-use Rattle.wedge_step.specs.Scene.{Scene, frames_in, kept_in, state_in}
+use Rattle.wedge_step.specs.Scene.{Scene, frames_in, kept_in, set_in, state_in}
 use Rattle.wedge_step.specs.Standing.{ground}
 use Rattle.wedge_core.specs.OfRoots.{of_roots}
 use Rattle.wedge_core.specs.Promises.{with_patches}
@@ -69,19 +69,19 @@ pub record GuestLeaves (image : Image) (script : Events) (old new : Scene Roots)
   pub owns : IfPaused result (Owns new.pool new.memory (frames_in of_roots new))
   pub filled : IsFilled (kept_in of_roots old) old.guest.fills → IsFilled (kept_in of_roots new) new.guest.fills
 
--- All shadows were dropped: two frames are held, nothing is kept, and the guest is as it was.
+-- All shadows were dropped: two frames are held, and no page is kept, for no value of CR3. The value of CR3 that they stand
+-- for and all else of the guest are as they were.
 pub record Releases (old new : Scene Roots) : Type 0 where
+  pub running : new.guest ≡ record old.guest { shadows = new.guest.shadows; held = 2 }
   pub stands : ∥ of_roots.stands new.guest.shadows new.memory ∥₁
   pub owns : Owns new.pool new.memory (frames_in of_roots new)
   pub two : length (frames_in of_roots new) ≡ 2
-  pub held : new.guest.held ≡ 2
+  pub none : (page : ℕ) → page < 2 ^ 20 → of_roots.slots new.guest.shadows new.memory page ≡ None
+  pub entries : set_in of_roots new ≡ empty
+  pub other_roots : of_roots.other_roots new.guest.shadows new.memory ≡ []
+  pub value : of_roots.value new.guest.shadows ≡ of_roots.value old.guest.shadows
   pub moves : Moves old.pool new.pool old.memory new.memory (frames_in of_roots old) (frames_in of_roots new)
   pub again : StaysHeld of_roots old new
   pub ready : (image : Image) → IsReadyIn of_roots (ground image old.guest.frames) old → IsReadyIn of_roots (ground image old.guest.frames) new
-  pub cpu : new.guest.cpu ≡ old.guest.cpu
-  pub board : new.guest.board ≡ old.guest.board
-  pub frames : new.guest.frames ≡ old.guest.frames
-  pub step : new.guest.step ≡ old.guest.step
-  pub fills : new.guest.fills ≡ old.guest.fills
   pub filled : IsFilled (kept_in of_roots new) new.guest.fills
   pub outside : SameOutside (base_of old.pool) (count_of old.pool) old.memory new.memory

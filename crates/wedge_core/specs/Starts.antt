@@ -38,7 +38,7 @@ module _ {S : Type 0} (g : shadows.Ghosts S) where
 abbrev pub StartedAs : Image → ℕ → ℕ → List ℕ → Result (Guest × Pool) StartFault → Type 0
 StartedAs image frames count memory (Ok started) =
     (need image ≤ frames) × (length memory ≡ 4096 * (frames + count)) × (base_of started.1 ≡ frames) × (count_of started.1 ≡ count)
-    × ((script : Events) → Begins (wedge image script frames) (scene started.0.running started.1 memory))
+    × ((script : Events) → Begins (wedge image script frames) (scene started.0 started.1 memory))
 StartedAs image frames count memory (Err (start.TooSmall small)) =
     (frames < need image) × (small ≡ record { need = need image; have = frames }) × (memory ≡ replicate ((frames + count) * 4096) 0)
 StartedAs image frames count memory (Err start.Memory) = Unit {0}

@@ -34,13 +34,23 @@ use shadow_cache::{Reloads, Roots, roots_alone_keep_nothing};
 use shadow_tables::Shadows;
 use sites::patch;
 use std::alloc::{AllocError, Global};
+use std::marker::Model;
 use wedge_step::{Lost, Running, carry_laws};
 
 /// A guest of a host: it runs its patched text there. Its memory is the front of the host's, and its shadows, for each value
-/// of CR3 that may come back, lie in frames of a pool.
+/// of CR3 that may come back, lie in frames of a pool. Contracts see it as its `Running`.
 #[derive(Drop)]
 pub struct Guest {
-    pub running: Running<Roots>,
+    running: Running<Roots>,
+}
+
+impl Model for Guest {
+    ghost use Rattle.shadow_cache.specs.declared.roots.Roots.{Roots};
+    ghost use Rattle.wedge_step.specs.declared.running.Running.{Running};
+
+    ghost Value = { Running Roots };
+
+    ghost view = { λ guest. guest.running };
 }
 
 impl Guest {
@@ -57,8 +67,8 @@ impl Guest {
         requires pool { (16 ≤ pool) × (pool ≤ 512) }
         ensures started { StartedAs image.now frames pool (H.bytes host.new) result }
         ensures running { IfOk result (λ _. H.is_started host.new ≡ true) }
-        ensures ready { IfOk result (λ s. IsReadyIn of_roots (ground image.now frames) (scene s.0.running s.1 (H.bytes host.new))) }
-        ensures filled { IfOk result (λ s. IsFilled (kept_in of_roots (scene s.0.running s.1 (H.bytes host.new))) s.0.running.fills) }
+        ensures ready { IfOk result (λ s. IsReadyIn of_roots (ground image.now frames) (scene s.0 s.1 (H.bytes host.new))) }
+        ensures filled { IfOk result (λ s. IsFilled (kept_in of_roots (scene s.0 s.1 (H.bytes host.new))) s.0.fills) }
         ensures counts { CountsNone (counts_of H.Host host.old) (counts_of H.Host host.new) }
     {
         match host.start(alloc, frames + pool) {
@@ -83,7 +93,7 @@ impl Guest {
         requires able { IsAble cpu }
         requires may { MayAdopt image.now frames pool.old (H.bytes host.old) }
         ensures adopts { IfOk result (λ guest. Adopts image.now frames (adopted cpu board step frames (H.bytes host.old)) pool.old
-            (H.bytes host.old) (scene guest.running pool.new (H.bytes host.new))) }
+            (H.bytes host.old) (scene guest pool.new (H.bytes host.new))) }
         ensures refused { OnErr result ((H.bytes host.new ≡ H.bytes host.old) × (pool.new ≡ pool.old)) }
         ensures started { H.is_started host.new ≡ true }
         ensures counts { CountsNone (counts_of H.Host host.old) (counts_of H.Host host.new) }
@@ -105,26 +115,26 @@ impl Guest {
         notes: &mut L,
     ) -> Result<Pause, Failed>
         requires started { H.is_started host.old ≡ true }
-        requires between { IsBetween of_roots image.now (scene self.old.running pool.old (H.bytes host.old)) }
-        requires able { IsAble self.old.running.cpu }
+        requires between { IsBetween of_roots image.now (scene self.old pool.old (H.bytes host.old)) }
+        requires able { IsAble self.old.cpu }
         requires script { is_script script.now.list ≡ true }
-        requires bound { self.old.running.step + k ≤ 2 ^ 40 }
+        requires bound { self.old.step + k ≤ 2 ^ 40 }
         requires room { H.retired host.old + k < 2 ^ 64 }
-        ensures slice { SliceIn of_roots (wedge image.now script.now.list self.old.running.frames) (self.old.running.step + k)
-            (scene self.old.running pool.old (H.bytes host.old)) (scene self.new.running pool.new (H.bytes host.new))
+        ensures slice { SliceIn of_roots (wedge image.now script.now.list self.old.frames) (self.old.step + k)
+            (scene self.old pool.old (H.bytes host.old)) (scene self.new pool.new (H.bytes host.new))
             (outward H.Host O.Sink host.old host.new out.old out.new) (noting L.Notes notes.old notes.new)
-            (BeginsBare of_roots (scene self.old.running pool.old (H.bytes host.old)) (L.wants notes.old)) result }
-        ensures leaves { SliceLeaves of_roots image.now (self.old.running.step + k) (scene self.old.running pool.old (H.bytes host.old))
-            (scene self.new.running pool.new (H.bytes host.new)) result }
-        ensures own { GuestLeaves image.now script.now.list (scene self.old.running pool.old (H.bytes host.old))
-            (scene self.new.running pool.new (H.bytes host.new)) result }
+            (BeginsBare of_roots (scene self.old pool.old (H.bytes host.old)) (L.wants notes.old)) result }
+        ensures leaves { SliceLeaves of_roots image.now (self.old.step + k) (scene self.old pool.old (H.bytes host.old))
+            (scene self.new pool.new (H.bytes host.new)) result }
+        ensures own { GuestLeaves image.now script.now.list (scene self.old pool.old (H.bytes host.old))
+            (scene self.new pool.new (H.bytes host.new)) result }
         ensures silent { StaysSilent L.Notes notes.old notes.new }
         ensures faults { FaultsOf (O.faults out.old) (O.faults out.new) result }
         ensures started { H.is_started host.new ≡ true }
     {
         let bound = self.running.step + k;
         carry_laws();
-        self.begin(pool, host);
+        begin(&mut self.running, pool, host);
         steps_to(
             &mut self.running,
             image,
@@ -137,32 +147,13 @@ impl Guest {
         )
     }
 
-    /// Before a slice. Where only roots are held nothing is present, and the present tables begin anew: no frame counts that
-    /// was noted of them before.
-    fn begin<H: Host>(&mut self, pool: &mut Pool, host: &mut H)
-        requires started { H.is_started host.old ≡ true }
-        requires held { (image : Image) × IsHeldIn of_roots (ground image self.old.running.frames)
-            (scene self.old.running pool.old (H.bytes host.old)) }
-        ensures begins { BeginsSlice (scene self.old.running pool.old (H.bytes host.old))
-            (scene self.new.running pool.new (H.bytes host.new)) }
-        ensures started { H.is_started host.new ≡ true }
-        ensures counts { CountsNone (counts_of H.Host host.old) (counts_of H.Host host.new) }
-    {
-        let bare = self.running.held == 2;
-        if !bare {
-            return;
-        }
-        roots_alone_keep_nothing();
-        Reloads::renew(&mut self.running.shadows, host.ram_mut(), pool);
-    }
-
     /// Drops all shadows. The guest holds two frames then.
     pub fn release<H: Host>(&mut self, pool: &mut Pool, host: &mut H)
         requires started { H.is_started host.old ≡ true }
-        requires stands { ∥ of_roots.stands self.old.running.shadows (H.bytes host.old) ∥₁ }
-        requires owns { Owns pool.old (H.bytes host.old) (of_roots.frames self.old.running.shadows (H.bytes host.old)) }
-        ensures releases { Releases (scene self.old.running pool.old (H.bytes host.old))
-            (scene self.new.running pool.new (H.bytes host.new)) }
+        requires stands { ∥ of_roots.stands self.old.shadows (H.bytes host.old) ∥₁ }
+        requires owns { Owns pool.old (H.bytes host.old) (of_roots.frames self.old.shadows (H.bytes host.old)) }
+        ensures releases { Releases (scene self.old pool.old (H.bytes host.old))
+            (scene self.new pool.new (H.bytes host.new)) }
         ensures started { H.is_started host.new ≡ true }
         ensures counts { CountsNone (counts_of H.Host host.old) (counts_of H.Host host.new) }
     {
@@ -170,40 +161,67 @@ impl Guest {
         self.running.held = 2;
     }
 
+    /// Takes it apart.
+    pub fn into_running(self) -> Running<Roots>
+        ensures { result ≡ self }
+    {
+        let Guest { running } = self;
+        running
+    }
+
     /// The processor that the guest sees.
     pub fn cpu(&self) -> &Cpu
-        ensures { result.now ≡ self.now.running.cpu }
+        ensures { result.now ≡ self.now.cpu }
     {
         &self.running.cpu
     }
 
     /// The guest's devices.
     pub fn board(&self) -> &Board
-        ensures { result.now ≡ self.now.running.board }
+        ensures { result.now ≡ self.now.board }
     {
         &self.running.board
     }
 
     /// How many steps were done.
     pub fn step(&self) -> u64
-        ensures { result ≡ self.now.running.step }
+        ensures { result ≡ self.now.step }
     {
         self.running.step
     }
 
     /// How many frames of the pool it holds.
     pub fn held(&self) -> u32
-        ensures { result ≡ self.now.running.held }
+        ensures { result ≡ self.now.held }
     {
         self.running.held
     }
 
     /// How many pages were filled.
     pub fn fills(&self) -> u64
-        ensures { result ≡ self.now.running.fills }
+        ensures { result ≡ self.now.fills }
     {
         self.running.fills
     }
+}
+
+/// Before a slice. Where only roots are held nothing is present, and the present tables begin anew: no frame counts that
+/// was noted of them before.
+fn begin<H: Host>(running: &mut Running<Roots>, pool: &mut Pool, host: &mut H)
+    requires started { H.is_started host.old ≡ true }
+    requires held { (image : Image) × IsHeldIn of_roots (ground image running.old.frames)
+        (scene running.old pool.old (H.bytes host.old)) }
+    ensures begins { BeginsSlice (scene running.old pool.old (H.bytes host.old))
+        (scene running.new pool.new (H.bytes host.new)) }
+    ensures started { H.is_started host.new ≡ true }
+    ensures counts { CountsNone (counts_of H.Host host.old) (counts_of H.Host host.new) }
+{
+    let bare = running.held == 2;
+    if !bare {
+        return;
+    }
+    roots_alone_keep_nothing();
+    Reloads::renew(&mut running.shadows, host.ram_mut(), pool);
 }
 
 fn start_in(
@@ -217,8 +235,8 @@ fn start_in(
     requires frames { (2048 ≤ frames) × (frames ≤ 16384) }
     requires count { (16 ≤ count) × (count ≤ 512) }
     ensures started { StartedAs image.now frames count ram.new result }
-    ensures ready { IfOk result (λ s. IsReadyIn of_roots (ground image.now frames) (scene s.0.running s.1 ram.new)) }
-    ensures none { IfOk result (λ s. kept_in of_roots (scene s.0.running s.1 ram.new) ≡ 0) }
+    ensures ready { IfOk result (λ s. IsReadyIn of_roots (ground image.now frames) (scene s.0 s.1 ram.new)) }
+    ensures none { IfOk result (λ s. kept_in of_roots (scene s.0 s.1 ram.new) ≡ 0) }
 {
     match load(image, ram, frames) {
         Err(small) => Err(StartFault::TooSmall(small)),

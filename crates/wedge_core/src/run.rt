@@ -64,20 +64,20 @@ fn whole<H: Host, O: Sink>(
     out: &mut O,
 ) -> Result<Ended, RunFault>
     requires started { H.is_started host.old ≡ true }
-    requires between { IsBetween of_roots image.now (scene guest.old.running pool.old (H.bytes host.old)) }
-    requires able { IsAble guest.old.running.cpu }
-    requires fits { need image.now ≤ guest.old.running.frames }
+    requires between { IsBetween of_roots image.now (scene guest.old pool.old (H.bytes host.old)) }
+    requires able { IsAble guest.old.cpu }
+    requires fits { need image.now ≤ guest.old.frames }
     requires script { is_script script.now.list ≡ true }
-    requires first { state_in of_roots (wedge image.now script.now.list guest.old.running.frames)
-        (scene guest.old.running pool.old (H.bytes host.old))
-        ≡ boot (wedge image.now script.now.list guest.old.running.frames) }
-    requires two { guest.old.running.held ≡ 2 }
-    requires unfilled { guest.old.running.fills ≡ 0 }
-    requires none { kept_in of_roots (scene guest.old.running pool.old (H.bytes host.old)) ≡ 0 }
+    requires first { state_in of_roots (wedge image.now script.now.list guest.old.frames)
+        (scene guest.old pool.old (H.bytes host.old))
+        ≡ boot (wedge image.now script.now.list guest.old.frames) }
+    requires two { guest.old.held ≡ 2 }
+    requires unfilled { guest.old.fills ≡ 0 }
+    requires none { kept_in of_roots (scene guest.old pool.old (H.bytes host.old)) ≡ 0 }
     requires bound { n ≤ 2 ^ 40 }
     requires room { H.retired host.old ≤ 2 ^ 63 }
-    ensures whole { WedgeAnswers image.now script.now.list guest.old.running.frames n
-        (free (scene guest.old.running pool.old (H.bytes host.old)) + guest.old.running.held)
+    ensures whole { WedgeAnswers image.now script.now.list guest.old.frames n
+        (free (scene guest.old pool.old (H.bytes host.old)) + guest.old.held)
         (around H.Host O.Sink host.old host.new out.old out.new) (H.bytes host.new) result }
 {
     kept_on();

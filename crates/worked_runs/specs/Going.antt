@@ -13,6 +13,6 @@ use Rattle.wedge_core.specs.declared.guest.Guest.{Guest}
 abbrev pub IsGoing : Image → Guest → Pool → Option (List ℕ) → Type 0
 IsGoing image guest pool ram =
     (is_some ram ≡ true)
-    × IsHeld of_roots (ground image guest.running.frames) guest.running pool (held ram)
-    × IsReady of_roots (ground image guest.running.frames) guest.running.cpu guest.running.shadows (held ram)
-    × IsAble guest.running.cpu
+    × IsHeld of_roots (ground image guest.frames) guest pool (held ram)
+    × IsReady of_roots (ground image guest.frames) guest.cpu guest.shadows (held ram)
+    × IsAble guest.cpu

@@ -105,7 +105,7 @@ fn adopted(
 ) -> (Guest, Pool)
     requires going { IsGoing image.now guest.now pool.now from.now.ram }
     ensures going { IsGoing image.now result.0 result.1 host.new.ram }
-    ensures step { result.0.running.step ≡ guest.now.running.step }
+    ensures step { result.0.step ≡ guest.now.step }
 {
     let board = copied(rt, guest.board());
     assert!(rt; host.start(alloc, 2560).is_ok());
@@ -136,7 +136,7 @@ fn adopted_bare(
 ) -> Bare<Buffer>
     requires fit { Fit bare.now.cpu }
     ensures kept { IsKept result.frames (state_of (λ buffer. buffer) result) }
-    ensures step { result.step ≡ guest.now.running.step }
+    ensures step { result.step ≡ guest.now.step }
 {
     assert!(rt; is_same(guest.cpu(), bare.cpu()) && guest.board().save() == bare.board().save());
     let board = copied(rt, guest.board());
@@ -208,7 +208,7 @@ fn ends_so(
 )
     requires going { IsGoing image.now guest pool host.old.ram }
     requires script { is_script script.now.list ≡ true }
-    requires bound { guest.running.step + k ≤ 2 ^ 40 }
+    requires bound { guest.step + k ≤ 2 ^ 40 }
 {
     let mut out = sink(rt, alloc);
     let mut guest = guest;

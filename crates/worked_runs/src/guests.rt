@@ -24,7 +24,7 @@ use worked_kernels::{IS_INTERRUPTED, SENDS_A_BYTE};
 /// A guest of 2,048 frames, and a pool of 512, on this host where every run begins.
 pub fn started(rt: &impl Abort, alloc: Global, image: &Checked, host: &mut Machine) -> (Guest, Pool)
     ensures going { IsGoing image.now result.0 result.1 host.new.ram }
-    ensures step { result.0.running.step ≡ 0 }
+    ensures step { result.0.step ≡ 0 }
 {
     match Guest::start(alloc, image, 2048, 512, host) {
         Ok((guest, pool)) => (guest, pool),
@@ -45,9 +45,9 @@ pub fn guest_steps_on(
 )
     requires going { IsGoing image.now guest.old pool.old host.old.ram }
     requires script { is_script script.now.list ≡ true }
-    requires bound { guest.old.running.step + k ≤ 2 ^ 40 }
+    requires bound { guest.old.step + k ≤ 2 ^ 40 }
     ensures going { IsGoing image.now guest.new pool.new host.new.ram }
-    ensures step { guest.new.running.step ≡ guest.old.running.step + k }
+    ensures step { guest.new.step ≡ guest.old.step + k }
 {
     assert!(rt; Host::retired(host) <= 1 << 62);
     assert!(rt; u64::from(pool.free()) + u64::from(guest.held()) >= 16);

@@ -8,26 +8,26 @@ use Rattle.checkpoint.proofs.guest.state_of_guest.Goals as goal
 pub returns-clause-state : goal.returns-clause-state
 unfolding shown
 returns-clause-state g c = λ script.
-    let r = c.args.guest.running in
+    let r = c.args.guest in
     ap (λ (x : List ℕ). let made : State = record { cpu = r.cpu; board = r.board; step = r.step; ram = x } in made)
     (c.in_ok-ram.ensures.ram ∙ ap (λ (m : List ℕ). with_part (take (4096 * r.frames) m) 0x100000 c.args.image.now.text) c.ram.ensures)
 
 pub returns-clause-kept : goal.returns-clause-kept
 returns-clause-kept g c = λ script.
     let held = c.requires.held in
-    guest_form c.args.image.now script c.args.guest.running held.0 (g.H.Host.bytes c.args.host.now) held.1 c.requires.fit c.requires.step
+    guest_form c.args.image.now script c.args.guest held.0 (g.H.Host.bytes c.args.host.now) held.1 c.requires.fit c.requires.step
 
 pub returns-in_err-ram-clause-kept : goal.returns-in_err-ram-clause-kept
 returns-in_err-ram-clause-kept g c = λ script.
     let held = c.requires.held in
-    guest_form c.args.image.now script c.args.guest.running held.0 (g.H.Host.bytes c.args.host.now) held.1 c.requires.fit c.requires.step
+    guest_form c.args.image.now script c.args.guest held.0 (g.H.Host.bytes c.args.host.now) held.1 c.requires.fit c.requires.step
 
 pub returns-clause-size : goal.returns-clause-size
 returns-clause-size g c = λ script.
     let held = c.requires.held in
-    guest_size c.args.image.now script c.args.guest.running held.0 (g.H.Host.bytes c.args.host.now) held.1
+    guest_size c.args.image.now script c.args.guest held.0 (g.H.Host.bytes c.args.host.now) held.1
 
 pub returns-in_err-ram-clause-size : goal.returns-in_err-ram-clause-size
 returns-in_err-ram-clause-size g c = λ script.
     let held = c.requires.held in
-    guest_size c.args.image.now script c.args.guest.running held.0 (g.H.Host.bytes c.args.host.now) held.1
+    guest_size c.args.image.now script c.args.guest held.0 (g.H.Host.bytes c.args.host.now) held.1

@@ -15,7 +15,7 @@ rest_wedge-requires-clause-between g c =
     let b = s.4 [] in
     let all = b.all in
     let count = s.3 in
-    let new = scene c.in-Ok.guest.running c.in-Ok.pool (g.H.Host.bytes c.start.new.host) in
+    let new = scene c.in-Ok.guest c.in-Ok.pool (g.H.Host.bytes c.start.new.host) in
     let enough : 16 ≤ free new + new.guest.held = omega (arith, all, count) in
     between c.args.image.now c.args.frames new b.held c.in-Ok.ensures.ready enough
 
@@ -25,7 +25,7 @@ returns-in-Ok g c =
     let script = c.args.script.now.list in
     let started = c.in-Ok.ensures.started in
     let b = started.4 script in
-    let first = scene c.in-Ok.guest.running c.in-Ok.pool (g.H.Host.bytes c.start.new.host) in
+    let first = scene c.in-Ok.guest c.in-Ok.pool (g.H.Host.bytes c.start.new.host) in
     let before = counts_of g.H.Host c.args.host.now in
     let begun = counts_of g.H.Host c.start.new.host in
     let after = counts_of g.H.Host c.rest_wedge.new.host in

@@ -21,14 +21,14 @@ use Rattle.guest_sched.proofs.shared.go_on.Goals as goal
 
 -- behind the steps of a turn the kernel holds its frames, and may go on where it met no stop
 gone_on : (kernel : Kernel) (bound : ℕ) (p p' : Pool) (host host' : List ℕ) (old new : Tenant) (paused : Pause)
-    → SliceLeaves of_roots kernel.image bound (scene old.guest.running p host) (scene new.guest.running p' host') (Ok paused)
-    → GuestLeaves kernel.image kernel.script.list (scene old.guest.running p host) (scene new.guest.running p' host') (Ok paused)
+    → SliceLeaves of_roots kernel.image bound (scene old.guest p host) (scene new.guest p' host') (Ok paused)
+    → GuestLeaves kernel.image kernel.script.list (scene old.guest p host) (scene new.guest p' host') (Ok paused)
     → TakesTurn kernel p host old → new.ram ≡ old.ram → (is_none new.stop ≡ true → paused ≡ Reached) → HasGoneOn kernel p p' host host' old new
 gone_on kernel bound p p' host host' old new paused leaves own takes ram live = record {
   seated = record {
     holds = record {
       frames_are = leaves.frames;
-      room = subst (λ (k : ℕ). 4096 * old.guest.running.frames ≤ k) (sym leaves.pool.size) takes.goes_on.held.host.room;
+      room = subst (λ (k : ℕ). 4096 * old.guest.frames ≤ k) (sym leaves.pool.size) takes.goes_on.held.host.room;
       stand = leaves.stands;
       owns = own.owns;
       counted = leaves.counted;

@@ -112,8 +112,8 @@ go_on-requires-clause-takes g c =
     let at0 = get_or_any c.args.tenants.now.list.items c.args.slice.now.kernel c.index.result.now d lt in
     let live : d.stop ≡ None = ap (λ (t : Tenant). t.stop) c.index_mut-tenant.ensures.value ∙ kept ∙ ap (λ (t : Tenant). t.stop) (sym at0) ∙ ap (λ (t : Tenant). t.stop) (sym c.index.ensures) ∙ live0 in
     let e = c.make_room.ensures.enough d in
-    let same = ap (λ n. (get_or c.make_room.new.self.list.items n d).guest.running.held) c.bring.ensures.rest.2 in
-    let value = ap (λ (t : Tenant). t.guest.running.held) c.index_mut-tenant.ensures.value in
+    let same = ap (λ n. (get_or c.make_room.new.self.list.items n d).guest.held) c.bring.ensures.rest.2 in
+    let value = ap (λ (t : Tenant). t.guest.held) c.index_mut-tenant.ensures.value in
     record {
       fresh = live;
       goes_on =

@@ -12,7 +12,7 @@ use Rattle.trace_check.proofs.proving.run_noted.Goals as goal
 pub whole-requires-clause-between : goal.whole-requires-clause-between
 whole-requires-clause-between g c =
     let b = c.in-Ok.ensures.started.4 [] in
-    let running = c.in-Ok.guest.running in
+    let running = c.in-Ok.guest in
     let memory = g.H.Host.bytes c.start.new.host in
     let all = b.all in
     let count = c.in-Ok.ensures.started.3 in
@@ -35,7 +35,7 @@ whole-requires-clause-fits g c =
 pub whole-requires-clause-first : goal.whole-requires-clause-first
 whole-requires-clause-first g c =
     let b = c.in-Ok.ensures.started.4 c.args.script.now.list in
-    subst (λ (f : ℕ). state_in of_roots (wedge c.args.image.now c.args.script.now.list f) (scene c.in-Ok.guest.running c.in-Ok.pool (g.H.Host.bytes c.start.new.host)) ≡ boot (wedge c.args.image.now c.args.script.now.list f)) (sym b.held.frames_are) b.state
+    subst (λ (f : ℕ). state_in of_roots (wedge c.args.image.now c.args.script.now.list f) (scene c.in-Ok.guest c.in-Ok.pool (g.H.Host.bytes c.start.new.host)) ≡ boot (wedge c.args.image.now c.args.script.now.list f)) (sym b.held.frames_are) b.state
 
 pub whole-requires-clause-unfilled : goal.whole-requires-clause-unfilled
 whole-requires-clause-unfilled g c = let b = c.in-Ok.ensures.started.4 [] in b.fills

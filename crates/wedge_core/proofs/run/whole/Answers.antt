@@ -45,28 +45,28 @@ slice-requires-clause-bound g c =
 
 pub returns-in-Err : goal.returns-in-Err
 returns-in-Err g c =
-    let fills = c.args.guest.now.running.fills in
-    let pages = pages_kept of_roots c.args.guest.now.running.shadows (g.H.Host.bytes c.args.host.now) in
-    let filled = c.slice.new.self.running.fills in
+    let fills = c.args.guest.now.fills in
+    let pages = pages_kept of_roots c.args.guest.now.shadows (g.H.Host.bytes c.args.host.now) in
+    let filled = c.slice.new.self.fills in
     let begun = ap (λ (b : State). b.step) c.requires.first in
-    let is : c.args.guest.now.running.step + c.args.n ≡ c.args.n = omega (arith, begun) in
-    let f = c.args.guest.now.running.frames in
+    let is : c.args.guest.now.step + c.args.n ≡ c.args.n = omega (arith, begun) in
+    let f = c.args.guest.now.frames in
     let m = wedge c.args.image.now c.args.script.now.list f in
     let before : Counts = record { retired = g.H.Host.retired c.args.host.now; passed = g.H.Host.passed c.args.host.now } in
     let after : Counts = record { retired = g.H.Host.retired c.slice.new.host; passed = g.H.Host.passed c.slice.new.host } in
-    let old = state_of of_roots m c.args.guest.now.running (g.H.Host.bytes c.args.host.now) in
-    let new = state_of of_roots m c.slice.new.self.running (g.H.Host.bytes c.slice.new.host) in
-    let h = subst (λ (n : ℕ). SliceAs m n old new before after (g.O.Sink.taken c.args.out.now) (g.O.Sink.taken c.slice.new.out) pages fills filled false no_notes (empty_in g c.args.pool.now c.args.guest.now.running (g.H.Host.bytes c.args.host.now)) (Err c.in-Err.field-0)) is c.in-Err.ensures.slice in
-    record { whole = whole_front c.args.image.now c.args.script.now.list f c.args.n (pool_in g c.args.pool.now c.args.guest.now.running (g.H.Host.bytes c.args.host.now)) old new before after _ _ pages fills filled false no_notes (empty_in g c.args.pool.now c.args.guest.now.running (g.H.Host.bytes c.args.host.now)) c.in-Err.field-0 _ _ (g.H.Host.bytes c.slice.new.host) c.requires.fits c.requires.first h c.in-Err.ensures.faults.cause }
+    let old = state_of of_roots m c.args.guest.now (g.H.Host.bytes c.args.host.now) in
+    let new = state_of of_roots m c.slice.new.self (g.H.Host.bytes c.slice.new.host) in
+    let h = subst (λ (n : ℕ). SliceAs m n old new before after (g.O.Sink.taken c.args.out.now) (g.O.Sink.taken c.slice.new.out) pages fills filled false no_notes (empty_in g c.args.pool.now c.args.guest.now (g.H.Host.bytes c.args.host.now)) (Err c.in-Err.field-0)) is c.in-Err.ensures.slice in
+    record { whole = whole_front c.args.image.now c.args.script.now.list f c.args.n (pool_in g c.args.pool.now c.args.guest.now (g.H.Host.bytes c.args.host.now)) old new before after _ _ pages fills filled false no_notes (empty_in g c.args.pool.now c.args.guest.now (g.H.Host.bytes c.args.host.now)) c.in-Err.field-0 _ _ (g.H.Host.bytes c.slice.new.host) c.requires.fits c.requires.first h c.in-Err.ensures.faults.cause }
 
 pub returns-in-Err-put_end : goal.returns-in-Err-put_end
 returns-in-Err-put_end g c =
-    let fills = c.args.guest.now.running.fills in
-    let pages = pages_kept of_roots c.args.guest.now.running.shadows (g.H.Host.bytes c.args.host.now) in
-    let filled = c.slice.new.self.running.fills in
+    let fills = c.args.guest.now.fills in
+    let pages = pages_kept of_roots c.args.guest.now.shadows (g.H.Host.bytes c.args.host.now) in
+    let filled = c.slice.new.self.fills in
     let begun = ap (λ (b : State). b.step) c.requires.first in
-    let is : c.args.guest.now.running.step + c.args.n ≡ c.args.n = omega (arith, begun) in
-    let f = c.args.guest.now.running.frames in
+    let is : c.args.guest.now.step + c.args.n ≡ c.args.n = omega (arith, begun) in
+    let f = c.args.guest.now.frames in
     let image = c.args.image.now in
     let script = c.args.script.now.list in
     let m = wedge image script f in
@@ -74,22 +74,22 @@ returns-in-Err-put_end g c =
     let memory = g.H.Host.bytes c.slice.new.host in
     let before : Counts = record { retired = g.H.Host.retired c.args.host.now; passed = g.H.Host.passed c.args.host.now } in
     let after : Counts = record { retired = g.H.Host.retired c.slice.new.host; passed = g.H.Host.passed c.slice.new.host } in
-    let old = state_of of_roots m c.args.guest.now.running (g.H.Host.bytes c.args.host.now) in
-    let new = state_of of_roots m c.slice.new.self.running memory in
-    let h = subst (λ (n : ℕ). SliceAs m n old new before after (g.O.Sink.taken c.args.out.now) (g.O.Sink.taken c.slice.new.out) pages fills filled false no_notes (empty_in g c.args.pool.now c.args.guest.now.running (g.H.Host.bytes c.args.host.now)) (Ok pause)) is c.in-Ok.ensures.slice in
-    let has = front_held pause image script f c.slice.new.self.running c.slice.new.pool memory c.in-Ok.ensures.leaves.held in
+    let old = state_of of_roots m c.args.guest.now (g.H.Host.bytes c.args.host.now) in
+    let new = state_of of_roots m c.slice.new.self memory in
+    let h = subst (λ (n : ℕ). SliceAs m n old new before after (g.O.Sink.taken c.args.out.now) (g.O.Sink.taken c.slice.new.out) pages fills filled false no_notes (empty_in g c.args.pool.now c.args.guest.now (g.H.Host.bytes c.args.host.now)) (Ok pause)) is c.in-Ok.ensures.slice in
+    let has = front_held pause image script f c.slice.new.self c.slice.new.pool memory c.in-Ok.ensures.leaves.held in
     let put = subst (λ (k : ℕ). AppendsFront (g.O.Sink.taken c.slice.new.out) (g.O.Sink.taken c.put_end.new.out) (end_line k (end_of pause))) c.step.ensures
     (subst (λ (x : End). AppendsFront (g.O.Sink.taken c.slice.new.out) (g.O.Sink.taken c.put_end.new.out) (end_line c.step.result x)) c.end_of.ensures c.in-Err-put_end.ensures.failed) in
-    record { whole = whole_unput c.kept_on.ensures.before image script f c.args.n (pool_in g c.args.pool.now c.args.guest.now.running (g.H.Host.bytes c.args.host.now)) old new before after _ _ _ pages fills filled false no_notes (empty_in g c.args.pool.now c.args.guest.now.running (g.H.Host.bytes c.args.host.now)) pause _ (g.O.Sink.faults c.slice.new.out) _ memory c.requires.fits c.requires.first has h put c.in-Ok.ensures.faults.later c.in-Err-put_end.ensures.cause }
+    record { whole = whole_unput c.kept_on.ensures.before image script f c.args.n (pool_in g c.args.pool.now c.args.guest.now (g.H.Host.bytes c.args.host.now)) old new before after _ _ _ pages fills filled false no_notes (empty_in g c.args.pool.now c.args.guest.now (g.H.Host.bytes c.args.host.now)) pause _ (g.O.Sink.faults c.slice.new.out) _ memory c.requires.fits c.requires.first has h put c.in-Ok.ensures.faults.later c.in-Err-put_end.ensures.cause }
 
 pub returns-in-Ok-put_end : goal.returns-in-Ok-put_end
 returns-in-Ok-put_end g c =
-    let fills = c.args.guest.now.running.fills in
-    let pages = pages_kept of_roots c.args.guest.now.running.shadows (g.H.Host.bytes c.args.host.now) in
-    let filled = c.slice.new.self.running.fills in
+    let fills = c.args.guest.now.fills in
+    let pages = pages_kept of_roots c.args.guest.now.shadows (g.H.Host.bytes c.args.host.now) in
+    let filled = c.slice.new.self.fills in
     let begun = ap (λ (b : State). b.step) c.requires.first in
-    let is : c.args.guest.now.running.step + c.args.n ≡ c.args.n = omega (arith, begun) in
-    let f = c.args.guest.now.running.frames in
+    let is : c.args.guest.now.step + c.args.n ≡ c.args.n = omega (arith, begun) in
+    let f = c.args.guest.now.frames in
     let image = c.args.image.now in
     let script = c.args.script.now.list in
     let m = wedge image script f in
@@ -97,15 +97,15 @@ returns-in-Ok-put_end g c =
     let memory = g.H.Host.bytes c.slice.new.host in
     let before : Counts = record { retired = g.H.Host.retired c.args.host.now; passed = g.H.Host.passed c.args.host.now } in
     let after : Counts = record { retired = g.H.Host.retired c.slice.new.host; passed = g.H.Host.passed c.slice.new.host } in
-    let old = state_of of_roots m c.args.guest.now.running (g.H.Host.bytes c.args.host.now) in
-    let new = state_of of_roots m c.slice.new.self.running memory in
-    let h = subst (λ (n : ℕ). SliceAs m n old new before after (g.O.Sink.taken c.args.out.now) (g.O.Sink.taken c.slice.new.out) pages fills filled false no_notes (empty_in g c.args.pool.now c.args.guest.now.running (g.H.Host.bytes c.args.host.now)) (Ok pause)) is c.in-Ok.ensures.slice in
-    let has = front_held pause image script f c.slice.new.self.running c.slice.new.pool memory c.in-Ok.ensures.leaves.held in
+    let old = state_of of_roots m c.args.guest.now (g.H.Host.bytes c.args.host.now) in
+    let new = state_of of_roots m c.slice.new.self memory in
+    let h = subst (λ (n : ℕ). SliceAs m n old new before after (g.O.Sink.taken c.args.out.now) (g.O.Sink.taken c.slice.new.out) pages fills filled false no_notes (empty_in g c.args.pool.now c.args.guest.now (g.H.Host.bytes c.args.host.now)) (Ok pause)) is c.in-Ok.ensures.slice in
+    let has = front_held pause image script f c.slice.new.self c.slice.new.pool memory c.in-Ok.ensures.leaves.held in
     let put = subst (λ (k : ℕ). Appends (g.O.Sink.taken c.slice.new.out) (g.O.Sink.taken c.put_end.new.out) (end_line k (end_of pause))) c.step.ensures
     (subst (λ (x : End). Appends (g.O.Sink.taken c.slice.new.out) (g.O.Sink.taken c.put_end.new.out) (end_line c.step.result x)) c.end_of.ensures c.in-Ok-put_end.ensures.ok) in
-    let done = whole_put c.kept_on.ensures.before image script f c.args.n (pool_in g c.args.pool.now c.args.guest.now.running (g.H.Host.bytes c.args.host.now)) old new before after _ _ _ pages fills filled false no_notes (empty_in g c.args.pool.now c.args.guest.now.running (g.H.Host.bytes c.args.host.now)) pause _ (g.O.Sink.faults c.slice.new.out) _ memory c.requires.fits c.requires.first (begins_in g m c.args.pool.now c.args.guest.now.running (g.H.Host.bytes c.args.host.now) c.requires.first c.requires.two) c.requires.none c.requires.unfilled c.in-Ok.ensures.leaves.few has (guest_held pause image script f c.slice.new.self.running c.slice.new.pool memory c.in-Ok.ensures.leaves.held) h put c.in-Ok.ensures.faults.later c.in-Ok-put_end.ensures.later in
+    let done = whole_put c.kept_on.ensures.before image script f c.args.n (pool_in g c.args.pool.now c.args.guest.now (g.H.Host.bytes c.args.host.now)) old new before after _ _ _ pages fills filled false no_notes (empty_in g c.args.pool.now c.args.guest.now (g.H.Host.bytes c.args.host.now)) pause _ (g.O.Sink.faults c.slice.new.out) _ memory c.requires.fits c.requires.first (begins_in g m c.args.pool.now c.args.guest.now (g.H.Host.bytes c.args.host.now) c.requires.first c.requires.two) c.requires.none c.requires.unfilled c.in-Ok.ensures.leaves.few has (guest_held pause image script f c.slice.new.self c.slice.new.pool memory c.in-Ok.ensures.leaves.held) h put c.in-Ok.ensures.faults.later c.in-Ok-put_end.ensures.later in
     record {
-      whole = subst (λ (k : ℕ). WedgeAnswers image script f c.args.n (pool_in g c.args.pool.now c.args.guest.now.running (g.H.Host.bytes c.args.host.now)) (g.O.Sink.taken c.args.out.now) (g.O.Sink.taken c.put_end.new.out) (g.O.Sink.faults c.args.out.now) (g.O.Sink.faults c.put_end.new.out) before after memory (Ok (record { steps = k; end = c.end_of.result; fills = c.fills.result }))) (sym c.step.ensures)
-          (subst (λ (x : End). WedgeAnswers image script f c.args.n (pool_in g c.args.pool.now c.args.guest.now.running (g.H.Host.bytes c.args.host.now)) (g.O.Sink.taken c.args.out.now) (g.O.Sink.taken c.put_end.new.out) (g.O.Sink.faults c.args.out.now) (g.O.Sink.faults c.put_end.new.out) before after memory (Ok (record { steps = c.slice.new.self.running.step; end = x; fills = c.fills.result }))) (sym c.end_of.ensures)
-          (subst (λ (k : ℕ). WedgeAnswers image script f c.args.n (pool_in g c.args.pool.now c.args.guest.now.running (g.H.Host.bytes c.args.host.now)) (g.O.Sink.taken c.args.out.now) (g.O.Sink.taken c.put_end.new.out) (g.O.Sink.faults c.args.out.now) (g.O.Sink.faults c.put_end.new.out) before after memory (Ok (record { steps = c.slice.new.self.running.step; end = end_of pause; fills = k }))) (sym c.fills.ensures) done));
+      whole = subst (λ (k : ℕ). WedgeAnswers image script f c.args.n (pool_in g c.args.pool.now c.args.guest.now (g.H.Host.bytes c.args.host.now)) (g.O.Sink.taken c.args.out.now) (g.O.Sink.taken c.put_end.new.out) (g.O.Sink.faults c.args.out.now) (g.O.Sink.faults c.put_end.new.out) before after memory (Ok (record { steps = k; end = c.end_of.result; fills = c.fills.result }))) (sym c.step.ensures)
+          (subst (λ (x : End). WedgeAnswers image script f c.args.n (pool_in g c.args.pool.now c.args.guest.now (g.H.Host.bytes c.args.host.now)) (g.O.Sink.taken c.args.out.now) (g.O.Sink.taken c.put_end.new.out) (g.O.Sink.faults c.args.out.now) (g.O.Sink.faults c.put_end.new.out) before after memory (Ok (record { steps = c.slice.new.self.step; end = x; fills = c.fills.result }))) (sym c.end_of.ensures)
+          (subst (λ (k : ℕ). WedgeAnswers image script f c.args.n (pool_in g c.args.pool.now c.args.guest.now (g.H.Host.bytes c.args.host.now)) (g.O.Sink.taken c.args.out.now) (g.O.Sink.taken c.put_end.new.out) (g.O.Sink.faults c.args.out.now) (g.O.Sink.faults c.put_end.new.out) before after memory (Ok (record { steps = c.slice.new.self.step; end = end_of pause; fills = k }))) (sym c.fills.ensures) done));
     }

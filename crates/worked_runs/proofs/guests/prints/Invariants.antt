@@ -3,4 +3,4 @@ use Rattle.worked_runs.specs.Going.{IsGoing}
 use Rattle.worked_runs.proofs.guests.prints.Given as goal
 
 abbrev pub invariant-loop : goal.invariant-loop
-invariant-loop g l = IsGoing l.image l.guest l.pool l.host.ram × (l.guest.running.step ≤ l.n)
+invariant-loop g l = IsGoing l.image l.guest l.pool l.host.ram × (l.guest.step ≤ l.n)

@@ -21,7 +21,7 @@ overflow_add-enough g c =
     let held = at.held in let all = a.all in let few = a.few in
     let x = c.free.ensures.count (g.H.Host.bytes l.host) in
     let y = c.held.ensures in
-    let z = ap (λ (t : Tenant). t.guest.running.held) c.index.ensures in
+    let z = ap (λ (t : Tenant). t.guest.held) c.index.ensures in
     omega (arith, held, all, few, x, y, z)
 
 pub release-requires-clause-stands : goal.release-requires-clause-stands
@@ -110,7 +110,7 @@ loop-kernel-preserved g c = elim c.if-kernel-self.branch [
             });
         done = λ j d less ne.
             (let y = r.list d in
-            subst (λ (s : Tenants). (get_or s.list.items j d).guest.running.held ≤ 2) (sym w.self-is)
+            subst (λ (s : Tenants). (get_or s.list.items j d).guest.held ≤ 2) (sym w.self-is)
             (then_held l.self.pool to.pool host host' c.args.self.now.present l.kernel c.args.self.now.list.items l.self.list.items to.list.items d y.0 known y.1 y.2 j (λ below. i.done j d below ne) less));
       }
   | else-kernel-self w ↦
@@ -133,7 +133,7 @@ loop-kernel-preserved g c = elim c.if-kernel-self.branch [
         size = ap (λ (h : g.row.H.Denot). length (g.H.Host.bytes h)) w.host-is ∙ i.size;
         made = subst (λ (s : Tenants). HasMadeRoom c.args.self.now.present c.args.self.now.list.items s.list.items) (sym w.self-is) i.made;
         done = λ j d less ne.
-            subst (λ (s : Tenants). (get_or s.list.items j d).guest.running.held ≤ 2) (sym w.self-is)
+            subst (λ (s : Tenants). (get_or s.list.items j d).guest.held ≤ 2) (sym w.self-is)
             (i.done j d (let is = w.if-kernel-self.false in let same = i.present in omega (arith, less, ne, is, same)) ne);
       }
 ]
@@ -145,9 +145,9 @@ returns-clause-enough g c d =
     let a = i.apart c.requires.may.apart.0 c.requires.may.apart.1 c.requires.may.apart.2 in
     let n = i.made.len in let stop = c.loop-kernel-test.false in let e = c.len-kernel-end.ensures in let same = i.present in
     let four = c.requires.may.pool.0 in let count = i.count in let all = a.all in
-    let b = held_bound l.self.frames l.self.pool (g.H.Host.bytes l.host) l.self.present 0 c.requires.may.apart.0 l.self.list.items d (get_or l.self.list.items l.self.present d).guest.running.held (c.requires.may.apart.1 ∙ sym n) a.seated
+    let b = held_bound l.self.frames l.self.pool (g.H.Host.bytes l.host) l.self.present 0 c.requires.may.apart.0 l.self.list.items d (get_or l.self.list.items l.self.present d).guest.held (c.requires.may.apart.1 ∙ sym n) a.seated
     (λ j m is lt ne. i.done j d (omega (arith, n, stop, e, lt)) (λ x. ne (omega (arith, is, x, same))))
-    (λ j m is lt eq. (let z = ap (λ k. (get_or l.self.list.items k d).guest.running.held) (let t : j ≡ l.self.present = omega (arith, is, eq) in t) in omega (arith, z))) in
+    (λ j m is lt eq. (let z = ap (λ k. (get_or l.self.list.items k d).guest.held) (let t : j ≡ l.self.present = omega (arith, is, eq) in t) in omega (arith, z))) in
     let most = b.0 in
-    let there = ap (λ k. (get_or l.self.list.items k d).guest.running.held) same in
+    let there = ap (λ k. (get_or l.self.list.items k d).guest.held) same in
     omega (arith, most, n, four, count, all, there)

@@ -22,5 +22,5 @@ invariant-loop-kernel g l = record {
       → EachStays l.fn.self.frames (seats_from l.fn.self.frames (g.H.Host.bytes l.fn.host) l.fn.self.present 0 kernels l.fn.self.list.items) (seats_from l.fn.self.frames (g.H.Host.bytes l.host) l.fn.self.present 0 kernels l.self.list.items);
   size : length (g.H.Host.bytes l.host) ≡ length (g.H.Host.bytes l.fn.host);
   made : HasMadeRoom l.fn.self.present l.fn.self.list.items l.self.list.items;
-  done : (j : ℕ) (d : Tenant) → j < l.kernel → j ≢ l.fn.self.present → (get_or l.self.list.items j d).guest.running.held ≤ 2;
+  done : (j : ℕ) (d : Tenant) → j < l.kernel → j ≢ l.fn.self.present → (get_or l.self.list.items j d).guest.held ≤ 2;
 }

@@ -9,7 +9,7 @@ use Rattle.guest_sched.proofs.tenants.Tenants.release.Goals as goal
 pub release-requires-clause-owns : goal.release-requires-clause-owns
 release-requires-clause-owns g c =
     let d = c.index_mut-tenant.result.now in
-    subst (λ (t : Tenant). Owns c.args.self.now.pool (g.H.Host.bytes c.args.host.now) (roots.frames t.guest.running.shadows (g.H.Host.bytes c.args.host.now))) (sym c.index_mut-tenant.ensures.value) (c.requires.owns d)
+    subst (λ (t : Tenant). Owns c.args.self.now.pool (g.H.Host.bytes c.args.host.now) (roots.frames t.guest.shadows (g.H.Host.bytes c.args.host.now))) (sym c.index_mut-tenant.ensures.value) (c.requires.owns d)
 
 pub returns-clause-apart : goal.returns-clause-apart
 returns-clause-apart g c kernels len apart =
