@@ -113,6 +113,7 @@ module _ (m : Setting) (tag : List ℕ) (bound : ℕ) (old new : State) (out : O
             enough = enough_on filling.pages filling.fills filling.filled kept h.sets h.end t.sets t.end h.enough t.each_filled;
             few = omega (arith, few, count);
           };
+          own = refl;
         }
 
 -- some steps more, and what stops behind them

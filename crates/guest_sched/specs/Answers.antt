@@ -20,9 +20,9 @@ SharedRefused kernels slices frames a fault.Write =
 SharedRefused kernels slices frames a (fault.TooSmall small) = FirstTooSmall frames kernels small × IsUntouched a
 SharedRefused kernels slices frames a fault.Memory = IsUntouched a
 
--- what stands after the turns
-abbrev pub SharedAnswers : List Kernel → List Slice → ℕ → Around → Result (Vec Ended Global) SharedFault → Type 0
-SharedAnswers kernels slices frames a (Ok ended) =
-    (text : List ℕ) × SharedRun kernels slices frames a.counts a.counts_after text ended.items × AllFit frames kernels
+-- what stands after the turns, with the host's memory
+abbrev pub SharedAnswers : List Kernel → List Slice → ℕ → Around → List ℕ → Result (Vec Ended Global) SharedFault → Type 0
+SharedAnswers kernels slices frames a memory (Ok ended) =
+    (text : List ℕ) × SharedRun kernels slices frames a.counts a.counts_after memory text ended.items × AllFit frames kernels
     × Appends a.taken a.taken_after text × (a.faults ≤ a.faults_after)
-SharedAnswers kernels slices frames a (Err refusal) = SharedRefused kernels slices frames a refusal
+SharedAnswers kernels slices frames a memory (Err refusal) = SharedRefused kernels slices frames a refusal

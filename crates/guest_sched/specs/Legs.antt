@@ -20,7 +20,7 @@ pub record HasRun (m : Setting) (reports : List Report) (fills : ℕ) (state : S
   pub enough : All (λ (set : Set). len set ≤ fills) (sets ++ end ∷ [])
   pub few : fills ≤ 128 * last.step
 
--- such steps, behind which the next one stops
+-- such steps, behind which the next one stops, by the set to which the fills are compared
 pub record HasStopped (m : Setting) (n : ℕ) (reports : List Report) (fills : ℕ) (stop : Stop) (count : ℕ) : Type 0 where
   pub sets : List Set
   pub last : State
@@ -29,3 +29,4 @@ pub record HasStopped (m : Setting) (n : ℕ) (reports : List Report) (fills : �
   pub before : last.step < n
   pub holds : StopHolds m last stop
   pub filled : HasFills m sets last fills
+  pub own : filled.end ≡ holds.set

@@ -7,14 +7,15 @@ use Rattle.wedge_core.specs.Counts.{Counts}
 use Rattle.guest_sched.specs.declared.kernel.Kernel.{Kernel}
 use Rattle.guest_sched.specs.declared.schedule.Slice.{Slice}
 use Rattle.guest_sched.specs.Pieces.{Piece, AreTurns, piece_text, shared_text, counts_over}
-use Rattle.guest_sched.specs.Shared.{EachRan, sites_in, LinesAreAlone, EachBegan}
+use Rattle.guest_sched.specs.Shared.{EachHasOwnEnd, EachRan, sites_in, LinesAreAlone, EachBegan}
 
--- The turns are those of the schedule, in its order. Each kernel's turns make a run of it alone, and the host's counts follow
--- all of them.
-pub record SharedRun (kernels : List Kernel) (slices : List Slice) (frames : ℕ) (before after : Counts) (text : List ℕ) (ended : List Ended) : Type 0 where
+-- The turns are those of the schedule, in its order. Each kernel's turns make a run of it alone, with its own set at the end,
+-- and the host's counts follow all of them.
+pub record SharedRun (kernels : List Kernel) (slices : List Slice) (frames : ℕ) (before after : Counts) (memory text : List ℕ) (ended : List Ended) : Type 0 where
   pub pieces : List Piece
   pub turns : AreTurns [] slices pieces
   pub each : EachRan 0 frames slices pieces kernels ended
+  pub own : EachHasOwnEnd 0 frames slices pieces kernels ended each memory
   pub text_is : text ≡ shared_text pieces ended
   pub lines : LinesAreAlone 0 text pieces ended
   pub counts : after ≡ counts_over (sites_in kernels) before pieces

@@ -42,7 +42,7 @@ pub fn run_shared<H: Host, O: Sink>(
     requires frames { (2048 ≤ frames) × (frames ≤ 16384) }
     requires room { H.retired host.old ≤ 2 ^ 63 }
     ensures shared { SharedAnswers kernels.now.items schedule.now.list frames
-        (around H.Host O.Sink host.old host.new out.old out.new) result }
+        (around H.Host O.Sink host.old host.new out.old out.new) (H.bytes host.new) result }
 {
     let mut tenants = admit_all(alloc, kernels, frames, host)?;
     let mut ended = no_ends(alloc, kernels.len())?;

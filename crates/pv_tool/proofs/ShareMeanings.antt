@@ -100,10 +100,10 @@ write_fails schedule frames names o kernels slices mid middle shared same fit ta
     )
 
 -- what was answered was told
-pub share_means : (schedule : List ℕ) (frames : ℕ) (names : List KernelNames) (o : Outside) (st : Status) (kernels : List Kernel) (slices : List Slice) (mid : Option (List ℕ)) (middle : ℕ) (r : Result (Vec Ended Global) SharedFault)
-    → IsShared o.files schedule names kernels slices → o.files_after ≡ o.files → SharedAnswers kernels slices frames o.taken mid o.puts middle o.completed o.completed_after r
+pub share_means : (schedule : List ℕ) (frames : ℕ) (names : List KernelNames) (o : Outside) (st : Status) (kernels : List Kernel) (slices : List Slice) (mid : Option (List ℕ)) (middle : ℕ) (memory : List ℕ) (r : Result (Vec Ended Global) SharedFault)
+    → IsShared o.files schedule names kernels slices → o.files_after ≡ o.files → SharedAnswers kernels slices frames o.taken mid o.puts middle o.completed o.completed_after memory r
     → SharedToldAs r mid o.taken_after middle o.puts_after st → Means (Share schedule frames names) o st
-share_means schedule frames names o st kernels slices mid middle (Ok ended) shared same h said =
+share_means schedule frames names o st kernels slices mid middle memory (Ok ended) shared same h said =
     let run = h.1 in
     let w = told (status_of_all ended.items) (shared_text run.pieces ended.items) (Turns kernels run.pieces) in
     let turns : SharesTurns frames kernels slices w = record {
@@ -116,15 +116,15 @@ share_means schedule frames names o st kernels slices mid middle (Ok ended) shar
     } in
     says_told (Share schedule frames names) o w st (ended_is_end (status_of_all ended.items) (all_ended ended.items)) refl (by_shared o.files schedule frames names kernels slices w shared (Ran h.2 turns)) same
     (λ end. run.counts) (Whole said.0 (appends_on o.taken mid o.taken_after w.text said.1 (subst (λ (t : List ℕ). Appends o.taken mid t) run.text_is h.3)))
-share_means schedule frames names o st kernels slices mid middle (Err fault.Write) shared same h said =
+share_means schedule frames names o st kernels slices mid middle memory (Err fault.Write) shared same h said =
     subst (λ (s : Status). Means (Share schedule frames names) o s) (sym said.0) (write_fails schedule frames names o kernels slices mid middle shared same h.0 said.1 said.2 h.2 h.1)
-share_means schedule frames names o st kernels slices mid middle (Err (fault.TooSmall small)) shared same h (inl said) =
+share_means schedule frames names o st kernels slices mid middle memory (Err (fault.TooSmall small)) shared same h (inl said) =
     let line = small_line small.need small.have in
     says_told (Share schedule frames names) o (refused line) st tt refl (by_shared o.files schedule frames names kernels slices (refused line) shared (Small small h.0 refl)) same (λ end. h.1.2)
     (says_from line o.taken mid o.taken_after o.puts middle o.puts_after st h.1.0 h.1.1 said)
-share_means schedule frames names o st kernels slices mid middle (Err (fault.TooSmall small)) shared same h (inr none) =
+share_means schedule frames names o st kernels slices mid middle memory (Err (fault.TooSmall small)) shared same h (inr none) =
     subst (λ (s : Status). Means (Share schedule frames names) o s) (sym none.0) (same, inl (none.1 ∙ h.1.0, h.1.2))
-share_means schedule frames names o st kernels slices mid middle (Err fault.Memory) shared same h said =
+share_means schedule frames names o st kernels slices mid middle memory (Err fault.Memory) shared same h said =
     subst (λ (s : Status). Means (Share schedule frames names) o s) (sym said.0) (same, inl (said.1 ∙ h.0, h.2))
 
 -- a fault is told as that of one run

@@ -94,7 +94,7 @@ returns-in-Ok g c =
     record {
       shared = (
         text,
-        subst (λ (e : List Ended). SharedRun ks whole c.args.frames before now text e) (sym c.in-Ok.ensures.ended) (ends_shared ks c.args.frames whole ts l.tenants.pool l.tenants.present host before now old mid h),
+        subst (λ (e : List Ended). SharedRun ks whole c.args.frames before now host text e) (sym c.in-Ok.ensures.ended) (ends_shared ks c.args.frames whole ts l.tenants.pool l.tenants.present host before now old mid h),
         c.in_ok-tenants.ensures.admitted.0,
         ends_put ks c.args.frames whole ts l.tenants.pool l.tenants.present host before now old mid h (g.O.Sink.taken c.finish.new.out) c.in-Ok.ensures.ok,
         (let a = l.invariant.later in let b = c.finish.ensures.later in omega (arith, a, b)),

@@ -33,7 +33,7 @@ pub returns-in-Ok-clause-meaning : goal.returns-in-Ok-clause-meaning
 returns-in-Ok-clause-meaning g c =
     let words = c.args.words in
     let found = c.in-Ok.found in
-    share_means words.schedule.now words.frames (names_in_pairs (map string_bytes words.kernels.now)) _ c.tell_shared.result found.kernels.items found.schedule.list _ _ c.run_shared-ran.result
+    share_means words.schedule.now words.frames (names_in_pairs (map string_bytes words.kernels.now)) _ c.tell_shared.result found.kernels.items found.schedule.list _ _ _ c.run_shared-ran.result
     c.in-Ok.ensures.shared c.in-Ok.ensures.read.held c.run_shared-ran.ensures.shared c.tell_shared.ensures
 
 pub returns-in-Err-clause-counts : goal.returns-in-Err-clause-counts
