@@ -13,6 +13,7 @@ use Rattle.machine_model.specs.Step.{Report}
 use Rattle.shadow_cache.specs.Views as roots
 use Rattle.wedge_step.specs.Standing.{IsHeld, ground}
 use Rattle.wedge_core.specs.Slices.{Counts}
+use Rattle.wedge_core.specs.OfRoots.{of_roots}
 use Rattle.guest_sched.specs.Apart.{AreSeated, IsSeated, Seat}
 use Rattle.guest_sched.specs.Between.{EachStands, StandsSo, stops_of, ended_of, end_with}
 use Rattle.guest_sched.specs.Pieces.{Piece, piece_text, shared_text, reports_of, own_text, bound_line, bound_texts}
@@ -38,7 +39,7 @@ one_ran : (number frames : ℕ) (pool : Pool) (host : List ℕ) (whole : List Sl
 unfolding text_of
 one_ran number frames pool host whole pieces kernel seat None h image live seated behind =
     let step : seat.running.step ≡ h.0.last.step = ap (λ (b : State). b.step) h.0.stands in
-    let held = subst (λ (i : Image). IsHeld roots.stands roots.frames roots.slots (ground i frames) seat.running pool seat.memory) image (seated.goes_on live).held in (
+    let held = subst (λ (i : Image). IsHeld of_roots (ground i frames) seat.running pool seat.memory) image (seated.goes_on live).held in (
       record {
         sets = h.0.sets;
         last = h.0.last;
