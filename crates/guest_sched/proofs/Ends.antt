@@ -10,7 +10,6 @@ use Rattle.run_trace.specs.declared.items.Ended.{Ended}
 use Rattle.run_trace.specs.Text.{text_of, end_line}
 use Rattle.machine_model.specs.State.{Setting, State}
 use Rattle.machine_model.specs.Step.{Report}
-use Rattle.shadow_cache.specs.Views as roots
 use Rattle.wedge_step.specs.Standing.{IsHeld, ground}
 use Rattle.wedge_core.specs.Slices.{Counts}
 use Rattle.wedge_core.specs.OfRoots.{of_roots}
