@@ -6,7 +6,7 @@ use Rattle.ia32_types.specs.declared.insn.Op.{Op}
 use Rattle.ia32_types.specs.declared.insn.Op.TheVariants as op
 use Rattle.ia32_types.specs.declared.size.Size.{Size}
 use Rattle.ia32_types.specs.declared.size.Size.TheVariants as size
-use Rattle.ia32_types.specs.Shape.{is_direct_branch}
+use Rattle.ia32_types.specs.Branches.{is_direct_branch}
 use Rattle.asm_source.specs.declared.tree.Argument.{Argument}
 use Rattle.asm_instruction.specs.declared.argument.Number.{Number}
 use Rattle.asm_instruction.specs.declared.argument.Memory.{Memory}

@@ -1,5 +1,5 @@
 -- Where the branches of a text lead whose fields are filled.
-use Rattle.ia32_types.specs.Shape.{is_direct_branch}
+use Rattle.ia32_types.specs.Branches.{is_direct_branch}
 use Rattle.std.proofs.Common.{◌≡◌, ℕ, ◌+◌, ◌-◌, ◌≤◌, ◌^◌, ◌%◌, true, List, [], ◌∷◌, ◌++◌, length, map, refl, sym, ap, subst, ◌∙◌, append_assoc, arith}
 use Rattle.std.specs.Prelude.{fold, replicate}
 use Rattle.std.specs.List.{All, AllByRecursion, Contains}

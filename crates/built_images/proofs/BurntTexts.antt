@@ -4,7 +4,7 @@ use Rattle.std.specs.Prelude.{pos, replicate, slice_set, slice_index_or, slice_g
 use Rattle.std.specs.List.{All, AllByRecursion, Contains}
 use Rattle.std.proofs.lemmas.List.{append-nil, length-append, map-append, set_at, get_or_at}
 use Rattle.std.proofs.lemmas.List.Elements.{All-nil, All-cons, All-append, All-weaker}
-use Rattle.ia32_types.specs.Shape.{is_direct_branch}
+use Rattle.ia32_types.specs.Branches.{is_direct_branch}
 use Rattle.ia32_types.specs.declared.site.SiteKind.{SiteKind}
 use Rattle.ia32_types.specs.declared.site.SiteKind.TheVariants as site
 use Rattle.ia32_types.specs.Site.{kind_of, sensitive_kind}

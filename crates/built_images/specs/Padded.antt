@@ -1,5 +1,5 @@
 -- Objects whose texts are padded instructions, with relocations in their fields and labels between them.
-use Rattle.ia32_types.specs.Shape.{is_direct_branch}
+use Rattle.ia32_types.specs.Branches.{is_direct_branch}
 use Rattle.std.specs.Prelude.{◌≡◌, ℕ, ◌+◌, ◌<◌, true, List, [], ◌∷◌, ◌++◌, length, filter, All, Ok}
 use Rattle.std.specs.List.{AllByRecursion, Contains}
 use Rattle.ia32_rows.specs.Fields.{imm_len}

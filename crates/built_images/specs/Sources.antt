@@ -1,5 +1,5 @@
 -- Objects that are burnt from sources.
-use Rattle.ia32_types.specs.Shape.{is_direct_branch}
+use Rattle.ia32_types.specs.Branches.{is_direct_branch}
 use Rattle.std.specs.Prelude.{◌≡◌, ◌⊎◌, ℕ, pos, true, List, Ok, Err}
 use Rattle.std.specs.List.{AllByRecursion}
 use Rattle.ia32_rows.specs.Spells.{AreBytes}

@@ -4,6 +4,7 @@ pub mod Bits
 pub mod Flags
 pub mod Site
 pub mod Shape
+pub mod Branches
 pub mod Firsts
 pub mod Places
 pub mod Bytes

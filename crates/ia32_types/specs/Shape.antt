@@ -1,5 +1,5 @@
 -- What every spelled instruction has, and which of them need the processor's registers and memory alone.
-use Rattle.std.specs.Prelude.{◌≡◌, ◌≢◌, ◌⊎◌, ◌<◌, None, Bool, true, false}
+use Rattle.std.specs.Prelude.{◌≡◌, ◌≢◌, ◌⊎◌, ◌<◌, None}
 use Rattle.ia32_types.specs.declared.insn.Insn.{Insn}
 use Rattle.ia32_types.specs.declared.insn.Operand.{Operand}
 use Rattle.ia32_types.specs.declared.insn.Operand.TheVariants.{Register, Memory}
@@ -32,13 +32,6 @@ pub record IsPlain (o : Op) : Type 0 where
 -- PUSHF or POPF, as users execute them
 abbrev pub IsFlagImage : Op → Type 0
 IsFlagImage o = (o ≡ op.PushFlags) ⊎ (o ≡ op.PopFlags)
-
--- a branch whose operand is the distance to its target
-abbrev pub is_direct_branch : Op → Bool
-is_direct_branch op.Jmp = true
-is_direct_branch op.Call = true
-is_direct_branch op.Jcc = true
-is_direct_branch _ = false
 
 -- the instructions that `exec` does
 abbrev pub IsDone : Op → Type 0

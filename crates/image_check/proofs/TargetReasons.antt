@@ -12,7 +12,7 @@ use Rattle.image_check.specs.Accepts.{IsEntrance}
 use Rattle.image_check.specs.Reasons.{LeadsAstray}
 use Rattle.image_check.proofs.Acceptance.{entrance_is, is_entrance_so, branch_role, other_leads}
 use Rattle.image_check.proofs.Laid.{first_in, later_in, first_or_later, none_in}
-use Rattle.ia32_types.specs.Shape.{is_direct_branch}
+use Rattle.ia32_types.specs.Branches.{is_direct_branch}
 use Rattle.ia32_types.specs.Site.{sensitive_kind}
 use Rattle.image_check.proofs.PlaceReasons.{some, bad_so, so_bad}
 use Rattle.image_check.specs.declared.piece.Role.TheVariants as role

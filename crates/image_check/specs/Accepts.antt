@@ -1,6 +1,6 @@
 -- Which images are accepted, in words that name no order of tests.
 use Rattle.ia32_types.specs.declared.addresses.TheConstants.{DATA_ADDRESS, TEXT_ADDRESS}
-use Rattle.ia32_types.specs.Shape.{is_direct_branch}
+use Rattle.ia32_types.specs.Branches.{is_direct_branch}
 use Rattle.std.specs.Prelude.{◌≡◌, ℕ, ◌+◌, ◌-◌, ◌≤◌, ◌<◌, true, false, Bool, List, length, map, slice_index_or, Some, Ok}
 use Rattle.std.specs.List.{Contains}
 use Rattle.guest_ram.specs.Among.{is_among}

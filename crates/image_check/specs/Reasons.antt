@@ -2,7 +2,7 @@
 use Rattle.std.specs.Prelude.{◌≡◌, ◌≢◌, ◌⊎◌, ℕ, ◌+◌, ◌-◌, ◌≤◌, ◌<◌, min, true, List, [], ◌∷◌, ◌++◌, length, drop, map, slice_get, Some, Err, Ok}
 use Rattle.std.specs.List.{Contains}
 use Rattle.ia32_types.specs.declared.addresses.TheConstants.{DATA_ADDRESS, TEXT_ADDRESS}
-use Rattle.ia32_types.specs.Shape.{is_direct_branch}
+use Rattle.ia32_types.specs.Branches.{is_direct_branch}
 use Rattle.ia32_types.specs.declared.site.Refused.{Refused}
 use Rattle.ia32_decode.specs.Named.{BeginsRefused}
 use Rattle.elf_form.specs.ImageParts.{ImageParts}

@@ -1,6 +1,6 @@
 //! What the check asks of an instruction.
 
-ghost use Rattle.ia32_types.specs.Shape.{is_direct_branch};
+ghost use Rattle.ia32_types.specs.Branches.{is_direct_branch};
 ghost use Rattle.std.specs.Prelude.{◌≡◌, ◌+◌, ◌<◌, ◌≤◌, ◌^◌, length, drop, IfOk, IsTrue, ◌==◌};
 ghost use Rattle.image_check.specs.Pieces.{is_nop, role_of};
 

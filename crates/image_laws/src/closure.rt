@@ -3,7 +3,7 @@
 ghost use Rattle.std.specs.Prelude.{◌≡◌, ◌⊎◌, ◌+◌, ◌-◌, ◌%◌, ◌^◌, ◌≤◌, ◌<◌, ℕ, List, true, false, ◌↔◌, length};
 ghost use Rattle.std.specs.List.{Contains};
 ghost use Rattle.ia32_types.specs.declared.addresses.TheConstants.{TEXT_ADDRESS};
-ghost use Rattle.ia32_types.specs.Shape.{is_direct_branch};
+ghost use Rattle.ia32_types.specs.Branches.{is_direct_branch};
 ghost use Rattle.ia32_types.specs.declared.flags.Regs.{Regs};
 ghost use Rattle.ia32_exec.specs.declared.outcome.Outcome.TheVariants.{Done};
 ghost use Rattle.ia32_exec.specs.declared.outcome.Stores.{Stores};
