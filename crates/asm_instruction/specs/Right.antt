@@ -1,7 +1,7 @@
 -- What is said of an assembled instruction: its spelling, its fields, and the distance of a direct branch.
 use Rattle.std.specs.Prelude.{◌≡◌, ℕ, ℤ, pos, ◌+◌, ◌≤◌, true, List, take, Option, Some, None, is_some, slice_get}
 use Rattle.ia32_types.specs.declared.size.Size.TheVariants as size
-use Rattle.ia32_types.specs.Shape.{is_direct_branch}
+use Rattle.ia32_types.specs.Branches.{is_direct_branch}
 use Rattle.ia32_encode.specs.declared.choose.Wide.{Wide}
 use Rattle.ia32_encode.specs.Chosen.{chosen}
 use Rattle.ia32_encode.specs.Good.{SpellsWide, IsReadBack, IsBounded}

@@ -4,7 +4,7 @@ ghost use Rattle.std.specs.Prelude.{◌≡◌, ◌+◌, ◌*◌, ◌%◌, ◌≤
 ghost use Rattle.std.specs.FinMap.{empty};
 ghost use Rattle.std.specs.Borrow.{sem, Lends};
 ghost use Rattle.bare_machine.specs.contracts.machine.Bare.{the_row};
-ghost use Rattle.board.specs.Scripts.{is_script};
+ghost use Rattle.board.specs.ScriptForm.{is_script};
 ghost use Rattle.image_check.specs.Image.{Image};
 ghost use Rattle.pv_io.specs.Causes.{Rose};
 ghost use Rattle.machine_model.specs.Fit.{Fit};

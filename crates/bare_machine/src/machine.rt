@@ -1,7 +1,8 @@
 //! The bare machine and one step of it.
 
 ghost use Rattle.std.specs.Prelude.{◌≡◌, ◌+◌, ◌*◌, ◌≤◌, ◌<◌, ◌^◌, length, true, IfOk, OnOk, MatchResult};
-ghost use Rattle.board.specs.Scripts.{is_script, Events};
+ghost use Rattle.board.specs.Scripts.{Events};
+ghost use Rattle.board.specs.ScriptForm.{is_script};
 ghost use Rattle.image_check.specs.Image.{Image};
 ghost use Rattle.step_mem.specs.Changes.{AreWithin, changed};
 ghost use Rattle.step_mem.specs.Sound.{space};

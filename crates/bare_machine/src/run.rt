@@ -1,7 +1,7 @@
 //! Whole runs of the bare machine.
 
 ghost use Rattle.std.specs.Prelude.{◌≡◌, ◌≤◌, ◌^◌, true, IfOk};
-ghost use Rattle.board.specs.Scripts.{is_script};
+ghost use Rattle.board.specs.ScriptForm.{is_script};
 ghost use Rattle.image_check.specs.Image.{Image};
 ghost use Rattle.bare_machine.specs.Machine.{state_of, IsKept};
 ghost use Rattle.bare_machine.specs.Settings.{bare};

@@ -10,7 +10,8 @@ use Rattle.ia32_types.specs.Firsts.{IsFirst}
 use Rattle.board.specs.declared.script.Event.{Event}
 use Rattle.board.specs.declared.script.Event.TheVariants.{Rx}
 use Rattle.board.specs.declared.devices.Board.{Board}
-use Rattle.board.specs.Scripts.{Events, event_fits, max_step, is_script_from, later, earlier}
+use Rattle.board.specs.Scripts.{Events, max_step}
+use Rattle.board.specs.ScriptForm.{event_fits, is_script_from, later, earlier}
 use Rattle.board.specs.Boards.{event_within, given, happened, SameEvents}
 
 -- what the order says of the first event, and of the others

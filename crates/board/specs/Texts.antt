@@ -8,7 +8,8 @@ use Rattle.board.specs.declared.script.Event.{Event}
 use Rattle.board.specs.declared.script.Event.TheVariants.{Rx, Line}
 use Rattle.board.specs.declared.fault.ScriptCause.{ScriptCause}
 use Rattle.board.specs.declared.fault.ScriptCause.TheVariants.{NoForm, BadNumber, StepFalls, TooMany, NotAscii}
-use Rattle.board.specs.Scripts.{Events, max_step, max_events, is_free_line, is_script}
+use Rattle.board.specs.Scripts.{Events, max_step, max_events, is_free_line}
+use Rattle.board.specs.ScriptForm.{is_script}
 
 -- numbers
 

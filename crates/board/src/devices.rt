@@ -1,7 +1,7 @@
 //! The board: its devices, what comes to them, their ports and their interrupts.
 
 ghost use Rattle.std.specs.Prelude.{◌≡◌, ◌<◌, false, true, not, ◌&&◌, Some, IsSome};
-ghost use Rattle.board.specs.Scripts.{event_fits, is_script};
+ghost use Rattle.board.specs.ScriptForm.{event_fits, is_script};
 ghost use Rattle.board.specs.Boards.{at_reset, serial_line, edged, board_steps, with_uart, happened, given, comes_within, vector, acknowledged};
 ghost use Rattle.ia32_types.specs.Firsts.{IsFirst};
 ghost use Rattle.uart16550.specs.Ports.{written as serial_written, interrupt_line};

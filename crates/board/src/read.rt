@@ -4,7 +4,8 @@ ghost use Rattle.std.specs.Prelude.{◌≡◌, ℕ, ◌<◌, ◌≤◌, ◌^◌,
 ghost use Rattle.std.specs.Option.{option_map};
 ghost use Rattle.std.specs.List.{list_all};
 ghost use Rattle.board.specs.declared.script.Event.TheVariants.{Line};
-ghost use Rattle.board.specs.Scripts.{max_step, event_fits};
+ghost use Rattle.board.specs.Scripts.{max_step};
+ghost use Rattle.board.specs.ScriptForm.{event_fits};
 ghost use Rattle.board.specs.Texts.{number_upto, hex_value, both_digits, hex_byte, free_line_of, event_of, event_in, cut_at, is_printable, is_skipped, is_empty, event_of_line};
 ghost use Rattle.board.specs.Cuts.{IsCut};
 

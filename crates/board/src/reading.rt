@@ -1,7 +1,8 @@
 //! Reading a script from its text.
 
 ghost use Rattle.std.specs.Prelude.{◌≡◌, ◌+◌, ◌<◌, ◌≤◌, ◌^◌, ◌++◌, ◌∷◌, [], true, length, Ok, Some, IfOk, OnOk};
-ghost use Rattle.board.specs.Scripts.{max_step, max_events, event_fits, is_script};
+ghost use Rattle.board.specs.Scripts.{max_step, max_events};
+ghost use Rattle.board.specs.ScriptForm.{event_fits, is_script};
 ghost use Rattle.board.specs.Texts.{at_start, event_of_line, line_read, cut_at, script_of};
 ghost use Rattle.board.specs.Lines.{AnswerSays};
 ghost use Rattle.board.specs.declared.fault.ScriptFault.TheVariants.{At};

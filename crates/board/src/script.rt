@@ -3,7 +3,7 @@
 ghost use Rattle.std.specs.Prelude.{◌≡◌, true};
 ghost use Rattle.std.specs.List.Sorted.{IsNonDecreasingBy};
 ghost use Rattle.ia32_types.specs.Firsts.{IsFirst};
-ghost use Rattle.board.specs.Scripts.{is_script_from, later, earlier};
+ghost use Rattle.board.specs.ScriptForm.{is_script_from, later, earlier};
 ghost use Rattle.board.specs.Boards.{event_within, SameEvents};
 
 use std::marker::Model;
@@ -26,7 +26,7 @@ pub struct Script {
 }
 
 impl Model for Script {
-    ghost use Rattle.board.specs.Scripts.{EventList};
+    ghost use Rattle.board.specs.ScriptForm.{EventList};
 
     ghost Value = { EventList };
 

@@ -1,7 +1,7 @@
 //! A run of the bare machine up to a count of steps, at which it rests.
 
 ghost use Rattle.std.specs.Prelude.{◌≡◌, ◌*◌, ◌/◌, ◌≤◌, ◌^◌, length, true};
-ghost use Rattle.board.specs.Scripts.{is_script};
+ghost use Rattle.board.specs.ScriptForm.{is_script};
 ghost use Rattle.image_check.specs.Image.{Image};
 ghost use Rattle.machine_model.specs.Fit.{Fit};
 ghost use Rattle.bare_machine.specs.Machine.{state_of, IsKept};

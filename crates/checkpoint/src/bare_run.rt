@@ -1,7 +1,7 @@
 //! A run goes on from a checkpoint on the bare machine, to its last line.
 
 ghost use Rattle.std.specs.Prelude.{◌≡◌, ◌/◌, ◌≤◌, ◌^◌, length, true, IfOk};
-ghost use Rattle.board.specs.Scripts.{is_script};
+ghost use Rattle.board.specs.ScriptForm.{is_script};
 ghost use Rattle.image_check.specs.Image.{Image};
 ghost use Rattle.bare_machine.specs.Answers.{WholeAs};
 ghost use Rattle.bare_machine.specs.Settings.{bare};

@@ -3,7 +3,7 @@
 ghost use Rattle.std.specs.Prelude.{◌≡◌, ◌/◌, ◌≤◌, ◌^◌, length, true};
 ghost use Rattle.guest_ram.specs.Bytes.{part};
 ghost use Rattle.ia32_types.specs.declared.addresses.TheConstants.{TEXT_PLACE};
-ghost use Rattle.board.specs.Scripts.{is_script};
+ghost use Rattle.board.specs.ScriptForm.{is_script};
 ghost use Rattle.machine_model.specs.State.{wedge};
 ghost use Rattle.run_trace.specs.Pauses.{end_of};
 ghost use Rattle.wedge_step.specs.Leaves.{IsBetween};

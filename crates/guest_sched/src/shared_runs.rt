@@ -2,7 +2,7 @@
 
 ghost use Rattle.std.specs.Prelude.{◌≡◌, ◌≤◌, length, true};
 ghost use Rattle.std.specs.List.{All};
-ghost use Rattle.board.specs.Scripts.{is_script};
+ghost use Rattle.board.specs.ScriptForm.{is_script};
 
 use crate::{Kernel, SharedFault, read_schedule, run_shared};
 use board::read_script;

@@ -1,7 +1,7 @@
 //! The board: ports, scripts, interrupts, and its state as 64 bytes.
 
 ghost use Rattle.std.specs.Prelude.{◌≡◌, true};
-ghost use Rattle.board.specs.Scripts.{is_script};
+ghost use Rattle.board.specs.ScriptForm.{is_script};
 
 use board::{Board, Event, PortRead, Script, ScriptCause, ScriptFault, read_script};
 use ia32_types::Did;

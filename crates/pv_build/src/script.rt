@@ -2,7 +2,7 @@
 
 ghost use Rattle.std.specs.Prelude.{◌≡◌, true, ℕ, IfOk, IfErr};
 ghost use Rattle.pv_io.specs.Files.{IsHeld};
-ghost use Rattle.board.specs.Scripts.{is_script};
+ghost use Rattle.board.specs.ScriptForm.{is_script};
 ghost use Rattle.board.specs.declared.fault.ScriptCause.{ScriptCause};
 ghost use Rattle.pv_build.specs.Lines.{script_line};
 ghost use Rattle.pv_build.specs.Readings.{OnlyRead};

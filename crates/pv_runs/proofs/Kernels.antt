@@ -4,7 +4,7 @@ use Rattle.std.specs.List.{All}
 use Rattle.std.specs.declared.alloc.Global.{Global}
 use Rattle.std.proofs.lemmas.List.{append_assoc, append-nil, take_all, length-map}
 use Rattle.pv_io.specs.Files.{FileMap}
-use Rattle.board.specs.Scripts.{is_script}
+use Rattle.board.specs.ScriptForm.{is_script}
 use Rattle.guest_sched.specs.declared.kernel.Kernel.{Kernel}
 use Rattle.pv_build.specs.declared.halt.Halt.{Halt}
 use Rattle.pv_runs.specs.Kernels.{KernelNames, names_in_pairs, HasKernel, HasKernels, AreKernels}

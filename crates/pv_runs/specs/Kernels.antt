@@ -2,7 +2,7 @@
 use Rattle.std.specs.Prelude.{◌≡◌, ◌⊎◌, ℕ, true, List, [], ◌∷◌, length, Option, Ok, Err}
 use Rattle.std.specs.List.{All}
 use Rattle.pv_io.specs.Files.{FileMap, Holds, IsHeld}
-use Rattle.board.specs.Scripts.{is_script}
+use Rattle.board.specs.ScriptForm.{is_script}
 use Rattle.guest_sched.specs.declared.kernel.Kernel.{Kernel}
 use Rattle.guest_sched.specs.declared.fault.ScheduleCause.{ScheduleCause}
 use Rattle.guest_sched.specs.Texts.{schedule_of}

@@ -1,7 +1,7 @@
 //! Certificates, read from files, and made as files.
 
 ghost use Rattle.std.specs.Prelude.{◌≡◌, true, ℕ, length, IfOk, IfErr};
-ghost use Rattle.board.specs.Scripts.{is_script};
+ghost use Rattle.board.specs.ScriptForm.{is_script};
 ghost use Rattle.pv_io.specs.Files.{Holds, IsHeld};
 ghost use Rattle.trace_check.specs.Form.{AreChoices, choices_bytes};
 ghost use Rattle.trace_check.specs.Reading.{choices_in};

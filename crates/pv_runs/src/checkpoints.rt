@@ -4,7 +4,7 @@ ghost use Rattle.std.specs.Prelude.{◌≡◌, ◌≤◌, true, ℕ, List, IfOk,
 ghost use Rattle.guest_ram.specs.Bytes.{part};
 ghost use Rattle.ia32_types.specs.declared.addresses.TheConstants.{TEXT_PLACE};
 ghost use Rattle.pv_io.specs.Files.{IsHeld};
-ghost use Rattle.board.specs.Scripts.{is_script};
+ghost use Rattle.board.specs.ScriptForm.{is_script};
 ghost use Rattle.machine_model.specs.Able.{IsAble};
 ghost use Rattle.checkpoint.specs.States.{checkpoint_bytes, checkpoint_in};
 ghost use Rattle.checkpoint.specs.InForm.{IsInForm};

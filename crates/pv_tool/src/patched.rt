@@ -1,7 +1,7 @@
 //! Runs of a patched image on a host.
 
 ghost use Rattle.std.specs.Prelude.{◌≡◌, ◌≤◌, ◌^◌, true};
-ghost use Rattle.board.specs.Scripts.{is_script};
+ghost use Rattle.board.specs.ScriptForm.{is_script};
 ghost use Rattle.wedge_core.specs.Answers.{WedgeAnswers};
 ghost use Rattle.wedge_core.specs.Surroundings.{around};
 

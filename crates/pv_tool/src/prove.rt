@@ -1,7 +1,7 @@
 //! The command `prove`: a run of a patched image, with a certificate of its translations.
 
 ghost use Rattle.std.specs.Prelude.{◌≡◌, ◌≤◌, ◌^◌, true, List, ℕ, length};
-ghost use Rattle.board.specs.Scripts.{is_script};
+ghost use Rattle.board.specs.ScriptForm.{is_script};
 ghost use Rattle.run_trace.specs.Notes.{Note};
 ghost use Rattle.wedge_core.specs.Counts.{Counts as HostCounts};
 ghost use Rattle.trace_check.specs.Form.{AreChoices, most_choices, choices_bytes};

@@ -2,7 +2,7 @@
 
 ghost use Rattle.std.specs.Prelude.{◌≡◌, ◌≤◌, ◌^◌, true, List, ℕ};
 ghost use Rattle.pv_io.specs.Taking.{taking};
-ghost use Rattle.board.specs.Scripts.{is_script};
+ghost use Rattle.board.specs.ScriptForm.{is_script};
 ghost use Rattle.trace_check.specs.Form.{AreChoices};
 ghost use Rattle.wedge_core.specs.Counts.{Counts as HostCounts};
 ghost use Rattle.pv_tool.specs.View.{AreWithin, replay_command};

@@ -1,7 +1,7 @@
 //! The command `run`, on the bare machine or of a patched image on a host.
 
 ghost use Rattle.std.specs.Prelude.{◌≡◌, ◌≤◌, ◌^◌, true};
-ghost use Rattle.board.specs.Scripts.{is_script};
+ghost use Rattle.board.specs.ScriptForm.{is_script};
 ghost use Rattle.pv_tool.specs.View.{AreWithin, run_command};
 ghost use Rattle.wedge_core.specs.Surroundings.{around};
 ghost use Rattle.pv_tool.specs.Outside.{outside};

@@ -3,7 +3,7 @@
 ghost use Rattle.std.specs.Prelude.{◌≡◌, ◌≤◌, ◌^◌, true, ℕ, List, length};
 ghost use Rattle.guest_ram.specs.Bytes.{part};
 ghost use Rattle.ia32_types.specs.declared.addresses.TheConstants.{TEXT_PLACE};
-ghost use Rattle.board.specs.Scripts.{is_script};
+ghost use Rattle.board.specs.ScriptForm.{is_script};
 ghost use Rattle.machine_model.specs.Able.{IsAble};
 ghost use Rattle.wedge_core.specs.Counts.{Counts as HostCounts};
 ghost use Rattle.wedge_core.specs.Surroundings.{around};

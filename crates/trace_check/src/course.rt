@@ -1,7 +1,8 @@
 //! The course of choices on the bare machine.
 
 ghost use Rattle.std.specs.Prelude.{◌≡◌, ◌+◌, ◌-◌, ◌*◌, ◌≤◌, ◌<◌, ◌^◌, true, length, slice_get, IfOk, IfSome, OnErr};
-ghost use Rattle.board.specs.Scripts.{is_script, Events};
+ghost use Rattle.board.specs.Scripts.{Events};
+ghost use Rattle.board.specs.ScriptForm.{is_script};
 ghost use Rattle.image_check.specs.Image.{Image};
 ghost use Rattle.pv_io.specs.Causes.{Rose};
 ghost use Rattle.machine_model.specs.Run.{with_set};

@@ -1,7 +1,7 @@
 //! Patched runs whose notes are kept, so that their text can be judged.
 
 ghost use Rattle.std.specs.Prelude.{◌≡◌, ◌≤◌, ◌^◌, [], true};
-ghost use Rattle.board.specs.Scripts.{is_script};
+ghost use Rattle.board.specs.ScriptForm.{is_script};
 ghost use Rattle.image_load.specs.Boot.{need};
 ghost use Rattle.machine_model.specs.State.{boot, wedge};
 ghost use Rattle.run_trace.specs.Pauses.{end_of};

@@ -1,7 +1,7 @@
 //! Whether the run that goes by some choices has a text.
 
 ghost use Rattle.std.specs.Prelude.{◌≡◌, ◌≤◌, ◌^◌, true, length};
-ghost use Rattle.board.specs.Scripts.{is_script};
+ghost use Rattle.board.specs.ScriptForm.{is_script};
 ghost use Rattle.trace_check.specs.Form.{AreChoices};
 ghost use Rattle.trace_check.specs.Judged.{unless_differs};
 ghost use Rattle.trace_check.specs.Replayed.{Replays};

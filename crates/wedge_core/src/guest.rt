@@ -2,7 +2,7 @@
 
 ghost use Rattle.std.specs.Prelude.{◌≡◌, ◌+◌, ◌*◌, ◌≤◌, ◌<◌, ◌^◌, replicate, true, IfOk, OnErr};
 ghost use Rattle.frame_pool.specs.Held.{Owns};
-ghost use Rattle.board.specs.Scripts.{is_script};
+ghost use Rattle.board.specs.ScriptForm.{is_script};
 ghost use Rattle.image_check.specs.Image.{Image};
 ghost use Rattle.machine_model.specs.State.{wedge};
 ghost use Rattle.wedge_step.specs.Filled.{IsFilled};

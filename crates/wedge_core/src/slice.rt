@@ -1,7 +1,7 @@
 //! A slice of a patched run.
 
 ghost use Rattle.std.specs.Prelude.{◌≡◌, ◌+◌, ◌-◌, ◌*◌, ◌≤◌, ◌<◌, ◌^◌, true, false};
-ghost use Rattle.board.specs.Scripts.{is_script};
+ghost use Rattle.board.specs.ScriptForm.{is_script};
 ghost use Rattle.machine_model.specs.State.{wedge};
 ghost use Rattle.wedge_step.specs.Leaves.{IsBetween};
 ghost use Rattle.wedge_step.specs.Scene.{scene};

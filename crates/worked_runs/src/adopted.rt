@@ -3,7 +3,7 @@
 
 ghost use Rattle.std.specs.Prelude.{◌≡◌, ◌+◌, ◌*◌, ◌≤◌, ◌^◌, length, true};
 ghost use Rattle.bare_machine.specs.Machine.{state_of, IsKept};
-ghost use Rattle.board.specs.Scripts.{is_script};
+ghost use Rattle.board.specs.ScriptForm.{is_script};
 ghost use Rattle.frame_pool.specs.Pool.{base_of, free_list, Stands};
 ghost use Rattle.guest_ram.specs.Bytes.{part};
 ghost use Rattle.machine_model.specs.Fit.{Fit};

@@ -1,7 +1,7 @@
 //! Patched runs that pause and go on, beside the bare machine.
 
 ghost use Rattle.std.specs.Prelude.{◌≡◌, ◌+◌, ◌≤◌, ◌^◌, true};
-ghost use Rattle.board.specs.Scripts.{is_script};
+ghost use Rattle.board.specs.ScriptForm.{is_script};
 ghost use Rattle.worked_runs.specs.Going.{IsGoing};
 
 use crate::commands::{are_same, holds, image_of, sink, took};

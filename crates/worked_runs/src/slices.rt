@@ -3,7 +3,8 @@
 ghost use Rattle.std.specs.Prelude.{◌≡◌, ◌+◌, ◌≤◌, ◌^◌, true};
 ghost use Rattle.bare_machine.specs.Machine.{state_of, IsKept};
 ghost use Rattle.bare_machine.specs.Settings.{bare};
-ghost use Rattle.board.specs.Scripts.{is_script, Events};
+ghost use Rattle.board.specs.Scripts.{Events};
+ghost use Rattle.board.specs.ScriptForm.{is_script};
 ghost use Rattle.machine_model.specs.State.{boot};
 
 use crate::commands::{are_same, holds, image_of, sink, took};

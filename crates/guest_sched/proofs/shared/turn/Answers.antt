@@ -1,5 +1,5 @@
 use Rattle.std.proofs.Common.{◌≡◌, true, ◌<◌, [], ◌∷◌, ◌++◌, length, set, get_or, None, refl, ap, sym, subst, ◌∙◌, arith}
-use Rattle.board.specs.Scripts.{is_script}
+use Rattle.board.specs.ScriptForm.{is_script}
 use Rattle.guest_sched.specs.declared.kernel.Kernel.{Kernel}
 use Rattle.guest_sched.specs.declared.tenants.Tenant.{Tenant}
 use Rattle.guest_sched.proofs.Between.{next_slice}

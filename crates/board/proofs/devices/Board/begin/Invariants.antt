@@ -1,5 +1,5 @@
 use Rattle.std.proofs.Common.{◌≡◌, drop, true}
-use Rattle.board.specs.Scripts.{is_script_from}
+use Rattle.board.specs.ScriptForm.{is_script_from}
 use Rattle.board.specs.Boards.{given}
 use Rattle.board.proofs.devices.Board.begin.Given as goal
 
