@@ -6,7 +6,7 @@ use Rattle.std.proofs.lemmas.Bool.{le-leb, leb-true, eqb-true, and_parts, and_fr
 use Rattle.board.specs.Restored.{board_form, demands as board_tests}
 use Rattle.checkpoint.specs.declared.demand.Demand.{Demand}
 use Rattle.checkpoint.specs.declared.head.Head.{Head}
-use Rattle.board.specs.Scripts.{earlier}
+use Rattle.board.specs.ScriptForm.{earlier}
 use Rattle.checkpoint.specs.Demands.{bad_in, first_bad, byte_demand, zero_demands}
 use Rattle.checkpoint.specs.Form.{magic_demands, count_demands, processor_demands, segments_demands, board_demand, board_demands, demands}
 use Rattle.checkpoint.proofs.Firsts.{first_bad-append}
