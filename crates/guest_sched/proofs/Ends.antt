@@ -18,7 +18,8 @@ use Rattle.guest_sched.specs.Between.{EachStands, StandsSo, stops_of, ended_of, 
 use Rattle.guest_sched.specs.Pieces.{Piece, piece_text, shared_text, reports_of, own_text, bound_line, bound_texts}
 use Rattle.guest_sched.specs.Schedules.{bound_of}
 use Rattle.guest_sched.specs.Seating.{seat_of, seats_from}
-use Rattle.guest_sched.specs.Shared.{EachHasOwnEnd, EachRan, HasOwnEnd, RanAlone, alone}
+use Rattle.guest_sched.specs.Shared.{EachRan, RanAlone, alone}
+use Rattle.guest_sched.specs.OwnEnds.{EachHasOwnEnd, HasOwnEnd}
 use Rattle.guest_sched.specs.SharedRuns.{SharedRun, FailsAtEnd}
 use Rattle.guest_sched.specs.declared.kernel.Kernel.{Kernel}
 use Rattle.guest_sched.specs.declared.schedule.Slice.{Slice}

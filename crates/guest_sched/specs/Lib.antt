@@ -8,6 +8,7 @@ pub mod Marks
 pub mod Apart
 pub mod Pieces
 pub mod Shared
+pub mod OwnEnds
 pub mod SharedRuns
 pub mod Answers
 pub mod Turns

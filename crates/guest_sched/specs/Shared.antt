@@ -1,17 +1,15 @@
 -- What `run_shared` promises.
-use Rattle.std.specs.Prelude.{◌≡◌, ◌⊎◌, ℕ, zero, suc, ◌*◌, ◌≤◌, ◌<◌, List, [], ◌∷◌, ◌++◌, drop}
+use Rattle.std.specs.Prelude.{◌≡◌, ◌⊎◌, ℕ, zero, suc, ◌≤◌, ◌<◌, List, [], ◌∷◌, ◌++◌}
 use Rattle.sites.specs.declared.site.Site.{Site}
 use Rattle.run_trace.specs.declared.items.Ended.{Ended}
-use Rattle.run_trace.specs.declared.items.End.{End}
-use Rattle.run_trace.specs.declared.items.End.TheVariants.{Bound, Stopped}
+use Rattle.run_trace.specs.declared.items.End.TheVariants.{Stopped}
 use Rattle.ia32_types.specs.declared.stop.Stop.{Stop}
 use Rattle.run_trace.specs.Text.{lines_of, text_of}
 use Rattle.image_load.specs.Boot.{need}
 use Rattle.image_load.specs.declared.boot.TooSmall.{TooSmall}
 use Rattle.machine_model.specs.State.{Setting, State, boot, wedge}
 use Rattle.machine_model.specs.Step.{Report}
-use Rattle.machine_model.specs.Run.{EndsIn, Set, Run, Steps, StopHolds, trace_of}
-use Rattle.wedge_core.specs.Guests.{HasGuest}
+use Rattle.machine_model.specs.Run.{Set, Run, Steps, StopHolds, trace_of}
 use Rattle.wedge_core.specs.Promises.{HasFills}
 use Rattle.guest_sched.specs.declared.kernel.Kernel.{Kernel}
 use Rattle.guest_sched.specs.declared.schedule.Slice.{Slice}
@@ -38,22 +36,6 @@ EachRan number frames slices pieces [] (ended ∷ more) = ⊥
 EachRan number frames slices pieces (kernel ∷ kernels) [] = ⊥
 EachRan number frames slices pieces (kernel ∷ kernels) (ended ∷ more) =
     RanAlone (alone kernel frames) (bound_of number slices) (reports_of number pieces) (own_text number pieces ++ bound_line ended.steps ended.end) ended × EachRan (suc number) frames slices pieces kernels more
-
--- The set at the end of such a run: that by which it stops, or behind its last step the guest's own. The guest stands there
--- over the kernel's memory, which goes on behind its frames as the host's does, and has filled so many pages.
-abbrev pub HasOwnEnd : (m : Setting) (n : ℕ) (last : State) (end : End) → EndsIn m n last end → Set → ℕ → List ℕ → Type 0
-HasOwnEnd m n last Bound ends set fills host =
-    (memory : List ℕ) × (drop (4096 * m.frames) memory ≡ drop (4096 * m.frames) host) × HasGuest m last Bound set fills memory
-HasOwnEnd m n last (Stopped stop) ends set fills host = set ≡ ends.1.set
-
--- so of each kernel: the set to which its fills are compared is its own
-abbrev pub EachHasOwnEnd : (number frames : ℕ) (slices : List Slice) (pieces : List Piece) (kernels : List Kernel) (ended : List Ended) → EachRan number frames slices pieces kernels ended → List ℕ → Type 0
-EachHasOwnEnd number frames slices pieces [] [] each host = Unit {0}
-EachHasOwnEnd number frames slices pieces [] (ended ∷ more) each host = ⊥
-EachHasOwnEnd number frames slices pieces (kernel ∷ kernels) [] each host = ⊥
-EachHasOwnEnd number frames slices pieces (kernel ∷ kernels) (ended ∷ more) each host =
-    HasOwnEnd (alone kernel frames) (bound_of number slices) each.0.last ended.end each.0.run.ends each.0.fills.end ended.fills host
-    × EachHasOwnEnd (suc number) frames slices pieces kernels more each.1 host
 
 -- the sites of a kernel's image
 abbrev pub sites_in : List Kernel → ℕ → List Site

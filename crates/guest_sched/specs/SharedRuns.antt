@@ -7,7 +7,8 @@ use Rattle.wedge_core.specs.Counts.{Counts}
 use Rattle.guest_sched.specs.declared.kernel.Kernel.{Kernel}
 use Rattle.guest_sched.specs.declared.schedule.Slice.{Slice}
 use Rattle.guest_sched.specs.Pieces.{Piece, AreTurns, piece_text, shared_text, counts_over}
-use Rattle.guest_sched.specs.Shared.{EachHasOwnEnd, EachRan, sites_in, LinesAreAlone, EachBegan}
+use Rattle.guest_sched.specs.Shared.{EachRan, sites_in, LinesAreAlone, EachBegan}
+use Rattle.guest_sched.specs.OwnEnds.{EachHasOwnEnd}
 
 -- The turns are those of the schedule, in its order. Each kernel's turns make a run of it alone, with its own set at the end,
 -- and the host's counts follow all of them.
