@@ -1,5 +1,4 @@
 pub mod Numbers
-pub mod NumberWords
 pub mod Lines
 pub mod Texts
 pub mod Readings

@@ -7,7 +7,8 @@ use Rattle.pv_io.specs.Files.{FileMap}
 use Rattle.board.specs.ScriptForm.{is_script}
 use Rattle.guest_sched.specs.declared.kernel.Kernel.{Kernel}
 use Rattle.pv_build.specs.declared.halt.Halt.{Halt}
-use Rattle.pv_runs.specs.Kernels.{KernelNames, names_in_pairs, HasKernel, HasKernels, AreKernels}
+use Rattle.pv_words.specs.Words.{KernelNames, names_in_pairs}
+use Rattle.pv_runs.specs.Kernels.{HasKernel, HasKernels, AreKernels}
 
 -- ---- words in pairs
 

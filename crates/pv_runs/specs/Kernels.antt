@@ -7,19 +7,10 @@ use Rattle.guest_sched.specs.declared.kernel.Kernel.{Kernel}
 use Rattle.guest_sched.specs.declared.fault.ScheduleCause.{ScheduleCause}
 use Rattle.guest_sched.specs.Texts.{schedule_of}
 use Rattle.pv_runs.specs.ScheduleLines.{schedule_line}
+use Rattle.pv_words.specs.Words.{KernelNames}
 use Rattle.pv_build.specs.Images.{HasImage}
 use Rattle.pv_build.specs.Scripts.{HasScript, FindsRun, NoRun}
 use Rattle.guest_sched.specs.declared.schedule.Slice.{Slice}
-
-pub record KernelNames : Type 0 where
-  pub image : List ℕ
-  pub script : List ℕ
-
--- names of images, each with that of its script behind it
-abbrev pub names_in_pairs : List (List ℕ) → List KernelNames
-names_in_pairs [] = []
-names_in_pairs (image ∷ []) = []
-names_in_pairs (image ∷ script ∷ names) = record { image = image; script = script } ∷ names_in_pairs names
 
 -- the names hold the kernel
 pub record HasKernel (files : Option FileMap) (names : KernelNames) (kernel : Kernel) : Type 0 where

@@ -8,7 +8,8 @@ ghost use Rattle.pv_build.specs.Readings.{OnlyRead};
 ghost use Rattle.pv_build.specs.Failures.{NoneFailedIn};
 ghost use Rattle.pv_runs.specs.ScheduleLines.{schedule_number};
 ghost use Rattle.pv_build.specs.Telling.{HaltsOverFiles};
-ghost use Rattle.pv_runs.specs.Kernels.{names_in_pairs, AreKernels, IsShared, FindsKernels, FindsShared, NoKernel, NoShared};
+ghost use Rattle.pv_words.specs.Words.{names_in_pairs};
+ghost use Rattle.pv_runs.specs.Kernels.{AreKernels, IsShared, FindsKernels, FindsShared, NoKernel, NoShared};
 
 use guest_sched::{Kernel, Schedule, ScheduleCause, ScheduleFault, read_schedule};
 use pv_build::{Halt, line_line, load, refused, runnable_in_files};

@@ -8,7 +8,7 @@ use Rattle.pv_build.specs.Telling.{Says}
 use Rattle.pv_build.specs.Images.{HasImage, HasNoImage, accepted_line}
 use Rattle.pv_build.specs.declared.status.Status.{Status}
 use Rattle.pv_build.specs.declared.status.Status.TheVariants as status
-use Rattle.pv_tool.specs.Words.{Check}
+use Rattle.pv_words.specs.Words.{Check}
 use Rattle.pv_tool.specs.Outside.{Outside}
 use Rattle.pv_tool.specs.Outcome.{refused, printed}
 use Rattle.pv_tool.specs.Checking.{Checks, checked}

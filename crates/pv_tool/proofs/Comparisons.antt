@@ -13,7 +13,7 @@ use Rattle.pv_build.specs.Texts.{lines, DifferBehind, Compares, Same, Differ}
 use Rattle.pv_build.specs.Building.{Builds}
 use Rattle.pv_build.specs.declared.status.Status.{Status}
 use Rattle.pv_build.specs.declared.status.Status.TheVariants as status
-use Rattle.pv_tool.specs.Words.{Command, Work}
+use Rattle.pv_words.specs.Words.{Command, Work}
 use Rattle.pv_tool.specs.Outside.{Outside}
 use Rattle.pv_tool.specs.Outcome.{Outcome}
 use Rattle.pv_tool.specs.Running.{Ran, Small}

@@ -12,11 +12,11 @@ use Rattle.checkpoint.specs.declared.state.State.{State}
 use Rattle.checkpoint.specs.Fits.{fits_of}
 use Rattle.pv_build.specs.Images.{HasImage}
 use Rattle.pv_build.specs.Scripts.{HasScript}
-use Rattle.pv_runs.specs.Kernels.{KernelNames, IsShared}
+use Rattle.pv_runs.specs.Kernels.{IsShared}
 use Rattle.pv_runs.specs.Checkpoints.{HasState}
 use Rattle.pv_build.specs.declared.status.Status.{Status}
 use Rattle.pv_build.specs.declared.status.Status.TheVariants as status
-use Rattle.pv_tool.specs.Words.{Command, Share, Save, SaveFrom, Continue}
+use Rattle.pv_words.specs.Words.{KernelNames, Command, Share, Save, SaveFrom, Continue}
 use Rattle.pv_tool.specs.Outside.{Outside}
 use Rattle.pv_tool.specs.Outcome.{Outcome}
 use Rattle.pv_tool.specs.Running.{Reads, WithFrames, Runs}
@@ -24,7 +24,7 @@ use Rattle.pv_tool.specs.Saving.{SavesBoot, SavesOn, FromFile, is_wedge}
 use Rattle.pv_tool.specs.Continuing.{ContinuesOn}
 use Rattle.pv_tool.specs.Sharing.{SharesTurns, BySchedule}
 use Rattle.pv_tool.specs.Meaning.{Gives, NoFault, ComesTo, Means}
-use Rattle.pv_tool.specs.declared.mode.RunMode.{RunMode}
+use Rattle.pv_words.specs.declared.mode.RunMode.{RunMode}
 use Rattle.pv_tool.proofs.Works.{reads_both, ran}
 use Rattle.pv_tool.proofs.ShareLaws.{shares_read, turns_of}
 use Rattle.pv_tool.proofs.RestLaws.{from_state}

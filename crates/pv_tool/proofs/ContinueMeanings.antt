@@ -23,7 +23,7 @@ use Rattle.pv_build.specs.Images.{HasImage}
 use Rattle.pv_build.specs.Scripts.{HasScript}
 use Rattle.pv_runs.specs.Checkpoints.{HasState, NoResumption, NothingToRun, NoState, Unfit}
 use Rattle.pv_build.specs.declared.status.Status.{Status}
-use Rattle.pv_tool.specs.Words.{Command}
+use Rattle.pv_words.specs.Words.{Command}
 use Rattle.pv_tool.specs.Outside.{Outside}
 use Rattle.pv_tool.specs.Outcome.{Outcome, HostedRun, refused, told, run_text}
 use Rattle.pv_tool.specs.Running.{Reads}
@@ -31,8 +31,8 @@ use Rattle.pv_tool.specs.Answering.{AnswersOnwards}
 use Rattle.pv_tool.specs.Saving.{WhereFits, OnState, FromFile, frames_of, is_wedge}
 use Rattle.pv_tool.specs.Continuing.{ContinuesOn, run_on}
 use Rattle.pv_tool.specs.Meaning.{Means, Gives}
-use Rattle.pv_tool.specs.declared.mode.RunMode.{RunMode}
-use Rattle.pv_tool.specs.declared.mode.RunMode.TheVariants as mode
+use Rattle.pv_words.specs.declared.mode.RunMode.{RunMode}
+use Rattle.pv_words.specs.declared.mode.RunMode.TheVariants as mode
 use Rattle.pv_tool.proofs.Deliveries.{says_told, idle}
 use Rattle.pv_tool.proofs.Works.{ended_is_end, with_both}
 use Rattle.pv_tool.proofs.RunMeanings.{RanAs, appends_on, front_on, rose_on, text_at, no_write, no_run}

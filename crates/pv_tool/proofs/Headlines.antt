@@ -12,7 +12,7 @@ use Rattle.pv_build.specs.Images.{HasImage}
 use Rattle.pv_build.specs.Scripts.{HasScript}
 use Rattle.pv_build.specs.declared.status.Status.{Status}
 use Rattle.pv_build.specs.declared.status.Status.TheVariants as status
-use Rattle.pv_tool.specs.Words.{RunWedge}
+use Rattle.pv_words.specs.Words.{RunWedge}
 use Rattle.pv_tool.specs.Outside.{Outside}
 use Rattle.pv_tool.specs.Outcome.{Outcome, HasEnded}
 use Rattle.pv_tool.specs.Running.{RunsPatched, WithFrames, Runs}

@@ -26,8 +26,8 @@ use Rattle.pv_tool.specs.Running.{WithFrames}
 use Rattle.pv_tool.specs.Saving.{SavesRun, Rested, Stopped, SavesBoot, SavesOn, WhereFits, OnState, FromFile, setting_on, frames_of, is_wedge}
 use Rattle.pv_tool.specs.Continuing.{ContinuesOn}
 use Rattle.pv_tool.specs.Moving.{Move, Leaves, IsFirst, IsNext, AreNext, IsLast, rules_of, AreOneRun, MovesAreOneRun}
-use Rattle.pv_tool.specs.declared.mode.RunMode.{RunMode}
-use Rattle.pv_tool.specs.declared.mode.RunMode.TheVariants as mode
+use Rattle.pv_words.specs.declared.mode.RunMode.{RunMode}
+use Rattle.pv_words.specs.declared.mode.RunMode.TheVariants as mode
 use Rattle.pv_tool.proofs.SameFiles.{same_file}
 use Rattle.pv_tool.proofs.Works.{reads_both, ended_ran}
 use Rattle.pv_tool.proofs.RestDone.{stopped_so}

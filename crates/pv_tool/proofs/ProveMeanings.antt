@@ -30,7 +30,7 @@ use Rattle.pv_build.specs.Telling.{Says, Whole, Cut, ToldAs}
 use Rattle.pv_build.specs.Statuses.{status_of}
 use Rattle.pv_build.specs.declared.status.Status.{Status}
 use Rattle.pv_build.specs.declared.status.Status.TheVariants as status
-use Rattle.pv_tool.specs.Words.{Command, Prove}
+use Rattle.pv_words.specs.Words.{Command, Prove}
 use Rattle.pv_tool.specs.Outside.{Outside, outside}
 use Rattle.pv_tool.specs.Unread.{NotRead}
 use Rattle.pv_tool.specs.Outcome.{Outcome, HostedRun, refused, run_text}

@@ -21,7 +21,7 @@ use Rattle.pv_build.specs.Scripts.{HasScript}
 use Rattle.pv_runs.specs.Certificates.{HasChoices}
 use Rattle.pv_build.specs.declared.status.Status.{Status}
 use Rattle.pv_build.specs.declared.status.Status.TheVariants as status
-use Rattle.pv_tool.specs.Words.{Prove, Replay}
+use Rattle.pv_words.specs.Words.{Prove, Replay}
 use Rattle.pv_tool.specs.Outside.{Outside}
 use Rattle.pv_tool.specs.Outcome.{Outcome, HasEnded, refused, printed}
 use Rattle.pv_tool.specs.Running.{Ran, Small, Reads, WithFrames, Runs}

@@ -17,7 +17,7 @@ use Rattle.pv_runs.specs.Certificates.{HasChoices, NoReplay, NoRunnable, NoChoic
 use Rattle.pv_build.specs.Telling.{Says}
 use Rattle.pv_build.specs.declared.status.Status.{Status}
 use Rattle.pv_build.specs.declared.status.Status.TheVariants as status
-use Rattle.pv_tool.specs.Words.{Replay}
+use Rattle.pv_words.specs.Words.{Replay}
 use Rattle.pv_tool.specs.Outside.{Outside}
 use Rattle.pv_tool.specs.Outcome.{Outcome, refused, printed}
 use Rattle.pv_tool.specs.Running.{Ran, Small, Reads}

@@ -28,7 +28,7 @@ use Rattle.pv_build.specs.Readings.{OnlyRead}
 use Rattle.pv_build.specs.Statuses.{status_of}
 use Rattle.pv_build.specs.declared.status.Status.{Status}
 use Rattle.pv_build.specs.declared.status.Status.TheVariants as status
-use Rattle.pv_tool.specs.Words.{Command, Save, SaveFrom}
+use Rattle.pv_words.specs.Words.{Command, Save, SaveFrom}
 use Rattle.pv_tool.specs.Outside.{Outside, outside}
 use Rattle.pv_tool.specs.Unread.{NotRead}
 use Rattle.pv_tool.specs.Outcome.{refused}
@@ -37,8 +37,8 @@ use Rattle.pv_tool.specs.Answering.{HasForm}
 use Rattle.pv_tool.specs.Delivery.{LeavesAs}
 use Rattle.pv_tool.specs.Saving.{SavesBoot, SavesOn, FromFile, setting_on, frames_of, is_wedge}
 use Rattle.pv_tool.specs.Meaning.{Gives, Finds, FaultCounts, KeepsCount, LeavesState, saved}
-use Rattle.pv_tool.specs.declared.mode.RunMode.{RunMode}
-use Rattle.pv_tool.specs.declared.mode.RunMode.TheVariants as mode
+use Rattle.pv_words.specs.declared.mode.RunMode.{RunMode}
+use Rattle.pv_words.specs.declared.mode.RunMode.TheVariants as mode
 use Rattle.pv_tool.proofs.Works.{with_both}
 use Rattle.pv_tool.proofs.RestLaws.{with_state}
 use Rattle.pv_tool.proofs.CommandLaws.{stored_done, not_said}

@@ -17,8 +17,8 @@ use Rattle.pv_tool.specs.Outcome.{Outcome, refused, HasEnded}
 use Rattle.pv_tool.specs.Running.{Reads}
 use Rattle.pv_tool.specs.Saving.{SavesRun, Rested, Stopped, SavesBoot, WhereFits, OnState, FromFile, is_wedge}
 use Rattle.pv_tool.specs.Continuing.{ContinuesOn}
-use Rattle.pv_tool.specs.declared.mode.RunMode.{RunMode}
-use Rattle.pv_tool.specs.declared.mode.RunMode.TheVariants as mode
+use Rattle.pv_words.specs.declared.mode.RunMode.{RunMode}
+use Rattle.pv_words.specs.declared.mode.RunMode.TheVariants as mode
 use Rattle.pv_tool.proofs.SameFiles.{same_file}
 use Rattle.pv_tool.proofs.Works.{IsSaved, IsTold, IsOnce, AreEnds, ended_not_refused, reads_both, reads_found}
 use Rattle.pv_tool.proofs.RunMeanings.{has_ended}

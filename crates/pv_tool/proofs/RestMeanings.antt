@@ -29,7 +29,7 @@ use Rattle.pv_build.specs.Telling.{Says, Whole, Cut, ToldAs}
 use Rattle.pv_build.specs.Statuses.{status_of}
 use Rattle.pv_build.specs.declared.status.Status.{Status}
 use Rattle.pv_build.specs.declared.status.Status.TheVariants as status
-use Rattle.pv_tool.specs.Words.{Command}
+use Rattle.pv_words.specs.Words.{Command}
 use Rattle.pv_tool.specs.Outside.{Outside}
 use Rattle.pv_tool.specs.Outcome.{Outcome, refused, told}
 use Rattle.pv_tool.specs.Delivery.{Delivers, Stored, NotStored, NoMemory, LeavesAs}
@@ -37,8 +37,8 @@ use Rattle.pv_tool.specs.Running.{HostDid}
 use Rattle.pv_tool.specs.Resting.{PrintsLines}
 use Rattle.pv_tool.specs.Saving.{SavesRun, Rested as Rest, Stopped as Stop, RestsText, steps_on, saved_as}
 use Rattle.pv_tool.specs.Meaning.{Means, Gives, Begins, HostDoes, HasPrinted, TakesFirst, NoStore, NoPut, IsStored}
-use Rattle.pv_tool.specs.declared.mode.RunMode.{RunMode}
-use Rattle.pv_tool.specs.declared.mode.RunMode.TheVariants as mode
+use Rattle.pv_words.specs.declared.mode.RunMode.{RunMode}
+use Rattle.pv_words.specs.declared.mode.RunMode.TheVariants as mode
 use Rattle.pv_tool.proofs.Deliveries.{prints, says, idle}
 
 -- ---- what is counted

@@ -30,16 +30,16 @@ use Rattle.pv_build.specs.Images.{HasImage}
 use Rattle.pv_build.specs.Scripts.{HasScript, NoRun, NoImage, NoScript, FindsRun}
 use Rattle.pv_build.specs.declared.status.Status.{Status}
 use Rattle.pv_build.specs.declared.status.Status.TheVariants as status
-use Rattle.pv_tool.specs.Words.{Command}
+use Rattle.pv_words.specs.Words.{Command}
 use Rattle.pv_tool.specs.Outside.{Outside}
 use Rattle.pv_tool.specs.Outcome.{Outcome, HostedRun, HasEnded, refused, ended, ended_on_host}
 use Rattle.pv_tool.specs.Running.{RunsBare, RunsPatched, RunsOn, Ran, Small, ReadsScript, ReadsImage, Reads, WithFrames, Runs, HostDid}
 use Rattle.pv_tool.specs.Answering.{AnswersOn}
 use Rattle.pv_tool.specs.Meaning.{Means, Gives, Finds}
-use Rattle.pv_tool.specs.View.{run_command}
-use Rattle.pv_tool.specs.declared.words.RunWords.{RunWords}
-use Rattle.pv_tool.specs.declared.mode.RunMode.{RunMode}
-use Rattle.pv_tool.specs.declared.mode.RunMode.TheVariants as mode
+use Rattle.pv_words.specs.View.{run_command}
+use Rattle.pv_words.specs.declared.words.RunWords.{RunWords}
+use Rattle.pv_words.specs.declared.mode.RunMode.{RunMode}
+use Rattle.pv_words.specs.declared.mode.RunMode.TheVariants as mode
 use Rattle.pv_tool.proofs.Deliveries.{says_told, idle}
 use Rattle.pv_tool.proofs.Works.{IsEnd, IsTold, AreEnds, AreTold, ended_is_end, frames_all, with_image, with_both}
 

@@ -20,7 +20,8 @@ use Rattle.pv_build.specs.Lines.{image_line, script_line, small_line}
 use Rattle.pv_runs.specs.ScheduleLines.{schedule_line}
 use Rattle.pv_build.specs.Images.{HasImage}
 use Rattle.pv_build.specs.Scripts.{HasScript, FindsRun, NoRun, NoImage, NoScript}
-use Rattle.pv_runs.specs.Kernels.{KernelNames, HasKernel, HasKernels, FindsKernels, NoKernel}
+use Rattle.pv_words.specs.Words.{KernelNames}
+use Rattle.pv_runs.specs.Kernels.{HasKernel, HasKernels, FindsKernels, NoKernel}
 use Rattle.pv_build.specs.declared.status.Status.TheVariants as status
 use Rattle.pv_tool.specs.Outcome.{Outcome, refused, HasEnded}
 use Rattle.pv_tool.specs.Sharing.{has_stopped, status_of_all, SharesTurns, SharesOn, Ran, Small, BySchedule, Shares, NoneShared, AllRead}

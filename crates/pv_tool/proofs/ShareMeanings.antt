@@ -21,10 +21,10 @@ use Rattle.guest_sched.proofs.AnsweredBy.{SharedAnswers}
 use Rattle.guest_sched.proofs.ReadAlone.{lines_alone}
 use Rattle.pv_build.specs.Lines.{small_line}
 use Rattle.pv_build.specs.Telling.{Whole, ToldAs}
-use Rattle.pv_runs.specs.Kernels.{KernelNames, names_in_pairs, HasKernels, IsShared, NoShared, NoneRead, NoSchedule}
+use Rattle.pv_runs.specs.Kernels.{HasKernels, IsShared, NoShared, NoneRead, NoSchedule}
 use Rattle.pv_build.specs.declared.status.Status.{Status}
 use Rattle.pv_build.specs.declared.status.Status.TheVariants as status
-use Rattle.pv_tool.specs.Words.{Share, makes_pairs}
+use Rattle.pv_words.specs.Words.{KernelNames, names_in_pairs, Share, makes_pairs}
 use Rattle.pv_tool.specs.Outside.{Outside}
 use Rattle.pv_tool.specs.Outcome.{Outcome, Turns, refused, told}
 use Rattle.pv_tool.specs.Sharing.{has_stopped, status_of_all, SharesTurns, SharesOn, Ran, Small, BySchedule, Shares, NoneShared, AllRead}

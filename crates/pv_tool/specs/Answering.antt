@@ -19,8 +19,8 @@ use Rattle.checkpoint.specs.RestAnswers.{RestsAs, RestsFromStart}
 use Rattle.checkpoint.specs.Continued.{WedgeGoesTo}
 use Rattle.pv_tool.specs.Running.{HostDid}
 use Rattle.pv_tool.specs.Saving.{setting_on, steps_on, frames_of}
-use Rattle.pv_tool.specs.declared.mode.RunMode.{RunMode}
-use Rattle.pv_tool.specs.declared.mode.RunMode.TheVariants as mode
+use Rattle.pv_words.specs.declared.mode.RunMode.{RunMode}
+use Rattle.pv_words.specs.declared.mode.RunMode.TheVariants as mode
 
 -- the run of an image: on the bare machine the host does nothing
 abbrev pub AnswersOn : RunMode → ℕ → ℕ → Image → Events → Around → List ℕ → Result Ended RunFault → Type 0

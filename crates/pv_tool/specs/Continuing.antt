@@ -11,8 +11,8 @@ use Rattle.checkpoint.specs.Moved.{rested_from}
 use Rattle.pv_build.specs.Statuses.{status_of}
 use Rattle.pv_tool.specs.Outcome.{Outcome, HostedRun, HostPart, Nothing, EndedRun, told, run_text}
 use Rattle.pv_tool.specs.Saving.{setting_on, frames_of}
-use Rattle.pv_tool.specs.declared.mode.RunMode.{RunMode}
-use Rattle.pv_tool.specs.declared.mode.RunMode.TheVariants as mode
+use Rattle.pv_words.specs.declared.mode.RunMode.{RunMode}
+use Rattle.pv_words.specs.declared.mode.RunMode.TheVariants as mode
 
 -- of a run on the bare machine the host does nothing
 abbrev pub run_on : RunMode → HostedRun → HostPart

@@ -3,7 +3,7 @@ use Rattle.std.specs.Prelude.{◌≡◌, ◌⊎◌, ◌≤◌, ℕ, Bool, true, 
 use Rattle.pv_io.specs.Causes.{Rose}
 use Rattle.pv_io.specs.Files.{FileMap, IsHeld, Stores, ChangesAt}
 use Rattle.pv_io.specs.Sink.{Appends, AppendsFront}
-use Rattle.pv_tool.specs.Words.{Command, Burn, Link, Check, RunBare, RunWedge, Work, Share, Save, SaveFrom, Continue, Prove, Replay}
+use Rattle.pv_words.specs.Words.{Command, Burn, Link, Check, RunBare, RunWedge, Work, Share, Save, SaveFrom, Continue, Prove, Replay}
 use Rattle.pv_tool.specs.Outside.{Outside}
 use Rattle.pv_tool.specs.Outcome.{Outcome, ended}
 use Rattle.elf_form.specs.ObjectParts.{ObjectParts}

@@ -21,11 +21,11 @@ use Rattle.pv_build.specs.Scripts.{HasScript}
 use Rattle.pv_runs.specs.Checkpoints.{HasState}
 use Rattle.pv_build.specs.Statuses.{status_of}
 use Rattle.pv_build.specs.declared.status.Status.TheVariants as status
-use Rattle.pv_tool.specs.Words.{Save, SaveFrom, Continue}
+use Rattle.pv_words.specs.Words.{Save, SaveFrom, Continue}
 use Rattle.pv_tool.specs.Outcome.{Outcome, HasEnded}
 use Rattle.pv_tool.specs.Saving.{setting_on}
 use Rattle.pv_tool.specs.Meaning.{Gives}
-use Rattle.pv_tool.specs.declared.mode.RunMode.{RunMode}
+use Rattle.pv_words.specs.declared.mode.RunMode.{RunMode}
 
 -- A command of such a chain: its machine, the names of image, script and checkpoint, the count of steps up to which it goes, and
 -- the name at which it stores; what the files hold then, and what its work comes to.

@@ -17,7 +17,7 @@ use Rattle.pv_runs.specs.Checkpoints.{HasState}
 use Rattle.pv_tool.specs.Outside.{Outside}
 use Rattle.pv_tool.specs.Running.{HostDid}
 use Rattle.pv_tool.specs.Saving.{setting_on, steps_on, frames_of, is_wedge}
-use Rattle.pv_tool.specs.declared.mode.RunMode.{RunMode}
+use Rattle.pv_words.specs.declared.mode.RunMode.{RunMode}
 
 -- the lines of a run that has done all its steps were printed, and the host has done its part of them
 abbrev pub PrintsLines : RunMode → Setting → ℕ → model.State → Outside → Type 0

@@ -26,8 +26,8 @@ use Rattle.pv_build.specs.Scripts.{HasScript}
 use Rattle.pv_runs.specs.Checkpoints.{checkpoint_number, saved_line, HasState}
 use Rattle.pv_build.specs.declared.status.Status.TheVariants as status
 use Rattle.pv_tool.specs.Outcome.{Outcome, HostPart, Nothing, SomeSteps, refused, told}
-use Rattle.pv_tool.specs.declared.mode.RunMode.{RunMode}
-use Rattle.pv_tool.specs.declared.mode.RunMode.TheVariants as mode
+use Rattle.pv_words.specs.declared.mode.RunMode.{RunMode}
+use Rattle.pv_words.specs.declared.mode.RunMode.TheVariants as mode
 
 -- what an image runs with on a machine, with so many frames
 abbrev pub setting_on : RunMode → Image → Events → ℕ → Setting

@@ -14,7 +14,8 @@ use Rattle.guest_sched.specs.Pieces.{Piece, AreTurns, piece_text, shared_text}
 use Rattle.guest_sched.specs.Shared.{EachRan, EachBegan, LinesAreAlone, FirstTooSmall, AllFit}
 use Rattle.pv_build.specs.Lines.{small_line}
 use Rattle.pv_runs.specs.ScheduleLines.{schedule_line}
-use Rattle.pv_runs.specs.Kernels.{KernelNames, HasKernels, NoKernel, IsShared}
+use Rattle.pv_words.specs.Words.{KernelNames}
+use Rattle.pv_runs.specs.Kernels.{HasKernels, NoKernel, IsShared}
 use Rattle.pv_build.specs.declared.status.Status.{Status}
 use Rattle.pv_build.specs.declared.status.Status.TheVariants as status
 use Rattle.pv_tool.specs.Outcome.{Outcome, Turns, refused, told}

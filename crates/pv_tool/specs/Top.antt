@@ -24,12 +24,12 @@ use Rattle.pv_build.specs.Objects.{HasObjects, object_made_line}
 use Rattle.pv_build.specs.Images.{HasImage, accepted_line, image_made_line}
 use Rattle.pv_build.specs.Scripts.{HasScript}
 use Rattle.pv_build.specs.Building.{Builds}
-use Rattle.pv_runs.specs.Kernels.{KernelNames, IsShared}
+use Rattle.pv_runs.specs.Kernels.{IsShared}
 use Rattle.pv_runs.specs.Checkpoints.{HasState}
 use Rattle.pv_runs.specs.Certificates.{HasChoices}
 use Rattle.pv_build.specs.declared.status.Status.{Status}
 use Rattle.pv_build.specs.declared.status.Status.TheVariants as status
-use Rattle.pv_tool.specs.Words.{Command, Burn, Link, Check, RunBare, RunWedge, Work, Share, Save, SaveFrom, Continue, Prove, Replay, Asks}
+use Rattle.pv_words.specs.Words.{KernelNames, Command, Burn, Link, Check, RunBare, RunWedge, Work, Share, Save, SaveFrom, Continue, Prove, Replay, Asks}
 use Rattle.pv_tool.specs.Outside.{Outside}
 use Rattle.pv_tool.specs.Outcome.{Outcome, HasEnded, printed, stored_as}
 use Rattle.pv_tool.specs.Burning.{HasBurnt}
@@ -41,7 +41,7 @@ use Rattle.pv_tool.specs.Meaning.{Means, Gives, Keeps, FaultCounts, NoFault, Com
 use Rattle.pv_tool.specs.Headline.{IsHeadline, HasHeadline}
 use Rattle.pv_tool.specs.Comparison.{IsComparison, HasComparison}
 use Rattle.pv_tool.specs.Certified.{IsProof, HasProof, HasVerdict}
-use Rattle.pv_tool.specs.declared.mode.RunMode.{RunMode}
+use Rattle.pv_words.specs.declared.mode.RunMode.{RunMode}
 
 -- ---- of all commands
 

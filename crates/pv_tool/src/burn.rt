@@ -9,7 +9,7 @@ ghost use Rattle.pv_build.specs.Failures.{NoneFailedIn};
 ghost use Rattle.pv_build.specs.Telling.{HaltsOverFiles};
 ghost use Rattle.pv_build.specs.Objects.{ReadsBack, object_made_line};
 ghost use Rattle.wedge_core.specs.Counts.{Counts as HostCounts};
-ghost use Rattle.pv_tool.specs.Words.{Burn};
+ghost use Rattle.pv_words.specs.Words.{Burn};
 ghost use Rattle.pv_tool.specs.Outside.{beside};
 ghost use Rattle.pv_tool.specs.Faulting.{FaultsEnd};
 ghost use Rattle.pv_tool.specs.Outcome.{refused};

@@ -7,21 +7,20 @@ ghost use Rattle.board.specs.ScriptForm.{is_script};
 ghost use Rattle.machine_model.specs.Able.{IsAble};
 ghost use Rattle.wedge_core.specs.Surroundings.{around};
 ghost use Rattle.checkpoint.specs.InForm.{IsInForm};
-ghost use Rattle.pv_tool.specs.View.{continue_command};
+ghost use Rattle.pv_words.specs.View.{continue_command};
 ghost use Rattle.pv_tool.specs.Outside.{outside};
 ghost use Rattle.pv_tool.specs.Faulting.{FaultsEnd};
 ghost use Rattle.pv_tool.specs.Answering.{AnswersOnwards};
 ghost use Rattle.pv_tool.specs.Meaning.{Means, FaultCounts};
 
 use crate::machine::is_wedge;
-use crate::mode::RunMode;
-use crate::words::RestWords;
 use checkpoint::{continue_bare, continue_wedge};
 use host_cpl3::Host;
 use image_load::RunFault;
 use pv_build::{Status, end, tell_run};
 use pv_io::{Files, Sink};
 use pv_runs::{Resumable, resumable_in_files};
+use pv_words::{RestWords, RunMode};
 use run_trace::Ended;
 use std::alloc::Global;
 

@@ -1,7 +1,7 @@
 //! Which part of the program does the work of which command.
 
 ghost use Rattle.std.specs.Prelude.{◌≡◌, ◌≢◌, ◌≤◌, ◌^◌, false, Some};
-ghost use Rattle.pv_tool.specs.View.{command_view, IsWithin};
+ghost use Rattle.pv_words.specs.View.{command_view, IsWithin};
 ghost use Rattle.pv_tool.specs.Outside.{outside};
 ghost use Rattle.pv_tool.specs.Faulting.{FaultsEnd};
 ghost use Rattle.pv_tool.specs.Meaning.{Means, FaultCounts, Leaves, is_on_host, reads_files};
@@ -10,17 +10,16 @@ use crate::burn::burn;
 use crate::check::check;
 use crate::continuing::go_on;
 use crate::link::link;
-use crate::mode::RunMode;
 use crate::prove::prove;
 use crate::replay::replay;
 use crate::run::run;
 use crate::save::{save, save_from};
 use crate::share::share;
-use crate::words::CommandWords;
 use crate::work::work;
 use host_cpl3::Host;
 use pv_build::Status;
 use pv_io::{Files, Sink};
+use pv_words::{CommandWords, RunMode};
 use std::alloc::Global;
 
 /// Does the work of a command.

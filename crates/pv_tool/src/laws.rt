@@ -9,7 +9,7 @@ ghost use Rattle.image_check.specs.Image.{Image};
 ghost use Rattle.image_check.specs.Checking.{image_from};
 ghost use Rattle.pv_build.specs.Objects.{HasObjects};
 ghost use Rattle.pv_build.specs.Images.{HasImage, ImageReadsBack};
-ghost use Rattle.pv_tool.specs.Words.{Command};
+ghost use Rattle.pv_words.specs.Words.{Command};
 ghost use Rattle.pv_tool.specs.Outcome.{Outcome};
 ghost use Rattle.pv_tool.specs.Linking.{HoldObjects};
 ghost use Rattle.pv_tool.specs.Meaning.{Gives, Finds};

@@ -3,7 +3,7 @@
 ghost use Rattle.std.specs.Prelude.{◌≡◌};
 ghost use Rattle.pv_tool.specs.Saving.{is_wedge};
 
-use crate::mode::RunMode;
+use pv_words::RunMode;
 
 /// A host runs the patched text.
 pub fn is_wedge(mode: RunMode) -> bool

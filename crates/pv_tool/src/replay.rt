@@ -5,16 +5,16 @@ ghost use Rattle.pv_io.specs.Taking.{taking};
 ghost use Rattle.board.specs.ScriptForm.{is_script};
 ghost use Rattle.trace_check.specs.Form.{AreChoices};
 ghost use Rattle.wedge_core.specs.Counts.{Counts as HostCounts};
-ghost use Rattle.pv_tool.specs.View.{AreWithin, replay_command};
+ghost use Rattle.pv_words.specs.View.{AreWithin, replay_command};
 ghost use Rattle.pv_tool.specs.Outside.{beside};
 ghost use Rattle.pv_tool.specs.Faulting.{FaultsEnd};
 ghost use Rattle.pv_tool.specs.Told.{JudgesAs};
 ghost use Rattle.pv_tool.specs.Meaning.{Means, FaultCounts};
 
-use crate::words::RunWords;
 use pv_build::{Status, end, print, small_line};
 use pv_io::{Files, Sink};
 use pv_runs::{Replayable, replayable_in_files, verdict_line};
+use pv_words::RunWords;
 use std::alloc::Global;
 use trace_check::{ReplayFault, replay as replay_text};
 

@@ -2,21 +2,20 @@
 
 ghost use Rattle.std.specs.Prelude.{◌≡◌, ◌≤◌, ◌^◌, true};
 ghost use Rattle.board.specs.ScriptForm.{is_script};
-ghost use Rattle.pv_tool.specs.View.{AreWithin, run_command};
+ghost use Rattle.pv_words.specs.View.{AreWithin, run_command};
 ghost use Rattle.wedge_core.specs.Surroundings.{around};
 ghost use Rattle.pv_tool.specs.Outside.{outside};
 ghost use Rattle.pv_tool.specs.Faulting.{FaultsEnd};
 ghost use Rattle.pv_tool.specs.Answering.{AnswersOn};
 ghost use Rattle.pv_tool.specs.Meaning.{Means, FaultCounts};
 
-use crate::mode::RunMode;
 use crate::patched::patched_run;
-use crate::words::RunWords;
 use bare_machine::run_bare;
 use host_cpl3::Host;
 use image_load::RunFault;
 use pv_build::{Runnable, Status, end, runnable_in_files, tell_run};
 use pv_io::{Files, Sink};
+use pv_words::{RunMode, RunWords};
 use run_trace::Ended;
 use std::alloc::Global;
 

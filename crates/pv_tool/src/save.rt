@@ -8,7 +8,7 @@ ghost use Rattle.machine_model.specs.Able.{IsAble};
 ghost use Rattle.wedge_core.specs.Counts.{Counts as HostCounts};
 ghost use Rattle.wedge_core.specs.Surroundings.{around};
 ghost use Rattle.checkpoint.specs.InForm.{IsInForm};
-ghost use Rattle.pv_tool.specs.View.{AreWithin, save_command, save_from_command};
+ghost use Rattle.pv_words.specs.View.{AreWithin, save_command, save_from_command};
 ghost use Rattle.pv_tool.specs.Outside.{beside, outside};
 ghost use Rattle.pv_tool.specs.Unread.{NotRead};
 ghost use Rattle.pv_tool.specs.Faulting.{FaultsEnd};
@@ -18,14 +18,13 @@ ghost use Rattle.pv_tool.specs.Meaning.{Means, FaultCounts, Leaves};
 
 use crate::delivery::deliver;
 use crate::machine::is_wedge;
-use crate::mode::RunMode;
-use crate::words::{RestWords, RunWords};
 use checkpoint::{Rested, save_bare, save_bare_from, save_wedge, save_wedge_from};
 use host_cpl3::Host;
 use image_load::RunFault;
 use pv_build::{Runnable, Status, end, runnable_in_files, tell_run};
 use pv_io::{Files, Sink};
 use pv_runs::{Resumable, checkpoint_file, resumable_in_files};
+use pv_words::{RestWords, RunMode, RunWords};
 use std::alloc::Global;
 
 /// Runs an image under a script for `n` steps, prints its items, and stores its state.

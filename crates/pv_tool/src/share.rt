@@ -2,20 +2,20 @@
 
 ghost use Rattle.std.specs.Prelude.{◌≡◌, ◌≤◌, ◌^◌, true};
 ghost use Rattle.std.specs.List.{list_any};
-ghost use Rattle.pv_tool.specs.View.{AreKernels, share_command};
+ghost use Rattle.pv_words.specs.View.{AreKernels, share_command};
 ghost use Rattle.pv_tool.specs.Outside.{outside};
 ghost use Rattle.pv_tool.specs.Faulting.{FaultsEnd};
 ghost use Rattle.pv_tool.specs.Meaning.{Means, FaultCounts};
 ghost use Rattle.pv_tool.specs.Sharing.{has_stopped, status_of_all};
 ghost use Rattle.pv_tool.specs.Told.{SharedToldAs, run_fault};
 
-use crate::words::ShareWords;
 use guest_sched::{SharedFault, run_shared};
 use host_cpl3::Host;
 use image_load::RunFault;
 use pv_build::{Status, end, tell_run};
 use pv_io::{Files, Sink};
 use pv_runs::shared_in_files;
+use pv_words::ShareWords;
 use run_trace::{End, Ended};
 use std::alloc::Global;
 

@@ -1,17 +1,17 @@
 //! The call that does all that the program does.
 
 ghost use Rattle.std.specs.Prelude.{◌≡◌, ◌≢◌, ◌↔◌, ◌≤◌, ◌^◌, false, None, map, string_bytes};
-ghost use Rattle.pv_tool.specs.Words.{form_of};
+ghost use Rattle.pv_words.specs.Words.{form_of};
 ghost use Rattle.pv_tool.specs.Outside.{outside, Untouched};
 ghost use Rattle.pv_tool.specs.Meaning.{is_on_host, reads_files};
 ghost use Rattle.pv_tool.specs.Top.{Meaning, KeepsOthers, CountsFaults, EndsAtFaults, LeavesFiles, RefusesWork, Headlines, RunsOnBare, RunsOnHost, Compared, WorkDone, WorkRefused, BurnsAll, LinksAll, ChecksAll, SharesAll, SavesAll, SavesAgain, ContinuesAll, Proves, ProvesAll, Judges, JudgesAll};
 
 use crate::dispatch::do_command;
-use crate::words::form;
 use host_cpl3::Host;
 use machine_model::runs_agree;
 use pv_build::Status;
 use pv_io::{Files, Sink};
+use pv_words::form;
 use std::alloc::Global;
 use trace_check::judgements_are_runs;
 

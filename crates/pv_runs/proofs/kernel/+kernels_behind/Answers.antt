@@ -1,7 +1,8 @@
 use Rattle.std.proofs.Common.{inl, inr, List, ◌-◌, length, map, take, drop, string_bytes, Option, sym, subst}
 use Rattle.std.proofs.lemmas.Result.{err_from_is_err_and}
 use Rattle.pv_io.specs.Files.{FileMap}
-use Rattle.pv_runs.specs.Kernels.{KernelNames, names_in_pairs, HasKernel, FindsKernels, NoKernel}
+use Rattle.pv_words.specs.Words.{KernelNames, names_in_pairs}
+use Rattle.pv_runs.specs.Kernels.{HasKernel, FindsKernels, NoKernel}
 use Rattle.pv_build.proofs.Halts.{halts_as, halts_since}
 use Rattle.pv_build.proofs.Failures.{none_on}
 use Rattle.pv_build.proofs.Readings.{read_on, read_for}

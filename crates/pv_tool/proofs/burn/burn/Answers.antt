@@ -1,6 +1,6 @@
 use Rattle.std.proofs.Common.{ℕ, List, [], Option, refl, subst}
 use Rattle.pv_io.specs.Files.{FileMap, Stores}
-use Rattle.pv_tool.specs.Words.{Burn}
+use Rattle.pv_words.specs.Words.{Burn}
 use Rattle.wedge_core.specs.Counts.{Counts}
 use Rattle.pv_tool.specs.Outside.{beside}
 use Rattle.pv_tool.proofs.Deliveries.{halts, delivered, counts_read, counts_stored}

@@ -1,5 +1,5 @@
 use Rattle.std.proofs.Common.{refl}
-use Rattle.pv_tool.specs.Words.{Check}
+use Rattle.pv_words.specs.Words.{Check}
 use Rattle.pv_tool.proofs.Deliveries.{halts, counts_read}
 use Rattle.pv_tool.proofs.CheckMeanings.{refuses_image, tells_image}
 use Rattle.pv_tool.proofs.Faults.{ends_halted}

@@ -1,6 +1,6 @@
 use Rattle.std.proofs.Common.{refl}
 use Rattle.pv_tool.specs.Continuing.{ContinuesOn}
-use Rattle.pv_tool.specs.View.{continue_command}
+use Rattle.pv_words.specs.View.{continue_command}
 use Rattle.pv_tool.proofs.Deliveries.{halts, counts_host}
 use Rattle.pv_tool.proofs.ContinueMeanings.{no_rest, continued, continue_means}
 use Rattle.pv_tool.proofs.Faults.{ends_halted, ends_same}

@@ -1,8 +1,8 @@
 use Rattle.std.proofs.Common.{◌≡◌, refl, sym, subst, ◌∙◌}
 use Rattle.wedge_core.specs.Surroundings.{around}
 use Rattle.pv_tool.specs.Answering.{AnswersOnwards}
-use Rattle.pv_tool.specs.declared.mode.RunMode.{RunMode}
-use Rattle.pv_tool.specs.declared.mode.RunMode.TheVariants as mode
+use Rattle.pv_words.specs.declared.mode.RunMode.{RunMode}
+use Rattle.pv_words.specs.declared.mode.RunMode.TheVariants as mode
 use Rattle.pv_tool.proofs.continuing.run_onwards.Goals as goal
 
 pub returns-in-Bare-clause-host : goal.returns-in-Bare-clause-host

@@ -1,6 +1,6 @@
 use Rattle.wedge_core.specs.Counts.{counts_of}
 use Rattle.std.proofs.Common.{refl}
-use Rattle.pv_tool.specs.Words.{Work}
+use Rattle.pv_words.specs.Words.{Work}
 use Rattle.pv_build.proofs.Readings.{read_none}
 use Rattle.pv_tool.proofs.Deliveries.{counts_host}
 use Rattle.pv_tool.proofs.RestLaws.{bare_mode}

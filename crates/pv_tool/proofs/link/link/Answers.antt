@@ -1,6 +1,6 @@
 use Rattle.std.proofs.Common.{ℕ, List, [], Option, refl, subst, map, string_bytes}
 use Rattle.pv_io.specs.Files.{FileMap, Stores}
-use Rattle.pv_tool.specs.Words.{Link}
+use Rattle.pv_words.specs.Words.{Link}
 use Rattle.wedge_core.specs.Counts.{Counts}
 use Rattle.pv_tool.specs.Outside.{beside}
 use Rattle.pv_tool.proofs.Deliveries.{halts, delivered, counts_read, counts_stored}

@@ -5,7 +5,7 @@ use Rattle.pv_build.specs.Scripts.{HasScript}
 use Rattle.pv_tool.specs.Outside.{outside}
 use Rattle.pv_tool.specs.Running.{WithFrames}
 use Rattle.pv_tool.specs.Proving.{ProvesRun}
-use Rattle.pv_tool.specs.View.{prove_command}
+use Rattle.pv_words.specs.View.{prove_command}
 use Rattle.pv_tool.proofs.Deliveries.{halts, counts_host}
 use Rattle.pv_tool.proofs.RunMeanings.{no_run}
 use Rattle.pv_tool.proofs.ProveMeanings.{since_read, counts_proved}

@@ -1,5 +1,5 @@
 use Rattle.std.proofs.Common.{refl}
-use Rattle.pv_tool.specs.View.{replay_command}
+use Rattle.pv_words.specs.View.{replay_command}
 use Rattle.pv_tool.specs.Outside.{beside}
 use Rattle.pv_tool.proofs.Deliveries.{halts, counts_read}
 use Rattle.pv_tool.proofs.ReplayMeanings.{no_replay, replay_means}

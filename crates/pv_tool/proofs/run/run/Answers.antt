@@ -3,7 +3,7 @@ use Rattle.pv_build.specs.Scripts.{FindsRun}
 use Rattle.pv_build.proofs.Readings.{read_for}
 use Rattle.pv_tool.specs.Meaning.{Finds}
 use Rattle.pv_tool.specs.Outcome.{refused}
-use Rattle.pv_tool.specs.View.{run_command}
+use Rattle.pv_words.specs.View.{run_command}
 use Rattle.pv_tool.specs.Running.{WithFrames}
 use Rattle.pv_tool.proofs.Deliveries.{halts, counts_host}
 use Rattle.pv_tool.proofs.RunMeanings.{runs_of, ran_on, ends_of, told_of, gives_run, finds_run, no_run, run_means}

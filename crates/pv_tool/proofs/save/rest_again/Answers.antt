@@ -5,8 +5,8 @@ use Rattle.checkpoint.specs.Moved.{rested_from}
 use Rattle.wedge_core.specs.Surroundings.{around}
 use Rattle.pv_tool.specs.Answering.{HostStepped, AnswersState}
 use Rattle.pv_tool.specs.Saving.{frames_of}
-use Rattle.pv_tool.specs.declared.mode.RunMode.{RunMode}
-use Rattle.pv_tool.specs.declared.mode.RunMode.TheVariants as mode
+use Rattle.pv_words.specs.declared.mode.RunMode.{RunMode}
+use Rattle.pv_words.specs.declared.mode.RunMode.TheVariants as mode
 use Rattle.pv_tool.proofs.RestDone.{rests_counted, has_form}
 use Rattle.pv_tool.proofs.save.rest_again.Goals as goal
 

@@ -3,8 +3,8 @@ use Rattle.machine_model.specs.Step.{Report}
 use Rattle.bare_machine.specs.Settings.{bare}
 use Rattle.wedge_core.specs.Surroundings.{around}
 use Rattle.pv_tool.specs.Answering.{HostStepped, AnswersStart}
-use Rattle.pv_tool.specs.declared.mode.RunMode.{RunMode}
-use Rattle.pv_tool.specs.declared.mode.RunMode.TheVariants as mode
+use Rattle.pv_words.specs.declared.mode.RunMode.{RunMode}
+use Rattle.pv_words.specs.declared.mode.RunMode.TheVariants as mode
 use Rattle.pv_tool.proofs.RestDone.{starts_counted}
 use Rattle.pv_tool.proofs.save.rest_found.Goals as goal
 

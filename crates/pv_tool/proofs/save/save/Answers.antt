@@ -5,7 +5,7 @@ use Rattle.pv_tool.specs.Outside.{beside, outside}
 use Rattle.pv_tool.specs.Running.{WithFrames}
 use Rattle.pv_tool.specs.Saving.{SavesBoot, setting_on}
 use Rattle.pv_tool.specs.Meaning.{LeavesState}
-use Rattle.pv_tool.specs.View.{save_command}
+use Rattle.pv_words.specs.View.{save_command}
 use Rattle.pv_tool.proofs.Deliveries.{halts, counts_host}
 use Rattle.pv_tool.proofs.RunMeanings.{no_run}
 use Rattle.pv_tool.proofs.CommandLaws.{not_ended}

@@ -6,7 +6,7 @@ use Rattle.checkpoint.specs.Fits.{fits_of}
 use Rattle.pv_tool.specs.Outside.{beside, outside}
 use Rattle.pv_tool.specs.Saving.{SavesOn, setting_on, frames_of}
 use Rattle.pv_tool.specs.Meaning.{LeavesState}
-use Rattle.pv_tool.specs.View.{save_from_command}
+use Rattle.pv_words.specs.View.{save_from_command}
 use Rattle.pv_tool.proofs.Deliveries.{halts, counts_host}
 use Rattle.pv_tool.proofs.CommandLaws.{not_ended}
 use Rattle.pv_tool.proofs.RestMeanings.{rested_means}

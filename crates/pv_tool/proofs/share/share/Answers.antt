@@ -1,11 +1,11 @@
 use Rattle.std.proofs.Common.{◌≡◌, length, map, refl, ap, ◌∙◌}
 use Rattle.std.specs.Prelude.{string_bytes}
 use Rattle.std.proofs.lemmas.List.{length-map}
-use Rattle.pv_runs.specs.Kernels.{FindsShared, names_in_pairs}
+use Rattle.pv_runs.specs.Kernels.{FindsShared}
 use Rattle.pv_build.proofs.Readings.{read_for}
 use Rattle.pv_tool.specs.Meaning.{Finds}
-use Rattle.pv_tool.specs.View.{share_command}
-use Rattle.pv_tool.specs.Words.{makes_pairs}
+use Rattle.pv_words.specs.View.{share_command}
+use Rattle.pv_words.specs.Words.{names_in_pairs, makes_pairs}
 use Rattle.pv_tool.proofs.Deliveries.{halts, counts_host}
 use Rattle.pv_tool.proofs.ShareMeanings.{none_shared, share_means, pairs_few, kernels_few}
 use Rattle.pv_tool.proofs.Faults.{ends_halted, ends_same}

@@ -1,7 +1,7 @@
 //! Numbers in words.
 
 ghost use Rattle.std.specs.Prelude.{◌≡◌, ◌≤◌, ◌^◌, IfSome, Some};
-ghost use Rattle.pv_build.specs.NumberWords.{number_said, at_least};
+ghost use Rattle.pv_words.specs.NumberWords.{number_said, at_least};
 
 use board::number_upto;
 

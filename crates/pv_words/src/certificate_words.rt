@@ -1,8 +1,8 @@
 //! The forms of certificates.
 
 ghost use Rattle.std.specs.Prelude.{◌≡◌, map, string_bytes, option_map, IfSome};
-ghost use Rattle.pv_tool.specs.Words.{after_prove, after_replay};
-ghost use Rattle.pv_tool.specs.View.{command_view, IsWithin};
+ghost use Rattle.pv_words.specs.Words.{after_prove, after_replay};
+ghost use Rattle.pv_words.specs.View.{command_view, IsWithin};
 
 use crate::words::{CommandWords, run_words};
 

@@ -1,11 +1,11 @@
 //! The form of several kernels on one host.
 
 ghost use Rattle.std.specs.Prelude.{◌≡◌, map, string_bytes, option_map, IfSome};
-ghost use Rattle.pv_tool.specs.Words.{after_share, makes_pairs};
-ghost use Rattle.pv_tool.specs.View.{command_view, IsWithin};
+ghost use Rattle.pv_words.specs.Words.{after_share, makes_pairs};
+ghost use Rattle.pv_words.specs.View.{command_view, IsWithin};
 
+use crate::number_words::number;
 use crate::words::{CommandWords, ShareWords, are_names};
-use pv_build::number;
 
 /// A schedule, the number of frames, and one to four images, each with its script.
 #[tactic(auto, unfolding(crate::specs::Words::after_share))]
