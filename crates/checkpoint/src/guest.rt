@@ -91,6 +91,7 @@ pub fn state_of_guest<H: Host>(
     ensures size { (script : Events)
         → length (state_at image.now script guest (H.bytes host.now)).ram ≡ 4096 * guest.frames }
 {
+    let running = guest.into_running();
     let Running {
         cpu,
         board,
@@ -100,7 +101,7 @@ pub fn state_of_guest<H: Host>(
         held: _,
         shadows: _,
         lost: _,
-    } = guest.into_running();
+    } = running;
     let ram = memory_of(alloc, host.ram(), image, frames)?;
     Ok(State {
         cpu,

@@ -4,25 +4,25 @@ use Rattle.bare_machine.specs.Settings.{bare}
 use Rattle.bare_machine.proofs.Resting.{rests_none, rests_some}
 use Rattle.bare_machine.proofs.idle.rest.Goals as goal
 
-pub returns-else-k-gt-0-clause-rests : goal.returns-else-k-gt-0-clause-rests
-returns-else-k-gt-0-clause-rests g c = λ image whole part. rests_none (bare image c.args.script.now.list c.args.machine.now.frames) (state_of g.C.Cache.entries c.args.machine.now) whole part
+pub returns-else-k-gt0-clause-rests : goal.returns-else-k-gt0-clause-rests
+returns-else-k-gt0-clause-rests g c = λ image whole part. rests_none (bare image c.args.script.now.list c.args.machine.now.frames) (state_of g.C.Cache.entries c.args.machine.now) whole part
 
-pub returns-then-k-gt-0-clause-rests : goal.returns-then-k-gt-0-clause-rests
-returns-then-k-gt-0-clause-rests g c = λ image whole part.
+pub returns-then-k-gt0-clause-rests : goal.returns-then-k-gt0-clause-rests
+returns-then-k-gt0-clause-rests g c = λ image whole part.
     let m = c.args.machine.now in
     let s = bare image c.args.script.now.list m.frames in
-    let some : 0 < c.resting_steps-k.result = omega (arith, c.if-k-gt-0.true) in
+    let some : 0 < c.resting_steps-k.result = omega (arith, c.if-k-gt0.true) in
     let is = c.resting_steps-k.ensures.rests some in
     rw c.advance.ensures (rests_some c.halted_steps_rest.ensures c.resting_steps-k.result s (state_of g.C.Cache.entries m) whole c.requires.begun is.0 is.1 is.2 c.resting_steps-k.ensures.quiet part)
 
-pub returns-else-k-gt-0-clause-furthest : goal.returns-else-k-gt-0-clause-furthest
-returns-else-k-gt-0-clause-furthest g c = λ halted held none less.
+pub returns-else-k-gt0-clause-furthest : goal.returns-else-k-gt0-clause-furthest
+returns-else-k-gt0-clause-furthest g c = λ halted held none less.
     let step = c.args.machine.now.step in
-    let same : step - step ≡ c.resting_steps-k.result = omega (arith, c.if-k-gt-0.false) in
-    rw same (c.resting_steps-k.ensures.furthest halted held none (omega (arith, less, c.if-k-gt-0.false)))
+    let same : step - step ≡ c.resting_steps-k.result = omega (arith, c.if-k-gt0.false) in
+    rw same (c.resting_steps-k.ensures.furthest halted held none (omega (arith, less, c.if-k-gt0.false)))
 
-pub returns-then-k-gt-0-clause-furthest : goal.returns-then-k-gt-0-clause-furthest
-returns-then-k-gt-0-clause-furthest g c = λ halted held none less.
+pub returns-then-k-gt0-clause-furthest : goal.returns-then-k-gt0-clause-furthest
+returns-then-k-gt0-clause-furthest g c = λ halted held none less.
     let step = c.args.machine.now.step in
     let same : (step + c.resting_steps-k.result) - step ≡ c.resting_steps-k.result = omega arith in
     rw same (c.resting_steps-k.ensures.furthest halted held none (omega (arith, less)))

@@ -4,28 +4,28 @@ use Rattle.wedge_step.specs.Standing.{state_of}
 use Rattle.wedge_core.proofs.Resting.{rests_none, rests_some}
 use Rattle.wedge_core.proofs.rest.rest.Goals as goal
 
-pub returns-else-k-gt-0-clause-passes : goal.returns-else-k-gt-0-clause-passes
-returns-else-k-gt-0-clause-passes g c = λ image memory counts.
+pub returns-else-k-gt0-clause-passes : goal.returns-else-k-gt0-clause-passes
+returns-else-k-gt0-clause-passes g c = λ image memory counts.
     let running = c.args.running.now in
     let m = wedge image c.args.script.now.list running.frames in
     rests_none m (state_of g.S.Shadows m running memory) counts
 
-pub returns-then-k-gt-0-clause-passes : goal.returns-then-k-gt-0-clause-passes
-returns-then-k-gt-0-clause-passes g c = λ image memory counts.
+pub returns-then-k-gt0-clause-passes : goal.returns-then-k-gt0-clause-passes
+returns-then-k-gt0-clause-passes g c = λ image memory counts.
     let running = c.args.running.now in
     let m = wedge image c.args.script.now.list running.frames in
-    let some : 0 < c.resting_steps-k.result = omega (arith, c.if-k-gt-0.true) in
+    let some : 0 < c.resting_steps-k.result = omega (arith, c.if-k-gt0.true) in
     let is = c.resting_steps-k.ensures.rests some in
     rw c.advance.ensures (rests_some c.resting_steps-k.result m (state_of g.S.Shadows m running memory) counts c.requires.begun is.0 is.1 is.2 c.resting_steps-k.ensures.quiet)
 
-pub returns-else-k-gt-0-clause-furthest : goal.returns-else-k-gt-0-clause-furthest
-returns-else-k-gt-0-clause-furthest g c = λ halted held none less.
+pub returns-else-k-gt0-clause-furthest : goal.returns-else-k-gt0-clause-furthest
+returns-else-k-gt0-clause-furthest g c = λ halted held none less.
     let step = c.args.running.now.step in
-    let same : step - step ≡ c.resting_steps-k.result = omega (arith, c.if-k-gt-0.false) in
-    rw same (c.resting_steps-k.ensures.furthest halted held none (omega (arith, less, c.if-k-gt-0.false)))
+    let same : step - step ≡ c.resting_steps-k.result = omega (arith, c.if-k-gt0.false) in
+    rw same (c.resting_steps-k.ensures.furthest halted held none (omega (arith, less, c.if-k-gt0.false)))
 
-pub returns-then-k-gt-0-clause-furthest : goal.returns-then-k-gt-0-clause-furthest
-returns-then-k-gt-0-clause-furthest g c = λ halted held none less.
+pub returns-then-k-gt0-clause-furthest : goal.returns-then-k-gt0-clause-furthest
+returns-then-k-gt0-clause-furthest g c = λ halted held none less.
     let step = c.args.running.now.step in
     let same : (step + c.resting_steps-k.result) - step ≡ c.resting_steps-k.result = omega arith in
     rw same (c.resting_steps-k.ensures.furthest halted held none (omega (arith, less)))
