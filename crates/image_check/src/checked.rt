@@ -23,7 +23,7 @@ pub struct Checked {
 
 impl Model for Checked {
     ghost use Rattle.image_check.specs.Image.{Image};
-    ghost use Rattle.image_check.specs.Accepts.{IsChecked, IsWithin, IsAccepted, AreStarts};
+    ghost use Rattle.image_check.specs.Accepts.{IsChecked};
 
     ghost Value = { Image };
 
@@ -44,6 +44,7 @@ impl Checked {
     ghost use Rattle.sites.specs.Formats.{told_format};
     ghost use Rattle.image_check.specs.Sweep.{starts_of};
     ghost use Rattle.image_check.specs.Checking.{image_from, image_with};
+    ghost use Rattle.image_check.specs.Accepts.{IsWithin, IsAccepted, AreStarts};
     ghost use Rattle.image_check.specs.Layout.{AreApart};
     ghost use Rattle.image_check.specs.Standing.{place_of, place_at};
     ghost use Rattle.ia32_rows.specs.Spells.{AreBytes};
