@@ -7,7 +7,7 @@ pub fn start_remembers()
     ensures { StartRemembers }
 {}
 
-/// What is kept may lose rights that are no part of a translation, and marks.
+/// What is remembered stays so while no more is noted or marked, and the same is kept for other values of CR3.
 pub fn still_remembers()
     ensures { StillRemembers }
 {}

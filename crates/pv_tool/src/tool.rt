@@ -25,7 +25,7 @@ pub fn top<F: Files, S: Sink, H: Host>(
 ) -> Status
     requires { H.retired host.old ≤ 2 ^ 63 }
 
-    // Words: exactly where the words are of no form. It is told before any file, and nothing is printed.
+    // Words: exactly where the words are of no form. No file is stored then, and nothing is printed.
     ensures words { (result ≡ Status.Words) ↔ (form_of (map string_bytes words.now.items) ≡ None) }
     ensures untouched { result ≡ Status.Words
         → Untouched (outside F.Files S.Sink H.Host (files.old, files.new) (out.old, out.new) (host.old, host.new)) }

@@ -71,7 +71,7 @@ pub fn are_open<S: Shadows>(
 ) -> bool
     requires stands { ∥ S.stands shadows.now ram.now ∥₁ }
     requires told { AreToldIn state.now.visited state.now.changes }
-    ensures has_tables_under { result ≡ true → (page : ℕ) → is_among page (pages_of state.now.visited state.now.changes) ≡ true
+    ensures opened { result ≡ true → (page : ℕ) → is_among page (pages_of state.now.visited state.now.changes) ≡ true
         → is_entry_open count side (get (changed (entries_of (S.slots shadows.now ram.now)) state.now.changes) page) ≡ true }
     ensures barred { result ≡ false → (page : ℕ) × (is_among page (pages_of state.now.visited state.now.changes) ≡ true)
         × (is_entry_open count side (get (changed (entries_of (S.slots shadows.now ram.now)) state.now.changes) page) ≡ false) }

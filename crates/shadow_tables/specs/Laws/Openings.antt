@@ -158,14 +158,14 @@ only-kept indices s m m' k few h side index l t =
     ]
 
 -- a fill opens at most the table of its own index
-pub only-has_tables_under : (indices : ℕ → Bool) (s : Shadow) (m m' : List ℕ) (at : Side) (has_tables_under : ℕ) → has_tables_under < 1024 → HasOpened s m m' at has_tables_under → indices has_tables_under ≡ true → HasOpenedOnly indices s m → HasOpenedOnly indices s m'
-only-has_tables_under indices s m m' at has_tables_under fits o may h side index l t =
+pub only-has_tables_under : (indices : ℕ → Bool) (s : Shadow) (m m' : List ℕ) (at : Side) (opened : ℕ) → opened < 1024 → HasOpened s m m' at opened → indices opened ≡ true → HasOpenedOnly indices s m → HasOpenedOnly indices s m'
+only-has_tables_under indices s m m' at opened fits o may h side index l t =
     elim (zero-or (dir m (root_of s side) index)) [
       | inr ne ↦ h side index l ne
-      | inl z ↦ elim (eqb_tells index has_tables_under) [
+      | inl z ↦ elim (eqb_tells index opened) [
         | inl e ↦ subst (λ i. indices i ≡ true) (sym e.1) may
-        | inr ne ↦ elim (zero-or (dir m (root_of s at) has_tables_under)) [
-          | inl y ↦ absurd (let g = grew-two s m m' side at index has_tables_under o.others l fits ne.1 z t y o.there in let one = o.one in omega (arith, g, one))
+        | inr ne ↦ elim (zero-or (dir m (root_of s at) opened)) [
+          | inl y ↦ absurd (let g = grew-two s m m' side at index opened o.others l fits ne.1 z t y o.there in let one = o.one in omega (arith, g, one))
           | inr there ↦ absurd (let g = grew s m m' side index o.others l z t in let same = ap (λ (fs : List ℕ). length fs) (o.already there) in omega (arith, g, same))
         ]
       ]

@@ -64,7 +64,7 @@ returns-clause-left g c = settled_left (entries_of (new g c)) (set g c) c.settle
 pub returns-clause-shows : goal.returns-clause-shows
 returns-clause-shows g c = λ image is h.
     settled_shows (old g c) (new g c) (set g c) (pages g c) c.args.side c.args.state.now.control.wp (g.S.Shadows.write_protected c.settle.new.shadows) image c.args.count c.settle.result c.settle.ensures.settled.entries c.settle.ensures.settled.filled
-    (λ page lt. g.met.S.Shadows.entry_at c.settle.new.shadows c.settle.new.ram page lt) (c.are_open.ensures.has_tables_under c.if-not-are_open.false) is h
+    (λ page lt. g.met.S.Shadows.entry_at c.settle.new.shadows c.settle.new.ram page lt) (c.are_open.ensures.opened c.if-not-are_open.false) is h
 
 pub returns-clause-whole : goal.returns-clause-whole
 returns-clause-whole g c = λ may.

@@ -19,8 +19,8 @@ loop-page-preserved g c =
     (ap (is_entry_open c.args.count c.args.side) (sym c.entry_of.ensures) ∙ (sym c.is_entry_open.ensures ∙ c.if-not-is_entry_open.false))
     c.loop-page.invariant
 
-pub returns-clause-has_tables_under : goal.returns-clause-has_tables_under
-returns-clause-has_tables_under g c = λ _ page h.
+pub returns-clause-opened : goal.returns-clause-opened
+returns-clause-opened g c = λ _ page h.
     each_all (λ (page : ℕ). is_entry_open c.args.count c.args.side (get (changed (entries_of (g.S.Shadows.slots c.args.shadows.now c.args.ram.now)) c.args.state.now.changes) page))
     c.as_slice-page-items.result.now c.loop-page.page-index c.loop-page-test.false c.loop-page.invariant page
     (ap (is_among page) c.as_slice-page-items.ensures ∙ told_among c.args.state.now.visited c.args.state.now.changes c.requires.told page h)

@@ -25,8 +25,8 @@ open-requires-clause-free c =
     dropped-free c.args.self.now c.args.pool.now c.args.ram.now c.drop_page.new.ram c.requires.owns c.drop_page.ensures.held c.drop_page.ensures.memory c.requires.free
 
 -- what the call of `open` gives
-has_tables_under : (c : goal.After-word_of) → Opens c.args.pool.now c.open.new.pool c.drop_page.new.ram c.open.new.ram (roots c.args.self.now) c.root-root.result (c.args.entry.page / 1024)
-has_tables_under c =
+opened : (c : goal.After-word_of) → Opens c.args.pool.now c.open.new.pool c.drop_page.new.ram c.open.new.ram (roots c.args.self.now) c.root-root.result (c.args.entry.page / 1024)
+opened c =
     let s = c.args.self.now in
     let e = c.root-root.ensures ∙ ap (λ x. root_of x c.args.side) c.drop_page.ensures.same in
     c.open.ensures.opens (roots s)
@@ -36,7 +36,7 @@ has_tables_under c =
 owns : (c : goal.After-word_of) → Owns c.open.new.pool c.open.new.ram (held c.args.self.now c.open.new.ram)
 owns c =
     has_tables_under-owns c.args.self.now c.args.pool.now c.args.ram.now c.drop_page.new.ram c.requires.owns c.drop_page.ensures.held c.drop_page.ensures.memory
-    c.open.new.pool c.open.new.ram c.root-root.result (c.args.entry.page / 1024) (has_tables_under c)
+    c.open.new.pool c.open.new.ram c.root-root.result (c.args.entry.page / 1024) (opened c)
 
 pub set-requires-clause-view : goal.set-requires-clause-view
 set-requires-clause-view c =
@@ -46,7 +46,7 @@ set-requires-clause-view c =
     (IsView-from_Holds c.open.new.ram (roots s) (root_of s c.args.side) (Holds-from_Owns c.open.new.pool c.open.new.ram (held s c.open.new.ram) (owns c)) (in-root s c.args.side))
 
 pub set-requires-clause-some : goal.set-requires-clause-some
-set-requires-clause-some c = (has_tables_under c).some
+set-requires-clause-some c = (opened c).some
 
 -- what the call of `set` gives
 put : (c : goal.After-set) → Puts c.open.new.ram c.set.new.ram (roots c.args.self.now) c.root-root.result c.args.entry.page c.word_of.result
@@ -61,7 +61,7 @@ made c =
     let e = c.root-root.ensures ∙ ap (λ x. root_of x c.args.side) c.drop_page.ensures.same in
     let a = subst (λ r. Puts c.open.new.ram c.set.new.ram (roots s) r c.args.entry.page c.word_of.result) e (put c) in
     let b = subst (λ v. Puts c.open.new.ram c.set.new.ram (roots s) (root_of s c.args.side) c.args.entry.page v) c.word_of.ensures a in
-    fills s c.args.ram.now c.drop_page.new.ram c.open.new.ram c.set.new.ram c.args.barred c.args.side c.args.entry c.args.wp c.drop_page.ensures.becomes (has_tables_under c.before).words (has_tables_under c.before).dirs
+    fills s c.args.ram.now c.drop_page.new.ram c.open.new.ram c.set.new.ram c.args.barred c.args.side c.args.entry c.args.wp c.drop_page.ensures.becomes (opened c.before).words (opened c.before).dirs
     (Holds-from_Owns c.open.new.pool c.open.new.ram (held s c.open.new.ram) (owns c.before)) b c.requires.page c.requires.frame
 
 pub returns-clause-becomes : goal.returns-clause-becomes
@@ -75,7 +75,7 @@ returns-clause-entries c =
 moved : (c : goal.After-set) → Moves c.args.pool.now c.open.new.pool c.args.ram.now c.set.new.ram (held c.args.self.now c.args.ram.now) (held c.args.self.now c.set.new.ram)
 moved c =
     fill-moves c.args.self.now c.args.pool.now c.args.ram.now c.drop_page.new.ram c.requires.owns c.drop_page.ensures.held c.drop_page.ensures.memory
-    c.open.new.pool c.open.new.ram c.set.new.ram c.root-root.result (c.args.entry.page / 1024) c.args.entry.page c.word_of.result (has_tables_under c.before) (put c)
+    c.open.new.pool c.open.new.ram c.set.new.ram c.root-root.result (c.args.entry.page / 1024) c.args.entry.page c.word_of.result (opened c.before) (put c)
 
 pub returns-clause-moves : goal.returns-clause-moves
 returns-clause-moves c = moved c
@@ -88,11 +88,11 @@ returns-clause-owns c =
 pub returns-clause-one : goal.returns-clause-one
 returns-clause-one c =
     fill-takes c.args.self.now c.args.pool.now c.args.ram.now c.drop_page.new.ram c.requires.owns c.drop_page.ensures.held c.drop_page.ensures.memory
-    c.open.new.pool c.open.new.ram c.set.new.ram c.root-root.result (c.args.entry.page / 1024) c.args.entry.page c.word_of.result (has_tables_under c.before) (put c)
+    c.open.new.pool c.open.new.ram c.set.new.ram c.root-root.result (c.args.entry.page / 1024) c.args.entry.page c.word_of.result (opened c.before) (put c)
 
 pub returns-clause-table : goal.returns-clause-table
 returns-clause-table c =
     let s = c.args.self.now in
     let e = c.root-root.ensures ∙ ap (λ x. root_of x c.args.side) c.drop_page.ensures.same in
     has_tables_under-table s c.args.pool.now c.open.new.pool c.args.ram.now c.drop_page.new.ram c.open.new.ram c.set.new.ram c.args.side c.root-root.result c.args.entry.page c.word_of.result c.requires.page e
-    c.drop_page.ensures.held c.drop_page.ensures.tables (has_tables_under c.before) (λ ne. (c.open.ensures.there ne).1) (put c) (moved c) (returns-clause-one c)
+    c.drop_page.ensures.held c.drop_page.ensures.tables (opened c.before) (λ ne. (c.open.ensures.there ne).1) (put c) (moved c) (returns-clause-one c)
