@@ -26,6 +26,7 @@ use shadow_tables::{Shadows, Side};
 use wedge_step::{Running, side_of};
 
 /// The processor's next instruction is one that the host may do: no interrupt is taken, and at level 0 it stands at a start outside sites.
+#[inline(always)]
 pub fn may_run(cpu: &Cpu, board: &Board, image: &Checked) -> bool
     ensures { result ≡ may_run cpu.now board.now image.now }
 {

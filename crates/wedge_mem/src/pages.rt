@@ -40,6 +40,7 @@ pub fn is_among(page: u32, pages: &[u32]) -> bool
 }
 
 /// The entry that the step left the page.
+#[inline(always)]
 pub fn entry_of<S: Shadows>(shadows: &S, ram: &Ram, changes: &Changes, page: u32) -> Option<Entry>
     requires { ∥ S.stands shadows.now ram.now ∥₁ }
     ensures { result ≡ get (set_after S.Shadows shadows.now ram.now changes.now) page }

@@ -77,6 +77,7 @@ fn add_range(uses: &mut Uses, range: Option<Range>, write: bool)
 }
 
 /// Adds the uses of an instruction's ranges. Where a null segment denies one it uses neither.
+#[inline(always)]
 fn add_ranges(uses: &mut Uses, insn: &Insn, cpu: &Cpu)
     requires room { length uses.old.items ≤ 2 }
     ensures uses { model_uses (cpu.now.cpl == 3) uses.new.items

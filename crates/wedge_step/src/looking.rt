@@ -74,6 +74,7 @@ fn is_stopped(
 }
 
 /// Where a fetch of the page leads.
+#[inline(always)]
 pub(crate) fn fetched<S: Shadows>(
     cpu: &Cpu,
     shadows: &S,
@@ -207,6 +208,7 @@ fn unmarked<'a>(
 }
 
 /// Bytes of a page as a fetch reads them, whose walks have set their flags by then.
+#[inline(always)]
 pub(crate) fn read(
     view: &GuestView<'_>,
     earlier: Option<Marks>,
