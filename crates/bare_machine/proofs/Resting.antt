@@ -1,7 +1,8 @@
 -- Steps in which a halted processor has nothing to do.
 use Rattle.std.proofs.Common.{◌≡◌, ℕ, zero, suc, ◌+◌, ◌-◌, ◌<◌, Bool, true, false, List, [], ◌∷◌, replicate, None, refl, sym, ap, subst, inl, arith}
 use Rattle.board.specs.declared.devices.Board.{Board}
-use Rattle.board.specs.Boards.{board_step, board_steps, comes_within}
+use Rattle.board.specs.Boards.{board_step}
+use Rattle.board.specs.Quiet.{board_steps, comes_within}
 use Rattle.board.proofs.QuietSteps.{no_step}
 use Rattle.descriptors.specs.declared.cpu.Cpu.{Cpu}
 use Rattle.machine_model.specs.State.{Setting, State}

@@ -1,7 +1,7 @@
 //! A halted processor that waits.
 
 ghost use Rattle.std.specs.Prelude.{◌≡◌, ◌+◌, ◌-◌, ◌≤◌, ◌<◌, ◌^◌, true, false, None};
-ghost use Rattle.board.specs.Boards.{comes_within};
+ghost use Rattle.board.specs.Quiet.{comes_within};
 ghost use Rattle.board.specs.ScriptForm.{is_script};
 ghost use Rattle.image_check.specs.Image.{Image};
 ghost use Rattle.machine_model.specs.Run.{Set};

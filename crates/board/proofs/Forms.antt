@@ -8,10 +8,13 @@ use Rattle.std.proofs.lemmas.Bool.{leb-true, le-leb, and_parts, and_from}
 use Rattle.std.proofs.lemmas.Bool.Decides.{eqb_tells}
 use Rattle.std.proofs.Math.Bool.{and-true}
 use Rattle.pic8259.specs.Phases.{phase_fits}
-use Rattle.pic8259.specs.Requests.{chip_fits, pair_fits, stands_for_slave}
-use Rattle.pit8254.specs.Counts.{is_period, is_next_period, is_count}
+use Rattle.pic8259.specs.Requests.{chip_fits, pair_fits}
+use Rattle.pic8259.specs.Pairs.{stands_for_slave}
+use Rattle.pit8254.specs.Counts.{is_next_period, is_count}
+use Rattle.pit8254.specs.Timers.{is_period}
 use Rattle.uart16550.specs.States.{port_fits}
-use Rattle.board.specs.Restored.{phase_of, period_of, count_of, four_at, eight_at, chip_at, controllers_at, timer_at, settings_at, waiting_at, all_met, is_period_or_none, chip_demands, pair_demands, timer_demands, port_demands, demands, board_form}
+use Rattle.board.specs.Restored.{phase_of, period_of, count_of, four_at, eight_at, chip_at, controllers_at, timer_at, waiting_at, is_period_or_none, chip_demands, pair_demands, timer_demands, port_demands, demands}
+use Rattle.board.specs.Form.{settings_at, all_met, board_form}
 
 abbrev pub parts : List ℕ → Bool
 parts bytes =

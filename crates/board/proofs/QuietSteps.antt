@@ -3,11 +3,12 @@ use Rattle.std.proofs.Common.{◌≡◌, ℕ, suc, ◌+◌, false, [], ◌∷◌
 use Rattle.std.specs.Prelude.{◌&&◌, ◌||◌, ◌==◌, nat_lt, nat_le}
 use Rattle.std.proofs.lemmas.Bool.Decides.{nat_tests}
 use Rattle.std.proofs.lemmas.Bool.{or_parts}
-use Rattle.pit8254.specs.Timers.{edge_comes, edge_within, timer_step}
+use Rattle.pit8254.specs.Timers.{edge_comes, timer_step}
+use Rattle.pit8254.specs.Edges.{edge_within}
 use Rattle.board.specs.declared.devices.Board.{Board}
 use Rattle.board.specs.Scripts.{Events}
-use Rattle.board.specs.Boards.{edged, given, board_step, board_steps, event_within, comes_within, vector}
-use Rattle.board.specs.Quiet.{StepsAreQuiet}
+use Rattle.board.specs.Boards.{edged, given, board_step, vector}
+use Rattle.board.specs.Quiet.{board_steps, event_within, comes_within, StepsAreQuiet}
 
 -- no event in some steps after t: none in the first of them
 given_quiet : (t j : ℕ) (script : Events) → event_within t (suc j) script ≡ false → (board : Board) → given board script (t + 1) ≡ board

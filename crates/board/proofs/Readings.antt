@@ -9,8 +9,8 @@ use Rattle.board.specs.declared.fault.ScriptFault.{ScriptFault}
 use Rattle.board.specs.declared.fault.ScriptFault.TheVariants.{At, Memory}
 use Rattle.board.specs.Scripts.{Events, max_step, max_events}
 use Rattle.board.specs.ScriptForm.{event_fits, is_script_from}
-use Rattle.board.specs.Texts.{Reading, IsReading, event_of_line, line_read, lines_read, events_of}
-use Rattle.board.specs.Reads.{FaultAs, RefusedAs}
+use Rattle.board.specs.Texts.{Reading, event_of_line, line_read, lines_read, events_of}
+use Rattle.board.specs.Reads.{IsReading, FaultAs, RefusedAs}
 use Rattle.board.proofs.Searches.{first_facts}
 
 append_from : (low last : ℕ) (xs : Events) (e : ℕ × Event) → is_script_from low xs ≡ true → low ≤ last →

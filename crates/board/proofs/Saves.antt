@@ -17,17 +17,20 @@ use Rattle.pic8259.specs.declared.chip.Selected.TheVariants.{InterruptRequest, I
 use Rattle.pic8259.specs.declared.chip.Chip.{Chip}
 use Rattle.pic8259.specs.declared.pair.Pair.{Pair}
 use Rattle.pic8259.specs.Phases.{phase_fits}
-use Rattle.pic8259.specs.Requests.{chip_fits, pair_fits, stands_for_slave}
+use Rattle.pic8259.specs.Requests.{chip_fits, pair_fits}
+use Rattle.pic8259.specs.Pairs.{stands_for_slave}
 use Rattle.pit8254.specs.declared.timer.Phase.{Phase as TimerPhase}
 use Rattle.pit8254.specs.declared.timer.Phase.TheVariants.{AwaitsControlWord, AwaitsLow, AwaitsHigh}
 use Rattle.pit8254.specs.declared.timer.Count.{Count}
 use Rattle.pit8254.specs.declared.timer.Timer.{Timer}
-use Rattle.pit8254.specs.Counts.{is_period, is_next_period, is_count}
+use Rattle.pit8254.specs.Counts.{is_next_period, is_count}
+use Rattle.pit8254.specs.Timers.{is_period}
 use Rattle.uart16550.specs.Registers.{Registers}
 use Rattle.uart16550.specs.States.{port_fits}
 use Rattle.board.specs.declared.devices.Board.{Board}
 use Rattle.board.specs.Saved.{phase_number, selected_number, timer_number, low_byte, period_in, next_period_in, steps_left_in, chip_bytes, timer_bytes, set_bytes, waiting_bytes, saved}
-use Rattle.board.specs.Restored.{phase_of, selected_of, timer_phase_of, period_of, count_of, chip_at, controllers_at, timer_at, board_at, all_met, are_zero, is_period_or_none, chip_demands, pair_demands, timer_demands, port_demands, Demands, demands, board_form}
+use Rattle.board.specs.Restored.{phase_of, selected_of, timer_phase_of, period_of, count_of, chip_at, controllers_at, timer_at, board_at, are_zero, is_period_or_none, chip_demands, pair_demands, timer_demands, port_demands, Demands, demands}
+use Rattle.board.specs.Form.{all_met, board_form}
 
 -- how the bytes are laid
 

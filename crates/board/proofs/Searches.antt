@@ -11,8 +11,10 @@ use Rattle.board.specs.declared.script.Event.{Event}
 use Rattle.board.specs.declared.script.Event.TheVariants.{Rx}
 use Rattle.board.specs.declared.devices.Board.{Board}
 use Rattle.board.specs.Scripts.{Events, max_step}
-use Rattle.board.specs.ScriptForm.{event_fits, is_script_from, later, earlier}
-use Rattle.board.specs.Boards.{event_within, given, happened, SameEvents}
+use Rattle.board.specs.ScriptForm.{event_fits, is_script_from, earlier}
+use Rattle.board.specs.EventLists.{later, SameEvents}
+use Rattle.board.specs.Boards.{given, happened}
+use Rattle.board.specs.Quiet.{event_within}
 
 -- what the order says of the first event, and of the others
 pub first_facts : (low : ℕ) (event : ℕ × Event) (rest : Events) → is_script_from low (event ∷ rest) ≡ true →

@@ -1,9 +1,9 @@
 -- One step of the board, what comes to it from outside, and the interrupt that it asks for.
-use Rattle.std.specs.Prelude.{◌≡◌, ℕ, zero, suc, ◌+◌, Bool, false, ◌&&◌, ◌||◌, not, ◌==◌, nat_lt, nat_le, [], ◌∷◌, Option, if◌then◌else◌}
+use Rattle.std.specs.Prelude.{ℕ, Bool, ◌&&◌, not, ◌==◌, [], ◌∷◌, Option, if◌then◌else◌}
 use Rattle.pic8259.specs.Chips.{unstarted}
 use Rattle.pic8259.specs.Pairs.{with_edge, vector as pics_vector, acknowledged as pics_acknowledged}
 use Rattle.pic8259.specs.declared.pics.Pics.{Pics}
-use Rattle.pit8254.specs.Timers.{at_reset as timer_at_reset, timer_step, edge_comes, edge_within}
+use Rattle.pit8254.specs.Timers.{at_reset as timer_at_reset, timer_step, edge_comes}
 use Rattle.uart16550.specs.Ports.{at_reset as port_at_reset, received, interrupt_line}
 use Rattle.uart16550.specs.declared.uart.Uart.{Uart}
 use Rattle.board.specs.declared.script.Event.{Event}
@@ -33,11 +33,6 @@ board_step board = record board {
   pit = timer_step board.pit;
 }
 
--- k steps
-unfoldable pub board_steps : ℕ → Board → Board
-board_steps zero board = board
-board_steps (suc k) board = board_steps k (board_step board)
-
 -- a new state of the serial port: line 4 has an edge where the port begins to ask for an interrupt
 unfoldable pub with_uart : Board → Uart → Board
 with_uart board uart = record board {
@@ -55,15 +50,6 @@ unfoldable pub given : Board → Events → ℕ → Board
 given board [] step = board
 given board (event ∷ rest) step = given (if event.0 == step then happened board event.1 else board) rest step
 
--- an event lies in the n steps after a step
-abbrev pub event_within : ℕ → ℕ → Events → Bool
-event_within step n [] = false
-event_within step n (event ∷ rest) = (nat_lt step event.0 && nat_le event.0 (step + n)) || event_within step n rest
-
--- after n steps or fewer an edge or an event has come, where the events of this step were given
-unfoldable pub comes_within : Board → Events → ℕ → ℕ → Bool
-comes_within board script step n = edge_within n board.pit || event_within step n script
-
 -- the vector that would be delivered
 unfoldable pub vector : Board → Option ℕ
 vector board = pics_vector board.pics
@@ -71,7 +57,3 @@ vector board = pics_vector board.pics
 -- the board after that was acknowledged
 unfoldable pub acknowledged : Board → Board
 acknowledged board = record board { pics = pics_acknowledged board.pics }
-
--- two lists have the same events of a step
-abbrev pub SameEvents : ℕ → Events → Events → Type 0
-SameEvents step xs ys = (board : Board) → given board ys step ≡ given board xs step

@@ -1,8 +1,23 @@
--- Steps of the board in which nothing comes to it.
-use Rattle.std.specs.Prelude.{◌≡◌, ℕ, suc, ◌+◌, false}
+-- Steps of the board, how soon something comes to it, and steps in which nothing does.
+use Rattle.std.specs.Prelude.{◌≡◌, ℕ, zero, suc, ◌+◌, Bool, false, ◌&&◌, ◌||◌, nat_lt, nat_le, [], ◌∷◌}
+use Rattle.pit8254.specs.Edges.{edge_within}
 use Rattle.board.specs.declared.devices.Board.{Board}
 use Rattle.board.specs.Scripts.{Events}
-use Rattle.board.specs.Boards.{given, board_step, comes_within, vector}
+use Rattle.board.specs.Boards.{given, board_step, vector}
+
+-- k steps
+unfoldable pub board_steps : ℕ → Board → Board
+board_steps zero board = board
+board_steps (suc k) board = board_steps k (board_step board)
+
+-- an event lies in the n steps after a step
+abbrev pub event_within : ℕ → ℕ → Events → Bool
+event_within step n [] = false
+event_within step n (event ∷ rest) = (nat_lt step event.0 && nat_le event.0 (step + n)) || event_within step n rest
+
+-- after n steps or fewer an edge or an event has come, where the events of this step were given
+unfoldable pub comes_within : Board → Events → ℕ → ℕ → Bool
+comes_within board script step n = edge_within n board.pit || event_within step n script
 
 -- The first step after t has no event, whatever the board then is, and leaves the vector that would be delivered; nor
 -- does anything come in the j steps after it.

@@ -9,16 +9,13 @@ use Rattle.pic8259.specs.declared.chip.Selected.TheVariants.{InterruptRequest, I
 use Rattle.pic8259.specs.declared.chip.Chip.{Chip}
 use Rattle.pic8259.specs.declared.pair.Pair.{Pair}
 use Rattle.pic8259.specs.Phases.{phase_fits}
-use Rattle.pic8259.specs.Requests.{stands_for_slave}
+use Rattle.pic8259.specs.Pairs.{stands_for_slave}
 use Rattle.pit8254.specs.declared.timer.Phase.{Phase as TimerPhase}
 use Rattle.pit8254.specs.declared.timer.Phase.TheVariants.{AwaitsControlWord, AwaitsLow, AwaitsHigh}
 use Rattle.pit8254.specs.declared.timer.Count.{Count}
 use Rattle.pit8254.specs.declared.timer.Timer.{Timer}
-use Rattle.pit8254.specs.Timers.{steps_per_tick}
-use Rattle.pit8254.specs.Counts.{is_period}
-use Rattle.uart16550.specs.declared.settings.Settings.{Settings}
-use Rattle.uart16550.specs.Registers.{room}
-use Rattle.uart16550.specs.States.{registers_of}
+use Rattle.pit8254.specs.Timers.{steps_per_tick, is_period}
+use Rattle.uart16550.specs.Registers.{Registers, room}
 use Rattle.board.specs.declared.devices.Board.{Board}
 
 -- numbers of four and eight bytes, the lowest first
@@ -74,33 +71,31 @@ timer_at bytes = record {
   count = count_of (four_at bytes 16) (four_at bytes 20) (eight_at bytes 24);
 }
 
-abbrev pub settings_at : List ℕ → Settings
-settings_at bytes = record {
+abbrev pub waiting_at : List ℕ → List ℕ
+waiting_at bytes = slice_range bytes 39 (39 + slice_index bytes 38)
+
+abbrev pub registers_at : List ℕ → Registers
+registers_at bytes = record {
   interrupt_enable = slice_index bytes 32 == 1;
   line_control = slice_index bytes 33;
   modem_control = slice_index bytes 34;
   scratch = slice_index bytes 35;
   divisor_latch_low = slice_index bytes 36;
   divisor_latch_high = slice_index bytes 37;
+  kept = waiting_at bytes;
 }
-
-abbrev pub waiting_at : List ℕ → List ℕ
-waiting_at bytes = slice_range bytes 39 (39 + slice_index bytes 38)
 
 unfoldable pub board_at : List ℕ → Board
 board_at bytes = record {
   pics = controllers_at bytes;
   pit = timer_at bytes;
-  uart = registers_of (settings_at bytes) (waiting_at bytes);
+  uart = registers_at bytes;
 }
 
 -- what the bytes meet, each with the place that is bad where it isn't met
 
 abbrev pub Demands : Type 0
 Demands = List (ℕ × Bool)
-
-abbrev pub all_met : Demands → Bool
-all_met demands = list_all (λ d. d.1) demands
 
 abbrev pub are_zero : List ℕ → Bool
 are_zero bytes = list_all (λ b. b == 0) bytes
@@ -147,10 +142,3 @@ port_demands bytes =
 unfoldable pub demands : List ℕ → Demands
 demands bytes =
     chip_demands bytes 0 ++ chip_demands bytes 7 ++ pair_demands bytes ++ timer_demands bytes ++ port_demands bytes
-
--- the bytes are those of a board
-unfoldable pub board_form : List ℕ → Bool
-board_form bytes = all_met (demands bytes)
-
-abbrev pub restored : List ℕ → Option Board
-restored bytes = if board_form bytes then Some (board_at bytes) else None

@@ -43,9 +43,8 @@ timer_number AwaitsLow = 1
 timer_number (AwaitsHigh low) = 2
 
 abbrev pub low_byte : TimerPhase → ℕ
-low_byte AwaitsControlWord = 0
-low_byte AwaitsLow = 0
 low_byte (AwaitsHigh low) = low
+low_byte _ = 0
 
 abbrev pub period_in : Option Count → ℕ
 period_in None = 0

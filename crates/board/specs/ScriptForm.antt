@@ -1,12 +1,8 @@
--- What a list of events meets, and what comes of it after a step.
-use Rattle.std.specs.Prelude.{ℕ, Bool, true, ◌&&◌, nat_le, [], ◌∷◌, length, Option, Some, None, min, if◌then◌else◌}
+-- What a list of events meets.
+use Rattle.std.specs.Prelude.{ℕ, Bool, true, ◌&&◌, nat_le, [], ◌∷◌, length, Option, Some, None, min}
 use Rattle.board.specs.declared.script.Event.{Event}
 use Rattle.board.specs.declared.script.Event.TheVariants.{Rx, Line}
 use Rattle.board.specs.Scripts.{Events, max_events, max_step, is_free_line}
-
--- a script as contracts see it
-pub record EventList : Type 0 where
-  pub list : Events
 
 abbrev pub event_fits : Event → Bool
 event_fits (Rx byte) = true
@@ -21,11 +17,6 @@ is_script_from low (event ∷ rest) =
 -- as `read_script` gives it
 abbrev pub is_script : Events → Bool
 is_script events = nat_le (length events) max_events && is_script_from 0 events
-
--- the events from the first one after a step on
-unfoldable pub later : ℕ → Events → Events
-later step [] = []
-later step (event ∷ rest) = if nat_le event.0 step then later step rest else event ∷ rest
 
 -- the earlier of two numbers, where there is one
 abbrev pub earlier : Option ℕ → Option ℕ → Option ℕ

@@ -1,5 +1,5 @@
 -- What the text of a script says.
-use Rattle.std.specs.Prelude.{◌≡◌, ℕ, ◌+◌, ◌-◌, ◌*◌, Bool, true, false, ◌&&◌, ◌||◌, not, ◌==◌, nat_lt, nat_le, List, [], ◌∷◌, ◌++◌, length, slice_index, fold, Option, Some, None, Result, Ok, Err, if◌then◌else◌, codes}
+use Rattle.std.specs.Prelude.{ℕ, ◌+◌, ◌-◌, ◌*◌, Bool, true, false, ◌&&◌, ◌||◌, not, ◌==◌, nat_lt, nat_le, List, [], ◌∷◌, ◌++◌, length, slice_index, fold, Option, Some, None, Result, Ok, Err, if◌then◌else◌, codes}
 use Rattle.std.specs.List.{slice_split, list_all}
 use Rattle.std.specs.Str.{bytes_eq}
 use Rattle.std.specs.Option.{option_map}
@@ -9,7 +9,6 @@ use Rattle.board.specs.declared.script.Event.TheVariants.{Rx, Line}
 use Rattle.board.specs.declared.fault.ScriptCause.{ScriptCause}
 use Rattle.board.specs.declared.fault.ScriptCause.TheVariants.{NoForm, BadNumber, StepFalls, TooMany, NotAscii}
 use Rattle.board.specs.Scripts.{Events, max_step, max_events, is_free_line}
-use Rattle.board.specs.ScriptForm.{is_script}
 
 -- numbers
 
@@ -35,9 +34,8 @@ hex_value b =
     else None
 
 abbrev pub both_digits : Option ℕ → Option ℕ → Option ℕ
-both_digits None low = None
-both_digits (Some high) None = None
 both_digits (Some high) (Some low) = Some (16 * high + low)
+both_digits _ _ = None
 
 -- two hexadecimal digits
 unfoldable pub hex_byte : List ℕ → Option ℕ
@@ -56,9 +54,8 @@ is_empty (b ∷ rest) = false
 
 -- a step and an event, where both could be read
 abbrev pub event_with : Option ℕ → Option Event → Result (ℕ × Event) ScriptCause
-event_with None event = Err BadNumber
-event_with (Some step) None = Err BadNumber
 event_with (Some step) (Some event) = Ok (step, event)
+event_with _ _ = Err BadNumber
 
 -- the three words of a line
 unfoldable pub event_of : List ℕ → List ℕ → List ℕ → Result (ℕ × Event) ScriptCause
@@ -69,11 +66,8 @@ event_of step kind value =
     else Err NoForm
 
 unfoldable pub event_in : List (List ℕ) → Result (ℕ × Event) ScriptCause
-event_in [] = Err NoForm
-event_in (a ∷ []) = Err NoForm
-event_in (a ∷ b ∷ []) = Err NoForm
 event_in (a ∷ b ∷ c ∷ []) = event_of a b c
-event_in (a ∷ b ∷ c ∷ d ∷ rest) = Err NoForm
+event_in _ = Err NoForm
 
 -- the parts of a text between the bytes c
 abbrev pub cut_at : ℕ → List ℕ → List (List ℕ)
@@ -105,10 +99,6 @@ pub record Reading : Type 0 where
   pub line : ℕ
   pub low : ℕ
   pub events : Events
-
--- the events are a script's, and none is after the last step
-abbrev pub IsReading : ℕ → Events → Type 0
-IsReading low events = (is_script events ≡ true) × (list_all (λ e. nat_le e.0 low) events ≡ true)
 
 abbrev pub at_start : Reading
 at_start = record { line = 1; low = 0; events = [] }

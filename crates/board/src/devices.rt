@@ -2,7 +2,8 @@
 
 ghost use Rattle.std.specs.Prelude.{◌≡◌, ◌<◌, false, true, not, ◌&&◌, Some, IsSome};
 ghost use Rattle.board.specs.ScriptForm.{event_fits, is_script};
-ghost use Rattle.board.specs.Boards.{at_reset, serial_line, edged, board_steps, with_uart, happened, given, comes_within, vector, acknowledged};
+ghost use Rattle.board.specs.Boards.{at_reset, serial_line, edged, with_uart, happened, given, vector, acknowledged};
+ghost use Rattle.board.specs.Quiet.{board_steps, comes_within};
 ghost use Rattle.ia32_types.specs.Firsts.{IsFirst};
 ghost use Rattle.uart16550.specs.Ports.{written as serial_written, interrupt_line};
 ghost use Rattle.board.specs.Ports.{IsByte, port_read, port_written};
@@ -82,7 +83,7 @@ impl Board {
     /// The least number of steps after which an edge of the timer or an event of the script can come. It is asked
     /// after the events of this step were given, so it counts only events of later steps. None where neither will
     /// come by itself.
-    #[tactic(auto, unfolding(crate::specs::Boards::comes_within), using(crate::proofs::Searches::first_of_both))]
+    #[tactic(auto, unfolding(crate::specs::Quiet::comes_within), using(crate::proofs::Searches::first_of_both))]
     pub fn next_event(&self, script: &Script, step: u64) -> Option<u64>
         requires { is_script script.now.list ≡ true }
         ensures { IsFirst (comes_within self.now script.now.list step) result }

@@ -27,7 +27,8 @@ struct Reading {
 }
 
 impl Model for Reading {
-    ghost use Rattle.board.specs.Texts.{Reading, IsReading};
+    ghost use Rattle.board.specs.Texts.{Reading};
+    ghost use Rattle.board.specs.Reads.{IsReading};
 
     ghost Value = { Reading };
 

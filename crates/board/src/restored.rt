@@ -1,10 +1,12 @@
 //! What 64 bytes say of a board.
 
 ghost use Rattle.std.specs.Prelude.{◌≡◌, ◌+◌, ◌≤◌, true, ◌&&◌, slice_index};
-ghost use Rattle.pic8259.specs.Requests.{pair_fits, stands_for_slave};
+ghost use Rattle.pic8259.specs.Requests.{pair_fits};
+ghost use Rattle.pic8259.specs.Pairs.{stands_for_slave};
 ghost use Rattle.pit8254.specs.Counts.{is_count};
 ghost use Rattle.uart16550.specs.States.{port_fits};
-ghost use Rattle.board.specs.Restored.{four_at, eight_at, phase_of, selected_of, timer_phase_of, period_of, count_of, chip_at, controllers_at, timer_at, settings_at, waiting_at, all_met, are_zero, chip_demands, is_period_or_none, timer_demands, port_demands, board_form};
+ghost use Rattle.board.specs.Restored.{four_at, eight_at, phase_of, selected_of, timer_phase_of, period_of, count_of, chip_at, controllers_at, timer_at, waiting_at, are_zero, chip_demands, is_period_or_none, timer_demands, port_demands};
+ghost use Rattle.board.specs.Form.{settings_at, all_met, board_form};
 
 use pic8259::{Chip, Pair, Phase as ChipPhase, Selected};
 use pit8254::{Count, Phase as TimerPhase, Timer};

@@ -5,7 +5,8 @@ ghost use Rattle.std.specs.Int.{to_le_bytes, w32, w64};
 ghost use Rattle.uart16550.specs.Registers.{Registers, room};
 ghost use Rattle.uart16550.specs.States.{registers_of};
 ghost use Rattle.board.specs.Saved.{phase_number, selected_number, timer_number, low_byte, period_in, next_period_in, steps_left_in, chip_bytes, timer_bytes, set_bytes, saved};
-ghost use Rattle.board.specs.Restored.{board_form, board_at, restored};
+ghost use Rattle.board.specs.Restored.{board_at};
+ghost use Rattle.board.specs.Form.{board_form, restored};
 
 use crate::devices::Board;
 use crate::restored::{controllers_at, has_form, settings_at, timer_at};

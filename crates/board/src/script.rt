@@ -3,8 +3,9 @@
 ghost use Rattle.std.specs.Prelude.{◌≡◌, true};
 ghost use Rattle.std.specs.List.Sorted.{IsNonDecreasingBy};
 ghost use Rattle.ia32_types.specs.Firsts.{IsFirst};
-ghost use Rattle.board.specs.ScriptForm.{is_script_from, later, earlier};
-ghost use Rattle.board.specs.Boards.{event_within, SameEvents};
+ghost use Rattle.board.specs.ScriptForm.{is_script_from, earlier};
+ghost use Rattle.board.specs.EventLists.{later, SameEvents};
+ghost use Rattle.board.specs.Quiet.{event_within};
 
 use std::marker::Model;
 
@@ -26,7 +27,7 @@ pub struct Script {
 }
 
 impl Model for Script {
-    ghost use Rattle.board.specs.ScriptForm.{EventList};
+    ghost use Rattle.board.specs.EventLists.{EventList};
 
     ghost Value = { EventList };
 

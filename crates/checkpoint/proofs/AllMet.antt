@@ -3,7 +3,8 @@ use Rattle.std.proofs.Common.{◌≡◌, ℕ, zero, suc, ◌+◌, ◌^◌, ◌�
 use Rattle.std.specs.Prelude.{map, not, replicate, ◌&&◌, ◌==◌, nat_le, if◌then◌else◌}
 use Rattle.std.specs.List.{list_all}
 use Rattle.std.proofs.lemmas.Bool.{le-leb, leb-true, eqb-true, and_parts, and_from}
-use Rattle.board.specs.Restored.{board_form, demands as board_tests}
+use Rattle.board.specs.Restored.{demands as board_tests}
+use Rattle.board.specs.Form.{board_form}
 use Rattle.checkpoint.specs.declared.demand.Demand.{Demand}
 use Rattle.checkpoint.specs.declared.head.Head.{Head}
 use Rattle.board.specs.ScriptForm.{earlier}

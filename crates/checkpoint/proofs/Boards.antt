@@ -12,7 +12,8 @@ use Rattle.guest_ram.specs.Bytes.{part, AreBytes}
 use Rattle.guest_ram.proofs.Bytes.{length-part, bytes-part, part-append}
 use Rattle.ia32_types.specs.Bits.{worth}
 use Rattle.board.specs.Saved.{phase_number, selected_number, timer_number, low_byte, period_in, next_period_in, steps_left_in, chip_bytes, timer_bytes, set_bytes, waiting_bytes, saved}
-use Rattle.board.specs.Restored.{four_at, eight_at, phase_of, selected_of, timer_phase_of, period_of, count_of, chip_at, timer_at, waiting_at, board_at, all_met, are_zero, is_period_or_none, chip_demands, pair_demands, timer_demands, port_demands, demands, board_form}
+use Rattle.board.specs.Restored.{four_at, eight_at, phase_of, selected_of, timer_phase_of, period_of, count_of, chip_at, timer_at, waiting_at, board_at, are_zero, is_period_or_none, chip_demands, pair_demands, timer_demands, port_demands, demands}
+use Rattle.board.specs.Form.{all_met, board_form}
 
 -- ---- the tests one by one
 

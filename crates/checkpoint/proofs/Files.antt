@@ -11,7 +11,8 @@ use Rattle.guest_ram.proofs.Bytes.{length-part, bytes-part}
 use Rattle.descriptors.specs.declared.cpu.Cpu.{Cpu}
 use Rattle.board.specs.declared.devices.Board.{Board}
 use Rattle.board.specs.Saved.{saved}
-use Rattle.board.specs.Restored.{board_at, board_form, restored}
+use Rattle.board.specs.Restored.{board_at}
+use Rattle.board.specs.Form.{board_form, restored}
 use Rattle.checkpoint.specs.declared.state.State.{State}
 use Rattle.checkpoint.specs.declared.head.Head.{Head}
 use Rattle.checkpoint.specs.Ranges.{IsSized}

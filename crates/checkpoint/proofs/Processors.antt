@@ -6,7 +6,7 @@ use Rattle.descriptors.specs.declared.cpu.Cpu.{Cpu}
 use Rattle.descriptors.specs.declared.cpu.Hidden.{Hidden}
 use Rattle.descriptors.specs.Segments.{seg_of}
 use Rattle.ia32_types.specs.Bits.{worth}
-use Rattle.board.specs.Restored.{board_form}
+use Rattle.board.specs.Form.{board_form}
 use Rattle.board.proofs.Saves.{worth_back, worth_small}
 use Rattle.machine_model.specs.Fit.{Fit, IsLevel, IsSegment, AreFlags}
 use Rattle.checkpoint.specs.declared.head.Head.{Head}

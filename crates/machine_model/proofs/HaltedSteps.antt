@@ -2,8 +2,8 @@
 use Rattle.std.proofs.Common.{◌≡◌, ℕ, zero, suc, ◌+◌, Bool, true, false, cond, [], ◌∷◌, replicate, Option, None, refl, ap, subst, ◌∙◌, inl, arith}
 use Rattle.std.specs.Prelude.{◌&&◌, not, if◌then◌else◌}
 use Rattle.board.specs.declared.devices.Board.{Board}
-use Rattle.board.specs.Boards.{board_step, board_steps, vector}
-use Rattle.board.specs.Quiet.{StepsAreQuiet}
+use Rattle.board.specs.Boards.{board_step, vector}
+use Rattle.board.specs.Quiet.{board_steps, StepsAreQuiet}
 use Rattle.descriptors.specs.declared.cpu.Cpu.{Cpu}
 use Rattle.paging.specs.Fresh.{has}
 use Rattle.paging.specs.Space.{Space}

@@ -2,7 +2,8 @@
 use Rattle.std.specs.Prelude.{◌≡◌, ℕ, suc, ◌+◌, true, false, List, [], ◌∷◌, replicate, None}
 use Rattle.descriptors.specs.declared.cpu.Cpu.{Cpu}
 use Rattle.board.specs.declared.devices.Board.{Board}
-use Rattle.board.specs.Boards.{board_step, board_steps, comes_within}
+use Rattle.board.specs.Boards.{board_step}
+use Rattle.board.specs.Quiet.{board_steps, comes_within}
 use Rattle.machine_model.specs.State.{Setting, State, Loosened}
 use Rattle.machine_model.specs.Step.{Report, Went, step_of, interrupt_of}
 use Rattle.machine_model.specs.Run.{Set, Steps, trace_of}

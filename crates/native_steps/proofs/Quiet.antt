@@ -2,8 +2,8 @@
 use Rattle.std.proofs.Common.{◌≡◌, ℕ, zero, suc, ◌+◌, ◌≤◌, Bool, Option, None, ap, ◌∙◌, arith}
 use Rattle.std.specs.Prelude.{◌&&◌, not, if◌then◌else◌}
 use Rattle.board.specs.declared.devices.Board.{Board}
-use Rattle.board.specs.Boards.{given, board_step, board_steps, comes_within, vector}
-use Rattle.board.specs.Quiet.{StepsAreQuiet}
+use Rattle.board.specs.Boards.{given, board_step, vector}
+use Rattle.board.specs.Quiet.{board_steps, comes_within, StepsAreQuiet}
 use Rattle.descriptors.specs.declared.cpu.Cpu.{Cpu}
 use Rattle.paging.specs.Fresh.{has}
 use Rattle.machine_model.specs.State.{Setting, State}

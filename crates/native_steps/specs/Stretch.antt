@@ -5,7 +5,8 @@ use Rattle.std.specs.List.{All}
 use Rattle.descriptors.specs.Controls.{wp_of}
 use Rattle.guest_ram.specs.Bytes.{frame}
 use Rattle.board.specs.declared.devices.Board.{Board}
-use Rattle.board.specs.Boards.{given, board_steps, comes_within}
+use Rattle.board.specs.Boards.{given}
+use Rattle.board.specs.Quiet.{board_steps, comes_within}
 use Rattle.sites.specs.declared.site.Site.{Site}
 use Rattle.image_check.specs.Places.{linear}
 use Rattle.image_check.specs.Standing.{site_at}

@@ -37,11 +37,10 @@ even_written chip v =
 -- a byte at the odd port: ICW2 to ICW4 after a start, and otherwise OCW1, the interrupt mask register. ICW3 is fixed by how the board
 -- joins the controllers
 abbrev pub odd_written_in : Phase → Chip → ℕ → ℕ → Option Chip
-odd_written_in Never chip cascade v = Some (record chip { interrupt_mask = v })
 odd_written_in AwaitsBase chip cascade v = Some (record chip { phase = AwaitsCascade; base = v - v % 8 })
 odd_written_in AwaitsCascade chip cascade v = if v == cascade then Some (record chip { phase = AwaitsMode }) else None
 odd_written_in AwaitsMode chip cascade v = if v == 1 then Some (record chip { phase = Ready; once_ready = true }) else None
-odd_written_in Ready chip cascade v = Some (record chip { interrupt_mask = v })
+odd_written_in _ chip cascade v = Some (record chip { interrupt_mask = v })
 
 unfoldable pub odd_written : Chip → ℕ → ℕ → Option Chip
 odd_written chip cascade v = odd_written_in chip.phase chip cascade v

@@ -1,6 +1,7 @@
 -- The two controllers of the board, master and slave (Intel 8259A data sheet: cascade mode).
-use Rattle.std.specs.Prelude.{ℕ, ◌+◌, ◌-◌, Bool, true, false, ◌==◌, ◌||◌, nat_lt, Option, Some, None, is_some, if◌then◌else◌}
+use Rattle.std.specs.Prelude.{ℕ, ◌+◌, ◌-◌, Bool, true, false, not, ◌==◌, ◌||◌, nat_lt, Option, Some, None, is_some, if◌then◌else◌}
 use Rattle.std.specs.Option.{option_map}
+use Rattle.ia32_types.specs.Bits.{bit}
 use Rattle.ia32_types.specs.declared.stop.Did.{Did}
 use Rattle.ia32_types.specs.declared.stop.Did.TheVariants.{Done, Stop}
 use Rattle.pic8259.specs.declared.chip.Chip.{Chip}
@@ -10,6 +11,11 @@ use Rattle.pic8259.specs.Chips.{even_written, odd_written, even_read_of, with_re
 -- profile: the master's IR2 is set exactly while the slave has something to raise
 unfoldable pub joined : Chip → Chip → Pair
 joined master slave = record { master = with_request master 2 (is_some (highest_request slave)); slave = slave }
+
+-- the master's IR2 stands for the slave
+abbrev pub stands_for_slave : Pair → Bool
+stands_for_slave pair =
+    if bit pair.master.interrupt_request 2 then is_some (highest_request pair.slave) else not (is_some (highest_request pair.slave))
 
 abbrev pub is_port : ℕ → Bool
 is_port port = port == 0x20 || port == 0x21 || port == 0xA0 || port == 0xA1

@@ -1,6 +1,6 @@
 -- Channel 0 of an 8254: its control word, its count, and one step of it (Intel 8254 data sheet: control word format,
 -- write operations, mode 2, mode 3). Profile: both modes have the same edges, low byte then high byte, binary counting.
-use Rattle.std.specs.Prelude.{ℕ, zero, suc, ◌+◌, ◌-◌, ◌*◌, Bool, false, ◌==◌, ◌||◌, Option, Some, None, unwrap_or, if◌then◌else◌}
+use Rattle.std.specs.Prelude.{ℕ, ◌+◌, ◌-◌, ◌*◌, Bool, false, ◌==◌, ◌&&◌, ◌||◌, nat_le, Option, Some, None, unwrap_or, if◌then◌else◌}
 use Rattle.ia32_types.specs.declared.stop.Did.{Did}
 use Rattle.ia32_types.specs.declared.stop.Did.TheVariants.{Done, Stop}
 use Rattle.pit8254.specs.declared.timer.Phase.{Phase}
@@ -11,6 +11,10 @@ use Rattle.pit8254.specs.declared.timer.Timer.{Timer}
 -- profile: board steps for one tick of the counter
 abbrev pub steps_per_tick : ℕ
 steps_per_tick = 8
+
+-- a period is 2 to 65,536
+abbrev pub is_period : ℕ → Bool
+is_period period = nat_le 2 period && nat_le period 65536
 
 -- a counter that starts anew with a period
 unfoldable pub fresh : ℕ → Count
@@ -76,18 +80,3 @@ count_edge (Some count) = count.left == 1
 
 abbrev pub edge_comes : Timer → Bool
 edge_comes timer = count_edge timer.count
-
--- the timer after k steps
-unfoldable pub after_steps : ℕ → Timer → Timer
-after_steps zero timer = timer
-after_steps (suc k) timer = after_steps k (timer_step timer)
-
--- one of the next k steps has an edge
-unfoldable pub edge_within : ℕ → Timer → Bool
-edge_within zero timer = false
-edge_within (suc k) timer = edge_comes timer || edge_within k (timer_step timer)
-
--- the steps until the next edge, where the counter runs
-abbrev pub left_in : Option Count → Option ℕ
-left_in None = None
-left_in (Some count) = Some count.left

@@ -5,8 +5,9 @@ ghost use Rattle.std.specs.Prelude.{◌≡◌, ◌+◌, ◌*◌, ◌<◌, ◌≤
 ghost use Rattle.std.specs.Option.{ForSome};
 ghost use Rattle.ia32_types.specs.Firsts.{IsFirst};
 ghost use Rattle.ia32_types.specs.declared.stop.Did.TheVariants.{Stop};
-ghost use Rattle.pit8254.specs.Timers.{at_reset, fresh, period_of, counting, control_word_written, count_written, written, timer_step, after_steps, edge_within, left_in};
-ghost use Rattle.pit8254.specs.Counts.{is_period, is_count, IsAfter};
+ghost use Rattle.pit8254.specs.Timers.{at_reset, fresh, period_of, counting, control_word_written, count_written, written, timer_step, is_period};
+ghost use Rattle.pit8254.specs.Edges.{after_steps, edge_within, left_in};
+ghost use Rattle.pit8254.specs.Counts.{is_count, IsAfter};
 
 use crate::timer::{Count, Phase, Timer};
 use ia32_types::Did;

@@ -4,7 +4,7 @@ use Rattle.std.specs.Prelude.{nat_le, nat_lt}
 use Rattle.std.proofs.lemmas.Bool.Decides.{nat_tests}
 use Rattle.std.proofs.lemmas.Bool.{and_parts}
 use Rattle.board.specs.declared.devices.Board.{Board}
-use Rattle.board.specs.Boards.{board_steps, comes_within}
+use Rattle.board.specs.Quiet.{board_steps, comes_within}
 use Rattle.descriptors.specs.declared.cpu.Cpu.{Cpu}
 use Rattle.ia32_types.specs.declared.flags.Regs.{Regs}
 use Rattle.sites.specs.declared.site.Site.{Site}

@@ -6,7 +6,8 @@ use Rattle.frame_pool.specs.Held.{Owns}
 use Rattle.frame_pool.specs.declared.Pool.{Pool}
 use Rattle.frame_pool.proofs.Above.{free_list-above}
 use Rattle.board.specs.declared.devices.Board.{Board}
-use Rattle.board.specs.Boards.{board_step, board_steps}
+use Rattle.board.specs.Boards.{board_step}
+use Rattle.board.specs.Quiet.{board_steps}
 use Rattle.descriptors.specs.declared.cpu.Cpu.{Cpu}
 use Rattle.ia32_types.specs.declared.flags.Regs.{Regs}
 use Rattle.ia32_exec.specs.Digest.{digest}

@@ -4,10 +4,12 @@ use Rattle.std.specs.Prelude.{◌&&◌, ◌||◌, ◌==◌, nat_lt, nat_le, not,
 use Rattle.std.specs.List.{All}
 use Rattle.std.proofs.lemmas.Bool.Decides.{nat_tests}
 use Rattle.std.proofs.lemmas.List.Elements.{All-nil, All-cons}
-use Rattle.pit8254.specs.Timers.{edge_comes, edge_within, timer_step}
+use Rattle.pit8254.specs.Timers.{edge_comes, timer_step}
+use Rattle.pit8254.specs.Edges.{edge_within}
 use Rattle.board.specs.declared.devices.Board.{Board}
 use Rattle.board.specs.Scripts.{Events}
-use Rattle.board.specs.Boards.{given, board_step, board_steps, event_within, comes_within}
+use Rattle.board.specs.Boards.{given, board_step}
+use Rattle.board.specs.Quiet.{board_steps, event_within, comes_within}
 use Rattle.board.proofs.QuietSteps.{no_step, quiet_later, vector_same}
 use Rattle.descriptors.specs.declared.cpu.Cpu.{Cpu}
 use Rattle.paging.specs.Fresh.{has}

@@ -9,8 +9,9 @@ use Rattle.frame_pool.specs.Held.{Owns, SameIn}
 use Rattle.frame_pool.proofs.Above.{free_list-above}
 use Rattle.paging.specs.Reached.{reached}
 use Rattle.board.specs.declared.devices.Board.{Board}
-use Rattle.board.specs.Boards.{given, board_steps, comes_within, event_within}
-use Rattle.pit8254.specs.Timers.{edge_within}
+use Rattle.board.specs.Boards.{given}
+use Rattle.board.specs.Quiet.{board_steps, comes_within, event_within}
+use Rattle.pit8254.specs.Edges.{edge_within}
 use Rattle.board.specs.Scripts.{Events}
 use Rattle.ia32_types.specs.declared.flags.Regs.{Regs}
 use Rattle.shadow_tables.specs.Entries.{entries_of}

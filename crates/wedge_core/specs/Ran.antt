@@ -2,7 +2,7 @@
 use Rattle.std.specs.Prelude.{◌≡◌, ℕ, ◌+◌, ◌≤◌, ◌<◌, List, true, false}
 use Rattle.ia32_types.specs.declared.addresses.TheConstants.{WINDOW_BELOW, WINDOW_END}
 use Rattle.ia32_types.specs.declared.flags.Regs.{Regs}
-use Rattle.board.specs.Boards.{board_steps, comes_within}
+use Rattle.board.specs.Quiet.{board_steps, comes_within}
 use Rattle.board.specs.Scripts.{Events}
 use Rattle.host_cpl3.specs.declared.view.View.{View}
 use Rattle.host_cpl3.specs.declared.exit.Exit.{Exit}

@@ -2,7 +2,7 @@
 
 ghost use Rattle.std.specs.Prelude.{◌≡◌, ℕ, ◌+◌, ◌-◌, ◌*◌, ◌/◌, ◌%◌, ◌==◌, ◌≤◌, ◌<◌, ◌^◌, true, false};
 ghost use Rattle.frame_pool.specs.declared.Pool.{Pool as Frames};
-ghost use Rattle.board.specs.Boards.{comes_within};
+ghost use Rattle.board.specs.Quiet.{comes_within};
 ghost use Rattle.board.specs.ScriptForm.{is_script};
 ghost use Rattle.host_cpl3.specs.Hosts.{standing};
 ghost use Rattle.machine_model.specs.State.{wedge};

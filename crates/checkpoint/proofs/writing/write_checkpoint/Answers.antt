@@ -1,5 +1,6 @@
 use Rattle.std.proofs.Common.{ap, sym, ◌∙◌}
-use Rattle.board.specs.Restored.{board_form, board_at}
+use Rattle.board.specs.Restored.{board_at}
+use Rattle.board.specs.Form.{board_form}
 use Rattle.checkpoint.specs.States.{checkpoint_in}
 use Rattle.checkpoint.proofs.Files.{put_whole, sized_so, read_back}
 use Rattle.checkpoint.proofs.writing.write_checkpoint.Goals as goal

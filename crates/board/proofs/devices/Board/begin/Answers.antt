@@ -3,7 +3,8 @@ use Rattle.board.specs.declared.devices.Board.{Board}
 use Rattle.board.specs.declared.script.Event.TheVariants.{Rx}
 use Rattle.board.specs.Boards.{given}
 use Rattle.board.specs.Scripts.{Events}
-use Rattle.board.specs.ScriptForm.{EventList, is_script_from}
+use Rattle.board.specs.ScriptForm.{is_script_from}
+use Rattle.board.specs.EventLists.{EventList}
 use Rattle.board.proofs.Searches.{given_one, from_one, given_no_more, given_empty}
 use Rattle.board.proofs.devices.Board.begin.Goals as goal
 

@@ -1,7 +1,8 @@
 use Rattle.std.proofs.Common.{ap, ◌∙◌, sym, length}
 use Rattle.board.specs.Saved.{chip_bytes, timer_bytes, set_bytes}
-use Rattle.board.specs.Restored.{board_at, board_form}
-use Rattle.uart16550.specs.States.{registers_of, settings_of, port_fits}
+use Rattle.board.specs.Restored.{board_at}
+use Rattle.board.specs.Form.{board_form}
+use Rattle.uart16550.specs.States.{settings_of, port_fits, registers_of}
 use Rattle.pic8259.specs.Requests.{pair_fits}
 use Rattle.pit8254.specs.Counts.{is_count}
 use Rattle.pit8254.specs.declared.timer.Timer.{Timer}
