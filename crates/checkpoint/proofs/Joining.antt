@@ -9,10 +9,11 @@ use Rattle.paging.specs.declared.entry.Entry.{Entry}
 use Rattle.run_trace.specs.declared.items.Item.{Item}
 use Rattle.run_trace.specs.declared.items.End.{End}
 use Rattle.run_trace.specs.declared.items.End.TheVariants.{Bound, Stopped}
-use Rattle.machine_model.specs.State.{Setting, State, Loosened, IsCacheable, on_bare, boot}
+use Rattle.machine_model.specs.State.{Setting, State, Loosened, IsCacheable, boot}
+use Rattle.machine_model.specs.OnBare.{on_bare, end_on_bare, bound_on_bare}
 use Rattle.machine_model.specs.Step.{Report, step_of}
 use Rattle.machine_model.specs.Run.{Set, Steps, EndsIn, trace_of, with_set}
-use Rattle.machine_model.specs.Agreement.{RunsAgree, end_on_bare, bound_on_bare}
+use Rattle.machine_model.specs.Agreement.{RunsAgree}
 use Rattle.machine_model.specs.Joined.{StepsJoin}
 use Rattle.machine_model.proofs.Runs.{trace_join}
 use Rattle.checkpoint.specs.Legs.{Leg, in_mode, rested, Legs, Parts, sets_of, reports_of, LegsAreSteps, LegsAreARun, LegsAreParts, TracesJoin}

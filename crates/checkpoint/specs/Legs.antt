@@ -5,10 +5,10 @@ use Rattle.std.specs.List.{flat_map}
 use Rattle.std.specs.FinMap.{empty}
 use Rattle.paging.specs.Space.{Mode}
 use Rattle.run_trace.specs.declared.items.End.{End}
-use Rattle.machine_model.specs.State.{Setting, State, on_bare, boot}
+use Rattle.machine_model.specs.State.{Setting, State, boot}
+use Rattle.machine_model.specs.OnBare.{on_bare, end_on_bare, bound_on_bare}
 use Rattle.machine_model.specs.Step.{Report}
 use Rattle.machine_model.specs.Run.{Set, Steps, Run, EndsIn, trace_of, with_set}
-use Rattle.machine_model.specs.Agreement.{end_on_bare, bound_on_bare}
 
 -- the rules of a leg, the translations by which each of its steps went, and what the steps reported
 pub record Leg : Type 0 where

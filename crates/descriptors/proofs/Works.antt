@@ -6,7 +6,8 @@ use Rattle.paging.specs.declared.entry.Touch.{Touch}
 use Rattle.paging.specs.declared.entry.Touch.TheVariants.{Ready, Fault, Stop}
 use Rattle.paging.specs.Space.{Space}
 use Rattle.paging.specs.Uses.{uses}
-use Rattle.paging.specs.Agreement.{bare, bared, is_extra_stop, TouchAgrees, IsExtra, Agrees}
+use Rattle.paging.specs.Agreement.{bare, bared, TouchAgrees, IsExtra, Agrees}
+use Rattle.paging.specs.MonitorStops.{is_extra_stop}
 use Rattle.paging.proofs.Translations.{clash, uses_agree}
 use Rattle.paging.proofs.Works.{work_steps}
 use Rattle.descriptors.specs.declared.cpu.Cpu.{Cpu}

@@ -1,7 +1,7 @@
 //! Accesses to descriptors, gates and the task, for any way to refuse.
 
 ghost use Rattle.std.specs.Prelude.{◌≡◌, ◌+◌, ◌≤◌, OnOk};
-ghost use Rattle.paging.specs.Work.{Gives};
+ghost use Rattle.paging.specs.Gives.{Gives};
 ghost use Rattle.paging.specs.Ready.{IsReach};
 ghost use Rattle.paging.specs.Space.{earlier_of};
 ghost use Rattle.descriptors.specs.Segments.{slot};

@@ -3,12 +3,11 @@ use Rattle.std.proofs.Common.{◌≡◌, ℕ, ◌+◌, ◌*◌, ◌^◌, ◌<◌
 use Rattle.std.proofs.lemmas.Bool.Decides.{nat_tests}
 use Rattle.std.proofs.lemmas.Bool.{both_ways}
 use Rattle.ia32_types.specs.declared.size.Size.TheVariants.{Long}
-use Rattle.ia32_exec.specs.Memory.{IsAllAt}
+use Rattle.ia32_exec.specs.Readable.{IsAllAt, AreAll, Covers}
 use Rattle.ia32_exec.specs.Outcomes.{AreStored}
 use Rattle.ia32_exec.specs.declared.outcome.Stores.{Stores}
 use Rattle.ia32_exec.specs.declared.outcome.Stores.TheVariants.{Nothing, One, Eight}
 use Rattle.ia32_exec.specs.declared.access.Range.{Range}
-use Rattle.ia32_exec.specs.Ranges.{AreAll, Covers}
 use Rattle.host_cpl3.specs.declared.reach.Reach.{Reach}
 use Rattle.host_cpl3.specs.Pages.{place}
 use Rattle.host_cpl3.specs.Reaches.{holds, placed, IsReach, IsOf, IsRead, IsWritten}

@@ -7,8 +7,8 @@ use Rattle.ia32_types.specs.declared.size.Size.TheVariants.{Byte, Word, Long}
 use Rattle.ia32_exec.specs.declared.outcome.Store.{Store}
 use Rattle.ia32_exec.specs.declared.outcome.Stores.{Stores}
 use Rattle.ia32_exec.specs.declared.outcome.Stores.TheVariants.{Nothing, One, Eight}
-use Rattle.ia32_exec.specs.Memory.{store, IsAllAt}
-use Rattle.ia32_exec.specs.Ranges.{AreAll}
+use Rattle.ia32_exec.specs.Memory.{store}
+use Rattle.ia32_exec.specs.Readable.{IsAllAt, AreAll}
 use Rattle.ia32_exec.specs.Commit.{list_of, longs_to}
 use Rattle.ia32_exec.specs.Outcomes.{AreStored}
 use Rattle.paging.specs.Numbers.{number_stored}

@@ -3,8 +3,7 @@
 ghost use Rattle.std.specs.Prelude.{◌≡◌, ◌+◌, ◌*◌, ◌<◌, ◌^◌, length, ℕ};
 ghost use Rattle.ia32_types.specs.Size.{span};
 ghost use Rattle.guest_ram.specs.Bytes.{with_byte};
-ghost use Rattle.ia32_exec.specs.Memory.{IsAllAt};
-ghost use Rattle.ia32_exec.specs.Ranges.{AreAll};
+ghost use Rattle.ia32_exec.specs.Readable.{IsAllAt, AreAll};
 ghost use Rattle.ia32_exec.specs.Commit.{list_of, longs_to};
 ghost use Rattle.ia32_exec.specs.Outcomes.{AreStored};
 ghost use Rattle.host_cpl3.specs.Kept.{SameBut};

@@ -15,7 +15,8 @@ use Rattle.ia32_types.specs.Bits.{signed_at, fits_at, bits_at, signed, low}
 use Rattle.ia32_alu.specs.Product.{double_top, unsigned_product, signed_product, multiply}
 use Rattle.ia32_alu.specs.Quotient.{unsigned_quotient, signed_quotient, divide}
 use Rattle.ia32_alu.proofs.CompareRules.{low_small}
-use Rattle.ia32_alu.proofs.QuotientRules.{signed_of_bits, abs_signed, abs_some, fits_below, is_below}
+use Rattle.ia32_alu.proofs.QuotientRules.{signed_of_bits, abs_signed, abs_some, fits_below}
+use Rattle.ia32_alu.proofs.Above.{is_below}
 
 -- the halves of a number with twice the bits, joined again
 joined : (m n : ℕ) → 0 < m → n < m * m → n / m % m * m + n % m % m ≡ n

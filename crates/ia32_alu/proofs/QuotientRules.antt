@@ -14,6 +14,7 @@ use Rattle.ia32_alu.specs.Product.{double_top}
 use Rattle.ia32_alu.specs.Quotient.{unsigned_quotient, signed_quotient, divide}
 use Rattle.ia32_alu.specs.Division.{Divides, DividesSigned}
 use Rattle.ia32_alu.proofs.CompareRules.{low_small}
+use Rattle.ia32_alu.proofs.Above.{is_below}
 
 given : {A : Type 0} (P : A → Type 0) (b : Bool) (x : A) → (b ≡ true → P x) → IfSome (cond b (Some x) None) P
 given P true x h = h refl
@@ -163,9 +164,6 @@ only_quotient q d r less = div-eq_of_lt-le d (omega arith) (rw add-mul (omega ar
 
 not_zero : (d r : ℕ) → r < d → (d == 0) ≡ false
 not_zero d r less = grind (arith, nat_tests)
-
-pub is_below : (q n : ℕ) → q < n → nat_lt q n ≡ true
-is_below q n less = grind (arith, nat_tests)
 
 found : (s : Size) (q d r : ℕ) → r < d → q < span s → unsigned_quotient s (q * d + r) d ≡ Some (q, r)
 unfolding unsigned_quotient

@@ -8,3 +8,4 @@ pub mod Quotient
 pub mod Compare
 pub mod Range
 pub mod Division
+pub mod Families

@@ -17,7 +17,8 @@ use Rattle.ia32_exec.specs.Arithmetic.{arithmetic, tested, shifted, upper, with_
 use Rattle.ia32_exec.specs.Moves.{moved, moved_with_zeros, moved_with_sign, loaded_address, exchanged, widened, sign_spread}
 use Rattle.ia32_exec.specs.Stack.{pushed_number, pushed, popped, all_pushed, all_popped, frame_left, called, flags_pushed, is_foreign, top_of_stack, flags_popped}
 use Rattle.ia32_exec.specs.Control.{condition, jumped, jump, branched, set_by, flag_made}
-use Rattle.ia32_exec.specs.Strings.{IsString, is_over, turn, counted, string}
+use Rattle.ia32_exec.specs.Strings.{is_over, turn, counted, string}
+use Rattle.ia32_exec.specs.Readable.{IsString}
 use Rattle.ia32_exec.specs.Effect.{row, effect}
 use Rattle.ia32_exec.specs.EipAfter.{IsEipAfter, Leads, EipGoesOn}
 

@@ -33,7 +33,7 @@ use Rattle.ia32_exec.specs.Control.{condition, jump, jumped, branched, set_by, f
 use Rattle.ia32_exec.specs.Strings.{is_over, string, turn, moved_on, counted}
 use Rattle.ia32_exec.specs.Effect.{row, effect}
 use Rattle.ia32_types.specs.Places.{is_place}
-use Rattle.ia32_exec.specs.Transfers.{returned, jumped_through, called_through}
+use Rattle.ia32_exec.specs.UserTransfers.{returned, jumped_through, called_through}
 use Rattle.ia32_exec.specs.Selectors.{selector_to, read_from, pushed_from, selector_read, selector_pushed}
 use Rattle.ia32_exec.specs.UserEffect.{user_row, user_effect}
 use Rattle.ia32_exec.specs.FlagsAfter.{AreSet, AreKept, Leaves, SystemFlagsStay, InsensitiveStay}

@@ -24,7 +24,8 @@ use Rattle.ia32_exec.specs.declared.outcome.Stores.TheVariants.{Nothing, One}
 use Rattle.ia32_exec.specs.declared.selectors.Selectors.{Selectors}
 use Rattle.ia32_exec.specs.Memory.{number_at, store}
 use Rattle.ia32_exec.specs.Registers.{register_value, with_register, with_whole, address_of, eip_past}
-use Rattle.ia32_exec.specs.Ranges.{operand_range, AreAll, Covers}
+use Rattle.ia32_exec.specs.Ranges.{operand_range}
+use Rattle.ia32_exec.specs.Readable.{AreAll, Covers}
 use Rattle.ia32_exec.specs.Operands.{value_of, source_of, to_destination, kept_in, done}
 use Rattle.ia32_exec.specs.Arithmetic.{flagged, count_of, arithmetic, tested, shifted, with_halves, upper, multiplied, signed_by, signed_multiplied, product_to, multiplied_by, shared, divided}
 use Rattle.ia32_exec.specs.Moves.{loaded_address, moved, moved_with_zeros, moved_with_sign, exchanged}
@@ -33,7 +34,8 @@ use Rattle.ia32_exec.specs.Strings.{is_over, moved_on, string, turn, counted}
 use Rattle.ia32_exec.specs.Effect.{row, ranges_row, effect, ranges_of}
 use Rattle.ia32_types.specs.Places.{is_place}
 use Rattle.ia32_types.specs.Bits.{sign_extended}
-use Rattle.ia32_exec.specs.Transfers.{gone_to, returned, jumped_through, called_through}
+use Rattle.ia32_exec.specs.Transfers.{gone_to}
+use Rattle.ia32_exec.specs.UserTransfers.{returned, jumped_through, called_through}
 use Rattle.ia32_exec.specs.UserEffect.{user_row, user_effect}
 use Rattle.ia32_exec.specs.SameBytes.{SameOverRanges}
 

@@ -6,7 +6,8 @@ use Rattle.std.proofs.lemmas.Bool.Decides.{nat_tests}
 use Rattle.ia32_types.specs.declared.size.Size.TheVariants.{Long}
 use Rattle.ia32_types.specs.Size.{width}
 use Rattle.ia32_exec.specs.declared.outcome.Store.{Store}
-use Rattle.ia32_exec.specs.Memory.{with_bytes, store, stored, all_stored}
+use Rattle.ia32_exec.specs.Memory.{store}
+use Rattle.ia32_exec.specs.Stored.{with_bytes, stored, all_stored}
 use Rattle.ia32_exec.specs.Commit.{longs_to}
 use Rattle.ia32_exec.specs.Turns.{written, all_written}
 

@@ -20,7 +20,8 @@ use Rattle.ia32_exec.specs.Effect.{effect, row}
 use Rattle.ia32_exec.specs.Operands.{source_of, to_destination, done}
 use Rattle.ia32_exec.specs.Registers.{register_value, with_register, with_whole, eip_past}
 use Rattle.ia32_exec.specs.Stack.{pushed, pushed_number, popped, esp_below, esp_above, all_pushed, all_popped}
-use Rattle.ia32_exec.specs.Strings.{IsString, turn, counted, string}
+use Rattle.ia32_exec.specs.Strings.{turn, counted, string}
+use Rattle.ia32_exec.specs.Readable.{IsString}
 use Rattle.ia32_exec.specs.Turns.{written, all_written, RegsAndBytes, committed, after, turns, IsWhole, IsCountedOut}
 
 -- a byte of a number that was written, and one beside it

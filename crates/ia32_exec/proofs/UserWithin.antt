@@ -15,12 +15,13 @@ use Rattle.ia32_exec.specs.declared.outcome.Stores.{Stores}
 use Rattle.ia32_exec.specs.declared.outcome.Stores.TheVariants.{Nothing}
 use Rattle.ia32_exec.specs.declared.selectors.Selectors.{Selectors}
 use Rattle.ia32_exec.specs.Registers.{address_of, eip_past}
-use Rattle.ia32_exec.specs.Ranges.{operand_range, Covers}
+use Rattle.ia32_exec.specs.Ranges.{operand_range}
+use Rattle.ia32_exec.specs.Readable.{Covers}
 use Rattle.ia32_exec.specs.Effect.{ranges_row, ranges_of, effect}
 use Rattle.ia32_exec.specs.Outcomes.{AreStored, stores_of}
 use Rattle.ia32_exec.specs.Stack.{pushed_number}
 use Rattle.ia32_types.specs.Places.{is_place}
-use Rattle.ia32_exec.specs.Transfers.{returned, jumped_through, called_through}
+use Rattle.ia32_exec.specs.UserTransfers.{returned, jumped_through, called_through}
 use Rattle.ia32_exec.specs.Selectors.{selector_to, read_from, pushed_from, selector_read, selector_pushed}
 use Rattle.ia32_exec.specs.UserEffect.{user_row, user_effect}
 use Rattle.ia32_exec.proofs.Within.{within_row}

@@ -16,7 +16,7 @@ use Rattle.ia32_exec.specs.declared.outcome.Outcome.TheVariants.{Done, Raise, St
 use Rattle.ia32_exec.specs.declared.outcome.Stores.TheVariants.{Nothing}
 use Rattle.ia32_exec.specs.declared.access.Range.{Range}
 use Rattle.ia32_exec.specs.declared.access.Ranges.{Ranges}
-use Rattle.ia32_exec.specs.Ranges.{operand_range, Covers}
+use Rattle.ia32_exec.specs.Ranges.{operand_range}
 use Rattle.ia32_exec.specs.Registers.{eip_past, with_whole}
 use Rattle.ia32_exec.specs.Arithmetic.{arithmetic, tested, shifted, multiplied, signed_multiplied, multiplied_by, divided}
 use Rattle.ia32_exec.specs.Moves.{moved, moved_with_zeros, moved_with_sign, loaded_address, exchanged, widened, sign_spread}
@@ -156,8 +156,3 @@ ranges_row _ i r = record { read = None; write = None }
 
 unfoldable pub ranges_of : Insn → Regs → Ranges
 ranges_of i r = ranges_row i.op i r
-
--- every byte that is read may be read
-pub record IsReadReady (P : ℕ → Type 0) (x : Ranges) : Type 0 where
-  pub read : Covers P x.read
-  pub modified : Covers P x.write

@@ -6,7 +6,7 @@ use Rattle.ia32_types.specs.declared.insn.Op.{Op}
 use Rattle.ia32_types.specs.declared.insn.Op.TheVariants as op
 use Rattle.ia32_exec.specs.declared.outcome.Outcome.{Outcome}
 use Rattle.ia32_exec.specs.declared.outcome.Outcome.TheVariants.{Done, Raise, Stop}
-use Rattle.ia32_exec.specs.Strings.{IsString}
+use Rattle.ia32_exec.specs.Readable.{IsString}
 use Rattle.ia32_exec.specs.Effect.{effect}
 
 -- a direct branch

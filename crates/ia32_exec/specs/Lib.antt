@@ -20,3 +20,6 @@ pub mod EipAfter
 pub mod FlagsAfter
 pub mod SameBytes
 pub mod Digest
+pub mod Stored
+pub mod Readable
+pub mod UserTransfers

@@ -9,7 +9,7 @@ use Rattle.ia32_exec.specs.declared.outcome.Outcome.TheVariants as O
 use Rattle.ia32_exec.specs.declared.outcome.Effect.{Effect}
 use Rattle.ia32_exec.specs.declared.outcome.Effect.TheVariants as E
 use Rattle.ia32_exec.specs.declared.access.Ranges.{Ranges}
-use Rattle.ia32_exec.specs.Ranges.{AreAll, Covers}
+use Rattle.ia32_exec.specs.Readable.{AreAll, Covers}
 
 abbrev pub answer_of : Outcome → Effect
 answer_of (O.Done r ws) = E.Next

@@ -4,7 +4,7 @@ use Rattle.ia32_types.specs.declared.flags.Regs.{Regs}
 use Rattle.ia32_types.specs.declared.insn.Insn.{Insn}
 use Rattle.ia32_types.specs.Shape.{IsShaped}
 use Rattle.ia32_exec.specs.declared.selectors.Selectors.{Selectors}
-use Rattle.ia32_exec.specs.Ranges.{Covers}
+use Rattle.ia32_exec.specs.Readable.{Covers}
 use Rattle.ia32_exec.specs.Effect.{ranges_of}
 use Rattle.ia32_exec.specs.UserEffect.{user_effect}
 

@@ -23,13 +23,9 @@ selector_of g Cs = g.cs
 selector_of g Ss = g.ss
 selector_of g Ds = g.ds
 
--- MOV of a selector to a general register: the registers after it
-abbrev pub selector_moved : (register selector len : ℕ) → Regs → Regs
-selector_moved register selector len r = eip_past len (with_whole register selector r)
-
 -- a selector goes to a whole register, or to two bytes of memory
 abbrev pub selector_to : Operand → (selector len : ℕ) → Regs → Outcome
-selector_to (Register n) v len r = Done (selector_moved n v len r) Nothing
+selector_to (Register n) v len r = Done (eip_past len (with_whole n v r)) Nothing
 selector_to (Memory a) v len r = Done (eip_past len r) (One (store (address_of a r) Word v))
 selector_to _ v len r = Stop Unsupported
 

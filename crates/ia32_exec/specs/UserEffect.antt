@@ -9,7 +9,7 @@ use Rattle.ia32_types.specs.Shape.{IsDone}
 use Rattle.ia32_exec.specs.declared.outcome.Outcome.{Outcome}
 use Rattle.ia32_exec.specs.declared.selectors.Selectors.{Selectors}
 use Rattle.ia32_exec.specs.Effect.{effect}
-use Rattle.ia32_exec.specs.Transfers.{returned, jumped_through, called_through}
+use Rattle.ia32_exec.specs.UserTransfers.{returned, jumped_through, called_through}
 use Rattle.ia32_exec.specs.Selectors.{selector_read, selector_pushed}
 
 abbrev pub user_row : Op → Selectors → Insn → ℕ → Regs → (ℕ → ℕ) → Outcome

@@ -1,8 +1,8 @@
 //! `exec`: an instruction done in the registers and in memory.
 
 ghost use Rattle.std.specs.Prelude.{◌≡◌, ◌+◌, ◌*◌, ◌<◌, ℕ, length, slice_index};
-ghost use Rattle.ia32_exec.specs.Memory.{all_stored};
-ghost use Rattle.ia32_exec.specs.Ranges.{AreAll};
+ghost use Rattle.ia32_exec.specs.Stored.{all_stored};
+ghost use Rattle.ia32_exec.specs.Readable.{AreAll};
 ghost use Rattle.ia32_exec.specs.Effect.{effect, ranges_of};
 ghost use Rattle.ia32_types.specs.Shape.{IsShaped, IsDone};
 ghost use Rattle.ia32_exec.specs.Commit.{list_of, longs_to};
@@ -13,7 +13,7 @@ use crate::memory::{LinearMem, Reads};
 use crate::outcome::{Effect, Outcome, Stores};
 use ia32_types::{Insn, Regs, Size};
 
-#[tactic(auto, unfolding(crate::specs::Memory::all_stored))]
+#[tactic(auto, unfolding(crate::specs::Stored::all_stored))]
 fn write_eight<M: LinearMem>(at: u32, values: [u32; 8], mem: &mut M)
     requires { AreAll (M.writable mem.old) at 32 }
     ensures written { M.byte mem.new ≡ all_stored (M.same mem.old) (longs_to 8 at values) (M.byte mem.old) }
@@ -24,7 +24,7 @@ fn write_eight<M: LinearMem>(at: u32, values: [u32; 8], mem: &mut M)
     }
 }
 
-#[tactic(auto, unfolding(crate::specs::Memory::all_stored))]
+#[tactic(auto, unfolding(crate::specs::Stored::all_stored))]
 fn write_all<M: LinearMem>(stores: &Stores, mem: &mut M)
     requires { AreStored (M.writable mem.old) stores.now }
     ensures written { M.byte mem.new ≡ all_stored (M.same mem.old) (list_of stores.now) (M.byte mem.old) }
@@ -46,7 +46,7 @@ fn write_all<M: LinearMem>(stores: &Stores, mem: &mut M)
 /// site but PUSHF and POPF, and neither INT nor INT3, which the machines deliver themselves. The crate of
 /// the table shows that: its law `shapes` gives `shape`, and its law `done_by_registers` gives `kind`.
 /// Of `len` nothing is asked; EIP passes that many bytes.
-#[tactic(auto, unfolding(crate::specs::Memory::all_stored))]
+#[tactic(auto, unfolding(crate::specs::Stored::all_stored))]
 pub fn exec<M: LinearMem>(insn: &Insn, len: u8, regs: &mut Regs, mem: &mut M) -> Effect
     requires kind { IsDone insn.now.op }
     requires shape { IsShaped insn.now }

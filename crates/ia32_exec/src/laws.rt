@@ -7,10 +7,10 @@ ghost use Rattle.ia32_types.specs.declared.insn.Operand.TheVariants.{Register};
 ghost use Rattle.ia32_types.specs.declared.size.Size.TheVariants.{Long};
 ghost use Rattle.ia32_types.specs.Size.{width};
 ghost use Rattle.ia32_exec.specs.declared.outcome.Store.{Store as StoreView};
-ghost use Rattle.ia32_exec.specs.Memory.{stored, all_stored};
+ghost use Rattle.ia32_exec.specs.Stored.{stored, all_stored};
 ghost use Rattle.ia32_exec.specs.Operands.{source_of};
 ghost use Rattle.ia32_exec.specs.Registers.{with_register, eip_past};
-ghost use Rattle.ia32_exec.specs.Strings.{IsString};
+ghost use Rattle.ia32_exec.specs.Readable.{IsString};
 ghost use Rattle.ia32_exec.specs.Turns.{RegsAndBytes, after, all_written, turns, IsWhole, IsCountedOut};
 
 /// PUSH, and then POP into a register, puts what was pushed into that register, and leaves ESP and

@@ -2,9 +2,7 @@
 
 ghost use Rattle.std.specs.Prelude.{◌≡◌, ◌<◌, ◌≤◌, ◌+◌, ◌^◌, Some, slice_index};
 ghost use Rattle.ia32_types.specs.declared.size.Size.TheVariants.{Long};
-ghost use Rattle.ia32_exec.specs.Memory.{IsAllAt};
-ghost use Rattle.ia32_exec.specs.Ranges.{AreAll};
-ghost use Rattle.ia32_exec.specs.Operands.{IsReadable};
+ghost use Rattle.ia32_exec.specs.Readable.{IsAllAt, IsReadable, AreAll};
 ghost use Rattle.ia32_types.specs.Shape.{IsNamed};
 ghost use Rattle.ia32_exec.specs.Stack.{stack_of, esp_below, esp_above, pushed_number, pushed, top_of_stack, slot_of, popped, all_pushed, all_popped, frame_left, called, flags_pushed, is_foreign, taken, flags_popped};
 

@@ -3,11 +3,10 @@
 ghost use Rattle.std.specs.Prelude.{◌≡◌, ◌<◌, ◌+◌};
 ghost use Rattle.ia32_types.specs.declared.size.Size.TheVariants.{Long};
 ghost use Rattle.ia32_types.specs.Shape.{IsNamed};
-ghost use Rattle.ia32_exec.specs.Memory.{IsAllAt};
-ghost use Rattle.ia32_exec.specs.Operands.{IsReadable};
+ghost use Rattle.ia32_exec.specs.Readable.{IsAllAt, IsReadable};
 ghost use Rattle.ia32_exec.specs.Stack.{stack_of};
 ghost use Rattle.ia32_types.specs.Places.{is_place};
-ghost use Rattle.ia32_exec.specs.Transfers.{returned, jumped_through, called_through};
+ghost use Rattle.ia32_exec.specs.UserTransfers.{returned, jumped_through, called_through};
 
 use crate::memory::LinearBytes;
 use crate::operands::value_of;
@@ -23,7 +22,7 @@ fn is_place(operand: Operand) -> bool
 }
 
 /// RET.
-#[tactic(auto, unfolding(crate::specs::Transfers::returned))]
+#[tactic(auto, unfolding(crate::specs::UserTransfers::returned))]
 pub fn returned<M: LinearBytes>(insn: &Insn, regs: &Regs, mem: &M) -> Outcome
     requires { IsAllAt (M.readable mem.now) (stack_of regs.now) Long }
     ensures { result ≡ returned insn.now regs.now (M.byte mem.now) }
@@ -34,7 +33,7 @@ pub fn returned<M: LinearBytes>(insn: &Insn, regs: &Regs, mem: &M) -> Outcome
 }
 
 /// JMP through an operand.
-#[tactic(auto, unfolding(crate::specs::Transfers::jumped_through))]
+#[tactic(auto, unfolding(crate::specs::UserTransfers::jumped_through))]
 pub fn jumped_through<M: LinearBytes>(insn: &Insn, regs: &Regs, mem: &M) -> Outcome
     requires { IsReadable (M.readable mem.now) insn.now.a Long regs.now }
     ensures { result ≡ jumped_through insn.now regs.now (M.byte mem.now) }
@@ -47,7 +46,7 @@ pub fn jumped_through<M: LinearBytes>(insn: &Insn, regs: &Regs, mem: &M) -> Outc
 }
 
 /// CALL through an operand.
-#[tactic(auto, unfolding(crate::specs::Transfers::called_through))]
+#[tactic(auto, unfolding(crate::specs::UserTransfers::called_through))]
 pub fn called_through<M: LinearBytes>(insn: &Insn, len: u8, regs: &Regs, mem: &M) -> Outcome
     requires { IsReadable (M.readable mem.now) insn.now.a Long regs.now }
     ensures { result ≡ called_through insn.now len regs.now (M.byte mem.now) }

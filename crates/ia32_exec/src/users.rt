@@ -2,7 +2,8 @@
 
 ghost use Rattle.std.specs.Prelude.{◌≡◌};
 ghost use Rattle.ia32_types.specs.Shape.{IsShaped};
-ghost use Rattle.ia32_exec.specs.Effect.{ranges_of, IsReadReady};
+ghost use Rattle.ia32_exec.specs.Effect.{ranges_of};
+ghost use Rattle.ia32_exec.specs.Readable.{IsReadReady};
 ghost use Rattle.ia32_exec.specs.UserEffect.{user_effect, IsUserDone};
 
 use crate::effect_of::effect;

@@ -8,7 +8,8 @@ use Rattle.std.proofs.lemmas.Bool.Decides.{nat_tests}
 use Rattle.ia32_types.specs.declared.size.Size.{Size}
 use Rattle.ia32_types.specs.declared.size.Size.TheVariants.{Byte, Word, Long}
 use Rattle.ia32_types.specs.Size.{width}
-use Rattle.ia32_exec.specs.Memory.{with_byte, with_bytes, store, stored}
+use Rattle.ia32_exec.specs.Memory.{store}
+use Rattle.ia32_exec.specs.Stored.{with_byte, with_bytes, stored}
 use Rattle.instruction_vectors.specs.Flat.{put, byte_at, is_same}
 
 set_reads : (bs : List ℕ) (i v x : ℕ) → i < length bs → slice_index (slice_set bs i v) x ≡ cond (i == x) v (slice_index bs x)

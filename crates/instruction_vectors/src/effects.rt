@@ -93,7 +93,7 @@ impl Flat {
 }
 
 ghost use Rattle.std.specs.Prelude.{◌≡◌, ◌<◌, ◌≤◌, ◌+◌, true, ℕ};
-ghost use Rattle.ia32_exec.specs.Ranges.{Covers};
+ghost use Rattle.ia32_exec.specs.Readable.{Covers};
 ghost use Rattle.ia32_types.specs.Shape.{IsNamed, IsAlone, IsShaped, IsDone};
 
 fn is_inside(range: Option<Range>) -> bool

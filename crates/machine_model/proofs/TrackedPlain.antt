@@ -18,7 +18,8 @@ use Rattle.ia32_exec.specs.declared.outcome.Store.{Store}
 use Rattle.ia32_exec.specs.declared.outcome.Stores.{Stores}
 use Rattle.ia32_exec.specs.declared.outcome.Stores.TheVariants.{Nothing, One, Eight}
 use Rattle.ia32_exec.specs.Memory.{store}
-use Rattle.ia32_exec.specs.Ranges.{operand_range, AreAll, Covers}
+use Rattle.ia32_exec.specs.Ranges.{operand_range}
+use Rattle.ia32_exec.specs.Readable.{AreAll, Covers}
 use Rattle.ia32_exec.specs.Commit.{longs_to, list_of}
 use Rattle.ia32_exec.specs.Outcomes.{stores_of, AreStored}
 use Rattle.ia32_exec.specs.Strings.{is_over}

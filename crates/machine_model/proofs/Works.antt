@@ -13,7 +13,8 @@ use Rattle.paging.specs.declared.entry.Touch.TheVariants as touch
 use Rattle.paging.specs.Space.{Space, place}
 use Rattle.paging.specs.Uses.{fetches}
 use Rattle.paging.specs.Work.{Outcome}
-use Rattle.paging.specs.Agreement.{bare, bared, is_extra_stop, TouchAgrees, FetchesAgree, IsExtra, Agrees}
+use Rattle.paging.specs.Agreement.{bare, bared, TouchAgrees, FetchesAgree, IsExtra, Agrees}
+use Rattle.paging.specs.MonitorStops.{is_extra_stop}
 use Rattle.paging.proofs.Translations.{clash}
 use Rattle.paging.proofs.Works.{work_steps}
 use Rattle.sys_exec.specs.declared.effect.Refusal.{Refusal}
@@ -35,7 +36,8 @@ use Rattle.board.specs.Boards.{given, acknowledged}
 use Rattle.run_trace.specs.declared.items.What.{What}
 use Rattle.run_trace.specs.declared.items.What.TheVariants.{Irq}
 use Rattle.run_trace.specs.declared.items.End.TheVariants.{Bound, Stopped}
-use Rattle.machine_model.specs.State.{Setting, State, Loosened, on_bare, space_at_start}
+use Rattle.machine_model.specs.State.{Setting, State, Loosened, space_at_start}
+use Rattle.machine_model.specs.OnBare.{on_bare}
 use Rattle.machine_model.specs.Rules.{stands_well, may_leave}
 use Rattle.machine_model.specs.Instruction.{bytes_fetched, fetching, owning_front, owning_back, owned, fetched_on, fetched_by, fetched, is_plain, done_plainly, instructed}
 use Rattle.machine_model.specs.Step.{Report, Completed, Result, Went, Halts, concluded, entered, after_delivery, raised, code_of, after_effect, effect_on, after_software, interrupts_by, begun, by_op, by_decoded, after_refusal, after_fetch, fetches_next, begins_next, worked, interrupted, interrupt_of, by_interrupt, unheld, stepped, step_of}

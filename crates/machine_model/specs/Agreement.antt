@@ -1,15 +1,15 @@
 -- Under a monitor's rules a machine does what the bare machine does, until one of the monitor's own stops.
-use Rattle.std.specs.Prelude.{◌≡◌, ◌⊎◌, ℕ, Bool, true, false, List, Ok, if◌then◌else◌}
-use Rattle.paging.specs.Agreement.{is_extra_stop}
+use Rattle.std.specs.Prelude.{◌≡◌, ◌⊎◌, ℕ, Bool, true, false, List, Ok}
+use Rattle.paging.specs.MonitorStops.{is_extra_stop}
 use Rattle.paging.specs.Space.{Bare, Space}
 use Rattle.descriptors.specs.declared.cpu.Cpu.{Cpu}
 use Rattle.run_trace.specs.declared.items.End.{End}
-use Rattle.run_trace.specs.declared.items.End.TheVariants.{Bound, Stopped}
-use Rattle.machine_model.specs.State.{Setting, State, on_bare}
+use Rattle.machine_model.specs.State.{Setting, State}
 use Rattle.machine_model.specs.Rules.{stands_well, may_leave}
 use Rattle.machine_model.specs.Instruction.{owning_front, owning_back}
 use Rattle.machine_model.specs.Step.{Report, Result, Went, Halts, step_of}
 use Rattle.machine_model.specs.Run.{Set, Run}
+use Rattle.machine_model.specs.OnBare.{end_on_bare, bound_on_bare, on_bare}
 
 -- What the rules add to a step is nothing on the bare machine: code begins anywhere, IRET takes any flags, and no byte
 -- is owned.
@@ -27,15 +27,6 @@ is_extra (Halts stop) = is_extra_stop stop
 -- a step ends at such a stop, or is the bare machine's from the same state with the same set
 abbrev pub StepsAgree : Type 0
 StepsAgree = (m : Setting) (b : State) (set : Set) → (is_extra (step_of m b set) ≡ true) ⊎ (step_of (on_bare m) b set ≡ step_of m b set)
-
--- how a run that ends so is a run of the bare machine: where it ends at one of the monitor's stops, up to there
-abbrev pub end_on_bare : End → End
-end_on_bare Bound = Bound
-end_on_bare (Stopped stop) = if is_extra_stop stop then Bound else Stopped stop
-
-abbrev pub bound_on_bare : ℕ → State → End → ℕ
-bound_on_bare n last Bound = n
-bound_on_bare n last (Stopped stop) = if is_extra_stop stop then last.step else n
 
 -- a run is the bare machine's with the same sets and reports, and the same last state
 abbrev pub RunsAgree : Type 0

@@ -43,8 +43,7 @@ ranges_used cpu ranges = if is_refused cpu ranges then [] else uses_of (by_level
 
 abbrev pub range_uses : State → Decoded → List Use
 range_uses b (begins.Insn insn len) = ranges_used b.cpu (ranges_of insn b.cpu.regs)
-range_uses b begins.Short = []
-range_uses b begins.Outside = []
+range_uses b _ = []
 
 -- the pages that a fetch went through
 abbrev pub fetch_uses : State → List ℕ → List Use

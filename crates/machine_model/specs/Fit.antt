@@ -2,7 +2,8 @@
 use Rattle.std.specs.Prelude.{◌≡◌, ◌⊎◌, ℕ, ◌+◌, true, false, nat_lt, All, bit_and}
 use Rattle.descriptors.specs.declared.cpu.Cpu.{Cpu}
 use Rattle.descriptors.specs.declared.cpu.Hidden.{Hidden}
-use Rattle.descriptors.specs.Controls.{cr0_et, cr4_pse, control_0_needed, control_0_refused, control_3_refused}
+use Rattle.descriptors.specs.Controls.{control_0_needed, control_0_refused, control_3_refused}
+use Rattle.descriptors.specs.declared.controls.TheConstants.{CR0_ET, CR4_PSE}
 use Rattle.descriptors.specs.Segments.{seg_of}
 
 -- of the four levels of privilege these are used
@@ -27,10 +28,10 @@ pub record AreFlags (bits : ℕ) : Type 0 where
 -- the values that MOV to a control register takes: paging and protection are on, CR0.ET is 1, and of CR4 only PSE
 -- may be set
 pub record AreControls (cpu : Cpu) : Type 0 where
-  pub on : bit_and cpu.cr0 (control_0_needed + cr0_et) ≡ control_0_needed + cr0_et
+  pub on : bit_and cpu.cr0 (control_0_needed + CR0_ET) ≡ control_0_needed + CR0_ET
   pub others : bit_and cpu.cr0 control_0_refused ≡ 0
   pub directory : bit_and cpu.cr3 control_3_refused ≡ 0
-  pub extensions : (cpu.cr4 ≡ 0) ⊎ (cpu.cr4 ≡ cr4_pse)
+  pub extensions : (cpu.cr4 ≡ 0) ⊎ (cpu.cr4 ≡ CR4_PSE)
 
 pub record Fit (cpu : Cpu) : Type 0 where
   pub level : IsLevel cpu.cpl

@@ -53,8 +53,7 @@ abbrev pub owned : ℕ → Decoded → Work Refusal Decoded
 owned eip (begins.Insn insn len) = do
   _ ← owning_back (next_page eip) (len - front_len eip)
   gives (begins.Insn insn len)
-owned eip begins.Outside = gives begins.Outside
-owned eip begins.Short = gives begins.Short
+owned eip read = gives read
 
 -- With bytes of the next page behind those of the first. While it is translated, those of the first are the
 -- instruction's own.

@@ -43,9 +43,6 @@ held earlier b = held_by (reverse earlier) b.set
 abbrev pub clashes : Setting → List Taken → State → Bool
 clashes m earlier b = clashes_from m (record b { set = held earlier b })
 
-abbrev pub Clashes : Setting → List Taken → State → Type 0
-Clashes m earlier b = clashes m earlier b ≡ true
-
 -- the values that steps loaded into CR3
 abbrev pub root_in : Taken → List ℕ
 root_in t = if loads_root t then t.after.cpu.cr3 ∷ [] else []
@@ -89,7 +86,7 @@ Reloads m earlier last now set =
 abbrev pub Stays : Setting → List Taken → Taken → State → Set → Type 0
 Stays m earlier last now set =
     (set ≡ now.set)
-    ⊎ ((set ≡ empty) × (Clashes m earlier now ⊎ (changes_protection last ≡ true)))
+    ⊎ ((set ≡ empty) × ((clashes m earlier now ≡ true) ⊎ (changes_protection last ≡ true)))
 
 abbrev pub KeptBehind : Setting → List Taken → List Taken → State → Set → Type 0
 KeptBehind m earlier [] now set = set ≡ empty

@@ -5,7 +5,6 @@ use Rattle.std.specs.List.{list_any, filter, All}
 use Rattle.std.specs.FinMap.{get, empty, remove}
 use Rattle.run_trace.specs.Notes.{Note, emptied_at, dropped_at}
 use Rattle.machine_model.specs.State.{Setting, State}
-use Rattle.machine_model.specs.Step.{Report, Went, step_of}
 use Rattle.machine_model.specs.Run.{Set}
 use Rattle.machine_model.specs.Taken.{Taken, steps_by}
 
@@ -34,11 +33,6 @@ set_told notes step left = if list_any (is_emptied step) notes then empty else w
 -- the sets of a run are those that its notes tell
 pub record AreTold (m : Setting) (old : State) (sets : List Set) (notes : List Note) : Type 0 where
   pub each : (earlier : List Taken) (now : Taken) (later : List Taken) → steps_by m old sets ≡ earlier ++ now ∷ later → now.set ≡ set_told notes now.before.step now.before.set
-
--- where nothing is told each step goes by the translations that the one before left
-abbrev pub AreLeft : Setting → State → List Set → Type 0
-AreLeft m old [] = Unit {0}
-AreLeft m old (set ∷ sets) = (set ≡ old.set) × ((now : Report) (mid : State) → step_of m old set ≡ Went now mid → AreLeft m mid sets)
 
 -- steps that don't fall
 abbrev pub is_ordered : ℕ → List Note → Bool

@@ -1,6 +1,6 @@
 -- What a monitor's rules ask of a step beside its translations. The bare machine asks nothing.
 use Rattle.std.specs.Prelude.{ℕ, ◌/◌, ◌%◌, Bool, true, ◌&&◌, ◌||◌, not, ◌==◌}
-use Rattle.descriptors.specs.Controls.{eflags_if, eflags_iopl}
+use Rattle.descriptors.specs.declared.controls.TheConstants.{EFLAGS_IF, EFLAGS_IOPL}
 use Rattle.descriptors.specs.declared.cpu.Cpu.{Cpu}
 use Rattle.paging.specs.Fresh.{has}
 use Rattle.paging.specs.Space.{Mode, Bare, Wedge}
@@ -22,7 +22,7 @@ stands_well m cpu = may_begin m.mode m.image cpu.regs.eip || not (cpu.cpl == 0)
 
 -- a user's code runs with IF 1 and IOPL 0
 abbrev pub is_open : Cpu → Bool
-is_open cpu = has cpu.regs.flags.bits eflags_if && cpu.regs.flags.bits / eflags_iopl % 4 == 0
+is_open cpu = has cpu.regs.flags.bits EFLAGS_IF && cpu.regs.flags.bits / EFLAGS_IOPL % 4 == 0
 
 -- what an instruction of this processor may leave: from level 0 to level 3 it leads with such flags alone
 abbrev pub may_leave : Mode → Cpu → Cpu → Bool

@@ -9,7 +9,7 @@ use Rattle.descriptors.specs.declared.cpu.Cpu.{Cpu}
 use Rattle.paging.specs.declared.entry.Entry.{Entry}
 use Rattle.paging.specs.declared.entry.Walk.TheVariants.{Found}
 use Rattle.paging.specs.Fresh.{fresh, has}
-use Rattle.paging.specs.Space.{Mode, Bare, Wedge, no_own}
+use Rattle.paging.specs.Space.{Mode, Wedge, no_own}
 use Rattle.guest_ram.specs.Bytes.{word32}
 use Rattle.ia32_types.specs.declared.addresses.TheConstants.{TEXT_FRAME}
 use Rattle.board.specs.declared.devices.Board.{Board}
@@ -24,10 +24,6 @@ pub record Setting : Type 0 where
   pub image : Image
   pub script : Events
   pub frames : ℕ
-
--- the same on the bare machine
-abbrev pub on_bare : Setting → Setting
-on_bare m = record m { mode = Bare }
 
 -- A monitor's rules over so many frames of text: the loader gave it those from the text's first on, and no byte is an
 -- instruction's own yet.

@@ -11,7 +11,7 @@ use Rattle.ia32_types.specs.declared.insn.Op.{Op}
 use Rattle.ia32_types.specs.declared.insn.Op.TheVariants as op
 use Rattle.ia32_decode.specs.declared.answer.Decoded.{Decoded}
 use Rattle.ia32_decode.specs.declared.answer.Decoded.TheVariants as begins
-use Rattle.descriptors.specs.Controls.{eflags_if}
+use Rattle.descriptors.specs.declared.controls.TheConstants.{EFLAGS_IF}
 use Rattle.descriptors.specs.declared.cpu.Cpu.{Cpu}
 use Rattle.paging.specs.declared.entry.Entry.{Entry}
 use Rattle.paging.specs.Space.{Space}
@@ -161,8 +161,7 @@ by_op m o b insn len s = after_instruction m b (begun b insn) (instructed insn l
 
 abbrev pub by_decoded : Setting → State → Decoded → Space → Result
 by_decoded m b (begins.Insn insn len) s = by_op m insn.op b insn len s
-by_decoded m b begins.Short s = Halts stops.Unsupported
-by_decoded m b begins.Outside s = Halts stops.Unsupported
+by_decoded m b _ s = Halts stops.Unsupported
 
 -- a fetch that is denied raises a page fault
 abbrev pub after_refusal : Setting → State → Refusal → Space → Result
@@ -188,7 +187,7 @@ worked m b s = if b.cpu.halted then concluded [] None b b.cpu b.board s else beg
 
 -- the interrupt that the processor takes: one is pending, IF is 1 and deliveries are not held off
 abbrev pub interrupt_of : Cpu → Board → Option ℕ
-interrupt_of cpu board = if has cpu.regs.flags.bits eflags_if && not cpu.held then vector board else None
+interrupt_of cpu board = if has cpu.regs.flags.bits EFLAGS_IF && not cpu.held then vector board else None
 
 -- an external interrupt is acknowledged and delivered, which is the processor's whole work
 unfoldable pub interrupted : Setting → State → ℕ → Space → Result

@@ -7,7 +7,8 @@ use Rattle.event_entry.specs.declared.refusal.NotDelivered.{NotDelivered}
 use Rattle.event_entry.specs.declared.refusal.NotDelivered.TheVariants as not_delivered
 use Rattle.event_entry.specs.Deliver.{delivered}
 use Rattle.paging.specs.Space.{Space}
-use Rattle.paging.specs.Work.{Outcome, Gives}
+use Rattle.paging.specs.Work.{Outcome}
+use Rattle.paging.specs.Gives.{Gives}
 use Rattle.sys_exec.specs.declared.effect.Refusal.{Refusal}
 use Rattle.sys_exec.specs.declared.effect.Refusal.TheVariants as refusal
 use Rattle.sys_exec.specs.declared.effect.SysEffect.{SysEffect}

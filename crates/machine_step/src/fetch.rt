@@ -4,7 +4,7 @@ ghost use Rattle.std.specs.Prelude.{◌≡◌, ◌+◌, ◌*◌, ◌-◌, ◌/�
 ghost use Rattle.ia32_decode.specs.Decoding.{decoded};
 ghost use Rattle.ia32_decode.specs.Front.{front_len};
 ghost use Rattle.ia32_decode.specs.Spelled.{IsSpelled};
-ghost use Rattle.paging.specs.Work.{Gives};
+ghost use Rattle.paging.specs.Gives.{Gives};
 ghost use Rattle.step_mem.specs.Changes.{HasEntry};
 ghost use Rattle.step_mem.specs.Pages.{bytes_from};
 ghost use Rattle.step_mem.specs.Shown.{hidden};

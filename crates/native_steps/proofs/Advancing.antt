@@ -28,7 +28,7 @@ use Rattle.machine_model.specs.Step.{Report, Result, Went, step_of}
 use Rattle.machine_model.proofs.Runs.{went_there}
 use Rattle.machine_model.specs.Run.{Set, Steps, trace_of}
 use Rattle.machine_model.specs.Taken.{Taken, behind as steps_behind, is_load, steps_by}
-use Rattle.machine_model.specs.Notes.{AreLeft}
+use Rattle.machine_model.specs.Untold.{AreLeft}
 use Rattle.machine_model.specs.Counts.{is_direct, direct_in, direct_addresses, passed_on}
 use Rattle.native_steps.specs.Lends.{Lends, IsUnlent, AreKept}
 use Rattle.native_steps.specs.Mirrors.{IsWedge, Mirrors}

@@ -35,7 +35,7 @@ use Rattle.ia32_exec.specs.Stack.{stack_of, esp_below, esp_above, is_foreign, pu
 use Rattle.ia32_exec.specs.Stack as stack
 use Rattle.ia32_exec.specs.Effect.{ranges_row, ranges_of, effect}
 use Rattle.ia32_types.specs.Places.{is_place}
-use Rattle.ia32_exec.specs.Transfers.{returned, jumped_through, called_through}
+use Rattle.ia32_exec.specs.UserTransfers.{returned, jumped_through, called_through}
 use Rattle.ia32_exec.specs.Selectors.{selector_of}
 use Rattle.ia32_exec.specs.UserEffect.{user_row, user_effect}
 use Rattle.descriptors.specs.declared.cpu.Cpu.{Cpu}

@@ -20,7 +20,7 @@ use Rattle.ia32_types.specs.declared.stop.Stop.{Stop}
 use Rattle.ia32_types.specs.declared.stop.Stop.TheVariants as stops
 use Rattle.sys_exec.specs.declared.effect.SysEffect.TheVariants as effects
 use Rattle.ia32_exec.specs.declared.access.Range.{Range}
-use Rattle.ia32_exec.specs.Ranges.{Covers}
+use Rattle.ia32_exec.specs.Readable.{Covers}
 use Rattle.ia32_exec.specs.Short.{IsShort}
 use Rattle.ia32_exec.specs.Commit.{list_of}
 use Rattle.ia32_exec.specs.UserEffect.{user_effect}

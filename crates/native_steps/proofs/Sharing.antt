@@ -6,7 +6,7 @@ use Rattle.std.specs.FinMap.{get}
 use Rattle.descriptors.specs.Controls.{wp_of}
 use Rattle.guest_ram.specs.Bytes.{byte}
 use Rattle.ia32_exec.specs.declared.access.Range.{Range}
-use Rattle.ia32_exec.specs.Ranges.{Covers}
+use Rattle.ia32_exec.specs.Readable.{Covers}
 use Rattle.ia32_exec.specs.Short.{IsShort}
 use Rattle.paging.specs.declared.entry.Entry.{Entry}
 use Rattle.paging.specs.declared.entry.Walk.{Walk}

@@ -15,7 +15,7 @@ use Rattle.ia32_types.specs.Site.{kind_of}
 use Rattle.ia32_decode.specs.declared.answer.Decoded.TheVariants as begins
 use Rattle.ia32_exec.specs.declared.outcome.Outcome as exec
 use Rattle.ia32_exec.specs.declared.access.Range.{Range}
-use Rattle.ia32_exec.specs.Ranges.{Covers}
+use Rattle.ia32_exec.specs.Readable.{Covers}
 use Rattle.ia32_exec.specs.Effect.{ranges_of}
 use Rattle.ia32_exec.specs.UserEffect.{user_effect}
 use Rattle.descriptors.specs.declared.cpu.Cpu.{Cpu}

@@ -19,7 +19,7 @@ use Rattle.machine_model.specs.State.{Setting, State}
 use Rattle.machine_model.specs.Step.{Report, interrupt_of}
 use Rattle.machine_model.specs.Run.{Steps, trace_of}
 use Rattle.machine_model.specs.Taken.{Taken, is_load, steps_by}
-use Rattle.machine_model.specs.Notes.{AreLeft}
+use Rattle.machine_model.specs.Untold.{AreLeft}
 use Rattle.machine_model.specs.Counts.{direct_count, passed_digest}
 use Rattle.native_steps.specs.Lends.{Lends, IsUnlent, AreKept}
 use Rattle.native_steps.specs.Mirrors.{IsWedge, Mirrors}

@@ -15,7 +15,8 @@ use Rattle.paging.specs.declared.entry.Touch.TheVariants.{Ready, Fault, Stop}
 use Rattle.paging.specs.Space.{Mode, Bare, Wedge, Space}
 use Rattle.paging.specs.Fresh.{has, dir_place, is_large, fresh, grants}
 use Rattle.paging.specs.Uses.{Tables, tables_of, Decision, is_barred, window_stop, walks_text, marks_own, by_walk, decided, settled, usable, by_entry, page_uses, go_on, and_then, unready, made_ready, second_page, by_pages, by_window, uses, fetches}
-use Rattle.paging.specs.Agreement.{bare, is_extra_stop, is_extra, TouchAgrees, UsesAgree, FetchesAgree}
+use Rattle.paging.specs.Agreement.{bare, is_extra, TouchAgrees, UsesAgree, FetchesAgree}
+use Rattle.paging.specs.MonitorStops.{is_extra_stop}
 
 pub clash : false ≡ true → ⊥
 clash e = cc

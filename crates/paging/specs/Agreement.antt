@@ -1,36 +1,16 @@
 -- What the monitor's rules add: stops, and nothing else.
 use Rattle.std.specs.Prelude.{◌≡◌, ℕ, Bool, true, false, ◌⊎◌, Ok, Err}
-use Rattle.ia32_types.specs.declared.stop.Stop as reason
-use Rattle.ia32_types.specs.declared.stop.Stop.TheVariants as stops
 use Rattle.paging.specs.declared.entry.Access.{Access}
 use Rattle.paging.specs.declared.entry.Touch.{Touch}
 use Rattle.paging.specs.declared.entry.Touch.TheVariants.{Ready, Fault, Stop}
 use Rattle.paging.specs.Space.{Space, Bare}
 use Rattle.paging.specs.Uses.{uses, fetches}
 use Rattle.paging.specs.Work.{Outcome, Work}
+use Rattle.paging.specs.MonitorStops.{is_extra_stop}
 
 -- the same memory on the bare machine
 abbrev pub bare : Space → Space
 bare s = record s { mode = Bare }
-
--- the stops that the bare machine hasn't
-abbrev pub is_extra_stop : reason.Stop → Bool
-is_extra_stop stops.Unsupported = false
-is_extra_stop stops.BeyondRam = false
-is_extra_stop stops.WrapAccess = false
-is_extra_stop stops.DeliveryFailed = false
-is_extra_stop stops.ControlBits = false
-is_extra_stop stops.DeviceUse = false
-is_extra_stop stops.FlagBits = false
-is_extra_stop stops.SegmentForm = false
-is_extra_stop stops.TextTouched = true
-is_extra_stop stops.WedgeTouched = true
-is_extra_stop stops.LowTouched = true
-is_extra_stop stops.NotAStart = true
-is_extra_stop stops.TextMapped = true
-is_extra_stop stops.TableInText = true
-is_extra_stop stops.UserFlags = true
-is_extra_stop stops.CodeIsTable = true
 
 abbrev pub is_extra : Touch → Bool
 is_extra Ready = false

@@ -1,6 +1,9 @@
 -- What a touch makes ready, and what may be read and written by it for the rest of the step.
 use Rattle.std.specs.Prelude.{◌≡◌, ℕ, ◌+◌, ◌/◌, ◌<◌, ◌≤◌, ◌^◌, Bool, true, false, IfSome, IsSome}
 use Rattle.std.specs.FinMap.{get}
+use Rattle.ia32_types.specs.declared.size.Size.{Size}
+use Rattle.ia32_types.specs.declared.size.Size.TheVariants.{Byte, Word, Long}
+use Rattle.ia32_types.specs.Bytes.{size_in_bytes}
 use Rattle.paging.specs.declared.entry.Access.{Access}
 use Rattle.paging.specs.declared.entry.Touch.{Touch}
 use Rattle.paging.specs.declared.entry.Touch.TheVariants.{Ready, Fault, Stop}
@@ -48,3 +51,14 @@ pub record StaysReady (s t : Space) : Type 0 where
 -- each translation that is ready leaves what earlier ones made ready, so only a refused one takes it away
 abbrev pub RangesStay : Type 0
 RangesStay = (s : Space) (at len : ℕ) (access : Access) → (uses s at len access).0 ≡ Ready → StaysReady s (uses s at len access).1
+
+-- a number of that size
+abbrev pub FitsSize : Size → ℕ → Type 0
+FitsSize Byte v = v < 256
+FitsSize Word v = v < 65536
+FitsSize Long v = v < 2 ^ 32
+
+-- the range lies in what the touch before the last made ready
+pub record IsReadyEarlier (s : Space) (at : ℕ) (size : Size) : Type 0 where
+  pub above : s.earlier.start ≤ at
+  pub below : at + size_in_bytes size ≤ s.earlier.start + s.earlier.len

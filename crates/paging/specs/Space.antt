@@ -1,11 +1,10 @@
 -- What the guest's memory stands for within one step.
-use Rattle.std.specs.Prelude.{ℕ, ◌+◌, ◌-◌, ◌*◌, ◌/◌, ◌%◌, ◌<◌, ◌≤◌, ◌^◌, ◌==◌, List, [], ◌∷◌, Bool, Option, Some, None, if◌then◌else◌}
+use Rattle.std.specs.Prelude.{ℕ, ◌+◌, ◌-◌, ◌*◌, ◌/◌, ◌%◌, ◌==◌, List, [], ◌∷◌, Bool, Option, Some, None, if◌then◌else◌}
 use Rattle.std.specs.FinMap.{FinMap, get}
 use Rattle.std.specs.Ordering.{nat_cmp}
 use Rattle.guest_ram.specs.Bytes as bytes
 use Rattle.ia32_types.specs.declared.size.Size.{Size}
 use Rattle.ia32_types.specs.declared.size.Size.TheVariants.{Byte, Word, Long}
-use Rattle.ia32_types.specs.Bytes.{size_in_bytes}
 use Rattle.paging.specs.declared.entry.Entry.{Entry}
 use Rattle.paging.specs.Numbers.{number_stored}
 
@@ -61,17 +60,6 @@ pub record Space : Type 0 where
   pub ready : Span
   -- what the touch before it made ready
   pub earlier : Earlier
-
--- a number of that size
-abbrev pub FitsSize : Size → ℕ → Type 0
-FitsSize Byte v = v < 256
-FitsSize Word v = v < 65536
-FitsSize Long v = v < 2 ^ 32
-
--- the range lies in what the touch before the last made ready
-pub record IsReadyEarlier (s : Space) (at : ℕ) (size : Size) : Type 0 where
-  pub above : s.earlier.start ≤ at
-  pub below : at + size_in_bytes size ≤ s.earlier.start + s.earlier.len
 
 -- what was ready is what was ready earlier, once the next touch begins
 abbrev pub earlier_of : Space → Earlier

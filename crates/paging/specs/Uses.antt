@@ -134,8 +134,7 @@ page_uses s fetch page at access = by_entry (record s { pages = s.pages + 1; vis
 
 abbrev pub go_on : Touch → Space → (Space → Touch × Space) → Touch × Space
 go_on Ready s f = f s
-go_on (Fault code cr2) s f = (Fault code cr2, s)
-go_on (Stop stop) s f = (Stop stop, s)
+go_on met s f = (met, s)
 
 -- after what was met, the rest where it was ready
 abbrev pub and_then : Touch × Space → (Space → Touch × Space) → Touch × Space

@@ -1,5 +1,5 @@
 -- Work on memory as a list of accesses: each gives a value, or refuses and ends the work.
-use Rattle.std.specs.Prelude.{◌≡◌, ℕ, Bool, Result, Ok, Err, if◌then◌else◌}
+use Rattle.std.specs.Prelude.{ℕ, Bool, Result, Ok, Err, if◌then◌else◌}
 use Rattle.ia32_types.specs.declared.size.Size.{Size}
 use Rattle.paging.specs.Space.{Space, loaded, loaded_earlier, saved}
 
@@ -38,8 +38,3 @@ reads_earlier at size s = Ok (loaded_earlier s at size, s)
 
 abbrev pub writes : {E : Type 0} → ℕ → Size → ℕ → Work E (Unit {0})
 writes at size v s = Ok (tt, saved s at size v)
-
--- a function returned what the work gives, and left memory as the work does
-abbrev pub Gives : {E A : Type 0} → Result A E → Space → Outcome E A → Type 0
-Gives (Ok x) s outcome = outcome ≡ Ok (x, s)
-Gives (Err e) s outcome = outcome ≡ Err (e, s)

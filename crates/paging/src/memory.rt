@@ -2,8 +2,8 @@
 
 ghost use Rattle.std.specs.Prelude.{◌≡◌, ◌+◌, ◌≤◌, ◌^◌, ◌<◌, IsTrue};
 ghost use Rattle.ia32_types.specs.Bytes.{size_in_bytes};
-ghost use Rattle.paging.specs.Ready.{IsReadable, IsWritable, Readied};
-ghost use Rattle.paging.specs.Space.{Space, Earlier, Span, IsReadyEarlier, FitsSize, earlier_of, loaded, loaded_earlier, saved};
+ghost use Rattle.paging.specs.Ready.{IsReadable, IsWritable, Readied, IsReadyEarlier, FitsSize};
+ghost use Rattle.paging.specs.Space.{Space, Earlier, Span, earlier_of, loaded, loaded_earlier, saved};
 ghost use Rattle.paging.specs.Uses.{uses};
 
 use crate::entry::{Access, Touch};

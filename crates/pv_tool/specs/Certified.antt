@@ -11,7 +11,7 @@ use Rattle.run_trace.specs.Notes.{Note}
 use Rattle.machine_model.specs.State.{State, boot, wedge}
 use Rattle.machine_model.specs.Step.{Report}
 use Rattle.machine_model.specs.Run.{Set, Run}
-use Rattle.machine_model.specs.Agreement.{bound_on_bare, end_on_bare}
+use Rattle.machine_model.specs.OnBare.{bound_on_bare, end_on_bare}
 use Rattle.bare_machine.specs.Settings.{bare}
 use Rattle.wedge_core.specs.Counts.{CountsOn}
 use Rattle.wedge_core.specs.Promises.{HasMemory}

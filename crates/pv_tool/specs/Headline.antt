@@ -9,7 +9,7 @@ use Rattle.run_trace.specs.declared.items.End.{End}
 use Rattle.machine_model.specs.State.{boot, wedge}
 use Rattle.machine_model.specs.Run.{Run, stopping}
 use Rattle.machine_model.specs.Keeping.{Kept}
-use Rattle.machine_model.specs.Agreement.{bound_on_bare, end_on_bare}
+use Rattle.machine_model.specs.OnBare.{bound_on_bare, end_on_bare}
 use Rattle.bare_machine.specs.Settings.{bare}
 use Rattle.wedge_core.specs.Promises.{Promise}
 use Rattle.pv_build.specs.Statuses.{status_of}

@@ -11,7 +11,7 @@ use Rattle.run_trace.specs.Text.{text_of}
 use Rattle.machine_model.specs.State as model
 use Rattle.machine_model.specs.State.{boot}
 use Rattle.machine_model.specs.Run.{Run, EndsIn, trace_of, with_set, Set}
-use Rattle.machine_model.specs.Agreement.{bound_on_bare, end_on_bare}
+use Rattle.machine_model.specs.OnBare.{bound_on_bare, end_on_bare}
 use Rattle.bare_machine.specs.Settings.{bare}
 use Rattle.checkpoint.specs.declared.state.State.{State}
 use Rattle.checkpoint.specs.States.{checkpoint_bytes, checkpoint_in}

@@ -5,8 +5,7 @@ use Rattle.std.proofs.lemmas.Bool.Decides.{nat_tests}
 use Rattle.std.proofs.lemmas.Bool.{both_ways}
 use Rattle.ia32_exec.specs.declared.access.Range.{Range}
 use Rattle.ia32_exec.specs.declared.access.Ranges.{Ranges}
-use Rattle.ia32_exec.specs.Ranges.{Covers}
-use Rattle.ia32_exec.specs.Effect.{IsReadReady}
+use Rattle.ia32_exec.specs.Readable.{Covers, IsReadReady}
 use Rattle.step_mem.specs.declared.state.StepState.{StepState}
 use Rattle.sys_exec.specs.declared.effect.Refusal.{Refusal}
 use Rattle.step_exec.specs.Plain.{is_in}

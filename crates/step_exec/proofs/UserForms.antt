@@ -23,7 +23,8 @@ use Rattle.ia32_exec.specs.Registers.{register_value, with_whole, eip_past, addr
 use Rattle.ia32_exec.specs.Operands.{value_of}
 use Rattle.ia32_exec.specs.Stack.{stack_of, esp_below, esp_above, top_of_stack, is_foreign, taken, pushed_number, flags_pushed, flags_popped}
 use Rattle.ia32_types.specs.Places.{is_place, IsPlace, IsSegment, OperandsFit}
-use Rattle.ia32_exec.specs.Transfers.{gone_to, returned, jumped_through, called_through}
+use Rattle.ia32_exec.specs.Transfers.{gone_to}
+use Rattle.ia32_exec.specs.UserTransfers.{returned, jumped_through, called_through}
 use Rattle.ia32_exec.specs.Selectors.{selector_of, selector_to, read_from, pushed_from, selector_read, selector_pushed}
 use Rattle.ia32_exec.specs.Effect as plain
 use Rattle.ia32_exec.specs.Effect.{effect, ranges_of, ranges_row, on_stack}

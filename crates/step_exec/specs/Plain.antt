@@ -1,6 +1,6 @@
 -- Plain instructions over the memory of a step: null segments are tested, the read range is translated, then the
 -- write range, then the bytes are read and the numbers written.
-use Rattle.std.specs.Prelude.{◌≡◌, ℕ, ◌+◌, Bool, true, false, ◌&&◌, ◌||◌, not, nat_le, nat_lt, List, [], ◌∷◌, Option, Some, None, Result, Ok, Err, if◌then◌else◌}
+use Rattle.std.specs.Prelude.{ℕ, ◌+◌, Bool, true, false, ◌&&◌, ◌||◌, not, nat_le, nat_lt, List, [], ◌∷◌, Option, Some, None, Ok, Err, if◌then◌else◌}
 use Rattle.ia32_types.specs.declared.insn.Insn.{Insn}
 use Rattle.ia32_types.specs.declared.register.Seg.{Seg}
 use Rattle.ia32_exec.specs.declared.outcome.Outcome as exec
@@ -70,8 +70,3 @@ unfoldable pub executed : Insn → ℕ → Cpu → Work Refusal Cpu
 executed insn len cpu = do
   _ ← unless (refusal.Raise 13 0) (not (is_refused cpu (ranges_of insn cpu.regs)))
   translated insn len cpu
-
--- a function returned as the work does, and left the processor and memory that the work gives
-abbrev pub Does : Result (Unit {0}) Refusal → Cpu → Space → Outcome Refusal Cpu → Type 0
-Does (Ok done) cpu s outcome = outcome ≡ Ok (cpu, s)
-Does (Err refusal) cpu s outcome = outcome ≡ Err (refusal, s)

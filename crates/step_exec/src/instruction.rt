@@ -4,10 +4,11 @@ ghost use Rattle.std.specs.Prelude.{◌≡◌, ◌+◌, ◌≤◌, OnOk, OnErr};
 ghost use Rattle.ia32_types.specs.Shape.{IsShaped, IsDone};
 ghost use Rattle.ia32_exec.specs.Effect.{effect, ranges_of};
 ghost use Rattle.ia32_exec.specs.Short.{IsShort};
-ghost use Rattle.paging.specs.Work.{Gives};
+ghost use Rattle.paging.specs.Gives.{Gives};
 ghost use Rattle.step_mem.specs.Shown.{hidden};
 ghost use Rattle.step_mem.specs.Sound.{IsSoundOver, StaysIn, space};
-ghost use Rattle.step_exec.specs.Plain.{executed, Does};
+ghost use Rattle.descriptors.specs.Leaves.{Leaves};
+ghost use Rattle.step_exec.specs.Plain.{executed};
 ghost use Rattle.step_exec.specs.Divided.{both_reached, completed, divided, byte_of};
 ghost use Rattle.step_exec.specs.Ready.{AreMade};
 
@@ -36,7 +37,7 @@ pub fn plain<B: Kept>(
     requires sound { IsSoundOver B.Kept kept.now ram.old state.old }
     requires room { state.old.pages ≤ 60 }
     ensures sound { IsSoundOver B.Kept kept.now ram.new state.new }
-    ensures does { Does result cpu.new (space B.Kept kept.now ram.new state.new)
+    ensures does { Leaves result cpu.new (space B.Kept kept.now ram.new state.new)
         (executed insn.now len cpu.old (space B.Kept kept.now ram.old state.old)) }
     ensures refused { OnErr result (cpu.new ≡ cpu.old) }
     ensures pages { state.new.pages ≤ state.old.pages + 4 }
@@ -61,7 +62,7 @@ fn in_parts<B: Kept>(
     requires sound { IsSoundOver B.Kept kept.now ram.old state.old }
     requires room { state.old.pages ≤ 60 }
     ensures sound { IsSoundOver B.Kept kept.now ram.new state.new }
-    ensures does { Does result cpu.new (space B.Kept kept.now ram.new state.new)
+    ensures does { Leaves result cpu.new (space B.Kept kept.now ram.new state.new)
         (divided insn.now len cpu.old (space B.Kept kept.now ram.old state.old)) }
     ensures refused { OnErr result (cpu.new ≡ cpu.old) }
     ensures pages { state.new.pages ≤ state.old.pages + 4 }
@@ -142,7 +143,7 @@ fn complete_in<B: Kept>(
     requires sound { IsSoundOver B.Kept kept.now ram.old state.now }
     requires made { AreMade (ranges_of insn.now cpu.old.regs) state.now }
     ensures sound { IsSoundOver B.Kept kept.now ram.new state.now }
-    ensures does { Does result cpu.new (space B.Kept kept.now ram.new state.now)
+    ensures does { Leaves result cpu.new (space B.Kept kept.now ram.new state.now)
         (completed insn.now len cpu.old (space B.Kept kept.now ram.old state.now)) }
     ensures refused { OnErr result (cpu.new ≡ cpu.old) }
     ensures hidden { hidden state.now.guard state.now.control.frames ram.new ≡ hidden state.now.guard state.now.control.frames ram.old }

@@ -1,7 +1,7 @@
 //! Translating the ranges of an instruction.
 
 ghost use Rattle.std.specs.Prelude.{◌≡◌, ◌+◌, ◌≤◌, OnOk, Option};
-ghost use Rattle.paging.specs.Work.{Gives};
+ghost use Rattle.paging.specs.Gives.{Gives};
 ghost use Rattle.step_mem.specs.Sound.{IsSoundOver, StaysIn, space};
 ghost use Rattle.ia32_exec.specs.Short.{IsShort};
 ghost use Rattle.step_exec.specs.Plain.{reached, is_null, is_denied, is_refused};

@@ -1,7 +1,7 @@
 //! Writing what an instruction writes.
 
 ghost use Rattle.std.specs.Prelude.{◌≡◌, ◌+◌, ◌*◌, ◌≤◌, ◌<◌, ◌^◌, length, ⊤, ℕ};
-ghost use Rattle.ia32_exec.specs.Ranges.{AreAll};
+ghost use Rattle.ia32_exec.specs.Readable.{AreAll};
 ghost use Rattle.ia32_exec.specs.Commit.{list_of, longs_to};
 ghost use Rattle.ia32_exec.specs.Outcomes.{AreStored};
 ghost use Rattle.step_mem.specs.Shown.{hidden};

@@ -5,7 +5,8 @@ ghost use Rattle.step_mem.specs.Shown.{hidden};
 ghost use Rattle.step_mem.specs.Sound.{IsSoundOver, space};
 ghost use Rattle.sys_exec.specs.Asked.{IsAsked};
 ghost use Rattle.sys_exec.specs.Sys.{sys_work, told};
-ghost use Rattle.event_entry.specs.Deliver.{delivered, Delivers};
+ghost use Rattle.descriptors.specs.Leaves.{Leaves};
+ghost use Rattle.event_entry.specs.Deliver.{delivered};
 
 use crate::memory::StepMem;
 use descriptors::Cpu;
@@ -56,7 +57,7 @@ pub fn deliver_in<'g, B: Kept>(
     requires sound { IsSoundOver B.Kept kept.now ram.old state.old }
     requires pages { state.old.pages ≤ 48 }
     ensures sound { IsSoundOver B.Kept kept.now ram.new state.new }
-    ensures delivers { Delivers result cpu.new (space B.Kept kept.now ram.new state.new)
+    ensures delivers { Leaves result cpu.new (space B.Kept kept.now ram.new state.new)
         (delivered cpu.old vector kind code (space B.Kept kept.now ram.old state.old)) }
     ensures refused { OnErr result (cpu.new ≡ cpu.old) }
     ensures pages { state.new.pages ≤ state.old.pages + 16 }

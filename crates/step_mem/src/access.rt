@@ -4,8 +4,8 @@ ghost use Rattle.std.specs.Prelude.{◌≡◌, ◌+◌, ◌*◌, ◌/◌, ◌%�
 ghost use Rattle.guest_ram.specs.Bytes as in_ram;
 ghost use Rattle.std.specs.FinMap.{get};
 ghost use Rattle.ia32_types.specs.Bytes.{size_in_bytes};
-ghost use Rattle.paging.specs.Ready.{IsReadable, IsWritable};
-ghost use Rattle.paging.specs.Space.{FitsSize, IsReadyEarlier, loaded, loaded_earlier, place, place_by, saved, with_byte, with_ram};
+ghost use Rattle.paging.specs.Ready.{IsReadable, IsWritable, FitsSize, IsReadyEarlier};
+ghost use Rattle.paging.specs.Space.{loaded, loaded_earlier, place, place_by, saved, with_byte, with_ram};
 ghost use Rattle.paging.specs.Uses.{is_text};
 ghost use Rattle.step_mem.specs.Changes.{changed, AreWithin, HasEntry, HaveEntries};
 ghost use Rattle.step_mem.specs.Guard.{mode_of, IsLaid, IsApartAt};

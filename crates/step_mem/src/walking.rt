@@ -2,7 +2,8 @@
 
 ghost use Rattle.std.specs.Prelude.{◌≡◌, ◌+◌, ◌*◌, ◌≤◌, ◌<◌, ◌^◌, ◌++◌, length, drop, IfSome, IsSome, false};
 ghost use Rattle.paging.specs.Uses.{decided, walks_text, marks_own, fault_code, is_barred};
-ghost use Rattle.paging.specs.Fresh.{fresh, is_large, tables_read, FoundIn};
+ghost use Rattle.paging.specs.Fresh.{fresh, is_large, tables_read};
+ghost use Rattle.paging.specs.Walks.{FoundIn};
 ghost use Rattle.step_mem.specs.Guard.{mode_of, IsLaid};
 ghost use Rattle.step_mem.specs.Shown.{shown, hidden, IsFoundApart};
 ghost use Rattle.step_mem.specs.Tables.{tables};

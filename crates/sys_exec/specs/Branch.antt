@@ -2,7 +2,7 @@
 use Rattle.std.specs.Prelude.{ℕ, true, false}
 use Rattle.ia32_types.specs.declared.insn.Address.{Address}
 use Rattle.ia32_types.specs.declared.insn.Operand.{Operand}
-use Rattle.ia32_types.specs.declared.insn.Operand.TheVariants.{Absent, Register, Memory, Segment, Control}
+use Rattle.ia32_types.specs.declared.insn.Operand.TheVariants.{Register, Memory}
 use Rattle.ia32_types.specs.declared.size.Size.TheVariants.{Long}
 use Rattle.ia32_exec.specs.Registers.{address_of}
 use Rattle.ia32_exec.specs.Stack.{esp_below}
@@ -45,6 +45,4 @@ call_to (Register k) len cpu = do
 call_to (Memory a) len cpu = do
   target ← called_through a len cpu
   next (with_regs cpu (call target cpu.regs))
-call_to Absent len cpu = refuses unsupported
-call_to (Segment seg) len cpu = refuses unsupported
-call_to (Control k) len cpu = refuses unsupported
+call_to _ len cpu = refuses unsupported

@@ -4,7 +4,8 @@ use Rattle.ia32_types.specs.declared.insn.Operand.{Operand}
 use Rattle.ia32_types.specs.declared.insn.Operand.TheVariants.{Register, Control}
 use Rattle.ia32_types.specs.declared.stop.Stop.TheVariants as stops
 use Rattle.paging.specs.Work.{Work, ◌>>=◌, refuses, gives, unless}
-use Rattle.descriptors.specs.Controls.{cr0_et, cr4_pse, control_0_needed, control_0_refused, control_3_refused}
+use Rattle.descriptors.specs.Controls.{control_0_needed, control_0_refused, control_3_refused}
+use Rattle.descriptors.specs.declared.controls.TheConstants.{CR0_ET, CR4_PSE}
 use Rattle.descriptors.specs.declared.cpu.Cpu.{Cpu}
 use Rattle.sys_exec.specs.declared.effect.Refusal.{Refusal}
 use Rattle.sys_exec.specs.declared.effect.Refusal.TheVariants.{Stop}
@@ -19,7 +20,7 @@ control_stop = Stop stops.ControlBits
 abbrev pub load_control_0 : Cpu → ℕ → Work Refusal SysOutcome
 load_control_0 cpu v = do
   _ ← unless control_stop (bit_and v control_0_needed == control_0_needed && bit_and v control_0_refused == 0)
-  gives (record { cpu = record cpu { cr0 = bit_or v cr0_et }; effect = effects.Next })
+  gives (record { cpu = record cpu { cr0 = bit_or v CR0_ET }; effect = effects.Next })
 
 -- CR3: PWT and PCD and the frame may be given; the set is emptied
 abbrev pub load_control_3 : Cpu → ℕ → Work Refusal SysOutcome
@@ -29,12 +30,12 @@ load_control_3 cpu v = do
 
 -- a value of CR4 changes PSE
 abbrev pub changes_pse : Cpu → ℕ → Bool
-changes_pse cpu v = not (v / cr4_pse % 2 == cpu.cr4 / cr4_pse % 2)
+changes_pse cpu v = not (v / CR4_PSE % 2 == cpu.cr4 / CR4_PSE % 2)
 
 -- CR4: PSE may be given, and where it changes the set is emptied
 abbrev pub load_control_4 : Cpu → ℕ → Work Refusal SysOutcome
 load_control_4 cpu v = do
-  _ ← unless control_stop (v == 0 || v == cr4_pse)
+  _ ← unless control_stop (v == 0 || v == CR4_PSE)
   gives (record { cpu = record cpu { cr4 = v }; effect = if changes_pse cpu v then effects.DropAll else effects.Next })
 
 unfoldable pub load_control : Cpu → ℕ → ℕ → Work Refusal SysOutcome

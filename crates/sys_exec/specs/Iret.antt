@@ -8,7 +8,7 @@ use Rattle.ia32_types.specs.Bits.{bit}
 use Rattle.ia32_types.specs.Flags.{interrupt_at, flag_put}
 use Rattle.ia32_exec.specs.Stack.{is_foreign, taken}
 use Rattle.paging.specs.Work.{Work, ◌>>=◌, gives, unless, reads}
-use Rattle.descriptors.specs.Controls.{eflags_iopl}
+use Rattle.descriptors.specs.declared.controls.TheConstants.{EFLAGS_IOPL}
 use Rattle.descriptors.specs.Segments.{seg_of}
 use Rattle.descriptors.specs.declared.cpu.Cpu.{Cpu}
 use Rattle.descriptors.specs.declared.cpu.Hidden.{Hidden}
@@ -45,7 +45,7 @@ keeps_flags image = not (is_foreign image)
 
 -- the level is within IOPL
 abbrev pub is_within : Cpu → Bool
-is_within cpu = nat_le cpu.cpl (cpu.regs.flags.bits / eflags_iopl % 4)
+is_within cpu = nat_le cpu.cpl (cpu.regs.flags.bits / EFLAGS_IOPL % 4)
 
 -- IF is popped where the level is within IOPL
 abbrev pub with_interrupt : Cpu → Flags → ℕ → Flags

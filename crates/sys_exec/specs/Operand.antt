@@ -51,9 +51,7 @@ selector cpu (operands.Register k) = gives (reg_at cpu k % 0x10000)
 selector cpu (operands.Memory a) = do
   _ ← operand_reached cpu a 2 false
   reads (address_of a cpu.regs) sizes.Word
-selector cpu operands.Absent = refuses unsupported
-selector cpu (operands.Segment seg) = refuses unsupported
-selector cpu (operands.Control k) = refuses unsupported
+selector cpu _ = refuses unsupported
 
 -- a number of four bytes from a register or from memory
 unfoldable pub long_of : Cpu → Operand → Work Refusal ℕ
@@ -61,9 +59,7 @@ long_of cpu (operands.Register k) = gives (reg_at cpu k)
 long_of cpu (operands.Memory a) = do
   _ ← operand_reached cpu a 4 false
   reads (address_of a cpu.regs) sizes.Long
-long_of cpu operands.Absent = refuses unsupported
-long_of cpu (operands.Segment seg) = refuses unsupported
-long_of cpu (operands.Control k) = refuses unsupported
+long_of cpu _ = refuses unsupported
 
 -- the number on top of the stack
 unfoldable pub pulled : Cpu → Work Refusal ℕ

@@ -56,15 +56,11 @@ data_tests cpl sel d = do
   _ ← ends_if (protection sel) (nat_lt (dpl_of d) cpl || nat_lt (dpl_of d) (sel % 4))
   ends_if (absent 11 sel) (not (is_present d))
 
-abbrev pub data_loading : ℕ → ℕ → ℕ → Descriptor → Work Refusal Loading
-data_loading cpl sel high d = do
-  _ ← data_tests cpl sel d
-  gives (loading sel high d)
-
 unfoldable pub find_data : Cpu → ℕ → Work Refusal Loading
 find_data cpu sel = do
   pair ← selected cpu form_stop sel
-  data_loading cpu.cpl sel pair.1 (descriptor_of pair.0 pair.1)
+  _ ← data_tests cpu.cpl sel (descriptor_of pair.0 pair.1)
+  gives (loading sel pair.1 (descriptor_of pair.0 pair.1))
 
 -- the accessed flag is set where it is clear
 abbrev pub marked : Cpu → Loading → Work Refusal (Unit {0})
@@ -84,16 +80,12 @@ stack_tests cpl sel d = do
   _ ← ends_if (protection sel) (not (sel % 4 == cpl) || (is_code d || not (dpl_of d == cpl)))
   ends_if (absent 12 sel) (not (is_present d))
 
-abbrev pub stack_loading : ℕ → ℕ → ℕ → Descriptor → Work Refusal Loading
-stack_loading cpl sel high d = do
-  _ ← stack_tests cpl sel d
-  gives (loading sel high d)
-
 unfoldable pub find_stack : Cpu → ℕ → ℕ → Work Refusal Loading
 find_stack cpu cpl sel = do
   _ ← ends_if protection_0 (nat_lt sel 4)
   pair ← selected cpu form_stop sel
-  stack_loading cpl sel pair.1 (descriptor_of pair.0 pair.1)
+  _ ← stack_tests cpl sel (descriptor_of pair.0 pair.1)
+  gives (loading sel pair.1 (descriptor_of pair.0 pair.1))
 
 -- the code that an IRET goes to
 abbrev pub return_tests : ℕ → ℕ → Descriptor → Work Refusal (Unit {0})
@@ -103,16 +95,12 @@ return_tests cpl sel d = do
   _ ← ends_if (protection sel) (is_data d || (nat_lt (sel % 4) cpl || not (dpl_of d == sel % 4)))
   ends_if (absent 11 sel) (not (is_present d))
 
-abbrev pub return_loading : ℕ → ℕ → ℕ → Descriptor → Work Refusal Loading
-return_loading cpl sel high d = do
-  _ ← return_tests cpl sel d
-  gives (loading sel high d)
-
 unfoldable pub find_return : Cpu → ℕ → Work Refusal Loading
 find_return cpu sel = do
   _ ← ends_if protection_0 (nat_lt sel 4)
   pair ← selected cpu form_stop sel
-  return_loading cpu.cpl sel pair.1 (descriptor_of pair.0 pair.1)
+  _ ← return_tests cpu.cpl sel (descriptor_of pair.0 pair.1)
+  gives (loading sel pair.1 (descriptor_of pair.0 pair.1))
 
 -- the code that a far jump goes to; the register gets the level in use
 abbrev pub jump_tests : ℕ → ℕ → Descriptor → Work Refusal (Unit {0})
@@ -121,16 +109,12 @@ jump_tests cpl sel d = do
   _ ← ends_if (protection sel) (is_data d || (nat_lt cpl (sel % 4) || not (dpl_of d == cpl)))
   ends_if (absent 11 sel) (not (is_present d))
 
-abbrev pub jump_loading : ℕ → ℕ → ℕ → Descriptor → Work Refusal Loading
-jump_loading cpl sel high d = do
-  _ ← jump_tests cpl sel d
-  gives (loading (sel / 4 * 4 + cpl % 4) high d)
-
 unfoldable pub find_jump : Cpu → ℕ → Work Refusal Loading
 find_jump cpu sel = do
   _ ← ends_if protection_0 (nat_lt sel 4)
   pair ← selected cpu form_stop sel
-  jump_loading cpu.cpl sel pair.1 (descriptor_of pair.0 pair.1)
+  _ ← jump_tests cpu.cpl sel (descriptor_of pair.0 pair.1)
+  gives (loading (sel / 4 * 4 + cpu.cpl % 4) pair.1 (descriptor_of pair.0 pair.1))
 
 -- the task register: type 1, a task of 16 bits, is not told; the task must be available, and becomes busy
 abbrev pub is_old_task : ℕ → Bool
@@ -141,10 +125,7 @@ as_task sel (forms.Task base limit present busy) = do
   _ ← ends_if (protection sel) busy
   _ ← ends_if (absent 11 sel) (not present)
   gives (record { sel = sel; base = base; limit = limit; loaded = true })
-as_task sel (forms.Code dpl present used) = refuses (protection sel)
-as_task sel (forms.Plain dpl present used) = refuses (protection sel)
-as_task sel forms.System = refuses (protection sel)
-as_task sel forms.Foreign = refuses (protection sel)
+as_task sel _ = refuses (protection sel)
 
 unfoldable pub load_task : Cpu → ℕ → Work Refusal Task
 load_task cpu sel = do

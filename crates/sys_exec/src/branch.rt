@@ -1,7 +1,7 @@
 //! RET, and jumps and calls through a register or memory.
 
 ghost use Rattle.std.specs.Prelude.{◌≡◌, ◌+◌, ◌*◌, ◌≤◌, ◌<◌, ◌^◌};
-ghost use Rattle.paging.specs.Work.{Gives};
+ghost use Rattle.paging.specs.Gives.{Gives};
 ghost use Rattle.sys_exec.specs.Branch.{return_to, jump_to, called_through, call_to};
 ghost use Rattle.sys_exec.specs.Asked.{GivesAsked};
 

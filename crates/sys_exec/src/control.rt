@@ -1,7 +1,7 @@
 //! MOV to and from the control registers.
 
 ghost use Rattle.std.specs.Prelude.{◌≡◌, ◌==◌, ◌&&◌, bit_and};
-ghost use Rattle.paging.specs.Work.{Gives};
+ghost use Rattle.paging.specs.Gives.{Gives};
 ghost use Rattle.paging.specs.Space.{Space};
 ghost use Rattle.descriptors.specs.Controls.{control_0_needed, control_0_refused};
 ghost use Rattle.sys_exec.specs.Control.{load_control, write_control, control_of, read_control};

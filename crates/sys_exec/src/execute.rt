@@ -1,7 +1,7 @@
 //! One sensitive instruction.
 
 ghost use Rattle.std.specs.Prelude.{◌≡◌, ◌+◌, ◌*◌, ◌/◌, ◌%◌, ◌≤◌, ◌<◌, ◌^◌, length};
-ghost use Rattle.paging.specs.Work.{Gives};
+ghost use Rattle.paging.specs.Gives.{Gives};
 ghost use Rattle.sys_exec.specs.Sys.{sys_work, told};
 ghost use Rattle.sys_exec.specs.Asked.{IsAsked, GivesAsked};
 

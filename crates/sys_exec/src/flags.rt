@@ -1,7 +1,7 @@
 //! The interrupt flag, the flags on the stack, and HLT.
 
 ghost use Rattle.std.specs.Prelude.{◌≡◌, ◌+◌, ◌*◌, ◌≤◌};
-ghost use Rattle.paging.specs.Work.{Gives};
+ghost use Rattle.paging.specs.Gives.{Gives};
 ghost use Rattle.paging.specs.Space.{Space};
 ghost use Rattle.sys_exec.specs.Flags.{with_flags, clear_interrupts, set_interrupts, halt, push_flags, pop_flags};
 ghost use Rattle.sys_exec.specs.Asked.{GivesAsked};

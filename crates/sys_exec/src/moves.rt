@@ -2,7 +2,7 @@
 
 ghost use Rattle.std.specs.Prelude.{◌≡◌, ◌+◌, ◌*◌, ◌%◌, ◌≤◌, ◌<◌, ◌^◌};
 ghost use Rattle.ia32_types.specs.declared.register.Seg.TheVariants.{Ss};
-ghost use Rattle.paging.specs.Work.{Gives};
+ghost use Rattle.paging.specs.Gives.{Gives};
 ghost use Rattle.sys_exec.specs.Move.{selector_kept, read_seg, data_loaded, load_by, load_seg, push_seg, pop_seg, far_jump};
 ghost use Rattle.sys_exec.specs.Asked.{GivesAsked};
 

@@ -1,7 +1,7 @@
 //! Operands of one instruction, the stack, and how an instruction ends.
 
 ghost use Rattle.std.specs.Prelude.{◌≡◌, ◌+◌, ◌*◌, ◌%◌, ◌≤◌, ◌<◌, ◌^◌, OnOk};
-ghost use Rattle.paging.specs.Work.{Gives};
+ghost use Rattle.paging.specs.Gives.{Gives};
 ghost use Rattle.paging.specs.Ready.{IsReach};
 ghost use Rattle.ia32_exec.specs.Registers.{address_of, with_whole, eip_past};
 ghost use Rattle.ia32_exec.specs.Ranges.{segment_of};

@@ -1,7 +1,7 @@
 //! IN and OUT. The machine does the access itself.
 
 ghost use Rattle.std.specs.Prelude.{◌≡◌, ◌%◌, ◌<◌, false, if◌then◌else◌};
-ghost use Rattle.paging.specs.Work.{Gives};
+ghost use Rattle.paging.specs.Gives.{Gives};
 ghost use Rattle.paging.specs.Space.{Space};
 ghost use Rattle.sys_exec.specs.Port.{is_wide, port_of, port_in, port_out};
 ghost use Rattle.sys_exec.specs.Asked.{GivesAsked};

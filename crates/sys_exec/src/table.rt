@@ -1,7 +1,7 @@
 //! The registers of the descriptor tables and of the task, and INVLPG.
 
 ghost use Rattle.std.specs.Prelude.{◌≡◌, ◌+◌, ◌*◌, ◌≤◌, ◌<◌, ◌^◌, OnOk};
-ghost use Rattle.paging.specs.Work.{Gives};
+ghost use Rattle.paging.specs.Gives.{Gives};
 ghost use Rattle.paging.specs.Space.{Space};
 ghost use Rattle.sys_exec.specs.Table.{table_at, load_gdt, load_idt, load_tr, drop_at, drop_page};
 ghost use Rattle.sys_exec.specs.Asked.{IsAsked, GivesAsked};

@@ -8,7 +8,7 @@ use Rattle.std.specs.Ordering.{nat_cmp}
 use Rattle.std.proofs.lemmas.Bool.Decides.{eqb_tells}
 use Rattle.std.proofs.lemmas.Cmp.{nat_cmp_total}
 use Rattle.ia32_types.specs.declared.stop.Stop.{Stop}
-use Rattle.paging.specs.Agreement.{is_extra_stop}
+use Rattle.paging.specs.MonitorStops.{is_extra_stop}
 use Rattle.paging.proofs.WithEntry.{get_with_same, get_with_other}
 use Rattle.board.specs.Scripts.{Events}
 use Rattle.image_check.specs.Image.{Image}
@@ -16,7 +16,8 @@ use Rattle.run_trace.specs.Notes.{Note, emptied_at, dropped_at}
 use Rattle.run_trace.specs.declared.items.End.{End}
 use Rattle.run_trace.specs.declared.items.End.TheVariants.{Bound, Stopped}
 use Rattle.run_trace.specs.Text.{lines_of, text_of}
-use Rattle.machine_model.specs.State.{Setting, State, boot, wedge, on_bare}
+use Rattle.machine_model.specs.State.{Setting, State, boot, wedge}
+use Rattle.machine_model.specs.OnBare.{on_bare}
 use Rattle.machine_model.specs.Step as steps
 use Rattle.machine_model.specs.Step.{Report, Went, Halts, step_of}
 use Rattle.machine_model.specs.Run.{Set, Steps, trace_of}

@@ -1,7 +1,7 @@
 -- What a judgement says of runs of the bare machine, and what notes say of a judgement.
 use Rattle.std.specs.Prelude.{◌≡◌, ℕ, ◌≤◌, true, cond, List, [], ◌∷◌, Ok}
 use Rattle.ia32_types.specs.declared.stop.Stop.{Stop}
-use Rattle.paging.specs.Agreement.{is_extra_stop}
+use Rattle.paging.specs.MonitorStops.{is_extra_stop}
 use Rattle.board.specs.Scripts.{Events}
 use Rattle.image_check.specs.Image.{Image}
 use Rattle.run_trace.specs.Notes.{Note}

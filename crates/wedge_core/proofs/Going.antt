@@ -22,7 +22,8 @@ use Rattle.machine_model.specs.Run.{Set, Steps, trace_of, with_set}
 use Rattle.machine_model.specs.Taken.{Taken, steps_by}
 use Rattle.machine_model.specs.Clash.{clashes_from}
 use Rattle.machine_model.specs.Keeping.{Roomy, Kept}
-use Rattle.machine_model.specs.Notes.{AreLeft, AreNotes, is_dropped, set_told}
+use Rattle.machine_model.specs.Notes.{AreNotes, is_dropped, set_told}
+use Rattle.machine_model.specs.Untold.{AreLeft}
 use Rattle.machine_model.proofs.Splits.{none_some}
 use Rattle.machine_model.proofs.Counted.{same_step, steps_counted}
 use Rattle.machine_model.proofs.Texts.{lines_join}

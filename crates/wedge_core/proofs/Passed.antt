@@ -6,7 +6,7 @@ use Rattle.machine_model.specs.State.{Setting, State, Loosened}
 use Rattle.machine_model.specs.Step.{Report, Result, Went, step_of}
 use Rattle.machine_model.specs.Run.{Set, Steps}
 use Rattle.machine_model.specs.Taken.{Taken, behind, steps_by}
-use Rattle.machine_model.specs.Notes.{AreLeft}
+use Rattle.machine_model.specs.Untold.{AreLeft}
 use Rattle.machine_model.specs.Keeping.{Roomy, Kept, IsLeftBehind}
 use Rattle.native_steps.specs.Stretch.{IsQuiet}
 use Rattle.kept_laws.specs.Known.{IsNextKept, IsPast}

@@ -17,15 +17,14 @@ use Rattle.machine_model.specs.State.{Setting, State, Loosened, space_at_start}
 use Rattle.machine_model.specs.Step.{Result, Went, step_of, stepped, by_interrupt, interrupt_of, unheld}
 use Rattle.machine_model.specs.Run.{Set, Steps, trace_of}
 use Rattle.machine_model.specs.Taken.{Taken, behind, steps_by}
-use Rattle.machine_model.specs.Notes.{AreLeft}
-use Rattle.machine_model.proofs.Runs.{no_steps}
+use Rattle.machine_model.specs.Untold.{AreLeft}
+use Rattle.machine_model.proofs.Runs.{no_steps, went_there}
 use Rattle.sites.specs.declared.site.Site.{Site}
 use Rattle.machine_model.specs.Counts.{direct_addresses, passed_on}
 use Rattle.machine_model.specs.Resting.{resting, nothing}
 use Rattle.native_steps.specs.Stretch.{IsQuiet}
 use Rattle.wedge_core.specs.Slices.{Counts, CountsOn}
 use Rattle.wedge_core.specs.Stepping.{Passes}
-use Rattle.machine_model.proofs.Runs.{went_there}
 use Rattle.machine_model.proofs.HaltedSteps.{halted_works}
 
 neither : (a b : Bool) → (a || b) ≡ false → (a ≡ false) × (b ≡ false)

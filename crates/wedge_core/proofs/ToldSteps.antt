@@ -7,7 +7,8 @@ use Rattle.machine_model.proofs.Splits.{heads, tails, none_some}
 use Rattle.machine_model.specs.Step.{Report, Result, Went, Halts, step_of}
 use Rattle.machine_model.specs.Run.{Set, Steps, with_set}
 use Rattle.machine_model.specs.Taken.{Taken, behind, steps_by}
-use Rattle.machine_model.specs.Notes.{AreTold, AreLeft, set_told}
+use Rattle.machine_model.specs.Notes.{AreTold, set_told}
+use Rattle.machine_model.specs.Untold.{AreLeft}
 use Rattle.wedge_core.specs.Noted.{emptied_if}
 use Rattle.wedge_core.proofs.EmptiedNotes.{IsUpTo, told_none, told_before}
 use Rattle.machine_model.proofs.Runs.{went_there}

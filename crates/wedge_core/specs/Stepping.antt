@@ -8,7 +8,7 @@ use Rattle.machine_model.specs.State.{Setting, State}
 use Rattle.machine_model.specs.Step.{Report, Went, Halts, stepped, items_at}
 use Rattle.machine_model.specs.Run.{Set, Steps, trace_of, with_set}
 use Rattle.machine_model.specs.Taken.{steps_by}
-use Rattle.machine_model.specs.Notes.{AreLeft}
+use Rattle.machine_model.specs.Untold.{AreLeft}
 use Rattle.native_steps.specs.Stretch.{IsQuiet}
 use Rattle.wedge_step.specs.Parts.{left_of, IsLeft}
 use Rattle.wedge_core.specs.Counts.{Counts, CountsOn}

@@ -9,7 +9,7 @@ ghost use Rattle.shadow_tables.specs.OtherRoot.{AreSame};
 ghost use Rattle.shadow_tables.specs.Entries.{entries_of};
 ghost use Rattle.ia32_rows.specs.Spells.{Spells};
 ghost use Rattle.image_check.specs.Image.{Image};
-ghost use Rattle.paging.specs.Work.{Gives};
+ghost use Rattle.paging.specs.Gives.{Gives};
 ghost use Rattle.step_mem.specs.Sound.{FetchesIn, IsSoundOver, StaysIn, space};
 ghost use Rattle.machine_model.specs.Alone.{is_native};
 ghost use Rattle.machine_model.specs.State.{Setting, State as Whole};

@@ -2,8 +2,8 @@
 
 ghost use Rattle.std.specs.Prelude.{◌≡◌, ◌+◌, ◌/◌, ◌%◌, ◌≤◌, ◌^◌, false};
 ghost use Rattle.ia32_types.specs.Bytes.{size_in_bytes};
-ghost use Rattle.paging.specs.Ready.{HasRange, IsReadable, IsWritable, Readied};
-ghost use Rattle.paging.specs.Space.{FitsSize, IsReadyEarlier, earlier_of, loaded, loaded_earlier, saved};
+ghost use Rattle.paging.specs.Ready.{HasRange, IsReadable, IsWritable, Readied, FitsSize, IsReadyEarlier};
+ghost use Rattle.paging.specs.Space.{earlier_of, loaded, loaded_earlier, saved};
 ghost use Rattle.paging.specs.Uses.{fetches, uses};
 ghost use Rattle.step_mem.specs.Sound.{IsSoundOver, space};
 ghost use Rattle.wedge_mem.specs.Progress.{IsGoingOver, IsTheSame, KeepsBeyond, KeepsOthers, owning, space_in};

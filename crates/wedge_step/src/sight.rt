@@ -3,7 +3,8 @@
 ghost use Rattle.std.specs.Prelude.{◌≡◌, ◌+◌, ◌*◌, ◌/◌, ◌≤◌, ◌<◌, ◌^◌, length};
 ghost use Rattle.guest_ram.specs.Bytes.{AreBytes, byte, word32};
 ghost use Rattle.ia32_types.specs.declared.addresses.TheConstants.{TEXT_PLACE};
-ghost use Rattle.paging.specs.Fresh.{fresh, FoundIn};
+ghost use Rattle.paging.specs.Fresh.{fresh};
+ghost use Rattle.paging.specs.Walks.{FoundIn};
 ghost use Rattle.native_steps.specs.Mirrors.{shown};
 ghost use Rattle.wedge_step.specs.Standing.{ground};
 

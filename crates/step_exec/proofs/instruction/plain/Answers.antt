@@ -3,7 +3,7 @@ use Rattle.descriptors.specs.declared.cpu.Cpu.{Cpu}
 use Rattle.paging.specs.Work.{Outcome}
 use Rattle.sys_exec.specs.declared.effect.Refusal.{Refusal}
 use Rattle.step_mem.specs.Sound.{space}
-use Rattle.step_exec.specs.Plain.{Does}
+use Rattle.descriptors.specs.Leaves.{Leaves}
 use Rattle.step_exec.proofs.Divided.{executed_divides}
 use Rattle.step_exec.proofs.instruction.plain.Goals as goal
 
@@ -11,5 +11,5 @@ pub returns-clause-does : goal.returns-clause-does
 returns-clause-does g c =
     let a = c.args in
     let s = space g.B.Kept a.kept.now in
-    subst (λ (o : Outcome Refusal Cpu). Does c.in_parts.result c.in_parts.new.cpu (s c.in_parts.new.ram c.in_parts.new.state) o)
+    subst (λ (o : Outcome Refusal Cpu). Leaves c.in_parts.result c.in_parts.new.cpu (s c.in_parts.new.ram c.in_parts.new.state) o)
     (sym (executed_divides a.insn.now a.len a.cpu.now (s a.ram.now a.state.now))) c.in_parts.ensures.does
