@@ -13,7 +13,7 @@ use Rattle.machine_model.specs.State.{Setting}
 use Rattle.machine_model.specs.Step.{Went, step_of}
 use Rattle.machine_model.specs.Run.{Set}
 use Rattle.machine_model.specs.Taken.{Taken, loads_root, changes_protection}
-use Rattle.machine_model.specs.Keeping.{IsLeftBehind, LeftBehind}
+use Rattle.machine_model.specs.Keeping.{IsLeftBehind, KeptBehind, Stays}
 use Rattle.kept_laws.specs.Remembered.{ComesFrom, Unwritten, IsOwed, IsRemembered}
 use Rattle.kept_laws.specs.OverSteps.{IsTold, IsCause}
 use Rattle.kept_laws.specs.Judged.{AllFound, IsFoundStill, FoundGoesOn}
@@ -58,11 +58,14 @@ IsBack m steps t kept = loads_root t ≡ true → (old : List Taken) (left : Tak
 
 -- so the rule lets it be left
 left_over : (m : Setting) (steps : List Taken) (t : Taken) (kept : Set) → IsLeft t kept → IsBack m steps t kept → IsLeftBehind m (steps ++ t ∷ []) t.after kept
-left_over m steps t kept left back = subst (λ (l : List Taken). LeftBehind m (steps ++ t ∷ []) l t.after kept) (sym (last_first steps t)) (by (loads_root t) refl)
+left_over m steps t kept left back = subst (λ (l : List Taken). KeptBehind false m (steps ++ t ∷ []) l t.after kept) (sym (last_first steps t)) (by (loads_root t) refl)
   where
-    by : (b : Bool) → loads_root t ≡ b → LeftBehind m (steps ++ t ∷ []) (t ∷ reverse steps) t.after kept
-    by true loads = inl (loads, λ old u since h. (back loads old u since (returned m (steps ++ t ∷ []) t.after t.after.cpu.cr3 old u since h)).has)
-    by false plain = inr (plain, left plain)
+    stays : (kept ≡ t.after.set) ⊎ ((kept ≡ empty) × (changes_protection t ≡ true)) → Stays false t t.after kept
+    stays (inl same) = inl same
+    stays (inr lost) = inr (lost.0, inr lost.1)
+    by : (b : Bool) → loads_root t ≡ b → KeptBehind false m (steps ++ t ∷ []) (t ∷ reverse steps) t.after kept
+    by true loads = inl (loads, λ old u since h quiet. (back loads old u since (returned m (steps ++ t ∷ []) t.after t.after.cpu.cr3 old u since h)).has)
+    by false plain = inr (plain, stays (left plain))
 
 -- what the law of the next step asks of the memory that a load left
 record IsLaidOut (m : Setting) (t : Taken) : Type 0 where

@@ -25,7 +25,7 @@ judged : (m : Setting) (steps : List Taken) (t : Taken) (b : State) → loads_ro
 judged m steps t b plain h = subst (λ (set : Set). clashes_from m (record b { set = set }) ≡ true) (sym (held_stays steps t b plain)) h
 
 stays : (m : Setting) (steps : List Taken) (t : Taken) (now : State) (set kept : Set) → loads_root t ≡ false → (kept ≡ now.set) ⊎ ((kept ≡ empty) × (changes_protection t ≡ true))
-    → (set ≡ kept) ⊎ ((set ≡ empty) × (clashes_from m (record now { set = kept }) ≡ true)) → Stays m (steps ++ t ∷ []) t now set
+    → (set ≡ kept) ⊎ ((set ≡ empty) × (clashes_from m (record now { set = kept }) ≡ true)) → Stays (clashes m (steps ++ t ∷ []) now) t now set
 stays m steps t now set kept plain (inl same) (inl is) = inl (is ∙ same)
 stays m steps t now set kept plain (inl same) (inr k) =
     inr (k.0, inl (judged m steps t now plain (subst (λ (x : Set). clashes_from m (record now { set = x }) ≡ true) same k.1)))
@@ -35,7 +35,7 @@ stays m steps t now set kept plain (inr lost) (inr k) = inr (k.0, inr lost.1)
 -- ---- behind a load
 
 reloads : FetchesFollow → FoundOver → (m : Setting) (steps : List Taken) (t : Taken) (now : State) (set kept : Set) → loads_root t ≡ true → IsReadyFor m steps t now kept
-    → (set ≡ kept) ⊎ ((set ≡ empty) × (clashes_from m (record now { set = kept }) ≡ true)) → Reloads m (steps ++ t ∷ []) t now set
+    → (set ≡ kept) ⊎ ((set ≡ empty) × (clashes_from m (record now { set = kept }) ≡ true)) → Reloads (clashes m (steps ++ t ∷ []) now) m (steps ++ t ∷ []) t now set
 reloads follow over m steps t now set kept loads r (inl is) old left since h apart =
     subst (HasEntriesOf left) (sym is) (r.back loads old left since (returned m (steps ++ t ∷ []) now t.after.cpu.cr3 old left since h)).has
 reloads follow over m steps t now set kept loads r (inr k) old left since h apart =
@@ -48,13 +48,13 @@ reloads follow over m steps t now set kept loads r (inr k) old left since h apar
 
 by_last : FetchesFollow → FoundOver → (m : Setting) (steps : List Taken) (t : Taken) (now : State) (set kept : Set) → IsReadyFor m steps t now kept
     → (set ≡ kept) ⊎ ((set ≡ empty) × (clashes_from m (record now { set = kept }) ≡ true)) → (b : Bool) → loads_root t ≡ b
-    → ((loads_root t ≡ true) × Reloads m (steps ++ t ∷ []) t now set) ⊎ ((loads_root t ≡ false) × Stays m (steps ++ t ∷ []) t now set)
+    → ((loads_root t ≡ true) × Reloads (clashes m (steps ++ t ∷ []) now) m (steps ++ t ∷ []) t now set) ⊎ ((loads_root t ≡ false) × Stays (clashes m (steps ++ t ∷ []) now) t now set)
 by_last follow over m steps t now set kept r h true is = inl (is, reloads follow over m steps t now set kept is r h)
 by_last follow over m steps t now set kept r h false is = inr (is, stays m steps t now set kept is (r.stays is) h)
 
 pub next_is_kept : FetchesFollow → FoundOver → NextIsKept
 next_is_kept follow over m steps t now set kept r h =
-    subst (λ (l : List Taken). KeptBehind m (steps ++ t ∷ []) l now set) (sym (last_first steps t)) (by_last follow over m steps t now set kept r h (loads_root t) refl)
+    subst (λ (l : List Taken). KeptBehind (clashes m (steps ++ t ∷ []) now) m (steps ++ t ∷ []) l now set) (sym (last_first steps t)) (by_last follow over m steps t now set kept r h (loads_root t) refl)
 
 -- ---- directory indices
 

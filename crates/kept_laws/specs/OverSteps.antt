@@ -122,4 +122,4 @@ abbrev pub LoadsBringBack : Type 0
 LoadsBringBack =
     (m : Setting) (steps : List Taken) (t : Taken) (set : Set) (slots : ℕ → Option Slot) → set ≡ entries_of slots
     → ((old : List Taken) (left : Taken) (since : List Taken) → IsOwed m (steps ++ t ∷ []) t.after t.after.cpu.cr3 old left since → ComesFrom left (entries_of slots))
-    → Reloads m (steps ++ t ∷ []) t t.after set
+    → Reloads (clashes m (steps ++ t ∷ []) t.after) m (steps ++ t ∷ []) t t.after set

@@ -78,25 +78,25 @@ HasEntriesOf left set =
 
 -- behind a load of CR3: entries that a run may always add, and all of those that were left with the value, where the next
 -- step doesn't clash either
-abbrev pub Reloads : Setting → List Taken → Taken → State → Set → Type 0
-Reloads m earlier last now set =
-    (old : List Taken) (left : Taken) (since : List Taken) → Returns m earlier now last.after.cpu.cr3 old left since → clashes m earlier now ≡ false → HasEntriesOf left set
+abbrev pub Reloads : (clashing : Bool) → Setting → List Taken → Taken → State → Set → Type 0
+Reloads clashing m earlier last now set =
+    (old : List Taken) (left : Taken) (since : List Taken) → Returns m earlier now last.after.cpu.cr3 old left since → clashing ≡ false → HasEntriesOf left set
 
 -- otherwise: what the step before left, or nothing where the next step clashes or the step before changed CR0.WP
-abbrev pub Stays : Setting → List Taken → Taken → State → Set → Type 0
-Stays m earlier last now set =
+abbrev pub Stays : (clashing : Bool) → Taken → State → Set → Type 0
+Stays clashing last now set =
     (set ≡ now.set)
-    ⊎ ((set ≡ empty) × ((clashes m earlier now ≡ true) ⊎ (changes_protection last ≡ true)))
+    ⊎ ((set ≡ empty) × ((clashing ≡ true) ⊎ (changes_protection last ≡ true)))
 
-abbrev pub KeptBehind : Setting → List Taken → List Taken → State → Set → Type 0
-KeptBehind m earlier [] now set = set ≡ empty
-KeptBehind m earlier (last ∷ past) now set =
-    ((loads_root last ≡ true) × Reloads m earlier last now set) ⊎ ((loads_root last ≡ false) × Stays m earlier last now set)
+-- either, by whether the next step clashes; before the first step nothing
+abbrev pub KeptBehind : (clashing : Bool) → Setting → List Taken → List Taken → State → Set → Type 0
+KeptBehind clashing m earlier [] now set = set ≡ empty
+KeptBehind clashing m earlier (last ∷ past) now set =
+    ((loads_root last ≡ true) × Reloads clashing m earlier last now set) ⊎ ((loads_root last ≡ false) × Stays clashing last now set)
 
--- What is said of the set by which a step from the state now goes or stops, by the steps before it. Before the first step
--- the set is empty.
+-- What is said of the set by which a step from the state now goes or stops, by the steps before it.
 abbrev pub IsKept : Setting → List Taken → State → Set → Type 0
-IsKept m earlier now set = KeptBehind m earlier (reverse earlier) now set
+IsKept m earlier now set = KeptBehind (clashes m earlier now) m earlier (reverse earlier) now set
 
 -- So of each of these sets, which are those of steps one behind the other, up to which the run is roomy. The step of a set
 -- is made from the state to which the sets before it lead. The last of them may stop.
@@ -104,13 +104,6 @@ pub record Kept (m : Setting) (old : State) (sets : List Set) : Type 0 where
   pub each : (front : List Set) (set : Set) (back : List Set) (reports : List Report) (now : State) → sets ≡ front ++ set ∷ back → Steps m old front reports now
       → Roomy (steps_by m old front) → IsKept m (steps_by m old front) now set
 
--- What a run keeps behind these steps, before it is known whether the next one clashes: what the last of them left, or
--- nothing where that changed CR0.WP. Behind a load of CR3 it has all that was left with the value.
-abbrev pub LeftBehind : Setting → List Taken → List Taken → State → Set → Type 0
-LeftBehind m earlier [] now set = set ≡ empty
-LeftBehind m earlier (last ∷ past) now set =
-    ((loads_root last ≡ true) × ((old : List Taken) (left : Taken) (since : List Taken) → Returns m earlier now last.after.cpu.cr3 old left since → HasEntriesOf left set))
-    ⊎ ((loads_root last ≡ false) × ((set ≡ now.set) ⊎ ((set ≡ empty) × (changes_protection last ≡ true))))
-
+-- What a run keeps behind these steps, before it is known whether the next one clashes: what is said where that doesn't.
 abbrev pub IsLeftBehind : Setting → List Taken → State → Set → Type 0
-IsLeftBehind m earlier now set = LeftBehind m earlier (reverse earlier) now set
+IsLeftBehind m earlier now set = KeptBehind false m earlier (reverse earlier) now set
