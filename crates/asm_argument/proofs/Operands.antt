@@ -17,7 +17,7 @@ use Rattle.asm_source.specs.declared.tree.Form.{Form}
 use Rattle.asm_source.specs.declared.tree.Form.TheVariants as form
 use Rattle.asm_argument.specs.Grammar.{IsConstant, IsValue, IsAddress, IsForm}
 use Rattle.asm_argument.specs.Operand.{begun, counted, allowed, lowered, registered, first, open_paren, address_step, next_terminal, finished}
-use Rattle.asm_argument.specs.Shapes.{takes_names, takes_sums, takes_minus, takes_numbers, takes_text, takes_absent, fits, signed, named, plain, of_memory, is_operand, is_low, is_register, is_scale}
+use Rattle.asm_argument.specs.Shapes.{takes_names, takes_sums, takes_minus, takes_numbers, takes_text, takes_absent, fits, signed, named, plain, is_operand, is_low, is_register, is_scale}
 
 abbrev pub ok : Partial → Result Partial SourceCause
 ok p = Ok p
@@ -121,7 +121,7 @@ value_runs sh place.Immediate ss v (IsValue.sum {n} {ss = rest} {z} t u c) = (pa
 value_runs sh place.Immediate ss v (IsValue.difference {n} {ss = rest} {z} t u c) = (partial.Number place.Immediate (named n z), rw (u, operand_run) (constant_runs sh place.Immediate n true rest z c), inl refl)
 
 -- the parentheses behind a value or nothing
-address_runs : (sh : Shape) (v : Option Value) (ss : List Terminal) (b i : Option (List ℕ)) (s : ℕ) → IsAddress (terminal.Open ∷ ss) b i s → operand_run sh (partial.Open v) ss ≡ Ok (partial.Whole (of_memory v b i s))
+address_runs : (sh : Shape) (v : Option Value) (ss : List Terminal) (b i : Option (List ℕ)) (s : ℕ) → IsAddress (terminal.Open ∷ ss) b i s → operand_run sh (partial.Open v) ss ≡ Ok (partial.Whole (form.Memory v b i s))
 address_runs sh v ss b i s (IsAddress.base r) = rw (r, operand_run) refl
 address_runs sh v ss b i s (IsAddress.index r) = rw (r, operand_run) refl
 address_runs sh v ss b i s (IsAddress.scaled r t) = rw (r, t, operand_run) refl
@@ -156,13 +156,13 @@ form_reads sh ss f (IsForm.value {v} val) =
     record { last = r.0; runs = from_nothing sh ss r.0 f r.1 (finished_value place.Memory v r.0 r.2); ends = finished_value place.Memory v r.0 r.2 }
 form_reads sh ss f (IsForm.address {b} {i} {s} h a) = from_open ss (address_opens ss a) a
   where
-    from_open : (ss : List Terminal) → (ts : List Terminal) × (ss ≡ terminal.Open ∷ ts) → IsAddress ss b i s → Reads sh ss (of_memory None b i s)
-    from_open ss (ts, e) a = record { last = partial.Whole (of_memory None b i s); runs = from_nothing sh ss (partial.Whole (of_memory None b i s)) (of_memory None b i s) (rw (e, h, operand_run) (address_runs sh None ts b i s (subst (λ (x : List Terminal). IsAddress x b i s) e a))) refl; ends = refl }
+    from_open : (ss : List Terminal) → (ts : List Terminal) × (ss ≡ terminal.Open ∷ ts) → IsAddress ss b i s → Reads sh ss (form.Memory None b i s)
+    from_open ss (ts, e) a = record { last = partial.Whole (form.Memory None b i s); runs = from_nothing sh ss (partial.Whole (form.Memory None b i s)) (form.Memory None b i s) (rw (e, h, operand_run) (address_runs sh None ts b i s (subst (λ (x : List Terminal). IsAddress x b i s) e a))) refl; ends = refl }
 form_reads sh ss f (IsForm.value_address {v} {b} {i} {s} vs ps h e val a) =
     let r = value_runs sh place.Memory vs v val in
     let o = address_opens ps a in
-    let tail : operand_run sh r.0 ps ≡ Ok (partial.Whole (of_memory (Some v) b i s)) = ap (operand_run sh r.0) o.1 ∙ (rw (opens_value sh v r.0 h r.2, operand_run) (address_runs sh (Some v) o.0 b i s (subst (λ (x : List Terminal). IsAddress x b i s) o.1 a))) in
-    record { last = partial.Whole (of_memory (Some v) b i s); runs = from_nothing sh ss (partial.Whole (of_memory (Some v) b i s)) f (rw e (run_append sh partial.Nothing r.0 vs ps r.1 ∙ tail)) refl; ends = refl }
+    let tail : operand_run sh r.0 ps ≡ Ok (partial.Whole (form.Memory (Some v) b i s)) = ap (operand_run sh r.0) o.1 ∙ (rw (opens_value sh v r.0 h r.2, operand_run) (address_runs sh (Some v) o.0 b i s (subst (λ (x : List Terminal). IsAddress x b i s) o.1 a))) in
+    record { last = partial.Whole (form.Memory (Some v) b i s); runs = from_nothing sh ss (partial.Whole (form.Memory (Some v) b i s)) f (rw e (run_append sh partial.Nothing r.0 vs ps r.1 ∙ tail)) refl; ends = refl }
 
 -- ---- what has been read so far
 
@@ -231,7 +231,7 @@ Inside ov (partial.IndexPercent v b) ps = (v ≡ ov) × (ps ≡ base_part b ++ t
 Inside ov (partial.Index v b i) ps = (v ≡ ov) × (ps ≡ base_part b ++ terminal.Percent ∷ terminal.Name i ∷ []) × IsBase b × (is_register i ≡ true)
 Inside ov (partial.Scale v b i) ps = (v ≡ ov) × (ps ≡ base_part b ++ terminal.Percent ∷ terminal.Name i ∷ terminal.Comma ∷ []) × IsBase b × (is_register i ≡ true)
 Inside ov (partial.Scaled v b i s) ps = (v ≡ ov) × (ps ≡ base_part b ++ terminal.Percent ∷ terminal.Name i ∷ terminal.Comma ∷ terminal.Number s ∷ []) × IsBase b × (is_register i ≡ true) × (is_scale s ≡ true)
-Inside ov (partial.Whole f) ps = (b : Option (List ℕ)) × (i : Option (List ℕ)) × (s : ℕ) × (f ≡ of_memory ov b i s) × IsAddress ps b i s
+Inside ov (partial.Whole f) ps = (b : Option (List ℕ)) × (i : Option (List ℕ)) × (s : ℕ) × (f ≡ form.Memory ov b i s) × IsAddress ps b i s
 Inside ov _ ps = ⊥
 
 -- one terminal more at the end
@@ -247,8 +247,8 @@ inside_step ov (partial.BasePercent v) (terminal.Name r) q ps h e =
     subst (λ (x : Partial). Inside ov x (ps ++ terminal.Name r ∷ [])) g.1 (h.0, ending _ _ _ h.1, g.0)
 inside_step ov (partial.BasePercent v) _ q ps h e = absurd cc
 inside_step ov (partial.Base v b) terminal.Close q ps h e =
-    subst (λ (x : Partial). Inside ov x (ps ++ terminal.Close ∷ [])) (ok_is (partial.Whole (of_memory v (Some b) None 1)) q e)
-    (Some b, None, 1, ap (λ (y : Option Value). of_memory y (Some b) None 1) h.0, subst (λ (y : List Terminal). IsAddress y (Some b) None 1) (sym (ending _ _ terminal.Close h.1)) (IsAddress.base h.2))
+    subst (λ (x : Partial). Inside ov x (ps ++ terminal.Close ∷ [])) (ok_is (partial.Whole (form.Memory v (Some b) None 1)) q e)
+    (Some b, None, 1, ap (λ (y : Option Value). form.Memory y (Some b) None 1) h.0, subst (λ (y : List Terminal). IsAddress y (Some b) None 1) (sym (ending _ _ terminal.Close h.1)) (IsAddress.base h.2))
 inside_step ov (partial.Base v b) terminal.Comma q ps h e = subst (λ (x : Partial). Inside ov x (ps ++ terminal.Comma ∷ [])) (ok_is (partial.IndexComma v (Some b)) q e) (h.0, ending _ _ _ h.1, h.2)
 inside_step ov (partial.Base v b) _ q ps h e = absurd cc
 inside_step ov (partial.IndexComma v b) terminal.Percent q ps h e = subst (λ (x : Partial). Inside ov x (ps ++ terminal.Percent ∷ [])) (ok_is (partial.IndexPercent v b) q e) (h.0, ending _ _ _ h.1, h.2)
@@ -258,11 +258,11 @@ inside_step ov (partial.IndexPercent v b) (terminal.Name r) q ps h e =
     subst (λ (x : Partial). Inside ov x (ps ++ terminal.Name r ∷ [])) g.1 (h.0, ending _ _ _ h.1 ∙ append_assoc (base_part b) (terminal.Percent ∷ []) (terminal.Name r ∷ []), h.2, g.0)
 inside_step ov (partial.IndexPercent v b) _ q ps h e = absurd cc
 inside_step ov (partial.Index v None i) terminal.Close q ps h e =
-    subst (λ (x : Partial). Inside ov x (ps ++ terminal.Close ∷ [])) (ok_is (partial.Whole (of_memory v None (Some i) 1)) q e)
-    (None, Some i, 1, ap (λ (y : Option Value). of_memory y None (Some i) 1) h.0, subst (λ (y : List Terminal). IsAddress y None (Some i) 1) (sym (ending _ _ terminal.Close h.1)) (IsAddress.index h.3))
+    subst (λ (x : Partial). Inside ov x (ps ++ terminal.Close ∷ [])) (ok_is (partial.Whole (form.Memory v None (Some i) 1)) q e)
+    (None, Some i, 1, ap (λ (y : Option Value). form.Memory y None (Some i) 1) h.0, subst (λ (y : List Terminal). IsAddress y None (Some i) 1) (sym (ending _ _ terminal.Close h.1)) (IsAddress.index h.3))
 inside_step ov (partial.Index v (Some b) i) terminal.Close q ps h e =
-    subst (λ (x : Partial). Inside ov x (ps ++ terminal.Close ∷ [])) (ok_is (partial.Whole (of_memory v (Some b) (Some i) 1)) q e)
-    (Some b, Some i, 1, ap (λ (y : Option Value). of_memory y (Some b) (Some i) 1) h.0, subst (λ (y : List Terminal). IsAddress y (Some b) (Some i) 1) (sym (ending _ _ terminal.Close h.1)) (IsAddress.base_index h.2 h.3))
+    subst (λ (x : Partial). Inside ov x (ps ++ terminal.Close ∷ [])) (ok_is (partial.Whole (form.Memory v (Some b) (Some i) 1)) q e)
+    (Some b, Some i, 1, ap (λ (y : Option Value). form.Memory y (Some b) (Some i) 1) h.0, subst (λ (y : List Terminal). IsAddress y (Some b) (Some i) 1) (sym (ending _ _ terminal.Close h.1)) (IsAddress.base_index h.2 h.3))
 inside_step ov (partial.Index v b i) terminal.Comma q ps h e = subst (λ (x : Partial). Inside ov x (ps ++ terminal.Comma ∷ [])) (ok_is (partial.Scale v b i) q e) (h.0, ending _ _ _ h.1 ∙ append_assoc (base_part b) (terminal.Percent ∷ terminal.Name i ∷ []) (terminal.Comma ∷ []), h.2, h.3)
 inside_step ov (partial.Index v b i) _ q ps h e = absurd cc
 inside_step ov (partial.Scale v b i) (terminal.Number n) q ps h e =
@@ -270,11 +270,11 @@ inside_step ov (partial.Scale v b i) (terminal.Number n) q ps h e =
     subst (λ (x : Partial). Inside ov x (ps ++ terminal.Number n ∷ [])) g.1 (h.0, ending _ _ _ h.1 ∙ append_assoc (base_part b) (terminal.Percent ∷ terminal.Name i ∷ terminal.Comma ∷ []) (terminal.Number n ∷ []), h.2, h.3, g.0)
 inside_step ov (partial.Scale v b i) _ q ps h e = absurd cc
 inside_step ov (partial.Scaled v None i n) terminal.Close q ps h e =
-    subst (λ (x : Partial). Inside ov x (ps ++ terminal.Close ∷ [])) (ok_is (partial.Whole (of_memory v None (Some i) n)) q e)
-    (None, Some i, n, ap (λ (y : Option Value). of_memory y None (Some i) n) h.0, subst (λ (y : List Terminal). IsAddress y None (Some i) n) (sym (ending _ _ terminal.Close h.1)) (IsAddress.scaled h.3 h.4))
+    subst (λ (x : Partial). Inside ov x (ps ++ terminal.Close ∷ [])) (ok_is (partial.Whole (form.Memory v None (Some i) n)) q e)
+    (None, Some i, n, ap (λ (y : Option Value). form.Memory y None (Some i) n) h.0, subst (λ (y : List Terminal). IsAddress y None (Some i) n) (sym (ending _ _ terminal.Close h.1)) (IsAddress.scaled h.3 h.4))
 inside_step ov (partial.Scaled v (Some b) i n) terminal.Close q ps h e =
-    subst (λ (x : Partial). Inside ov x (ps ++ terminal.Close ∷ [])) (ok_is (partial.Whole (of_memory v (Some b) (Some i) n)) q e)
-    (Some b, Some i, n, ap (λ (y : Option Value). of_memory y (Some b) (Some i) n) h.0, subst (λ (y : List Terminal). IsAddress y (Some b) (Some i) n) (sym (ending _ _ terminal.Close h.1)) (IsAddress.base_scaled h.2 h.3 h.4))
+    subst (λ (x : Partial). Inside ov x (ps ++ terminal.Close ∷ [])) (ok_is (partial.Whole (form.Memory v (Some b) (Some i) n)) q e)
+    (Some b, Some i, n, ap (λ (y : Option Value). form.Memory y (Some b) (Some i) n) h.0, subst (λ (y : List Terminal). IsAddress y (Some b) (Some i) n) (sym (ending _ _ terminal.Close h.1)) (IsAddress.base_scaled h.2 h.3 h.4))
 inside_step ov (partial.Scaled v b i n) _ q ps h e = absurd cc
 inside_step ov (partial.Whole f) _ q ps h e = absurd cc
 inside_step ov partial.Absent _ q ps h e = absurd h
@@ -441,9 +441,9 @@ more sh (partial.Scaled v b i n) s q ss h e = address_more sh (partial.Scaled v 
 -- what may end is a form
 pub spelled_form : (sh : Shape) (p : Partial) (f : Form) (ss : List Terminal) → Spelled sh p ss → finished p ≡ Some f → IsForm sh ss f
 spelled_form sh (partial.Name place.Immediate n) f ss h e = let g : form.Immediate (named n (pos 0)) ≡ f = cc in subst (IsForm sh ss) g (rw h.2 (IsForm.immediate h.0 (IsValue.name h.1)))
-spelled_form sh (partial.Name place.Memory n) f ss h e = let g : of_memory (Some (named n (pos 0))) None None 1 ≡ f = cc in subst (IsForm sh ss) g (rw h.2 (IsForm.value (IsValue.name h.1)))
+spelled_form sh (partial.Name place.Memory n) f ss h e = let g : form.Memory (Some (named n (pos 0))) None None 1 ≡ f = cc in subst (IsForm sh ss) g (rw h.2 (IsForm.value (IsValue.name h.1)))
 spelled_form sh (partial.Number place.Immediate v) f ss h e = let g : form.Immediate v ≡ f = cc in subst (IsForm sh ss) g (rw h.3 (IsForm.immediate h.0 h.2))
-spelled_form sh (partial.Number place.Memory v) f ss h e = let g : of_memory (Some v) None None 1 ≡ f = cc in subst (IsForm sh ss) g (rw h.3 (IsForm.value h.2))
+spelled_form sh (partial.Number place.Memory v) f ss h e = let g : form.Memory (Some v) None None 1 ≡ f = cc in subst (IsForm sh ss) g (rw h.3 (IsForm.value h.2))
 spelled_form sh (partial.Whole x) f ss h e = let g : x ≡ f = cc in subst (IsForm sh ss) g h
 spelled_form sh partial.Absent f ss h e = let g : form.Absent ≡ f = cc in subst (IsForm sh ss) g (rw h.0 (IsForm.absent h.1))
 spelled_form sh _ f ss h e = absurd cc

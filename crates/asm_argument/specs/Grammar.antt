@@ -6,7 +6,7 @@ use Rattle.asm_argument.specs.declared.shape.Shape.{Shape}
 use Rattle.asm_source.specs.declared.tree.Value.{Value}
 use Rattle.asm_source.specs.declared.tree.Form.{Form}
 use Rattle.asm_source.specs.declared.tree.Form.TheVariants as form
-use Rattle.asm_argument.specs.Shapes.{signed, named, plain, of_memory, is_operand, takes_names, takes_sums, takes_minus, takes_numbers, takes_text, takes_absent, fits, is_low, is_register, is_scale}
+use Rattle.asm_argument.specs.Shapes.{signed, named, plain, is_operand, takes_names, takes_sums, takes_minus, takes_numbers, takes_text, takes_absent, fits, is_low, is_register, is_scale}
 
 -- A number behind a sign, true for a minus. It may have a minus of its own.
 pub data IsConstant : Bool → List Terminal → ℤ → Type 0 where
@@ -38,7 +38,7 @@ pub data IsForm : Shape → List Terminal → Form → Type 0 where
   text : {sh : Shape} {t : List ℕ} → takes_text sh ≡ true → IsForm sh (terminal.Text t ∷ []) (form.Text t)
   register : {sh : Shape} {r : List ℕ} → is_operand sh ≡ true → is_register r ≡ true → IsForm sh (terminal.Percent ∷ terminal.Name r ∷ []) (form.Register r)
   immediate : {sh : Shape} {ss : List Terminal} {v : Value} → is_operand sh ≡ true → IsValue sh ss v → IsForm sh (terminal.Dollar ∷ ss) (form.Immediate v)
-  value : {sh : Shape} {ss : List Terminal} {v : Value} → IsValue sh ss v → IsForm sh ss (of_memory (Some v) None None 1)
-  address : {sh : Shape} {ss : List Terminal} {b i : Option (List ℕ)} {s : ℕ} → is_operand sh ≡ true → IsAddress ss b i s → IsForm sh ss (of_memory None b i s)
+  value : {sh : Shape} {ss : List Terminal} {v : Value} → IsValue sh ss v → IsForm sh ss (form.Memory (Some v) None None 1)
+  address : {sh : Shape} {ss : List Terminal} {b i : Option (List ℕ)} {s : ℕ} → is_operand sh ≡ true → IsAddress ss b i s → IsForm sh ss (form.Memory None b i s)
   value_address : {sh : Shape} {ss : List Terminal} {v : Value} {b i : Option (List ℕ)} {s : ℕ} (vs ps : List Terminal) → is_operand sh ≡ true → ss ≡ vs ++ ps → IsValue sh vs v → IsAddress ps b i s
-      → IsForm sh ss (of_memory (Some v) b i s)
+      → IsForm sh ss (form.Memory (Some v) b i s)

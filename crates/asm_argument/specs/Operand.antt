@@ -13,7 +13,7 @@ use Rattle.asm_argument.specs.declared.operand.Partial.TheVariants as partial
 use Rattle.asm_source.specs.declared.tree.Value.{Value}
 use Rattle.asm_source.specs.declared.tree.Form.{Form}
 use Rattle.asm_source.specs.declared.tree.Form.TheVariants as form
-use Rattle.asm_argument.specs.Shapes.{signed, named, plain, of_memory, is_operand, takes_names, takes_sums, takes_minus, takes_numbers, takes_text, fits, is_low, is_register, is_scale}
+use Rattle.asm_argument.specs.Shapes.{signed, named, plain, is_operand, takes_names, takes_sums, takes_minus, takes_numbers, takes_text, fits, is_low, is_register, is_scale}
 
 -- an argument of which nothing has been read
 abbrev pub begun : Shape → Partial
@@ -57,15 +57,15 @@ address_step (partial.Open v) terminal.Percent = Ok (partial.BasePercent v)
 address_step (partial.Open v) terminal.Comma = Ok (partial.IndexComma v None)
 address_step (partial.BasePercent v) (terminal.Name r) = registered (is_register r) (partial.Base v r)
 address_step (partial.BasePercent v) _ = Err cause.BadRegister
-address_step (partial.Base v b) terminal.Close = Ok (partial.Whole (of_memory v (Some b) None 1))
+address_step (partial.Base v b) terminal.Close = Ok (partial.Whole (form.Memory v (Some b) None 1))
 address_step (partial.Base v b) terminal.Comma = Ok (partial.IndexComma v (Some b))
 address_step (partial.IndexComma v b) terminal.Percent = Ok (partial.IndexPercent v b)
 address_step (partial.IndexPercent v b) (terminal.Name r) = registered (is_register r) (partial.Index v b r)
 address_step (partial.IndexPercent v b) _ = Err cause.BadRegister
-address_step (partial.Index v b i) terminal.Close = Ok (partial.Whole (of_memory v b (Some i) 1))
+address_step (partial.Index v b i) terminal.Close = Ok (partial.Whole (form.Memory v b (Some i) 1))
 address_step (partial.Index v b i) terminal.Comma = Ok (partial.Scale v b i)
 address_step (partial.Scale v b i) (terminal.Number n) = if is_scale n then Ok (partial.Scaled v b i n) else Err cause.BadScale
-address_step (partial.Scaled v b i s) terminal.Close = Ok (partial.Whole (of_memory v b (Some i) s))
+address_step (partial.Scaled v b i s) terminal.Close = Ok (partial.Whole (form.Memory v b (Some i) s))
 address_step _ _ = Err cause.BadOperand
 
 abbrev pub next_terminal : Shape → Partial → Terminal → Result Partial SourceCause
@@ -99,9 +99,9 @@ operand_step sh p s = next_terminal sh p s
 -- the form that has been read, where it may end here
 abbrev pub finished : Partial → Option Form
 finished (partial.Name place.Immediate n) = Some (form.Immediate (named n (pos 0)))
-finished (partial.Name place.Memory n) = Some (of_memory (Some (named n (pos 0))) None None 1)
+finished (partial.Name place.Memory n) = Some (form.Memory (Some (named n (pos 0))) None None 1)
 finished (partial.Number place.Immediate v) = Some (form.Immediate v)
-finished (partial.Number place.Memory v) = Some (of_memory (Some v) None None 1)
+finished (partial.Number place.Memory v) = Some (form.Memory (Some v) None None 1)
 finished (partial.Whole f) = Some f
 finished partial.Absent = Some form.Absent
 finished _ = None

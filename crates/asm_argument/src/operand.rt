@@ -5,6 +5,7 @@ ghost use Rattle.std.specs.Option.{option_copied};
 ghost use Rattle.asm_argument.specs.Operand as spec;
 ghost use Rattle.asm_argument.specs.declared.operand.Partial.TheVariants as partial;
 ghost use Rattle.asm_argument.specs.Shapes as shapes;
+ghost use Rattle.asm_source.specs.declared.tree.Form.TheVariants as form;
 
 use crate::address::address_step;
 use crate::register::is_register;
@@ -156,7 +157,7 @@ pub fn discard(so_far: Partial) {
 
 /// An operand in memory: displacement, base, index, and a scale of 1, 2, 4 or 8.
 pub fn of_memory(value: Option<Value>, base: Option<Name>, index: Option<Name>, scale: u8) -> Form
-    ensures { result ≡ shapes.of_memory value base index scale }
+    ensures { result ≡ form.Memory value base index scale }
 {
     Form::Memory {
         value,

@@ -1,6 +1,7 @@
 //! The names of registers.
 
 ghost use Rattle.std.specs.Prelude.{◌≡◌};
+ghost use Rattle.asm_source.specs.Names.{holds};
 ghost use Rattle.asm_argument.specs.Shapes as shapes;
 
 use asm_source::{Name, is_text};
@@ -18,9 +19,9 @@ pub fn is_register(name: &Name) -> bool
         || is_system_register(name)
 }
 
-#[tactic(auto, unfolding(crate::specs::Shapes::is_byte_register))]
+#[tactic(auto, unfolding(crate::specs::Shapes::byte_registers))]
 fn is_byte_register(name: &[u8]) -> bool
-    ensures { result ≡ shapes.is_byte_register name.now }
+    ensures { result ≡ holds shapes.byte_registers name.now }
 {
     is_text(name, b"al")
         || is_text(name, b"cl")
@@ -32,9 +33,9 @@ fn is_byte_register(name: &[u8]) -> bool
         || is_text(name, b"bh")
 }
 
-#[tactic(auto, unfolding(crate::specs::Shapes::is_word_register))]
+#[tactic(auto, unfolding(crate::specs::Shapes::word_registers))]
 fn is_word_register(name: &[u8]) -> bool
-    ensures { result ≡ shapes.is_word_register name.now }
+    ensures { result ≡ holds shapes.word_registers name.now }
 {
     is_text(name, b"ax")
         || is_text(name, b"cx")
@@ -46,9 +47,9 @@ fn is_word_register(name: &[u8]) -> bool
         || is_text(name, b"di")
 }
 
-#[tactic(auto, unfolding(crate::specs::Shapes::is_long_register))]
+#[tactic(auto, unfolding(crate::specs::Shapes::long_registers))]
 fn is_long_register(name: &[u8]) -> bool
-    ensures { result ≡ shapes.is_long_register name.now }
+    ensures { result ≡ holds shapes.long_registers name.now }
 {
     is_text(name, b"eax")
         || is_text(name, b"ecx")
@@ -60,9 +61,9 @@ fn is_long_register(name: &[u8]) -> bool
         || is_text(name, b"edi")
 }
 
-#[tactic(auto, unfolding(crate::specs::Shapes::is_system_register))]
+#[tactic(auto, unfolding(crate::specs::Shapes::system_registers))]
 fn is_system_register(name: &[u8]) -> bool
-    ensures { result ≡ shapes.is_system_register name.now }
+    ensures { result ≡ holds shapes.system_registers name.now }
 {
     is_text(name, b"es")
         || is_text(name, b"cs")

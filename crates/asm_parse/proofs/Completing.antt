@@ -30,15 +30,16 @@ use Rattle.asm_statement.specs.declared.state.StatementState.{StatementState}
 use Rattle.asm_statement.specs.declared.state.StatementState.TheVariants as state
 use Rattle.asm_statement.specs.ScopeView.{ScopeView}
 use Rattle.asm_source.specs.Names.{holds}
-use Rattle.asm_statement.specs.Scope.{has_room, is_spent, pushed, noted, defined_too}
+use Rattle.asm_statement.specs.Definers.{is_defining, is_spent}
+use Rattle.asm_statement.specs.Scope.{has_room, pushed, noted, defined_too}
 use Rattle.asm_argument.specs.Operand.{finished, is_nothing}
-use Rattle.asm_argument.specs.Shapes.{is_operand, takes_numbers, fits, is_register, is_byte_register, signed, named, plain, of_memory}
+use Rattle.asm_argument.specs.Shapes.{is_operand, takes_numbers, fits, is_register, byte_registers, signed, named, plain}
 use Rattle.asm_argument.specs.Grammar.{IsValue, IsForm}
 use Rattle.asm_argument.specs.Escapes.{opening, string_text}
 use Rattle.asm_argument.specs.Terminals.{terminal_of}
 use Rattle.asm_statement.specs.Statement.{is_taken, doom}
 use Rattle.asm_statement.specs.Items.{item_of, resumed, sectioned, is_passed, is_rep}
-use Rattle.asm_statement.specs.Directives.{shape_at, least, defines, is_section, is_dotted, directive_of, is_known, is_change, is_defining}
+use Rattle.asm_statement.specs.Directives.{shape_at, least, defines, is_section, is_dotted, directive_of, is_known, is_change}
 use Rattle.asm_parse.specs.Statements.{IsSeen, IsArgument, IsNext, Separated, HasArguments, has_list, Statement}
 use Rattle.asm_parse.proofs.Words.{read_words}
 use Rattle.asm_argument.proofs.Operands.{ok, operand_run}
@@ -60,7 +61,7 @@ pub record Finish (sh : Shape) (p : Partial) : Type 0 where
   pub names : named_in last ≡ named_in p
 
 low_register : is_register low ≡ true
-unfolding is_register is_byte_register
+unfolding is_register byte_registers
 low_register = refl
 
 done : (sh : Shape) (p : Partial) (f : Form) → finished p ≡ Some f → Finish sh p
@@ -71,7 +72,7 @@ number_nothing sh t u = record {
   pieces = the_one ∷ [];
   are = (one_piece, tt);
   last = partial.Number place.Memory (plain (pos 1));
-  form = of_memory (Some (plain (pos 1))) None None 1;
+  form = form.Memory (Some (plain (pos 1))) None None 1;
   runs = rw (t, u, operand_run) refl;
   ends = refl;
   names = refl;
@@ -110,24 +111,24 @@ finish sh partial.Nothing never = finish_nothing sh (never refl)
 finish sh partial.Absent never = done sh partial.Absent form.Absent refl
 finish sh partial.Percent never = record { pieces = the_name low ∷ []; are = (name_piece low low_name, tt); last = partial.Whole (form.Register low); form = form.Register low; runs = rw (low_register, operand_run) refl; ends = refl; names = refl }
 finish sh partial.Dollar never = record { pieces = the_one ∷ []; are = (one_piece, tt); last = partial.Number place.Immediate (plain (pos 1)); form = form.Immediate (plain (pos 1)); runs = refl; ends = refl; names = refl }
-finish sh (partial.Minus place.Memory) never = record { pieces = the_zero ∷ []; are = (zero_piece, tt); last = partial.Number place.Memory (plain (signed true 0)); form = of_memory (Some (plain (signed true 0))) None None 1; runs = rw (zero_fits sh, operand_run) refl; ends = refl; names = refl }
+finish sh (partial.Minus place.Memory) never = record { pieces = the_zero ∷ []; are = (zero_piece, tt); last = partial.Number place.Memory (plain (signed true 0)); form = form.Memory (Some (plain (signed true 0))) None None 1; runs = rw (zero_fits sh, operand_run) refl; ends = refl; names = refl }
 finish sh (partial.Minus place.Immediate) never = record { pieces = the_zero ∷ []; are = (zero_piece, tt); last = partial.Number place.Immediate (plain (signed true 0)); form = form.Immediate (plain (signed true 0)); runs = rw (zero_fits sh, operand_run) refl; ends = refl; names = refl }
-finish sh (partial.Name place.Memory n) never = done sh (partial.Name place.Memory n) (of_memory (Some (named n (pos 0))) None None 1) refl
+finish sh (partial.Name place.Memory n) never = done sh (partial.Name place.Memory n) (form.Memory (Some (named n (pos 0))) None None 1) refl
 finish sh (partial.Name place.Immediate n) never = done sh (partial.Name place.Immediate n) (form.Immediate (named n (pos 0))) refl
-finish sh (partial.Sign place.Memory n b) never = record { pieces = the_one ∷ []; are = (one_piece, tt); last = partial.Number place.Memory (named n (signed b 1)); form = of_memory (Some (named n (signed b 1))) None None 1; runs = refl; ends = refl; names = refl }
+finish sh (partial.Sign place.Memory n b) never = record { pieces = the_one ∷ []; are = (one_piece, tt); last = partial.Number place.Memory (named n (signed b 1)); form = form.Memory (Some (named n (signed b 1))) None None 1; runs = refl; ends = refl; names = refl }
 finish sh (partial.Sign place.Immediate n b) never = record { pieces = the_one ∷ []; are = (one_piece, tt); last = partial.Number place.Immediate (named n (signed b 1)); form = form.Immediate (named n (signed b 1)); runs = refl; ends = refl; names = refl }
-finish sh (partial.SignMinus place.Memory n b) never = record { pieces = the_one ∷ []; are = (one_piece, tt); last = partial.Number place.Memory (named n (signed (not b) 1)); form = of_memory (Some (named n (signed (not b) 1))) None None 1; runs = refl; ends = refl; names = refl }
+finish sh (partial.SignMinus place.Memory n b) never = record { pieces = the_one ∷ []; are = (one_piece, tt); last = partial.Number place.Memory (named n (signed (not b) 1)); form = form.Memory (Some (named n (signed (not b) 1))) None None 1; runs = refl; ends = refl; names = refl }
 finish sh (partial.SignMinus place.Immediate n b) never = record { pieces = the_one ∷ []; are = (one_piece, tt); last = partial.Number place.Immediate (named n (signed (not b) 1)); form = form.Immediate (named n (signed (not b) 1)); runs = refl; ends = refl; names = refl }
-finish sh (partial.Number place.Memory v) never = done sh (partial.Number place.Memory v) (of_memory (Some v) None None 1) refl
+finish sh (partial.Number place.Memory v) never = done sh (partial.Number place.Memory v) (form.Memory (Some v) None None 1) refl
 finish sh (partial.Number place.Immediate v) never = done sh (partial.Number place.Immediate v) (form.Immediate v) refl
-finish sh (partial.Open v) never = record { pieces = the_mark 37 ∷ the_name low ∷ the_mark 41 ∷ []; are = (percent_piece, low_close); last = partial.Whole (of_memory v (Some low) None 1); form = of_memory v (Some low) None 1; runs = rw (low_register, operand_run) refl; ends = refl; names = refl }
-finish sh (partial.BasePercent v) never = record { pieces = the_name low ∷ the_mark 41 ∷ []; are = low_close; last = partial.Whole (of_memory v (Some low) None 1); form = of_memory v (Some low) None 1; runs = rw (low_register, operand_run) refl; ends = refl; names = refl }
-finish sh (partial.Base v b) never = record { pieces = the_mark 41 ∷ []; are = (close_piece, tt); last = partial.Whole (of_memory v (Some b) None 1); form = of_memory v (Some b) None 1; runs = refl; ends = refl; names = refl }
-finish sh (partial.IndexComma v b) never = record { pieces = the_mark 37 ∷ the_name low ∷ the_mark 41 ∷ []; are = (percent_piece, low_close); last = partial.Whole (of_memory v b (Some low) 1); form = of_memory v b (Some low) 1; runs = rw (low_register, operand_run) refl; ends = refl; names = refl }
-finish sh (partial.IndexPercent v b) never = record { pieces = the_name low ∷ the_mark 41 ∷ []; are = low_close; last = partial.Whole (of_memory v b (Some low) 1); form = of_memory v b (Some low) 1; runs = rw (low_register, operand_run) refl; ends = refl; names = refl }
-finish sh (partial.Index v b i) never = record { pieces = the_mark 41 ∷ []; are = (close_piece, tt); last = partial.Whole (of_memory v b (Some i) 1); form = of_memory v b (Some i) 1; runs = refl; ends = refl; names = refl }
-finish sh (partial.Scale v b i) never = record { pieces = the_one ∷ the_mark 41 ∷ []; are = (one_piece, (close_piece, tt)); last = partial.Whole (of_memory v b (Some i) 1); form = of_memory v b (Some i) 1; runs = refl; ends = refl; names = refl }
-finish sh (partial.Scaled v b i s) never = record { pieces = the_mark 41 ∷ []; are = (close_piece, tt); last = partial.Whole (of_memory v b (Some i) s); form = of_memory v b (Some i) s; runs = refl; ends = refl; names = refl }
+finish sh (partial.Open v) never = record { pieces = the_mark 37 ∷ the_name low ∷ the_mark 41 ∷ []; are = (percent_piece, low_close); last = partial.Whole (form.Memory v (Some low) None 1); form = form.Memory v (Some low) None 1; runs = rw (low_register, operand_run) refl; ends = refl; names = refl }
+finish sh (partial.BasePercent v) never = record { pieces = the_name low ∷ the_mark 41 ∷ []; are = low_close; last = partial.Whole (form.Memory v (Some low) None 1); form = form.Memory v (Some low) None 1; runs = rw (low_register, operand_run) refl; ends = refl; names = refl }
+finish sh (partial.Base v b) never = record { pieces = the_mark 41 ∷ []; are = (close_piece, tt); last = partial.Whole (form.Memory v (Some b) None 1); form = form.Memory v (Some b) None 1; runs = refl; ends = refl; names = refl }
+finish sh (partial.IndexComma v b) never = record { pieces = the_mark 37 ∷ the_name low ∷ the_mark 41 ∷ []; are = (percent_piece, low_close); last = partial.Whole (form.Memory v b (Some low) 1); form = form.Memory v b (Some low) 1; runs = rw (low_register, operand_run) refl; ends = refl; names = refl }
+finish sh (partial.IndexPercent v b) never = record { pieces = the_name low ∷ the_mark 41 ∷ []; are = low_close; last = partial.Whole (form.Memory v b (Some low) 1); form = form.Memory v b (Some low) 1; runs = rw (low_register, operand_run) refl; ends = refl; names = refl }
+finish sh (partial.Index v b i) never = record { pieces = the_mark 41 ∷ []; are = (close_piece, tt); last = partial.Whole (form.Memory v b (Some i) 1); form = form.Memory v b (Some i) 1; runs = refl; ends = refl; names = refl }
+finish sh (partial.Scale v b i) never = record { pieces = the_one ∷ the_mark 41 ∷ []; are = (one_piece, (close_piece, tt)); last = partial.Whole (form.Memory v b (Some i) 1); form = form.Memory v b (Some i) 1; runs = refl; ends = refl; names = refl }
+finish sh (partial.Scaled v b i s) never = record { pieces = the_mark 41 ∷ []; are = (close_piece, tt); last = partial.Whole (form.Memory v b (Some i) s); form = form.Memory v b (Some i) s; runs = refl; ends = refl; names = refl }
 finish sh (partial.Whole f) never = done sh (partial.Whole f) f refl
 
 -- ---- a statement
@@ -211,7 +212,7 @@ module _ (sc : ScopeView) (line : ℕ) (h : Head) (before : List Argument) (a : 
   ended_later count =
       let two = wants_two h (length (before ++ a ∷ [])) (omega (arith, length-append before (a ∷ []))) count in
       let may : shape_at h (length (before ++ a ∷ [])) ≡ Some shape.Count = ap (shape_at h) two.0 ∙ two.1 in
-      let b : Argument = record { star = false; form = of_memory (Some (plain (pos 1))) None None 1 } in
+      let b : Argument = record { star = false; form = form.Memory (Some (plain (pos 1))) None None 1 } in
       let many : nat_lt (length ((before ++ a ∷ []) ++ b ∷ [])) (least h) ≡ false = le-ltb _ _ (omega (arith, two.0, two.2, length-append (before ++ a ∷ []) (b ∷ []))) in
       let comma = comma_runs sc line h before a q shape.Count fin may in
       let one = form_runs line h (before ++ a ∷ []) false shape.Count may (terminal.Number 1 ∷ []) partial.Nothing (partial.Number place.Memory (plain (pos 1))) sc sc refl refl in
@@ -331,7 +332,7 @@ text_known = refl
 
 -- a number as a directive's argument
 one_argument : (sc : ScopeView) (k : Directive) (n : List ℕ) (before : List Argument) (sh : Shape) → shape_at (head.Directive k n) (length before) ≡ Some sh → takes_numbers sh ≡ true → fits sh false 1 ≡ true
-    → IsNext (head.Directive k n) sc before (terminal.Number 1 ∷ []) (record { star = false; form = of_memory (Some (plain (pos 1))) None None 1 }) sc
+    → IsNext (head.Directive k n) sc before (terminal.Number 1 ∷ []) (record { star = false; form = form.Memory (Some (plain (pos 1))) None None 1 }) sc
 one_argument sc k n before sh may takes fit = record { shape = sh; may = may; is = IsArgument.plain (IsForm.value (IsValue.number takes fit)); sees = refl }
 
 module _ (sc : ScopeView) (b : ℕ) (n : List ℕ) (passed : is_passed sc n ≡ false) (dotted : is_dotted n ≡ true) where
@@ -342,7 +343,7 @@ module _ (sc : ScopeView) (b : ℕ) (n : List ℕ) (passed : is_passed sc n ≡ 
 
   name_completed : directive_of n ≡ Some directive.Global → Sayable sc → Completed sc (state.Named b n)
   name_completed dir w =
-      let next : IsNext (head.Directive directive.Global n) sc [] (terminal.Name w.name ∷ []) (record { star = false; form = of_memory (Some (named w.name (pos 0))) None None 1 }) (noted sc w.name) =
+      let next : IsNext (head.Directive directive.Global n) sc [] (terminal.Name w.name ∷ []) (record { star = false; form = form.Memory (Some (named w.name (pos 0))) None None 1 }) (noted sc w.name) =
       record { shape = shape.Name; may = refl; is = IsArgument.plain (IsForm.value (IsValue.name refl)); sees = IsSeen.used w.room } in
       by_terminals sc _ (state.Named b n) (the_name w.name ∷ the_end ∷ []) (name_piece w.name w.is, (end_piece, tt))
       (statement_runs (Statement.directive {sc = sc} {line = b} {n = n} passed dotted dir refl (HasArguments.some Separated.none next) refl))
@@ -358,8 +359,8 @@ module _ (sc : ScopeView) (b : ℕ) (n : List ℕ) (passed : is_passed sc n ≡ 
       → least (head.Directive k n) ≡ 2 → Definable sc → Completed sc (state.Named b n)
   defining_completed k dir list first second def count w =
       let sc2 = defined_too (noted sc w.name) w.name in
-      let a : Argument = record { star = false; form = of_memory (Some (named w.name (pos 0))) None None 1 } in
-      let next : IsNext (head.Directive k n) sc [] (terminal.Name w.name ∷ []) (record { star = false; form = of_memory (Some (named w.name (pos 0))) None None 1 }) (defined_too (noted sc w.name) w.name) =
+      let a : Argument = record { star = false; form = form.Memory (Some (named w.name (pos 0))) None None 1 } in
+      let next : IsNext (head.Directive k n) sc [] (terminal.Name w.name ∷ []) (record { star = false; form = form.Memory (Some (named w.name (pos 0))) None None 1 }) (defined_too (noted sc w.name) w.name) =
       record { shape = shape.Name; may = first; is = IsArgument.plain (IsForm.value (IsValue.name refl)); sees = rw def (IsSeen.defined w.new w.room) } in
       by_terminals sc _ (state.Named b n) (the_name w.name ∷ the_mark 44 ∷ the_one ∷ the_end ∷ []) (name_piece w.name w.is, (comma_piece, (one_piece, (end_piece, tt))))
       (statement_runs (Statement.directive {sc = sc} {line = b} {n = n} passed dotted dir list (HasArguments.some (Separated.more Separated.none next) (one_argument (defined_too (noted sc w.name) w.name) k n (a ∷ []) shape.Count second refl refl)) (rw count refl)))

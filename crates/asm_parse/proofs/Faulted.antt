@@ -22,7 +22,8 @@ use Rattle.asm_parse.specs.Statements.{terminals}
 use Rattle.asm_statement.specs.Reading.{Fault, fed, placed, next_word}
 use Rattle.asm_argument.specs.Terminals.{terminal_of}
 use Rattle.asm_statement.specs.Running.{Running, ◌>>=◌, goes_on, second_does, one_byte_over, moved, one_byte, run, start, closed, read, Parses}
-use Rattle.asm_parse.specs.Refusals.{Ending, Worded, refused_cause, byte_cause, Refused, RefusedFor}
+use Rattle.asm_parse.specs.Refusals.{Ending, Worded, refused_cause, byte_cause, Refused}
+use Rattle.asm_parse.specs.Answers.{RefusedFor}
 use Rattle.asm_parse.proofs.Closing.{AreNamed, token_is}
 use Rattle.asm_parse.proofs.Walking.{fault_in, Found}
 use Rattle.asm_parse.proofs.Refused.{found_fault}

@@ -15,7 +15,7 @@ use Rattle.asm_statement.specs.ScopeView.{ScopeView}
 use Rattle.asm_source.specs.Names.{holds, name_of, symbol_in}
 use Rattle.asm_statement.specs.Scope.{has_room, noted, defined_too}
 use Rattle.asm_argument.specs.Operand.{is_nothing, first, allowed, counted, lowered, registered, next_terminal, operand_step, finished, is_finished, name_in}
-use Rattle.asm_argument.specs.Shapes.{is_operand, takes_names, takes_sums, takes_minus, takes_numbers, takes_text, fits, signed, named, plain, of_memory, is_register, is_scale, is_low}
+use Rattle.asm_argument.specs.Shapes.{is_operand, takes_names, takes_sums, takes_minus, takes_numbers, takes_text, fits, signed, named, plain, is_register, is_scale, is_low}
 use Rattle.asm_statement.specs.Statement.{noting}
 use Rattle.asm_parse.specs.Statements.{IsSeen}
 use Rattle.asm_argument.proofs.Operands.{ok, registered_ok, allowed_ok, counted_ok, lowered_ok, scale_ok, ok_is, operand_run}
@@ -102,19 +102,19 @@ name_step sh (partial.Open v) terminal.Comma q h = subst (Keeps (partial.Open v)
 name_step sh (partial.Open v) _ q h = absurd cc
 name_step sh (partial.BasePercent v) (terminal.Name r) q h = subst (Keeps (partial.BasePercent v) (terminal.Name r)) (registered_ok (is_register r) (partial.Base v r) q h).1 (inl (refl, refl))
 name_step sh (partial.BasePercent v) _ q h = absurd cc
-name_step sh (partial.Base v b) terminal.Close q h = subst (Keeps (partial.Base v b) terminal.Close) (ok_is (partial.Whole (of_memory v (Some b) None 1)) q h) (inl (refl, refl))
+name_step sh (partial.Base v b) terminal.Close q h = subst (Keeps (partial.Base v b) terminal.Close) (ok_is (partial.Whole (form.Memory v (Some b) None 1)) q h) (inl (refl, refl))
 name_step sh (partial.Base v b) terminal.Comma q h = subst (Keeps (partial.Base v b) terminal.Comma) (ok_is (partial.IndexComma v (Some b)) q h) (inl (refl, refl))
 name_step sh (partial.Base v b) _ q h = absurd cc
 name_step sh (partial.IndexComma v b) terminal.Percent q h = subst (Keeps (partial.IndexComma v b) terminal.Percent) (ok_is (partial.IndexPercent v b) q h) (inl (refl, refl))
 name_step sh (partial.IndexComma v b) _ q h = absurd cc
 name_step sh (partial.IndexPercent v b) (terminal.Name r) q h = subst (Keeps (partial.IndexPercent v b) (terminal.Name r)) (registered_ok (is_register r) (partial.Index v b r) q h).1 (inl (refl, refl))
 name_step sh (partial.IndexPercent v b) _ q h = absurd cc
-name_step sh (partial.Index v b i) terminal.Close q h = subst (Keeps (partial.Index v b i) terminal.Close) (ok_is (partial.Whole (of_memory v b (Some i) 1)) q h) (inl (refl, refl))
+name_step sh (partial.Index v b i) terminal.Close q h = subst (Keeps (partial.Index v b i) terminal.Close) (ok_is (partial.Whole (form.Memory v b (Some i) 1)) q h) (inl (refl, refl))
 name_step sh (partial.Index v b i) terminal.Comma q h = subst (Keeps (partial.Index v b i) terminal.Comma) (ok_is (partial.Scale v b i) q h) (inl (refl, refl))
 name_step sh (partial.Index v b i) _ q h = absurd cc
 name_step sh (partial.Scale v b i) (terminal.Number n) q h = subst (Keeps (partial.Scale v b i) (terminal.Number n)) (scale_ok n (partial.Scaled v b i n) q h).1 (inl (refl, refl))
 name_step sh (partial.Scale v b i) _ q h = absurd cc
-name_step sh (partial.Scaled v b i n) terminal.Close q h = subst (Keeps (partial.Scaled v b i n) terminal.Close) (ok_is (partial.Whole (of_memory v b (Some i) n)) q h) (inl (refl, refl))
+name_step sh (partial.Scaled v b i n) terminal.Close q h = subst (Keeps (partial.Scaled v b i n) terminal.Close) (ok_is (partial.Whole (form.Memory v b (Some i) n)) q h) (inl (refl, refl))
 name_step sh (partial.Scaled v b i n) _ q h = absurd cc
 name_step sh (partial.Whole f) _ q h = absurd cc
 
@@ -136,9 +136,9 @@ name_stays sh (s ∷ ss) p q n h e = by_step (next_terminal sh p s) refl h (λ x
 
 pub finished_named : (p : Partial) (f : Form) → finished p ≡ Some f → named_in p ≡ symbol_in f
 finished_named (partial.Name place.Immediate n) f h = let g : form.Immediate (named n (pos 0)) ≡ f = cc in ap symbol_in g
-finished_named (partial.Name place.Memory n) f h = let g : of_memory (Some (named n (pos 0))) None None 1 ≡ f = cc in ap symbol_in g
+finished_named (partial.Name place.Memory n) f h = let g : form.Memory (Some (named n (pos 0))) None None 1 ≡ f = cc in ap symbol_in g
 finished_named (partial.Number place.Immediate v) f h = let g : form.Immediate v ≡ f = cc in ap symbol_in g
-finished_named (partial.Number place.Memory v) f h = let g : of_memory (Some v) None None 1 ≡ f = cc in ap symbol_in g
+finished_named (partial.Number place.Memory v) f h = let g : form.Memory (Some v) None None 1 ≡ f = cc in ap symbol_in g
 finished_named (partial.Whole x) f h = let g : x ≡ f = cc in ap symbol_in g
 finished_named partial.Absent f h = let g : form.Absent ≡ f = cc in ap symbol_in g
 finished_named _ f h = absurd cc

@@ -25,7 +25,8 @@ use Rattle.asm_statement.specs.ScopeView.{ScopeView}
 use Rattle.asm_argument.specs.Terminals.{terminal_of}
 use Rattle.asm_statement.specs.Reading.{is_longer, longer, ending_at, with_end, next_word}
 use Rattle.asm_source.specs.Names.{holds}
-use Rattle.asm_statement.specs.Scope.{has_room, is_spent, fresh, pushed}
+use Rattle.asm_statement.specs.Definers.{is_defining, is_spent}
+use Rattle.asm_statement.specs.Scope.{has_room, fresh, pushed}
 use Rattle.asm_argument.specs.declared.shape.Shape.TheVariants as shape
 use Rattle.asm_argument.specs.declared.operand.ValuePlace.TheVariants as place
 use Rattle.asm_argument.specs.declared.operand.Partial.TheVariants as partial
@@ -34,7 +35,7 @@ use Rattle.asm_parse.proofs.Names.{noting_seen, Keeps, name_step, IsSome, termin
 use Rattle.asm_argument.specs.Operand.{operand_step, is_finished, is_nothing, name_in}
 use Rattle.asm_statement.specs.Statement.{noting, after_noting, with_name, after_step, at_shape, within, argument_of, comma_behind, end_behind, ended, complete, is_bare, takes_star, argument_step, nothing_yet, labelled, label, rep_step, of_directive, section_name, unless_skipping, start_step, colon_behind, other_behind, named_step, sectioned_step, flags_step, skip, with_scope, step, is_place, strayed, next_step, is_unknown, is_taken, lacks_names, doom, fault_line}
 use Rattle.asm_statement.specs.Items.{item_of, resumed, is_rep, is_passed}
-use Rattle.asm_statement.specs.Directives.{shape_at, least, defines, is_instruction, directive_of, is_dotted, is_section, is_defining}
+use Rattle.asm_statement.specs.Directives.{shape_at, least, defines, is_instruction, directive_of, is_dotted, is_section}
 
 abbrev pub Answer : Type 0
 Answer = Result (ScopeView × StatementState) SourceCause

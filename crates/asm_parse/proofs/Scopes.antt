@@ -14,7 +14,8 @@ use Rattle.asm_lex.specs.declared.fault.SourceCause.TheVariants as cause
 use Rattle.asm_statement.specs.ScopeView.{ScopeView}
 use Rattle.asm_source.specs.Names.{holds, added}
 use Rattle.asm_source.proofs.Held.{holds_more, added_holds}
-use Rattle.asm_statement.specs.Scope.{fresh, has_room, is_spent}
+use Rattle.asm_statement.specs.Definers.{is_spent}
+use Rattle.asm_statement.specs.Scope.{fresh, has_room}
 use Rattle.asm_statement.specs.Statement.{noting}
 use Rattle.asm_parse.specs.Statements.{IsSeen}
 

@@ -11,8 +11,9 @@ use Rattle.asm_statement.specs.declared.directive.Directive.{Directive}
 use Rattle.asm_statement.specs.declared.state.StatementState.{StatementState}
 use Rattle.asm_statement.specs.declared.state.StatementState.TheVariants as state
 use Rattle.asm_statement.specs.ScopeView.{ScopeView}
+use Rattle.asm_statement.specs.Definers.{is_defining}
 use Rattle.asm_statement.specs.Scope.{fresh}
-use Rattle.asm_statement.specs.Directives.{directive_of, is_dotted, is_defining}
+use Rattle.asm_statement.specs.Directives.{directive_of, is_dotted}
 use Rattle.asm_statement.specs.Statement.{step, next_step, fault_line, doom, pending, stopped, left_open, open_at_end, is_unknown, is_taken, lacks_names, is_place, stray_cause}
 use Rattle.asm_statement.specs.Reading.{Fault, placed, is_longer, ending_at, with_end, longer, next_word}
 use Rattle.asm_argument.specs.Terminals.{terminal_of}

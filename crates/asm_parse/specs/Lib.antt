@@ -2,3 +2,4 @@ pub mod Statements
 pub mod Source
 pub mod Reads
 pub mod Refusals
+pub mod Answers

@@ -1,12 +1,10 @@
 -- Why a source is refused, in the grammar's own words: apart from how it is read.
-use Rattle.std.specs.Prelude.{◌≡◌, ℕ, ◌+◌, ◌==◌, Bool, true, false, not, ◌&&◌, ◌||◌, is_none, List, [], ◌∷◌, ◌++◌, length, Option, Some, None, Result, Ok, Err, if◌then◌else◌}
+use Rattle.std.specs.Prelude.{◌≡◌, ℕ, ◌+◌, ◌==◌, Bool, true, false, not, ◌&&◌, ◌||◌, is_none, List, [], ◌∷◌, ◌++◌, length, Option, Some, None, if◌then◌else◌}
 use Rattle.std.specs.List.{list_all}
 use Rattle.asm_lex.specs.declared.bytes.Class.TheVariants as class
 use Rattle.asm_lex.specs.declared.token.TokenKind.{TokenKind}
 use Rattle.asm_lex.specs.declared.fault.SourceCause.{SourceCause}
 use Rattle.asm_lex.specs.declared.fault.SourceCause.TheVariants as cause
-use Rattle.asm_lex.specs.declared.fault.SourceFault.{SourceFault}
-use Rattle.asm_lex.specs.declared.fault.SourceFault.TheVariants as fault
 use Rattle.asm_lex.specs.Bytes.{class_of}
 use Rattle.asm_lex.specs.Words.{Word}
 use Rattle.asm_lex.specs.Source.{IsGap, IsToken, lines_after}
@@ -15,7 +13,6 @@ use Rattle.asm_argument.specs.declared.terminal.Terminal.{Terminal}
 use Rattle.asm_argument.specs.declared.terminal.Terminal.TheVariants as terminal
 use Rattle.asm_argument.specs.declared.shape.Shape.{Shape}
 use Rattle.asm_source.specs.declared.tree.Argument.{Argument}
-use Rattle.asm_source.specs.declared.tree.SourceItem.{SourceItem}
 use Rattle.asm_statement.specs.declared.directive.Directive.{Directive}
 use Rattle.asm_statement.specs.declared.directive.Directive.TheVariants as kind
 use Rattle.asm_statement.specs.declared.directive.Head.{Head}
@@ -104,10 +101,6 @@ last_of [] = None
 last_of (s ∷ []) = Some s
 last_of (s ∷ t ∷ ss) = last_of (t ∷ ss)
 
-abbrev pub is_empty : List Terminal → Bool
-is_empty [] = true
-is_empty (s ∷ ss) = false
-
 -- `%`: a register has to follow
 abbrev pub is_percent : Option Terminal → Bool
 is_percent (Some terminal.Percent) = true
@@ -195,11 +188,9 @@ named_cause sc n s =
 
 -- the cause of a word that is refused in this place
 abbrev pub cause_at : ScopeView → StatementPlace → Terminal → SourceCause
-cause_at sc StatementPlace.first s = other_cause s
 cause_at sc (StatementPlace.named n) s = named_cause sc n s
-cause_at sc StatementPlace.section s = other_cause s
-cause_at sc StatementPlace.skipped s = other_cause s
 cause_at sc (StatementPlace.argument h done sc2 arg) s = in_argument h done sc2 arg s
+cause_at sc _ s = other_cause s
 
 -- Where a `%` may not stand its own cause comes first: no register stands behind it.
 abbrev pub percent_cause : SourceCause → List Terminal → SourceCause
@@ -239,9 +230,3 @@ pub data Refused (text : List ℕ) : ℕ → SourceCause → Type 0 where
   byte : {sc : ScopeView} {p : StatementPlace} {line : ℕ} {c : SourceCause} (ws : List Word) → Worded 0 1 (text ++ 10 ∷ []) ws (Ending.broken line c) → IsBeginning ws → Reaches ws sc p
       → Refused text line (byte_cause sc p c)
   comment : {line : ℕ} (ws : List Word) → Worded 0 1 (text ++ 10 ∷ []) ws (Ending.comment line) → IsBeginning ws → Refused text line cause.OpenComment
-
--- a refusal has the line and the cause of what is refused first
-abbrev pub RefusedFor : List ℕ → Result (List SourceItem) SourceFault → Type 0
-RefusedFor text (Ok x) = Unit {0}
-RefusedFor text (Err fault.Memory) = Unit {0}
-RefusedFor text (Err (fault.At l c)) = Refused text l c

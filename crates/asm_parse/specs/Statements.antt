@@ -67,9 +67,8 @@ is_inner _ = true
 
 -- what a skipped statement may go on with behind its name: no colon first, which would make it a label
 abbrev pub is_unlabelled : List Terminal → Bool
-is_unlabelled [] = true
 is_unlabelled (terminal.Colon ∷ ss) = false
-is_unlabelled (s ∷ ss) = true
+is_unlabelled _ = true
 
 abbrev pub is_nameless : Terminal → Bool
 is_nameless (terminal.Name n) = false

@@ -10,7 +10,8 @@ ghost use Rattle.asm_lex.specs.declared.fault.SourceCause.TheVariants.{TooLong};
 ghost use Rattle.asm_lex.specs.declared.fault.SourceFault.TheVariants.{At};
 ghost use Rattle.asm_lex.specs.declared.fault.SourceCause.{SourceCause as CauseView};
 ghost use Rattle.asm_lex.specs.Refused.{RefusesAs};
-ghost use Rattle.asm_parse.specs.Refusals.{Refused, RefusedFor};
+ghost use Rattle.asm_parse.specs.Refusals.{Refused};
+ghost use Rattle.asm_parse.specs.Answers.{RefusedFor};
 ghost use Rattle.asm_statement.specs.Running as run;
 
 use asm_lex::{LIMIT, SourceFault};

@@ -1,5 +1,6 @@
 pub mod Names
 pub mod Keys
+pub mod Tables
 pub mod DirectiveTable
 pub mod Size
 pub mod Readable

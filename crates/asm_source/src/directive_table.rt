@@ -1,6 +1,7 @@
 //! The names of the directives.
 
 ghost use Rattle.std.specs.Prelude.{◌≡◌};
+ghost use Rattle.asm_source.specs.Tables.{found};
 ghost use Rattle.asm_source.specs.DirectiveTable as spec;
 
 use crate::bytes::{begins, is_text};
@@ -47,9 +48,9 @@ pub fn directive_name(name: &[u8]) -> Option<DirectiveName>
         .or(skipped_directive(name))
 }
 
-#[tactic(auto, unfolding(crate::specs::DirectiveTable::section_directive))]
+#[tactic(auto, unfolding(crate::specs::DirectiveTable::section_directives))]
 fn section_directive(name: &[u8]) -> Option<DirectiveName>
-    ensures { result ≡ spec.section_directive name.now }
+    ensures { result ≡ found spec.section_directives name.now }
 {
     if is_text(name, b".text") {
         Some(DirectiveName::Text)
@@ -64,9 +65,9 @@ fn section_directive(name: &[u8]) -> Option<DirectiveName>
     }
 }
 
-#[tactic(auto, unfolding(crate::specs::DirectiveTable::symbol_directive))]
+#[tactic(auto, unfolding(crate::specs::DirectiveTable::symbol_directives))]
 fn symbol_directive(name: &[u8]) -> Option<DirectiveName>
-    ensures { result ≡ spec.symbol_directive name.now }
+    ensures { result ≡ found spec.symbol_directives name.now }
 {
     if is_text(name, b".globl") || is_text(name, b".global") {
         Some(DirectiveName::Global)
@@ -81,9 +82,9 @@ fn symbol_directive(name: &[u8]) -> Option<DirectiveName>
     }
 }
 
-#[tactic(auto, unfolding(crate::specs::DirectiveTable::value_directive))]
+#[tactic(auto, unfolding(crate::specs::DirectiveTable::value_directives))]
 fn value_directive(name: &[u8]) -> Option<DirectiveName>
-    ensures { result ≡ spec.value_directive name.now }
+    ensures { result ≡ found spec.value_directives name.now }
 {
     if is_text(name, b".byte") {
         Some(DirectiveName::Bytes)
@@ -98,9 +99,9 @@ fn value_directive(name: &[u8]) -> Option<DirectiveName>
     }
 }
 
-#[tactic(auto, unfolding(crate::specs::DirectiveTable::string_directive))]
+#[tactic(auto, unfolding(crate::specs::DirectiveTable::string_directives))]
 fn string_directive(name: &[u8]) -> Option<DirectiveName>
-    ensures { result ≡ spec.string_directive name.now }
+    ensures { result ≡ found spec.string_directives name.now }
 {
     if is_text(name, b".ascii") {
         Some(DirectiveName::Ascii)
@@ -111,9 +112,9 @@ fn string_directive(name: &[u8]) -> Option<DirectiveName>
     }
 }
 
-#[tactic(auto, unfolding(crate::specs::DirectiveTable::alignment_directive))]
+#[tactic(auto, unfolding(crate::specs::DirectiveTable::alignment_directives))]
 fn alignment_directive(name: &[u8]) -> Option<DirectiveName>
-    ensures { result ≡ spec.alignment_directive name.now }
+    ensures { result ≡ found spec.alignment_directives name.now }
 {
     if is_text(name, b".align") || is_text(name, b".balign") {
         Some(DirectiveName::Aligned)

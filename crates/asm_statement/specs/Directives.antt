@@ -1,5 +1,6 @@
 -- The directives: their names, and what their arguments are.
 use Rattle.std.specs.Prelude.{codes, ℕ, ◌==◌, Bool, true, false, ◌&&◌, ◌||◌, List, [], ◌∷◌, Option, Some, None, if◌then◌else◌}
+use Rattle.std.specs.Option.{option_map}
 use Rattle.asm_argument.specs.declared.shape.Shape.{Shape}
 use Rattle.asm_argument.specs.declared.shape.Shape.TheVariants as shape
 use Rattle.asm_source.specs.declared.directive_table.DirectiveName.{DirectiveName}
@@ -32,12 +33,8 @@ family called.Common = directive.Common
 family called.LocalCommon = directive.LocalCommon
 family called.Skipped = directive.Skipped
 
-abbrev pub family_of : Option DirectiveName → Option Directive
-family_of None = None
-family_of (Some d) = Some (family d)
-
 unfoldable pub directive_of : List ℕ → Option Directive
-directive_of n = family_of (directive_name n)
+directive_of n = option_map family (directive_name n)
 
 abbrev pub is_dotted : List ℕ → Bool
 is_dotted [] = false
@@ -50,11 +47,6 @@ is_change _ = false
 
 abbrev pub changes_section : List ℕ → Bool
 changes_section n = is_dotted n && is_change (directive_of n)
-
-abbrev pub is_defining : Option Directive → Bool
-is_defining (Some directive.Common) = true
-is_defining (Some directive.LocalCommon) = true
-is_defining _ = false
 
 -- ---- arguments
 
@@ -75,29 +67,23 @@ abbrev pub shape_at : Head → ℕ → Option Shape
 shape_at (head.Instruction r n) i = Some shape.Operand
 shape_at (head.Directive k n) i = directive_shape k i
 
-abbrev pub directive_least : Directive → ℕ
-directive_least directive.Plain = 0
-directive_least directive.Common = 2
-directive_least directive.LocalCommon = 2
-directive_least _ = 1
-
 -- how many arguments there are at least
 abbrev pub least : Head → ℕ
 least (head.Instruction r n) = 0
-least (head.Directive k n) = directive_least k
+least (head.Directive directive.Plain n) = 0
+least (head.Directive directive.Common n) = 2
+least (head.Directive directive.LocalCommon n) = 2
+least (head.Directive k n) = 1
 
 abbrev pub is_instruction : Head → Bool
 is_instruction (head.Instruction r n) = true
 is_instruction (head.Directive k n) = false
 
-abbrev pub directive_defines : Directive → ℕ → Bool
-directive_defines directive.Common i = i == 0
-directive_defines directive.LocalCommon i = i == 0
-directive_defines _ i = false
-
+-- whether this argument defines its name
 abbrev pub defines : Head → ℕ → Bool
-defines (head.Instruction r n) i = false
-defines (head.Directive k n) i = directive_defines k i
+defines (head.Directive directive.Common n) i = i == 0
+defines (head.Directive directive.LocalCommon n) i = i == 0
+defines _ i = false
 
 -- ---- sections
 

@@ -1,6 +1,7 @@
 pub mod ScopeView
 pub mod Scope
 pub mod Directives
+pub mod Definers
 pub mod Items
 pub mod Openings
 pub mod Statement

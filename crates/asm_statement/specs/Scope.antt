@@ -1,5 +1,5 @@
 -- What the statements before say, and how it grows.
-use Rattle.std.specs.Prelude.{ℕ, Bool, false, ◌||◌, not, nat_lt, List, [], ◌∷◌, ◌++◌, length}
+use Rattle.std.specs.Prelude.{ℕ, Bool, false, ◌||◌, nat_lt, List, [], ◌∷◌, ◌++◌, length}
 use Rattle.asm_source.specs.declared.names.TheConstants.{SYMBOL_LIMIT}
 use Rattle.asm_source.specs.declared.tree.SourceItem.{SourceItem}
 use Rattle.asm_source.specs.Names.{holds, added}
@@ -11,10 +11,6 @@ fresh = record { items = []; names = []; defined = []; skipping = false }
 -- no more different names than a source may have
 abbrev pub has_room : ScopeView → List ℕ → Bool
 has_room s name = holds s.names name || nat_lt (length s.names) SYMBOL_LIMIT
-
--- as many names as a source may have are defined
-abbrev pub is_spent : ScopeView → Bool
-is_spent s = not (nat_lt (length s.defined) SYMBOL_LIMIT)
 
 abbrev pub pushed : ScopeView → SourceItem → ScopeView
 pushed s item = record s { items = s.items ++ item ∷ [] }

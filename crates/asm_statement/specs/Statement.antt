@@ -20,10 +20,11 @@ use Rattle.asm_statement.specs.declared.state.StatementState.{StatementState}
 use Rattle.asm_statement.specs.declared.state.StatementState.TheVariants as state
 use Rattle.asm_statement.specs.declared.fault.StepFault.{StepFault}
 use Rattle.asm_statement.specs.declared.fault.StepFault.TheVariants as step_fault
-use Rattle.asm_statement.specs.Directives.{shape_at, least, is_instruction, defines, directive_of, is_dotted, is_section, is_defining}
+use Rattle.asm_statement.specs.Directives.{shape_at, least, is_instruction, defines, directive_of, is_dotted, is_section}
 use Rattle.asm_statement.specs.ScopeView.{ScopeView}
 use Rattle.asm_source.specs.Names.{holds}
-use Rattle.asm_statement.specs.Scope.{has_room, is_spent, fresh, pushed, noted, defined_too}
+use Rattle.asm_statement.specs.Definers.{is_defining, is_spent}
+use Rattle.asm_statement.specs.Scope.{has_room, fresh, pushed, noted, defined_too}
 use Rattle.asm_argument.specs.Operand.{operand_step, begun, finished, is_finished, is_nothing, is_unbegun, awaits_register, name_in}
 use Rattle.asm_argument.specs.Shapes.{is_register}
 use Rattle.asm_statement.specs.Items.{item_of, resumed, sectioned, is_rep, is_passed}

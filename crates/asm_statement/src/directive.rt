@@ -1,6 +1,7 @@
 //! The directives, and what their arguments are.
 
 ghost use Rattle.std.specs.Prelude.{◌≡◌};
+ghost use Rattle.asm_statement.specs.Definers.{is_defining};
 ghost use Rattle.asm_statement.specs.Directives as spec;
 ghost use Rattle.asm_statement.specs.Items.{is_rep};
 
@@ -66,17 +67,11 @@ pub fn least(head: &Head) -> usize
 {
     match head {
         Head::Instruction { rep: _, name: _ } => 0,
-        Head::Directive { kind, name: _ } => directive_least(*kind),
-    }
-}
-
-fn directive_least(kind: Directive) -> usize
-    ensures { result ≡ spec.directive_least kind }
-{
-    match kind {
-        Directive::Plain => 0,
-        Directive::Common | Directive::LocalCommon => 2,
-        _ => 1,
+        Head::Directive { kind, name: _ } => match kind {
+            Directive::Plain => 0,
+            Directive::Common | Directive::LocalCommon => 2,
+            _ => 1,
+        },
     }
 }
 
@@ -209,7 +204,7 @@ fn is_change(directive: Option<Directive>) -> bool
 
 /// Whether the directive defines a name.
 pub fn is_defining(directive: Option<Directive>) -> bool
-    ensures { result ≡ spec.is_defining directive }
+    ensures { result ≡ is_defining directive }
 {
     match directive {
         Some(Directive::Common) | Some(Directive::LocalCommon) => true,

@@ -2,6 +2,7 @@
 
 ghost use Rattle.std.specs.Prelude.{◌≡◌, OnOk, OnErr};
 ghost use Rattle.asm_source.specs.Names.{holds};
+ghost use Rattle.asm_statement.specs.Definers.{is_spent};
 ghost use Rattle.asm_statement.specs.Scope as spec;
 
 use asm_source::{Name, Names, SYMBOL_LIMIT, SourceItem};
@@ -62,7 +63,7 @@ impl Scope {
 
     /// Whether as many names as a source may have are defined.
     pub fn is_spent(&self) -> bool
-        ensures { result ≡ spec.is_spent self.now }
+        ensures { result ≡ is_spent self.now }
     {
         self.defined.len() >= SYMBOL_LIMIT
     }
