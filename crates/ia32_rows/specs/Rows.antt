@@ -66,6 +66,14 @@ form l n p a i = record { lead = l; opcode = n; plus = p; addressing = a; immedi
 abbrev pub row : Lead → ℕ → Plus → Addressing → Immediate → Op → Size → Operands → Row
 row l n p a i o s x = record { form = form l n p a i; op = o; size = s; operands = x }
 
+-- an opcode with nothing behind it
+abbrev pub alone : ℕ → Op → Row
+alone n o = row lead.Nothing n plus.Nothing no_modrm immediate.Nothing o size.Long operands.Nothing
+
+-- the rows of an opcode for bytes, and of the next one for 32 bits
+abbrev pub both : Lead → ℕ → Addressing → Immediate → Op → Operands → List Row
+both l n a i o x = row l n plus.Nothing a i o size.Byte x ∷ row l (n + 1) plus.Nothing a i o size.Long x ∷ []
+
 -- the rows of the k-th of ADD OR ADC SBB AND SUB XOR CMP
 abbrev pub alu : ℕ → Op → List Row
 alu k o =
@@ -74,21 +82,16 @@ alu k o =
     row lead.Nothing (k * 8 + 5) plus.Nothing no_modrm immediate.Long o size.Long operands.Accumulator ∷
     row lead.Nothing 0x80 plus.Nothing (digit k) immediate.Byte o size.Byte operands.Rm ∷
     row lead.Nothing 0x81 plus.Nothing (digit k) immediate.Long o size.Long operands.Rm ∷
-    row lead.Nothing (k * 8) plus.Nothing slash_r immediate.Nothing o size.Byte operands.RmReg ∷
-    row lead.Nothing (k * 8 + 1) plus.Nothing slash_r immediate.Nothing o size.Long operands.RmReg ∷
-    row lead.Nothing (k * 8 + 2) plus.Nothing slash_r immediate.Nothing o size.Byte operands.RegRm ∷
-    row lead.Nothing (k * 8 + 3) plus.Nothing slash_r immediate.Nothing o size.Long operands.RegRm ∷
+    both lead.Nothing (k * 8) slash_r immediate.Nothing o operands.RmReg ++
+    both lead.Nothing (k * 8 + 2) slash_r immediate.Nothing o operands.RegRm ++
     []
 
 -- the rows of a shift or rotation
 abbrev pub shift : ℕ → Op → List Row
 shift d o =
-    row lead.Nothing 0xd0 plus.Nothing (digit d) immediate.One o size.Byte operands.Rm ∷
-    row lead.Nothing 0xd1 plus.Nothing (digit d) immediate.One o size.Long operands.Rm ∷
-    row lead.Nothing 0xc0 plus.Nothing (digit d) immediate.Byte o size.Byte operands.Rm ∷
-    row lead.Nothing 0xc1 plus.Nothing (digit d) immediate.Byte o size.Long operands.Rm ∷
-    row lead.Nothing 0xd2 plus.Nothing (digit d) immediate.Nothing o size.Byte operands.RmCount ∷
-    row lead.Nothing 0xd3 plus.Nothing (digit d) immediate.Nothing o size.Long operands.RmCount ∷
+    both lead.Nothing 0xd0 (digit d) immediate.One o operands.Rm ++
+    both lead.Nothing 0xc0 (digit d) immediate.Byte o operands.Rm ++
+    both lead.Nothing 0xd2 (digit d) immediate.Nothing o operands.RmCount ++
     []
 
 -- TEST, NOT, NEG, MUL, IMUL, DIV, IDIV, INC and DEC
@@ -98,46 +101,33 @@ tests_and_products =
     row lead.Nothing 0xa9 plus.Nothing no_modrm immediate.Long op.Test size.Long operands.Accumulator ∷
     row lead.Nothing 0xf6 plus.Nothing (digit 0) immediate.Byte op.Test size.Byte operands.Rm ∷
     row lead.Nothing 0xf7 plus.Nothing (digit 0) immediate.Long op.Test size.Long operands.Rm ∷
-    row lead.Nothing 0x84 plus.Nothing slash_r immediate.Nothing op.Test size.Byte operands.RmReg ∷
-    row lead.Nothing 0x85 plus.Nothing slash_r immediate.Nothing op.Test size.Long operands.RmReg ∷
-    row lead.Nothing 0xf6 plus.Nothing (digit 2) immediate.Nothing op.Not size.Byte operands.Rm ∷
-    row lead.Nothing 0xf7 plus.Nothing (digit 2) immediate.Nothing op.Not size.Long operands.Rm ∷
-    row lead.Nothing 0xf6 plus.Nothing (digit 3) immediate.Nothing op.Neg size.Byte operands.Rm ∷
-    row lead.Nothing 0xf7 plus.Nothing (digit 3) immediate.Nothing op.Neg size.Long operands.Rm ∷
-    row lead.Nothing 0xf6 plus.Nothing (digit 4) immediate.Nothing op.Mul size.Byte operands.Rm ∷
-    row lead.Nothing 0xf7 plus.Nothing (digit 4) immediate.Nothing op.Mul size.Long operands.Rm ∷
-    row lead.Nothing 0xf6 plus.Nothing (digit 5) immediate.Nothing op.Imul size.Byte operands.Rm ∷
-    row lead.Nothing 0xf7 plus.Nothing (digit 5) immediate.Nothing op.Imul size.Long operands.Rm ∷
-    row lead.Nothing 0xf6 plus.Nothing (digit 6) immediate.Nothing op.Div size.Byte operands.Rm ∷
-    row lead.Nothing 0xf7 plus.Nothing (digit 6) immediate.Nothing op.Div size.Long operands.Rm ∷
-    row lead.Nothing 0xf6 plus.Nothing (digit 7) immediate.Nothing op.Idiv size.Byte operands.Rm ∷
-    row lead.Nothing 0xf7 plus.Nothing (digit 7) immediate.Nothing op.Idiv size.Long operands.Rm ∷
+    both lead.Nothing 0x84 slash_r immediate.Nothing op.Test operands.RmReg ++
+    both lead.Nothing 0xf6 (digit 2) immediate.Nothing op.Not operands.Rm ++
+    both lead.Nothing 0xf6 (digit 3) immediate.Nothing op.Neg operands.Rm ++
+    both lead.Nothing 0xf6 (digit 4) immediate.Nothing op.Mul operands.Rm ++
+    both lead.Nothing 0xf6 (digit 5) immediate.Nothing op.Imul operands.Rm ++
+    both lead.Nothing 0xf6 (digit 6) immediate.Nothing op.Div operands.Rm ++
+    both lead.Nothing 0xf6 (digit 7) immediate.Nothing op.Idiv operands.Rm ++
     row lead.Escape 0xaf plus.Nothing slash_r immediate.Nothing op.Imul size.Long operands.RegRm ∷
     row lead.Nothing 0x6b plus.Nothing slash_r immediate.SignedByte op.ImulBy size.Long operands.RegRm ∷
     row lead.Nothing 0x69 plus.Nothing slash_r immediate.Long op.ImulBy size.Long operands.RegRm ∷
     row lead.Nothing 0x40 plus.Register no_modrm immediate.Nothing op.Inc size.Long operands.Opcode ∷
-    row lead.Nothing 0xfe plus.Nothing (digit 0) immediate.Nothing op.Inc size.Byte operands.Rm ∷
-    row lead.Nothing 0xff plus.Nothing (digit 0) immediate.Nothing op.Inc size.Long operands.Rm ∷
+    both lead.Nothing 0xfe (digit 0) immediate.Nothing op.Inc operands.Rm ++
     row lead.Nothing 0x48 plus.Register no_modrm immediate.Nothing op.Dec size.Long operands.Opcode ∷
-    row lead.Nothing 0xfe plus.Nothing (digit 1) immediate.Nothing op.Dec size.Byte operands.Rm ∷
-    row lead.Nothing 0xff plus.Nothing (digit 1) immediate.Nothing op.Dec size.Long operands.Rm ∷
+    both lead.Nothing 0xfe (digit 1) immediate.Nothing op.Dec operands.Rm ++
     []
 
 -- MOV and all that follows it but the sites
 abbrev pub moves : List Row
 moves =
-    row lead.Nothing 0xa0 plus.Nothing offset immediate.Nothing op.Mov size.Byte operands.AccumulatorRm ∷
-    row lead.Nothing 0xa1 plus.Nothing offset immediate.Nothing op.Mov size.Long operands.AccumulatorRm ∷
-    row lead.Nothing 0xa2 plus.Nothing offset immediate.Nothing op.Mov size.Byte operands.RmAccumulator ∷
-    row lead.Nothing 0xa3 plus.Nothing offset immediate.Nothing op.Mov size.Long operands.RmAccumulator ∷
+    both lead.Nothing 0xa0 offset immediate.Nothing op.Mov operands.AccumulatorRm ++
+    both lead.Nothing 0xa2 offset immediate.Nothing op.Mov operands.RmAccumulator ++
     row lead.Nothing 0xb0 plus.Register no_modrm immediate.Byte op.Mov size.Byte operands.Opcode ∷
     row lead.Nothing 0xb8 plus.Register no_modrm immediate.Long op.Mov size.Long operands.Opcode ∷
     row lead.Nothing 0xc6 plus.Nothing (digit 0) immediate.Byte op.Mov size.Byte operands.Rm ∷
     row lead.Nothing 0xc7 plus.Nothing (digit 0) immediate.Long op.Mov size.Long operands.Rm ∷
-    row lead.Nothing 0x88 plus.Nothing slash_r immediate.Nothing op.Mov size.Byte operands.RmReg ∷
-    row lead.Nothing 0x89 plus.Nothing slash_r immediate.Nothing op.Mov size.Long operands.RmReg ∷
-    row lead.Nothing 0x8a plus.Nothing slash_r immediate.Nothing op.Mov size.Byte operands.RegRm ∷
-    row lead.Nothing 0x8b plus.Nothing slash_r immediate.Nothing op.Mov size.Long operands.RegRm ∷
+    both lead.Nothing 0x88 slash_r immediate.Nothing op.Mov operands.RmReg ++
+    both lead.Nothing 0x8a slash_r immediate.Nothing op.Mov operands.RegRm ++
     row lead.Word 0xa1 plus.Nothing offset immediate.Nothing op.Mov size.Word operands.AccumulatorRm ∷
     row lead.Word 0xa3 plus.Nothing offset immediate.Nothing op.Mov size.Word operands.RmAccumulator ∷
     row lead.Word 0xb8 plus.Register no_modrm immediate.Word op.Mov size.Word operands.Opcode ∷
@@ -150,22 +140,16 @@ moves =
     row lead.Escape 0xbf plus.Nothing slash_r immediate.Nothing op.Movsx size.Word operands.RegRm ∷
     row lead.Nothing 0x8d plus.Nothing slash_r_m immediate.Nothing op.Lea size.Long operands.RegRm ∷
     row lead.Nothing 0x90 plus.OtherRegister no_modrm immediate.Nothing op.Xchg size.Long operands.AccumulatorOpcode ∷
-    row lead.Nothing 0x86 plus.Nothing slash_r_r immediate.Nothing op.Xchg size.Byte operands.TwoRegisters ∷
-    row lead.Nothing 0x87 plus.Nothing slash_r_r immediate.Nothing op.Xchg size.Long operands.TwoRegisters ∷
-    row lead.Nothing 0x86 plus.Nothing slash_r_m immediate.Nothing op.Xchg size.Byte operands.RmReg ∷
-    row lead.Nothing 0x87 plus.Nothing slash_r_m immediate.Nothing op.Xchg size.Long operands.RmReg ∷
+    both lead.Nothing 0x86 slash_r_r immediate.Nothing op.Xchg operands.TwoRegisters ++
+    both lead.Nothing 0x86 slash_r_m immediate.Nothing op.Xchg operands.RmReg ++
     row lead.Nothing 0x50 plus.Register no_modrm immediate.Nothing op.Push size.Long operands.Opcode ∷
     row lead.Nothing 0x6a plus.Nothing no_modrm immediate.SignedByte op.Push size.Long operands.Nothing ∷
     row lead.Nothing 0x68 plus.Nothing no_modrm immediate.Long op.Push size.Long operands.Nothing ∷
     row lead.Nothing 0xff plus.Nothing (digit 6) immediate.Nothing op.Push size.Long operands.Rm ∷
     row lead.Nothing 0x58 plus.Register no_modrm immediate.Nothing op.Pop size.Long operands.Opcode ∷
     row lead.Nothing 0x8f plus.Nothing (digit 0) immediate.Nothing op.Pop size.Long operands.Rm ∷
-    row lead.Nothing 0x60 plus.Nothing no_modrm immediate.Nothing op.Pusha size.Long operands.Nothing ∷
-    row lead.Nothing 0x61 plus.Nothing no_modrm immediate.Nothing op.Popa size.Long operands.Nothing ∷
-    row lead.Nothing 0x98 plus.Nothing no_modrm immediate.Nothing op.Cwde size.Long operands.Nothing ∷
-    row lead.Nothing 0x99 plus.Nothing no_modrm immediate.Nothing op.Cdq size.Long operands.Nothing ∷
-    row lead.Nothing 0xc9 plus.Nothing no_modrm immediate.Nothing op.Leave size.Long operands.Nothing ∷
-    row lead.Nothing 0x90 plus.Nothing no_modrm immediate.Nothing op.Nop size.Long operands.Nothing ∷
+    alone 0x60 op.Pusha ∷ alone 0x61 op.Popa ∷ alone 0x98 op.Cwde ∷ alone 0x99 op.Cdq ∷
+    alone 0xc9 op.Leave ∷ alone 0x90 op.Nop ∷
     row lead.Escape 0x80 plus.Condition no_modrm immediate.Long op.Jcc size.Long operands.Nothing ∷
     row lead.Nothing 0x70 plus.Condition no_modrm immediate.SignedByte op.Jcc size.Long operands.Nothing ∷
     row lead.Escape 0x90 plus.Condition (digit 0) immediate.Nothing op.Setcc size.Byte operands.Rm ∷
@@ -173,36 +157,23 @@ moves =
     row lead.Nothing 0xeb plus.Nothing no_modrm immediate.SignedByte op.Jmp size.Long operands.Nothing ∷
     row lead.Nothing 0xe8 plus.Nothing no_modrm immediate.Long op.Call size.Long operands.Nothing ∷
     row lead.Nothing 0xcd plus.Nothing no_modrm immediate.Byte op.Int size.Long operands.Nothing ∷
-    row lead.Nothing 0xcc plus.Nothing no_modrm immediate.Nothing op.Int3 size.Long operands.Nothing ∷
+    alone 0xcc op.Int3 ∷
     row lead.Escape 0x0b plus.Nothing no_modrm immediate.Nothing op.Ud2 size.Long operands.Nothing ∷
-    row lead.Nothing 0xa4 plus.Nothing no_modrm immediate.Nothing op.Movs size.Byte operands.Nothing ∷
-    row lead.Nothing 0xa5 plus.Nothing no_modrm immediate.Nothing op.Movs size.Long operands.Nothing ∷
-    row lead.Repeat 0xa4 plus.Nothing no_modrm immediate.Nothing op.Movs size.Byte operands.Nothing ∷
-    row lead.Repeat 0xa5 plus.Nothing no_modrm immediate.Nothing op.Movs size.Long operands.Nothing ∷
-    row lead.Nothing 0xaa plus.Nothing no_modrm immediate.Nothing op.Stos size.Byte operands.Nothing ∷
-    row lead.Nothing 0xab plus.Nothing no_modrm immediate.Nothing op.Stos size.Long operands.Nothing ∷
-    row lead.Repeat 0xaa plus.Nothing no_modrm immediate.Nothing op.Stos size.Byte operands.Nothing ∷
-    row lead.Repeat 0xab plus.Nothing no_modrm immediate.Nothing op.Stos size.Long operands.Nothing ∷
-    row lead.Nothing 0xac plus.Nothing no_modrm immediate.Nothing op.Lods size.Byte operands.Nothing ∷
-    row lead.Nothing 0xad plus.Nothing no_modrm immediate.Nothing op.Lods size.Long operands.Nothing ∷
-    row lead.Repeat 0xac plus.Nothing no_modrm immediate.Nothing op.Lods size.Byte operands.Nothing ∷
-    row lead.Repeat 0xad plus.Nothing no_modrm immediate.Nothing op.Lods size.Long operands.Nothing ∷
-    row lead.Nothing 0xf8 plus.Nothing no_modrm immediate.Nothing op.Clc size.Long operands.Nothing ∷
-    row lead.Nothing 0xf9 plus.Nothing no_modrm immediate.Nothing op.Stc size.Long operands.Nothing ∷
-    row lead.Nothing 0xfc plus.Nothing no_modrm immediate.Nothing op.Cld size.Long operands.Nothing ∷
-    row lead.Nothing 0xfd plus.Nothing no_modrm immediate.Nothing op.Std size.Long operands.Nothing ∷
+    both lead.Nothing 0xa4 no_modrm immediate.Nothing op.Movs operands.Nothing ++
+    both lead.Repeat 0xa4 no_modrm immediate.Nothing op.Movs operands.Nothing ++
+    both lead.Nothing 0xaa no_modrm immediate.Nothing op.Stos operands.Nothing ++
+    both lead.Repeat 0xaa no_modrm immediate.Nothing op.Stos operands.Nothing ++
+    both lead.Nothing 0xac no_modrm immediate.Nothing op.Lods operands.Nothing ++
+    both lead.Repeat 0xac no_modrm immediate.Nothing op.Lods operands.Nothing ++
+    alone 0xf8 op.Clc ∷ alone 0xf9 op.Stc ∷ alone 0xfc op.Cld ∷ alone 0xfd op.Std ∷
     []
 
 -- the sensitive instructions, each with the kind of its site (profile: the choice of the sites, returns and
 -- indirect transfers included)
 abbrev pub sites : List (SiteKind × Row)
 sites =
-    (kind.Cli, row lead.Nothing 0xfa plus.Nothing no_modrm immediate.Nothing op.Cli size.Long operands.Nothing) ∷
-    (kind.Sti, row lead.Nothing 0xfb plus.Nothing no_modrm immediate.Nothing op.Sti size.Long operands.Nothing) ∷
-    (kind.Hlt, row lead.Nothing 0xf4 plus.Nothing no_modrm immediate.Nothing op.Hlt size.Long operands.Nothing) ∷
-    (kind.PushFlags, row lead.Nothing 0x9c plus.Nothing no_modrm immediate.Nothing op.PushFlags size.Long operands.Nothing) ∷
-    (kind.PopFlags, row lead.Nothing 0x9d plus.Nothing no_modrm immediate.Nothing op.PopFlags size.Long operands.Nothing) ∷
-    (kind.Iret, row lead.Nothing 0xcf plus.Nothing no_modrm immediate.Nothing op.Iret size.Long operands.Nothing) ∷
+    (kind.Cli, alone 0xfa op.Cli) ∷ (kind.Sti, alone 0xfb op.Sti) ∷ (kind.Hlt, alone 0xf4 op.Hlt) ∷
+    (kind.PushFlags, alone 0x9c op.PushFlags) ∷ (kind.PopFlags, alone 0x9d op.PopFlags) ∷ (kind.Iret, alone 0xcf op.Iret) ∷
     (kind.ReadControl, row lead.Escape 0x20 plus.Nothing slash_control immediate.Nothing op.ReadControl size.Long operands.RmControl) ∷
     (kind.WriteControl, row lead.Escape 0x22 plus.Nothing slash_control immediate.Nothing op.WriteControl size.Long operands.ControlRm) ∷
     (kind.LoadGdt, row lead.Escape 0x01 plus.Nothing (digit_m 2) immediate.Nothing op.LoadGdt size.Long operands.Rm) ∷
@@ -227,7 +198,7 @@ sites =
     (kind.PortOut, row lead.Nothing 0xe7 plus.Nothing no_modrm immediate.Byte op.PortOut size.Long operands.Nothing) ∷
     (kind.PortOut, row lead.Nothing 0xee plus.Nothing no_modrm immediate.Nothing op.PortOut size.Byte operands.Port) ∷
     (kind.PortOut, row lead.Nothing 0xef plus.Nothing no_modrm immediate.Nothing op.PortOut size.Long operands.Port) ∷
-    (kind.Return, row lead.Nothing 0xc3 plus.Nothing no_modrm immediate.Nothing op.Return size.Long operands.Nothing) ∷
+    (kind.Return, alone 0xc3 op.Return) ∷
     (kind.Return, row lead.Nothing 0xc2 plus.Nothing no_modrm immediate.Word op.Return size.Long operands.Nothing) ∷
     (kind.JumpTo, row lead.Nothing 0xff plus.Nothing (digit 4) immediate.Nothing op.JumpTo size.Long operands.Rm) ∷
     (kind.CallTo, row lead.Nothing 0xff plus.Nothing (digit 2) immediate.Nothing op.CallTo size.Long operands.Rm) ∷
