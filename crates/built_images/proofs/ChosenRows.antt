@@ -17,9 +17,9 @@ use Rattle.ia32_rows.specs.Rows.{rows}
 use Rattle.ia32_encode.specs.declared.bytes.ArrayBytes.{ArrayBytes}
 use Rattle.ia32_encode.specs.declared.choose.Wide.{Wide}
 use Rattle.ia32_encode.specs.Parts.{parts_for, form_fits}
-use Rattle.ia32_encode.specs.Pushed.{laid_out}
-use Rattle.ia32_encode.specs.Text.{immediate_bytes, head_bytes, form_bytes}
-use Rattle.ia32_encode.specs.Same.{same_op, same_size, same_operand, same_flag, same_insn}
+use Rattle.ia32_encode.specs.Text.{laid_out, immediate_bytes, head_bytes, form_bytes}
+use Rattle.ia32_encode.specs.Same.{same_op, same_size, same_operand, same_insn}
+use mathlib.Core.Bool.{beq}
 use Rattle.ia32_encode.specs.Chosen.{widths_fit, does_suit, chosen_from, chosen}
 use Rattle.ia32_encode.proofs.Back.{form_back}
 use Rattle.ia32_encode.proofs.Laid.{parts_len, width_of}
@@ -62,7 +62,7 @@ laid_row wide insn s e = let f = found_row rows wide insn s e in record { row = 
 same_ops : (i j : Insn) → same_insn i j ≡ true → i.op ≡ j.op
 unfolding same_insn
 same_ops i j h =
-    let f = and_parts (same_op i.op j.op && same_size i.size j.size && same_operand i.a j.a && same_operand i.b j.b && i.imm == j.imm && i.sel == j.sel) (same_flag i.rep j.rep) h in
+    let f = and_parts (same_op i.op j.op && same_size i.size j.size && same_operand i.a j.a && same_operand i.b j.b && i.imm == j.imm && i.sel == j.sel) (beq i.rep j.rep) h in
     let s = and_parts (same_op i.op j.op && same_size i.size j.size && same_operand i.a j.a && same_operand i.b j.b && i.imm == j.imm) (i.sel == j.sel) f.0 in
     let n = and_parts (same_op i.op j.op && same_size i.size j.size && same_operand i.a j.a && same_operand i.b j.b) (i.imm == j.imm) s.0 in
     let b = and_parts (same_op i.op j.op && same_size i.size j.size && same_operand i.a j.a) (same_operand i.b j.b) n.0 in

@@ -20,7 +20,7 @@ use Rattle.ia32_encode.specs.Same.{same_op, same_size}
 use Rattle.ia32_encode.specs.Chosen.{chosen, chosen_from}
 use Rattle.ia32_encode.specs.Good.{Suits}
 use Rattle.ia32_encode.specs.Parts.{parts_for}
-use Rattle.ia32_encode.specs.Pushed.{laid_out}
+use Rattle.ia32_encode.specs.Text.{laid_out}
 use Rattle.ia32_encode.proofs.Function.{suits_true, fails}
 
 -- a test that each row which suits the instruction passes

@@ -35,10 +35,10 @@ use Rattle.ia32_rows.specs.Rows.{rows}
 use Rattle.ia32_encode.specs.declared.bytes.ArrayBytes.{ArrayBytes}
 use Rattle.ia32_encode.specs.declared.choose.Wide.{Wide}
 use Rattle.ia32_encode.specs.Parts.{parts_for, form_fits, is_absent, addressing_fits, immediate_fits}
-use Rattle.ia32_encode.specs.Pushed.{laid_out}
-use Rattle.ia32_encode.specs.Text.{disp_bytes, has_sib, memory_bytes, modrm_bytes, addressing_bytes, immediate_bytes, lead_bytes, head_bytes, disp_len_of}
+use Rattle.ia32_encode.specs.Text.{laid_out, disp_bytes, has_sib, memory_bytes, modrm_bytes, addressing_bytes, immediate_bytes, lead_bytes, head_bytes, disp_len_of}
 use Rattle.ia32_encode.proofs.Laid.{parts_len, width_of, chosen_spells, chosen_length}
-use Rattle.ia32_encode.specs.Same.{same_op, same_size, same_register, same_address, same_segment, same_operand, same_flag, same_insn}
+use Rattle.ia32_encode.specs.Same.{same_op, same_size, same_register, same_address, same_operand, same_insn}
+use mathlib.Core.Bool.{beq}
 use Rattle.ia32_encode.specs.Chosen.{widths_fit, does_suit, chosen_from, chosen}
 use Rattle.ia32_encode.specs.Good.{Suits, IsChosen, NoneSuits, IsPlaced}
 
@@ -85,7 +85,7 @@ registers_same None (Some s) h = absurd cc
 registers_same (Some r) None h = absurd cc
 registers_same (Some r) (Some s) h = ap Some (sym (reg_back r) ∙ ap reg_at (eqb-true (number_of r) (number_of s) h) ∙ reg_back s)
 
-segments_same : (s t : Seg) → same_segment s t ≡ true → s ≡ t
+segments_same : (s t : Seg) → (segment_number s == segment_number t) ≡ true → s ≡ t
 segments_same s t h = sym (seg_back s) ∙ ap seg_at (eqb-true (segment_number s) (segment_number t) h) ∙ seg_back t
 
 abbrev made_address : Option Reg → Option Reg → ℕ → ℕ → Address
@@ -130,8 +130,9 @@ operands_same (operand.Control m) (operand.Register n) h = absurd cc
 operands_same (operand.Control m) (operand.Memory n) h = absurd cc
 operands_same (operand.Control m) (operand.Segment n) h = absurd cc
 
-flags_same : (a b : Bool) → same_flag a b ≡ true → a ≡ b
-flags_same true b h = sym h
+flags_same : (a b : Bool) → beq a b ≡ true → a ≡ b
+flags_same true true h = refl
+flags_same true false h = absurd cc
 flags_same false true h = absurd cc
 flags_same false false h = refl
 
@@ -152,7 +153,7 @@ operand_itself (operand.Memory x) = address_itself x
 operand_itself (operand.Segment s) = number_itself (segment_number s)
 operand_itself (operand.Control n) = number_itself n
 
-flag_itself : (b : Bool) → same_flag b b ≡ true
+flag_itself : (b : Bool) → beq b b ≡ true
 flag_itself true = refl
 flag_itself false = refl
 
@@ -167,7 +168,7 @@ made_insn o s a b n t r = record { op = o; size = s; a = a; b = b; imm = n; sel 
 insns_same : (i j : Insn) → same_insn i j ≡ true → i ≡ j
 unfolding same_insn
 insns_same i j h =
-    let f = and_parts (same_op i.op j.op && same_size i.size j.size && same_operand i.a j.a && same_operand i.b j.b && i.imm == j.imm && i.sel == j.sel) (same_flag i.rep j.rep) h in
+    let f = and_parts (same_op i.op j.op && same_size i.size j.size && same_operand i.a j.a && same_operand i.b j.b && i.imm == j.imm && i.sel == j.sel) (beq i.rep j.rep) h in
     let s = and_parts (same_op i.op j.op && same_size i.size j.size && same_operand i.a j.a && same_operand i.b j.b && i.imm == j.imm) (i.sel == j.sel) f.0 in
     let n = and_parts (same_op i.op j.op && same_size i.size j.size && same_operand i.a j.a && same_operand i.b j.b) (i.imm == j.imm) s.0 in
     let b = and_parts (same_op i.op j.op && same_size i.size j.size && same_operand i.a j.a) (same_operand i.b j.b) n.0 in

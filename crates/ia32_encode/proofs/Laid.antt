@@ -22,9 +22,9 @@ use Rattle.ia32_decode.specs.declared.answer.Decoded.TheVariants as answer
 use Rattle.ia32_decode.proofs.Exact.{decoded_back}
 use Rattle.ia32_encode.specs.declared.bytes.ArrayBytes.{ArrayBytes}
 use Rattle.ia32_encode.specs.declared.choose.Wide.{Wide}
-use Rattle.ia32_encode.specs.Text.{disp_len_of, lead_bytes, addressing_bytes, immediate_bytes, head_bytes, form_bytes}
+use Rattle.ia32_encode.specs.Text.{disp_len_of, lead_bytes, addressing_bytes, immediate_bytes, head_bytes, form_bytes, laid_out}
 use Rattle.ia32_encode.specs.Parts.{parts_for, rm_fits, is_absent, is_offset, addressing_fits, immediate_fits, form_fits}
-use Rattle.ia32_encode.specs.Pushed.{pushed, pushed_all, laid_out}
+use Rattle.ia32_encode.specs.Pushed.{pushed, pushed_all}
 use Rattle.ia32_encode.specs.Chosen.{widths_fit}
 use Rattle.ia32_encode.specs.Good.{SpellsWide, IsReadBack, Suits, NoneSuits, IsChosen}
 use Rattle.ia32_encode.proofs.Back.{form_back}

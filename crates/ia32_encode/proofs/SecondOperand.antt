@@ -30,8 +30,7 @@ use Rattle.ia32_encode.specs.declared.choose.Wide.{Wide}
 use Rattle.ia32_encode.specs.Chosen.{chosen}
 use Rattle.ia32_encode.specs.Good.{Suits}
 use Rattle.ia32_encode.specs.Parts.{rm_from, parts_for, form_fits, address_fits, rm_fits, is_offset, addressing_fits, immediate_fits}
-use Rattle.ia32_encode.specs.Pushed.{laid_out}
-use Rattle.ia32_encode.specs.Text.{is_signed_byte, index_number, base_number, disp_len_of, memory_len, mode_for, scale_bits, disp_bytes, modrm, has_sib, memory_bytes}
+use Rattle.ia32_encode.specs.Text.{laid_out, is_signed_byte, index_number, base_number, disp_len_of, memory_len, mode_for, scale_bits, disp_bytes, modrm, has_sib, memory_bytes}
 use Rattle.ia32_encode.specs.Short.{arithmetic, with_number, with_registers, plain, with_displacement, Begins, IsSpelledByDigit}
 use Rattle.ia32_encode.proofs.Back.{base_below}
 use Rattle.ia32_encode.proofs.FirstRow.{none_can, first_of, none_of, is_of, needs_same, code_itself, Needs}

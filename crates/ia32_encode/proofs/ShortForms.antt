@@ -19,7 +19,7 @@ use Rattle.ia32_encode.specs.declared.choose.Wide.{Wide}
 use Rattle.ia32_encode.specs.Chosen.{chosen}
 use Rattle.ia32_encode.specs.Good.{Suits}
 use Rattle.ia32_encode.specs.Parts.{parts_for, form_fits}
-use Rattle.ia32_encode.specs.Pushed.{laid_out}
+use Rattle.ia32_encode.specs.Text.{laid_out}
 use Rattle.ia32_encode.specs.Short.{with_operand, by_distance, plain, with_wide, bare, Begins}
 use Rattle.ia32_encode.proofs.FirstRow.{none_can, first_of, is_of, needs_same, code_itself}
 

@@ -32,9 +32,8 @@ use Rattle.ia32_rows.specs.Rows.{rows}
 use Rattle.ia32_rows.proofs.Readers.{AreBytes-append}
 use Rattle.ia32_encode.specs.declared.bytes.ArrayBytes.{ArrayBytes}
 use Rattle.ia32_encode.specs.declared.choose.Wide.{Wide}
-use Rattle.ia32_encode.specs.Text.{word_bytes, long_bytes, base_number, index_number, scale_bits, mode_for, disp_bytes, modrm, has_sib, modrm_bytes, offset_of, addressing_bytes, immediate_bytes, lead_bytes, head_bytes, form_bytes}
+use Rattle.ia32_encode.specs.Text.{word_bytes, long_bytes, base_number, index_number, scale_bits, mode_for, disp_bytes, modrm, has_sib, modrm_bytes, offset_of, addressing_bytes, immediate_bytes, lead_bytes, head_bytes, form_bytes, laid_out}
 use Rattle.ia32_encode.specs.Parts.{rm_from, sel_from, parts_for, form_fits, addressing_fits, immediate_fits}
-use Rattle.ia32_encode.specs.Pushed.{laid_out}
 use Rattle.ia32_encode.specs.Chosen.{does_suit, chosen_from, chosen}
 use Rattle.ia32_encode.specs.Good.{Suits, IsChosen, NoneSuits, IsOperandBounded, IsBounded, IsGood}
 use Rattle.ia32_encode.proofs.Back.{base_below, index_below}

@@ -8,7 +8,7 @@ use Rattle.ia32_rows.specs.Rows.{rows}
 use Rattle.ia32_encode.specs.declared.bytes.ArrayBytes.{ArrayBytes}
 use Rattle.ia32_encode.specs.declared.choose.Wide.{Wide}
 use Rattle.ia32_encode.specs.Parts.{parts_for, form_fits}
-use Rattle.ia32_encode.specs.Pushed.{laid_out}
+use Rattle.ia32_encode.specs.Text.{laid_out}
 use Rattle.ia32_encode.specs.Same.{same_insn}
 
 abbrev pub widths_fit : Wide → ℕ → ℕ → Bool

@@ -15,7 +15,7 @@ use Rattle.ia32_decode.specs.Decoding.{decoded}
 use Rattle.ia32_encode.specs.declared.bytes.ArrayBytes.{ArrayBytes}
 use Rattle.ia32_encode.specs.declared.choose.Wide.{Wide}
 use Rattle.ia32_encode.specs.Parts.{parts_for, form_fits}
-use Rattle.ia32_encode.specs.Pushed.{laid_out}
+use Rattle.ia32_encode.specs.Text.{laid_out}
 use Rattle.ia32_encode.specs.Chosen.{widths_fit}
 
 -- The bytes spell the instruction, with four bytes for what names a symbol.

@@ -1,5 +1,5 @@
 -- The chosen bytes of an instruction's parts, in the order in which they stand (SDM volume 2, chapter 2).
-use Rattle.std.specs.Prelude.{ℕ, ◌+◌, ◌*◌, ◌/◌, ◌%◌, Bool, ◌==◌, ◌&&◌, ◌||◌, not, List, [], ◌∷◌, ◌++◌, Option, Some, None, if◌then◌else◌, is_none, is_some}
+use Rattle.std.specs.Prelude.{ℕ, ◌+◌, ◌-◌, ◌*◌, ◌/◌, ◌%◌, Bool, ◌==◌, ◌&&◌, ◌||◌, not, List, [], ◌∷◌, ◌++◌, length, replicate, Option, Some, None, if◌then◌else◌, is_none, is_some}
 use Rattle.ia32_types.specs.declared.register.Reg.{Reg}
 use Rattle.ia32_types.specs.Register.{number_of}
 use Rattle.ia32_types.specs.declared.insn.Address.{Address}
@@ -15,6 +15,8 @@ use Rattle.ia32_rows.specs.declared.row.Immediate.{Immediate}
 use Rattle.ia32_rows.specs.declared.row.Immediate.TheVariants as immediate
 use Rattle.ia32_rows.specs.declared.row.Form.{Form}
 use Rattle.ia32_rows.specs.declared.row.Parts.{Parts}
+use Rattle.ia32_rows.specs.Fields.{imm_len}
+use Rattle.ia32_encode.specs.declared.bytes.ArrayBytes.{ArrayBytes}
 
 -- two and four bytes, the lowest first
 abbrev pub word_bytes : ℕ → List ℕ
@@ -109,3 +111,12 @@ head_bytes form p = lead_bytes form.lead ++ (p.code ∷ addressing_bytes form.ad
 
 abbrev pub form_bytes : Form → Parts → List ℕ
 form_bytes form p = head_bytes form p ++ immediate_bytes form.immediate p
+
+-- the bytes in an array, zeros behind them, and where displacement and immediate stand
+abbrev pub laid_out : Form → Parts → ArrayBytes
+laid_out form p = record {
+  bytes = form_bytes form p ++ replicate (16 - length (form_bytes form p)) 0;
+  len = length (form_bytes form p);
+  disp_at = if p.disp_len == 0 then 0 else length (head_bytes form p) - p.disp_len;
+  imm_at = if imm_len form.immediate == 0 then 0 else length (head_bytes form p);
+}
