@@ -8,6 +8,7 @@ use Rattle.ia32_types.specs.declared.size.Size.{Size}
 use Rattle.ia32_types.specs.declared.size.Size.TheVariants as size
 use Rattle.ia32_types.specs.Branches.{is_direct_branch}
 use Rattle.asm_source.specs.declared.tree.Argument.{Argument}
+use Rattle.asm_instruction.specs.Names.{◌>>=◌}
 use Rattle.asm_instruction.specs.declared.argument.Number.{Number}
 use Rattle.asm_instruction.specs.declared.argument.Memory.{Memory}
 use Rattle.asm_instruction.specs.declared.argument.Given.{Given}
@@ -19,10 +20,10 @@ use Rattle.asm_instruction.specs.declared.control.Control.TheVariants as control
 use Rattle.asm_instruction.specs.declared.draft.Draft.{Draft}
 use Rattle.asm_instruction.specs.declared.mnemonic.Family.TheVariants as family
 use Rattle.asm_instruction.specs.Sizes.{agreed}
-use Rattle.asm_instruction.specs.Draft.{nothing, register_or_memory, said, instruction, with_number, alone}
+use Rattle.asm_instruction.specs.Draft.{nothing, instruction, with_number, alone}
 use Rattle.asm_instruction.specs.Arithmetic.{one}
-use Rattle.asm_instruction.specs.Control.{distance, to_symbol, is_symbol, to_operand, direct, indirect, return_of, returned, with_selector, far, with_condition, set, control_draft}
-use Rattle.asm_instruction.proofs.Goods.{When, bind_from, bind_any, choice, word_below, distance_below, PlaceGood, MemoryGood, GivenGood, OperandsGood, DraftGood, family_good, branch_direct, branch_indirect, Good, instruction_good, instruction_op, instruction_numbered, rom_good, Plain}
+use Rattle.asm_instruction.specs.Control.{distance, to_symbol, is_symbol, direct, return_of, returned, with_selector, far, with_condition, set, control_draft}
+use Rattle.asm_instruction.proofs.Goods.{bind_from, bind_any, choice, word_below, distance_below, MemoryGood, GivenGood, OperandsGood, DraftGood, family_good, branch_direct, branch_indirect, Good, of_one_good, one_plain, instruction_good, instruction_op, instruction_numbered, Plain}
 
 module _ (args : List Argument) where
   pub both_true_first : (a b : Bool) → (a && b) ≡ true → a ≡ true
@@ -39,25 +40,15 @@ module _ (args : List Argument) where
         relative = λ t. e;
       }
 
-  pub to_operand_if : (o : Op) (c : ℕ) (m : Memory) (b : Bool) → is_symbol m ≡ b → is_direct_branch o ≡ true → c < 16 → MemoryGood args m → Good args (if b then Some (to_symbol o c m) else None)
-  to_operand_if o c m true s e lt h = symbol_good o c m e lt s h
-  to_operand_if o c m false s e lt h = tt
-
-  pub to_operand_good : (o : Op) (c : ℕ) (g : Given) → is_direct_branch o ≡ true → c < 16 → GivenGood args g → Good args (to_operand o c g)
-  to_operand_good o c (given.Memory m) e lt h = to_operand_if o c m (is_symbol m) refl e lt h
-  to_operand_good o c (given.Register s n) e lt h = tt
-  to_operand_good o c (given.Segment n) e lt h = tt
-  to_operand_good o c (given.Control n) e lt h = tt
-  to_operand_good o c (given.Immediate n) e lt h = tt
-  to_operand_good o c given.Port e lt h = tt
+  pub direct_if : (o : Op) (c : ℕ) (f : Option Size) (m : Memory) (b : Bool) → is_symbol m ≡ b → is_direct_branch o ≡ true → c < 16 → MemoryGood args m
+      → Good args (if b then (agreed f (Some size.Long) None >>= λ z. Some (to_symbol o c m)) else None)
+  direct_if o c f m true s e lt h = bind_any (DraftGood args) (agreed f (Some size.Long) None) _ (λ z. symbol_good o c m e lt s h)
+  direct_if o c f m false s e lt h = tt
 
   pub direct_good : (o : Op) (c : ℕ) (f : Option Size) (g : Given) → is_direct_branch o ≡ true → c < 16 → GivenGood args g → Good args (direct o c f g)
   unfolding direct
-  direct_good o c f g e lt h = bind_any (DraftGood args) (agreed f (Some size.Long) None) _ (λ z. to_operand_good o c g e lt h)
-
-  pub indirect_good : (o : Op) (f : Option Size) (g : Given) → is_direct_branch o ≡ false → GivenGood args g → Good args (indirect o f g)
-  unfolding indirect
-  indirect_good o f g e p = bind_from PlaceGood (DraftGood args) (register_or_memory g) _ (rom_good args g p) (λ x h. bind_any (DraftGood args) (agreed f (said g) (Some size.Long)) _ (λ z. instruction_good args o z x nothing e h tt))
+  direct_good o c f (given.Memory m) e lt h = direct_if o c f m (is_symbol m) refl e lt h
+  direct_good o c f _ e lt h = tt
 
   pub return_good : (os : Operands) → Good args (return_of os)
   return_good operands.Nothing = instruction_good args op.Return size.Long nothing nothing refl tt tt
@@ -99,19 +90,15 @@ module _ (args : List Argument) where
     relative = g.relative;
   }
 
-  pub one_plain : (o : Op) (f : Option Size) (g : Given) → is_direct_branch o ≡ false → GivenGood args g → When (Plain args) (one o f g)
-  unfolding one
-  one_plain o f g e p = bind_from PlaceGood (Plain args) (register_or_memory g) _ (rom_good args g p) (λ x h. bind_any (Plain args) (agreed f (said g) None) _ (λ z. (instruction_good args o z x nothing e h tt, ap is_direct_branch (instruction_op args o z x nothing) ∙ e)))
-
   pub set_good : (c : ℕ) (g : Given) → c < 16 → GivenGood args g → Good args (set c g)
   unfolding set
-  set_good c g lt p = bind_from (Plain args) (DraftGood args) (one op.Setcc (Some size.Byte) g) _ (one_plain op.Setcc (Some size.Byte) g refl p) (λ x h. condition_good x c lt h.1 h.0)
+  set_good c g lt p = bind_from (Plain args) (DraftGood args) (one op.Setcc (Some size.Byte) g) _ (one_plain args op.Setcc (Some size.Byte) g refl p) (λ x h. condition_good x c lt h.1 h.0)
 
   pub control_good : (k : Control) (f : Option Size) (os : Operands) → family_good (family.Control k) ≡ true → OperandsGood args os → Good args (control_draft k f os)
   unfolding control_draft
   control_good (control.Branch x y) f operands.Nothing e h = tt
   control_good (control.Branch x y) f (operands.One g) e h = direct_good x 0 f g (branch_direct x y e) (omega arith) h
-  control_good (control.Branch x y) f (operands.Starred g) e h = indirect_good y f g (branch_indirect x y e) h
+  control_good (control.Branch x y) f (operands.Starred g) e h = of_one_good args (Some size.Long) y f g (branch_indirect x y e) h
   control_good (control.Branch x y) f (operands.Two s d) e h = tt
   control_good (control.Branch x y) f (operands.Three s d g) e h = tt
   control_good (control.Conditional c) f operands.Nothing e h = tt

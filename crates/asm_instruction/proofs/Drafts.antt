@@ -8,6 +8,7 @@ use Rattle.ia32_types.specs.declared.size.Size.{Size}
 use Rattle.ia32_types.specs.declared.size.Size.TheVariants as size
 use Rattle.ia32_types.specs.Branches.{is_direct_branch}
 use Rattle.asm_source.specs.declared.tree.Argument.{Argument}
+use Rattle.asm_instruction.specs.Names.{◌>>=◌}
 use Rattle.asm_instruction.specs.declared.argument.Given.{Given}
 use Rattle.asm_instruction.specs.declared.argument.Given.TheVariants as given
 use Rattle.asm_instruction.specs.declared.argument.Operands.{Operands}
@@ -21,9 +22,9 @@ use Rattle.asm_instruction.specs.declared.mnemonic.Mnemonic.{Mnemonic}
 use Rattle.asm_instruction.specs.Sizes.{agreed}
 use Rattle.asm_instruction.specs.Draft.{nothing, register_operand, memory, register_or_memory, said, instruction, alone}
 use Rattle.asm_instruction.specs.Strings.{as_string, string_draft}
-use Rattle.asm_instruction.specs.Flags.{without_operands, plain_draft}
-use Rattle.asm_instruction.specs.System.{through, between, ported, memory_alone, of_memory, task, system_draft}
-use Rattle.asm_instruction.specs.Mnemonic.{by_family, repeated, drafted, without_repeat}
+use Rattle.asm_instruction.specs.Flags.{plain_draft}
+use Rattle.asm_instruction.specs.System.{through, ported, of_memory, task, system_draft}
+use Rattle.asm_instruction.specs.Mnemonic.{by_family, repeated, drafted}
 use Rattle.asm_instruction.proofs.Goods.{When, bind_from, bind_any, choice, PlaceGood, GivenGood, OperandsGood, DraftGood, family_good, not_direct, Good, instruction_good, instruction_op, instruction_numbered, rom_good, arithmetic_good, shift_good}
 use Rattle.asm_instruction.proofs.MovesGood.{move_good, stack_good}
 use Rattle.asm_instruction.proofs.ControlGood.{control_good}
@@ -44,16 +45,10 @@ module _ (args : List Argument) where
   string_good r o s (operands.Two x d) e = tt
   string_good r o s (operands.Three x d g) e = tt
 
-  pub without_good : (o : Op) (os : Operands) → is_direct_branch o ≡ false → Good args (without_operands o os)
-  without_good o operands.Nothing e = instruction_good args o size.Long nothing nothing e tt tt
-  without_good o (operands.One g) e = tt
-  without_good o (operands.Starred g) e = tt
-  without_good o (operands.Two x d) e = tt
-  without_good o (operands.Three x d g) e = tt
-
   pub plain_good : (o : Op) (f : Option Size) (os : Operands) → is_direct_branch o ≡ false → Good args (plain_draft o f os)
   unfolding plain_draft
-  plain_good o f os e = bind_any (DraftGood args) (agreed f (Some size.Long) None) _ (λ z. without_good o os e)
+  plain_good o f operands.Nothing e = bind_any (DraftGood args) (agreed f (Some size.Long) None) _ (λ z. instruction_good args o size.Long nothing nothing e tt tt)
+  plain_good o f _ e = tt
 
   pub through_good : (o : Op) (s : Size) (g : Given) → is_direct_branch o ≡ false → Good args (through o s g)
   unfolding through
@@ -66,29 +61,17 @@ module _ (args : List Argument) where
   through_good o s (given.Segment m) e = tt
   through_good o s (given.Control m) e = tt
 
-  pub between_good : (o : Op) (s : Size) (p g : Given) → is_direct_branch o ≡ false → Good args (between o s p g)
-  between_good o s p (given.Register t n) e = choice (DraftGood args) (n == 0) (through o s p) None (through_good o s p e) tt
-  between_good o s p (given.Memory m) e = tt
-  between_good o s p (given.Segment m) e = tt
-  between_good o s p (given.Control m) e = tt
-  between_good o s p (given.Immediate m) e = tt
-  between_good o s p given.Port e = tt
-
   pub ported_good : (o : Op) (f : Option Size) (p g : Given) → is_direct_branch o ≡ false → Good args (ported o f p g)
   unfolding ported
-  ported_good o f p g e = bind_any (DraftGood args) (agreed f (said g) None) _ (λ z. between_good o z p g e)
-
-  pub memory_alone_good : (o : Op) (s : Size) (g : Given) → is_direct_branch o ≡ false → GivenGood args g → Good args (memory_alone o s g)
-  memory_alone_good o s (given.Memory m) e h = instruction_good args o s (memory m) nothing e h.below tt
-  memory_alone_good o s (given.Register t n) e h = tt
-  memory_alone_good o s (given.Segment n) e h = tt
-  memory_alone_good o s (given.Control n) e h = tt
-  memory_alone_good o s (given.Immediate n) e h = tt
-  memory_alone_good o s given.Port e h = tt
+  ported_good o f p (given.Register t n) e =
+      choice (DraftGood args) (n == 0) (agreed f (Some t) None >>= λ z. through o z p) None
+      (bind_any (DraftGood args) (agreed f (Some t) None) _ (λ z. through_good o z p e)) tt
+  ported_good o f p _ e = tt
 
   pub of_memory_good : (o : Op) (f : Option Size) (g : Given) → is_direct_branch o ≡ false → GivenGood args g → Good args (of_memory o f g)
   unfolding of_memory
-  of_memory_good o f g e h = bind_any (DraftGood args) (agreed f (Some size.Long) None) _ (λ z. memory_alone_good o z g e h)
+  of_memory_good o f (given.Memory m) e h = bind_any (DraftGood args) (agreed f (Some size.Long) None) _ (λ z. instruction_good args o z (memory m) nothing e h.below tt)
+  of_memory_good o f _ e h = tt
 
   pub task_good : (f : Option Size) (g : Given) → GivenGood args g → Good args (task f g)
   unfolding task
@@ -138,5 +121,5 @@ module _ (args : List Argument) where
   repeated_family (family.System k) os e = tt
 
   pub drafted_good : (rep : Bool) (m : Mnemonic) (os : Operands) → family_good m.family ≡ true → OperandsGood args os → When (DraftGood args) (drafted rep m os)
-  unfolding drafted without_repeat
+  unfolding drafted
   drafted_good rep m os e h = choice (DraftGood args) rep (repeated m.family os) (by_family m.family m.suffix os) (repeated_family m.family os e) (by_family_good m.family m.suffix os e h)

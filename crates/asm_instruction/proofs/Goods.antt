@@ -31,9 +31,9 @@ use Rattle.asm_instruction.specs.Names.{◌>>=◌}
 use Rattle.asm_instruction.specs.Field.{field}
 use Rattle.asm_instruction.specs.Argument.{names_symbol}
 use Rattle.asm_instruction.specs.Sizes.{agreed}
-use Rattle.asm_instruction.specs.Draft.{nothing, register_operand, register_or_memory, said, paired, instruction, with_number, unary}
-use Rattle.asm_instruction.specs.Arithmetic.{of_pair, memory_first, two, tested, one, into_register, to_register, multiplied, product, arithmetic_draft}
-use Rattle.asm_instruction.specs.Shift.{of_one, by_one, by_number, by_register, shift_draft}
+use Rattle.asm_instruction.specs.Draft.{nothing, register_operand, register_or_memory, said, paired, instruction, with_number}
+use Rattle.asm_instruction.specs.Arithmetic.{of_pair, memory_first, of_two, two, tested, of_one, one, to_register, multiplied, product, arithmetic_draft}
+use Rattle.asm_instruction.specs.Shift.{by_one, by_number, by_register, shift_draft}
 use Rattle.asm_instruction.specs.Control.{distance}
 use Rattle.asm_instruction.specs.Right.{constant_in}
 
@@ -197,44 +197,37 @@ module _ (args : List Argument) where
   memory_first_good o s (pair.FromRegister n x) e h = of_pair_good o s (pair.FromRegister n x) e h
 
   pub two_good : (o : Op) (f : Option Size) (s d : Given) → is_direct_branch o ≡ false → GivenGood args s → GivenGood args d → Good (two o f s d)
-  unfolding two
+  unfolding of_two
   two_good o f s d e p q = bind_from PairGood (DraftGood args) (paired s d) _ (paired_good s d p q) (λ x h. bind_any (DraftGood args) (agreed f (said s) (said d)) _ (λ z. of_pair_good o z x e h))
 
   pub tested_good : (f : Option Size) (s d : Given) → GivenGood args s → GivenGood args d → Good (tested f s d)
-  unfolding tested
+  unfolding of_two
   tested_good f s d p q = bind_from PairGood (DraftGood args) (paired s d) _ (paired_good s d p q) (λ x h. bind_any (DraftGood args) (agreed f (said s) (said d)) _ (λ z. memory_first_good op.Test z x refl h))
 
-  pub one_good : (o : Op) (f : Option Size) (g : Given) → is_direct_branch o ≡ false → GivenGood args g → Good (one o f g)
-  unfolding one
-  one_good o f g e p = bind_from PlaceGood (DraftGood args) (register_or_memory g) _ (rom_good g p) (λ x h. bind_any (DraftGood args) (agreed f (said g) None) _ (λ z. instruction_good o z x nothing e h tt))
+  pub of_one_good : (own : Option Size) (o : Op) (f : Option Size) (g : Given) → is_direct_branch o ≡ false → GivenGood args g → Good (of_one own o f g)
+  unfolding of_one
+  of_one_good own o f g e p = bind_from PlaceGood (DraftGood args) (register_or_memory g) _ (rom_good g p) (λ x h. bind_any (DraftGood args) (agreed f (said g) own) _ (λ z. instruction_good o z x nothing e h tt))
 
-  pub into_register_good : (o : Op) (s : Size) (d : Given) (x : NumberedOperand) → is_direct_branch o ≡ false → PlaceGood x → Good (into_register o s d x)
-  into_register_good o s (given.Register t n) x e h = instruction_good o s (register_operand n) x e tt h
-  into_register_good o s (given.Memory m) x e h = tt
-  into_register_good o s (given.Segment n) x e h = tt
-  into_register_good o s (given.Control n) x e h = tt
-  into_register_good o s (given.Immediate n) x e h = tt
-  into_register_good o s given.Port x e h = tt
+  pub one_good : (o : Op) (f : Option Size) (g : Given) → is_direct_branch o ≡ false → GivenGood args g → Good (one o f g)
+  one_good o f g e p = of_one_good None o f g e p
 
   pub to_register_good : (o : Op) (f : Option Size) (s d : Given) → is_direct_branch o ≡ false → GivenGood args s → Good (to_register o f s d)
   unfolding to_register
-  to_register_good o f s d e p = bind_from PlaceGood (DraftGood args) (register_or_memory s) _ (rom_good s p) (λ x h. bind_any (DraftGood args) (agreed f (said s) (said d)) _ (λ z. into_register_good o z d x e h))
+  to_register_good o f s (given.Register t n) e p =
+      bind_from PlaceGood (DraftGood args) (register_or_memory s) _ (rom_good s p)
+      (λ x h. bind_any (DraftGood args) (agreed f (said s) (Some t)) _ (λ z. instruction_good o z (register_operand n) x e tt h))
+  to_register_good o f s _ e p = tt
 
   -- good, and no direct branch
   abbrev pub Plain : Draft → Type 0
   Plain d = DraftGood args d × (is_direct_branch d.insn.op ≡ false)
 
-  pub into_register_plain : (o : Op) (s : Size) (d : Given) (x : NumberedOperand) → is_direct_branch o ≡ false → PlaceGood x → When Plain (into_register o s d x)
-  into_register_plain o s (given.Register t n) x e h = (instruction_good o s (register_operand n) x e tt h, ap is_direct_branch (instruction_op o s (register_operand n) x) ∙ e)
-  into_register_plain o s (given.Memory m) x e h = tt
-  into_register_plain o s (given.Segment n) x e h = tt
-  into_register_plain o s (given.Control n) x e h = tt
-  into_register_plain o s (given.Immediate n) x e h = tt
-  into_register_plain o s given.Port x e h = tt
-
   pub to_register_plain : (o : Op) (f : Option Size) (s d : Given) → is_direct_branch o ≡ false → GivenGood args s → When Plain (to_register o f s d)
   unfolding to_register
-  to_register_plain o f s d e p = bind_from PlaceGood Plain (register_or_memory s) _ (rom_good s p) (λ x h. bind_any Plain (agreed f (said s) (said d)) _ (λ z. into_register_plain o z d x e h))
+  to_register_plain o f s (given.Register t n) e p =
+      bind_from PlaceGood Plain (register_or_memory s) _ (rom_good s p)
+      (λ x h. bind_any Plain (agreed f (said s) (Some t)) _ (λ z. (instruction_good o z (register_operand n) x e tt h, ap is_direct_branch (instruction_op o z (register_operand n) x) ∙ e)))
+  to_register_plain o f s _ e p = tt
 
   pub multiplied_good : (n : Number) (f : Option Size) (s d : Given) → GivenGood args s → Good (multiplied n f s d)
   unfolding multiplied
@@ -272,20 +265,24 @@ module _ (args : List Argument) where
   arithmetic_good (arithmetic.One o) f (operands.Three s d g) e h = tt
   arithmetic_good arithmetic.Multiply f os e h = product_good f os h
 
-  pub of_one_good : (d : Draft) → is_direct_branch d.insn.op ≡ false → DraftGood args d → DraftGood args (of_one d)
-  of_one_good d e g = record {
+  pub one_plain : (o : Op) (f : Option Size) (g : Given) → is_direct_branch o ≡ false → GivenGood args g → When Plain (one o f g)
+  unfolding of_one
+  one_plain o f g e p =
+      bind_from PlaceGood Plain (register_or_memory g) _ (rom_good g p)
+      (λ x h. bind_any Plain (agreed f (said g) None) _ (λ z. (instruction_good o z x nothing e h tt, ap is_direct_branch (instruction_op o z x nothing) ∙ e)))
+
+  pub counted_good : (d : Draft) → is_direct_branch d.insn.op ≡ false → DraftGood args d → DraftGood args (record d { insn = record d.insn { imm = 1 } })
+  counted_good d e g = record {
     bounded = record { a = g.bounded.a; b = g.bounded.b; imm = omega arith; sel = g.bounded.sel };
     direct = λ t. absurd (both_ways (is_direct_branch d.insn.op) e t);
     relative = g.relative;
   }
 
   pub by_one_good : (o : Op) (f : Option Size) (g : Given) → is_direct_branch o ≡ false → GivenGood args g → Good (by_one o f g)
-  unfolding by_one
-  by_one_good o f g e p = bind_from PlaceGood (DraftGood args) (register_or_memory g) _ (rom_good g p) (λ x h. bind_any (DraftGood args) (agreed f (said g) None) _ (λ z. of_one_good (unary o z x) (ap is_direct_branch (instruction_op o z x nothing) ∙ e) (instruction_good o z x nothing e h tt)))
+  by_one_good o f g e p = bind_from Plain (DraftGood args) (one o f g) _ (one_plain o f g e p) (λ x h. counted_good x h.1 h.0)
 
   pub by_number_good : (o : Op) (f : Option Size) (n : Number) (g : Given) → is_direct_branch o ≡ false → GivenGood args g → Good (by_number o f n g)
-  unfolding by_number
-  by_number_good o f n g e p = bind_from PlaceGood (DraftGood args) (register_or_memory g) _ (rom_good g p) (λ x h. bind_any (DraftGood args) (agreed f (said g) None) _ (λ z. instruction_numbered o z size.Byte x nothing n e h tt))
+  by_number_good o f n g e p = bind_from Plain (DraftGood args) (one o f g) _ (one_plain o f g e p) (λ x h. numbered_good x size.Byte n h.1 h.0)
 
   pub by_register_good : (o : Op) (f : Option Size) (g : Given) → is_direct_branch o ≡ false → GivenGood args g → Good (by_register o f g)
   unfolding by_register

@@ -1,10 +1,11 @@
 -- The numbers of a draft fit exactly where those of its operands do: arithmetic, shifts, moves and the stack.
-use Rattle.std.proofs.Common.{◌≡◌, ℕ, ◌++◌, [], ◌∷◌, Option, Some, None, refl, ap, ◌∙◌}
+use Rattle.std.proofs.Common.{◌≡◌, ◌++◌, [], ◌∷◌, Option, Some, None, refl, ap, ◌∙◌}
 use Rattle.std.specs.Prelude.{◌==◌}
 use Rattle.std.specs.Option.{option_or}
 use Rattle.ia32_types.specs.declared.register.Seg.{Seg}
 use Rattle.ia32_types.specs.declared.insn.Op.{Op}
 use Rattle.ia32_types.specs.declared.insn.Op.TheVariants as op
+use Rattle.ia32_types.specs.declared.insn.Operand.{Operand}
 use Rattle.ia32_types.specs.declared.insn.Operand.TheVariants as operand
 use Rattle.ia32_types.specs.declared.size.Size.{Size}
 use Rattle.ia32_types.specs.declared.size.Size.TheVariants as size
@@ -23,11 +24,11 @@ use Rattle.asm_instruction.specs.declared.draft.NumberedOperand.{NumberedOperand
 use Rattle.asm_instruction.specs.declared.mnemonic.Family.TheVariants as family
 use Rattle.asm_instruction.specs.Field.{fits_field}
 use Rattle.asm_instruction.specs.Sizes.{agreed}
-use Rattle.asm_instruction.specs.Draft.{of_operand, register_operand, register_or_memory, said, paired, displaced, fits_displacement, instruction, with_number, unary, alone}
-use Rattle.asm_instruction.specs.Arithmetic.{two, tested, one, into_register, to_register, multiplied, product, arithmetic_draft}
+use Rattle.asm_instruction.specs.Draft.{of_operand, register_operand, register_or_memory, said, paired, displaced, fits_displacement, instruction, with_number, alone}
+use Rattle.asm_instruction.specs.Arithmetic.{of_two, two, tested, of_one, one, to_register, multiplied, product, arithmetic_draft}
 use Rattle.asm_instruction.specs.Shift.{by_one, by_number, by_register, shift_draft}
-use Rattle.asm_instruction.specs.Moves.{special, from_segment, to_segment, from_control, to_control, general, moved, into_long, extended, effective, exchanged, move_draft}
-use Rattle.asm_instruction.specs.Stack.{of_long, of_general, of_number, pushed, popped, stack_draft}
+use Rattle.asm_instruction.specs.Moves.{special, from_special, to_special, moved, extended, effective, exchanged, move_draft}
+use Rattle.asm_instruction.specs.Stack.{of_segment, of_number, pushed, popped, stack_draft}
 use Rattle.asm_instruction.specs.Refusals.{field_of, first_field_of, numbers_in, numbers}
 use Rattle.asm_instruction.proofs.Goods.{When, bind_from, bind_any, choice}
 use Rattle.asm_instruction.proofs.Fitting.{Numbers, all_fit, and_true, none_more, FitTo, instruction_fit, numbered_fit, PlaceFit, rom_fit, first_fit, One, unary_fit, Two, Same, Long, Byte, PairFit, paired_fit, of_pair_fit, memory_first_fit, Fit}
@@ -35,28 +36,26 @@ use Rattle.asm_instruction.proofs.Fitting.{Numbers, all_fit, and_true, none_more
 -- ---- arithmetic
 
 two_fit : (o : Op) (f : Option Size) (s d : Given) → When (FitTo (Two Same Same s d)) (two o f s d)
-unfolding two
+unfolding of_two
 two_fit o f s d = bind_from (PairFit s d) (FitTo (Two Same Same s d)) (paired s d) _ (paired_fit s d) (λ x h. bind_any (FitTo (Two Same Same s d)) (agreed f (said s) (said d)) _ (λ z. of_pair_fit s d o z x h))
 
 tested_fit : (f : Option Size) (s d : Given) → When (FitTo (Two Same Same s d)) (tested f s d)
-unfolding tested
+unfolding of_two
 tested_fit f s d = bind_from (PairFit s d) (FitTo (Two Same Same s d)) (paired s d) _ (paired_fit s d) (λ x h. bind_any (FitTo (Two Same Same s d)) (agreed f (said s) (said d)) _ (λ z. memory_first_fit s d op.Test z x h))
 
-pub one_fit : (F : Size → Size) (o : Op) (f : Option Size) (g : Given) → When (FitTo (One F g)) (one o f g)
-unfolding one
-one_fit F o f g = bind_from (PlaceFit g) (FitTo (One F g)) (register_or_memory g) _ (rom_fit g) (λ x h. bind_any (FitTo (One F g)) (agreed f (said g) None) _ (λ z. unary_fit F g o z x h))
+pub of_one_fit : (F : Size → Size) (own : Option Size) (o : Op) (f : Option Size) (g : Given) → When (FitTo (One F g)) (of_one own o f g)
+unfolding of_one
+of_one_fit F own o f g = bind_from (PlaceFit g) (FitTo (One F g)) (register_or_memory g) _ (rom_fit g) (λ x h. bind_any (FitTo (One F g)) (agreed f (said g) own) _ (λ z. unary_fit F g o z x h))
 
-into_register_fit : (F G : Size → Size) (o : Op) (z : Size) (s d : Given) (x : NumberedOperand) → PlaceFit s x → When (FitTo (Two F G s d)) (into_register o z d x)
-into_register_fit F G o z s (given.Register t n) x h = instruction_fit (Two F G s (given.Register t n)) o z (register_operand n) x (h (G z))
-into_register_fit F G o z s (given.Memory m) x h = tt
-into_register_fit F G o z s (given.Segment m) x h = tt
-into_register_fit F G o z s (given.Control m) x h = tt
-into_register_fit F G o z s (given.Immediate m) x h = tt
-into_register_fit F G o z s given.Port x h = tt
+pub one_fit : (F : Size → Size) (o : Op) (f : Option Size) (g : Given) → When (FitTo (One F g)) (one o f g)
+one_fit F o f g = of_one_fit F None o f g
 
 to_register_fit : (F G : Size → Size) (o : Op) (f : Option Size) (s d : Given) → When (FitTo (Two F G s d)) (to_register o f s d)
 unfolding to_register
-to_register_fit F G o f s d = bind_from (PlaceFit s) (FitTo (Two F G s d)) (register_or_memory s) _ (rom_fit s) (λ x h. bind_any (FitTo (Two F G s d)) (agreed f (said s) (said d)) _ (λ z. into_register_fit F G o z s d x h))
+to_register_fit F G o f s (given.Register t n) =
+    bind_from (PlaceFit s) (FitTo (Two F G s (given.Register t n))) (register_or_memory s) _ (rom_fit s)
+    (λ x h. bind_any (FitTo (Two F G s (given.Register t n))) (agreed f (said s) (Some t)) _ (λ z. instruction_fit (Two F G s (given.Register t n)) o z (register_operand n) x (h (G z))))
+to_register_fit F G o f s _ = tt
 
 multiplied_fit : (n : Number) (f : Option Size) (s d : Given) → When (FitTo (λ z. Two Long Long s d z ++ (size.Long, n.value) ∷ [])) (multiplied n f s d)
 unfolding multiplied
@@ -97,14 +96,10 @@ arithmetic_fit arithmetic.Multiply f os = product_fit f os
 -- ---- shifts
 
 by_one_fit : (o : Op) (f : Option Size) (g : Given) → When (FitTo (One Byte g)) (by_one o f g)
-unfolding by_one
-by_one_fit o f g = bind_from (PlaceFit g) (FitTo (One Byte g)) (register_or_memory g) _ (rom_fit g) (λ x h. bind_any (FitTo (One Byte g)) (agreed f (said g) None) _ (λ z. unary_fit Byte g o z x h))
+by_one_fit o f g = bind_from (FitTo (One Byte g)) (FitTo (One Byte g)) (one o f g) _ (one_fit Byte o f g) (λ x h. h)
 
 by_number_fit : (o : Op) (f : Option Size) (n : Number) (g : Given) → When (FitTo (λ z. One Byte g z ++ (size.Byte, n.value) ∷ [])) (by_number o f n g)
-unfolding by_number
-by_number_fit o f n g =
-    bind_from (PlaceFit g) (FitTo (λ z. One Byte g z ++ (size.Byte, n.value) ∷ [])) (register_or_memory g) _ (rom_fit g)
-    (λ x h. bind_any (FitTo (λ z. One Byte g z ++ (size.Byte, n.value) ∷ [])) (agreed f (said g) None) _ (λ z. numbered_fit (One Byte g) (unary o z x) size.Byte n (unary_fit Byte g o z x h)))
+by_number_fit o f n g = bind_from (FitTo (One Byte g)) (FitTo (λ z. One Byte g z ++ (size.Byte, n.value) ∷ [])) (one o f g) _ (one_fit Byte o f g) (λ x h. numbered_fit (One Byte g) x size.Byte n h)
 
 by_register_fit : (o : Op) (f : Option Size) (g : Given) → When (FitTo (λ z. One Byte g z ++ [])) (by_register o f g)
 unfolding by_register
@@ -141,68 +136,49 @@ Into g z = numbers_in z g ++ []
 into_place_fit : (g : Given) (x : NumberedOperand) → PlaceFit g x → (z : Size) → fits_displacement (option_or x.displacement None) ≡ all_fit (Into g z)
 into_place_fit g x h z = first_fit g x z h ∙ none_more (numbers_in z g)
 
-from_segment_fit : (f : Option Size) (r : Seg) (g : Given) → When (FitTo (Into g)) (from_segment f r g)
-unfolding from_segment
-from_segment_fit f r g = bind_from (PlaceFit g) (FitTo (Into g)) (register_or_memory g) _ (rom_fit g) (λ x h. special_fit (Into g) op.ReadSeg f g x (of_operand (operand.Segment r)) (into_place_fit g x h))
+from_special_fit : (o : Op) (f : Option Size) (r : Operand) (g : Given) → When (FitTo (Into g)) (from_special o f r g)
+unfolding from_special
+from_special_fit o f r g = bind_from (PlaceFit g) (FitTo (Into g)) (register_or_memory g) _ (rom_fit g) (λ x h. special_fit (Into g) o f g x (of_operand r) (into_place_fit g x h))
 
-to_segment_fit : (f : Option Size) (g : Given) (r : Seg) → When (FitTo (One Same g)) (to_segment f g r)
-unfolding to_segment
-to_segment_fit f g r = bind_from (PlaceFit g) (FitTo (One Same g)) (register_or_memory g) _ (rom_fit g) (λ x h. special_fit (One Same g) op.LoadSeg f g (of_operand (operand.Segment r)) x h)
-
-from_control_fit : (f : Option Size) (n : ℕ) (g : Given) → When (FitTo (Into g)) (from_control f n g)
-unfolding from_control
-from_control_fit f n g = bind_from (PlaceFit g) (FitTo (Into g)) (register_or_memory g) _ (rom_fit g) (λ x h. special_fit (Into g) op.ReadControl f g x (of_operand (operand.Control n)) (into_place_fit g x h))
-
-to_control_fit : (f : Option Size) (g : Given) (n : ℕ) → When (FitTo (One Same g)) (to_control f g n)
-unfolding to_control
-to_control_fit f g n = bind_from (PlaceFit g) (FitTo (One Same g)) (register_or_memory g) _ (rom_fit g) (λ x h. special_fit (One Same g) op.WriteControl f g (of_operand (operand.Control n)) x h)
-
-general_fit : (f : Option Size) (s d : Given) → When (FitTo (Two Same Same s d)) (general f s d)
-unfolding general
-general_fit f s d = bind_from (PairFit s d) (FitTo (Two Same Same s d)) (paired s d) _ (paired_fit s d) (λ x h. bind_any (FitTo (Two Same Same s d)) (agreed f (said s) (said d)) _ (λ z. of_pair_fit s d op.Mov z x h))
+to_special_fit : (o : Op) (f : Option Size) (g : Given) (r : Operand) → When (FitTo (One Same g)) (to_special o f g r)
+unfolding to_special
+to_special_fit o f g r = bind_from (PlaceFit g) (FitTo (One Same g)) (register_or_memory g) _ (rom_fit g) (λ x h. special_fit (One Same g) o f g (of_operand r) x h)
 
 moved_fit : (f : Option Size) (s d : Given) → When (FitTo (Two Same Same s d)) (moved f s d)
 unfolding moved
-moved_fit f (given.Segment r) d = from_segment_fit f r d
-moved_fit f (given.Control n) d = from_control_fit f n d
-moved_fit f (given.Register z1 n1) (given.Register z2 n2) = general_fit f (given.Register z1 n1) (given.Register z2 n2)
-moved_fit f (given.Register z1 n1) (given.Segment z2) = to_segment_fit f (given.Register z1 n1) z2
-moved_fit f (given.Register z1 n1) (given.Control n2) = to_control_fit f (given.Register z1 n1) n2
-moved_fit f (given.Register z1 n1) (given.Memory m2) = general_fit f (given.Register z1 n1) (given.Memory m2)
-moved_fit f (given.Register z1 n1) (given.Immediate n2) = general_fit f (given.Register z1 n1) (given.Immediate n2)
-moved_fit f (given.Register z1 n1) given.Port = general_fit f (given.Register z1 n1) given.Port
-moved_fit f (given.Memory m1) (given.Register z2 n2) = general_fit f (given.Memory m1) (given.Register z2 n2)
-moved_fit f (given.Memory m1) (given.Segment z2) = to_segment_fit f (given.Memory m1) z2
-moved_fit f (given.Memory m1) (given.Control n2) = to_control_fit f (given.Memory m1) n2
-moved_fit f (given.Memory m1) (given.Memory m2) = general_fit f (given.Memory m1) (given.Memory m2)
-moved_fit f (given.Memory m1) (given.Immediate n2) = general_fit f (given.Memory m1) (given.Immediate n2)
-moved_fit f (given.Memory m1) given.Port = general_fit f (given.Memory m1) given.Port
-moved_fit f (given.Immediate n1) (given.Register z2 n2) = general_fit f (given.Immediate n1) (given.Register z2 n2)
-moved_fit f (given.Immediate n1) (given.Segment z2) = to_segment_fit f (given.Immediate n1) z2
-moved_fit f (given.Immediate n1) (given.Control n2) = to_control_fit f (given.Immediate n1) n2
-moved_fit f (given.Immediate n1) (given.Memory m2) = general_fit f (given.Immediate n1) (given.Memory m2)
-moved_fit f (given.Immediate n1) (given.Immediate n2) = general_fit f (given.Immediate n1) (given.Immediate n2)
-moved_fit f (given.Immediate n1) given.Port = general_fit f (given.Immediate n1) given.Port
-moved_fit f given.Port (given.Register z2 n2) = general_fit f given.Port (given.Register z2 n2)
-moved_fit f given.Port (given.Segment z2) = to_segment_fit f given.Port z2
-moved_fit f given.Port (given.Control n2) = to_control_fit f given.Port n2
-moved_fit f given.Port (given.Memory m2) = general_fit f given.Port (given.Memory m2)
-moved_fit f given.Port (given.Immediate n2) = general_fit f given.Port (given.Immediate n2)
-moved_fit f given.Port given.Port = general_fit f given.Port given.Port
-
-into_long_fit : (o : Op) (z : Size) (s d : Given) (x : NumberedOperand) → PlaceFit s x → When (FitTo (Two Same Same s d)) (into_long o z d x)
-into_long_fit o z s (given.Register size.Long n) x h = instruction_fit (Two Same Same s (given.Register size.Long n)) o z (register_operand n) x (h z)
-into_long_fit o z s (given.Register size.Word n) x h = tt
-into_long_fit o z s (given.Register size.Byte n) x h = tt
-into_long_fit o z s (given.Memory m) x h = tt
-into_long_fit o z s (given.Segment m) x h = tt
-into_long_fit o z s (given.Control m) x h = tt
-into_long_fit o z s (given.Immediate m) x h = tt
-into_long_fit o z s given.Port x h = tt
+moved_fit f (given.Segment r) d = from_special_fit op.ReadSeg f (operand.Segment r) d
+moved_fit f (given.Control n) d = from_special_fit op.ReadControl f (operand.Control n) d
+moved_fit f (given.Register z1 n1) (given.Register z2 n2) = two_fit op.Mov f (given.Register z1 n1) (given.Register z2 n2)
+moved_fit f (given.Register z1 n1) (given.Segment z2) = to_special_fit op.LoadSeg f (given.Register z1 n1) (operand.Segment z2)
+moved_fit f (given.Register z1 n1) (given.Control n2) = to_special_fit op.WriteControl f (given.Register z1 n1) (operand.Control n2)
+moved_fit f (given.Register z1 n1) (given.Memory m2) = two_fit op.Mov f (given.Register z1 n1) (given.Memory m2)
+moved_fit f (given.Register z1 n1) (given.Immediate n2) = two_fit op.Mov f (given.Register z1 n1) (given.Immediate n2)
+moved_fit f (given.Register z1 n1) given.Port = two_fit op.Mov f (given.Register z1 n1) given.Port
+moved_fit f (given.Memory m1) (given.Register z2 n2) = two_fit op.Mov f (given.Memory m1) (given.Register z2 n2)
+moved_fit f (given.Memory m1) (given.Segment z2) = to_special_fit op.LoadSeg f (given.Memory m1) (operand.Segment z2)
+moved_fit f (given.Memory m1) (given.Control n2) = to_special_fit op.WriteControl f (given.Memory m1) (operand.Control n2)
+moved_fit f (given.Memory m1) (given.Memory m2) = two_fit op.Mov f (given.Memory m1) (given.Memory m2)
+moved_fit f (given.Memory m1) (given.Immediate n2) = two_fit op.Mov f (given.Memory m1) (given.Immediate n2)
+moved_fit f (given.Memory m1) given.Port = two_fit op.Mov f (given.Memory m1) given.Port
+moved_fit f (given.Immediate n1) (given.Register z2 n2) = two_fit op.Mov f (given.Immediate n1) (given.Register z2 n2)
+moved_fit f (given.Immediate n1) (given.Segment z2) = to_special_fit op.LoadSeg f (given.Immediate n1) (operand.Segment z2)
+moved_fit f (given.Immediate n1) (given.Control n2) = to_special_fit op.WriteControl f (given.Immediate n1) (operand.Control n2)
+moved_fit f (given.Immediate n1) (given.Memory m2) = two_fit op.Mov f (given.Immediate n1) (given.Memory m2)
+moved_fit f (given.Immediate n1) (given.Immediate n2) = two_fit op.Mov f (given.Immediate n1) (given.Immediate n2)
+moved_fit f (given.Immediate n1) given.Port = two_fit op.Mov f (given.Immediate n1) given.Port
+moved_fit f given.Port (given.Register z2 n2) = two_fit op.Mov f given.Port (given.Register z2 n2)
+moved_fit f given.Port (given.Segment z2) = to_special_fit op.LoadSeg f given.Port (operand.Segment z2)
+moved_fit f given.Port (given.Control n2) = to_special_fit op.WriteControl f given.Port (operand.Control n2)
+moved_fit f given.Port (given.Memory m2) = two_fit op.Mov f given.Port (given.Memory m2)
+moved_fit f given.Port (given.Immediate n2) = two_fit op.Mov f given.Port (given.Immediate n2)
+moved_fit f given.Port given.Port = two_fit op.Mov f given.Port given.Port
 
 extended_fit : (o : Op) (y : Size) (s d : Given) → When (FitTo (Two Same Same s d)) (extended o y s d)
 unfolding extended
-extended_fit o y s d = bind_from (PlaceFit s) (FitTo (Two Same Same s d)) (register_or_memory s) _ (rom_fit s) (λ x h. bind_any (FitTo (Two Same Same s d)) (agreed (Some y) (said s) None) _ (λ z. into_long_fit o z s d x h))
+extended_fit o y s (given.Register size.Long n) =
+    bind_from (PlaceFit s) (FitTo (Two Same Same s (given.Register size.Long n))) (register_or_memory s) _ (rom_fit s)
+    (λ x h. bind_any (FitTo (Two Same Same s (given.Register size.Long n))) (agreed (Some y) (said s) None) _ (λ z. instruction_fit (Two Same Same s (given.Register size.Long n)) o z (register_operand n) x (h z)))
+extended_fit o y s _ = tt
 
 effective_fit : (f : Option Size) (s d : Given) → When (FitTo (Two Same Same s d)) (effective f s d)
 unfolding effective
@@ -214,7 +190,7 @@ effective_fit f (given.Immediate n) d = tt
 effective_fit f given.Port d = tt
 
 exchanged_fit : (f : Option Size) (s d : Given) → When (FitTo (Two Same Same s d)) (exchanged f s d)
-unfolding exchanged paired instruction
+unfolding of_two paired instruction
 exchanged_fit f (given.Register z1 n1) (given.Register z2 n2) = bind_any (FitTo (Two Same Same (given.Register z1 n1) (given.Register z2 n2))) (agreed f (said (given.Register z1 n1)) (said (given.Register z2 n2))) _ (λ z. refl)
 exchanged_fit f (given.Register z1 n1) (given.Segment z2) = tt
 exchanged_fit f (given.Register z1 n1) (given.Control n2) = tt
@@ -250,13 +226,9 @@ move_fit k f (operands.Three s d g) = tt
 
 -- ---- the stack
 
-of_long_fit : (o : Op) (f : Option Size) (g h : Given) (a : NumberedOperand) → PlaceFit h a → When (FitTo (One Long h)) (of_long o f g a)
-unfolding of_long
-of_long_fit o f g h a p = bind_any (FitTo (One Long h)) (agreed f (said g) (Some size.Long)) _ (λ z. unary_fit Long h o z a p)
-
-of_general_fit : (o : Op) (f : Option Size) (g : Given) → When (FitTo (One Long g)) (of_general o f g)
-unfolding of_general
-of_general_fit o f g = bind_from (PlaceFit g) (FitTo (One Long g)) (register_or_memory g) _ (rom_fit g) (λ x h. of_long_fit o f g g x h)
+of_segment_fit : (o : Op) (f : Option Size) (r : Seg) → When (FitTo (One Long (given.Segment r))) (of_segment o f r)
+unfolding of_segment
+of_segment_fit o f r = bind_any (FitTo (One Long (given.Segment r))) (agreed f None (Some size.Long)) _ (λ z. unary_fit Long (given.Segment r) o z (of_operand (operand.Segment r)) (λ z. refl))
 
 abbrev IsLong : Size → Type 0
 IsLong z = z ≡ size.Long
@@ -279,26 +251,23 @@ of_number_fit f n = bind_from IsLong (FitTo (One Long (given.Immediate n))) (agr
 pushed_fit : (f : Option Size) (g : Given) → When (FitTo (One Long g)) (pushed f g)
 unfolding pushed
 pushed_fit f (given.Immediate n) = of_number_fit f n
-pushed_fit f (given.Segment r) = of_long_fit op.PushSeg f (given.Segment r) (given.Segment r) (of_operand (operand.Segment r)) (λ z. refl)
-pushed_fit f (given.Register s n) = of_general_fit op.Push f (given.Register s n)
-pushed_fit f (given.Memory m) = of_general_fit op.Push f (given.Memory m)
-pushed_fit f (given.Control n) = of_general_fit op.Push f (given.Control n)
-pushed_fit f given.Port = of_general_fit op.Push f given.Port
+pushed_fit f (given.Segment r) = of_segment_fit op.PushSeg f r
+pushed_fit f (given.Register s n) = of_one_fit Long (Some size.Long) op.Push f (given.Register s n)
+pushed_fit f (given.Memory m) = of_one_fit Long (Some size.Long) op.Push f (given.Memory m)
+pushed_fit f (given.Control n) = of_one_fit Long (Some size.Long) op.Push f (given.Control n)
+pushed_fit f given.Port = of_one_fit Long (Some size.Long) op.Push f given.Port
 
 popped_fit : (f : Option Size) (g : Given) → When (FitTo (One Long g)) (popped f g)
 unfolding popped
-popped_fit f (given.Segment r) = of_long_fit op.PopSeg f (given.Segment r) (given.Segment r) (of_operand (operand.Segment r)) (λ z. refl)
-popped_fit f (given.Immediate n) = of_general_fit op.Pop f (given.Immediate n)
-popped_fit f (given.Register s n) = of_general_fit op.Pop f (given.Register s n)
-popped_fit f (given.Memory m) = of_general_fit op.Pop f (given.Memory m)
-popped_fit f (given.Control n) = of_general_fit op.Pop f (given.Control n)
-popped_fit f given.Port = of_general_fit op.Pop f given.Port
+popped_fit f (given.Segment r) = of_segment_fit op.PopSeg f r
+popped_fit f (given.Immediate n) = of_one_fit Long (Some size.Long) op.Pop f (given.Immediate n)
+popped_fit f (given.Register s n) = of_one_fit Long (Some size.Long) op.Pop f (given.Register s n)
+popped_fit f (given.Memory m) = of_one_fit Long (Some size.Long) op.Pop f (given.Memory m)
+popped_fit f (given.Control n) = of_one_fit Long (Some size.Long) op.Pop f (given.Control n)
+popped_fit f given.Port = of_one_fit Long (Some size.Long) op.Pop f given.Port
 
 pub stack_fit : (k : Stack) (f : Option Size) (os : Operands) → Fit (family.Stack k) os (stack_draft k f os)
 unfolding stack_draft numbers field_of first_field_of
 stack_fit stack.Push f (operands.One g) = pushed_fit f g
 stack_fit stack.Pop f (operands.One g) = popped_fit f g
-stack_fit k f operands.Nothing = tt
-stack_fit k f (operands.Starred g) = tt
-stack_fit k f (operands.Two s d) = tt
-stack_fit k f (operands.Three s d g) = tt
+stack_fit _ f _ = tt

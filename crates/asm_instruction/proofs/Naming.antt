@@ -1,6 +1,6 @@
 -- What is known of the operands that arguments give, and of the instructions that names mean.
 use Rattle.std.proofs.Common.{◌≡◌, ℕ, ◌-◌, ◌<◌, Bool, true, false, List, [], ◌∷◌, Option, Some, None, length, refl, sym, ap, ◌∙◌}
-use Rattle.std.specs.Prelude.{◌==◌, ◌&&◌, nat_lt, is_none, slice_get, slice_index, take}
+use Rattle.std.specs.Prelude.{◌==◌, ◌&&◌, nat_lt, is_none, is_some, slice_get, slice_index, take, if◌then◌else◌}
 use Rattle.std.specs.Option.{option_or}
 use Rattle.std.specs.Str.{bytes_eq}
 use Rattle.std.proofs.lemmas.Bool.{ltb-true, lt-ltb, and_parts}
@@ -11,15 +11,17 @@ use Rattle.asm_source.specs.declared.tree.Value.{Value}
 use Rattle.asm_source.specs.declared.tree.Form.{Form}
 use Rattle.asm_source.specs.declared.tree.Form.TheVariants as form
 use Rattle.asm_source.specs.declared.tree.Argument.{Argument}
+use Rattle.asm_source.specs.Names.{symbol_in}
 use Rattle.asm_instruction.specs.declared.argument.Number.{Number}
 use Rattle.asm_instruction.specs.declared.argument.Given.{Given}
 use Rattle.asm_instruction.specs.declared.argument.Given.TheVariants as given
 use Rattle.asm_instruction.specs.declared.mnemonic.Family.{Family}
 use Rattle.asm_instruction.specs.declared.mnemonic.Mnemonic.{Mnemonic}
-use Rattle.asm_instruction.specs.Names.{Table, found}
+use Rattle.asm_instruction.specs.declared.argument.Operands.TheVariants as operands
+use Rattle.asm_instruction.specs.Names.{Table, found, ◌>>=◌}
 use Rattle.asm_instruction.specs.Field.{field}
 use Rattle.asm_instruction.specs.Register.{long_registers, word_registers, byte_registers, segment_registers, control_registers}
-use Rattle.asm_instruction.specs.Argument.{general_register, special_register, named_register, displacement, address_register, is_dx, address, memory_operand, given_by, single, starred, unstarred, operands_of, is_named, argument_named, names_symbol}
+use Rattle.asm_instruction.specs.Argument.{named_register, displacement, address_register, is_dx, address, memory_operand, given_by, single, unstarred, operands_of, names_symbol}
 use Rattle.asm_instruction.specs.Arithmetic.{two_operand_names, one_operand_names}
 use Rattle.asm_instruction.specs.Shift.{shift_names}
 use Rattle.asm_instruction.specs.Moves.{move_names, extend_names}
@@ -41,20 +43,14 @@ module _ (args : List Argument) where
     named : n.named ≡ true → names_symbol args (Some n.argument) ≡ true
     constant : n.value ≡ constant_in args n.argument
 
-  general_good : (name : List ℕ) → When (GivenGood args) (general_register name)
-  general_good name =
-      either (GivenGood args) _ _ (bind_any (GivenGood args) (found long_registers name) (λ r. Some (given.Register size.Long (number_of r))) (λ r. tt))
-      (either (GivenGood args) _ _ (bind_any (GivenGood args) (found word_registers name) (λ n. Some (given.Register size.Word n)) (λ n. tt))
-      (bind_any (GivenGood args) (found byte_registers name) (λ n. Some (given.Register size.Byte n)) (λ n. tt)))
-
-  other_good : (name : List ℕ) → When (GivenGood args) (special_register name)
-  other_good name =
-      either (GivenGood args) _ _ (bind_any (GivenGood args) (found segment_registers name) (λ s. Some (given.Segment s)) (λ s. tt))
-      (bind_any (GivenGood args) (found control_registers name) (λ n. Some (given.Control n)) (λ n. tt))
-
   register_good : (name : List ℕ) → When (GivenGood args) (named_register name)
   unfolding named_register
-  register_good name = either (GivenGood args) (general_register name) (special_register name) (general_good name) (other_good name)
+  register_good name =
+      either (GivenGood args) _ _ (bind_any (GivenGood args) (found long_registers name) (λ r. Some (given.Register size.Long (number_of r))) (λ r. tt))
+      (either (GivenGood args) _ _ (bind_any (GivenGood args) (found word_registers name) (λ n. Some (given.Register size.Word n)) (λ n. tt))
+      (either (GivenGood args) _ _ (bind_any (GivenGood args) (found byte_registers name) (λ n. Some (given.Register size.Byte n)) (λ n. tt))
+      (either (GivenGood args) _ _ (bind_any (GivenGood args) (found segment_registers name) (λ s. Some (given.Segment s)) (λ s. tt))
+      (bind_any (GivenGood args) (found control_registers name) (λ n. Some (given.Control n)) (λ n. tt)))))
 
   address_good : (b i : Option Reg) (s : ℕ) (n : Number) → NumberGood n → GivenGood args (address b i s n)
   address_good b i s n h = record { below = field_below size.Long n.value; named = h.named; constant = ap (field size.Long) h.constant }
@@ -63,11 +59,11 @@ module _ (args : List Argument) where
   unfolding memory_operand
   memory_good n b i s h = bind_any (GivenGood args) (address_register b) _ (λ x. bind_any (GivenGood args) (address_register i) _ (λ y. address_good x y s n h))
 
-  displacement_good : (v : Option Value) (b i : Option (List ℕ)) (s k : ℕ) → names_symbol args (Some k) ≡ is_named (form.Memory v b i s) → constant_in args k ≡ constant_of (form.Memory v b i s) → NumberGood (displacement v k)
+  displacement_good : (v : Option Value) (b i : Option (List ℕ)) (s k : ℕ) → names_symbol args (Some k) ≡ is_some (symbol_in (form.Memory v b i s)) → constant_in args k ≡ constant_of (form.Memory v b i s) → NumberGood (displacement v k)
   displacement_good (Some v) b i s k h q = record { named = λ t. h ∙ t; constant = sym q }
   displacement_good None b i s k h q = record { named = λ t. absurd cc; constant = sym q }
 
-  given_good : (f : Form) (k : ℕ) → names_symbol args (Some k) ≡ is_named f → constant_in args k ≡ constant_of f → When (GivenGood args) (given_by f k)
+  given_good : (f : Form) (k : ℕ) → names_symbol args (Some k) ≡ is_some (symbol_in f) → constant_in args k ≡ constant_of f → When (GivenGood args) (given_by f k)
   unfolding given_by
   given_good (form.Register name) k h q = register_good name
   given_good (form.Immediate v) k h q = tt
@@ -79,19 +75,19 @@ module _ (args : List Argument) where
 
   argument_good : (a : Argument) (k : ℕ) → slice_get args k ≡ Some a → When (GivenGood args) (given_by a.form k)
   unfolding names_symbol
-  argument_good a k e = given_good a.form k (ap argument_named e) (ap argument_constant e)
+  argument_good a k e = given_good a.form k (ap (λ (o : Option Argument). is_some (o >>= λ a. symbol_in a.form)) e) (ap argument_constant e)
 
   unstarred_good : (a : Argument) (k : ℕ) → slice_get args k ≡ Some a → When (GivenGood args) (unstarred a k)
   unfolding unstarred
   unstarred_good a k e = choice (GivenGood args) a.star None (given_by a.form k) tt (argument_good a k e)
 
-  starred_good : (b : Bool) (g : Given) → GivenGood args g → OperandsGood args (starred b g)
+  starred_good : (b : Bool) (g : Given) → GivenGood args g → OperandsGood args (if b then operands.Starred g else operands.One g)
   starred_good true g h = h
   starred_good false g h = h
 
   single_good : (a : Argument) → slice_get args 0 ≡ Some a → When (OperandsGood args) (single a)
   unfolding single
-  single_good a e = bind_from (GivenGood args) (OperandsGood args) (given_by a.form 0) (λ g. Some (starred a.star g)) (argument_good a 0 e) (λ g h. starred_good a.star g h)
+  single_good a e = bind_from (GivenGood args) (OperandsGood args) (given_by a.form 0) (λ g. Some (if a.star then operands.Starred g else operands.One g)) (argument_good a 0 e) (λ g h. starred_good a.star g h)
 
 pub operands_good : (args : List Argument) → When (OperandsGood args) (operands_of args)
 unfolding operands_of

@@ -5,6 +5,7 @@ use Rattle.ia32_types.specs.declared.insn.Op.{Op}
 use Rattle.ia32_types.specs.declared.insn.Op.TheVariants as op
 use Rattle.ia32_types.specs.declared.size.Size.{Size}
 use Rattle.ia32_types.specs.declared.size.Size.TheVariants as size
+use Rattle.asm_instruction.specs.Names.{◌>>=◌}
 use Rattle.asm_instruction.specs.declared.argument.Number.{Number}
 use Rattle.asm_instruction.specs.declared.argument.Memory.{Memory}
 use Rattle.asm_instruction.specs.declared.argument.Given.{Given}
@@ -23,15 +24,15 @@ use Rattle.asm_instruction.specs.Field.{fits_field}
 use Rattle.asm_instruction.specs.Sizes.{agreed}
 use Rattle.asm_instruction.specs.Draft.{nothing, register_operand, memory, register_or_memory, said, instruction, with_number, alone}
 use Rattle.asm_instruction.specs.Arithmetic.{one}
-use Rattle.asm_instruction.specs.Control.{to_symbol, is_symbol, to_operand, direct, indirect, return_of, returned, with_selector, far, set, control_draft}
+use Rattle.asm_instruction.specs.Control.{to_symbol, is_symbol, direct, return_of, returned, with_selector, far, set, control_draft}
 use Rattle.asm_instruction.specs.Strings.{string_draft}
-use Rattle.asm_instruction.specs.Flags.{without_operands, plain_draft}
-use Rattle.asm_instruction.specs.System.{through, between, ported, memory_alone, of_memory, task, system_draft}
-use Rattle.asm_instruction.specs.Mnemonic.{by_family, repeated, without_repeat, drafted}
+use Rattle.asm_instruction.specs.Flags.{plain_draft}
+use Rattle.asm_instruction.specs.System.{through, ported, of_memory, task, system_draft}
+use Rattle.asm_instruction.specs.Mnemonic.{by_family, repeated, drafted}
 use Rattle.asm_instruction.specs.Refusals.{field_of, first_field_of, numbers_in, numbers}
 use Rattle.asm_instruction.proofs.Goods.{When, bind_from, bind_any, choice}
 use Rattle.asm_instruction.proofs.Fitting.{all_fit, and_true, none_more, FitTo, PlaceFit, rom_fit, One, unary_fit, Two, Same, Byte, FamilyFit, Fit}
-use Rattle.asm_instruction.proofs.MovesFit.{one_fit, arithmetic_fit, shift_fit, move_fit, stack_fit}
+use Rattle.asm_instruction.proofs.MovesFit.{of_one_fit, one_fit, arithmetic_fit, shift_fit, move_fit, stack_fit}
 
 -- ---- jumps, calls, returns, interrupts and conditions
 
@@ -39,21 +40,12 @@ symbol_fit : (o : Op) (c : ℕ) (m : Memory) → FitTo (One Same (given.Memory m
 unfolding to_symbol instruction
 symbol_fit o c m = and_true (fits_field size.Long m.displacement.value)
 
-to_operand_fit : (o : Op) (c : ℕ) (g : Given) → When (FitTo (One Same g)) (to_operand o c g)
-to_operand_fit o c (given.Memory m) = choice (FitTo (One Same (given.Memory m))) (is_symbol m) (Some (to_symbol o c m)) None (symbol_fit o c m) tt
-to_operand_fit o c (given.Register s n) = tt
-to_operand_fit o c (given.Segment n) = tt
-to_operand_fit o c (given.Control n) = tt
-to_operand_fit o c (given.Immediate n) = tt
-to_operand_fit o c given.Port = tt
-
 direct_fit : (o : Op) (c : ℕ) (f : Option Size) (g : Given) → When (FitTo (One Same g)) (direct o c f g)
 unfolding direct
-direct_fit o c f g = bind_any (FitTo (One Same g)) (agreed f (Some size.Long) None) _ (λ z. to_operand_fit o c g)
-
-indirect_fit : (o : Op) (f : Option Size) (g : Given) → When (FitTo (One Same g)) (indirect o f g)
-unfolding indirect
-indirect_fit o f g = bind_from (PlaceFit g) (FitTo (One Same g)) (register_or_memory g) _ (rom_fit g) (λ x h. bind_any (FitTo (One Same g)) (agreed f (said g) (Some size.Long)) _ (λ z. unary_fit Same g o z x h))
+direct_fit o c f (given.Memory m) =
+    choice (FitTo (One Same (given.Memory m))) (is_symbol m) (agreed f (Some size.Long) None >>= λ z. Some (to_symbol o c m)) None
+    (bind_any (FitTo (One Same (given.Memory m))) (agreed f (Some size.Long) None) _ (λ z. symbol_fit o c m)) tt
+direct_fit o c f _ = tt
 
 number_fit : (o : Op) (s : Size) (n : Number) → FitTo (λ z. (s, n.value) ∷ []) (with_number (alone o) s n)
 unfolding instruction with_number
@@ -92,7 +84,7 @@ control_fit : (k : Control) (f : Option Size) (os : Operands) → Fit (family.Co
 unfolding control_draft numbers field_of first_field_of
 control_fit (control.Branch x y) f operands.Nothing = tt
 control_fit (control.Branch x y) f (operands.One g) = direct_fit x 0 f g
-control_fit (control.Branch x y) f (operands.Starred g) = indirect_fit y f g
+control_fit (control.Branch x y) f (operands.Starred g) = of_one_fit Same (Some size.Long) y f g
 control_fit (control.Branch x y) f (operands.Two s d) = tt
 control_fit (control.Branch x y) f (operands.Three s d g) = tt
 control_fit (control.Conditional c) f operands.Nothing = tt
@@ -142,17 +134,10 @@ string_fit k r o s (operands.Starred g) = tt
 string_fit k r o s (operands.Two x d) = tt
 string_fit k r o s (operands.Three x d g) = tt
 
-without_fit : (k : Family) (o : Op) (os : Operands) → Fit k os (without_operands o os)
-unfolding numbers instruction
-without_fit k o operands.Nothing = refl
-without_fit k o (operands.One g) = tt
-without_fit k o (operands.Starred g) = tt
-without_fit k o (operands.Two x d) = tt
-without_fit k o (operands.Three x d g) = tt
-
 plain_fit : (k : Family) (o : Op) (f : Option Size) (os : Operands) → Fit k os (plain_draft o f os)
-unfolding plain_draft
-plain_fit k o f os = bind_any (FamilyFit k os) (agreed f (Some size.Long) None) _ (λ z. without_fit k o os)
+unfolding plain_draft numbers instruction
+plain_fit k o f operands.Nothing = bind_any (FamilyFit k operands.Nothing) (agreed f (Some size.Long) None) _ (λ z. refl)
+plain_fit k o f _ = tt
 
 through_fit : (o : Op) (s : Size) (g : Given) → When (FitTo (One Byte g)) (through o s g)
 unfolding through instruction with_number
@@ -165,14 +150,6 @@ through_fit o s (given.Memory m) = tt
 through_fit o s (given.Segment m) = tt
 through_fit o s (given.Control m) = tt
 
-in_fit : (s : Size) (p g : Given) → When (FitTo (Two Byte Byte p g)) (between op.PortIn s p g)
-in_fit s p (given.Register t n) = choice (FitTo (One Byte p)) (n == 0) (through op.PortIn s p) None (through_fit op.PortIn s p) tt
-in_fit s p (given.Memory m) = tt
-in_fit s p (given.Segment m) = tt
-in_fit s p (given.Control m) = tt
-in_fit s p (given.Immediate m) = tt
-in_fit s p given.Port = tt
-
 widen : (p : Given) (d : Draft) → FitTo (One Byte p) d → FitTo (λ z. One Byte p z ++ []) d
 widen p d h = h ∙ none_more (numbers_in size.Byte p)
 
@@ -180,33 +157,26 @@ widened : (p : Given) (o : Option Draft) → When (FitTo (One Byte p)) o → Whe
 widened p None h = tt
 widened p (Some d) h = widen p d h
 
-out_fit : (s : Size) (p g : Given) → When (FitTo (Two Byte Byte g p)) (between op.PortOut s p g)
-out_fit s p (given.Register t n) = choice (FitTo (λ z. One Byte p z ++ [])) (n == 0) (through op.PortOut s p) None (widened p (through op.PortOut s p) (through_fit op.PortOut s p)) tt
-out_fit s p (given.Memory m) = tt
-out_fit s p (given.Segment m) = tt
-out_fit s p (given.Control m) = tt
-out_fit s p (given.Immediate m) = tt
-out_fit s p given.Port = tt
-
 ported_in_fit : (f : Option Size) (p g : Given) → When (FitTo (Two Byte Byte p g)) (ported op.PortIn f p g)
 unfolding ported
-ported_in_fit f p g = bind_any (FitTo (Two Byte Byte p g)) (agreed f (said g) None) _ (λ z. in_fit z p g)
+ported_in_fit f p (given.Register t n) =
+    choice (FitTo (One Byte p)) (n == 0) (agreed f (Some t) None >>= λ z. through op.PortIn z p) None
+    (bind_any (FitTo (One Byte p)) (agreed f (Some t) None) _ (λ z. through_fit op.PortIn z p)) tt
+ported_in_fit f p _ = tt
 
 ported_out_fit : (f : Option Size) (p g : Given) → When (FitTo (Two Byte Byte g p)) (ported op.PortOut f p g)
 unfolding ported
-ported_out_fit f p g = bind_any (FitTo (Two Byte Byte g p)) (agreed f (said g) None) _ (λ z. out_fit z p g)
-
-memory_alone_fit : (o : Op) (s : Size) (g : Given) → When (FitTo (One Byte g)) (memory_alone o s g)
-memory_alone_fit o s (given.Memory m) = unary_fit Byte (given.Memory m) o s (memory m) (λ z. and_true (fits_field size.Long m.displacement.value))
-memory_alone_fit o s (given.Register t n) = tt
-memory_alone_fit o s (given.Segment n) = tt
-memory_alone_fit o s (given.Control n) = tt
-memory_alone_fit o s (given.Immediate n) = tt
-memory_alone_fit o s given.Port = tt
+ported_out_fit f p (given.Register t n) =
+    choice (FitTo (λ z. One Byte p z ++ [])) (n == 0) (agreed f (Some t) None >>= λ z. through op.PortOut z p) None
+    (bind_any (FitTo (λ z. One Byte p z ++ [])) (agreed f (Some t) None) _ (λ z. widened p (through op.PortOut z p) (through_fit op.PortOut z p))) tt
+ported_out_fit f p _ = tt
 
 of_memory_fit : (o : Op) (f : Option Size) (g : Given) → When (FitTo (One Byte g)) (of_memory o f g)
 unfolding of_memory
-of_memory_fit o f g = bind_any (FitTo (One Byte g)) (agreed f (Some size.Long) None) _ (λ z. memory_alone_fit o z g)
+of_memory_fit o f (given.Memory m) =
+    bind_any (FitTo (One Byte (given.Memory m))) (agreed f (Some size.Long) None) _
+    (λ z. unary_fit Byte (given.Memory m) o z (memory m) (λ z. and_true (fits_field size.Long m.displacement.value)))
+of_memory_fit o f _ = tt
 
 task_fit : (f : Option Size) (g : Given) → When (FitTo (One Byte g)) (task f g)
 unfolding task
@@ -256,7 +226,7 @@ repeated_fit (family.Plain o) os = tt
 repeated_fit (family.System k) os = tt
 
 drafted_when : (rep : Bool) (m : Mnemonic) (os : Operands) → Fit m.family os (drafted rep m os)
-unfolding drafted without_repeat
+unfolding drafted
 drafted_when rep m os = choice (FamilyFit m.family os) rep (repeated m.family os) (by_family m.family m.suffix os) (repeated_fit m.family os) (family_fit m.family m.suffix os)
 
 pub drafted_fit : (rep : Bool) (m : Mnemonic) (os : Operands) (d : Draft) → drafted rep m os ≡ Some d → d.fits ≡ all_fit (numbers m.family d.insn.size os)

@@ -11,13 +11,17 @@ use Rattle.asm_instruction.specs.declared.mnemonic.Mnemonic.{Mnemonic}
 use Rattle.asm_instruction.specs.declared.assembled.Assembled.{Assembled}
 use Rattle.asm_instruction.specs.declared.assembled.Refusal.{Refusal}
 use Rattle.asm_instruction.specs.declared.assembled.Refusal.TheVariants as refusal
-use Rattle.asm_instruction.specs.Argument.{argument_named, names_symbol}
+use Rattle.asm_instruction.specs.Names.{◌>>=◌}
+use Rattle.asm_instruction.specs.Argument.{names_symbol}
 use Rattle.asm_instruction.specs.Assembled.{named_field, widths, whole, with_spelling, spelled, drafted_of, by_draft, by_mnemonic}
 use Rattle.asm_instruction.specs.Right.{HasBoundedLength, SpellsItsInstruction, IsField, HasFields, Before, AreInOrder, IsRight, named_in}
 
 pub symbol_there : (o : Option (List ℕ)) → is_some o ≡ true → (n : List ℕ) × (o ≡ Some n)
 symbol_there (Some n) h = (n, refl)
 symbol_there None h = absurd cc
+
+abbrev argument_named : Option Argument → Bool
+argument_named o = is_some (o >>= λ a. symbol_in a.form)
 
 argument_there : (o : Option Argument) → argument_named o ≡ true → (a : Argument) × (n : List ℕ) × (o ≡ Some a) × (symbol_in a.form ≡ Some n)
 argument_there (Some a) h = let s = symbol_there (symbol_in a.form) h in (a, s.0, refl, s.1)

@@ -1,5 +1,5 @@
 -- What the arguments of a statement say.
-use Rattle.std.specs.Prelude.{codes, ℕ, pos, ◌&&◌, Bool, true, false, List, [], ◌∷◌, Option, Some, None, is_some, is_none, slice_get, if◌then◌else◌}
+use Rattle.std.specs.Prelude.{codes, ℕ, pos, ◌&&◌, Bool, false, List, [], ◌∷◌, Option, Some, None, is_some, is_none, slice_get, if◌then◌else◌}
 use Rattle.std.specs.Option.{option_or}
 use Rattle.std.specs.Str.{bytes_eq}
 use Rattle.ia32_types.specs.declared.register.Reg.{Reg}
@@ -21,19 +21,13 @@ use Rattle.asm_instruction.specs.Field.{field}
 
 -- ---- registers
 
-abbrev pub general_register : List ℕ → Option Given
-general_register name =
+unfoldable pub named_register : List ℕ → Option Given
+named_register name =
     option_or (found long_registers name >>= λ r. Some (given.Register size.Long (number_of r)))
     (option_or (found word_registers name >>= λ n. Some (given.Register size.Word n))
-    (found byte_registers name >>= λ n. Some (given.Register size.Byte n)))
-
-abbrev pub special_register : List ℕ → Option Given
-special_register name =
-    option_or (found segment_registers name >>= λ s. Some (given.Segment s))
-    (found control_registers name >>= λ n. Some (given.Control n))
-
-unfoldable pub named_register : List ℕ → Option Given
-named_register name = option_or (general_register name) (special_register name)
+    (option_or (found byte_registers name >>= λ n. Some (given.Register size.Byte n))
+    (option_or (found segment_registers name >>= λ s. Some (given.Segment s))
+    (found control_registers name >>= λ n. Some (given.Control n)))))
 
 -- ---- numbers and memory; k is the number of the argument
 
@@ -77,12 +71,8 @@ given_by _ k = None
 
 -- ---- the operands
 
-abbrev pub starred : Bool → Given → Operands
-starred true g = operands.Starred g
-starred false g = operands.One g
-
 unfoldable pub single : Argument → Option Operands
-single a = given_by a.form 0 >>= λ g. Some (starred a.star g)
+single a = given_by a.form 0 >>= λ g. Some (if a.star then operands.Starred g else operands.One g)
 
 -- one of several arguments: there * stands before none
 unfoldable pub unstarred : Argument → ℕ → Option Given
@@ -104,14 +94,7 @@ operands_of _ = None
 
 -- ---- symbols
 
-abbrev pub is_named : Form → Bool
-is_named f = is_some (symbol_in f)
-
-abbrev pub argument_named : Option Argument → Bool
-argument_named None = false
-argument_named (Some a) = is_named a.form
-
 -- the argument of this number, where there is one, names a symbol
 unfoldable pub names_symbol : List Argument → Option ℕ → Bool
 names_symbol arguments None = false
-names_symbol arguments (Some k) = argument_named (slice_get arguments k)
+names_symbol arguments (Some k) = is_some (slice_get arguments k >>= λ a. symbol_in a.form)

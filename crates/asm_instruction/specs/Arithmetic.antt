@@ -12,7 +12,6 @@ use Rattle.asm_instruction.specs.declared.argument.Operands.TheVariants as opera
 use Rattle.asm_instruction.specs.declared.arithmetic.Arithmetic.{Arithmetic}
 use Rattle.asm_instruction.specs.declared.arithmetic.Arithmetic.TheVariants as arithmetic
 use Rattle.asm_instruction.specs.declared.draft.Draft.{Draft}
-use Rattle.asm_instruction.specs.declared.draft.NumberedOperand.{NumberedOperand}
 use Rattle.asm_instruction.specs.declared.draft.Pair.{Pair}
 use Rattle.asm_instruction.specs.declared.draft.Pair.TheVariants as pair
 use Rattle.asm_instruction.specs.declared.mnemonic.Family.{Family}
@@ -51,37 +50,38 @@ abbrev pub memory_first : Op → Size → Pair → Draft
 memory_first o s (pair.FromMemory place n) = instruction o s place (register_operand n)
 memory_first o s p = of_pair o s p
 
--- from a register, memory or a number to a register or memory
-unfoldable pub two : Op → Option Size → Given → Given → Option Draft
-two o suffix source destination = do
+-- what is made of a pair, at the size that its operands say
+unfoldable pub of_two : (Size → Pair → Option Draft) → Option Size → Given → Given → Option Draft
+of_two make suffix source destination = do
   p ← paired source destination
   s ← agreed suffix (said source) (said destination)
-  Some (of_pair o s p)
+  make s p
+
+-- from a register, memory or a number to a register or memory
+abbrev pub two : Op → Option Size → Given → Given → Option Draft
+two o suffix source destination = of_two (λ s p. Some (of_pair o s p)) suffix source destination
 
 -- TEST
-unfoldable pub tested : Option Size → Given → Given → Option Draft
-tested suffix source destination = do
-  p ← paired source destination
-  s ← agreed suffix (said source) (said destination)
-  Some (memory_first op.Test s p)
+abbrev pub tested : Option Size → Given → Given → Option Draft
+tested suffix source destination = of_two (λ s p. Some (memory_first op.Test s p)) suffix source destination
 
--- of a register or memory
-unfoldable pub one : Op → Option Size → Given → Option Draft
-one o suffix g = do
+-- of a register or memory, with a size of its own or none
+unfoldable pub of_one : Option Size → Op → Option Size → Given → Option Draft
+of_one own o suffix g = do
   place ← register_or_memory g
-  s ← agreed suffix (said g) None
+  s ← agreed suffix (said g) own
   Some (unary o s place)
 
-abbrev pub into_register : Op → Size → Given → NumberedOperand → Option Draft
-into_register o s (given.Register t n) place = Some (instruction o s (register_operand n) place)
-into_register o s _ place = None
+abbrev pub one : Op → Option Size → Given → Option Draft
+one o suffix g = of_one None o suffix g
 
 -- from a register or memory to a register
 unfoldable pub to_register : Op → Option Size → Given → Given → Option Draft
-to_register o suffix source destination = do
+to_register o suffix source (given.Register t n) = do
   place ← register_or_memory source
-  s ← agreed suffix (said source) (said destination)
-  into_register o s destination place
+  s ← agreed suffix (said source) (Some t)
+  Some (instruction o s (register_operand n) place)
+to_register o suffix source _ = None
 
 -- IMUL by a number
 unfoldable pub multiplied : Number → Option Size → Given → Given → Option Draft

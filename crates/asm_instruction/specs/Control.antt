@@ -19,8 +19,8 @@ use Rattle.asm_instruction.specs.Names.{Table, ◌>>=◌}
 use Rattle.asm_instruction.specs.Condition.{condition}
 use Rattle.asm_instruction.specs.Field.{field, fits_field}
 use Rattle.asm_instruction.specs.Sizes.{agreed}
-use Rattle.asm_instruction.specs.Draft.{register_or_memory, said, unary, alone, with_number}
-use Rattle.asm_instruction.specs.Arithmetic.{one}
+use Rattle.asm_instruction.specs.Draft.{alone, with_number}
+use Rattle.asm_instruction.specs.Arithmetic.{of_one, one}
 
 -- with a suffix, or none
 unfoldable pub branch_names : Table Family
@@ -67,18 +67,9 @@ to_symbol o c m = record (alone o) {
 abbrev pub is_symbol : Memory → Bool
 is_symbol m = m.displacement.named && is_none m.address.base && is_none m.address.index
 
-abbrev pub to_operand : Op → ℕ → Given → Option Draft
-to_operand o c (given.Memory m) = if is_symbol m then Some (to_symbol o c m) else None
-to_operand o c _ = None
-
 unfoldable pub direct : Op → ℕ → Option Size → Given → Option Draft
-direct o c suffix g = agreed suffix (Some size.Long) None >>= λ s. to_operand o c g
-
-unfoldable pub indirect : Op → Option Size → Given → Option Draft
-indirect o suffix g = do
-  place ← register_or_memory g
-  s ← agreed suffix (said g) (Some size.Long)
-  Some (unary o s place)
+direct o c suffix (given.Memory m) = if is_symbol m then (agreed suffix (Some size.Long) None >>= λ s. Some (to_symbol o c m)) else None
+direct o c suffix _ = None
 
 -- ---- the others
 
@@ -106,7 +97,7 @@ set c g = one op.Setcc (Some size.Byte) g >>= λ d. Some (with_condition d c)
 
 unfoldable pub control_draft : Control → Option Size → Operands → Option Draft
 control_draft (kind.Branch o i) suffix (operands.One g) = direct o 0 suffix g
-control_draft (kind.Branch o i) suffix (operands.Starred g) = indirect i suffix g
+control_draft (kind.Branch o i) suffix (operands.Starred g) = of_one (Some size.Long) i suffix g
 control_draft (kind.Conditional c) suffix (operands.One g) = direct op.Jcc c suffix g
 control_draft (kind.Set c) suffix (operands.One g) = set c g
 control_draft kind.Interrupt suffix (operands.One (given.Immediate n)) = Some (with_number (alone op.Int) size.Byte n)

@@ -1,6 +1,6 @@
 -- An instruction that is put together from its operands.
 use Rattle.std.specs.Prelude.{ℕ, ◌&&◌, Bool, true, false, Option, Some, None}
-use Rattle.std.specs.Option.{option_or}
+use Rattle.std.specs.Option.{option_or, option_map}
 use Rattle.ia32_types.specs.declared.insn.Op.{Op}
 use Rattle.ia32_types.specs.declared.insn.Operand.{Operand}
 use Rattle.ia32_types.specs.declared.insn.Operand.TheVariants as operand
@@ -43,30 +43,16 @@ said _ = None
 
 -- ---- source and destination, of which at most one is in memory
 
-abbrev pub paired_register : ℕ → Given → Option Pair
-paired_register n destination = register_or_memory destination >>= λ p. Some (pair.FromRegister n p)
-
-abbrev pub paired_number : Number → Given → Option Pair
-paired_number n destination = register_or_memory destination >>= λ p. Some (pair.Immediate n p)
-
-abbrev pub paired_memory : Memory → Given → Option Pair
-paired_memory m (given.Register s n) = Some (pair.FromMemory (memory m) n)
-paired_memory m _ = None
-
 unfoldable pub paired : Given → Given → Option Pair
-paired (given.Immediate n) destination = paired_number n destination
-paired (given.Register s n) destination = paired_register n destination
-paired (given.Memory m) destination = paired_memory m destination
+paired (given.Immediate n) destination = register_or_memory destination >>= λ p. Some (pair.Immediate n p)
+paired (given.Register s n) destination = register_or_memory destination >>= λ p. Some (pair.FromRegister n p)
+paired (given.Memory m) (given.Register s n) = Some (pair.FromMemory (memory m) n)
 paired _ destination = None
 
 -- ---- instructions
 
 abbrev pub displaced : NumberedOperand → NumberedOperand → Option Number
 displaced a b = option_or a.displacement b.displacement
-
-abbrev pub argument : Option Number → Option ℕ
-argument (Some n) = Some n.argument
-argument None = None
 
 abbrev pub fits_displacement : Option Number → Bool
 fits_displacement (Some n) = fits_field size.Long n.value
@@ -75,7 +61,7 @@ fits_displacement None = true
 unfoldable pub instruction : Op → Size → NumberedOperand → NumberedOperand → Draft
 instruction o s a b = record {
   insn = record { op = o; size = s; a = a.operand; b = b.operand; imm = 0; sel = 0; rep = false };
-  disp = argument (displaced a b);
+  disp = option_map (λ (n : Number). n.argument) (displaced a b);
   imm = None;
   relative = false;
   fits = fits_displacement (displaced a b);

@@ -20,10 +20,7 @@ plain_names =
     (codes "cli", family.Plain op.Cli) ∷ (codes "sti", family.Plain op.Sti) ∷ (codes "cwtl", family.Plain op.Cwde) ∷ (codes "cltd", family.Plain op.Cdq) ∷
     (codes "nop", family.Plain op.Nop) ∷ (codes "hlt", family.Plain op.Hlt) ∷ []
 
-abbrev pub without_operands : Op → Operands → Option Draft
-without_operands o operands.Nothing = Some (alone o)
-without_operands o _ = None
-
 -- where it takes a suffix, only 32 bits exist
 unfoldable pub plain_draft : Op → Option Size → Operands → Option Draft
-plain_draft o suffix os = agreed suffix (Some size.Long) None >>= λ s. without_operands o os
+plain_draft o suffix operands.Nothing = agreed suffix (Some size.Long) None >>= λ s. Some (alone o)
+plain_draft o suffix _ = None

@@ -1,4 +1,5 @@
 pub mod Names
+pub mod Rows
 pub mod Field
 pub mod Register
 pub mod Argument

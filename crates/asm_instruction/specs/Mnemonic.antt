@@ -64,13 +64,10 @@ by_family (family.Strings o s) suffix os = string_draft false o s os
 by_family (family.Plain o) suffix os = plain_draft o suffix os
 by_family (family.System k) suffix os = system_draft k suffix os
 
-unfoldable pub without_repeat : Mnemonic → Operands → Option Draft
-without_repeat m os = by_family m.family m.suffix os
-
 abbrev pub repeated : Family → Operands → Option Draft
 repeated (family.Strings o s) os = string_draft true o s os
 repeated _ os = None
 
 -- the repeat prefix stands before string instructions alone
 unfoldable pub drafted : Bool → Mnemonic → Operands → Option Draft
-drafted rep m os = if rep then repeated m.family os else without_repeat m os
+drafted rep m os = if rep then repeated m.family os else by_family m.family m.suffix os

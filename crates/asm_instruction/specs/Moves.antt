@@ -1,6 +1,5 @@
 -- Moves between registers and memory.
 use Rattle.std.specs.Prelude.{codes, ℕ, [], ◌∷◌, Option, Some, None, min, max}
-use Rattle.ia32_types.specs.declared.register.Seg.{Seg}
 use Rattle.ia32_types.specs.declared.insn.Op.{Op}
 use Rattle.ia32_types.specs.declared.insn.Op.TheVariants as op
 use Rattle.ia32_types.specs.declared.insn.Operand.{Operand}
@@ -21,8 +20,8 @@ use Rattle.asm_instruction.specs.declared.mnemonic.Family.{Family}
 use Rattle.asm_instruction.specs.declared.mnemonic.Family.TheVariants as family
 use Rattle.asm_instruction.specs.Names.{Table, ◌>>=◌}
 use Rattle.asm_instruction.specs.Sizes.{agreed}
-use Rattle.asm_instruction.specs.Draft.{of_operand, register_operand, register_or_memory, said, paired, instruction}
-use Rattle.asm_instruction.specs.Arithmetic.{of_pair, to_register}
+use Rattle.asm_instruction.specs.Draft.{of_operand, register_operand, register_or_memory, said, instruction}
+use Rattle.asm_instruction.specs.Arithmetic.{of_two, two, to_register}
 
 -- with a suffix, or none
 unfoldable pub move_names : Table Family
@@ -40,42 +39,27 @@ extend_names =
 unfoldable pub special : Op → Option Size → Given → NumberedOperand → NumberedOperand → Option Draft
 special o suffix g a b = agreed suffix (said g) (Some size.Long) >>= λ s. Some (instruction o s a b)
 
-unfoldable pub from_segment : Option Size → Seg → Given → Option Draft
-from_segment suffix segment g = register_or_memory g >>= λ to. special op.ReadSeg suffix g to (of_operand (operand.Segment segment))
+unfoldable pub from_special : Op → Option Size → Operand → Given → Option Draft
+from_special o suffix register g = register_or_memory g >>= λ to. special o suffix g to (of_operand register)
 
-unfoldable pub to_segment : Option Size → Given → Seg → Option Draft
-to_segment suffix g segment = register_or_memory g >>= λ from. special op.LoadSeg suffix g (of_operand (operand.Segment segment)) from
-
-unfoldable pub from_control : Option Size → ℕ → Given → Option Draft
-from_control suffix control g = register_or_memory g >>= λ to. special op.ReadControl suffix g to (of_operand (operand.Control control))
-
-unfoldable pub to_control : Option Size → Given → ℕ → Option Draft
-to_control suffix g control = register_or_memory g >>= λ from. special op.WriteControl suffix g (of_operand (operand.Control control)) from
-
-unfoldable pub general : Option Size → Given → Given → Option Draft
-general suffix source destination = do
-  p ← paired source destination
-  s ← agreed suffix (said source) (said destination)
-  Some (of_pair op.Mov s p)
+unfoldable pub to_special : Op → Option Size → Given → Operand → Option Draft
+to_special o suffix g register = register_or_memory g >>= λ from. special o suffix g (of_operand register) from
 
 unfoldable pub moved : Option Size → Given → Given → Option Draft
-moved suffix (given.Segment segment) to = from_segment suffix segment to
-moved suffix (given.Control control) to = from_control suffix control to
-moved suffix from (given.Segment segment) = to_segment suffix from segment
-moved suffix from (given.Control control) = to_control suffix from control
-moved suffix from to = general suffix from to
+moved suffix (given.Segment segment) to = from_special op.ReadSeg suffix (operand.Segment segment) to
+moved suffix (given.Control control) to = from_special op.ReadControl suffix (operand.Control control) to
+moved suffix from (given.Segment segment) = to_special op.LoadSeg suffix from (operand.Segment segment)
+moved suffix from (given.Control control) = to_special op.WriteControl suffix from (operand.Control control)
+moved suffix from to = two op.Mov suffix from to
 
 -- ---- MOVZX and MOVSX, whose size is that of the source
 
-abbrev pub into_long : Op → Size → Given → NumberedOperand → Option Draft
-into_long o s (given.Register size.Long n) from = Some (instruction o s (register_operand n) from)
-into_long o s _ from = None
-
 unfoldable pub extended : Op → Size → Given → Given → Option Draft
-extended o size source destination = do
+extended o own source (given.Register size.Long n) = do
   from ← register_or_memory source
-  s ← agreed (Some size) (said source) None
-  into_long o s destination from
+  s ← agreed (Some own) (said source) None
+  Some (instruction o s (register_operand n) from)
+extended o own source _ = None
 
 -- ---- LEA
 
@@ -89,19 +73,13 @@ abbrev pub with_register : Size → ℕ → NumberedOperand → Operand → Draf
 with_register s n other (operand.Register m) = instruction op.Xchg s (register_operand (min n m)) (register_operand (max n m))
 with_register s n other _ = instruction op.Xchg s other (register_operand n)
 
-abbrev pub two_registers : Size → ℕ → NumberedOperand → Draft
-two_registers s n other = with_register s n other other.operand
-
 abbrev pub exchange : Size → Pair → Option Draft
 exchange s (pair.Immediate n place) = None
-exchange s (pair.FromRegister n place) = Some (two_registers s n place)
+exchange s (pair.FromRegister n place) = Some (with_register s n place place.operand)
 exchange s (pair.FromMemory place n) = Some (instruction op.Xchg s place (register_operand n))
 
-unfoldable pub exchanged : Option Size → Given → Given → Option Draft
-exchanged suffix source destination = do
-  p ← paired source destination
-  s ← agreed suffix (said source) (said destination)
-  exchange s p
+abbrev pub exchanged : Option Size → Given → Given → Option Draft
+exchanged suffix source destination = of_two exchange suffix source destination
 
 -- ----
 

@@ -14,7 +14,8 @@ use Rattle.asm_instruction.specs.declared.mnemonic.Family.{Family}
 use Rattle.asm_instruction.specs.declared.mnemonic.Family.TheVariants as family
 use Rattle.asm_instruction.specs.Names.{Table, ◌>>=◌}
 use Rattle.asm_instruction.specs.Sizes.{agreed}
-use Rattle.asm_instruction.specs.Draft.{register_operand, register_or_memory, said, instruction, unary, with_number}
+use Rattle.asm_instruction.specs.Draft.{register_operand, register_or_memory, said, instruction, with_number}
+use Rattle.asm_instruction.specs.Arithmetic.{one}
 
 -- with a suffix, or none; SAL is another name of SHL (SDM volume 2)
 unfoldable pub shift_names : Table Family
@@ -22,22 +23,13 @@ shift_names =
     (codes "rol", family.Shift op.Rol) ∷ (codes "ror", family.Shift op.Ror) ∷ (codes "shl", family.Shift op.Shl) ∷
     (codes "sal", family.Shift op.Shl) ∷ (codes "shr", family.Shift op.Shr) ∷ (codes "sar", family.Shift op.Sar) ∷ []
 
-abbrev pub of_one : Draft → Draft
-of_one d = record d { insn = record d.insn { imm = 1 } }
-
 -- without a count it is 1
-unfoldable pub by_one : Op → Option Size → Given → Option Draft
-by_one o suffix g = do
-  place ← register_or_memory g
-  s ← agreed suffix (said g) None
-  Some (of_one (unary o s place))
+abbrev pub by_one : Op → Option Size → Given → Option Draft
+by_one o suffix g = one o suffix g >>= λ d. Some (record d { insn = record d.insn { imm = 1 } })
 
 -- the count is a byte
-unfoldable pub by_number : Op → Option Size → Number → Given → Option Draft
-by_number o suffix count g = do
-  place ← register_or_memory g
-  s ← agreed suffix (said g) None
-  Some (with_number (unary o s place) size.Byte count)
+abbrev pub by_number : Op → Option Size → Number → Given → Option Draft
+by_number o suffix count g = one o suffix g >>= λ d. Some (with_number d size.Byte count)
 
 -- by CL, which says nothing of the size
 unfoldable pub by_register : Op → Option Size → Given → Option Draft

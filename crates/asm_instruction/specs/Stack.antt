@@ -14,12 +14,12 @@ use Rattle.asm_instruction.specs.declared.argument.Operands.TheVariants as opera
 use Rattle.asm_instruction.specs.declared.stack.Stack.{Stack}
 use Rattle.asm_instruction.specs.declared.stack.Stack.TheVariants as kind
 use Rattle.asm_instruction.specs.declared.draft.Draft.{Draft}
-use Rattle.asm_instruction.specs.declared.draft.NumberedOperand.{NumberedOperand}
 use Rattle.asm_instruction.specs.declared.mnemonic.Family.{Family}
 use Rattle.asm_instruction.specs.declared.mnemonic.Family.TheVariants as family
 use Rattle.asm_instruction.specs.Names.{Table, ◌>>=◌}
 use Rattle.asm_instruction.specs.Sizes.{agreed}
-use Rattle.asm_instruction.specs.Draft.{of_operand, register_or_memory, said, unary, alone, with_number}
+use Rattle.asm_instruction.specs.Draft.{of_operand, unary, alone, with_number}
+use Rattle.asm_instruction.specs.Arithmetic.{of_one}
 
 -- with a suffix, or none
 unfoldable pub stack_names : Table Family
@@ -34,31 +34,22 @@ frame_names =
     (codes "popf", family.Plain op.PopFlags) ∷ (codes "popfl", family.Plain op.PopFlags) ∷ []
 
 -- the stack holds 32 bits an operand
-unfoldable pub of_long : Op → Option Size → Given → NumberedOperand → Option Draft
-of_long o suffix g a = agreed suffix (said g) (Some size.Long) >>= λ s. Some (unary o s a)
-
-abbrev pub of_segment : Op → Option Size → Given → Seg → Option Draft
-of_segment o suffix g segment = of_long o suffix g (of_operand (operand.Segment segment))
-
-unfoldable pub of_general : Op → Option Size → Given → Option Draft
-of_general o suffix g = register_or_memory g >>= λ a. of_long o suffix g a
+unfoldable pub of_segment : Op → Option Size → Seg → Option Draft
+of_segment o suffix segment = agreed suffix None (Some size.Long) >>= λ s. Some (unary o s (of_operand (operand.Segment segment)))
 
 unfoldable pub of_number : Option Size → Number → Option Draft
 of_number suffix n = agreed suffix (Some size.Long) None >>= λ s. Some (with_number (alone op.Push) s n)
 
 unfoldable pub pushed : Option Size → Given → Option Draft
 pushed suffix (given.Immediate n) = of_number suffix n
-pushed suffix (given.Segment segment) = of_segment op.PushSeg suffix (given.Segment segment) segment
-pushed suffix g = of_general op.Push suffix g
+pushed suffix (given.Segment segment) = of_segment op.PushSeg suffix segment
+pushed suffix g = of_one (Some size.Long) op.Push suffix g
 
 unfoldable pub popped : Option Size → Given → Option Draft
-popped suffix (given.Segment segment) = of_segment op.PopSeg suffix (given.Segment segment) segment
-popped suffix g = of_general op.Pop suffix g
-
-abbrev pub stack_of : Stack → Option Size → Given → Option Draft
-stack_of kind.Push suffix g = pushed suffix g
-stack_of kind.Pop suffix g = popped suffix g
+popped suffix (given.Segment segment) = of_segment op.PopSeg suffix segment
+popped suffix g = of_one (Some size.Long) op.Pop suffix g
 
 unfoldable pub stack_draft : Stack → Option Size → Operands → Option Draft
-stack_draft k suffix (operands.One g) = stack_of k suffix g
-stack_draft k suffix _ = None
+stack_draft kind.Push suffix (operands.One g) = pushed suffix g
+stack_draft kind.Pop suffix (operands.One g) = popped suffix g
+stack_draft _ suffix _ = None

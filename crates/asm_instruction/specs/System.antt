@@ -35,20 +35,14 @@ through o s given.Port = Some (instruction o s nothing (register_operand 2))
 through o s (given.Register size.Word n) = if n == 2 then Some (instruction o s nothing (register_operand 2)) else None
 through o s _ = None
 
-abbrev pub between : Op → Size → Given → Given → Option Draft
-between o s p (given.Register t n) = if n == 0 then through o s p else None
-between o s p _ = None
-
 -- between AL or EAX and the port
 unfoldable pub ported : Op → Option Size → Given → Given → Option Draft
-ported o suffix p accumulator = agreed suffix (said accumulator) None >>= λ s. between o s p accumulator
-
-abbrev pub memory_alone : Op → Size → Given → Option Draft
-memory_alone o s (given.Memory m) = Some (unary o s (memory m))
-memory_alone o s _ = None
+ported o suffix p (given.Register t n) = if n == 0 then (agreed suffix (Some t) None >>= λ s. through o s p) else None
+ported o suffix p _ = None
 
 unfoldable pub of_memory : Op → Option Size → Given → Option Draft
-of_memory o suffix g = agreed suffix (Some size.Long) None >>= λ s. memory_alone o s g
+of_memory o suffix (given.Memory m) = agreed suffix (Some size.Long) None >>= λ s. Some (unary o s (memory m))
+of_memory o suffix _ = None
 
 -- LTR: the selector has 16 bits
 unfoldable pub task : Option Size → Given → Option Draft

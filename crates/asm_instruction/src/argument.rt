@@ -1,6 +1,7 @@
 //! What the arguments of a statement say.
 
-ghost use Rattle.std.specs.Prelude.{◌≡◌, ◌∷◌, [], List, ℕ, option_copied};
+ghost use Rattle.std.specs.Prelude.{◌≡◌, ◌∷◌, [], List, ℕ, option_copied, is_some};
+ghost use Rattle.asm_source.specs.Names.{symbol_in};
 ghost use Rattle.asm_instruction.specs.Argument as spec;
 
 use crate::fields::{field, fits_field};
@@ -52,38 +53,25 @@ pub enum Operands {
     Three(Given, Given, Given),
 }
 
-fn general_register(name: &[u8]) -> Option<Given>
-    ensures { result ≡ spec.general_register name.now }
+#[tactic(auto, unfolding(crate::specs::Argument::named_register))]
+fn named_register(name: &Name) -> Option<Given>
+    ensures { result ≡ spec.named_register name.now }
 {
+    let name = name.bytes.as_slice();
     if let Some(register) = long_register(name) {
         return Some(Given::Register(Size::Long, register.number()));
     }
     if let Some(number) = word_register(name) {
         return Some(Given::Register(Size::Word, number));
     }
-    match byte_register(name) {
-        Some(number) => Some(Given::Register(Size::Byte, number)),
-        None => None,
+    if let Some(number) = byte_register(name) {
+        return Some(Given::Register(Size::Byte, number));
     }
-}
-
-fn special_register(name: &[u8]) -> Option<Given>
-    ensures { result ≡ spec.special_register name.now }
-{
     if let Some(segment) = segment_register(name) {
         return Some(Given::Segment(segment));
     }
-    match control_register(name) {
-        Some(number) => Some(Given::Control(number)),
-        None => None,
-    }
-}
-
-#[tactic(auto, unfolding(crate::specs::Argument::named_register))]
-fn named_register(name: &Name) -> Option<Given>
-    ensures { result ≡ spec.named_register name.now }
-{
-    general_register(&name.bytes).or(special_register(&name.bytes))
+    let number = control_register(name)?;
+    Some(Given::Control(number))
 }
 
 fn number_in(value: &Value, argument: u8) -> Number
@@ -244,7 +232,7 @@ pub fn operands_of(arguments: &[Argument]) -> Option<Operands>
 
 /// Whether the form has a symbol.
 fn is_named(form: &Form) -> bool
-    ensures { result ≡ spec.is_named form.now }
+    ensures { result ≡ is_some (symbol_in form.now) }
 {
     match form {
         Form::Immediate(value) => value.name.is_some(),

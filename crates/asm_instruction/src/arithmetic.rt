@@ -86,8 +86,9 @@ pub fn memory_first(op: Op, size: Size, pair: Pair) -> Draft
     }
 }
 
-#[tactic(auto, unfolding(crate::specs::Arithmetic::two))]
-fn two(op: Op, suffix: Option<Size>, source: Given, destination: Given) -> Option<Draft>
+/// An instruction from a register, memory or a number to a register or memory.
+#[tactic(auto, unfolding(crate::specs::Arithmetic::of_two))]
+pub fn two(op: Op, suffix: Option<Size>, source: Given, destination: Given) -> Option<Draft>
     ensures { result ≡ spec.two op suffix source destination }
 {
     let pair = paired(source, destination)?;
@@ -95,7 +96,7 @@ fn two(op: Op, suffix: Option<Size>, source: Given, destination: Given) -> Optio
     Some(of_pair(op, size, pair))
 }
 
-#[tactic(auto, unfolding(crate::specs::Arithmetic::tested))]
+#[tactic(auto, unfolding(crate::specs::Arithmetic::of_two))]
 fn tested(suffix: Option<Size>, source: Given, destination: Given) -> Option<Draft>
     ensures { result ≡ spec.tested suffix source destination }
 {
@@ -104,14 +105,21 @@ fn tested(suffix: Option<Size>, source: Given, destination: Given) -> Option<Dra
     Some(memory_first(Op::Test, size, pair))
 }
 
+/// An instruction whose only operand is a register or memory, with a size of its own or none.
+#[tactic(auto, unfolding(crate::specs::Arithmetic::of_one))]
+pub fn of_one(own: Option<Size>, op: Op, suffix: Option<Size>, given: Given) -> Option<Draft>
+    ensures { result ≡ spec.of_one own op suffix given }
+{
+    let place = register_or_memory(given)?;
+    let size = agreed(suffix, said(given), own)?;
+    Some(unary(op, size, place))
+}
+
 /// An instruction whose only operand is a register or memory.
-#[tactic(auto, unfolding(crate::specs::Arithmetic::one))]
 pub fn one(op: Op, suffix: Option<Size>, given: Given) -> Option<Draft>
     ensures { result ≡ spec.one op suffix given }
 {
-    let place = register_or_memory(given)?;
-    let size = agreed(suffix, said(given), None)?;
-    Some(unary(op, size, place))
+    of_one(None, op, suffix, given)
 }
 
 /// An instruction from a register or memory to a register.
@@ -119,10 +127,12 @@ pub fn one(op: Op, suffix: Option<Size>, given: Given) -> Option<Draft>
 pub fn to_register(op: Op, suffix: Option<Size>, source: Given, destination: Given) -> Option<Draft>
     ensures { result ≡ spec.to_register op suffix source destination }
 {
-    let place = register_or_memory(source)?;
-    let size = agreed(suffix, said(source), said(destination))?;
     match destination {
-        Given::Register(_, number) => Some(instruction(op, size, register_operand(number), place)),
+        Given::Register(own, number) => {
+            let place = register_or_memory(source)?;
+            let size = agreed(suffix, said(source), Some(own))?;
+            Some(instruction(op, size, register_operand(number), place))
+        }
         _ => None,
     }
 }

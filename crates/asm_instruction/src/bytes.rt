@@ -1,7 +1,7 @@
 //! Names that are looked up.
 
 ghost use Rattle.std.specs.Prelude.{◌≡◌};
-ghost use Rattle.asm_instruction.specs.Names.{found_row};
+ghost use Rattle.asm_instruction.specs.Rows.{found_row};
 
 use asm_source::is_text;
 

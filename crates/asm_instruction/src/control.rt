@@ -5,10 +5,10 @@ ghost use Rattle.asm_instruction.specs.Names.{found};
 ghost use Rattle.asm_instruction.specs.Control as spec;
 
 use crate::argument::{Given, Memory, Number, Operands};
-use crate::arithmetic::one;
+use crate::arithmetic::{of_one, one};
 use crate::bytes::look_up;
 use crate::condition::condition;
-use crate::draft::{Draft, alone, register_or_memory, said, unary, with_number};
+use crate::draft::{Draft, alone, with_number};
 use crate::fields::{field, fits_field};
 use crate::mnemonic::Family;
 use crate::sizes::agreed;
@@ -118,26 +118,16 @@ fn is_symbol(memory: Memory) -> bool
 fn direct(op: Op, condition: u8, suffix: Option<Size>, given: Given) -> Option<Draft>
     ensures { result ≡ spec.direct op condition suffix given }
 {
-    agreed(suffix, Some(Size::Long), None)?;
     match given {
         Given::Memory(memory) => {
-            if is_symbol(memory) {
-                Some(to_symbol(op, condition, memory))
-            } else {
-                None
+            if !is_symbol(memory) {
+                return None;
             }
+            agreed(suffix, Some(Size::Long), None)?;
+            Some(to_symbol(op, condition, memory))
         }
         _ => None,
     }
-}
-
-#[tactic(auto, unfolding(crate::specs::Control::indirect))]
-fn indirect(op: Op, suffix: Option<Size>, given: Given) -> Option<Draft>
-    ensures { result ≡ spec.indirect op suffix given }
-{
-    let place = register_or_memory(given)?;
-    let size = agreed(suffix, said(given), Some(Size::Long))?;
-    Some(unary(op, size, place))
 }
 
 #[tactic(auto, unfolding(crate::specs::Control::returned))]
@@ -179,7 +169,9 @@ pub fn control_draft(kind: Control, suffix: Option<Size>, operands: Operands) ->
 {
     match (kind, operands) {
         (Control::Branch(op, _), Operands::One(given)) => direct(op, 0, suffix, given),
-        (Control::Branch(_, op), Operands::Starred(given)) => indirect(op, suffix, given),
+        (Control::Branch(_, op), Operands::Starred(given)) => {
+            of_one(Some(Size::Long), op, suffix, given)
+        }
         (Control::Conditional(number), Operands::One(given)) => {
             direct(Op::Jcc, number, suffix, given)
         }

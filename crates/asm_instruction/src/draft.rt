@@ -1,6 +1,8 @@
 //! An instruction that is put together from its operands.
 
 ghost use Rattle.std.specs.Prelude.{◌≡◌};
+ghost use Rattle.std.specs.Option.{option_map};
+ghost use Rattle.asm_instruction.specs.declared.argument.Number.{Number as NumberView};
 ghost use Rattle.asm_instruction.specs.Draft as spec;
 
 use crate::argument::{Given, Memory, Number};
@@ -92,38 +94,24 @@ pub fn said(given: Given) -> Option<Size>
     }
 }
 
-fn paired_register(number: u8, destination: Given) -> Option<Pair>
-    ensures { result ≡ spec.paired_register number destination }
-{
-    let place = register_or_memory(destination)?;
-    Some(Pair::FromRegister(number, place))
-}
-
-fn paired_number(number: Number, destination: Given) -> Option<Pair>
-    ensures { result ≡ spec.paired_number number destination }
-{
-    let place = register_or_memory(destination)?;
-    Some(Pair::Immediate(number, place))
-}
-
-fn paired_memory(source: Memory, destination: Given) -> Option<Pair>
-    ensures { result ≡ spec.paired_memory source destination }
-{
-    match destination {
-        Given::Register(_, number) => Some(Pair::FromMemory(memory(source), number)),
-        _ => None,
-    }
-}
-
 /// Source and destination, of which at most one is in memory.
 #[tactic(auto, unfolding(crate::specs::Draft::paired))]
 pub fn paired(source: Given, destination: Given) -> Option<Pair>
     ensures { result ≡ spec.paired source destination }
 {
     match source {
-        Given::Immediate(number) => paired_number(number, destination),
-        Given::Register(_, number) => paired_register(number, destination),
-        Given::Memory(memory) => paired_memory(memory, destination),
+        Given::Immediate(number) => {
+            let place = register_or_memory(destination)?;
+            Some(Pair::Immediate(number, place))
+        }
+        Given::Register(_, number) => {
+            let place = register_or_memory(destination)?;
+            Some(Pair::FromRegister(number, place))
+        }
+        Given::Memory(at) => match destination {
+            Given::Register(_, number) => Some(Pair::FromMemory(memory(at), number)),
+            _ => None,
+        },
         _ => None,
     }
 }
@@ -135,7 +123,7 @@ fn displaced(a: NumberedOperand, b: NumberedOperand) -> Option<Number>
 }
 
 fn argument(number: Option<Number>) -> Option<u8>
-    ensures { result ≡ spec.argument number }
+    ensures { result ≡ option_map (λ (n : NumberView). n.argument) number }
 {
     match number {
         Some(number) => Some(number.argument),

@@ -37,9 +37,11 @@ pub fn plain_name(name: &[u8]) -> Option<Family>
 pub fn plain_draft(op: Op, suffix: Option<Size>, operands: Operands) -> Option<Draft>
     ensures { result ≡ spec.plain_draft op suffix operands }
 {
-    agreed(suffix, Some(Size::Long), None)?;
     match operands {
-        Operands::Nothing => Some(alone(op)),
+        Operands::Nothing => {
+            agreed(suffix, Some(Size::Long), None)?;
+            Some(alone(op))
+        }
         _ => None,
     }
 }

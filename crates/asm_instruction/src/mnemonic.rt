@@ -118,9 +118,8 @@ pub fn known_name(name: &[u8]) -> Option<Mnemonic>
     }
 }
 
-#[tactic(auto, unfolding(crate::specs::Mnemonic::without_repeat))]
 fn without_repeat(mnemonic: Mnemonic, operands: Operands) -> Option<Draft>
-    ensures { result ≡ spec.without_repeat mnemonic operands }
+    ensures { result ≡ spec.by_family mnemonic.family mnemonic.suffix operands }
 {
     let suffix = mnemonic.suffix;
     match mnemonic.family {

@@ -5,7 +5,7 @@ ghost use Rattle.asm_instruction.specs.Names.{found};
 ghost use Rattle.asm_instruction.specs.Moves as spec;
 
 use crate::argument::{Given, Operands};
-use crate::arithmetic::{memory_first, of_pair, to_register};
+use crate::arithmetic::{to_register, two};
 use crate::bytes::look_up;
 use crate::draft::{
     Draft, NumberedOperand, Pair, instruction, of_operand, paired, register_operand,
@@ -13,7 +13,7 @@ use crate::draft::{
 };
 use crate::mnemonic::Family;
 use crate::sizes::agreed;
-use ia32_types::{Op, Operand, Seg, Size};
+use ia32_types::{Op, Operand, Size};
 
 /// The kinds of moves, by the operands that they take.
 #[derive(Clone, Copy)]
@@ -81,69 +81,25 @@ fn special(
     Some(instruction(op, size, a, b))
 }
 
-#[tactic(auto, unfolding(crate::specs::Moves::from_segment))]
-fn from_segment(suffix: Option<Size>, segment: Seg, destination: Given) -> Option<Draft>
-    ensures { result ≡ spec.from_segment suffix segment destination }
+#[tactic(auto, unfolding(crate::specs::Moves::from_special))]
+fn from_special(
+    op: Op,
+    suffix: Option<Size>,
+    register: Operand,
+    destination: Given,
+) -> Option<Draft>
+    ensures { result ≡ spec.from_special op suffix register destination }
 {
     let to = register_or_memory(destination)?;
-    special(
-        Op::ReadSeg,
-        suffix,
-        destination,
-        to,
-        of_operand(Operand::Segment(segment)),
-    )
+    special(op, suffix, destination, to, of_operand(register))
 }
 
-#[tactic(auto, unfolding(crate::specs::Moves::to_segment))]
-fn to_segment(suffix: Option<Size>, source: Given, segment: Seg) -> Option<Draft>
-    ensures { result ≡ spec.to_segment suffix source segment }
+#[tactic(auto, unfolding(crate::specs::Moves::to_special))]
+fn to_special(op: Op, suffix: Option<Size>, source: Given, register: Operand) -> Option<Draft>
+    ensures { result ≡ spec.to_special op suffix source register }
 {
     let from = register_or_memory(source)?;
-    special(
-        Op::LoadSeg,
-        suffix,
-        source,
-        of_operand(Operand::Segment(segment)),
-        from,
-    )
-}
-
-#[tactic(auto, unfolding(crate::specs::Moves::from_control))]
-fn from_control(suffix: Option<Size>, control: u8, destination: Given) -> Option<Draft>
-    ensures { result ≡ spec.from_control suffix control destination }
-{
-    let to = register_or_memory(destination)?;
-    special(
-        Op::ReadControl,
-        suffix,
-        destination,
-        to,
-        of_operand(Operand::Control(control)),
-    )
-}
-
-#[tactic(auto, unfolding(crate::specs::Moves::to_control))]
-fn to_control(suffix: Option<Size>, source: Given, control: u8) -> Option<Draft>
-    ensures { result ≡ spec.to_control suffix source control }
-{
-    let from = register_or_memory(source)?;
-    special(
-        Op::WriteControl,
-        suffix,
-        source,
-        of_operand(Operand::Control(control)),
-        from,
-    )
-}
-
-#[tactic(auto, unfolding(crate::specs::Moves::general))]
-fn general(suffix: Option<Size>, source: Given, destination: Given) -> Option<Draft>
-    ensures { result ≡ spec.general suffix source destination }
-{
-    let pair = paired(source, destination)?;
-    let size = agreed(suffix, said(source), said(destination))?;
-    Some(of_pair(Op::Mov, size, pair))
+    special(op, suffix, source, of_operand(register), from)
 }
 
 #[tactic(auto, unfolding(crate::specs::Moves::moved))]
@@ -151,11 +107,19 @@ fn moved(suffix: Option<Size>, source: Given, destination: Given) -> Option<Draf
     ensures { result ≡ spec.moved suffix source destination }
 {
     match (source, destination) {
-        (Given::Segment(segment), to) => from_segment(suffix, segment, to),
-        (Given::Control(control), to) => from_control(suffix, control, to),
-        (from, Given::Segment(segment)) => to_segment(suffix, from, segment),
-        (from, Given::Control(control)) => to_control(suffix, from, control),
-        (from, to) => general(suffix, from, to),
+        (Given::Segment(segment), to) => {
+            from_special(Op::ReadSeg, suffix, Operand::Segment(segment), to)
+        }
+        (Given::Control(control), to) => {
+            from_special(Op::ReadControl, suffix, Operand::Control(control), to)
+        }
+        (from, Given::Segment(segment)) => {
+            to_special(Op::LoadSeg, suffix, from, Operand::Segment(segment))
+        }
+        (from, Given::Control(control)) => {
+            to_special(Op::WriteControl, suffix, from, Operand::Control(control))
+        }
+        (from, to) => two(Op::Mov, suffix, from, to),
     }
 }
 
@@ -164,15 +128,12 @@ fn moved(suffix: Option<Size>, source: Given, destination: Given) -> Option<Draf
 fn extended(op: Op, size: Size, source: Given, destination: Given) -> Option<Draft>
     ensures { result ≡ spec.extended op size source destination }
 {
-    let from = register_or_memory(source)?;
-    let size = agreed(Some(size), said(source), None)?;
     match destination {
-        Given::Register(Size::Long, number) => Some(instruction(
-            op,
-            size,
-            register_operand(number),
-            from,
-        )),
+        Given::Register(Size::Long, number) => {
+            let from = register_or_memory(source)?;
+            let size = agreed(Some(size), said(source), None)?;
+            Some(instruction(op, size, register_operand(number), from))
+        }
         _ => None,
     }
 }
@@ -188,7 +149,7 @@ fn effective(suffix: Option<Size>, source: Given, destination: Given) -> Option<
 }
 
 fn two_registers(size: Size, number: u8, other: NumberedOperand) -> Draft
-    ensures { result ≡ spec.two_registers size number other }
+    ensures { result ≡ spec.with_register size number other other.operand }
 {
     match other.operand {
         Operand::Register(second) => {
@@ -204,7 +165,7 @@ fn two_registers(size: Size, number: u8, other: NumberedOperand) -> Draft
 }
 
 // Of two registers the one of the lower number stands first, else memory.
-#[tactic(auto, unfolding(crate::specs::Moves::exchanged))]
+#[tactic(auto, unfolding(crate::specs::Arithmetic::of_two))]
 fn exchanged(suffix: Option<Size>, source: Given, destination: Given) -> Option<Draft>
     ensures { result ≡ spec.exchanged suffix source destination }
 {

@@ -5,10 +5,9 @@ ghost use Rattle.asm_instruction.specs.Names.{found};
 ghost use Rattle.asm_instruction.specs.Shift as spec;
 
 use crate::argument::{Given, Number, Operands};
+use crate::arithmetic::one;
 use crate::bytes::look_up;
-use crate::draft::{
-    Draft, instruction, register_operand, register_or_memory, said, unary, with_number,
-};
+use crate::draft::{Draft, instruction, register_operand, register_or_memory, said, with_number};
 use crate::mnemonic::Family;
 use crate::sizes::agreed;
 use ia32_types::{Insn, Op, Size};
@@ -30,13 +29,10 @@ pub fn shift_name(name: &[u8]) -> Option<Family>
     look_up(&SHIFT_NAMES, name)
 }
 
-#[tactic(auto, unfolding(crate::specs::Shift::by_one))]
 fn by_one(op: Op, suffix: Option<Size>, given: Given) -> Option<Draft>
     ensures { result ≡ spec.by_one op suffix given }
 {
-    let place = register_or_memory(given)?;
-    let size = agreed(suffix, said(given), None)?;
-    let draft = unary(op, size, place);
+    let draft = one(op, suffix, given)?;
     Some(Draft {
         insn: Insn {
             imm: 1,
@@ -46,13 +42,11 @@ fn by_one(op: Op, suffix: Option<Size>, given: Given) -> Option<Draft>
     })
 }
 
-#[tactic(auto, unfolding(crate::specs::Shift::by_number))]
 fn by_number(op: Op, suffix: Option<Size>, count: Number, given: Given) -> Option<Draft>
     ensures { result ≡ spec.by_number op suffix count given }
 {
-    let place = register_or_memory(given)?;
-    let size = agreed(suffix, said(given), None)?;
-    Some(with_number(unary(op, size, place), Size::Byte, count))
+    let draft = one(op, suffix, given)?;
+    Some(with_number(draft, Size::Byte, count))
 }
 
 // By CL, which says nothing of the size.

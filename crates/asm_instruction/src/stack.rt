@@ -5,10 +5,9 @@ ghost use Rattle.asm_instruction.specs.Names.{found};
 ghost use Rattle.asm_instruction.specs.Stack as spec;
 
 use crate::argument::{Given, Number, Operands};
+use crate::arithmetic::of_one;
 use crate::bytes::look_up;
-use crate::draft::{
-    Draft, NumberedOperand, alone, of_operand, register_or_memory, said, unary, with_number,
-};
+use crate::draft::{Draft, alone, of_operand, unary, with_number};
 use crate::mnemonic::Family;
 use crate::sizes::agreed;
 use ia32_types::{Op, Operand, Seg, Size};
@@ -54,26 +53,12 @@ pub fn frame_name(name: &[u8]) -> Option<Family>
 }
 
 // The stack holds 32 bits an operand.
-#[tactic(auto, unfolding(crate::specs::Stack::of_long))]
-fn of_long(op: Op, suffix: Option<Size>, given: Given, a: NumberedOperand) -> Option<Draft>
-    ensures { result ≡ spec.of_long op suffix given a }
+#[tactic(auto, unfolding(crate::specs::Stack::of_segment))]
+fn of_segment(op: Op, suffix: Option<Size>, segment: Seg) -> Option<Draft>
+    ensures { result ≡ spec.of_segment op suffix segment }
 {
-    let size = agreed(suffix, said(given), Some(Size::Long))?;
-    Some(unary(op, size, a))
-}
-
-fn of_segment(op: Op, suffix: Option<Size>, given: Given, segment: Seg) -> Option<Draft>
-    ensures { result ≡ spec.of_segment op suffix given segment }
-{
-    of_long(op, suffix, given, of_operand(Operand::Segment(segment)))
-}
-
-#[tactic(auto, unfolding(crate::specs::Stack::of_general))]
-fn of_general(op: Op, suffix: Option<Size>, given: Given) -> Option<Draft>
-    ensures { result ≡ spec.of_general op suffix given }
-{
-    let a = register_or_memory(given)?;
-    of_long(op, suffix, given, a)
+    let size = agreed(suffix, None, Some(Size::Long))?;
+    Some(unary(op, size, of_operand(Operand::Segment(segment))))
 }
 
 #[tactic(auto, unfolding(crate::specs::Stack::of_number))]
@@ -90,8 +75,8 @@ fn pushed(suffix: Option<Size>, given: Given) -> Option<Draft>
 {
     match given {
         Given::Immediate(number) => of_number(suffix, number),
-        Given::Segment(segment) => of_segment(Op::PushSeg, suffix, given, segment),
-        _ => of_general(Op::Push, suffix, given),
+        Given::Segment(segment) => of_segment(Op::PushSeg, suffix, segment),
+        _ => of_one(Some(Size::Long), Op::Push, suffix, given),
     }
 }
 
@@ -100,8 +85,8 @@ fn popped(suffix: Option<Size>, given: Given) -> Option<Draft>
     ensures { result ≡ spec.popped suffix given }
 {
     match given {
-        Given::Segment(segment) => of_segment(Op::PopSeg, suffix, given, segment),
-        _ => of_general(Op::Pop, suffix, given),
+        Given::Segment(segment) => of_segment(Op::PopSeg, suffix, segment),
+        _ => of_one(Some(Size::Long), Op::Pop, suffix, given),
     }
 }
 
@@ -110,11 +95,9 @@ fn popped(suffix: Option<Size>, given: Given) -> Option<Draft>
 pub fn stack_draft(kind: Stack, suffix: Option<Size>, operands: Operands) -> Option<Draft>
     ensures { result ≡ spec.stack_draft kind suffix operands }
 {
-    match operands {
-        Operands::One(given) => match kind {
-            Stack::Push => pushed(suffix, given),
-            Stack::Pop => popped(suffix, given),
-        },
+    match (kind, operands) {
+        (Stack::Push, Operands::One(given)) => pushed(suffix, given),
+        (Stack::Pop, Operands::One(given)) => popped(suffix, given),
         _ => None,
     }
 }

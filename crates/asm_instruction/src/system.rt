@@ -80,13 +80,14 @@ fn through(op: Op, size: Size, port: Given) -> Option<Draft>
 fn ported(op: Op, suffix: Option<Size>, port: Given, accumulator: Given) -> Option<Draft>
     ensures { result ≡ spec.ported op suffix port accumulator }
 {
-    let size = agreed(suffix, said(accumulator), None)?;
     match accumulator {
-        Given::Register(_, number) => if number == 0 {
+        Given::Register(own, number) => {
+            if number != 0 {
+                return None;
+            }
+            let size = agreed(suffix, Some(own), None)?;
             through(op, size, port)
-        } else {
-            None
-        },
+        }
         _ => None,
     }
 }
@@ -95,9 +96,11 @@ fn ported(op: Op, suffix: Option<Size>, port: Given, accumulator: Given) -> Opti
 fn of_memory(op: Op, suffix: Option<Size>, given: Given) -> Option<Draft>
     ensures { result ≡ spec.of_memory op suffix given }
 {
-    let size = agreed(suffix, Some(Size::Long), None)?;
     match given {
-        Given::Memory(at) => Some(unary(op, size, memory(at))),
+        Given::Memory(at) => {
+            let size = agreed(suffix, Some(Size::Long), None)?;
+            Some(unary(op, size, memory(at)))
+        }
         _ => None,
     }
 }

@@ -1,6 +1,6 @@
 -- What is known of an instruction that is assembled: its row, where its fields stand, and which of them a branch has.
 use Rattle.std.proofs.Common.{◌≡◌, ℕ, ◌+◌, Bool, true, false, not, cond, ◌&&◌, ◌||◌, List, [], ◌∷◌, length, Option, Some, None, Result, Ok, Err, refl, sym, ap, subst, ◌∙◌, arith, inl, inr}
-use Rattle.std.specs.Prelude.{slice_get, ◌==◌, is_some, is_none}
+use Rattle.std.specs.Prelude.{slice_get, ◌==◌, is_some, is_none, if◌then◌else◌}
 use Rattle.std.specs.Option.{option_or}
 use Rattle.std.specs.List.{list_all, Contains}
 use Rattle.std.proofs.lemmas.Bool.{eqb-true, and_parts, both_ways}
@@ -33,7 +33,7 @@ use Rattle.asm_instruction.specs.declared.assembled.Named.{Named}
 use Rattle.asm_instruction.specs.declared.assembled.Refusal.{Refusal}
 use Rattle.asm_instruction.specs.declared.assembled.Refusal.TheVariants as refusal
 use Rattle.asm_instruction.specs.Names.{found, ◌>>=◌}
-use Rattle.asm_instruction.specs.Argument.{general_register, special_register, named_register, displacement, address_register, is_dx, address, memory_operand, given_by, starred, single, unstarred, operands_of, argument_named, names_symbol}
+use Rattle.asm_instruction.specs.Argument.{named_register, displacement, address_register, is_dx, address, memory_operand, given_by, single, unstarred, operands_of, names_symbol}
 use Rattle.ia32_types.specs.declared.register.Reg.{Reg}
 use Rattle.ia32_types.specs.Register.{number_of}
 use Rattle.ia32_types.specs.declared.size.Size.TheVariants as size
@@ -153,10 +153,10 @@ by_control name = found control_registers name >>= λ n. Some (given.Control n)
 register_not : (name : List ℕ) → NotMemory (named_register name)
 unfolding named_register
 register_not name =
-    not_or (general_register name) (special_register name)
-    (not_or (by_long name) (option_or (by_word name) (by_byte name)) (not_bound (found long_registers name) (λ r. given.Register size.Long (number_of r)) (λ r. tt))
-    (not_or (by_word name) (by_byte name) (not_bound (found word_registers name) (λ n. given.Register size.Word n) (λ n. tt)) (not_bound (found byte_registers name) (λ n. given.Register size.Byte n) (λ n. tt))))
-    (not_or (by_segment name) (by_control name) (not_bound (found segment_registers name) (λ s. given.Segment s) (λ s. tt)) (not_bound (found control_registers name) (λ n. given.Control n) (λ n. tt)))
+    not_or (by_long name) _ (not_bound (found long_registers name) (λ r. given.Register size.Long (number_of r)) (λ r. tt))
+    (not_or (by_word name) _ (not_bound (found word_registers name) (λ n. given.Register size.Word n) (λ n. tt))
+    (not_or (by_byte name) _ (not_bound (found byte_registers name) (λ n. given.Register size.Byte n) (λ n. tt))
+    (not_or (by_segment name) (by_control name) (not_bound (found segment_registers name) (λ s. given.Segment s) (λ s. tt)) (not_bound (found control_registers name) (λ n. given.Control n) (λ n. tt)))))
 
 not_memory : (o : Option Given) (m : Memory) → o ≡ Some (given.Memory m) → NotMemory o → ⊥
 not_memory o m e h = subst NotMemory e h
@@ -191,7 +191,7 @@ given_named _ m e = absurd cc
 abbrev one_given : Given → Operands
 one_given g = operands.One g
 
-star_given : (star : Bool) (o : Option Given) (m : Memory) → (o >>= λ g. Some (starred star g)) ≡ Some (one_given (given.Memory m)) → o ≡ Some (given.Memory m)
+star_given : (star : Bool) (o : Option Given) (m : Memory) → (o >>= λ g. Some (if star then operands.Starred g else operands.One g)) ≡ Some (one_given (given.Memory m)) → o ≡ Some (given.Memory m)
 star_given star None m e = absurd cc
 star_given true (Some g) m e = absurd cc
 star_given false (Some g) m e = let same : g ≡ given.Memory m = cc in ap (λ x. Some x) same
@@ -278,7 +278,7 @@ imm_wide d args = refl
 
 symbol_there : (args : List Argument) (k : ℕ) (a : Argument) → slice_get args k ≡ Some a → is_some (symbol_in a.form) ≡ true → names_symbol args (Some k) ≡ true
 unfolding names_symbol
-symbol_there args k a e h = ap argument_named e ∙ h
+symbol_there args k a e h = ap (λ (o : Option Argument). is_some (o >>= λ a. symbol_in a.form)) e ∙ h
 
 no_field : (named : Bool) (at : ℕ) (r : Bool) (k : Option ℕ) → k ≡ None → named_field named k at r ≡ None
 no_field named at r k e = ap (λ j. named_field named j at r) e

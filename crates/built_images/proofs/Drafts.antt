@@ -29,17 +29,17 @@ use Rattle.asm_instruction.specs.declared.system.System.TheVariants as system
 use Rattle.asm_instruction.specs.Names.{Table, found, ◌>>=◌}
 use Rattle.asm_instruction.specs.Condition.{condition}
 use Rattle.asm_instruction.specs.Sizes.{agreed}
-use Rattle.asm_instruction.specs.Draft.{register_or_memory, said, instruction, with_number, alone, nothing}
-use Rattle.asm_instruction.specs.Arithmetic.{two_operand_names, one_operand_names, one, arithmetic_draft}
+use Rattle.asm_instruction.specs.Draft.{instruction, with_number, alone, nothing}
+use Rattle.asm_instruction.specs.Arithmetic.{two_operand_names, one_operand_names, of_one, one, arithmetic_draft}
 use Rattle.asm_instruction.specs.Shift.{shift_names, shift_draft}
 use Rattle.asm_instruction.specs.Moves.{move_names, extend_names, move_draft}
 use Rattle.asm_instruction.specs.Stack.{stack_names, frame_names, stack_draft}
-use Rattle.asm_instruction.specs.Control.{branch_names, control_names, jump_name, set_name, behind_set, conditional_name, to_symbol, is_symbol, to_operand, direct, indirect, return_of, returned, with_selector, far, with_condition, set, control_draft}
+use Rattle.asm_instruction.specs.Control.{branch_names, control_names, jump_name, set_name, behind_set, conditional_name, to_symbol, is_symbol, direct, return_of, returned, with_selector, far, with_condition, set, control_draft}
 use Rattle.asm_instruction.specs.Strings.{string_names, string_draft}
 use Rattle.asm_instruction.specs.Flags.{plain_names, plain_draft}
 use Rattle.asm_instruction.specs.System.{system_names, page_names, system_draft}
-use Rattle.asm_instruction.specs.Mnemonic.{exact_instruction, exact_name, sized_name, suffix, suffixed, with_suffix, without_suffix, known_name, by_family, without_repeat, repeated, drafted}
-use Rattle.built_images.proofs.QuietDrafts.{IsQuiet, bound, quiet_arithmetic, quiet_instruction, quiet_moves, quiet_number, quiet_one, quiet_plain, quiet_shift, quiet_stack, quiet_string, quiet_system}
+use Rattle.asm_instruction.specs.Mnemonic.{exact_instruction, exact_name, sized_name, suffix, suffixed, with_suffix, without_suffix, known_name, by_family, repeated, drafted}
+use Rattle.built_images.proofs.QuietDrafts.{IsQuiet, bound, quiet_arithmetic, quiet_instruction, quiet_moves, quiet_number, quiet_of_one, quiet_one, quiet_plain, quiet_shift, quiet_stack, quiet_string, quiet_system}
 
 -- ---- branches
 
@@ -64,25 +64,17 @@ sound_bound : {A : Type 0} (os : Operands) (o : Option A) (f : A → Option Draf
 sound_bound os (Some a) f h = h a
 sound_bound os None f h = tt
 
-sound_symbol : (o : Op) (c : ℕ) (m : Memory) (b : Bool) → is_symbol m ≡ b → IsSound (operands.One (given.Memory m)) (cond b (Some (to_symbol o c m)) None)
-sound_symbol o c m true e = inr (record { name = o; condition = c; memory = m; one = refl; symbol = e; is = refl })
-sound_symbol o c m false e = tt
-
-sound_operand : (o : Op) (c : ℕ) (g : Given) → IsSound (operands.One g) (to_operand o c g)
-sound_operand o c (given.Memory m) = sound_symbol o c m (is_symbol m) refl
-sound_operand o c (given.Register t n) = tt
-sound_operand o c (given.Segment n) = tt
-sound_operand o c (given.Control n) = tt
-sound_operand o c (given.Immediate n) = tt
-sound_operand o c given.Port = tt
+sound_symbol : (o : Op) (c : ℕ) (t : Option Size) (m : Memory) (b : Bool) → is_symbol m ≡ b
+    → IsSound (operands.One (given.Memory m)) (cond b (agreed t (Some size.Long) None >>= λ s. Some (to_symbol o c m)) None)
+sound_symbol o c t m true e =
+    sound_bound (operands.One (given.Memory m)) (agreed t (Some size.Long) None) (λ s. Some (to_symbol o c m))
+    (λ s. inr (record { name = o; condition = c; memory = m; one = refl; symbol = e; is = refl }))
+sound_symbol o c t m false e = tt
 
 sound_direct : (o : Op) (c : ℕ) (t : Option Size) (g : Given) → IsSound (operands.One g) (direct o c t g)
 unfolding direct
-sound_direct o c t g = sound_bound (operands.One g) (agreed t (Some size.Long) None) (λ s. to_operand o c g) (λ s. sound_operand o c g)
-
-quiet_indirect : (o : Op) (t : Option Size) (g : Given) → is_direct_branch o ≡ false → IsQuiet (indirect o t g)
-unfolding indirect
-quiet_indirect o t g e = bound (register_or_memory g) _ (λ place. bound (agreed t (said g) (Some size.Long)) _ (λ s. quiet_instruction o s place nothing e))
+sound_direct o c t (given.Memory m) = sound_symbol o c t m (is_symbol m) refl
+sound_direct o c t _ = tt
 
 quiet_return : (os : Operands) → IsQuiet (return_of os)
 quiet_return operands.Nothing = quiet_instruction op.Return size.Long nothing nothing refl
@@ -118,7 +110,7 @@ quiet_set c g = quiet_condition (one op.Setcc (Some size.Byte) g) c (quiet_one o
 sound_control : (k : Control) (t : Option Size) (os : Operands) → ((o i : Op) → k ≡ control.Branch o i → is_direct_branch i ≡ false) → IsSound os (control_draft k t os)
 unfolding control_draft
 sound_control (control.Branch o i) t (operands.One g) h = sound_direct o 0 t g
-sound_control (control.Branch o i) t (operands.Starred g) h = sound (operands.Starred g) (indirect i t g) (quiet_indirect i t g (h o i refl))
+sound_control (control.Branch o i) t (operands.Starred g) h = sound (operands.Starred g) (of_one (Some size.Long) i t g) (quiet_of_one (Some size.Long) i t g (h o i refl))
 sound_control (control.Conditional c) t (operands.One g) h = sound_direct op.Jcc c t g
 sound_control (control.Set c) t (operands.One g) h = sound (operands.One g) (set c g) (quiet_set c g)
 sound_control control.Interrupt t (operands.One (given.Immediate n)) h = sound (operands.One (given.Immediate n)) (Some (with_number (alone op.Int) size.Byte n)) (quiet_number op.Int size.Long nothing nothing size.Byte n refl)
@@ -164,7 +156,7 @@ sound_repeated (family.Plain k) os e = tt
 sound_repeated (family.System k) os e = tt
 
 sound_drafted : (rep : Bool) (m : Mnemonic) (os : Operands) → is_fine m.family ≡ true → IsSound os (drafted rep m os)
-unfolding drafted without_repeat
+unfolding drafted
 sound_drafted true m os e = sound_repeated m.family os e
 sound_drafted false m os e = sound_family m.family m.suffix os e
 

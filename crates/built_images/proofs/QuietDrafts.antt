@@ -6,6 +6,7 @@ use Rattle.ia32_types.specs.declared.insn.Op.{Op}
 use Rattle.ia32_types.specs.declared.insn.Op.TheVariants as op
 use Rattle.ia32_types.specs.declared.insn.Operand.{Operand}
 use Rattle.ia32_types.specs.declared.insn.Operand.TheVariants as operand
+use Rattle.ia32_types.specs.declared.register.Seg.{Seg}
 use Rattle.ia32_types.specs.declared.size.Size.{Size}
 use Rattle.ia32_types.specs.declared.size.Size.TheVariants as size
 use Rattle.asm_instruction.specs.declared.argument.Number.{Number}
@@ -28,13 +29,13 @@ use Rattle.asm_instruction.specs.declared.system.System.TheVariants as system
 use Rattle.asm_instruction.specs.Names.{◌>>=◌}
 use Rattle.asm_instruction.specs.Sizes.{agreed}
 use Rattle.asm_instruction.specs.Draft.{register_operand, register_or_memory, said, paired, instruction, with_number, nothing, of_operand, memory}
-use Rattle.asm_instruction.specs.Arithmetic.{of_pair, memory_first, two, tested, one, into_register, to_register, multiplied, product, arithmetic_draft}
-use Rattle.asm_instruction.specs.Shift.{by_one, by_number, by_register, shift_draft}
-use Rattle.asm_instruction.specs.Moves.{special, from_segment, to_segment, from_control, to_control, general, moved, into_long, extended, effective, with_register, exchange, exchanged, move_of, move_draft}
-use Rattle.asm_instruction.specs.Stack.{of_long, of_general, of_number, pushed, popped, stack_draft}
+use Rattle.asm_instruction.specs.Arithmetic.{of_pair, memory_first, of_two, two, of_one, one, to_register, multiplied, product, arithmetic_draft}
+use Rattle.asm_instruction.specs.Shift.{by_register, shift_draft}
+use Rattle.asm_instruction.specs.Moves.{special, from_special, to_special, moved, extended, effective, with_register, exchange, exchanged, move_of, move_draft}
+use Rattle.asm_instruction.specs.Stack.{of_segment, of_number, pushed, popped, stack_draft}
 use Rattle.asm_instruction.specs.Strings.{string_draft}
-use Rattle.asm_instruction.specs.Flags.{without_operands, plain_draft}
-use Rattle.asm_instruction.specs.System.{through, between, ported, memory_alone, of_memory, task, system_draft}
+use Rattle.asm_instruction.specs.Flags.{plain_draft}
+use Rattle.asm_instruction.specs.System.{through, ported, of_memory, task, system_draft}
 
 -- ---- what is drafted is no branch
 
@@ -66,21 +67,17 @@ quiet_memory s (pair.FromMemory place n) = quiet_instruction op.Test s place (re
 
 -- ---- arithmetic
 
-pub quiet_one : (o : Op) (t : Option Size) (g : Given) → is_direct_branch o ≡ false → IsQuiet (one o t g)
-unfolding one
-quiet_one o t g e = bound (register_or_memory g) _ (λ place. bound (agreed t (said g) None) _ (λ s. quiet_instruction o s place nothing e))
+pub quiet_of_one : (own : Option Size) (o : Op) (t : Option Size) (g : Given) → is_direct_branch o ≡ false → IsQuiet (of_one own o t g)
+unfolding of_one
+quiet_of_one own o t g e = bound (register_or_memory g) _ (λ place. bound (agreed t (said g) own) _ (λ s. quiet_instruction o s place nothing e))
 
-quiet_into : (o : Op) (s : Size) (g : Given) (place : NumberedOperand) → is_direct_branch o ≡ false → IsQuiet (into_register o s g place)
-quiet_into o s (given.Register t n) place e = quiet_instruction o s (register_operand n) place e
-quiet_into o s (given.Segment t) place e = tt
-quiet_into o s (given.Control t) place e = tt
-quiet_into o s (given.Memory t) place e = tt
-quiet_into o s (given.Immediate t) place e = tt
-quiet_into o s given.Port place e = tt
+pub quiet_one : (o : Op) (t : Option Size) (g : Given) → is_direct_branch o ≡ false → IsQuiet (one o t g)
+quiet_one o t g e = quiet_of_one None o t g e
 
 quiet_to : (o : Op) (t : Option Size) (a b : Given) → is_direct_branch o ≡ false → IsQuiet (to_register o t a b)
 unfolding to_register
-quiet_to o t a b e = bound (register_or_memory a) _ (λ place. bound (agreed t (said a) (said b)) _ (λ s. quiet_into o s b place e))
+quiet_to o t a (given.Register u n) e = bound (register_or_memory a) _ (λ place. bound (agreed t (said a) (Some u)) _ (λ s. quiet_instruction o s (register_operand n) place e))
+quiet_to o t a _ e = tt
 
 quiet_with : (d : Option Draft) (t : Size) (n : Number) → IsQuiet d → IsQuiet (d >>= λ x. Some (with_number x t n))
 unfolding with_number
@@ -88,7 +85,7 @@ quiet_with None t n h = tt
 quiet_with (Some d) t n h = h
 
 pub quiet_arithmetic : (k : Arithmetic) (t : Option Size) (os : Operands) → (arithmetic_ok : (o : Op) → (k ≡ arithmetic.Two o) ⊎ (k ≡ arithmetic.One o) → is_direct_branch o ≡ false) → IsQuiet (arithmetic_draft k t os)
-unfolding arithmetic_draft two tested product multiplied
+unfolding arithmetic_draft of_two product multiplied
 quiet_arithmetic (arithmetic.Two o) t (operands.Two a b) h = bound (paired a b) _ (λ p. bound (agreed t (said a) (said b)) _ (λ s. quiet_pair o s p (h o (inl refl))))
 quiet_arithmetic arithmetic.Test t (operands.Two a b) h = bound (paired a b) _ (λ p. bound (agreed t (said a) (said b)) _ (λ s. quiet_memory s p))
 quiet_arithmetic (arithmetic.One o) t (operands.One g) h = quiet_one o t g (h o (inr refl))
@@ -106,10 +103,14 @@ quiet_arithmetic _ t _ h = tt
 
 -- ---- shifts
 
+quiet_count : (d : Option Draft) → IsQuiet d → IsQuiet (d >>= λ x. Some (record x { insn = record x.insn { imm = 1 } }))
+quiet_count None h = tt
+quiet_count (Some d) h = h
+
 pub quiet_shift : (o : Op) (t : Option Size) (os : Operands) → is_direct_branch o ≡ false → IsQuiet (shift_draft o t os)
-unfolding shift_draft by_one by_number by_register instruction
-quiet_shift o t (operands.One g) e = bound (register_or_memory g) _ (λ place. bound (agreed t (said g) None) _ (λ s. e))
-quiet_shift o t (operands.Two (given.Immediate n) g) e = bound (register_or_memory g) _ (λ place. bound (agreed t (said g) None) _ (λ s. quiet_number o s place nothing size.Byte n e))
+unfolding shift_draft by_register instruction
+quiet_shift o t (operands.One g) e = quiet_count (one o t g) (quiet_one o t g e)
+quiet_shift o t (operands.Two (given.Immediate n) g) e = quiet_with (one o t g) size.Byte n (quiet_one o t g e)
 quiet_shift o t (operands.Two (given.Register size.Byte n) g) e = chosen (n == 1) (bound (register_or_memory g) _ (λ place. bound (agreed t (said g) None) _ (λ s. quiet_instruction o s place (register_operand 1) e))) where
   chosen : (b : Bool) → IsQuiet (by_register o t g) → IsQuiet (cond b (by_register o t g) None)
   chosen true h = h
@@ -130,31 +131,22 @@ quiet_special : (o : Op) (t : Option Size) (g : Given) (a b : NumberedOperand) �
 unfolding special
 quiet_special o t g a b e = bound (agreed t (said g) (Some size.Long)) _ (λ s. quiet_instruction o s a b e)
 
-quiet_general : (t : Option Size) (a b : Given) → IsQuiet (general t a b)
-unfolding general
+quiet_general : (t : Option Size) (a b : Given) → IsQuiet (two op.Mov t a b)
+unfolding of_two
 quiet_general t a b = bound (paired a b) _ (λ p. bound (agreed t (said a) (said b)) _ (λ s. quiet_pair op.Mov s p refl))
 
 quiet_to_special : (t : Option Size) (a b : Given) → IsQuiet (moved t a b)
-unfolding moved from_segment to_segment from_control to_control
+unfolding moved from_special to_special
 quiet_to_special t (given.Segment x) b = bound (register_or_memory b) _ (λ to. quiet_special op.ReadSeg t b to (of_operand (operand.Segment x)) refl)
 quiet_to_special t (given.Control x) b = bound (register_or_memory b) _ (λ to. quiet_special op.ReadControl t b to (of_operand (operand.Control x)) refl)
 quiet_to_special t a (given.Segment x) = bound (register_or_memory a) _ (λ from. quiet_special op.LoadSeg t a (of_operand (operand.Segment x)) from refl)
 quiet_to_special t a (given.Control x) = bound (register_or_memory a) _ (λ from. quiet_special op.WriteControl t a (of_operand (operand.Control x)) from refl)
 quiet_to_special t a b = quiet_general t a b
 
-quiet_long : (o : Op) (s : Size) (g : Given) (from : NumberedOperand) → is_direct_branch o ≡ false → IsQuiet (into_long o s g from)
-quiet_long o s (given.Register size.Long n) from e = quiet_instruction o s (register_operand n) from e
-quiet_long o s (given.Register size.Byte n) from e = tt
-quiet_long o s (given.Register size.Word n) from e = tt
-quiet_long o s (given.Segment n) from e = tt
-quiet_long o s (given.Control n) from e = tt
-quiet_long o s (given.Memory n) from e = tt
-quiet_long o s (given.Immediate n) from e = tt
-quiet_long o s given.Port from e = tt
-
 quiet_extended : (o : Op) (s : Size) (a b : Given) → is_direct_branch o ≡ false → IsQuiet (extended o s a b)
 unfolding extended
-quiet_extended o s a b e = bound (register_or_memory a) _ (λ from. bound (agreed (Some s) (said a) None) _ (λ t. quiet_long o t b from e))
+quiet_extended o s a (given.Register size.Long n) e = bound (register_or_memory a) _ (λ from. bound (agreed (Some s) (said a) None) _ (λ t. quiet_instruction o t (register_operand n) from e))
+quiet_extended o s a _ e = tt
 
 quiet_effective : (t : Option Size) (a b : Given) → IsQuiet (effective t a b)
 unfolding effective
@@ -178,7 +170,7 @@ quiet_exchange s (pair.FromRegister n place) = quiet_with_register s n place pla
 quiet_exchange s (pair.FromMemory place n) = quiet_instruction op.Xchg s place (register_operand n) refl
 
 quiet_exchanged : (t : Option Size) (a b : Given) → IsQuiet (exchanged t a b)
-unfolding exchanged
+unfolding of_two
 quiet_exchanged t a b = bound (paired a b) _ (λ p. bound (agreed t (said a) (said b)) _ (λ s. quiet_exchange s p))
 
 quiet_move : (k : Moves) (t : Option Size) (a b : Given) → ((o : Op) (s : Size) → k ≡ moves.Extend o s → is_direct_branch o ≡ false) → IsQuiet (move_of k t a b)
@@ -197,13 +189,9 @@ quiet_moves k t (operands.Three a b c) h = tt
 
 -- ---- the stack
 
-quiet_of_long : (o : Op) (t : Option Size) (g : Given) (a : NumberedOperand) → is_direct_branch o ≡ false → IsQuiet (of_long o t g a)
-unfolding of_long
-quiet_of_long o t g a e = bound (agreed t (said g) (Some size.Long)) _ (λ s. quiet_instruction o s a nothing e)
-
-quiet_of_general : (o : Op) (t : Option Size) (g : Given) → is_direct_branch o ≡ false → IsQuiet (of_general o t g)
-unfolding of_general
-quiet_of_general o t g e = bound (register_or_memory g) _ (λ a. quiet_of_long o t g a e)
+quiet_of_segment : (o : Op) (t : Option Size) (x : Seg) → is_direct_branch o ≡ false → IsQuiet (of_segment o t x)
+unfolding of_segment
+quiet_of_segment o t x e = bound (agreed t None (Some size.Long)) _ (λ s. quiet_instruction o s (of_operand (operand.Segment x)) nothing e)
 
 quiet_of_number : (t : Option Size) (n : Number) → IsQuiet (of_number t n)
 unfolding of_number
@@ -212,22 +200,19 @@ quiet_of_number t n = bound (agreed t (Some size.Long) None) _ (λ s. quiet_numb
 quiet_pushed : (t : Option Size) (g : Given) → IsQuiet (pushed t g)
 unfolding pushed
 quiet_pushed t (given.Immediate n) = quiet_of_number t n
-quiet_pushed t (given.Segment x) = quiet_of_long op.PushSeg t (given.Segment x) (of_operand (operand.Segment x)) refl
-quiet_pushed t g = quiet_of_general op.Push t g refl
+quiet_pushed t (given.Segment x) = quiet_of_segment op.PushSeg t x refl
+quiet_pushed t g = quiet_of_one (Some size.Long) op.Push t g refl
 
 quiet_popped : (t : Option Size) (g : Given) → IsQuiet (popped t g)
 unfolding popped
-quiet_popped t (given.Segment x) = quiet_of_long op.PopSeg t (given.Segment x) (of_operand (operand.Segment x)) refl
-quiet_popped t g = quiet_of_general op.Pop t g refl
+quiet_popped t (given.Segment x) = quiet_of_segment op.PopSeg t x refl
+quiet_popped t g = quiet_of_one (Some size.Long) op.Pop t g refl
 
 pub quiet_stack : (k : Stack) (t : Option Size) (os : Operands) → IsQuiet (stack_draft k t os)
 unfolding stack_draft
 quiet_stack stack.Push t (operands.One g) = quiet_pushed t g
 quiet_stack stack.Pop t (operands.One g) = quiet_popped t g
-quiet_stack k t operands.Nothing = tt
-quiet_stack k t (operands.Starred g) = tt
-quiet_stack k t (operands.Two a b) = tt
-quiet_stack k t (operands.Three a b c) = tt
+quiet_stack _ t _ = tt
 
 -- ---- strings, flags, system
 
@@ -239,16 +224,10 @@ quiet_string rep o s (operands.Starred a) e = tt
 quiet_string rep o s (operands.Two a b) e = tt
 quiet_string rep o s (operands.Three a b c) e = tt
 
-quiet_without : (o : Op) (os : Operands) → is_direct_branch o ≡ false → IsQuiet (without_operands o os)
-quiet_without o operands.Nothing e = quiet_instruction o size.Long nothing nothing e
-quiet_without o (operands.One a) e = tt
-quiet_without o (operands.Starred a) e = tt
-quiet_without o (operands.Two a b) e = tt
-quiet_without o (operands.Three a b c) e = tt
-
 pub quiet_plain : (o : Op) (t : Option Size) (os : Operands) → is_direct_branch o ≡ false → IsQuiet (plain_draft o t os)
 unfolding plain_draft
-quiet_plain o t os e = bound (agreed t (Some size.Long) None) _ (λ s. quiet_without o os e)
+quiet_plain o t operands.Nothing e = bound (agreed t (Some size.Long) None) _ (λ s. quiet_instruction o size.Long nothing nothing e)
+quiet_plain o t _ e = tt
 
 quiet_if : (b : Bool) (d : Option Draft) → IsQuiet d → IsQuiet (cond b d None)
 quiet_if true d h = h
@@ -265,29 +244,15 @@ quiet_through o s (given.Segment n) e = tt
 quiet_through o s (given.Control n) e = tt
 quiet_through o s (given.Memory n) e = tt
 
-quiet_between : (o : Op) (s : Size) (p g : Given) → is_direct_branch o ≡ false → IsQuiet (between o s p g)
-quiet_between o s p (given.Register t n) e = quiet_if (n == 0) (through o s p) (quiet_through o s p e)
-quiet_between o s p (given.Segment n) e = tt
-quiet_between o s p (given.Control n) e = tt
-quiet_between o s p (given.Memory n) e = tt
-quiet_between o s p (given.Immediate n) e = tt
-quiet_between o s p given.Port e = tt
-
 quiet_ported : (o : Op) (t : Option Size) (p g : Given) → is_direct_branch o ≡ false → IsQuiet (ported o t p g)
 unfolding ported
-quiet_ported o t p g e = bound (agreed t (said g) None) _ (λ s. quiet_between o s p g e)
-
-quiet_alone : (o : Op) (s : Size) (g : Given) → is_direct_branch o ≡ false → IsQuiet (memory_alone o s g)
-quiet_alone o s (given.Memory m) e = quiet_instruction o s (memory m) nothing e
-quiet_alone o s (given.Register t n) e = tt
-quiet_alone o s (given.Segment n) e = tt
-quiet_alone o s (given.Control n) e = tt
-quiet_alone o s (given.Immediate n) e = tt
-quiet_alone o s given.Port e = tt
+quiet_ported o t p (given.Register u n) e = quiet_if (n == 0) (agreed t (Some u) None >>= λ s. through o s p) (bound (agreed t (Some u) None) _ (λ s. quiet_through o s p e))
+quiet_ported o t p _ e = tt
 
 quiet_of_memory : (o : Op) (t : Option Size) (g : Given) → is_direct_branch o ≡ false → IsQuiet (of_memory o t g)
 unfolding of_memory
-quiet_of_memory o t g e = bound (agreed t (Some size.Long) None) _ (λ s. quiet_alone o s g e)
+quiet_of_memory o t (given.Memory m) e = bound (agreed t (Some size.Long) None) _ (λ s. quiet_instruction o s (memory m) nothing e)
+quiet_of_memory o t _ e = tt
 
 quiet_task : (t : Option Size) (g : Given) → IsQuiet (task t g)
 unfolding task

@@ -1,6 +1,6 @@
 -- What the rows from this place on have for the name, the whole table has.
 use Rattle.std.proofs.Common.{◌≡◌, drop}
-use Rattle.asm_instruction.specs.Names.{found_row}
+use Rattle.asm_instruction.specs.Rows.{found_row}
 use Rattle.asm_instruction.proofs.bytes.look_up.Given as goal
 
 abbrev pub invariant-loop-text : goal.invariant-loop-text
