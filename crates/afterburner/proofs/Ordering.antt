@@ -9,7 +9,8 @@ use Rattle.std.proofs.lemmas.List.{take_more, map-append}
 use Rattle.std.proofs.lemmas.List.Sums.{sum_by-append}
 use Rattle.elf_form.specs.declared.object.Symbol.{Symbol}
 use Rattle.afterburner.specs.declared.symbol.Definition.{Definition}
-use Rattle.afterburner.specs.Objects.{symbol, symbols_seen, ordered_number, with_number, renumbered}
+use Rattle.afterburner.specs.Objects.{symbol, symbols_seen, ordered_number, renumbered}
+use Rattle.afterburner.specs.Tables.{with_number}
 
 pub some_inj : {A : Type 0} {x y : A} → Some x ≡ Some y → x ≡ y
 some_inj e = cc

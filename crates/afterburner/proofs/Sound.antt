@@ -18,11 +18,11 @@ use Rattle.ia32_types.specs.declared.size.Size.TheVariants as size
 use Rattle.asm_source.specs.declared.directive_table.DirectiveName.{DirectiveName}
 use Rattle.asm_source.specs.declared.directive_table.DirectiveName.TheVariants as directive
 use Rattle.afterburner.specs.ObjectSoFar.{ObjectSoFar, undefined, fresh}
-use Rattle.afterburner.specs.Symbols.{bound}
+use Rattle.afterburner.specs.Symbols.{reloc_to, bound}
 use Rattle.afterburner.specs.Arguments.{number_in, count_at, text_at, symbol_at}
 use Rattle.afterburner.specs.Values.{value_bytes}
 use Rattle.afterburner.specs.Sections.{is_init, filled_in, aligned, labelled, defined_in_bss, reserved, entered, section_named}
-use Rattle.afterburner.specs.Directives.{numbers, longs, with_long, data_reloc, strings, string_bytes, zeros_in, common, directed, in_init, all_fit, values}
+use Rattle.afterburner.specs.Directives.{numbers, longs, with_long, strings, string_bytes, zeros_in, common, directed, in_init, all_fit, values}
 use Rattle.afterburner.specs.Burnt.{parted}
 use Rattle.afterburner.specs.Sound.{IsSound, IsRelocIn, AreApart, AreHeld}
 use Rattle.afterburner.proofs.Named.{held_number, held_left, held_right}
@@ -134,12 +134,12 @@ four_bytes : (z : ℤ) → length (value_bytes size.Long z) ≡ 4
 four_bytes z = refl
 
 -- a value of four bytes, whose relocation lies in them
-long_field : (names : List (List ℕ)) (st : ObjectSoFar) (z : ℤ) (o : Option (List ℕ)) → AreHeld names (option_to_list o) → All (IsRelocIn false (length (st.init ++ value_bytes size.Long z)) (length names)) (data_reloc names (length st.init) o)
+long_field : (names : List (List ℕ)) (st : ObjectSoFar) (z : ℤ) (o : Option (List ℕ)) → AreHeld names (option_to_list o) → All (IsRelocIn false (length (st.init ++ value_bytes size.Long z)) (length names)) (reloc_to names false (length st.init) false o)
 long_field names st z None h = All-nil _
 long_field names st z (Some name) h =
     All-cons (IsRelocIn false (length (st.init ++ value_bytes size.Long z)) (length names)) _ [] (record { section = refl; field = simp (length-append, four_bytes z) (omega arith); symbol = held_number names name h.0 }) (All-nil _)
 
-few_fields : (names : List (List ℕ)) (at : ℕ) (o : Option (List ℕ)) → length (data_reloc names at o) ≤ 1
+few_fields : (names : List (List ℕ)) (at : ℕ) (o : Option (List ℕ)) → length (reloc_to names false at false o) ≤ 1
 few_fields names at None = omega arith
 few_fields names at (Some name) = omega arith
 
@@ -152,10 +152,10 @@ sound_long names st x a h s =
     record {
       definitions = s.definitions;
       text_relocs = s.text_relocs;
-      data_relocs = All-append (IsRelocIn false (length (st.init ++ value_bytes size.Long z)) (length names)) st.data_relocs (data_reloc names (length st.init) (symbol_in x.form))
+      data_relocs = All-append (IsRelocIn false (length (st.init ++ value_bytes size.Long z)) (length names)) st.data_relocs (reloc_to names false (length st.init) false (symbol_in x.form))
           (reloc_grown false (length names) (length st.init) (length (st.init ++ value_bytes size.Long z)) st.data_relocs longer s.data_relocs) (long_field names st z (symbol_in x.form) h);
       few_text = s.few_text;
-      few_data = rw (length-append st.data_relocs (data_reloc names (length st.init) (symbol_in x.form)), more) (omega (arith, few, s.few_data));
+      few_data = rw (length-append st.data_relocs (reloc_to names false (length st.init) false (symbol_in x.form)), more) (omega (arith, few, s.few_data));
       sites = s.sites;
       sti_site = s.sti_site;
       sti_text = s.sti_text;

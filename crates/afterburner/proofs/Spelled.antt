@@ -12,9 +12,10 @@ use Rattle.asm_source.specs.Names.{symbol_in, argument_names}
 use Rattle.asm_instruction.specs.declared.assembled.Assembled.{Assembled}
 use Rattle.asm_instruction.specs.declared.assembled.Named.{Named}
 use Rattle.asm_instruction.specs.Right.{HasBoundedLength, IsField, HasFields}
+use Rattle.afterburner.specs.Symbols.{reloc_to}
 use Rattle.afterburner.specs.ObjectSoFar.{ObjectSoFar}
-use Rattle.afterburner.specs.Arguments.{symbol_of, symbol_at}
-use Rattle.afterburner.specs.Instructions.{nops, nops_behind, site_at, reloc_of, field_reloc, is_sti, added, paired, pair_site, no_site}
+use Rattle.afterburner.specs.Arguments.{form_of, symbol_at}
+use Rattle.afterburner.specs.Instructions.{nops, nops_behind, site_at, field_reloc, is_sti, added, paired, pair_site, no_site}
 use Rattle.afterburner.specs.Sound.{IsSound, IsRelocIn, AreApart, AreHeld}
 use Rattle.afterburner.proofs.Named.{held_number, argument_held}
 use Rattle.afterburner.proofs.Sound.{reloc_grown}
@@ -22,7 +23,7 @@ use Rattle.afterburner.proofs.Sound.{reloc_grown}
 -- ---- relocations
 
 field_symbol : (args : List Argument) (k : ℕ) (a : Argument) (n : List ℕ) → slice_get args k ≡ Some a → symbol_in a.form ≡ Some n → symbol_at args k ≡ Some n
-field_symbol args k a n e f = ap symbol_of e ∙ f
+field_symbol args k a n e f = ap (λ (o : Option Argument). symbol_in (form_of o)) e ∙ f
 
 field_lies : (names : List (List ℕ)) (at size len : ℕ) (args : List Argument) (o : Option Named) → IsField len args o → at + len ≤ size → AreHeld names (argument_names args) → All (IsRelocIn true size (length names)) (field_reloc names at args o)
 field_lies names at size len args None f le h = All-nil _
@@ -36,7 +37,7 @@ field_lies names at size len args (Some field) f le h =
 few_fields : (names : List (List ℕ)) (at len : ℕ) (args : List Argument) (o : Option Named) → IsField len args o → 2 * length (field_reloc names at args o) ≤ len
 few_fields names at len args None f = omega arith
 few_fields names at len args (Some field) f =
-    elim (symbol_at args field.argument) as (λ s. 2 * length (reloc_of names at field s) ≤ len) [ None ↦ omega arith | Some name ↦ omega (arith, f.0) ]
+    elim (symbol_at args field.argument) as (λ s. 2 * length (reloc_to names true (at + field.at) field.relative s) ≤ len) [ None ↦ omega arith | Some name ↦ omega (arith, f.0) ]
 
 -- ---- sites
 

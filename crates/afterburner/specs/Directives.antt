@@ -1,10 +1,10 @@
 -- The directives, by families.
-use Rattle.std.specs.Prelude.{ℕ, ◌+◌, Bool, true, false, not, nat_lt, List, [], ◌∷◌, ◌++◌, length, replicate, fold, Option, Some, None, Result, Ok, Err, if◌then◌else◌}
+use Rattle.std.specs.Prelude.{ℕ, ◌+◌, Bool, true, false, not, nat_lt, List, [], ◌∷◌, ◌++◌, length, replicate, fold, None, Result, Ok, Err, if◌then◌else◌}
+use Rattle.std.specs.Option.{unwrap_or}
 use Rattle.std.specs.List.{flat_map, list_all}
 use Rattle.sites.specs.declared.limits.TheConstants.{INIT_LIMIT}
 use Rattle.asm_source.specs.declared.tree.Argument.{Argument}
-use Rattle.asm_source.specs.Names.{symbol_in, name_number}
-use Rattle.elf_form.specs.declared.object.Reloc.{Reloc}
+use Rattle.asm_source.specs.Names.{symbol_in}
 use Rattle.afterburner.specs.declared.fault.BurnCause.{BurnCause}
 use Rattle.afterburner.specs.declared.fault.BurnCause.TheVariants as cause
 use Rattle.afterburner.specs.declared.section.Section.{Section}
@@ -17,18 +17,14 @@ use Rattle.ia32_types.specs.declared.size.Size.{Size}
 use Rattle.ia32_types.specs.declared.size.Size.TheVariants as size
 use Rattle.asm_instruction.specs.Field.{fits_field}
 use Rattle.afterburner.specs.ObjectSoFar.{ObjectSoFar}
-use Rattle.afterburner.specs.Symbols.{bound}
+use Rattle.afterburner.specs.Symbols.{reloc_to, bound}
 use Rattle.afterburner.specs.Arguments.{number_in, text_in, count_at, text_at, symbol_at, limit_at, alignment, power}
 use Rattle.afterburner.specs.Values.{value_bytes}
 use Rattle.afterburner.specs.Sections.{is_init, entered, section_named, aligned, reserved}
 
-abbrev pub or_skipped : Option DirectiveName → DirectiveName
-or_skipped None = directive.Skipped
-or_skipped (Some d) = d
-
 -- the directive of a name, in the table by which the source is read
 abbrev pub directive_of : List ℕ → DirectiveName
-directive_of n = or_skipped (directive_name n)
+directive_of n = unwrap_or (directive_name n) directive.Skipped
 
 abbrev pub all_fit : Size → List Argument → Bool
 all_fit s args = list_all (λ (a : Argument). fits_field s (number_in a.form)) args
@@ -43,15 +39,11 @@ in_init st made = if is_init st.section then Ok made else Err cause.DataInText
 unfoldable pub numbers : ObjectSoFar → Size → List Argument → Result ObjectSoFar BurnCause
 numbers st s args = if not (all_fit s args) then Err cause.ValueRange else in_init st (record st { init = st.init ++ values s args })
 
-abbrev pub data_reloc : List (List ℕ) → ℕ → Option (List ℕ) → List Reloc
-data_reloc names at None = []
-data_reloc names at (Some name) = record { in_text = false; at = at; symbol = name_number names name; relative = false } ∷ []
-
 -- a value of four bytes; a named one holds its constant and gives a relocation
 abbrev pub with_long : List (List ℕ) → ObjectSoFar → Argument → ObjectSoFar
 with_long names st a = record st {
   init = st.init ++ value_bytes size.Long (number_in a.form);
-  data_relocs = st.data_relocs ++ data_reloc names (length st.init) (symbol_in a.form);
+  data_relocs = st.data_relocs ++ reloc_to names false (length st.init) false (symbol_in a.form);
 }
 
 unfoldable pub longs : List (List ℕ) → ObjectSoFar → List Argument → Result ObjectSoFar BurnCause
@@ -70,16 +62,9 @@ zeros_in st section.Text n = Err cause.DataInText
 zeros_in st section.Init n = if nat_lt INIT_LIMIT (length st.init + st.bss + n) then Err cause.InitTooLarge else Ok (record st { init = st.init ++ replicate n 0 })
 zeros_in st section.Bss n = Ok (record st { bss = st.bss + n })
 
-abbrev pub zeros : ObjectSoFar → ℕ → Result ObjectSoFar BurnCause
-zeros st n = zeros_in st st.section n
-
-abbrev pub common_alignment : Option ℕ → ℕ
-common_alignment None = 1
-common_alignment (Some n) = alignment n
-
 -- `.comm NAME,SIZE[,ALIGN]`: global, unless a `.local` or a `.globl` speaks of the name
 unfoldable pub common : List (List ℕ) → ObjectSoFar → List Argument → ObjectSoFar
-common names st args = bound names (reserved names st (symbol_at args 0) (count_at args 1) (common_alignment (limit_at args 2))) (symbol_at args 0) binding.Common
+common names st args = bound names (reserved names st (symbol_at args 0) (count_at args 1) (alignment (unwrap_or (limit_at args 2) 1))) (symbol_at args 0) binding.Common
 
 unfoldable pub directed : List (List ℕ) → ObjectSoFar → DirectiveName → List Argument → Result ObjectSoFar BurnCause
 directed names st directive.Text args = Ok (entered st section.Text)
@@ -93,7 +78,7 @@ directed names st directive.Shorts args = numbers st size.Word args
 directed names st directive.Longs args = longs names st args
 directed names st directive.Ascii args = strings st false args
 directed names st directive.Asciz args = strings st true args
-directed names st directive.Zeros args = zeros st (count_at args 0)
+directed names st directive.Zeros args = zeros_in st st.section (count_at args 0)
 directed names st directive.Aligned args = Ok (aligned st (alignment (count_at args 0)) None)
 directed names st directive.Powered args = Ok (aligned st (power (count_at args 0)) (limit_at args 2))
 directed names st directive.Common args = Ok (common names st args)

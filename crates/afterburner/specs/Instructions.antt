@@ -15,7 +15,7 @@ use Rattle.afterburner.specs.declared.fault.BurnCause.{BurnCause}
 use Rattle.afterburner.specs.declared.fault.BurnCause.TheVariants as cause
 use Rattle.afterburner.specs.Causes.{cause_of}
 use Rattle.afterburner.specs.ObjectSoFar.{ObjectSoFar}
-use Rattle.asm_source.specs.Names.{name_number}
+use Rattle.afterburner.specs.Symbols.{reloc_to}
 use Rattle.afterburner.specs.Arguments.{symbol_at}
 use Rattle.afterburner.specs.Sections.{is_text}
 
@@ -31,14 +31,10 @@ abbrev pub site_at : ℕ → Option SiteKind → ℕ → List Site
 site_at at None len = []
 site_at at (Some kind) len = padded_site at kind len ∷ []
 
-abbrev pub reloc_of : List (List ℕ) → ℕ → Named → Option (List ℕ) → List Reloc
-reloc_of names at field None = []
-reloc_of names at field (Some name) = record { in_text = true; at = at + field.at; symbol = name_number names name; relative = field.relative } ∷ []
-
 -- the relocation of a field of the instruction at this offset
 abbrev pub field_reloc : List (List ℕ) → ℕ → List Argument → Option Named → List Reloc
 field_reloc names at args None = []
-field_reloc names at args (Some field) = reloc_of names at field (symbol_at args field.argument)
+field_reloc names at args (Some field) = reloc_to names true (at + field.at) field.relative (symbol_at args field.argument)
 
 abbrev pub is_sti : Option SiteKind → Bool
 is_sti (Some site.Sti) = true

@@ -7,6 +7,7 @@ pub mod Sections
 pub mod Instructions
 pub mod Directives
 pub mod Objects
+pub mod Tables
 pub mod Burnt
 pub mod Answers
 pub mod Reasons

@@ -1,5 +1,5 @@
 -- The object of what all items made.
-use Rattle.std.specs.Prelude.{ℕ, ◌+◌, Bool, true, false, not, List, [], ◌∷◌, ◌++◌, length, take, map, filter, count_by, slice_index, if◌then◌else◌}
+use Rattle.std.specs.Prelude.{ℕ, ◌+◌, Bool, true, false, not, List, ◌++◌, length, take, map, zip, filter, count_by, if◌then◌else◌}
 use Rattle.elf_form.specs.declared.object.Place.{Place}
 use Rattle.elf_form.specs.declared.object.Place.TheVariants as place
 use Rattle.elf_form.specs.declared.object.Symbol.{Symbol}
@@ -35,9 +35,7 @@ symbol name d = record { name = name; place = d.place; value = value_at d.place 
 
 -- the symbols in the order in which their names are first seen
 abbrev pub symbols_seen : List (List ℕ) → List Definition → List Symbol
-symbols_seen [] ds = []
-symbols_seen (name ∷ names) [] = []
-symbols_seen (name ∷ names) (d ∷ ds) = symbol name d ∷ symbols_seen names ds
+symbols_seen names ds = map (λ (seen : List ℕ × Definition). symbol seen.0 seen.1) (zip names ds)
 
 -- Local symbols come before global ones, each in first-seen order.
 abbrev pub are : Bool → Symbol → Bool
@@ -58,10 +56,6 @@ ordered_number ds k =
 
 abbrev pub renumbered : List Definition → Reloc → Reloc
 renumbered ds r = record r { symbol = ordered_number ds r.symbol }
-
--- a relocation by a table of such places
-abbrev pub with_number : List ℕ → Reloc → Reloc
-with_number numbers r = record r { symbol = slice_index numbers r.symbol }
 
 -- The relocations of text come before those of data, each in the order of their places. The annotations are in the
 -- format for so long a text.

@@ -42,14 +42,11 @@ section_named name before =
 abbrev pub entered : ObjectSoFar → Section → ObjectSoFar
 entered st s = record st { section = s }
 
+-- n bytes: NOPs in text, zero bytes elsewhere
 abbrev pub filled_in : ObjectSoFar → Section → ℕ → ObjectSoFar
 filled_in st section.Text n = record st { text = st.text ++ replicate n 144 }
 filled_in st section.Init n = record st { init = st.init ++ replicate n 0 }
 filled_in st section.Bss n = record st { bss = st.bss + n }
-
--- n bytes: NOPs in text, zero bytes elsewhere
-abbrev pub filled : ObjectSoFar → ℕ → ObjectSoFar
-filled st n = filled_in st st.section n
 
 abbrev pub unless_more : Option ℕ → ℕ → ℕ
 unless_more None n = n
@@ -57,7 +54,7 @@ unless_more (Some most) n = if nat_lt most n then 0 else n
 
 -- up to the next multiple of the alignment, unless more than `most` bytes are needed
 unfoldable pub aligned : ObjectSoFar → ℕ → Option ℕ → ObjectSoFar
-aligned st alignment most = filled st (unless_more most (pad alignment (here st)))
+aligned st alignment most = filled_in st st.section (unless_more most (pad alignment (here st)))
 
 -- a label
 unfoldable pub labelled : List (List ℕ) → ObjectSoFar → List ℕ → ObjectSoFar

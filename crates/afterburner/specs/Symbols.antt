@@ -1,6 +1,7 @@
 -- What labels and directives say of names.
-use Rattle.std.specs.Prelude.{ℕ, List, Option, Some, None, slice_index_or, slice_set, nat_lt, if◌then◌else◌}
+use Rattle.std.specs.Prelude.{ℕ, Bool, List, [], ◌∷◌, Option, Some, None, slice_index_or, slice_set, nat_lt, if◌then◌else◌}
 use Rattle.elf_form.specs.declared.object.Place.{Place}
+use Rattle.elf_form.specs.declared.object.Reloc.{Reloc}
 use Rattle.afterburner.specs.declared.symbol.Definition.{Definition}
 use Rattle.afterburner.specs.declared.symbol.Binding.{Binding}
 use Rattle.afterburner.specs.declared.symbol.Binding.TheVariants as binding
@@ -24,6 +25,11 @@ with_place ds k place value = slice_set ds k (record (definition_of ds k) { plac
 
 abbrev pub with_binding : List Definition → ℕ → Binding → List Definition
 with_binding ds k b = slice_set ds k (record (definition_of ds k) { binding = stronger (definition_of ds k).binding b })
+
+-- the relocation of a field, where it names a symbol
+abbrev pub reloc_to : List (List ℕ) → Bool → ℕ → Bool → Option (List ℕ) → List Reloc
+reloc_to names in_text at relative None = []
+reloc_to names in_text at relative (Some name) = record { in_text = in_text; at = at; symbol = name_number names name; relative = relative } ∷ []
 
 -- the name is defined at this place
 abbrev pub defined_at : List (List ℕ) → List Definition → List ℕ → Place → ℕ → List Definition

@@ -3,7 +3,7 @@
 ghost use Rattle.std.specs.Prelude.{◌≡◌, ◌≤◌, ◌^◌, ◌<◌, IfSome};
 ghost use Rattle.std.specs.Option.{option_copied};
 ghost use Rattle.asm_source.specs.Names.{symbol_in};
-ghost use Rattle.afterburner.specs.Arguments.{number_in, text_in, count_of, count_in, count_at, text_at, symbol_at, limit_of, limit_at, alignment, power};
+ghost use Rattle.afterburner.specs.Arguments.{number_in, text_in, count_of, count_at, text_at, symbol_at, limit_of, limit_at, alignment, power};
 
 use asm_source::{Argument, Form, Name, Value};
 

@@ -130,7 +130,7 @@ impl Assembly {
     pub fn zeros(&mut self, count: u64) -> Result<(), ItemFault>
         requires size { count < 2 ^ 63 }
         requires room { length self.old.init + self.old.bss < 2 ^ 62 }
-        ensures { Makes self.new result (spec.zeros self.old count) }
+        ensures { Makes self.new result (spec.zeros_in self.old self.old.section count) }
     {
         match self.section {
             Section::Text => return Err(ItemFault::Cause(BurnCause::DataInText)),

@@ -1,5 +1,7 @@
 //! The directives by what they do.
 
+ghost use Rattle.std.specs.Option.{unwrap_or};
+ghost use Rattle.afterburner.specs.Arguments.{alignment};
 ghost use Rattle.std.specs.Prelude.{◌≡◌, ◌≤◌, ◌<◌, ◌+◌, ◌*◌, ◌^◌, length};
 ghost use Rattle.afterburner.specs.Answers.{Makes};
 ghost use Rattle.afterburner.specs.Directives as spec;
@@ -23,7 +25,7 @@ pub fn directive_of(name: &[u8]) -> DirectiveName
 }
 
 fn common_alignment(count: Option<u64>) -> usize
-    ensures value { result ≡ spec.common_alignment count }
+    ensures value { result ≡ alignment (unwrap_or count 1) }
     ensures some { 1 ≤ result }
     ensures most { result ≤ 4096 }
 {

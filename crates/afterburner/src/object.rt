@@ -3,6 +3,7 @@
 ghost use Rattle.std.specs.Prelude.{◌≡◌, ◌≤◌, ◌<◌, ◌+◌, ◌++◌, ◌^◌, ◌∷◌, [], length, map, filter, false, count_by, All, OnOk, IfOk, if◌then◌else◌};
 ghost use Rattle.std.specs.List.{range_with_len};
 ghost use Rattle.sites.specs.Form.{AreSites, AreGapped};
+ghost use Rattle.afterburner.specs.Tables.{with_number};
 ghost use Rattle.afterburner.specs.Objects as spec;
 ghost use Rattle.elf_form.specs.declared.object.Reloc.{Reloc};
 
@@ -139,7 +140,7 @@ fn ordered_numbers(alloc: Global, definitions: &[Definition]) -> Result<Vec<u32>
 /// Adds relocations, with the number of a symbol in place of that of its name.
 fn put_relocs(out: &mut Vec<Reloc>, numbers: &[u32], relocs: &[Reloc]) -> Result<(), AllocError>
     requires { All (λ (r : Reloc). r.symbol < length numbers.now) relocs.now }
-    ensures { OnOk result (out.new.items ≡ out.old.items ++ map (spec.with_number numbers.now) relocs.now) }
+    ensures { OnOk result (out.new.items ≡ out.old.items ++ map (with_number numbers.now) relocs.now) }
 {
     for reloc in relocs {
         out.push(Reloc {

@@ -105,7 +105,7 @@ impl Assembly {
     /// NOPs in text, zero bytes elsewhere.
     fn fill(&mut self, count: usize) -> Result<(), AllocError>
         requires { self.old.bss + count < 2 ^ 64 }
-        ensures { OnOk result (self.new ≡ spec.filled self.old count) }
+        ensures { OnOk result (self.new ≡ spec.filled_in self.old self.old.section count) }
     {
         match self.section {
             Section::Text => put(&mut self.text, count, 0x90)?,

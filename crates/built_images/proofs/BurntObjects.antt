@@ -1,6 +1,7 @@
 -- The object of a source is padded.
 use Rattle.std.proofs.Common.{◌≡◌, ℕ, zero, suc, ◌+◌, ◌≤◌, Bool, true, false, not, cond, List, [], ◌∷◌, ◌++◌, length, map, Option, Some, None, Result, Ok, Err, refl, sym, ap, subst, ◌∙◌, arith}
 use Rattle.std.specs.Prelude.{replicate, fold, filter, nat_lt}
+use Rattle.std.specs.Option.{unwrap_or}
 use Rattle.std.specs.List.{flat_map, All, AllByRecursion}
 use Rattle.std.proofs.lemmas.Bool.Decides.{nat_tests}
 use Rattle.std.proofs.lemmas.List.{append-nil, map-append}
@@ -35,10 +36,10 @@ use Rattle.ia32_types.specs.declared.size.Size.TheVariants as size
 use Rattle.afterburner.specs.declared.fault.BurnCause.{BurnCause}
 use Rattle.afterburner.specs.declared.fault.BurnCause.TheVariants as cause
 use Rattle.afterburner.specs.ObjectSoFar.{ObjectSoFar, undefined, fresh}
-use Rattle.afterburner.specs.Symbols.{definition_of, defined_at, stronger, with_binding, bound}
+use Rattle.afterburner.specs.Symbols.{reloc_to, definition_of, defined_at, stronger, with_binding, bound}
 use Rattle.afterburner.specs.Arguments.{count_at, text_at, symbol_at, limit_at, alignment, power}
 use Rattle.afterburner.specs.Sections.{is_init, place_of, size_of, here, section_named, entered, filled_in, unless_more, aligned, labelled, defined_in_bss, reserved}
-use Rattle.afterburner.specs.Directives.{directive_of, all_fit, values, in_init, numbers, data_reloc, with_long, longs, string_bytes, strings, zeros_in, common_alignment, common, directed}
+use Rattle.afterburner.specs.Directives.{directive_of, all_fit, values, in_init, numbers, with_long, longs, string_bytes, strings, zeros_in, common, directed}
 use Rattle.afterburner.specs.Objects.{value_at, symbol, symbols_seen, are, ordered, renumbered, object}
 use Rattle.afterburner.specs.Burnt.{parted, made, limited, then_limited, item_made, Fault, at_line, next_made, all_made, finished, burnt}
 use Rattle.built_images.specs.Chunks.{Coded, Chunk, Alone, Pair, AreChunks, padding, chunk_text, chunks_text, chunk_site, chunk_sites}
@@ -118,7 +119,7 @@ module _ (Plain : Type 0) where
 
   -- ---- data
 
-  data_reloc_is : (names : List (List ℕ)) (at : ℕ) (name : Option (List ℕ)) → All (λ (r : Reloc). r.in_text ≡ false) (data_reloc names at name)
+  data_reloc_is : (names : List (List ℕ)) (at : ℕ) (name : Option (List ℕ)) → All (λ (r : Reloc). r.in_text ≡ false) (reloc_to names false at false name)
   data_reloc_is names at None = All-nil (λ (r : Reloc). r.in_text ≡ false)
   data_reloc_is names at (Some name) = All-cons (λ (r : Reloc). r.in_text ≡ false) (record { in_text = false; at = at; symbol = name_number names name; relative = false }) [] refl (All-nil (λ (r : Reloc). r.in_text ≡ false))
 
@@ -127,7 +128,7 @@ module _ (Plain : Type 0) where
   longs_made names st cs (a ∷ args) e h =
       longs_made names (with_long names st a) cs args e
       (same_made Plain st (with_long names st a) cs h (record { text = refl; sites = refl; relocs = refl; no_sti = e })
-      (All-append (λ (r : Reloc). r.in_text ≡ false) st.data_relocs (data_reloc names (length st.init) (symbol_in a.form)) h.in_data (data_reloc_is names (length st.init) (symbol_in a.form))) h.labels)
+      (All-append (λ (r : Reloc). r.in_text ≡ false) st.data_relocs (reloc_to names false (length st.init) false (symbol_in a.form)) h.in_data (data_reloc_is names (length st.init) (symbol_in a.form))) h.labels)
 
   in_init_made : (st next new : ObjectSoFar) (cs : List Chunk) → IsMade Plain next cs → in_init st next ≡ Ok new → Made Plain new
   in_init_made st next new cs h e = (cs, subst (λ (x : ObjectSoFar). IsMade Plain x cs) (or_ok (is_init st.section) cause.DataInText next new e) h)
@@ -163,8 +164,8 @@ module _ (Plain : Type 0) where
   common_made : (names : List (List ℕ)) (st : ObjectSoFar) (cs : List Chunk) (args : List Argument) → st.after_sti ≡ false → IsMade Plain st cs → IsMade Plain (common names st args) cs
   unfolding common
   common_made names st cs args e h =
-      let r = reserved_made names st cs (symbol_at args 0) (count_at args 1) (common_alignment (limit_at args 2)) e h in
-      bound_made names (reserved names st (symbol_at args 0) (count_at args 1) (common_alignment (limit_at args 2))) cs (symbol_at args 0) binding.Common r.1 r.0
+      let r = reserved_made names st cs (symbol_at args 0) (count_at args 1) (alignment (unwrap_or (limit_at args 2) 1)) e h in
+      bound_made names (reserved names st (symbol_at args 0) (count_at args 1) (alignment (unwrap_or (limit_at args 2) 1))) cs (symbol_at args 0) binding.Common r.1 r.0
 
   directed_made : (names : List (List ℕ)) (st new : ObjectSoFar) (cs : List Chunk) (d : DirectiveName) (args : List Argument) → st.after_sti ≡ false → IsMade Plain st cs → directed names st d args ≡ Ok new → Made Plain new
   unfolding directed

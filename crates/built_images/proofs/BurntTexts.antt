@@ -21,6 +21,7 @@ use Rattle.asm_instruction.specs.declared.assembled.Named.{Named}
 use Rattle.asm_instruction.specs.declared.assembled.Refusal.{Refusal}
 use Rattle.asm_instruction.specs.Assembled.{assembled}
 use Rattle.asm_instruction.specs.Right.{spelling_bytes}
+use Rattle.afterburner.specs.Symbols.{reloc_to}
 use Rattle.afterburner.specs.declared.symbol.Definition.{Definition}
 use Rattle.afterburner.specs.declared.fault.BurnCause.{BurnCause}
 use Rattle.afterburner.specs.declared.fault.BurnCause.TheVariants as cause
@@ -30,7 +31,7 @@ use Rattle.ia32_types.specs.declared.size.Size.TheVariants as size
 use Rattle.asm_instruction.specs.Field.{field}
 use Rattle.asm_instruction.specs.Control.{distance}
 use Rattle.afterburner.specs.Sections.{is_text}
-use Rattle.afterburner.specs.Instructions.{nops, nops_behind, site_at, reloc_of, field_reloc, is_sti, is_hlt, added, pair_site, no_site, paired, placed, in_text, instruction}
+use Rattle.afterburner.specs.Instructions.{nops, nops_behind, site_at, field_reloc, is_sti, is_hlt, added, pair_site, no_site, paired, placed, in_text, instruction}
 use Rattle.built_images.specs.Chunks.{Coded, insn_in, Chunk, Alone, Pair, IsChunk, AreChunks, padding, chunk_text, chunks_text, chunk_site, chunk_sites}
 use Rattle.built_images.specs.Filled.{IsField, HasFields, HaveFields, reloc_later, chunk_relocs, chunks_relocs}
 use Rattle.built_images.specs.Padded.{IsEdge, IsLinkedBranch, IsAlone, AreAlone}
@@ -171,7 +172,7 @@ module _ (Plain : Type 0) where
 
   -- ---- an instruction
 
-  reloc_same : (names : List (List ℕ)) (at : ℕ) (f : Named) (name : Option (List ℕ)) → map (reloc_later at) (reloc_of names 0 f name) ≡ reloc_of names at f name
+  reloc_same : (names : List (List ℕ)) (at : ℕ) (f : Named) (name : Option (List ℕ)) → map (reloc_later at) (reloc_to names true (0 + f.at) f.relative name) ≡ reloc_to names true (at + f.at) f.relative name
   reloc_same names at f None = refl
   reloc_same names at f (Some name) = let e : at + (0 + f.at) ≡ at + f.at = omega arith in ap (λ (n : ℕ). record { in_text = true; at = n; symbol = name_number names name; relative = f.relative } ∷ []) e
 
@@ -179,7 +180,7 @@ module _ (Plain : Type 0) where
   field_same names at args None = refl
   field_same names at args (Some f) = reloc_same names at f (symbol_at args f.argument)
 
-  reloc_in_text : (names : List (List ℕ)) (at : ℕ) (f : Named) (name : Option (List ℕ)) → All (λ (r : Reloc). r.in_text ≡ true) (reloc_of names at f name)
+  reloc_in_text : (names : List (List ℕ)) (at : ℕ) (f : Named) (name : Option (List ℕ)) → All (λ (r : Reloc). r.in_text ≡ true) (reloc_to names true (at + f.at) f.relative name)
   reloc_in_text names at f None = All-nil (λ (r : Reloc). r.in_text ≡ true)
   reloc_in_text names at f (Some name) = All-cons (λ (r : Reloc). r.in_text ≡ true) _ [] refl (All-nil (λ (r : Reloc). r.in_text ≡ true))
 
@@ -194,7 +195,7 @@ module _ (Plain : Type 0) where
   abbrev made_coded : List (List ℕ) → (args : List Argument) (a : Assembled) → IsFielded args a → Coded
   made_coded names args a f = record { row = f.row; parts = f.parts; bytes = spelling_bytes a; relocs = local_relocs names args a }
 
-  of_field : (P : ℕ → Type 0) (names : List (List ℕ)) (f : Named) (name : Option (List ℕ)) → P (0 + f.at) → AllByRecursion (λ (r : Reloc). P r.at) (reloc_of names 0 f name)
+  of_field : (P : ℕ → Type 0) (names : List (List ℕ)) (f : Named) (name : Option (List ℕ)) → P (0 + f.at) → AllByRecursion (λ (r : Reloc). P r.at) (reloc_to names true (0 + f.at) f.relative name)
   of_field P names f None h = tt
   of_field P names f (Some name) h = (h, tt)
 
@@ -218,7 +219,7 @@ module _ (Plain : Type 0) where
   row_op c = refl
 
   symbol_got : (args : List Argument) (k : ℕ) (a : Argument) (name : List ℕ) → slice_get args k ≡ Some a → symbol_in a.form ≡ Some name → symbol_at args k ≡ Some name
-  symbol_got args k a name e f = ap Rattle.afterburner.specs.Arguments.symbol_of e ∙ f
+  symbol_got args k a name e f = ap (λ (o : Option Argument). symbol_in (Rattle.afterburner.specs.Arguments.form_of o)) e ∙ f
 
   coded_branch : (names : List (List ℕ)) (args : List Argument) (a : Assembled) (f : IsFielded args a) → IsLinkedBranch (Alone (made_coded names args a f))
   coded_branch names args a f = λ branch.
@@ -233,7 +234,7 @@ module _ (Plain : Type 0) where
         one =
             ap (λ x. field_reloc names 0 args x ++ field_reloc names 0 args a.imm) b.no_disp
             ∙ ap (field_reloc names 0 args) b.imm
-            ∙ ap (reloc_of names 0 b.field) (symbol_got args b.field.argument b.argument b.name b.there b.named);
+            ∙ ap (reloc_to names true (0 + b.field.at) b.field.relative) (symbol_got args b.field.argument b.argument b.name b.there b.named);
         in_text = refl;
         relative = b.relative;
         long = i.0;

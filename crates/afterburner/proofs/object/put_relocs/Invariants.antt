@@ -1,6 +1,6 @@
 use Rattle.std.proofs.Common.{◌≡◌, ◌++◌, take}
 use Rattle.std.specs.Prelude.{map}
-use Rattle.afterburner.specs.Objects.{with_number}
+use Rattle.afterburner.specs.Tables.{with_number}
 use Rattle.afterburner.proofs.object.put_relocs.Given as goal
 
 abbrev pub invariant-loop-reloc : goal.invariant-loop-reloc
