@@ -8,7 +8,9 @@ use Rattle.elf_form.specs.declared.cause.ElfCause.TheVariants.{SectionForm}
 use Rattle.elf_form.specs.declared.segments.Found.{Found}
 use Rattle.elf_form.specs.declared.segments.Found.TheVariants.{Nothing, One, Two, More}
 use Rattle.elf_form.specs.ImageParts.{ImageParts}
-use Rattle.elf_form.specs.Faults.{Fault, IsFirstOf, causes, Gives}
+use Rattle.elf_form.specs.Faults.{Fault, causes}
+use Rattle.elf_form.specs.Order.{IsFirstOf}
+use Rattle.elf_form.specs.Answers.{Gives}
 use Rattle.elf_form.specs.Tables.{found, first_of, second_of}
 use Rattle.elf_form.specs.Header.{headers, sections}
 use Rattle.elf_form.specs.Segments.{is_load, loads, order}

@@ -17,10 +17,10 @@ use Rattle.elf_form.specs.declared.symbols.RelocTest.{RelocTest}
 use Rattle.elf_form.specs.declared.symbols.RelocTest.TheVariants.{Named, Form}
 use Rattle.elf_form.specs.Tables.{entries, found}
 use Rattle.elf_form.specs.Header.{section_table, section_count, sections}
-use Rattle.elf_form.specs.Sections.{names, nameless}
+use Rattle.elf_form.specs.Sections.{names, nameless, is_unnamed, has_strings}
 use Rattle.elf_form.specs.Roles.{role_number, has_role, with_role, is_kept}
-use Rattle.elf_form.specs.Symbols.{table_at, symbols_of, binding, is_file, has_binding, has_place, symbol_fault, target_role, is_reloc_section, is_reloc_section_of, relocs_in, relocs_of, is_linked, section_test, sections_fault, is_unnamed, symbol_test, symbols_fault, has_symbol, symbol_of, is_outside, has_kind, names_none, reloc_test, relocs_fault}
-use Rattle.elf_form.specs.ObjectReading.{has_strings, table_of, link_of, strings_of, section_names_fault, symbol_names_fault, string_places, kept_relocs, symbol_form, reloc_form}
+use Rattle.elf_form.specs.Symbols.{table_at, symbols_of, binding, is_file, has_binding, has_place, symbol_fault, target_role, is_reloc_section, is_reloc_section_of, relocs_in, relocs_of, is_linked, section_test, sections_fault, symbol_test, symbols_fault, has_symbol, symbol_of, is_outside, has_kind, names_none, reloc_test, relocs_fault}
+use Rattle.elf_form.specs.ObjectReading.{table_of, link_of, strings_of, section_names_fault, symbol_names_fault, string_places, kept_relocs, symbol_form, reloc_form}
 use Rattle.elf_form.specs.Reasons.{IsOf, IsSymbolTable, IsRelocs, IsNameless, IsBadName, IsReloc, IsNeeded, IsBadSymbol, IsBadReloc}
 use Rattle.elf_form.proofs.Lowest.{some, has_first, has_later, first_or_later, has_none, Finds, finds_so, so_finds, finds_as, finds_at, finds_lower, finds_else, finds_bad, finds_not, finds_if, finds_some, finds_fold}
 use Rattle.elf_form.proofs.BadSections.{role_is, is_role, nameless_finds}

@@ -1,6 +1,6 @@
 -- The first cause of a list by which a file is wrong, by its place in the list.
 use Rattle.std.proofs.Common.{◌≡◌, ℕ, zero, suc, ◌<◌, List, [], ◌∷◌, Option, Some, None, refl, sym, ap, ◌∙◌, inl, inr, slice_get, arith}
-use Rattle.elf_form.specs.Faults.{IsFirstOf}
+use Rattle.elf_form.specs.Order.{IsFirstOf}
 
 module _ (C : Type 0) (wrong : C → Option ℕ) where
   pub record FirstIn (cs : List C) (at : ℕ) (cause : C) : Type 0 where

@@ -22,20 +22,23 @@ use Rattle.elf_form.specs.declared.symbols.RelocTest.TheVariants.{Named, Form}
 use Rattle.elf_form.specs.declared.symbols.Table.{Table}
 use Rattle.elf_form.specs.ObjectParts.{ObjectParts}
 use Rattle.elf_form.specs.Tables.{entries, found}
-use Rattle.elf_form.specs.Header.{header_table, section_table, section_count, sections, passes, has_contents, part_begins, header_cut, header_table_cut, section_table_cut, header_part_cut, section_part_cut, cut}
+use Rattle.elf_form.specs.Header.{header_table, section_table, section_count, sections, passes, has_contents, cut}
+use Rattle.elf_form.specs.Cut.{part_begins, header_cut, header_table_cut, section_table_cut, header_part_cut, section_part_cut, cut_in_turn}
 use Rattle.elf_form.specs.Whole.{IsSection, IsWhole}
-use Rattle.elf_form.specs.Sections.{contents, is_index, names, is_null, is_sites}
+use Rattle.elf_form.specs.Sections.{contents, is_index, names, is_null, is_sites, section_of}
 use Rattle.elf_form.specs.Output.{pad}
 use Rattle.elf_form.specs.Roles.{role as role_of, role_number, has_role, with_role, size, alignment, up, starts, with_section, joined}
-use Rattle.elf_form.specs.ObjectReading.{table_of, strings_of, kept_relocs, second_field, text_in, sites_in, object_at, symbol_form, reloc_form, object_form, object_sizes, wrong_object, ObjectAs, object_in}
+use Rattle.elf_form.specs.ObjectReading.{table_of, strings_of, kept_relocs, second_field, text_in, sites_in, object_at, symbol_form, reloc_form, object_form, object_sizes, wrong_object, object_in}
+use Rattle.elf_form.specs.Accepted.{ObjectAs}
 use Rattle.elf_form.specs.declared.cause.ElfFault.{ElfFault}
-use Rattle.elf_form.specs.Faults.{Gives}
+use Rattle.elf_form.specs.Answers.{Gives}
 use Rattle.elf_form.proofs.ObjectAcceptance.{if_read}
 use Rattle.elf_form.proofs.WholeLaws.{section_at}
 use Rattle.elf_form.specs.Linkable.{IsLinkable}
-use Rattle.elf_form.specs.Symbols.{symbols_of, section_of, role_at, is_listed, is_file, has_binding, has_place, symbol_fault, target, target_role, is_reloc_section_of, entry, relocs_in, relocs_of, size_at, is_outside, named_symbol, has_symbol, symbol_of, has_kind, names_none, named_fault, form_fault, reloc_test, relocs_fault, start_in, start_at, numbers, reloc_at, symbol_at, symbols_in}
+use Rattle.elf_form.specs.Symbols.{symbols_of, role_at, is_listed, is_file, has_binding, has_place, symbol_fault, target, target_role, is_reloc_section_of, entry, relocs_in, relocs_of, size_at, is_outside, named_symbol, has_symbol, symbol_of, has_kind, names_none, named_fault, form_fault, reloc_test, relocs_fault, start_in, start_at, numbers, reloc_at, symbol_at, symbols_in}
 use Rattle.elf_form.proofs.EachEntry.{Each, each_append, each_map, each_both, each_all, fold_none}
 use Rattle.elf_form.proofs.FormLaws.{then_none, else_none, lower_none}
+use Rattle.elf_form.proofs.OrderLaws.{cut_met}
 
 -- ---- entries of a table
 
@@ -135,9 +138,9 @@ part_none bytes field None h = refl
 part_none bytes field (Some e) h = cc
 
 whole : (bytes : List ℕ) → cut bytes ≡ None → IsWhole bytes
-unfolding cut
+unfolding cut_in_turn
 whole bytes h =
-    let a = else_none (header_cut bytes) _ h in
+    let a = else_none (header_cut bytes) _ (sym (cut_met bytes) ∙ h) in
     let b = else_none (header_table_cut bytes) _ a.1 in
     let c = else_none (section_table_cut bytes) _ b.1 in
     let d = else_none (header_part_cut bytes) (section_part_cut bytes) c.1 in

@@ -5,8 +5,11 @@ use Rattle.elf_form.specs.declared.cause.ElfFault.{ElfFault}
 use Rattle.elf_form.specs.declared.cause.ElfFault.TheVariants as faults
 use Rattle.elf_form.specs.declared.cause.ElfCause.{ElfCause}
 use Rattle.elf_form.specs.ObjectParts.{ObjectParts}
-use Rattle.elf_form.specs.Faults.{Fault, IsFirstOf, causes, Gives}
-use Rattle.elf_form.specs.ObjectReading.{object_at, object_in, wrong_object, ObjectAs}
+use Rattle.elf_form.specs.Faults.{Fault, causes}
+use Rattle.elf_form.specs.Order.{IsFirstOf}
+use Rattle.elf_form.specs.Answers.{Gives}
+use Rattle.elf_form.specs.ObjectReading.{object_at, object_in, wrong_object}
+use Rattle.elf_form.specs.Accepted.{ObjectAs}
 use Rattle.elf_form.proofs.TestLaws.{tested-err, first_tested, tested-ok, sound_tested}
 
 read_as : (bytes : List ℕ) (object : ObjectParts) → object_in bytes ≡ Ok object → ObjectAs bytes object

@@ -12,16 +12,18 @@ use Rattle.elf_form.specs.declared.symbols.SectionTest.TheVariants.{EntrySizes, 
 use Rattle.elf_form.specs.ObjectParts.{ObjectParts}
 use Rattle.elf_form.specs.Output.{pad}
 use Rattle.elf_form.specs.Tables.{found, first_some, further}
-use Rattle.elf_form.specs.Header.{passes, header_passes, section_passes, header_table, section_table, header_count, section_count, part_begins, header_cut, header_table_cut, section_table_cut, header_part_cut, section_part_cut, cut}
-use Rattle.elf_form.specs.Sections.{is_nameless, is_compressed, compressed, nameless}
+use Rattle.elf_form.specs.Header.{passes, header_table, section_table, header_count, section_count, cut}
+use Rattle.elf_form.specs.Cut.{header_passes, section_passes, part_begins, header_cut, header_table_cut, section_table_cut, header_part_cut, section_part_cut, cut_in_turn}
+use Rattle.elf_form.specs.Sections.{is_nameless, is_compressed, compressed, nameless, has_strings}
 use Rattle.elf_form.specs.Roles.{with_role, is_misaligned, misaligned, joined_fault}
 use Rattle.elf_form.specs.Symbols.{section_test, sections_fault}
-use Rattle.elf_form.specs.ObjectReading.{has_strings, table_of, link_of, table_fault, inner_sizes, object_sizes, object_form, section_names_fault}
+use Rattle.elf_form.specs.ObjectReading.{table_of, link_of, table_fault, inner_sizes, object_sizes, object_form, section_names_fault}
 use Rattle.elf_form.specs.ObjectLayout.{layout, is_of, object_names}
 use Rattle.elf_form.proofs.FileWords.{IsRow}
 use Rattle.elf_form.proofs.RoundTrip.{bss_stays}
 use Rattle.elf_form.proofs.ObjectFile.{IsFileOf}
 use Rattle.elf_form.proofs.ObjectSections.{rows, headers-are, sections-are, names-are, HasRoles, with-role, table-is, text_target, data_target, role_at-symbols}
+use Rattle.elf_form.proofs.OrderLaws.{cut_met}
 
 -- ---- no part passes the end
 
@@ -33,7 +35,7 @@ stays : (f : List ℕ) (s n k g o z : ℕ) → IsRow f s n k g o z → o + z ≤
 stays f s n k g o z row le = rw (row.offset, row.size) (and_right _ _ (le-ltb (length f) (o + z) le))
 
 pub not_cut : (f : List ℕ) (o : ObjectParts) → IsFileOf f o → cut f ≡ None
-unfolding cut
+unfolding cut_in_turn
 not_cut f o is =
     let at = is.at in
     let s = (layout o).sections in
@@ -43,7 +45,7 @@ not_cut f o is =
     let d : header_part_cut f ≡ None = ap (part_begins f 4) (ap (find (header_passes f)) (headers-are f o is)) in
     let e : section_part_cut f ≡ None = ap (part_begins f 16) (ap (find (section_passes f)) (sections-are f o is)
     ∙ none_of_ten (section_passes f) s (stays f _ _ _ _ _ _ is.null (omega arith)) (stays f _ _ _ _ _ _ is.text (omega arith)) (stays f _ _ _ _ _ _ is.init (omega arith)) (bss_stays f _ _ _ _ _ is.bss) (stays f _ _ _ _ _ _ is.sites (omega arith)) (stays f _ _ _ _ _ _ is.text_relocs (omega arith)) (stays f _ _ _ _ _ _ is.data_relocs (omega arith)) (stays f _ _ _ _ _ _ is.symbols (omega arith)) (stays f _ _ _ _ _ _ is.strings (omega arith)) (stays f _ _ _ _ _ _ is.names (omega arith))) in
-    neither (header_cut f) (option_or (header_table_cut f) (option_or (section_table_cut f) (option_or (header_part_cut f) (section_part_cut f)))) a (neither (header_table_cut f) (option_or (section_table_cut f) (option_or (header_part_cut f) (section_part_cut f))) b (neither (section_table_cut f) (option_or (header_part_cut f) (section_part_cut f)) c (neither (header_part_cut f) (section_part_cut f) d e)))
+    cut_met f ∙ neither (header_cut f) (option_or (header_table_cut f) (option_or (section_table_cut f) (option_or (header_part_cut f) (section_part_cut f)))) a (neither (header_table_cut f) (option_or (section_table_cut f) (option_or (header_part_cut f) (section_part_cut f))) b (neither (section_table_cut f) (option_or (header_part_cut f) (section_part_cut f)) c (neither (header_part_cut f) (section_part_cut f) d e)))
 
 -- ---- sizes
 

@@ -15,7 +15,8 @@ use Rattle.elf_form.specs.ObjectParts.{ObjectParts}
 use Rattle.elf_form.specs.Faults.{tested}
 use Rattle.elf_form.specs.Tables.{entries, found}
 use Rattle.elf_form.specs.Roles.{role_number}
-use Rattle.elf_form.specs.Symbols.{is_file, symbols_of, has_binding, has_place, is_listed, symbol_fault, global_fault, target, target_role, entry, named_symbol, has_symbol, symbol_of, size_at, named_fault, form_fault, is_unnamed, symbols_fault, reloc_test, relocs_fault, relocs_of, start_at, symbol_at, symbols_in, numbers, reloc_at}
+use Rattle.elf_form.specs.Symbols.{is_file, symbols_of, has_binding, has_place, is_listed, symbol_fault, global_fault, target, target_role, entry, named_symbol, has_symbol, symbol_of, size_at, named_fault, form_fault, symbols_fault, reloc_test, relocs_fault, relocs_of, start_at, symbol_at, symbols_in, numbers, reloc_at}
+use Rattle.elf_form.specs.Sections.{is_unnamed}
 use Rattle.elf_form.specs.ObjectReading.{table_of, strings_of, string_places, kept_relocs, symbol_form, reloc_form, object_at, wrong_object, object_in}
 use Rattle.elf_form.specs.ObjectLayout.{layout, names_of, strings_of as names_table, is_of, place_number, object_names, object_bytes}
 use Rattle.elf_form.specs.Writable.{IsWholeObject, HasValues}

@@ -12,10 +12,10 @@ use Rattle.elf_form.specs.declared.object.Place.TheVariants as place
 use Rattle.elf_form.specs.ObjectParts.{ObjectParts}
 use Rattle.elf_form.specs.Tables.{entries, found}
 use Rattle.elf_form.specs.Header.{headers, sections}
-use Rattle.elf_form.specs.Sections.{contents, names}
+use Rattle.elf_form.specs.Sections.{contents, names, strings_in}
 use Rattle.elf_form.specs.Roles.{role as role_of, role_number, is_kept, has_role, with_role, alignment, size, up, starts, joined_end, joined, with_section}
 use Rattle.elf_form.specs.Symbols.{table_at, place_by, target_role, role_at, is_reloc_section_of, entry, relocs_in, relocs_of, start_at}
-use Rattle.elf_form.specs.ObjectReading.{strings_in, table_of, strings_of}
+use Rattle.elf_form.specs.ObjectReading.{table_of, strings_of}
 use Rattle.elf_form.specs.ObjectLayout.{layout, strings_of as names_table, is_of, place_number, object_names, symbol_table, reloc_table}
 use Rattle.elf_form.proofs.ObjectBounds.{length-symbols, length-relocs}
 use Rattle.elf_form.proofs.ObjectFile.{IsFileOf}
@@ -47,7 +47,7 @@ module _ (f : List ℕ) (o : ObjectParts) (is : IsFileOf f o) where
   sections-are = rw (is.header.sections, is.header.section_count) (ten_rows (layout o).sections)
 
   pub names-are : names f ≡ object_names
-  unfolding names contents
+  unfolding names strings_in contents
   names-are = rw (is.header.names, is.header.section_count, is.header.sections) (rw is.names.kind (rw (is.names.offset, is.names.size) is.names_are))
 
 -- ---- what each is read as

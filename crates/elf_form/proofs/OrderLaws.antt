@@ -1,13 +1,14 @@
 -- The first part that passes the end.
 use Rattle.std.specs.List.{Contains, find}
 use Rattle.std.proofs.Common.{◌≡◌, ℕ, zero, suc, ◌+◌, ◌*◌, ◌<◌, ◌≤◌, Bool, true, false, ◌&&◌, cond, List, [], ◌∷◌, ◌++◌, length, map, filter, nat_lt, Option, Some, None, refl, sym, ap, ◌∙◌, inl, inr, subst, slice_get, arith}
-use Rattle.std.specs.Prelude.{◌↔◌}
+use Rattle.std.specs.Prelude.{◌↔◌, option_map}
 use Rattle.std.specs.Bool.{then_some}
 use Rattle.std.specs.Option.{option_or}
 use Rattle.std.proofs.lemmas.Bool.{cases_lt, le-ltb, lt-ltb}
 use Rattle.guest_ram.specs.Bytes.{word32}
-use Rattle.elf_form.specs.Header.{header_table, section_table, header_count, section_count, headers, sections, passes, has_contents, header_passes, section_passes, part_begins, cut}
-use Rattle.elf_form.specs.Order.{named_by_header, named_by_section, named_parts, IsPast, IsFirstPast}
+use Rattle.elf_form.specs.Header.{header_table, section_table, header_count, section_count, headers, sections, passes, has_contents, cut, named_by_header, named_by_section, named_parts}
+use Rattle.elf_form.specs.Cut.{header_passes, section_passes, part_begins, cut_in_turn}
+use Rattle.elf_form.specs.Order.{IsPast, IsFirstPast}
 use Rattle.elf_form.proofs.Lowest.{some, has_first, has_later, first_or_later, has_none}
 
 -- where the first of some parts begins that passes the end
@@ -21,6 +22,14 @@ one_more size p ps = by (nat_lt size (p.0 + p.1)) where
   by : (b : Bool) → cond b (Some p.0) (past_in size ps) ≡ option_or (then_some b p.0) (past_in size ps)
   by true = refl
   by false = refl
+
+past_found : (size : ℕ) (ps : List (ℕ × ℕ)) → past_in size ps ≡ option_map (λ p. p.0) (find (λ p. nat_lt size (p.0 + p.1)) ps)
+unfolding past_in
+past_found size [] = refl
+past_found size (p ∷ ps) = by (nat_lt size (p.0 + p.1)) (past_found size ps) where
+  by : (b : Bool) → past_in size ps ≡ option_map (λ q. q.0) (find (λ q. nat_lt size (q.0 + q.1)) ps) → cond b (Some p.0) (past_in size ps) ≡ option_map (λ q. q.0) (cond b (Some p) (find (λ q. nat_lt size (q.0 + q.1)) ps))
+  by true e = refl
+  by false e = e
 
 else_nothing : (a : Option ℕ) → option_or a None ≡ a
 else_nothing None = refl
@@ -54,9 +63,9 @@ module _ (bytes : List ℕ) where
       both true is = rw is refl
       both false is = rw is e
 
-  cut_past : cut bytes ≡ past_in (length bytes) (named_parts bytes)
-  unfolding cut
-  cut_past =
+  turns_past : cut_in_turn bytes ≡ past_in (length bytes) (named_parts bytes)
+  unfolding cut_in_turn
+  turns_past =
       sym (
       one_more (length bytes) (0, 52) _
       ∙ ap (λ (o : Option ℕ). option_or (then_some (passes bytes 0 52) 0) o) (
@@ -67,6 +76,14 @@ module _ (bytes : List ℕ) where
       past_append (length bytes) (map (named_by_header bytes) (headers bytes)) (map (named_by_section bytes) (filter (has_contents bytes) (sections bytes)))
       ∙ ap (λ (o : Option ℕ). option_or o (past_in (length bytes) (map (named_by_section bytes) (filter (has_contents bytes) (sections bytes))))) (sym (headers_past (headers bytes)))
       ∙ ap (λ (o : Option ℕ). option_or (part_begins bytes 4 (find (header_passes bytes) (headers bytes))) o) (sym (sections_past (sections bytes)))))))
+
+  cut_past : cut bytes ≡ past_in (length bytes) (named_parts bytes)
+  unfolding cut
+  cut_past = sym (past_found (length bytes) (named_parts bytes))
+
+  -- The first of the parts is that which is met first, one table after the other.
+  pub cut_met : cut bytes ≡ cut_in_turn bytes
+  cut_met = cut_past ∙ sym turns_past
 
 module _ (size : ℕ) where
   past_so : (parts : List (ℕ × ℕ)) (at : ℕ) → past_in size parts ≡ Some at → IsFirstPast size parts at

@@ -10,14 +10,15 @@ use Rattle.elf_form.specs.declared.cause.ElfFault.{ElfFault}
 use Rattle.elf_form.specs.declared.cause.ElfFault.TheVariants as faults
 use Rattle.elf_form.specs.ImageParts.{ImageParts}
 use Rattle.elf_form.specs.ObjectParts.{ObjectParts}
-use Rattle.elf_form.specs.Faults.{Fault, IsFirstOf, causes, Gives}
+use Rattle.elf_form.specs.Faults.{Fault, causes, ◌or_lower◌}
+use Rattle.elf_form.specs.Order.{IsFirstOf, IsPast, IsFirstPast, IsLowest, HasPlace, IsRefused}
+use Rattle.elf_form.specs.Header.{named_parts, cut, wrong_file}
+use Rattle.elf_form.specs.Answers.{Gives}
 use Rattle.elf_form.specs.Tables.{found}
-use Rattle.elf_form.specs.Header.{cut, magic, class, encoding, version, file_type, machine, wrong_file}
 use Rattle.elf_form.specs.Segments.{loads, is_executable, order}
 use Rattle.elf_form.specs.Sections.{one_of, sites_sections}
 use Rattle.elf_form.specs.Reading.{section_form, wrong_in_image, wrong_image, image_in}
 use Rattle.elf_form.specs.ObjectReading.{object_in, wrong_in_object, wrong_object}
-use Rattle.elf_form.specs.Order.{named_parts, IsPast, IsFirstPast, IsLowest, HasPlace, IsRefused}
 use Rattle.elf_form.specs.Reasons.{loaded, AreTwo, IsBadPart, IsBadVersion, IsBadFile, IsBadInObject, IsBadInImage, IsBadObject, IsBadImage, IsRefusedObject, IsRefusedImage, no_object, no_image}
 use Rattle.elf_form.proofs.OrderLaws.{cut_exact, cut_none}
 use Rattle.elf_form.proofs.Lowest.{Finds, finds_so, so_finds, finds_none, none_finds, finds_as, finds_lower, finds_field}
@@ -83,7 +84,7 @@ module _ (bytes : List ℕ) where
   unfolding section_form
   section_form_finds = finds_as (section_form bytes) PartAt (IsBadPart bytes) part_to part_from (finds_lower (order bytes (loads bytes)) (one_of (sites_sections bytes)) NotTwo (SitesPart bytes) order_finds (sites_finds bytes))
 
-  version_finds : Finds (version bytes) (IsBadVersion bytes)
+  version_finds : Finds (then_some (not (byte bytes 6 == 1)) 6 or_lower then_some (not (word32 bytes 20 == 1)) 20) (IsBadVersion bytes)
   version_finds = finds_lower (then_some (not (byte bytes 6 == 1)) 6) (then_some (not (word32 bytes 20 == 1)) 20) (λ k. (byte bytes 6 ≢ 1) × (k ≡ 6)) (λ k. (word32 bytes 20 ≢ 1) × (k ≡ 20)) (finds_field (byte bytes 6) 1 6) (finds_field (word32 bytes 20) 1 20)
 
 -- ---- all causes
@@ -105,12 +106,12 @@ by_cut bytes = record { exact = cut_exact bytes; none = cut_none bytes }
 file_meets : (wanted : ℕ) (other : ElfCause → Option ℕ) (bad : ElfCause → ℕ → Type 0) (bytes : List ℕ) → ((cause : ElfCause) → Finds (other cause) (bad cause)) → (cause : ElfCause)
     → Meets bytes (wrong_file wanted other bytes cause) (HasPlace (IsBadFile wanted bad bytes) bytes cause) (IsBadFile wanted bad bytes cause)
 file_meets wanted other bad bytes finds Truncated = by_cut bytes
-file_meets wanted other bad bytes finds Magic = by_finding bytes (magic bytes) (IsBadFile wanted bad bytes Magic) (finds_field (word32 bytes 0) 1179403647 0)
-file_meets wanted other bad bytes finds Class = by_finding bytes (class bytes) (IsBadFile wanted bad bytes Class) (finds_field (byte bytes 4) 1 4)
-file_meets wanted other bad bytes finds Encoding = by_finding bytes (encoding bytes) (IsBadFile wanted bad bytes Encoding) (finds_field (byte bytes 5) 1 5)
-file_meets wanted other bad bytes finds Version = by_finding bytes (version bytes) (IsBadFile wanted bad bytes Version) (version_finds bytes)
-file_meets wanted other bad bytes finds FileType = by_finding bytes (file_type wanted bytes) (IsBadFile wanted bad bytes FileType) (finds_field (word16 bytes 16) wanted 16)
-file_meets wanted other bad bytes finds Machine = by_finding bytes (machine bytes) (IsBadFile wanted bad bytes Machine) (finds_field (word16 bytes 18) 3 18)
+file_meets wanted other bad bytes finds Magic = by_finding bytes (wrong_file wanted other bytes Magic) (IsBadFile wanted bad bytes Magic) (finds_field (word32 bytes 0) 1179403647 0)
+file_meets wanted other bad bytes finds Class = by_finding bytes (wrong_file wanted other bytes Class) (IsBadFile wanted bad bytes Class) (finds_field (byte bytes 4) 1 4)
+file_meets wanted other bad bytes finds Encoding = by_finding bytes (wrong_file wanted other bytes Encoding) (IsBadFile wanted bad bytes Encoding) (finds_field (byte bytes 5) 1 5)
+file_meets wanted other bad bytes finds Version = by_finding bytes (wrong_file wanted other bytes Version) (IsBadFile wanted bad bytes Version) (version_finds bytes)
+file_meets wanted other bad bytes finds FileType = by_finding bytes (wrong_file wanted other bytes FileType) (IsBadFile wanted bad bytes FileType) (finds_field (word16 bytes 16) wanted 16)
+file_meets wanted other bad bytes finds Machine = by_finding bytes (wrong_file wanted other bytes Machine) (IsBadFile wanted bad bytes Machine) (finds_field (word16 bytes 18) 3 18)
 file_meets wanted other bad bytes finds Sizes = by_finding bytes (other Sizes) (bad Sizes) (finds Sizes)
 file_meets wanted other bad bytes finds SectionForm = by_finding bytes (other SectionForm) (bad SectionForm) (finds SectionForm)
 file_meets wanted other bad bytes finds Compressed = by_finding bytes (other Compressed) (bad Compressed) (finds Compressed)

@@ -10,13 +10,15 @@ use Rattle.elf_form.specs.declared.segments.Found.TheVariants.{One, Two}
 use Rattle.elf_form.specs.ImageParts.{ImageParts}
 use Rattle.elf_form.specs.Faults.{tested, causes, ◌or_lower◌}
 use Rattle.elf_form.specs.Tables.{entries, found, further}
-use Rattle.elf_form.specs.Header.{headers, sections, passes, header_passes, section_passes, header_table, section_table, header_count, section_count, part_begins, header_cut, header_table_cut, section_table_cut, header_part_cut, section_part_cut, cut}
+use Rattle.elf_form.specs.Header.{headers, sections, passes, header_table, section_table, header_count, section_count, cut}
+use Rattle.elf_form.specs.Cut.{header_passes, section_passes, part_begins, header_cut, header_table_cut, section_table_cut, header_part_cut, section_part_cut, cut_in_turn}
 use Rattle.elf_form.specs.Segments.{is_load, loads, memory_sizes, sizes, order}
-use Rattle.elf_form.specs.Sections.{contents, names, is_sites, is_nameless, is_compressed, sites_sections, compressed, nameless}
+use Rattle.elf_form.specs.Sections.{contents, names, strings_in, is_sites, is_nameless, is_compressed, sites_sections, compressed, nameless}
 use Rattle.elf_form.specs.Reading.{parts_at, section_form, wrong_image, image_at, image_in}
 use Rattle.elf_form.specs.ImageLayout.{init_from, sites_from, names_from, sections_from, section_names, image_bytes}
 use Rattle.elf_form.specs.Writable.{IsWritableImage, HasLongs}
 use Rattle.elf_form.proofs.FileWords.{IsRow, IsProgram, HasHeader, IsLaidOut, laid_out, length-file, header_is, numbers_fit, text_program, init_program, null_row, text_row, data_row, bss_row, sites_row, names_row, text_part, init_part, sites_part, names_part}
+use Rattle.elf_form.proofs.OrderLaws.{cut_met}
 
 -- all that is known of the file f of p
 record IsFileOf (f : List ℕ) (p : ImageParts) : Type 0 where
@@ -110,7 +112,7 @@ program_stays : (f : List ℕ) (h o a z m g : ℕ) → IsProgram f h o a z m g �
 program_stays f h o a z m g row le = rw (row.offset, row.size) (le-ltb (length f) (o + z) le)
 
 not_cut : (f : List ℕ) (p : ImageParts) → IsFileOf f p → cut f ≡ None
-unfolding cut
+unfolding cut_in_turn
 not_cut f p is =
     let at = is.at in
     let s = sections_from p in
@@ -120,7 +122,7 @@ not_cut f p is =
     let d : header_part_cut f ≡ None = ap (part_begins f 4) (ap (find (header_passes f)) (headers-are f p is) ∙ not_first (header_passes f) 52 (84 ∷ []) (program_stays f 52 _ _ _ _ _ is.text (omega arith)) (not_first (header_passes f) 84 [] (program_stays f 84 _ _ _ _ _ is.init (omega arith)) refl)) in
     let e : section_part_cut f ≡ None = ap (part_begins f 16) (ap (find (section_passes f)) (sections-are f p is)
     ∙ none_of_rows (section_passes f) s (null_stays f _ _ _ _ _ is.row0) (bytes_stay f _ _ _ _ _ is.row1 (omega arith)) (bytes_stay f _ _ _ _ _ is.row2 (omega arith)) (bss_stays f _ _ _ _ _ is.row3) (bytes_stay f _ _ _ _ _ is.row4 (omega arith)) (names_stay f _ _ _ _ _ is.row5 (omega arith))) in
-    neither (header_cut f) (option_or (header_table_cut f) (option_or (section_table_cut f) (option_or (header_part_cut f) (section_part_cut f)))) a (neither (header_table_cut f) (option_or (section_table_cut f) (option_or (header_part_cut f) (section_part_cut f))) b (neither (section_table_cut f) (option_or (header_part_cut f) (section_part_cut f)) c (neither (header_part_cut f) (section_part_cut f) d e)))
+    cut_met f ∙ neither (header_cut f) (option_or (header_table_cut f) (option_or (section_table_cut f) (option_or (header_part_cut f) (section_part_cut f)))) a (neither (header_table_cut f) (option_or (section_table_cut f) (option_or (header_part_cut f) (section_part_cut f))) b (neither (section_table_cut f) (option_or (header_part_cut f) (section_part_cut f)) c (neither (header_part_cut f) (section_part_cut f) d e)))
 
 -- ---- program headers
 
@@ -145,7 +147,7 @@ order-none f p is = rw (is.text.flags, is.init.flags) refl
 -- ---- sections
 
 names-are : (f : List ℕ) (p : ImageParts) → IsFileOf f p → names f ≡ section_names
-unfolding names contents
+unfolding names strings_in contents
 names-are f p is = rw (is.header.names, is.header.section_count, is.header.sections) (rw is.names_at.kind (rw (is.names_at.offset, is.names_at.size) is.names_is))
 
 sites-are : (f : List ℕ) (p : ImageParts) → IsFileOf f p → sites_sections f ≡ One (sections_from p + 40 + 40 + 40 + 40)

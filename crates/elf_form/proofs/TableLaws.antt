@@ -6,7 +6,8 @@ use Rattle.std.specs.Option.{option_or}
 use Rattle.std.proofs.lemmas.Bool.{cond-true, cond-false}
 use Rattle.elf_form.specs.declared.segments.Found.{Found}
 use Rattle.elf_form.specs.declared.segments.Found.TheVariants.{Nothing, One, Two, More}
-use Rattle.elf_form.specs.Tables.{entries, found, with_one, first_some}
+use Rattle.elf_form.specs.Tables.{entries, found, first_some}
+use Rattle.elf_form.specs.Finding.{with_one}
 use Rattle.elf_form.specs.Whole.{AllFound}
 
 -- what is left at the entry i, and one further on

@@ -2,8 +2,10 @@
 use Rattle.std.proofs.Common.{◌≡◌, ℕ, List, [], ◌∷◌, ◌++◌, Option, Some, None, Result, Ok, Err, refl, sym, ap, ◌∙◌, inl, inr, ◌⊎◌}
 use Rattle.elf_form.specs.declared.cause.ElfCause.{ElfCause}
 use Rattle.elf_form.specs.declared.cause.ElfCause.TheVariants.{Truncated, Magic, Class, Encoding, Version, FileType, Machine, Sizes, SectionForm, Compressed, StringPlace, SymbolForm, RelocForm}
-use Rattle.elf_form.specs.Faults.{Fault, IsFirstOf, test, tested, and_then, header_causes, section_causes, causes, ◌>>=◌}
-use Rattle.elf_form.specs.Header.{cut, wrong_file, identified}
+use Rattle.elf_form.specs.Faults.{Fault, test, tested, causes, ◌>>=◌}
+use Rattle.elf_form.specs.Order.{IsFirstOf}
+use Rattle.elf_form.specs.Stages.{and_then, header_causes, section_causes, identified}
+use Rattle.elf_form.specs.Header.{cut, wrong_file}
 use Rattle.elf_form.proofs.FormLaws.{tested_none}
 
 abbrev pub failed : (A : Type 0) → Fault → Result A Fault

@@ -4,7 +4,8 @@ use Rattle.std.specs.Prelude.{◌==◌}
 use Rattle.std.proofs.lemmas.Bool.{ltb-true, and_parts}
 use Rattle.elf_form.specs.Sections.{is_index}
 use Rattle.guest_ram.specs.Bytes.{word16, word32}
-use Rattle.elf_form.specs.Header.{header_passes, section_passes, section_count}
+use Rattle.elf_form.specs.Header.{section_count}
+use Rattle.elf_form.specs.Cut.{header_passes, section_passes}
 use Rattle.elf_form.specs.Whole.{IsWhole, IsHeader, IsSection}
 use Rattle.elf_form.proofs.TableLaws.{none_passes}
 

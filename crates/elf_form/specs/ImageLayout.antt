@@ -2,7 +2,6 @@
 use Rattle.std.specs.Prelude.{ℕ, ◌+◌, ◌%◌, ◌^◌, List, [], ◌∷◌, ◌++◌, length, replicate, codes}
 use Rattle.elf_form.specs.Output.{identity, halves, longs, pad}
 use Rattle.elf_form.specs.declared.abi.TheConstants.{EHDR_SIZE, EM_386, ET_EXEC, EV_CURRENT, PF_R, PF_W, PF_X, PHDR_SIZE, PT_LOAD, SHDR_SIZE}
-use Rattle.elf_form.specs.declared.section_header.SectionHeader.{SectionHeader}
 use Rattle.elf_form.specs.SectionHeaders.{no_section, text_section, data_section, bss_section, sites_section, names_section, placed, numbers_of}
 use Rattle.elf_form.specs.ImageParts.{ImageParts}
 
@@ -36,17 +35,14 @@ program_numbers p =
     PT_LOAD ∷ 4096 ∷ p.text_at ∷ p.text_at ∷ length p.text ∷ length p.text ∷ (PF_R + PF_X) ∷ 4096
     ∷ PT_LOAD ∷ init_from p ∷ p.init_at ∷ p.init_at ∷ length p.init ∷ (length p.init + p.bss) ∷ (PF_R + PF_W) ∷ 4096 ∷ []
 
-abbrev pub section_headers : ImageParts → List SectionHeader
-section_headers p =
+abbrev pub section_numbers : ImageParts → List ℕ
+section_numbers p = numbers_of (
     no_section
     ∷ placed text_section p.text_at 4096 (length p.text)
     ∷ placed data_section p.init_at (init_from p) (length p.init)
     ∷ placed (bss_section 1) ((p.init_at + length p.init) % 2 ^ 32) 0 p.bss
     ∷ placed sites_section 0 (sites_from p) (length p.sites)
-    ∷ placed (names_section 28) 0 (names_from p) 38 ∷ []
-
-abbrev pub section_numbers : ImageParts → List ℕ
-section_numbers p = numbers_of (section_headers p)
+    ∷ placed (names_section 28) 0 (names_from p) 38 ∷ [])
 
 -- the parts between the tables
 unfoldable pub body : ImageParts → List ℕ

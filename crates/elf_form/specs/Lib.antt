@@ -21,3 +21,7 @@ pub mod KeptRelocs
 pub mod Linkable
 pub mod Order
 pub mod Reasons
+pub mod Answers
+pub mod Stages
+pub mod Finding
+pub mod Cut

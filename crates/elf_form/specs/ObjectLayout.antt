@@ -7,7 +7,6 @@ use Rattle.elf_form.specs.declared.object.Symbol.{Symbol}
 use Rattle.elf_form.specs.declared.object.Reloc.{Reloc}
 use Rattle.elf_form.specs.declared.object_writing.Layout.{Layout}
 use Rattle.elf_form.specs.declared.abi.TheConstants.{EHDR_SIZE, EM_386, ET_REL, EV_CURRENT, REL_SIZE, R_386_32, R_386_PC32, SHDR_SIZE, SYM_SIZE}
-use Rattle.elf_form.specs.declared.section_header.SectionHeader.{SectionHeader}
 use Rattle.elf_form.specs.SectionHeaders.{no_section, text_section, data_section, bss_section, sites_section, relocations_section, symbols_section, names_section, placed, numbers_of}
 use Rattle.elf_form.specs.ObjectParts.{ObjectParts}
 use Rattle.elf_form.specs.Output.{identity, halves, longs, pad}
@@ -78,27 +77,21 @@ object_header o =
     ++ halves (EHDR_SIZE ∷ 0 ∷ 0 ∷ SHDR_SIZE ∷ 10 ∷ 9 ∷ [])))
 
 -- the section headers of what an object has, and those of the tables
-abbrev pub part_headers : ObjectParts → List SectionHeader
-part_headers o =
+abbrev pub part_sections : ObjectParts → List ℕ
+part_sections o = numbers_of (
     no_section
     ∷ placed text_section 0 EHDR_SIZE (length o.text)
     ∷ placed data_section 0 (layout o).init (length o.init)
     ∷ placed (bss_section 16) 0 0 o.bss
-    ∷ placed sites_section 0 (layout o).sites (length o.sites) ∷ []
+    ∷ placed sites_section 0 (layout o).sites (length o.sites) ∷ [])
 
-abbrev pub table_headers : ObjectParts → List SectionHeader
-table_headers o =
+abbrev pub table_sections : ObjectParts → List ℕ
+table_sections o = numbers_of (
     placed (relocations_section 28 1) 0 (layout o).text_relocs (REL_SIZE * count_by (is_of true) o.relocs)
     ∷ placed (relocations_section 38 2) 0 (layout o).data_relocs (REL_SIZE * count_by (is_of false) o.relocs)
     ∷ placed (symbols_section (first_global o.symbols)) 0 (layout o).symbols (SYM_SIZE * (length o.symbols + 1))
     ∷ placed (names_section 56) 0 (layout o).strings (length (strings_of o.symbols))
-    ∷ placed (names_section 64) 0 (layout o).names 74 ∷ []
-
-abbrev pub part_sections : ObjectParts → List ℕ
-part_sections o = numbers_of (part_headers o)
-
-abbrev pub table_sections : ObjectParts → List ℕ
-table_sections o = numbers_of (table_headers o)
+    ∷ placed (names_section 64) 0 (layout o).names 74 ∷ [])
 
 -- text, data and annotations
 unfoldable pub object_parts : ObjectParts → List ℕ

@@ -1,7 +1,8 @@
 -- What is read of an object, or the first fault.
-use Rattle.std.specs.Prelude.{◌≡◌, ℕ, ◌+◌, ◌%◌, ◌^◌, Bool, ◌&&◌, ◌||◌, List, [], ◌∷◌, ◌++◌, map, Option, Some, None, Result, ◌==◌, if◌then◌else◌}
+use Rattle.std.specs.Prelude.{ℕ, ◌+◌, ◌%◌, ◌^◌, ◌||◌, List, [], ◌∷◌, ◌++◌, map, codes, Option, Some, None, option_and_then, Result, ◌==◌, if◌then◌else◌}
+use Rattle.std.specs.Option.{option_map_or}
 use Rattle.guest_ram.specs.Bytes.{word16, word32}
-use Rattle.elf_form.specs.declared.abi.TheConstants.{ET_REL, E_SHSTRNDX, SHT_STRTAB, SH_FLAGS, SH_LINK, SH_TYPE, SYM_SIZE}
+use Rattle.elf_form.specs.declared.abi.TheConstants.{ET_REL, E_SHSTRNDX, SH_FLAGS, SH_LINK, SH_TYPE, SYM_SIZE}
 use Rattle.elf_form.specs.declared.cause.ElfCause.{ElfCause}
 use Rattle.elf_form.specs.declared.cause.ElfCause.TheVariants.{Sizes, SectionForm, Compressed, StringPlace, SymbolForm, RelocForm}
 use Rattle.elf_form.specs.declared.roles.Role.TheVariants as role
@@ -11,21 +12,14 @@ use Rattle.elf_form.specs.declared.symbols.SymbolTest.TheVariants.{Names, Global
 use Rattle.elf_form.specs.declared.symbols.RelocTest.{RelocTest}
 use Rattle.elf_form.specs.declared.symbols.RelocTest.TheVariants.{Named, Form}
 use Rattle.elf_form.specs.declared.segments.Found.{Found}
-use Rattle.elf_form.specs.declared.segments.Found.TheVariants.{Nothing, One, Two, More}
 use Rattle.elf_form.specs.ObjectParts.{ObjectParts}
 use Rattle.elf_form.specs.Faults.{Fault, tested, causes, ◌or_lower◌}
+use Rattle.elf_form.specs.Tables.{first_in, second_in, further}
 use Rattle.elf_form.specs.Header.{section_count, sections, wrong_file}
 use Rattle.elf_form.specs.Segments.{header_size, section_size, too_long}
-use Rattle.elf_form.specs.Sections.{contents, is_index, names, compressed, nameless}
+use Rattle.elf_form.specs.Sections.{contents, has_strings, strings_in, names, compressed, nameless}
 use Rattle.elf_form.specs.Roles.{with_role, misaligned, joined_fault, joined_end, joined}
-use Rattle.elf_form.specs.Symbols.{table_at, symbols_of, section_of, entries_fault, relocs_of, sections_fault, symbols_fault, relocs_fault, symbols_in, numbers, reloc_at}
-
--- a section that is there and a string table
-abbrev pub has_strings : List ℕ → ℕ → Bool
-has_strings bytes link = is_index bytes link && (word32 bytes (section_of bytes link + SH_TYPE) == SHT_STRTAB)
-
-unfoldable pub strings_in : List ℕ → ℕ → List ℕ
-strings_in bytes link = if has_strings bytes link then contents bytes (section_of bytes link) else []
+use Rattle.elf_form.specs.Symbols.{table_at, symbols_of, entries_fault, relocs_of, sections_fault, symbols_fault, relocs_fault, symbols_in, numbers, reloc_at}
 
 -- the symbol table and the names of its symbols
 unfoldable pub table_of : List ℕ → Table
@@ -40,10 +34,7 @@ strings_of bytes = strings_in bytes (link_of bytes)
 -- ---- sizes
 
 abbrev pub table_fault : List ℕ → Found → Option ℕ
-table_fault bytes Nothing = None
-table_fault bytes (One s) = entries_fault SYM_SIZE bytes s
-table_fault bytes (Two s t) = entries_fault SYM_SIZE bytes s
-table_fault bytes (More s t) = entries_fault SYM_SIZE bytes s
+table_fault bytes found = option_and_then (entries_fault SYM_SIZE bytes) (first_in found)
 
 unfoldable pub inner_sizes : List ℕ → Option ℕ
 inner_sizes bytes =
@@ -58,16 +49,10 @@ object_sizes bytes = inner_sizes bytes or_lower too_long bytes
 
 -- a field of the first, or of the second of the sections that were found
 abbrev pub first_field : ℕ → Found → Option ℕ
-first_field field Nothing = None
-first_field field (One s) = Some (s + field)
-first_field field (Two s t) = Some (s + field)
-first_field field (More s t) = Some (s + field)
+first_field field found = further field (first_in found)
 
 abbrev pub second_field : ℕ → Found → Option ℕ
-second_field field Nothing = None
-second_field field (One s) = None
-second_field field (Two s t) = Some (t + field)
-second_field field (More s t) = Some (t + field)
+second_field field found = further field (second_in found)
 
 -- an allocated section of another type, at its type; a second text, at its flags; a second section of sites, at its name; a bad alignment
 unfoldable pub object_form : List ℕ → Option ℕ
@@ -81,11 +66,12 @@ object_form bytes =
 abbrev pub section_names_fault : List ℕ → Option ℕ
 section_names_fault bytes = if has_strings bytes (word16 bytes E_SHSTRNDX) || (section_count bytes == 0) then nameless bytes else Some E_SHSTRNDX
 
+-- of a symbol table at s: it names a string table, in which each symbol has a name
+abbrev pub symbol_names_at : List ℕ → ℕ → Option ℕ
+symbol_names_at bytes s = if has_strings bytes (link_of bytes) then symbols_fault Names (table_of bytes) (strings_of bytes) (names bytes) bytes else Some (s + SH_LINK)
+
 abbrev pub symbol_names_fault : List ℕ → Found → Option ℕ
-symbol_names_fault bytes Nothing = None
-symbol_names_fault bytes (One s) = if has_strings bytes (link_of bytes) then symbols_fault Names (table_of bytes) (strings_of bytes) (names bytes) bytes else Some (s + SH_LINK)
-symbol_names_fault bytes (Two s t) = if has_strings bytes (link_of bytes) then symbols_fault Names (table_of bytes) (strings_of bytes) (names bytes) bytes else Some (s + SH_LINK)
-symbol_names_fault bytes (More s t) = if has_strings bytes (link_of bytes) then symbols_fault Names (table_of bytes) (strings_of bytes) (names bytes) bytes else Some (s + SH_LINK)
+symbol_names_fault bytes found = option_and_then (symbol_names_at bytes) (first_in found)
 
 unfoldable pub string_places : List ℕ → Option ℕ
 string_places bytes = section_names_fault bytes or_lower symbol_names_fault bytes (with_role role.Symbols (names bytes) bytes)
@@ -107,17 +93,11 @@ reloc_form bytes = sections_fault Links (table_of bytes) (names bytes) bytes or_
 -- ---- the object
 
 abbrev pub text_in : List ℕ → Found → List ℕ
-text_in bytes Nothing = []
-text_in bytes (One s) = contents bytes s
-text_in bytes (Two s t) = contents bytes s
-text_in bytes (More s t) = contents bytes s
+text_in bytes found = option_map_or (contents bytes) (first_in found) []
 
 -- An absent section of sites counts as one with no sites: "PVS1", and the count 0.
 abbrev pub sites_in : List ℕ → Found → List ℕ
-sites_in bytes Nothing = 80 ∷ 86 ∷ 83 ∷ 49 ∷ 0 ∷ 0 ∷ 0 ∷ 0 ∷ []
-sites_in bytes (One s) = contents bytes s
-sites_in bytes (Two s t) = contents bytes s
-sites_in bytes (More s t) = contents bytes s
+sites_in bytes found = option_map_or (contents bytes) (first_in found) (codes "PVS1" ++ 0 ∷ 0 ∷ 0 ∷ 0 ∷ [])
 
 unfoldable pub object_at : List ℕ → ObjectParts
 object_at bytes = record {
@@ -146,9 +126,3 @@ wrong_object bytes cause = wrong_file ET_REL (wrong_in_object bytes) bytes cause
 
 unfoldable pub object_in : List ℕ → Result ObjectParts Fault
 object_in bytes = tested (wrong_object bytes) causes (object_at bytes)
-
--- The same without an order.
--- A file is an object where it is wrong by no cause.
-pub record ObjectAs (bytes : List ℕ) (object : ObjectParts) : Type 0 where
-  pub sound : (cause : ElfCause) → wrong_object bytes cause ≡ None
-  pub parts : object ≡ object_at bytes

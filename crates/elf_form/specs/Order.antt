@@ -1,24 +1,9 @@
--- The parts that a file names, in their order, the lowest of several places, and the order in which causes count.
-use Rattle.std.specs.Prelude.{◌≡◌, ℕ, ◌+◌, ◌*◌, ◌≤◌, ◌<◌, List, ◌∷◌, ◌++◌, length, map, filter, slice_get, Some}
+-- The first of the parts that pass the end, the lowest of several places, and the order in which causes count.
+use Rattle.std.specs.Prelude.{◌≡◌, ◌⊎◌, ℕ, ◌+◌, ◌≤◌, ◌<◌, List, [], ◌∷◌, length, slice_get, Option, Some, None}
 use Rattle.std.specs.List.{Contains}
-use Rattle.guest_ram.specs.Bytes.{word32}
-use Rattle.elf_form.specs.declared.abi.TheConstants.{EHDR_SIZE, PHDR_SIZE, P_FILESZ, P_OFFSET, SHDR_SIZE, SH_OFFSET, SH_SIZE}
 use Rattle.elf_form.specs.declared.cause.ElfCause.{ElfCause}
 use Rattle.elf_form.specs.declared.cause.ElfCause.TheVariants.{Truncated}
-use Rattle.elf_form.specs.Header.{header_table, section_table, header_count, section_count, headers, sections, has_contents}
-
--- where a part begins, and how long it is: what a program header names, and the contents of a section
-abbrev pub named_by_header : List ℕ → ℕ → ℕ × ℕ
-named_by_header bytes h = (word32 bytes (h + P_OFFSET), word32 bytes (h + P_FILESZ))
-
-abbrev pub named_by_section : List ℕ → ℕ → ℕ × ℕ
-named_by_section bytes s = (word32 bytes (s + SH_OFFSET), word32 bytes (s + SH_SIZE))
-
--- the header, the two tables, what the program headers name, and the contents of the sections
-abbrev pub named_parts : List ℕ → List (ℕ × ℕ)
-named_parts bytes =
-    (0, EHDR_SIZE) ∷ (header_table bytes, PHDR_SIZE * header_count bytes) ∷ (section_table bytes, SHDR_SIZE * section_count bytes)
-    ∷ (map (named_by_header bytes) (headers bytes) ++ map (named_by_section bytes) (filter (has_contents bytes) (sections bytes)))
+use Rattle.elf_form.specs.Header.{named_parts}
 
 -- A part that begins here passes the end of a file of so many bytes.
 abbrev pub IsPast : ℕ → List (ℕ × ℕ) → ℕ → Type 0
@@ -48,3 +33,8 @@ pub record IsRefused (bad : ElfCause → ℕ → Type 0) (causes : List ElfCause
   pub there : slice_get causes index ≡ Some cause
   pub place : HasPlace bad bytes cause at
   pub before : (j : ℕ) (c : ElfCause) (k : ℕ) → j < index → slice_get causes j ≡ Some c → bad c k → ⊥
+
+-- The same by the place of each cause: a file is wrong at a place by the first cause of a list by which it is wrong at all.
+abbrev pub IsFirstOf : {C : Type 0} → (C → Option ℕ) → List C → ℕ → C → Type 0
+IsFirstOf wrong [] at cause = ⊥
+IsFirstOf wrong (c ∷ later) at cause = ((wrong c ≡ Some at) × (cause ≡ c)) ⊎ ((wrong c ≡ None) × IsFirstOf wrong later at cause)

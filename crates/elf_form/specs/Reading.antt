@@ -23,9 +23,6 @@ parts_at bytes t d s = record {
   sites = contents bytes s;
 }
 
-abbrev pub parts_by : List ℕ → ℕ × ℕ × ℕ → ImageParts
-parts_by bytes at = parts_at bytes at.0 at.1 at.2
-
 -- which program headers and sections there are
 unfoldable pub section_form : List ℕ → Option ℕ
 section_form bytes = order bytes (loads bytes) or_lower one_of (sites_sections bytes)

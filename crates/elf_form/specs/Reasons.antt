@@ -13,13 +13,13 @@ use Rattle.elf_form.specs.ImageParts.{ImageParts}
 use Rattle.elf_form.specs.ObjectParts.{ObjectParts}
 use Rattle.elf_form.specs.Faults.{Fault, causes}
 use Rattle.elf_form.specs.Output.{pad}
-use Rattle.elf_form.specs.Header.{section_count, headers, sections}
+use Rattle.elf_form.specs.Header.{section_count, headers, sections, named_parts}
 use Rattle.elf_form.specs.Segments.{is_load}
-use Rattle.elf_form.specs.Sections.{names, is_sites, is_nameless, is_compressed}
+use Rattle.elf_form.specs.Sections.{names, is_sites, is_nameless, is_compressed, is_unnamed, has_strings}
 use Rattle.elf_form.specs.Roles.{role as role_of, has_role, is_kept, alignment, alignments, size}
-use Rattle.elf_form.specs.Symbols.{symbols_of, binding, is_file, has_binding, has_place, target_role, relocs_in, is_linked, is_unnamed, has_symbol, symbol_of, is_outside, has_kind, names_none}
-use Rattle.elf_form.specs.ObjectReading.{has_strings, table_of, strings_of, link_of}
-use Rattle.elf_form.specs.Order.{named_parts, IsPast, IsLowest, IsRefused}
+use Rattle.elf_form.specs.Symbols.{symbols_of, binding, is_file, has_binding, has_place, target_role, relocs_in, is_linked, has_symbol, symbol_of, is_outside, has_kind, names_none}
+use Rattle.elf_form.specs.ObjectReading.{table_of, strings_of, link_of}
+use Rattle.elf_form.specs.Order.{IsPast, IsLowest, IsRefused}
 
 -- ---- sections
 

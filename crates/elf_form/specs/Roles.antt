@@ -4,6 +4,8 @@ use Rattle.std.specs.List.{find}
 use Rattle.guest_ram.specs.Among.{is_among}
 use Rattle.guest_ram.specs.Bytes.{word32}
 use Rattle.elf_form.specs.declared.abi.TheConstants.{SHF_ALLOC, SHF_EXECINSTR, SHT_NOBITS, SHT_NOTE, SHT_PROGBITS, SHT_REL, SHT_SYMTAB, SH_ADDRALIGN, SH_FLAGS, SH_SIZE, SH_TYPE}
+use denote.Enum.Declared.{tag_of}
+use Rattle.elf_form.specs.contracts.roles.Role.{the_type}
 use Rattle.elf_form.specs.declared.roles.Role.{Role}
 use Rattle.elf_form.specs.declared.roles.Role.TheVariants.{Ignored, Sites, Text, Init, Bss, Foreign, Symbols, Relocs}
 use Rattle.elf_form.specs.declared.segments.Found.{Found}
@@ -28,15 +30,9 @@ role_by kind flags = if flags / SHF_ALLOC % 2 == 1 then allocated_role kind flag
 unfoldable pub role : List ℕ → List ℕ → ℕ → Role
 role names bytes s = if is_null bytes s then Ignored else (if is_sites names bytes s then Sites else role_by (word32 bytes (s + SH_TYPE)) (word32 bytes (s + SH_FLAGS)))
 
+-- the place of a role in its declaration, by which roles are compared
 abbrev pub role_number : Role → ℕ
-role_number Ignored = 0
-role_number Sites = 1
-role_number Text = 2
-role_number Init = 3
-role_number Bss = 4
-role_number Foreign = 5
-role_number Symbols = 6
-role_number Relocs = 7
+role_number role = tag_of the_type role
 
 abbrev pub has_role : Role → List ℕ → List ℕ → ℕ → Bool
 has_role r names bytes s = role_number (role names bytes s) == role_number r
@@ -47,14 +43,10 @@ with_role r names bytes = found (filter (has_role r names bytes) (sections bytes
 
 -- Text, data and zeroed bytes are kept.
 abbrev pub is_kept : Role → Bool
-is_kept Ignored = false
-is_kept Sites = false
 is_kept Text = true
 is_kept Init = true
 is_kept Bss = true
-is_kept Foreign = false
-is_kept Symbols = false
-is_kept Relocs = false
+is_kept _ = false
 
 -- ---- joining: each at its alignment, 0 for none
 

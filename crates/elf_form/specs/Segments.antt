@@ -51,6 +51,4 @@ is_executable bytes h = word32 bytes (h + P_FLAGS) % 2 == PF_X
 -- There are two, and the first alone is executable.
 unfoldable pub order : List ℕ → Found → Option ℕ
 order bytes (Two a b) = then_some (not (is_executable bytes a && not (is_executable bytes b))) E_PHNUM
-order bytes Nothing = Some E_PHNUM
-order bytes (One a) = Some E_PHNUM
-order bytes (More a b) = Some E_PHNUM
+order bytes _ = Some E_PHNUM

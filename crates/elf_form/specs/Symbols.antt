@@ -1,11 +1,10 @@
 -- The symbols of an object and its relocations (System V ABI, chapter 4, Symbol Table and Relocation, with the relocation types of its i386 supplement).
-use Rattle.std.specs.Prelude.{ℕ, ◌≤◌, ◌+◌, ◌*◌, ◌-◌, ◌/◌, ◌%◌, ◌^◌, Bool, true, not, ◌&&◌, ◌||◌, List, [], ◌∷◌, length, map, filter, fold, drop, Option, None, nat_lt, ◌==◌, slice_index, if◌then◌else◌}
+use Rattle.std.specs.Prelude.{ℕ, ◌+◌, ◌*◌, ◌-◌, ◌/◌, ◌%◌, ◌^◌, Bool, true, not, ◌&&◌, ◌||◌, List, [], ◌∷◌, length, map, filter, fold, drop, Option, None, nat_lt, ◌==◌, slice_index, if◌then◌else◌}
 use Rattle.std.specs.Bool.{then_some}
 use Rattle.std.specs.List.{before_first, flat_map}
 use Rattle.std.specs.Option.{option_or}
-use Rattle.guest_ram.specs.Among.{is_among}
 use Rattle.guest_ram.specs.Bytes.{byte, word16, word32}
-use Rattle.elf_form.specs.declared.abi.TheConstants.{REL_SIZE, R_386_32, R_386_PC32, R_INFO, SHDR_SIZE, SHN_UNDEF, SH_ENTSIZE, SH_INFO, SH_LINK, SH_OFFSET, SH_SIZE, STB_GLOBAL, STB_LOCAL, STB_WEAK, STT_FILE, ST_INFO, ST_SHNDX, ST_VALUE, SYM_SIZE}
+use Rattle.elf_form.specs.declared.abi.TheConstants.{REL_SIZE, R_386_32, R_386_PC32, R_INFO, SHN_UNDEF, SH_ENTSIZE, SH_INFO, SH_LINK, SH_OFFSET, SH_SIZE, STB_GLOBAL, STB_LOCAL, STB_WEAK, STT_FILE, ST_INFO, ST_SHNDX, ST_VALUE, SYM_SIZE}
 use Rattle.elf_form.specs.declared.roles.Role.{Role}
 use Rattle.elf_form.specs.declared.roles.Role.TheVariants as role
 use Rattle.elf_form.specs.declared.object.Place.{Place}
@@ -13,7 +12,7 @@ use Rattle.elf_form.specs.declared.object.Place.TheVariants as place
 use Rattle.elf_form.specs.declared.object.Symbol.{Symbol}
 use Rattle.elf_form.specs.declared.object.Reloc.{Reloc}
 use Rattle.elf_form.specs.declared.segments.Found.{Found}
-use Rattle.elf_form.specs.declared.segments.Found.TheVariants.{Nothing, One, Two, More}
+use Rattle.elf_form.specs.declared.segments.Found.TheVariants.{Nothing}
 use Rattle.elf_form.specs.declared.symbols.Table.{Table}
 use Rattle.elf_form.specs.declared.symbols.Entry.{Entry}
 use Rattle.elf_form.specs.declared.symbols.SectionTest.{SectionTest}
@@ -23,9 +22,9 @@ use Rattle.elf_form.specs.declared.symbols.SymbolTest.TheVariants.{Names, Global
 use Rattle.elf_form.specs.declared.symbols.RelocTest.{RelocTest}
 use Rattle.elf_form.specs.declared.symbols.RelocTest.TheVariants.{Named, Form}
 use Rattle.elf_form.specs.Faults.{◌or_lower◌}
-use Rattle.elf_form.specs.Tables.{entries, first_some}
-use Rattle.elf_form.specs.Header.{section_table, section_count, sections}
-use Rattle.elf_form.specs.Sections.{contents, is_index}
+use Rattle.elf_form.specs.Tables.{entries, first_some, first_of}
+use Rattle.elf_form.specs.Header.{section_count, sections}
+use Rattle.elf_form.specs.Sections.{contents, is_index, section_of, is_unnamed}
 use Rattle.elf_form.specs.Roles.{role as role_of, role_number, has_role, is_kept, size, starts}
 
 -- ---- the symbol table (Symbol Table): the first section of symbols, 16 bytes for each, the null one first
@@ -33,9 +32,7 @@ use Rattle.elf_form.specs.Roles.{role as role_of, role_number, has_role, is_kept
 -- where the table is and how many symbols it has, none where there is no table
 abbrev pub table_at : List ℕ → Found → Table
 table_at bytes Nothing = record { section = 0; at = 0; count = 0 }
-table_at bytes (One s) = record { section = s; at = word32 bytes (s + SH_OFFSET); count = length (contents bytes s) / SYM_SIZE }
-table_at bytes (Two s t) = record { section = s; at = word32 bytes (s + SH_OFFSET); count = length (contents bytes s) / SYM_SIZE }
-table_at bytes (More s t) = record { section = s; at = word32 bytes (s + SH_OFFSET); count = length (contents bytes s) / SYM_SIZE }
+table_at bytes found = let s = first_of found in record { section = s; at = word32 bytes (s + SH_OFFSET); count = length (contents bytes s) / SYM_SIZE }
 
 -- the symbols behind the null one
 abbrev pub symbols_of : Table → List ℕ
@@ -50,18 +47,11 @@ is_file bytes y = byte bytes (y + ST_INFO) % 16 == STT_FILE
 
 -- ---- places: the sections that are kept
 
-abbrev pub section_of : List ℕ → ℕ → ℕ
-section_of bytes index = section_table bytes + SHDR_SIZE * index
-
 abbrev pub place_by : Role → Place
-place_by role.Ignored = place.Undefined
-place_by role.Sites = place.Undefined
 place_by role.Text = place.Text
 place_by role.Init = place.Init
 place_by role.Bss = place.Bss
-place_by role.Foreign = place.Undefined
-place_by role.Symbols = place.Undefined
-place_by role.Relocs = place.Undefined
+place_by _ = place.Undefined
 
 unfoldable pub role_at : List ℕ → List ℕ → ℕ → Role
 role_at names bytes index = if is_index bytes index then role_of names bytes (section_of bytes index) else role.Ignored
@@ -111,11 +101,6 @@ relocs_in bytes s = map (entry s) (entries (word32 bytes (s + SH_OFFSET)) REL_SI
 unfoldable pub relocs_of : Role → List ℕ → List ℕ → List Entry
 relocs_of r names bytes = flat_map (relocs_in bytes) (filter (is_reloc_section_of r names bytes) (sections bytes))
 
--- an entry of eight bytes, of a section, in the file
-pub record IsEntry (bytes : List ℕ) (e : Entry) : Type 0 where
-  pub section : e.section + SHDR_SIZE ≤ length bytes
-  pub at : e.at + REL_SIZE ≤ length bytes
-
 -- ---- the tests of sections, of symbols and of relocations
 
 -- a size that is no multiple of that of an entry, or another size of entries
@@ -132,10 +117,6 @@ section_test Links table names bytes s = if is_reloc_section names bytes s then 
 
 unfoldable pub sections_fault : SectionTest → Table → List ℕ → List ℕ → Option ℕ
 sections_fault test table names bytes = first_some (section_test test table names bytes) (sections bytes)
-
--- no zero byte ends the name within the string table
-abbrev pub is_unnamed : List ℕ → List ℕ → ℕ → Bool
-is_unnamed strings bytes y = not (is_among 0 (drop (word32 bytes y) strings))
 
 abbrev pub symbol_test : SymbolTest → List ℕ → List ℕ → List ℕ → ℕ → Option ℕ
 symbol_test Names strings names bytes y = then_some (is_unnamed strings bytes y) y

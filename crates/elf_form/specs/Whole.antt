@@ -2,7 +2,8 @@
 use Rattle.std.specs.Prelude.{◌≡◌, ◌≤◌, ℕ, ◌+◌, ◌*◌, false, List, length, None}
 use Rattle.std.specs.List.{find}
 use Rattle.elf_form.specs.declared.abi.TheConstants.{EHDR_SIZE, PHDR_SIZE, SHDR_SIZE, P_FILESZ, P_MEMSZ}
-use Rattle.elf_form.specs.Header.{header_table, section_table, header_count, section_count, headers, sections, header_passes, section_passes}
+use Rattle.elf_form.specs.Header.{header_table, section_table, header_count, section_count, headers, sections}
+use Rattle.elf_form.specs.Cut.{header_passes, section_passes}
 use Rattle.elf_form.specs.declared.segments.Found.{Found}
 use Rattle.elf_form.specs.declared.segments.Found.TheVariants.{Nothing, One, Two, More}
 use Rattle.guest_ram.specs.Bytes.{word32}

@@ -4,7 +4,8 @@ ghost use Rattle.std.specs.Prelude.{◌≡◌, ◌≤◌, ◌<◌, ◌+◌, ◌*
 ghost use Rattle.guest_ram.specs.Bytes.{word16, word32};
 ghost use Rattle.elf_form.specs.declared.abi.TheConstants.{SYM_SIZE};
 ghost use Rattle.elf_form.specs.Whole.{IsWhole, IsSection};
-ghost use Rattle.elf_form.specs.Symbols.{relocs_in, relocs_of, IsEntry, relocs_fault};
+ghost use Rattle.elf_form.specs.Symbols.{relocs_in, relocs_of, relocs_fault};
+ghost use Rattle.elf_form.specs.KeptRelocs.{IsEntry};
 
 use crate::abi::{E_SHNUM, E_SHOFF, REL_SIZE, SH_OFFSET, SHDR_SIZE};
 use crate::header::lower;

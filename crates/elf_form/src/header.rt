@@ -3,9 +3,12 @@
 ghost use Rattle.std.specs.Prelude.{◌≡◌, ◌≤◌, ◌<◌, ◌+◌, ◌*◌, ◌^◌, Bool, length, not, ◌||◌, ◌==◌, IfNone, IfSome};
 ghost use Rattle.std.specs.List.{find};
 ghost use Rattle.guest_ram.specs.Bytes.{byte, word16, word32};
-ghost use Rattle.elf_form.specs.Faults.{test, Gives, ◌or_lower◌};
+ghost use Rattle.elf_form.specs.Faults.{test, ◌or_lower◌};
+ghost use Rattle.elf_form.specs.Answers.{Gives};
 ghost use Rattle.elf_form.specs.Tables.{entries};
-ghost use Rattle.elf_form.specs.Header.{cut, part_begins, header_passes, section_passes, passes, magic, class, encoding, version, file_type, machine, identified};
+ghost use Rattle.elf_form.specs.Header.{cut, passes};
+ghost use Rattle.elf_form.specs.Cut.{part_begins, header_passes, section_passes};
+ghost use Rattle.elf_form.specs.Stages.{identified};
 ghost use Rattle.elf_form.specs.Whole.{IsWhole};
 
 use crate::abi::{
@@ -87,7 +90,7 @@ fn cut_section(bytes: &[u8], table: usize, count: usize) -> Option<u32>
 }
 
 /// The first part that passes the end.
-#[tactic(auto, unfolding(crate::specs::Header::cut))]
+#[tactic(auto, unfolding(crate::specs::Cut::cut_in_turn), using(crate::proofs::OrderLaws::cut_met))]
 pub fn cut(bytes: &[u8]) -> Option<u32>
     ensures place { result ≡ cut bytes.now }
     ensures whole { IfNone result (IsWhole bytes.now) }
@@ -111,51 +114,6 @@ pub fn cut(bytes: &[u8]) -> Option<u32>
     cut_section(bytes, sections as usize, section_count as usize)
 }
 
-fn magic(bytes: &[u8]) -> Option<usize>
-    requires { EHDR_SIZE ≤ length bytes.now }
-    ensures { result ≡ magic bytes.now }
-{
-    (word(bytes, 0) != ELFMAG).then_some(0)
-}
-
-fn class(bytes: &[u8]) -> Option<usize>
-    requires { EHDR_SIZE ≤ length bytes.now }
-    ensures { result ≡ class bytes.now }
-{
-    (byte(bytes, EI_CLASS) != ELFCLASS32).then_some(EI_CLASS)
-}
-
-fn encoding(bytes: &[u8]) -> Option<usize>
-    requires { EHDR_SIZE ≤ length bytes.now }
-    ensures { result ≡ encoding bytes.now }
-{
-    (byte(bytes, EI_DATA) != ELFDATA2LSB).then_some(EI_DATA)
-}
-
-fn version(bytes: &[u8]) -> Option<usize>
-    requires { EHDR_SIZE ≤ length bytes.now }
-    ensures { result ≡ version bytes.now }
-{
-    lower(
-        (byte(bytes, EI_VERSION) as u32 != EV_CURRENT).then_some(EI_VERSION),
-        (word(bytes, E_VERSION) != EV_CURRENT).then_some(E_VERSION),
-    )
-}
-
-fn file_type(bytes: &[u8], wanted: u16) -> Option<usize>
-    requires { EHDR_SIZE ≤ length bytes.now }
-    ensures { result ≡ file_type wanted bytes.now }
-{
-    (half(bytes, E_TYPE) != wanted).then_some(E_TYPE)
-}
-
-fn machine(bytes: &[u8]) -> Option<usize>
-    requires { EHDR_SIZE ≤ length bytes.now }
-    ensures { result ≡ machine bytes.now }
-{
-    (half(bytes, E_MACHINE) != EM_386).then_some(E_MACHINE)
-}
-
 /// Passes where there is no place.
 pub fn test(cause: ElfCause, place: Option<usize>) -> Result<(), ElfFault>
     requires { IfSome place (λ at. at < 2 ^ 32) }
@@ -171,15 +129,33 @@ pub fn test(cause: ElfCause, place: Option<usize>) -> Result<(), ElfFault>
 }
 
 /// The tests of the identification, the type and the machine.
-#[tactic(auto, unfolding(crate::specs::Header::identified, crate::specs::Faults::tested))]
+#[tactic(auto, unfolding(crate::specs::Stages::identified, crate::specs::Faults::tested))]
 pub fn identified(bytes: &[u8], wanted: u16) -> Result<(), ElfFault>
     requires { EHDR_SIZE ≤ length bytes.now }
     ensures { Gives (λ _. tt) result (identified wanted bytes.now) }
 {
-    test(ElfCause::Magic, magic(bytes))?;
-    test(ElfCause::Class, class(bytes))?;
-    test(ElfCause::Encoding, encoding(bytes))?;
-    test(ElfCause::Version, version(bytes))?;
-    test(ElfCause::FileType, file_type(bytes, wanted))?;
-    test(ElfCause::Machine, machine(bytes))
+    test(ElfCause::Magic, (word(bytes, 0) != ELFMAG).then_some(0))?;
+    test(
+        ElfCause::Class,
+        (byte(bytes, EI_CLASS) != ELFCLASS32).then_some(EI_CLASS),
+    )?;
+    test(
+        ElfCause::Encoding,
+        (byte(bytes, EI_DATA) != ELFDATA2LSB).then_some(EI_DATA),
+    )?;
+    test(
+        ElfCause::Version,
+        lower(
+            (byte(bytes, EI_VERSION) as u32 != EV_CURRENT).then_some(EI_VERSION),
+            (word(bytes, E_VERSION) != EV_CURRENT).then_some(E_VERSION),
+        ),
+    )?;
+    test(
+        ElfCause::FileType,
+        (half(bytes, E_TYPE) != wanted).then_some(E_TYPE),
+    )?;
+    test(
+        ElfCause::Machine,
+        (half(bytes, E_MACHINE) != EM_386).then_some(E_MACHINE),
+    )
 }

@@ -7,7 +7,7 @@ ghost use Rattle.elf_form.specs.Whole.{AllFound, IsWhole, IsSection};
 ghost use Rattle.elf_form.specs.Sections.{names as names_of};
 ghost use Rattle.elf_form.specs.Roles.{with_role};
 ghost use Rattle.elf_form.specs.Symbols.{entries_fault};
-ghost use Rattle.elf_form.specs.ObjectReading.{has_strings, strings_in, table_of, strings_of, link_of, table_fault, inner_sizes, object_sizes, first_field, second_field, object_form, section_names_fault, symbol_names_fault, string_places};
+ghost use Rattle.elf_form.specs.ObjectReading.{table_of, strings_of, link_of, table_fault, inner_sizes, object_sizes, first_field, second_field, object_form, section_names_fault, symbol_names_fault, string_places};
 
 use crate::abi::{
     E_EHSIZE, E_SHENTSIZE, E_SHNUM, E_SHOFF, E_SHSTRNDX, EHDR_SIZE, SH_FLAGS, SH_LINK, SH_TYPE,
@@ -16,36 +16,11 @@ use crate::abi::{
 use crate::header::lower;
 use crate::joining::{joined_fault, misaligned};
 use crate::roles::{Role, with_role};
-use crate::sections::{contents, is_index, nameless, names};
+use crate::sections::{has_strings, nameless, names, strings_in};
 use crate::segments::{FILE_LIMIT, Found};
 use crate::symbol_walks::{sections_fault, symbols_fault};
 use crate::symbols::{SectionTest, SymbolTest, Table, entries_fault, table_at};
 use guest_ram::{half, word};
-
-fn has_strings(bytes: &[u8], link: usize) -> bool
-    requires { IsWhole bytes.now }
-    ensures { result ≡ has_strings bytes.now link }
-{
-    let table = word(bytes, E_SHOFF) as usize;
-    is_index(bytes, link) && word(bytes, table + SHDR_SIZE * link + SH_TYPE) == SHT_STRTAB
-}
-
-/// The bytes of a string table, none where the section is no such table.
-#[tactic(auto, unfolding(crate::specs::ObjectReading::strings_in), using(crate::proofs::WholeLaws::section_at))]
-fn strings_in(bytes: &[u8], link: usize) -> &[u8]
-    requires { IsWhole bytes.now }
-    ensures { result.now ≡ strings_in bytes.now link }
-{
-    let table = word(bytes, E_SHOFF) as usize;
-    if !is_index(bytes, link) {
-        return &[];
-    }
-    let s = table + SHDR_SIZE * link;
-    if word(bytes, s + SH_TYPE) != SHT_STRTAB {
-        return &[];
-    }
-    contents(bytes, s)
-}
 
 /// The symbol table of an object.
 #[tactic(auto, unfolding(crate::specs::ObjectReading::table_of))]

@@ -1,16 +1,18 @@
 //! Reading an image.
 
 ghost use Rattle.std.specs.Prelude.{◌≡◌, ℕ, ◌≤◌, ◌<◌, ◌+◌, ◌^◌, ◌∷◌, List, length, IfNone, IfSome, IfOk};
-ghost use Rattle.elf_form.specs.Faults.{tested, causes, section_causes, Gives, IsFirstOf, and_then};
+ghost use Rattle.elf_form.specs.Faults.{tested, causes};
+ghost use Rattle.elf_form.specs.Stages.{section_causes, and_then, identified, parts_by};
+ghost use Rattle.elf_form.specs.Answers.{Gives};
+ghost use Rattle.elf_form.specs.Order.{IsFirstOf};
 ghost use Rattle.guest_ram.specs.Bytes.{part, word32};
-ghost use Rattle.elf_form.specs.Header.{identified};
 ghost use Rattle.elf_form.specs.Whole.{IsWhole, IsHeader, ArePlaces};
 ghost use Rattle.elf_form.specs.Segments.{memory_sizes, loads};
 ghost use Rattle.elf_form.specs.ImageParts.{ImageParts};
 ghost use Rattle.elf_form.specs.declared.cause.ElfCause.{ElfCause};
 ghost use Rattle.elf_form.specs.declared.cause.ElfCause.TheVariants.{Sizes};
 ghost use Rattle.elf_form.specs.Accepted.{ImageAs};
-ghost use Rattle.elf_form.specs.Reading.{wrong_image, image_at, image_in, parts_by};
+ghost use Rattle.elf_form.specs.Reading.{wrong_image, image_at, image_in};
 ghost use Rattle.elf_form.specs.Reasons.{IsRefusedImage, no_image};
 
 use crate::abi::{E_ENTRY, ET_EXEC, P_FILESZ, P_MEMSZ, P_OFFSET, P_VADDR};

@@ -7,7 +7,8 @@ ghost use Rattle.elf_form.specs.Header.{sections};
 ghost use Rattle.elf_form.specs.Whole.{IsWhole};
 ghost use Rattle.elf_form.specs.declared.roles.Role.TheVariants.{Init, Bss};
 ghost use Rattle.elf_form.specs.Roles.{starts as starts_of};
-ghost use Rattle.elf_form.specs.Symbols.{IsEntry, start_at, name_in, symbol_at, symbols_in, numbers, symbols_of, reloc_at};
+ghost use Rattle.elf_form.specs.Symbols.{start_at, name_in, symbol_at, symbols_in, numbers, symbols_of, reloc_at};
+ghost use Rattle.elf_form.specs.KeptRelocs.{IsEntry};
 
 use crate::abi::{R_386_PC32, R_INFO, SH_INFO, ST_INFO, ST_SHNDX, ST_VALUE, STB_GLOBAL, SYM_SIZE};
 use crate::object::{Bytes, Reloc, Symbol};

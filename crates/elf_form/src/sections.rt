@@ -4,8 +4,8 @@ ghost use Rattle.std.specs.Prelude.{◌≡◌, ◌≤◌, ◌<◌, ◌+◌, ◌^
 ghost use Rattle.guest_ram.specs.Bytes.{word16, word32};
 ghost use Rattle.elf_form.specs.declared.abi.TheConstants.{EHDR_SIZE};
 ghost use Rattle.elf_form.specs.Whole.{AllFound, IsWhole, IsSection};
-ghost use Rattle.elf_form.specs.Header.{section_passes};
-ghost use Rattle.elf_form.specs.Sections.{contents, is_index, names, is_null, is_nameless, is_sites, is_compressed, sites_sections, one_of, compressed, nameless};
+ghost use Rattle.elf_form.specs.Cut.{section_passes};
+ghost use Rattle.elf_form.specs.Sections.{contents, is_index, has_strings, strings_in, names, is_null, is_unnamed, is_nameless, is_sites, is_compressed, sites_sections, one_of, compressed, nameless};
 
 use crate::abi::{
     E_SHNUM, E_SHOFF, E_SHSTRNDX, SH_FLAGS, SH_OFFSET, SH_SIZE, SH_TYPE, SHDR_SIZE, SHF_COMPRESSED,
@@ -42,13 +42,21 @@ pub fn is_index(bytes: &[u8], index: usize) -> bool
     index != SHN_UNDEF && index < SHN_LORESERVE && index < half(bytes, E_SHNUM) as usize
 }
 
-/// The bytes of the section that has the names.
-#[tactic(auto, unfolding(crate::specs::Sections::names), using(crate::proofs::WholeLaws::section_at))]
-pub fn names(bytes: &[u8]) -> &[u8]
+/// Whether an index names a string table.
+pub fn has_strings(bytes: &[u8], index: usize) -> bool
     requires { IsWhole bytes.now }
-    ensures { result.now ≡ names bytes.now }
+    ensures { result ≡ has_strings bytes.now index }
 {
-    let index = half(bytes, E_SHSTRNDX) as usize;
+    let table = word(bytes, E_SHOFF) as usize;
+    is_index(bytes, index) && word(bytes, table + SHDR_SIZE * index + SH_TYPE) == SHT_STRTAB
+}
+
+/// The bytes of a string table, none where the section is no such table.
+#[tactic(auto, unfolding(crate::specs::Sections::strings_in), using(crate::proofs::WholeLaws::section_at))]
+pub fn strings_in(bytes: &[u8], index: usize) -> &[u8]
+    requires { IsWhole bytes.now }
+    ensures { result.now ≡ strings_in bytes.now index }
+{
     let table = word(bytes, E_SHOFF) as usize;
     if !is_index(bytes, index) {
         return &[];
@@ -58,6 +66,15 @@ pub fn names(bytes: &[u8]) -> &[u8]
         return &[];
     }
     contents(bytes, s)
+}
+
+/// The bytes of the section that has the names of sections.
+#[tactic(auto, unfolding(crate::specs::Sections::names))]
+pub fn names(bytes: &[u8]) -> &[u8]
+    requires { IsWhole bytes.now }
+    ensures { result.now ≡ names bytes.now }
+{
+    strings_in(bytes, half(bytes, E_SHSTRNDX) as usize)
 }
 
 /// The names from an offset on.
@@ -75,11 +92,19 @@ pub fn is_null(bytes: &[u8], s: usize) -> bool
     word(bytes, s + SH_TYPE) == SHT_NULL
 }
 
+/// Whether no zero byte ends a name within a string table, of a section or a symbol that begins at `at`.
+pub fn is_unnamed(strings: &[u8], bytes: &[u8], at: usize) -> bool
+    requires { at + 4 ≤ length bytes.now }
+    ensures { result ≡ is_unnamed strings.now bytes.now at }
+{
+    !from(strings, word(bytes, at) as usize).contains(&0)
+}
+
 fn is_nameless(names: &[u8], bytes: &[u8], s: usize) -> bool
     requires { s + SHDR_SIZE ≤ length bytes.now }
     ensures { result ≡ is_nameless names.now bytes.now s }
 {
-    word(bytes, s + SH_TYPE) != SHT_NULL && !from(names, word(bytes, s) as usize).contains(&0)
+    word(bytes, s + SH_TYPE) != SHT_NULL && is_unnamed(names, bytes, s)
 }
 
 /// Whether the section has the name of the list of sites.

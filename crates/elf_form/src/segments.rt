@@ -2,7 +2,8 @@
 
 ghost use Rattle.std.specs.Prelude.{◌≡◌, ◌≤◌, ◌<◌, ◌+◌, ◌*◌, ◌^◌, Bool, length, filter, IfNone, IfSome};
 ghost use Rattle.guest_ram.specs.Bytes.{word16, word32};
-ghost use Rattle.elf_form.specs.Tables.{entries, found, with_one, first_of, second_of};
+ghost use Rattle.elf_form.specs.Tables.{entries, found, first_of, second_of};
+ghost use Rattle.elf_form.specs.Finding.{with_one};
 ghost use Rattle.elf_form.specs.Whole.{AllFound, IsWhole, IsHeader};
 ghost use Rattle.elf_form.specs.Segments.{loads, memory_sizes, first_size, second_size, sizes, order, is_executable};
 

@@ -5,7 +5,9 @@ ghost use Rattle.guest_ram.specs.Bytes.{word16, word32};
 ghost use Rattle.elf_form.specs.declared.abi.TheConstants.{EHDR_SIZE};
 ghost use Rattle.elf_form.specs.Whole.{AllFound, IsWhole, IsSection};
 ghost use Rattle.elf_form.specs.Header.{section_table, section_count};
-ghost use Rattle.elf_form.specs.Symbols.{target_role, table_at, is_file, has_binding, has_place, is_listed, place_by, role_at, symbol_fault, global_fault, is_reloc_section, is_reloc_section_of, entries_fault, is_linked, section_test, is_unnamed, symbol_test, has_symbol, size_at, named_symbol, IsEntry, is_outside, has_kind, names_none, named_fault, form_fault, reloc_test};
+ghost use Rattle.elf_form.specs.Symbols.{target_role, table_at, is_file, has_binding, has_place, is_listed, place_by, role_at, symbol_fault, global_fault, is_reloc_section, is_reloc_section_of, entries_fault, is_linked, section_test, symbol_test, has_symbol, size_at, named_symbol, is_outside, has_kind, names_none, named_fault, form_fault, reloc_test};
+ghost use Rattle.elf_form.specs.Sections.{is_unnamed};
+ghost use Rattle.elf_form.specs.KeptRelocs.{IsEntry};
 
 use crate::abi::{
     E_SHNUM, E_SHOFF, R_386_32, R_386_PC32, R_INFO, REL_SIZE, SH_ENTSIZE, SH_INFO, SH_LINK,
@@ -14,7 +16,7 @@ use crate::abi::{
 };
 use crate::object::Place;
 use crate::roles::{Role, has_role, is_kept, role_number, section_role};
-use crate::sections::{contents, from, is_index};
+use crate::sections::{contents, is_index, is_unnamed};
 use crate::segments::Found;
 use guest_ram::{byte, half, word};
 
@@ -242,13 +244,6 @@ pub fn section_test(
         SectionTest::EntrySizes => entries_fault(REL_SIZE as u32, bytes, s),
         SectionTest::Links => (!is_linked(table, names, bytes, s)).then_some(s + SH_LINK),
     }
-}
-
-fn is_unnamed(strings: &[u8], bytes: &[u8], y: usize) -> bool
-    requires { y + SYM_SIZE ≤ length bytes.now }
-    ensures { result ≡ is_unnamed strings.now bytes.now y }
-{
-    !from(strings, word(bytes, y) as usize).contains(&0)
 }
 
 /// The offset at which the symbol at `y` fails the test.

@@ -1,6 +1,7 @@
 -- What the check's answer says of the file.
 use Rattle.std.proofs.Common.{◌≡◌, ℕ, List, Result, Ok, Err, refl, subst, ap, inl, inr, ◌⊎◌}
-use Rattle.elf_form.specs.Faults.{Fault, IsFirstOf}
+use Rattle.elf_form.specs.Faults.{Fault}
+use Rattle.elf_form.specs.Order.{IsFirstOf}
 use Rattle.elf_form.specs.ImageParts.{ImageParts}
 use Rattle.elf_form.specs.Reading.{image_in}
 use Rattle.elf_form.specs.Accepted.{ImageAs}

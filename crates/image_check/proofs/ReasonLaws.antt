@@ -4,7 +4,7 @@ use Rattle.std.specs.Prelude.{◌↔◌}
 use Rattle.plain_laws.proofs.Options.{not_some}
 use Rattle.ia32_rows.specs.Spells.{AreBytes}
 use Rattle.elf_form.specs.ImageParts.{ImageParts}
-use Rattle.elf_form.specs.Faults.{IsFirstOf}
+use Rattle.elf_form.specs.Order.{IsFirstOf, IsLowest}
 use Rattle.sites.specs.declared.site.Site.{Site}
 use Rattle.sites.specs.Formats.{listed}
 use Rattle.image_check.specs.declared.fault.CheckCause.{CheckCause}
@@ -20,7 +20,6 @@ use Rattle.image_check.specs.Checking.{image_from}
 use Rattle.image_check.specs.Accepts.{IsEntrance}
 use Rattle.image_check.specs.Causes.{form_stop, of_both, wrong, causes}
 use Rattle.image_check.specs.Reasons.{BothRead, IsWrongAt, LeadsAstray, IsWrong, IsRefused}
-use Rattle.elf_form.specs.Order.{IsLowest}
 use Rattle.elf_form.proofs.FirstCauses.{first_in_list, list_first}
 use Rattle.image_check.proofs.CauseLaws.{first_exact}
 use Rattle.image_check.proofs.SweepLaws.{sweep_exact}

@@ -4,7 +4,8 @@ ghost use Rattle.std.specs.Prelude.{◌≡◌, ℕ, ◌≤◌, ◌<◌, ◌+◌,
 ghost use Rattle.std.specs.List.{list_any};
 ghost use Rattle.ia32_rows.specs.Spells.{AreBytes};
 ghost use Rattle.elf_form.specs.Accepted.{ImageAs};
-ghost use Rattle.elf_form.specs.Faults.{Fault, IsFirstOf, ◌or_lower◌};
+ghost use Rattle.elf_form.specs.Faults.{Fault, ◌or_lower◌};
+ghost use Rattle.elf_form.specs.Order.{IsFirstOf};
 ghost use Rattle.elf_form.specs.ImageParts.{ImageParts};
 ghost use Rattle.elf_form.specs.Reading.{image_in};
 ghost use Rattle.sites.specs.Formats.{told_format, listed};

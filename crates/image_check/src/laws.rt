@@ -3,7 +3,7 @@
 ghost use Rattle.std.specs.Prelude.{◌≡◌, ◌≢◌, ◌↔◌, ◌-◌, ◌&&◌, ℕ, true, false, max, List, [], ◌∷◌, drop, Some, None, Ok, Err};
 ghost use Rattle.ia32_types.specs.declared.site.SiteKind.{SiteKind as KindView};
 ghost use Rattle.elf_form.specs.ImageParts.{ImageParts};
-ghost use Rattle.elf_form.specs.Faults.{IsFirstOf};
+ghost use Rattle.elf_form.specs.Order.{IsFirstOf};
 ghost use Rattle.ia32_rows.specs.Spells.{AreBytes};
 ghost use Rattle.image_check.specs.Sweep.{Swept, sweep};
 ghost use Rattle.image_check.specs.SweptTexts.{Sweep, SweepStops};

@@ -2,7 +2,8 @@ use Rattle.std.proofs.Common.{◌≡◌, ◌+◌, ◌*◌, ◌-◌, ◌++◌}
 use Rattle.std.specs.Prelude.{filter, All}
 use Rattle.std.specs.List.{flat_map}
 use Rattle.elf_form.specs.Tables.{entries}
-use Rattle.elf_form.specs.Symbols.{relocs_in, is_reloc_section_of, IsEntry}
+use Rattle.elf_form.specs.Symbols.{relocs_in, is_reloc_section_of}
+use Rattle.elf_form.specs.KeptRelocs.{IsEntry}
 use Rattle.elf_form.proofs.entries.entries_of.Given as goal
 
 abbrev pub invariant-loop-i : goal.invariant-loop-i

@@ -2,7 +2,8 @@ use Rattle.std.proofs.Common.{◌+◌, ◌*◌, ◌/◌, ◌≤◌, length, ap, 
 use Rattle.std.specs.Prelude.{map}
 use Rattle.std.proofs.lemmas.List.Elements.{All-push}
 use Rattle.guest_ram.specs.Bytes.{word32}
-use Rattle.elf_form.specs.Symbols.{entry, relocs_in, IsEntry}
+use Rattle.elf_form.specs.Symbols.{entry, relocs_in}
+use Rattle.elf_form.specs.KeptRelocs.{IsEntry}
 use Rattle.elf_form.proofs.TableLaws.{entries-more, entries-end}
 use Rattle.elf_form.proofs.AppendLaws.{one_more, no_more}
 use Rattle.elf_form.proofs.entries.put_entries.Goals as goal

@@ -1,7 +1,8 @@
 use Rattle.std.proofs.Common.{◌≡◌, ◌+◌, ◌*◌, ◌-◌, ◌++◌}
 use Rattle.std.specs.Prelude.{map, All}
 use Rattle.elf_form.specs.Tables.{entries}
-use Rattle.elf_form.specs.Symbols.{entry, IsEntry}
+use Rattle.elf_form.specs.Symbols.{entry}
+use Rattle.elf_form.specs.KeptRelocs.{IsEntry}
 use Rattle.elf_form.proofs.entries.put_entries.Given as goal
 
 abbrev pub invariant-loop-i : goal.invariant-loop-i

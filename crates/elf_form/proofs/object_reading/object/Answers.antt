@@ -1,6 +1,7 @@
 use Rattle.std.proofs.Common.{Result, subst}
 use Rattle.elf_form.specs.ObjectParts.{ObjectParts}
-use Rattle.elf_form.specs.Faults.{Fault, Gives}
+use Rattle.elf_form.specs.Faults.{Fault}
+use Rattle.elf_form.specs.Answers.{Gives}
 use Rattle.elf_form.specs.ObjectReading.{object_at, wrong_in_object, wrong_object, object_in}
 use Rattle.elf_form.proofs.TestLaws.{cut_first, whole_first}
 use Rattle.elf_form.proofs.object_reading.object.Goals as goal

@@ -1,7 +1,9 @@
 use Rattle.std.proofs.Common.{Result, subst}
 use Rattle.elf_form.specs.ImageParts.{ImageParts}
-use Rattle.elf_form.specs.Faults.{Fault, Gives}
-use Rattle.elf_form.specs.Reading.{parts_by, wrong_in_image, wrong_image, image_at, image_in}
+use Rattle.elf_form.specs.Faults.{Fault}
+use Rattle.elf_form.specs.Answers.{Gives}
+use Rattle.elf_form.specs.Reading.{wrong_in_image, wrong_image, image_at, image_in}
+use Rattle.elf_form.specs.Stages.{parts_by}
 use Rattle.elf_form.proofs.TestLaws.{cut_first, whole_first}
 use Rattle.elf_form.proofs.reading.tested.Goals as goal
 

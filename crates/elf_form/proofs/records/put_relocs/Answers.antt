@@ -4,7 +4,7 @@ use Rattle.std.proofs.lemmas.List.{take_all}
 use Rattle.elf_form.specs.declared.symbols.Entry.{Entry}
 use Rattle.elf_form.specs.Symbols.{reloc_at}
 use Rattle.std.proofs.lemmas.List.Elements.{All-get_or}
-use Rattle.elf_form.specs.Symbols.{IsEntry}
+use Rattle.elf_form.specs.KeptRelocs.{IsEntry}
 use Rattle.elf_form.proofs.RecordLaws.{relocs-more}
 use Rattle.elf_form.proofs.records.put_relocs.Goals as goal
 

@@ -1,7 +1,8 @@
 use Rattle.std.proofs.Common.{◌≡◌, ◌+◌, ◌*◌, sym, ap, ◌∙◌}
 use Rattle.std.specs.Prelude.{filter}
 use Rattle.elf_form.specs.declared.segments.Found.TheVariants.{Nothing}
-use Rattle.elf_form.specs.Tables.{entries, with_one}
+use Rattle.elf_form.specs.Tables.{entries}
+use Rattle.elf_form.specs.Finding.{with_one}
 use Rattle.elf_form.specs.Whole.{IsSection}
 use Rattle.elf_form.specs.Roles.{with_role, has_role}
 use Rattle.elf_form.proofs.TableLaws.{found_on, found_on-all, entries-start, found-here, found-next, found-end, AllFound-with}
