@@ -4,7 +4,8 @@ use Rattle.std.proofs.lemmas.List.{replicate_more, length-replicate, drop_more, 
 use Rattle.guest_ram.specs.Bytes.{with_part, with_byte}
 use Rattle.guest_ram.proofs.Bytes.{with_part-append}
 use Rattle.sites.specs.declared.site.Site.{Site}
-use Rattle.sites.specs.Patched.{patch_bytes, patched, AreInside}
+use Rattle.sites.specs.Patched.{patch_bytes, patched}
+use Rattle.sites.specs.Room.{AreInside}
 
 pub length-patch_bytes : (n : ℕ) → 1 ≤ n → length (patch_bytes n) ≡ n
 length-patch_bytes n le = omega (arith, length-replicate {A = ℕ} (n - 1) 244)

@@ -1,5 +1,6 @@
 -- What is read of a list of sites in either format.
-use Rattle.std.specs.Prelude.{ℕ, List, length, Result, Ok, Err, nat_lt, ◌==◌, if◌then◌else◌}
+use Rattle.std.specs.Prelude.{ℕ, List, length, Result, nat_lt, ◌==◌, if◌then◌else◌}
+use Rattle.std.specs.Result.{result_map_both}
 use Rattle.guest_ram.specs.Bytes.{byte, word32}
 use Rattle.sites.specs.declared.site.Site.{Site}
 use Rattle.sites.specs.SitesParts.{SitesParts}
@@ -15,8 +16,7 @@ sites_in bytes = if byte bytes 3 == 50 then gapped_in bytes else placed_in bytes
 
 -- the list without its format
 abbrev pub list_of : Result SitesParts ℕ → Result (List Site) ℕ
-list_of (Ok sites) = Ok sites.list
-list_of (Err at) = Err at
+list_of read = result_map_both (λ sites. sites.list) (λ at. at) read
 
 abbrev pub listed : List ℕ → Result (List Site) ℕ
 listed bytes = list_of (sites_in bytes)

@@ -1,5 +1,7 @@
 -- The numbers of the kinds.
-use Rattle.std.specs.Prelude.{ℕ, ◌-◌, List, [], ◌∷◌, Option, Some, None, slice_index_or, nat_lt, ◌==◌, ◌||◌, if◌then◌else◌}
+use Rattle.std.specs.Prelude.{ℕ, ◌+◌, ◌-◌, List, [], ◌∷◌, Option, Some, None, slice_index_or, nat_lt, ◌==◌, ◌||◌, if◌then◌else◌}
+use denote.Enum.Declared.{tag_of}
+use Rattle.ia32_types.specs.contracts.site.SiteKind.{the_type}
 use Rattle.ia32_types.specs.declared.site.SiteKind.{SiteKind}
 use Rattle.ia32_types.specs.declared.site.SiteKind.TheVariants.{Cli, Sti, StiHlt, Hlt, PushFlags, PopFlags, Iret, ReadControl, WriteControl, LoadGdt, LoadIdt, LoadTask, DropPage, ReadSeg, LoadSeg, PushSeg, PopSeg, FarJump, PortIn, PortOut, Return, JumpTo, CallTo}
 
@@ -7,30 +9,9 @@ use Rattle.ia32_types.specs.declared.site.SiteKind.TheVariants.{Cli, Sti, StiHlt
 abbrev pub kinds : List SiteKind
 kinds = Cli ∷ Sti ∷ StiHlt ∷ Hlt ∷ PushFlags ∷ PopFlags ∷ Iret ∷ ReadControl ∷ WriteControl ∷ LoadGdt ∷ LoadIdt ∷ LoadTask ∷ DropPage ∷ ReadSeg ∷ LoadSeg ∷ PushSeg ∷ PopSeg ∷ FarJump ∷ PortIn ∷ PortOut ∷ Return ∷ JumpTo ∷ CallTo ∷ []
 
+-- the place of a kind in its declaration, from 1
 abbrev pub number : SiteKind → ℕ
-number Cli = 1
-number Sti = 2
-number StiHlt = 3
-number Hlt = 4
-number PushFlags = 5
-number PopFlags = 6
-number Iret = 7
-number ReadControl = 8
-number WriteControl = 9
-number LoadGdt = 10
-number LoadIdt = 11
-number LoadTask = 12
-number DropPage = 13
-number ReadSeg = 14
-number LoadSeg = 15
-number PushSeg = 16
-number PopSeg = 17
-number FarJump = 18
-number PortIn = 19
-number PortOut = 20
-number Return = 21
-number JumpTo = 22
-number CallTo = 23
+number kind = tag_of the_type kind + 1
 
 -- the kind of a number, if it is one of 1 to 23
 abbrev pub kind_numbered : ℕ → Option SiteKind

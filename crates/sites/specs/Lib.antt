@@ -9,3 +9,4 @@ pub mod Gapped
 pub mod Formats
 pub mod Limits
 pub mod Patched
+pub mod Room

@@ -1,7 +1,7 @@
 -- What is read of a list of sites in format 1, or the first bad byte.
-use Rattle.std.specs.Prelude.{ℕ, zero, suc, ◌+◌, max, Bool, not, ◌&&◌, List, [], ◌∷◌, length, Option, Some, None, Result, Ok, Err, is_none, unwrap_or, nat_lt, ◌==◌}
+use Rattle.std.specs.Prelude.{ℕ, zero, suc, ◌+◌, max, Bool, not, ◌&&◌, List, [], ◌∷◌, length, Option, Result, Ok, Err, is_none, unwrap_or, nat_lt, ◌==◌}
 use Rattle.std.specs.Bool.{then_some}
-use Rattle.std.specs.Option.{option_or}
+use Rattle.std.specs.Option.{option_or, option_map_or}
 use Rattle.guest_ram.specs.Bytes.{byte, word32}
 use Rattle.sites.specs.declared.site.Site.{Site}
 use Rattle.ia32_types.specs.declared.site.SiteKind.TheVariants.{Cli}
@@ -56,9 +56,9 @@ unfoldable pub sites_at : List ℕ → ℕ → ℕ → List Site
 sites_at bytes zero a = []
 sites_at bytes (suc n) a = site_at bytes a ∷ sites_at bytes n (a + 8)
 
-abbrev pub unless : Option ℕ → SitesParts → Result SitesParts ℕ
-unless None sites = Ok sites
-unless (Some at) sites = Err at
+-- a value, unless there is something by which it is refused
+abbrev pub unless : {X E : Type 0} → Option E → X → Result X E
+unless fault x = option_map_or Err fault (Ok x)
 
 -- format 1
 unfoldable pub placed_in : List ℕ → Result SitesParts ℕ

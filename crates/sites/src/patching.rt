@@ -2,7 +2,8 @@
 
 ghost use Rattle.std.specs.Prelude.{◌≡◌, ◌≤◌, ◌<◌, ◌+◌, ◌^◌, length};
 ghost use Rattle.guest_ram.specs.Bytes.{with_part};
-ghost use Rattle.sites.specs.Patched.{patch_bytes, patched, AreInside};
+ghost use Rattle.sites.specs.Patched.{patch_bytes, patched};
+ghost use Rattle.sites.specs.Room.{AreInside};
 
 use crate::site::Sites;
 use guest_ram::Ram;

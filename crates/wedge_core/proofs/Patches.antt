@@ -4,7 +4,7 @@ use Rattle.std.proofs.lemmas.List.{places, same_lists, length-take-le}
 use Rattle.guest_ram.specs.Bytes.{part, with_part}
 use Rattle.guest_ram.proofs.Bytes.{with_part-with_part, with_part-part}
 use Rattle.sites.specs.declared.site.Site.{Site}
-use Rattle.sites.specs.Patched.{AreInside}
+use Rattle.sites.specs.Room.{AreInside}
 use Rattle.machine_model.specs.State.{Setting}
 use Rattle.native_steps.specs.Mirrors.{shown}
 use Rattle.wedge_step.proofs.Memories.{part_front}

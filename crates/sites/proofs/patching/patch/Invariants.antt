@@ -1,5 +1,6 @@
 use Rattle.std.proofs.Common.{◌≡◌, drop, length}
-use Rattle.sites.specs.Patched.{patched, AreInside}
+use Rattle.sites.specs.Patched.{patched}
+use Rattle.sites.specs.Room.{AreInside}
 use Rattle.sites.proofs.patching.patch.Given as goal
 
 abbrev pub invariant-loop-s : goal.invariant-loop-s

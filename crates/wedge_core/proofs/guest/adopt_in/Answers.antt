@@ -10,7 +10,8 @@ use Rattle.frame_pool.specs.declared.Pool.{Pool}
 use Rattle.frame_pool.proofs.Above.{Owns-above, SameIn-above, free_list-above}
 use Rattle.frame_pool.proofs.Held.{Owns-none}
 use Rattle.image_check.specs.Image.{Image}
-use Rattle.sites.specs.Patched.{patched, AreInside}
+use Rattle.sites.specs.Patched.{patched}
+use Rattle.sites.specs.Room.{AreInside}
 use Rattle.sites.specs.declared.site.Site.{Site}
 use Rattle.shadow_cache.specs.Views as roots
 use Rattle.shadow_cache.specs.declared.roots.Roots.{Roots}
