@@ -29,12 +29,12 @@ use Rattle.image_check.specs.Image.{Image}
 use Rattle.image_check.specs.Sweep.{Swept, sweep}
 use Rattle.image_check.specs.SweptTexts.{Sweep}
 use Rattle.image_check.specs.Pieces.{is_nop, target_of, site_role, piece_of, pieces_of, pieces_in, is_piece_start}
-use Rattle.image_check.specs.TextSites.{is_same, differ, Found, found_in, unless_lacking, sites_of}
+use Rattle.image_check.specs.TextSites.{is_same, differ, Found, found_in}
+use Rattle.image_check.specs.Accepts.{unless_lacking, sites_of, IsWithin, IsEntrance, IsAccepted, Accepts}
 use Rattle.image_check.specs.Targets.{is_inside, is_entrance, leads_wrong, wrong_target}
 use Rattle.image_check.specs.Refusals.{Refusal}
 use Rattle.image_check.specs.Conditions.{text_place, init_place, text_size, init_size, entry_place, last_at, ends_at, text_end, site_wrong, entry_at, entry_start}
 use Rattle.image_check.specs.Checking.{as_form, placed, annotated, entered, image_with, image_from, image_of}
-use Rattle.image_check.specs.Accepts.{IsWithin, IsEntrance, IsAccepted, Accepts}
 use Rattle.image_check.proofs.FileLimits.{text_bytes}
 use Rattle.image_check.proofs.Offsets.{any_at, swept_in}
 use Rattle.image_check.proofs.Passed.{bind_ok, IsPlaced, has_passed, within_parts}

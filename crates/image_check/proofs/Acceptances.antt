@@ -1,6 +1,6 @@
 -- What the check's answer says of the file.
 use Rattle.std.proofs.Common.{◌≡◌, ℕ, List, Result, Ok, Err, refl, subst, ap, inl, inr, ◌⊎◌}
-use Rattle.elf_form.specs.Faults.{Fault}
+use Rattle.elf_form.specs.Faults.{Fault, ◌>>=◌}
 use Rattle.elf_form.specs.Order.{IsFirstOf}
 use Rattle.elf_form.specs.ImageParts.{ImageParts}
 use Rattle.elf_form.specs.Reading.{image_in}
@@ -12,7 +12,7 @@ use Rattle.image_check.specs.declared.fault.CheckCause.{CheckCause}
 use Rattle.image_check.specs.declared.fault.CheckFault.{CheckFault}
 use Rattle.image_check.specs.declared.fault.CheckFault.TheVariants as faults
 use Rattle.image_check.specs.Image.{Image}
-use Rattle.image_check.specs.Refusals.{Refusal, Form, Wrong, ◌>>=◌}
+use Rattle.image_check.specs.Refusals.{Refusal, Form, Wrong}
 use Rattle.image_check.specs.Answers.{Gives}
 use Rattle.image_check.specs.Checking.{as_form, image_from, image_of}
 use Rattle.image_check.specs.Accepts.{Accepts}

@@ -10,7 +10,8 @@ use Rattle.image_check.specs.declared.fault.CheckCause.TheVariants.{TextPlace, I
 use Rattle.image_check.specs.declared.piece.Piece.{Piece}
 use Rattle.image_check.specs.Image.{Image}
 use Rattle.image_check.specs.Sweep.{Swept, sweep}
-use Rattle.image_check.specs.Refusals.{Refusal, Wrong, test, ◌>>=◌}
+use Rattle.elf_form.specs.Faults.{◌>>=◌}
+use Rattle.image_check.specs.Refusals.{Refusal, Wrong, test}
 use Rattle.image_check.specs.Pieces.{is_refused, piece_of, pieces_of, pieces_in}
 use Rattle.image_check.specs.Targets.{is_entrance, wrong_target}
 use Rattle.image_check.specs.Conditions.{text_place, init_place, text_size, init_size, entry_place, text_end, site_wrong, entry_start}

@@ -11,7 +11,8 @@ use Rattle.image_check.specs.declared.fault.CheckFault.{CheckFault}
 use Rattle.image_check.specs.declared.fault.CheckCause.TheVariants.{TextPlace, InitPlace, TextSize, InitSize, EntryPlace, TextEnd, SiteWrong, Target, EntryStart}
 use Rattle.image_check.specs.declared.piece.Piece.{Piece}
 use Rattle.image_check.specs.Image.{Image}
-use Rattle.image_check.specs.Refusals.{Refusal, test, ◌>>=◌}
+use Rattle.elf_form.specs.Faults.{◌>>=◌}
+use Rattle.image_check.specs.Refusals.{Refusal, test}
 use Rattle.image_check.specs.Answers.{Gives}
 use Rattle.image_check.specs.Pieces.{pieces_in}
 use Rattle.image_check.specs.Targets.{is_entrance, wrong_target}

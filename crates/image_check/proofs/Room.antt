@@ -26,8 +26,7 @@ use Rattle.ia32_rows.specs.Rows.{rows}
 use Rattle.ia32_rows.proofs.Pieces.{in_pieces}
 use Rattle.ia32_rows.proofs.Readers.{same_read}
 use Rattle.ia32_decode.specs.Answer.{Begins}
-use Rattle.sites.specs.declared.site.Site.{Site}
-use Rattle.sites.specs.Patched.{AreInside}
+use Rattle.sites.specs.Room.{AreInside}
 use Rattle.image_check.specs.declared.piece.Role.{Role}
 use Rattle.image_check.specs.declared.piece.Role.TheVariants as role
 use Rattle.image_check.specs.declared.piece.Piece.{Piece}

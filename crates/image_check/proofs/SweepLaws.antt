@@ -10,7 +10,8 @@ use Rattle.ia32_decode.specs.Answer.{Begins, Answers}
 use Rattle.ia32_decode.specs.Decoding.{decoded}
 use Rattle.ia32_decode.proofs.Exact.{answered}
 use Rattle.ia32_decode.proofs.Whole.{exactly_insn, begins_not_cut}
-use Rattle.image_check.specs.Sweep.{Swept, swept_at, sweep_from, sweep, ◌>>=◌}
+use Rattle.elf_form.specs.Faults.{◌>>=◌}
+use Rattle.image_check.specs.Sweep.{Swept, swept_at, sweep_from, sweep}
 use Rattle.image_check.specs.SweptTexts.{SweepsTo, Sweep, SweepStops}
 use Rattle.image_check.proofs.Begun.{begun_has_byte}
 

@@ -8,8 +8,10 @@ use Rattle.image_check.specs.declared.fault.CheckFault.{CheckFault}
 use Rattle.image_check.specs.declared.fault.CheckFault.TheVariants as faults
 use Rattle.image_check.specs.Refusals.{Refusal, Form, Wrong}
 use Rattle.image_check.specs.Answers.{Fails}
-use Rattle.image_check.specs.Sweep.{Swept, swept_at, sweep_from, sweep, ◌>>=◌}
-use Rattle.image_check.specs.Pieces.{piece_of, piece_as, pieces_of, pieces_in, stop_cause}
+use Rattle.elf_form.specs.Faults.{◌>>=◌}
+use Rattle.image_check.specs.Sweep.{Swept, swept_at, sweep_from, sweep}
+use Rattle.image_check.specs.Pieces.{piece_of, pieces_of, pieces_in, stop_cause}
+use Rattle.image_check.specs.Stops.{piece_as}
 use Rattle.image_check.proofs.SweepLaws.{step_is, ends}
 
 -- more instructions behind some

@@ -1,7 +1,7 @@
 -- Which images are accepted, in words that name no order of tests.
 use Rattle.ia32_types.specs.declared.addresses.TheConstants.{DATA_ADDRESS, TEXT_ADDRESS}
 use Rattle.ia32_types.specs.Branches.{is_direct_branch}
-use Rattle.std.specs.Prelude.{◌≡◌, ℕ, ◌+◌, ◌-◌, ◌≤◌, ◌<◌, true, false, Bool, List, length, map, slice_index_or, Some, Ok}
+use Rattle.std.specs.Prelude.{◌≡◌, ℕ, ◌+◌, ◌-◌, ◌≤◌, ◌<◌, true, false, Bool, List, length, map, slice_index_or, Option, Some, None, Ok}
 use Rattle.std.specs.List.{Contains}
 use Rattle.guest_ram.specs.Among.{is_among}
 use Rattle.ia32_rows.specs.Spells.{AreBytes}
@@ -10,11 +10,12 @@ use Rattle.elf_form.specs.Accepted.{ImageAs}
 use Rattle.sites.specs.declared.site.Site.{Site}
 use Rattle.sites.specs.declared.limits.TheConstants.{TEXT_LIMIT, INIT_LIMIT}
 use Rattle.sites.specs.Formats.{sites_in}
+use Rattle.image_check.specs.declared.piece.Piece.{Piece}
 use Rattle.image_check.specs.Image.{Image}
 use Rattle.image_check.specs.Sweep.{Swept, starts_of}
 use Rattle.image_check.specs.SweptTexts.{Sweep}
 use Rattle.image_check.specs.Pieces.{target_of, piece_of}
-use Rattle.image_check.specs.TextSites.{sites_of}
+use Rattle.image_check.specs.TextSites.{found_in}
 use Rattle.image_check.specs.Conditions.{last_at, ends_at}
 use Rattle.image_check.specs.Checking.{image_with, image_from}
 
@@ -23,6 +24,14 @@ pub record IsWithin (image : Image) : Type 0 where
   pub text : (1 ≤ length image.text) × (length image.text ≤ TEXT_LIMIT)
   pub room : length image.init + image.bss ≤ INIT_LIMIT
   pub entry : (TEXT_ADDRESS ≤ image.entry) × (image.entry < TEXT_ADDRESS + length image.text)
+
+-- the sites of a text, where each sensitive instruction has its NOPs
+abbrev pub unless_lacking : List Site → Option ℕ → Option (List Site)
+unless_lacking sites None = Some sites
+unless_lacking sites (Some at) = None
+
+abbrev pub sites_of : List Piece → Option (List Site)
+sites_of ps = unless_lacking (found_in ps).sites (found_in ps).lacking
 
 -- A start of the sweep, and not in a site past its first byte.
 pub record IsEntrance (swept : List Swept) (sites : List Site) (at : ℕ) : Type 0 where

@@ -1,6 +1,7 @@
 -- What is said of a file: the image that it is, or the first condition that it breaks.
-use Rattle.std.specs.Prelude.{ℕ, List, Result, Ok, Err}
-use Rattle.elf_form.specs.Faults.{Fault}
+use Rattle.std.specs.Prelude.{ℕ, List, Result, Ok}
+use Rattle.std.specs.Result.{result_map_both}
+use Rattle.elf_form.specs.Faults.{Fault, ◌>>=◌}
 use Rattle.elf_form.specs.ImageParts.{ImageParts}
 use Rattle.elf_form.specs.Reading.{image_in}
 use Rattle.sites.specs.declared.site.Site.{Site}
@@ -8,18 +9,16 @@ use Rattle.sites.specs.Formats.{told_format, listed}
 use Rattle.image_check.specs.declared.fault.CheckCause.TheVariants.{TextPlace, InitPlace, TextSize, InitSize, EntryPlace, TextEnd, SiteWrong, SitesForm, Target, EntryStart}
 use Rattle.image_check.specs.declared.piece.Piece.{Piece}
 use Rattle.image_check.specs.Image.{Image}
-use Rattle.image_check.specs.Refusals.{Refusal, Form, Wrong, test, ◌>>=◌}
+use Rattle.image_check.specs.Refusals.{Refusal, Form, Wrong, test}
 use Rattle.image_check.specs.Pieces.{pieces_in}
 use Rattle.image_check.specs.Targets.{is_entrance, wrong_target}
 use Rattle.image_check.specs.Conditions.{text_place, init_place, text_size, init_size, entry_place, text_end, site_wrong, entry_start}
 
 abbrev pub as_form : Result ImageParts Fault → Result ImageParts Refusal
-as_form (Ok parts) = Ok parts
-as_form (Err fault) = Err (Form fault)
+as_form read = result_map_both (λ parts. parts) Form read
 
 abbrev pub as_sites : Result (List Site) ℕ → Result (List Site) Refusal
-as_sites (Ok sites) = Ok sites
-as_sites (Err at) = Err (Wrong at SitesForm)
+as_sites read = result_map_both (λ sites. sites) (λ at. Wrong at SitesForm) read
 
 -- places and sizes
 unfoldable pub placed : ImageParts → Result (Unit {0}) Refusal

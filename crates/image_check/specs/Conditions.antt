@@ -1,6 +1,7 @@
 -- The conditions on an image, each with the first place at which it is broken.
-use Rattle.std.specs.Prelude.{ℕ, ◌+◌, ◌-◌, Bool, not, ◌&&◌, ◌||◌, List, length, slice_get, slice_index, Option, Some, None, nat_lt, ◌==◌}
+use Rattle.std.specs.Prelude.{ℕ, ◌+◌, ◌-◌, Bool, not, ◌&&◌, ◌||◌, List, length, slice_get, slice_index, Option, nat_lt, ◌==◌}
 use Rattle.std.specs.Bool.{then_some}
+use Rattle.std.specs.Option.{option_map_or}
 use Rattle.ia32_types.specs.declared.addresses.TheConstants.{DATA_ADDRESS, TEXT_ADDRESS}
 use Rattle.elf_form.specs.Faults.{◌or_lower◌}
 use Rattle.elf_form.specs.ImageParts.{ImageParts}
@@ -27,8 +28,7 @@ entry_place parts = then_some (nat_lt parts.entry TEXT_ADDRESS || not (nat_lt pa
 
 -- the offset of the last instruction
 abbrev pub at_of : Option Piece → ℕ
-at_of None = 0
-at_of (Some p) = p.at
+at_of piece = option_map_or (λ (p : Piece). p.at) piece 0
 
 abbrev pub last_at : List Piece → ℕ
 last_at ps = at_of (slice_get ps (length ps - 1))

@@ -14,3 +14,4 @@ pub mod Reasons
 pub mod Places
 pub mod Standing
 pub mod Layout
+pub mod Stops

@@ -1,6 +1,8 @@
 -- What the conditions on an image ask of its instructions.
-use Rattle.std.specs.Prelude.{ℕ, ◌+◌, ◌%◌, ◌^◌, Bool, true, false, List, drop, map, Option, Some, None, Result, Ok, Err, is_ok, ◌==◌, if◌then◌else◌}
+use Rattle.std.specs.Prelude.{ℕ, ◌+◌, ◌%◌, ◌^◌, Bool, true, false, List, drop, map, Option, Result, is_ok, ◌==◌, if◌then◌else◌}
 use Rattle.std.specs.List.{list_any}
+use Rattle.std.specs.Option.{option_map_or}
+use Rattle.std.specs.Result.{result_map_both}
 use Rattle.ia32_types.specs.Branches.{is_direct_branch}
 use Rattle.ia32_types.specs.declared.insn.Insn.{Insn}
 use Rattle.ia32_types.specs.declared.insn.Op.{Op}
@@ -27,8 +29,7 @@ abbrev pub target_of : ℕ → ℕ → Insn → ℕ
 target_of at len insn = (at + len + insn.imm) % 2 ^ 32
 
 abbrev pub site_role : Option SiteKind → Role
-site_role (Some kind) = role.Site kind
-site_role None = role.Plain
+site_role kind = option_map_or role.Site kind role.Plain
 
 abbrev pub role_of : ℕ → ℕ → Insn → Role
 role_of at len insn = if is_direct_branch insn.op then role.Branch (target_of at len insn) else if is_nop insn.op then role.Nop else site_role (sensitive_kind insn)
@@ -45,17 +46,11 @@ abbrev pub stop_cause : List ℕ → CheckCause
 stop_cause rest = if is_refused rest then RefusedCode else BadCode
 
 abbrev pub pieces_of : List ℕ → Result (List Swept) ℕ → Result (List Piece) Refusal
-pieces_of text (Ok swept) = Ok (map piece_of swept)
-pieces_of text (Err at) = Err (Wrong at (stop_cause (drop at text)))
+pieces_of text swept = result_map_both (map piece_of) (λ at. Wrong at (stop_cause (drop at text))) swept
 
 -- the instructions of a text, or why there are none
 unfoldable pub pieces_in : List ℕ → Result (List Piece) Refusal
 pieces_in text = pieces_of text (sweep text)
-
--- the instruction at an offset, or why there is none
-abbrev pub piece_as : List ℕ → Result Swept ℕ → Result Piece Refusal
-piece_as text (Ok s) = Ok (piece_of s)
-piece_as text (Err at) = Err (Wrong at (stop_cause (drop at text)))
 
 -- whether an instruction stands at an offset
 abbrev pub is_piece_start : List Piece → ℕ → Bool

@@ -8,11 +8,6 @@ pub data Refusal : Type 0 where
   Form : Fault → Refusal
   Wrong : ℕ → CheckCause → Refusal
 
-infixl 10 ◌>>=◌
-abbrev pub ◌>>=◌ : {A B : Type 0} → Result A Refusal → (A → Result B Refusal) → Result B Refusal
-(Ok x) >>= f = f x
-(Err e) >>= f = Err e
-
 -- a test that passes where it finds no place
 abbrev pub test : CheckCause → Option ℕ → Result (Unit {0}) Refusal
 test cause None = Ok tt

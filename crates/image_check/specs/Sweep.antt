@@ -1,9 +1,11 @@
 -- The sweep of a text: the instructions that stand in it, one directly behind the other.
 use Rattle.std.specs.Prelude.{ℕ, zero, suc, ◌+◌, List, [], ◌∷◌, length, drop, map, Result, Ok, Err}
+use Rattle.std.specs.Result.{result_unwrap_or}
 use Rattle.ia32_types.specs.declared.insn.Insn.{Insn}
 use Rattle.ia32_decode.specs.Decoding.{decoded}
 use Rattle.ia32_decode.specs.declared.answer.Decoded.{Decoded}
 use Rattle.ia32_decode.specs.declared.answer.Decoded.TheVariants as answer
+use Rattle.elf_form.specs.Faults.{◌>>=◌}
 
 -- an instruction, the offset at which it stands, and the length of its spelling
 pub record Swept : Type 0 where
@@ -13,15 +15,9 @@ pub record Swept : Type 0 where
 
 -- The instructions of the text, or the offset at which the sweep stops. Each has a byte, so
 -- there are no more of them than bytes.
-infixl 10 ◌>>=◌
-abbrev pub ◌>>=◌ : {A B : Type 0} → Result A ℕ → (A → Result B ℕ) → Result B ℕ
-(Ok x) >>= f = f x
-(Err at) >>= f = Err at
-
 abbrev pub swept_at : ℕ → Decoded → Result Swept ℕ
 swept_at at (answer.Insn insn len) = Ok (record { at = at; len = len; insn = insn })
-swept_at at answer.Short = Err at
-swept_at at answer.Outside = Err at
+swept_at at _ = Err at
 
 unfoldable pub sweep_from : ℕ → ℕ → List ℕ → Result (List Swept) ℕ
 sweep_from zero at bytes = Ok []
@@ -35,8 +31,7 @@ unfoldable pub sweep : List ℕ → Result (List Swept) ℕ
 sweep text = sweep_from (length text) 0 text
 
 abbrev pub swept_or_none : Result (List Swept) ℕ → List Swept
-swept_or_none (Ok swept) = swept
-swept_or_none (Err at) = []
+swept_or_none swept = result_unwrap_or swept []
 
 -- the offsets at which the instructions of a text stand
 unfoldable pub starts_of : List ℕ → List ℕ

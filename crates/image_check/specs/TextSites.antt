@@ -75,14 +75,6 @@ found_behind zero (p ∷ ps) = found_by p (λ skipped. found_behind skipped ps) 
 abbrev pub found_in : List Piece → Found
 found_in ps = found_behind 0 ps
 
--- the sites of a text, where each sensitive instruction has its NOPs
-abbrev pub unless_lacking : List Site → Option ℕ → Option (List Site)
-unless_lacking sites None = Some sites
-unless_lacking sites (Some at) = None
-
-abbrev pub sites_of : List Piece → Option (List Site)
-sites_of ps = unless_lacking (found_in ps).sites (found_in ps).lacking
-
 -- the lowest offset at which two lists of sites differ
 abbrev pub is_same : Site → Site → Bool
 is_same s t = s.at == t.at && number s.kind == number t.kind && s.len == t.len && s.total == t.total

@@ -40,7 +40,7 @@ impl Model for Checked {
 }
 
 impl Checked {
-    ghost use Rattle.sites.specs.Patched.{AreInside};
+    ghost use Rattle.sites.specs.Room.{AreInside};
     ghost use Rattle.sites.specs.Formats.{told_format};
     ghost use Rattle.image_check.specs.Sweep.{starts_of};
     ghost use Rattle.image_check.specs.Checking.{image_from, image_with};

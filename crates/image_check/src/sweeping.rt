@@ -4,7 +4,8 @@ ghost use Rattle.std.specs.Prelude.{◌≡◌, ℕ, ◌+◌, ◌<◌, ◌≤◌,
 ghost use Rattle.sites.specs.declared.limits.TheConstants.{TEXT_LIMIT};
 ghost use Rattle.image_check.specs.Answers.{Gives};
 ghost use Rattle.image_check.specs.Sweep.{swept_at};
-ghost use Rattle.image_check.specs.Pieces.{is_refused, stop_cause, piece_as, pieces_in, is_piece_start};
+ghost use Rattle.image_check.specs.Pieces.{is_refused, stop_cause, pieces_in, is_piece_start};
+ghost use Rattle.image_check.specs.Stops.{piece_as};
 ghost use Rattle.ia32_decode.specs.Decoding.{decoded};
 
 use crate::fault::{CheckCause, CheckFault};

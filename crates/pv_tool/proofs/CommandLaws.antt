@@ -10,7 +10,7 @@ use Rattle.asm_source.specs.declared.tree.SourceItem.{SourceItem}
 use Rattle.board.specs.Scripts.{Events}
 use Rattle.elf_form.specs.ObjectParts.{ObjectParts}
 use Rattle.elf_form.specs.ObjectLayout.{object_bytes}
-use Rattle.elf_form.specs.Faults.{Fault}
+use Rattle.elf_form.specs.Faults.{Fault, ◌>>=◌}
 use Rattle.elf_form.specs.ImageParts.{ImageParts}
 use Rattle.elf_form.specs.ImageLayout.{image_bytes}
 use Rattle.afterburner.specs.Burnt as burning
@@ -18,7 +18,7 @@ use Rattle.afterburner.specs.Burnt.{burnt}
 use Rattle.elf_link.specs.Refusals.{Refused}
 use Rattle.elf_link.specs.Linked.{linked_image}
 use Rattle.image_check.specs.Image.{Image}
-use Rattle.image_check.specs.Refusals.{Refusal, ◌>>=◌}
+use Rattle.image_check.specs.Refusals.{Refusal}
 use Rattle.image_check.specs.Checking.{image_of, image_from, as_form}
 use Rattle.image_check.proofs.Passed.{has_passed}
 use Rattle.image_load.specs.Boot.{need}

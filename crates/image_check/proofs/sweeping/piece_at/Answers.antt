@@ -7,7 +7,7 @@ use Rattle.image_check.specs.declared.piece.Role.{Role}
 use Rattle.image_check.specs.declared.piece.Piece.{Piece}
 use Rattle.image_check.specs.Refusals.{Refusal}
 use Rattle.image_check.specs.Sweep.{swept_at}
-use Rattle.image_check.specs.Pieces.{piece_as}
+use Rattle.image_check.specs.Stops.{piece_as}
 use Rattle.image_check.proofs.Begun.{begun_within}
 use Rattle.image_check.proofs.sweeping.piece_at.Goals as goal
 

@@ -1,5 +1,5 @@
 use Rattle.std.proofs.Common.{subst, length}
-use Rattle.sites.specs.Patched.{AreInside}
+use Rattle.sites.specs.Room.{AreInside}
 use Rattle.image_check.specs.Image.{Image}
 use Rattle.image_check.specs.Layout.{AreApart}
 use Rattle.image_check.proofs.Acceptance.{accepted_from}
