@@ -6,7 +6,8 @@ mod fault;
 
 ghost use Rattle.std.specs.Prelude.{◌≡◌, ◌+◌, ◌*◌, ◌<◌, ◌≤◌, ◌^◌, length, replicate, take, drop, OnOk, IfOk, IfErr};
 ghost use Rattle.guest_ram.specs.Bytes.{with_part};
-ghost use Rattle.image_load.specs.Boot.{frame_words, with_image, with_tables, with_directory, boot_descriptors, boot_ram, boot_cpu, boot_of, need, text_pages, data_pages, data_frame, tables_of, pages_of, cpu_from, plain_segment};
+ghost use Rattle.image_load.specs.Boot.{frame_words, with_image, with_tables, with_directory, boot_descriptors, boot_ram, boot_cpu, need, text_pages, data_pages, data_frame, tables_of, pages_of, cpu_from, plain_segment};
+ghost use Rattle.image_load.specs.Booted.{boot_of};
 ghost use Rattle.image_check.specs.Accepts.{IsWithin};
 
 pub use boot::{Boot, TooSmall};
