@@ -5,7 +5,7 @@ use Rattle.sites.proofs.Formats.{whole}
 use Rattle.sites.specs.declared.limits.TheConstants.{TEXT_LIMIT}
 use Rattle.elf_form.specs.ObjectParts.{ObjectParts}
 use Rattle.elf_form.specs.ImageParts.{ImageParts}
-use Rattle.elf_form.specs.Faults.{Fault}
+use Rattle.elf_form.specs.Faults.{Fault, ◌>>=◌}
 use Rattle.elf_form.specs.Output.{pad}
 use Rattle.elf_form.specs.ImageLayout.{init_from, sites_from, names_from, sections_from, image_bytes}
 use Rattle.elf_form.specs.Writable.{IsWritableImage, HasLongs}
@@ -14,7 +14,6 @@ use Rattle.elf_form.proofs.RoundTrip.{read_again}
 use Rattle.elf_form.proofs.Acceptance.{read_as}
 use Rattle.elf_link.specs.Linked.{linked_image}
 use Rattle.image_check.specs.Image.{Image}
-use Rattle.image_check.specs.Refusals.{◌>>=◌}
 use Rattle.image_check.specs.Checking.{as_form, image_with, image_from, image_of}
 use Rattle.image_check.specs.Accepts.{Accepts}
 use Rattle.image_check.proofs.Acceptance.{accepted_from}

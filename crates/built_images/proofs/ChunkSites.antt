@@ -17,7 +17,8 @@ use Rattle.image_check.specs.declared.site.Here.{Here}
 use Rattle.image_check.specs.declared.site.Here.TheVariants as here
 use Rattle.image_check.specs.SweptTexts.{SweepsTo, Sweep}
 use Rattle.image_check.specs.Pieces.{is_nop, target_of, site_role, role_of, piece_of}
-use Rattle.image_check.specs.TextSites.{has_nops, has_hlt, is_sti, by_role, single, pair, begun_by, Found, with_site, found_by, found_behind, unless_lacking, sites_of}
+use Rattle.image_check.specs.TextSites.{has_nops, has_hlt, is_sti, by_role, single, pair, begun_by, Found, with_site, found_by, found_behind}
+use Rattle.image_check.specs.Accepts.{unless_lacking, sites_of}
 use Rattle.image_check.proofs.SiteSteps.{look_at}
 use Rattle.image_check.proofs.Laid.{branch_kind}
 use Rattle.built_images.specs.Joined.{sti, hlt, nops_at}

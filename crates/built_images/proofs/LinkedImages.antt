@@ -33,7 +33,8 @@ use Rattle.elf_link.specs.Relocations.{reloc_cause, field_at, address_by, sum_of
 use Rattle.elf_link.specs.Sites.{linked_sites}
 use Rattle.elf_form.specs.Tables.{first_some}
 use Rattle.elf_form.proofs.FormLaws.{then_none, else_none}
-use Rattle.elf_link.specs.Refusals.{Refused, object_cause, refused, object_refusal, relocs_refusal, start, start_refusal, refusal, unless}
+use Rattle.sites.specs.Reading.{unless}
+use Rattle.elf_link.specs.Refusals.{Refused, object_cause, refused, object_refusal, relocs_refusal, start, start_refusal, refusal}
 use Rattle.elf_link.specs.Linked.{linked_text, linked_init, entry_at, image, linked_image}
 use Rattle.image_check.specs.Sweep.{Swept}
 use Rattle.image_check.specs.Pieces.{target_of}

@@ -2,9 +2,8 @@
 
 ghost use Rattle.std.specs.Prelude.{◌≡◌, ℕ, List, map, Some};
 ghost use Rattle.image_check.specs.SweptTexts.{Sweep};
-ghost use Rattle.image_check.specs.Accepts.{IsEntrance};
+ghost use Rattle.image_check.specs.Accepts.{IsEntrance, sites_of};
 ghost use Rattle.image_check.specs.Pieces.{piece_of};
-ghost use Rattle.image_check.specs.TextSites.{sites_of};
 ghost use Rattle.built_images.specs.Chunks.{Chunk, AreChunks, Begins, chunks_text, chunk_sites, chunks_swept};
 
 /// A text of instructions of which each sensitive one is followed by NOPs up to five bytes, or is STI with HLT and three

@@ -23,7 +23,8 @@ use Rattle.elf_form.specs.Linkable.{IsLinkable}
 use Rattle.elf_link.specs.Relocations.{contents_of, with_fields}
 use Rattle.elf_link.specs.Sites.{linked_sites}
 use Rattle.elf_form.specs.Tables.{first_some}
-use Rattle.elf_link.specs.Refusals.{Refused, refusal, object_refusal, relocs_refusal, start_refusal, start, unless}
+use Rattle.sites.specs.Reading.{unless}
+use Rattle.elf_link.specs.Refusals.{Refused, refusal, object_refusal, relocs_refusal, start_refusal, start}
 use Rattle.elf_link.specs.Linked.{padded, texts, inits, linked_text, linked_init, image, linked_image, entry_at}
 use Rattle.elf_link.specs.Steps.{tested, entered}
 use Rattle.elf_link.specs.Answers.{Fails}

@@ -7,7 +7,8 @@ use Rattle.std.specs.Map as entries
 use Rattle.std.proofs.lemmas.Bool.{or_parts}
 use Rattle.indexmap.specs.IndexMap.{insert_entry}
 use Rattle.elf_link.specs.declared.target.Target.{Target}
-use Rattle.elf_link.specs.Symbols.{lookup, named}
+use Rattle.elf_link.specs.Symbols.{lookup}
+use Rattle.elf_link.specs.Held.{named}
 use Rattle.elf_link.specs.Refusals.{holds}
 
 pub found_is : (name : List ℕ) (es : List (Vec ℕ × Target)) → entries.lookup (λ k. bytes_eq name k.items) es ≡ lookup name (named es)

@@ -3,7 +3,8 @@ use Rattle.std.proofs.Common.{◌≡◌, ℕ, ◌+◌, ◌<◌, List, length, ge
 use Rattle.std.specs.Prelude.{sum_by}
 use Rattle.elf_form.specs.ObjectParts.{ObjectParts}
 use Rattle.elf_link.specs.declared.layout.Span.{Span}
-use Rattle.elf_link.specs.Layout.{extent, behind}
+use Rattle.elf_link.specs.Layout.{extent}
+use Rattle.elf_link.specs.Steps.{behind}
 use Rattle.elf_link.proofs.LayoutLaws.{room_of, sum-more, extent-more}
 
 pub record Spans (size : ObjectParts → ℕ) (os : List ObjectParts) (i : ℕ) (span : Span) : Type 0 where

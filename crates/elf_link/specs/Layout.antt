@@ -1,11 +1,10 @@
 -- Where the parts of the objects stand: sums over the objects before.
-use Rattle.std.specs.Prelude.{ℕ, ◌+◌, ◌==◌, List, [], ◌∷◌, length, map, Option, Some, None, take, sum_by, if◌then◌else◌}
+use Rattle.std.specs.Prelude.{ℕ, ◌+◌, ◌==◌, List, [], ◌∷◌, length, map, Option, unwrap_or, take, sum_by, if◌then◌else◌}
 use Rattle.std.specs.List.{enumerate_from}
 use Rattle.ia32_types.specs.declared.addresses.TheConstants.{DATA_ADDRESS, TEXT_ADDRESS}
 use Rattle.elf_form.specs.ObjectParts.{ObjectParts}
 use Rattle.elf_form.specs.Output.{pad}
 use Rattle.elf_link.specs.declared.base.Base.{Base}
-use Rattle.elf_link.specs.declared.layout.Span.{Span}
 
 -- the next multiple of k
 abbrev pub round_up : ℕ → ℕ → ℕ
@@ -70,9 +69,4 @@ unfoldable pub bases : List ObjectParts → List Base
 bases os = map (λ p. base os p.0) (numbered os)
 
 abbrev pub or_zero : Option Base → Base
-or_zero None = record { text = 0; init = 0; bss = 0 }
-or_zero (Some b) = b
-
--- an extent with a part of n bytes more, at the next multiple of 4,096
-abbrev pub behind : Span → ℕ → Span
-behind span n = record { room = span.room + round_up 4096 n; end = if n == 0 then span.end else span.room + n }
+or_zero base = unwrap_or base (record { text = 0; init = 0; bss = 0 })

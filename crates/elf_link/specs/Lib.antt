@@ -10,3 +10,4 @@ pub mod Answers
 pub mod Facts
 pub mod Doubled
 pub mod Order
+pub mod Held

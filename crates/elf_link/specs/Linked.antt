@@ -1,11 +1,12 @@
 -- The image that objects make.
-use Rattle.std.specs.Prelude.{ℕ, ◌-◌, true, false, List, [], ◌∷◌, ◌++◌, length, take, replicate, Option, Some, None, Result, Ok, Err}
+use Rattle.std.specs.Prelude.{ℕ, ◌-◌, true, false, List, [], ◌∷◌, ◌++◌, length, take, replicate, Option, Result}
 use Rattle.std.specs.List.{flat_map}
+use Rattle.std.specs.Option.{option_map_or}
 use Rattle.ia32_types.specs.declared.addresses.TheConstants.{DATA_ADDRESS, TEXT_ADDRESS}
 use Rattle.elf_form.specs.ObjectParts.{ObjectParts}
 use Rattle.elf_form.specs.ImageParts.{ImageParts}
-use Rattle.elf_form.specs.ImageLayout.{image_bytes}
 use Rattle.elf_form.specs.Output.{pad}
+use Rattle.sites.specs.Reading.{unless}
 use Rattle.sites.specs.Spelling.{spelling}
 use Rattle.sites.specs.Limits.{in_text}
 use Rattle.elf_link.specs.declared.base.Base.{Base}
@@ -14,7 +15,7 @@ use Rattle.elf_link.specs.Layout.{text_end, init_end, memory_end, numbered, base
 use Rattle.elf_link.specs.Symbols.{address, globals}
 use Rattle.elf_link.specs.Relocations.{with_fields}
 use Rattle.elf_link.specs.Sites.{linked_sites}
-use Rattle.elf_link.specs.Refusals.{Refused, start, refusal, unless}
+use Rattle.elf_link.specs.Refusals.{Refused, start, refusal}
 
 -- bytes, and what fills them up to a multiple of k
 abbrev pub padded : ℕ → ℕ → List ℕ → List ℕ
@@ -35,8 +36,7 @@ unfoldable pub linked_init : List ObjectParts → List ℕ
 linked_init os = take (init_end os) (inits os (numbered os))
 
 abbrev pub entry_at : List Base → Option Target → ℕ
-entry_at bs None = TEXT_ADDRESS
-entry_at bs (Some t) = address bs t
+entry_at bs start = option_map_or (address bs) start TEXT_ADDRESS
 
 unfoldable pub image : List ObjectParts → ImageParts
 image os = record { text = linked_text os; init = linked_init os; bss = memory_end os - init_end os; entry = entry_at (bases os) (start os); text_at = TEXT_ADDRESS; init_at = DATA_ADDRESS; sites = spelling (in_text (length (linked_text os)) (linked_sites os)) }
@@ -44,7 +44,3 @@ image os = record { text = linked_text os; init = linked_init os; bss = memory_e
 -- the image, or the first refusal
 unfoldable pub linked_image : List ObjectParts → Result ImageParts Refused
 linked_image os = unless (refusal os) (image os)
-
-abbrev pub file_of : Result ImageParts Refused → Result (List ℕ) Refused
-file_of (Ok parts) = Ok (image_bytes parts)
-file_of (Err r) = Err r

@@ -1,5 +1,5 @@
 -- Why objects are not linked. The causes are tested in an order, and the first counts.
-use Rattle.std.specs.Prelude.{ℕ, ◌+◌, Bool, List, [], ◌∷◌, ◌++◌, length, map, take, filter, sum_by, nat_lt, codes, Option, Some, None, Result, Ok, Err, if◌then◌else◌}
+use Rattle.std.specs.Prelude.{ℕ, ◌+◌, Bool, List, [], ◌∷◌, ◌++◌, length, map, take, filter, sum_by, nat_lt, codes, Option, Some, None, option_map, option_and_then, if◌then◌else◌}
 use Rattle.std.specs.Bool.{then_some}
 use Rattle.std.specs.List.{list_any}
 use Rattle.std.specs.Option.{option_or}
@@ -38,8 +38,7 @@ abbrev pub doubled : List ObjectParts → ℕ × ObjectParts → Option (List �
 doubled os p = first_doubled (map (λ d. d.0) (definitions (take p.0 (numbered os)))) (exported_names p)
 
 abbrev pub doubled_cause : Option (List ℕ) → Option LinkCause
-doubled_cause None = None
-doubled_cause (Some name) = Some (Doubled name)
+doubled_cause name = option_map Doubled name
 
 -- the limits, over the objects up to and with this one, laid out by themselves; its sites; its names
 unfoldable pub object_cause : List ObjectParts → ℕ × ObjectParts → Option LinkCause
@@ -51,8 +50,7 @@ object_cause os p =
     (option_or (then_some (sites_wrong os p) SitesForm) (doubled_cause (doubled os p)))))
 
 abbrev pub refused : ℕ → Option LinkCause → Option Refused
-refused i None = None
-refused i (Some cause) = Some (record { object = i; cause = cause })
+refused i cause = option_map (λ c. record { object = i; cause = c }) cause
 
 abbrev pub object_refusal : List ObjectParts → ℕ × ObjectParts → Option Refused
 object_refusal os p = refused p.0 (object_cause os p)
@@ -65,16 +63,10 @@ abbrev pub start : List ObjectParts → Option Target
 start os = lookup (codes "_start") (globals os)
 
 abbrev pub start_refusal : Option Target → Option Refused
-start_refusal None = None
-start_refusal (Some t) = if is_text t.place then None else Some (record { object = t.object; cause = NotText t.value })
+start_refusal start = option_and_then (λ t. if is_text t.place then None else Some (record { object = t.object; cause = NotText t.value })) start
 
 -- each object; then the relocations of each object; then the entry
 unfoldable pub refusal : List ObjectParts → Option Refused
 refusal os =
     option_or (first_some (object_refusal os) (numbered os))
     (option_or (first_some (relocs_refusal os) (numbered os)) (start_refusal (start os)))
-
--- a value, unless something is refused
-abbrev pub unless : {X : Type 0} → Option Refused → X → Result X Refused
-unless None x = Ok x
-unless (Some r) x = Err r

@@ -1,5 +1,6 @@
 -- Fields that are filled with addresses and distances.
-use Rattle.std.specs.Prelude.{ℕ, ◌+◌, ◌-◌, ◌%◌, ◌^◌, ◌&&◌, Bool, not, List, fold, slice_get, Option, Some, None, if◌then◌else◌}
+use Rattle.std.specs.Prelude.{ℕ, ◌+◌, ◌-◌, ◌%◌, ◌^◌, ◌&&◌, Bool, not, List, fold, slice_get, Option, Some, None, option_and_then, if◌then◌else◌}
+use Rattle.std.specs.Option.{option_map_or}
 use Rattle.elf_form.specs.declared.object.Symbol.{Symbol}
 use Rattle.elf_form.specs.declared.object.Reloc.{Reloc}
 use Rattle.elf_form.specs.ObjectParts.{ObjectParts}
@@ -14,8 +15,7 @@ use Rattle.elf_link.specs.Symbols.{is_text, target_of, address}
 
 -- what a symbol of object i stands for, if it is there
 abbrev pub target_by : List (List ℕ × Target) → ℕ → Option Symbol → Option Target
-target_by gs i None = None
-target_by gs i (Some s) = target_of gs i s
+target_by gs i symbol = option_and_then (target_of gs i) symbol
 
 -- A relocation is refused where its symbol is defined nowhere, and where a branch would leave the text.
 abbrev pub target_cause : Reloc → Symbol → Option Target → Option LinkCause
@@ -23,8 +23,7 @@ target_cause r s None = Some (NoSymbol s.name)
 target_cause r s (Some t) = if r.in_text && r.relative && not (is_text t.place) then Some (NotText r.at) else None
 
 abbrev pub symbol_cause : List (List ℕ × Target) → ℕ → Reloc → Option Symbol → Option LinkCause
-symbol_cause gs i r None = None
-symbol_cause gs i r (Some s) = target_cause r s (target_of gs i s)
+symbol_cause gs i r symbol = option_and_then (λ s. target_cause r s (target_of gs i s)) symbol
 
 unfoldable pub reloc_cause : List (List ℕ × Target) → ℕ × ObjectParts → Reloc → Option LinkCause
 reloc_cause gs p r = symbol_cause gs p.0 r (slice_get p.1.symbols r.symbol)
@@ -34,8 +33,7 @@ abbrev pub field_at : Base → Reloc → ℕ
 field_at b r = ((if r.in_text then b.text else b.init) + r.at) % 2 ^ 32
 
 abbrev pub address_by : List Base → Option Target → ℕ
-address_by bs None = 0
-address_by bs (Some t) = address bs t
+address_by bs target = option_map_or (address bs) target 0
 
 -- S + A, and S + A - P
 abbrev pub sum_of : Bool → ℕ → ℕ → ℕ → ℕ

@@ -1,5 +1,5 @@
 -- What is asked of an object, by the sums over the objects before it.
-use Rattle.std.specs.Prelude.{ℕ, ◌+◌, ◌≤◌, ◌<◌, ◌||◌, ◌&&◌, ◌++◌, Bool, not, All, List, length, map, codes, sum_by, nat_lt, Option, Result, Ok, Err, if◌then◌else◌}
+use Rattle.std.specs.Prelude.{ℕ, ◌+◌, ◌==◌, ◌≤◌, ◌<◌, ◌||◌, ◌&&◌, ◌++◌, Bool, not, All, List, length, map, codes, sum_by, nat_lt, Option, Result, Ok, Err, if◌then◌else◌}
 use Rattle.std.specs.Bool.{then_some}
 use Rattle.std.specs.Option.{option_or}
 use Rattle.elf_form.specs.ObjectParts.{ObjectParts}
@@ -7,18 +7,24 @@ use Rattle.sites.specs.declared.site.Site.{Site}
 use Rattle.sites.specs.declared.limits.TheConstants.{TEXT_LIMIT, SHORT_TEXT, SITE_LIMIT, INIT_LIMIT}
 use Rattle.elf_form.specs.declared.object.TheConstants.{SYMBOL_LIMIT}
 use Rattle.sites.specs.Formats.{sites_in}
+use Rattle.sites.specs.Reading.{unless}
 use Rattle.sites.specs.Gapped.{are_gapped}
 use Rattle.sites.specs.Form.{AreInForm}
 use Rattle.elf_link.specs.declared.base.Base.{Base}
+use Rattle.elf_link.specs.declared.layout.Span.{Span}
 use Rattle.elf_link.specs.declared.target.Target.{Target}
 use Rattle.elf_link.specs.declared.totals.Totals.{Totals}
 use Rattle.elf_link.specs.declared.fault.LinkCause.{LinkCause}
 use Rattle.elf_link.specs.declared.fault.LinkCause.TheVariants.{TextTooLarge, InitTooLarge, TooManySymbols, SitesForm}
-use Rattle.elf_link.specs.Layout.{text_room, init_room, bss_room}
+use Rattle.elf_link.specs.Layout.{round_up, text_room, init_room, bss_room}
 use Rattle.elf_link.specs.Symbols.{lookup}
 use Rattle.elf_link.specs.Sites.{sites_of, misplaced, moved}
-use Rattle.elf_link.specs.Refusals.{Refused, first_doubled, exported_names, doubled_cause, start_refusal, unless}
+use Rattle.elf_link.specs.Refusals.{Refused, first_doubled, exported_names, doubled_cause, start_refusal}
 use Rattle.elf_link.specs.Linked.{entry_at}
+
+-- an extent with a part of n bytes more, at the next multiple of 4,096
+abbrev pub behind : Span → ℕ → Span
+behind span n = record { room = span.room + round_up 4096 n; end = if n == 0 then span.end else span.room + n }
 
 -- the sums over objects
 unfoldable pub totals : List ObjectParts → Totals

@@ -2,7 +2,6 @@
 use Rattle.std.specs.Prelude.{ℕ, ◌+◌, ◌%◌, ◌^◌, ◌&&◌, Bool, true, false, List, [], ◌∷◌, map, filter, slice_get, Option, Some, None, if◌then◌else◌}
 use Rattle.std.specs.List.{flat_map}
 use Rattle.std.specs.Str.{bytes_eq}
-use Rattle.std.specs.Global.{Vec}
 use Rattle.elf_form.specs.declared.object.Place.{Place}
 use Rattle.elf_form.specs.declared.object.Place.TheVariants.{Undefined, Text, Init, Bss}
 use Rattle.elf_form.specs.declared.object.Symbol.{Symbol}
@@ -13,15 +12,11 @@ use Rattle.elf_link.specs.Layout.{numbered, or_zero}
 
 abbrev pub is_defined : Place → Bool
 is_defined Undefined = false
-is_defined Text = true
-is_defined Init = true
-is_defined Bss = true
+is_defined _ = true
 
 abbrev pub is_text : Place → Bool
-is_text Undefined = false
 is_text Text = true
-is_text Init = false
-is_text Bss = false
+is_text _ = false
 
 -- a symbol that gives its name a meaning in all objects
 abbrev pub is_exported : Symbol → Bool
@@ -42,10 +37,6 @@ definitions ps = flat_map exports ps
 unfoldable pub lookup : List ℕ → List (List ℕ × Target) → Option Target
 lookup name [] = None
 lookup name (d ∷ ds) = if bytes_eq name d.0 then Some d.1 else lookup name ds
-
--- the names and their meanings, where names are held in vectors
-abbrev pub named : List (Vec ℕ × Target) → List (List ℕ × Target)
-named es = map (λ e. (e.0.items, e.1)) es
 
 abbrev pub globals : List ObjectParts → List (List ℕ × Target)
 globals os = definitions (numbered os)

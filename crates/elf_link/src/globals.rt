@@ -20,7 +20,7 @@ pub struct Globals {
 impl Model for Globals {
     ghost use Rattle.std.specs.Prelude.{List, ℕ};
     ghost use Rattle.elf_link.specs.declared.target.Target.{Target as View};
-    ghost use Rattle.elf_link.specs.Symbols.{named};
+    ghost use Rattle.elf_link.specs.Held.{named};
 
     ghost Value = { List (List ℕ × View) };
 

@@ -1,8 +1,8 @@
 //! Where the parts of the objects stand.
 
 ghost use Rattle.std.specs.Prelude.{◌≡◌, ◌+◌, ◌≤◌, ◌<◌, ◌^◌, sum_by, IfOk};
-ghost use Rattle.elf_link.specs.Layout.{init_size, bss_size, init_room, text_end, extent, init_end, memory_end, bases, behind};
-ghost use Rattle.elf_link.specs.Steps.{IsWithin, totals};
+ghost use Rattle.elf_link.specs.Layout.{init_size, bss_size, init_room, text_end, extent, init_end, memory_end, bases};
+ghost use Rattle.elf_link.specs.Steps.{behind, IsWithin, totals};
 
 use crate::base::Base;
 use crate::totals::round_up;

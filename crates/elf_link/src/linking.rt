@@ -11,8 +11,8 @@ ghost use Rattle.elf_link.specs.Relocations.{reloc_cause, with_fields};
 ghost use Rattle.elf_form.specs.Tables.{first_some};
 ghost use Rattle.elf_link.specs.Refusals.{refused, start, object_refusal, relocs_refusal};
 ghost use Rattle.elf_link.specs.Steps.{IsWithin, totals, entered, tested};
-ghost use Rattle.elf_link.specs.Linked.{padded, linked_text, linked_init, entry_at, image, linked_image, file_of};
-ghost use Rattle.elf_link.specs.Answers.{Gives};
+ghost use Rattle.elf_link.specs.Linked.{padded, linked_text, linked_init, entry_at, image, linked_image};
+ghost use Rattle.elf_link.specs.Answers.{file_of, Gives};
 ghost use Rattle.elf_link.specs.Facts.{IsGathered, IsPlan, IsLaidOut};
 
 use crate::fault::{LinkCause, LinkFault};

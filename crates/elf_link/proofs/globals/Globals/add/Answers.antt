@@ -2,7 +2,7 @@ use Rattle.std.proofs.Common.{◌∙◌, ◌++◌, ◌∷◌, [], List, ℕ, ap}
 use Rattle.elf_link.specs.declared.target.Target.{Target}
 use Rattle.elf_link.specs.Refusals.{holds}
 use Rattle.elf_link.proofs.Names.{named-insert}
-use Rattle.elf_link.specs.Symbols.{named}
+use Rattle.elf_link.specs.Held.{named}
 use Rattle.elf_link.proofs.ExportLaws.{keys}
 use Rattle.elf_link.proofs.globals.Globals.add.Goals as goal
 
