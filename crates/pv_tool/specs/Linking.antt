@@ -1,6 +1,7 @@
 -- The work of `link`: each object is read before the next is loaded.
 use Rattle.std.specs.Prelude.{◌≡◌, ◌≤◌, ℕ, List, [], ◌∷◌, Option, Some, Result, Ok, Err, length}
 use Rattle.pv_io.specs.Files.{FileMap}
+use Rattle.elf_form.specs.declared.segments.TheConstants.{FILE_LIMIT}
 use Rattle.elf_form.specs.Faults.{Fault}
 use Rattle.elf_form.specs.ObjectParts.{ObjectParts}
 use Rattle.elf_form.specs.ObjectLayout.{object_bytes}
@@ -27,7 +28,7 @@ abbrev pub HoldObjects : FileMap → List (List ℕ) → List ObjectParts → Ty
 HoldObjects told [] [] = Unit {0}
 HoldObjects told [] (o ∷ os) = ⊥
 HoldObjects told (name ∷ names) [] = ⊥
-HoldObjects told (name ∷ names) (o ∷ os) = (told name ≡ Some (object_bytes o)) × (length (object_bytes o) ≤ 33554432) × ReadsBack o × HoldObjects told names os
+HoldObjects told (name ∷ names) (o ∷ os) = (told name ≡ Some (object_bytes o)) × (length (object_bytes o) ≤ FILE_LIMIT) × ReadsBack o × HoldObjects told names os
 
 -- the objects that the names hold are linked to this image, which is read back
 pub record HasLinked (files : Option FileMap) (objects : List (List ℕ)) (p : ImageParts) : Type 0 where

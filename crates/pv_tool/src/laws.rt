@@ -2,6 +2,7 @@
 
 ghost use Rattle.std.specs.Prelude.{◌≡◌, ◌≤◌, ℕ, false, List, Option, Some, Ok, length, bytes_eq};
 ghost use Rattle.pv_io.specs.Files.{FileMap, Stores};
+ghost use Rattle.elf_form.specs.declared.segments.TheConstants.{FILE_LIMIT};
 ghost use Rattle.elf_form.specs.ObjectParts.{ObjectParts};
 ghost use Rattle.elf_form.specs.ImageParts.{ImageParts};
 ghost use Rattle.elf_form.specs.ImageLayout.{image_bytes};
@@ -26,7 +27,7 @@ pub fn chains()
     ensures objects { (told : FileMap) (names : List (List ℕ)) (os : List ObjectParts) → HoldObjects told names os
         → HasObjects (Some told) names os }
     ensures image { (told : FileMap) (name : List ℕ) (p : ImageParts) (program : Image) → told name ≡ Some (image_bytes p)
-        → length (image_bytes p) ≤ 33554432 → ImageReadsBack p →
+        → length (image_bytes p) ≤ FILE_LIMIT → ImageReadsBack p →
         image_from p ≡ Ok program → HasImage (Some told) name program }
     ensures stored { (told : FileMap) (new : Option FileMap) (name bytes : List ℕ) → Stores (Some told) new name bytes →
         (later : FileMap) × (new ≡ Some later) × (later name ≡ Some bytes) × ((q : List ℕ) → bytes_eq q name ≡ false → later q ≡ told q) }
