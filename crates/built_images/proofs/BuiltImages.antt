@@ -16,7 +16,7 @@ use Rattle.sites.specs.Formats.{listed}
 use Rattle.image_check.specs.declared.fault.CheckCause.TheVariants.{Target}
 use Rattle.image_check.specs.declared.piece.Piece.{Piece}
 use Rattle.image_check.specs.Refusals.{Wrong}
-use Rattle.image_check.specs.Sweep.{Swept, sweep}
+use Rattle.image_check.specs.Sweep.{Swept}
 use Rattle.image_check.specs.SweptTexts.{Sweep}
 use Rattle.image_check.specs.Pieces.{target_of, piece_of, pieces_in}
 use Rattle.image_check.specs.Targets.{is_entrance, wrong_target}
