@@ -1,5 +1,5 @@
 -- Files by their names, where they are told.
-use Rattle.std.specs.Prelude.{◌≡◌, ℕ, false, List, ◌++◌, Option, Some, None, bytes_eq, if◌then◌else◌}
+use Rattle.std.specs.Prelude.{◌≡◌, ℕ, false, List, Option, Some, None, bytes_eq, if◌then◌else◌}
 
 -- the bytes of each name that is held
 abbrev pub FileMap : Type 0
@@ -9,10 +9,6 @@ FileMap = List ℕ → Option (List ℕ)
 abbrev pub Holds : Option FileMap → List ℕ → List ℕ → Type 0
 Holds None name bytes = Unit {0}
 Holds (Some files) name bytes = files name ≡ Some bytes
-
--- what a load has read: the bytes that the name holds, behind what was there
-abbrev pub Loads : Option FileMap → List ℕ → List ℕ → List ℕ → Type 0
-Loads files name old new = (bytes : List ℕ) × (new ≡ old ++ bytes) × Holds files name bytes
 
 -- where the files are told, a store changes this name alone
 abbrev pub Stores : Option FileMap → Option FileMap → List ℕ → List ℕ → Type 0
@@ -28,8 +24,3 @@ ChangesAt (Some old) new name = (files : FileMap) × (new ≡ Some files) × ((q
 abbrev pub IsHeld : Option FileMap → List ℕ → Type 0
 IsHeld None name = ⊥
 IsHeld (Some files) name = (bytes : List ℕ) × (files name ≡ Some bytes)
-
--- the files are told, and the name is none of them
-abbrev pub IsMissing : Option FileMap → List ℕ → Type 0
-IsMissing None name = ⊥
-IsMissing (Some files) name = files name ≡ None

@@ -6,3 +6,4 @@ pub mod MemSink
 pub mod MemFiles
 pub mod Writer
 pub mod Taking
+pub mod Answered

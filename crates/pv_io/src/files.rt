@@ -1,8 +1,9 @@
 //! Files by name.
 
 ghost use Rattle.std.specs.Prelude.{◌≡◌, ◌≢◌, ◌≤◌, ◌++◌, Option, List, ℕ, Bool, true, OnOk, OnErr, IsErrOf};
-ghost use Rattle.pv_io.specs.Causes.{HasCause, Rose};
-ghost use Rattle.pv_io.specs.Files.{FileMap, IsHeld, IsMissing, Loads, Stores, ChangesAt};
+ghost use Rattle.pv_io.specs.Causes.{Rose};
+ghost use Rattle.pv_io.specs.Answered.{HasCause, IsMissing, Loads};
+ghost use Rattle.pv_io.specs.Files.{FileMap, IsHeld, Stores, ChangesAt};
 
 use crate::IoAnswer;
 use std::alloc::Global;

@@ -1,8 +1,9 @@
 //! Files in memory, some of whose calls fail by a list, and files of which nothing fails.
 
 ghost use Rattle.std.specs.Prelude.{◌≡◌, true, false, [], Some, None, Err, IfOk, OnOk, OnErr, IsErrOf, if◌then◌else◌};
-ghost use Rattle.pv_io.specs.Causes.{HasCause, Rose};
-ghost use Rattle.pv_io.specs.Files.{IsMissing, Loads, Stores, ChangesAt};
+ghost use Rattle.pv_io.specs.Causes.{Rose};
+ghost use Rattle.pv_io.specs.Answered.{HasCause, IsMissing, Loads};
+ghost use Rattle.pv_io.specs.Files.{Stores, ChangesAt};
 ghost use Rattle.pv_io.specs.Held.{HoldsAt};
 ghost use Rattle.guest_ram.specs.Among.{is_among};
 ghost use Rattle.pv_io.specs.MemSink.{one_more};
