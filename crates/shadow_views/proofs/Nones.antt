@@ -1,5 +1,5 @@
 -- Words that are 0, two by two.
-use Rattle.std.proofs.Common.{◌≡◌, ℕ, zero, suc, ◌+◌, ◌-◌, ◌*◌, ◌<◌, ◌≤◌, List, Bool, true, false, eqb, sym, ap, ◌∙◌, inl, inr, lit≤, arith}
+use Rattle.std.proofs.Common.{◌≡◌, ℕ, zero, suc, ◌+◌, ◌-◌, ◌*◌, ◌/◌, ◌<◌, ◌≤◌, List, true, false, eqb, sym, ap, ◌∙◌, inl, inr, lit≤, lit<, arith}
 use Rattle.std.proofs.lemmas.Bool.{cases_lt}
 use Rattle.std.proofs.lemmas.Bool.Decides.{eqb_tells}
 use Rattle.std.specs.Int.{w64, from_le_bytes}
@@ -28,8 +28,31 @@ none-at m a e (suc zero) l =
     ∙ zero-sum (word32 p 4) _ _ _ _ (word32-is p 4) (omega (arith, e)) (omega (arith, e)) (omega (arith, e)) (omega (arith, e))
 none-at m a e (suc (suc k)) l = absurd (omega (arith, l))
 
+-- and where they are, the eight bytes make 0
+pub none-makes : (m : List ℕ) (a : ℕ) → IsNoneAt m a → from_le_bytes w64 (part m a 8) ≡ 0
+unfolding byte
+none-makes m a h =
+    let p : List ℕ = part m a 8 in
+    let low : word32 p 0 ≡ 0 = word32-part m a 8 0 (lit≤ tt) ∙ h 0 (lit< tt) in
+    let high : word32 p 4 ≡ 0 = word32-part m a 8 4 (lit≤ tt) ∙ h 1 (lit< tt) in
+    omega (arith, low, high, word32-is p 0, word32-is p 4)
+
 pub is-zero : (n w : ℕ) → w ≡ n → eqb w 0 ≡ true → n ≡ 0
 is-zero n w e t = elim (eqb_tells w 0) [ inl u ↦ sym e ∙ u.1 | inr u ↦ absurd (let q : false ≡ true = sym u.0 ∙ t in cc) ]
+
+pub zero-is : (n w : ℕ) → w ≡ n → n ≡ 0 → eqb w 0 ≡ true
+zero-is n w e z = rw (e ∙ z)
+
+-- the pair of words of a frame that isn't none at all, as two directory words
+pub dirs-there : (m : List ℕ) (r p d : ℕ) → p ≡ d / 2 → (IsNoneAt m (4096 * r + 8 * p) → ⊥)
+    → dir m r (2 * (d / 2)) ≡ 0 → dir m r (2 * (d / 2) + 1) ≡ 0 → ⊥
+unfolding dir
+dirs-there m r p d e some low high =
+    some λ k l.
+    elim (cases_lt k 1) [
+      | inl t ↦ ap (word32 m) (let a : 4096 * r + 8 * p + 4 * k ≡ 4096 * r + 4 * (2 * (d / 2)) = omega (arith, e, t) in a) ∙ low
+      | inr t ↦ ap (word32 m) (let a : 4096 * r + 8 * p + 4 * k ≡ 4096 * r + 4 * (2 * (d / 2) + 1) = omega (arith, e, t, l) in a) ∙ high
+    ]
 
 pub pair-none : (m : List ℕ) (a f i j : ℕ) → a ≡ 4096 * f + 4 * i → IsNoneAt m a → i ≤ j → j < i + 2 → word32 m (4096 * f + 4 * j) ≡ 0
 pair-none m a f i j s h low high =

@@ -37,7 +37,7 @@ pub fn word_in(ram: &Ram, table: u32, i: u32) -> u32
 /// The two words from this place on are 0, as most words of a directory and of a table are.
 pub fn are_none(ram: &Ram, at: u32) -> bool
     requires lies { at + 8 ≤ length ram.now }
-    ensures none { result ≡ true → (k : ℕ) → k < 2 → word32 ram.now (at + 4 * k) ≡ 0 }
+    ensures none { (result ≡ true) ↔ ((k : ℕ) → k < 2 → word32 ram.now (at + 4 * k) ≡ 0) }
 {
     let p = ram.part(at, 8);
     u64::from_le_bytes([p[0], p[1], p[2], p[3], p[4], p[5], p[6], p[7]]) == 0
@@ -50,6 +50,7 @@ pub fn next_pair(ram: &Ram, frame: u32, from: u32) -> u32
     ensures behind { from ≤ result }
     ensures within { result ≤ 512 }
     ensures none { (i : ℕ) → 2 * from ≤ i → i < 2 * result → word32 ram.now (4096 * frame + 4 * i) ≡ 0 }
+    ensures found { result < 512 → ((k : ℕ) → k < 2 → word32 ram.now (4096 * frame + 8 * result + 4 * k) ≡ 0) → ⊥ }
 {
     let _bytes = ram.len();
     for pair in from..512 {
@@ -60,13 +61,15 @@ pub fn next_pair(ram: &Ram, frame: u32, from: u32) -> u32
     512
 }
 
-/// A directory word, this one or behind it, before which no other names a table; 1,024 where none does.
+/// A directory word, this one or behind it, before which no other names a table: it or the other of its pair (2 k and 2 k + 1)
+/// does. 1,024 where there is no such pair.
 pub fn next_dir(ram: &Ram, root: u32, from: u32) -> u32
     requires view { IsView ram.now root }
     requires from { from ≤ 1024 }
     ensures behind { from ≤ result }
     ensures within { result ≤ 1024 }
     ensures none { (d : ℕ) → from ≤ d → d < result → dir ram.now root d ≡ 0 }
+    ensures found { result < 1024 → dir ram.now root (2 * (result / 2)) ≡ 0 → dir ram.now root (2 * (result / 2) + 1) ≡ 0 → ⊥ }
 {
     from.max(2 * next_pair(ram, root, from / 2))
 }
