@@ -72,8 +72,8 @@ loses frame w =
       | inr t ↦ inr (inl t.1, barred-other frame w t.1)
     ]
 
-pub barred-stale : (frame w : ℕ) → IsMarked w → IsMarked (barred_word frame w)
-barred-stale frame w k =
+pub barred-marked : (frame w : ℕ) → IsMarked w → IsMarked (barred_word frame w)
+barred-marked frame w k =
     let user = k.user in let fits = k.fits in
     elim (loses frame w) [
       | inl t ↦
@@ -84,8 +84,8 @@ barred-stale frame w k =
       | inr t ↦ subst IsMarked (sym t.1) k
     ]
 
-pub stale-some : (w : ℕ) → IsMarked w → w ≢ 0
-stale-some w k = λ e. absurd (let user = k.user in omega (arith, user, e))
+pub marked-some : (w : ℕ) → IsMarked w → w ≢ 0
+marked-some w k = λ e. absurd (let user = k.user in omega (arith, user, e))
 
 -- ---- what a word keeps
 
@@ -146,11 +146,11 @@ barred-slot side page frame w =
 barred-by : (page frame k u : ℕ) → (k ≢ 0 → IsMarked k) → (u ≢ 0 → IsMarked u) → by_words page (barred_word frame k) (barred_word frame u) ≡ barred (frame ∷ []) (by_words page k u)
 barred-by page frame zero zero a b = by-none page _ _ (barred-zero frame zero refl) (barred-zero frame zero refl)
 barred-by page frame zero (suc u) a b =
-    let k = barred-stale frame (suc u) (b (λ e. omega (arith, e))) in
-    by-user page _ (barred_word frame (suc u)) (barred-zero frame zero refl) (stale-some (barred_word frame (suc u)) k) ∙ barred-slot User page frame (suc u)
+    let k = barred-marked frame (suc u) (b (λ e. omega (arith, e))) in
+    by-user page _ (barred_word frame (suc u)) (barred-zero frame zero refl) (marked-some (barred_word frame (suc u)) k) ∙ barred-slot User page frame (suc u)
 barred-by page frame (suc k) u a b =
-    let m = barred-stale frame (suc k) (a (λ e. omega (arith, e))) in
-    by-kernel page (barred_word frame (suc k)) (barred_word frame u) (stale-some (barred_word frame (suc k)) m) ∙ barred-slot Kernel page frame (suc k)
+    let m = barred-marked frame (suc k) (a (λ e. omega (arith, e))) in
+    by-kernel page (barred_word frame (suc k)) (barred_word frame u) (marked-some (barred_word frame (suc k)) m) ∙ barred-slot Kernel page frame (suc k)
 
 -- ---- a page
 
@@ -193,7 +193,7 @@ module _ (s : Shadow) (m m1 m2 : List ℕ) (page frame : ℕ) (h : IsShadow s m)
       elim (eqb_tells q page) [
         | inl x ↦
             let e : at m2 t q ≡ barred_word frame (at m t page) = ap (at m2 t) x.1 ∙ bar-root t i in
-            subst IsMarked (sym e) (barred-stale frame (at m t page) (h.marks t page i l (some-before (at m t page) (at m2 t q) e ne)))
+            subst IsMarked (sym e) (barred-marked frame (at m t page) (h.marks t page i l (some-before (at m t page) (at m2 t q) e ne)))
         | inr x ↦ let e = bar-other t q i k x.1 in subst IsMarked (sym e) (h.marks t q i k (λ z. ne (e ∙ z)))
       ]
 

@@ -16,7 +16,7 @@ use Rattle.frame_pool.proofs.Held.{Owns-none, Moves-take, Owns-moves, Holds-from
 use Rattle.shadow_views.proofs.Counts.{owned-root, owned-cons, tables-none}
 use Rattle.shadow_views.proofs.Changes.{at-none, high, zero-dir}
 use Rattle.shadow_tables.specs.Laws.Views.{in-kernel, in-user, slot-same, Holds-along, word_in, at-side, one-none, none-one}
-use Rattle.shadow_tables.proofs.Packed.{slot_of-word_of, word_of-some, word_of-stale}
+use Rattle.shadow_tables.proofs.Packed.{slot_of-word_of, word_of-some, word_of-marked}
 
 -- ---- the words of a page
 
@@ -200,7 +200,7 @@ module _ (s : Shadow) (m m1 m2 m3 : List ℕ) (b : Bool) (side : Side) (entry : 
         | inl x ↦ elim (eqb_tells t (root_of s side)) [
           | inl y ↦
               let e : at m3 t q ≡ word_of (filled b side entry wp) = ap (λ v. at m3 v q) y.1 ∙ ap (at m3 (root_of s side)) x.1 ∙ a.there in
-              subst IsMarked (sym e) (word_of-stale b side entry wp small)
+              subst IsMarked (sym e) (word_of-marked b side entry wp small)
           | inr y ↦ absurd (ne (ap (at m3 t) x.1 ∙ a.others t entry.page i l (λ v z. y.1 v) ∙ w t entry.page i l ∙ fill-zero t i))
         ]
       ]

@@ -71,9 +71,9 @@ barred-le : (b : Bool) (side : Side) (entry : Entry) (wp : Bool) → worth (not 
 barred-le false side entry wp = permits-le side entry wp
 barred-le true side entry wp = omega arith
 
-pub word_of-stale : (b : Bool) (side : Side) (entry : Entry) (wp : Bool) → entry.frame < 2 ^ 20 → IsMarked (word_of (filled b side entry wp))
+pub word_of-marked : (b : Bool) (side : Side) (entry : Entry) (wp : Bool) → entry.frame < 2 ^ 20 → IsMarked (word_of (filled b side entry wp))
 unfolding word_of
-word_of-stale b side entry wp small =
+word_of-marked b side entry wp small =
     let e = entry in
     let d = worth-le e.dirty in let w = worth-le e.write in let u = worth-le e.user in
     let h = worth-le (not b && permits side entry true wp) in let r = worth-le (permits side entry false wp) in
