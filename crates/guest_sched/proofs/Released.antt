@@ -83,11 +83,11 @@ module _ (frames : ℕ) (p p' : Pool) (host host' : List ℕ) (s : Seat) (new : 
     slots_same : SameSlots (roots.slots new host') (roots.slots new then_memory)
     slots_same = laws.same-slots new.present new.others host' then_memory d.stands still
 
-    asides_same : AreSame (roots.other_roots new host') (roots.other_roots new then_memory)
-    asides_same = laws.same-other_roots new.present new.others host' then_memory d.stands still
+    other_roots_same : AreSame (roots.other_roots new host') (roots.other_roots new then_memory)
+    other_roots_same = laws.same-other_roots new.present new.others host' then_memory d.stands still
 
-    no_asides : roots.other_roots new then_memory ≡ []
-    no_asides = none_same (roots.other_roots new host') (roots.other_roots new then_memory) asides_same d.other_roots
+    no_others : roots.other_roots new then_memory ≡ []
+    no_others = none_same (roots.other_roots new host') (roots.other_roots new then_memory) other_roots_same d.other_roots
 
     no_slots : (page : ℕ) → page < 2 ^ 20 → roots.slots new then_memory page ≡ None
     no_slots page lt = slots_same page lt ∙ d.none page lt
@@ -138,7 +138,7 @@ module _ (frames : ℕ) (p p' : Pool) (host host' : List ℕ) (s : Seat) (new : 
         let there = ap length held_there in
         let same = ap length frames_same in
         let free = ap length (free_list-above p' host' then_memory (4096 * frames) low goes' size' d.owns.stands) in
-        let pages = kept_same of_roots new host' then_memory set_same asides_same in
+        let pages = kept_same of_roots new host' then_memory set_same other_roots_same in
         let filled = d.filled in
         record {
           held = record {
@@ -159,7 +159,7 @@ module _ (frames : ℕ) (p p' : Pool) (host host' : List ℕ) (s : Seat) (new : 
           ready = record {
             value_is = d.value ∙ g.ready.value_is;
             present = λ unmarked page lt out slot is. absurd (none_some slot (sym (no_slots page lt) ∙ is));
-            others = subst (λ (l : List OtherRoot). AreReady m s.running.cpu (shown m then_memory) l) (sym no_asides) tt;
+            others = subst (λ (l : List OtherRoot). AreReady m s.running.cpu (shown m then_memory) l) (sym no_others) tt;
           };
           able = g.able;
           filled = omega (arith, pages, filled);

@@ -40,8 +40,8 @@ module _ (frames : ℕ) (p p' : Pool) (s : Seat) (then_ : List ℕ) (size : leng
       slots_same : SameSlots (roots.slots s.running.shadows s.memory) (roots.slots s.running.shadows then_)
       slots_same = laws.same-slots s.running.shadows.present s.running.shadows.others s.memory then_ h.stand same
 
-      asides_same : AreSame (roots.other_roots s.running.shadows s.memory) (roots.other_roots s.running.shadows then_)
-      asides_same = laws.same-other_roots s.running.shadows.present s.running.shadows.others s.memory then_ h.stand same
+      other_roots_same : AreSame (roots.other_roots s.running.shadows s.memory) (roots.other_roots s.running.shadows then_)
+      other_roots_same = laws.same-other_roots s.running.shadows.present s.running.shadows.others s.memory then_ h.stand same
 
       set_same : entries_of (roots.slots s.running.shadows then_) ≡ entries_of (roots.slots s.running.shadows s.memory)
       set_same = same-entries (roots.slots s.running.shadows s.memory) (roots.slots s.running.shadows then_) slots_same
@@ -104,12 +104,12 @@ module _ (frames : ℕ) (p p' : Pool) (s : Seat) (then_ : List ℕ) (size : leng
                   subst (λ (l : List ℕ). ForSome (roots.slots s.running.shadows then_ page) (IsFoundIn m cpu l cpu.cr3 (roots.read_from s.running.shadows) page)) (sym ram)
                   (subst (λ (slot : Option Slot). ForSome slot (IsFoundIn m cpu (shown m s.memory) cpu.cr3 (roots.read_from s.running.shadows) page)) (sym (slots_same page lt)) (g.ready.present unmarked page lt in_));
               others = subst (λ (l : List ℕ). AreReady m cpu l (roots.other_roots s.running.shadows then_)) (sym ram)
-                  (all_ready_shed m cpu (shown m s.memory) (roots.other_roots s.running.shadows s.memory) (roots.other_roots s.running.shadows then_) (same_shed _ _ asides_same) g.ready.others);
+                  (all_ready_shed m cpu (shown m s.memory) (roots.other_roots s.running.shadows s.memory) (roots.other_roots s.running.shadows then_) (same_shed _ _ other_roots_same) g.ready.others);
             }
 
         goes_still : MayGoOn frames p' (record s { memory = then_ })
         goes_still =
-            let pages = kept_same of_roots s.running.shadows s.memory then_ set_same asides_same in
+            let pages = kept_same of_roots s.running.shadows s.memory then_ set_same other_roots_same in
             let filled = g.filled in
             record { held = still_held; ready = still_ready; able = g.able; filled = omega (arith, pages, filled) }
 

@@ -34,7 +34,7 @@ pub record RulesStay (t : Taken) : Type 0 where
   pub pse : pse_of t.after.cpu ≡ pse_of t.before.cpu
 
 -- CR3 was loaded: first pages were dropped, so that what was present came from the step's set, and then that was put by
-pub record ReloadAside (t : Taken) (v v' : Sight) : Type 0 where
+pub record ReloadsRoot (t : Taken) (v v' : Sight) : Type 0 where
   pub between : Sight
   pub stay : StaysBeside v between
   pub comes : ComesFrom t (entries_of between.slots)
@@ -47,7 +47,7 @@ pub record IsOver (t : Taken) (v v' : Sight) : Type 0 where
   pub told : IsTold t v between
   pub through : loads_root t ≡ false → RulesStay t → StaysBeside between v' × (entries_of v'.slots ≡ t.after.set)
   pub lost : loads_root t ≡ false → (RulesStay t → ⊥) → EmptiesBeside between v' × (entries_of v'.slots ≡ empty)
-  pub loaded : loads_root t ≡ true → ReloadAside t between v'
+  pub loaded : loads_root t ≡ true → ReloadsRoot t between v'
 
 -- what is said of a step that went, for what is kept
 pub record IsStep (m : Setting) (t : Taken) : Type 0 where

@@ -22,6 +22,6 @@ pub mod Whole
 pub mod Gone
 pub mod OneLoad
 pub mod Places
-pub mod Asided
+pub mod OthersAfter
 pub mod Reloading
 pub mod Openings

@@ -24,9 +24,9 @@ use Rattle.shadow_tables.specs.Laws.Views.{in-root, held-stays, slot_at-stays, I
 use Rattle.shadow_tables.specs.Laws.Props.{IsShadow-prop}
 use Rattle.shadow_cache.specs.Pairs.{reads, any_reads, places_from, tables_of, frames_of, AreShadows, AreSized, BarsWrites, AllBarWrites, AreUnmarked, OthersUnmarked, IsRoots}
 use Rattle.shadow_tables.specs.OtherRoot.{AreSame, AllFit, AllBarred, AllTracked}
-use Rattle.shadow_cache.specs.Asides.{asides_of}
+use Rattle.shadow_cache.specs.OtherRoots.{other_roots_of}
 use Rattle.shadow_tables.specs.Laws.Openings.{only-same, held-size}
-use Rattle.shadow_tables.proofs.Asides.{among-append}
+use Rattle.shadow_tables.proofs.OtherRoots.{among-append}
 use Rattle.shadow_cache.specs.Opening.{AllOpenedOnly}
 use Rattle.std.specs.Set.{is_member, distinct_count}
 use Rattle.std.proofs.Math.Bool.{or-true}
@@ -199,43 +199,43 @@ same-slots p ps m m' h e = (kept-same (p ∷ ps) m m' (had (p ∷ ps) m h).shado
 
 -- ---- what is kept for other values
 
-pub same-kept : (ps : List Pair) (m m' : List ℕ) → AreKept ps m m' → AreSame (asides_of ps m) (asides_of ps m')
+pub same-kept : (ps : List Pair) (m m' : List ℕ) → AreKept ps m m' → AreSame (other_roots_of ps m) (other_roots_of ps m')
 same-kept [] m m' k = tt
 same-kept (p ∷ ps) m m' k = (record { cr3 = refl; tables = λ f. refl; slots = k.2 }, same-kept ps m m' k.3)
 
-pub same-other_roots : (p : Pair) (ps : List Pair) (m m' : List ℕ) → ∥ IsRoots (p ∷ ps) m ∥₁ → SameIn (frames_of (p ∷ ps) m) m m' → AreSame (asides_of ps m) (asides_of ps m')
+pub same-other_roots : (p : Pair) (ps : List Pair) (m m' : List ℕ) → ∥ IsRoots (p ∷ ps) m ∥₁ → SameIn (frames_of (p ∷ ps) m) m m' → AreSame (other_roots_of ps m) (other_roots_of ps m')
 same-other_roots p ps m m' h e = same-kept ps m m' (kept-same (p ∷ ps) m m' (had (p ∷ ps) m h).shadows e).3
 
-all-fit : (ps : List Pair) (m : List ℕ) → AreShadows ps m → AllFit (asides_of ps m)
+all-fit : (ps : List Pair) (m : List ℕ) → AreShadows ps m → AllFit (other_roots_of ps m)
 all-fit [] m h = tt
 all-fit (p ∷ ps) m h = (λ page slot l e. below.fits p.shadow m page slot (merely h.0) l e, all-fit ps m h.1)
 
-pub other_roots-fit : (p : Pair) (ps : List Pair) (m : List ℕ) → ∥ IsRoots (p ∷ ps) m ∥₁ → AllFit (asides_of ps m)
+pub other_roots-fit : (p : Pair) (ps : List Pair) (m : List ℕ) → ∥ IsRoots (p ∷ ps) m ∥₁ → AllFit (other_roots_of ps m)
 other_roots-fit p ps m h = all-fit ps m (had (p ∷ ps) m h).shadows.1
 
-all-barred : (t u : ℕ → Bool) (ps : List Pair) (m : List ℕ) → ((f : ℕ) → u f ≡ t f) → AllBarWrites t ps m → AllBarred u (asides_of ps m)
+all-barred : (t u : ℕ → Bool) (ps : List Pair) (m : List ℕ) → ((f : ℕ) → u f ≡ t f) → AllBarWrites t ps m → AllBarred u (other_roots_of ps m)
 all-barred t u [] m i h = tt
 all-barred t u (p ∷ ps) m i h = (λ page slot l e y. h.0 page slot l e (sym (i slot.entry.frame) ∙ y), all-barred t u ps m i h.1)
 
-pub other_roots-barred : (p : Pair) (ps : List Pair) (m : List ℕ) → ∥ IsRoots (p ∷ ps) m ∥₁ → AllBarred (λ f. is_among f (tables_of (p ∷ ps))) (asides_of ps m)
+pub other_roots-barred : (p : Pair) (ps : List Pair) (m : List ℕ) → ∥ IsRoots (p ∷ ps) m ∥₁ → AllBarred (λ f. is_among f (tables_of (p ∷ ps))) (other_roots_of ps m)
 other_roots-barred p ps m h = all-barred (any_reads (p ∷ ps)) (λ f. is_among f (tables_of (p ∷ ps))) ps m (λ f. tables-any (p ∷ ps) f) (had (p ∷ ps) m h).barred.1
 
 pub read_from-write_protected : (p : Pair) (ps : List Pair) (frame : ℕ) → reads p frame ≡ true → is_among frame (tables_of (p ∷ ps)) ≡ true
 read_from-write_protected p ps frame e = tables-any (p ∷ ps) frame ∙ ap (λ b. b || any_reads ps frame) e
 
-all-write_protected : (t : ℕ → Bool) (ps : List Pair) (m : List ℕ) → ((f : ℕ) → any_reads ps f ≡ true → t f ≡ true) → AllTracked t (asides_of ps m)
+all-write_protected : (t : ℕ → Bool) (ps : List Pair) (m : List ℕ) → ((f : ℕ) → any_reads ps f ≡ true → t f ≡ true) → AllTracked t (other_roots_of ps m)
 all-write_protected t [] m h = tt
 all-write_protected t (p ∷ ps) m h =
     (λ f e. h f (ap (λ b. b || any_reads ps f) e), all-write_protected t ps m (λ f e. h f (ap (λ b. reads p f || b) e ∙ or-true (reads p f))))
 
-pub other_roots-write_protected : (p : Pair) (ps : List Pair) (m : List ℕ) → AllTracked (λ f. is_among f (tables_of (p ∷ ps))) (asides_of ps m)
+pub other_roots-write_protected : (p : Pair) (ps : List Pair) (m : List ℕ) → AllTracked (λ f. is_among f (tables_of (p ∷ ps))) (other_roots_of ps m)
 other_roots-write_protected p ps m = all-write_protected (λ f. is_among f (tables_of (p ∷ ps))) ps m (λ f e. tables-any (p ∷ ps) f ∙ (ap (λ b. reads p f || b) e ∙ or-true (reads p f)))
 
-other_roots-length : (ps : List Pair) (m : List ℕ) → length (asides_of ps m) ≡ length ps
+other_roots-length : (ps : List Pair) (m : List ℕ) → length (other_roots_of ps m) ≡ length ps
 other_roots-length [] m = refl
 other_roots-length (p ∷ ps) m = ap suc (other_roots-length ps m)
 
-pub few-other_roots : (p : Pair) (ps : List Pair) (m : List ℕ) → ∥ IsRoots (p ∷ ps) m ∥₁ → length (asides_of ps m) ≤ 7
+pub few-other_roots : (p : Pair) (ps : List Pair) (m : List ℕ) → ∥ IsRoots (p ∷ ps) m ∥₁ → length (other_roots_of ps m) ≤ 7
 few-other_roots p ps m h = let few = (had (p ∷ ps) m h).few in let e = other_roots-length ps m in omega (arith, few, e)
 
 -- ---- for which directory indices tables are there

@@ -9,7 +9,7 @@ pub mod Replayed
 pub mod Agreeing
 pub mod Away
 pub mod Laws
-pub mod Asides
+pub mod OtherRoots
 pub mod Reloaded
 pub mod Views
 pub mod Opening

@@ -20,11 +20,11 @@ but_cr3 cr3 [] = []
 but_cr3 cr3 (a ∷ other_roots) = if a.cr3 == cr3 then other_roots else a ∷ but_cr3 cr3 other_roots
 
 -- a value under which nothing is kept and no table was read
-abbrev pub begun_aside : ℕ → OtherRoot
-begun_aside cr3 = record { cr3 = cr3; tables = λ frame. false; slots = λ page. None }
+abbrev pub begun_root : ℕ → OtherRoot
+begun_root cr3 = record { cr3 = cr3; tables = λ frame. false; slots = λ page. None }
 
 abbrev pub or_begun : ℕ → Option OtherRoot → OtherRoot
-or_begun cr3 None = begun_aside cr3
+or_begun cr3 None = begun_root cr3
 or_begun cr3 (Some a) = a
 
 -- what is kept under the value that is loaded: what was put by under it comes back, or nothing is kept yet

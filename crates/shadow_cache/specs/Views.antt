@@ -2,7 +2,7 @@
 use Rattle.std.specs.Prelude.{ℕ, List, Bool, Option, Some}
 use Rattle.shadow_tables.specs.OtherRoot.{OtherRoot}
 use Rattle.shadow_tables.specs.Slots.{Slot, slot_at}
-use Rattle.shadow_cache.specs.Asides.{asides_of}
+use Rattle.shadow_cache.specs.OtherRoots.{other_roots_of}
 use Rattle.shadow_cache.specs.Opening.{AllOpenedOnly}
 use Rattle.shadow_cache.specs.Pairs.{reads, frames_of, IsRoots}
 use Rattle.shadow_cache.specs.Roots.{pairs_of}
@@ -30,4 +30,4 @@ abbrev pub has_tables_under : Roots → List ℕ → (ℕ → Bool) → Type 0
 has_tables_under r m indices = AllOpenedOnly indices (pairs_of r) m
 
 abbrev pub other_roots : Roots → List ℕ → List OtherRoot
-other_roots r m = asides_of r.others m
+other_roots r m = other_roots_of r.others m

@@ -34,7 +34,7 @@ impl Roots {
     ghost use Rattle.shadow_cache.specs.After.{IsStart, beside, slots_of};
     ghost use Rattle.shadow_cache.specs.Called.{BeginsUnder, GoesOn};
     ghost use Rattle.shadow_cache.specs.Opening.{AllOpenedOnly};
-    ghost use Rattle.shadow_cache.specs.Asides.{asides_of};
+    ghost use Rattle.shadow_cache.specs.OtherRoots.{other_roots_of};
     ghost use Rattle.shadow_cache.specs.Switched.{IsSwitched};
     ghost use Rattle.shadow_cache.specs.Agreeing.{Agree};
     ghost use Rattle.shadow_cache.specs.declared.call_lists.RootsCall.TheVariants.{Switch};
@@ -51,7 +51,7 @@ impl Roots {
         ensures told { IfOk result (λ r. Agree cr3 [] (pairs_of r) ram.new) }
         ensures entries { IfOk result (λ r. entries_of (slots_of (pairs_of r) ram.new) ≡ empty) }
         ensures begins { IfOk result (λ r. BeginsUnder cr3 (pairs_of r)) }
-        ensures alone { IfOk result (λ r. asides_of (beside (pairs_of r)) ram.new ≡ []) }
+        ensures alone { IfOk result (λ r. other_roots_of (beside (pairs_of r)) ram.new ≡ []) }
         ensures has_tables_under { (indices : ℕ → Bool) → IfOk result (λ r. AllOpenedOnly indices (pairs_of r) ram.new) }
     {
         let others = Pairs::new(alloc)?;
@@ -242,7 +242,7 @@ impl Roots {
 impl Shadows for Roots {
     ghost use Rattle.shadow_cache.specs.Roots.{pairs_of};
     ghost use Rattle.shadow_cache.specs.Laws as laws;
-    ghost use Rattle.shadow_cache.specs.Asides.{asides_of};
+    ghost use Rattle.shadow_cache.specs.OtherRoots.{other_roots_of};
     ghost use Rattle.shadow_cache.specs.Pairs.{reads};
     ghost use Rattle.shadow_cache.specs.Opening.{AllOpenedOnly};
 
@@ -258,7 +258,7 @@ impl Shadows for Roots {
 
     ghost value = { λ r. Some r.present.cr3 };
 
-    ghost other_roots = { λ r m. asides_of r.others m };
+    ghost other_roots = { λ r m. other_roots_of r.others m };
 
     ghost has_tables_under = { λ r m indices. AllOpenedOnly indices (pairs_of r) m };
 

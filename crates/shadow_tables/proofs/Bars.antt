@@ -10,7 +10,7 @@ use Rattle.shadow_views.proofs.Changes.{at-none}
 use Rattle.shadow_views.proofs.Counts.{by_dir-some}
 use Rattle.shadow_views.proofs.Nones.{IsNoneAt, AreNone, pair-none}
 use Rattle.shadow_tables.specs.Opened.{KeepsTables}
-use Rattle.shadow_tables.proofs.Asides.{and-true}
+use Rattle.shadow_tables.proofs.OtherRoots.{and-true}
 use Rattle.shadow_tables.proofs.Tabled.{keeps-trans, puts-keep}
 use Rattle.shadow_tables.specs.Slots.{Slot, barred, barred_word, slot_of, by_words, roots, held, slot_at, IsMarked, IsShadow, Becomes}
 use Rattle.paging.specs.Fresh.{has}

@@ -4,5 +4,5 @@ pub mod Lists
 pub mod Tabled
 pub mod Sweeps
 pub mod Bars
-pub mod Asides
+pub mod OtherRoots
 pub mod Sides

@@ -13,7 +13,7 @@ use Rattle.shadow_tables.specs.declared.words.Side.{Side}
 use Rattle.shadow_tables.specs.declared.words.Side.TheVariants.{Kernel, User}
 use Rattle.shadow_tables.specs.declared.calls.Call.{Call}
 use Rattle.shadow_tables.specs.declared.calls.Call.TheVariants.{Fill, DropPage, DropDir, DropAll, Note, Written}
-use Rattle.shadow_tables.proofs.Asides.{barred-none}
+use Rattle.shadow_tables.proofs.OtherRoots.{barred-none}
 
 -- ---- a list up to a place
 

@@ -7,7 +7,7 @@ use Rattle.shadow_tables.specs.Entries.{entries_of}
 use Rattle.shadow_tables.specs.Laws.Entries.{entries_of-none}
 use Rattle.shadow_tables.specs.Slots.{held, slot_at, IsEmpty}
 use Rattle.shadow_cache.specs.After.{IsStart}
-use Rattle.shadow_cache.specs.Asides.{asides_of}
+use Rattle.shadow_cache.specs.OtherRoots.{other_roots_of}
 use Rattle.shadow_cache.specs.Laws as laws
 use Rattle.shadow_cache.specs.Pairs.{frames_of, IsRoots}
 use Rattle.shadow_cache.specs.Roots.{pairs_of}
@@ -62,7 +62,7 @@ pub new_empty : (r : Roots) (m : List ℕ) (cr3 : ℕ) → IsNew r m cr3 → ent
 new_empty r m cr3 h = entries_of-none (roots.slots r m) h.none
 
 new_alone : (r : Roots) (m : List ℕ) (cr3 : ℕ) → IsNew r m cr3 → roots.other_roots r m ≡ []
-new_alone r m cr3 h = ap (λ (ps : List Pair). asides_of ps m) h.others
+new_alone r m cr3 h = ap (λ (ps : List Pair). other_roots_of ps m) h.others
 
 pub new_ready : (s : Setting) (cpu : Cpu) (r : Roots) (m : List ℕ) → IsNew r m cpu.cr3 → IsReady of_roots s cpu r m
 new_ready s cpu r m h = none_ready of_roots (λ page. false) s cpu r m h.value h.none (new_alone r m cpu.cr3 h)

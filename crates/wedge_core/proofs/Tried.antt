@@ -44,7 +44,7 @@ module _ {S : Type 0} (shows : shadows.Ghosts S) where
   pub record Tried (image : Image) (r : Running S) (pool : Pool) (ram0 ram1 : List ℕ) (s0 s1 : StepState) : Type 0 where
     pub a : After shows image r.frames r.shadows pool ram0 ram1
     pub frames1 : s1.control.frames ≡ r.frames
-    pub asides1 : AreSame (shows.other_roots r.shadows ram0) (shows.other_roots r.shadows ram1)
+    pub others1 : AreSame (shows.other_roots r.shadows ram0) (shows.other_roots r.shadows ram1)
     pub counted1 : r.held ≡ length (shows.frames r.shadows ram1)
     pub few1 : length (free_list pool ram1) + length (shows.frames r.shadows ram1) < 2 ^ 32
     pub wp1 : s1.control.wp ≡ wp_of r.cpu
@@ -106,7 +106,7 @@ module _ {S : Type 0} (shows : shadows.Ghosts S) where
       tried_from = record {
         a = left;
         frames1 = frames_same;
-        asides1 = same_other_roots r.shadows ram0 ram1 held.stand left.same;
+        others1 = same_other_roots r.shadows ram0 ram1 held.stand left.same;
         counted1 = held.counted ∙ ap length (sym left.frames_same);
         few1 = few_after shows image r pool ram0 ram1 held left;
         wp1 = wp_same;

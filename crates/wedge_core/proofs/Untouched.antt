@@ -53,16 +53,16 @@ same_word ram then at even same =
     let fits : at % 4096 + 4 ≤ 4096 = omega (arith, even) in
     ap (word32 then) e ∙ (word32-frame then ram (at / 4096) (at % 4096) same fits ∙ ap (word32 ram) (sym e))
 
-asides_on : (m : Setting) (cpu : Cpu) (ram then : List ℕ) (size : length then ≡ length ram) (room : 4096 * m.frames ≤ length ram) (long : length ram ≤ 4096 * m.frames) (test : ℕ → Bool)
+roots_on : (m : Setting) (cpu : Cpu) (ram then : List ℕ) (size : length then ≡ length ram) (room : 4096 * m.frames ≤ length ram) (long : length ram ≤ 4096 * m.frames) (test : ℕ → Bool)
     → ((f : ℕ) → test f ≡ true → frame then f ≡ frame ram f) → (other_roots : List OtherRoot) → AllTracked test other_roots → AreReady m cpu ram other_roots → AreReady m cpu then other_roots
-asides_on m cpu ram then size room long test same [] t h = tt
-asides_on m cpu ram then size room long test same (a ∷ other_roots) t h = (
+roots_on m cpu ram then size room long test same [] t h = tt
+roots_on m cpu ram then size room long test same (a ∷ other_roots) t h = (
   record {
     found = λ page lt slot e.
         found_on m ram then size room long a.tables (λ at even within k. same_word ram then at even (same (at / 4096) (t.0 (at / 4096) k))) a.cr3 (pse_of cpu) page slot.entry lt (h.0.found page lt slot e);
     open_to = h.0.open_to;
   },
-  asides_on m cpu ram then size room long test same other_roots t.1 h.1,
+  roots_on m cpu ram then size room long test same other_roots t.1 h.1,
 )
 
 module _ {S : Type 0} (shows : shadows.Ghosts S) where
@@ -85,7 +85,7 @@ module _ {S : Type 0} (shows : shadows.Ghosts S) where
     pub ready_on : (m : Setting) (wedge : IsWedge m) (before after : Cpu) (s : S) (memory then : List ℕ) → IsHost m memory → IsHost m then → after.cr3 ≡ before.cr3 → pse_of after ≡ pse_of before → wp_of after ≡ wp_of before
         → ((at : ℕ) → is_among at (shows.write_protected s) ≡ true → frame (shown m then) at ≡ frame (shown m memory) at) → SameSlots (shows.slots s memory) (shows.slots s then) → AreSame (shows.other_roots s memory) (shows.other_roots s then)
         → IsReady shows m before s memory → IsReady shows m after s then
-    ready_on m wedge before after s memory then host host_then cr3 pse wp same slots_same asides_same h =
+    ready_on m wedge before after s memory then host host_then cr3 pse wp same slots_same other_roots_same h =
         let ram = shown m memory in
         let new = shown m then in
         let a = shown_length m wedge memory host in
@@ -100,6 +100,6 @@ module _ {S : Type 0} (shows : shadows.Ghosts S) where
               let there = found_on m ram new size room long (shows.read_from s) (λ at even within k. same_word ram new at even (same (at / 4096) (laws.read_from_is_protected s (at / 4096) un k))) before.cr3 (pse_of before) page slot.entry lt here in
               subst (λ (b : Bool). IsFoundBy new m.frames after.cr3 b (shows.read_from s) page slot.entry) (sym pse) (subst (λ (c : ℕ). IsFoundBy new m.frames c (pse_of before) (shows.read_from s) page slot.entry) (sym cr3) there);
           others = all_rules m before after new (shows.other_roots s then) pse wp
-              (all_ready_shed m before new (shows.other_roots s memory) (shows.other_roots s then) (same_shed (shows.other_roots s memory) (shows.other_roots s then) asides_same)
-              (asides_on m before ram new size room long (λ f. is_among f (shows.write_protected s)) same (shows.other_roots s memory) (laws.other_roots_protected s memory) h.others));
+              (all_ready_shed m before new (shows.other_roots s memory) (shows.other_roots s then) (same_shed (shows.other_roots s memory) (shows.other_roots s then) other_roots_same)
+              (roots_on m before ram new size room long (λ f. is_among f (shows.write_protected s)) same (shows.other_roots s memory) (laws.other_roots_protected s memory) h.others));
         }

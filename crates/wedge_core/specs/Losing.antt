@@ -22,8 +22,8 @@ module _ {S : Type 0} (g : shadows.Ghosts S) where
       (pool : Pool) → Owns pool memory (g.frames old memory) → Moves pool pool memory then (g.frames old memory) (g.frames new then)
 
   -- what is kept for other values of CR3, and what was noted, stays
-  abbrev pub KeepsAside : S → S → List ℕ → List ℕ → Type 0
-  KeepsAside old new memory then = sights.StaysBeside (sights.sight g old memory) (sights.sight g new then)
+  abbrev pub KeepsOtherRoots : S → S → List ℕ → List ℕ → Type 0
+  KeepsOtherRoots old new memory then = sights.StaysBeside (sights.sight g old memory) (sights.sight g new then)
 
   -- What stays where translations are dropped: what is left can be found again, nothing is kept or opened that wasn't before,
   -- and the guest's memory is as it was.

@@ -23,7 +23,7 @@ ghost use Rattle.wedge_step.specs.Parts.{left_of};
 ghost use Rattle.wedge_step.specs.Scene.{scene, set_in};
 ghost use Rattle.wedge_step.specs.Standing.{IsAble, ground};
 ghost use Rattle.wedge_core.specs.Attempted.{Attempts, TriesOnce};
-ghost use Rattle.wedge_core.specs.Losing.{IsClearIn, KeepsAside, LosesByClash, MovesInEach, StaysBeside};
+ghost use Rattle.wedge_core.specs.Losing.{IsClearIn, KeepsOtherRoots, LosesByClash, MovesInEach, StaysBeside};
 ghost use Rattle.wedge_core.specs.Prepared.{PreparesAs, gone, prepared};
 ghost use Rattle.wedge_core.specs.Scenes.{IsHeldIn, IsReadyIn, StaysHeld};
 ghost use Rattle.wedge_core.specs.Tries.{TriesAs};
@@ -180,7 +180,8 @@ fn make_room<S: Shadows + Drop>(
     ensures same { running.new ≡ record running.old { shadows = running.new.shadows; held = running.new.held; lost = running.new.lost } }
     ensures beside { StaysBeside S.Shadows (scene running.old pool.old ram.old) (scene running.new pool.new ram.new) }
     ensures clashed { LosesByClash S.Shadows image.now (scene running.old pool.old ram.old) (scene running.new pool.new ram.new) }
-    ensures stay { 8 ≤ length (free_list pool.old ram.old) → KeepsAside S.Shadows running.old.shadows running.new.shadows ram.old ram.new }
+    ensures stay { 8 ≤ length (free_list pool.old ram.old)
+        → KeepsOtherRoots S.Shadows running.old.shadows running.new.shadows ram.old ram.new }
     ensures moves { Moves pool.old pool.new ram.old ram.new (S.frames running.old.shadows ram.old) (S.frames running.new.shadows ram.new) }
 {
     if pool.free() < ROOM {
@@ -216,7 +217,7 @@ fn drop_present<S: Shadows + Drop>(running: &mut Running<S>, ram: &mut Ram)
     ensures lost { running.new.lost.before ≡ true }
     ensures same { running.new ≡ record running.old { shadows = running.new.shadows; lost = running.new.lost } }
     ensures beside { (pool : Pool) → StaysBeside S.Shadows (scene running.old pool ram.old) (scene running.new pool ram.new) }
-    ensures stay { KeepsAside S.Shadows running.old.shadows running.new.shadows ram.old ram.new }
+    ensures stay { KeepsOtherRoots S.Shadows running.old.shadows running.new.shadows ram.old ram.new }
     ensures frames { S.frames running.new.shadows ram.new ≡ S.frames running.old.shadows ram.old }
     ensures moves { MovesInEach S.Shadows running.old.shadows running.new.shadows ram.old ram.new }
 {

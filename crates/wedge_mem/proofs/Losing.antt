@@ -6,7 +6,7 @@ use Rattle.plain_laws.proofs.Tests.{either_less}
 use Rattle.guest_ram.specs.Among.{is_among}
 use Rattle.shadow_tables.specs.Calls.{IsWithin}
 use Rattle.shadow_tables.specs.Slots.{Slot, ArePart, LosesWrites, SameSlots, barred}
-use Rattle.shadow_tables.proofs.Asides.{among-append, barred-none, barred-twice}
+use Rattle.shadow_tables.proofs.OtherRoots.{among-append, barred-none, barred-twice}
 use Rattle.wedge_mem.specs.Settled.{LosesSome}
 use Rattle.wedge_mem.specs.Told.{guest_frames}
 use Rattle.wedge_mem.proofs.Lists.{true-false}

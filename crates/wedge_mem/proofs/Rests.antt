@@ -1,6 +1,6 @@
 -- Calls in a row leave the rest as it was where each does.
 use Rattle.std.proofs.Common.{ℕ, List, refl, ◌∙◌}
-use Rattle.shadow_tables.proofs.Asides.{same-refl, same-trans}
+use Rattle.shadow_tables.proofs.OtherRoots.{same-refl, same-trans}
 use Rattle.shadow_tables.specs.declared.shadows.Shadows as shadows
 use Rattle.wedge_mem.specs.Seen.{KeepsRest}
 

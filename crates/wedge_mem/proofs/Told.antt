@@ -9,7 +9,7 @@ use Rattle.std.specs.List.{list_any}
 use Rattle.std.proofs.Math.Bool.{or-false, or_assoc}
 use Rattle.shadow_tables.specs.OtherRoot.{OtherRoot, AreSame, LoseWrites, spared, all_spared}
 use Rattle.guest_ram.specs.Among.{is_among}
-use Rattle.shadow_tables.proofs.Asides.{among-append, any-append, lose-more, lose-none, lose-same, none-written, same-refl, same-trans, spared-lose, spared-more, spared-same}
+use Rattle.shadow_tables.proofs.OtherRoots.{among-append, any-append, lose-more, lose-none, lose-same, none-written, same-refl, same-trans, spared-lose, spared-more, spared-same}
 use Rattle.wedge_mem.specs.Told.{guest_frames}
 
 -- ---- one frame

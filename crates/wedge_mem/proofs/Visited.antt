@@ -9,7 +9,7 @@ use Rattle.paging.specs.declared.entry.Entry.{Entry}
 use Rattle.guest_ram.specs.Among.{is_among}
 use Rattle.shadow_tables.specs.Slots.{Slot}
 use Rattle.shadow_tables.specs.declared.words.Side.{Side}
-use Rattle.shadow_tables.proofs.Asides.{among-append}
+use Rattle.shadow_tables.proofs.OtherRoots.{among-append}
 use Rattle.step_mem.specs.Changes.{AreToldIn, page_of}
 use Rattle.step_mem.specs.declared.changes.Change.{Change}
 use Rattle.wedge_mem.specs.Settled.{Fills, has_entry, pages_of, used}

@@ -19,10 +19,10 @@ use Rattle.machine_model.specs.State.{Setting}
 use Rattle.machine_model.proofs.FoundStill.{found_still}
 use Rattle.native_steps.specs.Mirrors.{shown}
 use Rattle.wedge_mem.specs.Told.{guest_frames, read_by}
-use Rattle.wedge_step.specs.Ready.{IsReadyAside, AreReady, AreReadyBehind, IsReady, IsReadyBehind}
+use Rattle.wedge_step.specs.Ready.{IsReadyRoot, AreReady, AreReadyBehind, IsReady, IsReadyBehind}
 use Rattle.wedge_step.proofs.Bools.{none_some, clash, or_true, or_false}
 use Rattle.wedge_step.proofs.Shedding.{Sheds, found_tables, ready_shed}
-use Rattle.shadow_tables.proofs.Asides.{any-same}
+use Rattle.shadow_tables.proofs.OtherRoots.{any-same}
 use Rattle.shadow_tables.specs.declared.shadows.Shadows as shadows
 pub use Rattle.image_check.proofs.Starts.{contains_any as contains_among}
 
@@ -76,9 +76,9 @@ found_behind wrote ram then frames cr3 pse tables page e lt room follows free h 
 
 -- ---- what is kept for another value
 
-aside_behind : (wrote : List ℕ) (m : Setting) (cpu : Cpu) (ram then : List ℕ) (a : OtherRoot) → 4096 * m.frames ≤ length ram → MemoryFollows wrote ram then → list_any a.tables wrote ≡ false
-    → IsReadyAside m cpu ram a → IsReadyAside m cpu then a
-aside_behind wrote m cpu ram then a room follows none h = record {
+root_behind : (wrote : List ℕ) (m : Setting) (cpu : Cpu) (ram then : List ℕ) (a : OtherRoot) → 4096 * m.frames ≤ length ram → MemoryFollows wrote ram then → list_any a.tables wrote ≡ false
+    → IsReadyRoot m cpu ram a → IsReadyRoot m cpu then a
+root_behind wrote m cpu ram then a room follows none h = record {
   found = λ page lt slot e.
       found_behind wrote ram then m.frames a.cr3 (pse_of cpu) a.tables page slot.entry lt room follows
       (λ frame t c. clash (a.tables frame) t (any_none a.tables wrote none frame (contains_among wrote frame c))) (h.found page lt slot e);
@@ -88,15 +88,15 @@ aside_behind wrote m cpu ram then a room follows none h = record {
 shed : (a b : OtherRoot) → IsSame a b → Sheds a b
 shed a b k = record { cr3 = k.cr3; tables = k.tables; slots = λ page lt. within-same (b.slots page) (a.slots page) (k.slots page lt) }
 
-pub asides_behind : (wrote : List ℕ) (m : Setting) (cpu : Cpu) (ram then : List ℕ) (olds news : List OtherRoot) → 4096 * m.frames ≤ length ram → MemoryFollows wrote ram then → AreSame olds news
+pub roots_behind : (wrote : List ℕ) (m : Setting) (cpu : Cpu) (ram then : List ℕ) (olds news : List OtherRoot) → 4096 * m.frames ≤ length ram → MemoryFollows wrote ram then → AreSame olds news
     → AreReady m cpu ram olds → AreReadyBehind wrote m cpu then news
-asides_behind wrote m cpu ram then [] [] room follows same h = tt
-asides_behind wrote m cpu ram then [] (n ∷ ns) room follows same h = absurd same
-asides_behind wrote m cpu ram then (o ∷ os) [] room follows same h = absurd same
-asides_behind wrote m cpu ram then (o ∷ os) (n ∷ ns) room follows same h = (
+roots_behind wrote m cpu ram then [] [] room follows same h = tt
+roots_behind wrote m cpu ram then [] (n ∷ ns) room follows same h = absurd same
+roots_behind wrote m cpu ram then (o ∷ os) [] room follows same h = absurd same
+roots_behind wrote m cpu ram then (o ∷ os) (n ∷ ns) room follows same h = (
   λ none.
-      ready_shed m cpu then o n (shed o n same.0) (aside_behind wrote m cpu ram then o room follows (sym (any-same o.tables n.tables wrote same.0.tables) ∙ none) h.0),
-  asides_behind wrote m cpu ram then os ns room follows same.1 h.1,
+      ready_shed m cpu then o n (shed o n same.0) (root_behind wrote m cpu ram then o room follows (sym (any-same o.tables n.tables wrote same.0.tables) ∙ none) h.0),
+  roots_behind wrote m cpu ram then os ns room follows same.1 h.1,
 )
 
 module _ {S : Type 0} (shows : shadows.Ghosts S) where
@@ -169,5 +169,5 @@ module _ {S : Type 0} (shows : shadows.Ghosts S) where
       behind_ready out set each = record {
         value_is = h.value_is;
         present = λ un none page lt o e is. elim (each page lt o e is) [ inl was ↦ old_found un none page lt e was | inr left ↦ new_found un none page lt e left ];
-        others = asides_behind wrote m cpu (shown m memory) (shown m then) (shows.other_roots s memory) (shows.other_roots s then) k.room follows k.same h.others;
+        others = roots_behind wrote m cpu (shown m memory) (shown m then) (shows.other_roots s memory) (shows.other_roots s then) k.room follows k.same h.others;
       }

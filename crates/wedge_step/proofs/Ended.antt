@@ -16,7 +16,7 @@ use Rattle.shadow_tables.specs.OtherRoot.{AreSame}
 use Rattle.shadow_tables.specs.Entries.{entries_of}
 use Rattle.guest_ram.specs.Among.{is_among}
 use Rattle.shadow_tables.specs.Slots.{is_user}
-use Rattle.shadow_tables.proofs.Asides.{same-refl}
+use Rattle.shadow_tables.proofs.OtherRoots.{same-refl}
 use Rattle.shadow_tables.specs.declared.shadows.Shadows as shadows
 use Rattle.step_mem.specs.Changes.{AreWithin, AreToldIn, changed}
 use Rattle.step_mem.specs.declared.changes.Change.{Change}

@@ -29,7 +29,7 @@ use Rattle.machine_step.specs.declared.worked.Dropped.TheVariants as dropped
 use Rattle.machine_step.specs.declared.worked.Worked.{Worked}
 use Rattle.machine_step.specs.Worked.{completed_by, dropping, went_as}
 use Rattle.kept_laws.specs.Judged.{AllFound}
-use Rattle.kept_laws.specs.Known.{IsOver, IsStep, RulesStay, ReloadAside}
+use Rattle.kept_laws.specs.Known.{IsOver, IsStep, RulesStay, ReloadsRoot}
 use Rattle.kept_laws.specs.OverSteps.{IsTold, SettlingTells, DroppedComesFrom, Tells, put_under, under_value}
 use Rattle.kept_laws.specs.Remembered.{Unwritten, was_read}
 use Rattle.wedge_step.specs.Carried.{IsTakenFrom}
@@ -138,7 +138,7 @@ module _ (tells : SettlingTells) (comes : DroppedComesFrom) (t : Taken) (before 
         cr3_now : t.after.cpu.cr3 ≡ w.cpu.cr3
         cr3_now = ap (λ (c : Cpu). c.cr3) a.cpu
 
-        loaded : loads_root t ≡ true → ReloadAside t e.between v'
+        loaded : loads_root t ≡ true → ReloadsRoot t e.between v'
         loaded go =
             let l = roots.load (sym load_is ∙ go) in
             let r = e.loaded (ap (λ (x : ℕ). has x 65536) l.1, ap (λ (x : ℕ). has x 16) l.2) l.0 in

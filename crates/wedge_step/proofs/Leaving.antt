@@ -11,7 +11,7 @@ use Rattle.shadow_tables.specs.OtherRoot.{AreSame, LoseWrites, all_spared}
 use Rattle.shadow_tables.specs.Entries.{entries_of}
 use Rattle.guest_ram.specs.Among.{is_among}
 use Rattle.shadow_tables.specs.Slots.{Slot}
-use Rattle.shadow_tables.proofs.Asides.{same-refl}
+use Rattle.shadow_tables.proofs.OtherRoots.{same-refl}
 use Rattle.shadow_tables.specs.declared.shadows.Shadows as shadows
 use Rattle.wedge_mem.specs.Told.{guest_frames, read_by}
 use Rattle.wedge_mem.proofs.Lists.{not-both}

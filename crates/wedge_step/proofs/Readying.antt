@@ -13,14 +13,14 @@ use Rattle.shadow_tables.specs.Entries.{entries_of}
 use Rattle.shadow_tables.specs.Laws.Entries.{entries_of-none, entries_of-same}
 use Rattle.shadow_tables.specs.Slots.{Slot, entry_in}
 use Rattle.shadow_tables.specs.declared.shadows.Shadows as shadows
-use Rattle.shadow_cache.specs.Reloaded.{put_by, begun_aside, coming, staying}
+use Rattle.shadow_cache.specs.Reloaded.{put_by, begun_root, coming, staying}
 use Rattle.machine_model.specs.Reloading.{IsFoundBy}
 use Rattle.machine_model.specs.Run.{Set}
 use Rattle.machine_model.specs.State.{Setting}
 use Rattle.native_steps.specs.Mirrors.{shown}
 use Rattle.wedge_mem.specs.Told.{read_by}
-use Rattle.wedge_step.specs.Filled.{pages_aside, pages_kept}
-use Rattle.wedge_step.specs.Ready.{IsFoundIn, AreFound, IsReadyAside, AreReady, AllOpen, IsReadyBut, IsReady, IsReadyBehind}
+use Rattle.wedge_step.specs.Filled.{pages_of_others, pages_kept}
+use Rattle.wedge_step.specs.Ready.{IsFoundIn, AreFound, IsReadyRoot, AreReady, AllOpen, IsReadyBut, IsReady, IsReadyBehind}
 use Rattle.wedge_step.specs.Standing.{AreOpen}
 use Rattle.wedge_step.proofs.Bools.{none_some}
 use Rattle.wedge_step.proofs.Shedding.{some_within, found_tables, AllShed, same_shed, shed_pages, all_ready_shed, ready_spared, loaded_pages, put_by_pages, Each, each_coming, each_staying, coming_value, begun_ready, ready_each, each_ready, open_each}
@@ -32,7 +32,7 @@ by_entry P None e is h = λ slot x. absurd (none_some slot x)
 by_entry P (Some s) e is h = λ slot x. h slot.entry (is ∙ ap entry_in x)
 
 -- under the same rules
-pub rules_ready : (m : Setting) (before after : Cpu) (ram : List ℕ) (a : OtherRoot) → pse_of after ≡ pse_of before → wp_of after ≡ wp_of before → IsReadyAside m before ram a → IsReadyAside m after ram a
+pub rules_ready : (m : Setting) (before after : Cpu) (ram : List ℕ) (a : OtherRoot) → pse_of after ≡ pse_of before → wp_of after ≡ wp_of before → IsReadyRoot m before ram a → IsReadyRoot m after ram a
 rules_ready m before after ram a pse wp h = record {
   found = λ page lt slot e. subst (λ (b : Bool). IsFoundBy ram m.frames a.cr3 b a.tables page slot.entry) (sym pse) (h.found page lt slot e);
   open_to = subst (λ (w : Bool). AreOpen m.image w a.slots) (sym wp) h.open_to;
@@ -56,7 +56,7 @@ module _ {S : Type 0} (shows : shadows.Ghosts S) where
   pub none_pages : (s : S) (memory : List ℕ) → entries_of (shows.slots s memory) ≡ empty → shows.other_roots s memory ≡ [] → pages_kept shows s memory ≡ 0
   none_pages s memory is alone =
       let a = ap (λ (set : Set). len set) is ∙ Rattle.std.specs.FinMap.len-empty Rattle.std.specs.Ordering.nat_cmp Entry in
-      let b = ap pages_aside alone in
+      let b = ap pages_of_others alone in
       omega (arith, a, b)
 
   -- ---- less is kept
@@ -157,8 +157,8 @@ module _ {S : Type 0} (shows : shadows.Ghosts S) where
         → IsReady shows m after new then × AreFound m after (shown m then) cr3 (shows.read_from new) (shows.slots new then)
     loaded_ready m before after is pse wp ram has_tables_under h =
         let all = ready_each m after (shown m memory) put (all_rules m before after (shown m memory) put pse wp (put_ready m before old memory has_tables_under h)) in
-        let here = each_coming (IsReadyAside m after (shown m memory)) cr3 put (begun_ready m after (shown m memory) cr3) all in
-        let others = each_ready m after (shown m memory) (staying cr3 put) (each_staying (IsReadyAside m after (shown m memory)) cr3 put all) in
+        let here = each_coming (IsReadyRoot m after (shown m memory)) cr3 put (begun_ready m after (shown m memory) cr3) all in
+        let others = each_ready m after (shown m memory) (staying cr3 put) (each_staying (IsReadyRoot m after (shown m memory)) cr3 put all) in
         let found : AreFound m after (shown m then) cr3 (shows.read_from new) (shows.slots new then) =
         (λ page lt slot e.
         subst (λ (r : List ℕ). IsFoundBy r m.frames cr3 (pse_of after) (shows.read_from new) page slot.entry) (sym ram)
@@ -175,7 +175,7 @@ module _ {S : Type 0} (shows : shadows.Ghosts S) where
     pub loaded_shows : (image : Image) (wp : Bool) → AreOpen image wp (shows.slots old memory) → AllOpen image wp (shows.other_roots old memory) → AreOpen image wp (shows.slots new then)
     loaded_shows image wp has_tables_under h =
         let P = λ (a : OtherRoot). AreOpen image wp a.slots in
-        let here = each_coming P cr3 put (none_open image wp (begun_aside cr3).slots (λ page lt. refl)) (open_each image wp put (put_open image wp old memory has_tables_under h)) in
+        let here = each_coming P cr3 put (none_open image wp (begun_root cr3).slots (λ page lt. refl)) (open_each image wp put (put_open image wp old memory has_tables_under h)) in
         same_open image wp (coming cr3 put).slots (shows.slots new then) s.present.slots here
 
     pub loaded_fewer : pages_kept shows new then ≤ pages_kept shows old memory

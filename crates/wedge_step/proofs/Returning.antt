@@ -23,7 +23,7 @@ use Rattle.machine_model.specs.Run.{Set, with_set}
 use Rattle.machine_model.specs.State.{Setting, State, Loosened}
 use Rattle.native_steps.specs.Mirrors.{shown}
 use Rattle.native_steps.proofs.Walks.{IsWalk, ByTable, Large, walk_parts}
-use Rattle.wedge_step.specs.Filled.{pages_aside}
+use Rattle.wedge_step.specs.Filled.{pages_of_others}
 use Rattle.wedge_step.specs.Parts.{IsPartOf, IsLeft, left_of}
 use Rattle.wedge_step.specs.Ready.{AreFound, IsReady, IsReadyBut, is_all, leaving, left_out}
 use Rattle.wedge_step.specs.declared.running.Lost.{Lost}
@@ -89,7 +89,7 @@ within_left n slots d lost whole exact within back = by lost.back refl
 
 -- ---- pages that are kept, counted
 
-pub fewer_pages : (old new : Set) (olds news : List OtherRoot) → IsPartOf new old → AllShed olds news → len new + pages_aside news ≤ len old + pages_aside olds
+pub fewer_pages : (old new : Set) (olds news : List OtherRoot) → IsPartOf new old → AllShed olds news → len new + pages_of_others news ≤ len old + pages_of_others olds
 fewer_pages old new olds news part shed =
     let few = part_few new old part in
     let same = shed_pages olds news shed in

@@ -17,11 +17,11 @@ use Rattle.shadow_tables.specs.Entries.{entries_of}
 use Rattle.shadow_tables.specs.Laws.Entries.{get-entries_of, none-entries_of, entries_of-none}
 use Rattle.shadow_tables.specs.Slots.{Slot}
 use Rattle.shadow_tables.proofs.Lists.{within-same, note-within, within-kept}
-use Rattle.shadow_cache.specs.Reloaded.{put_by, of_cr3, but_cr3, begun_aside, coming, or_begun, beside_coming, staying}
+use Rattle.shadow_cache.specs.Reloaded.{put_by, of_cr3, but_cr3, begun_root, coming, or_begun, beside_coming, staying}
 use Rattle.machine_model.specs.Reloading.{IsFoundBy}
 use Rattle.machine_model.specs.State.{Setting}
-use Rattle.wedge_step.specs.Filled.{pages_aside}
-use Rattle.wedge_step.specs.Ready.{AreFound, IsReadyAside, AreReady, AllOpen, AreReadyBehind}
+use Rattle.wedge_step.specs.Filled.{pages_of_others}
+use Rattle.wedge_step.specs.Ready.{AreFound, IsReadyRoot, AreReady, AllOpen, AreReadyBehind}
 use Rattle.wedge_step.specs.Standing.{AreOpen}
 use Rattle.wedge_step.proofs.Bools.{none_some}
 use Rattle.wedge_step.proofs.Opening.{within_open, none_open}
@@ -95,7 +95,7 @@ lost_shed frames (o ∷ os) (n ∷ ns) h =
     (record { cr3 = h.0.cr3; tables = h.0.tables; slots = λ page lt. note-within o.slots n.slots frames page h.0.slots lt }, lost_shed frames os ns h.1)
 
 -- as many pages
-pub shed_pages : (olds news : List OtherRoot) → AllShed olds news → pages_aside news ≡ pages_aside olds
+pub shed_pages : (olds news : List OtherRoot) → AllShed olds news → pages_of_others news ≡ pages_of_others olds
 shed_pages [] [] h = refl
 shed_pages [] (n ∷ ns) h = absurd h
 shed_pages (o ∷ os) [] h = absurd h
@@ -119,16 +119,16 @@ pub open_spared : (image : Image) (wp : Bool) (wrote : List ℕ) (other_roots : 
 open_spared image wp wrote [] h = tt
 open_spared image wp wrote (a ∷ other_roots) h = if_open image wp (not (list_any a.tables wrote)) a (all_spared wrote other_roots) h.0 (open_spared image wp wrote other_roots h.1)
 
-if_pages : (b : Bool) (a : OtherRoot) (rest all : List OtherRoot) → pages_aside rest ≤ pages_aside all → pages_aside (cond b (a ∷ rest) rest) ≤ pages_aside (a ∷ all)
+if_pages : (b : Bool) (a : OtherRoot) (rest all : List OtherRoot) → pages_of_others rest ≤ pages_of_others all → pages_of_others (cond b (a ∷ rest) rest) ≤ pages_of_others (a ∷ all)
 if_pages true a rest all h = omega (arith, h)
 if_pages false a rest all h = omega (arith, h)
 
-pub spared_pages : (wrote : List ℕ) (other_roots : List OtherRoot) → pages_aside (all_spared wrote other_roots) ≤ pages_aside other_roots
+pub spared_pages : (wrote : List ℕ) (other_roots : List OtherRoot) → pages_of_others (all_spared wrote other_roots) ≤ pages_of_others other_roots
 spared_pages wrote [] = omega arith
 spared_pages wrote (a ∷ other_roots) = if_pages (not (list_any a.tables wrote)) a (all_spared wrote other_roots) other_roots (spared_pages wrote other_roots)
 
 module _ (m : Setting) (cpu : Cpu) (ram : List ℕ) where
-  pub ready_shed : (old new : OtherRoot) → Sheds old new → IsReadyAside m cpu ram old → IsReadyAside m cpu ram new
+  pub ready_shed : (old new : OtherRoot) → Sheds old new → IsReadyRoot m cpu ram old → IsReadyRoot m cpu ram new
   ready_shed old new s h = record {
     found = found_within m cpu ram old.cr3 new.cr3 old.tables new.tables new.slots old.slots s.cr3 (λ f e. s.tables f ∙ e) s.slots h.found;
     open_to = λ page lt. within_open m.image (wp_of cpu) (new.slots page) (old.slots page) (s.slots page lt) (h.open_to page lt);
@@ -144,7 +144,7 @@ module _ (m : Setting) (cpu : Cpu) (ram : List ℕ) where
   ready_open [] h = tt
   ready_open (a ∷ other_roots) h = (h.0.open_to, ready_open other_roots h.1)
 
-  ready_if : (b : Bool) (a : OtherRoot) (rest : List OtherRoot) → (b ≡ false → IsReadyAside m cpu ram a) → AreReady m cpu ram rest → AreReady m cpu ram (cond (not b) (a ∷ rest) rest)
+  ready_if : (b : Bool) (a : OtherRoot) (rest : List OtherRoot) → (b ≡ false → IsReadyRoot m cpu ram a) → AreReady m cpu ram rest → AreReady m cpu ram (cond (not b) (a ∷ rest) rest)
   ready_if true a rest h k = k
   ready_if false a rest h k = (h refl, k)
 
@@ -155,47 +155,47 @@ module _ (m : Setting) (cpu : Cpu) (ram : List ℕ) where
 
 -- ---- a value is loaded
 
-pub taken_pages : (n : ℕ) (other_roots : List OtherRoot) → pages_aside (take n other_roots) ≤ pages_aside other_roots
+pub taken_pages : (n : ℕ) (other_roots : List OtherRoot) → pages_of_others (take n other_roots) ≤ pages_of_others other_roots
 taken_pages zero other_roots = omega arith
 taken_pages (suc n) [] = omega arith
 taken_pages (suc n) (a ∷ other_roots) = let h = taken_pages n other_roots in omega (arith, h)
 
-begun_pages : (cr3 : ℕ) → len (entries_of (begun_aside cr3).slots) ≡ 0
-begun_pages cr3 = ap (λ (set : Rattle.machine_model.specs.Run.Set). len set) (entries_of-none (begun_aside cr3).slots (λ page lt. refl)) ∙ len-empty nat_cmp Entry
+begun_pages : (cr3 : ℕ) → len (entries_of (begun_root cr3).slots) ≡ 0
+begun_pages cr3 = ap (λ (set : Rattle.machine_model.specs.Run.Set). len set) (entries_of-none (begun_root cr3).slots (λ page lt. refl)) ∙ len-empty nat_cmp Entry
 
 -- how many pages there are for the value and beside it
 abbrev all_pages : ℕ → List OtherRoot → ℕ
-all_pages cr3 other_roots = len (entries_of (coming cr3 other_roots).slots) + pages_aside (staying cr3 other_roots)
+all_pages cr3 other_roots = len (entries_of (coming cr3 other_roots).slots) + pages_of_others (staying cr3 other_roots)
 
 one_pages : (cr3 : ℕ) (a : OtherRoot) (other_roots : List OtherRoot) (o : Option OtherRoot)
-    → ((x : OtherRoot) → o ≡ Some x → len (entries_of x.slots) + pages_aside (but_cr3 cr3 other_roots) ≤ pages_aside other_roots)
-    → (b : Bool) → (x : OtherRoot) → cond b (Some a) o ≡ Some x → len (entries_of x.slots) + pages_aside (cond b other_roots (a ∷ but_cr3 cr3 other_roots)) ≤ pages_aside (a ∷ other_roots)
+    → ((x : OtherRoot) → o ≡ Some x → len (entries_of x.slots) + pages_of_others (but_cr3 cr3 other_roots) ≤ pages_of_others other_roots)
+    → (b : Bool) → (x : OtherRoot) → cond b (Some a) o ≡ Some x → len (entries_of x.slots) + pages_of_others (cond b other_roots (a ∷ but_cr3 cr3 other_roots)) ≤ pages_of_others (a ∷ other_roots)
 one_pages cr3 a other_roots o h true x e =
     let is : a ≡ x = cc in
     let same = ap (λ (y : OtherRoot). len (entries_of y.slots)) is in
     omega (arith, same)
 one_pages cr3 a other_roots o h false x e = let k = h x e in omega (arith, k)
 
-some_pages : (cr3 : ℕ) (other_roots : List OtherRoot) (x : OtherRoot) → of_cr3 cr3 other_roots ≡ Some x → len (entries_of x.slots) + pages_aside (but_cr3 cr3 other_roots) ≤ pages_aside other_roots
+some_pages : (cr3 : ℕ) (other_roots : List OtherRoot) (x : OtherRoot) → of_cr3 cr3 other_roots ≡ Some x → len (entries_of x.slots) + pages_of_others (but_cr3 cr3 other_roots) ≤ pages_of_others other_roots
 some_pages cr3 [] x e = absurd (none_some x e)
 some_pages cr3 (a ∷ other_roots) x e = one_pages cr3 a other_roots (of_cr3 cr3 other_roots) (some_pages cr3 other_roots) (a.cr3 == cr3) x e
 
-pub loaded_pages : (cr3 : ℕ) (other_roots : List OtherRoot) → all_pages cr3 other_roots ≤ pages_aside other_roots
+pub loaded_pages : (cr3 : ℕ) (other_roots : List OtherRoot) → all_pages cr3 other_roots ≤ pages_of_others other_roots
 loaded_pages cr3 other_roots = by (of_cr3 cr3 other_roots) refl
   where
-    by : (o : Option OtherRoot) → of_cr3 cr3 other_roots ≡ o → len (entries_of (or_begun cr3 (of_cr3 cr3 other_roots)).slots) + pages_aside (beside_coming cr3 other_roots (of_cr3 cr3 other_roots)) ≤ pages_aside other_roots
+    by : (o : Option OtherRoot) → of_cr3 cr3 other_roots ≡ o → len (entries_of (or_begun cr3 (of_cr3 cr3 other_roots)).slots) + pages_of_others (beside_coming cr3 other_roots (of_cr3 cr3 other_roots)) ≤ pages_of_others other_roots
     by None e =
         let none = ap (λ (o : Option OtherRoot). len (entries_of (or_begun cr3 o).slots)) e ∙ begun_pages cr3 in
-        let beside = ap (λ (o : Option OtherRoot). pages_aside (beside_coming cr3 other_roots o)) e in
+        let beside = ap (λ (o : Option OtherRoot). pages_of_others (beside_coming cr3 other_roots o)) e in
         let few = taken_pages 7 other_roots in
         omega (arith, none, beside, few)
     by (Some x) e =
         let here = ap (λ (o : Option OtherRoot). len (entries_of (or_begun cr3 o).slots)) e in
-        let beside = ap (λ (o : Option OtherRoot). pages_aside (beside_coming cr3 other_roots o)) e in
+        let beside = ap (λ (o : Option OtherRoot). pages_of_others (beside_coming cr3 other_roots o)) e in
         let few = some_pages cr3 other_roots x e in
         omega (arith, here, beside, few)
 
-pub put_by_pages : (value : Option ℕ) (stale : Bool) (tables : ℕ → Bool) (slots : ℕ → Option Slot) (other_roots : List OtherRoot) → pages_aside (put_by value stale tables slots other_roots) ≤ len (entries_of slots) + pages_aside other_roots
+pub put_by_pages : (value : Option ℕ) (stale : Bool) (tables : ℕ → Bool) (slots : ℕ → Option Slot) (other_roots : List OtherRoot) → pages_of_others (put_by value stale tables slots other_roots) ≤ len (entries_of slots) + pages_of_others other_roots
 put_by_pages None stale tables slots other_roots = omega arith
 put_by_pages (Some cr3) true tables slots other_roots = omega arith
 put_by_pages (Some cr3) false tables slots other_roots = omega arith
@@ -230,7 +230,7 @@ module _ (P : OtherRoot → Type 0) where
   one_of cr3 true a o h k = h
   one_of cr3 false a o h k = k
 
-  pub each_coming : (cr3 : ℕ) (other_roots : List OtherRoot) → P (begun_aside cr3) → Each other_roots → P (coming cr3 other_roots)
+  pub each_coming : (cr3 : ℕ) (other_roots : List OtherRoot) → P (begun_root cr3) → Each other_roots → P (coming cr3 other_roots)
   each_coming cr3 [] none h = none
   each_coming cr3 (a ∷ other_roots) none h = one_of cr3 (a.cr3 == cr3) a (of_cr3 cr3 other_roots) h.0 (each_coming cr3 other_roots none h.1)
 
@@ -244,17 +244,17 @@ coming_value cr3 [] = refl
 coming_value cr3 (a ∷ other_roots) = value_if cr3 (a.cr3 == cr3) a (of_cr3 cr3 other_roots) refl (coming_value cr3 other_roots)
 
 module _ (m : Setting) (cpu : Cpu) (ram : List ℕ) where
-  pub begun_ready : (cr3 : ℕ) → IsReadyAside m cpu ram (begun_aside cr3)
+  pub begun_ready : (cr3 : ℕ) → IsReadyRoot m cpu ram (begun_root cr3)
   begun_ready cr3 = record {
     found = λ page lt slot e. absurd (none_some slot e);
-    open_to = none_open m.image (wp_of cpu) (begun_aside cr3).slots (λ page lt. refl);
+    open_to = none_open m.image (wp_of cpu) (begun_root cr3).slots (λ page lt. refl);
   }
 
-  pub ready_each : (other_roots : List OtherRoot) → AreReady m cpu ram other_roots → Each (IsReadyAside m cpu ram) other_roots
+  pub ready_each : (other_roots : List OtherRoot) → AreReady m cpu ram other_roots → Each (IsReadyRoot m cpu ram) other_roots
   ready_each [] h = tt
   ready_each (a ∷ other_roots) h = (h.0, ready_each other_roots h.1)
 
-  pub each_ready : (other_roots : List OtherRoot) → Each (IsReadyAside m cpu ram) other_roots → AreReady m cpu ram other_roots
+  pub each_ready : (other_roots : List OtherRoot) → Each (IsReadyRoot m cpu ram) other_roots → AreReady m cpu ram other_roots
   each_ready [] h = tt
   each_ready (a ∷ other_roots) h = (h.0, each_ready other_roots h.1)
 

@@ -30,13 +30,13 @@ abbrev pub AreFound : Setting → Cpu → List ℕ → ℕ → (ℕ → Bool) �
 AreFound m cpu ram cr3 tables slots = (page : ℕ) → page < 2 ^ 20 → ForSome (slots page) (IsFoundIn m cpu ram cr3 tables page)
 
 -- What is kept under a value that isn't present is found, and the views may show it.
-pub record IsReadyAside (m : Setting) (cpu : Cpu) (ram : List ℕ) (a : OtherRoot) : Type 0 where
+pub record IsReadyRoot (m : Setting) (cpu : Cpu) (ram : List ℕ) (a : OtherRoot) : Type 0 where
   pub found : AreFound m cpu ram a.cr3 a.tables a.slots
   pub open_to : AreOpen m.image (wp_of cpu) a.slots
 
 abbrev pub AreReady : Setting → Cpu → List ℕ → List OtherRoot → Type 0
 AreReady m cpu ram [] = Unit {0}
-AreReady m cpu ram (a ∷ other_roots) = IsReadyAside m cpu ram a × AreReady m cpu ram other_roots
+AreReady m cpu ram (a ∷ other_roots) = IsReadyRoot m cpu ram a × AreReady m cpu ram other_roots
 
 abbrev pub AllOpen : Image → Bool → List OtherRoot → Type 0
 AllOpen image wp [] = Unit {0}
@@ -45,7 +45,7 @@ AllOpen image wp (a ∷ other_roots) = AreOpen image wp a.slots × AllOpen image
 -- those whose tables lie in none of the frames that were written
 abbrev pub AreReadyBehind : List ℕ → Setting → Cpu → List ℕ → List OtherRoot → Type 0
 AreReadyBehind wrote m cpu ram [] = Unit {0}
-AreReadyBehind wrote m cpu ram (a ∷ other_roots) = (list_any a.tables wrote ≡ false → IsReadyAside m cpu ram a) × AreReadyBehind wrote m cpu ram other_roots
+AreReadyBehind wrote m cpu ram (a ∷ other_roots) = (list_any a.tables wrote ≡ false → IsReadyRoot m cpu ram a) × AreReadyBehind wrote m cpu ram other_roots
 
 -- the pages that leave at the end of a step; where all leave, those that the step went through
 abbrev pub leaving : Dropped → List ℕ → ℕ → Bool

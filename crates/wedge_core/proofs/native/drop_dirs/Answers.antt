@@ -1,6 +1,6 @@
 use Rattle.std.proofs.Common.{◌∙◌, refl}
 use Rattle.frame_pool.proofs.Held.{Owns-moves, Moves-refl, Moves-trans}
-use Rattle.shadow_tables.proofs.Asides.{same-refl, same-trans}
+use Rattle.shadow_tables.proofs.OtherRoots.{same-refl, same-trans}
 use Rattle.shadow_tables.specs.Laws.Entries.{entries_of-none}
 use Rattle.wedge_core.proofs.Sweeping.{none_below, next_below, all_below}
 use Rattle.wedge_core.proofs.native.drop_dirs.Goals as goal

@@ -72,12 +72,12 @@ module _ (g : Over) where
     set = refl;
     at = λ page lt. g.met.S.Shadows.entry_at r.shadows ram0 page lt;
     entries = k.a.entries_same;
-    same = k.asides1;
+    same = k.others1;
   }
 
   filled_from : (image : Image) (r : Running g.row.S.Denot) (pool : Pool) (ram0 ram1 : List ℕ) (s0 s1 : kept_state.StepState) → Tried g.S.Shadows image r pool ram0 ram1 s0 s1
       → FillsOn (pages_kept g.S.Shadows r.shadows ram0) (pages_kept g.S.Shadows r.shadows ram1) r.fills r.fills
-  filled_from image r pool ram0 ram1 s0 s1 k = fills_same _ _ r.fills (kept_same g.S.Shadows r.shadows ram0 ram1 k.a.entries_same k.asides1)
+  filled_from image r pool ram0 ram1 s0 s1 k = fills_same _ _ r.fills (kept_same g.S.Shadows r.shadows ram0 ram1 k.a.entries_same k.others1)
 
 -- ---- the step stops
 
@@ -223,9 +223,9 @@ returns-in-Ok-Some-clause-tries g c = record {
         let n = running.frames in
         let m = ground image n in
         let k = gone g c.before in
-        let asides0 = g.S.Shadows.other_roots running.shadows c.args.ram.now in
-        let asides1 = g.S.Shadows.other_roots running.shadows c.try_native.new.ram in
-        let opens1 = subst (λ (x : Bool). AllOpen image x asides1) (sym k.wp1) (open_shed image (wp_of running.cpu) asides0 asides1 (same_shed _ _ k.asides1) (ready_open m running.cpu (shown m c.args.ram.now) asides0 c.requires.ready.others)) in
+        let others0 = g.S.Shadows.other_roots running.shadows c.args.ram.now in
+        let others1 = g.S.Shadows.other_roots running.shadows c.try_native.new.ram in
+        let opens1 = subst (λ (x : Bool). AllOpen image x others1) (sym k.wp1) (open_shed image (wp_of running.cpu) others0 others1 (same_shed _ _ k.others1) (ready_open m running.cpu (shown m c.args.ram.now) others0 c.requires.ready.others)) in
         let slots2 = g.S.Shadows.slots c.finish_step.new.running.shadows c.finish_step.new.ram in
         let within2 = within_left n slots2 c.in-Ok-Some.worked.dropped c.finish_step.new.running.lost (changed (entries_of (g.S.Shadows.slots running.shadows c.try_native.new.ram)) c.try_native.new.state.changes) c.finish_step.ensures.left k.within1
         (λ back. all_within m c.finish_step.new.running.cpu (shown m c.finish_step.new.ram) c.finish_step.new.running.cpu.cr3 (g.S.Shadows.read_from c.finish_step.new.running.shadows) slots2 ((ready2 g c).1 back)) in

@@ -223,8 +223,8 @@ module _ (g : Over) (c : goal.After-ram g) where
   size : length m2 ≡ length m1
   size = size_is g.S.Shadows _ _ _ _ _ _ _ _ _ _ _ once
 
-  asides_same : AreSame (g.S.Shadows.other_roots r1.shadows m1) (g.S.Shadows.other_roots r1.shadows m2)
-  asides_same =
+  other_roots_same : AreSame (g.S.Shadows.other_roots r1.shadows m1) (g.S.Shadows.other_roots r1.shadows m2)
+  other_roots_same =
       let h = attempts.leaves.held in
       g.met.S.Shadows.same_other_roots r1.shadows m1 m2 h.stand (g.met.S.Shadows.above r1.shadows c.begin_native.new.pool m1 m2 (4096 * n) h.owns under behind size)
 
@@ -246,13 +246,13 @@ module _ (g : Over) (c : goal.After-ram g) where
       let ready1 = subst (λ (x : Cpu). IsReady g.S.Shadows (ground c.args.image.now n) x r1.shadows m1) cpu attempts.leaves.ready in
       subst (λ (x : g.row.S.Denot). IsReady g.S.Shadows (ground c.args.image.now n) r2.cpu x m2) (sym shadows_same)
       (ready_on g.S.Shadows tracks (ground c.args.image.now n) h.wedge r0.cpu r2.cpu r1.shadows m1 m2
-      h.host held.host rules.0 rules.1 rules.2 untouched kept.slots_are asides_same ready1)
+      h.host held.host rules.0 rules.1 rules.2 untouched kept.slots_are other_roots_same ready1)
 
   filled : FillsOn (pages_kept g.S.Shadows r0.shadows m0) (pages_kept g.S.Shadows r2.shadows m2) r0.fills r2.fills
   filled =
       let pages = λ (s : g.row.S.Denot) (l : List ℕ). pages_kept g.S.Shadows s l in
       once_fills g.S.Shadows _ _ _ _ _ _ _ _ _ _ _ once pages (pages r0.shadows m0)
-      (kept_same g.S.Shadows r1.shadows m1 m2 kept.entries_are asides_same) accounts.filled
+      (kept_same g.S.Shadows r1.shadows m1 m2 kept.entries_are other_roots_same) accounts.filled
 
   -- its pages were settled before
   asked_on : (script : Events) (steps : List Taken) (t : Taken) → AreBytes (shown (ground c.args.image.now n) m2) → c.args.wanted ≡ false → length (free_list c.args.pool.now m0) + r0.held ≡ 512 → Roomy (steps ++ t ∷ [])
@@ -276,7 +276,7 @@ module _ (g : Over) (c : goal.After-ram g) where
       let as_was = g.met.S.Shadows.above s c.begin_native.new.pool m1 m2 (4096 * n) e.owns under behind size in
       let indices : ℕ → Bool = λ index. is_member eqb (indices_in steps) index in
       let still = c.known_laws.ensures.still m steps b (sight g.S.Shadows s m1) (sight g.S.Shadows s m2) (entries_of (g.S.Shadows.slots s m1))
-      (record { notes = λ frame e. e; marks = λ e. e; others = asides_same }) h.known in
+      (record { notes = λ frame e. e; marks = λ e. e; others = other_roots_same }) h.known in
       subst (λ (x : g.row.S.Denot). IsCarried g.S.Shadows m steps b x m2) (sym shadows_same)
       (record {
         known = subst (λ (x : Set). IsKnown m steps b (sight g.S.Shadows s m2) x) (sym kept.entries_are) still;

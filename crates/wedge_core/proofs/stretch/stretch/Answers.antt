@@ -56,7 +56,7 @@ returns g c =
     let shadows = shadows_is g.S.Shadows laws image old.frames old pool memory h views.lends views.sees c.advances.ensures c.requires.able may c.if-running.false retired passed k done now memory_then retired_then passed_then ran in
     let there = same_there g.S.Shadows laws image old.frames old pool memory h views.lends views.sees c.advances.ensures c.requires.able may c.if-running.false retired passed k done now memory_then retired_then passed_then ran script quiet in
     let inside = same_in g.S.Shadows laws image old.frames old pool memory h memory_then there in
-    let asides_then = met.same_other_roots old.shadows memory memory_then h.stand inside in
+    let others_then = met.same_other_roots old.shadows memory memory_then h.stand inside in
     record {
       goes = record {
         passes = λ some board is.
@@ -72,7 +72,7 @@ returns g c =
         filled =
             subst (λ (s : g.row.S.Denot). FillsOn (pages_kept g.S.Shadows old.shadows memory) (pages_kept g.S.Shadows s memory_then) old.fills now.fills) (sym shadows)
             (subst (λ (k : ℕ). FillsOn (pages_kept g.S.Shadows old.shadows memory) (pages_kept g.S.Shadows old.shadows memory_then) old.fills k) (sym (fills_then g.S.Shadows old now view start k done memory_then retired_then passed_then ran))
-            (fills_same _ _ old.fills (kept_same g.S.Shadows old.shadows memory memory_then (set_same g.S.Shadows laws image old.frames old pool memory h memory_then there) asides_then)));
+            (fills_same _ _ old.fills (kept_same g.S.Shadows old.shadows memory memory_then (set_same g.S.Shadows laws image old.frames old pool memory h memory_then there) others_then)));
         ready = λ ready.
             let tracks : Tracks g.S.Shadows = record {
               host = met.host;
@@ -88,7 +88,7 @@ returns g c =
             (stand g.S.Shadows laws image old.frames old pool memory h other same) (whole_new g.S.Shadows laws image old.frames old pool memory h other same) t) in
             let slots_then = met.same_slots old.shadows memory memory_then h.stand inside in
             subst (λ (s : g.row.S.Denot). IsReady g.S.Shadows (ground image old.frames) now.cpu s memory_then) (sym shadows)
-            (ready_on g.S.Shadows tracks (ground image old.frames) h.wedge old.cpu now.cpu old.shadows memory memory_then h.host host_then rules.0 rules.1 rules.2 untouched slots_then asides_then ready);
+            (ready_on g.S.Shadows tracks (ground image old.frames) h.wedge old.cpu now.cpu old.shadows memory memory_then h.host host_then rules.0 rules.1 rules.2 untouched slots_then others_then ready);
         kept = shadows;
         apart = inside;
         able = able_then g.S.Shadows laws image old.frames old c.requires.held.0 memory c.requires.held.1 views.lends views.sees c.advances.ensures c.requires.able may c.if-running.false retired passed k done now memory_then retired_then passed_then ran

@@ -8,7 +8,7 @@ use Rattle.shadow_tables.specs.OtherRoot.{LoseWrites, AreSame, all_spared}
 use Rattle.shadow_tables.specs.Calls.{IsWithin}
 use Rattle.shadow_tables.specs.Entries.{entries_of}
 use Rattle.shadow_tables.specs.Slots.{Slot}
-use Rattle.shadow_tables.proofs.Asides.{any-same}
+use Rattle.shadow_tables.proofs.OtherRoots.{any-same}
 use Rattle.step_mem.specs.Changes.{changed}
 use Rattle.step_mem.specs.declared.changes.Change.{Change}
 use Rattle.wedge_mem.specs.Owned.{first, owns}

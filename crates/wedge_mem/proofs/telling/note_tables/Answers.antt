@@ -1,7 +1,7 @@
 use Rattle.std.proofs.Common.{ℕ, List, refl, ◌∙◌, subst}
 use Rattle.frame_pool.specs.Held.{Writes}
 use Rattle.frame_pool.proofs.Held.{Writes-refl, Writes-trans}
-use Rattle.shadow_tables.proofs.Asides.{lose-none, same-refl}
+use Rattle.shadow_tables.proofs.OtherRoots.{lose-none, same-refl}
 use Rattle.wedge_mem.proofs.Losing.{more-loses, none-loses}
 use Rattle.wedge_mem.proofs.Told.{first-read_from, more-read_from, more-lose}
 use Rattle.wedge_mem.proofs.telling.note_tables.Goals as goal

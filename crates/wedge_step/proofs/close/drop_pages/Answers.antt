@@ -1,6 +1,6 @@
 use Rattle.std.proofs.Common.{◌∙◌, refl, inr}
 use Rattle.frame_pool.proofs.Held.{Owns-moves, Moves-refl, Moves-trans}
-use Rattle.shadow_tables.proofs.Asides.{same-refl, same-trans}
+use Rattle.shadow_tables.proofs.OtherRoots.{same-refl, same-trans}
 use Rattle.wedge_step.proofs.Dropping.{none_before, all_before, next_gone, next_others}
 use Rattle.wedge_step.proofs.Leaving.{next_stays, none_of_all}
 use Rattle.wedge_step.proofs.close.drop_pages.Goals as goal

@@ -80,7 +80,7 @@ module _ (g : Over) (c : goal.After-settle g) where
     noted_is = c.settle.ensures.settled.read_from;
     marked_is = c.settle.ensures.settled.stale;
     value_is = c.settle.ensures.settled.value;
-    asides_are = c.settle.ensures.settled.other_roots;
+    others_are = c.settle.ensures.settled.other_roots;
   }
 
 pub returns-clause-opens : goal.returns-clause-opens

@@ -87,8 +87,8 @@ module _ (g : Over) (c : goal.After-worked-1 g) where
       after g.S.Shadows g.met.S.Shadows.above g.met.S.Shadows.same_frames g.met.S.Shadows.same_slots g.met.S.Shadows.same_entries image running c.args.pool.now ram0 ram1 256 (text_pages image) c.requires.between.held fits1
       refl refl hid
 
-  asides1 : AreSame (g.S.Shadows.other_roots running.shadows ram0) (g.S.Shadows.other_roots running.shadows ram1)
-  asides1 = g.met.S.Shadows.same_other_roots running.shadows ram0 ram1 c.requires.between.held.stand a.same
+  others1 : AreSame (g.S.Shadows.other_roots running.shadows ram0) (g.S.Shadows.other_roots running.shadows ram1)
+  others1 = g.met.S.Shadows.same_other_roots running.shadows ram0 ram1 c.requires.between.held.stand a.same
 
   wp1 : state1.control.wp ≡ wp_of running.cpu
   wp1 = ap (λ (k : Control). k.wp) c.step_in-outcome.ensures.control ∙ ap (λ (x : Space). x.wp) c.begin_over.ensures.space
@@ -99,7 +99,7 @@ module _ (g : Over) (c : goal.After-worked-1 g) where
   opens1 : AllOpen image state1.control.wp (g.S.Shadows.other_roots running.shadows ram1)
   opens1 =
       subst (λ (x : Bool). AllOpen image x (g.S.Shadows.other_roots running.shadows ram1)) (sym wp1)
-      (open_shed image (wp_of running.cpu) (g.S.Shadows.other_roots running.shadows ram0) (g.S.Shadows.other_roots running.shadows ram1) (same_shed _ _ asides1)
+      (open_shed image (wp_of running.cpu) (g.S.Shadows.other_roots running.shadows ram0) (g.S.Shadows.other_roots running.shadows ram1) (same_shed _ _ others1)
       (ready_open (ground image n) running.cpu (shown (ground image n) ram0) (g.S.Shadows.other_roots running.shadows ram0) c.requires.between.ready.others))
 
   module _ (script : Events) where
@@ -142,7 +142,7 @@ module _ (g : Over) (c : goal.After-worked-1 g) where
         set = refl;
         at = λ page lt. g.met.S.Shadows.entry_at running.shadows ram0 page lt;
         entries = a.entries_same;
-        same = asides1;
+        same = others1;
       } in
       went_ready g.S.Shadows image n (b []) running.shadows ram0 ram1 k c.requires.between.ready c.steps_follow.ensures c.in-Ok.worked c.step_in-outcome.new.board (s1 []) state1.changes (went []) (ram1_is []) refl
 
@@ -283,7 +283,7 @@ returns-in-Ok-clause-accounts g c =
       stands = c.finish_step.ensures.moved.stands;
       counted = c.finish_step.ensures.counts.counted;
       pool = keeps_then g.S.Shadows (image g d) (running g d) c.finish_step.new.running c.args.pool.now c.finish_step.new.pool (ram0 g d) (ram1 g d) c.finish_step.new.ram c.requires.between.held (a g d) c.finish_step.ensures.moved.moves;
-      filled = fills_join _ _ _ _ _ _ (fills_same _ _ (running g d).fills (kept_same g.S.Shadows (running g d).shadows (ram0 g d) (ram1 g d) (a g d).entries_same (asides1 g d))) c.finish_step.ensures.counts.filled;
+      filled = fills_join _ _ _ _ _ _ (fills_same _ _ (running g d).fills (kept_same g.S.Shadows (running g d).shadows (ram0 g d) (ram1 g d) (a g d).entries_same (others1 g d))) c.finish_step.ensures.counts.filled;
       frames = c.finish_step.ensures.passes.frames;
     }
 

@@ -2,7 +2,7 @@ use Rattle.std.proofs.Common.{List, ap, ◌∙◌}
 use Rattle.shadow_cache.specs.Roots.{pairs_of}
 use Rattle.shadow_cache.specs.After.{mark_of, noted_of}
 use Rattle.shadow_cache.specs.declared.pair.Pair.{Pair}
-use Rattle.shadow_cache.proofs.Asided.{none-beside}
+use Rattle.shadow_cache.proofs.OthersAfter.{none-beside}
 use Rattle.shadow_cache.proofs.Beside.{no-reads}
 use Rattle.shadow_cache.proofs.Noted.{emptied-value}
 use Rattle.shadow_cache.proofs.Openings.{renewed-has_tables_under}

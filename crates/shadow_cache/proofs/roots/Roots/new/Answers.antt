@@ -1,7 +1,7 @@
 use Rattle.std.proofs.Common.{ℕ, List, Bool, [], ◌∷◌, get_or, false, Some, sym, ap, ◌∙◌, subst}
 use Rattle.std.proofs.lemmas.Grind.{merely}
 use Rattle.frame_pool.specs.Held.{Owns, Moves}
-use Rattle.shadow_cache.specs.Asides.{asides_of}
+use Rattle.shadow_cache.specs.OtherRoots.{other_roots_of}
 use Rattle.shadow_cache.specs.declared.pair.Pair.{Pair}
 use Rattle.shadow_cache.proofs.Beside.{no-reads}
 use Rattle.shadow_cache.proofs.Noting.{alone-frames, fresh-roots}
@@ -39,7 +39,7 @@ returns-clause-begins c =
     (ap (λ (v : ℕ). Some v) e.cr3, e.stale, λ f. ap (λ (bits : List Bool). get_or bits f false) e.tables ∙ no-reads f)
 
 pub returns-clause-alone : goal.returns-clause-alone
-returns-clause-alone c = ap (λ (ps : List Pair). asides_of ps c.new-present.new.ram) c.in_ok-others.ensures
+returns-clause-alone c = ap (λ (ps : List Pair). other_roots_of ps c.new-present.new.ram) c.in_ok-others.ensures
 
 pub returns-clause-has_tables_under : goal.returns-clause-has_tables_under
 returns-clause-has_tables_under c = λ indices. start-has_tables_under indices c.new-present.result c.in_ok-others.others c.new-present.new.ram c.in_ok-others.ensures c.new-present.ensures.empty

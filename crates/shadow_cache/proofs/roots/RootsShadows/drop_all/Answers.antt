@@ -1,5 +1,5 @@
 use Rattle.shadow_cache.specs.Roots.{pairs_of}
-use Rattle.shadow_cache.proofs.Asided.{none-beside}
+use Rattle.shadow_cache.proofs.OthersAfter.{none-beside}
 use Rattle.shadow_cache.proofs.Noted.{emptied-reads, emptied-stale, emptied-value}
 use Rattle.shadow_cache.proofs.Openings.{emptied-has_tables_under}
 use Rattle.shadow_cache.proofs.roots.RootsShadows.drop_all.Goals as goal

@@ -1,7 +1,7 @@
 use Rattle.std.proofs.Common.{ap}
 use Rattle.shadow_cache.specs.Pairs.{tables_of}
 use Rattle.shadow_cache.specs.Roots.{pairs_of}
-use Rattle.shadow_cache.proofs.Asided.{others-kept}
+use Rattle.shadow_cache.proofs.OthersAfter.{others-kept}
 use Rattle.shadow_cache.specs.After.{mark_of, noted_of, value_of}
 use Rattle.shadow_cache.proofs.Openings.{dropped-has_tables_under}
 use Rattle.shadow_cache.proofs.roots.RootsShadows.drop_dir.Goals as goal

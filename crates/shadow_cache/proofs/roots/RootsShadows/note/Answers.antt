@@ -1,7 +1,7 @@
 use Rattle.std.proofs.Common.{ap}
 use Rattle.shadow_cache.specs.Laws.{had}
 use Rattle.shadow_cache.specs.Roots.{pairs_of}
-use Rattle.shadow_cache.proofs.Asided.{others-lose}
+use Rattle.shadow_cache.proofs.OthersAfter.{others-lose}
 use Rattle.shadow_cache.specs.After.{mark_of, value_of}
 use Rattle.shadow_cache.proofs.Noted.{read_from-exact}
 use Rattle.shadow_cache.proofs.Openings.{read_from-has_tables_under}

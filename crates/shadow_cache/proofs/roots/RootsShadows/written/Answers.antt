@@ -1,5 +1,5 @@
 use Rattle.shadow_cache.specs.Roots.{pairs_of}
-use Rattle.shadow_cache.proofs.Asided.{others-spared}
+use Rattle.shadow_cache.proofs.OthersAfter.{others-spared}
 use Rattle.shadow_cache.proofs.Noted.{written-other, written-there, written-stale, written-value}
 use Rattle.shadow_cache.proofs.Openings.{written-has_tables_under}
 use Rattle.shadow_cache.proofs.roots.RootsShadows.written.Goals as goal

@@ -5,9 +5,9 @@ use Rattle.shadow_tables.specs.Slots.{slot_at}
 use Rattle.shadow_cache.specs.Pairs.{reads}
 use Rattle.shadow_cache.specs.declared.pair.Pair.{Pair}
 
-abbrev pub aside_of : Pair → List ℕ → OtherRoot
-aside_of p m = record { cr3 = p.cr3; tables = reads p; slots = slot_at p.shadow m }
+abbrev pub other_root_of : Pair → List ℕ → OtherRoot
+other_root_of p m = record { cr3 = p.cr3; tables = reads p; slots = slot_at p.shadow m }
 
-abbrev pub asides_of : List Pair → List ℕ → List OtherRoot
-asides_of [] m = []
-asides_of (p ∷ ps) m = aside_of p m ∷ asides_of ps m
+abbrev pub other_roots_of : List Pair → List ℕ → List OtherRoot
+other_roots_of [] m = []
+other_roots_of (p ∷ ps) m = other_root_of p m ∷ other_roots_of ps m
