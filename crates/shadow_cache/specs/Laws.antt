@@ -23,7 +23,7 @@ use Rattle.shadow_tables.specs.Laws as below
 use Rattle.shadow_tables.specs.Laws.Views.{in-root, held-stays, slot_at-stays, IsShadow-stays}
 use Rattle.shadow_tables.specs.Laws.Props.{IsShadow-prop}
 use Rattle.shadow_cache.specs.Pairs.{reads, any_reads, places_from, tables_of, frames_of, AreShadows, AreSized, BarsWrites, AllBarWrites, AreUnmarked, OthersUnmarked, IsRoots}
-use Rattle.shadow_tables.specs.OtherRoot.{AreSame, AllFit, AllBarred, AllTracked}
+use Rattle.shadow_tables.specs.OtherRoot.{AreSame, AllFit, AllBarred, AllProtected}
 use Rattle.shadow_cache.specs.OtherRoots.{other_roots_of}
 use Rattle.shadow_tables.specs.Laws.Openings.{only-same, held-size}
 use Rattle.shadow_tables.proofs.OtherRoots.{among-append}
@@ -213,7 +213,8 @@ all-fit (p ∷ ps) m h = (λ page slot l e. below.fits p.shadow m page slot (mer
 pub other_roots-fit : (p : Pair) (ps : List Pair) (m : List ℕ) → ∥ IsRoots (p ∷ ps) m ∥₁ → AllFit (other_roots_of ps m)
 other_roots-fit p ps m h = all-fit ps m (had (p ∷ ps) m h).shadows.1
 
-all-barred : (t u : ℕ → Bool) (ps : List Pair) (m : List ℕ) → ((f : ℕ) → u f ≡ t f) → AllBarWrites t ps m → AllBarred u (other_roots_of ps m)
+all-barred : (t u : ℕ → Bool) (ps : List Pair) (m : List ℕ) → ((f : ℕ) → u f ≡ t f) → AllBarWrites t ps m
+    → AllBarred u (other_roots_of ps m)
 all-barred t u [] m i h = tt
 all-barred t u (p ∷ ps) m i h = (λ page slot l e y. h.0 page slot l e (sym (i slot.entry.frame) ∙ y), all-barred t u ps m i h.1)
 
@@ -223,12 +224,13 @@ other_roots-barred p ps m h = all-barred (any_reads (p ∷ ps)) (λ f. is_among 
 pub read_from-write_protected : (p : Pair) (ps : List Pair) (frame : ℕ) → reads p frame ≡ true → is_among frame (tables_of (p ∷ ps)) ≡ true
 read_from-write_protected p ps frame e = tables-any (p ∷ ps) frame ∙ ap (λ b. b || any_reads ps frame) e
 
-all-write_protected : (t : ℕ → Bool) (ps : List Pair) (m : List ℕ) → ((f : ℕ) → any_reads ps f ≡ true → t f ≡ true) → AllTracked t (other_roots_of ps m)
+all-write_protected : (t : ℕ → Bool) (ps : List Pair) (m : List ℕ) → ((f : ℕ) → any_reads ps f ≡ true → t f ≡ true) → AllProtected t (other_roots_of ps m)
 all-write_protected t [] m h = tt
 all-write_protected t (p ∷ ps) m h =
     (λ f e. h f (ap (λ b. b || any_reads ps f) e), all-write_protected t ps m (λ f e. h f (ap (λ b. reads p f || b) e ∙ or-true (reads p f))))
 
-pub other_roots-write_protected : (p : Pair) (ps : List Pair) (m : List ℕ) → AllTracked (λ f. is_among f (tables_of (p ∷ ps))) (other_roots_of ps m)
+pub other_roots-write_protected : (p : Pair) (ps : List Pair) (m : List ℕ)
+    → AllProtected (λ f. is_among f (tables_of (p ∷ ps))) (other_roots_of ps m)
 other_roots-write_protected p ps m = all-write_protected (λ f. is_among f (tables_of (p ∷ ps))) ps m (λ f e. tables-any (p ∷ ps) f ∙ (ap (λ b. reads p f || b) e ∙ or-true (reads p f)))
 
 other_roots-length : (ps : List Pair) (m : List ℕ) → length (other_roots_of ps m) ≡ length ps

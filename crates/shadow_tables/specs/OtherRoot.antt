@@ -57,6 +57,6 @@ AllBarred test (a ∷ other_roots) =
     ((page : ℕ) (slot : Slot) → page < 2 ^ 20 → a.slots page ≡ Some slot → test slot.entry.frame ≡ true → slot.writes ≡ false) × AllBarred test other_roots
 
 -- the test holds of every frame from which the tables of any of them were read
-abbrev pub AllTracked : (ℕ → Bool) → List OtherRoot → Type 0
-AllTracked test [] = Unit {0}
-AllTracked test (a ∷ other_roots) = ((frame : ℕ) → a.tables frame ≡ true → test frame ≡ true) × AllTracked test other_roots
+abbrev pub AllProtected : (ℕ → Bool) → List OtherRoot → Type 0
+AllProtected test [] = Unit {0}
+AllProtected test (a ∷ other_roots) = ((frame : ℕ) → a.tables frame ≡ true → test frame ≡ true) × AllProtected test other_roots

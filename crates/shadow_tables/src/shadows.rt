@@ -7,7 +7,7 @@ ghost use Rattle.frame_pool.specs.declared.Pool.{Pool};
 ghost use Rattle.frame_pool.specs.Held.{times, Holds, Owns, Writes, Moves, SameIn};
 ghost use Rattle.paging.specs.Reached.{reached, walk_frames};
 ghost use Rattle.paging.specs.Uses.{without_dir};
-ghost use Rattle.shadow_tables.specs.OtherRoot.{OtherRoot, AreSame, LoseWrites, AllFit, AllBarred, AllTracked, spared};
+ghost use Rattle.shadow_tables.specs.OtherRoot.{OtherRoot, AreSame, LoseWrites, AllFit, AllBarred, AllProtected, spared};
 ghost use Rattle.shadow_tables.specs.Entries.{FillsSlot, entries_of};
 ghost use Rattle.shadow_tables.specs.Host.{lent};
 ghost use Rattle.shadow_tables.specs.Known.{KnowsNoMore, KnowsRead, KnowsWritten, SameBeside};
@@ -209,7 +209,7 @@ pub trait Shadows {
     ghost read_from_is_protected: { (s : Self) (frame : ℕ) → stale s ≡ false → read_from s frame ≡ true
         → is_among frame (write_protected s) ≡ true };
 
-    ghost other_roots_protected: { (s : Self) (m : List ℕ) → AllTracked (λ f. is_among f (write_protected s)) (other_roots s m) };
+    ghost other_roots_protected: { (s : Self) (m : List ℕ) → AllProtected (λ f. is_among f (write_protected s)) (other_roots s m) };
 
     /// A write in other frames makes no difference.
     ghost stays: { (s : Self) (m m' : List ℕ) → ∥ stands s m ∥₁ → SameIn (frames s m) m m' → ∥ stands s m' ∥₁ };

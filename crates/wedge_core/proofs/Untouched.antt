@@ -7,7 +7,7 @@ use Rattle.guest_ram.proofs.Bytes.{word32-frame}
 use Rattle.descriptors.specs.Controls.{pse_of, wp_of}
 use Rattle.descriptors.specs.declared.cpu.Cpu.{Cpu}
 use Rattle.paging.specs.Reached.{reached}
-use Rattle.shadow_tables.specs.OtherRoot.{OtherRoot, AreSame, AllTracked}
+use Rattle.shadow_tables.specs.OtherRoot.{OtherRoot, AreSame, AllProtected}
 use Rattle.shadow_tables.specs.Host.{lent, frame_below}
 use Rattle.guest_ram.specs.Among.{is_among}
 use Rattle.shadow_tables.specs.Slots.{Slot, is_side, is_adequate, SameSlots}
@@ -54,7 +54,7 @@ same_word ram then at even same =
     ap (word32 then) e ∙ (word32-frame then ram (at / 4096) (at % 4096) same fits ∙ ap (word32 ram) (sym e))
 
 roots_on : (m : Setting) (cpu : Cpu) (ram then : List ℕ) (size : length then ≡ length ram) (room : 4096 * m.frames ≤ length ram) (long : length ram ≤ 4096 * m.frames) (test : ℕ → Bool)
-    → ((f : ℕ) → test f ≡ true → frame then f ≡ frame ram f) → (other_roots : List OtherRoot) → AllTracked test other_roots → AreReady m cpu ram other_roots → AreReady m cpu then other_roots
+    → ((f : ℕ) → test f ≡ true → frame then f ≡ frame ram f) → (other_roots : List OtherRoot) → AllProtected test other_roots → AreReady m cpu ram other_roots → AreReady m cpu then other_roots
 roots_on m cpu ram then size room long test same [] t h = tt
 roots_on m cpu ram then size room long test same (a ∷ other_roots) t h = (
   record {
@@ -71,7 +71,7 @@ module _ {S : Type 0} (shows : shadows.Ghosts S) where
     pub host : (s : S) (m : List ℕ) (n : ℕ) (side : Side) (page : ℕ) (write : Bool) → ∥ shows.stands s m ∥₁ → 4096 * n ≡ length m → page < 2 ^ 20 → reached m n (shows.directory s side) page write ≡ lent n (shows.slots s m page) side write
     pub barred : (s : S) (m : List ℕ) (page : ℕ) (slot : Slot) → ∥ shows.stands s m ∥₁ → page < 2 ^ 20 → shows.slots s m page ≡ Some slot → is_among slot.entry.frame (shows.write_protected s) ≡ true → slot.writes ≡ false
     pub read_from_is_protected : (s : S) (frame : ℕ) → shows.stale s ≡ false → shows.read_from s frame ≡ true → is_among frame (shows.write_protected s) ≡ true
-    pub other_roots_protected : (s : S) (m : List ℕ) → AllTracked (λ f. is_among f (shows.write_protected s)) (shows.other_roots s m)
+    pub other_roots_protected : (s : S) (m : List ℕ) → AllProtected (λ f. is_among f (shows.write_protected s)) (shows.other_roots s m)
 
   module _ (laws : Tracks) where
     -- no view lets a write pass to a tracked frame
