@@ -39,7 +39,7 @@ module _ {S : Type 0} (reads : S → ℕ → Bool) (marks : S → Bool) (root : 
   -- that this frame was written: it isn't tracked any more, and the tables are marked where they were read from it
   pub record KnowsWritten (frame : ℕ) (old new : S) : Type 0 where
     pub read_from : (f : ℕ) → (f ≡ frame → ⊥) → reads new f ≡ reads old f
-    pub noted_there : reads new frame ≡ true → reads old frame ≡ true
+    pub read_before : reads new frame ≡ true → reads old frame ≡ true
     pub stale : marks new ≡ (marks old || reads old frame)
     pub value : root new ≡ root old
     pub write_protected : ArePart (tracks new) (tracks old)

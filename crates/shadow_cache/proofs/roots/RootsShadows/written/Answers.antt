@@ -7,7 +7,7 @@ use Rattle.shadow_cache.proofs.roots.RootsShadows.written.Goals as goal
 pub returns-clause-known : goal.returns-clause-known
 returns-clause-known c = let r = c.args.self.now in record {
   read_from = λ f n. written-other r.present r.others (pairs_of c.written.new.self) c.args.frame f c.written.ensures.pairs n;
-  noted_there = written-there r.present r.others (pairs_of c.written.new.self) c.args.frame c.written.ensures.pairs;
+  read_before = written-there r.present r.others (pairs_of c.written.new.self) c.args.frame c.written.ensures.pairs;
   stale = written-stale r.present r.others (pairs_of c.written.new.self) c.args.frame c.written.ensures.pairs;
   value = written-value r.present r.others (pairs_of c.written.new.self) c.args.frame c.written.ensures.pairs;
   write_protected = c.written.ensures.frees.0;
