@@ -4,7 +4,7 @@ use Rattle.board.specs.Scripts.{Events}
 use Rattle.image_check.specs.Image.{Image}
 use Rattle.shadow_cache.specs.declared.roots.Roots.{Roots}
 use Rattle.machine_model.specs.State.{State, wedge}
-use Rattle.wedge_step.specs.Filled.{IsFilled}
+use Rattle.wedge_step.specs.Filled.{WereFilled}
 use Rattle.wedge_step.specs.Scene.{Scene, free, kept_in, state_in}
 use Rattle.wedge_step.specs.Standing.{IsAble, ground, state_of}
 use Rattle.wedge_step.specs.declared.running.Running.{Running}
@@ -21,7 +21,7 @@ pub record GoesOnFrom (image : Image) (count : ℕ) (first : State) (new : Scene
   pub two : new.guest.held ≡ 2
   pub free : free new + new.guest.held ≡ 512
   pub fills : new.guest.fills ≡ 0
-  pub filled : IsFilled (kept_in of_roots new) new.guest.fills
+  pub filled : WereFilled (kept_in of_roots new) new.guest.fills
 
 -- the state of a guest over this memory of its host, under any script
 abbrev pub state_at : Image → Events → Running Roots → List ℕ → State

@@ -11,7 +11,7 @@ use Rattle.image_load.specs.Boot.{need, boot_cpu, boot_ram}
 use Rattle.machine_model.specs.State.{State, wedge}
 use Rattle.shadow_cache.specs.Views as roots
 use Rattle.wedge_core.specs.OfRoots.{of_roots}
-use Rattle.wedge_step.specs.Filled.{IsFilled, pages_kept}
+use Rattle.wedge_step.specs.Filled.{WereFilled, pages_kept}
 use Rattle.wedge_step.specs.Pools.{Keeps}
 use Rattle.wedge_step.specs.Ready.{IsReady}
 use Rattle.wedge_step.specs.Standing.{IsHeld, IsAble, ground, state_of}
@@ -48,7 +48,7 @@ module _ (kernel : Kernel) (frames : ℕ) (ram host between : List ℕ) (fits : 
         (state : (script : Events) → state_of of_roots (wedge kernel.image script frames) guest host' ≡ record { cpu = cpu; ram = take (4096 * frames) between; set = empty; board = board; step = 0 })
         (two : guest.held ≡ 2) (fills : guest.fills ≡ 0)
         (ready : IsReady of_roots (ground kernel.image frames) guest.cpu guest.shadows host')
-        (filled : IsFilled (pages_kept of_roots guest.shadows host') guest.fills)
+        (filled : WereFilled (pages_kept of_roots guest.shadows host') guest.fills)
         (keeps : Keeps p p' between host' [] (roots.frames guest.shadows host')) (low : 4096 * frames ≤ length host)
       where
         able_still : IsAble guest.cpu

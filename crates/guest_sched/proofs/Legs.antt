@@ -13,7 +13,7 @@ use Rattle.machine_model.specs.Step.{Report, Halts, step_of}
 use Rattle.machine_model.specs.Run.{Set, Steps, StopHolds, with_set}
 use Rattle.machine_model.proofs.Runs.{steps_join}
 use Rattle.wedge_core.specs.Slices.{Filling, Outward}
-use Rattle.wedge_step.specs.Filled.{FillsOn}
+use Rattle.wedge_step.specs.Filled.{CountsFills}
 use Rattle.wedge_step.proofs.Bools.{none_some}
 use Rattle.guest_sched.specs.Apart.{MayForget}
 use Rattle.guest_sched.specs.Legs.{HasRun, HasStopped}
@@ -52,21 +52,21 @@ go_on m b end (set ∷ sets) reports new allowed h = record {
 
 -- no more pages are in any of these sets, in the one that a run goes on with, and in those of its next steps
 module _ (pages fills filled : ℕ) (kept : pages ≤ fills) where
-  fewer : (set : Set) → FillsOn pages (len set) fills filled → len set ≤ filled
+  fewer : (set : Set) → CountsFills pages (len set) fills filled → len set ≤ filled
   fewer set f = (let e = f.enough in omega (arith, e, kept))
 
-  rises : (sets : List Set) (end : Set) → All (λ (set : Set). FillsOn pages (len set) fills filled) (sets ++ end ∷ []) → fills ≤ filled
+  rises : (sets : List Set) (end : Set) → All (λ (set : Set). CountsFills pages (len set) fills filled) (sets ++ end ∷ []) → fills ≤ filled
   rises [] end h = (h 0 end (omega arith)).rises
   rises (set ∷ sets) end h = (h 0 set (omega arith)).rises
 
-  enough_on : (olds : List Set) (last : Set) (sets : List Set) (end : Set) → All (λ (set : Set). len set ≤ fills) (olds ++ last ∷ []) → All (λ (set : Set). FillsOn pages (len set) fills filled) (sets ++ end ∷ [])
+  enough_on : (olds : List Set) (last : Set) (sets : List Set) (end : Set) → All (λ (set : Set). len set ≤ fills) (olds ++ last ∷ []) → All (λ (set : Set). CountsFills pages (len set) fills filled) (sets ++ end ∷ [])
       → All (λ (set : Set). len set ≤ filled) ((olds ++ sets) ++ end ∷ [])
   enough_on olds last sets end first second =
       let up = rises sets end second in
       let left : All (λ (set : Set). len set ≤ filled) olds = λ i d lt. (let f = first i d (omega (arith, lt, length-append olds (last ∷ []))) in
       subst (λ (set : Set). len set ≤ filled) (get_or_append_left olds (last ∷ []) d i lt) (omega (arith, f, up))) in
       subst (λ (l : List Set). All (λ (set : Set). len set ≤ filled) l) (sym (append_assoc olds sets (end ∷ [])))
-      (All-append (λ (set : Set). len set ≤ filled) olds (sets ++ end ∷ []) left (All-weaker (λ (set : Set). FillsOn pages (len set) fills filled) (λ (set : Set). len set ≤ filled) fewer (sets ++ end ∷ []) second))
+      (All-append (λ (set : Set). len set ≤ filled) olds (sets ++ end ∷ []) left (All-weaker (λ (set : Set). CountsFills pages (len set) fills filled) (λ (set : Set). len set ≤ filled) fewer (sets ++ end ∷ []) second))
 
 module _ (m : Setting) (tag : List ℕ) (bound : ℕ) (old new : State) (out : Outward) (filling : Filling) (reports : List Report)
     (h : HasRun m reports filling.fills old) (kept : filling.pages ≤ filling.fills) (few : filling.filled ≤ 128 * new.step)

@@ -10,7 +10,7 @@ use Rattle.machine_model.specs.State.{Setting, State}
 use Rattle.shadow_cache.specs.Views as roots
 use Rattle.wedge_core.specs.OfRoots.{of_roots}
 use Rattle.shadow_cache.specs.declared.roots.Roots.{Roots}
-use Rattle.wedge_step.specs.Filled.{IsFilled, pages_kept}
+use Rattle.wedge_step.specs.Filled.{WereFilled, pages_kept}
 use Rattle.wedge_step.specs.Ready.{IsReady}
 use Rattle.wedge_step.specs.Standing.{IsHeld, IsAble, ground, state_of}
 use Rattle.wedge_step.specs.declared.running.Running.{Running}
@@ -40,7 +40,7 @@ pub record MayGoOn (frames : ℕ) (pool : Pool) (s : Seat) : Type 0 where
   pub held : IsHeld of_roots (ground s.image frames) s.running pool s.memory
   pub ready : IsReady of_roots (ground s.image frames) s.running.cpu s.running.shadows s.memory
   pub able : IsAble s.running.cpu
-  pub filled : IsFilled (pages_kept of_roots s.running.shadows s.memory) s.running.fills
+  pub filled : WereFilled (pages_kept of_roots s.running.shadows s.memory) s.running.fills
 
 pub record IsSeated (frames : ℕ) (pool : Pool) (s : Seat) : Type 0 where
   pub holds : HoldsFrames frames pool s

@@ -7,7 +7,7 @@ use Rattle.shadow_tables.specs.Entries.{entries_of}
 use Rattle.shadow_cache.specs.Views as roots
 use Rattle.wedge_core.specs.OfRoots.{of_roots}
 use Rattle.shadow_cache.specs.declared.roots.Roots.{Roots}
-use Rattle.wedge_step.specs.Filled.{IsFilled, pages_kept}
+use Rattle.wedge_step.specs.Filled.{WereFilled, pages_kept}
 use Rattle.guest_sched.specs.Apart.{Seat}
 
 -- Nothing is kept, for no value of CR3, and two frames are held.
@@ -19,7 +19,7 @@ pub record AllDropped (p p' : Pool) (host host' : List ℕ) (old new : Roots) (f
   pub entries : entries_of (roots.slots new host') ≡ empty
   pub other_roots : roots.other_roots new host' ≡ []
   pub value : roots.value new ≡ roots.value old
-  pub filled : IsFilled (pages_kept of_roots new host') fills
+  pub filled : WereFilled (pages_kept of_roots new host') fills
   pub moves : Moves p p' host host' (roots.frames old host) (roots.frames new host')
 
 -- the kernel whose shadows these were

@@ -9,7 +9,7 @@ use Rattle.run_trace.specs.Pauses.{PutsAs}
 use Rattle.machine_model.specs.State.{Setting, State, wedge}
 use Rattle.machine_model.specs.Step.{Report}
 use Rattle.machine_model.specs.Run.{Set, Steps, trace_of}
-use Rattle.wedge_step.specs.Filled.{FillsOn}
+use Rattle.wedge_step.specs.Filled.{CountsFills}
 use Rattle.shadow_cache.specs.declared.roots.Roots.{Roots}
 use Rattle.wedge_step.specs.Scene.{Scene, kept_in, state_in}
 use Rattle.wedge_core.specs.Counts.{CountsOn}
@@ -30,7 +30,7 @@ pub record TurnAs (m : Setting) (tag : List ℕ) (bound : ℕ) (old new : State)
   pub ends : PausesAs m bound last new end result
   pub text : PutsAs (tagged tag (lines_of (trace_of reports))) out.told out.tells result
   pub counts : CountsOn m reports out.before out.after
-  pub each_filled : All (λ (set : Set). FillsOn filling.pages (len set) filling.fills filling.filled) (sets ++ end ∷ [])
+  pub each_filled : All (λ (set : Set). CountsFills filling.pages (len set) filling.fills filling.filled) (sets ++ end ∷ [])
 
 -- so of a kernel's scene, in so many steps
 abbrev pub TurnIn : Kernel → ℕ → ℕ → Scene Roots → Scene Roots → Outward → Result Pause Failed → Type 0

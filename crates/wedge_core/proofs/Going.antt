@@ -30,7 +30,7 @@ use Rattle.machine_model.proofs.Texts.{lines_join}
 use Rattle.native_steps.specs.Stretch.{IsQuiet}
 use Rattle.wedge_step.specs.Carried.{IsTakenFrom}
 use Rattle.wedge_step.specs.CarryLaws.{CarryLaws}
-use Rattle.wedge_step.specs.Filled.{FillsOn}
+use Rattle.wedge_step.specs.Filled.{CountsFills}
 use Rattle.wedge_core.specs.Noted.{NotesOn, emptied_if, notes_then}
 use Rattle.wedge_step.specs.Parts.{IsPartOf, left_of}
 use Rattle.wedge_core.specs.Slices.{Counts, CountsOn}
@@ -47,7 +47,7 @@ use Rattle.wedge_core.proofs.ToldSteps.{ToldBy, told_nothing, told_one, told_joi
 
 -- each of these sets has no more pages than were kept at first and were filled since
 abbrev pub EachFilled : ℕ → ℕ → ℕ → List Set → Type 0
-EachFilled pages before after sets = All (λ (set : Set). FillsOn pages (len set) before after) sets
+EachFilled pages before after sets = All (λ (set : Set). CountsFills pages (len set) before after) sets
 
 -- Some steps were done. Where the run begins so, they went by the rule for kept translations, and all is known behind them
 -- while it is roomy. What is kept a run may go on with; where notes are wanted, it is what they left, but for what the
@@ -66,7 +66,7 @@ pub record Going (m : Setting) (old now : State) (before after : Counts) (told t
   pub each_filled : EachFilled pages fills filled sets
   pub rule : begins → Kept m old sets
   pub carries : begins → Roomy (steps_by m old sets) → carried now.set (steps_by m old sets) (with_set now whole)
-  pub enough : FillsOn pages (len now.set) fills filled
+  pub enough : CountsFills pages (len now.set) fills filled
   pub text : Appends told tells (lines_of (trace_of reports))
   pub counts : CountsOn m reports before after
 
@@ -86,7 +86,7 @@ going_none m b counts told pages fills wanted notes_on begins carried none few s
   by = λ w. told_nothing m b [];
   so_far = none_yet b.step;
   tells_notes = none;
-  each_filled = All-nil (λ (set : Set). FillsOn pages (len set) fills fills);
+  each_filled = All-nil (λ (set : Set). CountsFills pages (len set) fills fills);
   rule = λ s. kept_none m b;
   carries = λ s roomy. start s;
   enough = record { rises = omega arith; enough = omega (arith, few) };
@@ -104,15 +104,15 @@ told_part b set = part_left b (left_of b set) set refl
 
 filled_later : (pages before mid after : ℕ) (sets : List Set) → mid ≤ after → EachFilled pages before mid sets → EachFilled pages before after sets
 filled_later pages before mid after sets le h =
-    All-weaker (λ (set : Set). FillsOn pages (len set) before mid) (λ (set : Set). FillsOn pages (len set) before after)
+    All-weaker (λ (set : Set). CountsFills pages (len set) before mid) (λ (set : Set). CountsFills pages (len set) before after)
     (λ set f. let r = f.rises in let e = f.enough in record { rises = omega (arith, r, le); enough = omega (arith, e, le) }) sets h
 
-filled_push : (pages before after : ℕ) (sets : List Set) (set : Set) → EachFilled pages before after sets → FillsOn pages (len set) before after → EachFilled pages before after (sets ++ set ∷ [])
+filled_push : (pages before after : ℕ) (sets : List Set) (set : Set) → EachFilled pages before after sets → CountsFills pages (len set) before after → EachFilled pages before after (sets ++ set ∷ [])
 filled_push pages before after sets set h f =
-    let P = λ (x : Set). FillsOn pages (len x) before after in
+    let P = λ (x : Set). CountsFills pages (len x) before after in
     All-append P sets (set ∷ []) h (All-cons P set [] f (All-nil P))
 
-enough_later : (pages few before mid after : ℕ) → mid ≤ after → FillsOn pages few before mid → FillsOn pages few before after
+enough_later : (pages few before mid after : ℕ) → mid ≤ after → CountsFills pages few before mid → CountsFills pages few before after
 enough_later pages few before mid after le f =
     let r = f.rises in
     let e = f.enough in
@@ -120,7 +120,7 @@ enough_later pages few before mid after le f =
 
 -- steps in which nothing is seen
 
-pub going_past : (m : Setting) (old now new : State) (a b c : Counts) (told tells : Option (List ℕ)) (pages fills mid filled : ℕ) (wanted : Bool) (notes_on : List Note → Type 0) (begins : Type 0) (carried : Set → List Taken → State → Type 0) → (g : Going m old now a b told tells pages fills mid wanted notes_on begins carried) → mid ≤ filled → FillsOn pages (len new.set) fills filled
+pub going_past : (m : Setting) (old now new : State) (a b c : Counts) (told tells : Option (List ℕ)) (pages fills mid filled : ℕ) (wanted : Bool) (notes_on : List Note → Type 0) (begins : Type 0) (carried : Set → List Taken → State → Type 0) → (g : Going m old now a b told tells pages fills mid wanted notes_on begins carried) → mid ≤ filled → CountsFills pages (len new.set) fills filled
     → CarryLaws → CarriesPast m carried → 4096 * m.frames ≤ length now.ram → Passes m now new b c → Going m old new a c told tells pages fills filled wanted notes_on begins carried
 unfolding Steps
 going_past m old now new a b c told tells pages fills mid filled wanted notes_on begins carried g rises enough laws goes room p = by p.n p.steps p.sets p.quiet
@@ -161,7 +161,7 @@ going_past m old now new a b c told tells pages fills mid filled wanted notes_on
         (All-tail IsQuiet (step_taken now now.set steps.1 steps.0) (steps_by m steps.0 (replicate n now.set)) both) room (record { rule = g.rule s; carries = g.carries s }) in
         let count = steps_counted m now (replicate (suc n) now.set) p.reports new steps in
         let later : now.step < new.step = omega (arith, count) in
-        let first : EachFilled pages fills filled (replicate (suc n) now.set) = All-replicate (λ (set : Set). FillsOn pages (len set) fills filled) (suc n) now.set (enough_later pages (len now.set) fills mid filled rises g.enough) in
+        let first : EachFilled pages fills filled (replicate (suc n) now.set) = All-replicate (λ (set : Set). CountsFills pages (len set) fills filled) (suc n) now.set (enough_later pages (len now.set) fills mid filled rises g.enough) in
         record {
           sets = g.sets ++ replicate (suc n) now.set;
           reports = g.reports ++ p.reports;
@@ -174,7 +174,7 @@ going_past m old now new a b c told tells pages fills mid filled wanted notes_on
           by = λ w. told_join m old (with_set now g.whole) g.sets (replicate (suc n) now.set) g.reports g.notes g.steps (g.by w) (left_behind m now g.whole (replicate (suc n) now.set) g.notes (g.kept w) g.so_far.until left);
           so_far = so_far_later old.step now.step new.step g.notes later g.so_far;
           tells_notes = g.tells_notes;
-          each_filled = All-append (λ (set : Set). FillsOn pages (len set) fills filled) g.sets (replicate (suc n) now.set) (filled_later pages fills mid filled g.sets rises g.each_filled) first;
+          each_filled = All-append (λ (set : Set). CountsFills pages (len set) fills filled) g.sets (replicate (suc n) now.set) (filled_later pages fills mid filled g.sets rises g.each_filled) first;
           rule = λ s. (so_far s).rule;
           carries = λ s. (so_far s).carries;
           enough = enough;
@@ -223,7 +223,7 @@ pub record Stepped (m : Setting) (old now new : State) (seen : Seen) (before aft
   pub each_filled : EachFilled pages fills filled sets
   pub rule : begins → Kept m old sets
   pub carries : begins → Roomy (steps_by m old sets) → carried new.set (steps_by m old sets) (with_set new whole)
-  pub enough : FillsOn pages (len new.set) fills filled
+  pub enough : CountsFills pages (len new.set) fills filled
   pub front : List Item
   pub trace : trace_of reports ≡ front ++ items_at now.step (whats seen)
   pub text : Appends told tells (lines_of front)
@@ -260,7 +260,7 @@ module _ (m : Setting) (old now : State) (a b : Counts) (told tells : Option (Li
   pub by_then : wanted ≡ true → ToldBy m old g.sets notes_tried
   by_then w = told_on dropped m old g.sets g.notes now.step (let n = here in omega (arith, n)) g.so_far.until (g.by w)
 
-  pub enough_chosen : FillsOn pages (len chosen) fills mid
+  pub enough_chosen : CountsFills pages (len chosen) fills mid
   enough_chosen =
       let few = part_few chosen now.set (told_part dropped now.set) in
       let r = g.enough.rises in
@@ -297,7 +297,7 @@ no_drop m now begins carried s dropped = absurd (let f : false ≡ true = droppe
 
 -- and goes
 pub going_on : (m : Setting) (old now new : State) (lost : Lost) (seen : Seen) (a b c : Counts) (told tells : Option (List ℕ)) (pages fills mid filled : ℕ) (wanted : Bool) (notes_on notes_after : List Note → Type 0) (begins : Type 0) (carried carried_then : Set → List Taken → State → Type 0)
-    → (g : Going m old now a b told tells pages fills mid wanted notes_on begins carried) → Goes m (eventful m now) lost seen new b c → new.step ≡ now.step + 1 → mid ≤ filled → FillsOn pages (len new.set) fills filled → (wanted ≡ true → lost.back ≡ false)
+    → (g : Going m old now a b told tells pages fills mid wanted notes_on begins carried) → Goes m (eventful m now) lost seen new b c → new.step ≡ now.step + 1 → mid ≤ filled → CountsFills pages (len new.set) fills filled → (wanted ≡ true → lost.back ≡ false)
     → CarryLaws → CarriesPast m carried → StepCarries m now new lost begins carried carried_then
     → ((notes : List Note) → notes_on notes → notes_after (notes ++ notes_then lost now.step)) → Stepped m old now new seen a c told tells pages fills filled wanted notes_after begins carried_then
 going_on m old now new lost seen a b c told tells pages fills mid filled wanted notes_on notes_after begins carried carried_then g r count rises enough exact laws goes over on =

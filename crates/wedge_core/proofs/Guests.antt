@@ -12,7 +12,7 @@ use Rattle.image_load.specs.declared.fault.StartFault.{StartFault}
 use Rattle.wedge_core.specs.OfRoots.{of_roots}
 use Rattle.machine_model.specs.State.{wedge}
 use Rattle.native_steps.specs.Mirrors.{shown}
-use Rattle.wedge_step.specs.Filled.{FillsOn, IsFilled, pages_kept}
+use Rattle.wedge_step.specs.Filled.{CountsFills, WereFilled, pages_kept}
 use Rattle.wedge_core.specs.Promises.{with_patches}
 use Rattle.run_trace.specs.Pauses.{IfReached}
 use Rattle.wedge_step.specs.Standing.{IsHeld, ground}
@@ -41,7 +41,7 @@ outside_of p p' m m' fs fs' o v = record {
 }
 
 -- where each page that was kept had been filled, each that is kept was
-pub still_filled : (old new before after : ℕ) → FillsOn old new before after → IsFilled old before → IsFilled new after
+pub still_filled : (old new before after : ℕ) → CountsFills old new before after → WereFilled old before → WereFilled new after
 still_filled old new before after f h = let e = f.enough in omega (arith, e, h)
 
 -- the host's first frames, where a slice has done its steps
@@ -51,10 +51,10 @@ front_after (Ok pause) image script frames g pool memory h = front_held pause im
 front_after (Err failed) image script frames g pool memory h = tt
 
 -- where none is kept, each was filled
-pub none_kept : (pages fills : ℕ) → pages ≡ 0 → IsFilled pages fills
+pub none_kept : (pages fills : ℕ) → pages ≡ 0 → WereFilled pages fills
 none_kept pages fills none = omega (arith, none)
 
 pub none_kept_ok : (memory : List ℕ) (result : Result (Guest × Pool) StartFault) → IfOk result (λ started. pages_kept of_roots started.0.shadows memory ≡ 0)
-    → IfOk result (λ started. IsFilled (pages_kept of_roots started.0.shadows memory) started.0.fills)
+    → IfOk result (λ started. WereFilled (pages_kept of_roots started.0.shadows memory) started.0.fills)
 none_kept_ok memory (Ok started) none = none_kept (pages_kept of_roots started.0.shadows memory) started.0.fills none
 none_kept_ok memory (Err fault) none = tt

@@ -38,7 +38,7 @@ use Rattle.native_steps.specs.Lends.{IsUnlent}
 use Rattle.native_steps.specs.Mirrors.{IsHost, shown}
 use Rattle.wedge_core.specs.Attempts.{Asks, Idle}
 use Rattle.wedge_step.specs.Carried.{IsTakenFrom}
-use Rattle.wedge_step.specs.Filled.{FillsOn}
+use Rattle.wedge_step.specs.Filled.{CountsFills}
 use Rattle.wedge_step.specs.Parts.{left_of}
 use Rattle.wedge_step.specs.Pools.{Keeps}
 use Rattle.wedge_core.specs.Views.{view_by}
@@ -251,13 +251,13 @@ module _ {S : Type 0} (shows : shadows.Ghosts S) where
         (keeps_join p0 pool pool m0 m1 m2 (shows.frames g0.shadows m0) (shows.frames g1.shadows m1) (shows.frames g1.shadows m2) first
         (keeps_above pool m1 m2 (4096 * g0.frames) (shows.frames g1.shadows m1) (shows.frames g1.shadows m2) o.held.owns.stands (omega (arith, low)) behind_is size_is kept.frames_are))
 
-    pub once_fills : (pages : S → List ℕ → ℕ) (old : ℕ) → pages g1.shadows m2 ≡ pages g1.shadows m1 → FillsOn old (pages g1.shadows m1) g0.fills g1.fills → FillsOn old (pages g2.shadows m2) g0.fills g2.fills
+    pub once_fills : (pages : S → List ℕ → ℕ) (old : ℕ) → pages g1.shadows m2 ≡ pages g1.shadows m1 → CountsFills old (pages g1.shadows m1) g0.fills g1.fills → CountsFills old (pages g2.shadows m2) g0.fills g2.fills
     once_fills pages old same first =
         let a = asks_now [] in
         let fills_are : g2.fills ≡ g1.fills = ap (λ (g : Running S). g.fills) (ran a).new_is in
-        subst (λ (k : ℕ). FillsOn old (pages g2.shadows m2) g0.fills k) (sym fills_are)
-        (subst (λ (s : S). FillsOn old (pages s m2) g0.fills g1.fills) (sym shadows_are)
-        (subst (λ (k : ℕ). FillsOn old k g0.fills g1.fills) (sym same) first))
+        subst (λ (k : ℕ). CountsFills old (pages g2.shadows m2) g0.fills k) (sym fills_are)
+        (subst (λ (s : S). CountsFills old (pages s m2) g0.fills g1.fills) (sym shadows_are)
+        (subst (λ (k : ℕ). CountsFills old k g0.fills g1.fills) (sym same) first))
 
     -- no frame to which the view lets no write pass has changed
     pub once_untouched : (at : ℕ) → IsUnlent m1 (shows.directory g1.shadows (side_of (g1.cpu.cpl == 3))) at → frame (shown (ground image g0.frames) m2) at ≡ frame (shown (ground image g0.frames) m1) at

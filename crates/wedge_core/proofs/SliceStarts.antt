@@ -13,14 +13,14 @@ use Rattle.machine_model.specs.Run.{Set}
 use Rattle.kept_laws.specs.Known.{IsKnown}
 use Rattle.wedge_step.specs.Carried.{IsCarried}
 use Rattle.wedge_step.specs.CarryLaws.{CarryLaws}
-use Rattle.wedge_step.specs.Filled.{FillsOn}
+use Rattle.wedge_step.specs.Filled.{CountsFills}
 use Rattle.wedge_core.specs.Slices.{Counts}
 use Rattle.wedge_core.proofs.SlicedBy.{SliceAs}
 use Rattle.run_trace.specs.Pauses.{IfPaused}
 use Rattle.wedge_core.specs.Starts.{IsAsNew}
 
 -- at first no fewer pages were kept
-pub more_first : (a b new before after : ℕ) → a ≤ b → FillsOn a new before after → FillsOn b new before after
+pub more_first : (a b new before after : ℕ) → a ≤ b → CountsFills a new before after → CountsFills b new before after
 more_first a b new before after le f =
     let r = f.rises in
     let e = f.enough in
@@ -41,7 +41,7 @@ slice_begun m bound old new before after told tells first pages fills filled wan
   counts = h.counts;
   told_notes = h.told_notes;
   tells_notes = h.tells_notes;
-  each_filled = All-weaker (λ (set : Set). FillsOn first (len set) fills filled) (λ (set : Set). FillsOn pages (len set) fills filled) (λ set f. more_first first pages (len set) fills filled le f) (h.sets ++ h.end ∷ []) h.each_filled;
+  each_filled = All-weaker (λ (set : Set). CountsFills first (len set) fills filled) (λ (set : Set). CountsFills pages (len set) fills filled) (λ set f. more_first first pages (len set) fills filled le f) (h.sets ++ h.end ∷ []) h.each_filled;
   kept = λ s. h.kept (from s);
   left = λ s. h.left (from s);
 }

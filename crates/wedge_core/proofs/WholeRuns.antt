@@ -38,7 +38,7 @@ use Rattle.run_trace.specs.Pauses.{end_of, IfReached}
 use Rattle.wedge_core.specs.Slices.{Counts, PausesAs}
 use Rattle.wedge_core.proofs.SlicedBy.{SliceAs}
 use Rattle.wedge_step.specs.Standing.{IsHeld, ground, state_of}
-use Rattle.wedge_step.specs.Filled.{FillsOn}
+use Rattle.wedge_step.specs.Filled.{CountsFills}
 use Rattle.wedge_step.specs.declared.running.Running.{Running}
 use Rattle.wedge_step.proofs.Memories.{text_within, part_front}
 pub use Rattle.machine_model.proofs.Texts.{text_is}
@@ -140,7 +140,7 @@ pub has_fills : (m : Setting) (n : ℕ) (old new : State) (before after : Counts
 has_fills m n old new before after told tells pages fills filled wanted notes_on begins pause first none few h = record {
   end = h.end;
   allowed = allowed_by m n h.last new h.end pause h.ends;
-  enough = All-weaker (λ (set : Set). FillsOn pages (len set) fills filled) (λ (set : Set). len set ≤ filled) (λ set f. let e = f.enough in omega (arith, e, none, first))
+  enough = All-weaker (λ (set : Set). CountsFills pages (len set) fills filled) (λ (set : Set). len set ≤ filled) (λ set f. let e = f.enough in omega (arith, e, none, first))
       (h.sets ++ h.end ∷ []) h.each_filled;
   few = (let same = count_by m n h.last new h.end pause h.ends in omega (arith, few, same));
 }

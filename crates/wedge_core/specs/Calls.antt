@@ -16,7 +16,7 @@ use Rattle.run_trace.specs.Pauses.{IfPaused, IfReached}
 use Rattle.run_trace.specs.declared.pause.Pause.{Pause}
 use Rattle.shadow_cache.specs.declared.roots.Roots.{Roots}
 use Rattle.machine_model.specs.State.{Setting, State, wedge}
-use Rattle.wedge_step.specs.Filled.{IsFilled}
+use Rattle.wedge_step.specs.Filled.{WereFilled}
 use Rattle.wedge_step.specs.Pools.{Keeps}
 use Rattle.wedge_step.specs.Scene.{Scene, frames_in, kept_in, set_in, state_in}
 use Rattle.wedge_step.specs.Standing.{ground}
@@ -48,7 +48,7 @@ pub record Adopts (image : Image) (frames : ℕ) (first : State) (before : Pool)
   pub two : new.guest.held ≡ 2
   pub fills : new.guest.fills ≡ 0
   pub none : kept_in of_roots new ≡ 0
-  pub filled : IsFilled (kept_in of_roots new) new.guest.fills
+  pub filled : WereFilled (kept_in of_roots new) new.guest.fills
   pub pool : Keeps before new.pool memory new.memory [] (frames_in of_roots new)
 
 -- Before a slice what it keeps may be dropped, where only roots are held: all else stays.
@@ -67,7 +67,7 @@ pub record GuestLeaves (image : Image) (script : Events) (old new : Scene Roots)
   pub memory : IfReached result
       (take (4096 * old.guest.frames) new.memory ≡ with_patches image (state_in of_roots (wedge image script old.guest.frames) new).ram)
   pub owns : IfPaused result (Owns new.pool new.memory (frames_in of_roots new))
-  pub filled : IsFilled (kept_in of_roots old) old.guest.fills → IsFilled (kept_in of_roots new) new.guest.fills
+  pub filled : WereFilled (kept_in of_roots old) old.guest.fills → WereFilled (kept_in of_roots new) new.guest.fills
 
 -- All shadows were dropped: two frames are held, and no page is kept, for no value of CR3. The value of CR3 that they stand
 -- for and all else of the guest are as they were.
@@ -83,5 +83,5 @@ pub record Releases (old new : Scene Roots) : Type 0 where
   pub moves : Moves old.pool new.pool old.memory new.memory (frames_in of_roots old) (frames_in of_roots new)
   pub again : StaysHeld of_roots old new
   pub ready : (image : Image) → IsReadyIn of_roots (ground image old.guest.frames) old → IsReadyIn of_roots (ground image old.guest.frames) new
-  pub filled : IsFilled (kept_in of_roots new) new.guest.fills
+  pub filled : WereFilled (kept_in of_roots new) new.guest.fills
   pub outside : SameOutside (base_of old.pool) (count_of old.pool) old.memory new.memory

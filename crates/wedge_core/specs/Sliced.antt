@@ -11,7 +11,7 @@ use Rattle.pv_io.specs.declared.sink.Sink as sinks
 use Rattle.run_trace.specs.Pauses.{IfPaused, IfReached}
 use Rattle.run_trace.specs.declared.notes.Notes as notes
 use Rattle.run_trace.specs.declared.pause.Pause.{Pause}
-use Rattle.wedge_step.specs.Filled.{FillsOn}
+use Rattle.wedge_step.specs.Filled.{CountsFills}
 use Rattle.wedge_step.specs.Leaves.{IsCarriedIn}
 use Rattle.wedge_step.specs.Pools.{Keeps}
 use Rattle.wedge_step.specs.Scene.{Scene, frames_in, free, kept_in, set_in, state_in}
@@ -65,5 +65,5 @@ module _ {S : Type 0} (g : shadows.Ghosts S) where
     pub stands : IfPaused result (∥ g.stands new.guest.shadows new.memory ∥₁)
     pub pool : IfPaused result (Keeps old.pool new.pool old.memory new.memory (frames_in g old) (frames_in g new))
     pub few : IfPaused result (new.guest.fills ≤ 128 * new.guest.step)
-    pub filled : FillsOn (kept_in g old) (kept_in g new) old.guest.fills new.guest.fills
+    pub filled : CountsFills (kept_in g old) (kept_in g new) old.guest.fills new.guest.fills
     pub frames : new.guest.frames ≡ old.guest.frames

@@ -12,7 +12,7 @@ use Rattle.machine_model.specs.Step.{Report, Halts, step_of}
 use Rattle.machine_model.specs.Run.{Set, Steps, trace_of, with_set}
 use Rattle.machine_model.specs.Taken.{steps_by}
 use Rattle.machine_model.specs.Keeping.{Roomy, Kept, IsLeftBehind}
-use Rattle.wedge_step.specs.Filled.{FillsOn}
+use Rattle.wedge_step.specs.Filled.{CountsFills}
 pub use Rattle.wedge_core.specs.Counts.{Counts, CountsOn, counts_of}
 use Rattle.wedge_core.specs.Noted.{IsNoted}
 use Rattle.run_trace.specs.Pauses.{IfReached, PutsAs}
@@ -60,7 +60,7 @@ pub record SliceAs (m : Setting) (bound : ℕ) (old new : State) (out : Outward)
   pub counts : CountsOn m reports out.before out.after
   pub told_notes : noting.wanted ≡ true → IsNoted m old new sets last notes result
   pub tells_notes : noting.on notes
-  pub each_filled : All (λ (set : Set). FillsOn filling.pages (len set) filling.fills filling.filled) (sets ++ end ∷ [])
+  pub each_filled : All (λ (set : Set). CountsFills filling.pages (len set) filling.fills filling.filled) (sets ++ end ∷ [])
   pub kept : begins → Kept m old (sets ++ end ∷ [])
   pub left : begins → IfReached result (Roomy (steps_by m old sets) → IsLeftBehind m (steps_by m old sets) last end)
 

@@ -7,7 +7,7 @@ use Rattle.board.specs.Boards.{given}
 use Rattle.board.specs.declared.devices.Board.{Board}
 use Rattle.image_check.specs.Image.{Image}
 use Rattle.machine_model.specs.State.{Setting}
-use Rattle.wedge_step.specs.Filled.{FillsOn, pages_kept}
+use Rattle.wedge_step.specs.Filled.{CountsFills, pages_kept}
 use Rattle.wedge_step.specs.Pools.{Keeps}
 use Rattle.wedge_step.specs.Ready.{IsReady}
 use Rattle.wedge_step.specs.Standing.{IsAble, IsHeld, ground, state_of}
@@ -35,7 +35,7 @@ module _ {S : Type 0} (g : shadows.Ghosts S) where
         → IsHeld g (ground image old.frames) new pool then
     pub pool : (pool : Pool) → IsHeld g (ground image old.frames) old pool memory
         → Keeps pool pool memory then (g.frames old.shadows memory) (g.frames new.shadows then)
-    pub filled : FillsOn (pages_kept g old.shadows memory) (pages_kept g new.shadows then) old.fills new.fills
+    pub filled : CountsFills (pages_kept g old.shadows memory) (pages_kept g new.shadows then) old.fills new.fills
     pub ready : IsReady g (ground image old.frames) old.cpu old.shadows memory
         → IsReady g (ground image old.frames) new.cpu new.shadows then
     pub kept : new.shadows ≡ old.shadows

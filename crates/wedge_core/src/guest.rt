@@ -5,7 +5,7 @@ ghost use Rattle.frame_pool.specs.Held.{Owns};
 ghost use Rattle.board.specs.ScriptForm.{is_script};
 ghost use Rattle.image_check.specs.Image.{Image};
 ghost use Rattle.machine_model.specs.State.{wedge};
-ghost use Rattle.wedge_step.specs.Filled.{IsFilled};
+ghost use Rattle.wedge_step.specs.Filled.{WereFilled};
 ghost use Rattle.wedge_step.specs.Leaves.{IsBetween};
 ghost use Rattle.wedge_step.specs.Scene.{kept_in, scene};
 ghost use Rattle.wedge_step.specs.Standing.{IsAble, ground};
@@ -68,7 +68,7 @@ impl Guest {
         ensures started { StartedAs image.now frames pool (H.bytes host.new) result }
         ensures running { IfOk result (λ _. H.is_started host.new ≡ true) }
         ensures ready { IfOk result (λ s. IsReadyIn of_roots (ground image.now frames) (scene s.0 s.1 (H.bytes host.new))) }
-        ensures filled { IfOk result (λ s. IsFilled (kept_in of_roots (scene s.0 s.1 (H.bytes host.new))) s.0.fills) }
+        ensures filled { IfOk result (λ s. WereFilled (kept_in of_roots (scene s.0 s.1 (H.bytes host.new))) s.0.fills) }
         ensures counts { CountsNone (counts_of H.Host host.old) (counts_of H.Host host.new) }
     {
         match host.start(alloc, frames + pool) {

@@ -22,7 +22,7 @@ use Rattle.step_mem.specs.declared.changes.Change.{Change}
 use Rattle.step_mem.proofs.Changed.{get_with_other}
 use Rattle.wedge_mem.specs.Settled.{has_entry, is_due, refilled, serves}
 use Rattle.machine_model.specs.Run.{Set}
-use Rattle.wedge_step.specs.Filled.{FillsOn}
+use Rattle.wedge_step.specs.Filled.{CountsFills}
 use Rattle.wedge_step.specs.Parts.{IsPartOf}
 use Rattle.std.proofs.lemmas.Bool.{cases_Bool}
 use Rattle.std.proofs.Math.Bool.{or-true}
@@ -145,13 +145,13 @@ changed_filled kept set changes side wp visited told =
 
 -- ---- one call, and two
 
-pub fills_same : (old new fills : ℕ) → new ≡ old → FillsOn old new fills fills
+pub fills_same : (old new fills : ℕ) → new ≡ old → CountsFills old new fills fills
 fills_same old new fills is = record { rises = omega arith; enough = omega (arith, is) }
 
-pub fills_fewer : (old new fills : ℕ) → new ≤ old → FillsOn old new fills fills
+pub fills_fewer : (old new fills : ℕ) → new ≤ old → CountsFills old new fills fills
 fills_fewer old new fills few = record { rises = omega arith; enough = omega (arith, few) }
 
-pub fills_join : (a b c x y z : ℕ) → FillsOn a b x y → FillsOn b c y z → FillsOn a c x z
+pub fills_join : (a b c x y z : ℕ) → CountsFills a b x y → CountsFills b c y z → CountsFills a c x z
 fills_join a b c x y z f g =
     let p = f.rises in
     let q = g.rises in
@@ -160,7 +160,7 @@ fills_join a b c x y z f g =
     record { rises = omega (arith, p, q); enough = omega (arith, r, s) }
 
 -- some of the pages that are kept
-pub fills_within : (pages few new before after : ℕ) → few ≤ new → FillsOn pages new before after → FillsOn pages few before after
+pub fills_within : (pages few new before after : ℕ) → few ≤ new → CountsFills pages new before after → CountsFills pages few before after
 fills_within pages few new before after le f = let e = f.enough in record { rises = f.rises; enough = omega (arith, e, le) }
 
 -- none are kept

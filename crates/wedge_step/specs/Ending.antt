@@ -7,7 +7,7 @@ use Rattle.shadow_tables.specs.declared.shadows.Shadows as shadows
 use Rattle.step_mem.specs.declared.state.StepState.{StepState}
 use Rattle.machine_step.specs.Worked.{IsDropped}
 use Rattle.machine_step.specs.declared.worked.Worked.{Worked}
-use Rattle.wedge_step.specs.Filled.{FillsOn}
+use Rattle.wedge_step.specs.Filled.{CountsFills}
 use Rattle.wedge_step.specs.Scene.{Scene, free, frames_in, kept_in}
 use Rattle.wedge_step.specs.Stand.{FillsIn, IsSoundIn, Stand, stand}
 use Rattle.wedge_step.specs.Standing.{side_of}
@@ -59,11 +59,11 @@ module _ {S : Type 0} (g : shadows.Ghosts S) where
     pub counted : new.guest.held ≡ length (frames_in g new)
     pub fills : new.guest.fills ≤ old.guest.fills + 128
     pub exact : (n : ℕ) × (new.guest.fills ≡ old.guest.fills + n) × HasFilled new.guest.lost.after old state n
-    pub filled : FillsOn (kept_in g old) (kept_in g new) old.guest.fills new.guest.fills
+    pub filled : CountsFills (kept_in g old) (kept_in g new) old.guest.fills new.guest.fills
 
   -- So it is at the end of a step, whose count rose with them.
   pub record EndsCount (old new : Scene S) (state : StepState) : Type 0 where
     pub counted : new.guest.held ≡ length (frames_in g new)
     pub fills : new.guest.fills ≤ 128 * new.guest.step
     pub exact : new.guest.lost.after ≡ false → (n : ℕ) × (new.guest.fills ≡ old.guest.fills + n) × HasFilled false old state n
-    pub filled : FillsOn (kept_in g old) (kept_in g new) old.guest.fills new.guest.fills
+    pub filled : CountsFills (kept_in g old) (kept_in g new) old.guest.fills new.guest.fills

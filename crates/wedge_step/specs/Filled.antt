@@ -16,10 +16,10 @@ module _ {S : Type 0} (g : shadows.Ghosts S) where
   pages_kept s memory = len (entries_of (g.slots s memory)) + pages_of_others (g.other_roots s memory)
 
 -- The count of filled pages doesn't fall, and the pages that are kept grow by no more than it rises.
-pub record FillsOn (old new before after : ℕ) : Type 0 where
+pub record CountsFills (old new before after : ℕ) : Type 0 where
   pub rises : before ≤ after
   pub enough : new + before ≤ old + after
 
 -- no more pages are kept than were filled
-abbrev pub IsFilled : ℕ → ℕ → Type 0
-IsFilled pages fills = pages ≤ fills
+abbrev pub WereFilled : ℕ → ℕ → Type 0
+WereFilled pages fills = pages ≤ fills

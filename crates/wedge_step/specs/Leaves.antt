@@ -8,7 +8,7 @@ use Rattle.machine_model.specs.Run.{Set}
 use Rattle.machine_model.specs.State.{State, wedge}
 use Rattle.machine_model.specs.Taken.{Taken}
 use Rattle.wedge_step.specs.Carried.{IsCarried, IsTakenFrom}
-use Rattle.wedge_step.specs.Filled.{FillsOn}
+use Rattle.wedge_step.specs.Filled.{CountsFills}
 use Rattle.wedge_step.specs.Pools.{Keeps}
 use Rattle.wedge_step.specs.Ready.{IsReady}
 use Rattle.wedge_step.specs.Scene.{Scene, free, frames_in, kept_in, state_in}
@@ -31,7 +31,7 @@ module _ {S : Type 0} (g : shadows.Ghosts S) where
     pub stands : ∥ g.stands new.guest.shadows new.memory ∥₁
     pub counted : new.guest.held ≡ length (frames_in g new)
     pub pool : Keeps old.pool new.pool old.memory new.memory (frames_in g old) (frames_in g new)
-    pub filled : FillsOn (kept_in g old) (kept_in g new) old.guest.fills new.guest.fills
+    pub filled : CountsFills (kept_in g old) (kept_in g new) old.guest.fills new.guest.fills
     pub frames : new.guest.frames ≡ old.guest.frames
 
   -- behind these steps, all is known with what the shadows keep

@@ -25,7 +25,7 @@ use Rattle.wedge_core.specs.Views.{may_run, view_by}
 use Rattle.wedge_step.specs.declared.running.Running.{Running}
 use Rattle.std.specs.Prelude.{OnOk}
 use Rattle.wedge_step.specs.Clashing.{IsClear}
-use Rattle.wedge_step.specs.Filled.{FillsOn, pages_kept}
+use Rattle.wedge_step.specs.Filled.{CountsFills, pages_kept}
 use Rattle.wedge_step.specs.Ready.{IsReady}
 use Rattle.wedge_core.proofs.Before.{attempt_before}
 use Rattle.wedge_core.proofs.Staying.{stays_from}
@@ -228,6 +228,6 @@ returns-clause-accounts g c = record {
       let new = c.try_once.new.running in
       let same = ap (λ (r : Running g.row.S.Denot). r.fills) c.make_room.ensures.same in
       fills_join _ _ _ running.fills running.fills new.fills (fills_fewer _ _ running.fills c.make_room.ensures.beside.fewer)
-      (subst (λ (k : ℕ). FillsOn (pages_kept g.S.Shadows c.make_room.new.running.shadows c.make_room.new.ram) (pages_kept g.S.Shadows new.shadows c.try_once.new.ram) k new.fills) same c.try_once.ensures.accounts.filled);
+      (subst (λ (k : ℕ). CountsFills (pages_kept g.S.Shadows c.make_room.new.running.shadows c.make_room.new.ram) (pages_kept g.S.Shadows new.shadows c.try_once.new.ram) k new.fills) same c.try_once.ensures.accounts.filled);
   frames = c.try_once.ensures.accounts.frames ∙ ap (λ (r : Running g.row.S.Denot). r.frames) c.make_room.ensures.same;
 }

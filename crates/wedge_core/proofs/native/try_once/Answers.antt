@@ -27,7 +27,7 @@ use Rattle.native_steps.specs.Again as again
 use Rattle.native_steps.specs.Lends.{Lends}
 use Rattle.native_steps.specs.Mirrors.{IsHost, Sees, shown}
 use Rattle.wedge_step.specs.Closed.{MayClose, Closes}
-use Rattle.wedge_step.specs.Filled.{FillsOn, pages_kept}
+use Rattle.wedge_step.specs.Filled.{CountsFills, pages_kept}
 use Rattle.wedge_step.specs.Ready.{AllOpen, AreFound, IsReady}
 use Rattle.wedge_step.specs.Standing.{IsHeld, AreOpen, ground, state_of, side_of}
 use Rattle.wedge_core.specs.Tries.{IsPrepared, OthersAreUsers}
@@ -76,7 +76,7 @@ module _ (g : Over) where
   }
 
   filled_from : (image : Image) (r : Running g.row.S.Denot) (pool : Pool) (ram0 ram1 : List ℕ) (s0 s1 : kept_state.StepState) → Tried g.S.Shadows image r pool ram0 ram1 s0 s1
-      → FillsOn (pages_kept g.S.Shadows r.shadows ram0) (pages_kept g.S.Shadows r.shadows ram1) r.fills r.fills
+      → CountsFills (pages_kept g.S.Shadows r.shadows ram0) (pages_kept g.S.Shadows r.shadows ram1) r.fills r.fills
   filled_from image r pool ram0 ram1 s0 s1 k = fills_same _ _ r.fills (kept_same g.S.Shadows r.shadows ram0 ram1 k.a.entries_same k.others1)
 
 -- ---- the step stops

@@ -30,7 +30,7 @@ use Rattle.wedge_core.specs.Stepping.{Passes, StepAs}
 use Rattle.wedge_core.proofs.CarriedOver.{CarriedWith, with_kept, carries_past, carried_there, room_at, whole_then, drop_clashes, step_carries}
 use Rattle.wedge_core.proofs.Passed.{CarriesPast}
 use Rattle.wedge_core.proofs.Going.{DropClashes, StepCarries, going_none, going_past, going_turned, going_on, stepped_put, reached, stopped, failed, counted, counts_same, turned, notes_on_more, notes_on_none}
-use Rattle.wedge_step.specs.Filled.{FillsOn, pages_kept}
+use Rattle.wedge_step.specs.Filled.{CountsFills, pages_kept}
 use Rattle.wedge_step.proofs.Filling.{fills_same, fills_join, fills_within}
 use Rattle.wedge_step.proofs.Keeping.{keeps_same, keeps_join}
 use Rattle.wedge_step.proofs.Widening.{Widens}
@@ -40,7 +40,7 @@ use Rattle.wedge_core.proofs.slice.steps_to.Goals as goal
 
 -- the pages of what is kept present are some of all
 module _ (g : Over) where
-  few : (r : Running g.row.S.Denot) (memory : List ℕ) (pages before after : ℕ) → FillsOn pages (pages_kept g.S.Shadows r.shadows memory) before after → FillsOn pages (len (entries_of (g.S.Shadows.slots r.shadows memory))) before after
+  few : (r : Running g.row.S.Denot) (memory : List ℕ) (pages before after : ℕ) → CountsFills pages (pages_kept g.S.Shadows r.shadows memory) before after → CountsFills pages (len (entries_of (g.S.Shadows.slots r.shadows memory))) before after
   few r memory pages before after f = fills_within pages (len (entries_of (g.S.Shadows.slots r.shadows memory))) (pages_kept g.S.Shadows r.shadows memory) before after (omega arith) f
 
   -- how the slice begins, where its sets keep the rule
@@ -328,7 +328,7 @@ loop-running-preserved g c =
           (known_there g laws m new rested new_memory new_memory (entries_of (g.S.Shadows.slots rested.shadows new_memory)) (ap (λ (x : Running g.row.S.Denot). x.shadows) as_were) held_new.stand (record { size = refl; frames = λ frame e. refl }))
           (going_past m old (at f new new_memory) (at f rested new_memory) counts new_counts new_counts told last (pages_kept g.S.Shadows c.args.running.now.shadows (g.H.Host.bytes c.args.host.now)) c.args.running.now.fills new.fills rested.fills wanted (NotesOn wanted first after) begins (Knows g m new new_memory) stepped
           (subst (λ (x : Running g.row.S.Denot). new.fills ≤ x.fills) (sym as_were) (omega arith))
-          (subst (λ (x : Running g.row.S.Denot). FillsOn (pages_kept g.S.Shadows c.args.running.now.shadows (g.H.Host.bytes c.args.host.now)) (len (entries_of (g.S.Shadows.slots x.shadows new_memory))) c.args.running.now.fills x.fills) (sym as_were) more)
+          (subst (λ (x : Running g.row.S.Denot). CountsFills (pages_kept g.S.Shadows c.args.running.now.shadows (g.H.Host.bytes c.args.host.now)) (len (entries_of (g.S.Shadows.slots x.shadows new_memory))) c.args.running.now.fills x.fills) (sym as_were) more)
           laws (known_past g laws m new new_memory) (room_at g.S.Shadows c.args.image.now c.args.script.now.list f new c.one_step.new.pool new_memory held_new) passes);
       held = subst (λ (x : Running g.row.S.Denot). IsHeld g.S.Shadows (ground c.args.image.now f) x c.one_step.new.pool new_memory) (sym as_were) held;
       ready = subst (λ (x : Running g.row.S.Denot). IsReady g.S.Shadows (ground c.args.image.now f) x.cpu x.shadows new_memory) (sym as_were)
@@ -340,7 +340,7 @@ loop-running-preserved g c =
           (keeps_join c.args.pool.now c.loop-running.pool c.loop-running.pool (g.H.Host.bytes c.args.host.now) (g.H.Host.bytes c.loop-running.host) (g.H.Host.bytes c.stretch.new.host)
           (g.S.Shadows.frames c.args.running.now.shadows (g.H.Host.bytes c.args.host.now)) (g.S.Shadows.frames c.loop-running.running.shadows (g.H.Host.bytes c.loop-running.host)) (g.S.Shadows.frames c.stretch.new.running.shadows (g.H.Host.bytes c.stretch.new.host))
           c.loop-running.invariant.pool (c.stretch.ensures.leaves.pool c.loop-running.pool (held_given g.S.Shadows c.args.image.now c.args.running.now.frames c.loop-running.running.frames c.loop-running.running c.begin.new.self c.loop-running.pool (g.H.Host.bytes c.loop-running.host) c.loop-running.invariant.frames c.loop-running.invariant.held))) c.in-Ok.ensures.accounts.pool);
-      filled = subst (λ (x : Running g.row.S.Denot). FillsOn (pages_kept g.S.Shadows c.args.running.now.shadows (g.H.Host.bytes c.args.host.now)) (pages_kept g.S.Shadows x.shadows new_memory) c.args.running.now.fills x.fills) (sym as_were)
+      filled = subst (λ (x : Running g.row.S.Denot). CountsFills (pages_kept g.S.Shadows c.args.running.now.shadows (g.H.Host.bytes c.args.host.now)) (pages_kept g.S.Shadows x.shadows new_memory) c.args.running.now.fills x.fills) (sym as_were)
           (fills_join _ _ _ _ _ _ (fills_join _ _ _ _ _ _ inv.filled c.stretch.ensures.leaves.filled) c.in-Ok.ensures.accounts.filled);
       started = c.in-Ok.ensures.started;
       frames = ap (λ (x : Running g.row.S.Denot). x.frames) as_were ∙ frames_then;

@@ -1,6 +1,6 @@
 use Rattle.std.proofs.Common.{◌≡◌, ◌+◌, ◌-◌, ◌≤◌, ◌<◌, ◌^◌, true, false, [], length}
 use Rattle.machine_model.specs.State.{wedge}
-use Rattle.wedge_step.specs.Filled.{FillsOn, pages_kept}
+use Rattle.wedge_step.specs.Filled.{CountsFills, pages_kept}
 use Rattle.wedge_core.specs.Noted.{NotesOn}
 use Rattle.wedge_step.specs.Pools.{Keeps}
 use Rattle.wedge_step.specs.Ready.{IsReady}
@@ -27,7 +27,7 @@ invariant-loop-running g l = record {
   ready : IsReady g.S.Shadows (ground l.image l.fn.running.frames) l.running.cpu l.running.shadows (g.H.Host.bytes l.host);
   able : IsAble l.running.cpu;
   pool : Keeps l.fn.pool l.pool (g.H.Host.bytes l.fn.host) (g.H.Host.bytes l.host) (g.S.Shadows.frames l.fn.running.shadows (g.H.Host.bytes l.fn.host)) (g.S.Shadows.frames l.running.shadows (g.H.Host.bytes l.host));
-  filled : FillsOn (pages_kept g.S.Shadows l.fn.running.shadows (g.H.Host.bytes l.fn.host)) (pages_kept g.S.Shadows l.running.shadows (g.H.Host.bytes l.host)) l.fn.running.fills l.running.fills;
+  filled : CountsFills (pages_kept g.S.Shadows l.fn.running.shadows (g.H.Host.bytes l.fn.host)) (pages_kept g.S.Shadows l.running.shadows (g.H.Host.bytes l.host)) l.fn.running.fills l.running.fills;
   started : g.H.Host.is_started l.host ≡ true;
   frames : l.running.frames ≡ l.fn.running.frames;
   wants : g.L.Notes.wants l.notes ≡ g.L.Notes.wants l.fn.notes;

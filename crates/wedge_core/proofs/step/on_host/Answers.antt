@@ -23,7 +23,7 @@ use Rattle.native_steps.proofs.Shown.{shown_length}
 use Rattle.kept_laws.specs.Carried.{indices_in}
 use Rattle.kept_laws.specs.Known.{IsKnown}
 use Rattle.wedge_step.specs.Carried.{IsCarried, IsTakenFrom}
-use Rattle.wedge_step.specs.Filled.{FillsOn, pages_kept}
+use Rattle.wedge_step.specs.Filled.{CountsFills, pages_kept}
 use Rattle.wedge_step.specs.Leaves.{Accounts, IsBetween}
 use Rattle.wedge_step.specs.Parts.{left_of}
 use Rattle.wedge_step.specs.Ready.{IsReady}
@@ -248,7 +248,7 @@ module _ (g : Over) (c : goal.After-ram g) where
       (ready_on g.S.Shadows tracks (ground c.args.image.now n) h.wedge r0.cpu r2.cpu r1.shadows m1 m2
       h.host held.host rules.0 rules.1 rules.2 untouched kept.slots_are other_roots_same ready1)
 
-  filled : FillsOn (pages_kept g.S.Shadows r0.shadows m0) (pages_kept g.S.Shadows r2.shadows m2) r0.fills r2.fills
+  filled : CountsFills (pages_kept g.S.Shadows r0.shadows m0) (pages_kept g.S.Shadows r2.shadows m2) r0.fills r2.fills
   filled =
       let pages = λ (s : g.row.S.Denot) (l : List ℕ). pages_kept g.S.Shadows s l in
       once_fills g.S.Shadows _ _ _ _ _ _ _ _ _ _ _ once pages (pages r0.shadows m0)

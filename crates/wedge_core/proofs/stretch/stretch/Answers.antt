@@ -1,7 +1,7 @@
 use Rattle.std.proofs.Common.{◌≡◌, ℕ, ◌+◌, ◌==◌, true, refl, sym, subst, arith}
 use Rattle.host_cpl3.specs.Hosts.{standing}
 use Rattle.guest_ram.specs.Among.{is_among}
-use Rattle.wedge_step.specs.Filled.{FillsOn, pages_kept}
+use Rattle.wedge_step.specs.Filled.{CountsFills, pages_kept}
 use Rattle.wedge_step.specs.Ready.{IsReady}
 use Rattle.wedge_step.specs.Standing.{ground, set_of, side_of}
 use Rattle.wedge_core.specs.Views.{view_by}
@@ -70,8 +70,8 @@ returns g c =
         held = λ pool h. held_then g.S.Shadows laws image old.frames old pool memory h views.lends views.sees c.advances.ensures c.requires.able may c.if-running.false retired passed k done now memory_then retired_then passed_then ran script quiet;
         pool = λ pool h. keeps_then g.S.Shadows laws image old.frames old pool memory h views.lends views.sees c.advances.ensures c.requires.able may c.if-running.false retired passed k done now memory_then retired_then passed_then ran script quiet;
         filled =
-            subst (λ (s : g.row.S.Denot). FillsOn (pages_kept g.S.Shadows old.shadows memory) (pages_kept g.S.Shadows s memory_then) old.fills now.fills) (sym shadows)
-            (subst (λ (k : ℕ). FillsOn (pages_kept g.S.Shadows old.shadows memory) (pages_kept g.S.Shadows old.shadows memory_then) old.fills k) (sym (fills_then g.S.Shadows old now view start k done memory_then retired_then passed_then ran))
+            subst (λ (s : g.row.S.Denot). CountsFills (pages_kept g.S.Shadows old.shadows memory) (pages_kept g.S.Shadows s memory_then) old.fills now.fills) (sym shadows)
+            (subst (λ (k : ℕ). CountsFills (pages_kept g.S.Shadows old.shadows memory) (pages_kept g.S.Shadows old.shadows memory_then) old.fills k) (sym (fills_then g.S.Shadows old now view start k done memory_then retired_then passed_then ran))
             (fills_same _ _ old.fills (kept_same g.S.Shadows old.shadows memory memory_then (set_same g.S.Shadows laws image old.frames old pool memory h memory_then there) others_then)));
         ready = λ ready.
             let tracks : Tracks g.S.Shadows = record {

@@ -2,7 +2,7 @@ use Rattle.std.proofs.Common.{refl, ap, subst}
 use Rattle.shadow_cache.specs.Views as roots
 use Rattle.shadow_cache.specs.declared.roots.Roots.{Roots}
 use Rattle.wedge_core.specs.OfRoots.{of_roots}
-use Rattle.wedge_step.specs.Filled.{IsFilled, pages_kept}
+use Rattle.wedge_step.specs.Filled.{WereFilled, pages_kept}
 use Rattle.wedge_step.specs.declared.running.Running.{Running}
 use Rattle.guest_sched.proofs.tenants.Tenant.release.Goals as goal
 
@@ -16,7 +16,7 @@ returns-clause-released g c = let r = c.release.ensures.releases in record {
     entries = r.entries;
     other_roots = r.other_roots;
     value = r.value;
-    filled = subst (IsFilled (pages_kept of_roots c.release.new.self.shadows (g.H.Host.bytes c.release.new.host))) (ap (λ (x : Running Roots). x.fills) r.running) r.filled;
+    filled = subst (WereFilled (pages_kept of_roots c.release.new.self.shadows (g.H.Host.bytes c.release.new.host))) (ap (λ (x : Running Roots). x.fills) r.running) r.filled;
     moves = r.moves;
   };
   running = r.running;

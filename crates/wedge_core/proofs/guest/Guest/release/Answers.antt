@@ -3,7 +3,7 @@ use Rattle.std.specs.FinMap.{empty}
 use Rattle.frame_pool.specs.Pool.{base_of, count_of, SameOutside}
 use Rattle.frame_pool.specs.Held.{Moves, Owns}
 use Rattle.shadow_tables.specs.Entries.{entries_of}
-use Rattle.wedge_step.specs.Filled.{IsFilled, pages_kept}
+use Rattle.wedge_step.specs.Filled.{WereFilled, pages_kept}
 use Rattle.wedge_step.specs.Ready.{IsReady}
 use Rattle.wedge_core.proofs.Guests.{none_kept, outside_of}
 use Rattle.shadow_cache.specs.Views as roots
@@ -49,7 +49,7 @@ returns-clause-releases g c =
       filled =
           let d = c.drop_all in
           let fills = c.self.inside.running.fills in
-          subst (λ (l : List ℕ). IsFilled (pages_kept of_roots d.new.self l) fills) (sym (g.met.H.Host.bytes_changed c.args.host.now d.new.ram))
+          subst (λ (l : List ℕ). WereFilled (pages_kept of_roots d.new.self l) fills) (sym (g.met.H.Host.bytes_changed c.args.host.now d.new.ram))
           (none_kept (pages_kept of_roots d.new.self d.new.ram) fills (none_pages of_roots d.new.self d.new.ram d.ensures.entries d.ensures.other_roots));
       outside =
           let d = c.drop_all in

@@ -10,7 +10,7 @@ use Rattle.shadow_cache.specs.declared.roots.Roots.{Roots}
 use Rattle.machine_model.specs.State.{State, wedge}
 use Rattle.native_steps.specs.Mirrors.{shown}
 use Rattle.wedge_step.specs.Carried.{IsCarried}
-use Rattle.wedge_step.specs.Filled.{FillsOn, pages_kept}
+use Rattle.wedge_step.specs.Filled.{CountsFills, pages_kept}
 use Rattle.wedge_core.specs.Noted.{NotesOn}
 use Rattle.wedge_step.specs.Pools.{Keeps}
 use Rattle.wedge_core.specs.Calls.{GuestLeaves}
@@ -100,7 +100,7 @@ returns-clause-leaves g c =
           let first = pages_kept of_roots begun.shadows (g.H.Host.bytes c.begin.new.host) in
           let pages = pages_kept of_roots old.shadows (g.H.Host.bytes c.args.host.now) in
           let last = pages_kept of_roots c.steps_to.new.running.shadows (g.H.Host.bytes c.steps_to.new.host) in
-          subst (λ (n : ℕ). FillsOn pages last n c.steps_to.new.running.fills) (same_fills old begun c.begin.ensures.begins.running) (more_first first pages last begun.fills c.steps_to.new.running.fills c.begin.ensures.begins.fewer c.steps_to.ensures.leaves.filled);
+          subst (λ (n : ℕ). CountsFills pages last n c.steps_to.new.running.fills) (same_fills old begun c.begin.ensures.begins.running) (more_first first pages last begun.fills c.steps_to.new.running.fills c.begin.ensures.begins.fewer c.steps_to.ensures.leaves.filled);
       frames = c.steps_to.ensures.leaves.frames ∙ same_frames c.self.inside.running c.begin.new.running c.begin.ensures.begins.running;
     })
 
@@ -125,7 +125,7 @@ returns-clause-own g c =
           let pages = pages_kept of_roots old.shadows (g.H.Host.bytes c.args.host.now) in
           let last = pages_kept of_roots c.steps_to.new.running.shadows (g.H.Host.bytes c.steps_to.new.host) in
           still_filled pages last old.fills c.steps_to.new.running.fills
-          (subst (λ (n : ℕ). FillsOn pages last n c.steps_to.new.running.fills) (same_fills old begun c.begin.ensures.begins.running) (more_first first pages last begun.fills c.steps_to.new.running.fills c.begin.ensures.begins.fewer c.steps_to.ensures.leaves.filled));
+          (subst (λ (n : ℕ). CountsFills pages last n c.steps_to.new.running.fills) (same_fills old begun c.begin.ensures.begins.running) (more_first first pages last begun.fills c.steps_to.new.running.fills c.begin.ensures.begins.fewer c.steps_to.ensures.leaves.filled));
     })
 
 pub returns-clause-silent : goal.returns-clause-silent

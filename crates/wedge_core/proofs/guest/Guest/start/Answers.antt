@@ -1,5 +1,5 @@
 use Rattle.std.proofs.Common.{ℕ, List, IfOk, sym, subst, ◌∙◌}
-use Rattle.wedge_step.specs.Filled.{IsFilled}
+use Rattle.wedge_step.specs.Filled.{WereFilled}
 use Rattle.wedge_step.specs.Scene.{kept_in, scene}
 use Rattle.wedge_step.specs.Standing.{ground}
 use Rattle.wedge_core.specs.OfRoots.{of_roots}
@@ -10,7 +10,7 @@ use Rattle.wedge_core.proofs.guest.Guest.start.Goals as goal
 
 pub returns-in-Ok-clause-filled : goal.returns-in-Ok-clause-filled
 returns-in-Ok-clause-filled g c =
-    subst (λ (l : List ℕ). IfOk c.start_in.result (λ started. IsFilled (kept_in of_roots (scene started.0 started.1 l)) started.0.fills)) (sym (g.met.H.Host.bytes_changed c.start.new.self c.start_in.new.ram))
+    subst (λ (l : List ℕ). IfOk c.start_in.result (λ started. WereFilled (kept_in of_roots (scene started.0 started.1 l)) started.0.fills)) (sym (g.met.H.Host.bytes_changed c.start.new.self c.start_in.new.ram))
     (none_kept_ok c.start_in.new.ram c.start_in.result c.start_in.ensures.none)
 
 pub returns-in-Ok-clause-ready : goal.returns-in-Ok-clause-ready
