@@ -157,7 +157,7 @@ module _ (frames : ℕ) (p p' : Pool) (host host' : List ℕ) (s : Seat) (new : 
             open_to = none_open s.image (wp_of s.running.cpu) _ no_slots;
           };
           ready = record {
-            value_is = d.value ∙ g.ready.value_is;
+            cr3_is = d.same_cr3 ∙ g.ready.cr3_is;
             present = λ unmarked page lt out slot is. absurd (none_some slot (sym (no_slots page lt) ∙ is));
             others = subst (λ (l : List OtherRoot). AreReady m s.running.cpu (shown m then_memory) l) (sym no_others) tt;
           };

@@ -99,7 +99,7 @@ module _ (frames : ℕ) (p p' : Pool) (s : Seat) (then_ : List ℕ) (size : leng
             let cpu = s.running.cpu in
             let ram : shown m then_ ≡ shown m s.memory = shown_same m s.memory then_ front in
             record {
-              value_is = g.ready.value_is;
+              cr3_is = g.ready.cr3_is;
               present = λ unmarked page lt in_.
                   subst (λ (l : List ℕ). ForSome (roots.slots s.running.shadows then_ page) (IsFoundIn m cpu l cpu.cr3 (roots.read_from s.running.shadows) page)) (sym ram)
                   (subst (λ (slot : Option Slot). ForSome slot (IsFoundIn m cpu (shown m s.memory) cpu.cr3 (roots.read_from s.running.shadows) page)) (sym (slots_same page lt)) (g.ready.present unmarked page lt in_));

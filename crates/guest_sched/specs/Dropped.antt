@@ -18,7 +18,7 @@ pub record AllDropped (p p' : Pool) (host host' : List ℕ) (old new : Roots) (f
   pub none : (page : ℕ) → page < 2 ^ 20 → roots.slots new host' page ≡ None
   pub entries : entries_of (roots.slots new host') ≡ empty
   pub other_roots : roots.other_roots new host' ≡ []
-  pub value : roots.value new ≡ roots.value old
+  pub same_cr3 : roots.cr3 new ≡ roots.cr3 old
   pub filled : WereFilled (pages_kept of_roots new host') fills
   pub moves : Moves p p' host host' (roots.frames old host) (roots.frames new host')
 

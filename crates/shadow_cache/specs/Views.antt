@@ -23,8 +23,8 @@ read_from r frame = reads r.present frame
 abbrev pub stale : Roots → Bool
 stale r = r.present.stale
 
-abbrev pub value : Roots → Option ℕ
-value r = Some r.present.cr3
+abbrev pub cr3 : Roots → Option ℕ
+cr3 r = Some r.present.cr3
 
 abbrev pub has_tables_under : Roots → List ℕ → (ℕ → Bool) → Type 0
 has_tables_under r m indices = AllOpenedOnly indices (pairs_of r) m

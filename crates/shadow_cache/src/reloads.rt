@@ -28,12 +28,12 @@ pub trait Reloads: Shadows {
         requires owns { Owns pool.old ram.old (Self.frames self.old ram.old) }
         requires free { 2 ≤ length (free_list pool.old ram.old) }
         ensures stands { ∥ Self.stands self.new ram.new ∥₁ }
-        ensures value { Self.value self.new ≡ Some cr3 }
+        ensures loads { Self.cr3 self.new ≡ Some cr3 }
         ensures stale { Self.stale self.new ≡ false }
-        ensures present { IsSame (coming cr3 (put_by (Self.value self.old) (Self.stale self.old) (Self.read_from self.old)
+        ensures present { IsSame (coming cr3 (put_by (Self.cr3 self.old) (Self.stale self.old) (Self.read_from self.old)
             (Self.slots self.old ram.old) (Self.other_roots self.old ram.old)))
             (record { cr3 = cr3; tables = Self.read_from self.new; slots = Self.slots self.new ram.new }) }
-        ensures other_roots { AreSame (staying cr3 (put_by (Self.value self.old) (Self.stale self.old) (Self.read_from self.old)
+        ensures other_roots { AreSame (staying cr3 (put_by (Self.cr3 self.old) (Self.stale self.old) (Self.read_from self.old)
             (Self.slots self.old ram.old) (Self.other_roots self.old ram.old)))
             (Self.other_roots self.new ram.new) }
         ensures write_protected { ArePart (Self.write_protected self.new) (Self.write_protected self.old) }
@@ -49,7 +49,7 @@ pub trait Reloads: Shadows {
         ensures stands { ∥ Self.stands self.new ram.new ∥₁ }
         ensures none { (page : ℕ) → page < 2 ^ 20 → Self.slots self.new ram.new page ≡ None }
         ensures entries { entries_of (Self.slots self.new ram.new) ≡ empty }
-        ensures known { KnowsNothing Self.read_from Self.stale Self.value Self.write_protected self.old self.new }
+        ensures known { KnowsNothing Self.read_from Self.stale Self.cr3 Self.write_protected self.old self.new }
         ensures other_roots { Self.other_roots self.new ram.new ≡ [] }
         ensures has_tables_under { (indices : ℕ → Bool) → Self.has_tables_under self.new ram.new indices }
         ensures roots { (side : Side) → Self.directory self.new side ≡ Self.directory self.old side }

@@ -256,7 +256,7 @@ impl Shadows for Roots {
 
     ghost stale = { λ r. r.present.stale };
 
-    ghost value = { λ r. Some r.present.cr3 };
+    ghost cr3 = { λ r. Some r.present.cr3 };
 
     ghost other_roots = { λ r m. other_roots_of r.others m };
 

@@ -11,7 +11,7 @@ module _ {S : Type 0} (reads : S → ℕ → Bool) (marks : S → Bool) (root : 
   pub record SameBeside (others : S → List ℕ → List OtherRoot) (old new : S) (m m' : List ℕ) : Type 0 where
     pub read_from : (f : ℕ) → reads new f ≡ reads old f
     pub stale : marks new ≡ marks old
-    pub value : root new ≡ root old
+    pub cr3 : root new ≡ root old
     pub other_roots : AreSame (others old m) (others new m')
     pub write_protected : tracks new ≡ tracks old
 
@@ -19,21 +19,21 @@ module _ {S : Type 0} (reads : S → ℕ → Bool) (marks : S → Bool) (root : 
   pub record KnowsNoMore (old new : S) : Type 0 where
     pub read_from : (f : ℕ) → reads new f ≡ true → reads old f ≡ true
     pub stale : marks new ≡ true → marks old ≡ true
-    pub value : root new ≡ root old
+    pub cr3 : root new ≡ root old
     pub write_protected : ArePart (tracks new) (tracks old)
 
   -- nothing of it, for the same value: no frame was read yet
   pub record KnowsNothing (old new : S) : Type 0 where
     pub read_from : (f : ℕ) → reads new f ≡ false
     pub stale : marks new ≡ false
-    pub value : root new ≡ root old
+    pub cr3 : root new ≡ root old
     pub write_protected : ArePart (tracks new) (tracks old)
 
   -- that the tables were read from this frame too, to which no access may write where it is tracked now
   pub record KnowsRead (frame : ℕ) (old new : S) : Type 0 where
     pub read_from : (f : ℕ) → reads new f ≡ (reads old f || (f == frame))
     pub stale : marks new ≡ marks old
-    pub value : root new ≡ root old
+    pub cr3 : root new ≡ root old
     pub write_protected : ArePart (tracks new) (frame ∷ tracks old)
 
   -- that this frame was written: it isn't tracked any more, and the tables are marked where they were read from it
@@ -41,6 +41,6 @@ module _ {S : Type 0} (reads : S → ℕ → Bool) (marks : S → Bool) (root : 
     pub read_from : (f : ℕ) → (f ≡ frame → ⊥) → reads new f ≡ reads old f
     pub read_before : reads new frame ≡ true → reads old frame ≡ true
     pub stale : marks new ≡ (marks old || reads old frame)
-    pub value : root new ≡ root old
+    pub cr3 : root new ≡ root old
     pub write_protected : ArePart (tracks new) (tracks old)
     pub untracked : is_among frame (tracks new) ≡ false

@@ -10,7 +10,7 @@ pub record Sight : Type 0 where
   pub slots : ℕ → Option Slot
   pub read_from : ℕ → Bool
   pub stale : Bool
-  pub value : Option ℕ
+  pub cr3 : Option ℕ
   pub other_roots : List OtherRoot
 
 abbrev pub sight : {S : Type 0} → shadows.Ghosts S → S → List ℕ → Sight
@@ -18,7 +18,7 @@ sight g s memory = record {
   slots = g.slots s memory;
   read_from = g.read_from s;
   stale = g.stale s;
-  value = g.value s;
+  cr3 = g.cr3 s;
   other_roots = g.other_roots s memory;
 }
 

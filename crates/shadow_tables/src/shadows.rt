@@ -44,7 +44,7 @@ pub trait Shadows {
     ghost stale: { Self → Bool };
 
     /// The value of CR3 to which the present tables belong, where it is kept.
-    ghost value: { Self → Option ℕ };
+    ghost cr3: { Self → Option ℕ };
 
     /// What they keep for values of CR3 that aren't present and may be loaded again, the last used first.
     ghost other_roots: { Self → List ℕ → List OtherRoot };
@@ -84,7 +84,7 @@ pub trait Shadows {
         ensures stands { ∥ stands self.new ram.new ∥₁ }
         ensures turns { Turns (slots self.old ram.old) (slots self.new ram.new) page None }
         ensures entries { entries_of (slots self.new ram.new) ≡ remove (entries_of (slots self.old ram.old)) page }
-        ensures beside { SameBeside read_from stale value write_protected other_roots self.old self.new ram.old ram.new }
+        ensures beside { SameBeside read_from stale cr3 write_protected other_roots self.old self.new ram.old ram.new }
         ensures has_tables_under { (indices : ℕ → Bool) → has_tables_under self.old ram.old indices
             → has_tables_under self.new ram.new indices }
         ensures roots { (side : Side) → directory self.new side ≡ directory self.old side }
@@ -100,7 +100,7 @@ pub trait Shadows {
         ensures stands { ∥ stands self.new ram.new ∥₁ }
         ensures loses { LosesDir (slots self.old ram.old) (slots self.new ram.new) index }
         ensures entries { entries_of (slots self.new ram.new) ≡ without_dir (entries_of (slots self.old ram.old)) index }
-        ensures beside { SameBeside read_from stale value write_protected other_roots self.old self.new ram.old ram.new }
+        ensures beside { SameBeside read_from stale cr3 write_protected other_roots self.old self.new ram.old ram.new }
         ensures has_tables_under { (indices : ℕ → Bool) → has_tables_under self.old ram.old indices
             → has_tables_under self.new ram.new indices }
         ensures roots { (side : Side) → directory self.new side ≡ directory self.old side }
@@ -118,7 +118,7 @@ pub trait Shadows {
         requires fits { (entry.page < 2 ^ 20) × (entry.frame < 2 ^ 20) }
         ensures stands { ∥ stands self.new ram.new ∥₁ }
         ensures fills { FillsSlot (write_protected self.old) side entry wp (slots self.old ram.old) (slots self.new ram.new) }
-        ensures beside { SameBeside read_from stale value write_protected other_roots self.old self.new ram.old ram.new }
+        ensures beside { SameBeside read_from stale cr3 write_protected other_roots self.old self.new ram.old ram.new }
         ensures has_tables_under { (indices : ℕ → Bool) → indices (entry.page / 1024) ≡ true
             → has_tables_under self.old ram.old indices → has_tables_under self.new ram.new indices }
         ensures roots { (side : Side) → directory self.new side ≡ directory self.old side }
@@ -133,7 +133,7 @@ pub trait Shadows {
         ensures stands { ∥ stands self.new ram.new ∥₁ }
         ensures none { (page : ℕ) → page < 2 ^ 20 → slots self.new ram.new page ≡ None }
         ensures entries { entries_of (slots self.new ram.new) ≡ empty }
-        ensures known { KnowsNoMore read_from stale value write_protected self.old self.new }
+        ensures known { KnowsNoMore read_from stale cr3 write_protected self.old self.new }
         ensures other_roots { other_roots self.new ram.new ≡ [] }
         ensures has_tables_under { (indices : ℕ → Bool) → has_tables_under self.old ram.old indices
             → has_tables_under self.new ram.new indices }
@@ -150,7 +150,7 @@ pub trait Shadows {
         ensures stands { ∥ stands self.new ram.new ∥₁ }
         ensures slots { LosesWrites (slots self.old ram.old) (slots self.new ram.new) (write_protected self.new) }
         ensures entries { entries_of (slots self.new ram.new) ≡ entries_of (slots self.old ram.old) }
-        ensures known { KnowsRead read_from stale value write_protected frame self.old self.new }
+        ensures known { KnowsRead read_from stale cr3 write_protected frame self.old self.new }
         ensures other_roots { LoseWrites (frame ∷ []) (other_roots self.old ram.old) (other_roots self.new ram.new) }
         ensures has_tables_under { (indices : ℕ → Bool) → has_tables_under self.old ram.old indices
             → has_tables_under self.new ram.new indices }
@@ -167,7 +167,7 @@ pub trait Shadows {
         ensures stands { ∥ stands self.new ram.new ∥₁ }
         ensures slots { SameSlots (slots self.old ram.old) (slots self.new ram.new) }
         ensures entries { entries_of (slots self.new ram.new) ≡ entries_of (slots self.old ram.old) }
-        ensures known { KnowsWritten read_from stale value write_protected frame self.old self.new }
+        ensures known { KnowsWritten read_from stale cr3 write_protected frame self.old self.new }
         ensures other_roots { AreSame (spared frame (other_roots self.old ram.old)) (other_roots self.new ram.new) }
         ensures has_tables_under { (indices : ℕ → Bool) → has_tables_under self.old ram.old indices
             → has_tables_under self.new ram.new indices }
@@ -263,7 +263,7 @@ impl Shadows for Shadow {
 
     ghost stale = { λ s. true };
 
-    ghost value = { λ s. None };
+    ghost cr3 = { λ s. None };
 
     ghost other_roots = { λ s m. [] };
 

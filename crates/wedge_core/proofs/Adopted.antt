@@ -25,7 +25,7 @@ pub record IsNew (r : Roots) (m : List ℕ) (cr3 : ℕ) : Type 0 where
   pub none : (page : ℕ) → page < 2 ^ 20 → roots.slots r m page ≡ None
   pub two : length (roots.frames r m) ≡ 2
   pub others : r.others ≡ []
-  pub value : roots.value r ≡ Some cr3
+  pub value : roots.cr3 r ≡ Some cr3
 
 two_of : (ps : List Pair) (p : Pair) (m : List ℕ) → ps ≡ p ∷ [] → IsEmpty p.shadow m → length (frames_of ps m) ≡ 2
 unfolding frames_of

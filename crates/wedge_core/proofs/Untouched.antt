@@ -94,7 +94,7 @@ module _ {S : Type 0} (shows : shadows.Ghosts S) where
         let room : 4096 * m.frames ≤ length ram = omega (arith, a) in
         let long : length ram ≤ 4096 * m.frames = omega (arith, a) in
         record {
-          value_is = h.value_is ∙ ap (λ (c : ℕ). Some c) (sym cr3);
+          cr3_is = h.cr3_is ∙ ap (λ (c : ℕ). Some c) (sym cr3);
           present = λ un page lt o slot e.
               let here = h.present un page lt refl slot (sym (slots_same page lt) ∙ e) in
               let there = found_on m ram new size room long (shows.read_from s) (λ at even within k. same_word ram new at even (same (at / 4096) (laws.read_from_is_protected s (at / 4096) un k))) before.cr3 (pse_of before) page slot.entry lt here in

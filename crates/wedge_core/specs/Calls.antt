@@ -79,7 +79,7 @@ pub record Releases (old new : Scene Roots) : Type 0 where
   pub none : (page : ℕ) → page < 2 ^ 20 → of_roots.slots new.guest.shadows new.memory page ≡ None
   pub entries : set_in of_roots new ≡ empty
   pub other_roots : of_roots.other_roots new.guest.shadows new.memory ≡ []
-  pub value : of_roots.value new.guest.shadows ≡ of_roots.value old.guest.shadows
+  pub same_cr3 : of_roots.cr3 new.guest.shadows ≡ of_roots.cr3 old.guest.shadows
   pub moves : Moves old.pool new.pool old.memory new.memory (frames_in of_roots old) (frames_in of_roots new)
   pub again : StaysHeld of_roots old new
   pub ready : (image : Image) → IsReadyIn of_roots (ground image old.guest.frames) old → IsReadyIn of_roots (ground image old.guest.frames) new

@@ -1,4 +1,4 @@
--- What `Roots` keep, as one value.
+-- What `Roots` keep, as one cr3.
 use Rattle.shadow_cache.specs.Pairs.{tables_of}
 use Rattle.shadow_cache.specs.Roots.{pairs_of}
 use Rattle.shadow_cache.specs.Views as roots
@@ -13,7 +13,7 @@ of_roots = record {
   write_protected = λ r. tables_of (pairs_of r);
   read_from = roots.read_from;
   stale = roots.stale;
-  value = roots.value;
+  cr3 = roots.cr3;
   other_roots = roots.other_roots;
   has_tables_under = roots.has_tables_under;
   slots = roots.slots;

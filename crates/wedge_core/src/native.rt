@@ -233,7 +233,7 @@ fn drop_dirs<S: Shadows>(shadows: &mut S, ram: &mut Ram)
     ensures entries { entries_of (S.slots shadows.new ram.new) ≡ empty }
     ensures read_from { (f : ℕ) → S.read_from shadows.new f ≡ S.read_from shadows.old f }
     ensures stale { S.stale shadows.new ≡ S.stale shadows.old }
-    ensures value { S.value shadows.new ≡ S.value shadows.old }
+    ensures cr3 { S.cr3 shadows.new ≡ S.cr3 shadows.old }
     ensures other_roots { AreSame (S.other_roots shadows.old ram.old) (S.other_roots shadows.new ram.new) }
     ensures has_tables_under { (indices : ℕ → Bool) → S.has_tables_under shadows.old ram.old indices
         → S.has_tables_under shadows.new ram.new indices }

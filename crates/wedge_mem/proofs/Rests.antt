@@ -9,7 +9,7 @@ rest-refl g a m = record {
   write_protected = refl;
   read_from = λ frame. refl;
   stale = refl;
-  value = refl;
+  cr3 = refl;
   other_roots = same-refl (g.other_roots a m);
   roots = λ view. refl;
 }
@@ -19,7 +19,7 @@ rest-trans g a b c m m1 m2 h k = record {
   write_protected = k.write_protected ∙ h.write_protected;
   read_from = λ frame. k.read_from frame ∙ h.read_from frame;
   stale = k.stale ∙ h.stale;
-  value = k.value ∙ h.value;
+  cr3 = k.cr3 ∙ h.cr3;
   other_roots = same-trans (g.other_roots a m) (g.other_roots b m1) (g.other_roots c m2) h.other_roots k.other_roots;
   roots = λ view. k.roots view ∙ h.roots view;
 }

@@ -24,7 +24,7 @@ module _ {S : Type 0} (g : shadows.Ghosts S) where
     -- the present tables are marked where the step wrote one of them
     pub stale : MatchOption result (g.stale new ≡ true → g.stale old ≡ true)
         (λ n. g.stale new ≡ (g.stale old || list_any (read_by (g.read_from old) did.tables) did.wrote))
-    pub value : g.value new ≡ g.value old
+    pub cr3 : g.cr3 new ≡ g.cr3 old
     -- what is kept for another value of CR3 goes where the step wrote one of its tables, and lets no write pass to a new one
     pub other_roots : MatchOption result (g.other_roots new m' ≡ [])
         (λ n. LoseWrites (guest_frames did.tables) (all_spared did.wrote (g.other_roots old m)) (g.other_roots new m'))

@@ -45,7 +45,7 @@ module _ {S : Type 0} (g : shadows.Ghosts S) where
     pub write_protected : g.write_protected new ≡ g.write_protected old
     pub read_from : (frame : ℕ) → g.read_from new frame ≡ g.read_from old frame
     pub stale : g.stale new ≡ g.stale old
-    pub value : g.value new ≡ g.value old
+    pub cr3 : g.cr3 new ≡ g.cr3 old
     pub other_roots : AreSame (g.other_roots old m) (g.other_roots new m')
     pub roots : (view : Side) → g.directory new view ≡ g.directory old view
 
@@ -68,6 +68,6 @@ module _ {S : Type 0} (g : shadows.Ghosts S) where
     pub read_from : (frame : ℕ) → is_among frame wrote ≡ false → g.read_from new frame ≡ g.read_from old frame
     pub noted_less : (frame : ℕ) → g.read_from new frame ≡ true → g.read_from old frame ≡ true
     pub stale : g.stale new ≡ (g.stale old || list_any (g.read_from old) wrote)
-    pub value : g.value new ≡ g.value old
+    pub cr3 : g.cr3 new ≡ g.cr3 old
     pub write_protected : ArePart (g.write_protected new) (g.write_protected old)
     pub untracked : (frame : ℕ) → is_among frame wrote ≡ true → is_among frame (g.write_protected new) ≡ false

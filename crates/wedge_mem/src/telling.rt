@@ -21,7 +21,7 @@ fn note_table<S: Shadows>(shadows: &mut S, ram: &mut Ram, frame: u32)
     ensures stands { ∥ S.stands shadows.new ram.new ∥₁ }
     ensures read_from { (f : ℕ) → S.read_from shadows.new f ≡ read_by (S.read_from shadows.old) (frame ∷ []) f }
     ensures stale { S.stale shadows.new ≡ S.stale shadows.old }
-    ensures value { S.value shadows.new ≡ S.value shadows.old }
+    ensures cr3 { S.cr3 shadows.new ≡ S.cr3 shadows.old }
     ensures other_roots { LoseWrites (guest_frames (frame ∷ [])) (S.other_roots shadows.old ram.old) (S.other_roots shadows.new ram.new) }
     ensures slots { LosesSome (guest_frames (frame ∷ [])) (S.slots shadows.old ram.old) (S.slots shadows.new ram.new) }
     ensures entries { entries_of (S.slots shadows.new ram.new) ≡ entries_of (S.slots shadows.old ram.old) }
@@ -42,7 +42,7 @@ pub fn note_tables<S: Shadows>(shadows: &mut S, ram: &mut Ram, tables: &[u32])
     ensures stands { ∥ S.stands shadows.new ram.new ∥₁ }
     ensures read_from { (frame : ℕ) → S.read_from shadows.new frame ≡ read_by (S.read_from shadows.old) tables.now frame }
     ensures stale { S.stale shadows.new ≡ S.stale shadows.old }
-    ensures value { S.value shadows.new ≡ S.value shadows.old }
+    ensures cr3 { S.cr3 shadows.new ≡ S.cr3 shadows.old }
     ensures other_roots { LoseWrites (guest_frames tables.now) (S.other_roots shadows.old ram.old) (S.other_roots shadows.new ram.new) }
     ensures slots { LosesSome (guest_frames tables.now) (S.slots shadows.old ram.old) (S.slots shadows.new ram.new) }
     ensures entries { entries_of (S.slots shadows.new ram.new) ≡ entries_of (S.slots shadows.old ram.old) }

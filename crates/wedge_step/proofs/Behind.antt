@@ -167,7 +167,7 @@ module _ {S : Type 0} (shows : shadows.Ghosts S) where
       pub behind_ready : (out : ℕ → Bool) (set : Set) → ((page : ℕ) → page < 2 ^ 20 → out page ≡ false → (e : Entry) → get set page ≡ Some e → (get first.set page ≡ Some e) ⊎ (get last.set page ≡ Some e))
           → IsReadyBehind shows out m cpu s then set tables wrote
       behind_ready out set each = record {
-        value_is = h.value_is;
+        cr3_is = h.cr3_is;
         present = λ un none page lt o e is. elim (each page lt o e is) [ inl was ↦ old_found un none page lt e was | inr left ↦ new_found un none page lt e left ];
         others = roots_behind wrote m cpu (shown m memory) (shown m then) (shows.other_roots s memory) (shows.other_roots s then) k.room follows k.same h.others;
       }

@@ -116,9 +116,9 @@ module _ {S : Type 0} (shows : shadows.Ghosts S) where
           let base_is = d.entries ∙ (sym d.set ∙ sym d.by) in
           let base = entries_of (shows.slots s then) in
           on m steps t (sight shows s then) v' kept
-          (a_step tells comes t b.cpu w last (shows.value s) base changes a d.taken.cpu roots ready.value_is set base_is told (shows.slots s memory) (d.by ∙ d.set) m b d.taken room_before room_after bytes)
+          (a_step tells comes t b.cpu w last (shows.cr3 s) base changes a d.taken.cpu roots ready.cr3_is set base_is told (shows.slots s memory) (d.by ∙ d.set) m b d.taken room_before room_after bytes)
           (λ load un. all_found m steps t b.cpu (shown (ground image n) memory) (shows.read_from s) (shows.stale s) (shows.slots s memory) d.taken.cpu (d.taken.ram ∙ d.ram) (d.by ∙ d.set) (λ free page lt. ready.present free page lt refl) known.remembered.noted_read known.remembered.unmarked un)
-          (over tells comes t b.cpu w last (shows.value s) base changes a d.taken.cpu roots ready.value_is set base_is told (shows.slots s memory) (d.by ∙ d.set) (sight shows s then) v' refl ends)
+          (over tells comes t b.cpu w last (shows.cr3 s) base changes a d.taken.cpu roots ready.cr3_is set base_is told (shows.slots s memory) (d.by ∙ d.set) (sight shows s then) v' refl ends)
           known_then
 
       -- behind one that the host does, and that loads no CR3 and leaves the rules and the translations

@@ -98,7 +98,7 @@ told_by tells t v v' tables wrote tables_are wrote_are told =
     tells t v v' (subst (λ (l : List ℕ). Tells t.report.tables l v v') (sym wrote_are) (subst (λ (l : List ℕ). Tells l wrote v v') (sym tables_are) told))
 
 module _ (tells : SettlingTells) (comes : DroppedComesFrom) (t : Taken) (before : Cpu) (w : Worked) (s : Space) (value : Option ℕ) (base : Set) (changes : List Change)
-    (a : IsAnswer t w s) (cpu : t.before.cpu ≡ before) (roots : RootsAs before w) (value_is : value ≡ Some before.cr3) (set : s.set ≡ changed base changes) (base_is : base ≡ t.set)
+    (a : IsAnswer t w s) (cpu : t.before.cpu ≡ before) (roots : RootsAs before w) (cr3_is : value ≡ Some before.cr3) (set : s.set ≡ changed base changes) (base_is : base ≡ t.set)
     (told : AreToldIn s.visited changes) (first : ℕ → Option Slot) (by_first : t.set ≡ entries_of first)
   where
     load_is : loads_root t ≡ is_load (completed_by w.completed)
@@ -119,7 +119,7 @@ module _ (tells : SettlingTells) (comes : DroppedComesFrom) (t : Taken) (before 
     left : (q : ℕ) → is_among q t.report.pages ≡ false → get s.set q ≡ get t.set q
     left q e = ap (λ (x : Set). get x q) set ∙ (unchanged base s.visited changes told q (unused q e) ∙ ap (λ (x : Set). get x q) base_is)
 
-    pub over : (v v' : Sight) → v.value ≡ value → Ends w.dropped before w.cpu (pages_of s.visited changes) s.tables s.wrote s.set v v'
+    pub over : (v v' : Sight) → v.cr3 ≡ value → Ends w.dropped before w.cpu (pages_of s.visited changes) s.tables s.wrote s.set v v'
         → IsOver t v v'
     over v v' is e = record {
       between = e.between;
@@ -132,8 +132,8 @@ module _ (tells : SettlingTells) (comes : DroppedComesFrom) (t : Taken) (before 
       loaded = λ go. loaded go;
     }
       where
-        value_now : v.value ≡ Some t.before.cpu.cr3
-        value_now = is ∙ (value_is ∙ ap (λ (c : Cpu). Some c.cr3) (sym cpu))
+        value_now : v.cr3 ≡ Some t.before.cpu.cr3
+        value_now = is ∙ (cr3_is ∙ ap (λ (c : Cpu). Some c.cr3) (sym cpu))
 
         cr3_now : t.after.cpu.cr3 ≡ w.cpu.cr3
         cr3_now = ap (λ (c : Cpu). c.cr3) a.cpu
@@ -143,7 +143,7 @@ module _ (tells : SettlingTells) (comes : DroppedComesFrom) (t : Taken) (before 
             let l = roots.load (sym load_is ∙ go) in
             let r = e.loaded (ap (λ (x : ℕ). has x 65536) l.1, ap (λ (x : ℕ). has x 16) l.2) l.0 in
             let x = r.between in
-            let value_then : x.value ≡ Some t.before.cpu.cr3 = r.value ∙ (e.value ∙ value_now) in
+            let value_then : x.cr3 ≡ Some t.before.cpu.cr3 = r.same_cr3 ∙ (e.same_cr3 ∙ value_now) in
             record {
               between = x;
               stay = r.sheds.stay;

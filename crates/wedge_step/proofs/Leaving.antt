@@ -69,7 +69,7 @@ module _ {S : Type 0} (g : shadows.Ghosts S) (cr3 : ℕ) (pages : List ℕ) (v' 
 loads_through : (cr3 : ℕ) (pages others : List ℕ) (v v' : Sight) → ((page : ℕ) → is_among page pages ≡ is_among page others) → Loads cr3 pages v v' → Loads cr3 others v v'
 loads_through cr3 pages others v v' there h = record {
   between = h.between;
-  value = h.value;
+  same_cr3 = h.same_cr3;
   sheds = record {
     stay = h.sheds.stay;
     gone = λ page lt is. h.sheds.gone page lt (there page ∙ is);
@@ -89,16 +89,16 @@ same_free pool mid memory between p m h =
 -- ---- the end of a step that went
 
 pub ended : (d : Dropped) (before mid after : Cpu) (pages pages1 tables wrote : List ℕ) (set : Set) (v between v' : Sight)
-    → mid ≡ before → between.value ≡ v.value → ((page : ℕ) → is_among page pages1 ≡ is_among page pages) → entries_of between.slots ≡ set → Tells tables wrote v between
+    → mid ≡ before → between.cr3 ≡ v.cr3 → ((page : ℕ) → is_among page pages1 ≡ is_among page pages) → entries_of between.slots ≡ set → Tells tables wrote v between
     → (RulesSame mid after → after.cr3 ≡ mid.cr3 → is_all d ≡ false → StaysBeside between v' × (entries_of v'.slots ≡ dropping d (entries_of between.slots)))
     → ((RulesSame mid after → ⊥) → after.cr3 ≡ mid.cr3 → EmptiesBeside between v' × (entries_of v'.slots ≡ empty))
     → (RulesSame mid after → is_all d ≡ true → Loads after.cr3 pages1 between v')
     → Ends d before after pages tables wrote set v v'
-ended d before mid after pages pages1 tables wrote set v between v' cpu value there entries told stay lost loads =
+ended d before mid after pages pages1 tables wrote set v between v' cpu same_cr3 there entries told stay lost loads =
     let cr3 : mid.cr3 ≡ before.cr3 = ap (λ (x : Cpu). x.cr3) cpu in
     record {
       between = between;
-      value = value;
+      same_cr3 = same_cr3;
       told = told;
       entries = entries;
       through = λ rules same all.

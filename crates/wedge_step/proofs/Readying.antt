@@ -45,10 +45,10 @@ all_rules m before after ram (a ∷ other_roots) pse wp h = (rules_ready m befor
 module _ {S : Type 0} (shows : shadows.Ghosts S) where
   -- ---- nothing is kept
 
-  pub none_ready : (out : ℕ → Bool) (m : Setting) (cpu : Cpu) (s : S) (memory : List ℕ) → shows.value s ≡ Some cpu.cr3 → ((page : ℕ) → page < 2 ^ 20 → shows.slots s memory page ≡ None) → shows.other_roots s memory ≡ []
+  pub none_ready : (out : ℕ → Bool) (m : Setting) (cpu : Cpu) (s : S) (memory : List ℕ) → shows.cr3 s ≡ Some cpu.cr3 → ((page : ℕ) → page < 2 ^ 20 → shows.slots s memory page ≡ None) → shows.other_roots s memory ≡ []
       → IsReadyBut shows out m cpu s memory
   none_ready out m cpu s memory is none alone = record {
-    value_is = is;
+    cr3_is = is;
     present = λ un page lt o slot e. absurd (none_some slot (sym (none page lt) ∙ e));
     others = subst (AreReady m cpu (shown m memory)) (sym alone) tt;
   }
@@ -62,12 +62,12 @@ module _ {S : Type 0} (shows : shadows.Ghosts S) where
   -- ---- less is kept
 
   pub fewer_ready : (out less : ℕ → Bool) (m : Setting) (cpu : Cpu) (old new : S) (memory then : List ℕ)
-      → shows.value new ≡ shows.value old → (shows.stale new ≡ false → shows.stale old ≡ false) → ((f : ℕ) → shows.read_from old f ≡ true → shows.read_from new f ≡ true)
+      → shows.cr3 new ≡ shows.cr3 old → (shows.stale new ≡ false → shows.stale old ≡ false) → ((f : ℕ) → shows.read_from old f ≡ true → shows.read_from new f ≡ true)
       → ((page : ℕ) → page < 2 ^ 20 → less page ≡ false → (shows.slots new then page ≡ None) ⊎ ((out page ≡ false) × IsWithin (shows.slots new then page) (shows.slots old memory page)))
       → AllShed (shows.other_roots old memory) (shows.other_roots new then) → shown m then ≡ shown m memory
       → IsReadyBut shows out m cpu old memory → IsReadyBut shows less m cpu new then
   fewer_ready out less m cpu old new memory then same unmarked wider each shed ram h = record {
-    value_is = same ∙ h.value_is;
+    cr3_is = same ∙ h.cr3_is;
     present = λ un page lt o. by un page lt (each page lt o);
     others = subst (λ (r : List ℕ). AreReady m cpu r (shows.other_roots new then)) (sym ram) (all_ready_shed m cpu (shown m memory) (shows.other_roots old memory) (shows.other_roots new then) shed h.others);
   }
@@ -85,13 +85,13 @@ module _ {S : Type 0} (shows : shadows.Ghosts S) where
 
   -- all that the step left is kept
   pub settled_ready : (out : ℕ → Bool) (m : Setting) (cpu : Cpu) (old new : S) (memory then : List ℕ) (set : Set) (tables wrote : List ℕ)
-      → shows.value new ≡ shows.value old → (shows.stale new ≡ false → (shows.stale old ≡ false) × (list_any (read_by (shows.read_from old) tables) wrote ≡ false))
+      → shows.cr3 new ≡ shows.cr3 old → (shows.stale new ≡ false → (shows.stale old ≡ false) × (list_any (read_by (shows.read_from old) tables) wrote ≡ false))
       → (shows.stale new ≡ false → (page : ℕ) → page < 2 ^ 20 → (e : Entry) → IsFoundBy (shown m memory) m.frames cpu.cr3 (pse_of cpu) (read_by (shows.read_from old) tables) page e → IsFoundBy (shown m memory) m.frames cpu.cr3 (pse_of cpu) (shows.read_from new) page e)
       → ((page : ℕ) → page < 2 ^ 20 → get set page ≡ entry_in (shows.slots new then page))
       → AllShed (all_spared wrote (shows.other_roots old memory)) (shows.other_roots new then) → shown m then ≡ shown m memory
       → IsReadyBehind shows out m cpu old memory set tables wrote → IsReadyBut shows out m cpu new then
   settled_ready out m cpu old new memory then set tables wrote same unmarked wider at shed ram h = record {
-    value_is = same ∙ h.value_is;
+    cr3_is = same ∙ h.cr3_is;
     present = λ un page lt o.
         let u = unmarked un in
         let P = λ (e : Entry). IsFoundBy (shown m then) m.frames cpu.cr3 (pse_of cpu) (shows.read_from new) page e in
@@ -104,8 +104,8 @@ module _ {S : Type 0} (shows : shadows.Ghosts S) where
   -- ---- a load of CR3
 
   put_ready : (m : Setting) (cpu : Cpu) (s : S) (memory : List ℕ) → AreOpen m.image (wp_of cpu) (shows.slots s memory) → IsReady shows m cpu s memory
-      → AreReady m cpu (shown m memory) (put_by (shows.value s) (shows.stale s) (shows.read_from s) (shows.slots s memory) (shows.other_roots s memory))
-  put_ready m cpu s memory has_tables_under h = by (shows.value s) h.value_is (shows.stale s) refl
+      → AreReady m cpu (shown m memory) (put_by (shows.cr3 s) (shows.stale s) (shows.read_from s) (shows.slots s memory) (shows.other_roots s memory))
+  put_ready m cpu s memory has_tables_under h = by (shows.cr3 s) h.cr3_is (shows.stale s) refl
     where
       by : (v : Option ℕ) → v ≡ Some cpu.cr3 → (b : Bool) → shows.stale s ≡ b → AreReady m cpu (shown m memory) (put_by v b (shows.read_from s) (shows.slots s memory) (shows.other_roots s memory))
       by None e b is = h.others
@@ -119,8 +119,8 @@ module _ {S : Type 0} (shows : shadows.Ghosts S) where
       )
 
   put_open : (image : Image) (wp : Bool) (s : S) (memory : List ℕ) → AreOpen image wp (shows.slots s memory) → AllOpen image wp (shows.other_roots s memory)
-      → AllOpen image wp (put_by (shows.value s) (shows.stale s) (shows.read_from s) (shows.slots s memory) (shows.other_roots s memory))
-  put_open image wp s memory has_tables_under h = by (shows.value s) (shows.stale s)
+      → AllOpen image wp (put_by (shows.cr3 s) (shows.stale s) (shows.read_from s) (shows.slots s memory) (shows.other_roots s memory))
+  put_open image wp s memory has_tables_under h = by (shows.cr3 s) (shows.stale s)
     where
       by : (v : Option ℕ) (b : Bool) → AllOpen image wp (put_by v b (shows.read_from s) (shows.slots s memory) (shows.other_roots s memory))
       by None b = h
@@ -128,8 +128,8 @@ module _ {S : Type 0} (shows : shadows.Ghosts S) where
       by (Some cr3) false = (has_tables_under, h)
 
   put_none : (s : S) (memory : List ℕ) → ((page : ℕ) → page < 2 ^ 20 → shows.slots s memory page ≡ None) → shows.other_roots s memory ≡ []
-      → Each (λ (a : OtherRoot). (page : ℕ) → page < 2 ^ 20 → a.slots page ≡ None) (put_by (shows.value s) (shows.stale s) (shows.read_from s) (shows.slots s memory) (shows.other_roots s memory))
-  put_none s memory none alone = by (shows.value s) (shows.stale s)
+      → Each (λ (a : OtherRoot). (page : ℕ) → page < 2 ^ 20 → a.slots page ≡ None) (put_by (shows.cr3 s) (shows.stale s) (shows.read_from s) (shows.slots s memory) (shows.other_roots s memory))
+  put_none s memory none alone = by (shows.cr3 s) (shows.stale s)
     where
       P : OtherRoot → Type 0
       P a = (page : ℕ) → page < 2 ^ 20 → a.slots page ≡ None
@@ -144,13 +144,13 @@ module _ {S : Type 0} (shows : shadows.Ghosts S) where
 
   -- what is present and beside it, once a value is loaded
   pub record Switched (cr3 : ℕ) (old new : S) (memory then : List ℕ) : Type 0 where
-    pub value_is : shows.value new ≡ Some cr3
-    pub present : IsSame (coming cr3 (put_by (shows.value old) (shows.stale old) (shows.read_from old) (shows.slots old memory) (shows.other_roots old memory))) (record { cr3 = cr3; tables = shows.read_from new; slots = shows.slots new then })
-    pub beside : AreSame (staying cr3 (put_by (shows.value old) (shows.stale old) (shows.read_from old) (shows.slots old memory) (shows.other_roots old memory))) (shows.other_roots new then)
+    pub cr3_is : shows.cr3 new ≡ Some cr3
+    pub present : IsSame (coming cr3 (put_by (shows.cr3 old) (shows.stale old) (shows.read_from old) (shows.slots old memory) (shows.other_roots old memory))) (record { cr3 = cr3; tables = shows.read_from new; slots = shows.slots new then })
+    pub beside : AreSame (staying cr3 (put_by (shows.cr3 old) (shows.stale old) (shows.read_from old) (shows.slots old memory) (shows.other_roots old memory))) (shows.other_roots new then)
 
   module _ (cr3 : ℕ) (old new : S) (memory then : List ℕ) (s : Switched cr3 old new memory then) where
     abbrev put : List OtherRoot
-    put = put_by (shows.value old) (shows.stale old) (shows.read_from old) (shows.slots old memory) (shows.other_roots old memory)
+    put = put_by (shows.cr3 old) (shows.stale old) (shows.read_from old) (shows.slots old memory) (shows.other_roots old memory)
 
     pub loaded_ready : (m : Setting) (before after : Cpu) → after.cr3 ≡ cr3 → pse_of after ≡ pse_of before → wp_of after ≡ wp_of before → shown m then ≡ shown m memory → AreOpen m.image (wp_of before) (shows.slots old memory)
         → IsReady shows m before old memory
@@ -165,7 +165,7 @@ module _ {S : Type 0} (shows : shadows.Ghosts S) where
         (found_tables (shown m memory) m.frames cr3 (pse_of after) (coming cr3 put).tables (shows.read_from new) page slot.entry (λ f t. s.present.tables f ∙ t)
         (subst (λ (c : ℕ). IsFoundBy (shown m memory) m.frames c (pse_of after) (coming cr3 put).tables page slot.entry) (coming_value cr3 put) (here.found page lt slot (sym (s.present.slots page lt) ∙ e))))) in (
           record {
-            value_is = s.value_is ∙ ap (λ (c : ℕ). Some c) (sym is);
+            cr3_is = s.cr3_is ∙ ap (λ (c : ℕ). Some c) (sym is);
             present = λ un page lt o slot e. subst (λ (c : ℕ). IsFoundBy (shown m then) m.frames c (pse_of after) (shows.read_from new) page slot.entry) (sym is) (found page lt slot e);
             others = subst (λ (r : List ℕ). AreReady m after r (shows.other_roots new then)) (sym ram) (all_ready_shed m after (shown m memory) (staying cr3 put) (shows.other_roots new then) (same_shed (staying cr3 put) (shows.other_roots new then) s.beside) others);
           },
@@ -183,7 +183,7 @@ module _ {S : Type 0} (shows : shadows.Ghosts S) where
         let here = ap (λ (set : Set). len set) (entries_of-same (coming cr3 put).slots (shows.slots new then) s.present.slots) in
         let beside = shed_pages (staying cr3 put) (shows.other_roots new then) (same_shed (staying cr3 put) (shows.other_roots new then) s.beside) in
         let all = loaded_pages cr3 put in
-        let few = put_by_pages (shows.value old) (shows.stale old) (shows.read_from old) (shows.slots old memory) (shows.other_roots old memory) in
+        let few = put_by_pages (shows.cr3 old) (shows.stale old) (shows.read_from old) (shows.slots old memory) (shows.other_roots old memory) in
         omega (arith, here, beside, all, few)
 
     pub loaded_none : ((page : ℕ) → page < 2 ^ 20 → shows.slots old memory page ≡ None) → shows.other_roots old memory ≡ [] → entries_of (shows.slots new then) ≡ empty

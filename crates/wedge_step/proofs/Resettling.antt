@@ -61,7 +61,7 @@ module _ {S : Type 0} (shows : shadows.Ghosts S) where
     pub at : (page : ℕ) → page < 2 ^ 20 → get (entries_of (shows.slots new then)) page ≡ entry_in (shows.slots new then page)
     pub noted_is : IsSome result → (frame : ℕ) → is_among frame wrote ≡ false → shows.read_from new frame ≡ read_by (shows.read_from old) tables frame
     pub marked_is : MatchOption result (shows.stale new ≡ true → shows.stale old ≡ true) (λ n. shows.stale new ≡ (shows.stale old || list_any (read_by (shows.read_from old) tables) wrote))
-    pub value_is : shows.value new ≡ shows.value old
+    pub cr3_is : shows.cr3 new ≡ shows.cr3 old
     pub others_are : OthersAre result tables wrote (shows.other_roots old memory) (shows.other_roots new then)
 
   pub closed_none : (old new : S) (memory then : List ℕ) (set : Set) (tables wrote : List ℕ) (result : Option ℕ) → Settled old new memory then set tables wrote result → is_none result ≡ true → pages_kept shows new then ≡ 0
@@ -71,10 +71,10 @@ module _ {S : Type 0} (shows : shadows.Ghosts S) where
   pub closed_ready : (out : ℕ → Bool) (m : Setting) (cpu : Cpu) (old new : S) (memory then : List ℕ) (set : Set) (tables wrote : List ℕ) (result : Option ℕ) → Settled old new memory then set tables wrote result
       → shown m then ≡ shown m memory → IsReadyBehind shows out m cpu old memory set tables wrote → IsReadyBut shows out m cpu new then
   closed_ready out m cpu old new memory then set tables wrote None s ram h =
-      none_ready shows out m cpu new then (s.value_is ∙ h.value_is) (no_slots (shows.slots new then) s.at s.entries) s.others_are
+      none_ready shows out m cpu new then (s.cr3_is ∙ h.cr3_is) (no_slots (shows.slots new then) s.at s.entries) s.others_are
   closed_ready out m cpu old new memory then set tables wrote (Some n) s ram h =
       let parts = λ (un : shows.stale new ≡ false). or_parts (shows.stale old) (list_any (read_by (shows.read_from old) tables) wrote) (shows.stale new) s.marked_is un in
-      settled_ready shows out m cpu old new memory then set tables wrote s.value_is parts
+      settled_ready shows out m cpu old new memory then set tables wrote s.cr3_is parts
       (λ un page lt e. found_tables (shown m memory) m.frames cpu.cr3 (Rattle.descriptors.specs.Controls.pse_of cpu) (read_by (shows.read_from old) tables) (shows.read_from new) page e
       (λ f r. s.noted_is refl f (unwritten f (parts un).1 r) ∙ r))
       (λ page lt. ap (λ (x : Set). get x page) (sym s.entries) ∙ s.at page lt)

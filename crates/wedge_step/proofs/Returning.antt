@@ -119,7 +119,7 @@ module _ {S : Type 0} (shows : shadows.Ghosts S) where
   pub rules_but : (out less : ℕ → Bool) (m : Setting) (before after : Cpu) (s : S) (memory : List ℕ) → after.cr3 ≡ before.cr3 → pse_of after ≡ pse_of before → wp_of after ≡ wp_of before → ((page : ℕ) → less page ≡ false → out page ≡ false)
       → IsReadyBut shows out m before s memory → IsReadyBut shows less m after s memory
   rules_but out less m before after s memory cr3 pse wp fewer h = record {
-    value_is = h.value_is ∙ ap (λ (c : ℕ). Some c) (sym cr3);
+    cr3_is = h.cr3_is ∙ ap (λ (c : ℕ). Some c) (sym cr3);
     present = λ un page lt o slot e.
         subst (λ (b : Bool). IsFoundBy (shown m memory) m.frames after.cr3 b (shows.read_from s) page slot.entry) (sym pse)
         (subst (λ (c : ℕ). IsFoundBy (shown m memory) m.frames c (pse_of before) (shows.read_from s) page slot.entry) (sym cr3) (h.present un page lt (fewer page o) slot e));
@@ -130,7 +130,7 @@ module _ {S : Type 0} (shows : shadows.Ghosts S) where
   pub through_ready : (out : ℕ → Bool) (m : Setting) (before after : Cpu) (s : S) (memory : List ℕ) → after.cr3 ≡ before.cr3 → pse_of after ≡ pse_of before → wp_of after ≡ wp_of before
       → ((page : ℕ) → page < 2 ^ 20 → (shows.slots s memory page ≡ None) ⊎ (out page ≡ false)) → IsReadyBut shows out m before s memory → IsReady shows m after s memory
   through_ready out m before after s memory cr3 pse wp each h = record {
-    value_is = h.value_is ∙ ap (λ (c : ℕ). Some c) (sym cr3);
+    cr3_is = h.cr3_is ∙ ap (λ (c : ℕ). Some c) (sym cr3);
     present = λ un page lt o slot e.
         elim (each page lt) [
           | inl none ↦ absurd (none_some slot (sym none ∙ e))

@@ -17,7 +17,7 @@ use Rattle.wedge_step.specs.Sight.{Sheds, with_present}
 
 -- The value of CR3 is the same; and unless all was dropped, what is kept was told.
 pub record IsToldOf (tables wrote : List ℕ) (dropped : Bool) (v v' : Sight) : Type 0 where
-  pub value : v'.value ≡ v.value
+  pub same_cr3 : v'.cr3 ≡ v.cr3
   pub tells : dropped ≡ false → Tells tables wrote v v'
 
 -- the rules by which rights are given and tables are read are the same
@@ -34,7 +34,7 @@ pub record ChangesRules (before after : Cpu) (v v' : Sight) : Type 0 where
 -- had, and what was put by under this one came back.
 pub record Loads (cr3 : ℕ) (pages : List ℕ) (v v' : Sight) : Type 0 where
   pub between : Sight
-  pub value : between.value ≡ v.value
+  pub same_cr3 : between.cr3 ≡ v.cr3
   pub sheds : Sheds pages v between
   pub present : IsSame (coming cr3 (with_present between)) (under_value cr3 v')
   pub put : AreSame (staying cr3 (with_present between)) v'.other_roots
@@ -54,7 +54,7 @@ pub record Leaves (worked : Worked) (before : Cpu) (pages : List ℕ) (wanted : 
 -- what is present is put by.
 pub record Ends (dropped : Dropped) (before after : Cpu) (pages tables wrote : List ℕ) (set : Set) (v v' : Sight) : Type 0 where
   pub between : Sight
-  pub value : between.value ≡ v.value
+  pub same_cr3 : between.cr3 ≡ v.cr3
   pub told : Tells tables wrote v between
   pub entries : entries_of between.slots ≡ set
   pub through : RulesSame before after → after.cr3 ≡ before.cr3 → is_all dropped ≡ false

@@ -62,7 +62,7 @@ module _ {S : Type 0} (g : shadows.Ghosts S) where
   -- The shadows keep what is present under the processor's CR3, where no frame of its tables was written: it is found, but
   -- for the pages that the test leaves out. So is what is kept under other values.
   pub record IsReadyBut (out : ℕ → Bool) (m : Setting) (cpu : Cpu) (s : S) (memory : List ℕ) : Type 0 where
-    pub value_is : g.value s ≡ Some cpu.cr3
+    pub cr3_is : g.cr3 s ≡ Some cpu.cr3
     pub present : g.stale s ≡ false → (page : ℕ) → page < 2 ^ 20 → out page ≡ false → ForSome (g.slots s memory page) (IsFoundIn m cpu (shown m memory) cpu.cr3 (g.read_from s) page)
     pub others : AreReady m cpu (shown m memory) (g.other_roots s memory)
 
@@ -72,7 +72,7 @@ module _ {S : Type 0} (g : shadows.Ghosts S) where
   -- The same behind the accesses of a step, for the translations that it left: it has read these frames as tables, and
   -- written those.
   pub record IsReadyBehind (out : ℕ → Bool) (m : Setting) (cpu : Cpu) (s : S) (memory : List ℕ) (set : Set) (tables wrote : List ℕ) : Type 0 where
-    pub value_is : g.value s ≡ Some cpu.cr3
+    pub cr3_is : g.cr3 s ≡ Some cpu.cr3
     pub present : g.stale s ≡ false → list_any (read_by (g.read_from s) tables) wrote ≡ false → (page : ℕ) → page < 2 ^ 20 → out page ≡ false
         → ForSome (get set page) (IsFoundBy (shown m memory) m.frames cpu.cr3 (pse_of cpu) (read_by (g.read_from s) tables) page)
     pub others : AreReadyBehind wrote m cpu (shown m memory) (g.other_roots s memory)

@@ -10,7 +10,7 @@ use Rattle.wedge_step.specs.Standing.{AreOpen}
 
 -- what is kept for other values once what is present is put by
 abbrev pub with_present : Sight → List OtherRoot
-with_present v = put_under v.value v
+with_present v = put_under v.cr3 v
 
 -- nothing is kept, for any value
 pub record IsBare (v : Sight) : Type 0 where

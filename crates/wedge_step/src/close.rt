@@ -60,7 +60,7 @@ pub fn settle_or_drop<S: Shadows>(
     ensures fewer { is_none result ≡ true → count_in S.Shadows (stand shadows.new pool.new ram.new) ≡ 0 }
     ensures told { is_none result ≡ false
         → Tells state.now.tables state.now.wrote (sight S.Shadows shadows.old ram.old) (sight S.Shadows shadows.new ram.new) }
-    ensures value { S.value shadows.new ≡ S.value shadows.old }
+    ensures cr3 { S.cr3 shadows.new ≡ S.cr3 shadows.old }
     ensures has_tables_under { OpensFor S.Shadows (pages_through state.now)
         (stand shadows.old pool.old ram.old) (stand shadows.new pool.new ram.new) }
     ensures ready { (out : ℕ → Bool) (m : Setting) (cpu : Cpu) → m.frames ≡ state.now.control.frames
@@ -132,7 +132,7 @@ fn drop_one<S: Shadows>(shadows: &mut S, ram: &mut Ram, page: u32)
         → S.slots shadows.new ram.new other ≡ S.slots shadows.old ram.old other }
     ensures read_from { (f : ℕ) → S.read_from shadows.new f ≡ S.read_from shadows.old f }
     ensures stale { S.stale shadows.new ≡ S.stale shadows.old }
-    ensures value { S.value shadows.new ≡ S.value shadows.old }
+    ensures cr3 { S.cr3 shadows.new ≡ S.cr3 shadows.old }
     ensures other_roots { AreSame (S.other_roots shadows.old ram.old) (S.other_roots shadows.new ram.new) }
     ensures has_tables_under { (indices : ℕ → Bool) → S.has_tables_under shadows.old ram.old indices
         → S.has_tables_under shadows.new ram.new indices }
@@ -155,7 +155,7 @@ fn drop_pages<S: Shadows>(shadows: &mut S, ram: &mut Ram, pages: &[u32])
         → (S.slots shadows.new ram.new page ≡ None) ⊎ (S.slots shadows.new ram.new page ≡ S.slots shadows.old ram.old page) }
     ensures read_from { (f : ℕ) → S.read_from shadows.new f ≡ S.read_from shadows.old f }
     ensures stale { S.stale shadows.new ≡ S.stale shadows.old }
-    ensures value { S.value shadows.new ≡ S.value shadows.old }
+    ensures cr3 { S.cr3 shadows.new ≡ S.cr3 shadows.old }
     ensures other_roots { AreSame (S.other_roots shadows.old ram.old) (S.other_roots shadows.new ram.new) }
     ensures has_tables_under { (indices : ℕ → Bool) → S.has_tables_under shadows.old ram.old indices
         → S.has_tables_under shadows.new ram.new indices }
@@ -182,7 +182,7 @@ fn make_way<S: Shadows>(
     ensures emptied { wanted ≡ true → IsBare (sight S.Shadows shadows.new ram.new) }
     ensures sheds { wanted ≡ false → 2 ≤ free_in (stand shadows.old pool.old ram.old)
         → Sheds pages.now (sight S.Shadows shadows.old ram.old) (sight S.Shadows shadows.new ram.new) }
-    ensures value { S.value shadows.new ≡ S.value shadows.old }
+    ensures cr3 { S.cr3 shadows.new ≡ S.cr3 shadows.old }
     ensures has_tables_under { OpensNoMore S.Shadows (stand shadows.old pool.old ram.old) (stand shadows.new pool.new ram.new) }
     ensures fewer { count_in S.Shadows (stand shadows.new pool.new ram.new) ≤ count_in S.Shadows (stand shadows.old pool.old ram.old) }
     ensures shown { (image : Image) (wp : Bool)

@@ -27,7 +27,7 @@ returns-clause-begins g c = record {
       let old = c.args.running.now in
       let d = c.renew in
       subst (λ (l : List ℕ). IsReady of_roots (ground image old.frames) old.cpu d.new.self l) (sym (g.met.H.Host.bytes_changed c.args.host.now d.new.ram))
-      (none_ready of_roots (λ page. false) (ground image old.frames) old.cpu d.new.self d.new.ram (d.ensures.known.value ∙ h.value_is) d.ensures.none d.ensures.other_roots);
+      (none_ready of_roots (λ page. false) (ground image old.frames) old.cpu d.new.self d.new.ram (d.ensures.known.cr3 ∙ h.cr3_is) d.ensures.none d.ensures.other_roots);
   state = λ m is.
       let old = c.args.running.now in
       let d = c.renew in

@@ -11,7 +11,7 @@ invariant-loop-index g l = record {
   gone : GoneBelow l.index (g.S.Shadows.slots l.shadows l.ram);
   read_from : (f : ℕ) → g.S.Shadows.read_from l.shadows f ≡ g.S.Shadows.read_from l.fn.shadows f;
   stale : g.S.Shadows.stale l.shadows ≡ g.S.Shadows.stale l.fn.shadows;
-  value : g.S.Shadows.value l.shadows ≡ g.S.Shadows.value l.fn.shadows;
+  cr3 : g.S.Shadows.cr3 l.shadows ≡ g.S.Shadows.cr3 l.fn.shadows;
   other_roots : AreSame (g.S.Shadows.other_roots l.fn.shadows l.fn.ram) (g.S.Shadows.other_roots l.shadows l.ram);
   has_tables_under : (indices : ℕ → Bool) → g.S.Shadows.has_tables_under l.fn.shadows l.fn.ram indices → g.S.Shadows.has_tables_under l.shadows l.ram indices;
   frames : g.S.Shadows.frames l.shadows l.ram ≡ g.S.Shadows.frames l.fn.shadows l.fn.ram;

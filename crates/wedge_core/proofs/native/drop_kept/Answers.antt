@@ -11,7 +11,7 @@ use Rattle.wedge_core.proofs.native.drop_kept.Goals as goal
 pub returns-clause-beside : goal.returns-clause-beside
 returns-clause-beside g c = record {
   ready = λ m frames h.
-      none_ready g.S.Shadows (λ page. false) m c.args.running.now.cpu c.drop_all.new.self c.drop_all.new.ram (c.drop_all.ensures.known.value ∙ h.value_is) c.drop_all.ensures.none c.drop_all.ensures.other_roots;
+      none_ready g.S.Shadows (λ page. false) m c.args.running.now.cpu c.drop_all.new.self c.drop_all.new.ram (c.drop_all.ensures.known.cr3 ∙ h.cr3_is) c.drop_all.ensures.none c.drop_all.ensures.other_roots;
   back = refl;
   has_tables_under = c.drop_all.ensures.has_tables_under;
   fewer =

@@ -23,7 +23,7 @@ returns-clause-beside g c = λ any. record {
       let d = c.drop_dirs in
       let low = held.behind in
       let front = front_same m.frames pool pool c.args.ram.now d.new.ram _ _ (omega (arith, frames, low)) held.owns (d.ensures.moves pool held.owns) in
-      fewer_ready g.S.Shadows (λ page. false) (λ page. false) m running.cpu running.shadows d.new.shadows c.args.ram.now d.new.ram d.ensures.value
+      fewer_ready g.S.Shadows (λ page. false) (λ page. false) m running.cpu running.shadows d.new.shadows c.args.ram.now d.new.ram d.ensures.cr3
       (λ un. sym d.ensures.stale ∙ un) (λ f n. d.ensures.read_from f ∙ n)
       (λ page lt o. inl (d.ensures.none page lt))
       (same_shed _ _ d.ensures.other_roots) (shown_same m c.args.ram.now d.new.ram front) h;

@@ -157,7 +157,7 @@ returns-clause-settled g c = record {
       ∙ ap (λ b. b || list_any (read_from n.shadows) st.wrote) c.note_tables.ensures.stale
       ∙ ap (λ b. stale old || b) (any-same (read_by (read_from old) st.tables) (read_from n.shadows) st.wrote
       (λ f. c.note_tables.ensures.read_from f ∙ ap (λ (fs : List ℕ). read_by (read_from old) fs f) c.as_slice.ensures));
-  value = c.fill_pages-filled.ensures.rest.value ∙ c.tell_written.ensures.known.value ∙ c.note_tables.ensures.value;
+  cr3 = c.fill_pages-filled.ensures.rest.cr3 ∙ c.tell_written.ensures.known.cr3 ∙ c.note_tables.ensures.cr3;
   other_roots =
       let a = g.S.Shadows.other_roots in let n = c.note_tables.new in let t = c.tell_written.new in let u = c.fill_pages-filled.new in
       let st = c.args.state.now in

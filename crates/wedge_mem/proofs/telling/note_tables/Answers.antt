@@ -12,7 +12,7 @@ loop-frame-init g c =
     record {
       read_from = first-read_from (g.S.Shadows.read_from c.args.shadows.now);
       stale = refl;
-      value = refl;
+      cr3 = refl;
       other_roots = lose-none a a (same-refl a);
       stands = c.requires.stands;
       slots = none-loses _ _;
@@ -30,7 +30,7 @@ loop-frame-preserved g c =
     record {
       read_from = more-read_from c.args.tables.now l.frame-index (g.S.Shadows.read_from c.args.shadows.now) (g.S.Shadows.read_from l.shadows) (g.S.Shadows.read_from n.shadows) c.loop-frame-test.true e.read_from l.invariant.read_from;
       stale = e.stale ∙ l.invariant.stale;
-      value = e.value ∙ l.invariant.value;
+      cr3 = e.cr3 ∙ l.invariant.cr3;
       other_roots = more-lose c.args.tables.now l.frame-index (a c.args.shadows.now c.args.ram.now) (a l.shadows l.ram) (a n.shadows n.ram) c.loop-frame-test.true l.invariant.other_roots e.other_roots;
       stands = e.stands;
       slots = more-loses c.args.tables.now l.frame-index (g.S.Shadows.slots c.args.shadows.now c.args.ram.now) (g.S.Shadows.slots l.shadows l.ram) (g.S.Shadows.slots n.shadows n.ram) c.loop-frame-test.true l.invariant.slots e.slots;

@@ -10,7 +10,7 @@ abbrev pub invariant-loop-frame : goal.invariant-loop-frame
 invariant-loop-frame g l = record {
   read_from : (frame : ℕ) → g.S.Shadows.read_from l.shadows frame ≡ read_by (g.S.Shadows.read_from l.fn.shadows) (take l.frame-index l.tables) frame;
   stale : g.S.Shadows.stale l.shadows ≡ g.S.Shadows.stale l.fn.shadows;
-  value : g.S.Shadows.value l.shadows ≡ g.S.Shadows.value l.fn.shadows;
+  cr3 : g.S.Shadows.cr3 l.shadows ≡ g.S.Shadows.cr3 l.fn.shadows;
   other_roots : LoseWrites (guest_frames (take l.frame-index l.tables)) (g.S.Shadows.other_roots l.fn.shadows l.fn.ram) (g.S.Shadows.other_roots l.shadows l.ram);
   stands : ∥ g.S.Shadows.stands l.shadows l.ram ∥₁;
   slots : LosesSome (guest_frames (take l.frame-index l.tables)) (g.S.Shadows.slots l.fn.shadows l.fn.ram) (g.S.Shadows.slots l.shadows l.ram);

@@ -20,7 +20,7 @@ loop-frame-init g c =
         read_from = λ frame h. refl;
         noted_less = λ frame h. h;
         stale = first-stale (g.S.Shadows.stale c.args.shadows.now);
-        value = refl;
+        cr3 = refl;
         write_protected = λ f h. h;
         untracked = λ frame h. absurd (true-false (sym h));
       };
@@ -45,7 +45,7 @@ loop-frame-preserved g c =
         read_from = read_from-less wrote l.frame-index (read_from c.args.shadows.now) (read_from l.shadows) (read_from n.self) c.loop-frame-test.true e.known.read_from k.read_from;
         noted_less = less-read_from (get_or wrote l.frame-index 0) (read_from c.args.shadows.now) (read_from l.shadows) (read_from n.self) e.known.read_from e.known.read_before k.noted_less;
         stale = more-stale wrote l.frame-index (read_from c.args.shadows.now) (read_from l.shadows) (stale c.args.shadows.now) (stale l.shadows) (stale n.self) c.loop-frame-test.true k.stale e.known.stale k.noted_less k.read_from;
-        value = e.known.value ∙ k.value;
+        cr3 = e.known.cr3 ∙ k.cr3;
         write_protected = λ x h. k.write_protected x (e.known.write_protected x h);
         untracked = untracked-more wrote l.frame-index (g.S.Shadows.write_protected l.shadows) (g.S.Shadows.write_protected n.self) c.loop-frame-test.true e.known.write_protected e.known.untracked k.untracked;
       };

@@ -32,7 +32,7 @@ returns-else-not-is_all-clause-ready g c = λ m pages low h.
 pub returns-then-are_rules_changed-clause-ready : goal.returns-then-are_rules_changed-clause-ready
 returns-then-are_rules_changed-clause-ready g c = λ m pages low h.
     none_ready g.S.Shadows (left_out c.args.worked.now.dropped pages) m (record c.args.worked.now.cpu { cr3 = c.args.before.now.cr3 }) c.drop_all.new.self c.drop_all.new.ram
-    (c.drop_all.ensures.known.value ∙ h.value_is) c.drop_all.ensures.none c.drop_all.ensures.other_roots
+    (c.drop_all.ensures.known.cr3 ∙ h.cr3_is) c.drop_all.ensures.none c.drop_all.ensures.other_roots
 
 pub drop_from-requires-clause-page : goal.drop_from-requires-clause-page
 drop_from-requires-clause-page g c = c.requires.page

@@ -25,7 +25,7 @@ pub returns-in-Page-clause-ready : goal.returns-in-Page-clause-ready
 returns-in-Page-clause-ready g c = λ m cpu pages low all h.
     let moves = c.drop_page.ensures.moves c.args.pool.now c.requires.owned.owns in
     let front = front_same m.frames c.args.pool.now c.args.pool.now c.args.ram.now c.drop_page.new.ram _ _ low c.requires.owned.owns moves in
-    fewer_ready g.S.Shadows (leaving (dropped.Page c.in-Page.page) pages) (λ page. false) m cpu c.args.shadows.now c.drop_page.new.self c.args.ram.now c.drop_page.new.ram c.drop_page.ensures.beside.value
+    fewer_ready g.S.Shadows (leaving (dropped.Page c.in-Page.page) pages) (λ page. false) m cpu c.args.shadows.now c.drop_page.new.self c.args.ram.now c.drop_page.new.ram c.drop_page.ensures.beside.cr3
     (λ un. sym c.drop_page.ensures.beside.stale ∙ un) (λ f n. c.drop_page.ensures.beside.read_from f ∙ n)
     (λ page lt o. elim (eqb_tells page c.in-Page.page) [
       | inl e ↦ inl (subst (λ (k : ℕ). g.S.Shadows.slots c.drop_page.new.self c.drop_page.new.ram k ≡ None) (sym e.1) c.drop_page.ensures.turns.there)
@@ -38,7 +38,7 @@ pub returns-in-Dir-clause-ready : goal.returns-in-Dir-clause-ready
 returns-in-Dir-clause-ready g c = λ m cpu pages low all h.
     let moves = c.drop_dir.ensures.moves c.args.pool.now c.requires.owned.owns in
     let front = front_same m.frames c.args.pool.now c.args.pool.now c.args.ram.now c.drop_dir.new.ram _ _ low c.requires.owned.owns moves in
-    fewer_ready g.S.Shadows (leaving (dropped.Dir c.in-Dir.index) pages) (λ page. false) m cpu c.args.shadows.now c.drop_dir.new.self c.args.ram.now c.drop_dir.new.ram c.drop_dir.ensures.beside.value
+    fewer_ready g.S.Shadows (leaving (dropped.Dir c.in-Dir.index) pages) (λ page. false) m cpu c.args.shadows.now c.drop_dir.new.self c.args.ram.now c.drop_dir.new.ram c.drop_dir.ensures.beside.cr3
     (λ un. sym c.drop_dir.ensures.beside.stale ∙ un) (λ f n. c.drop_dir.ensures.beside.read_from f ∙ n)
     (λ page lt o. elim (eqb_tells (page / 1024) c.in-Dir.index) [
       | inl e ↦ inl (c.drop_dir.ensures.loses.gone page lt e.1)

@@ -9,8 +9,8 @@ returns-then-page-lt-PAGES-clause-read_from g c = c.drop_page.ensures.beside.rea
 pub returns-then-page-lt-PAGES-clause-stale : goal.returns-then-page-lt-PAGES-clause-stale
 returns-then-page-lt-PAGES-clause-stale g c = c.drop_page.ensures.beside.stale
 
-pub returns-then-page-lt-PAGES-clause-value : goal.returns-then-page-lt-PAGES-clause-value
-returns-then-page-lt-PAGES-clause-value g c = c.drop_page.ensures.beside.value
+pub returns-then-page-lt-PAGES-clause-cr3 : goal.returns-then-page-lt-PAGES-clause-cr3
+returns-then-page-lt-PAGES-clause-cr3 g c = c.drop_page.ensures.beside.cr3
 
 pub returns-then-page-lt-PAGES-clause-other_roots : goal.returns-then-page-lt-PAGES-clause-other_roots
 returns-then-page-lt-PAGES-clause-other_roots g c = c.drop_page.ensures.beside.other_roots

@@ -9,7 +9,7 @@ use Rattle.wedge_step.proofs.close.load.Goals as goal
 
 module _ (g : Over) (c : goal.After-switch g) where
   switched : Switched g.S.Shadows c.args.cr3 c.make_way.new.shadows c.switch.new.self c.make_way.new.ram c.switch.new.ram
-  switched = record { value_is = c.switch.ensures.value; present = c.switch.ensures.present; beside = c.switch.ensures.other_roots }
+  switched = record { cr3_is = c.switch.ensures.loads; present = c.switch.ensures.present; beside = c.switch.ensures.other_roots }
 
 pub returns-clause-fewer : goal.returns-clause-fewer
 returns-clause-fewer g c =
@@ -59,7 +59,7 @@ returns-clause-loads g c = λ w enough.
     let s = c.switch.ensures in
     record {
       between = sight g.S.Shadows c.make_way.new.shadows c.make_way.new.ram;
-      value = e.value;
+      same_cr3 = e.cr3;
       sheds = e.sheds w enough;
       present = s.present;
       put = s.other_roots;

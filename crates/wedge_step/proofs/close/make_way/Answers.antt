@@ -50,14 +50,14 @@ returns-else-free-lt2-clause-ready g c = λ m cpu low h.
     let d = c.drop_pages in
     let moves = d.ensures.moves c.args.pool.now c.requires.owned.owns in
     let front = front_same m.frames c.args.pool.now c.args.pool.now c.args.ram.now d.new.ram _ _ low c.requires.owned.owns moves in
-    fewer_ready g.S.Shadows (λ page. is_among page c.args.pages.now) (λ page. false) m cpu c.args.shadows.now d.new.shadows c.args.ram.now d.new.ram d.ensures.value
+    fewer_ready g.S.Shadows (λ page. is_among page c.args.pages.now) (λ page. false) m cpu c.args.shadows.now d.new.shadows c.args.ram.now d.new.ram d.ensures.cr3
     (λ un. sym d.ensures.stale ∙ un) (λ f n. d.ensures.read_from f ∙ n)
     (λ page lt o. chosen_out (is_among page c.args.pages.now) _ _ (d.ensures.gone page lt) (d.ensures.others page lt))
     (same_shed _ _ d.ensures.other_roots) (shown_same m c.args.ram.now d.new.ram front) h
 
 pub returns-then-free-lt2-clause-ready : goal.returns-then-free-lt2-clause-ready
 returns-then-free-lt2-clause-ready g c = λ m cpu low h.
-    none_ready g.S.Shadows (λ page. false) m cpu c.drop_all.new.self c.drop_all.new.ram (c.drop_all.ensures.known.value ∙ h.value_is) c.drop_all.ensures.none c.drop_all.ensures.other_roots
+    none_ready g.S.Shadows (λ page. false) m cpu c.drop_all.new.self c.drop_all.new.ram (c.drop_all.ensures.known.cr3 ∙ h.cr3_is) c.drop_all.ensures.none c.drop_all.ensures.other_roots
 
 pub returns-then-free-lt2-clause-fewer : goal.returns-then-free-lt2-clause-fewer
 returns-then-free-lt2-clause-fewer g c =
@@ -75,14 +75,14 @@ drop_all-requires-clause-owns g c = c.requires.owned.owns
 pub drop_pages-requires : goal.drop_pages-requires
 drop_pages-requires g c = record { stands = c.requires.owned.stands }
 
-pub returns-then-free-lt2-clause-value : goal.returns-then-free-lt2-clause-value
-returns-then-free-lt2-clause-value g c = c.drop_all.ensures.known.value
+pub returns-then-free-lt2-clause-cr3 : goal.returns-then-free-lt2-clause-cr3
+returns-then-free-lt2-clause-cr3 g c = c.drop_all.ensures.known.cr3
 
 pub returns-then-free-lt2-clause-has_tables_under : goal.returns-then-free-lt2-clause-has_tables_under
 returns-then-free-lt2-clause-has_tables_under g c = c.drop_all.ensures.has_tables_under
 
-pub returns-else-free-lt2-clause-value : goal.returns-else-free-lt2-clause-value
-returns-else-free-lt2-clause-value g c = c.drop_pages.ensures.value
+pub returns-else-free-lt2-clause-cr3 : goal.returns-else-free-lt2-clause-cr3
+returns-else-free-lt2-clause-cr3 g c = c.drop_pages.ensures.cr3
 
 pub returns-else-free-lt2-clause-has_tables_under : goal.returns-else-free-lt2-clause-has_tables_under
 returns-else-free-lt2-clause-has_tables_under g c = c.drop_pages.ensures.has_tables_under

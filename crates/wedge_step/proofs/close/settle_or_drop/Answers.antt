@@ -79,7 +79,7 @@ module _ (g : Over) (c : goal.After-settle g) where
     at = λ page lt. g.met.S.Shadows.entry_at c.settle.new.shadows c.settle.new.ram page lt;
     noted_is = c.settle.ensures.settled.read_from;
     marked_is = c.settle.ensures.settled.stale;
-    value_is = c.settle.ensures.settled.value;
+    cr3_is = c.settle.ensures.settled.cr3;
     others_are = c.settle.ensures.settled.other_roots;
   }
 
@@ -108,7 +108,7 @@ returns-then-not-are_open-clause-fewer g c = λ e.
 
 pub returns-then-not-are_open-clause-ready : goal.returns-then-not-are_open-clause-ready
 returns-then-not-are_open-clause-ready g c = λ out m cpu frames h.
-    none_ready g.S.Shadows out m cpu c.drop_all.new.self c.drop_all.new.ram (c.drop_all.ensures.known.value ∙ h.value_is) c.drop_all.ensures.none c.drop_all.ensures.other_roots
+    none_ready g.S.Shadows out m cpu c.drop_all.new.self c.drop_all.new.ram (c.drop_all.ensures.known.cr3 ∙ h.cr3_is) c.drop_all.ensures.none c.drop_all.ensures.other_roots
 
 pub returns-clause-has_tables_under : goal.returns-clause-has_tables_under
 returns-clause-has_tables_under g c = λ indices all o. c.settle.ensures.has_tables_under indices all o
@@ -119,14 +119,14 @@ returns-then-not-are_open-clause-told g c = λ e. absurd (let f : true ≡ false
 pub returns-then-not-are_open-clause-has_tables_under : goal.returns-then-not-are_open-clause-has_tables_under
 returns-then-not-are_open-clause-has_tables_under g c = λ indices all o. c.drop_all.ensures.has_tables_under indices o
 
-pub returns-then-not-are_open-clause-value : goal.returns-then-not-are_open-clause-value
-returns-then-not-are_open-clause-value g c = c.drop_all.ensures.known.value
+pub returns-then-not-are_open-clause-cr3 : goal.returns-then-not-are_open-clause-cr3
+returns-then-not-are_open-clause-cr3 g c = c.drop_all.ensures.known.cr3
 
 pub returns-then-not-are_open-clause-filled : goal.returns-then-not-are_open-clause-filled
 returns-then-not-are_open-clause-filled g c = tt
 
-pub returns-clause-value : goal.returns-clause-value
-returns-clause-value g c = c.settle.ensures.settled.value
+pub returns-clause-cr3 : goal.returns-clause-cr3
+returns-clause-cr3 g c = c.settle.ensures.settled.cr3
 
 pub settle-requires : goal.settle-requires
 settle-requires g c = record { sound = c.requires.sound }

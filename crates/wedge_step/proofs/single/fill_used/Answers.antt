@@ -55,10 +55,10 @@ pub returns-in-Some-clause-same : goal.returns-in-Some-clause-same
 returns-in-Some-clause-same g c = record { before = refl; back = refl; same = refl }
 
 pub returns-in-None-clause-told : goal.returns-in-None-clause-told
-returns-in-None-clause-told g c = record { value = c.settle_or_drop-settled.ensures.value; tells = λ after. absurd (let f : true ≡ false = after in cc) }
+returns-in-None-clause-told g c = record { same_cr3 = c.settle_or_drop-settled.ensures.cr3; tells = λ after. absurd (let f : true ≡ false = after in cc) }
 
 pub returns-in-Some-clause-told : goal.returns-in-Some-clause-told
-returns-in-Some-clause-told g c = record { value = c.settle_or_drop-settled.ensures.value; tells = λ after. c.settle_or_drop-settled.ensures.told (ap Rattle.std.specs.Prelude.is_none c.in-Some.is) }
+returns-in-Some-clause-told g c = record { same_cr3 = c.settle_or_drop-settled.ensures.cr3; tells = λ after. c.settle_or_drop-settled.ensures.told (ap Rattle.std.specs.Prelude.is_none c.in-Some.is) }
 
 pub returns-in-None-clause-counts : goal.returns-in-None-clause-counts
 returns-in-None-clause-counts g c = record {

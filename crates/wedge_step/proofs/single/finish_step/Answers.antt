@@ -79,7 +79,7 @@ returns-clause-ends g c = λ w may indices all o room.
     let enough : 2 ≤ length (free_list c.fill_used.new.pool c.fill_used.new.ram) = (let l = k.moved.moves.lengths in let r = room mid.shadows c.fill_used.new.ram k.moved.stands (k.has_tables_under indices all o) in omega (arith, l, r)) in
     ended c.args.worked.now.dropped old.cpu mid.cpu c.args.worked.now.cpu pages _ state.tables state.wrote set
     (sight g.S.Shadows old.shadows c.args.ram.now) (sight g.S.Shadows mid.shadows c.fill_used.new.ram) (sight g.S.Shadows new.shadows new.ram)
-    (ap (λ (r : Running g.row.S.Denot). r.cpu) k.same.same) k.told.value (λ page. sym (there page)) (k.left ∙ ap (λ (b : Bool). left_of b set) unlost) (k.told.tells unlost)
+    (ap (λ (r : Running g.row.S.Denot). r.cpu) k.same.same) k.told.same_cr3 (λ page. sym (there page)) (k.left ∙ ap (λ (b : Bool). left_of b set) unlost) (k.told.tells unlost)
     c.drop_and_switch-left.ensures.leaves.stay c.drop_and_switch-left.ensures.leaves.lost (λ rules out. c.drop_and_switch-left.ensures.leaves.loads rules out w enough)
 
 pub fill_used-requires-clause-under : goal.fill_used-requires-clause-under

@@ -15,7 +15,7 @@ returns-clause-released g c = let r = c.release.ensures.releases in record {
     none = r.none;
     entries = r.entries;
     other_roots = r.other_roots;
-    value = r.value;
+    same_cr3 = r.same_cr3;
     filled = subst (WereFilled (pages_kept of_roots c.release.new.self.shadows (g.H.Host.bytes c.release.new.host))) (ap (λ (x : Running Roots). x.fills) r.running) r.filled;
     moves = r.moves;
   };

@@ -12,7 +12,7 @@ pub returns-clause-known : goal.returns-clause-known
 returns-clause-known c = let r = c.args.self.now in record {
   read_from = λ frame. ap (λ (ps : List Pair). noted_of ps frame) c.drop_all.ensures.pairs ∙ no-reads frame;
   stale = ap mark_of c.drop_all.ensures.pairs;
-  value = emptied-value r.present r.others (pairs_of c.drop_all.new.self) c.drop_all.ensures.pairs;
+  cr3 = emptied-value r.present r.others (pairs_of c.drop_all.new.self) c.drop_all.ensures.pairs;
   write_protected = c.drop_all.ensures.write_protected;
 }
 

@@ -4,8 +4,8 @@ use Rattle.shadow_cache.proofs.Reloading.{reloaded, reloaded-write_protected}
 use Rattle.shadow_cache.proofs.Openings.{loaded-has_tables_under}
 use Rattle.shadow_cache.proofs.reloads.RootsReloads.switch.Goals as goal
 
-pub returns-clause-value : goal.returns-clause-value
-returns-clause-value c =
+pub returns-clause-loads : goal.returns-clause-loads
+returns-clause-loads c =
     let r = c.args.self.now in
     (reloaded c.args.cr3 r.present r.others (pairs_of c.switch.new.self) c.args.ram.now c.switch.new.ram (had (pairs_of r) c.args.ram.now c.requires.stands).unmarked c.switch.ensures.switched).value
 

@@ -8,7 +8,7 @@ pub returns-clause-known : goal.returns-clause-known
 returns-clause-known c = let r = c.args.self.now in record {
   read_from = λ f h. emptied-reads r.present r.others (pairs_of c.drop_all.new.self) f c.drop_all.ensures.pairs h;
   stale = emptied-stale r.present r.others (pairs_of c.drop_all.new.self) c.drop_all.ensures.pairs;
-  value = emptied-value r.present r.others (pairs_of c.drop_all.new.self) c.drop_all.ensures.pairs;
+  cr3 = emptied-value r.present r.others (pairs_of c.drop_all.new.self) c.drop_all.ensures.pairs;
   write_protected = c.drop_all.ensures.write_protected;
 }
 

@@ -10,7 +10,7 @@ pub returns-clause-beside : goal.returns-clause-beside
 returns-clause-beside c = let r = c.args.self.now in record {
   read_from = λ f. ap (λ ps. noted_of ps f) c.drop_dir.ensures.same.0;
   stale = ap mark_of c.drop_dir.ensures.same.0;
-  value = ap value_of c.drop_dir.ensures.same.0;
+  cr3 = ap value_of c.drop_dir.ensures.same.0;
   other_roots = others-kept r.present r.others (pairs_of c.drop_dir.new.self) c.args.ram.now c.drop_dir.new.ram c.drop_dir.ensures.same.0 c.drop_dir.ensures.same.1;
   write_protected = ap tables_of c.drop_dir.ensures.same.0;
 }

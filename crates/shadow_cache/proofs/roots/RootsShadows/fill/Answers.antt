@@ -10,7 +10,7 @@ pub returns-clause-beside : goal.returns-clause-beside
 returns-clause-beside c = let r = c.args.self.now in record {
   read_from = λ f. ap (λ ps. noted_of ps f) c.fill.ensures.same.0;
   stale = ap mark_of c.fill.ensures.same.0;
-  value = ap value_of c.fill.ensures.same.0;
+  cr3 = ap value_of c.fill.ensures.same.0;
   other_roots = others-kept r.present r.others (pairs_of c.fill.new.self) c.args.ram.now c.fill.new.ram c.fill.ensures.same.0 c.fill.ensures.same.1;
   write_protected = ap tables_of c.fill.ensures.same.0;
 }

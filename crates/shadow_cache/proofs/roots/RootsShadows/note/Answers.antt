@@ -11,7 +11,7 @@ pub returns-clause-known : goal.returns-clause-known
 returns-clause-known c = let r = c.args.self.now in record {
   read_from = λ f. read_from-exact r.present r.others (pairs_of c.note.new.self) c.args.frame f (had (pairs_of r) c.args.ram.now c.requires.stands).sized.0 c.requires.frame c.note.ensures.pairs;
   stale = ap mark_of c.note.ensures.pairs;
-  value = ap value_of c.note.ensures.pairs;
+  cr3 = ap value_of c.note.ensures.pairs;
   write_protected = c.note.ensures.write_protected;
 }
 

@@ -9,7 +9,7 @@ returns-clause-known c = let r = c.args.self.now in record {
   read_from = λ f n. written-other r.present r.others (pairs_of c.written.new.self) c.args.frame f c.written.ensures.pairs n;
   read_before = written-there r.present r.others (pairs_of c.written.new.self) c.args.frame c.written.ensures.pairs;
   stale = written-stale r.present r.others (pairs_of c.written.new.self) c.args.frame c.written.ensures.pairs;
-  value = written-value r.present r.others (pairs_of c.written.new.self) c.args.frame c.written.ensures.pairs;
+  cr3 = written-value r.present r.others (pairs_of c.written.new.self) c.args.frame c.written.ensures.pairs;
   write_protected = c.written.ensures.frees.0;
   untracked = c.written.ensures.frees.1;
 }

@@ -28,7 +28,7 @@ returns-clause-releases g c =
       none = subst (λ (l : List ℕ). (page : ℕ) → page < 2 ^ 20 → roots.slots c.drop_all.new.self l page ≡ None) (sym (g.met.H.Host.bytes_changed c.args.host.now c.drop_all.new.ram)) c.drop_all.ensures.none;
       entries = subst (λ (l : List ℕ). entries_of (roots.slots c.drop_all.new.self l) ≡ empty) (sym (g.met.H.Host.bytes_changed c.args.host.now c.drop_all.new.ram)) c.drop_all.ensures.entries;
       other_roots = subst (λ (l : List ℕ). roots.other_roots c.drop_all.new.self l ≡ []) (sym (g.met.H.Host.bytes_changed c.args.host.now c.drop_all.new.ram)) c.drop_all.ensures.other_roots;
-      value = c.drop_all.ensures.known.value;
+      same_cr3 = c.drop_all.ensures.known.cr3;
       moves =
           let p = c.args.pool.now in
           let old = c.self.inside.running.shadows in
@@ -45,7 +45,7 @@ returns-clause-releases g c =
           let old = c.self.inside.running in
           let d = c.drop_all in
           subst (λ (l : List ℕ). IsReady of_roots (ground image old.frames) old.cpu d.new.self l) (sym (g.met.H.Host.bytes_changed c.args.host.now d.new.ram))
-          (none_ready of_roots (λ page. false) (ground image old.frames) old.cpu d.new.self d.new.ram (d.ensures.known.value ∙ h.value_is) d.ensures.none d.ensures.other_roots);
+          (none_ready of_roots (λ page. false) (ground image old.frames) old.cpu d.new.self d.new.ram (d.ensures.known.cr3 ∙ h.cr3_is) d.ensures.none d.ensures.other_roots);
       filled =
           let d = c.drop_all in
           let fills = c.self.inside.running.fills in

@@ -57,7 +57,7 @@ returns-in-Some-clause-settled g c = let s = rw c.in-Some.is at c.settle-filled.
   read_from = rw c.state-state.ensures.state at s.read_from;
   noted_only = rw c.state-state.ensures.state at s.noted_only;
   stale = rw c.state-state.ensures.state at s.stale;
-  value = s.value;
+  cr3 = s.cr3;
   other_roots = rw c.state-state.ensures.state at s.other_roots;
   untracked = rw c.state-state.ensures.state at s.untracked;
 }
@@ -69,7 +69,7 @@ returns-in-None-clause-settled g c = let s = rw c.in-None.is at c.settle-filled.
   read_from = rw c.state-state.ensures.state at s.read_from;
   noted_only = rw c.state-state.ensures.state at s.noted_only;
   stale = s.stale;
-  value = s.value;
+  cr3 = s.cr3;
   other_roots = s.other_roots;
   untracked = rw c.state-state.ensures.state at s.untracked;
 }
