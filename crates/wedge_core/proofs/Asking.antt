@@ -251,7 +251,7 @@ module _ (grants : Grants) (repeats : Again) (completes : NativeCompletes) (m : 
             completes m memory v (settled b t) w stands lends next_there p.insn p.len a.fetched a.reads a.writes a.translated
             (subst (λ (l : List ℕ). AreReached memory (directory (side_of (b.cpu.cpl == 3))) l (ranges_of p.insn b.cpu.regs)) fetched_same reached_all) p.regs p.stores effect_is
 
-        pub asks : (lost : Lost) → (lost.after ≡ false) × (lost.back ≡ false) → (after : State) → after ≡ settled b t → Asks m (view_by directory b.cpu) b false lost after memory
+        pub asks : (lost : Lost) → (lost.after ≡ false) × (lost.reloaded ≡ false) → (after : State) → after ≡ settled b t → Asks m (view_by directory b.cpu) b false lost after memory
         asks lost kept after e = subst (λ (x : State). Asks m (view_by directory b.cpu) b false lost x memory) (sym e) (record {
           kept = kept;
           regs = p.regs;

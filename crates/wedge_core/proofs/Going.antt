@@ -297,7 +297,7 @@ no_drop m now begins carried s dropped = absurd (let f : false ≡ true = droppe
 
 -- and goes
 pub going_on : (m : Setting) (old now new : State) (lost : Lost) (seen : Seen) (a b c : Counts) (told tells : Option (List ℕ)) (pages fills mid filled : ℕ) (wanted : Bool) (notes_on notes_after : List Note → Type 0) (begins : Type 0) (carried carried_then : Set → List Taken → State → Type 0)
-    → (g : Going m old now a b told tells pages fills mid wanted notes_on begins carried) → Goes m (eventful m now) lost seen new b c → new.step ≡ now.step + 1 → mid ≤ filled → CountsFills pages (len new.set) fills filled → (wanted ≡ true → lost.back ≡ false)
+    → (g : Going m old now a b told tells pages fills mid wanted notes_on begins carried) → Goes m (eventful m now) lost seen new b c → new.step ≡ now.step + 1 → mid ≤ filled → CountsFills pages (len new.set) fills filled → (wanted ≡ true → lost.reloaded ≡ false)
     → CarryLaws → CarriesPast m carried → StepCarries m now new lost begins carried carried_then
     → ((notes : List Note) → notes_on notes → notes_after (notes ++ notes_then lost now.step)) → Stepped m old now new seen a c told tells pages fills filled wanted notes_after begins carried_then
 going_on m old now new lost seen a b c told tells pages fills mid filled wanted notes_on notes_after begins carried carried_then g r count rises enough exact laws goes over on =

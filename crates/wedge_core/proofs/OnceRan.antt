@@ -294,8 +294,8 @@ module _ {S : Type 0} (shows : shadows.Ghosts S) where
           ap (λ (x : State). x.ram) state ∙ (f.stands.ram ∙ (ap (shown m) (sym r.memory_is) ∙ any_script image script g0.frames m2)),
         )
 
-    pub once_back : g1.lost.back ≡ false → g2.lost.back ≡ false
-    once_back back = ap (λ (l : Lost). l.back) lost_is ∙ back
+    pub once_back : g1.lost.reloaded ≡ false → g2.lost.reloaded ≡ false
+    once_back back = ap (λ (l : Lost). l.reloaded) lost_is ∙ back
 
 -- ---- steps that went otherwise
 

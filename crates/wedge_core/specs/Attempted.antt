@@ -33,7 +33,7 @@ module _ {S : Type 0} (g : shadows.Ghosts S) where
   pub record AttemptLeaves (image : Image) (wanted : Bool) (old new : Scene S) (result : Result Attempt Stop) : Type 0 where
     pub held : OnOk result (IsHeld g (ground image old.guest.frames) (record new.guest { step = old.guest.step + 1 }) new.pool new.memory)
     pub ready : OnOk result (IsReadyIn g (ground image old.guest.frames) new)
-    pub back : OnOk result (wanted ≡ true → new.guest.lost.back ≡ false)
+    pub reloaded : OnOk result (wanted ≡ true → new.guest.lost.reloaded ≡ false)
     pub count : WhereStepped result (new.guest.step ≡ old.guest.step + 1)
     pub asked : WhereAsked result
         (new.guest ≡ record old.guest { shadows = new.guest.shadows; held = new.guest.held; fills = new.guest.fills; lost = new.guest.lost })

@@ -26,7 +26,7 @@ pub record Idle (m : Setting) (b : State) (before : Bool) (lost : Lost) (seen : 
 -- translations that were kept before, or from none where all were dropped, but for what the step itself notes of its walks
 -- and writes.
 pub record Asks (m : Setting) (view : View) (b : State) (before : Bool) (lost : Lost) (new : State) (memory : List ℕ) : Type 0 where
-  pub kept : (lost.after ≡ false) × (lost.back ≡ false)
+  pub kept : (lost.after ≡ false) × (lost.reloaded ≡ false)
   pub regs : Regs
   pub completes : Completes m memory view new regs
   pub same : (report : Report) (then : State) → stepped m new ≡ Went report then

@@ -32,7 +32,7 @@ module _ {S : Type 0} (g : shadows.Ghosts S) where
   pub record StepLeaves (image : Image) (wanted : Bool) (old new : Scene S) (result : Result Seen Stop) : Type 0 where
     pub held : OnOk result (IsHeldIn g (ground image old.guest.frames) new)
     pub ready : OnOk result (IsReadyIn g (ground image old.guest.frames) new)
-    pub back : OnOk result (wanted ≡ true → new.guest.lost.back ≡ false)
+    pub reloaded : OnOk result (wanted ≡ true → new.guest.lost.reloaded ≡ false)
     pub count : OnOk result (new.guest.step ≡ old.guest.step + 1)
     pub stays : OnErr result (Stays old new)
 

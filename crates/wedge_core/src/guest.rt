@@ -291,7 +291,7 @@ fn adopt_in(
         lost: Lost {
             before: false,
             after: false,
-            back: false,
+            reloaded: false,
         },
     })
 }

@@ -94,7 +94,7 @@ pub fn begin_native<'t, S: Reloads + Drop>(
     requires able { IsAble running.old.cpu }
     requires runs { may_run running.old.cpu running.old.board image.now ≡ true }
     requires bound { running.old.step < 2 ^ 40 }
-    requires kept { (running.old.lost.before ≡ false) × (running.old.lost.back ≡ false) }
+    requires kept { (running.old.lost.before ≡ false) × (running.old.lost.reloaded ≡ false) }
     ensures attempts { Attempts S.Shadows image.now wanted (scene running.old pool.old ram.old)
         (scene running.new pool.new ram.new) result }
     ensures accounts { Accounts S.Shadows (scene running.old pool.old ram.old) (scene running.new pool.new ram.new) }
@@ -122,7 +122,7 @@ fn try_once<'t, S: Reloads + Drop>(
     requires bound { running.old.step < 2 ^ 40 }
     requires room { 8 ≤ length (free_list pool.old ram.old) }
     requires clear { IsClearIn S.Shadows image.now running.old.frames (scene running.old pool.old ram.old) }
-    requires kept { running.old.lost.back ≡ false }
+    requires kept { running.old.lost.reloaded ≡ false }
     ensures tries { TriesOnce S.Shadows image.now wanted (scene running.old pool.old ram.old)
         (scene running.new pool.new ram.new) result }
     ensures accounts { Accounts S.Shadows (scene running.old pool.old ram.old) (scene running.new pool.new ram.new) }

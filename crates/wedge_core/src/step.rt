@@ -52,7 +52,7 @@ pub fn one_step<'t, S: Reloads + Drop, H: Host>(
     running.lost = Lost {
         before: false,
         after: false,
-        back: false,
+        reloaded: false,
     };
     if !runs {
         return step_alone(running, pool, host.ram_mut(), image, text, wanted, state);
@@ -77,7 +77,7 @@ fn on_host<'t, S: Reloads + Drop, H: Host>(
     requires bound { running.old.step < 2 ^ 40 }
     requires room { H.retired host.old + 1 < 2 ^ 64 }
     requires runs { may_run running.old.cpu running.old.board image.now ≡ true }
-    requires kept { (running.old.lost.before ≡ false) × (running.old.lost.back ≡ false) }
+    requires kept { (running.old.lost.before ≡ false) × (running.old.lost.reloaded ≡ false) }
     ensures steps { StepsOnce S.Shadows image.now wanted (scene running.old pool.old (H.bytes host.old))
         (scene running.new pool.new (H.bytes host.new)) result (counts_of H.Host host.old) (counts_of H.Host host.new) }
     ensures accounts { Accounts S.Shadows (scene running.old pool.old (H.bytes host.old)) (scene running.new pool.new (H.bytes host.new)) }

@@ -72,18 +72,18 @@ module _ (m : Setting) (cpu : Cpu) (ram : List ℕ) (cr3 : ℕ) (tables : ℕ �
   }
 
 -- what is left behind a step
-pub is_left : (m : Setting) (new : State) (whole : Set) (lost : Lost) → (lost.back ≡ false → new.set ≡ left_of lost.after whole) → (lost.back ≡ true → Loosened m (with_set new whole) new.set) → IsLeft m new whole lost
-is_left m new whole lost exact back = record { allowed = by lost.back refl; exact = exact }
+pub is_left : (m : Setting) (new : State) (whole : Set) (lost : Lost) → (lost.reloaded ≡ false → new.set ≡ left_of lost.after whole) → (lost.reloaded ≡ true → Loosened m (with_set new whole) new.set) → IsLeft m new whole lost
+is_left m new whole lost exact back = record { allowed = by lost.reloaded refl; exact = exact }
   where
-    by : (b : Bool) → lost.back ≡ b → Loosened m (with_set new whole) new.set
+    by : (b : Bool) → lost.reloaded ≡ b → Loosened m (with_set new whole) new.set
     by true e = back e
     by false e = part_allowed m (with_set new whole) new.set (part_left lost.after new.set whole (exact e))
 
 -- and it stands for frames of the guest
-pub within_left : (n : ℕ) (slots : ℕ → Option Slot) (d : Dropped) (lost : Lost) (whole : Set) → (lost.back ≡ false → entries_of slots ≡ left_of lost.after (dropping d whole)) → AreWithin n whole → (lost.back ≡ true → AreWithin n (entries_of slots)) → AreWithin n (entries_of slots)
-within_left n slots d lost whole exact within back = by lost.back refl
+pub within_left : (n : ℕ) (slots : ℕ → Option Slot) (d : Dropped) (lost : Lost) (whole : Set) → (lost.reloaded ≡ false → entries_of slots ≡ left_of lost.after (dropping d whole)) → AreWithin n whole → (lost.reloaded ≡ true → AreWithin n (entries_of slots)) → AreWithin n (entries_of slots)
+within_left n slots d lost whole exact within back = by lost.reloaded refl
   where
-    by : (b : Bool) → lost.back ≡ b → AreWithin n (entries_of slots)
+    by : (b : Bool) → lost.reloaded ≡ b → AreWithin n (entries_of slots)
     by true e = back e
     by false e = part_within n (entries_of slots) whole (part_join _ _ _ (part_left lost.after (entries_of slots) (dropping d whole) (exact e)) (dropped_part d whole)) within
 

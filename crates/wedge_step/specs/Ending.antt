@@ -25,7 +25,7 @@ pub record IsWorked (before : Cpu) (state : StepState) (worked : Worked) : Type 
 -- nothing of the guest changed but what is kept, and how much of it
 pub record KeepsRest {S : Type 0} (old new : Running S) : Type 0 where
   pub before : new.lost.before ≡ old.lost.before
-  pub back : new.lost.back ≡ old.lost.back
+  pub reloaded : new.lost.reloaded ≡ old.lost.reloaded
   pub same : new ≡ record old { shadows = new.shadows; held = new.held; fills = new.fills; lost = new.lost }
 
 -- the processor is as the step left it, the count rose, and the board advanced

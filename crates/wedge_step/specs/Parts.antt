@@ -14,4 +14,4 @@ left_of dropped set = if dropped then empty else set
 -- CR3 and what was kept under the value came back, it is what a run may go on with.
 pub record IsLeft (m : Setting) (new : State) (whole : Set) (lost : Lost) : Type 0 where
   pub allowed : Loosened m (with_set new whole) new.set
-  pub exact : lost.back ≡ false → new.set ≡ left_of lost.after whole
+  pub exact : lost.reloaded ≡ false → new.set ≡ left_of lost.after whole

@@ -103,7 +103,7 @@ pub fn drop_from<S: Shadows>(shadows: &mut S, pool: &mut Pool, ram: &mut Ram, dr
 #[derive(Clone, Copy)]
 pub struct Left {
     pub none: bool,
-    pub back: bool,
+    pub reloaded: bool,
 }
 
 /// The rules by which rights are given and tables are read aren't the same: CR0.WP and CR4.PSE.
@@ -299,9 +299,9 @@ pub fn drop_and_switch<S: Reloads>(
     requires page { IsDropped worked.now.dropped }
     requires enough { 4 ≤ room_in S.Shadows (stand shadows.old pool.old ram.old) }
     ensures moved { Moved S.Shadows (stand shadows.old pool.old ram.old) (stand shadows.new pool.new ram.new) }
-    ensures left { result.back ≡ false → set_in S.Shadows (stand shadows.new pool.new ram.new)
+    ensures left { result.reloaded ≡ false → set_in S.Shadows (stand shadows.new pool.new ram.new)
         ≡ left_of result.none (dropping worked.now.dropped (set_in S.Shadows (stand shadows.old pool.old ram.old))) }
-    ensures wanted { wanted ≡ true → result.back ≡ false }
+    ensures wanted { wanted ≡ true → result.reloaded ≡ false }
     ensures leaves { Leaves worked.now before.now pages.now wanted (free_in (stand shadows.old pool.old ram.old))
         (sight S.Shadows shadows.old ram.old) (sight S.Shadows shadows.new ram.new) }
     ensures has_tables_under { OpensNoMore S.Shadows (stand shadows.old pool.old ram.old) (stand shadows.new pool.new ram.new) }
@@ -312,18 +312,18 @@ pub fn drop_and_switch<S: Reloads>(
     ensures ready { (m : Setting) → m.frames ≤ base_of pool.old → AreOpen m.image (wp_of before.now) (S.slots shadows.old ram.old)
         → IsReadyButIn S.Shadows (leaving worked.now.dropped pages.now) m before.now (stand shadows.old pool.old ram.old)
         → IsReadyIn S.Shadows m worked.now.cpu (stand shadows.new pool.new ram.new)
-        × (result.back ≡ true → AreFoundIn S.Shadows m worked.now.cpu worked.now.cpu.cr3 (stand shadows.new pool.new ram.new)) }
+        × (result.reloaded ≡ true → AreFoundIn S.Shadows m worked.now.cpu worked.now.cpu.cr3 (stand shadows.new pool.new ram.new)) }
 {
     let changed = drop_by(shadows, pool, ram, before, worked);
     if is_through(before, worked, changed) {
         return Left {
             none: is_lost(changed, worked.dropped),
-            back: false,
+            reloaded: false,
         };
     }
     load(shadows, pool, ram, worked.cpu.cr3, pages, wanted);
     Left {
         none: is_lost(true, worked.dropped),
-        back: !wanted,
+        reloaded: !wanted,
     }
 }

@@ -10,7 +10,7 @@ use shadow_tables::Shadows;
 pub struct Lost {
     pub before: bool,
     pub after: bool,
-    pub back: bool,
+    pub reloaded: bool,
 }
 
 /// A guest between two of its steps: its processor and board, how many steps were done, how many frames its memory has,

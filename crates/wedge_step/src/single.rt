@@ -68,7 +68,7 @@ pub fn step_alone<'t, S: Reloads + Drop>(
     requires between { IsBetween S.Shadows image.now (scene running.old pool.old ram.old) }
     requires bound { running.old.step < 2 ^ 40 }
     ensures between { OnOk result (IsBetween S.Shadows image.now (scene running.new pool.new ram.new)) }
-    ensures wanted { OnOk result (wanted ≡ true → running.new.lost.back ≡ false) }
+    ensures wanted { OnOk result (wanted ≡ true → running.new.lost.reloaded ≡ false) }
     ensures carried { OnOk result (CarriesOn S.Shadows image.now wanted (set_in S.Shadows (stand running.old.shadows pool.old ram.old))
         (scene running.old pool.old ram.old) (scene running.new pool.new ram.new)) }
     ensures step { (script : Events) → let m = wedge image.now script running.old.frames in
@@ -161,10 +161,10 @@ pub fn finish_step<S: Reloads + Drop>(
     requires counts { MayEnd S.Shadows (scene running.old pool.old ram.old) }
     requires worked { IsWorked running.old.cpu state.now worked.now }
     ensures moved { Moved S.Shadows (stand running.old.shadows pool.old ram.old) (stand running.new.shadows pool.new ram.new) }
-    ensures left { running.new.lost.back ≡ false → set_in S.Shadows (stand running.new.shadows pool.new ram.new)
+    ensures left { running.new.lost.reloaded ≡ false → set_in S.Shadows (stand running.new.shadows pool.new ram.new)
         ≡ left_of running.new.lost.after (dropping worked.now.dropped
         (set_behind S.Shadows (stand running.old.shadows pool.old ram.old) state.now)) }
-    ensures wanted { wanted ≡ true → running.new.lost.back ≡ false }
+    ensures wanted { wanted ≡ true → running.new.lost.reloaded ≡ false }
     ensures has_tables_under { OpensFor S.Shadows (pages_through state.now)
         (stand running.old.shadows pool.old ram.old) (stand running.new.shadows pool.new ram.new) }
     ensures ends { wanted ≡ false
@@ -179,7 +179,7 @@ pub fn finish_step<S: Reloads + Drop>(
         → IsReadyBehindIn S.Shadows (leaving worked.now.dropped (pages_through state.now)) m running.old.cpu
         (stand running.old.shadows pool.old ram.old) state.now
         → IsReadyIn S.Shadows m running.new.cpu (stand running.new.shadows pool.new ram.new)
-        × (running.new.lost.back ≡ true
+        × (running.new.lost.reloaded ≡ true
         → AreFoundIn S.Shadows m running.new.cpu running.new.cpu.cr3 (stand running.new.shadows pool.new ram.new)) }
     ensures shows { (image : Image) → count ≡ text_pages image
         → AreOpen image state.now.control.wp (S.slots running.old.shadows ram.old)
@@ -200,7 +200,7 @@ pub fn finish_step<S: Reloads + Drop>(
         wanted,
     );
     running.lost.after |= left.none;
-    running.lost.back = left.back;
+    running.lost.reloaded = left.reloaded;
     running.held = all - pool.free();
     pass(
         &mut running.cpu,

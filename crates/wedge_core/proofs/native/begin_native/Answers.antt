@@ -157,7 +157,7 @@ pub try_once-requires-clause-clear : goal.try_once-requires-clause-clear
 try_once-requires-clause-clear g c = λ script. subst (λ (k : ℕ). IsClear (wedge c.args.image.now script k) (state_of g.S.Shadows (wedge c.args.image.now script k) c.make_room.new.running c.make_room.new.ram)) (sym (ap (λ (r : Running g.row.S.Denot). r.frames) c.make_room.ensures.same)) (c.make_room.ensures.clear script)
 
 pub try_once-requires-clause-kept : goal.try_once-requires-clause-kept
-try_once-requires-clause-kept g c = c.make_room.ensures.beside.back ∙ c.requires.kept.1
+try_once-requires-clause-kept g c = c.make_room.ensures.beside.reloaded ∙ c.requires.kept.1
 
 -- ---- all together
 
@@ -202,7 +202,7 @@ returns-clause-attempts g c = record {
         let new = c.try_once.new.running in
         subst (λ (r : Running g.row.S.Denot). OnOk c.try_once.result (IsReady g.S.Shadows (ground c.args.image.now r.frames) new.cpu new.shadows c.try_once.new.ram)) c.make_room.ensures.same
         c.try_once.ensures.tries.leaves.ready;
-    back = c.try_once.ensures.tries.leaves.back;
+    reloaded = c.try_once.ensures.tries.leaves.reloaded;
     count = subst (λ (r : Running g.row.S.Denot). WhereStepped c.try_once.result (c.try_once.new.running.step ≡ r.step + 1)) c.make_room.ensures.same c.try_once.ensures.tries.leaves.count;
     asked =
         let new = c.try_once.new.running in subst (λ (r : Running g.row.S.Denot). WhereAsked c.try_once.result (new ≡ record r { shadows = new.shadows; held = new.held; fills = new.fills; lost = new.lost })) c.make_room.ensures.same c.try_once.ensures.tries.leaves.asked;

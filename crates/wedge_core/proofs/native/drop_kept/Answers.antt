@@ -12,7 +12,7 @@ pub returns-clause-beside : goal.returns-clause-beside
 returns-clause-beside g c = record {
   ready = λ m frames h.
       none_ready g.S.Shadows (λ page. false) m c.args.running.now.cpu c.drop_all.new.self c.drop_all.new.ram (c.drop_all.ensures.known.cr3 ∙ h.cr3_is) c.drop_all.ensures.none c.drop_all.ensures.other_roots;
-  back = refl;
+  reloaded = refl;
   has_tables_under = c.drop_all.ensures.has_tables_under;
   fewer =
       let none = none_pages g.S.Shadows c.drop_all.new.self c.drop_all.new.ram c.drop_all.ensures.entries c.drop_all.ensures.other_roots in

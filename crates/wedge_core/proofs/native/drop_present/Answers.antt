@@ -27,7 +27,7 @@ returns-clause-beside g c = λ any. record {
       (λ un. sym d.ensures.stale ∙ un) (λ f n. d.ensures.read_from f ∙ n)
       (λ page lt o. inl (d.ensures.none page lt))
       (same_shed _ _ d.ensures.other_roots) (shown_same m c.args.ram.now d.new.ram front) h;
-  back = refl;
+  reloaded = refl;
   has_tables_under = c.drop_dirs.ensures.has_tables_under;
   fewer = fewer_pages _ _ _ _ (part_empty _ _ c.drop_dirs.ensures.entries) (same_shed _ _ c.drop_dirs.ensures.other_roots);
   guest =

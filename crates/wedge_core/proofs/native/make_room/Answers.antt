@@ -73,7 +73,7 @@ returns-then-clashes-clause-beside g c = c.drop_present.ensures.beside c.args.po
 pub returns-else-clashes-clause-beside : goal.returns-else-clashes-clause-beside
 returns-else-clashes-clause-beside g c = record {
   ready = λ m frames h. h;
-  back = refl;
+  reloaded = refl;
   has_tables_under = λ indices h. h;
   fewer = omega arith;
   guest = refl;

@@ -113,7 +113,7 @@ returns-in-Err-clause-tries g c = record {
   leaves = record {
     held = tt;
     ready = tt;
-    back = tt;
+    reloaded = tt;
     count = tt;
     asked = tt;
     stays = record { step = refl; fills = refl };
@@ -156,7 +156,7 @@ module _ (g : Over) (c : goal.After-finish_step g) where
       step_is m b sees.level k.next ∙ (ap (fetches_next m (unheld b)) (sym k.start) ∙ tries.0)
 
   ready2 : IsReady g.S.Shadows (ground image running.frames) c.finish_step.new.running.cpu c.finish_step.new.running.shadows c.finish_step.new.ram
-      × (c.finish_step.new.running.lost.back ≡ true → AreFound (ground image running.frames) c.finish_step.new.running.cpu (shown (ground image running.frames) c.finish_step.new.ram) c.finish_step.new.running.cpu.cr3 (g.S.Shadows.read_from c.finish_step.new.running.shadows) (g.S.Shadows.slots c.finish_step.new.running.shadows c.finish_step.new.ram))
+      × (c.finish_step.new.running.lost.reloaded ≡ true → AreFound (ground image running.frames) c.finish_step.new.running.cpu (shown (ground image running.frames) c.finish_step.new.ram) c.finish_step.new.running.cpu.cr3 (g.S.Shadows.read_from c.finish_step.new.running.shadows) (g.S.Shadows.slots c.finish_step.new.running.shadows c.finish_step.new.ram))
   ready2 =
       let k = gone g c.before in
       let behind1 = went_ready g.S.Shadows image running.frames (state_at g image [] running ram0) running.shadows ram0 ram1
@@ -235,7 +235,7 @@ returns-in-Ok-Some-clause-tries g c = record {
         held_then g.S.Shadows image running (record c.finish_step.new.running { step = running.step + 1 }) c.args.pool.now c.finish_step.new.pool c.args.ram.now c.try_native.new.ram c.finish_step.new.ram c.requires.held k.a (owns c.try_native.ensures.sound.stands_now) c.finish_step.ensures.moved.moves
         c.finish_step.ensures.moved.stands c.finish_step.ensures.moved.owns c.finish_step.ensures.counts.counted (omega (arith, fills, count)) c.finish_step.ensures.passes.frames within2 (subst (λ (x : Cpu). AreOpen image (wp_of x) slots2) (sym c.finish_step.ensures.passes.cpu) open2);
     ready = (ready2 g c).0;
-    back = c.finish_step.ensures.wanted;
+    reloaded = c.finish_step.ensures.wanted;
     count = c.finish_step.ensures.passes.step;
     asked = tt;
     stays = tt;
@@ -344,7 +344,7 @@ returns-in-Ok-None-clause-tries g c = record {
       λ i. record { cpu = cpu_is g c i; ram = ram_is i; set = closes.entries i; board = (ap (λ (x : Running g.row.S.Denot). x.board) c.fill_used.ensures.same.same ∙ (prepared g c script).0) i; step = ap (λ (x : Running g.row.S.Denot). x.step) c.fill_used.ensures.same.same i } in
       let begun = e g c script in
       asks c.native_laws.ensures.grants c.native_laws.ensures.again c.native_laws.ensures.completes m0 begun.wedge_is (directory g c) (b g c script) begun.room begun.bytes begun.sound (sees g c) begun.next c.eip_fits.ensures t (p g c script) (clear g c script) slots1 slots3 changes (g.S.Shadows.write_protected new.shadows) ram3 closes
-      beyond host within (record { host = host3; ram = sym ram_is; sees = sees g c }) lends new.lost (kept_all.0, c.fill_used.ensures.same.back ∙ c.requires.kept) (state_of g.S.Shadows m0 new ram3) state_is;
+      beyond host within (record { host = host3; ram = sym ram_is; sees = sees g c }) lends new.lost (kept_all.0, c.fill_used.ensures.same.reloaded ∙ c.requires.kept) (state_of g.S.Shadows m0 new ram3) state_is;
   before = c.fill_used.ensures.same.before;
   carried = tt;
   carried_asked = λ script steps t unwanted free roomy taken by load rules set long bytes kept carried.
@@ -375,7 +375,7 @@ returns-in-Ok-None-clause-tries g c = record {
         (steps_from g image running c.args.pool.now c.args.ram.now c.try_native.new.ram c.begin_over.new.state c.try_native.new.state c.requires.held k) c.requires.ready (λ page. false) (last g c) (last g c).set
         (prepared_follows c.native_laws.ensures.on c.native_laws.ensures.fetched c.native_laws.ensures.ranges (unheld (b g c [])) _ (last g c) (p g c [])) (k.ram1_is []) refl in
         subst (λ (x : Cpu). IsReady g.S.Shadows m0 x c.fill_used.new.running.shadows c.fill_used.new.ram) (sym (cpu_is g c)) (c.fill_used.ensures.ready (λ page. false) m0 running.cpu (sym k.frames1) behind1);
-    back = λ w. c.fill_used.ensures.same.back ∙ c.requires.kept;
+    reloaded = λ w. c.fill_used.ensures.same.reloaded ∙ c.requires.kept;
     count = tt;
     asked =
         let new = c.fill_used.new.running in

@@ -247,7 +247,7 @@ returns-in-Err-put_seen-clause-slice g c =
     (subst (λ (w : Bool). NotesOn w before after (notes_then new.lost mid.step)) inv.wants c.tell_both.ensures.told) in
     let rises : r.fills ≤ new.fills = (let e0 = c.stretch.ensures.leaves.filled in let e1 = c.in-Ok.ensures.accounts.filled in let r0 = e0.rises in let r1 = e1.rises in omega (arith, r0, r1)) in
     let more = few g new new_memory _ _ _ (fills_join _ _ _ _ _ _ (fills_join _ _ _ _ _ _ inv.filled c.stretch.ensures.leaves.filled) c.in-Ok.ensures.accounts.filled) in
-    let exact = λ (w : wanted ≡ true). c.in-Ok.ensures.steps.leaves.back (inv.wanted ∙ w) in
+    let exact = λ (w : wanted ≡ true). c.in-Ok.ensures.steps.leaves.reloaded (inv.wanted ∙ w) in
     let laws = c.carry_laws.ensures in
     let begins = Begun g c.args.image.now c.args.script.now.list c.args.running.now.frames c.args.running.now (g.H.Host.bytes c.args.host.now) c.args.pool.now (g.L.Notes.wants c.args.notes.now) in
     let held_mid = held_at g.S.Shadows c.args.image.now r.frames f mid c.loop-running.pool then_memory inv.frames (c.stretch.ensures.leaves.held c.loop-running.pool (held_given g.S.Shadows c.args.image.now c.args.running.now.frames c.loop-running.running.frames c.loop-running.running c.begin.new.self c.loop-running.pool (g.H.Host.bytes c.loop-running.host) c.loop-running.invariant.frames c.loop-running.invariant.held)) in
@@ -301,7 +301,7 @@ loop-running-preserved g c =
     (subst (λ (w : Bool). NotesOn w before after (notes_then new.lost mid.step)) inv.wants c.tell_both.ensures.told) in
     let rises : r.fills ≤ new.fills = (let e0 = c.stretch.ensures.leaves.filled in let e1 = c.in-Ok.ensures.accounts.filled in let r0 = e0.rises in let r1 = e1.rises in omega (arith, r0, r1)) in
     let more = few g new new_memory _ _ _ (fills_join _ _ _ _ _ _ (fills_join _ _ _ _ _ _ inv.filled c.stretch.ensures.leaves.filled) c.in-Ok.ensures.accounts.filled) in
-    let exact = λ (w : wanted ≡ true). c.in-Ok.ensures.steps.leaves.back (inv.wanted ∙ w) in
+    let exact = λ (w : wanted ≡ true). c.in-Ok.ensures.steps.leaves.reloaded (inv.wanted ∙ w) in
     let laws = c.carry_laws.ensures in
     let begins = Begun g c.args.image.now c.args.script.now.list c.args.running.now.frames c.args.running.now (g.H.Host.bytes c.args.host.now) c.args.pool.now (g.L.Notes.wants c.args.notes.now) in
     let held_mid = held_at g.S.Shadows c.args.image.now r.frames f mid c.loop-running.pool then_memory inv.frames (c.stretch.ensures.leaves.held c.loop-running.pool (held_given g.S.Shadows c.args.image.now c.args.running.now.frames c.loop-running.running.frames c.loop-running.running c.begin.new.self c.loop-running.pool (g.H.Host.bytes c.loop-running.host) c.loop-running.invariant.frames c.loop-running.invariant.held)) in

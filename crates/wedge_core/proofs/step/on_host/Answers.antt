@@ -80,7 +80,7 @@ returns-in-Err g c =
         carried = tt;
         clashed = λ lost room script b cpu ram set board.
             clashes_by (wedge c.args.image.now script c.args.running.now.frames) b c.args.running.now.cpu c.args.running.now.board c.args.image.now cpu board c.requires.runs (attempts.clashed lost room script b cpu ram set);
-        leaves = record { held = tt; ready = tt; back = tt; count = tt; stays = attempts.leaves.stays };
+        leaves = record { held = tt; ready = tt; reloaded = tt; count = tt; stays = attempts.leaves.stays };
       };
       accounts = accounts_there g.S.Shadows _ _ _ _ _ _ _ _ c.ram_mut.ensures.ram (g.met.H.Host.bytes_changed c.args.host.now c.begin_native.new.ram) c.in-Err.ensures.accounts;
       counts = record { few = omega (arith, retired); retired = retired; passed = g.met.H.Host.passed_stays c.args.host.now c.begin_native.new.ram };
@@ -118,7 +118,7 @@ returns-in-Ok-Stepped g c =
         leaves = record {
           held = subst (λ (k : ℕ). IsHeld g.S.Shadows (ground c.args.image.now c.args.running.now.frames) (record r { step = k }) c.begin_native.new.pool (g.H.Host.bytes (g.H.Host.with_bytes c.args.host.now c.begin_native.new.ram))) (sym (count g c)) attempts.leaves.held;
           ready = attempts.leaves.ready;
-          back = attempts.leaves.back;
+          reloaded = attempts.leaves.reloaded;
           count = count g c;
           stays = tt;
         };
@@ -314,7 +314,7 @@ returns-in-Ok-Asked g c =
         leaves = record {
           held = held g c.before;
           ready = ready g c.before;
-          back = λ w. once_back g.S.Shadows _ _ _ _ _ _ _ _ _ _ _ o ((attempts g c.before).leaves.back w);
+          reloaded = λ w. once_back g.S.Shadows _ _ _ _ _ _ _ _ _ _ _ o ((attempts g c.before).leaves.reloaded w);
           count = once_counts g.S.Shadows _ _ _ _ _ _ _ _ _ _ _ o;
           stays = tt;
         };

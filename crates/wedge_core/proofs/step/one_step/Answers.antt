@@ -41,7 +41,7 @@ if_err (Err stop) p = p
 
 -- at first nothing is lost
 abbrev unlost : Lost
-unlost = record { before = false; after = false; back = false }
+unlost = record { before = false; after = false; reloaded = false }
 
 left_all : (dropped : Bool) (set : Set) → dropped ≡ false → left_of dropped set ≡ set
 left_all dropped set e = ap (λ (x : Bool). left_of x set) e
@@ -79,7 +79,7 @@ returns-then-not-runs g c =
     at (λ l k. StepsAlone g.S.Shadows image c.args.wanted (before l) (after k) result)
     (record {
       step = e.step;
-      leaves = record { held = still.0; ready = still.1; back = e.wanted; count = e.count; stays = e.stays };
+      leaves = record { held = still.0; ready = still.1; reloaded = e.wanted; count = e.count; stays = e.stays };
       before = e.before;
       carried = e.carried;
     })
@@ -109,7 +109,7 @@ returns-then-not-runs g c =
         leaves = record {
           held = alone.leaves.held;
           ready = alone.leaves.ready;
-          back = alone.leaves.back;
+          reloaded = alone.leaves.reloaded;
           count = alone.leaves.count;
           stays = stays_from result (scene first c.args.pool.now memory) (before memory) (after then) refl refl alone.leaves.stays;
         };
@@ -131,7 +131,7 @@ returns g c = record {
     leaves = record {
       held = c.on_host.ensures.steps.leaves.held;
       ready = c.on_host.ensures.steps.leaves.ready;
-      back = c.on_host.ensures.steps.leaves.back;
+      reloaded = c.on_host.ensures.steps.leaves.reloaded;
       count = c.on_host.ensures.steps.leaves.count;
       stays = stays_from c.on_host.result (scene c.args.running.now c.args.pool.now (g.H.Host.bytes c.args.host.now)) (scene (record c.args.running.now { lost = unlost }) c.args.pool.now (g.H.Host.bytes c.args.host.now))
           (scene c.on_host.new.running c.on_host.new.pool (g.H.Host.bytes c.on_host.new.host)) refl refl c.on_host.ensures.steps.leaves.stays;

@@ -46,13 +46,13 @@ pub returns-in-None-clause-moved : goal.returns-in-None-clause-moved
 returns-in-None-clause-moved g c = c.settle_or_drop-settled.ensures.moved
 
 pub returns-in-None-clause-same : goal.returns-in-None-clause-same
-returns-in-None-clause-same g c = record { before = refl; back = refl; same = refl }
+returns-in-None-clause-same g c = record { before = refl; reloaded = refl; same = refl }
 
 pub returns-in-Some-clause-moved : goal.returns-in-Some-clause-moved
 returns-in-Some-clause-moved g c = c.settle_or_drop-settled.ensures.moved
 
 pub returns-in-Some-clause-same : goal.returns-in-Some-clause-same
-returns-in-Some-clause-same g c = record { before = refl; back = refl; same = refl }
+returns-in-Some-clause-same g c = record { before = refl; reloaded = refl; same = refl }
 
 pub returns-in-None-clause-told : goal.returns-in-None-clause-told
 returns-in-None-clause-told g c = record { same_cr3 = c.settle_or_drop-settled.ensures.cr3; tells = λ after. absurd (let f : true ≡ false = after in cc) }

@@ -58,7 +58,7 @@ returns-clause-ready g c = λ m frames is has_tables_under h.
     let slots = g.S.Shadows.slots in
     let read_from = g.S.Shadows.read_from in
     subst (λ (x : Cpu). IsReady g.S.Shadows m x new.shadows new.ram
-    × (c.drop_and_switch-left.result.back ≡ true → AreFound m x (shown m new.ram) x.cr3 (read_from new.shadows) (slots new.shadows new.ram)))
+    × (c.drop_and_switch-left.result.reloaded ≡ true → AreFound m x (shown m new.ram) x.cr3 (read_from new.shadows) (slots new.shadows new.ram)))
     (sym c.pass.ensures.cpu) (c.drop_and_switch-left.ensures.ready m low opened_mid ready_mid)
 
 pub returns-clause-has_tables_under : goal.returns-clause-has_tables_under

@@ -151,7 +151,7 @@ module _ (g : Over) (c : goal.After-finish_step g) where
   d = c.before
 
   ready1 : IsReady g.S.Shadows (ground (image g d) (n g d)) c.finish_step.new.running.cpu c.finish_step.new.running.shadows c.finish_step.new.ram
-      × (c.finish_step.new.running.lost.back ≡ true → AreFound (ground (image g d) (n g d)) c.finish_step.new.running.cpu (shown (ground (image g d) (n g d)) c.finish_step.new.ram) c.finish_step.new.running.cpu.cr3 (g.S.Shadows.read_from c.finish_step.new.running.shadows) (g.S.Shadows.slots c.finish_step.new.running.shadows c.finish_step.new.ram))
+      × (c.finish_step.new.running.lost.reloaded ≡ true → AreFound (ground (image g d) (n g d)) c.finish_step.new.running.cpu (shown (ground (image g d) (n g d)) c.finish_step.new.ram) c.finish_step.new.running.cpu.cr3 (g.S.Shadows.read_from c.finish_step.new.running.shadows) (g.S.Shadows.slots c.finish_step.new.running.shadows c.finish_step.new.ram))
   ready1 = c.finish_step.ensures.ready (ground (image g d) (n g d)) (sym (frames1 g d)) c.text_frames-count.ensures (open1 g d) (behind1 g d)
 
 pub returns-in-Ok-clause-step : goal.returns-in-Ok-clause-step
