@@ -80,8 +80,8 @@ module _ {S : Type 0} (shows : shadows.Ghosts S) where
 
     -- what one step of the run's own says of what is carried
     abbrev pub Carries : Image → ℕ → Running S → Running S → List ℕ → List ℕ → Pool → Bool → Type 0
-    Carries image n old new memory then pool wanted =
-        (script : Events) (steps : List Taken) (t : Taken) → wanted ≡ false → length (free_list pool memory) + old.held ≡ 512 → Roomy (steps ++ t ∷ [])
+    Carries image n old new memory then pool notes_wanted =
+        (script : Events) (steps : List Taken) (t : Taken) → notes_wanted ≡ false → length (free_list pool memory) + old.held ≡ 512 → Roomy (steps ++ t ∷ [])
         → IsTakenFrom (wedge image script n) (state_of shows (wedge image script n) old memory) t → t.set ≡ left_of new.lost.before (set_of shows old memory)
         → IsCarried shows (wedge image script n) steps t.before old.shadows memory → IsCarried shows (wedge image script n) (steps ++ t ∷ []) t.after new.shadows then
 
@@ -100,7 +100,7 @@ module _ {S : Type 0} (shows : shadows.Ghosts S) where
         omega (arith, x, y, z, whole)
 
     -- a stretch in which nothing was done, and then one step of the run's own
-    module _ (image : Image) (script : Events) (f : ℕ) (r mid new : Running S) (memory then after : List ℕ) (pool : Pool) (board : Board) (begins : Type 0) (wanted : Bool) where
+    module _ (image : Image) (script : Events) (f : ℕ) (r mid new : Running S) (memory then after : List ℕ) (pool : Pool) (board : Board) (begins : Type 0) (notes_wanted : Bool) where
       abbrev m : Setting
       m = wedge image script f
 
@@ -127,8 +127,8 @@ module _ {S : Type 0} (shows : shadows.Ghosts S) where
 
       pub step_carries : mid.frames ≡ f → state_of shows m mid then ≡ record now { board = board } → board ≡ given r.board script r.step
           → IsHeld shows (ground image f) r pool memory → IsHeld shows (ground image f) mid pool then → mid.shadows ≡ r.shadows → SameIn (shows.frames r.shadows memory) memory then
-          → (begins → wanted ≡ false) → (begins → length (free_list pool then) + mid.held ≡ 512)
-          → Carries image mid.frames mid new then after pool wanted → Clashed image mid.frames mid new then pool
+          → (begins → notes_wanted ≡ false) → (begins → length (free_list pool then) + mid.held ≡ 512)
+          → Carries image mid.frames mid new then after pool notes_wanted → Clashed image mid.frames mid new then pool
           → StepCarries m now (state_of shows m new after) new.lost begins (CarriedWith m r.shadows memory) (CarriedWith m new.shadows after)
       step_carries same stays events held held_mid shadows apart unwanted whole carries clashed = record {
         clash = drop_clashes same stays events held held_mid shadows apart whole clashed;
@@ -141,5 +141,5 @@ module _ {S : Type 0} (shows : shadows.Ghosts S) where
             (as_kept m mid.shadows then now.set steps t.before set_same there));
       }
         where
-          carries_at : Carries image f mid new then after pool wanted
-          carries_at = subst (λ (n : ℕ). Carries image n mid new then after pool wanted) same carries
+          carries_at : Carries image f mid new then after pool notes_wanted
+          carries_at = subst (λ (n : ℕ). Carries image n mid new then after pool notes_wanted) same carries

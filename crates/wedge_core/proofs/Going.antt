@@ -52,15 +52,15 @@ EachFilled pages before after sets = All (λ (set : Set). CountsFills pages (len
 -- Some steps were done. Where the run begins so, they went by the rule for kept translations, and all is known behind them
 -- while it is roomy. What is kept a run may go on with; where notes are wanted, it is what they left, but for what the
 -- notes tell, by which they went too. Their lines were put, and the counts follow.
-pub record Going (m : Setting) (old now : State) (before after : Counts) (told tells : Option (List ℕ)) (pages fills filled : ℕ) (wanted : Bool) (notes_on : List Note → Type 0) (begins : Type 0) (carried : Set → List Taken → State → Type 0) : Type 0 where
+pub record Going (m : Setting) (old now : State) (before after : Counts) (told tells : Option (List ℕ)) (pages fills filled : ℕ) (notes_wanted : Bool) (notes_on : List Note → Type 0) (begins : Type 0) (carried : Set → List Taken → State → Type 0) : Type 0 where
   pub sets : List Set
   pub reports : List Report
   pub whole : Set
   pub notes : List Note
   pub steps : Steps m old sets reports (with_set now whole)
   pub allowed : Loosened m (with_set now whole) now.set
-  pub kept : wanted ≡ true → now.set ≡ set_told notes now.step whole
-  pub by : wanted ≡ true → ToldBy m old sets notes
+  pub kept : notes_wanted ≡ true → now.set ≡ set_told notes now.step whole
+  pub by : notes_wanted ≡ true → ToldBy m old sets notes
   pub so_far : SoFar old.step now.step notes
   pub tells_notes : notes_on notes
   pub each_filled : EachFilled pages fills filled sets
@@ -74,8 +74,8 @@ pub record Going (m : Setting) (old now : State) (before after : Counts) (told t
 kept_none : (m : Setting) (b : State) → Kept m b []
 kept_none m b = record { each = λ front set back reports now is there roomy. absurd (none_some front set back is) }
 
-pub going_none : (m : Setting) (b : State) (counts : Counts) (told : Option (List ℕ)) (pages fills : ℕ) (wanted : Bool) (notes_on : List Note → Type 0) (begins : Type 0) (carried : Set → List Taken → State → Type 0) → notes_on [] → len b.set ≤ pages → (begins → carried b.set [] b) → Going m b b counts counts told told pages fills fills wanted notes_on begins carried
-going_none m b counts told pages fills wanted notes_on begins carried none few start = record {
+pub going_none : (m : Setting) (b : State) (counts : Counts) (told : Option (List ℕ)) (pages fills : ℕ) (notes_wanted : Bool) (notes_on : List Note → Type 0) (begins : Type 0) (carried : Set → List Taken → State → Type 0) → notes_on [] → len b.set ≤ pages → (begins → carried b.set [] b) → Going m b b counts counts told told pages fills fills notes_wanted notes_on begins carried
+going_none m b counts told pages fills notes_wanted notes_on begins carried none few start = record {
   sets = [];
   reports = [];
   whole = b.set;
@@ -95,8 +95,8 @@ going_none m b counts told pages fills wanted notes_on begins carried none few s
 }
 
 -- none of them is behind the first
-pub none_behind : (m : Setting) (old now : State) (a b : Counts) (told tells : Option (List ℕ)) (pages fills filled : ℕ) (wanted : Bool) (notes_on : List Note → Type 0) (begins : Type 0) (carried : Set → List Taken → State → Type 0) → (g : Going m old now a b told tells pages fills filled wanted notes_on begins carried) → old.step + length g.sets ≡ now.step
-none_behind m old now a b told tells pages fills filled wanted notes_on begins carried g = sym (steps_counted m old g.sets g.reports (with_set now g.whole) g.steps)
+pub none_behind : (m : Setting) (old now : State) (a b : Counts) (told tells : Option (List ℕ)) (pages fills filled : ℕ) (notes_wanted : Bool) (notes_on : List Note → Type 0) (begins : Type 0) (carried : Set → List Taken → State → Type 0) → (g : Going m old now a b told tells pages fills filled notes_wanted notes_on begins carried) → old.step + length g.sets ≡ now.step
+none_behind m old now a b told tells pages fills filled notes_wanted notes_on begins carried g = sym (steps_counted m old g.sets g.reports (with_set now g.whole) g.steps)
 
 -- what is left of a set is part of it
 told_part : (b : Bool) (set : Set) → IsPartOf (left_of b set) set
@@ -120,10 +120,10 @@ enough_later pages few before mid after le f =
 
 -- steps in which nothing is seen
 
-pub going_past : (m : Setting) (old now new : State) (a b c : Counts) (told tells : Option (List ℕ)) (pages fills mid filled : ℕ) (wanted : Bool) (notes_on : List Note → Type 0) (begins : Type 0) (carried : Set → List Taken → State → Type 0) → (g : Going m old now a b told tells pages fills mid wanted notes_on begins carried) → mid ≤ filled → CountsFills pages (len new.set) fills filled
-    → CarryLaws → CarriesPast m carried → 4096 * m.frames ≤ length now.ram → Passes m now new b c → Going m old new a c told tells pages fills filled wanted notes_on begins carried
+pub going_past : (m : Setting) (old now new : State) (a b c : Counts) (told tells : Option (List ℕ)) (pages fills mid filled : ℕ) (notes_wanted : Bool) (notes_on : List Note → Type 0) (begins : Type 0) (carried : Set → List Taken → State → Type 0) → (g : Going m old now a b told tells pages fills mid notes_wanted notes_on begins carried) → mid ≤ filled → CountsFills pages (len new.set) fills filled
+    → CarryLaws → CarriesPast m carried → 4096 * m.frames ≤ length now.ram → Passes m now new b c → Going m old new a c told tells pages fills filled notes_wanted notes_on begins carried
 unfolding Steps
-going_past m old now new a b c told tells pages fills mid filled wanted notes_on begins carried g rises enough laws goes room p = by p.n p.steps p.sets p.quiet
+going_past m old now new a b c told tells pages fills mid filled notes_wanted notes_on begins carried g rises enough laws goes room p = by p.n p.steps p.sets p.quiet
   where
     silent : trace_of (g.reports ++ p.reports) ≡ trace_of g.reports
     silent = trace_join g.reports p.reports ∙ (ap (λ (l : List Item). trace_of g.reports ++ l) p.silent ∙ append-nil (trace_of g.reports))
@@ -131,7 +131,7 @@ going_past m old now new a b c told tells pages fills mid filled wanted notes_on
     put : Appends told tells (lines_of (trace_of (g.reports ++ p.reports)))
     put = subst (λ (l : List Item). Appends told tells (lines_of l)) (sym silent) g.text
 
-    by : (n : ℕ) → Steps m now (replicate n now.set) p.reports new → AreLeft m now (replicate n now.set) → All IsQuiet (steps_by m now (replicate n now.set)) → Going m old new a c told tells pages fills filled wanted notes_on begins carried
+    by : (n : ℕ) → Steps m now (replicate n now.set) p.reports new → AreLeft m now (replicate n now.set) → All IsQuiet (steps_by m now (replicate n now.set)) → Going m old new a c told tells pages fills filled notes_wanted notes_on begins carried
     by zero steps left quiet =
         let same : g.reports ++ p.reports ≡ g.reports = ap (λ (l : List Report). g.reports ++ l) steps.0 ∙ append-nil g.reports in
         record {
@@ -183,9 +183,9 @@ going_past m old now new a b c told tells pages fills mid filled wanted notes_on
         }
 
 -- the same, in other words of what is known
-pub going_turned : (m : Setting) (old now : State) (a b : Counts) (told tells : Option (List ℕ)) (pages fills filled : ℕ) (wanted : Bool) (notes_on : List Note → Type 0) (begins : Type 0) (carried carried_then : Set → List Taken → State → Type 0)
-    → ((steps : List Taken) (x : State) → carried now.set steps x → carried_then now.set steps x) → Going m old now a b told tells pages fills filled wanted notes_on begins carried → Going m old now a b told tells pages fills filled wanted notes_on begins carried_then
-going_turned m old now a b told tells pages fills filled wanted notes_on begins carried carried_then turn g = record {
+pub going_turned : (m : Setting) (old now : State) (a b : Counts) (told tells : Option (List ℕ)) (pages fills filled : ℕ) (notes_wanted : Bool) (notes_on : List Note → Type 0) (begins : Type 0) (carried carried_then : Set → List Taken → State → Type 0)
+    → ((steps : List Taken) (x : State) → carried now.set steps x → carried_then now.set steps x) → Going m old now a b told tells pages fills filled notes_wanted notes_on begins carried → Going m old now a b told tells pages fills filled notes_wanted notes_on begins carried_then
+going_turned m old now a b told tells pages fills filled notes_wanted notes_on begins carried carried_then turn g = record {
   sets = g.sets;
   reports = g.reports;
   whole = g.whole;
@@ -209,15 +209,15 @@ abbrev pub eventful : Setting → State → State
 eventful m b = record b { board = given b.board m.script b.step }
 
 -- Some steps were done, and one more. Of its lines something was put.
-pub record Stepped (m : Setting) (old now new : State) (seen : Seen) (before after : Counts) (told tells : Option (List ℕ)) (pages fills filled : ℕ) (wanted : Bool) (notes_on : List Note → Type 0) (begins : Type 0) (carried : Set → List Taken → State → Type 0) : Type 0 where
+pub record Stepped (m : Setting) (old now new : State) (seen : Seen) (before after : Counts) (told tells : Option (List ℕ)) (pages fills filled : ℕ) (notes_wanted : Bool) (notes_on : List Note → Type 0) (begins : Type 0) (carried : Set → List Taken → State → Type 0) : Type 0 where
   pub sets : List Set
   pub reports : List Report
   pub whole : Set
   pub notes : List Note
   pub steps : Steps m old sets reports (with_set new whole)
   pub allowed : Loosened m (with_set new whole) new.set
-  pub kept : wanted ≡ true → new.set ≡ set_told notes new.step whole
-  pub by : wanted ≡ true → ToldBy m old sets notes
+  pub kept : notes_wanted ≡ true → new.set ≡ set_told notes new.step whole
+  pub by : notes_wanted ≡ true → ToldBy m old sets notes
   pub so_far : SoFar old.step new.step notes
   pub tells_notes : notes_on notes
   pub each_filled : EachFilled pages fills filled sets
@@ -235,7 +235,7 @@ unfolding step_of
 chosen_first m now whole chosen = refl
 
 -- the next step is tried, before which all translations may have been dropped
-module _ (m : Setting) (old now : State) (a b : Counts) (told tells : Option (List ℕ)) (pages fills mid : ℕ) (wanted : Bool) (notes_on : List Note → Type 0) (begins : Type 0) (carried : Set → List Taken → State → Type 0) (g : Going m old now a b told tells pages fills mid wanted notes_on begins carried) (dropped : Bool) where
+module _ (m : Setting) (old now : State) (a b : Counts) (told tells : Option (List ℕ)) (pages fills mid : ℕ) (notes_wanted : Bool) (notes_on : List Note → Type 0) (begins : Type 0) (carried : Set → List Taken → State → Type 0) (g : Going m old now a b told tells pages fills mid notes_wanted notes_on begins carried) (dropped : Bool) where
   abbrev pub notes_tried : List Note
   notes_tried = g.notes ++ emptied_if dropped now.step
 
@@ -243,12 +243,12 @@ module _ (m : Setting) (old now : State) (a b : Counts) (told tells : Option (Li
   chosen = left_of dropped now.set
 
   pub here : old.step + length g.sets ≡ now.step
-  here = none_behind m old now a b told tells pages fills mid wanted notes_on begins carried g
+  here = none_behind m old now a b told tells pages fills mid notes_wanted notes_on begins carried g
 
   pub first : old.step ≤ now.step
   first = let n = here in omega (arith, n)
 
-  pub chosen_told : wanted ≡ true → chosen ≡ set_told notes_tried now.step g.whole
+  pub chosen_told : notes_wanted ≡ true → chosen ≡ set_told notes_tried now.step g.whole
   chosen_told w = ap (left_of dropped) (g.kept w) ∙ sym (told_more dropped now.step g.whole g.notes g.so_far.until)
 
   pub chosen_allowed : Loosened m (with_set now g.whole) chosen
@@ -257,7 +257,7 @@ module _ (m : Setting) (old now : State) (a b : Counts) (told tells : Option (Li
   pub tried : TriedNotes old.step now.step notes_tried
   tried = try_next dropped old.step now.step g.notes first g.so_far
 
-  pub by_then : wanted ≡ true → ToldBy m old g.sets notes_tried
+  pub by_then : notes_wanted ≡ true → ToldBy m old g.sets notes_tried
   by_then w = told_on dropped m old g.sets g.notes now.step (let n = here in omega (arith, n)) g.so_far.until (g.by w)
 
   pub enough_chosen : CountsFills pages (len chosen) fills mid
@@ -284,7 +284,7 @@ chosen_kept m b true h = inr (refl, h refl)
 chosen_kept m b false h = inl refl
 
 -- the set that was chosen keeps the rule, whether the step goes or stops
-module _ (m : Setting) (old now : State) (a b : Counts) (told tells : Option (List ℕ)) (pages fills mid : ℕ) (wanted : Bool) (notes_on : List Note → Type 0) (begins : Type 0) (carried : Set → List Taken → State → Type 0) (g : Going m old now a b told tells pages fills mid wanted notes_on begins carried) (dropped : Bool) where
+module _ (m : Setting) (old now : State) (a b : Counts) (told tells : Option (List ℕ)) (pages fills mid : ℕ) (notes_wanted : Bool) (notes_on : List Note → Type 0) (begins : Type 0) (carried : Set → List Taken → State → Type 0) (g : Going m old now a b told tells pages fills mid notes_wanted notes_on begins carried) (dropped : Bool) where
   pub chosen_rule : CarryLaws → CarriesPast m carried → DropClashes m now dropped begins carried → begins → Kept m old (g.sets ++ left_of dropped now.set ∷ [])
   chosen_rule laws goes clash s =
       let before = steps_by m old g.sets in
@@ -296,18 +296,18 @@ no_drop : (m : Setting) (now : State) (begins : Type 0) (carried : Set → List 
 no_drop m now begins carried s dropped = absurd (let f : false ≡ true = dropped in cc)
 
 -- and goes
-pub going_on : (m : Setting) (old now new : State) (lost : Lost) (seen : Seen) (a b c : Counts) (told tells : Option (List ℕ)) (pages fills mid filled : ℕ) (wanted : Bool) (notes_on notes_after : List Note → Type 0) (begins : Type 0) (carried carried_then : Set → List Taken → State → Type 0)
-    → (g : Going m old now a b told tells pages fills mid wanted notes_on begins carried) → Goes m (eventful m now) lost seen new b c → new.step ≡ now.step + 1 → mid ≤ filled → CountsFills pages (len new.set) fills filled → (wanted ≡ true → lost.reloaded ≡ false)
+pub going_on : (m : Setting) (old now new : State) (lost : Lost) (seen : Seen) (a b c : Counts) (told tells : Option (List ℕ)) (pages fills mid filled : ℕ) (notes_wanted : Bool) (notes_on notes_after : List Note → Type 0) (begins : Type 0) (carried carried_then : Set → List Taken → State → Type 0)
+    → (g : Going m old now a b told tells pages fills mid notes_wanted notes_on begins carried) → Goes m (eventful m now) lost seen new b c → new.step ≡ now.step + 1 → mid ≤ filled → CountsFills pages (len new.set) fills filled → (notes_wanted ≡ true → lost.reloaded ≡ false)
     → CarryLaws → CarriesPast m carried → StepCarries m now new lost begins carried carried_then
-    → ((notes : List Note) → notes_on notes → notes_after (notes ++ notes_then lost now.step)) → Stepped m old now new seen a c told tells pages fills filled wanted notes_after begins carried_then
-going_on m old now new lost seen a b c told tells pages fills mid filled wanted notes_on notes_after begins carried carried_then g r count rises enough exact laws goes over on =
+    → ((notes : List Note) → notes_on notes → notes_after (notes ++ notes_then lost now.step)) → Stepped m old now new seen a c told tells pages fills filled notes_wanted notes_after begins carried_then
+going_on m old now new lost seen a b c told tells pages fills mid filled notes_wanted notes_on notes_after begins carried carried_then g r count rises enough exact laws goes over on =
     let set = left_of lost.before now.set in
     let before = g.notes ++ emptied_if lost.before now.step in
     let notes = before ++ emptied_if lost.after (now.step + 1) in
-    let allowed = chosen_allowed m old now a b told tells pages fills mid wanted notes_on begins carried g lost.before in
-    let tried_now = tried m old now a b told tells pages fills mid wanted notes_on begins carried g lost.before in
-    let low = first m old now a b told tells pages fills mid wanted notes_on begins carried g lost.before in
-    let n = here m old now a b told tells pages fills mid wanted notes_on begins carried g lost.before in
+    let allowed = chosen_allowed m old now a b told tells pages fills mid notes_wanted notes_on begins carried g lost.before in
+    let tried_now = tried m old now a b told tells pages fills mid notes_wanted notes_on begins carried g lost.before in
+    let low = first m old now a b told tells pages fills mid notes_wanted notes_on begins carried g lost.before in
+    let n = here m old now a b told tells pages fills mid notes_wanted notes_on begins carried g lost.before in
     let up = up_to_later now.step (now.step + 1) before (omega arith) tried_now.until in
     let one = steps_one m (with_set now g.whole) (with_set new r.whole) set r.report allowed (chosen_first m now g.whole set ∙ r.went) in
     let goes_here = chosen_first m now g.whole set ∙ r.went in
@@ -317,9 +317,9 @@ going_on m old now new lost seen a b c told tells pages fills mid filled wanted 
     let from : IsTakenFrom m (eventful m now) t = record { cpu = refl; ram = refl; went = goes_here; stepped = r.went } in
     let is : set_told notes (now.step + 1) r.whole ≡ left_of lost.after r.whole =
     told_more lost.after (now.step + 1) r.whole before up ∙ ap (left_of lost.after) (told_none now.step (now.step + 1) r.whole before (omega arith) tried_now.until) in
-    let by_before = λ (w : wanted ≡ true). told_on lost.after m old g.sets before (now.step + 1) (omega (arith, n)) up (by_then m old now a b told tells pages fills mid wanted notes_on begins carried g lost.before w) in
-    let by_now = λ (w : wanted ≡ true). told_one m (with_set now g.whole) set notes
-    (chosen_told m old now a b told tells pages fills mid wanted notes_on begins carried g lost.before w ∙ sym (told_before lost.after (now.step + 1) now.step g.whole before (omega arith) up)) in
+    let by_before = λ (w : notes_wanted ≡ true). told_on lost.after m old g.sets before (now.step + 1) (omega (arith, n)) up (by_then m old now a b told tells pages fills mid notes_wanted notes_on begins carried g lost.before w) in
+    let by_now = λ (w : notes_wanted ≡ true). told_one m (with_set now g.whole) set notes
+    (chosen_told m old now a b told tells pages fills mid notes_wanted notes_on begins carried g lost.before w ∙ sym (told_before lost.after (now.step + 1) now.step g.whole before (omega arith) up)) in
     record {
       sets = g.sets ++ set ∷ [];
       reports = g.reports ++ r.report ∷ [];
@@ -332,8 +332,8 @@ going_on m old now new lost seen a b c told tells pages fills mid filled wanted 
       so_far = subst (λ (s : ℕ). SoFar old.step s notes) (sym count) (go_next lost.after old.step now.step before low tried_now);
       tells_notes = subst notes_after (sym (append_assoc g.notes (emptied_if lost.before now.step) (emptied_if lost.after (now.step + 1)))) (on g.notes g.tells_notes);
       each_filled = filled_push pages fills filled g.sets set (filled_later pages fills mid filled g.sets rises g.each_filled)
-          (enough_later pages (len set) fills mid filled rises (enough_chosen m old now a b told tells pages fills mid wanted notes_on begins carried g lost.before));
-      rule = chosen_rule m old now a b told tells pages fills mid wanted notes_on begins carried g lost.before laws goes over.clash;
+          (enough_later pages (len set) fills mid filled rises (enough_chosen m old now a b told tells pages fills mid notes_wanted notes_on begins carried g lost.before));
+      rule = chosen_rule m old now a b told tells pages fills mid notes_wanted notes_on begins carried g lost.before laws goes over.clash;
       carries = λ s roomy.
           let then : Roomy (taken_so_far ++ t ∷ []) = subst Roomy joined roomy in
           subst (λ (l : List Taken). carried_then new.set l (with_set new r.whole)) (sym joined) (over.over s taken_so_far t then from refl (g.carries s (laws.known.before taken_so_far t then)));
@@ -345,9 +345,9 @@ going_on m old now new lost seen a b c told tells pages fills mid filled wanted 
     }
 
 -- its lines were put
-pub stepped_put : (m : Setting) (old now new : State) (seen : Seen) (a b : Counts) (told tells last : Option (List ℕ)) (pages fills filled : ℕ) (wanted : Bool) (notes_on : List Note → Type 0) (begins : Type 0) (carried : Set → List Taken → State → Type 0) → Stepped m old now new seen a b told tells pages fills filled wanted notes_on begins carried
-    → Appends tells last (lines_of (items_at now.step (whats seen))) → Going m old new a b told last pages fills filled wanted notes_on begins carried
-stepped_put m old now new seen a b told tells last pages fills filled wanted notes_on begins carried s put =
+pub stepped_put : (m : Setting) (old now new : State) (seen : Seen) (a b : Counts) (told tells last : Option (List ℕ)) (pages fills filled : ℕ) (notes_wanted : Bool) (notes_on : List Note → Type 0) (begins : Type 0) (carried : Set → List Taken → State → Type 0) → Stepped m old now new seen a b told tells pages fills filled notes_wanted notes_on begins carried
+    → Appends tells last (lines_of (items_at now.step (whats seen))) → Going m old new a b told last pages fills filled notes_wanted notes_on begins carried
+stepped_put m old now new seen a b told tells last pages fills filled notes_wanted notes_on begins carried s put =
     let is : lines_of (trace_of s.reports) ≡ lines_of s.front ++ lines_of (items_at now.step (whats seen)) = ap lines_of s.trace ∙ lines_join s.front (items_at now.step (whats seen)) in
     record {
       sets = s.sets;
@@ -369,9 +369,9 @@ stepped_put m old now new seen a b told tells last pages fills filled wanted not
     }
 
 -- or a front of them
-pub stepped_front : (m : Setting) (old now new : State) (seen : Seen) (a b : Counts) (told tells last : Option (List ℕ)) (pages fills filled : ℕ) (wanted : Bool) (notes_on : List Note → Type 0) (begins : Type 0) (carried : Set → List Taken → State → Type 0) → (s : Stepped m old now new seen a b told tells pages fills filled wanted notes_on begins carried)
+pub stepped_front : (m : Setting) (old now new : State) (seen : Seen) (a b : Counts) (told tells last : Option (List ℕ)) (pages fills filled : ℕ) (notes_wanted : Bool) (notes_on : List Note → Type 0) (begins : Type 0) (carried : Set → List Taken → State → Type 0) → (s : Stepped m old now new seen a b told tells pages fills filled notes_wanted notes_on begins carried)
     → AppendsFront tells last (lines_of (items_at now.step (whats seen))) → AppendsFront told last (lines_of (trace_of s.reports))
-stepped_front m old now new seen a b told tells last pages fills filled wanted notes_on begins carried s put =
+stepped_front m old now new seen a b told tells last pages fills filled notes_wanted notes_on begins carried s put =
     let is : lines_of (trace_of s.reports) ≡ lines_of s.front ++ lines_of (items_at now.step (whats seen)) = ap lines_of s.trace ∙ lines_join s.front (items_at now.step (whats seen)) in
     subst (λ (l : List ℕ). AppendsFront told last l) (sym is) (front_of told tells last (lines_of s.front) (lines_of (items_at now.step (whats seen))) [] (lines_of s.front ++ lines_of (items_at now.step (whats seen))) s.text put
     (ap (λ (l : List ℕ). lines_of s.front ++ l) (sym (append-nil (lines_of (items_at now.step (whats seen)))))))
@@ -393,9 +393,9 @@ none_held : (first last : ℕ) (notes : List Note) (set : Set) → TriedNotes fi
 none_held first last notes set h page is = absurd (let no : false ≡ true = sym (none_dropped last last page notes h.until) ∙ is in cc)
 
 -- all steps were done
-pub reached : (m : Setting) (bound : ℕ) (old now : State) (a b : Counts) (told tells : Option (List ℕ)) (pages fills filled : ℕ) (wanted : Bool) (notes_on : List Note → Type 0) (begins : Type 0) (carried : Set → List Taken → State → Type 0) → Going m old now a b told tells pages fills filled wanted notes_on begins carried → now.step ≡ bound → CarryLaws → CarriesPast m carried
-    → SliceAs m bound old now a b told tells pages fills filled wanted notes_on begins (Ok Reached)
-reached m bound old now a b told tells pages fills filled wanted notes_on begins carried g n laws goes = record {
+pub reached : (m : Setting) (bound : ℕ) (old now : State) (a b : Counts) (told tells : Option (List ℕ)) (pages fills filled : ℕ) (notes_wanted : Bool) (notes_on : List Note → Type 0) (begins : Type 0) (carried : Set → List Taken → State → Type 0) → Going m old now a b told tells pages fills filled notes_wanted notes_on begins carried → now.step ≡ bound → CarryLaws → CarriesPast m carried
+    → SliceAs m bound old now a b told tells pages fills filled notes_wanted notes_on begins (Ok Reached)
+reached m bound old now a b told tells pages fills filled notes_wanted notes_on begins carried g n laws goes = record {
   sets = g.sets;
   reports = g.reports;
   last = with_set now g.whole;
@@ -413,18 +413,18 @@ reached m bound old now a b told tells pages fills filled wanted notes_on begins
   };
   tells_notes = g.tells_notes;
   each_filled = filled_push pages fills filled g.sets now.set g.each_filled g.enough;
-  kept = chosen_rule m old now a b told tells pages fills filled wanted notes_on begins carried g false laws goes (no_drop m now begins carried);
+  kept = chosen_rule m old now a b told tells pages fills filled notes_wanted notes_on begins carried g false laws goes (no_drop m now begins carried);
   left = λ s roomy. goes.left now.set (steps_by m old g.sets) (with_set now g.whole) (g.carries s roomy);
 }
 
 -- the next step stops
-pub stopped : (m : Setting) (bound : ℕ) (old now new : State) (lost : Lost) (stop : Stop) (a b : Counts) (told tells : Option (List ℕ)) (pages fills mid filled : ℕ) (wanted : Bool) (notes_on notes_after : List Note → Type 0) (begins : Type 0) (carried : Set → List Taken → State → Type 0)
-    → Going m old now a b told tells pages fills mid wanted notes_on begins carried → StepHalts m (eventful m now) lost stop → now.step < bound → new.step ≡ now.step → mid ≤ filled → CarryLaws → CarriesPast m carried → DropClashes m now lost.before begins carried
-    → ((notes : List Note) → notes_on notes → notes_after (notes ++ emptied_if lost.before now.step)) → SliceAs m bound old new a b told tells pages fills filled wanted notes_after begins (Ok (Stopped stop))
-stopped m bound old now new lost stop a b told tells pages fills mid filled wanted notes_on notes_after begins carried g h lt still rises laws goes clash on =
+pub stopped : (m : Setting) (bound : ℕ) (old now new : State) (lost : Lost) (stop : Stop) (a b : Counts) (told tells : Option (List ℕ)) (pages fills mid filled : ℕ) (notes_wanted : Bool) (notes_on notes_after : List Note → Type 0) (begins : Type 0) (carried : Set → List Taken → State → Type 0)
+    → Going m old now a b told tells pages fills mid notes_wanted notes_on begins carried → StepHalts m (eventful m now) lost stop → now.step < bound → new.step ≡ now.step → mid ≤ filled → CarryLaws → CarriesPast m carried → DropClashes m now lost.before begins carried
+    → ((notes : List Note) → notes_on notes → notes_after (notes ++ emptied_if lost.before now.step)) → SliceAs m bound old new a b told tells pages fills filled notes_wanted notes_after begins (Ok (Stopped stop))
+stopped m bound old now new lost stop a b told tells pages fills mid filled notes_wanted notes_on notes_after begins carried g h lt still rises laws goes clash on =
     let set = left_of lost.before now.set in
     let notes = g.notes ++ emptied_if lost.before now.step in
-    let told_set = chosen_told m old now a b told tells pages fills mid wanted notes_on begins carried g lost.before in
+    let told_set = chosen_told m old now a b told tells pages fills mid notes_wanted notes_on begins carried g lost.before in
     let halts = chosen_first m now g.whole set ∙ h.halts in
     record {
       sets = g.sets;
@@ -433,27 +433,27 @@ stopped m bound old now new lost stop a b told tells pages fills mid filled want
       notes = notes;
       steps = g.steps;
       end = set;
-      ends = (lt, still, chosen_allowed m old now a b told tells pages fills mid wanted notes_on begins carried g lost.before, halts);
+      ends = (lt, still, chosen_allowed m old now a b told tells pages fills mid notes_wanted notes_on begins carried g lost.before, halts);
       text = g.text;
       counts = g.counts;
       told_notes = λ w. record {
-        told = are_told m old g.sets notes (by_then m old now a b told tells pages fills mid wanted notes_on begins carried g lost.before w);
-        are = are_notes m old g.sets now.step notes (tried m old now a b told tells pages fills mid wanted notes_on begins carried g lost.before);
-        held = none_held old.step now.step notes g.whole (tried m old now a b told tells pages fills mid wanted notes_on begins carried g lost.before);
+        told = are_told m old g.sets notes (by_then m old now a b told tells pages fills mid notes_wanted notes_on begins carried g lost.before w);
+        are = are_notes m old g.sets now.step notes (tried m old now a b told tells pages fills mid notes_wanted notes_on begins carried g lost.before);
+        held = none_held old.step now.step notes g.whole (tried m old now a b told tells pages fills mid notes_wanted notes_on begins carried g lost.before);
         ends = subst (λ (x : Set). step_of m (with_set now g.whole) x ≡ Halts stop) (told_set w) halts;
       };
       tells_notes = on g.notes g.tells_notes;
       each_filled = filled_push pages fills filled g.sets set (filled_later pages fills mid filled g.sets rises g.each_filled)
-          (enough_later pages (len set) fills mid filled rises (enough_chosen m old now a b told tells pages fills mid wanted notes_on begins carried g lost.before));
-      kept = chosen_rule m old now a b told tells pages fills mid wanted notes_on begins carried g lost.before laws goes clash;
+          (enough_later pages (len set) fills mid filled rises (enough_chosen m old now a b told tells pages fills mid notes_wanted notes_on begins carried g lost.before));
+      kept = chosen_rule m old now a b told tells pages fills mid notes_wanted notes_on begins carried g lost.before laws goes clash;
       left = λ s. tt;
     }
 
 -- the lines of a step were not put
-pub failed : (m : Setting) (bound : ℕ) (old now new : State) (seen : Seen) (fault : Failed) (a b : Counts) (told tells last : Option (List ℕ)) (pages fills filled : ℕ) (wanted : Bool) (notes_on : List Note → Type 0) (begins : Type 0) (carried : Set → List Taken → State → Type 0)
-    → Stepped m old now new seen a b told tells pages fills filled wanted notes_on begins carried → AppendsFront tells last (lines_of (items_at now.step (whats seen))) → new.step ≤ bound → CarryLaws → CarriesPast m carried
-    → SliceAs m bound old new a b told last pages fills filled wanted notes_on begins (Err fault)
-failed m bound old now new seen fault a b told tells last pages fills filled wanted notes_on begins carried s put le laws goes = record {
+pub failed : (m : Setting) (bound : ℕ) (old now new : State) (seen : Seen) (fault : Failed) (a b : Counts) (told tells last : Option (List ℕ)) (pages fills filled : ℕ) (notes_wanted : Bool) (notes_on : List Note → Type 0) (begins : Type 0) (carried : Set → List Taken → State → Type 0)
+    → Stepped m old now new seen a b told tells pages fills filled notes_wanted notes_on begins carried → AppendsFront tells last (lines_of (items_at now.step (whats seen))) → new.step ≤ bound → CarryLaws → CarriesPast m carried
+    → SliceAs m bound old new a b told last pages fills filled notes_wanted notes_on begins (Err fault)
+failed m bound old now new seen fault a b told tells last pages fills filled notes_wanted notes_on begins carried s put le laws goes = record {
   sets = s.sets;
   reports = s.reports;
   last = with_set new s.whole;
@@ -461,7 +461,7 @@ failed m bound old now new seen fault a b told tells last pages fills filled wan
   end = new.set;
   steps = s.steps;
   ends = le;
-  text = stepped_front m old now new seen a b told tells last pages fills filled wanted notes_on begins carried s put;
+  text = stepped_front m old now new seen a b told tells last pages fills filled notes_wanted notes_on begins carried s put;
   counts = s.counts;
   told_notes = λ w. record {
     told = are_told m old s.sets s.notes (s.by w);
@@ -491,8 +491,8 @@ turned m now mid new board lost result a b c is events same step =
     (subst (λ (x : State). StepAs m x lost result new b c) is step))
 
 -- notes go on with those of one step more
-pub notes_on_more : (wanted : Bool) (told tells last : List Note → Type 0) (more : List Note) → NotesOn wanted tells last more → (notes : List Note) → NotesOn wanted told tells notes → NotesOn wanted told last (notes ++ more)
-notes_on_more wanted told tells last more on notes h w so_far here = subst last (append_assoc so_far notes more) (on w (so_far ++ notes) (h w so_far here))
+pub notes_on_more : (notes_wanted : Bool) (told tells last : List Note → Type 0) (more : List Note) → NotesOn notes_wanted tells last more → (notes : List Note) → NotesOn notes_wanted told tells notes → NotesOn notes_wanted told last (notes ++ more)
+notes_on_more notes_wanted told tells last more on notes h w so_far here = subst last (append_assoc so_far notes more) (on w (so_far ++ notes) (h w so_far here))
 
-pub notes_on_none : (wanted : Bool) (told : List Note → Type 0) → NotesOn wanted told told []
-notes_on_none wanted told w so_far here = subst told (sym (append-nil so_far)) here
+pub notes_on_none : (notes_wanted : Bool) (told : List Note → Type 0) → NotesOn notes_wanted told told []
+notes_on_none notes_wanted told w so_far here = subst told (sym (append-nil so_far)) here

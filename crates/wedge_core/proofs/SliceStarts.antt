@@ -27,9 +27,9 @@ more_first a b new before after le f =
     record { rises = r; enough = omega (arith, e, le) }
 
 -- the same slice, begun so
-pub slice_begun : (m : Setting) (bound : ℕ) (old new : State) (before after : Counts) (told tells : Option (List ℕ)) (first pages fills filled : ℕ) (wanted : Bool) (notes_on : List Note → Type 0) (begins starts : Type 0) (result : Result Pause Failed) → first ≤ pages → (starts → begins)
-    → SliceAs m bound old new before after told tells first fills filled wanted notes_on begins result → SliceAs m bound old new before after told tells pages fills filled wanted notes_on starts result
-slice_begun m bound old new before after told tells first pages fills filled wanted notes_on begins starts result le from h = record {
+pub slice_begun : (m : Setting) (bound : ℕ) (old new : State) (before after : Counts) (told tells : Option (List ℕ)) (first pages fills filled : ℕ) (notes_wanted : Bool) (notes_on : List Note → Type 0) (begins starts : Type 0) (result : Result Pause Failed) → first ≤ pages → (starts → begins)
+    → SliceAs m bound old new before after told tells first fills filled notes_wanted notes_on begins result → SliceAs m bound old new before after told tells pages fills filled notes_wanted notes_on starts result
+slice_begun m bound old new before after told tells first pages fills filled notes_wanted notes_on begins starts result le from h = record {
   sets = h.sets;
   reports = h.reports;
   last = h.last;

@@ -105,10 +105,10 @@ kept_by law m n old last new sets end Reached h k = subst (Kept m old) (sym (app
 kept_by law m n old last new sets end (Stopped stop) h k = k
 
 -- the slice that ended is a run
-abbrev pub promised : KeptBefore → (m : Setting) (n pool : ℕ) (old new : State) (before after : Counts) (told tells : Option (List ℕ)) (pages fills filled : ℕ) (wanted : Bool) (notes_on : List Note → Type 0) (begins : Type 0) (pause : Pause) (memory : List ℕ)
-    → old ≡ boot m → (pool ≡ 512 → begins) → IfReached (Ok pause) (take (4096 * m.frames) memory ≡ with_patches m.image new.ram) → (h : SliceAs m n old new before after told tells pages fills filled wanted notes_on begins (Ok pause))
+abbrev pub promised : KeptBefore → (m : Setting) (n pool : ℕ) (old new : State) (before after : Counts) (told tells : Option (List ℕ)) (pages fills filled : ℕ) (notes_wanted : Bool) (notes_on : List Note → Type 0) (begins : Type 0) (pause : Pause) (memory : List ℕ)
+    → old ≡ boot m → (pool ≡ 512 → begins) → IfReached (Ok pause) (take (4096 * m.frames) memory ≡ with_patches m.image new.ram) → (h : SliceAs m n old new before after told tells pages fills filled notes_wanted notes_on begins (Ok pause))
     → Promise m n pool (lines_of (trace_of h.reports) ++ end_line new.step (end_of pause)) new.step (end_of pause) before after memory
-promised law m n pool old new before after told tells pages fills filled wanted notes_on begins pause memory is from has h = record {
+promised law m n pool old new before after told tells pages fills filled notes_wanted notes_on begins pause memory is from has h = record {
   sets = h.sets;
   reports = h.reports;
   last = h.last;
@@ -135,9 +135,9 @@ allowed_by m n last new end Reached h = h.2
 allowed_by m n last new end (Stopped stop) h = h.2
 
 -- and what was filled in it
-pub has_fills : (m : Setting) (n : ℕ) (old new : State) (before after : Counts) (told tells : Option (List ℕ)) (pages fills filled : ℕ) (wanted : Bool) (notes_on : List Note → Type 0) (begins : Type 0) (pause : Pause)
-    → pages ≡ 0 → fills ≡ 0 → filled ≤ 128 * new.step → (h : SliceAs m n old new before after told tells pages fills filled wanted notes_on begins (Ok pause)) → HasFills m h.sets h.last filled
-has_fills m n old new before after told tells pages fills filled wanted notes_on begins pause first none few h = record {
+pub has_fills : (m : Setting) (n : ℕ) (old new : State) (before after : Counts) (told tells : Option (List ℕ)) (pages fills filled : ℕ) (notes_wanted : Bool) (notes_on : List Note → Type 0) (begins : Type 0) (pause : Pause)
+    → pages ≡ 0 → fills ≡ 0 → filled ≤ 128 * new.step → (h : SliceAs m n old new before after told tells pages fills filled notes_wanted notes_on begins (Ok pause)) → HasFills m h.sets h.last filled
+has_fills m n old new before after told tells pages fills filled notes_wanted notes_on begins pause first none few h = record {
   end = h.end;
   allowed = allowed_by m n h.last new h.end pause h.ends;
   enough = All-weaker (λ (set : Set). CountsFills pages (len set) fills filled) (λ (set : Set). len set ≤ filled) (λ set f. let e = f.enough in omega (arith, e, none, first))
@@ -145,12 +145,12 @@ has_fills m n old new before after told tells pages fills filled wanted notes_on
   few = (let same = count_by m n h.last new h.end pause h.ends in omega (arith, few, same));
 }
 
-pub has_own : (m : Setting) (n pool : ℕ) (old new : State) (before after : Counts) (told tells : Option (List ℕ)) (pages fills filled : ℕ) (wanted : Bool) (notes_on : List Note → Type 0) (begins : Type 0) (pause : Pause)
-    → old ≡ boot m → (pool ≡ 512 → begins) → pages ≡ 0 → fills ≡ 0 → filled ≤ 128 * new.step → (h : SliceAs m n old new before after told tells pages fills filled wanted notes_on begins (Ok pause))
+pub has_own : (m : Setting) (n pool : ℕ) (old new : State) (before after : Counts) (told tells : Option (List ℕ)) (pages fills filled : ℕ) (notes_wanted : Bool) (notes_on : List Note → Type 0) (begins : Type 0) (pause : Pause)
+    → old ≡ boot m → (pool ≡ 512 → begins) → pages ≡ 0 → fills ≡ 0 → filled ≤ 128 * new.step → (h : SliceAs m n old new before after told tells pages fills filled notes_wanted notes_on begins (Ok pause))
     → HasOwnFills m n pool h.sets h.last (end_of pause) (ends_by m n h.last new h.end pause h.ends) filled
 unfolding has_fills
-has_own m n pool old new before after told tells pages fills filled wanted notes_on begins pause is from first none few h = record {
-  filled = has_fills m n old new before after told tells pages fills filled wanted notes_on begins pause first none few h;
+has_own m n pool old new before after told tells pages fills filled notes_wanted notes_on begins pause is from first none few h = record {
+  filled = has_fills m n old new before after told tells pages fills filled notes_wanted notes_on begins pause first none few h;
   own = end_is m n pool old h.last new h.sets h.end begins pause h.ends is from h.left;
 }
 
@@ -158,43 +158,43 @@ pub given_by : (m : Setting) (n pool : ℕ) (text : List ℕ) (count : ℕ) (end
 given_by m n pool text count end before after memory p = record { sets = p.sets; reports = p.reports; last = p.last; run = p.run; count_is = p.count_is; text_is = p.text_is }
 
 -- all lines and the last one were put
-pub whole_put : KeptBefore → (image : Image) (script : Events) (frames n pool : ℕ) (old new : State) (counts counts_after : Counts) (a b c : Option (List ℕ)) (pages fills filled : ℕ) (wanted : Bool) (notes_on : List Note → Type 0) (begins : Type 0) (pause : Pause) (before mid now : ℕ) (memory : List ℕ)
+pub whole_put : KeptBefore → (image : Image) (script : Events) (frames n pool : ℕ) (old new : State) (counts counts_after : Counts) (a b c : Option (List ℕ)) (pages fills filled : ℕ) (notes_wanted : Bool) (notes_on : List Note → Type 0) (begins : Type 0) (pause : Pause) (before mid now : ℕ) (memory : List ℕ)
     → need image ≤ frames → old ≡ boot (wedge image script frames) → (pool ≡ 512 → begins) → pages ≡ 0 → fills ≡ 0 → filled ≤ 128 * new.step → IfReached (Ok pause) (take (4096 * frames) memory ≡ with_patches image new.ram)
     → IfReached (Ok pause) (Standing (wedge image script frames) new filled memory)
-    → (h : SliceAs (wedge image script frames) n old new counts counts_after a b pages fills filled wanted notes_on begins (Ok pause)) → Appends b c (end_line new.step (end_of pause)) → before ≤ mid → mid ≤ now
+    → (h : SliceAs (wedge image script frames) n old new counts counts_after a b pages fills filled notes_wanted notes_on begins (Ok pause)) → Appends b c (end_line new.step (end_of pause)) → before ≤ mid → mid ≤ now
     → WedgeAnswers image script frames n pool a c before now counts counts_after memory (Ok (record { steps = new.step; end = end_of pause; fills = filled }))
 unfolding has_own has_fills
-whole_put law image script frames n pool old new counts counts_after a b c pages fills filled wanted notes_on begins pause before mid now memory fits is from first none few has stands h put le more = (
+whole_put law image script frames n pool old new counts counts_after a b c pages fills filled notes_wanted notes_on begins pause before mid now memory fits is from first none few has stands h put le more = (
   lines_of (trace_of h.reports) ++ end_line new.step (end_of pause),
-  promised law (wedge image script frames) n pool old new counts counts_after a b pages fills filled wanted notes_on begins pause memory is from has h,
+  promised law (wedge image script frames) n pool old new counts counts_after a b pages fills filled notes_wanted notes_on begins pause memory is from has h,
   fits,
-  has_own (wedge image script frames) n pool old new counts counts_after a b pages fills filled wanted notes_on begins pause is from first none few h,
+  has_own (wedge image script frames) n pool old new counts counts_after a b pages fills filled notes_wanted notes_on begins pause is from first none few h,
   appends_both a b c _ _ h.text put,
   omega (arith, le, more),
   guest_by (wedge image script frames) n h.last new h.end pause filled memory h.ends stands,
 )
 
 -- all lines and a front of the last one
-pub whole_unput : KeptBefore → (image : Image) (script : Events) (frames n pool : ℕ) (old new : State) (counts counts_after : Counts) (a b c : Option (List ℕ)) (pages fills filled : ℕ) (wanted : Bool) (notes_on : List Note → Type 0) (begins : Type 0) (pause : Pause) (before mid now : ℕ) (memory : List ℕ)
+pub whole_unput : KeptBefore → (image : Image) (script : Events) (frames n pool : ℕ) (old new : State) (counts counts_after : Counts) (a b c : Option (List ℕ)) (pages fills filled : ℕ) (notes_wanted : Bool) (notes_on : List Note → Type 0) (begins : Type 0) (pause : Pause) (before mid now : ℕ) (memory : List ℕ)
     → need image ≤ frames → old ≡ boot (wedge image script frames) → IfReached (Ok pause) (take (4096 * frames) memory ≡ with_patches image new.ram)
-    → (h : SliceAs (wedge image script frames) n old new counts counts_after a b pages fills filled wanted notes_on begins (Ok pause)) → AppendsFront b c (end_line new.step (end_of pause)) → before ≤ mid → Rose mid now
+    → (h : SliceAs (wedge image script frames) n old new counts counts_after a b pages fills filled notes_wanted notes_on begins (Ok pause)) → AppendsFront b c (end_line new.step (end_of pause)) → before ≤ mid → Rose mid now
     → WedgeAnswers image script frames n pool a c before now counts counts_after memory (Err fault.Write)
-whole_unput law image script frames n pool old new counts counts_after a b c pages fills filled wanted notes_on begins pause before mid now memory fits is has h put le rose =
+whole_unput law image script frames n pool old new counts counts_after a b c pages fills filled notes_wanted notes_on begins pause before mid now memory fits is has h put le rose =
     let text = lines_of (trace_of h.reports) ++ end_line new.step (end_of pause) in (
       text,
       new.step,
       end_of pause,
       fits,
-      given_by (wedge image script frames) n 0 text new.step (end_of pause) counts counts_after memory (promised law (wedge image script frames) n 0 old new counts counts_after a b pages fills filled wanted notes_on begins pause memory is (λ none. absurd (omega (arith, none))) has h),
+      given_by (wedge image script frames) n 0 text new.step (end_of pause) counts counts_after memory (promised law (wedge image script frames) n 0 old new counts counts_after a b pages fills filled notes_wanted notes_on begins pause memory is (λ none. absurd (omega (arith, none))) has h),
       front_of a b c (lines_of (trace_of h.reports)) (end_line new.step (end_of pause)) [] _ h.text put (ap (λ (l : List ℕ). lines_of (trace_of h.reports) ++ l) (sym (append-nil (end_line new.step (end_of pause))))),
       omega (arith, le, rose),
     )
 
 -- a front of the lines
-pub whole_front : (image : Image) (script : Events) (frames n pool : ℕ) (old new : State) (counts counts_after : Counts) (a b : Option (List ℕ)) (pages fills filled : ℕ) (wanted : Bool) (notes_on : List Note → Type 0) (begins : Type 0) (failed : Failed) (before now : ℕ) (memory : List ℕ)
-    → need image ≤ frames → old ≡ boot (wedge image script frames) → SliceAs (wedge image script frames) n old new counts counts_after a b pages fills filled wanted notes_on begins (Err failed) → Rose before now
+pub whole_front : (image : Image) (script : Events) (frames n pool : ℕ) (old new : State) (counts counts_after : Counts) (a b : Option (List ℕ)) (pages fills filled : ℕ) (notes_wanted : Bool) (notes_on : List Note → Type 0) (begins : Type 0) (failed : Failed) (before now : ℕ) (memory : List ℕ)
+    → need image ≤ frames → old ≡ boot (wedge image script frames) → SliceAs (wedge image script frames) n old new counts counts_after a b pages fills filled notes_wanted notes_on begins (Err failed) → Rose before now
     → WedgeAnswers image script frames n pool a b before now counts counts_after memory (Err fault.Write)
-whole_front image script frames n pool old new counts counts_after a b pages fills filled wanted notes_on begins failed before now memory fits is h rose =
+whole_front image script frames n pool old new counts counts_after a b pages fills filled notes_wanted notes_on begins failed before now memory fits is h rose =
     let m = wedge image script frames in
     let e = each_ends m n h.last h.ends in (
       text_of (trace_of (h.reports ++ e.reports)) e.last.step e.end,

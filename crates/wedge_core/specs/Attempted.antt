@@ -30,10 +30,10 @@ module _ {S : Type 0} (g : shadows.Ghosts S) where
       (state_in g (wedge image script old.guest.frames) new) new.memory
 
   -- Where no step is counted for a host that is asked, the guest is held once it is.
-  pub record AttemptLeaves (image : Image) (wanted : Bool) (old new : Scene S) (result : Result Attempt Stop) : Type 0 where
+  pub record AttemptLeaves (image : Image) (notes_wanted : Bool) (old new : Scene S) (result : Result Attempt Stop) : Type 0 where
     pub held : OnOk result (IsHeld g (ground image old.guest.frames) (record new.guest { step = old.guest.step + 1 }) new.pool new.memory)
     pub ready : OnOk result (IsReadyIn g (ground image old.guest.frames) new)
-    pub reloaded : OnOk result (wanted ≡ true → new.guest.lost.reloaded ≡ false)
+    pub reloaded : OnOk result (notes_wanted ≡ true → new.guest.lost.reloaded ≡ false)
     pub count : WhereStepped result (new.guest.step ≡ old.guest.step + 1)
     pub asked : WhereAsked result
         (new.guest ≡ record old.guest { shadows = new.guest.shadows; held = new.guest.held; fills = new.guest.fills; lost = new.guest.lost })
@@ -41,8 +41,8 @@ module _ {S : Type 0} (g : shadows.Ghosts S) where
 
   -- of a step that is taken from here by this set, with a whole pool and no notes wanted
   abbrev pub WhereTaken : Image → Bool → Set → Scene S → Events → List Taken → Taken → Type 0 → Type 0
-  WhereTaken image wanted set old script steps t fact =
-      wanted ≡ false → free old + old.guest.held ≡ 512 → Roomy (steps ++ t ∷ [])
+  WhereTaken image notes_wanted set old script steps t fact =
+      notes_wanted ≡ false → free old + old.guest.held ≡ 512 → Roomy (steps ++ t ∷ [])
       → IsTakenFrom (wedge image script old.guest.frames) (state_in g (wedge image script old.guest.frames) old) t → t.set ≡ set → fact
 
   -- of a step that the host does: it loads no control register, and leaves what is kept as it finds it
@@ -61,27 +61,27 @@ module _ {S : Type 0} (g : shadows.Ghosts S) where
 
   -- What is known of a run goes on over a step that the host does, once it has done it.
   abbrev pub CarriesOnAsked : Image → Bool → Set → Scene S → Scene S → Type 0
-  CarriesOnAsked image wanted set old new =
-      (script : Events) (steps : List Taken) (t : Taken) → WhereTaken image wanted set old script steps t
+  CarriesOnAsked image notes_wanted set old new =
+      (script : Events) (steps : List Taken) (t : Taken) → WhereTaken image notes_wanted set old script steps t
       (WhereByHost old new t
       (IsCarriedIn g image script steps t.before old
       → IsCarried g (wedge image script old.guest.frames) (steps ++ t ∷ []) t.after new.guest.shadows new.memory))
 
   -- An attempt where frames suffice and nothing clashes: by what is kept, of which nothing is dropped before.
-  pub record TriesOnce (image : Image) (wanted : Bool) (old new : Scene S) (result : Result Attempt Stop) : Type 0 where
+  pub record TriesOnce (image : Image) (notes_wanted : Bool) (old new : Scene S) (result : Result Attempt Stop) : Type 0 where
     pub step : AttemptIn image false old new result
-    pub leaves : AttemptLeaves image wanted old new result
+    pub leaves : AttemptLeaves image notes_wanted old new result
     pub before : new.guest.lost.before ≡ old.guest.lost.before
     pub carried : WhereStepped result
-        ((script : Events) (steps : List Taken) (t : Taken) → WhereTaken image wanted (set_in g old) old script steps t (GoesOver image old new script steps t))
+        ((script : Events) (steps : List Taken) (t : Taken) → WhereTaken image notes_wanted (set_in g old) old script steps t (GoesOver image old new script steps t))
     pub carried_asked : WhereAsked result
-        ((script : Events) (steps : List Taken) (t : Taken) → WhereTaken image wanted (set_in g old) old script steps t
+        ((script : Events) (steps : List Taken) (t : Taken) → WhereTaken image notes_wanted (set_in g old) old script steps t
         (WhereByHost old new t (GoesOver image old new script steps t)))
 
   -- An attempt: by what is kept, or by what is left of it.
-  pub record Attempts (image : Image) (wanted : Bool) (old new : Scene S) (result : Result Attempt Stop) : Type 0 where
+  pub record Attempts (image : Image) (notes_wanted : Bool) (old new : Scene S) (result : Result Attempt Stop) : Type 0 where
     pub step : AttemptIn image new.guest.lost.before old new result
-    pub leaves : AttemptLeaves image wanted old new result
-    pub carried : WhereStepped result (CarriesOn g image wanted (left_of new.guest.lost.before (set_in g old)) old new)
-    pub carried_asked : WhereAsked result (CarriesOnAsked image wanted (left_of new.guest.lost.before (set_in g old)) old new)
+    pub leaves : AttemptLeaves image notes_wanted old new result
+    pub carried : WhereStepped result (CarriesOn g image notes_wanted (left_of new.guest.lost.before (set_in g old)) old new)
+    pub carried_asked : WhereAsked result (CarriesOnAsked image notes_wanted (left_of new.guest.lost.before (set_in g old)) old new)
     pub clashed : LosesByClash g image old new

@@ -28,7 +28,7 @@ pub record IsNoted (m : Setting) (old new : State) (sets : List Set) (last : Sta
 
 -- where notes are wanted, and some were told, these come behind them
 abbrev pub NotesOn : Bool → (List Note → Type 0) → (List Note → Type 0) → List Note → Type 0
-NotesOn wanted told tells notes = wanted ≡ true → (so_far : List Note) → told so_far → tells (so_far ++ notes)
+NotesOn notes_wanted told tells notes = notes_wanted ≡ true → (so_far : List Note) → told so_far → tells (so_far ++ notes)
 
 -- a note of all translations, where they were dropped before a step
 abbrev pub emptied_if : Bool → ℕ → List Note

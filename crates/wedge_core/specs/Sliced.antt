@@ -25,7 +25,7 @@ abbrev pub outward : {H O : Type 0} → hosts.Ghosts H → sinks.Ghosts O → H 
 outward h o host host2 out out2 = record { before = counts_of h host; after = counts_of h host2; told = o.taken out; tells = o.taken out2 }
 
 abbrev pub noting : {L : Type 0} → notes.Ghosts L → L → L → Noting
-noting n old new = record { wanted = n.wants old; on = NotesOn (n.wants old) (n.tells old) (n.tells new) }
+noting n old new = record { notes_wanted = n.wants old; on = NotesOn (n.wants old) (n.tells old) (n.tells new) }
 
 -- Notes are wanted as before, and where none are, none is told.
 pub record StaysSilent {L : Type 0} (n : notes.Ghosts L) (old new : L) : Type 0 where
@@ -47,12 +47,13 @@ module _ {S : Type 0} (g : shadows.Ghosts S) where
 
   -- with all known of what is kept, a whole pool, and no notes wanted
   abbrev pub BeginsCarried : Image → Events → Scene S → Bool → Type 0
-  BeginsCarried image script c wanted =
-      IsCarriedIn g image script [] (state_in g (wedge image script c.guest.frames) c) c × (free c + c.guest.held ≡ 512) × (wanted ≡ false)
+  BeginsCarried image script c notes_wanted =
+      IsCarriedIn g image script [] (state_in g (wedge image script c.guest.frames) c) c × (free c + c.guest.held ≡ 512)
+      × (notes_wanted ≡ false)
 
   -- with nothing kept, two frames held and all others of 512 free, and no notes wanted
   abbrev pub BeginsBare : Scene S → Bool → Type 0
-  BeginsBare c wanted = BeginsEmpty (set_in g c) (free c) c.guest.held wanted
+  BeginsBare c notes_wanted = BeginsEmpty (set_in g c) (free c) c.guest.held notes_wanted
 
   -- Where all steps were done the guest can go on, and unless the sink failed its shadows stand, over the frames of the pool
   -- that are its own.

@@ -39,7 +39,7 @@ pub record Filling : Type 0 where
 
 -- whether notes are wanted, and which are told behind those that were
 pub record Noting : Type 1 where
-  pub wanted : Bool
+  pub notes_wanted : Bool
   pub on : List Note → Type 0
 
 -- Steps under the monitor's rules, up to the bound or to a stop, led from the old state to the last. The lines of what
@@ -58,15 +58,15 @@ pub record SliceAs (m : Setting) (bound : ℕ) (old new : State) (out : Outward)
   pub ends : PausesAs m bound last new end result
   pub text : PutsAs (lines_of (trace_of reports)) out.told out.tells result
   pub counts : CountsOn m reports out.before out.after
-  pub told_notes : noting.wanted ≡ true → IsNoted m old new sets last notes result
+  pub told_notes : noting.notes_wanted ≡ true → IsNoted m old new sets last notes result
   pub tells_notes : noting.on notes
   pub each_filled : All (λ (set : Set). CountsFills filling.pages (len set) filling.fills filling.filled) (sets ++ end ∷ [])
   pub kept : begins → Kept m old (sets ++ end ∷ [])
   pub left : begins → IfReached result (Roomy (steps_by m old sets) → IsLeftBehind m (steps_by m old sets) last end)
 
 -- A slice begins with nothing kept, two frames held and all others of 512 free, and no notes are wanted.
-pub record BeginsEmpty (set : Set) (free held : ℕ) (wanted : Bool) : Type 0 where
+pub record BeginsEmpty (set : Set) (free held : ℕ) (notes_wanted : Bool) : Type 0 where
   pub empty_set : set ≡ empty
   pub two : held ≡ 2
   pub others : free + held ≡ 512
-  pub silent : wanted ≡ false
+  pub silent : notes_wanted ≡ false

@@ -29,26 +29,26 @@ pub record CountsNone (before after : Counts) : Type 0 where
 
 module _ {S : Type 0} (g : shadows.Ghosts S) where
   -- A step that went is counted, and leaves the guest where it can go on. One that stopped isn't.
-  pub record StepLeaves (image : Image) (wanted : Bool) (old new : Scene S) (result : Result Seen Stop) : Type 0 where
+  pub record StepLeaves (image : Image) (notes_wanted : Bool) (old new : Scene S) (result : Result Seen Stop) : Type 0 where
     pub held : OnOk result (IsHeldIn g (ground image old.guest.frames) new)
     pub ready : OnOk result (IsReadyIn g (ground image old.guest.frames) new)
-    pub reloaded : OnOk result (wanted ≡ true → new.guest.lost.reloaded ≡ false)
+    pub reloaded : OnOk result (notes_wanted ≡ true → new.guest.lost.reloaded ≡ false)
     pub count : OnOk result (new.guest.step ≡ old.guest.step + 1)
     pub stays : OnErr result (Stays old new)
 
   -- a step by the rules alone, by all that is kept
-  pub record StepsAlone (image : Image) (wanted : Bool) (old new : Scene S) (result : Result Seen Stop) : Type 0 where
+  pub record StepsAlone (image : Image) (notes_wanted : Bool) (old new : Scene S) (result : Result Seen Stop) : Type 0 where
     pub step : (script : Events) → AloneAs (wedge image script old.guest.frames) (state_in g (wedge image script old.guest.frames) old)
         new.guest.lost result (state_in g (wedge image script old.guest.frames) new)
-    pub leaves : StepLeaves image wanted old new result
+    pub leaves : StepLeaves image notes_wanted old new result
     pub before : new.guest.lost.before ≡ old.guest.lost.before
-    pub carried : OnOk result (CarriesOn g image wanted (set_in g old) old new)
+    pub carried : OnOk result (CarriesOn g image notes_wanted (set_in g old) old new)
 
   -- A step, by what is kept or by what is left of it, with what the host counts.
-  pub record StepsOnce (image : Image) (wanted : Bool) (old new : Scene S) (result : Result Seen Stop) (before after : Counts) : Type 0 where
+  pub record StepsOnce (image : Image) (notes_wanted : Bool) (old new : Scene S) (result : Result Seen Stop) (before after : Counts) : Type 0 where
     pub step : (script : Events) → StepAs (wedge image script old.guest.frames) (state_in g (wedge image script old.guest.frames) old)
         new.guest.lost result (state_in g (wedge image script old.guest.frames) new) before after
-    pub leaves : StepLeaves image wanted old new result
+    pub leaves : StepLeaves image notes_wanted old new result
     pub able : OnOk result (IsAble new.guest.cpu)
-    pub carried : OnOk result (CarriesOn g image wanted (left_of new.guest.lost.before (set_in g old)) old new)
+    pub carried : OnOk result (CarriesOn g image notes_wanted (left_of new.guest.lost.before (set_in g old)) old new)
     pub clashed : StepLosesByClash g image old new

@@ -86,7 +86,7 @@ pub fn begin_native<'t, S: Reloads + Drop>(
     ram: &mut Ram,
     image: &Checked,
     text: &'t Option<Text<'t>>,
-    wanted: bool,
+    notes_wanted: bool,
     state: &mut StepState<'t>,
 ) -> Result<Attempt, Stop>
     requires text { IsOriginal image.now text.now }
@@ -95,13 +95,13 @@ pub fn begin_native<'t, S: Reloads + Drop>(
     requires runs { may_run running.old.cpu running.old.board image.now ≡ true }
     requires bound { running.old.step < 2 ^ 40 }
     requires kept { (running.old.lost.before ≡ false) × (running.old.lost.reloaded ≡ false) }
-    ensures attempts { Attempts S.Shadows image.now wanted (scene running.old pool.old ram.old)
+    ensures attempts { Attempts S.Shadows image.now notes_wanted (scene running.old pool.old ram.old)
         (scene running.new pool.new ram.new) result }
     ensures accounts { Accounts S.Shadows (scene running.old pool.old ram.old) (scene running.new pool.new ram.new) }
 {
     known_laws();
     make_room(running, pool, ram, image);
-    try_once(running, pool, ram, image, text, wanted, state)
+    try_once(running, pool, ram, image, text, notes_wanted, state)
 }
 
 /// The same where frames are free for the pages of an instruction, and the next one doesn't clash with what is kept.
@@ -111,7 +111,7 @@ fn try_once<'t, S: Reloads + Drop>(
     ram: &mut Ram,
     image: &Checked,
     text: &'t Option<Text<'t>>,
-    wanted: bool,
+    notes_wanted: bool,
     state: &mut StepState<'t>,
 ) -> Result<Attempt, Stop>
     requires text { IsOriginal image.now text.now }
@@ -123,7 +123,7 @@ fn try_once<'t, S: Reloads + Drop>(
     requires room { 8 ≤ length (free_list pool.old ram.old) }
     requires clear { IsClearIn S.Shadows image.now running.old.frames (scene running.old pool.old ram.old) }
     requires kept { running.old.lost.reloaded ≡ false }
-    ensures tries { TriesOnce S.Shadows image.now wanted (scene running.old pool.old ram.old)
+    ensures tries { TriesOnce S.Shadows image.now notes_wanted (scene running.old pool.old ram.old)
         (scene running.new pool.new ram.new) result }
     ensures accounts { Accounts S.Shadows (scene running.old pool.old ram.old) (scene running.new pool.new ram.new) }
 {
@@ -144,7 +144,7 @@ fn try_once<'t, S: Reloads + Drop>(
         Ok(Some(worked)) => {
             are_bytes(ram, image, running.frames);
             let count = text_frames(image);
-            finish_step(running, pool, ram, state, &worked, count, wanted);
+            finish_step(running, pool, ram, state, &worked, count, notes_wanted);
             Ok(Attempt::Stepped(worked.seen))
         }
         Ok(None) => {

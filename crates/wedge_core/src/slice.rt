@@ -51,7 +51,7 @@ pub fn steps_to<S: Reloads + Drop, H: Host, O: Sink, L: Notes>(
     ensures faults { FaultsOf (O.faults out.old) (O.faults out.new) result }
     ensures started { H.is_started host.new ≡ true }
 {
-    let wanted = notes.wanted();
+    let notes_wanted = notes.wanted();
     carry_laws();
     let text = Some(original(image));
     let mut state = first_state(&text);
@@ -62,7 +62,16 @@ pub fn steps_to<S: Reloads + Drop, H: Host, O: Sink, L: Notes>(
             continue;
         }
         let before = running.step;
-        match one_step(running, pool, host, image, &text, wanted, runs, &mut state) {
+        match one_step(
+            running,
+            pool,
+            host,
+            image,
+            &text,
+            notes_wanted,
+            runs,
+            &mut state,
+        ) {
             Err(stop) => {
                 tell(notes, running.lost.before, before);
                 return Ok(Pause::Stopped(stop));

@@ -30,7 +30,7 @@ pub fn one_step<'t, S: Reloads + Drop, H: Host>(
     host: &mut H,
     image: &Checked,
     text: &'t Option<Text<'t>>,
-    wanted: bool,
+    notes_wanted: bool,
     runs: bool,
     state: &mut StepState<'t>,
 ) -> Result<Seen, Stop>
@@ -41,7 +41,7 @@ pub fn one_step<'t, S: Reloads + Drop, H: Host>(
     requires able { IsAble running.old.cpu }
     requires bound { running.old.step < 2 ^ 40 }
     requires room { H.retired host.old + 1 < 2 ^ 64 }
-    ensures steps { StepsOnce S.Shadows image.now wanted (scene running.old pool.old (H.bytes host.old))
+    ensures steps { StepsOnce S.Shadows image.now notes_wanted (scene running.old pool.old (H.bytes host.old))
         (scene running.new pool.new (H.bytes host.new)) result (counts_of H.Host host.old) (counts_of H.Host host.new) }
     ensures accounts { Accounts S.Shadows (scene running.old pool.old (H.bytes host.old)) (scene running.new pool.new (H.bytes host.new)) }
     ensures counts { CountsOne (counts_of H.Host host.old) (counts_of H.Host host.new) result }
@@ -55,9 +55,17 @@ pub fn one_step<'t, S: Reloads + Drop, H: Host>(
         reloaded: false,
     };
     if !runs {
-        return step_alone(running, pool, host.ram_mut(), image, text, wanted, state);
+        return step_alone(
+            running,
+            pool,
+            host.ram_mut(),
+            image,
+            text,
+            notes_wanted,
+            state,
+        );
     }
-    on_host(running, pool, host, image, text, wanted, state)
+    on_host(running, pool, host, image, text, notes_wanted, state)
 }
 
 /// The same where the host may do the instruction, and nothing is lost yet.
@@ -67,7 +75,7 @@ fn on_host<'t, S: Reloads + Drop, H: Host>(
     host: &mut H,
     image: &Checked,
     text: &'t Option<Text<'t>>,
-    wanted: bool,
+    notes_wanted: bool,
     state: &mut StepState<'t>,
 ) -> Result<Seen, Stop>
     requires text { IsOriginal image.now text.now }
@@ -78,7 +86,7 @@ fn on_host<'t, S: Reloads + Drop, H: Host>(
     requires room { H.retired host.old + 1 < 2 ^ 64 }
     requires runs { may_run running.old.cpu running.old.board image.now ≡ true }
     requires kept { (running.old.lost.before ≡ false) × (running.old.lost.reloaded ≡ false) }
-    ensures steps { StepsOnce S.Shadows image.now wanted (scene running.old pool.old (H.bytes host.old))
+    ensures steps { StepsOnce S.Shadows image.now notes_wanted (scene running.old pool.old (H.bytes host.old))
         (scene running.new pool.new (H.bytes host.new)) result (counts_of H.Host host.old) (counts_of H.Host host.new) }
     ensures accounts { Accounts S.Shadows (scene running.old pool.old (H.bytes host.old)) (scene running.new pool.new (H.bytes host.new)) }
     ensures counts { CountsOne (counts_of H.Host host.old) (counts_of H.Host host.new) result }
@@ -87,7 +95,15 @@ fn on_host<'t, S: Reloads + Drop, H: Host>(
     known_laws();
     steps_keep_able();
     let frames = running.frames;
-    match begin_native(running, pool, host.ram_mut(), image, text, wanted, state) {
+    match begin_native(
+        running,
+        pool,
+        host.ram_mut(),
+        image,
+        text,
+        notes_wanted,
+        state,
+    ) {
         Err(stop) => Err(stop),
         Ok(Attempt::Stepped(seen)) => Ok(seen),
         Ok(Attempt::Asked) => {

@@ -160,8 +160,8 @@ none_left (dropped.Page page) old = refl
 none_left (dropped.Dir index) old = refl
 none_left dropped.All old = refl
 
-pub loaded_left : (d : Dropped) (wanted : Bool) (old new : Set) → (wanted ≡ true → new ≡ empty) → not wanted ≡ false → new ≡ left_of (true && not (is_all d)) (dropping d old)
-loaded_left d wanted old new none w = none (wanted_true wanted w) ∙ sym (none_left d old)
+pub loaded_left : (d : Dropped) (notes_wanted : Bool) (old new : Set) → (notes_wanted ≡ true → new ≡ empty) → not notes_wanted ≡ false → new ≡ left_of (true && not (is_all d)) (dropping d old)
+loaded_left d notes_wanted old new none w = none (wanted_true notes_wanted w) ∙ sym (none_left d old)
 
 pub through_left : (d : Dropped) (changed : Bool) (old new : Set) → (changed || not (is_all d)) ≡ true → (is_all d ≡ false → new ≡ left_of changed (dropping d old)) → (changed ≡ true → new ≡ empty)
     → new ≡ left_of (changed && not (is_all d)) (dropping d old)

@@ -41,8 +41,8 @@ module _ {S : Type 0} (g : shadows.Ghosts S) where
 
   -- With a whole pool and no notes wanted, what is known of a run goes on over its next step, which goes by this set.
   abbrev pub CarriesOn : Image → Bool → Set → Scene S → Scene S → Type 0
-  CarriesOn image wanted set old new =
-      (script : Events) (steps : List Taken) (t : Taken) → wanted ≡ false → free old + old.guest.held ≡ 512 → Roomy (steps ++ t ∷ [])
+  CarriesOn image notes_wanted set old new =
+      (script : Events) (steps : List Taken) (t : Taken) → notes_wanted ≡ false → free old + old.guest.held ≡ 512 → Roomy (steps ++ t ∷ [])
       → IsTakenFrom (wedge image script old.guest.frames) (state_in g (wedge image script old.guest.frames) old) t → t.set ≡ set
       → IsCarriedIn image script steps t.before old
       → IsCarried g (wedge image script old.guest.frames) (steps ++ t ∷ []) t.after new.guest.shadows new.memory

@@ -43,11 +43,11 @@ pub record Loads (cr3 : ℕ) (pages : List ℕ) (v v' : Sight) : Type 0 where
 -- What leaves at the end of a step that went, and what comes back. Where the rules and CR3 stay, what the instruction
 -- drops leaves. Where the rules change, all does. Where CR3 is loaded, no notes are wanted and frames are free, these pages
 -- leave, and what is present is put by.
-pub record Leaves (worked : Worked) (before : Cpu) (pages : List ℕ) (wanted : Bool) (free : ℕ) (v v' : Sight) : Type 0 where
+pub record Leaves (worked : Worked) (before : Cpu) (pages : List ℕ) (notes_wanted : Bool) (free : ℕ) (v v' : Sight) : Type 0 where
   pub stay : RulesSame before worked.cpu → worked.cpu.cr3 ≡ before.cr3 → is_all worked.dropped ≡ false
       → StaysBeside v v' × (entries_of v'.slots ≡ dropping worked.dropped (entries_of v.slots))
   pub lost : (RulesSame before worked.cpu → ⊥) → worked.cpu.cr3 ≡ before.cr3 → EmptiesBeside v v' × (entries_of v'.slots ≡ empty)
-  pub loads : RulesSame before worked.cpu → is_all worked.dropped ≡ true → wanted ≡ false → 2 ≤ free → Loads worked.cpu.cr3 pages v v'
+  pub loads : RulesSame before worked.cpu → is_all worked.dropped ≡ true → notes_wanted ≡ false → 2 ≤ free → Loads worked.cpu.cr3 pages v v'
 
 -- How a step that went ends: what is kept was told what it read and wrote, and is then this set. Where the rules and CR3
 -- stay, what the instruction drops leaves. Where the rules change, all does. Where CR3 is loaded, these pages leave, and

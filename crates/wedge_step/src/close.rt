@@ -173,14 +173,14 @@ fn make_way<S: Shadows>(
     pool: &mut Pool,
     ram: &mut Ram,
     pages: &[u32],
-    wanted: bool,
+    notes_wanted: bool,
 )
     requires owned { IsOwned S.Shadows (stand shadows.old pool.old ram.old) }
     requires enough { 4 ≤ room_in S.Shadows (stand shadows.old pool.old ram.old) }
     ensures moved { Moved S.Shadows (stand shadows.old pool.old ram.old) (stand shadows.new pool.new ram.new) }
     ensures room { 2 ≤ free_in (stand shadows.new pool.new ram.new) }
-    ensures emptied { wanted ≡ true → IsBare (sight S.Shadows shadows.new ram.new) }
-    ensures sheds { wanted ≡ false → 2 ≤ free_in (stand shadows.old pool.old ram.old)
+    ensures emptied { notes_wanted ≡ true → IsBare (sight S.Shadows shadows.new ram.new) }
+    ensures sheds { notes_wanted ≡ false → 2 ≤ free_in (stand shadows.old pool.old ram.old)
         → Sheds pages.now (sight S.Shadows shadows.old ram.old) (sight S.Shadows shadows.new ram.new) }
     ensures cr3 { S.cr3 shadows.new ≡ S.cr3 shadows.old }
     ensures has_tables_under { OpensNoMore S.Shadows (stand shadows.old pool.old ram.old) (stand shadows.new pool.new ram.new) }
@@ -191,7 +191,7 @@ fn make_way<S: Shadows>(
         → IsReadyButIn S.Shadows (λ page. is_among page pages.now) m cpu (stand shadows.old pool.old ram.old)
         → IsReadyIn S.Shadows m cpu (stand shadows.new pool.new ram.new) }
 {
-    if wanted || pool.free() < 2 {
+    if notes_wanted || pool.free() < 2 {
         shadows.drop_all(ram, pool);
     } else {
         drop_pages(shadows, ram, pages);
@@ -206,13 +206,13 @@ fn load<S: Reloads>(
     ram: &mut Ram,
     cr3: u32,
     pages: &[u32],
-    wanted: bool,
+    notes_wanted: bool,
 )
     requires owned { IsOwned S.Shadows (stand shadows.old pool.old ram.old) }
     requires enough { 4 ≤ room_in S.Shadows (stand shadows.old pool.old ram.old) }
     ensures moved { Moved S.Shadows (stand shadows.old pool.old ram.old) (stand shadows.new pool.new ram.new) }
-    ensures emptied { wanted ≡ true → set_in S.Shadows (stand shadows.new pool.new ram.new) ≡ empty }
-    ensures loads { wanted ≡ false → 2 ≤ free_in (stand shadows.old pool.old ram.old)
+    ensures emptied { notes_wanted ≡ true → set_in S.Shadows (stand shadows.new pool.new ram.new) ≡ empty }
+    ensures loads { notes_wanted ≡ false → 2 ≤ free_in (stand shadows.old pool.old ram.old)
         → Loads cr3 pages.now (sight S.Shadows shadows.old ram.old) (sight S.Shadows shadows.new ram.new) }
     ensures has_tables_under { OpensNoMore S.Shadows (stand shadows.old pool.old ram.old) (stand shadows.new pool.new ram.new) }
     ensures fewer { count_in S.Shadows (stand shadows.new pool.new ram.new) ≤ count_in S.Shadows (stand shadows.old pool.old ram.old) }
@@ -224,7 +224,7 @@ fn load<S: Reloads>(
         → IsReadyIn S.Shadows m after (stand shadows.new pool.new ram.new)
         × AreFoundIn S.Shadows m after cr3 (stand shadows.new pool.new ram.new) }
 {
-    make_way(shadows, pool, ram, pages, wanted);
+    make_way(shadows, pool, ram, pages, notes_wanted);
     shadows.switch(ram, pool, cr3);
 }
 
@@ -293,7 +293,7 @@ pub fn drop_and_switch<S: Reloads>(
     before: &Cpu,
     worked: &Worked,
     pages: &[u32],
-    wanted: bool,
+    notes_wanted: bool,
 ) -> Left
     requires owned { IsOwned S.Shadows (stand shadows.old pool.old ram.old) }
     requires page { IsDropped worked.now.dropped }
@@ -301,8 +301,8 @@ pub fn drop_and_switch<S: Reloads>(
     ensures moved { Moved S.Shadows (stand shadows.old pool.old ram.old) (stand shadows.new pool.new ram.new) }
     ensures left { result.reloaded ≡ false → set_in S.Shadows (stand shadows.new pool.new ram.new)
         ≡ left_of result.none (dropping worked.now.dropped (set_in S.Shadows (stand shadows.old pool.old ram.old))) }
-    ensures wanted { wanted ≡ true → result.reloaded ≡ false }
-    ensures leaves { Leaves worked.now before.now pages.now wanted (free_in (stand shadows.old pool.old ram.old))
+    ensures notes_wanted { notes_wanted ≡ true → result.reloaded ≡ false }
+    ensures leaves { Leaves worked.now before.now pages.now notes_wanted (free_in (stand shadows.old pool.old ram.old))
         (sight S.Shadows shadows.old ram.old) (sight S.Shadows shadows.new ram.new) }
     ensures has_tables_under { OpensNoMore S.Shadows (stand shadows.old pool.old ram.old) (stand shadows.new pool.new ram.new) }
     ensures fewer { count_in S.Shadows (stand shadows.new pool.new ram.new) ≤ count_in S.Shadows (stand shadows.old pool.old ram.old) }
@@ -321,9 +321,9 @@ pub fn drop_and_switch<S: Reloads>(
             reloaded: false,
         };
     }
-    load(shadows, pool, ram, worked.cpu.cr3, pages, wanted);
+    load(shadows, pool, ram, worked.cpu.cr3, pages, notes_wanted);
     Left {
         none: is_lost(true, worked.dropped),
-        reloaded: !wanted,
+        reloaded: !notes_wanted,
     }
 }

@@ -61,15 +61,16 @@ pub fn step_alone<'t, S: Reloads + Drop>(
     ram: &mut Ram,
     image: &Checked,
     text: &'t Option<Text<'t>>,
-    wanted: bool,
+    notes_wanted: bool,
     state: &mut StepState<'t>,
 ) -> Result<Seen, Stop>
     requires text { IsOriginal image.now text.now }
     requires between { IsBetween S.Shadows image.now (scene running.old pool.old ram.old) }
     requires bound { running.old.step < 2 ^ 40 }
     ensures between { OnOk result (IsBetween S.Shadows image.now (scene running.new pool.new ram.new)) }
-    ensures wanted { OnOk result (wanted ≡ true → running.new.lost.reloaded ≡ false) }
-    ensures carried { OnOk result (CarriesOn S.Shadows image.now wanted (set_in S.Shadows (stand running.old.shadows pool.old ram.old))
+    ensures notes_wanted { OnOk result (notes_wanted ≡ true → running.new.lost.reloaded ≡ false) }
+    ensures carried { OnOk result (CarriesOn S.Shadows image.now notes_wanted
+        (set_in S.Shadows (stand running.old.shadows pool.old ram.old))
         (scene running.old pool.old ram.old) (scene running.new pool.new ram.new)) }
     ensures step { (script : Events) → let m = wedge image.now script running.old.frames in
         AloneAs m (state_in S.Shadows m (scene running.old pool.old ram.old)) running.new.lost result
@@ -92,7 +93,7 @@ pub fn step_alone<'t, S: Reloads + Drop>(
             known_laws();
             are_bytes(ram, image, running.frames);
             let count = text_frames(image);
-            finish_step(running, pool, ram, state, &worked, count, wanted);
+            finish_step(running, pool, ram, state, &worked, count, notes_wanted);
             Ok(worked.seen)
         }
         Err(stop) => Err(stop),
@@ -155,7 +156,7 @@ pub fn finish_step<S: Reloads + Drop>(
     state: &StepState,
     worked: &Worked,
     count: u32,
-    wanted: bool,
+    notes_wanted: bool,
 )
     requires under { IsUnderWay S.Shadows (scene running.old pool.old ram.old) state.now }
     requires counts { MayEnd S.Shadows (scene running.old pool.old ram.old) }
@@ -164,10 +165,10 @@ pub fn finish_step<S: Reloads + Drop>(
     ensures left { running.new.lost.reloaded ≡ false → set_in S.Shadows (stand running.new.shadows pool.new ram.new)
         ≡ left_of running.new.lost.after (dropping worked.now.dropped
         (set_behind S.Shadows (stand running.old.shadows pool.old ram.old) state.now)) }
-    ensures wanted { wanted ≡ true → running.new.lost.reloaded ≡ false }
+    ensures notes_wanted { notes_wanted ≡ true → running.new.lost.reloaded ≡ false }
     ensures has_tables_under { OpensFor S.Shadows (pages_through state.now)
         (stand running.old.shadows pool.old ram.old) (stand running.new.shadows pool.new ram.new) }
-    ensures ends { wanted ≡ false
+    ensures ends { notes_wanted ≡ false
         → MayCloseIn S.Shadows count (side_of (running.old.cpu.cpl == 3)) (stand running.old.shadows pool.old ram.old) state.now
         → (indices : ℕ → Bool) → AreUnder (pages_through state.now) indices → S.has_tables_under running.old.shadows ram.old indices
         → Suffices S.Shadows indices (room_in S.Shadows (stand running.old.shadows pool.old ram.old))
@@ -197,7 +198,7 @@ pub fn finish_step<S: Reloads + Drop>(
         &running.cpu,
         worked,
         state.visited.as_slice(),
-        wanted,
+        notes_wanted,
     );
     running.lost.after |= left.none;
     running.lost.reloaded = left.reloaded;

@@ -122,7 +122,7 @@ module _ (g : Over) (c : goal.After-try_once g) where
 
   abbrev IsTaken : Running g.row.S.Denot → Events → List Taken → Taken → Type 0 → Type 0
   IsTaken r script steps t fact =
-      c.args.wanted ≡ false → length (free_list c.make_room.new.pool ram1) + r.held ≡ 512 → Roomy (steps ++ t ∷ [])
+      c.args.notes_wanted ≡ false → length (free_list c.make_room.new.pool ram1) + r.held ≡ 512 → Roomy (steps ++ t ∷ [])
       → IsTakenFrom (wedge image script r.frames) (state_of g.S.Shadows (wedge image script r.frames) r ram1) t → t.set ≡ set_of g.S.Shadows r ram1 → fact
 
   tried : WhereStepped c.try_once.result ((script : Events) (steps : List Taken) (t : Taken) → IsTaken mid script steps t (Carries mid script steps t))

@@ -235,7 +235,7 @@ returns-in-Ok-Some-clause-tries g c = record {
         held_then g.S.Shadows image running (record c.finish_step.new.running { step = running.step + 1 }) c.args.pool.now c.finish_step.new.pool c.args.ram.now c.try_native.new.ram c.finish_step.new.ram c.requires.held k.a (owns c.try_native.ensures.sound.stands_now) c.finish_step.ensures.moved.moves
         c.finish_step.ensures.moved.stands c.finish_step.ensures.moved.owns c.finish_step.ensures.counts.counted (omega (arith, fills, count)) c.finish_step.ensures.passes.frames within2 (subst (λ (x : Cpu). AreOpen image (wp_of x) slots2) (sym c.finish_step.ensures.passes.cpu) open2);
     ready = (ready2 g c).0;
-    reloaded = c.finish_step.ensures.wanted;
+    reloaded = c.finish_step.ensures.notes_wanted;
     count = c.finish_step.ensures.passes.step;
     asked = tt;
     stays = tt;

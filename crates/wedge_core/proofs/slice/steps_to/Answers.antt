@@ -45,9 +45,9 @@ module _ (g : Over) where
 
   -- how the slice begins, where its sets keep the rule
   abbrev Begun : Image → Events → ℕ → Running g.row.S.Denot → List ℕ → Pool → Bool → Type 0
-  Begun image script f r memory pool wanted =
+  Begun image script f r memory pool notes_wanted =
       IsCarried g.S.Shadows (wedge image script f) [] (state_of g.S.Shadows (wedge image script f) r memory) r.shadows memory
-      × (length (free_list pool memory) + r.held ≡ 512) × (wanted ≡ false)
+      × (length (free_list pool memory) + r.held ≡ 512) × (notes_wanted ≡ false)
 
   abbrev Knows : Setting → Running g.row.S.Denot → List ℕ → Set → List Taken → State → Type 0
   Knows m r memory kept steps b = CarriedWith g.S.Shadows m r.shadows memory kept steps b
@@ -83,7 +83,7 @@ loop-running-init g c =
       started = c.requires.started;
       frames = refl;
       wants = refl;
-      wanted = c.wanted-wanted.ensures;
+      notes_wanted = c.wanted-notes_wanted.ensures;
       silent = λ w. refl;
       later = omega arith;
       bound = c.requires.begun;
@@ -130,7 +130,7 @@ loop-running-preserved-then-stretch-gt0 g c =
       started = c.stretch.ensures.started;
       frames = c.stretch.ensures.leaves.frames ∙ inv.frames;
       wants = inv.wants;
-      wanted = inv.wanted;
+      notes_wanted = inv.notes_wanted;
       silent = inv.silent;
       later = inv.later;
       bound = c.stretch.ensures.counts.most;
@@ -188,11 +188,11 @@ returns-in-Err-clause-slice g c =
     let still : new.step ≡ r.step = omega (arith, e, n, none) in
     let unmoved : new_counts ≡ so_far = counts_same (g.H.Host.retired c.stretch.new.host) (g.H.Host.retired c.one_step.new.host) (g.H.Host.passed c.stretch.new.host) (g.H.Host.passed c.one_step.new.host) c.in-Err.ensures.counts.retired c.in-Err.ensures.counts.passed ∙ same in
     let step_same : mid.step ≡ r.step = omega (arith, n, none) in
-    let wanted = g.L.Notes.wants c.args.notes.now in
+    let notes_wanted = g.L.Notes.wants c.args.notes.now in
     let first = g.L.Notes.tells c.args.notes.now in
     let before = g.L.Notes.tells c.loop-running.notes in
     let after = g.L.Notes.tells c.tell.new.notes in
-    let told_now = subst (λ (k : ℕ). NotesOn wanted before after (emptied_if new.lost.before k)) step_same
+    let told_now = subst (λ (k : ℕ). NotesOn notes_wanted before after (emptied_if new.lost.before k)) step_same
     (subst (λ (w : Bool). NotesOn w before after (emptied_if new.lost.before mid.step)) inv.wants c.tell.ensures.told) in
     let rises : r.fills ≤ new.fills = (let e0 = c.stretch.ensures.leaves.filled in let e1 = c.in-Err.ensures.accounts.filled in let r0 = e0.rises in let r1 = e1.rises in omega (arith, r0, r1)) in
     let begins = Begun g c.args.image.now c.args.script.now.list c.args.running.now.frames c.args.running.now (g.H.Host.bytes c.args.host.now) c.args.pool.now (g.L.Notes.wants c.args.notes.now) in
@@ -202,13 +202,13 @@ returns-in-Err-clause-slice g c =
     (g.S.Shadows.frames c.args.running.now.shadows (g.H.Host.bytes c.args.host.now)) (g.S.Shadows.frames r.shadows memory) (g.S.Shadows.frames mid.shadows then_memory)
     inv.pool (c.stretch.ensures.leaves.pool c.loop-running.pool (held_given g.S.Shadows c.args.image.now c.args.running.now.frames c.loop-running.running.frames c.loop-running.running c.begin.new.self c.loop-running.pool (g.H.Host.bytes c.loop-running.host) c.loop-running.invariant.frames c.loop-running.invariant.held)) in
     let clash : DropClashes m (at f r memory) new.lost.before begins (Knows g m r memory) =
-    drop_clashes g.S.Shadows (widens g) laws c.args.image.now c.args.script.now.list f r mid new memory then_memory new_memory c.loop-running.pool c.begin.new.self begins c.wanted-wanted.result
+    drop_clashes g.S.Shadows (widens g) laws c.args.image.now c.args.script.now.list f r mid new memory then_memory new_memory c.loop-running.pool c.begin.new.self begins c.wanted-notes_wanted.result
     (c.stretch.ensures.leaves.frames ∙ inv.frames) stays c.begin.ensures inv.held held_mid c.stretch.ensures.leaves.kept c.stretch.ensures.leaves.apart
     (λ s. whole_then g.S.Shadows (widens g) laws (ground c.args.image.now f) c.args.running.now mid c.args.pool.now c.loop-running.pool (g.H.Host.bytes c.args.host.now) then_memory c.requires.between.held held_mid keeps_mid s.1)
     c.in-Err.ensures.steps.clashed in
-    let ends = stopped m c.args.bound old (at f r memory) (at f new new_memory) new.lost c.in-Err.stop counts so_far told tells (pages_kept g.S.Shadows c.args.running.now.shadows (g.H.Host.bytes c.args.host.now)) c.args.running.now.fills r.fills new.fills wanted (NotesOn wanted first before) (NotesOn wanted first after)
-    begins (Knows g m r memory) inv.going step c.loop-running-test.true still rises laws (known_past g laws m r memory) clash (notes_on_more wanted first before after (emptied_if new.lost.before r.step) told_now) in
-    subst (λ (x : Counts). SliceAs m c.args.bound old (at f new new_memory) counts x told tells (pages_kept g.S.Shadows c.args.running.now.shadows (g.H.Host.bytes c.args.host.now)) c.args.running.now.fills new.fills wanted (NotesOn wanted first after) begins (Ok (Stopped c.in-Err.stop))) (sym unmoved) ends
+    let ends = stopped m c.args.bound old (at f r memory) (at f new new_memory) new.lost c.in-Err.stop counts so_far told tells (pages_kept g.S.Shadows c.args.running.now.shadows (g.H.Host.bytes c.args.host.now)) c.args.running.now.fills r.fills new.fills notes_wanted (NotesOn notes_wanted first before) (NotesOn notes_wanted first after)
+    begins (Knows g m r memory) inv.going step c.loop-running-test.true still rises laws (known_past g laws m r memory) clash (notes_on_more notes_wanted first before after (emptied_if new.lost.before r.step) told_now) in
+    subst (λ (x : Counts). SliceAs m c.args.bound old (at f new new_memory) counts x told tells (pages_kept g.S.Shadows c.args.running.now.shadows (g.H.Host.bytes c.args.host.now)) c.args.running.now.fills new.fills notes_wanted (NotesOn notes_wanted first after) begins (Ok (Stopped c.in-Err.stop))) (sym unmoved) ends
 
 pub returns-in-Err-put_seen-clause-slice : goal.returns-in-Err-put_seen-clause-slice
 returns-in-Err-put_seen-clause-slice g c =
@@ -239,15 +239,15 @@ returns-in-Err-put_seen-clause-slice g c =
     let last = g.O.Sink.taken c.put_seen.new.out in
     let put = subst (λ (n : ℕ). AppendsFront tells last (lines_of (items_at n (whats c.in-Ok.seen)))) step_same c.in-Err-put_seen.ensures.failed in
     let count : new.step ≡ r.step + 1 = (let n = c.in-Ok.ensures.steps.leaves.count in omega (arith, n, step_same)) in
-    let wanted = g.L.Notes.wants c.args.notes.now in
+    let notes_wanted = g.L.Notes.wants c.args.notes.now in
     let first = g.L.Notes.tells c.args.notes.now in
     let before = g.L.Notes.tells c.loop-running.notes in
     let after = g.L.Notes.tells c.tell_both.new.notes in
-    let told_now = subst (λ (k : ℕ). NotesOn wanted before after (notes_then new.lost k)) step_same
+    let told_now = subst (λ (k : ℕ). NotesOn notes_wanted before after (notes_then new.lost k)) step_same
     (subst (λ (w : Bool). NotesOn w before after (notes_then new.lost mid.step)) inv.wants c.tell_both.ensures.told) in
     let rises : r.fills ≤ new.fills = (let e0 = c.stretch.ensures.leaves.filled in let e1 = c.in-Ok.ensures.accounts.filled in let r0 = e0.rises in let r1 = e1.rises in omega (arith, r0, r1)) in
     let more = few g new new_memory _ _ _ (fills_join _ _ _ _ _ _ (fills_join _ _ _ _ _ _ inv.filled c.stretch.ensures.leaves.filled) c.in-Ok.ensures.accounts.filled) in
-    let exact = λ (w : wanted ≡ true). c.in-Ok.ensures.steps.leaves.reloaded (inv.wanted ∙ w) in
+    let exact = λ (w : notes_wanted ≡ true). c.in-Ok.ensures.steps.leaves.reloaded (inv.notes_wanted ∙ w) in
     let laws = c.carry_laws.ensures in
     let begins = Begun g c.args.image.now c.args.script.now.list c.args.running.now.frames c.args.running.now (g.H.Host.bytes c.args.host.now) c.args.pool.now (g.L.Notes.wants c.args.notes.now) in
     let held_mid = held_at g.S.Shadows c.args.image.now r.frames f mid c.loop-running.pool then_memory inv.frames (c.stretch.ensures.leaves.held c.loop-running.pool (held_given g.S.Shadows c.args.image.now c.args.running.now.frames c.loop-running.running.frames c.loop-running.running c.begin.new.self c.loop-running.pool (g.H.Host.bytes c.loop-running.host) c.loop-running.invariant.frames c.loop-running.invariant.held)) in
@@ -255,13 +255,13 @@ returns-in-Err-put_seen-clause-slice g c =
     (g.S.Shadows.frames c.args.running.now.shadows (g.H.Host.bytes c.args.host.now)) (g.S.Shadows.frames r.shadows memory) (g.S.Shadows.frames mid.shadows then_memory)
     inv.pool (c.stretch.ensures.leaves.pool c.loop-running.pool (held_given g.S.Shadows c.args.image.now c.args.running.now.frames c.loop-running.running.frames c.loop-running.running c.begin.new.self c.loop-running.pool (g.H.Host.bytes c.loop-running.host) c.loop-running.invariant.frames c.loop-running.invariant.held)) in
     let over : StepCarries m (at f r memory) (at f new new_memory) new.lost begins (Knows g m r memory) (Knows g m new new_memory) =
-    step_carries g.S.Shadows (widens g) laws c.args.image.now c.args.script.now.list f r mid new memory then_memory new_memory c.loop-running.pool c.begin.new.self begins c.wanted-wanted.result
-    (c.stretch.ensures.leaves.frames ∙ inv.frames) stays c.begin.ensures inv.held held_mid c.stretch.ensures.leaves.kept c.stretch.ensures.leaves.apart (λ s. inv.wanted ∙ s.2)
+    step_carries g.S.Shadows (widens g) laws c.args.image.now c.args.script.now.list f r mid new memory then_memory new_memory c.loop-running.pool c.begin.new.self begins c.wanted-notes_wanted.result
+    (c.stretch.ensures.leaves.frames ∙ inv.frames) stays c.begin.ensures inv.held held_mid c.stretch.ensures.leaves.kept c.stretch.ensures.leaves.apart (λ s. inv.notes_wanted ∙ s.2)
     (λ s. whole_then g.S.Shadows (widens g) laws (ground c.args.image.now f) c.args.running.now mid c.args.pool.now c.loop-running.pool (g.H.Host.bytes c.args.host.now) then_memory c.requires.between.held held_mid keeps_mid s.1)
     c.in-Ok.ensures.steps.carried c.in-Ok.ensures.steps.clashed in
-    let s = going_on m old (at f r memory) (at f new new_memory) new.lost c.in-Ok.seen counts so_far new_counts told tells (pages_kept g.S.Shadows c.args.running.now.shadows (g.H.Host.bytes c.args.host.now)) c.args.running.now.fills r.fills new.fills wanted (NotesOn wanted first before) (NotesOn wanted first after)
-    begins (Knows g m r memory) (Knows g m new new_memory) inv.going step count rises more exact laws (known_past g laws m r memory) over (notes_on_more wanted first before after (notes_then new.lost r.step) told_now) in
-    failed m c.args.bound old (at f r memory) (at f new new_memory) c.in-Ok.seen c.in-Err-put_seen.failed counts new_counts told tells last (pages_kept g.S.Shadows c.args.running.now.shadows (g.H.Host.bytes c.args.host.now)) c.args.running.now.fills new.fills wanted (NotesOn wanted first after) begins (Knows g m new new_memory) s put
+    let s = going_on m old (at f r memory) (at f new new_memory) new.lost c.in-Ok.seen counts so_far new_counts told tells (pages_kept g.S.Shadows c.args.running.now.shadows (g.H.Host.bytes c.args.host.now)) c.args.running.now.fills r.fills new.fills notes_wanted (NotesOn notes_wanted first before) (NotesOn notes_wanted first after)
+    begins (Knows g m r memory) (Knows g m new new_memory) inv.going step count rises more exact laws (known_past g laws m r memory) over (notes_on_more notes_wanted first before after (notes_then new.lost r.step) told_now) in
+    failed m c.args.bound old (at f r memory) (at f new new_memory) c.in-Ok.seen c.in-Err-put_seen.failed counts new_counts told tells last (pages_kept g.S.Shadows c.args.running.now.shadows (g.H.Host.bytes c.args.host.now)) c.args.running.now.fills new.fills notes_wanted (NotesOn notes_wanted first after) begins (Knows g m new new_memory) s put
     (let t = c.loop-running-test.true in omega (arith, count, t)) laws (known_past g laws m new new_memory)
 
 pub loop-running-preserved : goal.loop-running-preserved
@@ -293,15 +293,15 @@ loop-running-preserved g c =
     let last = g.O.Sink.taken c.put_seen.new.out in
     let put = subst (λ (n : ℕ). Appends tells last (lines_of (items_at n (whats c.in-Ok.seen)))) step_same c.in-Ok-put_seen.ensures.ok in
     let count : new.step ≡ r.step + 1 = (let n = c.in-Ok.ensures.steps.leaves.count in omega (arith, n, step_same)) in
-    let wanted = g.L.Notes.wants c.args.notes.now in
+    let notes_wanted = g.L.Notes.wants c.args.notes.now in
     let first = g.L.Notes.tells c.args.notes.now in
     let before = g.L.Notes.tells c.loop-running.notes in
     let after = g.L.Notes.tells c.tell_both.new.notes in
-    let told_now = subst (λ (k : ℕ). NotesOn wanted before after (notes_then new.lost k)) step_same
+    let told_now = subst (λ (k : ℕ). NotesOn notes_wanted before after (notes_then new.lost k)) step_same
     (subst (λ (w : Bool). NotesOn w before after (notes_then new.lost mid.step)) inv.wants c.tell_both.ensures.told) in
     let rises : r.fills ≤ new.fills = (let e0 = c.stretch.ensures.leaves.filled in let e1 = c.in-Ok.ensures.accounts.filled in let r0 = e0.rises in let r1 = e1.rises in omega (arith, r0, r1)) in
     let more = few g new new_memory _ _ _ (fills_join _ _ _ _ _ _ (fills_join _ _ _ _ _ _ inv.filled c.stretch.ensures.leaves.filled) c.in-Ok.ensures.accounts.filled) in
-    let exact = λ (w : wanted ≡ true). c.in-Ok.ensures.steps.leaves.reloaded (inv.wanted ∙ w) in
+    let exact = λ (w : notes_wanted ≡ true). c.in-Ok.ensures.steps.leaves.reloaded (inv.notes_wanted ∙ w) in
     let laws = c.carry_laws.ensures in
     let begins = Begun g c.args.image.now c.args.script.now.list c.args.running.now.frames c.args.running.now (g.H.Host.bytes c.args.host.now) c.args.pool.now (g.L.Notes.wants c.args.notes.now) in
     let held_mid = held_at g.S.Shadows c.args.image.now r.frames f mid c.loop-running.pool then_memory inv.frames (c.stretch.ensures.leaves.held c.loop-running.pool (held_given g.S.Shadows c.args.image.now c.args.running.now.frames c.loop-running.running.frames c.loop-running.running c.begin.new.self c.loop-running.pool (g.H.Host.bytes c.loop-running.host) c.loop-running.invariant.frames c.loop-running.invariant.held)) in
@@ -309,13 +309,13 @@ loop-running-preserved g c =
     (g.S.Shadows.frames c.args.running.now.shadows (g.H.Host.bytes c.args.host.now)) (g.S.Shadows.frames r.shadows memory) (g.S.Shadows.frames mid.shadows then_memory)
     inv.pool (c.stretch.ensures.leaves.pool c.loop-running.pool (held_given g.S.Shadows c.args.image.now c.args.running.now.frames c.loop-running.running.frames c.loop-running.running c.begin.new.self c.loop-running.pool (g.H.Host.bytes c.loop-running.host) c.loop-running.invariant.frames c.loop-running.invariant.held)) in
     let over : StepCarries m (at f r memory) (at f new new_memory) new.lost begins (Knows g m r memory) (Knows g m new new_memory) =
-    step_carries g.S.Shadows (widens g) laws c.args.image.now c.args.script.now.list f r mid new memory then_memory new_memory c.loop-running.pool c.begin.new.self begins c.wanted-wanted.result
-    (c.stretch.ensures.leaves.frames ∙ inv.frames) stays c.begin.ensures inv.held held_mid c.stretch.ensures.leaves.kept c.stretch.ensures.leaves.apart (λ s. inv.wanted ∙ s.2)
+    step_carries g.S.Shadows (widens g) laws c.args.image.now c.args.script.now.list f r mid new memory then_memory new_memory c.loop-running.pool c.begin.new.self begins c.wanted-notes_wanted.result
+    (c.stretch.ensures.leaves.frames ∙ inv.frames) stays c.begin.ensures inv.held held_mid c.stretch.ensures.leaves.kept c.stretch.ensures.leaves.apart (λ s. inv.notes_wanted ∙ s.2)
     (λ s. whole_then g.S.Shadows (widens g) laws (ground c.args.image.now f) c.args.running.now mid c.args.pool.now c.loop-running.pool (g.H.Host.bytes c.args.host.now) then_memory c.requires.between.held held_mid keeps_mid s.1)
     c.in-Ok.ensures.steps.carried c.in-Ok.ensures.steps.clashed in
-    let s = going_on m old (at f r memory) (at f new new_memory) new.lost c.in-Ok.seen counts so_far new_counts told tells (pages_kept g.S.Shadows c.args.running.now.shadows (g.H.Host.bytes c.args.host.now)) c.args.running.now.fills r.fills new.fills wanted (NotesOn wanted first before) (NotesOn wanted first after)
-    begins (Knows g m r memory) (Knows g m new new_memory) inv.going step count rises more exact laws (known_past g laws m r memory) over (notes_on_more wanted first before after (notes_then new.lost r.step) told_now) in
-    let stepped = stepped_put m old (at f r memory) (at f new new_memory) c.in-Ok.seen counts new_counts told tells last (pages_kept g.S.Shadows c.args.running.now.shadows (g.H.Host.bytes c.args.host.now)) c.args.running.now.fills new.fills wanted (NotesOn wanted first after) begins (Knows g m new new_memory) s put in
+    let s = going_on m old (at f r memory) (at f new new_memory) new.lost c.in-Ok.seen counts so_far new_counts told tells (pages_kept g.S.Shadows c.args.running.now.shadows (g.H.Host.bytes c.args.host.now)) c.args.running.now.fills r.fills new.fills notes_wanted (NotesOn notes_wanted first before) (NotesOn notes_wanted first after)
+    begins (Knows g m r memory) (Knows g m new new_memory) inv.going step count rises more exact laws (known_past g laws m r memory) over (notes_on_more notes_wanted first before after (notes_then new.lost r.step) told_now) in
+    let stepped = stepped_put m old (at f r memory) (at f new new_memory) c.in-Ok.seen counts new_counts told tells last (pages_kept g.S.Shadows c.args.running.now.shadows (g.H.Host.bytes c.args.host.now)) c.args.running.now.fills new.fills notes_wanted (NotesOn notes_wanted first after) begins (Knows g m new new_memory) s put in
     let rested = c.rest.new.running in
     let frames_then : new.frames ≡ f = c.in-Ok.ensures.accounts.frames ∙ (c.stretch.ensures.leaves.frames ∙ inv.frames) in
     let passes = subst (λ (n : ℕ). Passes (wedge c.args.image.now c.args.script.now.list n) (at n new new_memory) (at n rested new_memory) new_counts new_counts) frames_then
@@ -324,9 +324,9 @@ loop-running-preserved g c =
     let held = held_later g.S.Shadows (ground c.args.image.now f) new rested.board rested.step c.one_step.new.pool new_memory c.rest.ensures.later held_new in
     let as_were : rested ≡ record new { board = rested.board; step = rested.step } = c.rest.ensures.same in
     record {
-      going = going_turned m old (at f rested new_memory) counts new_counts told last (pages_kept g.S.Shadows c.args.running.now.shadows (g.H.Host.bytes c.args.host.now)) c.args.running.now.fills rested.fills wanted (NotesOn wanted first after) begins (Knows g m new new_memory) (Knows g m rested new_memory)
+      going = going_turned m old (at f rested new_memory) counts new_counts told last (pages_kept g.S.Shadows c.args.running.now.shadows (g.H.Host.bytes c.args.host.now)) c.args.running.now.fills rested.fills notes_wanted (NotesOn notes_wanted first after) begins (Knows g m new new_memory) (Knows g m rested new_memory)
           (known_there g laws m new rested new_memory new_memory (entries_of (g.S.Shadows.slots rested.shadows new_memory)) (ap (λ (x : Running g.row.S.Denot). x.shadows) as_were) held_new.stand (record { size = refl; frames = λ frame e. refl }))
-          (going_past m old (at f new new_memory) (at f rested new_memory) counts new_counts new_counts told last (pages_kept g.S.Shadows c.args.running.now.shadows (g.H.Host.bytes c.args.host.now)) c.args.running.now.fills new.fills rested.fills wanted (NotesOn wanted first after) begins (Knows g m new new_memory) stepped
+          (going_past m old (at f new new_memory) (at f rested new_memory) counts new_counts new_counts told last (pages_kept g.S.Shadows c.args.running.now.shadows (g.H.Host.bytes c.args.host.now)) c.args.running.now.fills new.fills rested.fills notes_wanted (NotesOn notes_wanted first after) begins (Knows g m new new_memory) stepped
           (subst (λ (x : Running g.row.S.Denot). new.fills ≤ x.fills) (sym as_were) (omega arith))
           (subst (λ (x : Running g.row.S.Denot). CountsFills (pages_kept g.S.Shadows c.args.running.now.shadows (g.H.Host.bytes c.args.host.now)) (len (entries_of (g.S.Shadows.slots x.shadows new_memory))) c.args.running.now.fills x.fills) (sym as_were) more)
           laws (known_past g laws m new new_memory) (room_at g.S.Shadows c.args.image.now c.args.script.now.list f new c.one_step.new.pool new_memory held_new) passes);
@@ -345,7 +345,7 @@ loop-running-preserved g c =
       started = c.in-Ok.ensures.started;
       frames = ap (λ (x : Running g.row.S.Denot). x.frames) as_were ∙ frames_then;
       wants = c.tell_both.ensures.wants ∙ inv.wants;
-      wanted = inv.wanted;
+      notes_wanted = inv.notes_wanted;
       silent = λ unwanted. c.tell_both.ensures.silent (inv.wants ∙ unwanted) ∙ inv.silent unwanted;
       later = (let a = inv.later in let b = c.in-Ok-put_seen.ensures.later in omega (arith, a, b));
       bound = c.rest.ensures.within;

@@ -31,7 +31,7 @@ invariant-loop-running g l = record {
   started : g.H.Host.is_started l.host ≡ true;
   frames : l.running.frames ≡ l.fn.running.frames;
   wants : g.L.Notes.wants l.notes ≡ g.L.Notes.wants l.fn.notes;
-  wanted : l.wanted ≡ g.L.Notes.wants l.fn.notes;
+  notes_wanted : l.notes_wanted ≡ g.L.Notes.wants l.fn.notes;
   silent : g.L.Notes.wants l.fn.notes ≡ false → l.notes ≡ l.fn.notes;
   later : g.O.Sink.faults l.fn.out ≤ g.O.Sink.faults l.out;
   bound : l.running.step ≤ l.bound;

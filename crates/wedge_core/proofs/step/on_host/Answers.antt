@@ -47,10 +47,10 @@ use Rattle.wedge_core.proofs.step.on_host.Goals as goal
 
 -- ---- over the host's memory, which was lent
 
-attempts_there : {S : Type 0} (g : shadows.Ghosts S) (image : Image) (wanted : Bool) (r r' : Running S) (p p' : Pool) (old new there then : List ℕ) (result : Result Attempt Stop) → old ≡ there → then ≡ new
-    → Attempts g image wanted (scene r p old) (scene r' p' new) result → Attempts g image wanted (scene r p there) (scene r' p' then) result
-attempts_there g image wanted r r' p p' old new there then result first last h =
-    subst (λ (l : List ℕ). Attempts g image wanted (scene r p l) (scene r' p' then) result) first (subst (λ (k : List ℕ). Attempts g image wanted (scene r p old) (scene r' p' k) result) (sym last) h)
+attempts_there : {S : Type 0} (g : shadows.Ghosts S) (image : Image) (notes_wanted : Bool) (r r' : Running S) (p p' : Pool) (old new there then : List ℕ) (result : Result Attempt Stop) → old ≡ there → then ≡ new
+    → Attempts g image notes_wanted (scene r p old) (scene r' p' new) result → Attempts g image notes_wanted (scene r p there) (scene r' p' then) result
+attempts_there g image notes_wanted r r' p p' old new there then result first last h =
+    subst (λ (l : List ℕ). Attempts g image notes_wanted (scene r p l) (scene r' p' then) result) first (subst (λ (k : List ℕ). Attempts g image notes_wanted (scene r p old) (scene r' p' k) result) (sym last) h)
 
 accounts_there : {S : Type 0} (g : shadows.Ghosts S) (r r' : Running S) (p p' : Pool) (old new there then : List ℕ) → old ≡ there → then ≡ new
     → Accounts g (scene r p old) (scene r' p' new) → Accounts g (scene r p there) (scene r' p' then)
@@ -90,7 +90,7 @@ returns-in-Err g c =
 -- ---- it went without the host
 
 module _ (g : Over) (c : goal.In-Ok-Stepped g) where
-  went_attempts : Attempts g.S.Shadows c.args.image.now c.args.wanted (scene c.args.running.now c.args.pool.now (g.H.Host.bytes c.args.host.now))
+  went_attempts : Attempts g.S.Shadows c.args.image.now c.args.notes_wanted (scene c.args.running.now c.args.pool.now (g.H.Host.bytes c.args.host.now))
       (scene c.begin_native.new.running c.begin_native.new.pool (g.H.Host.bytes (g.H.Host.with_bytes c.args.host.now c.begin_native.new.ram))) (Ok c.in-Ok-Stepped.field-0)
   went_attempts = attempts_there g.S.Shadows _ _ _ _ _ _ _ _ _ _ _ c.ram_mut.ensures.ram (g.met.H.Host.bytes_changed c.args.host.now c.begin_native.new.ram) c.in-Ok-Stepped.ensures.attempts
 
@@ -152,9 +152,9 @@ module _ (g : Over) (c : goal.After-ram g) where
   abbrev n : ℕ
   n = c.args.running.now.frames
 
-  attempts : Attempts g.S.Shadows c.args.image.now c.args.wanted (scene r0 c.args.pool.now m0) (scene r1 c.begin_native.new.pool m1) (Ok attempt.Asked)
+  attempts : Attempts g.S.Shadows c.args.image.now c.args.notes_wanted (scene r0 c.args.pool.now m0) (scene r1 c.begin_native.new.pool m1) (Ok attempt.Asked)
   attempts =
-      subst (λ (a : Attempt). Attempts g.S.Shadows c.args.image.now c.args.wanted (scene r0 c.args.pool.now m0) (scene r1 c.begin_native.new.pool m1) (Ok a)) c.in-Ok-Asked.field-0-is
+      subst (λ (a : Attempt). Attempts g.S.Shadows c.args.image.now c.args.notes_wanted (scene r0 c.args.pool.now m0) (scene r1 c.begin_native.new.pool m1) (Ok a)) c.in-Ok-Asked.field-0-is
       (attempts_there g.S.Shadows _ _ _ _ _ _ _ _ _ _ _ c.ram_mut.ensures.ram (g.met.H.Host.bytes_changed c.args.host.now c.begin_native.new.ram) c.in-Ok-Asked.ensures.attempts)
 
   accounts : Accounts g.S.Shadows (scene r0 c.args.pool.now m0) (scene r1 c.begin_native.new.pool m1)
@@ -255,7 +255,7 @@ module _ (g : Over) (c : goal.After-ram g) where
       (kept_same g.S.Shadows r1.shadows m1 m2 kept.entries_are other_roots_same) accounts.filled
 
   -- its pages were settled before
-  asked_on : (script : Events) (steps : List Taken) (t : Taken) → AreBytes (shown (ground c.args.image.now n) m2) → c.args.wanted ≡ false → length (free_list c.args.pool.now m0) + r0.held ≡ 512 → Roomy (steps ++ t ∷ [])
+  asked_on : (script : Events) (steps : List Taken) (t : Taken) → AreBytes (shown (ground c.args.image.now n) m2) → c.args.notes_wanted ≡ false → length (free_list c.args.pool.now m0) + r0.held ≡ 512 → Roomy (steps ++ t ∷ [])
       → IsTakenFrom (wedge c.args.image.now script n) (state_of g.S.Shadows (wedge c.args.image.now script n) r0 m0) t
       → t.set ≡ left_of r2.lost.before (set_of g.S.Shadows r0 m0)
       → IsCarried g.S.Shadows (wedge c.args.image.now script n) steps t.before r0.shadows m0

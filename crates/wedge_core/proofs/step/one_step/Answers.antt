@@ -75,11 +75,11 @@ returns-then-not-runs g c =
     let after = λ (memory : List ℕ). scene new c.step_alone.new.pool memory in
     let at = lent g.H.Host.bytes g.H.Host.with_bytes g.met.H.Host.bytes_changed host c.ram_mut.result.now c.step_alone.new.ram c.ram_mut.ensures.ram in
     let still = held_still g.S.Shadows result image first.frames (after c.step_alone.new.ram) e.accounts.frames e.between in
-    let alone : StepsAlone g.S.Shadows image c.args.wanted (before (g.H.Host.bytes host)) (after (g.H.Host.bytes (g.H.Host.with_bytes host c.step_alone.new.ram))) result =
-    at (λ l k. StepsAlone g.S.Shadows image c.args.wanted (before l) (after k) result)
+    let alone : StepsAlone g.S.Shadows image c.args.notes_wanted (before (g.H.Host.bytes host)) (after (g.H.Host.bytes (g.H.Host.with_bytes host c.step_alone.new.ram))) result =
+    at (λ l k. StepsAlone g.S.Shadows image c.args.notes_wanted (before l) (after k) result)
     (record {
       step = e.step;
-      leaves = record { held = still.0; ready = still.1; reloaded = e.wanted; count = e.count; stays = e.stays };
+      leaves = record { held = still.0; ready = still.1; reloaded = e.notes_wanted; count = e.count; stays = e.stays };
       before = e.before;
       carried = e.carried;
     })

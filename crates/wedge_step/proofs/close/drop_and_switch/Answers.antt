@@ -17,7 +17,7 @@ pub returns-clause-left : goal.returns-clause-left
 returns-clause-left g c = λ back.
     let d = c.args.worked.now.dropped in
     let old = entries_of (g.S.Shadows.slots c.args.shadows.now c.args.ram.now) in
-    loaded_left d c.args.wanted old _ c.load.ensures.emptied back ∙ ap (λ (x : Bool). left_of x (dropping d old)) (sym c.is_lost-2.ensures)
+    loaded_left d c.args.notes_wanted old _ c.load.ensures.emptied back ∙ ap (λ (x : Bool). left_of x (dropping d old)) (sym c.is_lost-2.ensures)
 
 pub returns-clause-shows : goal.returns-clause-shows
 returns-clause-shows g c = λ image h a. c.load.ensures.shows image _ ((c.drop_by-changed.ensures.shown image).present h) ((c.drop_by-changed.ensures.shown image).others a)
@@ -65,8 +65,8 @@ returns-then-is_through-clause-has_tables_under g c = c.drop_by-changed.ensures.
 pub returns-then-is_through-clause-fewer : goal.returns-then-is_through-clause-fewer
 returns-then-is_through-clause-fewer g c = c.drop_by-changed.ensures.fewer
 
-pub returns-then-is_through-clause-wanted : goal.returns-then-is_through-clause-wanted
-returns-then-is_through-clause-wanted g c = λ w. refl
+pub returns-then-is_through-clause-notes_wanted : goal.returns-then-is_through-clause-notes_wanted
+returns-then-is_through-clause-notes_wanted g c = λ w. refl
 
 pub returns-clause-moved : goal.returns-clause-moved
 returns-clause-moved g c = record { stands = c.load.ensures.moved.stands; owns = c.load.ensures.moved.owns; moves = Moves-trans _ _ _ _ _ _ _ _ _ c.drop_by-changed.ensures.moved.moves c.load.ensures.moved.moves }

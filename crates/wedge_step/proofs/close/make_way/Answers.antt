@@ -13,29 +13,29 @@ use Rattle.wedge_step.proofs.Shedding.{same_shed, open_shed}
 use Rattle.wedge_step.proofs.Leaving.{stays_by}
 use Rattle.wedge_step.proofs.close.make_way.Given.{Over}
 use Rattle.wedge_step.proofs.close.make_way.Goals as goal
-use Rattle.wedge_step.proofs.close.make_way.Goals.{then-wanted, else-wanted}
+use Rattle.wedge_step.proofs.close.make_way.Goals.{then-notes_wanted, else-notes_wanted}
 
 -- all was dropped: notes are wanted, or frames lack
-lacking : (g : Over) (c : goal.After-drop_all g) → c.args.wanted ≡ false → 2 ≤ length (free_list c.args.pool.now c.args.ram.now) → ⊥
+lacking : (g : Over) (c : goal.After-drop_all g) → c.args.notes_wanted ≡ false → 2 ≤ length (free_list c.args.pool.now c.args.ram.now) → ⊥
 lacking g c unwanted enough =
-    elim c.if-wanted.branch [
-      | then-wanted w ↦ both_ways c.args.wanted unwanted w.if-wanted.true
-      | else-wanted w ↦ (let short = ltb-true _ _ (sym w.value-is ∙ c.if-free-lt2.true) in let count = w.free.ensures.count c.args.ram.now in omega (arith, short, count, enough))
+    elim c.if-notes_wanted.branch [
+      | then-notes_wanted w ↦ both_ways c.args.notes_wanted unwanted w.if-notes_wanted.true
+      | else-notes_wanted w ↦ (let short = ltb-true _ _ (sym w.value-is ∙ c.if-free-lt2.true) in let count = w.free.ensures.count c.args.ram.now in omega (arith, short, count, enough))
     ]
 
 -- it wasn't: no notes are wanted, and frames are free
-unwanted : (g : Over) (c : goal.After-drop_pages g) → c.args.wanted ≡ false
+unwanted : (g : Over) (c : goal.After-drop_pages g) → c.args.notes_wanted ≡ false
 unwanted g c =
-    elim c.if-wanted.branch [
-      | then-wanted w ↦ absurd (both_ways c.if-wanted.value c.if-free-lt2.false (w.value-is ∙ w.if-wanted.true))
-      | else-wanted w ↦ w.if-wanted.false
+    elim c.if-notes_wanted.branch [
+      | then-notes_wanted w ↦ absurd (both_ways c.if-notes_wanted.value c.if-free-lt2.false (w.value-is ∙ w.if-notes_wanted.true))
+      | else-notes_wanted w ↦ w.if-notes_wanted.false
     ]
 
 spare : (g : Over) (c : goal.After-drop_pages g) (m : List ℕ) → 2 ≤ length (free_list c.args.pool.now m)
 spare g c m =
-    elim c.if-wanted.branch [
-      | then-wanted w ↦ absurd (both_ways c.if-wanted.value c.if-free-lt2.false (w.value-is ∙ w.if-wanted.true))
-      | else-wanted w ↦ (let enough = ltb-false _ _ (sym w.value-is ∙ c.if-free-lt2.false) in let count = w.free.ensures.count m in omega (arith, enough, count))
+    elim c.if-notes_wanted.branch [
+      | then-notes_wanted w ↦ absurd (both_ways c.if-notes_wanted.value c.if-free-lt2.false (w.value-is ∙ w.if-notes_wanted.true))
+      | else-notes_wanted w ↦ (let enough = ltb-false _ _ (sym w.value-is ∙ c.if-free-lt2.false) in let count = w.free.ensures.count m in omega (arith, enough, count))
     ]
 
 pub returns-then-free-lt2-clause-room : goal.returns-then-free-lt2-clause-room
@@ -103,7 +103,7 @@ pub returns-then-free-lt2-clause-emptied : goal.returns-then-free-lt2-clause-emp
 returns-then-free-lt2-clause-emptied g c = λ w. record { none = c.drop_all.ensures.none; alone = c.drop_all.ensures.other_roots }
 
 pub returns-else-free-lt2-clause-emptied : goal.returns-else-free-lt2-clause-emptied
-returns-else-free-lt2-clause-emptied g c = λ yes. absurd (both_ways c.args.wanted (unwanted g c) yes)
+returns-else-free-lt2-clause-emptied g c = λ yes. absurd (both_ways c.args.notes_wanted (unwanted g c) yes)
 
 pub returns-then-free-lt2-clause-sheds : goal.returns-then-free-lt2-clause-sheds
 returns-then-free-lt2-clause-sheds g c = λ unwished enough. absurd (lacking g c unwished enough)

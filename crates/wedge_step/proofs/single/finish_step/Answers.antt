@@ -34,8 +34,8 @@ returns-clause-shows g c = λ image is h a.
     c.drop_and_switch-left.ensures.shows image (subst (λ (b : Bool). AreOpen image b (g.S.Shadows.slots mid.shadows c.fill_used.new.ram)) (sym wp) (c.fill_used.ensures.shows image is h))
     (subst (λ (b : Bool). Rattle.wedge_step.specs.Ready.AllOpen image b (g.S.Shadows.other_roots mid.shadows c.fill_used.new.ram)) (sym wp) (c.fill_used.ensures.opens image _ a))
 
-pub returns-clause-wanted : goal.returns-clause-wanted
-returns-clause-wanted g c = c.drop_and_switch-left.ensures.wanted
+pub returns-clause-notes_wanted : goal.returns-clause-notes_wanted
+returns-clause-notes_wanted g c = c.drop_and_switch-left.ensures.notes_wanted
 
 pub returns-clause-ready : goal.returns-clause-ready
 returns-clause-ready g c = λ m frames is has_tables_under h.

@@ -200,8 +200,8 @@ step_in-outcome-requires-clause-sound g c = c.begin_over.ensures.sound
 pub step_in-outcome-requires-clause-pages : goal.step_in-outcome-requires-clause-pages
 step_in-outcome-requires-clause-pages g c = c.begin_over.ensures.pages
 
-pub returns-in-Ok-clause-wanted : goal.returns-in-Ok-clause-wanted
-returns-in-Ok-clause-wanted g c = c.finish_step.ensures.wanted
+pub returns-in-Ok-clause-notes_wanted : goal.returns-in-Ok-clause-notes_wanted
+returns-in-Ok-clause-notes_wanted g c = c.finish_step.ensures.notes_wanted
 
 pub returns-in-Ok-clause-before : goal.returns-in-Ok-clause-before
 returns-in-Ok-clause-before g c = c.finish_step.ensures.passes.before
@@ -209,8 +209,8 @@ returns-in-Ok-clause-before g c = c.finish_step.ensures.passes.before
 pub returns-in-Ok-clause-count : goal.returns-in-Ok-clause-count
 returns-in-Ok-clause-count g c = c.finish_step.ensures.passes.step
 
-pub returns-in-Err-clause-wanted : goal.returns-in-Err-clause-wanted
-returns-in-Err-clause-wanted g c = tt
+pub returns-in-Err-clause-notes_wanted : goal.returns-in-Err-clause-notes_wanted
+returns-in-Err-clause-notes_wanted g c = tt
 
 pub returns-in-Err-clause-carried : goal.returns-in-Err-clause-carried
 returns-in-Err-clause-carried g c = tt

@@ -155,24 +155,24 @@ returns-clause-slice g c =
     let before : Counts = record { retired = g.H.Host.retired c.args.host.now; passed = g.H.Host.passed c.args.host.now } in
     let told = g.O.Sink.taken c.args.out.now in
     let tells = g.O.Sink.taken c.steps_to.new.out in
-    let wanted = g.L.Notes.wants c.args.notes.now in
-    let on = NotesOn wanted (g.L.Notes.tells c.args.notes.now) (g.L.Notes.tells c.steps_to.new.notes) in
+    let notes_wanted = g.L.Notes.wants c.args.notes.now in
+    let on = NotesOn notes_wanted (g.L.Notes.tells c.args.notes.now) (g.L.Notes.tells c.steps_to.new.notes) in
     let first = pages_kept of_roots begun.shadows m1 in
     let pages = pages_kept of_roots old.shadows m0 in
     let Knows = λ (n : ℕ). IsCarried of_roots (wedge image script n) [] (state_of of_roots (wedge image script n) begun m1) begun.shadows m1
-    × (length (free_list c.begin.new.pool m1) + begun.held ≡ 512) × (wanted ≡ false) in
-    let starts = BeginsEmpty (entries_of (roots.slots old.shadows m0)) (length (free_list c.args.pool.now m0)) old.held wanted in
-    let by_frames = subst (λ (n : ℕ). SliceAs (wedge image script n) bound (state_of of_roots (wedge image script n) begun m1) (state_of of_roots (wedge image script n) end m2) mid after told tells first begun.fills end.fills wanted on (Knows n) c.steps_to.result)
+    × (length (free_list c.begin.new.pool m1) + begun.held ≡ 512) × (notes_wanted ≡ false) in
+    let starts = BeginsEmpty (entries_of (roots.slots old.shadows m0)) (length (free_list c.args.pool.now m0)) old.held notes_wanted in
+    let by_frames = subst (λ (n : ℕ). SliceAs (wedge image script n) bound (state_of of_roots (wedge image script n) begun m1) (state_of of_roots (wedge image script n) end m2) mid after told tells first begun.fills end.fills notes_wanted on (Knows n) c.steps_to.result)
     (same_frames old begun c.begin.ensures.begins.running) c.steps_to.ensures.slice in
-    let by_fills = subst (λ (n : ℕ). SliceAs m bound (state_of of_roots m begun m1) (state_of of_roots m end m2) mid after told tells first n end.fills wanted on (Knows old.frames) c.steps_to.result)
+    let by_fills = subst (λ (n : ℕ). SliceAs m bound (state_of of_roots m begun m1) (state_of of_roots m end m2) mid after told tells first n end.fills notes_wanted on (Knows old.frames) c.steps_to.result)
     (same_fills old begun c.begin.ensures.begins.running) by_frames in
-    let by_state = subst (λ (b : State). SliceAs m bound b (state_of of_roots m end m2) mid after told tells first old.fills end.fills wanted on (Knows old.frames) c.steps_to.result) (c.begin.ensures.begins.state m refl) by_fills in
-    let by_counts = subst (λ (x : Counts). SliceAs m bound (state_of of_roots m old m0) (state_of of_roots m end m2) x after told tells first old.fills end.fills wanted on (Knows old.frames) c.steps_to.result)
+    let by_state = subst (λ (b : State). SliceAs m bound b (state_of of_roots m end m2) mid after told tells first old.fills end.fills notes_wanted on (Knows old.frames) c.steps_to.result) (c.begin.ensures.begins.state m refl) by_fills in
+    let by_counts = subst (λ (x : Counts). SliceAs m bound (state_of of_roots m old m0) (state_of of_roots m end m2) x after told tells first old.fills end.fills notes_wanted on (Knows old.frames) c.steps_to.result)
     (λ i. record { retired = c.begin.ensures.counts.retired i; passed = c.begin.ensures.counts.passed i }) by_state in
     let held_now = c.begin.ensures.begins.held image between.held in
     subst (λ (r : Running Roots). SliceIn of_roots (wedge image script r.frames) (r.step + c.args.k) (scene r c.args.pool.now m0) (scene end c.steps_to.new.pool m2) (outward g.H.Host g.O.Sink c.args.host.now c.steps_to.new.host c.args.out.now c.steps_to.new.out)
-    (noting g.L.Notes c.args.notes.now c.steps_to.new.notes) (BeginsBare of_roots (scene r c.args.pool.now m0) wanted) c.steps_to.result) c.self.view_is
-    (slice_begun m bound (state_of of_roots m old m0) (state_of of_roots m end m2) before after told tells first pages old.fills end.fills wanted on (Knows old.frames) starts c.steps_to.result c.begin.ensures.begins.fewer
+    (noting g.L.Notes c.args.notes.now c.steps_to.new.notes) (BeginsBare of_roots (scene r c.args.pool.now m0) notes_wanted) c.steps_to.result) c.self.view_is
+    (slice_begun m bound (state_of of_roots m old m0) (state_of of_roots m end m2) before after told tells first pages old.fills end.fills notes_wanted on (Knows old.frames) starts c.steps_to.result c.begin.ensures.begins.fewer
     (λ s.
     let none : entries_of (roots.slots begun.shadows m1) ≡ empty = ap (λ (b : State). b.set) (c.begin.ensures.begins.state m refl) ∙ s.empty_set in
     let count = between.held.counted in
