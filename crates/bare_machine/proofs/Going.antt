@@ -11,7 +11,7 @@ use Rattle.machine_model.specs.Step.{Report, Went, step_of, items_at}
 use Rattle.machine_model.specs.Run.{Set, Steps, trace_of, with_set}
 pub use Rattle.machine_model.proofs.Texts.{lines_join}
 use Rattle.bare_machine.specs.Machine.{translations_of, Goes, GoesOn, Rests, Passes, StepsBy, FirstIs}
-use Rattle.bare_machine.specs.declared.machine.Bare as machines
+use Rattle.bare_machine.specs.declared.machine.BareMachine as machines
 use Rattle.bare_machine.proofs.Runs.{part_allowed, part_same, same_step, no_steps, steps_on, steps_join, by_none, by_on, by_join, trace_on, trace_join}
 use Rattle.pv_io.proofs.Pieces.{appends_both, front_of, appends_none}
 
@@ -107,5 +107,5 @@ going_on s exact old m mid new whats told tells last g r put rest =
     }
 
 -- a machine that can go on twice
-pub goes_further : {C : Type 0} {entries : C → Set} {exact : C → Bool} (a b c : machines.Bare C) → GoesOn entries exact a b → GoesOn entries exact b c → GoesOn entries exact a c
+pub goes_further : {C : Type 0} {entries : C → Set} {exact : C → Bool} (a b c : machines.BareMachine C) → GoesOn entries exact a b → GoesOn entries exact b c → GoesOn entries exact a c
 goes_further a b c h k = record { kept = k.kept; frames = k.frames ∙ h.frames; size = k.size ∙ h.size; exact = k.exact ∙ h.exact }

@@ -8,12 +8,12 @@ use Rattle.machine_model.specs.State.{Setting, State}
 use Rattle.machine_model.specs.Step as steps
 use Rattle.machine_model.specs.Run.{Set, Steps, trace_of, with_set}
 use Rattle.machine_model.specs.Step.{Report, Went, Halts, step_of, items_at}
-use Rattle.bare_machine.specs.declared.machine.Bare as machines
+use Rattle.bare_machine.specs.declared.machine.BareMachine as machines
 use Rattle.machine_step.specs.declared.worked.Seen.{Seen}
 use Rattle.machine_step.specs.Worked.{whats}
 
 -- the machine's state, whose set is what the cache holds
-abbrev pub state_of : {C : Type 0} → (C → Set) → machines.Bare C → State
+abbrev pub state_of : {C : Type 0} → (C → Set) → machines.BareMachine C → State
 state_of entries m = record { cpu = m.cpu; ram = m.ram; set = entries m.kept.cache; board = m.board; step = m.step }
 
 -- The step went, let these things be seen, and led to this state, of whose translations some may have been dropped,
@@ -37,7 +37,7 @@ pub record IsKept (frames : ℕ) (b : State) : Type 0 where
   pub within : AreWithin frames b.set
 
 -- It can go on: it is kept well, its memory is as large as it was, and its cache loses entries or none as before.
-pub record GoesOn {C : Type 0} (entries : C → Set) (is_exact : C → Bool) (old new : machines.Bare C) : Type 0 where
+pub record GoesOn {C : Type 0} (entries : C → Set) (is_exact : C → Bool) (old new : machines.BareMachine C) : Type 0 where
   pub kept : IsKept new.frames (state_of entries new)
   pub frames : new.frames ≡ old.frames
   pub size : length new.ram ≡ length old.ram

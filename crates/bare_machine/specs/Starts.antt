@@ -11,10 +11,10 @@ use Rattle.machine_model.specs.State.{boot}
 use Rattle.machine_model.specs.Run.{Set}
 use Rattle.bare_machine.specs.Machine.{state_of, IsKept}
 use Rattle.bare_machine.specs.Settings.{bare}
-use Rattle.bare_machine.specs.declared.machine.Bare as machines
+use Rattle.bare_machine.specs.declared.machine.BareMachine as machines
 
 -- the machine stands where every run begins
-abbrev pub StartedAs : {C : Type 0} → (C → Set) → Image → ℕ → Result (machines.Bare C) StartFault → Type 0
+abbrev pub StartedAs : {C : Type 0} → (C → Set) → Image → ℕ → Result (machines.BareMachine C) StartFault → Type 0
 StartedAs entries image frames (Ok machine) =
     (need image ≤ frames) × (machine.frames ≡ frames) × (machine.step ≡ 0) × IsKept frames (state_of entries machine) × ((script : Events) → state_of entries machine ≡ boot (bare image script frames))
 StartedAs entries image frames (Err (start.TooSmall small)) = (frames < need image) × (small ≡ record { need = need image; have = frames })
@@ -27,5 +27,5 @@ NotBegun image frames (fault.TooSmall small) = (frames < need image) × (small �
 NotBegun image frames fault.Memory = Unit {0}
 
 -- the machine with another cache
-abbrev pub with_cache : {C : Type 0} → machines.Bare C → C → machines.Bare C
+abbrev pub with_cache : {C : Type 0} → machines.BareMachine C → C → machines.BareMachine C
 with_cache machine cache = record machine { kept = record { cache = cache } }

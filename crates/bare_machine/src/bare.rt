@@ -3,7 +3,7 @@
 ghost use Rattle.std.specs.Prelude.{◌≡◌, ◌+◌, ◌*◌, ◌%◌, ◌≤◌, ◌^◌, length, replicate, true, IfOk, OnErr};
 ghost use Rattle.std.specs.FinMap.{empty};
 ghost use Rattle.std.specs.Borrow.{sem, Lends};
-ghost use Rattle.bare_machine.specs.contracts.machine.Bare.{the_row};
+ghost use Rattle.bare_machine.specs.contracts.bare.Bare.{the_row};
 ghost use Rattle.board.specs.ScriptForm.{is_script};
 ghost use Rattle.image_check.specs.Image.{Image};
 ghost use Rattle.pv_io.specs.Causes.{Rose};
@@ -14,19 +14,33 @@ ghost use Rattle.bare_machine.specs.Slices.{SliceAs, OneStepAs};
 ghost use Rattle.run_trace.specs.Pauses.{IfReached};
 ghost use Rattle.bare_machine.specs.Starts.{StartedAs, with_cache};
 
-use crate::machine::Bare;
-use crate::slice::steps_to;
+use crate::machine::BareMachine;
+use crate::slice::take_steps;
 use bare_mem::Cached;
 use board::{Board, Script};
-use descriptors::{Cpu, Hidden};
+use descriptors::Cpu;
 use guest_ram::Ram;
 use image_check::Checked;
 use image_load::{StartFault, load};
-use machine_model::runs_keep_fit;
 use pv_io::{Failed, Sink};
 use run_trace::Pause;
 use std::alloc::Global;
+use std::marker::Model;
 use xlate_buffer::Cache;
+
+/// A bare machine: it runs the unpatched bytes of an image. Contracts see it as its `BareMachine`.
+#[derive(Drop)]
+pub struct Bare<C: Cache> {
+    machine: BareMachine<C>,
+}
+
+impl<C: Cache> Model for Bare<C> {
+    ghost use Rattle.bare_machine.specs.declared.machine.BareMachine.{BareMachine};
+
+    ghost Value = { BareMachine C };
+
+    ghost view = { λ bare. bare.machine };
+}
 
 impl<C: Cache> Bare<C> {
     /// The machine in the state in which every run begins.
@@ -46,7 +60,10 @@ impl<C: Cache> Bare<C> {
     {
         match Ram::new(alloc, frames) {
             Err(_) => Err(StartFault::Memory),
-            Ok(ram) => start_in(ram, image, frames, cache),
+            Ok(ram) => {
+                let machine = start_in(ram, image, frames, cache)?;
+                Ok(Bare { machine })
+            }
         }
     }
 
@@ -61,14 +78,15 @@ impl<C: Cache> Bare<C> {
         ensures exact { C.is_exact result.kept.cache ≡ C.is_exact cache }
     {
         let frames = ram.len() / 4096;
-        Bare {
+        let machine = BareMachine {
             cpu,
             ram,
             kept: Cached { cache },
             board,
             step,
             frames,
-        }
+        };
+        Bare { machine }
     }
 
     /// Makes `k` steps, or ends before a step that stops. The lines of a step go to the sink at its end. After a stop or a
@@ -88,55 +106,59 @@ impl<C: Cache> Bare<C> {
         ensures later { O.faults out.old ≤ O.faults out.new }
         ensures cause { OnErr result (Rose (O.faults out.old) (O.faults out.new)) }
     {
-        runs_keep_fit();
-        segment_count(&self.cpu.seg);
-        let bound = self.step + k;
-        steps_to(self, script, bound, out)
+        take_steps(&mut self.machine, script, k, out)
     }
 
     /// The processor.
     pub fn cpu(&self) -> &Cpu
         ensures { result.now ≡ self.now.cpu }
     {
-        &self.cpu
+        &self.machine.cpu
     }
 
     /// The devices.
     pub fn board(&self) -> &Board
         ensures { result.now ≡ self.now.board }
     {
-        &self.board
+        &self.machine.board
     }
 
     /// How many steps were done.
     pub fn step(&self) -> u64
         ensures { result ≡ self.now.step }
     {
-        self.step
+        self.machine.step
     }
 
     /// The whole physical memory.
     pub fn ram(&self) -> &Ram
         ensures { result.now ≡ self.now.ram }
     {
-        &self.ram
+        &self.machine.ram
+    }
+
+    /// How many frames the memory has.
+    pub fn frames(&self) -> u32
+        ensures { result ≡ self.now.frames }
+    {
+        self.machine.frames
+    }
+
+    /// Takes it apart.
+    pub fn into_machine(self) -> BareMachine<C>
+        ensures { result ≡ self }
+    {
+        let Bare { machine } = self;
+        machine
     }
 
     /// Its cache, to be changed. Before the next slice it must again hold only entries whose frames are in memory.
     pub fn cache_mut(&mut self) -> &mut C
-        ensures* lends { sem 𝓛 (Lends (the_row C.row) C.row self.entry result (λ w. with_cache self.old w)) }
+        ensures* lends { sem 𝓛 (Lends (the_row C.row C.Cache) C.row self.entry result (λ w. with_cache self.old w)) }
         ensures cache { result.now ≡ self.old.kept.cache }
     {
-        self.kept.lent()
+        self.machine.kept.lent()
     }
-}
-
-/// How many segment registers the processor has.
-fn segment_count(segments: &[Hidden; 4]) -> usize
-    ensures count { result ≡ length segments.now }
-    ensures four { length segments.now ≡ 4 }
-{
-    segments.len()
 }
 
 fn start_in<C: Cache>(
@@ -144,7 +166,7 @@ fn start_in<C: Cache>(
     image: &Checked,
     frames: u32,
     cache: C,
-) -> Result<Bare<C>, StartFault>
+) -> Result<BareMachine<C>, StartFault>
     requires zero { ram ≡ replicate (frames * 4096) 0 }
     requires frames { (2048 ≤ frames) × (frames ≤ 16384) }
     requires empty { C.entries cache ≡ empty }
@@ -157,7 +179,7 @@ fn start_in<C: Cache>(
     let mut ram = ram;
     match load(image, &mut ram, frames) {
         Err(small) => Err(StartFault::TooSmall(small)),
-        Ok(boot) => Ok(Bare {
+        Ok(boot) => Ok(BareMachine {
             cpu: boot.cpu,
             ram,
             kept: Cached { cache },

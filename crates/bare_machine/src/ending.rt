@@ -6,7 +6,7 @@ ghost use Rattle.bare_machine.specs.Machine.{state_of, IsKept};
 ghost use Rattle.bare_machine.specs.Starts.{StartedAs, NotBegun};
 ghost use Rattle.bare_machine.specs.Ending.{EndsAs};
 
-use crate::machine::Bare;
+use crate::bare::Bare;
 use image_check::Checked;
 use image_load::{RunFault, StartFault};
 use pv_io::Sink;

@@ -12,7 +12,7 @@ ghost use Rattle.machine_step.specs.Worked.{dropping, IsDropped};
 ghost use Rattle.run_trace.specs.declared.items.What.{What as Shown};
 ghost use Rattle.bare_machine.specs.Machine.{state_of, Goes, GoesOn};
 
-use crate::machine::Bare;
+use crate::machine::BareMachine;
 use bare_mem::{Cached, drop_all, drop_dir, drop_page, settle};
 use descriptors::Cpu;
 use machine_step::Dropped;
@@ -20,7 +20,12 @@ use step_mem::Changes;
 use xlate_buffer::Cache;
 
 /// The end of a step that concluded: what it changed of the translations is kept, the count rises, and the board advances.
-pub fn finish_step<C: Cache>(machine: &mut Bare<C>, cpu: &Cpu, changes: &Changes, dropped: Dropped)
+pub fn finish_step<C: Cache>(
+    machine: &mut BareMachine<C>,
+    cpu: &Cpu,
+    changes: &Changes,
+    dropped: Dropped,
+)
     requires bound { machine.old.step < 2 ^ 40 }
     requires ram { 4096 * machine.old.frames ≤ length machine.old.ram }
     requires within { AreWithin machine.old.frames (changed (C.entries machine.old.kept.cache) changes.now) }

@@ -10,7 +10,8 @@ ghost use Rattle.bare_machine.specs.FreshRuns.{fresh_course};
 ghost use Rattle.bare_machine.specs.FreshTexts.{FreshAnswers, CourseAs, StepsAs};
 
 use crate::ending::{begun, end_run};
-use crate::machine::Bare;
+use crate::machine::BareMachine;
+use crate::slice::steps_to;
 use bare_mem::drop_all;
 use board::Script;
 use image_check::Checked;
@@ -41,7 +42,7 @@ pub fn run_fresh<O: Sink>(
     match begun(alloc, image, frames, Buffer::new()) {
         Err(fault) => Err(fault),
         Ok(machine) => {
-            let mut machine = machine;
+            let mut machine = machine.into_machine();
             course(&mut machine, script, n, out)
         }
     }
@@ -49,7 +50,7 @@ pub fn run_fresh<O: Sink>(
 
 /// The steps, and the last line.
 fn course<C: Cache, O: Sink>(
-    machine: &mut Bare<C>,
+    machine: &mut BareMachine<C>,
     script: &Script,
     n: u64,
     out: &mut O,
@@ -70,7 +71,7 @@ fn course<C: Cache, O: Sink>(
 
 /// Slices of one step, before each of which the cache is emptied.
 fn fresh_steps<C: Cache, O: Sink>(
-    machine: &mut Bare<C>,
+    machine: &mut BareMachine<C>,
     script: &Script,
     n: u64,
     out: &mut O,
@@ -84,8 +85,9 @@ fn fresh_steps<C: Cache, O: Sink>(
         (O.taken out.old) (O.taken out.new) (O.faults out.old) (O.faults out.new) result }
 {
     while machine.step < n {
+        let next = machine.step + 1;
         drop_all(&mut machine.kept);
-        match machine.slice(script, 1, out) {
+        match steps_to(machine, script, next, out) {
             Err(failed) => return Err(failed),
             Ok(pause) => match pause {
                 Pause::Stopped(stop) => return Ok(End::Stopped(stop)),

@@ -10,7 +10,7 @@ ghost use Rattle.paging.specs.Part.{IsPartOf};
 ghost use Rattle.bare_machine.specs.Machine.{state_of, IsKept, GoesOn, Rests};
 ghost use Rattle.bare_machine.specs.Settings.{bare};
 
-use crate::machine::Bare;
+use crate::machine::BareMachine;
 use board::Script;
 use machine_model::halted_steps_rest;
 use machine_step::resting_steps;
@@ -18,7 +18,7 @@ use xlate_buffer::Cache;
 
 /// Passes the steps in which a halted processor has nothing to do and nothing can come to the board, up to the bound,
 /// in one go.
-pub fn rest<C: Cache>(machine: &mut Bare<C>, script: &Script, n: u64)
+pub fn rest<C: Cache>(machine: &mut BareMachine<C>, script: &Script, n: u64)
     requires script { is_script script.now.list ≡ true }
     requires kept { IsKept machine.old.frames (state_of C.entries machine.old) }
     requires begun { 0 < machine.old.step }

@@ -11,8 +11,9 @@ mod machine;
 mod run;
 mod slice;
 
+pub use bare::Bare;
 pub use ending::end_run;
 pub use fresh::run_fresh;
 pub use laws::{each_course_is_a_run, parts_join};
-pub use machine::Bare;
+pub use machine::BareMachine;
 pub use run::{run_bare, run_on};

@@ -22,10 +22,10 @@ use machine_step::{NO_BYTES, Rules, Seen, Worked};
 use step_mem::{Guard, StepState, Text};
 use xlate_buffer::Cache;
 
-/// The bare machine: processor, memory, cached translations, board, the count of steps, and how many frames the memory
-/// has.
+/// What a bare machine is made of: processor, memory, cached translations, board, the count of steps, and how many frames
+/// the memory has.
 #[derive(Drop)]
-pub struct Bare<C: Cache> {
+pub struct BareMachine<C: Cache> {
     pub cpu: Cpu,
     pub ram: Ram,
     pub kept: Cached<C>,
@@ -41,7 +41,7 @@ pub static NO_TEXT: Option<Text<'static>> = None;
 /// the machine must not go on.
 #[tactic(auto, unfolding(machine_model::specs::Step::step_of))]
 pub fn step<C: Cache>(
-    machine: &mut Bare<C>,
+    machine: &mut BareMachine<C>,
     script: &Script,
     state: &mut StepState<'static>,
     worked: &mut Worked,

@@ -8,8 +8,8 @@ ghost use Rattle.bare_machine.specs.Settings.{bare};
 ghost use Rattle.bare_machine.specs.Answers.{RunAnswers, WholeAs};
 ghost use Rattle.run_trace.specs.Pauses.{end_of};
 
+use crate::bare::Bare;
 use crate::ending::{begun, end_run};
-use crate::machine::Bare;
 use board::Script;
 use image_check::Checked;
 use image_load::RunFault;
@@ -59,8 +59,12 @@ pub fn run_on<C: Cache, O: Sink>(
         (O.taken out.old) (O.taken out.new) (O.faults out.old) (O.faults out.new) result }
     ensures fills { IfOk result (λ ended. ended.fills ≡ 0) }
 {
-    match machine.slice(script, n - machine.step, out) {
+    let done = machine.step();
+    match machine.slice(script, n - done, out) {
         Err(_) => Err(RunFault::Write),
-        Ok(pause) => end_run(machine.step, end_of(pause), out),
+        Ok(pause) => {
+            let steps = machine.step();
+            end_run(steps, end_of(pause), out)
+        }
     }
 }

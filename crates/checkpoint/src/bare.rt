@@ -8,7 +8,7 @@ ghost use Rattle.checkpoint.specs.InForm.{IsInForm};
 ghost use Rattle.checkpoint.specs.Moved.{rested_from, kept_of};
 
 use crate::state::State;
-use bare_machine::Bare;
+use bare_machine::{Bare, BareMachine};
 use xlate_buffer::Cache;
 
 /// The bare machine in a checkpoint's state, with nothing cached. One slice then leads to any later count of steps.
@@ -40,14 +40,14 @@ pub fn state_of_bare<C: Cache>(machine: Bare<C>) -> State
     ensures state { result ≡ kept_of (state_of C.entries machine) }
     ensures form { IsInForm result }
 {
-    let Bare {
+    let BareMachine {
         cpu,
         ram,
         kept: _,
         board,
         step,
         frames: _,
-    } = machine;
+    } = machine.into_machine();
     State {
         cpu,
         board,

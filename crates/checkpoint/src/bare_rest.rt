@@ -84,7 +84,8 @@ pub fn rest_bare<C: Cache, O: Sink>(
         (O.taken out.old) (O.taken out.new) (O.faults out.old) (O.faults out.new) result }
 {
     let mut machine = machine;
-    let k = n - machine.step;
+    let done = machine.step();
+    let k = n - done;
     let pause = match machine.slice(script, k, out) {
         Err(_) => return Err(RunFault::Write),
         Ok(pause) => pause,
@@ -92,8 +93,9 @@ pub fn rest_bare<C: Cache, O: Sink>(
     match pause {
         Pause::Reached => Ok(Rested::At(state_of_bare(machine))),
         Pause::Stopped(stop) => {
+            let steps = machine.step();
             let ended = Ended {
-                steps: machine.step,
+                steps,
                 end: End::Stopped(stop),
                 fills: 0,
             };

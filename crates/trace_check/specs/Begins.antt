@@ -11,7 +11,7 @@ use Rattle.machine_model.specs.State.{boot}
 use Rattle.machine_model.specs.Run.{Set, trace_of}
 use Rattle.bare_machine.specs.Machine.{state_of, IsKept}
 use Rattle.bare_machine.specs.Settings.{bare}
-use Rattle.bare_machine.specs.declared.machine.Bare as machines
+use Rattle.bare_machine.specs.declared.machine.BareMachine as machines
 use Rattle.trace_check.specs.declared.list.Choice.{Choice}
 use Rattle.trace_check.specs.declared.told.Told.{Told}
 use Rattle.trace_check.specs.declared.answer.CourseEnd.{CourseEnd}
@@ -30,7 +30,7 @@ abbrev pub whole_entries : Set → Set
 whole_entries set = set
 
 -- the machine stands where every run begins
-abbrev pub BeginsAs : Image → ℕ → Result (machines.Bare Set) ReplayFault → Type 0
+abbrev pub BeginsAs : Image → ℕ → Result (machines.BareMachine Set) ReplayFault → Type 0
 BeginsAs image frames (Ok machine) =
     (need image ≤ frames) × (machine.frames ≡ frames) × (machine.step ≡ 0) × IsKept machine.frames (state_of whole_entries machine) × ((script : Events) → state_of whole_entries machine ≡ boot (bare image script frames))
 BeginsAs image frames (Err fault) = ReplayFails image frames fault

@@ -16,7 +16,6 @@ ghost use Rattle.trace_check.specs.Follows.{IsMade, due, Splits, MadeAs, Follows
 use crate::answer::CourseEnd;
 use crate::list::{Choice, ChoiceKind};
 use bare_machine::Bare;
-use bare_mem::{drop_all, drop_page};
 use board::Script;
 use paging::{Entry, Walk, walk};
 use pv_io::{Failed, Sink};
@@ -31,20 +30,16 @@ fn addable<C: Cache>(machine: &Bare<C>, page: u32) -> Option<Entry>
         → result ≡ addable (bare image script machine.now.frames) (state_of C.entries machine.now) page }
     ensures within { IfSome result (λ entry. (entry.page ≡ page) × (entry.frame < machine.now.frames)) }
 {
-    match walk(
-        &machine.ram,
-        machine.frames,
-        machine.cpu.cr3,
-        machine.cpu.pse(),
-        page,
-    ) {
+    let ram = machine.ram();
+    let cpu = machine.cpu();
+    match walk(ram, machine.frames(), cpu.cr3, cpu.pse(), page) {
         Walk::Found {
             entry,
             dir_at,
             word_at,
         } => {
-            let dir = machine.ram.read32(dir_at);
-            let word = machine.ram.read32(word_at);
+            let dir = ram.read32(dir_at);
+            let word = ram.read32(word_at);
             if dir / 32 % 2 == 1 && word / 32 % 2 == 1 {
                 Some(entry)
             } else {
@@ -70,7 +65,7 @@ fn add<C: Cache>(machine: &mut Bare<C>, page: u32) -> bool
 {
     match addable(machine, page) {
         Some(entry) => {
-            machine.kept.cache.keep(entry);
+            machine.cache_mut().keep(entry);
             true
         }
         None => false,
@@ -92,11 +87,11 @@ fn make<C: Cache>(machine: &mut Bare<C>, choice: &Choice) -> bool
 {
     match choice.kind {
         ChoiceKind::Drop => {
-            drop_page(&mut machine.kept, choice.page);
+            machine.cache_mut().drop_page(choice.page);
             true
         }
         ChoiceKind::Empty => {
-            drop_all(&mut machine.kept);
+            machine.cache_mut().drop_all();
             true
         }
         ChoiceKind::Add => add(machine, choice.page),
@@ -120,7 +115,7 @@ fn make_all<C: Cache>(machine: &mut Bare<C>, list: &[Choice], at: usize) -> Resu
 {
     let mut next = at;
     loop {
-        match due(list, next, machine.step) {
+        match due(list, next, machine.step()) {
             None => return Ok(next),
             Some(choice) => {
                 if !make(machine, &choice) {
@@ -173,12 +168,13 @@ pub fn follow<C: Cache, O: Sink>(
     ensures cause { OnErr result (Rose (O.faults out.old) (O.faults out.new)) }
 {
     let mut at = 0;
-    while machine.step < bound {
+    while machine.step() < bound {
         match make_all(machine, list, at) {
             Err(bad) => return Ok(CourseEnd::BadAt(bad)),
             Ok(next) => at = next,
         }
-        let k = next_step(list, at, bound) - machine.step;
+        let done = machine.step();
+        let k = next_step(list, at, bound) - done;
         match machine.slice(script, k, out) {
             Err(failed) => return Err(failed),
             Ok(pause) => match pause {

@@ -27,8 +27,8 @@ sliced : (image : Image) (script : Events) (f f2 : ℕ) (exact : Bool) (n : ℕ)
 sliced image script f f2 exact n old new told tells r s same is h =
     subst (λ (k : ℕ). SliceAs (bare image script k) exact n old new told tells s) same (subst (λ (x : Result Pause Failed). SliceAs (bare image script f) exact n old new told tells x) is h)
 
-pub slice-requires-clause-kept : goal.slice-requires-clause-kept
-slice-requires-clause-kept g c = record {
+pub steps_to-requires-clause-kept : goal.steps_to-requires-clause-kept
+steps_to-requires-clause-kept g c = record {
   ram = c.loop-machine.invariant.kept.ram;
   within = none_within c.loop-machine.machine.frames _ c.drop_all.ensures.gone;
 }
@@ -42,8 +42,8 @@ loop-machine-preserved g c = record {
       let first = state_of e c.args.machine.now in
       let x = e c.drop_all.new.kept.cache in
       let near = nears_cleared s c.args.n first (state_of e m) x (g.O.Sink.taken c.args.out.now) (g.O.Sink.taken c.loop-machine.out) (c.loop-machine.invariant.near image) in
-      let h = sliced image c.args.script.now.list m.frames c.args.machine.now.frames (g.C.Cache.is_exact c.drop_all.new.kept.cache) (m.step + 1) (with_set (state_of e m) x) (state_of e c.slice.new.self) (g.O.Sink.taken c.loop-machine.out) (g.O.Sink.taken c.slice.new.out) (Ok c.in-Ok.pause) (Ok Reached) c.loop-machine.invariant.frames (ap (λ (p : Pause). Ok p) c.in-Reached.is) (c.in-Ok.ensures.slice image) in
-      nears_on s (g.C.Cache.is_exact c.drop_all.new.kept.cache) c.args.n first (with_set (state_of e m) x) (state_of e c.slice.new.self) (g.O.Sink.taken c.args.out.now) (g.O.Sink.taken c.loop-machine.out) (g.O.Sink.taken c.slice.new.out) c.drop_all.ensures.gone c.loop-machine-test.true near h;
+      let h = sliced image c.args.script.now.list m.frames c.args.machine.now.frames (g.C.Cache.is_exact c.drop_all.new.kept.cache) (m.step + 1) (with_set (state_of e m) x) (state_of e c.steps_to.new.machine) (g.O.Sink.taken c.loop-machine.out) (g.O.Sink.taken c.steps_to.new.out) (Ok c.in-Ok.pause) (Ok Reached) c.loop-machine.invariant.frames (ap (λ (p : Pause). Ok p) c.in-Reached.is) (c.in-Ok.ensures.slice image) in
+      nears_on s (g.C.Cache.is_exact c.drop_all.new.kept.cache) c.args.n first (with_set (state_of e m) x) (state_of e c.steps_to.new.machine) (g.O.Sink.taken c.args.out.now) (g.O.Sink.taken c.loop-machine.out) (g.O.Sink.taken c.steps_to.new.out) c.drop_all.ensures.gone c.loop-machine-test.true near h;
   kept = (let on = rw c.in-Reached.is at c.in-Ok.ensures.goes_on in on.kept);
   frames = (let on = rw c.in-Reached.is at c.in-Ok.ensures.goes_on in on.frames ∙ c.loop-machine.invariant.frames);
   later = omega (arith, c.loop-machine.invariant.later, c.in-Ok.ensures.later);
@@ -60,8 +60,8 @@ returns-in-Err g c = record {
       let x = e c.drop_all.new.kept.cache in
       let exact = g.C.Cache.is_exact c.drop_all.new.kept.cache in
       let near = nears_cleared s c.args.n first (state_of e m) x (g.O.Sink.taken c.args.out.now) (g.O.Sink.taken c.loop-machine.out) (c.loop-machine.invariant.near image) in
-      let h = sliced image c.args.script.now.list m.frames c.args.machine.now.frames exact (m.step + 1) (with_set (state_of e m) x) (state_of e c.slice.new.self) (g.O.Sink.taken c.loop-machine.out) (g.O.Sink.taken c.slice.new.out) (Err c.in-Err.failed) (Err c.in-Err.failed) c.loop-machine.invariant.frames refl (c.in-Err.ensures.slice image) in
-      failed_from_start s exact c.args.n first (with_set (state_of e m) x) (state_of e c.slice.new.self) (g.O.Sink.taken c.args.out.now) (g.O.Sink.taken c.loop-machine.out) (g.O.Sink.taken c.slice.new.out) c.in-Err.failed (g.O.Sink.faults c.args.out.now) (g.O.Sink.faults c.loop-machine.out) (g.O.Sink.faults c.slice.new.out) c.requires.begin c.drop_all.ensures.gone c.loop-machine-test.true near h c.loop-machine.invariant.later c.in-Err.ensures.cause;
+      let h = sliced image c.args.script.now.list m.frames c.args.machine.now.frames exact (m.step + 1) (with_set (state_of e m) x) (state_of e c.steps_to.new.machine) (g.O.Sink.taken c.loop-machine.out) (g.O.Sink.taken c.steps_to.new.out) (Err c.in-Err.failed) (Err c.in-Err.failed) c.loop-machine.invariant.frames refl (c.in-Err.ensures.slice image) in
+      failed_from_start s exact c.args.n first (with_set (state_of e m) x) (state_of e c.steps_to.new.machine) (g.O.Sink.taken c.args.out.now) (g.O.Sink.taken c.loop-machine.out) (g.O.Sink.taken c.steps_to.new.out) c.in-Err.failed (g.O.Sink.faults c.args.out.now) (g.O.Sink.faults c.loop-machine.out) (g.O.Sink.faults c.steps_to.new.out) c.requires.begin c.drop_all.ensures.gone c.loop-machine-test.true near h c.loop-machine.invariant.later c.in-Err.ensures.cause;
 }
 
 pub returns-in-Stopped : goal.returns-in-Stopped
@@ -74,8 +74,8 @@ returns-in-Stopped g c = record {
       let x = e c.drop_all.new.kept.cache in
       let exact = g.C.Cache.is_exact c.drop_all.new.kept.cache in
       let near = nears_cleared s c.args.n first (state_of e m) x (g.O.Sink.taken c.args.out.now) (g.O.Sink.taken c.loop-machine.out) (c.loop-machine.invariant.near image) in
-      let h = sliced image c.args.script.now.list m.frames c.args.machine.now.frames exact (m.step + 1) (with_set (state_of e m) x) (state_of e c.slice.new.self) (g.O.Sink.taken c.loop-machine.out) (g.O.Sink.taken c.slice.new.out) (Ok c.in-Ok.pause) (Ok (Stopped c.in-Stopped.stop)) c.loop-machine.invariant.frames (ap (λ (p : Pause). Ok p) c.in-Stopped.is) (c.in-Ok.ensures.slice image) in (
-        stopped_from_start s exact c.args.n first (with_set (state_of e m) x) (state_of e c.slice.new.self) (g.O.Sink.taken c.args.out.now) (g.O.Sink.taken c.loop-machine.out) (g.O.Sink.taken c.slice.new.out) c.in-Stopped.stop c.requires.begin c.drop_all.ensures.gone c.loop-machine-test.true near h,
+      let h = sliced image c.args.script.now.list m.frames c.args.machine.now.frames exact (m.step + 1) (with_set (state_of e m) x) (state_of e c.steps_to.new.machine) (g.O.Sink.taken c.loop-machine.out) (g.O.Sink.taken c.steps_to.new.out) (Ok c.in-Ok.pause) (Ok (Stopped c.in-Stopped.stop)) c.loop-machine.invariant.frames (ap (λ (p : Pause). Ok p) c.in-Stopped.is) (c.in-Ok.ensures.slice image) in (
+        stopped_from_start s exact c.args.n first (with_set (state_of e m) x) (state_of e c.steps_to.new.machine) (g.O.Sink.taken c.args.out.now) (g.O.Sink.taken c.loop-machine.out) (g.O.Sink.taken c.steps_to.new.out) c.in-Stopped.stop c.requires.begin c.drop_all.ensures.gone c.loop-machine-test.true near h,
         omega (arith, c.loop-machine.invariant.later, c.in-Ok.ensures.later),
       );
 }

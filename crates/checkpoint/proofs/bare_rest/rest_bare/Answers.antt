@@ -1,5 +1,8 @@
 use Rattle.std.proofs.Common.{◌≡◌, ℕ, ◌+◌, ◌-◌, Ok, Err, refl, subst, ◌∙◌, arith}
+use Rattle.pv_io.specs.Sink.{Appends, AppendsFront}
 use Rattle.run_trace.specs.declared.pause.Pause.{Pause}
+use Rattle.run_trace.specs.Text.{end_line}
+use Rattle.run_trace.specs.declared.items.End.TheVariants as ends
 use Rattle.run_trace.proofs.Pauses.{reached_so}
 use Rattle.bare_machine.specs.Machine.{state_of}
 use Rattle.bare_machine.specs.Settings.{bare}
@@ -13,7 +16,7 @@ returns-in-Err g c = record {
   rests = λ image.
       let machine = c.args.machine in
       let e = g.C.Cache.entries in
-      let is : machine.step + (c.args.n - machine.step) ≡ c.args.n = omega (arith, c.requires.begun) in
+      let is : machine.step + (c.args.n - c.step-done.result) ≡ c.args.n = omega (arith, c.requires.begun, c.step-done.ensures) in
       let m = bare image c.args.script.now.list machine.frames in
       let exact = g.C.Cache.is_exact machine.kept.cache in
       let old = state_of e machine in
@@ -30,7 +33,7 @@ returns-in-Reached g c = record {
   rests = λ image.
       let machine = c.args.machine in
       let e = g.C.Cache.entries in
-      let is : machine.step + (c.args.n - machine.step) ≡ c.args.n = omega (arith, c.requires.begun) in
+      let is : machine.step + (c.args.n - c.step-done.result) ≡ c.args.n = omega (arith, c.requires.begun, c.step-done.ensures) in
       let m = bare image c.args.script.now.list machine.frames in
       let exact = g.C.Cache.is_exact machine.kept.cache in
       let old = state_of e machine in
@@ -49,7 +52,7 @@ returns-in-Err-put_end g c = record {
   rests = λ image.
       let machine = c.args.machine in
       let e = g.C.Cache.entries in
-      let is : machine.step + (c.args.n - machine.step) ≡ c.args.n = omega (arith, c.requires.begun) in
+      let is : machine.step + (c.args.n - c.step-done.result) ≡ c.args.n = omega (arith, c.requires.begun, c.step-done.ensures) in
       let m = bare image c.args.script.now.list machine.frames in
       let exact = g.C.Cache.is_exact machine.kept.cache in
       let old = state_of e machine in
@@ -58,7 +61,8 @@ returns-in-Err-put_end g c = record {
       let tells = g.O.Sink.taken c.slice.new.out in
       let h = subst (λ (n : ℕ). SliceAs m exact n old new told tells (Ok c.in-Ok.pause)) is (c.in-Ok.ensures.slice image) in
       let stopped = subst (λ (p : Pause). SliceAs m exact c.args.n old new told tells (Ok p)) c.in-Stopped.is h in
-      let f = bare_unput m exact c.args.n old new told tells _ c.in-Stopped.stop stopped c.in-Err-put_end.ensures.failed in
+      let put = subst (λ (k : ℕ). AppendsFront tells (g.O.Sink.taken c.put_end.new.out) (end_line k (ends.Stopped c.in-Stopped.stop))) c.step-steps.ensures c.in-Err-put_end.ensures.failed in
+      let f = bare_unput m exact c.args.n old new told tells _ c.in-Stopped.stop stopped put in
       (f.0, f.1, f.2, f.3, f.4, (let le = c.in-Ok.ensures.later in let rose = c.in-Err-put_end.ensures.cause in omega (arith, le, rose)));
 }
 
@@ -67,7 +71,7 @@ returns g c = record {
   rests = λ image.
       let machine = c.args.machine in
       let e = g.C.Cache.entries in
-      let is : machine.step + (c.args.n - machine.step) ≡ c.args.n = omega (arith, c.requires.begun) in
+      let is : machine.step + (c.args.n - c.step-done.result) ≡ c.args.n = omega (arith, c.requires.begun, c.step-done.ensures) in
       let m = bare image c.args.script.now.list machine.frames in
       let exact = g.C.Cache.is_exact machine.kept.cache in
       let old = state_of e machine in
@@ -76,8 +80,9 @@ returns g c = record {
       let tells = g.O.Sink.taken c.slice.new.out in
       let h = subst (λ (n : ℕ). SliceAs m exact n old new told tells (Ok c.in-Ok.pause)) is (c.in-Ok.ensures.slice image) in
       let stopped = subst (λ (p : Pause). SliceAs m exact c.args.n old new told tells (Ok p)) c.in-Stopped.is h in
-      let r = bare_stops m exact c.args.n old new told tells _ c.in-Stopped.stop stopped c.in-Ok-put_end.ensures.ok in
+      let put = subst (λ (k : ℕ). Appends tells (g.O.Sink.taken c.put_end.new.out) (end_line k (ends.Stopped c.in-Stopped.stop))) c.step-steps.ensures c.in-Ok-put_end.ensures.ok in
+      let r = bare_stops m exact c.args.n old new told tells _ c.in-Stopped.stop stopped put in
       let le = c.in-Ok.ensures.later in
       let more = c.in-Ok-put_end.ensures.later in
-      (r.0, c.in-Stopped.stop, r.1, r.2, r.3, refl, r.4, omega (arith, le, more));
+      (r.0, c.in-Stopped.stop, r.1, r.2, c.step-steps.ensures ∙ r.3, refl, r.4, omega (arith, le, more));
 }
