@@ -63,6 +63,7 @@ left_over m steps t kept left back = subst (λ (l : List Taken). KeptBehind fals
     stays : (kept ≡ t.after.set) ⊎ ((kept ≡ empty) × (changes_protection t ≡ true)) → Stays false t t.after kept
     stays (inl same) = inl same
     stays (inr lost) = inr (lost.0, inr lost.1)
+
     by : (b : Bool) → loads_root t ≡ b → KeptBehind false m (steps ++ t ∷ []) (t ∷ reverse steps) t.after kept
     by true loads = inl (loads, λ old u since h quiet. (back loads old u since (returned m (steps ++ t ∷ []) t.after t.after.cpu.cr3 old u since h)).has)
     by false plain = inr (plain, stays (left plain))
