@@ -1,5 +1,5 @@
 -- The flags of registers by their bits, and the masks as numbers.
-use Rattle.std.proofs.Common.{◌≡◌, refl, List, ℕ, [], ◌∷◌}
+use Rattle.std.proofs.Common.{◌≡◌, refl, ℕ, [], ◌∷◌}
 use Rattle.std.specs.Prelude.{◌^◌}
 use Rattle.descriptors.specs.declared.controls.TheConstants.{CR0_PE, CR0_MP, CR0_EM, CR0_TS, CR0_ET, CR0_NE, CR0_WP, CR0_AM, CR0_PG, CR3_PWT, CR3_PCD, CR4_PSE, EFLAGS_TF, EFLAGS_IF, EFLAGS_IOPL, EFLAGS_NT}
 use Rattle.descriptors.specs.Controls.{control_0_needed, control_0_refused, control_3_refused}

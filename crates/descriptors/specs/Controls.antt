@@ -1,5 +1,5 @@
 -- Which flags of the control registers may be set (profile), and the two that decide how memory is reached. Intel SDM
--- volume 3, control registers. The flags themselves are the code's constants, numbers with one bit each.
+-- volume 3, control registers. The flags are constants of src/controls.rt, numbers with one bit each.
 use Rattle.std.specs.Prelude.{ℕ, ◌+◌, ◌-◌, Bool}
 use Rattle.paging.specs.Fresh.{has}
 use Rattle.descriptors.specs.declared.controls.TheConstants.{CR0_PE, CR0_MP, CR0_EM, CR0_TS, CR0_ET, CR0_NE, CR0_WP, CR0_AM, CR0_PG, CR3_PWT, CR3_PCD, CR4_PSE}
