@@ -1,13 +1,12 @@
 -- The bytes of ranges that were met may be read.
-use Rattle.std.proofs.Common.{◌≡◌, ℕ, ◌+◌, ◌*◌, ◌^◌, ◌<◌, ◌≤◌, List, length, Bool, true, false, cond, Option, Some, None, refl, sym, subst, arith}
+use Rattle.std.proofs.Common.{◌≡◌, ℕ, ◌+◌, ◌^◌, ◌<◌, ◌≤◌, List, length, Bool, true, false, cond, Option, Some, None, refl, arith}
 use Rattle.std.proofs.lemmas.Bool.Decides.{nat_tests}
 use Rattle.std.proofs.lemmas.Bool.{both_ways}
-use Rattle.ia32_types.specs.declared.size.Size.TheVariants.{Long}
-use Rattle.ia32_exec.specs.Readable.{IsAllAt, AreAll, Covers}
 use Rattle.ia32_exec.specs.Outcomes.{AreStored}
 use Rattle.ia32_exec.specs.declared.outcome.Stores.{Stores}
 use Rattle.ia32_exec.specs.declared.outcome.Stores.TheVariants.{Nothing, One, Eight}
 use Rattle.ia32_exec.specs.declared.access.Range.{Range}
+use Rattle.ia32_exec.specs.Readable.{Covers}
 use Rattle.host_cpl3.specs.declared.reach.Reach.{Reach}
 use Rattle.host_cpl3.specs.Pages.{place}
 use Rattle.host_cpl3.specs.Reaches.{holds, placed, IsReach, IsOf, IsRead, IsWritten}
@@ -49,13 +48,6 @@ written m root y (Some r) hy of = λ k lt.
     let low : y.at ≤ r.at + k = omega (arith, of.0) in
     let high : r.at + k < y.at + y.len = omega (arith, of.0, of.1, lt) in
     (record { space = omega (arith, hy.fits); inside = hy.inside (r.at + k) low high }, hy.leads (r.at + k) low high)
-
--- a number of eight
-pub long_of_eight : (m n : ℕ) (x : Reach) (at k : ℕ) → AreAll (IsWritten n x) at 32 → k < 8 → m ≡ n → IsAllAt (IsWritten m x) (at + 4 * k) Long
-long_of_eight m n x at k h lt e = λ j near.
-    let here : 4 * k + j < 32 = omega (arith, near) in
-    let same : at + (4 * k + j) ≡ at + 4 * k + j = omega arith in
-    subst (IsWritten m x) same (subst (λ (l : ℕ). IsWritten l x (at + (4 * k + j))) (sym e) (h (4 * k + j) here))
 
 -- what is written in a range, and where
 pub parts_stored : (P Q : ℕ → Type 0) (ws : Stores) → AreStored (λ at. P at × Q at) ws → AreStored P ws × AreStored Q ws

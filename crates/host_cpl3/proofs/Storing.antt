@@ -1,6 +1,7 @@
 -- Numbers written one after another, by places that agree.
 use Rattle.std.proofs.Common.{◌≡◌, ℕ, zero, suc, ◌+◌, ◌*◌, ◌/◌, ◌%◌, ◌<◌, List, [], ◌∷◌, ◌++◌, refl, sym, ap, subst, ◌∙◌, arith}
 use Rattle.std.specs.Prelude.{slice_index}
+use Rattle.std.specs.List.{FoldsTo}
 use Rattle.guest_ram.specs.Bytes.{with_byte}
 use Rattle.ia32_types.specs.declared.size.Size.{Size}
 use Rattle.ia32_types.specs.declared.size.Size.TheVariants.{Byte, Word, Long}
@@ -12,18 +13,23 @@ use Rattle.ia32_exec.specs.Readable.{IsAllAt, AreAll}
 use Rattle.ia32_exec.specs.Commit.{list_of, longs_to}
 use Rattle.ia32_exec.specs.Outcomes.{AreStored}
 use Rattle.paging.specs.Numbers.{number_stored}
+use Rattle.host_cpl3.specs.declared.reach.Reach.{Reach}
+use Rattle.host_cpl3.specs.Kept.{SameBut}
+use Rattle.host_cpl3.specs.Reaches.{placed}
 use Rattle.host_cpl3.specs.Store.{all_stored}
+use Rattle.host_cpl3.proofs.Writing.{but_refl, but_trans}
 
 pub stored_more : (at : ℕ → ℕ) (m : List ℕ) (ws : List Store) (w : Store) → all_stored at m (ws ++ w ∷ []) ≡ number_stored at (all_stored at m ws) w.at w.size w.value
 stored_more at m [] w = refl
 stored_more at m (v ∷ ws) w = stored_more at (number_stored at m v.at v.size v.value) ws w
 
--- one of eight more
-pub eight_more : (at : ℕ → ℕ) (m t u : List ℕ) (k a : ℕ) (vs : List ℕ) → u ≡ number_stored at t (a + 4 * k) Long (slice_index vs k) → t ≡ all_stored at m (longs_to k a vs) → u ≡ all_stored at m (longs_to (k + 1) a vs)
-eight_more at m t u k a vs e h =
-    let n : suc k ≡ k + 1 = omega arith in
-    subst (λ (j : ℕ). u ≡ all_stored at m (longs_to j a vs)) n
-    (e ∙ (ap (λ (x : List ℕ). number_stored at x (a + 4 * k) Long (slice_index vs k)) h ∙ sym (stored_more at m (longs_to k a vs) (store (a + 4 * k) Long (slice_index vs k)))))
+-- numbers that a range takes one after another
+pub written_in : (x : Reach) (a : List ℕ) (ws : List Store) (b : List ℕ) → FoldsTo (λ (old : List ℕ) (w : Store) (new : List ℕ). (new ≡ number_stored (placed x) old w.at w.size w.value) × SameBut old new x.first x.last) a ws b
+    → (b ≡ all_stored (placed x) a ws) × SameBut a b x.first x.last
+written_in x a [] b e = (sym e, subst (λ (m : List ℕ). SameBut a m x.first x.last) e (but_refl a x.first x.last))
+written_in x a (w ∷ ws) b (j, now, rest) =
+    let ih = written_in x j ws b rest in
+    (ih.0 ∙ ap (λ (m : List ℕ). all_stored (placed x) m ws) now.0, but_trans now.1 ih.1)
 
 module _ (f g : ℕ → ℕ) where
   abbrev Same : ℕ → Type 0

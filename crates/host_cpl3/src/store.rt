@@ -3,8 +3,8 @@
 ghost use Rattle.std.specs.Prelude.{◌≡◌, ◌+◌, ◌*◌, ◌<◌, ◌^◌, length, ℕ};
 ghost use Rattle.ia32_types.specs.Size.{span};
 ghost use Rattle.guest_ram.specs.Bytes.{with_byte};
-ghost use Rattle.ia32_exec.specs.Readable.{IsAllAt, AreAll};
-ghost use Rattle.ia32_exec.specs.Commit.{list_of, longs_to};
+ghost use Rattle.ia32_exec.specs.Readable.{IsAllAt};
+ghost use Rattle.ia32_exec.specs.Commit.{list_of};
 ghost use Rattle.ia32_exec.specs.Outcomes.{AreStored};
 ghost use Rattle.host_cpl3.specs.Kept.{SameBut};
 ghost use Rattle.paging.specs.Numbers.{number_stored};
@@ -13,7 +13,7 @@ ghost use Rattle.host_cpl3.specs.Reaches.{placed, IsWritten};
 
 use crate::reach::Reach;
 use guest_ram::Ram;
-use ia32_exec::Stores;
+use ia32_exec::{Store, Stores, Writer, write_all};
 use ia32_types::Size;
 
 fn store_byte(ram: &mut Ram, reach: &Reach, at: u32, value: u8)
@@ -25,7 +25,7 @@ fn store_byte(ram: &mut Ram, reach: &Reach, at: u32, value: u8)
 }
 
 #[tactic(auto, using(crate::proofs::Writing::but_trans))]
-fn store(ram: &mut Ram, reach: &Reach, at: u32, size: Size, value: u32)
+fn write_one(ram: &mut Ram, reach: &Reach, at: u32, size: Size, value: u32)
     requires { IsAllAt (IsWritten (length ram.old) reach.now) at size }
     ensures memory { ram.new ≡ number_stored (placed reach.now) ram.old at size value }
     ensures same { SameBut ram.old ram.new reach.now.first reach.now.last }
@@ -45,26 +45,34 @@ fn store(ram: &mut Ram, reach: &Reach, at: u32, size: Size, value: u32)
     }
 }
 
-fn store_eight(ram: &mut Ram, reach: &Reach, at: u32, values: [u32; 8])
-    requires { AreAll (IsWritten (length ram.old) reach.now) at 32 }
-    ensures memory { ram.new ≡ all_stored (placed reach.now) ram.old (longs_to 8 at values) }
-    ensures same { SameBut ram.old ram.new reach.now.first reach.now.last }
-{
-    for k in 0..8u32 {
-        store(ram, reach, at + 4 * k, Size::Long, values[k as usize]);
+impl Writer for Reach {
+    ghost use Rattle.std.specs.Prelude.{◌≡◌, ⊤, length};
+    ghost use Rattle.host_cpl3.specs.Reaches.{IsWritten, placed};
+    ghost use Rattle.host_cpl3.specs.Kept.{SameBut};
+    ghost use Rattle.paging.specs.Numbers.{number_stored};
+
+    type Memory = Ram;
+
+    ghost stands = { λ reach ram. ⊤ };
+
+    ghost writable = { λ reach ram at. IsWritten (length ram) reach at };
+
+    ghost written = { λ reach old w new.
+        (new ≡ number_stored (placed reach) old w.at w.size w.value) × SameBut old new reach.first reach.last };
+
+    ghost in_space = { λ reach ram at h. h.space };
+
+    #[inline(always)]
+    fn write(&self, ram: &mut Ram, store: Store) {
+        write_one(ram, self, store.at, store.size, store.value);
     }
 }
 
 /// Writes numbers into a range that was reached.
-#[tactic(auto, using(crate::proofs::Writing::but_refl))]
 pub fn store_all(ram: &mut Ram, reach: &Reach, stores: &Stores)
     requires { AreStored (IsWritten (length ram.old) reach.now) stores.now }
     ensures memory { ram.new ≡ all_stored (placed reach.now) ram.old (list_of stores.now) }
     ensures same { SameBut ram.old ram.new reach.now.first reach.now.last }
 {
-    match *stores {
-        Stores::Nothing => {}
-        Stores::One(one) => store(ram, reach, one.at, one.size, one.value),
-        Stores::Eight(at, values) => store_eight(ram, reach, at, values),
-    }
+    write_all(reach, ram, stores);
 }

@@ -1,30 +1,42 @@
 -- Memory after numbers were written.
-use Rattle.std.proofs.Common.{◌≡◌, ◌⊎◌, ℕ, zero, suc, ◌+◌, ◌*◌, ◌/◌, ◌%◌, ◌^◌, ◌<◌, ◌≤◌, Bool, true, false, List, [], ◌∷◌, ◌++◌, refl, ap, sym, ◌∙◌, subst, add-one, inl, inr, arith}
+use Rattle.std.proofs.Common.{◌≡◌, ◌⊎◌, ℕ, zero, suc, ◌+◌, ◌*◌, ◌/◌, ◌%◌, ◌^◌, ◌<◌, ◌≤◌, Bool, true, false, List, [], ◌∷◌, refl, ap, sym, ◌∙◌, subst, add-one, inl, inr, arith}
 use Rattle.std.specs.Prelude.{slice_index, nat_le, nat_lt, ◌==◌, ◌&&◌, ◌-◌, if◌then◌else◌}
+use Rattle.std.specs.List.{FoldsTo}
+use Rattle.std.proofs.lemmas.Fn.{FoldsTo-push}
 use Rattle.std.proofs.Math.Path.{fun_ext}
 use Rattle.std.proofs.lemmas.Bool.Decides.{nat_tests}
 use Rattle.ia32_types.specs.declared.size.Size.TheVariants.{Long}
 use Rattle.ia32_types.specs.Size.{width}
 use Rattle.ia32_exec.specs.declared.outcome.Store.{Store}
+use Rattle.ia32_exec.specs.declared.outcome.Stores.{Stores}
+use Rattle.ia32_exec.specs.declared.outcome.Stores.TheVariants.{Nothing, One, Eight}
 use Rattle.ia32_exec.specs.Memory.{store}
 use Rattle.ia32_exec.specs.Stored.{with_bytes, stored, all_stored}
-use Rattle.ia32_exec.specs.Commit.{longs_to}
+use Rattle.ia32_exec.specs.Commit.{list_of, longs_to}
+use Rattle.ia32_exec.specs.Outcomes.{IsKeptUnlessWritten}
 use Rattle.ia32_exec.specs.Turns.{written, all_written}
 
-stored_last : (same : ℕ → ℕ → Bool) (ws : List Store) (w : Store) (b : ℕ → ℕ) → all_stored same (ws ++ w ∷ []) b ≡ stored same w (all_stored same ws b)
-unfolding all_stored
-stored_last same [] w b = refl
-stored_last same (x ∷ ws) w b = stored_last same ws w (stored same x b)
+-- one of eight more
+pub folds_more : {M : Type 0} (R : M → Store → M → Type 0) (a b c : M) (k at : ℕ) (vs : List ℕ) → FoldsTo R a (longs_to k at vs) b → R b (store (at + 4 * k) Long (slice_index vs k)) c
+    → FoldsTo R a (longs_to (k + 1) at vs) c
+folds_more R a b c k at vs before now = rw (add-one k) (FoldsTo-push R a (longs_to k at vs) b (store (at + 4 * k) Long (slice_index vs k)) c before now)
 
-one_more : (k at : ℕ) (vs : List ℕ) → longs_to (k + 1) at vs ≡ longs_to k at vs ++ store (at + 4 * k) Long (slice_index vs k) ∷ []
-one_more k at vs = rw (add-one k) refl
+module _ {M : Type 0} (byte : M → ℕ → ℕ) (same : M → ℕ → ℕ → Bool) where
+  abbrev pub Writes : M → Store → M → Type 0
+  Writes old w new = (byte new ≡ stored (same old) w (byte old)) × (same new ≡ same old)
 
-pub stored_more : (s t : ℕ → ℕ → Bool) (b c d : ℕ → ℕ) (k at : ℕ) (vs : List ℕ) → t ≡ s → c ≡ all_stored s (longs_to k at vs) b → d ≡ stored t (store (at + 4 * k) Long (slice_index vs k)) c
-    → d ≡ all_stored s (longs_to (k + 1) at vs) b
-stored_more s t b c d k at vs places before now =
-    let w : Store = store (at + 4 * k) Long (slice_index vs k) in
-    now ∙ (ap (λ (x : ℕ → ℕ → Bool). stored x w c) places ∙ (ap (λ (x : ℕ → ℕ). stored s w x) before
-    ∙ (sym (stored_last s (longs_to k at vs) w b) ∙ ap (λ (ws : List Store). all_stored s ws b) (sym (one_more k at vs)))))
+  -- numbers that linear memory takes one after another
+  pub linear : (a : M) (ws : List Store) (b : M) → FoldsTo Writes a ws b → (byte b ≡ all_stored (same a) ws (byte a)) × (same b ≡ same a)
+  unfolding all_stored
+  linear a [] b e = (ap byte (sym e), ap same (sym e))
+  linear a (w ∷ ws) b (j, now, rest) =
+      let ih = linear j ws b rest in
+      (ih.0 ∙ (ap (λ (s : ℕ → ℕ → Bool). all_stored s ws (byte j)) now.1 ∙ ap (λ (m : ℕ → ℕ). all_stored (same a) ws m) now.0), ih.1 ∙ now.1)
+
+pub kept_unless : {M : Type 0} (R : M → Store → M → Type 0) (ws : Stores) (a b : M) → FoldsTo R a (list_of ws) b → IsKeptUnlessWritten ws a b
+kept_unless R Nothing a b e = sym e
+kept_unless R (One w) a b e = tt
+kept_unless R (Eight at vs) a b e = tt
 
 same_or_less : (k n : ℕ) → k ≤ n → (k ≡ n) ⊎ (k < n)
 same_or_less k n le = grind (arith, nat_tests)

@@ -21,6 +21,7 @@ mod stack;
 mod strings;
 mod transfers;
 mod users;
+mod writing;
 
 pub use access::{Range, Ranges};
 pub use after::{eip_goes_on, same_over_ranges, system_flags_stay};
@@ -35,3 +36,4 @@ pub use registers::{address_of, with_register};
 pub use selectors::Selectors;
 pub use stack::{esp_above, esp_below, is_foreign, taken};
 pub use users::user_effect;
+pub use writing::{Writer, write_all};

@@ -1,20 +1,31 @@
 -- Numbers written one after another.
-use Rattle.std.proofs.Common.{◌≡◌, ℕ, suc, ◌+◌, ◌*◌, List, [], ◌∷◌, ◌++◌, refl, sym, ap, subst, ◌∙◌, arith}
-use Rattle.std.specs.Prelude.{slice_index}
-use Rattle.ia32_types.specs.declared.size.Size.TheVariants.{Long}
+use Rattle.std.proofs.Common.{◌≡◌, ℕ, ◌/◌, ◌<◌, List, [], ◌∷◌, sym, ap, ◌∙◌, arith}
+use Rattle.std.specs.List.{FoldsTo}
+use Rattle.ia32_types.specs.declared.size.Size.{Size}
+use Rattle.ia32_types.specs.declared.size.Size.TheVariants.{Byte, Word, Long}
+use Rattle.ia32_types.specs.Size.{width}
 use Rattle.ia32_exec.specs.declared.outcome.Store.{Store}
-use Rattle.ia32_exec.specs.Memory.{store}
-use Rattle.ia32_exec.specs.Commit.{longs_to}
+use Rattle.ia32_exec.specs.declared.outcome.Stores.{Stores}
+use Rattle.ia32_exec.specs.declared.outcome.Stores.TheVariants.{Nothing, One, Eight}
+use Rattle.ia32_exec.specs.Outcomes.{AreStored}
 use Rattle.paging.specs.Space.{Space, saved}
 use Rattle.step_exec.specs.Plain.{stored_all}
 
-pub stored_more : (s : Space) (ws : List Store) (w : Store) → stored_all s (ws ++ w ∷ []) ≡ saved (stored_all s ws) w.at w.size w.value
-stored_more s [] w = refl
-stored_more s (v ∷ ws) w = stored_more (saved s v.at v.size v.value) ws w
+pub stored_in : {H : Type 0} (hide : List ℕ → H) (see : List ℕ → Space) (a : List ℕ) (ws : List Store) (b : List ℕ)
+    → FoldsTo (λ (old : List ℕ) (w : Store) (new : List ℕ). (hide new ≡ hide old) × (see new ≡ saved (see old) w.at w.size w.value)) a ws b
+    → (hide b ≡ hide a) × (see b ≡ stored_all (see a) ws)
+stored_in hide see a [] b e = (ap hide (sym e), ap see (sym e))
+stored_in hide see a (w ∷ ws) b (j, now, rest) =
+    let ih = stored_in hide see j ws b rest in
+    (ih.0 ∙ now.0, ih.1 ∙ ap (λ (s : Space). stored_all s ws) now.1)
 
--- one of eight more
-pub eight_more : (s t u : Space) (k at : ℕ) (vs : List ℕ) → u ≡ saved t (at + 4 * k) Long (slice_index vs k) → t ≡ stored_all s (longs_to k at vs) → u ≡ stored_all s (longs_to (k + 1) at vs)
-eight_more s t u k at vs e h =
-    let n : suc k ≡ k + 1 = omega arith in
-    subst (λ (m : ℕ). u ≡ stored_all s (longs_to m at vs)) n
-    (e ∙ (ap (λ (x : Space). saved x (at + 4 * k) Long (slice_index vs k)) h ∙ sym (stored_more s (longs_to k at vs) (store (at + 4 * k) Long (slice_index vs k)))))
+-- what follows of each byte that is written
+pub with_more : (P Q : ℕ → Type 0) → ((at : ℕ) → P at → Q at) → (ws : Stores) → AreStored P ws → AreStored (λ at. P at × Q at) ws
+with_more P Q more Nothing h = tt
+with_more P Q more (One w) h = λ k lt. (h k lt, more _ (h k lt))
+with_more P Q more (Eight at vs) h = λ k lt. (h k lt, more _ (h k lt))
+
+pub some_bytes : (s : Size) → 0 < width s / 8
+some_bytes Byte = omega arith
+some_bytes Word = omega arith
+some_bytes Long = omega arith

@@ -1,40 +1,44 @@
 //! Writing what an instruction writes.
 
 ghost use Rattle.std.specs.Prelude.{◌≡◌, ◌+◌, ◌*◌, ◌≤◌, ◌<◌, ◌^◌, length, ⊤, ℕ};
-ghost use Rattle.ia32_exec.specs.Readable.{AreAll};
-ghost use Rattle.ia32_exec.specs.Commit.{list_of, longs_to};
+ghost use Rattle.ia32_exec.specs.Commit.{list_of};
 ghost use Rattle.ia32_exec.specs.Outcomes.{AreStored};
+ghost use Rattle.paging.specs.Space.{saved};
 ghost use Rattle.step_mem.specs.Shown.{hidden};
 ghost use Rattle.step_mem.specs.Sound.{IsSoundOver, space};
 ghost use Rattle.step_exec.specs.Plain.{stored_all};
 ghost use Rattle.step_exec.specs.Ready.{IsOpenTo};
 
 use guest_ram::Ram;
-use ia32_exec::{Store, Stores};
-use ia32_types::Size;
+use ia32_exec::{Store, Stores, Writer, write_all};
 use step_mem::{Kept, StepState};
 
-fn store_one<B: Kept>(ram: &mut Ram, kept: &B, state: &StepState, store: Store)
-    requires sound { IsSoundOver B.Kept kept.now ram.old state.now }
-    requires open_to { AreStored (IsOpenTo state.now.ready.start state.now.ready.len state.now.ready.write) (Stores.One store) }
-    ensures sound { IsSoundOver B.Kept kept.now ram.new state.now }
-    ensures hidden { hidden state.now.guard state.now.control.frames ram.new ≡ hidden state.now.guard state.now.control.frames ram.old }
-    ensures stored { space B.Kept kept.now ram.new state.now
-        ≡ stored_all (space B.Kept kept.now ram.old state.now) (list_of (Stores.One store)) }
-{
-    step_mem::save(ram, kept, state, store.at, store.size, store.value);
+/// Writes through the translations of a step.
+#[derive(Drop)]
+struct Translated<'a, 'g, B: Kept> {
+    kept: &'a B,
+    state: &'a StepState<'g>,
 }
 
-fn store_eight<B: Kept>(ram: &mut Ram, kept: &B, state: &StepState, at: u32, values: [u32; 8])
-    requires sound { IsSoundOver B.Kept kept.now ram.old state.now }
-    requires open_to { AreAll (IsOpenTo state.now.ready.start state.now.ready.len state.now.ready.write) at 32 }
-    ensures sound { IsSoundOver B.Kept kept.now ram.new state.now }
-    ensures hidden { hidden state.now.guard state.now.control.frames ram.new ≡ hidden state.now.guard state.now.control.frames ram.old }
-    ensures stored { space B.Kept kept.now ram.new state.now
-        ≡ stored_all (space B.Kept kept.now ram.old state.now) (longs_to 8 at values) }
-{
-    for k in 0..8u32 {
-        step_mem::save(ram, kept, state, at + 4 * k, Size::Long, values[k as usize]);
+impl<'a, 'g, B: Kept> Writer for Translated<'a, 'g, B> {
+    type Memory = Ram;
+
+    ghost stands = { λ w ram. IsSoundOver B.Kept w.kept.now ram w.state.now };
+
+    ghost writable = { λ w ram at.
+        IsOpenTo w.state.now.ready.start w.state.now.ready.len w.state.now.ready.write at × (at < 2 ^ 32) };
+
+    ghost written = { λ w old store new.
+        (hidden w.state.now.guard w.state.now.control.frames new ≡ hidden w.state.now.guard w.state.now.control.frames old)
+        × (space B.Kept w.kept.now new w.state.now
+        ≡ saved (space B.Kept w.kept.now old w.state.now) store.at store.size store.value) };
+
+    ghost in_space = { λ w ram at h. h.1 };
+
+    #[inline(always)]
+    fn write(&self, ram: &mut Ram, store: Store) {
+        let Store { at, size, value } = store;
+        step_mem::save(ram, self.kept, self.state, at, size, value);
     }
 }
 
@@ -47,9 +51,6 @@ pub fn store_all<B: Kept>(ram: &mut Ram, kept: &B, state: &StepState, stores: &S
     ensures stored { space B.Kept kept.now ram.new state.now
         ≡ stored_all (space B.Kept kept.now ram.old state.now) (list_of stores.now) }
 {
-    match *stores {
-        Stores::Nothing => {}
-        Stores::One(store) => store_one(ram, kept, state, store),
-        Stores::Eight(at, values) => store_eight(ram, kept, state, at, values),
-    }
+    let writer = Translated { kept, state };
+    write_all(&writer, ram, stores);
 }
