@@ -9,3 +9,4 @@ pub mod Spans
 pub mod Breaking
 pub mod OneRefusal
 pub mod Readings
+pub mod Reading

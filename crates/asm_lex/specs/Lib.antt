@@ -9,3 +9,4 @@ pub mod Tokens
 pub mod Refusals
 pub mod Refused
 pub mod Spans
+pub mod Readers

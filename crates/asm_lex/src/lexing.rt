@@ -13,7 +13,8 @@ ghost use Rattle.asm_lex.specs.Spans.{AreSpans};
 ghost use Rattle.asm_lex.specs.Words as words;
 
 use crate::fault::{SourceCause, SourceFault};
-use crate::machine::{Mode, Next, step};
+use crate::machine::{Mode, Next, Stepped};
+use crate::reader::{Reader, read_bytes};
 use crate::token::Token;
 use std::alloc::{AllocError, Global};
 
@@ -48,27 +49,35 @@ pub fn line_after(line: u32, b: u8) -> u32
     if b == b'\n' { line + 1 } else { line }
 }
 
-/// The tokens of a source that ends with a newline, and what is open at its end.
-pub fn tokens(alloc: Global, source: &[u8]) -> Result<(Vec<Token>, Mode), SourceFault>
-    requires { length source.now < 4294967295 }
-    ensures { spec.ScansTo result (spec.token_scan spec.between 0 1 source.now) }
-{
-    let mut tokens = Vec::new(alloc);
-    let mut mode = Mode::Between;
-    let mut line = 1u32;
-    for (i, b) in source.iter().enumerate() {
-        let stepped = step(mode, i as u32, line, *b);
+impl Reader for Vec<Token> {
+    ghost use Rattle.asm_lex.specs.Readers.{Lists};
+
+    ghost takes = { λ v seen line s x. Lists v s x };
+
+    fn take(
+        self,
+        _seen: &[u8],
+        _line: u32,
+        stepped: Stepped,
+    ) -> Result<(Vec<Token>, Mode), SourceFault> {
+        let mut tokens = self;
         match push_both(&mut tokens, stepped.first, stepped.second) {
             Err(_) => return Err(SourceFault::Memory),
             Ok(()) => {}
         }
         match stepped.next {
-            Next::Stops(line, cause) => return Err(SourceFault::At { line, cause }),
-            Next::Goes(next) => mode = next,
+            Next::Stops(line, cause) => Err(SourceFault::At { line, cause }),
+            Next::Goes(mode) => Ok((tokens, mode)),
         }
-        line = line_after(line, *b);
     }
-    Ok((tokens, mode))
+}
+
+/// The tokens of a source that ends with a newline, and what is open at its end.
+pub fn tokens(alloc: Global, source: &[u8]) -> Result<(Vec<Token>, Mode), SourceFault>
+    requires { length source.now < 4294967295 }
+    ensures { spec.ScansTo result (spec.token_scan spec.between 0 1 source.now) }
+{
+    read_bytes(Vec::new(alloc), source)
 }
 
 /// The longest source.

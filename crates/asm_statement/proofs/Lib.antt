@@ -1,4 +1,3 @@
 pub mod Feeding
-pub mod Stepping
 pub mod Advancing
 pub mod Growing

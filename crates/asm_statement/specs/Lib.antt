@@ -7,3 +7,4 @@ pub mod Openings
 pub mod Statement
 pub mod Reading
 pub mod Running
+pub mod Readings

@@ -1,5 +1,5 @@
 -- A source, read from left to right.
-use Rattle.std.specs.Prelude.{◌≡◌, ℕ, ◌+◌, ◌≤◌, ◌==◌, ◌&&◌, Bool, false, List, ◌++◌, length, Option, Some, None, Result, Ok, Err, if◌then◌else◌}
+use Rattle.std.specs.Prelude.{◌≡◌, ℕ, ◌+◌, ◌==◌, ◌&&◌, Bool, false, List, ◌++◌, length, Option, Some, None, Result, Ok, Err, if◌then◌else◌}
 use Rattle.asm_lex.specs.declared.fault.SourceCause.{SourceCause}
 use Rattle.asm_lex.specs.declared.fault.SourceFault.{SourceFault}
 use Rattle.asm_lex.specs.declared.fault.SourceFault.TheVariants as fault
@@ -62,7 +62,3 @@ abbrev pub Feeds : ScopeView → Result StatementState SourceFault → Result (S
 Feeds new (Ok st) r = r ≡ Ok (new, st)
 Feeds new (Err (fault.At l c)) r = r ≡ Err (l, c)
 Feeds new (Err fault.Memory) r = Unit {0}
-
-abbrev pub Fits : List ℕ → Option Token → Type 0
-Fits seen None = Unit {0}
-Fits seen (Some t) = t.at + t.len ≤ length seen

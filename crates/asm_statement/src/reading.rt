@@ -2,8 +2,8 @@
 
 ghost use Rattle.std.specs.Prelude.{◌≡◌, ◌≤◌, ◌<◌, ◌+◌, ◌^◌, ◌∷◌, ◌++◌, [], length, take, IfOk, Some, None, if◌then◌else◌, nat_lt};
 ghost use Rattle.std.specs.List.{list_all};
-ghost use Rattle.asm_lex.specs.Machine.{start_of};
 ghost use Rattle.asm_lex.specs.declared.machine.Next.TheVariants.{Goes};
+ghost use Rattle.asm_lex.specs.Readers.{Fits};
 ghost use Rattle.asm_statement.specs.Statement.{fault_line, next_step};
 ghost use Rattle.asm_statement.specs.Reading as spec;
 ghost use Rattle.asm_statement.specs.Items as items;
@@ -14,7 +14,7 @@ use crate::fault::StepFault;
 use crate::scope::Scope;
 use crate::state::{StatementState, discard};
 use asm_argument::{Terminal, terminal_of};
-use asm_lex::{Mode, Next, SourceFault, Stepped, Token, TokenKind, line_after};
+use asm_lex::{Mode, Next, Reader, SourceFault, Stepped, Token, TokenKind, read_bytes};
 use asm_source::Name;
 use std::alloc::{AllocError, Global};
 
@@ -180,7 +180,7 @@ fn feed(
     line: u32,
     token: Option<Token>,
 ) -> Result<StatementState, SourceFault>
-    requires { spec.Fits seen.now token }
+    requires { Fits seen.now token }
     ensures { spec.Feeds scope.new result (spec.fed scope.old state seen.now line token) }
 {
     match token {
@@ -199,7 +199,7 @@ fn second_token(
     second: Option<Token>,
     next: Next,
 ) -> Result<(StatementState, Mode), SourceFault>
-    requires { spec.Fits seen.now second }
+    requires { Fits seen.now second }
     ensures does { run.DoesByte scope.new result (run.second_does scope.old state seen.now line second next) }
     ensures next { IfOk result (λ x. next ≡ Goes x.1) }
 {
@@ -225,8 +225,8 @@ fn tokens(
     line: u32,
     stepped: Stepped,
 ) -> Result<(StatementState, Mode), SourceFault>
-    requires first { spec.Fits seen.now stepped.first }
-    requires second { spec.Fits seen.now stepped.second }
+    requires first { Fits seen.now stepped.first }
+    requires second { Fits seen.now stepped.second }
     ensures does { run.DoesByte scope.new result (run.byte_does scope.old state seen.now line stepped) }
     ensures next { IfOk result (λ x. stepped.next ≡ Goes x.1) }
 {
@@ -244,25 +244,46 @@ fn tokens(
     }
 }
 
-/// A byte of the source; `seen` are the bytes up to and including it.
-fn one_byte(
+/// What has been read of a source.
+#[derive(Drop)]
+struct Reading {
     alloc: Global,
-    scope: &mut Scope,
+    scope: Scope,
     state: StatementState,
-    mode: Mode,
-    seen: &[u8],
-    at: u32,
-    line: u32,
-    b: u8,
-) -> Result<(StatementState, Mode), SourceFault>
-    requires begun { start_of mode at ≤ at }
-    requires within { length seen.now ≡ at + 1 }
-    requires room { at < 4294967295 }
-    ensures does { run.DoesByte scope.new result (run.one_byte_over scope.old state mode seen.now at line b) }
-    ensures begun { IfOk result (λ x. start_of x.1 (at + 1) ≤ at + 1) }
-{
-    let stepped = asm_lex::step(mode, at, line, b);
-    tokens(alloc, scope, state, seen, line, stepped)
+}
+
+impl Reader for Reading {
+    ghost use Rattle.asm_statement.specs.Readings.{Reads};
+
+    ghost takes = { λ reading seen line stepped x. Reads reading seen line stepped x };
+
+    #[tactic(auto, using(crate::proofs::Advancing::comes_failed))]
+    fn take(
+        self,
+        seen: &[u8],
+        line: u32,
+        stepped: Stepped,
+    ) -> Result<(Reading, Mode), SourceFault> {
+        let Reading {
+            alloc,
+            mut scope,
+            state,
+        } = self;
+        match tokens(alloc, &mut scope, state, seen, line, stepped) {
+            Err(fault) => {
+                scope.discard();
+                Err(fault)
+            }
+            Ok((state, mode)) => Ok((
+                Reading {
+                    alloc,
+                    scope,
+                    state,
+                },
+                mode,
+            )),
+        }
+    }
 }
 
 /// Reads a source that ends with a newline.
@@ -270,31 +291,20 @@ pub fn read(alloc: Global, source: &[u8]) -> Result<(Scope, StatementState, Mode
     requires { length source.now < 4294967295 }
     ensures { run.Runs result (run.run run.start source.now) }
 {
-    let mut scope = Scope::new(alloc);
-    let mut state = StatementState::Start;
-    let mut mode = Mode::Between;
-    let mut line = 1u32;
-    for (i, b) in source.iter().enumerate() {
-        match one_byte(
-            alloc,
-            &mut scope,
-            state,
-            mode,
-            &source[..i + 1],
-            i as u32,
-            line,
-            *b,
-        ) {
-            Err(fault) => {
-                scope.discard();
-                return Err(fault);
-            }
-            Ok((next_state, next_mode)) => {
-                state = next_state;
-                mode = next_mode;
-            }
+    let reading = Reading {
+        alloc,
+        scope: Scope::new(alloc),
+        state: StatementState::Start,
+    };
+    match read_bytes(reading, source) {
+        Err(fault) => Err(fault),
+        Ok((reading, mode)) => {
+            let Reading {
+                alloc: _,
+                scope,
+                state,
+            } = reading;
+            Ok((scope, state, mode))
         }
-        line = line_after(line, *b);
     }
-    Ok((scope, state, mode))
 }

@@ -1,22 +1,20 @@
-use Rattle.std.proofs.Common.{refl, arith, get_or}
-use Rattle.asm_lex.proofs.Scanning.{line_bound}
-use Rattle.asm_statement.proofs.Advancing.{advanced, failed_runs}
+use Rattle.std.proofs.Common.{Ok, Err, [], subst}
+use Rattle.asm_lex.specs.declared.machine.Mode.TheVariants.{Between}
+use Rattle.asm_statement.specs.declared.state.StatementState.TheVariants.{Start}
+use Rattle.asm_statement.specs.declared.reading.Reading.{Reading}
+use Rattle.asm_statement.specs.ScopeView.{ScopeView}
+use Rattle.asm_statement.specs.Running.{run}
+use Rattle.asm_statement.proofs.Advancing.{running, Ran, ran, ran_failed}
 use Rattle.asm_statement.proofs.reading.read.Goals as goal
-
-pub one_byte-requires-clause-begun : goal.one_byte-requires-clause-begun
-one_byte-requires-clause-begun c = c.loop-i.invariant.begun
 
 pub returns-in-Err : goal.returns-in-Err
 returns-in-Err c =
-    failed_runs c.in-Err.fault c.loop-i.scope c.one_byte.new.scope c.loop-i.state c.loop-i.mode c.args.source.now c.loop-i.i c.loop-i.line _ _
-    c.loop-i-test.true refl c.in-Err.ensures.does c.loop-i.invariant.so_far
+    let r : Reading = record { alloc = c.args.alloc; scope = c.new.result; state = Start } in
+    let s = c.args.source.now in
+    ran_failed c.in-Err.fault _ (subst (λ (x : ScopeView). Ran (Err c.in-Err.fault) (run (running x Start Between [] 0 1) s)) c.new.ensures (ran r Between [] 0 1 s (Err c.in-Err.fault) c.in-Err.ensures))
 
-pub loop-i-preserved : goal.loop-i-preserved
-loop-i-preserved c =
-    let next = advanced c.loop-i.scope c.one_byte.new.scope c.loop-i.state c.in-Ok.next_state c.loop-i.mode c.in-Ok.next_mode c.args.source.now c.loop-i.i c.loop-i.line _ _
-    c.loop-i-test.true refl c.in-Ok.ensures.does c.loop-i.invariant.so_far in
-    record {
-      so_far = rw c.line_after-line.ensures next;
-      begun = c.in-Ok.ensures.begun;
-      line = rw c.line_after-line.ensures (omega (arith, line_bound c.loop-i.line (get_or c.args.source.now c.loop-i.i 0)));
-    }
+pub returns-in-Ok : goal.returns-in-Ok
+returns-in-Ok c =
+    let r : Reading = record { alloc = c.args.alloc; scope = c.new.result; state = Start } in
+    let s = c.args.source.now in
+    subst (λ (x : ScopeView). Ran (Ok (c.in-Ok.reading, c.in-Ok.mode)) (run (running x Start Between [] 0 1) s)) c.new.ensures (ran r Between [] 0 1 s (Ok (c.in-Ok.reading, c.in-Ok.mode)) c.in-Ok.ensures)
