@@ -1,7 +1,7 @@
 //! Reading the instruction at EIP.
 
 ghost use Rattle.std.specs.Prelude.{◌≡◌, ◌+◌, ◌*◌, ◌-◌, ◌/◌, ◌%◌, ◌<◌, ◌≤◌, ◌^◌, length, IfOk, OnOk, Ok, Err, MatchResult};
-ghost use Rattle.host_cpl3.specs.Fetch.{fetching, fetched_on, fetched_by};
+ghost use Rattle.host_cpl3.specs.Fetch.{fetching, fetched_by};
 ghost use Rattle.ia32_decode.specs.declared.answer.Decoded.TheVariants.{Short};
 ghost use Rattle.ia32_decode.specs.Spelled.{IsSpelled};
 ghost use Rattle.host_cpl3.specs.Kept.{AreKept};
@@ -10,11 +10,11 @@ use crate::exit::Exit;
 use crate::pages::page_met;
 use crate::walks::Walks;
 use guest_ram::Ram;
-use ia32_decode::{Decoded, LONGEST, decode_joined};
-use ia32_types::LAST_PAGE;
+use ia32_decode::{Decoded, LONGEST, decode_joined, next_page};
 
 // Where the bytes of the first page are a proper prefix of a spelling, the second page is reached too.
 #[inline(never)]
+#[tactic(auto, unfolding(crate::specs::Fetch::fetched_on))]
 fn fetch_over(
     walks: &mut Walks,
     ram: &Ram,
@@ -29,10 +29,13 @@ fn fetch_over(
     ensures spelled { IfOk result IsSpelled }
     ensures kept { AreKept walks.new ram.now root }
 {
-    if eip / 4096 == LAST_PAGE {
-        return Err(Exit::Wrap);
+    match next_page(eip) {
+        None => Err(Exit::Wrap),
+        Some(next) => {
+            let more = fetching(walks, ram, root, next, LONGEST)?;
+            Ok(decode_joined(front, more))
+        }
     }
-    fetch_on(walks, ram, root, eip, front)
 }
 
 /// What begins at a linear address, from what the bytes of its page begin. That is what they begin, unless they are a
@@ -63,27 +66,6 @@ pub fn fetch_whole(
         }
         _ => Ok(()),
     }
-}
-
-// With bytes of the second page too.
-#[tactic(auto, unfolding(crate::specs::Fetch::fetched_on))]
-fn fetch_on(
-    walks: &mut Walks,
-    ram: &Ram,
-    root: u32,
-    eip: u32,
-    front: &[u8],
-) -> Result<Decoded, Exit>
-    requires root { 4096 * root < length ram.now }
-    requires kept { AreKept walks.old ram.now root }
-    requires not_last { eip / 4096 < LAST_PAGE }
-    requires few { length front.now ≤ 11 }
-    ensures fetched { result ≡ fetched_on ram.now root eip front.now }
-    ensures spelled { IfOk result IsSpelled }
-    ensures kept { AreKept walks.new ram.now root }
-{
-    let more = fetching(walks, ram, root, eip / 4096 * 4096 + 4096, LONGEST)?;
-    Ok(decode_joined(front, more))
 }
 
 /// Bytes of one page.

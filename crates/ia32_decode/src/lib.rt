@@ -13,6 +13,6 @@ mod numbers;
 
 pub use answer::{Decoded, decode};
 pub use bytes::{Bytes, append, decode_joined};
-pub use front::{LONGEST, front_len};
+pub use front::{LONGEST, front_len, next_page};
 pub use laws::{answers, reads_back};
 pub use named::refused;

@@ -9,14 +9,14 @@ ghost use Rattle.step_mem.specs.Changes.{HasEntry};
 ghost use Rattle.step_mem.specs.Pages.{bytes_from};
 ghost use Rattle.step_mem.specs.Shown.{hidden};
 ghost use Rattle.step_mem.specs.Sound.{IsSoundOver, StaysIn, FetchesIn, space};
-ghost use Rattle.machine_model.specs.Instruction.{fetching, fetched_on, fetched};
+ghost use Rattle.machine_model.specs.Instruction.{fetching, fetched_on, fetched, next_page};
 ghost use Rattle.machine_model.specs.UsedPages.{Uses, AtRefusal};
 ghost use Rattle.machine_step.specs.Fetches.{GivesAs};
 
 use arrayvec::ArrayVec;
 use guest_ram::Ram;
-use ia32_decode::{Bytes, Decoded, LONGEST, append, decode, decode_joined, front_len};
-use ia32_types::{LAST_PAGE, Stop};
+use ia32_decode::{Bytes, Decoded, LONGEST, append, decode, decode_joined, front_len, next_page};
+use ia32_types::Stop;
 use machine_model::works_use;
 use paging::Touch;
 use step_mem::{Kept, StepState, own_back, own_front};
@@ -73,12 +73,10 @@ fn fetch_pages<B: Kept>(
             Ok(Decoded::Insn(insn, len))
         }
         Decoded::Outside => Ok(Decoded::Outside),
-        Decoded::Short => {
-            if at / 4096 == LAST_PAGE {
-                return Err(Refusal::Stop(Stop::WrapAccess));
-            }
-            fetch_on(ram, kept, state, user, at)
-        }
+        Decoded::Short => match next_page(at) {
+            None => Err(Refusal::Stop(Stop::WrapAccess)),
+            Some(next) => fetch_on(ram, kept, state, user, at, next),
+        },
     }
 }
 
@@ -89,11 +87,12 @@ fn fetch_on<B: Kept>(
     state: &mut StepState,
     user: bool,
     at: u32,
+    next: u32,
 ) -> Result<Decoded, Refusal>
     requires sound { IsSoundOver B.Kept kept.now ram.old state.old }
     requires room { state.old.pages ≤ 63 }
     requires found { HasEntry (space B.Kept kept.now ram.old state.old).set at }
-    requires not_last { at / 4096 < LAST_PAGE }
+    requires next { next ≡ next_page at }
     ensures sound { IsSoundOver B.Kept kept.now ram.new state.new }
     ensures fetched { Gives result (space B.Kept kept.now ram.new state.new)
         (fetched_on user at (bytes_from (space B.Kept kept.now ram.old state.old) at (front_len at))
@@ -106,7 +105,6 @@ fn fetch_on<B: Kept>(
     let front = front_len(at);
     read_page(ram, kept, state, at, front, &mut bytes);
     own_front(ram, kept, state, at, front);
-    let next = at / 4096 * 4096 + 4096;
     fetch_page(ram, kept, state, user, next, LONGEST)?;
     read_page(ram, kept, state, next, LONGEST, &mut bytes);
     match decode(bytes.as_slice()) {

@@ -8,7 +8,7 @@ ghost use Rattle.guest_ram.specs.Among.{is_among};
 ghost use Rattle.descriptors.specs.Controls.{wp_of};
 ghost use Rattle.board.specs.declared.devices.Board.{Board};
 ghost use Rattle.board.specs.Scripts.{Events};
-ghost use Rattle.ia32_types.specs.declared.addresses.TheConstants.{TEXT_PLACE};
+ghost use Rattle.ia32_types.specs.declared.addresses.TheConstants.{LAST_PAGE, TEXT_PLACE};
 ghost use Rattle.ia32_types.specs.declared.insn.Insn.{Insn};
 ghost use Rattle.ia32_decode.specs.declared.answer.Decoded.TheVariants as begins;
 ghost use Rattle.ia32_decode.specs.Decoding.{decoded};
@@ -31,9 +31,9 @@ use crate::sight::{GuestView, are_bytes};
 use arrayvec::ArrayVec;
 use descriptors::{Cpu, by_level};
 use guest_ram::Ram;
-use ia32_decode::{Bytes, Decoded, LONGEST, decode, front_len};
+use ia32_decode::{Bytes, Decoded, LONGEST, decode, front_len, next_page};
 use ia32_exec::{Range, ranges};
-use ia32_types::{Insn, LAST_PAGE, PAGES};
+use ia32_types::{Insn, PAGES};
 use image_check::Checked;
 use native_steps::uses_are_seen;
 use paging::{Access, allows};
@@ -126,11 +126,10 @@ fn add_first<S: Shadows>(cpu: &Cpu, shadows: &S, view: &GuestView<'_>, first: Se
     match decode(bytes.as_slice()) {
         Decoded::Insn(insn, _) => add_ranges(uses, &insn, cpu),
         Decoded::Outside => {}
-        Decoded::Short => {
-            if eip / 4096 < LAST_PAGE {
-                add_next(cpu, shadows, view, first, &mut bytes, uses);
-            }
-        }
+        Decoded::Short => match next_page(eip) {
+            None => {}
+            Some(_) => add_next(cpu, shadows, view, first, &mut bytes, uses),
+        },
     }
 }
 

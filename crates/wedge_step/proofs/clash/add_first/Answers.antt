@@ -1,4 +1,4 @@
-use Rattle.std.proofs.Common.{◌≡◌, ℕ, ◌+◌, ◌*◌, ◌/◌, ◌%◌, ◌<◌, ◌==◌, Bool, false, cond, List, [], ◌∷◌, ◌++◌, Some, ne_eqb, sym, ap, ◌∙◌, arith}
+use Rattle.std.proofs.Common.{◌≡◌, ℕ, ◌+◌, ◌*◌, ◌/◌, ◌%◌, ◌<◌, ◌==◌, Bool, true, false, cond, List, [], ◌∷◌, ◌++◌, Some, ne_eqb, refl, sym, ap, ◌∙◌, arith}
 use Rattle.guest_ram.specs.Bytes.{part}
 use Rattle.ia32_types.specs.declared.insn.Insn.{Insn}
 use Rattle.ia32_decode.specs.declared.answer.Decoded.{Decoded}
@@ -29,6 +29,11 @@ module _ (m : Setting) (b : State) (x : Seen) (bytes list : List ℕ) (same : li
   goes_on all told below more =
       let other : (b.cpu.regs.eip / 4096 == 0xFFFFF) ≡ false = ne_eqb (b.cpu.regs.eip / 4096) 0xFFFFF (λ e. omega (arith, e, below)) in
       more ∙ (ap (λ (c : Bool). cond c (fetch_uses b (b.cpu.regs.eip / 4096 ∷ [])) (uses_on b (marked b.ram x.marks) bytes (next_seen m b x))) (sym other) ∙ behind begins.Short told)
+
+  ends : (all : List Use) → begins.Short ≡ decoded list → b.cpu.regs.eip / 4096 ≡ 1048575 → all ≡ fetch_uses b (b.cpu.regs.eip / 4096 ∷ []) → all ≡ uses_from m b (Some x)
+  ends all told last one =
+      let same : (b.cpu.regs.eip / 4096 == 0xFFFFF) ≡ true = rw last refl in
+      one ∙ (ap (λ (c : Bool). cond c (fetch_uses b (b.cpu.regs.eip / 4096 ∷ [])) (uses_on b (marked b.ram x.marks) bytes (next_seen m b x))) (sym same) ∙ behind begins.Short told)
 
 pub add_next-requires-clause-few : goal.add_next-requires-clause-few
 add_next-requires-clause-few g c = bytes_few _ _ _ 11 _ _ c.new-bytes.ensures c.read.ensures c.front_len.ensures.few
@@ -64,7 +69,7 @@ pub add_ranges-requires : goal.add_ranges-requires
 add_ranges-requires g c = let one = c.requires.single in record { room = omega (arith, one) }
 
 pub add_next-requires-clause-page : goal.add_next-requires-clause-page
-add_next-requires-clause-page g c = c.if-eip-lt-LAST_PAGE.true
+add_next-requires-clause-page g c = c.in-Some.ensures.next.0
 
 pub returns-in-Insn : goal.returns-in-Insn
 returns-in-Insn g c =
@@ -84,11 +89,20 @@ returns-in-Outside g c =
     let is = first_bytes b x _ c.read.new.into.items _ c.new-bytes.ensures c.read.ensures c.front_len.ensures.len in
     c.requires.one ∙ behind m b x c.read.new.into.items _ c.as_slice.ensures.value is begins.Outside c.in-Outside.ensures.exact
 
-pub returns-then-eip-lt-LAST_PAGE : goal.returns-then-eip-lt-LAST_PAGE
-returns-then-eip-lt-LAST_PAGE g c =
+pub returns-in-None : goal.returns-in-None
+returns-in-None g c =
     let a = c.args in
     let m = ground_of a.view.now in
     let b = looked_at g.S.Shadows a.cpu.now a.shadows.now a.view.now in
     let x = seen_of a.first in
     let is = first_bytes b x _ c.read.new.into.items _ c.new-bytes.ensures c.read.ensures c.front_len.ensures.len in
-    goes_on m b x c.read.new.into.items _ c.as_slice.ensures.value is _ c.in-Short.ensures.exact c.if-eip-lt-LAST_PAGE.true c.add_next.ensures
+    ends m b x c.read.new.into.items _ c.as_slice.ensures.value is _ c.in-Short.ensures.exact c.in-None.ensures.next c.requires.one
+
+pub returns-in-Some : goal.returns-in-Some
+returns-in-Some g c =
+    let a = c.args in
+    let m = ground_of a.view.now in
+    let b = looked_at g.S.Shadows a.cpu.now a.shadows.now a.view.now in
+    let x = seen_of a.first in
+    let is = first_bytes b x _ c.read.new.into.items _ c.new-bytes.ensures c.read.ensures c.front_len.ensures.len in
+    goes_on m b x c.read.new.into.items _ c.as_slice.ensures.value is _ c.in-Short.ensures.exact c.in-Some.ensures.next.0 c.add_next.ensures
