@@ -55,6 +55,7 @@ fn write_eight<W: Writer>(writer: &W, memory: &mut W::Memory, at: u32, values: [
 }
 
 /// Writes the numbers of an instruction in their order.
+#[inline(always)]
 pub fn write_all<W: Writer>(writer: &W, memory: &mut W::Memory, stores: &Stores)
     requires stands { W.stands writer.now memory.old }
     requires open_to { AreStored (W.writable writer.now memory.old) stores.now }
