@@ -31,6 +31,3 @@ pub use reading::read_checkpoint;
 pub use rested::Rested;
 pub use state::{CheckpointCause, CheckpointFault, State};
 pub use writing::write_checkpoint;
-
-#[cfg(test)]
-mod tests;

@@ -7,7 +7,7 @@ use Rattle.run_trace.specs.declared.items.End.{End}
 use Rattle.run_trace.specs.declared.items.End.TheVariants.{Bound, Stopped}
 use Rattle.run_trace.specs.declared.items.Ended.{Ended}
 use Rattle.run_trace.specs.Text.{item_line, end_line}
-use Rattle.guest_sched.specs.Tags.{tag_of, has_end}
+use Rattle.guest_sched.specs.Tags.{tag_of, has_end, tagged, tagged_from, due_after}
 use Rattle.machine_model.specs.Run.{trace_of}
 use Rattle.guest_sched.specs.Pieces.{Piece, shared_text}
 
@@ -52,3 +52,11 @@ abbrev pub BytesAreLines : Type 0
 BytesAreLines =
     (pieces : List Piece) (ended : List Ended) → (shared_text pieces ended ≡ flat_map with_tag (shared_lines pieces ended))
     × All (λ (line : Line). IsLine line.text) (shared_lines pieces ended)
+
+-- A text that is put in pieces is tagged as a whole.
+abbrev pub PiecesAreTagged : Type 0
+PiecesAreTagged = (tag xs ys : List ℕ) → tagged tag (xs ++ ys) ≡ tagged tag xs ++ tagged_from tag (due_after tag tag xs) ys
+
+-- The lines "a", "bc" and "" of kernel 3 are "3 a", "3 bc" and "3 ".
+abbrev pub ThreeAreTagged : Type 0
+ThreeAreTagged = tagged (tag_of 3) (97 ∷ 10 ∷ 98 ∷ 99 ∷ 10 ∷ 10 ∷ []) ≡ 51 ∷ 32 ∷ 97 ∷ 10 ∷ 51 ∷ 32 ∷ 98 ∷ 99 ∷ 10 ∷ 51 ∷ 32 ∷ 10 ∷ []

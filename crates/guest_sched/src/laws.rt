@@ -1,7 +1,7 @@
 //! Laws of several kernels in turns: of their runs, of the frames that they hold, and of their lines.
 
 ghost use Rattle.guest_sched.specs.Joined.{TurnsJoin, TurnStops, OneMoves, OneReleases};
-ghost use Rattle.guest_sched.specs.TaggedLines.{BytesAreLines};
+ghost use Rattle.guest_sched.specs.TaggedLines.{BytesAreLines, PiecesAreTagged, ThreeAreTagged};
 
 /// A turn goes on from where the kernel's turn before has left it.
 pub fn turns_join()
@@ -15,7 +15,10 @@ pub fn kernels_stay_apart()
     ensures releases { OneReleases }
 {}
 
-/// The text of several kernels in turns is lines, each with its kernel's number before it, in the order of the turns.
+/// The text of several kernels in turns is lines, each with its kernel's number before it, in the order of the turns. It is so
+/// however a text is cut where it is put.
 pub fn turns_put_lines()
-    ensures { BytesAreLines }
+    ensures lines { BytesAreLines }
+    ensures pieces { PiecesAreTagged }
+    ensures three { ThreeAreTagged }
 {}

@@ -10,14 +10,8 @@ mod mark;
 mod read;
 mod reading;
 mod schedule;
-#[cfg(test)]
-mod schedule_texts;
 mod shared;
-#[cfg(test)]
-mod shared_runs;
 mod tagged;
-#[cfg(test)]
-mod tagged_texts;
 mod tenants;
 mod turn;
 

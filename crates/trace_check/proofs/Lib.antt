@@ -9,7 +9,6 @@ pub mod Comparing
 pub mod LastLine
 pub mod Judging
 pub mod Running
-pub mod SmallImages
 pub mod Telling
 pub mod NotesCourse
 pub mod NotesForm

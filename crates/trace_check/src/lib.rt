@@ -24,6 +24,3 @@ pub use reading::read_choices;
 pub use replaying::replay;
 pub use whole_set::WholeSet;
 pub use writing::write_choices;
-
-#[cfg(test)]
-mod tests;

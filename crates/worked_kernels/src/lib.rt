@@ -1,5 +1,5 @@
 //! Sessions of commands over worked kernels: texts that the tests of whole runs read line by line. The module `sessions` of
-//! `worked_runs` says how they are read.
+//! `worked_runs` says how they are read. Tables of `machine_runs` stand beside them.
 #![tactic(auto)]
 
 mod assembled;
@@ -27,17 +27,17 @@ pub use interrupted::IS_INTERRUPTED;
 pub use kept::KEPT_TO_THE_END;
 pub use made::FIRST_NUMBER;
 pub use moved::{
-    BETWEEN_STEPS, FILLS_MEMORY, GOES_ON, IS_SAVED, LACKS_A_BYTE, NAMED, PASSES_MEMORY,
+    BEHIND_HEAD, BETWEEN_STEPS, FILLS_MEMORY, GOES_ON, HEAD, IS_SAVED, LACKS_A_BYTE, PASSES_MEMORY,
     SAVED_IN_PLACE, SPOILED, USER_WITHOUT_INTERRUPTS,
 };
-pub use noted::NEEDS_MORE_FRAMES;
+pub use noted::{JUDGED, NEEDS_MORE_FRAMES, READS_ITS_TEXT};
 pub use refused::{REFUSED, TOO_MANY_SITES};
 pub use shared::{
     ARE_TOO_LARGE, COUNTS_AT_LEVEL_3, FOUR_IN_TURNS, FOUR_TIMES, GOES_OVER_MANY_TABLES,
-    IS_HELD_OFF, SHARED, TURNS_END_HELD_OFF,
+    IS_HELD_OFF, SHARED, SHARES, TURNS_END_HELD_OFF,
 };
 pub use spaces::{
     COPIES_WITHIN_A_STALE_PAGE, GOES_OVER_FORTY_TABLES, GOES_ROUND_THREE_SPACES,
-    READS_A_STALE_PAGE, READS_A_STALE_PAGE_ALONE, SHARES_A_PAGE, SHOWN_BY_SPACES, TO_A_NEW_VALUE,
-    TO_THE_SAME,
+    READS_A_STALE_PAGE, READS_A_STALE_PAGE_ALONE, SHARES_A_PAGE, SHOWN_BEHIND_FORTY_TABLES,
+    SHOWN_BY_SPACES, TO_A_NEW_VALUE, TO_THE_SAME,
 };

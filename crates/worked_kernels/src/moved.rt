@@ -43,9 +43,8 @@ $ 3 continue --bare I B I 8
 refused 110 at 0
 ";
 
-/// What stands in the first 256 bytes of C, and where the memory begins that holds the text: an offset and bytes; all other bytes of
-/// the 256 are 0.
-pub const NAMED: &str = "\
+/// What stands in the first 256 bytes of C before the board: an offset and bytes. All others before the board are 0.
+pub const HEAD: &str = "\
 0 50 56 43 31 00 08 00 00 03
 16 48 00 80 00 00 00 00 00 f8 03 00 00 00 10 10 00 00 00 10 c0
 48 08 00 00 10 02 00 00 00
@@ -54,12 +53,17 @@ pub const NAMED: &str = "\
 72 00 20 00 c0
 88 27 00
 96 10 00 00 00 08 00 00 00 10 00 00 00 10 00 00 00
+";
+
+/// The same behind these: of the board, of which all other bytes are 0, and where the memory begins that holds the text.
+pub const BEHIND_HEAD: &str = "\
 132 ff
 139 ff
 1048832 ba f8 03 00 00 b0 48 ee 90 90 90 90 f4 90 90 90 90 eb fe
 ";
 
-/// The offset of a byte of C, another value for it, and the place at which the file is refused then.
+/// The offset of a byte of C, another value for it, and the place at which the file is refused then. So it is where no bit of
+/// the board is set.
 pub const SPOILED: &str = "\
 0 0 0
 3 50 0

@@ -69,6 +69,12 @@ outl %eax,$0x80
 hlt
 ";
 
+/// What it shows in 2,000 steps.
+pub const SHOWN_BEHIND_FORTY_TABLES: &str = "\
+658 out32 0080 00000078
+end steps 2000
+";
+
 /// Three directories, in the frames 0x20 to 0x22, map the text and the first 4 MB by the tables that the boot made, and the
 /// page at 0x20000000 by a table of their own, in the frames 0x23 to 0x25, to a frame of their own, 0x30 to 0x32. Three times
 /// each space in turn adds 1 to its page and shows it. EBX is what CR3 is loaded with.

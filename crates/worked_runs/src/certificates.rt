@@ -5,11 +5,7 @@ use crate::sessions::follow_over;
 use pv_io::MemFiles;
 use std::alloc::Global;
 use std::process::Abort;
-use worked_kernels::{GOES_OVER_FORTY_TABLES, NEEDS_MORE_FRAMES};
-
-const SENDS_A_BYTE: &str = "_start: movl $0x3f8,%edx\nmovb $0x48,%al\noutb %al,%dx\nhlt\n";
-
-const READS_ITS_TEXT: &str = "_start: movl 0x10000000,%eax\n";
+use worked_kernels::{GOES_OVER_FORTY_TABLES, NEEDS_MORE_FRAMES, READS_ITS_TEXT, SENDS_A_BYTE};
 
 const HAS_A_LARGE_PAGE: &str = "\
 _start: movl $16,%eax; movl %eax,%cr4; movl $0x400083,0xC0001114; movl $0x5a,0x11400010

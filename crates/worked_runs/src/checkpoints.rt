@@ -6,8 +6,8 @@ use pv_io::MemFiles;
 use std::alloc::Global;
 use std::process::Abort;
 use worked_kernels::{
-    BETWEEN_STEPS, EVENTS, FILLS_MEMORY, GOES_ON, IS_SAVED, LACKS_A_BYTE, NAMED, PASSES_MEMORY,
-    SAVED_IN_PLACE, SPOILED, USER, USER_WITHOUT_INTERRUPTS,
+    BEHIND_HEAD, BETWEEN_STEPS, EVENTS, FILLS_MEMORY, GOES_ON, HEAD, IS_SAVED, LACKS_A_BYTE,
+    PASSES_MEMORY, SAVED_IN_PLACE, SPOILED, USER, USER_WITHOUT_INTERRUPTS,
 };
 
 /// Bytes in hexadecimal, one space between two.
@@ -52,7 +52,7 @@ fn a_file_has_its_bytes_at_their_offsets(rt: HostRuntime) {
     let mut files = follow(&rt, rt.alloc(), IS_SAVED);
     let mut bytes = file(&rt, rt.alloc(), &mut files, "C");
     assert_eq!(rt; bytes.len(), 8_388_864);
-    for line in NAMED.lines() {
+    for line in HEAD.lines().chain(BEHIND_HEAD.lines()) {
         takes_out(&rt, rt.alloc(), &mut bytes, line);
     }
     holds(&rt, 256, has(&bytes, 0, &[0; 256]));

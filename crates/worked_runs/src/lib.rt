@@ -2,8 +2,6 @@
 #![tactic(auto)]
 
 #[cfg(test)]
-mod adopted;
-#[cfg(test)]
 mod certificates;
 #[cfg(test)]
 mod checkpoints;
@@ -15,8 +13,6 @@ mod damaged;
 mod faults;
 #[cfg(test)]
 mod formats;
-#[cfg(test)]
-mod guests;
 #[cfg(test)]
 mod images;
 #[cfg(test)]
@@ -30,9 +26,7 @@ mod sessions;
 #[cfg(test)]
 mod sharing;
 #[cfg(test)]
-mod slices;
-#[cfg(test)]
-mod spaces;
+mod tables;
 #[cfg(test)]
 mod watched;
 #[cfg(test)]

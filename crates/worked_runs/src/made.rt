@@ -2,7 +2,7 @@
 
 use crate::commands::{answer, are_same, built, image_of, no_files};
 use crate::sessions::follow_over;
-use crate::slices::no_event;
+use board::read_script;
 use host_cpl3::Machine;
 use image_check::Checked;
 use kernel_gen::kernel;
@@ -23,7 +23,7 @@ fn worked(rt: &impl Abort, alloc: Global) -> MemSink {
 
 /// How a patched run of the kernel of 7 ends that has what `work` gives it, and how many lines it prints.
 fn patched(rt: &impl Abort, alloc: Global, image: &Checked) -> (Ended, u64) {
-    let script = no_event(rt, alloc);
+    let script = read_script(alloc, b"").expect(rt, "memory");
     let mut out = MemSink::new(alloc, 10_000_000, Vec::new(alloc)).expect(rt, "memory");
     let mut host = Machine::new();
     let ended = run_wedge(

@@ -1,7 +1,0 @@
-use Rattle.bare_machine.specs.Machine.{state_of, IsKept}
-use Rattle.worked_runs.specs.Going.{IsGoing}
-use Rattle.worked_runs.proofs.guests.side_by_side.Given as goal
-
-abbrev pub invariant-loop-step : goal.invariant-loop-step
-invariant-loop-step g l =
-    IsKept l.bare.frames (state_of (λ buffer. buffer) l.bare) × IsGoing l.image l.guest l.pool l.host.ram

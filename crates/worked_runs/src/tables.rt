@@ -1,0 +1,29 @@
+//! Kernels over many tables and in several address spaces.
+
+use crate::commands::built;
+use crate::sessions::follow_over;
+use std::alloc::Global;
+use std::process::Abort;
+use worked_kernels::{
+    GOES_OVER_FORTY_TABLES, GOES_ROUND_THREE_SPACES, SHARES_A_PAGE, SHOWN_BEHIND_FORTY_TABLES,
+    SHOWN_BY_SPACES, TO_A_NEW_VALUE, TO_THE_SAME,
+};
+
+/// Both machines show this of a source of three pieces.
+fn shows(rt: &impl Abort, alloc: Global, pieces: [&str; 3], shown: &str) {
+    let [first, second, third] = pieces;
+    let source = format!(in alloc; "{first}{second}{third}").expect(rt, "memory");
+    let session = format!(in alloc; "$ runs 0 2000\n{shown}").expect(rt, "memory");
+    let mut files = built(rt, alloc, source.as_bytes());
+    follow_over(rt, alloc, &mut files, &session);
+}
+
+#[test]
+fn both_machines_show_the_same_over_many_tables_and_spaces(rt: HostRuntime) {
+    let tables = [GOES_OVER_FORTY_TABLES, "", ""];
+    shows(&rt, rt.alloc(), tables, SHOWN_BEHIND_FORTY_TABLES);
+    for on in [TO_THE_SAME, TO_A_NEW_VALUE] {
+        let spaces = [GOES_ROUND_THREE_SPACES, on, SHARES_A_PAGE];
+        shows(&rt, rt.alloc(), spaces, SHOWN_BY_SPACES);
+    }
+}
