@@ -22,36 +22,33 @@ use Rattle.image_check.specs.Refusals.{Refusal}
 use Rattle.image_check.specs.Checking.{image_of, image_from, as_form}
 use Rattle.image_check.proofs.Passed.{has_passed}
 use Rattle.image_load.specs.Boot.{need}
-use Rattle.pv_build.specs.Telling.{Says, Whole, Cut, Ends}
 use Rattle.pv_build.specs.Objects.{HasObjects, object_made_line}
 use Rattle.pv_build.specs.Images.{HasImage, ImageReadsBack, accepted_line, image_made_line}
 use Rattle.pv_build.specs.Scripts.{HasScript}
-use Rattle.pv_build.specs.declared.halt.Halt.{Halt}
-use Rattle.pv_build.specs.declared.halt.Halt.TheVariants as halt
 use Rattle.pv_build.specs.declared.status.Status.{Status}
 use Rattle.pv_build.specs.declared.status.Status.TheVariants as status
 use Rattle.pv_words.specs.Words.{Command, Burn, Link, Check, RunBare, RunWedge, Work, Share, Save, SaveFrom, Continue, Prove, Replay}
-use Rattle.pv_tool.specs.Outside.{Outside}
-use Rattle.pv_tool.specs.Outcome.{Outcome, refused, printed, stored_as}
-use Rattle.pv_tool.specs.Delivery.{Delivers, Stored, NotStored, NoMemory}
-use Rattle.pv_tool.specs.Burning.{HasBurnt, written, burned}
-use Rattle.pv_tool.specs.Linking.{HoldObjects, linked, Links, AllRead, NoObject}
-use Rattle.pv_tool.specs.Checking.{Checks, checked}
-use Rattle.pv_tool.specs.Running.{RunsBare, RunsPatched, WithFrames, Runs}
-use Rattle.pv_tool.specs.Saving.{SavesBoot, SavesOn, FromFile}
-use Rattle.pv_tool.specs.Continuing.{ContinuesOn}
-use Rattle.pv_tool.specs.Proving.{ProvesRun}
-use Rattle.pv_tool.specs.Replaying.{Replays}
-use Rattle.pv_tool.specs.Meaning.{Gives, Finds, saved, Keeps, FaultCounts, NoLoadFault, NoStoreFault, NoFault, ComesTo, PrintsRun, Leaves, IsStored, NoStore, NoPut, Means}
-use Rattle.pv_tool.proofs.SameFiles.{same_file}
-use Rattle.pv_tool.proofs.BurnMeanings.{is_burnt, burns_once}
-use Rattle.pv_tool.proofs.LinkMeanings.{links_once, links_found}
-use Rattle.pv_tool.proofs.Works.{IsSaved, IsTold, IsRefusal, AreEnds, AreTold, told_saved, ended_refusal, reads_all, reads_once, reads_both, reads_found, frames_all, frames_once, ran}
-use Rattle.pv_tool.proofs.RunMeanings.{bare_ends, bare_told, patched_ends, patched_told}
-use Rattle.pv_tool.proofs.WorkMeanings.{works_told, works_refusal, works_once}
-use Rattle.pv_tool.proofs.ShareLaws.{shares_told, shares_refusal, shares_once, shares_found}
-use Rattle.pv_tool.proofs.RestLaws.{saves_ended, saves_saved, boot_ends, continues_ended, continues_told, from_all, from_once, from_found}
-use Rattle.pv_tool.proofs.ReplayLaws.{proves_ends, proves_saved, replays_told, replays_refusal, replays_once, replays_found}
+use Rattle.pv_tasks.specs.Outside.{Outside}
+use Rattle.pv_tasks.specs.Outcome.{Outcome, refused, printed, stored_as}
+use Rattle.pv_tasks.specs.Burning.{HasBurnt, written, burned}
+use Rattle.pv_tasks.specs.Linking.{HoldObjects, linked, Links, AllRead, NoObject}
+use Rattle.pv_tasks.specs.Checking.{Checks, checked}
+use Rattle.pv_tasks.specs.Running.{RunsBare, RunsPatched, WithFrames, Runs}
+use Rattle.pv_save.specs.Saving.{SavesBoot, SavesOn, FromFile}
+use Rattle.pv_save.specs.Continuing.{ContinuesOn}
+use Rattle.pv_prove.specs.Proving.{ProvesRun}
+use Rattle.pv_prove.specs.Replaying.{Replays}
+use Rattle.pv_tasks.specs.Tasks.{Keeps, FaultCounts, NoLoadFault, NoStoreFault, NoFault, ComesTo, IsStored, NoStore, NoPut, Means}
+use Rattle.pv_tool.specs.Asked.{task_of, PrintsRun}
+use Rattle.pv_tasks.proofs.SameFiles.{same_file}
+use Rattle.pv_tasks.proofs.BurnMeanings.{is_burnt, burns_once}
+use Rattle.pv_tasks.proofs.LinkMeanings.{links_once, links_found}
+use Rattle.pv_tasks.proofs.Works.{IsSaved, IsTold, IsRefusal, AreEnds, AreTold, told_saved, ended_refusal, reads_all, reads_once, reads_both, reads_found, frames_all, frames_once, ran}
+use Rattle.pv_tasks.proofs.RunMeanings.{bare_ends, bare_told, patched_ends, patched_told}
+use Rattle.pv_tasks.proofs.WorkMeanings.{works_told, works_refusal, works_once}
+use Rattle.pv_share.proofs.ShareLaws.{shares_told, shares_refusal, shares_once, shares_found}
+use Rattle.pv_save.proofs.RestLaws.{saves_ended, saves_saved, boot_ends, continues_ended, continues_told, from_all, from_once, from_found}
+use Rattle.pv_prove.proofs.ReplayLaws.{proves_ends, proves_saved, replays_told, replays_refusal, replays_once, replays_found}
 
 -- ---- what is stored
 
@@ -98,7 +95,7 @@ runs_saved : (name : Option (List ℕ)) (runs : Image → Events → Outcome →
 runs_saved name runs frames files image script w are h =
     reads_all (SavesAt name) (WithFrames runs frames) files image script w (λ line. tt) (λ i e v r. frames_all (SavesAt name) runs frames i e v (λ line. tt) are r) h
 
-gives_saved : (command : Command) (files : Option FileMap) (w : Outcome) → Gives command files w → IsSaved (saved command) w.stored
+gives_saved : (command : Command) (files : Option FileMap) (w : Outcome) → (task_of command).gives files w → IsSaved (task_of command).saved w.stored
 gives_saved (Burn source object) files w h = subst (λ (v : Outcome). IsSaved (Some object) v.stored) (sym h.comes) (burned_saved object h.said)
 gives_saved (Link image objects) files w h = links_saved files image objects w h
 gives_saved (Check image) files w h = told_saved None w (checks_told files image w h)
@@ -144,22 +141,22 @@ keeps_changed (Some name) stored o n bytes saved is h =
     subst (λ (m : List ℕ). ChangesAt o.files o.files_after m) (subst (λ (s : Option (List ℕ × List ℕ)). IsSaved (Some name) s) is saved) h
 
 -- every name but that one holds what it held
-pub means_keeps : (command : Command) (o : Outside) (st : Status) → Means command o st → Keeps (saved command) o.files o.files_after
-means_keeps command o status.Done h = keeps_stored (saved command) h.0.stored o (gives_saved command o.files h.0 h.1) h.3
-means_keeps command o status.Stopped h = keeps_stored (saved command) h.0.stored o (gives_saved command o.files h.0 h.1) h.3
-means_keeps command o status.Refused h = keeps_stored (saved command) h.0.stored o (gives_saved command o.files h.0 h.1) h.3
-means_keeps command o status.ReadFault h = keeps_same (saved command) o.files o.files_after h.1
+pub means_keeps : (command : Command) (o : Outside) (st : Status) → Means (task_of command) o st → Keeps (task_of command).saved o.files o.files_after
+means_keeps command o status.Done h = keeps_stored (task_of command).saved h.0.stored o (gives_saved command o.files h.0 h.1) h.3
+means_keeps command o status.Stopped h = keeps_stored (task_of command).saved h.0.stored o (gives_saved command o.files h.0 h.1) h.3
+means_keeps command o status.Refused h = keeps_stored (task_of command).saved h.0.stored o (gives_saved command o.files h.0 h.1) h.3
+means_keeps command o status.ReadFault h = keeps_same (task_of command).saved o.files o.files_after h.1
 means_keeps command o status.WriteFault (inl (w, gives, NoStore name bytes is changes rose unsure same)) =
-    keeps_changed (saved command) w.stored o name bytes (gives_saved command o.files w gives) is changes
-means_keeps command o status.WriteFault (inl (w, gives, NoPut stored past rose)) = keeps_stored (saved command) w.stored o (gives_saved command o.files w gives) stored
-means_keeps command o status.WriteFault (inr h) = keeps_same (saved command) o.files o.files_after h.same
-means_keeps command o status.Memory h = keeps_same (saved command) o.files o.files_after h.0
+    keeps_changed (task_of command).saved w.stored o name bytes (gives_saved command o.files w gives) is changes
+means_keeps command o status.WriteFault (inl (w, gives, NoPut stored past rose)) = keeps_stored (task_of command).saved w.stored o (gives_saved command o.files w gives) stored
+means_keeps command o status.WriteFault (inr h) = keeps_same (task_of command).saved o.files o.files_after h.same
+means_keeps command o status.Memory h = keeps_same (task_of command).saved o.files o.files_after h.0
 means_keeps command o status.Words h = absurd h
 
 -- ---- where no fault came
 
 -- a load that failed, and a store
-no_load : (command : Command) (o : Outside) → NoLoadFault command o → Rose o.loads o.loads_after → (o.sure ≡ true → Finds command o.files → ⊥) → ⊥
+no_load : (command : Command) (o : Outside) → NoLoadFault (task_of command) o → Rose o.loads o.loads_after → (o.sure ≡ true → (task_of command).finds o.files → ⊥) → ⊥
 no_load command o (inl none) rose unsure = none rose
 no_load command o (inr sure) rose unsure = unsure sure.0 sure.1
 
@@ -170,13 +167,13 @@ no_store (Some name) stored o n bytes saved is (inl none) rose unsure = none ros
 no_store (Some name) stored o n bytes saved is (inr sure) rose unsure = unsure sure
 
 -- where no fault came and memory was found, the work's outcome was told
-pub came_to : (command : Command) (o : Outside) (st : Status) → NoFault command o → st ≢ status.Memory → Means command o st → (w : Outcome) × Gives command o.files w × ComesTo w o st
+pub came_to : (command : Command) (o : Outside) (st : Status) → NoFault (task_of command) o → st ≢ status.Memory → Means (task_of command) o st → (w : Outcome) × (task_of command).gives o.files w × ComesTo w o st
 came_to command o status.Done none found h = (h.0, h.1, (sym h.2, h.3, h.4, h.5))
 came_to command o status.Stopped none found h = (h.0, h.1, (sym h.2, h.3, h.4, h.5))
 came_to command o status.Refused none found h = (h.0, h.1, (sym h.2, h.3, h.4, h.5))
 came_to command o status.ReadFault none found h = absurd (no_load command o none.loads h.0 h.3)
 came_to command o status.WriteFault none found (inl (v, gives, NoStore name bytes is changes rose unsure same)) =
-    absurd (no_store (saved command) v.stored o name bytes (gives_saved command o.files v gives) is none.stores rose unsure)
+    absurd (no_store (task_of command).saved v.stored o name bytes (gives_saved command o.files v gives) is none.stores rose unsure)
 came_to command o status.WriteFault none found (inl (v, gives, NoPut stored past rose)) = absurd (none.puts rose)
 came_to command o status.WriteFault none found (inr h) = absurd (none.puts h.rose)
 came_to command o status.Memory none found h = absurd (found refl)
@@ -184,10 +181,10 @@ came_to command o status.Words none found h = absurd h
 
 -- work that can come to one thing only comes to that
 pub comes_to : (command : Command) (o : Outside) (told : FileMap) (w : Outcome) (st : Status) → o.files ≡ Some told
-    → ((v : Outcome) → Gives command (Some told) v → v ≡ w) → NoFault command o → st ≢ status.Memory → Means command o st → ComesTo w o st
+    → ((v : Outcome) → (task_of command).gives (Some told) v → v ≡ w) → NoFault (task_of command) o → st ≢ status.Memory → Means (task_of command) o st → ComesTo w o st
 comes_to command o told w st files only none found h =
     let c = came_to command o st none found h in
-    subst (λ (v : Outcome). ComesTo v o st) (only c.0 (subst (λ (f : Option FileMap). Gives command f c.0) files c.1)) c.2
+    subst (λ (v : Outcome). ComesTo v o st) (only c.0 (subst (λ (f : Option FileMap). (task_of command).gives f c.0) files c.1)) c.2
 
 -- ---- refusals
 
@@ -197,7 +194,7 @@ run_once : (runs : Image → Events → Outcome → Type 0) (frames : ℕ) (told
 run_once runs frames told image script w v are is h k = reads_once (WithFrames runs frames) told image script w v (frames_once runs frames are) is h k
 
 -- work that is refused comes to nothing else
-pub refused_once : (command : Command) (told : FileMap) (w : Outcome) → w.status ≡ status.Refused → Gives command (Some told) w → (v : Outcome) → Gives command (Some told) v → v ≡ w
+pub refused_once : (command : Command) (told : FileMap) (w : Outcome) → w.status ≡ status.Refused → (task_of command).gives (Some told) w → (v : Outcome) → (task_of command).gives (Some told) v → v ≡ w
 refused_once (Burn source object) told w is h v k = burns_once told source object w v h k
 refused_once (Link image objects) told w is h v k = links_once told image objects w v h k
 refused_once (Check image) told w is h v k = checks_once told image w v h k
@@ -242,7 +239,7 @@ runs_refusal runs frames files image script w are h =
     reads_all IsRefusal (WithFrames runs frames) files image script w line_refusal (λ i e v r. frames_all IsRefusal runs frames i e v line_refusal (λ i2 e2 u q. ended_refusal u (are i2 e2 u q)) r) h
 
 -- what is refused is a line alone
-refused_alone : (command : Command) (files : Option FileMap) (w : Outcome) → Gives command files w → IsRefusal w
+refused_alone : (command : Command) (files : Option FileMap) (w : Outcome) → (task_of command).gives files w → IsRefusal w
 refused_alone (Burn source object) files w h = subst IsRefusal (sym h.comes) (burned_refusal object h.said)
 refused_alone (Link image objects) files w h = links_refusal files image objects w h
 refused_alone (Check image) files w h = subst IsRefusal (sym h.2) (checked_refusal (image_of h.0))
@@ -261,8 +258,8 @@ refused_alone (Prove image script frames n certificate) files w h = runs_refusal
 refused_alone (Replay image script frames n certificate text) files w h =
     reads_all IsRefusal (Replays frames n files certificate text) files image script w line_refusal (λ i e v r. replays_refusal frames n files certificate text i e v r) h
 
-pub refused_again : (command : Command) (o : Outside) (told : FileMap) (w : Outcome) (st : Status) → o.files ≡ Some told → Gives command (Some told) w → w.status ≡ status.Refused
-    → NoFault command o → st ≢ status.Memory → Means command o st
+pub refused_again : (command : Command) (o : Outside) (told : FileMap) (w : Outcome) (st : Status) → o.files ≡ Some told → (task_of command).gives (Some told) w → w.status ≡ status.Refused
+    → NoFault (task_of command) o → st ≢ status.Memory → Means (task_of command) o st
     → (st ≡ status.Refused) × (o.files_after ≡ o.files) × Appends o.taken o.taken_after w.text
 refused_again command o told w st files gives is none found h =
     let came = comes_to command o told w st files (refused_once command told w is gives) none found h in
@@ -273,7 +270,7 @@ refused_again command o told w st files gives is none found h =
 
 pub run_ends : (image script : List ℕ) (frames n : ℕ) (o : Outside) (told : FileMap) (program : Image) (events : Events) (st : Status) → o.files ≡ Some told
     → HasImage (Some told) image program → HasScript (Some told) script events → need program ≤ frames
-    → NoFault (RunBare image script frames n) o → st ≢ status.Memory → Means (RunBare image script frames n) o st
+    → NoFault (task_of (RunBare image script frames n)) o → st ≢ status.Memory → Means (task_of (RunBare image script frames n)) o st
     → PrintsRun program events frames n o st
 run_ends image script frames n o told program events st files has says le none found h =
     let w = came_to (RunBare image script frames n) o st none found h in
@@ -284,7 +281,7 @@ run_ends image script frames n o told program events st files has says le none f
 -- ---- completeness of the others
 
 pub burn_completes : (source object : List ℕ) (o : Outside) (told : FileMap) (parts : ObjectParts) (st : Status) → o.files ≡ Some told → HasBurnt (Some told) source parts
-    → NoFault (Burn source object) o → st ≢ status.Memory → Means (Burn source object) o st
+    → NoFault (task_of (Burn source object)) o → st ≢ status.Memory → Means (task_of (Burn source object)) o st
     → ComesTo (stored_as object (object_bytes parts) (object_made_line parts)) o st
 burn_completes source object o told parts st files has none found h =
     let w = stored_as object (object_bytes parts) (object_made_line parts) in
@@ -293,7 +290,7 @@ burn_completes source object o told parts st files has none found h =
 
 pub link_completes : (image : List ℕ) (objects : List (List ℕ)) (o : Outside) (told : FileMap) (os : List ObjectParts) (parts : ImageParts) (st : Status) → o.files ≡ Some told
     → HasObjects (Some told) objects os → linked_image os ≡ Ok parts
-    → NoFault (Link image objects) o → st ≢ status.Memory → Means (Link image objects) o st
+    → NoFault (task_of (Link image objects)) o → st ≢ status.Memory → Means (task_of (Link image objects)) o st
     → ComesTo (stored_as image (image_bytes parts) (image_made_line parts)) o st
 link_completes image objects o told os parts st files all made none found h =
     let w = stored_as image (image_bytes parts) (image_made_line parts) in
@@ -301,7 +298,7 @@ link_completes image objects o told os parts st files all made none found h =
     comes_to (Link image objects) o told w st files (λ v k. links_once told image objects w v gives k) none found h
 
 pub check_completes : (image : List ℕ) (o : Outside) (told : FileMap) (program : Image) (st : Status) → o.files ≡ Some told → HasImage (Some told) image program
-    → NoFault (Check image) o → st ≢ status.Memory → Means (Check image) o st
+    → NoFault (task_of (Check image)) o → st ≢ status.Memory → Means (task_of (Check image)) o st
     → ComesTo (printed (accepted_line program)) o st
 check_completes image o told program st files has none found h =
     let w = printed (accepted_line program) in
@@ -317,31 +314,14 @@ pub asks_nothing : {R : Type 0} → (form : Option Command) (command : Command) 
 asks_nothing form command none is = absurd (let e : None ≡ Some command = none ∙ is in cc)
 
 -- what is meant by the words' command
-pub means_of : (a : Command) (form : Option Command) (o : Outside) (st : Status) → Some a ≡ form → Means a o st → (command : Command) → form ≡ Some command → Means command o st
-means_of a form o st is h command be = subst (λ (k : Command). Means k o st) (same_command a command form is be) h
+pub means_of : (a : Command) (form : Option Command) (o : Outside) (st : Status) → Some a ≡ form → Means (task_of a) o st → (command : Command) → form ≡ Some command → Means (task_of command) o st
+means_of a form o st is h command be = subst (λ (k : Command). Means (task_of k) o st) (same_command a command form is be) h
 
-pub counts_of : (a : Command) (form : Option Command) (o : Outside) → Some a ≡ form → FaultCounts a o → (command : Command) → form ≡ Some command → FaultCounts command o
-counts_of a form o is h command be = subst (λ (k : Command). FaultCounts k o) (same_command a command form is be) h
+pub counts_of : (a : Command) (form : Option Command) (o : Outside) → Some a ≡ form → FaultCounts (task_of a) o → (command : Command) → form ≡ Some command → FaultCounts (task_of command) o
+counts_of a form o is h command be = subst (λ (k : Command). FaultCounts (task_of k) o) (same_command a command form is be) h
 
-pub leaves_of : (a : Command) (form : Option Command) (old new : Option FileMap) → Some a ≡ form → Leaves a old new → (command : Command) → form ≡ Some command → Leaves command old new
-leaves_of a form old new is h command be = subst (λ (k : Command). Leaves k old new) (same_command a command form is be) h
-
--- ---- what is left where the work is done
-
-pub stored_done : (o : Outside) (name bytes line : List ℕ) (st : Status) → Delivers name bytes line o st → st ≡ status.Done → Stores o.files o.files_after name bytes
-stored_done o name bytes line st (Stored stores said) done = stores
-stored_done o name bytes line st (NotStored is changes rose unsure none) done = cc
-stored_done o name bytes line st (NoMemory is kept none) done = cc
-
-pub not_said : (line : List ℕ) (taken taken2 : Option (List ℕ)) (puts puts2 : ℕ) (st : Status) → Says line status.Refused taken taken2 puts puts2 st → st ≡ status.Done → ⊥
-not_said line taken taken2 puts puts2 st (Whole is appends) done = cc
-not_said line taken taken2 puts puts2 st (Cut is front rose) done = cc
-
--- work that has ended with nothing stored isn't done
-pub not_ended : (h : Halt) (taken taken2 : Option (List ℕ)) (puts puts2 : ℕ) (st : Status) → Ends h taken taken2 puts puts2 st → st ≡ status.Done → ⊥
-not_ended (halt.Refused line) taken taken2 puts puts2 st is done = not_said line taken taken2 puts puts2 st is done
-not_ended halt.ReadFault taken taken2 puts puts2 st is done = cc (is.0, done)
-not_ended halt.Memory taken taken2 puts puts2 st is done = cc (is.0, done)
+pub leaves_of : (a : Command) (form : Option Command) (old new : Option FileMap) → Some a ≡ form → (task_of a).leaves old new → (command : Command) → form ≡ Some command → (task_of command).leaves old new
+leaves_of a form old new is h command be = subst (λ (k : Command). (task_of k).leaves old new) (same_command a command form is be) h
 
 -- ---- laws
 
@@ -352,7 +332,7 @@ held_objects told (name ∷ names) [] h = absurd h
 held_objects told (name ∷ names) (o ∷ os) h = ((object_bytes o, h.0, h.2 h.1), held_objects told names os h.3)
 
 -- where the work comes to something, each file that it reaches is held
-pub gives_found : (command : Command) (told : FileMap) (w : Outcome) → Gives command (Some told) w → Finds command (Some told)
+pub gives_found : (command : Command) (told : FileMap) (w : Outcome) → (task_of command).gives (Some told) w → (task_of command).finds (Some told)
 gives_found (Burn source object) told w h = (h.text, h.holds)
 gives_found (Link image objects) told w h = links_found told image objects w h
 gives_found (Check image) told w h = (h.0, h.1)

@@ -13,12 +13,13 @@ use Rattle.pv_build.specs.Scripts.{HasScript}
 use Rattle.pv_build.specs.declared.status.Status.{Status}
 use Rattle.pv_build.specs.declared.status.Status.TheVariants as status
 use Rattle.pv_words.specs.Words.{RunWedge}
-use Rattle.pv_tool.specs.Outside.{Outside}
-use Rattle.pv_tool.specs.Outcome.{Outcome, HasEnded}
-use Rattle.pv_tool.specs.Running.{RunsPatched, WithFrames, Runs}
-use Rattle.pv_tool.specs.Meaning.{Means, NoFault, Prints, ComesTo}
+use Rattle.pv_tasks.specs.Outside.{Outside}
+use Rattle.pv_tasks.specs.Outcome.{Outcome, HasEnded}
+use Rattle.pv_tasks.specs.Running.{RunsPatched, WithFrames, Runs}
+use Rattle.pv_tasks.specs.Tasks.{Means, NoFault, Prints, ComesTo}
+use Rattle.pv_tool.specs.Asked.{task_of}
 use Rattle.pv_tool.specs.Headline.{IsHeadline, HasHeadline}
-use Rattle.pv_tool.proofs.Works.{reads_both, reads_began, ran, ended_ran}
+use Rattle.pv_tasks.proofs.Works.{reads_both, reads_began, ran, ended_ran}
 use Rattle.pv_tool.proofs.CommandLaws.{came_to}
 
 -- a run of the patched image that was printed
@@ -49,7 +50,7 @@ is_headline agree frames n program events o st w run came =
 
 -- ---- of the words' files
 
-printed_headline : RunsAgree → (image script : List ℕ) (frames n : ℕ) (o : Outside) (st : Status) → HasEnded st → Prints (RunWedge image script frames n) o st
+printed_headline : RunsAgree → (image script : List ℕ) (frames n : ℕ) (o : Outside) (st : Status) → HasEnded st → Prints (task_of (RunWedge image script frames n)) o st
     → HasHeadline image script frames n o st
 printed_headline agree image script frames n o st ended h =
     let w = h.0 in
@@ -64,7 +65,7 @@ printed_headline agree image script frames n o st ended h =
       headline = is_headline agree frames n b.program b.events o st w run.1 (sym h.2, h.3, h.4, h.5);
     }
 
-pub has_headline : RunsAgree → (image script : List ℕ) (frames n : ℕ) (o : Outside) (st : Status) → HasEnded st → Means (RunWedge image script frames n) o st
+pub has_headline : RunsAgree → (image script : List ℕ) (frames n : ℕ) (o : Outside) (st : Status) → HasEnded st → Means (task_of (RunWedge image script frames n)) o st
     → HasHeadline image script frames n o st
 has_headline agree image script frames n o status.Done ended h = printed_headline agree image script frames n o status.Done ended h
 has_headline agree image script frames n o status.Stopped ended h = printed_headline agree image script frames n o status.Stopped ended h
@@ -77,7 +78,7 @@ has_headline agree image script frames n o status.Memory ended h = absurd ended
 -- where no fault came and memory was found, the run of an accepted image has ended
 pub wedge_ends : RunsAgree → (image script : List ℕ) (frames n : ℕ) (o : Outside) (told : FileMap) (program : Image) (events : Events) (st : Status) → o.files ≡ Some told
     → HasImage (Some told) image program → HasScript (Some told) script events → need program ≤ frames
-    → NoFault (RunWedge image script frames n) o → st ≢ status.Memory → Means (RunWedge image script frames n) o st
+    → NoFault (task_of (RunWedge image script frames n)) o → st ≢ status.Memory → Means (task_of (RunWedge image script frames n)) o st
     → IsHeadline program events frames n o st
 wedge_ends agree image script frames n o told program events st files has says le none found h =
     let w = came_to (RunWedge image script frames n) o st none found h in

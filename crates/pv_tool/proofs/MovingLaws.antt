@@ -18,19 +18,19 @@ use Rattle.checkpoint.specs.States.{checkpoint_bytes, checkpoint_in}
 use Rattle.checkpoint.specs.Moved.{kept_of, rested_from}
 use Rattle.checkpoint.specs.Fits.{fits_of}
 use Rattle.checkpoint.specs.Legs.{Leg, Legs, in_mode, rested, reports_of, LegsAreARun, LegsAreParts}
-use Rattle.pv_runs.specs.Checkpoints.{HasState}
+use Rattle.pv_save.specs.Checkpoints.{HasState}
 use Rattle.pv_build.specs.declared.status.Status.{Status}
 use Rattle.pv_build.specs.declared.status.Status.TheVariants as status
-use Rattle.pv_tool.specs.Outcome.{Outcome, refused, HasEnded}
-use Rattle.pv_tool.specs.Running.{WithFrames}
-use Rattle.pv_tool.specs.Saving.{SavesRun, Rested, Stopped, SavesBoot, SavesOn, WhereFits, OnState, FromFile, setting_on, frames_of, is_wedge}
-use Rattle.pv_tool.specs.Continuing.{ContinuesOn}
+use Rattle.pv_tasks.specs.Outcome.{Outcome, refused, HasEnded}
+use Rattle.pv_tasks.specs.Running.{WithFrames}
+use Rattle.pv_save.specs.Saving.{SavesRun, Rested, Stopped, SavesBoot, SavesOn, WhereFits, OnState, FromFile, setting_on, frames_of, is_wedge}
+use Rattle.pv_save.specs.Continuing.{ContinuesOn}
 use Rattle.pv_tool.specs.Moving.{Move, Leaves, IsFirst, IsNext, AreNext, IsLast, rules_of, AreOneRun, MovesAreOneRun}
 use Rattle.pv_words.specs.declared.mode.RunMode.{RunMode}
 use Rattle.pv_words.specs.declared.mode.RunMode.TheVariants as mode
-use Rattle.pv_tool.proofs.SameFiles.{same_file}
-use Rattle.pv_tool.proofs.Works.{reads_both, ended_ran}
-use Rattle.pv_tool.proofs.RestDone.{stopped_so}
+use Rattle.pv_tasks.proofs.SameFiles.{same_file}
+use Rattle.pv_tasks.proofs.Works.{reads_both, ended_ran}
+use Rattle.pv_save.proofs.RestDone.{stopped_so}
 
 -- the rules of a machine over the same image, events and frames
 by_rules : (on : RunMode) (program : Image) (events : Events) (frames : ℕ) → in_mode (bare program events frames) (rules_of on program events frames) ≡ setting_on on program events frames

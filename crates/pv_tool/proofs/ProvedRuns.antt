@@ -15,24 +15,25 @@ use Rattle.trace_check.specs.Reading.{choices_in}
 use Rattle.trace_check.specs.Judged.{judged}
 use Rattle.trace_check.specs.RunLaws.{YesIsARun, YesBeforeIsSteps}
 use Rattle.trace_check.proofs.Inverse.{laid_read}
-use Rattle.pv_runs.specs.CertificateLines.{certificate_refusal, verdict_line}
+use Rattle.pv_prove.specs.CertificateLines.{certificate_refusal, verdict_line}
 use Rattle.pv_build.specs.Images.{HasImage}
 use Rattle.pv_build.specs.Scripts.{HasScript}
-use Rattle.pv_runs.specs.Certificates.{HasChoices}
+use Rattle.pv_prove.specs.Certificates.{HasChoices}
 use Rattle.pv_build.specs.declared.status.Status.{Status}
 use Rattle.pv_build.specs.declared.status.Status.TheVariants as status
 use Rattle.pv_words.specs.Words.{Prove, Replay}
-use Rattle.pv_tool.specs.Outside.{Outside}
-use Rattle.pv_tool.specs.Outcome.{Outcome, HasEnded, refused, printed}
-use Rattle.pv_tool.specs.Running.{Ran, Small, Reads, WithFrames, Runs}
-use Rattle.pv_tool.specs.Proving.{ProvesRun}
-use Rattle.pv_tool.specs.Replaying.{ByChoices, Replays, Judges}
+use Rattle.pv_tasks.specs.Outside.{Outside}
+use Rattle.pv_tasks.specs.Outcome.{Outcome, HasEnded, refused, printed}
+use Rattle.pv_tasks.specs.Running.{Ran, Small, Reads, WithFrames, Runs}
+use Rattle.pv_prove.specs.Proving.{ProvesRun}
+use Rattle.pv_prove.specs.Replaying.{ByChoices, Replays, Judges}
 use Rattle.pv_tool.specs.Certified.{IsProof, HasProof, Shows, HasVerdict}
-use Rattle.pv_tool.specs.Meaning.{Means, NoFault, Prints, ComesTo, IsStored}
-use Rattle.pv_tool.proofs.ProveMeanings.{few}
-use Rattle.pv_tool.proofs.Works.{reads_both, reads_began, ran, ended_ran}
-use Rattle.pv_tool.proofs.ReplayLaws.{by_choices}
-use Rattle.pv_tool.proofs.SameFiles.{same_file}
+use Rattle.pv_tasks.specs.Tasks.{Means, NoFault, Prints, ComesTo, IsStored}
+use Rattle.pv_tool.specs.Asked.{task_of}
+use Rattle.pv_prove.proofs.ProveMeanings.{few}
+use Rattle.pv_tasks.proofs.Works.{reads_both, reads_began, ran, ended_ran}
+use Rattle.pv_prove.proofs.ReplayLaws.{by_choices}
+use Rattle.pv_tasks.proofs.SameFiles.{same_file}
 use Rattle.pv_tool.proofs.CommandLaws.{came_to}
 
 -- ---- `prove`
@@ -59,7 +60,7 @@ is_proof agree frames n certificate program events o st w run came =
       bare_run = agree (wedge program events frames) n (boot (wedge program events frames)) run.sets run.reports run.last run.end run.run;
     }
 
-printed_proof : RunsAgree → (image script : List ℕ) (frames n : ℕ) (certificate : List ℕ) (o : Outside) (st : Status) → HasEnded st → Prints (Prove image script frames n certificate) o st
+printed_proof : RunsAgree → (image script : List ℕ) (frames n : ℕ) (certificate : List ℕ) (o : Outside) (st : Status) → HasEnded st → Prints (task_of (Prove image script frames n certificate)) o st
     → HasProof image script frames n certificate o st
 printed_proof agree image script frames n certificate o st ended h =
     let w = h.0 in
@@ -74,7 +75,7 @@ printed_proof agree image script frames n certificate o st ended h =
       proof = is_proof agree frames n certificate b.program b.events o st w run.1 (sym h.2, h.3, h.4, h.5);
     }
 
-pub has_proof : RunsAgree → (image script : List ℕ) (frames n : ℕ) (certificate : List ℕ) (o : Outside) (st : Status) → HasEnded st → Means (Prove image script frames n certificate) o st
+pub has_proof : RunsAgree → (image script : List ℕ) (frames n : ℕ) (certificate : List ℕ) (o : Outside) (st : Status) → HasEnded st → Means (task_of (Prove image script frames n certificate)) o st
     → HasProof image script frames n certificate o st
 has_proof agree image script frames n certificate o status.Done ended h = printed_proof agree image script frames n certificate o status.Done ended h
 has_proof agree image script frames n certificate o status.Stopped ended h = printed_proof agree image script frames n certificate o status.Stopped ended h
@@ -87,7 +88,7 @@ has_proof agree image script frames n certificate o status.Memory ended h = absu
 -- where no fault came and memory was found, the run of an accepted image has ended, and its certificate was stored
 pub proof_ends : RunsAgree → (image script : List ℕ) (frames n : ℕ) (certificate : List ℕ) (o : Outside) (told : FileMap) (program : Image) (events : Events) (st : Status) → o.files ≡ Some told
     → HasImage (Some told) image program → HasScript (Some told) script events → need program ≤ frames
-    → NoFault (Prove image script frames n certificate) o → st ≢ status.Memory → Means (Prove image script frames n certificate) o st
+    → NoFault (task_of (Prove image script frames n certificate)) o → st ≢ status.Memory → Means (task_of (Prove image script frames n certificate)) o st
     → IsProof program events frames n certificate o st
 proof_ends agree image script frames n certificate o told program events st files has says le none found h =
     let w = came_to (Prove image script frames n certificate) o st none found h in
@@ -126,10 +127,10 @@ replays_done : (frames n : ℕ) (files : Option FileMap) (certificate text : Lis
     → HasJudged frames n files certificate text program events w
 replays_done frames n files certificate text program events w h done = choices_done frames n files certificate text program events h.0 (choices_in h.0) w h.1 refl h.2 done
 
-pub has_verdict : YesIsARun → YesBeforeIsSteps → (image script : List ℕ) (frames n : ℕ) (certificate text : List ℕ) (o : Outside) (st : Status) → st ≡ status.Done → Means (Replay image script frames n certificate text) o st
+pub has_verdict : YesIsARun → YesBeforeIsSteps → (image script : List ℕ) (frames n : ℕ) (certificate text : List ℕ) (o : Outside) (st : Status) → st ≡ status.Done → Means (task_of (Replay image script frames n certificate text)) o st
     → HasVerdict image script frames n certificate text o
 has_verdict right before image script frames n certificate text o st done h =
-    let p : Prints (Replay image script frames n certificate text) o status.Done = subst (Means (Replay image script frames n certificate text) o) done h in
+    let p : Prints (task_of (Replay image script frames n certificate text)) o status.Done = subst (Means (task_of (Replay image script frames n certificate text)) o) done h in
     let w = p.0 in
     let b = reads_began (Replays frames n o.files certificate text) o.files image script w p.1 (subst HasEnded (sym p.2) tt) in
     let j = replays_done frames n o.files certificate text b.program b.events w b.goes_on p.2 in
@@ -156,7 +157,7 @@ judges_fits frames n program events list bytes w le (Small lt is) = absurd (omeg
 
 pub verdict_ends : (image script : List ℕ) (frames n : ℕ) (certificate text : List ℕ) (o : Outside) (told : FileMap) (program : Image) (events : Events) (list : List Choice) (bytes : List ℕ) (st : Status) → o.files ≡ Some told
     → HasImage (Some told) image program → HasScript (Some told) script events → HasChoices (Some told) certificate list → told text ≡ Some bytes → need program ≤ frames
-    → NoFault (Replay image script frames n certificate text) o → st ≢ status.Memory → Means (Replay image script frames n certificate text) o st
+    → NoFault (task_of (Replay image script frames n certificate text)) o → st ≢ status.Memory → Means (task_of (Replay image script frames n certificate text)) o st
     → ComesTo (printed (verdict_line (judged program events frames n list bytes))) o st
 verdict_ends image script frames n certificate text o told program events list bytes st files has says choices holds le none found h =
     let w = came_to (Replay image script frames n certificate text) o st none found h in

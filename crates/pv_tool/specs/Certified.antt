@@ -23,16 +23,16 @@ use Rattle.trace_check.specs.Reading.{choices_in}
 use Rattle.trace_check.specs.Kept.{choices_of}
 use Rattle.trace_check.specs.Judged.{judged}
 use Rattle.trace_check.specs.Runs.{IsRunText, AreItemsBefore, verdict_of}
-use Rattle.pv_runs.specs.CertificateLines.{verdict_line}
+use Rattle.pv_prove.specs.CertificateLines.{verdict_line}
 use Rattle.pv_build.specs.Images.{HasImage}
 use Rattle.pv_build.specs.Scripts.{HasScript}
-use Rattle.pv_runs.specs.Certificates.{HasChoices}
+use Rattle.pv_prove.specs.Certificates.{HasChoices}
 use Rattle.pv_build.specs.Statuses.{status_of}
 use Rattle.pv_build.specs.declared.status.Status.{Status}
-use Rattle.pv_tool.specs.Outside.{Outside}
-use Rattle.pv_tool.specs.Outcome.{HostedRun, run_text}
-use Rattle.pv_tool.specs.Proving.{are_few, certificate_file, certificate_told}
-use Rattle.pv_tool.specs.Meaning.{IsStored}
+use Rattle.pv_tasks.specs.Outside.{Outside}
+use Rattle.pv_tasks.specs.Outcome.{HostedRun, run_text}
+use Rattle.pv_prove.specs.Proving.{are_few, certificate_file, certificate_told}
+use Rattle.pv_tasks.specs.Tasks.{IsStored}
 
 -- the run of an image on the host
 abbrev pub hosted : Image → Events → ℕ → List Set → List Report → State → End → HostedRun

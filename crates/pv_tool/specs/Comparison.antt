@@ -14,8 +14,8 @@ use Rattle.pv_build.specs.Lines.{same_line}
 use Rattle.pv_build.specs.Texts.{Compares}
 use Rattle.pv_build.specs.Building.{Builds}
 use Rattle.pv_build.specs.Comparing.{told_line}
-use Rattle.pv_tool.specs.Outside.{Outside}
-use Rattle.pv_tool.specs.Working.{first_text, second_setting}
+use Rattle.pv_tasks.specs.Outside.{Outside}
+use Rattle.pv_tasks.specs.Working.{first_text, second_setting}
 
 -- of an image that is made of this number
 pub record IsComparison (number : ℕ) (program : Image) (o : Outside) : Type 0 where

@@ -16,7 +16,7 @@ use Rattle.pv_build.specs.Statuses.{status_of}
 use Rattle.pv_build.specs.Images.{HasImage}
 use Rattle.pv_build.specs.Scripts.{HasScript}
 use Rattle.pv_build.specs.declared.status.Status.{Status}
-use Rattle.pv_tool.specs.Outside.{Outside}
+use Rattle.pv_tasks.specs.Outside.{Outside}
 
 -- of this image, under these events
 pub record IsHeadline (program : Image) (events : Events) (frames n : ℕ) (o : Outside) (status : Status) : Type 0 where

@@ -18,13 +18,13 @@ use Rattle.checkpoint.specs.States.{checkpoint_bytes, checkpoint_in}
 use Rattle.checkpoint.specs.Legs.{Leg, Parts, in_mode, sets_of, reports_of}
 use Rattle.pv_build.specs.Images.{HasImage}
 use Rattle.pv_build.specs.Scripts.{HasScript}
-use Rattle.pv_runs.specs.Checkpoints.{HasState}
+use Rattle.pv_save.specs.Checkpoints.{HasState}
 use Rattle.pv_build.specs.Statuses.{status_of}
 use Rattle.pv_build.specs.declared.status.Status.TheVariants as status
 use Rattle.pv_words.specs.Words.{Save, SaveFrom, Continue}
-use Rattle.pv_tool.specs.Outcome.{Outcome, HasEnded}
-use Rattle.pv_tool.specs.Saving.{setting_on}
-use Rattle.pv_tool.specs.Meaning.{Gives}
+use Rattle.pv_tasks.specs.Outcome.{Outcome, HasEnded}
+use Rattle.pv_save.specs.Saving.{setting_on}
+use Rattle.pv_tool.specs.Asked.{task_of}
 use Rattle.pv_words.specs.declared.mode.RunMode.{RunMode}
 
 -- A command of such a chain: its machine, the names of image, script and checkpoint, the count of steps up to which it goes, and
@@ -53,14 +53,14 @@ pub record Leaves (move : Move) (s : State) : Type 0 where
 -- the first: the kernel is saved from the start
 pub record IsFirst (program : Image) (events : Events) (frames : ℕ) (move : Move) (s : State) : Type 0 where
   pub over : IsOver program events move
-  pub gives : Gives (Save move.on move.image move.script frames move.n move.new) (Some move.told) move.work
+  pub gives : (task_of (Save move.on move.image move.script frames move.n move.new)).gives (Some move.told) move.work
   pub leaves : Leaves move s
 
 -- one that goes on: the name holds the checkpoint of the state, wherever its file comes from
 pub record IsNext (program : Image) (events : Events) (s : State) (move : Move) (t : State) : Type 0 where
   pub over : IsOver program events move
   pub state_held : HasState (Some move.told) move.file s
-  pub gives : Gives (SaveFrom move.on move.image move.script move.file move.n move.new) (Some move.told) move.work
+  pub gives : (task_of (SaveFrom move.on move.image move.script move.file move.n move.new)).gives (Some move.told) move.work
   pub leaves : Leaves move t
 
 abbrev pub AreNext : Image → Events → State → List Move → State → Type 0
@@ -71,7 +71,7 @@ AreNext program events s (move ∷ moves) t = (mid : State) × IsNext program ev
 pub record IsLast (program : Image) (events : Events) (s : State) (move : Move) : Type 0 where
   pub over : IsOver program events move
   pub state_held : HasState (Some move.told) move.file s
-  pub gives : Gives (Continue move.on move.image move.script move.file move.n) (Some move.told) move.work
+  pub gives : (task_of (Continue move.on move.image move.script move.file move.n)).gives (Some move.told) move.work
   pub ended : HasEnded move.work.status
 
 -- the rules of a machine

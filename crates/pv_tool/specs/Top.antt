@@ -19,25 +19,26 @@ use Rattle.checkpoint.specs.declared.state.State.{State}
 use Rattle.checkpoint.specs.Fits.{fits_of}
 use Rattle.trace_check.specs.declared.list.Choice.{Choice}
 use Rattle.trace_check.specs.Judged.{judged}
-use Rattle.pv_runs.specs.CertificateLines.{verdict_line}
+use Rattle.pv_prove.specs.CertificateLines.{verdict_line}
 use Rattle.pv_build.specs.Objects.{HasObjects, object_made_line}
 use Rattle.pv_build.specs.Images.{HasImage, accepted_line, image_made_line}
 use Rattle.pv_build.specs.Scripts.{HasScript}
 use Rattle.pv_build.specs.Building.{Builds}
-use Rattle.pv_runs.specs.Kernels.{IsShared}
-use Rattle.pv_runs.specs.Checkpoints.{HasState}
-use Rattle.pv_runs.specs.Certificates.{HasChoices}
+use Rattle.pv_share.specs.Kernels.{IsShared}
+use Rattle.pv_save.specs.Checkpoints.{HasState}
+use Rattle.pv_prove.specs.Certificates.{HasChoices}
 use Rattle.pv_build.specs.declared.status.Status.{Status}
 use Rattle.pv_build.specs.declared.status.Status.TheVariants as status
 use Rattle.pv_words.specs.Words.{KernelNames, Command, Burn, Link, Check, RunBare, RunWedge, Work, Share, Save, SaveFrom, Continue, Prove, Replay, Asks}
-use Rattle.pv_tool.specs.Outside.{Outside}
-use Rattle.pv_tool.specs.Outcome.{Outcome, HasEnded, printed, stored_as}
-use Rattle.pv_tool.specs.Burning.{HasBurnt}
-use Rattle.pv_tool.specs.Working.{Works}
-use Rattle.pv_tool.specs.Saving.{SavesBoot, SavesOn, is_wedge}
-use Rattle.pv_tool.specs.Continuing.{ContinuesOn}
-use Rattle.pv_tool.specs.Sharing.{SharesTurns}
-use Rattle.pv_tool.specs.Meaning.{Means, Gives, Keeps, FaultCounts, NoFault, ComesTo, PrintsRun, Leaves, saved}
+use Rattle.pv_tasks.specs.Outside.{Outside}
+use Rattle.pv_tasks.specs.Outcome.{Outcome, HasEnded, printed, stored_as}
+use Rattle.pv_tasks.specs.Burning.{HasBurnt}
+use Rattle.pv_tasks.specs.Working.{Works}
+use Rattle.pv_save.specs.Saving.{SavesBoot, SavesOn, is_wedge}
+use Rattle.pv_save.specs.Continuing.{ContinuesOn}
+use Rattle.pv_share.specs.Sharing.{SharesTurns}
+use Rattle.pv_tasks.specs.Tasks.{Means, Keeps, FaultCounts, NoFault, ComesTo}
+use Rattle.pv_tool.specs.Asked.{task_of, PrintsRun}
 use Rattle.pv_tool.specs.Headline.{IsHeadline, HasHeadline}
 use Rattle.pv_tool.specs.Comparison.{IsComparison, HasComparison}
 use Rattle.pv_tool.specs.Certified.{IsProof, HasProof, HasVerdict}
@@ -47,15 +48,15 @@ use Rattle.pv_words.specs.declared.mode.RunMode.{RunMode}
 
 -- what the status says of the files and of what was printed
 abbrev pub Meaning : List (List ℕ) → Outside → Status → Type 0
-Meaning words o st = (command : Command) → Asks words command → Means command o st
+Meaning words o st = (command : Command) → Asks words command → Means (task_of command) o st
 
 -- no file is changed but the one that the command makes
 abbrev pub KeepsOthers : List (List ℕ) → Outside → Type 0
-KeepsOthers words o = (command : Command) → Asks words command → Keeps (saved command) o.files o.files_after
+KeepsOthers words o = (command : Command) → Asks words command → Keeps (task_of command).saved o.files o.files_after
 
 -- what becomes of the counts of faults
 abbrev pub CountsFaults : List (List ℕ) → Outside → Type 0
-CountsFaults words o = (command : Command) → Asks words command → FaultCounts command o
+CountsFaults words o = (command : Command) → Asks words command → FaultCounts (task_of command) o
 
 -- A load that failed ends the work as a read fault, and a store that failed as a write fault: where the work ends otherwise, and
 -- memory was found, the count is as it was. A count that stands at its type's end before can't tell.
@@ -66,13 +67,13 @@ EndsAtFaults o st =
 
 -- what is left where the command is done
 abbrev pub LeavesFiles : List (List ℕ) → Outside → Status → Type 0
-LeavesFiles words o st = (command : Command) → Asks words command → st ≡ status.Done → Leaves command o.files o.files_after
+LeavesFiles words o st = (command : Command) → Asks words command → st ≡ status.Done → (task_of command).leaves o.files o.files_after
 
 -- work that is refused is told so by its line, and changes no file
 abbrev pub RefusesWork : List (List ℕ) → Outside → Status → Type 0
 RefusesWork words o st =
     (command : Command) (told : FileMap) (w : Outcome) → Asks words command → o.files ≡ Some told
-    → Gives command (Some told) w → w.status ≡ status.Refused → NoFault command o → st ≢ status.Memory
+    → (task_of command).gives (Some told) w → w.status ≡ status.Refused → NoFault (task_of command) o → st ≢ status.Memory
     → (st ≡ status.Refused) × (o.files_after ≡ o.files) × Appends o.taken o.taken_after w.text
 
 -- ---- of those that make files and run them
@@ -89,7 +90,7 @@ RunsOnBare words o st =
     (image script : List ℕ) (frames n : ℕ) (told : FileMap) (program : Image) (events : Events)
     → Asks words (RunBare image script frames n) → o.files ≡ Some told
     → HasImage (Some told) image program → HasScript (Some told) script events → need program ≤ frames
-    → NoFault (RunBare image script frames n) o → st ≢ status.Memory → PrintsRun program events frames n o st
+    → NoFault (task_of (RunBare image script frames n)) o → st ≢ status.Memory → PrintsRun program events frames n o st
 
 -- and that of a patched one, with the headline
 abbrev pub RunsOnHost : List (List ℕ) → Outside → Status → Type 0
@@ -97,7 +98,7 @@ RunsOnHost words o st =
     (image script : List ℕ) (frames n : ℕ) (told : FileMap) (program : Image) (events : Events)
     → Asks words (RunWedge image script frames n) → o.files ≡ Some told
     → HasImage (Some told) image program → HasScript (Some told) script events → need program ≤ frames
-    → NoFault (RunWedge image script frames n) o → st ≢ status.Memory → IsHeadline program events frames n o st
+    → NoFault (task_of (RunWedge image script frames n)) o → st ≢ status.Memory → IsHeadline program events frames n o st
 
 -- `work` that is done has compared its runs
 abbrev pub Compared : List (List ℕ) → Outside → Status → Type 0
@@ -120,7 +121,7 @@ abbrev pub BurnsAll : List (List ℕ) → Outside → Status → Type 0
 BurnsAll words o st =
     (source object : List ℕ) (told : FileMap) (p : ObjectParts)
     → Asks words (Burn source object) → o.files ≡ Some told → HasBurnt (Some told) source p
-    → NoFault (Burn source object) o → st ≢ status.Memory
+    → NoFault (task_of (Burn source object)) o → st ≢ status.Memory
     → ComesTo (stored_as object (object_bytes p) (object_made_line p)) o st
 
 -- objects that are linked are stored as their image
@@ -128,7 +129,7 @@ abbrev pub LinksAll : List (List ℕ) → Outside → Status → Type 0
 LinksAll words o st =
     (image : List ℕ) (objects : List (List ℕ)) (told : FileMap) (os : List ObjectParts) (p : ImageParts)
     → Asks words (Link image objects) → o.files ≡ Some told → HasObjects (Some told) objects os → linked_image os ≡ Ok p
-    → NoFault (Link image objects) o → st ≢ status.Memory
+    → NoFault (task_of (Link image objects)) o → st ≢ status.Memory
     → ComesTo (stored_as image (image_bytes p) (image_made_line p)) o st
 
 -- an accepted image is told as one
@@ -136,7 +137,7 @@ abbrev pub ChecksAll : List (List ℕ) → Outside → Status → Type 0
 ChecksAll words o st =
     (image : List ℕ) (told : FileMap) (program : Image)
     → Asks words (Check image) → o.files ≡ Some told → HasImage (Some told) image program
-    → NoFault (Check image) o → st ≢ status.Memory → ComesTo (printed (accepted_line program)) o st
+    → NoFault (task_of (Check image)) o → st ≢ status.Memory → ComesTo (printed (accepted_line program)) o st
 
 -- ---- of several kernels, checkpoints and certificates
 
@@ -144,7 +145,7 @@ ChecksAll words o st =
 pub record Unhindered (words : List (List ℕ)) (command : Command) (told : FileMap) (o : Outside) (st : Status) : Type 0 where
   pub asks : Asks words command
   pub files : o.files ≡ Some told
-  pub no_fault : NoFault command o
+  pub no_fault : NoFault (task_of command) o
   pub memory : st ≢ status.Memory
 
 -- the names hold an image that is accepted, and a script
@@ -198,7 +199,7 @@ ProvesAll words o st =
     (image script : List ℕ) (frames n : ℕ) (certificate : List ℕ) (told : FileMap) (program : Image) (events : Events)
     → Asks words (Prove image script frames n certificate) → o.files ≡ Some told
     → HasImage (Some told) image program → HasScript (Some told) script events → need program ≤ frames
-    → NoFault (Prove image script frames n certificate) o → st ≢ status.Memory → IsProof program events frames n certificate o st
+    → NoFault (task_of (Prove image script frames n certificate)) o → st ≢ status.Memory → IsProof program events frames n certificate o st
 
 -- `replay` that is done has said what is judged
 abbrev pub Judges : List (List ℕ) → Outside → Status → Type 0
@@ -212,5 +213,5 @@ JudgesAll words o st =
     (image script : List ℕ) (frames n : ℕ) (certificate text : List ℕ) (told : FileMap) (program : Image) (events : Events) (list : List Choice) (bytes : List ℕ)
     → Asks words (Replay image script frames n certificate text) → o.files ≡ Some told
     → HasImage (Some told) image program → HasScript (Some told) script events → HasChoices (Some told) certificate list → told text ≡ Some bytes → need program ≤ frames
-    → NoFault (Replay image script frames n certificate text) o → st ≢ status.Memory
+    → NoFault (task_of (Replay image script frames n certificate text)) o → st ≢ status.Memory
     → ComesTo (printed (verdict_line (judged program events frames n list bytes))) o st

@@ -2,28 +2,23 @@
 
 ghost use Rattle.std.specs.Prelude.{◌≡◌, ◌≢◌, ◌≤◌, ◌^◌, false, Some};
 ghost use Rattle.pv_words.specs.View.{command_view, IsWithin};
-ghost use Rattle.pv_tool.specs.Outside.{outside};
-ghost use Rattle.pv_tool.specs.Faulting.{FaultsEnd};
-ghost use Rattle.pv_tool.specs.Meaning.{Means, FaultCounts, Leaves, is_on_host, reads_files};
+ghost use Rattle.pv_tasks.specs.Outside.{outside};
+ghost use Rattle.pv_tasks.specs.Faulting.{FaultsEnd};
+ghost use Rattle.pv_tasks.specs.Tasks.{Means, FaultCounts};
+ghost use Rattle.pv_tool.specs.Asked.{task_of, is_on_host, reads_files};
 
-use crate::burn::burn;
-use crate::check::check;
-use crate::continuing::go_on;
-use crate::link::link;
-use crate::prove::prove;
-use crate::replay::replay;
-use crate::run::run;
-use crate::save::{save, save_from};
-use crate::share::share;
-use crate::work::work;
 use host_cpl3::Host;
 use pv_build::Status;
 use pv_io::{Files, Sink};
+use pv_prove::{prove, replay};
+use pv_save::{go_on, save, save_from};
+use pv_share::share;
+use pv_tasks::{burn, check, link, run, work};
 use pv_words::{CommandWords, RunMode};
 use std::alloc::Global;
 
 /// Does the work of a command.
-#[tactic(auto, using(crate::proofs::Faults::ends_none))]
+#[tactic(auto, using(pv_tasks::proofs::Faults::ends_none))]
 pub fn do_command<F: Files, S: Sink, H: Host>(
     alloc: Global,
     command: CommandWords<'_>,
@@ -33,11 +28,11 @@ pub fn do_command<F: Files, S: Sink, H: Host>(
 ) -> Status
     requires within { IsWithin command }
     requires room { H.retired host.old ≤ 2 ^ 63 }
-    ensures meaning { Means (command_view command.entry)
+    ensures meaning { Means (task_of (command_view command.entry))
         (outside F.Files S.Sink H.Host (files.old, files.new) (out.old, out.new) (host.old, host.new)) result }
-    ensures counts { FaultCounts (command_view command.entry)
+    ensures counts { FaultCounts (task_of (command_view command.entry))
         (outside F.Files S.Sink H.Host (files.old, files.new) (out.old, out.new) (host.old, host.new)) }
-    ensures leaves { result ≡ Status.Done → Leaves (command_view command.entry) (F.held files.old) (F.held files.new) }
+    ensures leaves { result ≡ Status.Done → (task_of (command_view command.entry)).leaves (F.held files.old) (F.held files.new) }
     ensures host { is_on_host (Some (command_view command.entry)) ≡ false → host.new ≡ host.old }
     ensures files { reads_files (Some (command_view command.entry)) ≡ false → (files.new ≡ files.old) × (result ≢ Status.ReadFault) }
     ensures ends { FaultsEnd F.Files files.old files.new result }

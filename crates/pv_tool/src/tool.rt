@@ -2,8 +2,8 @@
 
 ghost use Rattle.std.specs.Prelude.{◌≡◌, ◌≢◌, ◌↔◌, ◌≤◌, ◌^◌, false, None, map, string_bytes};
 ghost use Rattle.pv_words.specs.Words.{form_of};
-ghost use Rattle.pv_tool.specs.Outside.{outside, Untouched};
-ghost use Rattle.pv_tool.specs.Meaning.{is_on_host, reads_files};
+ghost use Rattle.pv_tasks.specs.Outside.{outside, Untouched};
+ghost use Rattle.pv_tool.specs.Asked.{is_on_host, reads_files};
 ghost use Rattle.pv_tool.specs.Top.{Meaning, KeepsOthers, CountsFaults, EndsAtFaults, LeavesFiles, RefusesWork, Headlines, RunsOnBare, RunsOnHost, Compared, WorkDone, WorkRefused, BurnsAll, LinksAll, ChecksAll, SharesAll, SavesAll, SavesAgain, ContinuesAll, Proves, ProvesAll, Judges, JudgesAll};
 
 use crate::dispatch::do_command;

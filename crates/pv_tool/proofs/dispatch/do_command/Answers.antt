@@ -2,9 +2,10 @@ use Rattle.wedge_core.specs.Counts.{counts_of}
 use Rattle.std.proofs.Common.{refl}
 use Rattle.pv_words.specs.Words.{Work}
 use Rattle.pv_build.proofs.Readings.{read_none}
-use Rattle.pv_tool.proofs.Deliveries.{counts_host}
-use Rattle.pv_tool.proofs.RestLaws.{bare_mode}
-use Rattle.pv_tool.proofs.WorkMeanings.{work_means, work_no_read}
+use Rattle.pv_tasks.proofs.Deliveries.{counts_host}
+use Rattle.pv_save.proofs.RestLaws.{bare_mode}
+use Rattle.pv_tasks.proofs.WorkMeanings.{work_means, work_no_read}
+use Rattle.pv_tool.specs.Asked.{task_of}
 use Rattle.pv_tool.proofs.dispatch.do_command.Goals as goal
 
 pub returns-in-Burn-clause-meaning : goal.returns-in-Burn-clause-meaning
@@ -31,7 +32,7 @@ returns-in-Work-clause-meaning g c = rw c.in-Work.is (work_means c.in-Work.numbe
 pub returns-in-Work-clause-counts : goal.returns-in-Work-clause-counts
 returns-in-Work-clause-counts g c =
     rw c.in-Work.is
-    (counts_host g.F.Files g.S.Sink g.H.Host (Work c.in-Work.number) c.args.files.now c.args.files.now c.args.out.now c.work.new.out c.args.host.now c.work.new.host
+    (counts_host g.F.Files g.S.Sink g.H.Host (task_of (Work c.in-Work.number)) c.args.files.now c.args.files.now c.args.out.now c.work.new.out c.args.host.now c.work.new.host
     (read_none g.F.Files (Unit {0}) c.args.files.now))
 
 pub returns-in-Work-clause-files : goal.returns-in-Work-clause-files

@@ -1,0 +1,7 @@
+pub mod CertificateLines
+pub mod Certificates
+pub mod Proving
+pub mod Certifying
+pub mod Replaying
+pub mod Judging
+pub mod Asked

@@ -1,5 +1,0 @@
-use Rattle.std.proofs.Common.{length}
-use Rattle.pv_runs.proofs.kernel.+kernels_behind.Given as goal
-
-abbrev pub decreases-kernels_behind : goal.decreases-kernels_behind
-decreases-kernels_behind g l = length l.names.now

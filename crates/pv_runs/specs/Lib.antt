@@ -1,5 +1,0 @@
-pub mod Kernels
-pub mod ScheduleLines
-pub mod Checkpoints
-pub mod Certificates
-pub mod CertificateLines

@@ -1,0 +1,4 @@
+pub mod RestLaws
+mod RestMeanings
+mod ContinueMeanings
+pub mod RestDone

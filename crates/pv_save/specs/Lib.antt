@@ -1,0 +1,7 @@
+pub mod Checkpoints
+pub mod Saving
+pub mod Resting
+pub mod Continuing
+pub mod Answering
+pub mod Leaving
+pub mod Asked

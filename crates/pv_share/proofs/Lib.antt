@@ -1,0 +1,3 @@
+mod Kernels
+pub mod ShareLaws
+mod ShareMeanings

@@ -1,0 +1,14 @@
+pub mod Outside
+pub mod Faulting
+pub mod Unread
+pub mod Outcome
+pub mod Tasks
+pub mod Burning
+pub mod Linking
+pub mod Checking
+pub mod Running
+pub mod Working
+pub mod Answering
+pub mod Delivery
+pub mod Worked
+pub mod Asked

@@ -1,0 +1,51 @@
+-- What each command asks for.
+use Rattle.std.specs.Prelude.{ℕ, Bool, false, List, Option, Some, None}
+use Rattle.board.specs.Scripts.{Events}
+use Rattle.image_check.specs.Image.{Image}
+use Rattle.run_trace.specs.declared.items.End.{End}
+use Rattle.bare_machine.specs.Runs.{HasRun}
+use Rattle.pv_words.specs.Words.{Command, Burn, Link, Check, RunBare, RunWedge, Work, Share, Save, SaveFrom, Continue, Prove, Replay}
+use Rattle.pv_words.specs.declared.mode.RunMode.TheVariants as mode
+use Rattle.pv_build.specs.declared.status.Status.{Status}
+use Rattle.pv_tasks.specs.Outside.{Outside}
+use Rattle.pv_tasks.specs.Outcome.{ended}
+use Rattle.pv_tasks.specs.Tasks.{Task, ComesTo}
+use Rattle.pv_tasks.specs.Burning.{burn_task}
+use Rattle.pv_tasks.specs.Linking.{link_task}
+use Rattle.pv_tasks.specs.Checking.{check_task}
+use Rattle.pv_tasks.specs.Running.{run_task}
+use Rattle.pv_tasks.specs.Working.{work_task}
+use Rattle.pv_share.specs.Sharing.{share_task}
+use Rattle.pv_save.specs.Resting.{save_task, save_from_task}
+use Rattle.pv_save.specs.Continuing.{continue_task}
+use Rattle.pv_prove.specs.Proving.{prove_task}
+use Rattle.pv_prove.specs.Replaying.{replay_task}
+
+abbrev pub task_of : Command → Task
+task_of (Burn source object) = burn_task source object
+task_of (Link image objects) = link_task image objects
+task_of (Check image) = check_task image
+task_of (RunBare image script frames n) = run_task mode.Bare image script frames n
+task_of (RunWedge image script frames n) = run_task mode.Wedge image script frames n
+task_of (Work number) = work_task number
+task_of (Share schedule frames kernels) = share_task schedule frames kernels
+task_of (Save on image script frames n file) = save_task on image script frames n file
+task_of (SaveFrom on image script file n new) = save_from_task on image script file n new
+task_of (Continue on image script file n) = continue_task on image script file n
+task_of (Prove image script frames n certificate) = prove_task image script frames n certificate
+task_of (Replay image script frames n certificate text) = replay_task image script frames n certificate text
+
+-- the words ask for a run on the host
+abbrev pub is_on_host : Option Command → Bool
+is_on_host None = false
+is_on_host (Some command) = (task_of command).on_host
+
+-- the words ask for work that reads files
+abbrev pub reads_files : Option Command → Bool
+reads_files None = false
+reads_files (Some command) = (task_of command).reads
+
+-- the text of a run was printed
+abbrev pub PrintsRun : Image → Events → ℕ → ℕ → Outside → Status → Type 0
+PrintsRun program events frames n o status =
+    (text : List ℕ) × (count : ℕ) × (end : End) × HasRun program events frames n text count end × ComesTo (ended end text) o status
