@@ -35,7 +35,7 @@ impl<M: LinearMem> Writer for Linear<M> {
     }
 }
 
-#[tactic(auto, unfolding(crate::specs::Memory::all_stored))]
+#[tactic(auto, unfolding(crate::specs::Stored::all_stored))]
 fn write_linear<M: LinearMem>(stores: &Stores, mem: &mut M)
     requires { AreStored (M.writable mem.old) stores.now }
     ensures written { M.byte mem.new ≡ all_stored (M.same mem.old) (list_of stores.now) (M.byte mem.old) }
@@ -53,7 +53,7 @@ fn write_linear<M: LinearMem>(stores: &Stores, mem: &mut M)
 /// site but PUSHF and POPF, and neither INT nor INT3, which the machines deliver themselves. The crate of
 /// the table shows that: its law `shapes` gives `shape`, and its law `done_by_registers` gives `kind`.
 /// Of `len` nothing is asked; EIP passes that many bytes.
-#[tactic(auto, unfolding(crate::specs::Memory::all_stored))]
+#[tactic(auto, unfolding(crate::specs::Stored::all_stored))]
 pub fn exec<M: LinearMem>(insn: &Insn, len: u8, regs: &mut Regs, mem: &mut M) -> Effect
     requires kind { IsDone insn.now.op }
     requires shape { IsShaped insn.now }

@@ -47,6 +47,15 @@ returns-in-Replay-clause-meaning g c = rw c.in-Replay.is (c.replay.ensures.meani
 pub returns-in-Replay-clause-counts : goal.returns-in-Replay-clause-counts
 returns-in-Replay-clause-counts g c = rw c.in-Replay.is (c.replay.ensures.counts (counts_of g.H.Host c.args.host.now) (g.H.Host.bytes c.args.host.now))
 
+pub returns-in-Save-clause-meaning : goal.returns-in-Save-clause-meaning
+returns-in-Save-clause-meaning g c = rw c.in-Save.is c.save.ensures.meaning
+
+pub returns-in-SaveFrom-clause-meaning : goal.returns-in-SaveFrom-clause-meaning
+returns-in-SaveFrom-clause-meaning g c = rw c.in-SaveFrom.is c.save_from.ensures.meaning
+
+pub returns-in-Continue-clause-meaning : goal.returns-in-Continue-clause-meaning
+returns-in-Continue-clause-meaning g c = rw c.in-Continue.is c.go_on.ensures.meaning
+
 pub returns-in-Save-clause-host : goal.returns-in-Save-clause-host
 returns-in-Save-clause-host g c = λ none. c.save.ensures.host (bare_mode c.in-Save.mode (rw c.in-Save.is at none))
 
