@@ -5,14 +5,16 @@ use Rattle.ia32_types.specs.declared.insn.Op.{Op}
 use Rattle.ia32_types.specs.declared.insn.Op.TheVariants as ops
 use Rattle.ia32_types.specs.declared.insn.Address.{Address}
 use Rattle.ia32_types.specs.declared.insn.Operand.{Operand}
-use Rattle.ia32_types.specs.declared.insn.Operand.TheVariants.{Absent, Register, Memory, Segment, Control}
+use Rattle.ia32_types.specs.declared.insn.Operand.TheVariants.{Register, Memory, Segment, Control}
 use Rattle.ia32_types.specs.declared.register.Seg.{Seg}
 use Rattle.ia32_types.specs.declared.register.Seg.TheVariants.{Es, Cs, Ss, Ds}
 use Rattle.paging.specs.Space.{Space}
 use Rattle.paging.specs.Work.{Outcome}
 use Rattle.paging.specs.Agreement.{bare, bared, IsExtra, Agrees}
 use Rattle.paging.proofs.Translations.{clash}
+use Rattle.paging.proofs.Works.{then_agrees, gives_agrees, unless_agrees, reads_agrees, reads_earlier_agrees, writes_agrees, refuses_agrees, if_agrees}
 use Rattle.descriptors.specs.declared.cpu.Cpu.{Cpu}
+use Rattle.sys_exec.specs.Operand.{unsupported}
 use Rattle.sys_exec.specs.Flags.{clear_interrupts, set_interrupts, halt, push_flags, pop_flags}
 use Rattle.sys_exec.specs.Control.{load_control, write_control, control_of, read_control}
 use Rattle.sys_exec.specs.Table.{table_at, load_gdt, load_idt, load_tr, dropped, drop_page}
@@ -25,172 +27,136 @@ use Rattle.sys_exec.specs.declared.effect.SysOutcome.{SysOutcome}
 use Rattle.sys_exec.specs.Iret.{new_flags}
 use Rattle.sys_exec.specs.Sys.{returned_by, row, sys_work, told_refusal, told}
 use Rattle.sys_exec.specs.Agreement.{is_extra, ToldAgrees, RowsAgree, UserFlagsAgree}
-use Rattle.sys_exec.proofs.Works.{parts, reach}
+use Rattle.sys_exec.proofs.Works.{test, reach, operand, selector_found, long, pull, push, data_loaded, stack_found, jump_found, task_loaded, marks, interrupt_returned}
 
 cli : (len : ℕ) (cpu : Cpu) → Agrees is_extra (clear_interrupts len cpu)
 unfolding clear_interrupts
-cli len cpu = search parts depth 8
+cli len cpu = then_agrees (test _ _) (λ done. gives_agrees is_extra _)
 
 sti : (len : ℕ) (cpu : Cpu) → Agrees is_extra (set_interrupts len cpu)
 unfolding set_interrupts
-sti len cpu = search parts depth 8
+sti len cpu = then_agrees (test _ _) (λ done. gives_agrees is_extra _)
 
 hlt : (len : ℕ) (cpu : Cpu) → Agrees is_extra (halt len cpu)
 unfolding halt
-hlt len cpu = search parts depth 8
+hlt len cpu = then_agrees (test _ _) (λ done. gives_agrees is_extra _)
 
 pushf : (len : ℕ) (cpu : Cpu) → Agrees is_extra (push_flags len cpu)
 unfolding push_flags
-pushf len cpu = search parts depth 8
+pushf len cpu = then_agrees (push _ _) (λ done. gives_agrees is_extra _)
 
 popf : (len : ℕ) (cpu : Cpu) → Agrees is_extra (pop_flags len cpu)
 unfolding pop_flags
-popf len cpu = search parts depth 10
+popf len cpu = then_agrees (pull _) (λ image. then_agrees (test _ _) (λ done. gives_agrees is_extra _))
 
 iret : (cpu : Cpu) → Agrees is_extra (returned_by cpu)
-iret cpu = search parts depth 8
+iret cpu = then_agrees (interrupt_returned _) (λ returned. gives_agrees is_extra _)
 
 control_loaded : (cpu : Cpu) (number v : ℕ) → Agrees is_extra (load_control cpu number v)
 unfolding load_control
-control_loaded cpu number v = search parts depth 16
+control_loaded cpu number v = search (then_agrees, gives_agrees, unless_agrees, refuses_agrees, if_agrees) depth 16
 
 control_written : (a b : Operand) (len : ℕ) (cpu : Cpu) → Agrees is_extra (write_control a b len cpu)
 unfolding write_control
-control_written (Control number) (Register k) len cpu = search (parts, control_loaded) depth 8
-control_written (Control number) Absent len cpu = search parts
-control_written (Control number) (Memory b) len cpu = search parts
-control_written (Control number) (Segment b) len cpu = search parts
-control_written (Control number) (Control b) len cpu = search parts
-control_written Absent b len cpu = search parts
-control_written (Register k) b len cpu = search parts
-control_written (Memory a) b len cpu = search parts
-control_written (Segment a) b len cpu = search parts
+control_written (Control number) (Register k) len cpu = then_agrees (test _ _) (λ done. control_loaded _ _ _)
+control_written a b len cpu = refuses_agrees is_extra unsupported
 
 control_found : (cpu : Cpu) (number : ℕ) → Agrees is_extra (control_of cpu number)
 unfolding control_of
-control_found cpu number = search parts depth 12
+control_found cpu number = search (gives_agrees, refuses_agrees, if_agrees) depth 12
 
 control_read : (a b : Operand) (len : ℕ) (cpu : Cpu) → Agrees is_extra (read_control a b len cpu)
 unfolding read_control
-control_read (Register k) (Control number) len cpu = search (parts, control_found) depth 10
-control_read (Register k) Absent len cpu = search parts
-control_read (Register k) (Register b) len cpu = search parts
-control_read (Register k) (Memory b) len cpu = search parts
-control_read (Register k) (Segment b) len cpu = search parts
-control_read Absent b len cpu = search parts
-control_read (Memory a) b len cpu = search parts
-control_read (Segment a) b len cpu = search parts
-control_read (Control a) b len cpu = search parts
+control_read (Register k) (Control number) len cpu = then_agrees (test _ _) (λ done. then_agrees (control_found _ _) (λ v. gives_agrees is_extra _))
+control_read a b len cpu = refuses_agrees is_extra unsupported
 
 table : (cpu : Cpu) (a : Operand) → Agrees is_extra (table_at cpu a)
 unfolding table_at
-table cpu (Memory a) = search parts depth 10
-table cpu Absent = search parts
-table cpu (Register k) = search parts
-table cpu (Segment seg) = search parts
-table cpu (Control k) = search parts
+table cpu (Memory a) = search (then_agrees, gives_agrees, reads_agrees, operand) depth 10
+table cpu a = refuses_agrees is_extra unsupported
 
 lgdt : (a : Operand) (len : ℕ) (cpu : Cpu) → Agrees is_extra (load_gdt a len cpu)
 unfolding load_gdt
-lgdt a len cpu = search (parts, table) depth 10
+lgdt a len cpu = then_agrees (test _ _) (λ done. then_agrees (table _ _) (λ table. gives_agrees is_extra _))
 
 lidt : (a : Operand) (len : ℕ) (cpu : Cpu) → Agrees is_extra (load_idt a len cpu)
 unfolding load_idt
-lidt a len cpu = search (parts, table) depth 10
+lidt a len cpu = then_agrees (test _ _) (λ done. then_agrees (table _ _) (λ table. gives_agrees is_extra _))
 
 ltr : (a : Operand) (len : ℕ) (cpu : Cpu) → Agrees is_extra (load_tr a len cpu)
 unfolding load_tr
-ltr a len cpu = search parts depth 12
+ltr a len cpu = then_agrees (test _ _) (λ done. then_agrees (selector_found _ _) (λ sel. then_agrees (task_loaded _ _) (λ task. gives_agrees is_extra _)))
 
 page : (len : ℕ) (cpu : Cpu) (a : Operand) → Agrees is_extra (dropped len cpu a)
-page len cpu (Memory a) = search parts
-page len cpu Absent = search parts
-page len cpu (Register k) = search parts
-page len cpu (Segment seg) = search parts
-page len cpu (Control k) = search parts
+page len cpu (Memory a) = gives_agrees is_extra _
+page len cpu a = refuses_agrees is_extra unsupported
 
 invlpg : (a : Operand) (len : ℕ) (cpu : Cpu) → Agrees is_extra (drop_page a len cpu)
 unfolding drop_page
-invlpg a len cpu = search (parts, page) depth 8
+invlpg a len cpu = then_agrees (test _ _) (λ done. page len cpu a)
 
 kept : (len : ℕ) (cpu : Cpu) (sel : ℕ) (into : Operand) → Agrees is_extra (selector_kept len cpu sel into)
 unfolding selector_kept
-kept len cpu sel (Register k) = search parts
-kept len cpu sel (Memory a) = search parts depth 10
-kept len cpu sel Absent = search parts
-kept len cpu sel (Segment seg) = search parts
-kept len cpu sel (Control k) = search parts
+kept len cpu sel (Register k) = gives_agrees is_extra _
+kept len cpu sel (Memory a) = search (then_agrees, gives_agrees, writes_agrees, operand) depth 10
+kept len cpu sel into = refuses_agrees is_extra unsupported
 
 seg_read : (insn : Insn) (b : Operand) (len : ℕ) (cpu : Cpu) → Agrees is_extra (read_seg insn b len cpu)
 unfolding read_seg
-seg_read insn (Segment seg) len cpu = search kept
-seg_read insn Absent len cpu = search parts
-seg_read insn (Register k) len cpu = search parts
-seg_read insn (Memory a) len cpu = search parts
-seg_read insn (Control k) len cpu = search parts
+seg_read insn (Segment seg) len cpu = kept _ _ _ _
+seg_read insn b len cpu = refuses_agrees is_extra unsupported
 
 loaded_by : (after cpu : Cpu) (sel : ℕ) (seg : Seg) → Agrees is_extra (load_by after cpu sel seg)
 unfolding load_by
-loaded_by after cpu sel Cs = search parts
-loaded_by after cpu sel Ss = search parts depth 10
-loaded_by after cpu sel Ds = search parts depth 8
-loaded_by after cpu sel Es = search parts depth 8
+loaded_by after cpu sel Cs = refuses_agrees is_extra unsupported
+loaded_by after cpu sel Ss = then_agrees (stack_found _ _ _) (λ l. then_agrees (marks cpu l) (λ done. gives_agrees is_extra _))
+loaded_by after cpu sel Ds = then_agrees (data_loaded _ _) (λ hidden. gives_agrees is_extra _)
+loaded_by after cpu sel Es = then_agrees (data_loaded _ _) (λ hidden. gives_agrees is_extra _)
 
 seg_loaded : (insn : Insn) (a : Operand) (len : ℕ) (cpu : Cpu) → Agrees is_extra (load_seg insn a len cpu)
 unfolding load_seg
-seg_loaded insn (Segment seg) len cpu = search (parts, loaded_by) depth 8
-seg_loaded insn Absent len cpu = search parts
-seg_loaded insn (Register k) len cpu = search parts
-seg_loaded insn (Memory a) len cpu = search parts
-seg_loaded insn (Control k) len cpu = search parts
+seg_loaded insn (Segment seg) len cpu = then_agrees (selector_found _ _) (λ sel. loaded_by _ _ _ _)
+seg_loaded insn a len cpu = refuses_agrees is_extra unsupported
 
 seg_pushed : (a : Operand) (len : ℕ) (cpu : Cpu) → Agrees is_extra (push_seg a len cpu)
 unfolding push_seg
-seg_pushed (Segment seg) len cpu = search parts depth 8
-seg_pushed Absent len cpu = search parts
-seg_pushed (Register k) len cpu = search parts
-seg_pushed (Memory a) len cpu = search parts
-seg_pushed (Control k) len cpu = search parts
+seg_pushed (Segment seg) len cpu = then_agrees (push _ _) (λ done. gives_agrees is_extra _)
+seg_pushed a len cpu = refuses_agrees is_extra unsupported
 
 seg_popped : (a : Operand) (len : ℕ) (cpu : Cpu) → Agrees is_extra (pop_seg a len cpu)
 unfolding pop_seg
-seg_popped (Segment seg) len cpu = search (parts, loaded_by) depth 8
-seg_popped Absent len cpu = search parts
-seg_popped (Register k) len cpu = search parts
-seg_popped (Memory a) len cpu = search parts
-seg_popped (Control k) len cpu = search parts
+seg_popped (Segment seg) len cpu = then_agrees (pull _) (λ v. loaded_by _ _ _ _)
+seg_popped a len cpu = refuses_agrees is_extra unsupported
 
 far : (insn : Insn) (cpu : Cpu) → Agrees is_extra (far_jump insn cpu)
 unfolding far_jump
-far insn cpu = search parts depth 10
+far insn cpu = then_agrees (jump_found _ _) (λ code. then_agrees (marks cpu code) (λ done. gives_agrees is_extra _))
 
 input : (insn : Insn) (len : ℕ) (cpu : Cpu) → Agrees is_extra (port_in insn len cpu)
 unfolding port_in
-input insn len cpu = search parts depth 8
+input insn len cpu = then_agrees (test _ _) (λ done. gives_agrees is_extra _)
 
 output : (insn : Insn) (len : ℕ) (cpu : Cpu) → Agrees is_extra (port_out insn len cpu)
 unfolding port_out
-output insn len cpu = search parts depth 8
+output insn len cpu = then_agrees (test _ _) (λ done. gives_agrees is_extra _)
 
 ret : (more : ℕ) (cpu : Cpu) → Agrees is_extra (return_to more cpu)
 unfolding return_to
-ret more cpu = search parts depth 8
+ret more cpu = then_agrees (pull _) (λ target. gives_agrees is_extra _)
 
 jump : (a : Operand) (cpu : Cpu) → Agrees is_extra (jump_to a cpu)
 unfolding jump_to
-jump a cpu = search parts depth 8
+jump a cpu = then_agrees (long _ _) (λ target. gives_agrees is_extra _)
 
 through : (a : Address) (len : ℕ) (cpu : Cpu) → Agrees is_extra (called_through a len cpu)
 unfolding called_through
-through a len cpu = search (parts, reach) depth 14
+through a len cpu = search (then_agrees, gives_agrees, reads_earlier_agrees, writes_agrees, operand, reach) depth 14
 
 call : (a : Operand) (len : ℕ) (cpu : Cpu) → Agrees is_extra (call_to a len cpu)
 unfolding call_to
-call (Register k) len cpu = search parts depth 10
-call (Memory a) len cpu = search (parts, through) depth 10
-call Absent len cpu = search parts
-call (Segment seg) len cpu = search parts
-call (Control k) len cpu = search parts
+call (Register k) len cpu = then_agrees (push _ _) (λ done. gives_agrees is_extra _)
+call (Memory a) len cpu = then_agrees (through _ _ _) (λ target. gives_agrees is_extra _)
+call a len cpu = refuses_agrees is_extra unsupported
 
 row_agrees : (op : Op) (insn : Insn) (len : ℕ) (cpu : Cpu) → Agrees is_extra (row op insn len cpu)
 row_agrees ops.Cli insn len cpu = cli len cpu
@@ -215,7 +181,7 @@ row_agrees ops.PortOut insn len cpu = output insn len cpu
 row_agrees ops.Return insn len cpu = ret insn.imm cpu
 row_agrees ops.JumpTo insn len cpu = jump insn.a cpu
 row_agrees ops.CallTo insn len cpu = call insn.a len cpu
-row_agrees _ insn len cpu = search parts
+row_agrees _ insn len cpu = refuses_agrees is_extra unsupported
 
 pub work_agrees : (insn : Insn) (len : ℕ) (cpu : Cpu) → Agrees is_extra (sys_work insn len cpu)
 unfolding sys_work

@@ -1,6 +1,6 @@
 -- Loads of segment registers, each as the list of its tests in their order, and the accessed flag. Intel SDM volume 3,
 -- protection; where this list differs from the manual in an order or in a code, the list decides.
-use Rattle.std.specs.Prelude.{ℕ, ◌+◌, ◌*◌, ◌/◌, ◌%◌, ◌^◌, Bool, true, false, ◌==◌, nat_lt, ◌||◌, not, if◌then◌else◌, Option, bit_or}
+use Rattle.std.specs.Prelude.{ℕ, ◌+◌, ◌*◌, ◌/◌, ◌%◌, ◌^◌, Bool, true, false, ◌==◌, nat_lt, ◌||◌, not, if◌then◌else◌, bit_or}
 use Rattle.ia32_types.specs.declared.stop.Stop.TheVariants as stops
 use Rattle.paging.specs.Work.{Work, ◌>>=◌, refuses, gives, unless}
 use Rattle.descriptors.specs.Form.{descriptor_of, access_rights, marking, is_code, is_data, is_of_system, is_foreign_form, dpl_of, is_present, is_used}
@@ -39,14 +39,8 @@ selected cpu local sel = do
   pair_at denials (slot cpu sel)
 
 -- the register as it is loaded, and what byte 5 is to become
-abbrev pub loaded : ℕ → ℕ → Option ℕ → Loading
-loaded sel dpl marking = record { hidden = record { sel = sel; null = false; dpl = dpl }; marking = marking }
-
 abbrev pub loading : ℕ → ℕ → Descriptor → Loading
-loading sel high d = loaded sel (dpl_of d) (marking high (is_used d))
-
-abbrev pub null_segment : ℕ → Hidden
-null_segment sel = record { sel = sel; null = true; dpl = 0 }
+loading sel high d = record { hidden = record { sel = sel; null = false; dpl = dpl_of d }; marking = marking high (is_used d) }
 
 -- DS and ES, where the selector isn't null
 abbrev pub data_tests : ℕ → ℕ → Descriptor → Work Refusal (Unit {0})
@@ -66,8 +60,9 @@ find_data cpu sel = do
 abbrev pub marked : Cpu → Loading → Work Refusal (Unit {0})
 marked cpu l = mark denials cpu l.hidden.sel l.marking
 
+-- a null selector of data isn't looked up
 unfoldable pub load_data : Cpu → ℕ → Work Refusal Hidden
-load_data cpu sel = if nat_lt sel 4 then gives (null_segment sel) else do
+load_data cpu sel = if nat_lt sel 4 then gives (record { sel = sel; null = true; dpl = 0 }) else do
   l ← find_data cpu sel
   _ ← marked cpu l
   gives l.hidden
@@ -116,10 +111,7 @@ find_jump cpu sel = do
   _ ← jump_tests cpu.cpl sel (descriptor_of pair.0 pair.1)
   gives (loading (sel / 4 * 4 + cpu.cpl % 4) pair.1 (descriptor_of pair.0 pair.1))
 
--- the task register: type 1, a task of 16 bits, is not told; the task must be available, and becomes busy
-abbrev pub is_old_task : ℕ → Bool
-is_old_task high = access_rights high % 0x20 == 1
-
+-- a task, which must be available
 abbrev pub as_task : ℕ → Descriptor → Work Refusal Task
 as_task sel (forms.Task base limit present busy) = do
   _ ← ends_if (protection sel) busy
@@ -127,11 +119,12 @@ as_task sel (forms.Task base limit present busy) = do
   gives (record { sel = sel; base = base; limit = limit; loaded = true })
 as_task sel _ = refuses (protection sel)
 
+-- the task register: type 1, a task of 16 bits, is not told; the task becomes busy
 unfoldable pub load_task : Cpu → ℕ → Work Refusal Task
 load_task cpu sel = do
   _ ← ends_if protection_0 (nat_lt sel 4)
   pair ← selected cpu (protection sel) sel
-  _ ← ends_if form_stop (is_old_task pair.1)
+  _ ← ends_if form_stop (access_rights pair.1 % 0x20 == 1)
   task ← as_task sel (descriptor_of pair.0 pair.1)
   _ ← byte_set denials ((slot cpu sel + 5) % 2 ^ 32) (bit_or (access_rights pair.1) 2)
   gives task

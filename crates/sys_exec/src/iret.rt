@@ -5,7 +5,7 @@ ghost use Rattle.paging.specs.Gives.{Gives};
 ghost use Rattle.sys_exec.specs.Iret.{popped, popped_outer, keeps_flags, is_within, with_interrupt, with_level, new_flags, returned, kept_segment, outer_segments, return_same, return_outer, interrupt_return};
 
 use crate::effect::{Loading, Refusal};
-use crate::segment::{Purpose, find, find_return, mark_loaded};
+use crate::segment::{Purpose, find, mark_loaded};
 use descriptors::{Cpu, EFLAGS_IOPL, Hidden, by_level, reach};
 use ia32_exec::{is_foreign, taken};
 use ia32_types::{Flags, Size, Stop};
@@ -198,7 +198,7 @@ pub fn interrupt_return<M: GuestMem>(cpu: &Cpu, mem: &mut M) -> Result<Cpu, Refu
     ensures frame { M.frame mem.new ≡ M.frame mem.old }
 {
     let p = pop(cpu, mem)?;
-    let code = find_return(cpu, mem, p.sel)?;
+    let code = find(cpu, mem, Purpose::Return, p.sel)?;
     if u16::from(cpu.cpl) < p.sel % 4 {
         return return_outer(cpu, mem, &p, &code);
     }

@@ -20,7 +20,7 @@ fn is_wide(size: Size) -> bool
 
 /// The port in DX, or the one that the instruction names.
 fn port_of(insn: &Insn, cpu: &Cpu) -> u16
-    ensures { result ≡ port_of insn.now cpu.now }
+    ensures { result ≡ port_of insn.now.b insn.now.imm cpu.now }
 {
     let number = match insn.b {
         Operand::Register(k) => reg_at(cpu, k),
