@@ -9,11 +9,11 @@ use Rattle.elf_form.specs.declared.roles.Role.TheVariants as role
 use Rattle.elf_form.specs.declared.segments.Found.{Found}
 use Rattle.elf_form.specs.declared.segments.Found.TheVariants.{Nothing, One, Two, More}
 use Rattle.elf_form.specs.Faults.{◌or_lower◌}
-use Rattle.elf_form.specs.Tables.{found, further}
+use Rattle.elf_form.specs.Tables.{found, first_in, second_in, further}
 use Rattle.elf_form.specs.Header.{section_table, section_count, sections}
 use Rattle.elf_form.specs.Sections.{names, is_sites, is_nameless, is_compressed, sites_sections, one_of, compressed, nameless}
 use Rattle.elf_form.specs.Roles.{role as role_of, role_number, has_role, with_role, alignment, alignments, is_misaligned, misaligned}
-use Rattle.elf_form.specs.ObjectReading.{first_field, second_field, object_form}
+use Rattle.elf_form.specs.ObjectReading.{object_form}
 use Rattle.elf_form.specs.Order.{IsLowest}
 use Rattle.elf_form.specs.Reasons.{IsOf, IsSecond, IsNamedSites, IsBadSection, IsCompressed, IsNameless}
 use Rattle.elf_form.proofs.Lowest.{has_first, has_later, first_or_later, has_none, Finds, finds_as, finds_at, finds_lower, finds_first, finds_first_entry, first_found, IsLater, finds_second}
@@ -52,21 +52,21 @@ so_any (x ∷ xs) v never = or_from (v == x) (is_among v xs) (ne_eqb v x (λ e. 
 -- ---- the sections of an object
 
 module _ (bytes : List ℕ) where
-  foreign_finds : Finds (first_field 4 (with_role role.Foreign (names bytes) bytes)) (λ k. (s : ℕ) × IsOf role.Foreign bytes s × (k ≡ s + 4))
+  foreign_finds : Finds (further 4 (first_in (with_role role.Foreign (names bytes) bytes))) (λ k. (s : ℕ) × IsOf role.Foreign bytes s × (k ≡ s + 4))
   unfolding with_role
   foreign_finds =
-      finds_as (first_field 4 (found (filter (has_role role.Foreign (names bytes) bytes) (sections bytes)))) (λ k. (s : ℕ) × Contains (sections bytes) s × (has_role role.Foreign (names bytes) bytes s ≡ true) × (k ≡ s + 4)) (λ k. (s : ℕ) × IsOf role.Foreign bytes s × (k ≡ s + 4))
+      finds_as (further 4 (first_in (found (filter (has_role role.Foreign (names bytes) bytes) (sections bytes))))) (λ k. (s : ℕ) × Contains (sections bytes) s × (has_role role.Foreign (names bytes) bytes s ≡ true) × (k ≡ s + 4)) (λ k. (s : ℕ) × IsOf role.Foreign bytes s × (k ≡ s + 4))
       (λ k h. (h.0, (h.1, role_is role.Foreign (names bytes) bytes h.0 h.2), h.3))
       (λ k h. (h.0, h.1.0, is_role role.Foreign (names bytes) bytes h.0 h.1.1, h.2))
-      (finds_at (further 4 (find (has_role role.Foreign (names bytes) bytes) (sections bytes))) (first_field 4 (found (filter (has_role role.Foreign (names bytes) bytes) (sections bytes))))
+      (finds_at (further 4 (find (has_role role.Foreign (names bytes) bytes) (sections bytes))) (further 4 (first_in (found (filter (has_role role.Foreign (names bytes) bytes) (sections bytes)))))
       (λ k. (s : ℕ) × Contains (sections bytes) s × (has_role role.Foreign (names bytes) bytes s ≡ true) × (k ≡ s + 4))
       (first_found 4 (has_role role.Foreign (names bytes) bytes) (sections bytes))
       (finds_first (has_role role.Foreign (names bytes) bytes) 4 (section_table bytes) 40 (section_count bytes) (omega arith)))
 
-  second_finds : (r : Role) (field : ℕ) → field < 40 → Finds (second_field field (with_role r (names bytes) bytes)) (λ k. (s : ℕ) × IsSecond (IsOf r bytes) s × (k ≡ s + field))
+  second_finds : (r : Role) (field : ℕ) → field < 40 → Finds (further field (second_in (with_role r (names bytes) bytes))) (λ k. (s : ℕ) × IsSecond (IsOf r bytes) s × (k ≡ s + field))
   unfolding with_role
   second_finds r field lt =
-      finds_as (second_field field (found (filter (has_role r (names bytes) bytes) (sections bytes)))) (λ k. (s : ℕ) × IsLater (has_role r (names bytes) bytes) (sections bytes) s × (k ≡ s + field)) (λ k. (s : ℕ) × IsSecond (IsOf r bytes) s × (k ≡ s + field))
+      finds_as (further field (second_in (found (filter (has_role r (names bytes) bytes) (sections bytes))))) (λ k. (s : ℕ) × IsLater (has_role r (names bytes) bytes) (sections bytes) s × (k ≡ s + field)) (λ k. (s : ℕ) × IsSecond (IsOf r bytes) s × (k ≡ s + field))
       to from (finds_second (has_role r (names bytes) bytes) field 40 (section_table bytes) (section_count bytes) lt) where
         to : (k : ℕ) → (s : ℕ) × IsLater (has_role r (names bytes) bytes) (sections bytes) s × (k ≡ s + field) → (s : ℕ) × IsSecond (IsOf r bytes) s × (k ≡ s + field)
         to k (s, ((there, has), t, (t_there, t_has), below), e) = (s, ((there, role_is r (names bytes) bytes s has), t, (t_there, role_is r (names bytes) bytes t t_has), below), e)
@@ -119,11 +119,11 @@ module _ (bytes : List ℕ) where
   pub object_form_finds : Finds (object_form bytes) (IsBadSection bytes)
   unfolding object_form
   object_form_finds =
-      finds_as (first_field 4 (with_role role.Foreign (names bytes) bytes) or_lower (second_field 8 (with_role role.Text (names bytes) bytes) or_lower (second_field 0 (with_role role.Sites (names bytes) bytes) or_lower misaligned (names bytes) bytes))) AnyAt (IsBadSection bytes)
+      finds_as (further 4 (first_in (with_role role.Foreign (names bytes) bytes)) or_lower (further 8 (second_in (with_role role.Text (names bytes) bytes)) or_lower (further 0 (second_in (with_role role.Sites (names bytes) bytes)) or_lower misaligned (names bytes) bytes))) AnyAt (IsBadSection bytes)
       to from
-      (finds_lower (first_field 4 (with_role role.Foreign (names bytes) bytes)) _ ForeignAt RestAt foreign_finds
-      (finds_lower (second_field 8 (with_role role.Text (names bytes) bytes)) _ TextAt LastAt (second_finds role.Text 8 (omega arith))
-      (finds_lower (second_field 0 (with_role role.Sites (names bytes) bytes)) (misaligned (names bytes) bytes) SitesAt Misaligned (second_finds role.Sites 0 (omega arith)) misaligned_finds))) where
+      (finds_lower (further 4 (first_in (with_role role.Foreign (names bytes) bytes))) _ ForeignAt RestAt foreign_finds
+      (finds_lower (further 8 (second_in (with_role role.Text (names bytes) bytes))) _ TextAt LastAt (second_finds role.Text 8 (omega arith))
+      (finds_lower (further 0 (second_in (with_role role.Sites (names bytes) bytes))) (misaligned (names bytes) bytes) SitesAt Misaligned (second_finds role.Sites 0 (omega arith)) misaligned_finds))) where
         to : (k : ℕ) → AnyAt k → IsBadSection bytes k
         to k (inl (s, h, e)) = IsBadSection.foreign s h e
         to k (inr (inl (s, h, e))) = IsBadSection.text s h e
@@ -157,7 +157,7 @@ module _ (bytes : List ℕ) where
       let other : IsLowest (λ k. (s : ℕ) × IsSecond (IsNamedSites bytes) s × (k ≡ s + 0)) (b + 0) = finds_at q (Some (b + 0)) (λ k. (s : ℕ) × IsSecond (IsNamedSites bytes) s × (k ≡ s + 0)) d g in
       (inr (other.0.0, other.0.1, omega (arith, other.0.2)), λ k p. elim p [ inl n ↦ absurd (n.0 there.0.0 there.0.1) | inr n ↦ omega (arith, n.2, other.1 (n.0 + 0) (n.0, n.1, refl)) ])
 
-  one_by : (o q : Option ℕ) (f : Found) → o ≡ first_field 0 f → q ≡ second_field 0 f → Finds o (λ k. (s : ℕ) × IsNamedSites bytes s × (k ≡ s + 0)) → Finds q (λ k. (s : ℕ) × IsSecond (IsNamedSites bytes) s × (k ≡ s + 0)) → Finds (one_of f) SitesPart
+  one_by : (o q : Option ℕ) (f : Found) → o ≡ further 0 (first_in f) → q ≡ further 0 (second_in f) → Finds o (λ k. (s : ℕ) × IsNamedSites bytes s × (k ≡ s + 0)) → Finds q (λ k. (s : ℕ) × IsSecond (IsNamedSites bytes) s × (k ≡ s + 0)) → Finds (one_of f) SitesPart
   one_by o q Nothing e d h g =
       let none : (k : ℕ) → (s : ℕ) × IsNamedSites bytes s × (k ≡ s + 0) → ⊥ = finds_at o None (λ k. (s : ℕ) × IsNamedSites bytes s × (k ≡ s + 0)) e h in
       (inl ((λ s named. none (s + 0) (s, named, refl)), refl), λ k p. elim p [ inl n ↦ omega (arith, n.1) | inr n ↦ absurd (none (n.0 + 0) (n.0, n.1.0, refl)) ])
@@ -171,7 +171,7 @@ module _ (bytes : List ℕ) where
   pub sites_finds : Finds (one_of (sites_sections bytes)) SitesPart
   unfolding sites_sections
   sites_finds =
-      one_by (further 0 (find (is_sites (names bytes) bytes) (sections bytes))) (second_field 0 (found (filter (is_sites (names bytes) bytes) (sections bytes)))) (found (filter (is_sites (names bytes) bytes) (sections bytes)))
+      one_by (further 0 (find (is_sites (names bytes) bytes) (sections bytes))) (further 0 (second_in (found (filter (is_sites (names bytes) bytes) (sections bytes))))) (found (filter (is_sites (names bytes) bytes) (sections bytes)))
       (first_found 0 (is_sites (names bytes) bytes) (sections bytes)) refl
       (finds_as (further 0 (find (is_sites (names bytes) bytes) (sections bytes))) (λ k. (s : ℕ) × Contains (sections bytes) s × (is_sites (names bytes) bytes s ≡ true) × (k ≡ s + 0)) (λ k. (s : ℕ) × IsNamedSites bytes s × (k ≡ s + 0))
       (λ k h. (h.0, (h.1, h.2), h.3)) (λ k h. (h.0, h.1.0, h.1.1, h.2))

@@ -12,8 +12,8 @@ use Rattle.elf_form.specs.declared.symbols.SectionTest.TheVariants.{EntrySizes}
 use Rattle.elf_form.specs.Faults.{◌or_lower◌}
 use Rattle.elf_form.specs.Output.{pad}
 use Rattle.elf_form.specs.Tables.{entries, found}
-use Rattle.elf_form.specs.Header.{section_table, section_count, sections}
-use Rattle.elf_form.specs.Segments.{loads, first_size, second_size, memory_sizes, header_size, program_size, section_size, too_long, sizes}
+use Rattle.elf_form.specs.Header.{wrong_half, section_table, section_count, sections}
+use Rattle.elf_form.specs.Segments.{loads, first_size, second_size, memory_sizes, too_long, sizes}
 use Rattle.elf_form.specs.Sections.{names}
 use Rattle.elf_form.specs.Roles.{role as role_of, has_role, with_role, is_kept, size, joined_fault}
 use Rattle.elf_form.specs.Symbols.{is_reloc_section, target_role, entries_fault, section_test, sections_fault}
@@ -248,8 +248,8 @@ module _ (bytes : List ℕ) where
   inner_finds : Finds (inner_sizes bytes) Parts5
   unfolding inner_sizes
   inner_finds =
-      finds_lower (header_size bytes) _ (λ k. (word16 bytes 40 ≢ 52) × (k ≡ 40)) Parts4 (finds_field (word16 bytes 40) 52 40)
-      (finds_lower (section_size bytes) _ (λ k. (word16 bytes 46 ≢ 40) × (k ≡ 46)) Parts3 (finds_field (word16 bytes 46) 40 46)
+      finds_lower (wrong_half 40 52 bytes) _ (λ k. (word16 bytes 40 ≢ 52) × (k ≡ 40)) Parts4 (finds_field (word16 bytes 40) 52 40)
+      (finds_lower (wrong_half 46 40 bytes) _ (λ k. (word16 bytes 46 ≢ 40) × (k ≡ 46)) Parts3 (finds_field (word16 bytes 46) 40 46)
       (finds_lower (joined_fault role.Init (names bytes) bytes 0 (sections bytes)) _ (Joined role.Init bytes) Parts2 (too_much_finds role.Init bytes)
       (finds_lower (joined_fault role.Bss (names bytes) bytes 0 (sections bytes)) _ (Joined role.Bss bytes) Parts1 (too_much_finds role.Bss bytes)
       (finds_lower (table_fault bytes (with_role role.Symbols (names bytes) bytes)) (sections_fault EntrySizes (table_of bytes) (names bytes) bytes) TableSize RelocSize table_finds relocs_finds))))
@@ -280,8 +280,8 @@ module _ (bytes : List ℕ) where
   unfolding memory_sizes found
   memory_by [] e = λ k p. elim p [ inl h ↦ absurd (let never : slice_get [] 0 ≡ Some h.0 = ap (λ (x : List ℕ). slice_get x 0) (sym e) ∙ h.1 in cc) | inr h ↦ absurd (let never : slice_get [] 1 ≡ Some h.0 = ap (λ (x : List ℕ). slice_get x 1) (sym e) ∙ h.1 in cc) ]
   memory_by (a ∷ []) e =
-      finds_as (first_size bytes a) FirstSize (λ k. FirstSize k ⊎ SecondSize k) (λ k h. inl h) (λ k p. elim p [ inl h ↦ h | inr h ↦ absurd (let never : slice_get (a ∷ []) 1 ≡ Some h.0 = ap (λ (x : List ℕ). slice_get x 1) (sym e) ∙ h.1 in cc) ])
-      (first_finds a (ap (λ (x : List ℕ). slice_get x 0) e))
+      finds_lower (first_size bytes a) None FirstSize SecondSize (first_finds a (ap (λ (x : List ℕ). slice_get x 0) e))
+      (λ k h. absurd (let never : slice_get (a ∷ []) 1 ≡ Some h.0 = ap (λ (x : List ℕ). slice_get x 1) (sym e) ∙ h.1 in cc))
   memory_by (a ∷ b ∷ []) e = finds_lower (first_size bytes a) (second_size bytes b) FirstSize SecondSize (first_finds a (ap (λ (x : List ℕ). slice_get x 0) e)) (second_finds b (ap (λ (x : List ℕ). slice_get x 1) e))
   memory_by (a ∷ b ∷ c ∷ rest) e = finds_lower (first_size bytes a) (second_size bytes b) FirstSize SecondSize (first_finds a (ap (λ (x : List ℕ). slice_get x 0) e)) (second_finds b (ap (λ (x : List ℕ). slice_get x 1) e))
 
@@ -320,7 +320,7 @@ module _ (bytes : List ℕ) where
   pub image_sizes_finds : Finds (sizes bytes) (IsBadImageSize bytes)
   unfolding sizes
   image_sizes_finds = finds_as (sizes bytes) Image4 (IsBadImageSize bytes) image_to image_from
-      (finds_lower (header_size bytes) _ (λ k. (word16 bytes 40 ≢ 52) × (k ≡ 40)) Image3 (finds_field (word16 bytes 40) 52 40)
-      (finds_lower (program_size bytes) _ (λ k. (word16 bytes 42 ≢ 32) × (k ≡ 42)) Image2 (finds_field (word16 bytes 42) 32 42)
-      (finds_lower (section_size bytes) _ (λ k. (word16 bytes 46 ≢ 40) × (k ≡ 46)) Image1 (finds_field (word16 bytes 46) 40 46)
+      (finds_lower (wrong_half 40 52 bytes) _ (λ k. (word16 bytes 40 ≢ 52) × (k ≡ 40)) Image3 (finds_field (word16 bytes 40) 52 40)
+      (finds_lower (wrong_half 42 32 bytes) _ (λ k. (word16 bytes 42 ≢ 32) × (k ≡ 42)) Image2 (finds_field (word16 bytes 42) 32 42)
+      (finds_lower (wrong_half 46 40 bytes) _ (λ k. (word16 bytes 46 ≢ 40) × (k ≡ 46)) Image1 (finds_field (word16 bytes 46) 40 46)
       (finds_lower (memory_sizes bytes (loads bytes)) (too_long bytes) (λ k. FirstSize k ⊎ SecondSize k) TooLong memory_finds (finds_bad (nat_lt 33554432 (length bytes)) 33554432)))))

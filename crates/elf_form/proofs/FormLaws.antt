@@ -9,7 +9,8 @@ use Rattle.elf_form.specs.declared.segments.Found.TheVariants.{Nothing, One, Two
 use Rattle.elf_form.specs.Faults.{test, ◌or_lower◌}
 use Rattle.elf_form.specs.Tables.{first_of, second_of}
 use Rattle.elf_form.specs.Whole.{AllFound}
-use Rattle.elf_form.specs.Segments.{order, memory_sizes, first_size, second_size, sizes, loads, header_size, program_size, section_size, too_long}
+use Rattle.elf_form.specs.Header.{wrong_half}
+use Rattle.elf_form.specs.Segments.{order, memory_sizes, first_size, second_size, sizes, loads, too_long}
 use Rattle.elf_form.specs.Sections.{one_of}
 pub use Rattle.plain_laws.proofs.Options.{then_none, else_none}
 
@@ -26,6 +27,10 @@ pub lower_none : (a b : Option ℕ) → (a or_lower b) ≡ None → (a ≡ None)
 lower_none None b h = (refl, h)
 lower_none (Some x) None h = absurd cc
 lower_none (Some x) (Some y) h = absurd (lower_some (ltb y x) y x h)
+
+pub lower_end : (a : Option ℕ) → (a or_lower None) ≡ a
+lower_end None = refl
+lower_end (Some x) = refl
 
 pub two_of : (bytes : List ℕ) (P : ℕ → Type 0) (f : Found) → order bytes f ≡ None → AllFound P f → P (first_of f) × P (second_of f)
 unfolding order
@@ -52,9 +57,9 @@ second_fits bytes (More a b) e m = absurd cc
 pub sizes_memory : (bytes : List ℕ) → sizes bytes ≡ None → memory_sizes bytes (loads bytes) ≡ None
 unfolding sizes
 sizes_memory bytes e =
-    let rest = (lower_none (header_size bytes) (program_size bytes or_lower (section_size bytes or_lower (memory_sizes bytes (loads bytes) or_lower too_long bytes))) e).1 in
-    let rest = (lower_none (program_size bytes) (section_size bytes or_lower (memory_sizes bytes (loads bytes) or_lower too_long bytes)) rest).1 in
-    let rest = (lower_none (section_size bytes) (memory_sizes bytes (loads bytes) or_lower too_long bytes) rest).1 in
+    let rest = (lower_none (wrong_half 40 52 bytes) (wrong_half 42 32 bytes or_lower (wrong_half 46 40 bytes or_lower (memory_sizes bytes (loads bytes) or_lower too_long bytes))) e).1 in
+    let rest = (lower_none (wrong_half 42 32 bytes) (wrong_half 46 40 bytes or_lower (memory_sizes bytes (loads bytes) or_lower too_long bytes)) rest).1 in
+    let rest = (lower_none (wrong_half 46 40 bytes) (memory_sizes bytes (loads bytes) or_lower too_long bytes) rest).1 in
     (lower_none (memory_sizes bytes (loads bytes)) (too_long bytes) rest).0
 
 pub when_none : (place : Option ℕ) (P : Type 0) → (place ≡ None → P) → IfNone place P

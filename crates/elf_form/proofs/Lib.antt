@@ -6,6 +6,7 @@ pub mod RowLaws
 pub mod FileWords
 pub mod RoundTrip
 pub mod TestLaws
+pub mod TestSteps
 pub mod Acceptance
 pub mod StringLaws
 pub mod SymbolNames
@@ -26,6 +27,7 @@ mod EachEntry
 pub mod LinkableObjects
 pub mod LowerPlaces
 pub mod Lowest
+pub mod SitesSections
 pub mod OrderLaws
 pub mod BadSections
 pub mod BadSizes

@@ -1,6 +1,6 @@
 -- Each object that is read can be linked: its relocations name symbols of its list, and their fields lie in their sections.
-use Rattle.std.proofs.Common.{Result, Ok, Err, IfOk, ◌≡◌, ◌⊎◌, inl, inr, ℕ, zero, suc, ◌+◌, ◌-◌, ◌*◌, ◌/◌, ◌%◌, ◌^◌, ◌<◌, ◌≤◌, Bool, true, false, ◌&&◌, ◌||◌, not, cond, nat_lt, List, [], ◌∷◌, length, map, get_or, replicate, Option, Some, None, refl, sym, ap, subst, ◌∙◌, arith, length-append}
-use Rattle.std.specs.Prelude.{filter, ◌==◌}
+use Rattle.std.proofs.Common.{Result, Ok, Err, IfOk, ◌≡◌, ◌⊎◌, inl, inr, ℕ, zero, suc, ◌+◌, ◌-◌, ◌*◌, ◌/◌, ◌%◌, ◌^◌, ◌<◌, ◌≤◌, Bool, true, false, ◌&&◌, ◌||◌, not, cond, nat_lt, List, [], ◌∷◌, length, map, get_or, fold, replicate, Option, Some, None, refl, sym, ap, subst, ◌∙◌, arith, length-append}
+use Rattle.std.specs.Prelude.{filter, ◌==◌, ◌++◌, codes}
 use Rattle.std.specs.Bool.{then_some}
 use Rattle.std.specs.List.{flat_map}
 use Rattle.std.specs.Option.{option_or}
@@ -21,14 +21,14 @@ use Rattle.elf_form.specs.declared.symbols.Entry.{Entry}
 use Rattle.elf_form.specs.declared.symbols.RelocTest.TheVariants.{Named, Form}
 use Rattle.elf_form.specs.declared.symbols.Table.{Table}
 use Rattle.elf_form.specs.ObjectParts.{ObjectParts}
-use Rattle.elf_form.specs.Tables.{entries, found}
+use Rattle.elf_form.specs.Tables.{entries, found, second_in, further}
 use Rattle.elf_form.specs.Header.{header_table, section_table, section_count, sections, passes, has_contents, cut}
 use Rattle.elf_form.specs.Cut.{part_begins, header_cut, header_table_cut, section_table_cut, header_part_cut, section_part_cut, cut_in_turn}
 use Rattle.elf_form.specs.Whole.{IsSection, IsWhole}
 use Rattle.elf_form.specs.Sections.{contents, is_index, names, is_null, is_sites, section_of}
 use Rattle.elf_form.specs.Output.{pad}
 use Rattle.elf_form.specs.Roles.{role as role_of, role_number, has_role, with_role, size, alignment, up, starts, with_section, joined}
-use Rattle.elf_form.specs.ObjectReading.{table_of, strings_of, kept_relocs, second_field, text_in, sites_in, object_at, symbol_form, reloc_form, object_form, object_sizes, wrong_object, object_in}
+use Rattle.elf_form.specs.ObjectReading.{table_of, strings_of, kept_relocs, contents_or, object_at, symbol_form, reloc_form, object_form, object_sizes, wrong_object, object_in}
 use Rattle.elf_form.specs.Accepted.{ObjectAs}
 use Rattle.elf_form.specs.declared.cause.ElfFault.{ElfFault}
 use Rattle.elf_form.specs.Answers.{Gives}
@@ -224,7 +224,7 @@ in_filter p x [] px h = h
 in_filter p x (y ∷ ys) px (inl e) = in_on (p y) p x y (filter p ys) refl px (inl e)
 in_filter p x (y ∷ ys) px (inr h) = in_on (p y) p x y (filter p ys) refl px (inr (in_filter p x ys px h))
 
-found_one : (xs : List ℕ) (x : ℕ) → In x xs → second_field 8 (found xs) ≡ None → found xs ≡ One x
+found_one : (xs : List ℕ) (x : ℕ) → In x xs → further 8 (second_in (found xs)) ≡ None → found xs ≡ One x
 unfolding found
 found_one [] x h none = absurd h
 found_one (y ∷ []) x (inl e) none = ap One e
@@ -249,7 +249,8 @@ with_length bytes init s =
     ∙ ap (λ (n : ℕ). n + length (contents bytes s)) (length-replicate (up (alignment bytes s) (length init) - length init) 0)) ∙ omega (arith, le))
 
 grows_on : (b : Bool) (ns bytes init : List ℕ) (s : ℕ) (rest : List ℕ) → ((l : List ℕ) → length l ≤ length (joined ns bytes l rest))
-    → length init ≤ length (cond b (joined ns bytes (with_section bytes init s) rest) (joined ns bytes init rest))
+    → length init ≤ length (fold (with_section bytes) init (cond b (s ∷ filter (has_role role.Init ns bytes) rest) (filter (has_role role.Init ns bytes) rest)))
+unfolding joined
 grows_on true ns bytes init s rest h = omega (arith, h (with_section bytes init s), with_length bytes init s, up_le (alignment bytes s) (length init))
 grows_on false ns bytes init s rest h = h init
 
@@ -264,7 +265,8 @@ IsFull ns bytes s = has_role role.Init ns bytes s ≡ true → length (contents 
 
 room_first : (b : Bool) (ns bytes init : List ℕ) (s : ℕ) (rest : List ℕ) → b ≡ true → length (contents bytes s) ≡ size bytes s
     → get_or (cond b (up (alignment bytes s) (length init) % 2 ^ 32 ∷ starts role.Init ns bytes (up (alignment bytes s) (length init) + size bytes s) rest) (0 ∷ starts role.Init ns bytes (length init) rest)) 0 0 + size bytes s
-    ≤ length (cond b (joined ns bytes (with_section bytes init s) rest) (joined ns bytes init rest))
+    ≤ length (fold (with_section bytes) init (cond b (s ∷ filter (has_role role.Init ns bytes) rest) (filter (has_role role.Init ns bytes) rest)))
+unfolding joined
 room_first true ns bytes init s rest is full =
     omega (arith, joined_grows ns bytes (with_section bytes init s) rest, with_length bytes init s, mod-le (up (alignment bytes s) (length init)) (2 ^ 32), full)
 room_first false ns bytes init s rest is full = cc
@@ -272,7 +274,8 @@ room_first false ns bytes init s rest is full = cc
 room_later : (b : Bool) (ns bytes init : List ℕ) (s : ℕ) (rest : List ℕ) (i n : ℕ) → (b ≡ true → length (contents bytes s) ≡ size bytes s)
     → ((l : List ℕ) → get_or (starts role.Init ns bytes (length l) rest) i 0 + n ≤ length (joined ns bytes l rest))
     → get_or (cond b (up (alignment bytes s) (length init) % 2 ^ 32 ∷ starts role.Init ns bytes (up (alignment bytes s) (length init) + size bytes s) rest) (0 ∷ starts role.Init ns bytes (length init) rest)) (suc i) 0 + n
-    ≤ length (cond b (joined ns bytes (with_section bytes init s) rest) (joined ns bytes init rest))
+    ≤ length (fold (with_section bytes) init (cond b (s ∷ filter (has_role role.Init ns bytes) rest) (filter (has_role role.Init ns bytes) rest)))
+unfolding joined
 room_later true ns bytes init s rest i n full h =
     let end : length (with_section bytes init s) ≡ up (alignment bytes s) (length init) + size bytes s = with_length bytes init s ∙ ap (λ (m : ℕ). up (alignment bytes s) (length init) + m) (full refl) in
     subst (λ (m : ℕ). get_or (starts role.Init ns bytes m rest) i 0 + n ≤ length (joined ns bytes (with_section bytes init s) rest)) end (h (with_section bytes init s))
@@ -350,13 +353,13 @@ section_is bytes t is = entry_at (section_table bytes) 40 (section_count bytes) 
 section_in : (bytes : List ℕ) (t : ℕ) → nat_lt t (section_count bytes) ≡ true → t < length (sections bytes)
 section_in bytes t is = omega (arith, below t (section_count bytes) is, entries_length (section_table bytes) 40 (section_count bytes))
 
-second_none : (bytes : List ℕ) → object_form bytes ≡ None → second_field 8 (with_role role.Text (names bytes) bytes) ≡ None
+second_none : (bytes : List ℕ) → object_form bytes ≡ None → further 8 (second_in (with_role role.Text (names bytes) bytes)) ≡ None
 unfolding object_form
 second_none bytes h = (lower_none _ _ (lower_none _ _ h).1).0
 
 -- the text is as long as its section says
 text_room : (bytes : List ℕ) (t : ℕ) → IsWhole bytes → object_form bytes ≡ None → nat_lt t (section_count bytes) ≡ true → (role_number (role_at (names bytes) bytes t) == 2) ≡ true
-    → size bytes (section_of bytes t) ≤ length (text_in bytes (with_role role.Text (names bytes) bytes))
+    → size bytes (section_of bytes t) ≤ length (contents_or [] bytes (with_role role.Text (names bytes) bytes))
 unfolding with_role
 text_room bytes t whole form is role_is =
     let s = section_of bytes t in
@@ -365,7 +368,7 @@ text_room bytes t whole form is role_is =
     let one = found_one (filter (has_role role.Text (names bytes) bytes) (sections bytes)) s inside (second_none bytes form) in
     let kind = data_kind (names bytes) bytes s (or_left (role_number (role_of (names bytes) bytes s) == 2) (role_number (role_of (names bytes) bytes s) == 3) has) in
     let full = contents_length bytes s kind (section_at bytes (section_table bytes) (section_count bytes) t refl refl whole (below t (section_count bytes) is)) in
-    subst (λ (f : Found). size bytes s ≤ length (text_in bytes f)) (sym one) (omega (arith, full))
+    subst (λ (f : Found). size bytes s ≤ length (contents_or [] bytes f)) (sym one) (omega (arith, full))
 
 -- the data has room for each of its sections
 init_room : (bytes : List ℕ) (t : ℕ) → IsWhole bytes → nat_lt t (section_count bytes) ≡ true → (role_number (role_at (names bytes) bytes t) == 3) ≡ true
@@ -430,7 +433,7 @@ contents_short : (bytes : List ℕ) (s : ℕ) → length (contents bytes s) ≤ 
 unfolding contents
 contents_short bytes s = contents_on (has_contents bytes s) bytes _ (part_short bytes (word32 bytes (s + 16)) (word32 bytes (s + 20)))
 
-sites_short : (bytes : List ℕ) (f : Found) → length bytes ≤ 33554432 → length (sites_in bytes f) < 2 ^ 32
+sites_short : (bytes : List ℕ) (f : Found) → length bytes ≤ 33554432 → length (contents_or (codes "PVS1" ++ 0 ∷ 0 ∷ 0 ∷ 0 ∷ []) bytes f) < 2 ^ 32
 sites_short bytes Nothing h = omega arith
 sites_short bytes (One s) h = omega (arith, contents_short bytes s)
 sites_short bytes (Two s t) h = omega (arith, contents_short bytes s)

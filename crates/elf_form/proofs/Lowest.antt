@@ -6,8 +6,7 @@ use Rattle.std.specs.List.{Contains, find}
 use Rattle.std.specs.Option.{option_or}
 use Rattle.std.proofs.lemmas.Bool.{cases_lt, le-ltb, lt-ltb, eqb-false, ne_eqb}
 use Rattle.elf_form.specs.Faults.{◌or_lower◌}
-use Rattle.elf_form.specs.Tables.{entries, found, first_some, further}
-use Rattle.elf_form.specs.ObjectReading.{first_field, second_field}
+use Rattle.elf_form.specs.Tables.{entries, found, first_in, second_in, first_some, further}
 use Rattle.elf_form.specs.Order.{IsLowest}
 
 abbrev pub some : ℕ → Option ℕ
@@ -156,21 +155,21 @@ finds_first_entry p at size n lt =
 
 -- ---- the first and the second of those that pass a test
 
-head_found : (field x : ℕ) (ys : List ℕ) → some (x + field) ≡ first_field field (found (x ∷ ys))
+head_found : (field x : ℕ) (ys : List ℕ) → some (x + field) ≡ further field (first_in (found (x ∷ ys)))
 unfolding found
 head_found field x [] = refl
 head_found field x (y ∷ []) = refl
 head_found field x (y ∷ z ∷ zs) = refl
 
-pub first_found : (field : ℕ) (p : ℕ → Bool) (xs : List ℕ) → further field (find p xs) ≡ first_field field (found (filter p xs))
+pub first_found : (field : ℕ) (p : ℕ → Bool) (xs : List ℕ) → further field (find p xs) ≡ further field (first_in (found (filter p xs)))
 unfolding found
 first_found field p [] = refl
 first_found field p (x ∷ xs) = by (p x) (first_found field p xs) where
-  by : (b : Bool) → further field (find p xs) ≡ first_field field (found (filter p xs)) → further field (cond b (Some x) (find p xs)) ≡ first_field field (found (cond b (x ∷ filter p xs) (filter p xs)))
+  by : (b : Bool) → further field (find p xs) ≡ further field (first_in (found (filter p xs))) → further field (cond b (Some x) (find p xs)) ≡ further field (first_in (found (cond b (x ∷ filter p xs) (filter p xs))))
   by true e = head_found field x (filter p xs)
   by false e = e
 
-second_after : (field x : ℕ) (ys : List ℕ) → second_field field (found (x ∷ ys)) ≡ first_field field (found ys)
+second_after : (field x : ℕ) (ys : List ℕ) → further field (second_in (found (x ∷ ys))) ≡ further field (first_in (found ys))
 unfolding found
 second_after field x [] = refl
 second_after field x (y ∷ []) = refl
@@ -180,13 +179,13 @@ second_after field x (y ∷ z ∷ w ∷ rest) = refl
 abbrev pub IsLater : (ℕ → Bool) → List ℕ → ℕ → Type 0
 IsLater p xs s = (Contains xs s × (p s ≡ true)) × (t : ℕ) × (Contains xs t × (p t ≡ true)) × (t < s)
 
-pub finds_second : (p : ℕ → Bool) (field size at n : ℕ) → field < size → Finds (second_field field (found (filter p (entries at size n)))) (λ k. (s : ℕ) × IsLater p (entries at size n) s × (k ≡ s + field))
+pub finds_second : (p : ℕ → Bool) (field size at n : ℕ) → field < size → Finds (further field (second_in (found (filter p (entries at size n))))) (λ k. (s : ℕ) × IsLater p (entries at size n) s × (k ≡ s + field))
 unfolding entries found
 finds_second p field size at zero lt = λ k h. has_none h.0 h.1.0.0
 finds_second p field size at (suc n) lt = by (p at) refl (finds_second p field size (at + size) n lt) where
-  by : (b : Bool) → p at ≡ b → Finds (second_field field (found (filter p (entries (at + size) size n)))) (λ k. (s : ℕ) × IsLater p (entries (at + size) size n) s × (k ≡ s + field)) → Finds (second_field field (found (cond b (at ∷ filter p (entries (at + size) size n)) (filter p (entries (at + size) size n))))) (λ k. (s : ℕ) × IsLater p (at ∷ entries (at + size) size n) s × (k ≡ s + field))
+  by : (b : Bool) → p at ≡ b → Finds (further field (second_in (found (filter p (entries (at + size) size n))))) (λ k. (s : ℕ) × IsLater p (entries (at + size) size n) s × (k ≡ s + field)) → Finds (further field (second_in (found (cond b (at ∷ filter p (entries (at + size) size n)) (filter p (entries (at + size) size n)))))) (λ k. (s : ℕ) × IsLater p (at ∷ entries (at + size) size n) s × (k ≡ s + field))
   by true is ih =
-      finds_at (further field (find p (entries (at + size) size n))) (second_field field (found (at ∷ filter p (entries (at + size) size n)))) (λ k. (s : ℕ) × IsLater p (at ∷ entries (at + size) size n) s × (k ≡ s + field))
+      finds_at (further field (find p (entries (at + size) size n))) (further field (second_in (found (at ∷ filter p (entries (at + size) size n))))) (λ k. (s : ℕ) × IsLater p (at ∷ entries (at + size) size n) s × (k ≡ s + field))
       (first_found field p (entries (at + size) size n) ∙ sym (second_after field at (filter p (entries (at + size) size n))))
       (finds_as (further field (find p (entries (at + size) size n))) (λ k. (x : ℕ) × Contains (entries (at + size) size n) x × (p x ≡ true) × (k ≡ x + field)) (λ k. (s : ℕ) × IsLater p (at ∷ entries (at + size) size n) s × (k ≡ s + field))
       to from (finds_first p field (at + size) size n lt)) where
@@ -199,7 +198,7 @@ finds_second p field size at (suc n) lt = by (p at) refl (finds_second p field s
           | inr later ↦ (s, later, passed, same)
         ]
   by false is ih =
-      finds_as (second_field field (found (filter p (entries (at + size) size n)))) (λ k. (s : ℕ) × IsLater p (entries (at + size) size n) s × (k ≡ s + field)) (λ k. (s : ℕ) × IsLater p (at ∷ entries (at + size) size n) s × (k ≡ s + field))
+      finds_as (further field (second_in (found (filter p (entries (at + size) size n))))) (λ k. (s : ℕ) × IsLater p (entries (at + size) size n) s × (k ≡ s + field)) (λ k. (s : ℕ) × IsLater p (at ∷ entries (at + size) size n) s × (k ≡ s + field))
       to from ih where
         to : (k : ℕ) → (s : ℕ) × IsLater p (entries (at + size) size n) s × (k ≡ s + field) → (s : ℕ) × IsLater p (at ∷ entries (at + size) size n) s × (k ≡ s + field)
         to k (s, ((there, passed), t, (t_there, t_is), below), same) = (s, ((has_later at s (entries (at + size) size n) there, passed), t, (has_later at t (entries (at + size) size n) t_there, t_is), below), same)

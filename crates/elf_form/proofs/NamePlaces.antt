@@ -1,6 +1,6 @@
 -- Each name of a symbol is read at its place in the string table.
 use Rattle.std.proofs.Common.{◌≡◌, ◌≢◌, ℕ, ◌+◌, ◌-◌, ◌<◌, Bool, true, false, cond, eqb, List, [], ◌∷◌, ◌++◌, length, get_or, drop, take, fold, Option, Some, None, refl, sym, ap, ◌∙◌, arith, append_assoc}
-use Rattle.std.specs.Prelude.{All}
+use Rattle.std.specs.Prelude.{All, is_some}
 use Rattle.std.specs.List.{before_first, position_or_len, AllByRecursion}
 use Rattle.std.specs.Str.{bytes_eq}
 use Rattle.std.proofs.Math.ListN.{get_or-append}
@@ -12,7 +12,7 @@ use Rattle.std.proofs.lemmas.Slice.Eq.{bytes_eq-Decides}
 use Rattle.guest_ram.specs.Among.{is_among}
 use Rattle.elf_form.specs.declared.object.Symbol.{Symbol}
 use Rattle.elf_form.specs.Tables.{further}
-use Rattle.elf_form.specs.StringTable.{place_in, unless_placed, with_name, table_bytes, name_place}
+use Rattle.elf_form.specs.StringTable.{place_in, with_name, table_bytes, name_place}
 use Rattle.elf_form.specs.ObjectLayout.{names_of}
 use Rattle.elf_form.specs.Symbols.{name_in}
 use Rattle.elf_form.proofs.StringLaws.{else_last, place_in-append}
@@ -51,11 +51,11 @@ last_stays : (o : Option ℕ) (at end : ℕ) (same : Bool) → o ≡ Some at →
 last_stays None at end same e = absurd cc
 last_stays (Some b) at end same e = e
 
-place_stays : (names : List (List ℕ)) (name q : List ℕ) (o : Option ℕ) → HasPlace names q → HasPlace (unless_placed names name o) q
+place_stays : (names : List (List ℕ)) (name q : List ℕ) (o : Option ℕ) → HasPlace names q → HasPlace (cond (is_some o) names (names ++ name ∷ [])) q
 place_stays names name q None has = (has.0, place_in-append names name q ∙ last_stays (place_in names q) (has.0) (length (table_bytes names)) (bytes_eq q name) (has.1))
 place_stays names name q (Some at) has = has
 
-placed_now : (names : List (List ℕ)) (name : List ℕ) (o : Option ℕ) → place_in names name ≡ o → HasPlace (unless_placed names name o) name
+placed_now : (names : List (List ℕ)) (name : List ℕ) (o : Option ℕ) → place_in names name ≡ o → HasPlace (cond (is_some o) names (names ++ name ∷ [])) name
 placed_now names name None e =
     let same : bytes_eq name name ≡ true = (bytes_eq-Decides name name).1 refl in
     (length (table_bytes names), place_in-append names name name ∙ rw (e, same) refl)

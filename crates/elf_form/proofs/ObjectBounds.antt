@@ -1,6 +1,6 @@
 -- How long the file of an object is.
-use Rattle.std.proofs.Common.{◌≡◌, ℕ, ◌+◌, ◌*◌, ◌≤◌, Bool, true, false, List, [], ◌∷◌, ◌++◌, length, fold, replicate, Option, Some, None, refl, ap, ◌∙◌, arith}
-use Rattle.std.specs.Prelude.{count_by, filter}
+use Rattle.std.proofs.Common.{◌≡◌, ℕ, ◌+◌, ◌*◌, ◌≤◌, Bool, true, false, cond, List, [], ◌∷◌, ◌++◌, length, fold, replicate, Option, Some, None, refl, ap, ◌∙◌, arith}
+use Rattle.std.specs.Prelude.{count_by, filter, is_some}
 use Rattle.std.specs.List.{sum_by, flat_map}
 use Rattle.std.proofs.lemmas.List.{length-append, length-replicate}
 use Rattle.std.proofs.lemmas.List.Sums.{sum_by-cons, length-filter}
@@ -9,7 +9,7 @@ use Rattle.elf_form.specs.declared.object.Symbol.{Symbol}
 use Rattle.elf_form.specs.declared.object.Reloc.{Reloc}
 use Rattle.elf_form.specs.ObjectParts.{ObjectParts}
 use Rattle.elf_form.specs.Output.{longs}
-use Rattle.elf_form.specs.StringTable.{with_name, unless_placed, place_in, table_bytes}
+use Rattle.elf_form.specs.StringTable.{with_name, place_in, table_bytes}
 use Rattle.elf_form.specs.ObjectLayout.{next, layout, names_of, strings_of, is_of, symbol_bytes, symbol_table, reloc_bytes, reloc_table, object_header, part_sections, table_sections, object_parts, object_tables, object_bytes}
 use Rattle.elf_form.proofs.RowLaws.{length-longs}
 use Rattle.elf_form.proofs.StringLaws.{table_bytes-append}
@@ -20,7 +20,7 @@ next-most : (n : ℕ) → next n ≤ n + 3
 unfolding next
 next-most n = omega arith
 
-name_added : (names : List (List ℕ)) (name : List ℕ) (o : Option ℕ) → length (table_bytes (unless_placed names name o)) ≤ length (table_bytes names) + length name + 1
+name_added : (names : List (List ℕ)) (name : List ℕ) (o : Option ℕ) → length (table_bytes (cond (is_some o) names (names ++ name ∷ []))) ≤ length (table_bytes names) + length name + 1
 name_added names name (Some at) = omega arith
 name_added names name None = rw (table_bytes-append names name) (simp length-append (omega arith))
 
@@ -82,5 +82,3 @@ length-object o =
     let a = longs (part_sections o) in
     let b = longs (table_sections o) in
     omega (arith, length-append (object_header o) (object_parts o ++ (object_tables o ++ (a ++ b))), length-append (object_parts o) (object_tables o ++ (a ++ b)), length-append (object_tables o) (a ++ b), length-append a b, length-longs (part_sections o), length-longs (table_sections o), length-header o, length-parts o, length-tables o)
-
-pub ruleset bounds = (length-object, sections-most)

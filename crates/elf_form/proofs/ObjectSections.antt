@@ -1,5 +1,5 @@
 -- The sections of a written object, and what each is read as.
-use Rattle.std.proofs.Common.{◌≡◌, ℕ, ◌+◌, ◌/◌, Bool, true, false, cond, eqb, List, [], ◌∷◌, length, map, refl, ap, ◌∙◌, arith}
+use Rattle.std.proofs.Common.{◌≡◌, ℕ, ◌+◌, ◌/◌, Bool, true, false, cond, eqb, List, [], ◌∷◌, length, fold, map, refl, ap, ◌∙◌, arith}
 use Rattle.std.specs.Prelude.{◌||◌, ◌==◌, ◌%◌, ◌^◌, filter}
 use Rattle.std.specs.List.{flat_map}
 use Rattle.std.proofs.lemmas.Bool.{cond-true, cond-false}
@@ -150,21 +150,25 @@ starts-take : (r : Role) (f : List ℕ) (end a s : ℕ) (rest xs : List ℕ) →
 unfolding starts
 starts-take r f end a s rest xs e aligned then = cond-true _ _ _ e ∙ rw aligned (ap (λ (x : List ℕ). up a end % 2 ^ 32 ∷ x) then)
 
+-- where a section ends, behind an end
+abbrev ended : List ℕ → ℕ → ℕ → ℕ
+ended f end s = up (alignment f s) end + size f s
+
 end-skip : (r : Role) (f : List ℕ) (end s : ℕ) (rest : List ℕ) (n : ℕ) → has_role r object_names f s ≡ false → joined_end r object_names f end rest ≡ n → joined_end r object_names f end (s ∷ rest) ≡ n
 unfolding joined_end
-end-skip r f end s rest n e then = cond-false _ _ _ e ∙ then
+end-skip r f end s rest n e then = ap (fold (ended f) end) (cond-false (has_role r object_names f s) (s ∷ filter (has_role r object_names f) rest) (filter (has_role r object_names f) rest) e) ∙ then
 
 end-take : (r : Role) (f : List ℕ) (end s : ℕ) (rest : List ℕ) (n : ℕ) → has_role r object_names f s ≡ true → joined_end r object_names f (up (alignment f s) end + size f s) rest ≡ n → joined_end r object_names f end (s ∷ rest) ≡ n
 unfolding joined_end
-end-take r f end s rest n e then = cond-true _ _ _ e ∙ then
+end-take r f end s rest n e then = ap (fold (ended f) end) (cond-true (has_role r object_names f s) (s ∷ filter (has_role r object_names f) rest) (filter (has_role r object_names f) rest) e) ∙ then
 
 joined-skip : (f init : List ℕ) (s : ℕ) (rest xs : List ℕ) → has_role role.Init object_names f s ≡ false → joined object_names f init rest ≡ xs → joined object_names f init (s ∷ rest) ≡ xs
 unfolding joined
-joined-skip f init s rest xs e then = cond-false _ _ _ e ∙ then
+joined-skip f init s rest xs e then = ap (fold (with_section f) init) (cond-false (has_role role.Init object_names f s) (s ∷ filter (has_role role.Init object_names f) rest) (filter (has_role role.Init object_names f) rest) e) ∙ then
 
 joined-take : (f init : List ℕ) (s : ℕ) (rest xs : List ℕ) → has_role role.Init object_names f s ≡ true → joined object_names f (with_section f init s) rest ≡ xs → joined object_names f init (s ∷ rest) ≡ xs
 unfolding joined
-joined-take f init s rest xs e then = cond-true _ _ _ e ∙ then
+joined-take f init s rest xs e then = ap (fold (with_section f) init) (cond-true (has_role role.Init object_names f s) (s ∷ filter (has_role role.Init object_names f) rest) (filter (has_role role.Init object_names f) rest) e) ∙ then
 
 -- ---- the roles by their numbers
 

@@ -6,7 +6,7 @@ use Rattle.std.specs.Bool.{then_some}
 use Rattle.std.specs.Option.{option_or}
 use Rattle.std.proofs.lemmas.Bool.{cases_lt, le-ltb, lt-ltb}
 use Rattle.guest_ram.specs.Bytes.{word32}
-use Rattle.elf_form.specs.Header.{header_table, section_table, header_count, section_count, headers, sections, passes, has_contents, cut, named_by_header, named_by_section, named_parts}
+use Rattle.elf_form.specs.Header.{header_table, section_table, header_count, section_count, headers, sections, passes, has_contents, cut, named_parts}
 use Rattle.elf_form.specs.Cut.{header_passes, section_passes, part_begins, cut_in_turn}
 use Rattle.elf_form.specs.Order.{IsPast, IsFirstPast}
 use Rattle.elf_form.proofs.Lowest.{some, has_first, has_later, first_or_later, has_none}
@@ -42,6 +42,13 @@ past_append size (p ∷ ps) qs = by (nat_lt size (p.0 + p.1)) (past_append size 
   by : (b : Bool) → past_in size (ps ++ qs) ≡ option_or (past_in size ps) (past_in size qs) → cond b (Some p.0) (past_in size (ps ++ qs)) ≡ option_or (cond b (Some p.0) (past_in size ps)) (past_in size qs)
   by true e = refl
   by false e = e
+
+-- the part that a program header names, and that of a section
+abbrev named_by_header : List ℕ → ℕ → ℕ × ℕ
+named_by_header bytes h = (word32 bytes (h + 4), word32 bytes (h + 16))
+
+abbrev named_by_section : List ℕ → ℕ → ℕ × ℕ
+named_by_section bytes s = (word32 bytes (s + 16), word32 bytes (s + 20))
 
 module _ (bytes : List ℕ) where
   headers_past : (hs : List ℕ) → part_begins bytes 4 (find (header_passes bytes) hs) ≡ past_in (length bytes) (map (named_by_header bytes) hs)

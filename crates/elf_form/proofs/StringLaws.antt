@@ -10,7 +10,7 @@ use Rattle.std.proofs.lemmas.Slice.Eq.{bytes_eq-Decides}
 use Rattle.std.specs.Str.{bytes_eq}
 use Rattle.std.proofs.lemmas.Bool.{both_ways}
 use Rattle.elf_form.specs.Tables.{further}
-use Rattle.elf_form.specs.StringTable.{place_in, unless_placed, with_name, table_bytes}
+use Rattle.elf_form.specs.StringTable.{place_in, with_name, table_bytes}
 use Rattle.elf_form.specs.Writable.{IsStringTable}
 
 pub table_bytes-append : (names : List (List ℕ)) (name : List ℕ) → table_bytes (names ++ name ∷ []) ≡ table_bytes names ++ (name ++ 0 ∷ [])
@@ -64,7 +64,7 @@ no_place : (o : Option ℕ) → is_some o ≡ false → o ≡ None
 no_place None e = refl
 no_place (Some at) e = absurd cc
 
-stays : (names : List (List ℕ)) (name : List ℕ) (o : Option ℕ) → is_some o ≡ true → unless_placed names name o ≡ names
+stays : (names : List (List ℕ)) (name : List ℕ) (o : Option ℕ) → is_some o ≡ true → cond (is_some o) names (names ++ name ∷ []) ≡ names
 stays names name None e = absurd cc
 stays names name (Some at) e = refl
 

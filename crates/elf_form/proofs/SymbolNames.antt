@@ -1,6 +1,6 @@
 -- The names of some first symbols of a list.
-use Rattle.std.proofs.Common.{◌≡◌, ℕ, zero, suc, ◌+◌, ◌≤◌, ◌<◌, List, [], ◌∷◌, ◌++◌, length, get_or, take, replicate, Option, Some, None, sym, ap, ◌∙◌, arith, append_assoc, below_more}
-use Rattle.std.specs.Prelude.{fold, filter, Bool, true, false}
+use Rattle.std.proofs.Common.{◌≡◌, ℕ, zero, suc, ◌+◌, ◌≤◌, ◌<◌, List, [], ◌∷◌, ◌++◌, length, cond, get_or, take, replicate, Option, Some, None, sym, ap, ◌∙◌, arith, append_assoc, below_more}
+use Rattle.std.specs.Prelude.{fold, filter, is_some, Bool, true, false}
 use Rattle.std.specs.List.{flat_map}
 use Rattle.std.proofs.lemmas.List.{length-append, take_more, append-nil}
 use Rattle.std.proofs.lemmas.List.{get_or_default}
@@ -10,14 +10,14 @@ use Rattle.std.proofs.lemmas.List.Elements.{filter_more}
 use Rattle.std.proofs.lemmas.Grind.{flat_map-append}
 use Rattle.elf_form.specs.declared.object.Symbol.{Symbol}
 use Rattle.elf_form.specs.declared.object.Reloc.{Reloc}
-use Rattle.elf_form.specs.StringTable.{place_in, unless_placed, with_name, table_bytes}
+use Rattle.elf_form.specs.StringTable.{place_in, with_name, table_bytes}
 use Rattle.elf_form.specs.ObjectLayout.{names_of, strings_of, symbol_bytes, is_of, reloc_bytes, reloc_table, first_global}
 use Rattle.elf_form.proofs.StringLaws.{table_bytes-append}
 
 abbrev add : List (List ℕ) → Symbol → List (List ℕ)
 add names s = with_name names s.name
 
-grows_once : (names : List (List ℕ)) (name : List ℕ) (o : Option ℕ) → length (table_bytes names) ≤ length (table_bytes (unless_placed names name o))
+grows_once : (names : List (List ℕ)) (name : List ℕ) (o : Option ℕ) → length (table_bytes names) ≤ length (table_bytes (cond (is_some o) names (names ++ name ∷ [])))
 grows_once names name None = rw (table_bytes-append names name) (omega (arith, length-append (table_bytes names) (name ++ 0 ∷ [])))
 grows_once names name (Some at) = omega arith
 

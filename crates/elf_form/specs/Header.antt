@@ -36,22 +36,20 @@ passes bytes at size = nat_lt (length bytes) (at + size)
 abbrev pub has_contents : List ℕ → ℕ → Bool
 has_contents bytes s = not (word32 bytes (s + SH_TYPE) == SHT_NULL) && not (word32 bytes (s + SH_TYPE) == SHT_NOBITS)
 
--- where a part begins, and how long it is: what a program header names, and the contents of a section
-abbrev pub named_by_header : List ℕ → ℕ → ℕ × ℕ
-named_by_header bytes h = (word32 bytes (h + P_OFFSET), word32 bytes (h + P_FILESZ))
-
-abbrev pub named_by_section : List ℕ → ℕ → ℕ × ℕ
-named_by_section bytes s = (word32 bytes (s + SH_OFFSET), word32 bytes (s + SH_SIZE))
-
--- the header, the two tables, what the program headers name, and the contents of the sections
+-- Where each part begins, and how long it is: the header, the two tables, what the program headers name, and the contents of the sections.
 abbrev pub named_parts : List ℕ → List (ℕ × ℕ)
 named_parts bytes =
     (0, EHDR_SIZE) ∷ (header_table bytes, PHDR_SIZE * header_count bytes) ∷ (section_table bytes, SHDR_SIZE * section_count bytes)
-    ∷ (map (named_by_header bytes) (headers bytes) ++ map (named_by_section bytes) (filter (has_contents bytes) (sections bytes)))
+    ∷ (map (λ h. (word32 bytes (h + P_OFFSET), word32 bytes (h + P_FILESZ))) (headers bytes)
+    ++ map (λ s. (word32 bytes (s + SH_OFFSET), word32 bytes (s + SH_SIZE))) (filter (has_contents bytes) (sections bytes)))
 
 -- where the first of them begins that passes the end
 unfoldable pub cut : List ℕ → Option ℕ
 cut bytes = option_map (λ part. part.0) (find (λ part. passes bytes part.0 part.1) (named_parts bytes))
+
+-- a field of two bytes that has another value than the one that is asked for
+abbrev pub wrong_half : ℕ → ℕ → List ℕ → Option ℕ
+wrong_half field wanted bytes = then_some (not (word16 bytes field == wanted)) field
 
 -- Where a file of a type (ET_REL an object, ET_EXEC an image) is wrong by a cause, if it is. Each field of the header that is asked for has one value. What follows the header is told for the other causes.
 abbrev pub wrong_file : ℕ → (ElfCause → Option ℕ) → List ℕ → ElfCause → Option ℕ
@@ -60,6 +58,6 @@ wrong_file wanted other bytes Magic = then_some (not (word32 bytes 0 == ELFMAG))
 wrong_file wanted other bytes Class = then_some (not (byte bytes EI_CLASS == ELFCLASS32)) EI_CLASS
 wrong_file wanted other bytes Encoding = then_some (not (byte bytes EI_DATA == ELFDATA2LSB)) EI_DATA
 wrong_file wanted other bytes Version = then_some (not (byte bytes EI_VERSION == EV_CURRENT)) EI_VERSION or_lower then_some (not (word32 bytes E_VERSION == EV_CURRENT)) E_VERSION
-wrong_file wanted other bytes FileType = then_some (not (word16 bytes E_TYPE == wanted)) E_TYPE
-wrong_file wanted other bytes Machine = then_some (not (word16 bytes E_MACHINE == EM_386)) E_MACHINE
+wrong_file wanted other bytes FileType = wrong_half E_TYPE wanted bytes
+wrong_file wanted other bytes Machine = wrong_half E_MACHINE EM_386 bytes
 wrong_file wanted other bytes cause = other cause

@@ -2,7 +2,7 @@
 use Rattle.std.specs.Prelude.{ℕ, ◌+◌, ◌%◌, ◌^◌, ◌||◌, List, [], ◌∷◌, ◌++◌, map, codes, Option, Some, None, option_and_then, Result, ◌==◌, if◌then◌else◌}
 use Rattle.std.specs.Option.{option_map_or}
 use Rattle.guest_ram.specs.Bytes.{word16, word32}
-use Rattle.elf_form.specs.declared.abi.TheConstants.{ET_REL, E_SHSTRNDX, SH_FLAGS, SH_LINK, SH_TYPE, SYM_SIZE}
+use Rattle.elf_form.specs.declared.abi.TheConstants.{EHDR_SIZE, ET_REL, E_EHSIZE, E_SHENTSIZE, E_SHSTRNDX, SHDR_SIZE, SH_FLAGS, SH_LINK, SH_TYPE, SYM_SIZE}
 use Rattle.elf_form.specs.declared.cause.ElfCause.{ElfCause}
 use Rattle.elf_form.specs.declared.cause.ElfCause.TheVariants.{Sizes, SectionForm, Compressed, StringPlace, SymbolForm, RelocForm}
 use Rattle.elf_form.specs.declared.roles.Role.TheVariants as role
@@ -15,8 +15,8 @@ use Rattle.elf_form.specs.declared.segments.Found.{Found}
 use Rattle.elf_form.specs.ObjectParts.{ObjectParts}
 use Rattle.elf_form.specs.Faults.{Fault, tested, causes, ◌or_lower◌}
 use Rattle.elf_form.specs.Tables.{first_in, second_in, further}
-use Rattle.elf_form.specs.Header.{section_count, sections, wrong_file}
-use Rattle.elf_form.specs.Segments.{header_size, section_size, too_long}
+use Rattle.elf_form.specs.Header.{section_count, sections, wrong_half, wrong_file}
+use Rattle.elf_form.specs.Segments.{too_long}
 use Rattle.elf_form.specs.Sections.{contents, has_strings, strings_in, names, compressed, nameless}
 use Rattle.elf_form.specs.Roles.{with_role, misaligned, joined_fault, joined_end, joined}
 use Rattle.elf_form.specs.Symbols.{table_at, symbols_of, entries_fault, relocs_of, sections_fault, symbols_fault, relocs_fault, symbols_in, numbers, reloc_at}
@@ -38,7 +38,7 @@ table_fault bytes found = option_and_then (entries_fault SYM_SIZE bytes) (first_
 
 unfoldable pub inner_sizes : List ℕ → Option ℕ
 inner_sizes bytes =
-    header_size bytes or_lower (section_size bytes
+    wrong_half E_EHSIZE EHDR_SIZE bytes or_lower (wrong_half E_SHENTSIZE SHDR_SIZE bytes
     or_lower (joined_fault role.Init (names bytes) bytes 0 (sections bytes) or_lower (joined_fault role.Bss (names bytes) bytes 0 (sections bytes)
     or_lower (table_fault bytes (with_role role.Symbols (names bytes) bytes) or_lower sections_fault EntrySizes (table_of bytes) (names bytes) bytes))))
 
@@ -47,18 +47,12 @@ object_sizes bytes = inner_sizes bytes or_lower too_long bytes
 
 -- ---- sections
 
--- a field of the first, or of the second of the sections that were found
-abbrev pub first_field : ℕ → Found → Option ℕ
-first_field field found = further field (first_in found)
-
-abbrev pub second_field : ℕ → Found → Option ℕ
-second_field field found = further field (second_in found)
-
 -- an allocated section of another type, at its type; a second text, at its flags; a second section of sites, at its name; a bad alignment
 unfoldable pub object_form : List ℕ → Option ℕ
 object_form bytes =
-    first_field SH_TYPE (with_role role.Foreign (names bytes) bytes) or_lower (second_field SH_FLAGS (with_role role.Text (names bytes) bytes)
-    or_lower (second_field 0 (with_role role.Sites (names bytes) bytes) or_lower misaligned (names bytes) bytes))
+    further SH_TYPE (first_in (with_role role.Foreign (names bytes) bytes))
+    or_lower (further SH_FLAGS (second_in (with_role role.Text (names bytes) bytes))
+    or_lower (further 0 (second_in (with_role role.Sites (names bytes) bytes)) or_lower misaligned (names bytes) bytes))
 
 -- ---- names
 
@@ -92,19 +86,17 @@ reloc_form bytes = sections_fault Links (table_of bytes) (names bytes) bytes or_
 
 -- ---- the object
 
-abbrev pub text_in : List ℕ → Found → List ℕ
-text_in bytes found = option_map_or (contents bytes) (first_in found) []
+-- the contents of the first section that was found, or these bytes where none was
+abbrev pub contents_or : List ℕ → List ℕ → Found → List ℕ
+contents_or absent bytes found = option_map_or (contents bytes) (first_in found) absent
 
 -- An absent section of sites counts as one with no sites: "PVS1", and the count 0.
-abbrev pub sites_in : List ℕ → Found → List ℕ
-sites_in bytes found = option_map_or (contents bytes) (first_in found) (codes "PVS1" ++ 0 ∷ 0 ∷ 0 ∷ 0 ∷ [])
-
 unfoldable pub object_at : List ℕ → ObjectParts
 object_at bytes = record {
-  text = text_in bytes (with_role role.Text (names bytes) bytes);
+  text = contents_or [] bytes (with_role role.Text (names bytes) bytes);
   init = joined (names bytes) bytes [] (sections bytes);
   bss = joined_end role.Bss (names bytes) bytes 0 (sections bytes) % 2 ^ 32;
-  sites = sites_in bytes (with_role role.Sites (names bytes) bytes);
+  sites = contents_or (codes "PVS1" ++ 0 ∷ 0 ∷ 0 ∷ 0 ∷ []) bytes (with_role role.Sites (names bytes) bytes);
   symbols = symbols_in (table_of bytes) (strings_of bytes) (names bytes) bytes;
   relocs =
       map (reloc_at (numbers (names bytes) bytes 0 (symbols_of (table_of bytes))) (names bytes) bytes) (relocs_of role.Text (names bytes) bytes)

@@ -1,5 +1,5 @@
 -- What each section of an object is read as, by its type and its flags (System V ABI, chapter 4, Sections). What is joined and how is the profile's.
-use Rattle.std.specs.Prelude.{ℕ, ◌+◌, ◌-◌, ◌/◌, ◌%◌, ◌^◌, Bool, true, false, not, ◌&&◌, ◌||◌, List, [], ◌∷◌, ◌++◌, length, filter, replicate, Option, Some, None, nat_lt, ◌==◌, if◌then◌else◌}
+use Rattle.std.specs.Prelude.{ℕ, ◌+◌, ◌-◌, ◌/◌, ◌%◌, ◌^◌, Bool, true, false, not, ◌&&◌, ◌||◌, List, [], ◌∷◌, ◌++◌, length, fold, filter, replicate, Option, Some, None, nat_lt, ◌==◌, if◌then◌else◌}
 use Rattle.std.specs.List.{find}
 use Rattle.guest_ram.specs.Among.{is_among}
 use Rattle.guest_ram.specs.Bytes.{word32}
@@ -15,16 +15,12 @@ use Rattle.elf_form.specs.Header.{sections}
 use Rattle.elf_form.specs.Sections.{contents, is_null, is_sites}
 
 -- by the type and the flags: what is allocated, and what is not
-abbrev pub allocated_role : ℕ → ℕ → Role
-allocated_role kind flags =
-    if kind == SHT_PROGBITS then (if flags / SHF_EXECINSTR % 2 == 1 then Text else Init)
-    else (if kind == SHT_NOBITS then Bss else (if kind == SHT_NOTE then Ignored else Foreign))
-
-abbrev pub unallocated_role : ℕ → Role
-unallocated_role kind = if kind == SHT_SYMTAB then Symbols else (if kind == SHT_REL then Relocs else Ignored)
-
 abbrev pub role_by : ℕ → ℕ → Role
-role_by kind flags = if flags / SHF_ALLOC % 2 == 1 then allocated_role kind flags else unallocated_role kind
+role_by kind flags =
+    if flags / SHF_ALLOC % 2 == 1
+    then (if kind == SHT_PROGBITS then (if flags / SHF_EXECINSTR % 2 == 1 then Text else Init)
+    else (if kind == SHT_NOBITS then Bss else (if kind == SHT_NOTE then Ignored else Foreign)))
+    else (if kind == SHT_SYMTAB then Symbols else (if kind == SHT_REL then Relocs else Ignored))
 
 -- The section of sites goes by its name.
 unfoldable pub role : List ℕ → List ℕ → ℕ → Role
@@ -87,15 +83,11 @@ starts r names bytes end (s ∷ rest) =
 
 -- where the last of them ends
 unfoldable pub joined_end : Role → List ℕ → List ℕ → ℕ → List ℕ → ℕ
-joined_end r names bytes end [] = end
-joined_end r names bytes end (s ∷ rest) =
-    if has_role r names bytes s then joined_end r names bytes (up (alignment bytes s) end + size bytes s) rest else joined_end r names bytes end rest
+joined_end r names bytes end ss = fold (λ end s. up (alignment bytes s) end + size bytes s) end (filter (has_role r names bytes) ss)
 
 unfoldable pub with_section : List ℕ → List ℕ → ℕ → List ℕ
 with_section bytes init s = init ++ (replicate (up (alignment bytes s) (length init) - length init) 0 ++ contents bytes s)
 
 -- the bytes of the data, each section behind zeros up to its alignment
 unfoldable pub joined : List ℕ → List ℕ → List ℕ → List ℕ → List ℕ
-joined names bytes init [] = init
-joined names bytes init (s ∷ rest) =
-    if has_role Init names bytes s then joined names bytes (with_section bytes init s) rest else joined names bytes init rest
+joined names bytes init ss = fold (with_section bytes) init (filter (has_role Init names bytes) ss)

@@ -1,14 +1,14 @@
 -- The two program headers of an image (System V ABI, chapter 5, Program Header).
-use Rattle.std.specs.Prelude.{ℕ, ◌+◌, ◌%◌, Bool, not, ◌&&◌, List, length, filter, Option, Some, None, nat_lt, ◌==◌}
+use Rattle.std.specs.Prelude.{ℕ, ◌+◌, ◌%◌, Bool, not, ◌&&◌, List, length, filter, Option, Some, option_and_then, nat_lt, ◌==◌}
 use Rattle.std.specs.Bool.{then_some}
-use Rattle.guest_ram.specs.Bytes.{word16, word32}
+use Rattle.guest_ram.specs.Bytes.{word32}
 use Rattle.elf_form.specs.declared.segments.TheConstants.{FILE_LIMIT}
 use Rattle.elf_form.specs.declared.abi.TheConstants.{EHDR_SIZE, E_EHSIZE, E_PHENTSIZE, E_PHNUM, E_SHENTSIZE, PF_X, PHDR_SIZE, PT_LOAD, P_FILESZ, P_FLAGS, P_MEMSZ, SHDR_SIZE}
 use Rattle.elf_form.specs.declared.segments.Found.{Found}
-use Rattle.elf_form.specs.declared.segments.Found.TheVariants.{Nothing, One, Two, More}
+use Rattle.elf_form.specs.declared.segments.Found.TheVariants.{Two}
 use Rattle.elf_form.specs.Faults.{◌or_lower◌}
-use Rattle.elf_form.specs.Tables.{found}
-use Rattle.elf_form.specs.Header.{headers}
+use Rattle.elf_form.specs.Tables.{found, first_in, second_in}
+use Rattle.elf_form.specs.Header.{headers, wrong_half}
 
 abbrev pub is_load : List ℕ → ℕ → Bool
 is_load bytes h = word32 bytes h == PT_LOAD
@@ -24,26 +24,17 @@ abbrev pub second_size : List ℕ → ℕ → Option ℕ
 second_size bytes h = then_some (nat_lt (word32 bytes (h + P_MEMSZ)) (word32 bytes (h + P_FILESZ))) (h + P_MEMSZ)
 
 unfoldable pub memory_sizes : List ℕ → Found → Option ℕ
-memory_sizes bytes Nothing = None
-memory_sizes bytes (One a) = first_size bytes a
-memory_sizes bytes (Two a b) = first_size bytes a or_lower second_size bytes b
-memory_sizes bytes (More a b) = first_size bytes a or_lower second_size bytes b
-
-abbrev pub header_size : List ℕ → Option ℕ
-header_size bytes = then_some (not (word16 bytes E_EHSIZE == EHDR_SIZE)) E_EHSIZE
-
-abbrev pub program_size : List ℕ → Option ℕ
-program_size bytes = then_some (not (word16 bytes E_PHENTSIZE == PHDR_SIZE)) E_PHENTSIZE
-
-abbrev pub section_size : List ℕ → Option ℕ
-section_size bytes = then_some (not (word16 bytes E_SHENTSIZE == SHDR_SIZE)) E_SHENTSIZE
+memory_sizes bytes found =
+    option_and_then (first_size bytes) (first_in found) or_lower option_and_then (second_size bytes) (second_in found)
 
 abbrev pub too_long : List ℕ → Option ℕ
 too_long bytes = then_some (nat_lt FILE_LIMIT (length bytes)) FILE_LIMIT
 
 -- The lowest size field that is wrong.
 unfoldable pub sizes : List ℕ → Option ℕ
-sizes bytes = header_size bytes or_lower (program_size bytes or_lower (section_size bytes or_lower (memory_sizes bytes (loads bytes) or_lower too_long bytes)))
+sizes bytes =
+    wrong_half E_EHSIZE EHDR_SIZE bytes or_lower (wrong_half E_PHENTSIZE PHDR_SIZE bytes
+    or_lower (wrong_half E_SHENTSIZE SHDR_SIZE bytes or_lower (memory_sizes bytes (loads bytes) or_lower too_long bytes)))
 
 abbrev pub is_executable : List ℕ → ℕ → Bool
 is_executable bytes h = word32 bytes (h + P_FLAGS) % 2 == PF_X

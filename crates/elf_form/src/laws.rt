@@ -13,7 +13,6 @@ ghost use Rattle.elf_form.specs.declared.cause.ElfCause.{ElfCause};
 
 /// How long the file of an object is: at most the header, the parts, the names with their zero
 /// bytes, those of the sections, up to 40 bytes that align, and then the section headers.
-#[tactic(auto, using(crate::proofs::ObjectBounds::bounds))]
 pub fn object_length()
     ensures exact { (o : ObjectParts) → length (object_bytes o) ≡ (layout o).sections + 400 }
     ensures bound { (o : ObjectParts) → (layout o).sections

@@ -3,11 +3,12 @@
 ghost use Rattle.std.specs.Prelude.{◌≡◌, ◌≤◌, ◌<◌, ◌+◌, ◌*◌, ◌^◌, length, IfNone, IfSome};
 ghost use Rattle.guest_ram.specs.Bytes.{word16, word32};
 ghost use Rattle.elf_form.specs.declared.roles.Role.TheVariants as role;
+ghost use Rattle.elf_form.specs.Tables.{first_in, second_in, further};
 ghost use Rattle.elf_form.specs.Whole.{AllFound, IsWhole, IsSection};
 ghost use Rattle.elf_form.specs.Sections.{names as names_of};
 ghost use Rattle.elf_form.specs.Roles.{with_role};
 ghost use Rattle.elf_form.specs.Symbols.{entries_fault};
-ghost use Rattle.elf_form.specs.ObjectReading.{table_of, strings_of, link_of, table_fault, inner_sizes, object_sizes, first_field, second_field, object_form, section_names_fault, symbol_names_fault, string_places};
+ghost use Rattle.elf_form.specs.ObjectReading.{table_of, strings_of, link_of, table_fault, inner_sizes, object_sizes, object_form, section_names_fault, symbol_names_fault, string_places};
 
 use crate::abi::{
     E_EHSIZE, E_SHENTSIZE, E_SHNUM, E_SHOFF, E_SHSTRNDX, EHDR_SIZE, SH_FLAGS, SH_LINK, SH_TYPE,
@@ -23,7 +24,6 @@ use crate::symbols::{SectionTest, SymbolTest, Table, entries_fault, table_at};
 use guest_ram::{half, word};
 
 /// The symbol table of an object.
-#[tactic(auto, unfolding(crate::specs::ObjectReading::table_of))]
 pub fn table_of(bytes: &[u8]) -> Table
     requires { IsWhole bytes.now }
     ensures table { result ≡ table_of bytes.now }
@@ -35,7 +35,6 @@ pub fn table_of(bytes: &[u8]) -> Table
 }
 
 /// The names of an object's symbols.
-#[tactic(auto, unfolding(crate::specs::ObjectReading::strings_of))]
 pub fn strings_of(bytes: &[u8]) -> &[u8]
     requires { IsWhole bytes.now }
     ensures { result.now ≡ strings_of bytes.now }
@@ -99,7 +98,7 @@ pub fn object_sizes(bytes: &[u8]) -> Option<usize>
 fn first_field(bytes: &[u8], field: usize, found: Found) -> Option<usize>
     requires inside { AllFound (IsSection bytes.now) found }
     requires field { field < SHDR_SIZE }
-    ensures place { result ≡ first_field field found }
+    ensures place { result ≡ further field (first_in found) }
     ensures inside { IfSome result (λ at. at < length bytes.now) }
 {
     let _bytes = bytes.len();
@@ -112,7 +111,7 @@ fn first_field(bytes: &[u8], field: usize, found: Found) -> Option<usize>
 fn second_field(bytes: &[u8], field: usize, found: Found) -> Option<usize>
     requires inside { AllFound (IsSection bytes.now) found }
     requires field { field < SHDR_SIZE }
-    ensures place { result ≡ second_field field found }
+    ensures place { result ≡ further field (second_in found) }
     ensures inside { IfSome result (λ at. at < length bytes.now) }
 {
     let _bytes = bytes.len();
@@ -123,7 +122,6 @@ fn second_field(bytes: &[u8], field: usize, found: Found) -> Option<usize>
 }
 
 /// The lowest field of a section that is not allowed.
-#[tactic(auto, unfolding(crate::specs::ObjectReading::object_form))]
 pub fn object_form(bytes: &[u8]) -> Option<usize>
     requires { IsWhole bytes.now }
     ensures place { result ≡ object_form bytes.now }
@@ -172,7 +170,6 @@ fn symbol_names_fault(bytes: &[u8], found: Found) -> Option<usize>
 }
 
 /// The lowest field that names no string.
-#[tactic(auto, unfolding(crate::specs::ObjectReading::string_places))]
 pub fn string_places(bytes: &[u8]) -> Option<usize>
     requires { IsWhole bytes.now }
     ensures place { result ≡ string_places bytes.now }

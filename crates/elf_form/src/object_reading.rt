@@ -16,7 +16,7 @@ ghost use Rattle.elf_form.specs.Symbols.{relocs_of};
 ghost use Rattle.elf_form.specs.KeptRelocs.{IsEntry, AreKept};
 ghost use Rattle.elf_form.specs.Linkable.{IsLinkable};
 ghost use Rattle.elf_form.specs.ObjectParts.{ObjectParts};
-ghost use Rattle.elf_form.specs.ObjectReading.{table_of as table_in, kept_relocs, symbol_form, reloc_form, text_in, sites_in, object_at, object_in, wrong_object};
+ghost use Rattle.elf_form.specs.ObjectReading.{table_of as table_in, kept_relocs, symbol_form, reloc_form, contents_or, object_at, object_in, wrong_object};
 ghost use Rattle.elf_form.specs.Accepted.{ObjectAs};
 ghost use Rattle.elf_form.specs.Reasons.{IsRefusedObject, no_object};
 
@@ -69,7 +69,6 @@ fn kept_fault(test: RelocTest, bytes: &[u8], kept: &Kept) -> Option<usize>
     lower(text, lower(init, bss))
 }
 
-#[tactic(auto, unfolding(crate::specs::ObjectReading::symbol_form))]
 fn symbol_form(bytes: &[u8], kept: &Kept) -> Option<usize>
     requires whole { IsWhole bytes.now }
     requires kept { AreKept bytes.now kept.now }
@@ -82,7 +81,6 @@ fn symbol_form(bytes: &[u8], kept: &Kept) -> Option<usize>
     lower(globals, kept_fault(RelocTest::Named, bytes, kept))
 }
 
-#[tactic(auto, unfolding(crate::specs::ObjectReading::reloc_form))]
 fn reloc_form(bytes: &[u8], kept: &Kept) -> Option<usize>
     requires whole { IsWhole bytes.now }
     requires kept { AreKept bytes.now kept.now }
@@ -93,26 +91,19 @@ fn reloc_form(bytes: &[u8], kept: &Kept) -> Option<usize>
     lower(links, kept_fault(RelocTest::Form, bytes, kept))
 }
 
-fn text_in(bytes: &[u8], found: Found) -> &[u8]
+/// The contents of the first of the sections that were found, or `absent` where there is none.
+fn contents_or<'a>(absent: &'a [u8], bytes: &'a [u8], found: Found) -> &'a [u8]
     requires { AllFound (IsSection bytes.now) found }
-    ensures { result.now ≡ text_in bytes.now found }
+    ensures { result.now ≡ contents_or absent.now bytes.now found }
 {
     match found {
-        Found::Nothing => &[],
+        Found::Nothing => absent,
         Found::One(s) | Found::Two(s, _) | Found::More(s, _) => contents(bytes, s),
     }
 }
 
-/// The section of annotations, or one of no sites.
-fn sites_in(bytes: &[u8], found: Found) -> &[u8]
-    requires { AllFound (IsSection bytes.now) found }
-    ensures { result.now ≡ sites_in bytes.now found }
-{
-    match found {
-        Found::Nothing => b"PVS1\0\0\0\0",
-        Found::One(s) | Found::Two(s, _) | Found::More(s, _) => contents(bytes, s),
-    }
-}
+/// The section of annotations of an object that has none: one of no sites.
+const NO_SITES: [u8; 8] = *b"PVS1\0\0\0\0";
 
 /// Adds the relocations of an object's text, and behind them those of its data.
 #[tactic(auto, unfolding(crate::specs::ObjectReading::object_at))]
@@ -151,10 +142,12 @@ fn parts_in(alloc: Global, bytes: &[u8]) -> Result<Parts, AllocError>
     ensures sites { IfOk result (λ parts. parts.sites.items ≡ (object_at bytes.now).sites) }
 {
     let names = names(bytes);
+    let text = contents_or(&[], bytes, with_role(Role::Text, names, bytes));
+    let sites = contents_or(&NO_SITES, bytes, with_role(Role::Sites, names, bytes));
     Ok(Parts {
-        text: Vec::from_slice(alloc, text_in(bytes, with_role(Role::Text, names, bytes)))?,
+        text: Vec::from_slice(alloc, text)?,
         init: joined(alloc, names, bytes)?,
-        sites: Vec::from_slice(alloc, sites_in(bytes, with_role(Role::Sites, names, bytes)))?,
+        sites: Vec::from_slice(alloc, sites)?,
     })
 }
 

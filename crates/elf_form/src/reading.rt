@@ -6,7 +6,8 @@ ghost use Rattle.elf_form.specs.Stages.{section_causes, and_then, identified, pa
 ghost use Rattle.elf_form.specs.Answers.{Gives};
 ghost use Rattle.elf_form.specs.Order.{IsFirstOf};
 ghost use Rattle.guest_ram.specs.Bytes.{part, word32};
-ghost use Rattle.elf_form.specs.Whole.{IsWhole, IsHeader, ArePlaces};
+ghost use Rattle.elf_form.specs.Whole.{AllFound, IsWhole, IsHeader, IsSection, ArePlaces};
+ghost use Rattle.elf_form.specs.Sections.{sites_sections};
 ghost use Rattle.elf_form.specs.Segments.{memory_sizes, loads};
 ghost use Rattle.elf_form.specs.ImageParts.{ImageParts};
 ghost use Rattle.elf_form.specs.declared.cause.ElfCause.{ElfCause};
@@ -19,10 +20,20 @@ use crate::abi::{E_ENTRY, ET_EXEC, P_FILESZ, P_MEMSZ, P_OFFSET, P_VADDR};
 use crate::cause::{ElfCause, ElfFault};
 use crate::header::{cut, identified, lower, test};
 use crate::image::Image;
-use crate::sections::{compressed, contents, nameless, one_of, sites_sections};
-use crate::segments::{FILE_LIMIT, loads, order, sizes};
+use crate::roles::{Role, with_role};
+use crate::sections::{compressed, contents, nameless, names, one_of};
+use crate::segments::{FILE_LIMIT, Found, loads, order, sizes};
 use guest_ram::word;
 use std::alloc::Global;
+
+/// The sections of sites, which go by their name.
+fn sites_sections(bytes: &[u8]) -> Found
+    requires { IsWhole bytes.now }
+    ensures found { result ≡ sites_sections bytes.now }
+    ensures inside { AllFound (IsSection bytes.now) result }
+{
+    with_role(Role::Sites, names(bytes), bytes)
+}
 
 /// The tests of program headers and sections in their order.
 #[tactic(auto, unfolding(crate::specs::Faults::tested, crate::specs::Reading::wrong_image, crate::specs::Reading::section_form))]

@@ -6,7 +6,7 @@ ghost use Rattle.guest_ram.specs.Among.{is_among};
 ghost use Rattle.elf_form.specs.Tables.{entries, found};
 ghost use Rattle.elf_form.specs.Whole.{AllFound, IsWhole, IsSection};
 ghost use Rattle.elf_form.specs.Header.{sections};
-ghost use Rattle.elf_form.specs.Roles.{allocated_role, unallocated_role, role_by, role as role_of, role_number, has_role, with_role, is_kept, alignments, is_misaligned, misaligned, joined_fault, up};
+ghost use Rattle.elf_form.specs.Roles.{role_by, role as role_of, role_number, has_role, with_role, is_kept, alignments, is_misaligned, misaligned, joined_fault, up};
 ghost use Rattle.elf_form.specs.Output.{pad};
 
 use crate::abi::{
@@ -31,35 +31,22 @@ pub enum Role {
     Relocs,
 }
 
-fn allocated_role(kind: u32, flags: u32) -> Role
-    ensures { result ≡ allocated_role kind flags }
+fn role_by(kind: u32, flags: u32) -> Role
+    ensures { result ≡ role_by kind flags }
 {
+    if flags / SHF_ALLOC % 2 != 1 {
+        return match kind {
+            SHT_SYMTAB => Role::Symbols,
+            SHT_REL => Role::Relocs,
+            _ => Role::Ignored,
+        };
+    }
     match kind {
         SHT_PROGBITS if flags / SHF_EXECINSTR % 2 == 1 => Role::Text,
         SHT_PROGBITS => Role::Init,
         SHT_NOBITS => Role::Bss,
         SHT_NOTE => Role::Ignored,
         _ => Role::Foreign,
-    }
-}
-
-fn unallocated_role(kind: u32) -> Role
-    ensures { result ≡ unallocated_role kind }
-{
-    match kind {
-        SHT_SYMTAB => Role::Symbols,
-        SHT_REL => Role::Relocs,
-        _ => Role::Ignored,
-    }
-}
-
-fn role_by(kind: u32, flags: u32) -> Role
-    ensures { result ≡ role_by kind flags }
-{
-    if flags / SHF_ALLOC % 2 == 1 {
-        allocated_role(kind, flags)
-    } else {
-        unallocated_role(kind)
     }
 }
 

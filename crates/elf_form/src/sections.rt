@@ -3,9 +3,9 @@
 ghost use Rattle.std.specs.Prelude.{◌≡◌, ◌≤◌, ◌<◌, ◌+◌, ◌^◌, length, drop, IfSome};
 ghost use Rattle.guest_ram.specs.Bytes.{word16, word32};
 ghost use Rattle.elf_form.specs.declared.abi.TheConstants.{EHDR_SIZE};
-ghost use Rattle.elf_form.specs.Whole.{AllFound, IsWhole, IsSection};
+ghost use Rattle.elf_form.specs.Whole.{IsWhole, IsSection};
 ghost use Rattle.elf_form.specs.Cut.{section_passes};
-ghost use Rattle.elf_form.specs.Sections.{contents, is_index, has_strings, strings_in, names, is_null, is_unnamed, is_nameless, is_sites, is_compressed, sites_sections, one_of, compressed, nameless};
+ghost use Rattle.elf_form.specs.Sections.{contents, is_index, has_strings, strings_in, names, is_null, is_unnamed, is_nameless, is_sites, is_compressed, one_of, compressed, nameless};
 
 use crate::abi::{
     E_SHNUM, E_SHOFF, E_SHSTRNDX, SH_FLAGS, SH_OFFSET, SH_SIZE, SH_TYPE, SHDR_SIZE, SHF_COMPRESSED,
@@ -121,25 +121,6 @@ fn is_compressed(bytes: &[u8], s: usize) -> bool
     ensures { result ≡ is_compressed bytes.now s }
 {
     word(bytes, s + SH_TYPE) != SHT_NULL && word(bytes, s + SH_FLAGS) / SHF_COMPRESSED % 2 == 1
-}
-
-/// The sections of sites.
-pub fn sites_sections(bytes: &[u8]) -> Found
-    requires { IsWhole bytes.now }
-    ensures found { result ≡ sites_sections bytes.now }
-    ensures inside { AllFound (IsSection bytes.now) result }
-{
-    let table = word(bytes, E_SHOFF) as usize;
-    let count = half(bytes, E_SHNUM) as usize;
-    let names = names(bytes);
-    let mut found = Found::Nothing;
-    for i in 0..count {
-        let s = table + SHDR_SIZE * i;
-        if is_sites(names, bytes, s) {
-            found = found.with(s);
-        }
-    }
-    found
 }
 
 /// The place that says that there is not one section.

@@ -92,7 +92,7 @@ fn second_size(bytes: &[u8], h: usize) -> Option<usize>
     (word(bytes, h + P_MEMSZ) < word(bytes, h + P_FILESZ)).then_some(h + P_MEMSZ)
 }
 
-#[tactic(auto, unfolding(crate::specs::Segments::memory_sizes))]
+#[tactic(auto, unfolding(crate::specs::Segments::memory_sizes), using(crate::proofs::FormLaws::lower_end))]
 fn memory_sizes(bytes: &[u8], headers: Found) -> Option<usize>
     requires { AllFound (IsHeader bytes.now) headers }
     ensures place { result ≡ memory_sizes bytes.now headers }

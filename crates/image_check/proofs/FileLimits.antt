@@ -9,8 +9,8 @@ use Rattle.guest_ram.specs.Bytes.{word32, part}
 use Rattle.elf_form.specs.declared.cause.ElfCause.TheVariants.{Sizes}
 use Rattle.elf_form.specs.ImageParts.{ImageParts}
 use Rattle.elf_form.specs.Faults.{◌or_lower◌}
-use Rattle.elf_form.specs.Header.{has_contents}
-use Rattle.elf_form.specs.Segments.{sizes, too_long, header_size, program_size, section_size, memory_sizes, loads}
+use Rattle.elf_form.specs.Header.{has_contents, wrong_half}
+use Rattle.elf_form.specs.Segments.{sizes, too_long, memory_sizes, loads}
 use Rattle.elf_form.specs.Sections.{contents}
 use Rattle.elf_form.specs.Reading.{parts_at, wrong_image}
 use Rattle.elf_form.specs.Accepted.{ImageAs}
@@ -29,9 +29,9 @@ not_long bytes e = grind (arith, nat_tests)
 sizes_short : (bytes : List ℕ) → sizes bytes ≡ None → length bytes ≤ 33554432
 unfolding sizes
 sizes_short bytes e =
-    let a = second_none (header_size bytes) _ e in
-    let b = second_none (program_size bytes) _ a in
-    let c = second_none (section_size bytes) _ b in
+    let a = second_none (wrong_half 40 52 bytes) _ e in
+    let b = second_none (wrong_half 42 32 bytes) _ a in
+    let c = second_none (wrong_half 46 40 bytes) _ b in
     not_long bytes (second_none (memory_sizes bytes (loads bytes)) (too_long bytes) c)
 
 part_short : (bytes : List ℕ) (at n : ℕ) → length (part bytes at n) ≤ length bytes
