@@ -1,5 +1,5 @@
 -- The numbers and the parts that stand in a written file.
-use Rattle.std.proofs.Common.{◌≡◌, ℕ, ◌+◌, ◌*◌, ◌<◌, ◌≤◌, ◌^◌, List, [], ◌++◌, length, get_or, replicate, refl, sym, ap, ◌∙◌, arith, append_assoc, lit<, lit≤}
+use Rattle.std.proofs.Common.{◌≡◌, ℕ, ◌+◌, ◌*◌, ◌<◌, ◌≤◌, ◌^◌, List, [], ◌++◌, length, get_or, replicate, refl, sym, ap, ◌∙◌, arith, lit<, lit≤}
 use Rattle.std.proofs.lemmas.List.{length-append, length-replicate, append-nil}
 use Rattle.std.proofs.lemmas.Nat.{from_le_bytes-to_le_bytes_4}
 use Rattle.guest_ram.specs.Bytes.{part, byte, word16, word32}
@@ -7,6 +7,7 @@ use Rattle.elf_form.specs.ImageParts.{ImageParts}
 use Rattle.elf_form.specs.Output.{longs, pad}
 use Rattle.elf_form.specs.ImageLayout.{init_from, sites_from, names_from, sections_from, section_names, header, program_numbers, section_numbers, body, image_bytes}
 use Rattle.elf_form.specs.Writable.{IsWritableImage, HasLongs}
+use Rattle.elf_form.proofs.AppendLaws.{behind_front, behind_tables, behind_text, behind_init, behind_sites}
 use Rattle.elf_form.proofs.RowLaws.{part-middle, row_behind, length-longs}
 
 -- a section header of the file f at s
@@ -63,7 +64,7 @@ file-front : (p : ImageParts) → image_bytes p ≡ front p ++ (longs (section_n
 unfolding image_bytes front
 file-front p =
     let table = longs (section_numbers p) in
-    let regrouped : (header p ++ (longs (program_numbers p) ++ (replicate 3980 0 ++ body p))) ++ table ≡ image_bytes p = simp append_assoc in
+    let regrouped : (header p ++ (longs (program_numbers p) ++ (replicate 3980 0 ++ body p))) ++ table ≡ image_bytes p = behind_front (header p) (longs (program_numbers p)) (replicate 3980 0) (longs (section_numbers p)) (body p) in
     sym regrouped ∙ ap (λ (t : List ℕ). front p ++ t) (sym (append-nil table))
 
 length-header : (p : ImageParts) → length (header p) ≡ 52
@@ -214,7 +215,7 @@ unfolding image_bytes body
 text_part p =
     let rest = replicate (pad 4096 (4096 + length p.text)) 0 ++ (p.init ++ (replicate (pad 4 (init_from p + length p.init)) 0 ++ (p.sites ++ (section_names ++ replicate (pad 4 (names_from p + 38)) 0)))) in
     let before = header p ++ (longs (program_numbers p) ++ replicate 3980 0) in
-    let regrouped : before ++ (p.text ++ (rest ++ longs (section_numbers p))) ≡ image_bytes p = simp append_assoc in
+    let regrouped : before ++ (p.text ++ (rest ++ longs (section_numbers p))) ≡ image_bytes p = behind_tables (header p) (longs (program_numbers p)) (replicate 3980 0) (longs (section_numbers p)) p.text rest in
     let len : length before ≡ 4096 = simp (length-append, length-replicate) (omega (arith, length-header p)) in
     ap (λ (f : List ℕ). part f 4096 (length p.text)) (sym regrouped) ∙ part-middle before p.text (rest ++ longs (section_numbers p)) 4096 (length p.text) len refl
 
@@ -223,7 +224,8 @@ unfolding image_bytes body init_from
 init_part p =
     let rest = replicate (pad 4 (init_from p + length p.init)) 0 ++ (p.sites ++ (section_names ++ replicate (pad 4 (names_from p + 38)) 0)) in
     let before = header p ++ (longs (program_numbers p) ++ (replicate 3980 0 ++ (p.text ++ replicate (pad 4096 (4096 + length p.text)) 0))) in
-    let regrouped : before ++ (p.init ++ (rest ++ longs (section_numbers p))) ≡ image_bytes p = simp append_assoc in
+    let regrouped : before ++ (p.init ++ (rest ++ longs (section_numbers p))) ≡ image_bytes p =
+    behind_text (header p) (longs (program_numbers p)) (replicate 3980 0) (longs (section_numbers p)) p.text (replicate (pad 4096 (4096 + length p.text)) 0) p.init rest in
     let len : length before ≡ init_from p = simp (length-append, length-replicate) (omega (arith, length-header p)) in
     ap (λ (f : List ℕ). part f (init_from p) (length p.init)) (sym regrouped) ∙ part-middle before p.init (rest ++ longs (section_numbers p)) (init_from p) (length p.init) len refl
 
@@ -232,7 +234,8 @@ unfolding image_bytes body init_from sites_from
 sites_part p =
     let rest = section_names ++ replicate (pad 4 (names_from p + 38)) 0 in
     let before = header p ++ (longs (program_numbers p) ++ (replicate 3980 0 ++ (p.text ++ (replicate (pad 4096 (4096 + length p.text)) 0 ++ (p.init ++ replicate (pad 4 (init_from p + length p.init)) 0))))) in
-    let regrouped : before ++ (p.sites ++ (rest ++ longs (section_numbers p))) ≡ image_bytes p = simp append_assoc in
+    let regrouped : before ++ (p.sites ++ (rest ++ longs (section_numbers p))) ≡ image_bytes p =
+    behind_init (header p) (longs (program_numbers p)) (replicate 3980 0) (longs (section_numbers p)) p.text (replicate (pad 4096 (4096 + length p.text)) 0) p.init (replicate (pad 4 (init_from p + length p.init)) 0) p.sites rest in
     let len : length before ≡ sites_from p = simp (length-append, length-replicate) (omega (arith, length-header p)) in
     ap (λ (f : List ℕ). part f (sites_from p) (length p.sites)) (sym regrouped) ∙ part-middle before p.sites (rest ++ longs (section_numbers p)) (sites_from p) (length p.sites) len refl
 
@@ -241,6 +244,7 @@ unfolding image_bytes body init_from sites_from names_from
 names_part p =
     let rest = replicate (pad 4 (names_from p + 38)) 0 in
     let before = header p ++ (longs (program_numbers p) ++ (replicate 3980 0 ++ (p.text ++ (replicate (pad 4096 (4096 + length p.text)) 0 ++ (p.init ++ (replicate (pad 4 (init_from p + length p.init)) 0 ++ p.sites)))))) in
-    let regrouped : before ++ (section_names ++ (rest ++ longs (section_numbers p))) ≡ image_bytes p = simp append_assoc in
+    let regrouped : before ++ (section_names ++ (rest ++ longs (section_numbers p))) ≡ image_bytes p =
+    behind_sites (header p) (longs (program_numbers p)) (replicate 3980 0) (longs (section_numbers p)) p.text (replicate (pad 4096 (4096 + length p.text)) 0) p.init (replicate (pad 4 (init_from p + length p.init)) 0) p.sites section_names rest in
     let len : length before ≡ names_from p = simp (length-append, length-replicate) (omega (arith, length-header p)) in
     ap (λ (f : List ℕ). part f (names_from p) 38) (sym regrouped) ∙ part-middle before section_names (rest ++ longs (section_numbers p)) (names_from p) 38 len refl

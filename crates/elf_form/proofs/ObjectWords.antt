@@ -9,6 +9,7 @@ use Rattle.elf_form.specs.Output.{longs, pad}
 use Rattle.elf_form.specs.ObjectLayout.{next, layout, strings_of, is_of, symbol_table, reloc_table, object_header, object_names, part_sections, table_sections, object_parts, object_tables, object_bytes}
 use Rattle.elf_form.specs.Writable.{IsWritableObject}
 use Rattle.elf_form.proofs.FileWords.{IsRow, AreSmall, row_of}
+use Rattle.elf_form.proofs.AppendLaws.{behind_two, in_one_row}
 use Rattle.elf_form.proofs.RowLaws.{part-middle, row_behind, length-longs}
 use Rattle.elf_form.proofs.ObjectSizes.{ArePlaced}
 use Rattle.elf_form.proofs.ObjectBounds.{length-symbols, length-relocs, length-header, length-parts, length-tables}
@@ -59,7 +60,7 @@ file-front : (o : ObjectParts) → object_bytes o ≡ front o ++ (longs (part_se
 unfolding object_bytes front
 file-front o =
     let table = longs (part_sections o) ++ longs (table_sections o) in
-    let regrouped : (object_header o ++ (object_parts o ++ object_tables o)) ++ table ≡ object_bytes o = simp append_assoc in
+    let regrouped : (object_header o ++ (object_parts o ++ object_tables o)) ++ table ≡ object_bytes o = behind_two (object_header o) (object_parts o) (object_tables o) table in
     sym regrouped
 
 length-front : (o : ObjectParts) → length (front o) ≡ (layout o).sections
@@ -179,8 +180,8 @@ after_text o = replicate (pad 4 (52 + length o.text)) 0 ++ (o.init ++ (replicate
 pub file-text : (o : ObjectParts) → object_bytes o ≡ before_text o ++ (o.text ++ after_text o)
 unfolding object_bytes object_parts object_tables before_text after_text
 file-text o =
-    let regrouped : before_text o ++ (o.text ++ after_text o) ≡ object_bytes o = simp append_assoc in
-    sym regrouped
+    ap (λ (rest : List ℕ). object_header o ++ rest)
+    (in_one_row o.text (replicate (pad 4 (52 + length o.text)) 0) o.init (replicate (pad 4 ((layout o).init + length o.init)) 0) o.sites (replicate (pad 4 ((layout o).sites + length o.sites)) 0) (reloc_table true o.relocs) (reloc_table false o.relocs) (symbol_table o.symbols) (strings_of o.symbols) (replicate (pad 4 ((layout o).strings + length (strings_of o.symbols))) 0) object_names (replicate (pad 4 ((layout o).names + 74)) 0) (longs (part_sections o) ++ longs (table_sections o)))
 
 pub length-before_text : (o : ObjectParts) → length (before_text o) ≡ 52
 unfolding before_text layout next

@@ -4,7 +4,7 @@ use Rattle.elf_form.specs.declared.cause.ElfCause.TheVariants.{Magic, Class, Enc
 use Rattle.elf_form.specs.Faults.{Fault, tested}
 use Rattle.elf_form.specs.Header.{wrong_file}
 use Rattle.elf_form.specs.Stages.{identified}
-use Rattle.elf_form.proofs.TestSteps.{gives_err, test_fails, test_passes}
+use Rattle.elf_form.proofs.TestSteps.{test_fails, test_passes}
 use Rattle.elf_form.proofs.header.identified.Goals as goal
 
 -- where the header is wrong by a cause, and the tests behind one

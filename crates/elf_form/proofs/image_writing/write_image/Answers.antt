@@ -1,13 +1,16 @@
-use Rattle.std.proofs.Common.{◌≡◌, ℕ, ◌≤◌, List, length, subst, append_assoc}
-use Rattle.elf_form.specs.ImageLayout.{image_bytes}
+use Rattle.std.proofs.Common.{◌≡◌, ℕ, ◌≤◌, List, [], length, replicate, subst}
+use Rattle.elf_form.specs.ImageLayout.{header, program_numbers, section_numbers, body, image_bytes}
+use Rattle.elf_form.specs.Output.{longs}
 use Rattle.elf_form.specs.Writable.{HasLongs}
+use Rattle.elf_form.proofs.AppendLaws.{chain_file}
 use Rattle.elf_form.proofs.RoundTrip.{read_again}
 use Rattle.elf_form.proofs.image_writing.write_image.Goals as goal
 
 pub returns-clause-layout : goal.returns-clause-layout
 unfolding image_bytes
 returns-clause-layout c =
-    rw (c.in_ok-put_sections.ensures, c.in_ok-put_body.ensures, c.in_ok-put_zeros.ensures, c.in_ok-put_programs.ensures.bytes, c.in_ok-put_header.ensures.bytes, c.new-out.ensures.items) (simp append_assoc)
+    rw (c.in_ok-put_sections.ensures, c.in_ok-put_body.ensures, c.in_ok-put_zeros.ensures, c.in_ok-put_programs.ensures.bytes, c.in_ok-put_header.ensures.bytes, c.new-out.ensures.items) 
+    (chain_file [] (header c.args.image.now) (longs (program_numbers c.args.image.now)) (replicate 3980 0) (body c.args.image.now) (longs (section_numbers c.args.image.now)))
 
 pub returns-clause-read_back : goal.returns-clause-read_back
 returns-clause-read_back c = λ small.

@@ -1,4 +1,4 @@
-use Rattle.std.proofs.Common.{ℕ, List, [], ◌∷◌, Result}
+use Rattle.std.proofs.Common.{ℕ, List, ◌∷◌, Result}
 use Rattle.elf_form.specs.declared.cause.ElfCause.{ElfCause}
 use Rattle.elf_form.specs.declared.cause.ElfCause.TheVariants.{Sizes}
 use Rattle.elf_form.specs.ObjectParts.{ObjectParts}

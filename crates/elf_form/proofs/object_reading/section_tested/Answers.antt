@@ -1,4 +1,4 @@
-use Rattle.std.proofs.Common.{ℕ, List, [], ◌∷◌, Result, length, arith, ◌^◌}
+use Rattle.std.proofs.Common.{ℕ, List, ◌∷◌, Result, length, arith, ◌^◌}
 use Rattle.elf_form.specs.declared.cause.ElfCause.{ElfCause}
 use Rattle.elf_form.specs.declared.cause.ElfCause.TheVariants.{SectionForm, Compressed, StringPlace}
 use Rattle.elf_form.specs.ObjectParts.{ObjectParts}

@@ -1,5 +1,7 @@
-use Rattle.std.proofs.Common.{length, ap, append_assoc}
-use Rattle.elf_form.specs.ObjectLayout.{object_bytes}
+use Rattle.std.proofs.Common.{length, ap}
+use Rattle.elf_form.specs.ObjectLayout.{object_header, object_parts, object_tables, part_sections, table_sections, object_bytes}
+use Rattle.elf_form.specs.Output.{longs}
+use Rattle.elf_form.proofs.AppendLaws.{chain_file}
 use Rattle.elf_form.proofs.object_writing.put_object.Goals as goal
 
 pub lengths_of-lengths-requires-clause-writable : goal.lengths_of-lengths-requires-clause-writable
@@ -29,7 +31,9 @@ put_table_sections-requires c = record { count = c.requires.writable.count; leng
 pub returns-clause-bytes : goal.returns-clause-bytes
 unfolding object_bytes
 returns-clause-bytes c =
-    rw (c.in_ok-put_table_sections.ensures, c.in_ok-put_part_sections.ensures, c.in_ok-put_tables.ensures.bytes, c.in_ok-put_parts.ensures, c.in_ok-put_header.ensures) (simp append_assoc)
+    let o = c.args.object.now in
+    rw (c.in_ok-put_table_sections.ensures, c.in_ok-put_part_sections.ensures, c.in_ok-put_tables.ensures.bytes, c.in_ok-put_parts.ensures, c.in_ok-put_header.ensures)
+    (chain_file c.args.out.now.items (object_header o) (object_parts o) (object_tables o) (longs (part_sections o)) (longs (table_sections o)))
 
 pub returns-clause-values : goal.returns-clause-values
 returns-clause-values c = c.in_ok-put_tables.ensures.values
