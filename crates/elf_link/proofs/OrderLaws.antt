@@ -215,10 +215,3 @@ module _ (os : List ObjectParts) where
 
   pub start_elsewhere : (t : Target) → first_some (object_refusal os) (numbered os) ≡ None → first_some (relocs_refusal os) (numbered os) ≡ None → start os ≡ Some t → is_text t.place ≡ false → refusal os ≡ Some (record { object = t.object; cause = NotText t.value })
   start_elsewhere t a b h outside = start_last a b ∙ (ap start_refusal h ∙ rw outside refl)
-
--- what the laws of an order take: of an object's causes, of its sites', of the stages
-pub ruleset causes = (text_first, init_second, symbols_third, sites_fourth, names_last)
-
-pub ruleset site_causes = (malformed, past_text, too_many, gaps_wrong, sites_right)
-
-pub ruleset stages = (objects_first, relocs_second, no_start, start_in_text, start_elsewhere)

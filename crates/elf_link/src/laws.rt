@@ -38,7 +38,6 @@ pub fn parts_apart()
 
 /// The text and the data of each object stand at their places in the image, with their fields
 /// filled.
-#[tactic(auto, using(crate::proofs::PlaceLaws::text_stands, crate::proofs::PlaceLaws::init_stands))]
 pub fn parts_stand()
     ensures text { (os : List ObjectParts) (i k : ℕ) (o : ObjectParts) → All IsLinkable os → slice_get os i ≡ Some o
         → k < length o.text → slice_index (linked_text os) (text_at os i + k)
@@ -50,7 +49,6 @@ pub fn parts_stand()
 
 /// A name stands for nothing exactly where no object has a global symbol of that name that it
 /// defines.
-#[tactic(auto, using(crate::proofs::CauseLaws::nowhere, crate::proofs::CauseLaws::found))]
 pub fn names_found()
     ensures nowhere { (os : List ObjectParts) (name : List ℕ) → lookup name (globals os) ≡ None
         → (j k : ℕ) (o : ObjectParts) (s : SymbolView) → slice_get os j ≡ Some o → slice_get o.symbols k ≡ Some s
@@ -63,7 +61,6 @@ pub fn names_found()
 
 /// A relocation is refused for its symbol exactly where that stands for nothing, and else for its
 /// place exactly where it is a relative field in text whose symbol isn't in text.
-#[tactic(auto, using(crate::proofs::CauseLaws::no_symbol, crate::proofs::CauseLaws::not_text))]
 pub fn relocations_refused()
     ensures no_symbol { (gs : List (List ℕ × TargetView)) (i : ℕ) (o : ObjectParts) (r : RelocView) (s : SymbolView)
         → slice_get o.symbols r.symbol ≡ Some s → target_of gs i s ≡ None
@@ -76,7 +73,6 @@ pub fn relocations_refused()
 
 /// A name is told as defined twice exactly where it stands behind itself: it is the first of an
 /// object's names that an object before it, or an earlier symbol of its own, defines too.
-#[tactic(auto, using(crate::proofs::DoubledLaws::doubled_found, crate::proofs::DoubledLaws::doubled_none))]
 pub fn names_doubled()
     ensures found { (others names : List (List ℕ)) (name : List ℕ) → first_doubled others names ≡ Some name
         → IsFirstDoubled others names name }
@@ -96,7 +92,6 @@ pub fn objects_in_order()
 /// What an object is refused for, in this order, over the objects up to and with it, laid out by
 /// themselves: their text with its last jump is above its limit; their data and zeroed bytes are;
 /// they have too many symbols; the object's sites are wrong; it defines a name again.
-#[tactic(auto, using(crate::proofs::OrderLaws::causes))]
 pub fn causes_in_order()
     ensures text { (os : List ObjectParts) (p : ℕ × ObjectParts) → TEXT_LIMIT < text_end (up_to os p) + 2
         → object_cause os p ≡ Some TextTooLarge }
@@ -113,7 +108,6 @@ pub fn causes_in_order()
 /// An object's sites are wrong exactly where their section is malformed, one of them ends behind
 /// the text, there are more than 262,144 in the objects up to and with this one, or a long text
 /// leaves a gap between two of them that can't be written.
-#[tactic(auto, using(crate::proofs::OrderLaws::site_causes))]
 pub fn sites_refused()
     ensures malformed { (os : List ObjectParts) (p : ℕ × ObjectParts) (at : ℕ) → sites_in p.1.sites ≡ Err at → sites_wrong os p ≡ true }
     ensures past_text { (os : List ObjectParts) (p : ℕ × ObjectParts) (sites : SitesView) (k : ℕ) (s : SiteView)
@@ -143,7 +137,6 @@ pub fn relocations_in_order()
 
 /// All objects are tested before any relocation, and all relocations before the entry: `_start`
 /// is refused exactly where it is defined outside text.
-#[tactic(auto, using(crate::proofs::OrderLaws::stages))]
 pub fn stages_in_order()
     ensures objects { (os : List ObjectParts) (r : Refused) → first_some (object_refusal os) (numbered os) ≡ Some r → refusal os ≡ Some r }
     ensures relocations { (os : List ObjectParts) (r : Refused)
