@@ -52,5 +52,3 @@ module _ (p : Piece) (ps : List Piece) where
 
   pub lacking_first : (kind : SiteKind) → p.role ≡ role.Site kind → (is_sti p.role && has_hlt ps) ≡ false → has_nops (max 5 p.len - p.len) ps ≡ false → found_in (p ∷ ps) ≡ record { sites = []; lacking = Some p.at }
   lacking_first kind is unpaired e = look here.Lacks (alone_is kind is unpaired false e)
-
-pub ruleset front = (none_found, insensitive_first, pair_first, alone_first, lacking_first)

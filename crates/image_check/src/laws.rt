@@ -46,7 +46,6 @@ pub fn refused_in_order()
 /// The sites of a text by what stands at its front: an instruction that isn't sensitive makes none;
 /// STI, HLT and three NOPs make one; another sensitive instruction with its NOPs makes one; and one
 /// that lacks them ends the list.
-#[tactic(auto, using(crate::proofs::FrontSites::front))]
 pub fn sites_from_the_front()
     ensures none { found_in [] ≡ record { sites = []; lacking = None } }
     ensures insensitive { (p : PieceView) (ps : List PieceView) → ((kind : KindView) → p.role ≢ role.Site kind)
