@@ -9,7 +9,7 @@ use Rattle.elf_form.proofs.image_writing.write_image.Goals as goal
 pub returns-clause-layout : goal.returns-clause-layout
 unfolding image_bytes
 returns-clause-layout c =
-    rw (c.in_ok-put_sections.ensures, c.in_ok-put_body.ensures, c.in_ok-put_zeros.ensures, c.in_ok-put_programs.ensures.bytes, c.in_ok-put_header.ensures.bytes, c.new-out.ensures.items) 
+    rw (c.in_ok-put_sections.ensures, c.in_ok-put_body.ensures, c.in_ok-put_zeros.ensures, c.in_ok-put_programs.ensures.bytes, c.in_ok-put_header.ensures.bytes, c.new-out.ensures.items)
     (chain_file [] (header c.args.image.now) (longs (program_numbers c.args.image.now)) (replicate 3980 0) (body c.args.image.now) (longs (section_numbers c.args.image.now)))
 
 pub returns-clause-read_back : goal.returns-clause-read_back
