@@ -1,10 +1,10 @@
 -- What is kept may be used again behind the accesses of a step.
 use Rattle.std.proofs.Common.{◌≡◌, ◌⊎◌, ℕ, ◌*◌, ◌/◌, ◌^◌, ◌<◌, ◌≤◌, ◌==◌, List, [], ◌∷◌, length, Bool, true, false, ◌||◌, not, cond, Option, Some, None, refl, sym, ap, subst, ◌∙◌, inl, inr, arith}
-use Rattle.std.proofs.lemmas.Bool.Decides.{eqb_tells, nat_tests}
+use Rattle.std.proofs.lemmas.Bool.Decides.{eqb_tells}
 use Rattle.std.specs.Prelude.{nat_le}
 use Rattle.std.specs.List.{Contains, list_any}
 use Rattle.std.specs.FinMap.{get}
-use Rattle.std.proofs.lemmas.Bool.{or_parts}
+use Rattle.std.proofs.lemmas.Bool.{leb-true, or_parts}
 use Rattle.descriptors.specs.Controls.{pse_of}
 use Rattle.descriptors.specs.declared.cpu.Cpu.{Cpu}
 use Rattle.paging.specs.declared.entry.Entry.{Entry}
@@ -44,7 +44,7 @@ among_guest (x ∷ xs) f a lt = by (nat_le 16384 x) refl (λ h. among_guest xs f
   where
     by : (b : Bool) → nat_le 16384 x ≡ b → (is_among f xs ≡ true → is_among f (guest_frames xs) ≡ true) → is_among f (cond (not b) (x ∷ guest_frames xs) (guest_frames xs)) ≡ true
     by true e rest = elim (eqb_tells f x) [
-      | inl t ↦ let same = t.1 in absurd (let le : 16384 ≤ x = grind (arith, nat_tests, e) in omega (arith, same, le, lt))
+      | inl t ↦ let same = t.1 in absurd (let le = leb-true 16384 x e in omega (arith, same, le, lt))
       | inr n ↦ rest (sym (or_false (f == x) (is_among f xs) n.0) ∙ a)
     ]
     by false e rest = elim (eqb_tells f x) [

@@ -1,6 +1,6 @@
 -- The uses that a look at the next instruction collects, and the search for a clash among them.
 use Rattle.std.proofs.Common.{◌≡◌, ℕ, ◌+◌, ◌*◌, ◌/◌, ◌%◌, ◌==◌, ◌≤◌, ◌<◌, List, [], ◌∷◌, ◌++◌, length, drop, get_or, add-one, Bool, true, false, ◌&&◌, ◌||◌, Option, Some, refl, sym, ap, ◌∙◌, arith}
-use Rattle.std.proofs.lemmas.List.{append-nil, at_drop_more, at_drop_all, get_or-map, length-map, map-append, places}
+use Rattle.std.proofs.lemmas.List.{append-nil, at_drop_more, at_drop_all, get_or-map, length-map, length-take, map-append}
 use Rattle.std.specs.FinMap.{get}
 use Rattle.guest_ram.specs.Among.{is_among}
 use Rattle.board.specs.Scripts.{Events}
@@ -87,7 +87,7 @@ module _ (entries : ℕ → Option Entry) (wp user : Bool) where
 
 few_of : (m : List ℕ) (a n k : ℕ) → n ≤ k → length (part m a n) ≤ k
 unfolding part
-few_of m a n k le = grind (arith, places)
+few_of m a n k le = let e = length-take n (drop a m) in omega (arith, e, le)
 
 -- so many bytes at most
 pub bytes_few : (m : List ℕ) (a n k : ℕ) (xs bytes : List ℕ) → xs ≡ [] → bytes ≡ xs ++ part m a n → n ≤ k → length bytes ≤ k

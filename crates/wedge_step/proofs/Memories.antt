@@ -1,6 +1,6 @@
 -- The guest's memory in the host's, when either changes.
-use Rattle.std.proofs.Common.{◌≡◌, ℕ, ◌+◌, ◌*◌, ◌≤◌, List, [], ◌∷◌, ◌++◌, length, length-drop, take, drop, refl, sym, ap, subst, ◌∙◌, arith}
-use Rattle.std.proofs.lemmas.List.{places, same_lists}
+use Rattle.std.proofs.Common.{◌≡◌, ℕ, ◌+◌, ◌*◌, ◌≤◌, List, [], ◌∷◌, ◌++◌, length, length-drop, take, drop, zero-add, refl, sym, ap, subst, ◌∙◌, arith}
+use Rattle.std.proofs.lemmas.List.{take-take}
 use Rattle.guest_ram.specs.Bytes.{part, with_part}
 use Rattle.guest_ram.proofs.Bytes.{length-part, part-part}
 use Rattle.frame_pool.specs.Pool.{base_of}
@@ -25,7 +25,7 @@ append_both (x ∷ xs) (z ∷ zs) ys ws l e =
 
 pub part_front : (l : List ℕ) (n a k : ℕ) → a + k ≤ n → part (take n l) a k ≡ part l a k
 unfolding part
-part_front l n a k h = same_lists _ _ (grind (arith, places)) (λ j d i. grind (arith, places))
+part_front l n a k h = part-part l 0 n a k h ∙ ap (λ (x : ℕ). part l x k) (zero-add a)
 
 -- what a step leaves of raw memory
 pub record Leaves (count frames : ℕ) (old new : List ℕ) : Type 0 where
@@ -53,27 +53,20 @@ shown_is m bytes first ram e f = ap (λ (k : ℕ). with_part (take (4096 * m.fra
 pub front_same : (n : ℕ) (p p' : Pool) (m m' fs fs' : List ℕ) → n ≤ base_of p → Owns p m fs → Moves p p' m m' fs fs' → take (4096 * n) m' ≡ take (4096 * n) m
 front_same n p p' m m' fs fs' le o v =
     let e = below-same p p' m m' fs fs' o v in
-    take_less (4096 * n) (4096 * base_of p) m' (omega (arith, le)) ∙ (ap (take (4096 * n)) e ∙ sym (take_less (4096 * n) (4096 * base_of p) m (omega (arith, le))))
-  where
-    take_less : (a b : ℕ) (l : List ℕ) → a ≤ b → take a l ≡ take a (take b l)
-    take_less a b l h = same_lists _ _ (grind (arith, places)) (λ k d i. grind (arith, places))
+    sym (take-take (4096 * n) (4096 * base_of p) m' (omega (arith, le))) ∙ (ap (take (4096 * n)) e ∙ take-take (4096 * n) (4096 * base_of p) m (omega (arith, le)))
 
 pub shown_same : (m : Setting) (old new : List ℕ) → take (4096 * m.frames) new ≡ take (4096 * m.frames) old → shown m new ≡ shown m old
 unfolding shown
 shown_same m old new e = ap (λ (l : List ℕ). with_part l 0x100000 m.image.text) e
 
 -- the text is as it was
-front_part : (n a k : ℕ) (l : List ℕ) → a + k ≤ n → part l a k ≡ part (take n l) a k
-unfolding part
-front_part n a k l h = same_lists _ _ (grind (arith, places)) (λ j d i. grind (arith, places))
-
 pub host_same : (m : Setting) (old new : List ℕ) → 0x100000 + length m.image.text ≤ 4096 * m.frames → length new ≡ length old → take (4096 * m.frames) new ≡ take (4096 * m.frames) old → IsHost m old → IsHost m new
 host_same m old new room size e h =
     let fits = h.room in
     let n = length m.image.text in
     record {
       room = omega (arith, size, fits);
-      text = front_part (4096 * m.frames) 0x100000 n new room ∙ (ap (λ (l : List ℕ). part l 0x100000 n) e ∙ (sym (front_part (4096 * m.frames) 0x100000 n old room) ∙ h.text));
+      text = sym (part_front new (4096 * m.frames) 0x100000 n room) ∙ (ap (λ (l : List ℕ). part l 0x100000 n) e ∙ (part_front old (4096 * m.frames) 0x100000 n room ∙ h.text));
     }
 
 pub host_left : (m : Setting) (count : ℕ) (old new : List ℕ) → length m.image.text ≤ 4096 * count → Leaves count m.frames old new → IsHost m old → IsHost m new

@@ -1,7 +1,8 @@
 -- What a view may show, when slots change.
 use Rattle.std.proofs.Common.{◌≡◌, ◌⊎◌, ℕ, ◌/◌, ◌<◌, ◌^◌, Bool, true, false, ◌&&◌, not, inl, inr, refl, sym, ap, subst, ◌∙◌, Option, Some, None, List, arith}
 use Rattle.std.specs.Prelude.{nat_le, ◌==◌}
-use Rattle.std.proofs.lemmas.Bool.Decides.{nat_tests, eqb_tells}
+use Rattle.std.proofs.lemmas.Bool.{eq-eqb, eqb-true, leb-true}
+use Rattle.std.proofs.lemmas.Bool.Decides.{eqb_tells}
 use Rattle.std.specs.Option.{ForSome}
 use Rattle.std.specs.FinMap.{FinMap, get, empty, get-empty}
 use Rattle.std.specs.Ordering.{nat_cmp}
@@ -33,7 +34,7 @@ open_leads image Kernel page frame h =
       | inl given ↦ inl given
       | inr data_page ↦
           let parts = both (nat_le 0x11000 page) (not (is_text (wedge_mode image) frame)) data_page in
-          inr (grind (arith, nat_tests, parts.0), is_not (is_text (wedge_mode image) frame) parts.1)
+          inr (leb-true 0x11000 page parts.0, is_not (is_text (wedge_mode image) frame) parts.1)
     ]
 
 rights : (barred : Bool) (side : Side) (entry : Entry) (wp write : Bool) → lets (filled barred side entry wp) write ≡ true → allows entry (record { write = write; user = is_user side }) wp ≡ true
@@ -100,10 +101,10 @@ turned_open image wp old new gone t h page lt = by (page == gone) refl
   where
     by : (b : Bool) → (page == gone) ≡ b → ForSome (new page) (IsOpenSlot image wp)
     by true e = λ slot there.
-        let same : page ≡ gone = grind (arith, nat_tests, e) in
+        let same = eqb-true page gone e in
         absurd (none_some slot (sym (ap new same ∙ t.there) ∙ there))
     by false e =
-        let other : page ≡ gone → ⊥ = λ same. let f : (page == gone) ≡ true = grind (arith, nat_tests, same) in absurd (let g : true ≡ false = sym f ∙ e in cc) in
+        let other : page ≡ gone → ⊥ = λ same. let f = eq-eqb page gone same in absurd (let g : true ≡ false = sym f ∙ e in cc) in
         subst (λ (o : Option Slot). ForSome o (IsOpenSlot image wp)) (sym (t.others page lt other)) (h page lt)
 
 -- the pages of a directory index are gone

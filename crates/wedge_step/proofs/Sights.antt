@@ -1,9 +1,9 @@
 -- The guest's memory is bytes, also with marks.
 use Rattle.std.proofs.Common.{◌≡◌, ◌⊎◌, inl, inr, ℕ, suc, zero, ◌+◌, ◌-◌, ◌*◌, ◌≤◌, ◌<◌, List, [], ◌∷◌, ◌++◌, length, take, drop, append_assoc, refl, sym, ap, subst, ◌∙◌, arith, bit_or}
-use Rattle.std.proofs.lemmas.List.{length-take-le, places, same_lists}
+use Rattle.std.proofs.lemmas.List.{append-nil, length-take-le}
 use Rattle.std.specs.List.{All}
 use Rattle.guest_ram.specs.Bytes.{AreBytes, byte, part, with_byte, with_part}
-use Rattle.guest_ram.proofs.Bytes.{byte_lt, bytes-part, part-append, bytes-with_part, length-with_part, length-with_byte}
+use Rattle.guest_ram.proofs.Bytes.{byte_lt, bytes-part, part-append, part-part, part-with_part, bytes-with_part, length-with_part, length-with_byte}
 use Rattle.machine_model.specs.State.{Setting}
 use Rattle.native_steps.specs.Looking.{marked}
 use Rattle.native_steps.specs.Mirrors.{shown}
@@ -52,7 +52,7 @@ are_in n k marks e h = subst (λ j. All (λ at. at < j) marks) (sym e) h
 -- bytes behind bytes of a part
 pub part_none : (m xs : List ℕ) (a : ℕ) → xs ≡ xs ++ part m a 0
 unfolding part
-part_none m xs a = sym (same_lists _ _ (grind (arith, places)) (λ j d i. grind (arith, places)))
+part_none m xs a = sym (append-nil xs)
 
 one_part : (m : List ℕ) (a : ℕ) → a < length m → part m a 1 ≡ byte m a ∷ []
 unfolding part byte
@@ -72,11 +72,18 @@ shown_beside m ram at n room fits within beside =
     sym (laid_part m.image.text 256 m.frames ram at n room (record { room = fits; within = within; beside = beside })) ∙ ap (λ (l : List ℕ). part l at n) (shown_is m m.image.text 256 ram refl refl)
 
 laid_within : (bytes : List ℕ) (text frames : ℕ) (ram : List ℕ) (at n : ℕ) → 4096 * frames ≤ length ram → 4096 * text + length bytes ≤ 4096 * frames → 4096 * text ≤ at → at + n ≤ 4096 * text + length bytes
-    → take n (drop (at - 4096 * text) bytes) ≡ part (laid bytes text frames ram) at n
-unfolding part laid with_part
-laid_within bytes text frames ram at n room fits low high = same_lists _ _ (grind (arith, places)) (λ k d i. grind (arith, places))
+    → part bytes (at - 4096 * text) n ≡ part (laid bytes text frames ram) at n
+unfolding laid
+laid_within bytes text frames ram at n room fits low high =
+    let base = take (4096 * frames) ram in
+    let long = length-take-le (4096 * frames) ram room in
+    let whole = with_part base (4096 * text) bytes in
+    let there : 4096 * text + (at - 4096 * text) ≡ at = omega (arith, low) in
+    sym (ap (λ (l : List ℕ). part l (at - 4096 * text) n) (part-with_part base (4096 * text) bytes (length bytes) (omega (arith, long, fits)) refl))
+    ∙ (part-part whole (4096 * text) (length bytes) (at - 4096 * text) n (omega (arith, low, high)) ∙ ap (λ (x : ℕ). part whole x n) there)
 
 pub shown_within : (m : Setting) (ram : List ℕ) (at n : ℕ) → 4096 * m.frames ≤ length ram → 0x100000 + length m.image.text ≤ 4096 * m.frames → 0x100000 ≤ at → at + n ≤ 0x100000 + length m.image.text
     → take n (drop (at - 0x100000) m.image.text) ≡ part (shown m ram) at n
+unfolding part
 shown_within m ram at n room fits low high =
     laid_within m.image.text 256 m.frames ram at n room fits low high ∙ ap (λ (l : List ℕ). part l at n) (shown_is m m.image.text 256 ram refl refl)

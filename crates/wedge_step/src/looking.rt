@@ -1,15 +1,16 @@
 //! What a fetch would read, found without doing its step: by what is kept, and by walks that set nothing. Where the
 //! monitor's rules stop the fetch, nothing is found.
 
-ghost use Rattle.std.specs.Prelude.{◌≡◌, ℕ, ◌+◌, ◌*◌, ◌/◌, ◌%◌, ◌≤◌, ◌<◌, ◌^◌, ◌==◌, ◌&&◌, ◌||◌, ◌++◌, length, true, not, Bool, List, IfSome, bit_or, if◌then◌else◌};
+ghost use Rattle.std.specs.Prelude.{◌≡◌, ℕ, ◌+◌, ◌*◌, ◌/◌, ◌%◌, ◌≤◌, ◌<◌, ◌^◌, ◌==◌, ◌&&◌, ◌||◌, ◌++◌, length, true, not, Bool, List, [], Some, None, IfSome, bit_or, if◌then◌else◌};
+ghost use Rattle.std.specs.FinMap.{get};
 ghost use Rattle.guest_ram.specs.Among.{is_among};
 ghost use Rattle.guest_ram.specs.Bytes.{byte, part};
 ghost use Rattle.ia32_types.specs.declared.addresses.TheConstants.{LAST_PAGE};
 ghost use Rattle.machine_model.specs.Run.{Set};
 ghost use Rattle.machine_model.specs.State.{wedge_mode};
-ghost use Rattle.paging.specs.Fresh.{has};
-ghost use Rattle.paging.specs.Uses.{is_barred, is_text as holds_text};
-ghost use Rattle.native_steps.specs.Looking.{is_front, is_stopped, marked, marks_front, next_seen, seen};
+ghost use Rattle.paging.specs.Fresh.{fresh, has};
+ghost use Rattle.paging.specs.Uses.{is_barred, is_text as holds_text, usable};
+ghost use Rattle.native_steps.specs.Looking.{found_by, is_front, is_stopped, marked, marks_front, next_seen, seen};
 ghost use Rattle.step_mem.specs.Changes.{AreWithin};
 ghost use Rattle.wedge_step.specs.Clashing.{AreIn, looked, marks_of, map_seen, seen_of};
 ghost use Rattle.wedge_step.specs.Looked.{bytes_of, ground_of, looked_at, set_at};
@@ -22,7 +23,7 @@ use ia32_decode::{Bytes, append, front_len};
 use ia32_types::TEXT_FRAME;
 use image_check::Checked;
 use native_steps::uses_are_seen;
-use paging::{Access, Walk, allows, grants};
+use paging::{Access, Entry, Walk, allows, grants};
 use shadow_tables::Shadows;
 
 /// The places of the two bytes in which a walk sets the accessed flag.
@@ -73,35 +74,64 @@ fn is_stopped(
     is_barred(image, access.user, page, frame) || reads_text(image, dir_at, word_at)
 }
 
-/// Where a fetch of the page leads.
+/// The entry that is kept for a page, if it lets the access pass.
 #[inline(always)]
-pub(crate) fn fetched<S: Shadows>(
-    cpu: &Cpu,
+fn usable<S: Shadows>(
     shadows: &S,
     view: &GuestView<'_>,
     page: u32,
-) -> Option<Seen>
+    access: Access,
+    wp: bool,
+) -> Option<Entry>
     requires stands { ∥ S.stands shadows.now view.now.ram.now ∥₁ }
     requires kept { AreWithin view.now.frames (set_at S.Shadows shadows.now view.now) }
     requires page { page < 2 ^ 20 }
-    ensures seen { map_seen result ≡ seen (ground_of view.now) (looked_at S.Shadows cpu.now shadows.now view.now) page }
+    ensures usable { result ≡ usable (get (set_at S.Shadows shadows.now view.now) page) access wp }
+    ensures frame { IfSome result (λ entry. entry.frame < view.now.frames) }
+{
+    match shadows.kept(view.ram, page) {
+        None => None,
+        Some(entry) => {
+            if !allows(&entry, access, wp) {
+                return None;
+            }
+            Some(entry)
+        }
+    }
+}
+
+/// Where an entry leads a fetch that may use it.
+#[inline(always)]
+fn by_entry(view: &GuestView<'_>, user: bool, page: u32, frame: u32) -> Option<Seen>
+    requires frame { frame < view.now.frames }
+    ensures seen { map_seen result ≡ (if is_barred (wedge_mode view.now.image.now) true user page frame then None
+        else Some (record { frame = frame; marks = [] })) }
     ensures marks { IfSome result (λ s. AreIn view.now.frames (marks_of s.marks)) }
     ensures frame { IfSome result (λ s. s.frame < view.now.frames) }
 {
-    let access = by_level(cpu, false);
-    let wp = cpu.wp();
-    if let Some(entry) = shadows.kept(view.ram, page)
-        && allows(&entry, access, wp)
-    {
-        if is_barred(view.image, access.user, page, entry.frame) {
-            return None;
-        }
-        return Some(Seen {
-            frame: entry.frame,
-            marks: None,
-        });
+    if is_barred(view.image, user, page, frame) {
+        return None;
     }
-    match walk(view, cpu.cr3, cpu.pse(), page) {
+    Some(Seen { frame, marks: None })
+}
+
+/// Where a walk leads a fetch.
+#[inline(always)]
+fn by_walk(
+    view: &GuestView<'_>,
+    cr3: u32,
+    pse: bool,
+    page: u32,
+    access: Access,
+    wp: bool,
+) -> Option<Seen>
+    requires page { page < 2 ^ 20 }
+    ensures seen { map_seen result ≡ found_by (wedge_mode view.now.image.now) page access wp
+        (fresh (bytes_of view.now) view.now.frames cr3 pse page) }
+    ensures marks { IfSome result (λ s. AreIn view.now.frames (marks_of s.marks)) }
+    ensures frame { IfSome result (λ s. s.frame < view.now.frames) }
+{
+    match walk(view, cr3, pse, page) {
         Walk::Absent => None,
         Walk::Beyond => None,
         Walk::Reserved => None,
@@ -125,6 +155,29 @@ pub(crate) fn fetched<S: Shadows>(
                 marks: Some(marks),
             })
         }
+    }
+}
+
+/// Where a fetch of the page leads.
+#[inline(always)]
+pub(crate) fn fetched<S: Shadows>(
+    cpu: &Cpu,
+    shadows: &S,
+    view: &GuestView<'_>,
+    page: u32,
+) -> Option<Seen>
+    requires stands { ∥ S.stands shadows.now view.now.ram.now ∥₁ }
+    requires kept { AreWithin view.now.frames (set_at S.Shadows shadows.now view.now) }
+    requires page { page < 2 ^ 20 }
+    ensures seen { map_seen result ≡ seen (ground_of view.now) (looked_at S.Shadows cpu.now shadows.now view.now) page }
+    ensures marks { IfSome result (λ s. AreIn view.now.frames (marks_of s.marks)) }
+    ensures frame { IfSome result (λ s. s.frame < view.now.frames) }
+{
+    let access = by_level(cpu, false);
+    let wp = cpu.wp();
+    match usable(shadows, view, page, access, wp) {
+        Some(entry) => by_entry(view, access.user, page, entry.frame),
+        None => by_walk(view, cpu.cr3, cpu.pse(), page, access, wp),
     }
 }
 

@@ -1,4 +1,4 @@
-use Rattle.std.proofs.Common.{◌≡◌, ℕ, ◌+◌, ◌≤◌, Bool, true, length, ap, sym, subst, ◌∙◌, arith}
+use Rattle.std.proofs.Common.{◌≡◌, ℕ, ◌+◌, ◌*◌, ◌^◌, ◌<◌, ◌≤◌, Bool, true, length, ap, sym, subst, ◌∙◌, arith}
 use Rattle.board.specs.Boards.{board_step}
 use Rattle.descriptors.specs.declared.cpu.Cpu.{Cpu}
 use Rattle.descriptors.specs.Controls.{wp_of}
@@ -21,8 +21,26 @@ use Rattle.wedge_step.specs.Parts.{left_of}
 use Rattle.wedge_step.proofs.Leaving.{ended}
 use Rattle.wedge_step.proofs.single.finish_step.Goals as goal
 
+-- ---- counts, apart from all else that is known
+
+still_enough : (n old new : ℕ) → n ≤ old → new ≡ old → n ≤ new
+still_enough n old new h e = omega (arith, h, e)
+
+lies_low : (frames k base then : ℕ) → 4096 * k ≤ 4096 * base → then ≡ base → frames ≡ k → frames ≤ then
+lies_low frames k base then below same is = omega (arith, below, same, is)
+
+two_free : (free held room : ℕ) → free + held ≡ room → held + 2 ≤ room → 2 ≤ free
+two_free free held room e h = omega (arith, e, h)
+
+fills_small : (fills step : ℕ) → fills ≤ 128 * step → step < 2 ^ 40 → fills ≤ 2 ^ 48
+fills_small fills step h lt = omega (arith, h, lt)
+
+-- a step fills at most 128 pages
+fills_rise : (old new then mid step : ℕ) → new ≤ old + 128 → then ≡ mid + 1 → mid ≡ step → old ≤ 128 * step → new ≤ 128 * then
+fills_rise old new then mid step more next same h = omega (arith, more, next, same, h)
+
 pub drop_and_switch-left-requires-clause-enough : goal.drop_and_switch-left-requires-clause-enough
-drop_and_switch-left-requires-clause-enough g c = let e = c.requires.counts.enough in let l = c.fill_used.ensures.moved.moves.lengths in omega (arith, e, l)
+drop_and_switch-left-requires-clause-enough g c = still_enough 4 _ _ c.requires.counts.enough c.fill_used.ensures.moved.moves.lengths
 
 pub returns-clause-left : goal.returns-clause-left
 returns-clause-left g c = λ back. left_twice c.args.worked.now.dropped _ _ _ _ _ c.fill_used.ensures.left (c.drop_and_switch-left.ensures.left back)
@@ -48,7 +66,7 @@ returns-clause-ready g c = λ m frames is has_tables_under h.
     let wp : wp_of mid.cpu ≡ state.control.wp = ap wp_of cpu_is ∙ sym c.requires.worked.rules in
     let below = c.requires.under.sound.below in
     let same = c.fill_used.ensures.moved.moves.same.0 in
-    let low : m.frames ≤ base_of c.fill_used.new.pool = omega (arith, below, same, frames) in
+    let low = lies_low m.frames _ _ _ below same frames in
     let opened_mid = subst (λ (b : Bool). AreOpen m.image b (g.S.Shadows.slots mid.shadows c.fill_used.new.ram)) (sym wp) (c.fill_used.ensures.shows m.image is has_tables_under) in
     let ready = c.fill_used.ensures.ready (leaving d pages) m old.cpu frames h in
     let there = λ (page : ℕ). leaving_through d state.visited state.changes c.as_slice.result.now c.requires.under.sound.told c.as_slice.ensures page in
@@ -76,7 +94,7 @@ returns-clause-ends g c = λ w may indices all o room.
     let set = changed (entries_of (slots old.shadows c.args.ram.now)) state.changes in
     let unlost = (k.whole may).0 in
     let there = λ (page : ℕ). among_through state.visited state.changes c.as_slice.result.now c.requires.under.sound.told c.as_slice.ensures page in
-    let enough : 2 ≤ length (free_list c.fill_used.new.pool c.fill_used.new.ram) = (let l = k.moved.moves.lengths in let r = room mid.shadows c.fill_used.new.ram k.moved.stands (k.has_tables_under indices all o) in omega (arith, l, r)) in
+    let enough : 2 ≤ length (free_list c.fill_used.new.pool c.fill_used.new.ram) = two_free _ _ _ k.moved.moves.lengths (room mid.shadows c.fill_used.new.ram k.moved.stands (k.has_tables_under indices all o)) in
     ended c.args.worked.now.dropped old.cpu mid.cpu c.args.worked.now.cpu pages _ state.tables state.wrote set
     (sight g.S.Shadows old.shadows c.args.ram.now) (sight g.S.Shadows mid.shadows c.fill_used.new.ram) (sight g.S.Shadows new.shadows new.ram)
     (ap (λ (r : Running g.row.S.Denot). r.cpu) k.same.same) k.told.same_cr3 (λ page. sym (there page)) (k.left ∙ ap (λ (b : Bool). left_of b set) unlost) (k.told.tells unlost)
@@ -86,7 +104,7 @@ pub fill_used-requires-clause-under : goal.fill_used-requires-clause-under
 fill_used-requires-clause-under g c = c.requires.under
 
 pub fill_used-requires-clause-fills : goal.fill_used-requires-clause-fills
-fill_used-requires-clause-fills g c = (let f = c.requires.counts.fills in let b = c.requires.counts.bound in omega (arith, f, b))
+fill_used-requires-clause-fills g c = fills_small _ _ c.requires.counts.fills c.requires.counts.bound
 
 pub drop_and_switch-left-requires-clause-owned : goal.drop_and_switch-left-requires-clause-owned
 drop_and_switch-left-requires-clause-owned g c = let m = c.fill_used.ensures.moved in record { stands = m.stands; owns = m.owns }
@@ -105,7 +123,7 @@ returns-clause-counts g c =
     let f = c.requires.counts.fills in
     record {
       counted = held_by _ _ _ _ _ _ _ (c.free.ensures.count c.fill_used.new.ram) c.fill_used.ensures.counts.counted (c.free-2.ensures.count c.drop_and_switch-left.new.ram) c.drop_and_switch-left.ensures.moved.moves.lengths;
-      fills = omega (arith, k, s, mid, f);
+      fills = fills_rise _ _ _ _ _ k s mid f;
       exact = λ unlost.
           let old = c.args.running.now in let mid = c.fill_used.new.running in
           unlost_first (λ (lost : Bool). (n : ℕ) × (mid.fills ≡ old.fills + n) × HasFilled g.S.Shadows lost (scene old c.args.pool.now c.args.ram.now) c.args.state.now n)

@@ -40,6 +40,9 @@ use Rattle.wedge_step.proofs.StepReady.{Steps, went_ready}
 use Rattle.wedge_step.proofs.single.step_alone.Given.{Over}
 use Rattle.wedge_step.proofs.single.step_alone.Goals as goal
 
+frames_behind : (frames base : ℕ) → frames ≤ base → 4096 * frames ≤ 4096 * base
+frames_behind frames base h = omega (arith, h)
+
 pub returns-in-Err-clause-step : goal.returns-in-Err-clause-step
 returns-in-Err-clause-step g c = λ script.
     let running = c.args.running.now in
@@ -83,7 +86,7 @@ module _ (g : Over) (c : goal.After-worked-1 g) where
   a =
       let hid = sym (c.begin_over.ensures.hides n ram1)
       ∙ (subst (λ (k : ℕ). laying.hidden c.begin_over.new.state.guard k ram1 ≡ laying.hidden c.begin_over.new.state.guard k ram0) c.begin_over.ensures.frames c.step_in-outcome.ensures.hidden ∙ c.begin_over.ensures.hides n ram0) in
-      let fits1 : 4096 * n ≤ length ram1 = (let q = c.step_in-outcome.ensures.sound.frames_in in omega (arith, q, frames1)) in
+      let fits1 : 4096 * n ≤ length ram1 = subst (λ (k : ℕ). 4096 * k ≤ length ram1) frames1 c.step_in-outcome.ensures.sound.frames_in in
       after g.S.Shadows g.met.S.Shadows.above g.met.S.Shadows.same_frames g.met.S.Shadows.same_slots g.met.S.Shadows.same_entries image running c.args.pool.now ram0 ram1 256 (text_pages image) c.requires.between.held fits1
       refl refl hid
 
@@ -186,7 +189,7 @@ returns-in-Ok-clause-carried g c = λ script steps t unwanted free roomy taken b
     (rw c.in-Ok.is at c.step_in-outcome.ensures.uses) (ap (λ (x : Space). x.visited) c.begin_over.ensures.space) (ap (λ (x : Space). x.mode) c.begin_over.ensures.space) sound.within (omega (arith, pages, most)) (c.finish_step.ensures.ends unwanted)
 
 pub begin_over-requires-clause-below : goal.begin_over-requires-clause-below
-begin_over-requires-clause-below g c = (let h = c.requires.between.held.behind in omega (arith, h))
+begin_over-requires-clause-below g c = frames_behind _ _ c.requires.between.held.behind
 
 pub begin_over-requires-clause-within : goal.begin_over-requires-clause-within
 begin_over-requires-clause-within g c = c.requires.between.held.within
@@ -254,9 +257,9 @@ returns-in-Err-clause-accounts g c =
     let frames1 : state1.control.frames ≡ n = ap (λ (k : Control). k.frames) c.step_in-outcome.ensures.control ∙ c.begin_over.ensures.frames in
     let hid = sym (c.begin_over.ensures.hides n ram1)
     ∙ (subst (λ (k : ℕ). laying.hidden c.begin_over.new.state.guard k ram1 ≡ laying.hidden c.begin_over.new.state.guard k ram0) c.begin_over.ensures.frames c.step_in-outcome.ensures.hidden ∙ c.begin_over.ensures.hides n ram0) in
-    let fits1 : 4096 * n ≤ length ram1 = (let q = c.step_in-outcome.ensures.sound.frames_in in omega (arith, q, frames1)) in
+    let fits1 : 4096 * n ≤ length ram1 = subst (λ (k : ℕ). 4096 * k ≤ length ram1) frames1 c.step_in-outcome.ensures.sound.frames_in in
     let left = step_leaves image n 256 (text_pages image) ram0 ram1 held.wedge.room held.host.room fits1 refl refl hid in
-    let behind : 4096 * n ≤ 4096 * base_of c.args.pool.now = (let h = held.behind in omega (arith, h)) in
+    let behind : 4096 * n ≤ 4096 * base_of c.args.pool.now = frames_behind _ _ held.behind in
     let same = g.met.S.Shadows.above running.shadows c.args.pool.now ram0 ram1 (4096 * n) held.owns behind left.above left.size in
     let frames_same = g.met.S.Shadows.same_frames running.shadows ram0 ram1 held.stand same in
     let fs = g.S.Shadows.frames running.shadows ram0 in
