@@ -1,4 +1,4 @@
-use Rattle.std.proofs.Common.{◌≡◌, Bool, true, false, cond, Option, None, Some, sym, ap, ◌∙◌}
+use Rattle.std.proofs.Common.{◌≡◌, Bool, true, false, cond, Option, None, Some, sym, ap, ◌∙◌, arith}
 use Rattle.paging.specs.declared.entry.Access.{Access}
 use Rattle.paging.specs.declared.entry.Entry.{Entry}
 use Rattle.paging.specs.Fresh.{allows}
@@ -25,3 +25,15 @@ returns-then-not-allows-clause-usable g c =
 pub returns-else-not-allows-clause-usable : goal.returns-else-not-allows-clause-usable
 returns-else-not-allows-clause-usable g c =
     tested c.in-Some.entry c.args.access c.args.wp true (sym c.if-not-allows.false ∙ c.allows.ensures) ∙ by (Some c.in-Some.entry) _ c.args.access c.args.wp c.in-Some.ensures.entries
+
+pub returns-in-None-clause-frame : goal.returns-in-None-clause-frame
+returns-in-None-clause-frame g c = tt
+
+pub returns-then-not-allows-clause-frame : goal.returns-then-not-allows-clause-frame
+returns-then-not-allows-clause-frame g c = tt
+
+pub returns-else-not-allows-clause-frame : goal.returns-else-not-allows-clause-frame
+returns-else-not-allows-clause-frame g c = (c.requires.kept c.args.page c.in-Some.entry (sym c.in-Some.ensures.entries)).1
+
+pub allows-requires : goal.allows-requires
+allows-requires g c = let fits = c.in-Some.ensures.fits in let page = c.requires.page in record { page = omega (arith, fits, page); frame = fits.1 }

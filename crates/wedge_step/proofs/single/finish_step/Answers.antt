@@ -35,6 +35,13 @@ two_free free held room e h = omega (arith, e, h)
 fills_small : (fills step : ℕ) → fills ≤ 128 * step → step < 2 ^ 40 → fills ≤ 2 ^ 48
 fills_small fills step h lt = omega (arith, h, lt)
 
+-- the frames that are free and those that are held
+all_fit : (count free held frames free2 frames2 : ℕ) → count ≡ free → held ≡ frames → free + frames ≡ free2 + frames2 → free2 + frames2 < 2 ^ 32 → count + held < 2 ^ 32
+all_fit count free held frames free2 frames2 e h same few = omega (arith, e, h, same, few)
+
+all_but : (count free held frames count2 free2 frames2 : ℕ) → count ≡ free → held ≡ frames → count2 ≡ free2 → free2 + frames2 ≡ free + frames → count2 ≤ count + held
+all_but count free held frames count2 free2 frames2 e h f same = omega (arith, e, h, f, same)
+
 -- a step fills at most 128 pages
 fills_rise : (old new then mid step : ℕ) → new ≤ old + 128 → then ≡ mid + 1 → mid ≡ step → old ≤ 128 * step → new ≤ 128 * then
 fills_rise old new then mid step more next same h = omega (arith, more, next, same, h)
@@ -139,3 +146,13 @@ returns-clause-passes g c = record {
   frames = ap (λ (r : Running g.row.S.Denot). r.frames) c.fill_used.ensures.same.same;
   before = c.fill_used.ensures.same.before;
 }
+
+pub overflow_add-all : goal.overflow_add-all
+overflow_add-all g c =
+    let fit = all_fit _ _ _ _ _ _ (c.free.ensures.count c.fill_used.new.ram) c.fill_used.ensures.counts.counted c.fill_used.ensures.moved.moves.lengths c.requires.under.few in
+    omega (arith, fit)
+
+pub overflow_sub-running : goal.overflow_sub-running
+overflow_sub-running g c =
+    let low = all_but _ _ _ _ _ _ _ (c.free.ensures.count c.fill_used.new.ram) c.fill_used.ensures.counts.counted (c.free-2.ensures.count c.drop_and_switch-left.new.ram) c.drop_and_switch-left.ensures.moved.moves.lengths in
+    omega (arith, low)

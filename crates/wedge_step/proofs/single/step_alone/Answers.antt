@@ -1,4 +1,4 @@
-use Rattle.std.proofs.Common.{◌≡◌, ℕ, ◌*◌, ◌≤◌, Bool, true, List, [], length, refl, sym, ap, subst, ◌∙◌, arith}
+use Rattle.std.proofs.Common.{◌≡◌, ℕ, ◌+◌, ◌*◌, ◌≤◌, Bool, true, List, [], length, refl, sym, ap, subst, ◌∙◌, arith}
 use Rattle.guest_ram.specs.Bytes.{AreBytes}
 use Rattle.wedge_step.proofs.Widening.{Widens}
 use Rattle.wedge_step.proofs.CarriedStep.{went_on}
@@ -10,7 +10,7 @@ use Rattle.shadow_tables.specs.Entries.{entries_of}
 use Rattle.step_mem.specs.Changes.{AreWithin, changed}
 use Rattle.step_mem.specs.Shown as laying
 use Rattle.step_mem.specs.declared.walking.Control.{Control}
-use Rattle.wedge_mem.specs.Owned.{first, owns}
+use Rattle.wedge_mem.specs.Owned.{both, first, owns}
 use Rattle.step_mem.specs.Sound.{space_at}
 use Rattle.machine_model.specs.State.{wedge, wedge_mode}
 use Rattle.native_steps.specs.Mirrors.{shown}
@@ -18,7 +18,7 @@ use Rattle.wedge_step.specs.Standing.{AreOpen, IsHeld, state_of, ground}
 use Rattle.wedge_step.proofs.Alones.{alone_from, began}
 use Rattle.wedge_step.proofs.Opening.{same_open}
 use Rattle.wedge_step.proofs.Keeping.{keeps_above}
-use Rattle.wedge_step.proofs.Memories.{step_leaves, shown_is, front_same, shown_same}
+use Rattle.wedge_step.proofs.Memories.{step_leaves, shown_is, front_same, shown_same, text_within}
 use Rattle.wedge_step.proofs.Filling.{fills_same, fills_join}
 use Rattle.board.specs.Scripts.{Events}
 use Rattle.image_check.specs.Image.{Image}
@@ -39,6 +39,9 @@ use Rattle.wedge_step.proofs.Stays.{kept_same}
 use Rattle.wedge_step.proofs.StepReady.{Steps, went_ready}
 use Rattle.wedge_step.proofs.single.step_alone.Given.{Over}
 use Rattle.wedge_step.proofs.single.step_alone.Goals as goal
+
+text_laid : (n pages frames : ℕ) → n ≤ 4096 * pages → 0x100 + pages ≤ frames → 0x100000 + n ≤ 4096 * frames
+text_laid n pages frames few room = omega (arith, few, room)
 
 frames_behind : (frames base : ℕ) → frames ≤ base → 4096 * frames ≤ 4096 * base
 frames_behind frames base h = omega (arith, h)
@@ -319,3 +322,21 @@ returns-in-Ok-clause-between g c =
 
 pub returns-in-Err-clause-between : goal.returns-in-Err-clause-between
 returns-in-Err-clause-between g c = tt
+
+-- ---- what the calls ask for
+
+pub begin_over-requires-clause-frames : goal.begin_over-requires-clause-frames
+begin_over-requires-clause-frames g c = c.requires.between.held.host.room
+
+pub begin_over-requires-clause-stands : goal.begin_over-requires-clause-stands
+begin_over-requires-clause-stands g c = both c.requires.between.held.stand c.requires.between.held.owns
+
+pub begin_over-requires-clause-text : goal.begin_over-requires-clause-text
+begin_over-requires-clause-text g c = c.requires.text
+
+pub are_bytes-requires-clause-frames : goal.are_bytes-requires-clause-frames
+are_bytes-requires-clause-frames g c =
+    subst (λ (k : ℕ). 4096 * k ≤ length c.step_in-outcome.new.ram) (ap (λ (k : Control). k.frames) c.step_in-outcome.ensures.control ∙ c.begin_over.ensures.frames) c.step_in-outcome.ensures.sound.frames_in
+
+pub are_bytes-requires-clause-laid : goal.are_bytes-requires-clause-laid
+are_bytes-requires-clause-laid g c = text_laid _ _ _ (text_within c.args.image.now) c.requires.between.held.wedge.room
