@@ -1,7 +1,7 @@
 -- The memory in which a guest starts, behind which its pool was made.
 use Rattle.std.proofs.Common.{◌≡◌, ℕ, ◌*◌, ◌≤◌, List, length, take, replicate, refl, sym, ap, ◌∙◌, inl, arith}
 use Rattle.std.proofs.Math.ListN.{length-replicate}
-use Rattle.std.proofs.lemmas.List.{places}
+use Rattle.std.proofs.lemmas.List.{length-append, length-drop, length-take}
 use Rattle.std.specs.FinMap.{empty}
 use Rattle.descriptors.specs.declared.cpu.Cpu.{Cpu}
 use Rattle.guest_ram.specs.Bytes.{part, with_part}
@@ -22,7 +22,7 @@ use Rattle.wedge_mem.proofs.Below.{frames-same}
 
 grows : (m : List ℕ) (a : ℕ) (bs : List ℕ) → length m ≤ length (with_part m a bs)
 unfolding with_part
-grows m a bs = grind (arith, places)
+grows m a bs = simp (length-append, length-drop, length-take) (omega arith)
 
 reaches : (n : ℕ) (m : List ℕ) (a : ℕ) (bs : List ℕ) → n ≤ length m → n ≤ length (with_part m a bs)
 reaches n m a bs le = let g = grows m a bs in omega (arith, le, g)

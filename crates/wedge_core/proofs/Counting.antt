@@ -1,6 +1,6 @@
 -- A step that the host has no part in counts nothing.
 use Rattle.std.proofs.Common.{◌≡◌, ◌⊎◌, inl, inr, ℕ, ◌+◌, ◌-◌, ◌*◌, ◌%◌, ◌^◌, ◌≤◌, ◌==◌, Bool, true, false, cond, not, ◌&&◌, ◌||◌, refl, sym, ap, ◌∙◌, List, [], ◌∷◌, ◌++◌, length, Option, Some, None, Ok, Err, is_some, is_none, nat_le, nat_lt, arith}
-use Rattle.std.proofs.lemmas.Bool.Decides.{nat_tests}
+use Rattle.std.proofs.lemmas.Bool.{and_from, and_parts, le-leb, leb-true, lt-leb, lt-ltb, ltb-false, ltb-true}
 use Rattle.std.specs.List.{find}
 use Rattle.guest_ram.specs.Among.{is_among}
 use Rattle.sites.specs.declared.site.Site.{Site}
@@ -55,10 +55,10 @@ placed false true None e = absurd (let f : true ≡ false = e in cc)
 placed false true (Some s) e = inr (inr (refl, (s, refl)))
 
 not_above : (eip : ℕ) → nat_lt eip 0x10000000 ≡ true → nat_le 0x10000000 eip ≡ false
-not_above eip e = grind (arith, nat_tests)
+not_above eip e = lt-leb 0x10000000 eip (ltb-true eip 0x10000000 e)
 
 not_below : (eip : ℕ) → nat_lt eip 0x10000000 ≡ false → 0x10000000 ≤ eip
-not_below eip e = grind (arith, nat_tests)
+not_below eip e = ltb-false eip 0x10000000 e
 
 -- ---- a start
 
@@ -75,7 +75,11 @@ no_stand m b mode level e =
 -- ---- a site
 
 lies : (s : Site) (eip : ℕ) → 0x10000000 ≤ eip → lies_in (eip - 0x10000000) s ≡ true → (nat_le (0x10000000 + s.at) eip && nat_lt eip (0x10000000 + s.at + s.total)) ≡ true
-lies s eip above e = grind (arith, nat_tests)
+lies s eip above e =
+    let tests = and_parts (nat_le s.at (eip - 0x10000000)) (nat_lt (eip - 0x10000000) (s.at + s.total)) e in
+    let from = leb-true s.at (eip - 0x10000000) tests.0 in
+    let to = ltb-true (eip - 0x10000000) (s.at + s.total) tests.1 in
+    and_from (nat_le (0x10000000 + s.at) eip) (nat_lt eip (0x10000000 + s.at + s.total)) (le-leb (0x10000000 + s.at) eip (omega (arith, above, from))) (lt-ltb eip (0x10000000 + s.at + s.total) (omega (arith, above, to)))
 
 in_some : (sites : List Site) (eip : ℕ) (s : Site) → 0x10000000 ≤ eip → find (lies_in (eip - 0x10000000)) sites ≡ Some s → is_site_at sites eip ≡ true
 in_some [] eip s above e = absurd (let f : ◌≡◌ {A = Option Site} None (Some s) = e in cc)

@@ -1,11 +1,11 @@
 -- Notes of the steps before which all translations were dropped, as they are told one behind the other.
 use Rattle.std.proofs.Common.{◌≡◌, ℕ, ◌+◌, ◌≤◌, ◌<◌, Bool, true, false, ◌==◌, ◌&&◌, ◌||◌, cond, nat_le, List, [], ◌∷◌, ◌++◌, length, refl, sym, ap, subst, ◌∙◌, inl, inr, arith}
 use Rattle.std.specs.List.{list_any, filter, All}
-use Rattle.std.proofs.lemmas.Bool.Decides.{eqb_tells, nat_tests}
+use Rattle.std.proofs.lemmas.Bool.Decides.{eqb_tells}
 use Rattle.std.proofs.lemmas.List.Elements.{All-nil, All-cons, All-head, All-tail, All-append, All-weaker, filter-append}
 use Rattle.std.proofs.lemmas.List.Folds.{list_any-append}
 use Rattle.std.proofs.Common.{length-append}
-use Rattle.std.proofs.lemmas.Bool.{and_parts}
+use Rattle.std.proofs.lemmas.Bool.{and_from, and_parts, le-leb, ne_eqb}
 use Rattle.run_trace.specs.Notes.{Note, emptied_at, dropped_at}
 use Rattle.machine_model.specs.Run.{Set}
 use Rattle.machine_model.specs.Notes.{step_in, is_emptied, is_dropped, without, set_told, is_ordered, IsPage}
@@ -51,14 +51,8 @@ up_to_if false n = All-nil (IsUpTo n)
 pub up_to_more : (b : Bool) (n : ℕ) (notes : List Note) → All (IsUpTo n) notes → All (IsUpTo n) (notes ++ emptied_if b n)
 up_to_more b n notes h = All-append (IsUpTo n) notes (emptied_if b n) h (up_to_if b n)
 
-le_true : (a b : ℕ) → a ≤ b → nat_le a b ≡ true
-le_true a b le = grind (arith, nat_tests, le)
-
-and_true : (a b : Bool) → a ≡ true → b ≡ true → (a && b) ≡ true
-and_true a b p q = ap (λ (x : Bool). x && b) p ∙ q
-
 low_first : (b : Bool) (low n : ℕ) → low ≤ n → is_ordered low (emptied_if b n) ≡ true
-low_first true low n le = and_true (nat_le low n) true (le_true low n le) refl
+low_first true low n le = and_from (nat_le low n) true (le-leb low n le) refl
 low_first false low n le = refl
 
 step_up_to : (n : ℕ) (note : Note) → IsUpTo n note → step_in note ≤ n
@@ -68,7 +62,7 @@ step_up_to n (dropped_at step page) h = absurd h
 ordered_more : (b : Bool) (low n : ℕ) (notes : List Note) → low ≤ n → All (IsUpTo n) notes → is_ordered low notes ≡ true → is_ordered low (notes ++ emptied_if b n) ≡ true
 ordered_more b low n [] le up h = low_first b low n le
 ordered_more b low n (x ∷ xs) le up h =
-    and_true (nat_le low (step_in x)) (is_ordered (step_in x) (xs ++ emptied_if b n)) (and_parts (nat_le low (step_in x)) (is_ordered (step_in x) xs) h).0
+    and_from (nat_le low (step_in x)) (is_ordered (step_in x) (xs ++ emptied_if b n)) (and_parts (nat_le low (step_in x)) (is_ordered (step_in x) xs) h).0
     (ordered_more b (step_in x) n xs (step_up_to n x (All-head (IsUpTo n) x xs up)) (All-tail (IsUpTo n) x xs up) (and_parts (nat_le low (step_in x)) (is_ordered (step_in x) xs) h).1)
 
 -- ---- how many there are of a step
@@ -87,10 +81,10 @@ count_if true s n =
 count_if false s n = omega arith
 
 not_equal : (a b : ℕ) → a < b → (a == b) ≡ false
-not_equal a b lt = grind (arith, nat_tests, lt)
+not_equal a b lt = ne_eqb a b (λ e. omega (arith, e, lt))
 
 not_same : (a b : ℕ) → b < a → (a == b) ≡ false
-not_same a b lt = grind (arith, nat_tests, lt)
+not_same a b lt = ne_eqb a b (λ e. omega (arith, e, lt))
 
 count_other : (b : Bool) (s n : ℕ) → (n == s) ≡ false → notes_of s (emptied_if b n) ≡ 0
 count_other true s n o = ap (λ (x : Bool). length (cond {A = List Note} x (emptied_at n ∷ []) [])) o

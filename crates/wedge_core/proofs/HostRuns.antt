@@ -1,8 +1,7 @@
 -- A run of the host: how many instructions it completes at most, and that a jump into the window lies below its end.
 use Rattle.std.proofs.Common.{◌≡◌, ℕ, ◌+◌, ◌*◌, ◌≤◌, ◌<◌, true, List, length, Ok, Err, refl, sym, subst, inl, inr, arith}
 use Rattle.std.specs.Prelude.{nat_le, nat_lt}
-use Rattle.std.proofs.lemmas.Bool.Decides.{nat_tests}
-use Rattle.std.proofs.lemmas.Bool.{and_parts}
+use Rattle.std.proofs.lemmas.Bool.{and_parts, ltb-true}
 use Rattle.frame_pool.specs.Held.{times, Holds}
 use Rattle.frame_pool.proofs.Lengths.{times-cons, hit-self}
 use Rattle.paging.specs.Fresh.{dir_place}
@@ -44,7 +43,7 @@ counts_of law v k s exit t is =
 -- ---- where it leads
 
 entry_low : (v : View) (at : ℕ) → is_entry v at ≡ true → at < 0x06000000
-entry_low v at e = let w = and_parts (nat_le 67108864 at) (nat_lt at 100663296) (and_parts v.kernel (is_window at) e).1 in grind (arith, nat_tests, w.1)
+entry_low v at e = let w = and_parts (nat_le 67108864 at) (nat_lt at 100663296) (and_parts v.kernel (is_window at) e).1 in ltb-true at 100663296 w.1
 
 module _ (enters : EntersTheWindow) (leaves : ExitsInTheWindow) where
   by_exit : (v : View) (memory : List ℕ) (r : Regs) (exit : Exit) → host_step v memory r ≡ Err exit → LeadsLow exit

@@ -1,8 +1,7 @@
 -- A guest behind instructions that the host did one behind the other.
 use Rattle.std.proofs.Common.{◌≡◌, ℕ, zero, suc, ◌+◌, ◌-◌, ◌≤◌, ◌<◌, ◌==◌, Bool, true, false, ◌&&◌, ◌||◌, not, List, [], ◌∷◌, length, replicate, Option, Some, None, is_none, refl, sym, ap, ◌∙◌, cond, arith}
 use Rattle.std.specs.Prelude.{nat_le, nat_lt}
-use Rattle.std.proofs.lemmas.Bool.Decides.{nat_tests}
-use Rattle.std.proofs.lemmas.Bool.{and_parts}
+use Rattle.std.proofs.lemmas.Bool.{and_parts, le-leb, ltb-false}
 use Rattle.board.specs.declared.devices.Board.{Board}
 use Rattle.board.specs.Quiet.{board_steps, comes_within}
 use Rattle.descriptors.specs.declared.cpu.Cpu.{Cpu}
@@ -37,7 +36,7 @@ placed_between : (image : Image) (eip : ℕ) (low start : Bool) (site : Option S
     → is_outside (cond low NotAStart (cond start (by_site site) NotAStart)) ≡ true → IsBetween image eip
 placed_between image eip true start site a b c e = absurd (let f : false ≡ true = e in cc)
 placed_between image eip false false site a b c e = absurd (let f : false ≡ true = e in cc)
-placed_between image eip false true None a b c e = record { above = grind (arith, nat_tests, a); start = b; outside = c }
+placed_between image eip false true None a b c e = record { above = ltb-false eip 0x10000000 a; start = b; outside = c }
 placed_between image eip false true (Some s) a b c e = absurd (let f : false ≡ true = e in cc)
 
 between : (image : Image) (eip : ℕ) → is_outside (place_at image eip) ≡ true → IsBetween image eip
@@ -46,7 +45,7 @@ between image eip e = placed_between image eip (nat_lt eip 0x10000000) (places.i
 entrance_of : (image : Image) (eip : ℕ) → IsBetween image eip → IsEntrance image eip
 entrance_of image eip h = record {
   above = h.above;
-  start = (let a = h.above in let le : nat_le 0x10000000 eip ≡ true = grind (arith, nat_tests, a) in ap (λ (x : Bool). x && places.is_start image.text (eip - 0x10000000)) le ∙ h.start);
+  start = (let le = le-leb 0x10000000 eip h.above in ap (λ (x : Bool). x && places.is_start image.text (eip - 0x10000000)) le ∙ h.start);
   way_in = record { start = h.start; first = λ site is. absurd (none_some site (sym h.outside ∙ is)) };
 }
 

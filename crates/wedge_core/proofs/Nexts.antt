@@ -1,8 +1,7 @@
 -- Before an instruction that the host may do.
 use Rattle.std.proofs.Common.{◌≡◌, ℕ, ◌+◌, ◌-◌, ◌*◌, ◌^◌, ◌<◌, ◌≤◌, List, [], length, Bool, true, false, cond, ◌&&◌, ◌||◌, not, ◌==◌, inl, inr, Option, Some, None, Ok, is_none, refl, sym, ap, subst, ◌∙◌, arith}
 use Rattle.std.specs.Prelude.{nat_le, nat_lt}
-use Rattle.std.proofs.lemmas.Bool.Decides.{nat_tests}
-use Rattle.std.proofs.lemmas.Bool.{and_parts}
+use Rattle.std.proofs.lemmas.Bool.{and_parts, le-leb, ltb-false}
 use Rattle.guest_ram.specs.Bytes.{AreBytes}
 use Rattle.ia32_types.specs.Site.{kind_of}
 use Rattle.ia32_types.specs.declared.insn.Op.{Op}
@@ -43,7 +42,7 @@ stands_out false true None e = (refl, refl, refl)
 stands_out false true (Some s) e = absurd cc
 
 not_low : (eip : ℕ) → nat_lt eip 0x10000000 ≡ false → nat_le 0x10000000 eip ≡ true
-not_low eip e = grind (arith, nat_tests)
+not_low eip e = le-leb 0x10000000 eip (ltb-false eip 0x10000000 e)
 
 out_of : (user out : Bool) → (user || out) ≡ true → not user ≡ true → out ≡ true
 out_of true out h k = absurd cc

@@ -1,9 +1,8 @@
 -- A page that a step was granted and that is kept is reached by the host.
-use Rattle.std.proofs.Common.{◌≡◌, ℕ, ◌/◌, ◌≤◌, ◌<◌, ◌^◌, Bool, true, false, ◌&&◌, not, List, length, Option, Some, None, refl, sym, ap, ◌∙◌, cond, inl, inr, arith}
+use Rattle.std.proofs.Common.{◌≡◌, ℕ, ◌/◌, ◌≤◌, ◌<◌, ◌^◌, Bool, true, false, ◌&&◌, not, List, length, Option, Some, None, refl, sym, ap, ◌∙◌, cond, inl, inr}
 use Rattle.std.specs.Prelude.{nat_le}
 use Rattle.std.specs.List.{Contains}
 use Rattle.std.specs.FinMap.{get}
-use Rattle.std.proofs.lemmas.Bool.Decides.{nat_tests}
 use Rattle.paging.specs.declared.entry.Entry.{Entry}
 use Rattle.paging.specs.Fresh.{allows}
 use Rattle.paging.specs.Reached.{reached}
@@ -16,7 +15,7 @@ use Rattle.shadow_tables.specs.declared.words.Side.TheVariants.{Kernel, User}
 use Rattle.ia32_exec.specs.declared.access.Range.{Range}
 use Rattle.ia32_exec.specs.declared.access.Ranges.{Ranges}
 use Rattle.host_cpl3.specs.Access.{last_page}
-use Rattle.std.proofs.lemmas.Bool.{cases_lt}
+use Rattle.std.proofs.lemmas.Bool.{cases_lt, lt-leb}
 use Rattle.image_check.specs.Image.{Image}
 use Rattle.native_steps.specs.Backward.{IsReached, IsRangeReached, AreReached}
 use Rattle.native_steps.specs.Granted.{IsGranted, IsRangeGranted, AreGranted}
@@ -44,7 +43,7 @@ lets_pass write_protected side entry wp true allowed free =
     ∙ allowed
 
 leads_there : (n frame : ℕ) → frame < n → frame_below n frame ≡ Some frame
-leads_there n frame lt = let no : nat_le n frame ≡ false = grind (arith, nat_tests, lt) in ap (λ b. cond b None (Some frame)) no
+leads_there n frame lt = ap (λ b. cond b None (Some frame)) (lt-leb n frame lt)
 
 pub reached_now : (image : Image) (side : Side) (wp : Bool) (s : Space) (old new : ℕ → Option Slot) (pages write_protected : List ℕ) (memory : List ℕ) (root page : ℕ) (write : Bool)
     → Closes old new s.set pages side wp write_protected s.wrote → page < 2 ^ 20 → is_among page pages ≡ true

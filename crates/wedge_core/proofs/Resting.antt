@@ -2,7 +2,7 @@
 use Rattle.std.proofs.Common.{◌≡◌, ℕ, zero, suc, ◌+◌, ◌-◌, ◌<◌, Bool, true, false, List, [], ◌∷◌, replicate, length, Option, None, refl, sym, ap, subst, ◌∙◌, inl, arith}
 use Rattle.std.specs.Prelude.{◌&&◌, ◌||◌, ◌==◌, nat_lt, nat_le, not, if◌then◌else◌}
 use Rattle.std.specs.List.{All}
-use Rattle.std.proofs.lemmas.Bool.Decides.{nat_tests}
+use Rattle.std.proofs.lemmas.Bool.{and_from, false≢true, le-leb, lt-ltb, ne_eqb}
 use Rattle.std.proofs.lemmas.List.Elements.{All-nil, All-cons}
 use Rattle.pit8254.specs.Timers.{edge_comes, timer_step}
 use Rattle.pit8254.specs.Edges.{edge_within}
@@ -37,7 +37,8 @@ unfolding given
 given_quiet board t j [] h = refl
 given_quiet board t j (x ∷ xs) h =
     let parts = neither (nat_lt t x.0 && nat_le x.0 (t + suc j)) (event_within t (suc j) xs) h in
-    let other : (x.0 == t + 1) ≡ false = grind (arith, nat_tests, parts.0) in
+    let other = ne_eqb x.0 (t + 1) (λ same.
+    false≢true (sym parts.0 ∙ and_from (nat_lt t x.0) (nat_le x.0 (t + suc j)) (lt-ltb t x.0 (omega (arith, same))) (le-leb x.0 (t + suc j) (omega (arith, same))))) in
     rw other (given_quiet board t j xs parts.1)
 
 -- nothing comes to the board in some steps: neither in the first of them, nor in the others

@@ -1,7 +1,7 @@
 -- The guest and its host stand abreast.
-use Rattle.std.proofs.Common.{◌≡◌, ℕ, Bool, true, false, not, ◌⊎◌, inl, inr, refl, sym, subst, arith}
+use Rattle.std.proofs.Common.{◌≡◌, ℕ, Bool, true, false, not, ◌⊎◌, inl, inr, refl, sym, subst}
 use Rattle.std.specs.Prelude.{◌==◌}
-use Rattle.std.proofs.lemmas.Bool.Decides.{nat_tests}
+use Rattle.std.proofs.lemmas.Bool.{eqb-true, not-false}
 use Rattle.descriptors.specs.declared.cpu.Cpu.{Cpu}
 use Rattle.shadow_tables.specs.declared.words.Side.{Side}
 use Rattle.native_steps.specs.Mirrors.{Sees, IsLevelOf}
@@ -13,7 +13,7 @@ level_of cpl (inl zero_is) = subst (λ (n : ℕ). IsLevelOf (not (n == 3)) n) (s
 level_of cpl (inr three_is) = subst (λ (n : ℕ). IsLevelOf (not (n == 3)) n) (sym three_is) refl
 
 three : (cpl : ℕ) → not (cpl == 3) ≡ false → cpl ≡ 3
-three cpl h = grind (arith, nat_tests, h)
+three cpl h = eqb-true cpl 3 (not-false (cpl == 3) h)
 
 -- the view shows what the processor has
 pub sees : (directory : Side → ℕ) (cpu : Cpu) → IsAble cpu → Sees (view_by directory cpu) cpu

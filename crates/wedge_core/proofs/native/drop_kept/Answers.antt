@@ -1,4 +1,4 @@
-use Rattle.std.proofs.Common.{ℕ, ◌%◌, false, refl, sym, ap, ◌∙◌, arith}
+use Rattle.std.proofs.Common.{◌≡◌, ℕ, ◌+◌, ◌^◌, ◌<◌, ◌%◌, false, refl, sym, ap, ◌∙◌, arith}
 use Rattle.std.specs.FinMap.{empty}
 use Rattle.descriptors.specs.Controls.{wp_of}
 use Rattle.wedge_step.specs.Standing.{ground}
@@ -7,6 +7,25 @@ use Rattle.wedge_step.proofs.Opening.{none_open}
 use Rattle.wedge_step.proofs.Parts.{part_within, part_empty}
 use Rattle.wedge_step.proofs.Readying.{none_ready, none_pages}
 use Rattle.wedge_core.proofs.native.drop_kept.Goals as goal
+
+-- the frames that are free and those that are held
+all_fit : (count free held frames : ℕ) → count ≡ free → held ≡ frames → free + frames < 2 ^ 32 → count + held < 2 ^ 32
+all_fit count free held frames e h few = omega (arith, e, h, few)
+
+all_but_two : (free frames before held after : ℕ) → free + frames ≡ before + held → after ≡ held → frames ≡ 2 → free + 2 ≡ before + after
+all_but_two free frames before held after lengths counted two = omega (arith, lengths, counted, two)
+
+pub overflow_add-free : goal.overflow_add-free
+overflow_add-free g c = let held = c.requires.held.1 in let fit = all_fit _ _ _ _ (c.free.ensures.count c.args.ram.now) held.counted held.few in omega (arith, fit)
+
+pub returns-clause-none : goal.returns-clause-none
+returns-clause-none g c = c.drop_all.ensures.entries
+
+pub returns-clause-room : goal.returns-clause-room
+returns-clause-room g c = all_but_two _ _ _ _ _ c.drop_all.ensures.moves.lengths c.requires.held.1.counted c.drop_all.ensures.two
+
+pub returns-clause-moves : goal.returns-clause-moves
+returns-clause-moves g c = c.drop_all.ensures.moves
 
 pub returns-clause-beside : goal.returns-clause-beside
 returns-clause-beside g c = record {

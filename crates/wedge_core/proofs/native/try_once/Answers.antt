@@ -16,7 +16,7 @@ use Rattle.shadow_tables.specs.declared.words.Side.{Side}
 use Rattle.step_mem.specs.Changes.{AreWithin, changed}
 use Rattle.step_mem.specs.Sound.{space_at}
 use Rattle.step_mem.specs.declared.state.StepState as kept_state
-use Rattle.wedge_mem.specs.Owned.{first, owns}
+use Rattle.wedge_mem.specs.Owned.{both, first, owns}
 use Rattle.wedge_mem.specs.Settled.{pages_of}
 use Rattle.machine_model.specs.Clash.{instruction_clashes}
 use Rattle.machine_model.specs.Run.{Set, with_set}
@@ -385,6 +385,24 @@ returns-in-Ok-None-clause-tries g c = record {
 }
 
 -- ---- what the calls ask for
+
+text_laid : (n pages frames : ℕ) → n ≤ 4096 * pages → 0x100 + pages ≤ frames → 0x100000 + n ≤ 4096 * frames
+text_laid n pages frames few room = omega (arith, few, room)
+
+pub are_bytes-requires-clause-frames : goal.are_bytes-requires-clause-frames
+are_bytes-requires-clause-frames g c = c.requires.held.host.room
+
+pub are_bytes-requires-clause-laid : goal.are_bytes-requires-clause-laid
+are_bytes-requires-clause-laid g c = text_laid _ _ _ (text_within c.args.image.now) c.requires.held.wedge.room
+
+pub begin_over-requires-clause-frames : goal.begin_over-requires-clause-frames
+begin_over-requires-clause-frames g c = c.requires.held.host.room
+
+pub begin_over-requires-clause-stands : goal.begin_over-requires-clause-stands
+begin_over-requires-clause-stands g c = both c.requires.held.stand c.requires.held.owns
+
+pub begin_over-requires-clause-text : goal.begin_over-requires-clause-text
+begin_over-requires-clause-text g c = c.requires.text
 
 pub fill_used-requires-clause-fills : goal.fill_used-requires-clause-fills
 fill_used-requires-clause-fills g c = let f = c.requires.held.fills in let b = c.requires.bound in omega (arith, f, b)

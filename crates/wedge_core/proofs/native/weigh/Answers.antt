@@ -1,4 +1,4 @@
-use Rattle.std.proofs.Common.{◌≡◌, ℕ, ◌==◌, sym, ap, subst, ◌∙◌, Ok}
+use Rattle.std.proofs.Common.{◌≡◌, ℕ, ◌==◌, ◌≤◌, sym, ap, subst, ◌∙◌, Ok, Err, arith, rules}
 use Rattle.ia32_types.specs.declared.insn.Insn.{Insn}
 use Rattle.ia32_rows.proofs.ShapeLaws.{shaped}
 use Rattle.ia32_exec.specs.declared.outcome.Outcome as exec
@@ -17,6 +17,14 @@ reached : (insn : Insn) (len : ℕ) (cpu : Cpu) (s t : Space) (x : Unit {0}) (ou
     → prepared insn len cpu s ≡ left_undone out t
 unfolding prepared
 reached insn len cpu s t x out h e = ap (λ (o : Outcome Refusal (Unit {0})). on_value o (λ _. weighed insn len cpu)) h ∙ ap (λ (o : exec.Outcome). left_undone o t) (sym e)
+
+-- one of them is refused
+denied : (insn : Insn) (len : ℕ) (cpu : Cpu) (s t : Space) (e : Refusal) → both_reached cpu (ranges_of insn cpu.regs) s ≡ Err (e, t) → prepared insn len cpu s ≡ Err (e, t)
+unfolding prepared
+denied insn len cpu s t e h = ap (λ (o : Outcome Refusal (Unit {0})). on_value o (λ _. weighed insn len cpu)) h
+
+few_pages : (n : ℕ) → n ≤ 8 → n ≤ 60
+few_pages n h = omega (arith, h)
 
 used : (insn : Insn) (cpu : Cpu) (s : Space) (o : Outcome Refusal (Unit {0})) → RangesUse → both_reached cpu (ranges_of insn cpu.regs) s ≡ o → Uses_on (cpu.cpl == 3) s o
 used insn cpu s o all h = subst (λ (x : Outcome Refusal (Unit {0})). Uses_on (cpu.cpl == 3) s x) h (all cpu insn s)
@@ -89,3 +97,20 @@ returns-in-Raise-clause-stays g c = let e = c.in_ok-reach_both.ensures in (e.con
 
 pub returns-in-Stop-clause-stays : goal.returns-in-Stop-clause-stays
 returns-in-Stop-clause-stays g c = let e = c.in_ok-reach_both.ensures in (e.control, e.guard, e.hidden)
+
+-- ---- a range is refused
+
+pub reach_both-requires-clause-room : goal.reach_both-requires-clause-room
+reach_both-requires-clause-room g c = few_pages _ c.requires.pages
+
+pub returns-in_err-reach_both-clause-sound : goal.returns-in_err-reach_both-clause-sound
+returns-in_err-reach_both-clause-sound g c = c.in_err-reach_both.ensures.sound
+
+pub returns-in_err-reach_both-clause-prepared : goal.returns-in_err-reach_both-clause-prepared
+returns-in_err-reach_both-clause-prepared g c = rw (denied c.args.insn.now c.args.len c.args.cpu.now _ _ _ c.in_err-reach_both.ensures.gives) (search rules)
+
+pub returns-in_err-reach_both-clause-pages : goal.returns-in_err-reach_both-clause-pages
+returns-in_err-reach_both-clause-pages g c = c.in_err-reach_both.ensures.pages
+
+pub returns-in_err-reach_both-clause-stays : goal.returns-in_err-reach_both-clause-stays
+returns-in_err-reach_both-clause-stays g c = let e = c.in_err-reach_both.ensures in (e.control, e.guard, e.hidden)

@@ -1,4 +1,4 @@
-use Rattle.std.proofs.Common.{◌≡◌, ℕ, ◌+◌, ◌≤◌, Bool, true, false, List, [], length, Ok, Err, refl, sym, ap, subst, ◌∙◌, arith}
+use Rattle.std.proofs.Common.{◌≡◌, ℕ, ◌+◌, ◌-◌, ◌*◌, ◌<◌, ◌≤◌, Bool, true, false, List, [], length, Ok, Err, refl, sym, ap, subst, ◌∙◌, arith}
 use Rattle.std.specs.FinMap.{len}
 use Rattle.descriptors.specs.declared.cpu.Cpu.{Cpu}
 use Rattle.image_check.specs.Image.{Image}
@@ -38,10 +38,66 @@ use Rattle.wedge_core.proofs.Holding.{held_later, held_given, held_at, enough_th
 use Rattle.wedge_core.proofs.slice.steps_to.Given.{Over}
 use Rattle.wedge_core.proofs.slice.steps_to.Goals as goal
 
+-- ---- counts, apart from all else that is known
+
+at_least : (n : ℕ) → n ≤ n
+at_least n = omega arith
+
+some_of : (n m : ℕ) → n ≤ n + m
+some_of n m = omega arith
+
+up_to : (a b c : ℕ) → a ≤ b → b ≤ c → a ≤ c
+up_to a b c h k = omega (arith, h, k)
+
+none_done : (done : ℕ) → done ≤ 0 → done ≡ 0
+none_done done h = omega (arith, h)
+
+same_then : (old new done : ℕ) → new ≡ old + done → done ≡ 0 → new ≡ old
+same_then old new done h none = omega (arith, h, none)
+
+next_then : (old mid new : ℕ) → new ≡ mid + 1 → mid ≡ old → new ≡ old + 1
+next_then old mid new h same = omega (arith, h, same)
+
+within_bound : (old new bound : ℕ) → new ≡ old + 1 → old < bound → new ≤ bound
+within_bound old new bound h lt = omega (arith, h, lt)
+
+at_bound : (now bound : ℕ) → now ≤ bound → bound ≤ now → now ≡ bound
+at_bound now bound h k = omega (arith, h, k)
+
+still_few : (fills step filled then : ℕ) → fills ≤ 128 * step → filled ≡ fills → then ≡ step → filled ≤ 128 * then
+still_few fills step filled then few same still = omega (arith, few, same, still)
+
+-- steps of a stretch, where it did some and where it did none
+falls : (old mid done bound : ℕ) → mid ≡ old + done → 0 < done → old < bound → bound - mid < bound - old
+falls old mid done bound h some lt = omega (arith, h, some, lt)
+
+room_past : (retired then old mid done bound limit : ℕ) → then ≡ retired + done → mid ≡ old + done → mid ≤ bound → retired + (bound - old) < limit → then + (bound - mid) < limit
+room_past retired then old mid done bound limit e n k h = omega (arith, e, n, k, h)
+
+still_below : (old mid done bound limit : ℕ) → mid ≡ old + done → done ≤ 0 → old < bound → bound ≤ limit → mid < limit
+still_below old mid done bound limit n none lt b = omega (arith, n, none, lt, b)
+
+room_for_one : (retired then old done bound limit : ℕ) → retired + (bound - old) < limit → old < bound → then ≡ retired + done → done ≤ 0 → then + 1 < limit
+room_for_one retired then old done bound limit h lt e none = omega (arith, h, lt, e, none)
+
+-- and the one step behind it
+begun : (mid new : ℕ) → new ≡ mid + 1 → 0 < new
+begun mid new h = omega (arith, h)
+
+one_within : (old mid new done bound : ℕ) → new ≡ mid + 1 → mid ≡ old + done → done ≤ 0 → old < bound → new ≤ bound
+one_within old mid new done bound e n none lt = omega (arith, e, n, none, lt)
+
+falls_then : (old mid new rested done bound : ℕ) → new ≤ rested → new ≡ mid + 1 → mid ≡ old + done → done ≤ 0 → old < bound → bound - rested < bound - old
+falls_then old mid new rested done bound l e n none lt = omega (arith, l, e, n, none, lt)
+
+room_then : (retired then last old mid new rested done bound limit : ℕ) → retired + (bound - old) < limit → old < bound → last ≤ then + 1 → then ≡ retired + done → done ≡ 0 → new ≡ mid + 1 → mid ≡ old → new ≤ rested → rested ≤ bound
+    → last + (bound - rested) < limit
+room_then retired then last old mid new rested done bound limit h lt few e none n same l w = omega (arith, h, lt, few, e, none, n, same, l, w)
+
 -- the pages of what is kept present are some of all
 module _ (g : Over) where
   few : (r : Running g.row.S.Denot) (memory : List ℕ) (pages before after : ℕ) → CountsFills pages (pages_kept g.S.Shadows r.shadows memory) before after → CountsFills pages (len (entries_of (g.S.Shadows.slots r.shadows memory))) before after
-  few r memory pages before after f = fills_within pages (len (entries_of (g.S.Shadows.slots r.shadows memory))) (pages_kept g.S.Shadows r.shadows memory) before after (omega arith) f
+  few r memory pages before after f = fills_within pages (len (entries_of (g.S.Shadows.slots r.shadows memory))) (pages_kept g.S.Shadows r.shadows memory) before after (some_of _ _) f
 
   -- how the slice begins, where its sets keep the rule
   abbrev Begun : Image → Events → ℕ → Running g.row.S.Denot → List ℕ → Pool → Bool → Type 0
@@ -72,7 +128,7 @@ loop-running-init g c =
     record {
       going = going_none m (state_of g.S.Shadows m c.args.running.now (g.H.Host.bytes c.args.host.now)) (counted (g.H.Host.retired c.args.host.now) (g.H.Host.passed c.args.host.now)) (g.O.Sink.taken c.args.out.now) (pages_kept g.S.Shadows c.args.running.now.shadows (g.H.Host.bytes c.args.host.now)) c.args.running.now.fills (g.L.Notes.wants c.args.notes.now)
           (NotesOn (g.L.Notes.wants c.args.notes.now) (g.L.Notes.tells c.args.notes.now) (g.L.Notes.tells c.args.notes.now)) (Begun g c.args.image.now c.args.script.now.list c.args.running.now.frames c.args.running.now (g.H.Host.bytes c.args.host.now) c.args.pool.now (g.L.Notes.wants c.args.notes.now)) (Knows g m c.args.running.now (g.H.Host.bytes c.args.host.now))
-          (notes_on_none (g.L.Notes.wants c.args.notes.now) (g.L.Notes.tells c.args.notes.now)) (omega arith)
+          (notes_on_none (g.L.Notes.wants c.args.notes.now) (g.L.Notes.tells c.args.notes.now)) (some_of _ _)
           (λ s. with_kept g.S.Shadows m c.args.running.now.shadows (g.H.Host.bytes c.args.host.now) []
           (state_of g.S.Shadows m c.args.running.now (g.H.Host.bytes c.args.host.now)) s.0);
       held = c.requires.between.held;
@@ -85,7 +141,7 @@ loop-running-init g c =
       wants = refl;
       notes_wanted = c.wanted-notes_wanted.ensures;
       silent = λ w. refl;
-      later = omega arith;
+      later = at_least _;
       bound = c.requires.begun;
       room = c.requires.room;
     }
@@ -134,7 +190,7 @@ loop-running-preserved-then-stretch-gt0 g c =
       silent = inv.silent;
       later = inv.later;
       bound = c.stretch.ensures.counts.most;
-      room = (let e = c.stretch.ensures.counts.retired in let n = c.stretch.ensures.counts.count in let k = c.stretch.ensures.counts.most in let h = inv.room in omega (arith, e, n, k, h));
+      room = (let e = c.stretch.ensures.counts in room_past _ _ _ _ _ _ _ e.retired e.count e.most inv.room);
     }
 
 pub one_step-requires-clause-between : goal.one_step-requires-clause-between
@@ -177,24 +233,24 @@ returns-in-Err-clause-slice g c =
     let new_memory = g.H.Host.bytes c.one_step.new.host in
     let mid_counts = counted (g.H.Host.retired c.stretch.new.host) (g.H.Host.passed c.stretch.new.host) in
     let new_counts = counted (g.H.Host.retired c.one_step.new.host) (g.H.Host.passed c.one_step.new.host) in
-    let none : c.stretch.result ≡ 0 = omega (arith, c.if-stretch-gt0.false) in
+    let none = none_done _ c.if-stretch-gt0.false in
     let stays = subst (λ (n : ℕ). at n mid then_memory ≡ at n (record r { board = c.begin.new.self }) memory) inv.frames (c.stretch.ensures.goes.stays none) in
-    let same : mid_counts ≡ so_far = counts_same (g.H.Host.retired c.loop-running.host) (g.H.Host.retired c.stretch.new.host) (g.H.Host.passed c.loop-running.host) (g.H.Host.passed c.stretch.new.host) (let e = c.stretch.ensures.counts.retired in omega (arith, e, none)) (c.stretch.ensures.counts.passed none) in
+    let same : mid_counts ≡ so_far = counts_same (g.H.Host.retired c.loop-running.host) (g.H.Host.retired c.stretch.new.host) (g.H.Host.passed c.loop-running.host) (g.H.Host.passed c.stretch.new.host) (same_then _ _ _ c.stretch.ensures.counts.retired none) (c.stretch.ensures.counts.passed none) in
     let by_frames = subst (λ (n : ℕ). StepAs (wedge c.args.image.now c.args.script.now.list n) (at n mid then_memory) new.lost (Err c.in-Err.stop) (at n new new_memory) mid_counts new_counts) (c.stretch.ensures.leaves.frames ∙ inv.frames) (c.in-Err.ensures.steps.step c.args.script.now.list) in
     let step : StepAs m (record (at f r memory) { board = given r.board c.args.script.now.list r.step }) new.lost (Err c.in-Err.stop) (at f new new_memory) so_far new_counts =
     turned m (at f r memory) (at f mid then_memory) (at f new new_memory) c.begin.new.self new.lost (Err c.in-Err.stop) so_far mid_counts new_counts stays c.begin.ensures same by_frames in
     let e = c.in-Err.ensures.steps.leaves.stays.step in
     let n = c.stretch.ensures.counts.count in
-    let still : new.step ≡ r.step = omega (arith, e, n, none) in
+    let still : new.step ≡ r.step = e ∙ same_then _ _ _ n none in
     let unmoved : new_counts ≡ so_far = counts_same (g.H.Host.retired c.stretch.new.host) (g.H.Host.retired c.one_step.new.host) (g.H.Host.passed c.stretch.new.host) (g.H.Host.passed c.one_step.new.host) c.in-Err.ensures.counts.retired c.in-Err.ensures.counts.passed ∙ same in
-    let step_same : mid.step ≡ r.step = omega (arith, n, none) in
+    let step_same : mid.step ≡ r.step = same_then _ _ _ n none in
     let notes_wanted = g.L.Notes.wants c.args.notes.now in
     let first = g.L.Notes.tells c.args.notes.now in
     let before = g.L.Notes.tells c.loop-running.notes in
     let after = g.L.Notes.tells c.tell.new.notes in
     let told_now = subst (λ (k : ℕ). NotesOn notes_wanted before after (emptied_if new.lost.before k)) step_same
     (subst (λ (w : Bool). NotesOn w before after (emptied_if new.lost.before mid.step)) inv.wants c.tell.ensures.told) in
-    let rises : r.fills ≤ new.fills = (let e0 = c.stretch.ensures.leaves.filled in let e1 = c.in-Err.ensures.accounts.filled in let r0 = e0.rises in let r1 = e1.rises in omega (arith, r0, r1)) in
+    let rises : r.fills ≤ new.fills = up_to _ _ _ c.stretch.ensures.leaves.filled.rises c.in-Err.ensures.accounts.filled.rises in
     let begins = Begun g c.args.image.now c.args.script.now.list c.args.running.now.frames c.args.running.now (g.H.Host.bytes c.args.host.now) c.args.pool.now (g.L.Notes.wants c.args.notes.now) in
     let laws = c.carry_laws.ensures in
     let held_mid = held_at g.S.Shadows c.args.image.now r.frames f mid c.loop-running.pool then_memory inv.frames (c.stretch.ensures.leaves.held c.loop-running.pool (held_given g.S.Shadows c.args.image.now c.args.running.now.frames c.loop-running.running.frames c.loop-running.running c.begin.new.self c.loop-running.pool (g.H.Host.bytes c.loop-running.host) c.loop-running.invariant.frames c.loop-running.invariant.held)) in
@@ -229,23 +285,23 @@ returns-in-Err-put_seen-clause-slice g c =
     let new_memory = g.H.Host.bytes c.one_step.new.host in
     let mid_counts = counted (g.H.Host.retired c.stretch.new.host) (g.H.Host.passed c.stretch.new.host) in
     let new_counts = counted (g.H.Host.retired c.one_step.new.host) (g.H.Host.passed c.one_step.new.host) in
-    let none : c.stretch.result ≡ 0 = omega (arith, c.if-stretch-gt0.false) in
+    let none = none_done _ c.if-stretch-gt0.false in
     let stays = subst (λ (n : ℕ). at n mid then_memory ≡ at n (record r { board = c.begin.new.self }) memory) inv.frames (c.stretch.ensures.goes.stays none) in
-    let same : mid_counts ≡ so_far = counts_same (g.H.Host.retired c.loop-running.host) (g.H.Host.retired c.stretch.new.host) (g.H.Host.passed c.loop-running.host) (g.H.Host.passed c.stretch.new.host) (let e = c.stretch.ensures.counts.retired in omega (arith, e, none)) (c.stretch.ensures.counts.passed none) in
+    let same : mid_counts ≡ so_far = counts_same (g.H.Host.retired c.loop-running.host) (g.H.Host.retired c.stretch.new.host) (g.H.Host.passed c.loop-running.host) (g.H.Host.passed c.stretch.new.host) (same_then _ _ _ c.stretch.ensures.counts.retired none) (c.stretch.ensures.counts.passed none) in
     let by_frames = subst (λ (n : ℕ). StepAs (wedge c.args.image.now c.args.script.now.list n) (at n mid then_memory) new.lost (Ok c.in-Ok.seen) (at n new new_memory) mid_counts new_counts) (c.stretch.ensures.leaves.frames ∙ inv.frames) (c.in-Ok.ensures.steps.step c.args.script.now.list) in
     let step : StepAs m (record (at f r memory) { board = given r.board c.args.script.now.list r.step }) new.lost (Ok c.in-Ok.seen) (at f new new_memory) so_far new_counts =
     turned m (at f r memory) (at f mid then_memory) (at f new new_memory) c.begin.new.self new.lost (Ok c.in-Ok.seen) so_far mid_counts new_counts stays c.begin.ensures same by_frames in
-    let step_same : c.stretch.new.running.step ≡ r.step = (let e = c.stretch.ensures.counts.count in omega (arith, e, none)) in
+    let step_same : c.stretch.new.running.step ≡ r.step = same_then _ _ _ c.stretch.ensures.counts.count none in
     let last = g.O.Sink.taken c.put_seen.new.out in
     let put = subst (λ (n : ℕ). AppendsFront tells last (lines_of (items_at n (whats c.in-Ok.seen)))) step_same c.in-Err-put_seen.ensures.failed in
-    let count : new.step ≡ r.step + 1 = (let n = c.in-Ok.ensures.steps.leaves.count in omega (arith, n, step_same)) in
+    let count : new.step ≡ r.step + 1 = next_then _ _ _ c.in-Ok.ensures.steps.leaves.count step_same in
     let notes_wanted = g.L.Notes.wants c.args.notes.now in
     let first = g.L.Notes.tells c.args.notes.now in
     let before = g.L.Notes.tells c.loop-running.notes in
     let after = g.L.Notes.tells c.tell_both.new.notes in
     let told_now = subst (λ (k : ℕ). NotesOn notes_wanted before after (notes_then new.lost k)) step_same
     (subst (λ (w : Bool). NotesOn w before after (notes_then new.lost mid.step)) inv.wants c.tell_both.ensures.told) in
-    let rises : r.fills ≤ new.fills = (let e0 = c.stretch.ensures.leaves.filled in let e1 = c.in-Ok.ensures.accounts.filled in let r0 = e0.rises in let r1 = e1.rises in omega (arith, r0, r1)) in
+    let rises : r.fills ≤ new.fills = up_to _ _ _ c.stretch.ensures.leaves.filled.rises c.in-Ok.ensures.accounts.filled.rises in
     let more = few g new new_memory _ _ _ (fills_join _ _ _ _ _ _ (fills_join _ _ _ _ _ _ inv.filled c.stretch.ensures.leaves.filled) c.in-Ok.ensures.accounts.filled) in
     let exact = λ (w : notes_wanted ≡ true). c.in-Ok.ensures.steps.leaves.reloaded (inv.notes_wanted ∙ w) in
     let laws = c.carry_laws.ensures in
@@ -262,7 +318,7 @@ returns-in-Err-put_seen-clause-slice g c =
     let s = going_on m old (at f r memory) (at f new new_memory) new.lost c.in-Ok.seen counts so_far new_counts told tells (pages_kept g.S.Shadows c.args.running.now.shadows (g.H.Host.bytes c.args.host.now)) c.args.running.now.fills r.fills new.fills notes_wanted (NotesOn notes_wanted first before) (NotesOn notes_wanted first after)
     begins (Knows g m r memory) (Knows g m new new_memory) inv.going step count rises more exact laws (known_past g laws m r memory) over (notes_on_more notes_wanted first before after (notes_then new.lost r.step) told_now) in
     failed m c.args.bound old (at f r memory) (at f new new_memory) c.in-Ok.seen c.in-Err-put_seen.failed counts new_counts told tells last (pages_kept g.S.Shadows c.args.running.now.shadows (g.H.Host.bytes c.args.host.now)) c.args.running.now.fills new.fills notes_wanted (NotesOn notes_wanted first after) begins (Knows g m new new_memory) s put
-    (let t = c.loop-running-test.true in omega (arith, count, t)) laws (known_past g laws m new new_memory)
+    (within_bound _ _ _ count c.loop-running-test.true) laws (known_past g laws m new new_memory)
 
 pub loop-running-preserved : goal.loop-running-preserved
 loop-running-preserved g c =
@@ -283,23 +339,23 @@ loop-running-preserved g c =
     let new_memory = g.H.Host.bytes c.one_step.new.host in
     let mid_counts = counted (g.H.Host.retired c.stretch.new.host) (g.H.Host.passed c.stretch.new.host) in
     let new_counts = counted (g.H.Host.retired c.one_step.new.host) (g.H.Host.passed c.one_step.new.host) in
-    let none : c.stretch.result ≡ 0 = omega (arith, c.if-stretch-gt0.false) in
+    let none = none_done _ c.if-stretch-gt0.false in
     let stays = subst (λ (n : ℕ). at n mid then_memory ≡ at n (record r { board = c.begin.new.self }) memory) inv.frames (c.stretch.ensures.goes.stays none) in
-    let same : mid_counts ≡ so_far = counts_same (g.H.Host.retired c.loop-running.host) (g.H.Host.retired c.stretch.new.host) (g.H.Host.passed c.loop-running.host) (g.H.Host.passed c.stretch.new.host) (let e = c.stretch.ensures.counts.retired in omega (arith, e, none)) (c.stretch.ensures.counts.passed none) in
+    let same : mid_counts ≡ so_far = counts_same (g.H.Host.retired c.loop-running.host) (g.H.Host.retired c.stretch.new.host) (g.H.Host.passed c.loop-running.host) (g.H.Host.passed c.stretch.new.host) (same_then _ _ _ c.stretch.ensures.counts.retired none) (c.stretch.ensures.counts.passed none) in
     let by_frames = subst (λ (n : ℕ). StepAs (wedge c.args.image.now c.args.script.now.list n) (at n mid then_memory) new.lost (Ok c.in-Ok.seen) (at n new new_memory) mid_counts new_counts) (c.stretch.ensures.leaves.frames ∙ inv.frames) (c.in-Ok.ensures.steps.step c.args.script.now.list) in
     let step : StepAs m (record (at f r memory) { board = given r.board c.args.script.now.list r.step }) new.lost (Ok c.in-Ok.seen) (at f new new_memory) so_far new_counts =
     turned m (at f r memory) (at f mid then_memory) (at f new new_memory) c.begin.new.self new.lost (Ok c.in-Ok.seen) so_far mid_counts new_counts stays c.begin.ensures same by_frames in
-    let step_same : c.stretch.new.running.step ≡ r.step = (let e = c.stretch.ensures.counts.count in omega (arith, e, none)) in
+    let step_same : c.stretch.new.running.step ≡ r.step = same_then _ _ _ c.stretch.ensures.counts.count none in
     let last = g.O.Sink.taken c.put_seen.new.out in
     let put = subst (λ (n : ℕ). Appends tells last (lines_of (items_at n (whats c.in-Ok.seen)))) step_same c.in-Ok-put_seen.ensures.ok in
-    let count : new.step ≡ r.step + 1 = (let n = c.in-Ok.ensures.steps.leaves.count in omega (arith, n, step_same)) in
+    let count : new.step ≡ r.step + 1 = next_then _ _ _ c.in-Ok.ensures.steps.leaves.count step_same in
     let notes_wanted = g.L.Notes.wants c.args.notes.now in
     let first = g.L.Notes.tells c.args.notes.now in
     let before = g.L.Notes.tells c.loop-running.notes in
     let after = g.L.Notes.tells c.tell_both.new.notes in
     let told_now = subst (λ (k : ℕ). NotesOn notes_wanted before after (notes_then new.lost k)) step_same
     (subst (λ (w : Bool). NotesOn w before after (notes_then new.lost mid.step)) inv.wants c.tell_both.ensures.told) in
-    let rises : r.fills ≤ new.fills = (let e0 = c.stretch.ensures.leaves.filled in let e1 = c.in-Ok.ensures.accounts.filled in let r0 = e0.rises in let r1 = e1.rises in omega (arith, r0, r1)) in
+    let rises : r.fills ≤ new.fills = up_to _ _ _ c.stretch.ensures.leaves.filled.rises c.in-Ok.ensures.accounts.filled.rises in
     let more = few g new new_memory _ _ _ (fills_join _ _ _ _ _ _ (fills_join _ _ _ _ _ _ inv.filled c.stretch.ensures.leaves.filled) c.in-Ok.ensures.accounts.filled) in
     let exact = λ (w : notes_wanted ≡ true). c.in-Ok.ensures.steps.leaves.reloaded (inv.notes_wanted ∙ w) in
     let laws = c.carry_laws.ensures in
@@ -327,7 +383,7 @@ loop-running-preserved g c =
       going = going_turned m old (at f rested new_memory) counts new_counts told last (pages_kept g.S.Shadows c.args.running.now.shadows (g.H.Host.bytes c.args.host.now)) c.args.running.now.fills rested.fills notes_wanted (NotesOn notes_wanted first after) begins (Knows g m new new_memory) (Knows g m rested new_memory)
           (known_there g laws m new rested new_memory new_memory (entries_of (g.S.Shadows.slots rested.shadows new_memory)) (ap (λ (x : Running g.row.S.Denot). x.shadows) as_were) held_new.stand (record { size = refl; frames = λ frame e. refl }))
           (going_past m old (at f new new_memory) (at f rested new_memory) counts new_counts new_counts told last (pages_kept g.S.Shadows c.args.running.now.shadows (g.H.Host.bytes c.args.host.now)) c.args.running.now.fills new.fills rested.fills notes_wanted (NotesOn notes_wanted first after) begins (Knows g m new new_memory) stepped
-          (subst (λ (x : Running g.row.S.Denot). new.fills ≤ x.fills) (sym as_were) (omega arith))
+          (subst (λ (x : Running g.row.S.Denot). new.fills ≤ x.fills) (sym as_were) (at_least _))
           (subst (λ (x : Running g.row.S.Denot). CountsFills (pages_kept g.S.Shadows c.args.running.now.shadows (g.H.Host.bytes c.args.host.now)) (len (entries_of (g.S.Shadows.slots x.shadows new_memory))) c.args.running.now.fills x.fills) (sym as_were) more)
           laws (known_past g laws m new new_memory) (room_at g.S.Shadows c.args.image.now c.args.script.now.list f new c.one_step.new.pool new_memory held_new) passes);
       held = subst (λ (x : Running g.row.S.Denot). IsHeld g.S.Shadows (ground c.args.image.now f) x c.one_step.new.pool new_memory) (sym as_were) held;
@@ -347,9 +403,9 @@ loop-running-preserved g c =
       wants = c.tell_both.ensures.wants ∙ inv.wants;
       notes_wanted = inv.notes_wanted;
       silent = λ unwanted. c.tell_both.ensures.silent (inv.wants ∙ unwanted) ∙ inv.silent unwanted;
-      later = (let a = inv.later in let b = c.in-Ok-put_seen.ensures.later in omega (arith, a, b));
+      later = up_to _ _ _ inv.later c.in-Ok-put_seen.ensures.later;
       bound = c.rest.ensures.within;
-      room = (let h = inv.room in let t = c.loop-running-test.true in let few = c.in-Ok.ensures.counts.few in let e = c.stretch.ensures.counts.retired in let n = c.in-Ok.ensures.steps.leaves.count in let l = c.rest.ensures.later in let w = c.rest.ensures.within in omega (arith, h, t, few, e, n, l, w, none, step_same));
+      room = room_then _ _ _ _ _ _ _ _ _ _ inv.room c.loop-running-test.true c.in-Ok.ensures.counts.few c.stretch.ensures.counts.retired none c.in-Ok.ensures.steps.leaves.count step_same c.rest.ensures.later c.rest.ensures.within;
     }
 
 pub returns-clause-slice : goal.returns-clause-slice
@@ -367,7 +423,7 @@ returns-clause-slice g c =
     let inv = c.loop-running.invariant in
     reached m c.args.bound old (at f r memory) counts so_far told tells (pages_kept g.S.Shadows c.args.running.now.shadows (g.H.Host.bytes c.args.host.now)) c.args.running.now.fills r.fills (g.L.Notes.wants c.args.notes.now) (NotesOn (g.L.Notes.wants c.args.notes.now) (g.L.Notes.tells c.args.notes.now) (g.L.Notes.tells c.loop-running.notes))
     (Begun g c.args.image.now c.args.script.now.list c.args.running.now.frames c.args.running.now (g.H.Host.bytes c.args.host.now) c.args.pool.now (g.L.Notes.wants c.args.notes.now)) (Knows g m r memory) inv.going
-    (let a = inv.bound in let b = c.loop-running-test.false in omega (arith, a, b)) c.carry_laws.ensures (known_past g c.carry_laws.ensures m r memory)
+    (at_bound _ _ inv.bound c.loop-running-test.false) c.carry_laws.ensures (known_past g c.carry_laws.ensures m r memory)
 
 -- ---- what else is said of each end
 
@@ -396,10 +452,7 @@ returns-in-Err-clause-leaves g c = record {
       c.loop-running.invariant.pool (c.stretch.ensures.leaves.pool c.loop-running.pool (held_given g.S.Shadows c.args.image.now c.args.running.now.frames c.loop-running.running.frames c.loop-running.running c.begin.new.self c.loop-running.pool (g.H.Host.bytes c.loop-running.host) c.loop-running.invariant.frames c.loop-running.invariant.held))) c.in-Err.ensures.accounts.pool;
   few =
       let held = c.stretch.ensures.leaves.held c.loop-running.pool (held_given g.S.Shadows c.args.image.now c.args.running.now.frames c.loop-running.running.frames c.loop-running.running c.begin.new.self c.loop-running.pool (g.H.Host.bytes c.loop-running.host) c.loop-running.invariant.frames c.loop-running.invariant.held) in
-      let few = held.fills in
-      let same = c.in-Err.ensures.steps.leaves.stays.fills in
-      let still = c.in-Err.ensures.steps.leaves.stays.step in
-      omega (arith, few, same, still);
+      still_few _ _ _ _ held.fills c.in-Err.ensures.steps.leaves.stays.fills c.in-Err.ensures.steps.leaves.stays.step;
   filled = fills_join _ _ _ _ _ _ (fills_join _ _ _ _ _ _ c.loop-running.invariant.filled c.stretch.ensures.leaves.filled) c.in-Err.ensures.accounts.filled;
   frames = c.in-Err.ensures.accounts.frames ∙ (c.stretch.ensures.leaves.frames ∙ c.loop-running.invariant.frames);
 }
@@ -439,7 +492,7 @@ returns-in-Err-put_seen-clause-silent g c = record {
 pub returns-in-Err-put_seen-clause-faults : goal.returns-in-Err-put_seen-clause-faults
 returns-in-Err-put_seen-clause-faults g c = record {
   later =
-      let a = c.loop-running.invariant.later in let b = c.in-Err-put_seen.ensures.later in omega (arith, a, b);
+      up_to _ _ _ c.loop-running.invariant.later c.in-Err-put_seen.ensures.later;
   cause =
       let a = c.loop-running.invariant.later in let b = c.in-Err-put_seen.ensures.cause in omega (arith, a, b);
 }
@@ -447,7 +500,7 @@ returns-in-Err-put_seen-clause-faults g c = record {
 pub returns-clause-leaves : goal.returns-clause-leaves
 returns-clause-leaves g c = record {
   reached =
-      let a = c.loop-running.invariant.bound in let b = c.loop-running-test.false in omega (arith, a, b);
+      at_bound _ _ c.loop-running.invariant.bound c.loop-running-test.false;
   held = c.loop-running.invariant.held;
   ready = c.loop-running.invariant.ready;
   able = c.loop-running.invariant.able;
@@ -492,7 +545,7 @@ stretch-requires-clause-runs g c = c.may_run-runs.ensures
 -- a stretch that did nothing left the processor and the board
 pub one_step-requires-clause-runs : goal.one_step-requires-clause-runs
 one_step-requires-clause-runs g c =
-    let none : c.stretch.result ≡ 0 = omega (arith, c.if-stretch-gt0.false) in
+    let none = none_done _ c.if-stretch-gt0.false in
     c.may_run-runs.ensures ∙ ap (λ (b : State). may_run b.cpu b.board c.args.image.now) (sym (c.stretch.ensures.goes.stays none))
 
 pub one_step-requires-clause-text : goal.one_step-requires-clause-text
@@ -505,31 +558,31 @@ pub one_step-requires-clause-able : goal.one_step-requires-clause-able
 one_step-requires-clause-able g c = c.stretch.ensures.leaves.able
 
 pub one_step-requires-clause-bound : goal.one_step-requires-clause-bound
-one_step-requires-clause-bound g c = let n = c.stretch.ensures.counts.count in let z = c.if-stretch-gt0.false in let t = c.loop-running-test.true in let b = c.requires.bound in omega (arith, n, z, t, b)
+one_step-requires-clause-bound g c = still_below _ _ _ _ _ c.stretch.ensures.counts.count c.if-stretch-gt0.false c.loop-running-test.true c.requires.bound
 
 pub one_step-requires-clause-room : goal.one_step-requires-clause-room
-one_step-requires-clause-room g c = let r = c.loop-running.invariant.room in let t = c.loop-running-test.true in let e = c.stretch.ensures.counts.retired in let z = c.if-stretch-gt0.false in omega (arith, r, t, e, z)
+one_step-requires-clause-room g c = room_for_one _ _ _ _ _ _ c.loop-running.invariant.room c.loop-running-test.true c.stretch.ensures.counts.retired c.if-stretch-gt0.false
 
 pub begin-requires : goal.begin-requires
 begin-requires g c = c.requires.script
 
 pub tell_both-requires : goal.tell_both-requires
-tell_both-requires g c = let n = c.stretch.ensures.counts.count in let z = c.if-stretch-gt0.false in let t = c.loop-running-test.true in let b = c.requires.bound in omega (arith, n, z, t, b)
+tell_both-requires g c = still_below _ _ _ _ _ c.stretch.ensures.counts.count c.if-stretch-gt0.false c.loop-running-test.true c.requires.bound
 
 pub rest-requires-clause-script : goal.rest-requires-clause-script
 rest-requires-clause-script g c = c.requires.script
 
 pub rest-requires-clause-begun : goal.rest-requires-clause-begun
-rest-requires-clause-begun g c = let e = c.in-Ok.ensures.steps.leaves.count in omega (arith, e)
+rest-requires-clause-begun g c = begun _ _ c.in-Ok.ensures.steps.leaves.count
 
 pub rest-requires-clause-within : goal.rest-requires-clause-within
-rest-requires-clause-within g c = let e = c.in-Ok.ensures.steps.leaves.count in let n = c.stretch.ensures.counts.count in let z = c.if-stretch-gt0.false in let t = c.loop-running-test.true in omega (arith, e, n, z, t)
+rest-requires-clause-within g c = one_within _ _ _ _ _ c.in-Ok.ensures.steps.leaves.count c.stretch.ensures.counts.count c.if-stretch-gt0.false c.loop-running-test.true
 
 pub rest-requires-clause-bound : goal.rest-requires-clause-bound
 rest-requires-clause-bound g c = c.requires.bound
 
 pub loop-running-smaller-then-stretch-gt0 : goal.loop-running-smaller-then-stretch-gt0
-loop-running-smaller-then-stretch-gt0 g c = let n = c.stretch.ensures.counts.count in let p = c.if-stretch-gt0.true in let t = c.loop-running-test.true in omega (arith, n, p, t)
+loop-running-smaller-then-stretch-gt0 g c = falls _ _ _ _ c.stretch.ensures.counts.count c.if-stretch-gt0.true c.loop-running-test.true
 
 pub loop-running-smaller : goal.loop-running-smaller
-loop-running-smaller g c = let l = c.rest.ensures.later in let e = c.in-Ok.ensures.steps.leaves.count in let n = c.stretch.ensures.counts.count in let z = c.if-stretch-gt0.false in let t = c.loop-running-test.true in omega (arith, l, e, n, z, t)
+loop-running-smaller g c = falls_then _ _ _ _ _ _ c.rest.ensures.later c.in-Ok.ensures.steps.leaves.count c.stretch.ensures.counts.count c.if-stretch-gt0.false c.loop-running-test.true
