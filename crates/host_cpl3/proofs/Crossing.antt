@@ -1,7 +1,7 @@
 -- Where an instruction that was done began, and where it led.
 use Rattle.std.proofs.Common.{◌≡◌, ℕ, suc, ◌+◌, ◌*◌, ◌/◌, ◌%◌, ◌^◌, ◌<◌, List, length, Bool, true, false, cond, ◌&&◌, not, nat_lt, Option, None, Ok, refl, ap, ◌∙◌, arith}
 use Rattle.std.proofs.Math.Dec.{ltb}
-use Rattle.std.proofs.lemmas.Bool.Decides.{nat_tests}
+use Rattle.std.proofs.lemmas.Bool.{ltb-true}
 use Rattle.guest_ram.specs.Bytes.{part}
 use Rattle.ia32_types.specs.declared.flags.Regs.{Regs}
 use Rattle.ia32_types.specs.declared.insn.Insn.{Insn}
@@ -31,7 +31,7 @@ use Rattle.host_cpl3.specs.RunsTo.{RunsTo}
 use Rattle.host_cpl3.proofs.Leading.{bound}
 
 below : (page : ℕ) → nat_lt page 1048576 ≡ true → page < 1048576
-below page e = grind (arith, nat_tests)
+below page e = ltb-true page 1048576 e
 
 there_below : (write : Bool) (at page frame : ℕ) (walk : Walk) (b : Bool) → nat_lt page 1048576 ≡ b → by_walk write at (cond b walk Absent) ≡ Ok frame → page < 1048576
 there_below write at page frame walk true t e = below page t

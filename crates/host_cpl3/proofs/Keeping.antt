@@ -4,7 +4,8 @@ use Rattle.std.proofs.Math.Dec.{leb, ltb}
 use Rattle.std.specs.Prelude.{IfSome}
 use Rattle.std.specs.FinMap.{FinMap, get, insert, retain_keys}
 use Rattle.std.specs.Ordering.{nat_cmp}
-use Rattle.std.proofs.lemmas.Bool.Decides.{eqb_tells, nat_tests}
+use Rattle.std.proofs.lemmas.Bool.{eq-eqb, lt-ltb}
+use Rattle.std.proofs.lemmas.Bool.Decides.{eqb_tells}
 use Rattle.std.proofs.lemmas.List.{get_or-set_same, get_or-set_other}
 use Rattle.xlate_buffer.proofs.Keeping.{keep_get}
 use Rattle.guest_ram.specs.Bytes.{word32, frame}
@@ -42,7 +43,7 @@ table_found m n root page entry d w e =
 
 -- a page of the address space is walked by its words
 pub walked_is : (m : List ℕ) (root page : ℕ) → page < 2 ^ 20 → walked m root page ≡ fresh m (length m / 4096) (4096 * root) false page
-walked_is m root page lt = ap (λ (b : Bool). cond b (fresh m (length m / 4096) (4096 * root) false page) Absent) (let in_space : ltb page 1048576 ≡ true = grind (arith, nat_tests) in in_space)
+walked_is m root page lt = ap (λ (b : Bool). cond b (fresh m (length m / 4096) (4096 * root) false page) Absent) (lt-ltb page 1048576 lt)
 
 -- memories that agree on the directory and on the page's table
 same_walk : (m m' : List ℕ) (root page : ℕ) → page < 2 ^ 20 → length m' ≡ length m → frame m' root ≡ frame m root → frame m' (table_of m root page) ≡ frame m (table_of m root page) → walked m' root page ≡ walked m root page
@@ -104,8 +105,8 @@ last_kept K o page h q = elim (eqb_tells q page) [
 pub kept_is : (buffer new : FinMap nat_cmp Entry) (e : Entry) (page : ℕ) → new ≡ insert (retain_keys buffer (λ k. not (eqb (k % 64) (e.page % 64)))) e.page e → e.page ≡ page → Some e ≡ get new page
 kept_is buffer new e page is same =
     let P : Bool → Bool → Option Entry = λ a b. cond a (cond b (Some e) None) (get buffer page) in
-    let one : eqb (page % 64) (e.page % 64) ≡ true = grind (arith, nat_tests) in
-    let two : eqb page e.page ≡ true = grind (arith, nat_tests) in
+    let one = eq-eqb (page % 64) (e.page % 64) (ap (λ x. x % 64) (sym same)) in
+    let two = eq-eqb page e.page (sym same) in
     sym (ap (λ b. get b page) is ∙ keep_get buffer e page ∙ ap (λ b. P b (eqb page e.page)) one ∙ ap (P true) two)
 
 -- one more is kept, in the place of its number modulo 64

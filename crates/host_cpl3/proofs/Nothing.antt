@@ -17,7 +17,7 @@ abbrev nothing : Ranges
 nothing = record { read = None; write = None }
 
 no_range : (x : Operand) (size : Size) (r : Regs) → is_memory x ≡ false → operand_range x size r ≡ None
-no_range (Memory a) size r h = grind arith
+no_range (Memory a) size r h = absurd cc
 no_range Absent size r h = refl
 no_range (Register n) size r h = refl
 no_range (Segment s) size r h = refl
@@ -54,7 +54,7 @@ by_row Movsx i r t a b = rw (no_range i.b i.size r b) refl
 by_row Setcc i r t a b = rw (no_range i.a Byte r a) refl
 by_row Jcc i r t a b = refl
 by_row Jmp i r t a b = refl
-by_row _ i r t a b = grind arith
+by_row _ i r t a b = absurd cc
 
 pub accesses_none : (i : Insn) → is_by_operands i.op ≡ true → is_memory i.a ≡ false → is_memory i.b ≡ false → AccessesNothing i
 unfolding ranges_of

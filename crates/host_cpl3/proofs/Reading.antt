@@ -1,7 +1,7 @@
 -- The bytes of ranges that were met may be read.
+use Rattle.std.specs.Prelude.{nat_le, nat_lt}
 use Rattle.std.proofs.Common.{◌≡◌, ℕ, ◌+◌, ◌^◌, ◌<◌, ◌≤◌, List, length, Bool, true, false, cond, Option, Some, None, refl, arith}
-use Rattle.std.proofs.lemmas.Bool.Decides.{nat_tests}
-use Rattle.std.proofs.lemmas.Bool.{both_ways}
+use Rattle.std.proofs.lemmas.Bool.{and_from, and_parts, both_ways, le-leb, leb-true, lt-ltb, ltb-true}
 use Rattle.ia32_exec.specs.Outcomes.{AreStored}
 use Rattle.ia32_exec.specs.declared.outcome.Stores.{Stores}
 use Rattle.ia32_exec.specs.declared.outcome.Stores.TheVariants.{Nothing, One, Eight}
@@ -12,7 +12,7 @@ use Rattle.host_cpl3.specs.Pages.{place}
 use Rattle.host_cpl3.specs.Reaches.{holds, placed, IsReach, IsOf, IsRead, IsWritten}
 
 held : (x : Reach) (a : ℕ) → holds x a ≡ true → (x.at ≤ a) × (a < x.at + x.len)
-held x a e = (grind (arith, nat_tests), grind (arith, nat_tests))
+held x a e = let tests = and_parts (nat_le x.at a) (nat_lt a (x.at + x.len)) e in (leb-true x.at a tests.0, ltb-true a (x.at + x.len) tests.1)
 
 -- an address of either range
 read_by : (m : List ℕ) (root : ℕ) (x y : Reach) (a : ℕ) (b : Bool) → IsReach m root x → IsReach m root y → (b ≡ true → (x.at ≤ a) × (a < x.at + x.len)) → (b ≡ false → (y.at ≤ a) × (a < y.at + y.len)) → a < 2 ^ 32
@@ -21,7 +21,7 @@ read_by m root x y a true hx hy in_x in_y lt = let h = in_x refl in (lt, hx.lead
 read_by m root x y a false hx hy in_x in_y lt = let h = in_y refl in (lt, hy.leads a h.0 h.1, hy.inside a h.0 h.1)
 
 first_held : (x : Reach) (a : ℕ) → x.at ≤ a → a < x.at + x.len → holds x a ≡ true
-first_held x a low high = grind (arith, nat_tests)
+first_held x a low high = and_from (nat_le x.at a) (nat_lt a (x.at + x.len)) (le-leb x.at a low) (lt-ltb a (x.at + x.len) high)
 
 in_first : (m : List ℕ) (root : ℕ) (x y : Reach) (a : ℕ) → IsReach m root x → IsReach m root y → x.at ≤ a → a < x.at + x.len → IsRead m root x y a
 in_first m root x y a hx hy low high =

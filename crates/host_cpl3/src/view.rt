@@ -9,7 +9,7 @@ use ia32_types::{DATA_ADDRESS, Seg, WINDOW_ADDRESS, WINDOW_END};
 /// What the code sees: page tables by the frame of their directory, and segment registers. In the kernel view CS is
 /// flat, and SS, DS and ES expand down to `DATA_ADDRESS`; in the user view all are flat. A null DS or ES denies every
 /// access.
-#[derive(Clone, Copy, PartialEq, Eq)]
+#[derive(Clone, Copy)]
 pub struct View {
     /// Whether it is the kernel's view or a user's.
     pub kernel: bool,
