@@ -13,7 +13,8 @@ use Rattle.wedge_core.specs.Slices.{Counts}
 use Rattle.guest_sched.specs.Apart.{Seat, IsSeated, AreSeated, AreApart, EachStays}
 use Rattle.guest_sched.specs.Between.{EachStands, StandsSo, IsNext, stops_of}
 use Rattle.guest_sched.specs.Pieces.{Piece}
-use Rattle.guest_sched.specs.Schedules.{IsSlice, bound_of}
+use Rattle.guest_sched.specs.Bounds.{bound_of}
+use Rattle.guest_sched.specs.Schedules.{IsSlice}
 use Rattle.guest_sched.specs.Seating.{seat_of, seats_from, HasBrought, HasMadeRoom}
 use Rattle.guest_sched.specs.Shared.{sites_in}
 use Rattle.guest_sched.specs.declared.kernel.Kernel.{Kernel}

@@ -16,7 +16,7 @@ use Rattle.wedge_core.specs.OfRoots.{of_roots}
 use Rattle.guest_sched.specs.Apart.{AreSeated, IsSeated, Seat}
 use Rattle.guest_sched.specs.Between.{EachStands, StandsSo, stops_of, ended_of, end_with}
 use Rattle.guest_sched.specs.Pieces.{Piece, piece_text, shared_text, reports_of, own_text, bound_line, bound_texts}
-use Rattle.guest_sched.specs.Schedules.{bound_of}
+use Rattle.guest_sched.specs.Bounds.{bound_of}
 use Rattle.guest_sched.specs.Seating.{seat_of, seats_from}
 use Rattle.guest_sched.specs.Shared.{EachRan, RanAlone, alone}
 use Rattle.guest_sched.specs.OwnEnds.{EachHasOwnEnd, HasOwnEnd}

@@ -10,7 +10,7 @@ use Rattle.run_trace.specs.declared.items.Item.{Item}
 use Rattle.run_trace.specs.declared.items.End.{End}
 use Rattle.run_trace.specs.declared.items.End.TheVariants.{Bound, Stopped}
 use Rattle.run_trace.specs.Text.{hex_digit, hex2, hex4, hex8, what_text, item_line, stop_name, end_text, end_line}
-use Rattle.guest_sched.specs.Tags.{has_end}
+use Rattle.guest_sched.specs.Dues.{has_end}
 use Rattle.guest_sched.specs.TaggedLines.{IsLine}
 
 end_cons : (b : ℕ) (xs : List ℕ) → b ≢ 10 → has_end xs ≡ false → has_end (b ∷ xs) ≡ false

@@ -7,7 +7,8 @@ use Rattle.guest_sched.specs.declared.schedule.Slice.{Slice}
 use Rattle.guest_sched.specs.declared.fault.ScheduleCause.{ScheduleCause}
 use Rattle.guest_sched.specs.declared.fault.ScheduleFault.{ScheduleFault}
 use Rattle.guest_sched.specs.declared.fault.ScheduleFault.TheVariants.{At, Memory}
-use Rattle.guest_sched.specs.Schedules.{IsSlice, IsSchedule, max_steps, max_slices, bound_of}
+use Rattle.guest_sched.specs.Bounds.{max_steps, max_slices, bound_of}
+use Rattle.guest_sched.specs.Schedules.{IsSlice, IsSchedule}
 use Rattle.guest_sched.specs.Texts.{Reading, slice_of_line, line_read, lines_read, slices_read}
 use Rattle.guest_sched.specs.Reads.{FaultAs, RefusedAs}
 

@@ -10,7 +10,7 @@ use Rattle.guest_sched.specs.declared.fault.ScheduleCause.{ScheduleCause}
 use Rattle.guest_sched.specs.declared.fault.ScheduleCause.TheVariants.{BadNumber, TooMany}
 use Rattle.guest_sched.specs.declared.fault.ScheduleFault.{ScheduleFault}
 use Rattle.guest_sched.specs.declared.fault.ScheduleFault.TheVariants.{At, Memory}
-use Rattle.guest_sched.specs.Schedules.{max_steps, max_slices, bound_of}
+use Rattle.guest_sched.specs.Bounds.{max_steps, max_slices, bound_of}
 use Rattle.guest_sched.specs.Texts.{Reading, slice_of_line, line_read, lines_read, slices_read, schedule_of, at_start}
 use Rattle.guest_sched.specs.Reads.{ReadAs}
 use Rattle.guest_sched.specs.Lines.{said, slices_on, badness, badness_of, AreGood, LinesSay, AnswerSays}

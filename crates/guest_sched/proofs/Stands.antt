@@ -12,7 +12,7 @@ use Rattle.guest_sched.specs.Apart.{Seat, StaysSo, EachStays}
 use Rattle.guest_sched.specs.Between.{StandsSo, EachStands}
 use Rattle.guest_sched.specs.Legs.{HasRun, HasStopped}
 use Rattle.guest_sched.specs.Pieces.{Piece, has_stopped, reports_of, own_text, stop_line}
-use Rattle.guest_sched.specs.Schedules.{bound_of}
+use Rattle.guest_sched.specs.Bounds.{bound_of}
 use Rattle.guest_sched.specs.Shared.{alone}
 use Rattle.guest_sched.specs.declared.kernel.Kernel.{Kernel}
 use Rattle.guest_sched.specs.declared.schedule.Slice.{Slice}

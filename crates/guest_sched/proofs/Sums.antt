@@ -3,7 +3,7 @@ use Rattle.std.proofs.Common.{◌≡◌, ℕ, ◌+◌, ◌<◌, ◌≤◌, true,
 use Rattle.std.proofs.lemmas.List.{drop_all}
 use Rattle.std.specs.Prelude.{◌==◌, if◌then◌else◌}
 use Rattle.guest_sched.specs.declared.schedule.Slice.{Slice}
-use Rattle.guest_sched.specs.Schedules.{bound_of}
+use Rattle.guest_sched.specs.Bounds.{bound_of}
 
 abbrev pub steps_for : ℕ → Slice → ℕ
 steps_for kernel slice = if slice.kernel == kernel then slice.steps else 0

@@ -13,7 +13,8 @@ use Rattle.run_trace.specs.declared.items.End.{End}
 use Rattle.run_trace.specs.declared.items.End.TheVariants.{Bound, Stopped}
 use Rattle.run_trace.specs.declared.items.Ended.{Ended}
 use Rattle.run_trace.specs.Text.{item_line, lines_of, end_line}
-use Rattle.guest_sched.specs.Tags.{tag_of, has_end, tagged_from, tagged}
+use Rattle.guest_sched.specs.Tags.{tag_of, tagged_from, tagged}
+use Rattle.guest_sched.specs.Dues.{has_end}
 use Rattle.machine_model.specs.Run.{trace_of}
 use Rattle.guest_sched.specs.Pieces.{Piece, stop_line, bound_line, bound_texts, piece_text, shared_text, own_text, without_tag, lines_of_kernel}
 use Rattle.guest_sched.specs.TaggedLines.{Line, IsLine, with_tag, stop_lines, lines_in, bound_lines, last_lines, shared_lines, BytesAreLines}

@@ -3,7 +3,8 @@ use Rattle.std.proofs.Common.{◌≡◌, ℕ, suc, ◌+◌, ◌<◌, ◌≤◌, 
 use Rattle.std.proofs.lemmas.List.{drop_all, append_assoc}
 use Rattle.std.proofs.lemmas.Bool.Decides.{eqb_tells}
 use Rattle.std.specs.Prelude.{◌==◌, if◌then◌else◌}
-use Rattle.guest_sched.specs.Tags.{due_behind, tagged_from, due_after, line_len, has_end}
+use Rattle.guest_sched.specs.Tags.{due_behind, tagged_from}
+use Rattle.guest_sched.specs.Dues.{due_after, line_len, has_end}
 
 pub line_here : (text : List ℕ) (i other : ℕ) → i < length text → line_len (drop i text) ≡ (if get_or text i other == 10 then 1 else suc (line_len (drop (i + 1) text)))
 line_here text i other within = rw (add-one, drop-cons text i other within) refl

@@ -7,7 +7,8 @@ use Rattle.pv_io.specs.declared.answer.Failed.{Failed}
 use Rattle.pv_io.specs.Causes.{Rose}
 use Rattle.pv_io.specs.Sink.{Appends, AppendsFront}
 use Rattle.wedge_step.proofs.Memories.{append_both}
-use Rattle.guest_sched.specs.Tags.{tagged, tagged_from, due_after, line_len, has_end}
+use Rattle.guest_sched.specs.Tags.{tagged, tagged_from}
+use Rattle.guest_sched.specs.Dues.{due_after, line_len, has_end}
 use Rattle.guest_sched.specs.Marks.{IsTaken, size, coded, told}
 use Rattle.guest_sched.proofs.Tags.{tagged_append, due_append, line_tagged, line_due}
 

@@ -11,7 +11,8 @@ use Rattle.run_trace.specs.Pauses.{PutsAs}
 use Rattle.machine_model.specs.State.{Setting, State}
 use Rattle.machine_model.specs.Run.{Set}
 use Rattle.wedge_core.specs.Slices.{PausesAs}
-use Rattle.guest_sched.specs.Tags.{tagged, tagged_from, due_after}
+use Rattle.guest_sched.specs.Tags.{tagged, tagged_from}
+use Rattle.guest_sched.specs.Dues.{due_after}
 use Rattle.guest_sched.specs.Marks.{IsTaken, size, told}
 use Rattle.guest_sched.proofs.Tags.{tagged_append}
 use Rattle.guest_sched.proofs.Takes.{same_sink, SameSink}

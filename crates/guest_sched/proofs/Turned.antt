@@ -19,7 +19,7 @@ use Rattle.guest_sched.specs.Apart.{Seat}
 use Rattle.guest_sched.specs.Between.{StandsSo}
 use Rattle.guest_sched.specs.Legs.{HasRun, HasStopped}
 use Rattle.guest_sched.specs.Pieces.{Piece, MakesSteps, has_stopped, reports_of, own_text, piece_text}
-use Rattle.guest_sched.specs.Schedules.{bound_of}
+use Rattle.guest_sched.specs.Bounds.{bound_of}
 use Rattle.guest_sched.specs.Shared.{alone}
 use Rattle.guest_sched.specs.Tags.{tag_of, tagged}
 use Rattle.guest_sched.specs.Went.{EndsSo}

@@ -16,7 +16,8 @@ use Rattle.wedge_core.specs.Slices.{Counts, Outward}
 use Rattle.guest_sched.specs.Apart.{Seat, AreApart}
 use Rattle.guest_sched.specs.Legs.{HasRun, HasStopped}
 use Rattle.guest_sched.specs.Pieces.{Piece, AreTurns, has_stopped, piece_text, reports_of, own_text, counts_over}
-use Rattle.guest_sched.specs.Schedules.{IsSchedule, bound_of}
+use Rattle.guest_sched.specs.Bounds.{bound_of}
+use Rattle.guest_sched.specs.Schedules.{IsSchedule}
 use Rattle.guest_sched.specs.Seating.{seats_from}
 use Rattle.guest_sched.specs.Shared.{alone, sites_in, AllFit, FirstTooSmall}
 use Rattle.guest_sched.specs.SharedRuns.{FailsInTurn}

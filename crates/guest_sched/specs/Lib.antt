@@ -1,9 +1,11 @@
+pub mod Bounds
 pub mod Schedules
 pub mod Texts
 pub mod Cuts
 pub mod Reads
 pub mod Lines
 pub mod Tags
+pub mod Dues
 pub mod Marks
 pub mod Apart
 pub mod Pieces

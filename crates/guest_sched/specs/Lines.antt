@@ -7,7 +7,7 @@ use Rattle.guest_sched.specs.declared.fault.ScheduleCause.{ScheduleCause}
 use Rattle.guest_sched.specs.declared.fault.ScheduleCause.TheVariants.{BadNumber, TooMany}
 use Rattle.guest_sched.specs.declared.fault.ScheduleFault.{ScheduleFault}
 use Rattle.guest_sched.specs.declared.fault.ScheduleFault.TheVariants.{At, Memory}
-use Rattle.guest_sched.specs.Schedules.{max_steps, max_slices, bound_of}
+use Rattle.guest_sched.specs.Bounds.{max_steps, max_slices, bound_of}
 use Rattle.guest_sched.specs.Texts.{slice_of_line}
 
 -- the slice that a line says, if any

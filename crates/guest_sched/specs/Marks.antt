@@ -1,7 +1,8 @@
 -- What a sink has taken since a mark.
 use Rattle.std.specs.Prelude.{◌≡◌, ℕ, ◌+◌, ◌-◌, ◌≤◌, Bool, true, false, List, [], ◌∷◌, ◌++◌, Option, Some, None, length, take, if◌then◌else◌}
 use Rattle.pv_io.specs.Causes.{Rose}
-use Rattle.guest_sched.specs.Tags.{tagged, due_after}
+use Rattle.guest_sched.specs.Tags.{tagged}
+use Rattle.guest_sched.specs.Dues.{due_after}
 
 abbrev pub size : Option (List ℕ) → ℕ
 size None = 0

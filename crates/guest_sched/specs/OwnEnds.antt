@@ -8,7 +8,7 @@ use Rattle.machine_model.specs.Run.{EndsIn, Set}
 use Rattle.wedge_core.specs.Guests.{HasGuest}
 use Rattle.guest_sched.specs.declared.kernel.Kernel.{Kernel}
 use Rattle.guest_sched.specs.declared.schedule.Slice.{Slice}
-use Rattle.guest_sched.specs.Schedules.{bound_of}
+use Rattle.guest_sched.specs.Bounds.{bound_of}
 use Rattle.guest_sched.specs.Pieces.{Piece}
 use Rattle.guest_sched.specs.Shared.{alone, EachRan}
 

@@ -1,23 +1,12 @@
 -- What a list of slices meets.
-use Rattle.std.specs.Prelude.{ℕ, ◌+◌, ◌≤◌, ◌<◌, ◌^◌, ◌==◌, List, [], ◌∷◌, length, if◌then◌else◌}
+use Rattle.std.specs.Prelude.{ℕ, ◌≤◌, ◌<◌, List, length}
 use Rattle.std.specs.List.{All}
 use Rattle.guest_sched.specs.declared.schedule.Slice.{Slice}
+use Rattle.guest_sched.specs.Bounds.{max_slices, max_steps, bound_of}
 
 -- a schedule as contracts see it
 pub record SliceList : Type 0 where
   pub list : List Slice
-
-abbrev pub max_slices : ℕ
-max_slices = 1024
-
--- the most steps of a slice, and of all slices of a kernel together
-abbrev pub max_steps : ℕ
-max_steps = 2 ^ 40
-
--- how many steps a kernel makes in all of its slices: the bound of its run
-abbrev pub bound_of : ℕ → List Slice → ℕ
-bound_of kernel [] = 0
-bound_of kernel (slice ∷ rest) = (if slice.kernel == kernel then slice.steps else 0) + bound_of kernel rest
 
 -- one of so many kernels, and a number of steps
 pub record IsSlice (kernels : ℕ) (slice : Slice) : Type 0 where

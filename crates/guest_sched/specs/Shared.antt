@@ -13,7 +13,7 @@ use Rattle.machine_model.specs.Run.{Set, Run, Steps, StopHolds, trace_of}
 use Rattle.wedge_core.specs.Promises.{HasFills}
 use Rattle.guest_sched.specs.declared.kernel.Kernel.{Kernel}
 use Rattle.guest_sched.specs.declared.schedule.Slice.{Slice}
-use Rattle.guest_sched.specs.Schedules.{bound_of}
+use Rattle.guest_sched.specs.Bounds.{bound_of}
 use Rattle.guest_sched.specs.Pieces.{Piece, reports_of, own_text, bound_line, lines_of_kernel}
 
 -- a kernel's own run, as if it were alone

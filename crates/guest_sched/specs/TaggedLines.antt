@@ -7,7 +7,8 @@ use Rattle.run_trace.specs.declared.items.End.{End}
 use Rattle.run_trace.specs.declared.items.End.TheVariants.{Bound, Stopped}
 use Rattle.run_trace.specs.declared.items.Ended.{Ended}
 use Rattle.run_trace.specs.Text.{item_line, end_line}
-use Rattle.guest_sched.specs.Tags.{tag_of, has_end, tagged, tagged_from, due_after}
+use Rattle.guest_sched.specs.Tags.{tag_of, tagged, tagged_from}
+use Rattle.guest_sched.specs.Dues.{has_end, due_after}
 use Rattle.machine_model.specs.Run.{trace_of}
 use Rattle.guest_sched.specs.Pieces.{Piece, shared_text}
 

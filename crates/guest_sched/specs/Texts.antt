@@ -6,7 +6,7 @@ use Rattle.board.specs.Texts.{number_upto, cut_at, is_skipped, is_empty}
 use Rattle.guest_sched.specs.declared.schedule.Slice.{Slice}
 use Rattle.guest_sched.specs.declared.fault.ScheduleCause.{ScheduleCause}
 use Rattle.guest_sched.specs.declared.fault.ScheduleCause.TheVariants.{NoForm, BadNumber, TooMany}
-use Rattle.guest_sched.specs.Schedules.{max_steps, max_slices, bound_of}
+use Rattle.guest_sched.specs.Bounds.{max_steps, max_slices, bound_of}
 
 -- words
 

@@ -2,7 +2,8 @@
 
 ghost use Rattle.std.specs.Prelude.{◌≡◌, ◌+◌, ◌<◌, ◌≤◌, ◌^◌, ◌++◌, ◌∷◌, [], length, Ok, Some, IfOk, OnOk};
 ghost use Rattle.board.specs.Texts.{cut_at};
-ghost use Rattle.guest_sched.specs.Schedules.{max_steps, max_slices, bound_of, IsSlice, IsSchedule};
+ghost use Rattle.guest_sched.specs.Bounds.{max_steps, max_slices, bound_of};
+ghost use Rattle.guest_sched.specs.Schedules.{IsSlice, IsSchedule};
 ghost use Rattle.guest_sched.specs.Texts.{at_start, slice_of_line, line_read, schedule_of};
 ghost use Rattle.guest_sched.specs.Lines.{AnswerSays};
 ghost use Rattle.guest_sched.specs.declared.fault.ScheduleFault.TheVariants.{At};

@@ -3,7 +3,7 @@
 use std::marker::Model;
 
 /// A kernel's turn: this many of its steps.
-#[derive(Clone, Copy, Debug, PartialEq, Eq)]
+#[derive(Clone, Copy)]
 pub struct Slice {
     /// The kernel, counted from 0.
     pub kernel: u8,

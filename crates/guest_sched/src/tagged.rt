@@ -4,7 +4,8 @@ ghost use Rattle.std.proofs.Props.{props};
 ghost use Rattle.std.specs.Prelude.{◌≡◌, ◌+◌, ◌-◌, ◌^◌, ◌<◌, ◌≤◌, ◌++◌, [], Some, true, false, not, length, take, IfOk, OnOk, OnErr, is_err, if◌then◌else◌};
 ghost use Rattle.pv_io.specs.Causes.{Rose};
 ghost use Rattle.pv_io.specs.Sink.{Appends, AppendsFront};
-ghost use Rattle.guest_sched.specs.Tags.{tag_of, line_len, has_end};
+ghost use Rattle.guest_sched.specs.Tags.{tag_of};
+ghost use Rattle.guest_sched.specs.Dues.{line_len, has_end};
 ghost use Rattle.guest_sched.specs.Marks.{IsTaken, told};
 
 use crate::mark::Mark;

@@ -1,5 +1,5 @@
 use Rattle.std.proofs.Common.{◌≡◌, ◌+◌, drop}
-use Rattle.guest_sched.specs.Schedules.{bound_of}
+use Rattle.guest_sched.specs.Bounds.{bound_of}
 use Rattle.guest_sched.proofs.reading.steps_in.Given as goal
 
 abbrev pub invariant-loop-slice : goal.invariant-loop-slice

@@ -1,5 +1,5 @@
 use Rattle.std.proofs.Common.{◌≡◌, ◌+◌, drop}
-use Rattle.guest_sched.specs.Tags.{line_len, has_end}
+use Rattle.guest_sched.specs.Dues.{line_len, has_end}
 use Rattle.guest_sched.proofs.tagged.first_line.Given as goal
 
 abbrev pub invariant-loop-b : goal.invariant-loop-b

@@ -2,7 +2,7 @@ use Rattle.std.proofs.Common.{◌++◌, ℕ, List, length, take, ap, sym, ◌∙
 use Rattle.std.proofs.lemmas.Bool.{eqb-true}
 use Rattle.std.proofs.lemmas.List.{append_assoc, nil_from_length}
 use Rattle.std.proofs.lemmas.Result.{err_from_is_err_and}
-use Rattle.guest_sched.specs.Tags.{line_len}
+use Rattle.guest_sched.specs.Dues.{line_len}
 use Rattle.guest_sched.proofs.Takes.{all_in, fails_in, goes_on}
 use Rattle.guest_sched.proofs.tagged.TaggedSink.put.Goals as goal
 
