@@ -8,7 +8,7 @@ use Rattle.board.specs.Form.{board_form}
 use Rattle.checkpoint.specs.declared.demand.Demand.{Demand}
 use Rattle.checkpoint.specs.declared.head.Head.{Head}
 use Rattle.board.specs.ScriptForm.{earlier}
-use Rattle.checkpoint.specs.Demands.{bad_in, first_bad, byte_demand, zero_demands}
+use Rattle.checkpoint.specs.Demands.{bad_in, first_bad, of_field, zero_demands}
 use Rattle.checkpoint.specs.Form.{magic_demands, count_demands, processor_demands, segments_demands, board_demand, board_demands, demands}
 use Rattle.checkpoint.proofs.Firsts.{first_bad-append}
 
@@ -61,15 +61,15 @@ pub zeros_from_none : (there at : ℕ) (bytes : List ℕ) → at + length bytes 
 unfolding first_bad
 zeros_from_none there at [] near none = refl
 zeros_from_none there at (b ∷ bytes) near none =
-    let both = none_both (bad_in there (byte_demand at (b == 0))) (first_bad there (zero_demands (at + 1) bytes)) none in
-    let zero_b : b ≡ 0 = eqb-true b 0 (met_in there (byte_demand at (b == 0)) (omega arith) both.0) in
+    let both = none_both (bad_in there (of_field at 1 (b == 0))) (first_bad there (zero_demands (at + 1) bytes)) none in
+    let zero_b : b ≡ 0 = eqb-true b 0 (met_in there (of_field at 1 (b == 0)) (omega arith) both.0) in
     ap (λ (x : ℕ). x ∷ bytes) zero_b ∙ ap (λ (xs : List ℕ). 0 ∷ xs) (zeros_from_none there (at + 1) bytes (omega arith) both.1)
 
 pub zeros_none : (there at n : ℕ) → first_bad there (zero_demands at (replicate n 0)) ≡ None
 unfolding first_bad
 zeros_none there at zero = refl
 zeros_none there at (suc n) =
-    ap (λ (a : Option ℕ). earlier a (first_bad there (zero_demands (at + 1) (replicate n 0)))) (none_bad there (byte_demand at true) refl)
+    ap (λ (a : Option ℕ). earlier a (first_bad there (zero_demands (at + 1) (replicate n 0)))) (none_bad there (of_field at 1 true) refl)
     ∙ zeros_none there (at + 1) n
 
 -- the board's

@@ -69,11 +69,7 @@ says cpu board step frames = record { board_is = refl; step_is = refl; frames_is
 
 same_state : (s : State) (cpu : Cpu) (board : Board) (step : ℕ) (ram : List ℕ) → cpu ≡ s.cpu → board ≡ s.board → step ≡ s.step → ram ≡ s.ram →
     (let made : State = record { cpu = cpu; board = board; step = step; ram = ram } in made) ≡ s
-same_state s cpu board step ram p q r t =
-    ap (λ (x : Cpu). let made : State = record { cpu = x; board = board; step = step; ram = ram } in made) p
-    ∙ ap (λ (x : Board). let made : State = record { cpu = s.cpu; board = x; step = step; ram = ram } in made) q
-    ∙ ap (λ (x : ℕ). let made : State = record { cpu = s.cpu; board = s.board; step = x; ram = ram } in made) r
-    ∙ ap (λ (x : List ℕ). let made : State = record { cpu = s.cpu; board = s.board; step = s.step; ram = x } in made) t
+same_state s cpu board step ram p q r t = λ i. record { cpu = p i; board = q i; step = r i; ram = t i }
 
 pub read_back : (s : State) → IsInForm s → length s.cpu.seg ≡ 4 → board_form (saved s.board) ≡ true → board_at (saved s.board) ≡ s.board →
     IsSized (head_of s.cpu (saved s.board) s.step (length s.ram / 4096)) → checkpoint_in (checkpoint_bytes s) ≡ Ok s

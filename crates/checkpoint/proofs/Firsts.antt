@@ -5,7 +5,7 @@ use Rattle.std.proofs.lemmas.List.{drop_all, drop_more, map-append}
 use Rattle.std.proofs.lemmas.Bool.{le-leb, lt-leb, ne_eqb}
 use Rattle.checkpoint.specs.declared.demand.Demand.{Demand}
 use Rattle.board.specs.ScriptForm.{earlier}
-use Rattle.checkpoint.specs.Demands.{bad_in, first_bad, byte_demand, zero_demands}
+use Rattle.checkpoint.specs.Demands.{bad_in, first_bad, of_field, zero_demands}
 
 pub earlier-none : (a : Option ℕ) → earlier a None ≡ a
 earlier-none None = refl
@@ -64,11 +64,11 @@ later_than there (b ∷ bytes) n at h =
 
 zeros_split : (at there i : ℕ) (bytes : List ℕ) → i < length bytes →
     first_bad there (zero_demands (at + i) (drop i bytes))
-    ≡ earlier (bad_in there (byte_demand (at + i) (get_or bytes i 0 == 0))) (first_bad there (zero_demands (at + (i + 1)) (drop (i + 1) bytes)))
+    ≡ earlier (bad_in there (of_field (at + i) 1 (get_or bytes i 0 == 0))) (first_bad there (zero_demands (at + (i + 1)) (drop (i + 1) bytes)))
 unfolding first_bad
 zeros_split at there i bytes h =
     ap (λ (xs : List ℕ). first_bad there (zero_demands (at + i) xs)) (drop_more bytes i 0 h)
-    ∙ ap (λ (k : ℕ). earlier (bad_in there (byte_demand (at + i) (get_or bytes i 0 == 0))) (first_bad there (zero_demands k (drop (i + 1) bytes))))
+    ∙ ap (λ (k : ℕ). earlier (bad_in there (of_field (at + i) 1 (get_or bytes i 0 == 0))) (first_bad there (zero_demands k (drop (i + 1) bytes))))
     (omega arith)
 
 pub set_here : (at there i : ℕ) (bytes : List ℕ) → i < length bytes → get_or bytes i 0 ≢ 0 → at + i < there →
@@ -76,7 +76,7 @@ pub set_here : (at there i : ℕ) (bytes : List ℕ) → i < length bytes → ge
 set_here at there i bytes h set near =
     let told : nat_le (at + i + 1) there ≡ true = le-leb _ _ (omega arith) in
     let unmet : (get_or bytes i 0 == 0) ≡ false = ne_eqb _ _ set in
-    let is : bad_in there (byte_demand (at + i) (get_or bytes i 0 == 0)) ≡ Some (at + i) = rw (told, unmet) refl in
+    let is : bad_in there (of_field (at + i) 1 (get_or bytes i 0 == 0)) ≡ Some (at + i) = rw (told, unmet) refl in
     zeros_split at there i bytes h
     ∙ ap (λ (a : Option ℕ). earlier a (first_bad there (zero_demands (at + (i + 1)) (drop (i + 1) bytes)))) is
     ∙ later_than there (drop (i + 1) bytes) (at + i) (at + (i + 1)) (omega arith)
@@ -84,7 +84,7 @@ set_here at there i bytes h set near =
 pub zero_here : (at there i : ℕ) (bytes : List ℕ) → i < length bytes → get_or bytes i 0 ≡ 0 →
     first_bad there (zero_demands (at + i) (drop i bytes)) ≡ first_bad there (zero_demands (at + (i + 1)) (drop (i + 1) bytes))
 zero_here at there i bytes h zero =
-    let isnt : bad_in there (byte_demand (at + i) (get_or bytes i 0 == 0)) ≡ None = rw zero (and_false (nat_le (at + i + 1) there) (at + i)) in
+    let isnt : bad_in there (of_field (at + i) 1 (get_or bytes i 0 == 0)) ≡ None = rw zero (and_false (nat_le (at + i + 1) there) (at + i)) in
     zeros_split at there i bytes h
     ∙ ap (λ (a : Option ℕ). earlier a (first_bad there (zero_demands (at + (i + 1)) (drop (i + 1) bytes)))) isnt
   where
@@ -96,7 +96,7 @@ pub behind_end : (at there i : ℕ) (bytes : List ℕ) → i < length bytes → 
     first_bad there (zero_demands (at + i) (drop i bytes)) ≡ first_bad there (zero_demands (at + (i + 1)) (drop (i + 1) bytes))
 behind_end at there i bytes h far =
     let untold : nat_le (at + i + 1) there ≡ false = lt-leb _ _ (omega arith) in
-    let isnt : bad_in there (byte_demand (at + i) (get_or bytes i 0 == 0)) ≡ None = rw untold refl in
+    let isnt : bad_in there (of_field (at + i) 1 (get_or bytes i 0 == 0)) ≡ None = rw untold refl in
     zeros_split at there i bytes h
     ∙ ap (λ (a : Option ℕ). earlier a (first_bad there (zero_demands (at + (i + 1)) (drop (i + 1) bytes)))) isnt
 

@@ -1,6 +1,8 @@
 -- The head that is spelled is read, and what is read is spelled.
-use Rattle.std.proofs.Common.{◌≡◌, ℕ, ◌+◌, ◌≤◌, List, [], ◌∷◌, length, get_or, refl, ap, ◌∙◌, arith, length-append}
+use Rattle.std.proofs.Common.{◌≡◌, ℕ, ◌+◌, ◌≤◌, true, List, [], ◌∷◌, length, get_or, refl, ap, sym, subst, ◌∙◌, arith, length-append}
+use Rattle.std.specs.Prelude.{nat_le}
 use Rattle.std.specs.List.{concat, flat_map}
+use Rattle.std.proofs.lemmas.Bool.{leb-true}
 use Rattle.std.proofs.lemmas.List.{take_all}
 use Rattle.guest_ram.specs.Bytes.{part, byte, word16, word32, AreBytes}
 use Rattle.checkpoint.specs.declared.head.Head.{Head}
@@ -144,35 +146,33 @@ stands h is =
 
 read_so : (m : List ℕ) (h : Head) → Stands m h → head_at m ≡ h
 unfolding head_at
-read_so m h is =
-    rw (
-      is.magic,
-      is.frames,
-      is.step,
-      is.registers,
-      is.eip,
-      is.eflags,
-      is.cr0,
-      is.cr2,
-      is.cr3,
-      is.cr4,
-      is.gdt_base,
-      is.idt_base,
-      is.task_base,
-      is.task_limit,
-      is.gdt_limit,
-      is.idt_limit,
-      is.task_selector,
-      is.task_loaded,
-      is.level,
-      is.segments,
-      is.halted,
-      is.held,
-      is.unnamed,
-      is.board,
-      is.rest,
-    )
-    refl
+read_so m h is = λ i. record {
+  magic = is.magic i;
+  frames = is.frames i;
+  step = is.step i;
+  registers = is.registers i;
+  eip = is.eip i;
+  eflags = is.eflags i;
+  cr0 = is.cr0 i;
+  cr2 = is.cr2 i;
+  cr3 = is.cr3 i;
+  cr4 = is.cr4 i;
+  gdt_base = is.gdt_base i;
+  idt_base = is.idt_base i;
+  task_base = is.task_base i;
+  task_limit = is.task_limit i;
+  gdt_limit = is.gdt_limit i;
+  idt_limit = is.idt_limit i;
+  task_selector = is.task_selector i;
+  task_loaded = is.task_loaded i;
+  level = is.level i;
+  segments = is.segments i;
+  halted = is.halted i;
+  held = is.held i;
+  unnamed = is.unnamed i;
+  board = is.board i;
+  rest = is.rest i;
+}
 
 pub head_back : (h : Head) → IsSized h → head_at (spelled h) ≡ h
 unfolding spelled
@@ -180,19 +180,22 @@ head_back h is = read_so (concat (parts h)) h (stands h is)
 
 -- and the other way
 
-cons : {p q : List ℕ} {ps qs : List (List ℕ)} → p ≡ q → ps ≡ qs → p ∷ ps ≡ q ∷ qs
-cons {p} {q} {ps} {qs} e f = ap (λ (x : List ℕ). x ∷ ps) e ∙ ap (λ (xs : List (List ℕ)). q ∷ xs) f
-
 parts_again : (m : List ℕ) → AreBytes m → length m ≡ 256 → parts (head_at m) ≡ cut 0 widths m
 unfolding head_at
 parts_again m are long =
-    let w : (a : ℕ) → a + 4 ≤ length m → four (word32 m a) ≡ part m a 4 = λ a room. word_again m a are room in
-    let v : (a : ℕ) → a + 2 ≤ length m → two (word16 m a) ≡ part m a 2 = λ a room. half_again m a are room in
-    cons refl (cons (w 4 (omega arith)) (cons (double_again m 8 are (omega arith)) (cons (words_again m 16 8 are (omega arith))
-    (cons (w 48 (omega arith)) (cons (w 52 (omega arith)) (cons (w 56 (omega arith)) (cons (w 60 (omega arith)) (cons (w 64 (omega arith))
-    (cons (w 68 (omega arith)) (cons (w 72 (omega arith)) (cons (w 76 (omega arith)) (cons (w 80 (omega arith)) (cons (w 84 (omega arith))
-    (cons (v 88 (omega arith)) (cons (v 90 (omega arith)) (cons (v 92 (omega arith)) (cons (bytes_again m 94 (omega arith))
-    (cons (segments_again m 96 4 are (omega arith)) (cons (bytes_again m 112 (omega arith)) (cons refl (cons refl (cons refl refl))))))))))))))))))))))
+    let there : (k : ℕ) → nat_le k 256 ≡ true → k ≤ length m = λ k near. subst (λ (n : ℕ). k ≤ n) (sym long) (leb-true k 256 near) in
+    let word : (a : ℕ) → nat_le (a + 4) 256 ≡ true → four (word32 m a) ≡ part m a 4 = λ a near. word_again m a are (there (a + 4) near) in
+    let half : (a : ℕ) → nat_le (a + 2) 256 ≡ true → two (word16 m a) ≡ part m a 2 = λ a near. half_again m a are (there (a + 2) near) in
+    let step = double_again m 8 are (there 16 refl) in
+    let registers = words_again m 16 8 are (there 48 refl) in
+    let loaded = bytes_again m 94 (there 96 refl) in
+    let segments = segments_again m 96 4 are (there 112 refl) in
+    let halted = bytes_again m 112 (there 114 refl) in
+    λ i. part m 0 4 ∷ word 4 refl i ∷ step i ∷ registers i
+    ∷ word 48 refl i ∷ word 52 refl i ∷ word 56 refl i ∷ word 60 refl i ∷ word 64 refl i ∷ word 68 refl i
+    ∷ word 72 refl i ∷ word 76 refl i ∷ word 80 refl i ∷ word 84 refl i
+    ∷ half 88 refl i ∷ half 90 refl i ∷ half 92 refl i ∷ loaded i
+    ∷ segments i ∷ halted i ∷ part m 114 14 ∷ part m 128 64 ∷ part m 192 64 ∷ []
 
 pub spelled_again : (m : List ℕ) → AreBytes m → length m ≡ 256 → spelled (head_at m) ≡ m
 unfolding spelled part

@@ -100,9 +100,7 @@ segment_there m a s small is =
     let selector : word16 m a ≡ s.selector = half_there m a s.selector (front_of m a 2 (two s.selector) (s.null ∷ s.level ∷ []) is) small in
     let null : byte m (a + 2) ≡ s.null = byte_there m a 4 2 (segment_bytes s) is (omega arith) in
     let level : byte m (a + 3) ≡ s.level = byte_there m a 4 3 (segment_bytes s) is (omega arith) in
-    ap (λ (x : ℕ). let made : Segment = record { selector = x; null = byte m (a + 2); level = byte m (a + 3) } in made) selector
-    ∙ ap (λ (x : ℕ). let made : Segment = record { selector = s.selector; null = x; level = byte m (a + 3) } in made) null
-    ∙ ap (λ (x : ℕ). let made : Segment = record { selector = s.selector; null = s.null; level = x } in made) level
+    λ i. record { selector = selector i; null = null i; level = level i }
 
 pub segments_there : (m : List ℕ) (a n : ℕ) (segments : List Segment) → AreSelectors segments → length segments ≡ n → part m a (4 * n) ≡ flat_map segment_bytes segments →
     segments_at m a n ≡ segments

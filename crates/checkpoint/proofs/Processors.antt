@@ -11,7 +11,7 @@ use Rattle.board.proofs.Saves.{worth_back, worth_small}
 use Rattle.machine_model.specs.Fit.{Fit, IsLevel, IsSegment, AreFlags}
 use Rattle.checkpoint.specs.declared.head.Head.{Head}
 use Rattle.checkpoint.specs.declared.head.Segment.{Segment}
-use Rattle.checkpoint.specs.Form.{is_frame_count, are_flags, is_control_0, is_control_3, is_control_4, is_level, is_halt, is_null, segment_of, magic_demands, processor_demands, segments_demands}
+use Rattle.checkpoint.specs.Form.{is_frame_count, are_flags, is_control_0, is_control_4, is_level, is_halt, is_null, segment_of, magic_demands, processor_demands, segments_demands}
 use Rattle.checkpoint.specs.States.{segment_from, head_of, hidden_from, cpu_of}
 use Rattle.checkpoint.proofs.Boards.{worth_again}
 use Rattle.checkpoint.proofs.AllMet.{all_met, Groups}
@@ -27,8 +27,7 @@ four_of (a ∷ b ∷ c ∷ e ∷ []) d long = refl
 four_of (a ∷ b ∷ c ∷ e ∷ f ∷ xs) d long = absurd (omega arith)
 
 four_same : {T : Type 0} {a b c d a' b' c' d' : T} → a ≡ a' → b ≡ b' → c ≡ c' → d ≡ d' → a ∷ b ∷ c ∷ d ∷ [] ≡ a' ∷ b' ∷ c' ∷ d' ∷ []
-four_same {T} {a} {b} {c} {d} {a'} {b'} {c'} {d'} p q r s =
-    ap (λ (x : T). x ∷ b ∷ c ∷ d ∷ []) p ∙ ap (λ (x : T). a' ∷ x ∷ c ∷ d ∷ []) q ∙ ap (λ (x : T). a' ∷ b' ∷ x ∷ d ∷ []) r ∙ ap (λ (x : T). a' ∷ b' ∷ c' ∷ x ∷ []) s
+four_same {T} {a} {b} {c} {d} {a'} {b'} {c'} {d'} p q r s = λ i. p i ∷ q i ∷ r i ∷ s i ∷ []
 
 four_all : (P : Hidden → Type 0) (a b c e : Hidden) → P a → P b → P c → P e → All P (a ∷ b ∷ c ∷ e ∷ [])
 four_all P a b c e pa pb pc pe zero d h = pa
@@ -48,11 +47,10 @@ cpu_back cpu board step frames long =
     let seg : hidden_from (segment_from (seg_of cpu 0)) ∷ hidden_from (segment_from (seg_of cpu 1)) ∷ hidden_from (segment_from (seg_of cpu 2)) ∷ hidden_from (segment_from (seg_of cpu 3)) ∷ [] ≡ cpu.seg =
     four_same (hidden_back (seg_of cpu 0)) (hidden_back (seg_of cpu 1)) (hidden_back (seg_of cpu 2)) (hidden_back (seg_of cpu 3))
     ∙ four_of cpu.seg (record { sel = 0; null = false; dpl = 0 }) long in
-    let make : List Hidden → Bool → Bool → Bool → Cpu = λ s loaded halted held. record cpu { seg = s; task = record cpu.task { loaded = loaded }; halted = halted; held = held } in
-    ap (λ (s : List Hidden). make s (worth cpu.task.loaded == 1) (worth cpu.halted == 1) (worth cpu.held == 1)) seg
-    ∙ ap (λ (b : Bool). make cpu.seg b (worth cpu.halted == 1) (worth cpu.held == 1)) (worth_back cpu.task.loaded)
-    ∙ ap (λ (b : Bool). make cpu.seg cpu.task.loaded b (worth cpu.held == 1)) (worth_back cpu.halted)
-    ∙ ap (λ (b : Bool). make cpu.seg cpu.task.loaded cpu.halted b) (worth_back cpu.held)
+    let loaded = worth_back cpu.task.loaded in
+    let halted = worth_back cpu.halted in
+    let held = worth_back cpu.held in
+    λ i. record cpu { seg = seg i; task = record cpu.task { loaded = loaded i }; halted = halted i; held = held i }
 
 -- ---- what a fit processor's numbers meet
 
@@ -93,7 +91,7 @@ meets cpu board step frames fit long few low high form =
       processor =
           and_from (are_flags cpu.regs.flags.bits) _ (flags_test cpu.regs.flags.bits fit.flags)
           (and_from (is_control_0 cpu.cr0) _ (and_from (bit_and cpu.cr0 0x80000011 == 0x80000011) (bit_and cpu.cr0 0x7FFAFFC0 == 0) (eq-eqb _ _ fit.controls.on) (eq-eqb _ _ fit.controls.others))
-          (and_from (is_control_3 cpu.cr3) _ (eq-eqb _ _ fit.controls.directory)
+          (and_from (bit_and cpu.cr3 0xFE7 == 0) _ (eq-eqb _ _ fit.controls.directory)
           (and_from (is_control_4 cpu.cr4) _ (control_4_test cpu.cr4 fit.controls.extensions)
           (and_from (nat_le (worth cpu.task.loaded) 1) _ (worth_small cpu.task.loaded)
           (and_from (is_level cpu.cpl) _ (level_test cpu.cpl fit.level)
@@ -203,7 +201,7 @@ to_processor : (h : Head) → all_met (processor_demands h) ≡ true → Process
 to_processor h met =
     let a = and_parts (are_flags h.eflags) _ met in
     let b = and_parts (is_control_0 h.cr0) _ a.1 in
-    let c = and_parts (is_control_3 h.cr3) _ b.1 in
+    let c = and_parts (bit_and h.cr3 0xFE7 == 0) _ b.1 in
     let d = and_parts (is_control_4 h.cr4) _ c.1 in
     let e = and_parts (nat_le h.task_loaded 1) _ d.1 in
     let f = and_parts (is_level h.level) _ e.1 in
@@ -261,12 +259,10 @@ head_again h magic_long long groups =
     let segments : segment_from (hidden_from (segment_of h 0)) ∷ segment_from (hidden_from (segment_of h 1)) ∷ segment_from (hidden_from (segment_of h 2)) ∷ segment_from (hidden_from (segment_of h 3)) ∷ [] ≡ h.segments =
     four_same (segment_again (segment_of h 0) s.low0) (segment_again (segment_of h 1) s.low1) (segment_again (segment_of h 2) s.low2) (segment_again (segment_of h 3) s.low3)
     ∙ four_of h.segments (record { selector = 0; null = 0; level = 0 }) long in
-    let make : List ℕ → ℕ → List Segment → ℕ → ℕ → List ℕ → List ℕ → Head = λ magic loaded segments halted held unnamed rest.
-    record h { magic = magic; task_loaded = loaded; segments = segments; halted = halted; held = held; unnamed = unnamed; rest = rest } in
-    ap (λ (x : List ℕ). make x (worth (h.task_loaded == 1)) (segment_from (hidden_from (segment_of h 0)) ∷ segment_from (hidden_from (segment_of h 1)) ∷ segment_from (hidden_from (segment_of h 2)) ∷ segment_from (hidden_from (segment_of h 3)) ∷ []) (worth (h.halted == 1)) (worth (h.held == 1)) (replicate 14 0) (replicate 64 0)) (magic_is h.magic magic_long groups.magic)
-    ∙ ap (λ (x : ℕ). make h.magic x (segment_from (hidden_from (segment_of h 0)) ∷ segment_from (hidden_from (segment_of h 1)) ∷ segment_from (hidden_from (segment_of h 2)) ∷ segment_from (hidden_from (segment_of h 3)) ∷ []) (worth (h.halted == 1)) (worth (h.held == 1)) (replicate 14 0) (replicate 64 0)) (worth_again h.task_loaded p.loaded)
-    ∙ ap (λ (x : List Segment). make h.magic h.task_loaded x (worth (h.halted == 1)) (worth (h.held == 1)) (replicate 14 0) (replicate 64 0)) segments
-    ∙ ap (λ (x : ℕ). make h.magic h.task_loaded h.segments x (worth (h.held == 1)) (replicate 14 0) (replicate 64 0)) (worth_again h.halted p.halted)
-    ∙ ap (λ (x : ℕ). make h.magic h.task_loaded h.segments h.halted x (replicate 14 0) (replicate 64 0)) (worth_again h.held p.held)
-    ∙ ap (λ (x : List ℕ). make h.magic h.task_loaded h.segments h.halted h.held x (replicate 64 0)) (sym groups.unnamed)
-    ∙ ap (λ (x : List ℕ). make h.magic h.task_loaded h.segments h.halted h.held h.unnamed x) (sym groups.rest)
+    let magic = magic_is h.magic magic_long groups.magic in
+    let loaded = worth_again h.task_loaded p.loaded in
+    let halted = worth_again h.halted p.halted in
+    let held = worth_again h.held p.held in
+    let unnamed = sym groups.unnamed in
+    let rest = sym groups.rest in
+    λ i. record h { magic = magic i; task_loaded = loaded i; segments = segments i; halted = halted i; held = held i; unnamed = unnamed i; rest = rest i }

@@ -12,17 +12,11 @@ unfoldable pub first_bad : ℕ → List Demand → Option ℕ
 first_bad there [] = None
 first_bad there (d ∷ demands) = earlier (bad_in there d) (first_bad there demands)
 
--- a number of one byte
-abbrev pub byte_demand : ℕ → Bool → Demand
-byte_demand at met = record { at = at; end = at + 1; met = met }
-
-abbrev pub word_demand : ℕ → Bool → Demand
-word_demand at met = record { at = at; end = at + 4; met = met }
-
-abbrev pub double_demand : ℕ → Bool → Demand
-double_demand at met = record { at = at; end = at + 8; met = met }
+-- of a field at a place, which so many bytes tell
+abbrev pub of_field : ℕ → ℕ → Bool → Demand
+of_field at size met = record { at = at; end = at + size; met = met }
 
 -- bytes without a name, each by itself
 abbrev pub zero_demands : ℕ → List ℕ → List Demand
 zero_demands at [] = []
-zero_demands at (b ∷ bytes) = byte_demand at (b == 0) ∷ zero_demands (at + 1) bytes
+zero_demands at (b ∷ bytes) = of_field at 1 (b == 0) ∷ zero_demands (at + 1) bytes

@@ -4,6 +4,7 @@ use Rattle.guest_ram.specs.Bytes.{byte}
 use Rattle.ia32_types.specs.declared.addresses.TheConstants.{TEXT_PLACE}
 use Rattle.image_check.specs.Image.{Image}
 use Rattle.machine_model.specs.Rules.{is_open}
+use Rattle.checkpoint.specs.declared.head.TheConstants.{STEP_PLACE, EFLAGS_PLACE}
 use Rattle.checkpoint.specs.declared.state.State.{State}
 use Rattle.checkpoint.specs.declared.state.CheckpointCause.{CheckpointCause}
 use Rattle.checkpoint.specs.declared.state.CheckpointCause.TheVariants.{TextChanged, UserFlags, StepsPast}
@@ -21,12 +22,12 @@ first_change ram k (b ∷ text) = if has_at ram k b then first_change ram (k + 1
 abbrev pub has_user_flags : State → Bool
 has_user_flags s = s.cpu.cpl == 3 && not (is_open s.cpu)
 
--- the place in the text, in EFLAGS or in the count of steps
 abbrev pub unless_changed : Option ℕ → Result Unit (ℕ × CheckpointCause) → Result Unit (ℕ × CheckpointCause)
 unless_changed None rest = rest
 unless_changed (Some at) rest = Err (at, TextChanged)
 
+-- the place in the text, or that of EFLAGS or of the count of steps in the file
 unfoldable pub fits_of : State → Image → Bool → ℕ → Result Unit (ℕ × CheckpointCause)
 fits_of s image wedge n =
     unless_changed (first_change s.ram 0 image.text)
-    (if wedge && has_user_flags s then Err (52, UserFlags) else if nat_lt n s.step then Err (8, StepsPast) else Ok tt)
+    (if wedge && has_user_flags s then Err (EFLAGS_PLACE, UserFlags) else if nat_lt n s.step then Err (STEP_PLACE, StepsPast) else Ok tt)

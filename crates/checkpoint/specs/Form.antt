@@ -1,28 +1,27 @@
 -- What the first 256 bytes of a checkpoint are to meet. A demand that ties fields to each other is the last one's.
-use Rattle.std.specs.Prelude.{ℕ, ◌+◌, ◌*◌, ◌^◌, Bool, true, ◌&&◌, ◌||◌, ◌==◌, nat_lt, nat_le, bit_and, List, [], ◌∷◌, ◌++◌, map, slice_index, slice_index_or, if◌then◌else◌}
+use Rattle.std.specs.Prelude.{ℕ, ◌+◌, ◌^◌, Bool, ◌&&◌, ◌||◌, ◌==◌, nat_lt, nat_le, bit_and, List, [], ◌∷◌, ◌++◌, map, slice_index, slice_index_or, if◌then◌else◌}
 use Rattle.ia32_types.specs.Bits.{worth}
-use Rattle.pic8259.specs.Phases.{phase_fits}
-use Rattle.pit8254.specs.Timers.{steps_per_tick}
-use Rattle.board.specs.Restored.{phase_of, demands as board_tests}
+use Rattle.board.specs.Restored.{demands as board_tests}
 use Rattle.checkpoint.specs.declared.demand.Demand.{Demand}
 use Rattle.checkpoint.specs.declared.head.Head.{Head}
 use Rattle.checkpoint.specs.declared.head.Segment.{Segment}
-use Rattle.checkpoint.specs.Demands.{byte_demand, word_demand, double_demand, zero_demands}
+use Rattle.checkpoint.specs.declared.head.TheConstants.{FRAMES_PLACE, STEP_PLACE, EFLAGS_PLACE, CR0_PLACE, CR3_PLACE, CR4_PLACE, TASK_LOADED_PLACE, LEVEL_PLACE, HALTED_PLACE, HELD_PLACE}
+use Rattle.checkpoint.specs.Demands.{of_field, zero_demands}
 
 -- A file that ends within "PVC1" can still be gone on with, if these are its bytes so far.
 abbrev pub magic_demands : List ℕ → List Demand
 magic_demands magic =
-    record { at = 0; end = 1; met = slice_index magic 0 == 80 }
-    ∷ record { at = 0; end = 2; met = slice_index magic 1 == 86 }
-    ∷ record { at = 0; end = 3; met = slice_index magic 2 == 67 }
-    ∷ record { at = 0; end = 4; met = slice_index magic 3 == 49 }
+    of_field 0 1 (slice_index magic 0 == 80)
+    ∷ of_field 0 2 (slice_index magic 1 == 86)
+    ∷ of_field 0 3 (slice_index magic 2 == 67)
+    ∷ of_field 0 4 (slice_index magic 3 == 49)
     ∷ []
 
 abbrev pub is_frame_count : ℕ → Bool
 is_frame_count n = nat_le 2048 n && nat_le n 16384
 
 abbrev pub count_demands : Head → List Demand
-count_demands h = word_demand 4 (is_frame_count h.frames) ∷ double_demand 8 (nat_le h.step (2 ^ 40)) ∷ []
+count_demands h = of_field FRAMES_PLACE 4 (is_frame_count h.frames) ∷ of_field STEP_PLACE 8 (nat_le h.step (2 ^ 40)) ∷ []
 
 -- the processor
 
@@ -33,9 +32,6 @@ are_flags bits = bit_and bits 2 == 2 && bit_and bits 0xFFFFC128 == 0
 -- paging, protection and bit 4 are on, and no reserved bit
 abbrev pub is_control_0 : ℕ → Bool
 is_control_0 bits = bit_and bits 0x80000011 == 0x80000011 && bit_and bits 0x7FFAFFC0 == 0
-
-abbrev pub is_control_3 : ℕ → Bool
-is_control_3 bits = bit_and bits 0xFE7 == 0
 
 abbrev pub is_control_4 : ℕ → Bool
 is_control_4 bits = bits == 0 || bits == 0x10
@@ -49,14 +45,14 @@ is_halt halted level = nat_le halted 1 && (halted == 0 || level == 0)
 
 abbrev pub processor_demands : Head → List Demand
 processor_demands h =
-    word_demand 52 (are_flags h.eflags)
-    ∷ word_demand 56 (is_control_0 h.cr0)
-    ∷ word_demand 64 (is_control_3 h.cr3)
-    ∷ word_demand 68 (is_control_4 h.cr4)
-    ∷ byte_demand 94 (nat_le h.task_loaded 1)
-    ∷ byte_demand 95 (is_level h.level)
-    ∷ byte_demand 112 (is_halt h.halted h.level)
-    ∷ byte_demand 113 (nat_le h.held 1)
+    of_field EFLAGS_PLACE 4 (are_flags h.eflags)
+    ∷ of_field CR0_PLACE 4 (is_control_0 h.cr0)
+    ∷ of_field CR3_PLACE 4 (bit_and h.cr3 0xFE7 == 0)
+    ∷ of_field CR4_PLACE 4 (is_control_4 h.cr4)
+    ∷ of_field TASK_LOADED_PLACE 1 (nat_le h.task_loaded 1)
+    ∷ of_field LEVEL_PLACE 1 (is_level h.level)
+    ∷ of_field HALTED_PLACE 1 (is_halt h.halted h.level)
+    ∷ of_field HELD_PLACE 1 (nat_le h.held 1)
     ∷ []
 
 abbrev pub segment_of : Head → ℕ → Segment
@@ -67,11 +63,11 @@ abbrev pub is_null : Segment → Bool
 is_null s = s.null == worth (nat_lt s.selector 4)
 
 abbrev pub segment_demands : ℕ → Segment → List Demand
-segment_demands at s = byte_demand (at + 2) (is_null s) ∷ byte_demand (at + 3) (is_level s.level) ∷ []
+segment_demands at s = of_field (at + 2) 1 (is_null s) ∷ of_field (at + 3) 1 (is_level s.level) ∷ []
 
 -- the segments of code and stack are there, and of the processor's level
 abbrev pub own_segment_demands : ℕ → Segment → ℕ → List Demand
-own_segment_demands at s level = byte_demand (at + 2) (s.null == 0) ∷ byte_demand (at + 3) (s.level == level) ∷ []
+own_segment_demands at s level = of_field (at + 2) 1 (s.null == 0) ∷ of_field (at + 3) 1 (s.level == level) ∷ []
 
 abbrev pub segments_demands : Head → List Demand
 segments_demands h =
@@ -85,22 +81,8 @@ segments_demands h =
 abbrev pub width_in_board : ℕ → ℕ
 width_in_board at = if at == 16 || at == 20 then 4 else if at == 24 then 8 else 1
 
--- tests of the board's that tie its numbers
-
-abbrev pub fits_phase : ℕ → ℕ → Bool
-fits_phase phase once_ready = phase_fits (phase_of phase) (once_ready == 1)
-
-abbrev pub low_fits : ℕ → ℕ → Bool
-low_fits phase low = phase == 2 || low == 0
-
-abbrev pub next_fits : ℕ → ℕ → Bool
-next_fits period next_period = if period == 0 then next_period == 0 else true
-
-abbrev pub left_fits : ℕ → ℕ → Bool
-left_fits period left = if period == 0 then left == 0 else nat_lt 0 left && nat_le left (steps_per_tick * period)
-
 abbrev pub board_demand : ℕ × Bool → Demand
-board_demand test = record { at = 128 + test.0; end = 128 + test.0 + width_in_board test.0; met = test.1 }
+board_demand test = of_field (128 + test.0) (width_in_board test.0) test.1
 
 abbrev pub board_demands : List ℕ → List Demand
 board_demands board = map board_demand (board_tests board)

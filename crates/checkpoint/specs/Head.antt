@@ -36,19 +36,17 @@ segment_bytes s = two s.selector ++ (s.null ∷ s.level ∷ [])
 abbrev pub front_parts : Head → List (List ℕ)
 front_parts h = h.magic ∷ four h.frames ∷ eight h.step ∷ flat_map four h.registers ∷ []
 
-abbrev pub word_parts : Head → List (List ℕ)
-word_parts h =
+abbrev pub control_parts : Head → List (List ℕ)
+control_parts h =
     four h.eip ∷ four h.eflags ∷ four h.cr0 ∷ four h.cr2 ∷ four h.cr3 ∷ four h.cr4
-    ∷ four h.gdt_base ∷ four h.idt_base ∷ four h.task_base ∷ four h.task_limit ∷ []
-
-abbrev pub limit_parts : Head → List (List ℕ)
-limit_parts h = two h.gdt_limit ∷ two h.idt_limit ∷ two h.task_selector ∷ (h.task_loaded ∷ h.level ∷ []) ∷ []
+    ∷ four h.gdt_base ∷ four h.idt_base ∷ four h.task_base ∷ four h.task_limit
+    ∷ two h.gdt_limit ∷ two h.idt_limit ∷ two h.task_selector ∷ (h.task_loaded ∷ h.level ∷ []) ∷ []
 
 abbrev pub last_parts : Head → List (List ℕ)
 last_parts h = flat_map segment_bytes h.segments ∷ (h.halted ∷ h.held ∷ []) ∷ h.unnamed ∷ h.board ∷ h.rest ∷ []
 
 abbrev pub parts : Head → List (List ℕ)
-parts h = front_parts h ++ word_parts h ++ limit_parts h ++ last_parts h
+parts h = front_parts h ++ control_parts h ++ last_parts h
 
 unfoldable pub spelled : Head → List ℕ
 spelled h = concat (parts h)

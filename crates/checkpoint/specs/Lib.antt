@@ -2,6 +2,7 @@ pub mod Ranges
 pub mod Demands
 pub mod Head
 pub mod Form
+pub mod BoardTies
 pub mod InForm
 pub mod States
 pub mod Fits

@@ -3,7 +3,8 @@
 ghost use Rattle.std.specs.Prelude.{◌≡◌, ◌+◌, ◌<◌, ◌≤◌, ◌^◌, min, map};
 ghost use Rattle.board.specs.Restored.{chip_demands, pair_demands, timer_demands, port_demands};
 ghost use Rattle.checkpoint.specs.Demands.{first_bad};
-ghost use Rattle.checkpoint.specs.Form.{fits_phase, low_fits, next_fits, left_fits, board_demand, board_demands};
+ghost use Rattle.checkpoint.specs.BoardTies.{fits_phase, low_fits, next_fits, left_fits};
+ghost use Rattle.checkpoint.specs.Form.{board_demand, board_demands};
 
 use crate::demand::{Demand, earlier, first_bad};
 use board::{are_zero, controllers_at, eight_at, four_at, is_period_or_none};

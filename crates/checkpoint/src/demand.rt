@@ -2,7 +2,7 @@
 
 ghost use Rattle.std.specs.Prelude.{◌≡◌, ◌+◌, ◌<◌, ◌^◌, length};
 ghost use Rattle.board.specs.ScriptForm.{earlier};
-ghost use Rattle.checkpoint.specs.Demands.{bad_in, first_bad, byte_demand, word_demand, double_demand, zero_demands};
+ghost use Rattle.checkpoint.specs.Demands.{bad_in, first_bad, of_field, zero_demands};
 
 /// What a field at a place is to meet. It is told by the bytes before `end`, and is asked only where they are there.
 #[derive(Clone, Copy)]
@@ -44,38 +44,14 @@ pub fn first_bad(there: usize, demands: &[Demand]) -> Option<u32>
     first
 }
 
-/// Of a field of one byte.
-pub fn byte_demand(at: u32, met: bool) -> Demand
-    requires { at < 2 ^ 31 }
-    ensures { result ≡ byte_demand at met }
+/// Of a field of so many bytes.
+pub fn of_field(at: u32, size: u32, met: bool) -> Demand
+    requires { at + size < 2 ^ 31 }
+    ensures { result ≡ of_field at size met }
 {
     Demand {
         at,
-        end: at + 1,
-        met,
-    }
-}
-
-/// Of a field of four bytes.
-pub fn word_demand(at: u32, met: bool) -> Demand
-    requires { at < 2 ^ 31 }
-    ensures { result ≡ word_demand at met }
-{
-    Demand {
-        at,
-        end: at + 4,
-        met,
-    }
-}
-
-/// Of a field of eight bytes.
-pub fn double_demand(at: u32, met: bool) -> Demand
-    requires { at < 2 ^ 31 }
-    ensures { result ≡ double_demand at met }
-{
-    Demand {
-        at,
-        end: at + 8,
+        end: at + size,
         met,
     }
 }

@@ -7,6 +7,7 @@ ghost use Rattle.machine_model.specs.Fit.{Fit};
 ghost use Rattle.machine_model.specs.Rules.{is_open};
 ghost use Rattle.checkpoint.specs.Fits.{first_change, has_user_flags, fits_of};
 
+use crate::head::{EFLAGS_PLACE, STEP_PLACE};
 use crate::state::{CheckpointCause, State};
 use descriptors::Cpu;
 use guest_ram::Ram;
@@ -62,10 +63,10 @@ pub fn fits(
         return Err((at, CheckpointCause::TextChanged));
     }
     if wedge && has_user_flags(state) {
-        return Err((52, CheckpointCause::UserFlags));
+        return Err((EFLAGS_PLACE, CheckpointCause::UserFlags));
     }
     if n < state.step {
-        return Err((8, CheckpointCause::StepsPast));
+        return Err((STEP_PLACE, CheckpointCause::StepsPast));
     }
     Ok(())
 }

@@ -2,13 +2,14 @@
 
 ghost use Rattle.std.specs.Prelude.{◌≡◌, ◌+◌, ◌<◌, ◌^◌, length};
 ghost use Rattle.checkpoint.specs.Demands.{first_bad};
-ghost use Rattle.checkpoint.specs.Form.{magic_demands, count_demands, is_frame_count, are_flags, is_control_0, is_control_3, is_control_4, is_level, is_halt, processor_demands, is_null, segments_demands, demands};
+ghost use Rattle.checkpoint.specs.Form.{magic_demands, count_demands, is_frame_count, are_flags, is_control_0, is_control_4, is_level, is_halt, processor_demands, is_null, segments_demands, demands};
 
 use crate::board_form::bad_in_board;
-use crate::demand::{
-    Demand, byte_demand, double_demand, earlier, first_bad, first_set, word_demand,
+use crate::demand::{Demand, earlier, first_bad, first_set, of_field};
+use crate::head::{
+    CR0_PLACE, CR3_PLACE, CR4_PLACE, EFLAGS_PLACE, FRAMES_PLACE, HALTED_PLACE, HELD_PLACE, Head,
+    LEVEL_PLACE, STEP_PLACE, Segment, TASK_LOADED_PLACE,
 };
-use crate::head::{Head, Segment};
 
 fn magic_demands(magic: &[u8; 4]) -> [Demand; 4]
     ensures { result ≡ magic_demands magic.now }
@@ -47,8 +48,8 @@ fn count_demands(head: &Head) -> [Demand; 2]
     ensures { result ≡ count_demands head.now }
 {
     [
-        word_demand(4, is_frame_count(head.frames)),
-        double_demand(8, head.step <= 1 << 40),
+        of_field(FRAMES_PLACE, 4, is_frame_count(head.frames)),
+        of_field(STEP_PLACE, 8, head.step <= 1 << 40),
     ]
 }
 
@@ -62,12 +63,6 @@ fn is_control_0(bits: u32) -> bool
     ensures { result ≡ is_control_0 bits }
 {
     bits & 0x80000011 == 0x80000011 && bits & 0x7FFAFFC0 == 0
-}
-
-fn is_control_3(bits: u32) -> bool
-    ensures { result ≡ is_control_3 bits }
-{
-    bits & 0xFE7 == 0
 }
 
 fn is_control_4(bits: u32) -> bool
@@ -93,14 +88,14 @@ fn processor_demands(head: &Head) -> [Demand; 8]
     ensures { result ≡ processor_demands head.now }
 {
     [
-        word_demand(52, are_flags(head.eflags)),
-        word_demand(56, is_control_0(head.cr0)),
-        word_demand(64, is_control_3(head.cr3)),
-        word_demand(68, is_control_4(head.cr4)),
-        byte_demand(94, head.task_loaded <= 1),
-        byte_demand(95, is_level(head.level)),
-        byte_demand(112, is_halt(head.halted, head.level)),
-        byte_demand(113, head.held <= 1),
+        of_field(EFLAGS_PLACE, 4, are_flags(head.eflags)),
+        of_field(CR0_PLACE, 4, is_control_0(head.cr0)),
+        of_field(CR3_PLACE, 4, head.cr3 & 0xFE7 == 0),
+        of_field(CR4_PLACE, 4, is_control_4(head.cr4)),
+        of_field(TASK_LOADED_PLACE, 1, head.task_loaded <= 1),
+        of_field(LEVEL_PLACE, 1, is_level(head.level)),
+        of_field(HALTED_PLACE, 1, is_halt(head.halted, head.level)),
+        of_field(HELD_PLACE, 1, head.held <= 1),
     ]
 }
 
@@ -115,18 +110,18 @@ fn segments_demands(head: &Head) -> [Demand; 12]
 {
     let [es, cs, ss, ds] = head.segments;
     [
-        byte_demand(98, is_null(es)),
-        byte_demand(99, is_level(es.level)),
-        byte_demand(102, is_null(cs)),
-        byte_demand(103, is_level(cs.level)),
-        byte_demand(106, is_null(ss)),
-        byte_demand(107, is_level(ss.level)),
-        byte_demand(110, is_null(ds)),
-        byte_demand(111, is_level(ds.level)),
-        byte_demand(102, cs.null == 0),
-        byte_demand(103, cs.level == head.level),
-        byte_demand(106, ss.null == 0),
-        byte_demand(107, ss.level == head.level),
+        of_field(98, 1, is_null(es)),
+        of_field(99, 1, is_level(es.level)),
+        of_field(102, 1, is_null(cs)),
+        of_field(103, 1, is_level(cs.level)),
+        of_field(106, 1, is_null(ss)),
+        of_field(107, 1, is_level(ss.level)),
+        of_field(110, 1, is_null(ds)),
+        of_field(111, 1, is_level(ds.level)),
+        of_field(102, 1, cs.null == 0),
+        of_field(103, 1, cs.level == head.level),
+        of_field(106, 1, ss.null == 0),
+        of_field(107, 1, ss.level == head.level),
     ]
 }
 

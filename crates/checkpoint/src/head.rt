@@ -3,11 +3,32 @@
 ghost use Rattle.std.specs.Prelude.{◌≡◌, ◌+◌, ◌≤◌, ◌<◌, ◌^◌, ◌++◌, length, OnOk};
 ghost use Rattle.std.specs.List.{concat, flat_map};
 ghost use Rattle.guest_ram.specs.Bytes.{part};
-ghost use Rattle.checkpoint.specs.Head.{two, four, eight, segment_bytes, front_parts, word_parts, limit_parts, last_parts, spelled, double_at, words_at, segment_at, head_at};
+ghost use Rattle.checkpoint.specs.Head.{two, four, eight, segment_bytes, front_parts, control_parts, last_parts, spelled, double_at, words_at, segment_at, head_at};
 ghost use Rattle.checkpoint.specs.Ranges.{AreBelow, AreSelectors, FrontIsSized, ControlsAreSized, LastIsSized, IsSized};
 
 use guest_ram::{byte, half, word};
 use std::alloc::AllocError;
+
+/// Places in the file of fields that are tested or told.
+pub const FRAMES_PLACE: u32 = 4;
+
+pub const STEP_PLACE: u32 = 8;
+
+pub const EFLAGS_PLACE: u32 = 52;
+
+pub const CR0_PLACE: u32 = 56;
+
+pub const CR3_PLACE: u32 = 64;
+
+pub const CR4_PLACE: u32 = 68;
+
+pub const TASK_LOADED_PLACE: u32 = 94;
+
+pub const LEVEL_PLACE: u32 = 95;
+
+pub const HALTED_PLACE: u32 = 112;
+
+pub const HELD_PLACE: u32 = 113;
 
 /// A segment register, in four bytes.
 #[derive(Clone, Copy)]
@@ -18,7 +39,7 @@ pub struct Segment {
 }
 
 /// The numbers that stand in front of the memory, in the order of the file. Truth is 0 or 1.
-#[derive(Clone, Copy)]
+#[derive(Drop)]
 pub struct Head {
     pub magic: [u8; 4],
     pub frames: u32,
@@ -185,7 +206,7 @@ fn put_front(into: &mut Vec<u8>, head: &Head) -> Result<(), AllocError>
 }
 
 fn put_controls(into: &mut Vec<u8>, head: &Head) -> Result<(), AllocError>
-    ensures items { OnOk result (into.new.items ≡ into.old.items ++ concat (word_parts head.now ++ limit_parts head.now)) }
+    ensures items { OnOk result (into.new.items ≡ into.old.items ++ concat (control_parts head.now)) }
     ensures fit { OnOk result (ControlsAreSized head.now) }
 {
     let words = [

@@ -18,7 +18,7 @@ pub struct State {
 }
 
 /// Why a checkpoint isn't gone on from.
-#[derive(Clone, Copy, Debug, PartialEq, Eq, Error)]
+#[derive(Clone, Copy, Debug, Error)]
 pub enum CheckpointCause {
     /// The bytes aren't those of a checkpoint.
     #[error("no checkpoint")]
@@ -35,7 +35,7 @@ pub enum CheckpointCause {
 }
 
 /// Why no state is read.
-#[derive(Clone, Copy, Debug, PartialEq, Eq, Error)]
+#[derive(Clone, Copy, Debug, Error)]
 pub enum CheckpointFault {
     /// The place in the file.
     #[error("{cause}, at {at}")]
