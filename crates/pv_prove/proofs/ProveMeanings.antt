@@ -18,7 +18,8 @@ use Rattle.run_trace.specs.Notes.{Note}
 use Rattle.machine_model.specs.State.{wedge}
 use Rattle.trace_check.proofs.NotedRuns.{around_of}
 use Rattle.trace_check.specs.Form.{choices_bytes, most_choices}
-use Rattle.trace_check.specs.Kept.{Kept, AreKept, choices_of}
+use Rattle.trace_check.specs.Kept.{choices_of}
+use Rattle.trace_check.specs.NotesKept.{Kept, AreKept}
 use Rattle.trace_check.specs.Proved.{IsProved}
 use Rattle.trace_check.specs.Noted.{NotedAnswers}
 use Rattle.pv_prove.specs.CertificateLines.{certificate_line, no_certificate_line}

@@ -5,7 +5,8 @@ use Rattle.std.proofs.lemmas.List.{take_all, take-append-le, length-take, length
 use Rattle.run_trace.specs.Notes.{Note}
 use Rattle.trace_check.specs.declared.list.Choice.{Choice}
 use Rattle.trace_check.specs.Form.{most_choices}
-use Rattle.trace_check.specs.Kept.{choice_of, choices_of, Kept, AreKept}
+use Rattle.trace_check.specs.Kept.{choice_of, choices_of}
+use Rattle.trace_check.specs.NotesKept.{Kept, AreKept}
 
 abbrev kept_as : List Choice → Bool → Kept
 kept_as list more = record { list = list; more = more }

@@ -23,7 +23,8 @@ use Rattle.wedge_core.specs.Promises.{with_patches}
 use Rattle.wedge_core.specs.Slices.{PausesAs}
 use Rattle.wedge_core.proofs.SlicedBy.{SliceAs}
 use Rattle.wedge_core.proofs.WholeRuns.{text_is, ends_by, count_by, memory_by, has_fills}
-use Rattle.trace_check.specs.Kept.{Kept, AreKept, choices_of}
+use Rattle.trace_check.specs.Kept.{choices_of}
+use Rattle.trace_check.specs.NotesKept.{Kept, AreKept}
 use Rattle.trace_check.specs.Judged.{judged}
 use Rattle.trace_check.specs.Runs.{StopsTold}
 use Rattle.trace_check.specs.RunLaws.{NotesAreJudged, NotesAreChoices}

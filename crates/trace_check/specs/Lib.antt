@@ -4,6 +4,7 @@ pub mod ReadBack
 pub mod Reading
 pub mod Slots
 pub mod Kept
+pub mod NotesKept
 pub mod Lines
 pub mod Courses
 pub mod Judged

@@ -16,7 +16,7 @@ use Rattle.machine_model.specs.Notes.{AreTold, AreNotes}
 use Rattle.wedge_core.specs.Surroundings.{Around, RefusedWedge}
 use Rattle.wedge_core.specs.Counts.{CountsOn}
 use Rattle.wedge_core.specs.Promises.{HasMemory, HasFills}
-use Rattle.trace_check.specs.Kept.{Kept, AreKept}
+use Rattle.trace_check.specs.NotesKept.{Kept, AreKept}
 use Rattle.trace_check.specs.Runs.{StopsTold}
 use Rattle.trace_check.specs.Proved.{IsProved}
 

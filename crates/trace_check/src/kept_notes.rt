@@ -3,7 +3,8 @@
 ghost use Rattle.std.specs.Prelude.{◌≡◌, ◌++◌, ◌∷◌, [], ◌<◌, ◌≤◌, List, true, false, length, IfOk, MatchOption};
 ghost use Rattle.run_trace.specs.Notes.{Note, emptied_at, dropped_at};
 ghost use Rattle.trace_check.specs.Form.{most_choices};
-ghost use Rattle.trace_check.specs.Kept.{AreKept, choices_of};
+ghost use Rattle.trace_check.specs.Kept.{choices_of};
+ghost use Rattle.trace_check.specs.NotesKept.{AreKept};
 
 use crate::list::{Choice, ChoiceKind, Choices};
 use crate::reading::MOST_CHOICES;
@@ -21,7 +22,7 @@ pub struct KeptNotes {
 impl Model for KeptNotes {
     ghost use Rattle.std.specs.Prelude.{◌≤◌, length};
     ghost use Rattle.trace_check.specs.Form.{most_choices};
-    ghost use Rattle.trace_check.specs.Kept.{Kept};
+    ghost use Rattle.trace_check.specs.NotesKept.{Kept};
 
     ghost Value = { Kept };
 

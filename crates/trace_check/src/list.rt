@@ -9,7 +9,7 @@ use thiserror::Error;
 
 /// How a set of translations is changed before a step: the page's is dropped, all are, or the one that a walk of the
 /// tables finds for the page is added.
-#[derive(Clone, Copy, PartialEq, Eq)]
+#[derive(Clone, Copy)]
 pub enum ChoiceKind {
     Drop,
     Empty,
@@ -18,7 +18,7 @@ pub enum ChoiceKind {
 
 /// A change of the set of translations before a step, counted from 0. The page is the number of a page of 4,096 bytes,
 /// and 0 where all are dropped.
-#[derive(Clone, Copy, PartialEq, Eq)]
+#[derive(Clone, Copy)]
 pub struct Choice {
     pub step: u64,
     pub page: u32,
@@ -65,7 +65,7 @@ impl Choices {
 }
 
 /// Where the bytes are not in the form, or that no memory was found.
-#[derive(Clone, Copy, Debug, PartialEq, Eq, Error)]
+#[derive(Clone, Copy, Debug, Error)]
 pub enum ChoicesFault {
     #[error("no choices in the form, at {at}")]
     Form { at: u32 },

@@ -10,7 +10,7 @@ ghost use Rattle.wedge_step.specs.Scene.{kept_in, scene, state_in};
 ghost use Rattle.wedge_step.specs.Standing.{IsAble};
 ghost use Rattle.wedge_core.specs.Surroundings.{around};
 ghost use Rattle.wedge_core.specs.OfRoots.{of_roots};
-ghost use Rattle.trace_check.specs.Kept.{AreKept};
+ghost use Rattle.trace_check.specs.NotesKept.{AreKept};
 ghost use Rattle.trace_check.specs.Noted.{NotedAnswers};
 
 use crate::kept_notes::KeptNotes;

@@ -3,7 +3,7 @@
 ghost use Rattle.std.specs.Prelude.{◌≡◌, List, IfOk, ◌<◌, ◌≤◌, ◌+◌, ◌^◌, length, IfNone, IfSome, Ok};
 ghost use Rattle.guest_ram.specs.Bytes.{word32};
 ghost use Rattle.trace_check.specs.Form.{AreChoices, choices_bytes, most_choices};
-ghost use Rattle.trace_check.specs.Reading.{word64, reaches, differs, has_other_front, head_fault, falls, is_no_page, is_no_kind, kind_numbered, choice_fault, choices_fault, choice_at, choices_at, choices_in};
+ghost use Rattle.trace_check.specs.Reading.{word64, differs, has_other_front, head_fault, falls, is_no_page, is_no_kind, kind_numbered, choice_fault, choices_fault, choice_at, choices_at, choices_in};
 ghost use Rattle.trace_check.specs.ReadBack.{Gives};
 
 use crate::list::{Choice, ChoiceKind, Choices, ChoicesFault};
@@ -23,12 +23,6 @@ fn long(bytes: &[u8], at: usize) -> u64
     u64::from_le_bytes([
         part[0], part[1], part[2], part[3], part[4], part[5], part[6], part[7],
     ])
-}
-
-fn reaches(bytes: &[u8], n: usize) -> bool
-    ensures { result ≡ reaches bytes.now n }
-{
-    n <= bytes.len()
 }
 
 fn differs(bytes: &[u8], at: usize, v: u8) -> bool

@@ -16,7 +16,7 @@ use Rattle.wedge_core.specs.Counts.{Counts}
 use Rattle.wedge_core.specs.Slices.{BeginsEmpty}
 use Rattle.wedge_core.proofs.SlicedBy.{SliceAs}
 use Rattle.wedge_core.proofs.WholeRuns.{whole_unput, whole_front}
-use Rattle.trace_check.specs.Kept.{Kept, AreKept}
+use Rattle.trace_check.specs.NotesKept.{Kept, AreKept}
 use Rattle.trace_check.specs.Noted.{NotedAnswers}
 use Rattle.trace_check.proofs.NotedRuns.{around_of, noted_put}
 use Rattle.trace_check.proofs.proving.whole.Goals as goal
