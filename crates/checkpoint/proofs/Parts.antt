@@ -2,7 +2,7 @@
 use Rattle.std.proofs.Common.{◌≡◌, ℕ, zero, suc, ◌+◌, ◌*◌, ◌<◌, ◌≤◌, ◌^◌, List, [], ◌∷◌, ◌++◌, length, get_or, take, drop, refl, ap, sym, ◌∙◌, arith, length-append, append_assoc}
 use Rattle.std.specs.List.{concat, flat_map}
 use Rattle.std.specs.Int.{w16, w32, w64, from_le_bytes}
-use Rattle.std.proofs.lemmas.List.{drop-drop, drop_at, take_at, drop_more, take_all, append-nil}
+use Rattle.std.proofs.lemmas.List.{drop-drop, drop_at, take_at, drop_more, take_all, take_more, append-nil}
 use Rattle.std.proofs.lemmas.Nat.{le_bytes_2, le_bytes_4, le_bytes_8, from_le_bytes-to_le_bytes_2, from_le_bytes-to_le_bytes_4, from_le_bytes-to_le_bytes_8}
 use Rattle.guest_ram.specs.Bytes.{part, byte, word16, word32, AreBytes}
 use Rattle.guest_ram.proofs.Bytes.{length-part, bytes-part, get_or-part, part-part, part-append}
@@ -179,6 +179,21 @@ segments_again m a (suc n) are room =
     ∙ part-append m a 4 (4 * n) ∙ ap (part m a) count
 
 -- ---- what is put one behind the other
+
+flat_map-one : {T : Type 0} (f : T → List ℕ) (xs : List T) (x : T) → flat_map f (xs ++ x ∷ []) ≡ flat_map f xs ++ f x
+flat_map-one f [] x = append-nil (f x)
+flat_map-one f (y ∷ xs) x =
+    ap (λ (l : List ℕ). f y ++ l) (flat_map-one f xs x) ∙ sym (append_assoc (f y) (flat_map f xs) (f x))
+
+-- the bytes of one more of a list, behind those of the ones before it
+pub put_more : {T : Type 0} (f : T → List ℕ) (xs : List T) (k : ℕ) (d : T) (initial old new bytes : List ℕ) → k < length xs →
+    old ≡ initial ++ flat_map f (take k xs) → new ≡ old ++ bytes → bytes ≡ f (get_or xs k d) → new ≡ initial ++ flat_map f (take (k + 1) xs)
+put_more f xs k d initial old new bytes lt so_far put is =
+    let last : flat_map f (take k xs) ++ bytes ≡ flat_map f (take (k + 1) xs) =
+    ap (λ (l : List ℕ). flat_map f (take k xs) ++ l) is ∙ sym (flat_map-one f (take k xs) (get_or xs k d))
+    ∙ ap (flat_map f) (sym (take_more xs k d lt)) in
+    put ∙ ap (λ (l : List ℕ). l ++ bytes) so_far ∙ append_assoc initial (flat_map f (take k xs)) bytes
+    ∙ ap (λ (l : List ℕ). initial ++ l) last
 
 pub front_put : (old m f s r a b c d : List ℕ) → a ≡ old ++ m → b ≡ a ++ (f ++ []) → c ≡ b ++ s → d ≡ c ++ r → d ≡ old ++ (m ++ (f ++ (s ++ (r ++ []))))
 front_put old m f s r a b c d a_is b_is c_is d_is =
