@@ -1,16 +1,29 @@
 -- Texts with the tag before each of their lines.
-use Rattle.std.proofs.Common.{◌≡◌, ℕ, suc, ◌+◌, ◌<◌, ◌≤◌, true, false, List, [], ◌∷◌, ◌++◌, length, take, drop, get_or, refl, ap, sym, ◌∙◌, arith, inl, inr, add-one, drop-cons}
+use Rattle.std.proofs.Common.{◌≡◌, ◌≢◌, ℕ, suc, ◌+◌, ◌<◌, ◌≤◌, true, false, List, [], ◌∷◌, ◌++◌, length, take, drop, get_or, refl, ap, sym, ◌∙◌, arith, inl, inr, add-one, drop-cons}
 use Rattle.std.proofs.lemmas.List.{drop_all, append_assoc}
+use Rattle.std.proofs.lemmas.Bool.{ne_eqb}
 use Rattle.std.proofs.lemmas.Bool.Decides.{eqb_tells}
 use Rattle.std.specs.Prelude.{◌==◌, if◌then◌else◌}
 use Rattle.guest_sched.specs.Tags.{due_behind, tagged_from}
 use Rattle.guest_sched.specs.Dues.{due_after, line_len, has_end}
 
-pub line_here : (text : List ℕ) (i other : ℕ) → i < length text → line_len (drop i text) ≡ (if get_or text i other == 10 then 1 else suc (line_len (drop (i + 1) text)))
-line_here text i other within = rw (add-one, drop-cons text i other within) refl
+-- from a place on: the line goes on behind a byte that ends none, and ends behind one that does
 
-pub end_here : (text : List ℕ) (i other : ℕ) → i < length text → has_end (drop i text) ≡ (if get_or text i other == 10 then true else has_end (drop (i + 1) text))
-end_here text i other within = rw (add-one, drop-cons text i other within) refl
+pub line_on : (text : List ℕ) (i : ℕ) → i < length text → get_or text i 0 ≢ 10 → line_len (drop i text) ≡ suc (line_len (drop (i + 1) text))
+line_on text i within other =
+    let no : (get_or text i 0 == 10) ≡ false = ne_eqb _ _ other in
+    rw (add-one, drop-cons text i 0 within, no) refl
+
+pub end_on : (text : List ℕ) (i : ℕ) → i < length text → get_or text i 0 ≢ 10 → has_end (drop i text) ≡ has_end (drop (i + 1) text)
+end_on text i within other =
+    let no : (get_or text i 0 == 10) ≡ false = ne_eqb _ _ other in
+    rw (add-one, drop-cons text i 0 within, no) refl
+
+pub line_ends : (text : List ℕ) (i : ℕ) → i < length text → get_or text i 0 ≡ 10 → line_len (drop i text) ≡ 1
+line_ends text i within is = rw (drop-cons text i 0 within, is) refl
+
+pub end_ends : (text : List ℕ) (i : ℕ) → i < length text → get_or text i 0 ≡ 10 → has_end (drop i text) ≡ true
+end_ends text i within is = rw (drop-cons text i 0 within, is) refl
 
 pub line_past : (text : List ℕ) (i : ℕ) → length text ≤ i → line_len (drop i text) ≡ 0
 line_past text i past = rw (drop_all i text past) refl
