@@ -1,4 +1,4 @@
-use Rattle.std.proofs.Common.{◌≡◌, Some, None, true, sym, ap, subst}
+use Rattle.std.proofs.Common.{◌≡◌, Some, None, true, sym, ap, subst, ◌∙◌}
 use Rattle.bare_mem.proofs.Parts.{all_turned, all_gone}
 use Rattle.paging.specs.Uses.{with_entry}
 use Rattle.machine_model.specs.Run.{Set}
@@ -45,3 +45,19 @@ returns-in-Empty-clause-kept g c = record {
 pub returns-in-Add-clause-made : goal.returns-in-Add-clause-made
 returns-in-Add-clause-made g c = λ image script.
     of_kind (bare image script c.args.machine.now.frames) (state_of g.C.Cache.entries c.args.machine.now) kinds.Add c.args.choice.now.kind c.args.choice.now.page (g.C.Cache.entries c.args.machine.now.kept.cache) (g.C.Cache.entries c.add.new.machine.kept.cache) c.add.result c.in-Add.is (c.add.ensures.made image script)
+
+-- the rest of the machine stays, and so does whether its cache is exact
+pub returns-in-Drop-clause-exact : goal.returns-in-Drop-clause-exact
+returns-in-Drop-clause-exact g c = c.drop_page.ensures.same ∙ ap g.C.Cache.is_exact c.cache_mut.ensures.cache ∙ c.requires.exact
+
+pub returns-in-Empty-clause-exact : goal.returns-in-Empty-clause-exact
+returns-in-Empty-clause-exact g c = c.drop_all.ensures.same ∙ ap g.C.Cache.is_exact c.cache_mut-in-Empty.ensures.cache ∙ c.requires.exact
+
+pub returns-in-Add-clause-exact : goal.returns-in-Add-clause-exact
+returns-in-Add-clause-exact g c = c.add.ensures.exact
+
+pub returns-in-Add-clause-same : goal.returns-in-Add-clause-same
+returns-in-Add-clause-same g c = c.add.ensures.same
+
+pub returns-in-Add-clause-kept : goal.returns-in-Add-clause-kept
+returns-in-Add-clause-kept g c = c.add.ensures.kept
