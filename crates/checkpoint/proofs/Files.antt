@@ -200,14 +200,17 @@ written_again bytes are none =
 
 -- ---- what the functions that read compute
 
+-- the count is a variable, or all of the zeros would be written out
+zeros_left : (there n left : ℕ) (zeros : List ℕ) → zeros ≡ drop there (replicate n 0) → n - there ≡ left → zeros ≡ replicate left 0
+zeros_left there n left zeros is lacking = is ∙ drop-replicate there n 0 ∙ ap (λ (k : ℕ). replicate k 0) lacking
+
 pub front_put : (bytes copy zeros : List ℕ) (there : ℕ) → there ≡ min (length bytes) 256 → copy ≡ take there bytes → zeros ≡ drop there (replicate 256 0) →
     copy ++ zeros ≡ front bytes
 front_put bytes copy zeros there there_is copy_is zeros_is =
     let small : there ≡ min 256 (length bytes) = omega arith in
     let lacking : 256 - there ≡ 256 - length bytes = omega arith in
     let first : copy ≡ take 256 bytes = copy_is ∙ ap (λ (n : ℕ). take n bytes) small ∙ take_min 256 bytes in
-    let behind : zeros ≡ replicate (256 - length bytes) 0 =
-    zeros_is ∙ drop-replicate there 256 0 ∙ ap (λ (n : ℕ). replicate n 0) lacking in
+    let behind : zeros ≡ replicate (256 - length bytes) 0 = zeros_left there 256 (256 - length bytes) zeros zeros_is lacking in
     ap (λ (xs : List ℕ). xs ++ zeros) first ∙ ap (λ (xs : List ℕ). take 256 bytes ++ xs) behind
 
 pub put_all : (ram m : List ℕ) → length ram ≡ length m → with_part ram 0 m ≡ m
