@@ -4,7 +4,7 @@ ghost use Rattle.std.specs.Prelude.{◌≡◌, map, string_bytes, option_map, If
 ghost use Rattle.pv_words.specs.Words.{after_prove, after_replay};
 ghost use Rattle.pv_words.specs.View.{command_view, IsWithin};
 
-use crate::words::{CommandWords, run_words};
+use crate::words::{CommandWords, is_name, run_words};
 
 /// A run, and where its certificate is stored.
 #[tactic(auto, unfolding(crate::specs::Words::after_prove))]
@@ -17,13 +17,13 @@ pub fn prove_words(words: &[String]) -> Option<CommandWords<'_>>
             match run_words(image.as_str(), script.as_str(), frames.as_str(), n.as_str()) {
                 None => None,
                 Some(run) => {
-                    if certificate.is_empty() {
-                        None
-                    } else {
+                    if is_name(certificate.as_str()) {
                         Some(CommandWords::Prove {
                             run,
                             certificate: certificate.as_str(),
                         })
+                    } else {
+                        None
                     }
                 }
             }
@@ -43,14 +43,14 @@ pub fn replay_words(words: &[String]) -> Option<CommandWords<'_>>
             match run_words(image.as_str(), script.as_str(), frames.as_str(), n.as_str()) {
                 None => None,
                 Some(run) => {
-                    if certificate.is_empty() || text.is_empty() {
-                        None
-                    } else {
+                    if is_name(certificate.as_str()) && is_name(text.as_str()) {
                         Some(CommandWords::Replay {
                             run,
                             certificate: certificate.as_str(),
                             text: text.as_str(),
                         })
+                    } else {
+                        None
                     }
                 }
             }

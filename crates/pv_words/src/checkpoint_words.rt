@@ -7,7 +7,7 @@ ghost use Rattle.pv_words.specs.View.{command_view, run_view, rest_view, AreWith
 
 use crate::mode::RunMode;
 use crate::number_words::number;
-use crate::words::{CommandWords, RestWords, RunWords, run_words};
+use crate::words::{CommandWords, RestWords, RunWords, is_name, run_words};
 
 /// The machine that a word names.
 fn machine(word: &str) -> Option<RunMode>
@@ -29,15 +29,15 @@ fn rest_words<'a>(image: &'a str, script: &'a str, file: &'a str, n: &str) -> Op
 {
     match number(n.as_bytes(), 0, 1 << 40) {
         Some(n) => {
-            if image.is_empty() || script.is_empty() || file.is_empty() {
-                None
-            } else {
+            if is_name(image) && is_name(script) && is_name(file) {
                 Some(RestWords {
                     image,
                     script,
                     file,
                     n,
                 })
+            } else {
+                None
             }
         }
         None => None,
@@ -78,10 +78,10 @@ fn save_form<'a>(
 {
     match (mode, run) {
         (Some(mode), Some(run)) => {
-            if file.is_empty() {
-                None
-            } else {
+            if is_name(file) {
                 Some(CommandWords::Save { mode, run, file })
+            } else {
+                None
             }
         }
         _ => None,
@@ -99,10 +99,10 @@ fn save_from_form<'a>(
 {
     match (mode, rest) {
         (Some(mode), Some(rest)) => {
-            if new.is_empty() {
-                None
-            } else {
+            if is_name(new) {
                 Some(CommandWords::SaveFrom { mode, rest, new })
+            } else {
+                None
             }
         }
         _ => None,

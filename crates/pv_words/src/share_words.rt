@@ -5,7 +5,7 @@ ghost use Rattle.pv_words.specs.Words.{after_share, makes_pairs};
 ghost use Rattle.pv_words.specs.View.{command_view, IsWithin};
 
 use crate::number_words::number;
-use crate::words::{CommandWords, ShareWords, are_names};
+use crate::words::{CommandWords, ShareWords, are_names, is_name};
 
 /// A schedule, the number of frames, and one to four images, each with its script.
 #[tactic(auto, unfolding(crate::specs::Words::after_share))]
@@ -15,7 +15,7 @@ pub fn share_words(words: &[String]) -> Option<CommandWords<'_>>
 {
     match words {
         [schedule, frames, kernels @ ..] => {
-            if schedule.is_empty() || !are_names(kernels) || !makes_pairs(kernels.len()) {
+            if !is_name(schedule.as_str()) || !are_names(kernels) || !makes_pairs(kernels.len()) {
                 return None;
             }
             match number(frames.as_bytes(), 2048, 16384) {
