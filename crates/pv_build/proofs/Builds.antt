@@ -3,6 +3,7 @@ use Rattle.std.proofs.Common.{◌≡◌, ℕ, List, [], ◌∷◌, Result, Ok, E
 use Rattle.asm_lex.specs.declared.fault.SourceCause.{SourceCause}
 use Rattle.asm_source.specs.declared.tree.SourceItem.{SourceItem}
 use Rattle.asm_parse.specs.Source.{SourceAs}
+use Rattle.elf_form.specs.Faults.{◌>>=◌}
 use Rattle.elf_form.specs.ObjectParts.{ObjectParts}
 use Rattle.elf_form.specs.ImageParts.{ImageParts}
 use Rattle.elf_form.specs.ImageLayout.{image_bytes}
@@ -10,9 +11,9 @@ use Rattle.afterburner.specs.Burnt.{burnt}
 use Rattle.elf_link.specs.Linked.{linked_image}
 use Rattle.image_check.specs.Image.{Image}
 use Rattle.image_check.specs.Checking.{image_of}
-use Rattle.pv_build.specs.Telling.{RefusesAs}
+use Rattle.pv_build.specs.Telling.{RefusesAs, Answers}
 use Rattle.pv_build.specs.Sources.{IsNoSource, source_line}
-use Rattle.pv_build.specs.Building.{Builds, Answers, object_made, image_made, image_accepted, built, ◌>>=◌}
+use Rattle.pv_build.specs.Building.{Builds, object_made, image_made, image_accepted, built}
 use Rattle.pv_build.specs.declared.halt.Halt.{Halt}
 use Rattle.pv_build.specs.declared.halt.Halt.TheVariants as halt
 

@@ -6,7 +6,8 @@ use Rattle.asm_lex.specs.declared.fault.SourceCause.{SourceCause}
 use Rattle.asm_source.specs.declared.tree.SourceItem.{SourceItem}
 use Rattle.asm_parse.specs.Source.{SourceAs}
 use Rattle.pv_build.specs.Telling.{HaltsAs, RefusesAs}
-use Rattle.pv_build.specs.Sources.{IsNoSource, HasSource, HasNoSource, source_line}
+use Rattle.pv_build.specs.Sources.{IsNoSource, source_line}
+use Rattle.pv_build.specs.SourceFiles.{HasSource, HasNoSource}
 use Rattle.pv_build.specs.declared.halt.Halt.{Halt}
 use Rattle.pv_build.proofs.Halts.{refused_here, refuses_as}
 

@@ -2,7 +2,7 @@
 use Rattle.std.specs.Prelude.{◌≡◌, ℕ, List, [], ◌∷◌, Result, Ok, Err}
 use Rattle.asm_lex.specs.declared.fault.SourceCause.{SourceCause}
 use Rattle.asm_source.specs.declared.tree.SourceItem.{SourceItem}
-use Rattle.elf_form.specs.Faults.{Fault}
+use Rattle.elf_form.specs.Faults.{Fault, ◌>>=◌}
 use Rattle.elf_form.specs.ObjectParts.{ObjectParts}
 use Rattle.elf_form.specs.ObjectLayout.{object_bytes}
 use Rattle.elf_form.specs.ObjectReading.{object_in}
@@ -18,13 +18,6 @@ use Rattle.image_check.specs.Checking.{image_of}
 use Rattle.pv_build.specs.Lines.{form_number, object_place_line, link_line, image_line}
 use Rattle.pv_build.specs.Sources.{SaysSource, source_line}
 use Rattle.pv_build.specs.Objects.{burn_line}
-use Rattle.pv_build.specs.declared.halt.Halt.{Halt}
-use Rattle.pv_build.specs.declared.halt.Halt.TheVariants as halt
-
-infixl 10 ◌>>=◌
-abbrev pub ◌>>=◌ : {A B : Type 0} → Result A (List ℕ) → (A → Result B (List ℕ)) → Result B (List ℕ)
-(Ok x) >>= f = f x
-(Err line) >>= f = Err line
 
 -- the object that a file holds
 abbrev pub object_read : Result ObjectParts Fault → Result ObjectParts (List ℕ)
@@ -59,10 +52,3 @@ pub record Builds (text : List ℕ) (r : Result Image (List ℕ)) : Type 0 where
   pub said : Result (List SourceItem) (ℕ × SourceCause)
   pub says : SaysSource text said
   pub comes : r ≡ built_of said
-
--- A part's answer is what is meant, unless no memory was found.
-abbrev pub Answers : {X : Type 0} → Result X Halt → Result X (List ℕ) → Type 0
-Answers (Ok x) wanted = wanted ≡ Ok x
-Answers (Err (halt.Refused line)) wanted = wanted ≡ Err line
-Answers (Err halt.ReadFault) wanted = ⊥
-Answers (Err halt.Memory) wanted = Unit {0}

@@ -6,6 +6,7 @@ pub mod Failures
 pub mod Statuses
 pub mod Telling
 pub mod Sources
+pub mod SourceFiles
 pub mod Objects
 pub mod Images
 pub mod Scripts

@@ -1,5 +1,6 @@
 -- The objects that sources are burnt to, and that files hold.
 use Rattle.std.specs.Prelude.{◌≡◌, ◌≤◌, ℕ, zero, suc, List, [], ◌∷◌, Option, Ok, Err, length, codes}
+use Rattle.std.specs.List.{AllZip}
 use Rattle.elf_form.specs.declared.segments.TheConstants.{FILE_LIMIT}
 use Rattle.pv_io.specs.Files.{FileMap, Holds, IsHeld}
 use Rattle.elf_form.specs.Faults.{Fault}
@@ -32,10 +33,7 @@ HasNoObject files name fault = (file : List ℕ) × Holds files name file × (ob
 
 -- each name holds the object of its place
 abbrev pub HasObjects : Option FileMap → List (List ℕ) → List ObjectParts → Type 0
-HasObjects files [] [] = Unit {0}
-HasObjects files [] (o ∷ os) = ⊥
-HasObjects files (name ∷ names) [] = ⊥
-HasObjects files (name ∷ names) (o ∷ os) = HasObject files name o × HasObjects files names os
+HasObjects files names os = AllZip (HasObject files) names os
 
 -- Each name that is reached is held: a name is reached where those before it hold objects.
 abbrev pub FindsObjects : Option FileMap → List (List ℕ) → Type 0

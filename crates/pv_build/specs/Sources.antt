@@ -1,6 +1,5 @@
--- The source that a text is, or that a file holds.
-use Rattle.std.specs.Prelude.{◌≡◌, ◌⊎◌, ℕ, ◌≤◌, ◌<◌, List, Option, Result, Ok, Err, length}
-use Rattle.pv_io.specs.Files.{FileMap, Holds}
+-- The source that a text is.
+use Rattle.std.specs.Prelude.{◌≡◌, ◌⊎◌, ℕ, ◌≤◌, ◌<◌, List, Result, Ok, Err, length}
 use Rattle.asm_lex.specs.declared.fault.SourceCause.{SourceCause}
 use Rattle.asm_lex.specs.declared.fault.SourceCause.TheVariants as source
 use Rattle.asm_lex.specs.declared.lexing.TheConstants.{LIMIT}
@@ -18,12 +17,6 @@ IsNoSource text fault = ((LIMIT < length text) × (fault ≡ (1, source.TooLong)
 abbrev pub SaysSource : List ℕ → Result (List SourceItem) (ℕ × SourceCause) → Type 0
 SaysSource text (Ok items) = SourceAs text items
 SaysSource text (Err fault) = IsNoSource text fault
-
-abbrev pub HasSource : Option FileMap → List ℕ → List SourceItem → Type 0
-HasSource files name items = (text : List ℕ) × Holds files name text × SourceAs text items
-
-abbrev pub HasNoSource : Option FileMap → List ℕ → ℕ × SourceCause → Type 0
-HasNoSource files name fault = (text : List ℕ) × Holds files name text × IsNoSource text fault
 
 abbrev pub source_line : ℕ → SourceCause → List ℕ
 source_line line cause = line_line (source_number cause) line

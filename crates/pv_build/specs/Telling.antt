@@ -54,3 +54,10 @@ ToldAs (Err fault.Memory) old new before now result = (result ≡ status.Memory)
 abbrev pub TellsBoth : List ℕ → List ℕ → List ℕ → Option (List ℕ) → Option (List ℕ) → ℕ → ℕ → Status → Type 0
 TellsBoth line first second old new before now result =
     ((told : List ℕ) × Compares first second told × Says (line ++ told) status.Done old new before now result) ⊎ ((result ≡ status.Memory) × (new ≡ old))
+
+-- A part's answer is what is meant, unless no memory was found.
+abbrev pub Answers : {X : Type 0} → Result X Halt → Result X (List ℕ) → Type 0
+Answers (Ok x) wanted = wanted ≡ Ok x
+Answers (Err (halt.Refused line)) wanted = wanted ≡ Err line
+Answers (Err halt.ReadFault) wanted = ⊥
+Answers (Err halt.Memory) wanted = Unit {0}

@@ -11,8 +11,8 @@ ghost use Rattle.elf_form.specs.ObjectReading.{object_in};
 ghost use Rattle.afterburner.specs.Burnt.{burnt};
 ghost use Rattle.elf_link.specs.Linked.{linked_image};
 ghost use Rattle.image_check.specs.Checking.{image_of};
-ghost use Rattle.pv_build.specs.Telling.{RefusesAs};
-ghost use Rattle.pv_build.specs.Building.{Builds, Answers, object_read, object_made, image_made, image_accepted};
+ghost use Rattle.pv_build.specs.Telling.{RefusesAs, Answers};
+ghost use Rattle.pv_build.specs.Building.{Builds, object_read, object_made, image_made, image_accepted};
 
 use crate::halt::Halt;
 use crate::image::refusal_of;

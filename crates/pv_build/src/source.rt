@@ -8,7 +8,8 @@ ghost use Rattle.asm_parse.specs.Source.{SourceAs};
 ghost use Rattle.pv_build.specs.Readings.{OnlyRead};
 ghost use Rattle.pv_build.specs.Failures.{NoneFailedIn};
 ghost use Rattle.pv_build.specs.Telling.{HaltsOverFiles, RefusesAs};
-ghost use Rattle.pv_build.specs.Sources.{IsNoSource, HasSource, HasNoSource, source_line};
+ghost use Rattle.pv_build.specs.Sources.{IsNoSource, source_line};
+ghost use Rattle.pv_build.specs.SourceFiles.{HasSource, HasNoSource};
 
 use crate::halt::Halt;
 use crate::lines::line_line;

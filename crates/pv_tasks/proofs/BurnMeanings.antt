@@ -9,7 +9,8 @@ use Rattle.asm_parse.proofs.OneCause.{one_fault, no_reading}
 use Rattle.elf_form.specs.ObjectParts.{ObjectParts}
 use Rattle.elf_form.specs.ObjectLayout.{object_bytes}
 use Rattle.afterburner.specs.Burnt.{Fault, burnt}
-use Rattle.pv_build.specs.Sources.{IsNoSource, SaysSource, HasSource, HasNoSource, source_line}
+use Rattle.pv_build.specs.Sources.{IsNoSource, SaysSource, source_line}
+use Rattle.pv_build.specs.SourceFiles.{HasSource, HasNoSource}
 use Rattle.pv_build.specs.Objects.{burn_line, object_made_line}
 use Rattle.pv_tasks.specs.Outcome.{Outcome, refused, stored_as}
 use Rattle.pv_tasks.specs.Burning.{HasBurnt, written, burned, Burns}
