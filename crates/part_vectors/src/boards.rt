@@ -13,7 +13,7 @@ fn sent(board: &mut Board, port: u16, v: u8) -> Did {
 }
 
 /// Ports, and the bytes that start both controllers there.
-const STARTS: [(u16, u8); 8] = [
+static STARTS: [(u16, u8); 8] = [
     (0x20, 0x11),
     (0x21, 0x20),
     (0x21, 4),
@@ -68,7 +68,7 @@ fn follow(rt: &impl Abort, board: &mut Board, steps: &[Step]) {
     }
 }
 
-const TIMER: [Step; 10] = [
+static TIMER: [Step; 10] = [
     Step::Sent(0x43, 0x34),
     Step::Sent(0x40, 2),
     Step::Sent(0x40, 0),
@@ -87,7 +87,7 @@ fn timer_asks_after_eight_steps_a_count(rt: HostRuntime) {
 }
 
 /// A port, whether four bytes are read, and what is read.
-const READS: [(u16, bool, PortRead); 13] = [
+static READS: [(u16, bool, PortRead); 13] = [
     (0x40, false, PortRead::Stop),
     (0x41, false, PortRead::Value(0xFF)),
     (0x43, false, PortRead::Value(0xFF)),
@@ -104,7 +104,7 @@ const READS: [(u16, bool, PortRead); 13] = [
 ];
 
 /// A port, the number of four bytes that is written there, and what is done.
-const WRITES: [(u16, u32, Did); 2] = [(0x80, 0x1234_5678, Did::Done), (0x9D, 0, Did::Stop)];
+static WRITES: [(u16, u32, Did); 2] = [(0x80, 0x1234_5678, Did::Done), (0x9D, 0, Did::Stop)];
 
 #[test]
 fn ports_are_served_ignored_or_refused(rt: HostRuntime) {
@@ -121,7 +121,7 @@ fn ports_are_served_ignored_or_refused(rt: HostRuntime) {
     assert!(rt; sent(&mut board, 0x3F8, 0x48) == Did::Sent(0x48));
 }
 
-const RECEIVED: [Step; 6] = [
+static RECEIVED: [Step; 6] = [
     Step::Taken(Some(0x2C)),
     Step::Sent(0xA0, 0x64),
     Step::Sent(0x20, 0x62),
@@ -160,7 +160,7 @@ fn a_received_byte_asks_once_its_interrupt_is_enabled(rt: HostRuntime) {
     follow(&rt, &mut board, &RECEIVED);
 }
 
-const EVENTS: [(u64, Event); 3] = [
+static EVENTS: [(u64, Event); 3] = [
     (0, Event::Rx(0x4F)),
     (7, Event::Line(5)),
     (7, Event::Rx(10)),
@@ -169,7 +169,7 @@ const EVENTS: [(u64, Event); 3] = [
 /// A script, and the line and the cause of its refusal.
 type Refused = (&'static [u8], u64, ScriptCause);
 
-const REFUSED: [Refused; 16] = [
+static REFUSED: [Refused; 16] = [
     (b"7 line 2", 1, ScriptCause::BadNumber),
     (b"0 rx 4G", 1, ScriptCause::BadNumber),
     (b"x rx 41", 1, ScriptCause::BadNumber),
@@ -247,7 +247,7 @@ fn a_script_has_room_for_65536_events(rt: HostRuntime) {
 }
 
 /// Ports of the serial line and of the timer, and bytes for them.
-const WORK: [(u16, u8); 8] = [
+static WORK: [(u16, u8); 8] = [
     (0x3F9, 1),
     (0x3FB, 3),
     (0x3FC, 0x0B),
@@ -272,7 +272,7 @@ fn working(script: &Script) -> Board
     board
 }
 
-const WORKING: [u8; 64] = [
+static WORKING: [u8; 64] = [
     4, 1, 0x10, 0, 0, 0x20, 0, // the master, with a request of line 4
     4, 1, 0, 0, 0, 0x28, 0, // the slave
     2, 5, 2, 0, 0, 0, 0, 0, 0, 0, 13, 0, 0, 0, 0, 0, 0, 0, // the timer
@@ -280,7 +280,7 @@ const WORKING: [u8; 64] = [
     0, 0, 0, 0, 0, 0, 0, 0, 0, 0, 0, 0, 0, 0, 0, 0, 0, 0, 0, 0, 0, 0, 0,
 ];
 
-const SAVED: [Step; 5] = [
+static SAVED: [Step; 5] = [
     Step::Advance(12),
     Step::Taken(Some(0x24)),
     Step::Pending(None),
@@ -294,84 +294,68 @@ fn is_saved(board: &Board) -> bool {
 }
 
 #[test]
-fn board_is_saved_and_restored(rt: HostRuntime) {
+fn boards_are_saved_and_restored(rt: HostRuntime) {
     let script = script(&rt, rt.alloc(), b"0 rx 48\n0 rx 69");
     assert!(rt; is_saved(&working(&script)));
     let mut board = Board::restore(&WORKING).expect(&rt, "the form");
     assert!(rt; is_saved(&board));
     follow(&rt, &mut board, &SAVED);
-}
-
-#[test]
-fn fresh_board_is_saved_and_restored(rt: HostRuntime) {
     let fresh = Board::new().save();
     assert!(rt; fresh[4] == 0xFF && fresh[11] == 0xFF && Board::restore(&fresh).is_some());
 }
 
-/// Whether a board has these bytes with another one at a place.
-fn is_restored(bytes: [u8; 64], at: usize, value: u8) -> bool {
-    let mut bytes = bytes;
+/// Whether a board has those bytes with another one at a place.
+fn is_restored(at: usize, value: u8) -> bool {
+    let mut bytes = WORKING;
     bytes[at % 64] = value;
     Board::restore(&bytes).is_some()
 }
 
-/// A byte of that form, and a value that it never has.
-const WRONG: [(usize, u8); 24] = [
-    (0, 5),
-    (0, 0),
-    (1, 2),
-    (1, 0),
-    (2, 0x14),
-    (5, 0x21),
-    (6, 2),
-    (9, 1),
-    (14, 3),
-    (14, 1),
-    (16, 0),
-    (16, 1),
-    (18, 1),
-    (20, 1),
-    (24, 0),
-    (24, 17),
-    (31, 1),
-    (32, 2),
-    (34, 16),
-    (38, 1),
-    (38, 17),
-    (41, 1),
-    (55, 1),
-    (63, 1),
+/// A byte of that form, another value for it, and whether a board may have that.
+static VALUES: [(usize, u8, bool); 37] = [
+    (0, 5, false),
+    (0, 0, false),
+    (1, 2, false),
+    (1, 0, false),
+    (2, 0x14, false),
+    (5, 0x21, false),
+    (6, 2, false),
+    (9, 1, false),
+    (14, 3, false),
+    (14, 1, false),
+    (16, 0, false),
+    (16, 1, false),
+    (18, 1, false),
+    (20, 1, false),
+    (24, 0, false),
+    (24, 17, false),
+    (31, 1, false),
+    (32, 2, false),
+    (34, 16, false),
+    (38, 1, false),
+    (38, 17, false),
+    (41, 1, false),
+    (55, 1, false),
+    (63, 1, false),
+    (0, 1, true),
+    (2, 0xFB, true),
+    (3, 0xFF, true),
+    (4, 0xFF, true),
+    (5, 0xF8, true),
+    (6, 1, true),
+    (7, 3, true),
+    (15, 0xFF, true),
+    (20, 2, true),
+    (24, 16, true),
+    (33, 0xFF, true),
+    (34, 0, true),
+    (40, 0, true),
 ];
 
 #[test]
-fn bytes_of_no_board_are_not_restored(rt: HostRuntime) {
-    for row in &WRONG {
-        let (at, value) = *row;
-        assert!(rt; !is_restored(WORKING, at, value), "byte {at} is {value}");
-    }
-}
-
-/// A byte of that form, and another value that it may have.
-const OTHER: [(usize, u8); 13] = [
-    (0, 1),
-    (2, 0xFB),
-    (3, 0xFF),
-    (4, 0xFF),
-    (5, 0xF8),
-    (6, 1),
-    (7, 3),
-    (15, 0xFF),
-    (20, 2),
-    (24, 16),
-    (33, 0xFF),
-    (34, 0),
-    (40, 0),
-];
-
-#[test]
-fn other_values_are_restored(rt: HostRuntime) {
-    for row in &OTHER {
-        let (at, value) = *row;
-        assert!(rt; is_restored(WORKING, at, value), "byte {at} is {value}");
+fn bytes_are_restored_where_a_board_may_have_them(rt: HostRuntime) {
+    for row in &VALUES {
+        let (at, value, may) = *row;
+        assert!(rt; is_restored(at, value) == may, "byte {at} is {value}");
     }
 }

@@ -40,26 +40,21 @@ fn holds(buffer: &mut Buffer, step: Step) -> bool {
     true
 }
 
-fn follow(rt: &impl Abort, steps: &[Step]) {
+fn follow(rt: &impl Abort, shown: &str, steps: &[Step]) {
     let mut buffer = Buffer::new();
     for (k, step) in steps.iter().enumerate() {
-        assert!(rt; holds(&mut buffer, *step), "step {k}");
+        assert!(rt; holds(&mut buffer, *step), "{shown}: step {k}");
     }
 }
 
-const TAKEN: [Step; 4] = [
+static TAKEN: [Step; 4] = [
     Step::Keep(FIRST),
     Step::Keep(SECOND),
     Step::Find(1, None),
     Step::Find(65, Some(SECOND)),
 ];
 
-#[test]
-fn a_page_takes_the_place_of_another(rt: HostRuntime) {
-    follow(&rt, &TAKEN);
-}
-
-const DROPPED: [Step; 8] = [
+static DROPPED: [Step; 8] = [
     Step::Keep(FIRST),
     Step::DropPage(65),
     Step::Find(1, Some(FIRST)),
@@ -71,6 +66,7 @@ const DROPPED: [Step; 8] = [
 ];
 
 #[test]
-fn dropped_pages_are_not_found(rt: HostRuntime) {
-    follow(&rt, &DROPPED);
+fn pages_are_found_until_another_comes_or_they_are_dropped(rt: HostRuntime) {
+    follow(&rt, "a page takes the place of another", &TAKEN);
+    follow(&rt, "dropped pages are not found", &DROPPED);
 }

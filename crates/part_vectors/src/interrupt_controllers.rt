@@ -45,13 +45,13 @@ fn holds(pics: &mut Pics, step: Step) -> bool {
     }
 }
 
-fn follow(rt: &impl Abort, pics: &mut Pics, steps: &[Step]) {
+fn follow(rt: &impl Abort, shown: &str, pics: &mut Pics, steps: &[Step]) {
     for (k, step) in steps.iter().enumerate() {
-        assert!(rt; holds(pics, *step), "step {k}");
+        assert!(rt; holds(pics, *step), "{shown}: step {k}");
     }
 }
 
-const STARTS: [(u16, u8); 8] = [
+static STARTS: [(u16, u8); 8] = [
     (MASTER, 0x11),
     (SLAVE, 0x11),
     (MASTER_DATA, 0x20),
@@ -72,7 +72,7 @@ fn started() -> Pics {
     pics
 }
 
-const BEFORE_THE_START: [Step; 21] = [
+static BEFORE_THE_START: [Step; 21] = [
     Step::Read(MASTER_DATA, 0xFF),
     Step::Edge(4),
     Step::Read(MASTER, 0x10),
@@ -96,12 +96,7 @@ const BEFORE_THE_START: [Step; 21] = [
     Step::Pending(Some(0x24)),
 ];
 
-#[test]
-fn nothing_is_raised_before_the_start(rt: HostRuntime) {
-    follow(&rt, &mut Pics::new(), &BEFORE_THE_START);
-}
-
-const BOTH: [Step; 16] = [
+static BOTH: [Step; 16] = [
     Step::Edge(12),
     Step::Read(MASTER, 4),
     Step::Taken(Some(0x2C)),
@@ -120,12 +115,7 @@ const BOTH: [Step; 16] = [
     Step::Taken(Some(0x2E)),
 ];
 
-#[test]
-fn a_line_of_the_slave_is_taken_and_ended_at_both(rt: HostRuntime) {
-    follow(&rt, &mut started(), &BOTH);
-}
-
-const LEVELS: [Step; 12] = [
+static LEVELS: [Step; 12] = [
     Step::Edge(7),
     Step::Edge(3),
     Step::Edge(1),
@@ -141,6 +131,11 @@ const LEVELS: [Step; 12] = [
 ];
 
 #[test]
-fn the_highest_unmasked_level_comes_first(rt: HostRuntime) {
-    follow(&rt, &mut started(), &LEVELS);
+fn lines_are_raised_taken_and_ended_by_their_levels(rt: HostRuntime) {
+    let nothing = "nothing is raised before the start";
+    follow(&rt, nothing, &mut Pics::new(), &BEFORE_THE_START);
+    let slave = "a line of the slave is taken and ended at both";
+    follow(&rt, slave, &mut started(), &BOTH);
+    let highest = "the highest unmasked level comes first";
+    follow(&rt, highest, &mut started(), &LEVELS);
 }

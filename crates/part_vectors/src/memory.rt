@@ -45,9 +45,9 @@ fn holds(ram: &mut Ram, step: Step) -> bool {
     true
 }
 
-fn follow(rt: &impl Abort, ram: &mut Ram, steps: &[Step]) {
+fn follow(rt: &impl Abort, shown: &str, ram: &mut Ram, steps: &[Step]) {
     for (k, step) in steps.iter().enumerate() {
-        assert!(rt; holds(ram, *step), "step {k}");
+        assert!(rt; holds(ram, *step), "{shown}: step {k}");
     }
 }
 
@@ -60,7 +60,7 @@ fn ram_of(rt: &impl Abort, alloc: Global, frames: u32) -> Ram
     ram
 }
 
-const WRITTEN: [Step; 10] = [
+static WRITTEN: [Step; 10] = [
     Step::Read32(8188, 0),
     Step::Write32(100, 0x1234_5678),
     Step::Read8(100, 0x78),
@@ -74,33 +74,25 @@ const WRITTEN: [Step; 10] = [
 ];
 
 #[test]
-fn reads_what_it_wrote(rt: HostRuntime) {
-    follow(&rt, &mut ram_of(&rt, rt.alloc(), 2), &WRITTEN);
-}
-
-#[test]
-fn exchanges_a_frame(rt: HostRuntime) {
+fn reads_what_it_wrote_and_exchanges_a_frame(rt: HostRuntime) {
     let mut ram = ram_of(&rt, rt.alloc(), 2);
     let mut other = ram_of(&rt, rt.alloc(), 1);
-    follow(&rt, &mut ram, &WRITTEN);
+    follow(&rt, "what was written", &mut ram, &WRITTEN);
     let exchanged = ram.len() == 8192 && other.len() == 4096;
     assert!(rt; exchanged);
     if exchanged {
         ram.exchange(&mut other, 1);
-        follow(&rt, &mut ram, &[Step::Read32(100, 0)]);
-        follow(&rt, &mut other, &[Step::Read32(100, 0xabcd_ee78)]);
+        let exchanged = "what was exchanged";
+        follow(&rt, exchanged, &mut ram, &[Step::Read32(100, 0)]);
+        let word = [Step::Read32(100, 0xabcd_ee78)];
+        follow(&rt, exchanged, &mut other, &word);
     }
 }
 
-const LARGEST: [Step; 2] = [Step::Write32(134217724, 5), Step::Read32(134217724, 5)];
-
-#[test]
-fn takes_the_largest(rt: HostRuntime) {
-    follow(&rt, &mut ram_of(&rt, rt.alloc(), 32768), &LARGEST);
-}
+static LARGEST: [Step; 2] = [Step::Write32(134217724, 5), Step::Read32(134217724, 5)];
 
 // Bytes of 0xAA, which stay around what is written among them.
-const WRITES: [Step; 9] = [
+static WRITES: [Step; 9] = [
     Step::Put(4088, &[0xAA; 8]),
     Step::Write8(4091, 0x44),
     Step::Part(4088, &[0xAA, 0xAA, 0xAA, 0x44, 0xAA, 0xAA, 0xAA, 0xAA]),
@@ -113,6 +105,9 @@ const WRITES: [Step; 9] = [
 ];
 
 #[test]
-fn changes_its_own_bytes_alone(rt: HostRuntime) {
-    follow(&rt, &mut ram_of(&rt, rt.alloc(), 1), &WRITES);
+fn changes_its_own_bytes_alone_and_takes_the_largest(rt: HostRuntime) {
+    let mut ram = ram_of(&rt, rt.alloc(), 1);
+    follow(&rt, "its own bytes alone", &mut ram, &WRITES);
+    let mut ram = ram_of(&rt, rt.alloc(), 32768);
+    follow(&rt, "the largest", &mut ram, &LARGEST);
 }

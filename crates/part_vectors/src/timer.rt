@@ -11,7 +11,7 @@ fn count(pit: &mut Pit, low: u8, high: u8) -> (Did, Did) {
 /// A control byte, a count's low and high byte, and the steps of its ticks.
 type Counted = (u8, u8, u8, u64);
 
-const COUNTS: [Counted; 5] = [
+static COUNTS: [Counted; 5] = [
     (0x34, 2, 0, 16),
     (0x36, 2, 0, 16),
     (0x34, 0, 1, 2048),
@@ -61,14 +61,14 @@ fn holds(pit: &mut Pit, step: Step) -> bool {
     }
 }
 
-fn follow(rt: &impl Abort, steps: &[Step]) {
+fn follow(rt: &impl Abort, shown: &str, steps: &[Step]) {
     let mut pit = Pit::new();
     for (k, step) in steps.iter().enumerate() {
-        assert!(rt; holds(&mut pit, *step), "step {k}");
+        assert!(rt; holds(&mut pit, *step), "{shown}: step {k}");
     }
 }
 
-const NEW_COUNT: [Step; 12] = [
+static NEW_COUNT: [Step; 12] = [
     Step::Write(0x43, 0x34, Did::Done),
     Step::Write(0x40, 2, Did::Done),
     Step::Write(0x40, 0, Did::Done),
@@ -83,12 +83,7 @@ const NEW_COUNT: [Step; 12] = [
     Step::Pass(0x100_0000_0000, false),
 ];
 
-#[test]
-fn a_new_count_waits_for_the_next_edge(rt: HostRuntime) {
-    follow(&rt, &NEW_COUNT);
-}
-
-const OTHER_BYTES: [Step; 11] = [
+static OTHER_BYTES: [Step; 11] = [
     Step::Write(0x40, 2, Did::Stop),
     Step::Write(0x43, 0x30, Did::Stop),
     Step::Write(0x43, 0x32, Did::Stop),
@@ -103,6 +98,7 @@ const OTHER_BYTES: [Step; 11] = [
 ];
 
 #[test]
-fn other_bytes_stop(rt: HostRuntime) {
-    follow(&rt, &OTHER_BYTES);
+fn counts_go_by_the_edge_and_other_bytes_stop(rt: HostRuntime) {
+    follow(&rt, "a new count waits for the next edge", &NEW_COUNT);
+    follow(&rt, "other bytes stop", &OTHER_BYTES);
 }
