@@ -43,11 +43,11 @@ fn holds(regs: &mut Regs, mem: &mut Flat, row: &Step) -> bool {
     }
 }
 
-fn follow(rt: &impl Abort, fill: u8, steps: &[Step]) {
+fn follow(rt: &impl Abort, shown: &str, fill: u8, steps: &[Step]) {
     let mut regs = START;
     let mut mem = Flat { bytes: [fill; 256] };
     for (k, row) in steps.iter().enumerate() {
-        assert!(rt; holds(&mut regs, &mut mem, row), "step {k}");
+        assert!(rt; holds(&mut regs, &mut mem, row), "{shown}: step {k}");
     }
 }
 
@@ -59,17 +59,12 @@ const ADD_TO_AH: Insn = Insn {
     ..PLAIN
 };
 
-const ADDED: [Step; 4] = [
+static ADDED: [Step; 4] = [
     Step::Done(ADD_TO_AH, 3, Effect::Next),
     Step::Register(0, 0xff01),
     Step::Eip(0x1003),
     Step::Flags(0x86),
 ];
-
-#[test]
-fn adds_to_the_second_byte(rt: HostRuntime) {
-    follow(&rt, 0, &ADDED);
-}
 
 const PUSH_ALL: Insn = Insn {
     op: Op::Pusha,
@@ -81,7 +76,7 @@ const POP_ALL: Insn = Insn {
     ..PLAIN
 };
 
-const PUSHED_AND_POPPED: [Step; 10] = [
+static PUSHED_AND_POPPED: [Step; 10] = [
     Step::Done(PUSH_ALL, 1, Effect::Next),
     Step::Register(4, BASE + 0x60),
     Step::Word(BASE + 0x60, BASE + 0x30),
@@ -94,11 +89,6 @@ const PUSHED_AND_POPPED: [Step; 10] = [
     Step::Eip(0x1002),
 ];
 
-#[test]
-fn pushes_all_and_pops_all(rt: HostRuntime) {
-    follow(&rt, 0, &PUSHED_AND_POPPED);
-}
-
 const POP_AT_ESP_PLUS_8: Insn = Insn {
     op: Op::Pop,
     a: Operand::Memory(Address {
@@ -110,17 +100,12 @@ const POP_AT_ESP_PLUS_8: Insn = Insn {
     ..PLAIN
 };
 
-const POPPED: [Step; 4] = [
+static POPPED: [Step; 4] = [
     Step::Writes(POP_AT_ESP_PLUS_8, BASE + 0x8c),
     Step::Done(POP_AT_ESP_PLUS_8, 4, Effect::Next),
     Step::Word(BASE + 0x8c, 0x0707_0707),
     Step::Register(4, BASE + 0x84),
 ];
-
-#[test]
-fn pops_to_an_address_above_the_risen_stack(rt: HostRuntime) {
-    follow(&rt, 7, &POPPED);
-}
 
 const REPEAT_STOSB: Insn = Insn {
     op: Op::Stos,
@@ -129,7 +114,7 @@ const REPEAT_STOSB: Insn = Insn {
     ..PLAIN
 };
 
-const REPEATED: [Step; 13] = [
+static REPEATED: [Step; 13] = [
     Step::Done(REPEAT_STOSB, 2, Effect::Next),
     Step::Register(1, 1),
     Step::Register(7, BASE + 0x31),
@@ -145,28 +130,18 @@ const REPEATED: [Step; 13] = [
     Step::Word(BASE + 0x30, 0x0000_0101),
 ];
 
-#[test]
-fn repeats_one_turn_at_a_time(rt: HostRuntime) {
-    follow(&rt, 0, &REPEATED);
-}
-
 const DIVIDE_BY_EDX: Insn = Insn {
     op: Op::Div,
     a: Operand::Register(2),
     ..PLAIN
 };
 
-const RAISED: [Step; 4] = [
+static RAISED: [Step; 4] = [
     Step::Done(DIVIDE_BY_EDX, 2, Effect::Raise(0, 0)),
     Step::Registers(AT_START),
     Step::Eip(START.eip),
     Step::Flags(START.flags.bits),
 ];
-
-#[test]
-fn raises_a_divide_error_and_changes_nothing(rt: HostRuntime) {
-    follow(&rt, 0, &RAISED);
-}
 
 const CALL_BACK: Insn = Insn {
     op: Op::Call,
@@ -180,7 +155,7 @@ const JUMP_ON: Insn = Insn {
     ..PLAIN
 };
 
-const CALLED_AND_JUMPED: [Step; 6] = [
+static CALLED_AND_JUMPED: [Step; 6] = [
     Step::Done(CALL_BACK, 5, Effect::Next),
     Step::Eip(0xff5),
     Step::Register(4, BASE + 0x7c),
@@ -190,6 +165,11 @@ const CALLED_AND_JUMPED: [Step; 6] = [
 ];
 
 #[test]
-fn calls_and_jumps_by_distance(rt: HostRuntime) {
-    follow(&rt, 0, &CALLED_AND_JUMPED);
+fn instructions_do_their_steps(rt: HostRuntime) {
+    follow(&rt, "adds to the second byte", 0, &ADDED);
+    follow(&rt, "pushes all and pops all", 0, &PUSHED_AND_POPPED);
+    follow(&rt, "pops above the risen stack", 7, &POPPED);
+    follow(&rt, "repeats one turn at a time", 0, &REPEATED);
+    follow(&rt, "a divide error changes nothing", 0, &RAISED);
+    follow(&rt, "calls and jumps by distance", 0, &CALLED_AND_JUMPED);
 }
