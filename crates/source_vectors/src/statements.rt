@@ -1,6 +1,6 @@
 //! Which sources are read, by the number of their items, and the faults of the others. A newline is written `~`.
 
-use crate::rest::{add, holds, is_fault, sides, told, unmarked};
+use crate::rest::{add, holds, is_fault, put_times, sides, told, unmarked};
 use asm_lex::SourceFault;
 use asm_parse::parse;
 use std::alloc::Global;
@@ -145,9 +145,10 @@ fn faults_have_their_lines_and_causes(rt: HostRuntime) {
 #[test]
 fn longest_source_is_read(rt: HostRuntime) {
     let alloc = rt.alloc();
-    let text = vec![in alloc; b'\n'; 4_194_304].expect(&rt, "memory");
+    let mut text = Vec::new(alloc);
+    put_times(&rt, &mut text, b"\n", 4_194_304);
     assert!(rt; has_items(alloc, &text, 0));
-    let text = vec![in alloc; b'\n'; 4_194_305].expect(&rt, "memory");
+    add(&rt, &mut text, b"\n");
     assert!(rt; is_refused(alloc, &text, 1, 13));
 }
 
