@@ -1,7 +1,8 @@
 //! Damaged files: a small object and its image cut at every length and with every field of their headers spoiled, and a
 //! script cut and spoiled at every byte, each by the command that reads it. Where it is refused no file is stored.
 
-use crate::commands::{all_held, answer, are_same, built, file, holds, joined, store};
+use crate::commands::{built, file, holds, joined, store};
+use crate::sessions::tells;
 use pv_io::MemFiles;
 use std::alloc::Global;
 use std::process::Abort;
@@ -28,19 +29,13 @@ fn is_told(
     line: &str,
 ) {
     store(rt, files, "D", bytes);
-    let before = all_held(rt, alloc, files);
-    let (number, out) = answer(rt, alloc, files, command, &[]);
+    let status = if line.starts_with("refused ") { 3 } else { 0 };
+    let lines = format!(in alloc; "{line}\n").expect(rt, "memory");
     holds(
         rt,
         at,
-        out.bytes().strip_prefix(line.as_bytes()) == Some(b"\n"),
+        tells(rt, alloc, files, status, command, &[], &lines),
     );
-    if line.starts_with("refused ") {
-        holds(rt, at, number == 3);
-        holds(rt, at, are_same(&all_held(rt, alloc, files), &before));
-    } else {
-        holds(rt, at, number == 0);
-    }
 }
 
 /// The number that a row begins with, and what stands behind it.

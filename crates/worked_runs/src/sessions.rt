@@ -15,7 +15,7 @@
 //! - `$ held NAME`, `$ lost NAME`: a name is held, or isn't.
 //! - `$ text BYTES`, `$ data BYTES`, `$ entry NUMBER`: the image I has it.
 
-use crate::commands::{all_held, answer, are_same, file, is_so, no_files};
+use crate::commands::{all_held, answer, are_same, file, is_so, no_files, store};
 use crate::images::{has_part, image_file};
 use pv_io::{Files, MemFiles};
 use std::alloc::Global;
@@ -120,7 +120,7 @@ fn leaves_files(status: u8, command: &str) -> bool {
 
 /// Whether a command of whose puts those of a list fail comes to a status, and its sink takes these lines. One put has failed
 /// where the status says so. Where it is refused, each name holds what it held.
-fn tells(
+pub fn tells(
     rt: &impl Abort,
     alloc: Global,
     files: &mut MemFiles,
@@ -183,10 +183,9 @@ fn is_done(rt: &impl Abort, alloc: Global, files: &mut MemFiles, command: &str) 
 
 /// Whether the source S becomes the object O and the image I, and the script B is an empty one.
 pub fn builds(rt: &impl Abort, alloc: Global, files: &mut MemFiles, source: &[u8]) -> bool {
-    files.store("S", source).is_ok()
-        && files.store("B", b"").is_ok()
-        && is_done(rt, alloc, files, "burn S O")
-        && is_done(rt, alloc, files, "link I O")
+    store(rt, files, "S", source);
+    store(rt, files, "B", b"");
+    is_done(rt, alloc, files, "burn S O") && is_done(rt, alloc, files, "link I O")
 }
 
 fn has_name(alloc: Global, files: &mut MemFiles, name: &str) -> bool {
