@@ -41,7 +41,6 @@ fn taken(board: &mut Board) -> Option<u8> {
 }
 
 /// What is done to a board, and what it comes to.
-#[derive(Clone, Copy)]
 enum Step {
     Sent(u16, u8),
     Advance(u64),
@@ -50,8 +49,8 @@ enum Step {
 }
 
 /// Whether a step comes to what it says; a byte that is sent is taken.
-fn holds(board: &mut Board, step: Step) -> bool {
-    match step {
+fn holds(board: &mut Board, step: &Step) -> bool {
+    match *step {
         Step::Sent(port, v) => sent(board, port, v) == Did::Done,
         Step::Advance(k) => {
             board.advance(k);
@@ -64,7 +63,7 @@ fn holds(board: &mut Board, step: Step) -> bool {
 
 fn follow(rt: &impl Abort, board: &mut Board, steps: &[Step]) {
     for (k, step) in steps.iter().enumerate() {
-        assert!(rt; holds(board, *step), "step {k}");
+        assert!(rt; holds(board, step), "step {k}");
     }
 }
 

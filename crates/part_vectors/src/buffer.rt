@@ -21,7 +21,6 @@ const SECOND: Entry = Entry {
 };
 
 /// What is done to the buffer, or found in it.
-#[derive(Clone, Copy)]
 enum Step {
     Keep(Entry),
     DropPage(u32),
@@ -30,8 +29,8 @@ enum Step {
 }
 
 /// Whether a step comes to what it says.
-fn holds(buffer: &mut Buffer, step: Step) -> bool {
-    match step {
+fn holds(buffer: &mut Buffer, step: &Step) -> bool {
+    match *step {
         Step::Keep(entry) => buffer.keep(entry),
         Step::DropPage(page) => buffer.drop_page(page),
         Step::DropAll => buffer.drop_all(),
@@ -43,7 +42,7 @@ fn holds(buffer: &mut Buffer, step: Step) -> bool {
 fn follow(rt: &impl Abort, shown: &str, steps: &[Step]) {
     let mut buffer = Buffer::new();
     for (k, step) in steps.iter().enumerate() {
-        assert!(rt; holds(&mut buffer, *step), "{shown}: step {k}");
+        assert!(rt; holds(&mut buffer, step), "{shown}: step {k}");
     }
 }
 

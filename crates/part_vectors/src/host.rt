@@ -91,7 +91,6 @@ fn stays_within_one_walk_and_ends_at_the_budget(rt: HostRuntime) {
 }
 
 /// What is seen behind a run.
-#[derive(Clone, Copy)]
 enum Shown {
     Register(usize, u32),
     Eip(u32),
@@ -100,10 +99,10 @@ enum Shown {
     Word(u32, u32),
 }
 
-fn is_shown(machine: &Machine, regs: &Regs, shown: Shown) -> bool
+fn is_shown(machine: &Machine, regs: &Regs, shown: &Shown) -> bool
     requires { IsSome machine.now.ram }
 {
-    match shown {
+    match *shown {
         Shown::Register(k, v) => k < 8 && regs.r[k] == v,
         Shown::Eip(at) => regs.eip == at,
         Shown::Retired(n) => machine.retired() == n,
@@ -133,7 +132,7 @@ fn runs(
     let mut regs = regs(esp);
     assert!(rt; machine.resume(view, &mut regs, budget) == exit);
     for (k, shown) in all.iter().enumerate() {
-        assert!(rt; is_shown(&machine, &regs, *shown), "{k}");
+        assert!(rt; is_shown(&machine, &regs, shown), "{k}");
     }
 }
 

@@ -13,7 +13,6 @@ const SLAVE: u16 = 0xA0;
 const SLAVE_DATA: u16 = 0xA1;
 
 /// What is done to both, and what it comes to.
-#[derive(Clone, Copy)]
 enum Step {
     Edge(u8),
     Write(u16, u8, Did),
@@ -29,8 +28,8 @@ fn taken(pics: &mut Pics) -> Option<u8> {
 }
 
 /// Whether a step comes to what it says.
-fn holds(pics: &mut Pics, step: Step) -> bool {
-    match step {
+fn holds(pics: &mut Pics, step: &Step) -> bool {
+    match *step {
         Step::Edge(line) => {
             if line >= 16 || line == 2 {
                 return false;
@@ -47,7 +46,7 @@ fn holds(pics: &mut Pics, step: Step) -> bool {
 
 fn follow(rt: &impl Abort, shown: &str, pics: &mut Pics, steps: &[Step]) {
     for (k, step) in steps.iter().enumerate() {
-        assert!(rt; holds(pics, *step), "{shown}: step {k}");
+        assert!(rt; holds(pics, step), "{shown}: step {k}");
     }
 }
 

@@ -7,7 +7,6 @@ use std::alloc::Global;
 use std::process::Abort;
 
 /// What is done to a memory, or stands in it.
-#[derive(Clone, Copy)]
 enum Step {
     Write8(u32, u8),
     Write16(u32, u16),
@@ -27,9 +26,9 @@ fn fits(len: u32, at: u32, count: usize) -> bool
 }
 
 /// Whether a step comes to what it says.
-fn holds(ram: &mut Ram, step: Step) -> bool {
+fn holds(ram: &mut Ram, step: &Step) -> bool {
     let len = ram.len();
-    match step {
+    match *step {
         Step::Write8(at, v) if fits(len, at, 1) => ram.write8(at, v),
         Step::Write16(at, v) if fits(len, at, 2) => ram.write16(at, v),
         Step::Write32(at, v) if fits(len, at, 4) => ram.write32(at, v),
@@ -47,7 +46,7 @@ fn holds(ram: &mut Ram, step: Step) -> bool {
 
 fn follow(rt: &impl Abort, shown: &str, ram: &mut Ram, steps: &[Step]) {
     for (k, step) in steps.iter().enumerate() {
-        assert!(rt; holds(ram, *step), "{shown}: step {k}");
+        assert!(rt; holds(ram, step), "{shown}: step {k}");
     }
 }
 
@@ -84,8 +83,8 @@ fn reads_what_it_wrote_and_exchanges_a_frame(rt: HostRuntime) {
         ram.exchange(&mut other, 1);
         let exchanged = "what was exchanged";
         follow(&rt, exchanged, &mut ram, &[Step::Read32(100, 0)]);
-        let word = [Step::Read32(100, 0xabcd_ee78)];
-        follow(&rt, exchanged, &mut other, &word);
+        let of_word = &[Step::Read32(100, 0xabcd_ee78)];
+        follow(&rt, exchanged, &mut other, of_word);
     }
 }
 

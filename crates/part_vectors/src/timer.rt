@@ -45,7 +45,6 @@ fn a_count_is_eight_steps_a_tick(rt: HostRuntime) {
 }
 
 /// What is done to the timer, and what it comes to.
-#[derive(Clone, Copy)]
 enum Step {
     Write(u16, u8, Did),
     Left(Option<u64>),
@@ -53,8 +52,8 @@ enum Step {
 }
 
 /// Whether a step comes to what it says.
-fn holds(pit: &mut Pit, step: Step) -> bool {
-    match step {
+fn holds(pit: &mut Pit, step: &Step) -> bool {
+    match *step {
         Step::Write(port, v, did) => pit.write(port, v) == did,
         Step::Left(steps) => pit.left() == steps,
         Step::Pass(k, edge) => pit.pass(k) == edge,
@@ -64,7 +63,7 @@ fn holds(pit: &mut Pit, step: Step) -> bool {
 fn follow(rt: &impl Abort, shown: &str, steps: &[Step]) {
     let mut pit = Pit::new();
     for (k, step) in steps.iter().enumerate() {
-        assert!(rt; holds(&mut pit, *step), "{shown}: step {k}");
+        assert!(rt; holds(&mut pit, step), "{shown}: step {k}");
     }
 }
 
