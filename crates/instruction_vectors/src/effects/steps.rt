@@ -7,7 +7,6 @@ use std::process::Abort;
 
 /// An instruction of so many bytes, and what it comes to; a register that is set; or what is seen: registers, EIP, flags,
 /// a word of the memory, and where an instruction is going to write.
-#[derive(Clone, Copy)]
 enum Step {
     Done(Insn, u8, Effect),
     Set(usize, u32),
