@@ -1,5 +1,5 @@
 -- Decimal numbers byte by byte, and texts that are cut at a byte.
-use Rattle.std.proofs.Common.{◌≡◌, ℕ, suc, ◌+◌, ◌-◌, ◌*◌, ◌<◌, ◌≤◌, Bool, true, false, Some, None, List, [], ◌∷◌, length, get_or, drop, take, refl, ap, ◌∙◌, arith, inl, inr, Err}
+use Rattle.std.proofs.Common.{◌≡◌, ℕ, suc, ◌+◌, ◌-◌, ◌*◌, ◌<◌, ◌≤◌, Bool, true, false, Some, None, Option, List, [], ◌∷◌, length, get_or, drop, take, refl, ap, ◌∙◌, arith, inl, inr, Err}
 use Rattle.std.specs.Prelude.{◌&&◌, nat_le, ◌==◌, position, if◌then◌else◌}
 use Rattle.std.proofs.lemmas.Bool.{le-leb}
 use Rattle.std.proofs.lemmas.List.{drop_all, drop_more}
@@ -9,9 +9,18 @@ use Rattle.std.proofs.lemmas.List.Splits.{slice_split_first, slice_split_none, l
 use Rattle.std.proofs.lemmas.List.Sums.{fails_before_first}
 use Rattle.std.proofs.lemmas.List.Elements.{All-from_all_within}
 use Rattle.std.specs.Char.{is_ascii_digit}
-use Rattle.board.specs.Texts.{decimal_after, number_after, cut_at, event_in}
+use Rattle.board.specs.Texts.{decimal_after, number_upto, cut_at, event_in}
 use Rattle.board.specs.declared.fault.ScriptCause.TheVariants.{NoForm}
 use Rattle.board.specs.Cuts.{IsCut}
+
+-- the number that a word says behind the digits that said n
+unfoldable pub number_after : ℕ → ℕ → List ℕ → Option ℕ
+number_after limit n word =
+    if list_all is_ascii_digit word && nat_le (decimal_after n word) limit then Some (decimal_after n word) else None
+
+pub number_whole : (limit : ℕ) (word : List ℕ) → number_after limit 0 word ≡ number_upto limit word
+unfolding number_after number_upto
+number_whole limit word = refl
 
 digit_here : (limit n b : ℕ) (rest : List ℕ) → is_ascii_digit b ≡ true →
     number_after limit n (b ∷ rest) ≡ number_after limit (10 * n + (b - 48)) rest

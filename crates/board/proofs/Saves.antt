@@ -28,7 +28,7 @@ use Rattle.pit8254.specs.Timers.{is_period}
 use Rattle.uart16550.specs.Registers.{Registers}
 use Rattle.uart16550.specs.States.{port_fits}
 use Rattle.board.specs.declared.devices.Board.{Board}
-use Rattle.board.specs.Saved.{phase_number, selected_number, timer_number, low_byte, period_in, next_period_in, steps_left_in, chip_bytes, timer_bytes, set_bytes, waiting_bytes, saved}
+use Rattle.board.specs.Saved.{phase_number, selected_number, phase_numbers, count_numbers, chip_bytes, timer_bytes, set_bytes, waiting_bytes, saved}
 use Rattle.board.specs.Restored.{phase_of, selected_of, timer_phase_of, period_of, count_of, chip_at, controllers_at, timer_at, board_at, are_zero, is_period_or_none, chip_demands, pair_demands, timer_demands, port_demands, Demands, demands}
 use Rattle.board.specs.Form.{all_met, board_form}
 
@@ -104,17 +104,17 @@ chip_met chip fits =
 
 -- a timer
 
-phase_again : (phase : TimerPhase) → timer_phase_of (timer_number phase) (low_byte phase) ≡ phase
+phase_again : (phase : TimerPhase) → timer_phase_of (phase_numbers phase).0 (phase_numbers phase).1 ≡ phase
 phase_again AwaitsControlWord = refl
 phase_again AwaitsLow = refl
 phase_again (AwaitsHigh low) = refl
 
-number_small : (phase : TimerPhase) → nat_le (timer_number phase) 2 ≡ true
+number_small : (phase : TimerPhase) → nat_le (phase_numbers phase).0 2 ≡ true
 number_small AwaitsControlWord = refl
 number_small AwaitsLow = refl
 number_small (AwaitsHigh low) = refl
 
-low_met : (phase : TimerPhase) → (timer_number phase == 2 || low_byte phase == 0) ≡ true
+low_met : (phase : TimerPhase) → ((phase_numbers phase).0 == 2 || (phase_numbers phase).1 == 0) ≡ true
 low_met AwaitsControlWord = refl
 low_met AwaitsLow = refl
 low_met (AwaitsHigh low) = refl
@@ -139,18 +139,18 @@ count_facts count fits =
     (low, grind (arith, nat_tests), two.1, grind (arith, nat_tests), grind (arith, nat_tests), grind (arith, nat_tests))
 
 count_back : (count : Option Count) → is_count count ≡ true →
-    count_of (period_in count) (next_period_in count) (steps_left_in count) ≡ count
+    count_of (count_numbers count).0 (count_numbers count).1 (count_numbers count).2 ≡ count
 count_back None fits = refl
 count_back (Some count) fits =
     let facts = count_facts count fits in
     rw (facts.5) (ap (λ next. Some (record count { next_period = next })) (next_facts count.next_period facts.2).2)
 
 count_met : (count : Option Count) → is_count count ≡ true →
-    (is_period_or_none (period_in count)
-    && (is_period_or_none (next_period_in count)
-    && ((if period_in count == 0 then next_period_in count == 0 else true)
-    && ((if period_in count == 0 then steps_left_in count == 0 else
-    nat_lt 0 (steps_left_in count) && nat_le (steps_left_in count) (8 * period_in count)) && true)))) ≡ true
+    (is_period_or_none (count_numbers count).0
+    && (is_period_or_none (count_numbers count).1
+    && ((if (count_numbers count).0 == 0 then (count_numbers count).1 == 0 else true)
+    && ((if (count_numbers count).0 == 0 then (count_numbers count).2 == 0 else
+    nat_lt 0 (count_numbers count).2 && nat_le (count_numbers count).2 (8 * (count_numbers count).0)) && true)))) ≡ true
 count_met None fits = refl
 count_met (Some count) fits =
     let facts = count_facts count fits in
@@ -159,7 +159,7 @@ count_met (Some count) fits =
     rw (facts.5, period, (next_facts count.next_period facts.2).1, left) refl
 
 small_counts : (count : Option Count) → is_count count ≡ true →
-    (period_in count < 2 ^ 32) × (next_period_in count < 2 ^ 32) × (steps_left_in count < 2 ^ 64)
+    ((count_numbers count).0 < 2 ^ 32) × ((count_numbers count).1 < 2 ^ 32) × ((count_numbers count).2 < 2 ^ 64)
 small_counts None fits = (lit< tt, lit< tt, lit< tt)
 small_counts (Some count) fits =
     let facts = count_facts count fits in
@@ -167,14 +167,14 @@ small_counts (Some count) fits =
 
 -- the four and the eight bytes of a counter's numbers
 numbers_back : (count : Option Count) → is_count count ≡ true →
-    (from_le_bytes w32 (to_le_bytes w32 (period_in count)) ≡ period_in count)
-    × (from_le_bytes w32 (to_le_bytes w32 (next_period_in count)) ≡ next_period_in count)
-    × (from_le_bytes w64 (to_le_bytes w64 (steps_left_in count)) ≡ steps_left_in count)
+    (from_le_bytes w32 (to_le_bytes w32 (count_numbers count).0) ≡ (count_numbers count).0)
+    × (from_le_bytes w32 (to_le_bytes w32 (count_numbers count).1) ≡ (count_numbers count).1)
+    × (from_le_bytes w64 (to_le_bytes w64 (count_numbers count).2) ≡ (count_numbers count).2)
 numbers_back count fits =
     let small = small_counts count fits in (
-      from_le_bytes-to_le_bytes_4 (period_in count) small.0,
-      from_le_bytes-to_le_bytes_4 (next_period_in count) small.1,
-      from_le_bytes-to_le_bytes_8 (steps_left_in count) small.2,
+      from_le_bytes-to_le_bytes_4 (count_numbers count).0 small.0,
+      from_le_bytes-to_le_bytes_4 (count_numbers count).1 small.1,
+      from_le_bytes-to_le_bytes_8 (count_numbers count).2 small.2,
     )
 
 three : {D : Type 0} (f : ℕ → ℕ → ℕ → D) {a a' b b' c c' : ℕ} → a ≡ a' → b ≡ b' → c ≡ c' → f a b c ≡ f a' b' c'
@@ -200,8 +200,8 @@ timer_met front timer fits =
     is_period_or_none p
     && (is_period_or_none n
     && ((if p == 0 then n == 0 else true) && ((if p == 0 then l == 0 else nat_lt 0 l && nat_le l (8 * p)) && true))) in
-    and_from (nat_le (timer_number timer.phase) 2) _ (number_small timer.phase)
-    (and_from (timer_number timer.phase == 2 || low_byte timer.phase == 0) _ (low_met timer.phase)
+    and_from (nat_le (phase_numbers timer.phase).0 2) _ (number_small timer.phase)
+    (and_from ((phase_numbers timer.phase).0 == 2 || (phase_numbers timer.phase).1 == 0) _ (low_met timer.phase)
     (three met numbers.0 numbers.1 numbers.2 ∙ count_met timer.count fits))
 
 -- the bytes that wait

@@ -11,7 +11,8 @@ use Rattle.board.specs.declared.script.Event.{Event}
 use Rattle.board.specs.declared.script.Event.TheVariants.{Rx}
 use Rattle.board.specs.declared.devices.Board.{Board}
 use Rattle.board.specs.Scripts.{Events, max_step}
-use Rattle.board.specs.ScriptForm.{event_fits, is_script_from, earlier}
+use Rattle.board.specs.ScriptForm.{event_fits, is_script_from}
+use Rattle.board.specs.Earlier.{earlier}
 use Rattle.board.specs.EventLists.{later, SameEvents}
 use Rattle.board.specs.Boards.{given, happened}
 use Rattle.board.specs.Quiet.{event_within}

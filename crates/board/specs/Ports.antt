@@ -1,6 +1,6 @@
 -- What an access to a port does. Profile: a port that no device has reads all ones and ignores what is written, and a
 -- 32-bit access that reaches a device is not served.
-use Rattle.std.specs.Prelude.{ℕ, ◌+◌, ◌%◌, ◌<◌, Bool, ◌==◌, ◌||◌, if◌then◌else◌}
+use Rattle.std.specs.Prelude.{ℕ, ◌+◌, ◌%◌, Bool, ◌==◌, ◌||◌, if◌then◌else◌}
 use Rattle.ia32_types.specs.declared.stop.Did.{Did}
 use Rattle.ia32_types.specs.declared.stop.Did.TheVariants.{Done, Stop}
 use Rattle.pic8259.specs.Pairs.{is_port as is_pic_port, written as pics_written, read_at as pics_read}
@@ -38,8 +38,3 @@ port_written board port wide value =
     else if is_uart_port port then
     ((uart_written board.uart port (value % 256)).0, with_uart board (uart_written board.uart port (value % 256)).1)
     else (Done, board)
-
--- a value that is read is a byte
-abbrev pub IsByte : PortRead → Type 0
-IsByte Refused = Unit {0}
-IsByte (Value v) = v < 256

@@ -20,14 +20,10 @@ use Rattle.board.specs.declared.devices.Board.{Board}
 
 -- numbers of four and eight bytes, the lowest first
 abbrev pub four_at : List ℕ → ℕ → ℕ
-four_at bytes o =
-    from_le_bytes w32 (slice_index bytes o ∷ slice_index bytes (o + 1) ∷ slice_index bytes (o + 2) ∷ slice_index bytes (o + 3) ∷ [])
+four_at bytes o = from_le_bytes w32 (slice_range bytes o (o + 4))
 
 abbrev pub eight_at : List ℕ → ℕ → ℕ
-eight_at bytes o =
-    from_le_bytes w64
-    (slice_index bytes o ∷ slice_index bytes (o + 1) ∷ slice_index bytes (o + 2) ∷ slice_index bytes (o + 3)
-    ∷ slice_index bytes (o + 4) ∷ slice_index bytes (o + 5) ∷ slice_index bytes (o + 6) ∷ slice_index bytes (o + 7) ∷ [])
+eight_at bytes o = from_le_bytes w64 (slice_range bytes o (o + 8))
 
 -- names for numbers
 

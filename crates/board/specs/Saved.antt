@@ -37,26 +37,16 @@ abbrev pub selected_number : Selected → ℕ
 selected_number InterruptRequest = 0
 selected_number InService = 1
 
-abbrev pub timer_number : TimerPhase → ℕ
-timer_number AwaitsControlWord = 0
-timer_number AwaitsLow = 1
-timer_number (AwaitsHigh low) = 2
+-- the timer's phase, and the low byte that it has
+abbrev pub phase_numbers : TimerPhase → ℕ × ℕ
+phase_numbers AwaitsControlWord = (0, 0)
+phase_numbers AwaitsLow = (1, 0)
+phase_numbers (AwaitsHigh low) = (2, low)
 
-abbrev pub low_byte : TimerPhase → ℕ
-low_byte (AwaitsHigh low) = low
-low_byte _ = 0
-
-abbrev pub period_in : Option Count → ℕ
-period_in None = 0
-period_in (Some count) = count.period
-
-abbrev pub next_period_in : Option Count → ℕ
-next_period_in None = 0
-next_period_in (Some count) = unwrap_or count.next_period 0
-
-abbrev pub steps_left_in : Option Count → ℕ
-steps_left_in None = 0
-steps_left_in (Some count) = count.left
+-- the period, the next one, and the steps that are left
+abbrev pub count_numbers : Option Count → ℕ × ℕ × ℕ
+count_numbers None = (0, 0, 0)
+count_numbers (Some count) = (count.period, unwrap_or count.next_period 0, count.left)
 
 -- the bytes, in the order of the table
 
@@ -67,8 +57,8 @@ chip_bytes chip =
 
 abbrev pub timer_bytes : Timer → List ℕ
 timer_bytes timer =
-    timer_number timer.phase ∷ low_byte timer.phase ∷ to_le_bytes w32 (period_in timer.count)
-    ++ to_le_bytes w32 (next_period_in timer.count) ++ to_le_bytes w64 (steps_left_in timer.count)
+    (phase_numbers timer.phase).0 ∷ (phase_numbers timer.phase).1 ∷ to_le_bytes w32 (count_numbers timer.count).0
+    ++ to_le_bytes w32 (count_numbers timer.count).1 ++ to_le_bytes w64 (count_numbers timer.count).2
 
 abbrev pub set_bytes : Registers → List ℕ
 set_bytes r =

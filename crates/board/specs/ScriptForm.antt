@@ -1,5 +1,5 @@
 -- What a list of events meets.
-use Rattle.std.specs.Prelude.{ℕ, Bool, true, ◌&&◌, nat_le, [], ◌∷◌, length, Option, Some, None, min}
+use Rattle.std.specs.Prelude.{ℕ, Bool, true, ◌&&◌, nat_le, [], ◌∷◌, length}
 use Rattle.board.specs.declared.script.Event.{Event}
 use Rattle.board.specs.declared.script.Event.TheVariants.{Rx, Line}
 use Rattle.board.specs.Scripts.{Events, max_events, max_step, is_free_line}
@@ -17,9 +17,3 @@ is_script_from low (event ∷ rest) =
 -- as `read_script` gives it
 abbrev pub is_script : Events → Bool
 is_script events = nat_le (length events) max_events && is_script_from 0 events
-
--- the earlier of two numbers, where there is one
-abbrev pub earlier : Option ℕ → Option ℕ → Option ℕ
-earlier None b = b
-earlier (Some a) None = Some a
-earlier (Some a) (Some b) = Some (min a b)

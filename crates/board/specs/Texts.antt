@@ -2,7 +2,7 @@
 use Rattle.std.specs.Prelude.{ℕ, ◌+◌, ◌-◌, ◌*◌, Bool, true, false, ◌&&◌, ◌||◌, not, ◌==◌, nat_lt, nat_le, List, [], ◌∷◌, ◌++◌, length, slice_index, fold, Option, Some, None, Result, Ok, Err, if◌then◌else◌, codes}
 use Rattle.std.specs.List.{slice_split, list_all}
 use Rattle.std.specs.Str.{bytes_eq}
-use Rattle.std.specs.Option.{option_map}
+use Rattle.std.specs.Option.{option_map, option_zip, ok_or}
 use Rattle.std.specs.Char.{is_ascii_digit}
 use Rattle.board.specs.declared.script.Event.{Event}
 use Rattle.board.specs.declared.script.Event.TheVariants.{Rx, Line}
@@ -18,12 +18,9 @@ decimal_after n [] = n
 decimal_after n (b ∷ rest) = decimal_after (10 * n + (b - 48)) rest
 
 -- a decimal number up to a limit, leading zeros allowed
-unfoldable pub number_after : ℕ → ℕ → List ℕ → Option ℕ
-number_after limit n word =
-    if list_all is_ascii_digit word && nat_le (decimal_after n word) limit then Some (decimal_after n word) else None
-
-abbrev pub number_upto : ℕ → List ℕ → Option ℕ
-number_upto limit word = number_after limit 0 word
+unfoldable pub number_upto : ℕ → List ℕ → Option ℕ
+number_upto limit word =
+    if list_all is_ascii_digit word && nat_le (decimal_after 0 word) limit then Some (decimal_after 0 word) else None
 
 -- a hexadecimal digit of either case
 abbrev pub hex_value : ℕ → Option ℕ
@@ -52,17 +49,13 @@ abbrev pub is_empty : List ℕ → Bool
 is_empty [] = true
 is_empty (b ∷ rest) = false
 
--- a step and an event, where both could be read
-abbrev pub event_with : Option ℕ → Option Event → Result (ℕ × Event) ScriptCause
-event_with (Some step) (Some event) = Ok (step, event)
-event_with _ _ = Err BadNumber
-
--- the three words of a line
+-- the three words of a line: a step and an event, where both can be read
 unfoldable pub event_of : List ℕ → List ℕ → List ℕ → Result (ℕ × Event) ScriptCause
 event_of step kind value =
     if is_empty step || is_empty value then Err NoForm
-    else if bytes_eq kind (codes "rx") then event_with (number_upto max_step step) (option_map Rx (hex_byte value))
-    else if bytes_eq kind (codes "line") then event_with (number_upto max_step step) (option_map Line (free_line_of (number_upto 15 value)))
+    else if bytes_eq kind (codes "rx") then ok_or (option_zip (number_upto max_step step) (option_map Rx (hex_byte value))) BadNumber
+    else if bytes_eq kind (codes "line") then
+    ok_or (option_zip (number_upto max_step step) (option_map Line (free_line_of (number_upto 15 value)))) BadNumber
     else Err NoForm
 
 unfoldable pub event_in : List (List ℕ) → Result (ℕ × Event) ScriptCause

@@ -6,7 +6,8 @@ ghost use Rattle.board.specs.Boards.{at_reset, serial_line, edged, with_uart, ha
 ghost use Rattle.board.specs.Quiet.{board_steps, comes_within};
 ghost use Rattle.ia32_types.specs.Firsts.{IsFirst};
 ghost use Rattle.uart16550.specs.Ports.{written as serial_written, interrupt_line};
-ghost use Rattle.board.specs.Ports.{IsByte, port_read, port_written};
+ghost use Rattle.board.specs.PortBytes.{IsByte};
+ghost use Rattle.board.specs.Ports.{port_read, port_written};
 
 use crate::ports::{is_pic_port, is_pit_port, is_uart_port, reaches_listed};
 use crate::script::{Event, Script, earlier, events_from, steps_to_event};

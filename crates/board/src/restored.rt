@@ -17,7 +17,9 @@ pub fn four_at(bytes: &[u8; 64], at: usize) -> u32
     requires { at + 4 ≤ 64 }
     ensures { result ≡ four_at bytes.now at }
 {
-    u32::from_le_bytes([bytes[at], bytes[at + 1], bytes[at + 2], bytes[at + 3]])
+    let mut four = [0; 4];
+    four.copy_from_slice(&bytes[at..at + 4]);
+    u32::from_le_bytes(four)
 }
 
 /// The number of eight bytes at a place of a board's bytes, the lowest byte first.
@@ -25,16 +27,9 @@ pub fn eight_at(bytes: &[u8; 64], at: usize) -> u64
     requires { at + 8 ≤ 64 }
     ensures { result ≡ eight_at bytes.now at }
 {
-    u64::from_le_bytes([
-        bytes[at],
-        bytes[at + 1],
-        bytes[at + 2],
-        bytes[at + 3],
-        bytes[at + 4],
-        bytes[at + 5],
-        bytes[at + 6],
-        bytes[at + 7],
-    ])
+    let mut eight = [0; 8];
+    eight.copy_from_slice(&bytes[at..at + 8]);
+    u64::from_le_bytes(eight)
 }
 
 fn phase_of(number: u8) -> ChipPhase

@@ -4,7 +4,7 @@ ghost use Rattle.std.specs.Prelude.{◌≡◌, ◌+◌, ◌≤◌, true, length}
 ghost use Rattle.std.specs.Int.{to_le_bytes, w32, w64};
 ghost use Rattle.uart16550.specs.Registers.{Registers, room};
 ghost use Rattle.uart16550.specs.States.{registers_of};
-ghost use Rattle.board.specs.Saved.{phase_number, selected_number, timer_number, low_byte, period_in, next_period_in, steps_left_in, chip_bytes, timer_bytes, set_bytes, saved};
+ghost use Rattle.board.specs.Saved.{phase_number, selected_number, phase_numbers, count_numbers, chip_bytes, timer_bytes, set_bytes, saved};
 ghost use Rattle.board.specs.Restored.{board_at};
 ghost use Rattle.board.specs.Form.{board_form, restored};
 
@@ -85,8 +85,9 @@ fn chip_bytes(chip: &Chip) -> [u8; 7]
     ]
 }
 
-fn phase_bytes(phase: TimerPhase) -> (u8, u8)
-    ensures { result ≡ (timer_number phase, low_byte phase) }
+/// The timer's phase, and the low byte that it has.
+fn phase_numbers(phase: TimerPhase) -> (u8, u8)
+    ensures { result ≡ phase_numbers phase }
 {
     match phase {
         TimerPhase::AwaitsControlWord => (0, 0),
@@ -97,7 +98,7 @@ fn phase_bytes(phase: TimerPhase) -> (u8, u8)
 
 /// The period, the next one and the steps that are left, 0 for none.
 fn count_numbers(count: Option<Count>) -> (u32, u32, u64)
-    ensures { result ≡ (period_in count, next_period_in count, steps_left_in count) }
+    ensures { result ≡ count_numbers count }
 {
     match count {
         None => (0, 0, 0),
@@ -108,7 +109,7 @@ fn count_numbers(count: Option<Count>) -> (u32, u32, u64)
 fn timer_bytes(timer: &Timer) -> [u8; 18]
     ensures { result ≡ timer_bytes timer.now }
 {
-    let (phase, low) = phase_bytes(timer.phase);
+    let (phase, low) = phase_numbers(timer.phase);
     let (period, next_period, left) = count_numbers(timer.count);
     let p = period.to_le_bytes();
     let n = next_period.to_le_bytes();

@@ -3,7 +3,8 @@
 ghost use Rattle.std.specs.Prelude.{◌≡◌, true};
 ghost use Rattle.std.specs.List.Sorted.{IsNonDecreasingBy};
 ghost use Rattle.ia32_types.specs.Firsts.{IsFirst};
-ghost use Rattle.board.specs.ScriptForm.{is_script_from, earlier};
+ghost use Rattle.board.specs.ScriptForm.{is_script_from};
+ghost use Rattle.board.specs.Earlier.{earlier};
 ghost use Rattle.board.specs.EventLists.{later, SameEvents};
 ghost use Rattle.board.specs.Quiet.{event_within};
 

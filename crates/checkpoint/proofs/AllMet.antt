@@ -7,7 +7,7 @@ use Rattle.board.specs.Restored.{demands as board_tests}
 use Rattle.board.specs.Form.{board_form}
 use Rattle.checkpoint.specs.declared.demand.Demand.{Demand}
 use Rattle.checkpoint.specs.declared.head.Head.{Head}
-use Rattle.board.specs.ScriptForm.{earlier}
+use Rattle.board.specs.Earlier.{earlier}
 use Rattle.checkpoint.specs.Demands.{bad_in, first_bad, of_field, zero_demands}
 use Rattle.checkpoint.specs.Form.{magic_demands, count_demands, processor_demands, segments_demands, board_demand, board_demands, demands}
 use Rattle.checkpoint.proofs.Firsts.{first_bad-append}

@@ -11,7 +11,7 @@ use Rattle.std.proofs.lemmas.Nat.{le_bytes_4, le_bytes_8}
 use Rattle.guest_ram.specs.Bytes.{part, AreBytes}
 use Rattle.guest_ram.proofs.Bytes.{length-part, bytes-part, part-append}
 use Rattle.ia32_types.specs.Bits.{worth}
-use Rattle.board.specs.Saved.{phase_number, selected_number, timer_number, low_byte, period_in, next_period_in, steps_left_in, chip_bytes, timer_bytes, set_bytes, waiting_bytes, saved}
+use Rattle.board.specs.Saved.{phase_number, selected_number, phase_numbers, count_numbers, chip_bytes, timer_bytes, set_bytes, waiting_bytes, saved}
 use Rattle.board.specs.Restored.{four_at, eight_at, phase_of, selected_of, timer_phase_of, period_of, count_of, chip_at, timer_at, waiting_at, board_at, are_zero, is_period_or_none, chip_demands, pair_demands, timer_demands, port_demands, demands}
 use Rattle.board.specs.Form.{all_met, board_form}
 
@@ -55,13 +55,13 @@ selected_again zero low = refl
 selected_again (suc zero) low = refl
 selected_again (suc (suc n)) low = absurd (omega arith)
 
-timer_again : (n low : ℕ) → n ≤ 2 → timer_number (timer_phase_of n low) ≡ n
+timer_again : (n low : ℕ) → n ≤ 2 → (phase_numbers (timer_phase_of n low)).0 ≡ n
 timer_again zero low h = refl
 timer_again (suc zero) low h = refl
 timer_again (suc (suc zero)) low h = refl
 timer_again (suc (suc (suc n))) low h = absurd (omega arith)
 
-low_again : (n low : ℕ) → n ≤ 2 → (n == 2 || low == 0) ≡ true → low_byte (timer_phase_of n low) ≡ low
+low_again : (n low : ℕ) → n ≤ 2 → (n == 2 || low == 0) ≡ true → (phase_numbers (timer_phase_of n low)).1 ≡ low
 low_again zero low h or = sym (eqb-true low 0 or)
 low_again (suc zero) low h or = sym (eqb-true low 0 or)
 low_again (suc (suc zero)) low h or = refl
@@ -69,13 +69,13 @@ low_again (suc (suc (suc n))) low h or = absurd (omega arith)
 
 -- ---- counts
 
-period_again : (p n l : ℕ) → period_in (count_of p n l) ≡ p
+period_again : (p n l : ℕ) → (count_numbers (count_of p n l)).0 ≡ p
 period_again p n l = elim (eqb_tells p 0) [ inl (is, e) ↦ rw is (sym e) | inr (isnt, _) ↦ rw isnt refl ]
 
 next_or_none : (n : ℕ) → unwrap_or (period_of n) 0 ≡ n
 next_or_none n = elim (eqb_tells n 0) [ inl (is, e) ↦ rw is (sym e) | inr (isnt, _) ↦ rw isnt refl ]
 
-next_again : (p n l : ℕ) → (if p == 0 then n == 0 else true) ≡ true → next_period_in (count_of p n l) ≡ n
+next_again : (p n l : ℕ) → (if p == 0 then n == 0 else true) ≡ true → (count_numbers (count_of p n l)).1 ≡ n
 next_again p n l h = elim (eqb_tells p 0) [
   | inl (is, e) ↦
       let none : (n == 0) ≡ true = rw is at h in
@@ -83,7 +83,7 @@ next_again p n l h = elim (eqb_tells p 0) [
   | inr (isnt, _) ↦ rw isnt (next_or_none n)
 ]
 
-left_again : (p n l : ℕ) → (if p == 0 then l == 0 else nat_lt 0 l && nat_le l (8 * p)) ≡ true → steps_left_in (count_of p n l) ≡ l
+left_again : (p n l : ℕ) → (if p == 0 then l == 0 else nat_lt 0 l && nat_le l (8 * p)) ≡ true → (count_numbers (count_of p n l)).2 ≡ l
 left_again p n l h = elim (eqb_tells p 0) [
   | inl (is, e) ↦
       let none : (l == 0) ≡ true = rw is at h in
@@ -124,19 +124,18 @@ chip_again b o met =
     cons phase (cons once (cons refl (cons refl (cons refl (cons refl (cons selected refl))))))
 
 four_again : (b : List ℕ) (a : ℕ) → AreBytes b → a + 4 ≤ length b → to_le_bytes w32 (four_at b a) ≡ part b a 4
+unfolding part
 four_again b a are room =
-    let bytes : slice_index b a ∷ slice_index b (a + 1) ∷ slice_index b (a + 2) ∷ slice_index b (a + 3) ∷ [] ≡ part b a 4 =
-    cons refl (cons refl (cons (ap (slice_index b) (omega arith)) (cons (ap (slice_index b) (omega arith)) refl))) ∙ part-listed b a 4 room in
-    le_bytes_4 (part b a 4) (four_at b a) (length-part b a 4 room) (bytes-part b a 4 are) (ap (from_le_bytes w32) bytes)
+    let four : a + 4 - a ≡ 4 = omega arith in
+    le_bytes_4 (part b a 4) (four_at b a) (length-part b a 4 room) (bytes-part b a 4 are)
+    (ap (λ (n : ℕ). from_le_bytes w32 (take n (drop a b))) four)
 
 eight_again : (b : List ℕ) (a : ℕ) → AreBytes b → a + 8 ≤ length b → to_le_bytes w64 (eight_at b a) ≡ part b a 8
+unfolding part
 eight_again b a are room =
-    let same : (k n : ℕ) → k ≡ n → slice_index b k ≡ slice_index b n = λ k n e. ap (slice_index b) e in
-    let bytes : slice_index b a ∷ slice_index b (a + 1) ∷ slice_index b (a + 2) ∷ slice_index b (a + 3) ∷ slice_index b (a + 4)
-    ∷ slice_index b (a + 5) ∷ slice_index b (a + 6) ∷ slice_index b (a + 7) ∷ [] ≡ part b a 8 =
-    cons refl (cons refl (cons (same _ _ (omega arith)) (cons (same _ _ (omega arith)) (cons (same _ _ (omega arith)) (cons (same _ _ (omega arith))
-    (cons (same _ _ (omega arith)) (cons (same _ _ (omega arith)) refl))))))) ∙ part-listed b a 8 room in
-    le_bytes_8 (part b a 8) (eight_at b a) (length-part b a 8 room) (bytes-part b a 8 are) (ap (from_le_bytes w64) bytes)
+    let eight : a + 8 - a ≡ 8 = omega arith in
+    le_bytes_8 (part b a 8) (eight_at b a) (length-part b a 8 room) (bytes-part b a 8 are)
+    (ap (λ (n : ℕ). from_le_bytes w64 (take n (drop a b))) eight)
 
 timer_bytes_again : (b : List ℕ) → AreBytes b → length b ≡ 64 → all_met (timer_demands b) ≡ true → timer_bytes (timer_at b) ≡ part b 14 18
 timer_bytes_again b are long met =
@@ -153,7 +152,7 @@ timer_bytes_again b are long met =
     let period = ap (to_le_bytes w32) (period_again p n l) ∙ four_again b 16 are (omega arith) in
     let next = ap (to_le_bytes w32) (next_again p n l j.0) ∙ four_again b 20 are (omega arith) in
     let left = ap (to_le_bytes w64) (left_again p n l k.0) ∙ eight_again b 24 are (omega arith) in
-    let front : timer_number (timer_phase_of (slice_index b 14) (slice_index b 15)) ∷ low_byte (timer_phase_of (slice_index b 14) (slice_index b 15)) ∷ [] ≡ part b 14 2 =
+    let front : (phase_numbers (timer_phase_of (slice_index b 14) (slice_index b 15))).0 ∷ (phase_numbers (timer_phase_of (slice_index b 14) (slice_index b 15))).1 ∷ [] ≡ part b 14 2 =
     cons (timer_again (slice_index b 14) (slice_index b 15) low) (cons (low_again (slice_index b 14) (slice_index b 15) low g.0) refl)
     ∙ part-listed b 14 2 (omega arith) in
     join (join (join front period ∙ part-append b 14 2 4) next ∙ part-append b 14 6 4) left ∙ part-append b 14 10 8

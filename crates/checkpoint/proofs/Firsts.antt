@@ -4,7 +4,7 @@ use Rattle.std.specs.Prelude.{map, not, ◌&&◌, ◌==◌, nat_le, if◌then◌
 use Rattle.std.proofs.lemmas.List.{drop_all, drop_more, map-append}
 use Rattle.std.proofs.lemmas.Bool.{le-leb, lt-leb, ne_eqb}
 use Rattle.checkpoint.specs.declared.demand.Demand.{Demand}
-use Rattle.board.specs.ScriptForm.{earlier}
+use Rattle.board.specs.Earlier.{earlier}
 use Rattle.checkpoint.specs.Demands.{bad_in, first_bad, of_field, zero_demands}
 
 pub earlier-none : (a : Option ℕ) → earlier a None ≡ a

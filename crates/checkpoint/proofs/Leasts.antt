@@ -2,7 +2,7 @@
 use Rattle.std.proofs.Common.{◌≡◌, ℕ, zero, suc, ◌≤◌, min, List, [], ◌∷◌, Option, Some, None, refl, sym, subst, arith, inl, inr}
 use Rattle.std.specs.List.{All, Contains, cons_option}
 use Rattle.std.proofs.lemmas.Bool.Decides.{leb_tells}
-use Rattle.board.specs.ScriptForm.{earlier}
+use Rattle.board.specs.Earlier.{earlier}
 use Rattle.checkpoint.specs.Demands.{bad_in, first_bad}
 use Rattle.checkpoint.specs.Least.{bad_places, IsLeast, FirstBadIsLeast}
 

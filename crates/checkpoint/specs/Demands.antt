@@ -1,6 +1,6 @@
 -- What numbers in a file are to meet, and the first field that is bad.
 use Rattle.std.specs.Prelude.{ℕ, ◌+◌, Bool, not, ◌&&◌, ◌==◌, nat_le, List, [], ◌∷◌, Option, Some, None, if◌then◌else◌}
-use Rattle.board.specs.ScriptForm.{earlier}
+use Rattle.board.specs.Earlier.{earlier}
 use Rattle.checkpoint.specs.declared.demand.Demand.{Demand}
 
 -- where it speaks, it is the field's that is bad

@@ -1,7 +1,7 @@
 //! Demands on the fields of a file, and the first field that is bad.
 
 ghost use Rattle.std.specs.Prelude.{◌≡◌, ◌+◌, ◌<◌, ◌^◌, length};
-ghost use Rattle.board.specs.ScriptForm.{earlier};
+ghost use Rattle.board.specs.Earlier.{earlier};
 ghost use Rattle.checkpoint.specs.Demands.{bad_in, first_bad, of_field, zero_demands};
 
 /// What a field at a place is to meet. It is told by the bytes before `end`, and is asked only where they are there.

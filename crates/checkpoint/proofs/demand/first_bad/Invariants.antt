@@ -1,5 +1,5 @@
 use Rattle.std.proofs.Common.{◌≡◌, drop}
-use Rattle.board.specs.ScriptForm.{earlier}
+use Rattle.board.specs.Earlier.{earlier}
 use Rattle.checkpoint.specs.Demands.{first_bad}
 use Rattle.checkpoint.proofs.demand.first_bad.Given as goal
 
