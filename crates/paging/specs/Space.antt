@@ -105,10 +105,6 @@ loaded_earlier s at size = loaded (as_earlier s) at size
 abbrev pub with_ram : Space → List ℕ → Space
 with_ram s ram = record s { ram = ram }
 
--- memory with one byte changed
-unfoldable pub with_byte : Space → List ℕ → ℕ → ℕ → List ℕ
-with_byte s ram at v = bytes.with_byte ram (place s at) v
-
 unfoldable pub written : Space → ℕ → Size → ℕ → List ℕ
 written s at size v = number_stored (place s) s.ram at size v
 

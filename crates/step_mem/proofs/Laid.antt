@@ -1,5 +1,5 @@
 -- Memory with the original text in its place, byte by byte.
-use Rattle.std.proofs.Common.{◌≡◌, ℕ, ◌+◌, ◌-◌, ◌*◌, ◌/◌, ◌%◌, ◌<◌, ◌≤◌, ◌^◌, Bool, true, false, List, ◌++◌, length, get_or, Option, Some, None, refl, sym, ap, ◌∙◌, inl, inr, cond, add-zero, arith}
+use Rattle.std.proofs.Common.{◌≡◌, ℕ, ◌+◌, ◌-◌, ◌*◌, ◌/◌, ◌%◌, ◌<◌, ◌≤◌, ◌^◌, Bool, true, false, List, [], ◌∷◌, ◌++◌, length, take, drop, get_or, Option, Some, None, refl, sym, ap, ◌∙◌, inl, inr, cond, add-zero, zero-add, arith}
 use Rattle.std.specs.Prelude.{bit_or, ◌⊎◌, if◌then◌else◌, ◌&&◌, not, nat_le, nat_lt}
 use Rattle.std.specs.Int.{w32, from_le_bytes}
 use Rattle.std.proofs.lemmas.List.{places, same_lists}
@@ -7,7 +7,7 @@ use Rattle.std.proofs.lemmas.Bool.Decides.{nat_tests}
 use Rattle.std.proofs.lemmas.Bool.{cases_lt, or_parts}
 use Rattle.plain_laws.proofs.Tests.{second_false}
 use Rattle.guest_ram.specs.Bytes.{part, byte, word32, with_part, with_byte}
-use Rattle.guest_ram.proofs.Bytes.{length-with_byte, byte-part}
+use Rattle.guest_ram.proofs.Bytes.{length-part, part-with_part, part-with_part_above, part-with_part_below, part-part, part-append, with_part-comm, get_or-with_part_in, length-with_byte, byte-part}
 use Rattle.paging.specs.declared.entry.Walk.{Walk}
 use Rattle.paging.specs.declared.entry.Walk.TheVariants.{Absent, Beyond, Reserved}
 use Rattle.paging.specs.Space.{Mode}
@@ -28,30 +28,57 @@ pub record IsBeside (bytes : List ℕ) (text frames at n : ℕ) : Type 0 where
   pub beside : (at + n ≤ 4096 * text) ⊎ (4096 * text + length bytes ≤ at)
 
 pub laid_part : (bytes : List ℕ) (text frames : ℕ) (ram : List ℕ) (at n : ℕ) → 4096 * frames ≤ length ram → IsBeside bytes text frames at n → part (laid bytes text frames ram) at n ≡ part ram at n
-unfolding part laid with_part
+unfolding part laid
 laid_part bytes text frames ram at n room h =
+    let guests : List ℕ = take (4096 * frames) ram in
+    let long : length guests ≡ 4096 * frames = length-part ram 0 (4096 * frames) (omega (arith, room)) in
+    let fits : 4096 * text + length bytes ≤ length guests = omega (arith, h.room, long) in
+    let inside : part guests at n ≡ part ram at n = part-part ram 0 (4096 * frames) at n h.within ∙ ap (λ (p : ℕ). part ram p n) (zero-add at) in
     elim h.beside [
-      | inl l ↦ same_lists _ _ (grind (arith, places)) (λ k d i. grind (arith, places))
-      | inr l ↦ same_lists _ _ (grind (arith, places)) (λ k d i. grind (arith, places))
+      | inl l ↦ part-with_part_below guests (4096 * text) bytes at n fits l ∙ inside
+      | inr l ↦ part-with_part_above guests (4096 * text) bytes at n fits l ∙ inside
     ]
 
+-- a byte that is written among the first
+take-with_byte : (limit : ℕ) (ram : List ℕ) (at v : ℕ) → limit ≤ length ram → at < limit → take limit (with_byte ram at v) ≡ with_byte (take limit ram) at v
+unfolding with_byte with_part
+take-with_byte limit ram at v room within = same_lists _ _ (grind (arith, places)) (λ k d i. grind (arith, places))
+
 pub laid_with_byte : (bytes : List ℕ) (text frames : ℕ) (ram : List ℕ) (at v : ℕ) → 4096 * frames ≤ length ram → IsBeside bytes text frames at 1 → laid bytes text frames (with_byte ram at v) ≡ with_byte (laid bytes text frames ram) at v
-unfolding laid with_byte with_part
+unfolding part laid with_byte
 laid_with_byte bytes text frames ram at v room h =
+    let guests : List ℕ = take (4096 * frames) ram in
+    let long : length guests ≡ 4096 * frames = length-part ram 0 (4096 * frames) (omega (arith, room)) in
+    let fits : 4096 * text + length bytes ≤ length guests = omega (arith, h.room, long) in
+    let here : at + 1 ≤ length guests = omega (arith, h.within, long) in
+    let below : at < 4096 * frames = omega (arith, h.within) in
+    let apart : with_part (with_byte guests at v) (4096 * text) bytes ≡ with_byte (with_part guests (4096 * text) bytes) at v =
     elim h.beside [
-      | inl l ↦ same_lists _ _ (grind (arith, places)) (λ k d i. grind (arith, places))
-      | inr l ↦ same_lists _ _ (grind (arith, places)) (λ k d i. grind (arith, places))
-    ]
+      | inl l ↦ with_part-comm guests at (v ∷ []) (4096 * text) bytes l fits
+      | inr l ↦ sym (with_part-comm guests (4096 * text) bytes at (v ∷ []) l here)
+    ] in
+    ap (λ (m : List ℕ). with_part m (4096 * text) bytes) (take-with_byte (4096 * frames) ram at v room below) ∙ apart
 
 -- a part that begins in the text
 pub laid_begins : (bytes : List ℕ) (text frames : ℕ) (ram : List ℕ) (at n front : ℕ) → 4096 * frames ≤ length ram → 4096 * text + length bytes ≤ 4096 * frames → 4096 * text ≤ at → at + front ≤ 4096 * text + length bytes → at + (front + n) ≤ 4096 * frames → n ≡ 0 ⊎ (at + front ≡ 4096 * text + length bytes)
     → part (laid bytes text frames ram) at (front + n) ≡ part bytes (at - 4096 * text) front ++ part ram (at + front) n
-unfolding part laid with_part
+unfolding part laid
 laid_begins bytes text frames ram at n front room fits low high within end =
+    let l : List ℕ = laid bytes text frames ram in
+    let guests : List ℕ = take (4096 * frames) ram in
+    let long : length guests ≡ 4096 * frames = length-part ram 0 (4096 * frames) (omega (arith, room)) in
+    let from : ℕ = at - 4096 * text in
+    let whole : part l (4096 * text) (length bytes) ≡ bytes = part-with_part guests (4096 * text) bytes (length bytes) (omega (arith, fits, long)) refl in
+    let place : 4096 * text + from ≡ at = omega arith in
+    let few : from + front ≤ length bytes = omega arith in
+    let first : part l at front ≡ part bytes from front =
+    ap (λ (p : ℕ). part l p front) (sym place) ∙ (sym (part-part l (4096 * text) (length bytes) from front few) ∙ ap (λ (m : List ℕ). part m from front) whole) in
+    let second : part l (at + front) n ≡ part ram (at + front) n =
     elim end [
-      | inl e ↦ same_lists _ _ (grind (arith, places)) (λ k d i. grind (arith, places))
-      | inr e ↦ same_lists _ _ (grind (arith, places)) (λ k d i. grind (arith, places))
-    ]
+      | inl e ↦ rw e refl
+      | inr e ↦ laid_part bytes text frames ram (at + front) n room (record { room = fits; within = omega arith; beside = inr (omega arith) })
+    ] in
+    sym (part-append l at front n) ∙ (ap (λ (m : List ℕ). m ++ part l (at + front) n) first ∙ ap (λ (m : List ℕ). part bytes from front ++ m) second)
 
 -- a byte as a part
 byte_of_part : (ram : List ℕ) (at : ℕ) → byte ram at ≡ byte (part ram at 1) 0
@@ -62,8 +89,13 @@ laid_byte bytes text frames ram at room h =
     byte_of_part (laid bytes text frames ram) at ∙ (ap (λ (l : List ℕ). byte l 0) (laid_part bytes text frames ram at 1 room h) ∙ sym (byte_of_part ram at))
 
 pub laid_byte_in : (bytes : List ℕ) (text frames : ℕ) (ram : List ℕ) (at : ℕ) → 4096 * frames ≤ length ram → 4096 * text + length bytes ≤ 4096 * frames → 4096 * text ≤ at → at < 4096 * text + length bytes → byte (laid bytes text frames ram) at ≡ get_or bytes (at - 4096 * text) 0
-unfolding byte laid with_part
-laid_byte_in bytes text frames ram at room fits low high = grind (arith, places)
+unfolding byte part laid
+laid_byte_in bytes text frames ram at room fits low high =
+    let guests : List ℕ = take (4096 * frames) ram in
+    let long : length guests ≡ 4096 * frames = length-part ram 0 (4096 * frames) (omega (arith, room)) in
+    let place : 4096 * text + (at - 4096 * text) ≡ at = omega arith in
+    ap (λ (p : ℕ). get_or (laid bytes text frames ram) p 0) (sym place)
+    ∙ get_or-with_part_in guests (4096 * text) bytes (at - 4096 * text) (omega (arith, fits, long)) (omega arith)
 
 -- ---- by the text that is kept
 
@@ -225,12 +257,17 @@ found_apart kept own frames ram cr3 pse page small h =
 -- ---- what isn't reached
 
 beyond_with_byte : (first count frames : ℕ) (ram : List ℕ) (at v : ℕ) → 4096 * frames ≤ length ram → first + count ≤ frames → at < 4096 * frames → (at + 1 ≤ 4096 * first) ⊎ (4096 * (first + count) ≤ at) → beyond first count frames (with_byte ram at v) ≡ beyond first count frames ram
-unfolding beyond part with_byte with_part
+unfolding beyond with_byte
 beyond_with_byte first count frames ram at v room fits within beside =
+    let inside : at + 1 ≤ length ram = omega arith in
+    let there : at < length ram = omega arith in
+    let text : part (with_byte ram at v) (4096 * first) (4096 * count) ≡ part ram (4096 * first) (4096 * count) =
     elim beside [
-      | inl l ↦ same_lists _ _ (grind (arith, places)) (λ k d i. grind (arith, places))
-      | inr l ↦ same_lists _ _ (grind (arith, places)) (λ k d i. grind (arith, places))
-    ]
+      | inl l ↦ part-with_part_above ram at (v ∷ []) (4096 * first) (4096 * count) inside l
+      | inr l ↦ part-with_part_below ram at (v ∷ []) (4096 * first) (4096 * count) inside (omega arith)
+    ] in
+    ap (λ (m : List ℕ). m ++ drop (4096 * frames) (with_byte ram at v)) text
+    ∙ ap (λ (m : List ℕ). part ram (4096 * first) (4096 * count) ++ m) (drop-with_byte (4096 * frames) ram at v there within)
 
 pub hidden_with_byte : (kept : Option Text) (own : Own) (frames : ℕ) (ram : List ℕ) (at v : ℕ) → 4096 * frames ≤ length ram → IsLaid kept frames → at < 4096 * frames → is_text (mode_by kept own) (at / 4096) ≡ false → hidden_by kept frames (with_byte ram at v) ≡ hidden_by kept frames ram
 hidden_with_byte None own frames ram at v room laid within apart =

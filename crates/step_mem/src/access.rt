@@ -5,7 +5,7 @@ ghost use Rattle.guest_ram.specs.Bytes as in_ram;
 ghost use Rattle.std.specs.FinMap.{get};
 ghost use Rattle.ia32_types.specs.Bytes.{size_in_bytes};
 ghost use Rattle.paging.specs.Ready.{IsReadable, IsWritable, FitsSize, IsReadyEarlier};
-ghost use Rattle.paging.specs.Space.{loaded, loaded_earlier, place, place_by, saved, with_byte, with_ram};
+ghost use Rattle.paging.specs.Space.{loaded, loaded_earlier, place, place_by, saved, with_ram};
 ghost use Rattle.paging.specs.Uses.{is_text};
 ghost use Rattle.step_mem.specs.Changes.{changed, AreWithin, HasEntry, HaveEntries};
 ghost use Rattle.step_mem.specs.Guard.{mode_of, IsLaid, IsApartAt};
@@ -220,14 +220,14 @@ fn put_byte<B: Kept>(ram: &mut Ram, base: &B, state: &StepState, at: u32, v: u8)
     ensures sound { IsSoundOver B.Kept base.now ram.new state.now }
     ensures hidden { hidden state.now.guard state.now.control.frames ram.new ≡ hidden state.now.guard state.now.control.frames ram.old }
     ensures after { space B.Kept base.now ram.new state.now ≡ with_ram (space B.Kept base.now ram.old state.now)
-        (with_byte (space B.Kept base.now ram.old state.now) (space B.Kept base.now ram.old state.now).ram at v) }
+        (in_ram.with_byte (space B.Kept base.now ram.old state.now).ram (place (space B.Kept base.now ram.old state.now) at) v) }
 {
     let physical = place(ram, base, state, at);
     put_at(ram, base, state, at, physical, v);
 }
 
-/// Writes a byte of the guest's, whose address has this physical place.
-#[tactic(auto, unfolding(paging::specs::Space::with_byte))]
+/// Writes a byte of the guest's, whose address has this physical place. It lies below the floor, so no kept translation
+/// changes.
 fn put_at<B: Kept>(ram: &mut Ram, base: &B, state: &StepState, at: u32, physical: u32, v: u8)
     requires sound { IsSoundOver B.Kept base.now ram.old state.now }
     requires place { physical ≡ place (space B.Kept base.now ram.old state.now) at }
@@ -236,30 +236,13 @@ fn put_at<B: Kept>(ram: &mut Ram, base: &B, state: &StepState, at: u32, physical
     ensures sound { IsSoundOver B.Kept base.now ram.new state.now }
     ensures hidden { hidden state.now.guard state.now.control.frames ram.new ≡ hidden state.now.guard state.now.control.frames ram.old }
     ensures after { space B.Kept base.now ram.new state.now ≡ with_ram (space B.Kept base.now ram.old state.now)
-        (with_byte (space B.Kept base.now ram.old state.now) (space B.Kept base.now ram.old state.now).ram at v) }
+        (in_ram.with_byte (space B.Kept base.now ram.old state.now).ram (place (space B.Kept base.now ram.old state.now) at) v) }
 {
-    store(ram, base, &state.guard, state.control.frames, physical, v);
-}
-
-/// Writes a byte below the floor, which changes no kept translation.
-fn store<B: Kept>(ram: &mut Ram, base: &B, guard: &Guard, frames: u32, place: u32, v: u8)
-    requires frames { 4096 * frames ≤ length ram.old }
-    requires apart { 4096 * frames ≤ B.floor base.now }
-    requires laid { IsLaid guard.now.text.now frames }
-    requires stands { ∥ B.stands base.now ram.old ∥₁ }
-    requires place { place < 4096 * frames }
-    requires no_text { is_text (mode_of guard.now) (place / 4096) ≡ false }
-    ensures ram { shown guard.now frames ram.new ≡ in_ram.with_byte (shown guard.now frames ram.old) place v }
-    ensures length { length ram.new ≡ length ram.old }
-    ensures kept { B.entries base.now ram.new ≡ B.entries base.now ram.old }
-    ensures stands { ∥ B.stands base.now ram.new ∥₁ }
-    ensures hidden { hidden guard.now frames ram.new ≡ hidden guard.now frames ram.old }
-{
-    write(ram, guard, frames, place, v);
+    write(ram, &state.guard, state.control.frames, physical, v);
 }
 
 /// Writes a number of four bytes that lie in one page.
-#[tactic(auto, unfolding(paging::specs::Space::written, paging::specs::Space::with_byte, paging::specs::Space::place))]
+#[tactic(auto, unfolding(paging::specs::Space::written, paging::specs::Space::place))]
 fn save_in_page<B: Kept>(ram: &mut Ram, base: &B, state: &StepState, at: u32, value: u32)
     requires sound { IsSoundOver B.Kept base.now ram.old state.now }
     requires found { HasEntry (space B.Kept base.now ram.old state.now).set at }
@@ -299,7 +282,7 @@ fn save_in_page<B: Kept>(ram: &mut Ram, base: &B, state: &StepState, at: u32, va
 }
 
 /// Writes where each byte's page has an entry that leads to no text, as where this step's touches were ready for a write.
-#[tactic(auto, unfolding(paging::specs::Space::written, paging::specs::Space::with_byte, paging::specs::Space::place))]
+#[tactic(auto, unfolding(paging::specs::Space::written, paging::specs::Space::place))]
 pub fn save<B: Kept>(ram: &mut Ram, base: &B, state: &StepState, at: u32, size: Size, value: u32)
     requires sound { IsSoundOver B.Kept base.now ram.old state.now }
     requires ready { IsWritable (space B.Kept base.now ram.old state.now) at (size_in_bytes size) }

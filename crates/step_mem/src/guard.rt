@@ -1,7 +1,7 @@
 //! What a monitor keeps from the guest.
 
 ghost use Rattle.std.specs.Prelude.{◌≡◌, ◌+◌, ◌-◌, ◌==◌, ◌&&◌, nat_le, nat_lt};
-ghost use Rattle.paging.specs.Uses.{is_text, is_own, is_given, is_barred, window_stop};
+ghost use Rattle.paging.specs.Uses.{is_text, is_own, is_barred, window_stop};
 ghost use Rattle.step_mem.specs.Guard.{mode_of};
 
 use ia32_types::{DATA_ADDRESS, Stop, TEXT_ADDRESS, TEXT_PAGE, WINDOW_ADDRESS, WINDOW_END};
@@ -73,22 +73,15 @@ pub fn is_loaded(first: u32, count: u32, page: u32, frame: u32) -> bool
     lies_in(page, TEXT_PAGE, count) && frame >= first && frame - first == page - TEXT_PAGE
 }
 
-/// The page of the text window to which the loader gave this frame.
-fn is_given(guard: &Guard, page: u32, frame: u32) -> bool
-    ensures { result ≡ is_given (mode_of guard.now) page frame }
-{
-    match guard.text {
-        None => true,
-        Some(text) => is_loaded(text.first, text.count, page, frame),
-    }
-}
-
 /// What a page may not be translated to, by a fetch or for data.
 pub fn is_barred(guard: &Guard, fetch: bool, user: bool, page: u32, frame: u32) -> bool
     ensures { result ≡ is_barred (mode_of guard.now) fetch user page frame }
 {
     if fetch && !user {
-        return !is_given(guard, page, frame);
+        return match guard.text {
+            None => false,
+            Some(text) => !is_loaded(text.first, text.count, page, frame),
+        };
     }
     is_text(guard, frame)
 }

@@ -34,7 +34,7 @@ fn begin<B: Kept>(ram: &Ram, base: &B, state: &mut StepState)
     state.earlier = Earlier {
         start: state.ready.start,
         len: state.ready.len,
-        count: state.changes.len(),
+        count: state.changes.as_slice().len(),
     };
     state.ready = Reach {
         start: 0,
