@@ -27,39 +27,8 @@ use ia32_decode::Decoded;
 use ia32_types::Stop;
 use step_mem::{Control, Guard, Kept, Own, StepState, Text};
 
-/// One step, or the stop that it meets; and the step's state, with what it changed of the translations.
-pub fn step<'g, B: Kept>(
-    rules: &Rules,
-    cpu: &Cpu,
-    board: &mut Board,
-    ram: &mut Ram,
-    kept: &B,
-    frames: u32,
-    guard: Guard<'g>,
-) -> (Result<Worked, Stop>, StepState<'g>)
-    requires frames { 4096 * frames ≤ length ram.old }
-    requires below { 4096 * frames ≤ B.floor kept.now }
-    requires stands { ∥ B.stands kept.now ram.old ∥₁ }
-    requires within { AreWithin frames (B.entries kept.now ram.old) }
-    requires laid { IsLaid guard.text.now frames }
-    ensures sound { IsSoundOver B.Kept kept.now ram.new result.1 }
-    ensures uses { OnOk result.0 (UsesBy cpu.now
-        (first_space B.Kept kept.now ram.old guard.entry frames cpu.now) (space B.Kept kept.now ram.new result.1)) }
-    ensures step { (m : Setting) (b : Whole) → IsRuled (under m guard.entry frames) rules.now → ComesTo
-        (stepped (under m guard.entry frames)
-        (begins_over B.Kept kept.now ram.old guard.entry frames (record b { cpu = cpu.now; board = board.old })))
-        b result.0 board.new (space B.Kept kept.now ram.new result.1) }
-    ensures stopped { OnErr result.0 (board.new ≡ taken_by (interrupt_of cpu.now board.old) board.old) }
-    ensures dropped { IfOk result.0 (λ w. IsDropped w.dropped) }
-    ensures roots { IfOk result.0 (RootsAs cpu.now) }
-    ensures stays { FetchesIn (begun (control_of frames cpu.now) guard.entry) result.1 ram.old ram.new }
-{
-    let mut state = begin(cpu, ram, kept, frames, guard);
-    let result = step_in(rules, cpu, board, ram, kept, &mut state);
-    (result, state)
-}
-
-/// The same over the state of an earlier step, whose place this step's takes; and what it comes to is told in its place.
+/// One step, or the stop that it meets. Its state, with what it changed of the translations, takes the place of an earlier
+/// step's; and what it comes to is told in its place.
 pub fn step_again<'g, B: Kept>(
     rules: &Rules,
     worked: &mut Worked,
@@ -132,31 +101,7 @@ pub fn first_state<'t>(text: &'t Option<Text<'t>>) -> StepState<'t>
     )
 }
 
-/// What a step keeps, before its first access.
-pub fn begin<'g, B: Kept>(
-    cpu: &Cpu,
-    ram: &Ram,
-    kept: &B,
-    frames: u32,
-    guard: Guard<'g>,
-) -> StepState<'g>
-    requires frames { 4096 * frames ≤ length ram.now }
-    requires below { 4096 * frames ≤ B.floor kept.now }
-    requires stands { ∥ B.stands kept.now ram.now ∥₁ }
-    requires within { AreWithin frames (B.entries kept.now ram.now) }
-    requires laid { IsLaid guard.text.now frames }
-    ensures sound { IsSoundOver B.Kept kept.now ram.now result }
-    ensures space { space B.Kept kept.now ram.now result ≡ first_space B.Kept kept.now ram.now guard.entry frames cpu.now }
-    ensures pages { result.pages ≡ 0 }
-    ensures control { result.control ≡ control_of frames cpu.now }
-    ensures frames { result.control.frames ≡ frames }
-    ensures guard { result.guard ≡ guard.entry }
-{
-    let _len = ram.len();
-    StepState::new(control(cpu, frames), guard)
-}
-
-/// The same in the place of an earlier step's.
+/// What a step keeps, before its first access, in the place of what an earlier step kept.
 pub fn begin_again<'g, B: Kept>(
     cpu: &Cpu,
     ram: &Ram,

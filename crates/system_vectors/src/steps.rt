@@ -5,7 +5,7 @@ use bare_mem::Cached;
 use board::Board;
 use descriptors::Cpu;
 use ia32_types::Stop;
-use machine_step::{Rules, Seen, Worked, step};
+use machine_step::{Rules, Seen, Worked, begin_again, first_state, step_in};
 use run_trace::What;
 use std::alloc::Global;
 use std::process::Abort;
@@ -72,7 +72,9 @@ fn is_step(rt: &impl Abort, alloc: Global, word: u32, comes: &Comes) -> bool {
     let frames = ram.len() / 4096;
     let rules = Rules { image: None };
     let mut board = Board::new();
-    let (answer, _state) = step(&rules, &cpu, &mut board, &mut ram, &kept, frames, guard);
+    let mut state = first_state(&text);
+    begin_again(&cpu, &ram, &kept, frames, guard, &mut state);
+    let answer = step_in(&rules, &cpu, &mut board, &mut ram, &kept, &mut state);
     comes_so(&cpu, &answer, comes)
 }
 

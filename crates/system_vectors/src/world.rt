@@ -6,7 +6,7 @@ use event_entry::{Kind, NotDelivered};
 use guest_ram::Ram;
 use ia32_decode::{Decoded, decode};
 use ia32_types::{Flags, Insn, Op, Operand, Regs, Size};
-use machine_step::begin;
+use machine_step::{begin_again, first_state};
 use std::alloc::{AllocError, Global};
 use std::process::Abort;
 use step_exec::{deliver_in, sys_in};
@@ -251,7 +251,8 @@ fn performed(cpu: &mut Cpu, ram: &mut Ram, what: &What) -> Answer {
         own: UNREAD,
     };
     let frames = ram.len() / 4096;
-    let mut state = begin(cpu, ram, &kept, frames, guard);
+    let mut state = first_state(&text);
+    begin_again(cpu, ram, &kept, frames, guard, &mut state);
     match what {
         What::Insn(bytes) => match decode(bytes) {
             Decoded::Insn(insn, len) => {

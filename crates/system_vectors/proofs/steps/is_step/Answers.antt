@@ -7,5 +7,5 @@ none_some : {X : Type 0} (x : X) → None ≡ Some x → ⊥
 none_some x h = cc
 
 -- src/steps.rt, where the buffer is made
-pub step-answer-requires-clause-within : goal.step-answer-requires-clause-within
-step-answer-requires-clause-within g c = λ page e found. absurd (none_some e (sym (get-empty nat_cmp page) ∙ (ap (λ m. get m page) (sym c.new.ensures) ∙ found)))
+pub begin_again-requires-clause-within : goal.begin_again-requires-clause-within
+begin_again-requires-clause-within g c = λ page e found. absurd (none_some e (sym (get-empty nat_cmp page) ∙ (ap (λ m. get m page) (sym c.new.ensures) ∙ found)))
