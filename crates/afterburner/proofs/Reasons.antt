@@ -1,8 +1,8 @@
 -- Each refusal of an item has its reason.
-use Rattle.std.proofs.Common.{◌≡◌, ℕ, ◌+◌, ◌<◌, ◌++◌, Bool, true, false, not, cond, List, length, Some, Result, Ok, Err, refl, ap, subst, ◌∙◌, arith}
+use Rattle.std.proofs.Common.{◌≡◌, ℕ, ◌+◌, ◌<◌, ◌++◌, Bool, true, false, not, cond, List, length, Some, Result, Ok, Err, refl, ap, subst, ◌∙◌}
 use Rattle.std.specs.Prelude.{nat_lt, fold, replicate}
 use Rattle.std.specs.List.{flat_map}
-use Rattle.std.proofs.lemmas.Bool.Decides.{nat_tests}
+use Rattle.std.proofs.lemmas.Bool.{ltb-true}
 use Rattle.asm_source.specs.declared.tree.Argument.{Argument}
 use Rattle.asm_source.specs.declared.tree.Body.{Body}
 use Rattle.asm_source.specs.declared.tree.Body.TheVariants as body
@@ -65,7 +65,7 @@ module _ (names : List (List ℕ)) (st : ObjectSoFar) (name : List ℕ) (args : 
   strings_reason k ended c q g e = outside k (record (parted st) { init = st.init ++ flat_map (string_bytes ended) args }) c q g e
 
   over : (limit n : ℕ) → nat_lt limit n ≡ true → limit < n
-  over limit n e = grind (arith, nat_tests)
+  over limit n e = ltb-true limit n e
 
   zeros_reason : (s : Section) (n : ℕ) (c : BurnCause) → st.section ≡ s → count_at args 0 ≡ n → directive_of name ≡ directive.Zeros → zeros_in (parted st) s n ≡ Err c → Reason c
   zeros_reason section.Text n c f m q e = let same : cause.DataInText ≡ c = cc in subst Reason same (IsReason.zeros_in_text q (ap is_text f))
@@ -119,7 +119,7 @@ unfolding limited
 limited_reason names st new b c m e = by_text (nat_lt TEXT_LIMIT (length new.text)) refl e
   where
     exceeds : (limit n : ℕ) → nat_lt limit n ≡ true → limit < n
-    exceeds limit n e = grind (arith, nat_tests)
+    exceeds limit n e = ltb-true limit n e
 
     by_sites : (t : Bool) → nat_lt SITE_LIMIT (length new.sites) ≡ t → cond t (Err cause.TooManySites) (Ok new) ≡ Err c → IsReason names st b c
     by_sites true t e = let same : cause.TooManySites ≡ c = cc in subst (IsReason names st b) same (IsReason.many_sites new m (exceeds SITE_LIMIT (length new.sites) t))

@@ -13,15 +13,12 @@ use Rattle.afterburner.specs.declared.symbol.Binding.TheVariants as binding
 use Rattle.afterburner.specs.ObjectSoFar.{ObjectSoFar}
 use Rattle.afterburner.specs.Symbols.{definition_of}
 
-abbrev pub is_wide : Binding → Bool
-is_wide binding.Common = true
-is_wide binding.Global = true
-is_wide _ = false
-
 -- An undefined name is global, and has the value 0.
 abbrev pub reaches : Place → Binding → Bool
 reaches place.Undefined b = true
-reaches p b = is_wide b
+reaches p binding.Common = true
+reaches p binding.Global = true
+reaches p b = false
 
 abbrev pub is_global : Definition → Bool
 is_global d = reaches d.place d.binding

@@ -9,10 +9,10 @@ use crate::argument::{number, symbol_in, text};
 use crate::assembly::Assembly;
 use crate::fault::{BurnCause, ItemFault};
 use crate::section::{Section, is_init, put};
+use crate::symbol::put_reloc;
 use crate::value::put_value;
 use asm_instruction::fits_field;
 use asm_source::{Argument, Names, SYMBOL_LIMIT};
-use elf_form::Reloc;
 use ia32_types::Size;
 use sites::INIT_LIMIT;
 use std::alloc::AllocError;
@@ -38,9 +38,10 @@ fn put_string(out: &mut Vec<u8>, ended: bool, argument: &Argument) -> Result<(),
     ensures { OnOk result (out.new.items ≡ out.old.items ++ spec.string_bytes ended argument.now) }
 {
     out.extend_from_slice(text(&argument.form))?;
-    if ended {
-        out.push(0)?;
+    if !ended {
+        return Ok(());
     }
+    out.push(0)?;
     Ok(())
 }
 
@@ -75,14 +76,15 @@ impl Assembly {
         requires room { length self.old.init < 2 ^ 32 }
         ensures { OnOk result (self.new ≡ spec.with_long names.now self.old argument.now) }
     {
-        if let Some(name) = symbol_in(argument) {
-            self.data_relocs.push(Reloc {
-                in_text: false,
-                at: self.init.len() as u32,
-                symbol: names.number_of(&name.bytes) as u32,
-                relative: false,
-            })?;
-        }
+        let at = self.init.len() as u32;
+        put_reloc(
+            &mut self.data_relocs,
+            names,
+            false,
+            at,
+            false,
+            symbol_in(argument),
+        )?;
         put_value(&mut self.init, Size::Long, number(&argument.form))
     }
 
@@ -133,15 +135,17 @@ impl Assembly {
         ensures { Makes self.new result (spec.zeros_in self.old self.old.section count) }
     {
         match self.section {
-            Section::Text => return Err(ItemFault::Cause(BurnCause::DataInText)),
+            Section::Text => Err(ItemFault::Cause(BurnCause::DataInText)),
             Section::Init => {
                 if self.init.len() + self.bss + count as usize > INIT_LIMIT {
                     return Err(ItemFault::Cause(BurnCause::InitTooLarge));
                 }
-                put(&mut self.init, count as usize, 0)?;
+                Ok(put(&mut self.init, count as usize, 0)?)
             }
-            Section::Bss => self.bss += count as usize,
+            Section::Bss => {
+                self.bss += count as usize;
+                Ok(())
+            }
         }
-        Ok(())
     }
 }

@@ -63,31 +63,30 @@ impl Assembly {
         ensures { Makes self.new result (spec.directed names.now self.old directive arguments.now) }
     {
         match directive {
-            DirectiveName::Text => self.enter(Section::Text),
-            DirectiveName::Data => self.enter(Section::Init),
-            DirectiveName::Bss => self.enter(Section::Bss),
-            DirectiveName::Section => self.enter(section_named(
-                text_at(arguments, 0),
-                self.section,
-            )),
-            DirectiveName::Global => self.bind(names, symbol_at(arguments, 0), Binding::Global),
-            DirectiveName::Local => self.bind(names, symbol_at(arguments, 0), Binding::Local),
-            DirectiveName::Bytes => return self.numbers(Size::Byte, arguments),
-            DirectiveName::Shorts => return self.numbers(Size::Word, arguments),
-            DirectiveName::Longs => return self.longs(names, arguments),
-            DirectiveName::Ascii => return self.strings(false, arguments),
-            DirectiveName::Asciz => return self.strings(true, arguments),
-            DirectiveName::Zeros => return self.zeros(count_at(arguments, 0)),
-            DirectiveName::Aligned => self.align(alignment(count_at(arguments, 0)), None)?,
+            DirectiveName::Text => Ok(self.enter(Section::Text)),
+            DirectiveName::Data => Ok(self.enter(Section::Init)),
+            DirectiveName::Bss => Ok(self.enter(Section::Bss)),
+            DirectiveName::Section => {
+                let section = section_named(text_at(arguments, 0), self.section);
+                Ok(self.enter(section))
+            }
+            DirectiveName::Global => Ok(self.bind(names, symbol_at(arguments, 0), Binding::Global)),
+            DirectiveName::Local => Ok(self.bind(names, symbol_at(arguments, 0), Binding::Local)),
+            DirectiveName::Bytes => self.numbers(Size::Byte, arguments),
+            DirectiveName::Shorts => self.numbers(Size::Word, arguments),
+            DirectiveName::Longs => self.longs(names, arguments),
+            DirectiveName::Ascii => self.strings(false, arguments),
+            DirectiveName::Asciz => self.strings(true, arguments),
+            DirectiveName::Zeros => self.zeros(count_at(arguments, 0)),
+            DirectiveName::Aligned => Ok(self.align(alignment(count_at(arguments, 0)), None)?),
             DirectiveName::Powered => {
-                self.align(power(count_at(arguments, 0)), limit_at(arguments, 2))?;
+                Ok(self.align(power(count_at(arguments, 0)), limit_at(arguments, 2))?)
             }
-            DirectiveName::Common => self.common(names, arguments),
+            DirectiveName::Common => Ok(self.common(names, arguments)),
             DirectiveName::LocalCommon => {
-                self.reserve(names, symbol_at(arguments, 0), count_at(arguments, 1), 1);
+                Ok(self.reserve(names, symbol_at(arguments, 0), count_at(arguments, 1), 1))
             }
-            DirectiveName::Skipped => {}
+            DirectiveName::Skipped => Ok(()),
         }
-        Ok(())
     }
 }

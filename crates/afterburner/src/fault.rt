@@ -9,7 +9,7 @@ use std::fmt;
 use thiserror::Error;
 
 /// Why an item is refused. Of several causes of one item the first of these is told.
-#[derive(Clone, Copy, Debug, PartialEq, Eq)]
+#[derive(Clone, Copy, Debug)]
 pub enum BurnCause {
     /// No instruction has the name.
     UnknownInstruction,
@@ -73,11 +73,9 @@ pub enum BurnFault {
 }
 
 /// Why the work at an item stops.
-#[derive(Debug, Drop, Error)]
+#[derive(Drop)]
 pub enum ItemFault {
-    #[error("{0}")]
     Cause(BurnCause),
-    #[error("no memory was found")]
     Memory,
 }
 

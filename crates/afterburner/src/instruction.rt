@@ -13,6 +13,7 @@ use crate::argument::symbol_at;
 use crate::assembly::Assembly;
 use crate::fault::{BurnCause, ItemFault};
 use crate::section::{is_text, put};
+use crate::symbol::put_reloc;
 use asm_instruction::{Assembled, Named, Refusal, assemble};
 use asm_source::{Argument, Names, SYMBOL_LIMIT};
 use elf_form::Reloc;
@@ -73,16 +74,19 @@ fn put_site(
 ) -> Result<(), AllocError>
     ensures { OnOk result (sites.new.items ≡ sites.old.items ++ spec.site_at at kind len) }
 {
-    if let Some(kind) = kind {
-        let total = if len < 5 { 5 } else { len };
-        sites.push(Site {
-            at,
-            kind,
-            len,
-            total,
-        })?;
+    match kind {
+        None => Ok(()),
+        Some(kind) => {
+            let total = if len < 5 { 5 } else { len };
+            sites.push(Site {
+                at,
+                kind,
+                len,
+                total,
+            })?;
+            Ok(())
+        }
     }
-    Ok(())
 }
 
 /// The relocation of a field of the instruction at this offset.
@@ -97,17 +101,20 @@ fn put_field(
     requires room { at < 2 ^ 31 }
     ensures { OnOk result (relocs.new.items ≡ relocs.old.items ++ spec.field_reloc names.now at arguments.now field) }
 {
-    if let Some(field) = field {
-        if let Some(name) = symbol_at(arguments, field.argument as usize) {
-            relocs.push(Reloc {
-                in_text: true,
-                at: at + field.at as u32,
-                symbol: names.number_of(&name.bytes) as u32,
-                relative: field.relative,
-            })?;
+    match field {
+        None => Ok(()),
+        Some(field) => {
+            let name = symbol_at(arguments, field.argument as usize);
+            put_reloc(
+                relocs,
+                names,
+                true,
+                at + field.at as u32,
+                field.relative,
+                name,
+            )
         }
     }
-    Ok(())
 }
 
 /// The bytes of the spelling.

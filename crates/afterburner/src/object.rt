@@ -14,22 +14,16 @@ use elf_form::{Bytes, Object, Place, Reloc, Symbol};
 use sites::{SITE_LIMIT, of_text, write_sites};
 use std::alloc::{AllocError, Global};
 
-fn is_wide(binding: Binding) -> bool
-    ensures { result ≡ spec.is_wide binding }
-{
-    match binding {
-        Binding::Common | Binding::Global => true,
-        _ => false,
-    }
-}
-
 /// An undefined name is global.
 fn is_global(definition: Definition) -> bool
     ensures { result ≡ spec.is_global definition }
 {
     match definition.place {
         Place::Undefined => true,
-        _ => is_wide(definition.binding),
+        _ => match definition.binding {
+            Binding::Common | Binding::Global => true,
+            _ => false,
+        },
     }
 }
 
@@ -65,9 +59,10 @@ fn put_symbol(
 ) -> Result<(), AllocError>
     ensures { OnOk result (out.new.items ≡ out.old.items ++ filter (spec.are global) (spec.symbol name.now definition ∷ [])) }
 {
-    if is_global(definition) == global {
-        out.push(symbol(alloc, name, definition)?)?;
+    if is_global(definition) != global {
+        return Ok(());
     }
+    out.push(symbol(alloc, name, definition)?)?;
     Ok(())
 }
 

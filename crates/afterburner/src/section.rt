@@ -108,11 +108,13 @@ impl Assembly {
         ensures { OnOk result (self.new ≡ spec.filled_in self.old self.old.section count) }
     {
         match self.section {
-            Section::Text => put(&mut self.text, count, 0x90)?,
-            Section::Init => put(&mut self.init, count, 0)?,
-            Section::Bss => self.bss += count,
+            Section::Text => put(&mut self.text, count, 0x90),
+            Section::Init => put(&mut self.init, count, 0),
+            Section::Bss => {
+                self.bss += count;
+                Ok(())
+            }
         }
-        Ok(())
     }
 
     /// Goes on at the next multiple of the alignment, unless more than `most` bytes are needed.

@@ -1,14 +1,15 @@
 //! What a source says of its names.
 
-ghost use Rattle.std.specs.Prelude.{◌≡◌, ◌<◌, ◌≤◌, ◌+◌, ◌^◌, length};
+ghost use Rattle.std.specs.Prelude.{◌≡◌, ◌<◌, ◌≤◌, ◌+◌, ◌++◌, ◌^◌, length, OnOk};
 ghost use Rattle.std.specs.Option.{option_copied};
 ghost use Rattle.afterburner.specs.Symbols as spec;
 ghost use Rattle.afterburner.specs.Sections as sections;
 
 use crate::assembly::Assembly;
 use crate::section::place_of;
-use asm_source::{Name, Names};
-use elf_form::{Place, pad};
+use asm_source::{Name, Names, SYMBOL_LIMIT};
+use elf_form::{Place, Reloc, pad};
+use std::alloc::AllocError;
 
 /// How far a name reaches, by the strongest directive that spoke of it. A name of which none spoke
 /// is local, unless it is undefined.
@@ -76,6 +77,32 @@ fn bind(definitions: &mut [Definition], number: usize, binding: Binding)
             value,
             binding: stronger(before, binding),
         };
+    }
+}
+
+/// The relocation of a field at this offset, where it names a symbol.
+pub fn put_reloc(
+    relocs: &mut Vec<Reloc>,
+    names: &Names,
+    in_text: bool,
+    at: u32,
+    relative: bool,
+    name: Option<&Name>,
+) -> Result<(), AllocError>
+    requires few { length names.now ≤ SYMBOL_LIMIT }
+    ensures { OnOk result (relocs.new.items ≡ relocs.old.items ++ spec.reloc_to names.now in_text at relative (option_copied name.entry)) }
+{
+    match name {
+        None => Ok(()),
+        Some(name) => {
+            relocs.push(Reloc {
+                in_text,
+                at,
+                symbol: names.number_of(&name.bytes) as u32,
+                relative,
+            })?;
+            Ok(())
+        }
     }
 }
 
