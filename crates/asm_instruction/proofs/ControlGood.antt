@@ -22,7 +22,7 @@ use Rattle.asm_instruction.specs.declared.mnemonic.Family.TheVariants as family
 use Rattle.asm_instruction.specs.Sizes.{agreed}
 use Rattle.asm_instruction.specs.Draft.{nothing, instruction, with_number, alone}
 use Rattle.asm_instruction.specs.Arithmetic.{one}
-use Rattle.asm_instruction.specs.Control.{distance, to_symbol, is_symbol, direct, return_of, returned, with_selector, far, with_condition, set, control_draft}
+use Rattle.asm_instruction.specs.Control.{distance, to_symbol, is_symbol, direct, return_of, with_selector, far, set, control_draft}
 use Rattle.asm_instruction.proofs.Goods.{bind_from, bind_any, choice, word_below, distance_below, MemoryGood, GivenGood, OperandsGood, DraftGood, family_good, branch_direct, branch_indirect, Good, of_one_good, one_plain, instruction_good, instruction_op, instruction_numbered, Plain}
 
 module _ (args : List Argument) where
@@ -62,10 +62,6 @@ module _ (args : List Argument) where
   return_good (operands.Two s d) = tt
   return_good (operands.Three s d g) = tt
 
-  pub returned_good : (f : Option Size) (os : Operands) → Good args (returned f os)
-  unfolding returned
-  returned_good f os = bind_any (DraftGood args) (agreed f (Some size.Long) None) _ (λ z. return_good os)
-
   pub selector_good : (d : Draft) (n : Number) → is_direct_branch d.insn.op ≡ false → DraftGood args d → DraftGood args (with_selector d n)
   selector_good d n e g = record {
     bounded = record { a = g.bounded.a; b = g.bounded.b; imm = g.bounded.imm; sel = word_below n.value };
@@ -83,7 +79,7 @@ module _ (args : List Argument) where
       (ap is_direct_branch (numbered_op (alone op.FarJump) size.Long k ∙ instruction_op args op.FarJump size.Long nothing nothing))
       (instruction_numbered args op.FarJump size.Long size.Long nothing nothing k refl tt tt))
 
-  pub condition_good : (d : Draft) (c : ℕ) → c < 16 → is_direct_branch d.insn.op ≡ false → DraftGood args d → DraftGood args (with_condition d c)
+  pub condition_good : (d : Draft) (c : ℕ) → c < 16 → is_direct_branch d.insn.op ≡ false → DraftGood args d → DraftGood args (record d { insn = record d.insn { sel = c } })
   condition_good d c lt e g = record {
     bounded = record { a = g.bounded.a; b = g.bounded.b; imm = g.bounded.imm; sel = omega arith };
     direct = λ t. absurd (both_ways (is_direct_branch d.insn.op) e t);
@@ -121,7 +117,7 @@ module _ (args : List Argument) where
   control_good control.Interrupt f (operands.Starred g) e h = tt
   control_good control.Interrupt f (operands.Two s d) e h = tt
   control_good control.Interrupt f (operands.Three s d g) e h = tt
-  control_good control.Return f os e h = returned_good f os
+  control_good control.Return f os e h = bind_any (DraftGood args) (agreed f (Some size.Long) None) _ (λ z. return_good os)
   control_good control.FarJump f operands.Nothing e h = tt
   control_good control.FarJump f (operands.One g) e h = tt
   control_good control.FarJump f (operands.Starred g) e h = tt

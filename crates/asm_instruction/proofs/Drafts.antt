@@ -21,16 +21,16 @@ use Rattle.asm_instruction.specs.declared.mnemonic.Family.TheVariants as family
 use Rattle.asm_instruction.specs.declared.mnemonic.Mnemonic.{Mnemonic}
 use Rattle.asm_instruction.specs.Sizes.{agreed}
 use Rattle.asm_instruction.specs.Draft.{nothing, register_operand, memory, register_or_memory, said, instruction, alone}
-use Rattle.asm_instruction.specs.Strings.{as_string, string_draft}
+use Rattle.asm_instruction.specs.Strings.{string_draft}
 use Rattle.asm_instruction.specs.Flags.{plain_draft}
-use Rattle.asm_instruction.specs.System.{through, ported, of_memory, task, system_draft}
+use Rattle.asm_instruction.specs.System.{through, ported, task, system_draft}
 use Rattle.asm_instruction.specs.Mnemonic.{by_family, repeated, drafted}
 use Rattle.asm_instruction.proofs.Goods.{When, bind_from, bind_any, choice, PlaceGood, GivenGood, OperandsGood, DraftGood, family_good, not_direct, Good, instruction_good, instruction_op, instruction_numbered, rom_good, arithmetic_good, shift_good}
 use Rattle.asm_instruction.proofs.MovesGood.{move_good, stack_good}
 use Rattle.asm_instruction.proofs.ControlGood.{control_good}
 
 module _ (args : List Argument) where
-  pub repeated_good : (d : Draft) (s : Size) (r : Bool) → is_direct_branch d.insn.op ≡ false → DraftGood args d → DraftGood args (as_string d s r)
+  pub repeated_good : (d : Draft) (s : Size) (r : Bool) → is_direct_branch d.insn.op ≡ false → DraftGood args d → DraftGood args (record d { insn = record d.insn { size = s; rep = r } })
   repeated_good d s r e g = record {
     bounded = record { a = g.bounded.a; b = g.bounded.b; imm = g.bounded.imm; sel = g.bounded.sel };
     direct = λ t. absurd (both_ways (is_direct_branch d.insn.op) e t);
@@ -68,8 +68,8 @@ module _ (args : List Argument) where
       (bind_any (DraftGood args) (agreed f (Some t) None) _ (λ z. through_good o z p e)) tt
   ported_good o f p _ e = tt
 
-  pub of_memory_good : (o : Op) (f : Option Size) (g : Given) → is_direct_branch o ≡ false → GivenGood args g → Good args (of_memory o f g)
-  unfolding of_memory
+  pub of_memory_good : (o : Op) (f : Option Size) (g : Given) → is_direct_branch o ≡ false → GivenGood args g → Good args (system_draft (system.Memory o) f (operands.One g))
+  unfolding system_draft
   of_memory_good o f (given.Memory m) e h = bind_any (DraftGood args) (agreed f (Some size.Long) None) _ (λ z. instruction_good args o z (memory m) nothing e h.below tt)
   of_memory_good o f _ e h = tt
 

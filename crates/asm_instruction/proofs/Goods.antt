@@ -32,8 +32,8 @@ use Rattle.asm_instruction.specs.Field.{field}
 use Rattle.asm_instruction.specs.Argument.{names_symbol}
 use Rattle.asm_instruction.specs.Sizes.{agreed}
 use Rattle.asm_instruction.specs.Draft.{nothing, register_operand, register_or_memory, said, paired, instruction, with_number}
-use Rattle.asm_instruction.specs.Arithmetic.{of_pair, memory_first, of_two, two, tested, of_one, one, to_register, multiplied, product, arithmetic_draft}
-use Rattle.asm_instruction.specs.Shift.{by_one, by_number, by_register, shift_draft}
+use Rattle.asm_instruction.specs.Arithmetic.{of_pair, memory_first, of_two, two, of_one, one, to_register, arithmetic_draft}
+use Rattle.asm_instruction.specs.Shift.{by_register, shift_draft}
 use Rattle.asm_instruction.specs.Control.{distance}
 use Rattle.asm_instruction.specs.Right.{constant_in}
 
@@ -200,7 +200,7 @@ module _ (args : List Argument) where
   unfolding of_two
   two_good o f s d e p q = bind_from PairGood (DraftGood args) (paired s d) _ (paired_good s d p q) (λ x h. bind_any (DraftGood args) (agreed f (said s) (said d)) _ (λ z. of_pair_good o z x e h))
 
-  pub tested_good : (f : Option Size) (s d : Given) → GivenGood args s → GivenGood args d → Good (tested f s d)
+  pub tested_good : (f : Option Size) (s d : Given) → GivenGood args s → GivenGood args d → Good (of_two (λ z p. Some (memory_first op.Test z p)) f s d)
   unfolding of_two
   tested_good f s d p q = bind_from PairGood (DraftGood args) (paired s d) _ (paired_good s d p q) (λ x h. bind_any (DraftGood args) (agreed f (said s) (said d)) _ (λ z. memory_first_good op.Test z x refl h))
 
@@ -229,12 +229,11 @@ module _ (args : List Argument) where
       (λ x h. bind_any Plain (agreed f (said s) (Some t)) _ (λ z. (instruction_good o z (register_operand n) x e tt h, ap is_direct_branch (instruction_op o z (register_operand n) x) ∙ e)))
   to_register_plain o f s _ e p = tt
 
-  pub multiplied_good : (n : Number) (f : Option Size) (s d : Given) → GivenGood args s → Good (multiplied n f s d)
-  unfolding multiplied
+  pub multiplied_good : (n : Number) (f : Option Size) (s d : Given) → GivenGood args s → Good (to_register op.ImulBy f s d >>= λ x. Some (with_number x size.Long n))
   multiplied_good n f s d p = bind_from Plain (DraftGood args) (to_register op.ImulBy f s d) _ (to_register_plain op.ImulBy f s d refl p) (λ x h. numbered_good x size.Long n h.1 h.0)
 
-  pub product_good : (f : Option Size) (os : Operands) → OperandsGood args os → Good (product f os)
-  unfolding product
+  pub product_good : (f : Option Size) (os : Operands) → OperandsGood args os → Good (arithmetic_draft arithmetic.Multiply f os)
+  unfolding arithmetic_draft
   product_good f operands.Nothing h = tt
   product_good f (operands.One g) h = one_good op.Imul f g refl h
   product_good f (operands.Starred g) h = tt
@@ -278,10 +277,10 @@ module _ (args : List Argument) where
     relative = g.relative;
   }
 
-  pub by_one_good : (o : Op) (f : Option Size) (g : Given) → is_direct_branch o ≡ false → GivenGood args g → Good (by_one o f g)
+  pub by_one_good : (o : Op) (f : Option Size) (g : Given) → is_direct_branch o ≡ false → GivenGood args g → Good (one o f g >>= λ x. Some (record x { insn = record x.insn { imm = 1 } }))
   by_one_good o f g e p = bind_from Plain (DraftGood args) (one o f g) _ (one_plain o f g e p) (λ x h. counted_good x h.1 h.0)
 
-  pub by_number_good : (o : Op) (f : Option Size) (n : Number) (g : Given) → is_direct_branch o ≡ false → GivenGood args g → Good (by_number o f n g)
+  pub by_number_good : (o : Op) (f : Option Size) (n : Number) (g : Given) → is_direct_branch o ≡ false → GivenGood args g → Good (one o f g >>= λ x. Some (with_number x size.Byte n))
   by_number_good o f n g e p = bind_from Plain (DraftGood args) (one o f g) _ (one_plain o f g e p) (λ x h. numbered_good x size.Byte n h.1 h.0)
 
   pub by_register_good : (o : Op) (f : Option Size) (g : Given) → is_direct_branch o ≡ false → GivenGood args g → Good (by_register o f g)

@@ -6,7 +6,7 @@ use Rattle.std.specs.List.{Contains}
 use Rattle.std.specs.Str.{bytes_eq}
 use Rattle.std.proofs.lemmas.Bool.{eqb-true, and_parts}
 use Rattle.std.proofs.lemmas.List.{take_more, take_all}
-use Rattle.std.proofs.lemmas.List.Elements.{All-nil, All-cons, All-contains, Contains-append_left, Contains-append_right}
+use Rattle.std.proofs.lemmas.List.Elements.{All-nil, All-cons, All-contains, Contains-append_right}
 use Rattle.std.proofs.lemmas.Slice.Eq.{bytes_eq-Decides}
 use Rattle.ia32_types.specs.declared.site.Refused.{Refused}
 use Rattle.ia32_types.specs.declared.size.Size.{Size}
@@ -16,18 +16,18 @@ use Rattle.asm_instruction.specs.declared.mnemonic.Family.{Family}
 use Rattle.asm_instruction.specs.declared.mnemonic.Family.TheVariants as family
 use Rattle.asm_instruction.specs.declared.mnemonic.Mnemonic.{Mnemonic}
 use Rattle.asm_instruction.specs.Names.{Table, found}
-use Rattle.asm_instruction.specs.Arithmetic.{two_operand_names, one_operand_names}
+use Rattle.asm_instruction.specs.Arithmetic.{arithmetic_names}
 use Rattle.asm_instruction.specs.Shift.{shift_names}
 use Rattle.asm_instruction.specs.Moves.{move_names, extend_names}
 use Rattle.asm_instruction.specs.Stack.{stack_names, frame_names}
-use Rattle.asm_instruction.specs.Condition.{lower_conditions, upper_conditions, condition}
+use Rattle.asm_instruction.specs.Condition.{conditions}
 use Rattle.asm_instruction.specs.Control.{branch_names, control_names, jump_name, set_name, behind_set, conditional_name}
 use Rattle.asm_instruction.specs.Strings.{string_names}
 use Rattle.asm_instruction.specs.Flags.{plain_names}
 use Rattle.asm_instruction.specs.System.{system_names, page_names}
-use Rattle.asm_instruction.specs.Mnemonic.{exact_instruction, exact_name, sized_name, suffix, suffixed, with_suffix, without_suffix, known_name}
+use Rattle.asm_instruction.specs.Mnemonic.{exact_names, sized_names, suffix, suffixed, with_suffix, without_suffix, known_name}
 use Rattle.asm_instruction.specs.Refused.{refused_names}
-use Rattle.asm_instruction.specs.Refusals.{exact_names, sized_names, conditions, suffixes, IsName, IsRefused}
+use Rattle.asm_instruction.specs.Refusals.{suffixes, IsName, IsRefused}
 use Rattle.asm_instruction.proofs.Goods.{When, bind_from, either, choice}
 
 -- ---- tables
@@ -54,9 +54,6 @@ found_listed (e ∷ table) name =
     (λ q. first_found e table name ((bytes_eq-Decides name e.0).0 q))
     (weaken (Lists table name) (Lists (e ∷ table) name) (found table name) (λ a c. Contains-append_right (e ∷ []) table (name, a) c) (found_listed table name))
 
-found_in : {A : Type 0} (table all : Table A) (name : List ℕ) → ((a : A) → Lists table name a → Lists all name a) → When (Lists all name) (found table name)
-found_in table all name h = weaken (Lists table name) (Lists all name) (found table name) h (found_listed table name)
-
 abbrev Each : {A : Type 0} → (A → Type 0) → List A → Type 0
 Each P [] = Unit {0}
 Each P (x ∷ xs) = P x × Each P xs
@@ -70,54 +67,15 @@ each_at P xs x h c = All-contains P xs x (each_is P xs h) c
 
 -- ---- what is found has the name
 
-exact_listed : (name : List ℕ) → When (Lists exact_names name) (option_or (exact_instruction name) (option_or (found page_names name) (found control_names name)))
-unfolding exact_names exact_instruction
-exact_listed name =
-    either (Lists exact_names name) _ _
-    (either (Lists exact_names name) _ _
-    (either (Lists exact_names name) _ _
-    (found_in plain_names exact_names name (λ a c. Contains-append_left (plain_names ++ frame_names ++ extend_names ++ string_names ++ page_names) control_names _ (Contains-append_left (plain_names ++ frame_names ++ extend_names ++ string_names) page_names _ (Contains-append_left (plain_names ++ frame_names ++ extend_names) string_names _ (Contains-append_left (plain_names ++ frame_names) extend_names _ (Contains-append_left plain_names frame_names _ c))))))
-    (found_in frame_names exact_names name (λ a c. Contains-append_left (plain_names ++ frame_names ++ extend_names ++ string_names ++ page_names) control_names _ (Contains-append_left (plain_names ++ frame_names ++ extend_names ++ string_names) page_names _ (Contains-append_left (plain_names ++ frame_names ++ extend_names) string_names _ (Contains-append_left (plain_names ++ frame_names) extend_names _ (Contains-append_right plain_names frame_names _ c)))))))
-    (either (Lists exact_names name) _ _
-    (found_in extend_names exact_names name (λ a c. Contains-append_left (plain_names ++ frame_names ++ extend_names ++ string_names ++ page_names) control_names _ (Contains-append_left (plain_names ++ frame_names ++ extend_names ++ string_names) page_names _ (Contains-append_left (plain_names ++ frame_names ++ extend_names) string_names _ (Contains-append_right (plain_names ++ frame_names) extend_names _ c)))))
-    (found_in string_names exact_names name (λ a c. Contains-append_left (plain_names ++ frame_names ++ extend_names ++ string_names ++ page_names) control_names _ (Contains-append_left (plain_names ++ frame_names ++ extend_names ++ string_names) page_names _ (Contains-append_right (plain_names ++ frame_names ++ extend_names) string_names _ c))))))
-    (either (Lists exact_names name) _ _
-    (found_in page_names exact_names name (λ a c. Contains-append_left (plain_names ++ frame_names ++ extend_names ++ string_names ++ page_names) control_names _ (Contains-append_right (plain_names ++ frame_names ++ extend_names ++ string_names) page_names _ c)))
-    (found_in control_names exact_names name (λ a c. Contains-append_right (plain_names ++ frame_names ++ extend_names ++ string_names ++ page_names) control_names _ c)))
-
-sized_listed : (name : List ℕ) → When (Lists sized_names name) (sized_name name)
-unfolding sized_names sized_name
-sized_listed name =
-    either (Lists sized_names name) _ _
-    (either (Lists sized_names name) _ _
-    (either (Lists sized_names name) _ _
-    (found_in two_operand_names sized_names name (λ a c. Contains-append_left (two_operand_names ++ one_operand_names ++ shift_names ++ move_names ++ stack_names ++ branch_names) system_names _ (Contains-append_left (two_operand_names ++ one_operand_names ++ shift_names ++ move_names ++ stack_names) branch_names _ (Contains-append_left (two_operand_names ++ one_operand_names ++ shift_names ++ move_names) stack_names _ (Contains-append_left (two_operand_names ++ one_operand_names ++ shift_names) move_names _ (Contains-append_left (two_operand_names ++ one_operand_names) shift_names _ (Contains-append_left two_operand_names one_operand_names _ c)))))))
-    (found_in one_operand_names sized_names name (λ a c. Contains-append_left (two_operand_names ++ one_operand_names ++ shift_names ++ move_names ++ stack_names ++ branch_names) system_names _ (Contains-append_left (two_operand_names ++ one_operand_names ++ shift_names ++ move_names ++ stack_names) branch_names _ (Contains-append_left (two_operand_names ++ one_operand_names ++ shift_names ++ move_names) stack_names _ (Contains-append_left (two_operand_names ++ one_operand_names ++ shift_names) move_names _ (Contains-append_left (two_operand_names ++ one_operand_names) shift_names _ (Contains-append_right two_operand_names one_operand_names _ c))))))))
-    (either (Lists sized_names name) _ _
-    (found_in shift_names sized_names name (λ a c. Contains-append_left (two_operand_names ++ one_operand_names ++ shift_names ++ move_names ++ stack_names ++ branch_names) system_names _ (Contains-append_left (two_operand_names ++ one_operand_names ++ shift_names ++ move_names ++ stack_names) branch_names _ (Contains-append_left (two_operand_names ++ one_operand_names ++ shift_names ++ move_names) stack_names _ (Contains-append_left (two_operand_names ++ one_operand_names ++ shift_names) move_names _ (Contains-append_right (two_operand_names ++ one_operand_names) shift_names _ c))))))
-    (found_in move_names sized_names name (λ a c. Contains-append_left (two_operand_names ++ one_operand_names ++ shift_names ++ move_names ++ stack_names ++ branch_names) system_names _ (Contains-append_left (two_operand_names ++ one_operand_names ++ shift_names ++ move_names ++ stack_names) branch_names _ (Contains-append_left (two_operand_names ++ one_operand_names ++ shift_names ++ move_names) stack_names _ (Contains-append_right (two_operand_names ++ one_operand_names ++ shift_names) move_names _ c)))))))
-    (either (Lists sized_names name) _ _
-    (either (Lists sized_names name) _ _
-    (found_in stack_names sized_names name (λ a c. Contains-append_left (two_operand_names ++ one_operand_names ++ shift_names ++ move_names ++ stack_names ++ branch_names) system_names _ (Contains-append_left (two_operand_names ++ one_operand_names ++ shift_names ++ move_names ++ stack_names) branch_names _ (Contains-append_right (two_operand_names ++ one_operand_names ++ shift_names ++ move_names) stack_names _ c))))
-    (found_in branch_names sized_names name (λ a c. Contains-append_left (two_operand_names ++ one_operand_names ++ shift_names ++ move_names ++ stack_names ++ branch_names) system_names _ (Contains-append_right (two_operand_names ++ one_operand_names ++ shift_names ++ move_names ++ stack_names) branch_names _ c))))
-    (found_in system_names sized_names name (λ a c. Contains-append_right (two_operand_names ++ one_operand_names ++ shift_names ++ move_names ++ stack_names ++ branch_names) system_names _ c)))
-
-condition_listed : (name : List ℕ) → When (Lists conditions name) (condition name)
-unfolding conditions condition
-condition_listed name =
-    either (Lists conditions name) _ _
-    (found_in lower_conditions conditions name (λ a c. Contains-append_left lower_conditions upper_conditions _ c))
-    (found_in upper_conditions conditions name (λ a c. Contains-append_right lower_conditions upper_conditions _ c))
-
 -- the name means an instruction of this family, without a suffix
 abbrev IsBare : List ℕ → Family → Type 0
 IsBare name f = IsName name (record { family = f; suffix = None })
 
 jump_named : (name rest : List ℕ) → name ≡ 106 ∷ rest → When (IsBare name) (jump_name rest)
-jump_named name rest e = bind_from (Lists conditions rest) (IsBare name) (condition rest) _ (condition_listed rest) (λ c h. IsName.jump rest e h)
+jump_named name rest e = bind_from (Lists conditions rest) (IsBare name) (found conditions rest) _ (found_listed conditions rest) (λ c h. IsName.jump rest e h)
 
 set_named : (name rest : List ℕ) → name ≡ 115 ∷ 101 ∷ 116 ∷ rest → When (IsBare name) (set_name rest)
-set_named name rest e = bind_from (Lists conditions rest) (IsBare name) (condition rest) _ (condition_listed rest) (λ c h. IsName.set rest e h)
+set_named name rest e = bind_from (Lists conditions rest) (IsBare name) (found conditions rest) _ (found_listed conditions rest) (λ c h. IsName.set rest e h)
 
 begins_with_set : (s e t : ℕ) (rest : List ℕ) → ((s == 115) && (e == 101) && (t == 116)) ≡ true → s ∷ e ∷ t ∷ rest ≡ 115 ∷ 101 ∷ 116 ∷ rest
 begins_with_set s e t rest h =
@@ -143,22 +101,6 @@ conditional_named (c ∷ rest) =
     chosen_by (IsBare (c ∷ rest)) (c == 106) (jump_name rest) (behind_set (c ∷ rest))
     (λ h. jump_named (c ∷ rest) rest (ap (λ (n : ℕ). n ∷ rest) (eqb-true c 106 h))) (behind_named (c ∷ rest))
 
--- in either order of the bindings
-regroup : {A : Type 0} (R : A → Type 0) (x y z : Option A) → When R (option_or x y) → When R z → When R (option_or x (option_or y z))
-regroup R (Some a) y z p q = p
-regroup R None (Some b) z p q = p
-regroup R None None z p q = q
-
-exact_named : (name : List ℕ) → When (IsBare name) (exact_name name)
-unfolding exact_name
-exact_named name =
-    regroup (IsBare name) (exact_instruction name) (option_or (found page_names name) (found control_names name)) (conditional_name name)
-    (weaken (Lists exact_names name) (IsBare name) _ (λ f c. IsName.exact c) (exact_listed name))
-    (conditional_named name)
-
-sized_named : (name : List ℕ) → When (IsBare name) (sized_name name)
-sized_named name = weaken (Lists sized_names name) (IsBare name) (sized_name name) (λ f c. IsName.sized c) (sized_listed name)
-
 suffix_listed : (letter : ℕ) → When (Lists suffixes (letter ∷ [])) (suffix letter)
 unfolding suffixes
 suffix_listed letter =
@@ -169,7 +111,7 @@ suffix_listed letter =
 suffixed_named : (name front : List ℕ) (letter : ℕ) → name ≡ front ++ letter ∷ [] → When (IsName name) (suffixed front letter)
 unfolding suffixed
 suffixed_named name front letter e =
-    bind_from (Lists sized_names front) (IsName name) (sized_name front) _ (sized_listed front)
+    bind_from (Lists sized_names front) (IsName name) (found sized_names front) _ (found_listed sized_names front)
     (λ f c. bind_from (Lists suffixes (letter ∷ [])) (IsName name) (suffix letter) _ (suffix_listed letter) (λ s d. IsName.suffixed front (letter ∷ []) e c d))
 
 last_apart : (name : List ℕ) (n : ℕ) → length name ≡ n + 1 → name ≡ take n name ++ slice_index name n ∷ []
@@ -189,7 +131,13 @@ without_named name None p h q = q
 
 known_when : (name : List ℕ) → When (IsName name) (known_name name)
 unfolding known_name
-known_when name = without_named name (option_or (exact_name name) (sized_name name)) (with_suffix name) (either (IsBare name) (exact_name name) (sized_name name) (exact_named name) (sized_named name)) (with_suffix_named name)
+known_when name =
+    without_named name (option_or (found exact_names name) (option_or (conditional_name name) (found sized_names name))) (with_suffix name)
+    (either (IsBare name) (found exact_names name) (option_or (conditional_name name) (found sized_names name))
+    (weaken (Lists exact_names name) (IsBare name) (found exact_names name) (λ f c. IsName.exact c) (found_listed exact_names name))
+    (either (IsBare name) (conditional_name name) (found sized_names name) (conditional_named name)
+    (weaken (Lists sized_names name) (IsBare name) (found sized_names name) (λ f c. IsName.sized c) (found_listed sized_names name))))
+    (with_suffix_named name)
 
 pub known_named : (name : List ℕ) (m : Mnemonic) → known_name name ≡ Some m → IsName name m
 known_named name m e = subst (When (IsName name)) e (known_when name)
@@ -200,31 +148,31 @@ abbrev Known : List ℕ → Option Size → Family → Type 0
 Known name s f = known_name name ≡ Some (record { family = f; suffix = s })
 
 exact_known : Each (λ (e : List ℕ × Family). Known e.0 None e.1) exact_names
-unfolding exact_names known_name exact_name exact_instruction sized_name conditional_name condition with_suffix suffixed lower_conditions upper_conditions plain_names frame_names extend_names string_names page_names control_names two_operand_names one_operand_names shift_names move_names stack_names branch_names system_names
+unfolding known_name conditional_name exact_names sized_names conditions with_suffix suffixed plain_names frame_names extend_names string_names page_names control_names arithmetic_names shift_names move_names stack_names branch_names system_names
 exact_known = (refl, (refl, (refl, (refl, (refl, (refl, (refl, (refl, (refl, (refl, (refl, (refl, (refl, (refl, (refl, (refl, (refl, (refl, (refl, (refl, (refl, (refl, (refl, (refl, (refl, (refl, (refl, (refl, (refl, (refl, (refl, (refl, (refl, (refl, tt))))))))))))))))))))))))))))))))))
 
 jumps_known : Each (λ (e : List ℕ × ℕ). Known (codes "j" ++ e.0) None (family.Control (control.Conditional e.1))) conditions
-unfolding conditions known_name exact_name exact_instruction sized_name conditional_name condition with_suffix suffixed lower_conditions upper_conditions plain_names frame_names extend_names string_names page_names control_names two_operand_names one_operand_names shift_names move_names stack_names branch_names system_names
+unfolding known_name conditional_name exact_names sized_names conditions with_suffix suffixed plain_names frame_names extend_names string_names page_names control_names arithmetic_names shift_names move_names stack_names branch_names system_names
 jumps_known = (refl, (refl, (refl, (refl, (refl, (refl, (refl, (refl, (refl, (refl, (refl, (refl, (refl, (refl, (refl, (refl, (refl, (refl, (refl, (refl, (refl, (refl, (refl, (refl, (refl, (refl, (refl, (refl, (refl, (refl, tt))))))))))))))))))))))))))))))
 
 sets_known : Each (λ (e : List ℕ × ℕ). Known (codes "set" ++ e.0) None (family.Control (control.Set e.1))) conditions
-unfolding conditions known_name exact_name exact_instruction sized_name conditional_name condition with_suffix suffixed lower_conditions upper_conditions plain_names frame_names extend_names string_names page_names control_names two_operand_names one_operand_names shift_names move_names stack_names branch_names system_names
+unfolding known_name conditional_name exact_names sized_names conditions with_suffix suffixed plain_names frame_names extend_names string_names page_names control_names arithmetic_names shift_names move_names stack_names branch_names system_names
 sets_known = (refl, (refl, (refl, (refl, (refl, (refl, (refl, (refl, (refl, (refl, (refl, (refl, (refl, (refl, (refl, (refl, (refl, (refl, (refl, (refl, (refl, (refl, (refl, (refl, (refl, (refl, (refl, (refl, (refl, (refl, tt))))))))))))))))))))))))))))))
 
 sized_known : Each (λ (e : List ℕ × Family). Known e.0 None e.1) sized_names
-unfolding sized_names known_name exact_name exact_instruction sized_name conditional_name condition with_suffix suffixed lower_conditions upper_conditions plain_names frame_names extend_names string_names page_names control_names two_operand_names one_operand_names shift_names move_names stack_names branch_names system_names
+unfolding known_name conditional_name exact_names sized_names conditions with_suffix suffixed plain_names frame_names extend_names string_names page_names control_names arithmetic_names shift_names move_names stack_names branch_names system_names
 sized_known = (refl, (refl, (refl, (refl, (refl, (refl, (refl, (refl, (refl, (refl, (refl, (refl, (refl, (refl, (refl, (refl, (refl, (refl, (refl, (refl, (refl, (refl, (refl, (refl, (refl, (refl, (refl, (refl, (refl, (refl, (refl, (refl, (refl, (refl, (refl, (refl, (refl, tt)))))))))))))))))))))))))))))))))))))
 
 bytes_known : Each (λ (e : List ℕ × Family). Known (e.0 ++ codes "b") (Some size.Byte) e.1) sized_names
-unfolding sized_names known_name exact_name exact_instruction sized_name conditional_name condition with_suffix suffixed lower_conditions upper_conditions plain_names frame_names extend_names string_names page_names control_names two_operand_names one_operand_names shift_names move_names stack_names branch_names system_names
+unfolding known_name conditional_name exact_names sized_names conditions with_suffix suffixed plain_names frame_names extend_names string_names page_names control_names arithmetic_names shift_names move_names stack_names branch_names system_names
 bytes_known = (refl, (refl, (refl, (refl, (refl, (refl, (refl, (refl, (refl, (refl, (refl, (refl, (refl, (refl, (refl, (refl, (refl, (refl, (refl, (refl, (refl, (refl, (refl, (refl, (refl, (refl, (refl, (refl, (refl, (refl, (refl, (refl, (refl, (refl, (refl, (refl, (refl, tt)))))))))))))))))))))))))))))))))))))
 
 words_known : Each (λ (e : List ℕ × Family). Known (e.0 ++ codes "w") (Some size.Word) e.1) sized_names
-unfolding sized_names known_name exact_name exact_instruction sized_name conditional_name condition with_suffix suffixed lower_conditions upper_conditions plain_names frame_names extend_names string_names page_names control_names two_operand_names one_operand_names shift_names move_names stack_names branch_names system_names
+unfolding known_name conditional_name exact_names sized_names conditions with_suffix suffixed plain_names frame_names extend_names string_names page_names control_names arithmetic_names shift_names move_names stack_names branch_names system_names
 words_known = (refl, (refl, (refl, (refl, (refl, (refl, (refl, (refl, (refl, (refl, (refl, (refl, (refl, (refl, (refl, (refl, (refl, (refl, (refl, (refl, (refl, (refl, (refl, (refl, (refl, (refl, (refl, (refl, (refl, (refl, (refl, (refl, (refl, (refl, (refl, (refl, (refl, tt)))))))))))))))))))))))))))))))))))))
 
 longs_known : Each (λ (e : List ℕ × Family). Known (e.0 ++ codes "l") (Some size.Long) e.1) sized_names
-unfolding sized_names known_name exact_name exact_instruction sized_name conditional_name condition with_suffix suffixed lower_conditions upper_conditions plain_names frame_names extend_names string_names page_names control_names two_operand_names one_operand_names shift_names move_names stack_names branch_names system_names
+unfolding known_name conditional_name exact_names sized_names conditions with_suffix suffixed plain_names frame_names extend_names string_names page_names control_names arithmetic_names shift_names move_names stack_names branch_names system_names
 longs_known = (refl, (refl, (refl, (refl, (refl, (refl, (refl, (refl, (refl, (refl, (refl, (refl, (refl, (refl, (refl, (refl, (refl, (refl, (refl, (refl, (refl, (refl, (refl, (refl, (refl, (refl, (refl, (refl, (refl, (refl, (refl, (refl, (refl, (refl, (refl, (refl, (refl, tt)))))))))))))))))))))))))))))))))))))
 
 abbrev AllKnown : List ℕ × Size → Type 0
@@ -249,7 +197,7 @@ unfolding refused_names
 refused_are_found = (refl, (refl, (refl, (refl, (refl, (refl, (refl, (refl, (refl, (refl, (refl, (refl, (refl, (refl, (refl, (refl, tt))))))))))))))))
 
 refused_are_unknown : Each (λ (e : List ℕ × Refused). known_name e.0 ≡ None) refused_names
-unfolding refused_names known_name exact_name exact_instruction sized_name conditional_name condition with_suffix suffixed lower_conditions upper_conditions plain_names frame_names extend_names string_names page_names control_names two_operand_names one_operand_names shift_names move_names stack_names branch_names system_names
+unfolding refused_names known_name conditional_name exact_names sized_names conditions with_suffix suffixed plain_names frame_names extend_names string_names page_names control_names arithmetic_names shift_names move_names stack_names branch_names system_names
 refused_are_unknown = (refl, (refl, (refl, (refl, (refl, (refl, (refl, (refl, (refl, (refl, (refl, (refl, (refl, (refl, (refl, (refl, tt))))))))))))))))
 
 pub refused_found : (name : List ℕ) (h : IsRefused name) → found refused_names name ≡ Some h.0

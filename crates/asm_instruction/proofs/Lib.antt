@@ -6,6 +6,7 @@ pub mod Drafts
 pub mod Naming
 pub mod Answered
 pub mod KnownNames
+pub mod Tables
 pub mod Fitting
 pub mod MovesFit
 pub mod Ranges

@@ -22,13 +22,14 @@ use Rattle.asm_instruction.specs.declared.stack.Stack.{Stack}
 use Rattle.asm_instruction.specs.declared.stack.Stack.TheVariants as stack
 use Rattle.asm_instruction.specs.declared.draft.NumberedOperand.{NumberedOperand}
 use Rattle.asm_instruction.specs.declared.mnemonic.Family.TheVariants as family
+use Rattle.asm_instruction.specs.Names.{◌>>=◌}
 use Rattle.asm_instruction.specs.Field.{fits_field}
 use Rattle.asm_instruction.specs.Sizes.{agreed}
 use Rattle.asm_instruction.specs.Draft.{of_operand, register_operand, register_or_memory, said, paired, displaced, fits_displacement, instruction, with_number, alone}
-use Rattle.asm_instruction.specs.Arithmetic.{of_two, two, tested, of_one, one, to_register, multiplied, product, arithmetic_draft}
-use Rattle.asm_instruction.specs.Shift.{by_one, by_number, by_register, shift_draft}
-use Rattle.asm_instruction.specs.Moves.{special, from_special, to_special, moved, extended, effective, exchanged, move_draft}
-use Rattle.asm_instruction.specs.Stack.{of_segment, of_number, pushed, popped, stack_draft}
+use Rattle.asm_instruction.specs.Arithmetic.{memory_first, of_two, two, of_one, one, to_register, arithmetic_draft}
+use Rattle.asm_instruction.specs.Shift.{by_register, shift_draft}
+use Rattle.asm_instruction.specs.Moves.{special, from_special, to_special, moved, extended, effective, exchange, move_draft}
+use Rattle.asm_instruction.specs.Stack.{of_segment, pushed, popped, stack_draft}
 use Rattle.asm_instruction.specs.Refusals.{field_of, first_field_of, numbers_in, numbers}
 use Rattle.asm_instruction.proofs.Goods.{When, bind_from, bind_any, choice}
 use Rattle.asm_instruction.proofs.Fitting.{Numbers, all_fit, and_true, none_more, FitTo, instruction_fit, numbered_fit, PlaceFit, rom_fit, first_fit, One, unary_fit, Two, Same, Long, Byte, PairFit, paired_fit, of_pair_fit, memory_first_fit, Fit}
@@ -39,7 +40,7 @@ two_fit : (o : Op) (f : Option Size) (s d : Given) → When (FitTo (Two Same Sam
 unfolding of_two
 two_fit o f s d = bind_from (PairFit s d) (FitTo (Two Same Same s d)) (paired s d) _ (paired_fit s d) (λ x h. bind_any (FitTo (Two Same Same s d)) (agreed f (said s) (said d)) _ (λ z. of_pair_fit s d o z x h))
 
-tested_fit : (f : Option Size) (s d : Given) → When (FitTo (Two Same Same s d)) (tested f s d)
+tested_fit : (f : Option Size) (s d : Given) → When (FitTo (Two Same Same s d)) (of_two (λ z p. Some (memory_first op.Test z p)) f s d)
 unfolding of_two
 tested_fit f s d = bind_from (PairFit s d) (FitTo (Two Same Same s d)) (paired s d) _ (paired_fit s d) (λ x h. bind_any (FitTo (Two Same Same s d)) (agreed f (said s) (said d)) _ (λ z. memory_first_fit s d op.Test z x h))
 
@@ -57,12 +58,11 @@ to_register_fit F G o f s (given.Register t n) =
     (λ x h. bind_any (FitTo (Two F G s (given.Register t n))) (agreed f (said s) (Some t)) _ (λ z. instruction_fit (Two F G s (given.Register t n)) o z (register_operand n) x (h (G z))))
 to_register_fit F G o f s _ = tt
 
-multiplied_fit : (n : Number) (f : Option Size) (s d : Given) → When (FitTo (λ z. Two Long Long s d z ++ (size.Long, n.value) ∷ [])) (multiplied n f s d)
-unfolding multiplied
+multiplied_fit : (n : Number) (f : Option Size) (s d : Given) → When (FitTo (λ z. Two Long Long s d z ++ (size.Long, n.value) ∷ [])) (to_register op.ImulBy f s d >>= λ x. Some (with_number x size.Long n))
 multiplied_fit n f s d = bind_from (FitTo (Two Long Long s d)) (FitTo (λ z. Two Long Long s d z ++ (size.Long, n.value) ∷ [])) (to_register op.ImulBy f s d) _ (to_register_fit Long Long op.ImulBy f s d) (λ x h. numbered_fit (Two Long Long s d) x size.Long n h)
 
-product_fit : (f : Option Size) (os : Operands) → Fit (family.Arithmetic arithmetic.Multiply) os (product f os)
-unfolding product numbers field_of first_field_of
+product_fit : (f : Option Size) (os : Operands) → Fit (family.Arithmetic arithmetic.Multiply) os (arithmetic_draft arithmetic.Multiply f os)
+unfolding arithmetic_draft numbers field_of first_field_of
 product_fit f operands.Nothing = tt
 product_fit f (operands.One g) = one_fit Long op.Imul f g
 product_fit f (operands.Starred g) = tt
@@ -95,10 +95,10 @@ arithmetic_fit arithmetic.Multiply f os = product_fit f os
 
 -- ---- shifts
 
-by_one_fit : (o : Op) (f : Option Size) (g : Given) → When (FitTo (One Byte g)) (by_one o f g)
+by_one_fit : (o : Op) (f : Option Size) (g : Given) → When (FitTo (One Byte g)) (one o f g >>= λ x. Some (record x { insn = record x.insn { imm = 1 } }))
 by_one_fit o f g = bind_from (FitTo (One Byte g)) (FitTo (One Byte g)) (one o f g) _ (one_fit Byte o f g) (λ x h. h)
 
-by_number_fit : (o : Op) (f : Option Size) (n : Number) (g : Given) → When (FitTo (λ z. One Byte g z ++ (size.Byte, n.value) ∷ [])) (by_number o f n g)
+by_number_fit : (o : Op) (f : Option Size) (n : Number) (g : Given) → When (FitTo (λ z. One Byte g z ++ (size.Byte, n.value) ∷ [])) (one o f g >>= λ x. Some (with_number x size.Byte n))
 by_number_fit o f n g = bind_from (FitTo (One Byte g)) (FitTo (λ z. One Byte g z ++ (size.Byte, n.value) ∷ [])) (one o f g) _ (one_fit Byte o f g) (λ x h. numbered_fit (One Byte g) x size.Byte n h)
 
 by_register_fit : (o : Op) (f : Option Size) (g : Given) → When (FitTo (λ z. One Byte g z ++ [])) (by_register o f g)
@@ -189,7 +189,7 @@ effective_fit f (given.Control n) d = tt
 effective_fit f (given.Immediate n) d = tt
 effective_fit f given.Port d = tt
 
-exchanged_fit : (f : Option Size) (s d : Given) → When (FitTo (Two Same Same s d)) (exchanged f s d)
+exchanged_fit : (f : Option Size) (s d : Given) → When (FitTo (Two Same Same s d)) (of_two exchange f s d)
 unfolding of_two paired instruction
 exchanged_fit f (given.Register z1 n1) (given.Register z2 n2) = bind_any (FitTo (Two Same Same (given.Register z1 n1) (given.Register z2 n2))) (agreed f (said (given.Register z1 n1)) (said (given.Register z2 n2))) _ (λ z. refl)
 exchanged_fit f (given.Register z1 n1) (given.Segment z2) = tt
@@ -219,10 +219,7 @@ move_fit moves.Move f (operands.Two s d) = moved_fit f s d
 move_fit (moves.Extend o y) f (operands.Two s d) = extended_fit o y s d
 move_fit moves.Lea f (operands.Two s d) = effective_fit f s d
 move_fit moves.Exchange f (operands.Two s d) = exchanged_fit f s d
-move_fit k f operands.Nothing = tt
-move_fit k f (operands.One g) = tt
-move_fit k f (operands.Starred g) = tt
-move_fit k f (operands.Three s d g) = tt
+move_fit _ f _ = tt
 
 -- ---- the stack
 
@@ -244,8 +241,7 @@ pushed_number_fit : (n : Number) (z : Size) → z ≡ size.Long → FitTo (One L
 unfolding instruction with_number
 pushed_number_fit n z e = ap (λ (x : Size). fits_field x n.value) e ∙ and_true (fits_field size.Long n.value)
 
-of_number_fit : (f : Option Size) (n : Number) → When (FitTo (One Long (given.Immediate n))) (of_number f n)
-unfolding of_number
+of_number_fit : (f : Option Size) (n : Number) → When (FitTo (One Long (given.Immediate n))) (agreed f (Some size.Long) None >>= λ z. Some (with_number (alone op.Push) z n))
 of_number_fit f n = bind_from IsLong (FitTo (One Long (given.Immediate n))) (agreed f (Some size.Long) None) _ (agreed_long f) (λ z h. pushed_number_fit n z h)
 
 pushed_fit : (f : Option Size) (g : Given) → When (FitTo (One Long g)) (pushed f g)

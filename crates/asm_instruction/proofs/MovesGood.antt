@@ -24,11 +24,12 @@ use Rattle.asm_instruction.specs.declared.draft.NumberedOperand.{NumberedOperand
 use Rattle.asm_instruction.specs.declared.draft.Pair.{Pair}
 use Rattle.asm_instruction.specs.declared.draft.Pair.TheVariants as pair
 use Rattle.asm_instruction.specs.declared.mnemonic.Family.TheVariants as family
+use Rattle.asm_instruction.specs.Names.{◌>>=◌}
 use Rattle.asm_instruction.specs.Sizes.{agreed}
-use Rattle.asm_instruction.specs.Draft.{of_operand, nothing, register_operand, register_or_memory, said, paired}
+use Rattle.asm_instruction.specs.Draft.{of_operand, nothing, register_operand, register_or_memory, said, paired, with_number, alone}
 use Rattle.asm_instruction.specs.Arithmetic.{of_two}
-use Rattle.asm_instruction.specs.Moves.{special, from_special, to_special, moved, extended, effective, with_register, exchange, exchanged, move_draft}
-use Rattle.asm_instruction.specs.Stack.{of_segment, of_number, pushed, popped, stack_draft}
+use Rattle.asm_instruction.specs.Moves.{special, from_special, to_special, moved, extended, effective, with_register, exchange, move_draft}
+use Rattle.asm_instruction.specs.Stack.{of_segment, pushed, popped, stack_draft}
 use Rattle.asm_instruction.proofs.Goods.{bind_from, bind_any, PlaceGood, PairGood, GivenGood, OperandsGood, DraftGood, family_good, not_direct, Good, instruction_good, instruction_numbered, rom_good, paired_good, two_good, of_one_good, to_register_good}
 
 module _ (args : List Argument) where
@@ -101,7 +102,7 @@ module _ (args : List Argument) where
   exchange_good s (pair.FromRegister n x) h = with_register_good s n x x.operand h
   exchange_good s (pair.FromMemory x n) h = instruction_good args op.Xchg s x (register_operand n) refl h tt
 
-  pub exchanged_good : (f : Option Size) (s d : Given) → GivenGood args s → GivenGood args d → Good args (exchanged f s d)
+  pub exchanged_good : (f : Option Size) (s d : Given) → GivenGood args s → GivenGood args d → Good args (of_two exchange f s d)
   unfolding of_two
   exchanged_good f s d p q = bind_from PairGood (DraftGood args) (paired s d) _ (paired_good args s d p q) (λ x h. bind_any (DraftGood args) (agreed f (said s) (said d)) _ (λ z. exchange_good z x h))
 
@@ -111,17 +112,13 @@ module _ (args : List Argument) where
   move_good (moves.Extend o z) f (operands.Two s d) e h = extended_good o z s d (not_direct o e) h.0
   move_good moves.Lea f (operands.Two s d) e h = effective_good f s d h.0
   move_good moves.Exchange f (operands.Two s d) e h = exchanged_good f s d h.0 h.1
-  move_good k f operands.Nothing e h = tt
-  move_good k f (operands.One g) e h = tt
-  move_good k f (operands.Starred g) e h = tt
-  move_good k f (operands.Three s d g) e h = tt
+  move_good _ f _ e h = tt
 
   pub of_segment_good : (o : Op) (f : Option Size) (z : Seg) → is_direct_branch o ≡ false → Good args (of_segment o f z)
   unfolding of_segment
   of_segment_good o f z e = bind_any (DraftGood args) (agreed f None (Some size.Long)) _ (λ y. instruction_good args o y (of_operand (operand.Segment z)) nothing e tt tt)
 
-  pub of_number_good : (f : Option Size) (n : Number) → Good args (of_number f n)
-  unfolding of_number
+  pub of_number_good : (f : Option Size) (n : Number) → Good args (agreed f (Some size.Long) None >>= λ z. Some (with_number (alone op.Push) z n))
   of_number_good f n = bind_any (DraftGood args) (agreed f (Some size.Long) None) _ (λ z. instruction_numbered args op.Push size.Long z nothing nothing n refl tt tt)
 
   pub pushed_good : (f : Option Size) (g : Given) → GivenGood args g → Good args (pushed f g)

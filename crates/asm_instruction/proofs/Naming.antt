@@ -22,16 +22,16 @@ use Rattle.asm_instruction.specs.Names.{Table, found, ◌>>=◌}
 use Rattle.asm_instruction.specs.Field.{field}
 use Rattle.asm_instruction.specs.Register.{long_registers, word_registers, byte_registers, segment_registers, control_registers}
 use Rattle.asm_instruction.specs.Argument.{named_register, displacement, address_register, is_dx, address, memory_operand, given_by, single, unstarred, operands_of, names_symbol}
-use Rattle.asm_instruction.specs.Arithmetic.{two_operand_names, one_operand_names}
+use Rattle.asm_instruction.specs.Arithmetic.{arithmetic_names}
 use Rattle.asm_instruction.specs.Shift.{shift_names}
 use Rattle.asm_instruction.specs.Moves.{move_names, extend_names}
 use Rattle.asm_instruction.specs.Stack.{stack_names, frame_names}
-use Rattle.asm_instruction.specs.Condition.{lower_conditions, upper_conditions, condition}
+use Rattle.asm_instruction.specs.Condition.{conditions}
 use Rattle.asm_instruction.specs.Control.{branch_names, control_names, jump_name, set_name, behind_set, conditional_name}
 use Rattle.asm_instruction.specs.Strings.{string_names}
 use Rattle.asm_instruction.specs.Flags.{plain_names}
 use Rattle.asm_instruction.specs.System.{system_names, page_names}
-use Rattle.asm_instruction.specs.Mnemonic.{exact_instruction, exact_name, sized_name, suffix, suffixed, with_suffix, without_suffix, known_name}
+use Rattle.asm_instruction.specs.Mnemonic.{exact_names, sized_names, suffix, suffixed, with_suffix, without_suffix, known_name}
 use Rattle.asm_instruction.specs.Right.{constant_of, argument_constant, constant_in}
 use Rattle.asm_instruction.proofs.Goods.{When, bind_from, bind_any, either, choice, field_below, GivenGood, OperandsGood, family_good}
 
@@ -135,15 +135,15 @@ found_below (e ∷ table) h name =
     let p = and_parts (nat_lt e.1 16) (all_below table) h in
     choice Below (bytes_eq name e.0) (Some e.1) (found table name) (ltb-true e.1 16 p.0) (found_below table p.1 name)
 
-condition_below : (name : List ℕ) → When Below (condition name)
-unfolding condition lower_conditions upper_conditions
-condition_below name = either Below (found lower_conditions name) (found upper_conditions name) (found_below lower_conditions refl name) (found_below upper_conditions refl name)
+condition_below : (name : List ℕ) → When Below (found conditions name)
+unfolding conditions
+condition_below name = found_below conditions refl name
 
 jump_good : (rest : List ℕ) → When FamilyGood (jump_name rest)
-jump_good rest = bind_from Below FamilyGood (condition rest) _ (condition_below rest) (λ c lt. lt-ltb c 16 lt)
+jump_good rest = bind_from Below FamilyGood (found conditions rest) _ (condition_below rest) (λ c lt. lt-ltb c 16 lt)
 
 set_good : (rest : List ℕ) → When FamilyGood (set_name rest)
-set_good rest = bind_from Below FamilyGood (condition rest) _ (condition_below rest) (λ c lt. lt-ltb c 16 lt)
+set_good rest = bind_from Below FamilyGood (found conditions rest) _ (condition_below rest) (λ c lt. lt-ltb c 16 lt)
 
 behind_good : (name : List ℕ) → When FamilyGood (behind_set name)
 behind_good [] = tt
@@ -156,29 +156,17 @@ unfolding conditional_name
 conditional_good [] = tt
 conditional_good (c ∷ rest) = choice FamilyGood (c == 106) (jump_name rest) (behind_set (c ∷ rest)) (jump_good rest) (behind_good (c ∷ rest))
 
-instruction_good : (name : List ℕ) → When FamilyGood (exact_instruction name)
-unfolding exact_instruction plain_names frame_names extend_names string_names
-instruction_good name =
-    either FamilyGood _ _ (either FamilyGood _ _ (found_good plain_names refl name) (found_good frame_names refl name))
-    (either FamilyGood _ _ (found_good extend_names refl name) (found_good string_names refl name))
+exact_good : (name : List ℕ) → When FamilyGood (found exact_names name)
+unfolding exact_names plain_names frame_names extend_names string_names page_names control_names
+exact_good name = found_good exact_names refl name
 
-exact_good : (name : List ℕ) → When FamilyGood (exact_name name)
-unfolding exact_name page_names control_names
-exact_good name =
-    either FamilyGood _ _ (instruction_good name)
-    (either FamilyGood _ _ (either FamilyGood _ _ (found_good page_names refl name) (found_good control_names refl name)) (conditional_good name))
-
-sized_good : (name : List ℕ) → When FamilyGood (sized_name name)
-unfolding sized_name two_operand_names one_operand_names shift_names move_names stack_names branch_names system_names
-sized_good name =
-    either FamilyGood _ _
-    (either FamilyGood _ _ (either FamilyGood _ _ (found_good two_operand_names refl name) (found_good one_operand_names refl name))
-    (either FamilyGood _ _ (found_good shift_names refl name) (found_good move_names refl name)))
-    (either FamilyGood _ _ (either FamilyGood _ _ (found_good stack_names refl name) (found_good branch_names refl name)) (found_good system_names refl name))
+sized_good : (name : List ℕ) → When FamilyGood (found sized_names name)
+unfolding sized_names arithmetic_names shift_names move_names stack_names branch_names system_names
+sized_good name = found_good sized_names refl name
 
 suffixed_good : (front : List ℕ) (letter : ℕ) → When MnemonicGood (suffixed front letter)
 unfolding suffixed
-suffixed_good front letter = bind_from FamilyGood MnemonicGood (sized_name front) _ (sized_good front) (λ f h. bind_any MnemonicGood (suffix letter) _ (λ s. h))
+suffixed_good front letter = bind_from FamilyGood MnemonicGood (found sized_names front) _ (sized_good front) (λ f h. bind_any MnemonicGood (suffix letter) _ (λ s. h))
 
 with_suffix_good : (name : List ℕ) → When MnemonicGood (with_suffix name)
 unfolding with_suffix
@@ -190,4 +178,8 @@ without_good None p h q = q
 
 pub known_good : (name : List ℕ) → When MnemonicGood (known_name name)
 unfolding known_name
-known_good name = without_good (option_or (exact_name name) (sized_name name)) (with_suffix name) (either FamilyGood (exact_name name) (sized_name name) (exact_good name) (sized_good name)) (with_suffix_good name)
+known_good name =
+    without_good (option_or (found exact_names name) (option_or (conditional_name name) (found sized_names name))) (with_suffix name)
+    (either FamilyGood (found exact_names name) (option_or (conditional_name name) (found sized_names name)) (exact_good name)
+    (either FamilyGood (conditional_name name) (found sized_names name) (conditional_good name) (sized_good name)))
+    (with_suffix_good name)

@@ -24,10 +24,10 @@ use Rattle.asm_instruction.specs.Field.{fits_field}
 use Rattle.asm_instruction.specs.Sizes.{agreed}
 use Rattle.asm_instruction.specs.Draft.{nothing, register_operand, memory, register_or_memory, said, instruction, with_number, alone}
 use Rattle.asm_instruction.specs.Arithmetic.{one}
-use Rattle.asm_instruction.specs.Control.{to_symbol, is_symbol, direct, return_of, returned, with_selector, far, set, control_draft}
+use Rattle.asm_instruction.specs.Control.{to_symbol, is_symbol, direct, return_of, with_selector, far, set, control_draft}
 use Rattle.asm_instruction.specs.Strings.{string_draft}
 use Rattle.asm_instruction.specs.Flags.{plain_draft}
-use Rattle.asm_instruction.specs.System.{through, ported, of_memory, task, system_draft}
+use Rattle.asm_instruction.specs.System.{through, ported, task, system_draft}
 use Rattle.asm_instruction.specs.Mnemonic.{by_family, repeated, drafted}
 use Rattle.asm_instruction.specs.Refusals.{field_of, first_field_of, numbers_in, numbers}
 use Rattle.asm_instruction.proofs.Goods.{When, bind_from, bind_any, choice}
@@ -63,10 +63,6 @@ return_fit (operands.One given.Port) = tt
 return_fit (operands.Starred g) = tt
 return_fit (operands.Two s d) = tt
 return_fit (operands.Three s d g) = tt
-
-returned_fit : (f : Option Size) (os : Operands) → Fit (family.Control control.Return) os (returned f os)
-unfolding returned
-returned_fit f os = bind_any (FamilyFit (family.Control control.Return) os) (agreed f (Some size.Long) None) _ (λ z. return_fit os)
 
 selected_fit : (n k : Number) → FitTo (λ z. (size.Long, k.value) ∷ [] ++ (size.Word, n.value) ∷ []) (with_selector (with_number (alone op.FarJump) size.Long k) n)
 unfolding instruction with_number
@@ -107,7 +103,7 @@ control_fit control.Interrupt f (operands.One given.Port) = tt
 control_fit control.Interrupt f (operands.Starred g) = tt
 control_fit control.Interrupt f (operands.Two s d) = tt
 control_fit control.Interrupt f (operands.Three s d g) = tt
-control_fit control.Return f os = returned_fit f os
+control_fit control.Return f os = bind_any (FamilyFit (family.Control control.Return) os) (agreed f (Some size.Long) None) _ (λ z. return_fit os)
 control_fit control.FarJump f operands.Nothing = tt
 control_fit control.FarJump f (operands.One g) = tt
 control_fit control.FarJump f (operands.Starred g) = tt
@@ -171,8 +167,8 @@ ported_out_fit f p (given.Register t n) =
     (bind_any (FitTo (λ z. One Byte p z ++ [])) (agreed f (Some t) None) _ (λ z. widened p (through op.PortOut z p) (through_fit op.PortOut z p))) tt
 ported_out_fit f p _ = tt
 
-of_memory_fit : (o : Op) (f : Option Size) (g : Given) → When (FitTo (One Byte g)) (of_memory o f g)
-unfolding of_memory
+of_memory_fit : (o : Op) (f : Option Size) (g : Given) → When (FitTo (One Byte g)) (system_draft (system.Memory o) f (operands.One g))
+unfolding system_draft
 of_memory_fit o f (given.Memory m) =
     bind_any (FitTo (One Byte (given.Memory m))) (agreed f (Some size.Long) None) _
     (λ z. unary_fit Byte (given.Memory m) o z (memory m) (λ z. and_true (fits_field size.Long m.displacement.value)))

@@ -4,7 +4,6 @@ use Rattle.ia32_types.specs.declared.insn.Op.{Op}
 use Rattle.ia32_types.specs.declared.insn.Op.TheVariants as op
 use Rattle.ia32_types.specs.declared.size.Size.{Size}
 use Rattle.ia32_types.specs.declared.size.Size.TheVariants as size
-use Rattle.asm_instruction.specs.declared.argument.Number.{Number}
 use Rattle.asm_instruction.specs.declared.argument.Given.{Given}
 use Rattle.asm_instruction.specs.declared.argument.Given.TheVariants as given
 use Rattle.asm_instruction.specs.declared.argument.Operands.{Operands}
@@ -27,14 +26,11 @@ abbrev pub named_one : Op → Family
 named_one o = family.Arithmetic (arithmetic.One o)
 
 -- with a suffix b, w or l, or none
-unfoldable pub two_operand_names : Table Family
-two_operand_names =
+unfoldable pub arithmetic_names : Table Family
+arithmetic_names =
     (codes "add", named_two op.Add) ∷ (codes "or", named_two op.Or) ∷ (codes "adc", named_two op.Adc) ∷ (codes "sbb", named_two op.Sbb) ∷
     (codes "and", named_two op.And) ∷ (codes "sub", named_two op.Sub) ∷ (codes "xor", named_two op.Xor) ∷ (codes "cmp", named_two op.Cmp) ∷
-    (codes "test", family.Arithmetic arithmetic.Test) ∷ []
-
-unfoldable pub one_operand_names : Table Family
-one_operand_names =
+    (codes "test", family.Arithmetic arithmetic.Test) ∷
     (codes "not", named_one op.Not) ∷ (codes "neg", named_one op.Neg) ∷ (codes "mul", named_one op.Mul) ∷
     (codes "imul", family.Arithmetic arithmetic.Multiply) ∷ (codes "div", named_one op.Div) ∷ (codes "idiv", named_one op.Idiv) ∷
     (codes "inc", named_one op.Inc) ∷ (codes "dec", named_one op.Dec) ∷ []
@@ -61,10 +57,6 @@ of_two make suffix source destination = do
 abbrev pub two : Op → Option Size → Given → Given → Option Draft
 two o suffix source destination = of_two (λ s p. Some (of_pair o s p)) suffix source destination
 
--- TEST
-abbrev pub tested : Option Size → Given → Given → Option Draft
-tested suffix source destination = of_two (λ s p. Some (memory_first op.Test s p)) suffix source destination
-
 -- of a register or memory, with a size of its own or none
 unfoldable pub of_one : Option Size → Op → Option Size → Given → Option Draft
 of_one own o suffix g = do
@@ -83,20 +75,13 @@ to_register o suffix source (given.Register t n) = do
   Some (instruction o s (register_operand n) place)
 to_register o suffix source _ = None
 
--- IMUL by a number
-unfoldable pub multiplied : Number → Option Size → Given → Given → Option Draft
-multiplied n suffix source destination = to_register op.ImulBy suffix source destination >>= λ d. Some (with_number d size.Long n)
-
--- IMUL
-unfoldable pub product : Option Size → Operands → Option Draft
-product suffix (operands.One g) = one op.Imul suffix g
-product suffix (operands.Two source destination) = to_register op.Imul suffix source destination
-product suffix (operands.Three (given.Immediate n) source destination) = multiplied n suffix source destination
-product suffix _ = None
-
 unfoldable pub arithmetic_draft : Arithmetic → Option Size → Operands → Option Draft
 arithmetic_draft (arithmetic.Two o) suffix (operands.Two source destination) = two o suffix source destination
-arithmetic_draft arithmetic.Test suffix (operands.Two source destination) = tested suffix source destination
+arithmetic_draft arithmetic.Test suffix (operands.Two source destination) =
+    of_two (λ s p. Some (memory_first op.Test s p)) suffix source destination
 arithmetic_draft (arithmetic.One o) suffix (operands.One g) = one o suffix g
-arithmetic_draft arithmetic.Multiply suffix all = product suffix all
+arithmetic_draft arithmetic.Multiply suffix (operands.One g) = one op.Imul suffix g
+arithmetic_draft arithmetic.Multiply suffix (operands.Two source destination) = to_register op.Imul suffix source destination
+arithmetic_draft arithmetic.Multiply suffix (operands.Three (given.Immediate n) source destination) =
+    to_register op.ImulBy suffix source destination >>= λ d. Some (with_number d size.Long n)
 arithmetic_draft _ suffix _ = None

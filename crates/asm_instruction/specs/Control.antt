@@ -15,8 +15,8 @@ use Rattle.asm_instruction.specs.declared.control.Control.TheVariants as kind
 use Rattle.asm_instruction.specs.declared.draft.Draft.{Draft}
 use Rattle.asm_instruction.specs.declared.mnemonic.Family.{Family}
 use Rattle.asm_instruction.specs.declared.mnemonic.Family.TheVariants as family
-use Rattle.asm_instruction.specs.Names.{Table, ◌>>=◌}
-use Rattle.asm_instruction.specs.Condition.{condition}
+use Rattle.asm_instruction.specs.Names.{Table, found, ◌>>=◌}
+use Rattle.asm_instruction.specs.Condition.{conditions}
 use Rattle.asm_instruction.specs.Field.{field, fits_field}
 use Rattle.asm_instruction.specs.Sizes.{agreed}
 use Rattle.asm_instruction.specs.Draft.{alone, with_number}
@@ -35,10 +35,10 @@ control_names =
     (codes "iret", family.Plain op.Iret) ∷ (codes "ljmp", family.Control kind.FarJump) ∷ []
 
 abbrev pub jump_name : List ℕ → Option Family
-jump_name rest = condition rest >>= λ c. Some (family.Control (kind.Conditional c))
+jump_name rest = found conditions rest >>= λ c. Some (family.Control (kind.Conditional c))
 
 abbrev pub set_name : List ℕ → Option Family
-set_name rest = condition rest >>= λ c. Some (family.Control (kind.Set c))
+set_name rest = found conditions rest >>= λ c. Some (family.Control (kind.Set c))
 
 abbrev pub behind_set : List ℕ → Option Family
 behind_set (s ∷ e ∷ t ∷ rest) = if (s == 115) && (e == 101) && (t == 116) then set_name rest else None
@@ -78,9 +78,6 @@ return_of operands.Nothing = Some (alone op.Return)
 return_of (operands.One (given.Immediate n)) = Some (with_number (alone op.Return) size.Word n)
 return_of _ = None
 
-unfoldable pub returned : Option Size → Operands → Option Draft
-returned suffix os = agreed suffix (Some size.Long) None >>= λ s. return_of os
-
 abbrev pub with_selector : Draft → Number → Draft
 with_selector d n = record d { insn = record d.insn { sel = field size.Word n.value }; fits = d.fits && fits_field size.Word n.value }
 
@@ -88,12 +85,9 @@ with_selector d n = record d { insn = record d.insn { sel = field size.Word n.va
 unfoldable pub far : Number → Number → Option Draft
 far selector offset = if selector.named then None else Some (with_selector (with_number (alone op.FarJump) size.Long offset) selector)
 
-abbrev pub with_condition : Draft → ℕ → Draft
-with_condition d c = record d { insn = record d.insn { sel = c } }
-
 -- SETcc
 unfoldable pub set : ℕ → Given → Option Draft
-set c g = one op.Setcc (Some size.Byte) g >>= λ d. Some (with_condition d c)
+set c g = one op.Setcc (Some size.Byte) g >>= λ d. Some (record d { insn = record d.insn { sel = c } })
 
 unfoldable pub control_draft : Control → Option Size → Operands → Option Draft
 control_draft (kind.Branch o i) suffix (operands.One g) = direct o 0 suffix g
@@ -101,6 +95,6 @@ control_draft (kind.Branch o i) suffix (operands.Starred g) = of_one (Some size.
 control_draft (kind.Conditional c) suffix (operands.One g) = direct op.Jcc c suffix g
 control_draft (kind.Set c) suffix (operands.One g) = set c g
 control_draft kind.Interrupt suffix (operands.One (given.Immediate n)) = Some (with_number (alone op.Int) size.Byte n)
-control_draft kind.Return suffix os = returned suffix os
+control_draft kind.Return suffix os = agreed suffix (Some size.Long) None >>= λ s. return_of os
 control_draft kind.FarJump suffix (operands.Two (given.Immediate selector) (given.Immediate offset)) = far selector offset
 control_draft _ suffix _ = None

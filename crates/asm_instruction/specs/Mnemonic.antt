@@ -1,5 +1,5 @@
 -- The names of instructions, and what they mean with their operands.
-use Rattle.std.specs.Prelude.{ℕ, ◌-◌, ◌==◌, Bool, true, false, List, length, take, slice_index, Option, Some, None, if◌then◌else◌}
+use Rattle.std.specs.Prelude.{ℕ, ◌-◌, ◌==◌, Bool, true, false, List, ◌++◌, length, take, slice_index, Option, Some, None, if◌then◌else◌}
 use Rattle.std.specs.Option.{option_or}
 use Rattle.ia32_types.specs.declared.size.Size.{Size}
 use Rattle.ia32_types.specs.declared.size.Size.TheVariants as size
@@ -8,8 +8,8 @@ use Rattle.asm_instruction.specs.declared.draft.Draft.{Draft}
 use Rattle.asm_instruction.specs.declared.mnemonic.Family.{Family}
 use Rattle.asm_instruction.specs.declared.mnemonic.Family.TheVariants as family
 use Rattle.asm_instruction.specs.declared.mnemonic.Mnemonic.{Mnemonic}
-use Rattle.asm_instruction.specs.Names.{found, ◌>>=◌}
-use Rattle.asm_instruction.specs.Arithmetic.{two_operand_names, one_operand_names, arithmetic_draft}
+use Rattle.asm_instruction.specs.Names.{Table, found, ◌>>=◌}
+use Rattle.asm_instruction.specs.Arithmetic.{arithmetic_names, arithmetic_draft}
 use Rattle.asm_instruction.specs.Shift.{shift_names, shift_draft}
 use Rattle.asm_instruction.specs.Moves.{move_names, extend_names, move_draft}
 use Rattle.asm_instruction.specs.Stack.{stack_names, frame_names, stack_draft}
@@ -18,18 +18,13 @@ use Rattle.asm_instruction.specs.Strings.{string_names, string_draft}
 use Rattle.asm_instruction.specs.Flags.{plain_names, plain_draft}
 use Rattle.asm_instruction.specs.System.{system_names, page_names, system_draft}
 
-unfoldable pub exact_instruction : List ℕ → Option Family
-exact_instruction name = option_or (option_or (found plain_names name) (found frame_names name)) (option_or (found extend_names name) (found string_names name))
+-- the names that stand as they are
+unfoldable pub exact_names : Table Family
+exact_names = plain_names ++ frame_names ++ extend_names ++ string_names ++ page_names ++ control_names
 
--- a name that stands as it is
-unfoldable pub exact_name : List ℕ → Option Family
-exact_name name = option_or (exact_instruction name) (option_or (option_or (found page_names name) (found control_names name)) (conditional_name name))
-
--- a name that may have a suffix
-unfoldable pub sized_name : List ℕ → Option Family
-sized_name name =
-    option_or (option_or (option_or (found two_operand_names name) (found one_operand_names name)) (option_or (found shift_names name) (found move_names name)))
-    (option_or (option_or (found stack_names name) (found branch_names name)) (found system_names name))
+-- the names that stand with a suffix, or with none
+unfoldable pub sized_names : Table Family
+sized_names = arithmetic_names ++ shift_names ++ move_names ++ stack_names ++ branch_names ++ system_names
 
 -- b, w or l
 abbrev pub suffix : ℕ → Option Size
@@ -37,7 +32,7 @@ suffix letter = if letter == 98 then Some size.Byte else if letter == 119 then S
 
 unfoldable pub suffixed : List ℕ → ℕ → Option Mnemonic
 suffixed front letter = do
-  f ← sized_name front
+  f ← found sized_names front
   s ← suffix letter
   Some (record { family = f; suffix = Some s })
 
@@ -50,7 +45,8 @@ without_suffix (Some f) others = Some (record { family = f; suffix = None })
 without_suffix None others = others
 
 unfoldable pub known_name : List ℕ → Option Mnemonic
-known_name name = without_suffix (option_or (exact_name name) (sized_name name)) (with_suffix name)
+known_name name =
+    without_suffix (option_or (found exact_names name) (option_or (conditional_name name) (found sized_names name))) (with_suffix name)
 
 -- ---- what it means with its operands
 

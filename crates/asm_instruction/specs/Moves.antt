@@ -78,17 +78,11 @@ exchange s (pair.Immediate n place) = None
 exchange s (pair.FromRegister n place) = Some (with_register s n place place.operand)
 exchange s (pair.FromMemory place n) = Some (instruction op.Xchg s place (register_operand n))
 
-abbrev pub exchanged : Option Size → Given → Given → Option Draft
-exchanged suffix source destination = of_two exchange suffix source destination
-
 -- ----
 
-abbrev pub move_of : Moves → Option Size → Given → Given → Option Draft
-move_of kind.Move suffix source destination = moved suffix source destination
-move_of (kind.Extend o s) suffix source destination = extended o s source destination
-move_of kind.Lea suffix source destination = effective suffix source destination
-move_of kind.Exchange suffix source destination = exchanged suffix source destination
-
 unfoldable pub move_draft : Moves → Option Size → Operands → Option Draft
-move_draft k suffix (operands.Two source destination) = move_of k suffix source destination
-move_draft k suffix _ = None
+move_draft kind.Move suffix (operands.Two source destination) = moved suffix source destination
+move_draft (kind.Extend o s) suffix (operands.Two source destination) = extended o s source destination
+move_draft kind.Lea suffix (operands.Two source destination) = effective suffix source destination
+move_draft kind.Exchange suffix (operands.Two source destination) = of_two exchange suffix source destination
+move_draft _ suffix _ = None

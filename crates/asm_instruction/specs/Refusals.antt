@@ -19,30 +19,12 @@ use Rattle.asm_instruction.specs.declared.mnemonic.Mnemonic.{Mnemonic}
 use Rattle.asm_instruction.specs.Names.{Table}
 use Rattle.asm_instruction.specs.Field.{fits_field}
 use Rattle.asm_instruction.specs.Argument.{operands_of}
-use Rattle.asm_instruction.specs.Arithmetic.{two_operand_names, one_operand_names}
-use Rattle.asm_instruction.specs.Shift.{shift_names}
-use Rattle.asm_instruction.specs.Moves.{move_names, extend_names}
-use Rattle.asm_instruction.specs.Stack.{stack_names, frame_names}
-use Rattle.asm_instruction.specs.Condition.{lower_conditions, upper_conditions}
-use Rattle.asm_instruction.specs.Control.{branch_names, control_names}
-use Rattle.asm_instruction.specs.Strings.{string_names}
-use Rattle.asm_instruction.specs.Flags.{plain_names}
-use Rattle.asm_instruction.specs.System.{system_names, page_names}
+use Rattle.asm_instruction.specs.Condition.{conditions}
+use Rattle.asm_instruction.specs.Mnemonic.{exact_names, sized_names}
 use Rattle.asm_instruction.specs.Refused.{refused_names}
 use Rattle.asm_instruction.specs.Assembled.{widths, drafted_of}
 
 -- ---- the names
-
--- the names that stand as they are
-unfoldable pub exact_names : Table Family
-exact_names = plain_names ++ frame_names ++ extend_names ++ string_names ++ page_names ++ control_names
-
--- the names that stand with a suffix, or with none
-unfoldable pub sized_names : Table Family
-sized_names = two_operand_names ++ one_operand_names ++ shift_names ++ move_names ++ stack_names ++ branch_names ++ system_names
-
-unfoldable pub conditions : Table ℕ
-conditions = lower_conditions ++ upper_conditions
 
 unfoldable pub suffixes : Table Size
 suffixes = (codes "b", size.Byte) ∷ (codes "w", size.Word) ∷ (codes "l", size.Long) ∷ []

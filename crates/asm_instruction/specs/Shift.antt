@@ -4,7 +4,6 @@ use Rattle.ia32_types.specs.declared.insn.Op.{Op}
 use Rattle.ia32_types.specs.declared.insn.Op.TheVariants as op
 use Rattle.ia32_types.specs.declared.size.Size.{Size}
 use Rattle.ia32_types.specs.declared.size.Size.TheVariants as size
-use Rattle.asm_instruction.specs.declared.argument.Number.{Number}
 use Rattle.asm_instruction.specs.declared.argument.Given.{Given}
 use Rattle.asm_instruction.specs.declared.argument.Given.TheVariants as given
 use Rattle.asm_instruction.specs.declared.argument.Operands.{Operands}
@@ -23,14 +22,6 @@ shift_names =
     (codes "rol", family.Shift op.Rol) ∷ (codes "ror", family.Shift op.Ror) ∷ (codes "shl", family.Shift op.Shl) ∷
     (codes "sal", family.Shift op.Shl) ∷ (codes "shr", family.Shift op.Shr) ∷ (codes "sar", family.Shift op.Sar) ∷ []
 
--- without a count it is 1
-abbrev pub by_one : Op → Option Size → Given → Option Draft
-by_one o suffix g = one o suffix g >>= λ d. Some (record d { insn = record d.insn { imm = 1 } })
-
--- the count is a byte
-abbrev pub by_number : Op → Option Size → Number → Given → Option Draft
-by_number o suffix count g = one o suffix g >>= λ d. Some (with_number d size.Byte count)
-
 -- by CL, which says nothing of the size
 unfoldable pub by_register : Op → Option Size → Given → Option Draft
 by_register o suffix g = do
@@ -38,8 +29,9 @@ by_register o suffix g = do
   s ← agreed suffix (said g) None
   Some (instruction o s place (register_operand 1))
 
+-- without a count it is 1, and a count is a byte
 unfoldable pub shift_draft : Op → Option Size → Operands → Option Draft
-shift_draft o suffix (operands.One g) = by_one o suffix g
-shift_draft o suffix (operands.Two (given.Immediate count) g) = by_number o suffix count g
+shift_draft o suffix (operands.One g) = one o suffix g >>= λ d. Some (record d { insn = record d.insn { imm = 1 } })
+shift_draft o suffix (operands.Two (given.Immediate count) g) = one o suffix g >>= λ d. Some (with_number d size.Byte count)
 shift_draft o suffix (operands.Two (given.Register size.Byte n) g) = if n == 1 then by_register o suffix g else None
 shift_draft o suffix _ = None

@@ -6,7 +6,6 @@ use Rattle.ia32_types.specs.declared.insn.Op.TheVariants as op
 use Rattle.ia32_types.specs.declared.insn.Operand.TheVariants as operand
 use Rattle.ia32_types.specs.declared.size.Size.{Size}
 use Rattle.ia32_types.specs.declared.size.Size.TheVariants as size
-use Rattle.asm_instruction.specs.declared.argument.Number.{Number}
 use Rattle.asm_instruction.specs.declared.argument.Given.{Given}
 use Rattle.asm_instruction.specs.declared.argument.Given.TheVariants as given
 use Rattle.asm_instruction.specs.declared.argument.Operands.{Operands}
@@ -37,11 +36,9 @@ frame_names =
 unfoldable pub of_segment : Op → Option Size → Seg → Option Draft
 of_segment o suffix segment = agreed suffix None (Some size.Long) >>= λ s. Some (unary o s (of_operand (operand.Segment segment)))
 
-unfoldable pub of_number : Option Size → Number → Option Draft
-of_number suffix n = agreed suffix (Some size.Long) None >>= λ s. Some (with_number (alone op.Push) s n)
-
 unfoldable pub pushed : Option Size → Given → Option Draft
-pushed suffix (given.Immediate n) = of_number suffix n
+pushed suffix (given.Immediate n) =
+    agreed suffix (Some size.Long) None >>= λ s. Some (with_number (alone op.Push) s n)
 pushed suffix (given.Segment segment) = of_segment op.PushSeg suffix segment
 pushed suffix g = of_one (Some size.Long) op.Push suffix g
 

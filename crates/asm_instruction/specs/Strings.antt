@@ -20,9 +20,6 @@ string_names =
     (codes "lodsb", family.Strings op.Lods size.Byte) ∷ (codes "lodsl", family.Strings op.Lods size.Long) ∷ []
 
 -- of this size, with or without the repeat prefix
-abbrev pub as_string : Draft → Size → Bool → Draft
-as_string d s rep = record d { insn = record d.insn { size = s; rep = rep } }
-
 unfoldable pub string_draft : Bool → Op → Size → Operands → Option Draft
-string_draft rep o s operands.Nothing = Some (as_string (alone o) s rep)
+string_draft rep o s operands.Nothing = Some (record (alone o) { insn = record (alone o).insn { size = s; rep = rep } })
 string_draft rep o s _ = None

@@ -40,10 +40,6 @@ unfoldable pub ported : Op → Option Size → Given → Given → Option Draft
 ported o suffix p (given.Register t n) = if n == 0 then (agreed suffix (Some t) None >>= λ s. through o s p) else None
 ported o suffix p _ = None
 
-unfoldable pub of_memory : Op → Option Size → Given → Option Draft
-of_memory o suffix (given.Memory m) = agreed suffix (Some size.Long) None >>= λ s. Some (unary o s (memory m))
-of_memory o suffix _ = None
-
 -- LTR: the selector has 16 bits
 unfoldable pub task : Option Size → Given → Option Draft
 task suffix g = do
@@ -54,6 +50,7 @@ task suffix g = do
 unfoldable pub system_draft : System → Option Size → Operands → Option Draft
 system_draft kind.In suffix (operands.Two p to) = ported op.PortIn suffix p to
 system_draft kind.Out suffix (operands.Two from p) = ported op.PortOut suffix p from
-system_draft (kind.Memory o) suffix (operands.One g) = of_memory o suffix g
+system_draft (kind.Memory o) suffix (operands.One (given.Memory m)) =
+    agreed suffix (Some size.Long) None >>= λ s. Some (unary o s (memory m))
 system_draft kind.LoadTask suffix (operands.One g) = task suffix g
 system_draft _ suffix _ = None

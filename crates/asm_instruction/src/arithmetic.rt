@@ -2,9 +2,11 @@
 
 ghost use Rattle.std.specs.Prelude.{◌≡◌};
 ghost use Rattle.asm_instruction.specs.Names.{found};
+ghost use Rattle.asm_instruction.specs.declared.argument.Operands.TheVariants as taken;
+ghost use Rattle.asm_instruction.specs.declared.arithmetic.Arithmetic.TheVariants as called;
 ghost use Rattle.asm_instruction.specs.Arithmetic as spec;
 
-use crate::argument::{Given, Number, Operands};
+use crate::argument::{Given, Operands};
 use crate::bytes::look_up;
 use crate::draft::{
     Draft, Pair, instruction, paired, register_operand, register_or_memory, said, unary,
@@ -26,7 +28,7 @@ pub enum Arithmetic {
     Multiply,
 }
 
-const TWO_OPERAND_NAMES: [(&[u8], Family); 9] = [
+const NAMES: [(&[u8], Family); 17] = [
     (b"add", Family::Arithmetic(Arithmetic::Two(Op::Add))),
     (b"or", Family::Arithmetic(Arithmetic::Two(Op::Or))),
     (b"adc", Family::Arithmetic(Arithmetic::Two(Op::Adc))),
@@ -36,17 +38,6 @@ const TWO_OPERAND_NAMES: [(&[u8], Family); 9] = [
     (b"xor", Family::Arithmetic(Arithmetic::Two(Op::Xor))),
     (b"cmp", Family::Arithmetic(Arithmetic::Two(Op::Cmp))),
     (b"test", Family::Arithmetic(Arithmetic::Test)),
-];
-
-/// The names of the instructions with two operands.
-#[tactic(auto, unfolding(crate::specs::Arithmetic::two_operand_names))]
-pub fn two_operand_name(name: &[u8]) -> Option<Family>
-    ensures { result ≡ found spec.two_operand_names name.now }
-{
-    look_up(&TWO_OPERAND_NAMES, name)
-}
-
-const ONE_OPERAND_NAMES: [(&[u8], Family); 8] = [
     (b"not", Family::Arithmetic(Arithmetic::One(Op::Not))),
     (b"neg", Family::Arithmetic(Arithmetic::One(Op::Neg))),
     (b"mul", Family::Arithmetic(Arithmetic::One(Op::Mul))),
@@ -57,12 +48,12 @@ const ONE_OPERAND_NAMES: [(&[u8], Family); 8] = [
     (b"dec", Family::Arithmetic(Arithmetic::One(Op::Dec))),
 ];
 
-/// The names of the others.
-#[tactic(auto, unfolding(crate::specs::Arithmetic::one_operand_names))]
-pub fn one_operand_name(name: &[u8]) -> Option<Family>
-    ensures { result ≡ found spec.one_operand_names name.now }
+/// The names of arithmetic and logic, which take a suffix.
+#[tactic(auto, unfolding(crate::specs::Arithmetic::arithmetic_names))]
+pub fn arithmetic_name(name: &[u8]) -> Option<Family>
+    ensures { result ≡ found spec.arithmetic_names name.now }
 {
-    look_up(&ONE_OPERAND_NAMES, name)
+    look_up(&NAMES, name)
 }
 
 /// With the destination first.
@@ -96,9 +87,9 @@ pub fn two(op: Op, suffix: Option<Size>, source: Given, destination: Given) -> O
     Some(of_pair(op, size, pair))
 }
 
-#[tactic(auto, unfolding(crate::specs::Arithmetic::of_two))]
+#[tactic(auto, unfolding(crate::specs::Arithmetic::of_two, crate::specs::Arithmetic::arithmetic_draft))]
 fn tested(suffix: Option<Size>, source: Given, destination: Given) -> Option<Draft>
-    ensures { result ≡ spec.tested suffix source destination }
+    ensures { result ≡ spec.arithmetic_draft called.Test suffix (taken.Two source destination) }
 {
     let pair = paired(source, destination)?;
     let size = agreed(suffix, said(source), said(destination))?;
@@ -137,28 +128,16 @@ pub fn to_register(op: Op, suffix: Option<Size>, source: Given, destination: Giv
     }
 }
 
-#[tactic(auto, unfolding(crate::specs::Arithmetic::multiplied))]
-fn multiplied(
-    number: Number,
-    suffix: Option<Size>,
-    source: Given,
-    destination: Given,
-) -> Option<Draft>
-    ensures { result ≡ spec.multiplied number suffix source destination }
-{
-    let product = to_register(Op::ImulBy, suffix, source, destination)?;
-    Some(with_number(product, Size::Long, number))
-}
-
-#[tactic(auto, unfolding(crate::specs::Arithmetic::product))]
+#[tactic(auto, unfolding(crate::specs::Arithmetic::arithmetic_draft))]
 fn product(suffix: Option<Size>, operands: Operands) -> Option<Draft>
-    ensures { result ≡ spec.product suffix operands }
+    ensures { result ≡ spec.arithmetic_draft called.Multiply suffix operands }
 {
     match operands {
         Operands::One(given) => one(Op::Imul, suffix, given),
         Operands::Two(source, destination) => to_register(Op::Imul, suffix, source, destination),
         Operands::Three(Given::Immediate(number), source, destination) => {
-            multiplied(number, suffix, source, destination)
+            let product = to_register(Op::ImulBy, suffix, source, destination)?;
+            Some(with_number(product, Size::Long, number))
         }
         _ => None,
     }

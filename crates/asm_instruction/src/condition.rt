@@ -6,7 +6,7 @@ ghost use Rattle.asm_instruction.specs.Condition as spec;
 
 use crate::bytes::look_up;
 
-const LOWER_CONDITIONS: [(&[u8], u8); 16] = [
+const CONDITIONS: [(&[u8], u8); 30] = [
     (b"o", 0),
     (b"no", 1),
     (b"b", 2),
@@ -23,16 +23,6 @@ const LOWER_CONDITIONS: [(&[u8], u8); 16] = [
     (b"na", 6),
     (b"a", 7),
     (b"nbe", 7),
-];
-
-#[tactic(auto, unfolding(crate::specs::Condition::lower_conditions))]
-fn lower_condition(name: &[u8]) -> Option<u8>
-    ensures { result ≡ found spec.lower_conditions name.now }
-{
-    look_up(&LOWER_CONDITIONS, name)
-}
-
-const UPPER_CONDITIONS: [(&[u8], u8); 14] = [
     (b"s", 8),
     (b"ns", 9),
     (b"p", 10),
@@ -49,17 +39,10 @@ const UPPER_CONDITIONS: [(&[u8], u8); 14] = [
     (b"nle", 15),
 ];
 
-#[tactic(auto, unfolding(crate::specs::Condition::upper_conditions))]
-fn upper_condition(name: &[u8]) -> Option<u8>
-    ensures { result ≡ found spec.upper_conditions name.now }
-{
-    look_up(&UPPER_CONDITIONS, name)
-}
-
 /// The number of a condition.
-#[tactic(auto, unfolding(crate::specs::Condition::condition))]
+#[tactic(auto, unfolding(crate::specs::Condition::conditions))]
 pub fn condition(name: &[u8]) -> Option<u8>
-    ensures { result ≡ spec.condition name.now }
+    ensures { result ≡ found spec.conditions name.now }
 {
-    lower_condition(name).or(upper_condition(name))
+    look_up(&CONDITIONS, name)
 }

@@ -2,6 +2,7 @@
 
 ghost use Rattle.std.specs.Prelude.{◌≡◌};
 ghost use Rattle.asm_instruction.specs.Names.{found};
+ghost use Rattle.asm_instruction.specs.declared.control.Control.TheVariants as called;
 ghost use Rattle.asm_instruction.specs.Control as spec;
 
 use crate::argument::{Given, Memory, Number, Operands};
@@ -130,9 +131,9 @@ fn direct(op: Op, condition: u8, suffix: Option<Size>, given: Given) -> Option<D
     }
 }
 
-#[tactic(auto, unfolding(crate::specs::Control::returned))]
+#[tactic(auto, unfolding(crate::specs::Control::control_draft))]
 fn returned(suffix: Option<Size>, operands: Operands) -> Option<Draft>
-    ensures { result ≡ spec.returned suffix operands }
+    ensures { result ≡ spec.control_draft called.Return suffix operands }
 {
     agreed(suffix, Some(Size::Long), None)?;
     match operands {

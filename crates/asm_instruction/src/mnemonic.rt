@@ -1,10 +1,11 @@
 //! The names of instructions.
 
 ghost use Rattle.std.specs.Prelude.{◌≡◌};
+ghost use Rattle.asm_instruction.specs.Names.{found};
 ghost use Rattle.asm_instruction.specs.Mnemonic as spec;
 
 use crate::argument::Operands;
-use crate::arithmetic::{Arithmetic, arithmetic_draft, one_operand_name, two_operand_name};
+use crate::arithmetic::{Arithmetic, arithmetic_draft, arithmetic_name};
 use crate::control::{Control, branch_name, conditional_name, control_draft, control_name};
 use crate::draft::Draft;
 use crate::flags::{plain_draft, plain_name};
@@ -37,36 +38,30 @@ pub struct Mnemonic {
     pub suffix: Option<Size>,
 }
 
-#[tactic(auto, unfolding(crate::specs::Mnemonic::exact_instruction))]
-fn exact_instruction(name: &[u8]) -> Option<Family>
-    ensures { result ≡ spec.exact_instruction name.now }
+/// A name that stands as it is.
+#[tactic(auto, using(crate::proofs::Tables::exact_found))]
+fn exact_name(name: &[u8]) -> Option<Family>
+    ensures { result ≡ found spec.exact_names name.now }
 {
     plain_name(name)
         .or(frame_name(name))
-        .or(extend_name(name).or(string_name(name)))
-}
-
-/// A name that stands as it is.
-#[tactic(auto, unfolding(crate::specs::Mnemonic::exact_name))]
-fn exact_name(name: &[u8]) -> Option<Family>
-    ensures { result ≡ spec.exact_name name.now }
-{
-    exact_instruction(name).or(
-        page_name(name)
-            .or(control_name(name))
-            .or(conditional_name(name)),
-    )
+        .or(extend_name(name))
+        .or(string_name(name))
+        .or(page_name(name))
+        .or(control_name(name))
 }
 
 /// A name that may have a suffix.
-#[tactic(auto, unfolding(crate::specs::Mnemonic::sized_name))]
+#[tactic(auto, using(crate::proofs::Tables::sized_found))]
 fn sized_name(name: &[u8]) -> Option<Family>
-    ensures { result ≡ spec.sized_name name.now }
+    ensures { result ≡ found spec.sized_names name.now }
 {
-    two_operand_name(name)
-        .or(one_operand_name(name))
-        .or(shift_name(name).or(move_name(name)))
-        .or(stack_name(name).or(branch_name(name)).or(system_name(name)))
+    arithmetic_name(name)
+        .or(shift_name(name))
+        .or(move_name(name))
+        .or(stack_name(name))
+        .or(branch_name(name))
+        .or(system_name(name))
 }
 
 fn suffix(letter: u8) -> Option<Size>
@@ -109,7 +104,7 @@ fn with_suffix(name: &[u8]) -> Option<Mnemonic>
 pub fn known_name(name: &[u8]) -> Option<Mnemonic>
     ensures { result ≡ spec.known_name name.now }
 {
-    match exact_name(name).or(sized_name(name)) {
+    match exact_name(name).or(conditional_name(name).or(sized_name(name))) {
         Some(family) => Some(Mnemonic {
             family,
             suffix: None,

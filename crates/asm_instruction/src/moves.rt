@@ -2,6 +2,7 @@
 
 ghost use Rattle.std.specs.Prelude.{◌≡◌};
 ghost use Rattle.asm_instruction.specs.Names.{found};
+ghost use Rattle.asm_instruction.specs.Arithmetic.{of_two};
 ghost use Rattle.asm_instruction.specs.Moves as spec;
 
 use crate::argument::{Given, Operands};
@@ -167,7 +168,7 @@ fn two_registers(size: Size, number: u8, other: NumberedOperand) -> Draft
 // Of two registers the one of the lower number stands first, else memory.
 #[tactic(auto, unfolding(crate::specs::Arithmetic::of_two))]
 fn exchanged(suffix: Option<Size>, source: Given, destination: Given) -> Option<Draft>
-    ensures { result ≡ spec.exchanged suffix source destination }
+    ensures { result ≡ of_two spec.exchange suffix source destination }
 {
     let pair = paired(source, destination)?;
     let size = agreed(suffix, said(source), said(destination))?;

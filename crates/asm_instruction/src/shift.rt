@@ -4,7 +4,7 @@ ghost use Rattle.std.specs.Prelude.{◌≡◌};
 ghost use Rattle.asm_instruction.specs.Names.{found};
 ghost use Rattle.asm_instruction.specs.Shift as spec;
 
-use crate::argument::{Given, Number, Operands};
+use crate::argument::{Given, Operands};
 use crate::arithmetic::one;
 use crate::bytes::look_up;
 use crate::draft::{Draft, instruction, register_operand, register_or_memory, said, with_number};
@@ -29,26 +29,6 @@ pub fn shift_name(name: &[u8]) -> Option<Family>
     look_up(&SHIFT_NAMES, name)
 }
 
-fn by_one(op: Op, suffix: Option<Size>, given: Given) -> Option<Draft>
-    ensures { result ≡ spec.by_one op suffix given }
-{
-    let draft = one(op, suffix, given)?;
-    Some(Draft {
-        insn: Insn {
-            imm: 1,
-            ..draft.insn
-        },
-        ..draft
-    })
-}
-
-fn by_number(op: Op, suffix: Option<Size>, count: Number, given: Given) -> Option<Draft>
-    ensures { result ≡ spec.by_number op suffix count given }
-{
-    let draft = one(op, suffix, given)?;
-    Some(with_number(draft, Size::Byte, count))
-}
-
 // By CL, which says nothing of the size.
 #[tactic(auto, unfolding(crate::specs::Shift::by_register))]
 fn by_register(op: Op, suffix: Option<Size>, given: Given) -> Option<Draft>
@@ -65,8 +45,20 @@ pub fn shift_draft(op: Op, suffix: Option<Size>, operands: Operands) -> Option<D
     ensures { result ≡ spec.shift_draft op suffix operands }
 {
     match operands {
-        Operands::One(given) => by_one(op, suffix, given),
-        Operands::Two(Given::Immediate(count), given) => by_number(op, suffix, count, given),
+        Operands::One(given) => {
+            let draft = one(op, suffix, given)?;
+            Some(Draft {
+                insn: Insn {
+                    imm: 1,
+                    ..draft.insn
+                },
+                ..draft
+            })
+        }
+        Operands::Two(Given::Immediate(count), given) => {
+            let draft = one(op, suffix, given)?;
+            Some(with_number(draft, Size::Byte, count))
+        }
         Operands::Two(Given::Register(Size::Byte, number), given) => {
             if number == 1 {
                 by_register(op, suffix, given)

@@ -4,7 +4,7 @@ ghost use Rattle.std.specs.Prelude.{◌≡◌};
 ghost use Rattle.asm_instruction.specs.Names.{found};
 ghost use Rattle.asm_instruction.specs.Stack as spec;
 
-use crate::argument::{Given, Number, Operands};
+use crate::argument::{Given, Operands};
 use crate::arithmetic::of_one;
 use crate::bytes::look_up;
 use crate::draft::{Draft, alone, of_operand, unary, with_number};
@@ -61,20 +61,15 @@ fn of_segment(op: Op, suffix: Option<Size>, segment: Seg) -> Option<Draft>
     Some(unary(op, size, of_operand(Operand::Segment(segment))))
 }
 
-#[tactic(auto, unfolding(crate::specs::Stack::of_number))]
-fn of_number(suffix: Option<Size>, number: Number) -> Option<Draft>
-    ensures { result ≡ spec.of_number suffix number }
-{
-    let size = agreed(suffix, Some(Size::Long), None)?;
-    Some(with_number(alone(Op::Push), size, number))
-}
-
 #[tactic(auto, unfolding(crate::specs::Stack::pushed))]
 fn pushed(suffix: Option<Size>, given: Given) -> Option<Draft>
     ensures { result ≡ spec.pushed suffix given }
 {
     match given {
-        Given::Immediate(number) => of_number(suffix, number),
+        Given::Immediate(number) => {
+            let size = agreed(suffix, Some(Size::Long), None)?;
+            Some(with_number(alone(Op::Push), size, number))
+        }
         Given::Segment(segment) => of_segment(Op::PushSeg, suffix, segment),
         _ => of_one(Some(Size::Long), Op::Push, suffix, given),
     }

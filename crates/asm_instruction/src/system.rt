@@ -92,19 +92,6 @@ fn ported(op: Op, suffix: Option<Size>, port: Given, accumulator: Given) -> Opti
     }
 }
 
-#[tactic(auto, unfolding(crate::specs::System::of_memory))]
-fn of_memory(op: Op, suffix: Option<Size>, given: Given) -> Option<Draft>
-    ensures { result ≡ spec.of_memory op suffix given }
-{
-    match given {
-        Given::Memory(at) => {
-            let size = agreed(suffix, Some(Size::Long), None)?;
-            Some(unary(op, size, memory(at)))
-        }
-        _ => None,
-    }
-}
-
 // The selector has 16 bits.
 #[tactic(auto, unfolding(crate::specs::System::task))]
 fn task(suffix: Option<Size>, given: Given) -> Option<Draft>
@@ -123,7 +110,10 @@ pub fn system_draft(kind: System, suffix: Option<Size>, operands: Operands) -> O
     match (kind, operands) {
         (System::In, Operands::Two(port, to)) => ported(Op::PortIn, suffix, port, to),
         (System::Out, Operands::Two(from, port)) => ported(Op::PortOut, suffix, port, from),
-        (System::Memory(op), Operands::One(given)) => of_memory(op, suffix, given),
+        (System::Memory(op), Operands::One(Given::Memory(at))) => {
+            let size = agreed(suffix, Some(Size::Long), None)?;
+            Some(unary(op, size, memory(at)))
+        }
         (System::LoadTask, Operands::One(given)) => task(suffix, given),
         _ => None,
     }
