@@ -1,3 +1,4 @@
+pub mod Among
 pub mod Escapes
 pub mod Terminals
 pub mod Shapes

@@ -1,5 +1,6 @@
 -- What may stand in each place of an argument, and what its parts are called.
 use Rattle.std.specs.Prelude.{codes, nat_le, ◌==◌, ◌||◌, ℕ, ℤ, pos, ◌-ℤ◌, Bool, true, false, List, [], ◌∷◌, Some, None}
+use Rattle.std.specs.List.{list_any}
 use Rattle.asm_argument.specs.declared.shape.Shape.{Shape}
 use Rattle.asm_argument.specs.declared.shape.Shape.TheVariants as shape
 use Rattle.asm_source.specs.declared.tree.Value.{Value}
@@ -48,8 +49,7 @@ takes_absent _ = false
 
 -- a power of two up to 4,096
 abbrev pub is_alignment : ℕ → Bool
-is_alignment n =
-    (n == 1) || (n == 2) || (n == 4) || (n == 8) || (n == 16) || (n == 32) || (n == 64) || (n == 128) || (n == 256) || (n == 512) || (n == 1024) || (n == 2048) || (n == 4096)
+is_alignment n = list_any (λ k. k == n) (1 ∷ 2 ∷ 4 ∷ 8 ∷ 16 ∷ 32 ∷ 64 ∷ 128 ∷ 256 ∷ 512 ∷ 1024 ∷ 2048 ∷ 4096 ∷ [])
 
 -- whether a number, or one behind a minus, is of those that may stand there: no count is negative
 abbrev pub fits : Shape → Bool → ℕ → Bool
@@ -65,20 +65,15 @@ abbrev pub is_low : ℕ → Bool
 is_low n = nat_le n 0x80000000
 
 -- The general registers of 8, 16 and 32 bits; the segment registers and the control registers.
-unfoldable pub byte_registers : List (List ℕ)
-byte_registers = codes "al" ∷ codes "cl" ∷ codes "dl" ∷ codes "bl" ∷ codes "ah" ∷ codes "ch" ∷ codes "dh" ∷ codes "bh" ∷ []
-
-unfoldable pub word_registers : List (List ℕ)
-word_registers = codes "ax" ∷ codes "cx" ∷ codes "dx" ∷ codes "bx" ∷ codes "sp" ∷ codes "bp" ∷ codes "si" ∷ codes "di" ∷ []
-
-unfoldable pub long_registers : List (List ℕ)
-long_registers = codes "eax" ∷ codes "ecx" ∷ codes "edx" ∷ codes "ebx" ∷ codes "esp" ∷ codes "ebp" ∷ codes "esi" ∷ codes "edi" ∷ []
-
-unfoldable pub system_registers : List (List ℕ)
-system_registers = codes "es" ∷ codes "cs" ∷ codes "ss" ∷ codes "ds" ∷ codes "cr0" ∷ codes "cr2" ∷ codes "cr3" ∷ codes "cr4" ∷ []
+unfoldable pub registers : List (List ℕ)
+registers =
+    codes "al" ∷ codes "cl" ∷ codes "dl" ∷ codes "bl" ∷ codes "ah" ∷ codes "ch" ∷ codes "dh" ∷ codes "bh" ∷
+    codes "ax" ∷ codes "cx" ∷ codes "dx" ∷ codes "bx" ∷ codes "sp" ∷ codes "bp" ∷ codes "si" ∷ codes "di" ∷
+    codes "eax" ∷ codes "ecx" ∷ codes "edx" ∷ codes "ebx" ∷ codes "esp" ∷ codes "ebp" ∷ codes "esi" ∷ codes "edi" ∷
+    codes "es" ∷ codes "cs" ∷ codes "ss" ∷ codes "ds" ∷ codes "cr0" ∷ codes "cr2" ∷ codes "cr3" ∷ codes "cr4" ∷ []
 
 unfoldable pub is_register : List ℕ → Bool
-is_register name = holds byte_registers name || holds word_registers name || holds long_registers name || holds system_registers name
+is_register name = holds registers name
 
 abbrev pub is_scale : ℕ → Bool
 is_scale n = (n == 1) || (n == 2) || (n == 4) || (n == 8)

@@ -4,7 +4,8 @@ use Rattle.asm_lex.specs.declared.token.TokenKind.{TokenKind}
 use Rattle.asm_lex.specs.declared.token.TokenKind.TheVariants as kind
 use Rattle.asm_argument.specs.declared.terminal.Terminal.{Terminal}
 use Rattle.asm_argument.specs.declared.terminal.Terminal.TheVariants as terminal
-use Rattle.asm_argument.specs.Escapes.{string_text, opening}
+use Rattle.asm_argument.specs.declared.escapes.Escape.TheVariants as escape
+use Rattle.asm_argument.specs.Escapes.{string_text}
 
 abbrev pub digit_of : ℕ → ℕ
 digit_of b = if nat_le b 57 then b - 48 else if nat_le b 70 then b - 55 else b - 87
@@ -45,6 +46,6 @@ number_terminal n = if nat_lt n (2 ^ 32) then terminal.Number n else terminal.Bi
 abbrev pub terminal_of : TokenKind → List ℕ → Terminal
 terminal_of kind.Name bytes = terminal.Name bytes
 terminal_of kind.Number bytes = number_terminal (number_value bytes)
-terminal_of kind.Text bytes = terminal.Text (string_text opening bytes)
+terminal_of kind.Text bytes = terminal.Text (string_text escape.Open bytes)
 terminal_of (kind.Mark m) bytes = mark_terminal m
 terminal_of kind.End bytes = terminal.End

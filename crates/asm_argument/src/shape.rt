@@ -23,22 +23,12 @@ pub enum Shape {
     Text,
 }
 
+const ALIGNMENTS: [u32; 13] = [1, 2, 4, 8, 16, 32, 64, 128, 256, 512, 1024, 2048, 4096];
+
 fn is_alignment(n: u32) -> bool
     ensures { result ≡ shapes.is_alignment n }
 {
-    n == 1
-        || n == 2
-        || n == 4
-        || n == 8
-        || n == 16
-        || n == 32
-        || n == 64
-        || n == 128
-        || n == 256
-        || n == 512
-        || n == 1024
-        || n == 2048
-        || n == 4096
+    ALIGNMENTS.contains(&n)
 }
 
 impl Shape {

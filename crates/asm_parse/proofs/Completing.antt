@@ -33,9 +33,10 @@ use Rattle.asm_source.specs.Names.{holds}
 use Rattle.asm_statement.specs.Definers.{is_defining, is_spent}
 use Rattle.asm_statement.specs.Scope.{has_room, pushed, noted, defined_too}
 use Rattle.asm_argument.specs.Operand.{finished, is_nothing}
-use Rattle.asm_argument.specs.Shapes.{is_operand, takes_numbers, fits, is_register, byte_registers, signed, named, plain}
+use Rattle.asm_argument.specs.Shapes.{is_operand, takes_numbers, fits, is_register, registers, signed, named, plain}
 use Rattle.asm_argument.specs.Grammar.{IsValue, IsForm}
-use Rattle.asm_argument.specs.Escapes.{opening, string_text}
+use Rattle.asm_argument.specs.declared.escapes.Escape.TheVariants as escape
+use Rattle.asm_argument.specs.Escapes.{string_text}
 use Rattle.asm_argument.specs.Terminals.{terminal_of}
 use Rattle.asm_statement.specs.Statement.{is_taken, doom}
 use Rattle.asm_statement.specs.Items.{item_of, resumed, sectioned, is_passed, is_rep}
@@ -61,7 +62,7 @@ pub record Finish (sh : Shape) (p : Partial) : Type 0 where
   pub names : named_in last ≡ named_in p
 
 low_register : is_register low ≡ true
-unfolding is_register byte_registers
+unfolding is_register registers
 low_register = refl
 
 done : (sh : Shape) (p : Partial) (f : Form) → finished p ≡ Some f → Finish sh p
@@ -90,8 +91,8 @@ finish_nothing shape.Name never = absurd (never refl)
 finish_nothing shape.Text never = record {
   pieces = the_text ∷ [];
   are = (text_piece, tt);
-  last = partial.Whole (form.Text (string_text opening (34 ∷ 34 ∷ [])));
-  form = form.Text (string_text opening (34 ∷ 34 ∷ []));
+  last = partial.Whole (form.Text (string_text escape.Open (34 ∷ 34 ∷ [])));
+  form = form.Text (string_text escape.Open (34 ∷ 34 ∷ []));
   runs = refl;
   ends = refl;
   names = refl;
@@ -350,7 +351,7 @@ module _ (sc : ScopeView) (b : ℕ) (n : List ℕ) (passed : is_passed sc n ≡ 
 
   text_completed : directive_of n ≡ Some directive.Strings → Completed sc (state.Named b n)
   text_completed dir =
-      let next : IsNext (head.Directive directive.Strings n) sc [] (terminal_of kind.Text (34 ∷ 34 ∷ []) ∷ []) (record { star = false; form = form.Text (string_text opening (34 ∷ 34 ∷ [])) }) sc =
+      let next : IsNext (head.Directive directive.Strings n) sc [] (terminal_of kind.Text (34 ∷ 34 ∷ []) ∷ []) (record { star = false; form = form.Text (string_text escape.Open (34 ∷ 34 ∷ [])) }) sc =
       record { shape = shape.Text; may = refl; is = IsArgument.plain (IsForm.text refl); sees = refl } in
       by_terminals sc _ (state.Named b n) (the_text ∷ the_end ∷ []) (text_piece, (end_piece, tt))
       (statement_runs (Statement.directive {sc = sc} {line = b} {n = n} passed dotted dir refl (HasArguments.some Separated.none next) refl))

@@ -12,7 +12,7 @@ use Rattle.asm_argument.specs.declared.escapes.Escape.{Escape}
 use Rattle.asm_argument.specs.declared.escapes.Escape.TheVariants as escape
 use Rattle.asm_argument.specs.declared.escapes.Unescaped.{Unescaped}
 use Rattle.asm_lex.specs.Bytes.{is_octal}
-use Rattle.asm_argument.specs.Escapes.{plain_step, escape_step, opening, string_text}
+use Rattle.asm_argument.specs.Escapes.{plain_step, escape_step, string_text}
 use Rattle.asm_argument.specs.Terminals.{number_value, mark_terminal, number_terminal, terminal_of}
 use Rattle.asm_parse.specs.Statements.{terminals}
 
@@ -89,7 +89,7 @@ token_pays k piece rest (IsToken.mark {b} h) = record { some = omega arith; pays
 token_pays k piece rest (IsToken.name {b} {bs} h g f) = record { some = omega arith; pays = omega arith }
 token_pays k piece rest (IsToken.number {b} {bs} h g f e) = record { some = omega arith; pays = omega (arith, number_cost (number_value (b ∷ bs))) }
 token_pays k piece rest (IsToken.character {b} {c} h g) = record { some = omega arith; pays = omega (arith, number_cost (number_value (b ∷ c ∷ []))) }
-token_pays k piece rest (IsToken.string {b} {bs} h g) = record { some = omega arith; pays = omega (arith, string_shorter opening (b ∷ bs)) }
+token_pays k piece rest (IsToken.string {b} {bs} h g) = record { some = omega arith; pays = omega (arith, string_shorter escape.Open (b ∷ bs)) }
 
 -- the bytes of words
 abbrev pub weight : List Word → ℕ
