@@ -19,7 +19,7 @@ use Rattle.asm_statement.specs.Reading.{Fault, placed, is_longer, longer, ending
 use Rattle.asm_argument.specs.Terminals.{terminal_of}
 use Rattle.asm_statement.specs.Running.{◌>>=◌}
 use Rattle.asm_parse.specs.Statements.{is_inner, terminals, IsStatement, Statements}
-use Rattle.asm_parse.specs.Refusals.{Ending, IsBeginning, StatementPlace, Reaches, percent_cause, first_name_cause, refused_cause, byte_cause}
+use Rattle.asm_parse.specs.Refusals.{Ending, IsBeginning, StatementPlace, Reaches, percent_cause, refused_cause, byte_cause}
 use Rattle.asm_parse.proofs.Words.{read_words}
 use Rattle.asm_parse.proofs.Scopes.{GoodIn, fresh_good}
 use Rattle.asm_parse.proofs.Quiet.{Any, any_next, WordGoes, word_goes, Answer}
@@ -28,7 +28,7 @@ use Rattle.asm_parse.proofs.Said.{Begun, begun_more, next_begun, start_begun}
 use Rattle.asm_parse.proofs.Collected.{Held, HeldBy, held_more, first_held}
 use Rattle.asm_parse.proofs.Closing.{AreNamed}
 use Rattle.asm_parse.proofs.Places.{Extra, InSection, Standing, standing, all_more, all_and, section_words}
-use Rattle.asm_parse.proofs.Walking.{fault_in, beginning, refused_never, doomed_never, Found, word_fails, stray_fault, name_fault, Doomed, doomed_word, placed_in, some_same}
+use Rattle.asm_parse.proofs.Walking.{fault_in, first_name_cause, beginning, refused_never, doomed_never, Found, word_fails, stray_fault, name_fault, Doomed, doomed_word, placed_in, some_same}
 
 -- ---- what is known besides, one word later
 

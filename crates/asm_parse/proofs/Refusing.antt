@@ -1,6 +1,7 @@
 -- A terminal that is refused has the cause of its place.
-use Rattle.std.proofs.Common.{◌≡◌, ℕ, Bool, true, false, cond, List, [], ◌∷◌, length, Some, None, Result, Ok, Err, refl, sym, ap, ◌∙◌}
+use Rattle.std.proofs.Common.{◌≡◌, ℕ, Bool, true, false, cond, List, [], ◌∷◌, length, Option, Some, None, Result, Ok, Err, refl, sym, ap, ◌∙◌}
 use Rattle.std.specs.Prelude.{◌&&◌, not}
+use Rattle.std.specs.Option.{option_map_or}
 use Rattle.asm_lex.specs.declared.fault.SourceCause.{SourceCause}
 use Rattle.asm_lex.specs.declared.fault.SourceCause.TheVariants as cause
 use Rattle.asm_argument.specs.declared.terminal.Terminal.{Terminal}
@@ -21,7 +22,7 @@ use Rattle.asm_argument.specs.Shapes.{is_operand, takes_names, takes_sums, takes
 use Rattle.asm_statement.specs.Directives.{shape_at, defines}
 use Rattle.asm_statement.specs.Statement.{noting, argument_cause}
 use Rattle.asm_statement.specs.Openings.{misplaced}
-use Rattle.asm_parse.specs.Refusals.{name_cause, operand_cause, takes_name, value_cause}
+use Rattle.asm_parse.specs.Refusals.{name_cause, operand_cause, value_cause}
 use Rattle.asm_argument.proofs.Operands.{ok, registered_ok, Spelled}
 use Rattle.asm_parse.proofs.Tails.{percents, indexed, minuses, signs, frees, Tail}
 
@@ -230,6 +231,10 @@ value_err sh (partial.IndexPercent v b) ss s other c n u sp cut h = absurd (not_
 value_err sh (partial.Index v b i) ss s other c n u sp cut h = absurd (not_both sp.operand n)
 value_err sh (partial.Scale v b i) ss s other c n u sp cut h = absurd (not_both sp.operand n)
 value_err sh (partial.Scaled v b i k) ss s other c n u sp cut h = absurd (not_both sp.operand n)
+
+-- whether a name may stand there, if an argument may
+abbrev pub takes_name : Option Shape → Bool
+takes_name o = option_map_or takes_names o false
 
 -- where nothing of the argument has been read
 abbrev pub value_first : Bool → ScopeView → Bool → Terminal → SourceCause

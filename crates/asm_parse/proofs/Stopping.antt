@@ -25,16 +25,20 @@ use Rattle.asm_argument.specs.Shapes.{is_operand, takes_names}
 use Rattle.asm_statement.specs.Directives.{shape_at, directive_shape, least, defines, is_instruction}
 use Rattle.asm_statement.specs.Statement.{noting, argument_cause, cause_in, after_noting, with_name, after_step, at_shape, within, argument_of, ended, ended_as, comma_behind, end_behind, complete, is_bare, takes_star, with_scope, argument_step}
 use Rattle.asm_statement.specs.Openings.{misplaced}
-use Rattle.asm_parse.specs.Refusals.{name_cause, takes_name, value_cause, in_argument}
+use Rattle.asm_parse.specs.Refusals.{name_cause, operand_cause, value_cause}
 use Rattle.asm_argument.proofs.Operands.{ok, allowed_ok, Spelled}
 use Rattle.asm_parse.proofs.Names.{named_in, name_step, is_finished_some, operand_next}
 use Rattle.asm_parse.proofs.Said.{stars, InArguments, sees_none}
 use Rattle.asm_parse.proofs.Tails.{percents, indexed, minuses, signs, frees, Tail, spelled_tail}
-use Rattle.asm_parse.proofs.Refusing.{operand_at, operand_ends, operand_err, operand_name, value_by, value_at, value_ends, is_cut, value_err, value_first, value_none, unbegun_err, missing_is, noting_cause, not_both}
+use Rattle.asm_parse.proofs.Refusing.{takes_name, operand_at, operand_ends, operand_err, operand_name, value_by, value_at, value_ends, is_cut, value_err, value_first, value_none, unbegun_err, missing_is, noting_cause, not_both}
 use Rattle.asm_parse.proofs.Quiet.{Answer}
 
 pub same_fault : (a c : SourceCause) → ◌≡◌ {A = Answer} (Err a) (Err c) → a ≡ c
 same_fault a c h = cc
+
+-- of a terminal in an argument
+abbrev in_argument : Head → List Argument → ScopeView → List Terminal → Terminal → SourceCause
+in_argument h done sc arg s = cond (is_instruction h) (operand_cause arg s) (value_cause h done sc arg s)
 
 -- ---- how a terminal is refused
 

@@ -19,7 +19,7 @@ use Rattle.asm_statement.specs.Reading.{Fault, placed, is_longer, ending_at, wit
 use Rattle.asm_argument.specs.Terminals.{terminal_of}
 use Rattle.asm_statement.specs.Running.{◌>>=◌}
 use Rattle.asm_parse.specs.Statements.{terminals}
-use Rattle.asm_parse.specs.Refusals.{Ending, IsBeginning, IsNoBeginning, StatementPlace, Reaches, percent_cause, behind_cause, first_name_cause, refused_cause, byte_cause}
+use Rattle.asm_parse.specs.Refusals.{Ending, IsBeginning, IsNoBeginning, StatementPlace, Reaches, percent_cause, behind_cause, refused_cause, byte_cause}
 use Rattle.asm_parse.proofs.Words.{read_words}
 use Rattle.asm_parse.proofs.Scopes.{GoodIn, fresh_good}
 use Rattle.asm_parse.proofs.Quiet.{Any, any_next, WordGoes, word_goes, Answer, doomed_is}
@@ -131,6 +131,9 @@ defining_some None h = absurd cc
 defining_some (Some k) h = refl
 
 -- of a name with which no statement begins
+abbrev pub first_name_cause : ScopeView → List ℕ → List Terminal → SourceCause
+first_name_cause sc n rest = refused_cause sc StatementPlace.first (terminal.Name n) rest
+
 name_pending : (sc : ScopeView) (b l : ℕ) (n : List ℕ) (c : SourceCause) → doom sc (state.Named b n) ≡ Some l → unwrap_or (pending sc (state.Named b n)) c ≡ first_name_cause sc n []
 name_pending sc b l n c d = by_test (is_unknown sc n) refl
   where

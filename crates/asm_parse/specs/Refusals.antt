@@ -1,6 +1,7 @@
 -- Why a source is refused, in the grammar's own words: apart from how it is read.
 use Rattle.std.specs.Prelude.{◌≡◌, ℕ, ◌+◌, ◌==◌, Bool, true, false, not, ◌&&◌, ◌||◌, is_none, List, [], ◌∷◌, ◌++◌, length, Option, Some, None, if◌then◌else◌}
 use Rattle.std.specs.List.{list_all}
+use Rattle.std.specs.Option.{option_map_or}
 use Rattle.asm_lex.specs.declared.bytes.Class.TheVariants as class
 use Rattle.asm_lex.specs.declared.token.TokenKind.{TokenKind}
 use Rattle.asm_lex.specs.declared.fault.SourceCause.{SourceCause}
@@ -155,22 +156,16 @@ operand_cause arg (terminal.Name n) =
     else cause.BadOperand
 operand_cause arg s = if is_percent (last_of arg) then cause.BadRegister else cause.BadOperand
 
-abbrev pub takes_name : Option Shape → Bool
-takes_name None = false
-takes_name (Some sh) = takes_names sh
-
 -- in an argument of a directive
 abbrev pub value_cause : Head → List Argument → ScopeView → List Terminal → Terminal → SourceCause
-value_cause h done sc [] (terminal.Name n) = if takes_name (shape_at h (length done)) then name_cause sc (defines h (length done)) n else cause.BadArgument
+value_cause h done sc [] (terminal.Name n) =
+    if option_map_or takes_names (shape_at h (length done)) false then name_cause sc (defines h (length done)) n else cause.BadArgument
 value_cause h done sc [] s = misplaced s
 value_cause h done sc (t ∷ ts) terminal.Big = cause.BadNumber
 value_cause h done sc (t ∷ ts) (terminal.Number n) = if is_minus (last_of (t ∷ ts)) then (if is_low n then cause.BadArgument else cause.BadNumber) else cause.BadOperand
 value_cause h done sc (t ∷ ts) terminal.Comma = if is_sign (last_of (t ∷ ts)) then cause.BadOperand else cause.BadArgument
 value_cause h done sc (t ∷ ts) terminal.End = if is_sign (last_of (t ∷ ts)) then cause.BadOperand else cause.BadArgument
 value_cause h done sc (t ∷ ts) s = cause.BadOperand
-
-abbrev pub in_argument : Head → List Argument → ScopeView → List Terminal → Terminal → SourceCause
-in_argument h done sc arg s = if is_instruction h then operand_cause arg s else value_cause h done sc arg s
 
 -- behind the name of a directive
 abbrev pub directive_cause : Option Directive → ScopeView → List ℕ → Terminal → SourceCause
@@ -189,7 +184,7 @@ named_cause sc n s =
 -- the cause of a word that is refused in this place
 abbrev pub cause_at : ScopeView → StatementPlace → Terminal → SourceCause
 cause_at sc (StatementPlace.named n) s = named_cause sc n s
-cause_at sc (StatementPlace.argument h done sc2 arg) s = in_argument h done sc2 arg s
+cause_at sc (StatementPlace.argument h done sc2 arg) s = if is_instruction h then operand_cause arg s else value_cause h done sc2 arg s
 cause_at sc _ s = other_cause s
 
 -- Where a `%` may not stand its own cause comes first: no register stands behind it.
@@ -204,14 +199,11 @@ abbrev pub behind_cause : ScopeView → StatementPlace → Terminal → List Ter
 behind_cause sc p terminal.Percent rest = percent_cause (cause_at sc p terminal.Percent) rest
 behind_cause sc p s rest = cause_at sc p s
 
--- a name with which no statement begins: by the terminal behind it, it is no label or no directive
-abbrev pub first_name_cause : ScopeView → List ℕ → List Terminal → SourceCause
-first_name_cause sc n [] = if is_none (directive_of n) then cause.UnknownDirective else cause.TooManySymbols
-first_name_cause sc n (s ∷ rest) = behind_cause sc (StatementPlace.named n) s rest
-
--- The cause of a word in this place that is refused, with these terminals behind it.
+-- The cause of a word in this place that is refused, with these terminals behind it. A name with which no statement begins is by the
+-- terminal behind it no label or no directive.
 abbrev pub refused_cause : ScopeView → StatementPlace → Terminal → List Terminal → SourceCause
-refused_cause sc StatementPlace.first (terminal.Name n) rest = first_name_cause sc n rest
+refused_cause sc StatementPlace.first (terminal.Name n) [] = if is_none (directive_of n) then cause.UnknownDirective else cause.TooManySymbols
+refused_cause sc StatementPlace.first (terminal.Name n) (s ∷ rest) = behind_cause sc (StatementPlace.named n) s rest
 refused_cause sc p s rest = behind_cause sc p s rest
 
 -- Where a byte can't go on with any token, what stands before may have an earlier cause: no register behind a `%`, or an unknown directive.

@@ -1,6 +1,6 @@
 -- What a source may say, by cases, and what each statement adds.
 use Rattle.std.specs.Prelude.{◌≡◌, ℕ, ◌+◌, nat_lt, Bool, true, false, List, [], ◌∷◌, ◌++◌, length, Option, Some, None}
-use Rattle.std.specs.List.{list_all}
+use Rattle.std.specs.List.{list_all, flat_map}
 use Rattle.asm_lex.specs.Words.{Word}
 use Rattle.asm_argument.specs.declared.terminal.Terminal.{Terminal}
 use Rattle.asm_argument.specs.declared.terminal.Terminal.TheVariants as terminal
@@ -115,8 +115,7 @@ terminals (w ∷ ws) = terminal_of w.kind w.bytes ∷ terminals ws
 
 -- the bytes of words
 abbrev pub text_of : List Word → List ℕ
-text_of [] = []
-text_of (w ∷ ws) = w.bytes ++ text_of ws
+text_of ws = flat_map (λ (w : Word). w.bytes) ws
 
 -- These words go on with a section's name from this place on: between them stands nothing.
 abbrev pub Touch : ℕ → List Word → Type 0
