@@ -27,18 +27,18 @@ use Rattle.asm_instruction.specs.declared.control.Control.{Control}
 use Rattle.asm_instruction.specs.declared.control.Control.TheVariants as control
 use Rattle.asm_instruction.specs.declared.system.System.TheVariants as system
 use Rattle.asm_instruction.specs.Names.{Table, found, ◌>>=◌}
-use Rattle.asm_instruction.specs.Condition.{condition}
+use Rattle.asm_instruction.specs.Condition.{conditions}
 use Rattle.asm_instruction.specs.Sizes.{agreed}
 use Rattle.asm_instruction.specs.Draft.{instruction, with_number, alone, nothing}
-use Rattle.asm_instruction.specs.Arithmetic.{two_operand_names, one_operand_names, of_one, one, arithmetic_draft}
+use Rattle.asm_instruction.specs.Arithmetic.{arithmetic_names, of_one, one, arithmetic_draft}
 use Rattle.asm_instruction.specs.Shift.{shift_names, shift_draft}
 use Rattle.asm_instruction.specs.Moves.{move_names, extend_names, move_draft}
 use Rattle.asm_instruction.specs.Stack.{stack_names, frame_names, stack_draft}
-use Rattle.asm_instruction.specs.Control.{branch_names, control_names, jump_name, set_name, behind_set, conditional_name, to_symbol, is_symbol, direct, return_of, returned, with_selector, far, with_condition, set, control_draft}
+use Rattle.asm_instruction.specs.Control.{branch_names, control_names, jump_name, set_name, behind_set, conditional_name, to_symbol, is_symbol, direct, return_of, with_selector, far, set, control_draft}
 use Rattle.asm_instruction.specs.Strings.{string_names, string_draft}
 use Rattle.asm_instruction.specs.Flags.{plain_names, plain_draft}
 use Rattle.asm_instruction.specs.System.{system_names, page_names, system_draft}
-use Rattle.asm_instruction.specs.Mnemonic.{exact_instruction, exact_name, sized_name, suffix, suffixed, with_suffix, without_suffix, known_name, by_family, repeated, drafted}
+use Rattle.asm_instruction.specs.Mnemonic.{exact_names, sized_names, suffix, suffixed, with_suffix, without_suffix, known_name, by_family, repeated, drafted}
 use Rattle.built_images.proofs.QuietDrafts.{IsQuiet, bound, quiet_arithmetic, quiet_instruction, quiet_moves, quiet_number, quiet_of_one, quiet_one, quiet_plain, quiet_shift, quiet_stack, quiet_string, quiet_system}
 
 -- ---- branches
@@ -88,8 +88,7 @@ quiet_return (operands.Starred a) = tt
 quiet_return (operands.Two a b) = tt
 quiet_return (operands.Three a b c) = tt
 
-quiet_returned : (t : Option Size) (os : Operands) → IsQuiet (returned t os)
-unfolding returned
+quiet_returned : (t : Option Size) (os : Operands) → IsQuiet (agreed t (Some size.Long) None >>= λ s. return_of os)
 quiet_returned t os = bound (agreed t (Some size.Long) None) _ (λ s. quiet_return os)
 
 quiet_far : (a b : Number) → IsQuiet (far a b)
@@ -99,7 +98,7 @@ quiet_far a b = by_name a.named where
   by_name true = tt
   by_name false = refl
 
-quiet_condition : (d : Option Draft) (c : ℕ) → IsQuiet d → IsQuiet (d >>= λ x. Some (with_condition x c))
+quiet_condition : (d : Option Draft) (c : ℕ) → IsQuiet d → IsQuiet (d >>= λ x. Some (record x { insn = record x.insn { sel = c } }))
 quiet_condition None c h = tt
 quiet_condition (Some d) c h = h
 
@@ -114,7 +113,7 @@ sound_control (control.Branch o i) t (operands.Starred g) h = sound (operands.St
 sound_control (control.Conditional c) t (operands.One g) h = sound_direct op.Jcc c t g
 sound_control (control.Set c) t (operands.One g) h = sound (operands.One g) (set c g) (quiet_set c g)
 sound_control control.Interrupt t (operands.One (given.Immediate n)) h = sound (operands.One (given.Immediate n)) (Some (with_number (alone op.Int) size.Byte n)) (quiet_number op.Int size.Long nothing nothing size.Byte n refl)
-sound_control control.Return t os h = sound os (returned t os) (quiet_returned t os)
+sound_control control.Return t os h = sound os (agreed t (Some size.Long) None >>= λ s. return_of os) (quiet_returned t os)
 sound_control control.FarJump t (operands.Two (given.Immediate a) (given.Immediate b)) h = sound (operands.Two (given.Immediate a) (given.Immediate b)) (far a b) (quiet_far a b)
 sound_control _ t _ h = tt
 
@@ -189,7 +188,7 @@ set_fine (a ∷ []) = tt
 set_fine (a ∷ b ∷ []) = tt
 set_fine (a ∷ b ∷ c ∷ rest) = by_name ((a == 115) && (b == 101) && (c == 116)) where
   by_name : (x : Bool) → AllFine (cond x (set_name rest) None)
-  by_name true = named_fine (condition rest) (λ n. family.Control (control.Set n)) (λ n. refl)
+  by_name true = named_fine (found conditions rest) (λ n. family.Control (control.Set n)) (λ n. refl)
   by_name false = tt
 
 conditional_fine : (name : List ℕ) → AllFine (conditional_name name)
@@ -197,20 +196,16 @@ unfolding conditional_name
 conditional_fine [] = tt
 conditional_fine (c ∷ rest) = by_name (c == 106) where
   by_name : (x : Bool) → AllFine (cond x (jump_name rest) (behind_set (c ∷ rest)))
-  by_name true = named_fine (condition rest) (λ n. family.Control (control.Conditional n)) (λ n. refl)
+  by_name true = named_fine (found conditions rest) (λ n. family.Control (control.Conditional n)) (λ n. refl)
   by_name false = set_fine (c ∷ rest)
 
-exact_fine : (name : List ℕ) → AllFine (exact_name name)
-unfolding exact_name exact_instruction plain_names frame_names extend_names string_names page_names control_names
-exact_fine name =
-    or_fine _ _ (or_fine _ _ (or_fine _ _ (found_fine plain_names name refl) (found_fine frame_names name refl)) (or_fine _ _ (found_fine extend_names name refl) (found_fine string_names name refl)))
-    (or_fine _ _ (or_fine _ _ (found_fine page_names name refl) (found_fine control_names name refl)) (conditional_fine name))
+exact_fine : (name : List ℕ) → AllFine (found exact_names name)
+unfolding exact_names plain_names frame_names extend_names string_names page_names control_names
+exact_fine name = found_fine exact_names name refl
 
-sized_fine : (name : List ℕ) → AllFine (sized_name name)
-unfolding sized_name two_operand_names one_operand_names shift_names move_names stack_names branch_names system_names
-sized_fine name =
-    or_fine _ _ (or_fine _ _ (or_fine _ _ (found_fine two_operand_names name refl) (found_fine one_operand_names name refl)) (or_fine _ _ (found_fine shift_names name refl) (found_fine move_names name refl)))
-    (or_fine _ _ (or_fine _ _ (found_fine stack_names name refl) (found_fine branch_names name refl)) (found_fine system_names name refl))
+sized_fine : (name : List ℕ) → AllFine (found sized_names name)
+unfolding sized_names arithmetic_names shift_names move_names stack_names branch_names system_names
+sized_fine name = found_fine sized_names name refl
 
 abbrev MnemonicFine : Option Mnemonic → Type 0
 MnemonicFine None = Unit {0}
@@ -218,7 +213,7 @@ MnemonicFine (Some m) = is_fine m.family ≡ true
 
 suffixed_fine : (front : List ℕ) (letter : ℕ) → MnemonicFine (suffixed front letter)
 unfolding suffixed
-suffixed_fine front letter = by_family_of (sized_name front) (suffix letter) (sized_fine front) where
+suffixed_fine front letter = by_family_of (found sized_names front) (suffix letter) (sized_fine front) where
   by_family_of : (f : Option Family) (s : Option Size) → AllFine f → MnemonicFine (f >>= λ x. s >>= λ y. Some (record { family = x; suffix = Some y }))
   by_family_of None s h = tt
   by_family_of (Some f) None h = tt
@@ -237,7 +232,9 @@ without_fine None m h k = k
 
 known_fine : (name : List ℕ) → MnemonicFine (known_name name)
 unfolding known_name
-known_fine name = without_fine (option_or (exact_name name) (sized_name name)) (with_suffix name) (or_fine _ _ (exact_fine name) (sized_fine name)) (with_suffix_fine name)
+known_fine name =
+    without_fine (option_or (found exact_names name) (option_or (conditional_name name) (found sized_names name))) (with_suffix name)
+    (or_fine _ _ (exact_fine name) (or_fine _ _ (conditional_fine name) (sized_fine name))) (with_suffix_fine name)
 
 fine_is : (o : Option Mnemonic) (m : Mnemonic) → o ≡ Some m → MnemonicFine o → is_fine m.family ≡ true
 fine_is None m e h = absurd cc

@@ -29,13 +29,13 @@ use Rattle.asm_instruction.specs.declared.system.System.TheVariants as system
 use Rattle.asm_instruction.specs.Names.{◌>>=◌}
 use Rattle.asm_instruction.specs.Sizes.{agreed}
 use Rattle.asm_instruction.specs.Draft.{register_operand, register_or_memory, said, paired, instruction, with_number, nothing, of_operand, memory}
-use Rattle.asm_instruction.specs.Arithmetic.{of_pair, memory_first, of_two, two, of_one, one, to_register, multiplied, product, arithmetic_draft}
+use Rattle.asm_instruction.specs.Arithmetic.{of_pair, memory_first, of_two, two, of_one, one, to_register, arithmetic_draft}
 use Rattle.asm_instruction.specs.Shift.{by_register, shift_draft}
-use Rattle.asm_instruction.specs.Moves.{special, from_special, to_special, moved, extended, effective, with_register, exchange, exchanged, move_of, move_draft}
-use Rattle.asm_instruction.specs.Stack.{of_segment, of_number, pushed, popped, stack_draft}
+use Rattle.asm_instruction.specs.Moves.{special, from_special, to_special, moved, extended, effective, with_register, exchange, move_draft}
+use Rattle.asm_instruction.specs.Stack.{of_segment, pushed, popped, stack_draft}
 use Rattle.asm_instruction.specs.Strings.{string_draft}
 use Rattle.asm_instruction.specs.Flags.{plain_draft}
-use Rattle.asm_instruction.specs.System.{through, ported, of_memory, task, system_draft}
+use Rattle.asm_instruction.specs.System.{through, ported, task, system_draft}
 
 -- ---- what is drafted is no branch
 
@@ -85,7 +85,7 @@ quiet_with None t n h = tt
 quiet_with (Some d) t n h = h
 
 pub quiet_arithmetic : (k : Arithmetic) (t : Option Size) (os : Operands) → (arithmetic_ok : (o : Op) → (k ≡ arithmetic.Two o) ⊎ (k ≡ arithmetic.One o) → is_direct_branch o ≡ false) → IsQuiet (arithmetic_draft k t os)
-unfolding arithmetic_draft of_two product multiplied
+unfolding arithmetic_draft of_two
 quiet_arithmetic (arithmetic.Two o) t (operands.Two a b) h = bound (paired a b) _ (λ p. bound (agreed t (said a) (said b)) _ (λ s. quiet_pair o s p (h o (inl refl))))
 quiet_arithmetic arithmetic.Test t (operands.Two a b) h = bound (paired a b) _ (λ p. bound (agreed t (said a) (said b)) _ (λ s. quiet_memory s p))
 quiet_arithmetic (arithmetic.One o) t (operands.One g) h = quiet_one o t g (h o (inr refl))
@@ -169,23 +169,17 @@ quiet_exchange s (pair.Immediate n place) = tt
 quiet_exchange s (pair.FromRegister n place) = quiet_with_register s n place place.operand
 quiet_exchange s (pair.FromMemory place n) = quiet_instruction op.Xchg s place (register_operand n) refl
 
-quiet_exchanged : (t : Option Size) (a b : Given) → IsQuiet (exchanged t a b)
+quiet_exchanged : (t : Option Size) (a b : Given) → IsQuiet (of_two exchange t a b)
 unfolding of_two
 quiet_exchanged t a b = bound (paired a b) _ (λ p. bound (agreed t (said a) (said b)) _ (λ s. quiet_exchange s p))
 
-quiet_move : (k : Moves) (t : Option Size) (a b : Given) → ((o : Op) (s : Size) → k ≡ moves.Extend o s → is_direct_branch o ≡ false) → IsQuiet (move_of k t a b)
-quiet_move moves.Move t a b h = quiet_to_special t a b
-quiet_move (moves.Extend o s) t a b h = quiet_extended o s a b (h o s refl)
-quiet_move moves.Lea t a b h = quiet_effective t a b
-quiet_move moves.Exchange t a b h = quiet_exchanged t a b
-
 pub quiet_moves : (k : Moves) (t : Option Size) (os : Operands) → ((o : Op) (s : Size) → k ≡ moves.Extend o s → is_direct_branch o ≡ false) → IsQuiet (move_draft k t os)
 unfolding move_draft
-quiet_moves k t (operands.Two a b) h = quiet_move k t a b h
-quiet_moves k t operands.Nothing h = tt
-quiet_moves k t (operands.One a) h = tt
-quiet_moves k t (operands.Starred a) h = tt
-quiet_moves k t (operands.Three a b c) h = tt
+quiet_moves moves.Move t (operands.Two a b) h = quiet_to_special t a b
+quiet_moves (moves.Extend o s) t (operands.Two a b) h = quiet_extended o s a b (h o s refl)
+quiet_moves moves.Lea t (operands.Two a b) h = quiet_effective t a b
+quiet_moves moves.Exchange t (operands.Two a b) h = quiet_exchanged t a b
+quiet_moves _ t _ h = tt
 
 -- ---- the stack
 
@@ -193,13 +187,9 @@ quiet_of_segment : (o : Op) (t : Option Size) (x : Seg) → is_direct_branch o �
 unfolding of_segment
 quiet_of_segment o t x e = bound (agreed t None (Some size.Long)) _ (λ s. quiet_instruction o s (of_operand (operand.Segment x)) nothing e)
 
-quiet_of_number : (t : Option Size) (n : Number) → IsQuiet (of_number t n)
-unfolding of_number
-quiet_of_number t n = bound (agreed t (Some size.Long) None) _ (λ s. quiet_number op.Push size.Long nothing nothing s n refl)
-
 quiet_pushed : (t : Option Size) (g : Given) → IsQuiet (pushed t g)
 unfolding pushed
-quiet_pushed t (given.Immediate n) = quiet_of_number t n
+quiet_pushed t (given.Immediate n) = bound (agreed t (Some size.Long) None) _ (λ s. quiet_number op.Push size.Long nothing nothing s n refl)
 quiet_pushed t (given.Segment x) = quiet_of_segment op.PushSeg t x refl
 quiet_pushed t g = quiet_of_one (Some size.Long) op.Push t g refl
 
@@ -249,11 +239,6 @@ unfolding ported
 quiet_ported o t p (given.Register u n) e = quiet_if (n == 0) (agreed t (Some u) None >>= λ s. through o s p) (bound (agreed t (Some u) None) _ (λ s. quiet_through o s p e))
 quiet_ported o t p _ e = tt
 
-quiet_of_memory : (o : Op) (t : Option Size) (g : Given) → is_direct_branch o ≡ false → IsQuiet (of_memory o t g)
-unfolding of_memory
-quiet_of_memory o t (given.Memory m) e = bound (agreed t (Some size.Long) None) _ (λ s. quiet_instruction o s (memory m) nothing e)
-quiet_of_memory o t _ e = tt
-
 quiet_task : (t : Option Size) (g : Given) → IsQuiet (task t g)
 unfolding task
 quiet_task t g = bound (register_or_memory g) _ (λ place. bound (agreed t (said g) (Some size.Word)) _ (λ s. quiet_instruction op.LoadTask size.Long place nothing refl))
@@ -262,6 +247,6 @@ pub quiet_system : (k : System) (t : Option Size) (os : Operands) → ((o : Op) 
 unfolding system_draft
 quiet_system system.In t (operands.Two p to) h = quiet_ported op.PortIn t p to refl
 quiet_system system.Out t (operands.Two from p) h = quiet_ported op.PortOut t p from refl
-quiet_system (system.Memory o) t (operands.One g) h = quiet_of_memory o t g (h o refl)
+quiet_system (system.Memory o) t (operands.One (given.Memory m)) h = bound (agreed t (Some size.Long) None) _ (λ s. quiet_instruction o s (memory m) nothing (h o refl))
 quiet_system system.LoadTask t (operands.One g) h = quiet_task t g
 quiet_system _ t _ h = tt
