@@ -1,19 +1,27 @@
 //! The names of a source.
 
 ghost use Rattle.std.specs.Prelude.{◌≡◌, fold, IfOk, OnOk};
-ghost use Rattle.asm_source.specs.Names.{added, argument_names, body_names, names_in};
+ghost use Rattle.std.specs.Option.{option_to_list};
+ghost use Rattle.asm_source.specs.Names.{added, argument_names, body_names, names_in, symbol_in};
 
 use crate::argument::symbol_in;
 use asm_source::{Argument, Body, Names, Source};
 use std::alloc::{AllocError, Global};
 
+fn add_argument(alloc: Global, names: &mut Names, argument: &Argument) -> Result<(), AllocError>
+    ensures { OnOk result (names.new ≡ fold added names.old (option_to_list (symbol_in argument.now.form))) }
+{
+    match symbol_in(argument) {
+        None => Ok(()),
+        Some(name) => names.add(alloc, &name.bytes),
+    }
+}
+
 fn add_arguments(alloc: Global, names: &mut Names, arguments: &[Argument]) -> Result<(), AllocError>
     ensures { OnOk result (names.new ≡ fold added names.old (argument_names arguments.now)) }
 {
     for argument in arguments {
-        if let Some(name) = symbol_in(argument) {
-            names.add(alloc, &name.bytes)?;
-        }
+        add_argument(alloc, names, argument)?;
     }
     Ok(())
 }
