@@ -4,10 +4,9 @@ use Rattle.std.proofs.lemmas.List.{length-drop, length-take-le, nil_from_length,
 use Rattle.asm_lex.specs.declared.fault.SourceFault.{SourceFault}
 use Rattle.asm_lex.specs.declared.token.Token.{Token}
 use Rattle.asm_lex.specs.declared.machine.Mode.{Mode}
-use Rattle.asm_lex.specs.declared.machine.Stepped.{Stepped}
 use Rattle.asm_lex.specs.Machine.{stepped, start_of}
 use Rattle.asm_lex.specs.Words.{line_after}
-use Rattle.asm_lex.specs.Readers.{Fits, ReadsTo}
+use Rattle.asm_lex.specs.Readers.{Fits, Takes, ReadsTo}
 use Rattle.asm_lex.proofs.Stepping.{FitsIn, sound}
 
 fits_is : (seen : List ℕ) (n : ℕ) (t : Option Token) → length seen ≡ n → FitsIn n t → Fits seen t
@@ -23,7 +22,7 @@ fits_first source m i line b lt h = fits_is (take (i + 1) source) (i + 1) _ (see
 pub fits_second : (source : List ℕ) (m : Mode) (i line b : ℕ) → i < length source → start_of m i ≤ i → Fits (take (i + 1) source) (stepped m i line b).second
 fits_second source m i line b lt h = fits_is (take (i + 1) source) (i + 1) _ (seen_len source i lt) (sound m i line b h).second
 
-module _ {R : Type 0} (takes : R → List ℕ → ℕ → Stepped → Result (R × Mode) SourceFault → Type 0) where
+module _ {R : Type 0} (takes : Takes R) where
   goes_one : (r s : R) (m n : Mode) (seen seen2 : List ℕ) (at line b : ℕ) (bs text : List ℕ) (result : Result (R × Mode) SourceFault) → seen2 ≡ seen ++ b ∷ [] → text ≡ b ∷ bs
       → takes r seen2 line (stepped m at line b) (Ok (s, n)) → ReadsTo takes s n seen2 (at + 1) (line_after line b) bs result → ReadsTo takes r m seen at line text result
   goes_one r s m n seen seen2 at line b bs text result e f h k =

@@ -16,8 +16,12 @@ abbrev pub Fits : List ℕ → Option Token → Type 0
 Fits seen None = Unit {0}
 Fits seen (Some t) = t.at + t.len ≤ length seen
 
+-- what one byte comes to, by the reader, the bytes up to and including it, its line, and what it does
+abbrev pub Takes : Type 0 → Type 1
+Takes R = R → List ℕ → ℕ → Stepped → Result (R × Mode) SourceFault → Type 0
+
 -- Byte by byte, up to the first fault: `seen` are the bytes before, `at` is their number, and `line` is that of the next.
-abbrev pub ReadsTo : {R : Type 0} → (R → List ℕ → ℕ → Stepped → Result (R × Mode) SourceFault → Type 0) → R → Mode → List ℕ → ℕ → ℕ → List ℕ → Result (R × Mode) SourceFault → Type 0
+abbrev pub ReadsTo : {R : Type 0} → Takes R → R → Mode → List ℕ → ℕ → ℕ → List ℕ → Result (R × Mode) SourceFault → Type 0
 ReadsTo takes r m seen at line [] result = result ≡ Ok (r, m)
 ReadsTo {R} takes r m seen at line (b ∷ bs) result =
     (x : Result (R × Mode) SourceFault) × takes r (seen ++ b ∷ []) line (stepped m at line b) x × (elim x [
