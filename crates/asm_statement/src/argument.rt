@@ -79,9 +79,10 @@ pub fn noting(alloc: Global, scope: &mut Scope, defined: bool, name: &Name) -> R
         return Err(StepFault::Cause(SourceCause::TooManySymbols));
     }
     scope.note(alloc, name)?;
-    if defined {
-        scope.define(alloc, name)?;
+    if !defined {
+        return Ok(());
     }
+    scope.define(alloc, name)?;
     Ok(())
 }
 

@@ -47,17 +47,31 @@ pub fn shape_at(head: &Head, index: usize) -> Option<Shape>
 fn directive_shape(kind: Directive, index: usize) -> Option<Shape>
     ensures { result ≡ spec.directive_shape kind index }
 {
-    match (kind, index) {
-        (Directive::Bytes, _) => Some(Shape::Number),
-        (Directive::Longs, _) => Some(Shape::Value),
-        (Directive::Strings, _) => Some(Shape::Text),
-        (Directive::Global | Directive::Common | Directive::LocalCommon, 0) => Some(Shape::Name),
-        (Directive::Common | Directive::LocalCommon, 1) => Some(Shape::Count),
-        (Directive::Zero, 0) | (Directive::Powered, 2) => Some(Shape::Count),
-        (Directive::Aligned, 0) | (Directive::Common, 2) => Some(Shape::Alignment),
-        (Directive::Powered, 0) => Some(Shape::Power),
-        (Directive::Powered, 1) => Some(Shape::Fill),
-        _ => None,
+    match kind {
+        Directive::Bytes => Some(Shape::Number),
+        Directive::Longs => Some(Shape::Value),
+        Directive::Strings => Some(Shape::Text),
+        Directive::Global => (index == 0).then_some(Shape::Name),
+        Directive::Zero => (index == 0).then_some(Shape::Count),
+        Directive::Aligned => (index == 0).then_some(Shape::Alignment),
+        Directive::Powered => match index {
+            0 => Some(Shape::Power),
+            1 => Some(Shape::Fill),
+            2 => Some(Shape::Count),
+            _ => None,
+        },
+        Directive::Common => match index {
+            0 => Some(Shape::Name),
+            1 => Some(Shape::Count),
+            2 => Some(Shape::Alignment),
+            _ => None,
+        },
+        Directive::LocalCommon => match index {
+            0 => Some(Shape::Name),
+            1 => Some(Shape::Count),
+            _ => None,
+        },
+        Directive::Plain | Directive::Section | Directive::Skipped => None,
     }
 }
 
@@ -125,30 +139,14 @@ fn family(directive: DirectiveName) -> Directive
     }
 }
 
-/// The family of the directive of this name.
-#[tactic(auto, unfolding(crate::specs::Directives::directive_of))]
-fn directive_of(name: &[u8]) -> Option<Directive>
-    ensures { result ≡ spec.directive_of name.now }
-{
-    match directive_name(name) {
-        Some(directive) => Some(family(directive)),
-        None => None,
-    }
-}
-
 /// What the arguments of the directive of this name are, its dot included. None where no directive has the name.
+#[tactic(auto, unfolding(crate::specs::Directives::directive_of))]
 pub fn directive_named(name: &Name) -> Option<Directive>
     ensures { result ≡ spec.directive_of name.now }
 {
-    directive_of(&name.bytes)
-}
-
-fn begins_with_dot(name: &[u8]) -> bool
-    ensures { result ≡ spec.is_dotted name.now }
-{
-    match name {
-        [first, ..] => *first == b'.',
-        [] => false,
+    match directive_name(&name.bytes) {
+        Some(directive) => Some(family(directive)),
+        None => None,
     }
 }
 
@@ -156,7 +154,10 @@ fn begins_with_dot(name: &[u8]) -> bool
 pub fn is_dotted(name: &Name) -> bool
     ensures { result ≡ spec.is_dotted name.now }
 {
-    begins_with_dot(&name.bytes)
+    match name.bytes.as_slice() {
+        [first, ..] => *first == b'.',
+        [] => false,
+    }
 }
 
 #[tactic(auto, unfolding(crate::specs::Directives::is_known))]
@@ -169,28 +170,23 @@ fn is_known(name: &[u8]) -> bool
         || begins(name, b".data")
 }
 
-#[tactic(auto, unfolding(crate::specs::Directives::is_unread))]
-fn is_unread(name: &[u8]) -> bool
-    ensures { result ≡ spec.is_unread name.now }
-{
-    begins(name, b".note")
-        || begins(name, b".comment")
-        || begins(name, b".debug")
-        || begins(name, b".eh_frame")
-}
-
 /// Whether `.section` may name it, to be read or to be skipped.
 pub fn is_section(name: &Name) -> bool
     ensures { result ≡ spec.is_section name.now }
 {
-    is_known(&name.bytes) || is_unread(&name.bytes)
+    is_known(&name.bytes) || is_skipped_section(name)
 }
 
 /// Whether what stands in the section is skipped: notes, comments, debug lines and unwind tables (profile).
+#[tactic(auto, unfolding(crate::specs::Directives::is_unread))]
 pub fn is_skipped_section(name: &Name) -> bool
     ensures { result ≡ spec.is_unread name.now }
 {
-    is_unread(&name.bytes)
+    let name = name.bytes.as_slice();
+    begins(name, b".note")
+        || begins(name, b".comment")
+        || begins(name, b".debug")
+        || begins(name, b".eh_frame")
 }
 
 fn is_change(directive: Option<Directive>) -> bool
