@@ -17,7 +17,7 @@ use ia32_types::{Insn, same_insn};
 use thiserror::Error;
 
 /// Which fields name a symbol, and so have four bytes.
-#[derive(Clone, Copy, PartialEq, Eq)]
+#[derive(Clone, Copy)]
 pub struct Wide {
     pub disp: bool,
     pub imm: bool,

@@ -10,7 +10,7 @@ use crate::stack::pushed_number;
 use ia32_types::{Insn, Operand, Regs, Seg, Size, Stop};
 
 /// What the segment registers show.
-#[derive(Clone, Copy, PartialEq, Eq)]
+#[derive(Clone, Copy)]
 pub struct Selectors {
     pub es: u16,
     pub cs: u16,
