@@ -53,7 +53,8 @@ is_empty (b ∷ rest) = false
 unfoldable pub event_of : List ℕ → List ℕ → List ℕ → Result (ℕ × Event) ScriptCause
 event_of step kind value =
     if is_empty step || is_empty value then Err NoForm
-    else if bytes_eq kind (codes "rx") then ok_or (option_zip (number_upto max_step step) (option_map Rx (hex_byte value))) BadNumber
+    else if bytes_eq kind (codes "rx") then
+    ok_or (option_zip (number_upto max_step step) (option_map Rx (hex_byte value))) BadNumber
     else if bytes_eq kind (codes "line") then
     ok_or (option_zip (number_upto max_step step) (option_map Line (free_line_of (number_upto 15 value)))) BadNumber
     else Err NoForm

@@ -66,22 +66,14 @@ written r port v =
     else if port == 0x3FF then (Done, record r { scratch = v })
     else (Done, r)
 
--- reads, by register
-
--- offset 0: the receiver buffer register, which is the oldest byte, or 0 where there is none
-abbrev pub data_read : Registers → ℕ
-data_read r = if divisor_latch_access r then r.divisor_latch_low else slice_index r.kept 0
-
-abbrev pub interrupt_enable_read : Registers → ℕ
-interrupt_enable_read r = if divisor_latch_access r then r.divisor_latch_high else (if r.interrupt_enable then 1 else 0)
-
--- offset 2, the interrupt identification register: 4 says that received data is there, and 1 that nothing asks for an
--- interrupt. Offset 5, the line status register: the transmitter is always empty. Offset 6, the modem status register:
--- carrier detect, data set ready and clear to send are always there. A port that isn't this one's reads all ones
+-- Reads, by register. Offset 0, the receiver buffer register: the oldest byte, or 0 where there is none. Offset 2, the
+-- interrupt identification register: 4 says that received data is there, and 1 that nothing asks for an interrupt.
+-- Offset 5, the line status register: the transmitter is always empty. Offset 6, the modem status register: carrier
+-- detect, data set ready and clear to send are always there. A port that isn't this one's reads all ones
 unfoldable pub read_at : Registers → ℕ → ℕ
 read_at r port =
-    if port == 0x3F8 then data_read r
-    else if port == 0x3F9 then interrupt_enable_read r
+    if port == 0x3F8 then (if divisor_latch_access r then r.divisor_latch_low else slice_index r.kept 0)
+    else if port == 0x3F9 then (if divisor_latch_access r then r.divisor_latch_high else (if r.interrupt_enable then 1 else 0))
     else if port == 0x3FA then (if interrupt_line r then 4 else 1)
     else if port == 0x3FB then r.line_control
     else if port == 0x3FC then r.modem_control
