@@ -1,6 +1,6 @@
 -- Reading and writing choices are inverse to each other.
 use Rattle.std.proofs.Common.{◌≡◌, ℕ, zero, suc, ◌+◌, ◌<◌, ◌≤◌, ◌^◌, Bool, true, false, eqb, ltb, List, [], ◌∷◌, ◌++◌, length, take, drop, Option, Some, None, Ok, Err, Result, refl, sym, ap, ◌∙◌, subst, arith, eq-eqb, append_assoc}
-use Rattle.std.specs.Prelude.{not, ◌&&◌, ◌||◌, nat_lt, IfOk}
+use Rattle.std.specs.Prelude.{not, ◌&&◌, ◌||◌, nat_le, nat_lt, IfOk}
 use Rattle.std.specs.Bool.{then_some}
 use Rattle.std.specs.List.{flat_map}
 use Rattle.std.specs.Int.{w32, w64, to_le_bytes, from_le_bytes}
@@ -287,13 +287,14 @@ head_was bytes e =
     let d0 = or_parts (differs bytes 0 80 || differs bytes 1 86 || differs bytes 2 84) (differs bytes 3 49) other in
     let d1 = or_parts (differs bytes 0 80 || differs bytes 1 86) (differs bytes 2 84) d0.0 in
     let d2 = or_parts (differs bytes 0 80) (differs bytes 1 86) d1.0 in
-    let b0 = same_byte bytes 0 80 (omega arith) d2.0 in
-    let b1 = same_byte bytes 1 86 (omega arith) d2.1 in
-    let b2 = same_byte bytes 2 84 (omega arith) d1.1 in
-    let b3 = same_byte bytes 3 49 (omega arith) d0.1 in
+    let there : (k : ℕ) → nat_le k 8 ≡ true → k ≤ length bytes = λ k near. omega (arith, leb-true k 8 near, room) in
+    let b0 = same_byte bytes 0 80 (there 1 refl) d2.0 in
+    let b1 = same_byte bytes 1 86 (there 2 refl) d2.1 in
+    let b2 = same_byte bytes 2 84 (there 3 refl) d1.1 in
+    let b3 = same_byte bytes 3 49 (there 4 refl) d0.1 in
     record {
       room = room;
-      front = part-four bytes 0 (omega arith) ∙ rw (b0, b1, b2, b3) refl;
+      front = part-four bytes 0 (there 4 refl) ∙ rw (b0, b1, b2, b3) refl;
       few = ltb-false _ _ (second_false (reaches bytes 8) (nat_lt most_choices (word32 bytes 4)) (le-leb _ _ room) (then_none (counts_too_many bytes) 4 n1.0));
     }
 
