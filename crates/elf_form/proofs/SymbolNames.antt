@@ -2,8 +2,7 @@
 use Rattle.std.proofs.Common.{◌≡◌, ℕ, zero, suc, ◌+◌, ◌≤◌, ◌<◌, List, [], ◌∷◌, ◌++◌, length, cond, get_or, take, replicate, Option, Some, None, sym, ap, ◌∙◌, arith, append_assoc, below_more}
 use Rattle.std.specs.Prelude.{fold, filter, is_some, Bool, true, false}
 use Rattle.std.specs.List.{flat_map}
-use Rattle.std.proofs.lemmas.List.{length-append, take_more, append-nil}
-use Rattle.std.proofs.lemmas.List.{get_or_default}
+use Rattle.std.proofs.lemmas.List.{length-append, take_more, append-nil, get_or_default}
 use Rattle.std.proofs.lemmas.List.Sums.{fold_more, position_or_len_is}
 use Rattle.elf_form.specs.declared.object.Place.TheVariants.{Undefined}
 use Rattle.std.proofs.lemmas.List.Elements.{filter_more}

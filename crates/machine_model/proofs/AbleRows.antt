@@ -16,7 +16,7 @@ use Rattle.ia32_exec.specs.Stack.{taken}
 use Rattle.ia32_exec.specs.Effect.{effect, ranges_of}
 use Rattle.ia32_exec.specs.FlagsAfter.{AreKept, Leaves, InsensitiveStay}
 use Rattle.descriptors.specs.Form.{descriptor_of, other_descriptor, is_data, is_of_system, is_foreign_form, dpl_of}
-use Rattle.descriptors.specs.Controls.{pse_of}
+use Rattle.descriptors.specs.Controls.{pse_of, control_0_needed, control_0_refused, control_3_refused}
 use Rattle.descriptors.specs.declared.cpu.Cpu.{Cpu}
 use Rattle.descriptors.specs.declared.cpu.Hidden.{Hidden}
 use Rattle.descriptors.specs.declared.form.Descriptor.{Descriptor}
@@ -39,7 +39,6 @@ use Rattle.sys_exec.specs.declared.iret.Popped.{Popped}
 use Rattle.sys_exec.specs.Operand.{protection_0, kernel_alone, selector, selector_in, operand_reached, long_of, pulled, pushed, past, past_pop, next}
 use Rattle.sys_exec.specs.Segment.{protection, form_stop, absent, loading, ends_if, selected, marked, load_data, load_task, stack_tests, jump_tests, return_tests, find_stack, find_return, find_jump}
 use Rattle.sys_exec.specs.Iret.{is_within, with_interrupt, new_flags, kept_segment, popped, popped_outer, return_same, return_outer, interrupt_return}
-use Rattle.descriptors.specs.Controls.{control_0_needed, control_0_refused, control_3_refused}
 use Rattle.sys_exec.specs.Control.{control_stop, changes_pse, control_of, load_control, write_control, read_control}
 use Rattle.sys_exec.specs.Flags.{with_flags, clear_interrupts, set_interrupts, halt, push_flags, pop_flags}
 use Rattle.sys_exec.specs.Table.{table_at, load_gdt, load_idt, load_tr, drop_at, dropped, drop_page}

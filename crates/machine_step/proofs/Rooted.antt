@@ -15,7 +15,7 @@ use Rattle.ia32_exec.specs.declared.outcome.Outcome.TheVariants as outcomes
 use Rattle.ia32_exec.specs.Registers.{address_of}
 use Rattle.ia32_exec.specs.Effect.{effect, ranges_of}
 use Rattle.descriptors.specs.Access.{mark}
-use Rattle.descriptors.specs.Controls.{pse_of}
+use Rattle.descriptors.specs.Controls.{pse_of, control_0_needed, control_0_refused, control_3_refused}
 use Rattle.descriptors.specs.declared.cpu.Cpu.{Cpu}
 use Rattle.event_entry.specs.declared.refusal.Kind.{Kind}
 use Rattle.event_entry.specs.declared.refusal.NotDelivered.{NotDelivered}
@@ -35,7 +35,6 @@ use Rattle.sys_exec.specs.declared.iret.Popped.{Popped}
 use Rattle.sys_exec.specs.Operand.{protection_0, kernel_alone, selector, selector_in, operand_reached, long_of, pulled, pushed, past, past_pop, reg_at, next}
 use Rattle.sys_exec.specs.Segment.{marked, load_data, load_task, find_stack, find_return, find_jump}
 use Rattle.sys_exec.specs.Iret.{is_within, popped, popped_outer, return_same, return_outer, interrupt_return}
-use Rattle.descriptors.specs.Controls.{control_0_needed, control_0_refused, control_3_refused}
 use Rattle.sys_exec.specs.Control.{control_stop, changes_pse, control_of, load_control, write_control, read_control}
 use Rattle.sys_exec.specs.Flags.{clear_interrupts, set_interrupts, halt, push_flags, pop_flags}
 use Rattle.sys_exec.specs.Table.{table_at, load_gdt, load_idt, load_tr, drop_at, dropped, drop_page}

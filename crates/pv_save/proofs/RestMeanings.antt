@@ -30,10 +30,9 @@ use Rattle.pv_build.specs.Statuses.{status_of}
 use Rattle.pv_build.specs.declared.status.Status.{Status}
 use Rattle.pv_build.specs.declared.status.Status.TheVariants as status
 use Rattle.pv_tasks.specs.Outside.{Outside}
-use Rattle.pv_tasks.specs.Outcome.{Outcome, refused, told}
+use Rattle.pv_tasks.specs.Outcome.{Outcome, refused, told, HostDid}
 use Rattle.pv_tasks.specs.Delivery.{Delivers, Stored, NotStored, NoMemory}
 use Rattle.pv_save.specs.Leaving.{LeavesAs}
-use Rattle.pv_tasks.specs.Outcome.{HostDid}
 use Rattle.pv_save.specs.Resting.{PrintsLines}
 use Rattle.pv_save.specs.Saving.{SavesRun, Rested as Rest, Stopped as Stop, RestsText, steps_on, saved_as}
 use Rattle.pv_tasks.specs.Tasks.{Task, Means, HostDoes, TakesFirst, NoStore, NoPut, IsStored}

@@ -1,21 +1,18 @@
 -- What is kept for a page, in words.
-use Rattle.std.proofs.Common.{◌≡◌, ℕ, ◌^◌, ◌<◌, List, [], ◌∷◌, Bool, true, false, not, ◌&&◌, Option, Some, None, refl, sym, ap, ◌∙◌, subst}
+use Rattle.std.proofs.Common.{◌≡◌, ℕ, ◌^◌, ◌<◌, List, [], ◌∷◌, Bool, true, false, not, ◌&&◌, Option, Some, None, refl, sym, ap, ◌∙◌, subst, ◌≤◌, length, length-append, arith}
 use Rattle.paging.specs.declared.entry.Entry.{Entry}
-use Rattle.shadow_tables.specs.Slots.{Slot, filled, entry_in, is_adequate, permits, slot_at}
+use Rattle.shadow_tables.specs.Slots.{Slot, filled, entry_in, is_adequate, permits, slot_at, held}
 use Rattle.shadow_tables.specs.declared.words.Side.{Side}
 use Rattle.shadow_tables.specs.declared.words.Side.TheVariants.{Kernel, User}
 use Rattle.shadow_cache.specs.Past.{MadeCall, Past}
-use Rattle.shadow_cache.specs.Replayed.{LastFill, IsEntryOf, MayRead, MayWrite, IsKeptAs, IsPast, ArePasts, done_in}
+use Rattle.shadow_cache.specs.Replayed.{LastFill, IsEntryOf, MayRead, MayWrite, IsKeptAs, IsPast, ArePasts, done_in, most_frames}
 use Rattle.shadow_cache.specs.Agreeing.{Filling, last_of, IsHeld, IsSlot, Agrees, AllAgree}
 use Rattle.shadow_cache.specs.declared.pair.Pair.{Pair}
 use Rattle.shadow_cache.specs.declared.call_lists.RootsCall.{RootsCall}
 use Rattle.shadow_cache.specs.Laws.{frames-cons}
 use Rattle.shadow_cache.proofs.Leaving.{none-frames}
 use Rattle.shadow_cache.specs.Pairs.{frames_of}
-use Rattle.shadow_tables.specs.Slots.{held}
 use Rattle.shadow_tables.proofs.Lists.{only-less}
-use Rattle.shadow_cache.specs.Replayed.{most_frames}
-use Rattle.std.proofs.Common.{◌≤◌, length, length-append, arith}
 use Rattle.shadow_cache.proofs.LastFills.{last-to, last-is}
 use Rattle.shadow_cache.proofs.Small.{not-first}
 use Rattle.std.proofs.lemmas.Bool.{false≢true}

@@ -6,9 +6,8 @@ use Rattle.pv_tasks.specs.Running.{WithFrames}
 use Rattle.pv_save.specs.Saving.{SavesBoot, setting_on}
 use Rattle.pv_save.specs.Asked.{asked_save}
 use Rattle.pv_save.specs.Resting.{LeavesState}
-use Rattle.pv_tasks.proofs.Deliveries.{halts, counts_host}
+use Rattle.pv_tasks.proofs.Deliveries.{halts, counts_host, not_ended}
 use Rattle.pv_tasks.proofs.RunMeanings.{no_run}
-use Rattle.pv_tasks.proofs.Deliveries.{not_ended}
 use Rattle.pv_save.proofs.RestMeanings.{started_means}
 use Rattle.pv_save.proofs.RestDone.{fits_on, saves_boot, small_boot, counts_rested, starts_stop, left_state}
 use Rattle.pv_tasks.proofs.Faults.{ends_halted, ends_since}

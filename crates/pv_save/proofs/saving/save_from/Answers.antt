@@ -7,8 +7,7 @@ use Rattle.pv_tasks.specs.Outside.{beside, outside}
 use Rattle.pv_save.specs.Saving.{SavesOn, setting_on, frames_of}
 use Rattle.pv_save.specs.Asked.{asked_save_from}
 use Rattle.pv_save.specs.Resting.{LeavesState}
-use Rattle.pv_tasks.proofs.Deliveries.{halts, counts_host}
-use Rattle.pv_tasks.proofs.Deliveries.{not_ended}
+use Rattle.pv_tasks.proofs.Deliveries.{halts, counts_host, not_ended}
 use Rattle.pv_save.proofs.RestMeanings.{rested_means}
 use Rattle.pv_save.proofs.ContinueMeanings.{no_rest}
 use Rattle.pv_save.proofs.RestDone.{saves_state, counts_rested, rests_stop, left_state}

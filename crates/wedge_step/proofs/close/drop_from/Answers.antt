@@ -1,5 +1,5 @@
 use Rattle.frame_pool.proofs.Held.{Owns-moves, Moves-refl}
-use Rattle.std.proofs.Common.{◌≡◌, ℕ, ◌/◌, false, None, inl, inr, refl, sym, subst, ◌∙◌}
+use Rattle.std.proofs.Common.{◌≡◌, ℕ, ◌/◌, false, None, inl, inr, refl, sym, subst, ◌∙◌, arith}
 use Rattle.std.proofs.lemmas.Bool.Decides.{eqb_tells}
 use Rattle.shadow_tables.proofs.Lists.{within-same}
 use Rattle.machine_step.specs.declared.worked.Dropped.{Dropped}
@@ -11,7 +11,6 @@ use Rattle.wedge_step.proofs.Parts.{part_join, part_same, dropped_part}
 use Rattle.wedge_step.proofs.Readying.{fewer_ready, none_pages}
 use Rattle.wedge_step.proofs.Returning.{fewer_pages}
 use Rattle.wedge_step.proofs.Shedding.{same_shed, open_shed}
-use Rattle.std.proofs.Common.{arith}
 use Rattle.wedge_step.proofs.Leaving.{stays_by, stays_same}
 use Rattle.wedge_step.proofs.close.drop_from.Goals as goal
 

@@ -12,7 +12,7 @@ use Rattle.step_mem.specs.Shown as laying
 use Rattle.step_mem.specs.declared.walking.Control.{Control}
 use Rattle.wedge_mem.specs.Owned.{both, first, owns}
 use Rattle.step_mem.specs.Sound.{space_at}
-use Rattle.machine_model.specs.State.{wedge, wedge_mode}
+use Rattle.machine_model.specs.State.{wedge, wedge_mode, Setting, State}
 use Rattle.native_steps.specs.Mirrors.{shown}
 use Rattle.wedge_step.specs.Standing.{AreOpen, IsHeld, state_of, ground}
 use Rattle.wedge_step.proofs.Alones.{alone_from, began}
@@ -25,7 +25,6 @@ use Rattle.image_check.specs.Image.{Image}
 use Rattle.image_load.specs.Boot.{text_pages}
 use Rattle.shadow_tables.specs.OtherRoot.{AreSame}
 use Rattle.step_mem.specs.declared.state.StepState as kept_state
-use Rattle.machine_model.specs.State.{Setting, State}
 use Rattle.machine_model.specs.Step.{stepped}
 use Rattle.machine_step.specs.Worked.{dropping, went_as}
 use Rattle.wedge_mem.specs.Settled.{pages_of}

@@ -1,6 +1,5 @@
-use Rattle.std.proofs.Common.{List, ◌∷◌, ap, ◌∙◌}
+use Rattle.std.proofs.Common.{List, ◌∷◌, ap, ◌∙◌, false}
 use Rattle.std.proofs.lemmas.Grind.{merely}
-use Rattle.std.proofs.Common.{false}
 use Rattle.shadow_cache.specs.Pairs.{no_tables}
 use Rattle.shadow_cache.specs.declared.pair.Pair.{Pair}
 use Rattle.shadow_cache.specs.Roots.{pairs_of}

@@ -14,7 +14,6 @@ use Rattle.wedge_step.specs.Filled.{CountsFills, pages_kept}
 use Rattle.wedge_core.specs.Noted.{NotesOn}
 use Rattle.wedge_step.specs.Pools.{Keeps}
 use Rattle.wedge_core.specs.Calls.{GuestLeaves}
-use Rattle.wedge_core.specs.OfRoots.{of_roots}
 use Rattle.wedge_core.specs.Promises.{with_patches}
 use Rattle.wedge_core.specs.Sliced.{BeginsBare, SliceIn, SliceLeaves, noting, outward}
 use Rattle.wedge_step.specs.Ready.{IsReady}
