@@ -73,9 +73,11 @@ pub enum BurnFault {
 }
 
 /// Why the work at an item stops.
-#[derive(Drop)]
+#[derive(Debug, Drop, Error)]
 pub enum ItemFault {
+    #[error("{0}")]
     Cause(BurnCause),
+    #[error("no memory was found")]
     Memory,
 }
 
