@@ -32,7 +32,8 @@ use Rattle.bare_machine.specs.Slices.{SliceAs}
 use Rattle.bare_machine.specs.Answers.{RunsTo, WholeAs, RunAnswers}
 use Rattle.bare_machine.specs.Ending.{EndsAs}
 use Rattle.bare_machine.specs.Starts.{NotBegun}
-use Rattle.bare_machine.specs.FreshRuns.{Course, after_step, fresh_course, course_text, IsFreshRun, EachCourseIsARun}
+use Rattle.bare_machine.specs.FreshRuns.{Course, after_step, fresh_course, course_text}
+use Rattle.bare_machine.specs.FreshLaws.{IsFreshRun, EachCourseIsARun}
 use Rattle.bare_machine.specs.FreshTexts.{CourseAs, Comes, FreshAnswers}
 use Rattle.bare_machine.proofs.Runs.{same_step}
 use Rattle.bare_machine.proofs.Wholes.{answered}

@@ -1,5 +1,5 @@
 -- The run before each step of which nothing is cached, as a function of the setting and the state.
-use Rattle.std.specs.Prelude.{◌≡◌, ℕ, zero, suc, ◌-◌, ◌≤◌, List, [], ◌∷◌, length, replicate}
+use Rattle.std.specs.Prelude.{ℕ, zero, suc, List, [], ◌∷◌}
 use Rattle.std.specs.FinMap.{empty}
 use Rattle.board.specs.Scripts.{Events}
 use Rattle.image_check.specs.Image.{Image}
@@ -9,7 +9,7 @@ use Rattle.run_trace.specs.Text.{text_of}
 use Rattle.machine_model.specs.State.{Setting, State, boot}
 use Rattle.machine_model.specs.Step as steps
 use Rattle.machine_model.specs.Step.{Report, Went, Halts, step_of}
-use Rattle.machine_model.specs.Run.{Run, trace_of}
+use Rattle.machine_model.specs.Run.{trace_of}
 use Rattle.bare_machine.specs.Settings.{bare}
 
 -- what a run reports, the count of steps at its end, and how it ends
@@ -34,12 +34,3 @@ course_text c = text_of (trace_of c.reports) c.count c.end
 -- the image's run of at most n steps from its start
 abbrev pub fresh_run : Image → Events → ℕ → ℕ → Course
 fresh_run image script frames n = fresh_course (bare image script frames) n (boot (bare image script frames))
-
--- some last state makes it a run, in which the set before each step is empty
-pub record IsFreshRun (s : Setting) (n : ℕ) (old : State) (c : Course) : Type 0 where
-  pub last : State
-  pub run : Run s n old (replicate (length c.reports) empty) c.reports last c.end
-  pub count_is : c.count ≡ last.step
-
-abbrev pub EachCourseIsARun : Type 0
-EachCourseIsARun = (s : Setting) (n : ℕ) (old : State) → old.step ≤ n → IsFreshRun s n old (fresh_course s (n - old.step) old)

@@ -1,6 +1,6 @@
 //! Laws of runs in parts, and of runs that begin each step with nothing cached.
 
-ghost use Rattle.bare_machine.specs.FreshRuns.{EachCourseIsARun};
+ghost use Rattle.bare_machine.specs.FreshLaws.{EachCourseIsARun};
 ghost use Rattle.bare_machine.specs.Parts.{BeginsHere, SliceGoesOn, ChangeGoesOn, LossGoesOn, PartsAreARun};
 
 /// Slices, between which a cache was changed, are one run, where what was left in it is loosened from what the last step
