@@ -1,6 +1,7 @@
 -- Channel 0 of an 8254: its control word, its count, and one step of it (Intel 8254 data sheet: control word format,
 -- write operations, mode 2, mode 3). Profile: both modes have the same edges, low byte then high byte, binary counting.
 use Rattle.std.specs.Prelude.{ℕ, ◌+◌, ◌-◌, ◌*◌, Bool, false, ◌==◌, ◌&&◌, ◌||◌, nat_le, Option, Some, None, unwrap_or, if◌then◌else◌}
+use Rattle.std.specs.Option.{option_map}
 use Rattle.ia32_types.specs.declared.stop.Did.{Did}
 use Rattle.ia32_types.specs.declared.stop.Did.TheVariants.{Done, Stop}
 use Rattle.pit8254.specs.declared.timer.Phase.{Phase}
@@ -65,13 +66,9 @@ count_step count =
     if count.left == 1 then fresh (unwrap_or count.next_period count.period)
     else record count { left = count.left - 1 }
 
-abbrev pub count_steps : Option Count → Option Count
-count_steps None = None
-count_steps (Some count) = Some (count_step count)
-
 -- one step of the timer
 unfoldable pub timer_step : Timer → Timer
-timer_step timer = record timer { count = count_steps timer.count }
+timer_step timer = record timer { count = option_map count_step timer.count }
 
 -- the next step of the timer has an edge
 abbrev pub count_edge : Option Count → Bool
