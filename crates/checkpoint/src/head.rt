@@ -9,25 +9,36 @@ ghost use Rattle.checkpoint.specs.Ranges.{AreBelow, AreSelectors, FrontIsSized, 
 use guest_ram::{byte, half, word};
 use std::alloc::AllocError;
 
-/// Places in the file of fields that are tested or told.
+// Places in the file of fields that are tested or told. Each has four bytes, unless it says otherwise.
+
+/// The count of frames.
 pub const FRAMES_PLACE: u32 = 4;
 
+/// The count of steps, in eight bytes.
 pub const STEP_PLACE: u32 = 8;
 
+/// EFLAGS.
 pub const EFLAGS_PLACE: u32 = 52;
 
+/// CR0.
 pub const CR0_PLACE: u32 = 56;
 
+/// CR3.
 pub const CR3_PLACE: u32 = 64;
 
+/// CR4.
 pub const CR4_PLACE: u32 = 68;
 
+/// Whether the task register is loaded, in one byte.
 pub const TASK_LOADED_PLACE: u32 = 94;
 
+/// The current privilege level, in one byte.
 pub const LEVEL_PLACE: u32 = 95;
 
+/// Whether the processor is halted, in one byte.
 pub const HALTED_PLACE: u32 = 112;
 
+/// Whether interrupts are held for one instruction, in one byte.
 pub const HELD_PLACE: u32 = 113;
 
 /// A segment register, in four bytes.

@@ -4,6 +4,7 @@ use Rattle.std.specs.Prelude.{slice_index, nat_le, nat_lt, ◌==◌, ◌&&◌, �
 use Rattle.std.specs.List.{FoldsTo}
 use Rattle.std.proofs.lemmas.Fn.{FoldsTo-push}
 use Rattle.std.proofs.Math.Path.{fun_ext}
+use Rattle.std.proofs.lemmas.Bool.{eq-eqb}
 use Rattle.std.proofs.lemmas.Bool.Decides.{nat_tests}
 use Rattle.ia32_types.specs.declared.size.Size.TheVariants.{Long}
 use Rattle.ia32_types.specs.Size.{width}
@@ -56,9 +57,6 @@ module _ (same : ℕ → ℕ → Bool) (at v : ℕ) (b : ℕ → ℕ) where
     by (inr below) ih = rw (later n below (omega arith)) (ih below)
 
 -- where each address leads to a byte of its own
-is_itself : (n : ℕ) → (n == n) ≡ true
-is_itself n = grind (arith, nat_tests)
-
 is_another : (m n : ℕ) → (m ≡ n → ⊥) → (m == n) ≡ false
 is_another m n h = grind (arith, nat_tests, h)
 
@@ -78,7 +76,7 @@ in_flat n at v b x = by (nat_le at x && nat_lt x (at + n)) refl where
       let h = in_range at n x e in
       let whole : at + (x - at) ≡ x = omega arith in
       let P : ℕ → Type 0 = λ y. with_bytes (λ i j. i == j) n at v b y ≡ v / 2 ^ (8 * (x - at)) % 2 ^ 8 in
-      subst P whole (held (λ i j. i == j) at v b n (x - at) (omega arith) (is_itself (at + (x - at))) (λ j a z. later_is_another at j (x - at) a))
+      subst P whole (held (λ i j. i == j) at v b n (x - at) (omega arith) (eq-eqb (at + (x - at)) (at + (x - at)) refl) (λ j a z. later_is_another at j (x - at) a))
   by false e = others (λ i j. i == j) at v b n x (λ k lt. out_of_range at n x k e lt)
 
 pub flat : (ws : List Store) (b : ℕ → ℕ) → all_stored (λ i j. i == j) ws b ≡ all_written ws b

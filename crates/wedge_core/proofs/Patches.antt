@@ -2,7 +2,7 @@
 use Rattle.std.proofs.Common.{◌≡◌, ℕ, ◌+◌, ◌-◌, ◌*◌, ◌≤◌, List, [], ◌∷◌, ◌++◌, length, take, drop, append_assoc, sym, ap, ◌∙◌, arith}
 use Rattle.std.proofs.lemmas.List.{append_cancel_right, drop-append-le, drop-drop, drop_at, length-append, length-take-le, take-append-drop, take-take}
 use Rattle.guest_ram.specs.Bytes.{part, with_part}
-use Rattle.guest_ram.proofs.Bytes.{with_part-with_part, with_part-part}
+use Rattle.guest_ram.proofs.Bytes.{with_part-with_part, with_part-part, drop-with_part}
 use Rattle.sites.specs.declared.site.Site.{Site}
 use Rattle.sites.specs.Room.{AreInside}
 use Rattle.machine_model.specs.State.{Setting}
@@ -13,18 +13,6 @@ use Rattle.wedge_step.proofs.Memories.{part_front}
 pub inside_moved : (len new at : ℕ) (sites : List Site) → at + len ≤ new → AreInside len 0 sites → AreInside new at sites
 inside_moved len new at [] le h = tt
 inside_moved len new at (s ∷ sites) le h = let fits = h.1 in (h.0, omega (arith, fits, le), inside_moved len new at sites le h.2)
-
-pub drop_behind : (m : List ℕ) (a : ℕ) (bs : List ℕ) (k : ℕ) → a + length bs ≤ k → a + length bs ≤ length m → drop k (with_part m a bs) ≡ drop k m
-unfolding with_part
-drop_behind m a bs k le fits =
-    let n = a + length bs in
-    let there : n + (k - n) ≡ k = omega (arith, le) in
-    let both = length-append (take a m) bs in
-    let first = length-take-le a m (omega (arith, fits)) in
-    let behind : drop n (with_part m a bs) ≡ drop n m =
-    ap (λ (l : List ℕ). drop n l) (sym (append_assoc (take a m) bs (drop n m))) ∙ drop_at (take a m ++ bs) (drop n m) n (omega (arith, both, first)) in
-    ap (λ (x : ℕ). drop x (with_part m a bs)) (sym there)
-    ∙ (sym (drop-drop (k - n) n (with_part m a bs)) ∙ (ap (λ (l : List ℕ). drop (k - n) l) behind ∙ (drop-drop (k - n) n m ∙ ap (λ (x : ℕ). drop x m) there)))
 
 take_with : (m : List ℕ) (a : ℕ) (bs : List ℕ) (k : ℕ) → a + length bs ≤ k → k ≤ length m → take k (with_part m a bs) ≡ with_part (take k m) a bs
 unfolding with_part
@@ -41,7 +29,7 @@ take_with m a bs k le fits =
     ∙ (ap (λ (l : List ℕ). x ++ l) (append_assoc bs y z)
     ∙ (ap (λ (l : List ℕ). x ++ (bs ++ l)) rest ∙ ap (λ (l : List ℕ). l ++ (bs ++ drop n m)) (take-take a k m (omega (arith, le))))) in
     append_cancel_right (take k whole) (x ++ (bs ++ y)) z
-    (ap (λ (l : List ℕ). take k whole ++ l) (sym (drop_behind m a bs k le (omega (arith, le, fits)))) ∙ (take-append-drop k whole ∙ sym joined))
+    (ap (λ (l : List ℕ). take k whole ++ l) (sym (drop-with_part m a bs k le (omega (arith, le, fits)))) ∙ (take-append-drop k whole ∙ sym joined))
 
 -- with the text laid over it, it is as it was
 pub unpatched : (m : Setting) (ram patches : List ℕ) → length patches ≡ length m.image.text → 0x100000 + length m.image.text ≤ 4096 * m.frames → 4096 * m.frames ≤ length ram

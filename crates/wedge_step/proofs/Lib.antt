@@ -27,3 +27,4 @@ mod Ended
 mod Leaving
 pub mod Widening
 mod Texts
+pub mod FrameCounts

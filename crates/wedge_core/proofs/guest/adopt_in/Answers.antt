@@ -4,6 +4,7 @@ use Rattle.std.specs.FinMap.{get, get-empty}
 use Rattle.std.specs.Ordering.{nat_cmp}
 use Rattle.descriptors.specs.Controls.{wp_of}
 use Rattle.guest_ram.specs.Bytes.{part, with_part}
+use Rattle.guest_ram.proofs.Bytes.{drop-with_part}
 use Rattle.frame_pool.specs.Held.{Owns, Moves, SameIn}
 use Rattle.frame_pool.specs.Pool.{base_of}
 use Rattle.frame_pool.specs.declared.Pool.{Pool}
@@ -24,7 +25,7 @@ use Rattle.wedge_step.proofs.Bools.{none_some}
 use Rattle.wedge_step.proofs.Keeping.{keeps_join, keeps_above, keeps_moves}
 use Rattle.wedge_step.proofs.Memories.{front_same, text_within, part_front}
 use Rattle.wedge_step.proofs.Opening.{none_open}
-use Rattle.wedge_core.proofs.Patches.{inside_moved, drop_behind, unpatched}
+use Rattle.wedge_core.proofs.Patches.{inside_moved, unpatched}
 use Rattle.wedge_core.proofs.guest.adopt_in.Goals as goal
 
 -- the shadows were made
@@ -102,7 +103,7 @@ module _ (c : goal.After-patch) where
       let fits = c.requires.may.fits in
       let l = lies d in
       let k = long in
-      ap (drop (4096 * n d)) patched_is ∙ drop_behind (ram1 d) 0x100000 patches (4096 * n d) (omega (arith, k, text, fits)) (omega (arith, k, l))
+      ap (drop (4096 * n d)) patched_is ∙ drop-with_part (ram1 d) 0x100000 patches (4096 * n d) (omega (arith, k, text, fits)) (omega (arith, k, l))
 
   behind : 4096 * n d ≤ 4096 * base_of (pool1 d)
   behind = let h = c.requires.may.behind in let same = (moves d).same.0 in omega (arith, h, same)

@@ -2,6 +2,7 @@ use Rattle.std.proofs.Common.{◌≡◌, ℕ, ◌+◌, ◌^◌, ◌<◌, ◌%◌
 use Rattle.std.specs.FinMap.{empty}
 use Rattle.descriptors.specs.Controls.{wp_of}
 use Rattle.wedge_step.specs.Standing.{ground}
+use Rattle.wedge_step.proofs.FrameCounts.{all_fit}
 use Rattle.wedge_step.proofs.Memories.{text_within, front_same, host_same}
 use Rattle.wedge_step.proofs.Opening.{none_open}
 use Rattle.wedge_step.proofs.Parts.{part_within, part_empty}
@@ -9,9 +10,6 @@ use Rattle.wedge_step.proofs.Readying.{none_ready, none_pages}
 use Rattle.wedge_core.proofs.native.drop_kept.Goals as goal
 
 -- the frames that are free and those that are held
-all_fit : (count free held frames : ℕ) → count ≡ free → held ≡ frames → free + frames < 2 ^ 32 → count + held < 2 ^ 32
-all_fit count free held frames e h few = omega (arith, e, h, few)
-
 all_but_two : (free frames before held after : ℕ) → free + frames ≡ before + held → after ≡ held → frames ≡ 2 → free + 2 ≡ before + after
 all_but_two free frames before held after lengths counted two = omega (arith, lengths, counted, two)
 

@@ -2,15 +2,9 @@ use Rattle.std.proofs.Common.{◌≡◌, ℕ, ◌+◌, ◌<◌, ◌≤◌, ◌^�
 use Rattle.std.proofs.lemmas.Bool.{both_ways}
 use Rattle.shadow_tables.specs.declared.words.Side.{Side}
 use Rattle.wedge_step.specs.Stand.{FillsIn, stand}
+use Rattle.wedge_step.proofs.FrameCounts.{all_fit, all_but}
 use Rattle.wedge_step.proofs.Filling.{fills_fewer, held_by}
 use Rattle.wedge_step.proofs.single.fill_used.Goals as goal
-
--- the frames that are free and those that are held
-all_fit : (count free held frames : ℕ) → count ≡ free → held ≡ frames → free + frames < 2 ^ 32 → count + held < 2 ^ 32
-all_fit count free held frames e h few = omega (arith, e, h, few)
-
-all_but : (count free held frames count2 free2 frames2 : ℕ) → count ≡ free → held ≡ frames → count2 ≡ free2 → free2 + frames2 ≡ free + frames → count2 ≤ count + held
-all_but count free held frames count2 free2 frames2 e h f same = omega (arith, e, h, f, same)
 
 pub returns-in-None-clause-ready : goal.returns-in-None-clause-ready
 returns-in-None-clause-ready g c = λ out m cpu frames h. c.settle_or_drop-settled.ensures.ready out m cpu frames h

@@ -12,6 +12,7 @@ use Rattle.wedge_step.specs.Ready.{AreFound, IsReady, IsReadyBut, leaving}
 use Rattle.shadow_tables.specs.Sight.{sight}
 use Rattle.wedge_step.specs.Standing.{AreOpen}
 use Rattle.wedge_step.specs.declared.running.Running.{Running}
+use Rattle.wedge_step.proofs.FrameCounts.{all_but}
 use Rattle.wedge_step.proofs.AmongPages.{among_through, leaving_through}
 use Rattle.wedge_step.proofs.Parts.{left_twice}
 use Rattle.wedge_step.proofs.Filling.{held_by, fills_join, fills_fewer, unlost_first}
@@ -36,11 +37,8 @@ fills_small : (fills step : ℕ) → fills ≤ 128 * step → step < 2 ^ 40 → 
 fills_small fills step h lt = omega (arith, h, lt)
 
 -- the frames that are free and those that are held
-all_fit : (count free held frames free2 frames2 : ℕ) → count ≡ free → held ≡ frames → free + frames ≡ free2 + frames2 → free2 + frames2 < 2 ^ 32 → count + held < 2 ^ 32
-all_fit count free held frames free2 frames2 e h same few = omega (arith, e, h, same, few)
-
-all_but : (count free held frames count2 free2 frames2 : ℕ) → count ≡ free → held ≡ frames → count2 ≡ free2 → free2 + frames2 ≡ free + frames → count2 ≤ count + held
-all_but count free held frames count2 free2 frames2 e h f same = omega (arith, e, h, f, same)
+all_fit_after : (count free held frames free2 frames2 : ℕ) → count ≡ free → held ≡ frames → free + frames ≡ free2 + frames2 → free2 + frames2 < 2 ^ 32 → count + held < 2 ^ 32
+all_fit_after count free held frames free2 frames2 e h same few = omega (arith, e, h, same, few)
 
 -- a step fills at most 128 pages
 fills_rise : (old new then mid step : ℕ) → new ≤ old + 128 → then ≡ mid + 1 → mid ≡ step → old ≤ 128 * step → new ≤ 128 * then
@@ -149,7 +147,7 @@ returns-clause-passes g c = record {
 
 pub overflow_add-all : goal.overflow_add-all
 overflow_add-all g c =
-    let fit = all_fit _ _ _ _ _ _ (c.free.ensures.count c.fill_used.new.ram) c.fill_used.ensures.counts.counted c.fill_used.ensures.moved.moves.lengths c.requires.under.few in
+    let fit = all_fit_after _ _ _ _ _ _ (c.free.ensures.count c.fill_used.new.ram) c.fill_used.ensures.counts.counted c.fill_used.ensures.moved.moves.lengths c.requires.under.few in
     omega (arith, fit)
 
 pub overflow_sub-running : goal.overflow_sub-running
