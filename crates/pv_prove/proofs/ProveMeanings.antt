@@ -34,13 +34,14 @@ use Rattle.pv_build.specs.declared.status.Status.TheVariants as status
 use Rattle.pv_tasks.specs.Outside.{Outside, outside}
 use Rattle.pv_tasks.specs.Unread.{NotRead}
 use Rattle.pv_tasks.specs.Outcome.{Outcome, HostedRun, refused, run_text}
-use Rattle.pv_tasks.specs.Running.{RunsOn, Ran, Small, WithFrames, Runs}
+use Rattle.pv_tasks.specs.Running.{RunsOn, Ran, Small, Runs}
 use Rattle.pv_prove.specs.Proving.{are_few, certificate_file, certificate_told, proved_as, ProvesRun, prove_task, PrintsOnly}
-use Rattle.pv_prove.specs.Certifying.{Certifies, TooMany, Certified, Unstored, Unmade}
+use Rattle.pv_prove.specs.Certifying.{Certifies, TooMany, Delivered}
+use Rattle.pv_tasks.specs.Delivery.{Stored, NotStored, NoMemory}
 use Rattle.pv_tasks.specs.Tasks.{Task, Means, IsStored, HostDoes, NoStore, NoPut, FaultCounts}
-use Rattle.pv_tasks.proofs.Deliveries.{prints, says, since_loads}
+use Rattle.pv_tasks.proofs.Deliveries.{prints, says}
 use Rattle.pv_tasks.proofs.RunMeanings.{text_at, has_ended}
-use Rattle.pv_tasks.proofs.Works.{IsEnd, ended_is_end, with_both}
+use Rattle.pv_tasks.proofs.Works.{WithFrames, IsEnd, ended_is_end, with_both}
 
 -- ---- the certificate
 
@@ -62,45 +63,36 @@ some_told : (notes : List Note) → are_few notes ≡ true → certificate_line 
 some_told notes few = sym (ap (λ (b : Bool). if b then certificate_line (length notes) else no_certificate_line) few)
 
 -- the run's text was put, and then the line
-line_told : (task : Task) (o : Outside) (w : Outcome) (line : List ℕ) (mid : Option (List ℕ)) (puts : ℕ) (st : Status) → IsEnd w.status → task.gives o.files w → IsStored w.stored o.files o.files_after → HostDoes w o
-    → Appends o.taken mid w.first → o.puts ≤ puts → line ≡ w.text → Says line w.status mid o.taken_after puts o.puts_after st → Means task o st
+line_told : (task : Task) (o : Outside) (w : Outcome) (line : List ℕ) (mid : Option (List ℕ)) (puts : ℕ) (st : Status) → IsEnd w.status → task.gives o.before.files w → IsStored w.stored o.before.files o.after.files → HostDoes w o
+    → Appends o.before.taken mid w.first → o.before.puts ≤ puts → line ≡ w.text → Says line w.status mid o.after.taken puts o.after.puts st → Means task o st
 line_told task o w line mid puts st end gives stored does first le same (Whole is appends) =
     subst (λ (s : Status). Means task o s) (sym is)
-    (prints task o w w.status refl end gives stored (appends_both o.taken mid o.taken_after w.first w.text first (subst (Appends mid o.taken_after) same appends)) does)
+    (prints task o w w.status refl end gives stored (appends_both o.before.taken mid o.after.taken w.first w.text first (subst (Appends mid o.after.taken) same appends)) does)
 line_told task o w line mid puts st end gives stored does first le same (Cut is front rose) =
     subst (λ (s : Status). Means task o s) (sym is)
-    (inl (
-      w,
-      gives,
-      NoPut stored (record {
-        front = front.front;
-        rest = front.rest;
-        whole = front.whole ∙ same;
-        taken = appends_both o.taken mid o.taken_after w.first front.front first front.taken;
-      }) (rose_later o.puts puts o.puts_after le rose),
-    ))
+    (inl (w, gives, NoPut mid stored first (subst (λ (t : List ℕ). AppendsFront mid o.after.taken t) same front) (rose_later o.before.puts puts o.after.puts le rose)))
 
 -- the outside of what is told behind a run whose text was put
 abbrev pub behind : Outside → Option (List ℕ) → ℕ → Outside
-behind o mid puts = record o { taken = mid; puts = puts; completed = o.completed_after }
+behind o mid puts = record o { before = record (o.before) { taken = mid; puts = puts; completed = o.after.completed; memory = o.after.memory } }
 
 -- what was told of the certificate of a run whose text was put
 certified : (image script : List ℕ) (frames n : ℕ) (name : List ℕ) (r : HostedRun) (notes : List Note) (o : Outside) (mid : Option (List ℕ)) (puts : ℕ) (st : Status)
-    → (prove_task image script frames n name).gives o.files (proved_as name r notes) → HostDoes (proved_as name r notes) o → Appends o.taken mid (run_text r) → o.puts ≤ puts
+    → (prove_task image script frames n name).gives o.before.files (proved_as name r notes) → HostDoes (proved_as name r notes) o → Appends o.before.taken mid (run_text r) → o.before.puts ≤ puts
     → Certifies name notes (status_of r.end) (behind o mid puts) st → Means (prove_task image script frames n name) o st
 certified image script frames n name r notes o mid puts st gives does first le (TooMany few same said) =
-    line_told (prove_task image script frames n name) o (proved_as name r notes) no_certificate_line mid puts st (ended_is_end (status_of r.end) (has_ended r.end)) gives (saved_none name notes o.files o.files_after few same) does first le (none_told notes few) said
-certified image script frames n name r notes o mid puts st gives does first le (Certified few stores said) =
-    line_told (prove_task image script frames n name) o (proved_as name r notes) (certificate_line (length notes)) mid puts st (ended_is_end (status_of r.end) (has_ended r.end)) gives (saved_some name notes o.files o.files_after few stores) does first le (some_told notes few) said
-certified image script frames n name r notes o mid puts st gives does first le (Unstored few is changes rose unsure same) =
-    let taken : Appends o.taken o.taken_after (run_text r) = subst (λ (t : Option (List ℕ)). Appends o.taken t (run_text r)) (sym same) first in
+    line_told (prove_task image script frames n name) o (proved_as name r notes) no_certificate_line mid puts st (ended_is_end (status_of r.end) (has_ended r.end)) gives (saved_none name notes o.before.files o.after.files few same) does first le (none_told notes few) said
+certified image script frames n name r notes o mid puts st gives does first le (Delivered few (Stored stores said)) =
+    line_told (prove_task image script frames n name) o (proved_as name r notes) (certificate_line (length notes)) mid puts st (ended_is_end (status_of r.end) (has_ended r.end)) gives (saved_some name notes o.before.files o.after.files few stores) does first le (some_told notes few) said
+certified image script frames n name r notes o mid puts st gives does first le (Delivered few (NotStored is changes rose unsure same)) =
+    let taken : Appends o.before.taken o.after.taken (run_text r) = subst (λ (t : Option (List ℕ)). Appends o.before.taken t (run_text r)) (sym same) first in
     subst (λ (s : Status). Means (prove_task image script frames n name) o s) (sym is)
     (inl (
       proved_as name r notes,
       gives,
       NoStore name (choices_bytes (choices_of notes)) (is_saved name notes few) changes rose unsure taken,
     ))
-certified image script frames n name r notes o mid puts st gives does first le (Unmade few is same put) =
+certified image script frames n name r notes o mid puts st gives does first le (Delivered few (NoMemory is same put)) =
     subst (λ (s : Status). Means (prove_task image script frames n name) o s) (sym is) (
       same,
       inr (record {
@@ -108,7 +100,7 @@ certified image script frames n name r notes o mid puts st gives does first le (
         given = gives;
         file = (name, choices_bytes (choices_of notes));
         would = is_saved name notes few;
-        printed = subst (λ (t : Option (List ℕ)). Appends o.taken t (run_text r)) (sym put) first;
+        printed = subst (λ (t : Option (List ℕ)). Appends o.before.taken t (run_text r)) (sym put) first;
         does = does;
       }),
     )
@@ -122,7 +114,7 @@ gives_proof files image script frames n name program events w has says h = with_
 
 -- a run that was printed, and what was told of its notes
 pub proved : (image script : List ℕ) (frames n : ℕ) (name : List ℕ) (program : Image) (events : Events) (o : Outside) (mid : Option (List ℕ)) (puts : ℕ) (e : Ended) (kept : Kept) (meant st : Status)
-    → HasImage o.files image program → HasScript o.files script events → NotedAnswers program events frames n kept (around_of o.taken mid o.puts puts o.completed o.completed_after) o.memory_after (Ok e) → meant ≡ status_of e.end
+    → HasImage o.before.files image program → HasScript o.before.files script events → NotedAnswers program events frames n kept (around_of o.before.taken mid o.before.puts puts o.before.completed o.after.completed) o.after.memory (Ok e) → meant ≡ status_of e.end
     → ((told : List Note) → AreKept kept told → Certifies name told meant (behind o mid puts) st)
     → Means (prove_task image script frames n name) o st
 proved image script frames n name program events o mid puts e kept meant st has says h is tells =
@@ -142,14 +134,14 @@ proved image script frames n name program events o mid puts e kept meant st has 
       are_notes = p.tells.are;
       comes = refl;
     } in
-    let gives = gives_proof o.files image script frames n name program events (proved_as name r p.notes) has says (Ran h.2 proves) in
-    certified image script frames n name r p.notes o mid puts st gives (p.counts, p.memory_is) (subst (Appends o.taken mid) text h.4) h.5
+    let gives = gives_proof o.before.files image script frames n name program events (proved_as name r p.notes) has says (Ran h.2 proves) in
+    certified image script frames n name r p.notes o mid puts st gives (p.counts, p.memory_is) (subst (Appends o.before.taken mid) text h.4) h.5
     (subst (λ (m : Status). Certifies name p.notes m (behind o mid puts) st) is (tells p.notes p.tells.are_kept))
 
 -- a run that was refused, or whose output failed
 pub unproved : (image script : List ℕ) (frames n : ℕ) (name : List ℕ) (program : Image) (events : Events) (o : Outside) (mid : Option (List ℕ)) (puts : ℕ) (f : RunFault) (kept : Kept) (st : Status)
-    → HasImage o.files image program → HasScript o.files script events → NotedAnswers program events frames n kept (around_of o.taken mid o.puts puts o.completed o.completed_after) o.memory_after (Err f)
-    → o.files_after ≡ o.files → ToldAs (Err f) mid o.taken_after puts o.puts_after st → Means (prove_task image script frames n name) o st
+    → HasImage o.before.files image program → HasScript o.before.files script events → NotedAnswers program events frames n kept (around_of o.before.taken mid o.before.puts puts o.before.completed o.after.completed) o.after.memory (Err f)
+    → o.after.files ≡ o.before.files → ToldAs (Err f) mid o.after.taken puts o.after.puts st → Means (prove_task image script frames n name) o st
 unproved image script frames n name program events o mid puts fault.Write kept st has read h same told =
     let g = h.4 in
     subst (λ (s : Status). Means (prove_task image script frames n name) o s) (sym told.0)
@@ -164,14 +156,14 @@ unproved image script frames n name program events o mid puts fault.Write kept s
         record { sets = g.sets; reports = g.reports; last = g.last; end = h.2; run = g.run; text_is = text_at g.reports h.0 h.1 g.last.step h.2 g.text_is g.count_is },
       );
       same = same;
-      front = subst (λ (t : Option (List ℕ)). AppendsFront o.taken t h.0) (sym told.1) h.5;
-      rose = subst (λ (k : ℕ). Rose o.puts k) (sym told.2) h.6;
+      front = subst (λ (t : Option (List ℕ)). AppendsFront o.before.taken t h.0) (sym told.1) h.5;
+      rose = subst (λ (k : ℕ). Rose o.before.puts k) (sym told.2) h.6;
     }))
 unproved image script frames n name program events o mid puts (fault.TooSmall small) kept st has read h same (inl said) =
     let w = refused (small_line small.need small.have) in
-    let gives = gives_proof o.files image script frames n name program events w has read (Small h.0 (ap (λ s. refused (small_line s.need s.have)) h.1)) in
-    let here = subst (λ (k : ℕ). Says (small_line small.need small.have) status.Refused o.taken o.taken_after k o.puts_after st) h.2.1
-    (subst (λ (t : Option (List ℕ)). Says (small_line small.need small.have) status.Refused t o.taken_after puts o.puts_after st) h.2.0 said) in
+    let gives = gives_proof o.before.files image script frames n name program events w has read (Small h.0 (ap (λ s. refused (small_line s.need s.have)) h.1)) in
+    let here = subst (λ (k : ℕ). Says (small_line small.need small.have) status.Refused o.before.taken o.after.taken k o.after.puts st) h.2.1
+    (subst (λ (t : Option (List ℕ)). Says (small_line small.need small.have) status.Refused t o.after.taken puts o.after.puts st) h.2.0 said) in
     says (prove_task image script frames n name) o w st tt refl gives same (λ end. h.2.2) here
 unproved image script frames n name program events o mid puts (fault.TooSmall small) kept st has read h same (inr none) =
     subst (λ (s : Status). Means (prove_task image script frames n name) o s) (sym none.0) (same, inl (none.1 ∙ h.2.0, h.2.2))
@@ -179,36 +171,18 @@ unproved image script frames n name program events o mid puts fault.Memory kept 
     subst (λ (s : Status). Means (prove_task image script frames n name) o s) (sym told.0) (same, inl (told.1 ∙ h.0, h.2))
 
 -- no memory was found for the notes
-pub unnoted : (image script : List ℕ) (frames n : ℕ) (name : List ℕ) (o : Outside) → o.files_after ≡ o.files → o.taken_after ≡ o.taken → o.completed_after ≡ o.completed → Means (prove_task image script frames n name) o status.Memory
+pub unnoted : (image script : List ℕ) (frames n : ℕ) (name : List ℕ) (o : Outside) → o.after.files ≡ o.before.files → o.after.taken ≡ o.before.taken → o.after.completed ≡ o.before.completed → Means (prove_task image script frames n name) o status.Memory
 unnoted image script frames n name o same put none = (same, inl (put, none))
 
 -- ---- over the files as they were before they were read
 
 -- what was printed alone says nothing of loads
-only_since : (gives : Option FileMap → Outcome → Type 0) (o : Outside) (loads : ℕ) → PrintsOnly gives o → PrintsOnly gives (record o { loads = loads })
+only_since : (gives : Option FileMap → Outcome → Type 0) (o : Outside) (loads : ℕ) → PrintsOnly gives o → PrintsOnly gives (record o { before = record (o.before) { loads = loads } })
 only_since gives o loads h = record { work = h.work; given = h.given; file = h.file; would = h.would; printed = h.printed; does = h.does }
 
 pub prove_since : (image script : List ℕ) (frames n : ℕ) (name : List ℕ) (o : Outside) (loads : ℕ) → (prove_task image script frames n name).half_done o
-    → (prove_task image script frames n name).half_done (record o { loads = loads })
+    → (prove_task image script frames n name).half_done (record o { before = record (o.before) { loads = loads } })
 prove_since image script frames n name o loads h = only_since (λ files w. Runs (ProvesRun frames n name) frames files image script w) o loads h
-
-pub since_read : (task : Task) (o : Outside) (files : Option FileMap) (sure : Bool) (loads stores : ℕ) (st : Status)
-    → (task.half_done o → task.half_done (record o { loads = loads })) → o.files ≡ files → o.sure ≡ sure → o.stores ≡ stores → loads ≤ o.loads → Means task o st → Means task (record o { files = files; sure = sure; stores = stores; loads = loads }) st
-since_read task o files sure loads stores st half same_files same_sure same_stores le h =
-    let first = since_loads task o loads st half le h in
-    let over_files = subst (λ (f : Option FileMap). Means task (record o { files = f; loads = loads }) st) same_files first in
-    let over_sure = subst (λ (b : Bool). Means task (record o { files = files; sure = b; loads = loads }) st) same_sure over_files in
-    subst (λ (n : ℕ). Means task (record o { files = files; sure = sure; stores = n; loads = loads }) st) same_stores over_sure
-
-pub counts_proved : {F S H : Type 0} (f : disk.Ghosts F) (s : sink.Ghosts S) (h : hosts.Ghosts H) (image script : List ℕ) (frames n : ℕ) (name : List ℕ) (a b c : F) (out out2 : S) (host host2 : H)
-    → OnlyRead f ((prove_task image script frames n name).finds (f.held a)) a b → NotRead f b c → FaultCounts (prove_task image script frames n name) (outside f s h (a, c) (out, out2) (host, host2))
-counts_proved f s h image script frames n name a b c out out2 host host2 read stored = record {
-  same_sure = stored.same_sure ∙ read.same_sure;
-  loads = omega (arith, read.later, stored.same_loads);
-  stores = omega (arith, read.same_stores, stored.later);
-  sure_loads = λ sure finds. stored.same_loads ∙ read.no_fault sure finds;
-  sure_stores = λ sure. stored.no_fault (read.same_sure ∙ sure) ∙ read.same_stores;
-}
 
 pub unread : {F : Type 0} (f : disk.Ghosts F) (a : F) → NotRead f a a
 unread f a = record { same_sure = refl; same_loads = refl; later = omega arith; no_fault = λ sure. refl }

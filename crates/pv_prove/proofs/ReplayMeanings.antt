@@ -13,7 +13,8 @@ use Rattle.pv_prove.specs.CertificateLines.{verdict_line}
 use Rattle.pv_build.specs.Lines.{small_line}
 use Rattle.pv_build.specs.Images.{HasImage}
 use Rattle.pv_build.specs.Scripts.{HasScript}
-use Rattle.pv_prove.specs.Certificates.{HasChoices, NoReplay, NoRunnable, NoChoices}
+use Rattle.pv_prove.specs.Certificates.{HasChoices}
+use Rattle.pv_prove.specs.Unjudged.{NoReplay, NoRunnable, NoChoices}
 use Rattle.pv_build.specs.Telling.{Says}
 use Rattle.pv_build.specs.declared.status.Status.{Status}
 use Rattle.pv_build.specs.declared.status.Status.TheVariants as status
@@ -54,13 +55,13 @@ tells_small frames n image events list text old new before now small line st h i
 
 -- what was told of what the files hold
 pub replay_means : (image script certificate text : List ℕ) (frames n : ℕ) (o : Outside) (st : Status) (program : Image) (events : Events) (list : List Choice) (bytes : List ℕ)
-    → HasImage o.files image program → HasScript o.files script events → HasChoices o.files certificate list → Holds o.files text bytes → o.files_after ≡ o.files → o.completed_after ≡ o.completed
-    → JudgesAs frames n program events list bytes (taking_of o.taken o.taken_after o.puts o.puts_after) st → Means (replay_task image script frames n certificate text) o st
+    → HasImage o.before.files image program → HasScript o.before.files script events → HasChoices o.before.files certificate list → Holds o.before.files text bytes → o.after.files ≡ o.before.files → o.after.completed ≡ o.before.completed
+    → JudgesAs frames n program events list bytes (taking_of o.before.taken o.after.taken o.before.puts o.after.puts) st → Means (replay_task image script frames n certificate text) o st
 replay_means image script certificate text frames n o st program events list bytes has says choices holds same none (inl (w, h, said)) =
-    let by : Replays frames n o.files certificate text program events w =
-    (choices.0, choices.1, subst (λ (r : Result (List Choice) ℕ). ByChoices frames n o.files text program events r w) (sym choices.2) (bytes, holds, h)) in
-    says_told (replay_task image script frames n certificate text) o w st (replays_end frames n o.files certificate text program events w by) (replays_told frames n o.files certificate text program events w by)
-    (with_both (Replays frames n o.files certificate text) o.files image script program events w has says by) same
-    (λ end. replays_all (λ (v : Outcome). HostDoes v o) frames n o.files certificate text program events w (λ line. none) (λ line. none) by) said
+    let by : Replays frames n o.before.files certificate text program events w =
+    (choices.0, choices.1, subst (λ (r : Result (List Choice) ℕ). ByChoices frames n o.before.files text program events r w) (sym choices.2) (bytes, holds, h)) in
+    says_told (replay_task image script frames n certificate text) o w st (replays_end frames n o.before.files certificate text program events w by) (replays_told frames n o.before.files certificate text program events w by)
+    (with_both (Replays frames n o.before.files certificate text) o.before.files image script program events w has says by) same
+    (λ end. replays_all (λ (v : Outcome). HostDoes v o) frames n o.before.files certificate text program events w (λ line. none) (λ line. none) by) said
 replay_means image script certificate text frames n o st program events list bytes has says choices holds same none (inr (is, put)) =
     subst (λ (s : Status). Means (replay_task image script frames n certificate text) o s) (sym is) (same, inl (put, none))

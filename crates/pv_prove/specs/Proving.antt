@@ -65,10 +65,10 @@ pub record ProvesText (frames n : ℕ) (image : Image) (events : Events) (text :
 -- A run that has come to a file was printed, and the host has done its part; no memory was found for the file.
 pub record PrintsOnly (gives : Option FileMap → Outcome → Type 0) (o : Outside) : Type 0 where
   pub work : Outcome
-  pub given : gives o.files work
+  pub given : gives o.before.files work
   pub file : List ℕ × List ℕ
   pub would : work.stored ≡ Some file
-  pub printed : Appends o.taken o.taken_after work.first
+  pub printed : Appends o.before.taken o.after.taken work.first
   pub does : HostDoes work o
 
 -- what `prove` asks for; it prints a run first

@@ -1,7 +1,7 @@
 //! The lines that tell of certificates.
 
 ghost use Rattle.std.specs.Prelude.{◌≡◌, IfOk};
-ghost use Rattle.pv_prove.specs.CertificateLines.{certificate_line, no_certificate_line, stop_number, verdict_line};
+ghost use Rattle.pv_prove.specs.CertificateLines.{certificate_line, stop_number, verdict_line};
 
 use ia32_types::Stop;
 use pv_build::Line;
@@ -16,14 +16,6 @@ pub fn certificate_line(alloc: Global, entries: usize) -> Result<Line, AllocErro
     Ok(Line {
         bytes: line.into_bytes(),
     })
-}
-
-/// There are more notes than a certificate has room for.
-pub fn no_certificate_line(alloc: Global) -> Result<Line, AllocError>
-    ensures { IfOk result (λ line. line ≡ no_certificate_line) }
-{
-    let bytes = Vec::from_slice(alloc, b"certificate none\n")?;
-    Ok(Line { bytes })
 }
 
 /// The number of a stop, from 1.

@@ -11,7 +11,8 @@ ghost use Rattle.pv_build.specs.Readings.{OnlyRead};
 ghost use Rattle.pv_build.specs.Failures.{NoneFailedIn};
 ghost use Rattle.pv_build.specs.Telling.{HaltsOverFiles};
 ghost use Rattle.pv_prove.specs.CertificateLines.{certificate_line, certificate_refusal};
-ghost use Rattle.pv_prove.specs.Certificates.{HasChoices, HasNoChoices, NoReplay, FindsReplay};
+ghost use Rattle.pv_prove.specs.Certificates.{HasChoices, FindsReplay};
+ghost use Rattle.pv_prove.specs.Unjudged.{HasNoChoices, NoReplay};
 
 use crate::certificate_lines::certificate_line;
 use pv_build::{Halt, Made, Runnable, load, place_line, refused, runnable_in_files};

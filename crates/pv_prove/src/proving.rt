@@ -4,27 +4,29 @@ ghost use Rattle.std.specs.Prelude.{◌≡◌, ◌≤◌, ◌^◌, true, List, �
 ghost use Rattle.board.specs.ScriptForm.{is_script};
 ghost use Rattle.run_trace.specs.Notes.{Note};
 ghost use Rattle.wedge_core.specs.Counts.{Counts as HostCounts};
-ghost use Rattle.trace_check.specs.Form.{AreChoices, most_choices, choices_bytes};
+ghost use Rattle.trace_check.specs.Form.{AreChoices, most_choices};
 ghost use Rattle.trace_check.specs.Kept.{choices_of};
 ghost use Rattle.trace_check.specs.NotesKept.{AreKept};
 ghost use Rattle.pv_build.specs.Images.{HasImage};
 ghost use Rattle.pv_build.specs.Scripts.{HasScript};
-ghost use Rattle.pv_prove.specs.CertificateLines.{certificate_line, no_certificate_line};
+ghost use Rattle.pv_prove.specs.CertificateLines.{no_certificate_line};
 ghost use Rattle.pv_build.specs.Telling.{Says};
 ghost use Rattle.pv_build.specs.Statuses.{status_of};
 ghost use Rattle.pv_words.specs.View.{AreWithin};
-ghost use Rattle.pv_tasks.specs.Outside.{beside, outside};
+ghost use Rattle.pv_tasks.specs.Outside.{outside};
+ghost use Rattle.pv_tasks.specs.Beside.{beside};
 ghost use Rattle.pv_tasks.specs.Unread.{NotRead};
 ghost use Rattle.pv_tasks.specs.Faulting.{FaultsEnd};
-ghost use Rattle.pv_prove.specs.Proving.{are_few, prove_task};
+ghost use Rattle.pv_prove.specs.Proving.{prove_task};
 ghost use Rattle.pv_prove.specs.Certifying.{Certifies};
 ghost use Rattle.pv_tasks.specs.Tasks.{Means, FaultCounts};
 ghost use Rattle.pv_prove.specs.Asked.{asked_prove};
 
 use crate::certificates::certificate_file;
 use host_cpl3::Host;
-use pv_build::{Made, Runnable, Status, end, print, runnable_in_files, tell_run};
-use pv_io::{Files, IoAnswer, Sink};
+use pv_build::{Runnable, Status, end, runnable_in_files, tell_run};
+use pv_io::{Files, Sink};
+use pv_tasks::deliver;
 use pv_words::RunWords;
 use run_trace::End;
 use std::alloc::Global;
@@ -135,7 +137,7 @@ fn certify<F: Files, S: Sink>(
         None => tell_none(meant, out),
         Some(choices) => match certificate_file(alloc, choices) {
             Err(_) => Status::Memory,
-            Ok(made) => store(&made, meant, name, files, out),
+            Ok(made) => deliver(&made, name, meant, files, out),
         },
     }
 }
@@ -147,27 +149,5 @@ fn tell_none<S: Sink>(meant: Status, out: &mut S) -> Status
     match out.put(b"certificate none\n") {
         Ok(()) => meant,
         Err(_) => Status::WriteFault,
-    }
-}
-
-// Stores a file, and then prints its line.
-#[tactic(auto, using(pv_tasks::proofs::Faults::ends_same, pv_tasks::proofs::Faults::ends_written, pv_tasks::proofs::Faults::ends_memory))]
-fn store<F: Files, S: Sink>(
-    made: &Made,
-    meant: Status,
-    name: &str,
-    files: &mut F,
-    out: &mut S,
-) -> Status
-    ensures certified { (completed : HostCounts) (memory : List ℕ) (told : List Note) → are_few told ≡ true
-        → made.now.file.items ≡ choices_bytes (choices_of told) → made.now.line ≡ certificate_line (length told) →
-        Certifies name.now told meant (beside F.Files S.Sink (files.old, files.new) (out.old, out.new) completed memory) result }
-    ensures stored { NotRead F.Files files.old files.new }
-    ensures ends { FaultsEnd F.Files files.old files.new result }
-{
-    match files.store(name, &made.file) {
-        Ok(()) => print(&made.line, meant, out),
-        Err(IoAnswer::Failed) => Status::WriteFault,
-        Err(IoAnswer::Memory) => Status::Memory,
     }
 }

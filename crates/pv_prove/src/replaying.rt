@@ -6,7 +6,7 @@ ghost use Rattle.board.specs.ScriptForm.{is_script};
 ghost use Rattle.trace_check.specs.Form.{AreChoices};
 ghost use Rattle.wedge_core.specs.Counts.{Counts as HostCounts};
 ghost use Rattle.pv_words.specs.View.{AreWithin};
-ghost use Rattle.pv_tasks.specs.Outside.{beside};
+ghost use Rattle.pv_tasks.specs.Beside.{beside};
 ghost use Rattle.pv_tasks.specs.Faulting.{FaultsEnd};
 ghost use Rattle.pv_prove.specs.Judging.{JudgesAs};
 ghost use Rattle.pv_tasks.specs.Tasks.{Means, FaultCounts};

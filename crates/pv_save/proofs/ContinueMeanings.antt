@@ -21,7 +21,8 @@ use Rattle.pv_build.specs.Telling.{Whole, Cut, ToldAs}
 use Rattle.pv_build.specs.Statuses.{status_of}
 use Rattle.pv_build.specs.Images.{HasImage}
 use Rattle.pv_build.specs.Scripts.{HasScript}
-use Rattle.pv_save.specs.Checkpoints.{HasState, NoResumption, NothingToRun, NoState, Unfit}
+use Rattle.pv_save.specs.Checkpoints.{HasState}
+use Rattle.pv_save.specs.Unresumed.{NoResumption, NothingToRun, NoState, Unfit}
 use Rattle.pv_build.specs.declared.status.Status.{Status}
 use Rattle.pv_tasks.specs.Outside.{Outside}
 use Rattle.pv_tasks.specs.Outcome.{Outcome, HostedRun, refused, told, run_text}
@@ -117,12 +118,12 @@ no_rest goes on asked n files image script name line is (Unfit program events s 
 
 -- a run goes on from the files' image, script and checkpoint
 pub continue_means : (task : Task) (on : RunMode) (asked : Bool) (n : ℕ) (image script name : List ℕ) (o : Outside) (st : Status) (i : Image) (e : Events) (s : State)
-    → ((w : Outcome) → Reads (FromFile (ContinuesOn on n) on n o.files name) o.files image script w → task.gives o.files w)
-    → HasImage o.files image i → HasScript o.files script e → HasState o.files name s → asked ≡ is_wedge on → fits_of s i asked n ≡ Ok tt → o.files_after ≡ o.files
-    → RanAs (ContinuesOn on n i e s) (around_of o.taken o.taken_after o.puts o.puts_after o.completed o.completed_after) o.memory_after st → Means task o st
+    → ((w : Outcome) → Reads (FromFile (ContinuesOn on n) on n o.before.files name) o.before.files image script w → task.gives o.before.files w)
+    → HasImage o.before.files image i → HasScript o.before.files script e → HasState o.before.files name s → asked ≡ is_wedge on → fits_of s i asked n ≡ Ok tt → o.after.files ≡ o.before.files
+    → RanAs (ContinuesOn on n i e s) (around_of o.before.taken o.after.taken o.before.puts o.after.puts o.before.completed o.after.completed) o.after.memory st → Means task o st
 continue_means task on asked n image script name o st i e s gives has has_script state is fit same (inl (w, h, said, does)) =
     let fits = subst (λ (b : Bool). fits_of s i b n ≡ Ok tt) is fit in
     says_told task o w st (ended_is_end w.status (continues_ended on n i e s w h)) (continues_told on n i e s w h)
-    (gives w (with_both (FromFile (ContinuesOn on n) on n o.files name) o.files image script i e w has has_script (with_state (ContinuesOn on n) on n o.files name i e s w state fits h))) same does said
+    (gives w (with_both (FromFile (ContinuesOn on n) on n o.before.files name) o.before.files image script i e w has has_script (with_state (ContinuesOn on n) on n o.before.files name i e s w state fits h))) same does said
 continue_means task on asked n image script name o st i e s gives has has_script state is fit same (inr (no_memory, none, still)) =
     subst (λ (x : Status). Means task o x) (sym no_memory) (same, inl (none, still))

@@ -1,5 +1,5 @@
 -- What `save` comes to over its files, what it counts, and what it leaves.
-use Rattle.std.proofs.Common.{◌≡◌, ℕ, ◌<◌, ◌≤◌, List, [], Option, Result, Ok, Err, refl, sym, ap, subst, ◌∙◌, inl, inr, arith}
+use Rattle.std.proofs.Common.{◌≡◌, ℕ, ◌<◌, ◌≤◌, List, [], Option, Result, Ok, Err, refl, sym, ap, subst, ◌∙◌, inl, inr}
 use Rattle.pv_io.specs.Files.{FileMap}
 use Rattle.pv_io.specs.declared.files.Files as disk
 use Rattle.pv_io.specs.declared.sink.Sink as sink
@@ -24,22 +24,19 @@ use Rattle.pv_save.specs.Checkpoints.{saved_line, HasState}
 use Rattle.pv_build.specs.Lines.{small_line}
 use Rattle.pv_build.specs.Images.{HasImage}
 use Rattle.pv_build.specs.Scripts.{HasScript}
-use Rattle.pv_build.specs.Readings.{OnlyRead}
 use Rattle.pv_build.specs.Statuses.{status_of}
 use Rattle.pv_build.specs.declared.status.Status.{Status}
 use Rattle.pv_build.specs.declared.status.Status.TheVariants as status
-use Rattle.pv_tasks.specs.Outside.{Outside, outside}
-use Rattle.pv_tasks.specs.Unread.{NotRead}
+use Rattle.pv_tasks.specs.Outside.{Outside}
 use Rattle.pv_tasks.specs.Outcome.{refused}
-use Rattle.pv_tasks.specs.Running.{Ran, Small, WithFrames}
+use Rattle.pv_tasks.specs.Running.{Ran, Small}
 use Rattle.pv_save.specs.Answering.{HasForm}
 use Rattle.pv_save.specs.Leaving.{LeavesAs}
 use Rattle.pv_save.specs.Saving.{SavesBoot, SavesOn, FromFile, setting_on, frames_of, is_wedge}
-use Rattle.pv_tasks.specs.Tasks.{Task, FaultCounts, KeepsCount}
 use Rattle.pv_save.specs.Resting.{save_task, save_from_task, LeavesState}
 use Rattle.pv_words.specs.declared.mode.RunMode.{RunMode}
 use Rattle.pv_words.specs.declared.mode.RunMode.TheVariants as mode
-use Rattle.pv_tasks.proofs.Works.{with_both}
+use Rattle.pv_tasks.proofs.Works.{WithFrames, with_both}
 use Rattle.pv_save.proofs.RestLaws.{with_state}
 use Rattle.pv_tasks.proofs.Deliveries.{stored_done, not_said}
 use Rattle.pv_save.proofs.RestMeanings.{Saves}
@@ -51,10 +48,10 @@ fits_on mode.Bare image events frames h = h
 fits_on mode.Wedge image events frames h = h
 
 -- from the start
-pub saves_boot : (on : RunMode) (image script : List ℕ) (frames n : ℕ) (file : List ℕ) (o : Outside) (i : Image) (e : Events) → HasImage o.files image i → HasScript o.files script e → need i ≤ frames
+pub saves_boot : (on : RunMode) (image script : List ℕ) (frames n : ℕ) (file : List ℕ) (o : Outside) (i : Image) (e : Events) → HasImage o.before.files image i → HasScript o.before.files script e → need i ≤ frames
     → Saves (save_task on image script frames n file) o on (setting_on on i e frames) n (boot (setting_on on i e frames)) file
 saves_boot on image script frames n file o i e has says fits = record {
-  gives = λ w h. with_both (WithFrames (SavesBoot on frames n file) frames) o.files image script i e w has says (Ran fits h);
+  gives = λ w h. with_both (WithFrames (SavesBoot on frames n file) frames) o.before.files image script i e w has says (Ran fits h);
   begins = λ text h. (i, e, has, says, fits, h);
   takes = λ first p. p;
   prints = λ h. (i, e, has, says, fits, h);
@@ -71,26 +68,13 @@ small_boot mode.Bare image script frames n file files i e has says lt = small_is
 small_boot mode.Wedge image script frames n file files i e has says lt = small_is mode.Wedge image script frames n file files i e has says lt
 
 -- from a checkpoint's state
-pub saves_state : (on : RunMode) (image script file : List ℕ) (n : ℕ) (new : List ℕ) (o : Outside) (i : Image) (e : Events) (s : State) → HasImage o.files image i → HasScript o.files script e → HasState o.files file s
+pub saves_state : (on : RunMode) (image script file : List ℕ) (n : ℕ) (new : List ℕ) (o : Outside) (i : Image) (e : Events) (s : State) → HasImage o.before.files image i → HasScript o.before.files script e → HasState o.before.files file s
     → fits_of s i (is_wedge on) n ≡ Ok tt → Saves (save_from_task on image script file n new) o on (setting_on on i e (frames_of s)) n (rested_from s) new
 saves_state on image script file n new o i e s has says state fit = record {
-  gives = λ w h. with_both (FromFile (SavesOn on n new) on n o.files file) o.files image script i e w has says (with_state (SavesOn on n new) on n o.files file i e s w state fit h);
+  gives = λ w h. with_both (FromFile (SavesOn on n new) on n o.before.files file) o.before.files image script i e w has says (with_state (SavesOn on n new) on n o.before.files file i e s w state fit h);
   begins = λ text h. (i, e, s, has, says, state, fit, h);
   takes = λ first p. p;
   prints = λ h. (i, e, s, has, says, state, fit, h);
-}
-
--- ---- what is counted
-
-pub counts_rested : {F S H : Type 0} (f : disk.Ghosts F) (s : sink.Ghosts S) (h : hosts.Ghosts H) (task : Task) (a b c : F) (out out2 : S) (host host2 : H)
-    → (f.store_faults a ≤ f.store_faults c → KeepsCount task.saved (f.store_faults a) (f.store_faults c))
-    → OnlyRead f (task.finds (f.held a)) a b → NotRead f b c → FaultCounts task (outside f s h (a, c) (out, out2) (host, host2))
-counts_rested f s h task a b c out out2 host host2 keeps read stored = record {
-  same_sure = stored.same_sure ∙ read.same_sure;
-  loads = omega (arith, read.later, stored.same_loads);
-  stores = keeps (omega (arith, read.same_stores, stored.later));
-  sure_loads = λ sure finds. stored.same_loads ∙ read.no_fault sure finds;
-  sure_stores = λ sure. stored.no_fault (read.same_sure ∙ sure) ∙ read.same_stores;
 }
 
 -- ---- what is left
@@ -114,7 +98,7 @@ starts_stop m n counts old new before now (Ok rested) h = rests_stop m n (boot m
 starts_stop m n counts old new before now (Err why) h = tt
 
 -- where all is done a state was stored that is read back
-pub left_state : (r : Result Rested RunFault) (name : List ℕ) (o : Outside) (st : Status) → IsStop r → LeavesAs r name o st → st ≡ status.Done → LeavesState name o.files o.files_after
+pub left_state : (r : Result Rested RunFault) (name : List ℕ) (o : Outside) (st : Status) → IsStop r → LeavesAs r name o st → st ≡ status.Done → LeavesState name o.before.files o.after.files
 left_state (Ok (rest.At state)) name o st stop (inl (left, back)) done = (state, back, stored_done o name (checkpoint_bytes state) (saved_line state.step) st left done)
 left_state (Ok (rest.At state)) name o st stop (inr none) done = let is = none.0 in cc
 left_state (Ok (rest.Stopped ended)) name o st stop left done = absurd (stop (sym left.0.0 ∙ done))

@@ -1,5 +1,5 @@
 -- The checkpoints that files hold, and what goes on from them.
-use Rattle.std.specs.Prelude.{◌≡◌, ℕ, Bool, List, Option, Ok, Err, ◌++◌, codes, decimal}
+use Rattle.std.specs.Prelude.{◌≡◌, ℕ, List, Option, Ok, ◌++◌, codes, decimal}
 use Rattle.pv_io.specs.Files.{FileMap, Holds, IsHeld}
 use Rattle.board.specs.Scripts.{Events}
 use Rattle.image_check.specs.Image.{Image}
@@ -7,10 +7,8 @@ use Rattle.checkpoint.specs.declared.state.State.{State}
 use Rattle.checkpoint.specs.declared.state.CheckpointCause.{CheckpointCause}
 use Rattle.checkpoint.specs.declared.state.CheckpointCause.TheVariants as cause
 use Rattle.checkpoint.specs.States.{checkpoint_in}
-use Rattle.checkpoint.specs.Fits.{fits_of}
-use Rattle.pv_build.specs.Lines.{place_line}
 use Rattle.pv_build.specs.Images.{HasImage}
-use Rattle.pv_build.specs.Scripts.{HasScript, FindsRun, NoRun}
+use Rattle.pv_build.specs.Scripts.{HasScript, FindsRun}
 
 -- why a checkpoint isn't gone on from
 abbrev pub checkpoint_number : CheckpointCause → ℕ
@@ -23,24 +21,12 @@ checkpoint_number cause.StepsPast = 113
 abbrev pub saved_line : ℕ → List ℕ
 saved_line n = codes "saved steps " ++ (decimal n ++ codes "\n")
 
--- the name holds the checkpoint of a state, or a file that is none
+-- the name holds the checkpoint of a state
 abbrev pub HasState : Option FileMap → List ℕ → State → Type 0
 HasState files name state = (file : List ℕ) × Holds files name file × (checkpoint_in file ≡ Ok state)
-
-abbrev pub HasNoState : Option FileMap → List ℕ → ℕ → Type 0
-HasNoState files name at = (file : List ℕ) × Holds files name file × (checkpoint_in file ≡ Err at)
 
 -- Each name that is reached is held: the checkpoint is reached where the image is accepted and the script is read.
 abbrev pub FindsState : Option FileMap → List ℕ → List ℕ → List ℕ → Type 0
 FindsState files image script name =
     FindsRun files image script
     × ((program : Image) (events : Events) → HasImage files image program → HasScript files script events → IsHeld files name)
-
--- why there is nothing to go on from: no run, a file that is no checkpoint, or a state that doesn't fit
-pub data NoResumption (files : Option FileMap) (image script name : List ℕ) (wedge : Bool) (n : ℕ) (line : List ℕ) : Type 0 where
-  NothingToRun : NoRun files image script line → NoResumption files image script name wedge n line
-  NoState : (program : Image) (events : Events) (at : ℕ) → HasImage files image program → HasScript files script events → HasNoState files name at
-      → line ≡ place_line (checkpoint_number cause.Form) at → NoResumption files image script name wedge n line
-  Unfit : (program : Image) (events : Events) (state : State) (at : ℕ) (why : CheckpointCause) → HasImage files image program → HasScript files script events
-      → HasState files name state → fits_of state program wedge n ≡ Err (at, why) → line ≡ place_line (checkpoint_number why) at
-      → NoResumption files image script name wedge n line

@@ -15,7 +15,9 @@ use Rattle.pv_tasks.specs.Delivery.{Delivers}
 -- rest is told as it ended, and changes no file.
 abbrev pub LeavesAs : Result Rested RunFault → List ℕ → Outside → Status → Type 0
 LeavesAs (Ok (rest.At state)) name o result =
-    (Delivers name (checkpoint_bytes state) (saved_line state.step) o result × (checkpoint_in (checkpoint_bytes state) ≡ Ok state))
-    ⊎ ((result ≡ status.Memory) × (o.taken_after ≡ o.taken) × (o.files_after ≡ o.files))
-LeavesAs (Ok (rest.Stopped ended)) name o result = ToldAs (Ok ended) o.taken o.taken_after o.puts o.puts_after result × (o.files_after ≡ o.files)
-LeavesAs (Err why) name o result = ToldAs (Err why) o.taken o.taken_after o.puts o.puts_after result × (o.files_after ≡ o.files)
+    (Delivers name (checkpoint_bytes state) (saved_line state.step) status.Done o result × (checkpoint_in (checkpoint_bytes state) ≡ Ok state))
+    ⊎ ((result ≡ status.Memory) × (o.after.taken ≡ o.before.taken) × (o.after.files ≡ o.before.files))
+LeavesAs (Ok (rest.Stopped ended)) name o result =
+    ToldAs (Ok ended) o.before.taken o.after.taken o.before.puts o.after.puts result × (o.after.files ≡ o.before.files)
+LeavesAs (Err why) name o result =
+    ToldAs (Err why) o.before.taken o.after.taken o.before.puts o.after.puts result × (o.after.files ≡ o.before.files)

@@ -1,4 +1,5 @@
 pub mod Checkpoints
+pub mod Unresumed
 pub mod Saving
 pub mod Resting
 pub mod Continuing

@@ -20,8 +20,8 @@ use Rattle.pv_words.specs.declared.mode.RunMode.{RunMode}
 -- the lines of a run that has done all its steps were printed, and the host has done its part of them
 abbrev pub PrintsLines : RunMode → Setting → ℕ → model.State → Outside → Type 0
 PrintsLines on m n old o =
-    (last : model.State) × (text : List ℕ) × RestsTo m n old (λ reports. HostDid (steps_on on m reports) o.completed o.completed_after o.memory_after) text last ends.Bound
-    × Appends o.taken o.taken_after text
+    (last : model.State) × (text : List ℕ) × RestsTo m n old (λ reports. HostDid (steps_on on m reports) o.before.completed o.after.completed o.after.memory) text last ends.Bound
+    × Appends o.before.taken o.after.taken text
 
 -- a state was stored, and is read back
 abbrev pub LeavesState : List ℕ → Option FileMap → Option FileMap → Type 0
@@ -35,7 +35,7 @@ save_task on image script frames n file =
       leaves = λ old new. LeavesState file old new;
       runs_first = true;
       begins = λ files text. FromBoot (λ m old. RestsText m n old text) on frames files image script;
-      half_done = λ o. FromBoot (λ m old. PrintsLines on m n old o) on frames o.files image script;
+      half_done = λ o. FromBoot (λ m old. PrintsLines on m n old o) on frames o.before.files image script;
       on_host = is_wedge on;
     }
 
@@ -46,6 +46,6 @@ save_from_task on image script file n new =
       leaves = λ old later. LeavesState new old later;
       runs_first = true;
       begins = λ files text. FromHeld (λ m old. RestsText m n old text) on n files image script file;
-      half_done = λ o. FromHeld (λ m old. PrintsLines on m n old o) on n o.files image script file;
+      half_done = λ o. FromHeld (λ m old. PrintsLines on m n old o) on n o.before.files image script file;
       on_host = is_wedge on;
     }

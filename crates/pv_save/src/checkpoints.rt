@@ -15,7 +15,8 @@ ghost use Rattle.pv_build.specs.Failures.{NoneFailedIn};
 ghost use Rattle.pv_build.specs.Telling.{HaltsOverFiles};
 ghost use Rattle.pv_build.specs.Images.{HasImage};
 ghost use Rattle.pv_build.specs.Scripts.{HasScript};
-ghost use Rattle.pv_save.specs.Checkpoints.{checkpoint_number, saved_line, HasState, HasNoState, FindsState, NoResumption};
+ghost use Rattle.pv_save.specs.Checkpoints.{checkpoint_number, saved_line, HasState, FindsState};
+ghost use Rattle.pv_save.specs.Unresumed.{HasNoState, NoResumption};
 
 use board::Script;
 use checkpoint::{

@@ -9,7 +9,8 @@ ghost use Rattle.wedge_core.specs.Counts.{Counts as HostCounts};
 ghost use Rattle.wedge_core.specs.Surroundings.{around};
 ghost use Rattle.checkpoint.specs.InForm.{IsInForm};
 ghost use Rattle.pv_words.specs.View.{AreWithin};
-ghost use Rattle.pv_tasks.specs.Outside.{beside, outside};
+ghost use Rattle.pv_tasks.specs.Outside.{outside};
+ghost use Rattle.pv_tasks.specs.Beside.{beside};
 ghost use Rattle.pv_tasks.specs.Unread.{NotRead};
 ghost use Rattle.pv_tasks.specs.Faulting.{FaultsEnd};
 ghost use Rattle.pv_save.specs.Answering.{AnswersStart, AnswersState, HasForm};
@@ -169,7 +170,7 @@ fn leave<F: Files, S: Sink>(
     match rested {
         Ok(Rested::At(state)) => match checkpoint_file(alloc, &state) {
             Err(_) => Status::Memory,
-            Ok(made) => deliver(&made, name, files, out),
+            Ok(made) => deliver(&made, name, Status::Done, files, out),
         },
         Ok(Rested::Stopped(ended)) => tell_run(alloc, Ok(ended), out),
         Err(fault) => tell_run(alloc, Err(fault), out),

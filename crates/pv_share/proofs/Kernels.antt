@@ -8,7 +8,8 @@ use Rattle.board.specs.ScriptForm.{is_script}
 use Rattle.guest_sched.specs.declared.kernel.Kernel.{Kernel}
 use Rattle.pv_build.specs.declared.halt.Halt.{Halt}
 use Rattle.pv_words.specs.Words.{KernelNames, names_in_pairs}
-use Rattle.pv_share.specs.Kernels.{HasKernel, HasKernels, AreKernels}
+use Rattle.pv_share.specs.Kernels.{HasKernel, HasKernels}
+use Rattle.pv_share.specs.Unshared.{AreKernels}
 
 -- ---- words in pairs
 

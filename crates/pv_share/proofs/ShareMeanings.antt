@@ -21,7 +21,8 @@ use Rattle.guest_sched.proofs.AnsweredBy.{SharedAnswers}
 use Rattle.guest_sched.proofs.ReadAlone.{lines_alone}
 use Rattle.pv_build.specs.Lines.{small_line}
 use Rattle.pv_build.specs.Telling.{Whole, ToldAs}
-use Rattle.pv_share.specs.Kernels.{HasKernels, IsShared, NoShared, NoneRead, NoSchedule}
+use Rattle.pv_share.specs.Kernels.{HasKernels, IsShared}
+use Rattle.pv_share.specs.Unshared.{NoShared, NoneRead, NoSchedule}
 use Rattle.pv_build.specs.declared.status.Status.{Status}
 use Rattle.pv_build.specs.declared.status.Status.TheVariants as status
 use Rattle.pv_words.specs.Words.{KernelNames, names_in_pairs, makes_pairs}
@@ -30,7 +31,7 @@ use Rattle.pv_tasks.specs.Outcome.{Outcome, Turns, refused, told}
 use Rattle.pv_share.specs.Sharing.{has_stopped, status_of_all, SharesTurns, SharesOn, Ran, Small, BySchedule, Shares, NoneShared, AllRead, share_task}
 use Rattle.pv_share.specs.Told.{SharedToldAs, run_fault}
 use Rattle.pv_tasks.specs.Tasks.{Means, NoPut}
-use Rattle.pv_tasks.proofs.Deliveries.{says_told, past_none}
+use Rattle.pv_tasks.proofs.Deliveries.{says_told, none_first}
 use Rattle.pv_tasks.proofs.RunMeanings.{appends_on, front_on, rose_on, says_from}
 use Rattle.pv_tasks.proofs.Works.{ended_is_end}
 use Rattle.pv_share.proofs.ShareLaws.{all_ended}
@@ -56,8 +57,8 @@ front_behind (Some old) between new first text appends h =
 
 -- the output failed in a turn, or in the last lines
 write_fails : (schedule : List ℕ) (frames : ℕ) (names : List KernelNames) (o : Outside) (kernels : List Kernel) (slices : List Slice) (mid : Option (List ℕ)) (middle : ℕ)
-    → IsShared o.files schedule names kernels slices → o.files_after ≡ o.files → AllFit frames kernels → o.taken_after ≡ mid → o.puts_after ≡ middle → Rose o.puts middle
-    → (FailsInTurn kernels slices frames o.taken mid ⊎ FailsAtEnd kernels slices frames o.taken mid) → Means (share_task schedule frames names) o status.WriteFault
+    → IsShared o.before.files schedule names kernels slices → o.after.files ≡ o.before.files → AllFit frames kernels → o.after.taken ≡ mid → o.after.puts ≡ middle → Rose o.before.puts middle
+    → (FailsInTurn kernels slices frames o.before.taken mid ⊎ FailsAtEnd kernels slices frames o.before.taken mid) → Means (share_task schedule frames names) o status.WriteFault
 write_fails schedule frames names o kernels slices mid middle shared same fit taken count rose (inl h) =
     let text = flat_map piece_text h.pieces ++ piece_text h.last in
     inr (record {
@@ -80,8 +81,8 @@ write_fails schedule frames names o kernels slices mid middle shared same fit ta
         text_is = refl;
       };
       same = same;
-      front = front_on o.taken mid o.taken_after text taken (front_behind o.taken h.between mid (flat_map piece_text h.pieces) (piece_text h.last) h.text h.front);
-      rose = rose_on o.puts middle o.puts_after count rose;
+      front = front_on o.before.taken mid o.after.taken text taken (front_behind o.before.taken h.between mid (flat_map piece_text h.pieces) (piece_text h.last) h.text h.front);
+      rose = rose_on o.before.puts middle o.after.puts count rose;
     })
 write_fails schedule frames names o kernels slices mid middle shared same fit taken count rose (inr h) =
     let w = told (status_of_all h.ended) (shared_text h.pieces h.ended) (Turns (λ before. counts_over (sites_in kernels) before h.pieces)) in
@@ -95,14 +96,14 @@ write_fails schedule frames names o kernels slices mid middle shared same fit ta
     } in
     inl (
       w,
-      by_shared o.files schedule frames names kernels slices w shared (Ran fit turns),
-      NoPut same (past_none w o.taken o.taken_after refl (front_on o.taken mid o.taken_after w.text taken h.front)) (rose_on o.puts middle o.puts_after count rose),
+      by_shared o.before.files schedule frames names kernels slices w shared (Ran fit turns),
+      NoPut o.before.taken same (none_first w o.before.taken refl) (front_on o.before.taken mid o.after.taken w.text taken h.front) (rose_on o.before.puts middle o.after.puts count rose),
     )
 
 -- what was answered was told
 pub share_means : (schedule : List ℕ) (frames : ℕ) (names : List KernelNames) (o : Outside) (st : Status) (kernels : List Kernel) (slices : List Slice) (mid : Option (List ℕ)) (middle : ℕ) (memory : List ℕ) (r : Result (Vec Ended Global) SharedFault)
-    → IsShared o.files schedule names kernels slices → o.files_after ≡ o.files → SharedAnswers kernels slices frames o.taken mid o.puts middle o.completed o.completed_after memory r
-    → SharedToldAs r mid o.taken_after middle o.puts_after st → Means (share_task schedule frames names) o st
+    → IsShared o.before.files schedule names kernels slices → o.after.files ≡ o.before.files → SharedAnswers kernels slices frames o.before.taken mid o.before.puts middle o.before.completed o.after.completed memory r
+    → SharedToldAs r mid o.after.taken middle o.after.puts st → Means (share_task schedule frames names) o st
 share_means schedule frames names o st kernels slices mid middle memory (Ok ended) shared same h said =
     let run = h.1 in
     let w = told (status_of_all ended.items) (shared_text run.pieces ended.items) (Turns (λ before. counts_over (sites_in kernels) before run.pieces)) in
@@ -114,14 +115,14 @@ share_means schedule frames names o st kernels slices mid middle memory (Ok ende
       lines = subst (λ (t : List ℕ). LinesAreAlone 0 t run.pieces ended.items) run.text_is run.lines;
       comes = refl;
     } in
-    says_told (share_task schedule frames names) o w st (ended_is_end (status_of_all ended.items) (all_ended ended.items)) refl (by_shared o.files schedule frames names kernels slices w shared (Ran h.2 turns)) same
-    (λ end. run.counts) (Whole said.0 (appends_on o.taken mid o.taken_after w.text said.1 (subst (λ (t : List ℕ). Appends o.taken mid t) run.text_is h.3)))
+    says_told (share_task schedule frames names) o w st (ended_is_end (status_of_all ended.items) (all_ended ended.items)) refl (by_shared o.before.files schedule frames names kernels slices w shared (Ran h.2 turns)) same
+    (λ end. run.counts) (Whole said.0 (appends_on o.before.taken mid o.after.taken w.text said.1 (subst (λ (t : List ℕ). Appends o.before.taken mid t) run.text_is h.3)))
 share_means schedule frames names o st kernels slices mid middle memory (Err fault.Write) shared same h said =
     subst (λ (s : Status). Means (share_task schedule frames names) o s) (sym said.0) (write_fails schedule frames names o kernels slices mid middle shared same h.0 said.1 said.2 h.2 h.1)
 share_means schedule frames names o st kernels slices mid middle memory (Err (fault.TooSmall small)) shared same h (inl said) =
     let line = small_line small.need small.have in
-    says_told (share_task schedule frames names) o (refused line) st tt refl (by_shared o.files schedule frames names kernels slices (refused line) shared (Small small h.0 refl)) same (λ end. h.1.2)
-    (says_from line o.taken mid o.taken_after o.puts middle o.puts_after st h.1.0 h.1.1 said)
+    says_told (share_task schedule frames names) o (refused line) st tt refl (by_shared o.before.files schedule frames names kernels slices (refused line) shared (Small small h.0 refl)) same (λ end. h.1.2)
+    (says_from line o.before.taken mid o.after.taken o.before.puts middle o.after.puts st h.1.0 h.1.1 said)
 share_means schedule frames names o st kernels slices mid middle memory (Err (fault.TooSmall small)) shared same h (inr none) =
     subst (λ (s : Status). Means (share_task schedule frames names) o s) (sym none.0) (same, inl (none.1 ∙ h.1.0, h.1.2))
 share_means schedule frames names o st kernels slices mid middle memory (Err fault.Memory) shared same h said =

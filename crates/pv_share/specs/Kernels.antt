@@ -1,12 +1,9 @@
 -- Several kernels by the names of their files: each an image, and the script under which it is run.
-use Rattle.std.specs.Prelude.{◌≡◌, ◌⊎◌, ℕ, true, List, [], ◌∷◌, length, Option, Ok, Err}
-use Rattle.std.specs.List.{All}
-use Rattle.pv_io.specs.Files.{FileMap, Holds, IsHeld}
-use Rattle.board.specs.ScriptForm.{is_script}
+use Rattle.std.specs.Prelude.{◌≡◌, ◌⊎◌, ℕ, List, [], ◌∷◌, length, Option, Ok}
+use Rattle.std.specs.List.{AllZip}
+use Rattle.pv_io.specs.Files.{FileMap, Holds}
 use Rattle.guest_sched.specs.declared.kernel.Kernel.{Kernel}
-use Rattle.guest_sched.specs.declared.fault.ScheduleCause.{ScheduleCause}
 use Rattle.guest_sched.specs.Texts.{schedule_of}
-use Rattle.pv_share.specs.ScheduleLines.{schedule_line}
 use Rattle.pv_words.specs.Words.{KernelNames}
 use Rattle.pv_build.specs.Images.{HasImage}
 use Rattle.pv_build.specs.Scripts.{HasScript, FindsRun, NoRun}
@@ -19,10 +16,7 @@ pub record HasKernel (files : Option FileMap) (names : KernelNames) (kernel : Ke
 
 -- so each of them
 abbrev pub HasKernels : Option FileMap → List KernelNames → List Kernel → Type 0
-HasKernels files [] [] = Unit {0}
-HasKernels files [] (kernel ∷ kernels) = ⊥
-HasKernels files (names ∷ more) [] = ⊥
-HasKernels files (names ∷ more) (kernel ∷ kernels) = HasKernel files names kernel × HasKernels files more kernels
+HasKernels files names kernels = AllZip (HasKernel files) names kernels
 
 -- Each name that is reached is held: a kernel's are reached where those before it hold kernels.
 abbrev pub FindsKernels : Option FileMap → List KernelNames → Type 0
@@ -34,25 +28,9 @@ abbrev pub NoKernel : Option FileMap → List KernelNames → List ℕ → Type 
 NoKernel files [] line = ⊥
 NoKernel files (names ∷ more) line = NoRun files names.image names.script line ⊎ ((kernel : Kernel) × HasKernel files names kernel × NoKernel files more line)
 
--- kernels with scripts in the form, which the names hold
-pub record AreKernels (files : Option FileMap) (names : List KernelNames) (kernels : List Kernel) : Type 0 where
-  pub has : HasKernels files names kernels
-  pub scripts : All (λ (kernel : Kernel). is_script kernel.script.list ≡ true) kernels
-
--- ---- with their schedule, which is loaded before them and read behind them
-
-abbrev pub FindsShared : Option FileMap → List ℕ → List KernelNames → Type 0
-FindsShared files schedule names = IsHeld files schedule × FindsKernels files names
-
--- what was read
+-- with their schedule, which is loaded before them and read behind them
 pub record IsShared (files : Option FileMap) (schedule : List ℕ) (names : List KernelNames) (kernels : List Kernel) (slices : List Slice) : Type 0 where
   pub text : List ℕ
   pub holds : Holds files schedule text
   pub has : HasKernels files names kernels
   pub says : schedule_of (length kernels) text ≡ Ok slices
-
--- why nothing is shared: the first kernel that there is not, or then the schedule
-pub data NoShared (files : Option FileMap) (schedule : List ℕ) (names : List KernelNames) (line : List ℕ) : Type 0 where
-  NoneRead : (text : List ℕ) → Holds files schedule text → NoKernel files names line → NoShared files schedule names line
-  NoSchedule : (text : List ℕ) (kernels : List Kernel) (at : ℕ) (cause : ScheduleCause) → Holds files schedule text → HasKernels files names kernels
-      → schedule_of (length kernels) text ≡ Err (at, cause) → line ≡ schedule_line at cause → NoShared files schedule names line

@@ -9,7 +9,8 @@ ghost use Rattle.pv_build.specs.Failures.{NoneFailedIn};
 ghost use Rattle.pv_share.specs.ScheduleLines.{schedule_number};
 ghost use Rattle.pv_build.specs.Telling.{HaltsOverFiles};
 ghost use Rattle.pv_words.specs.Words.{names_in_pairs};
-ghost use Rattle.pv_share.specs.Kernels.{AreKernels, IsShared, FindsKernels, FindsShared, NoKernel, NoShared};
+ghost use Rattle.pv_share.specs.Kernels.{IsShared, FindsKernels, NoKernel};
+ghost use Rattle.pv_share.specs.Unshared.{AreKernels, FindsShared, NoShared};
 
 use guest_sched::{Kernel, Schedule, ScheduleCause, ScheduleFault, read_schedule};
 use pv_build::{Halt, line_line, load, refused, runnable_in_files};

@@ -19,7 +19,7 @@ pub refuses_image : (files : Option FileMap) (name line : List ℕ) → (refusal
 refuses_image files name line h = (h.1.0, h.1.1, ap refused h.2 ∙ sym (ap checked h.1.2))
 
 -- an accepted image whose line was put
-pub tells_image : (name line : List ℕ) (image : Image) (o : Outside) (st : Status) → HasImage o.files name image → line ≡ accepted_line image → o.files_after ≡ o.files → o.completed_after ≡ o.completed
-    → Says line status.Done o.taken o.taken_after o.puts o.puts_after st → Means (check_task name) o st
+pub tells_image : (name line : List ℕ) (image : Image) (o : Outside) (st : Status) → HasImage o.before.files name image → line ≡ accepted_line image → o.after.files ≡ o.before.files → o.after.completed ≡ o.before.completed
+    → Says line status.Done o.before.taken o.after.taken o.before.puts o.after.puts st → Means (check_task name) o st
 tells_image name line image o st has is same none said =
     says (check_task name) o (printed line) st tt refl (has.0, has.1, ap printed is ∙ sym (ap checked has.2)) same (λ end. none) said

@@ -4,9 +4,7 @@ use Rattle.pv_io.specs.Causes.{Rose}
 use Rattle.pv_io.specs.Files.{FileMap}
 use Rattle.pv_io.specs.Sink.{Appends, AppendsFront}
 use Rattle.board.specs.Scripts.{Events}
-use Rattle.board.specs.declared.fault.ScriptCause.{ScriptCause}
 use Rattle.image_check.specs.Image.{Image}
-use Rattle.image_check.specs.Refusals.{Refusal}
 use Rattle.image_load.specs.Boot.{need}
 use Rattle.image_load.specs.declared.boot.TooSmall.{TooSmall}
 use Rattle.image_load.specs.declared.fault.RunFault.{RunFault}
@@ -26,12 +24,12 @@ use Rattle.pv_build.specs.Lines.{small_line}
 use Rattle.pv_build.specs.Telling.{Says, Whole, Cut, ToldAs}
 use Rattle.pv_build.specs.Statuses.{status_of}
 use Rattle.pv_build.specs.Images.{HasImage}
-use Rattle.pv_build.specs.Scripts.{HasScript, NoRun, NoImage, NoScript, FindsRun}
+use Rattle.pv_build.specs.Scripts.{HasScript, NoRun, FindsRun}
 use Rattle.pv_build.specs.declared.status.Status.{Status}
 use Rattle.pv_build.specs.declared.status.Status.TheVariants as status
 use Rattle.pv_tasks.specs.Outside.{Outside}
 use Rattle.pv_tasks.specs.Outcome.{Outcome, HostedRun, HasEnded, HostDid, refused, ended, ended_on_host}
-use Rattle.pv_tasks.specs.Running.{RunsBare, RunsPatched, RunsOn, Ran, Small, ReadsScript, ReadsImage, Reads, WithFrames, Runs}
+use Rattle.pv_tasks.specs.Running.{RunsBare, RunsPatched, RunsOn, Ran, Small, Reads, Unread, Runs}
 use Rattle.pv_tasks.specs.Answering.{AnswersOn}
 use Rattle.pv_tasks.specs.Tasks.{Task, Means}
 use Rattle.pv_tasks.specs.Asked.{asked_run}
@@ -40,7 +38,7 @@ use Rattle.pv_words.specs.declared.mode.RunMode.{RunMode}
 use Rattle.pv_words.specs.declared.mode.RunMode.TheVariants as mode
 use Rattle.pv_tasks.proofs.Around.{around_of}
 use Rattle.pv_tasks.proofs.Deliveries.{says_told}
-use Rattle.pv_tasks.proofs.Works.{IsEnd, IsTold, AreEnds, AreTold, ended_is_end, frames_all, with_image, with_both}
+use Rattle.pv_tasks.proofs.Works.{IsEnd, IsTold, AreEnds, AreTold, ended_is_end, frames_all, WithFrames, with_both}
 
 -- ---- one run
 
@@ -185,18 +183,14 @@ runs_end runs image events frames w are h =
 -- there is nothing to run
 pub no_run : (goes : Image → Events → Outcome → Type 0) (files : Option FileMap) (image script : List ℕ) (line : List ℕ)
     → NoRun files image script line → Reads goes files image script (refused line)
-no_run goes files image script line (NoImage refusal has is) =
-    (has.0, has.1, subst (λ (r : Result Image Refusal). ReadsImage goes files script r (refused line)) (sym has.2) (ap refused is))
-no_run goes files image script line (NoScript i at cause has none is) =
-    with_image goes files image script i (refused line) has
-    (none.0, none.1, subst (λ (r : Result Events (ℕ × ScriptCause)). ReadsScript goes i r (refused line)) (sym none.2) (ap refused is))
+no_run goes files image script line none = Unread line none refl
 
 -- a run of the files' image and script
 pub run_means : (task : Task) (runs : Image → Events → Outcome → Type 0) (image script : List ℕ) (frames : ℕ) (o : Outside) (st : Status) (i : Image) (s : Events) → AreEnds runs → AreTold runs
-    → ((w : Outcome) → Runs runs frames o.files image script w → task.gives o.files w) → HasImage o.files image i → HasScript o.files script s → o.files_after ≡ o.files
-    → RanAs (RunsOn (runs i s) i frames) (around_of o.taken o.taken_after o.puts o.puts_after o.completed o.completed_after) o.memory_after st → Means task o st
+    → ((w : Outcome) → Runs runs frames o.before.files image script w → task.gives o.before.files w) → HasImage o.before.files image i → HasScript o.before.files script s → o.after.files ≡ o.before.files
+    → RanAs (RunsOn (runs i s) i frames) (around_of o.before.taken o.after.taken o.before.puts o.after.puts o.before.completed o.after.completed) o.after.memory st → Means task o st
 run_means task runs image script frames o st i s are told gives has has_script same (inl (w, h, said, does)) =
-    says_told task o w st (runs_end runs i s frames w are h) (runs_told runs i s frames w told h) (gives w (with_both (WithFrames runs frames) o.files image script i s w has has_script h)) same does said
+    says_told task o w st (runs_end runs i s frames w are h) (runs_told runs i s frames w told h) (gives w (with_both (WithFrames runs frames) o.before.files image script i s w has has_script h)) same does said
 run_means task runs image script frames o st i s are told gives has has_script same (inr (is, none, still)) =
     subst (λ (x : Status). Means task o x) (sym is) (same, inl (none, still))
 

@@ -139,8 +139,8 @@ works_once number w v is h k =
 
 -- ---- what the status means
 
-pub work_means : (number : ℕ) (o : Outside) (st : Status) → o.files_after ≡ o.files
-    → WorkedAs number (around_of o.taken o.taken_after o.puts o.puts_after o.completed o.completed_after) o.memory_after st → Means (work_task number) o st
+pub work_means : (number : ℕ) (o : Outside) (st : Status) → o.after.files ≡ o.before.files
+    → WorkedAs number (around_of o.before.taken o.after.taken o.before.puts o.after.puts o.before.completed o.after.completed) o.after.memory st → Means (work_task number) o st
 work_means number o st same (inl (w, h, said, does)) =
     says_told (work_task number) o w st (works_end number w h) (works_told number w h) h same does said
 work_means number o st same (inr (is, none)) = subst (λ (x : Status). Means (work_task number) o x) (sym is) (same, inr none)

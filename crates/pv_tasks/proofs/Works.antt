@@ -1,6 +1,6 @@
 -- Work that goes on from the image and the script that files hold.
-use Rattle.std.proofs.Common.{◌≡◌, ℕ, ◌≤◌, List, Option, Some, None, Result, Ok, Err, refl, sym, ap, subst, ◌∙◌, arith}
-use Rattle.pv_io.specs.Files.{FileMap}
+use Rattle.std.proofs.Common.{◌≡◌, ℕ, ◌≤◌, List, Option, Some, None, Result, Ok, Err, sym, ap, subst, ◌∙◌, arith}
+use Rattle.pv_io.specs.Files.{FileMap, Holds}
 use Rattle.board.specs.Scripts.{Events}
 use Rattle.board.specs.Texts.{script_of}
 use Rattle.board.specs.declared.fault.ScriptCause.{ScriptCause}
@@ -9,12 +9,12 @@ use Rattle.image_check.specs.Refusals.{Refusal}
 use Rattle.image_check.specs.Checking.{image_of}
 use Rattle.image_load.specs.Boot.{need}
 use Rattle.pv_build.specs.Lines.{image_line, script_line}
-use Rattle.pv_build.specs.Images.{HasImage}
-use Rattle.pv_build.specs.Scripts.{HasScript, FindsRun}
+use Rattle.pv_build.specs.Images.{HasImage, HasNoImage}
+use Rattle.pv_build.specs.Scripts.{HasScript, HasNoScript, NoImage, NoScript, NoRun, FindsRun}
 use Rattle.pv_build.specs.declared.status.Status.{Status}
 use Rattle.pv_build.specs.declared.status.Status.TheVariants as status
 use Rattle.pv_tasks.specs.Outcome.{Outcome, refused, told, HasEnded}
-use Rattle.pv_tasks.specs.Running.{Ran, Small, ReadsScript, ReadsImage, Reads, WithFrames}
+use Rattle.pv_tasks.specs.Running.{RunsOn, Ran, Small, Reads, Unread, BothRead}
 use Rattle.pv_tasks.proofs.SameFiles.{same_file}
 
 -- ---- outcomes
@@ -66,76 +66,78 @@ ended_refusal w h = λ is. absurd (ended_not_refused w.status h is)
 
 -- ---- over the files
 
+-- what a name's file is read as is one thing
+read_again : {X E : Type 0} (read : List ℕ → Result X E) (told : FileMap) (name f g : List ℕ) (b : Result X E) → Holds (Some told) name f → Holds (Some told) name g → read g ≡ b → read f ≡ b
+read_again read told name f g b h k is = ap read (same_file told name f g h k) ∙ is
+
+ok_same : {X E : Type 0} (r : Result X E) (a b : X) → r ≡ Ok a → r ≡ Ok b → b ≡ a
+ok_same r a b is be = cc
+
+err_same : {X E : Type 0} (r : Result X E) (a b : E) → r ≡ Err a → r ≡ Err b → b ≡ a
+err_same r a b is be = cc
+
+ok_or_err : {X E : Type 0} (r : Result X E) (a : X) (b : E) → r ≡ Ok a → r ≡ Err b → ⊥
+ok_or_err r a b is be = cc
+
+image_same : (told : FileMap) (name : List ℕ) (a b : Image) → HasImage (Some told) name a → HasImage (Some told) name b → b ≡ a
+image_same told name a b h k = ok_same (image_of h.0) a b h.2 (read_again image_of told name h.0 k.0 (Ok b) h.1 k.1 k.2)
+
+script_same : (told : FileMap) (name : List ℕ) (a b : Events) → HasScript (Some told) name a → HasScript (Some told) name b → b ≡ a
+script_same told name a b h k = ok_same (script_of h.0) a b h.2 (read_again script_of told name h.0 k.0 (Ok b) h.1 k.1 k.2)
+
+image_or_none : (told : FileMap) (name : List ℕ) (a : Image) (b : Refusal) → HasImage (Some told) name a → HasNoImage (Some told) name b → ⊥
+image_or_none told name a b h k = ok_or_err (image_of h.0) a b h.2 (read_again image_of told name h.0 k.0 (Err b) h.1 k.1 k.2)
+
+script_or_none : (told : FileMap) (name : List ℕ) (a : Events) (b : ℕ × ScriptCause) → HasScript (Some told) name a → HasNoScript (Some told) name b → ⊥
+script_or_none told name a b h k = ok_or_err (script_of h.0) a b h.2 (read_again script_of told name h.0 k.0 (Err b) h.1 k.1 k.2)
+
+-- there is nothing to run for one reason
+none_same : (told : FileMap) (image script a b : List ℕ) → NoRun (Some told) image script a → NoRun (Some told) image script b → b ≡ a
+none_same told image script a b (NoImage r h is) (NoImage q k be) =
+    be ∙ (ap image_line (err_same (image_of h.0) r q h.2 (read_again image_of told image h.0 k.0 (Err q) h.1 k.1 k.2)) ∙ sym is)
+none_same told image script a b (NoImage r h is) (NoScript p at cause has k be) = absurd (image_or_none told image p r has h)
+none_same told image script a b (NoScript p at cause has h is) (NoImage r k be) = absurd (image_or_none told image p r has k)
+none_same told image script a b (NoScript p at cause has h is) (NoScript q at2 cause2 has2 k be) =
+    let one = err_same (script_of h.0) (at, cause) (at2, cause2) h.2 (read_again script_of told script h.0 k.0 (Err (at2, cause2)) h.1 k.1 k.2) in
+    be ∙ (ap (λ (f : ℕ × ScriptCause). script_line f.0 f.1) one ∙ sym is)
+
+run_or_none : (told : FileMap) (image script line : List ℕ) (program : Image) (events : Events) → NoRun (Some told) image script line → HasImage (Some told) image program → HasScript (Some told) script events → ⊥
+run_or_none told image script line program events (NoImage r h is) has says = image_or_none told image program r has h
+run_or_none told image script line program events (NoScript p at cause also h is) has says = script_or_none told script events (at, cause) says h
+
 -- what holds of each refusal and of all that the work goes on to holds of what it comes to
-script_all : (P : Outcome → Type 0) (goes : Image → Events → Outcome → Type 0) (image : Image) (r : Result Events (ℕ × ScriptCause)) (w : Outcome)
-    → ((line : List ℕ) → P (refused line)) → ((image : Image) (events : Events) (w : Outcome) → goes image events w → P w) → ReadsScript goes image r w → P w
-script_all P goes image (Ok events) w of_line of_work h = of_work image events w h
-script_all P goes image (Err (line, cause)) w of_line of_work h = subst P (sym h) (of_line (script_line line cause))
-
-image_all : (P : Outcome → Type 0) (goes : Image → Events → Outcome → Type 0) (files : Option FileMap) (script : List ℕ) (r : Result Image Refusal) (w : Outcome)
-    → ((line : List ℕ) → P (refused line)) → ((image : Image) (events : Events) (w : Outcome) → goes image events w → P w) → ReadsImage goes files script r w → P w
-image_all P goes files script (Ok image) w of_line of_work h = script_all P goes image (script_of h.0) w of_line of_work h.2
-image_all P goes files script (Err refusal) w of_line of_work h = subst P (sym h) (of_line (image_line refusal))
-
 pub reads_all : (P : Outcome → Type 0) (goes : Image → Events → Outcome → Type 0) (files : Option FileMap) (image script : List ℕ) (w : Outcome)
     → ((line : List ℕ) → P (refused line)) → ((image : Image) (events : Events) (w : Outcome) → goes image events w → P w) → Reads goes files image script w → P w
-reads_all P goes files image script w of_line of_work h = image_all P goes files script (image_of h.0) w of_line of_work h.2
+reads_all P goes files image script w of_line of_work (Unread line none is) = subst P (sym is) (of_line line)
+reads_all P goes files image script w of_line of_work (BothRead program events has says h) = of_work program events w h
 
 -- what is refused comes to nothing else
 abbrev pub IsOnce : (Image → Events → Outcome → Type 0) → Type 0
 IsOnce goes = (image : Image) (events : Events) (w v : Outcome) → w.status ≡ status.Refused → goes image events w → goes image events v → v ≡ w
 
-script_once : (goes : Image → Events → Outcome → Type 0) (image : Image) (r : Result Events (ℕ × ScriptCause)) (w v : Outcome) → IsOnce goes → w.status ≡ status.Refused
-    → ReadsScript goes image r w → ReadsScript goes image r v → v ≡ w
-script_once goes image (Ok events) w v once is h k = once image events w v is h k
-script_once goes image (Err (line, cause)) w v once is h k = k ∙ sym h
-
-image_once : (goes : Image → Events → Outcome → Type 0) (told : FileMap) (script : List ℕ) (r : Result Image Refusal) (w v : Outcome) → IsOnce goes → w.status ≡ status.Refused
-    → ReadsImage goes (Some told) script r w → ReadsImage goes (Some told) script r v → v ≡ w
-image_once goes told script (Ok image) w v once is h k =
-    let same = same_file told script k.0 h.0 k.1 h.1 in
-    script_once goes image (script_of h.0) w v once is h.2 (subst (λ (f : List ℕ). ReadsScript goes image (script_of f) v) same k.2)
-image_once goes told script (Err refusal) w v once is h k = k ∙ sym h
-
-pub reads_once : (goes : Image → Events → Outcome → Type 0) (told : FileMap) (image script : List ℕ) (w v : Outcome) → IsOnce goes → w.status ≡ status.Refused
-    → Reads goes (Some told) image script w → Reads goes (Some told) image script v → v ≡ w
-reads_once goes told image script w v once is h k =
-    let same = same_file told image k.0 h.0 k.1 h.1 in
-    image_once goes told script (image_of h.0) w v once is h.2 (subst (λ (f : List ℕ). ReadsImage goes (Some told) script (image_of f) v) same k.2)
-
 -- over an image and a script that are held the work goes on
 pub reads_both : (goes : Image → Events → Outcome → Type 0) (told : FileMap) (image script : List ℕ) (program : Image) (events : Events) (w : Outcome)
     → HasImage (Some told) image program → HasScript (Some told) script events → Reads goes (Some told) image script w → goes program events w
-reads_both goes told image script program events w has says h =
-    let same = same_file told image h.0 has.0 h.1 has.1 in
-    let of_file = subst (λ (f : List ℕ). ReadsImage goes (Some told) script (image_of f) w) same h.2 in
-    let of_image = subst (λ (r : Result Image Refusal). ReadsImage goes (Some told) script r w) has.2 of_file in
-    let same_script = same_file told script of_image.0 says.0 of_image.1 says.1 in
-    let of_text = subst (λ (f : List ℕ). ReadsScript goes program (script_of f) w) same_script of_image.2 in
-    subst (λ (r : Result Events (ℕ × ScriptCause)). ReadsScript goes program r w) says.2 of_text
+reads_both goes told image script program events w has says (Unread line none is) = absurd (run_or_none told image script line program events none has says)
+reads_both goes told image script program events w has says (BothRead p e held said h) =
+    subst (λ (i : Image). goes i events w) (image_same told image program p has held) (subst (λ (s : Events). goes p s w) (script_same told script events e says said) h)
+
+pub reads_once : (goes : Image → Events → Outcome → Type 0) (told : FileMap) (image script : List ℕ) (w v : Outcome) → IsOnce goes → w.status ≡ status.Refused
+    → Reads goes (Some told) image script w → Reads goes (Some told) image script v → v ≡ w
+reads_once goes told image script w v once is (Unread line none one) (Unread line2 none2 two) = two ∙ (ap refused (none_same told image script line line2 none none2) ∙ sym one)
+reads_once goes told image script w v once is (Unread line none one) (BothRead p e has says k) = absurd (run_or_none told image script line p e none has says)
+reads_once goes told image script w v once is (BothRead p e has says h) k = once p e w v is h (reads_both goes told image script p e v has says k)
 
 -- and to where it goes on it comes
-pub with_image : (goes : Image → Events → Outcome → Type 0) (files : Option FileMap) (image script : List ℕ) (program : Image) (w : Outcome) → HasImage files image program
-    → ReadsImage goes files script (Ok program) w → Reads goes files image script w
-with_image goes files image script program w has h =
-    (has.0, has.1, subst (λ (r : Result Image Refusal). ReadsImage goes files script r w) (sym has.2) h)
-
 pub with_both : (goes : Image → Events → Outcome → Type 0) (files : Option FileMap) (image script : List ℕ) (program : Image) (events : Events) (w : Outcome) → HasImage files image program
     → HasScript files script events → goes program events w → Reads goes files image script w
-with_both goes files image script program events w has says h =
-    with_image goes files image script program w has
-    (says.0, says.1, subst (λ (r : Result Events (ℕ × ScriptCause)). ReadsScript goes program r w) (sym says.2) h)
+with_both goes files image script program events w has says h = BothRead program events has says h
 
 -- each file that it reaches is held
 pub reads_found : (goes : Image → Events → Outcome → Type 0) (told : FileMap) (image script : List ℕ) (w : Outcome) → Reads goes (Some told) image script w → FindsRun (Some told) image script
-reads_found goes told image script w h = (
-  (h.0, h.1),
-  λ program has.
-      let same = same_file told image h.0 has.0 h.1 has.1 in
-      let of_file = subst (λ (f : List ℕ). ReadsImage goes (Some told) script (image_of f) w) same h.2 in
-      let of_image = subst (λ (r : Result Image Refusal). ReadsImage goes (Some told) script r w) has.2 of_file in
-      (of_image.0, of_image.1),
-)
+reads_found goes told image script w (Unread line (NoImage r h why) is) = ((h.0, h.1), λ program has. absurd (image_or_none told image program r has h))
+reads_found goes told image script w (Unread line (NoScript p at cause has none why) is) = ((has.0, has.1), λ program held. (none.0, none.1))
+reads_found goes told image script w (BothRead p e has says h) = ((has.0, has.1), λ program held. (says.0, says.1))
 
 -- what has ended has read an image and a script
 pub record Began (goes : Image → Events → Outcome → Type 0) (files : Option FileMap) (image script : List ℕ) (w : Outcome) : Type 0 where
@@ -149,25 +151,15 @@ pub record Began (goes : Image → Events → Outcome → Type 0) (files : Optio
 line_ends : (w : Outcome) (line : List ℕ) → w ≡ refused line → HasEnded w.status → ⊥
 line_ends w line is h = subst (λ (v : Outcome). HasEnded v.status) is h
 
-began_script : (goes : Image → Events → Outcome → Type 0) (program : Image) (r : Result Events (ℕ × ScriptCause)) (w : Outcome) → ReadsScript goes program r w → HasEnded w.status
-    → (events : Events) × (r ≡ Ok events) × goes program events w
-began_script goes program (Ok events) w h ended = (events, refl, h)
-began_script goes program (Err (line, cause)) w is ended = absurd (line_ends w (script_line line cause) is ended)
-
-began_image : (goes : Image → Events → Outcome → Type 0) (files : Option FileMap) (script : List ℕ) (r : Result Image Refusal) (w : Outcome) → ReadsImage goes files script r w
-    → HasEnded w.status → (program : Image) × (r ≡ Ok program) × (events : Events) × HasScript files script events × goes program events w
-began_image goes files script (Ok program) w h ended =
-    let s = began_script goes program (script_of h.0) w h.2 ended in
-    (program, refl, s.0, (h.0, h.1, s.1), s.2)
-began_image goes files script (Err refusal) w is ended = absurd (line_ends w (image_line refusal) is ended)
-
 pub reads_began : (goes : Image → Events → Outcome → Type 0) (files : Option FileMap) (image script : List ℕ) (w : Outcome) → Reads goes files image script w → HasEnded w.status
     → Began goes files image script w
-reads_began goes files image script w h ended =
-    let b = began_image goes files script (image_of h.0) w h.2 ended in
-    record { program = b.0; events = b.2; accepted = (h.0, h.1, b.1); read = b.3; goes_on = b.4 }
+reads_began goes files image script w (Unread line none is) ended = absurd (line_ends w line is ended)
+reads_began goes files image script w (BothRead p e has says h) ended = record { program = p; events = e; accepted = has; read = says; goes_on = h }
 
 -- ---- with so many frames
+
+abbrev pub WithFrames : (Image → Events → Outcome → Type 0) → ℕ → Image → Events → Outcome → Type 0
+WithFrames runs frames image events w = RunsOn (runs image events) image frames w
 
 -- such outcomes are ends of runs
 abbrev pub AreEnds : (Image → Events → Outcome → Type 0) → Type 0

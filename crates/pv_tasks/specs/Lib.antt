@@ -1,4 +1,5 @@
 pub mod Outside
+pub mod Beside
 pub mod Faulting
 pub mod Unread
 pub mod Outcome

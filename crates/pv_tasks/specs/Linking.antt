@@ -1,16 +1,14 @@
 -- The work of `link`: each object is read before the next is loaded.
-use Rattle.std.specs.Prelude.{◌≡◌, ◌≤◌, ℕ, List, [], ◌∷◌, Option, Some, Result, Ok, Err, length}
+use Rattle.std.specs.Prelude.{◌≡◌, ℕ, List, Option, Some, Result, Ok, Err}
 use Rattle.pv_io.specs.Files.{FileMap, Stores}
-use Rattle.elf_form.specs.declared.segments.TheConstants.{FILE_LIMIT}
 use Rattle.elf_form.specs.Faults.{Fault}
 use Rattle.elf_form.specs.ObjectParts.{ObjectParts}
-use Rattle.elf_form.specs.ObjectLayout.{object_bytes}
 use Rattle.elf_form.specs.ImageParts.{ImageParts}
 use Rattle.elf_form.specs.ImageLayout.{image_bytes}
 use Rattle.elf_link.specs.Refusals.{Refused}
 use Rattle.elf_link.specs.Linked.{linked_image}
 use Rattle.pv_build.specs.Lines.{form_number, object_place_line, link_line}
-use Rattle.pv_build.specs.Objects.{ReadsBack, HasObjects, FindsObjects, FirstFault}
+use Rattle.pv_build.specs.Objects.{HasObjects, FindsObjects, FirstFault}
 use Rattle.pv_build.specs.Images.{image_made_line, ImageReadsBack}
 use Rattle.pv_tasks.specs.Outcome.{Outcome, refused, stored_as}
 use Rattle.pv_tasks.specs.Tasks.{Task, plain}
@@ -23,13 +21,6 @@ linked name (Err fault) = refused (link_line fault.object fault.cause)
 pub data Links (files : Option FileMap) (image : List ℕ) (objects : List (List ℕ)) (w : Outcome) : Type 0 where
   AllRead : (os : List ObjectParts) → HasObjects files objects os → w ≡ linked image (linked_image os) → Links files image objects w
   NoObject : (i : ℕ) (fault : Fault) → FirstFault files objects i fault → w ≡ refused (object_place_line (form_number fault.cause) i fault.at) → Links files image objects w
-
--- each name holds the file of the object of its place, which is read as that object and isn't too long
-abbrev pub HoldObjects : FileMap → List (List ℕ) → List ObjectParts → Type 0
-HoldObjects told [] [] = Unit {0}
-HoldObjects told [] (o ∷ os) = ⊥
-HoldObjects told (name ∷ names) [] = ⊥
-HoldObjects told (name ∷ names) (o ∷ os) = (told name ≡ Some (object_bytes o)) × (length (object_bytes o) ≤ FILE_LIMIT) × ReadsBack o × HoldObjects told names os
 
 -- the objects that the names hold are linked to this image, which is read back
 pub record HasLinked (files : Option FileMap) (objects : List (List ℕ)) (p : ImageParts) : Type 0 where

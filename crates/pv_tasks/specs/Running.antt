@@ -1,20 +1,17 @@
 -- The work of `run`: the image, then the script, then the run of both.
-use Rattle.std.specs.Prelude.{◌≡◌, ℕ, ◌<◌, ◌≤◌, true, List, Option, Result, Ok, Err}
-use Rattle.pv_io.specs.Files.{FileMap, Holds}
+use Rattle.std.specs.Prelude.{◌≡◌, ℕ, ◌<◌, ◌≤◌, true, List, Option}
+use Rattle.pv_io.specs.Files.{FileMap}
 use Rattle.board.specs.Scripts.{Events}
-use Rattle.board.specs.Texts.{script_of}
-use Rattle.board.specs.declared.fault.ScriptCause.{ScriptCause}
 use Rattle.image_check.specs.Image.{Image}
-use Rattle.image_check.specs.Refusals.{Refusal}
-use Rattle.image_check.specs.Checking.{image_of}
 use Rattle.image_load.specs.Boot.{need}
 use Rattle.run_trace.specs.declared.items.End.{End}
 use Rattle.machine_model.specs.State.{State, boot, wedge}
 use Rattle.machine_model.specs.Step.{Report}
 use Rattle.machine_model.specs.Run.{Set, Run, stopping}
 use Rattle.bare_machine.specs.Runs.{HasRun}
-use Rattle.pv_build.specs.Lines.{image_line, script_line, small_line}
-use Rattle.pv_build.specs.Scripts.{FindsRun}
+use Rattle.pv_build.specs.Lines.{small_line}
+use Rattle.pv_build.specs.Images.{HasImage}
+use Rattle.pv_build.specs.Scripts.{HasScript, NoRun, FindsRun}
 use Rattle.pv_words.specs.declared.mode.RunMode.{RunMode}
 use Rattle.pv_words.specs.declared.mode.RunMode.TheVariants as mode
 use Rattle.pv_tasks.specs.Outcome.{Outcome, refused, ended, ended_on_host}
@@ -42,27 +39,17 @@ pub data RunsOn (ran : Outcome → Type 0) (image : Image) (frames : ℕ) (w : O
   Ran : need image ≤ frames → ran w → RunsOn ran image frames w
   Small : frames < need image → w ≡ refused (small_line (need image) frames) → RunsOn ran image frames w
 
--- Work that goes on so with an image and the events of a script, over what the script's file says.
-abbrev pub ReadsScript : (Image → Events → Outcome → Type 0) → Image → Result Events (ℕ × ScriptCause) → Outcome → Type 0
-ReadsScript goes image (Ok events) w = goes image events w
-ReadsScript goes image (Err (line, cause)) w = w ≡ refused (script_line line cause)
+-- What the files of an image and a script come to, where work goes on so with what they hold: that there is nothing to run is
+-- told, or it goes on.
+pub data Reads (goes : Image → Events → Outcome → Type 0) (files : Option FileMap) (image script : List ℕ) (w : Outcome)
+    : Type 0 where
+  Unread : (line : List ℕ) → NoRun files image script line → w ≡ refused line → Reads goes files image script w
+  BothRead : (program : Image) (events : Events) → HasImage files image program → HasScript files script events
+      → goes program events w → Reads goes files image script w
 
--- over what the image's file is: where it is refused the script isn't read
-abbrev pub ReadsImage : (Image → Events → Outcome → Type 0) → Option FileMap → List ℕ → Result Image Refusal → Outcome → Type 0
-ReadsImage goes files script (Ok image) w = (file : List ℕ) × Holds files script file × ReadsScript goes image (script_of file) w
-ReadsImage goes files script (Err refusal) w = w ≡ refused (image_line refusal)
-
--- what the files of an image and a script come to, where work goes on so with what they hold
-abbrev pub Reads : (Image → Events → Outcome → Type 0) → Option FileMap → List ℕ → List ℕ → Outcome → Type 0
-Reads goes files image script w = (file : List ℕ) × Holds files image file × ReadsImage goes files script (image_of file) w
-
--- a machine whose runs have such outcomes, with so many frames
-abbrev pub WithFrames : (Image → Events → Outcome → Type 0) → ℕ → Image → Events → Outcome → Type 0
-WithFrames runs frames image events w = RunsOn (runs image events) image frames w
-
--- what the files of an image and a script come to on it
+-- so on a machine whose runs have such outcomes, with so many frames
 abbrev pub Runs : (Image → Events → Outcome → Type 0) → ℕ → Option FileMap → List ℕ → List ℕ → Outcome → Type 0
-Runs runs frames files image script w = Reads (WithFrames runs frames) files image script w
+Runs runs frames files image script w = Reads (λ program events. RunsOn (runs program events) program frames) files image script w
 
 -- what `run` asks for on a machine
 abbrev pub run_task : RunMode → List ℕ → List ℕ → ℕ → ℕ → Task

@@ -56,4 +56,4 @@ pub record Works (number : ℕ) (w : Outcome) : Type 0 where
 
 -- what `work` asks for; it may find no memory for what its second run prints, or after it
 abbrev pub work_task : ℕ → Task
-work_task number = record (plain (λ files w. Works number w) (λ files. Unit {0})) { half_done = λ o. o.taken_after ≡ o.taken; on_host = true; reads = false }
+work_task number = record (plain (λ files w. Works number w) (λ files. Unit {0})) { half_done = λ o. o.after.taken ≡ o.before.taken; on_host = true; reads = false }

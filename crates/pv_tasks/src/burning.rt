@@ -9,7 +9,7 @@ ghost use Rattle.pv_build.specs.Failures.{NoneFailedIn};
 ghost use Rattle.pv_build.specs.Telling.{HaltsOverFiles};
 ghost use Rattle.pv_build.specs.Objects.{ReadsBack, object_made_line};
 ghost use Rattle.wedge_core.specs.Counts.{Counts as HostCounts};
-ghost use Rattle.pv_tasks.specs.Outside.{beside};
+ghost use Rattle.pv_tasks.specs.Beside.{beside};
 ghost use Rattle.pv_tasks.specs.Faulting.{FaultsEnd};
 ghost use Rattle.pv_tasks.specs.Outcome.{refused};
 ghost use Rattle.pv_tasks.specs.Burning.{Burns, HasBurnt, burn_task};
@@ -38,7 +38,7 @@ pub fn burn<F: Files, S: Sink>(
 {
     match made(alloc, source, files) {
         Err(halt) => end(&halt, out),
-        Ok(made) => deliver(&made, object, files, out),
+        Ok(made) => deliver(&made, object, Status::Done, files, out),
     }
 }
 

@@ -2,7 +2,7 @@
 
 ghost use Rattle.std.specs.Prelude.{List, ℕ};
 ghost use Rattle.wedge_core.specs.Counts.{Counts as HostCounts};
-ghost use Rattle.pv_tasks.specs.Outside.{beside};
+ghost use Rattle.pv_tasks.specs.Beside.{beside};
 ghost use Rattle.pv_tasks.specs.Faulting.{FaultsEnd};
 ghost use Rattle.pv_tasks.specs.Checking.{check_task};
 ghost use Rattle.pv_tasks.specs.Tasks.{Means, FaultCounts};

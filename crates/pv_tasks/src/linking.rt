@@ -9,7 +9,7 @@ ghost use Rattle.pv_build.specs.Telling.{HaltsOverFiles};
 ghost use Rattle.pv_build.specs.Objects.{FindsObjects};
 ghost use Rattle.pv_build.specs.Images.{image_made_line};
 ghost use Rattle.wedge_core.specs.Counts.{Counts as HostCounts};
-ghost use Rattle.pv_tasks.specs.Outside.{beside};
+ghost use Rattle.pv_tasks.specs.Beside.{beside};
 ghost use Rattle.pv_tasks.specs.Faulting.{FaultsEnd};
 ghost use Rattle.pv_tasks.specs.Outcome.{refused};
 ghost use Rattle.pv_tasks.specs.Linking.{Links, HasLinked, link_task};
@@ -36,12 +36,13 @@ pub fn link<F: Files, S: Sink>(
     ensures counts { (completed : HostCounts) (memory : List ℕ)
         → FaultCounts (link_task image.now (map string_bytes objects.now))
         (beside F.Files S.Sink (files.old, files.new) (out.old, out.new) completed memory) }
-    ensures leaves { result ≡ Status.Done → (link_task image.now (map string_bytes objects.now)).leaves (F.held files.old) (F.held files.new) }
+    ensures leaves { result ≡ Status.Done
+        → (link_task image.now (map string_bytes objects.now)).leaves (F.held files.old) (F.held files.new) }
     ensures ends { FaultsEnd F.Files files.old files.new result }
 {
     match made(alloc, objects, files) {
         Err(halt) => end(&halt, out),
-        Ok(made) => deliver(&made, image, files, out),
+        Ok(made) => deliver(&made, image, Status::Done, files, out),
     }
 }
 

@@ -31,19 +31,20 @@ use Rattle.pv_words.specs.Words.{Command, Burn, Link, Check, RunBare, RunWedge, 
 use Rattle.pv_tasks.specs.Outside.{Outside}
 use Rattle.pv_tasks.specs.Outcome.{Outcome, refused, printed, stored_as}
 use Rattle.pv_tasks.specs.Burning.{HasBurnt, written, burned}
-use Rattle.pv_tasks.specs.Linking.{HoldObjects, linked, Links, AllRead, NoObject}
+use Rattle.pv_tasks.specs.Linking.{linked, Links, AllRead, NoObject}
+use Rattle.pv_tool.specs.HeldObjects.{HoldObjects}
 use Rattle.pv_tasks.specs.Checking.{Checks, checked}
-use Rattle.pv_tasks.specs.Running.{RunsBare, RunsPatched, WithFrames, Runs}
+use Rattle.pv_tasks.specs.Running.{RunsBare, RunsPatched, Runs}
 use Rattle.pv_save.specs.Saving.{SavesBoot, SavesOn, FromFile}
 use Rattle.pv_save.specs.Continuing.{ContinuesOn}
 use Rattle.pv_prove.specs.Proving.{ProvesRun}
 use Rattle.pv_prove.specs.Replaying.{Replays}
-use Rattle.pv_tasks.specs.Tasks.{Keeps, FaultCounts, NoLoadFault, NoStoreFault, NoFault, ComesTo, IsStored, NoStore, NoPut, Means}
-use Rattle.pv_tool.specs.Asked.{task_of, PrintsRun}
+use Rattle.pv_tasks.specs.Tasks.{Keeps, FaultCounts, NoLoadFault, NoStoreFault, NoFault, ComesTo, ComesToOne, IsStored, NoStore, NoPut, Means}
+use Rattle.pv_tool.specs.Asked.{task_of}
 use Rattle.pv_tasks.proofs.SameFiles.{same_file}
 use Rattle.pv_tasks.proofs.BurnMeanings.{is_burnt, burns_once}
 use Rattle.pv_tasks.proofs.LinkMeanings.{links_once, links_found}
-use Rattle.pv_tasks.proofs.Works.{IsSaved, IsTold, IsRefusal, AreEnds, AreTold, told_saved, ended_refusal, reads_all, reads_once, reads_both, reads_found, frames_all, frames_once, ran}
+use Rattle.pv_tasks.proofs.Works.{WithFrames, IsSaved, IsTold, IsRefusal, AreEnds, AreTold, told_saved, ended_refusal, reads_all, reads_once, reads_both, reads_found, frames_all, frames_once, ran}
 use Rattle.pv_tasks.proofs.RunMeanings.{bare_ends, bare_told, patched_ends, patched_told}
 use Rattle.pv_tasks.proofs.WorkMeanings.{works_told, works_refusal, works_once}
 use Rattle.pv_share.proofs.ShareLaws.{shares_told, shares_refusal, shares_once, shares_found}
@@ -129,58 +130,58 @@ keeps_same : (name : Option (List ℕ)) (old new : Option FileMap) → new ≡ o
 keeps_same None old new same = same
 keeps_same (Some name) old new same = changes_same old new name same
 
-keeps_stored : (name : Option (List ℕ)) (stored : Option (List ℕ × List ℕ)) (o : Outside) → IsSaved name stored → IsStored stored o.files o.files_after → Keeps name o.files o.files_after
-keeps_stored name None o is h = keeps_same name o.files o.files_after h
+keeps_stored : (name : Option (List ℕ)) (stored : Option (List ℕ × List ℕ)) (o : Outside) → IsSaved name stored → IsStored stored o.before.files o.after.files → Keeps name o.before.files o.after.files
+keeps_stored name None o is h = keeps_same name o.before.files o.after.files h
 keeps_stored None (Some file) o is h = absurd is
-keeps_stored (Some name) (Some file) o is h = subst (λ (n : List ℕ). ChangesAt o.files o.files_after n) is (stores_changes o.files o.files_after file.0 file.1 h)
+keeps_stored (Some name) (Some file) o is h = subst (λ (n : List ℕ). ChangesAt o.before.files o.after.files n) is (stores_changes o.before.files o.after.files file.0 file.1 h)
 
 keeps_changed : (name : Option (List ℕ)) (stored : Option (List ℕ × List ℕ)) (o : Outside) (n bytes : List ℕ) → IsSaved name stored → stored ≡ Some (n, bytes)
-    → ChangesAt o.files o.files_after n → Keeps name o.files o.files_after
+    → ChangesAt o.before.files o.after.files n → Keeps name o.before.files o.after.files
 keeps_changed None stored o n bytes saved is h = absurd (subst (λ (s : Option (List ℕ × List ℕ)). IsSaved None s) is saved)
 keeps_changed (Some name) stored o n bytes saved is h =
-    subst (λ (m : List ℕ). ChangesAt o.files o.files_after m) (subst (λ (s : Option (List ℕ × List ℕ)). IsSaved (Some name) s) is saved) h
+    subst (λ (m : List ℕ). ChangesAt o.before.files o.after.files m) (subst (λ (s : Option (List ℕ × List ℕ)). IsSaved (Some name) s) is saved) h
 
 -- every name but that one holds what it held
-pub means_keeps : (command : Command) (o : Outside) (st : Status) → Means (task_of command) o st → Keeps (task_of command).saved o.files o.files_after
-means_keeps command o status.Done h = keeps_stored (task_of command).saved h.0.stored o (gives_saved command o.files h.0 h.1) h.3
-means_keeps command o status.Stopped h = keeps_stored (task_of command).saved h.0.stored o (gives_saved command o.files h.0 h.1) h.3
-means_keeps command o status.Refused h = keeps_stored (task_of command).saved h.0.stored o (gives_saved command o.files h.0 h.1) h.3
-means_keeps command o status.ReadFault h = keeps_same (task_of command).saved o.files o.files_after h.1
+pub means_keeps : (command : Command) (o : Outside) (st : Status) → Means (task_of command) o st → Keeps (task_of command).saved o.before.files o.after.files
+means_keeps command o status.Done h = keeps_stored (task_of command).saved h.0.stored o (gives_saved command o.before.files h.0 h.1) h.2.1
+means_keeps command o status.Stopped h = keeps_stored (task_of command).saved h.0.stored o (gives_saved command o.before.files h.0 h.1) h.2.1
+means_keeps command o status.Refused h = keeps_stored (task_of command).saved h.0.stored o (gives_saved command o.before.files h.0 h.1) h.2.1
+means_keeps command o status.ReadFault h = keeps_same (task_of command).saved o.before.files o.after.files h.1
 means_keeps command o status.WriteFault (inl (w, gives, NoStore name bytes is changes rose unsure same)) =
-    keeps_changed (task_of command).saved w.stored o name bytes (gives_saved command o.files w gives) is changes
-means_keeps command o status.WriteFault (inl (w, gives, NoPut stored past rose)) = keeps_stored (task_of command).saved w.stored o (gives_saved command o.files w gives) stored
-means_keeps command o status.WriteFault (inr h) = keeps_same (task_of command).saved o.files o.files_after h.same
-means_keeps command o status.Memory h = keeps_same (task_of command).saved o.files o.files_after h.0
+    keeps_changed (task_of command).saved w.stored o name bytes (gives_saved command o.before.files w gives) is changes
+means_keeps command o status.WriteFault (inl (w, gives, NoPut mid stored first front rose)) = keeps_stored (task_of command).saved w.stored o (gives_saved command o.before.files w gives) stored
+means_keeps command o status.WriteFault (inr h) = keeps_same (task_of command).saved o.before.files o.after.files h.same
+means_keeps command o status.Memory h = keeps_same (task_of command).saved o.before.files o.after.files h.0
 means_keeps command o status.Words h = absurd h
 
 -- ---- where no fault came
 
 -- a load that failed, and a store
-no_load : (command : Command) (o : Outside) → NoLoadFault (task_of command) o → Rose o.loads o.loads_after → (o.sure ≡ true → (task_of command).finds o.files → ⊥) → ⊥
+no_load : (command : Command) (o : Outside) → NoLoadFault (task_of command) o → Rose o.before.loads o.after.loads → (o.before.sure ≡ true → (task_of command).finds o.before.files → ⊥) → ⊥
 no_load command o (inl none) rose unsure = none rose
 no_load command o (inr sure) rose unsure = unsure sure.0 sure.1
 
 no_store : (name : Option (List ℕ)) (stored : Option (List ℕ × List ℕ)) (o : Outside) (n bytes : List ℕ) → IsSaved name stored → stored ≡ Some (n, bytes)
-    → NoStoreFault name o → Rose o.stores o.stores_after → (o.sure ≡ true → ⊥) → ⊥
+    → NoStoreFault name o → Rose o.before.stores o.after.stores → (o.before.sure ≡ true → ⊥) → ⊥
 no_store None stored o n bytes saved is none rose unsure = subst (λ (s : Option (List ℕ × List ℕ)). IsSaved None s) is saved
 no_store (Some name) stored o n bytes saved is (inl none) rose unsure = none rose
 no_store (Some name) stored o n bytes saved is (inr sure) rose unsure = unsure sure
 
 -- where no fault came and memory was found, the work's outcome was told
-pub came_to : (command : Command) (o : Outside) (st : Status) → NoFault (task_of command) o → st ≢ status.Memory → Means (task_of command) o st → (w : Outcome) × (task_of command).gives o.files w × ComesTo w o st
-came_to command o status.Done none found h = (h.0, h.1, (sym h.2, h.3, h.4, h.5))
-came_to command o status.Stopped none found h = (h.0, h.1, (sym h.2, h.3, h.4, h.5))
-came_to command o status.Refused none found h = (h.0, h.1, (sym h.2, h.3, h.4, h.5))
+pub came_to : (command : Command) (o : Outside) (st : Status) → NoFault (task_of command) o → st ≢ status.Memory → Means (task_of command) o st → ComesToOne ((task_of command).gives o.before.files) o st
+came_to command o status.Done none found h = h
+came_to command o status.Stopped none found h = h
+came_to command o status.Refused none found h = h
 came_to command o status.ReadFault none found h = absurd (no_load command o none.loads h.0 h.3)
 came_to command o status.WriteFault none found (inl (v, gives, NoStore name bytes is changes rose unsure same)) =
-    absurd (no_store (task_of command).saved v.stored o name bytes (gives_saved command o.files v gives) is none.stores rose unsure)
-came_to command o status.WriteFault none found (inl (v, gives, NoPut stored past rose)) = absurd (none.puts rose)
+    absurd (no_store (task_of command).saved v.stored o name bytes (gives_saved command o.before.files v gives) is none.stores rose unsure)
+came_to command o status.WriteFault none found (inl (v, gives, NoPut mid stored first front rose)) = absurd (none.puts rose)
 came_to command o status.WriteFault none found (inr h) = absurd (none.puts h.rose)
 came_to command o status.Memory none found h = absurd (found refl)
 came_to command o status.Words none found h = absurd h
 
 -- work that can come to one thing only comes to that
-pub comes_to : (command : Command) (o : Outside) (told : FileMap) (w : Outcome) (st : Status) → o.files ≡ Some told
+pub comes_to : (command : Command) (o : Outside) (told : FileMap) (w : Outcome) (st : Status) → o.before.files ≡ Some told
     → ((v : Outcome) → (task_of command).gives (Some told) v → v ≡ w) → NoFault (task_of command) o → st ≢ status.Memory → Means (task_of command) o st → ComesTo w o st
 comes_to command o told w st files only none found h =
     let c = came_to command o st none found h in
@@ -258,9 +259,9 @@ refused_alone (Prove image script frames n certificate) files w h = runs_refusal
 refused_alone (Replay image script frames n certificate text) files w h =
     reads_all IsRefusal (Replays frames n files certificate text) files image script w line_refusal (λ i e v r. replays_refusal frames n files certificate text i e v r) h
 
-pub refused_again : (command : Command) (o : Outside) (told : FileMap) (w : Outcome) (st : Status) → o.files ≡ Some told → (task_of command).gives (Some told) w → w.status ≡ status.Refused
+pub refused_again : (command : Command) (o : Outside) (told : FileMap) (w : Outcome) (st : Status) → o.before.files ≡ Some told → (task_of command).gives (Some told) w → w.status ≡ status.Refused
     → NoFault (task_of command) o → st ≢ status.Memory → Means (task_of command) o st
-    → (st ≡ status.Refused) × (o.files_after ≡ o.files) × Appends o.taken o.taken_after w.text
+    → (st ≡ status.Refused) × (o.after.files ≡ o.before.files) × Appends o.before.taken o.after.taken w.text
 refused_again command o told w st files gives is none found h =
     let came = comes_to command o told w st files (refused_once command told w is gives) none found h in
     let here = subst (λ (v : Outcome). ComesTo v o st) (refused_alone command (Some told) w gives is) came in
@@ -268,19 +269,18 @@ refused_again command o told w st files gives is none found h =
 
 -- ---- completeness of `run`
 
-pub run_ends : (image script : List ℕ) (frames n : ℕ) (o : Outside) (told : FileMap) (program : Image) (events : Events) (st : Status) → o.files ≡ Some told
+pub run_ends : (image script : List ℕ) (frames n : ℕ) (o : Outside) (told : FileMap) (program : Image) (events : Events) (st : Status) → o.before.files ≡ Some told
     → HasImage (Some told) image program → HasScript (Some told) script events → need program ≤ frames
     → NoFault (task_of (RunBare image script frames n)) o → st ≢ status.Memory → Means (task_of (RunBare image script frames n)) o st
-    → PrintsRun program events frames n o st
+    → ComesToOne (RunsBare frames n program events) o st
 run_ends image script frames n o told program events st files has says le none found h =
     let w = came_to (RunBare image script frames n) o st none found h in
     let gives = subst (λ (f : Option FileMap). Runs (RunsBare frames n) frames f image script w.0) files w.1 in
-    let run = ran (RunsBare frames n) frames program events w.0 le (reads_both (WithFrames (RunsBare frames n) frames) told image script program events w.0 has says gives) in
-    (run.text, run.count, run.end, run.run, subst (λ (v : Outcome). ComesTo v o st) run.comes w.2)
+    (w.0, ran (RunsBare frames n) frames program events w.0 le (reads_both (WithFrames (RunsBare frames n) frames) told image script program events w.0 has says gives), w.2)
 
 -- ---- completeness of the others
 
-pub burn_completes : (source object : List ℕ) (o : Outside) (told : FileMap) (parts : ObjectParts) (st : Status) → o.files ≡ Some told → HasBurnt (Some told) source parts
+pub burn_completes : (source object : List ℕ) (o : Outside) (told : FileMap) (parts : ObjectParts) (st : Status) → o.before.files ≡ Some told → HasBurnt (Some told) source parts
     → NoFault (task_of (Burn source object)) o → st ≢ status.Memory → Means (task_of (Burn source object)) o st
     → ComesTo (stored_as object (object_bytes parts) (object_made_line parts)) o st
 burn_completes source object o told parts st files has none found h =
@@ -288,7 +288,7 @@ burn_completes source object o told parts st files has none found h =
     let gives = is_burnt (Some told) source object (object_bytes parts) (object_made_line parts) parts has refl refl in
     comes_to (Burn source object) o told w st files (λ v k. burns_once told source object w v gives k) none found h
 
-pub link_completes : (image : List ℕ) (objects : List (List ℕ)) (o : Outside) (told : FileMap) (os : List ObjectParts) (parts : ImageParts) (st : Status) → o.files ≡ Some told
+pub link_completes : (image : List ℕ) (objects : List (List ℕ)) (o : Outside) (told : FileMap) (os : List ObjectParts) (parts : ImageParts) (st : Status) → o.before.files ≡ Some told
     → HasObjects (Some told) objects os → linked_image os ≡ Ok parts
     → NoFault (task_of (Link image objects)) o → st ≢ status.Memory → Means (task_of (Link image objects)) o st
     → ComesTo (stored_as image (image_bytes parts) (image_made_line parts)) o st
@@ -297,7 +297,7 @@ link_completes image objects o told os parts st files all made none found h =
     let gives : Links (Some told) image objects w = AllRead os all (sym (ap (linked image) made)) in
     comes_to (Link image objects) o told w st files (λ v k. links_once told image objects w v gives k) none found h
 
-pub check_completes : (image : List ℕ) (o : Outside) (told : FileMap) (program : Image) (st : Status) → o.files ≡ Some told → HasImage (Some told) image program
+pub check_completes : (image : List ℕ) (o : Outside) (told : FileMap) (program : Image) (st : Status) → o.before.files ≡ Some told → HasImage (Some told) image program
     → NoFault (task_of (Check image)) o → st ≢ status.Memory → Means (task_of (Check image)) o st
     → ComesTo (printed (accepted_line program)) o st
 check_completes image o told program st files has none found h =
@@ -329,7 +329,7 @@ pub held_objects : (told : FileMap) (names : List (List ℕ)) (os : List ObjectP
 held_objects told [] [] h = h
 held_objects told [] (o ∷ os) h = absurd h
 held_objects told (name ∷ names) [] h = absurd h
-held_objects told (name ∷ names) (o ∷ os) h = ((object_bytes o, h.0, h.2 h.1), held_objects told names os h.3)
+held_objects told (name ∷ names) (o ∷ os) h = ((object_bytes o, h.0.0, h.0.2 h.0.1), held_objects told names os h.1)
 
 -- where the work comes to something, each file that it reaches is held
 pub gives_found : (command : Command) (told : FileMap) (w : Outcome) → (task_of command).gives (Some told) w → (task_of command).finds (Some told)

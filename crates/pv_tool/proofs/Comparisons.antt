@@ -2,7 +2,6 @@
 use Rattle.std.proofs.Common.{◌≡◌, ◌≢◌, inl, inr, ℕ, zero, suc, ◌+◌, ◌≤◌, false, List, [], ◌∷◌, Option, Some, Result, Ok, Err, refl, sym, ap, subst, ◌∙◌, arith}
 use Rattle.std.specs.Prelude.{◌↔◌}
 use Rattle.pv_io.specs.Causes.{Rose}
-use Rattle.pv_io.specs.Sink.{Appends}
 use Rattle.kernel_gen.specs.Kernels.{kernel_text}
 use Rattle.image_check.specs.Image.{Image}
 use Rattle.image_load.specs.Boot.{need}
@@ -19,9 +18,9 @@ use Rattle.pv_tasks.specs.Outcome.{Outcome}
 use Rattle.pv_tasks.specs.Running.{Ran, Small}
 use Rattle.pv_tasks.specs.Working.{RunsTwice, WorksOn, Works, first_text, second_setting}
 use Rattle.pv_tool.specs.Comparison.{IsComparison, HasComparison}
-use Rattle.pv_tasks.specs.Tasks.{Means, ComesTo, NoStore, NoPut}
+use Rattle.pv_tasks.specs.Tasks.{Means, ComesTo, ComesToOne, NoStore, NoPut}
 use Rattle.pv_tool.specs.Asked.{task_of, reads_files}
-use Rattle.pv_tasks.proofs.WorkMeanings.{builds_once, works_none, works_refusal, works_once}
+use Rattle.pv_tasks.proofs.WorkMeanings.{builds_once, works_none, works_once}
 
 no_difference : (xs : List (List ℕ)) (n : ℕ) → DifferBehind xs xs n → ⊥
 no_difference [] n h = h
@@ -78,27 +77,27 @@ done_on number (Ok image) w (Small lt one) is = absurd (not_done (sym (ap (λ (v
 done_on number (Err line) w one is = absurd (not_done (sym (ap (λ (v : Outcome). v.status) one) ∙ is))
 
 of_done : RunsAgree → (number : ℕ) (o : Outside) → Means (task_of (Work number)) o status.Done → HasComparison number o
-of_done agree number o (w, works, is, stored, appends, does) =
-    let d = done_on number works.made w works.comes is in
+of_done agree number o (w, works, came) =
+    let d = done_on number works.made w works.comes (sym came.0) in
     record {
       program = d.0;
       builds = subst (λ (m : Result Image (List ℕ)). Builds (kernel_text number) m) d.1 works.builds;
-      comparison = is_comparison agree number d.0 o status.Done w d.2 (sym is, stored, appends, does);
+      comparison = is_comparison agree number d.0 o status.Done w d.2 came;
     }
 
 pub has_comparison : RunsAgree → (number : ℕ) (o : Outside) (st : Status) → st ≡ status.Done → Means (task_of (Work number)) o st → HasComparison number o
 has_comparison agree number o st done h = of_done agree number o (subst (λ (s : Status). Means (task_of (Work number)) o s) done h)
 
 -- where no put failed and memory was found, the work's outcome was told
-came_to_work : (number : ℕ) (o : Outside) (st : Status) → (Rose o.puts o.puts_after → ⊥) → st ≢ status.Memory → st ≢ status.ReadFault → Means (task_of (Work number)) o st → (w : Outcome) × Works number w × ComesTo w o st
-came_to_work number o status.Done none found read h = (h.0, h.1, (sym h.2, h.3, h.4, h.5))
-came_to_work number o status.Stopped none found read h = (h.0, h.1, (sym h.2, h.3, h.4, h.5))
-came_to_work number o status.Refused none found read h = (h.0, h.1, (sym h.2, h.3, h.4, h.5))
+came_to_work : (number : ℕ) (o : Outside) (st : Status) → (Rose o.before.puts o.after.puts → ⊥) → st ≢ status.Memory → st ≢ status.ReadFault → Means (task_of (Work number)) o st → ComesToOne (Works number) o st
+came_to_work number o status.Done none found read h = h
+came_to_work number o status.Stopped none found read h = h
+came_to_work number o status.Refused none found read h = h
 came_to_work number o status.ReadFault none found read h = absurd (read refl)
 came_to_work number o status.WriteFault none found read (inl (v, gives, NoStore name bytes is changes rose unsure same)) =
     let stored = works_none number v gives in
     cc (stored, is)
-came_to_work number o status.WriteFault none found read (inl (v, gives, NoPut stored past rose)) = absurd (none rose)
+came_to_work number o status.WriteFault none found read (inl (v, gives, NoPut mid stored first front rose)) = absurd (none rose)
 came_to_work number o status.WriteFault none found read (inr h) = absurd (none h.rose)
 came_to_work number o status.Memory none found read h = absurd (found refl)
 came_to_work number o status.Words none found read h = absurd h
@@ -109,7 +108,7 @@ ran_twice number program w le (Small lt is) = absurd (omega (arith, le, lt))
 
 -- a kernel that is built into an image, for which there are frames, is run twice
 pub work_completes : RunsAgree → (number : ℕ) (program : Image) (o : Outside) (st : Status) → Builds (kernel_text number) (Ok program) → need program ≤ 4096
-    → (Rose o.puts o.puts_after → ⊥) → st ≢ status.Memory → st ≢ status.ReadFault → Means (task_of (Work number)) o st → (st ≡ status.Done) × IsComparison number program o
+    → (Rose o.before.puts o.after.puts → ⊥) → st ≢ status.Memory → st ≢ status.ReadFault → Means (task_of (Work number)) o st → (st ≡ status.Done) × IsComparison number program o
 work_completes agree number program o st builds le none found read h =
     let c = came_to_work number o st none found read h in
     let made = builds_once (kernel_text number) (Ok program) c.1.made builds c.1.builds in
@@ -118,11 +117,10 @@ work_completes agree number program o st builds le none found read h =
 
 -- a refusal of the kernel is told
 pub work_refuses : (number : ℕ) (w : Outcome) (o : Outside) (st : Status) → Works number w → w.status ≡ status.Refused
-    → (Rose o.puts o.puts_after → ⊥) → st ≢ status.Memory → st ≢ status.ReadFault → Means (task_of (Work number)) o st → (st ≡ status.Refused) × Appends o.taken o.taken_after w.text
+    → (Rose o.before.puts o.after.puts → ⊥) → st ≢ status.Memory → st ≢ status.ReadFault → Means (task_of (Work number)) o st → ComesTo w o st
 work_refuses number w o st works is none found read h =
     let c = came_to_work number o st none found read h in
-    let here = subst (λ (v : Outcome). ComesTo v o st) (works_once number w c.0 is works c.1 ∙ works_refusal number w works is) c.2 in
-    (here.0, here.2)
+    subst (λ (v : Outcome). ComesTo v o st) (works_once number w c.0 is works c.1) c.2
 
 -- `work` answers no read fault, where it is what the words ask for
 pub no_load : (a : Command) (form : Option Command) (same : Type 0) (st : Status) → Some a ≡ form → (reads_files (Some a) ≡ false → same × (st ≢ status.ReadFault))

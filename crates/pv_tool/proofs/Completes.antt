@@ -19,14 +19,14 @@ use Rattle.pv_build.specs.declared.status.Status.TheVariants as status
 use Rattle.pv_words.specs.Words.{KernelNames, Command, Share, Save, SaveFrom, Continue}
 use Rattle.pv_tasks.specs.Outside.{Outside}
 use Rattle.pv_tasks.specs.Outcome.{Outcome}
-use Rattle.pv_tasks.specs.Running.{Reads, WithFrames, Runs}
+use Rattle.pv_tasks.specs.Running.{Reads, Runs}
 use Rattle.pv_save.specs.Saving.{SavesBoot, SavesOn, FromFile, is_wedge}
 use Rattle.pv_save.specs.Continuing.{ContinuesOn}
 use Rattle.pv_share.specs.Sharing.{SharesTurns, BySchedule}
 use Rattle.pv_tasks.specs.Tasks.{NoFault, ComesTo, Means}
 use Rattle.pv_tool.specs.Asked.{task_of}
 use Rattle.pv_words.specs.declared.mode.RunMode.{RunMode}
-use Rattle.pv_tasks.proofs.Works.{reads_both, ran}
+use Rattle.pv_tasks.proofs.Works.{WithFrames, reads_both, ran}
 use Rattle.pv_share.proofs.ShareLaws.{shares_read, turns_of}
 use Rattle.pv_save.proofs.RestLaws.{from_state}
 use Rattle.pv_tool.proofs.CommandLaws.{came_to}
@@ -35,7 +35,7 @@ use Rattle.pv_tool.proofs.CommandLaws.{came_to}
 abbrev pub Came : Command → Outside → FileMap → Status → Type 0
 Came command o told st = (w : Outcome) × (task_of command).gives (Some told) w × ComesTo w o st
 
-came_over : (command : Command) (o : Outside) (told : FileMap) (st : Status) → o.files ≡ Some told → NoFault (task_of command) o → st ≢ status.Memory → Means (task_of command) o st → Came command o told st
+came_over : (command : Command) (o : Outside) (told : FileMap) (st : Status) → o.before.files ≡ Some told → NoFault (task_of command) o → st ≢ status.Memory → Means (task_of command) o st → Came command o told st
 came_over command o told st files none found h =
     let w = came_to command o st none found h in
     (w.0, subst (λ (f : Option FileMap). (task_of command).gives f w.0) files w.1, w.2)
@@ -56,7 +56,7 @@ rest_came command goes on n image script file o told program events s st gives h
     let from = reads_both (FromFile goes on n (Some told) file) told image script program events c.0 has says (gives c.0 c.1) in
     (c.0, from_state goes on n told file program events s c.0 state fit from, c.2)
 
-pub save_completes : (on : RunMode) (image script : List ℕ) (frames n : ℕ) (file : List ℕ) (o : Outside) (told : FileMap) (program : Image) (events : Events) (st : Status) → o.files ≡ Some told
+pub save_completes : (on : RunMode) (image script : List ℕ) (frames n : ℕ) (file : List ℕ) (o : Outside) (told : FileMap) (program : Image) (events : Events) (st : Status) → o.before.files ≡ Some told
     → HasImage (Some told) image program → HasScript (Some told) script events → need program ≤ frames
     → NoFault (task_of (Save on image script frames n file)) o → st ≢ status.Memory → Means (task_of (Save on image script frames n file)) o st
     → (w : Outcome) × SavesBoot on frames n file program events w × ComesTo w o st
@@ -64,7 +64,7 @@ save_completes on image script frames n file o told program events st files has 
     run_came (Save on image script frames n file) (SavesBoot on frames n file) frames image script o told program events st (λ w g. g) has says le
     (came_over (Save on image script frames n file) o told st files none found h)
 
-pub save_from_completes : (on : RunMode) (image script file : List ℕ) (n : ℕ) (new : List ℕ) (o : Outside) (told : FileMap) (program : Image) (events : Events) (s : State) (st : Status) → o.files ≡ Some told
+pub save_from_completes : (on : RunMode) (image script file : List ℕ) (n : ℕ) (new : List ℕ) (o : Outside) (told : FileMap) (program : Image) (events : Events) (s : State) (st : Status) → o.before.files ≡ Some told
     → HasImage (Some told) image program → HasScript (Some told) script events → HasState (Some told) file s → fits_of s program (is_wedge on) n ≡ Ok tt
     → NoFault (task_of (SaveFrom on image script file n new)) o → st ≢ status.Memory → Means (task_of (SaveFrom on image script file n new)) o st
     → (w : Outcome) × SavesOn on n new program events s w × ComesTo w o st
@@ -72,7 +72,7 @@ save_from_completes on image script file n new o told program events s st files 
     rest_came (SaveFrom on image script file n new) (SavesOn on n new) on n image script file o told program events s st (λ w g. g) has says state fit
     (came_over (SaveFrom on image script file n new) o told st files none found h)
 
-pub continue_completes : (on : RunMode) (image script file : List ℕ) (n : ℕ) (o : Outside) (told : FileMap) (program : Image) (events : Events) (s : State) (st : Status) → o.files ≡ Some told
+pub continue_completes : (on : RunMode) (image script file : List ℕ) (n : ℕ) (o : Outside) (told : FileMap) (program : Image) (events : Events) (s : State) (st : Status) → o.before.files ≡ Some told
     → HasImage (Some told) image program → HasScript (Some told) script events → HasState (Some told) file s → fits_of s program (is_wedge on) n ≡ Ok tt
     → NoFault (task_of (Continue on image script file n)) o → st ≢ status.Memory → Means (task_of (Continue on image script file n)) o st
     → (w : Outcome) × ContinuesOn on n program events s w × ComesTo w o st
@@ -80,7 +80,7 @@ continue_completes on image script file n o told program events s st files has s
     rest_came (Continue on image script file n) (ContinuesOn on n) on n image script file o told program events s st (λ w g. g) has says state fit
     (came_over (Continue on image script file n) o told st files none found h)
 
-pub share_completes : (schedule : List ℕ) (frames : ℕ) (names : List KernelNames) (o : Outside) (told : FileMap) (kernels : List Kernel) (slices : List Slice) (st : Status) → o.files ≡ Some told
+pub share_completes : (schedule : List ℕ) (frames : ℕ) (names : List KernelNames) (o : Outside) (told : FileMap) (kernels : List Kernel) (slices : List Slice) (st : Status) → o.before.files ≡ Some told
     → IsShared (Some told) schedule names kernels slices → AllFit frames kernels
     → NoFault (task_of (Share schedule frames names)) o → st ≢ status.Memory → Means (task_of (Share schedule frames names)) o st
     → (w : Outcome) × SharesTurns frames kernels slices w × ComesTo w o st

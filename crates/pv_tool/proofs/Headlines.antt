@@ -1,5 +1,5 @@
 -- The headline, of a run that has ended.
-use Rattle.std.proofs.Common.{◌≡◌, ◌≢◌, ℕ, ◌≤◌, List, Option, Some, refl, sym, subst}
+use Rattle.std.proofs.Common.{◌≡◌, ◌≢◌, ℕ, ◌≤◌, List, Option, Some, refl, subst}
 use Rattle.pv_io.specs.Files.{FileMap}
 use Rattle.board.specs.Scripts.{Events}
 use Rattle.image_check.specs.Image.{Image}
@@ -15,11 +15,11 @@ use Rattle.pv_build.specs.declared.status.Status.TheVariants as status
 use Rattle.pv_words.specs.Words.{RunWedge}
 use Rattle.pv_tasks.specs.Outside.{Outside}
 use Rattle.pv_tasks.specs.Outcome.{Outcome, HasEnded}
-use Rattle.pv_tasks.specs.Running.{RunsPatched, WithFrames, Runs}
-use Rattle.pv_tasks.specs.Tasks.{Means, NoFault, Prints, ComesTo}
+use Rattle.pv_tasks.specs.Running.{RunsPatched, Runs}
+use Rattle.pv_tasks.specs.Tasks.{Means, NoFault, ComesToOne, ComesTo}
 use Rattle.pv_tool.specs.Asked.{task_of}
 use Rattle.pv_tool.specs.Headline.{IsHeadline, HasHeadline}
-use Rattle.pv_tasks.proofs.Works.{reads_both, reads_began, ran, ended_ran}
+use Rattle.pv_tasks.proofs.Works.{WithFrames, reads_both, reads_began, ran, ended_ran}
 use Rattle.pv_tool.proofs.CommandLaws.{came_to}
 
 -- a run of the patched image that was printed
@@ -50,19 +50,18 @@ is_headline agree frames n program events o st w run came =
 
 -- ---- of the words' files
 
-printed_headline : RunsAgree → (image script : List ℕ) (frames n : ℕ) (o : Outside) (st : Status) → HasEnded st → Prints (task_of (RunWedge image script frames n)) o st
+printed_headline : RunsAgree → (image script : List ℕ) (frames n : ℕ) (o : Outside) (st : Status) → HasEnded st → ComesToOne ((task_of (RunWedge image script frames n)).gives o.before.files) o st
     → HasHeadline image script frames n o st
 printed_headline agree image script frames n o st ended h =
     let w = h.0 in
-    let done = subst HasEnded (sym h.2) ended in
-    let b = reads_began (WithFrames (RunsPatched frames n) frames) o.files image script w h.1 done in
+    let done = subst HasEnded h.2.0 ended in
+    let b = reads_began (WithFrames (RunsPatched frames n) frames) o.before.files image script w h.1 done in
     let run = ended_ran (RunsPatched frames n) frames b.program b.events w done b.goes_on in
     record {
       program = b.program;
       events = b.events;
-      accepted = b.accepted;
-      read = b.read;
-      headline = is_headline agree frames n b.program b.events o st w run.1 (sym h.2, h.3, h.4, h.5);
+      runnable = record { image_held = b.accepted; script_held = b.read };
+      headline = is_headline agree frames n b.program b.events o st w run.1 h.2;
     }
 
 pub has_headline : RunsAgree → (image script : List ℕ) (frames n : ℕ) (o : Outside) (st : Status) → HasEnded st → Means (task_of (RunWedge image script frames n)) o st
@@ -76,7 +75,7 @@ has_headline agree image script frames n o status.WriteFault ended h = absurd en
 has_headline agree image script frames n o status.Memory ended h = absurd ended
 
 -- where no fault came and memory was found, the run of an accepted image has ended
-pub wedge_ends : RunsAgree → (image script : List ℕ) (frames n : ℕ) (o : Outside) (told : FileMap) (program : Image) (events : Events) (st : Status) → o.files ≡ Some told
+pub wedge_ends : RunsAgree → (image script : List ℕ) (frames n : ℕ) (o : Outside) (told : FileMap) (program : Image) (events : Events) (st : Status) → o.before.files ≡ Some told
     → HasImage (Some told) image program → HasScript (Some told) script events → need program ≤ frames
     → NoFault (task_of (RunWedge image script frames n)) o → st ≢ status.Memory → Means (task_of (RunWedge image script frames n)) o st
     → IsHeadline program events frames n o st

@@ -22,14 +22,13 @@ use Rattle.pv_save.specs.Checkpoints.{HasState}
 use Rattle.pv_build.specs.declared.status.Status.{Status}
 use Rattle.pv_build.specs.declared.status.Status.TheVariants as status
 use Rattle.pv_tasks.specs.Outcome.{Outcome, refused, HasEnded}
-use Rattle.pv_tasks.specs.Running.{WithFrames}
 use Rattle.pv_save.specs.Saving.{SavesRun, Rested, Stopped, SavesBoot, SavesOn, WhereFits, OnState, FromFile, setting_on, frames_of, is_wedge}
 use Rattle.pv_save.specs.Continuing.{ContinuesOn}
 use Rattle.pv_tool.specs.Moving.{Move, Leaves, IsFirst, IsNext, AreNext, IsLast, rules_of, AreOneRun, MovesAreOneRun}
 use Rattle.pv_words.specs.declared.mode.RunMode.{RunMode}
 use Rattle.pv_words.specs.declared.mode.RunMode.TheVariants as mode
 use Rattle.pv_tasks.proofs.SameFiles.{same_file}
-use Rattle.pv_tasks.proofs.Works.{reads_both, ended_ran}
+use Rattle.pv_tasks.proofs.Works.{WithFrames, reads_both, ended_ran}
 use Rattle.pv_save.proofs.RestDone.{stopped_so}
 
 -- the rules of a machine over the same image, events and frames

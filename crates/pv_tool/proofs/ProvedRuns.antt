@@ -24,14 +24,14 @@ use Rattle.pv_build.specs.declared.status.Status.TheVariants as status
 use Rattle.pv_words.specs.Words.{Prove, Replay}
 use Rattle.pv_tasks.specs.Outside.{Outside}
 use Rattle.pv_tasks.specs.Outcome.{Outcome, HasEnded, refused, printed}
-use Rattle.pv_tasks.specs.Running.{Ran, Small, Reads, WithFrames, Runs}
+use Rattle.pv_tasks.specs.Running.{Ran, Small, Reads, Runs}
 use Rattle.pv_prove.specs.Proving.{ProvesRun}
 use Rattle.pv_prove.specs.Replaying.{ByChoices, Replays, Judges}
-use Rattle.pv_tool.specs.Certified.{IsProof, HasProof, Shows, HasVerdict}
-use Rattle.pv_tasks.specs.Tasks.{Means, NoFault, Prints, ComesTo, IsStored}
+use Rattle.pv_tool.specs.Certified.{IsProof, HasProof, HasVerdict}
+use Rattle.pv_tasks.specs.Tasks.{Means, NoFault, ComesToOne, ComesTo, IsStored}
 use Rattle.pv_tool.specs.Asked.{task_of}
 use Rattle.pv_prove.proofs.ProveMeanings.{few}
-use Rattle.pv_tasks.proofs.Works.{reads_both, reads_began, ran, ended_ran}
+use Rattle.pv_tasks.proofs.Works.{WithFrames, reads_both, reads_began, ran, ended_ran}
 use Rattle.pv_prove.proofs.ReplayLaws.{by_choices}
 use Rattle.pv_tasks.proofs.SameFiles.{same_file}
 use Rattle.pv_tool.proofs.CommandLaws.{came_to}
@@ -60,19 +60,18 @@ is_proof agree frames n certificate program events o st w run came =
       bare_run = agree (wedge program events frames) n (boot (wedge program events frames)) run.sets run.reports run.last run.end run.run;
     }
 
-printed_proof : RunsAgree → (image script : List ℕ) (frames n : ℕ) (certificate : List ℕ) (o : Outside) (st : Status) → HasEnded st → Prints (task_of (Prove image script frames n certificate)) o st
+printed_proof : RunsAgree → (image script : List ℕ) (frames n : ℕ) (certificate : List ℕ) (o : Outside) (st : Status) → HasEnded st → ComesToOne ((task_of (Prove image script frames n certificate)).gives o.before.files) o st
     → HasProof image script frames n certificate o st
 printed_proof agree image script frames n certificate o st ended h =
     let w = h.0 in
-    let done = subst HasEnded (sym h.2) ended in
-    let b = reads_began (WithFrames (ProvesRun frames n certificate) frames) o.files image script w h.1 done in
+    let done = subst HasEnded h.2.0 ended in
+    let b = reads_began (WithFrames (ProvesRun frames n certificate) frames) o.before.files image script w h.1 done in
     let run = ended_ran (ProvesRun frames n certificate) frames b.program b.events w done b.goes_on in
     record {
       program = b.program;
       events = b.events;
-      accepted = b.accepted;
-      read = b.read;
-      proof = is_proof agree frames n certificate b.program b.events o st w run.1 (sym h.2, h.3, h.4, h.5);
+      runnable = record { image_held = b.accepted; script_held = b.read };
+      proof = is_proof agree frames n certificate b.program b.events o st w run.1 h.2;
     }
 
 pub has_proof : RunsAgree → (image script : List ℕ) (frames n : ℕ) (certificate : List ℕ) (o : Outside) (st : Status) → HasEnded st → Means (task_of (Prove image script frames n certificate)) o st
@@ -86,7 +85,7 @@ has_proof agree image script frames n certificate o status.WriteFault ended h = 
 has_proof agree image script frames n certificate o status.Memory ended h = absurd ended
 
 -- where no fault came and memory was found, the run of an accepted image has ended, and its certificate was stored
-pub proof_ends : RunsAgree → (image script : List ℕ) (frames n : ℕ) (certificate : List ℕ) (o : Outside) (told : FileMap) (program : Image) (events : Events) (st : Status) → o.files ≡ Some told
+pub proof_ends : RunsAgree → (image script : List ℕ) (frames n : ℕ) (certificate : List ℕ) (o : Outside) (told : FileMap) (program : Image) (events : Events) (st : Status) → o.before.files ≡ Some told
     → HasImage (Some told) image program → HasScript (Some told) script events → need program ≤ frames
     → NoFault (task_of (Prove image script frames n certificate)) o → st ≢ status.Memory → Means (task_of (Prove image script frames n certificate)) o st
     → IsProof program events frames n certificate o st
@@ -97,9 +96,6 @@ proof_ends agree image script frames n certificate o told program events st file
     is_proof agree frames n certificate program events o st w.0 run w.2
 
 -- ---- `replay`
-
-shown : YesIsARun → YesBeforeIsSteps → (program : Image) (events : Events) (frames n : ℕ) (list : List Choice) (text : List ℕ) → Shows program events frames n list text (judged program events frames n list text)
-shown right before program events frames n list text = record { yes = λ is. right program events frames n list text is; before = λ stop is. before program events frames n list text stop is }
 
 -- the verdict's line is all
 record HasJudged (frames n : ℕ) (files : Option FileMap) (certificate text : List ℕ) (program : Image) (events : Events) (w : Outcome) : Type 0 where
@@ -130,23 +126,23 @@ replays_done frames n files certificate text program events w h done = choices_d
 pub has_verdict : YesIsARun → YesBeforeIsSteps → (image script : List ℕ) (frames n : ℕ) (certificate text : List ℕ) (o : Outside) (st : Status) → st ≡ status.Done → Means (task_of (Replay image script frames n certificate text)) o st
     → HasVerdict image script frames n certificate text o
 has_verdict right before image script frames n certificate text o st done h =
-    let p : Prints (task_of (Replay image script frames n certificate text)) o status.Done = subst (Means (task_of (Replay image script frames n certificate text)) o) done h in
+    let p : ComesToOne ((task_of (Replay image script frames n certificate text)).gives o.before.files) o status.Done = subst (Means (task_of (Replay image script frames n certificate text)) o) done h in
     let w = p.0 in
-    let b = reads_began (Replays frames n o.files certificate text) o.files image script w p.1 (subst HasEnded (sym p.2) tt) in
-    let j = replays_done frames n o.files certificate text b.program b.events w b.goes_on p.2 in
+    let b = reads_began (Replays frames n o.before.files certificate text) o.before.files image script w p.1 (subst HasEnded p.2.0 tt) in
+    let j = replays_done frames n o.before.files certificate text b.program b.events w b.goes_on (sym p.2.0) in
     record {
       program = b.program;
       events = b.events;
       list = j.list;
       bytes = j.bytes;
-      accepted = b.accepted;
-      read = b.read;
+      runnable = record { image_held = b.accepted; script_held = b.read };
       chosen = j.chosen;
       held = j.held;
       fits = j.fits;
-      printed = subst (λ (v : Outcome). Appends o.taken o.taken_after (v.first ++ v.text)) j.comes p.4;
-      same = subst (λ (v : Outcome). IsStored v.stored o.files o.files_after) j.comes p.3;
-      shows = shown right before b.program b.events frames n j.list j.bytes;
+      printed = subst (λ (v : Outcome). Appends o.before.taken o.after.taken (v.first ++ v.text)) j.comes p.2.2;
+      same = subst (λ (v : Outcome). IsStored v.stored o.before.files o.after.files) j.comes p.2.1;
+      yes = λ is. right b.program b.events frames n j.list j.bytes is;
+      before = λ stop is. before b.program b.events frames n j.list j.bytes stop is;
     }
 
 -- a text that is held is judged
@@ -155,7 +151,7 @@ judges_fits : (frames n : ℕ) (program : Image) (events : Events) (list : List 
 judges_fits frames n program events list bytes w le (Ran fits is) = is
 judges_fits frames n program events list bytes w le (Small lt is) = absurd (omega (arith, le, lt))
 
-pub verdict_ends : (image script : List ℕ) (frames n : ℕ) (certificate text : List ℕ) (o : Outside) (told : FileMap) (program : Image) (events : Events) (list : List Choice) (bytes : List ℕ) (st : Status) → o.files ≡ Some told
+pub verdict_ends : (image script : List ℕ) (frames n : ℕ) (certificate text : List ℕ) (o : Outside) (told : FileMap) (program : Image) (events : Events) (list : List Choice) (bytes : List ℕ) (st : Status) → o.before.files ≡ Some told
     → HasImage (Some told) image program → HasScript (Some told) script events → HasChoices (Some told) certificate list → told text ≡ Some bytes → need program ≤ frames
     → NoFault (task_of (Replay image script frames n certificate text)) o → st ≢ status.Memory → Means (task_of (Replay image script frames n certificate text)) o st
     → ComesTo (printed (verdict_line (judged program events frames n list bytes))) o st

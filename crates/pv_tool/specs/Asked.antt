@@ -1,15 +1,9 @@
 -- What each command asks for.
-use Rattle.std.specs.Prelude.{ℕ, Bool, false, List, Option, Some, None}
-use Rattle.board.specs.Scripts.{Events}
-use Rattle.image_check.specs.Image.{Image}
-use Rattle.run_trace.specs.declared.items.End.{End}
-use Rattle.bare_machine.specs.Runs.{HasRun}
+use Rattle.std.specs.Prelude.{Bool, false, Option}
+use Rattle.std.specs.Option.{option_map_or}
 use Rattle.pv_words.specs.Words.{Command, Burn, Link, Check, RunBare, RunWedge, Work, Share, Save, SaveFrom, Continue, Prove, Replay}
 use Rattle.pv_words.specs.declared.mode.RunMode.TheVariants as mode
-use Rattle.pv_build.specs.declared.status.Status.{Status}
-use Rattle.pv_tasks.specs.Outside.{Outside}
-use Rattle.pv_tasks.specs.Outcome.{ended}
-use Rattle.pv_tasks.specs.Tasks.{Task, ComesTo}
+use Rattle.pv_tasks.specs.Tasks.{Task}
 use Rattle.pv_tasks.specs.Burning.{burn_task}
 use Rattle.pv_tasks.specs.Linking.{link_task}
 use Rattle.pv_tasks.specs.Checking.{check_task}
@@ -37,15 +31,8 @@ task_of (Replay image script frames n certificate text) = replay_task image scri
 
 -- the words ask for a run on the host
 abbrev pub is_on_host : Option Command → Bool
-is_on_host None = false
-is_on_host (Some command) = (task_of command).on_host
+is_on_host command = option_map_or (λ c. (task_of c).on_host) command false
 
 -- the words ask for work that reads files
 abbrev pub reads_files : Option Command → Bool
-reads_files None = false
-reads_files (Some command) = (task_of command).reads
-
--- the text of a run was printed
-abbrev pub PrintsRun : Image → Events → ℕ → ℕ → Outside → Status → Type 0
-PrintsRun program events frames n o status =
-    (text : List ℕ) × (count : ℕ) × (end : End) × HasRun program events frames n text count end × ComesTo (ended end text) o status
+reads_files command = option_map_or (λ c. (task_of c).reads) command false

@@ -30,10 +30,10 @@ pub record IsComparison (number : ℕ) (program : Image) (o : Outside) : Type 0 
   pub told : List ℕ
   pub same : (told ≡ same_line) ↔ (first_text program ≡ second)
   pub compares : Compares (first_text program) second told
-  pub printed : Appends o.taken o.taken_after (told_line number program second fills ++ told)
+  pub printed : Appends o.before.taken o.after.taken (told_line number program second fills ++ told)
   -- The second text is that of one run from boot under the monitor's rules. The host completed its direct instructions, no
   -- more and no fewer, and after all steps its first frames are this run's memory with the text patched.
-  pub promise : Promise (second_setting program) 100000 512 second count end o.completed o.completed_after o.memory_after
+  pub promise : Promise (second_setting program) 100000 512 second count end o.before.completed o.after.completed o.after.memory
   -- its sets, and that by which it stops, keep the rule for kept translations
   pub kept : Kept (second_setting program) (boot (second_setting program)) (promise.sets ++ stopping (second_setting program) 100000 promise.last end promise.run.ends)
   -- what was printed as filled lies between the bounds of what this run has filled, by the set at its end

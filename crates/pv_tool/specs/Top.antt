@@ -22,7 +22,6 @@ use Rattle.trace_check.specs.Judged.{judged}
 use Rattle.pv_prove.specs.CertificateLines.{verdict_line}
 use Rattle.pv_build.specs.Objects.{HasObjects, object_made_line}
 use Rattle.pv_build.specs.Images.{HasImage, accepted_line, image_made_line}
-use Rattle.pv_build.specs.Scripts.{HasScript}
 use Rattle.pv_build.specs.Building.{Builds}
 use Rattle.pv_share.specs.Kernels.{IsShared}
 use Rattle.pv_save.specs.Checkpoints.{HasState}
@@ -33,13 +32,14 @@ use Rattle.pv_words.specs.Words.{KernelNames, Command, Burn, Link, Check, RunBar
 use Rattle.pv_tasks.specs.Outside.{Outside}
 use Rattle.pv_tasks.specs.Outcome.{Outcome, HasEnded, printed, stored_as}
 use Rattle.pv_tasks.specs.Burning.{HasBurnt}
+use Rattle.pv_tasks.specs.Running.{RunsBare}
 use Rattle.pv_tasks.specs.Working.{Works}
 use Rattle.pv_save.specs.Saving.{SavesBoot, SavesOn, is_wedge}
 use Rattle.pv_save.specs.Continuing.{ContinuesOn}
 use Rattle.pv_share.specs.Sharing.{SharesTurns}
-use Rattle.pv_tasks.specs.Tasks.{Means, Keeps, FaultCounts, NoFault, ComesTo}
-use Rattle.pv_tool.specs.Asked.{task_of, PrintsRun}
-use Rattle.pv_tool.specs.Headline.{IsHeadline, HasHeadline}
+use Rattle.pv_tasks.specs.Tasks.{Means, Keeps, FaultCounts, NoFault, ComesTo, ComesToOne}
+use Rattle.pv_tool.specs.Asked.{task_of}
+use Rattle.pv_tool.specs.Headline.{HasRunnable, IsHeadline, HasHeadline}
 use Rattle.pv_tool.specs.Comparison.{IsComparison, HasComparison}
 use Rattle.pv_tool.specs.Certified.{IsProof, HasProof, HasVerdict}
 use Rattle.pv_words.specs.declared.mode.RunMode.{RunMode}
@@ -52,7 +52,7 @@ Meaning words o st = (command : Command) → Asks words command → Means (task_
 
 -- no file is changed but the one that the command makes
 abbrev pub KeepsOthers : List (List ℕ) → Outside → Type 0
-KeepsOthers words o = (command : Command) → Asks words command → Keeps (task_of command).saved o.files o.files_after
+KeepsOthers words o = (command : Command) → Asks words command → Keeps (task_of command).saved o.before.files o.after.files
 
 -- what becomes of the counts of faults
 abbrev pub CountsFaults : List (List ℕ) → Outside → Type 0
@@ -62,19 +62,27 @@ CountsFaults words o = (command : Command) → Asks words command → FaultCount
 -- memory was found, the count is as it was. A count that stands at its type's end before can't tell.
 abbrev pub EndsAtFaults : Outside → Status → Type 0
 EndsAtFaults o st =
-    (st ≢ status.ReadFault → st ≢ status.Memory → o.loads_after ≡ o.loads)
-    × (st ≢ status.WriteFault → st ≢ status.Memory → o.stores_after ≡ o.stores)
+    (st ≢ status.ReadFault → st ≢ status.Memory → o.after.loads ≡ o.before.loads)
+    × (st ≢ status.WriteFault → st ≢ status.Memory → o.after.stores ≡ o.before.stores)
 
 -- what is left where the command is done
 abbrev pub LeavesFiles : List (List ℕ) → Outside → Status → Type 0
-LeavesFiles words o st = (command : Command) → Asks words command → st ≡ status.Done → (task_of command).leaves o.files o.files_after
+LeavesFiles words o st =
+    (command : Command) → Asks words command → st ≡ status.Done → (task_of command).leaves o.before.files o.after.files
+
+-- The words ask for the command, the files tell what they hold, no load, store or put failed, and memory was found.
+pub record Unhindered (words : List (List ℕ)) (command : Command) (told : FileMap) (o : Outside) (st : Status) : Type 0 where
+  pub asks : Asks words command
+  pub files : o.before.files ≡ Some told
+  pub no_fault : NoFault (task_of command) o
+  pub memory : st ≢ status.Memory
 
 -- work that is refused is told so by its line, and changes no file
 abbrev pub RefusesWork : List (List ℕ) → Outside → Status → Type 0
 RefusesWork words o st =
-    (command : Command) (told : FileMap) (w : Outcome) → Asks words command → o.files ≡ Some told
-    → (task_of command).gives (Some told) w → w.status ≡ status.Refused → NoFault (task_of command) o → st ≢ status.Memory
-    → (st ≡ status.Refused) × (o.files_after ≡ o.files) × Appends o.taken o.taken_after w.text
+    (command : Command) (told : FileMap) (w : Outcome)
+    → Unhindered words command told o st → (task_of command).gives (Some told) w → w.status ≡ status.Refused
+    → (st ≡ status.Refused) × (o.after.files ≡ o.before.files) × Appends o.before.taken o.after.taken w.text
 
 -- ---- of those that make files and run them
 
@@ -88,17 +96,15 @@ Headlines words o st =
 abbrev pub RunsOnBare : List (List ℕ) → Outside → Status → Type 0
 RunsOnBare words o st =
     (image script : List ℕ) (frames n : ℕ) (told : FileMap) (program : Image) (events : Events)
-    → Asks words (RunBare image script frames n) → o.files ≡ Some told
-    → HasImage (Some told) image program → HasScript (Some told) script events → need program ≤ frames
-    → NoFault (task_of (RunBare image script frames n)) o → st ≢ status.Memory → PrintsRun program events frames n o st
+    → Unhindered words (RunBare image script frames n) told o st → HasRunnable (Some told) image script program events
+    → need program ≤ frames → ComesToOne (RunsBare frames n program events) o st
 
 -- and that of a patched one, with the headline
 abbrev pub RunsOnHost : List (List ℕ) → Outside → Status → Type 0
 RunsOnHost words o st =
     (image script : List ℕ) (frames n : ℕ) (told : FileMap) (program : Image) (events : Events)
-    → Asks words (RunWedge image script frames n) → o.files ≡ Some told
-    → HasImage (Some told) image program → HasScript (Some told) script events → need program ≤ frames
-    → NoFault (task_of (RunWedge image script frames n)) o → st ≢ status.Memory → IsHeadline program events frames n o st
+    → Unhindered words (RunWedge image script frames n) told o st → HasRunnable (Some told) image script program events
+    → need program ≤ frames → IsHeadline program events frames n o st
 
 -- `work` that is done has compared its runs
 abbrev pub Compared : List (List ℕ) → Outside → Status → Type 0
@@ -108,54 +114,36 @@ Compared words o st = (number : ℕ) → Asks words (Work number) → st ≡ sta
 abbrev pub WorkDone : List (List ℕ) → Outside → Status → Type 0
 WorkDone words o st =
     (number : ℕ) (program : Image) → Asks words (Work number) → Builds (kernel_text number) (Ok program) → need program ≤ 4096
-    → (Rose o.puts o.puts_after → ⊥) → st ≢ status.Memory → (st ≡ status.Done) × IsComparison number program o
+    → (Rose o.before.puts o.after.puts → ⊥) → st ≢ status.Memory → (st ≡ status.Done) × IsComparison number program o
 
 -- or it is refused, where a part refuses the kernel
 abbrev pub WorkRefused : List (List ℕ) → Outside → Status → Type 0
 WorkRefused words o st =
     (number : ℕ) (w : Outcome) → Asks words (Work number) → Works number w → w.status ≡ status.Refused
-    → (Rose o.puts o.puts_after → ⊥) → st ≢ status.Memory → (st ≡ status.Refused) × Appends o.taken o.taken_after w.text
+    → (Rose o.before.puts o.after.puts → ⊥) → st ≢ status.Memory → ComesTo w o st
 
 -- a source that is burnt is stored as its object
 abbrev pub BurnsAll : List (List ℕ) → Outside → Status → Type 0
 BurnsAll words o st =
     (source object : List ℕ) (told : FileMap) (p : ObjectParts)
-    → Asks words (Burn source object) → o.files ≡ Some told → HasBurnt (Some told) source p
-    → NoFault (task_of (Burn source object)) o → st ≢ status.Memory
+    → Unhindered words (Burn source object) told o st → HasBurnt (Some told) source p
     → ComesTo (stored_as object (object_bytes p) (object_made_line p)) o st
 
 -- objects that are linked are stored as their image
 abbrev pub LinksAll : List (List ℕ) → Outside → Status → Type 0
 LinksAll words o st =
     (image : List ℕ) (objects : List (List ℕ)) (told : FileMap) (os : List ObjectParts) (p : ImageParts)
-    → Asks words (Link image objects) → o.files ≡ Some told → HasObjects (Some told) objects os → linked_image os ≡ Ok p
-    → NoFault (task_of (Link image objects)) o → st ≢ status.Memory
+    → Unhindered words (Link image objects) told o st → HasObjects (Some told) objects os → linked_image os ≡ Ok p
     → ComesTo (stored_as image (image_bytes p) (image_made_line p)) o st
 
 -- an accepted image is told as one
 abbrev pub ChecksAll : List (List ℕ) → Outside → Status → Type 0
 ChecksAll words o st =
     (image : List ℕ) (told : FileMap) (program : Image)
-    → Asks words (Check image) → o.files ≡ Some told → HasImage (Some told) image program
-    → NoFault (task_of (Check image)) o → st ≢ status.Memory → ComesTo (printed (accepted_line program)) o st
+    → Unhindered words (Check image) told o st → HasImage (Some told) image program
+    → ComesTo (printed (accepted_line program)) o st
 
 -- ---- of several kernels, checkpoints and certificates
-
--- The words ask for the command, the files tell what they hold, no load, store or put failed, and memory was found.
-pub record Unhindered (words : List (List ℕ)) (command : Command) (told : FileMap) (o : Outside) (st : Status) : Type 0 where
-  pub asks : Asks words command
-  pub files : o.files ≡ Some told
-  pub no_fault : NoFault (task_of command) o
-  pub memory : st ≢ status.Memory
-
--- the names hold an image that is accepted, and a script
-pub record HasRunnable (told : FileMap) (image script : List ℕ) (program : Image) (events : Events) : Type 0 where
-  pub image_held : HasImage (Some told) image program
-  pub script_held : HasScript (Some told) script events
-
--- the work came to such an outcome
-abbrev pub ComesToOne : (Outcome → Type 0) → Outside → Status → Type 0
-ComesToOne comes o st = (w : Outcome) × comes w × ComesTo w o st
 
 -- several kernels, for each of which there are frames enough, run in the turns of their schedule
 abbrev pub SharesAll : List (List ℕ) → Outside → Status → Type 0
@@ -168,14 +156,14 @@ SharesAll words o st =
 abbrev pub SavesAll : List (List ℕ) → Outside → Status → Type 0
 SavesAll words o st =
     (on : RunMode) (image script : List ℕ) (frames n : ℕ) (file : List ℕ) (told : FileMap) (program : Image) (events : Events)
-    → Unhindered words (Save on image script frames n file) told o st → HasRunnable told image script program events → need program ≤ frames
-    → ComesToOne (SavesBoot on frames n file program events) o st
+    → Unhindered words (Save on image script frames n file) told o st → HasRunnable (Some told) image script program events
+    → need program ≤ frames → ComesToOne (SavesBoot on frames n file program events) o st
 
 -- the same from a checkpoint that fits
 abbrev pub SavesAgain : List (List ℕ) → Outside → Status → Type 0
 SavesAgain words o st =
     (on : RunMode) (image script file : List ℕ) (n : ℕ) (new : List ℕ) (told : FileMap) (program : Image) (events : Events) (s : State)
-    → Unhindered words (SaveFrom on image script file n new) told o st → HasRunnable told image script program events
+    → Unhindered words (SaveFrom on image script file n new) told o st → HasRunnable (Some told) image script program events
     → HasState (Some told) file s → fits_of s program (is_wedge on) n ≡ Ok tt
     → ComesToOne (SavesOn on n new program events s) o st
 
@@ -183,7 +171,7 @@ SavesAgain words o st =
 abbrev pub ContinuesAll : List (List ℕ) → Outside → Status → Type 0
 ContinuesAll words o st =
     (on : RunMode) (image script file : List ℕ) (n : ℕ) (told : FileMap) (program : Image) (events : Events) (s : State)
-    → Unhindered words (Continue on image script file n) told o st → HasRunnable told image script program events
+    → Unhindered words (Continue on image script file n) told o st → HasRunnable (Some told) image script program events
     → HasState (Some told) file s → fits_of s program (is_wedge on) n ≡ Ok tt
     → ComesToOne (ContinuesOn on n program events s) o st
 
@@ -197,9 +185,8 @@ Proves words o st =
 abbrev pub ProvesAll : List (List ℕ) → Outside → Status → Type 0
 ProvesAll words o st =
     (image script : List ℕ) (frames n : ℕ) (certificate : List ℕ) (told : FileMap) (program : Image) (events : Events)
-    → Asks words (Prove image script frames n certificate) → o.files ≡ Some told
-    → HasImage (Some told) image program → HasScript (Some told) script events → need program ≤ frames
-    → NoFault (task_of (Prove image script frames n certificate)) o → st ≢ status.Memory → IsProof program events frames n certificate o st
+    → Unhindered words (Prove image script frames n certificate) told o st → HasRunnable (Some told) image script program events
+    → need program ≤ frames → IsProof program events frames n certificate o st
 
 -- `replay` that is done has said what is judged
 abbrev pub Judges : List (List ℕ) → Outside → Status → Type 0
@@ -210,8 +197,8 @@ Judges words o st =
 -- it is done where the files hold all that it is given
 abbrev pub JudgesAll : List (List ℕ) → Outside → Status → Type 0
 JudgesAll words o st =
-    (image script : List ℕ) (frames n : ℕ) (certificate text : List ℕ) (told : FileMap) (program : Image) (events : Events) (list : List Choice) (bytes : List ℕ)
-    → Asks words (Replay image script frames n certificate text) → o.files ≡ Some told
-    → HasImage (Some told) image program → HasScript (Some told) script events → HasChoices (Some told) certificate list → told text ≡ Some bytes → need program ≤ frames
-    → NoFault (task_of (Replay image script frames n certificate text)) o → st ≢ status.Memory
+    (image script : List ℕ) (frames n : ℕ) (certificate text : List ℕ) (told : FileMap) (program : Image) (events : Events)
+    (list : List Choice) (bytes : List ℕ)
+    → Unhindered words (Replay image script frames n certificate text) told o st
+    → HasRunnable (Some told) image script program events → HasChoices (Some told) certificate list → told text ≡ Some bytes → need program ≤ frames
     → ComesTo (printed (verdict_line (judged program events frames n list bytes))) o st

@@ -12,18 +12,19 @@ ghost use Rattle.pv_build.specs.Objects.{HasObjects};
 ghost use Rattle.pv_build.specs.Images.{HasImage, ImageReadsBack};
 ghost use Rattle.pv_words.specs.Words.{Command};
 ghost use Rattle.pv_tasks.specs.Outcome.{Outcome};
-ghost use Rattle.pv_tasks.specs.Linking.{HoldObjects};
 ghost use Rattle.pv_tool.specs.Asked.{task_of};
+ghost use Rattle.pv_tool.specs.HeldObjects.{HoldObjects};
 ghost use Rattle.pv_tool.specs.Moving.{MovesAreOneRun};
 
 use checkpoint::legs_are_a_run;
 
 /// Where the work of a command comes to something over the files, each file that it reaches is held. After a store the name
-/// holds what was stored, and each other name what it held. Names at which objects
-/// were stored hold these objects, whatever else is held. A name at which a linked image was stored holds the image that its
-/// parts are checked as, with its text, data and entry: `check` and `run` go on with that.
+/// holds what was stored, and each other name what it held. Names at which objects were stored hold these objects, whatever
+/// else is held. A name at which a linked image was stored holds the image that its parts are checked as, with its text, data
+/// and entry: `check` and `run` go on with that.
 pub fn chains()
-    ensures found { (command : Command) (told : FileMap) (w : Outcome) → (task_of command).gives (Some told) w → (task_of command).finds (Some told) }
+    ensures found { (command : Command) (told : FileMap) (w : Outcome) → (task_of command).gives (Some told) w
+        → (task_of command).finds (Some told) }
     ensures objects { (told : FileMap) (names : List (List ℕ)) (os : List ObjectParts) → HoldObjects told names os
         → HasObjects (Some told) names os }
     ensures image { (told : FileMap) (name : List ℕ) (p : ImageParts) (program : Image) → told name ≡ Some (image_bytes p)

@@ -1,7 +1,8 @@
 use Rattle.std.proofs.Common.{Option, sym, subst, ◌∙◌, arith}
 use Rattle.std.proofs.lemmas.Result.{err_from_is_err_and}
 use Rattle.pv_io.specs.Files.{FileMap, Holds, IsHeld}
-use Rattle.pv_prove.specs.Certificates.{HasChoices, HasNoChoices, FindsReplay, NoRunnable, NoChoices}
+use Rattle.pv_prove.specs.Certificates.{HasChoices, FindsReplay}
+use Rattle.pv_prove.specs.Unjudged.{HasNoChoices, NoRunnable, NoChoices}
 use Rattle.pv_build.proofs.Halts.{halts_as, halts_since}
 use Rattle.pv_build.proofs.Failures.{none_since}
 use Rattle.pv_build.proofs.Readings.{read_for, read_on}

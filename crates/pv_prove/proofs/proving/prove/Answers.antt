@@ -3,14 +3,14 @@ use Rattle.pv_io.specs.Files.{FileMap}
 use Rattle.pv_build.specs.Images.{HasImage}
 use Rattle.pv_build.specs.Scripts.{HasScript}
 use Rattle.pv_tasks.specs.Outside.{outside}
-use Rattle.pv_tasks.specs.Running.{WithFrames}
 use Rattle.pv_prove.specs.Proving.{ProvesRun}
-use Rattle.pv_tasks.proofs.Deliveries.{halts, counts_host}
+use Rattle.pv_tasks.proofs.Deliveries.{halts, counts_host, counts_behind, since_read, some_is_none}
 use Rattle.pv_tasks.proofs.RunMeanings.{no_run}
-use Rattle.pv_prove.proofs.ProveMeanings.{prove_since, since_read, counts_proved}
+use Rattle.pv_prove.proofs.ProveMeanings.{prove_since}
 use Rattle.pv_tasks.proofs.Faults.{ends_halted, ends_since}
 use Rattle.pv_prove.specs.Asked.{asked_prove}
 use Rattle.pv_prove.proofs.proving.prove.Goals as goal
+use Rattle.pv_tasks.proofs.Works.{WithFrames}
 
 pub returns-in-Err-clause-meaning : goal.returns-in-Err-clause-meaning
 returns-in-Err-clause-meaning g c =
@@ -37,8 +37,8 @@ returns-in-Ok-clause-meaning g c =
 pub returns-in-Ok-clause-counts : goal.returns-in-Ok-clause-counts
 returns-in-Ok-clause-counts g c =
     let words = c.args.words in
-    counts_proved g.F.Files g.S.Sink g.H.Host words.image.now words.script.now words.frames words.n c.args.certificate.now c.args.files.now c.runnable_in_files.new.files c.prove_found.new.files c.args.out.now c.prove_found.new.out c.args.host.now c.prove_found.new.host
-    c.in-Ok.ensures.read c.prove_found.ensures.stored
+    counts_behind g.F.Files g.S.Sink g.H.Host (asked_prove words c.args.certificate.now) c.args.files.now c.runnable_in_files.new.files c.prove_found.new.files c.args.out.now c.prove_found.new.out c.args.host.now c.prove_found.new.host
+    (some_is_none c.args.certificate.now) c.in-Ok.ensures.read c.prove_found.ensures.stored
 
 pub returns-in-Err-clause-ends : goal.returns-in-Err-clause-ends
 returns-in-Err-clause-ends g c =

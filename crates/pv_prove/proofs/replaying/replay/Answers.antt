@@ -1,5 +1,5 @@
 use Rattle.std.proofs.Common.{refl}
-use Rattle.pv_tasks.specs.Outside.{beside}
+use Rattle.pv_tasks.specs.Beside.{beside}
 use Rattle.pv_tasks.proofs.Deliveries.{halts, counts_read}
 use Rattle.pv_prove.proofs.ReplayMeanings.{no_replay, replay_means}
 use Rattle.pv_tasks.proofs.Faults.{ends_halted, ends_same}

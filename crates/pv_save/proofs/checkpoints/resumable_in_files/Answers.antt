@@ -2,7 +2,8 @@ use Rattle.std.proofs.Common.{ℕ, Option, sym, ap, subst, ◌∙◌}
 use Rattle.std.proofs.lemmas.Result.{err_from_is_err_and}
 use Rattle.pv_io.specs.Files.{FileMap, IsHeld}
 use Rattle.pv_build.specs.Lines.{place_line}
-use Rattle.pv_save.specs.Checkpoints.{HasState, HasNoState, FindsState, NothingToRun, NoState, Unfit}
+use Rattle.pv_save.specs.Checkpoints.{HasState, FindsState}
+use Rattle.pv_save.specs.Unresumed.{HasNoState, NothingToRun, NoState, Unfit}
 use Rattle.pv_build.proofs.Halts.{halts_as, halts_since, refuses_as, refused_here, line_is}
 use Rattle.pv_build.proofs.Failures.{none_since}
 use Rattle.pv_build.proofs.Readings.{read_for, read_on}

@@ -1,17 +1,18 @@
 use Rattle.std.proofs.Common.{[], Option, refl, subst}
 use Rattle.pv_io.specs.Files.{FileMap}
 use Rattle.wedge_core.specs.Counts.{Counts, counts_of}
-use Rattle.pv_tasks.specs.Outside.{beside, outside}
-use Rattle.pv_tasks.specs.Running.{WithFrames}
+use Rattle.pv_tasks.specs.Outside.{outside}
+use Rattle.pv_tasks.specs.Beside.{beside}
 use Rattle.pv_save.specs.Saving.{SavesBoot, setting_on}
 use Rattle.pv_save.specs.Asked.{asked_save}
 use Rattle.pv_save.specs.Resting.{LeavesState}
-use Rattle.pv_tasks.proofs.Deliveries.{halts, counts_host, not_ended}
+use Rattle.pv_tasks.proofs.Deliveries.{halts, counts_host, counts_behind, some_is_none, not_ended}
 use Rattle.pv_tasks.proofs.RunMeanings.{no_run}
 use Rattle.pv_save.proofs.RestMeanings.{started_means}
-use Rattle.pv_save.proofs.RestDone.{fits_on, saves_boot, small_boot, counts_rested, starts_stop, left_state}
+use Rattle.pv_save.proofs.RestDone.{fits_on, saves_boot, small_boot, starts_stop, left_state}
 use Rattle.pv_tasks.proofs.Faults.{ends_halted, ends_since}
 use Rattle.pv_save.proofs.saving.save.Goals as goal
+use Rattle.pv_tasks.proofs.Works.{WithFrames}
 
 pub returns-in-Err-clause-meaning : goal.returns-in-Err-clause-meaning
 returns-in-Err-clause-meaning g c =
@@ -36,7 +37,7 @@ returns-in-Ok-clause-meaning g c =
     (counts_of g.H.Host host2) c.rest_found-rested.result c.leave.result
     (λ fits. saves_boot on words.image.now words.script.now words.frames words.n c.args.file.now o found.image found.script.list c.in-Ok.ensures.image c.in-Ok.ensures.script
     (fits_on on found.image found.script.list words.frames fits))
-    (λ lt. small_boot on words.image.now words.script.now words.frames words.n c.args.file.now o.files found.image found.script.list c.in-Ok.ensures.image c.in-Ok.ensures.script lt)
+    (λ lt. small_boot on words.image.now words.script.now words.frames words.n c.args.file.now o.before.files found.image found.script.list c.in-Ok.ensures.image c.in-Ok.ensures.script lt)
     read.held read.same_sure read.same_stores c.rest_found-rested.ensures.answers (c.leave.ensures.leaves (counts_of g.H.Host host2) (g.H.Host.bytes host2))
 
 pub returns-in-Err-clause-counts : goal.returns-in-Err-clause-counts
@@ -47,8 +48,8 @@ returns-in-Err-clause-counts g c =
 pub returns-in-Ok-clause-counts : goal.returns-in-Ok-clause-counts
 returns-in-Ok-clause-counts g c =
     let words = c.args.words in
-    counts_rested g.F.Files g.S.Sink g.H.Host (asked_save c.args.mode words c.args.file.now) c.args.files.now c.runnable_in_files.new.files c.leave.new.files c.args.out.now c.leave.new.out c.args.host.now c.rest_found-rested.new.host
-    (λ le. le) c.in-Ok.ensures.read c.leave.ensures.stored
+    counts_behind g.F.Files g.S.Sink g.H.Host (asked_save c.args.mode words c.args.file.now) c.args.files.now c.runnable_in_files.new.files c.leave.new.files c.args.out.now c.leave.new.out c.args.host.now c.rest_found-rested.new.host
+    (some_is_none c.args.file.now) c.in-Ok.ensures.read c.leave.ensures.stored
 
 pub returns-in-Err-clause-leaves : goal.returns-in-Err-clause-leaves
 returns-in-Err-clause-leaves g c = λ done. absurd (not_ended c.in-Err.halt _ _ _ _ c.end.result c.end.ensures done)

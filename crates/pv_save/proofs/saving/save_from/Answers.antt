@@ -3,14 +3,15 @@ use Rattle.pv_io.specs.Files.{FileMap}
 use Rattle.wedge_core.specs.Counts.{Counts, counts_of}
 use Rattle.checkpoint.specs.Moved.{rested_from}
 use Rattle.checkpoint.specs.Fits.{fits_of}
-use Rattle.pv_tasks.specs.Outside.{beside, outside}
+use Rattle.pv_tasks.specs.Outside.{outside}
+use Rattle.pv_tasks.specs.Beside.{beside}
 use Rattle.pv_save.specs.Saving.{SavesOn, setting_on, frames_of}
 use Rattle.pv_save.specs.Asked.{asked_save_from}
 use Rattle.pv_save.specs.Resting.{LeavesState}
-use Rattle.pv_tasks.proofs.Deliveries.{halts, counts_host, not_ended}
+use Rattle.pv_tasks.proofs.Deliveries.{halts, counts_host, counts_behind, some_is_none, not_ended}
 use Rattle.pv_save.proofs.RestMeanings.{rested_means}
 use Rattle.pv_save.proofs.ContinueMeanings.{no_rest}
-use Rattle.pv_save.proofs.RestDone.{saves_state, counts_rested, rests_stop, left_state}
+use Rattle.pv_save.proofs.RestDone.{saves_state, rests_stop, left_state}
 use Rattle.pv_tasks.proofs.Faults.{ends_halted, ends_since}
 use Rattle.pv_save.proofs.saving.save_from.Goals as goal
 
@@ -48,8 +49,8 @@ returns-in-Err-clause-counts g c =
 pub returns-in-Ok-clause-counts : goal.returns-in-Ok-clause-counts
 returns-in-Ok-clause-counts g c =
     let words = c.args.words in
-    counts_rested g.F.Files g.S.Sink g.H.Host (asked_save_from c.args.mode words c.args.new.now) c.args.files.now c.resumable_in_files.new.files c.leave.new.files c.args.out.now c.leave.new.out c.args.host.now c.rest_again-rested.new.host
-    (λ le. le) c.in-Ok.ensures.read c.leave.ensures.stored
+    counts_behind g.F.Files g.S.Sink g.H.Host (asked_save_from c.args.mode words c.args.new.now) c.args.files.now c.resumable_in_files.new.files c.leave.new.files c.args.out.now c.leave.new.out c.args.host.now c.rest_again-rested.new.host
+    (some_is_none c.args.new.now) c.in-Ok.ensures.read c.leave.ensures.stored
 
 pub returns-in-Err-clause-leaves : goal.returns-in-Err-clause-leaves
 returns-in-Err-clause-leaves g c = λ done. absurd (not_ended c.in-Err.halt _ _ _ _ c.end.result c.end.ensures done)

@@ -5,7 +5,8 @@ use Rattle.guest_sched.specs.declared.kernel.Kernel.{Kernel}
 use Rattle.guest_sched.specs.Texts.{schedule_of}
 use Rattle.pv_build.specs.Lines.{line_line}
 use Rattle.pv_words.specs.Words.{names_in_pairs}
-use Rattle.pv_share.specs.Kernels.{HasKernels, FindsKernels, NoKernel, NoneRead, NoSchedule}
+use Rattle.pv_share.specs.Kernels.{HasKernels, FindsKernels, NoKernel}
+use Rattle.pv_share.specs.Unshared.{NoneRead, NoSchedule}
 use Rattle.pv_build.proofs.Halts.{halts_as, halts_since, refused_here, refuses_as, line_is}
 use Rattle.pv_build.proofs.Failures.{none_since}
 use Rattle.pv_share.proofs.Kernels.{kernels_few}

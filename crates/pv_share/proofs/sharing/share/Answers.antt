@@ -1,7 +1,7 @@
 use Rattle.std.proofs.Common.{◌≡◌, length, map, refl, ap, ◌∙◌}
 use Rattle.std.specs.Prelude.{string_bytes}
 use Rattle.std.proofs.lemmas.List.{length-map}
-use Rattle.pv_share.specs.Kernels.{FindsShared}
+use Rattle.pv_share.specs.Unshared.{FindsShared}
 use Rattle.pv_build.proofs.Readings.{read_for}
 use Rattle.pv_share.specs.Asked.{asked_share}
 use Rattle.pv_words.specs.Words.{names_in_pairs, makes_pairs}

@@ -2,8 +2,8 @@ use Rattle.std.proofs.Common.{ℕ, List, [], Option, refl, subst}
 use Rattle.pv_io.specs.Files.{FileMap, Stores}
 use Rattle.pv_tasks.specs.Burning.{burn_task}
 use Rattle.wedge_core.specs.Counts.{Counts}
-use Rattle.pv_tasks.specs.Outside.{beside}
-use Rattle.pv_tasks.proofs.Deliveries.{halts, delivered, counts_read, counts_stored, stored_done, not_ended}
+use Rattle.pv_tasks.specs.Beside.{beside}
+use Rattle.pv_tasks.proofs.Deliveries.{halts, delivered, counts_read, counts_stored, some_is_none, stored_done, not_ended}
 use Rattle.pv_tasks.proofs.BurnMeanings.{is_burnt}
 use Rattle.pv_tasks.proofs.Faults.{ends_halted, ends_since}
 use Rattle.pv_tasks.proofs.burning.burn.Goals as goal
@@ -28,7 +28,7 @@ returns-in-Err-clause-counts g c = λ completed memory.
 
 pub returns-in-Ok-clause-counts : goal.returns-in-Ok-clause-counts
 returns-in-Ok-clause-counts g c = λ completed memory.
-    counts_stored g.F.Files g.S.Sink (burn_task c.args.source.now c.args.object.now) c.args.files.now c.made.new.files c.deliver.new.files c.args.out.now c.deliver.new.out completed memory (λ le. le)
+    counts_stored g.F.Files g.S.Sink (burn_task c.args.source.now c.args.object.now) c.args.files.now c.made.new.files c.deliver.new.files c.args.out.now c.deliver.new.out completed memory (some_is_none c.args.object.now)
     c.in-Ok.ensures.read c.deliver.ensures.stored
 
 pub returns-in-Err-clause-leaves : goal.returns-in-Err-clause-leaves

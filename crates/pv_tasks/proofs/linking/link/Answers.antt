@@ -2,8 +2,8 @@ use Rattle.std.proofs.Common.{ℕ, List, [], Option, refl, subst, map, string_by
 use Rattle.pv_io.specs.Files.{FileMap, Stores}
 use Rattle.pv_tasks.specs.Linking.{link_task}
 use Rattle.wedge_core.specs.Counts.{Counts}
-use Rattle.pv_tasks.specs.Outside.{beside}
-use Rattle.pv_tasks.proofs.Deliveries.{halts, delivered, counts_read, counts_stored, stored_done, not_ended}
+use Rattle.pv_tasks.specs.Beside.{beside}
+use Rattle.pv_tasks.proofs.Deliveries.{halts, delivered, counts_read, counts_stored, some_is_none, stored_done, not_ended}
 use Rattle.pv_tasks.proofs.LinkMeanings.{is_linked}
 use Rattle.pv_tasks.proofs.Faults.{ends_halted, ends_since}
 use Rattle.pv_tasks.proofs.linking.link.Goals as goal
@@ -27,7 +27,7 @@ returns-in-Err-clause-counts g c = λ completed memory.
 
 pub returns-in-Ok-clause-counts : goal.returns-in-Ok-clause-counts
 returns-in-Ok-clause-counts g c = λ completed memory.
-    counts_stored g.F.Files g.S.Sink (link_task c.args.image.now (map string_bytes c.args.objects.now)) c.args.files.now c.made.new.files c.deliver.new.files c.args.out.now c.deliver.new.out completed memory (λ le. le)
+    counts_stored g.F.Files g.S.Sink (link_task c.args.image.now (map string_bytes c.args.objects.now)) c.args.files.now c.made.new.files c.deliver.new.files c.args.out.now c.deliver.new.out completed memory (some_is_none c.args.image.now)
     c.in-Ok.ensures.read c.deliver.ensures.stored
 
 pub returns-in-Err-clause-leaves : goal.returns-in-Err-clause-leaves

@@ -3,11 +3,11 @@ use Rattle.pv_build.specs.Scripts.{FindsRun}
 use Rattle.pv_build.proofs.Readings.{read_for}
 use Rattle.pv_tasks.specs.Outcome.{refused}
 use Rattle.pv_tasks.specs.Asked.{asked_run}
-use Rattle.pv_tasks.specs.Running.{WithFrames}
 use Rattle.pv_tasks.proofs.Deliveries.{halts, counts_host}
 use Rattle.pv_tasks.proofs.RunMeanings.{runs_of, ran_on, ends_of, told_of, gives_run, finds_run, no_run, run_means}
 use Rattle.pv_tasks.proofs.Faults.{ends_halted, ends_same}
 use Rattle.pv_tasks.proofs.running.run.Goals as goal
+use Rattle.pv_tasks.proofs.Works.{WithFrames}
 
 pub returns-in-Err-clause-meaning : goal.returns-in-Err-clause-meaning
 returns-in-Err-clause-meaning g c =

@@ -64,3 +64,12 @@ returns-in-SaveFrom-clause-host g c = λ none. c.save_from.ensures.host (bare_mo
 
 pub returns-in-Continue-clause-host : goal.returns-in-Continue-clause-host
 returns-in-Continue-clause-host g c = λ none. c.go_on.ensures.host (bare_mode c.in-Continue.mode (rw c.in-Continue.is at none))
+
+pub returns-in-RunBare-clause-meaning : goal.returns-in-RunBare-clause-meaning
+returns-in-RunBare-clause-meaning g c = rw c.in-RunBare.is c.run.ensures.meaning
+
+pub returns-in-RunWedge-clause-meaning : goal.returns-in-RunWedge-clause-meaning
+returns-in-RunWedge-clause-meaning g c = rw c.in-RunWedge.is c.run-in-RunWedge.ensures.meaning
+
+pub returns-in-Prove-clause-meaning : goal.returns-in-Prove-clause-meaning
+returns-in-Prove-clause-meaning g c = rw c.in-Prove.is c.prove.ensures.meaning

@@ -1,0 +1,5 @@
+use Rattle.std.proofs.Common.{ap, ◌∙◌}
+use Rattle.pv_prove.proofs.certificate_lines.certificate_line.Goals as goal
+
+pub returns : goal.returns
+returns c = ap (λ v. v.items) c.into_bytes.ensures.value ∙ c.in_ok-line.ensures.ok
