@@ -131,7 +131,7 @@ fn directive_step(
 }
 
 /// The end of a change to a named section.
-fn section(
+fn end_section(
     alloc: Global,
     scope: &mut Scope,
     line: u32,
@@ -231,18 +231,18 @@ fn sectioned_step(
     alloc: Global,
     scope: &mut Scope,
     begun: u32,
-    name: Name,
-    named: Name,
+    directive: Name,
+    section: Name,
     terminal: Terminal,
 ) -> Result<StatementState, StepFault>
-    ensures { spec.Does scope.new result (spec.sectioned_step scope.old begun name named terminal) }
+    ensures { spec.Does scope.new result (spec.sectioned_step scope.old begun directive section terminal) }
 {
     match terminal {
-        Terminal::End => section(alloc, scope, begun, name, named),
+        Terminal::End => end_section(alloc, scope, begun, directive, section),
         Terminal::Comma => Ok(StatementState::Flags {
             line: begun,
-            name,
-            section: named,
+            name: directive,
+            section,
         }),
         Terminal::Big => Err(StepFault::Cause(SourceCause::BadNumber)),
         _ => Err(StepFault::Cause(SourceCause::BadOperand)),
@@ -254,18 +254,18 @@ fn flags_step(
     alloc: Global,
     scope: &mut Scope,
     begun: u32,
-    name: Name,
-    named: Name,
+    directive: Name,
+    section: Name,
     terminal: Terminal,
 ) -> Result<StatementState, StepFault>
-    ensures { spec.Does scope.new result (spec.flags_step scope.old begun name named terminal) }
+    ensures { spec.Does scope.new result (spec.flags_step scope.old begun directive section terminal) }
 {
     match terminal {
-        Terminal::End => section(alloc, scope, begun, name, named),
+        Terminal::End => end_section(alloc, scope, begun, directive, section),
         _ => Ok(StatementState::Flags {
             line: begun,
-            name,
-            section: named,
+            name: directive,
+            section,
         }),
     }
 }
@@ -304,15 +304,15 @@ pub fn step(
         StatementState::Skip => Ok(skip(terminal)),
         StatementState::Sectioned {
             line: begun,
-            name,
-            section: named,
+            name: directive,
+            section,
             ..
-        } => { sectioned_step(alloc, scope, begun, name, named, terminal) }
+        } => { sectioned_step(alloc, scope, begun, directive, section, terminal) }
         StatementState::Flags {
             line: begun,
-            name,
-            section: named,
-        } => flags_step(alloc, scope, begun, name, named, terminal),
+            name: directive,
+            section,
+        } => flags_step(alloc, scope, begun, directive, section, terminal),
         StatementState::Stray { cause, .. } => Err(StepFault::Cause(stray_cause(cause, &terminal))),
         StatementState::Arguments(begun) => argument_step(alloc, scope, begun, terminal),
     }

@@ -91,11 +91,11 @@ fn tried<C: Cache>(
     ensures size { length ram.new ≡ length ram.old }
     ensures within { AreWithin frames (changed (C.entries kept.now.cache) state.new.changes) }
     ensures page { IfOk (answer_of result worked.new) (λ w. IsDropped w.dropped) }
-    ensures memory { (space ⟦<Cached<C> as step_mem::Kept>⟧ kept.now ram.new state.new).ram ≡ ram.new }
+    ensures memory { (space ⟦<Cached<C> as step_mem::Translations>⟧ kept.now ram.new state.new).ram ≡ ram.new }
     ensures comes { (image : Image) (script : Events) (b : State) → ComesTo
         (stepped (bare image script frames)
         (record b { cpu = worked.old.cpu; ram = ram.old; set = C.entries kept.now.cache; board = board.old }))
-        b (answer_of result worked.new) board.new (space ⟦<Cached<C> as step_mem::Kept>⟧ kept.now ram.new state.new) }
+        b (answer_of result worked.new) board.new (space ⟦<Cached<C> as step_mem::Translations>⟧ kept.now ram.new state.new) }
 {
     let _len = ram.len();
     let guard = Guard {

@@ -3,7 +3,7 @@ use Rattle.std.specs.Prelude.{◌≡◌, ℕ, ◌+◌, ◌≤◌, List, length, 
 use Rattle.elf_form.specs.declared.abi.TheConstants.{REL_SIZE, SHDR_SIZE}
 use Rattle.elf_form.specs.declared.roles.Role.TheVariants as role
 use Rattle.elf_form.specs.declared.symbols.Entry.{Entry}
-use Rattle.elf_form.specs.declared.object_reading.Kept.{Kept}
+use Rattle.elf_form.specs.declared.object_reading.KeptRelocs.{KeptRelocs}
 use Rattle.elf_form.specs.Sections.{names}
 use Rattle.elf_form.specs.Symbols.{relocs_of}
 
@@ -13,7 +13,7 @@ pub record IsEntry (bytes : List ℕ) (e : Entry) : Type 0 where
   pub at : e.at + REL_SIZE ≤ length bytes
 
 -- those of the text, of the data and of the zeroed bytes, each in the file
-pub record AreKept (bytes : List ℕ) (kept : Kept) : Type 0 where
+pub record AreKept (bytes : List ℕ) (kept : KeptRelocs) : Type 0 where
   pub text : kept.text.items ≡ relocs_of role.Text (names bytes) bytes
   pub init : kept.init.items ≡ relocs_of role.Init (names bytes) bytes
   pub bss : kept.bss.items ≡ relocs_of role.Bss (names bytes) bytes

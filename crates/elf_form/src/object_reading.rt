@@ -37,25 +37,25 @@ use std::alloc::{AllocError, Global};
 
 /// The relocations of an object's text, of its data, and of its zeroed bytes.
 #[derive(Drop)]
-pub struct Kept {
+pub struct KeptRelocs {
     pub text: Vec<Entry>,
     pub init: Vec<Entry>,
     pub bss: Vec<Entry>,
 }
 
-fn kept_in(alloc: Global, bytes: &[u8]) -> Result<Kept, AllocError>
+fn kept_in(alloc: Global, bytes: &[u8]) -> Result<KeptRelocs, AllocError>
     requires { IsWhole bytes.now }
     ensures { IfOk result (AreKept bytes.now) }
 {
     let names = names(bytes);
-    Ok(Kept {
+    Ok(KeptRelocs {
         text: entries_of(alloc, Role::Text, names, bytes)?,
         init: entries_of(alloc, Role::Init, names, bytes)?,
         bss: entries_of(alloc, Role::Bss, names, bytes)?,
     })
 }
 
-fn kept_fault(test: RelocTest, bytes: &[u8], kept: &Kept) -> Option<usize>
+fn kept_fault(test: RelocTest, bytes: &[u8], kept: &KeptRelocs) -> Option<usize>
     requires whole { IsWhole bytes.now }
     requires kept { AreKept bytes.now kept.now }
     ensures place { result ≡ kept_relocs test bytes.now }
@@ -69,7 +69,7 @@ fn kept_fault(test: RelocTest, bytes: &[u8], kept: &Kept) -> Option<usize>
     lower(text, lower(init, bss))
 }
 
-fn symbol_form(bytes: &[u8], kept: &Kept) -> Option<usize>
+fn symbol_form(bytes: &[u8], kept: &KeptRelocs) -> Option<usize>
     requires whole { IsWhole bytes.now }
     requires kept { AreKept bytes.now kept.now }
     ensures place { result ≡ symbol_form bytes.now }
@@ -81,7 +81,7 @@ fn symbol_form(bytes: &[u8], kept: &Kept) -> Option<usize>
     lower(globals, kept_fault(RelocTest::Named, bytes, kept))
 }
 
-fn reloc_form(bytes: &[u8], kept: &Kept) -> Option<usize>
+fn reloc_form(bytes: &[u8], kept: &KeptRelocs) -> Option<usize>
     requires whole { IsWhole bytes.now }
     requires kept { AreKept bytes.now kept.now }
     ensures place { result ≡ reloc_form bytes.now }
@@ -112,7 +112,7 @@ fn put_kept(
     alloc: Global,
     starts: Starts,
     bytes: &[u8],
-    kept: &Kept,
+    kept: &KeptRelocs,
 ) -> Result<(), AllocError>
     requires whole { IsWhole bytes.now }
     requires kept { AreKept bytes.now kept.now }
@@ -158,7 +158,7 @@ fn object_with(
     starts: Starts,
     bss: u32,
     bytes: &[u8],
-    kept: &Kept,
+    kept: &KeptRelocs,
 ) -> Result<Object, AllocError>
     requires whole { IsWhole bytes.now }
     requires kept { AreKept bytes.now kept.now }
@@ -194,7 +194,7 @@ fn object_with(
 }
 
 #[tactic(auto, unfolding(crate::specs::ObjectReading::object_at))]
-fn object_at(alloc: Global, bytes: &[u8], kept: &Kept) -> Result<Object, AllocError>
+fn object_at(alloc: Global, bytes: &[u8], kept: &KeptRelocs) -> Result<Object, AllocError>
     requires whole { IsWhole bytes.now }
     requires kept { AreKept bytes.now kept.now }
     ensures { IfOk result (λ o. o ≡ object_at bytes.now) }
@@ -211,7 +211,7 @@ fn object_at(alloc: Global, bytes: &[u8], kept: &Kept) -> Result<Object, AllocEr
 }
 
 #[tactic(auto, unfolding(crate::specs::Faults::tested, crate::specs::ObjectReading::wrong_object))]
-fn kept_tested(alloc: Global, bytes: &[u8], kept: &Kept) -> Result<Object, ElfFault>
+fn kept_tested(alloc: Global, bytes: &[u8], kept: &KeptRelocs) -> Result<Object, ElfFault>
     requires whole { IsWhole bytes.now }
     requires limit { length bytes.now ≤ FILE_LIMIT }
     requires kept { AreKept bytes.now kept.now }

@@ -14,7 +14,7 @@ use Rattle.paging.specs.declared.entry.Entry.{Entry}
 use Rattle.paging.specs.declared.entry.Walk.TheVariants.{Absent, Beyond, Found}
 use Rattle.paging.specs.Fresh.{fresh, by_dir, by_word, dir_place, word_place, has, entry_of}
 use Rattle.host_cpl3.specs.Pages.{walked, entry_in}
-use Rattle.host_cpl3.specs.Kept.{table_of, IsKept, SameBut}
+use Rattle.host_cpl3.specs.KeptWalks.{table_of, IsKept, SameBut}
 
 found_at : (a b c d e : Bool) (x y : Entry) (p q s t : ℕ)
     → cond a Beyond (cond (not b) Absent (cond c Beyond (cond (not d) Absent (cond e Beyond (Found x p q))))) ≡ Found y s t → q ≡ t

@@ -14,7 +14,7 @@ use Rattle.ia32_exec.specs.Commit.{list_of, longs_to}
 use Rattle.ia32_exec.specs.Outcomes.{AreStored}
 use Rattle.paging.specs.Numbers.{number_stored}
 use Rattle.host_cpl3.specs.declared.reach.Reach.{Reach}
-use Rattle.host_cpl3.specs.Kept.{SameBut}
+use Rattle.host_cpl3.specs.KeptWalks.{SameBut}
 use Rattle.host_cpl3.specs.Reaches.{placed}
 use Rattle.host_cpl3.specs.Store.{all_stored}
 use Rattle.host_cpl3.proofs.Writing.{but_refl, but_trans}

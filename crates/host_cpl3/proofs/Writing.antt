@@ -3,7 +3,7 @@ use Rattle.std.proofs.Common.{◌≡◌, ℕ, ◌+◌, ◌*◌, ◌/◌, ◌%◌
 use Rattle.guest_ram.specs.Bytes.{with_byte, frame}
 use Rattle.guest_ram.proofs.Bytes.{frame-with_part, length-with_byte}
 use Rattle.host_cpl3.specs.declared.reach.Reach.{Reach}
-use Rattle.host_cpl3.specs.Kept.{SameBut}
+use Rattle.host_cpl3.specs.KeptWalks.{SameBut}
 use Rattle.host_cpl3.specs.Reaches.{placed}
 
 pub but_refl : (m : List ℕ) (first last : ℕ) → SameBut m m first last

@@ -10,7 +10,7 @@ pub mod HostStep
 pub mod HostRun
 pub mod Reaches
 pub mod Hosts
-pub mod Kept
+pub mod KeptWalks
 pub mod RunsTo
 pub mod Borders
 pub mod Walked

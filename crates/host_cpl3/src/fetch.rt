@@ -4,7 +4,7 @@ ghost use Rattle.std.specs.Prelude.{◌≡◌, ◌+◌, ◌*◌, ◌-◌, ◌/�
 ghost use Rattle.host_cpl3.specs.Fetch.{fetching, fetched_by};
 ghost use Rattle.ia32_decode.specs.declared.answer.Decoded.TheVariants.{Short};
 ghost use Rattle.ia32_decode.specs.Spelled.{IsSpelled};
-ghost use Rattle.host_cpl3.specs.Kept.{AreKept};
+ghost use Rattle.host_cpl3.specs.KeptWalks.{AreKept};
 
 use crate::exit::Exit;
 use crate::pages::page_met;

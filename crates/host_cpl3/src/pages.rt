@@ -1,7 +1,7 @@
 //! The frame of an address.
 
 ghost use Rattle.std.specs.Prelude.{◌≡◌, ◌*◌, ◌/◌, ◌<◌, ◌^◌, length, IfOk};
-ghost use Rattle.host_cpl3.specs.Kept.{AreKept};
+ghost use Rattle.host_cpl3.specs.KeptWalks.{AreKept};
 ghost use Rattle.host_cpl3.specs.Pages.{page_met, page_fault};
 
 use crate::exit::Exit;

@@ -3,7 +3,7 @@
 ghost use Rattle.std.specs.Prelude.{◌≡◌, ◌+◌, ◌*◌, ◌/◌, ◌<◌, ◌≤◌, ◌^◌, length, IfOk, Ok, Err, Some, MatchResult};
 ghost use Rattle.ia32_exec.specs.Short.{IsShort};
 ghost use Rattle.host_cpl3.specs.Access.{segment_met, pages_met, range_met, access_met, last_page};
-ghost use Rattle.host_cpl3.specs.Kept.{AreKept};
+ghost use Rattle.host_cpl3.specs.KeptWalks.{AreKept};
 ghost use Rattle.host_cpl3.specs.Reaches.{IsReach, IsOf, passes};
 
 use crate::exit::Exit;

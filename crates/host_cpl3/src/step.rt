@@ -11,7 +11,7 @@ ghost use Rattle.ia32_exec.specs.Outcomes.{AreStored};
 ghost use Rattle.host_cpl3.specs.Store.{all_stored};
 ghost use Rattle.host_cpl3.specs.Views.{selectors_of};
 ghost use Rattle.host_cpl3.specs.Pages.{byte_at};
-ghost use Rattle.host_cpl3.specs.Kept.{AreKept};
+ghost use Rattle.host_cpl3.specs.KeptWalks.{AreKept};
 ghost use Rattle.host_cpl3.specs.HostStep.{is_jump, exit_of, ended, finished, accessed, worked, host_step};
 ghost use Rattle.host_cpl3.specs.Reaches.{IsReach, IsOf, IsWritten, Gives, completion, placed};
 

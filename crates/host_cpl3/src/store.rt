@@ -6,7 +6,7 @@ ghost use Rattle.guest_ram.specs.Bytes.{with_byte};
 ghost use Rattle.ia32_exec.specs.Readable.{IsAllAt};
 ghost use Rattle.ia32_exec.specs.Commit.{list_of};
 ghost use Rattle.ia32_exec.specs.Outcomes.{AreStored};
-ghost use Rattle.host_cpl3.specs.Kept.{SameBut};
+ghost use Rattle.host_cpl3.specs.KeptWalks.{SameBut};
 ghost use Rattle.paging.specs.Numbers.{number_stored};
 ghost use Rattle.host_cpl3.specs.Store.{all_stored};
 ghost use Rattle.host_cpl3.specs.Reaches.{placed, IsWritten};
@@ -48,7 +48,7 @@ fn write_one(ram: &mut Ram, reach: &Reach, at: u32, size: Size, value: u32)
 impl Writer for Reach {
     ghost use Rattle.std.specs.Prelude.{◌≡◌, ⊤, length};
     ghost use Rattle.host_cpl3.specs.Reaches.{IsWritten, placed};
-    ghost use Rattle.host_cpl3.specs.Kept.{SameBut};
+    ghost use Rattle.host_cpl3.specs.KeptWalks.{SameBut};
     ghost use Rattle.paging.specs.Numbers.{number_stored};
 
     type Memory = Ram;

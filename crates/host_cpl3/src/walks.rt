@@ -44,7 +44,7 @@ pub struct Walks {
 impl Walks {
     ghost use Rattle.std.specs.FinMap.{get};
     ghost use Rattle.host_cpl3.specs.Pages.{walked, entry_in};
-    ghost use Rattle.host_cpl3.specs.Kept.{AreKept, IsWithin, SameBut, code_of, count_of, walk_count, count_after};
+    ghost use Rattle.host_cpl3.specs.KeptWalks.{AreKept, IsWithin, SameBut, code_of, count_of, walk_count, count_after};
 
     /// Nothing is kept.
     pub fn new() -> Walks

@@ -24,12 +24,12 @@ use ia32_types::{Insn, Stop};
 use machine_model::works_use;
 use run_trace::What;
 use step_exec::deliver_in;
-use step_mem::{Kept, StepState};
+use step_mem::{StepState, Translations};
 use sys_exec::{Refusal, past};
 
 /// Acknowledges an external interrupt and delivers it.
 #[tactic(auto, unfolding(machine_model::specs::Step::interrupted))]
-pub fn deliver<B: Kept>(
+pub fn deliver<B: Translations>(
     rules: &Rules,
     worked: &mut Worked,
     board: &mut Board,
@@ -39,13 +39,14 @@ pub fn deliver<B: Kept>(
     vector: u8,
 ) -> Result<(), Stop>
     requires pending { vector_of board.old ≡ Some vector }
-    requires sound { IsSoundOver B.Kept kept.now ram.old state.old }
+    requires sound { IsSoundOver B.Translations kept.now ram.old state.old }
     requires pages { state.old.pages ≤ 48 }
-    ensures sound { IsSoundOver B.Kept kept.now ram.new state.new }
-    ensures uses { OnOk result (UsesBy worked.old.cpu (space B.Kept kept.now ram.old state.old) (space B.Kept kept.now ram.new state.new)) }
+    ensures sound { IsSoundOver B.Translations kept.now ram.new state.new }
+    ensures uses { OnOk result (UsesBy worked.old.cpu (space B.Translations kept.now ram.old state.old)
+        (space B.Translations kept.now ram.new state.new)) }
     ensures step { (m : Setting) (b : Whole) → IsRuled m rules.now → ComesTo
-        (interrupted m (record b { cpu = worked.old.cpu; board = board.old }) vector (space B.Kept kept.now ram.old state.old))
-        b (answer_of result worked.new) board.new (space B.Kept kept.now ram.new state.new) }
+        (interrupted m (record b { cpu = worked.old.cpu; board = board.old }) vector (space B.Translations kept.now ram.old state.old))
+        b (answer_of result worked.new) board.new (space B.Translations kept.now ram.new state.new) }
     ensures board { board.new ≡ acknowledged board.old }
     ensures dropped { IfOk (answer_of result worked.new) (λ w. IsDropped w.dropped) }
     ensures roots { IfOk (answer_of result worked.new) (RootsAs worked.old.cpu) }
@@ -68,7 +69,7 @@ pub fn deliver<B: Kept>(
 }
 
 /// INT enters the handler with the EIP behind it. Where the gate may not be used at this level, #GP is raised at the instruction.
-pub fn enter<B: Kept>(
+pub fn enter<B: Translations>(
     rules: &Rules,
     insn: &Insn,
     len: u8,
@@ -79,15 +80,16 @@ pub fn enter<B: Kept>(
     state: &mut StepState,
     vector: u8,
 ) -> Result<(), Stop>
-    requires sound { IsSoundOver B.Kept kept.now ram.old state.old }
+    requires sound { IsSoundOver B.Translations kept.now ram.old state.old }
     requires pages { state.old.pages ≤ 32 }
     requires no_load { is_load (Some (completed_of (done_by insn.now before.now))) ≡ false }
-    ensures sound { IsSoundOver B.Kept kept.now ram.new state.new }
-    ensures uses { OnOk result (UsesBy before.now (space B.Kept kept.now ram.old state.old) (space B.Kept kept.now ram.new state.new)) }
+    ensures sound { IsSoundOver B.Translations kept.now ram.new state.new }
+    ensures uses { OnOk result (UsesBy before.now (space B.Translations kept.now ram.old state.old)
+        (space B.Translations kept.now ram.new state.new)) }
     ensures step { (m : Setting) (b : Whole) → IsRuled m rules.now → ComesTo
         (interrupts_by m (record b { cpu = before.now }) (completed_of (done_by insn.now before.now)) len vector
-        (space B.Kept kept.now ram.old state.old))
-        b (answer_of result worked.new) b.board (space B.Kept kept.now ram.new state.new) }
+        (space B.Translations kept.now ram.old state.old))
+        b (answer_of result worked.new) b.board (space B.Translations kept.now ram.new state.new) }
     ensures dropped { IfOk (answer_of result worked.new) (λ w. IsDropped w.dropped) }
     ensures roots { IfOk (answer_of result worked.new) (RootsAs before.now) }
     ensures stays { StaysIn state.old state.new ram.old ram.new }
@@ -116,7 +118,7 @@ pub fn enter<B: Kept>(
 }
 
 /// A fetch by this processor is denied or stops.
-pub fn refuse<B: Kept>(
+pub fn refuse<B: Translations>(
     rules: &Rules,
     cpu: &Cpu,
     ram: &mut Ram,
@@ -124,15 +126,16 @@ pub fn refuse<B: Kept>(
     state: &mut StepState,
     refusal: Refusal,
 ) -> Result<Worked, Stop>
-    requires sound { IsSoundOver B.Kept kept.now ram.old state.old }
+    requires sound { IsSoundOver B.Translations kept.now ram.old state.old }
     requires pages { state.old.pages ≤ 48 }
-    ensures sound { IsSoundOver B.Kept kept.now ram.new state.new }
-    ensures uses { OnOk result (UsesBy cpu.now (space B.Kept kept.now ram.old state.old) (space B.Kept kept.now ram.new state.new)) }
-    ensures goes_on { (s : Space) → AtRefusal (cpu.now.cpl == 3) s refusal (space B.Kept kept.now ram.old state.old)
-        → OnOk result (UsesBy cpu.now s (space B.Kept kept.now ram.new state.new)) }
+    ensures sound { IsSoundOver B.Translations kept.now ram.new state.new }
+    ensures uses { OnOk result (UsesBy cpu.now (space B.Translations kept.now ram.old state.old)
+        (space B.Translations kept.now ram.new state.new)) }
+    ensures goes_on { (s : Space) → AtRefusal (cpu.now.cpl == 3) s refusal (space B.Translations kept.now ram.old state.old)
+        → OnOk result (UsesBy cpu.now s (space B.Translations kept.now ram.new state.new)) }
     ensures step { (m : Setting) (b : Whole) → IsRuled m rules.now → ComesTo
-        (after_refusal m (record b { cpu = cpu.now }) refusal (space B.Kept kept.now ram.old state.old))
-        b result b.board (space B.Kept kept.now ram.new state.new) }
+        (after_refusal m (record b { cpu = cpu.now }) refusal (space B.Translations kept.now ram.old state.old))
+        b result b.board (space B.Translations kept.now ram.new state.new) }
     ensures dropped { IfOk result (λ w. IsDropped w.dropped) }
     ensures roots { IfOk result (RootsAs cpu.now) }
     ensures control { state.new.control ≡ state.old.control }
@@ -147,7 +150,7 @@ pub fn refuse<B: Kept>(
 }
 
 /// The same, where the step is told in its place.
-pub fn refuse_at<B: Kept>(
+pub fn refuse_at<B: Translations>(
     rules: &Rules,
     worked: &mut Worked,
     ram: &mut Ram,
@@ -155,15 +158,16 @@ pub fn refuse_at<B: Kept>(
     state: &mut StepState,
     refusal: Refusal,
 ) -> Result<(), Stop>
-    requires sound { IsSoundOver B.Kept kept.now ram.old state.old }
+    requires sound { IsSoundOver B.Translations kept.now ram.old state.old }
     requires pages { state.old.pages ≤ 48 }
-    ensures sound { IsSoundOver B.Kept kept.now ram.new state.new }
-    ensures uses { OnOk result (UsesBy worked.old.cpu (space B.Kept kept.now ram.old state.old) (space B.Kept kept.now ram.new state.new)) }
-    ensures goes_on { (s : Space) → AtRefusal (worked.old.cpu.cpl == 3) s refusal (space B.Kept kept.now ram.old state.old)
-        → OnOk result (UsesBy worked.old.cpu s (space B.Kept kept.now ram.new state.new)) }
+    ensures sound { IsSoundOver B.Translations kept.now ram.new state.new }
+    ensures uses { OnOk result (UsesBy worked.old.cpu (space B.Translations kept.now ram.old state.old)
+        (space B.Translations kept.now ram.new state.new)) }
+    ensures goes_on { (s : Space) → AtRefusal (worked.old.cpu.cpl == 3) s refusal (space B.Translations kept.now ram.old state.old)
+        → OnOk result (UsesBy worked.old.cpu s (space B.Translations kept.now ram.new state.new)) }
     ensures step { (m : Setting) (b : Whole) → IsRuled m rules.now → ComesTo
-        (after_refusal m (record b { cpu = worked.old.cpu }) refusal (space B.Kept kept.now ram.old state.old))
-        b (answer_of result worked.new) b.board (space B.Kept kept.now ram.new state.new) }
+        (after_refusal m (record b { cpu = worked.old.cpu }) refusal (space B.Translations kept.now ram.old state.old))
+        b (answer_of result worked.new) b.board (space B.Translations kept.now ram.new state.new) }
     ensures dropped { IfOk (answer_of result worked.new) (λ w. IsDropped w.dropped) }
     ensures roots { IfOk (answer_of result worked.new) (RootsAs worked.old.cpu) }
     ensures stays { StaysIn state.old state.new ram.old ram.new }
@@ -179,7 +183,7 @@ pub fn refuse_at<B: Kept>(
 }
 
 /// Delivers a raised vector, from this processor, whose EIP is that of the instruction.
-pub fn raise<B: Kept>(
+pub fn raise<B: Translations>(
     rules: &Rules,
     worked: &mut Worked,
     ram: &mut Ram,
@@ -188,14 +192,14 @@ pub fn raise<B: Kept>(
     vector: u8,
     code: u32,
 ) -> Result<(), Stop>
-    requires sound { IsSoundOver B.Kept kept.now ram.old state.old }
+    requires sound { IsSoundOver B.Translations kept.now ram.old state.old }
     requires pages { state.old.pages ≤ 48 }
-    ensures sound { IsSoundOver B.Kept kept.now ram.new state.new }
+    ensures sound { IsSoundOver B.Translations kept.now ram.new state.new }
     ensures uses { (user : Bool) → OnOk result (Uses user
-        (space B.Kept kept.now ram.old state.old) (space B.Kept kept.now ram.new state.new)) }
+        (space B.Translations kept.now ram.old state.old) (space B.Translations kept.now ram.new state.new)) }
     ensures step { (m : Setting) (b : Whole) → IsRuled m rules.now → ComesTo
-        (raised m b worked.old.cpu vector code (space B.Kept kept.now ram.old state.old))
-        b (answer_of result worked.new) b.board (space B.Kept kept.now ram.new state.new) }
+        (raised m b worked.old.cpu vector code (space B.Translations kept.now ram.old state.old))
+        b (answer_of result worked.new) b.board (space B.Translations kept.now ram.new state.new) }
     ensures dropped { IfOk (answer_of result worked.new) (λ w. IsDropped w.dropped) }
     ensures ends { IfOk (answer_of result worked.new) (EndsWith None worked.old.cpu) }
     ensures stays { StaysIn state.old state.new ram.old ram.new }

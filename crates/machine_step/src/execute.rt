@@ -13,13 +13,13 @@ use descriptors::Cpu;
 use guest_ram::Ram;
 use ia32_types::{Insn, Op, sensitive};
 use step_exec::{plain, sys_in};
-use step_mem::{Kept, StepState};
+use step_mem::{StepState, Translations};
 use sys_exec::{Refusal, SysEffect};
 
 /// Does an instruction that some bytes spell, and answers with its effect. Where it raises or stops, only CR2 may have
 /// changed of the processor.
 #[tactic(auto, unfolding(machine_model::specs::Instruction::instructed))]
-pub fn execute<B: Kept>(
+pub fn execute<B: Translations>(
     insn: &Insn,
     len: u8,
     cpu: &mut Cpu,
@@ -28,11 +28,11 @@ pub fn execute<B: Kept>(
     state: &mut StepState,
 ) -> SysEffect
     requires spelled { (bytes : List ℕ) × Spells bytes insn.now }
-    requires sound { IsSoundOver B.Kept kept.now ram.old state.old }
+    requires sound { IsSoundOver B.Translations kept.now ram.old state.old }
     requires room { state.old.pages ≤ 32 }
-    ensures sound { IsSoundOver B.Kept kept.now ram.new state.new }
-    ensures told { told cpu.old (instructed insn.now len cpu.old (space B.Kept kept.now ram.old state.old))
-        ≡ (result, cpu.new, space B.Kept kept.now ram.new state.new) }
+    ensures sound { IsSoundOver B.Translations kept.now ram.new state.new }
+    ensures told { told cpu.old (instructed insn.now len cpu.old (space B.Translations kept.now ram.old state.old))
+        ≡ (result, cpu.new, space B.Translations kept.now ram.new state.new) }
     ensures pages { state.new.pages ≤ state.old.pages + 16 }
     ensures stays { StaysIn state.old state.new ram.old ram.new }
     ensures asked { IsAsked result }
@@ -44,7 +44,7 @@ pub fn execute<B: Kept>(
 }
 
 // An insensitive instruction.
-fn execute_plain<B: Kept>(
+fn execute_plain<B: Translations>(
     insn: &Insn,
     len: u8,
     cpu: &mut Cpu,
@@ -54,11 +54,11 @@ fn execute_plain<B: Kept>(
 ) -> SysEffect
     requires spelled { (bytes : List ℕ) × Spells bytes insn.now }
     requires plain { is_plain insn.now.op ≡ true }
-    requires sound { IsSoundOver B.Kept kept.now ram.old state.old }
+    requires sound { IsSoundOver B.Translations kept.now ram.old state.old }
     requires room { state.old.pages ≤ 32 }
-    ensures sound { IsSoundOver B.Kept kept.now ram.new state.new }
-    ensures told { told cpu.old (done_plainly (executed insn.now len cpu.old (space B.Kept kept.now ram.old state.old)))
-        ≡ (result, cpu.new, space B.Kept kept.now ram.new state.new) }
+    ensures sound { IsSoundOver B.Translations kept.now ram.new state.new }
+    ensures told { told cpu.old (done_plainly (executed insn.now len cpu.old (space B.Translations kept.now ram.old state.old)))
+        ≡ (result, cpu.new, space B.Translations kept.now ram.new state.new) }
     ensures pages { state.new.pages ≤ state.old.pages + 16 }
     ensures stays { StaysIn state.old state.new ram.old ram.new }
     ensures asked { IsAsked result }

@@ -19,25 +19,27 @@ use ia32_decode::{Bytes, Decoded, LONGEST, append, decode, decode_joined, front_
 use ia32_types::Stop;
 use machine_model::works_use;
 use paging::Touch;
-use step_mem::{Kept, StepState, own_back, own_front};
+use step_mem::{StepState, Translations, own_back, own_front};
 use sys_exec::Refusal;
 
 /// The instruction at a linear address. Where the bytes of the first page are a proper prefix of a spelling, the
 /// second page is reached too.
-pub fn fetch<B: Kept>(
+pub fn fetch<B: Translations>(
     ram: &mut Ram,
     kept: &B,
     state: &mut StepState,
     user: bool,
     at: u32,
 ) -> Result<Decoded, Refusal>
-    requires sound { IsSoundOver B.Kept kept.now ram.old state.old }
+    requires sound { IsSoundOver B.Translations kept.now ram.old state.old }
     requires room { state.old.pages ≤ 62 }
-    ensures sound { IsSoundOver B.Kept kept.now ram.new state.new }
-    ensures uses { OnOk result (Uses user (space B.Kept kept.now ram.old state.old) (space B.Kept kept.now ram.new state.new)) }
-    ensures refused { IfErr result (λ refusal. AtRefusal user (space B.Kept kept.now ram.old state.old) refusal
-        (space B.Kept kept.now ram.new state.new)) }
-    ensures fetched { Gives result (space B.Kept kept.now ram.new state.new) (fetched user at (space B.Kept kept.now ram.old state.old)) }
+    ensures sound { IsSoundOver B.Translations kept.now ram.new state.new }
+    ensures uses { OnOk result (Uses user (space B.Translations kept.now ram.old state.old)
+        (space B.Translations kept.now ram.new state.new)) }
+    ensures refused { IfErr result (λ refusal. AtRefusal user (space B.Translations kept.now ram.old state.old) refusal
+        (space B.Translations kept.now ram.new state.new)) }
+    ensures fetched { Gives result (space B.Translations kept.now ram.new state.new)
+        (fetched user at (space B.Translations kept.now ram.old state.old)) }
     ensures spelled { IfOk result IsSpelled }
     ensures pages { state.new.pages ≤ state.old.pages + 2 }
     ensures control { state.new.control ≡ state.old.control }
@@ -50,17 +52,18 @@ pub fn fetch<B: Kept>(
 
 // From the first page, or both.
 #[tactic(auto, unfolding(machine_model::specs::Instruction::fetched, machine_model::specs::Instruction::owning_front))]
-fn fetch_pages<B: Kept>(
+fn fetch_pages<B: Translations>(
     ram: &mut Ram,
     kept: &B,
     state: &mut StepState,
     user: bool,
     at: u32,
 ) -> Result<Decoded, Refusal>
-    requires sound { IsSoundOver B.Kept kept.now ram.old state.old }
+    requires sound { IsSoundOver B.Translations kept.now ram.old state.old }
     requires room { state.old.pages ≤ 62 }
-    ensures sound { IsSoundOver B.Kept kept.now ram.new state.new }
-    ensures fetched { Gives result (space B.Kept kept.now ram.new state.new) (fetched user at (space B.Kept kept.now ram.old state.old)) }
+    ensures sound { IsSoundOver B.Translations kept.now ram.new state.new }
+    ensures fetched { Gives result (space B.Translations kept.now ram.new state.new)
+        (fetched user at (space B.Translations kept.now ram.old state.old)) }
     ensures spelled { IfOk result IsSpelled }
     ensures pages { state.new.pages ≤ state.old.pages + 2 }
     ensures stays { FetchesIn state.old state.new ram.old ram.new }
@@ -81,7 +84,7 @@ fn fetch_pages<B: Kept>(
 }
 
 // With bytes of the second page too, behind those that the first page has now.
-fn fetch_on<B: Kept>(
+fn fetch_on<B: Translations>(
     ram: &mut Ram,
     kept: &B,
     state: &mut StepState,
@@ -89,14 +92,14 @@ fn fetch_on<B: Kept>(
     at: u32,
     next: u32,
 ) -> Result<Decoded, Refusal>
-    requires sound { IsSoundOver B.Kept kept.now ram.old state.old }
+    requires sound { IsSoundOver B.Translations kept.now ram.old state.old }
     requires room { state.old.pages ≤ 63 }
-    requires found { HasEntry (space B.Kept kept.now ram.old state.old).set at }
+    requires found { HasEntry (space B.Translations kept.now ram.old state.old).set at }
     requires next { next ≡ next_page at }
-    ensures sound { IsSoundOver B.Kept kept.now ram.new state.new }
-    ensures fetched { Gives result (space B.Kept kept.now ram.new state.new)
-        (fetched_on user at (bytes_from (space B.Kept kept.now ram.old state.old) at (front_len at))
-        (space B.Kept kept.now ram.old state.old)) }
+    ensures sound { IsSoundOver B.Translations kept.now ram.new state.new }
+    ensures fetched { Gives result (space B.Translations kept.now ram.new state.new)
+        (fetched_on user at (bytes_from (space B.Translations kept.now ram.old state.old) at (front_len at))
+        (space B.Translations kept.now ram.old state.old)) }
     ensures spelled { IfOk result IsSpelled }
     ensures pages { state.new.pages ≤ state.old.pages + 1 }
     ensures stays { FetchesIn state.old state.new ram.old ram.new }
@@ -119,7 +122,7 @@ fn fetch_on<B: Kept>(
 }
 
 // Translates the page of a fetch.
-fn fetch_page<B: Kept>(
+fn fetch_page<B: Translations>(
     ram: &mut Ram,
     kept: &B,
     state: &mut StepState,
@@ -127,14 +130,14 @@ fn fetch_page<B: Kept>(
     at: u32,
     len: u32,
 ) -> Result<(), Refusal>
-    requires sound { IsSoundOver B.Kept kept.now ram.old state.old }
+    requires sound { IsSoundOver B.Translations kept.now ram.old state.old }
     requires room { state.old.pages ≤ 63 }
     requires some { 0 < len }
     requires one { at % 4096 + len ≤ 4096 }
-    ensures sound { IsSoundOver B.Kept kept.now ram.new state.new }
-    ensures fetching { GivesAs (λ _. bytes_from (space B.Kept kept.now ram.new state.new) at len) result
-        (space B.Kept kept.now ram.new state.new) (fetching user at len (space B.Kept kept.now ram.old state.old)) }
-    ensures found { OnOk result (HasEntry (space B.Kept kept.now ram.new state.new).set at) }
+    ensures sound { IsSoundOver B.Translations kept.now ram.new state.new }
+    ensures fetching { GivesAs (λ _. bytes_from (space B.Translations kept.now ram.new state.new) at len) result
+        (space B.Translations kept.now ram.new state.new) (fetching user at len (space B.Translations kept.now ram.old state.old)) }
+    ensures found { OnOk result (HasEntry (space B.Translations kept.now ram.new state.new).set at) }
     ensures pages { state.new.pages ≤ state.old.pages + 1 }
     ensures stays { StaysIn state.old state.new ram.old ram.new }
 {
@@ -146,12 +149,18 @@ fn fetch_page<B: Kept>(
 }
 
 // What the bytes of a page begin with, from an address on.
-fn decode_page<B: Kept>(ram: &Ram, kept: &B, state: &StepState, at: u32, len: u32) -> Decoded
-    requires sound { IsSoundOver B.Kept kept.now ram.now state.now }
-    requires found { HasEntry (space B.Kept kept.now ram.now state.now).set at }
+fn decode_page<B: Translations>(
+    ram: &Ram,
+    kept: &B,
+    state: &StepState,
+    at: u32,
+    len: u32,
+) -> Decoded
+    requires sound { IsSoundOver B.Translations kept.now ram.now state.now }
+    requires found { HasEntry (space B.Translations kept.now ram.now state.now).set at }
     requires few { len ≤ 11 }
     requires one { at % 4096 + len ≤ 4096 }
-    ensures exact { result ≡ decoded (bytes_from (space B.Kept kept.now ram.now state.now) at len) }
+    ensures exact { result ≡ decoded (bytes_from (space B.Translations kept.now ram.now state.now) at len) }
     ensures spelled { IsSpelled result }
 {
     let found = step_mem::bytes(ram, kept, state, at, len);
@@ -174,12 +183,19 @@ fn decode_pieces(front: &[u8], back: &[u8]) -> Decoded
 }
 
 // Puts the bytes of a page, from an address on, behind others.
-fn read_page<B: Kept>(ram: &Ram, kept: &B, state: &StepState, at: u32, len: u32, to: &mut Bytes)
-    requires sound { IsSoundOver B.Kept kept.now ram.now state.now }
-    requires found { HasEntry (space B.Kept kept.now ram.now state.now).set at }
+fn read_page<B: Translations>(
+    ram: &Ram,
+    kept: &B,
+    state: &StepState,
+    at: u32,
+    len: u32,
+    to: &mut Bytes,
+)
+    requires sound { IsSoundOver B.Translations kept.now ram.now state.now }
+    requires found { HasEntry (space B.Translations kept.now ram.now state.now).set at }
     requires one { at % 4096 + len ≤ 4096 }
     requires room { length to.old.items + len ≤ 32 }
-    ensures bytes { to.new.items ≡ to.old.items ++ bytes_from (space B.Kept kept.now ram.now state.now) at len }
+    ensures bytes { to.new.items ≡ to.old.items ++ bytes_from (space B.Translations kept.now ram.now state.now) at len }
     ensures len { length to.new.items ≡ length to.old.items + len }
 {
     let found = step_mem::bytes(ram, kept, state, at, len);

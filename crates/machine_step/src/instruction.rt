@@ -26,11 +26,11 @@ use guest_ram::Ram;
 use ia32_decode::Decoded;
 use ia32_types::{Insn, Op, Stop};
 use machine_model::works_use;
-use step_mem::{Kept, StepState};
+use step_mem::{StepState, Translations};
 use sys_exec::SysEffect;
 
 /// Does the instruction that was fetched, by this processor. INT and INT3 are deliveries.
-pub fn carry_out<B: Kept>(
+pub fn carry_out<B: Translations>(
     rules: &Rules,
     insn: &Insn,
     len: u8,
@@ -41,13 +41,15 @@ pub fn carry_out<B: Kept>(
     state: &mut StepState,
 ) -> Result<Worked, Stop>
     requires spelled { (bytes : List ℕ) × Spells bytes insn.now }
-    requires sound { IsSoundOver B.Kept kept.now ram.old state.old }
+    requires sound { IsSoundOver B.Translations kept.now ram.old state.old }
     requires pages { state.old.pages ≤ 8 }
-    ensures sound { IsSoundOver B.Kept kept.now ram.new state.new }
-    ensures uses { OnOk result (UsesBy cpu.now (space B.Kept kept.now ram.old state.old) (space B.Kept kept.now ram.new state.new)) }
+    ensures sound { IsSoundOver B.Translations kept.now ram.new state.new }
+    ensures uses { OnOk result (UsesBy cpu.now (space B.Translations kept.now ram.old state.old)
+        (space B.Translations kept.now ram.new state.new)) }
     ensures step { (m : Setting) (b : Whole) → IsRuled m rules.now → ComesTo
-        (by_decoded m (record b { cpu = cpu.now; board = board.old }) (Decoded.Insn insn.now len) (space B.Kept kept.now ram.old state.old))
-        b result board.new (space B.Kept kept.now ram.new state.new) }
+        (by_decoded m (record b { cpu = cpu.now; board = board.old }) (Decoded.Insn insn.now len)
+        (space B.Translations kept.now ram.old state.old))
+        b result board.new (space B.Translations kept.now ram.new state.new) }
     ensures stopped { OnErr result (board.new ≡ board.old) }
     ensures dropped { IfOk result (λ w. IsDropped w.dropped) }
     ensures roots { IfOk result (RootsAs cpu.now) }
@@ -63,7 +65,7 @@ pub fn carry_out<B: Kept>(
 }
 
 /// The same, where the step is told in its place.
-pub fn carry_out_at<B: Kept>(
+pub fn carry_out_at<B: Translations>(
     rules: &Rules,
     insn: &Insn,
     len: u8,
@@ -74,14 +76,15 @@ pub fn carry_out_at<B: Kept>(
     state: &mut StepState,
 ) -> Result<(), Stop>
     requires spelled { (bytes : List ℕ) × Spells bytes insn.now }
-    requires sound { IsSoundOver B.Kept kept.now ram.old state.old }
+    requires sound { IsSoundOver B.Translations kept.now ram.old state.old }
     requires pages { state.old.pages ≤ 8 }
-    ensures sound { IsSoundOver B.Kept kept.now ram.new state.new }
-    ensures uses { OnOk result (UsesBy worked.old.cpu (space B.Kept kept.now ram.old state.old) (space B.Kept kept.now ram.new state.new)) }
+    ensures sound { IsSoundOver B.Translations kept.now ram.new state.new }
+    ensures uses { OnOk result (UsesBy worked.old.cpu (space B.Translations kept.now ram.old state.old)
+        (space B.Translations kept.now ram.new state.new)) }
     ensures step { (m : Setting) (b : Whole) → IsRuled m rules.now → ComesTo
         (by_decoded m (record b { cpu = worked.old.cpu; board = board.old }) (Decoded.Insn insn.now len)
-        (space B.Kept kept.now ram.old state.old))
-        b (answer_of result worked.new) board.new (space B.Kept kept.now ram.new state.new) }
+        (space B.Translations kept.now ram.old state.old))
+        b (answer_of result worked.new) board.new (space B.Translations kept.now ram.new state.new) }
     ensures stopped { OnErr result (board.new ≡ board.old) }
     ensures dropped { IfOk (answer_of result worked.new) (λ w. IsDropped w.dropped) }
     ensures roots { IfOk (answer_of result worked.new) (RootsAs worked.old.cpu) }
@@ -99,7 +102,7 @@ pub fn carry_out_at<B: Kept>(
 }
 
 /// Does an instruction by its row.
-fn perform<B: Kept>(
+fn perform<B: Translations>(
     rules: &Rules,
     insn: &Insn,
     len: u8,
@@ -111,15 +114,16 @@ fn perform<B: Kept>(
     state: &mut StepState,
 ) -> Result<(), Stop>
     requires spelled { (bytes : List ℕ) × Spells bytes insn.now }
-    requires sound { IsSoundOver B.Kept kept.now ram.old state.old }
+    requires sound { IsSoundOver B.Translations kept.now ram.old state.old }
     requires pages { state.old.pages ≤ 8 }
     requires same { worked.old.cpu ≡ before.now }
-    ensures sound { IsSoundOver B.Kept kept.now ram.new state.new }
-    ensures uses { OnOk result (UsesBy before.now (space B.Kept kept.now ram.old state.old) (space B.Kept kept.now ram.new state.new)) }
+    ensures sound { IsSoundOver B.Translations kept.now ram.new state.new }
+    ensures uses { OnOk result (UsesBy before.now (space B.Translations kept.now ram.old state.old)
+        (space B.Translations kept.now ram.new state.new)) }
     ensures step { (m : Setting) (b : Whole) → IsRuled m rules.now → ComesTo
         (after_instruction m (record b { cpu = before.now; board = board.old }) (completed_of (done_by insn.now before.now))
-        (instructed insn.now len before.now (space B.Kept kept.now ram.old state.old)))
-        b (answer_of result worked.new) board.new (space B.Kept kept.now ram.new state.new) }
+        (instructed insn.now len before.now (space B.Translations kept.now ram.old state.old)))
+        b (answer_of result worked.new) board.new (space B.Translations kept.now ram.new state.new) }
     ensures stopped { OnErr result (board.new ≡ board.old) }
     ensures dropped { IfOk (answer_of result worked.new) (λ w. IsDropped w.dropped) }
     ensures roots { IfOk (answer_of result worked.new) (RootsAs before.now) }
@@ -131,7 +135,7 @@ fn perform<B: Kept>(
 }
 
 /// What an instruction's effect comes to, which this processor began. The processor behind it stands in the step's place.
-fn follow<B: Kept>(
+fn follow<B: Translations>(
     rules: &Rules,
     insn: &Insn,
     before: &Cpu,
@@ -142,17 +146,17 @@ fn follow<B: Kept>(
     kept: &B,
     state: &mut StepState,
 ) -> Result<(), Stop>
-    requires sound { IsSoundOver B.Kept kept.now ram.old state.old }
+    requires sound { IsSoundOver B.Translations kept.now ram.old state.old }
     requires pages { state.old.pages ≤ 48 }
     requires asked { IsAsked effect }
     requires roots { EffectRoots (done_by insn.now before.now) before.now effect worked.old.cpu }
-    ensures sound { IsSoundOver B.Kept kept.now ram.new state.new }
-    ensures uses { (s : Space) → AtEffect (before.now.cpl == 3) s effect (space B.Kept kept.now ram.old state.old)
-        → OnOk result (UsesBy before.now s (space B.Kept kept.now ram.new state.new)) }
+    ensures sound { IsSoundOver B.Translations kept.now ram.new state.new }
+    ensures uses { (s : Space) → AtEffect (before.now.cpl == 3) s effect (space B.Translations kept.now ram.old state.old)
+        → OnOk result (UsesBy before.now s (space B.Translations kept.now ram.new state.new)) }
     ensures step { (m : Setting) (b : Whole) → IsRuled m rules.now → ComesTo
         (after_effect m (record b { cpu = before.now; board = board.old }) (completed_of (done_by insn.now before.now)) effect
-        worked.old.cpu (space B.Kept kept.now ram.old state.old))
-        b (answer_of result worked.new) board.new (space B.Kept kept.now ram.new state.new) }
+        worked.old.cpu (space B.Translations kept.now ram.old state.old))
+        b (answer_of result worked.new) board.new (space B.Translations kept.now ram.new state.new) }
     ensures stopped { OnErr result (board.new ≡ board.old) }
     ensures dropped { IfOk (answer_of result worked.new) (λ w. IsDropped w.dropped) }
     ensures roots { IfOk (answer_of result worked.new) (RootsAs before.now) }

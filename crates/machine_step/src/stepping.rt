@@ -25,11 +25,11 @@ use descriptors::Cpu;
 use guest_ram::Ram;
 use ia32_decode::Decoded;
 use ia32_types::Stop;
-use step_mem::{Control, Guard, Kept, Own, StepState, Text};
+use step_mem::{Control, Guard, Own, StepState, Text, Translations};
 
 /// One step, or the stop that it meets. Its state, with what it changed of the translations, takes the place of an earlier
 /// step's; and what it comes to is told in its place.
-pub fn step_again<'g, B: Kept>(
+pub fn step_again<'g, B: Translations>(
     rules: &Rules,
     worked: &mut Worked,
     board: &mut Board,
@@ -44,13 +44,14 @@ pub fn step_again<'g, B: Kept>(
     requires stands { ∥ B.stands kept.now ram.old ∥₁ }
     requires within { AreWithin frames (B.entries kept.now ram.old) }
     requires laid { IsLaid guard.text.now frames }
-    ensures sound { IsSoundOver B.Kept kept.now ram.new state.new }
+    ensures sound { IsSoundOver B.Translations kept.now ram.new state.new }
     ensures uses { OnOk result (UsesBy worked.old.cpu
-        (first_space B.Kept kept.now ram.old guard.entry frames worked.old.cpu) (space B.Kept kept.now ram.new state.new)) }
+        (first_space B.Translations kept.now ram.old guard.entry frames worked.old.cpu)
+        (space B.Translations kept.now ram.new state.new)) }
     ensures step { (m : Setting) (b : Whole) → IsRuled (under m guard.entry frames) rules.now → ComesTo
         (stepped (under m guard.entry frames)
-        (begins_over B.Kept kept.now ram.old guard.entry frames (record b { cpu = worked.old.cpu; board = board.old })))
-        b (answer_of result worked.new) board.new (space B.Kept kept.now ram.new state.new) }
+        (begins_over B.Translations kept.now ram.old guard.entry frames (record b { cpu = worked.old.cpu; board = board.old })))
+        b (answer_of result worked.new) board.new (space B.Translations kept.now ram.new state.new) }
     ensures stopped { OnErr result (board.new ≡ taken_by (interrupt_of worked.old.cpu board.old) board.old) }
     ensures dropped { IfOk (answer_of result worked.new) (λ w. IsDropped w.dropped) }
     ensures roots { IfOk (answer_of result worked.new) (RootsAs worked.old.cpu) }
@@ -102,7 +103,7 @@ pub fn first_state<'t>(text: &'t Option<Text<'t>>) -> StepState<'t>
 }
 
 /// What a step keeps, before its first access, in the place of what an earlier step kept.
-pub fn begin_again<'g, B: Kept>(
+pub fn begin_again<'g, B: Translations>(
     cpu: &Cpu,
     ram: &Ram,
     kept: &B,
@@ -115,8 +116,9 @@ pub fn begin_again<'g, B: Kept>(
     requires stands { ∥ B.stands kept.now ram.now ∥₁ }
     requires within { AreWithin frames (B.entries kept.now ram.now) }
     requires laid { IsLaid guard.text.now frames }
-    ensures sound { IsSoundOver B.Kept kept.now ram.now state.new }
-    ensures space { space B.Kept kept.now ram.now state.new ≡ first_space B.Kept kept.now ram.now guard.entry frames cpu.now }
+    ensures sound { IsSoundOver B.Translations kept.now ram.now state.new }
+    ensures space { space B.Translations kept.now ram.now state.new
+        ≡ first_space B.Translations kept.now ram.now guard.entry frames cpu.now }
     ensures pages { state.new.pages ≡ 0 }
     ensures control { state.new.control ≡ control_of frames cpu.now }
     ensures frames { state.new.control.frames ≡ frames }
@@ -127,7 +129,7 @@ pub fn begin_again<'g, B: Kept>(
 }
 
 /// One step in its memory, of which nothing was used yet.
-pub fn step_in<B: Kept>(
+pub fn step_in<B: Translations>(
     rules: &Rules,
     cpu: &Cpu,
     board: &mut Board,
@@ -135,13 +137,14 @@ pub fn step_in<B: Kept>(
     kept: &B,
     state: &mut StepState,
 ) -> Result<Worked, Stop>
-    requires sound { IsSoundOver B.Kept kept.now ram.old state.old }
+    requires sound { IsSoundOver B.Translations kept.now ram.old state.old }
     requires pages { state.old.pages ≡ 0 }
-    ensures sound { IsSoundOver B.Kept kept.now ram.new state.new }
-    ensures uses { OnOk result (UsesBy cpu.now (space B.Kept kept.now ram.old state.old) (space B.Kept kept.now ram.new state.new)) }
+    ensures sound { IsSoundOver B.Translations kept.now ram.new state.new }
+    ensures uses { OnOk result (UsesBy cpu.now (space B.Translations kept.now ram.old state.old)
+        (space B.Translations kept.now ram.new state.new)) }
     ensures step { (m : Setting) (b : Whole) → IsRuled m rules.now → ComesTo
-        (stepped_in m (record b { cpu = cpu.now; board = board.old }) (space B.Kept kept.now ram.old state.old))
-        b result board.new (space B.Kept kept.now ram.new state.new) }
+        (stepped_in m (record b { cpu = cpu.now; board = board.old }) (space B.Translations kept.now ram.old state.old))
+        b result board.new (space B.Translations kept.now ram.new state.new) }
     ensures stopped { OnErr result (board.new ≡ taken_by (interrupt_of cpu.now board.old) board.old) }
     ensures dropped { IfOk result (λ w. IsDropped w.dropped) }
     ensures roots { IfOk result (RootsAs cpu.now) }
@@ -158,7 +161,7 @@ pub fn step_in<B: Kept>(
 
 /// The same, where the step is told in its place: an interrupt is delivered, or the processor works. A hold lasts for one
 /// step.
-fn step_at<B: Kept>(
+fn step_at<B: Translations>(
     rules: &Rules,
     worked: &mut Worked,
     board: &mut Board,
@@ -166,13 +169,14 @@ fn step_at<B: Kept>(
     kept: &B,
     state: &mut StepState,
 ) -> Result<(), Stop>
-    requires sound { IsSoundOver B.Kept kept.now ram.old state.old }
+    requires sound { IsSoundOver B.Translations kept.now ram.old state.old }
     requires pages { state.old.pages ≡ 0 }
-    ensures sound { IsSoundOver B.Kept kept.now ram.new state.new }
-    ensures uses { OnOk result (UsesBy worked.old.cpu (space B.Kept kept.now ram.old state.old) (space B.Kept kept.now ram.new state.new)) }
+    ensures sound { IsSoundOver B.Translations kept.now ram.new state.new }
+    ensures uses { OnOk result (UsesBy worked.old.cpu (space B.Translations kept.now ram.old state.old)
+        (space B.Translations kept.now ram.new state.new)) }
     ensures step { (m : Setting) (b : Whole) → IsRuled m rules.now → ComesTo
-        (stepped_in m (record b { cpu = worked.old.cpu; board = board.old }) (space B.Kept kept.now ram.old state.old))
-        b (answer_of result worked.new) board.new (space B.Kept kept.now ram.new state.new) }
+        (stepped_in m (record b { cpu = worked.old.cpu; board = board.old }) (space B.Translations kept.now ram.old state.old))
+        b (answer_of result worked.new) board.new (space B.Translations kept.now ram.new state.new) }
     ensures stopped { OnErr result (board.new ≡ taken_by (interrupt_of worked.old.cpu board.old) board.old) }
     ensures dropped { IfOk (answer_of result worked.new) (λ w. IsDropped w.dropped) }
     ensures roots { IfOk (answer_of result worked.new) (RootsAs worked.old.cpu) }
@@ -200,7 +204,7 @@ pub fn interrupt(cpu: &Cpu, board: &Board) -> Option<u8>
 
 /// A halted processor does nothing, and another does the instruction at EIP.
 #[tactic(auto, unfolding(machine_model::specs::Step::worked))]
-fn work<B: Kept>(
+fn work<B: Translations>(
     rules: &Rules,
     worked: &mut Worked,
     board: &mut Board,
@@ -208,13 +212,14 @@ fn work<B: Kept>(
     kept: &B,
     state: &mut StepState,
 ) -> Result<(), Stop>
-    requires sound { IsSoundOver B.Kept kept.now ram.old state.old }
+    requires sound { IsSoundOver B.Translations kept.now ram.old state.old }
     requires pages { state.old.pages ≡ 0 }
-    ensures sound { IsSoundOver B.Kept kept.now ram.new state.new }
-    ensures uses { OnOk result (UsesBy worked.old.cpu (space B.Kept kept.now ram.old state.old) (space B.Kept kept.now ram.new state.new)) }
+    ensures sound { IsSoundOver B.Translations kept.now ram.new state.new }
+    ensures uses { OnOk result (UsesBy worked.old.cpu (space B.Translations kept.now ram.old state.old)
+        (space B.Translations kept.now ram.new state.new)) }
     ensures step { (m : Setting) (b : Whole) → IsRuled m rules.now → ComesTo
-        (steps.worked m (record b { cpu = worked.old.cpu; board = board.old }) (space B.Kept kept.now ram.old state.old))
-        b (answer_of result worked.new) board.new (space B.Kept kept.now ram.new state.new) }
+        (steps.worked m (record b { cpu = worked.old.cpu; board = board.old }) (space B.Translations kept.now ram.old state.old))
+        b (answer_of result worked.new) board.new (space B.Translations kept.now ram.new state.new) }
     ensures stopped { OnErr result (board.new ≡ board.old) }
     ensures dropped { IfOk (answer_of result worked.new) (λ w. IsDropped w.dropped) }
     ensures roots { IfOk (answer_of result worked.new) (RootsAs worked.old.cpu) }

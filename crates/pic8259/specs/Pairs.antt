@@ -29,14 +29,20 @@ abbrev pub of_slave : Pair → Option Chip → Did × Pair
 of_slave pair None = (Stop, pair)
 of_slave pair (Some chip) = (Done, joined pair.master chip)
 
--- A write to a port: one that isn't the controllers' is ignored. ICW3 is 4, bit 2, for the master, which has the slave at
--- line 2, and 2 for the slave, which is at line 2
+-- ICW3: the master has the slave at line 2, and the slave is at line 2
+abbrev pub master_cascade : ℕ
+master_cascade = 4
+
+abbrev pub slave_cascade : ℕ
+slave_cascade = 2
+
+-- a write to a port: one that isn't the controllers' is ignored
 unfoldable pub written : Pair → ℕ → ℕ → Did × Pair
 written pair port v =
     if port == 0x20 then of_master pair (even_written pair.master v)
-    else if port == 0x21 then of_master pair (odd_written pair.master 4 v)
+    else if port == 0x21 then of_master pair (odd_written pair.master master_cascade v)
     else if port == 0xA0 then of_slave pair (even_written pair.slave v)
-    else if port == 0xA1 then of_slave pair (odd_written pair.slave 2 v)
+    else if port == 0xA1 then of_slave pair (odd_written pair.slave slave_cascade v)
     else (Done, pair)
 
 -- a read of a port: one that isn't the controllers' reads all ones

@@ -60,19 +60,19 @@ abbrev pub place_line : ℕ → ℕ → List ℕ
 place_line number at = codes "refused " ++ (decimal number ++ (codes " at " ++ (decimal at ++ codes "\n")))
 
 -- a refusal at a line of a text
-abbrev pub line_line : ℕ → ℕ → List ℕ
-line_line number line = codes "refused " ++ (decimal number ++ (codes " line " ++ (decimal line ++ codes "\n")))
+abbrev pub refusal_at_line : ℕ → ℕ → List ℕ
+refusal_at_line number line = codes "refused " ++ (decimal number ++ (codes " line " ++ (decimal line ++ codes "\n")))
 
 abbrev pub image_line : Refusal → List ℕ
 image_line (Form fault) = place_line (form_number fault.cause) fault.at
 image_line (Wrong at cause) = place_line (check_number cause) at
 
 abbrev pub script_line : ℕ → ScriptCause → List ℕ
-script_line line cause = line_line (script_number cause) line
+script_line line cause = refusal_at_line (script_number cause) line
 
 -- an image that needs more frames than there are
-abbrev pub small_line : ℕ → ℕ → List ℕ
-small_line need have = codes "refused 90 need " ++ (decimal need ++ (codes " have " ++ (decimal have ++ codes "\n")))
+abbrev pub too_small_line : ℕ → ℕ → List ℕ
+too_small_line need have = codes "refused 90 need " ++ (decimal need ++ (codes " have " ++ (decimal have ++ codes "\n")))
 
 -- a refusal of an object, counted from 0: at an offset, with the bytes of a name, or alone
 abbrev pub object_place_line : ℕ → ℕ → ℕ → List ℕ

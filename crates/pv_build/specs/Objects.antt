@@ -10,11 +10,11 @@ use Rattle.elf_form.specs.ObjectReading.{object_in}
 use Rattle.sites.specs.Formats.{told_count}
 use Rattle.afterburner.specs.Burnt as burning
 use Rattle.afterburner.specs.Causes.{cause_number as burn_number}
-use Rattle.pv_build.specs.Lines.{sizes_line, line_line}
+use Rattle.pv_build.specs.Lines.{sizes_line, refusal_at_line}
 
 -- why a source is not burnt
 abbrev pub burn_line : burning.Fault → List ℕ
-burn_line fault = line_line (burn_number fault.cause) fault.line
+burn_line fault = refusal_at_line (burn_number fault.cause) fault.line
 
 -- text, data, zeroed bytes, and the count of sites that the annotations tell
 abbrev pub object_made_line : ObjectParts → List ℕ

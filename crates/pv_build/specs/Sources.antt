@@ -7,7 +7,7 @@ use Rattle.asm_lex.specs.Causes.{cause_number as source_number}
 use Rattle.asm_source.specs.declared.tree.SourceItem.{SourceItem}
 use Rattle.asm_parse.specs.Source.{SourceAs}
 use Rattle.asm_parse.specs.Refusals.{Refused}
-use Rattle.pv_build.specs.Lines.{line_line}
+use Rattle.pv_build.specs.Lines.{refusal_at_line}
 
 -- a text that is no source: too long, or refused in this line for this cause, in the grammar's words
 abbrev pub IsNoSource : List ℕ → ℕ × SourceCause → Type 0
@@ -19,4 +19,4 @@ SaysSource text (Ok items) = SourceAs text items
 SaysSource text (Err fault) = IsNoSource text fault
 
 abbrev pub source_line : ℕ → SourceCause → List ℕ
-source_line line cause = line_line (source_number cause) line
+source_line line cause = refusal_at_line (source_number cause) line

@@ -6,7 +6,7 @@ use Rattle.pv_io.specs.declared.files.Files as disk
 use Rattle.image_load.specs.declared.fault.RunFault.{RunFault}
 use Rattle.image_load.specs.declared.fault.RunFault.TheVariants as fault
 use Rattle.run_trace.specs.declared.items.Ended.{Ended}
-use Rattle.pv_build.specs.Lines.{small_line}
+use Rattle.pv_build.specs.Lines.{too_small_line}
 use Rattle.pv_build.specs.Texts.{Compares}
 use Rattle.pv_build.specs.Statuses.{status_of}
 use Rattle.pv_build.specs.declared.halt.Halt.{Halt}
@@ -47,7 +47,7 @@ abbrev pub ToldAs : Result Ended RunFault → Option (List ℕ) → Option (List
 ToldAs (Ok ended) old new before now result = (result ≡ status_of ended.end) × (new ≡ old) × (now ≡ before)
 ToldAs (Err fault.Write) old new before now result = (result ≡ status.WriteFault) × (new ≡ old) × (now ≡ before)
 ToldAs (Err (fault.TooSmall small)) old new before now result =
-    Says (small_line small.need small.have) status.Refused old new before now result ⊎ ((result ≡ status.Memory) × (new ≡ old))
+    Says (too_small_line small.need small.have) status.Refused old new before now result ⊎ ((result ≡ status.Memory) × (new ≡ old))
 ToldAs (Err fault.Memory) old new before now result = (result ≡ status.Memory) × (new ≡ old)
 
 -- both lines of `work` were put, or no memory was found

@@ -16,7 +16,7 @@ ghost use Rattle.pv_build.specs.Building.{Builds, object_read, object_made, imag
 
 use crate::halt::Halt;
 use crate::image::refusal_of;
-use crate::lines::{line_line, link_line, number_of_form, object_place_line};
+use crate::lines::{link_line, number_of_form, object_place_line, refusal_at_line};
 use crate::source::source_of_text;
 use crate::telling::refused;
 use afterburner::{BurnFault, burn};
@@ -50,7 +50,7 @@ fn object_of(alloc: Global, source: &Source) -> Result<Object, Halt>
         Ok(object) => read_back(alloc, &object),
         Err(BurnFault::Memory) => Err(Halt::Memory),
         Err(BurnFault::At { line, cause }) => {
-            Err(refused(line_line(alloc, cause.number() as u32, line as u64)))
+            Err(refused(refusal_at_line(alloc, cause.number() as u32, line as u64)))
         }
     }
 }

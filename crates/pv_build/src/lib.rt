@@ -18,7 +18,7 @@ pub use build::built;
 pub use comparing::{Texts, tell_both};
 pub use halt::{Halt, Line};
 pub use image::{accepted, accepted_line, image_file};
-pub use lines::{line_line, link_line, place_line, small_line};
+pub use lines::{link_line, place_line, refusal_at_line, too_small_line};
 pub use made::Made;
 pub use object::{object_file, objects_in};
 pub use script::{Runnable, runnable_in_files};

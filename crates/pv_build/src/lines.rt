@@ -1,7 +1,7 @@
 //! The lines that are printed, and the numbers of the causes in them.
 
 ghost use Rattle.std.specs.Prelude.{◌≡◌, IfOk};
-ghost use Rattle.pv_build.specs.Lines.{sizes_line, place_line, line_line, small_line, object_place_line, object_name_line, object_line, link_line, work_line, same_line, differ_line, script_number, form_number, check_number};
+ghost use Rattle.pv_build.specs.Lines.{sizes_line, place_line, refusal_at_line, too_small_line, object_place_line, object_name_line, object_line, link_line, work_line, same_line, differ_line, script_number, form_number, check_number};
 
 use crate::halt::Line;
 use board::ScriptCause;
@@ -45,8 +45,8 @@ pub fn place_line(alloc: Global, number: u32, at: u32) -> Result<Line, AllocErro
 }
 
 /// A refusal at a line of a text, counted from 1.
-pub fn line_line(alloc: Global, number: u32, line: u64) -> Result<Line, AllocError>
-    ensures { IfOk result (λ l. l ≡ line_line number line) }
+pub fn refusal_at_line(alloc: Global, number: u32, line: u64) -> Result<Line, AllocError>
+    ensures { IfOk result (λ l. l ≡ refusal_at_line number line) }
 {
     let line = format!(in alloc; "refused {number} line {line}\n")?;
     Ok(Line {
@@ -55,8 +55,8 @@ pub fn line_line(alloc: Global, number: u32, line: u64) -> Result<Line, AllocErr
 }
 
 /// An image that needs more frames than there are.
-pub fn small_line(alloc: Global, small: TooSmall) -> Result<Line, AllocError>
-    ensures { IfOk result (λ line. line ≡ small_line small.need small.have) }
+pub fn too_small_line(alloc: Global, small: TooSmall) -> Result<Line, AllocError>
+    ensures { IfOk result (λ line. line ≡ too_small_line small.need small.have) }
 {
     let need = small.need;
     let have = small.have;

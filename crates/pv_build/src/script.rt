@@ -13,7 +13,7 @@ ghost use Rattle.pv_build.specs.Scripts.{HasScript, HasNoScript, NoRun, FindsRun
 
 use crate::halt::Halt;
 use crate::image::accepted;
-use crate::lines::{line_line, number_of_script};
+use crate::lines::{number_of_script, refusal_at_line};
 use crate::telling::{load, refused};
 use board::{Script, ScriptFault, read_script};
 use image_check::Checked;
@@ -64,7 +64,7 @@ fn scripted<F: Files>(alloc: Global, name: &str, files: &mut F) -> Result<Script
         Ok(events) => Ok(events),
         Err(ScriptFault::Memory) => Err(Halt::Memory),
         Err(ScriptFault::At { line, cause }) => {
-            Err(refused(line_line(alloc, number_of_script(cause), line)))
+            Err(refused(refusal_at_line(alloc, number_of_script(cause), line)))
         }
     }
 }

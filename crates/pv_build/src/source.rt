@@ -12,7 +12,7 @@ ghost use Rattle.pv_build.specs.Sources.{IsNoSource, source_line};
 ghost use Rattle.pv_build.specs.SourceFiles.{HasSource, HasNoSource};
 
 use crate::halt::Halt;
-use crate::lines::line_line;
+use crate::lines::refusal_at_line;
 use crate::telling::{load, refused};
 use asm_lex::SourceFault;
 use asm_parse::{Source, parse};
@@ -30,7 +30,7 @@ pub fn source_of_text(alloc: Global, text: &[u8]) -> Result<Source, Halt>
         Ok(source) => Ok(source),
         Err(SourceFault::Memory) => Err(Halt::Memory),
         Err(SourceFault::At { line, cause }) => {
-            Err(refused(line_line(alloc, cause.number() as u32, line as u64)))
+            Err(refused(refusal_at_line(alloc, cause.number() as u32, line as u64)))
         }
     }
 }

@@ -7,7 +7,7 @@ ghost use Rattle.pv_build.specs.Failures.{NoneFailedIn};
 ghost use Rattle.pv_build.specs.Telling.{HaltsOverFiles, RefusesAs, Says, Ends, ToldAs};
 
 use crate::halt::{Halt, Line};
-use crate::lines::small_line;
+use crate::lines::too_small_line;
 use crate::status::Status;
 use image_load::RunFault;
 use pv_io::{Files, IoAnswer, Sink};
@@ -70,7 +70,7 @@ pub fn tell_run<S: Sink>(alloc: Global, ran: Result<Ended, RunFault>, out: &mut 
             End::Stopped(_) => Status::Stopped,
         },
         Err(RunFault::Write) => Status::WriteFault,
-        Err(RunFault::TooSmall(small)) => match small_line(alloc, small) {
+        Err(RunFault::TooSmall(small)) => match too_small_line(alloc, small) {
             Ok(line) => print(&line, Status::Refused, out),
             Err(_) => Status::Memory,
         },

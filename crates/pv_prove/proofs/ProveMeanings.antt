@@ -18,12 +18,12 @@ use Rattle.run_trace.specs.Notes.{Note}
 use Rattle.machine_model.specs.State.{wedge}
 use Rattle.trace_check.proofs.NotedRuns.{around_of}
 use Rattle.trace_check.specs.Form.{choices_bytes, most_choices}
-use Rattle.trace_check.specs.Kept.{choices_of}
-use Rattle.trace_check.specs.NotesKept.{Kept, AreKept}
+use Rattle.trace_check.specs.ChoicesTold.{choices_of}
+use Rattle.trace_check.specs.NotesKept.{KeptChoices, AreKept}
 use Rattle.trace_check.specs.Proved.{IsProved}
 use Rattle.trace_check.specs.Noted.{NotedAnswers}
 use Rattle.pv_prove.specs.CertificateLines.{certificate_line, no_certificate_line}
-use Rattle.pv_build.specs.Lines.{small_line}
+use Rattle.pv_build.specs.Lines.{too_small_line}
 use Rattle.pv_build.specs.Images.{HasImage}
 use Rattle.pv_build.specs.Scripts.{HasScript}
 use Rattle.pv_build.specs.Readings.{OnlyRead}
@@ -113,7 +113,7 @@ gives_proof : (files : Option FileMap) (image script : List ℕ) (frames n : ℕ
 gives_proof files image script frames n name program events w has says h = with_both (WithFrames (ProvesRun frames n name) frames) files image script program events w has says h
 
 -- a run that was printed, and what was told of its notes
-pub proved : (image script : List ℕ) (frames n : ℕ) (name : List ℕ) (program : Image) (events : Events) (o : Outside) (mid : Option (List ℕ)) (puts : ℕ) (e : Ended) (kept : Kept) (meant st : Status)
+pub proved : (image script : List ℕ) (frames n : ℕ) (name : List ℕ) (program : Image) (events : Events) (o : Outside) (mid : Option (List ℕ)) (puts : ℕ) (e : Ended) (kept : KeptChoices) (meant st : Status)
     → HasImage o.before.files image program → HasScript o.before.files script events → NotedAnswers program events frames n kept (around_of o.before.taken mid o.before.puts puts o.before.completed o.after.completed) o.after.memory (Ok e) → meant ≡ status_of e.end
     → ((told : List Note) → AreKept kept told → Certifies name told meant (behind o mid puts) st)
     → Means (prove_task image script frames n name) o st
@@ -139,7 +139,7 @@ proved image script frames n name program events o mid puts e kept meant st has 
     (subst (λ (m : Status). Certifies name p.notes m (behind o mid puts) st) is (tells p.notes p.tells.are_kept))
 
 -- a run that was refused, or whose output failed
-pub unproved : (image script : List ℕ) (frames n : ℕ) (name : List ℕ) (program : Image) (events : Events) (o : Outside) (mid : Option (List ℕ)) (puts : ℕ) (f : RunFault) (kept : Kept) (st : Status)
+pub unproved : (image script : List ℕ) (frames n : ℕ) (name : List ℕ) (program : Image) (events : Events) (o : Outside) (mid : Option (List ℕ)) (puts : ℕ) (f : RunFault) (kept : KeptChoices) (st : Status)
     → HasImage o.before.files image program → HasScript o.before.files script events → NotedAnswers program events frames n kept (around_of o.before.taken mid o.before.puts puts o.before.completed o.after.completed) o.after.memory (Err f)
     → o.after.files ≡ o.before.files → ToldAs (Err f) mid o.after.taken puts o.after.puts st → Means (prove_task image script frames n name) o st
 unproved image script frames n name program events o mid puts fault.Write kept st has read h same told =
@@ -160,10 +160,10 @@ unproved image script frames n name program events o mid puts fault.Write kept s
       rose = subst (λ (k : ℕ). Rose o.before.puts k) (sym told.2) h.6;
     }))
 unproved image script frames n name program events o mid puts (fault.TooSmall small) kept st has read h same (inl said) =
-    let w = refused (small_line small.need small.have) in
-    let gives = gives_proof o.before.files image script frames n name program events w has read (Small h.0 (ap (λ s. refused (small_line s.need s.have)) h.1)) in
-    let here = subst (λ (k : ℕ). Says (small_line small.need small.have) status.Refused o.before.taken o.after.taken k o.after.puts st) h.2.1
-    (subst (λ (t : Option (List ℕ)). Says (small_line small.need small.have) status.Refused t o.after.taken puts o.after.puts st) h.2.0 said) in
+    let w = refused (too_small_line small.need small.have) in
+    let gives = gives_proof o.before.files image script frames n name program events w has read (Small h.0 (ap (λ s. refused (too_small_line s.need s.have)) h.1)) in
+    let here = subst (λ (k : ℕ). Says (too_small_line small.need small.have) status.Refused o.before.taken o.after.taken k o.after.puts st) h.2.1
+    (subst (λ (t : Option (List ℕ)). Says (too_small_line small.need small.have) status.Refused t o.after.taken puts o.after.puts st) h.2.0 said) in
     says (prove_task image script frames n name) o w st tt refl gives same (λ end. h.2.2) here
 unproved image script frames n name program events o mid puts (fault.TooSmall small) kept st has read h same (inr none) =
     subst (λ (s : Status). Means (prove_task image script frames n name) o s) (sym none.0) (same, inl (none.1 ∙ h.2.0, h.2.2))

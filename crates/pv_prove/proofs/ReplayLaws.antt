@@ -6,7 +6,7 @@ use Rattle.board.specs.Scripts.{Events}
 use Rattle.image_check.specs.Image.{Image}
 use Rattle.trace_check.specs.declared.list.Choice.{Choice}
 use Rattle.trace_check.specs.Form.{choices_bytes}
-use Rattle.trace_check.specs.Kept.{choices_of}
+use Rattle.trace_check.specs.ChoicesTold.{choices_of}
 use Rattle.trace_check.specs.Reading.{choices_in}
 use Rattle.trace_check.specs.Judged.{judged}
 use Rattle.pv_prove.specs.CertificateLines.{certificate_refusal, verdict_line}

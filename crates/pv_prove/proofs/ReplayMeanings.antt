@@ -10,7 +10,7 @@ use Rattle.trace_check.specs.declared.list.Choice.{Choice}
 use Rattle.trace_check.specs.declared.answer.Verdict.{Verdict}
 use Rattle.trace_check.specs.Judged.{judged}
 use Rattle.pv_prove.specs.CertificateLines.{verdict_line}
-use Rattle.pv_build.specs.Lines.{small_line}
+use Rattle.pv_build.specs.Lines.{too_small_line}
 use Rattle.pv_build.specs.Images.{HasImage}
 use Rattle.pv_build.specs.Scripts.{HasScript}
 use Rattle.pv_prove.specs.Certificates.{HasChoices}
@@ -48,10 +48,10 @@ tells_verdict frames n image events list text old new before now verdict line st
     inl (printed line, Ran h.0 (ap printed (is ∙ ap verdict_line h.1)), said)
 
 pub tells_small : (frames n : ℕ) (image : Image) (events : Events) (list : List Choice) (text : List ℕ) (old new : Option (List ℕ)) (before now : ℕ) (small : TooSmall) (line : List ℕ) (st : Status)
-    → (frames < need image) × (small ≡ record { need = need image; have = frames }) → line ≡ small_line small.need small.have → Says line status.Refused old new before now st
+    → (frames < need image) × (small ≡ record { need = need image; have = frames }) → line ≡ too_small_line small.need small.have → Says line status.Refused old new before now st
     → JudgesAs frames n image events list text (taking_of old new before now) st
 tells_small frames n image events list text old new before now small line st h is said =
-    inl (refused line, Small h.0 (ap refused (is ∙ ap (λ (s : TooSmall). small_line s.need s.have) h.1)), said)
+    inl (refused line, Small h.0 (ap refused (is ∙ ap (λ (s : TooSmall). too_small_line s.need s.have) h.1)), said)
 
 -- what was told of what the files hold
 pub replay_means : (image script certificate text : List ℕ) (frames n : ℕ) (o : Outside) (st : Status) (program : Image) (events : Events) (list : List Choice) (bytes : List ℕ)

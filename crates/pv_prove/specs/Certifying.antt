@@ -2,7 +2,7 @@
 use Rattle.std.specs.Prelude.{◌≡◌, ℕ, true, false, List, length}
 use Rattle.run_trace.specs.Notes.{Note}
 use Rattle.trace_check.specs.Form.{choices_bytes}
-use Rattle.trace_check.specs.Kept.{choices_of}
+use Rattle.trace_check.specs.ChoicesTold.{choices_of}
 use Rattle.pv_prove.specs.CertificateLines.{certificate_line, no_certificate_line}
 use Rattle.pv_build.specs.Telling.{Says}
 use Rattle.pv_build.specs.declared.status.Status.{Status}

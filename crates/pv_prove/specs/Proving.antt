@@ -12,7 +12,7 @@ use Rattle.machine_model.specs.Step.{Report}
 use Rattle.machine_model.specs.Run.{Set, Run}
 use Rattle.machine_model.specs.Notes.{AreTold, AreNotes}
 use Rattle.trace_check.specs.Form.{most_choices, choices_bytes}
-use Rattle.trace_check.specs.Kept.{choices_of}
+use Rattle.trace_check.specs.ChoicesTold.{choices_of}
 use Rattle.trace_check.specs.Runs.{StopsTold}
 use Rattle.trace_check.specs.Proved.{IsProved}
 use Rattle.pv_prove.specs.CertificateLines.{certificate_line, no_certificate_line}

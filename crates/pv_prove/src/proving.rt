@@ -5,7 +5,7 @@ ghost use Rattle.board.specs.ScriptForm.{is_script};
 ghost use Rattle.run_trace.specs.Notes.{Note};
 ghost use Rattle.wedge_core.specs.Counts.{Counts as HostCounts};
 ghost use Rattle.trace_check.specs.Form.{AreChoices, most_choices};
-ghost use Rattle.trace_check.specs.Kept.{choices_of};
+ghost use Rattle.trace_check.specs.ChoicesTold.{choices_of};
 ghost use Rattle.trace_check.specs.NotesKept.{AreKept};
 ghost use Rattle.pv_build.specs.Images.{HasImage};
 ghost use Rattle.pv_build.specs.Scripts.{HasScript};

@@ -14,7 +14,7 @@ ghost use Rattle.pv_prove.specs.Asked.{asked_replay};
 
 use crate::certificate_lines::verdict_line;
 use crate::certificates::{Replayable, replayable_in_files};
-use pv_build::{Status, end, print, small_line};
+use pv_build::{Status, end, print, too_small_line};
 use pv_io::{Files, Sink};
 use pv_words::RunWords;
 use std::alloc::Global;
@@ -63,7 +63,7 @@ fn judge<S: Sink>(alloc: Global, found: &Replayable, frames: u32, n: u64, out: &
     match judged {
         Err(fault) => match fault {
             ReplayFault::Memory => Status::Memory,
-            ReplayFault::TooSmall(small) => match small_line(alloc, small) {
+            ReplayFault::TooSmall(small) => match too_small_line(alloc, small) {
                 Err(_) => Status::Memory,
                 Ok(line) => print(&line, Status::Refused, out),
             },

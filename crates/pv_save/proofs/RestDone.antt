@@ -21,7 +21,7 @@ use Rattle.checkpoint.specs.Moved.{rested_from}
 use Rattle.checkpoint.specs.Fits.{fits_of}
 use Rattle.checkpoint.specs.RestAnswers.{NothingDone, RestsWith, RestsAs, RestsFromStart}
 use Rattle.pv_save.specs.Checkpoints.{saved_line, HasState}
-use Rattle.pv_build.specs.Lines.{small_line}
+use Rattle.pv_build.specs.Lines.{too_small_line}
 use Rattle.pv_build.specs.Images.{HasImage}
 use Rattle.pv_build.specs.Scripts.{HasScript}
 use Rattle.pv_build.specs.Statuses.{status_of}
@@ -58,12 +58,12 @@ saves_boot on image script frames n file o i e has says fits = record {
 }
 
 small_is : (on : RunMode) (image script : List ℕ) (frames n : ℕ) (file : List ℕ) (files : Option FileMap) (i : Image) (e : Events) → HasImage files image i → HasScript files script e → frames < need i
-    → (save_task on image script frames n file).gives files (refused (small_line (need i) frames))
+    → (save_task on image script frames n file).gives files (refused (too_small_line (need i) frames))
 small_is on image script frames n file files i e has says lt = with_both (WithFrames (SavesBoot on frames n file) frames) files image script i e _ has says (Small lt refl)
 
 pub small_boot : (on : RunMode) (image script : List ℕ) (frames n : ℕ) (file : List ℕ) (files : Option FileMap) (i : Image) (e : Events) → HasImage files image i → HasScript files script e
     → (setting_on on i e frames).frames < need (setting_on on i e frames).image
-    → (save_task on image script frames n file).gives files (refused (small_line (need (setting_on on i e frames).image) (setting_on on i e frames).frames))
+    → (save_task on image script frames n file).gives files (refused (too_small_line (need (setting_on on i e frames).image) (setting_on on i e frames).frames))
 small_boot mode.Bare image script frames n file files i e has says lt = small_is mode.Bare image script frames n file files i e has says lt
 small_boot mode.Wedge image script frames n file files i e has says lt = small_is mode.Wedge image script frames n file files i e has says lt
 
@@ -103,7 +103,7 @@ left_state (Ok (rest.At state)) name o st stop (inl (left, back)) done = (state,
 left_state (Ok (rest.At state)) name o st stop (inr none) done = let is = none.0 in cc
 left_state (Ok (rest.Stopped ended)) name o st stop left done = absurd (stop (sym left.0.0 ∙ done))
 left_state (Err fault.Write) name o st stop left done = let is = left.0.0 in cc
-left_state (Err (fault.TooSmall small)) name o st stop (inl said, same) done = absurd (not_said (small_line small.need small.have) _ _ _ _ st said done)
+left_state (Err (fault.TooSmall small)) name o st stop (inl said, same) done = absurd (not_said (too_small_line small.need small.have) _ _ _ _ st said done)
 left_state (Err (fault.TooSmall small)) name o st stop (inr none, same) done = let is = none.0 in cc
 left_state (Err fault.Memory) name o st stop left done = let is = left.0.0 in cc
 

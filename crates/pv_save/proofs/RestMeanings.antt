@@ -24,7 +24,7 @@ use Rattle.checkpoint.specs.Moved.{kept_of}
 use Rattle.checkpoint.specs.Rested.{RestsTo}
 use Rattle.checkpoint.specs.RestAnswers.{RestsWith, RestsAs, RestsFromStart, NothingDone}
 use Rattle.pv_save.specs.Checkpoints.{saved_line}
-use Rattle.pv_build.specs.Lines.{small_line}
+use Rattle.pv_build.specs.Lines.{too_small_line}
 use Rattle.pv_build.specs.Telling.{Says, Whole, Cut, ToldAs}
 use Rattle.pv_build.specs.Statuses.{status_of}
 use Rattle.pv_build.specs.declared.status.Status.{Status}
@@ -181,10 +181,10 @@ rested_means task o on m n old name mid middle files sure loads stores c (Err fa
 
 -- the line of memory that is too small was put, or no memory was found for it
 small_means : (task : Task) (o : Outside) (on : RunMode) (m : Setting) (mid : Option (List ℕ)) (middle : ℕ) (small : TooSmall) (st : Status)
-    → task.gives o.before.files (refused (small_line small.need small.have)) → NothingDone (Did on m o) o.before.taken mid o.before.puts middle → ToldAs (Err (fault.TooSmall small)) mid o.after.taken middle o.after.puts st
+    → task.gives o.before.files (refused (too_small_line small.need small.have)) → NothingDone (Did on m o) o.before.taken mid o.before.puts middle → ToldAs (Err (fault.TooSmall small)) mid o.after.taken middle o.after.puts st
     → o.after.files ≡ o.before.files → Means task o st
 small_means task o on m mid middle small st gives none (inl said) files =
-    let line = small_line small.need small.have in
+    let line = too_small_line small.need small.have in
     says task o (refused line) st tt refl gives files (λ end. none_did on m o none.2)
     (subst (λ (x : ℕ). Says line status.Refused o.before.taken o.after.taken x o.after.puts st) none.1 (subst (λ (t : Option (List ℕ)). Says line status.Refused t o.after.taken middle o.after.puts st) none.0 said))
 small_means task o on m mid middle small st gives none (inr less) files =
@@ -192,7 +192,7 @@ small_means task o on m mid middle small st gives none (inr less) files =
 
 -- the same of a run from the start
 pub started_means : (task : Task) (o : Outside) (on : RunMode) (m : Setting) (n : ℕ) (name : List ℕ) (mid : Option (List ℕ)) (middle : ℕ) (files : Option FileMap) (sure : Bool) (loads stores : ℕ) (c : Counts) (r : Result Rested RunFault) (st : Status)
-    → (need m.image ≤ m.frames → Saves task o on m n (boot m) name) → (m.frames < need m.image → task.gives o.before.files (refused (small_line (need m.image) m.frames)))
+    → (need m.image ≤ m.frames → Saves task o on m n (boot m) name) → (m.frames < need m.image → task.gives o.before.files (refused (too_small_line (need m.image) m.frames)))
     → files ≡ o.before.files → sure ≡ o.before.sure → stores ≡ o.before.stores → RestsFromStart m n (Did on m o) o.before.taken mid o.before.puts middle r
     → LeavesAs r name (record o { before = record (o.before) { files = files; sure = sure; loads = loads; stores = stores; taken = mid; puts = middle; completed = c; memory = o.after.memory } }) st → Means task o st
 started_means task o on m n name mid middle files sure loads stores c (Ok rested) st k small files_is sure_is stores_is h left =
@@ -200,7 +200,7 @@ started_means task o on m n name mid middle files sure loads stores c (Ok rested
 started_means task o on m n name mid middle files sure loads stores c (Err fault.Write) st k small files_is sure_is stores_is h left =
     rested_means task o on m n (boot m) name mid middle files sure loads stores c (Err fault.Write) st (k h.0) files_is sure_is stores_is h.1 left
 started_means task o on m n name mid middle files sure loads stores c (Err (fault.TooSmall why)) st k small files_is sure_is stores_is h left =
-    small_means task o on m mid middle why st (subst (λ (s : TooSmall). task.gives o.before.files (refused (small_line s.need s.have))) (sym h.1) (small h.0)) h.2 left.0 (left.1 ∙ files_is)
+    small_means task o on m mid middle why st (subst (λ (s : TooSmall). task.gives o.before.files (refused (too_small_line s.need s.have))) (sym h.1) (small h.0)) h.2 left.0 (left.1 ∙ files_is)
 started_means task o on m n name mid middle files sure loads stores c (Err fault.Memory) st k small files_is sure_is stores_is (inl none) left =
     nothing_means task o on m mid middle st none left.0.0 left.0.1 (left.1 ∙ files_is)
 started_means task o on m n name mid middle files sure loads stores c (Err fault.Memory) st k small files_is sure_is stores_is (inr (fits, lines)) left =

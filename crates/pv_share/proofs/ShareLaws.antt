@@ -16,7 +16,7 @@ use Rattle.guest_sched.specs.declared.schedule.Slice.{Slice}
 use Rattle.guest_sched.specs.declared.fault.ScheduleCause.{ScheduleCause}
 use Rattle.guest_sched.specs.Texts.{schedule_of}
 use Rattle.guest_sched.specs.Shared.{FirstTooSmall, AllFit}
-use Rattle.pv_build.specs.Lines.{image_line, script_line, small_line}
+use Rattle.pv_build.specs.Lines.{image_line, script_line, too_small_line}
 use Rattle.pv_share.specs.ScheduleLines.{schedule_line}
 use Rattle.pv_build.specs.Images.{HasImage}
 use Rattle.pv_build.specs.Scripts.{HasScript, FindsRun, NoRun, NoImage, NoScript}
@@ -46,7 +46,7 @@ turns_told frames kernels slices w h = subst IsTold (sym h.comes) refl
 on_all : (P : Outcome → Type 0) (frames : ℕ) (kernels : List Kernel) (slices : List Slice) (w : Outcome)
     → ((line : List ℕ) → P (refused line)) → ((v : Outcome) → HasEnded v.status → IsTold v → P v) → SharesOn frames kernels slices w → P w
 on_all P frames kernels slices w of_line of_turns (Ran fit h) = of_turns w (turns_ended frames kernels slices w h) (turns_told frames kernels slices w h)
-on_all P frames kernels slices w of_line of_turns (Small small first is) = subst P (sym is) (of_line (small_line small.need small.have))
+on_all P frames kernels slices w of_line of_turns (Small small first is) = subst P (sym is) (of_line (too_small_line small.need small.have))
 
 by_all : (P : Outcome → Type 0) (frames : ℕ) (kernels : List Kernel) (r : Result (List Slice) (ℕ × ScheduleCause)) (w : Outcome)
     → ((line : List ℕ) → P (refused line)) → ((v : Outcome) → HasEnded v.status → IsTold v → P v) → BySchedule frames kernels r w → P w
@@ -168,7 +168,7 @@ on_once : (frames : ℕ) (kernels : List Kernel) (slices : List Slice) (w v : Ou
 on_once frames kernels slices w v is (Ran fit h) k = absurd (ended_not_refused w.status (turns_ended frames kernels slices w h) is)
 on_once frames kernels slices w v is (Small s first one) (Ran fit h) = absurd (small_or_fit frames kernels s first fit)
 on_once frames kernels slices w v is (Small s first one) (Small t second two) =
-    two ∙ (ap (λ (x : TooSmall). refused (small_line x.need x.have)) (small_same frames kernels t s second first) ∙ sym one)
+    two ∙ (ap (λ (x : TooSmall). refused (too_small_line x.need x.have)) (small_same frames kernels t s second first) ∙ sym one)
 
 by_once : (frames : ℕ) (kernels : List Kernel) (r : Result (List Slice) (ℕ × ScheduleCause)) (w v : Outcome) → w.status ≡ status.Refused → BySchedule frames kernels r w → BySchedule frames kernels r v → v ≡ w
 by_once frames kernels (Ok slices) w v is h k = on_once frames kernels slices w v is h k

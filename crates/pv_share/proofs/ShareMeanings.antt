@@ -19,7 +19,7 @@ use Rattle.guest_sched.specs.Shared.{sites_in, AllFit, LinesAreAlone}
 use Rattle.guest_sched.specs.SharedRuns.{FailsInTurn, FailsAtEnd}
 use Rattle.guest_sched.proofs.AnsweredBy.{SharedAnswers}
 use Rattle.guest_sched.proofs.ReadAlone.{lines_alone}
-use Rattle.pv_build.specs.Lines.{small_line}
+use Rattle.pv_build.specs.Lines.{too_small_line}
 use Rattle.pv_build.specs.Telling.{Whole, ToldAs}
 use Rattle.pv_share.specs.Kernels.{HasKernels, IsShared}
 use Rattle.pv_share.specs.Unshared.{NoShared, NoneRead, NoSchedule}
@@ -120,7 +120,7 @@ share_means schedule frames names o st kernels slices mid middle memory (Ok ende
 share_means schedule frames names o st kernels slices mid middle memory (Err fault.Write) shared same h said =
     subst (λ (s : Status). Means (share_task schedule frames names) o s) (sym said.0) (write_fails schedule frames names o kernels slices mid middle shared same h.0 said.1 said.2 h.2 h.1)
 share_means schedule frames names o st kernels slices mid middle memory (Err (fault.TooSmall small)) shared same h (inl said) =
-    let line = small_line small.need small.have in
+    let line = too_small_line small.need small.have in
     says_told (share_task schedule frames names) o (refused line) st tt refl (by_shared o.before.files schedule frames names kernels slices (refused line) shared (Small small h.0 refl)) same (λ end. h.1.2)
     (says_from line o.before.taken mid o.after.taken o.before.puts middle o.after.puts st h.1.0 h.1.1 said)
 share_means schedule frames names o st kernels slices mid middle memory (Err (fault.TooSmall small)) shared same h (inr none) =

@@ -12,7 +12,7 @@ use Rattle.guest_sched.specs.declared.fault.ScheduleCause.{ScheduleCause}
 use Rattle.guest_sched.specs.Texts.{schedule_of}
 use Rattle.guest_sched.specs.Pieces.{Piece, AreTurns, piece_text, shared_text, counts_over}
 use Rattle.guest_sched.specs.Shared.{sites_in, EachRan, EachBegan, LinesAreAlone, FirstTooSmall, AllFit}
-use Rattle.pv_build.specs.Lines.{small_line}
+use Rattle.pv_build.specs.Lines.{too_small_line}
 use Rattle.pv_share.specs.ScheduleLines.{schedule_line}
 use Rattle.pv_words.specs.Words.{KernelNames}
 use Rattle.pv_share.specs.Kernels.{HasKernels, NoKernel, IsShared, FindsKernels}
@@ -46,7 +46,7 @@ pub record SharesTurns (frames : ℕ) (kernels : List Kernel) (slices : List Sli
 -- over what the schedule says: the first kernel for which there aren't frames enough is told, or they run
 pub data SharesOn (frames : ℕ) (kernels : List Kernel) (slices : List Slice) (w : Outcome) : Type 0 where
   Ran : AllFit frames kernels → SharesTurns frames kernels slices w → SharesOn frames kernels slices w
-  Small : (small : TooSmall) → FirstTooSmall frames kernels small → w ≡ refused (small_line small.need small.have) → SharesOn frames kernels slices w
+  Small : (small : TooSmall) → FirstTooSmall frames kernels small → w ≡ refused (too_small_line small.need small.have) → SharesOn frames kernels slices w
 
 abbrev pub BySchedule : ℕ → List Kernel → Result (List Slice) (ℕ × ScheduleCause) → Outcome → Type 0
 BySchedule frames kernels (Ok slices) w = SharesOn frames kernels slices w

@@ -6,7 +6,7 @@ use Rattle.image_load.specs.declared.fault.RunFault.TheVariants as alone
 use Rattle.run_trace.specs.declared.items.Ended.{Ended}
 use Rattle.guest_sched.specs.declared.kernel.SharedFault.{SharedFault}
 use Rattle.guest_sched.specs.declared.kernel.SharedFault.TheVariants as fault
-use Rattle.pv_build.specs.Lines.{small_line}
+use Rattle.pv_build.specs.Lines.{too_small_line}
 use Rattle.pv_build.specs.Telling.{Says}
 use Rattle.pv_build.specs.declared.status.Status.{Status}
 use Rattle.pv_build.specs.declared.status.Status.TheVariants as status
@@ -23,5 +23,5 @@ abbrev pub SharedToldAs : Result (Vec Ended Global) SharedFault → Option (List
 SharedToldAs (Ok ended) old new before now result = (result ≡ status_of_all ended.items) × (new ≡ old) × (now ≡ before)
 SharedToldAs (Err fault.Write) old new before now result = (result ≡ status.WriteFault) × (new ≡ old) × (now ≡ before)
 SharedToldAs (Err (fault.TooSmall small)) old new before now result =
-    Says (small_line small.need small.have) status.Refused old new before now result ⊎ ((result ≡ status.Memory) × (new ≡ old))
+    Says (too_small_line small.need small.have) status.Refused old new before now result ⊎ ((result ≡ status.Memory) × (new ≡ old))
 SharedToldAs (Err fault.Memory) old new before now result = (result ≡ status.Memory) × (new ≡ old)

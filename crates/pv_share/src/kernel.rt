@@ -13,7 +13,7 @@ ghost use Rattle.pv_share.specs.Kernels.{IsShared, FindsKernels, NoKernel};
 ghost use Rattle.pv_share.specs.Unshared.{AreKernels, FindsShared, NoShared};
 
 use guest_sched::{Kernel, Schedule, ScheduleCause, ScheduleFault, read_schedule};
-use pv_build::{Halt, line_line, load, refused, runnable_in_files};
+use pv_build::{Halt, load, refusal_at_line, refused, runnable_in_files};
 use pv_io::Files;
 use std::alloc::Global;
 
@@ -51,7 +51,7 @@ pub fn shared_in_files<F: Files>(
         Ok(schedule) => Ok(Shared { kernels, schedule }),
         Err(ScheduleFault::Memory) => Err(Halt::Memory),
         Err(ScheduleFault::At { line, cause }) => {
-            Err(refused(line_line(alloc, number_of_schedule(cause), line)))
+            Err(refused(refusal_at_line(alloc, number_of_schedule(cause), line)))
         }
     }
 }

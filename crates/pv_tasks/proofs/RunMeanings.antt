@@ -20,7 +20,7 @@ use Rattle.bare_machine.specs.Answers.{RunAnswers}
 use Rattle.wedge_core.specs.Counts.{Counts}
 use Rattle.wedge_core.specs.Surroundings.{Around}
 use Rattle.wedge_core.proofs.AnsweredBy.{WedgeAnswers}
-use Rattle.pv_build.specs.Lines.{small_line}
+use Rattle.pv_build.specs.Lines.{too_small_line}
 use Rattle.pv_build.specs.Telling.{Says, Whole, Cut, ToldAs}
 use Rattle.pv_build.specs.Statuses.{status_of}
 use Rattle.pv_build.specs.Images.{HasImage}
@@ -65,12 +65,12 @@ RanAs runs a memory result =
 
 -- the line of memory that is too small was put
 too_small : (ran : Outcome → Type 0) (image : Image) (frames : ℕ) (old new : Option (List ℕ)) (before now : ℕ) (c c2 : Counts) (memory : List ℕ) (small : TooSmall) (st : Status)
-    → frames < need image → small ≡ record { need = need image; have = frames } → c2 ≡ c → Says (small_line small.need small.have) status.Refused old new before now st
+    → frames < need image → small ≡ record { need = need image; have = frames } → c2 ≡ c → Says (too_small_line small.need small.have) status.Refused old new before now st
     → RanAs (RunsOn ran image frames) (around_of old new before now c c2) memory st
 too_small ran image frames old new before now c c2 memory small st lt is none said =
     inl (
-      refused (small_line small.need small.have),
-      Small lt (ap (λ (s : TooSmall). refused (small_line s.need s.have)) is),
+      refused (too_small_line small.need small.have),
+      Small lt (ap (λ (s : TooSmall). refused (too_small_line s.need s.have)) is),
       said,
       λ end. none,
     )
@@ -95,7 +95,7 @@ ran_bare image events frames n old mid new before middle now (Err fault.Write) c
     )
 ran_bare image events frames n old mid new before middle now (Err (fault.TooSmall small)) c memory st h (inl said) =
     too_small (RunsBare frames n image events) image frames old new before now c c memory small st h.0 h.1 refl
-    (says_from (small_line small.need small.have) old mid new before middle now st h.2 h.3 said)
+    (says_from (too_small_line small.need small.have) old mid new before middle now st h.2 h.3 said)
 ran_bare image events frames n old mid new before middle now (Err (fault.TooSmall small)) c memory st h (inr none) = inr (none.0, none.1 ∙ h.2, refl)
 ran_bare image events frames n old mid new before middle now (Err fault.Memory) c memory st h told = inr (told.0, told.1 ∙ h.0, refl)
 
@@ -134,7 +134,7 @@ ran_patched image events frames n old mid new before middle now (Err fault.Write
     )
 ran_patched image events frames n old mid new before middle now (Err (fault.TooSmall small)) c c2 memory st h (inl said) =
     too_small (RunsPatched frames n image events) image frames old new before now c c2 memory small st h.0 h.1 h.2.2
-    (says_from (small_line small.need small.have) old mid new before middle now st h.2.0 h.2.1 said)
+    (says_from (too_small_line small.need small.have) old mid new before middle now st h.2.0 h.2.1 said)
 ran_patched image events frames n old mid new before middle now (Err (fault.TooSmall small)) c c2 memory st h (inr none) = inr (none.0, none.1 ∙ h.2.0, h.2.2)
 ran_patched image events frames n old mid new before middle now (Err fault.Memory) c c2 memory st h told = inr (told.0, told.1 ∙ h.0, h.2)
 

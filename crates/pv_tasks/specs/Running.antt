@@ -9,7 +9,7 @@ use Rattle.machine_model.specs.State.{State, boot, wedge}
 use Rattle.machine_model.specs.Step.{Report}
 use Rattle.machine_model.specs.Run.{Set, Run, stopping}
 use Rattle.bare_machine.specs.Runs.{HasRun}
-use Rattle.pv_build.specs.Lines.{small_line}
+use Rattle.pv_build.specs.Lines.{too_small_line}
 use Rattle.pv_build.specs.Images.{HasImage}
 use Rattle.pv_build.specs.Scripts.{HasScript, NoRun, FindsRun}
 use Rattle.pv_words.specs.declared.mode.RunMode.{RunMode}
@@ -37,7 +37,7 @@ pub record RunsPatched (frames n : ℕ) (image : Image) (events : Events) (w : O
 -- what a run comes to, or a refusal where the image needs more frames than there are
 pub data RunsOn (ran : Outcome → Type 0) (image : Image) (frames : ℕ) (w : Outcome) : Type 0 where
   Ran : need image ≤ frames → ran w → RunsOn ran image frames w
-  Small : frames < need image → w ≡ refused (small_line (need image) frames) → RunsOn ran image frames w
+  Small : frames < need image → w ≡ refused (too_small_line (need image) frames) → RunsOn ran image frames w
 
 -- What the files of an image and a script come to, where work goes on so with what they hold: that there is nothing to run is
 -- told, or it goes on.

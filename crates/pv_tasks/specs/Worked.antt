@@ -6,7 +6,7 @@ use Rattle.run_trace.specs.declared.items.End.{End}
 use Rattle.wedge_core.specs.Counts.{Counts}
 use Rattle.wedge_core.specs.Promises.{Promise, HasOwnFills}
 use Rattle.wedge_core.specs.Surroundings.{Around}
-use Rattle.pv_build.specs.Lines.{small_line}
+use Rattle.pv_build.specs.Lines.{too_small_line}
 use Rattle.pv_build.specs.Telling.{Says}
 use Rattle.pv_build.specs.declared.status.Status.{Status}
 use Rattle.pv_build.specs.declared.status.Status.TheVariants as status
@@ -24,7 +24,7 @@ pub record HasTexts (image : Image) (first second : List ℕ) (fills : ℕ) (bef
 
 -- the image needs more frames than there are, and the host has done nothing
 abbrev pub IsTooLarge : Image → Counts → Counts → List ℕ → Type 0
-IsTooLarge image before after line = (4096 < need image) × (line ≡ small_line (need image) 4096) × (after ≡ before)
+IsTooLarge image before after line = (4096 < need image) × (line ≡ too_small_line (need image) 4096) × (after ≡ before)
 
 -- The lines were put, or that of a refusal, and the host has done what is its part, unless no memory was found.
 abbrev pub WorkedAs : ℕ → Around → List ℕ → Status → Type 0

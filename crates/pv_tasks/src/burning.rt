@@ -17,7 +17,7 @@ ghost use Rattle.pv_tasks.specs.Tasks.{Means, FaultCounts};
 
 use crate::delivery::deliver;
 use afterburner::{BurnFault, burn as burn_source};
-use pv_build::{Halt, Made, Status, end, line_line, object_file, refused, source_in_file};
+use pv_build::{Halt, Made, Status, end, object_file, refusal_at_line, refused, source_in_file};
 use pv_io::{Files, Sink};
 use std::alloc::Global;
 
@@ -56,7 +56,7 @@ fn made<F: Files>(alloc: Global, name: &str, files: &mut F) -> Result<Made, Halt
         Ok(object) => Ok(object_file(alloc, &object)?),
         Err(BurnFault::Memory) => Err(Halt::Memory),
         Err(BurnFault::At { line, cause }) => {
-            Err(refused(line_line(alloc, cause.number() as u32, line as u64)))
+            Err(refused(refusal_at_line(alloc, cause.number() as u32, line as u64)))
         }
     }
 }

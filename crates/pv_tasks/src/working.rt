@@ -7,7 +7,7 @@ ghost use Rattle.wedge_core.specs.Counts.{counts_of};
 ghost use Rattle.wedge_core.specs.Promises.{Promise, HasOwnFills};
 ghost use Rattle.wedge_core.specs.Surroundings.{around};
 ghost use Rattle.run_trace.specs.declared.items.End.{End};
-ghost use Rattle.pv_build.specs.Lines.{small_line};
+ghost use Rattle.pv_build.specs.Lines.{too_small_line};
 ghost use Rattle.pv_build.specs.Telling.{RefusesAs};
 ghost use Rattle.pv_tasks.specs.Working.{first_text, second_setting};
 ghost use Rattle.pv_tasks.specs.Worked.{HasTexts, IsTooLarge, WorkedAs};
@@ -19,7 +19,7 @@ use board::Script;
 use host_cpl3::Host;
 use image_check::Checked;
 use image_load::RunFault;
-use pv_build::{Halt, Status, Texts, built, end, refused, small_line, tell_both};
+use pv_build::{Halt, Status, Texts, built, end, refused, tell_both, too_small_line};
 use pv_io::Sink;
 use std::alloc::Global;
 
@@ -67,7 +67,7 @@ fn fresh(alloc: Global, image: &Checked, events: &Script) -> Result<Vec<u8>, Hal
     requires { events.now.list ≡ [] }
     ensures text { IfOk result (λ text. text.items ≡ first_text image.now) }
     ensures fits { IfOk result (λ text. need image.now ≤ 4096) }
-    ensures refused { IfErr result (RefusesAs (λ line. (4096 < need image.now) × (line ≡ small_line (need image.now) 4096))) }
+    ensures refused { IfErr result (RefusesAs (λ line. (4096 < need image.now) × (line ≡ too_small_line (need image.now) 4096))) }
 {
     let mut kept = TextSink::new(alloc);
     match run_fresh(alloc, image, events, FRAMES, STEPS, &mut kept) {
@@ -101,10 +101,10 @@ fn patched<H: Host>(
 // Why a run into a sink that keeps its text has no end: such a sink fails only for want of memory.
 fn halt_of(alloc: Global, fault: RunFault) -> Halt
     ensures { RefusesAs (λ line. (small : TooSmall) × (fault ≡ RunFault.TooSmall small)
-        × (line ≡ small_line small.need small.have)) result }
+        × (line ≡ too_small_line small.need small.have)) result }
 {
     match fault {
-        RunFault::TooSmall(small) => refused(small_line(alloc, small)),
+        RunFault::TooSmall(small) => refused(too_small_line(alloc, small)),
         RunFault::Write => Halt::Memory,
         RunFault::Memory => Halt::Memory,
     }

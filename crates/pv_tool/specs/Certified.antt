@@ -20,7 +20,7 @@ use Rattle.trace_check.specs.declared.list.Choice.{Choice}
 use Rattle.trace_check.specs.declared.answer.Verdict.TheVariants.{Yes, YesBefore}
 use Rattle.trace_check.specs.Form.{choices_bytes}
 use Rattle.trace_check.specs.Reading.{choices_in}
-use Rattle.trace_check.specs.Kept.{choices_of}
+use Rattle.trace_check.specs.ChoicesTold.{choices_of}
 use Rattle.trace_check.specs.Judged.{judged}
 use Rattle.trace_check.specs.Runs.{IsRunText, AreItemsBefore, verdict_of}
 use Rattle.pv_prove.specs.CertificateLines.{verdict_line}

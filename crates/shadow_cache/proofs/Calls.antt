@@ -162,8 +162,8 @@ module _ (pool pool1 : Pool) (p p' : Pair) (ps ps' : List Pair) (m m1 : List ℕ
         subst (λ s. KeepsTables s m m1) same (beside-tables pool pool1 p ps ps' m m1 h o v),
       )
 
-  pub spoilt-untracked : is_among frame (tables_of (p' ∷ ps')) ≡ false
-  spoilt-untracked =
+  pub spoilt-unprotected : is_among frame (tables_of (p' ∷ ps')) ≡ false
+  spoilt-unprotected =
       tables-any (p' ∷ ps') frame
       ∙ ap (λ (y : Pair). any_reads (y ∷ ps') frame) q
       ∙ ap (λ b. b || any_reads ps' frame) (spoilt-there (reads p frame) p frame refl)

@@ -78,7 +78,7 @@ all-lose (p ∷ ps) m m1 m2 frame k l = (
   λ side index h ne. l.3 side index h (k.4 side index h ne),
 )
 
--- the same right goes by all frames that are tracked then
+-- the same right goes by all frames that are write-protected then
 flags : (a b c : Bool) → (a ≡ true → b ≡ c) → (a && not (b || false)) ≡ (a && not c)
 flags false b c h = refl
 flags true b c h = ap (λ x. not (x || false)) (h refl) ∙ ap not (or-false c)
@@ -131,7 +131,7 @@ module _ (p : Pair) (ps : List Pair) (m m1 m2 : List ℕ) (frame : ℕ) (h : IsR
     bar-memory =
         Writes-trans (frames_of (p ∷ ps) m) m m1 m2 (write-memory p ps m m1 h s1 e1 w1) (subst (λ (fs : List ℕ). Writes fs m1 m2) frames1 more)
 
--- ---- a frame that is tracked already
+-- ---- a frame that is write-protected already
 
 no-write : (a b : Bool) → a ≡ false → a ≡ (a && b)
 no-write true b e = cc

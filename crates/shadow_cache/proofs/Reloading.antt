@@ -134,7 +134,7 @@ reloaded cr3 p ps qs m m' u x =
     subst (λ (xs : List OtherRoot). IsReloaded cr3 xs qs m') (sym (left-is p ps m))
     (reloaded-by (place_of cr3 (staying_pairs (p ∷ ps))) cr3 (staying_pairs (p ∷ ps)) qs m m' refl (left-unmarked p ps u) x)
 
--- ---- no further frame is tracked
+-- ---- no further frame is write-protected
 
 any-take : (n : ℕ) (ps : List Pair) (f : ℕ) → any_reads (take n ps) f ≡ true → any_reads ps f ≡ true
 any-take zero ps f e = cc

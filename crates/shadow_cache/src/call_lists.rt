@@ -20,7 +20,7 @@ use guest_ram::Ram;
 use shadow_tables::Call;
 use std::alloc::{AllocError, Global};
 
-/// A call that changes what is kept or tracked.
+/// A call that changes what is kept or write-protected.
 #[derive(Clone, Copy)]
 pub enum RootsCall {
     /// One that all shadows have, on the present pair.

@@ -83,7 +83,7 @@ impl Roots {
     ghost use Rattle.shadow_cache.specs.Roots.{pairs_of};
 
     /// The tables of any pair were read from this frame.
-    fn tracks(&self, frame: u32) -> bool
+    fn is_write_protected(&self, frame: u32) -> bool
         ensures { result ≡ any_reads (pairs_of self.now) frame }
     {
         if self.present.reads(frame) {
@@ -92,7 +92,7 @@ impl Roots {
         any_reads(&self.others, frame)
     }
 
-    /// Takes the right to write to this frame from what all pairs keep. None has it where the frame is tracked already.
+    /// Takes the right to write to this frame from what all pairs keep. None has it where the frame is write-protected already.
     fn bar_frame(&self, ram: &mut Ram, frame: u32)
         requires stands { ∥ IsRoots (pairs_of self.now) ram.old ∥₁ }
         ensures shadows { AreShadows (pairs_of self.now) ram.new }
@@ -100,7 +100,7 @@ impl Roots {
         ensures frames { frames_of (pairs_of self.now) ram.new ≡ frames_of (pairs_of self.now) ram.old }
         ensures memory { Writes (frames_of (pairs_of self.now) ram.old) ram.old ram.new }
     {
-        if self.tracks(frame) {
+        if self.is_write_protected(frame) {
             return;
         }
         self.present.shadow.bar(ram, frame);
@@ -171,7 +171,7 @@ impl Roots {
             (frames_of (pairs_of self.old) ram.old) (frames_of (pairs_of self.new) ram.new) }
         ensures told { GoesOn (Shared (Fill side entry wp)) (pairs_of self.old) (pairs_of self.new) ram.old ram.new }
     {
-        let barred = self.tracks(entry.frame);
+        let barred = self.is_write_protected(entry.frame);
         let mut shadow = self.present.shadow;
         shadow.hold(ram, pool, side, entry, wp, barred);
     }

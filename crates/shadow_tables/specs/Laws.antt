@@ -62,7 +62,7 @@ held-roots s m =
 pub none-write_protected : (frame : ℕ) (writes : Bool) → is_among frame [] ≡ true → writes ≡ false
 none-write_protected frame writes e = cc
 
--- where nothing comes back, all tables that may are tracked
+-- where nothing comes back, all tables that may are write-protected
 pub never-unmarked : (frame : ℕ) → true ≡ false → is_among frame [] ≡ true
 never-unmarked frame e = cc
 

@@ -20,8 +20,8 @@ after (c ∷ cs) page o = after cs page (after_call c page o)
 
 -- shadows that bar no frame from writes
 module _ {S : Type 0} where
-  abbrev pub TracksNone : (S → List ℕ) → Type 0
-  TracksNone write_protected = (s : S) → write_protected s ≡ []
+  abbrev pub ProtectsNone : (S → List ℕ) → Type 0
+  ProtectsNone write_protected = (s : S) → write_protected s ≡ []
 
 -- ---- over all pages, of what was kept and what is kept now
 

@@ -4,7 +4,7 @@ ghost use Rattle.std.specs.Prelude.{◌≡◌, ◌+◌, ◌≤◌, ◌<◌, [], 
 ghost use Rattle.frame_pool.specs.Pool.{free_list};
 ghost use Rattle.frame_pool.specs.Held.{Owns, Moves};
 ghost use Rattle.shadow_tables.specs.Calls.{IsFit, AreFit, fill_count, fills, BeginsWithFill};
-ghost use Rattle.shadow_tables.specs.Steps.{TracksNone, IsWithinCall, IsAfterCall, IsAfterAll, AllFollow, AllAdequateAfter};
+ghost use Rattle.shadow_tables.specs.Steps.{ProtectsNone, IsWithinCall, IsAfterCall, IsAfterAll, AllFollow, AllAdequateAfter};
 ghost use Rattle.shadow_tables.specs.Slots.{SameSlots};
 
 use crate::shadows::Shadows;
@@ -13,7 +13,7 @@ use frame_pool::Pool;
 use guest_ram::Ram;
 use paging::Entry;
 
-/// A call that changes what is kept or tracked.
+/// A call that changes what is kept or write-protected.
 #[derive(Clone, Copy)]
 pub enum Call {
     Fill(Side, Entry, bool),
@@ -36,7 +36,7 @@ fn apply<S: Shadows>(shadows: &mut S, ram: &mut Ram, pool: &mut Pool, call: Call
     ensures left { length (free_list pool.old ram.old) ≤ length (free_list pool.new ram.new) + fill_count call }
     ensures same { (IsTrue result → ⊥) → SameSlots (S.slots shadows.old ram.old) (S.slots shadows.new ram.new) }
     ensures within { IsTrue result → IsWithinCall call (S.slots shadows.old ram.old) (S.slots shadows.new ram.new) }
-    ensures slots { IsTrue result → TracksNone S.write_protected
+    ensures slots { IsTrue result → ProtectsNone S.write_protected
         → IsAfterCall call (S.slots shadows.old ram.old) (S.slots shadows.new ram.new) }
 {
     match call {
@@ -70,9 +70,9 @@ pub fn replay<S: Shadows>(shadows: &mut S, ram: &mut Ram, pool: &mut Pool, calls
     ensures all { fills calls.now ≤ length (free_list pool.old ram.old) → result ≡ length calls.now }
     ensures stopped { result < length calls.now → BeginsWithFill (drop result calls.now) × (free_list pool.new ram.new ≡ []) }
     ensures law { AllFollow (take result calls.now) (S.slots shadows.old ram.old) (S.slots shadows.new ram.new) }
-    ensures slots { TracksNone S.write_protected
+    ensures slots { ProtectsNone S.write_protected
         → IsAfterAll (take result calls.now) (S.slots shadows.old ram.old) (S.slots shadows.new ram.new) }
-    ensures adequate { TracksNone S.write_protected
+    ensures adequate { ProtectsNone S.write_protected
         → AllAdequateAfter (take result calls.now) (S.slots shadows.old ram.old) (S.slots shadows.new ram.new) }
 {
     let mut count = 0;

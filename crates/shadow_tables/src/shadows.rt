@@ -110,7 +110,7 @@ pub trait Shadows {
             → Moves p p ram.old ram.new (frames self.old ram.old) (frames self.new ram.new) };
 
     /// Drops the page in both views, and then holds it in one, with the host's rights that `allows` gives that view
-    /// under `wp`. A tracked frame is held without the right to write.
+    /// under `wp`. A write-protected frame is held without the right to write.
     fn fill(&mut self, ram: &mut Ram, pool: &mut Pool, side: Side, entry: Entry, wp: bool)
         requires stands { ∥ stands self.old ram.old ∥₁ }
         requires owns { Owns pool.old ram.old (frames self.old ram.old) }
@@ -142,7 +142,7 @@ pub trait Shadows {
         ensures owns { Owns pool.new ram.new (frames self.new ram.new) }
         ensures moves { Moves pool.old pool.new ram.old ram.new (frames self.old ram.old) (frames self.new ram.new) };
 
-    /// The guest's tables are read from this frame from now on. Where the frame is tracked then, no page of it is
+    /// The guest's tables are read from this frame from now on. Where the frame is write-protected then, no page of it is
     /// adequate for a write any more.
     fn note(&mut self, ram: &mut Ram, frame: u32)
         requires stands { ∥ stands self.old ram.old ∥₁ }
@@ -160,7 +160,7 @@ pub trait Shadows {
         ensures moves { (p : Pool) → Owns p ram.old (frames self.old ram.old)
             → Moves p p ram.old ram.new (frames self.old ram.old) (frames self.new ram.new) };
 
-    /// A byte of this frame was written, or is about to be. The frame isn't tracked any more; what is kept stays.
+    /// A byte of this frame was written, or is about to be. The frame isn't write-protected any more; what is kept stays.
     fn written(&mut self, ram: &mut Ram, pool: &mut Pool, frame: u32)
         requires stands { ∥ stands self.old ram.old ∥₁ }
         requires owns { Owns pool.old ram.old (frames self.old ram.old) }
@@ -195,7 +195,7 @@ pub trait Shadows {
     ghost fits: { (s : Self) (m : List ℕ) (page : ℕ) (slot : Slot) → ∥ stands s m ∥₁ → page < 2 ^ 20
         → slots s m page ≡ Some slot → (slot.entry.page ≡ page) × (slot.entry.frame < 2 ^ 20) };
 
-    /// No write to a tracked frame is adequate.
+    /// No write to a write-protected frame is adequate.
     ghost barred: { (s : Self) (m : List ℕ) (page : ℕ) (slot : Slot) → ∥ stands s m ∥₁ → page < 2 ^ 20
         → slots s m page ≡ Some slot → is_among slot.entry.frame (write_protected s) ≡ true → slot.writes ≡ false };
 
@@ -205,7 +205,7 @@ pub trait Shadows {
     ghost other_roots_barred: { (s : Self) (m : List ℕ) → ∥ stands s m ∥₁
         → AllBarred (λ f. is_among f (write_protected s)) (other_roots s m) };
 
-    /// The tables that what is kept was read from are tracked, as far as it may come back.
+    /// The tables that what is kept was read from are write-protected, as far as it may come back.
     ghost read_from_is_protected: { (s : Self) (frame : ℕ) → stale s ≡ false → read_from s frame ≡ true
         → is_among frame (write_protected s) ≡ true };
 
@@ -346,7 +346,7 @@ impl Shadows for Shadow {
         Shadow::drop_all(self, ram, pool);
     }
 
-    /// Nothing is tracked, and nothing comes back.
+    /// Nothing is write-protected, and nothing comes back.
     fn note(&mut self, ram: &mut Ram, _frame: u32)
         requires stands { ∥ IsShadow self.old ram.old ∥₁ }
         ensures still { (self.new ≡ self.old) × (ram.new ≡ ram.old) }
@@ -357,6 +357,6 @@ impl Shadows for Shadow {
         requires owns { Owns pool.old ram.old (held self.old ram.old) }
         ensures still { (self.new ≡ self.old) × (ram.new ≡ ram.old) × (pool.new ≡ pool.old) }
     {
-        // no frame is tracked, so none is lost
+        // no frame is write-protected, so none is lost
     }
 }

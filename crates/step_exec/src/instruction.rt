@@ -19,12 +19,12 @@ use descriptors::Cpu;
 use guest_ram::Ram;
 use ia32_exec::{Outcome, Ranges, effect, ranges};
 use ia32_types::Insn;
-use step_mem::{Kept, StepState};
+use step_mem::{StepState, Translations};
 use sys_exec::Refusal;
 
 /// Does an insensitive instruction. Both its ranges are tested for null segments before one is translated, and both
 /// are translated before a byte is read or written. Where it is not done the processor is as before.
-pub fn plain<B: Kept>(
+pub fn plain<B: Translations>(
     insn: &Insn,
     len: u8,
     cpu: &mut Cpu,
@@ -34,11 +34,11 @@ pub fn plain<B: Kept>(
 ) -> Result<(), Refusal>
     requires kind { IsDone insn.now.op }
     requires shape { IsShaped insn.now }
-    requires sound { IsSoundOver B.Kept kept.now ram.old state.old }
+    requires sound { IsSoundOver B.Translations kept.now ram.old state.old }
     requires room { state.old.pages ≤ 60 }
-    ensures sound { IsSoundOver B.Kept kept.now ram.new state.new }
-    ensures does { Leaves result cpu.new (space B.Kept kept.now ram.new state.new)
-        (executed insn.now len cpu.old (space B.Kept kept.now ram.old state.old)) }
+    ensures sound { IsSoundOver B.Translations kept.now ram.new state.new }
+    ensures does { Leaves result cpu.new (space B.Translations kept.now ram.new state.new)
+        (executed insn.now len cpu.old (space B.Translations kept.now ram.old state.old)) }
     ensures refused { OnErr result (cpu.new ≡ cpu.old) }
     ensures pages { state.new.pages ≤ state.old.pages + 4 }
     ensures control { state.new.control ≡ state.old.control }
@@ -49,7 +49,7 @@ pub fn plain<B: Kept>(
 }
 
 #[tactic(auto, unfolding(crate::specs::Divided::divided))]
-fn in_parts<B: Kept>(
+fn in_parts<B: Translations>(
     insn: &Insn,
     len: u8,
     cpu: &mut Cpu,
@@ -59,11 +59,11 @@ fn in_parts<B: Kept>(
 ) -> Result<(), Refusal>
     requires kind { IsDone insn.now.op }
     requires shape { IsShaped insn.now }
-    requires sound { IsSoundOver B.Kept kept.now ram.old state.old }
+    requires sound { IsSoundOver B.Translations kept.now ram.old state.old }
     requires room { state.old.pages ≤ 60 }
-    ensures sound { IsSoundOver B.Kept kept.now ram.new state.new }
-    ensures does { Leaves result cpu.new (space B.Kept kept.now ram.new state.new)
-        (divided insn.now len cpu.old (space B.Kept kept.now ram.old state.old)) }
+    ensures sound { IsSoundOver B.Translations kept.now ram.new state.new }
+    ensures does { Leaves result cpu.new (space B.Translations kept.now ram.new state.new)
+        (divided insn.now len cpu.old (space B.Translations kept.now ram.old state.old)) }
     ensures refused { OnErr result (cpu.new ≡ cpu.old) }
     ensures pages { state.new.pages ≤ state.old.pages + 4 }
     ensures stays { StaysIn state.old state.new ram.old ram.new }
@@ -74,7 +74,7 @@ fn in_parts<B: Kept>(
 }
 
 /// Translates both ranges of an instruction, unless a null segment denies one, and does nothing else.
-pub fn reach_both<B: Kept>(
+pub fn reach_both<B: Translations>(
     insn: &Insn,
     cpu: &Cpu,
     ram: &mut Ram,
@@ -82,11 +82,11 @@ pub fn reach_both<B: Kept>(
     state: &mut StepState,
 ) -> Result<(), Refusal>
     requires shape { IsShaped insn.now }
-    requires sound { IsSoundOver B.Kept kept.now ram.old state.old }
+    requires sound { IsSoundOver B.Translations kept.now ram.old state.old }
     requires room { state.old.pages ≤ 60 }
-    ensures sound { IsSoundOver B.Kept kept.now ram.new state.new }
-    ensures gives { Gives result (space B.Kept kept.now ram.new state.new)
-        (both_reached cpu.now (ranges_of insn.now cpu.now.regs) (space B.Kept kept.now ram.old state.old)) }
+    ensures sound { IsSoundOver B.Translations kept.now ram.new state.new }
+    ensures gives { Gives result (space B.Translations kept.now ram.new state.new)
+        (both_reached cpu.now (ranges_of insn.now cpu.now.regs) (space B.Translations kept.now ram.old state.old)) }
     ensures made { OnOk result (AreMade (ranges_of insn.now cpu.now.regs) state.new) }
     ensures pages { state.new.pages ≤ state.old.pages + 4 }
     ensures control { state.new.control ≡ state.old.control }
@@ -99,7 +99,7 @@ pub fn reach_both<B: Kept>(
 
 /// Translates two ranges, unless a null segment denies one.
 #[tactic(auto, unfolding(crate::specs::Divided::both_reached))]
-fn reach_in<B: Kept>(
+fn reach_in<B: Translations>(
     ranges: &Ranges,
     cpu: &Cpu,
     ram: &mut Ram,
@@ -107,11 +107,11 @@ fn reach_in<B: Kept>(
     state: &mut StepState,
 ) -> Result<(), Refusal>
     requires short { IsShort ranges.now.read × IsShort ranges.now.write }
-    requires sound { IsSoundOver B.Kept kept.now ram.old state.old }
+    requires sound { IsSoundOver B.Translations kept.now ram.old state.old }
     requires room { state.old.pages ≤ 60 }
-    ensures sound { IsSoundOver B.Kept kept.now ram.new state.new }
-    ensures gives { Gives result (space B.Kept kept.now ram.new state.new)
-        (both_reached cpu.now ranges.now (space B.Kept kept.now ram.old state.old)) }
+    ensures sound { IsSoundOver B.Translations kept.now ram.new state.new }
+    ensures gives { Gives result (space B.Translations kept.now ram.new state.new)
+        (both_reached cpu.now ranges.now (space B.Translations kept.now ram.old state.old)) }
     ensures made { OnOk result (AreMade ranges.now state.new) }
     ensures pages { state.new.pages ≤ state.old.pages + 4 }
     ensures stays { StaysIn state.old state.new ram.old ram.new }
@@ -128,7 +128,7 @@ fn reach_in<B: Kept>(
 
 /// Does an instruction whose ranges are these, and both translated.
 #[tactic(auto, unfolding(crate::specs::Divided::completed))]
-fn complete_in<B: Kept>(
+fn complete_in<B: Translations>(
     ranges: &Ranges,
     insn: &Insn,
     len: u8,
@@ -140,11 +140,11 @@ fn complete_in<B: Kept>(
     requires ranges { ranges.now ≡ ranges_of insn.now cpu.old.regs }
     requires kind { IsDone insn.now.op }
     requires shape { IsShaped insn.now }
-    requires sound { IsSoundOver B.Kept kept.now ram.old state.now }
+    requires sound { IsSoundOver B.Translations kept.now ram.old state.now }
     requires made { AreMade (ranges_of insn.now cpu.old.regs) state.now }
-    ensures sound { IsSoundOver B.Kept kept.now ram.new state.now }
-    ensures does { Leaves result cpu.new (space B.Kept kept.now ram.new state.now)
-        (completed insn.now len cpu.old (space B.Kept kept.now ram.old state.now)) }
+    ensures sound { IsSoundOver B.Translations kept.now ram.new state.now }
+    ensures does { Leaves result cpu.new (space B.Translations kept.now ram.new state.now)
+        (completed insn.now len cpu.old (space B.Translations kept.now ram.old state.now)) }
     ensures refused { OnErr result (cpu.new ≡ cpu.old) }
     ensures hidden { hidden state.now.guard state.now.control.frames ram.new ≡ hidden state.now.guard state.now.control.frames ram.old }
 {
@@ -159,7 +159,7 @@ fn complete_in<B: Kept>(
     }
 }
 
-fn outcome<B: Kept>(
+fn outcome<B: Translations>(
     ranges: &Ranges,
     insn: &Insn,
     len: u8,
@@ -171,10 +171,10 @@ fn outcome<B: Kept>(
     requires ranges { ranges.now ≡ ranges_of insn.now cpu.now.regs }
     requires kind { IsDone insn.now.op }
     requires shape { IsShaped insn.now }
-    requires sound { IsSoundOver B.Kept kept.now ram.now state.now }
+    requires sound { IsSoundOver B.Translations kept.now ram.now state.now }
     requires made { AreMade (ranges_of insn.now cpu.now.regs) state.now }
     ensures { result ≡ effect insn.now len cpu.now.regs
-        (byte_of (ranges_of insn.now cpu.now.regs) (space B.Kept kept.now ram.now state.now)) }
+        (byte_of (ranges_of insn.now cpu.now.regs) (space B.Translations kept.now ram.now state.now)) }
 {
     let view = View {
         ram,

@@ -8,22 +8,22 @@ ghost use Rattle.step_mem.specs.Sound.{IsSoundOver, space};
 use guest_ram::Ram;
 use ia32_types::Size;
 use paging::{Access, GuestMem, Touch};
-use step_mem::{Control, Guard, Kept, StepState};
+use step_mem::{Control, Guard, StepState, Translations};
 
 /// Memory in the middle of a step, whose state is the step's so far.
 #[derive(Drop)]
-pub struct StepMem<'a, 'g, B: Kept> {
+pub struct StepMem<'a, 'g, B: Translations> {
     ram: &'a mut Ram,
     kept: &'a B,
     state: StepState<'g>,
-    ghost sound: { IsSoundOver B.Kept kept.now ram.now state } by { Prim.hlevel props },
+    ghost sound: { IsSoundOver B.Translations kept.now ram.now state } by { Prim.hlevel props },
 }
 
-impl<'a, 'g, B: Kept> StepMem<'a, 'g, B> {
+impl<'a, 'g, B: Translations> StepMem<'a, 'g, B> {
     /// This state is the step's so far.
     pub fn over(ram: &'a mut Ram, kept: &'a B, state: &StepState<'g>) -> StepMem<'a, 'g, B>
-        requires { IsSoundOver B.Kept kept.now ram.old state.now }
-        ensures space { ⟦<StepMem<'a, 'g, B> as GuestMem>⟧.space result ≡ space B.Kept kept.now ram.old state.now }
+        requires { IsSoundOver B.Translations kept.now ram.old state.now }
+        ensures space { ⟦<StepMem<'a, 'g, B> as GuestMem>⟧.space result ≡ space B.Translations kept.now ram.old state.now }
         ensures same_memory { result.ram.ghost_name ≡ ram.entry.ghost_name }
         ensures memory { result.ram.now ≡ ram.old }
         ensures kept { result.kept.now ≡ kept.now }
@@ -39,14 +39,14 @@ impl<'a, 'g, B: Kept> StepMem<'a, 'g, B> {
     /// The state of the step so far.
     pub fn state(&self) -> StepState<'g>
         ensures state { result ≡ self.now.state }
-        ensures sound { IsSoundOver B.Kept self.now.kept.now self.now.ram.now result }
+        ensures sound { IsSoundOver B.Translations self.now.kept.now self.now.ram.now result }
     {
         self.state.copied()
     }
 }
 
-impl<'a, 'g, B: Kept> GuestMem for StepMem<'a, 'g, B> {
-    ghost space = { λ m. space B.Kept m.kept.now m.ram.now m.state };
+impl<'a, 'g, B: Translations> GuestMem for StepMem<'a, 'g, B> {
+    ghost space = { λ m. space B.Translations m.kept.now m.ram.now m.state };
 
     /// The name of the reference to memory, the keeper, the registers that govern a walk, whose rules hold, and
     /// what the step doesn't reach.

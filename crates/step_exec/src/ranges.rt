@@ -13,7 +13,7 @@ use guest_ram::Ram;
 use ia32_exec::{Range, Ranges};
 use ia32_types::Seg;
 use paging::Touch;
-use step_mem::{Kept, StepState};
+use step_mem::{StepState, Translations};
 use sys_exec::Refusal;
 
 fn is_null(cpu: &Cpu, seg: Seg) -> bool
@@ -41,7 +41,7 @@ pub fn is_refused(cpu: &Cpu, ranges: &Ranges) -> bool
 
 /// Translates a range, if there is one.
 #[tactic(auto, unfolding(descriptors::specs::Access::reaching))]
-pub fn reach<B: Kept>(
+pub fn reach<B: Translations>(
     ram: &mut Ram,
     kept: &B,
     state: &mut StepState,
@@ -49,12 +49,12 @@ pub fn reach<B: Kept>(
     write: bool,
     range: Option<Range>,
 ) -> Result<(), Refusal>
-    requires sound { IsSoundOver B.Kept kept.now ram.old state.old }
+    requires sound { IsSoundOver B.Translations kept.now ram.old state.old }
     requires room { state.old.pages ≤ 62 }
     requires short { IsShort range }
-    ensures sound { IsSoundOver B.Kept kept.now ram.new state.new }
-    ensures gives { Gives result (space B.Kept kept.now ram.new state.new)
-        (reached cpu.now write range (space B.Kept kept.now ram.old state.old)) }
+    ensures sound { IsSoundOver B.Translations kept.now ram.new state.new }
+    ensures gives { Gives result (space B.Translations kept.now ram.new state.new)
+        (reached cpu.now write range (space B.Translations kept.now ram.old state.old)) }
     ensures last { OnOk result (IsLast range write state.new) }
     ensures before { (other : Option Bytes) → IsReady other state.old → OnOk result (IsReadMade other range state.new) }
     ensures pages { state.new.pages ≤ state.old.pages + 2 }

@@ -14,7 +14,7 @@ use descriptors::Cpu;
 use guest_ram::Ram;
 use ia32_exec::{Outcome, Selectors, ranges, user_effect};
 use ia32_types::{Insn, Seg};
-use step_mem::{Kept, StepState};
+use step_mem::{StepState, Translations};
 
 fn selectors_of(cpu: &Cpu) -> Selectors
     ensures { result ≡ selectors_of cpu.now }
@@ -28,7 +28,7 @@ fn selectors_of(cpu: &Cpu) -> Selectors
 }
 
 /// The effect of an instruction whose ranges are both translated, as at level 3 and IOPL 0. Nothing is written.
-pub fn user_outcome<B: Kept>(
+pub fn user_outcome<B: Translations>(
     insn: &Insn,
     len: u8,
     cpu: &Cpu,
@@ -38,10 +38,10 @@ pub fn user_outcome<B: Kept>(
 ) -> Outcome
     requires kind { IsUserDone insn.now.op }
     requires shape { IsShaped insn.now }
-    requires sound { IsSoundOver B.Kept kept.now ram.now state.now }
+    requires sound { IsSoundOver B.Translations kept.now ram.now state.now }
     requires made { AreMade (ranges_of insn.now cpu.now.regs) state.now }
     ensures { result ≡ user_effect (selectors_of cpu.now) insn.now len cpu.now.regs
-        (byte_of (ranges_of insn.now cpu.now.regs) (space B.Kept kept.now ram.now state.now)) }
+        (byte_of (ranges_of insn.now cpu.now.regs) (space B.Translations kept.now ram.now state.now)) }
 {
     let view = View {
         ram,

@@ -6,11 +6,11 @@ ghost use Rattle.step_exec.specs.Plain.{is_in};
 use guest_ram::Ram;
 use ia32_exec::{LinearBytes, Range, Ranges};
 use ia32_types::Size;
-use step_mem::{Kept, StepState};
+use step_mem::{StepState, Translations};
 
 /// Memory with two translated ranges: what is read alone, as it was translated, and what is written.
 #[derive(Drop)]
-pub struct View<'a, B: Kept> {
+pub struct View<'a, B: Translations> {
     pub ram: &'a Ram,
     pub kept: &'a B,
     pub state: &'a StepState<'a>,
@@ -26,14 +26,14 @@ fn is_in(range: Option<Range>, at: u32) -> bool
     }
 }
 
-impl<B: Kept> LinearBytes for View<'_, B> {
+impl<B: Translations> LinearBytes for View<'_, B> {
     ghost use Rattle.step_mem.specs.Sound.{IsSoundOver, space};
     ghost use Rattle.step_exec.specs.Divided.{byte_of};
     ghost use Rattle.step_exec.specs.Ready.{IsOpen};
 
-    ghost byte = { λ m at. byte_of m.ranges (space B.Kept m.kept.now m.ram.now m.state.now) at };
+    ghost byte = { λ m at. byte_of m.ranges (space B.Translations m.kept.now m.ram.now m.state.now) at };
 
-    ghost readable = { λ m at. IsSoundOver B.Kept m.kept.now m.ram.now m.state.now × IsOpen m.ranges m.state.now at };
+    ghost readable = { λ m at. IsSoundOver B.Translations m.kept.now m.ram.now m.state.now × IsOpen m.ranges m.state.now at };
 
     ghost read_in_space = { λ m at h. h.1.space };
 

@@ -13,12 +13,12 @@ use descriptors::Cpu;
 use event_entry::{Kind, NotDelivered, deliver};
 use guest_ram::Ram;
 use ia32_types::Insn;
-use step_mem::{Kept, StepState};
+use step_mem::{StepState, Translations};
 use sys_exec::{SysEffect, sys};
 
 /// Does a sensitive instruction. Where it raises or stops, only CR2 may have changed.
 #[inline(never)]
-pub fn sys_in<'g, B: Kept>(
+pub fn sys_in<'g, B: Translations>(
     insn: &Insn,
     len: u8,
     cpu: &mut Cpu,
@@ -26,11 +26,11 @@ pub fn sys_in<'g, B: Kept>(
     kept: &B,
     state: &mut StepState<'g>,
 ) -> SysEffect
-    requires sound { IsSoundOver B.Kept kept.now ram.old state.old }
+    requires sound { IsSoundOver B.Translations kept.now ram.old state.old }
     requires pages { state.old.pages ≤ 48 }
-    ensures sound { IsSoundOver B.Kept kept.now ram.new state.new }
-    ensures does { told cpu.old (sys_work insn.now len cpu.old (space B.Kept kept.now ram.old state.old))
-        ≡ (result, cpu.new, space B.Kept kept.now ram.new state.new) }
+    ensures sound { IsSoundOver B.Translations kept.now ram.new state.new }
+    ensures does { told cpu.old (sys_work insn.now len cpu.old (space B.Translations kept.now ram.old state.old))
+        ≡ (result, cpu.new, space B.Translations kept.now ram.new state.new) }
     ensures asked { IsAsked result }
     ensures pages { state.new.pages ≤ state.old.pages + 16 }
     ensures control { state.new.control ≡ state.old.control }
@@ -45,7 +45,7 @@ pub fn sys_in<'g, B: Kept>(
 
 /// Delivers an event. After a refusal the processor is as before.
 #[inline(never)]
-pub fn deliver_in<'g, B: Kept>(
+pub fn deliver_in<'g, B: Translations>(
     cpu: &mut Cpu,
     ram: &mut Ram,
     kept: &B,
@@ -54,11 +54,11 @@ pub fn deliver_in<'g, B: Kept>(
     kind: Kind,
     code: Option<u32>,
 ) -> Result<(), NotDelivered>
-    requires sound { IsSoundOver B.Kept kept.now ram.old state.old }
+    requires sound { IsSoundOver B.Translations kept.now ram.old state.old }
     requires pages { state.old.pages ≤ 48 }
-    ensures sound { IsSoundOver B.Kept kept.now ram.new state.new }
-    ensures delivers { Leaves result cpu.new (space B.Kept kept.now ram.new state.new)
-        (delivered cpu.old vector kind code (space B.Kept kept.now ram.old state.old)) }
+    ensures sound { IsSoundOver B.Translations kept.now ram.new state.new }
+    ensures delivers { Leaves result cpu.new (space B.Translations kept.now ram.new state.new)
+        (delivered cpu.old vector kind code (space B.Translations kept.now ram.old state.old)) }
     ensures refused { OnErr result (cpu.new ≡ cpu.old) }
     ensures pages { state.new.pages ≤ state.old.pages + 16 }
     ensures control { state.new.control ≡ state.old.control }

@@ -7,7 +7,7 @@ use Rattle.paging.specs.declared.entry.Entry.{Entry}
 use Rattle.paging.specs.Space.{Space, place}
 use Rattle.step_mem.specs.declared.changes.Change.{Change}
 use Rattle.step_mem.specs.declared.guard.Guard.{Guard}
-use Rattle.step_mem.specs.declared.kept.Kept as kept
+use Rattle.step_mem.specs.declared.translations.Translations as translations
 use Rattle.step_mem.specs.declared.state.StepState.{StepState}
 use Rattle.step_mem.specs.declared.walking.Control.{Control}
 use Rattle.step_mem.specs.Changes.{changed, AreWithin, MoreOf}
@@ -38,7 +38,7 @@ pub record ChangesOne (page : ℕ) (old new : List Change) (set set2 : FinMap na
 abbrev pub KeepsReady : StepState → StepState → Space → Space → Type 0
 KeepsReady old new before after = (new.ready ≡ old.ready) × (new.wrote ≡ old.wrote) × (after.earlier ≡ before.earlier)
 
-module _ {B : Type 0} (g : kept.Ghosts B) (base : B) (control : Control) (guard : Guard) where
+module _ {B : Type 0} (g : translations.Ghosts B) (base : B) (control : Control) (guard : Guard) where
   -- The guest's frames lie in memory and below the keeper's floor, and in these the text and what each entry leads to.
   -- Memory is as the keeper left it, and there is room for a change and for two tables.
   pub record BeginsPage (ram : List ℕ) (changes : List Change) (tables : List ℕ) : Type 0 where

@@ -5,7 +5,7 @@ use Rattle.std.specs.Ordering.{nat_cmp}
 use Rattle.paging.specs.declared.entry.Entry.{Entry}
 use Rattle.paging.specs.Space.{Space}
 use Rattle.step_mem.specs.declared.guard.Guard.{Guard}
-use Rattle.step_mem.specs.declared.kept.Kept as kept
+use Rattle.step_mem.specs.declared.translations.Translations as translations
 use Rattle.step_mem.specs.declared.state.StepState.{StepState}
 use Rattle.step_mem.specs.declared.walking.Control.{Control}
 use Rattle.step_mem.specs.Changes.{changed, AreWithin, AreToldIn, HaveEntries}
@@ -59,10 +59,10 @@ pub record IsSound (kept : List ℕ → FinMap nat_cmp Entry) (floor : ℕ) (sta
   pub earlier_reached : HaveEntries (changed (kept ram) (take state.earlier.count state.changes)) state.earlier.start state.earlier.len
 
 -- what they stand for over a keeper of translations, and what holds of them, by what it shows
-abbrev pub space : {B : Type 0} → kept.Ghosts B → B → List ℕ → StepState → Space
+abbrev pub space : {B : Type 0} → translations.Ghosts B → B → List ℕ → StepState → Space
 space g base ram state = space_at (g.entries base) ram state
 
-abbrev pub IsSoundOver : {B : Type 0} → kept.Ghosts B → B → List ℕ → StepState → Type 0
+abbrev pub IsSoundOver : {B : Type 0} → translations.Ghosts B → B → List ℕ → StepState → Type 0
 IsSoundOver g base ram state = IsSound (g.entries base) (g.floor base) (g.stands base) ram state
 
 -- An access leaves what a walk goes by and all memory that a step doesn't reach, and the rules of the step.

@@ -16,26 +16,26 @@ ghost use Rattle.step_mem.specs.Sound.{IsSoundOver, space};
 
 use crate::changes::Change;
 use crate::guard::Guard;
-use crate::kept::Kept;
 use crate::page::look;
 use crate::shown::{Bytes, part, read, write};
 use crate::state::StepState;
+use crate::translations::Translations;
 use crate::walking::Control;
 use guest_ram::Ram;
 use ia32_types::Size;
 
 /// The bytes that lie in one page, where the last touch or fetch was ready.
-pub fn bytes<'a, B: Kept>(
+pub fn bytes<'a, B: Translations>(
     ram: &'a Ram,
     base: &B,
     state: &StepState<'a>,
     at: u32,
     len: u32,
 ) -> Bytes<'a>
-    requires sound { IsSoundOver B.Kept base.now ram.now state.now }
-    requires found { HasEntry (space B.Kept base.now ram.now state.now).set at }
+    requires sound { IsSoundOver B.Translations base.now ram.now state.now }
+    requires found { HasEntry (space B.Translations base.now ram.now state.now).set at }
     requires one { at % 4096 + len ≤ 4096 }
-    ensures bytes { result.text.now ++ result.ram.now ≡ bytes_from (space B.Kept base.now ram.now state.now) at len }
+    ensures bytes { result.text.now ++ result.ram.now ≡ bytes_from (space B.Translations base.now ram.now state.now) at len }
     ensures len { length result.text.now + length result.ram.now ≡ len }
 {
     part(
@@ -48,7 +48,7 @@ pub fn bytes<'a, B: Kept>(
 }
 
 /// The physical place of an address, after these changes.
-fn place_in<B: Kept>(
+fn place_in<B: Translations>(
     ram: &Ram,
     base: &B,
     guard: &Guard,
@@ -75,13 +75,13 @@ fn place_in<B: Kept>(
 
 /// The physical place of an address.
 #[tactic(auto, unfolding(paging::specs::Space::place))]
-pub fn place<B: Kept>(ram: &Ram, base: &B, state: &StepState, at: u32) -> u32
-    requires sound { IsSoundOver B.Kept base.now ram.now state.now }
-    requires found { HasEntry (space B.Kept base.now ram.now state.now).set at }
-    ensures place { result ≡ place (space B.Kept base.now ram.now state.now) at }
+pub fn place<B: Translations>(ram: &Ram, base: &B, state: &StepState, at: u32) -> u32
+    requires sound { IsSoundOver B.Translations base.now ram.now state.now }
+    requires found { HasEntry (space B.Translations base.now ram.now state.now).set at }
+    ensures place { result ≡ place (space B.Translations base.now ram.now state.now) at }
     ensures offset { result % 4096 ≡ at % 4096 }
     ensures within { result < 4096 * state.now.control.frames }
-    ensures apart { IsApartAt (mode_of state.now.guard) (space B.Kept base.now ram.now state.now).set at
+    ensures apart { IsApartAt (mode_of state.now.guard) (space B.Translations base.now ram.now state.now).set at
         → is_text (mode_of state.now.guard) (result / 4096) ≡ false }
 {
     place_in(
@@ -94,7 +94,14 @@ pub fn place<B: Kept>(ram: &Ram, base: &B, state: &StepState, at: u32) -> u32
     )
 }
 
-fn byte<B: Kept>(ram: &Ram, base: &B, guard: &Guard, frames: u32, changes: &[Change], at: u32) -> u8
+fn byte<B: Translations>(
+    ram: &Ram,
+    base: &B,
+    guard: &Guard,
+    frames: u32,
+    changes: &[Change],
+    at: u32,
+) -> u8
     requires frames { 4096 * frames ≤ length ram.now }
     requires laid { IsLaid guard.now.text.now frames }
     requires stands { ∥ B.stands base.now ram.now ∥₁ }
@@ -109,7 +116,7 @@ fn byte<B: Kept>(ram: &Ram, base: &B, guard: &Guard, frames: u32, changes: &[Cha
 
 /// Reads a number, after these changes.
 #[tactic(auto, unfolding(paging::specs::Space::loaded, paging::specs::Space::byte_at, paging::specs::Space::place))]
-fn number<B: Kept>(
+fn number<B: Translations>(
     ram: &Ram,
     base: &B,
     guard: &Guard,
@@ -149,7 +156,7 @@ fn number<B: Kept>(
 
 /// Reads a number of four bytes that lie in one page, after these changes.
 #[tactic(auto, unfolding(paging::specs::Space::loaded, paging::specs::Space::byte_at, paging::specs::Space::place))]
-fn long_in_page<B: Kept>(
+fn long_in_page<B: Translations>(
     ram: &Ram,
     base: &B,
     guard: &Guard,
@@ -176,10 +183,10 @@ fn long_in_page<B: Kept>(
 }
 
 /// Reads where each byte's page has an entry, as where this step's touches were ready.
-pub fn load<B: Kept>(ram: &Ram, base: &B, state: &StepState, at: u32, size: Size) -> u32
-    requires sound { IsSoundOver B.Kept base.now ram.now state.now }
-    requires ready { IsReadable (space B.Kept base.now ram.now state.now) at (size_in_bytes size) }
-    ensures value { result ≡ loaded (space B.Kept base.now ram.now state.now) at size }
+pub fn load<B: Translations>(ram: &Ram, base: &B, state: &StepState, at: u32, size: Size) -> u32
+    requires sound { IsSoundOver B.Translations base.now ram.now state.now }
+    requires ready { IsReadable (space B.Translations base.now ram.now state.now) at (size_in_bytes size) }
+    ensures value { result ≡ loaded (space B.Translations base.now ram.now state.now) at size }
     ensures fits { FitsSize size result }
 {
     number(
@@ -194,10 +201,16 @@ pub fn load<B: Kept>(ram: &Ram, base: &B, state: &StepState, at: u32, size: Size
 }
 
 /// Reads where the touch before the last was ready, at the places that its range had then.
-pub fn load_earlier<B: Kept>(ram: &Ram, base: &B, state: &StepState, at: u32, size: Size) -> u32
-    requires sound { IsSoundOver B.Kept base.now ram.now state.now }
-    requires ready { IsReadyEarlier (space B.Kept base.now ram.now state.now) at size }
-    ensures value { result ≡ loaded_earlier (space B.Kept base.now ram.now state.now) at size }
+pub fn load_earlier<B: Translations>(
+    ram: &Ram,
+    base: &B,
+    state: &StepState,
+    at: u32,
+    size: Size,
+) -> u32
+    requires sound { IsSoundOver B.Translations base.now ram.now state.now }
+    requires ready { IsReadyEarlier (space B.Translations base.now ram.now state.now) at size }
+    ensures value { result ≡ loaded_earlier (space B.Translations base.now ram.now state.now) at size }
     ensures fits { FitsSize size result }
 {
     let changes = &state.changes.as_slice()[..state.earlier.count];
@@ -213,14 +226,15 @@ pub fn load_earlier<B: Kept>(ram: &Ram, base: &B, state: &StepState, at: u32, si
 }
 
 /// Writes a byte of the guest's.
-fn put_byte<B: Kept>(ram: &mut Ram, base: &B, state: &StepState, at: u32, v: u8)
-    requires sound { IsSoundOver B.Kept base.now ram.old state.now }
-    requires found { HasEntry (space B.Kept base.now ram.old state.now).set at }
-    requires apart { IsApartAt (mode_of state.now.guard) (space B.Kept base.now ram.old state.now).set at }
-    ensures sound { IsSoundOver B.Kept base.now ram.new state.now }
+fn put_byte<B: Translations>(ram: &mut Ram, base: &B, state: &StepState, at: u32, v: u8)
+    requires sound { IsSoundOver B.Translations base.now ram.old state.now }
+    requires found { HasEntry (space B.Translations base.now ram.old state.now).set at }
+    requires apart { IsApartAt (mode_of state.now.guard) (space B.Translations base.now ram.old state.now).set at }
+    ensures sound { IsSoundOver B.Translations base.now ram.new state.now }
     ensures hidden { hidden state.now.guard state.now.control.frames ram.new ≡ hidden state.now.guard state.now.control.frames ram.old }
-    ensures after { space B.Kept base.now ram.new state.now ≡ with_ram (space B.Kept base.now ram.old state.now)
-        (in_ram.with_byte (space B.Kept base.now ram.old state.now).ram (place (space B.Kept base.now ram.old state.now) at) v) }
+    ensures after { space B.Translations base.now ram.new state.now ≡ with_ram (space B.Translations base.now ram.old state.now)
+        (in_ram.with_byte (space B.Translations base.now ram.old state.now).ram
+        (place (space B.Translations base.now ram.old state.now) at) v) }
 {
     let physical = place(ram, base, state, at);
     put_at(ram, base, state, at, physical, v);
@@ -228,30 +242,38 @@ fn put_byte<B: Kept>(ram: &mut Ram, base: &B, state: &StepState, at: u32, v: u8)
 
 /// Writes a byte of the guest's, whose address has this physical place. It lies below the floor, so no kept translation
 /// changes.
-fn put_at<B: Kept>(ram: &mut Ram, base: &B, state: &StepState, at: u32, physical: u32, v: u8)
-    requires sound { IsSoundOver B.Kept base.now ram.old state.now }
-    requires place { physical ≡ place (space B.Kept base.now ram.old state.now) at }
+fn put_at<B: Translations>(
+    ram: &mut Ram,
+    base: &B,
+    state: &StepState,
+    at: u32,
+    physical: u32,
+    v: u8,
+)
+    requires sound { IsSoundOver B.Translations base.now ram.old state.now }
+    requires place { physical ≡ place (space B.Translations base.now ram.old state.now) at }
     requires within { physical < 4096 * state.now.control.frames }
     requires no_text { is_text (mode_of state.now.guard) (physical / 4096) ≡ false }
-    ensures sound { IsSoundOver B.Kept base.now ram.new state.now }
+    ensures sound { IsSoundOver B.Translations base.now ram.new state.now }
     ensures hidden { hidden state.now.guard state.now.control.frames ram.new ≡ hidden state.now.guard state.now.control.frames ram.old }
-    ensures after { space B.Kept base.now ram.new state.now ≡ with_ram (space B.Kept base.now ram.old state.now)
-        (in_ram.with_byte (space B.Kept base.now ram.old state.now).ram (place (space B.Kept base.now ram.old state.now) at) v) }
+    ensures after { space B.Translations base.now ram.new state.now ≡ with_ram (space B.Translations base.now ram.old state.now)
+        (in_ram.with_byte (space B.Translations base.now ram.old state.now).ram
+        (place (space B.Translations base.now ram.old state.now) at) v) }
 {
     write(ram, &state.guard, state.control.frames, physical, v);
 }
 
 /// Writes a number of four bytes that lie in one page.
 #[tactic(auto, unfolding(paging::specs::Space::written, paging::specs::Space::place))]
-fn save_in_page<B: Kept>(ram: &mut Ram, base: &B, state: &StepState, at: u32, value: u32)
-    requires sound { IsSoundOver B.Kept base.now ram.old state.now }
-    requires found { HasEntry (space B.Kept base.now ram.old state.now).set at }
-    requires apart { IsApartAt (mode_of state.now.guard) (space B.Kept base.now ram.old state.now).set at }
+fn save_in_page<B: Translations>(ram: &mut Ram, base: &B, state: &StepState, at: u32, value: u32)
+    requires sound { IsSoundOver B.Translations base.now ram.old state.now }
+    requires found { HasEntry (space B.Translations base.now ram.old state.now).set at }
+    requires apart { IsApartAt (mode_of state.now.guard) (space B.Translations base.now ram.old state.now).set at }
     requires one { at % 4096 ≤ 4092 }
-    ensures sound { IsSoundOver B.Kept base.now ram.new state.now }
+    ensures sound { IsSoundOver B.Translations base.now ram.new state.now }
     ensures hidden { hidden state.now.guard state.now.control.frames ram.new ≡ hidden state.now.guard state.now.control.frames ram.old }
-    ensures saved { space B.Kept base.now ram.new state.now
-        ≡ saved (space B.Kept base.now ram.old state.now) at Size.Long value }
+    ensures saved { space B.Translations base.now ram.new state.now
+        ≡ saved (space B.Translations base.now ram.old state.now) at Size.Long value }
 {
     let physical = place(ram, base, state, at);
     put_at(ram, base, state, at, physical, (value % 256) as u8);
@@ -283,13 +305,20 @@ fn save_in_page<B: Kept>(ram: &mut Ram, base: &B, state: &StepState, at: u32, va
 
 /// Writes where each byte's page has an entry that leads to no text, as where this step's touches were ready for a write.
 #[tactic(auto, unfolding(paging::specs::Space::written, paging::specs::Space::place))]
-pub fn save<B: Kept>(ram: &mut Ram, base: &B, state: &StepState, at: u32, size: Size, value: u32)
-    requires sound { IsSoundOver B.Kept base.now ram.old state.now }
-    requires ready { IsWritable (space B.Kept base.now ram.old state.now) at (size_in_bytes size) }
-    ensures sound { IsSoundOver B.Kept base.now ram.new state.now }
+pub fn save<B: Translations>(
+    ram: &mut Ram,
+    base: &B,
+    state: &StepState,
+    at: u32,
+    size: Size,
+    value: u32,
+)
+    requires sound { IsSoundOver B.Translations base.now ram.old state.now }
+    requires ready { IsWritable (space B.Translations base.now ram.old state.now) at (size_in_bytes size) }
+    ensures sound { IsSoundOver B.Translations base.now ram.new state.now }
     ensures hidden { hidden state.now.guard state.now.control.frames ram.new ≡ hidden state.now.guard state.now.control.frames ram.old }
-    ensures saved { space B.Kept base.now ram.new state.now
-        ≡ saved (space B.Kept base.now ram.old state.now) at size value }
+    ensures saved { space B.Translations base.now ram.new state.now
+        ≡ saved (space B.Translations base.now ram.old state.now) at size value }
 {
     match size {
         Size::Byte => put_byte(ram, base, state, at, (value % 256) as u8),

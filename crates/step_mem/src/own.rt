@@ -9,17 +9,17 @@ ghost use Rattle.step_mem.specs.Sound.{IsSoundOver, space};
 
 use crate::access::place;
 use crate::guard::Own;
-use crate::kept::Kept;
 use crate::state::StepState;
+use crate::translations::Translations;
 use guest_ram::Ram;
 
 /// The bytes at an address are those of this step's instruction in its first page, and so far its only ones.
-pub fn own_front<B: Kept>(ram: &Ram, base: &B, state: &mut StepState, at: u32, len: u32)
-    requires sound { IsSoundOver B.Kept base.now ram.now state.old }
-    requires found { HasEntry (space B.Kept base.now ram.now state.old).set at }
-    ensures sound { IsSoundOver B.Kept base.now ram.now state.new }
-    ensures owns { space B.Kept base.now ram.now state.new ≡ record (space B.Kept base.now ram.now state.old) {
-      mode = with_front (mode_of state.old.guard) (place (space B.Kept base.now ram.now state.old) at) len;
+pub fn own_front<B: Translations>(ram: &Ram, base: &B, state: &mut StepState, at: u32, len: u32)
+    requires sound { IsSoundOver B.Translations base.now ram.now state.old }
+    requires found { HasEntry (space B.Translations base.now ram.now state.old).set at }
+    ensures sound { IsSoundOver B.Translations base.now ram.now state.new }
+    ensures owns { space B.Translations base.now ram.now state.new ≡ record (space B.Translations base.now ram.now state.old) {
+      mode = with_front (mode_of state.old.guard) (place (space B.Translations base.now ram.now state.old) at) len;
     } }
     ensures pages { state.new.pages ≡ state.old.pages }
     ensures control { state.new.control ≡ state.old.control }
@@ -39,12 +39,12 @@ pub fn own_front<B: Kept>(ram: &Ram, base: &B, state: &mut StepState, at: u32, l
 }
 
 /// The bytes at an address are those of this step's instruction in its second page.
-pub fn own_back<B: Kept>(ram: &Ram, base: &B, state: &mut StepState, at: u32, len: u32)
-    requires sound { IsSoundOver B.Kept base.now ram.now state.old }
-    requires found { HasEntry (space B.Kept base.now ram.now state.old).set at }
-    ensures sound { IsSoundOver B.Kept base.now ram.now state.new }
-    ensures owns { space B.Kept base.now ram.now state.new ≡ record (space B.Kept base.now ram.now state.old) {
-      mode = with_back (mode_of state.old.guard) (place (space B.Kept base.now ram.now state.old) at) len;
+pub fn own_back<B: Translations>(ram: &Ram, base: &B, state: &mut StepState, at: u32, len: u32)
+    requires sound { IsSoundOver B.Translations base.now ram.now state.old }
+    requires found { HasEntry (space B.Translations base.now ram.now state.old).set at }
+    ensures sound { IsSoundOver B.Translations base.now ram.now state.new }
+    ensures owns { space B.Translations base.now ram.now state.new ≡ record (space B.Translations base.now ram.now state.old) {
+      mode = with_back (mode_of state.old.guard) (place (space B.Translations base.now ram.now state.old) at) len;
     } }
     ensures pages { state.new.pages ≡ state.old.pages }
     ensures control { state.new.control ≡ state.old.control }

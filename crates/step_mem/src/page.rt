@@ -12,7 +12,7 @@ ghost use Rattle.step_mem.specs.Tables.{tables as tables_at};
 
 use crate::changes::{Change, Changes, change_of, last_change};
 use crate::guard::{Guard, is_barred};
-use crate::kept::Kept;
+use crate::translations::Translations;
 use crate::visited::Visited;
 use crate::walking::{Control, decide, note_tables};
 use guest_ram::Ram;
@@ -33,7 +33,7 @@ pub struct PageUse {
 
 /// The entry of a page in the set of now.
 #[tactic(auto, using(crate::proofs::Changed::get_changed))]
-pub fn look<B: Kept>(ram: &Ram, base: &B, changes: &[Change], page: u32) -> Option<Entry>
+pub fn look<B: Translations>(ram: &Ram, base: &B, changes: &[Change], page: u32) -> Option<Entry>
     requires { ∥ B.stands base.now ram.now ∥₁ }
     ensures { result ≡ get (changed (B.entries base.now ram.now) changes.now) page }
 {
@@ -44,7 +44,7 @@ pub fn look<B: Kept>(ram: &Ram, base: &B, changes: &[Change], page: u32) -> Opti
 }
 
 /// The page's entry leaves the set, and a fresh walk decides.
-fn settle<B: Kept>(
+fn settle<B: Translations>(
     ram: &mut Ram,
     base: &B,
     control: Control,
@@ -53,14 +53,14 @@ fn settle<B: Kept>(
     tables: &mut Visited,
     asked: PageUse,
 ) -> Touch
-    requires begins { BeginsPage B.Kept base.now control guard.now ram.old changes.old tables.old }
+    requires begins { BeginsPage B.Translations base.now control guard.now ram.old changes.old tables.old }
     requires page { asked.page < 2 ^ 20 }
     ensures settled { (rest : Rest)
         → settled (space_of (B.entries base.now) ram.old control guard.now changes.old (with_tables rest tables.old)) asked.page
         (decided (tables_at ram.old control guard.now) asked.fetch asked.page asked.at asked.access)
         ≡ (result, space_of (B.entries base.now) ram.new control guard.now changes.new (with_tables rest tables.new)) }
     ensures noted { length tables.new ≤ length tables.old + 2 }
-    ensures leaves { LeavesPage B.Kept base.now control guard.now ram.old ram.new changes.new }
+    ensures leaves { LeavesPage B.Translations base.now control guard.now ram.old ram.new changes.new }
     ensures counted { length changes.new ≡ length changes.old + 1 }
     ensures changes { ChangesOne asked.page changes.old changes.new (changed (B.entries base.now ram.old) changes.old)
         (changed (B.entries base.now ram.new) changes.new) }
@@ -82,7 +82,7 @@ fn settle<B: Kept>(
 
 /// Translates one page of a range.
 #[tactic(auto, unfolding(paging::specs::Uses::page_uses))]
-pub fn page_use<B: Kept>(
+pub fn page_use<B: Translations>(
     ram: &mut Ram,
     base: &B,
     control: Control,
@@ -91,14 +91,14 @@ pub fn page_use<B: Kept>(
     tables: &mut Visited,
     asked: PageUse,
 ) -> Touch
-    requires begins { BeginsPage B.Kept base.now control guard.now ram.old changes.old tables.old }
+    requires begins { BeginsPage B.Translations base.now control guard.now ram.old changes.old tables.old }
     requires page { asked.page < 2 ^ 20 }
     ensures uses { (rest : Rest)
         → page_uses (space_of (B.entries base.now) ram.old control guard.now changes.old (with_tables rest tables.old))
         asked.fetch asked.page asked.at asked.access
         ≡ (result, space_of (B.entries base.now) ram.new control guard.now changes.new (after_page rest asked.page tables.new)) }
     ensures noted { length tables.new ≤ length tables.old + 2 }
-    ensures leaves { LeavesPage B.Kept base.now control guard.now ram.old ram.new changes.new }
+    ensures leaves { LeavesPage B.Translations base.now control guard.now ram.old ram.new changes.new }
     ensures counted { length changes.new ≤ length changes.old + 1 }
     ensures changes { ChangesOne asked.page changes.old changes.new (changed (B.entries base.now ram.old) changes.old)
         (changed (B.entries base.now ram.new) changes.new) }

@@ -23,8 +23,8 @@ use Rattle.wedge_core.specs.Promises.{with_patches}
 use Rattle.wedge_core.specs.Slices.{PausesAs}
 use Rattle.wedge_core.proofs.SlicedBy.{SliceAs}
 use Rattle.wedge_core.proofs.WholeRuns.{text_is, ends_by, count_by, memory_by, has_fills}
-use Rattle.trace_check.specs.Kept.{choices_of}
-use Rattle.trace_check.specs.NotesKept.{Kept, AreKept}
+use Rattle.trace_check.specs.ChoicesTold.{choices_of}
+use Rattle.trace_check.specs.NotesKept.{KeptChoices, AreKept}
 use Rattle.trace_check.specs.Judged.{judged}
 use Rattle.trace_check.specs.Runs.{StopsTold}
 use Rattle.trace_check.specs.RunLaws.{NotesAreJudged, NotesAreChoices}
@@ -91,7 +91,7 @@ within m n last new end Reached h = let at = h.0 in omega (arith, at)
 within m n last new end (Stopped stop) h = let lt = h.0 in omega (arith, lt)
 
 -- The slice from the start that keeps its notes.
-abbrev Sliced : Image → Events → ℕ → ℕ → State → State → Counts → Counts → Option (List ℕ) → Option (List ℕ) → ℕ → ℕ → ℕ → Kept → Kept → Type 0 → Pause → Type 0
+abbrev Sliced : Image → Events → ℕ → ℕ → State → State → Counts → Counts → Option (List ℕ) → Option (List ℕ) → ℕ → ℕ → ℕ → KeptChoices → KeptChoices → Type 0 → Pause → Type 0
 Sliced image script frames n old new before after told tells pages fills filled kept kept_after begins pause =
     SliceAs (wedge image script frames) n old new before after told tells pages fills filled true (NotesOn true (AreKept kept) (AreKept kept_after)) begins (Ok pause)
 
@@ -101,7 +101,7 @@ around_of old new before now counts counts_after =
     record { taken = old; taken_after = new; faults = before; faults_after = now; counts = counts; counts_after = counts_after }
 
 -- all lines and the last one were put
-pub noted_put : (image : Image) (script : Events) (frames n : ℕ) (old new : State) (counts counts_after : Counts) (a b c : Option (List ℕ)) (pages fills filled : ℕ) (kept kept_after : Kept) (begins : Type 0) (pause : Pause) (before mid now : ℕ) (memory : List ℕ)
+pub noted_put : (image : Image) (script : Events) (frames n : ℕ) (old new : State) (counts counts_after : Counts) (a b c : Option (List ℕ)) (pages fills filled : ℕ) (kept kept_after : KeptChoices) (begins : Type 0) (pause : Pause) (before mid now : ℕ) (memory : List ℕ)
     → NotesAreJudged → NotesAreChoices → n ≤ 2 ^ 40 → AreKept kept []
     → need image ≤ frames → old ≡ boot (wedge image script frames) → pages ≡ 0 → fills ≡ 0 → filled ≤ 128 * new.step → IfReached (Ok pause) (take (4096 * frames) memory ≡ with_patches image new.ram)
     → Sliced image script frames n old new counts counts_after a b pages fills filled kept kept_after begins pause → Appends b c (end_line new.step (end_of pause)) → before ≤ mid → mid ≤ now

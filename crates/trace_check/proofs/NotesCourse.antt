@@ -30,7 +30,7 @@ use Rattle.machine_model.proofs.Works.{halts_agrees, went_agrees}
 use Rattle.trace_check.specs.declared.list.Choice.{Choice}
 use Rattle.trace_check.specs.declared.answer.CourseEnd.TheVariants.{Ended}
 use Rattle.trace_check.specs.declared.answer.Verdict.TheVariants.{Yes, YesBefore}
-use Rattle.trace_check.specs.Kept.{choices_of}
+use Rattle.trace_check.specs.ChoicesTold.{choices_of}
 use Rattle.trace_check.specs.Lines.{lines, last_of, before_last, differing, steps_told, stop_told}
 use Rattle.trace_check.specs.Courses.{Course, chosen, after_step, after_choices, course, course_of}
 use Rattle.trace_check.specs.Judged.{unless_differs, judged_whole, judged_before, judged_by, judged}

@@ -7,7 +7,7 @@ use Rattle.run_trace.specs.Notes.{Note, emptied_at, dropped_at}
 use Rattle.machine_model.specs.Notes.{step_in, is_ordered, IsPage}
 use Rattle.trace_check.specs.declared.list.Choice.{Choice}
 use Rattle.trace_check.specs.Form.{AreFrom}
-use Rattle.trace_check.specs.Kept.{choices_of}
+use Rattle.trace_check.specs.ChoicesTold.{choices_of}
 use Rattle.trace_check.specs.RunLaws.{NotesAreChoices}
 
 as_many : (notes : List Note) → length (choices_of notes) ≡ length notes

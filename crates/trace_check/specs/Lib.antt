@@ -3,7 +3,7 @@ pub mod Form
 pub mod ReadBack
 pub mod Reading
 pub mod Slots
-pub mod Kept
+pub mod ChoicesTold
 pub mod NotesKept
 pub mod Lines
 pub mod Courses

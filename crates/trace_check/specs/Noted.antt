@@ -16,12 +16,12 @@ use Rattle.machine_model.specs.Notes.{AreTold, AreNotes}
 use Rattle.wedge_core.specs.Surroundings.{Around, RefusedWedge}
 use Rattle.wedge_core.specs.Counts.{CountsOn}
 use Rattle.wedge_core.specs.Promises.{HasMemory, HasFills}
-use Rattle.trace_check.specs.NotesKept.{Kept, AreKept}
+use Rattle.trace_check.specs.NotesKept.{KeptChoices, AreKept}
 use Rattle.trace_check.specs.Runs.{StopsTold}
 use Rattle.trace_check.specs.Proved.{IsProved}
 
 -- The notes tell the translations that each step of a run went by, the one that stops included, and are kept.
-pub record TellsSets (image : Image) (script : Events) (frames : ℕ) (sets : List Set) (last : State) (end : End) (kept : Kept) (notes : List Note) : Type 0 where
+pub record TellsSets (image : Image) (script : Events) (frames : ℕ) (sets : List Set) (last : State) (end : End) (kept : KeptChoices) (notes : List Note) : Type 0 where
   pub are_kept : AreKept kept notes
   pub told : AreTold (wedge image script frames) (boot (wedge image script frames)) sets notes
   pub are : AreNotes (wedge image script frames) (boot (wedge image script frames)) sets last.step notes
@@ -30,7 +30,7 @@ pub record TellsSets (image : Image) (script : Events) (frames : ℕ) (sets : Li
 -- One run from the start has this text, count of steps and end. The host completed exactly its direct instructions, and where
 -- it has done all its steps, its memory is the host's first frames with the text patched. Its notes are kept, and prove its
 -- text.
-pub record NotedRun (image : Image) (script : Events) (frames n : ℕ) (text : List ℕ) (ended : Ended) (a : Around) (memory : List ℕ) (kept : Kept) : Type 0 where
+pub record NotedRun (image : Image) (script : Events) (frames n : ℕ) (text : List ℕ) (ended : Ended) (a : Around) (memory : List ℕ) (kept : KeptChoices) : Type 0 where
   pub sets : List Set
   pub reports : List Report
   pub last : State
@@ -44,7 +44,7 @@ pub record NotedRun (image : Image) (script : Events) (frames n : ℕ) (text : L
   pub proved : IsProved image script frames n text ended.end notes
 
 -- what stands after such a run, with the notes that are kept and the host's memory
-abbrev pub NotedAnswers : Image → Events → ℕ → ℕ → Kept → Around → List ℕ → Result Ended RunFault → Type 0
+abbrev pub NotedAnswers : Image → Events → ℕ → ℕ → KeptChoices → Around → List ℕ → Result Ended RunFault → Type 0
 NotedAnswers image script frames n kept a memory (Ok ended) =
     (text : List ℕ) × (run : NotedRun image script frames n text ended a memory kept) × (need image ≤ frames)
     × HasFills (wedge image script frames) run.sets run.last ended.fills × Appends a.taken a.taken_after text × (a.faults ≤ a.faults_after)

@@ -5,7 +5,7 @@ use Rattle.image_check.specs.Image.{Image}
 use Rattle.run_trace.specs.declared.items.End.{End}
 use Rattle.run_trace.specs.Notes.{Note}
 use Rattle.trace_check.specs.Form.{AreChoices, most_choices}
-use Rattle.trace_check.specs.Kept.{choices_of}
+use Rattle.trace_check.specs.ChoicesTold.{choices_of}
 use Rattle.trace_check.specs.Judged.{judged}
 use Rattle.trace_check.specs.Runs.{verdict_of}
 

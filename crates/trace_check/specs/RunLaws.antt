@@ -13,7 +13,7 @@ use Rattle.machine_model.specs.Notes.{AreTold, AreNotes}
 use Rattle.trace_check.specs.declared.list.Choice.{Choice}
 use Rattle.trace_check.specs.declared.answer.Verdict.TheVariants.{Yes, YesBefore}
 use Rattle.trace_check.specs.Form.{AreChoices, most_choices}
-use Rattle.trace_check.specs.Kept.{choices_of}
+use Rattle.trace_check.specs.ChoicesTold.{choices_of}
 use Rattle.trace_check.specs.Judged.{judged}
 use Rattle.trace_check.specs.Runs.{IsRunText, AreItemsBefore, verdict_of, StopsTold}
 

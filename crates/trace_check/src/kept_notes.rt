@@ -3,7 +3,7 @@
 ghost use Rattle.std.specs.Prelude.{◌≡◌, ◌++◌, ◌∷◌, [], ◌<◌, ◌≤◌, List, true, false, length, IfOk, MatchOption};
 ghost use Rattle.run_trace.specs.Notes.{Note, emptied_at, dropped_at};
 ghost use Rattle.trace_check.specs.Form.{most_choices};
-ghost use Rattle.trace_check.specs.Kept.{choices_of};
+ghost use Rattle.trace_check.specs.ChoicesTold.{choices_of};
 ghost use Rattle.trace_check.specs.NotesKept.{AreKept};
 
 use crate::list::{Choice, ChoiceKind, Choices};
@@ -22,9 +22,9 @@ pub struct KeptNotes {
 impl Model for KeptNotes {
     ghost use Rattle.std.specs.Prelude.{◌≤◌, length};
     ghost use Rattle.trace_check.specs.Form.{most_choices};
-    ghost use Rattle.trace_check.specs.NotesKept.{Kept};
+    ghost use Rattle.trace_check.specs.NotesKept.{KeptChoices};
 
-    ghost Value = { Kept };
+    ghost Value = { KeptChoices };
 
     ghost view = { λ k. record { list = k.choices.list; more = k.more } };
 

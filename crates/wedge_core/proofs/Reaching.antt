@@ -54,7 +54,7 @@ reached_now image side wp s old new pages write_protected memory root page write
     let slot = filled (is_among g.entry.frame write_protected) side g.entry wp in
     let kept : new page ≡ Some slot = closes.settles.through page small there ∙ ap (filled_by side wp write_protected) g.kept in
     let allowed : allows g.entry (record { write = write; user = is_user side }) wp ≡ true = ap (λ (u : Bool). allows g.entry (record { write = write; user = u }) wp) (sym (user_is side)) ∙ g.allowed in
-    let adequate = lets_pass write_protected side g.entry wp write allowed (λ w. closes.untracked g.entry.frame (contains_among s.wrote g.entry.frame (g.told w))) in (
+    let adequate = lets_pass write_protected side g.entry wp write allowed (λ w. closes.unprotected g.entry.frame (contains_among s.wrote g.entry.frame (g.told w))) in (
       g.entry.frame,
       host
           ∙ ap (λ (o : Option Slot). lent (length memory / 4096) o side write) kept

@@ -67,21 +67,21 @@ roots_on m cpu ram then size room long test same (a ∷ other_roots) t h = (
 
 module _ {S : Type 0} (shows : shadows.Ghosts S) where
   -- the laws of shadows that speak of tables
-  pub record Tracks : Type 0 where
+  pub record Protects : Type 0 where
     pub host : (s : S) (m : List ℕ) (n : ℕ) (side : Side) (page : ℕ) (write : Bool) → ∥ shows.stands s m ∥₁ → 4096 * n ≡ length m → page < 2 ^ 20 → reached m n (shows.directory s side) page write ≡ lent n (shows.slots s m page) side write
     pub barred : (s : S) (m : List ℕ) (page : ℕ) (slot : Slot) → ∥ shows.stands s m ∥₁ → page < 2 ^ 20 → shows.slots s m page ≡ Some slot → is_among slot.entry.frame (shows.write_protected s) ≡ true → slot.writes ≡ false
     pub read_from_is_protected : (s : S) (frame : ℕ) → shows.stale s ≡ false → shows.read_from s frame ≡ true → is_among frame (shows.write_protected s) ≡ true
     pub other_roots_protected : (s : S) (m : List ℕ) → AllProtected (λ f. is_among f (shows.write_protected s)) (shows.other_roots s m)
 
-  module _ (laws : Tracks) where
-    -- no view lets a write pass to a tracked frame
+  module _ (laws : Protects) where
+    -- no view lets a write pass to a write-protected frame
     pub unlent : (s : S) (m : List ℕ) (side : Side) (at : ℕ) → ∥ shows.stands s m ∥₁ → length m % 4096 ≡ 0 → is_among at (shows.write_protected s) ≡ true → IsUnlent m (shows.directory s side) at
     unlent s m side at stand whole t page lt h =
         let all : 4096 * (length m / 4096) ≡ length m = omega (arith, whole) in
         let w = lent_writes (length m / 4096) at (shows.slots s m page) side (sym (laws.host s m (length m / 4096) side page true stand all lt) ∙ h) in
         clash w.slot.writes w.writes (laws.barred s m page w.slot stand lt w.there (ap (λ (f : ℕ). is_among f (shows.write_protected s)) w.leads ∙ t))
 
-    -- so what is kept is found again, where no tracked frame has changed
+    -- so what is kept is found again, where no write-protected frame has changed
     pub ready_on : (m : Setting) (wedge : IsWedge m) (before after : Cpu) (s : S) (memory then : List ℕ) → IsHost m memory → IsHost m then → after.cr3 ≡ before.cr3 → pse_of after ≡ pse_of before → wp_of after ≡ wp_of before
         → ((at : ℕ) → is_among at (shows.write_protected s) ≡ true → frame (shown m then) at ≡ frame (shown m memory) at) → SameSlots (shows.slots s memory) (shows.slots s then) → AreSame (shows.other_roots s memory) (shows.other_roots s then)
         → IsReady shows m before s memory → IsReady shows m after s then

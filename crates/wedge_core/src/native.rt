@@ -43,7 +43,7 @@ use machine_step::{Rules, Seen, Worked, carry_out, fetch_at, refuse};
 use shadow_cache::Reloads;
 use shadow_tables::Shadows;
 use step_exec::{reach_both, user_outcome};
-use step_mem::{Kept, StepState, Text};
+use step_mem::{StepState, Text, Translations};
 use sys_exec::Refusal;
 use wedge_mem::Lent;
 use wedge_step::{
@@ -246,7 +246,7 @@ fn drop_dirs<S: Shadows>(shadows: &mut S, ram: &mut Ram)
 }
 
 /// Fetches the instruction. None where the host is to do it: its ranges are translated, and its effect is done.
-fn try_native<B: Kept>(
+fn try_native<B: Translations>(
     rules: &Rules,
     cpu: &Cpu,
     board: &mut Board,
@@ -255,13 +255,13 @@ fn try_native<B: Kept>(
     state: &mut StepState,
 ) -> Result<Option<Worked>, Stop>
     requires able { IsAble cpu.now }
-    requires sound { IsSoundOver B.Kept kept.now ram.old state.old }
+    requires sound { IsSoundOver B.Translations kept.now ram.old state.old }
     requires pages { state.old.pages ≡ 0 }
-    ensures sound { IsSoundOver B.Kept kept.now ram.new state.new }
-    ensures uses { IfOk result (λ _. Uses (cpu.now.cpl == 3) (space B.Kept kept.now ram.old state.old)
-        (space B.Kept kept.now ram.new state.new)) }
+    ensures sound { IsSoundOver B.Translations kept.now ram.new state.new }
+    ensures uses { IfOk result (λ _. Uses (cpu.now.cpl == 3) (space B.Translations kept.now ram.old state.old)
+        (space B.Translations kept.now ram.new state.new)) }
     ensures tries { (m : Setting) (b : Whole) → IsRuled m rules.now → TriesAs m (record b { cpu = cpu.now; board = board.old })
-        (space B.Kept kept.now ram.old state.old) result board.new (space B.Kept kept.now ram.new state.new) }
+        (space B.Translations kept.now ram.old state.old) result board.new (space B.Translations kept.now ram.new state.new) }
     ensures dropped { IfOk result (λ o. IfSome o (λ w. IsDropped w.dropped)) }
     ensures roots { IfOk result (λ o. IfSome o (λ w. RootsAs cpu.now w)) }
     ensures stays { FetchesIn state.old state.new ram.old ram.new }
@@ -290,7 +290,7 @@ fn gone(worked: Result<Worked, Stop>) -> Result<Option<Worked>, Stop>
 }
 
 /// Prepares an instruction that was fetched for the host. Where it raises or stops, the step goes on so.
-fn prepare<B: Kept>(
+fn prepare<B: Translations>(
     rules: &Rules,
     insn: &Insn,
     len: u8,
@@ -302,13 +302,13 @@ fn prepare<B: Kept>(
     requires spelled { (bytes : List ℕ) × Spells bytes insn.now }
     requires native { is_native (cpu.now.cpl == 3) insn.now.op ≡ true }
     requires able { IsAble cpu.now }
-    requires sound { IsSoundOver B.Kept kept.now ram.old state.old }
+    requires sound { IsSoundOver B.Translations kept.now ram.old state.old }
     requires pages { state.old.pages ≤ 8 }
-    ensures sound { IsSoundOver B.Kept kept.now ram.new state.new }
-    ensures uses { IfOk result (λ _. Uses (cpu.now.cpl == 3) (space B.Kept kept.now ram.old state.old)
-        (space B.Kept kept.now ram.new state.new)) }
+    ensures sound { IsSoundOver B.Translations kept.now ram.new state.new }
+    ensures uses { IfOk result (λ _. Uses (cpu.now.cpl == 3) (space B.Translations kept.now ram.old state.old)
+        (space B.Translations kept.now ram.new state.new)) }
     ensures prepares { (m : Setting) (b : Whole) → IsRuled m rules.now → PreparesAs m (record b { cpu = cpu.now }) insn.now len
-        (space B.Kept kept.now ram.old state.old) result (space B.Kept kept.now ram.new state.new) }
+        (space B.Translations kept.now ram.old state.old) result (space B.Translations kept.now ram.new state.new) }
     ensures dropped { IfOk result (λ o. IfSome o (λ w. IsDropped w.dropped)) }
     ensures roots { IfOk result (λ o. IfSome o (λ w. RootsAs cpu.now w)) }
     ensures stays { StaysIn state.old state.new ram.old ram.new }
@@ -322,7 +322,7 @@ fn prepare<B: Kept>(
 /// Translates the ranges of an instruction and finds its effect, of which nothing is done. What refuses a range, or raises
 /// or stops in its place, is the refusal.
 #[tactic(auto, unfolding(crate::specs::Prepared::prepared))]
-fn weigh<B: Kept>(
+fn weigh<B: Translations>(
     insn: &Insn,
     len: u8,
     cpu: &Cpu,
@@ -332,15 +332,15 @@ fn weigh<B: Kept>(
 ) -> Result<(), Refusal>
     requires spelled { (bytes : List ℕ) × Spells bytes insn.now }
     requires native { is_native (cpu.now.cpl == 3) insn.now.op ≡ true }
-    requires sound { IsSoundOver B.Kept kept.now ram.old state.old }
+    requires sound { IsSoundOver B.Translations kept.now ram.old state.old }
     requires pages { state.old.pages ≤ 8 }
-    ensures sound { IsSoundOver B.Kept kept.now ram.new state.new }
-    ensures uses { IfOk result (λ _. Uses (cpu.now.cpl == 3) (space B.Kept kept.now ram.old state.old)
-        (space B.Kept kept.now ram.new state.new)) }
-    ensures refused { IfErr result (λ refusal. AtRefusal (cpu.now.cpl == 3) (space B.Kept kept.now ram.old state.old) refusal
-        (space B.Kept kept.now ram.new state.new)) }
-    ensures prepared { Gives result (space B.Kept kept.now ram.new state.new)
-        (prepared insn.now len cpu.now (space B.Kept kept.now ram.old state.old)) }
+    ensures sound { IsSoundOver B.Translations kept.now ram.new state.new }
+    ensures uses { IfOk result (λ _. Uses (cpu.now.cpl == 3) (space B.Translations kept.now ram.old state.old)
+        (space B.Translations kept.now ram.new state.new)) }
+    ensures refused { IfErr result (λ refusal. AtRefusal (cpu.now.cpl == 3) (space B.Translations kept.now ram.old state.old) refusal
+        (space B.Translations kept.now ram.new state.new)) }
+    ensures prepared { Gives result (space B.Translations kept.now ram.new state.new)
+        (prepared insn.now len cpu.now (space B.Translations kept.now ram.old state.old)) }
     ensures pages { state.new.pages ≤ state.old.pages + 4 }
     ensures stays { StaysIn state.old state.new ram.old ram.new }
 {

@@ -61,7 +61,7 @@ used-here set xs i h e = used-at set xs i h ∙ ap (λ b. cond b 1 0 + length (u
 pub used-later : (set : FinMap nat_cmp Entry) (xs : List ℕ) (i : ℕ) → i < length xs → is_last_use set xs i ≡ false → length (used set (drop i xs)) ≡ length (used set (drop (i + 1) xs))
 used-later set xs i h e = used-at set xs i h ∙ ap (λ b. cond b 1 0 + length (used set (drop (i + 1) xs))) e ∙ zero-add (length (used set (drop (i + 1) xs)))
 
--- ---- frames that are no longer tracked
+-- ---- frames that are no longer write-protected
 
 part-false : (x : ℕ) (fs gs : List ℕ) → ArePart fs gs → is_among x gs ≡ false → is_among x fs ≡ false
 part-false x fs gs h e = by-bool (is_among x fs) (h x) e
@@ -74,8 +74,8 @@ among-append x (z ∷ xs) y h e =
       | inr n ↦ among-append x xs y (sym (ap (λ b. b || is_among x (xs ++ y ∷ [])) n.0) ∙ h) (sym (ap (λ b. b || is_among x xs) n.0) ∙ e)
     ]
 
-pub untracked-more : (xs : List ℕ) (i : ℕ) (old new : List ℕ) → i < length xs → ArePart new old → is_among (get_or xs i 0) new ≡ false → ((x : ℕ) → is_among x (take i xs) ≡ true → is_among x old ≡ false) → (x : ℕ) → is_among x (take (i + 1) xs) ≡ true → is_among x new ≡ false
-untracked-more xs i old new l part here before x h =
+pub unprotected-more : (xs : List ℕ) (i : ℕ) (old new : List ℕ) → i < length xs → ArePart new old → is_among (get_or xs i 0) new ≡ false → ((x : ℕ) → is_among x (take i xs) ≡ true → is_among x old ≡ false) → (x : ℕ) → is_among x (take (i + 1) xs) ≡ true → is_among x new ≡ false
+unprotected-more xs i old new l part here before x h =
     elim (cases_Bool (is_among x (take i xs))) [
       | inl t ↦ part-false x new old part (before x t)
       | inr n ↦

@@ -28,5 +28,5 @@ module _ {S : Type 0} (g : shadows.Ghosts S) where
     -- what is kept for another value of CR3 goes where the step wrote one of its tables, and lets no write pass to a new one
     pub other_roots : MatchOption result (g.other_roots new m' ≡ [])
         (λ n. LoseWrites (guest_frames did.tables) (all_spared did.wrote (g.other_roots old m)) (g.other_roots new m'))
-    -- no frame that it wrote is tracked
-    pub untracked : IsSome result → (frame : ℕ) → is_among frame did.wrote ≡ true → is_among frame (g.write_protected new) ≡ false
+    -- no frame that it wrote is write-protected
+    pub unprotected : IsSome result → (frame : ℕ) → is_among frame did.wrote ≡ true → is_among frame (g.write_protected new) ≡ false

@@ -14,7 +14,7 @@ use Rattle.step_mem.specs.Shown.{beyond, laid}
 use Rattle.step_mem.specs.Sound.{IsSound}
 use Rattle.step_mem.specs.declared.guard.Guard.{Guard}
 use Rattle.step_mem.specs.declared.guard.Text.{Text}
-use Rattle.step_mem.specs.declared.kept.Kept as kept
+use Rattle.step_mem.specs.declared.translations.Translations as translations
 use Rattle.step_mem.specs.declared.state.StepState.{StepState}
 use Rattle.wedge_mem.specs.declared.progress.Progress.{Progress}
 
@@ -36,7 +36,7 @@ abbrev pub IsGoing : (List ℕ → FinMap nat_cmp Entry) → ℕ → (List ℕ �
 IsGoing kept floor stands ram p = (guard : Guard) → Guards guard p → IsSound kept floor stands ram (state_by guard p)
 
 -- the same over a keeper of translations, by what it shows
-abbrev pub IsGoingOver : {B : Type 0} → kept.Ghosts B → B → List ℕ → Progress → Type 0
+abbrev pub IsGoingOver : {B : Type 0} → translations.Ghosts B → B → List ℕ → Progress → Type 0
 IsGoingOver g base ram p = IsGoing (g.entries base) (g.floor base) (g.stands base) ram p
 
 -- memory that the step doesn't reach is as it was

@@ -62,7 +62,7 @@ module _ {S : Type 0} (g : shadows.Ghosts S) where
 
   -- ---- what telling of writes leaves
 
-  -- They know that these frames were written: none of them is tracked or noted any more, and the present tables are marked
+  -- They know that these frames were written: none of them is write-protected or noted any more, and the present tables are marked
   -- where one of them was noted.
   pub record KnowsWritten (wrote : List ℕ) (old new : S) : Type 0 where
     pub read_from : (frame : ℕ) → is_among frame wrote ≡ false → g.read_from new frame ≡ g.read_from old frame
@@ -70,4 +70,4 @@ module _ {S : Type 0} (g : shadows.Ghosts S) where
     pub stale : g.stale new ≡ (g.stale old || list_any (g.read_from old) wrote)
     pub cr3 : g.cr3 new ≡ g.cr3 old
     pub write_protected : ArePart (g.write_protected new) (g.write_protected old)
-    pub untracked : (frame : ℕ) → is_among frame wrote ≡ true → is_among frame (g.write_protected new) ≡ false
+    pub unprotected : (frame : ℕ) → is_among frame wrote ≡ true → is_among frame (g.write_protected new) ≡ false

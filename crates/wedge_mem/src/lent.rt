@@ -11,7 +11,7 @@ use guest_ram::Ram;
 use ia32_types::PAGES;
 use paging::Entry;
 use shadow_tables::Shadows;
-use step_mem::Kept;
+use step_mem::Translations;
 
 /// Shadows and the pool of their frames, which no step changes before its end.
 #[derive(Clone, Copy)]
@@ -20,7 +20,7 @@ pub struct Lent<'a, S: Shadows> {
     pub pool: &'a Pool,
 }
 
-impl<'a, S: Shadows> Kept for Lent<'a, S> {
+impl<'a, S: Shadows> Translations for Lent<'a, S> {
     ghost entries = { λ k ram. entries_of (S.slots k.shadows.now ram) };
 
     /// All frames of the pool lie behind the guest's.

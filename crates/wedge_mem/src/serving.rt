@@ -12,10 +12,10 @@ use crate::progress::Progress;
 use guest_ram::Ram;
 use ia32_types::Size;
 use paging::{Access, Touch};
-use step_mem::{Kept, StepState, own_back, own_front};
+use step_mem::{StepState, Translations, own_back, own_front};
 
 /// Translates a range.
-pub fn touch<B: Kept>(
+pub fn touch<B: Translations>(
     ram: &mut Ram,
     base: &B,
     step: &mut Progress,
@@ -23,11 +23,11 @@ pub fn touch<B: Kept>(
     len: u32,
     access: Access,
 ) -> Touch
-    requires going { IsGoingOver B.Kept base.now ram.old step.old }
+    requires going { IsGoingOver B.Translations base.now ram.old step.old }
     requires room { step.old.state.pages ≤ 62 }
     requires some { 1 ≤ len }
     requires short { len ≤ 32 }
-    ensures going { IsGoingOver B.Kept base.now ram.new step.new }
+    ensures going { IsGoingOver B.Translations base.now ram.new step.new }
     ensures uses { uses (space_in (B.entries base.now) ram.old step.old) at len access
         ≡ (result, space_in (B.entries base.now) ram.new step.new) }
     ensures pages { step.new.state.pages ≤ step.old.state.pages + 2 }
@@ -45,7 +45,7 @@ pub fn touch<B: Kept>(
 }
 
 /// Translates a fetch, which lies in one page.
-pub fn fetch<B: Kept>(
+pub fn fetch<B: Translations>(
     ram: &mut Ram,
     base: &B,
     step: &mut Progress,
@@ -53,10 +53,10 @@ pub fn fetch<B: Kept>(
     len: u32,
     user: bool,
 ) -> Touch
-    requires going { IsGoingOver B.Kept base.now ram.old step.old }
+    requires going { IsGoingOver B.Translations base.now ram.old step.old }
     requires room { step.old.state.pages ≤ 63 }
     requires one { at % 4096 + len ≤ 4096 }
-    ensures going { IsGoingOver B.Kept base.now ram.new step.new }
+    ensures going { IsGoingOver B.Translations base.now ram.new step.new }
     ensures fetches { fetches (space_in (B.entries base.now) ram.old step.old) at len user
         ≡ (result, space_in (B.entries base.now) ram.new step.new) }
     ensures pages { step.new.state.pages ≤ step.old.state.pages + 1 }
@@ -75,8 +75,8 @@ pub fn fetch<B: Kept>(
 }
 
 /// Reads where this step's touches or fetches made the range ready.
-pub fn load<B: Kept>(ram: &Ram, base: &B, step: &Progress, at: u32, size: Size) -> u32
-    requires going { IsGoingOver B.Kept base.now ram.now step.now }
+pub fn load<B: Translations>(ram: &Ram, base: &B, step: &Progress, at: u32, size: Size) -> u32
+    requires going { IsGoingOver B.Translations base.now ram.now step.now }
     requires ready { IsReadable (space_in (B.entries base.now) ram.now step.now) at (size_in_bytes size) }
     ensures value { result ≡ loaded (space_in (B.entries base.now) ram.now step.now) at size }
     ensures fits { FitsSize size result }
@@ -87,8 +87,14 @@ pub fn load<B: Kept>(ram: &Ram, base: &B, step: &Progress, at: u32, size: Size) 
 }
 
 /// Reads where the touch before the last was ready, at the places that its range had then.
-pub fn load_earlier<B: Kept>(ram: &Ram, base: &B, step: &Progress, at: u32, size: Size) -> u32
-    requires going { IsGoingOver B.Kept base.now ram.now step.now }
+pub fn load_earlier<B: Translations>(
+    ram: &Ram,
+    base: &B,
+    step: &Progress,
+    at: u32,
+    size: Size,
+) -> u32
+    requires going { IsGoingOver B.Translations base.now ram.now step.now }
     requires ready { IsReadyEarlier (space_in (B.entries base.now) ram.now step.now) at size }
     ensures value { result ≡ loaded_earlier (space_in (B.entries base.now) ram.now step.now) at size }
     ensures fits { FitsSize size result }
@@ -99,10 +105,17 @@ pub fn load_earlier<B: Kept>(ram: &Ram, base: &B, step: &Progress, at: u32, size
 }
 
 /// Writes where this step's touches made the range ready for a write.
-pub fn save<B: Kept>(ram: &mut Ram, base: &B, step: &Progress, at: u32, size: Size, value: u32)
-    requires going { IsGoingOver B.Kept base.now ram.old step.now }
+pub fn save<B: Translations>(
+    ram: &mut Ram,
+    base: &B,
+    step: &Progress,
+    at: u32,
+    size: Size,
+    value: u32,
+)
+    requires going { IsGoingOver B.Translations base.now ram.old step.now }
     requires ready { IsWritable (space_in (B.entries base.now) ram.old step.now) at (size_in_bytes size) }
-    ensures going { IsGoingOver B.Kept base.now ram.new step.now }
+    ensures going { IsGoingOver B.Translations base.now ram.new step.now }
     ensures saved { space_in (B.entries base.now) ram.new step.now ≡ saved (space_in (B.entries base.now) ram.old step.now) at size value }
     ensures beyond { KeepsBeyond step.now ram.old ram.new }
 {
@@ -112,14 +125,14 @@ pub fn save<B: Kept>(ram: &mut Ram, base: &B, step: &Progress, at: u32, size: Si
 }
 
 /// The bytes at an address are those of this step's instruction, in one page or two.
-fn own_in<B: Kept>(ram: &Ram, base: &B, state: &mut StepState, at: u32, len: u32)
-    requires sound { IsSoundOver B.Kept base.now ram.now state.old }
+fn own_in<B: Translations>(ram: &Ram, base: &B, state: &mut StepState, at: u32, len: u32)
+    requires sound { IsSoundOver B.Translations base.now ram.now state.old }
     requires some { 1 ≤ len }
     requires short { len ≤ 4096 }
     requires fits { at + len ≤ 2 ^ 32 }
-    requires found { HasRange (space B.Kept base.now ram.now state.old) at len }
-    ensures sound { IsSoundOver B.Kept base.now ram.now state.new }
-    ensures owns { space B.Kept base.now ram.now state.new ≡ owning (space B.Kept base.now ram.now state.old) at len }
+    requires found { HasRange (space B.Translations base.now ram.now state.old) at len }
+    ensures sound { IsSoundOver B.Translations base.now ram.now state.new }
+    ensures owns { space B.Translations base.now ram.now state.new ≡ owning (space B.Translations base.now ram.now state.old) at len }
     ensures control { state.new.control ≡ state.old.control }
     ensures text { state.new.guard.text ≡ state.old.guard.text }
 {
@@ -133,13 +146,13 @@ fn own_in<B: Kept>(ram: &Ram, base: &B, state: &mut StepState, at: u32, len: u32
 }
 
 /// Names the bytes of this step's instruction.
-pub fn own<B: Kept>(ram: &Ram, base: &B, step: &mut Progress, at: u32, len: u32)
-    requires going { IsGoingOver B.Kept base.now ram.now step.old }
+pub fn own<B: Translations>(ram: &Ram, base: &B, step: &mut Progress, at: u32, len: u32)
+    requires going { IsGoingOver B.Translations base.now ram.now step.old }
     requires some { 1 ≤ len }
     requires short { len ≤ 4096 }
     requires fits { at + len ≤ 2 ^ 32 }
     requires found { HasRange (space_in (B.entries base.now) ram.now step.old) at len }
-    ensures going { IsGoingOver B.Kept base.now ram.now step.new }
+    ensures going { IsGoingOver B.Translations base.now ram.now step.new }
     ensures owns { space_in (B.entries base.now) ram.now step.new ≡ owning (space_in (B.entries base.now) ram.now step.old) at len }
     ensures control { step.new.state.control ≡ step.old.state.control }
     ensures text { (step.new.first ≡ step.old.first) × (step.new.count ≡ step.old.count) }

@@ -35,8 +35,8 @@ module _ (old new : ℕ → Option Slot) (set : Set) (pages : List ℕ) (side : 
   pub settled_whole : (count free : ℕ) (wrote : List ℕ) (result : Option ℕ) → HasRoom set pages free result
       → MatchOption result (entries_of new ≡ empty) (λ n. entries_of new ≡ set) → IfSome result (λ n. Settles old new set pages side wp write_protected)
       → (IsSome result → (frame : ℕ) → is_among frame wrote ≡ true → is_among frame write_protected ≡ false) → MayClose count side set pages free → (is_none result ≡ false) × Closes old new set pages side wp write_protected wrote
-  settled_whole count free wrote None few is kept untracked may = let room = may.room in absurd (omega (arith, room, few))
-  settled_whole count free wrote (Some n) few is kept untracked may = (refl, record { settles = kept; untracked = untracked refl; entries = is })
+  settled_whole count free wrote None few is kept unprotected may = let room = may.room in absurd (omega (arith, room, few))
+  settled_whole count free wrote (Some n) few is kept unprotected may = (refl, record { settles = kept; unprotected = unprotected refl; entries = is })
 
 -- how many pages were filled, of those that the step went through
 module _ (kept : ℕ → Option Slot) (old : Set) (changes : List Change) (tables visited : List ℕ) (side : Side) (wp : Bool) where

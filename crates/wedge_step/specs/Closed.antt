@@ -17,5 +17,5 @@ pub record MayClose (count : ℕ) (side : Side) (set : Set) (pages : List ℕ) (
 -- all of the set is kept: these pages on this side, and no frame that was written is barred from writes
 pub record Closes (old new : ℕ → Option Slot) (set : Set) (pages : List ℕ) (side : Side) (wp : Bool) (write_protected wrote : List ℕ) : Type 0 where
   pub settles : Settles old new set pages side wp write_protected
-  pub untracked : (frame : ℕ) → is_among frame wrote ≡ true → is_among frame write_protected ≡ false
+  pub unprotected : (frame : ℕ) → is_among frame wrote ≡ true → is_among frame write_protected ≡ false
   pub entries : entries_of new ≡ set

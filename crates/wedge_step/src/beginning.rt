@@ -14,7 +14,7 @@ use guest_ram::Ram;
 use ia32_types::TEXT_FRAME;
 use image_check::Checked;
 use machine_step::{NO_BYTES, begin_again};
-use step_mem::{Guard, Kept, StepState, Text};
+use step_mem::{Guard, StepState, Text, Translations};
 
 /// The text as the guest sees it.
 pub fn original(image: &Checked) -> Text<'_>
@@ -30,7 +30,7 @@ pub fn original(image: &Checked) -> Text<'_>
 }
 
 /// A step over this image's text begins, in the place of an earlier one: none of its accesses is done yet.
-pub fn begin_over<'t, B: Kept>(
+pub fn begin_over<'t, B: Translations>(
     cpu: &Cpu,
     ram: &Ram,
     kept: &B,
@@ -45,8 +45,8 @@ pub fn begin_over<'t, B: Kept>(
     requires within { AreWithin frames (B.entries kept.now ram.now) }
     requires room { TEXT_FRAME + text_pages image.now ≤ frames }
     requires text { IsOriginal image.now text.now }
-    ensures sound { IsSoundOver B.Kept kept.now ram.now state.new }
-    ensures space { space B.Kept kept.now ram.now state.new ≡ space_at_start (wedge_mode image.now) frames cpu.now
+    ensures sound { IsSoundOver B.Translations kept.now ram.now state.new }
+    ensures space { space B.Translations kept.now ram.now state.new ≡ space_at_start (wedge_mode image.now) frames cpu.now
         (laid image.now.text TEXT_FRAME frames ram.now) (B.entries kept.now ram.now) }
     ensures pages { state.new.pages ≡ 0 }
     ensures frames { state.new.control.frames ≡ frames }

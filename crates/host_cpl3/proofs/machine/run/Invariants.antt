@@ -1,5 +1,5 @@
 use Rattle.std.proofs.Common.{◌≡◌, ◌+◌, ◌-◌, length}
-use Rattle.host_cpl3.specs.Kept.{AreKept}
+use Rattle.host_cpl3.specs.KeptWalks.{AreKept}
 use Rattle.host_cpl3.specs.HostRun.{host_run}
 use Rattle.host_cpl3.specs.Hosts.{standing}
 use Rattle.host_cpl3.proofs.machine.run.Given as goal

@@ -1,6 +1,6 @@
 use Rattle.std.proofs.Common.{ℕ, List, sym, ap, ◌∙◌, subst}
 use Rattle.guest_ram.specs.Bytes.{with_byte}
-use Rattle.host_cpl3.specs.Kept.{SameBut}
+use Rattle.host_cpl3.specs.KeptWalks.{SameBut}
 use Rattle.host_cpl3.proofs.Writing.{but_byte}
 use Rattle.host_cpl3.proofs.store.store_byte.Goals as goal
 

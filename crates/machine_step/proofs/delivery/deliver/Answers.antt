@@ -19,7 +19,7 @@ unfolding interrupted
 returns-in-Ok-clause-step g c = λ m b k.
     let a = c.args in
     let here = record b { cpu = a.worked.now.cpu; board = a.board.now } in
-    let s = space g.B.Kept a.kept.now c.deliver_in.new.ram c.deliver_in.new.state in
+    let s = space g.B.Translations a.kept.now c.deliver_in.new.ram c.deliver_in.new.state in
     let board = c.acknowledge-vector.new.self in
     let answer = answer_of c.entered.result c.entered.new.worked in
     let stood = subst (λ (d : Board). ComesTo (entered m (Irq a.vector ∷ []) None here c.deliver_in.new.cpu d s) b answer board s) c.acknowledge-vector.ensures.after
@@ -29,8 +29,8 @@ returns-in-Ok-clause-step g c = λ m b k.
 
 pub returns-in-Ok-clause-uses : goal.returns-in-Ok-clause-uses
 returns-in-Ok-clause-uses g c =
-    let s = space g.B.Kept c.args.kept.now c.args.ram.now c.args.state.now in
-    let t = space g.B.Kept c.args.kept.now c.deliver_in.new.ram c.deliver_in.new.state in
+    let s = space g.B.Translations c.args.kept.now c.args.ram.now c.args.state.now in
+    let t = space g.B.Translations c.args.kept.now c.deliver_in.new.ram c.deliver_in.new.state in
     if_ok c.entered.result (entered_uses c.works_use.ensures.delivered (c.args.worked.now.cpu.cpl == 3) _ _ _ _ _ s t (rw c.in-Ok.is at c.deliver_in.ensures.delivers))
 
 pub returns-in-Ok-clause-roots : goal.returns-in-Ok-clause-roots

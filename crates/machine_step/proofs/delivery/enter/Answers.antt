@@ -15,28 +15,28 @@ use Rattle.machine_step.proofs.delivery.enter.Goals as goal
 pub returns-in-Err-Privilege-clause-step : goal.returns-in-Err-Privilege-clause-step
 returns-in-Err-Privilege-clause-step g c = λ m b k.
     let h = rw (c.in-Err-Privilege.field-0-is, c.past-worked.ensures) at c.in-Err-Privilege.ensures.delivers in
-    subst (λ (o : Outcome NotDelivered Cpu). ComesTo (after_software m (record b { cpu = c.args.before.now }) (completed_of (done_by c.args.insn.now c.args.before.now)) c.args.vector o) b (answer_of c.raise.result c.raise.new.worked) b.board (space g.B.Kept c.args.kept.now c.raise.new.ram c.raise.new.state))
+    subst (λ (o : Outcome NotDelivered Cpu). ComesTo (after_software m (record b { cpu = c.args.before.now }) (completed_of (done_by c.args.insn.now c.args.before.now)) c.args.vector o) b (answer_of c.raise.result c.raise.new.worked) b.board (space g.B.Translations c.args.kept.now c.raise.new.ram c.raise.new.state))
     (sym h) (rw c.from.ensures at (c.raise.ensures.step m (record b { cpu = c.args.before.now }) k))
 
 pub returns-in-Ok-clause-step : goal.returns-in-Ok-clause-step
 returns-in-Ok-clause-step g c = λ m b k.
     let here = record b { cpu = c.args.before.now } in
-    let s = space g.B.Kept c.args.kept.now c.deliver_in.new.ram c.deliver_in.new.state in
+    let s = space g.B.Translations c.args.kept.now c.deliver_in.new.ram c.deliver_in.new.state in
     subst (λ (o : Outcome NotDelivered Cpu). ComesTo (after_software m here (completed_of (done_by c.args.insn.now c.args.before.now)) c.args.vector o) b (answer_of c.entered.result c.entered.new.worked) b.board s)
     (sym (rw (c.in-Ok.is, c.past-worked.ensures) at c.deliver_in.ensures.delivers)) (rw c.of-completed.ensures at (c.entered.ensures.step m here b.board s k))
 
 pub returns-in-Ok-clause-uses : goal.returns-in-Ok-clause-uses
 returns-in-Ok-clause-uses g c =
-    let s = space g.B.Kept c.args.kept.now c.args.ram.now c.args.state.now in
-    let t = space g.B.Kept c.args.kept.now c.deliver_in.new.ram c.deliver_in.new.state in
+    let s = space g.B.Translations c.args.kept.now c.args.ram.now c.args.state.now in
+    let t = space g.B.Translations c.args.kept.now c.deliver_in.new.ram c.deliver_in.new.state in
     if_ok c.entered.result (entered_uses c.works_use.ensures.delivered (c.args.before.now.cpl == 3) _ _ _ _ _ s t (rw c.in-Ok.is at c.deliver_in.ensures.delivers))
 
 pub returns-in-Err-Privilege-clause-uses : goal.returns-in-Err-Privilege-clause-uses
 returns-in-Err-Privilege-clause-uses g c =
     let user : Bool = c.args.before.now.cpl == 3 in
-    let s = space g.B.Kept c.args.kept.now c.args.ram.now c.args.state.now in
-    let t = space g.B.Kept c.args.kept.now c.deliver_in.new.ram c.deliver_in.new.state in
-    let u = space g.B.Kept c.args.kept.now c.raise.new.ram c.raise.new.state in
+    let s = space g.B.Translations c.args.kept.now c.args.ram.now c.args.state.now in
+    let t = space g.B.Translations c.args.kept.now c.deliver_in.new.ram c.deliver_in.new.state in
+    let u = space g.B.Translations c.args.kept.now c.raise.new.ram c.raise.new.state in
     if_ok_on user s t u c.raise.result
     (denied_uses c.works_use.ensures.delivered user _ _ _ _ s t (rw c.in-Err-Privilege.field-0-is at c.in-Err-Privilege.ensures.delivers))
     (c.raise.ensures.uses user)

@@ -12,14 +12,14 @@ use Rattle.machine_step.proofs.delivery.raise.Goals as goal
 
 pub returns-in-Ok-clause-step : goal.returns-in-Ok-clause-step
 returns-in-Ok-clause-step g c = λ m b k.
-    let s = space g.B.Kept c.args.kept.now c.deliver_in.new.ram c.deliver_in.new.state in
+    let s = space g.B.Translations c.args.kept.now c.deliver_in.new.ram c.deliver_in.new.state in
     subst (λ (o : Outcome NotDelivered Cpu). ComesTo (after_delivery m [] b b.board o) b (answer_of c.entered.result c.entered.new.worked) b.board s)
     (sym (rw (c.in-Ok.is, c.code_of.ensures) at c.deliver_in.ensures.delivers)) (c.entered.ensures.step m b b.board s k)
 
 pub returns-in-Ok-clause-uses : goal.returns-in-Ok-clause-uses
 returns-in-Ok-clause-uses g c = λ user.
-    let s = space g.B.Kept c.args.kept.now c.args.ram.now c.args.state.now in
-    let t = space g.B.Kept c.args.kept.now c.deliver_in.new.ram c.deliver_in.new.state in
+    let s = space g.B.Translations c.args.kept.now c.args.ram.now c.args.state.now in
+    let t = space g.B.Translations c.args.kept.now c.deliver_in.new.ram c.deliver_in.new.state in
     if_ok c.entered.result (entered_uses c.works_use.ensures.delivered user _ _ _ _ _ s t (rw c.in-Ok.is at c.deliver_in.ensures.delivers))
 
 pub returns-in-Ok-clause-ends : goal.returns-in-Ok-clause-ends

@@ -6,4 +6,4 @@ pub plain-requires-clause-shape : goal.plain-requires-clause-shape
 plain-requires-clause-shape g c = shaped c.requires.spelled.0 c.args.insn.now c.requires.spelled.1
 
 pub returns-in-Err-clause-told : goal.returns-in-Err-clause-told
-returns-in-Err-clause-told g c = rw c.in-Err.ensures.does (rw c.in-Err.ensures.refused at (c.refused.ensures.told (space g.B.Kept c.args.kept.now c.plain.new.ram c.plain.new.state)))
+returns-in-Err-clause-told g c = rw c.in-Err.ensures.does (rw c.in-Err.ensures.refused at (c.refused.ensures.told (space g.B.Translations c.args.kept.now c.plain.new.ram c.plain.new.state)))

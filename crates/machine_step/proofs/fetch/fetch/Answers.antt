@@ -4,12 +4,12 @@ use Rattle.machine_step.proofs.fetch.fetch.Goals as goal
 
 pub returns-clause-uses : goal.returns-clause-uses
 returns-clause-uses g c =
-    let s = space g.B.Kept c.args.kept.now c.args.ram.now c.args.state.now in
-    let t = space g.B.Kept c.args.kept.now c.fetch_pages.new.ram c.fetch_pages.new.state in
+    let s = space g.B.Translations c.args.kept.now c.args.ram.now c.args.state.now in
+    let t = space g.B.Translations c.args.kept.now c.fetch_pages.new.ram c.fetch_pages.new.state in
     gives_uses c.args.user s t c.fetch_pages.result _ c.fetch_pages.ensures.fetched (c.works_use.ensures.fetched c.args.user c.args.at s)
 
 pub returns-clause-refused : goal.returns-clause-refused
 returns-clause-refused g c =
-    let s = space g.B.Kept c.args.kept.now c.args.ram.now c.args.state.now in
-    let t = space g.B.Kept c.args.kept.now c.fetch_pages.new.ram c.fetch_pages.new.state in
+    let s = space g.B.Translations c.args.kept.now c.args.ram.now c.args.state.now in
+    let t = space g.B.Translations c.args.kept.now c.fetch_pages.new.ram c.fetch_pages.new.state in
     refuses_uses c.args.user s t c.fetch_pages.result _ c.fetch_pages.ensures.fetched (c.works_use.ensures.fetched c.args.user c.args.at s)

@@ -14,22 +14,22 @@ returns-in-Insn-clause-spelled g c = spelled_by _ (begins.Insn c.in-Insn.insn c.
 
 pub returns-in_err-fetch_page-clause-fetched : goal.returns-in_err-fetch_page-clause-fetched
 returns-in_err-fetch_page-clause-fetched g c =
-    let s = space g.B.Kept c.args.kept.now c.args.ram.now c.args.state.now in
-    let t = space g.B.Kept c.args.kept.now c.args.ram.now c.own_front.new.state in
-    let u = space g.B.Kept c.args.kept.now c.fetch_page.new.ram c.fetch_page.new.state in
+    let s = space g.B.Translations c.args.kept.now c.args.ram.now c.args.state.now in
+    let t = space g.B.Translations c.args.kept.now c.args.ram.now c.own_front.new.state in
+    let u = space g.B.Translations c.args.kept.now c.fetch_page.new.ram c.fetch_page.new.state in
     let front = bytes_from s c.args.at c.front_len-front.result in
     rw (ap (λ (n : ℕ). fetched_on c.args.user c.args.at (bytes_from s c.args.at n) s) (sym c.front_len-front.ensures.len)
     ∙ second_denied c.args.user c.args.at c.front_len-front.result front _ s t u c.front_len-front.ensures.len c.own_front.ensures.owns (rw c.requires.next at c.in_err-fetch_page.ensures.fetching)) (search rules)
 
 pub returns-in-Insn-clause-fetched : goal.returns-in-Insn-clause-fetched
 returns-in-Insn-clause-fetched g c =
-    let s = space g.B.Kept c.args.kept.now c.args.ram.now c.args.state.now in
-    let t = space g.B.Kept c.args.kept.now c.args.ram.now c.own_front.new.state in
-    let u = space g.B.Kept c.args.kept.now c.fetch_page.new.ram c.fetch_page.new.state in
+    let s = space g.B.Translations c.args.kept.now c.args.ram.now c.args.state.now in
+    let t = space g.B.Translations c.args.kept.now c.args.ram.now c.own_front.new.state in
+    let u = space g.B.Translations c.args.kept.now c.fetch_page.new.ram c.fetch_page.new.state in
     let front = bytes_from s c.args.at c.front_len-front.result in
     let more = bytes_from u (next_page c.args.at) longest in
     let whole = joined front more c.read_page.new.to.items c.read_page-2.new.to.items c.as_slice.result.now (rw c.new-bytes.ensures at c.read_page.ensures.bytes) (rw c.requires.next at c.read_page-2.ensures.bytes) c.as_slice.ensures.value in
-    let v = space g.B.Kept c.args.kept.now c.fetch_page.new.ram c.own_back.new.state in
+    let v = space g.B.Translations c.args.kept.now c.fetch_page.new.ram c.own_back.new.state in
     let rest : c.saturating_sub-back.result ≡ c.in-Insn.len - front_len c.args.at = rw (c.from.ensures, c.front_len-front.ensures.len) at c.saturating_sub-back.ensures in
     ap (λ (n : ℕ). fetched_on c.args.user c.args.at (bytes_from s c.args.at n) s) (sym c.front_len-front.ensures.len)
     ∙ (second_read c.args.user c.args.at c.front_len-front.result front more (begins.Insn c.in-Insn.insn c.in-Insn.len) s t u c.front_len-front.ensures.len c.own_front.ensures.owns (rw c.requires.next at c.in_ok-fetch_page.ensures.fetching) (c.in-Insn.ensures.exact ∙ ap decoded whole)
@@ -37,9 +37,9 @@ returns-in-Insn-clause-fetched g c =
 
 pub returns-in-Outside-clause-fetched : goal.returns-in-Outside-clause-fetched
 returns-in-Outside-clause-fetched g c =
-    let s = space g.B.Kept c.args.kept.now c.args.ram.now c.args.state.now in
-    let t = space g.B.Kept c.args.kept.now c.args.ram.now c.own_front.new.state in
-    let u = space g.B.Kept c.args.kept.now c.fetch_page.new.ram c.fetch_page.new.state in
+    let s = space g.B.Translations c.args.kept.now c.args.ram.now c.args.state.now in
+    let t = space g.B.Translations c.args.kept.now c.args.ram.now c.own_front.new.state in
+    let u = space g.B.Translations c.args.kept.now c.fetch_page.new.ram c.fetch_page.new.state in
     let front = bytes_from s c.args.at c.front_len-front.result in
     let more = bytes_from u (next_page c.args.at) longest in
     let whole = joined front more c.read_page.new.to.items c.read_page-2.new.to.items c.as_slice.result.now (rw c.new-bytes.ensures at c.read_page.ensures.bytes) (rw c.requires.next at c.read_page-2.ensures.bytes) c.as_slice.ensures.value in
@@ -48,9 +48,9 @@ returns-in-Outside-clause-fetched g c =
 
 pub returns-in-Short-clause-fetched : goal.returns-in-Short-clause-fetched
 returns-in-Short-clause-fetched g c =
-    let s = space g.B.Kept c.args.kept.now c.args.ram.now c.args.state.now in
-    let t = space g.B.Kept c.args.kept.now c.args.ram.now c.own_front.new.state in
-    let u = space g.B.Kept c.args.kept.now c.fetch_page.new.ram c.fetch_page.new.state in
+    let s = space g.B.Translations c.args.kept.now c.args.ram.now c.args.state.now in
+    let t = space g.B.Translations c.args.kept.now c.args.ram.now c.own_front.new.state in
+    let u = space g.B.Translations c.args.kept.now c.fetch_page.new.ram c.fetch_page.new.state in
     let front = bytes_from s c.args.at c.front_len-front.result in
     let more = bytes_from u (next_page c.args.at) longest in
     let whole = joined front more c.read_page.new.to.items c.read_page-2.new.to.items c.as_slice.result.now (rw c.new-bytes.ensures at c.read_page.ensures.bytes) (rw c.requires.next at c.read_page-2.ensures.bytes) c.as_slice.ensures.value in

@@ -14,14 +14,14 @@ pub returns-clause-step : goal.returns-clause-step
 returns-clause-step g c = λ m b k.
     let here = record b { cpu = c.args.before.now; board = c.args.board.now } in
     let told = rw c.requires.same at c.execute-effect.ensures.told in
-    subst (λ (told : SysEffect × Cpu × Space). ComesTo (effect_on m here (completed_of (done_by c.args.insn.now c.args.before.now)) told) b (answer_of c.follow.result c.follow.new.worked) c.follow.new.board (space g.B.Kept c.args.kept.now c.follow.new.ram c.follow.new.state))
+    subst (λ (told : SysEffect × Cpu × Space). ComesTo (effect_on m here (completed_of (done_by c.args.insn.now c.args.before.now)) told) b (answer_of c.follow.result c.follow.new.worked) c.follow.new.board (space g.B.Translations c.args.kept.now c.follow.new.ram c.follow.new.state))
     (sym told) (c.follow.ensures.step m here k)
 
 pub returns-clause-uses : goal.returns-clause-uses
 returns-clause-uses g c =
     let cpu = c.args.before.now in
-    let s = space g.B.Kept c.args.kept.now c.args.ram.now c.args.state.now in
-    let t = space g.B.Kept c.args.kept.now c.execute-effect.new.ram c.execute-effect.new.state in
+    let s = space g.B.Translations c.args.kept.now c.args.ram.now c.args.state.now in
+    let t = space g.B.Translations c.args.kept.now c.execute-effect.new.ram c.execute-effect.new.state in
     c.follow.ensures.uses s (told_uses (cpu.cpl == 3) cpu s t _ _ _ (rw c.requires.same at c.execute-effect.ensures.told) (c.works_use.ensures.instructed c.args.insn.now c.args.len cpu s))
 
 pub follow-requires-clause-roots : goal.follow-requires-clause-roots

@@ -13,14 +13,14 @@ pub returns-in-None-clause-step : goal.returns-in-None-clause-step
 returns-in-None-clause-step g c = λ m b k.
     let a = c.args in
     let here = record b { cpu = a.worked.now.cpu; board = a.board.now } in
-    subst (λ (o : Option ℕ). ComesTo (by_interrupt m o (unheld here) (space g.B.Kept a.kept.now a.ram.now a.state.now)) b (answer_of c.work.result c.work.new.worked) c.work.new.board (space g.B.Kept a.kept.now c.work.new.ram c.work.new.state))
+    subst (λ (o : Option ℕ). ComesTo (by_interrupt m o (unheld here) (space g.B.Translations a.kept.now a.ram.now a.state.now)) b (answer_of c.work.result c.work.new.worked) c.work.new.board (space g.B.Translations a.kept.now c.work.new.ram c.work.new.state))
     c.in-None.ensures (c.work.ensures.step m here k)
 
 pub returns-in-Some-clause-step : goal.returns-in-Some-clause-step
 returns-in-Some-clause-step g c = λ m b k.
     let a = c.args in
     let here = record b { cpu = a.worked.now.cpu; board = a.board.now } in
-    subst (λ (o : Option ℕ). ComesTo (by_interrupt m o (unheld here) (space g.B.Kept a.kept.now a.ram.now a.state.now)) b (answer_of c.deliver.result c.deliver.new.worked) c.deliver.new.board (space g.B.Kept a.kept.now c.deliver.new.ram c.deliver.new.state))
+    subst (λ (o : Option ℕ). ComesTo (by_interrupt m o (unheld here) (space g.B.Translations a.kept.now a.ram.now a.state.now)) b (answer_of c.deliver.result c.deliver.new.worked) c.deliver.new.board (space g.B.Translations a.kept.now c.deliver.new.ram c.deliver.new.state))
     c.in-Some.ensures (c.deliver.ensures.step m here k)
 
 pub returns-in-None-clause-roots : goal.returns-in-None-clause-roots

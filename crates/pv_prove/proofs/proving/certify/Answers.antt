@@ -1,7 +1,7 @@
 use Rattle.std.proofs.Common.{ℕ, List, length, refl, ap, subst, ◌∙◌}
 use Rattle.std.proofs.lemmas.List.{length-map}
 use Rattle.trace_check.specs.Form.{choices_bytes}
-use Rattle.trace_check.specs.Kept.{choice_of, choices_of}
+use Rattle.trace_check.specs.ChoicesTold.{choice_of, choices_of}
 use Rattle.pv_tasks.specs.Beside.{beside}
 use Rattle.pv_tasks.specs.Delivery.{Delivers, NoMemory}
 use Rattle.pv_prove.specs.CertificateLines.{certificate_line}

@@ -3,7 +3,7 @@ use Rattle.std.proofs.lemmas.Result.{err_from_is_err_and}
 use Rattle.pv_io.specs.Files.{FileMap}
 use Rattle.guest_sched.specs.declared.kernel.Kernel.{Kernel}
 use Rattle.guest_sched.specs.Texts.{schedule_of}
-use Rattle.pv_build.specs.Lines.{line_line}
+use Rattle.pv_build.specs.Lines.{refusal_at_line}
 use Rattle.pv_words.specs.Words.{names_in_pairs}
 use Rattle.pv_share.specs.Kernels.{HasKernels, FindsKernels, NoKernel}
 use Rattle.pv_share.specs.Unshared.{NoneRead, NoSchedule}
@@ -45,7 +45,7 @@ returns-clause-halted g c =
     refused_here _ _ _ _ _ c.refused.result
     (refuses_as _ _ c.refused.result
     (λ line ok. NoSchedule c.in_ok-text.text.items c.in_ok-kernels.kernels.items c.in-Err-At.line c.in-Err-At.cause c.in_ok-text.ensures.loaded has says
-    (line_is _ line _ c.line_line.ensures ok ∙ ap (λ (n : ℕ). line_line n c.in-Err-At.line) c.number_of_schedule.ensures)) c.refused.ensures)
+    (line_is _ line _ c.refusal_at_line.ensures ok ∙ ap (λ (n : ℕ). refusal_at_line n c.in-Err-At.line) c.number_of_schedule.ensures)) c.refused.ensures)
 
 pub returns-in_err-kernels-clause-kept : goal.returns-in_err-kernels-clause-kept
 returns-in_err-kernels-clause-kept g c =

@@ -10,6 +10,6 @@ use Rattle.step_exec.proofs.instruction.plain.Goals as goal
 pub returns-clause-does : goal.returns-clause-does
 returns-clause-does g c =
     let a = c.args in
-    let s = space g.B.Kept a.kept.now in
+    let s = space g.B.Translations a.kept.now in
     subst (λ (o : Outcome Refusal Cpu). Leaves c.in_parts.result c.in_parts.new.cpu (s c.in_parts.new.ram c.in_parts.new.state) o)
     (sym (executed_divides a.insn.now a.len a.cpu.now (s a.ram.now a.state.now))) c.in_parts.ensures.does

@@ -14,5 +14,5 @@ write_all-requires-clause-open_to g c =
 pub returns : goal.returns
 returns g c =
     let s = c.args.state.now in
-    let h = stored_in (λ (m : List ℕ). hidden s.guard s.control.frames m) (λ (m : List ℕ). space g.B.Kept c.args.kept.now m s) c.args.ram.now (list_of c.args.stores.now) c.write_all.new.memory c.write_all.ensures.written in
+    let h = stored_in (λ (m : List ℕ). hidden s.guard s.control.frames m) (λ (m : List ℕ). space g.B.Translations c.args.kept.now m s) c.args.ram.now (list_of c.args.stores.now) c.write_all.new.memory c.write_all.ensures.written in
     record { sound = c.write_all.ensures.stands; hidden = h.0; stored = h.1 }

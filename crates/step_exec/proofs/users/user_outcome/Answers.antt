@@ -11,7 +11,7 @@ user_effect-requires-clause-ready g c =
     let ranges = ranges_of a.insn.now a.cpu.now.regs in
     let ready = made_open ranges a.state.now c.requires.made in
     let opened : ℕ → Type 0 = IsOpen ranges a.state.now in
-    let readable : ℕ → Type 0 = λ at. IsSoundOver g.B.Kept a.kept.now a.ram.now a.state.now × opened at in
+    let readable : ℕ → Type 0 = λ at. IsSoundOver g.B.Translations a.kept.now a.ram.now a.state.now × opened at in
     let both : (at : ℕ) → opened at → readable at = λ at h. (c.requires.sound, h) in
     rw c.ranges-2.ensures.ranges (record {
       read = covers_also opened readable ranges.read both ready.read;

@@ -16,12 +16,12 @@ use Rattle.wedge_core.specs.Counts.{Counts}
 use Rattle.wedge_core.specs.Slices.{BeginsEmpty}
 use Rattle.wedge_core.proofs.SlicedBy.{SliceAs}
 use Rattle.wedge_core.proofs.WholeRuns.{whole_unput, whole_front}
-use Rattle.trace_check.specs.NotesKept.{Kept, AreKept}
+use Rattle.trace_check.specs.NotesKept.{KeptChoices, AreKept}
 use Rattle.trace_check.specs.Noted.{NotedAnswers}
 use Rattle.trace_check.proofs.NotedRuns.{around_of, noted_put}
 use Rattle.trace_check.proofs.proving.whole.Goals as goal
 
-abbrev notes_of : Kept → Kept → List Note → Type 0
+abbrev notes_of : KeptChoices → KeptChoices → List Note → Type 0
 notes_of kept kept_after notes = NotesOn true (AreKept kept) (AreKept kept_after) notes
 
 pub slice-requires-clause-bound : goal.slice-requires-clause-bound

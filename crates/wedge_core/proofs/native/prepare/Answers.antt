@@ -27,9 +27,9 @@ returns-in-Ok g c = record {
 
 pub returns-in-Err : goal.returns-in-Err
 returns-in-Err g c =
-    let before = space g.B.Kept c.args.kept.now c.args.ram.now c.args.state.now in
-    let refused = space g.B.Kept c.args.kept.now c.weigh.new.ram c.weigh.new.state in
-    let after = space g.B.Kept c.args.kept.now c.refuse.new.ram c.refuse.new.state in
+    let before = space g.B.Translations c.args.kept.now c.args.ram.now c.args.state.now in
+    let refused = space g.B.Translations c.args.kept.now c.weigh.new.ram c.weigh.new.state in
+    let after = space g.B.Translations c.args.kept.now c.refuse.new.ram c.refuse.new.state in
     let is = sym c.gone.ensures in
     record {
       sound = c.refuse.ensures.sound;

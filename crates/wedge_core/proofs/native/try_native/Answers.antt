@@ -24,9 +24,9 @@ carry_out-requires g c = record { spelled = (rw c.in-Ok-Insn.field-0-is at c.in-
 
 pub returns-in-Err : goal.returns-in-Err
 returns-in-Err g c =
-    let start = space g.B.Kept c.args.kept.now c.args.ram.now c.args.state.now in
-    let after_fetch = space g.B.Kept c.args.kept.now c.fetch.new.ram c.fetch.new.state in
-    let after = space g.B.Kept c.args.kept.now c.refuse.new.ram c.refuse.new.state in
+    let start = space g.B.Translations c.args.kept.now c.args.ram.now c.args.state.now in
+    let after_fetch = space g.B.Translations c.args.kept.now c.fetch.new.ram c.fetch.new.state in
+    let after = space g.B.Translations c.args.kept.now c.refuse.new.ram c.refuse.new.state in
     let is = sym c.gone.ensures in
     record {
       sound = c.refuse.ensures.sound;
@@ -45,9 +45,9 @@ returns-in-Err g c =
 
 pub returns-then-is_native : goal.returns-then-is_native
 returns-then-is_native g c =
-    let start = space g.B.Kept c.args.kept.now c.args.ram.now c.args.state.now in
-    let after_fetch = space g.B.Kept c.args.kept.now c.fetch.new.ram c.fetch.new.state in
-    let after = space g.B.Kept c.args.kept.now c.prepare.new.ram c.prepare.new.state in
+    let start = space g.B.Translations c.args.kept.now c.args.ram.now c.args.state.now in
+    let after_fetch = space g.B.Translations c.args.kept.now c.fetch.new.ram c.fetch.new.state in
+    let after = space g.B.Translations c.args.kept.now c.prepare.new.ram c.prepare.new.state in
     record {
       sound = c.prepare.ensures.sound;
       uses = if_ok_on (c.args.cpu.now.cpl == 3) start after_fetch after c.prepare.result c.in-Ok-Insn.ensures.uses c.prepare.ensures.uses;
@@ -64,9 +64,9 @@ returns-then-is_native g c =
 
 pub returns-else-is_native : goal.returns-else-is_native
 returns-else-is_native g c =
-    let start = space g.B.Kept c.args.kept.now c.args.ram.now c.args.state.now in
-    let after_fetch = space g.B.Kept c.args.kept.now c.fetch.new.ram c.fetch.new.state in
-    let after = space g.B.Kept c.args.kept.now c.carry_out.new.ram c.carry_out.new.state in
+    let start = space g.B.Translations c.args.kept.now c.args.ram.now c.args.state.now in
+    let after_fetch = space g.B.Translations c.args.kept.now c.fetch.new.ram c.fetch.new.state in
+    let after = space g.B.Translations c.args.kept.now c.carry_out.new.ram c.carry_out.new.state in
     let is = sym c.gone-else-is_native.ensures in
     record {
       sound = c.carry_out.ensures.sound;

@@ -41,7 +41,7 @@ use Rattle.wedge_core.specs.Views.{view_by}
 use Rattle.wedge_core.proofs.Going.{counted, counts_same}
 use Rattle.wedge_core.proofs.Instructed.{clashes_by}
 use Rattle.wedge_core.proofs.OnceRan.{SameKept, IsOnce, cpu_is, behind_is, size_is, kept as once_kept, shadows_are, once_goes_on, once_counts, once_frames, once_stands, once_able, once_held, once_keeps, once_fills, once_untouched, once_rules, once_back, once_taken, once_few, lost_is, idle_able, idle_goes}
-use Rattle.wedge_core.proofs.Untouched.{Tracks, unlent, ready_on}
+use Rattle.wedge_core.proofs.Untouched.{Protects, unlent, ready_on}
 use Rattle.wedge_core.proofs.step.on_host.Given.{Over}
 use Rattle.wedge_core.proofs.step.on_host.Goals as goal
 
@@ -232,7 +232,7 @@ module _ (g : Over) (c : goal.After-ram g) where
   ready =
       let met = g.met.S.Shadows in
       let h = attempts.leaves.held in
-      let tracks : Tracks g.S.Shadows = record {
+      let protects : Protects g.S.Shadows = record {
         host = met.host;
         barred = met.barred;
         read_from_is_protected = met.read_from_is_protected;
@@ -242,10 +242,10 @@ module _ (g : Over) (c : goal.After-ram g) where
       let cpu : r1.cpu ≡ r0.cpu = cpu_is g.S.Shadows _ _ _ _ _ _ _ _ _ _ _ once in
       let untouched = λ (at : ℕ) (t : is_among at (g.S.Shadows.write_protected r1.shadows) ≡ true).
       once_untouched g.S.Shadows _ _ _ _ _ _ _ _ _ _ _ once at
-      (unlent g.S.Shadows tracks r1.shadows m1 (side_of (r1.cpu.cpl == 3)) at h.stand h.whole t) in
+      (unlent g.S.Shadows protects r1.shadows m1 (side_of (r1.cpu.cpl == 3)) at h.stand h.whole t) in
       let ready1 = subst (λ (x : Cpu). IsReady g.S.Shadows (ground c.args.image.now n) x r1.shadows m1) cpu attempts.leaves.ready in
       subst (λ (x : g.row.S.Denot). IsReady g.S.Shadows (ground c.args.image.now n) r2.cpu x m2) (sym shadows_same)
-      (ready_on g.S.Shadows tracks (ground c.args.image.now n) h.wedge r0.cpu r2.cpu r1.shadows m1 m2
+      (ready_on g.S.Shadows protects (ground c.args.image.now n) h.wedge r0.cpu r2.cpu r1.shadows m1 m2
       h.host held.host rules.0 rules.1 rules.2 untouched kept.slots_are other_roots_same ready1)
 
   filled : CountsFills (pages_kept g.S.Shadows r0.shadows m0) (pages_kept g.S.Shadows r2.shadows m2) r0.fills r2.fills

@@ -11,7 +11,7 @@ use Rattle.wedge_core.proofs.Stretched.{Laws, passes_on, stays_on, passed_on, he
 use Rattle.wedge_step.proofs.Filling.{fills_same}
 use Rattle.wedge_step.proofs.Keeping.{keeps_same}
 use Rattle.wedge_step.proofs.Stays.{kept_same}
-use Rattle.wedge_core.proofs.Untouched.{Tracks, unlent, ready_on}
+use Rattle.wedge_core.proofs.Untouched.{Protects, unlent, ready_on}
 use Rattle.wedge_core.proofs.stretch.stretch.Goals as goal
 
 pub returns : goal.returns
@@ -74,7 +74,7 @@ returns g c =
             (subst (λ (k : ℕ). CountsFills (pages_kept g.S.Shadows old.shadows memory) (pages_kept g.S.Shadows old.shadows memory_then) old.fills k) (sym (fills_then g.S.Shadows old now view start k done memory_then retired_then passed_then ran))
             (fills_same _ _ old.fills (kept_same g.S.Shadows old.shadows memory memory_then (set_same g.S.Shadows laws image old.frames old pool memory h memory_then there) others_then)));
         ready = λ ready.
-            let tracks : Tracks g.S.Shadows = record {
+            let protects : Protects g.S.Shadows = record {
               host = met.host;
               barred = met.barred;
               read_from_is_protected = met.read_from_is_protected;
@@ -84,11 +84,11 @@ returns g c =
             let host_then = host_there g.S.Shadows laws image old.frames old pool memory h views.lends views.sees c.advances.ensures c.requires.able may c.if-running.false retired passed k done now memory_then retired_then passed_then ran script quiet in
             let untouched = λ (at : ℕ) (t : is_among at (g.S.Shadows.write_protected old.shadows) ≡ true).
             untouched_then g.S.Shadows laws image old.frames old pool memory h views.lends views.sees c.advances.ensures c.requires.able may c.if-running.false retired passed k done now memory_then retired_then passed_then ran script quiet at
-            (λ other same. unlent g.S.Shadows tracks old.shadows other (side_of (old.cpu.cpl == 3)) at
+            (λ other same. unlent g.S.Shadows protects old.shadows other (side_of (old.cpu.cpl == 3)) at
             (stand g.S.Shadows laws image old.frames old pool memory h other same) (whole_new g.S.Shadows laws image old.frames old pool memory h other same) t) in
             let slots_then = met.same_slots old.shadows memory memory_then h.stand inside in
             subst (λ (s : g.row.S.Denot). IsReady g.S.Shadows (ground image old.frames) now.cpu s memory_then) (sym shadows)
-            (ready_on g.S.Shadows tracks (ground image old.frames) h.wedge old.cpu now.cpu old.shadows memory memory_then h.host host_then rules.0 rules.1 rules.2 untouched slots_then others_then ready);
+            (ready_on g.S.Shadows protects (ground image old.frames) h.wedge old.cpu now.cpu old.shadows memory memory_then h.host host_then rules.0 rules.1 rules.2 untouched slots_then others_then ready);
         kept = shadows;
         apart = inside;
         able = able_then g.S.Shadows laws image old.frames old c.requires.held.0 memory c.requires.held.1 views.lends views.sees c.advances.ensures c.requires.able may c.if-running.false retired passed k done now memory_then retired_then passed_then ran

@@ -165,6 +165,6 @@ returns-clause-settled g c = record {
       (subst (λ (fs : List ℕ). LoseWrites (guest_frames fs) (a c.args.shadows.now c.args.ram.now) (a n.shadows n.ram)) c.as_slice.ensures c.note_tables.ensures.other_roots)
       (subst (λ (fs : List ℕ). AreSame (all_spared fs (a n.shadows n.ram)) (a t.shadows t.ram)) c.as_slice-2.ensures c.tell_written.ensures.other_roots)
       c.fill_pages-filled.ensures.rest.other_roots;
-  untracked = λ some frame wrote.
-      ap (is_among frame) c.fill_pages-filled.ensures.rest.write_protected ∙ c.tell_written.ensures.known.untracked frame (ap (is_among frame) c.as_slice-2.ensures ∙ wrote);
+  unprotected = λ some frame wrote.
+      ap (is_among frame) c.fill_pages-filled.ensures.rest.write_protected ∙ c.tell_written.ensures.known.unprotected frame (ap (is_among frame) c.as_slice-2.ensures ∙ wrote);
 }

@@ -1,6 +1,6 @@
 use Rattle.std.proofs.Common.{get_or, refl, sym, ◌∙◌, arith}
 use Rattle.frame_pool.proofs.Held.{Owns-moves, Moves-refl, Moves-trans}
-use Rattle.wedge_mem.proofs.Lists.{true-false, untracked-more, read_from-less}
+use Rattle.wedge_mem.proofs.Lists.{true-false, unprotected-more, read_from-less}
 use Rattle.wedge_mem.proofs.Told.{first-stale, first-spared, less-read_from, more-stale, more-spared}
 use Rattle.wedge_mem.proofs.telling.tell_written.Goals as goal
 
@@ -22,7 +22,7 @@ loop-frame-init g c =
         stale = first-stale (g.S.Shadows.stale c.args.shadows.now);
         cr3 = refl;
         write_protected = λ f h. h;
-        untracked = λ frame h. absurd (true-false (sym h));
+        unprotected = λ frame h. absurd (true-false (sym h));
       };
       has_tables_under = λ indices h. h;
       other_roots = first-spared a;
@@ -47,7 +47,7 @@ loop-frame-preserved g c =
         stale = more-stale wrote l.frame-index (read_from c.args.shadows.now) (read_from l.shadows) (stale c.args.shadows.now) (stale l.shadows) (stale n.self) c.loop-frame-test.true k.stale e.known.stale k.noted_less k.read_from;
         cr3 = e.known.cr3 ∙ k.cr3;
         write_protected = λ x h. k.write_protected x (e.known.write_protected x h);
-        untracked = untracked-more wrote l.frame-index (g.S.Shadows.write_protected l.shadows) (g.S.Shadows.write_protected n.self) c.loop-frame-test.true e.known.write_protected e.known.untracked k.untracked;
+        unprotected = unprotected-more wrote l.frame-index (g.S.Shadows.write_protected l.shadows) (g.S.Shadows.write_protected n.self) c.loop-frame-test.true e.known.write_protected e.known.unprotected k.unprotected;
       };
       has_tables_under = λ indices h. e.has_tables_under indices (l.invariant.has_tables_under indices h);
       other_roots = more-spared wrote l.frame-index (a c.args.shadows.now c.args.ram.now) (a l.shadows l.ram) (a n.self n.ram) c.loop-frame-test.true l.invariant.other_roots e.other_roots;

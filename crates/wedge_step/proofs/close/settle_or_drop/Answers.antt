@@ -69,7 +69,7 @@ returns-clause-shows g c = λ image is h.
 pub returns-clause-whole : goal.returns-clause-whole
 returns-clause-whole g c = λ may.
     settled_whole (old g c) (new g c) (set g c) (pages g c) c.args.side c.args.state.now.control.wp (g.S.Shadows.write_protected c.settle.new.shadows) c.args.count (free g c) c.args.state.now.wrote c.settle.result c.settle.ensures.room c.settle.ensures.settled.entries c.settle.ensures.settled.filled
-    c.settle.ensures.settled.untracked may
+    c.settle.ensures.settled.unprotected may
 
 -- what the end of the step makes of what is kept
 module _ (g : Over) (c : goal.After-settle g) where

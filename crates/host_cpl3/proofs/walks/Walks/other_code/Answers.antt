@@ -1,7 +1,7 @@
 use Rattle.std.proofs.Common.{ℕ, ◌%◌, sym, subst, Option}
 use Rattle.std.specs.Prelude.{slice_index, IfSome}
 use Rattle.paging.specs.declared.entry.Entry.{Entry}
-use Rattle.host_cpl3.specs.Kept.{IsKeptWithin}
+use Rattle.host_cpl3.specs.KeptWalks.{IsKeptWithin}
 use Rattle.host_cpl3.proofs.Keeping.{last_kept}
 use Rattle.host_cpl3.proofs.walks.Walks.other_code.Goals as goal
 

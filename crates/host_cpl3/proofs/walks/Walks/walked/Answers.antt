@@ -1,6 +1,6 @@
 use Rattle.std.proofs.Common.{ℕ, ◌/◌, ◌≤◌, arith}
 use Rattle.paging.specs.declared.entry.Entry.{Entry}
-use Rattle.host_cpl3.specs.Kept.{IsKept, IsKeptWithin, code_of}
+use Rattle.host_cpl3.specs.KeptWalks.{IsKept, IsKeptWithin, code_of}
 use Rattle.host_cpl3.proofs.Keeping.{keep_kept, kept_is, new_kept, some_kept}
 use Rattle.host_cpl3.proofs.walks.Walks.walked.Goals as goal
 

@@ -2,7 +2,7 @@ use Rattle.std.proofs.Common.{ℕ, ◌%◌, ◌<◌, ◌≢◌, sym, arith}
 use Rattle.std.specs.Prelude.{slice_index}
 use Rattle.std.specs.FinMap.{get}
 use Rattle.paging.specs.declared.entry.Entry.{Entry}
-use Rattle.host_cpl3.specs.Kept.{IsWithin, IsKeptWithin, code_of}
+use Rattle.host_cpl3.specs.KeptWalks.{IsWithin, IsKeptWithin, code_of}
 use Rattle.host_cpl3.proofs.Keeping.{some_kept, kept_still}
 use Rattle.host_cpl3.proofs.walks.Walks.written.Goals as goal
 

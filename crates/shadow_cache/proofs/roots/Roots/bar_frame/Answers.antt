@@ -29,12 +29,12 @@ returns c =
       memory = bar-memory r.present r.others m c.bar.new.ram n c.args.frame h e.shadow e.loses e.held e.memory b.shadows b.frames b.loses b.memory;
     }
 
-pub returns-then-tracks : goal.returns-then-tracks
-returns-then-tracks c =
+pub returns-then-is_write_protected : goal.returns-then-is_write_protected
+returns-then-is_write_protected c =
     let r = c.args.self.now in let m = c.args.ram.now in let h = had (pairs_of r) m c.requires.stands in
     record {
       shadows = h.shadows;
-      loses = write_protected-loses (pairs_of r) m c.args.frame h (sym c.tracks.ensures ∙ c.if-tracks.true);
+      loses = write_protected-loses (pairs_of r) m c.args.frame h (sym c.is_write_protected.ensures ∙ c.if-is_write_protected.true);
       frames = refl;
       memory = Writes-refl (frames_of (pairs_of r) m) m;
     }

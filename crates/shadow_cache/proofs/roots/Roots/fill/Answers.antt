@@ -20,14 +20,14 @@ pub returns-clause-stands : goal.returns-clause-stands
 returns-clause-stands c =
     let r = c.args.self.now in let m = c.args.ram.now in let n = c.hold.new.ram in let h = had (pairs_of r) m c.requires.stands in let e = c.hold.ensures in
     merely (move-roots c.args.pool.now c.hold.new.pool r.present r.others m n h c.requires.owns e.becomes.shadow e.moves
-    (bars-filled (any_reads (pairs_of r)) (slot_at r.present.shadow m) (slot_at r.present.shadow n) c.tracks-barred.result c.args.side c.args.entry c.args.wp c.tracks-barred.ensures h.barred.0 e.becomes.there e.becomes.others))
+    (bars-filled (any_reads (pairs_of r)) (slot_at r.present.shadow m) (slot_at r.present.shadow n) c.is_write_protected-barred.result c.args.side c.args.entry c.args.wp c.is_write_protected-barred.ensures h.barred.0 e.becomes.there e.becomes.others))
 
 pub returns-clause-fills : goal.returns-clause-fills
 returns-clause-fills c =
     let r = c.args.self.now in let e = c.hold.ensures.becomes in
     record {
       turns = record {
-        there = e.there ∙ ap (λ b. Some (filled b c.args.side c.args.entry c.args.wp)) (c.tracks-barred.ensures ∙ sym (tables-any (pairs_of r) c.args.entry.frame));
+        there = e.there ∙ ap (λ b. Some (filled b c.args.side c.args.entry c.args.wp)) (c.is_write_protected-barred.ensures ∙ sym (tables-any (pairs_of r) c.args.entry.frame));
         others = e.others;
       };
       entries = c.hold.ensures.entries;

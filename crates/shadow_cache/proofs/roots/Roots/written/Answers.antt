@@ -5,7 +5,7 @@ use Rattle.shadow_tables.specs.Laws as below
 use Rattle.shadow_cache.specs.Roots.{pairs_of}
 use Rattle.shadow_cache.specs.Laws.{had}
 use Rattle.shadow_cache.proofs.Beside.{others-owns, tables-part}
-use Rattle.shadow_cache.proofs.Calls.{spoilt-same, spoilt-fewer, spoilt-roots, spoilt-slots, spoilt-untracked, spoilt-moves, spoilt-owns, spoilt-kept}
+use Rattle.shadow_cache.proofs.Calls.{spoilt-same, spoilt-fewer, spoilt-roots, spoilt-slots, spoilt-unprotected, spoilt-moves, spoilt-owns, spoilt-kept}
 use Rattle.shadow_cache.specs.After.{marked_by}
 use Rattle.shadow_cache.specs.declared.pair.Pair.{Pair}
 use Rattle.shadow_cache.proofs.CallSteps.{step-written}
@@ -34,7 +34,7 @@ pub returns-clause-frees : goal.returns-clause-frees
 returns-clause-frees c =
     let r = c.args.self.now in let m = c.args.ram.now in let h = had (pairs_of r) m c.requires.stands in (
       tables-part (pairs_of r) (c.write.new.self ∷ c.leave_readers.new.pairs) (spoilt-fewer c.args.pool.now c.leave_readers.new.pool r.present c.write.new.self r.others c.leave_readers.new.pairs m c.leave_readers.new.ram c.args.frame h c.requires.owns c.leave_readers.ensures.rest c.leave_readers.ensures.kept c.leave_readers.ensures.moves c.write.ensures),
-      spoilt-untracked c.args.pool.now c.leave_readers.new.pool r.present c.write.new.self r.others c.leave_readers.new.pairs m c.leave_readers.new.ram c.args.frame h c.requires.owns c.leave_readers.ensures.rest c.leave_readers.ensures.kept c.leave_readers.ensures.moves c.write.ensures,
+      spoilt-unprotected c.args.pool.now c.leave_readers.new.pool r.present c.write.new.self r.others c.leave_readers.new.pairs m c.leave_readers.new.ram c.args.frame h c.requires.owns c.leave_readers.ensures.rest c.leave_readers.ensures.kept c.leave_readers.ensures.moves c.write.ensures,
     )
 
 pub returns-clause-roots : goal.returns-clause-roots

@@ -11,7 +11,7 @@ returns-clause-known c = let r = c.args.self.now in record {
   stale = written-stale r.present r.others (pairs_of c.written.new.self) c.args.frame c.written.ensures.pairs;
   cr3 = written-value r.present r.others (pairs_of c.written.new.self) c.args.frame c.written.ensures.pairs;
   write_protected = c.written.ensures.frees.0;
-  untracked = c.written.ensures.frees.1;
+  unprotected = c.written.ensures.frees.1;
 }
 
 pub returns-clause-other_roots : goal.returns-clause-other_roots

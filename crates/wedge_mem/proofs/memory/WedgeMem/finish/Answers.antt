@@ -59,7 +59,7 @@ returns-in-Some-clause-settled g c = let s = rw c.in-Some.is at c.settle-filled.
   stale = rw c.state-state.ensures.state at s.stale;
   cr3 = s.cr3;
   other_roots = rw c.state-state.ensures.state at s.other_roots;
-  untracked = rw c.state-state.ensures.state at s.untracked;
+  unprotected = rw c.state-state.ensures.state at s.unprotected;
 }
 
 pub returns-in-None-clause-settled : goal.returns-in-None-clause-settled
@@ -71,5 +71,5 @@ returns-in-None-clause-settled g c = let s = rw c.in-None.is at c.settle-filled.
   stale = s.stale;
   cr3 = s.cr3;
   other_roots = s.other_roots;
-  untracked = rw c.state-state.ensures.state at s.untracked;
+  unprotected = rw c.state-state.ensures.state at s.unprotected;
 }
