@@ -1,6 +1,6 @@
 use Rattle.std.proofs.Common.{sym}
 use Rattle.wedge_mem.specs.Owned.{first}
-use Rattle.wedge_mem.proofs.lent.LentKept.entry.Goals as goal
+use Rattle.wedge_mem.proofs.lent.LentTranslations.entry.Goals as goal
 
 pub kept-requires-clause-stands : goal.kept-requires-clause-stands
 kept-requires-clause-stands g c = first c.requires
