@@ -1,15 +1,18 @@
 -- A kernel that moves has one run.
-use Rattle.std.proofs.Common.{◌≡◌, ℕ, ◌*◌, List, [], ◌∷◌, ◌++◌, map, length, Option, Some, None, Result, Ok, Err, refl, sym, ap, subst, ◌∙◌, append_assoc, arith}
+use Rattle.std.proofs.Common.{◌≡◌, ℕ, ◌*◌, List, [], ◌∷◌, ◌++◌, length, Option, Some, None, Result, Ok, Err, refl, sym, ap, subst, ◌∙◌, append_assoc, arith}
 use Rattle.std.specs.List.{flat_map}
 use Rattle.std.proofs.lemmas.List.{append-nil}
 use Rattle.board.specs.Scripts.{Events}
 use Rattle.image_check.specs.Image.{Image}
-use Rattle.paging.specs.Space.{Mode}
+use Rattle.run_trace.specs.declared.items.End.{End}
+use Rattle.run_trace.specs.declared.items.End.TheVariants.{Bound, Stopped as StoppedAt}
 use Rattle.run_trace.specs.Text.{lines_of}
 use Rattle.machine_model.specs.State as model
 use Rattle.machine_model.specs.State.{Setting, boot}
 use Rattle.machine_model.specs.Step.{Report}
-use Rattle.machine_model.specs.Run.{Set, Steps, Run, trace_of}
+use Rattle.machine_model.specs.Run.{Set, Steps, Run, trace_of, with_set}
+use Rattle.machine_model.specs.OnBare.{bound_on_bare, end_on_bare}
+use Rattle.machine_model.proofs.Counted.{steps_counted}
 use Rattle.machine_model.proofs.Texts.{reported, text_behind}
 use Rattle.bare_machine.specs.Settings.{bare}
 use Rattle.checkpoint.specs.declared.state.State.{State}
@@ -17,14 +20,14 @@ use Rattle.checkpoint.specs.declared.state.CheckpointCause.{CheckpointCause}
 use Rattle.checkpoint.specs.States.{checkpoint_bytes, checkpoint_in}
 use Rattle.checkpoint.specs.Moved.{kept_of, rested_from}
 use Rattle.checkpoint.specs.Fits.{fits_of}
-use Rattle.checkpoint.specs.Legs.{Leg, Legs, in_mode, rested, reports_of, LegsAreARun, LegsAreParts}
+use Rattle.checkpoint.specs.Legs.{Leg, Legs, Parts, in_mode, rested, sets_of, reports_of, LegsAreARun, LegsAreParts}
 use Rattle.pv_save.specs.Checkpoints.{HasState}
 use Rattle.pv_build.specs.declared.status.Status.{Status}
 use Rattle.pv_build.specs.declared.status.Status.TheVariants as status
 use Rattle.pv_tasks.specs.Outcome.{Outcome, refused, HasEnded}
 use Rattle.pv_save.specs.Saving.{SavesRun, Rested, Stopped, SavesBoot, SavesOn, WhereFits, OnState, FromFile, setting_on, frames_of, is_wedge}
 use Rattle.pv_save.specs.Continuing.{ContinuesOn}
-use Rattle.pv_tool.specs.Moving.{Move, Leaves, IsFirst, IsNext, AreNext, IsLast, rules_of, AreOneRun, MovesAreOneRun}
+use Rattle.pv_tool.specs.Moving.{Move, Leaves, IsFirst, IsNext, AreNext, IsLast, rules_of, IsPart, AreParts, AreOneRun, MovesAreOneRun}
 use Rattle.pv_words.specs.declared.mode.RunMode.{RunMode}
 use Rattle.pv_words.specs.declared.mode.RunMode.TheVariants as mode
 use Rattle.pv_tasks.proofs.SameFiles.{same_file}
@@ -36,13 +39,12 @@ by_rules : (on : RunMode) (program : Image) (events : Events) (frames : ℕ) →
 by_rules mode.Bare program events frames = refl
 by_rules mode.Wedge program events frames = refl
 
--- A leg of a chain: the steps of one command, from a state without translations to the one that its file has.
-record LegOf (program : Image) (events : Events) (frames : ℕ) (on : RunMode) (old : model.State) (lines : List ℕ) (s : State) : Type 0 where
-  sets : List Set
-  reports : List Report
+-- The leg of a command that saves: its part, but from a state without translations, and to the one that its file has.
+record LegOf (program : Image) (events : Events) (frames : ℕ) (move : Move) (old : model.State)
+    (s : State) : Type 0 where
+  leg : Leg
   new : model.State
-  steps : Steps (setting_on on program events frames) old sets reports new
-  lines_are : lines ≡ lines_of (trace_of reports)
+  part : IsPart program events frames move old leg new
   state_is : s ≡ kept_of new
   size : length new.ram ≡ 4096 * frames
 
@@ -61,20 +63,23 @@ frames_on mode.Bare program events frames = refl
 frames_on mode.Wedge program events frames = refl
 
 -- a command that has saved a state is a leg
-leg_of : (program : Image) (events : Events) (frames : ℕ) (on : RunMode) (n : ℕ) (old : model.State) (name : List ℕ) (move : Move) (s : State)
-    → SavesRun on (setting_on on program events frames) n old name move.work → Leaves move s → LegOf program events frames on old move.work.first s
-leg_of program events frames on n old name move s (Rested h) leaves =
+leg_of : (program : Image) (events : Events) (frames : ℕ) (old : model.State) (move : Move) (s : State)
+    → SavesRun move.on (setting_on move.on program events frames) move.n old move.new move.work → Leaves move s
+    → LegOf program events frames move old s
+leg_of program events frames old move s (Rested h) leaves =
     let same : checkpoint_bytes (kept_of h.last) ≡ checkpoint_bytes s = ap bytes_in (sym (ap (λ (v : Outcome). v.stored) h.comes) ∙ leaves.stored) in
+    let is_on = sym (by_rules move.on program events frames) in
+    let steps = subst (λ (x : Setting). Steps x old h.sets h.reports h.last) is_on h.run.steps in
+    let lines = ap (λ (v : Outcome). v.first) h.comes in
     record {
-      sets = h.sets;
-      reports = h.reports;
+      leg = record { mode = rules_of move.on program events frames; sets = h.sets; reports = h.reports };
       new = h.last;
-      steps = h.run.steps;
-      lines_are = ap (λ (v : Outcome). v.first) h.comes;
+      part = record { rules = refl; steps = steps; lines = lines; ends_at = h.run.ends };
       state_is = same_state (kept_of h.last) s same h.back leaves.read;
-      size = h.size ∙ ap (λ (f : ℕ). 4096 * f) (frames_on on program events frames);
+      size = h.size ∙ ap (λ (f : ℕ). 4096 * f) (frames_on move.on program events frames);
     }
-leg_of program events frames on n old name move s (Stopped h) leaves = absurd (stopped_so move.work.status (ap (λ (v : Outcome). v.status) h.comes) leaves.done)
+leg_of program events frames old move s (Stopped h) leaves =
+    absurd (stopped_so move.work.status (ap (λ (v : Outcome). v.status) h.comes) leaves.done)
 
 done_ended : (st : Status) → st ≡ status.Done → HasEnded st
 done_ended st is = subst HasEnded (sym is) tt
@@ -101,13 +106,13 @@ boot_on mode.Bare program events frames = refl
 boot_on mode.Wedge program events frames = refl
 
 first_leg : (program : Image) (events : Events) (frames : ℕ) (move : Move) (s : State) → IsFirst program events frames move s
-    → LegOf program events frames move.on (boot (bare program events frames)) move.work.first s
+    → LegOf program events frames move (boot (bare program events frames)) s
 first_leg program events frames move s h =
     let ended = done_ended move.work.status h.leaves.done in
     let both = reads_both (WithFrames (SavesBoot move.on frames move.n move.new) frames) move.told move.image move.script program events move.work h.over.image_held h.over.script_held h.gives in
     let ran = ended_ran (SavesBoot move.on frames move.n move.new) frames program events move.work ended both in
-    subst (λ (b : model.State). LegOf program events frames move.on b move.work.first s) (boot_on move.on program events frames)
-    (leg_of program events frames move.on move.n (boot (setting_on move.on program events frames)) move.new move s ran.1 h.leaves)
+    subst (λ (b : model.State). LegOf program events frames move b s) (boot_on move.on program events frames)
+    (leg_of program events frames (boot (setting_on move.on program events frames)) move s ran.1 h.leaves)
 
 -- what goes on from the checkpoint of a state goes on from it, with its frames
 frames_are : (frames : ℕ) (mid : model.State) (s : State) → s ≡ kept_of mid → length mid.ram ≡ 4096 * frames → frames_of s ≡ frames
@@ -116,78 +121,125 @@ frames_are frames mid s is size =
     omega (arith, long)
 
 next_leg : (program : Image) (events : Events) (frames : ℕ) (mid : model.State) (s : State) (move : Move) (t : State) → s ≡ kept_of mid → length mid.ram ≡ 4096 * frames → IsNext program events s move t
-    → LegOf program events frames move.on (rested mid) move.work.first t
+    → LegOf program events frames move (rested mid) t
 next_leg program events frames mid s move t is size h =
     let ended = done_ended move.work.status h.leaves.done in
     let from = reads_both (FromFile (SavesOn move.on move.n move.new) move.on move.n (Some move.told) move.file) move.told move.image move.script program events move.work h.over.image_held h.over.script_held h.gives in
     let goes = from_ended (SavesOn move.on move.n move.new) program events s move h.state_held from ended in
     let framed = subst (λ (f : ℕ). SavesRun move.on (setting_on move.on program events f) move.n (rested_from s) move.new move.work) (frames_are frames mid s is size) goes in
-    leg_of program events frames move.on move.n (rested mid) move.new move t
+    leg_of program events frames (rested mid) move t
     (subst (λ (x : State). SavesRun move.on (setting_on move.on program events frames) move.n (rested_from x) move.new move.work) is framed) h.leaves
 
 -- ---- legs, one behind the other
 
-legs_more : (m : Setting) (old mid new : model.State) (legs : List Leg) (leg : Leg) → Legs m old legs mid → Steps (in_mode m leg.mode) (rested mid) leg.sets leg.reports new → Legs m old (legs ++ leg ∷ []) new
-unfolding Legs
-legs_more m old mid new [] leg h steps = (new, subst (λ (b : model.State). Steps (in_mode m leg.mode) (rested b) leg.sets leg.reports new) h steps, refl)
-legs_more m old mid new (l ∷ legs) leg h steps = (h.0, h.1, legs_more m h.0 mid new legs leg h.2 steps)
+-- a leg for each command, each from where the one before ended, but without its translations
+abbrev LegsOf : Image → Events → ℕ → List Move → model.State → List Leg → model.State → Type 0
+LegsOf program events frames [] old [] new = new ≡ old
+LegsOf program events frames (move ∷ moves) old (leg ∷ legs) new =
+    (mid : model.State) × IsPart program events frames move (rested old) leg mid
+    × LegsOf program events frames moves mid legs new
+LegsOf program events frames _ old _ new = ⊥
 
-no_legs : (m : Setting) (b : model.State) → Legs m b [] b
-unfolding Legs
-no_legs m b = refl
+legs_more : (program : Image) (events : Events) (frames : ℕ) (moves : List Move) (move : Move)
+    (old mid new : model.State) (legs : List Leg) (leg : Leg)
+    → LegsOf program events frames moves old legs mid → IsPart program events frames move (rested mid) leg new
+    → LegsOf program events frames (moves ++ move ∷ []) old (legs ++ leg ∷ []) new
+legs_more program events frames [] move old mid new [] leg h part =
+    (new, subst (λ (b : model.State). IsPart program events frames move (rested b) leg new) h part, refl)
+legs_more program events frames (first ∷ moves) move old mid new (l ∷ legs) leg h part =
+    (h.0, h.1, legs_more program events frames moves move h.0 mid new legs leg h.2 part)
+legs_more program events frames [] move old mid new (l ∷ legs) leg h part = absurd h
+legs_more program events frames (first ∷ moves) move old mid new [] leg h part = absurd h
 
-map_more : {A B : Type 0} (f : A → B) (xs : List A) (x : A) → map f (xs ++ x ∷ []) ≡ map f xs ++ f x ∷ []
-map_more f [] x = refl
-map_more {B = B} f (y ∷ xs) x = ap (λ (l : List B). f y ∷ l) (map_more f xs x)
+-- they are legs
+as_legs : (program : Image) (events : Events) (frames : ℕ) (moves : List Move) (old new : model.State) (legs : List Leg)
+    → LegsOf program events frames moves old legs new → Legs (bare program events frames) old legs new
+unfolding Legs
+as_legs program events frames [] old new [] h = h
+as_legs program events frames (move ∷ moves) old new (leg ∷ legs) h =
+    (h.0, h.1.steps, as_legs program events frames moves h.0 new legs h.2)
+as_legs program events frames [] old new (leg ∷ legs) h = absurd h
+as_legs program events frames (move ∷ moves) old new [] h = absurd h
+
+-- as many steps lead as far, from a state with other translations too
+as_far : (m : Setting) (old before mid now : model.State) (sets : List Set) (reports : List Report)
+    → before.step ≡ old.step → Steps m (rested old) sets reports mid → Steps m before sets reports now → now.step ≡ mid.step
+as_far m old before mid now sets reports same one other =
+    let far = steps_counted m (rested old) sets reports mid one in
+    let so_far = steps_counted m before sets reports now other in
+    omega (arith, far, so_far, same)
+
+-- the parts of one run, behind which one leg more is a part
+record PartsAnd (program : Image) (events : Events) (frames : ℕ) (moves : List Move) (old : model.State)
+    (legs : List Leg) (leg : Leg) (new : model.State) : Type 0 where
+  mid : model.State
+  saved : AreParts program events frames moves old legs mid
+  steps : Steps (in_mode (bare program events frames) leg.mode) mid leg.sets leg.reports new
+
+parts_of : (program : Image) (events : Events) (frames : ℕ) (moves : List Move) (old mid before new : model.State)
+    (legs : List Leg) (leg : Leg) → LegsOf program events frames moves old legs mid → before.step ≡ old.step
+    → Parts (bare program events frames) before (legs ++ leg ∷ []) new
+    → PartsAnd program events frames moves before legs leg new
+unfolding Parts
+parts_of program events frames [] old mid before new [] leg h same parts = record {
+  mid = before;
+  saved = refl;
+  steps =
+      let m = in_mode (bare program events frames) leg.mode in
+      subst (λ (b : model.State). Steps m before leg.sets leg.reports b) (sym parts.2) parts.1;
+}
+parts_of program events frames (move ∷ moves) old mid before new (l ∷ legs) leg h same parts =
+    let m = in_mode (bare program events frames) l.mode in
+    let far = as_far m old before h.0 parts.0 l.sets l.reports same h.1.steps parts.1 in
+    let part : IsPart program events frames move before l parts.0 =
+    record { rules = h.1.rules; steps = parts.1; lines = h.1.lines; ends_at = far ∙ h.1.ends_at } in
+    let more = parts_of program events frames moves h.0 mid parts.0 new legs leg h.2 far parts.2 in
+    record { mid = more.mid; saved = (parts.0, part, more.saved); steps = more.steps }
+parts_of program events frames [] old mid before new (l ∷ legs) leg h same parts = absurd h
+parts_of program events frames (move ∷ moves) old mid before new [] leg h same parts = absurd h
 
 reports_more : (legs : List Leg) (leg : Leg) → reports_of (legs ++ leg ∷ []) ≡ reports_of legs ++ leg.reports
 reports_more [] leg = append-nil leg.reports
 reports_more (l ∷ legs) leg = ap (λ (r : List Report). l.reports ++ r) (reports_more legs leg) ∙ sym (append_assoc l.reports (reports_of legs) leg.reports)
 
-abbrev rules : Image → Events → ℕ → Move → Mode
-rules program events frames move = rules_of move.on program events frames
-
 -- the legs of some commands, what was printed by them, and the state that was saved last
 record SoFar (program : Image) (events : Events) (frames : ℕ) (moves : List Move) (lines : List ℕ) (s : State) : Type 0 where
   legs : List Leg
   mid : model.State
-  are : Legs (bare program events frames) (boot (bare program events frames)) legs mid
-  machines : map (λ (l : Leg). l.mode) legs ≡ map (rules program events frames) moves
+  are : LegsOf program events frames moves (boot (bare program events frames)) legs mid
   lines_are : lines ≡ lines_of (trace_of (reports_of legs))
   state_is : s ≡ kept_of mid
   size : length mid.ram ≡ 4096 * frames
 
-one_more : (program : Image) (events : Events) (frames : ℕ) (moves : List Move) (lines : List ℕ) (s : State) (move : Move) (t : State) → (h : SoFar program events frames moves lines s)
-    → LegOf program events frames move.on (rested h.mid) move.work.first t → SoFar program events frames (moves ++ move ∷ []) (lines ++ move.work.first) t
+one_more : (program : Image) (events : Events) (frames : ℕ) (moves : List Move) (lines : List ℕ) (s : State)
+    (move : Move) (t : State) → (h : SoFar program events frames moves lines s)
+    → LegOf program events frames move (rested h.mid) t
+    → SoFar program events frames (moves ++ move ∷ []) (lines ++ move.work.first) t
 one_more program events frames moves lines s move t h leg =
-    let m = bare program events frames in
-    let l : Leg = record { mode = rules_of move.on program events frames; sets = leg.sets; reports = leg.reports } in
+    let b = boot (bare program events frames) in
+    let more = ap (λ (r : List Report). lines_of (trace_of r)) (sym (reports_more h.legs leg.leg)) in
     record {
-      legs = h.legs ++ l ∷ [];
+      legs = h.legs ++ leg.leg ∷ [];
       mid = leg.new;
-      are = legs_more m (boot m) h.mid leg.new h.legs l h.are (subst (λ (x : Setting). Steps x (rested h.mid) leg.sets leg.reports leg.new) (sym (by_rules move.on program events frames)) leg.steps);
-      machines =
-          map_more (λ (x : Leg). x.mode) h.legs l
-          ∙ (ap (λ (x : List Mode). x ++ rules program events frames move ∷ []) h.machines ∙ sym (map_more (rules program events frames) moves move));
+      are = legs_more program events frames moves move b h.mid leg.new h.legs leg.leg h.are leg.part;
       lines_are =
           ap (λ (x : List ℕ). x ++ move.work.first) h.lines_are
-          ∙ (ap (λ (x : List ℕ). lines_of (trace_of (reports_of h.legs)) ++ x) leg.lines_are
-          ∙ (sym (reported (reports_of h.legs) leg.reports) ∙ ap (λ (r : List Report). lines_of (trace_of r)) (sym (reports_more h.legs l))));
+          ∙ (ap (λ (x : List ℕ). lines_of (trace_of (reports_of h.legs)) ++ x) leg.part.lines
+          ∙ (sym (reported (reports_of h.legs) leg.leg.reports) ∙ more));
       state_is = leg.state_is;
       size = leg.size;
     }
 
-at_first : (program : Image) (events : Events) (frames : ℕ) (move : Move) (s : State) → IsFirst program events frames move s → SoFar program events frames (move ∷ []) move.work.first s
+at_first : (program : Image) (events : Events) (frames : ℕ) (move : Move) (s : State)
+    → IsFirst program events frames move s → SoFar program events frames (move ∷ []) move.work.first s
 at_first program events frames move s h =
-    let m = bare program events frames in
     let leg = first_leg program events frames move s h in
-    let l : Leg = record { mode = rules_of move.on program events frames; sets = leg.sets; reports = leg.reports } in
     record {
-      legs = l ∷ [];
+      legs = leg.leg ∷ [];
       mid = leg.new;
-      are = legs_more m (boot m) (boot m) leg.new [] l (no_legs m (boot m)) (subst (λ (x : Setting). Steps x (boot m) leg.sets leg.reports leg.new) (sym (by_rules move.on program events frames)) leg.steps);
-      machines = refl;
-      lines_are = leg.lines_are ∙ ap (λ (r : List Report). lines_of (trace_of r)) (sym (append-nil leg.reports));
+      are = (leg.new, leg.part, refl);
+      lines_are =
+          leg.part.lines ∙ ap (λ (r : List Report). lines_of (trace_of r)) (sym (append-nil leg.leg.reports));
       state_is = leg.state_is;
       size = leg.size;
     }
@@ -207,6 +259,12 @@ so_far program events frames done (move ∷ moves) lines s t h next =
     subst (λ (l : List ℕ). SoFar program events frames (done ++ move ∷ moves) l t) (append_assoc lines move.work.first (firsts moves))
     (subst (λ (d : List Move). SoFar program events frames d (lines ++ move.work.first ++ firsts moves) t) (append_assoc done (move ∷ []) moves) all)
 
+-- a bound of the bare machine doesn't depend on translations
+same_bound : (n : ℕ) (last : model.State) (set : Set) (end : End)
+    → bound_on_bare n last end ≡ bound_on_bare n (with_set last set) end
+same_bound n last set Bound = refl
+same_bound n last set (StoppedAt stop) = refl
+
 at_last : LegsAreARun → LegsAreParts → (program : Image) (events : Events) (frames : ℕ) (moves : List Move) (lines : List ℕ) (t : State) (move : Move) → SoFar program events frames moves lines t
     → IsLast program events t move → AreOneRun program events frames moves move (lines ++ move.work.text)
 at_last law parts program events frames moves lines t move h last =
@@ -217,24 +275,35 @@ at_last law parts program events frames moves lines t move h last =
     let at_mid = subst (λ (x : State). Run (setting_on move.on program events frames) move.n (rested_from x) goes.sets goes.reports goes.last goes.end) h.state_is at_frames in
     let l : Leg = record { mode = rules_of move.on program events frames; sets = goes.sets; reports = goes.reports } in
     let run = subst (λ (x : Setting). Run x move.n (rested h.mid) goes.sets goes.reports goes.last goes.end) (sym (by_rules move.on program events frames)) at_mid in
-    let whole = law m move.n h.legs l h.mid goes.last goes.end h.are run in
-    let pieces = parts m move.n h.legs l h.mid goes.last goes.end h.are run in
+    let before = as_legs program events frames moves (boot m) h.mid h.legs h.are in
+    let whole = law m move.n h.legs l h.mid goes.last goes.end before run in
+    let pieces = parts m move.n h.legs l h.mid goes.last goes.end before run in
+    let last_one = with_set goes.last pieces.0 in
+    let each = parts_of program events frames moves (boot m) h.mid (boot m) last_one h.legs l h.are refl pieces.1 in
+    let text = ap (λ (v : Outcome). v.text) goes.comes in
+    let sets = sets_of h.legs ++ goes.sets in
+    let reports = reports_of h.legs ++ goes.reports in
     record {
-      legs = h.legs;
-      leg = l;
-      last = goes.last;
+      parts = h.legs;
+      part = l;
+      mid = each.mid;
+      last = last_one;
       whole = whole.0;
       end = goes.end;
-      machines =
-          map_more (λ (x : Leg). x.mode) h.legs l
-          ∙ (ap (λ (x : List Mode). x ++ rules program events frames move ∷ []) h.machines ∙ sym (map_more (rules program events frames) moves move));
-      parts = pieces;
-      bare_run = whole.1;
+      saved = each.saved;
+      ended = record {
+        rules = refl;
+        run = record { steps = each.steps; ends = pieces.2 };
+        text = text;
+        status_is = ap (λ (v : Outcome). v.status) goes.comes;
+      };
+      bare_run =
+          subst (λ (n : ℕ). Run m n (boot m) sets reports (with_set goes.last whole.0) (end_on_bare goes.end))
+          (same_bound move.n goes.last pieces.0 goes.end) whole.1;
       text =
           ap (λ (x : List ℕ). x ++ move.work.text) h.lines_are
-          ∙ (ap (λ (x : List ℕ). lines_of (trace_of (reports_of h.legs)) ++ x) (ap (λ (v : Outcome). v.text) goes.comes)
+          ∙ (ap (λ (x : List ℕ). lines_of (trace_of (reports_of h.legs)) ++ x) text
           ∙ sym (text_behind (reports_of h.legs) goes.reports goes.last.step goes.end));
-      status_is = ap (λ (v : Outcome). v.status) goes.comes;
     }
 
 pub moves_are_one_run : LegsAreARun → LegsAreParts → MovesAreOneRun

@@ -1,21 +1,21 @@
 -- A kernel that moves: it is saved, goes on from what was saved and is saved anew, on either machine each time, and at last goes
 -- on to its end.
-use Rattle.std.specs.Prelude.{◌≡◌, ℕ, List, [], ◌∷◌, ◌++◌, map, Some, Ok}
+use Rattle.std.specs.Prelude.{◌≡◌, ℕ, List, [], ◌∷◌, ◌++◌, Some, Ok}
 use Rattle.std.specs.List.{flat_map}
 use Rattle.pv_io.specs.Files.{FileMap}
 use Rattle.board.specs.Scripts.{Events}
 use Rattle.image_check.specs.Image.{Image}
 use Rattle.paging.specs.Space.{Mode}
 use Rattle.run_trace.specs.declared.items.End.{End}
-use Rattle.run_trace.specs.Text.{text_of}
+use Rattle.run_trace.specs.Text.{lines_of, text_of}
 use Rattle.machine_model.specs.State as model
 use Rattle.machine_model.specs.State.{boot}
-use Rattle.machine_model.specs.Run.{Run, EndsIn, trace_of, with_set, Set}
+use Rattle.machine_model.specs.Run.{Run, Steps, trace_of, with_set, Set}
 use Rattle.machine_model.specs.OnBare.{bound_on_bare, end_on_bare}
 use Rattle.bare_machine.specs.Settings.{bare}
 use Rattle.checkpoint.specs.declared.state.State.{State}
 use Rattle.checkpoint.specs.States.{checkpoint_bytes, checkpoint_in}
-use Rattle.checkpoint.specs.Legs.{Leg, Parts, in_mode, sets_of, reports_of}
+use Rattle.checkpoint.specs.Legs.{Leg, in_mode, sets_of, reports_of}
 use Rattle.pv_build.specs.Images.{HasImage}
 use Rattle.pv_build.specs.Scripts.{HasScript}
 use Rattle.pv_save.specs.Checkpoints.{HasState}
@@ -78,25 +78,61 @@ pub record IsLast (program : Image) (events : Events) (s : State) (move : Move) 
 abbrev pub rules_of : RunMode → Image → Events → ℕ → Mode
 rules_of on program events frames = (setting_on on program events frames).mode
 
--- What is printed by them all, but for the lines that tell of a file, is the text of one run from boot. Its parts are steps of the
--- machines that printed them, and it ends so by the rules of the last. As a run of the bare machine it is that up to a stop of the
--- monitor's own.
-pub record AreOneRun (program : Image) (events : Events) (frames : ℕ) (moves : List Move) (move : Move) (printed : List ℕ) : Type 0 where
-  pub legs : List Leg
-  pub leg : Leg
+-- The part that a command that saves has of a run.
+pub record IsPart (program : Image) (events : Events) (frames : ℕ) (move : Move) (old : model.State) (part : Leg)
+    (new : model.State) : Type 0 where
+  -- it goes by the rules of the command's machine
+  pub rules : part.mode ≡ rules_of move.on program events frames
+  -- by which its steps lead on
+  pub steps : Steps (in_mode (bare program events frames) part.mode) old part.sets part.reports new
+  -- what is seen in it is what the command printed before its file
+  pub lines : move.work.first ≡ lines_of (trace_of part.reports)
+  -- and it ends where as many steps are done in all as the command names
+  pub ends_at : new.step ≡ move.n
+
+-- a part for each such command, each from where the one before ended
+abbrev pub AreParts : Image → Events → ℕ → List Move → model.State → List Leg → model.State → Type 0
+AreParts program events frames [] old [] new = new ≡ old
+AreParts program events frames (move ∷ moves) old (part ∷ parts) new =
+    (mid : model.State) × IsPart program events frames move old part mid
+    × AreParts program events frames moves mid parts new
+AreParts program events frames _ old _ new = ⊥
+
+-- The part of the command that goes on to the end.
+pub record IsLastPart (program : Image) (events : Events) (frames : ℕ) (move : Move) (old : model.State) (part : Leg)
+    (last : model.State) (end : End) : Type 0 where
+  -- it goes by the rules of the command's machine
+  pub rules : part.mode ≡ rules_of move.on program events frames
+  -- by which it ends, at the number of steps that the command names or at a stop before
+  pub run : Run (in_mode (bare program events frames) part.mode) move.n old part.sets part.reports last end
+  -- what the command printed is its text
+  pub text : move.work.text ≡ text_of (trace_of part.reports) last.step end
+  -- and its status is that of this end
+  pub status_is : move.work.status ≡ status_of end
+
+-- Commands that save, and one that goes on to the end, have one run from boot.
+pub record AreOneRun (program : Image) (events : Events) (frames : ℕ) (moves : List Move) (move : Move)
+    (printed : List ℕ) : Type 0 where
+  pub parts : List Leg
+  pub part : Leg
+  pub mid : model.State
   pub last : model.State
   pub whole : Set
   pub end : End
-  pub machines : map (λ (l : Leg). l.mode) (legs ++ leg ∷ []) ≡ map (λ (m : Move). rules_of m.on program events frames) (moves ++ move ∷ [])
-  pub parts : (set : Set) × Parts (bare program events frames) (boot (bare program events frames)) (legs ++ leg ∷ []) (with_set last set)
-      × EndsIn (in_mode (bare program events frames) leg.mode) move.n (with_set last set) end
+  -- the parts of those that save
+  pub saved : AreParts program events frames moves (boot (bare program events frames)) parts mid
+  -- and the part of the last
+  pub ended : IsLastPart program events frames move mid part last end
+  -- their steps, one behind the other, are a run of the bare machine, up to a stop of the monitor's own
   pub bare_run : Run (bare program events frames) (bound_on_bare move.n last end) (boot (bare program events frames))
-      (sets_of legs ++ leg.sets) (reports_of legs ++ leg.reports) (with_set last whole) (end_on_bare end)
-  pub text : printed ≡ text_of (trace_of (reports_of legs ++ leg.reports)) last.step end
-  pub status_is : move.work.status ≡ status_of end
+      (sets_of parts ++ part.sets) (reports_of parts ++ part.reports) (with_set last whole) (end_on_bare end)
+  -- and what they all print, but for the lines that tell of a file, is the text of what is seen in it and of the end
+  pub text : printed ≡ text_of (trace_of (reports_of parts ++ part.reports)) last.step end
 
+-- so it is of each such chain over one image and script, whose commands go on from what the one before stored
 abbrev pub MovesAreOneRun : Type 0
 MovesAreOneRun =
     (program : Image) (events : Events) (frames : ℕ) (first : Move) (moves : List Move) (last : Move) (s t : State)
     → IsFirst program events frames first s → AreNext program events s moves t → IsLast program events t last
-    → AreOneRun program events frames (first ∷ moves) last (first.work.first ++ flat_map (λ (m : Move). m.work.first) moves ++ last.work.text)
+    → AreOneRun program events frames (first ∷ moves) last
+    (first.work.first ++ flat_map (λ (m : Move). m.work.first) moves ++ last.work.text)

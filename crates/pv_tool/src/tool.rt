@@ -15,7 +15,8 @@ use pv_words::form;
 use std::alloc::Global;
 use trace_check::judgements_are_runs;
 
-/// Does what the words ask for, and answers how it ended. `run --wedge` runs on the host, and so does the second run of `work`.
+/// Does what the words ask for, and answers how it ended. `run --wedge`, `share`, `prove` and the wedge forms of `save`
+/// and `continue` run on the host, and so does the second run of `work`.
 pub fn top<F: Files, S: Sink, H: Host>(
     alloc: Global,
     words: &Vec<String>,
