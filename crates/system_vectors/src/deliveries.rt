@@ -1,8 +1,8 @@
 //! Deliveries: each test at its first failing place, the frame that is pushed, and the processor in the handler.
 
 use crate::world::{
-    ABSENT, Answer, Case, EIP, IDT, NONE, READ_ONLY, TASK, What, accessed, comes_out, cpu_at,
-    segment,
+    ABSENT, Answer, Case, EIP, GDT_ABSENT, GDT_ENTRY, GDT_READ_ONLY, IDT, NONE, READ_ONLY, TASK,
+    What, accessed, comes_out, cpu_at, segment,
 };
 use descriptors::Cpu;
 use event_entry::{Kind, NotDelivered};
@@ -10,6 +10,8 @@ use ia32_types::Stop;
 use sys_exec::SysEffect;
 
 const FAILED: Result<(), NotDelivered> = Err(NotDelivered::Stop(Stop::DeliveryFailed));
+
+const WRAPPED: Result<(), NotDelivered> = Err(NotDelivered::Stop(Stop::WrapAccess));
 
 const PRIVILEGE: Result<(), NotDelivered> = Err(NotDelivered::Privilege);
 
@@ -46,6 +48,9 @@ enum But {
     Stack(u32),
     Task(u32),
     Gates(u32),
+    Table(u32),
+    /// A descriptor beyond the table's page, for the inner stack.
+    FarStack(u16),
 }
 
 fn changed(case: Case, but: But) -> Case {
@@ -59,6 +64,11 @@ fn changed(case: Case, but: But) -> Case {
         But::Stack(at) => case.cpu.regs.r[4] = at,
         But::Task(at) => case.cpu.task.base = at,
         But::Gates(at) => case.cpu.idt.base = at,
+        But::Table(at) => case.cpu.gdt.base = at,
+        But::FarStack(sel) => {
+            case.cpu.gdt.limit = 0xFFFF;
+            case.before[3] = (TASK + 8, u32::from(sel));
+        }
     }
     case.then = case.cpu;
     case
@@ -67,13 +77,15 @@ fn changed(case: Case, but: But) -> Case {
 /// The level, and what is otherwise than in a delivery that succeeds.
 type Row = (u8, But);
 
-const REFUSED: [Row; 48] = [
+const REFUSED: [Row; 61] = [
     // the gate lies within the limit, and is read
     (0, But::GateLimit(0x10E)),
     (0, But::GateLimit(0x108)),
     (3, But::GateLimit(0x000)),
     (0, But::Gates(ABSENT)),
     (3, But::Gates(0xEF00)),
+    (0, But::Gates(0xFFFF_FEF0)),
+    (3, But::Gates(0xFFFF_FF00)),
     // its form: a task gate, a call gate, 16 bits, bit 4; and it is present
     (0, But::Word(GATE + 4, 0x1234_8500)),
     (0, But::Word(GATE + 4, 0x1234_8C00)),
@@ -88,7 +100,12 @@ const REFUSED: [Row; 48] = [
     (0, But::Word(GATE, 0x000C_5678)),
     (0, But::Word(GATE, 0x00B0_5678)),
     (0, But::Limit(0x0E)),
-    // its descriptor: data, of level 3, not present, a task, conforming
+    // its descriptor is read: the page, its second half's page, or that of the table is absent
+    (0, But::Table(ABSENT)),
+    (3, But::Table(0xEFF4)),
+    (0, But::Word(GDT_ENTRY, GDT_ABSENT)),
+    (3, But::Word(GDT_ENTRY, GDT_ABSENT)),
+    // data, of level 3, not present, a task, conforming
     (0, But::Word(GATE, 0x0010_5678)),
     (0, But::Word(GATE, 0x0018_5678)),
     (3, But::Word(GATE, 0x001B_5678)),
@@ -110,14 +127,22 @@ const REFUSED: [Row; 48] = [
     (3, But::Word(TASK + 8, 0x0000_00B0)),
     (3, But::Word(TASK + 8, 0x0000_0011)),
     (3, But::Word(TASK + 8, 0x0000_0013)),
-    // its descriptor: level 3, code, not present, a task, one that expands down
+    // its descriptor is read: the first absent page, the last place of the table, and one of zeros
+    (3, But::FarStack(0xC000)),
+    (3, But::FarStack(0xFFF8)),
+    (3, But::FarStack(0xA000)),
+    // level 3, code, not present, a task, one that expands down
     (3, But::Word(TASK + 8, 0x0000_0020)),
     (3, But::Word(TASK + 8, 0x0000_0008)),
     (3, But::Word(TASK + 8, 0x0000_0050)),
     (3, But::Word(TASK + 8, 0x0000_0078)),
     (3, But::Word(TASK + 8, 0x0000_0090)),
     (3, But::Word(TASK + 8, 0x0000_0068)),
-    // what is pushed: the page is absent or may not be written
+    // what is pushed: the page is absent or may not be written, up to the last address and from the first
+    (0, But::Stack(0x00)),
+    (0, But::Stack(0x0C)),
+    (3, But::Word(TASK + 4, 0x0000_0000)),
+    (3, But::Word(TASK + 4, 0x0000_0014)),
     (0, But::Stack(ABSENT + 0x10)),
     (0, But::Stack(READ_ONLY + 0x10)),
     (0, But::Stack(READ_ONLY + 0x1008)),
@@ -133,6 +158,30 @@ fn deliveries_meet_their_tests(rt: HostRuntime) {
         let (cpl, but) = *row;
         for kind in [Kind::Raised, Kind::External] {
             let case = changed(refused(cpl, kind, None, FAILED), but);
+            comes_out(&rt, alloc, k, &case);
+        }
+    }
+}
+
+// A range that passes the last address, which is told as such: the gate, a descriptor, the task, what is pushed.
+const WRAPS: [Row; 8] = [
+    (0, But::Gates(0xFFFF_FEF4)),
+    (0, But::Table(0xFFFF_FFF4)),
+    (3, But::Task(0xFFFF_FFFA)),
+    (0, But::Stack(0x01)),
+    (0, But::Stack(0x04)),
+    (0, But::Stack(0x0B)),
+    (3, But::Word(TASK + 4, 0x0000_0004)),
+    (3, But::Word(TASK + 4, 0x0000_0013)),
+];
+
+#[test]
+fn deliveries_stop_at_the_last_address(rt: HostRuntime) {
+    let alloc = rt.alloc();
+    for (k, row) in WRAPS.iter().enumerate() {
+        let (cpl, but) = *row;
+        for code in [None, Some(0)] {
+            let case = changed(refused(cpl, Kind::External, code, WRAPPED), but);
             comes_out(&rt, alloc, k, &case);
         }
     }
@@ -315,6 +364,38 @@ fn accessed_bits_are_written(rt: HostRuntime) {
     for (k, row) in MARKS.iter().enumerate() {
         comes_out(&rt, alloc, k, &marking(*row));
     }
+}
+
+// The table's page may not be written: the frame is pushed, and the delivery fails.
+fn not_marking(row: Marks) -> Case {
+    let mut case = marking(row);
+    case.before[4] = (GDT_ENTRY, GDT_READ_ONLY);
+    case.answer = Answer::Delivered(FAILED);
+    case.then = case.cpu;
+    case.after[6] = (0, 0);
+    case.after[7] = (0, 0);
+    case
+}
+
+// The inner stack's descriptor alone lies in such a page: CS is marked before it.
+fn half_marking() -> Case {
+    let mut case = marking((3, 0x28, 0xA000, 0x28));
+    case.cpu.gdt.limit = 0xFFFF;
+    case.before[4] = (READ_ONLY, 0x0000_FFFF);
+    case.before[5] = (READ_ONLY + 4, 0x00CF_9200);
+    case.answer = Answer::Delivered(FAILED);
+    case.then = case.cpu;
+    case.after[7] = (0, 0);
+    case
+}
+
+#[test]
+fn accessed_bits_that_may_not_be_written_end_a_delivery(rt: HostRuntime) {
+    let alloc = rt.alloc();
+    for (k, row) in MARKS.iter().enumerate() {
+        comes_out(&rt, alloc, k, &not_marking(*row));
+    }
+    comes_out(&rt, alloc, 0, &half_marking());
 }
 
 /// The level, the gate's upper word, the gate's selector, the inner stack's, and the flags.

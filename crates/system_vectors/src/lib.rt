@@ -7,6 +7,8 @@ mod handler;
 pub use handler::resumed;
 
 #[cfg(test)]
+mod branches;
+#[cfg(test)]
 mod control;
 #[cfg(test)]
 mod deliveries;

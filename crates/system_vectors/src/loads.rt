@@ -1,8 +1,9 @@
 //! Loads of segment registers and of the task register: each test at its first failing place.
 
 use crate::world::{
-    ABSENT, ALL, Answer, Case, GDT, NONE, READ_ONLY, What, Words, accessed, comes_out, cpu_at,
-    null, past, refused, segment, with, with_cr2, with_limit, with_segment,
+    ABSENT, ALL, Answer, Case, GDT, GDT_ABSENT, GDT_ENTRY, GDT_READ_ONLY, MORE, NONE, READ_ONLY,
+    What, Words, accessed, comes_out, cpu_at, null, past, refused, segment, with, with_cr2,
+    with_limit, with_segment,
 };
 use descriptors::{Cpu, Task};
 use ia32_types::Stop;
@@ -156,7 +157,7 @@ const JUMP: [Row; 36] = [
 ];
 
 // selector below 4; local table; limit; type 1; not available; not present
-const TASKS: [Row; 20] = [
+const TASKS: [Row; 22] = [
     (3, ALL, 0x70, Load::Raises(13, 0)),
     (0, ALL, 0x00, Load::Raises(13, 0)),
     (0, ALL, 0x03, Load::Raises(13, 0)),
@@ -167,8 +168,10 @@ const TASKS: [Row; 20] = [
     (0, 0x76, 0x70, Load::Raises(13, 0x70)),
     (0, ALL, 0x88, Load::Form),
     (0, ALL, 0x8B, Load::Form),
+    (0, MORE, 0xB8, Load::Form),
     (0, ALL, 0x78, Load::Raises(13, 0x78)),
     (0, ALL, 0x7B, Load::Raises(13, 0x78)),
+    (0, MORE, 0xB0, Load::Raises(13, 0xB0)),
     (0, ALL, 0x68, Load::Raises(13, 0x68)),
     (0, ALL, 0x08, Load::Raises(13, 0x08)),
     (0, ALL, 0x10, Load::Raises(13, 0x10)),
@@ -287,6 +290,14 @@ fn task_refused(row: Row) -> Case {
     )
 }
 
+// LTR of CX where the table's page has another entry: a page fault with this code at this place.
+fn task_denied(entry: u32, code: u32, at: u32) -> Case {
+    let mut case = task_refused((0, ALL, 0x70, Load::Raises(14, code)));
+    case.before[0] = (GDT_ENTRY, entry);
+    case.then = with_cr2(case.then, at);
+    case
+}
+
 // LTR of CX, after which the task is busy.
 fn task_loaded() -> Case {
     let mut cpu = with(with_limit(cpu_at(0), 0x77), 1, 0x70);
@@ -345,6 +356,9 @@ fn tasks_meet_their_tests(rt: HostRuntime) {
         comes_out(&rt, alloc, k, &task_refused(*row));
     }
     comes_out(&rt, alloc, 0, &task_loaded());
+    // the descriptor is read, and the task made busy, by the supervisor
+    comes_out(&rt, alloc, 0, &task_denied(GDT_ABSENT, 0, 0x3070));
+    comes_out(&rt, alloc, 0, &task_denied(GDT_READ_ONLY, 3, 0x3075));
 }
 
 /// The level, the table's base, CR0, what MOV of 30 or 43 to ES comes to, and CR2 then.

@@ -2,8 +2,8 @@
 
 use crate::loads::{Load, effect_of};
 use crate::world::{
-    ABSENT, ALL, Case, EIP, NONE, Words, accessed, comes_out, cpu_at, null, past, refused, segment,
-    with, with_cr2, with_flags, with_limit, with_segment,
+    ABSENT, ALL, Case, EIP, GDT_ENTRY, GDT_READ_ONLY, NONE, READ_ONLY, Words, accessed, comes_out,
+    cpu_at, null, past, refused, segment, with, with_cr2, with_flags, with_limit, with_segment,
 };
 use descriptors::{Cpu, Hidden};
 use ia32_types::Stop;
@@ -424,4 +424,54 @@ fn returns_read_with_the_rights_of_their_level(rt: HostRuntime) {
     let cpu = with(cpu_at(0), 4, 0xEFF4);
     let case = inner(cpu, frame(0xEFF4, 0x08, 0x0000_0002, 0), 0x08);
     comes_out(&rt, alloc, 0, &case);
+}
+
+/// The level, CS, SS, the image of the flags, what comes, and CR2 then.
+type Mark = (u8, u16, u16, u32, SysEffect, u32);
+
+const DENIED: SysEffect = SysEffect::Raise {
+    vector: 14,
+    code: 3,
+};
+
+const FOREIGN: SysEffect = SysEffect::Stop(Stop::FlagBits);
+
+// The table's page may not be written. Accessed bits are written after all tests, CS's first, by the supervisor.
+const MARKS: [Mark; 6] = [
+    (0, 0x28, 0x00, 0x0000_0002, DENIED, 0x302D),
+    (3, 0x3B, 0x00, 0x0000_0002, DENIED, 0x303D),
+    (0, 0x3B, 0x43, 0x0000_0002, DENIED, 0x303D),
+    (0, 0x1B, 0x43, 0x0000_0002, DENIED, 0x3045),
+    (0, 0x28, 0x00, 0x0000_0102, FOREIGN, 0xBAD0_0000),
+    (0, 0x3B, 0x43, 0x0000_0102, FOREIGN, 0xBAD0_0000),
+];
+
+fn not_marking(row: Mark) -> Case {
+    let (cpl, code, stack, image, effect, cr2) = row;
+    let mut before = frame(top_at(cpl), code, image, stack);
+    before[5] = (GDT_ENTRY, GDT_READ_ONLY);
+    let mut case = refused(at_top(cpl), before, IRET, effect);
+    case.then = with_cr2(at_top(cpl), cr2);
+    case
+}
+
+// SS's descriptor alone lies in such a page: CS is marked before it.
+fn half_marking() -> Case {
+    let cpu = with_limit(at_top(0), 0xFFFF);
+    let mut before = frame(top_at(0), 0x3B, 0x0000_0002, 0xA003);
+    before[5] = (READ_ONLY, 0x0000_FFFF);
+    before[6] = (READ_ONLY + 4, 0x00CF_F200);
+    let mut case = refused(cpu, before, IRET, DENIED);
+    case.then = with_cr2(cpu, READ_ONLY + 5);
+    case.after[0] = accessed(0x38, 0xFB);
+    case
+}
+
+#[test]
+fn accessed_bits_are_written_last(rt: HostRuntime) {
+    let alloc = rt.alloc();
+    for (k, row) in MARKS.iter().enumerate() {
+        comes_out(&rt, alloc, k, &not_marking(*row));
+    }
+    comes_out(&rt, alloc, 0, &half_marking());
 }

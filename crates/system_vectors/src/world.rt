@@ -38,8 +38,18 @@ pub const ABSENT: u32 = 0xF000;
 
 /// Where the instruction begins.
 pub const EIP: u32 = 0x1234_5600;
-/// The limit of the global table with all its descriptors.
+/// The limit of the global table, behind which two descriptors lie.
 pub const ALL: u16 = 0xAF;
+
+/// Its limit with those two.
+pub const MORE: u16 = 0xBF;
+
+/// The entry that maps the page of the global table, and its values where that page is not present or may not be written.
+pub const GDT_ENTRY: u32 = 0x200C;
+
+pub const GDT_ABSENT: u32 = 0x0000_3062;
+
+pub const GDT_READ_ONLY: u32 = 0x0000_3061;
 
 /// Byte 5 of the flat descriptors, from selector 8 on.
 const FLAT: [u32; 12] = [
@@ -49,7 +59,7 @@ const FLAT: [u32; 12] = [
 ];
 
 /// The two words of the other descriptors, from selector 68 on.
-const OTHER: [(u32, u32); 9] = [
+const OTHER: [(u32, u32); 11] = [
     (0x5000_0067, 0x0000_8200), // 68 a local table
     (0x5000_0067, 0x0000_8900), // 70 a task
     (0x5000_0067, 0x0000_8B00), // 78 a busy task
@@ -59,6 +69,8 @@ const OTHER: [(u32, u32); 9] = [
     (0x0000_FFFF, 0x00CF_9E00), // 98 conforming code
     (0x5000_002B, 0x0000_8300), // A0 a busy task of 16 bits
     (0x0008_0000, 0x0000_8C00), // A8 a call gate
+    (0x5000_0067, 0x0000_0B00), // B0 a busy task that is not present
+    (0x5000_002B, 0x0000_0100), // B8 a task of 16 bits that is not present
 ];
 
 /// What is done: the instruction that begins the bytes, or an event with its error code, by vector 0x21; or such an
