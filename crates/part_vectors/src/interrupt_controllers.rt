@@ -129,6 +129,45 @@ static LEVELS: [Step; 12] = [
     Step::Taken(Some(0x27)),
 ];
 
+// A first command word clears requests, service and mask, and leaves the base until the next word comes.
+static AGAIN: [Step; 34] = [
+    Step::Write(MASTER_DATA, 0x80, Did::Done),
+    Step::Write(MASTER, 0x0B, Did::Done),
+    Step::Edge(3),
+    Step::Taken(Some(0x23)),
+    Step::Edge(5),
+    Step::Read(MASTER, 8),
+    Step::Pending(None),
+    Step::Write(MASTER, 0x11, Did::Done),
+    Step::Read(MASTER, 0),
+    Step::Read(MASTER_DATA, 0),
+    Step::Pending(None),
+    Step::Edge(7),
+    Step::Read(MASTER, 0x80),
+    Step::Pending(Some(0x27)),
+    Step::Write(MASTER_DATA, 0x75, Did::Done),
+    Step::Pending(Some(0x77)),
+    Step::Write(MASTER_DATA, 4, Did::Done),
+    Step::Taken(Some(0x77)),
+    Step::Write(MASTER_DATA, 1, Did::Done),
+    Step::Read(MASTER_DATA, 0),
+    // the slave too
+    Step::Write(SLAVE_DATA, 0xFF, Did::Done),
+    Step::Edge(9),
+    Step::Pending(None),
+    Step::Write(SLAVE, 0x11, Did::Done),
+    Step::Pending(None),
+    Step::Edge(12),
+    Step::Pending(Some(0x2C)),
+    Step::Taken(Some(0x2C)),
+    Step::Edge(8),
+    Step::Write(SLAVE_DATA, 0x98, Did::Done),
+    Step::Write(MASTER, 0x62, Did::Done),
+    Step::Pending(Some(0x98)),
+    Step::Write(SLAVE_DATA, 2, Did::Done),
+    Step::Taken(Some(0x98)),
+];
+
 #[test]
 fn lines_are_raised_taken_and_ended_by_their_levels(rt: HostRuntime) {
     let nothing = "nothing is raised before the start";
@@ -137,4 +176,6 @@ fn lines_are_raised_taken_and_ended_by_their_levels(rt: HostRuntime) {
     follow(&rt, slave, &mut started(), &BOTH);
     let highest = "the highest unmasked level comes first";
     follow(&rt, highest, &mut started(), &LEVELS);
+    let again = "a chip that is started again goes on raising";
+    follow(&rt, again, &mut started(), &AGAIN);
 }

@@ -10,22 +10,17 @@ fn gives_frames_out_and_takes_them_back(rt: HostRuntime) {
     assert!(rt; ram.len() == 16384);
     ram.write32(FRAME * 3 + 8, 99);
     let mut pool = Pool::new(&mut ram, 2, 2);
-    let all = pool.free();
-    let first = pool.take(&mut ram);
-    let second = pool.take(&mut ram);
-    let zeroed = ram.read32(FRAME * 3 + 8);
-    assert!(rt; all == 2 && first == Some(2) && second == Some(3) && zeroed == 0);
-    let third = pool.take(&mut ram);
-    assert!(rt; third.is_none() && pool.free() == 0);
-    // `first` is 2, as was asserted
-    if let Some(frame) = first {
-        ram.write32(FRAME * frame + 8, 7);
-        pool.give(&mut ram, frame);
-        let back = pool.free();
-        let again = pool.take(&mut ram);
-        let zeroed = ram.read32(FRAME * 2 + 8);
-        pool.reset(&mut ram);
-        let reset = pool.take(&mut ram);
-        assert!(rt; back == 1 && again == Some(2) && zeroed == 0 && reset == Some(2));
-    }
+    assert!(rt; pool.free() == 2);
+    assert!(rt; pool.take(&mut ram) == Some(2));
+    assert!(rt; pool.take(&mut ram) == Some(3));
+    assert!(rt; ram.read32(FRAME * 3 + 8) == 0);
+    assert!(rt; pool.take(&mut ram).is_none());
+    assert!(rt; pool.free() == 0);
+    ram.write32(FRAME * 2 + 8, 7);
+    pool.give(&mut ram, 2);
+    assert!(rt; pool.free() == 1);
+    assert!(rt; pool.take(&mut ram) == Some(2));
+    assert!(rt; ram.read32(FRAME * 2 + 8) == 0);
+    pool.reset(&mut ram);
+    assert!(rt; pool.take(&mut ram) == Some(2));
 }

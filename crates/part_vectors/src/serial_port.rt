@@ -32,22 +32,43 @@ fn follow(rt: &impl Abort, uart: &mut Uart, steps: &[Step]) {
     }
 }
 
-const NO_MORE: [Step; 2] = [Step::Read(0x3FD, 0x60), Step::Read(0x3F8, 0)];
+const NO_MORE: [Step; 3] = [
+    Step::Read(0x3FD, 0x60),
+    Step::Read(0x3FA, 1),
+    Step::Read(0x3F8, 0),
+];
 
-#[test]
-fn receiver_keeps_sixteen_bytes_and_loses_the_seventeenth(rt: HostRuntime) {
+/// Sixteen of seventeen bytes are received, whatever was written to the register of the buffers.
+fn receive_sixteen(rt: &impl Abort, enabled: u8) {
     let mut uart = Uart::new();
+    let begin = [
+        Step::Write(0x3F9, 1, Did::Done),
+        Step::Write(0x3FA, enabled, Did::Done),
+    ];
+    follow(rt, &mut uart, &begin);
     for v in 0x41..0x52 {
         uart.receive(v);
     }
     for v in 0x41..0x51 {
-        let received = [Step::Read(0x3FD, 0x61), Step::Read(0x3F8, v)];
-        follow(&rt, &mut uart, &received);
+        let received = [
+            Step::Read(0x3FD, 0x61),
+            Step::Read(0x3FA, 4),
+            Step::Read(0x3F8, v),
+        ];
+        follow(rt, &mut uart, &received);
     }
-    follow(&rt, &mut uart, &NO_MORE);
+    follow(rt, &mut uart, &NO_MORE);
 }
 
-const REGISTERS: [Step; 25] = [
+#[test]
+fn receiver_keeps_sixteen_bytes_and_loses_the_seventeenth(rt: HostRuntime) {
+    // as at the start; with the buffers, and with their marks at 1 and 14 bytes; emptied at once
+    for enabled in [0x00u8, 0x01, 0xC1, 0xC7] {
+        receive_sixteen(&rt, enabled);
+    }
+}
+
+const REGISTERS: [Step; 28] = [
     Step::Write(0x3F8, 0x48, Did::Sent(0x48)),
     Step::Write(0x3F9, 2, Did::Stop),
     Step::Write(0x3FC, 0x10, Did::Stop),
@@ -66,6 +87,10 @@ const REGISTERS: [Step; 25] = [
     Step::Receive(0x41),
     Step::Read(0x3FA, 4),
     Step::Line(true),
+    // bits 6 and 7 there are 0, and bit 1 alone empties the receiver
+    Step::Write(0x3FA, 0xC5, Did::Done),
+    Step::Read(0x3FA, 4),
+    Step::Read(0x3FD, 0x61),
     Step::Write(0x3FA, 2, Did::Done),
     Step::Read(0x3FD, 0x60),
     Step::Line(false),

@@ -93,8 +93,31 @@ fn is_ready(met: &Touch) -> bool
     }
 }
 
-/// The instruction is fetched from two pages, the second behind the first, then one operand is read and another read and
-/// written, in the other's page. The next step only reads, and the one after it does nothing.
+const READ: Access = Access {
+    write: false,
+    user: false,
+};
+
+const WRITE: Access = Access {
+    write: true,
+    user: false,
+};
+
+/// One operand is read and another read and written, in the other's page.
+fn reach_operands<M: GuestMem>(rt: &impl Abort, memory: &mut M)
+    requires { (M.space memory.old).pages ≤ 58 }
+{
+    let touched = memory.touch(SOURCE, 4, READ);
+    assert!(rt; is_ready(&touched));
+    let touched = memory.touch(DATA, 4, WRITE);
+    assert!(rt; is_ready(&touched));
+    assert!(rt; memory.load(DATA, Size::Long) == 0x1122_3344);
+    assert!(rt; memory.load_earlier(SOURCE, Size::Long) == 0x5566);
+    memory.save(DATA, Size::Word, 0x5566);
+}
+
+/// The instruction is fetched from two pages, the second behind the first, then its operands are reached. The next step only
+/// reads, and the one after it does nothing.
 fn step<S: Shadows>(rt: &impl Abort, ram: &mut Ram, pool: &mut Pool, shadows: &mut S)
     requires stands { ∥ S.stands shadows.old ram.old ∥₁ }
     requires owns { Owns pool.old ram.old (S.frames shadows.old ram.old) }
@@ -108,26 +131,9 @@ fn step<S: Shadows>(rt: &impl Abort, ram: &mut Ram, pool: &mut Pool, shadows: &m
     let fetched = memory.fetch(SECOND_PAGE, 2, false);
     assert!(rt; is_ready(&fetched));
     memory.own(CODE, 4);
-    let read = Access {
-        write: false,
-        user: false,
-    };
-    let touched = memory.touch(SOURCE, 4, read);
-    assert!(rt; is_ready(&touched));
-    let touched = memory.touch(
-        DATA,
-        4,
-        Access {
-            write: true,
-            user: false,
-        },
-    );
-    assert!(rt; is_ready(&touched));
-    assert!(rt; memory.load(DATA, Size::Long) == 0x1122_3344);
-    assert!(rt; memory.load_earlier(SOURCE, Size::Long) == 0x5566);
-    memory.save(DATA, Size::Word, 0x5566);
+    reach_operands(rt, &mut memory);
     assert!(rt; memory.finish(Side::Kernel) == Some(3));
-    let touched = memory.touch(SOURCE, 4, read);
+    let touched = memory.touch(SOURCE, 4, READ);
     assert!(rt; is_ready(&touched));
     assert!(rt; memory.finish(Side::Kernel) == Some(1));
     assert!(rt; memory.finish(Side::Kernel) == Some(0));
