@@ -4,11 +4,12 @@ ghost use Rattle.std.specs.Prelude.{◌≡◌, ◌≤◌, length, true};
 ghost use Rattle.std.specs.List.{All};
 ghost use Rattle.board.specs.ScriptForm.{is_script};
 
-use crate::common::{are_same, field, image_of, is_so, unfolded};
+use crate::common::{add, are_same, field, image_of, is_so, unfolded};
 use crate::slices::no_event;
 use guest_sched::{Kernel, SharedFault, read_schedule, run_shared};
 use host_cpl3::Machine;
 use pv_io::MemSink;
+use run_trace::{End, Ended};
 use std::alloc::Global;
 use std::process::Abort;
 use worked_kernels::{READS_ITS_TEXT, SENDS_A_BYTE, SHARES};
@@ -39,14 +40,28 @@ fn kernels_of(rt: &impl Abort, alloc: Global, letters: &[u8]) -> Vec<Kernel>
     kernels
 }
 
-/// What is printed in the turns of a text, and whether all of them ended. Some calls of the sink may fail.
+/// How each kernel ended: its steps, `bound` or its stop, and its fills.
+fn told(rt: &impl Abort, alloc: Global, ended: &[Ended]) -> Vec<u8> {
+    let mut text = Vec::new(alloc);
+    for one in ended {
+        let (steps, fills) = (one.steps, one.fills);
+        let line = match one.end {
+            End::Bound => format!(in alloc; "{steps} bound {fills}/"),
+            End::Stopped(stop) => format!(in alloc; "{steps} {stop:?} {fills}/"),
+        };
+        add(rt, &mut text, line.expect(rt, "memory").as_bytes());
+    }
+    text
+}
+
+/// What is printed in the turns of a text, and how all of them ended. Some calls of the sink may fail.
 fn shares(
     rt: &impl Abort,
     alloc: Global,
     letters: &[u8],
     text: &[u8],
     fail: Vec<u64>,
-) -> (MemSink, bool)
+) -> (MemSink, Vec<u8>)
     requires { (1 ≤ length letters.now) × (length letters.now ≤ 4) }
 {
     let kernels = kernels_of(rt, alloc, letters);
@@ -54,32 +69,29 @@ fn shares(
     let mut host = Machine::new();
     let mut out = MemSink::new(alloc, 4096, fail).expect(rt, "memory");
     match run_shared(alloc, &kernels, &schedule, 2048, &mut host, &mut out) {
-        Ok(ended) => {
-            assert_eq!(rt; ended.len(), letters.len());
-            (out, true)
-        }
-        Err(SharedFault::Write) => (out, false),
+        Ok(ended) => (out, told(rt, alloc, &ended)),
+        Err(SharedFault::Write) => (out, Vec::new(alloc)),
         Err(_) => panic!(rt; "no end"),
     }
 }
 
 /// A line says what it shows, the kernels by their letters, the call of the sink that fails or `-` for none, what is printed,
-/// and the schedule.
+/// how each kernel ended, and the schedule.
 fn shares_so(rt: &impl Abort, alloc: Global, line: &str) {
     let (_name, rest) = field(rt, line);
     let (letters, rest) = field(rt, rest);
     let (call, rest) = field(rt, rest);
-    let (prints, schedule) = field(rt, rest);
+    let (prints, rest) = field(rt, rest);
+    let (ends, schedule) = field(rt, rest);
     let mut fail = Vec::new(alloc);
     if let Ok(call) = call.parse() {
         assert!(rt; fail.push(call).is_ok());
     }
     let letters = letters.as_bytes();
     assert!(rt; letters.len() >= 1 && letters.len() <= 4);
-    let all = fail.is_empty();
     let schedule = unfolded(rt, alloc, schedule);
     let (out, ended) = shares(rt, alloc, letters, &schedule, fail);
-    is_so(rt, line, ended == all);
+    is_so(rt, line, are_same(&ended, ends.as_bytes()));
     is_so(
         rt,
         line,

@@ -1,17 +1,20 @@
 //! Kernels that share a host in turns.
 
 /// What a line shows; the kernels, `s` one that sends a byte, and `t` one that reads its text; the call of the sink that fails,
-/// counted from 0, or `-` for none; what is printed; and the turns. Lines of a text end at each `/`.
+/// counted from 0, or `-` for none; what is printed; of each kernel its steps, `bound` or its stop, and its fills; and the
+/// turns. Lines of a text end at each `/`. Where a sink fails nothing is told of ends. A kernel goes through the page of its text
+/// alone, which its first step fills; a step that stops fills none.
 pub const SHARES: &str = "\
 each line has its kernel's number|ss|-|0 2 out8 03f8 48/0 2 tx 48/1 2 out8 03f8 48/1 2 tx 48/\
-0 end steps 8/1 end steps 8/|0 3/1 8/0 5/
-a kernel stops in its turn|st|-|1 end steps 0 stop 9 TextTouched/0 2 out8 03f8 48/0 2 tx 48/0 end steps 8/|1 4/0 8/
+0 end steps 8/1 end steps 8/|8 bound 1/8 bound 1/|0 3/1 8/0 5/
+a kernel stops in its turn|st|-|1 end steps 0 stop 9 TextTouched/0 2 out8 03f8 48/0 2 tx 48/0 end steps 8/|\
+8 bound 1/0 TextTouched 0/|1 4/0 8/
 a stopped kernel goes no further|ts|-|0 end steps 0 stop 9 TextTouched/\
-1 2 out8 03f8 48/1 2 tx 48/1 end steps 8/|0 1/1 4/0 9/1 4/
+1 2 out8 03f8 48/1 2 tx 48/1 end steps 8/|0 TextTouched 0/8 bound 1/|0 1/1 4/0 9/1 4/
 one image is there four times|ssss|-|3 2 out8 03f8 48/3 2 tx 48/1 2 out8 03f8 48/1 2 tx 48/\
-0 end steps 0/1 end steps 3/2 end steps 2/3 end steps 4/|3 3/2 2/1 3/3 1/
-a sink fails at a number|ss|2|0 2 out8 03f8 48/|0 3/1 8/0 5/
-a sink fails between a number and its line|ss|3|0 2 out8 03f8 48/0 |0 3/1 8/0 5/
+0 end steps 0/1 end steps 3/2 end steps 2/3 end steps 4/|0 bound 0/3 bound 1/2 bound 1/4 bound 1/|3 3/2 2/1 3/3 1/
+a sink fails at a number|ss|2|0 2 out8 03f8 48/||0 3/1 8/0 5/
+a sink fails between a number and its line|ss|3|0 2 out8 03f8 48/0 ||0 3/1 8/0 5/
 ";
 
 /// Counts down at level 3 and turns interrupts off there, for which nothing is prepared.
