@@ -112,6 +112,12 @@ $ store B
 $ runs 0 12
 7 out8 0080 01
 end steps 12
+$ : ud2, whose exception finds no gate
+$ image 0
+text 0f 0b eb fe
+$ store B
+$ runs 4 3
+end steps 0 stop 4 DeliveryFailed
 $ : rdtsc, which is refused
 $ image 0
 text 0f 31 eb fe
