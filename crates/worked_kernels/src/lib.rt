@@ -20,7 +20,7 @@ mod spaces;
 pub use assembled::{EVENTS, PLAIN, USER};
 pub use built::BUILT;
 pub use damaged::{CUT_IMAGES, CUT_OBJECTS, DAMAGED_SCRIPTS, IMAGE_FIELDS, OBJECT_FIELDS, SCRIPT};
-pub use faults::{CALLS, ENDED, HALTS, NEVER_FAILING, OWN_OBJECT, PUTS, REFUSALS};
+pub use faults::{CALLS, ENDED, HALTS, NEVER_FAILING, OWN_OBJECT, PUTS, REFUSALS, SAVED_PUTS};
 pub use formats::{BY_GAPS, CUT_SITES, LONG, ONE_SITE, SENDS_A_BYTE};
 pub use hostile::{BORDERS, HOSTILE, LARGE};
 pub use interrupted::IS_INTERRUPTED;

@@ -154,7 +154,7 @@ fn a_text_may_end_with_the_saved_memory_and_not_pass_it(rt: HostRuntime) {
     follow_over(&rt, alloc, &mut files, LACKS_A_BYTE);
 }
 
-/// Image, script and then the store, which fails: what was printed before stands.
+/// Image, script, what was saved, where a run goes on from it, and then the store, which fails: what was printed before stands.
 #[test]
 fn a_store_that_fails_leaves_what_was_printed(rt: HostRuntime) {
     let mut files = follow(&rt, rt.alloc(), IS_SAVED);
@@ -163,6 +163,19 @@ fn a_store_that_fails_leaves_what_was_printed(rt: HostRuntime) {
     let (number, out) = answer(&rt, rt.alloc(), &mut files, "save --bare I B 2048 3 C", &[]);
     assert_eq!(rt; number, 6);
     holds(&rt, 0, are_same(out.bytes(), b"2 out8 03f8 48\n2 tx 48\n"));
+    let call = files.calls.wrapping_add(3);
+    files.fail.push(call).expect(&rt, "memory");
+    let (number, out) = answer(
+        &rt,
+        rt.alloc(),
+        &mut files,
+        "save --wedge I B from C 8 D",
+        &[],
+    );
+    assert_eq!(rt; number, 6);
+    holds(&rt, 1, out.bytes().is_empty());
+    assert_eq!(rt; files.store_faults, 2);
+    follow_over(&rt, rt.alloc(), &mut files, "$ lost D\n");
 }
 
 /// A kernel as a session tells it: what makes its image and its script, the bound of its runs, and what they print.

@@ -7,12 +7,13 @@ use pv_io::{Files, MemFiles, SureFiles, SureSink};
 use std::alloc::Global;
 use std::process::Abort;
 use worked_kernels::{
-    CALLS, ENDED, HALTS, NEVER_FAILING, OWN_OBJECT, PUTS, REFUSALS, SENDS_A_BYTE,
+    CALLS, ENDED, HALTS, NEVER_FAILING, OWN_OBJECT, PUTS, REFUSALS, SAVED_PUTS, SENDS_A_BYTE,
 };
 
-/// Files that hold the source S, its object, its image, an empty script, and X.
+/// Files that hold the source S, its object, its image, an empty script, a certificate, and X.
 fn held(rt: &impl Abort, alloc: Global) -> MemFiles {
     let mut files = built(rt, alloc, HALTS.as_bytes());
+    store(rt, &mut files, "E", b"PVT1\x00\x00\x00\x00");
     store(rt, &mut files, "X", &[0x41; 60]);
     files
 }
@@ -42,34 +43,35 @@ fn calls_of<'a>(rt: &impl Abort, line: &'a str) -> Calls<'a> {
 }
 
 /// A command makes these calls of the files, and none of its names holds other bytes behind it.
-fn makes_calls(rt: &impl Abort, alloc: Global, line: &str) {
+fn makes_calls(rt: &impl Abort, alloc: Global, files: &mut MemFiles, line: &str) {
     let made = calls_of(rt, line);
-    let mut files = held(rt, alloc);
-    let before = all_held(rt, alloc, &files);
-    let calls = files.calls;
+    let before = all_held(rt, alloc, files);
+    let (calls, faults) = (files.calls, files.load_faults);
     if let Some(call) = made.call {
         files
             .fail
             .push(calls.wrapping_add(call))
             .expect(rt, "memory");
     }
-    let (number, out) = answer(rt, alloc, &mut files, made.command, &[made.put]);
+    let (number, out) = answer(rt, alloc, files, made.command, &[made.put]);
     is_so(rt, line, number == made.status && out.faults() == 0);
     is_so(rt, line, files.calls.wrapping_sub(calls) == made.count);
-    is_so(rt, line, files.load_faults == u64::from(made.status == 5));
-    is_so(rt, line, are_same(&all_held(rt, alloc, &files), &before));
+    let faults = files.load_faults.wrapping_sub(faults);
+    is_so(rt, line, faults == u64::from(made.status == 5));
+    is_so(rt, line, are_same(&all_held(rt, alloc, files), &before));
 }
 
 #[test]
 fn calls_of_files_end_at_the_first_fault_or_refusal(rt: HostRuntime) {
+    let mut files = held(&rt, rt.alloc());
     for line in CALLS.lines() {
         if !line.starts_with("--") {
-            makes_calls(&rt, rt.alloc(), line);
+            makes_calls(&rt, rt.alloc(), &mut files, line);
         }
     }
 }
 
-static OVER_STORED: [&str; 4] = [PUTS, REFUSALS, ENDED, OWN_OBJECT];
+static OVER_STORED: [&str; 5] = [PUTS, REFUSALS, ENDED, OWN_OBJECT, SAVED_PUTS];
 
 #[test]
 fn each_line_is_one_put_and_its_fault_is_told(rt: HostRuntime) {
