@@ -17,12 +17,12 @@ const ROOM: usize = 128;
 type Line = ArrayVec<u8, ROOM>;
 
 /// Puts an item's line, with its newline, in one call of the sink. `Failed` comes only where the sink's
-/// count rose; a front of the line was then taken.
+/// count rose; a front of the line was then taken. Where the line was put the count is as it was.
 #[tactic(auto, unfolding(crate::specs::Text::item_line))]
 pub fn put_item<O: Sink>(item: &Item, out: &mut O) -> Result<(), Failed>
     ensures ok { OnOk result (Appends (O.taken out.old) (O.taken out.new) (item_line item.now)) }
     ensures failed { OnErr result (AppendsFront (O.taken out.old) (O.taken out.new) (item_line item.now)) }
-    ensures later { O.faults out.old ≤ O.faults out.new }
+    ensures kept { OnOk result (O.faults out.new ≡ O.faults out.old) }
     ensures cause { OnErr result (Rose (O.faults out.old) (O.faults out.new)) }
 {
     let mut line: Line = ArrayVec::new();
@@ -37,7 +37,7 @@ pub fn put_item<O: Sink>(item: &Item, out: &mut O) -> Result<(), Failed>
 pub fn put_end<O: Sink>(ended: &Ended, out: &mut O) -> Result<(), Failed>
     ensures ok { OnOk result (Appends (O.taken out.old) (O.taken out.new) (end_line ended.now.steps ended.now.end)) }
     ensures failed { OnErr result (AppendsFront (O.taken out.old) (O.taken out.new) (end_line ended.now.steps ended.now.end)) }
-    ensures later { O.faults out.old ≤ O.faults out.new }
+    ensures kept { OnOk result (O.faults out.new ≡ O.faults out.old) }
     ensures cause { OnErr result (Rose (O.faults out.old) (O.faults out.new)) }
 {
     let mut line: Line = ArrayVec::new();

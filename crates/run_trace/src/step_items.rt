@@ -48,12 +48,12 @@ impl StepItems {
 }
 
 /// Puts the items' lines, each in one call of the sink. `Failed` comes only where the sink's count rose; a front of
-/// the lines was then taken.
+/// the lines was then taken. Where they were put the count is as it was.
 pub fn put_step<O: Sink>(items: &StepItems, out: &mut O) -> Result<(), Failed>
     requires { items.now.len ≤ 2 }
     ensures ok { OnOk result (Appends (O.taken out.old) (O.taken out.new) (lines_of (items_of items.now))) }
     ensures failed { OnErr result (AppendsFront (O.taken out.old) (O.taken out.new) (lines_of (items_of items.now))) }
-    ensures later { O.faults out.old ≤ O.faults out.new }
+    ensures kept { OnOk result (O.faults out.new ≡ O.faults out.old) }
     ensures cause { OnErr result (Rose (O.faults out.old) (O.faults out.new)) }
 {
     put_items(&items.list[..items.len as usize], out)
@@ -63,7 +63,7 @@ pub fn put_step<O: Sink>(items: &StepItems, out: &mut O) -> Result<(), Failed>
 fn put_items<O: Sink>(items: &[Item], out: &mut O) -> Result<(), Failed>
     ensures ok { OnOk result (Appends (O.taken out.old) (O.taken out.new) (lines_of items.now)) }
     ensures failed { OnErr result (AppendsFront (O.taken out.old) (O.taken out.new) (lines_of items.now)) }
-    ensures later { O.faults out.old ≤ O.faults out.new }
+    ensures kept { OnOk result (O.faults out.new ≡ O.faults out.old) }
     ensures cause { OnErr result (Rose (O.faults out.old) (O.faults out.new)) }
 {
     for item in items {
