@@ -1,15 +1,12 @@
 -- What a guest leaves of a pool it owns as it did.
-use Rattle.std.proofs.Common.{ℕ, ◌+◌, ◌<◌, ◌≤◌, List, [], ◌∷◌, Ok, Err, Result, arith}
+use Rattle.std.proofs.Common.{ℕ, ◌+◌, ◌<◌, ◌≤◌, List, [], ◌∷◌, arith}
 use Rattle.frame_pool.specs.Frames.{AreDistinct, AreWithin}
 use Rattle.frame_pool.specs.Pool.{free_list}
 use Rattle.frame_pool.specs.declared.Pool.{Pool}
 use Rattle.frame_pool.specs.Held.{times, Owns}
 use Rattle.frame_pool.proofs.Held.{Owns-sum, Owns-within}
 use Rattle.frame_pool.proofs.Lengths.{hit-self, times-cons, IsNotIn-times}
-use Rattle.pv_io.specs.declared.answer.Failed.{Failed}
-use Rattle.run_trace.specs.declared.pause.Pause.{Pause}
 use Rattle.wedge_step.specs.Pools.{Keeps}
-use Rattle.run_trace.specs.Pauses.{IfPaused}
 
 distinct_from : (gs : List ℕ) → ((f : ℕ) → times f gs ≤ 1) → AreDistinct gs
 distinct_from [] h = tt
@@ -45,8 +42,3 @@ keeps_owns p p' m m' fs fs' o k =
       out = λ f l. let w = inside f (omega (arith, l)) in let n = most f in record { low = w.0; high = w.1; out = IsNotIn-times f (free_list p' m') (omega (arith, n, l)) };
       once = λ f. let n = most f in omega (arith, n);
     }
-
--- wherever a slice has not failed
-pub owns_after : (result : Result Pause Failed) (p p' : Pool) (m m' fs fs' : List ℕ) → Owns p m fs → IfPaused result (Keeps p p' m m' fs fs') → IfPaused result (Owns p' m' fs')
-owns_after (Ok pause) p p' m m' fs fs' o k = keeps_owns p p' m m' fs fs' o k
-owns_after (Err failed) p p' m m' fs fs' o k = tt

@@ -1,5 +1,5 @@
 -- A slice of a guest, from what the guest makes of its shadows before it.
-use Rattle.std.proofs.Common.{◌≡◌, ℕ, ◌≤◌, Bool, List, [], ◌∷◌, ◌++◌, Option, Result, Ok, Err, sym, subst, arith}
+use Rattle.std.proofs.Common.{◌≡◌, ℕ, ◌≤◌, Bool, List, [], ◌∷◌, ◌++◌, Option, Result, sym, subst, arith}
 use Rattle.std.specs.FinMap.{len, empty}
 use Rattle.std.proofs.lemmas.List.Elements.{All-weaker}
 use Rattle.pv_io.specs.declared.answer.Failed.{Failed}
@@ -16,7 +16,6 @@ use Rattle.wedge_step.specs.CarryLaws.{CarryLaws}
 use Rattle.wedge_step.specs.Filled.{CountsFills}
 use Rattle.wedge_core.specs.Slices.{Counts}
 use Rattle.wedge_core.proofs.SlicedBy.{SliceAs}
-use Rattle.run_trace.specs.Pauses.{IfPaused}
 use Rattle.wedge_core.specs.Starts.{IsAsNew}
 
 -- at first no fewer pages were kept
@@ -45,10 +44,6 @@ slice_begun m bound old new before after told tells first pages fills filled not
   kept = λ s. h.kept (from s);
   left = λ s. h.left (from s);
 }
-
-pub pauses_more : (result : Result Pause Failed) (A B : Type 0) → (A → B) → IfPaused result A → IfPaused result B
-pauses_more (Ok pause) A B f a = f a
-pauses_more (Err failed) A B f a = tt
 
 -- where the present tables are as new and nothing is present, all is known
 pub anew_carries : {S : Type 0} (shows : shadows.Ghosts S) → CarryLaws → (m : Setting) (b : State) (s : S) (memory : List ℕ)

@@ -12,7 +12,7 @@ use Rattle.board.specs.declared.devices.Board.{Board}
 use Rattle.image_check.specs.Image.{Image}
 use Rattle.image_load.specs.Boot.{text_pages}
 use Rattle.pv_io.specs.declared.answer.Failed.{Failed}
-use Rattle.run_trace.specs.Pauses.{IfPaused, IfReached}
+use Rattle.run_trace.specs.Pauses.{IfReached}
 use Rattle.run_trace.specs.declared.pause.Pause.{Pause}
 use Rattle.shadow_cache.specs.declared.roots.Roots.{Roots}
 use Rattle.machine_model.specs.State.{Setting, State, wedge}
@@ -61,12 +61,12 @@ pub record BeginsSlice (old new : Scene Roots) : Type 0 where
   pub fewer : kept_in of_roots new ≤ kept_in of_roots old
   pub anew : old.guest.held ≡ 2 → IsAsNew of_roots new.guest.shadows new.memory
 
--- Behind a slice: where all steps were done the front of the host's memory is the guest's, with the text patched. Unless the
--- sink failed its frames are its own, and no more pages are kept than were filled, if that was so before.
+-- Behind a slice: where all steps were done the front of the host's memory is the guest's, with the text patched. However the
+-- slice ended its frames are its own, and no more pages are kept than were filled, if that was so before.
 pub record GuestLeaves (image : Image) (script : Events) (old new : Scene Roots) (result : Result Pause Failed) : Type 0 where
   pub memory : IfReached result
       (take (4096 * old.guest.frames) new.memory ≡ with_patches image (state_in of_roots (wedge image script old.guest.frames) new).ram)
-  pub owns : IfPaused result (Owns new.pool new.memory (frames_in of_roots new))
+  pub owns : Owns new.pool new.memory (frames_in of_roots new)
   pub filled : WereFilled (kept_in of_roots old) old.guest.fills → WereFilled (kept_in of_roots new) new.guest.fills
 
 -- All shadows were dropped: two frames are held, and no page is kept, for no value of CR3. The value of CR3 that they stand

@@ -8,7 +8,7 @@ use Rattle.machine_model.specs.State.{Setting, wedge}
 use Rattle.pv_io.specs.Causes.{Rose}
 use Rattle.pv_io.specs.declared.answer.Failed.{Failed}
 use Rattle.pv_io.specs.declared.sink.Sink as sinks
-use Rattle.run_trace.specs.Pauses.{IfPaused, IfReached}
+use Rattle.run_trace.specs.Pauses.{IfReached}
 use Rattle.run_trace.specs.declared.notes.Notes as notes
 use Rattle.run_trace.specs.declared.pause.Pause.{Pause}
 use Rattle.wedge_step.specs.Filled.{CountsFills}
@@ -55,16 +55,16 @@ module _ {S : Type 0} (g : shadows.Ghosts S) where
   abbrev pub BeginsBare : Scene S → Bool → Type 0
   BeginsBare c notes_wanted = BeginsEmpty (set_in g c) (free c) c.guest.held notes_wanted
 
-  -- Where all steps were done the guest can go on, and unless the sink failed its shadows stand, over the frames of the pool
-  -- that are its own.
+  -- Where all steps were done the guest can go on. However the slice ended its shadows stand, over the frames of the pool that
+  -- are its own, and each other frame that was out is out and as it was.
   pub record SliceLeaves (image : Image) (bound : ℕ) (old new : Scene S) (result : Result Pause Failed) : Type 0 where
     pub reached : IfReached result (new.guest.step ≡ bound)
     pub held : IfReached result (IsHeldIn g (ground image old.guest.frames) new)
     pub ready : IfReached result (IsReadyIn g (ground image old.guest.frames) new)
     pub able : IfReached result (IsAble new.guest.cpu)
-    pub counted : IfPaused result (new.guest.held ≡ length (frames_in g new))
-    pub stands : IfPaused result (∥ g.stands new.guest.shadows new.memory ∥₁)
-    pub pool : IfPaused result (Keeps old.pool new.pool old.memory new.memory (frames_in g old) (frames_in g new))
-    pub few : IfPaused result (new.guest.fills ≤ 128 * new.guest.step)
+    pub counted : new.guest.held ≡ length (frames_in g new)
+    pub stands : ∥ g.stands new.guest.shadows new.memory ∥₁
+    pub pool : Keeps old.pool new.pool old.memory new.memory (frames_in g old) (frames_in g new)
+    pub few : new.guest.fills ≤ 128 * new.guest.step
     pub filled : CountsFills (kept_in g old) (kept_in g new) old.guest.fills new.guest.fills
     pub frames : new.guest.frames ≡ old.guest.frames

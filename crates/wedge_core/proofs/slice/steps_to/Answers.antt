@@ -475,10 +475,15 @@ returns-in-Err-put_seen-clause-leaves g c = record {
   held = tt;
   ready = tt;
   able = tt;
-  counted = tt;
-  stands = tt;
-  pool = tt;
-  few = tt;
+  counted = c.in-Ok.ensures.accounts.counted;
+  stands = c.in-Ok.ensures.accounts.stands;
+  pool =
+      keeps_join c.args.pool.now c.loop-running.pool c.one_step.new.pool (g.H.Host.bytes c.args.host.now) (g.H.Host.bytes c.stretch.new.host) (g.H.Host.bytes c.one_step.new.host)
+      (g.S.Shadows.frames c.args.running.now.shadows (g.H.Host.bytes c.args.host.now)) (g.S.Shadows.frames c.stretch.new.running.shadows (g.H.Host.bytes c.stretch.new.host)) (g.S.Shadows.frames c.one_step.new.running.shadows (g.H.Host.bytes c.one_step.new.host))
+      (keeps_join c.args.pool.now c.loop-running.pool c.loop-running.pool (g.H.Host.bytes c.args.host.now) (g.H.Host.bytes c.loop-running.host) (g.H.Host.bytes c.stretch.new.host)
+      (g.S.Shadows.frames c.args.running.now.shadows (g.H.Host.bytes c.args.host.now)) (g.S.Shadows.frames c.loop-running.running.shadows (g.H.Host.bytes c.loop-running.host)) (g.S.Shadows.frames c.stretch.new.running.shadows (g.H.Host.bytes c.stretch.new.host))
+      c.loop-running.invariant.pool (c.stretch.ensures.leaves.pool c.loop-running.pool (held_given g.S.Shadows c.args.image.now c.args.running.now.frames c.loop-running.running.frames c.loop-running.running c.begin.new.self c.loop-running.pool (g.H.Host.bytes c.loop-running.host) c.loop-running.invariant.frames c.loop-running.invariant.held))) c.in-Ok.ensures.accounts.pool;
+  few = c.in-Ok.ensures.steps.leaves.held.fills;
   filled = fills_join _ _ _ _ _ _ (fills_join _ _ _ _ _ _ c.loop-running.invariant.filled c.stretch.ensures.leaves.filled) c.in-Ok.ensures.accounts.filled;
   frames = c.in-Ok.ensures.accounts.frames ∙ (c.stretch.ensures.leaves.frames ∙ c.loop-running.invariant.frames);
 }

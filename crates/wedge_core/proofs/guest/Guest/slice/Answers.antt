@@ -12,7 +12,6 @@ use Rattle.native_steps.specs.Mirrors.{shown}
 use Rattle.wedge_step.specs.Carried.{IsCarried}
 use Rattle.wedge_step.specs.Filled.{CountsFills, pages_kept}
 use Rattle.wedge_core.specs.Noted.{NotesOn}
-use Rattle.wedge_step.specs.Pools.{Keeps}
 use Rattle.wedge_core.specs.Calls.{GuestLeaves}
 use Rattle.wedge_core.specs.Promises.{with_patches}
 use Rattle.wedge_core.specs.Sliced.{BeginsBare, SliceIn, SliceLeaves, noting, outward}
@@ -25,9 +24,9 @@ use Rattle.wedge_step.specs.Scene.{scene}
 use Rattle.wedge_step.specs.Standing.{IsHeld, ground, state_of}
 use Rattle.wedge_step.specs.declared.running.Running.{Running}
 use Rattle.wedge_step.proofs.Keeping.{keeps_join}
-use Rattle.wedge_core.proofs.Owning.{owns_after}
+use Rattle.wedge_core.proofs.Owning.{keeps_owns}
 use Rattle.wedge_core.proofs.Guests.{still_filled, front_after}
-use Rattle.wedge_core.proofs.SliceStarts.{more_first, slice_begun, pauses_more, anew_carries}
+use Rattle.wedge_core.proofs.SliceStarts.{more_first, slice_begun, anew_carries}
 use Rattle.wedge_core.proofs.guest.Guest.slice.Goals as goal
 
 -- what holds of the guest as contracts see it holds of its fields
@@ -90,8 +89,7 @@ returns-clause-leaves g c =
           let m0 = g.H.Host.bytes c.args.host.now in
           let m1 = g.H.Host.bytes c.begin.new.host in
           let m2 = g.H.Host.bytes c.steps_to.new.host in
-          pauses_more c.steps_to.result (Keeps c.begin.new.pool c.steps_to.new.pool m1 m2 (roots.frames begun.shadows m1) (roots.frames end.shadows m2)) (Keeps c.args.pool.now c.steps_to.new.pool m0 m2 (roots.frames old.shadows m0) (roots.frames end.shadows m2))
-          (λ k. keeps_join c.args.pool.now c.begin.new.pool c.steps_to.new.pool m0 m1 m2 (roots.frames old.shadows m0) (roots.frames begun.shadows m1) (roots.frames end.shadows m2) c.begin.ensures.begins.keeps k) c.steps_to.ensures.leaves.pool;
+          keeps_join c.args.pool.now c.begin.new.pool c.steps_to.new.pool m0 m1 m2 (roots.frames old.shadows m0) (roots.frames begun.shadows m1) (roots.frames end.shadows m2) c.begin.ensures.begins.keeps c.steps_to.ensures.leaves.pool;
       few = c.steps_to.ensures.leaves.few;
       filled =
           let old = c.self.inside.running in
@@ -116,7 +114,7 @@ returns-clause-own g c =
       owns =
           let between = fields_between c.args.image.now c.self.inside.running c.args.self.now c.args.pool.now (g.H.Host.bytes c.args.host.now) c.self.view_is c.requires.between in
           let h = c.begin.ensures.begins.held c.args.image.now between.held in
-          owns_after c.steps_to.result _ _ _ _ _ _ h.owns c.steps_to.ensures.leaves.pool;
+          keeps_owns _ _ _ _ _ _ h.owns c.steps_to.ensures.leaves.pool;
       filled =
           let old = c.self.inside.running in
           let begun = c.begin.new.running in
