@@ -161,25 +161,25 @@ given_by m n pool text count end before after memory p = record { sets = p.sets;
 pub whole_put : KeptBefore → (image : Image) (script : Events) (frames n pool : ℕ) (old new : State) (counts counts_after : Counts) (a b c : Option (List ℕ)) (pages fills filled : ℕ) (notes_wanted : Bool) (notes_on : List Note → Type 0) (begins : Type 0) (pause : Pause) (before mid now : ℕ) (memory : List ℕ)
     → need image ≤ frames → old ≡ boot (wedge image script frames) → (pool ≡ 512 → begins) → pages ≡ 0 → fills ≡ 0 → filled ≤ 128 * new.step → IfReached (Ok pause) (take (4096 * frames) memory ≡ with_patches image new.ram)
     → IfReached (Ok pause) (Standing (wedge image script frames) new filled memory)
-    → (h : SliceAs (wedge image script frames) n old new counts counts_after a b pages fills filled notes_wanted notes_on begins (Ok pause)) → Appends b c (end_line new.step (end_of pause)) → before ≤ mid → mid ≤ now
+    → (h : SliceAs (wedge image script frames) n old new counts counts_after a b pages fills filled notes_wanted notes_on begins (Ok pause)) → Appends b c (end_line new.step (end_of pause)) → mid ≡ before → now ≡ mid
     → WedgeAnswers image script frames n pool a c before now counts counts_after memory (Ok (record { steps = new.step; end = end_of pause; fills = filled }))
 unfolding has_own has_fills
-whole_put law image script frames n pool old new counts counts_after a b c pages fills filled notes_wanted notes_on begins pause before mid now memory fits is from first none few has stands h put le more = (
+whole_put law image script frames n pool old new counts counts_after a b c pages fills filled notes_wanted notes_on begins pause before mid now memory fits is from first none few has stands h put same more = (
   lines_of (trace_of h.reports) ++ end_line new.step (end_of pause),
   promised law (wedge image script frames) n pool old new counts counts_after a b pages fills filled notes_wanted notes_on begins pause memory is from has h,
   fits,
   has_own (wedge image script frames) n pool old new counts counts_after a b pages fills filled notes_wanted notes_on begins pause is from first none few h,
   appends_both a b c _ _ h.text put,
-  omega (arith, le, more),
+  more ∙ same,
   guest_by (wedge image script frames) n h.last new h.end pause filled memory h.ends stands,
 )
 
 -- all lines and a front of the last one
 pub whole_unput : KeptBefore → (image : Image) (script : Events) (frames n pool : ℕ) (old new : State) (counts counts_after : Counts) (a b c : Option (List ℕ)) (pages fills filled : ℕ) (notes_wanted : Bool) (notes_on : List Note → Type 0) (begins : Type 0) (pause : Pause) (before mid now : ℕ) (memory : List ℕ)
     → need image ≤ frames → old ≡ boot (wedge image script frames) → IfReached (Ok pause) (take (4096 * frames) memory ≡ with_patches image new.ram)
-    → (h : SliceAs (wedge image script frames) n old new counts counts_after a b pages fills filled notes_wanted notes_on begins (Ok pause)) → AppendsFront b c (end_line new.step (end_of pause)) → before ≤ mid → Rose mid now
+    → (h : SliceAs (wedge image script frames) n old new counts counts_after a b pages fills filled notes_wanted notes_on begins (Ok pause)) → AppendsFront b c (end_line new.step (end_of pause)) → mid ≡ before → Rose mid now
     → WedgeAnswers image script frames n pool a c before now counts counts_after memory (Err fault.Write)
-whole_unput law image script frames n pool old new counts counts_after a b c pages fills filled notes_wanted notes_on begins pause before mid now memory fits is has h put le rose =
+whole_unput law image script frames n pool old new counts counts_after a b c pages fills filled notes_wanted notes_on begins pause before mid now memory fits is has h put same rose =
     let text = lines_of (trace_of h.reports) ++ end_line new.step (end_of pause) in (
       text,
       new.step,
@@ -187,7 +187,7 @@ whole_unput law image script frames n pool old new counts counts_after a b c pag
       fits,
       given_by (wedge image script frames) n 0 text new.step (end_of pause) counts counts_after memory (promised law (wedge image script frames) n 0 old new counts counts_after a b pages fills filled notes_wanted notes_on begins pause memory is (λ none. absurd (omega (arith, none))) has h),
       front_of a b c (lines_of (trace_of h.reports)) (end_line new.step (end_of pause)) [] _ h.text put (ap (λ (l : List ℕ). lines_of (trace_of h.reports) ++ l) (sym (append-nil (end_line new.step (end_of pause))))),
-      omega (arith, le, rose),
+      omega (arith, same, rose),
     )
 
 -- a front of the lines

@@ -1,5 +1,5 @@
 -- What a slice leaves of a guest's scene, of the sink and of the notes.
-use Rattle.std.specs.Prelude.{◌≡◌, ℕ, ◌+◌, ◌*◌, ◌≤◌, [], length, Bool, false, Result, OnErr}
+use Rattle.std.specs.Prelude.{◌≡◌, ℕ, ◌+◌, ◌*◌, ◌≤◌, [], length, Bool, false, Result, OnOk, OnErr}
 use Rattle.shadow_tables.specs.declared.shadows.Shadows as shadows
 use Rattle.board.specs.Scripts.{Events}
 use Rattle.host_cpl3.specs.declared.host.Host as hosts
@@ -32,9 +32,9 @@ pub record StaysSilent {L : Type 0} (n : notes.Ghosts L) (old new : L) : Type 0 
   pub wants : n.wants new ≡ n.wants old
   pub silent : n.wants old ≡ false → new ≡ old
 
--- the sink's faults don't fall, and where it failed they rose
+-- the sink's count of faults is as it was, and where it failed it rose
 pub record FaultsOf (old new : ℕ) (result : Result Pause Failed) : Type 0 where
-  pub later : old ≤ new
+  pub kept : OnOk result (new ≡ old)
   pub cause : OnErr result (Rose old new)
 
 module _ {S : Type 0} (g : shadows.Ghosts S) where

@@ -80,7 +80,7 @@ returns-in-Err-put_end g c =
     let has = front_held pause image script f c.slice.new.self c.slice.new.pool memory c.in-Ok.ensures.leaves.held in
     let put = subst (λ (k : ℕ). AppendsFront (g.O.Sink.taken c.slice.new.out) (g.O.Sink.taken c.put_end.new.out) (end_line k (end_of pause))) c.step.ensures
     (subst (λ (x : End). AppendsFront (g.O.Sink.taken c.slice.new.out) (g.O.Sink.taken c.put_end.new.out) (end_line c.step.result x)) c.end_of.ensures c.in-Err-put_end.ensures.failed) in
-    record { whole = whole_unput c.kept_on.ensures.before image script f c.args.n (pool_in g c.args.pool.now c.args.guest.now (g.H.Host.bytes c.args.host.now)) old new before after _ _ _ pages fills filled false no_notes (empty_in g c.args.pool.now c.args.guest.now (g.H.Host.bytes c.args.host.now)) pause _ (g.O.Sink.faults c.slice.new.out) _ memory c.requires.fits c.requires.first has h put c.in-Ok.ensures.faults.later c.in-Err-put_end.ensures.cause }
+    record { whole = whole_unput c.kept_on.ensures.before image script f c.args.n (pool_in g c.args.pool.now c.args.guest.now (g.H.Host.bytes c.args.host.now)) old new before after _ _ _ pages fills filled false no_notes (empty_in g c.args.pool.now c.args.guest.now (g.H.Host.bytes c.args.host.now)) pause _ (g.O.Sink.faults c.slice.new.out) _ memory c.requires.fits c.requires.first has h put c.in-Ok.ensures.faults.kept c.in-Err-put_end.ensures.cause }
 
 pub returns-in-Ok-put_end : goal.returns-in-Ok-put_end
 returns-in-Ok-put_end g c =
@@ -103,7 +103,7 @@ returns-in-Ok-put_end g c =
     let has = front_held pause image script f c.slice.new.self c.slice.new.pool memory c.in-Ok.ensures.leaves.held in
     let put = subst (λ (k : ℕ). Appends (g.O.Sink.taken c.slice.new.out) (g.O.Sink.taken c.put_end.new.out) (end_line k (end_of pause))) c.step.ensures
     (subst (λ (x : End). Appends (g.O.Sink.taken c.slice.new.out) (g.O.Sink.taken c.put_end.new.out) (end_line c.step.result x)) c.end_of.ensures c.in-Ok-put_end.ensures.ok) in
-    let done = whole_put c.kept_on.ensures.before image script f c.args.n (pool_in g c.args.pool.now c.args.guest.now (g.H.Host.bytes c.args.host.now)) old new before after _ _ _ pages fills filled false no_notes (empty_in g c.args.pool.now c.args.guest.now (g.H.Host.bytes c.args.host.now)) pause _ (g.O.Sink.faults c.slice.new.out) _ memory c.requires.fits c.requires.first (begins_in g m c.args.pool.now c.args.guest.now (g.H.Host.bytes c.args.host.now) c.requires.first c.requires.two) c.requires.none c.requires.unfilled c.in-Ok.ensures.leaves.few has (guest_held pause image script f c.slice.new.self c.slice.new.pool memory c.in-Ok.ensures.leaves.held) h put c.in-Ok.ensures.faults.later c.in-Ok-put_end.ensures.later in
+    let done = whole_put c.kept_on.ensures.before image script f c.args.n (pool_in g c.args.pool.now c.args.guest.now (g.H.Host.bytes c.args.host.now)) old new before after _ _ _ pages fills filled false no_notes (empty_in g c.args.pool.now c.args.guest.now (g.H.Host.bytes c.args.host.now)) pause _ (g.O.Sink.faults c.slice.new.out) _ memory c.requires.fits c.requires.first (begins_in g m c.args.pool.now c.args.guest.now (g.H.Host.bytes c.args.host.now) c.requires.first c.requires.two) c.requires.none c.requires.unfilled c.in-Ok.ensures.leaves.few has (guest_held pause image script f c.slice.new.self c.slice.new.pool memory c.in-Ok.ensures.leaves.held) h put c.in-Ok.ensures.faults.kept c.in-Ok-put_end.ensures.kept in
     record {
       whole = subst (λ (k : ℕ). WedgeAnswers image script f c.args.n (pool_in g c.args.pool.now c.args.guest.now (g.H.Host.bytes c.args.host.now)) (g.O.Sink.taken c.args.out.now) (g.O.Sink.taken c.put_end.new.out) (g.O.Sink.faults c.args.out.now) (g.O.Sink.faults c.put_end.new.out) before after memory (Ok (record { steps = k; end = c.end_of.result; fills = c.fills.result }))) (sym c.step.ensures)
           (subst (λ (x : End). WedgeAnswers image script f c.args.n (pool_in g c.args.pool.now c.args.guest.now (g.H.Host.bytes c.args.host.now)) (g.O.Sink.taken c.args.out.now) (g.O.Sink.taken c.put_end.new.out) (g.O.Sink.faults c.args.out.now) (g.O.Sink.faults c.put_end.new.out) before after memory (Ok (record { steps = c.slice.new.self.step; end = x; fills = c.fills.result }))) (sym c.end_of.ensures)

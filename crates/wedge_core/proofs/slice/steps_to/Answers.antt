@@ -141,7 +141,7 @@ loop-running-init g c =
       wants = refl;
       notes_wanted = c.wanted-notes_wanted.ensures;
       silent = λ w. refl;
-      later = at_least _;
+      kept = refl;
       bound = c.requires.begun;
       room = c.requires.room;
     }
@@ -188,7 +188,7 @@ loop-running-preserved-then-stretch-gt0 g c =
       wants = inv.wants;
       notes_wanted = inv.notes_wanted;
       silent = inv.silent;
-      later = inv.later;
+      kept = inv.kept;
       bound = c.stretch.ensures.counts.most;
       room = (let e = c.stretch.ensures.counts in room_past _ _ _ _ _ _ _ e.retired e.count e.most inv.room);
     }
@@ -403,7 +403,7 @@ loop-running-preserved g c =
       wants = c.tell_both.ensures.wants ∙ inv.wants;
       notes_wanted = inv.notes_wanted;
       silent = λ unwanted. c.tell_both.ensures.silent (inv.wants ∙ unwanted) ∙ inv.silent unwanted;
-      later = up_to _ _ _ inv.later c.in-Ok-put_seen.ensures.later;
+      kept = c.in-Ok-put_seen.ensures.kept ∙ inv.kept;
       bound = c.rest.ensures.within;
       room = room_then _ _ _ _ _ _ _ _ _ _ inv.room c.loop-running-test.true c.in-Ok.ensures.counts.few c.stretch.ensures.counts.retired none c.in-Ok.ensures.steps.leaves.count step_same c.rest.ensures.later c.rest.ensures.within;
     }
@@ -465,7 +465,7 @@ returns-in-Err-clause-silent g c = record {
 
 pub returns-in-Err-clause-faults : goal.returns-in-Err-clause-faults
 returns-in-Err-clause-faults g c = record {
-  later = c.loop-running.invariant.later;
+  kept = c.loop-running.invariant.kept;
   cause = tt;
 }
 
@@ -496,10 +496,9 @@ returns-in-Err-put_seen-clause-silent g c = record {
 
 pub returns-in-Err-put_seen-clause-faults : goal.returns-in-Err-put_seen-clause-faults
 returns-in-Err-put_seen-clause-faults g c = record {
-  later =
-      up_to _ _ _ c.loop-running.invariant.later c.in-Err-put_seen.ensures.later;
+  kept = tt;
   cause =
-      let a = c.loop-running.invariant.later in let b = c.in-Err-put_seen.ensures.cause in omega (arith, a, b);
+      let a = c.loop-running.invariant.kept in let b = c.in-Err-put_seen.ensures.cause in omega (arith, a, b);
 }
 
 pub returns-clause-leaves : goal.returns-clause-leaves
@@ -525,7 +524,7 @@ returns-clause-silent g c = record {
 
 pub returns-clause-faults : goal.returns-clause-faults
 returns-clause-faults g c = record {
-  later = c.loop-running.invariant.later;
+  kept = c.loop-running.invariant.kept;
   cause = tt;
 }
 

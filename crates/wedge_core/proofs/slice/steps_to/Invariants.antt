@@ -33,7 +33,7 @@ invariant-loop-running g l = record {
   wants : g.L.Notes.wants l.notes ≡ g.L.Notes.wants l.fn.notes;
   notes_wanted : l.notes_wanted ≡ g.L.Notes.wants l.fn.notes;
   silent : g.L.Notes.wants l.fn.notes ≡ false → l.notes ≡ l.fn.notes;
-  later : g.O.Sink.faults l.fn.out ≤ g.O.Sink.faults l.out;
+  kept : g.O.Sink.faults l.out ≡ g.O.Sink.faults l.fn.out;
   bound : l.running.step ≤ l.bound;
   room : g.H.Host.retired l.host + (l.bound - l.running.step) < 2 ^ 64;
 }
