@@ -37,7 +37,7 @@ use Rattle.bare_machine.specs.FreshLaws.{IsFreshRun, EachCourseIsARun}
 use Rattle.bare_machine.specs.FreshTexts.{CourseAs, Comes, FreshAnswers}
 use Rattle.bare_machine.proofs.Runs.{same_step}
 use Rattle.bare_machine.proofs.Wholes.{answered}
-use Rattle.pv_io.proofs.Pieces.{appends_both, appends_none, front_of, rose_later}
+use Rattle.pv_io.proofs.Pieces.{appends_both, appends_none, front_of}
 
 -- a course with reports before it
 abbrev pub behind : List Report → Course → Course
@@ -141,15 +141,15 @@ nears_on s exact n old now new told tells last clear less h slice =
 
 -- the sink failed in a slice of one step
 pub nears_failed : (s : Setting) (exact : Bool) (n : ℕ) (old now new : State) (told tells last : Option (List ℕ)) (failed : Failed) (before mid after : ℕ) → now.set ≡ empty → now.step < n → Nears s n old now told tells
-    → SliceAs s exact (now.step + 1) now new tells last (Err failed) → before ≤ mid → Rose mid after → CourseAs (up_to s n old) told last before after (Err fault.Write)
-nears_failed s exact n old now new told tells last failed before mid after clear less h slice le rose =
+    → SliceAs s exact (now.step + 1) now new tells last (Err failed) → mid ≡ before → Rose mid after → CourseAs (up_to s n old) told last before after (Err fault.Write)
+nears_failed s exact n old now new told tells last failed before mid after clear less h slice same rose =
     let c = up_to s n slice.last in
     let is = slice_course s exact n old now slice.last h.reports slice.reports clear less slice.ends slice.passes h.course in
     let whole = ap course_text is ∙ (text_behind (h.reports ++ slice.reports) c
     ∙ (ap (λ (l : List ℕ). l ++ (lines_of (trace_of c.reports) ++ end_line c.count c.end)) (reported h.reports slice.reports)
     ∙ append_assoc (lines_of (trace_of h.reports)) (lines_of (trace_of slice.reports)) (lines_of (trace_of c.reports) ++ end_line c.count c.end))) in (
       front_of told tells last (lines_of (trace_of h.reports)) (lines_of (trace_of slice.reports)) (lines_of (trace_of c.reports) ++ end_line c.count c.end) _ h.text slice.text whole,
-      rose_later before mid after le rose,
+      subst (λ (k : ℕ). Rose k after) same rose,
     )
 
 bound_here : (s : Setting) (n : ℕ) (b : State) → n ≤ b.step → up_to s n b ≡ record { reports = []; count = b.step; end = ends.Bound }
@@ -193,30 +193,30 @@ unfolding text_of
 text_here x count end told tells c = ap course_text c.course
 
 -- the last line was put
-course_put : (x : Course) (count : ℕ) (end : End) (a b c : Option (List ℕ)) (before mid now : ℕ) → Comes x count end a b → Appends b c (end_line count end) → before ≤ mid → mid ≤ now
+course_put : (x : Course) (count : ℕ) (end : End) (a b c : Option (List ℕ)) (before mid now : ℕ) → Comes x count end a b → Appends b c (end_line count end) → mid ≡ before → now ≡ mid
     → CourseAs x a c before now (Ok (record { steps = count; end = end; fills = 0 }))
-course_put x count end a b c before mid now h put le more = (
+course_put x count end a b c before mid now h put same kept = (
   ap (λ (y : Course). record { steps = y.count; end = y.end; fills = 0 }) (sym h.course),
   subst (λ (l : List ℕ). Appends a c l) (sym (text_here x count end a b h)) (appends_both a b c _ _ h.text put),
-  omega (arith, le, more),
+  kept ∙ same,
 )
 
 -- or a front of it
-course_unput : (x : Course) (count : ℕ) (end : End) (a b c : Option (List ℕ)) (before mid now : ℕ) → Comes x count end a b → AppendsFront b c (end_line count end) → before ≤ mid → Rose mid now
+course_unput : (x : Course) (count : ℕ) (end : End) (a b c : Option (List ℕ)) (before mid now : ℕ) → Comes x count end a b → AppendsFront b c (end_line count end) → mid ≡ before → Rose mid now
     → CourseAs x a c before now (Err fault.Write)
-course_unput x count end a b c before mid now h put le rose = (
+course_unput x count end a b c before mid now h put same rose = (
   front_of a b c _ (end_line count end) [] _ h.text put (text_here x count end a b h ∙ ap (λ (l : List ℕ). lines_of (trace_of h.reports) ++ l) (sym (append-nil (end_line count end)))),
-  rose_later before mid now le rose,
+  subst (λ (k : ℕ). Rose k now) same rose,
 )
 
 -- the steps are done, and the last line answers
-pub course_ended : (x : Course) (count : ℕ) (end : End) (a b c : Option (List ℕ)) (before mid now : ℕ) (result : Result Ended RunFault) → Comes x count end a b → before ≤ mid → EndsAs count end b c mid now result
+pub course_ended : (x : Course) (count : ℕ) (end : End) (a b c : Option (List ℕ)) (before mid now : ℕ) (result : Result Ended RunFault) → Comes x count end a b → mid ≡ before → EndsAs count end b c mid now result
     → CourseAs x a c before now result
-course_ended x count end a b c before mid now (Ok ended) h le e =
-    subst (λ (y : Ended). CourseAs x a c before now (Ok y)) (sym e.0) (course_put x count end a b c before mid now h e.1 le e.2)
-course_ended x count end a b c before mid now (Err fault.Write) h le e = course_unput x count end a b c before mid now h e.0 le e.1
-course_ended x count end a b c before mid now (Err (fault.TooSmall small)) h le e = absurd e
-course_ended x count end a b c before mid now (Err fault.Memory) h le e = absurd e
+course_ended x count end a b c before mid now (Ok ended) h same e =
+    subst (λ (y : Ended). CourseAs x a c before now (Ok y)) (sym e.0) (course_put x count end a b c before mid now h e.1 same e.2)
+course_ended x count end a b c before mid now (Err fault.Write) h same e = course_unput x count end a b c before mid now h e.0 same e.1
+course_ended x count end a b c before mid now (Err (fault.TooSmall small)) h same e = absurd e
+course_ended x count end a b c before mid now (Err fault.Memory) h same e = absurd e
 
 -- nothing is cached
 empty_allowed : (s : Setting) (b : State) → Loosened s b empty
@@ -285,9 +285,9 @@ all_left s n old start =
     ap (λ (k : ℕ). fresh_course s k old) left
 
 pub failed_from_start : (s : Setting) (exact : Bool) (n : ℕ) (old now new : State) (told tells last : Option (List ℕ)) (failed : Failed) (before mid after : ℕ) → old.step ≡ 0 → now.set ≡ empty → now.step < n → Nears s n old now told tells
-    → SliceAs s exact (now.step + 1) now new tells last (Err failed) → before ≤ mid → Rose mid after → CourseAs (fresh_course s n old) told last before after (Err fault.Write)
-failed_from_start s exact n old now new told tells last failed before mid after start clear less h slice le rose =
-    subst (λ (c : Course). CourseAs c told last before after (Err fault.Write)) (all_left s n old start) (nears_failed s exact n old now new told tells last failed before mid after clear less h slice le rose)
+    → SliceAs s exact (now.step + 1) now new tells last (Err failed) → mid ≡ before → Rose mid after → CourseAs (fresh_course s n old) told last before after (Err fault.Write)
+failed_from_start s exact n old now new told tells last failed before mid after start clear less h slice same rose =
+    subst (λ (c : Course). CourseAs c told last before after (Err fault.Write)) (all_left s n old start) (nears_failed s exact n old now new told tells last failed before mid after clear less h slice same rose)
 
 pub stopped_from_start : (s : Setting) (exact : Bool) (n : ℕ) (old now new : State) (told tells last : Option (List ℕ)) (stop : Stop) → old.step ≡ 0 → now.set ≡ empty → now.step < n → Nears s n old now told tells
     → SliceAs s exact (now.step + 1) now new tells last (Ok (Stopped stop)) → Comes (fresh_course s n old) new.step (ends.Stopped stop) told last

@@ -53,34 +53,34 @@ ran s exact n old new told tells (Stopped stop) h = record {
 
 -- all lines and the last one were put
 whole_put : (s : Setting) (exact : Bool) (n : ℕ) (old new : State) (a b c : Option (List ℕ)) (pause : Pause) (before mid now : ℕ) → (h : SliceAs s exact n old new a b (Ok pause))
-    → Appends b c (end_line new.step (end_of pause)) → before ≤ mid → mid ≤ now → WholeAs s n old a c before now (Ok (record { steps = new.step; end = end_of pause; fills = 0 }))
-whole_put s exact n old new a b c pause before mid now h put le more = (
+    → Appends b c (end_line new.step (end_of pause)) → mid ≡ before → now ≡ mid → WholeAs s n old a c before now (Ok (record { steps = new.step; end = end_of pause; fills = 0 }))
+whole_put s exact n old new a b c pause before mid now h put same kept = (
   lines_of (trace_of h.reports) ++ end_line new.step (end_of pause),
   ran s exact n old new a b pause h,
   appends_both a b c _ _ h.text put,
-  omega (arith, le, more),
+  kept ∙ same,
 )
 
 -- all lines and a front of the last one
 whole_unput : (s : Setting) (exact : Bool) (n : ℕ) (old new : State) (a b c : Option (List ℕ)) (pause : Pause) (before mid now : ℕ) → (h : SliceAs s exact n old new a b (Ok pause))
-    → AppendsFront b c (end_line new.step (end_of pause)) → before ≤ mid → Rose mid now → WholeAs s n old a c before now (Err fault.Write)
-whole_unput s exact n old new a b c pause before mid now h put le rose = (
+    → AppendsFront b c (end_line new.step (end_of pause)) → mid ≡ before → Rose mid now → WholeAs s n old a c before now (Err fault.Write)
+whole_unput s exact n old new a b c pause before mid now h put same rose = (
   lines_of (trace_of h.reports) ++ end_line new.step (end_of pause),
   new.step,
   end_of pause,
   ran s exact n old new a b pause h,
   front_of a b c (lines_of (trace_of h.reports)) (end_line new.step (end_of pause)) [] _ h.text put (ap (λ (l : List ℕ). lines_of (trace_of h.reports) ++ l) (sym (append-nil (end_line new.step (end_of pause))))),
-  omega (arith, le, rose),
+  subst (λ (k : ℕ). Rose k now) same rose,
 )
 
 -- the slice ended, and the last line answers
 pub whole_ended : (s : Setting) (exact : Bool) (n : ℕ) (old new : State) (a b c : Option (List ℕ)) (pause : Pause) (before mid now : ℕ) (result : Result Ended RunFault) → SliceAs s exact n old new a b (Ok pause)
-    → before ≤ mid → EndsAs new.step (end_of pause) b c mid now result → WholeAs s n old a c before now result
-whole_ended s exact n old new a b c pause before mid now (Ok ended) h le e =
-    subst (λ (x : Ended). WholeAs s n old a c before now (Ok x)) (sym e.0) (whole_put s exact n old new a b c pause before mid now h e.1 le e.2)
-whole_ended s exact n old new a b c pause before mid now (Err fault.Write) h le e = whole_unput s exact n old new a b c pause before mid now h e.0 le e.1
-whole_ended s exact n old new a b c pause before mid now (Err (fault.TooSmall small)) h le e = absurd e
-whole_ended s exact n old new a b c pause before mid now (Err fault.Memory) h le e = absurd e
+    → mid ≡ before → EndsAs new.step (end_of pause) b c mid now result → WholeAs s n old a c before now result
+whole_ended s exact n old new a b c pause before mid now (Ok ended) h same e =
+    subst (λ (x : Ended). WholeAs s n old a c before now (Ok x)) (sym e.0) (whole_put s exact n old new a b c pause before mid now h e.1 same e.2)
+whole_ended s exact n old new a b c pause before mid now (Err fault.Write) h same e = whole_unput s exact n old new a b c pause before mid now h e.0 same e.1
+whole_ended s exact n old new a b c pause before mid now (Err (fault.TooSmall small)) h same e = absurd e
+whole_ended s exact n old new a b c pause before mid now (Err fault.Memory) h same e = absurd e
 
 -- a front of the lines
 pub whole_front : (s : Setting) (exact : Bool) (n : ℕ) (old new : State) (a b : Option (List ℕ)) (failed : Failed) (before now : ℕ) → SliceAs s exact n old new a b (Err failed) → Rose before now

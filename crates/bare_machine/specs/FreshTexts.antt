@@ -21,14 +21,16 @@ pub record Comes (c : Course) (count : ℕ) (end : End) (told tells : Option (Li
   pub course : c ≡ record { reports = reports; count = count; end = end }
   pub text : Appends told tells (lines_of (trace_of reports))
 
--- all steps of a course were done, or the sink failed and has taken a front of its text
+-- all steps of a course were done and the sink's count of faults is as it was, or the sink failed, has taken a front of the
+-- course's text, and its count rose
 abbrev pub StepsAs : Course → ℕ → Option (List ℕ) → Option (List ℕ) → ℕ → ℕ → Result End Failed → Type 0
-StepsAs c count old new before now (Ok end) = Comes c count end old new × (before ≤ now)
+StepsAs c count old new before now (Ok end) = Comes c count end old new × (now ≡ before)
 StepsAs c count old new before now (Err failed) = AppendsFront old new (course_text c) × Rose before now
 
--- the answer of a run of this course: its text was put, or a front of it where the sink failed
+-- the answer of a run of this course: its text was put and the sink's count of faults is as it was, or a front of the text
+-- was put where the sink failed, and the count rose
 abbrev pub CourseAs : Course → Option (List ℕ) → Option (List ℕ) → ℕ → ℕ → Result Ended RunFault → Type 0
-CourseAs c old new before now (Ok ended) = (ended ≡ record { steps = c.count; end = c.end; fills = 0 }) × Appends old new (course_text c) × (before ≤ now)
+CourseAs c old new before now (Ok ended) = (ended ≡ record { steps = c.count; end = c.end; fills = 0 }) × Appends old new (course_text c) × (now ≡ before)
 CourseAs c old new before now (Err fault.Write) = AppendsFront old new (course_text c) × Rose before now
 CourseAs c old new before now (Err (fault.TooSmall small)) = ⊥
 CourseAs c old new before now (Err fault.Memory) = ⊥

@@ -18,7 +18,7 @@ loop-machine-init g c = record {
   near = λ image. nears_none (bare image c.args.script.now.list c.args.machine.now.frames) c.args.n (state_of g.C.Cache.entries c.args.machine.now) (g.O.Sink.taken c.args.out.now);
   kept = c.requires.kept;
   frames = refl;
-  later = omega arith;
+  same = refl;
   bound = omega (arith, c.requires.begin);
 }
 
@@ -46,7 +46,7 @@ loop-machine-preserved g c = record {
       nears_on s (g.C.Cache.is_exact c.drop_all.new.kept.cache) c.args.n first (with_set (state_of e m) x) (state_of e c.steps_to.new.machine) (g.O.Sink.taken c.args.out.now) (g.O.Sink.taken c.loop-machine.out) (g.O.Sink.taken c.steps_to.new.out) c.drop_all.ensures.gone c.loop-machine-test.true near h;
   kept = (let on = rw c.in-Reached.is at c.in-Ok.ensures.goes_on in on.kept);
   frames = (let on = rw c.in-Reached.is at c.in-Ok.ensures.goes_on in on.frames ∙ c.loop-machine.invariant.frames);
-  later = omega (arith, c.loop-machine.invariant.later, c.in-Ok.ensures.later);
+  same = c.in-Ok.ensures.kept ∙ c.loop-machine.invariant.same;
   bound = omega (arith, c.loop-machine-test.true, rw c.in-Reached.is at c.in-Ok.ensures.reached);
 }
 
@@ -61,7 +61,7 @@ returns-in-Err g c = record {
       let exact = g.C.Cache.is_exact c.drop_all.new.kept.cache in
       let near = nears_cleared s c.args.n first (state_of e m) x (g.O.Sink.taken c.args.out.now) (g.O.Sink.taken c.loop-machine.out) (c.loop-machine.invariant.near image) in
       let h = sliced image c.args.script.now.list m.frames c.args.machine.now.frames exact (m.step + 1) (with_set (state_of e m) x) (state_of e c.steps_to.new.machine) (g.O.Sink.taken c.loop-machine.out) (g.O.Sink.taken c.steps_to.new.out) (Err c.in-Err.failed) (Err c.in-Err.failed) c.loop-machine.invariant.frames refl (c.in-Err.ensures.slice image) in
-      failed_from_start s exact c.args.n first (with_set (state_of e m) x) (state_of e c.steps_to.new.machine) (g.O.Sink.taken c.args.out.now) (g.O.Sink.taken c.loop-machine.out) (g.O.Sink.taken c.steps_to.new.out) c.in-Err.failed (g.O.Sink.faults c.args.out.now) (g.O.Sink.faults c.loop-machine.out) (g.O.Sink.faults c.steps_to.new.out) c.requires.begin c.drop_all.ensures.gone c.loop-machine-test.true near h c.loop-machine.invariant.later c.in-Err.ensures.cause;
+      failed_from_start s exact c.args.n first (with_set (state_of e m) x) (state_of e c.steps_to.new.machine) (g.O.Sink.taken c.args.out.now) (g.O.Sink.taken c.loop-machine.out) (g.O.Sink.taken c.steps_to.new.out) c.in-Err.failed (g.O.Sink.faults c.args.out.now) (g.O.Sink.faults c.loop-machine.out) (g.O.Sink.faults c.steps_to.new.out) c.requires.begin c.drop_all.ensures.gone c.loop-machine-test.true near h c.loop-machine.invariant.same c.in-Err.ensures.cause;
 }
 
 pub returns-in-Stopped : goal.returns-in-Stopped
@@ -76,7 +76,7 @@ returns-in-Stopped g c = record {
       let near = nears_cleared s c.args.n first (state_of e m) x (g.O.Sink.taken c.args.out.now) (g.O.Sink.taken c.loop-machine.out) (c.loop-machine.invariant.near image) in
       let h = sliced image c.args.script.now.list m.frames c.args.machine.now.frames exact (m.step + 1) (with_set (state_of e m) x) (state_of e c.steps_to.new.machine) (g.O.Sink.taken c.loop-machine.out) (g.O.Sink.taken c.steps_to.new.out) (Ok c.in-Ok.pause) (Ok (Stopped c.in-Stopped.stop)) c.loop-machine.invariant.frames (ap (λ (p : Pause). Ok p) c.in-Stopped.is) (c.in-Ok.ensures.slice image) in (
         stopped_from_start s exact c.args.n first (with_set (state_of e m) x) (state_of e c.steps_to.new.machine) (g.O.Sink.taken c.args.out.now) (g.O.Sink.taken c.loop-machine.out) (g.O.Sink.taken c.steps_to.new.out) c.in-Stopped.stop c.requires.begin c.drop_all.ensures.gone c.loop-machine-test.true near h,
-        omega (arith, c.loop-machine.invariant.later, c.in-Ok.ensures.later),
+        c.in-Ok.ensures.kept ∙ c.loop-machine.invariant.same,
       );
 }
 
@@ -86,6 +86,6 @@ returns g c = record {
       let e = g.C.Cache.entries in
       let m = c.loop-machine.machine in (
         bound_from_start (bare image c.args.script.now.list c.args.machine.now.frames) c.args.n (state_of e c.args.machine.now) (state_of e m) (g.O.Sink.taken c.args.out.now) (g.O.Sink.taken c.loop-machine.out) c.requires.begin (omega (arith, c.loop-machine-test.false)) (c.loop-machine.invariant.near image),
-        c.loop-machine.invariant.later,
+        c.loop-machine.invariant.same,
       );
 }

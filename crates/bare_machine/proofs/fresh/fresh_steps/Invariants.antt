@@ -10,7 +10,7 @@ invariant-loop-machine g l = record {
   near : (image : Image) → Nears (bare image l.script.list l.fn.machine.frames) l.n (state_of g.C.Cache.entries l.fn.machine) (state_of g.C.Cache.entries l.machine) (g.O.Sink.taken l.fn.out) (g.O.Sink.taken l.out);
   kept : IsKept l.machine.frames (state_of g.C.Cache.entries l.machine);
   frames : l.machine.frames ≡ l.fn.machine.frames;
-  later : g.O.Sink.faults l.fn.out ≤ g.O.Sink.faults l.out;
+  same : g.O.Sink.faults l.out ≡ g.O.Sink.faults l.fn.out;
   bound : l.machine.step ≤ l.n;
 }
 

@@ -10,7 +10,7 @@ pub loop-machine-init : goal.loop-machine-init
 loop-machine-init g c = record {
   going = λ image. going_none (bare image c.args.script.now.list c.args.machine.now.frames) (g.C.Cache.is_exact c.args.machine.now.kept.cache) (state_of g.C.Cache.entries c.args.machine.now) (g.O.Sink.taken c.args.out.now);
   goes_on = record { kept = c.requires.kept; frames = refl; size = refl; exact = refl };
-  later = omega arith;
+  kept = refl;
   bound = c.requires.begun;
 }
 
@@ -26,7 +26,7 @@ loop-machine-preserved g c = record {
       going_on (bare image c.args.script.now.list c.args.machine.now.frames) exact (state_of e c.args.machine.now) (state_of e m) (state_of e c.step.new.machine) (state_of e c.rest.new.machine) (whats c.in-Ok.seen) (g.O.Sink.taken c.args.out.now) (g.O.Sink.taken c.loop-machine.out) (g.O.Sink.taken c.put_seen.new.out)
       (c.loop-machine.invariant.going image) goes c.in-Ok-put_seen.ensures.ok rests;
   goes_on = goes_further _ _ _ (goes_further _ _ _ c.loop-machine.invariant.goes_on c.in-Ok.ensures.goes_on) c.rest.ensures.goes_on;
-  later = omega (arith, c.loop-machine.invariant.later, c.in-Ok-put_seen.ensures.later);
+  kept = c.in-Ok-put_seen.ensures.kept ∙ c.loop-machine.invariant.kept;
   bound = c.rest.ensures.within;
 }
 

@@ -1,4 +1,4 @@
-use Rattle.std.proofs.Common.{◌-◌, ◌≤◌}
+use Rattle.std.proofs.Common.{◌≡◌, ◌-◌, ◌≤◌}
 use Rattle.image_check.specs.Image.{Image}
 use Rattle.bare_machine.specs.Machine.{state_of, GoesOn}
 use Rattle.bare_machine.specs.Settings.{bare}
@@ -9,7 +9,7 @@ abbrev pub invariant-loop-machine : goal.invariant-loop-machine
 invariant-loop-machine g l = record {
   going : (image : Image) → Going (bare image l.script.list l.fn.machine.frames) (g.C.Cache.is_exact l.fn.machine.kept.cache) (state_of g.C.Cache.entries l.fn.machine) (state_of g.C.Cache.entries l.machine) (g.O.Sink.taken l.fn.out) (g.O.Sink.taken l.out);
   goes_on : GoesOn g.C.Cache.entries g.C.Cache.is_exact l.fn.machine l.machine;
-  later : g.O.Sink.faults l.fn.out ≤ g.O.Sink.faults l.out;
+  kept : g.O.Sink.faults l.out ≡ g.O.Sink.faults l.fn.out;
   bound : l.machine.step ≤ l.bound;
 }
 
