@@ -1,5 +1,5 @@
 -- From a slice of the bare machine to a run that rests or stops.
-use Rattle.std.proofs.Common.{◌≡◌, ℕ, ◌*◌, ◌≤◌, length, Bool, List, ◌++◌, Option, Ok, Err, refl, sym, ap, subst, ◌∙◌}
+use Rattle.std.proofs.Common.{◌≡◌, ℕ, ◌*◌, length, Bool, List, ◌++◌, Option, Ok, Err, refl, sym, ap, subst, ◌∙◌}
 use Rattle.pv_io.specs.declared.answer.Failed.{Failed}
 use Rattle.pv_io.specs.Sink.{Appends, AppendsFront}
 use Rattle.pv_io.proofs.Pieces.{appends_both}
@@ -20,9 +20,9 @@ use Rattle.checkpoint.specs.RestAnswers.{RestsWith}
 use Rattle.checkpoint.proofs.Resting.{FailsIn, fails_in_lines, fails_at_end}
 
 pub bare_rests : (s : Setting) (exact : Bool) (n : ℕ) (old new : State) (a b : Option (List ℕ)) (before now : ℕ) (pause : Pause) → pause ≡ Reached
-    → SliceAs s exact n old new a b (Ok pause) → before ≤ now → IsInForm (kept_of new) → length new.ram ≡ 4096 * s.frames
+    → SliceAs s exact n old new a b (Ok pause) → now ≡ before → IsInForm (kept_of new) → length new.ram ≡ 4096 * s.frames
     → (last : State) × RestsWith s n old (λ _. Unit {0}) a b before now last × (kept_of new ≡ kept_of last)
-bare_rests s exact n old new a b before now Reached e h le form size = (
+bare_rests s exact n old new a b before now Reached e h same form size = (
   with_set h.last h.passes.whole,
   record {
     text = lines_of (trace_of h.reports);
@@ -30,11 +30,11 @@ bare_rests s exact n old new a b before now Reached e h le form size = (
     form = subst IsInForm (ap kept_of h.ends.1) form;
     size = ap (λ (b : State). length b.ram) (sym h.ends.1) ∙ size;
     put = h.text;
-    later = le;
+    kept = same;
   },
   ap kept_of h.ends.1,
 )
-bare_rests s exact n old new a b before now (Stopped stop) e h le form size = absurd (cc)
+bare_rests s exact n old new a b before now (Stopped stop) e h same form size = absurd (cc)
 
 -- the run of a slice that stopped
 stopped_run : (s : Setting) (exact : Bool) (n : ℕ) (old new : State) (a b : Option (List ℕ)) (stop : stops.Stop) → (h : SliceAs s exact n old new a b (Ok (Stopped stop)))

@@ -1,5 +1,5 @@
 -- From a slice of a patched run and the last line to the rest of a run.
-use Rattle.std.proofs.Common.{◌≡◌, ℕ, ◌*◌, ◌≤◌, List, [], ◌++◌, take, Option, Ok, Err, refl, sym, ap, subst, ◌∙◌, arith}
+use Rattle.std.proofs.Common.{◌≡◌, ℕ, ◌*◌, List, [], ◌++◌, take, Option, Ok, Err, refl, sym, ap, subst, ◌∙◌}
 use Rattle.std.proofs.lemmas.List.{append-nil}
 use Rattle.pv_io.specs.declared.answer.Failed.{Failed}
 use Rattle.pv_io.specs.Causes.{Rose}
@@ -24,9 +24,9 @@ module _ {m : Setting} {n : ℕ} {old new : State} {out : Outward} {filling : Fi
   -- all lines and the last one were put
   pub went_on : (c : Option (List ℕ)) (pause : Pause) (before mid now : ℕ) (memory : List ℕ) (steps : ℕ) (end : End)
       → steps ≡ new.step → end ≡ end_of pause → IfReached (Ok pause) (take (4096 * m.frames) memory ≡ with_patches m.image new.ram)
-      → SliceAs m n old new out filling noting begins (Ok pause) → Appends out.tells c (end_line steps end) → before ≤ mid → mid ≤ now
-      → (text : List ℕ) × PromiseFrom m n old text steps end out.before out.after memory × Appends out.told c text × (before ≤ now)
-  went_on c pause before mid now memory steps end steps_is end_is has h put le more = (
+      → SliceAs m n old new out filling noting begins (Ok pause) → Appends out.tells c (end_line steps end) → mid ≡ before → now ≡ mid
+      → (text : List ℕ) × PromiseFrom m n old text steps end out.before out.after memory × Appends out.told c text × (now ≡ before)
+  went_on c pause before mid now memory steps end steps_is end_is has h put same more = (
     lines_of (trace_of h.reports) ++ end_line steps end,
     record {
       sets = h.sets;
@@ -39,15 +39,15 @@ module _ {m : Setting} {n : ℕ} {old new : State} {out : Outward} {filling : Fi
       memory_is = subst (λ (e : End). HasMemory m h.last e memory) (sym end_is) (memory_by m n h.last new h.end pause memory has h.ends);
     },
     appends_both out.told out.tells c _ _ h.text put,
-    omega (arith, le, more),
+    more ∙ same,
   )
 
   -- all lines and a front of the last one
   pub went_unput : (c : Option (List ℕ)) (pause : Pause) (before mid now : ℕ) (steps : ℕ) (end : End)
       → steps ≡ new.step → end ≡ end_of pause → SliceAs m n old new out filling noting begins (Ok pause)
-      → AppendsFront out.tells c (end_line steps end) → before ≤ mid → Rose mid now
+      → AppendsFront out.tells c (end_line steps end) → mid ≡ before → Rose mid now
       → (text : List ℕ) × (count : ℕ) × (e : End) × RunsTo m n old text count e × AppendsFront out.told c text × Rose before now
-  went_unput c pause before mid now steps end steps_is end_is h put le rose = (
+  went_unput c pause before mid now steps end steps_is end_is h put same rose = (
     lines_of (trace_of h.reports) ++ end_line steps end,
     steps,
     end,
@@ -61,7 +61,7 @@ module _ {m : Setting} {n : ℕ} {old new : State} {out : Outward} {filling : Fi
     },
     front_of out.told out.tells c (lines_of (trace_of h.reports)) (end_line steps end) [] _ h.text put
         (ap (λ (l : List ℕ). lines_of (trace_of h.reports) ++ l) (sym (append-nil (end_line steps end)))),
-    omega (arith, le, rose),
+    subst (λ (k : ℕ). Rose k now) same rose,
   )
 
   -- a front of the lines

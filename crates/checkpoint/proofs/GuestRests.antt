@@ -1,5 +1,5 @@
 -- From a slice of a patched run to a run that rests or stops.
-use Rattle.std.proofs.Common.{◌≡◌, ℕ, ◌*◌, ◌≤◌, List, ◌++◌, Option, Result, Ok, Err, length, refl, sym, ap, subst, ◌∙◌}
+use Rattle.std.proofs.Common.{◌≡◌, ℕ, ◌*◌, List, ◌++◌, Option, Result, Ok, Err, length, refl, sym, ap, subst, ◌∙◌}
 use Rattle.pv_io.specs.declared.answer.Failed.{Failed}
 use Rattle.pv_io.specs.Sink.{Appends, AppendsFront}
 use Rattle.pv_io.proofs.Pieces.{appends_both}
@@ -34,9 +34,9 @@ module _ {m : Setting} {old new : State} {out : Outward} {filling : Filling} {no
 
 module _ {m : Setting} {n : ℕ} {old new : State} {out : Outward} {filling : Filling} {noting : Noting} {begins : Type 0} where
   pub guest_rests : (before now : ℕ) (pause : Pause) → pause ≡ Reached → SliceAs m n old new out filling noting begins (Ok pause)
-      → before ≤ now → IsInForm (kept_of new) → length new.ram ≡ 4096 * m.frames
+      → now ≡ before → IsInForm (kept_of new) → length new.ram ≡ 4096 * m.frames
       → (last : State) × RestsWith m n old (host_counts m out.before out.after) out.told out.tells before now last × (kept_of new ≡ kept_of last)
-  guest_rests before now Reached e h le form size = (
+  guest_rests before now Reached e h same form size = (
     h.last,
     record {
       text = lines_of (trace_of h.reports);
@@ -44,11 +44,11 @@ module _ {m : Setting} {n : ℕ} {old new : State} {out : Outward} {filling : Fi
       form = subst IsInForm (ap kept_of h.ends.1) form;
       size = ap (λ (b : State). length b.ram) (sym h.ends.1) ∙ size;
       put = h.text;
-      later = le;
+      kept = same;
     },
     ap kept_of h.ends.1,
   )
-  guest_rests before now (Stopped stop) e h le form size = absurd (cc)
+  guest_rests before now (Stopped stop) e h same form size = absurd (cc)
 
   -- the run of a slice that stopped
   stopped_run : (stop : stops.Stop) → (h : SliceAs m n old new out filling noting begins (Ok (Stopped stop)))

@@ -1,5 +1,5 @@
 -- What a patched run promises that goes on from a state.
-use Rattle.std.specs.Prelude.{◌≡◌, ℕ, ◌≤◌, List, Result, Ok, Err}
+use Rattle.std.specs.Prelude.{◌≡◌, ℕ, List, Result, Ok, Err}
 use Rattle.pv_io.specs.Causes.{Rose}
 use Rattle.pv_io.specs.Sink.{Appends, AppendsFront}
 use Rattle.image_load.specs.declared.fault.RunFault.{RunFault}
@@ -27,11 +27,12 @@ pub record PromiseFrom (m : Setting) (n : ℕ) (first : State) (text : List ℕ)
   pub counts : CountsOn m reports before after
   pub memory_is : HasMemory m last end memory
 
--- what stands after it: the sink's bytes and faults, and the host's counts and memory
+-- What stands after it: the sink's bytes, its count of faults, which is as it was, and rose where it failed, and the host's
+-- counts and memory.
 abbrev pub WedgeGoesTo : Setting → ℕ → State → Around → List ℕ → Result Ended RunFault → Type 0
 WedgeGoesTo m n first a memory (Ok ended) =
     (text : List ℕ) × PromiseFrom m n first text ended.steps ended.end a.counts a.counts_after memory × Appends a.taken a.taken_after text
-    × (a.faults ≤ a.faults_after)
+    × (a.faults_after ≡ a.faults)
 -- the sink failed, and has taken a front of the text of some run
 WedgeGoesTo m n first a memory (Err fault.Write) =
     (text : List ℕ) × (count : ℕ) × (end : End) × RunsTo m n first text count end × AppendsFront a.taken a.taken_after text

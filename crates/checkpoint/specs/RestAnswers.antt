@@ -29,21 +29,22 @@ no_counts = λ reports. Unit {0}
 abbrev pub NothingDone : Counting → Option (List ℕ) → Option (List ℕ) → ℕ → ℕ → Type 0
 NothingDone counts old new before now = (new ≡ old) × (now ≡ before) × counts []
 
--- the lines of a run that has done all its steps were put, and a checkpoint can be made of the last state
+-- The lines of a run that has done all its steps were put, the sink's count of faults is as it was, and a checkpoint can be
+-- made of the last state.
 pub record RestsWith (m : Setting) (n : ℕ) (first : model.State) (counts : Counting) (old new : Option (List ℕ)) (before now : ℕ) (last : model.State) : Type 0 where
   pub text : List ℕ
   pub rests : RestsTo m n first counts text last ends.Bound
   pub form : IsInForm (kept_of last)
   pub size : length last.ram ≡ 4096 * m.frames
   pub put : Appends old new text
-  pub later : before ≤ now
+  pub kept : now ≡ before
 
 abbrev pub RestsAs : Setting → ℕ → model.State → Counting → Option (List ℕ) → Option (List ℕ) → ℕ → ℕ → Result Rested RunFault → Type 0
 RestsAs m n first counts old new before now (Ok (At state)) =
     (last : model.State) × RestsWith m n first counts old new before now last × (state ≡ kept_of last)
 RestsAs m n first counts old new before now (Ok (Stopped ended)) =
     (last : model.State) × (stop : stops.Stop) × (text : List ℕ) × RestsTo m n first counts text last (ends.Stopped stop)
-    × (ended.steps ≡ last.step) × (ended.end ≡ ends.Stopped stop) × Appends old new text × (before ≤ now)
+    × (ended.steps ≡ last.step) × (ended.end ≡ ends.Stopped stop) × Appends old new text × (now ≡ before)
 -- the sink failed, and has taken a front of what some run puts
 RestsAs m n first counts old new before now (Err fault.Write) =
     (last : model.State) × (end : End) × (text : List ℕ) × RestsTo m n first no_counts text last end × AppendsFront old new text × Rose before now

@@ -2,6 +2,7 @@ use Rattle.std.proofs.Common.{◌≡◌, ℕ, ◌+◌, ◌-◌, ◌*◌, length,
 use Rattle.checkpoint.specs.InForm.{IsInForm}
 use Rattle.checkpoint.specs.Moved.{kept_of}
 use Rattle.machine_model.specs.State.{State, wedge}
+use Rattle.pv_io.specs.Causes.{Rose}
 use Rattle.wedge_core.specs.OfRoots.{of_roots}
 use Rattle.wedge_step.specs.Standing.{state_of}
 use Rattle.checkpoint.proofs.GuestRests.{at_bound, paused_so, guest_rests, guest_stops, guest_unput, guest_fails}
@@ -24,7 +25,7 @@ returns-in-Err-state_of_guest g c =
     let same = c.in-Ok.ensures.leaves.frames in
     let form = subst (λ (f : ℕ). IsInForm (kept_of (there f))) same (c.in-Err-state_of_guest.ensures.kept script) in
     let size = subst (λ (f : ℕ). length (there f).ram ≡ 4096 * f) same (c.in-Err-state_of_guest.ensures.size script) in
-    let t = guest_rests _ _ c.in-Ok.pause c.in-Reached.is (at_bound _ c.args.n _ is c.in-Ok.ensures.slice) c.in-Ok.ensures.faults.later form size in
+    let t = guest_rests _ _ c.in-Ok.pause c.in-Reached.is (at_bound _ c.args.n _ is c.in-Ok.ensures.slice) c.in-Ok.ensures.faults.kept form size in
     record { rests = inr (t.0, t.1) }
 
 pub returns-in-Reached : goal.returns-in-Reached
@@ -37,7 +38,7 @@ returns-in-Reached g c =
     let same = c.in-Ok.ensures.leaves.frames in
     let form = subst (λ (f : ℕ). IsInForm (kept_of (there f))) same (c.in-Ok-state_of_guest.ensures.kept script) in
     let size = subst (λ (f : ℕ). length (there f).ram ≡ 4096 * f) same (c.in-Ok-state_of_guest.ensures.size script) in
-    let t = guest_rests _ _ c.in-Ok.pause c.in-Reached.is (at_bound _ c.args.n _ is c.in-Ok.ensures.slice) c.in-Ok.ensures.faults.later form size in
+    let t = guest_rests _ _ c.in-Ok.pause c.in-Reached.is (at_bound _ c.args.n _ is c.in-Ok.ensures.slice) c.in-Ok.ensures.faults.kept form size in
     let made = subst (λ (f : ℕ). c.in-Ok-state_of_guest.state ≡ kept_of (there f)) same (c.in-Ok-state_of_guest.ensures.state script) in
     record { rests = (t.0, t.1, made ∙ t.2) }
 
@@ -47,9 +48,8 @@ returns-in-Err-put_end g c =
     let is : c.args.guest.step + (c.args.n - c.step.result) ≡ c.args.n = omega (arith, asked, c.requires.begun) in
     let stopped = paused_so _ _ _ c.in-Stopped.is (at_bound _ c.args.n _ is c.in-Ok.ensures.slice) in
     let f = guest_unput _ c.in-Stopped.stop c.step-in-Stopped.result c.step-in-Stopped.ensures stopped c.in-Err-put_end.ensures.failed in
-    let le = c.in-Ok.ensures.faults.later in
-    let rose = c.in-Err-put_end.ensures.cause in
-    record { rests = (f.0, f.1, f.2, f.3, f.4, omega (arith, le, rose)) }
+    let rose = subst (λ (k : ℕ). Rose k (g.O.Sink.faults c.put_end.new.out)) c.in-Ok.ensures.faults.kept c.in-Err-put_end.ensures.cause in
+    record { rests = (f.0, f.1, f.2, f.3, f.4, rose) }
 
 pub returns : goal.returns
 returns g c =
@@ -57,6 +57,4 @@ returns g c =
     let is : c.args.guest.step + (c.args.n - c.step.result) ≡ c.args.n = omega (arith, asked, c.requires.begun) in
     let stopped = paused_so _ _ _ c.in-Stopped.is (at_bound _ c.args.n _ is c.in-Ok.ensures.slice) in
     let t = guest_stops _ c.in-Stopped.stop c.step-in-Stopped.result c.step-in-Stopped.ensures stopped c.in-Ok-put_end.ensures.ok in
-    let le = c.in-Ok.ensures.faults.later in
-    let more = c.in-Ok-put_end.ensures.later in
-    record { rests = (t.0, c.in-Stopped.stop, t.1, t.2, t.3, refl, t.4, omega (arith, le, more)) }
+    record { rests = (t.0, c.in-Stopped.stop, t.1, t.2, t.3, refl, t.4, c.in-Ok-put_end.ensures.kept ∙ c.in-Ok.ensures.faults.kept) }
