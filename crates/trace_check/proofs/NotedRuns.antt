@@ -104,9 +104,9 @@ around_of old new before now counts counts_after =
 pub noted_put : (image : Image) (script : Events) (frames n : ℕ) (old new : State) (counts counts_after : Counts) (a b c : Option (List ℕ)) (pages fills filled : ℕ) (kept kept_after : KeptChoices) (begins : Type 0) (pause : Pause) (before mid now : ℕ) (memory : List ℕ)
     → NotesAreJudged → NotesAreChoices → n ≤ 2 ^ 40 → AreKept kept []
     → need image ≤ frames → old ≡ boot (wedge image script frames) → pages ≡ 0 → fills ≡ 0 → filled ≤ 128 * new.step → IfReached (Ok pause) (take (4096 * frames) memory ≡ with_patches image new.ram)
-    → Sliced image script frames n old new counts counts_after a b pages fills filled kept kept_after begins pause → Appends b c (end_line new.step (end_of pause)) → before ≤ mid → mid ≤ now
+    → Sliced image script frames n old new counts counts_after a b pages fills filled kept kept_after begins pause → Appends b c (end_line new.step (end_of pause)) → mid ≡ before → now ≡ mid
     → NotedAnswers image script frames n kept_after (around_of a c before now counts counts_after) memory (Ok (record { steps = new.step; end = end_of pause; fills = filled }))
-noted_put image script frames n old new counts counts_after a b c pages fills filled kept kept_after begins pause before mid now memory judges forms bound untold fits is first none few has h put le more =
+noted_put image script frames n old new counts counts_after a b c pages fills filled kept kept_after begins pause before mid now memory judges forms bound untold fits is first none few has h put kept_so more =
     let m = wedge image script frames in
     let end = end_of pause in
     let noted = h.told_notes refl in
@@ -140,5 +140,5 @@ noted_put image script frames n old new counts counts_after a b c pages fills fi
       fits,
       has_fills m n old new counts counts_after a b pages fills filled true (NotesOn true (AreKept kept) (AreKept kept_after)) begins pause first none few h,
       appends_both a b c _ _ h.text put,
-      omega (arith, le, more),
+      more ∙ kept_so,
     )

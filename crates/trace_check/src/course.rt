@@ -1,6 +1,6 @@
 //! The course of choices on the bare machine.
 
-ghost use Rattle.std.specs.Prelude.{◌≡◌, ◌+◌, ◌-◌, ◌*◌, ◌≤◌, ◌<◌, ◌^◌, true, length, slice_get, IfOk, IfSome, OnErr};
+ghost use Rattle.std.specs.Prelude.{◌≡◌, ◌+◌, ◌-◌, ◌*◌, ◌≤◌, ◌<◌, ◌^◌, true, length, slice_get, IfOk, IfSome, OnOk, OnErr};
 ghost use Rattle.board.specs.Scripts.{Events};
 ghost use Rattle.board.specs.ScriptForm.{is_script};
 ghost use Rattle.image_check.specs.Image.{Image};
@@ -148,7 +148,7 @@ fn next_step(list: &[Choice], at: usize, bound: u64) -> u64
 }
 
 /// Goes the course of the choices up to a count of steps, to a stop, or to a choice that can't be made. The machine stands
-/// where the course begins.
+/// where the course begins. The sink's count of faults is as it was, and where it failed it rose.
 pub fn follow<C: Cache, O: Sink>(
     machine: &mut Bare<C>,
     script: &Script,
@@ -165,6 +165,7 @@ pub fn follow<C: Cache, O: Sink>(
     ensures follows { (image : Image) → FollowsAs
         (course (bare image script.now.list machine.old.frames) list.now bound (state_of C.entries machine.old))
         machine.new.step (O.taken out.old) (O.taken out.new) result }
+    ensures kept { OnOk result (O.faults out.new ≡ O.faults out.old) }
     ensures cause { OnErr result (Rose (O.faults out.old) (O.faults out.new)) }
 {
     let mut at = 0;

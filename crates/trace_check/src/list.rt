@@ -43,7 +43,7 @@ impl Model for Choices {
 
 impl Choices {
     /// None, with room for so many.
-    pub fn with_room(alloc: Global, room: usize) -> Result<Choices, AllocError>
+    pub(crate) fn with_room(alloc: Global, room: usize) -> Result<Choices, AllocError>
         ensures { IfOk result (λ choices. choices ≡ record { list = []; room = room }) }
     {
         Ok(Choices {
@@ -52,7 +52,7 @@ impl Choices {
     }
 
     /// One more, for which there is room.
-    pub fn put(&mut self, choice: Choice)
+    pub(crate) fn put(&mut self, choice: Choice)
         requires { length self.old.list < self.old.room }
         ensures list { self.new.list ≡ self.old.list ++ choice ∷ [] }
         ensures room { self.old.room ≤ self.new.room }

@@ -13,7 +13,7 @@ invariant-loop-machine g l = record {
   exact : g.C.Cache.is_exact l.machine.kept.cache ≡ true;
   frames : l.machine.frames ≡ l.fn.machine.frames;
   splits : Splits l.list l.at l.machine.step;
-  later : g.O.Sink.faults l.fn.out ≤ g.O.Sink.faults l.out;
+  unfailed : g.O.Sink.faults l.out ≡ g.O.Sink.faults l.fn.out;
   within : l.machine.step ≤ l.bound;
 }
 

@@ -64,7 +64,7 @@ returns-in-Err-put_end g c =
     let h = subst (λ (n : ℕ). SliceAs m n old new before after (g.O.Sink.taken c.args.out.now) (g.O.Sink.taken c.slice.new.out) (pages_kept of_roots r.shadows memory) r.fills c.slice.new.self.fills true notes_on begins (Ok pause)) is c.in-Ok.ensures.slice in
     let put = subst (λ (k : ℕ). AppendsFront (g.O.Sink.taken c.slice.new.out) (g.O.Sink.taken c.put_end.new.out) (end_line k (end_of pause))) c.step.ensures
     (subst (λ (x : End). AppendsFront (g.O.Sink.taken c.slice.new.out) (g.O.Sink.taken c.put_end.new.out) (end_line c.step.result x)) c.end_of.ensures c.in-Err-put_end.ensures.failed) in
-    record { whole = whole_unput c.kept_on.ensures.before c.args.image.now c.args.script.now.list r.frames c.args.n 0 old new before after _ _ _ (pages_kept of_roots r.shadows memory) r.fills c.slice.new.self.fills true notes_on begins pause _ (g.O.Sink.faults c.slice.new.out) _ memory2 c.requires.fits c.requires.first c.in-Ok.ensures.own.memory h put c.in-Ok.ensures.faults.later c.in-Err-put_end.ensures.cause }
+    record { whole = whole_unput c.kept_on.ensures.before c.args.image.now c.args.script.now.list r.frames c.args.n 0 old new before after _ _ _ (pages_kept of_roots r.shadows memory) r.fills c.slice.new.self.fills true notes_on begins pause _ (g.O.Sink.faults c.slice.new.out) _ memory2 c.requires.fits c.requires.first c.in-Ok.ensures.own.memory h put c.in-Ok.ensures.faults.kept c.in-Err-put_end.ensures.cause }
 
 pub returns-in-Ok-put_end : goal.returns-in-Ok-put_end
 returns-in-Ok-put_end g c =
@@ -87,7 +87,7 @@ returns-in-Ok-put_end g c =
     let put = subst (λ (k : ℕ). Appends (g.O.Sink.taken c.slice.new.out) (g.O.Sink.taken c.put_end.new.out) (end_line k (end_of pause))) c.step.ensures
     (subst (λ (x : End). Appends (g.O.Sink.taken c.slice.new.out) (g.O.Sink.taken c.put_end.new.out) (end_line c.step.result x)) c.end_of.ensures c.in-Ok-put_end.ensures.ok) in
     let done = noted_put image script r.frames c.args.n old new before after _ _ _ (pages_kept of_roots r.shadows memory) r.fills c.slice.new.self.fills c.args.notes.now c.slice.new.notes begins pause _ (g.O.Sink.faults c.slice.new.out) _ memory2
-    c.notes_are_judged.ensures.judged c.notes_are_judged.ensures.form c.requires.bound c.requires.untold c.requires.fits c.requires.first c.requires.none c.requires.unfilled c.in-Ok.ensures.leaves.few c.in-Ok.ensures.own.memory h put c.in-Ok.ensures.faults.later c.in-Ok-put_end.ensures.later in
+    c.notes_are_judged.ensures.judged c.notes_are_judged.ensures.form c.requires.bound c.requires.untold c.requires.fits c.requires.first c.requires.none c.requires.unfilled c.in-Ok.ensures.leaves.few c.in-Ok.ensures.own.memory h put c.in-Ok.ensures.faults.kept c.in-Ok-put_end.ensures.kept in
     let here = around_of (g.O.Sink.taken c.args.out.now) (g.O.Sink.taken c.put_end.new.out) (g.O.Sink.faults c.args.out.now) (g.O.Sink.faults c.put_end.new.out) before after in
     record {
       whole = subst (λ (k : ℕ). NotedAnswers image script r.frames c.args.n c.slice.new.notes here memory2 (Ok (record { steps = k; end = c.end_of.result; fills = c.fills.result }))) (sym c.step.ensures)
