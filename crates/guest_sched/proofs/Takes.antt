@@ -18,8 +18,8 @@ appends_at (Some old) new bytes before h is =
     let same : old ≡ before = cc in
     h ∙ ap (λ (z : List ℕ). Some (z ++ bytes)) same
 
-pub rose_more : (a b c : ℕ) → a ≤ b → Rose b c → Rose a c
-rose_more a b c low rose = omega (arith, low, rose)
+pub rose_more : (a b c : ℕ) → b ≡ a → Rose b c → Rose a c
+rose_more a b c same rose = subst (λ (z : ℕ). Rose z c) same rose
 
 -- a put that failed has taken a front of what came behind the text
 fails : (new : Option (List ℕ)) (before done front rest all : List ℕ) → all ≡ done ++ (front ++ rest) → new ≡ Some ((before ++ done) ++ front) →
@@ -39,24 +39,24 @@ line_taken : (tag text line : List ℕ) (begun ended failed : Bool) (was old new
     tagged tag (text ++ line) ≡ tagged tag text ++ (due_is tag begun ++ line) →
     due_after tag tag (text ++ line) ≡ due_is tag (not ended) →
     OnOk result (Appends old new (due_is tag begun ++ line)) → OnErr result (AppendsFront old new (due_is tag begun ++ line)) →
-    f1 ≤ f2 → OnErr result (Rose f1 f2) →
+    OnOk result (f2 ≡ f1) → OnErr result (Rose f1 f2) →
     IsTaken tag (not ended) (is_err result) (text ++ line) was new f0 f2
-line_taken tag text line begun ended failed was old new f0 f1 f2 (Ok done) live st more due ok bad later cause = record {
+line_taken tag text line begun ended failed was old new f0 f1 f2 (Ok done) live st more due ok bad kept cause = record {
   whole = λ _ before is. appends_at old new (due_is tag begun ++ line) (before ++ tagged tag text) ok (st.whole live before is)
       ∙ ap (λ (z : List ℕ). Some z) (append_assoc before (tagged tag text) (due_is tag begun ++ line) ∙ ap (λ (z : List ℕ). before ++ z) (sym more));
   front = λ f before is. absurd (cc);
   due = λ _. due;
-  later = omega (arith, st.later, later);
+  kept = λ _. kept ∙ st.kept live;
   cause = λ f. absurd (cc);
 }
-line_taken tag text line begun ended failed was old new f0 f1 f2 (Err fault) live st more due ok bad later cause = record {
+line_taken tag text line begun ended failed was old new f0 f1 f2 (Err fault) live st more due ok bad kept cause = record {
   whole = λ f before is. absurd (cc);
   front = λ _ before is. fails new before (tagged tag text) bad.front bad.rest (tagged tag (text ++ line))
       (more ∙ ap (λ (z : List ℕ). tagged tag text ++ z) (sym bad.whole))
       (appends_at old new bad.front (before ++ tagged tag text) bad.taken (st.whole live before is));
   due = λ f. absurd (cc);
-  later = omega (arith, st.later, later);
-  cause = λ _. rose_more f0 f1 f2 st.later cause;
+  kept = λ f. absurd (cc);
+  cause = λ _. rose_more f0 f1 f2 (st.kept live) cause;
 }
 
 turned : (tag : List ℕ) (e : Bool) → (if e then tag else []) ≡ due_is tag (not e)
@@ -68,9 +68,9 @@ pub first_taken : (tag text rest line all : List ℕ) (begun ended failed : Bool
     failed ≡ false → IsTaken tag begun failed text was old f0 f1 → 1 ≤ length rest →
     len ≡ line_len rest → ended ≡ has_end rest → line ≡ take len rest →
     OnOk result (Appends old new (due_is tag begun ++ line)) → OnErr result (AppendsFront old new (due_is tag begun ++ line)) →
-    f1 ≤ f2 → OnErr result (Rose f1 f2) → is_error ≡ is_err result → was' ≡ was → f0' ≡ f0 → all ≡ text ++ line →
+    OnOk result (f2 ≡ f1) → OnErr result (Rose f1 f2) → is_error ≡ is_err result → was' ≡ was → f0' ≡ f0 → all ≡ text ++ line →
     IsTaken tag (not ended) is_error all was' new f0' f2
-first_taken tag text rest line all begun ended failed len was was' old new f0 f0' f1 f2 result is_error live st some len_is ended_is line_is ok bad later cause error_is was_is f0_is all_is =
+first_taken tag text rest line all begun ended failed len was was' old new f0 f0' f1 f2 result is_error live st some len_is ended_is line_is ok bad kept cause error_is was_is f0_is all_is =
     let here : line ≡ take (line_len rest) rest = line_is ∙ ap (λ (n : ℕ). take n rest) len_is in
     let due : due_after tag tag text ≡ due_is tag begun = st.due live in
     let more : tagged tag (text ++ line) ≡ tagged tag text ++ (due_is tag begun ++ line) =
@@ -83,7 +83,7 @@ first_taken tag text rest line all begun ended failed len was was' old new f0 f0
     ∙ line_due tag (due_after tag tag text) rest some
     ∙ ap (λ (e : Bool). if e then tag else []) (sym ended_is)
     ∙ turned tag ended in
-    rw (error_is, was_is, f0_is, all_is) (line_taken tag text line begun ended failed was old new f0 f1 f2 result live st more next ok bad later cause)
+    rw (error_is, was_is, f0_is, all_is) (line_taken tag text line begun ended failed was old new f0 f1 f2 result live st more next ok bad kept cause)
 
 told_more : (name : ℕ) (tag : List ℕ) (faults : ℕ) (was : Option (List ℕ)) (text more : List ℕ) → told name tag faults was (text ++ more) ≡ told name tag faults was text ++ more
 told_more name tag faults was text more =

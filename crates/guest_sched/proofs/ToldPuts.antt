@@ -134,7 +134,3 @@ line_cause (Err f) P h = h
 pub line_ok : (line : List ℕ) (was now : Option (List ℕ)) (result : Result (Unit {0}) Failed) → PutsAs line was now (as_pause result) → OnOk result (Appends was now line)
 line_ok line was now (Ok done) h = h
 line_ok line was now (Err f) h = tt
-
-pub line_failed : (line : List ℕ) (was now : Option (List ℕ)) (result : Result (Unit {0}) Failed) → PutsAs line was now (as_pause result) → OnErr result (AppendsFront was now line)
-line_failed line was now (Ok done) h = tt
-line_failed line was now (Err f) h = h

@@ -1,5 +1,5 @@
 -- What `run_shared` answers.
-use Rattle.std.specs.Prelude.{◌⊎◌, ℕ, ◌≤◌, List, Result, Ok, Err, Vec}
+use Rattle.std.specs.Prelude.{◌⊎◌, ℕ, ◌≡◌, List, Result, Ok, Err, Vec}
 use Rattle.std.specs.declared.alloc.Global.{Global}
 use Rattle.pv_io.specs.Causes.{Rose}
 use Rattle.pv_io.specs.Sink.{Appends}
@@ -24,5 +24,5 @@ SharedRefused kernels slices frames a fault.Memory = IsUntouched a
 abbrev pub SharedAnswers : List Kernel → List Slice → ℕ → Around → List ℕ → Result (Vec Ended Global) SharedFault → Type 0
 SharedAnswers kernels slices frames a memory (Ok ended) =
     (text : List ℕ) × SharedRun kernels slices frames a.counts a.counts_after memory text ended.items × AllFit frames kernels
-    × Appends a.taken a.taken_after text × (a.faults ≤ a.faults_after)
+    × Appends a.taken a.taken_after text × (a.faults_after ≡ a.faults)
 SharedAnswers kernels slices frames a memory (Err refusal) = SharedRefused kernels slices frames a refusal

@@ -25,7 +25,7 @@ pub(crate) fn finish<O: Sink>(
         (bound_texts 0 (map ended_of tenants.now.list.items))) }
     ensures failed { OnErr result (AppendsFront (O.taken out.old) (O.taken out.new)
         (bound_texts 0 (map ended_of tenants.now.list.items))) }
-    ensures later { O.faults out.old ≤ O.faults out.new }
+    ensures kept { OnOk result (O.faults out.new ≡ O.faults out.old) }
     ensures cause { OnErr result (Rose (O.faults out.old) (O.faults out.new)) }
 {
     for number in 0..tenants.list.len() {

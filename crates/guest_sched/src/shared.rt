@@ -76,7 +76,7 @@ fn turn<H: Host, O: Sink>(
         (outward H.Host O.Sink host.old host.new out.old out.new)) }
     ensures frames { tenants.new.frames ≡ tenants.old.frames }
     ensures started { H.is_started host.new ≡ true }
-    ensures later { O.faults out.old ≤ O.faults out.new }
+    ensures kept { OnOk result (O.faults out.new ≡ O.faults out.old) }
     ensures cause { OnErr result (Rose (O.faults out.old) (O.faults out.new)) }
 {
     let number = slice.kernel as usize;
@@ -118,7 +118,7 @@ fn go_on<H: Host, O: Sink>(
     ensures gone { OnOk result (HasGoneOn kernel.now pool.old pool.new (H.bytes host.old) (H.bytes host.new)
         tenant.old tenant.new) }
     ensures started { H.is_started host.new ≡ true }
-    ensures later { O.faults out.old ≤ O.faults out.new }
+    ensures kept { OnOk result (O.faults out.new ≡ O.faults out.old) }
     ensures cause { OnErr result (Rose (O.faults out.old) (O.faults out.new)) }
 {
     let guest = &mut tenant.guest;

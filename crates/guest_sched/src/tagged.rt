@@ -97,7 +97,7 @@ fn first_line(text: &[u8]) -> (usize, bool)
 fn put_after<O: Sink>(out: &mut O, tag: &[u8], begun: bool, line: &[u8]) -> Result<(), Failed>
     ensures ok { OnOk result (Appends (O.taken out.old) (O.taken out.new) ((if begun then [] else tag.now) ++ line.now)) }
     ensures failed { OnErr result (AppendsFront (O.taken out.old) (O.taken out.new) ((if begun then [] else tag.now) ++ line.now)) }
-    ensures later { O.faults out.old ≤ O.faults out.new }
+    ensures kept { OnOk result (O.faults out.new ≡ O.faults out.old) }
     ensures cause { OnErr result (Rose (O.faults out.old) (O.faults out.new)) }
 {
     if begun {

@@ -72,7 +72,7 @@ pub(crate) fn put_last<O: Sink>(number: u8, ended: &Ended, out: &mut O) -> Resul
         (tagged (tag_of number) (end_line ended.now.steps ended.now.end))) }
     ensures failed { OnErr result (AppendsFront (O.taken out.old) (O.taken out.new)
         (tagged (tag_of number) (end_line ended.now.steps ended.now.end))) }
-    ensures later { O.faults out.old ≤ O.faults out.new }
+    ensures kept { OnOk result (O.faults out.new ≡ O.faults out.old) }
     ensures cause { OnErr result (Rose (O.faults out.old) (O.faults out.new)) }
 {
     let mut tagged = Tagged::new(number, out);

@@ -45,7 +45,7 @@ loop-number-preserved g c =
             text = subst (λ (o : g.row.O.Denot). Appends (g.O.Sink.taken c.args.out.now) (g.O.Sink.taken o) (bound_texts 0 (map ended_of (take (l.number + 1) ts)))) (sym w.out-is)
                 (goes_there (g.O.Sink.taken c.args.out.now) (g.O.Sink.taken l.out) (g.O.Sink.taken w.put_last.new.out) ts l.number d (tagged (tag_of l.number) (end_line c.end_of-end.result.steps c.end_of-end.result.end)) within
                 (last_line_is ts l.number d c.end_of-end.result e.steps e.end none c.index-tenant.ensures) l.invariant.text w.in_ok-put_last.ensures.ok);
-            later = (let a = ap g.O.Sink.faults w.out-is in let b = l.invariant.later in let k = w.put_last.ensures.later in omega (arith, a, b, k));
+            kept = ap g.O.Sink.faults w.out-is ∙ w.in_ok-put_last.ensures.kept ∙ l.invariant.kept;
           }
       | else-is_none w ↦
           let some : is_none (get_or ts l.number d).stop ≡ false = ap (λ (t : Tenant). is_none t.stop) (sym c.index-tenant.ensures) ∙ ap not c.is_none.ensures ∙ not-not c.is_none.result ∙ w.if-is_none.false in
@@ -54,6 +54,6 @@ loop-number-preserved g c =
             ended = more;
             text = subst (λ (o : g.row.O.Denot). Appends (g.O.Sink.taken c.args.out.now) (g.O.Sink.taken o) (bound_texts 0 (map ended_of (take (l.number + 1) ts)))) (sym w.out-is)
                 (stays_there (g.O.Sink.taken c.args.out.now) (g.O.Sink.taken l.out) ts l.number d within some l.invariant.text);
-            later = (let a = ap g.O.Sink.faults w.out-is in let b = l.invariant.later in omega (arith, a, b));
+            kept = ap g.O.Sink.faults w.out-is ∙ l.invariant.kept;
           }
     ]

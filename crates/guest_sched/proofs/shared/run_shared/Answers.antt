@@ -47,7 +47,7 @@ returns-then-is_err g c =
       shared = (
         c.in_ok-tenants.ensures.admitted.0,
         inl (subst (λ (n : ℕ). FailsInTurn c.args.kernels.now.items whole n old (g.O.Sink.taken c.turn.new.out)) l.invariant.frames fails),
-        rose_more (g.O.Sink.faults c.args.out.now) (g.O.Sink.faults l.out) (g.O.Sink.faults c.turn.new.out) l.invariant.later (on_err c.turn.result yes c.turn.ensures.cause),
+        rose_more (g.O.Sink.faults c.args.out.now) (g.O.Sink.faults l.out) (g.O.Sink.faults c.turn.new.out) l.invariant.kept (on_err c.turn.result yes c.turn.ensures.cause),
       );
     }
 
@@ -73,7 +73,7 @@ loop-slice-preserved g c =
           (subst (λ (s : List Slice). IsBetween c.args.kernels.now.items l.tenants.frames whole s c.turn.new.tenants.list.items c.turn.new.tenants.pool c.turn.new.tenants.present (g.H.Host.bytes c.turn.new.host) before then_ old (g.O.Sink.taken c.turn.new.out)) done on);
       frames = c.turn.ensures.frames ∙ l.invariant.frames;
       started = c.turn.ensures.started;
-      later = (let a = l.invariant.later in let b = c.turn.ensures.later in omega (arith, a, b));
+      kept = on_ok c.turn.result no c.turn.ensures.kept ∙ l.invariant.kept;
     }
 
 pub returns-in-Ok : goal.returns-in-Ok
@@ -97,7 +97,7 @@ returns-in-Ok g c =
         subst (λ (e : List Ended). SharedRun ks whole c.args.frames before now host text e) (sym c.in-Ok.ensures.ended) (ends_shared ks c.args.frames whole ts l.tenants.pool l.tenants.present host before now old mid h),
         c.in_ok-tenants.ensures.admitted.0,
         ends_put ks c.args.frames whole ts l.tenants.pool l.tenants.present host before now old mid h (g.O.Sink.taken c.finish.new.out) c.in-Ok.ensures.ok,
-        (let a = l.invariant.later in let b = c.finish.ensures.later in omega (arith, a, b)),
+        c.in-Ok.ensures.kept ∙ l.invariant.kept,
       );
     }
 
@@ -119,6 +119,6 @@ returns g c =
       shared = (
         c.in_ok-tenants.ensures.admitted.0,
         inr (ends_fail ks c.args.frames whole ts l.tenants.pool l.tenants.present host before now old mid h (g.O.Sink.taken c.finish.new.out) c.in-Err.ensures.failed),
-        rose_more (g.O.Sink.faults c.args.out.now) (g.O.Sink.faults l.out) (g.O.Sink.faults c.finish.new.out) l.invariant.later c.in-Err.ensures.cause,
+        rose_more (g.O.Sink.faults c.args.out.now) (g.O.Sink.faults l.out) (g.O.Sink.faults c.finish.new.out) l.invariant.kept c.in-Err.ensures.cause,
       );
     }

@@ -1,4 +1,4 @@
-use Rattle.std.proofs.Common.{◌≡◌, ◌≤◌, true, take}
+use Rattle.std.proofs.Common.{◌≡◌, true, take}
 use Rattle.guest_sched.proofs.shared.run_shared.Given as goal
 use Rattle.guest_sched.proofs.Wide.{IsBetween}
 
@@ -9,5 +9,5 @@ invariant-loop-slice g l = record {
       (g.O.Sink.taken l.fn.out) (g.O.Sink.taken l.out);
   frames : l.tenants.frames ≡ l.frames;
   started : g.H.Host.is_started l.host ≡ true;
-  later : g.O.Sink.faults l.fn.out ≤ g.O.Sink.faults l.out;
+  kept : g.O.Sink.faults l.out ≡ g.O.Sink.faults l.fn.out;
 }

@@ -27,8 +27,8 @@ returns-then-is_some-clause-frames g c = refl
 pub returns-then-is_some-clause-started : goal.returns-then-is_some-clause-started
 returns-then-is_some-clause-started g c = c.requires.started
 
-pub returns-then-is_some-clause-later : goal.returns-then-is_some-clause-later
-returns-then-is_some-clause-later g c = omega arith
+pub returns-then-is_some-clause-kept : goal.returns-then-is_some-clause-kept
+returns-then-is_some-clause-kept g c = refl
 
 pub bring-requires-clause-started : goal.bring-requires-clause-started
 bring-requires-clause-started g c = c.requires.started
@@ -212,8 +212,8 @@ returns-clause-failed g c =
 pub returns-clause-started : goal.returns-clause-started
 returns-clause-started g c = c.go_on.ensures.started
 
-pub returns-clause-later : goal.returns-clause-later
-returns-clause-later g c = c.go_on.ensures.later
+pub returns-clause-kept : goal.returns-clause-kept
+returns-clause-kept g c = c.go_on.ensures.kept
 
 pub returns-clause-cause : goal.returns-clause-cause
 returns-clause-cause g c = c.go_on.ensures.cause

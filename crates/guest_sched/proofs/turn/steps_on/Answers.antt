@@ -13,16 +13,16 @@ use Rattle.guest_sched.specs.Tags.{tag_of, tagged}
 use Rattle.guest_sched.proofs.ToldPuts.{same_name, turn_failed, turn_all, unpaused, no_faults}
 use Rattle.guest_sched.proofs.turn.steps_on.Goals as goal
 
--- where the sink has failed, no more is said
+-- where the sink has failed, the step reached isn't told
 unpaused_leaves : {S : Type 0} (s : shadows.Ghosts S) (image : Image) (bound : ℕ) (old new : Scene S) (result : Result Pause Failed) (failed : Failed) → SliceLeaves s image bound old new result
     → SliceLeaves s image bound old new (Err failed)
-unpaused_leaves s image bound old new result failed h = record { reached = tt; held = tt; ready = tt; able = tt; counted = tt; stands = tt; pool = tt; few = tt; filled = h.filled; frames = h.frames }
+unpaused_leaves s image bound old new result failed h = record { reached = tt; held = tt; ready = tt; able = tt; counted = h.counted; stands = h.stands; pool = h.pool; few = h.few; filled = h.filled; frames = h.frames }
 
 pub returns-then-has_failed-clause-leaves : goal.returns-then-has_failed-clause-leaves
 returns-then-has_failed-clause-leaves g c = unpaused_leaves _ _ _ _ _ _ _ c.slice-pause.ensures.leaves
 
 pub returns-then-has_failed-clause-own : goal.returns-then-has_failed-clause-own
-returns-then-has_failed-clause-own g c = record { memory = tt; owns = tt; filled = c.slice-pause.ensures.own.filled }
+returns-then-has_failed-clause-own g c = record { memory = tt; owns = c.slice-pause.ensures.own.owns; filled = c.slice-pause.ensures.own.filled }
 
 pub returns-then-has_failed-clause-turn : goal.returns-then-has_failed-clause-turn
 returns-then-has_failed-clause-turn g c =

@@ -11,7 +11,7 @@ invariant_of-self g c = record {
       c.args.self.now.since.faults c.and-self.result.faults (g.O.Sink.faults c.args.self.now.out.now) (g.O.Sink.faults c.put_after-result.new.out) c.put_after-result.result c.is_err-self.result
       c.requires.live c.args.self.now.taken c.requires.some
       c.first_line-len.ensures.len c.first_line-len.ensures.end refl
-      c.put_after-result.ensures.ok c.put_after-result.ensures.failed c.put_after-result.ensures.later c.put_after-result.ensures.cause
+      c.put_after-result.ensures.ok c.put_after-result.ensures.failed c.put_after-result.ensures.kept c.put_after-result.ensures.cause
       c.is_err-self.ensures.value c.and-self.ensures.0 c.and-self.ensures.1 c.and-self.ensures.2;
 }
 
