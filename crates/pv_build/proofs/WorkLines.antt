@@ -38,12 +38,12 @@ cut_first old new first second bytes before now same h rose =
     Cut refl (record { front = h.front; rest = h.rest ++ second; whole = sym (append_assoc h.front h.rest second) ∙ ap (λ (l : List ℕ). l ++ second) (h.whole ∙ same); taken = h.taken }) rose
 
 -- the output failed within the second
-pub cut_second : (old mid new : Option (List ℕ)) (first second bytes bytes2 : List ℕ) (before middle now : ℕ) → bytes ≡ first → bytes2 ≡ second → Appends old mid bytes → before ≤ middle
+pub cut_second : (old mid new : Option (List ℕ)) (first second bytes bytes2 : List ℕ) (before middle now : ℕ) → bytes ≡ first → bytes2 ≡ second → Appends old mid bytes → middle ≡ before
     → AppendsFront mid new bytes2 → Rose middle now → Says (first ++ second) status.Done old new before now status.WriteFault
-cut_second old mid new first second bytes bytes2 before middle now same same2 put later h rose =
+cut_second old mid new first second bytes bytes2 before middle now same same2 put kept h rose =
     Cut refl (record {
       front = first ++ h.front;
       rest = h.rest;
       whole = append_assoc first h.front h.rest ∙ ap (λ (l : List ℕ). first ++ l) (h.whole ∙ same2);
       taken = appends_both old mid new first h.front (subst (λ (l : List ℕ). Appends old mid l) same put) h.taken;
-    }) (omega (arith, later, rose))
+    }) (omega (arith, kept, rose))

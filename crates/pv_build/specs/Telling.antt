@@ -25,16 +25,16 @@ HaltsAs told found sure before now halt.Memory = Unit {0}
 abbrev pub HaltsOverFiles : {F : Type 0} → disk.Ghosts F → Type 0 → F → F → (List ℕ → Type 0) → Halt → Type 0
 HaltsOverFiles f found old new told h = HaltsAs told found (f.sure old) (f.load_faults old) (f.load_faults new) h
 
--- The text was put, with the status that is meant with it, or the output failed within it.
+-- The text was put, with the status that is meant with it, and no put failed; or the output failed within it.
 pub data Says (text : List ℕ) (meant : Status) (old new : Option (List ℕ)) (before now : ℕ) (result : Status) : Type 0 where
-  Whole : result ≡ meant → Appends old new text → Says text meant old new before now result
+  Whole : result ≡ meant → Appends old new text → now ≡ before → Says text meant old new before now result
   Cut : result ≡ status.WriteFault → AppendsFront old new text → Rose before now → Says text meant old new before now result
 
 -- the status of work that has ended so
 abbrev pub Ends : Halt → Option (List ℕ) → Option (List ℕ) → ℕ → ℕ → Status → Type 0
 Ends (halt.Refused line) old new before now result = Says line status.Refused old new before now result
-Ends halt.ReadFault old new before now result = (result ≡ status.ReadFault) × (new ≡ old)
-Ends halt.Memory old new before now result = (result ≡ status.Memory) × (new ≡ old)
+Ends halt.ReadFault old new before now result = (result ≡ status.ReadFault) × (new ≡ old) × (now ≡ before)
+Ends halt.Memory old new before now result = (result ≡ status.Memory) × (new ≡ old) × (now ≡ before)
 
 -- a refusal with a line of these, or no memory for it
 abbrev pub RefusesAs : (List ℕ → Type 0) → Halt → Type 0
@@ -47,13 +47,15 @@ abbrev pub ToldAs : Result Ended RunFault → Option (List ℕ) → Option (List
 ToldAs (Ok ended) old new before now result = (result ≡ status_of ended.end) × (new ≡ old) × (now ≡ before)
 ToldAs (Err fault.Write) old new before now result = (result ≡ status.WriteFault) × (new ≡ old) × (now ≡ before)
 ToldAs (Err (fault.TooSmall small)) old new before now result =
-    Says (too_small_line small.need small.have) status.Refused old new before now result ⊎ ((result ≡ status.Memory) × (new ≡ old))
-ToldAs (Err fault.Memory) old new before now result = (result ≡ status.Memory) × (new ≡ old)
+    Says (too_small_line small.need small.have) status.Refused old new before now result
+    ⊎ ((result ≡ status.Memory) × (new ≡ old) × (now ≡ before))
+ToldAs (Err fault.Memory) old new before now result = (result ≡ status.Memory) × (new ≡ old) × (now ≡ before)
 
 -- both lines of `work` were put, or no memory was found
 abbrev pub TellsBoth : List ℕ → List ℕ → List ℕ → Option (List ℕ) → Option (List ℕ) → ℕ → ℕ → Status → Type 0
 TellsBoth line first second old new before now result =
-    ((told : List ℕ) × Compares first second told × Says (line ++ told) status.Done old new before now result) ⊎ ((result ≡ status.Memory) × (new ≡ old))
+    ((told : List ℕ) × Compares first second told × Says (line ++ told) status.Done old new before now result)
+    ⊎ ((result ≡ status.Memory) × (new ≡ old) × (now ≡ before))
 
 -- A part's answer is what is meant, unless no memory was found.
 abbrev pub Answers : {X : Type 0} → Result X Halt → Result X (List ℕ) → Type 0
