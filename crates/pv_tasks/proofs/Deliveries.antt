@@ -44,7 +44,7 @@ prints task o w status.Memory is end gives stored appends does = absurd end
 pub says : (task : Task) (o : Outside) (w : Outcome) (st : Status) → IsEnd w.status → w.first ≡ []
     → task.gives o.before.files w → IsStored w.stored o.before.files o.after.files → (st ≡ w.status → HostDoes w o)
     → Says w.text w.status o.before.taken o.after.taken o.before.puts o.after.puts st → Means task o st
-says task o w st end none gives stored does (Whole is appends) =
+says task o w st end none gives stored does (Whole is appends kept) =
     subst (λ (s : Status). Means task o s) (sym is) (prints task o w w.status refl end gives stored (all_of w o.before.taken o.after.taken none appends) (does is))
 says task o w st end none gives stored does (Cut is front rose) =
     subst (λ (s : Status). Means task o s) (sym is) (inl (w, gives, NoPut o.before.taken stored (none_first w o.before.taken none) front rose))
@@ -173,7 +173,7 @@ stored_done o name bytes line st (NotStored is changes rose unsure none) done = 
 stored_done o name bytes line st (NoMemory is kept none) done = cc
 
 pub not_said : (line : List ℕ) (taken taken2 : Option (List ℕ)) (puts puts2 : ℕ) (st : Status) → Says line status.Refused taken taken2 puts puts2 st → st ≡ status.Done → ⊥
-not_said line taken taken2 puts puts2 st (Whole is appends) done = cc
+not_said line taken taken2 puts puts2 st (Whole is appends kept) done = cc
 not_said line taken taken2 puts puts2 st (Cut is front rose) done = cc
 
 -- work that has ended with nothing stored isn't done

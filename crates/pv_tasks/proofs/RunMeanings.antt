@@ -37,7 +37,9 @@ use Rattle.pv_words.specs.declared.words.RunWords.{RunWords}
 use Rattle.pv_words.specs.declared.mode.RunMode.{RunMode}
 use Rattle.pv_words.specs.declared.mode.RunMode.TheVariants as mode
 use Rattle.pv_tasks.proofs.Around.{around_of}
+use Rattle.pv_tasks.specs.Faulting.{PutsEnd}
 use Rattle.pv_tasks.proofs.Deliveries.{says_told}
+use Rattle.pv_tasks.proofs.Faults.{puts_said}
 use Rattle.pv_tasks.proofs.Works.{IsEnd, IsTold, AreEnds, AreTold, ended_is_end, frames_all, WithFrames, with_both}
 
 -- ---- one run
@@ -61,7 +63,7 @@ says_from line old mid new before middle now st same count h =
 abbrev pub RanAs : (Outcome → Type 0) → Around → List ℕ → Status → Type 0
 RanAs runs a memory result =
     ((w : Outcome) × runs w × Says w.text w.status a.taken a.taken_after a.faults a.faults_after result × (result ≡ w.status → HostDid w.hosted a.counts a.counts_after memory))
-    ⊎ ((result ≡ status.Memory) × (a.taken_after ≡ a.taken) × (a.counts_after ≡ a.counts))
+    ⊎ ((result ≡ status.Memory) × (a.taken_after ≡ a.taken) × (a.counts_after ≡ a.counts) × (a.faults_after ≡ a.faults))
 
 -- the line of memory that is too small was put
 too_small : (ran : Outcome → Type 0) (image : Image) (frames : ℕ) (old new : Option (List ℕ)) (before now : ℕ) (c c2 : Counts) (memory : List ℕ) (small : TooSmall) (st : Status)
@@ -83,7 +85,7 @@ ran_bare image events frames n old mid new before middle now (Ok e) c memory st 
     inl (
       ended e.end h.0,
       Ran h.1.fits (record { text = h.0; count = e.steps; end = e.end; run = h.1; comes = refl }),
-      Whole told.0 (appends_on old mid new h.0 told.1 h.2),
+      Whole told.0 (appends_on old mid new h.0 told.1 h.2) (told.2 ∙ h.3),
       λ end. refl,
     )
 ran_bare image events frames n old mid new before middle now (Err fault.Write) c memory st h told =
@@ -96,8 +98,8 @@ ran_bare image events frames n old mid new before middle now (Err fault.Write) c
 ran_bare image events frames n old mid new before middle now (Err (fault.TooSmall small)) c memory st h (inl said) =
     too_small (RunsBare frames n image events) image frames old new before now c c memory small st h.0 h.1 refl
     (says_from (too_small_line small.need small.have) old mid new before middle now st h.2 h.3 said)
-ran_bare image events frames n old mid new before middle now (Err (fault.TooSmall small)) c memory st h (inr none) = inr (none.0, none.1 ∙ h.2, refl)
-ran_bare image events frames n old mid new before middle now (Err fault.Memory) c memory st h told = inr (told.0, told.1 ∙ h.0, refl)
+ran_bare image events frames n old mid new before middle now (Err (fault.TooSmall small)) c memory st h (inr none) = inr (none.0, none.1 ∙ h.2, refl, none.2 ∙ h.3)
+ran_bare image events frames n old mid new before middle now (Err fault.Memory) c memory st h told = inr (told.0, told.1 ∙ h.0, refl, told.2 ∙ h.1)
 
 -- a status of no run
 pub no_write : (end : End) → status.WriteFault ≡ status_of end → ⊥
@@ -119,7 +121,7 @@ ran_patched image events frames n old mid new before middle now (Ok e) c c2 memo
     inl (
       ended_on_host run stopped,
       Ran h.2 (record { sets = p.sets; reports = p.reports; last = p.last; end = e.end; run = p.run; comes = refl }),
-      Whole told.0 (appends_on old mid new (ended_on_host run stopped).text told.1 (subst (λ (t : List ℕ). Appends old mid t) (text_at p.reports h.0 e.steps p.last.step e.end p.text_is p.count_is) h.4)),
+      Whole told.0 (appends_on old mid new (ended_on_host run stopped).text told.1 (subst (λ (t : List ℕ). Appends old mid t) (text_at p.reports h.0 e.steps p.last.step e.end p.text_is p.count_is) h.4)) (told.2 ∙ h.5),
       λ end. (p.counts, p.memory_is, p.kept refl),
     )
 ran_patched image events frames n old mid new before middle now (Err fault.Write) c c2 memory st h told =
@@ -135,8 +137,8 @@ ran_patched image events frames n old mid new before middle now (Err fault.Write
 ran_patched image events frames n old mid new before middle now (Err (fault.TooSmall small)) c c2 memory st h (inl said) =
     too_small (RunsPatched frames n image events) image frames old new before now c c2 memory small st h.0 h.1 h.2.2
     (says_from (too_small_line small.need small.have) old mid new before middle now st h.2.0 h.2.1 said)
-ran_patched image events frames n old mid new before middle now (Err (fault.TooSmall small)) c c2 memory st h (inr none) = inr (none.0, none.1 ∙ h.2.0, h.2.2)
-ran_patched image events frames n old mid new before middle now (Err fault.Memory) c c2 memory st h told = inr (told.0, told.1 ∙ h.0, h.2)
+ran_patched image events frames n old mid new before middle now (Err (fault.TooSmall small)) c c2 memory st h (inr none) = inr (none.0, none.1 ∙ h.2.0, h.2.2, none.2 ∙ h.2.1)
+ran_patched image events frames n old mid new before middle now (Err fault.Memory) c c2 memory st h told = inr (told.0, told.1 ∙ h.0, h.2, told.2 ∙ h.1)
 
 -- what runs come to on a machine
 abbrev pub runs_of : RunMode → ℕ → ℕ → Image → Events → Outcome → Type 0
@@ -152,6 +154,18 @@ ran_on mode.Bare image events frames n old mid new before middle now r c c2 memo
     (ran_bare image events frames n old mid new before middle now r c memory st h.0 told)
 ran_on mode.Wedge image events frames n old mid new before middle now r c c2 memory st h told =
     ran_patched image events frames n old mid new before middle now r c c2 memory st h told
+
+-- ---- a put that failed
+
+-- it ends the work as a write fault
+pub ran_puts : (runs : Outcome → Type 0) (a : Around) (memory : List ℕ) (st : Status) → RanAs runs a memory st → PutsEnd a.faults a.faults_after st
+ran_puts runs a memory st (inl (w, h, said, does)) = puts_said w.text w.status a.taken a.taken_after a.faults a.faults_after st said
+ran_puts runs a memory st (inr (is, none, still, count)) = λ write. count
+
+pub run_puts : (on : RunMode) (image : Image) (events : Events) (frames n : ℕ) (old mid new : Option (List ℕ)) (before middle now : ℕ) (r : Result Ended RunFault) (c c2 : Counts) (memory : List ℕ) (st : Status)
+    → AnswersOn on frames n image events (around_of old mid before middle c c2) memory r → ToldAs r mid new middle now st → PutsEnd before now st
+run_puts on image events frames n old mid new before middle now r c c2 memory st h told =
+    ran_puts (RunsOn (runs_of on frames n image events) image frames) (around_of old new before now c c2) memory st (ran_on on image events frames n old mid new before middle now r c c2 memory st h told)
 
 -- ---- what runs come to
 
@@ -191,7 +205,7 @@ pub run_means : (task : Task) (runs : Image → Events → Outcome → Type 0) (
     → RanAs (RunsOn (runs i s) i frames) (around_of o.before.taken o.after.taken o.before.puts o.after.puts o.before.completed o.after.completed) o.after.memory st → Means task o st
 run_means task runs image script frames o st i s are told gives has has_script same (inl (w, h, said, does)) =
     says_told task o w st (runs_end runs i s frames w are h) (runs_told runs i s frames w told h) (gives w (with_both (WithFrames runs frames) o.before.files image script i s w has has_script h)) same does said
-run_means task runs image script frames o st i s are told gives has has_script same (inr (is, none, still)) =
+run_means task runs image script frames o st i s are told gives has has_script same (inr (is, none, still, count)) =
     subst (λ (x : Status). Means task o x) (sym is) (same, inl (none, still))
 
 -- ---- the task of a run

@@ -22,9 +22,11 @@ use Rattle.pv_tasks.specs.Outcome.{Outcome, HostedRun, refused, compared}
 use Rattle.pv_tasks.specs.Running.{Ran, Small}
 use Rattle.pv_tasks.specs.Working.{second_setting, RunsTwice, WorksOn, Works, work_task}
 use Rattle.pv_tasks.specs.Worked.{HasTexts, IsTooLarge, WorkedAs}
+use Rattle.pv_tasks.specs.Faulting.{PutsEnd}
 use Rattle.pv_tasks.specs.Tasks.{Means}
 use Rattle.pv_tasks.proofs.Around.{around_of}
 use Rattle.pv_tasks.proofs.Deliveries.{says_told}
+use Rattle.pv_tasks.proofs.Faults.{puts_said}
 use Rattle.pv_tasks.proofs.Works.{IsEnd, IsTold}
 use Rattle.pv_tasks.proofs.BurnMeanings.{said_once}
 use Rattle.pv_tasks.proofs.RunMeanings.{text_at}
@@ -59,7 +61,7 @@ work_ends number told (halt.Refused line) old new before now c c2 memory st is t
     let both = to line is in
     inl (refused line, both.0, ends, λ end. both.1)
 work_ends number told halt.ReadFault old new before now c c2 memory st is to ends = absurd is
-work_ends number told halt.Memory old new before now c c2 memory st is to ends = inr (ends.0, ends.1)
+work_ends number told halt.Memory old new before now c c2 memory st is to ends = inr ends
 
 pub refuses_kernel : (number : ℕ) (line : List ℕ) → Builds (kernel_text number) (Err line) → Works number (refused line)
 refuses_kernel number line h = record { made = Err line; builds = h; comes = refl }
@@ -143,13 +145,18 @@ pub work_means : (number : ℕ) (o : Outside) (st : Status) → o.after.files �
     → WorkedAs number (around_of o.before.taken o.after.taken o.before.puts o.after.puts o.before.completed o.after.completed) o.after.memory st → Means (work_task number) o st
 work_means number o st same (inl (w, h, said, does)) =
     says_told (work_task number) o w st (works_end number w h) (works_told number w h) h same does said
-work_means number o st same (inr (is, none)) = subst (λ (x : Status). Means (work_task number) o x) (sym is) (same, inr none)
+work_means number o st same (inr (is, none, count)) = subst (λ (x : Status). Means (work_task number) o x) (sym is) (same, inr none)
 
 said_no_read : (w : Outcome) (old new : Option (List ℕ)) (before now : ℕ) (st : Status) → IsEnd w.status → Says w.text w.status old new before now st → st ≢ status.ReadFault
-said_no_read w old new before now st end (Whole is appends) = λ read. subst (λ (s : Status). IsEnd s) (sym is ∙ read) end
+said_no_read w old new before now st end (Whole is appends kept) = λ read. subst (λ (s : Status). IsEnd s) (sym is ∙ read) end
 said_no_read w old new before now st end (Cut is front rose) = λ read. cc (is, read)
 
 -- no load fails
 pub work_no_read : (number : ℕ) (old new : Option (List ℕ)) (before now : ℕ) (c c2 : Counts) (memory : List ℕ) (st : Status) → WorkedAs number (around_of old new before now c c2) memory st → st ≢ status.ReadFault
 work_no_read number old new before now c c2 memory st (inl (w, h, said, does)) = said_no_read w old new before now st (works_end number w h) said
-work_no_read number old new before now c c2 memory st (inr (is, none)) = λ read. cc (is, read)
+work_no_read number old new before now c c2 memory st (inr (is, none, count)) = λ read. cc (is, read)
+
+-- a put that failed ends the work as a write fault
+pub work_puts : (number : ℕ) (old new : Option (List ℕ)) (before now : ℕ) (c c2 : Counts) (memory : List ℕ) (st : Status) → WorkedAs number (around_of old new before now c c2) memory st → PutsEnd before now st
+work_puts number old new before now c c2 memory st (inl (w, h, said, does)) = puts_said w.text w.status old new before now st said
+work_puts number old new before now c c2 memory st (inr (is, none, count)) = λ write. count

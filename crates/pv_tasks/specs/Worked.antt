@@ -30,4 +30,4 @@ IsTooLarge image before after line = (4096 < need image) × (line ≡ too_small_
 abbrev pub WorkedAs : ℕ → Around → List ℕ → Status → Type 0
 WorkedAs number a memory result =
     ((w : Outcome) × Works number w × Says w.text w.status a.taken a.taken_after a.faults a.faults_after result × (result ≡ w.status → HostDid w.hosted a.counts a.counts_after memory))
-    ⊎ ((result ≡ status.Memory) × (a.taken_after ≡ a.taken))
+    ⊎ ((result ≡ status.Memory) × (a.taken_after ≡ a.taken) × (a.faults_after ≡ a.faults))

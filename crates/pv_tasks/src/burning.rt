@@ -34,7 +34,7 @@ pub fn burn<F: Files, S: Sink>(
     ensures counts { (completed : HostCounts) (memory : List ℕ)
         → FaultCounts (burn_task source.now object.now) (beside F.Files S.Sink (files.old, files.new) (out.old, out.new) completed memory) }
     ensures leaves { result ≡ Status.Done → (burn_task source.now object.now).leaves (F.held files.old) (F.held files.new) }
-    ensures ends { FaultsEnd F.Files files.old files.new result }
+    ensures ends { FaultsEnd F.Files S.Sink (files.old, files.new) (out.old, out.new) result }
 {
     match made(alloc, source, files) {
         Err(halt) => end(&halt, out),

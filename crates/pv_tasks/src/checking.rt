@@ -12,13 +12,12 @@ use pv_io::{Files, Sink};
 use std::alloc::Global;
 
 /// Tells what an image has, or why it is not accepted.
-#[tactic(auto, using(crate::proofs::Faults::ends_same))]
 pub fn check<F: Files, S: Sink>(alloc: Global, name: &str, files: &mut F, out: &mut S) -> Status
     ensures meaning { (completed : HostCounts) (memory : List ℕ)
         → Means (check_task name.now) (beside F.Files S.Sink (files.old, files.new) (out.old, out.new) completed memory) result }
     ensures counts { (completed : HostCounts) (memory : List ℕ)
         → FaultCounts (check_task name.now) (beside F.Files S.Sink (files.old, files.new) (out.old, out.new) completed memory) }
-    ensures ends { FaultsEnd F.Files files.old files.new result }
+    ensures ends { FaultsEnd F.Files S.Sink (files.old, files.new) (out.old, out.new) result }
 {
     match accepted(alloc, name, files) {
         Err(halt) => end(&halt, out),

@@ -23,7 +23,7 @@ pub fn deliver<F: Files, S: Sink>(
         → Delivers name.now made.now.file.items made.now.line meant
         (beside F.Files S.Sink (files.old, files.new) (out.old, out.new) completed memory) result }
     ensures stored { NotRead F.Files files.old files.new }
-    ensures ends { FaultsEnd F.Files files.old files.new result }
+    ensures ends { FaultsEnd F.Files S.Sink (files.old, files.new) (out.old, out.new) result }
 {
     match files.store(name, &made.file) {
         Ok(()) => print(&made.line, meant, out),

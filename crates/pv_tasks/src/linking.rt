@@ -38,7 +38,7 @@ pub fn link<F: Files, S: Sink>(
         (beside F.Files S.Sink (files.old, files.new) (out.old, out.new) completed memory) }
     ensures leaves { result ≡ Status.Done
         → (link_task image.now (map string_bytes objects.now)).leaves (F.held files.old) (F.held files.new) }
-    ensures ends { FaultsEnd F.Files files.old files.new result }
+    ensures ends { FaultsEnd F.Files S.Sink (files.old, files.new) (out.old, out.new) result }
 {
     match made(alloc, objects, files) {
         Err(halt) => end(&halt, out),

@@ -36,7 +36,7 @@ pub fn run<F: Files, S: Sink, H: Host>(
     ensures counts { FaultCounts (asked_run mode words.entry)
         (outside F.Files S.Sink H.Host (files.old, files.new) (out.old, out.new) (host.old, host.new)) }
     ensures host { mode ≡ RunMode.Bare → host.new ≡ host.old }
-    ensures ends { FaultsEnd F.Files files.old files.new result }
+    ensures ends { FaultsEnd F.Files S.Sink (files.old, files.new) (out.old, out.new) result }
 {
     match runnable_in_files(alloc, words.image, words.script, files) {
         Err(halt) => end(&halt, out),

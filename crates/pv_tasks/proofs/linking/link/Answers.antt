@@ -48,9 +48,9 @@ returns-in-Ok-clause-leaves g c =
 
 pub returns-in-Err-clause-ends : goal.returns-in-Err-clause-ends
 returns-in-Err-clause-ends g c =
-    ends_halted g.F.Files c.args.files.now c.made.new.files c.in-Err.halt (g.S.Sink.taken c.args.out.now) (g.S.Sink.taken c.end.new.out)
-    (g.S.Sink.faults c.args.out.now) (g.S.Sink.faults c.end.new.out) c.end.result c.in-Err.ensures.kept c.in-Err.ensures.read.same_stores c.end.ensures
+    ends_halted g.F.Files g.S.Sink c.args.files.now c.made.new.files c.args.out.now c.end.new.out c.in-Err.halt (g.S.Sink.taken c.args.out.now) (g.S.Sink.taken c.end.new.out)
+    c.end.result c.in-Err.ensures.kept c.in-Err.ensures.read.same_stores c.end.ensures
 
 pub returns-in-Ok-clause-ends : goal.returns-in-Ok-clause-ends
 returns-in-Ok-clause-ends g c =
-    ends_since g.F.Files c.args.files.now c.made.new.files c.deliver.new.files c.deliver.result c.in-Ok.ensures.kept c.in-Ok.ensures.read.same_stores c.deliver.ensures.ends
+    ends_since g.F.Files g.S.Sink c.args.files.now c.made.new.files c.deliver.new.files c.args.out.now c.deliver.new.out c.deliver.result c.in-Ok.ensures.kept c.in-Ok.ensures.read.same_stores c.deliver.ensures.ends

@@ -4,7 +4,7 @@ use Rattle.pv_build.proofs.Readings.{read_for}
 use Rattle.pv_tasks.specs.Outcome.{refused}
 use Rattle.pv_tasks.specs.Asked.{asked_run}
 use Rattle.pv_tasks.proofs.Deliveries.{halts, counts_host}
-use Rattle.pv_tasks.proofs.RunMeanings.{runs_of, ran_on, ends_of, told_of, gives_run, finds_run, no_run, run_means}
+use Rattle.pv_tasks.proofs.RunMeanings.{runs_of, ran_on, run_puts, ends_of, told_of, gives_run, finds_run, no_run, run_means}
 use Rattle.pv_tasks.proofs.Faults.{ends_halted, ends_same}
 use Rattle.pv_tasks.proofs.running.run.Goals as goal
 use Rattle.pv_tasks.proofs.Works.{WithFrames}
@@ -42,8 +42,12 @@ returns-in-Ok-clause-counts g c =
 
 pub returns-in-Err-clause-ends : goal.returns-in-Err-clause-ends
 returns-in-Err-clause-ends g c =
-    ends_halted g.F.Files c.args.files.now c.runnable_in_files.new.files c.in-Err.halt (g.S.Sink.taken c.args.out.now) (g.S.Sink.taken c.end.new.out)
-    (g.S.Sink.faults c.args.out.now) (g.S.Sink.faults c.end.new.out) c.end.result c.in-Err.ensures.kept c.in-Err.ensures.read.same_stores c.end.ensures
+    ends_halted g.F.Files g.S.Sink c.args.files.now c.runnable_in_files.new.files c.args.out.now c.end.new.out c.in-Err.halt (g.S.Sink.taken c.args.out.now) (g.S.Sink.taken c.end.new.out)
+    c.end.result c.in-Err.ensures.kept c.in-Err.ensures.read.same_stores c.end.ensures
 
 pub returns-in-Ok-clause-ends : goal.returns-in-Ok-clause-ends
-returns-in-Ok-clause-ends g c = ends_same g.F.Files c.args.files.now c.runnable_in_files.new.files c.tell_run.result c.in-Ok.ensures.kept c.in-Ok.ensures.read.same_stores
+returns-in-Ok-clause-ends g c =
+    let words = c.args.words in
+    let found = c.in-Ok.found in
+    ends_same g.F.Files g.S.Sink c.args.files.now c.runnable_in_files.new.files c.args.out.now c.tell_run.new.out c.tell_run.result c.in-Ok.ensures.kept c.in-Ok.ensures.read.same_stores
+    (run_puts c.args.mode found.image found.script.list words.frames words.n _ _ _ _ _ _ c.run_found-ran.result _ _ _ c.tell_run.result c.run_found-ran.ensures.answers c.tell_run.ensures)
