@@ -7,15 +7,15 @@ ghost use Rattle.pv_words.specs.View.{command_view, run_view, rest_view, AreWith
 
 use crate::mode::RunMode;
 use crate::number_words::number;
-use crate::words::{CommandWords, RestWords, RunWords, is_name, run_words};
+use crate::words::{CommandWords, RestWords, RunWords, is_name, is_word, run_words};
 
 /// The machine that a word names.
 fn machine(word: &str) -> Option<RunMode>
     ensures { result ≡ mode_said word.now }
 {
-    if word == "--bare" {
+    if is_word(word, "--bare") {
         Some(RunMode::Bare)
-    } else if word == "--wedge" {
+    } else if is_word(word, "--wedge") {
         Some(RunMode::Wedge)
     } else {
         None
@@ -56,7 +56,7 @@ pub fn save_words(words: &[String]) -> Option<CommandWords<'_>>
             save_form(machine(mode.as_str()), run, file.as_str())
         }
         [mode, image, script, word, file, n, new] => {
-            if word.as_str() == "from" {
+            if is_word(word.as_str(), "from") {
                 let rest = rest_words(image.as_str(), script.as_str(), file.as_str(), n.as_str());
                 save_from_form(machine(mode.as_str()), rest, new.as_str())
             } else {
