@@ -30,12 +30,13 @@ use Rattle.pv_tasks.specs.Running.{Reads}
 use Rattle.pv_save.specs.Answering.{AnswersOnwards}
 use Rattle.pv_save.specs.Saving.{WhereFits, OnState, FromFile, frames_of, is_wedge}
 use Rattle.pv_save.specs.Continuing.{ContinuesOn, run_on}
+use Rattle.pv_tasks.specs.Faulting.{PutsEnd}
 use Rattle.pv_tasks.specs.Tasks.{Task, Means}
 use Rattle.pv_words.specs.declared.mode.RunMode.{RunMode}
 use Rattle.pv_words.specs.declared.mode.RunMode.TheVariants as mode
 use Rattle.pv_tasks.proofs.Deliveries.{says_told}
 use Rattle.pv_tasks.proofs.Works.{ended_is_end, with_both}
-use Rattle.pv_tasks.proofs.RunMeanings.{RanAs, appends_on, front_on, rose_on, text_at, no_write, no_run}
+use Rattle.pv_tasks.proofs.RunMeanings.{RanAs, ran_puts, appends_on, front_on, rose_on, text_at, no_write, no_run}
 use Rattle.pv_save.proofs.RestLaws.{continues_ended, continues_told, with_state}
 
 -- ---- one run
@@ -49,7 +50,7 @@ continued_bare image events n s old mid new before middle now (Ok e) c memory st
     inl (
       told (status_of e.end) (run_text run) (run_on mode.Bare run),
       record { sets = p.sets; reports = p.reports; last = p.last; end = e.end; run = p.run; comes = refl },
-      Whole said.0 (appends_on old mid new (run_text run) said.1 (subst (λ (t : List ℕ). Appends old mid t) (text_at p.reports h.0 e.steps p.last.step e.end p.text_is p.count_is) h.2)),
+      Whole said.0 (appends_on old mid new (run_text run) said.1 (subst (λ (t : List ℕ). Appends old mid t) (text_at p.reports h.0 e.steps p.last.step e.end p.text_is p.count_is) h.2)) (said.2 ∙ h.3),
       λ end. refl,
     )
 continued_bare image events n s old mid new before middle now (Err fault.Write) c memory st h said =
@@ -73,7 +74,7 @@ continued_wedge image events n s old mid new before middle now (Ok e) c c2 memor
     inl (
       told (status_of e.end) (run_text run) (run_on mode.Wedge run),
       record { sets = p.sets; reports = p.reports; last = p.last; end = e.end; run = p.run; comes = refl },
-      Whole said.0 (appends_on old mid new (run_text run) said.1 (subst (λ (t : List ℕ). Appends old mid t) (text_at p.reports h.0 e.steps p.last.step e.end p.text_is p.count_is) h.2)),
+      Whole said.0 (appends_on old mid new (run_text run) said.1 (subst (λ (t : List ℕ). Appends old mid t) (text_at p.reports h.0 e.steps p.last.step e.end p.text_is p.count_is) h.2)) (said.2 ∙ h.3),
       λ end. (p.counts, p.memory_is),
     )
 continued_wedge image events n s old mid new before middle now (Err fault.Write) c c2 memory st h said =
@@ -86,7 +87,7 @@ continued_wedge image events n s old mid new before middle now (Err fault.Write)
       λ end. absurd (no_write h.2 (sym said.0 ∙ end)),
     )
 continued_wedge image events n s old mid new before middle now (Err (fault.TooSmall small)) c c2 memory st h said = absurd h
-continued_wedge image events n s old mid new before middle now (Err fault.Memory) c c2 memory st h said = inr (said.0, said.1 ∙ h.0, h.2)
+continued_wedge image events n s old mid new before middle now (Err fault.Memory) c c2 memory st h said = inr (said.0, said.1 ∙ h.0, h.2, said.2 ∙ h.1)
 
 -- what was answered on a machine was told
 pub continued : (on : RunMode) (image : Image) (events : Events) (n : ℕ) (s : State) (old mid new : Option (List ℕ)) (before middle now : ℕ) (r : Result Ended RunFault) (c c2 : Counts) (memory : List ℕ) (st : Status)
@@ -97,6 +98,12 @@ continued mode.Bare image events n s old mid new before middle now r c c2 memory
     (continued_bare image events n s old mid new before middle now r c memory st h.0 said)
 continued mode.Wedge image events n s old mid new before middle now r c c2 memory st h said =
     continued_wedge image events n s old mid new before middle now r c c2 memory st h said
+
+-- a put that failed ended the work as a write fault
+pub continue_puts : (on : RunMode) (image : Image) (events : Events) (n : ℕ) (s : State) (old mid new : Option (List ℕ)) (before middle now : ℕ) (r : Result Ended RunFault) (c c2 : Counts) (memory : List ℕ) (st : Status)
+    → AnswersOnwards on n image events s (around_of old mid before middle c c2) memory r → ToldAs r mid new middle now st → PutsEnd before now st
+continue_puts on image events n s old mid new before middle now r c c2 memory st h said =
+    ran_puts (ContinuesOn on n image events s) (around_of old new before now c c2) memory st (continued on image events n s old mid new before middle now r c c2 memory st h said)
 
 -- ---- with the files
 
@@ -125,5 +132,5 @@ continue_means task on asked n image script name o st i e s gives has has_script
     let fits = subst (λ (b : Bool). fits_of s i b n ≡ Ok tt) is fit in
     says_told task o w st (ended_is_end w.status (continues_ended on n i e s w h)) (continues_told on n i e s w h)
     (gives w (with_both (FromFile (ContinuesOn on n) on n o.before.files name) o.before.files image script i e w has has_script (with_state (ContinuesOn on n) on n o.before.files name i e s w state fits h))) same does said
-continue_means task on asked n image script name o st i e s gives has has_script state is fit same (inr (no_memory, none, still)) =
+continue_means task on asked n image script name o st i e s gives has has_script state is fit same (inr (no_memory, none, still, count)) =
     subst (λ (x : Status). Means task o x) (sym no_memory) (same, inl (none, still))

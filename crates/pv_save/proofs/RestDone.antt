@@ -124,7 +124,7 @@ rests_with m n first counts counts2 old new before now last all h = record {
   form = h.form;
   size = h.size;
   put = h.put;
-  later = h.later;
+  kept = h.kept;
 }
 
 nothing_done : (counts counts2 : List Report → Type 0) (old new : Option (List ℕ)) (before now : ℕ) → ((reports : List Report) → counts2 reports) → NothingDone counts old new before now → NothingDone counts2 old new before now

@@ -1,9 +1,9 @@
 -- The meaning of `save`.
-use Rattle.std.proofs.Common.{◌≡◌, inl, inr, ℕ, ◌<◌, ◌≤◌, Bool, List, [], ◌++◌, Option, Some, Result, Ok, Err, refl, sym, ap, subst, ◌∙◌, arith}
+use Rattle.std.proofs.Common.{◌≡◌, ◌⊎◌, inl, inr, ℕ, ◌<◌, ◌≤◌, Bool, List, [], ◌++◌, Option, Some, Result, Ok, Err, refl, sym, ap, subst, ◌∙◌, arith}
 use Rattle.pv_io.specs.Causes.{Rose}
 use Rattle.pv_io.specs.Files.{FileMap, Stores, ChangesAt}
 use Rattle.pv_io.specs.Sink.{Appends, AppendsFront}
-use Rattle.pv_io.proofs.Pieces.{appends_both, rose_later}
+use Rattle.pv_io.proofs.Pieces.{appends_both}
 use Rattle.ia32_types.specs.declared.stop.Stop as stops
 use Rattle.image_load.specs.Boot.{need}
 use Rattle.image_load.specs.declared.boot.TooSmall.{TooSmall}
@@ -60,17 +60,17 @@ none_did mode.Wedge m o h = none_counted m o.before.completed o.after.completed 
 -- Its file is delivered over what the files held, and over what was taken and counted then.
 pub delivered_behind : (task : Task) (o : Outside) (w : Outcome) (name bytes line : List ℕ) (mid : Option (List ℕ)) (middle : ℕ) (files : Option FileMap) (sure : Bool) (loads stores : ℕ) (c : Counts) (st : Status)
     → ((first : List ℕ) → Appends o.before.taken o.after.taken first → TakesFirst task.runs_first o.before.taken o.after.taken first) → (Appends o.before.taken o.after.taken w.first → task.half_done o) → w.status ≡ status.Done → w.stored ≡ Some (name, bytes) → w.text ≡ line → task.gives o.before.files w → HostDoes w o
-    → Appends o.before.taken mid w.first → o.before.puts ≤ middle → files ≡ o.before.files → sure ≡ o.before.sure → stores ≡ o.before.stores
+    → Appends o.before.taken mid w.first → middle ≡ o.before.puts → files ≡ o.before.files → sure ≡ o.before.sure → stores ≡ o.before.stores
     → Delivers name bytes line status.Done (record o { before = record (o.before) { files = files; sure = sure; loads = loads; stores = stores; taken = mid; puts = middle; completed = c; memory = o.after.memory } }) st → Means task o st
-delivered_behind task o w name bytes line mid middle files sure loads stores c st takes only is stored_is text_is gives does first le files_is sure_is stores_is (Stored s (Whole done appends)) =
+delivered_behind task o w name bytes line mid middle files sure loads stores c st takes only is stored_is text_is gives does first kept files_is sure_is stores_is (Stored s (Whole done appends same)) =
     let stored = subst (λ (x : Option (List ℕ × List ℕ)). IsStored x o.before.files o.after.files) (sym stored_is) (subst (λ (f : Option FileMap). Stores f o.after.files name bytes) files_is s) in
     let all = subst (λ (t : List ℕ). Appends o.before.taken o.after.taken (w.first ++ t)) (sym text_is) (appends_both o.before.taken mid o.after.taken w.first line first appends) in
     subst (λ (s : Status). Means task o s) (sym done) (prints task o w status.Done is tt gives stored all does)
-delivered_behind task o w name bytes line mid middle files sure loads stores c st takes only is stored_is text_is gives does first le files_is sure_is stores_is (Stored s (Cut cut front rose)) =
+delivered_behind task o w name bytes line mid middle files sure loads stores c st takes only is stored_is text_is gives does first kept files_is sure_is stores_is (Stored s (Cut cut front rose)) =
     let stored = subst (λ (x : Option (List ℕ × List ℕ)). IsStored x o.before.files o.after.files) (sym stored_is) (subst (λ (f : Option FileMap). Stores f o.after.files name bytes) files_is s) in
     subst (λ (s : Status). Means task o s) (sym cut)
-    (inl (w, gives, NoPut mid stored first (subst (λ (t : List ℕ). AppendsFront mid o.after.taken t) (sym text_is) front) (rose_later o.before.puts middle o.after.puts le rose)))
-delivered_behind task o w name bytes line mid middle files sure loads stores c st takes only is stored_is text_is gives does first le files_is sure_is stores_is (NotStored failed changes rose unsure same) =
+    (inl (w, gives, NoPut mid stored first (subst (λ (t : List ℕ). AppendsFront mid o.after.taken t) (sym text_is) front) (subst (λ (x : ℕ). Rose x o.after.puts) kept rose)))
+delivered_behind task o w name bytes line mid middle files sure loads stores c st takes only is stored_is text_is gives does first kept files_is sure_is stores_is (NotStored failed changes rose unsure same) =
     subst (λ (s : Status). Means task o s) (sym failed)
     (inl (
       w,
@@ -78,7 +78,7 @@ delivered_behind task o w name bytes line mid middle files sure loads stores c s
       NoStore name bytes stored_is (subst (λ (f : Option FileMap). ChangesAt f o.after.files name) files_is changes) (subst (λ (x : ℕ). Rose x o.after.stores) stores_is rose)
           (λ s. unsure (sure_is ∙ s)) (takes w.first (subst (λ (t : Option (List ℕ)). Appends o.before.taken t w.first) (sym same) first)),
     ))
-delivered_behind task o w name bytes line mid middle files sure loads stores c st takes only is stored_is text_is gives does first le files_is sure_is stores_is (NoMemory none same put) =
+delivered_behind task o w name bytes line mid middle files sure loads stores c st takes only is stored_is text_is gives does first kept files_is sure_is stores_is (NoMemory none same put) =
     subst (λ (s : Status). Means task o s) (sym none) (
       same ∙ files_is,
       inr (only (subst (λ (t : Option (List ℕ)). Appends o.before.taken t w.first) (sym put) first)),
@@ -122,7 +122,7 @@ rest_means task o on m n old name mid middle files sure loads stores c st last s
     delivered_behind task o w name (checkpoint_bytes (kept_of last)) (saved_line last.step) mid middle files sure loads stores c st k.takes
     (λ put. k.prints (lines_print o on m n old mid middle last h (subst (λ (t : List ℕ). Appends o.before.taken o.after.taken t) (sym h.rests.text_is) put))) refl refl
     (ap saved_line (sym h.rests.run.ends)) (k.gives w (saves_rest on m n old name (Did on m o) o.before.taken mid o.before.puts middle last h read)) h.rests.counted
-    (lines_put m n old (Did on m o) o.before.taken mid o.before.puts middle last h) h.later files_is sure_is stores_is there
+    (lines_put m n old (Did on m o) o.before.taken mid o.before.puts middle last h) h.kept files_is sure_is stores_is there
 
 -- the run has stopped
 stop_means : (task : Task) (o : Outside) (on : RunMode) (m : Setting) (n : ℕ) (old : model.State) (name : List ℕ) (mid : Option (List ℕ)) (st : Status) (last : model.State) (stop : stops.Stop) (text : List ℕ)
@@ -160,6 +160,29 @@ unkept_means : (task : Task) (o : Outside) (on : RunMode) (m : Setting) (n : ℕ
 unkept_means task o on m n old mid middle st last only h is same files =
     subst (λ (s : Status). Means task o s) (sym is)
     (files, inr (only (lines_print o on m n old mid middle last h (subst (λ (t : Option (List ℕ)). Appends o.before.taken t h.text) (sym same) h.put))))
+
+-- Of a run that rests no put has failed, unless its output did.
+pub rests_kept : (m : Setting) (n : ℕ) (first : model.State) (counts : List Report → Type 0) (old new : Option (List ℕ)) (before now : ℕ) (r : Result Rested RunFault) → RestsAs m n first counts old new before now r
+    → (now ≡ before) ⊎ (r ≡ Err fault.Write)
+rests_kept m n first counts old new before now (Ok (rest.At state)) h = inl h.1.kept
+rests_kept m n first counts old new before now (Ok (rest.Stopped ended)) h = inl h.7
+rests_kept m n first counts old new before now (Err fault.Write) h = inr refl
+rests_kept m n first counts old new before now (Err (fault.TooSmall small)) h = absurd h
+rests_kept m n first counts old new before now (Err fault.Memory) (inl none) = inl none.1
+rests_kept m n first counts old new before now (Err fault.Memory) (inr lines) = inl lines.1.kept
+
+pub starts_kept : (m : Setting) (n : ℕ) (counts : List Report → Type 0) (old new : Option (List ℕ)) (before now : ℕ) (r : Result Rested RunFault) → RestsFromStart m n counts old new before now r
+    → (now ≡ before) ⊎ (r ≡ Err fault.Write)
+starts_kept m n counts old new before now (Ok rested) h = rests_kept m n (boot m) counts old new before now (Ok rested) h.1
+starts_kept m n counts old new before now (Err fault.Write) h = inr refl
+starts_kept m n counts old new before now (Err (fault.TooSmall small)) h = inl h.2.1
+starts_kept m n counts old new before now (Err fault.Memory) (inl none) = inl none.1
+starts_kept m n counts old new before now (Err fault.Memory) (inr (fits, lines)) = inl lines.1.kept
+
+-- and that is told as a write fault
+pub left_kept : (before now : ℕ) (r : Result Rested RunFault) (name : List ℕ) (o : Outside) (st : Status) → (now ≡ before) ⊎ (r ≡ Err fault.Write) → LeavesAs r name o st → (now ≡ before) ⊎ (st ≡ status.WriteFault)
+left_kept before now r name o st (inl same) left = inl same
+left_kept before now r name o st (inr is) left = let cut = subst (λ (x : Result Rested RunFault). LeavesAs x name o st) is left in inr cut.0.0
 
 -- what a run answers, and how that is told
 pub rested_means : (task : Task) (o : Outside) (on : RunMode) (m : Setting) (n : ℕ) (old : model.State) (name : List ℕ) (mid : Option (List ℕ)) (middle : ℕ) (files : Option FileMap) (sure : Bool) (loads stores : ℕ) (c : Counts) (r : Result Rested RunFault) (st : Status)

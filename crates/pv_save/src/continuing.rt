@@ -40,7 +40,7 @@ pub fn go_on<F: Files, S: Sink, H: Host>(
     ensures counts { FaultCounts (asked_continue mode words.entry)
         (outside F.Files S.Sink H.Host (files.old, files.new) (out.old, out.new) (host.old, host.new)) }
     ensures host { mode ≡ RunMode.Bare → host.new ≡ host.old }
-    ensures ends { FaultsEnd F.Files files.old files.new result }
+    ensures ends { FaultsEnd F.Files S.Sink (files.old, files.new) (out.old, out.new) result }
 {
     let wedge = is_wedge(mode);
     match resumable_in_files(

@@ -47,7 +47,7 @@ pub fn save<F: Files, S: Sink, H: Host>(
         (outside F.Files S.Sink H.Host (files.old, files.new) (out.old, out.new) (host.old, host.new)) }
     ensures leaves { result ≡ Status.Done → (asked_save mode words.entry file.now).leaves (F.held files.old) (F.held files.new) }
     ensures host { mode ≡ RunMode.Bare → host.new ≡ host.old }
-    ensures ends { FaultsEnd F.Files files.old files.new result }
+    ensures ends { FaultsEnd F.Files S.Sink (files.old, files.new) (out.old, out.new) result }
 {
     match runnable_in_files(alloc, words.image, words.script, files) {
         Err(halt) => end(&halt, out),
@@ -76,7 +76,7 @@ pub fn save_from<F: Files, S: Sink, H: Host>(
         (outside F.Files S.Sink H.Host (files.old, files.new) (out.old, out.new) (host.old, host.new)) }
     ensures leaves { result ≡ Status.Done → (asked_save_from mode words.entry new.now).leaves (F.held files.old) (F.held files.new) }
     ensures host { mode ≡ RunMode.Bare → host.new ≡ host.old }
-    ensures ends { FaultsEnd F.Files files.old files.new result }
+    ensures ends { FaultsEnd F.Files S.Sink (files.old, files.new) (out.old, out.new) result }
 {
     let wedge = is_wedge(mode);
     match resumable_in_files(
@@ -153,7 +153,7 @@ fn rest_again<S: Sink, H: Host>(
 }
 
 // Stores the state of a run that rests, and prints the line for it; or tells how a run ended that doesn't.
-#[tactic(auto, using(pv_tasks::proofs::Faults::ends_none))]
+#[tactic(auto, using(pv_tasks::proofs::Faults::ends_none, pv_tasks::proofs::Faults::puts_told))]
 fn leave<F: Files, S: Sink>(
     alloc: Global,
     rested: Result<Rested, RunFault>,
@@ -165,7 +165,7 @@ fn leave<F: Files, S: Sink>(
     ensures leaves { (completed : HostCounts) (memory : List ℕ)
         → LeavesAs rested name.now (beside F.Files S.Sink (files.old, files.new) (out.old, out.new) completed memory) result }
     ensures stored { NotRead F.Files files.old files.new }
-    ensures ends { FaultsEnd F.Files files.old files.new result }
+    ensures ends { FaultsEnd F.Files S.Sink (files.old, files.new) (out.old, out.new) result }
 {
     match rested {
         Ok(Rested::At(state)) => match checkpoint_file(alloc, &state) {

@@ -1,7 +1,7 @@
 use Rattle.std.proofs.Common.{refl}
 use Rattle.pv_save.specs.Continuing.{ContinuesOn}
 use Rattle.pv_tasks.proofs.Deliveries.{halts, counts_host}
-use Rattle.pv_save.proofs.ContinueMeanings.{no_rest, continued, continue_means}
+use Rattle.pv_save.proofs.ContinueMeanings.{no_rest, continued, continue_puts, continue_means}
 use Rattle.pv_tasks.proofs.Faults.{ends_halted, ends_same}
 use Rattle.pv_save.specs.Asked.{asked_continue}
 use Rattle.pv_save.proofs.continuing.go_on.Goals as goal
@@ -37,8 +37,11 @@ returns-in-Ok-clause-counts g c =
 
 pub returns-in-Err-clause-ends : goal.returns-in-Err-clause-ends
 returns-in-Err-clause-ends g c =
-    ends_halted g.F.Files c.args.files.now c.resumable_in_files.new.files c.in-Err.halt (g.S.Sink.taken c.args.out.now) (g.S.Sink.taken c.end.new.out)
-    (g.S.Sink.faults c.args.out.now) (g.S.Sink.faults c.end.new.out) c.end.result c.in-Err.ensures.kept c.in-Err.ensures.read.same_stores c.end.ensures
+    ends_halted g.F.Files g.S.Sink c.args.files.now c.resumable_in_files.new.files c.args.out.now c.end.new.out c.in-Err.halt (g.S.Sink.taken c.args.out.now) (g.S.Sink.taken c.end.new.out)
+    c.end.result c.in-Err.ensures.kept c.in-Err.ensures.read.same_stores c.end.ensures
 
 pub returns-in-Ok-clause-ends : goal.returns-in-Ok-clause-ends
-returns-in-Ok-clause-ends g c = ends_same g.F.Files c.args.files.now c.resumable_in_files.new.files c.tell_run.result c.in-Ok.ensures.kept c.in-Ok.ensures.read.same_stores
+returns-in-Ok-clause-ends g c =
+    let found = c.in-Ok.found in
+    ends_same g.F.Files g.S.Sink c.args.files.now c.resumable_in_files.new.files c.args.out.now c.tell_run.new.out c.tell_run.result c.in-Ok.ensures.kept c.in-Ok.ensures.read.same_stores
+    (continue_puts c.args.mode found.image found.script.list c.args.words.n found.state _ _ _ _ _ _ c.run_onwards-ran.result _ _ _ c.tell_run.result c.run_onwards-ran.ensures.answers c.tell_run.ensures)

@@ -8,9 +8,9 @@ use Rattle.pv_save.specs.Asked.{asked_save}
 use Rattle.pv_save.specs.Resting.{LeavesState}
 use Rattle.pv_tasks.proofs.Deliveries.{halts, counts_host, counts_behind, some_is_none, not_ended}
 use Rattle.pv_tasks.proofs.RunMeanings.{no_run}
-use Rattle.pv_save.proofs.RestMeanings.{started_means}
+use Rattle.pv_save.proofs.RestMeanings.{starts_kept, left_kept, started_means}
 use Rattle.pv_save.proofs.RestDone.{fits_on, saves_boot, small_boot, starts_stop, left_state}
-use Rattle.pv_tasks.proofs.Faults.{ends_halted, ends_since}
+use Rattle.pv_tasks.proofs.Faults.{ends_halted, ends_behind}
 use Rattle.pv_save.proofs.saving.save.Goals as goal
 use Rattle.pv_tasks.proofs.Works.{WithFrames}
 
@@ -63,9 +63,13 @@ returns-in-Ok-clause-leaves g c = λ done.
 
 pub returns-in-Err-clause-ends : goal.returns-in-Err-clause-ends
 returns-in-Err-clause-ends g c =
-    ends_halted g.F.Files c.args.files.now c.runnable_in_files.new.files c.in-Err.halt (g.S.Sink.taken c.args.out.now) (g.S.Sink.taken c.end.new.out)
-    (g.S.Sink.faults c.args.out.now) (g.S.Sink.faults c.end.new.out) c.end.result c.in-Err.ensures.kept c.in-Err.ensures.read.same_stores c.end.ensures
+    ends_halted g.F.Files g.S.Sink c.args.files.now c.runnable_in_files.new.files c.args.out.now c.end.new.out c.in-Err.halt (g.S.Sink.taken c.args.out.now) (g.S.Sink.taken c.end.new.out)
+    c.end.result c.in-Err.ensures.kept c.in-Err.ensures.read.same_stores c.end.ensures
 
 pub returns-in-Ok-clause-ends : goal.returns-in-Ok-clause-ends
 returns-in-Ok-clause-ends g c =
-    ends_since g.F.Files c.args.files.now c.runnable_in_files.new.files c.leave.new.files c.leave.result c.in-Ok.ensures.kept c.in-Ok.ensures.read.same_stores c.leave.ensures.ends
+    let none : Counts = record { retired = 0; passed = 0 } in
+    let o = beside g.F.Files g.S.Sink (c.runnable_in_files.new.files, c.leave.new.files) (c.rest_found-rested.new.out, c.leave.new.out) none [] in
+    ends_behind g.F.Files g.S.Sink c.args.files.now c.runnable_in_files.new.files c.leave.new.files c.args.out.now c.rest_found-rested.new.out c.leave.new.out c.leave.result c.in-Ok.ensures.kept c.in-Ok.ensures.read.same_stores
+    (left_kept (g.S.Sink.faults c.args.out.now) (g.S.Sink.faults c.rest_found-rested.new.out) c.rest_found-rested.result c.args.file.now o c.leave.result (starts_kept _ _ _ _ _ _ _ c.rest_found-rested.result c.rest_found-rested.ensures.answers) (c.leave.ensures.leaves none []))
+    c.leave.ensures.ends
