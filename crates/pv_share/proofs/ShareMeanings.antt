@@ -30,8 +30,10 @@ use Rattle.pv_tasks.specs.Outside.{Outside}
 use Rattle.pv_tasks.specs.Outcome.{Outcome, Turns, refused, told}
 use Rattle.pv_share.specs.Sharing.{has_stopped, status_of_all, SharesTurns, SharesOn, Ran, Small, BySchedule, Shares, NoneShared, AllRead, share_task}
 use Rattle.pv_share.specs.Told.{SharedToldAs, run_fault}
+use Rattle.pv_tasks.specs.Faulting.{PutsEnd}
 use Rattle.pv_tasks.specs.Tasks.{Means, NoPut}
 use Rattle.pv_tasks.proofs.Deliveries.{says_told, none_first}
+use Rattle.pv_tasks.proofs.Faults.{puts_since, puts_said}
 use Rattle.pv_tasks.proofs.RunMeanings.{appends_on, front_on, rose_on, says_from}
 use Rattle.pv_tasks.proofs.Works.{ended_is_end}
 use Rattle.pv_share.proofs.ShareLaws.{all_ended}
@@ -116,7 +118,7 @@ share_means schedule frames names o st kernels slices mid middle memory (Ok ende
       comes = refl;
     } in
     says_told (share_task schedule frames names) o w st (ended_is_end (status_of_all ended.items) (all_ended ended.items)) refl (by_shared o.before.files schedule frames names kernels slices w shared (Ran h.2 turns)) same
-    (λ end. run.counts) (Whole said.0 (appends_on o.before.taken mid o.after.taken w.text said.1 (subst (λ (t : List ℕ). Appends o.before.taken mid t) run.text_is h.3)))
+    (λ end. run.counts) (Whole said.0 (appends_on o.before.taken mid o.after.taken w.text said.1 (subst (λ (t : List ℕ). Appends o.before.taken mid t) run.text_is h.3)) (said.2 ∙ h.4))
 share_means schedule frames names o st kernels slices mid middle memory (Err fault.Write) shared same h said =
     subst (λ (s : Status). Means (share_task schedule frames names) o s) (sym said.0) (write_fails schedule frames names o kernels slices mid middle shared same h.0 said.1 said.2 h.2 h.1)
 share_means schedule frames names o st kernels slices mid middle memory (Err (fault.TooSmall small)) shared same h (inl said) =
@@ -127,6 +129,17 @@ share_means schedule frames names o st kernels slices mid middle memory (Err (fa
     subst (λ (s : Status). Means (share_task schedule frames names) o s) (sym none.0) (same, inl (none.1 ∙ h.1.0, h.1.2))
 share_means schedule frames names o st kernels slices mid middle memory (Err fault.Memory) shared same h said =
     subst (λ (s : Status). Means (share_task schedule frames names) o s) (sym said.0) (same, inl (said.1 ∙ h.0, h.2))
+
+-- a put that failed ended the work as a write fault
+pub share_puts : (frames : ℕ) (o : Outside) (st : Status) (kernels : List Kernel) (slices : List Slice) (mid : Option (List ℕ)) (middle : ℕ) (memory : List ℕ) (r : Result (Vec Ended Global) SharedFault)
+    → SharedAnswers kernels slices frames o.before.taken mid o.before.puts middle o.before.completed o.after.completed memory r
+    → SharedToldAs r mid o.after.taken middle o.after.puts st → PutsEnd o.before.puts o.after.puts st
+share_puts frames o st kernels slices mid middle memory (Ok ended) h said = λ write. said.2 ∙ h.4
+share_puts frames o st kernels slices mid middle memory (Err fault.Write) h said = λ write. absurd (write said.0)
+share_puts frames o st kernels slices mid middle memory (Err (fault.TooSmall small)) h (inl said) =
+    puts_since o.before.puts middle o.after.puts st (inl h.1.1) (puts_said (too_small_line small.need small.have) status.Refused mid o.after.taken middle o.after.puts st said)
+share_puts frames o st kernels slices mid middle memory (Err (fault.TooSmall small)) h (inr none) = λ write. none.2 ∙ h.1.1
+share_puts frames o st kernels slices mid middle memory (Err fault.Memory) h said = λ write. said.2 ∙ h.1
 
 -- a fault is told as that of one run
 pub told_fault : (fault : SharedFault) (old new : Option (List ℕ)) (before now : ℕ) (st : Status) (one : RunFault) → one ≡ run_fault fault → ToldAs (Err one) old new before now st → SharedToldAs (Err fault) old new before now st

@@ -23,5 +23,6 @@ abbrev pub SharedToldAs : Result (Vec Ended Global) SharedFault → Option (List
 SharedToldAs (Ok ended) old new before now result = (result ≡ status_of_all ended.items) × (new ≡ old) × (now ≡ before)
 SharedToldAs (Err fault.Write) old new before now result = (result ≡ status.WriteFault) × (new ≡ old) × (now ≡ before)
 SharedToldAs (Err (fault.TooSmall small)) old new before now result =
-    Says (too_small_line small.need small.have) status.Refused old new before now result ⊎ ((result ≡ status.Memory) × (new ≡ old))
-SharedToldAs (Err fault.Memory) old new before now result = (result ≡ status.Memory) × (new ≡ old)
+    Says (too_small_line small.need small.have) status.Refused old new before now result
+    ⊎ ((result ≡ status.Memory) × (new ≡ old) × (now ≡ before))
+SharedToldAs (Err fault.Memory) old new before now result = (result ≡ status.Memory) × (new ≡ old) × (now ≡ before)

@@ -34,7 +34,7 @@ pub fn share<F: Files, S: Sink, H: Host>(
         (outside F.Files S.Sink H.Host (files.old, files.new) (out.old, out.new) (host.old, host.new)) result }
     ensures counts { FaultCounts (asked_share words.entry)
         (outside F.Files S.Sink H.Host (files.old, files.new) (out.old, out.new) (host.old, host.new)) }
-    ensures ends { FaultsEnd F.Files files.old files.new result }
+    ensures ends { FaultsEnd F.Files S.Sink (files.old, files.new) (out.old, out.new) result }
 {
     match shared_in_files(alloc, words.schedule, words.kernels, files) {
         Err(halt) => end(&halt, out),

@@ -3,10 +3,11 @@ use Rattle.std.specs.Prelude.{string_bytes}
 use Rattle.std.proofs.lemmas.List.{length-map}
 use Rattle.pv_share.specs.Unshared.{FindsShared}
 use Rattle.pv_build.proofs.Readings.{read_for}
+use Rattle.pv_tasks.specs.Outside.{outside}
 use Rattle.pv_share.specs.Asked.{asked_share}
 use Rattle.pv_words.specs.Words.{names_in_pairs, makes_pairs}
 use Rattle.pv_tasks.proofs.Deliveries.{halts, counts_host}
-use Rattle.pv_share.proofs.ShareMeanings.{none_shared, share_means, pairs_few, kernels_few}
+use Rattle.pv_share.proofs.ShareMeanings.{none_shared, share_means, share_puts, pairs_few, kernels_few}
 use Rattle.pv_tasks.proofs.Faults.{ends_halted, ends_same}
 use Rattle.pv_share.proofs.sharing.share.Goals as goal
 
@@ -51,8 +52,12 @@ returns-in-Ok-clause-counts g c =
 
 pub returns-in-Err-clause-ends : goal.returns-in-Err-clause-ends
 returns-in-Err-clause-ends g c =
-    ends_halted g.F.Files c.args.files.now c.shared_in_files.new.files c.in-Err.halt (g.S.Sink.taken c.args.out.now) (g.S.Sink.taken c.end.new.out)
-    (g.S.Sink.faults c.args.out.now) (g.S.Sink.faults c.end.new.out) c.end.result c.in-Err.ensures.kept c.in-Err.ensures.read.same_stores c.end.ensures
+    ends_halted g.F.Files g.S.Sink c.args.files.now c.shared_in_files.new.files c.args.out.now c.end.new.out c.in-Err.halt (g.S.Sink.taken c.args.out.now) (g.S.Sink.taken c.end.new.out)
+    c.end.result c.in-Err.ensures.kept c.in-Err.ensures.read.same_stores c.end.ensures
 
 pub returns-in-Ok-clause-ends : goal.returns-in-Ok-clause-ends
-returns-in-Ok-clause-ends g c = ends_same g.F.Files c.args.files.now c.shared_in_files.new.files c.tell_shared.result c.in-Ok.ensures.kept c.in-Ok.ensures.read.same_stores
+returns-in-Ok-clause-ends g c =
+    let found = c.in-Ok.found in
+    let o = outside g.F.Files g.S.Sink g.H.Host (c.args.files.now, c.shared_in_files.new.files) (c.args.out.now, c.tell_shared.new.out) (c.args.host.now, c.run_shared-ran.new.host) in
+    ends_same g.F.Files g.S.Sink c.args.files.now c.shared_in_files.new.files c.args.out.now c.tell_shared.new.out c.tell_shared.result c.in-Ok.ensures.kept c.in-Ok.ensures.read.same_stores
+    (share_puts c.args.words.frames o c.tell_shared.result found.kernels.items found.schedule.list _ _ _ c.run_shared-ran.result c.run_shared-ran.ensures.shared c.tell_shared.ensures)
