@@ -35,6 +35,11 @@ pub fn took(rt: &impl Abort, out: &MemSink, text: &[u8]) {
     assert_eq!(rt; out.bytes(), text);
 }
 
+/// Whether a word is this one. All words of a table are compared here: a proof carries each place where two texts are compared.
+pub fn is_word(word: &str, other: &str) -> bool {
+    word == other
+}
+
 /// The words of a command, with one space between two. An empty word is written '', and an empty command has no words.
 fn words(alloc: Global, command: &str) -> Result<Vec<String>, AllocError> {
     let mut words = Vec::new(alloc);
@@ -42,7 +47,7 @@ fn words(alloc: Global, command: &str) -> Result<Vec<String>, AllocError> {
         return Ok(words);
     }
     for word in command.split(' ') {
-        let word = if word == "''" { "" } else { word };
+        let word = if is_word(word, "''") { "" } else { word };
         words.push(String::from_str(alloc, word)?)?;
     }
     Ok(words)

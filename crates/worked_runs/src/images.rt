@@ -1,6 +1,6 @@
 //! Image files against bytes that are written in hexadecimal: some are made by hand of them, and of others they are parts.
 
-use crate::commands::{add, are_same};
+use crate::commands::{add, are_same, is_word};
 use image_check::check;
 use std::alloc::Global;
 use std::process::Abort;
@@ -31,12 +31,12 @@ fn read(rt: &impl Abort, alloc: Global, lines: &str) -> Parts {
     let (mut text, mut data, mut sites) = (Vec::new(alloc), Vec::new(alloc), Vec::new(alloc));
     for line in lines.lines() {
         let (part, bytes) = line.split_once(' ').expect(rt, "a part and its bytes");
-        if part == "text" {
+        if is_word(part, "text") {
             put_bytes(rt, &mut text, bytes);
-        } else if part == "data" {
+        } else if is_word(part, "data") {
             put_bytes(rt, &mut data, bytes);
         } else {
-            assert!(rt; part == "site", "{line}");
+            assert!(rt; is_word(part, "site"), "{line}");
             put_bytes(rt, &mut sites, bytes);
         }
     }
@@ -87,14 +87,14 @@ pub fn image_file(rt: &impl Abort, alloc: Global, bss: u32, lines: &str) -> Vec<
 /// Whether the image file has this text, these bytes of data, or this entry.
 pub fn has_part(rt: &impl Abort, alloc: Global, file: &[u8], part: &str, listed: &str) -> bool {
     let image = check(alloc, file).expect(rt, "an image");
-    if part == "entry" {
+    if is_word(part, "entry") {
         return listed.parse() == Ok(image.entry());
     }
     let mut bytes = Vec::new(alloc);
     put_bytes(rt, &mut bytes, listed);
-    if part == "text" {
+    if is_word(part, "text") {
         are_same(image.text(), &bytes)
     } else {
-        part == "data" && are_same(image.init(), &bytes)
+        is_word(part, "data") && are_same(image.init(), &bytes)
     }
 }

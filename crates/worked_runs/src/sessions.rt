@@ -15,7 +15,7 @@
 //! - `$ held NAME`, `$ lost NAME`: a name is held, or isn't.
 //! - `$ text BYTES`, `$ data BYTES`, `$ entry NUMBER`: the image I has it.
 
-use crate::commands::{all_held, answer, are_same, file, is_so, no_files, store};
+use crate::commands::{all_held, answer, are_same, file, is_so, is_word, no_files, store};
 use crate::images::{has_part, image_file};
 use pv_io::{Files, MemFiles};
 use std::alloc::Global;
@@ -53,19 +53,19 @@ pub fn follow(rt: &impl Abort, alloc: Global, session: &str) -> MemFiles {
 /// Whether an action comes to what it says.
 fn does(rt: &impl Abort, alloc: Global, files: &mut MemFiles, action: &str, lines: &str) -> bool {
     let (verb, rest) = action.split_once(' ').unwrap_or((action, ""));
-    if verb == ":" {
+    if is_word(verb, ":") {
         true
-    } else if verb == "anew" {
+    } else if is_word(verb, "anew") {
         *files = no_files(rt, alloc);
         true
-    } else if verb == "bare" {
+    } else if is_word(verb, "bare") {
         runs(rt, alloc, files, "--bare", rest, lines)
-    } else if verb == "wedge" {
+    } else if is_word(verb, "wedge") {
         runs(rt, alloc, files, "--wedge", rest, lines)
-    } else if verb == "runs" {
+    } else if is_word(verb, "runs") {
         runs(rt, alloc, files, "--bare", rest, lines)
             && runs(rt, alloc, files, "--wedge", rest, lines)
-    } else if verb == "cut" {
+    } else if is_word(verb, "cut") {
         is_cut(rt, alloc, files, rest, lines)
     } else {
         match verb.parse() {
@@ -84,27 +84,27 @@ fn has(
     rest: &str,
     lines: &str,
 ) -> bool {
-    if verb == "store" {
+    if is_word(verb, "store") {
         files.store(rest, lines.as_bytes()).is_ok()
-    } else if verb == "build" {
+    } else if is_word(verb, "build") {
         builds(rt, alloc, files, lines.as_bytes())
-    } else if verb == "image" {
+    } else if is_word(verb, "image") {
         let bss = rest.parse().expect(rt, "a number of zeroed bytes");
         files.store("I", &image_file(rt, alloc, bss, lines)).is_ok()
-    } else if verb == "held" {
+    } else if is_word(verb, "held") {
         has_name(alloc, files, rest)
-    } else if verb == "lost" {
+    } else if is_word(verb, "lost") {
         !has_name(alloc, files, rest)
-    } else if verb == "text" || verb == "data" || verb == "entry" {
+    } else if is_word(verb, "text") || is_word(verb, "data") || is_word(verb, "entry") {
         let image = file(rt, alloc, files, "I");
         has_part(rt, alloc, &image, verb, rest)
     } else {
         let (name, other) = rest.split_once(' ').expect(rt, "two names");
         let bytes = file(rt, alloc, files, other);
-        if verb == "copy" {
+        if is_word(verb, "copy") {
             files.store(name, &bytes).is_ok()
         } else {
-            verb == "same" && are_same(&file(rt, alloc, files, name), &bytes)
+            is_word(verb, "same") && are_same(&file(rt, alloc, files, name), &bytes)
         }
     }
 }
