@@ -1,5 +1,5 @@
 -- The meaning of `prove`.
-use Rattle.std.proofs.Common.{◌≡◌, inl, inr, ℕ, ◌≤◌, ◌<◌, Bool, true, false, List, length, Option, Some, None, Ok, Err, refl, sym, ap, subst, ◌∙◌, arith}
+use Rattle.std.proofs.Common.{◌≡◌, ◌⊎◌, inl, inr, ℕ, ◌≤◌, ◌<◌, Bool, true, false, List, length, Option, Some, None, Ok, Err, refl, sym, ap, subst, ◌∙◌, arith}
 use Rattle.std.specs.Prelude.{if◌then◌else◌}
 use Rattle.std.proofs.lemmas.Bool.{le-leb, lt-leb}
 use Rattle.pv_io.specs.Causes.{Rose}
@@ -7,7 +7,7 @@ use Rattle.pv_io.specs.Files.{FileMap, Stores}
 use Rattle.pv_io.specs.Sink.{Appends, AppendsFront}
 use Rattle.pv_io.specs.declared.files.Files as disk
 use Rattle.pv_io.specs.declared.sink.Sink as sink
-use Rattle.pv_io.proofs.Pieces.{appends_both, rose_later}
+use Rattle.pv_io.proofs.Pieces.{appends_both}
 use Rattle.host_cpl3.specs.declared.host.Host as hosts
 use Rattle.board.specs.Scripts.{Events}
 use Rattle.image_check.specs.Image.{Image}
@@ -33,6 +33,7 @@ use Rattle.pv_build.specs.declared.status.Status.{Status}
 use Rattle.pv_build.specs.declared.status.Status.TheVariants as status
 use Rattle.pv_tasks.specs.Outside.{Outside, outside}
 use Rattle.pv_tasks.specs.Unread.{NotRead}
+use Rattle.pv_tasks.specs.Faulting.{PutsEnd}
 use Rattle.pv_tasks.specs.Outcome.{Outcome, HostedRun, refused, run_text}
 use Rattle.pv_tasks.specs.Running.{RunsOn, Ran, Small, Runs}
 use Rattle.pv_prove.specs.Proving.{are_few, certificate_file, certificate_told, proved_as, ProvesRun, prove_task, PrintsOnly}
@@ -40,6 +41,7 @@ use Rattle.pv_prove.specs.Certifying.{Certifies, TooMany, Delivered}
 use Rattle.pv_tasks.specs.Delivery.{Stored, NotStored, NoMemory}
 use Rattle.pv_tasks.specs.Tasks.{Task, Means, IsStored, HostDoes, NoStore, NoPut, FaultCounts}
 use Rattle.pv_tasks.proofs.Deliveries.{prints, says}
+use Rattle.pv_tasks.proofs.Faults.{puts_since, puts_told}
 use Rattle.pv_tasks.proofs.RunMeanings.{text_at, has_ended}
 use Rattle.pv_tasks.proofs.Works.{WithFrames, IsEnd, ended_is_end, with_both}
 
@@ -64,13 +66,13 @@ some_told notes few = sym (ap (λ (b : Bool). if b then certificate_line (length
 
 -- the run's text was put, and then the line
 line_told : (task : Task) (o : Outside) (w : Outcome) (line : List ℕ) (mid : Option (List ℕ)) (puts : ℕ) (st : Status) → IsEnd w.status → task.gives o.before.files w → IsStored w.stored o.before.files o.after.files → HostDoes w o
-    → Appends o.before.taken mid w.first → o.before.puts ≤ puts → line ≡ w.text → Says line w.status mid o.after.taken puts o.after.puts st → Means task o st
-line_told task o w line mid puts st end gives stored does first le same (Whole is appends) =
+    → Appends o.before.taken mid w.first → puts ≡ o.before.puts → line ≡ w.text → Says line w.status mid o.after.taken puts o.after.puts st → Means task o st
+line_told task o w line mid puts st end gives stored does first kept same (Whole is appends also) =
     subst (λ (s : Status). Means task o s) (sym is)
     (prints task o w w.status refl end gives stored (appends_both o.before.taken mid o.after.taken w.first w.text first (subst (Appends mid o.after.taken) same appends)) does)
-line_told task o w line mid puts st end gives stored does first le same (Cut is front rose) =
+line_told task o w line mid puts st end gives stored does first kept same (Cut is front rose) =
     subst (λ (s : Status). Means task o s) (sym is)
-    (inl (w, gives, NoPut mid stored first (subst (λ (t : List ℕ). AppendsFront mid o.after.taken t) same front) (rose_later o.before.puts puts o.after.puts le rose)))
+    (inl (w, gives, NoPut mid stored first (subst (λ (t : List ℕ). AppendsFront mid o.after.taken t) same front) (subst (λ (k : ℕ). Rose k o.after.puts) kept rose)))
 
 -- the outside of what is told behind a run whose text was put
 abbrev pub behind : Outside → Option (List ℕ) → ℕ → Outside
@@ -78,13 +80,13 @@ behind o mid puts = record o { before = record (o.before) { taken = mid; puts = 
 
 -- what was told of the certificate of a run whose text was put
 certified : (image script : List ℕ) (frames n : ℕ) (name : List ℕ) (r : HostedRun) (notes : List Note) (o : Outside) (mid : Option (List ℕ)) (puts : ℕ) (st : Status)
-    → (prove_task image script frames n name).gives o.before.files (proved_as name r notes) → HostDoes (proved_as name r notes) o → Appends o.before.taken mid (run_text r) → o.before.puts ≤ puts
+    → (prove_task image script frames n name).gives o.before.files (proved_as name r notes) → HostDoes (proved_as name r notes) o → Appends o.before.taken mid (run_text r) → puts ≡ o.before.puts
     → Certifies name notes (status_of r.end) (behind o mid puts) st → Means (prove_task image script frames n name) o st
-certified image script frames n name r notes o mid puts st gives does first le (TooMany few same said) =
-    line_told (prove_task image script frames n name) o (proved_as name r notes) no_certificate_line mid puts st (ended_is_end (status_of r.end) (has_ended r.end)) gives (saved_none name notes o.before.files o.after.files few same) does first le (none_told notes few) said
-certified image script frames n name r notes o mid puts st gives does first le (Delivered few (Stored stores said)) =
-    line_told (prove_task image script frames n name) o (proved_as name r notes) (certificate_line (length notes)) mid puts st (ended_is_end (status_of r.end) (has_ended r.end)) gives (saved_some name notes o.before.files o.after.files few stores) does first le (some_told notes few) said
-certified image script frames n name r notes o mid puts st gives does first le (Delivered few (NotStored is changes rose unsure same)) =
+certified image script frames n name r notes o mid puts st gives does first kept (TooMany few same said) =
+    line_told (prove_task image script frames n name) o (proved_as name r notes) no_certificate_line mid puts st (ended_is_end (status_of r.end) (has_ended r.end)) gives (saved_none name notes o.before.files o.after.files few same) does first kept (none_told notes few) said
+certified image script frames n name r notes o mid puts st gives does first kept (Delivered few (Stored stores said)) =
+    line_told (prove_task image script frames n name) o (proved_as name r notes) (certificate_line (length notes)) mid puts st (ended_is_end (status_of r.end) (has_ended r.end)) gives (saved_some name notes o.before.files o.after.files few stores) does first kept (some_told notes few) said
+certified image script frames n name r notes o mid puts st gives does first kept (Delivered few (NotStored is changes rose unsure same)) =
     let taken : Appends o.before.taken o.after.taken (run_text r) = subst (λ (t : Option (List ℕ)). Appends o.before.taken t (run_text r)) (sym same) first in
     subst (λ (s : Status). Means (prove_task image script frames n name) o s) (sym is)
     (inl (
@@ -92,7 +94,7 @@ certified image script frames n name r notes o mid puts st gives does first le (
       gives,
       NoStore name (choices_bytes (choices_of notes)) (is_saved name notes few) changes rose unsure taken,
     ))
-certified image script frames n name r notes o mid puts st gives does first le (Delivered few (NoMemory is same put)) =
+certified image script frames n name r notes o mid puts st gives does first kept (Delivered few (NoMemory is same put)) =
     subst (λ (s : Status). Means (prove_task image script frames n name) o s) (sym is) (
       same,
       inr (record {
@@ -169,6 +171,19 @@ unproved image script frames n name program events o mid puts (fault.TooSmall sm
     subst (λ (s : Status). Means (prove_task image script frames n name) o s) (sym none.0) (same, inl (none.1 ∙ h.2.0, h.2.2))
 unproved image script frames n name program events o mid puts fault.Memory kept st has read h same told =
     subst (λ (s : Status). Means (prove_task image script frames n name) o s) (sym told.0) (same, inl (told.1 ∙ h.0, h.2))
+
+-- a put that failed ended the work as a write fault
+pub unproved_puts : (program : Image) (events : Events) (frames n : ℕ) (o : Outside) (mid : Option (List ℕ)) (puts : ℕ) (f : RunFault) (kept : KeptChoices) (st : Status)
+    → NotedAnswers program events frames n kept (around_of o.before.taken mid o.before.puts puts o.before.completed o.after.completed) o.after.memory (Err f)
+    → ToldAs (Err f) mid o.after.taken puts o.after.puts st → PutsEnd o.before.puts o.after.puts st
+unproved_puts program events frames n o mid puts fault.Write kept st h told = λ write. absurd (write told.0)
+unproved_puts program events frames n o mid puts (fault.TooSmall small) kept st h told = puts_since o.before.puts puts o.after.puts st (inl h.2.1) (puts_told (Err (fault.TooSmall small)) mid o.after.taken puts o.after.puts st told)
+unproved_puts program events frames n o mid puts fault.Memory kept st h told = λ write. told.2 ∙ h.1
+
+-- of a run that is done none has failed
+pub proved_puts : (program : Image) (events : Events) (frames n : ℕ) (o : Outside) (mid : Option (List ℕ)) (puts : ℕ) (e : Ended) (kept : KeptChoices) (st : Status)
+    → NotedAnswers program events frames n kept (around_of o.before.taken mid o.before.puts puts o.before.completed o.after.completed) o.after.memory (Ok e) → (puts ≡ o.before.puts) ⊎ (st ≡ status.WriteFault)
+proved_puts program events frames n o mid puts e kept st h = inl h.5
 
 -- no memory was found for the notes
 pub unnoted : (image script : List ℕ) (frames n : ℕ) (name : List ℕ) (o : Outside) → o.after.files ≡ o.before.files → o.after.taken ≡ o.before.taken → o.after.completed ≡ o.before.completed → Means (prove_task image script frames n name) o status.Memory

@@ -23,8 +23,10 @@ use Rattle.pv_tasks.specs.Outcome.{Outcome, refused, printed}
 use Rattle.pv_tasks.specs.Running.{Ran, Small, Reads}
 use Rattle.pv_prove.specs.Replaying.{ByChoices, Replays, replay_task}
 use Rattle.pv_prove.specs.Judging.{JudgesAs}
+use Rattle.pv_tasks.specs.Faulting.{PutsEnd}
 use Rattle.pv_tasks.specs.Tasks.{Means, HostDoes}
 use Rattle.pv_tasks.proofs.Deliveries.{says_told}
+use Rattle.pv_tasks.proofs.Faults.{puts_said}
 use Rattle.pv_tasks.proofs.RunMeanings.{no_run}
 use Rattle.pv_tasks.proofs.Works.{with_both}
 use Rattle.pv_prove.proofs.ReplayLaws.{replays_all, replays_told, replays_end}
@@ -53,6 +55,12 @@ pub tells_small : (frames n : ℕ) (image : Image) (events : Events) (list : Lis
 tells_small frames n image events list text old new before now small line st h is said =
     inl (refused line, Small h.0 (ap refused (is ∙ ap (λ (s : TooSmall). too_small_line s.need s.have) h.1)), said)
 
+-- a put that failed ended the work as a write fault
+pub judges_puts : (frames n : ℕ) (image : Image) (events : Events) (list : List Choice) (text : List ℕ) (old new : Option (List ℕ)) (before now : ℕ) (st : Status)
+    → JudgesAs frames n image events list text (taking_of old new before now) st → PutsEnd before now st
+judges_puts frames n image events list text old new before now st (inl (w, h, said)) = puts_said w.text w.status old new before now st said
+judges_puts frames n image events list text old new before now st (inr (is, put, count)) = λ write. count
+
 -- what was told of what the files hold
 pub replay_means : (image script certificate text : List ℕ) (frames n : ℕ) (o : Outside) (st : Status) (program : Image) (events : Events) (list : List Choice) (bytes : List ℕ)
     → HasImage o.before.files image program → HasScript o.before.files script events → HasChoices o.before.files certificate list → Holds o.before.files text bytes → o.after.files ≡ o.before.files → o.after.completed ≡ o.before.completed
@@ -63,5 +71,5 @@ replay_means image script certificate text frames n o st program events list byt
     says_told (replay_task image script frames n certificate text) o w st (replays_end frames n o.before.files certificate text program events w by) (replays_told frames n o.before.files certificate text program events w by)
     (with_both (Replays frames n o.before.files certificate text) o.before.files image script program events w has says by) same
     (λ end. replays_all (λ (v : Outcome). HostDoes v o) frames n o.before.files certificate text program events w (λ line. none) (λ line. none) by) said
-replay_means image script certificate text frames n o st program events list bytes has says choices holds same none (inr (is, put)) =
+replay_means image script certificate text frames n o st program events list bytes has says choices holds same none (inr (is, put, count)) =
     subst (λ (s : Status). Means (replay_task image script frames n certificate text) o s) (sym is) (same, inl (put, none))

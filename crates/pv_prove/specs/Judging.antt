@@ -14,4 +14,4 @@ use Rattle.pv_prove.specs.Replaying.{Judges}
 abbrev pub JudgesAs : ℕ → ℕ → Image → Events → List Choice → List ℕ → Taking → Status → Type 0
 JudgesAs frames n image events list text out result =
     ((w : Outcome) × Judges frames n image events list text w × Says w.text w.status out.old out.new out.faults out.faults_after result)
-    ⊎ ((result ≡ status.Memory) × (out.new ≡ out.old))
+    ⊎ ((result ≡ status.Memory) × (out.new ≡ out.old) × (out.faults_after ≡ out.faults))

@@ -47,7 +47,7 @@ pub fn prove<F: Files, S: Sink, H: Host>(
         (outside F.Files S.Sink H.Host (files.old, files.new) (out.old, out.new) (host.old, host.new)) result }
     ensures counts { FaultCounts (asked_prove words.entry certificate.now)
         (outside F.Files S.Sink H.Host (files.old, files.new) (out.old, out.new) (host.old, host.new)) }
-    ensures ends { FaultsEnd F.Files files.old files.new result }
+    ensures ends { FaultsEnd F.Files S.Sink (files.old, files.new) (out.old, out.new) result }
 {
     match runnable_in_files(alloc, words.image, words.script, files) {
         Err(halt) => end(&halt, out),
@@ -65,7 +65,6 @@ pub fn prove<F: Files, S: Sink, H: Host>(
 }
 
 // Runs what was found, and stores its certificate.
-#[tactic(auto, using(pv_tasks::proofs::Faults::ends_none))]
 fn prove_found<F: Files, S: Sink, H: Host>(
     alloc: Global,
     found: &Runnable,
@@ -84,7 +83,7 @@ fn prove_found<F: Files, S: Sink, H: Host>(
         Means (prove_task image script frames n certificate.now)
         (outside F.Files S.Sink H.Host (files.old, files.new) (out.old, out.new) (host.old, host.new)) result }
     ensures stored { NotRead F.Files files.old files.new }
-    ensures ends { FaultsEnd F.Files files.old files.new result }
+    ensures ends { FaultsEnd F.Files S.Sink (files.old, files.new) (out.old, out.new) result }
 {
     match KeptNotes::new(alloc) {
         Err(_) => Status::Memory,
@@ -118,7 +117,6 @@ fn status_of(end: End) -> Status
 }
 
 // Stores the certificate of notes, and tells of it. The status is the one that is meant unless that fails.
-#[tactic(auto, using(pv_tasks::proofs::Faults::ends_none))]
 fn certify<F: Files, S: Sink>(
     alloc: Global,
     notes: &KeptNotes,
@@ -131,7 +129,7 @@ fn certify<F: Files, S: Sink>(
     ensures certified { (completed : HostCounts) (memory : List ℕ) (told : List Note) → AreKept notes.now told →
         Certifies name.now told meant (beside F.Files S.Sink (files.old, files.new) (out.old, out.new) completed memory) result }
     ensures stored { NotRead F.Files files.old files.new }
-    ensures ends { FaultsEnd F.Files files.old files.new result }
+    ensures ends { FaultsEnd F.Files S.Sink (files.old, files.new) (out.old, out.new) result }
 {
     match notes.choices() {
         None => tell_none(meant, out),

@@ -34,7 +34,7 @@ pub fn replay<F: Files, S: Sink>(
         (beside F.Files S.Sink (files.old, files.new) (out.old, out.new) completed memory) result }
     ensures counts { (completed : HostCounts) (memory : List ℕ) → FaultCounts (asked_replay words.entry certificate.now text.now)
         (beside F.Files S.Sink (files.old, files.new) (out.old, out.new) completed memory) }
-    ensures ends { FaultsEnd F.Files files.old files.new result }
+    ensures ends { FaultsEnd F.Files S.Sink (files.old, files.new) (out.old, out.new) result }
 {
     match replayable_in_files(alloc, words.image, words.script, certificate, text, files) {
         Err(halt) => end(&halt, out),

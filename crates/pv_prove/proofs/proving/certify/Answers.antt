@@ -4,7 +4,9 @@ use Rattle.trace_check.specs.Form.{choices_bytes}
 use Rattle.trace_check.specs.ChoicesTold.{choice_of, choices_of}
 use Rattle.pv_tasks.specs.Beside.{beside}
 use Rattle.pv_tasks.specs.Delivery.{Delivers, NoMemory}
-use Rattle.pv_prove.specs.CertificateLines.{certificate_line}
+use Rattle.pv_build.specs.declared.status.Status.TheVariants as status
+use Rattle.pv_tasks.proofs.Faults.{puts_said, ends_none}
+use Rattle.pv_prove.specs.CertificateLines.{certificate_line, no_certificate_line}
 use Rattle.pv_prove.specs.Certifying.{Delivered}
 use Rattle.pv_prove.proofs.ProveMeanings.{few}
 use Rattle.pv_prove.proofs.proving.certify.Goals as goal
@@ -21,3 +23,11 @@ returns-in-Ok-clause-certified g c = λ completed memory told kept.
 
 pub returns-in-Err-clause-certified : goal.returns-in-Err-clause-certified
 returns-in-Err-clause-certified g c = λ completed memory told kept. Delivered (few told (c.in-Some.ensures.told told kept).0) (NoMemory refl refl refl)
+
+pub returns-in-None-clause-ends : goal.returns-in-None-clause-ends
+returns-in-None-clause-ends g c =
+    ends_none g.F.Files g.S.Sink c.args.files.now c.args.out.now c.tell_none.new.out c.tell_none.result
+    (puts_said no_certificate_line c.args.meant _ _ _ _ c.tell_none.result c.tell_none.ensures)
+
+pub returns-in-Err-clause-ends : goal.returns-in-Err-clause-ends
+returns-in-Err-clause-ends g c = ends_none g.F.Files g.S.Sink c.args.files.now c.args.out.now c.args.out.now status.Memory (λ write. refl)

@@ -42,9 +42,9 @@ returns-in-Ok-clause-counts g c =
 
 pub returns-in-Err-clause-ends : goal.returns-in-Err-clause-ends
 returns-in-Err-clause-ends g c =
-    ends_halted g.F.Files c.args.files.now c.runnable_in_files.new.files c.in-Err.halt (g.S.Sink.taken c.args.out.now) (g.S.Sink.taken c.end.new.out)
-    (g.S.Sink.faults c.args.out.now) (g.S.Sink.faults c.end.new.out) c.end.result c.in-Err.ensures.kept c.in-Err.ensures.read.same_stores c.end.ensures
+    ends_halted g.F.Files g.S.Sink c.args.files.now c.runnable_in_files.new.files c.args.out.now c.end.new.out c.in-Err.halt (g.S.Sink.taken c.args.out.now) (g.S.Sink.taken c.end.new.out)
+    c.end.result c.in-Err.ensures.kept c.in-Err.ensures.read.same_stores c.end.ensures
 
 pub returns-in-Ok-clause-ends : goal.returns-in-Ok-clause-ends
 returns-in-Ok-clause-ends g c =
-    ends_since g.F.Files c.args.files.now c.runnable_in_files.new.files c.prove_found.new.files c.prove_found.result c.in-Ok.ensures.kept c.in-Ok.ensures.read.same_stores c.prove_found.ensures.ends
+    ends_since g.F.Files g.S.Sink c.args.files.now c.runnable_in_files.new.files c.prove_found.new.files c.args.out.now c.prove_found.new.out c.prove_found.result c.in-Ok.ensures.kept c.in-Ok.ensures.read.same_stores c.prove_found.ensures.ends

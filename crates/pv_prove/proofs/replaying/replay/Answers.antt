@@ -1,7 +1,7 @@
 use Rattle.std.proofs.Common.{refl}
 use Rattle.pv_tasks.specs.Beside.{beside}
 use Rattle.pv_tasks.proofs.Deliveries.{halts, counts_read}
-use Rattle.pv_prove.proofs.ReplayMeanings.{no_replay, replay_means}
+use Rattle.pv_prove.proofs.ReplayMeanings.{no_replay, judges_puts, replay_means}
 use Rattle.pv_tasks.proofs.Faults.{ends_halted, ends_same}
 use Rattle.pv_prove.specs.Asked.{asked_replay}
 use Rattle.pv_prove.proofs.replaying.replay.Goals as goal
@@ -32,8 +32,11 @@ returns-in-Ok-clause-counts g c = λ completed memory.
 
 pub returns-in-Err-clause-ends : goal.returns-in-Err-clause-ends
 returns-in-Err-clause-ends g c =
-    ends_halted g.F.Files c.args.files.now c.replayable_in_files.new.files c.in-Err.halt (g.S.Sink.taken c.args.out.now) (g.S.Sink.taken c.end.new.out)
-    (g.S.Sink.faults c.args.out.now) (g.S.Sink.faults c.end.new.out) c.end.result c.in-Err.ensures.kept c.in-Err.ensures.read.same_stores c.end.ensures
+    ends_halted g.F.Files g.S.Sink c.args.files.now c.replayable_in_files.new.files c.args.out.now c.end.new.out c.in-Err.halt (g.S.Sink.taken c.args.out.now) (g.S.Sink.taken c.end.new.out)
+    c.end.result c.in-Err.ensures.kept c.in-Err.ensures.read.same_stores c.end.ensures
 
 pub returns-in-Ok-clause-ends : goal.returns-in-Ok-clause-ends
-returns-in-Ok-clause-ends g c = ends_same g.F.Files c.args.files.now c.replayable_in_files.new.files c.judge.result c.in-Ok.ensures.kept c.in-Ok.ensures.read.same_stores
+returns-in-Ok-clause-ends g c =
+    let found = c.in-Ok.found in
+    ends_same g.F.Files g.S.Sink c.args.files.now c.replayable_in_files.new.files c.args.out.now c.judge.new.out c.judge.result c.in-Ok.ensures.kept c.in-Ok.ensures.read.same_stores
+    (judges_puts c.args.words.frames c.args.words.n found.runnable.image found.runnable.script.list found.choices.list found.text.items _ _ _ _ c.judge.result c.judge.ensures)
