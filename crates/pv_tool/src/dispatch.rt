@@ -18,7 +18,6 @@ use pv_words::{CommandWords, RunMode};
 use std::alloc::Global;
 
 /// Does the work of a command.
-#[tactic(auto, using(pv_tasks::proofs::Faults::ends_none))]
 pub fn do_command<F: Files, S: Sink, H: Host>(
     alloc: Global,
     command: CommandWords<'_>,
@@ -35,7 +34,7 @@ pub fn do_command<F: Files, S: Sink, H: Host>(
     ensures leaves { result ≡ Status.Done → (task_of (command_view command.entry)).leaves (F.held files.old) (F.held files.new) }
     ensures host { is_on_host (Some (command_view command.entry)) ≡ false → host.new ≡ host.old }
     ensures files { reads_files (Some (command_view command.entry)) ≡ false → (files.new ≡ files.old) × (result ≢ Status.ReadFault) }
-    ensures ends { FaultsEnd F.Files files.old files.new result }
+    ensures ends { FaultsEnd F.Files S.Sink (files.old, files.new) (out.old, out.new) result }
 {
     match command {
         CommandWords::Burn { source, object } => burn(alloc, source, object, files, out),

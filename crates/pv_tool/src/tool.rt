@@ -56,7 +56,7 @@ pub fn top<F: Files, S: Sink, H: Host>(
     ensures counts { CountsFaults (map string_bytes words.now.items)
         (outside F.Files S.Sink H.Host (files.old, files.new) (out.old, out.new) (host.old, host.new)) }
 
-    // A load that failed ends the work as a read fault, and a store that failed as a write fault: it isn't tried again.
+    // A load that failed ends the work as a read fault, a store or a put that failed as a write fault: it isn't tried again.
     ensures ends { EndsAtFaults (outside F.Files S.Sink H.Host (files.old, files.new) (out.old, out.new) (host.old, host.new)) result }
 
     // Where no load, store or put failed and memory was found:

@@ -4,7 +4,8 @@ use Rattle.pv_words.specs.Words.{Work}
 use Rattle.pv_build.proofs.Readings.{read_none}
 use Rattle.pv_tasks.proofs.Deliveries.{counts_host}
 use Rattle.pv_save.proofs.RestLaws.{bare_mode}
-use Rattle.pv_tasks.proofs.WorkMeanings.{work_means, work_no_read}
+use Rattle.pv_tasks.proofs.Faults.{ends_none}
+use Rattle.pv_tasks.proofs.WorkMeanings.{work_means, work_no_read, work_puts}
 use Rattle.pv_tool.specs.Asked.{task_of}
 use Rattle.pv_tool.proofs.dispatch.do_command.Goals as goal
 
@@ -37,6 +38,10 @@ returns-in-Work-clause-counts g c =
 
 pub returns-in-Work-clause-files : goal.returns-in-Work-clause-files
 returns-in-Work-clause-files g c = λ reads. (refl, work_no_read c.in-Work.number _ _ _ _ _ _ _ c.work.result c.work.ensures)
+
+pub returns-in-Work-clause-ends : goal.returns-in-Work-clause-ends
+returns-in-Work-clause-ends g c =
+    ends_none g.F.Files g.S.Sink c.args.files.now c.args.out.now c.work.new.out c.work.result (work_puts c.in-Work.number _ _ _ _ _ _ _ c.work.result c.work.ensures)
 
 pub returns-in-Share-clause-meaning : goal.returns-in-Share-clause-meaning
 returns-in-Share-clause-meaning g c = rw c.in-Share.is c.share.ensures.meaning
