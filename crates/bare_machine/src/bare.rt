@@ -90,7 +90,8 @@ impl<C: Cache> Bare<C> {
     }
 
     /// Makes `k` steps, or ends before a step that stops. The lines of a step go to the sink at its end. After a stop or a
-    /// failure the machine must not go on. The sink's count of faults is as it was, and where it failed it rose.
+    /// failure the machine must not go on. Where no put failed the sink's count of faults is as it was, and where one failed
+    /// it rose.
     pub fn slice<O: Sink>(&mut self, script: &Script, k: u64, out: &mut O) -> Result<Pause, Failed>
         requires script { is_script script.now.list ≡ true }
         requires kept { IsKept self.old.frames (state_of C.entries self.old) }
@@ -103,7 +104,7 @@ impl<C: Cache> Bare<C> {
         ensures reached { IfReached result (self.new.step ≡ self.old.step + k) }
         ensures goes_on { IfReached result (GoesOn C.entries C.is_exact self.old self.new) }
         ensures fit { Fit self.old.cpu → IfReached result (Fit self.new.cpu) }
-        ensures kept { OnOk result (O.faults out.new ≡ O.faults out.old) }
+        ensures count { OnOk result (O.faults out.new ≡ O.faults out.old) }
         ensures cause { OnErr result (Rose (O.faults out.old) (O.faults out.new)) }
     {
         take_steps(&mut self.machine, script, k, out)

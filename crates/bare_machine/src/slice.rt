@@ -20,8 +20,8 @@ use pv_io::{Failed, Sink};
 use run_trace::Pause;
 use xlate_buffer::Cache;
 
-/// Makes `k` steps, or ends before a step that stops. The lines of a step go to the sink at its end. Its count of faults is
-/// as it was, and where it failed it rose.
+/// Makes `k` steps, or ends before a step that stops. The lines of a step go to the sink at its end. Where no
+/// put failed its count of faults is as it was, and where one failed it rose.
 pub fn take_steps<C: Cache, O: Sink>(
     machine: &mut BareMachine<C>,
     script: &Script,
@@ -39,7 +39,7 @@ pub fn take_steps<C: Cache, O: Sink>(
     ensures reached { IfReached result (machine.new.step ≡ machine.old.step + k) }
     ensures goes_on { IfReached result (GoesOn C.entries C.is_exact machine.old machine.new) }
     ensures fit { Fit machine.old.cpu → IfReached result (Fit machine.new.cpu) }
-    ensures kept { OnOk result (O.faults out.new ≡ O.faults out.old) }
+    ensures count { OnOk result (O.faults out.new ≡ O.faults out.old) }
     ensures cause { OnErr result (Rose (O.faults out.old) (O.faults out.new)) }
 {
     runs_keep_fit();
@@ -56,8 +56,8 @@ fn segment_count(segments: &[Hidden; 4]) -> usize
     segments.len()
 }
 
-/// Steps up to a count of steps, or to a stop. The lines of a step go to the sink at its end. Its count of faults is as it
-/// was, and where it failed it rose.
+/// Steps up to a count of steps, or to a stop. The lines of a step go to the sink at its end. Where no put
+/// failed its count of faults is as it was, and where one failed it rose.
 pub fn steps_to<C: Cache, O: Sink>(
     machine: &mut BareMachine<C>,
     script: &Script,
@@ -73,7 +73,7 @@ pub fn steps_to<C: Cache, O: Sink>(
         (state_of C.entries machine.old) (state_of C.entries machine.new) (O.taken out.old) (O.taken out.new) result }
     ensures reached { IfReached result (machine.new.step ≡ bound) }
     ensures goes_on { IfReached result (GoesOn C.entries C.is_exact machine.old machine.new) }
-    ensures kept { OnOk result (O.faults out.new ≡ O.faults out.old) }
+    ensures count { OnOk result (O.faults out.new ≡ O.faults out.old) }
     ensures cause { OnErr result (Rose (O.faults out.old) (O.faults out.new)) }
 {
     let mut state = first_state(&NO_TEXT);

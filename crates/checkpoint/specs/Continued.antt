@@ -27,8 +27,8 @@ pub record PromiseFrom (m : Setting) (n : ℕ) (first : State) (text : List ℕ)
   pub counts : CountsOn m reports before after
   pub memory_is : HasMemory m last end memory
 
--- What stands after it: the sink's bytes, its count of faults, which is as it was, and rose where it failed, and the host's
--- counts and memory.
+-- What stands after it: the sink's bytes, its count of faults, which is as it was where no put failed and rose where one
+-- did, and the host's counts and memory.
 abbrev pub WedgeGoesTo : Setting → ℕ → State → Around → List ℕ → Result Ended RunFault → Type 0
 WedgeGoesTo m n first a memory (Ok ended) =
     (text : List ℕ) × PromiseFrom m n first text ended.steps ended.end a.counts a.counts_after memory × Appends a.taken a.taken_after text

@@ -106,8 +106,8 @@ pub fn causes_in_order()
 {}
 
 /// An object's sites are wrong exactly where their section is malformed, one of them ends behind
-/// the text, there are more than 262,144 in the objects up to and with this one, or a long text
-/// leaves a gap between two of them that can't be written.
+/// the text, there are more than 262,144 in the objects up to and with this one, or a long text's
+/// sites can't be written by the gaps between them.
 pub fn sites_refused()
     ensures malformed { (os : List ObjectParts) (p : ℕ × ObjectParts) (at : ℕ) → sites_in p.1.sites ≡ Err at → sites_wrong os p ≡ true }
     ensures past_text { (os : List ObjectParts) (p : ℕ × ObjectParts) (sites : SitesView) (k : ℕ) (s : SiteView)

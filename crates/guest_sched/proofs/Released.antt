@@ -107,10 +107,6 @@ module _ (frames : ℕ) (p p' : Pool) (host host' : List ℕ) (s : Seat) (new : 
         laws.same-frames (pairs_of s.running.shadows) s.memory host h.holds.stand
         (record { size = sym len; frames = λ f k. frame-above s.memory host (4096 * frames) f (let o = (h.holds.owns.out f k).low in omega (arith, o, behind)) (sym goes) })
 
-    pub released_held : held_by (released frames host' s new) ≡ roots.frames new host'
-    unfolding then_memory
-    released_held = frames_same
-
     pub released_keeps : Keeps p p' host host' (held_by s) (held_by (released frames host' s new))
     unfolding then_memory
     released_keeps =

@@ -1,6 +1,5 @@
 -- The steps of a kernel in its slices, slice by slice.
 use Rattle.std.proofs.Common.{◌≡◌, ℕ, ◌+◌, ◌<◌, ◌≤◌, true, false, List, [], ◌∷◌, ◌++◌, length, get_or, drop, refl, arith, add-one, drop-cons}
-use Rattle.std.proofs.lemmas.List.{drop_all}
 use Rattle.std.specs.Prelude.{◌==◌, if◌then◌else◌}
 use Rattle.guest_sched.specs.declared.schedule.Slice.{Slice}
 use Rattle.guest_sched.specs.Bounds.{bound_of}
@@ -16,9 +15,6 @@ bound_append kernel (x ∷ xs) ys = let rest = bound_append kernel xs ys in omeg
 pub bound_at : (kernel : ℕ) (slices : List Slice) (i : ℕ) (other : Slice) → i < length slices →
     bound_of kernel (drop i slices) ≡ steps_for kernel (get_or slices i other) + bound_of kernel (drop (i + 1) slices)
 bound_at kernel slices i other within = rw (add-one, drop-cons slices i other within) refl
-
-pub bound_end : (kernel : ℕ) (slices : List Slice) (i : ℕ) → length slices ≤ i → bound_of kernel (drop i slices) ≡ 0
-bound_end kernel slices i past = rw (drop_all i slices past) refl
 
 pub for_mine : (kernel : ℕ) (slice : Slice) → (slice.kernel == kernel) ≡ true → steps_for kernel slice ≡ slice.steps
 for_mine kernel slice is = rw is refl

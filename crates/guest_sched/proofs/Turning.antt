@@ -79,10 +79,6 @@ module _ (n : ℕ) (p : Piece) (others : p.kernel ≢ n) where
   stopped_off [] = rw isnt_mine refl
   stopped_off (q ∷ pieces) = ap (λ b. ((q.kernel == n) && is_some q.stop) || b) (stopped_off pieces)
 
--- a turn that makes no step and meets no stop says nothing
-pub piece_silent : (p : Piece) → p.reports ≡ [] → p.stop ≡ None → piece_text p ≡ []
-piece_silent p none live = rw (none, live) refl
-
 pub counts_on : (sites : ℕ → List Site) (c : Counts) (pieces : List Piece) (p : Piece)
     → counts_over sites c (pieces ++ p ∷ [])
     ≡ record { retired = (counts_over sites c pieces).retired + direct_count (sites p.kernel) p.reports; passed = passed_digest (sites p.kernel) (counts_over sites c pieces).passed p.reports }

@@ -12,7 +12,7 @@ use descriptors::Cpu;
 /// The processor is halted, and no interrupt that is pending can end that.
 fn is_resting(cpu: &Cpu, board: &Board) -> bool
     ensures rests { result ≡ true → (cpu.now.halted ≡ true) × (cpu.now.held ≡ false) × (interrupt_of cpu.now board.now ≡ None) }
-    ensures awake { cpu.now.halted ≡ true → cpu.now.held ≡ false → interrupt_of cpu.now board.now ≡ None → result ≡ true }
+    ensures waits { cpu.now.halted ≡ true → cpu.now.held ≡ false → interrupt_of cpu.now board.now ≡ None → result ≡ true }
 {
     if !cpu.halted {
         return false;

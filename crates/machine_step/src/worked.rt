@@ -103,7 +103,7 @@ pub fn items_of(step: u64, seen: Seen) -> StepItems
 }
 
 /// Puts the lines of what a step let be seen, which mostly is nothing. Where they were put the sink's count of faults is as
-/// it was, and where it failed it rose.
+/// it was, and where one was not it rose.
 pub fn put_seen<O: Sink>(step: u64, seen: Seen, out: &mut O) -> Result<(), Failed>
     ensures ok { OnOk result (Appends (O.taken out.old) (O.taken out.new) (lines_of (items_at step (whats seen)))) }
     ensures failed { OnErr result (AppendsFront (O.taken out.old) (O.taken out.new) (lines_of (items_at step (whats seen)))) }

@@ -22,8 +22,3 @@ abbrev pub IfReached : Result Pause Failed → Type 0 → Type 0
 IfReached (Ok pause.Reached) fact = fact
 IfReached (Ok (pause.Stopped stop)) fact = Unit {0}
 IfReached (Err failed) fact = Unit {0}
-
--- what holds where the sink has not failed
-abbrev pub IfPaused : Result Pause Failed → Type 0 → Type 0
-IfPaused (Ok pause) fact = fact
-IfPaused (Err failed) fact = Unit {0}

@@ -43,8 +43,8 @@ pub record NotedRun (image : Image) (script : Events) (frames n : ℕ) (text : L
   pub tells : TellsSets image script frames sets last ended.end kept notes
   pub proved : IsProved image script frames n text ended.end notes
 
--- What stands after such a run, with the notes that are kept and the host's memory. The sink's count of faults is as it was,
--- and where it failed it rose.
+-- What stands after such a run, with the notes that are kept and the host's memory. Where no put failed the sink's
+-- count of faults is as it was, and where one failed it rose.
 abbrev pub NotedAnswers : Image → Events → ℕ → ℕ → KeptChoices → Around → List ℕ → Result Ended RunFault → Type 0
 NotedAnswers image script frames n kept a memory (Ok ended) =
     (text : List ℕ) × (run : NotedRun image script frames n text ended a memory kept) × (need image ≤ frames)

@@ -148,7 +148,7 @@ fn next_step(list: &[Choice], at: usize, bound: u64) -> u64
 }
 
 /// Goes the course of the choices up to a count of steps, to a stop, or to a choice that can't be made. The machine stands
-/// where the course begins. The sink's count of faults is as it was, and where it failed it rose.
+/// where the course begins. Where no put failed the sink's count of faults is as it was, and where one failed it rose.
 pub fn follow<C: Cache, O: Sink>(
     machine: &mut Bare<C>,
     script: &Script,

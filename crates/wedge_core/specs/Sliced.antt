@@ -32,7 +32,7 @@ pub record StaysSilent {L : Type 0} (n : notes.Ghosts L) (old new : L) : Type 0 
   pub wants : n.wants new ≡ n.wants old
   pub silent : n.wants old ≡ false → new ≡ old
 
--- the sink's count of faults is as it was, and where it failed it rose
+-- where no put failed the sink's count of faults is as it was, and where one failed it rose
 pub record FaultsOf (old new : ℕ) (result : Result Pause Failed) : Type 0 where
   pub kept : OnOk result (new ≡ old)
   pub cause : OnErr result (Rose old new)

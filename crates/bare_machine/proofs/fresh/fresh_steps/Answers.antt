@@ -46,7 +46,7 @@ loop-machine-preserved g c = record {
       nears_on s (g.C.Cache.is_exact c.drop_all.new.kept.cache) c.args.n first (with_set (state_of e m) x) (state_of e c.steps_to.new.machine) (g.O.Sink.taken c.args.out.now) (g.O.Sink.taken c.loop-machine.out) (g.O.Sink.taken c.steps_to.new.out) c.drop_all.ensures.gone c.loop-machine-test.true near h;
   kept = (let on = rw c.in-Reached.is at c.in-Ok.ensures.goes_on in on.kept);
   frames = (let on = rw c.in-Reached.is at c.in-Ok.ensures.goes_on in on.frames ∙ c.loop-machine.invariant.frames);
-  same = c.in-Ok.ensures.kept ∙ c.loop-machine.invariant.same;
+  same = c.in-Ok.ensures.count ∙ c.loop-machine.invariant.same;
   bound = omega (arith, c.loop-machine-test.true, rw c.in-Reached.is at c.in-Ok.ensures.reached);
 }
 
@@ -76,7 +76,7 @@ returns-in-Stopped g c = record {
       let near = nears_cleared s c.args.n first (state_of e m) x (g.O.Sink.taken c.args.out.now) (g.O.Sink.taken c.loop-machine.out) (c.loop-machine.invariant.near image) in
       let h = sliced image c.args.script.now.list m.frames c.args.machine.now.frames exact (m.step + 1) (with_set (state_of e m) x) (state_of e c.steps_to.new.machine) (g.O.Sink.taken c.loop-machine.out) (g.O.Sink.taken c.steps_to.new.out) (Ok c.in-Ok.pause) (Ok (Stopped c.in-Stopped.stop)) c.loop-machine.invariant.frames (ap (λ (p : Pause). Ok p) c.in-Stopped.is) (c.in-Ok.ensures.slice image) in (
         stopped_from_start s exact c.args.n first (with_set (state_of e m) x) (state_of e c.steps_to.new.machine) (g.O.Sink.taken c.args.out.now) (g.O.Sink.taken c.loop-machine.out) (g.O.Sink.taken c.steps_to.new.out) c.in-Stopped.stop c.requires.begin c.drop_all.ensures.gone c.loop-machine-test.true near h,
-        c.in-Ok.ensures.kept ∙ c.loop-machine.invariant.same,
+        c.in-Ok.ensures.count ∙ c.loop-machine.invariant.same,
       );
 }
 

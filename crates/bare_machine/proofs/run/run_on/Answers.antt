@@ -21,4 +21,4 @@ returns-in-Ok-clause-whole g c = λ image.
     let h = subst (λ (n : ℕ). SliceAs (bare image c.args.script.now.list c.args.machine.now.frames) (g.C.Cache.is_exact c.args.machine.now.kept.cache) n (state_of e c.args.machine.now) (state_of e c.slice.new.self) (g.O.Sink.taken c.args.out.now) (g.O.Sink.taken c.slice.new.out) (Ok c.in-Ok.pause)) bound (c.in-Ok.ensures.slice image) in
     let ends = subst (λ (x : End). EndsAs c.slice.new.self.step x (g.O.Sink.taken c.slice.new.out) (g.O.Sink.taken c.end_run.new.out) (g.O.Sink.faults c.slice.new.out) (g.O.Sink.faults c.end_run.new.out) c.end_run.result) c.end_of.ensures
     (subst (λ (k : ℕ). EndsAs k c.end_of.result (g.O.Sink.taken c.slice.new.out) (g.O.Sink.taken c.end_run.new.out) (g.O.Sink.faults c.slice.new.out) (g.O.Sink.faults c.end_run.new.out) c.end_run.result) c.step-steps.ensures c.end_run.ensures.ends) in
-    whole_ended _ _ _ _ (state_of e c.slice.new.self) _ _ _ c.in-Ok.pause _ (g.O.Sink.faults c.slice.new.out) _ c.end_run.result h c.in-Ok.ensures.kept ends
+    whole_ended _ _ _ _ (state_of e c.slice.new.self) _ _ _ c.in-Ok.pause _ (g.O.Sink.faults c.slice.new.out) _ c.end_run.result h c.in-Ok.ensures.count ends

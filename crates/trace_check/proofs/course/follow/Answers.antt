@@ -72,7 +72,7 @@ loop-machine-preserved g c =
       exact = (let on = rw c.in-Reached.is at c.in-Ok-slice.ensures.goes_on in on.exact ∙ c.in-Ok.ensures.exact);
       frames = (let on = rw c.in-Reached.is at c.in-Ok-slice.ensures.goes_on in on.frames ∙ c.in-Ok.ensures.frames ∙ c.loop-machine.invariant.frames);
       splits = subst (Splits list c.in-Ok.next) at (splits_until list c.in-Ok.next m.step n c.in-Ok.ensures.splits (omega (arith, above)));
-      unfailed = c.in-Ok-slice.ensures.kept ∙ c.loop-machine.invariant.unfailed;
+      unfailed = c.in-Ok-slice.ensures.count ∙ c.loop-machine.invariant.unfailed;
       within = omega (arith, most, at);
     }
 
