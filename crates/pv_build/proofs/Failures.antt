@@ -8,13 +8,13 @@ use Rattle.pv_build.specs.declared.halt.Halt.TheVariants as halt
 pub none_here : (before now : ℕ) (h : Halt) → now ≡ before → NoneFailed before now h
 none_here before now (halt.Refused line) same = same
 none_here before now halt.ReadFault same = tt
-none_here before now halt.Memory same = tt
+none_here before now halt.Memory same = same
 
 -- none failed before those that tell so
 pub none_since : (before mid now : ℕ) (h : Halt) → mid ≡ before → NoneFailed mid now h → NoneFailed before now h
 none_since before mid now (halt.Refused line) same none = none ∙ same
 none_since before mid now halt.ReadFault same none = none
-none_since before mid now halt.Memory same none = none
+none_since before mid now halt.Memory same none = none ∙ same
 
 -- the same of what the work comes to
 pub none_in : {F T : Type 0} (f : disk.Ghosts F) (a b : F) (r : Result T Halt) → f.load_faults b ≡ f.load_faults a → NoneFailedIn f a b r

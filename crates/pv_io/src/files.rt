@@ -25,7 +25,7 @@ pub trait Files {
 
     /// Appends the bytes of a file. It changes no file, and after a refusal `into` is as before. `Failed`
     /// comes only where the count of load faults rose, and a name that isn't held makes it rise. A load that
-    /// is done leaves the count.
+    /// is done, or finds no memory, leaves the count.
     fn load(&mut self, alloc: Global, name: &str, into: &mut Vec<u8>) -> Result<(), IoAnswer>
         ensures loads { OnOk result (Loads (held self.old) name.now into.old.items into.new.items) }
         ensures err { OnErr result (into.new.items ≡ into.old.items) }
@@ -40,7 +40,7 @@ pub trait Files {
 
     /// Makes the name hold exactly these bytes. `Failed` comes only where the count of store faults rose;
     /// the other names are then as before, and the bytes of this one are open. `Memory` changes nothing. A
-    /// store that is done leaves the count.
+    /// store that is done, or finds no memory, leaves the count.
     fn store(&mut self, name: &str, bytes: &[u8]) -> Result<(), IoAnswer>
         ensures stores { OnOk result (Stores (held self.old) (held self.new) name.now bytes.now) }
         ensures failed { IsErrOf result IoAnswer.Failed → ChangesAt (held self.old) (held self.new) name.now }

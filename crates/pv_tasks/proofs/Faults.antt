@@ -45,33 +45,30 @@ puts_ended halt.Memory old new before now st ends = λ write. ends.2
 -- neither count of the files has risen
 pub ends_same : {F S : Type 0} (f : disk.Ghosts F) (s : sink.Ghosts S) (a b : F) (out out2 : S) (st : Status) → f.load_faults b ≡ f.load_faults a → f.store_faults b ≡ f.store_faults a
     → PutsEnd (s.faults out) (s.faults out2) st → FaultsEnd f s (a, b) (out, out2) st
-ends_same f s a b out out2 st loads stores puts = record { loads = λ read memory. loads; stores = λ write memory. stores; puts = puts }
+ends_same f s a b out out2 st loads stores puts = record { loads = λ read. loads; stores = λ write. stores; puts = puts }
 
 -- the files are as they were
 pub ends_none : {F S : Type 0} (f : disk.Ghosts F) (s : sink.Ghosts S) (a : F) (out out2 : S) (st : Status) → PutsEnd (s.faults out) (s.faults out2) st
     → FaultsEnd f s (a, a) (out, out2) st
 ends_none f s a out out2 st puts = ends_same f s a a out out2 st refl refl puts
 
--- a store failed, or it found no memory
+-- a store failed
 pub ends_written : {F S : Type 0} (f : disk.Ghosts F) (s : sink.Ghosts S) (a b : F) (out : S) → f.load_faults b ≡ f.load_faults a
     → FaultsEnd f s (a, b) (out, out) status.WriteFault
-ends_written f s a b out loads = record { loads = λ read memory. loads; stores = λ write memory. absurd (write refl); puts = λ write. refl }
-
-pub ends_memory : {F S : Type 0} (f : disk.Ghosts F) (s : sink.Ghosts S) (a b : F) (out : S) → FaultsEnd f s (a, b) (out, out) status.Memory
-ends_memory f s a b out = record { loads = λ read memory. absurd (memory refl); stores = λ write memory. absurd (memory refl); puts = λ write. refl }
+ends_written f s a b out loads = record { loads = λ read. loads; stores = λ write. absurd (write refl); puts = λ write. refl }
 
 -- none failed before
 pub ends_since : {F S : Type 0} (f : disk.Ghosts F) (s : sink.Ghosts S) (a b c : F) (out out2 : S) (st : Status) → f.load_faults b ≡ f.load_faults a → f.store_faults b ≡ f.store_faults a
     → FaultsEnd f s (b, c) (out, out2) st → FaultsEnd f s (a, c) (out, out2) st
 ends_since f s a b c out out2 st loads stores h =
-    record { loads = λ read memory. h.loads read memory ∙ loads; stores = λ write memory. h.stores write memory ∙ stores; puts = h.puts }
+    record { loads = λ read. h.loads read ∙ loads; stores = λ write. h.stores write ∙ stores; puts = h.puts }
 
 -- none failed before, and no put but that which ended the work
 pub ends_behind : {F S : Type 0} (f : disk.Ghosts F) (s : sink.Ghosts S) (a b c : F) (out mid out2 : S) (st : Status) → f.load_faults b ≡ f.load_faults a → f.store_faults b ≡ f.store_faults a
     → (s.faults mid ≡ s.faults out) ⊎ (st ≡ status.WriteFault) → FaultsEnd f s (b, c) (mid, out2) st → FaultsEnd f s (a, c) (out, out2) st
 ends_behind f s a b c out mid out2 st loads stores put h = record {
-  loads = λ read memory. h.loads read memory ∙ loads;
-  stores = λ write memory. h.stores write memory ∙ stores;
+  loads = λ read. h.loads read ∙ loads;
+  stores = λ write. h.stores write ∙ stores;
   puts = puts_since (s.faults out) (s.faults mid) (s.faults out2) st put h.puts;
 }
 
@@ -80,6 +77,5 @@ pub ends_halted : {F S : Type 0} (f : disk.Ghosts F) (s : sink.Ghosts S) (a b : 
     → NoneFailed (f.load_faults a) (f.load_faults b) h → f.store_faults b ≡ f.store_faults a → Ends h old new (s.faults out) (s.faults out2) st → FaultsEnd f s (a, b) (out, out2) st
 ends_halted f s a b out out2 (halt.Refused line) old new st none stores ends = ends_same f s a b out out2 st none stores (puts_ended (halt.Refused line) old new (s.faults out) (s.faults out2) st ends)
 ends_halted f s a b out out2 halt.ReadFault old new st none stores ends =
-    record { loads = λ read memory. absurd (read ends.0); stores = λ write memory. stores; puts = λ write. ends.2 }
-ends_halted f s a b out out2 halt.Memory old new st none stores ends =
-    record { loads = λ read memory. absurd (memory ends.0); stores = λ write memory. stores; puts = λ write. ends.2 }
+    record { loads = λ read. absurd (read ends.0); stores = λ write. stores; puts = λ write. ends.2 }
+ends_halted f s a b out out2 halt.Memory old new st none stores ends = ends_same f s a b out out2 st none stores (puts_ended halt.Memory old new (s.faults out) (s.faults out2) st ends)

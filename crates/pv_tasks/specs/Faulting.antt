@@ -10,8 +10,8 @@ abbrev pub PutsEnd : ℕ → ℕ → Status → Type 0
 PutsEnd before now st = st ≢ status.WriteFault → now ≡ before
 
 -- A load that failed ends the work as a read fault, a store or a put that failed as a write fault. Where the work ends otherwise
--- the count is as it was: that of loads or of stores, where memory was found, and that of puts, whether it was or not.
+-- the count is as it was.
 pub record FaultsEnd {F S : Type 0} (f : disk.Ghosts F) (s : sink.Ghosts S) (files : F × F) (out : S × S) (st : Status) : Type 0 where
-  pub loads : st ≢ status.ReadFault → st ≢ status.Memory → f.load_faults files.1 ≡ f.load_faults files.0
-  pub stores : st ≢ status.WriteFault → st ≢ status.Memory → f.store_faults files.1 ≡ f.store_faults files.0
+  pub loads : st ≢ status.ReadFault → f.load_faults files.1 ≡ f.load_faults files.0
+  pub stores : st ≢ status.WriteFault → f.store_faults files.1 ≡ f.store_faults files.0
   pub puts : PutsEnd (s.faults out.0) (s.faults out.1) st

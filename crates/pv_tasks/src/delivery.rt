@@ -11,7 +11,7 @@ use pv_build::{Made, Status, print};
 use pv_io::{Files, IoAnswer, Sink};
 
 /// Stores what was made, and then prints its line. The status is the one that is meant unless that fails.
-#[tactic(auto, using(crate::proofs::Faults::ends_same, crate::proofs::Faults::ends_written, crate::proofs::Faults::ends_memory))]
+#[tactic(auto, using(crate::proofs::Faults::ends_same, crate::proofs::Faults::ends_written))]
 pub fn deliver<F: Files, S: Sink>(
     made: &Made,
     name: &str,

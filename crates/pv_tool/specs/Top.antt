@@ -59,12 +59,11 @@ abbrev pub CountsFaults : List (List ℕ) → Outside → Type 0
 CountsFaults words o = (command : Command) → Asks words command → FaultCounts (task_of command) o
 
 -- A load that failed ends the work as a read fault, a store or a put that failed as a write fault. Where the work ends otherwise
--- the count is as it was: that of loads or of stores, where memory was found, and that of puts, whether it was or not. A count
--- that stands at its type's end before can't tell.
+-- the count is as it was. A count that stands at its type's end before can't tell.
 abbrev pub EndsAtFaults : Outside → Status → Type 0
 EndsAtFaults o st =
-    (st ≢ status.ReadFault → st ≢ status.Memory → o.after.loads ≡ o.before.loads)
-    × (st ≢ status.WriteFault → st ≢ status.Memory → o.after.stores ≡ o.before.stores)
+    (st ≢ status.ReadFault → o.after.loads ≡ o.before.loads)
+    × (st ≢ status.WriteFault → o.after.stores ≡ o.before.stores)
     × (st ≢ status.WriteFault → o.after.puts ≡ o.before.puts)
 
 -- what is left where the command is done
