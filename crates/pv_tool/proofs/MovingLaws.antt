@@ -1,6 +1,7 @@
 -- A kernel that moves has one run.
 use Rattle.std.proofs.Common.{◌≡◌, ℕ, ◌*◌, List, [], ◌∷◌, ◌++◌, length, Option, Some, None, Result, Ok, Err, refl, sym, ap, subst, ◌∙◌, append_assoc, arith}
 use Rattle.std.specs.List.{flat_map}
+use Rattle.std.specs.FinMap.{empty}
 use Rattle.std.proofs.lemmas.List.{append-nil}
 use Rattle.board.specs.Scripts.{Events}
 use Rattle.image_check.specs.Image.{Image}
@@ -9,10 +10,9 @@ use Rattle.run_trace.specs.declared.items.End.TheVariants.{Bound, Stopped as Sto
 use Rattle.run_trace.specs.Text.{lines_of}
 use Rattle.machine_model.specs.State as model
 use Rattle.machine_model.specs.State.{Setting, boot}
-use Rattle.machine_model.specs.Step.{Report}
+use Rattle.machine_model.specs.Step.{Report, Went, step_of}
 use Rattle.machine_model.specs.Run.{Set, Steps, Run, trace_of, with_set}
 use Rattle.machine_model.specs.OnBare.{bound_on_bare, end_on_bare}
-use Rattle.machine_model.proofs.Counted.{steps_counted}
 use Rattle.machine_model.proofs.Texts.{reported, text_behind}
 use Rattle.bare_machine.specs.Settings.{bare}
 use Rattle.checkpoint.specs.declared.state.State.{State}
@@ -74,7 +74,7 @@ leg_of program events frames old move s (Rested h) leaves =
     record {
       leg = record { mode = rules_of move.on program events frames; sets = h.sets; reports = h.reports };
       new = h.last;
-      part = record { rules = refl; steps = steps; lines = lines; ends_at = h.run.ends };
+      part = record { rules = refl; steps = steps; lines = lines; ends_at = h.run.ends; file = ap (λ (v : Outcome). v.stored) h.comes };
       state_is = same_state (kept_of h.last) s same h.back leaves.read;
       size = h.size ∙ ap (λ (f : ℕ). 4096 * f) (frames_on move.on program events frames);
     }
@@ -161,13 +161,40 @@ as_legs program events frames (move ∷ moves) old new (leg ∷ legs) h =
 as_legs program events frames [] old new (leg ∷ legs) h = absurd h
 as_legs program events frames (move ∷ moves) old new [] h = absurd h
 
--- as many steps lead as far, from a state with other translations too
+-- steps from one state, by the same sets, lead to one state
+same_end : (m : Setting) (old mid now : model.State) (sets : List Set) (reports others : List Report)
+    → Steps m old sets reports mid → Steps m old sets others now → now ≡ mid
+unfolding Steps
+same_end m old mid now [] reports others h k = k.1 ∙ sym h.1
+same_end m old mid now (set ∷ sets) reports others h k =
+    let both : Went h.1 h.0 ≡ Went k.1 k.0 = sym h.4 ∙ k.4 in
+    let same : k.0 ≡ h.0 = cc in
+    same_end m h.0 mid now sets h.2 k.2 h.5 (subst (λ (b : model.State). Steps m b sets k.2 now) same k.5)
+
+same_step : (m : Setting) (b : model.State) (old new set : Set) → step_of m (with_set b new) set ≡ step_of m (with_set b old) set
+unfolding step_of
+same_step m b old new set = refl
+
+-- and so they do, but for its translations, from the same state with others
+same_kept : (m : Setting) (old : model.State) (whole : Set) (mid now : model.State) (sets : List Set) (reports others : List Report)
+    → Steps m (rested old) sets reports mid → Steps m (with_set old whole) sets others now → kept_of now ≡ kept_of mid
+unfolding Steps
+same_kept m old whole mid now [] reports others h k = ap kept_of k.1 ∙ sym (ap kept_of h.1)
+same_kept m old whole mid now (set ∷ sets) reports others h k =
+    let both : Went h.1 h.0 ≡ Went k.1 k.0 = sym h.4 ∙ (same_step m old whole empty set ∙ k.4) in
+    let same : k.0 ≡ h.0 = cc in
+    ap kept_of (same_end m h.0 mid now sets h.2 k.2 h.5 (subst (λ (b : model.State). Steps m b sets k.2 now) same k.5))
+
+-- a state is another with its own translations, where they are the same but for these
+with_own : (a b : model.State) → kept_of a ≡ kept_of b → a ≡ with_set b a.set
+with_own a b same = ap (λ (k : State). with_set (rested_from k) a.set) same
+
 as_far : (m : Setting) (old before mid now : model.State) (sets : List Set) (reports : List Report)
-    → before.step ≡ old.step → Steps m (rested old) sets reports mid → Steps m before sets reports now → now.step ≡ mid.step
+    → kept_of before ≡ kept_of old → Steps m (rested old) sets reports mid → Steps m before sets reports now
+    → kept_of now ≡ kept_of mid
 as_far m old before mid now sets reports same one other =
-    let far = steps_counted m (rested old) sets reports mid one in
-    let so_far = steps_counted m before sets reports now other in
-    omega (arith, far, so_far, same)
+    same_kept m old before.set mid now sets reports reports one
+    (subst (λ (b : model.State). Steps m b sets reports now) (with_own before old same) other)
 
 -- the parts of one run, behind which one leg more is a part
 record PartsAnd (program : Image) (events : Events) (frames : ℕ) (moves : List Move) (old : model.State)
@@ -177,7 +204,7 @@ record PartsAnd (program : Image) (events : Events) (frames : ℕ) (moves : List
   steps : Steps (in_mode (bare program events frames) leg.mode) mid leg.sets leg.reports new
 
 parts_of : (program : Image) (events : Events) (frames : ℕ) (moves : List Move) (old mid before new : model.State)
-    (legs : List Leg) (leg : Leg) → LegsOf program events frames moves old legs mid → before.step ≡ old.step
+    (legs : List Leg) (leg : Leg) → LegsOf program events frames moves old legs mid → kept_of before ≡ kept_of old
     → Parts (bare program events frames) before (legs ++ leg ∷ []) new
     → PartsAnd program events frames moves before legs leg new
 unfolding Parts
@@ -192,7 +219,13 @@ parts_of program events frames (move ∷ moves) old mid before new (l ∷ legs) 
     let m = in_mode (bare program events frames) l.mode in
     let far = as_far m old before h.0 parts.0 l.sets l.reports same h.1.steps parts.1 in
     let part : IsPart program events frames move before l parts.0 =
-    record { rules = h.1.rules; steps = parts.1; lines = h.1.lines; ends_at = far ∙ h.1.ends_at } in
+    record {
+      rules = h.1.rules;
+      steps = parts.1;
+      lines = h.1.lines;
+      ends_at = ap (λ (s : State). s.step) far ∙ h.1.ends_at;
+      file = h.1.file ∙ ap (λ (s : State). Some (move.new, checkpoint_bytes s)) (sym far);
+    } in
     let more = parts_of program events frames moves h.0 mid parts.0 new legs leg h.2 far parts.2 in
     record { mid = more.mid; saved = (parts.0, part, more.saved); steps = more.steps }
 parts_of program events frames [] old mid before new (l ∷ legs) leg h same parts = absurd h

@@ -15,6 +15,7 @@ use Rattle.machine_model.specs.OnBare.{bound_on_bare, end_on_bare}
 use Rattle.bare_machine.specs.Settings.{bare}
 use Rattle.checkpoint.specs.declared.state.State.{State}
 use Rattle.checkpoint.specs.States.{checkpoint_bytes, checkpoint_in}
+use Rattle.checkpoint.specs.Moved.{kept_of}
 use Rattle.checkpoint.specs.Legs.{Leg, in_mode, sets_of, reports_of}
 use Rattle.pv_build.specs.Images.{HasImage}
 use Rattle.pv_build.specs.Scripts.{HasScript}
@@ -87,8 +88,10 @@ pub record IsPart (program : Image) (events : Events) (frames : ℕ) (move : Mov
   pub steps : Steps (in_mode (bare program events frames) part.mode) old part.sets part.reports new
   -- what is seen in it is what the command printed before its file
   pub lines : move.work.first ≡ lines_of (trace_of part.reports)
-  -- and it ends where as many steps are done in all as the command names
+  -- it ends where as many steps are done in all as the command names
   pub ends_at : new.step ≡ move.n
+  -- and the file that the command stored is the checkpoint of the state in which it ends
+  pub file : move.work.stored ≡ Some (move.new, checkpoint_bytes (kept_of new))
 
 -- a part for each such command, each from where the one before ended
 abbrev pub AreParts : Image → Events → ℕ → List Move → model.State → List Leg → model.State → Type 0

@@ -1,6 +1,8 @@
 //! What `prove` stores and prints is judged yes by `replay`, and what else is given to it is refused or told by its place.
 
-use crate::commands::{add, answer, are_same, built, is_so, joined, store};
+use crate::commands::{
+    add, answer, are_same, built, byte_in, is_so, joined, number_in, place_in, split, store,
+};
 use crate::sessions::follow_over;
 use pv_io::MemFiles;
 use std::alloc::Global;
@@ -64,11 +66,11 @@ const SPOILED: &str = "\
 
 /// The bytes of a certificate with this entry.
 fn with_entry(rt: &impl Abort, alloc: Global, entry: &str) -> Vec<u8> {
-    let (step, rest) = entry.split_once(' ').expect(rt, "a step");
-    let (page, kind) = rest.split_once(' ').expect(rt, "a page");
-    let step: u64 = step.parse().expect(rt, "a step");
+    let (step, rest) = split(rt, entry);
+    let (page, kind) = split(rt, rest);
+    let step = number_in(rt, step);
     let page: u32 = page.parse().expect(rt, "a page");
-    let kind: u8 = kind.parse().expect(rt, "a kind");
+    let kind = byte_in(rt, kind);
     let mut bytes = joined(rt, alloc, &[b"PVT1\x01\x00\x00\x00"]);
     add(rt, &mut bytes, &step.to_le_bytes());
     add(rt, &mut bytes, &page.to_le_bytes());
@@ -166,9 +168,9 @@ fn a_spoiled_certificate_is_told_at_its_field(rt: HostRuntime) {
     let bytes = with_entry(&rt, alloc, "3 65536 0");
     assert!(rt; bytes.len() == 24);
     for line in SPOILED.lines() {
-        let (at, place) = line.split_once(' ').expect(&rt, "a place");
-        let at: usize = at.parse().expect(&rt, "a byte");
-        let place: usize = place.parse().expect(&rt, "a place");
+        let (at, place) = split(&rt, line);
+        let at = place_in(&rt, at);
+        let place = place_in(&rt, place);
         assert!(rt; at < 24);
         let spoiled = joined(&rt, alloc, &[&bytes[..at], b"\xFF", &bytes[at + 1..]]);
         is_refused(&rt, alloc, &mut files, &spoiled, place);

@@ -1,6 +1,8 @@
 //! Kernels that are saved, go on from what was saved, and move between the machines.
 
-use crate::commands::{add, answer, are_same, file, holds, is_so, no_files, repeated, store};
+use crate::commands::{
+    add, answer, are_same, byte_in, file, holds, is_so, no_files, place_in, repeated, split, store,
+};
 use crate::sessions::{follow, follow_over};
 use pv_io::MemFiles;
 use std::alloc::Global;
@@ -38,8 +40,8 @@ fn has(bytes: &[u8], at: usize, wanted: &[u8]) -> bool {
 
 /// A line has an offset and bytes that stand there. They are 0 from here on.
 fn takes_out(rt: &impl Abort, alloc: Global, bytes: &mut Vec<u8>, line: &str) {
-    let (at, named) = line.split_once(' ').expect(rt, "an offset");
-    let at: usize = at.parse().expect(rt, "an offset");
+    let (at, named) = split(rt, line);
+    let at = place_in(rt, at);
     let named = listed(rt, alloc, named);
     is_so(rt, line, has(bytes, at, &named));
     for k in 0..named.len() {
@@ -87,10 +89,10 @@ fn is_spoiled(
     bytes: &mut Vec<u8>,
     line: &str,
 ) {
-    let (at, rest) = line.split_once(' ').expect(rt, "an offset");
-    let (value, place) = rest.split_once(' ').expect(rt, "a value");
-    let at: usize = at.parse().expect(rt, "an offset");
-    let value: u8 = value.parse().expect(rt, "a value");
+    let (at, rest) = split(rt, line);
+    let (value, place) = split(rt, rest);
+    let at = place_in(rt, at);
+    let value = byte_in(rt, value);
     let printed = format!(in alloc; "refused 110 at {place}\n").expect(rt, "memory");
     let before = bytes.get(at).copied().unwrap_or(0);
     set(bytes, at, value);
@@ -287,11 +289,11 @@ fn five_moves_have_one_trace(rt: HostRuntime) {
 
 /// A line has the number of a kernel, a count of steps, an offset, and the bytes there of what is saved then.
 fn is_kept(rt: &impl Abort, alloc: Global, line: &str) {
-    let (number, rest) = line.split_once(' ').expect(rt, "a kernel");
-    let (n, rest) = rest.split_once(' ').expect(rt, "a count of steps");
-    let (at, wanted) = rest.split_once(' ').expect(rt, "an offset");
-    let kernel = numbered(rt, number.parse().expect(rt, "a kernel"));
-    let at: usize = at.parse().expect(rt, "an offset");
+    let (number, rest) = split(rt, line);
+    let (n, rest) = split(rt, rest);
+    let (at, wanted) = split(rt, rest);
+    let kernel = numbered(rt, place_in(rt, number));
+    let at = place_in(rt, at);
     let mut files = follow(rt, alloc, kernel.made);
     let mut text = Vec::new(alloc);
     let command = format!(in alloc; "save --wedge I B 2048 {n} C").expect(rt, "memory");

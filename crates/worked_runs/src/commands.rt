@@ -40,6 +40,26 @@ pub fn is_word(word: &str, other: &str) -> bool {
     word == other
 }
 
+/// A line's first word, and what stands behind the space after it.
+pub fn split<'a>(rt: &impl Abort, line: &'a str) -> (&'a str, &'a str) {
+    line.split_once(' ').expect(rt, "two words")
+}
+
+/// The number that a word is.
+pub fn number_in(rt: &impl Abort, word: &str) -> u64 {
+    word.parse().expect(rt, "a number")
+}
+
+/// The number of a place or a row that a word is.
+pub fn place_in(rt: &impl Abort, word: &str) -> usize {
+    word.parse().expect(rt, "a place")
+}
+
+/// The number of a byte or a status that a word is.
+pub fn byte_in(rt: &impl Abort, word: &str) -> u8 {
+    word.parse().expect(rt, "a byte")
+}
+
 /// The words of a command, with one space between two. An empty word is written '', and an empty command has no words.
 fn words(alloc: Global, command: &str) -> Result<Vec<String>, AllocError> {
     let mut words = Vec::new(alloc);

@@ -1,7 +1,7 @@
 //! Damaged files: a small object and its image cut at every length and with every field of their headers spoiled, and a
 //! script cut and spoiled at every byte, each by the command that reads it. Where it is refused no file is stored.
 
-use crate::commands::{built, file, holds, joined, store};
+use crate::commands::{built, file, holds, joined, place_in, split, store};
 use crate::sessions::tells;
 use pv_io::MemFiles;
 use std::alloc::Global;
@@ -40,8 +40,8 @@ fn is_told(
 
 /// The number that a row begins with, and what stands behind it.
 fn first<'a>(rt: &impl Abort, row: &'a str) -> (usize, &'a str) {
-    let (number, rest) = row.split_once(' ').expect(rt, "a number");
-    (number.parse().expect(rt, "a number"), rest)
+    let (number, rest) = split(rt, row);
+    (place_in(rt, number), rest)
 }
 
 /// The file is cut at each length of a row.
@@ -197,7 +197,7 @@ fn damaged_objects_and_images_are_refused_by_the_part_or_field(rt: HostRuntime) 
 
 /// The script is damaged at each place of a row.
 fn is_damaged(rt: &impl Abort, alloc: Global, files: &mut MemFiles, row: &str) {
-    let (with, rest) = row.split_once(' ').expect(rt, "how");
+    let (with, rest) = split(rt, row);
     let (from, rest) = first(rt, rest);
     let (to, line) = first(rt, rest);
     for at in from..to {

@@ -1,6 +1,8 @@
 //! Loads, stores and puts that fail or are never made, and words of no form.
 
-use crate::commands::{all_held, answer, are_same, built, is_so, status, store};
+use crate::commands::{
+    all_held, answer, are_same, built, byte_in, is_so, number_in, split, status, store,
+};
 use crate::sessions::follow_over;
 use host_cpl3::Machine;
 use pv_io::{Files, MemFiles, SureFiles, SureSink};
@@ -29,15 +31,15 @@ struct Calls<'a> {
 }
 
 fn calls_of<'a>(rt: &impl Abort, line: &'a str) -> Calls<'a> {
-    let (call, rest) = line.split_once(' ').expect(rt, "a call");
-    let (put, rest) = rest.split_once(' ').expect(rt, "a put");
-    let (status, rest) = rest.split_once(' ').expect(rt, "a status");
+    let (call, rest) = split(rt, line);
+    let (put, rest) = split(rt, rest);
+    let (status, rest) = split(rt, rest);
     let (count, command) = rest.split_once(' ').unwrap_or((rest, ""));
     Calls {
         call: call.parse().ok(),
-        put: put.parse().expect(rt, "the number of a put"),
-        status: status.parse().expect(rt, "the number of a status"),
-        count: count.parse().expect(rt, "a number of calls"),
+        put: number_in(rt, put),
+        status: byte_in(rt, status),
+        count: number_in(rt, count),
         command,
     }
 }
@@ -82,7 +84,7 @@ fn each_line_is_one_put_and_its_fault_is_told(rt: HostRuntime) {
 }
 
 fn comes_to(rt: &impl Abort, alloc: Global, files: &mut SureFiles, line: &str) {
-    let (number, command) = line.split_once(' ').expect(rt, "a status");
+    let (number, command) = split(rt, line);
     let mut host = Machine::new();
     let answered = status(alloc, command, files, &mut SureSink::new(), &mut host).expect(
         rt, "memory",

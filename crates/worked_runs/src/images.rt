@@ -1,6 +1,6 @@
 //! Image files against bytes that are written in hexadecimal: some are made by hand of them, and of others they are parts.
 
-use crate::commands::{add, are_same, is_word};
+use crate::commands::{add, are_same, is_word, split};
 use image_check::check;
 use std::alloc::Global;
 use std::process::Abort;
@@ -30,7 +30,7 @@ fn put_bytes(rt: &impl Abort, out: &mut Vec<u8>, bytes: &str) {
 fn read(rt: &impl Abort, alloc: Global, lines: &str) -> Parts {
     let (mut text, mut data, mut sites) = (Vec::new(alloc), Vec::new(alloc), Vec::new(alloc));
     for line in lines.lines() {
-        let (part, bytes) = line.split_once(' ').expect(rt, "a part and its bytes");
+        let (part, bytes) = split(rt, line);
         if is_word(part, "text") {
             put_bytes(rt, &mut text, bytes);
         } else if is_word(part, "data") {

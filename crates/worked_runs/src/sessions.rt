@@ -15,7 +15,9 @@
 //! - `$ held NAME`, `$ lost NAME`: a name is held, or isn't.
 //! - `$ text BYTES`, `$ data BYTES`, `$ entry NUMBER`: the image I has it.
 
-use crate::commands::{all_held, answer, are_same, file, is_so, is_word, no_files, store};
+use crate::commands::{
+    all_held, answer, are_same, byte_in, file, is_so, is_word, no_files, number_in, split, store,
+};
 use crate::images::{has_part, image_file};
 use pv_io::{Files, MemFiles};
 use std::alloc::Global;
@@ -99,7 +101,7 @@ fn has(
         let image = file(rt, alloc, files, "I");
         has_part(rt, alloc, &image, verb, rest)
     } else {
-        let (name, other) = rest.split_once(' ').expect(rt, "two names");
+        let (name, other) = split(rt, rest);
         let bytes = file(rt, alloc, files, other);
         if is_word(verb, "copy") {
             files.store(name, &bytes).is_ok()
@@ -154,10 +156,10 @@ fn prints(
 
 /// The same with a put that fails and a status that stand before the command.
 fn is_cut(rt: &impl Abort, alloc: Global, files: &mut MemFiles, rest: &str, lines: &str) -> bool {
-    let (put, rest) = rest.split_once(' ').expect(rt, "a put");
-    let (status, command) = rest.split_once(' ').expect(rt, "a status");
-    let put = put.parse().expect(rt, "the number of a put");
-    let status = status.parse().expect(rt, "the number of a status");
+    let (put, rest) = split(rt, rest);
+    let (status, command) = split(rt, rest);
+    let put = number_in(rt, put);
+    let status = byte_in(rt, status);
     tells(rt, alloc, files, status, command, &[put], lines)
 }
 
@@ -170,8 +172,8 @@ fn runs(
     rest: &str,
     lines: &str,
 ) -> bool {
-    let (status, bound) = rest.split_once(' ').expect(rt, "a status");
-    let status = status.parse().expect(rt, "the number of a status");
+    let (status, bound) = split(rt, rest);
+    let status = byte_in(rt, status);
     let command = format!(in alloc; "run {machine} I B 2048 {bound}").expect(rt, "memory");
     tells(rt, alloc, files, status, &command, &[], lines)
 }

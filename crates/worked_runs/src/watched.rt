@@ -8,14 +8,22 @@ use host_cpl3::{Exit, Host, Machine, View};
 use ia32_types::{Flags, Regs};
 use std::alloc::{AllocError, Global};
 
-/// How many registers are kept.
+/// How many beginnings are kept.
 const ROOM: usize = 64;
 
-/// A host, with the registers of its first runs' beginnings, and the last exit.
+/// How a run of the host began.
+#[derive(Clone, Copy)]
+pub struct Begun {
+    /// How many instructions the host had done before.
+    pub retired: u64,
+    pub regs: Regs,
+}
+
+/// A host, with its first runs' beginnings, and the last exit.
 #[derive(Drop)]
 pub struct Watched {
     machine: Machine,
-    begun: [Regs; 64],
+    begun: [Begun; 64],
     runs: usize,
     pub last_exit: Exit,
 }
@@ -25,10 +33,13 @@ impl Watched {
     pub fn new() -> Watched
         ensures { result.machine.retired ≡ 0 }
     {
-        let none = Regs {
-            r: [0; 8],
-            eip: 0,
-            flags: Flags { bits: 0 },
+        let none = Begun {
+            retired: 0,
+            regs: Regs {
+                r: [0; 8],
+                eip: 0,
+                flags: Flags { bits: 0 },
+            },
         };
         Watched {
             machine: Machine::new(),
@@ -38,8 +49,8 @@ impl Watched {
         }
     }
 
-    /// The registers with which the runs began, of at most 64.
-    pub fn begun(&self) -> &[Regs] {
+    /// How the runs began, at most 64 of them.
+    pub fn begun(&self) -> &[Begun] {
         &self.begun[..self.runs.min(ROOM)]
     }
 }
@@ -85,7 +96,10 @@ impl Host for Watched {
 
     fn resume(&mut self, view: &View, regs: &mut Regs, k: u64) -> Exit {
         if self.runs < ROOM {
-            self.begun[self.runs] = *regs;
+            self.begun[self.runs] = Begun {
+                retired: self.machine.retired(),
+                regs: *regs,
+            };
             self.runs += 1;
         }
         self.last_exit = self.machine.resume(view, regs, k);
