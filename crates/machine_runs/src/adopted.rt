@@ -1,25 +1,23 @@
 //! A run that pauses and goes on elsewhere: from a guest's processor, board and memory, on a fresh host and on the bare
 //! machine.
 
-ghost use Rattle.std.specs.Prelude.{◌≡◌, ◌+◌, ◌*◌, ◌≤◌, ◌^◌, length, true};
+ghost use Rattle.std.specs.Prelude.{◌≡◌, ◌+◌, ◌*◌, ◌≤◌, ◌^◌, length};
 ghost use Rattle.bare_machine.specs.Machine.{state_of, IsKept};
-ghost use Rattle.board.specs.ScriptForm.{is_script};
 ghost use Rattle.frame_pool.specs.Pool.{base_of, free_list, Stands};
 ghost use Rattle.guest_ram.specs.Bytes.{part};
 ghost use Rattle.machine_model.specs.Fit.{Fit};
 ghost use Rattle.machine_runs.specs.Going.{IsGoing};
 
-use crate::common::{image_of, sink, took};
-use crate::guests::{guest_steps_on, is_same, started};
+use crate::common::{image_of, is_so, sink, took};
+use crate::guests::{guest_after, guest_steps_on, is_same};
 use crate::slices::{INTERRUPTED, begun, no_event, put_bound, steps_on};
 use bare_machine::Bare;
-use board::{Board, Script};
+use board::Board;
 use frame_pool::Pool;
 use guest_ram::Ram;
 use host_cpl3::{Host, Machine};
 use image_check::Checked;
 use machine_model::each_run_begins_fit;
-use pv_io::MemSink;
 use run_trace::Pause;
 use std::alloc::Global;
 use std::process::Abort;
@@ -43,20 +41,14 @@ fn first(rt: &impl Abort, alloc: Global, image: &Checked) -> Bare<Buffer>
 }
 
 /// The bare machine behind its first `k` steps.
-fn bare_after(
-    rt: &impl Abort,
-    alloc: Global,
-    image: &Checked,
-    script: &Script,
-    k: u64,
-    out: &mut MemSink,
-) -> Bare<Buffer>
-    requires script { is_script script.now.list ≡ true }
+pub fn bare_after(rt: &impl Abort, alloc: Global, image: &Checked, k: u64) -> Bare<Buffer>
     requires bound { k ≤ 2 ^ 40 }
     ensures fit { Fit result.cpu }
 {
+    let script = no_event(rt, alloc);
+    let mut out = sink(rt, alloc);
     let mut machine = first(rt, alloc, image);
-    match machine.slice(script, k, out) {
+    match machine.slice(&script, k, &mut out) {
         Ok(Pause::Reached) => machine,
         _ => panic!(rt; "the machine stops"),
     }
@@ -153,45 +145,42 @@ fn empty(machine: &mut Bare<Buffer>)
     machine.cache_mut().drop_all();
 }
 
-/// A guest that pauses at a step of a kernel goes on to the bound on another host and on the bare machine, and the rest is
-/// printed each time. Its own shadows are dropped then.
-fn goes_on(rt: &impl Abort, alloc: Global, source: &str, pause: u64, bound: u64, rest: &[u8])
-    requires bound { pause + 100 ≤ 2 ^ 40 }
-    requires later { pause ≤ bound }
-    requires soon { bound ≤ pause + 100 }
+/// The bare machine that stands where this guest does, over its memory, with nothing cached.
+fn moved_to_bare(
+    rt: &impl Abort,
+    alloc: Global,
+    image: &Checked,
+    guest: &Guest,
+    from: &Ram,
+) -> Bare<Buffer>
+    requires bound { guest.now.step ≤ 2 ^ 40 }
+    ensures kept { IsKept result.frames (state_of (λ buffer. buffer) result) }
+    ensures step { result.step ≡ guest.now.step }
 {
-    let image = image_of(rt, alloc, source);
+    let bare = bare_after(rt, alloc, image, guest.step());
+    let mut moved = adopted_bare(rt, alloc, image, &bare, guest, from);
+    empty(&mut moved);
+    moved
+}
+
+/// The bare machine that goes on from this guest's state makes `k` steps and prints the rest.
+fn ends_so_on_bare(
+    rt: &impl Abort,
+    alloc: Global,
+    image: &Checked,
+    guest: &Guest,
+    from: &Ram,
+    k: u64,
+    rest: &[u8],
+)
+    requires bound { guest.now.step + k ≤ 2 ^ 40 }
+{
     let script = no_event(rt, alloc);
-    let k = bound - pause;
-    let mut before = sink(rt, alloc);
-    let mut host = Machine::new();
-    let (guest, pool) = started(rt, alloc, &image, &mut host);
-    let mut guest = guest;
-    let mut pool = pool;
-    guest_steps_on(
-        rt,
-        &mut guest,
-        &image,
-        &script,
-        pause,
-        &mut pool,
-        &mut host,
-        &mut before,
-    );
-    let bare = bare_after(rt, alloc, &image, &script, pause, &mut before);
-    let mut bare = adopted_bare(rt, alloc, &image, &bare, &guest, host.ram());
     let mut out = sink(rt, alloc);
-    empty(&mut bare);
+    let mut bare = moved_to_bare(rt, alloc, image, guest, from);
     steps_on(rt, &mut bare, &script, k, &mut out);
     put_bound(rt, bare.step(), 0, &mut out);
     took(rt, &out, rest);
-    let mut other = Machine::new();
-    let (moved, others) = adopted(rt, alloc, &image, &guest, &pool, &host, &mut other);
-    ends_so(
-        rt, alloc, &image, &script, k, moved, others, &mut other, rest,
-    );
-    guest.release(&mut pool, &mut host);
-    assert!(rt; guest.held() == 2 && pool.free() == 510);
 }
 
 /// A guest that makes `k` steps prints the rest.
@@ -199,23 +188,74 @@ fn ends_so(
     rt: &impl Abort,
     alloc: Global,
     image: &Checked,
-    script: &Script,
-    k: u64,
-    guest: Guest,
-    pool: Pool,
+    guest: &mut Guest,
+    pool: &mut Pool,
     host: &mut Machine,
+    k: u64,
     rest: &[u8],
 )
-    requires going { IsGoing image.now guest pool host.old.ram }
-    requires script { is_script script.now.list ≡ true }
-    requires bound { guest.step + k ≤ 2 ^ 40 }
+    requires going { IsGoing image.now guest.old pool.old host.old.ram }
+    requires bound { guest.old.step + k ≤ 2 ^ 40 }
 {
+    let script = no_event(rt, alloc);
     let mut out = sink(rt, alloc);
-    let mut guest = guest;
-    let mut pool = pool;
-    guest_steps_on(rt, &mut guest, image, script, k, &mut pool, host, &mut out);
+    guest_steps_on(rt, guest, image, &script, k, pool, host, &mut out);
     put_bound(rt, guest.step(), guest.fills(), &mut out);
     took(rt, &out, rest);
+}
+
+/// The guest that goes on from this guest's state, on another host, makes `k` steps and prints the rest.
+fn ends_so_elsewhere(
+    rt: &impl Abort,
+    alloc: Global,
+    image: &Checked,
+    guest: &Guest,
+    pool: &Pool,
+    from: &Machine,
+    k: u64,
+    rest: &[u8],
+)
+    requires going { IsGoing image.now guest.now pool.now from.now.ram }
+    requires bound { guest.now.step + k ≤ 2 ^ 40 }
+{
+    let mut host = Machine::new();
+    let (mut moved, mut pool) = adopted(rt, alloc, image, guest, pool, from, &mut host);
+    ends_so(rt, alloc, image, &mut moved, &mut pool, &mut host, k, rest);
+}
+
+/// What goes on from this guest's state for `k` steps, on the bare machine and on another host, prints the rest. The guest's
+/// own shadows are dropped then.
+fn goes_on_elsewhere(
+    rt: &impl Abort,
+    alloc: Global,
+    image: &Checked,
+    guest: &mut Guest,
+    pool: &mut Pool,
+    host: &mut Machine,
+    k: u64,
+    rest: &[u8],
+)
+    requires going { IsGoing image.now guest.old pool.old host.old.ram }
+    requires bound { guest.old.step + k ≤ 2 ^ 40 }
+{
+    ends_so_on_bare(rt, alloc, image, guest, host.ram(), k, rest);
+    ends_so_elsewhere(rt, alloc, image, guest, pool, host, k, rest);
+    guest.release(pool, host);
+    is_so(rt, "held", guest.held() == 2 && pool.free() == 510);
+}
+
+/// A guest that pauses at a step of a kernel goes on to the bound on another host and on the bare machine, and the rest is
+/// printed each time.
+fn goes_on(rt: &impl Abort, alloc: Global, source: &str, pause: u64, bound: u64, rest: &[u8])
+    requires bound { pause + 100 ≤ 2 ^ 40 }
+    requires later { pause ≤ bound }
+    requires soon { bound ≤ pause + 100 }
+{
+    let image = image_of(rt, alloc, source);
+    let mut host = Machine::new();
+    let (mut guest, mut pool) = guest_after(rt, alloc, &image, pause, &mut host);
+    let k = bound - pause;
+    goes_on_elsewhere(rt, alloc, &image, &mut guest, &mut pool, &mut host, k, rest);
 }
 
 #[test]

@@ -1,10 +1,9 @@
 //! A checkpoint by the table of its bytes, and where files are refused.
 
-use crate::common::{is_so, number};
-use checkpoint::{CheckpointCause, CheckpointFault, read_checkpoint, write_checkpoint};
+use crate::common::{add, are_same, holds, is_so, number};
+use checkpoint::{CheckpointCause, CheckpointFault, State, read_checkpoint, write_checkpoint};
 use std::alloc::Global;
 use std::process::Abort;
-use std::test::Fail;
 use worked_kernels::{HEAD, SPOILED};
 
 /// The size of a file with 2,048 frames.
@@ -56,20 +55,27 @@ fn front(bytes: &[u8], len: usize) -> &[u8] {
     bytes.get(..len).unwrap_or(bytes)
 }
 
+/// The state is that of the file.
+fn is_read(rt: &impl Abort, state: &State) {
+    is_so(rt, "step", state.step == 3);
+    is_so(rt, "EIP", state.cpu.regs.eip == 0x1000_0008);
+    is_so(rt, "memory", state.ram.len() == 8_388_608);
+}
+
+/// The file of the state that is read.
+fn written_again(rt: &impl Abort, alloc: Global, bytes: &[u8]) -> Vec<u8> {
+    let state = read_checkpoint(alloc, bytes).expect(rt, "a state");
+    is_read(rt, &state);
+    write_checkpoint(alloc, &state).expect(rt, "memory")
+}
+
 #[test]
-fn a_file_is_read_and_written_again(rt: HostRuntime) -> Result<(), Fail> {
+fn a_file_is_read_and_written_again(rt: HostRuntime) {
     let mut bytes = file(&rt, rt.alloc());
     set(&mut bytes, SIZE - 1, 0xA5);
-    let Ok(state) = read_checkpoint(rt.alloc(), &bytes) else {
-        return Err(Fail::from("not read"));
-    };
-    assert_eq!(rt; state.step, 3);
-    assert_eq!(rt; state.cpu.regs.eip, 0x1000_0008);
-    assert_eq!(rt; state.ram.len(), 8_388_608);
-    let written = write_checkpoint(rt.alloc(), &state)?;
-    assert_eq!(rt; written.len(), SIZE);
-    assert_eq!(rt; written.as_slice(), bytes.as_slice());
-    Ok(())
+    let written = written_again(&rt, rt.alloc(), &bytes);
+    is_so(&rt, "size", written.len() == SIZE);
+    is_so(&rt, "bytes", are_same(&written, &bytes));
 }
 
 /// A line has an offset, another value for the byte there, and the place at which the file is refused with it.
@@ -89,24 +95,28 @@ fn each_field_is_refused_at_its_place(rt: HostRuntime) {
     for line in SPOILED.lines() {
         is_refused(&rt, rt.alloc(), &mut bytes, line);
     }
-    assert_eq!(rt; refused(rt.alloc(), &bytes), None);
+    is_so(&rt, "all is put back", refused(rt.alloc(), &bytes) == None);
+}
+
+/// The file with its first bytes alone, this many, is refused at that place.
+fn is_cut_at(rt: &impl Abort, alloc: Global, bytes: &[u8], len: usize, place: usize) {
+    holds(rt, len, refused(alloc, front(bytes, len)) == Some(place));
 }
 
 #[test]
-fn a_file_of_another_length_is_refused(rt: HostRuntime) -> Result<(), Fail> {
+fn a_file_of_another_length_is_refused(rt: HostRuntime) {
     let mut bytes = file(&rt, rt.alloc());
     for len in CUT {
-        assert_eq!(rt; refused(rt.alloc(), front(&bytes, len)), Some(len));
+        is_cut_at(&rt, rt.alloc(), &bytes, len, len);
     }
-    bytes.push(0)?;
-    assert_eq!(rt; refused(rt.alloc(), &bytes), Some(8_388_864));
+    add(&rt, &mut bytes, &[0]);
+    is_cut_at(&rt, rt.alloc(), &bytes, SIZE + 1, 8_388_864);
     // a field that is bad before the file ends is told, and one that isn't whole is not
     set(&mut bytes, 57, 0x02);
     set(&mut bytes, 59, 0);
-    assert_eq!(rt; refused(rt.alloc(), front(&bytes, 59)), Some(59));
-    assert_eq!(rt; refused(rt.alloc(), front(&bytes, 60)), Some(56));
+    is_cut_at(&rt, rt.alloc(), &bytes, 59, 59);
+    is_cut_at(&rt, rt.alloc(), &bytes, 60, 56);
     set(&mut bytes, 1, 0);
-    assert_eq!(rt; refused(rt.alloc(), front(&bytes, 1)), Some(1));
-    assert_eq!(rt; refused(rt.alloc(), front(&bytes, 2)), Some(0));
-    Ok(())
+    is_cut_at(&rt, rt.alloc(), &bytes, 1, 1);
+    is_cut_at(&rt, rt.alloc(), &bytes, 2, 0);
 }

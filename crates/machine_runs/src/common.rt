@@ -31,7 +31,7 @@ pub fn sink(rt: &impl Abort, alloc: Global) -> MemSink {
 
 /// The sink took this.
 pub fn took(rt: &impl Abort, out: &MemSink, text: &[u8]) {
-    assert_eq!(rt; out.bytes(), text);
+    is_so(rt, "what the sink took", are_same(out.bytes(), text));
 }
 
 /// What a line says before and behind its next `|`.
@@ -61,14 +61,24 @@ pub fn unfolded(rt: &impl Abort, alloc: Global, text: &str) -> Vec<u8> {
     bytes
 }
 
-/// The image of a source.
-pub fn image_of(rt: &impl Abort, alloc: Global, source: &str) -> Checked {
+/// The file of a source's object.
+fn burned(rt: &impl Abort, alloc: Global, source: &str) -> Vec<u8> {
     let source = parse(alloc, source.as_bytes()).expect(rt, "a source");
     let object = burn(alloc, &source).expect(rt, "an object");
-    let file = write_object(alloc, &object).expect(rt, "memory");
-    let object = read_object(alloc, &file).expect(rt, "an object");
+    write_object(alloc, &object).expect(rt, "memory")
+}
+
+/// The file of the image that is linked of one object's file.
+fn linked(rt: &impl Abort, alloc: Global, file: &[u8]) -> Vec<u8> {
+    let object = read_object(alloc, file).expect(rt, "an object");
     let mut objects = Vec::new(alloc);
-    assert!(rt; objects.push(object).is_ok());
-    let file = link(alloc, &objects).expect(rt, "an image");
-    check(alloc, &file).expect(rt, "an image")
+    objects.push(object).expect(rt, "memory");
+    link(alloc, &objects).expect(rt, "an image")
+}
+
+/// The image of a source.
+pub fn image_of(rt: &impl Abort, alloc: Global, source: &str) -> Checked {
+    let object = burned(rt, alloc, source);
+    let image = linked(rt, alloc, &object);
+    check(alloc, &image).expect(rt, "an image")
 }

@@ -2,10 +2,12 @@
 
 ghost use Rattle.std.specs.Prelude.{◌≤◌, ◌^◌};
 
+use crate::adopted::bare_after;
 use crate::common::{are_same, holds, image_of, sink, took};
-use crate::guests::{guest_steps_on, started};
-use crate::slices::{begun, no_event, steps_on};
+use crate::guests::guest_after;
+use crate::slices::no_event;
 use bare_machine::run_bare;
+use guest_ram::Ram;
 use host_cpl3::{Host, Machine};
 use image_check::Checked;
 use std::alloc::Global;
@@ -15,6 +17,12 @@ use worked_kernels::{
     COPIES_WITHIN_A_STALE_PAGE, GOES_OVER_FORTY_TABLES, GOES_ROUND_THREE_SPACES, SHARES_A_PAGE,
     SHOWN_BEHIND_FORTY_TABLES, SHOWN_BY_SPACES, TO_A_NEW_VALUE, TO_THE_SAME,
 };
+
+/// The bytes of a memory there.
+fn bytes_at(rt: &impl Abort, alloc: Global, ram: &Ram, at: u32, len: u32) -> Vec<u8> {
+    assert!(rt; at <= ram.len() && len <= ram.len() - at);
+    Vec::from_slice(alloc, ram.part(at, len)).expect(rt, "memory")
+}
 
 /// The bytes of the host's memory there, after a patched run of so many steps.
 fn memory_after(
@@ -27,18 +35,9 @@ fn memory_after(
 ) -> Vec<u8>
     requires { n ≤ 2 ^ 40 }
 {
-    let script = no_event(rt, alloc);
-    let mut out = sink(rt, alloc);
     let mut host = Machine::new();
-    let (guest, pool) = started(rt, alloc, image, &mut host);
-    let mut guest = guest;
-    let mut pool = pool;
-    guest_steps_on(
-        rt, &mut guest, image, &script, n, &mut pool, &mut host, &mut out,
-    );
-    let ram = host.ram();
-    assert!(rt; at <= ram.len() && len <= ram.len() - at);
-    Vec::from_slice(alloc, ram.part(at, len)).expect(rt, "memory")
+    guest_after(rt, alloc, image, n, &mut host);
+    bytes_at(rt, alloc, host.ram(), at, len)
 }
 
 /// A source, a number of steps, and what stands then at a place in memory.
@@ -75,13 +74,8 @@ fn is_left(rt: &impl Abort, alloc: Global, left: &Left) -> bool {
 /// The same memory of the bare machine, behind that kernel's copy.
 fn bare_memory(rt: &impl Abort, alloc: Global) -> Vec<u8> {
     let image = image_of(rt, alloc, COPIES_WITHIN_A_STALE_PAGE);
-    let script = no_event(rt, alloc);
-    let mut out = sink(rt, alloc);
-    let mut bare = begun(rt, alloc, &image);
-    steps_on(rt, &mut bare, &script, 9, &mut out);
-    let ram = bare.ram();
-    assert!(rt; 0x40_1008 <= ram.len());
-    Vec::from_slice(alloc, ram.part(0x40_1004, 4)).expect(rt, "memory")
+    let bare = bare_after(rt, alloc, &image, 9);
+    bytes_at(rt, alloc, bare.ram(), 0x40_1004, 4)
 }
 
 #[test]
@@ -132,6 +126,14 @@ fn spaces(rt: &impl Abort, alloc: Global, on: &str) -> Checked {
     image_of(rt, alloc, &source.expect(rt, "memory"))
 }
 
+/// How many pages that kernel's run fills with so many frames of a pool.
+fn fills_of_spaces(rt: &impl Abort, alloc: Global, on: &str, pool: u32) -> u64
+    requires { (16 ≤ pool) × (pool ≤ 512) }
+{
+    let image = spaces(rt, alloc, on);
+    fills_of(rt, alloc, &image, pool, SHOWN_BY_SPACES)
+}
+
 // A step that the wedge does itself, at a site or inside one, fills those of its pages that aren't kept with their rights, and
 // so does an instruction that the host can't do before. The writes of the beginning fill nine pages and the text's: 10. A load
 // of CR3 drops the text's page from the space that it leaves, so each of the nine turns fills it again: 9. The change fills
@@ -140,10 +142,8 @@ fn spaces(rt: &impl Abort, alloc: Global, on: &str) -> Checked {
 // at the end.
 #[test]
 fn a_space_that_comes_back_has_its_pages_and_fills_less(rt: HostRuntime) {
-    let same = spaces(&rt, rt.alloc(), TO_THE_SAME);
-    let new = spaces(&rt, rt.alloc(), TO_A_NEW_VALUE);
-    let small = fills_of(&rt, rt.alloc(), &same, 16, SHOWN_BY_SPACES);
-    let same = fills_of(&rt, rt.alloc(), &same, 512, SHOWN_BY_SPACES);
-    let new = fills_of(&rt, rt.alloc(), &new, 512, SHOWN_BY_SPACES);
+    let small = fills_of_spaces(&rt, rt.alloc(), TO_THE_SAME, 16);
+    let same = fills_of_spaces(&rt, rt.alloc(), TO_THE_SAME, 512);
+    let new = fills_of_spaces(&rt, rt.alloc(), TO_A_NEW_VALUE, 512);
     assert!(rt; same == 23 + 3 && new == 23 + 11 && same < small);
 }

@@ -1,21 +1,27 @@
 //! What schedules say.
 
-use guest_sched::{ScheduleCause, ScheduleFault, read_schedule};
+use crate::common::holds;
+use guest_sched::{ScheduleCause, ScheduleFault, Slice, read_schedule};
 use std::alloc::Global;
 use std::process::Abort;
 
+/// The slices are these, kernel and steps.
+fn are_slices(rt: &impl Abort, list: &[Slice], want: &[(u8, u64)]) {
+    holds(rt, want.len(), list.len() == want.len());
+    for (row, (slice, (kernel, steps))) in list.iter().zip(want).enumerate() {
+        holds(rt, row, slice.kernel == *kernel && slice.steps == *steps);
+    }
+}
+
 fn says(rt: &impl Abort, alloc: Global, text: &[u8], want: &[(u8, u64)]) {
     let schedule = read_schedule(alloc, text, 2).expect(rt, "a schedule");
-    assert_eq!(rt; schedule.list.len(), want.len());
-    for (slice, (kernel, steps)) in schedule.list.iter().zip(want) {
-        assert_eq!(rt; (slice.kernel, slice.steps), (*kernel, *steps));
-    }
+    are_slices(rt, &schedule.list, want);
 }
 
 fn refused(rt: &impl Abort, alloc: Global, text: &[u8], line: u64, cause: ScheduleCause) {
     match read_schedule(alloc, text, 2) {
         Err(fault) => {
-            assert_eq!(rt; fault, ScheduleFault::At { line, cause });
+            assert!(rt; fault == ScheduleFault::At { line, cause });
         }
         Ok(_) => panic!(rt; "a schedule"),
     }
@@ -75,7 +81,7 @@ fn schedules_have_1024_slices_at_most(rt: HostRuntime) {
     let alloc = rt.alloc();
     let most = slices(&rt, alloc, 1024);
     let schedule = read_schedule(alloc, &most, 2).expect(&rt, "a schedule");
-    assert_eq!(rt; schedule.list.len(), 1024);
+    holds(&rt, 1024, schedule.list.len() == 1024);
     let more = slices(&rt, alloc, 1025);
     refused(&rt, alloc, &more, 1025, ScheduleCause::TooMany);
 }

@@ -7,7 +7,7 @@ ghost use Rattle.board.specs.Scripts.{Events};
 ghost use Rattle.board.specs.ScriptForm.{is_script};
 ghost use Rattle.machine_model.specs.State.{boot};
 
-use crate::common::{are_same, holds, image_of, sink, took};
+use crate::common::{are_same, holds, image_of, is_so, sink, took};
 use bare_machine::{Bare, run_bare, run_fresh};
 use board::{Script, read_script};
 use image_check::Checked;
@@ -113,17 +113,38 @@ fn prints_fresh(rt: &impl Abort, alloc: Global, image: &Checked, n: u64) -> MemS
     out
 }
 
+/// The image of the first generated kernel.
+fn generated(rt: &impl Abort, alloc: Global) -> Checked {
+    let source = kernel(alloc, 0).expect(rt, "memory");
+    image_of(rt, alloc, str::from_utf8(&source).expect(rt, "a text"))
+}
+
+/// A run of at most `n` steps, before each of which nothing is cached, prints this.
+fn prints_so_fresh(rt: &impl Abort, alloc: Global, image: &Checked, n: u64, text: &[u8])
+    requires { n ≤ 2 ^ 40 }
+{
+    took(rt, &prints_fresh(rt, alloc, image, n), text);
+}
+
+/// A run in slices of one step and a fresh one print what is sent of a byte.
+fn sends_in_slices(rt: &impl Abort, alloc: Global) {
+    let image = image_of(rt, alloc, SENDS_A_BYTE);
+    took(rt, &prints(rt, alloc, &image, 1, 1, 8), SENT);
+    prints_so_fresh(rt, alloc, &image, 8, SENT);
+}
+
 #[test]
 fn slices_of_one_step_and_fresh_runs_print_the_same(rt: HostRuntime) {
     let alloc = rt.alloc();
-    let image = image_of(&rt, alloc, SENDS_A_BYTE);
-    took(&rt, &prints(&rt, alloc, &image, 1, 1, 8), SENT);
-    took(&rt, &prints_fresh(&rt, alloc, &image, 8), SENT);
-    let source = kernel(alloc, 0).expect(&rt, "memory");
-    let source = str::from_utf8(&source).expect(&rt, "a text");
-    let image = image_of(&rt, alloc, source);
-    let shown = prints_fresh(&rt, alloc, &image, 2);
-    took(&rt, &shown, b"1 out32 0080 3c6ef35f\nend steps 2\n");
+    sends_in_slices(&rt, alloc);
+    let shown = b"1 out32 0080 3c6ef35f\nend steps 2\n";
+    prints_so_fresh(&rt, alloc, &generated(&rt, alloc), 2, shown);
+}
+
+/// A run of 80 steps that pauses there prints this.
+fn prints_with_a_pause(rt: &impl Abort, alloc: Global, image: &Checked, pause: u64, text: &[u8]) {
+    let parts = prints(rt, alloc, image, pause, 80, 80);
+    holds(rt, pause as usize, are_same(parts.bytes(), text));
 }
 
 #[test]
@@ -131,11 +152,10 @@ fn a_pause_at_any_step_changes_nothing(rt: HostRuntime) {
     let alloc = rt.alloc();
     let image = image_of(&rt, alloc, IS_INTERRUPTED);
     let whole = prints(&rt, alloc, &image, 80, 80, 80);
-    assert!(rt; whole.bytes().ends_with(INTERRUPTED));
-    took(&rt, &prints_fresh(&rt, alloc, &image, 80), whole.bytes());
+    is_so(&rt, "the last lines", whole.bytes().ends_with(INTERRUPTED));
+    prints_so_fresh(&rt, alloc, &image, 80, whole.bytes());
     for pause in 40..80u64 {
-        let parts = prints(&rt, alloc, &image, pause, 80, 80);
-        holds(&rt, pause as usize, are_same(parts.bytes(), whole.bytes()));
+        prints_with_a_pause(&rt, alloc, &image, pause, whole.bytes());
     }
 }
 
@@ -147,16 +167,39 @@ fn is_too_small(answer: Result<Ended, RunFault>) -> bool {
     }
 }
 
+/// Whether both runs answer so on the bare machine.
+fn are_too_small(alloc: Global, image: &Checked, script: &Script, out: &mut MemSink) -> bool
+    requires script { is_script script.now.list ≡ true }
+{
+    is_too_small(run_bare(alloc, image, script, 2048, 1, out))
+        && is_too_small(run_fresh(alloc, image, script, 2048, 1, out))
+}
+
 #[test]
 fn a_large_image_is_told_with_both_numbers_of_frames(rt: HostRuntime) {
     let alloc = rt.alloc();
     let image = image_of(&rt, alloc, ".bss\n.zero 8388608\n");
     let script = no_event(&rt, alloc);
     let mut out = sink(&rt, alloc);
-    let bare = run_bare(alloc, &image, &script, 2048, 1, &mut out);
-    let fresh = run_fresh(alloc, &image, &script, 2048, 1, &mut out);
-    assert!(rt; is_too_small(bare) && is_too_small(fresh));
+    let are_so = are_too_small(alloc, &image, &script, &mut out);
+    is_so(&rt, "both numbers", are_so);
     took(&rt, &out, b"");
+}
+
+/// A slice of eight steps fails, whose second line does, and ends behind that line's step.
+fn ends_at_the_line_that_fails(
+    rt: &impl Abort,
+    machine: &mut Bare<Buffer>,
+    script: &Script,
+    out: &mut MemSink,
+)
+    requires script { is_script script.now.list ≡ true }
+    requires kept { IsKept machine.old.frames (state_of (λ buffer. buffer) machine.old) }
+    requires bound { machine.old.step + 8 ≤ 2 ^ 40 }
+{
+    let answer = machine.slice(script, 8, out);
+    is_so(rt, "the slice fails", answer.is_err());
+    is_so(rt, "three steps", machine.step() == 3);
 }
 
 #[test]
@@ -166,8 +209,6 @@ fn a_line_that_fails_ends_a_slice_at_its_step(rt: HostRuntime) {
     let script = no_event(&rt, alloc);
     let mut out = second_put_fails(&rt, alloc);
     let mut machine = begun(&rt, alloc, &image);
-    let answer = machine.slice(&script, 8, &mut out);
-    assert!(rt; answer.is_err());
-    assert!(rt; machine.step() == 3);
+    ends_at_the_line_that_fails(&rt, &mut machine, &script, &mut out);
     took(&rt, &out, FIRST_LINE);
 }

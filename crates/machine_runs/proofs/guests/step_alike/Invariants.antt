@@ -1,6 +1,6 @@
 use Rattle.bare_machine.specs.Machine.{state_of, IsKept}
 use Rattle.machine_runs.specs.Going.{IsGoing}
-use Rattle.machine_runs.proofs.guests.side_by_side.Given as goal
+use Rattle.machine_runs.proofs.guests.step_alike.Given as goal
 
 abbrev pub invariant-loop-step : goal.invariant-loop-step
 invariant-loop-step g l =
