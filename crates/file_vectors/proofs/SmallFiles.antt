@@ -1,5 +1,5 @@
 -- Small files are short enough.
-use Rattle.std.proofs.Common.{◌≡◌, ◌+◌, ◌≤◌, ◌<◌, [], ◌∷◌, length, ap, arith}
+use Rattle.std.proofs.Common.{◌≡◌, ◌+◌, ◌≤◌, ◌<◌, length, arith}
 use Rattle.std.specs.Prelude.{All}
 use Rattle.std.specs.List.{sum_by}
 use Rattle.elf_form.specs.declared.object.Symbol.{Symbol}
@@ -13,9 +13,5 @@ pub small_image : (p : ImageParts) → length p.text + length p.init + length p.
 unfolding init_from sites_from names_from sections_from
 small_image p le = record { file = omega arith; memory = omega arith }
 
-module _ (o : ObjectParts) (a b c d : Symbol) (symbols : o.symbols ≡ a ∷ b ∷ c ∷ d ∷ []) where
-  pub small_object : length o.text + length o.init + length o.sites + o.bss + length o.relocs + (length a.name + length b.name + length c.name + length d.name) ≤ 4096 → All (λ r. r.symbol < 4) o.relocs → IsWritableObject o
-  small_object le named =
-      let count : length o.symbols ≡ 4 = ap length symbols in
-      let names : sum_by (λ (s : Symbol). length s.name) o.symbols ≡ 0 + length a.name + length b.name + length c.name + length d.name = ap (sum_by (λ (s : Symbol). length s.name)) symbols in
-      record { file = omega (arith, sections-most o); memory = omega arith; count = omega arith; named = rw count named }
+pub small_object : (o : ObjectParts) → length o.symbols ≡ 4 → sum_by (λ (s : Symbol). length s.name) o.symbols ≡ 19 → length o.text + length o.init + length o.sites + o.bss + length o.relocs ≤ 4000 → All (λ r. r.symbol < 4) o.relocs → IsWritableObject o
+small_object o count names le named = record { file = omega (arith, sections-most o); memory = omega arith; count = omega arith; named = rw count named }

@@ -1,5 +1,7 @@
 //! Answers against what is wanted.
 
+ghost use Rattle.std.specs.Prelude.{◌≡◌, length};
+
 use elf_form::Image;
 use pv_io::{MemFiles, MemSink};
 use std::alloc::Global;
@@ -7,7 +9,7 @@ use std::process::Abort;
 
 /// The bytes are these.
 pub fn are_bytes(rt: &impl Abort, bytes: &[u8], want: &[u8]) {
-    assert_eq!(rt; bytes, want);
+    assert!(rt; are_same(bytes, want), "other bytes");
 }
 
 /// A sink with so much room, of whose puts those of a list fail.
@@ -23,7 +25,9 @@ pub fn files(rt: &impl Abort, alloc: Global, fail: &[u64]) -> MemFiles {
 }
 
 /// These bytes.
-pub fn list(rt: &impl Abort, alloc: Global, bytes: &[u8]) -> Vec<u8> {
+pub fn list(rt: &impl Abort, alloc: Global, bytes: &[u8]) -> Vec<u8>
+    ensures { length result.items ≡ length bytes.now }
+{
     Vec::from_slice(alloc, bytes).expect(rt, "memory")
 }
 

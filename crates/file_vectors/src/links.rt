@@ -8,8 +8,10 @@ use elf_link::{LinkCause, LinkFault, are_linkable, link, linked};
 use std::alloc::Global;
 use std::process::Abort;
 
-/// What is told of the objects, if they can be linked at all.
-fn outcome(alloc: Global, objects: &Vec<Object>) -> Option<Result<Image, LinkFault>> {
+/// What is told of objects, if they can be linked at all.
+type Outcome = Option<Result<Image, LinkFault>>;
+
+fn outcome(alloc: Global, objects: &Vec<Object>) -> Outcome {
     if objects.len() > 64 || !are_linkable(objects) {
         return None;
     }
@@ -148,27 +150,55 @@ static MAKING: [Making; 6] = [
     (&[SWITCH], &SWITCHED),
 ];
 
-#[test]
-fn objects_make_images(rt: HostRuntime) {
-    for (parts, all) in MAKING.iter() {
-        let objects = objects(&rt, rt.alloc(), parts);
-        let image = outcome(rt.alloc(), &objects).expect(&rt, "an image");
-        are_held(&rt, &image.expect(&rt, "an image"), all);
+/// What is told of the objects of these parts.
+fn made(rt: &impl Abort, alloc: Global, parts: &[Parts]) -> Outcome {
+    let objects = objects(rt, alloc, parts);
+    outcome(alloc, &objects)
+}
+
+/// An image is told, and it holds all of these.
+fn is_image(rt: &impl Abort, found: &Outcome, all: &[Held]) {
+    match found {
+        Some(Ok(image)) => are_held(rt, image, all),
+        _ => panic!(rt; "no image"),
     }
 }
 
-/// The file of the image of such objects.
-pub fn linked_file(rt: &impl Abort, alloc: Global, parts: &[Parts]) -> Vec<u8> {
-    let objects = objects(rt, alloc, parts);
-    assert!(rt; objects.len() == parts.len());
-    assert!(rt; are_linkable(&objects) && objects.len() <= 64);
-    link(alloc, &objects).expect(rt, "a file")
+fn are_made(rt: &impl Abort, alloc: Global) {
+    for (parts, all) in MAKING.iter() {
+        is_image(rt, &made(rt, alloc, parts), all);
+    }
+}
+
+#[test]
+fn objects_make_images(rt: HostRuntime) {
+    are_made(&rt, rt.alloc());
+}
+
+/// The file of the objects' image, if they are linked.
+fn file(alloc: Global, objects: &Vec<Object>) -> Option<Vec<u8>> {
+    if objects.len() > 64 || !are_linkable(objects) {
+        return None;
+    }
+    link(alloc, objects).ok()
+}
+
+/// Whether the bytes are a whole number of longs, more than a page, and begin as an ELF file does.
+fn begins_as_file(bytes: &[u8]) -> bool {
+    bytes.len() % 4 == 0 && bytes.len() > 4096 && bytes.starts_with(b"\x7FELF")
+}
+
+/// Whether such a file is made of no object.
+fn has_file(alloc: Global) -> bool {
+    match file(alloc, &Vec::new(alloc)) {
+        Some(file) => begins_as_file(&file),
+        None => false,
+    }
 }
 
 #[test]
 fn writes_the_file_of_no_object(rt: HostRuntime) {
-    let file = linked_file(&rt, rt.alloc(), &[]);
-    assert!(rt; file.len() % 4 == 0 && file.len() > 4096 && file.starts_with(b"\x7FELF"));
+    assert!(rt; has_file(rt.alloc()));
 }
 
 /// What the cause of a refusal tells.
@@ -180,20 +210,23 @@ enum Cause {
 }
 
 fn tells(cause: &LinkCause, told: &Cause) -> bool {
-    match (cause, told) {
-        (cause, Cause::Number(number)) => cause.number() == *number,
-        (LinkCause::NoSymbol(name) | LinkCause::Doubled(name), Cause::Name(want)) => {
-            are_same(&name.list, want)
-        }
-        (LinkCause::NotText(at), Cause::Place(want)) => *at == *want,
-        _ => false,
+    match told {
+        Cause::Number(number) => cause.number() == *number,
+        Cause::Name(want) => match cause {
+            LinkCause::NoSymbol(name) | LinkCause::Doubled(name) => are_same(&name.list, want),
+            _ => false,
+        },
+        Cause::Place(want) => match cause {
+            LinkCause::NotText(at) => *at == *want,
+            _ => false,
+        },
     }
 }
 
 /// Whether objects are refused at one of them, by a cause that tells this.
-fn are_refused(alloc: Global, objects: &Vec<Object>, at: u32, told: &Cause) -> bool {
-    match outcome(alloc, objects) {
-        Some(Err(LinkFault::At { object, cause })) => object == at && tells(&cause, told),
+fn are_refused(found: &Outcome, at: u32, told: &Cause) -> bool {
+    match found {
+        Some(Err(LinkFault::At { object, cause })) => *object == at && tells(cause, told),
         _ => false,
     }
 }
@@ -253,12 +286,20 @@ static REFUSED: [Refused; 7] = [
     (&PAST, 1, Cause::Number(36)),
 ];
 
+fn is_refused(rt: &impl Abort, alloc: Global, row: &Refused) -> bool {
+    let (parts, at, told) = row;
+    are_refused(&made(rt, alloc, parts), *at, told)
+}
+
+fn each_is_refused(rt: &impl Abort, alloc: Global) {
+    for (k, row) in REFUSED.iter().enumerate() {
+        holds(rt, k, is_refused(rt, alloc, row));
+    }
+}
+
 #[test]
 fn objects_are_refused_by_their_cause(rt: HostRuntime) {
-    for (k, (parts, at, told)) in REFUSED.iter().enumerate() {
-        let objects = objects(&rt, rt.alloc(), parts);
-        holds(&rt, k, are_refused(rt.alloc(), &objects, *at, told));
-    }
+    each_is_refused(&rt, rt.alloc());
 }
 
 /// What an object has much of.
@@ -334,18 +375,24 @@ fn all_large(rt: &impl Abort, alloc: Global, all: &[Much]) -> Vec<Object> {
 type Limited = Result<&'static [u8], (u32, u8)>;
 
 /// Whether the annotations of the objects' image begin so.
-fn begin(alloc: Global, objects: &Vec<Object>, front: &[u8]) -> bool {
-    match outcome(alloc, objects) {
+fn begin(found: &Outcome, front: &[u8]) -> bool {
+    match found {
         Some(Ok(image)) => image.sites.starts_with(front),
         _ => false,
     }
 }
 
-fn is_limited(alloc: Global, objects: &Vec<Object>, want: &Limited) -> bool {
+fn is_limited(found: &Outcome, want: &Limited) -> bool {
     match want {
-        Ok(front) => begin(alloc, objects, front),
-        Err((at, number)) => are_refused(alloc, objects, *at, &Cause::Number(*number)),
+        Ok(front) => begin(found, front),
+        Err((at, number)) => are_refused(found, *at, &Cause::Number(*number)),
     }
+}
+
+/// What is told of such large objects.
+fn made_large(rt: &impl Abort, alloc: Global, all: &[Much]) -> Outcome {
+    let objects = all_large(rt, alloc, all);
+    outcome(alloc, &objects)
 }
 
 /// The first site, at 0, and a second one, at 1 or 9.
@@ -383,10 +430,13 @@ static LIMITS: [(&[Much], Limited); 17] = [
     ),
 ];
 
+fn are_limited(rt: &impl Abort, alloc: Global) {
+    for (k, (all, want)) in LIMITS.iter().enumerate() {
+        holds(rt, k, is_limited(&made_large(rt, alloc, all), want));
+    }
+}
+
 #[test]
 fn sizes_symbols_and_sites_have_limits(rt: HostRuntime) {
-    for (k, (all, want)) in LIMITS.iter().enumerate() {
-        let objects = all_large(&rt, rt.alloc(), all);
-        holds(&rt, k, is_limited(rt.alloc(), &objects, want));
-    }
+    are_limited(&rt, rt.alloc());
 }

@@ -1,11 +1,12 @@
 //! Objects as rows of their parts.
 
-ghost use Rattle.std.specs.Prelude.{◌≡◌, length, IfOk};
+ghost use Rattle.std.specs.Prelude.{◌≡◌, ◌+◌, length};
+ghost use Rattle.std.specs.List.{sum_by};
 
 use crate::agree::{are_same, holds, list};
 use crate::vectors::{NO_SITES, WORKED_SITES, WORKED_TEXT};
 use elf_form::{Bytes, Object, Place, Reloc, Symbol, read_object};
-use std::alloc::{AllocError, Global};
+use std::alloc::Global;
 use std::process::Abort;
 
 /// A symbol's name, place and value, and whether it is global.
@@ -41,24 +42,28 @@ pub const WORKED: Parts = Parts {
 };
 
 /// The symbol of a row.
-pub fn symbol(alloc: Global, row: &Named) -> Result<Symbol, AllocError>
-    ensures { IfOk result (λ s. length s.name ≡ length row.now.0.now) }
+fn symbol(rt: &impl Abort, alloc: Global, row: &Named) -> Symbol
+    ensures { length result.name ≡ length row.now.0.now }
 {
     let (name, place, value, global) = *row;
-    Ok(Symbol {
+    Symbol {
         name: Bytes {
-            list: Vec::from_slice(alloc, name)?,
+            list: list(rt, alloc, name),
         },
         place,
         value,
         global,
-    })
+    }
 }
 
-/// Puts the symbol behind the others.
-pub fn put_symbol(rt: &impl Abort, alloc: Global, symbols: &mut Vec<Symbol>, row: &Named) {
-    let symbol = symbol(alloc, row).expect(rt, "memory");
-    symbols.push(symbol).expect(rt, "memory");
+/// Puts the symbol behind the others. The bytes of the names add up.
+#[tactic(auto, using(std::proofs::lemmas::List::Sums::sum_by_push))]
+pub fn put_symbol(rt: &impl Abort, alloc: Global, symbols: &mut Vec<Symbol>, row: &Named)
+    ensures count { length symbols.new.items ≡ length symbols.old.items + 1 }
+    ensures names { sum_by (λ s. length s.name) symbols.new.items
+        ≡ sum_by (λ s. length s.name) symbols.old.items + length row.now.0.now }
+{
+    symbols.push(symbol(rt, alloc, row)).expect(rt, "memory");
 }
 
 /// The object of these parts.
@@ -86,17 +91,19 @@ pub fn objects(rt: &impl Abort, alloc: Global, all: &[Parts]) -> Vec<Object> {
     objects
 }
 
+/// Whether the symbol is this one.
+fn is_so(symbol: &Symbol, (name, place, value, global): &Named) -> bool {
+    are_same(&symbol.name.list, name)
+        && symbol.place == *place
+        && symbol.value == *value
+        && symbol.global == *global
+}
+
 /// Whether the object's symbol of that number is this one.
 fn is_symbol(object: &Object, number: usize, row: &Named) -> bool {
-    let (name, place, value, global) = *row;
     match object.symbols.get(number) {
         None => false,
-        Some(symbol) => {
-            are_same(&symbol.name.list, name)
-                && symbol.place == place
-                && symbol.value == value
-                && symbol.global == global
-        }
+        Some(symbol) => is_so(symbol, row),
     }
 }
 

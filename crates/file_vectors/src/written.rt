@@ -1,13 +1,14 @@
 //! Files that are written, against bytes that other tools read.
 
-ghost use Rattle.std.specs.Prelude.{IfOk};
+ghost use Rattle.std.specs.Prelude.{◌≡◌, ◌<◌, All, length};
+ghost use Rattle.std.specs.List.{sum_by};
 ghost use Rattle.elf_form.specs.Writable.{IsWritableImage, IsWritableObject};
 
 use crate::agree::{Held, Number, Part, add, are_bytes, are_held, list, put_times};
-use crate::object_rows::{Named, Parts, symbol};
+use crate::object_rows::{Named, Parts, put_symbol};
 use crate::vectors::{SMALL_IMAGE_HEAD, SMALL_IMAGE_TAIL, SMALL_OBJECT};
-use elf_form::{Image, Object, Place, Reloc, read_image, write_image, write_object};
-use std::alloc::{AllocError, Global};
+use elf_form::{Image, Object, Place, Reloc, Symbol, read_image, write_image, write_object};
+use std::alloc::Global;
 use std::process::Abort;
 
 const SITES: &[u8] = b"PVS1\x01\0\0\0\0\0\0\0\x01\x01\x05\0";
@@ -56,45 +57,61 @@ pub const SMALL: Parts = Parts {
     relocs: RELOCS,
 };
 
-fn small_object(alloc: Global) -> Result<Object, AllocError>
-    ensures { IfOk result (λ o. IsWritableObject o) }
+/// Its symbols, and how many bytes their names have.
+fn small_symbols(rt: &impl Abort, alloc: Global) -> Vec<Symbol>
+    ensures count { length result.items ≡ 4 }
+    ensures names { sum_by (λ s. length s.name) result.items ≡ 19 }
 {
     let mut symbols = Vec::new(alloc);
-    symbols.push(symbol(alloc, &COUNT)?)?;
-    symbols.push(symbol(alloc, &START)?)?;
-    symbols.push(symbol(alloc, &FAR)?)?;
-    symbols.push(symbol(alloc, &TABLE)?)?;
-    Ok(Object {
-        text: Vec::from_slice(alloc, TEXT)?,
-        init: Vec::from_slice(alloc, INIT)?,
+    put_symbol(rt, alloc, &mut symbols, &COUNT);
+    put_symbol(rt, alloc, &mut symbols, &START);
+    put_symbol(rt, alloc, &mut symbols, &FAR);
+    put_symbol(rt, alloc, &mut symbols, &TABLE);
+    symbols
+}
+
+/// Its relocations, each of one of four symbols.
+fn small_relocs(rt: &impl Abort, alloc: Global) -> Vec<Reloc>
+    ensures count { length result.items ≡ 3 }
+    ensures named { All (λ r. r.symbol < 4) result.items }
+{
+    Vec::from_slice(alloc, RELOCS).expect(rt, "memory")
+}
+
+fn small_object(rt: &impl Abort, alloc: Global) -> Object
+    ensures { IsWritableObject result }
+{
+    Object {
+        text: list(rt, alloc, TEXT),
+        init: list(rt, alloc, INIT),
         bss: 8,
-        sites: Vec::from_slice(alloc, SITES)?,
-        symbols,
-        relocs: Vec::from_slice(alloc, RELOCS)?,
-    })
+        sites: list(rt, alloc, SITES),
+        symbols: small_symbols(rt, alloc),
+        relocs: small_relocs(rt, alloc),
+    }
 }
 
 #[test]
 fn writes_an_object_that_other_tools_read(rt: HostRuntime) {
-    let object = small_object(rt.alloc()).expect(&rt, "memory");
+    let object = small_object(&rt, rt.alloc());
     let bytes = write_object(rt.alloc(), &object).expect(&rt, "memory");
     are_bytes(&rt, &bytes, &SMALL_OBJECT);
 }
 
 const IMAGE_TEXT: &[u8] = &[0xFA, 0x90, 0x90, 0x90, 0x90, 0xEB, 0xFE];
 
-fn small_image(alloc: Global) -> Result<Image, AllocError>
-    ensures { IfOk result (λ image. IsWritableImage image) }
+fn small_image(rt: &impl Abort, alloc: Global) -> Image
+    ensures { IsWritableImage result }
 {
-    Ok(Image {
-        text: Vec::from_slice(alloc, IMAGE_TEXT)?,
-        init: Vec::from_slice(alloc, &[1, 2, 3])?,
+    Image {
+        text: list(rt, alloc, IMAGE_TEXT),
+        init: list(rt, alloc, &[1, 2, 3]),
         bss: 9,
         entry: 0x10000000,
         text_at: 0x10000000,
         init_at: 0x11000000,
-        sites: Vec::from_slice(alloc, SITES)?,
-    })
+        sites: list(rt, alloc, SITES),
+    }
 }
 
 /// The file of the small image: what stands before its text and from its data on, and the text, with zeros between.
@@ -117,12 +134,26 @@ static HELD: [Held; 7] = [
     Held::Whole(Part::Sites, SITES),
 ];
 
+/// The file that is written of the small image.
+fn written_image(rt: &impl Abort, alloc: Global) -> Vec<u8> {
+    let image = small_image(rt, alloc);
+    write_image(alloc, &image).expect(rt, "memory")
+}
+
+/// The file is that of the small image.
+fn is_small_file(rt: &impl Abort, alloc: Global, file: &[u8]) {
+    are_bytes(rt, file, &small_file(rt, alloc));
+}
+
+/// The file is read as the small image.
+fn is_read(rt: &impl Abort, alloc: Global, file: &[u8]) {
+    let image = read_image(alloc, file).expect(rt, "an image");
+    are_held(rt, &image, &HELD);
+}
+
 #[test]
 fn writes_an_image_that_other_tools_read_and_reads_it(rt: HostRuntime) {
-    let alloc = rt.alloc();
-    let image = small_image(alloc).expect(&rt, "memory");
-    let file = write_image(alloc, &image).expect(&rt, "memory");
-    are_bytes(&rt, &file, &small_file(&rt, alloc));
-    let image = read_image(alloc, &file).expect(&rt, "an image");
-    are_held(&rt, &image, &HELD);
+    let file = written_image(&rt, rt.alloc());
+    is_small_file(&rt, rt.alloc(), &file);
+    is_read(&rt, rt.alloc(), &file);
 }
