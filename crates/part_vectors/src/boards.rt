@@ -3,9 +3,10 @@
 ghost use Rattle.std.specs.Prelude.{◌≡◌, true};
 ghost use Rattle.board.specs.ScriptForm.{is_script};
 
+use crate::asked::{comes_so, holds, is_so};
 use board::{Board, Event, PortRead, Script, ScriptCause, ScriptFault, read_script};
 use ia32_types::Did;
-use std::alloc::{AllocError, Global};
+use std::alloc::Global;
 use std::process::Abort;
 
 fn sent(board: &mut Board, port: u16, v: u8) -> Did {
@@ -49,7 +50,7 @@ enum Step {
 }
 
 /// Whether a step comes to what it says; a byte that is sent is taken.
-fn holds(board: &mut Board, step: &Step) -> bool {
+fn does(board: &mut Board, step: &Step) -> bool {
     match *step {
         Step::Sent(port, v) => sent(board, port, v) == Did::Done,
         Step::Advance(k) => {
@@ -61,9 +62,9 @@ fn holds(board: &mut Board, step: &Step) -> bool {
     }
 }
 
-fn follow(rt: &impl Abort, board: &mut Board, steps: &[Step]) {
+fn follow(rt: &impl Abort, shown: &str, board: &mut Board, steps: &[Step]) {
     for (k, step) in steps.iter().enumerate() {
-        assert!(rt; holds(board, step), "step {k}");
+        comes_so(rt, shown, k, does(board, step));
     }
 }
 
@@ -82,11 +83,13 @@ static TIMER: [Step; 10] = [
 
 #[test]
 fn timer_asks_after_eight_steps_a_count(rt: HostRuntime) {
-    follow(&rt, &mut started(), &TIMER);
+    follow(&rt, "the timer", &mut started(), &TIMER);
 }
 
 /// A port, whether four bytes are read, and what is read.
-static READS: [(u16, bool, PortRead); 13] = [
+type Read = (u16, bool, PortRead);
+
+static READS: [Read; 13] = [
     (0x40, false, PortRead::Stop),
     (0x41, false, PortRead::Value(0xFF)),
     (0x43, false, PortRead::Value(0xFF)),
@@ -103,21 +106,43 @@ static READS: [(u16, bool, PortRead); 13] = [
 ];
 
 /// A port, the number of four bytes that is written there, and what is done.
-static WRITES: [(u16, u32, Did); 2] = [(0x80, 0x1234_5678, Did::Done), (0x9D, 0, Did::Stop)];
+type Write = (u16, u32, Did);
+
+static WRITES: [Write; 2] = [(0x80, 0x1234_5678, Did::Done), (0x9D, 0, Did::Stop)];
+
+/// Whether a board reads so.
+fn is_read_so(board: &mut Board, row: &Read) -> bool {
+    let (port, wide, want) = *row;
+    board.port_in(port, wide) == want
+}
+
+/// Whether a board takes the write so.
+fn is_written_so(board: &mut Board, row: &Write) -> bool {
+    let (port, value, did) = *row;
+    board.port_out(port, true, value) == did
+}
+
+/// Each port of the rows is read so.
+fn all_are_read(rt: &impl Abort, board: &mut Board) {
+    for (k, row) in READS.iter().enumerate() {
+        comes_so(rt, "reads", k, is_read_so(board, row));
+    }
+}
+
+/// Each port of the rows is written so.
+fn all_are_written(rt: &impl Abort, board: &mut Board) {
+    for (k, row) in WRITES.iter().enumerate() {
+        comes_so(rt, "writes", k, is_written_so(board, row));
+    }
+}
 
 #[test]
 fn ports_are_served_ignored_or_refused(rt: HostRuntime) {
     let mut board = Board::new();
-    for (port, wide, want) in &READS {
-        assert!(rt; board.port_in(*port, *wide) == *want, "read of {port}");
-    }
-    for (port, value, did) in &WRITES {
-        assert!(rt;
-            board.port_out(*port, true, *value) == *did,
-            "write of {port}"
-        );
-    }
-    assert!(rt; sent(&mut board, 0x3F8, 0x48) == Did::Sent(0x48));
+    all_are_read(&rt, &mut board);
+    all_are_written(&rt, &mut board);
+    let sends = sent(&mut board, 0x3F8, 0x48) == Did::Sent(0x48);
+    is_so(&rt, "a byte is sent", sends);
 }
 
 static RECEIVED: [Step; 6] = [
@@ -129,18 +154,20 @@ static RECEIVED: [Step; 6] = [
     Step::Pending(Some(0x24)),
 ];
 
-/// The first of five steps under a script before which the line's status is another one: a byte is there from step 4 on.
-fn failing_step(board: &mut Board, script: &Script) -> Option<u64>
+/// Whether the line's status is that.
+fn has_status(board: &mut Board, status: u32) -> bool {
+    board.port_in(0x3FD, false) == PortRead::Value(status)
+}
+
+/// Of five steps under a script, a byte is there from step 4 on.
+fn begin_five(rt: &impl Abort, board: &mut Board, script: &Script)
     requires { is_script script.now.list ≡ true }
 {
-    for step in 0..5u64 {
-        board.begin(script, step);
-        let want = if step < 4 { 0x60 } else { 0x61 };
-        if board.port_in(0x3FD, false) != PortRead::Value(want) {
-            return Some(step);
-        }
+    for step in 0..5usize {
+        board.begin(script, step as u64);
+        let status = if step < 4 { 0x60 } else { 0x61 };
+        comes_so(rt, "the line's status", step, has_status(board, status));
     }
-    None
 }
 
 fn script(rt: &impl Abort, alloc: Global, text: &[u8]) -> Script
@@ -149,14 +176,17 @@ fn script(rt: &impl Abort, alloc: Global, text: &[u8]) -> Script
     read_script(alloc, text).expect(rt, "a script")
 }
 
+/// A byte and a line of the slave come with step 4.
+fn receive(rt: &impl Abort, alloc: Global, board: &mut Board) {
+    let script = script(rt, alloc, b"4 rx 41\n4 line 12");
+    begin_five(rt, board, &script);
+}
+
 #[test]
 fn a_received_byte_asks_once_its_interrupt_is_enabled(rt: HostRuntime) {
-    let script = script(&rt, rt.alloc(), b"4 rx 41\n4 line 12");
     let mut board = started();
-    if let Some(step) = failing_step(&mut board, &script) {
-        panic!(rt; "at {step}");
-    }
-    follow(&rt, &mut board, &RECEIVED);
+    receive(&rt, rt.alloc(), &mut board);
+    follow(&rt, "a received byte", &mut board, &RECEIVED);
 }
 
 static EVENTS: [(u64, Event); 3] = [
@@ -187,12 +217,17 @@ static REFUSED: [Refused; 16] = [
     (b"0 rx 41\r\n1", 1, ScriptCause::NotAscii),
 ];
 
+/// Whether the events are these.
+fn are_same(found: &[(u64, Event)], want: &[(u64, Event)]) -> bool {
+    found == want
+}
+
 /// Whether a script has those events, of which the second and the third come next after step 0, and none after step 7.
 fn has_events(script: &Script) -> bool
     requires { is_script script.now.list ≡ true }
 {
     let board = Board::new();
-    script.list.as_slice() == EVENTS.as_slice()
+    are_same(&script.list, &EVENTS)
         && board.next_event(script, 0) == Some(7)
         && board.next_event(script, 7).is_none()
 }
@@ -200,7 +235,8 @@ fn has_events(script: &Script) -> bool
 #[test]
 fn scripts_are_read(rt: HostRuntime) {
     let text = b"# first\n0 rx 4F\n\n007 line 05\n7 rx 0a";
-    assert!(rt; has_events(&script(&rt, rt.alloc(), text)));
+    let script = script(&rt, rt.alloc(), text);
+    is_so(&rt, "its events", has_events(&script));
 }
 
 /// Whether a script is refused so.
@@ -213,20 +249,26 @@ fn is_refused(alloc: Global, text: &[u8], line: u64, cause: ScriptCause) -> bool
 
 #[test]
 fn scripts_are_refused(rt: HostRuntime) {
-    for row in &REFUSED {
+    let alloc = rt.alloc();
+    for (k, row) in REFUSED.iter().enumerate() {
         let (text, line, cause) = *row;
-        assert!(rt; is_refused(rt.alloc(), text, line, cause), "{line}");
+        holds(&rt, k, is_refused(alloc, text, line, cause));
     }
 }
 
+/// Puts the piece behind the text.
+fn add(rt: &impl Abort, text: &mut Vec<u8>, piece: &[u8]) {
+    text.extend_from_slice(piece).expect(rt, "memory");
+}
+
 /// So many lines of a byte that comes at the last step, and a line behind them.
-fn long_script(alloc: Global, count: u32, last: &[u8]) -> Result<Vec<u8>, AllocError> {
+fn long_script(rt: &impl Abort, alloc: Global, count: u32, last: &[u8]) -> Vec<u8> {
     let mut text = Vec::new(alloc);
     for _ in 0..count {
-        text.extend_from_slice(b"1099511627776 rx 41\n")?;
+        add(rt, &mut text, b"1099511627776 rx 41\n");
     }
-    text.extend_from_slice(last)?;
-    Ok(text)
+    add(rt, &mut text, last);
+    text
 }
 
 /// Whether a script is read as so many events.
@@ -237,12 +279,26 @@ fn is_read(alloc: Global, text: &[u8], count: usize) -> bool {
     }
 }
 
+/// Whether 65536 events are read.
+fn are_all_read(rt: &impl Abort, alloc: Global) -> bool {
+    let text = long_script(rt, alloc, 65536, b"");
+    is_read(alloc, &text, 65536)
+}
+
+/// Whether a script of one more is refused.
+fn is_one_more_refused(rt: &impl Abort, alloc: Global) -> bool {
+    let text = long_script(rt, alloc, 65536, b"1099511627776 line 3");
+    is_refused(alloc, &text, 65537, ScriptCause::TooMany)
+}
+
 #[test]
 fn a_script_has_room_for_65536_events(rt: HostRuntime) {
-    let text = long_script(rt.alloc(), 65536, b"").expect(&rt, "memory");
-    assert!(rt; is_read(rt.alloc(), &text, 65536));
-    let text = long_script(rt.alloc(), 65536, b"1099511627776 line 3").expect(&rt, "memory");
-    assert!(rt; is_refused(rt.alloc(), &text, 65537, ScriptCause::TooMany));
+    is_so(&rt, "65536 are read", are_all_read(&rt, rt.alloc()));
+    is_so(
+        &rt,
+        "one more is refused",
+        is_one_more_refused(&rt, rt.alloc()),
+    );
 }
 
 /// Ports of the serial line and of the timer, and bytes for them.
@@ -292,15 +348,34 @@ fn is_saved(board: &Board) -> bool {
     board.save() == WORKING
 }
 
+/// Whether a board in the midst of its work is.
+fn is_working_saved(rt: &impl Abort, alloc: Global) -> bool {
+    let script = script(rt, alloc, b"0 rx 48\n0 rx 69");
+    is_saved(&working(&script))
+}
+
+/// A board that is restored goes on as the one that was saved.
+fn go_on(rt: &impl Abort) {
+    let mut board = Board::restore(&WORKING).expect(rt, "the form");
+    is_so(rt, "a restored board is saved", is_saved(&board));
+    follow(rt, "a restored board", &mut board, &SAVED);
+}
+
+/// Whether both masks of a new board are full, and it is restored.
+fn is_new_restored() -> bool {
+    let fresh = Board::new().save();
+    fresh[4] == 0xFF && fresh[11] == 0xFF && Board::restore(&fresh).is_some()
+}
+
 #[test]
 fn boards_are_saved_and_restored(rt: HostRuntime) {
-    let script = script(&rt, rt.alloc(), b"0 rx 48\n0 rx 69");
-    assert!(rt; is_saved(&working(&script)));
-    let mut board = Board::restore(&WORKING).expect(&rt, "the form");
-    assert!(rt; is_saved(&board));
-    follow(&rt, &mut board, &SAVED);
-    let fresh = Board::new().save();
-    assert!(rt; fresh[4] == 0xFF && fresh[11] == 0xFF && Board::restore(&fresh).is_some());
+    is_so(
+        &rt,
+        "a working board is saved",
+        is_working_saved(&rt, rt.alloc()),
+    );
+    go_on(&rt);
+    is_so(&rt, "a new board is restored", is_new_restored());
 }
 
 /// Whether a board has those bytes with another one at a place.
@@ -353,8 +428,8 @@ static VALUES: [(usize, u8, bool); 37] = [
 
 #[test]
 fn bytes_are_restored_where_a_board_may_have_them(rt: HostRuntime) {
-    for row in &VALUES {
+    for (k, row) in VALUES.iter().enumerate() {
         let (at, value, may) = *row;
-        assert!(rt; is_restored(at, value) == may, "byte {at} is {value}");
+        holds(&rt, k, is_restored(at, value) == may);
     }
 }

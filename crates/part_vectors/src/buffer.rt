@@ -1,5 +1,6 @@
 //! The buffer of translations.
 
+use crate::asked::comes_so;
 use paging::Entry;
 use std::process::Abort;
 use xlate_buffer::Buffer;
@@ -41,7 +42,7 @@ enum Step {
 }
 
 /// Whether a step comes to what it says.
-fn holds(buffer: &mut Buffer, step: &Step) -> bool {
+fn does(buffer: &mut Buffer, step: &Step) -> bool {
     match *step {
         Step::Keep(entry) => buffer.keep(entry),
         Step::DropPage(page) => buffer.drop_page(page),
@@ -55,7 +56,7 @@ fn holds(buffer: &mut Buffer, step: &Step) -> bool {
 fn follow(rt: &impl Abort, shown: &str, steps: &[Step]) {
     let mut buffer = Buffer::new();
     for (k, step) in steps.iter().enumerate() {
-        assert!(rt; holds(&mut buffer, step), "{shown}: step {k}");
+        comes_so(rt, shown, k, does(&mut buffer, step));
     }
 }
 

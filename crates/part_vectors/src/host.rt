@@ -1,14 +1,15 @@
 //! Instructions at level 3 through tables of a host.
 
-ghost use Rattle.std.specs.Prelude.{◌≡◌, ◌≤◌, ◌<◌, ◌+◌, ◌*◌, ◌^◌, true, length, IfOk, IsSome, IfSome};
+ghost use Rattle.std.specs.Prelude.{◌≡◌, ◌≤◌, ◌<◌, ◌+◌, ◌*◌, ◌^◌, true, length, IsSome, IfSome};
 ghost use Rattle.guest_ram.specs.Bytes.{with_word32};
 ghost use Rattle.host_cpl3.specs.HostRun.{host_run};
 ghost use Rattle.host_cpl3.specs.Hosts.{standing};
 
+use crate::asked::{holds, is_so};
 use guest_ram::Ram;
 use host_cpl3::{Exit, Host, Machine, View};
 use ia32_types::{Flags, Regs};
-use std::alloc::{AllocError, Global};
+use std::alloc::Global;
 use std::process::Abort;
 
 const KERNEL: View = View {
@@ -37,14 +38,16 @@ fn lay_out(ram: &mut Ram, code: &[u8])
     ram.put(0x4000, code);
 }
 
-fn machine(alloc: Global, code: &[u8]) -> Result<Machine, AllocError>
+fn machine(rt: &impl Abort, alloc: Global, code: &[u8]) -> Machine
     requires { length code.now ≤ 4096 }
-    ensures { IfOk result (λ m. IsSome m.ram × IfSome m.ram (λ ram. length ram ≡ 32768) × (m.retired ≡ 0)) }
+    ensures started { IsSome result.ram }
+    ensures room { IfSome result.ram (λ ram. length ram ≡ 32768) }
+    ensures retired { result.retired ≡ 0 }
 {
     let mut machine = Machine::new();
-    machine.start(alloc, 8)?;
+    machine.start(alloc, 8).expect(rt, "memory");
     lay_out(machine.ram_mut(), code);
-    Ok(machine)
+    machine
 }
 
 // Any host, through its bound.
@@ -78,16 +81,29 @@ fn regs(esp: u32) -> Regs {
     }
 }
 
-#[test]
-fn stays_within_one_walk_and_ends_at_the_budget(rt: HostRuntime) {
-    let mut machine = machine(rt.alloc(), b"\xEB\xFE").expect(&rt, "memory");
+fn is_exit(exit: Exit, want: Exit) -> bool {
+    exit == want
+}
+
+/// Whether a machine stays at its first instruction until the budget of 1000 is out, with one walk.
+fn stays(machine: &mut Machine) -> bool
+    requires started { IsSome machine.old.ram }
+    requires room { IfSome machine.old.ram (λ ram. length ram ≡ 32768) }
+    requires retired { machine.old.retired ≡ 0 }
+{
     let mut regs = regs(0);
     let walks = machine.walks();
     let exit = machine.resume(&KERNEL, &mut regs, 1000);
-    let more = machine.walks().wrapping_sub(walks);
-    assert!(rt;
-        exit == Exit::Budget && more == 1 && machine.retired() == 1000 && regs.eip == 0x1000_0000
-    );
+    is_exit(exit, Exit::Budget)
+        && machine.walks().wrapping_sub(walks) == 1
+        && machine.retired() == 1000
+        && regs.eip == 0x1000_0000
+}
+
+#[test]
+fn stays_within_one_walk_and_ends_at_the_budget(rt: HostRuntime) {
+    let mut machine = machine(&rt, rt.alloc(), b"\xEB\xFE");
+    is_so(&rt, "a thousand jumps", stays(&mut machine));
 }
 
 /// What is seen behind a run.
@@ -99,6 +115,10 @@ enum Shown {
     Word(u32, u32),
 }
 
+fn has_word(ram: &Ram, at: u32, v: u32) -> bool {
+    ram.len() == 32768 && at <= 32764 && ram.read32(at) == v
+}
+
 fn is_shown(machine: &Machine, regs: &Regs, shown: &Shown) -> bool
     requires { IsSome machine.now.ram }
 {
@@ -107,11 +127,36 @@ fn is_shown(machine: &Machine, regs: &Regs, shown: &Shown) -> bool
         Shown::Eip(at) => regs.eip == at,
         Shown::Retired(n) => machine.retired() == n,
         Shown::Passed(n) => machine.passed() == n,
-        Shown::Word(at, v) => {
-            let ram = machine.ram();
-            ram.len() == 32768 && at <= 32764 && ram.read32(at) == v
-        }
+        Shown::Word(at, v) => has_word(machine.ram(), at, v),
     }
+}
+
+/// All of this is seen.
+fn are_shown(rt: &impl Abort, machine: &Machine, regs: &Regs, all: &[Shown])
+    requires { IsSome machine.now.ram }
+{
+    for (k, shown) in all.iter().enumerate() {
+        holds(rt, k, is_shown(machine, regs, shown));
+    }
+}
+
+/// A run on this machine comes to this exit.
+fn exits(
+    rt: &impl Abort,
+    machine: &mut Machine,
+    view: &View,
+    regs: &mut Regs,
+    budget: u64,
+    exit: Exit,
+)
+    requires started { IsSome machine.old.ram }
+    requires room { IfSome machine.old.ram (λ ram. length ram ≡ 32768) }
+    requires retired { machine.old.retired ≡ 0 }
+    requires root { view.now.root ≡ 1 }
+    ensures { IsSome machine.new.ram }
+{
+    let left = machine.resume(view, regs, budget);
+    is_so(rt, "the exit", is_exit(left, exit));
 }
 
 /// Runs the code on a new machine, to this exit.
@@ -128,12 +173,10 @@ fn runs(
     requires code { length code.now ≤ 4096 }
     requires root { view.now.root ≡ 1 }
 {
-    let mut machine = machine(alloc, code).expect(rt, "memory");
+    let mut machine = machine(rt, alloc, code);
     let mut regs = regs(esp);
-    assert!(rt; machine.resume(view, &mut regs, budget) == exit);
-    for (k, shown) in all.iter().enumerate() {
-        assert!(rt; is_shown(&machine, &regs, shown), "{k}");
-    }
+    exits(rt, &mut machine, view, &mut regs, budget, exit);
+    are_shown(rt, &machine, &regs, all);
 }
 
 const COMPLETED: [Shown; 4] = [
@@ -197,24 +240,34 @@ const EXITS: [Exiting; 16] = [
     (b"\xC3", false, 0x1100_2000, fault!(14, 4, 0x1100_2000)),
 ];
 
+/// Whether this machine makes that exit, with no instruction done.
+fn is_left_so(machine: &mut Machine, kernel: bool, esp: u32, exit: Exit) -> bool
+    requires started { IsSome machine.old.ram }
+    requires room { IfSome machine.old.ram (λ ram. length ram ≡ 32768) }
+    requires retired { machine.old.retired ≡ 0 }
+{
+    let view = View { kernel, ..KERNEL };
+    let mut regs = regs(esp);
+    let left = one_more(machine, &view, &mut regs);
+    is_exit(left, exit) && regs.eip == 0x1000_0000 && machine.retired() == 0
+}
+
 /// Whether a new machine makes that exit, with no instruction done.
 fn does_exit(rt: &impl Abort, alloc: Global, row: &Exiting) -> bool {
     let (code, kernel, esp, exit) = *row;
     if code.len() > 4096 {
         return false;
     }
-    let mut machine = machine(alloc, code).expect(rt, "memory");
+    let mut machine = machine(rt, alloc, code);
     poke(&mut machine, 0x5000, 0x100);
-    let view = View { kernel, ..KERNEL };
-    let mut regs = regs(esp);
-    let left = one_more(&mut machine, &view, &mut regs);
-    left == exit && regs.eip == 0x1000_0000 && machine.retired() == 0
+    is_left_so(&mut machine, kernel, esp, exit)
 }
 
 #[test]
 fn exits_where_an_instruction_cannot_be_done(rt: HostRuntime) {
+    let alloc = rt.alloc();
     for (k, row) in EXITS.iter().enumerate() {
-        assert!(rt; does_exit(&rt, rt.alloc(), row), "row {k}");
+        holds(&rt, k, does_exit(&rt, alloc, row));
     }
 }
 
@@ -242,19 +295,33 @@ fn shows_the_selectors_of_the_view(rt: HostRuntime) {
     );
 }
 
+/// The second page of data is the table itself, which may be written; numbers stand in the first and in frame 6.
+fn open_table(ram: &mut Ram)
+    requires { length ram.old ≡ 32768 }
+    ensures { length ram.new ≡ 32768 }
+{
+    ram.write32(0x3004, 0x3007);
+    ram.write32(0x5000, 5);
+    ram.write32(0x6000, 6);
+}
+
+/// Whether a run up to INT3 has read both numbers.
+fn reads_both(machine: &mut Machine) -> bool
+    requires started { IsSome machine.old.ram }
+    requires room { IfSome machine.old.ram (λ ram. length ram ≡ 32768) }
+    requires retired { machine.old.retired ≡ 0 }
+{
+    let mut regs = regs(0);
+    let exit = machine.resume(&KERNEL, &mut regs, 9);
+    is_exit(exit, Exit::Soft(3)) && regs.r[0] == 5 && regs.r[1] == 6
+}
+
 // The third instruction reads through the table word that the second one wrote.
 #[test]
 fn sees_a_table_that_it_writes(rt: HostRuntime) {
     let code =
         b"\xA1\x00\x00\x00\x11\xC7\x05\x00\x10\x00\x11\x05\x60\x00\x00\x8B\x0D\x00\x00\x00\x11\xCC";
-    let mut machine = machine(rt.alloc(), code).expect(&rt, "memory");
-    let ram = machine.ram_mut();
-    if ram.len() == 32768 {
-        ram.write32(0x3004, 0x3007);
-        ram.write32(0x5000, 5);
-        ram.write32(0x6000, 6);
-    }
-    let mut regs = regs(0);
-    let exit = machine.resume(&KERNEL, &mut regs, 9);
-    assert!(rt; exit == Exit::Soft(3) && regs.r[0] == 5 && regs.r[1] == 6);
+    let mut machine = machine(&rt, rt.alloc(), code);
+    open_table(machine.ram_mut());
+    is_so(&rt, "both numbers are read", reads_both(&mut machine));
 }

@@ -1,5 +1,6 @@
 //! Two 8259As by their data sheet and the profile.
 
+use crate::asked::comes_so;
 use ia32_types::Did;
 use pic8259::Pics;
 use std::process::Abort;
@@ -28,7 +29,7 @@ fn taken(pics: &mut Pics) -> Option<u8> {
 }
 
 /// Whether a step comes to what it says.
-fn holds(pics: &mut Pics, step: &Step) -> bool {
+fn does(pics: &mut Pics, step: &Step) -> bool {
     match *step {
         Step::Edge(line) => {
             if line >= 16 || line == 2 {
@@ -46,7 +47,7 @@ fn holds(pics: &mut Pics, step: &Step) -> bool {
 
 fn follow(rt: &impl Abort, shown: &str, pics: &mut Pics, steps: &[Step]) {
     for (k, step) in steps.iter().enumerate() {
-        assert!(rt; holds(pics, step), "{shown}: step {k}");
+        comes_so(rt, shown, k, does(pics, step));
     }
 }
 

@@ -1,7 +1,8 @@
 //! Memory by bytes, words and parts.
 
-ghost use Rattle.std.specs.Prelude.{◌≡◌, ◌+◌, ◌≤◌, true};
+ghost use Rattle.std.specs.Prelude.{◌≡◌, ◌+◌, ◌*◌, ◌≤◌, length, true};
 
+use crate::asked::{comes_so, given};
 use guest_ram::Ram;
 use std::alloc::Global;
 use std::process::Abort;
@@ -26,7 +27,7 @@ fn fits(len: u32, at: u32, count: usize) -> bool
 }
 
 /// Whether a step comes to what it says.
-fn holds(ram: &mut Ram, step: &Step) -> bool {
+fn does(ram: &mut Ram, step: &Step) -> bool {
     let len = ram.len();
     match *step {
         Step::Write8(at, v) if fits(len, at, 1) => ram.write8(at, v),
@@ -46,16 +47,17 @@ fn holds(ram: &mut Ram, step: &Step) -> bool {
 
 fn follow(rt: &impl Abort, shown: &str, ram: &mut Ram, steps: &[Step]) {
     for (k, step) in steps.iter().enumerate() {
-        assert!(rt; holds(ram, step), "{shown}: step {k}");
+        comes_so(rt, shown, k, does(ram, step));
     }
 }
 
 /// A new memory of so many frames.
-fn ram_of(rt: &impl Abort, alloc: Global, frames: u32) -> Ram
+pub fn ram_of(rt: &impl Abort, alloc: Global, frames: u32) -> Ram
     requires { (1 ≤ frames) × (frames ≤ 32768) }
+    ensures { length result ≡ 4096 * frames }
 {
     let ram = Ram::new(alloc, frames).expect(rt, "memory");
-    assert!(rt; ram.len() == 4096 * frames);
+    given(rt, "its length", ram.len() == 4096 * frames);
     ram
 }
 
@@ -72,20 +74,20 @@ static WRITTEN: [Step; 10] = [
     Step::Part(8189, &[0, 7, 8]),
 ];
 
+static CAME: [Step; 1] = [Step::Read32(100, 0)];
+
+static WENT: [Step; 1] = [Step::Read32(100, 0xabcd_ee78)];
+
 #[test]
 fn reads_what_it_wrote_and_exchanges_a_frame(rt: HostRuntime) {
     let mut ram = ram_of(&rt, rt.alloc(), 2);
     let mut other = ram_of(&rt, rt.alloc(), 1);
     follow(&rt, "what was written", &mut ram, &WRITTEN);
-    let exchanged = ram.len() == 8192 && other.len() == 4096;
-    assert!(rt; exchanged);
-    if exchanged {
-        ram.exchange(&mut other, 1);
-        let exchanged = "what was exchanged";
-        follow(&rt, exchanged, &mut ram, &[Step::Read32(100, 0)]);
-        let of_word = &[Step::Read32(100, 0xabcd_ee78)];
-        follow(&rt, exchanged, &mut other, of_word);
-    }
+    given(&rt, "two frames", ram.len() == 8192);
+    given(&rt, "one frame", other.len() == 4096);
+    ram.exchange(&mut other, 1);
+    follow(&rt, "what came", &mut ram, &CAME);
+    follow(&rt, "what went", &mut other, &WENT);
 }
 
 static LARGEST: [Step; 2] = [Step::Write32(134217724, 5), Step::Read32(134217724, 5)];

@@ -1,11 +1,15 @@
 //! Shadows of several values of CR3.
 
-ghost use Rattle.std.specs.Prelude.{◌≡◌, ◌≤◌, ◌<◌, ◌^◌};
+ghost use Rattle.std.specs.Prelude.{◌≡◌, ◌≤◌, ◌<◌, ◌^◌, length};
 ghost use Rattle.frame_pool.specs.Held.{Owns};
+ghost use Rattle.frame_pool.specs.Pool.{Stands, free_list};
 ghost use Rattle.shadow_cache.specs.Pairs.{frames_of, IsRoots};
 ghost use Rattle.shadow_cache.specs.Roots.{pairs_of};
 ghost use Rattle.shadow_cache.specs.Replayed.{IsFitCall, AreFitCalls};
 
+use crate::asked::{comes_so, given, is_so};
+use crate::memory::ram_of;
+use crate::pool::pool_of;
 use frame_pool::Pool;
 use guest_ram::Ram;
 use paging::Entry;
@@ -40,10 +44,8 @@ fn begin(rt: &impl Abort, alloc: Global) -> Bench
     ensures stands { ∥ IsRoots (pairs_of result.roots) result.ram ∥₁ }
     ensures owns { Owns result.pool result.ram (frames_of (pairs_of result.roots) result.ram) }
 {
-    let mut ram = Ram::new(alloc, 128).expect(rt, "memory");
-    assert!(rt; ram.len() == 524288);
-    let mut pool = Pool::new(&mut ram, 64, 64);
-    assert!(rt; pool.free() >= 2);
+    let mut ram = ram_of(rt, alloc, 128);
+    let mut pool = pool_of(rt, &mut ram, 64, 64);
     let roots = Roots::new(alloc, &mut ram, &mut pool, 0x1000).expect(rt, "memory");
     Bench { ram, pool, roots }
 }
@@ -59,7 +61,7 @@ fn go(rt: &impl Abort, bench: Bench, cr3: u32) -> Bench
         mut pool,
         mut roots,
     } = bench;
-    assert!(rt; pool.free() >= 2);
+    given(rt, "two are free", pool.free() >= 2);
     Reloads::switch(&mut roots, &mut ram, &mut pool, cr3);
     Bench { ram, pool, roots }
 }
@@ -75,8 +77,8 @@ fn fill(rt: &impl Abort, bench: Bench, frame: u32) -> Bench
         mut pool,
         mut roots,
     } = bench;
-    assert!(rt; pool.free() >= 1);
-    assert!(rt; frame < 0x10_0000);
+    given(rt, "one is free", pool.free() >= 1);
+    given(rt, "a frame", frame < 0x10_0000);
     roots.fill(&mut ram, &mut pool, Side::Kernel, entry(frame), true);
     Bench { ram, pool, roots }
 }
@@ -92,7 +94,7 @@ fn note(rt: &impl Abort, bench: Bench, frame: u32) -> Bench
         pool,
         mut roots,
     } = bench;
-    assert!(rt; frame < 16384);
+    given(rt, "a frame of memory", frame < 16384);
     roots.note(&mut ram, frame);
     Bench { ram, pool, roots }
 }
@@ -112,19 +114,24 @@ fn written(bench: Bench, frame: u32) -> Bench
     Bench { ram, pool, roots }
 }
 
-/// What is kept for the page, and whether it may be written.
-fn seen(bench: &Bench) -> (Option<Entry>, bool)
+/// What is kept for the page.
+fn kept(bench: &Bench) -> Option<Entry>
     requires { ∥ IsRoots (pairs_of bench.now.roots) bench.now.ram ∥₁ }
 {
-    (
-        bench.roots.kept(&bench.ram, 0x11000),
-        bench
-            .roots
-            .adequate(&bench.ram, Side::Kernel, 0x11000, true),
-    )
+    bench.roots.kept(&bench.ram, 0x11000)
 }
 
-/// What is done, or what is kept for the page and whether it may be written.
+/// Whether the page may be written.
+fn may_write(bench: &Bench) -> bool
+    requires { ∥ IsRoots (pairs_of bench.now.roots) bench.now.ram ∥₁ }
+{
+    bench
+        .roots
+        .adequate(&bench.ram, Side::Kernel, 0x11000, true)
+}
+
+/// What is done, or what is kept for the page, whether anything is and whether it may be written, and how many frames
+/// are free.
 #[derive(Clone, Copy)]
 enum Step {
     Fill(u32),
@@ -132,7 +139,9 @@ enum Step {
     Go(u32),
     Written(u32),
     Keeps(u32),
+    KeepsAny(bool),
     MayWrite(bool),
+    Free(u32),
 }
 
 /// Whether that is seen.
@@ -140,13 +149,15 @@ fn sees(bench: &Bench, step: Step) -> bool
     requires { ∥ IsRoots (pairs_of bench.now.roots) bench.now.ram ∥₁ }
 {
     match step {
-        Step::Keeps(frame) => seen(bench).0 == Some(entry(frame)),
-        Step::MayWrite(may) => seen(bench).1 == may,
+        Step::Keeps(frame) => kept(bench) == Some(entry(frame)),
+        Step::KeepsAny(any) => kept(bench).is_some() == any,
+        Step::MayWrite(may) => may_write(bench) == may,
+        Step::Free(frames) => bench.pool.free() == frames,
         _ => false,
     }
 }
 
-fn did(rt: &impl Abort, bench: Bench, k: usize, step: Step) -> Bench
+fn did(rt: &impl Abort, shown: &str, bench: Bench, k: usize, step: Step) -> Bench
     requires stands { ∥ IsRoots (pairs_of bench.roots) bench.ram ∥₁ }
     requires owns { Owns bench.pool bench.ram (frames_of (pairs_of bench.roots) bench.ram) }
     ensures stands { ∥ IsRoots (pairs_of result.roots) result.ram ∥₁ }
@@ -157,14 +168,14 @@ fn did(rt: &impl Abort, bench: Bench, k: usize, step: Step) -> Bench
         Step::Note(frame) => note(rt, bench, frame),
         Step::Go(cr3) => go(rt, bench, cr3),
         Step::Written(frame) => written(bench, frame),
-        kept => {
-            assert!(rt; sees(&bench, kept), "step {k}");
+        seen => {
+            comes_so(rt, shown, k, sees(&bench, seen));
             bench
         }
     }
 }
 
-fn follow(rt: &impl Abort, bench: Bench, steps: &[Step]) -> Bench
+fn follow(rt: &impl Abort, shown: &str, bench: Bench, steps: &[Step]) -> Bench
     requires stands { ∥ IsRoots (pairs_of bench.roots) bench.ram ∥₁ }
     requires owns { Owns bench.pool bench.ram (frames_of (pairs_of bench.roots) bench.ram) }
     ensures stands { ∥ IsRoots (pairs_of result.roots) result.ram ∥₁ }
@@ -173,10 +184,15 @@ fn follow(rt: &impl Abort, bench: Bench, steps: &[Step]) -> Bench
     let mut bench = bench;
     let mut k = 0usize;
     for row in steps {
-        bench = did(rt, bench, k, *row);
+        bench = did(rt, shown, bench, k, *row);
         k = k.wrapping_add(1);
     }
     bench
+}
+
+/// The steps, from the beginning.
+fn show(rt: &impl Abort, alloc: Global, shown: &str, steps: &[Step]) {
+    let _ = follow(rt, shown, begin(rt, alloc), steps);
 }
 
 const BACK: [Step; 11] = [
@@ -196,31 +212,47 @@ const BACK: [Step; 11] = [
 // An entry comes back with its value of CR3, unless a frame that its tables were read from was written.
 #[test]
 fn brings_entries_back_until_a_table_is_written(rt: HostRuntime) {
-    let bench = begin(&rt, rt.alloc());
-    let _ = follow(&rt, bench, &BACK);
+    show(&rt, rt.alloc(), "back", &BACK);
 }
 
-/// Whether that is so behind so many other values.
-fn is_place_taken(others: u32, kept: bool, free: u32) -> bool {
-    if others == 7 {
-        kept && free == 47
-    } else {
-        !kept && free == 48
-    }
-}
+/// Seven other values between.
+const SEVEN: [Step; 12] = [
+    Step::Go(0x2000),
+    Step::Fill(0x20),
+    Step::Go(0x3000),
+    Step::Go(0x4000),
+    Step::Go(0x5000),
+    Step::Go(0x6000),
+    Step::Go(0x7000),
+    Step::Go(0x8000),
+    Step::Go(0x9000),
+    Step::Go(0x2000),
+    Step::KeepsAny(true),
+    Step::Free(47),
+];
+
+/// Eight others.
+const EIGHT: [Step; 13] = [
+    Step::Go(0x2000),
+    Step::Fill(0x20),
+    Step::Go(0x3000),
+    Step::Go(0x4000),
+    Step::Go(0x5000),
+    Step::Go(0x6000),
+    Step::Go(0x7000),
+    Step::Go(0x8000),
+    Step::Go(0x9000),
+    Step::Go(0xA000),
+    Step::Go(0x2000),
+    Step::KeepsAny(false),
+    Step::Free(48),
+];
 
 // A ninth value takes the place of the first, and an eighth does not. Eight pairs hold 16 frames and a table.
 #[test]
 fn keeps_eight_values(rt: HostRuntime) {
-    for others in 7..9 {
-        let mut bench = fill(&rt, go(&rt, begin(&rt, rt.alloc()), 0x2000), 0x20);
-        for k in 0..others {
-            bench = go(&rt, bench, 0x3000 + 0x1000 * k);
-        }
-        let bench = go(&rt, bench, 0x2000);
-        let kept = seen(&bench).0.is_some();
-        assert!(rt; is_place_taken(others, kept, bench.pool.free()), "{others}");
-    }
+    show(&rt, rt.alloc(), "seven others", &SEVEN);
+    show(&rt, rt.alloc(), "eight others", &EIGHT);
 }
 
 const BARRED: [Step; 13] = [
@@ -242,8 +274,7 @@ const BARRED: [Step; 13] = [
 // No page of a frame that any pair reads as a table is writable.
 #[test]
 fn bars_writes_to_tables_of_all_pairs(rt: HostRuntime) {
-    let bench = begin(&rt, rt.alloc());
-    let _ = follow(&rt, bench, &BARRED);
+    show(&rt, rt.alloc(), "barred", &BARRED);
 }
 
 /// A fill that the present pair's tables don't bar, in a kernel's view.
@@ -258,22 +289,39 @@ fn filled(frame: u32) -> RootsCall
 /// frames are free then.
 type Told = (Option<Entry>, bool, usize, u32);
 
+/// What is told of these calls over a memory and its pool.
+fn replayed(
+    rt: &impl Abort,
+    alloc: Global,
+    ram: &mut Ram,
+    pool: &mut Pool,
+    calls: &[RootsCall],
+) -> Told
+    requires stands { Stands pool.old ram.old }
+    requires free { 2 ≤ length (free_list pool.old ram.old) }
+    requires fit { AreFitCalls calls.now }
+{
+    let after = replay(alloc, ram, pool, 0x1000, calls).expect(rt, "memory");
+    (
+        after.roots.kept(ram, 0x11000),
+        after.roots.adequate(ram, Side::Kernel, 0x11000, true),
+        after.count,
+        pool.free(),
+    )
+}
+
 /// What is told of these calls over a pool of so many frames.
 fn told(rt: &impl Abort, alloc: Global, frames: u32, calls: &[RootsCall]) -> Told
     requires fit { AreFitCalls calls.now }
     requires frames { 2 ≤ frames × frames ≤ 64 }
 {
-    let mut ram = Ram::new(alloc, 128).expect(rt, "memory");
-    assert!(rt; ram.len() == 524288);
-    let mut pool = Pool::new(&mut ram, 64, frames);
-    assert!(rt; pool.free() >= 2);
-    let after = replay(alloc, &mut ram, &mut pool, 0x1000, calls).expect(rt, "memory");
-    (
-        after.roots.kept(&ram, 0x11000),
-        after.roots.adequate(&ram, Side::Kernel, 0x11000, true),
-        after.count,
-        pool.free(),
-    )
+    let mut ram = ram_of(rt, alloc, 128);
+    let mut pool = pool_of(rt, &mut ram, 64, frames);
+    replayed(rt, alloc, &mut ram, &mut pool, calls)
+}
+
+fn is_told(told: &Told, want: &Told) -> bool {
+    told == want
 }
 
 /// These calls are told so.
@@ -281,7 +329,8 @@ fn are_told(rt: &impl Abort, alloc: Global, frames: u32, calls: &[RootsCall], wa
     requires fit { AreFitCalls calls.now }
     requires frames { 2 ≤ frames × frames ≤ 64 }
 {
-    assert!(rt; told(rt, alloc, frames, calls) == want);
+    let told = told(rt, alloc, frames, calls);
+    is_so(rt, "what is told", is_told(&told, &want));
 }
 
 // As calls of a list. A write to a frame that was noted, by whichever pair, is not adequate until the frame was written

@@ -1,5 +1,6 @@
 //! The 16550 by its data sheet and the profile.
 
+use crate::asked::comes_so;
 use ia32_types::Did;
 use std::process::Abort;
 use uart16550::Uart;
@@ -14,7 +15,7 @@ enum Step {
 }
 
 /// Whether a step comes to what it says.
-fn holds(uart: &mut Uart, step: Step) -> bool {
+fn does(uart: &mut Uart, step: Step) -> bool {
     match step {
         Step::Receive(v) => {
             uart.receive(v);
@@ -26,9 +27,9 @@ fn holds(uart: &mut Uart, step: Step) -> bool {
     }
 }
 
-fn follow(rt: &impl Abort, uart: &mut Uart, steps: &[Step]) {
+fn follow(rt: &impl Abort, shown: &str, uart: &mut Uart, steps: &[Step]) {
     for (k, step) in steps.iter().enumerate() {
-        assert!(rt; holds(uart, *step), "step {k}");
+        comes_so(rt, shown, k, does(uart, *step));
     }
 }
 
@@ -38,26 +39,40 @@ const NO_MORE: [Step; 3] = [
     Step::Read(0x3F8, 0),
 ];
 
-/// Sixteen of seventeen bytes are received, whatever was written to the register of the buffers.
-fn receive_sixteen(rt: &impl Abort, enabled: u8) {
-    let mut uart = Uart::new();
+/// Enables the receiver's interrupt, and writes that to the register of the buffers.
+fn enable(rt: &impl Abort, uart: &mut Uart, buffers: u8) {
     let begin = [
         Step::Write(0x3F9, 1, Did::Done),
-        Step::Write(0x3FA, enabled, Did::Done),
+        Step::Write(0x3FA, buffers, Did::Done),
     ];
-    follow(rt, &mut uart, &begin);
+    follow(rt, "the beginning", uart, &begin);
+}
+
+fn receive_seventeen(uart: &mut Uart) {
     for v in 0x41..0x52 {
         uart.receive(v);
     }
+}
+
+/// A received byte is there, and is read.
+fn read_received(rt: &impl Abort, uart: &mut Uart, v: u8) {
+    let received = [
+        Step::Read(0x3FD, 0x61),
+        Step::Read(0x3FA, 4),
+        Step::Read(0x3F8, v),
+    ];
+    follow(rt, "a byte", uart, &received);
+}
+
+/// Sixteen of seventeen bytes are received, whatever was written to the register of the buffers.
+fn receive_sixteen(rt: &impl Abort, enabled: u8) {
+    let mut uart = Uart::new();
+    enable(rt, &mut uart, enabled);
+    receive_seventeen(&mut uart);
     for v in 0x41..0x51 {
-        let received = [
-            Step::Read(0x3FD, 0x61),
-            Step::Read(0x3FA, 4),
-            Step::Read(0x3F8, v),
-        ];
-        follow(rt, &mut uart, &received);
+        read_received(rt, &mut uart, v);
     }
-    follow(rt, &mut uart, &NO_MORE);
+    follow(rt, "no more", &mut uart, &NO_MORE);
 }
 
 #[test]
@@ -103,5 +118,5 @@ const REGISTERS: [Step; 28] = [
 
 #[test]
 fn registers_are_kept_shown_and_refused(rt: HostRuntime) {
-    follow(&rt, &mut Uart::new(), &REGISTERS);
+    follow(&rt, "registers", &mut Uart::new(), &REGISTERS);
 }

@@ -1,10 +1,13 @@
 //! Shadow tables, against a plain map.
 
-ghost use Rattle.std.specs.Prelude.{◌≡◌, ◌<◌, ◌≤◌, ◌^◌, length};
+ghost use Rattle.std.specs.Prelude.{◌≡◌, ◌+◌, ◌<◌, ◌≤◌, ◌^◌};
 ghost use Rattle.shadow_tables.specs.Calls.{IsFit};
 ghost use Rattle.shadow_tables.specs.Slots.{held, IsShadow};
 ghost use Rattle.frame_pool.specs.Held.{Owns};
 
+use crate::asked::{comes_so, given, is_so};
+use crate::memory::ram_of;
+use crate::pool::pool_of;
 use frame_pool::Pool;
 use guest_ram::Ram;
 use paging::Entry;
@@ -32,14 +35,14 @@ struct Bench {
     shadow: Shadow,
 }
 
-/// An empty shadow over a pool of 12 frames.
-fn begin(rt: &impl Abort, alloc: Global) -> Bench
+/// An empty shadow over a pool of the frames from one on, of so many.
+fn begin(rt: &impl Abort, alloc: Global, first: u32, frames: u32) -> Bench
+    requires { first + 2 ≤ frames × frames ≤ 64 }
     ensures shadow { IsShadow result.shadow result.ram }
     ensures owns { Owns result.pool result.ram (held result.shadow result.ram) }
 {
-    let mut ram = Ram::new(alloc, 16).expect(rt, "memory");
-    assert!(rt; ram.len() == 65536);
-    let mut pool = Pool::new(&mut ram, 4, 12);
+    let mut ram = ram_of(rt, alloc, frames);
+    let mut pool = pool_of(rt, &mut ram, first, frames - first);
     let shadow = Shadow::new(&mut ram, &mut pool);
     Bench { ram, pool, shadow }
 }
@@ -66,8 +69,9 @@ fn fill(rt: &impl Abort, bench: Bench, side: Side, entry: Entry, wp: bool) -> Be
         mut pool,
         mut shadow,
     } = bench;
-    assert!(rt; pool.free() >= 1);
-    assert!(rt; entry.page < 0x10_0000 && entry.frame < 0x10_0000);
+    given(rt, "one is free", pool.free() >= 1);
+    given(rt, "a page", entry.page < 0x10_0000);
+    given(rt, "a frame", entry.frame < 0x10_0000);
     shadow.fill(&mut ram, &mut pool, side, entry, wp);
     Bench { ram, pool, shadow }
 }
@@ -113,7 +117,7 @@ fn did(rt: &impl Abort, bench: Bench, k: usize, step: Step) -> Bench
         }
         Step::DropAll => emptied(bench),
         seen => {
-            assert!(rt; sees(&bench, seen), "step {k}");
+            comes_so(rt, "views", k, sees(&bench, seen));
             bench
         }
     }
@@ -158,8 +162,7 @@ const VIEWS: [Step; 17] = [
 // writes where the entry is not writable exactly if `wp` is false.
 #[test]
 fn holds_a_page_in_one_view(rt: HostRuntime) {
-    let bench = begin(&rt, rt.alloc());
-    let _ = do_all(&rt, bench, &VIEWS);
+    let _ = do_all(&rt, begin(&rt, rt.alloc(), 4, 16), &VIEWS);
 }
 
 // What a plain map keeps for a page.
@@ -183,6 +186,27 @@ fn next(seed: u32) -> u32 {
     seed.wrapping_mul(1664525).wrapping_add(1013904223)
 }
 
+fn side_of(kind: u32) -> Side {
+    if kind % 2 == 0 {
+        Side::Kernel
+    } else {
+        Side::User
+    }
+}
+
+fn entry_of(page: u32, n: u32) -> Entry
+    ensures page { result.page ≡ page }
+    ensures frame { result.frame < 2 ^ 20 }
+{
+    Entry {
+        page,
+        frame: n % 0x10_0000,
+        user: n / 0x1000 % 2 == 0,
+        write: n / 0x2000 % 2 == 0,
+        dirty: n / 0x4000 % 2 == 0,
+    }
+}
+
 fn call_of(n: u32) -> Call
     ensures { IsFit result }
 {
@@ -193,66 +217,43 @@ fn call_of(n: u32) -> Call
         3 => Call::DropDir(page / 1024),
         4 => Call::Note(n % 16384),
         5 => Call::Written(n % 16384),
-        kind => Call::Fill(
-            if kind % 2 == 0 {
-                Side::Kernel
-            } else {
-                Side::User
-            },
-            Entry {
-                page,
-                frame: n % 0x10_0000,
-                user: n / 0x1000 % 2 == 0,
-                write: n / 0x2000 % 2 == 0,
-                dirty: n / 0x4000 % 2 == 0,
-            },
-            n / 0x8000 % 2 == 0,
-        ),
+        kind => Call::Fill(side_of(kind), entry_of(page, n), n / 0x8000 % 2 == 0),
+    }
+}
+
+/// What is kept of a page after a call.
+fn after(kept: Option<Plain>, call: Call, page: u32) -> Option<Plain> {
+    match call {
+        Call::DropAll => None,
+        Call::DropPage(dropped) if dropped == page => None,
+        Call::DropDir(index) if page / 1024 == index => None,
+        Call::Fill(side, entry, wp) if entry.page == page => Some(Plain { side, entry, wp }),
+        _ => kept,
     }
 }
 
 fn follow(plain: &mut [Option<Plain>; 8], call: Call) {
     for (k, kept) in plain.iter_mut().enumerate() {
-        match call {
-            Call::DropAll => *kept = None,
-            Call::DropPage(page) => {
-                if page == page_of(k as u32) {
-                    *kept = None;
-                }
-            }
-            Call::DropDir(index) => {
-                if page_of(k as u32) / 1024 == index {
-                    *kept = None;
-                }
-            }
-            Call::Fill(side, entry, wp) => {
-                if entry.page == page_of(k as u32) {
-                    *kept = Some(Plain { side, entry, wp });
-                }
-            }
-            Call::Note(_) | Call::Written(_) => {}
-        }
+        *kept = after(*kept, call, page_of(k as u32));
     }
+}
+
+/// Whether what is kept lets an access pass.
+fn lets(kept: &Plain, kernel: bool, write: bool) -> bool {
+    let entry = &kept.entry;
+    let may_write = entry.dirty && (entry.write || kernel && !kept.wp);
+    (entry.user || kernel) && (!write || may_write)
 }
 
 fn passes(kept: Option<Plain>, side: Side, write: bool) -> bool {
     match kept {
         None => false,
-        Some(
-            Plain {
-                side: held,
-                entry,
-                wp,
-            },
-        ) => {
-            let may_write = entry.dirty && (entry.write || side == Side::Kernel && !wp);
-            held == side && (entry.user || side == Side::Kernel) && (!write || may_write)
-        }
+        Some(kept) => kept.side == side && lets(&kept, side == Side::Kernel, write),
     }
 }
 
 // One view lets the same pass.
-fn is_so(shadow: &Shadow, ram: &Ram, page: u32, side: Side, kept: Option<Plain>) -> bool
+fn agrees_in(shadow: &Shadow, ram: &Ram, page: u32, side: Side, kept: Option<Plain>) -> bool
     requires shadow { IsShadow shadow.now ram.now }
     requires page { page < 2 ^ 20 }
 {
@@ -269,8 +270,8 @@ fn agrees(shadow: &Shadow, ram: &Ram, page: u32, kept: Option<Plain>) -> bool
         Some(kept) => Some(kept.entry),
     };
     shadow.kept(ram, page) == entry
-        && is_so(shadow, ram, page, Side::Kernel, kept)
-        && is_so(shadow, ram, page, Side::User, kept)
+        && agrees_in(shadow, ram, page, Side::Kernel, kept)
+        && agrees_in(shadow, ram, page, Side::User, kept)
 }
 
 fn agree(shadow: &Shadow, ram: &Ram, plain: &[Option<Plain>; 8]) -> bool
@@ -284,21 +285,61 @@ fn agree(shadow: &Shadow, ram: &Ram, plain: &[Option<Plain>; 8]) -> bool
     true
 }
 
-#[test]
-fn keeps_what_a_plain_map_keeps(rt: HostRuntime) {
-    let mut ram = Ram::new(rt.alloc(), 40).expect(&rt, "memory");
-    assert!(rt; ram.len() == 163840);
-    let mut pool = Pool::new(&mut ram, 8, 32);
-    let mut shadow = Shadow::new(&mut ram, &mut pool);
+/// Whether a call is done.
+fn replay_one(ram: &mut Ram, pool: &mut Pool, shadow: &mut Shadow, call: Call) -> bool
+    requires shadow { IsShadow shadow.old ram.old }
+    requires owns { Owns pool.old ram.old (held shadow.old ram.old) }
+    requires fit { IsFit call }
+    ensures shadow { IsShadow shadow.new ram.new }
+    ensures owns { Owns pool.new ram.new (held shadow.new ram.new) }
+{
+    let done = replay(shadow, ram, pool, &[call]);
+    done == 1
+}
+
+/// Whether a call is done, and what is kept behind it is what the plain map keeps.
+fn is_kept(
+    ram: &mut Ram,
+    pool: &mut Pool,
+    shadow: &mut Shadow,
+    plain: &mut [Option<Plain>; 8],
+    call: Call,
+) -> bool
+    requires shadow { IsShadow shadow.old ram.old }
+    requires owns { Owns pool.old ram.old (held shadow.old ram.old) }
+    requires fit { IsFit call }
+    ensures shadow { IsShadow shadow.new ram.new }
+    ensures owns { Owns pool.new ram.new (held shadow.new ram.new) }
+{
+    let done = replay_one(ram, pool, shadow, call);
+    follow(plain, call);
+    done && agree(shadow, ram, plain)
+}
+
+/// Each of 200 calls is.
+fn are_kept(rt: &impl Abort, ram: &mut Ram, pool: &mut Pool, shadow: &mut Shadow)
+    requires shadow { IsShadow shadow.old ram.old }
+    requires owns { Owns pool.old ram.old (held shadow.old ram.old) }
+    ensures shadow { IsShadow shadow.new ram.new }
+    ensures owns { Owns pool.new ram.new (held shadow.new ram.new) }
+{
     let mut plain = [None; 8];
     let mut seed = 1;
-    for step in 0..200 {
+    for step in 0..200usize {
         seed = next(seed);
-        let call = call_of(seed);
-        let done = replay(&mut shadow, &mut ram, &mut pool, &[call]);
-        follow(&mut plain, call);
-        assert!(rt; done == 1 && agree(&shadow, &ram, &plain), "step {step}");
+        let kept = is_kept(ram, pool, shadow, &mut plain, call_of(seed));
+        comes_so(rt, "a plain map", step, kept);
     }
+}
+
+#[test]
+fn keeps_what_a_plain_map_keeps(rt: HostRuntime) {
+    let Bench {
+        mut ram,
+        mut pool,
+        mut shadow,
+    } = begin(&rt, rt.alloc(), 8, 40);
+    are_kept(&rt, &mut ram, &mut pool, &mut shadow);
     shadow.drop_all(&mut ram, &mut pool);
-    assert!(rt; pool.free() == 30);
+    is_so(&rt, "all but two are free", pool.free() == 30);
 }

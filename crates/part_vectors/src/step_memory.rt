@@ -7,6 +7,9 @@ ghost use Rattle.frame_pool.specs.Pool.{base_of};
 ghost use Rattle.paging.specs.declared.entry.Touch.TheVariants.{Ready};
 ghost use Rattle.shadow_tables.specs.Entries.{entries_of};
 
+use crate::asked::{given, is_so};
+use crate::memory::ram_of;
+use crate::pool::pool_of;
 use descriptors::{Cpu, Hidden, Table, Task};
 use frame_pool::Pool;
 use guest_ram::Ram;
@@ -93,6 +96,13 @@ fn is_ready(met: &Touch) -> bool
     }
 }
 
+/// The access is ready.
+fn ready(rt: &impl Abort, met: &Touch)
+    ensures { met.now ≡ Ready }
+{
+    given(rt, "ready", is_ready(met));
+}
+
 const READ: Access = Access {
     write: false,
     user: false,
@@ -107,13 +117,18 @@ const WRITE: Access = Access {
 fn reach_operands<M: GuestMem>(rt: &impl Abort, memory: &mut M)
     requires { (M.space memory.old).pages ≤ 58 }
 {
-    let touched = memory.touch(SOURCE, 4, READ);
-    assert!(rt; is_ready(&touched));
-    let touched = memory.touch(DATA, 4, WRITE);
-    assert!(rt; is_ready(&touched));
-    assert!(rt; memory.load(DATA, Size::Long) == 0x1122_3344);
-    assert!(rt; memory.load_earlier(SOURCE, Size::Long) == 0x5566);
+    ready(rt, &memory.touch(SOURCE, 4, READ));
+    ready(rt, &memory.touch(DATA, 4, WRITE));
+    let loaded = memory.load(DATA, Size::Long);
+    is_so(rt, "the operand", loaded == 0x1122_3344);
+    let loaded = memory.load_earlier(SOURCE, Size::Long);
+    is_so(rt, "the one before", loaded == 0x5566);
     memory.save(DATA, Size::Word, 0x5566);
+}
+
+/// The step used so many entries.
+fn used(rt: &impl Abort, entries: u32, told: Option<u32>) {
+    is_so(rt, "entries", told == Some(entries));
 }
 
 /// The instruction is fetched from two pages, the second behind the first, then its operands are reached. The next step only
@@ -125,37 +140,33 @@ fn step<S: Shadows>(rt: &impl Abort, ram: &mut Ram, pool: &mut Pool, shadows: &m
     requires none { entries_of (S.slots shadows.old ram.old) ≡ empty }
 {
     let mut memory = WedgeMem::new(ram, pool, shadows, &processor(), FRAMES, 0x4000, 2);
-    let fetched = memory.fetch(CODE, 2, false);
-    assert!(rt; is_ready(&fetched));
+    ready(rt, &memory.fetch(CODE, 2, false));
     memory.own(CODE, 2);
-    let fetched = memory.fetch(SECOND_PAGE, 2, false);
-    assert!(rt; is_ready(&fetched));
+    ready(rt, &memory.fetch(SECOND_PAGE, 2, false));
     memory.own(CODE, 4);
     reach_operands(rt, &mut memory);
-    assert!(rt; memory.finish(Side::Kernel) == Some(3));
-    let touched = memory.touch(SOURCE, 4, READ);
-    assert!(rt; is_ready(&touched));
-    assert!(rt; memory.finish(Side::Kernel) == Some(1));
-    assert!(rt; memory.finish(Side::Kernel) == Some(0));
+    used(rt, 3, memory.finish(Side::Kernel));
+    ready(rt, &memory.touch(SOURCE, 4, READ));
+    used(rt, 1, memory.finish(Side::Kernel));
+    used(rt, 0, memory.finish(Side::Kernel));
 }
 
 /// What the step left in memory: its write, and the flags that its walks set. Intel SDM volume 3, 32-bit paging: A is bit 5
 /// and D bit 6.
 fn check(rt: &impl Abort, ram: &Ram) {
-    assert!(rt; ram.len() == 131072);
-    assert!(rt; ram.read32(PLACE) == 0x1122_5566);
-    assert!(rt; ram.read32(0x1100) == 0x2027);
-    assert!(rt; ram.read32(0x2000) == 0x4027);
-    assert!(rt; ram.read32(0x2004) == 0x5027);
-    assert!(rt; ram.read32(0x1114) == 0x3027);
-    assert!(rt; ram.read32(0x3000) == 0x6067);
+    given(rt, "its length", ram.len() == 131072);
+    is_so(rt, "what it wrote", ram.read32(PLACE) == 0x1122_5566);
+    is_so(rt, "table of the text", ram.read32(0x1100) == 0x2027);
+    is_so(rt, "page of the text", ram.read32(0x2000) == 0x4027);
+    is_so(rt, "second page", ram.read32(0x2004) == 0x5027);
+    is_so(rt, "table of the data", ram.read32(0x1114) == 0x3027);
+    is_so(rt, "page of the data", ram.read32(0x3000) == 0x6067);
 }
 
 fn memory(rt: &impl Abort, alloc: Global) -> Ram
     ensures { length result ≡ 131072 }
 {
-    let mut ram = Ram::new(alloc, 32).expect(rt, "memory");
-    assert!(rt; ram.len() == 131072);
+    let mut ram = ram_of(rt, alloc, 32);
     put_tables(&mut ram);
     ram
 }
@@ -163,7 +174,7 @@ fn memory(rt: &impl Abort, alloc: Global) -> Ram
 #[test]
 fn step_over_one_pair_of_views(rt: HostRuntime) {
     let mut ram = memory(&rt, rt.alloc());
-    let mut pool = Pool::new(&mut ram, FRAMES, 16);
+    let mut pool = pool_of(&rt, &mut ram, FRAMES, 16);
     let mut shadow = Shadow::new(&mut ram, &mut pool);
     step(&rt, &mut ram, &mut pool, &mut shadow);
     check(&rt, &ram);
@@ -172,8 +183,7 @@ fn step_over_one_pair_of_views(rt: HostRuntime) {
 #[test]
 fn step_over_pairs_for_several_values(rt: HostRuntime) {
     let mut ram = memory(&rt, rt.alloc());
-    let mut pool = Pool::new(&mut ram, FRAMES, 16);
-    assert!(rt; pool.free() >= 2);
+    let mut pool = pool_of(&rt, &mut ram, FRAMES, 16);
     let mut roots = Roots::new(rt.alloc(), &mut ram, &mut pool, 0x1000).expect(&rt, "memory");
     step(&rt, &mut ram, &mut pool, &mut roots);
     check(&rt, &ram);

@@ -1,5 +1,6 @@
 //! The 8254 by its data sheet and the profile.
 
+use crate::asked::{comes_so, holds};
 use ia32_types::Did;
 use pit8254::Pit;
 use std::process::Abort;
@@ -40,7 +41,7 @@ fn is_counted(row: &Counted) -> bool {
 #[test]
 fn a_count_is_eight_steps_a_tick(rt: HostRuntime) {
     for (k, row) in COUNTS.iter().enumerate() {
-        assert!(rt; is_counted(row), "row {k}");
+        holds(&rt, k, is_counted(row));
     }
 }
 
@@ -52,7 +53,7 @@ enum Step {
 }
 
 /// Whether a step comes to what it says.
-fn holds(pit: &mut Pit, step: &Step) -> bool {
+fn does(pit: &mut Pit, step: &Step) -> bool {
     match *step {
         Step::Write(port, v, did) => pit.write(port, v) == did,
         Step::Left(steps) => pit.left() == steps,
@@ -63,7 +64,7 @@ fn holds(pit: &mut Pit, step: &Step) -> bool {
 fn follow(rt: &impl Abort, shown: &str, steps: &[Step]) {
     let mut pit = Pit::new();
     for (k, step) in steps.iter().enumerate() {
-        assert!(rt; holds(&mut pit, step), "{shown}: step {k}");
+        comes_so(rt, shown, k, does(&mut pit, step));
     }
 }
 

@@ -1,6 +1,6 @@
 use Rattle.frame_pool.specs.Held.{Owns}
 use Rattle.shadow_tables.specs.Slots.{held, IsShadow}
-use Rattle.part_vectors.proofs.shadows.keeps_what_a_plain_map_keeps.Given as goal
+use Rattle.part_vectors.proofs.shadows.are_kept.Given as goal
 
 abbrev pub invariant-loop-step : goal.invariant-loop-step
 invariant-loop-step g l = record {
