@@ -1,7 +1,8 @@
 //! What `prove` stores and prints is judged yes by `replay`, and what else is given to it is refused or told by its place.
 
 use crate::commands::{
-    add, answer, are_same, built, byte_in, is_so, joined, number_in, place_in, split, store,
+    answer, are_same, built, byte_in, cut, digits, holds, is_so, joined, number_in, place_in,
+    split, store, text_of,
 };
 use crate::sessions::follow_over;
 use pv_io::MemFiles;
@@ -68,146 +69,210 @@ const SPOILED: &str = "\
 fn with_entry(rt: &impl Abort, alloc: Global, entry: &str) -> Vec<u8> {
     let (step, rest) = split(rt, entry);
     let (page, kind) = split(rt, rest);
-    let step = number_in(rt, step);
-    let page: u32 = page.parse().expect(rt, "a page");
-    let kind = byte_in(rt, kind);
-    let mut bytes = joined(rt, alloc, &[b"PVT1\x01\x00\x00\x00"]);
-    add(rt, &mut bytes, &step.to_le_bytes());
-    add(rt, &mut bytes, &page.to_le_bytes());
-    add(rt, &mut bytes, &[kind, 0, 0, 0]);
-    bytes
+    let step = number_in(rt, step).to_le_bytes();
+    let page = number_in(rt, page).to_le_bytes();
+    let kind = [byte_in(rt, kind), 0, 0, 0];
+    joined(
+        rt,
+        alloc,
+        &[b"PVT1\x01\x00\x00\x00", &step, &page[..4], &kind],
+    )
 }
 
 /// The lines of a text.
 fn lines(rt: &impl Abort, alloc: Global, text: &str) -> Vec<u8> {
-    let mut bytes = Vec::new(alloc);
-    for line in text.split('/') {
-        add(rt, &mut bytes, line.as_bytes());
-        add(rt, &mut bytes, b"\n");
+    let mut bytes = joined(rt, alloc, &[text.as_bytes(), b"\n"]);
+    for byte in bytes.iter_mut() {
+        if *byte == b'/' {
+            *byte = b'\n';
+        }
     }
     bytes
 }
 
 /// What `replay` of eight steps comes to.
 fn replays(rt: &impl Abort, alloc: Global, files: &mut MemFiles, status: u8, told: &str) -> bool {
-    let (number, out) = answer(rt, alloc, files, "replay I B 2048 8 C T", &[]);
     let line = joined(rt, alloc, &[told.as_bytes(), b"\n"]);
-    number == status && are_same(out.bytes(), &line)
+    comes_to(rt, alloc, files, "replay I B 2048 8 C T", status, &line)
+}
+
+/// Whether a command comes to this status and prints these lines.
+fn comes_to(
+    rt: &impl Abort,
+    alloc: Global,
+    files: &mut MemFiles,
+    command: &str,
+    status: u8,
+    lines: &[u8],
+) -> bool {
+    let (number, out) = answer(rt, alloc, files, command, &[]);
+    number == status && are_same(out.bytes(), lines)
+}
+
+/// The text T has these lines from here on.
+fn store_text(rt: &impl Abort, alloc: Global, files: &mut MemFiles, text: &str) {
+    store(rt, files, "T", &lines(rt, alloc, text));
 }
 
 /// The kernel that sends a byte, its text, and a certificate of no entry.
 fn sent(rt: &impl Abort, alloc: Global) -> MemFiles {
     let mut files = built(rt, alloc, SENDS_A_BYTE.as_bytes());
     store(rt, &mut files, "C", b"PVT1\x00\x00\x00\x00");
-    let text = lines(rt, alloc, "2 out8 03f8 48/2 tx 48/end steps 8");
-    store(rt, &mut files, "T", &text);
+    store_text(rt, alloc, &mut files, "2 out8 03f8 48/2 tx 48/end steps 8");
     files
 }
 
 #[test]
 fn a_text_is_right_or_differs_at_a_line(rt: HostRuntime) {
-    let alloc = rt.alloc();
-    let mut files = sent(&rt, alloc);
+    let mut files = sent(&rt, rt.alloc());
     for line in TEXTS.lines() {
-        let (told, text) = line.split_once('|').expect(&rt, "a text");
-        let text = lines(&rt, alloc, text);
-        store(&rt, &mut files, "T", &text);
-        is_so(&rt, line, replays(&rt, alloc, &mut files, 0, told));
+        text_is_told(&rt, rt.alloc(), &mut files, line);
     }
+}
+
+/// What a line says is said of its text.
+fn text_is_told(rt: &impl Abort, alloc: Global, files: &mut MemFiles, line: &str) {
+    let (told, text) = cut(rt, line, '|');
+    store_text(rt, alloc, files, text);
+    is_so(rt, line, replays(rt, alloc, files, 0, told));
 }
 
 /// What is said of a text by each of these entries.
 fn are_told(rt: &impl Abort, alloc: Global, files: &mut MemFiles, entries: &str) {
     for line in entries.lines() {
-        let (told, entry) = line.split_once('|').expect(rt, "an entry");
-        let bytes = with_entry(rt, alloc, entry);
-        store(rt, files, "C", &bytes);
-        is_so(rt, line, replays(rt, alloc, files, 0, told));
+        entry_is_told(rt, alloc, files, line);
     }
+}
+
+/// What a line says is said of the text by its entry.
+fn entry_is_told(rt: &impl Abort, alloc: Global, files: &mut MemFiles, line: &str) {
+    let (told, entry) = cut(rt, line, '|');
+    store(rt, files, "C", &with_entry(rt, alloc, entry));
+    is_so(rt, line, replays(rt, alloc, files, 0, told));
 }
 
 #[test]
 fn an_entry_is_made_or_is_told(rt: HostRuntime) {
-    let alloc = rt.alloc();
-    are_told(&rt, alloc, &mut sent(&rt, alloc), ENTRIES);
+    are_told(&rt, rt.alloc(), &mut sent(&rt, rt.alloc()), ENTRIES);
 }
 
 #[test]
 fn a_large_page_is_added_once_it_was_walked(rt: HostRuntime) {
-    let alloc = rt.alloc();
-    let mut files = built(&rt, alloc, HAS_A_LARGE_PAGE.as_bytes());
-    let text = lines(&rt, alloc, "7 out32 0080 004000e3/end steps 8");
-    store(&rt, &mut files, "T", &text);
-    are_told(&rt, alloc, &mut files, LARGE_ENTRIES);
+    let mut files = built(&rt, rt.alloc(), HAS_A_LARGE_PAGE.as_bytes());
+    let text = "7 out32 0080 004000e3/end steps 8";
+    store_text(&rt, rt.alloc(), &mut files, text);
+    are_told(&rt, rt.alloc(), &mut files, LARGE_ENTRIES);
 }
 
 /// A certificate whose bytes are these is refused at this place.
 fn is_refused(rt: &impl Abort, alloc: Global, files: &mut MemFiles, bytes: &[u8], place: usize) {
     store(rt, files, "C", bytes);
-    let told = format!(in alloc; "refused 120 at {place}").expect(rt, "memory");
+    let told = text_of(rt, alloc, &["refused 120 at ", &digits(rt, alloc, place)]);
     is_so(rt, &told, replays(rt, alloc, files, 3, &told));
+}
+
+/// A certificate with one entry.
+fn with_one(rt: &impl Abort, alloc: Global) -> Vec<u8> {
+    let bytes = with_entry(rt, alloc, "3 65536 0");
+    holds(rt, 24, bytes.len() == 24);
+    bytes
 }
 
 #[test]
 fn a_cut_certificate_is_told_at_its_length(rt: HostRuntime) {
-    let alloc = rt.alloc();
-    let mut files = sent(&rt, alloc);
-    let bytes = with_entry(&rt, alloc, "3 65536 0");
-    assert!(rt; bytes.len() == 24);
-    for cut in 0..24 {
-        is_refused(&rt, alloc, &mut files, &bytes[..cut], cut);
+    let mut files = sent(&rt, rt.alloc());
+    let bytes = with_one(&rt, rt.alloc());
+    is_cut(&rt, rt.alloc(), &mut files, &bytes);
+    let longer = joined(&rt, rt.alloc(), &[&bytes, b"\x00"]);
+    is_refused(&rt, rt.alloc(), &mut files, &longer, 24);
+}
+
+/// A certificate with one entry is refused at each shorter length.
+fn is_cut(rt: &impl Abort, alloc: Global, files: &mut MemFiles, bytes: &[u8]) {
+    for len in 0..24 {
+        let shorter = bytes.get(..len).expect(rt, "short");
+        is_refused(rt, alloc, files, shorter, len);
     }
-    let longer = joined(&rt, alloc, &[&bytes, b"\x00"]);
-    is_refused(&rt, alloc, &mut files, &longer, 24);
 }
 
 #[test]
 fn a_spoiled_certificate_is_told_at_its_field(rt: HostRuntime) {
-    let alloc = rt.alloc();
-    let mut files = sent(&rt, alloc);
-    let bytes = with_entry(&rt, alloc, "3 65536 0");
-    assert!(rt; bytes.len() == 24);
+    let mut files = sent(&rt, rt.alloc());
+    let bytes = with_one(&rt, rt.alloc());
     for line in SPOILED.lines() {
-        let (at, place) = split(&rt, line);
-        let at = place_in(&rt, at);
-        let place = place_in(&rt, place);
-        assert!(rt; at < 24);
-        let spoiled = joined(&rt, alloc, &[&bytes[..at], b"\xFF", &bytes[at + 1..]]);
-        is_refused(&rt, alloc, &mut files, &spoiled, place);
+        is_spoiled(&rt, rt.alloc(), &mut files, &bytes, line);
     }
 }
 
+/// The certificate is refused as a line says.
+fn is_spoiled(rt: &impl Abort, alloc: Global, files: &mut MemFiles, bytes: &[u8], line: &str) {
+    let (at, place) = split(rt, line);
+    let spoiled = spoiled_at(rt, alloc, bytes, place_in(rt, at));
+    is_refused(rt, alloc, files, &spoiled, place_in(rt, place));
+}
+
+/// The bytes with 255 at a place.
+fn spoiled_at(rt: &impl Abort, alloc: Global, bytes: &[u8], at: usize) -> Vec<u8> {
+    let mut spoiled = joined(rt, alloc, &[bytes]);
+    *spoiled.get_mut(at).expect(rt, "a place") = 0xFF;
+    spoiled
+}
+
+/// What `prove` printed, without its last line, which tells of the certificate.
+fn trace_of(rt: &impl Abort, alloc: Global, printed: &[u8]) -> Vec<u8> {
+    let (trace, last) = trace_and_last(rt, printed);
+    is_so(rt, last, last.starts_with("certificate "));
+    is_so(rt, last, last.ends_with(" entries"));
+    joined(rt, alloc, &[trace.as_bytes(), b"\n"])
+}
+
+/// A printed text's last line, and what stands before it.
+fn trace_and_last<'a>(rt: &impl Abort, printed: &'a [u8]) -> (&'a str, &'a str) {
+    let printed = str::from_utf8(printed).expect(rt, "a text");
+    printed.trim_end().rsplit_once('\n').expect(rt, "two lines")
+}
+
+/// `prove` comes to a status, and its trace is T from here on.
+fn proves(rt: &impl Abort, alloc: Global, files: &mut MemFiles, bound: &str, status: u8) {
+    let command = text_of(rt, alloc, &["prove I B 2048 ", bound, " C"]);
+    let trace = printed_trace(rt, alloc, files, &command, status);
+    store(rt, files, "T", &trace);
+}
+
+/// The trace that the command prints that comes to this status.
+fn printed_trace(
+    rt: &impl Abort,
+    alloc: Global,
+    files: &mut MemFiles,
+    command: &str,
+    status: u8,
+) -> Vec<u8> {
+    let (number, out) = answer(rt, alloc, files, command, &[]);
+    is_so(rt, command, number == status);
+    trace_of(rt, alloc, out.bytes())
+}
+
+/// `replay` judges the trace T so by the certificate C.
+fn is_judged(rt: &impl Abort, alloc: Global, files: &mut MemFiles, bound: &str, told: &str) {
+    let command = text_of(rt, alloc, &["replay I B 2048 ", bound, " C T"]);
+    let told_so = comes_to(rt, alloc, files, &command, 0, told.as_bytes());
+    is_so(rt, told, told_so);
+}
+
 /// What `prove` prints without its last line is judged so by what it stores.
-fn is_proved(rt: &impl Abort, alloc: Global, source: &str, bound: u64, status: u8, told: &str) {
+fn is_proved(rt: &impl Abort, alloc: Global, source: &str, bound: &str, status: u8, told: &str) {
     let mut files = built(rt, alloc, source.as_bytes());
-    let command = format!(in alloc; "prove I B 2048 {bound} C").expect(rt, "memory");
-    let (number, out) = answer(rt, alloc, &mut files, &command, &[]);
-    is_so(rt, told, number == status);
-    let printed = str::from_utf8(out.bytes()).expect(rt, "a text");
-    let (trace, last) = printed.trim_end().rsplit_once('\n').expect(rt, "two lines");
-    is_so(
-        rt,
-        last,
-        last.starts_with("certificate ") && last.ends_with(" entries"),
-    );
-    let text = joined(rt, alloc, &[trace.as_bytes(), b"\n"]);
-    store(rt, &mut files, "T", &text);
-    let command = format!(in alloc; "replay I B 2048 {bound} C T").expect(rt, "memory");
-    let (number, out) = answer(rt, alloc, &mut files, &command, &[]);
-    is_so(
-        rt,
-        told,
-        number == 0 && are_same(out.bytes(), told.as_bytes()),
-    );
+    proves(rt, alloc, &mut files, bound, status);
+    is_judged(rt, alloc, &mut files, bound, told);
 }
 
 #[test]
 fn what_is_proved_is_judged_yes(rt: HostRuntime) {
     let alloc = rt.alloc();
-    is_proved(&rt, alloc, SENDS_A_BYTE, 8, 0, "yes\n");
-    is_proved(&rt, alloc, READS_ITS_TEXT, 8, 4, "yes before stop 9\n");
-    is_proved(&rt, alloc, GOES_OVER_FORTY_TABLES, 2000, 0, "yes\n");
-    is_proved(&rt, alloc, HAS_A_LARGE_PAGE, 13, 0, "yes\n");
+    is_proved(&rt, alloc, SENDS_A_BYTE, "8", 0, "yes\n");
+    is_proved(&rt, alloc, READS_ITS_TEXT, "8", 4, "yes before stop 9\n");
+    is_proved(&rt, alloc, GOES_OVER_FORTY_TABLES, "2000", 0, "yes\n");
+    is_proved(&rt, alloc, HAS_A_LARGE_PAGE, "13", 0, "yes\n");
 }
 
 #[test]

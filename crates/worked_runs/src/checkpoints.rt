@@ -1,8 +1,10 @@
 //! Kernels that are saved, go on from what was saved, and move between the machines.
 
 use crate::commands::{
-    add, answer, are_same, byte_in, file, holds, is_so, no_files, place_in, repeated, split, store,
+    add, answer, are_same, byte_in, cut, digits, fail_behind, file, holds, is_so, no_files,
+    place_in, repeated, split, store, text_of,
 };
+use crate::images::put_bytes;
 use crate::sessions::{follow, follow_over};
 use pv_io::MemFiles;
 use std::alloc::Global;
@@ -15,10 +17,7 @@ use worked_kernels::{
 /// Bytes in hexadecimal, one space between two.
 fn listed(rt: &impl Abort, alloc: Global, bytes: &str) -> Vec<u8> {
     let mut list = Vec::new(alloc);
-    for byte in bytes.split(' ') {
-        let byte = u8::from_str_radix(byte, 16).expect(rt, "a byte");
-        list.push(byte).expect(rt, "memory");
-    }
+    put_bytes(rt, &mut list, bytes);
     list
 }
 
@@ -76,8 +75,22 @@ fn what_is_saved_again_may_have_the_name_of_the_first(rt: HostRuntime) {
 fn refuses(rt: &impl Abort, alloc: Global, files: &mut MemFiles, bytes: &[u8], printed: &str) {
     store(rt, files, "D", bytes);
     let (number, out) = answer(rt, alloc, files, "continue --bare I B D 8", &[]);
-    is_so(rt, printed, number == 3);
-    is_so(rt, printed, are_same(out.bytes(), printed.as_bytes()));
+    let same = are_same(out.bytes(), printed.as_bytes());
+    is_so(rt, printed, number == 3 && same);
+}
+
+/// The same with another byte at an offset, which is there from here on.
+fn refuses_with(
+    rt: &impl Abort,
+    alloc: Global,
+    files: &mut MemFiles,
+    bytes: &mut Vec<u8>,
+    at: usize,
+    byte: u8,
+    printed: &str,
+) {
+    set(bytes, at, byte);
+    refuses(rt, alloc, files, bytes, printed);
 }
 
 /// A line has an offset, a value for its byte, and the place at which the file is refused with it. A field that is bad is told
@@ -93,10 +106,9 @@ fn is_spoiled(
     let (value, place) = split(rt, rest);
     let at = place_in(rt, at);
     let value = byte_in(rt, value);
-    let printed = format!(in alloc; "refused 110 at {place}\n").expect(rt, "memory");
+    let printed = text_of(rt, alloc, &["refused 110 at ", place, "\n"]);
     let before = bytes.get(at).copied().unwrap_or(0);
-    set(bytes, at, value);
-    refuses(rt, alloc, files, bytes, &printed);
+    refuses_with(rt, alloc, files, bytes, at, value, &printed);
     set(bytes, at, before);
 }
 
@@ -113,20 +125,31 @@ fn a_spoiled_file_is_refused_at_its_place(rt: HostRuntime) {
 /// One byte too many and one too few; another text; a field that is bad beside them comes first.
 #[test]
 fn a_file_of_another_length_or_text_is_refused(rt: HostRuntime) {
-    let alloc = rt.alloc();
-    let mut files = follow(&rt, alloc, IS_SAVED);
-    let mut bytes = file(&rt, alloc, &mut files, "C");
-    bytes.push(0).expect(&rt, "memory");
-    refuses(&rt, alloc, &mut files, &bytes, "refused 110 at 8388864\n");
+    let mut files = follow(&rt, rt.alloc(), IS_SAVED);
+    let mut bytes = file(&rt, rt.alloc(), &mut files, "C");
+    is_too_long(&rt, rt.alloc(), &mut files, &mut bytes);
+    is_refused_as_it_changes(&rt, rt.alloc(), &mut files, &mut bytes);
+}
+
+/// One byte too many, which is gone behind it.
+fn is_too_long(rt: &impl Abort, alloc: Global, files: &mut MemFiles, bytes: &mut Vec<u8>) {
+    bytes.push(0).expect(rt, "memory");
+    refuses(rt, alloc, files, bytes, "refused 110 at 8388864\n");
     let _ = bytes.pop();
-    set(&mut bytes, 8, 9);
-    refuses(&rt, alloc, &mut files, &bytes, "refused 113 at 8\n");
-    set(&mut bytes, 1_048_837, 7);
-    refuses(&rt, alloc, &mut files, &bytes, "refused 111 at 5\n");
+}
+
+/// Each change comes to those before it.
+fn is_refused_as_it_changes(
+    rt: &impl Abort,
+    alloc: Global,
+    files: &mut MemFiles,
+    bytes: &mut Vec<u8>,
+) {
+    refuses_with(rt, alloc, files, bytes, 8, 9, "refused 113 at 8\n");
+    refuses_with(rt, alloc, files, bytes, 1_048_837, 7, "refused 111 at 5\n");
     let _ = bytes.pop();
-    refuses(&rt, alloc, &mut files, &bytes, "refused 110 at 8388863\n");
-    set(&mut bytes, 112, 2);
-    refuses(&rt, alloc, &mut files, &bytes, "refused 110 at 112\n");
+    refuses(rt, alloc, files, bytes, "refused 110 at 8388863\n");
+    refuses_with(rt, alloc, files, bytes, 112, 2, "refused 110 at 112\n");
 }
 
 /// Of 1,791 pages, each a NOP and what fills it, and then so many NOPs.
@@ -146,38 +169,50 @@ fn loses_a_page(rt: &impl Abort, alloc: Global, files: &mut MemFiles, name: &str
 
 #[test]
 fn a_text_may_end_with_the_saved_memory_and_not_pass_it(rt: HostRuntime) {
-    let alloc = rt.alloc();
-    let mut files = no_files(&rt, alloc);
-    store(&rt, &mut files, "S", &long_source(&rt, alloc, 4094));
-    follow_over(&rt, alloc, &mut files, FILLS_MEMORY);
-    store(&rt, &mut files, "S", &long_source(&rt, alloc, 4095));
-    follow_over(&rt, alloc, &mut files, PASSES_MEMORY);
-    loses_a_page(&rt, alloc, &mut files, "D");
-    follow_over(&rt, alloc, &mut files, LACKS_A_BYTE);
+    let mut files = no_files(&rt, rt.alloc());
+    over_long_source(&rt, rt.alloc(), &mut files, 4094, FILLS_MEMORY);
+    over_long_source(&rt, rt.alloc(), &mut files, 4095, PASSES_MEMORY);
+    loses_a_page(&rt, rt.alloc(), &mut files, "D");
+    follow_over(&rt, rt.alloc(), &mut files, LACKS_A_BYTE);
+}
+
+/// A session over the source with so many NOPs at its end.
+fn over_long_source(
+    rt: &impl Abort,
+    alloc: Global,
+    files: &mut MemFiles,
+    nops: usize,
+    session: &str,
+) {
+    store(rt, files, "S", &long_source(rt, alloc, nops));
+    follow_over(rt, alloc, files, session);
 }
 
 /// Image, script, what was saved, where a run goes on from it, and then the store, which fails: what was printed before stands.
 #[test]
 fn a_store_that_fails_leaves_what_was_printed(rt: HostRuntime) {
     let mut files = follow(&rt, rt.alloc(), IS_SAVED);
-    let call = files.calls.wrapping_add(2);
-    files.fail.push(call).expect(&rt, "memory");
-    let (number, out) = answer(&rt, rt.alloc(), &mut files, "save --bare I B 2048 3 C", &[]);
-    assert_eq!(rt; number, 6);
-    holds(&rt, 0, are_same(out.bytes(), b"2 out8 03f8 48\n2 tx 48\n"));
-    let call = files.calls.wrapping_add(3);
-    files.fail.push(call).expect(&rt, "memory");
-    let (number, out) = answer(
-        &rt,
-        rt.alloc(),
-        &mut files,
-        "save --wedge I B from C 8 D",
-        &[],
-    );
-    assert_eq!(rt; number, 6);
-    holds(&rt, 1, out.bytes().is_empty());
-    assert_eq!(rt; files.store_faults, 2);
+    let (first, printed) = ("save --bare I B 2048 3 C", b"2 out8 03f8 48\n2 tx 48\n");
+    isnt_stored(&rt, rt.alloc(), &mut files, 2, first, printed);
+    let second = "save --wedge I B from C 8 D";
+    isnt_stored(&rt, rt.alloc(), &mut files, 3, second, b"");
+    holds(&rt, 2, files.store_faults == 2);
     follow_over(&rt, rt.alloc(), &mut files, "$ lost D\n");
+}
+
+/// The store of a command fails, which stands behind so many loads, and this was printed before.
+fn isnt_stored(
+    rt: &impl Abort,
+    alloc: Global,
+    files: &mut MemFiles,
+    loads: u64,
+    command: &str,
+    printed: &[u8],
+) {
+    fail_behind(rt, files, loads);
+    let (number, out) = answer(rt, alloc, files, command, &[]);
+    let same = are_same(out.bytes(), printed);
+    is_so(rt, command, number == 6 && same);
 }
 
 /// A kernel as a session tells it: what makes its image and its script, the bound of its runs, and what they print.
@@ -188,13 +223,17 @@ struct Told<'a> {
     printed: &'a str,
 }
 
+/// What is told behind so many other kernels of a session.
+fn text_behind<'a>(rt: &impl Abort, session: &'a str, behind: usize) -> &'a str {
+    let mut kernels = session.split("$ : ").skip(1);
+    kernels.nth(behind).expect(rt, "a kernel")
+}
+
 /// The kernel behind so many others of a session.
 fn kernel_behind<'a>(rt: &impl Abort, session: &'a str, behind: usize) -> Told<'a> {
-    let mut kernels = session.split("$ : ").skip(1);
-    let told = kernels.nth(behind).expect(rt, "a kernel");
-    let (_told, kernel) = told.split_once('\n').expect(rt, "a kernel");
+    let (_told, kernel) = cut(rt, text_behind(rt, session, behind), '\n');
     let (made, run) = kernel.split_once("$ runs 0 ").expect(rt, "a run");
-    let (bound, printed) = run.split_once('\n').expect(rt, "a text");
+    let (bound, printed) = cut(rt, run, '\n');
     Told {
         made,
         bound,
@@ -221,34 +260,83 @@ fn goes_on(
     text: &mut Vec<u8>,
 ) {
     let (number, out) = answer(rt, alloc, files, command, &[]);
-    let bytes = out.bytes();
+    is_so(rt, command, number == 0);
+    add_before(rt, command, text, out.bytes(), last);
+}
+
+/// What a command printed ends with that line, and what stands before it is put behind the text.
+fn add_before(rt: &impl Abort, command: &str, text: &mut Vec<u8>, bytes: &[u8], last: &str) {
     let len = bytes.len().saturating_sub(last.len());
-    is_so(
-        rt,
-        command,
-        number == 0 && are_same(&bytes[len..], last.as_bytes()),
-    );
+    is_so(rt, command, are_same(&bytes[len..], last.as_bytes()));
     add(rt, text, &bytes[..len]);
 }
 
-const MACHINES: [&str; 2] = ["--bare", "--wedge"];
+/// The machine of a move: they take turns, and the bare one is the first.
+fn machine_of(row: usize) -> &'static str {
+    if row % 2 == 0 { "--bare" } else { "--wedge" }
+}
 
-/// What a kernel prints that moves to the other machine behind each of these counts of steps.
+/// A command is done that saves behind so many steps, which it tells.
+fn saves(
+    rt: &impl Abort,
+    alloc: Global,
+    files: &mut MemFiles,
+    command: &str,
+    n: &str,
+    text: &mut Vec<u8>,
+) {
+    let line = text_of(rt, alloc, &["saved steps ", n, "\n"]);
+    goes_on(rt, alloc, files, command, &line, text);
+}
+
+/// The steps up to this count are a machine's, from what was saved.
+fn moves(
+    rt: &impl Abort,
+    alloc: Global,
+    files: &mut MemFiles,
+    machine: &str,
+    count: usize,
+    text: &mut Vec<u8>,
+) {
+    let n = digits(rt, alloc, count);
+    let command = text_of(rt, alloc, &["save ", machine, " I B from C ", &n, " C"]);
+    saves(rt, alloc, files, &command, &n, text);
+}
+
+/// The steps up to the bound are a machine's, from what was saved.
+fn ends(
+    rt: &impl Abort,
+    alloc: Global,
+    files: &mut MemFiles,
+    machine: &str,
+    bound: &str,
+    text: &mut Vec<u8>,
+) {
+    let command = text_of(rt, alloc, &["continue ", machine, " I B C ", bound]);
+    goes_on(rt, alloc, files, &command, "", text);
+}
+
+/// A kernel moves to the other machine behind each of these counts of steps.
+fn moves_at(
+    rt: &impl Abort,
+    alloc: Global,
+    files: &mut MemFiles,
+    counts: &[usize],
+    text: &mut Vec<u8>,
+) {
+    saves(rt, alloc, files, "save --bare I B 2048 0 C", "0", text);
+    for (k, n) in counts.iter().enumerate() {
+        moves(rt, alloc, files, machine_of(k), *n, text);
+    }
+}
+
+/// What a kernel prints that moves so.
 fn moved(rt: &impl Abort, alloc: Global, kernel: Told<'_>, counts: &[usize]) -> Vec<u8> {
     let mut files = follow(rt, alloc, kernel.made);
     let mut text = Vec::new(alloc);
-    let save = "save --bare I B 2048 0 C";
-    goes_on(rt, alloc, &mut files, save, "saved steps 0\n", &mut text);
-    for (k, n) in counts.iter().enumerate() {
-        let machine = MACHINES[k % 2];
-        let command = format!(in alloc; "save {machine} I B from C {n} C").expect(rt, "memory");
-        let line = format!(in alloc; "saved steps {n}\n").expect(rt, "memory");
-        goes_on(rt, alloc, &mut files, &command, &line, &mut text);
-    }
-    let machine = MACHINES[counts.len() % 2];
-    let bound = kernel.bound;
-    let command = format!(in alloc; "continue {machine} I B C {bound}").expect(rt, "memory");
-    goes_on(rt, alloc, &mut files, &command, "", &mut text);
+    moves_at(rt, alloc, &mut files, counts, &mut text);
+    let machine = machine_of(counts.len());
+    ends(rt, alloc, &mut files, machine, kernel.bound, &mut text);
     text
 }
 
@@ -290,21 +378,34 @@ fn five_moves_have_one_trace(rt: HostRuntime) {
 /// A line has the number of a kernel, a count of steps, an offset, and the bytes there of what is saved then.
 fn is_kept(rt: &impl Abort, alloc: Global, line: &str) {
     let (number, rest) = split(rt, line);
-    let (n, rest) = split(rt, rest);
-    let (at, wanted) = split(rt, rest);
+    let (n, place) = split(rt, rest);
     let kernel = numbered(rt, place_in(rt, number));
-    let at = place_in(rt, at);
     let mut files = follow(rt, alloc, kernel.made);
     let mut text = Vec::new(alloc);
-    let command = format!(in alloc; "save --wedge I B 2048 {n} C").expect(rt, "memory");
-    let last = format!(in alloc; "saved steps {n}\n").expect(rt, "memory");
-    goes_on(rt, alloc, &mut files, &command, &last, &mut text);
-    let bytes = file(rt, alloc, &mut files, "C");
-    is_so(rt, line, has(&bytes, at, &listed(rt, alloc, wanted)));
-    let bound = kernel.bound;
-    let command = format!(in alloc; "continue --bare I B C {bound}").expect(rt, "memory");
-    goes_on(rt, alloc, &mut files, &command, "", &mut text);
+    is_saved_by_host(rt, alloc, &mut files, n, &mut text);
+    is_so(rt, line, is_saved_so(rt, alloc, &mut files, place));
+    ends(rt, alloc, &mut files, "--bare", kernel.bound, &mut text);
     is_so(rt, line, are_same(&text, kernel.printed.as_bytes()));
+}
+
+/// So many steps from boot are saved on the host.
+fn is_saved_by_host(
+    rt: &impl Abort,
+    alloc: Global,
+    files: &mut MemFiles,
+    n: &str,
+    text: &mut Vec<u8>,
+) {
+    let command = text_of(rt, alloc, &["save --wedge I B 2048 ", n, " C"]);
+    saves(rt, alloc, files, &command, n, text);
+}
+
+/// What is saved has the bytes at the offset of which this tells.
+fn is_saved_so(rt: &impl Abort, alloc: Global, files: &mut MemFiles, place: &str) -> bool {
+    let (at, wanted) = split(rt, place);
+    let wanted = listed(rt, alloc, wanted);
+    let bytes = file(rt, alloc, files, "C");
+    has(&bytes, place_in(rt, at), &wanted)
 }
 
 #[test]

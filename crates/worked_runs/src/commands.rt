@@ -7,7 +7,7 @@ use host_cpl3::{Host, Machine};
 use image_check::{Checked, check};
 use pv_io::{Files, MemFiles, MemSink, Sink};
 use pv_tool::top;
-use std::alloc::{AllocError, Global};
+use std::alloc::Global;
 use std::process::Abort;
 
 /// What a row of a table or a number tells apart holds.
@@ -25,14 +25,15 @@ pub fn are_same(found: &[u8], want: &[u8]) -> bool {
     found == want
 }
 
-/// A sink in which all that is put has room.
-pub fn sink(rt: &impl Abort, alloc: Global) -> MemSink {
-    MemSink::new(alloc, 4096, Vec::new(alloc)).expect(rt, "memory")
+/// A sink in which all that is put has room, but the puts of a list fail.
+pub fn sink(rt: &impl Abort, alloc: Global, fail: &[u64]) -> MemSink {
+    let fail = Vec::from_slice(alloc, fail).expect(rt, "memory");
+    MemSink::new(alloc, 4096, fail).expect(rt, "memory")
 }
 
 /// The sink took this.
 pub fn took(rt: &impl Abort, out: &MemSink, text: &[u8]) {
-    assert_eq!(rt; out.bytes(), text);
+    is_so(rt, "what was put", are_same(out.bytes(), text));
 }
 
 /// Whether a word is this one. All words of a table are compared here: a proof carries each place where two texts are compared.
@@ -43,6 +44,11 @@ pub fn is_word(word: &str, other: &str) -> bool {
 /// A line's first word, and what stands behind the space after it.
 pub fn split<'a>(rt: &impl Abort, line: &'a str) -> (&'a str, &'a str) {
     line.split_once(' ').expect(rt, "two words")
+}
+
+/// What stands before a text's first mark, and what stands behind it.
+pub fn cut<'a>(rt: &impl Abort, text: &'a str, mark: char) -> (&'a str, &'a str) {
+    text.split_once(mark).expect(rt, "a mark")
 }
 
 /// The number that a word is.
@@ -61,30 +67,36 @@ pub fn byte_in(rt: &impl Abort, word: &str) -> u8 {
 }
 
 /// The words of a command, with one space between two. An empty word is written '', and an empty command has no words.
-fn words(alloc: Global, command: &str) -> Result<Vec<String>, AllocError> {
+fn words(rt: &impl Abort, alloc: Global, command: &str) -> Vec<String> {
     let mut words = Vec::new(alloc);
-    if command.is_empty() {
-        return Ok(words);
+    if !command.is_empty() {
+        for word in command.split(' ') {
+            add_word(rt, alloc, &mut words, word);
+        }
     }
-    for word in command.split(' ') {
-        let word = if is_word(word, "''") { "" } else { word };
-        words.push(String::from_str(alloc, word)?)?;
-    }
-    Ok(words)
+    words
+}
+
+/// Puts a word behind the others.
+fn add_word(rt: &impl Abort, alloc: Global, words: &mut Vec<String>, word: &str) {
+    let word = if is_word(word, "''") { "" } else { word };
+    let word = text_of(rt, alloc, &[word]);
+    words.push(word).expect(rt, "memory");
 }
 
 /// The number of the status of a command.
 pub fn status<F: Files, S: Sink, H: Host>(
+    rt: &impl Abort,
     alloc: Global,
     command: &str,
     files: &mut F,
     out: &mut S,
     host: &mut H,
-) -> Result<u8, AllocError>
+) -> u8
     requires room { H.retired host.old ≤ 2 ^ 63 }
 {
-    let words = words(alloc, command)?;
-    Ok(top(alloc, &words, files, out, host).number())
+    let words = words(rt, alloc, command);
+    top(alloc, &words, files, out, host).number()
 }
 
 /// The number of the status of a command, and its sink, of whose puts those of a list fail.
@@ -95,10 +107,21 @@ pub fn answer(
     command: &str,
     fail: &[u64],
 ) -> (u8, MemSink) {
-    let fail = Vec::from_slice(alloc, fail).expect(rt, "memory");
-    let mut out = MemSink::new(alloc, 4096, fail).expect(rt, "memory");
-    let number = status(alloc, command, files, &mut out, &mut Machine::new()).expect(rt, "memory");
+    let mut out = sink(rt, alloc, fail);
+    let number = status(rt, alloc, command, files, &mut out, &mut Machine::new());
     (number, out)
+}
+
+/// What a command prints over these files.
+pub fn printed(rt: &impl Abort, alloc: Global, files: &mut MemFiles, command: &str) -> MemSink {
+    let (_, out) = answer(rt, alloc, files, command, &[]);
+    out
+}
+
+/// From so many calls of the files on, one fails.
+pub fn fail_behind(rt: &impl Abort, files: &mut MemFiles, calls: u64) {
+    let call = files.calls.wrapping_add(calls);
+    files.fail.push(call).expect(rt, "memory");
 }
 
 /// No files.
@@ -110,12 +133,17 @@ pub fn no_files(rt: &impl Abort, alloc: Global) -> MemFiles {
 pub fn all_held(rt: &impl Abort, alloc: Global, files: &MemFiles) -> Vec<u8> {
     let mut held = Vec::new(alloc);
     for (name, bytes) in files.files.iter() {
-        add(rt, &mut held, name.as_bytes());
-        add(rt, &mut held, b" ");
-        add(rt, &mut held, bytes);
-        add(rt, &mut held, b"\n");
+        add_held(rt, &mut held, name, bytes);
     }
     held
+}
+
+/// Puts a name and what it holds behind the bytes.
+fn add_held(rt: &impl Abort, held: &mut Vec<u8>, name: &str, bytes: &[u8]) {
+    add(rt, held, name.as_bytes());
+    add(rt, held, b" ");
+    add(rt, held, bytes);
+    add(rt, held, b"\n");
 }
 
 /// The bytes that a name holds.
@@ -135,6 +163,20 @@ pub fn store(rt: &impl Abort, files: &mut MemFiles, name: &str, bytes: &[u8]) {
 /// Puts the piece behind the bytes.
 pub fn add(rt: &impl Abort, bytes: &mut Vec<u8>, piece: &[u8]) {
     bytes.extend_from_slice(piece).expect(rt, "memory");
+}
+
+/// The pieces as one text.
+pub fn text_of(rt: &impl Abort, alloc: Global, pieces: &[&str]) -> String {
+    let mut text = String::new(alloc);
+    for piece in pieces {
+        text.push_str(piece).expect(rt, "memory");
+    }
+    text
+}
+
+/// The digits of a number.
+pub fn digits(rt: &impl Abort, alloc: Global, number: usize) -> String {
+    format!(in alloc; "{number}").expect(rt, "memory")
 }
 
 /// The pieces, one behind the other.

@@ -1,7 +1,7 @@
 //! Damaged files: a small object and its image cut at every length and with every field of their headers spoiled, and a
 //! script cut and spoiled at every byte, each by the command that reads it. Where it is refused no file is stored.
 
-use crate::commands::{built, file, holds, joined, place_in, split, store};
+use crate::commands::{built, file, holds, joined, place_in, split, store, text_of};
 use crate::sessions::tells;
 use pv_io::MemFiles;
 use std::alloc::Global;
@@ -30,12 +30,9 @@ fn is_told(
 ) {
     store(rt, files, "D", bytes);
     let status = if line.starts_with("refused ") { 3 } else { 0 };
-    let lines = format!(in alloc; "{line}\n").expect(rt, "memory");
-    holds(
-        rt,
-        at,
-        tells(rt, alloc, files, status, command, &[], &lines),
-    );
+    let lines = text_of(rt, alloc, &[line, "\n"]);
+    let told = tells(rt, alloc, files, status, command, &[], &lines);
+    holds(rt, at, told);
 }
 
 /// The number that a row begins with, and what stands behind it.
@@ -125,14 +122,18 @@ fn are_fields(
 ) {
     for at in (fields.from..fields.to).step_by(4) {
         let spoiled = spoiled(rt, alloc, bytes, at, at.wrapping_add(4), 0xFF);
-        let line = match refusal(rt, fields.rows, at) {
-            Some((cause, place)) => {
-                format!(in alloc; "refused {cause}{} at {place}", fields.named)
-            }
-            None => String::from_str(alloc, fields.good),
-        };
-        let line = line.expect(rt, "memory");
+        let line = told_of(rt, alloc, fields, at);
         is_told(rt, alloc, files, fields.command, at, &spoiled, &line);
+    }
+}
+
+/// What is told where the field at this place is spoiled.
+fn told_of(rt: &impl Abort, alloc: Global, fields: &Fields<'_>, at: usize) -> String {
+    match refusal(rt, fields.rows, at) {
+        Some((cause, place)) => {
+            text_of(rt, alloc, &["refused ", cause, fields.named, " at ", place])
+        }
+        None => text_of(rt, alloc, &[fields.good]),
     }
 }
 
@@ -179,19 +180,28 @@ static FIELDS_OF_IMAGE: [Fields<'static>; 3] = [
 
 #[test]
 fn damaged_objects_and_images_are_refused_by_the_part_or_field(rt: HostRuntime) {
-    let alloc = rt.alloc();
-    let mut files = built(&rt, alloc, SENDS_A_BYTE.as_bytes());
-    let object = file(&rt, alloc, &mut files, "O");
-    assert!(rt; object.len() == 612);
-    are_cut(&rt, alloc, &mut files, LINK, &object, CUT_OBJECTS);
+    let mut files = built(&rt, rt.alloc(), SENDS_A_BYTE.as_bytes());
+    let object = file(&rt, rt.alloc(), &mut files, "O");
+    objects_are_refused(&rt, rt.alloc(), &mut files, &object);
+    let image = file(&rt, rt.alloc(), &mut files, "I");
+    images_are_refused(&rt, rt.alloc(), &mut files, &image);
+}
+
+/// The object is cut at every length, and each field of its headers is spoiled.
+fn objects_are_refused(rt: &impl Abort, alloc: Global, files: &mut MemFiles, object: &[u8]) {
+    holds(rt, 612, object.len() == 612);
+    are_cut(rt, alloc, files, LINK, object, CUT_OBJECTS);
     for fields in FIELDS_OF_OBJECT.iter() {
-        are_fields(&rt, alloc, &mut files, &object, fields);
+        are_fields(rt, alloc, files, object, fields);
     }
-    let image = file(&rt, alloc, &mut files, "I");
-    assert!(rt; image.len() == 8496);
-    are_cut(&rt, alloc, &mut files, CHECK, &image, CUT_IMAGES);
+}
+
+/// So is the image.
+fn images_are_refused(rt: &impl Abort, alloc: Global, files: &mut MemFiles, image: &[u8]) {
+    holds(rt, 8496, image.len() == 8496);
+    are_cut(rt, alloc, files, CHECK, image, CUT_IMAGES);
     for fields in FIELDS_OF_IMAGE.iter() {
-        are_fields(&rt, alloc, &mut files, &image, fields);
+        are_fields(rt, alloc, files, image, fields);
     }
 }
 
@@ -201,12 +211,17 @@ fn is_damaged(rt: &impl Abort, alloc: Global, files: &mut MemFiles, row: &str) {
     let (from, rest) = first(rt, rest);
     let (to, line) = first(rt, rest);
     for at in from..to {
-        let script = SCRIPT.as_bytes();
-        let damaged = match with.parse() {
-            Ok(byte) => spoiled(rt, alloc, script, at, at.wrapping_add(1), byte),
-            Err(_) => joined(rt, alloc, &[script.get(..at).expect(rt, "short")]),
-        };
-        is_told(rt, alloc, files, RUN, at, &damaged, line);
+        let script = damaged_script(rt, alloc, with, at);
+        is_told(rt, alloc, files, RUN, at, &script, line);
+    }
+}
+
+/// The script with this byte at a place, or cut there where no byte is named.
+fn damaged_script(rt: &impl Abort, alloc: Global, with: &str, at: usize) -> Vec<u8> {
+    let script = SCRIPT.as_bytes();
+    match with.parse() {
+        Ok(byte) => spoiled(rt, alloc, script, at, at.wrapping_add(1), byte),
+        Err(_) => joined(rt, alloc, &[script.get(..at).expect(rt, "short")]),
     }
 }
 

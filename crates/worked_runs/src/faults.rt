@@ -1,7 +1,8 @@
 //! Loads, stores and puts that fail or are never made, and words of no form.
 
 use crate::commands::{
-    all_held, answer, are_same, built, byte_in, is_so, number_in, split, status, store,
+    all_held, answer, are_same, built, byte_in, fail_behind, holds, is_so, number_in, split,
+    status, store,
 };
 use crate::sessions::follow_over;
 use host_cpl3::Machine;
@@ -44,22 +45,37 @@ fn calls_of<'a>(rt: &impl Abort, line: &'a str) -> Calls<'a> {
     }
 }
 
-/// A command makes these calls of the files, and none of its names holds other bytes behind it.
-fn makes_calls(rt: &impl Abort, alloc: Global, files: &mut MemFiles, line: &str) {
-    let made = calls_of(rt, line);
-    let before = all_held(rt, alloc, files);
-    let (calls, faults) = (files.calls, files.load_faults);
-    if let Some(call) = made.call {
-        files
-            .fail
-            .push(calls.wrapping_add(call))
-            .expect(rt, "memory");
-    }
+/// A command comes to its status, and no put fails.
+fn comes_to_status(
+    rt: &impl Abort,
+    alloc: Global,
+    files: &mut MemFiles,
+    made: &Calls<'_>,
+    line: &str,
+) {
     let (number, out) = answer(rt, alloc, files, made.command, &[made.put]);
     is_so(rt, line, number == made.status && out.faults() == 0);
+}
+
+/// It makes these calls of the files, of which one fails where a line names one. A load that fails is told by the status.
+fn makes_calls(rt: &impl Abort, alloc: Global, files: &mut MemFiles, made: &Calls<'_>, line: &str) {
+    let (calls, faults) = (files.calls, files.load_faults);
+    if let Some(call) = made.call {
+        fail_behind(rt, files, call);
+    }
+    comes_to_status(rt, alloc, files, made, line);
     is_so(rt, line, files.calls.wrapping_sub(calls) == made.count);
     let faults = files.load_faults.wrapping_sub(faults);
     is_so(rt, line, faults == u64::from(made.status == 5));
+}
+
+/// None of their names holds other bytes behind it. A line that begins with `--` says what comes.
+fn leaves_all(rt: &impl Abort, alloc: Global, files: &mut MemFiles, line: &str) {
+    if line.starts_with("--") {
+        return;
+    }
+    let before = all_held(rt, alloc, files);
+    makes_calls(rt, alloc, files, &calls_of(rt, line), line);
     is_so(rt, line, are_same(&all_held(rt, alloc, files), &before));
 }
 
@@ -67,9 +83,7 @@ fn makes_calls(rt: &impl Abort, alloc: Global, files: &mut MemFiles, line: &str)
 fn calls_of_files_end_at_the_first_fault_or_refusal(rt: HostRuntime) {
     let mut files = held(&rt, rt.alloc());
     for line in CALLS.lines() {
-        if !line.starts_with("--") {
-            makes_calls(&rt, rt.alloc(), &mut files, line);
-        }
+        leaves_all(&rt, rt.alloc(), &mut files, line);
     }
 }
 
@@ -85,23 +99,35 @@ fn each_line_is_one_put_and_its_fault_is_told(rt: HostRuntime) {
 
 fn comes_to(rt: &impl Abort, alloc: Global, files: &mut SureFiles, line: &str) {
     let (number, command) = split(rt, line);
-    let mut host = Machine::new();
-    let answered = status(alloc, command, files, &mut SureSink::new(), &mut host).expect(
-        rt, "memory",
-    );
-    is_so(rt, line, number.parse() == Ok(answered));
+    let answered = sure_status(rt, alloc, files, command);
+    is_so(rt, line, byte_in(rt, number) == answered);
+}
+
+/// What a command comes to that prints to a sure sink.
+fn sure_status(rt: &impl Abort, alloc: Global, files: &mut SureFiles, command: &str) -> u8 {
+    let mut out = SureSink::new();
+    status(rt, alloc, command, files, &mut out, &mut Machine::new())
+}
+
+/// Sure files that hold the source S and an empty script.
+fn sure(rt: &impl Abort, alloc: Global, source: &str) -> SureFiles {
+    let mut files = SureFiles::new(alloc).expect(rt, "memory");
+    files.store("B", b"").expect(rt, "memory");
+    files.store("S", source.as_bytes()).expect(rt, "memory");
+    files
 }
 
 #[test]
 fn sure_files_and_a_sure_sink_never_fail(rt: HostRuntime) {
-    let alloc = rt.alloc();
-    for source in [HALTS, SENDS_A_BYTE] {
-        let mut files = SureFiles::new(alloc).expect(&rt, "memory");
-        files.store("B", b"").expect(&rt, "memory");
-        files.store("S", source.as_bytes()).expect(&rt, "memory");
-        for line in NEVER_FAILING.lines() {
-            comes_to(&rt, alloc, &mut files, line);
-        }
-        assert!(rt; files.load_faults == 0);
+    for (row, source) in [HALTS, SENDS_A_BYTE].iter().enumerate() {
+        never_fail(&rt, rt.alloc(), row, &mut sure(&rt, rt.alloc(), source));
     }
+}
+
+/// Each command over these files comes to what its line says, and no load fails.
+fn never_fail(rt: &impl Abort, alloc: Global, row: usize, files: &mut SureFiles) {
+    for line in NEVER_FAILING.lines() {
+        comes_to(rt, alloc, files, line);
+    }
+    holds(rt, row, files.load_faults == 0);
 }

@@ -1,7 +1,8 @@
 //! Annotations by their gaps, the long texts that are written with them, and annotations that aren't the text's.
 
-use crate::commands::{built, file, joined, no_files, repeated, store};
+use crate::commands::{built, file, holds, joined, no_files, repeated, store};
 use crate::sessions::follow_over;
+use pv_io::MemFiles;
 use std::alloc::Global;
 use std::process::Abort;
 use worked_kernels::{BY_GAPS, CUT_SITES, LONG, ONE_SITE, SENDS_A_BYTE};
@@ -19,10 +20,11 @@ const ONE: &[u8] = &[
 /// That small image of 8,496 bytes with other annotations, which are no longer than its own. They begin at 0x2000, and the
 /// fifth section header has their size at 8,436.
 fn with_annotations(rt: &impl Abort, alloc: Global, image: &[u8], annotations: &[u8]) -> Vec<u8> {
-    assert!(rt; image.len() == 8496 && annotations.len() <= 24);
+    holds(rt, 0, image.len() == 8496 && annotations.len() <= 24);
     let mut file = joined(rt, alloc, &[image]);
     put_at(&mut file, 0x2000, annotations);
-    put_at(&mut file, 8436, &[annotations.len() as u8, 0, 0, 0]);
+    let size = (annotations.len() % 256) as u8;
+    put_at(&mut file, 8436, &[size, 0, 0, 0]);
     file
 }
 
@@ -44,9 +46,14 @@ fn an_image_has_all_its_sites_by_places_or_gaps(rt: HostRuntime) {
     let image = file(&rt, rt.alloc(), &mut files, "I");
     for (annotations, session) in ANNOTATED.iter() {
         let changed = with_annotations(&rt, rt.alloc(), &image, annotations);
-        store(&rt, &mut files, "I", &changed);
-        follow_over(&rt, rt.alloc(), &mut files, session);
+        over_image(&rt, rt.alloc(), &mut files, &changed, session);
     }
+}
+
+/// A session over this image.
+fn over_image(rt: &impl Abort, alloc: Global, files: &mut MemFiles, image: &[u8], session: &str) {
+    store(rt, files, "I", image);
+    follow_over(rt, alloc, files, session);
 }
 
 #[test]

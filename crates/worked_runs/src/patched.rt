@@ -1,9 +1,10 @@
 //! Which instructions of a patched run the host does, and what both machines show of a page whose table word has changed.
 
 use crate::commands::{answer, are_same, built, holds, is_so, sink, status, took};
-use crate::watched::Watched;
+use crate::watched::{Begun, Watched};
 use host_cpl3::{Exit, Host};
 use ia32_types::{Flags, Regs};
+use pv_io::MemFiles;
 use std::alloc::Global;
 use std::process::Abort;
 use worked_kernels::{READS_A_STALE_PAGE, READS_A_STALE_PAGE_ALONE, SENDS_A_BYTE};
@@ -38,16 +39,26 @@ const MOVED_TWICE: Regs = Regs {
     ..BOOTED
 };
 
-/// A host on which that byte was sent.
-fn watched(rt: &impl Abort, alloc: Global) -> Watched {
-    let mut files = built(rt, alloc, SENDS_A_BYTE.as_bytes());
+/// A host on which a run over these files is done, and prints these lines.
+fn host_of(
+    rt: &impl Abort,
+    alloc: Global,
+    files: &mut MemFiles,
+    run: &str,
+    lines: &[u8],
+) -> Watched {
     let mut host = Watched::new();
-    let mut out = sink(rt, alloc);
-    let run = "run --wedge I B 2048 8";
-    let number = status(alloc, run, &mut files, &mut out, &mut host).expect(rt, "memory");
-    took(rt, &out, SENT);
-    assert!(rt; number == 0);
+    let mut out = sink(rt, alloc, &[]);
+    let number = status(rt, alloc, run, files, &mut out, &mut host);
+    is_so(rt, run, number == 0);
+    took(rt, &out, lines);
     host
+}
+
+/// The same of the run of a source.
+fn watched(rt: &impl Abort, alloc: Global, source: &[u8], run: &str, lines: &[u8]) -> Watched {
+    let mut files = built(rt, alloc, source);
+    host_of(rt, alloc, &mut files, run, lines)
 }
 
 /// The registers behind so many of its two MOVs.
@@ -61,27 +72,40 @@ fn behind(moves: u64) -> Regs {
 
 #[test]
 fn the_host_does_two_instructions_of_four(rt: HostRuntime) {
-    let host = watched(&rt, rt.alloc());
-    assert!(rt; Host::retired(&host) == 2 && Host::passed(&host) == 8_589_934_597);
-    assert!(rt; !host.begun().is_empty());
-    for (k, begun) in host.begun().iter().enumerate() {
-        holds(&rt, k, begun.regs == behind(begun.retired));
-    }
+    let sends = SENDS_A_BYTE.as_bytes();
+    let host = watched(&rt, rt.alloc(), sends, "run --wedge I B 2048 8", SENT);
+    holds(&rt, 0, Host::passed(&host) == 8_589_934_597);
+    begin_behind_moves(&rt, host.begun());
     // Behind them stands the patched OUT.
-    assert!(rt; host.last_exit == Exit::Entry(0x04F4_F500));
+    ended_so(&rt, &host, 2, 0x04F4_F500);
+}
+
+/// Each run began behind as many of the two MOVs as the host had done, and there was one.
+fn begin_behind_moves(rt: &impl Abort, runs: &[Begun]) {
+    holds(rt, 0, !runs.is_empty());
+    for (k, begun) in runs.iter().enumerate() {
+        holds(rt, k, begun.regs == behind(begun.retired));
+    }
+}
+
+/// The host did so many instructions, and its last run ended at this entry.
+fn ended_so(rt: &impl Abort, host: &Watched, retired: u64, entry: u32) {
+    holds(rt, 0, Host::retired(host) == retired);
+    holds(rt, 1, host.last_exit == Exit::Entry(entry));
 }
 
 // The jump back is step 5, which the host does.
 #[test]
 fn a_site_at_the_start_enters_at_its_place_in_the_window(rt: HostRuntime) {
-    let mut files = built(&rt, rt.alloc(), b"_start: cli\njmp _start\n");
-    let mut host = Watched::new();
-    let mut out = sink(&rt, rt.alloc());
-    let run = "run --wedge I B 2048 7";
-    let number = status(rt.alloc(), run, &mut files, &mut out, &mut host).expect(&rt, "memory");
-    took(&rt, &out, b"end steps 7\n");
-    assert!(rt; number == 0 && Host::retired(&host) == 1);
-    assert!(rt; host.last_exit == Exit::Entry(0x04F4_F4F9));
+    let source = b"_start: cli\njmp _start\n";
+    let host = watched(
+        &rt,
+        rt.alloc(),
+        source,
+        "run --wedge I B 2048 7",
+        b"end steps 7\n",
+    );
+    ended_so(&rt, &host, 1, 0x04F4_F4F9);
 }
 
 /// A kernel, a run, and what it may print beside the old read. The first kernel's page shares its place in the bare machine's
@@ -96,12 +120,14 @@ static STALE: [(&str, &str, &[u8]); 3] = [
 fn a_page_stays_stale_until_invlpg(rt: HostRuntime) {
     for (source, run, may_be) in STALE.iter() {
         let mut files = built(&rt, rt.alloc(), source.as_bytes());
-        let (number, out) = answer(&rt, rt.alloc(), &mut files, run, &[]);
-        is_so(&rt, run, number == 0);
-        is_so(
-            &rt,
-            run,
-            are_same(out.bytes(), OLD) || are_same(out.bytes(), may_be),
-        );
+        prints_either(&rt, rt.alloc(), &mut files, run, may_be);
     }
+}
+
+/// A run is done, and prints the old read or the other one.
+fn prints_either(rt: &impl Abort, alloc: Global, files: &mut MemFiles, run: &str, may_be: &[u8]) {
+    let (number, out) = answer(rt, alloc, files, run, &[]);
+    is_so(rt, run, number == 0);
+    let found = out.bytes();
+    is_so(rt, run, are_same(found, OLD) || are_same(found, may_be));
 }

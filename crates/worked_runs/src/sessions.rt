@@ -17,6 +17,7 @@
 
 use crate::commands::{
     all_held, answer, are_same, byte_in, file, is_so, is_word, no_files, number_in, split, store,
+    text_of,
 };
 use crate::images::{has_part, image_file};
 use pv_io::{Files, MemFiles};
@@ -34,15 +35,16 @@ pub fn follow_over(rt: &impl Abort, alloc: Global, files: &mut MemFiles, session
 
 /// An action, and the lines behind it, of which the last has lost its end.
 fn follow_part(rt: &impl Abort, alloc: Global, files: &mut MemFiles, part: &str) {
-    let mut lines = String::new(alloc);
     match part.split_once('\n') {
-        None => is_so(rt, part, does(rt, alloc, files, part, &lines)),
-        Some((action, rest)) => {
-            lines.push_str(rest).expect(rt, "memory");
-            lines.push_str("\n").expect(rt, "memory");
-            is_so(rt, action, does(rt, alloc, files, action, &lines));
-        }
+        None => is_so(rt, part, does(rt, alloc, files, part, "")),
+        Some((action, rest)) => follow_lines(rt, alloc, files, action, rest),
     }
+}
+
+/// An action, and the lines behind it without the last one's end.
+fn follow_lines(rt: &impl Abort, alloc: Global, files: &mut MemFiles, action: &str, rest: &str) {
+    let lines = text_of(rt, alloc, &[rest, "\n"]);
+    is_so(rt, action, does(rt, alloc, files, action, &lines));
 }
 
 /// The same over no files, and what is held behind it.
@@ -91,23 +93,38 @@ fn has(
     } else if is_word(verb, "build") {
         builds(rt, alloc, files, lines.as_bytes())
     } else if is_word(verb, "image") {
-        let bss = rest.parse().expect(rt, "a number of zeroed bytes");
-        files.store("I", &image_file(rt, alloc, bss, lines)).is_ok()
+        is_made(rt, alloc, files, rest, lines)
     } else if is_word(verb, "held") {
         has_name(alloc, files, rest)
     } else if is_word(verb, "lost") {
         !has_name(alloc, files, rest)
     } else if is_word(verb, "text") || is_word(verb, "data") || is_word(verb, "entry") {
-        let image = file(rt, alloc, files, "I");
-        has_part(rt, alloc, &image, verb, rest)
+        has_part(rt, alloc, &file(rt, alloc, files, "I"), verb, rest)
     } else {
-        let (name, other) = split(rt, rest);
-        let bytes = file(rt, alloc, files, other);
-        if is_word(verb, "copy") {
-            files.store(name, &bytes).is_ok()
-        } else {
-            is_word(verb, "same") && are_same(&file(rt, alloc, files, name), &bytes)
-        }
+        has_bytes(rt, alloc, files, verb, rest)
+    }
+}
+
+/// Whether I is made of these parts and so many zeroed bytes.
+fn is_made(rt: &impl Abort, alloc: Global, files: &mut MemFiles, bss: &str, parts: &str) -> bool {
+    let bss = bss.parse().expect(rt, "a number of zeroed bytes");
+    files.store("I", &image_file(rt, alloc, bss, parts)).is_ok()
+}
+
+/// Whether a name holds what the other does, from here on or already.
+fn has_bytes(
+    rt: &impl Abort,
+    alloc: Global,
+    files: &mut MemFiles,
+    verb: &str,
+    names: &str,
+) -> bool {
+    let (name, other) = split(rt, names);
+    let bytes = file(rt, alloc, files, other);
+    if is_word(verb, "copy") {
+        files.store(name, &bytes).is_ok()
+    } else {
+        is_word(verb, "same") && are_same(&file(rt, alloc, files, name), &bytes)
     }
 }
 
@@ -174,11 +191,12 @@ fn runs(
 ) -> bool {
     let (status, bound) = split(rt, rest);
     let status = byte_in(rt, status);
-    let command = format!(in alloc; "run {machine} I B 2048 {bound}").expect(rt, "memory");
+    let command = text_of(rt, alloc, &["run ", machine, " I B 2048 ", bound]);
     tells(rt, alloc, files, status, &command, &[], lines)
 }
 
-fn is_done(rt: &impl Abort, alloc: Global, files: &mut MemFiles, command: &str) -> bool {
+/// Whether a command is done.
+pub fn is_done(rt: &impl Abort, alloc: Global, files: &mut MemFiles, command: &str) -> bool {
     let (number, _out) = answer(rt, alloc, files, command, &[]);
     number == 0
 }

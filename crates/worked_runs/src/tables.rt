@@ -1,7 +1,8 @@
 //! Kernels over many tables and in several address spaces.
 
-use crate::commands::built;
+use crate::commands::{built, joined, text_of};
 use crate::sessions::follow_over;
+use pv_io::MemFiles;
 use std::alloc::Global;
 use std::process::Abort;
 use worked_kernels::{
@@ -11,11 +12,16 @@ use worked_kernels::{
 
 /// Both machines show this of a source of three pieces.
 fn shows(rt: &impl Abort, alloc: Global, pieces: [&str; 3], shown: &str) {
-    let [first, second, third] = pieces;
-    let source = format!(in alloc; "{first}{second}{third}").expect(rt, "memory");
-    let session = format!(in alloc; "$ runs 0 2000\n{shown}").expect(rt, "memory");
-    let mut files = built(rt, alloc, source.as_bytes());
+    let mut files = built_of(rt, alloc, pieces);
+    let session = text_of(rt, alloc, &["$ runs 0 2000\n", shown]);
     follow_over(rt, alloc, &mut files, &session);
+}
+
+/// What is built of a source of three pieces.
+fn built_of(rt: &impl Abort, alloc: Global, pieces: [&str; 3]) -> MemFiles {
+    let [first, second, third] = pieces;
+    let source = [first.as_bytes(), second.as_bytes(), third.as_bytes()];
+    built(rt, alloc, &joined(rt, alloc, &source))
 }
 
 #[test]
