@@ -193,15 +193,15 @@ fn over_long_source(
 fn a_store_that_fails_leaves_what_was_printed(rt: HostRuntime) {
     let mut files = follow(&rt, rt.alloc(), IS_SAVED);
     let (first, printed) = ("save --bare I B 2048 3 C", b"2 out8 03f8 48\n2 tx 48\n");
-    isnt_stored(&rt, rt.alloc(), &mut files, 2, first, printed);
+    fails_to_store(&rt, rt.alloc(), &mut files, 2, first, printed);
     let second = "save --wedge I B from C 8 D";
-    isnt_stored(&rt, rt.alloc(), &mut files, 3, second, b"");
+    fails_to_store(&rt, rt.alloc(), &mut files, 3, second, b"");
     holds(&rt, 2, files.store_faults == 2);
     follow_over(&rt, rt.alloc(), &mut files, "$ lost D\n");
 }
 
 /// The store of a command fails, which stands behind so many loads, and this was printed before.
-fn isnt_stored(
+fn fails_to_store(
     rt: &impl Abort,
     alloc: Global,
     files: &mut MemFiles,

@@ -118,7 +118,7 @@ pub fn printed(rt: &impl Abort, alloc: Global, files: &mut MemFiles, command: &s
     out
 }
 
-/// From so many calls of the files on, one fails.
+/// The call of the files fails that stands behind so many others.
 pub fn fail_behind(rt: &impl Abort, files: &mut MemFiles, calls: u64) {
     let call = files.calls.wrapping_add(calls);
     files.fail.push(call).expect(rt, "memory");
