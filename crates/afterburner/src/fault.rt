@@ -73,11 +73,9 @@ pub enum BurnFault {
 }
 
 /// Why the work at an item stops.
-#[derive(Debug, Drop, Error)]
+#[derive(Drop)]
 pub enum ItemFault {
-    #[error("{0}")]
     Cause(BurnCause),
-    #[error("no memory was found")]
     Memory,
 }
 

@@ -5,14 +5,11 @@ ghost use Rattle.asm_statement.specs.declared.fault.StepFault.TheVariants.{Memor
 
 use asm_lex::SourceCause;
 use std::alloc::{AllocError, AllocFailed};
-use thiserror::Error;
 
 /// Why the statement isn't read on: the source is refused, or memory isn't found.
-#[derive(Debug, Drop, Error)]
+#[derive(Drop)]
 pub enum StepFault {
-    #[error("{0}")]
     Cause(SourceCause),
-    #[error("no memory was found")]
     Memory,
 }
 
