@@ -17,7 +17,7 @@ use Rattle.asm_statement.specs.declared.state.Open.{Open}
 use Rattle.asm_statement.specs.declared.state.StatementState.{StatementState}
 use Rattle.asm_statement.specs.declared.state.StatementState.TheVariants as state
 use Rattle.asm_statement.specs.ScopeView.{ScopeView}
-use Rattle.asm_lex.specs.Bytes.{class_of, is_source, is_letter, is_word}
+use Rattle.asm_lex.specs.Bytes.{class_of, is_mark, is_source, is_letter, is_word}
 use Rattle.asm_lex.specs.declared.token.Token.{Token}
 use Rattle.asm_lex.specs.declared.token.TokenKind.{TokenKind}
 use Rattle.asm_lex.specs.declared.token.TokenKind.TheVariants as kind
@@ -120,12 +120,12 @@ LastEnd (Goes _) t = Unit {0}
 LastEnd (Stops l c) t = Unit {0}
 
 number_end : (s : ℕ) (at line : ℕ) (t : Bool) → LastEnd (cond t (after kind.Number s at line 10) (stops line cause.BadNumber)).next (cond t (after kind.Number s at line 10) (stops line cause.BadNumber)).second
-unfolding class_of is_letter is_word
+unfolding class_of is_mark is_letter is_word
 number_end s at line true = refl
 number_end s at line false = tt
 
 last_end : (m : Mode) (at line : ℕ) → LastEnd (stepped m at line 10).next (stepped m at line 10).second
-unfolding class_of is_source is_letter is_word
+unfolding class_of is_mark is_source is_letter is_word
 last_end mode.Between at line = refl
 last_end mode.Slash at line = tt
 last_end mode.Line at line = refl
@@ -186,7 +186,7 @@ newline_state r t h m =
 
 -- nothing is open, so one newline more is read
 ready : (sc : ScopeView) (seen : List ℕ) (at line : ℕ) → (t : Running) × (run (record { scope = sc; state = state.Start; mode = mode.Between; seen = seen; at = at; line = line }) (10 ∷ []) ≡ Ok t) × (closed t t.mode ≡ Ok t)
-unfolding one_byte one_byte_over class_of
+unfolding one_byte one_byte_over class_of is_mark
 ready sc seen at line = (_, refl, refl)
 
 ready_at : (s : Running) → s.mode ≡ mode.Between → s.state ≡ state.Start → (t : Running) × (run s (10 ∷ []) ≡ Ok t) × (closed t t.mode ≡ Ok t)

@@ -2,7 +2,7 @@
 use Rattle.std.proofs.Common.{◌≡◌, ℕ, ◌+◌, Bool, true, false, cond, List, [], ◌∷◌, ◌++◌, length, None, Result, Ok, refl, ap, subst, ◌∙◌, append_assoc}
 use Rattle.std.proofs.lemmas.List.{length-append}
 use Rattle.std.specs.Prelude.{◌==◌, nat_lt, ◌^◌}
-use Rattle.asm_lex.specs.Bytes.{class_of, is_source}
+use Rattle.asm_lex.specs.Bytes.{class_of, is_mark, is_source}
 use Rattle.asm_lex.specs.declared.token.TokenKind.{TokenKind}
 use Rattle.asm_lex.specs.declared.machine.Mode.{Mode}
 use Rattle.asm_lex.specs.declared.machine.Mode.TheVariants as mode
@@ -114,7 +114,7 @@ record Closes (s : Running) : Type 0 where
   state : last.state ≡ s.state
 
 block_closes : (sc : ScopeView) (st : StatementState) (seen : List ℕ) (at line l : ℕ) → Closes (record { scope = sc; state = st; mode = mode.Block l; seen = seen; at = at; line = line })
-unfolding one_byte one_byte_over class_of is_source
+unfolding one_byte one_byte_over class_of is_mark is_source
 block_closes sc st seen at line l = record { last = _; runs = refl; between = refl; scope = refl; state = refl }
 
 closes : (sc : ScopeView) (st : StatementState) (m : Mode) (seen : List ℕ) (at line : ℕ) → IsClosed (Goes m) → Closes (record { scope = sc; state = st; mode = m; seen = seen; at = at; line = line })

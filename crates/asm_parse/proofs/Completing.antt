@@ -8,7 +8,7 @@ use Rattle.std.proofs.lemmas.Map.Made.{length-le_from_is_member}
 use Rattle.std.specs.Prelude.{pos, ◌==◌, ◌||◌, not, nat_lt, replicate}
 use Rattle.std.specs.List.{list_all}
 use Rattle.std.specs.Str.{bytes_eq}
-use Rattle.asm_lex.specs.Bytes.{class_of, is_letter, is_word}
+use Rattle.asm_lex.specs.Bytes.{class_of, is_mark, is_letter, is_word}
 use Rattle.asm_lex.specs.declared.token.TokenKind.TheVariants as kind
 use Rattle.asm_lex.specs.Words.{Word}
 use Rattle.asm_lex.specs.Source.{lines_after}
@@ -278,7 +278,7 @@ letters zero = refl
 letters (suc k) = letters k
 
 long_name : (ns : List (List ℕ)) → IsName (long ns)
-unfolding long class_of is_letter
+unfolding long class_of is_mark is_letter
 long_name ns = (refl, letters (total ns))
 
 longer_new : (ns : List (List ℕ)) (x : List ℕ) → total ns + 1 ≤ length x → holds ns x ≡ false

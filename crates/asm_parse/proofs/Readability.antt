@@ -12,7 +12,7 @@ use Rattle.asm_lex.specs.declared.lexing.TheConstants.{LIMIT}
 use Rattle.asm_lex.specs.declared.fault.SourceFault.{SourceFault}
 use Rattle.asm_lex.specs.declared.bytes.Class.TheVariants as class
 use Rattle.asm_lex.specs.declared.token.TokenKind.{TokenKind}
-use Rattle.asm_lex.specs.Bytes.{class_of, is_source, is_letter, is_word}
+use Rattle.asm_lex.specs.Bytes.{class_of, is_mark, is_source, is_letter, is_word}
 use Rattle.asm_lex.specs.Words.{Word}
 use Rattle.asm_lex.specs.Source.{IsToken, Lexed}
 use Rattle.asm_argument.specs.declared.terminal.Terminal.{Terminal}
@@ -76,7 +76,7 @@ word_some zero h = absurd cc
 word_some (suc b) h = omega arith
 
 letter_some : (b : ℕ) → class_of b ≡ class.Letter → 1 ≤ b
-unfolding class_of is_source is_letter
+unfolding class_of is_mark is_source is_letter
 letter_some zero h = absurd cc
 letter_some (suc b) h = omega arith
 

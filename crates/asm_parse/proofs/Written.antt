@@ -4,7 +4,7 @@ use Rattle.std.specs.List.{list_all}
 use Rattle.asm_lex.specs.declared.bytes.Class.TheVariants as class
 use Rattle.asm_lex.specs.declared.token.TokenKind.{TokenKind}
 use Rattle.asm_lex.specs.declared.token.TokenKind.TheVariants as kind
-use Rattle.asm_lex.specs.Bytes.{class_of, is_letter, is_word}
+use Rattle.asm_lex.specs.Bytes.{class_of, is_mark, is_letter, is_word}
 use Rattle.asm_lex.specs.Words.{Word}
 use Rattle.asm_lex.specs.Source.{IsGap, IsToken, lines_after, Lexed}
 use Rattle.asm_argument.specs.declared.terminal.Terminal.{Terminal}
@@ -44,7 +44,7 @@ terminals-words_at [] at line = refl
 terminals-words_at (p ∷ ps) at line = ap (λ (x : List Terminal). terminal_of p.kind p.bytes ∷ x) (terminals-words_at ps _ _)
 
 blank_is : class_of 32 ≡ class.Blank
-unfolding class_of
+unfolding class_of is_mark
 blank_is = refl
 
 pub written_lexed : (ps : List Piece) → ArePieces ps → (at line : ℕ) → Lexed at line (written ps) (words_at at line ps)
@@ -64,35 +64,35 @@ name_piece [] h rest = absurd h
 name_piece (b ∷ bs) h rest = IsToken.name h.0 h.1 refl
 
 pub one_piece : (rest : List ℕ) → IsToken kind.Number (49 ∷ []) (32 ∷ rest)
-unfolding class_of is_word is_letter
+unfolding class_of is_mark is_word is_letter
 one_piece rest = IsToken.number refl refl refl refl
 
 pub zero_piece : (rest : List ℕ) → IsToken kind.Number (48 ∷ []) (32 ∷ rest)
-unfolding class_of is_word is_letter
+unfolding class_of is_mark is_word is_letter
 zero_piece rest = IsToken.number refl refl refl refl
 
 pub text_piece : (rest : List ℕ) → IsToken kind.Text (34 ∷ 34 ∷ []) (32 ∷ rest)
-unfolding class_of
+unfolding class_of is_mark
 text_piece rest = IsToken.string refl refl
 
 pub end_piece : (rest : List ℕ) → IsToken kind.End (10 ∷ []) (32 ∷ rest)
-unfolding class_of
+unfolding class_of is_mark
 end_piece rest = IsToken.end refl
 
 pub percent_piece : (rest : List ℕ) → IsToken (kind.Mark 37) (37 ∷ []) (32 ∷ rest)
-unfolding class_of is_letter
+unfolding class_of is_mark is_letter
 percent_piece rest = IsToken.mark refl
 
 pub close_piece : (rest : List ℕ) → IsToken (kind.Mark 41) (41 ∷ []) (32 ∷ rest)
-unfolding class_of is_letter
+unfolding class_of is_mark is_letter
 close_piece rest = IsToken.mark refl
 
 pub comma_piece : (rest : List ℕ) → IsToken (kind.Mark 44) (44 ∷ []) (32 ∷ rest)
-unfolding class_of is_letter
+unfolding class_of is_mark is_letter
 comma_piece rest = IsToken.mark refl
 
 pub colon_piece : (rest : List ℕ) → IsToken (kind.Mark 58) (58 ∷ []) (32 ∷ rest)
-unfolding class_of is_letter
+unfolding class_of is_mark is_letter
 colon_piece rest = IsToken.mark refl
 
 -- a name as short as can be, and that of a register
@@ -100,21 +100,21 @@ abbrev pub letter : List ℕ
 letter = 97 ∷ []
 
 pub letter_name : IsName letter
-unfolding class_of is_letter
+unfolding class_of is_mark is_letter
 letter_name = (refl, refl)
 
 abbrev pub low : List ℕ
 low = 97 ∷ 108 ∷ []
 
 pub low_name : IsName low
-unfolding class_of is_letter is_word
+unfolding class_of is_mark is_letter is_word
 low_name = (refl, refl)
 
 abbrev pub text_section : List ℕ
 text_section = 46 ∷ 116 ∷ 101 ∷ 120 ∷ 116 ∷ []
 
 pub section_name_is : IsName text_section
-unfolding class_of is_letter is_word
+unfolding class_of is_mark is_letter is_word
 section_name_is = (refl, refl)
 
 abbrev pub the_name : List ℕ → Piece
