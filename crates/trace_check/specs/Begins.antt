@@ -1,5 +1,5 @@
 -- What is known of the parts of a replay.
-use Rattle.std.specs.Prelude.{◌≡◌, ℕ, ◌≤◌, List, take, Result, Ok, Err}
+use Rattle.std.specs.Prelude.{◌≡◌, ℕ, ◌≤◌, List, Option, None, Some, Result, Ok, Err}
 use Rattle.ia32_types.specs.declared.stop.Stop.{Stop}
 use Rattle.board.specs.Scripts.{Events}
 use Rattle.image_check.specs.Image.{Image}
@@ -13,7 +13,6 @@ use Rattle.bare_machine.specs.Machine.{state_of, IsKept}
 use Rattle.bare_machine.specs.Settings.{bare}
 use Rattle.bare_machine.specs.declared.machine.BareMachine as machines
 use Rattle.trace_check.specs.declared.list.Choice.{Choice}
-use Rattle.trace_check.specs.declared.told.Told.{Told}
 use Rattle.trace_check.specs.declared.answer.CourseEnd.{CourseEnd}
 use Rattle.trace_check.specs.declared.answer.CourseEnd.TheVariants.{Ended, BadAt}
 use Rattle.trace_check.specs.declared.answer.Verdict.{Verdict}
@@ -53,17 +52,21 @@ abbrev pub end_verdict : End → Stop → ℕ → Verdict
 end_verdict Bound stop line = YesBefore stop
 end_verdict (Stopped other) stop line = Differs line
 
-abbrev pub ReplaysWhole : Image → Events → ℕ → ℕ → List Choice → List ℕ → Result Verdict ReplayFault → Type 0
-ReplaysWhole image script frames n list text (Ok verdict) =
-    (need image ≤ frames) × (verdict ≡ judged_whole text (course_of image script frames n list) (course_of image script frames n list).end)
-ReplaysWhole image script frames n list text (Err fault) = ReplayFails image frames fault
-
--- the judgement of the front of a text, whose last line begins there
+-- the verdict on the front of a text, whose last line tells this stop
 abbrev pub before_by : Stop → List ℕ → Course → CourseEnd → Verdict
 before_by stop front c (BadAt at) = BadEntry at
 before_by stop front c (Ended end) = unless_differs (differing 1 (lines (lines_of (trace_of c.reports))) (lines front)) (end_verdict end stop (line_behind front))
 
-abbrev pub ReplaysBefore : Image → Events → ℕ → Told → List Choice → List ℕ → Result Verdict ReplayFault → Type 0
-ReplaysBefore image script frames told list text (Ok verdict) =
-    let c = course_of image script frames told.steps list in (need image ≤ frames) × (verdict ≡ before_by told.stop (take told.at text) c c.end)
-ReplaysBefore image script frames told list text (Err fault) = ReplayFails image frames fault
+-- the verdict on a whole text, or on such a front
+abbrev pub verdict_on : List ℕ → Option Stop → Course → Verdict
+verdict_on text None c = judged_whole text c c.end
+verdict_on text (Some stop) c = before_by stop text c c.end
+
+-- that verdict, or the line at which the text differs before the course's end
+abbrev pub ComparesAs : List ℕ → Option Stop → Course → Result Verdict ℕ → Type 0
+ComparesAs text told c (Ok verdict) = verdict ≡ verdict_on text told c
+ComparesAs text told c (Err line) = by_end c.end line ≡ verdict_on text told c
+
+abbrev pub JudgesAs : Image → Events → ℕ → ℕ → List Choice → List ℕ → Option Stop → Result Verdict ReplayFault → Type 0
+JudgesAs image script frames n list text told (Ok verdict) = (need image ≤ frames) × (verdict ≡ verdict_on text told (course_of image script frames n list))
+JudgesAs image script frames n list text told (Err fault) = ReplayFails image frames fault

@@ -1,17 +1,21 @@
 //! Whether the run that goes by some choices has a text.
 
-ghost use Rattle.std.specs.Prelude.{◌≡◌, ◌≤◌, ◌^◌, true, length};
+ghost use Rattle.std.specs.Prelude.{◌≡◌, ◌≤◌, ◌^◌, true};
 ghost use Rattle.board.specs.ScriptForm.{is_script};
+ghost use Rattle.image_check.specs.Image.{Image};
+ghost use Rattle.bare_machine.specs.Machine.{state_of, IsKept};
+ghost use Rattle.bare_machine.specs.Settings.{bare};
 ghost use Rattle.trace_check.specs.Form.{AreChoices};
+ghost use Rattle.trace_check.specs.Courses.{course};
 ghost use Rattle.trace_check.specs.Judged.{unless_differs};
 ghost use Rattle.trace_check.specs.Replayed.{Replays};
-ghost use Rattle.trace_check.specs.Begins.{BeginsAs, EndsAlone, DiffersUnlessBad, ReplaysWhole, ReplaysBefore, end_verdict};
+ghost use Rattle.trace_check.specs.Begins.{BeginsAs, EndsAlone, DiffersUnlessBad, ComparesAs, JudgesAs, end_verdict, whole_entries};
 
 use crate::answer::{CourseEnd, ReplayFault, Verdict};
 use crate::course::follow;
 use crate::list::{Choice, Choices};
 use crate::matching::{Matching, line_behind};
-use crate::told::{Told, read_told};
+use crate::told::read_told;
 use crate::whole_set::WholeSet;
 use bare_machine::Bare;
 use board::Script;
@@ -92,44 +96,6 @@ fn unless_differs(difference: Option<u64>, verdict: Verdict) -> Verdict
     }
 }
 
-/// The judgement of a whole text.
-fn judge_whole(
-    alloc: Global,
-    image: &Checked,
-    script: &Script,
-    frames: u32,
-    n: u64,
-    list: &[Choice],
-    text: &[u8],
-) -> Result<Verdict, ReplayFault>
-    requires frames { (2048 ≤ frames) × (frames ≤ 16384) }
-    requires script { is_script script.now.list ≡ true }
-    requires bound { n ≤ 2 ^ 40 }
-    requires form { AreChoices list.now }
-    ensures { ReplaysWhole image.now script.now.list frames n list.now text.now result }
-{
-    let mut machine = begun(alloc, image, frames)?;
-    let mut out = Matching::new(text);
-    match follow(&mut machine, script, n, list, &mut out) {
-        Ok(course) => match course {
-            CourseEnd::BadAt(at) => Ok(Verdict::BadEntry(at)),
-            CourseEnd::Ended(end) => {
-                let ended = Ended {
-                    steps: machine.step(),
-                    end,
-                    fills: 0,
-                };
-                let _ = put_end(&ended, &mut out);
-                Ok(unless_differs(out.difference(), Verdict::Yes))
-            }
-        },
-        Err(_) => match out.difference() {
-            Some(line) => differs_unless_bad(alloc, image, script, frames, n, list, line),
-            None => unreachable!(),
-        },
-    }
-}
-
 /// The verdict on a text whose lines before its last one are right.
 fn end_verdict(end: End, stop: Stop, line: u64) -> Verdict
     ensures { result ≡ end_verdict end stop line }
@@ -140,38 +106,72 @@ fn end_verdict(end: End, stop: Stop, line: u64) -> Verdict
     }
 }
 
-/// The judgement of a text whose last line tells a stop of a monitor's own.
-fn judge_before(
+/// What the course of the choices says of a text, or the line at which the text differs before the course's end. With a stop
+/// the text is what stands before a last line that tells this stop of a monitor's own.
+fn compare(
+    machine: &mut Bare<WholeSet>,
+    script: &Script,
+    bound: u64,
+    list: &[Choice],
+    text: &[u8],
+    told: Option<Stop>,
+) -> Result<Verdict, u64>
+    requires script { is_script script.now.list ≡ true }
+    requires kept { IsKept machine.old.frames (state_of whole_entries machine.old) }
+    requires begin { machine.old.step ≡ 0 }
+    requires bound { bound ≤ 2 ^ 40 }
+    requires form { AreChoices list.now }
+    ensures { (image : Image) → ComparesAs text.now told
+        (course (bare image script.now.list machine.old.frames) list.now bound (state_of whole_entries machine.old)) result }
+{
+    let mut out = Matching::new(text);
+    match follow(machine, script, bound, list, &mut out) {
+        Ok(course) => match course {
+            CourseEnd::BadAt(at) => Ok(Verdict::BadEntry(at)),
+            CourseEnd::Ended(end) => match told {
+                None => {
+                    let ended = Ended {
+                        steps: machine.step(),
+                        end,
+                        fills: 0,
+                    };
+                    let _ = put_end(&ended, &mut out);
+                    Ok(unless_differs(out.difference(), Verdict::Yes))
+                }
+                Some(stop) => {
+                    let verdict = end_verdict(end, stop, line_behind(text));
+                    Ok(unless_differs(out.difference(), verdict))
+                }
+            },
+        },
+        Err(_) => match out.difference() {
+            Some(line) => Err(line),
+            None => unreachable!(),
+        },
+    }
+}
+
+/// The judgement of a text. With a stop the text is what stands before a last line that tells this stop of a monitor's own.
+fn judge(
     alloc: Global,
     image: &Checked,
     script: &Script,
     frames: u32,
-    told: &Told,
+    bound: u64,
     list: &[Choice],
     text: &[u8],
+    told: Option<Stop>,
 ) -> Result<Verdict, ReplayFault>
     requires frames { (2048 ≤ frames) × (frames ≤ 16384) }
     requires script { is_script script.now.list ≡ true }
-    requires bound { told.now.steps ≤ 2 ^ 40 }
+    requires bound { bound ≤ 2 ^ 40 }
     requires form { AreChoices list.now }
-    requires last { told.now.at ≤ length text.now }
-    ensures { ReplaysBefore image.now script.now.list frames told.now list.now text.now result }
+    ensures { JudgesAs image.now script.now.list frames bound list.now text.now told result }
 {
-    let front = &text[..told.at];
     let mut machine = begun(alloc, image, frames)?;
-    let mut out = Matching::new(front);
-    match follow(&mut machine, script, told.steps, list, &mut out) {
-        Ok(course) => match course {
-            CourseEnd::BadAt(at) => Ok(Verdict::BadEntry(at)),
-            CourseEnd::Ended(end) => {
-                let verdict = end_verdict(end, told.stop, line_behind(front));
-                Ok(unless_differs(out.difference(), verdict))
-            }
-        },
-        Err(_) => match out.difference() {
-            Some(line) => differs_unless_bad(alloc, image, script, frames, told.steps, list, line),
-            None => unreachable!(),
-        },
+    match compare(&mut machine, script, bound, list, text, told) {
+        Ok(verdict) => Ok(verdict),
+        Err(line) => differs_unless_bad(alloc, image, script, frames, bound, list, line),
     }
 }
 
@@ -192,8 +192,21 @@ pub fn replay(
     requires form { AreChoices choices.now.list }
     ensures judged { Replays image.now script.now.list frames n choices.now.list text.now result }
 {
+    let list = &choices.list;
     match read_told(text, n) {
-        None => judge_whole(alloc, image, script, frames, n, &choices.list, text),
-        Some(told) => judge_before(alloc, image, script, frames, &told, &choices.list, text),
+        None => judge(alloc, image, script, frames, n, list, text, None),
+        Some(told) => {
+            let front = &text[..told.at];
+            judge(
+                alloc,
+                image,
+                script,
+                frames,
+                told.steps,
+                list,
+                front,
+                Some(told.stop),
+            )
+        }
     }
 }
