@@ -1,6 +1,6 @@
 //! Checkpoints, read from files with what goes on from them, and made as files.
 
-ghost use Rattle.std.specs.Prelude.{◌≡◌, ◌≤◌, true, ℕ, List, IfOk, IfErr, Ok, length};
+ghost use Rattle.std.specs.Prelude.{◌≡◌, ◌≤◌, true, ℕ, List, IfOk, IfErr, Ok, Err, length};
 ghost use Rattle.guest_ram.specs.Bytes.{part};
 ghost use Rattle.ia32_types.specs.declared.addresses.TheConstants.{TEXT_PLACE};
 ghost use Rattle.pv_io.specs.Files.{IsHeld};
@@ -12,7 +12,7 @@ ghost use Rattle.checkpoint.specs.Fits.{fits_of};
 ghost use Rattle.pv_build.specs.Lines.{place_line};
 ghost use Rattle.pv_build.specs.Readings.{OnlyRead};
 ghost use Rattle.pv_build.specs.Failures.{NoneFailedIn};
-ghost use Rattle.pv_build.specs.Telling.{HaltsOverFiles};
+ghost use Rattle.pv_build.specs.Telling.{HaltsOverFiles, RefusesAs};
 ghost use Rattle.pv_build.specs.Images.{HasImage};
 ghost use Rattle.pv_build.specs.Scripts.{HasScript};
 ghost use Rattle.pv_save.specs.Checkpoints.{checkpoint_number, saved_line, HasState, FindsState};
@@ -64,13 +64,27 @@ pub fn resumable_in_files<F: Files>(
 {
     let found = runnable_in_files(alloc, image, script, files)?;
     let state = state_in(alloc, name, files)?;
+    test_fit(alloc, &state, &found.image, wedge, n)?;
     let Runnable { image, script } = found;
-    match fits(&state, &image, wedge, n) {
-        Ok(()) => Ok(Resumable {
-            image,
-            script,
-            state,
-        }),
+    Ok(Resumable {
+        image,
+        script,
+        state,
+    })
+}
+
+// Tells whether a state fits the image, the machine and the count of steps, and why not.
+fn test_fit(alloc: Global, state: &State, image: &Checked, wedge: bool, n: u64) -> Result<(), Halt>
+    requires { IsInForm state.now }
+    ensures fits { IfOk result (λ _. fits_of state.now image.now wedge n ≡ Ok tt) }
+    ensures text { IfOk result (λ _. part state.now.ram TEXT_PLACE (length image.now.text) ≡ image.now.text) }
+    ensures steps { IfOk result (λ _. state.now.step ≤ n) }
+    ensures able { IfOk result (λ _. wedge ≡ true → IsAble state.now.cpu) }
+    ensures refused { IfErr result (RefusesAs (λ line. (at : ℕ) × (why : CheckpointCause)
+        × (fits_of state.now image.now wedge n ≡ Err (at, why)) × (line ≡ place_line (checkpoint_number why) at))) }
+{
+    match fits(state, image, wedge, n) {
+        Ok(()) => Ok(()),
         Err((at, cause)) => Err(refused(place_line(alloc, number_of_checkpoint(cause), at))),
     }
 }
