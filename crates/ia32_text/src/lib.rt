@@ -1,0 +1,16 @@
+//! An instruction as text in AT&T syntax.
+#![tactic(auto)]
+
+mod kinds;
+mod line;
+mod names;
+mod numbers;
+mod operands;
+mod put;
+mod registers;
+
+pub use kinds::{Ending, Layout, ending_of, layout_of};
+pub use line::{Line, ROOM};
+pub use names::stem;
+pub use operands::{Operands, Written, operands_of};
+pub use put::put_text;

@@ -1,0 +1,104 @@
+//! Numbers in hexadecimal.
+
+ghost use Rattle.std.specs.Prelude.{◌≡◌, ◌+◌, ◌++◌, ◌≤◌, ◌<◌, ◌/◌, ◌%◌, ◌^◌, length, pos};
+ghost use Rattle.ia32_text.specs.Numbers as spec;
+
+use crate::line::{Line, add};
+
+fn digit(n: u8) -> u8
+    requires { n < 16 }
+    ensures { result ≡ spec.hex_digit n }
+{
+    if n < 10 { n + 48 } else { n + 87 }
+}
+
+fn two_digits(n: u8, line: &mut Line)
+    requires { length line.old.items ≤ 240 }
+    ensures text { line.new.items ≡ line.old.items ++ spec.hex2 n }
+    ensures len { length line.new.items ≡ length line.old.items + 2 }
+{
+    add(&[digit(n / 16), digit(n % 16)], line);
+}
+
+fn four_digits(n: u16, line: &mut Line)
+    requires { length line.old.items ≤ 230 }
+    ensures text { line.new.items ≡ line.old.items ++ spec.hex4 n }
+    ensures len { length line.new.items ≡ length line.old.items + 4 }
+{
+    two_digits((n / 256) as u8, line);
+    two_digits((n % 256) as u8, line);
+}
+
+/// All eight digits.
+pub fn eight_digits(n: u32, line: &mut Line)
+    requires { length line.old.items ≤ 220 }
+    ensures text { line.new.items ≡ line.old.items ++ spec.hex8 n }
+    ensures len { length line.new.items ≡ length line.old.items + 8 }
+{
+    four_digits((n / 65536) as u16, line);
+    four_digits((n % 65536) as u16, line);
+}
+
+fn short_byte(n: u8, line: &mut Line)
+    requires { length line.old.items ≤ 230 }
+    ensures text { line.new.items ≡ line.old.items ++ spec.short2 n }
+    ensures len { length line.new.items ≤ length line.old.items + 2 }
+{
+    if n < 16 {
+        add(&[digit(n)], line);
+    } else {
+        two_digits(n, line);
+    }
+}
+
+fn short_word(n: u16, line: &mut Line)
+    requires { length line.old.items ≤ 220 }
+    ensures text { line.new.items ≡ line.old.items ++ spec.short4 n }
+    ensures len { length line.new.items ≤ length line.old.items + 4 }
+{
+    if n < 256 {
+        short_byte(n as u8, line);
+    } else {
+        short_byte((n / 256) as u8, line);
+        two_digits((n % 256) as u8, line);
+    }
+}
+
+fn short_long(n: u32, line: &mut Line)
+    requires { length line.old.items ≤ 210 }
+    ensures text { line.new.items ≡ line.old.items ++ spec.short8 n }
+    ensures len { length line.new.items ≤ length line.old.items + 8 }
+{
+    if n < 65536 {
+        short_word(n as u16, line);
+    } else {
+        short_word((n / 65536) as u16, line);
+        four_digits((n % 65536) as u16, line);
+    }
+}
+
+/// The number, without leading zeros.
+#[tactic(auto, unfolding(crate::specs::Numbers::number_text))]
+pub fn plain(n: u32, line: &mut Line)
+    requires { length line.old.items ≤ 200 }
+    ensures text { line.new.items ≡ line.old.items ++ spec.number_text (pos n) }
+    ensures len { length line.new.items ≤ length line.old.items + 10 }
+{
+    add(b"0x", line);
+    short_long(n, line);
+}
+
+/// The signed number that 32 bits stand for, without leading zeros.
+#[tactic(auto, unfolding(crate::specs::Numbers::number_text))]
+pub fn signed(n: u32, line: &mut Line)
+    requires { length line.old.items ≤ 190 }
+    ensures text { line.new.items ≡ line.old.items ++ spec.number_text (spec.signed_long n) }
+    ensures len { length line.new.items ≤ length line.old.items + 11 }
+{
+    if n < 0x8000_0000 {
+        plain(n, line);
+    } else {
+        add(b"-", line);
+        plain(u32::MAX - n + 1, line);
+    }
+}
