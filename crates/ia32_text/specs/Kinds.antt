@@ -38,6 +38,10 @@ ending_of op.JumpTo = ends.Nothing
 ending_of op.CallTo = ends.Nothing
 ending_of op.Jcc = ends.Condition
 ending_of op.Setcc = ends.Condition
+ending_of op.ReadControl = ends.Nothing
+ending_of op.WriteControl = ends.Nothing
+ending_of op.ReadSeg = ends.Nothing
+ending_of op.LoadSeg = ends.Nothing
 ending_of _ = ends.Sized
 
 abbrev pub layout_of : Op → Layout

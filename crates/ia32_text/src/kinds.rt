@@ -56,6 +56,7 @@ pub fn ending_of(op: Op) -> Ending
     match op {
         Op::Movzx | Op::Movsx => Ending::Widened,
         Op::Pusha | Op::Popa | Op::Cwde | Op::Cdq | Op::Leave | Op::Nop | Op::Jmp | Op::Call | Op::Int | Op::Int3 | Op::Ud2 | Op::Clc | Op::Stc | Op::Cld | Op::Std | Op::Cli | Op::Sti | Op::Hlt | Op::PushFlags | Op::PopFlags | Op::Iret | Op::LoadTask | Op::DropPage | Op::FarJump | Op::Return | Op::JumpTo | Op::CallTo => Ending::Nothing,
+        Op::ReadControl | Op::WriteControl | Op::ReadSeg | Op::LoadSeg => Ending::Nothing,
         Op::Jcc | Op::Setcc => Ending::Condition,
         _ => Ending::Sized,
     }
