@@ -1,2 +1,4 @@
 pub mod Reading
 pub mod Closing
+pub mod Drafting
+pub mod Families

@@ -114,21 +114,21 @@ field_plain n l = omega arith
 field_negative : (n : ℕ) → n < 2 ^ 31 → field size.Long (negsuc n) ≡ 2 ^ 32 - 1 - n
 field_negative n l = omega arith
 
-abbrev plain_at : ℤ → ℕ → Number
+abbrev pub plain_at : ℤ → ℕ → Number
 plain_at z k = record { value = z; named = false; argument = k }
 
 -- the displacement that is written names no symbol, and has the address's bits
-record Displaces (o : Option Value) (k disp : ℕ) : Type 0 where
-  plain : (displacement o k).named ≡ false
-  counted : (displacement o k).argument ≡ k
-  bits : field size.Long (displacement o k).value ≡ disp
-  fits : fits_field size.Long (displacement o k).value ≡ true
+pub record Displaces (o : Option Value) (k disp : ℕ) : Type 0 where
+  pub plain : (displacement o k).named ≡ false
+  pub counted : (displacement o k).argument ≡ k
+  pub bits : field size.Long (displacement o k).value ≡ disp
+  pub fits : fits_field size.Long (displacement o k).value ≡ true
 
 signed_bits : (n : ℕ) (b : Bool) → nat_lt n (2 ^ 31) ≡ b → n < 2 ^ 32 → field size.Long (if b then pos n else negsuc (2 ^ 32 - 1 - n)) ≡ n
 signed_bits n true e l = omega arith
 signed_bits n false e l = omega arith
 
-plain_fits : (n : ℕ) → n < 2 ^ 32 → fits_field size.Long (pos n) ≡ true
+pub plain_fits : (n : ℕ) → n < 2 ^ 32 → fits_field size.Long (pos n) ≡ true
 plain_fits n l = lt-ltb n (2 ^ 32) l
 
 negative_fits : (n : ℕ) → n < 2 ^ 31 → fits_field size.Long (negsuc n) ≡ true
@@ -153,7 +153,7 @@ chosen_displaces k disp true c z l = plain_displaces k disp l
 chosen_displaces k disp false true z l = none_displaces k disp (z refl)
 chosen_displaces k disp false false z l = signed_displaces k disp l
 
-address_displaces : (a : Address) (k : ℕ) → a.disp < 2 ^ 32 → Displaces (displacement_of a) k a.disp
+pub address_displaces : (a : Address) (k : ℕ) → a.disp < 2 ^ 32 → Displaces (displacement_of a) k a.disp
 address_displaces a k l =
     chosen_displaces k a.disp (is_none a.base && is_none a.index) (a.disp == 0 && is_some a.base)
     (λ h. eqb-true a.disp 0 (and_parts (a.disp == 0) (is_some a.base) h).0) l
@@ -164,7 +164,7 @@ pub record GivesMemory (a : Address) (k : ℕ) (n : Number) : Type 0 where
   pub counted : n.argument ≡ k
   pub fits : fits_field size.Long n.value ≡ true
 
-abbrev memory_given : Address → Number → Given
+abbrev pub memory_given : Address → Number → Given
 memory_given a n = given.Memory (record { address = a; displacement = n })
 
 memory_is : (a : Address) (n : Number) → field size.Long n.value ≡ a.disp → address a.base a.index a.scale n ≡ memory_given a n
