@@ -263,6 +263,20 @@ pub return_number : (imm : ℕ) → imm < 65536
 unfolding control_draft agreed
 return_number imm l = drafts_to _ _ (with_number (alone op.Return) size.Word (plain_at (pos imm) 0)) refl (number_drafts _ _ size.Word imm 0 (alone_drafts op.Return) l)
 
+select_number : (i : Insn) (d : Draft) (n : ℕ) → Drafts i d → n < 65536 → Drafts (record i { sel = n }) (with_selector d (plain_at (pos n) 0))
+select_number i d n h l = let e : field size.Word (pos n) ≡ n = omega arith in record {
+  same = ap (λ (x : Insn). record x { sel = field size.Word (pos n) }) h.same ∙ ap (λ m. record i { sel = m }) e;
+  fits = and_from d.fits (fits_field size.Word (pos n)) h.fits (lt-ltb n _ l);
+}
+
+pub far_drafts : (imm sel : ℕ) → imm < 2 ^ 32 → sel < 65536
+    → DraftsTo (made op.FarJump size.Long operand.Absent operand.Absent imm sel false)
+        (control_draft control.FarJump None (taken.Two (given.Immediate (plain_at (pos sel) 0)) (given.Immediate (plain_at (pos imm) 1))))
+unfolding control_draft far
+far_drafts imm sel l k =
+    drafts_to _ _ (with_selector (with_number (alone op.FarJump) size.Long (plain_at (pos imm) 1)) (plain_at (pos sel) 0)) refl
+    (select_number _ _ sel (number_drafts _ _ size.Long imm 1 (alone_drafts op.FarJump) l) k)
+
 -- ---- ports and system instructions
 
 pub memory_drafts : (o : Op) (suffix : Option Size) (x : Address) (imm : ℕ) → agreed suffix (Some size.Long) None ≡ Some size.Long → IsOperand (operand.Memory x)

@@ -2,3 +2,4 @@ pub mod Reading
 pub mod Closing
 pub mod Drafting
 pub mod Families
+pub mod Naming
