@@ -126,6 +126,10 @@ agreed_one size.Byte = refl
 agreed_one size.Word = refl
 agreed_one size.Long = refl
 
+pub agreed_none : agreed None (Some size.Long) None ≡ Some size.Long
+unfolding agreed
+agreed_none = refl
+
 pub agreed_first : (s : Size) → agreed (Some s) (Some s) None ≡ Some s
 unfolding agreed
 agreed_first size.Byte = refl

@@ -3,3 +3,4 @@ pub mod Closing
 pub mod Drafting
 pub mod Families
 pub mod Naming
+pub mod Meaning
