@@ -4,3 +4,4 @@ pub mod Drafting
 pub mod Families
 pub mod Naming
 pub mod Meaning
+pub mod RowFacts
