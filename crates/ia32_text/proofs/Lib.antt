@@ -5,3 +5,4 @@ pub mod Families
 pub mod Naming
 pub mod Meaning
 pub mod RowFacts
+pub mod RowLaw
