@@ -6,3 +6,4 @@ pub mod Naming
 pub mod Meaning
 pub mod RowFacts
 pub mod RowLaw
+pub mod Law

@@ -6,3 +6,4 @@ pub mod Operands
 pub mod Arguments
 pub mod Statement
 pub mod Text
+pub mod Again

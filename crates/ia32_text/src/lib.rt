@@ -2,6 +2,7 @@
 #![tactic(auto)]
 
 mod kinds;
+mod laws;
 mod line;
 mod names;
 mod numbers;
@@ -10,6 +11,7 @@ mod put;
 mod registers;
 
 pub use kinds::{Ending, Layout, ending_of, layout_of};
+pub use laws::assembles_again;
 pub use line::{Line, ROOM};
 pub use names::stem;
 pub use operands::{Operands, Written, operands_of};
