@@ -89,7 +89,7 @@ product_two s n b imm l h p = to_register_drafts op.Imul s n b imm 0 1 l h p
 
 pub product_three : (s : Size) (n : ℕ) (b : Operand) (imm : ℕ) → n < 8 → IsOperand b → PlaceKind b → imm < 2 ^ 32
     → DraftsTo (made op.ImulBy s (operand.Register n) b imm 0 false)
-        (arithmetic_draft arithmetic.Multiply (Some s) (taken.Three (given.Immediate (plain_at (pos imm) 0)) (given_of (as_written s imm b) 1) (given.Register s n)))
+    (arithmetic_draft arithmetic.Multiply (Some s) (taken.Three (given.Immediate (plain_at (pos imm) 0)) (given_of (as_written s imm b) 1) (given.Register s n)))
 unfolding arithmetic_draft
 product_three s n b imm l h p small =
     then_drafts (made op.ImulBy s (operand.Register n) b 0 0 false) _ (to_register op.ImulBy (Some s) (given_of (as_written s imm b) 1) (given.Register s n)) (λ d. with_number d size.Long (plain_at (pos imm) 0))
@@ -271,7 +271,7 @@ select_number i d n h l = let e : field size.Word (pos n) ≡ n = omega arith in
 
 pub far_drafts : (imm sel : ℕ) → imm < 2 ^ 32 → sel < 65536
     → DraftsTo (made op.FarJump size.Long operand.Absent operand.Absent imm sel false)
-        (control_draft control.FarJump None (taken.Two (given.Immediate (plain_at (pos sel) 0)) (given.Immediate (plain_at (pos imm) 1))))
+    (control_draft control.FarJump None (taken.Two (given.Immediate (plain_at (pos sel) 0)) (given.Immediate (plain_at (pos imm) 1))))
 unfolding control_draft far
 far_drafts imm sel l k =
     drafts_to _ _ (with_selector (with_number (alone op.FarJump) size.Long (plain_at (pos imm) 1)) (plain_at (pos sel) 0)) refl

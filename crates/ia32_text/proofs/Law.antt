@@ -29,4 +29,3 @@ assembled_again rep name args a at len e d =
     let s = (answer_right rep name args a e).spelled.spells in
     let c = answer_chosen rep name args a e in
     spelled_again (spelling_bytes a) a.insn at len (record { row = s.row; listed = s.listed; parts = s.parts; by_row = s.by_row }) c.bounded d
-

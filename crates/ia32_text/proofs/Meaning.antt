@@ -389,4 +389,3 @@ pub meant_Lods_Long : (at len : ℕ) (rep : Bool) → Meant at len (made op.Lods
 unfolding name_of operands_of drafted
 meant_Lods_Long at len true = means_of _ _ _ _ naming.string_Lods_Long tt (families.string_drafts true op.Lods size.Long)
 meant_Lods_Long at len false = means_of _ _ _ _ naming.string_Lods_Long tt (families.string_drafts false op.Lods size.Long)
-

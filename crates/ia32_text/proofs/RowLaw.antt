@@ -45,7 +45,6 @@ use Rattle.ia32_text.proofs.Drafting.{made, IsOperand, TwoKinds, TwoNumber, IsTw
 use Rattle.ia32_text.proofs.Families.{TestKinds}
 use Rattle.ia32_text.proofs.Meaning as meaning
 use Rattle.ia32_text.proofs.Meaning.{Meant}
-
 use Rattle.ia32_text.proofs.RowFacts.{IsSafe, is_safe, Facts, two_row, two_is, test_operands, test_is, one_row, one_is, memory_row, memory_is, into_row, into_zero, into_zero_is, into_number_is, lea_row, lea_is, product_row, product_is, shift_row, shift_is, exchange_row, exchange_is, special_row, read_segment_is, load_segment_is, read_control_is, write_control_is, segment_row, segment_is, bare_row, bare_is, no_number, a_byte, a_drop, nothing_is, byte_alone_is, drop_alone_is, push_row, push_is, port_row, port_is, is_long, is_byte, no_word, no_long, long_size, byte_size, string_size, small_size}
 
 -- the operands, number and size that a row of this name has

@@ -55,7 +55,33 @@ pub fn ending_of(op: Op) -> Ending
 {
     match op {
         Op::Movzx | Op::Movsx => Ending::Widened,
-        Op::Pusha | Op::Popa | Op::Cwde | Op::Cdq | Op::Leave | Op::Nop | Op::Jmp | Op::Call | Op::Int | Op::Int3 | Op::Ud2 | Op::Clc | Op::Stc | Op::Cld | Op::Std | Op::Cli | Op::Sti | Op::Hlt | Op::PushFlags | Op::PopFlags | Op::Iret | Op::LoadTask | Op::DropPage | Op::FarJump | Op::Return | Op::JumpTo | Op::CallTo => Ending::Nothing,
+        Op::Pusha
+        | Op::Popa
+        | Op::Cwde
+        | Op::Cdq
+        | Op::Leave
+        | Op::Nop
+        | Op::Jmp
+        | Op::Call
+        | Op::Int
+        | Op::Int3
+        | Op::Ud2
+        | Op::Clc
+        | Op::Stc
+        | Op::Cld
+        | Op::Std
+        | Op::Cli
+        | Op::Sti
+        | Op::Hlt
+        | Op::PushFlags
+        | Op::PopFlags
+        | Op::Iret
+        | Op::LoadTask
+        | Op::DropPage
+        | Op::FarJump
+        | Op::Return
+        | Op::JumpTo
+        | Op::CallTo => Ending::Nothing,
         Op::ReadControl | Op::WriteControl | Op::ReadSeg | Op::LoadSeg => Ending::Nothing,
         Op::Jcc | Op::Setcc => Ending::Condition,
         _ => Ending::Sized,
@@ -67,8 +93,38 @@ pub fn layout_of(op: Op) -> Layout
     ensures { result ≡ spec.layout_of op }
 {
     match op {
-        Op::Add | Op::Or | Op::Adc | Op::Sbb | Op::And | Op::Sub | Op::Xor | Op::Cmp | Op::Test | Op::Mov | Op::Lea | Op::Xchg | Op::ReadControl | Op::WriteControl | Op::ReadSeg | Op::LoadSeg => Layout::Two,
-        Op::Not | Op::Neg | Op::Mul | Op::Div | Op::Idiv | Op::Inc | Op::Dec | Op::Push | Op::Pop | Op::Setcc | Op::Int | Op::LoadGdt | Op::LoadIdt | Op::DropPage | Op::PushSeg | Op::PopSeg => Layout::One,
+        Op::Add
+        | Op::Or
+        | Op::Adc
+        | Op::Sbb
+        | Op::And
+        | Op::Sub
+        | Op::Xor
+        | Op::Cmp
+        | Op::Test
+        | Op::Mov
+        | Op::Lea
+        | Op::Xchg
+        | Op::ReadControl
+        | Op::WriteControl
+        | Op::ReadSeg
+        | Op::LoadSeg => Layout::Two,
+        Op::Not
+        | Op::Neg
+        | Op::Mul
+        | Op::Div
+        | Op::Idiv
+        | Op::Inc
+        | Op::Dec
+        | Op::Push
+        | Op::Pop
+        | Op::Setcc
+        | Op::Int
+        | Op::LoadGdt
+        | Op::LoadIdt
+        | Op::DropPage
+        | Op::PushSeg
+        | Op::PopSeg => Layout::One,
         Op::Imul => Layout::Product,
         Op::ImulBy => Layout::ProductBy,
         Op::Rol | Op::Ror | Op::Shl | Op::Shr | Op::Sar => Layout::Shift,
