@@ -123,7 +123,7 @@ drafts_as : (i : Insn) (m : Mnemonic) (args : List Argument) (os : Operands) (d 
 unfolding drafted_of
 drafts_as i m args os d e f = rw e f
 
-assembles_as : (rep : Bool) (name : List ℕ) (m : Mnemonic) (args : List Argument) (d : Draft) (a : Assembled) → known_name name ≡ Some m → drafted_of rep m args ≡ Some d
+pub assembles_as : (rep : Bool) (name : List ℕ) (m : Mnemonic) (args : List Argument) (d : Draft) (a : Assembled) → known_name name ≡ Some m → drafted_of rep m args ≡ Some d
     → spelled d args ≡ Ok a → assembled rep name args ≡ Ok a
 unfolding assembled by_mnemonic
 assembles_as rep name m args d a e f g = rw (not_refused name m e, e, f) g

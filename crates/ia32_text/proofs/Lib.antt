@@ -7,3 +7,4 @@ pub mod Meaning
 pub mod RowFacts
 pub mod RowLaw
 pub mod Law
+pub mod Branches

@@ -409,3 +409,31 @@ set_named (suc (suc (suc (suc (suc (suc (suc (suc (suc (suc (suc (suc (suc zero)
 set_named (suc (suc (suc (suc (suc (suc (suc (suc (suc (suc (suc (suc (suc (suc zero)))))))))))))) l = refl
 set_named (suc (suc (suc (suc (suc (suc (suc (suc (suc (suc (suc (suc (suc (suc (suc zero))))))))))))))) l = refl
 set_named (suc (suc (suc (suc (suc (suc (suc (suc (suc (suc (suc (suc (suc (suc (suc (suc c)))))))))))))))) l = absurd (omega arith)
+
+pub jump_named : (c : ℕ) → c < 16 → known_name (stem op.Jcc ++ condition_name c) ≡ Some (named (family.Control (control.Conditional c)) None)
+unfolding stem condition_name known_name conditional_name exact_names sized_names conditions with_suffix suffixed plain_names frame_names extend_names string_names page_names control_names arithmetic_names shift_names move_names stack_names branch_names system_names
+jump_named zero l = refl
+jump_named (suc zero) l = refl
+jump_named (suc (suc zero)) l = refl
+jump_named (suc (suc (suc zero))) l = refl
+jump_named (suc (suc (suc (suc zero)))) l = refl
+jump_named (suc (suc (suc (suc (suc zero))))) l = refl
+jump_named (suc (suc (suc (suc (suc (suc zero)))))) l = refl
+jump_named (suc (suc (suc (suc (suc (suc (suc zero))))))) l = refl
+jump_named (suc (suc (suc (suc (suc (suc (suc (suc zero)))))))) l = refl
+jump_named (suc (suc (suc (suc (suc (suc (suc (suc (suc zero))))))))) l = refl
+jump_named (suc (suc (suc (suc (suc (suc (suc (suc (suc (suc zero)))))))))) l = refl
+jump_named (suc (suc (suc (suc (suc (suc (suc (suc (suc (suc (suc zero))))))))))) l = refl
+jump_named (suc (suc (suc (suc (suc (suc (suc (suc (suc (suc (suc (suc zero)))))))))))) l = refl
+jump_named (suc (suc (suc (suc (suc (suc (suc (suc (suc (suc (suc (suc (suc zero))))))))))))) l = refl
+jump_named (suc (suc (suc (suc (suc (suc (suc (suc (suc (suc (suc (suc (suc (suc zero)))))))))))))) l = refl
+jump_named (suc (suc (suc (suc (suc (suc (suc (suc (suc (suc (suc (suc (suc (suc (suc zero))))))))))))))) l = refl
+jump_named (suc (suc (suc (suc (suc (suc (suc (suc (suc (suc (suc (suc (suc (suc (suc (suc c)))))))))))))))) l = absurd (omega arith)
+
+pub bare_Jmp : known_name (stem op.Jmp ++ []) ≡ Some (named (family.Control (control.Branch op.Jmp op.JumpTo)) None)
+unfolding stem condition_name known_name conditional_name exact_names sized_names conditions with_suffix suffixed plain_names frame_names extend_names string_names page_names control_names arithmetic_names shift_names move_names stack_names branch_names system_names
+bare_Jmp = refl
+
+pub bare_Call : known_name (stem op.Call ++ []) ≡ Some (named (family.Control (control.Branch op.Call op.CallTo)) None)
+unfolding stem condition_name known_name conditional_name exact_names sized_names conditions with_suffix suffixed plain_names frame_names extend_names string_names page_names control_names arithmetic_names shift_names move_names stack_names branch_names system_names
+bare_Call = refl

@@ -1,15 +1,19 @@
 //! Laws of the statement that an instruction is.
 
-ghost use Rattle.std.specs.Prelude.{◌≡◌, ℕ, Bool, false, List, Ok};
+ghost use Rattle.std.specs.Prelude.{◌≡◌, ◌<◌, ℕ, Bool, false, List, Ok};
 ghost use Rattle.ia32_types.specs.declared.insn.Insn.{Insn};
 ghost use Rattle.ia32_types.specs.Branches.{is_direct_branch};
+ghost use Rattle.ia32_types.specs.declared.insn.Op.TheVariants.{Jmp, Call, Jcc};
 ghost use Rattle.ia32_rows.specs.Spells.{Spells};
+ghost use Rattle.ia32_encode.specs.Short.{by_distance};
 ghost use Rattle.ia32_encode.specs.Good.{IsBounded};
 ghost use Rattle.asm_source.specs.declared.tree.Argument.{Argument};
 ghost use Rattle.asm_instruction.specs.declared.assembled.Assembled.{Assembled};
 ghost use Rattle.asm_instruction.specs.Assembled.{assembled};
 ghost use Rattle.ia32_text.specs.Statement.{statement_of};
-ghost use Rattle.ia32_text.specs.Again.{AssemblesTo};
+ghost use Rattle.ia32_text.specs.Operands.{target};
+ghost use Rattle.ia32_text.specs.Arguments.{label_of};
+ghost use Rattle.ia32_text.specs.Again.{AssemblesTo, BranchesTo};
 
 /// The statement that an instruction is assembles to it again: of each that bytes spell, and of each that a
 /// statement is assembled to, direct branches apart.
@@ -18,4 +22,12 @@ pub fn assembles_again()
         AssemblesTo (statement_of insn at len) insn }
     ensures assembled { (rep : Bool) (name : List ℕ) (args : List Argument) (a : Assembled) (at len : ℕ) → assembled rep name args ≡ Ok a →
         is_direct_branch a.insn.op ≡ false → AssemblesTo (statement_of a.insn at len) a.insn }
+{}
+
+/// The statement that a direct branch is assembles to the distance to its target's label.
+pub fn branches_again()
+    ensures jmp { (distance at len : ℕ) → BranchesTo (statement_of (by_distance Jmp 0 distance) at len) (label_of (target distance at len)) (by_distance Jmp 0 distance) }
+    ensures call { (distance at len : ℕ) → BranchesTo (statement_of (by_distance Call 0 distance) at len) (label_of (target distance at len)) (by_distance Call 0 distance) }
+    ensures jcc { (condition distance at len : ℕ) → condition < 16 →
+        BranchesTo (statement_of (by_distance Jcc condition distance) at len) (label_of (target distance at len)) (by_distance Jcc condition distance) }
 {}

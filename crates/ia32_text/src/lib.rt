@@ -11,7 +11,7 @@ mod put;
 mod registers;
 
 pub use kinds::{Ending, Layout, ending_of, layout_of};
-pub use laws::assembles_again;
+pub use laws::{assembles_again, branches_again};
 pub use line::{Line, ROOM};
 pub use names::stem;
 pub use operands::{Operands, Written, operands_of};
