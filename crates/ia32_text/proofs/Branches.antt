@@ -1,41 +1,32 @@
 -- A direct branch is assembled to the distance to its target's label.
-use Rattle.std.proofs.Common.{◌≡◌, ℕ, ◌+◌, ◌<◌, ◌++◌, Bool, true, false, List, [], ◌∷◌, Option, Some, None, Ok, refl, sym, ap, subst, ◌∙◌, arith}
-use Rattle.std.specs.Prelude.{pos, is_none, is_some, slice_get, IsSomeAnd}
-use Rattle.ia32_types.specs.declared.insn.Insn.{Insn}
+use Rattle.std.proofs.Common.{◌≡◌, ℕ, ◌+◌, ◌<◌, ◌++◌, true, false, List, [], ◌∷◌, Option, Some, None, Ok, refl}
+use Rattle.std.specs.Prelude.{pos}
 use Rattle.ia32_types.specs.declared.insn.Op.{Op}
 use Rattle.ia32_types.specs.declared.insn.Op.TheVariants as op
-use Rattle.ia32_types.specs.declared.insn.Operand.TheVariants as operand
-use Rattle.ia32_types.specs.declared.size.Size.TheVariants as size
 use Rattle.ia32_encode.specs.declared.bytes.ArrayBytes.{ArrayBytes}
-use Rattle.ia32_encode.specs.declared.choose.Wide.{Wide}
 use Rattle.ia32_encode.specs.Chosen.{chosen}
 use Rattle.ia32_encode.specs.Short.{by_distance, with_wide, Begins}
 use Rattle.ia32_encode.proofs.ShortForms.{jmp_by_four_bytes, call_by_four_bytes, jcc_by_four_bytes}
-use Rattle.asm_source.specs.declared.tree.Form.TheVariants as form
 use Rattle.asm_source.specs.declared.tree.Argument.{Argument}
 use Rattle.asm_instruction.specs.declared.argument.Memory.{Memory}
 use Rattle.asm_instruction.specs.declared.argument.Given.TheVariants as given
 use Rattle.asm_instruction.specs.declared.argument.Operands.TheVariants as taken
-use Rattle.asm_instruction.specs.declared.control.Control.TheVariants as control
 use Rattle.asm_instruction.specs.declared.draft.Draft.{Draft}
-use Rattle.asm_instruction.specs.declared.mnemonic.Family.TheVariants as family
 use Rattle.asm_instruction.specs.declared.mnemonic.Mnemonic.{Mnemonic}
-use Rattle.asm_instruction.specs.declared.assembled.Assembled.{Assembled}
 use Rattle.asm_instruction.specs.Argument.{given_by, memory_operand, single, operands_of as taken_by, names_symbol}
 use Rattle.asm_instruction.specs.Sizes.{agreed}
 use Rattle.asm_instruction.specs.Draft.{instruction}
 use Rattle.asm_instruction.specs.Control.{distance, to_symbol, direct, control_draft}
 use Rattle.asm_instruction.specs.Mnemonic.{known_name, drafted}
-use Rattle.asm_instruction.specs.Assembled.{widths, whole, spelled, drafted_of, assembled}
-use Rattle.ia32_text.specs.declared.operands.Operands.TheVariants as operands
+use Rattle.asm_instruction.specs.Assembled.{widths, whole, spelled, drafted_of}
 use Rattle.ia32_text.specs.declared.operands.Written.TheVariants as written
 use Rattle.ia32_text.specs.Names.{stem, condition_name}
 use Rattle.ia32_text.specs.Arguments.{label_of, argument, arguments_of}
 use Rattle.ia32_text.specs.Operands.{target, operands_of}
-use Rattle.ia32_text.specs.Statement.{Statement, name_of, statement_of}
+use Rattle.ia32_text.specs.Statement.{name_of, statement_of}
 use Rattle.ia32_text.specs.Again.{BranchesTo}
 use Rattle.ia32_text.proofs.Closing.{assembles_as}
-use Rattle.ia32_text.proofs.Naming.{named, jump_named, bare_Jmp, bare_Call}
+use Rattle.ia32_text.proofs.Naming.{jump_named, bare_Jmp, bare_Call}
 
 -- the symbol that a label's argument gives
 abbrev symbol : Memory

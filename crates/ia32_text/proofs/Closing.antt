@@ -1,14 +1,12 @@
 -- From what a statement means to what is assembled.
-use Rattle.std.proofs.Common.{◌≡◌, ℕ, zero, suc, Bool, true, false, List, [], ◌∷◌, Option, Some, None, Ok, refl, sym, ap, subst, ◌∙◌}
-use Rattle.std.specs.Prelude.{◌==◌, ◌&&◌, is_none, is_some, slice_get, if◌then◌else◌}
+use Rattle.std.proofs.Common.{◌≡◌, ℕ, zero, suc, Bool, true, false, List, Option, Some, None, Ok, refl, sym, ap, ◌∙◌}
+use Rattle.std.specs.Prelude.{◌==◌, ◌&&◌, is_none, is_some, if◌then◌else◌}
 use Rattle.ia32_types.specs.declared.insn.Insn.{Insn}
-use Rattle.ia32_types.specs.declared.insn.Address.{Address}
 use Rattle.ia32_types.specs.declared.site.Refused.{Refused}
 use Rattle.ia32_rows.specs.Spells.{Spells}
 use Rattle.ia32_encode.specs.declared.bytes.ArrayBytes.{ArrayBytes}
 use Rattle.ia32_encode.specs.declared.choose.Wide.{Wide}
 use Rattle.ia32_encode.specs.Chosen.{chosen}
-use Rattle.ia32_encode.specs.Good.{SpellsWide}
 use Rattle.ia32_encode.specs.Short.{plain}
 use Rattle.ia32_encode.proofs.Laid.{none_spells}
 use Rattle.ia32_encode.proofs.Taking.{none_suit}
@@ -19,21 +17,17 @@ use Rattle.asm_instruction.specs.declared.argument.Operands.{Operands}
 use Rattle.asm_instruction.specs.declared.draft.Draft.{Draft}
 use Rattle.asm_instruction.specs.declared.mnemonic.Mnemonic.{Mnemonic}
 use Rattle.asm_instruction.specs.declared.assembled.Assembled.{Assembled}
-use Rattle.asm_instruction.specs.declared.assembled.Refusal.TheVariants as refusal
-use Rattle.asm_instruction.specs.Names.{found, ◌>>=◌}
+use Rattle.asm_instruction.specs.Names.{found}
 use Rattle.asm_instruction.specs.Argument.{operands_of as taken_by, names_symbol}
 use Rattle.asm_instruction.specs.Mnemonic.{known_name, drafted}
 use Rattle.asm_instruction.specs.Refused.{refused_names}
-use Rattle.asm_instruction.specs.Assembled.{widths, whole, with_spelling, spelled, drafted_of, by_draft, by_mnemonic, by_name, assembled}
+use Rattle.asm_instruction.specs.Assembled.{widths, whole, spelled, drafted_of, by_mnemonic, assembled}
 use Rattle.asm_instruction.proofs.KnownNames.{refused_unknown, found_refused}
 use Rattle.ia32_text.specs.declared.operands.Written.{Written}
 use Rattle.ia32_text.specs.declared.operands.Written.TheVariants as written
 use Rattle.ia32_text.specs.declared.operands.Operands.{Operands as WrittenOperands}
 use Rattle.ia32_text.specs.declared.operands.Operands.TheVariants as operands
-use Rattle.ia32_text.specs.Numbers.{signed_long}
-use Rattle.ia32_text.specs.Arguments.{displacement_of, form_of, argument, arguments_of}
-use Rattle.ia32_text.specs.Operands.{operands_of}
-use Rattle.ia32_text.specs.Statement.{Statement, name_of, statement_of}
+use Rattle.ia32_text.specs.Arguments.{form_of, arguments_of}
 use Rattle.ia32_text.proofs.Reading.{IsWritten, AreWritten, taken_of, operands_back}
 
 -- ---- a spelled instruction has a chosen spelling

@@ -1,37 +1,28 @@
 -- What the families of instructions make of written operands.
-use Rattle.std.proofs.Common.{◌≡◌, ℕ, zero, suc, ◌-◌, ◌<◌, ◌≤◌, ◌%◌, ◌^◌, Bool, true, false, List, [], ◌∷◌, Option, Some, None, refl, sym, ap, subst, ◌∙◌, arith}
-use Rattle.std.specs.Prelude.{ℤ, pos, ◌==◌, ◌&&◌, nat_lt, is_none, is_some, min, max, if◌then◌else◌}
-use Rattle.std.specs.Option.{option_or, option_map}
+use Rattle.std.proofs.Common.{◌≡◌, ℕ, ◌<◌, ◌^◌, Bool, true, false, Option, Some, None, refl, sym, ap, subst, ◌∙◌, arith}
+use Rattle.std.specs.Prelude.{pos}
+use Rattle.std.specs.Option.{option_or}
 use Rattle.std.proofs.lemmas.Bool.{and_from, lt-ltb}
 use Rattle.ia32_types.specs.declared.insn.Insn.{Insn}
 use Rattle.ia32_types.specs.declared.insn.Op.{Op}
-use Rattle.ia32_types.specs.declared.insn.Op.TheVariants as op
-use Rattle.ia32_types.specs.declared.insn.Address.{Address}
 use Rattle.ia32_types.specs.declared.insn.Operand.{Operand}
 use Rattle.ia32_types.specs.declared.insn.Operand.TheVariants as operand
-use Rattle.ia32_types.specs.declared.register.Seg.{Seg}
 use Rattle.ia32_types.specs.declared.size.Size.{Size}
 use Rattle.ia32_types.specs.declared.size.Size.TheVariants as size
 use Rattle.ia32_types.specs.Size.{span}
 use Rattle.asm_instruction.specs.declared.argument.Number.{Number}
 use Rattle.asm_instruction.specs.declared.argument.Given.{Given}
-use Rattle.asm_instruction.specs.declared.argument.Given.TheVariants as given
-use Rattle.asm_instruction.specs.declared.argument.Operands.{Operands}
-use Rattle.asm_instruction.specs.declared.argument.Operands.TheVariants as taken
 use Rattle.asm_instruction.specs.declared.draft.Draft.{Draft}
 use Rattle.asm_instruction.specs.declared.draft.NumberedOperand.{NumberedOperand}
-use Rattle.asm_instruction.specs.declared.draft.Pair.TheVariants as pair
-use Rattle.asm_instruction.specs.Names.{◌>>=◌}
 use Rattle.asm_instruction.specs.Field.{field, fits_field}
 use Rattle.asm_instruction.specs.Sizes.{agreed}
 use Rattle.asm_instruction.specs.Argument.{displacement}
-use Rattle.asm_instruction.specs.Draft.{of_operand, nothing, register_operand, memory, register_or_memory, said, paired, displaced, fits_displacement, instruction, with_number, unary, alone}
-use Rattle.asm_instruction.specs.Arithmetic.{of_pair, memory_first, of_two, of_one, to_register}
-use Rattle.ia32_text.specs.declared.operands.Written.{Written}
+use Rattle.asm_instruction.specs.Draft.{of_operand, nothing, register_operand, memory, paired, fits_displacement, instruction, with_number, unary}
+use Rattle.asm_instruction.specs.Arithmetic.{of_pair, of_two, of_one, to_register}
 use Rattle.ia32_text.specs.declared.operands.Written.TheVariants as written
 use Rattle.ia32_text.specs.Arguments.{displacement_of}
 use Rattle.ia32_text.specs.Operands.{as_written}
-use Rattle.ia32_text.proofs.Reading.{is_control, field_plain, plain_at, plain_fits, Displaces, address_displaces, memory_given, given_of, IsWritten}
+use Rattle.ia32_text.proofs.Reading.{is_control, plain_at, address_displaces, given_of, IsWritten}
 
 abbrev pub made : Op → Size → Operand → Operand → ℕ → ℕ → Bool → Insn
 made o s a b imm sel rep = record { op = o; size = s; a = a; b = b; imm = imm; sel = sel; rep = rep }

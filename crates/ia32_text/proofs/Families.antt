@@ -1,7 +1,6 @@
 -- Each family's instruction of written operands.
-use Rattle.std.proofs.Common.{◌≡◌, ℕ, zero, suc, ◌-◌, ◌<◌, ◌≤◌, ◌%◌, ◌^◌, Bool, true, false, List, [], ◌∷◌, Option, Some, None, refl, sym, ap, subst, ◌∙◌, arith}
-use Rattle.std.specs.Prelude.{ℤ, pos, ◌==◌, ◌&&◌, nat_lt, is_none, is_some, min, max, if◌then◌else◌}
-use Rattle.std.specs.Option.{option_or, option_map}
+use Rattle.std.proofs.Common.{◌≡◌, ℕ, ◌<◌, ◌≤◌, ◌^◌, Bool, false, Option, Some, None, refl, sym, ap, subst, ◌∙◌, arith}
+use Rattle.std.specs.Prelude.{pos, min, max}
 use Rattle.std.proofs.lemmas.Bool.{and_from, lt-ltb}
 use Rattle.ia32_types.specs.declared.insn.Insn.{Insn}
 use Rattle.ia32_types.specs.declared.insn.Op.{Op}
@@ -12,10 +11,7 @@ use Rattle.ia32_types.specs.declared.insn.Operand.TheVariants as operand
 use Rattle.ia32_types.specs.declared.register.Seg.{Seg}
 use Rattle.ia32_types.specs.declared.size.Size.{Size}
 use Rattle.ia32_types.specs.declared.size.Size.TheVariants as size
-use Rattle.ia32_types.specs.Size.{span}
-use Rattle.asm_instruction.specs.declared.argument.Given.{Given}
 use Rattle.asm_instruction.specs.declared.argument.Given.TheVariants as given
-use Rattle.asm_instruction.specs.declared.argument.Operands.{Operands}
 use Rattle.asm_instruction.specs.declared.argument.Operands.TheVariants as taken
 use Rattle.asm_instruction.specs.declared.draft.Draft.{Draft}
 use Rattle.asm_instruction.specs.declared.arithmetic.Arithmetic.TheVariants as arithmetic
@@ -26,19 +22,18 @@ use Rattle.asm_instruction.specs.declared.system.System.TheVariants as system
 use Rattle.asm_instruction.specs.Names.{◌>>=◌}
 use Rattle.asm_instruction.specs.Field.{field, fits_field}
 use Rattle.asm_instruction.specs.Sizes.{agreed}
-use Rattle.asm_instruction.specs.Draft.{of_operand, nothing, register_operand, memory, register_or_memory, said, paired, instruction, with_number, unary, alone}
+use Rattle.asm_instruction.specs.Draft.{of_operand, nothing, register_operand, paired, instruction, with_number, unary, alone}
 use Rattle.asm_instruction.specs.Arithmetic.{of_pair, memory_first, of_two, of_one, one, to_register, arithmetic_draft}
 use Rattle.asm_instruction.specs.Shift.{by_register, shift_draft}
-use Rattle.asm_instruction.specs.Moves.{special, from_special, to_special, moved, extended, effective, with_register, exchange, move_draft}
+use Rattle.asm_instruction.specs.Moves.{special, from_special, to_special, moved, extended, effective, move_draft}
 use Rattle.asm_instruction.specs.Stack.{of_segment, pushed, popped, stack_draft}
-use Rattle.asm_instruction.specs.Control.{return_of, with_selector, far, set, control_draft}
+use Rattle.asm_instruction.specs.Control.{with_selector, far, set, control_draft}
 use Rattle.asm_instruction.specs.Strings.{string_draft}
 use Rattle.asm_instruction.specs.Flags.{plain_draft}
 use Rattle.asm_instruction.specs.System.{through, ported, task, system_draft}
-use Rattle.ia32_text.specs.declared.operands.Written.TheVariants as written
 use Rattle.ia32_text.specs.Operands.{as_written}
-use Rattle.ia32_text.proofs.Reading.{is_control, plain_at, given_of}
-use Rattle.ia32_text.proofs.Drafting.{made, IsOperand, numbered, Drafts, DraftsTo, drafts_to, pair_drafts, number_drafts, agreed_one, agreed_first, agreed_last, agreed_all, TwoKinds, TwoNumber, IsTwo, first_given, second_given, two_drafts, PlaceKind, one_drafts, to_register_drafts}
+use Rattle.ia32_text.proofs.Reading.{plain_at, given_of}
+use Rattle.ia32_text.proofs.Drafting.{made, IsOperand, numbered, Drafts, DraftsTo, drafts_to, pair_drafts, number_drafts, agreed_one, agreed_first, agreed_last, agreed_all, TwoKinds, IsTwo, first_given, second_given, two_drafts, PlaceKind, one_drafts, to_register_drafts}
 
 -- an option that is followed by what always answers
 then_drafts : (i j : Insn) (x : Option Draft) (f : Draft → Draft) → DraftsTo i x → ((d : Draft) → Drafts i d → Drafts j (f d)) → DraftsTo j (x >>= λ d. Some (f d))

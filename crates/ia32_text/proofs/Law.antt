@@ -1,14 +1,13 @@
 -- The statement that an instruction is assembles to it again.
-use Rattle.std.proofs.Common.{◌≡◌, ℕ, Bool, false, List, Ok, refl, arith}
-use Rattle.std.specs.Prelude.{◌<◌}
+use Rattle.std.proofs.Common.{◌≡◌, ℕ, Bool, false, List, Ok}
 use Rattle.ia32_types.specs.declared.insn.Insn.{Insn}
 use Rattle.ia32_types.specs.Branches.{is_direct_branch}
 use Rattle.ia32_rows.specs.Spells.{Spells}
-use Rattle.ia32_encode.specs.Good.{IsBounded, SpellsWide}
+use Rattle.ia32_encode.specs.Good.{IsBounded}
 use Rattle.asm_source.specs.declared.tree.Argument.{Argument}
 use Rattle.asm_instruction.specs.declared.assembled.Assembled.{Assembled}
 use Rattle.asm_instruction.specs.Assembled.{assembled}
-use Rattle.asm_instruction.specs.Right.{spelling_bytes, named_in}
+use Rattle.asm_instruction.specs.Right.{spelling_bytes}
 use Rattle.asm_instruction.proofs.Answered.{answer_right, answer_chosen}
 use Rattle.ia32_text.specs.Statement.{name_of, statement_of}
 use Rattle.ia32_text.specs.Operands.{operands_of}

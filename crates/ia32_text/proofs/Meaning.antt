@@ -1,30 +1,23 @@
 -- Each instruction is meant by its name and its operands.
-use Rattle.std.proofs.Common.{◌≡◌, ℕ, zero, suc, ◌<◌, ◌≤◌, ◌^◌, ◌++◌, Bool, true, false, List, [], ◌∷◌, Option, Some, None, refl, sym, ap, subst, ◌∙◌, arith}
-use Rattle.std.specs.Prelude.{codes, pos, ◌==◌, if◌then◌else◌}
+use Rattle.std.proofs.Common.{◌≡◌, ℕ, ◌<◌, ◌≤◌, ◌^◌, ◌++◌, Bool, true, false, List, [], Some, None, refl, sym, subst, arith}
+use Rattle.std.specs.Prelude.{◌==◌, if◌then◌else◌}
 use Rattle.std.proofs.lemmas.Bool.{eqb-true}
 use Rattle.ia32_types.specs.declared.insn.Insn.{Insn}
 use Rattle.ia32_types.specs.declared.insn.Address.{Address}
-use Rattle.ia32_types.specs.declared.insn.Op.{Op}
 use Rattle.ia32_types.specs.declared.insn.Op.TheVariants as op
 use Rattle.ia32_types.specs.declared.insn.Operand.{Operand}
 use Rattle.ia32_types.specs.declared.insn.Operand.TheVariants as operand
 use Rattle.ia32_types.specs.declared.register.Seg.{Seg}
 use Rattle.ia32_types.specs.declared.size.Size.{Size}
 use Rattle.ia32_types.specs.declared.size.Size.TheVariants as size
-use Rattle.asm_instruction.specs.declared.arithmetic.Arithmetic.TheVariants as arithmetic
-use Rattle.asm_instruction.specs.declared.moves.Moves.TheVariants as moves
-use Rattle.asm_instruction.specs.declared.stack.Stack.TheVariants as stack
-use Rattle.asm_instruction.specs.declared.control.Control.TheVariants as control
-use Rattle.asm_instruction.specs.declared.system.System.TheVariants as system
-use Rattle.asm_instruction.specs.declared.mnemonic.Family.TheVariants as family
 use Rattle.asm_instruction.specs.declared.mnemonic.Mnemonic.{Mnemonic}
 use Rattle.asm_instruction.specs.Mnemonic.{known_name, drafted}
 use Rattle.ia32_text.specs.declared.operands.Operands.{Operands as WrittenOperands}
 use Rattle.ia32_text.specs.declared.operands.Operands.TheVariants as operands
 use Rattle.ia32_text.specs.declared.operands.Written.TheVariants as written
-use Rattle.ia32_text.specs.Names.{stem, condition_name}
-use Rattle.ia32_text.specs.Statement.{letter, name_of}
-use Rattle.ia32_text.specs.Operands.{as_written, operands_of}
+use Rattle.ia32_text.specs.Names.{stem}
+use Rattle.ia32_text.specs.Statement.{name_of}
+use Rattle.ia32_text.specs.Operands.{operands_of}
 use Rattle.ia32_text.proofs.Reading.{is_control, AreWritten, taken_of}
 use Rattle.ia32_text.proofs.Closing.{Means}
 use Rattle.ia32_text.proofs.Drafting.{made, IsOperand, is_written, DraftsTo, IsTwo, PlaceKind, agreed_first, agreed_none}

@@ -1,8 +1,8 @@
 -- What assembling makes of the arguments that are written.
-use Rattle.std.proofs.Common.{◌≡◌, ℕ, zero, suc, ◌+◌, ◌-◌, ◌%◌, ◌<◌, ◌≤◌, ◌^◌, Bool, true, false, List, [], ◌∷◌, Option, Some, None, refl, sym, ap, subst, ◌∙◌, inl, inr, ◌⊎◌, arith}
+use Rattle.std.proofs.Common.{◌≡◌, ℕ, zero, suc, ◌-◌, ◌<◌, ◌^◌, Bool, true, false, Option, Some, None, refl, sym, ap, subst, ◌∙◌, inl, inr, ◌⊎◌, arith}
 use Rattle.std.specs.Prelude.{ℤ, pos, negsuc, ◌==◌, ◌&&◌, ◌||◌, nat_lt, is_none, is_some, if◌then◌else◌}
-use Rattle.std.specs.Option.{option_map, option_or}
-use Rattle.std.proofs.lemmas.Bool.{eqb-true, ltb-true, ltb-false, lt-ltb, and_parts}
+use Rattle.std.specs.Option.{option_map}
+use Rattle.std.proofs.lemmas.Bool.{eqb-true, ltb-false, lt-ltb, and_parts}
 use Rattle.std.proofs.lemmas.Bool.Decides.{nat_tests}
 use Rattle.ia32_types.specs.declared.register.Reg.{Reg}
 use Rattle.ia32_types.specs.declared.register.Reg.TheVariants as reg
@@ -11,28 +11,22 @@ use Rattle.ia32_types.specs.declared.register.Seg.TheVariants as seg
 use Rattle.ia32_types.specs.declared.insn.Address.{Address}
 use Rattle.ia32_types.specs.declared.size.Size.{Size}
 use Rattle.ia32_types.specs.declared.size.Size.TheVariants as size
-use Rattle.ia32_types.specs.Register.{number_of}
 use Rattle.asm_source.specs.declared.tree.Value.{Value}
-use Rattle.asm_source.specs.declared.tree.Form.{Form}
-use Rattle.asm_source.specs.declared.tree.Form.TheVariants as form
-use Rattle.asm_source.specs.declared.tree.Argument.{Argument}
-use Rattle.asm_source.specs.Names.{symbol_in}
 use Rattle.asm_instruction.specs.declared.argument.Number.{Number}
 use Rattle.asm_instruction.specs.declared.argument.Given.{Given}
 use Rattle.asm_instruction.specs.declared.argument.Given.TheVariants as given
 use Rattle.asm_instruction.specs.declared.argument.Operands.{Operands}
 use Rattle.asm_instruction.specs.declared.argument.Operands.TheVariants as taken
-use Rattle.asm_instruction.specs.Names.{found, ◌>>=◌}
 use Rattle.asm_instruction.specs.Field.{field, fits_field}
 use Rattle.asm_instruction.specs.Register.{long_registers, word_registers, byte_registers, segment_registers, control_registers}
-use Rattle.asm_instruction.specs.Argument.{named_register, number_in, displacement, address_register, is_dx, address, memory_operand, given_by, single, unstarred, operands_of}
+use Rattle.asm_instruction.specs.Argument.{named_register, displacement, address_register, is_dx, address, memory_operand, given_by, single, unstarred, operands_of}
 use Rattle.ia32_text.specs.declared.operands.Written.{Written}
 use Rattle.ia32_text.specs.declared.operands.Written.TheVariants as written
 use Rattle.ia32_text.specs.declared.operands.Operands.{Operands as WrittenOperands}
 use Rattle.ia32_text.specs.declared.operands.Operands.TheVariants as operands
 use Rattle.ia32_text.specs.Numbers.{signed_long}
 use Rattle.ia32_text.specs.Registers.{long_name, word_name, byte_name, register_name, segment_name, control_name}
-use Rattle.ia32_text.specs.Arguments.{reg_name, displacement_of, form_of, argument, arguments_of}
+use Rattle.ia32_text.specs.Arguments.{reg_name, displacement_of, form_of, arguments_of}
 
 -- ---- registers
 

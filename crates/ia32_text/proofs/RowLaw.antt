@@ -1,48 +1,35 @@
 -- What the rows of the opcode table spell is meant by its name and its operands.
-use Rattle.std.proofs.Common.{◌≡◌, ℕ, ◌%◌, ◌<◌, ◌≤◌, ◌^◌, Bool, true, false, List, [], ◌∷◌, Option, Some, None, refl, sym, ap, subst, ◌∙◌, arith}
-use Rattle.std.specs.Prelude.{◌==◌, ◌&&◌, ◌||◌, not, nat_lt, min, max}
+use Rattle.std.proofs.Common.{◌≡◌, ℕ, ◌<◌, ◌^◌, Bool, true, false, List, refl, sym, ap, subst, ◌∙◌, arith}
+use Rattle.std.specs.Prelude.{◌==◌, ◌&&◌, not, nat_lt}
 use Rattle.std.specs.List.{list_all, Contains}
 use Rattle.std.proofs.lemmas.List.Sums.{AllPass-from_list_all}
-use Rattle.std.proofs.lemmas.Bool.{eqb-true, ltb-true, and_parts}
+use Rattle.std.proofs.lemmas.Bool.{eqb-true, and_parts}
 use Rattle.ia32_types.specs.declared.insn.Insn.{Insn}
 use Rattle.ia32_types.specs.declared.insn.Op.{Op}
 use Rattle.ia32_types.specs.declared.insn.Op.TheVariants as op
 use Rattle.ia32_types.specs.declared.insn.Operand.{Operand}
-use Rattle.ia32_types.specs.declared.insn.Operand.TheVariants as operand
 use Rattle.ia32_types.specs.declared.size.Size.{Size}
 use Rattle.ia32_types.specs.declared.size.Size.TheVariants as size
-use Rattle.ia32_types.specs.Size.{span}
 use Rattle.ia32_types.specs.Branches.{is_direct_branch}
-use Rattle.ia32_types.specs.Shape.{IsNamed, IsShaped}
 use Rattle.ia32_rows.specs.declared.row.Lead.{Lead}
 use Rattle.ia32_rows.specs.declared.row.Plus.{Plus}
 use Rattle.ia32_rows.specs.declared.row.Plus.TheVariants as plus
-use Rattle.ia32_rows.specs.declared.row.Slash.{Slash}
-use Rattle.ia32_rows.specs.declared.row.Slash.TheVariants as slash
-use Rattle.ia32_rows.specs.declared.row.RmForm.{RmForm}
-use Rattle.ia32_rows.specs.declared.row.RmForm.TheVariants as place
-use Rattle.ia32_rows.specs.declared.row.Modrm.{Modrm}
 use Rattle.ia32_rows.specs.declared.row.Addressing.{Addressing}
-use Rattle.ia32_rows.specs.declared.row.Addressing.TheVariants as addressing
 use Rattle.ia32_rows.specs.declared.row.Immediate.{Immediate}
 use Rattle.ia32_rows.specs.declared.row.Immediate.TheVariants as immediate
 use Rattle.ia32_rows.specs.declared.row.Operands.{Operands}
 use Rattle.ia32_rows.specs.declared.row.Operands.TheVariants as operands
-use Rattle.ia32_rows.specs.declared.row.Form.{Form}
 use Rattle.ia32_rows.specs.declared.row.Row.{Row}
 use Rattle.ia32_rows.specs.declared.row.Parts.{Parts}
-use Rattle.ia32_rows.specs.Fields.{has_slash, has_place}
-use Rattle.ia32_rows.specs.Spelling.{has_code, segment, in_order, operands_of, sel_of, repeats, insn_of}
+use Rattle.ia32_rows.specs.Spelling.{has_code, operands_of, sel_of, repeats, insn_of}
 use Rattle.ia32_rows.specs.Spells.{Spells}
 use Rattle.ia32_rows.specs.Rows.{rows}
 use Rattle.ia32_rows.proofs.ShapeLaws.{shaped}
-use Rattle.ia32_encode.specs.Parts.{rm_fits, is_absent, is_offset, address_fits, addressing_fits, immediate_fits, form_fits, parts_for}
-use Rattle.ia32_encode.specs.Good.{IsOperandBounded, IsBounded, Suits}
+use Rattle.ia32_encode.specs.Parts.{addressing_fits, immediate_fits, form_fits, parts_for}
+use Rattle.ia32_encode.specs.Good.{IsBounded, Suits}
 use Rattle.ia32_encode.specs.Short.{plain}
 use Rattle.ia32_encode.proofs.Suiting.{listed_suits}
-use Rattle.ia32_text.proofs.Reading.{is_control}
-use Rattle.ia32_text.proofs.Drafting.{made, IsOperand, TwoKinds, TwoNumber, IsTwo, PlaceKind}
-use Rattle.ia32_text.proofs.Families.{TestKinds}
+use Rattle.ia32_text.proofs.Drafting.{made}
 use Rattle.ia32_text.proofs.Meaning as meaning
 use Rattle.ia32_text.proofs.Meaning.{Meant}
 use Rattle.ia32_text.proofs.RowFacts.{IsSafe, is_safe, Facts, two_row, two_is, test_operands, test_is, one_row, one_is, memory_row, memory_is, into_row, into_zero, into_zero_is, into_number_is, lea_row, lea_is, product_row, product_is, shift_row, shift_is, exchange_row, exchange_is, special_row, read_segment_is, load_segment_is, read_control_is, write_control_is, segment_row, segment_is, bare_row, bare_is, no_number, a_byte, a_drop, nothing_is, byte_alone_is, drop_alone_is, push_row, push_is, port_row, port_is, is_long, is_byte, no_word, no_long, long_size, byte_size, string_size, small_size}
