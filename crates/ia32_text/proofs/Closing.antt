@@ -108,6 +108,7 @@ pub record Assembles (i : Insn) (name : List ℕ) (args : List Argument) : Type 
   pub answer : Assembled
   pub assembled_as : assembled i.rep name args ≡ Ok answer
   pub same : answer.insn ≡ i
+  pub spelling_is : chosen plain i ≡ Some answer.spelling
 
 spells_as : (d : Draft) (args : List Argument) (a : ArrayBytes) → widths d args ≡ plain → chosen plain d.insn ≡ Some a → d.fits ≡ true → spelled d args ≡ Ok (whole d plain a)
 unfolding spelled
@@ -126,6 +127,10 @@ whole_insn : (d : Draft) (w : Wide) (a : ArrayBytes) → (whole d w a).insn ≡ 
 unfolding whole
 whole_insn d w a = refl
 
+whole_spelling : (d : Draft) (w : Wide) (a : ArrayBytes) → (whole d w a).spelling ≡ a
+unfolding whole
+whole_spelling d w a = refl
+
 pub assembles : (i : Insn) (name : List ℕ) (o : WrittenOperands) (a : ArrayBytes) → chosen plain i ≡ Some a → Means i name o → Assembles i name (arguments_of o)
 assembles i name o a e m =
     let args = arguments_of o in
@@ -136,4 +141,5 @@ assembles i name o a e m =
       answer = whole m.draft plain a;
       assembled_as = assembles_as i.rep name m.mnemonic args m.draft (whole m.draft plain a) m.named d (spells_as m.draft args a w c m.fits);
       same = whole_insn m.draft plain a ∙ m.same;
+      spelling_is = e ∙ ap (λ (x : ArrayBytes). Some x) (sym (whole_spelling m.draft plain a));
     }

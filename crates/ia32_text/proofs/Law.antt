@@ -20,7 +20,7 @@ unfolding statement_of
 spelled_again bytes i at len s b d =
     let c = spelled_chosen bytes i s in
     let a = assembles i (name_of i) (operands_of i at len) c.0 c.1 (spelled_meant bytes i at len s b d) in
-    record { answer = a.answer; assembled_as = a.assembled_as; same = a.same }
+    record { answer = a.answer; assembled_as = a.assembled_as; same = a.same; spelling_is = a.spelling_is }
 
 pub assembled_again : (rep : Bool) (name : List ℕ) (args : List Argument) (a : Assembled) (at len : ℕ) → assembled rep name args ≡ Ok a → is_direct_branch a.insn.op ≡ false
     → AssemblesTo (statement_of a.insn at len) a.insn

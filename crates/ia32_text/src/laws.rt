@@ -15,7 +15,7 @@ ghost use Rattle.ia32_text.specs.Operands.{target};
 ghost use Rattle.ia32_text.specs.Arguments.{label_of};
 ghost use Rattle.ia32_text.specs.Again.{AssemblesTo, BranchesTo};
 
-/// The statement that an instruction is assembles to it again: of each that bytes spell, and of each that a
+/// The statement that an instruction is assembles to it again, in its chosen spelling: of each that bytes spell, and of each that a
 /// statement is assembled to, direct branches apart.
 pub fn assembles_again()
     ensures spelled { (bytes : List ℕ) (insn : Insn) (at len : ℕ) → Spells bytes insn → IsBounded insn → is_direct_branch insn.op ≡ false →
