@@ -8,3 +8,5 @@ pub mod RowFacts
 pub mod RowLaw
 pub mod Law
 pub mod Branches
+pub mod Numerals
+pub mod Terminals

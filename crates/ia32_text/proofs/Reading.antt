@@ -30,7 +30,7 @@ use Rattle.ia32_text.specs.Arguments.{reg_name, displacement_of, form_of, argume
 
 -- ---- registers
 
-each_8 : (P : ℕ → Type 0) → P 0 → P 1 → P 2 → P 3 → P 4 → P 5 → P 6 → P 7 → (n : ℕ) → n < 8 → P n
+pub each_8 : (P : ℕ → Type 0) → P 0 → P 1 → P 2 → P 3 → P 4 → P 5 → P 6 → P 7 → (n : ℕ) → n < 8 → P n
 each_8 P a b c d e f g h zero l = a
 each_8 P a b c d e f g h (suc zero) l = b
 each_8 P a b c d e f g h (suc (suc zero)) l = c
@@ -60,7 +60,7 @@ is_control n = n == 0 || n == 2 || n == 3 || n == 4
 four_are : (n : ℕ) → is_control n ≡ true → (n ≡ 0) ⊎ (n ≡ 2) ⊎ (n ≡ 3) ⊎ (n ≡ 4)
 four_are n h = grind (arith, nat_tests)
 
-four : (P : ℕ → Type 0) → P 0 → P 2 → P 3 → P 4 → (n : ℕ) → is_control n ≡ true → P n
+pub four : (P : ℕ → Type 0) → P 0 → P 2 → P 3 → P 4 → (n : ℕ) → is_control n ≡ true → P n
 four P a b c d n h = elim (four_are n h) [
   | inl e ↦ subst P (sym e) a
   | inr f ↦ elim f [
