@@ -1,5 +1,5 @@
 import re,subprocess,sys
-src=open('/tmp/w/H1/crates/ia32_rows/src/table.rt').read()
+src=open('crates/ia32_rows/src/table.rt').read()
 src=src[src.index("pub static ROWS"):src.index("REFUSED_ROWS")]
 rows=re.findall(r'row!\(\s*(\w+) (0x[0-9a-f]+|\d+) (\w+),\s*(digit!\((\d), (\w+)\)|\w+),\s*(\w+): (\w+) (\w+) (\w+)\s*\)',src)
 print(len(rows),file=sys.stderr)
@@ -39,23 +39,23 @@ for f in ["03","4300","8300000000","4500","450c","0424","442408","048b","44cb80"
     out.append(("addressing: Mov Long RegRm",bytes([0x8b])+bytes.fromhex(f)))
 for h in ["b800000000","c20000","c20800","ebfe","e9fbffffff","7480","0f8500000080","87c0","6a00","cd80","d1e0","c1e001","c1e000"]:
     out.append(("numbers",bytes.fromhex(h)))
-with open('/tmp/w/H1x/rows.txt','w') as f:
+with open('rows.txt','w') as f:
     for r,b in out: f.write(f"{b.hex()}\t{r}\n")
 print(len(out),file=sys.stderr)
 blob=b''; at=[]
 for r,b in out:
     at.append(len(blob)); blob+=b
     pad=-len(blob)%16; blob+=b'\x90'*pad
-open('/tmp/w/H1x/blob.bin','wb').write(blob)
+open('blob.bin','wb').write(blob)
 for name,opts in (("plain",[]),("suffix",["-M","suffix"])):
-    t=subprocess.run(["objdump","-D","-b","binary","-m","i386","--adjust-vma=0x10000000",*opts,"-w","/tmp/w/H1x/blob.bin"],capture_output=True,text=True).stdout
+    t=subprocess.run(["objdump","-D","-b","binary","-m","i386","--adjust-vma=0x10000000",*opts,"-w","blob.bin"],capture_output=True,text=True).stdout
     d={}
     for l in t.splitlines():
         m=re.match(r'\s*([0-9a-f]+):\t([0-9a-f ]+)\t(.*)$',l)
         if m: d[int(m[1],16)-0x10000000]=(len(m[2].split()),m[3].strip())
-    with open(f'/tmp/w/H1x/objdump.{name}','w') as f:
+    with open(f'objdump.{name}','w') as f:
         for (r,b),a in zip(out,at):
             n,x=d.get(a,(0,'?'))
             f.write(f"{b.hex()}\t{a+0x10000000:x}\t{n==len(b)}\t{x}\n")
-with open('/tmp/w/H1x/in.txt','w') as f:
+with open('in.txt','w') as f:
     for (r,b),a in zip(out,at): f.write(f"{a+0x10000000:08x}{b.hex()}\n")
