@@ -42,7 +42,8 @@ use Rattle.machine_model.specs.Step.{Completed, Result, Went, Halts, begun, begi
 use Rattle.machine_model.specs.Able.{IsAble, StepsKeepAble}
 use Rattle.machine_model.proofs.Yielding.{Ends, Yields, any_yields, gives_yields}
 use Rattle.sys_exec.specs.Operand.{past}
-use Rattle.machine_model.proofs.AbleRows.{Suits, LevelStays, IsLeftAble, null_1, null_2, other, same, left}
+use Rattle.machine_model.proofs.AbleRows.{Suits, LevelStays, IsLeftAble, null_1, null_2, other, same}
+use Rattle.machine_model.proofs.AbleLeft.{left}
 
 -- a step that goes leaves an able processor
 abbrev LeavesAble : Result → Type 0

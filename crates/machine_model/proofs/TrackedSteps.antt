@@ -53,10 +53,10 @@ use Rattle.machine_model.specs.Following.{FetchedFollows, RangesFollow, Instruct
 use Rattle.machine_model.proofs.FoundStill.{found_still}
 use Rattle.machine_model.proofs.Following.{same_follows, fetches_follow, aside, not_absent}
 use Rattle.machine_model.proofs.Tracking.{Tracks, tracks, leaves_on}
-use Rattle.machine_model.proofs.TrackedRows.{sys_tracks}
+use Rattle.machine_model.proofs.MadeTracks.{sys_tracks}
 use Rattle.machine_model.proofs.TrackedPlain.{both_tracks, plain_tracks}
 use Rattle.sys_exec.specs.Operand.{past}
-use Rattle.machine_model.proofs.TrackedDeliveries.{delivered_tracks}
+use Rattle.machine_model.proofs.MadeTracks.{delivered_tracks}
 
 -- ---- the fetch
 

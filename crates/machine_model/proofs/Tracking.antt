@@ -42,7 +42,7 @@ pub leaves_on : {E A : Type 0} (s t : Space) (o : Outcome E A) → Follows s t �
 leaves_on s t (Ok x) h k = follows_on s t x.1 h k
 leaves_on s t (Err e) h k = follows_on s t e.1 h k
 
-open_on : {E A : Type 0} (at len : ℕ) (s t : Space) (o : Outcome E A) → Follows s t → LeavesOpen at len t o → LeavesOpen at len s o
+pub open_on : {E A : Type 0} (at len : ℕ) (s t : Space) (o : Outcome E A) → Follows s t → LeavesOpen at len t o → LeavesOpen at len s o
 open_on at len s t (Ok x) h k = (follows_on s t x.1 h k.0, k.1)
 open_on at len s t (Err e) h k = follows_on s t e.1 h k
 

@@ -47,10 +47,10 @@ use Rattle.machine_model.specs.Run.{Set}
 use Rattle.machine_model.specs.UsedPages.{may_use, LeadWell, Uses, Uses_on, Delivers, FetchedUses, RangesUse, InstructedUses, DeliveredUses, IsUsedBy, StepsUse, UsedPagesLeadWell}
 use Rattle.machine_model.proofs.Using.{Met, same_uses, owning, fetches_met}
 use Rattle.machine_model.proofs.UsingWorks.{is_stop, is_end, LeavesUses, Keeps, keeping, leaves_on}
-use Rattle.machine_model.proofs.UsingRows.{sys_keeps}
+use Rattle.machine_model.proofs.MadeUses.{sys_keeps}
 use Rattle.machine_model.proofs.UsingPlain.{both_keep, plain_keeps}
 use Rattle.sys_exec.specs.Operand.{past}
-use Rattle.machine_model.proofs.UsingDeliveries.{delivered_keeps}
+use Rattle.machine_model.proofs.MadeUses.{delivered_keeps}
 use Rattle.machine_model.proofs.TrackedSteps.{retained, not_dropped}
 use Rattle.machine_model.proofs.Following.{not_absent}
 
