@@ -25,6 +25,7 @@ pub mod Ready
 pub mod Fronts
 pub mod Gone
 pub mod Rooms
+pub mod Ways
 pub mod LineEnds
 pub mod TaggedLines
 pub mod ReadAlone

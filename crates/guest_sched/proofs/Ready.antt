@@ -67,11 +67,6 @@ module _ (kernels : List Kernel) (whole done : List Slice) (before now now1 now2
 pub counts_same : (a b x y : ℕ) → a ≡ b → x ≡ y → counts_of a x ≡ counts_of b y
 counts_same a b x y e f = ap (λ (k : ℕ). counts_of k x) e ∙ ap (λ (k : ℕ). counts_of b k) f
 
-pub get_or_any : (ts : List Tenant) (n : ℕ) (d e : Tenant) → n < length ts → get_or ts n d ≡ get_or ts n e
-get_or_any [] n d e lt = absurd (omega (arith, lt))
-get_or_any (t ∷ ts) zero d e lt = refl
-get_or_any (t ∷ ts) (suc n) d e lt = get_or_any ts n d e (omega (arith, lt))
-
 pub live_of : (o : Option Stop) (b : Bool) → b ≡ is_some o → b ≡ false → o ≡ None
 live_of None b e f = refl
 live_of (Some stop) b e f = absurd (cc)

@@ -18,6 +18,7 @@ pub mod Legs
 pub mod Joined
 pub mod Stages
 pub mod Seating
+pub mod Releases
 pub mod Dropped
 pub mod Went
 pub mod Between

@@ -6,6 +6,7 @@ ghost use Rattle.guest_ram.specs.Bytes.{part, with_part};
 ghost use Rattle.frame_pool.specs.Held.{Owns};
 ghost use Rattle.frame_pool.specs.Pool.{count_of, free_list};
 ghost use Rattle.shadow_cache.specs.Views as roots;
+ghost use Rattle.guest_sched.specs.Releases.{IsRoomMade};
 ghost use Rattle.guest_sched.specs.Seating.{HasBrought, HasExchanged, HasMadeRoom, HasReleased, KeepsMachines, MayMakeRoom, OneReleased, StaysApart};
 ghost use Rattle.guest_sched.specs.Stages.{stage};
 ghost use Rattle.guest_sched.specs.declared.tenants.Tenant.{Tenant};
@@ -119,6 +120,7 @@ impl Tenants {
         requires may { MayMakeRoom self.old.frames (stage self.old (H.bytes host.old)) }
         ensures enough { (d : Tenant) → 16 ≤ length (free_list self.new.pool (H.bytes host.new))
             + (slice_index_or self.new.list.items self.old.present d).guest.held }
+        ensures released { IsRoomMade (stage self.old (H.bytes host.old)) (stage self.new (H.bytes host.new)) }
         ensures apart { StaysApart self.old.frames (stage self.old (H.bytes host.old)) (stage self.new (H.bytes host.new)) }
         ensures made { HasMadeRoom self.old.present self.old.list.items self.new.list.items }
         ensures theirs { All (λ tenant. 4096 * self.old.frames ≤ length tenant.ram) self.new.list.items }

@@ -3,8 +3,9 @@ use Rattle.board.specs.ScriptForm.{is_script}
 use Rattle.guest_sched.specs.declared.kernel.Kernel.{Kernel}
 use Rattle.guest_sched.specs.declared.tenants.Tenant.{Tenant}
 use Rattle.guest_sched.proofs.Between.{next_slice}
+use Rattle.guest_sched.proofs.Brought.{get_or_any}
 use Rattle.guest_sched.proofs.Furthered.{skipped_between}
-use Rattle.guest_sched.proofs.Ready.{counts_of, counts_same, live_of, met_of, get_or_any, brought_at, ready_at, stop_same, goes_on_at, bound_at, room_at, went_at, failed_at, on_ok_both, on_err_then}
+use Rattle.guest_sched.proofs.Ready.{counts_of, counts_same, live_of, met_of, brought_at, ready_at, stop_same, goes_on_at, bound_at, room_at, went_at, failed_at, on_ok_both, on_err_then}
 use Rattle.guest_sched.proofs.shared.turn.Goals as goal
 use Rattle.guest_sched.proofs.Wide.{IsBetween}
 

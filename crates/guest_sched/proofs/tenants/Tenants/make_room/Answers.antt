@@ -1,13 +1,16 @@
-use Rattle.std.proofs.Common.{◌≡◌, ◌*◌, ◌≤◌, ◌<◌, ℕ, List, length, get_or, refl, sym, ap, subst, ◌∙◌, arith}
+use Rattle.std.proofs.Common.{◌≡◌, ◌≢◌, ◌+◌, ◌*◌, ◌≤◌, ◌<◌, ℕ, List, length, get_or, refl, sym, ap, subst, ◌∙◌, arith}
 use Rattle.std.specs.List.{All}
 use Rattle.std.proofs.lemmas.List.{length-set}
 use Rattle.frame_pool.specs.Pool.{count_of}
 use Rattle.guest_sched.specs.Apart.{AreApart, EachStays}
+use Rattle.guest_sched.specs.Releases.{frames_for, FirstGiveWay}
 use Rattle.guest_sched.specs.Seating.{seats_from, HasMadeRoom}
+use Rattle.guest_sched.specs.Stages.{stage}
 use Rattle.guest_sched.specs.declared.tenants.Tenant.{Tenant}
 use Rattle.guest_sched.specs.declared.tenants.Tenants.{Tenants}
 use Rattle.guest_sched.proofs.Brought.{any_of, left_rooms}
 use Rattle.guest_sched.proofs.Rooms.{no_room_made, is_at, held_bound, over_host, stays_none, stays_then, then_other, then_each, then_held, then_stops}
+use Rattle.guest_sched.proofs.Ways.{frames_are, gives_next}
 use Rattle.guest_sched.proofs.tenants.Tenants.make_room.Goals as goal
 use Rattle.guest_sched.proofs.tenants.Tenants.make_room.Goals.{then-kernel-self, else-kernel-self}
 
@@ -55,6 +58,7 @@ loop-kernel-init g c = record {
   stay = λ ks len h. stays_none c.args.self.now.frames (seats_from c.args.self.now.frames (g.H.Host.bytes c.args.host.now) c.args.self.now.present 0 ks c.args.self.now.list.items);
   size = refl;
   made = no_room_made c.args.self.now.present c.args.self.now.list.items;
+  first = refl;
   done = λ j d less ne. absurd (omega (arith, less));
 }
 
@@ -108,6 +112,13 @@ loop-kernel-preserved g c = elim c.if-kernel-self.branch [
                   (let y = r.list d in
                   then_other l.self.pool to.pool host host' c.args.self.now.present l.kernel c.args.self.now.list.items l.self.list.items to.list.items d y.0 known y.1 y.2 c.args.self.now.present (λ z. w.if-kernel-self.true (sym z ∙ sym i.present)) ∙ i.made.here d);
             });
+        first =
+            subst (λ (s : Tenants). FirstGiveWay (l.kernel + 1) (stage c.args.self.now (g.H.Host.bytes c.args.host.now)) (stage s (g.H.Host.bytes c.if-kernel-self.host))) (sym w.self-is)
+            (subst (λ (b : List ℕ). FirstGiveWay (l.kernel + 1) (stage c.args.self.now (g.H.Host.bytes c.args.host.now)) (stage to b)) (sym (ap (λ (h : g.row.H.Denot). g.H.Host.bytes h) w.host-is))
+            (gives_next l.kernel (stage c.args.self.now (g.H.Host.bytes c.args.host.now)) (stage l.self host) (stage to host') i.first
+            (record { present = r.rest.1; few = λ d. (let n0 = i.made.len in let there = c.requires.may.there in let same = i.present in let low = c.if-enough.false in
+            let all = frames_are l.self (g.H.Host.bytes l.host) d c.index.result.now c.free.result c.held.result (omega (arith, n0, there, same)) (c.free.ensures.count (g.H.Host.bytes l.host)) (c.held.ensures ∙ ap (λ (t : Tenant). t.guest.held) c.index.ensures) in
+            omega (arith, all, low)); here = λ e. absurd (w.if-kernel-self.true e); parked = λ ne. r.list })));
         done = λ j d less ne.
             (let y = r.list d in
             subst (λ (s : Tenants). (get_or s.list.items j d).guest.held ≤ 2) (sym w.self-is)
@@ -132,6 +143,13 @@ loop-kernel-preserved g c = elim c.if-kernel-self.branch [
             (subst (λ (b : List ℕ). EachStays c.args.self.now.frames (seats_from c.args.self.now.frames (g.H.Host.bytes c.args.host.now) c.args.self.now.present 0 ks c.args.self.now.list.items) (seats_from c.args.self.now.frames b c.args.self.now.present 0 ks l.self.list.items)) (sym (ap (λ (h : g.row.H.Denot). g.H.Host.bytes h) w.host-is)) (i.stay ks len h));
         size = ap (λ (h : g.row.H.Denot). length (g.H.Host.bytes h)) w.host-is ∙ i.size;
         made = subst (λ (s : Tenants). HasMadeRoom c.args.self.now.present c.args.self.now.list.items s.list.items) (sym w.self-is) i.made;
+        first =
+            subst (λ (s : Tenants). FirstGiveWay (l.kernel + 1) (stage c.args.self.now (g.H.Host.bytes c.args.host.now)) (stage s (g.H.Host.bytes c.if-kernel-self.host))) (sym w.self-is)
+            (subst (λ (b : List ℕ). FirstGiveWay (l.kernel + 1) (stage c.args.self.now (g.H.Host.bytes c.args.host.now)) (stage l.self b)) (sym (ap (λ (h : g.row.H.Denot). g.H.Host.bytes h) w.host-is))
+            (gives_next l.kernel (stage c.args.self.now (g.H.Host.bytes c.args.host.now)) (stage l.self (g.H.Host.bytes l.host)) (stage l.self (g.H.Host.bytes l.host)) i.first
+            (record { present = refl; few = λ d. (let n0 = i.made.len in let there = c.requires.may.there in let same = i.present in let low = c.if-enough.false in
+            let all = frames_are l.self (g.H.Host.bytes l.host) d c.index.result.now c.free.result c.held.result (omega (arith, n0, there, same)) (c.free.ensures.count (g.H.Host.bytes l.host)) (c.held.ensures ∙ ap (λ (t : Tenant). t.guest.held) c.index.ensures) in
+            omega (arith, all, low)); here = λ e. refl; parked = λ ne. absurd (ne w.if-kernel-self.false) })));
         done = λ j d less ne.
             subst (λ (s : Tenants). (get_or s.list.items j d).guest.held ≤ 2) (sym w.self-is)
             (i.done j d (let is = w.if-kernel-self.false in let same = i.present in omega (arith, less, ne, is, same)) ne);
@@ -151,3 +169,29 @@ returns-clause-enough g c d =
     let most = b.0 in
     let there = ap (λ k. (get_or l.self.list.items k d).guest.held) same in
     omega (arith, most, n, four, count, all, there)
+
+pub returns-clause-released : goal.returns-clause-released
+returns-clause-released g c =
+    let l = c.loop-kernel in
+    let n = l.invariant.made.len in let stop = c.loop-kernel-test.false in let e = c.len-kernel-end.ensures in
+    record {
+      count = l.kernel;
+      within = omega (arith, n, e);
+      first = l.invariant.first;
+      enough = λ lt. absurd (omega (arith, lt, n, stop, e));
+    }
+
+pub returns-then-enough-clause-released : goal.returns-then-enough-clause-released
+returns-then-enough-clause-released g c =
+    let l = c.loop-kernel in
+    let i = l.invariant in
+    let n = i.made.len in let there = c.requires.may.there in let same = i.present in let lt = c.loop-kernel-test.true in let e = c.len-kernel-end.ensures in
+    record {
+      count = l.kernel;
+      within = omega (arith, n, lt, e);
+      first = i.first;
+      enough = λ less d.
+          (let all = frames_are l.self (g.H.Host.bytes l.host) d c.index.result.now c.free.result c.held.result (omega (arith, n, there, same)) (c.free.ensures.count (g.H.Host.bytes l.host)) (c.held.ensures ∙ ap (λ (t : Tenant). t.guest.held) c.index.ensures) in
+          let high = c.if-enough.true in
+          omega (arith, all, high));
+    }

@@ -2,6 +2,8 @@ use Rattle.std.proofs.Common.{◌≡◌, ◌≢◌, ◌*◌, ◌≤◌, ◌<◌,
 use Rattle.std.specs.List.{All}
 use Rattle.frame_pool.specs.Pool.{count_of}
 use Rattle.guest_sched.specs.Apart.{AreApart, EachStays}
+use Rattle.guest_sched.specs.Releases.{FirstGiveWay}
+use Rattle.guest_sched.specs.Stages.{stage}
 use Rattle.guest_sched.specs.Seating.{seats_from, HasMadeRoom}
 use Rattle.guest_sched.specs.declared.kernel.Kernel.{Kernel}
 use Rattle.guest_sched.specs.declared.tenants.Tenant.{Tenant}
@@ -22,5 +24,6 @@ invariant-loop-kernel g l = record {
       → EachStays l.fn.self.frames (seats_from l.fn.self.frames (g.H.Host.bytes l.fn.host) l.fn.self.present 0 kernels l.fn.self.list.items) (seats_from l.fn.self.frames (g.H.Host.bytes l.host) l.fn.self.present 0 kernels l.self.list.items);
   size : length (g.H.Host.bytes l.host) ≡ length (g.H.Host.bytes l.fn.host);
   made : HasMadeRoom l.fn.self.present l.fn.self.list.items l.self.list.items;
+  first : FirstGiveWay l.kernel (stage l.fn.self (g.H.Host.bytes l.fn.host)) (stage l.self (g.H.Host.bytes l.host));
   done : (j : ℕ) (d : Tenant) → j < l.kernel → j ≢ l.fn.self.present → (get_or l.self.list.items j d).guest.held ≤ 2;
 }
