@@ -93,14 +93,13 @@ here_of frames whole done pieces ks ts pool present host dk d lt len seated each
     }
 
 -- another kernel came into the host's memory
-pub brought_between : (kernels : List Kernel) (frames : ℕ) (whole done : List Slice) (ts ts' : List Tenant) (pool : Pool) (present present' : ℕ) (host host' : List ℕ) (before now : Counts) (old new : Option (List ℕ))
-    → HasBrought frames host host' present present' ts ts' → present' < length ts → IsBetween kernels frames whole done ts pool present host before now old new → IsBetween kernels frames whole done ts' pool present' host' before now old new
-brought_between [] frames whole done ts ts' pool present present' host host' before now old new h lt b = absurd (let n = b.rooms.len in omega (arith, lt, n))
-brought_between (k ∷ ks) frames whole done ts ts' pool present present' host host' before now old new h lt b =
+pub brought_between : (kernels : List Kernel) (frames : ℕ) (whole done : List Slice) (pieces : List Piece) (ts ts' : List Tenant) (pool : Pool) (present present' : ℕ) (host host' : List ℕ) (before now : Counts) (old new : Option (List ℕ))
+    → HasBrought frames host host' present present' ts ts' → present' < length ts → IsBetween kernels frames whole done pieces ts pool present host before now old new → IsBetween kernels frames whole done pieces ts' pool present' host' before now old new
+brought_between [] frames whole done pieces ts ts' pool present present' host host' before now old new h lt b = absurd (let n = b.rooms.len in omega (arith, lt, n))
+brought_between (k ∷ ks) frames whole done pieces ts ts' pool present present' host host' before now old new h lt b =
     let stops = ap length h.stops in
     let same : length ts' ≡ length ts = (let x = length-map ts' (λ (t : Tenant). t.stop) in let y = length-map ts (λ (t : Tenant). t.stop) in omega (arith, stops, x, y)) in
     record {
-      pieces = b.pieces;
       rooms = record {
         len = same ∙ b.rooms.len;
         four = b.rooms.four;
@@ -112,21 +111,20 @@ brought_between (k ∷ ks) frames whole done ts ts' pool present present' host h
       };
       apart = h.apart pool k ks b.apart;
       turns = b.turns;
-      each = subst (λ (l : List (Option Stop)). EachStands 0 frames whole done b.pieces (k ∷ ks) (seats_from frames host' present' 0 (k ∷ ks) ts') l) (sym h.stops)
-          (subst (λ (l : List Seat). EachStands 0 frames whole done b.pieces (k ∷ ks) l (stops_of ts)) (sym (h.seats (k ∷ ks))) b.each);
+      each = subst (λ (l : List (Option Stop)). EachStands 0 frames whole done pieces (k ∷ ks) (seats_from frames host' present' 0 (k ∷ ks) ts') l) (sym h.stops)
+          (subst (λ (l : List Seat). EachStands 0 frames whole done pieces (k ∷ ks) l (stops_of ts)) (sym (h.seats (k ∷ ks))) b.each);
       text = b.text;
       counts = b.counts;
       retired = b.retired;
     }
 
 -- kernels gave up frames
-pub roomed_between : (kernels : List Kernel) (frames : ℕ) (whole done : List Slice) (ts ts' : List Tenant) (pool pool' : Pool) (present : ℕ) (host host' : List ℕ) (before now : Counts) (old new : Option (List ℕ))
+pub roomed_between : (kernels : List Kernel) (frames : ℕ) (whole done : List Slice) (pieces : List Piece) (ts ts' : List Tenant) (pool pool' : Pool) (present : ℕ) (host host' : List ℕ) (before now : Counts) (old new : Option (List ℕ))
     → HasMadeRoom present ts ts' → All (λ (t : Tenant). 4096 * frames ≤ length t.ram) ts' → count_of pool' ≡ 512 → length host' ≡ length host
     → (AreApart frames pool host (seats_from frames host present 0 kernels ts) → AreApart frames pool' host' (seats_from frames host' present 0 kernels ts'))
     → (AreApart frames pool host (seats_from frames host present 0 kernels ts) → EachStays frames (seats_from frames host present 0 kernels ts) (seats_from frames host' present 0 kernels ts'))
-    → IsBetween kernels frames whole done ts pool present host before now old new → IsBetween kernels frames whole done ts' pool' present host' before now old new
-roomed_between kernels frames whole done ts ts' pool pool' present host host' before now old new h theirs count size apart stay b = record {
-  pieces = b.pieces;
+    → IsBetween kernels frames whole done pieces ts pool present host before now old new → IsBetween kernels frames whole done pieces ts' pool' present host' before now old new
+roomed_between kernels frames whole done pieces ts ts' pool pool' present host host' before now old new h theirs count size apart stay b = record {
   rooms = record {
     len = h.len ∙ b.rooms.len;
     four = b.rooms.four;
@@ -138,8 +136,8 @@ roomed_between kernels frames whole done ts ts' pool pool' present host host' be
   };
   apart = apart b.apart;
   turns = b.turns;
-  each = subst (λ (l : List (Option Stop)). EachStands 0 frames whole done b.pieces kernels (seats_from frames host' present 0 kernels ts') l) (sym h.stops)
-      (all_stay 0 frames whole done b.pieces kernels (seats_from frames host present 0 kernels ts) (seats_from frames host' present 0 kernels ts') (stops_of ts) (stay b.apart) b.each);
+  each = subst (λ (l : List (Option Stop)). EachStands 0 frames whole done pieces kernels (seats_from frames host' present 0 kernels ts') l) (sym h.stops)
+      (all_stay 0 frames whole done pieces kernels (seats_from frames host present 0 kernels ts) (seats_from frames host' present 0 kernels ts') (stops_of ts) (stay b.apart) b.each);
   text = b.text;
   counts = b.counts;
   retired = b.retired;

@@ -250,8 +250,8 @@ left_size frames host mid t theirs room mid_is =
     let e = ap length (mid_is ∙ front_put (4096 * frames) host t.ram theirs) in
     omega (arith, e, length-append (take (4096 * frames) t.ram) (drop (4096 * frames) host), length-take-le (4096 * frames) t.ram theirs)
 
--- a kernel that there is, whatever stands where there is none
-pub get_or_any : (ts : List Tenant) (n : ℕ) (d e : Tenant) → n < length ts → get_or ts n d ≡ get_or ts n e
+-- an element that there is, whatever stands where there is none
+pub get_or_any : {X : Type 0} (ts : List X) (n : ℕ) (d e : X) → n < length ts → get_or ts n d ≡ get_or ts n e
 get_or_any [] n d e lt = absurd (omega (arith, lt))
 get_or_any (t ∷ ts) zero d e lt = refl
 get_or_any (t ∷ ts) (suc n) d e lt = get_or_any ts n d e (omega (arith, lt))

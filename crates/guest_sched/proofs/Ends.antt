@@ -14,13 +14,15 @@ use Rattle.wedge_step.specs.Standing.{IsHeld, ground}
 use Rattle.wedge_core.specs.Slices.{Counts}
 use Rattle.wedge_core.specs.OfRoots.{of_roots}
 use Rattle.guest_sched.specs.Apart.{AreSeated, IsSeated, Seat}
-use Rattle.guest_sched.specs.Between.{EachStands, StandsSo, stops_of, ended_of, end_with}
+use Rattle.guest_sched.specs.Between.{EachStands, StandsSo, stops_of}
 use Rattle.guest_sched.specs.Pieces.{Piece, piece_text, shared_text, reports_of, own_text, bound_line, bound_texts}
 use Rattle.guest_sched.specs.Bounds.{bound_of}
+use Rattle.guest_sched.specs.Rounds.{HasGoneRound}
 use Rattle.guest_sched.specs.Seating.{seat_of, seats_from}
 use Rattle.guest_sched.specs.Shared.{EachRan, RanAlone, alone}
 use Rattle.guest_sched.specs.OwnEnds.{EachHasOwnEnd, HasOwnEnd}
 use Rattle.guest_sched.specs.SharedRuns.{SharedRun, FailsAtEnd}
+use Rattle.guest_sched.specs.Stages.{ended_of, end_with}
 use Rattle.guest_sched.specs.declared.kernel.Kernel.{Kernel}
 use Rattle.guest_sched.specs.declared.schedule.Slice.{Slice}
 use Rattle.guest_sched.specs.declared.tenants.Tenant.{Tenant}
@@ -73,31 +75,33 @@ all_ran number frames pool host present whole pieces (k ∷ ks) (t ∷ ts) len h
     let rest = all_ran (suc number) frames pool host present whole pieces ks ts (omega (arith, len)) h.1 seated.3 in
     ((one.0, rest.0), (one.1, rest.1))
 
-module _ (kernels : List Kernel) (frames : ℕ) (whole : List Slice) (tenants : List Tenant) (pool : Pool) (present : ℕ) (host : List ℕ) (before now : Counts) (old new : Option (List ℕ))
-    (h : IsBetween kernels frames whole whole tenants pool present host before now old new)
+module _ (kernels : List Kernel) (frames : ℕ) (whole : List Slice) (pieces : List Piece) (tenants : List Tenant) (pool : Pool) (present : ℕ) (host : List ℕ) (before now : Counts) (old new : Option (List ℕ))
+    (h : IsBetween kernels frames whole whole pieces tenants pool present host before now old new)
   where
-    each_ran : (each : EachRan 0 frames whole h.pieces kernels (map ended_of tenants)) × EachHasOwnEnd 0 frames whole h.pieces kernels (map ended_of tenants) each host
-    each_ran = all_ran 0 frames pool host present whole h.pieces kernels tenants h.rooms.len h.each h.apart.seated
+    each_ran : (each : EachRan 0 frames whole pieces kernels (map ended_of tenants)) × EachHasOwnEnd 0 frames whole pieces kernels (map ended_of tenants) each host
+    each_ran = all_ran 0 frames pool host present whole pieces kernels tenants h.rooms.len h.each h.apart.seated
 
-    pub ends_shared : SharedRun kernels whole frames before now host (shared_text h.pieces (map ended_of tenants)) (map ended_of tenants)
-    ends_shared = record {
-      pieces = h.pieces;
+    pub ends_shared : HasGoneRound kernels frames whole pieces (record { tenants = tenants; pool = pool; present = present; memory = host })
+        → SharedRun kernels whole frames before now host (shared_text pieces (map ended_of tenants)) (map ended_of tenants)
+    ends_shared gone = record {
+      pieces = pieces;
       turns = h.turns;
       each = each_ran.0;
       own = each_ran.1;
       text_is = refl;
-      lines = lines_alone frames whole h.pieces kernels (map ended_of tenants) each_ran.0;
+      lines = lines_alone frames whole pieces kernels (map ended_of tenants) each_ran.0;
       counts = h.counts;
+      rounds = record { last = record { tenants = tenants; pool = pool; present = present; memory = host }; gone = gone; memory_is = refl; ended_are = refl };
     }
 
-    pub ends_put : (last : Option (List ℕ)) → Appends new last (bound_texts 0 (map ended_of tenants)) → Appends old last (shared_text h.pieces (map ended_of tenants))
-    ends_put last put = both old new last (flat_map piece_text h.pieces) (bound_texts 0 (map ended_of tenants)) h.text put
+    pub ends_put : (last : Option (List ℕ)) → Appends new last (bound_texts 0 (map ended_of tenants)) → Appends old last (shared_text pieces (map ended_of tenants))
+    ends_put last put = both old new last (flat_map piece_text pieces) (bound_texts 0 (map ended_of tenants)) h.text put
 
     pub ends_fail : (last : Option (List ℕ)) → AppendsFront new last (bound_texts 0 (map ended_of tenants)) → FailsAtEnd kernels whole frames old last
     ends_fail last put = record {
-      pieces = h.pieces;
+      pieces = pieces;
       ended = map ended_of tenants;
       turns = h.turns;
       each = each_ran.0;
-      front = then_front old new last (flat_map piece_text h.pieces) (bound_texts 0 (map ended_of tenants)) h.text put;
+      front = then_front old new last (flat_map piece_text pieces) (bound_texts 0 (map ended_of tenants)) h.text put;
     }

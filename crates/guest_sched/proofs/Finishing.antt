@@ -6,7 +6,7 @@ use Rattle.run_trace.specs.Text.{end_line}
 use Rattle.run_trace.specs.declared.items.End.{End}
 use Rattle.run_trace.specs.declared.items.Ended.{Ended}
 use Rattle.ia32_types.specs.declared.stop.Stop.{Stop}
-use Rattle.guest_sched.specs.Between.{ended_of, end_with}
+use Rattle.guest_sched.specs.Stages.{ended_of, end_with}
 use Rattle.guest_sched.specs.Pieces.{bound_line, bound_texts}
 use Rattle.guest_sched.specs.Tags.{tag_of, tagged}
 use Rattle.guest_sched.specs.declared.tenants.Tenant.{Tenant}

@@ -25,6 +25,7 @@ use Rattle.guest_sched.specs.Apart.{Seat, MayGoOn, IsSeated, AreApart, behind_as
 use Rattle.guest_sched.specs.Between.{EachStands, StandsSo, IsNext, stops_of}
 use Rattle.guest_sched.specs.Pieces.{Piece, MakesSteps, has_stopped, piece_text, counts_over, reports_of, own_text, stop_line}
 use Rattle.guest_sched.specs.Bounds.{bound_of}
+use Rattle.guest_sched.specs.Rounds.{MakesTurn}
 use Rattle.guest_sched.specs.Seating.{seats_from, HasGoneOn}
 use Rattle.guest_sched.specs.Shared.{alone, sites_in, IsBegun, BeganAlone, EachBegan}
 use Rattle.guest_sched.specs.SharedRuns.{FailsInTurn}
@@ -35,7 +36,7 @@ use Rattle.guest_sched.specs.declared.schedule.Slice.{Slice}
 use Rattle.guest_sched.specs.declared.tenants.Tenant.{Tenant}
 use Rattle.guest_sched.proofs.Apart.{one_moves, others_same}
 use Rattle.guest_sched.proofs.Between.{Here, here_of, at_place, direct_few, sites_at, sums_of, next_slice}
-use Rattle.guest_sched.proofs.Brought.{left_rooms}
+use Rattle.guest_sched.proofs.Brought.{get_or_any, left_rooms}
 use Rattle.guest_sched.proofs.Going.{split}
 use Rattle.guest_sched.proofs.Legs.{began_on}
 use Rattle.guest_sched.proofs.Puts.{both}
@@ -127,8 +128,8 @@ each_began frames whole done pieces slice p mine i (k ∷ ks) (s ∷ ss) (t ∷ 
 )
 
 -- what is known of all of them before the turn
-module _ (kernels : List Kernel) (frames : ℕ) (whole done : List Slice) (ts : List Tenant) (pool : Pool) (present : ℕ) (host : List ℕ) (before now : Counts) (old new : Option (List ℕ))
-    (b : IsBetween kernels frames whole done ts pool present host before now old new) (slice : Slice) (next : IsNext (length kernels) whole done slice)
+module _ (kernels : List Kernel) (frames : ℕ) (whole done : List Slice) (pieces : List Piece) (ts : List Tenant) (pool : Pool) (present : ℕ) (host : List ℕ) (before now : Counts) (old new : Option (List ℕ))
+    (b : IsBetween kernels frames whole done pieces ts pool present host before now old new) (slice : Slice) (next : IsNext (length kernels) whole done slice)
   where
     module _ (here : present ≡ slice.kernel) (dk : Kernel) (d : Tenant) (live : (get_or ts present d).stop ≡ None) where
       abbrev k : Kernel
@@ -137,8 +138,8 @@ module _ (kernels : List Kernel) (frames : ℕ) (whole done : List Slice) (ts : 
       abbrev t : Tenant
       t = get_or ts present d
 
-      pub is_here : Here frames whole done b.pieces pool host present k t
-      is_here = here_of frames whole done b.pieces kernels ts pool present host dk d b.rooms.there b.rooms.len b.apart.seated b.each
+      pub is_here : Here frames whole done pieces pool host present k t
+      is_here = here_of frames whole done pieces kernels ts pool present host dk d b.rooms.there b.rooms.len b.apart.seated b.each
 
       pub frames_are : t.guest.frames ≡ frames
       frames_are = is_here.seated.holds.frames_are
@@ -146,8 +147,8 @@ module _ (kernels : List Kernel) (frames : ℕ) (whole done : List Slice) (ts : 
       pub may_go : MayGoOn frames pool (seat_here k host t)
       may_go = is_here.seated.goes_on (ap is_none live)
 
-      pub stands_live : StandsSo present frames whole done b.pieces k (seat_here k host t) None
-      stands_live = subst (λ (o : Option Stop). StandsSo present frames whole done b.pieces k (seat_here k host t) o) live is_here.stands
+      pub stands_live : StandsSo present frames whole done pieces k (seat_here k host t) None
+      stands_live = subst (λ (o : Option Stop). StandsSo present frames whole done pieces k (seat_here k host t) o) live is_here.stands
 
       grows : bound_of present (done ++ slice ∷ []) ≡ bound_of present done + slice.steps
       grows = subst (λ (x : ℕ). bound_of x (done ++ slice ∷ []) ≡ bound_of x done + slice.steps) (sym here) (sums_of (length kernels) whole done slice next).0
@@ -163,8 +164,8 @@ module _ (kernels : List Kernel) (frames : ℕ) (whole done : List Slice) (ts : 
             (state_of of_roots (alone k frames) t'.guest host') now now' new h.between (pages_kept of_roots t.guest.shadows host) t.guest.fills t'.guest.fills (Ok h.pause)
         turn = at_frames k slice.kernel slice.steps host host' t t' now now' new h.between h.pause frames present frames_are (sym here) h.turn
 
-        made : Turned present slice.steps frames whole done slice b.pieces k host host' t t' now now' new h.between new' (sym here) refl within grows may_go.filled h.few stands_live turn.reports
-        made = turned present slice.steps frames whole done slice b.pieces k host host' t t' now now' new h.between new' (sym here) refl within grows may_go.filled h.few stands_live h.pause turn
+        made : Turned present slice.steps frames whole done slice pieces k host host' t t' now now' new h.between new' (sym here) refl within grows may_go.filled h.few stands_live turn.reports
+        made = turned present slice.steps frames whole done slice pieces k host host' t t' now now' new h.between new' (sym here) refl within grows may_go.filled h.few stands_live h.pause turn
             (subst (λ (x : ℕ). EndsSo x t' h.between new' h.pause) (sym here) h.ends)
 
         p : Piece
@@ -185,32 +186,31 @@ module _ (kernels : List Kernel) (frames : ℕ) (whole done : List Slice) (ts : 
             subst (λ (l : List Seat). AreApart frames pool' host' l) (sym sp.is')
             (one_moves frames pool pool' host host' sp.before sp.after (seat_here k host t) (seat_here k host' t') (subst (λ (l : List Seat). AreApart frames pool host l) sp.is b.apart) went.keeps stands seated refl refl)
 
-        each_at : EachStands 0 frames whole (done ++ slice ∷ []) (b.pieces ++ p ∷ []) kernels (seats_from frames host' present 0 kernels (set ts present t')) (stops_of (set ts present t'))
+        each_at : EachStands 0 frames whole (done ++ slice ∷ []) (pieces ++ p ∷ []) kernels (seats_from frames host' present 0 kernels (set ts present t')) (stops_of (set ts present t'))
         unfolding p
         each_at =
             let sp = split frames host host' present 0 present kernels ts dk d t' (omega arith) b.rooms.there known b.rooms.theirs in
             let same = others_same frames pool pool' host host' sp.before sp.after (seat_here k host t) (seat_here k host' t') (subst (λ (l : List Seat). AreApart frames pool host l) sp.is b.apart) went.keeps stands in
-            subst (λ (l : List (Option Stop)). EachStands 0 frames whole (done ++ slice ∷ []) (b.pieces ++ p ∷ []) kernels (seats_from frames host' present 0 kernels (set ts present t')) l) (sym (map-set (λ (x : Tenant). x.stop) ts present t'))
-            (subst (λ (l : List Seat). EachStands 0 frames whole (done ++ slice ∷ []) (b.pieces ++ p ∷ []) kernels l (set (stops_of ts) present t'.stop)) (sym sp.is')
-            (went_stands frames whole done b.pieces slice p here 0 present sp.before (map (behind_as frames host') sp.before) sp.after (map (behind_as frames host') sp.after) (seat_here k host t) (seat_here k host' t') kernels (stops_of ts) dk None t'.stop
+            subst (λ (l : List (Option Stop)). EachStands 0 frames whole (done ++ slice ∷ []) (pieces ++ p ∷ []) kernels (seats_from frames host' present 0 kernels (set ts present t')) l) (sym (map-set (λ (x : Tenant). x.stop) ts present t'))
+            (subst (λ (l : List Seat). EachStands 0 frames whole (done ++ slice ∷ []) (pieces ++ p ∷ []) kernels l (set (stops_of ts) present t'.stop)) (sym sp.is')
+            (went_stands frames whole done pieces slice p here 0 present sp.before (map (behind_as frames host') sp.before) sp.after (map (behind_as frames host') sp.after) (seat_here k host t) (seat_here k host' t') kernels (stops_of ts) dk None t'.stop
             sp.len (let z = here in omega (arith, z)) same.0 same.1
-            (subst (λ (l : List Seat). EachStands 0 frames whole done b.pieces kernels l (stops_of ts)) sp.is b.each)
-            (λ k' is _. subst (λ (x : Kernel). StandsSo slice.kernel frames whole (done ++ slice ∷ []) (b.pieces ++ p ∷ []) x (seat_here k host' t') t'.stop) (sym is)
-            (subst (λ (x : ℕ). StandsSo x frames whole (done ++ slice ∷ []) (b.pieces ++ p ∷ []) k (seat_here k host' t') t'.stop) here made.stands))))
+            (subst (λ (l : List Seat). EachStands 0 frames whole done pieces kernels l (stops_of ts)) sp.is b.each)
+            (λ k' is _. subst (λ (x : Kernel). StandsSo slice.kernel frames whole (done ++ slice ∷ []) (pieces ++ p ∷ []) x (seat_here k host' t') t'.stop) (sym is)
+            (subst (λ (x : ℕ). StandsSo x frames whole (done ++ slice ∷ []) (pieces ++ p ∷ []) k (seat_here k host' t') t'.stop) here made.stands))))
 
-        counts_at : now' ≡ counts_over (sites_in kernels) before (b.pieces ++ p ∷ [])
+        counts_at : now' ≡ counts_over (sites_in kernels) before (pieces ++ p ∷ [])
         unfolding p
         counts_at =
             let sites = sites_at kernels present dk known in
             same_counts now' _ _
-            (turn.counts.retired ∙ ap (λ (c : Counts). c.retired + direct_count k.image.sites turn.reports) b.counts ∙ ap (λ (l : List Site). (counts_over (sites_in kernels) before b.pieces).retired + direct_count l turn.reports) (sym sites))
-            (turn.counts.passed ∙ ap (λ (c : Counts). passed_digest k.image.sites c.passed turn.reports) b.counts ∙ ap (λ (l : List Site). passed_digest l (counts_over (sites_in kernels) before b.pieces).passed turn.reports) (sym sites))
-            ∙ sym (counts_on (sites_in kernels) before b.pieces p)
+            (turn.counts.retired ∙ ap (λ (c : Counts). c.retired + direct_count k.image.sites turn.reports) b.counts ∙ ap (λ (l : List Site). (counts_over (sites_in kernels) before pieces).retired + direct_count l turn.reports) (sym sites))
+            (turn.counts.passed ∙ ap (λ (c : Counts). passed_digest k.image.sites c.passed turn.reports) b.counts ∙ ap (λ (l : List Site). passed_digest l (counts_over (sites_in kernels) before pieces).passed turn.reports) (sym sites))
+            ∙ sym (counts_on (sites_in kernels) before pieces p)
 
-        pub went_between : IsBetween kernels frames whole (done ++ slice ∷ []) (set ts present t') pool' present host' before now' old new'
+        betweens : IsBetween kernels frames whole (done ++ slice ∷ []) (pieces ++ p ∷ []) (set ts present t') pool' present host' before now' old new'
         unfolding p
-        went_between = record {
-          pieces = b.pieces ++ p ∷ [];
+        betweens = record {
           rooms = record {
             len = length-set ts present t' ∙ b.rooms.len;
             four = b.rooms.four;
@@ -221,13 +221,13 @@ module _ (kernels : List Kernel) (frames : ℕ) (whole done : List Slice) (ts : 
             pool_is = went.keeps.same.1 ∙ b.rooms.pool_is;
           };
           apart = apart_at;
-          turns = turns_on [] done b.pieces slice p b.turns (record {
+          turns = turns_on [] done pieces slice p b.turns (record {
             kernel_is = here;
-            steps = subst (λ (x : ℕ). MakesSteps (has_stopped x b.pieces) slice.steps turn.reports t'.stop) here made.makes;
+            steps = subst (λ (x : ℕ). MakesSteps (has_stopped x pieces) slice.steps turn.reports t'.stop) here made.makes;
           });
           each = each_at;
-          text = subst (λ (l : List ℕ). Appends old new' l) (ap (λ (l : List ℕ). flat_map piece_text b.pieces ++ l) (sym (append-nil (piece_text p))) ∙ sym (flat_append piece_text b.pieces (p ∷ [])))
-              (both old new new' (flat_map piece_text b.pieces) (piece_text p) b.text made.text);
+          text = subst (λ (l : List ℕ). Appends old new' l) (ap (λ (l : List ℕ). flat_map piece_text pieces ++ l) (sym (append-nil (piece_text p))) ∙ sym (flat_append piece_text pieces (p ∷ [])))
+              (both old new new' (flat_map piece_text pieces) (piece_text p) b.text made.text);
           counts = counts_at;
           retired = (
               let up = turn.counts.retired in
@@ -237,6 +237,29 @@ module _ (kernels : List Kernel) (frames : ℕ) (whole done : List Slice) (ts : 
               let was = b.retired in
               omega (arith, up, few, steps, most, was, length-append done (slice ∷ [])));
         }
+
+        makes : MakesTurn kernels frames slice p (record { tenants = ts; pool = pool; present = present; memory = host }) (record { tenants = set ts present t'; pool = pool'; present = present; memory = host' })
+        unfolding p
+        makes = record {
+          number = (refl, refl);
+          kernel = k;
+          kernel_is = λ e. get_or_any kernels present e dk known;
+          tenant = t;
+          tenant_is = λ e. get_or_any ts present e d b.rooms.there;
+          then_ = t';
+          others = refl;
+          ram = went.ram;
+          keeps = went.keeps;
+          out = record { before = now; after = now'; told = new; tells = h.between };
+          pause = h.pause;
+          turn = turn;
+          reports = refl;
+          ends = (refl, refl);
+        }
+
+        pub went_between : (p : Piece) × MakesTurn kernels frames slice p (record { tenants = ts; pool = pool; present = present; memory = host }) (record { tenants = set ts present t'; pool = pool'; present = present; memory = host' })
+            × IsBetween kernels frames whole (done ++ slice ∷ []) (pieces ++ p ∷ []) (set ts present t') pool' present host' before now' old new'
+        went_between = (p, makes, betweens)
 
     -- a kernel that has met a stop before
     module _ (d : Tenant) (stop : Stop) (is : (get_or ts slice.kernel d).stop ≡ Some stop) where
@@ -248,29 +271,28 @@ module _ (kernels : List Kernel) (frames : ℕ) (whole done : List Slice) (ts : 
           let there : j ≡ slice.kernel = omega (arith, e, same) in
           ap (λ (x : ℕ). get_or (stops_of ts) x None) there ∙ get_or-map (λ (t : Tenant). t.stop) ts slice.kernel d None n_known ∙ is
 
-      has_met : has_stopped slice.kernel b.pieces ≡ true
+      has_met : has_stopped slice.kernel pieces ≡ true
       has_met =
           let lt : slice.kernel < length (stops_of ts) = (let n = length-map ts (λ (t : Tenant). t.stop) in let k = n_known in omega (arith, n, k)) in
           let dk = any_kernel kernels slice.kernel (next_slice (length kernels) whole done slice next).known in
           let ds = seat_here dk host d in
           let zero_is : 0 + slice.kernel ≡ slice.kernel = omega arith in
-          met_stop slice.kernel frames whole done b.pieces (get_or kernels slice.kernel dk) (get_or (seats_from frames host present 0 kernels ts) slice.kernel ds) stop (get_or (stops_of ts) slice.kernel None) (stop_at slice.kernel slice.kernel (omega arith) lt refl)
-          (subst (λ (x : ℕ). StandsSo x frames whole done b.pieces (get_or kernels slice.kernel dk) (get_or (seats_from frames host present 0 kernels ts) slice.kernel ds) (get_or (stops_of ts) slice.kernel None)) zero_is
-          (at_place 0 slice.kernel frames whole done b.pieces kernels (seats_from frames host present 0 kernels ts) (stops_of ts) dk ds None lt b.each))
+          met_stop slice.kernel frames whole done pieces (get_or kernels slice.kernel dk) (get_or (seats_from frames host present 0 kernels ts) slice.kernel ds) stop (get_or (stops_of ts) slice.kernel None) (stop_at slice.kernel slice.kernel (omega arith) lt refl)
+          (subst (λ (x : ℕ). StandsSo x frames whole done pieces (get_or kernels slice.kernel dk) (get_or (seats_from frames host present 0 kernels ts) slice.kernel ds) (get_or (stops_of ts) slice.kernel None)) zero_is
+          (at_place 0 slice.kernel frames whole done pieces kernels (seats_from frames host present 0 kernels ts) (stops_of ts) dk ds None lt b.each))
 
-      pub skipped_between : IsBetween kernels frames whole (done ++ slice ∷ []) ts pool present host before now old new
+      pub skipped_between : (p : Piece) × IsBetween kernels frames whole (done ++ slice ∷ []) (pieces ++ p ∷ []) ts pool present host before now old new
       skipped_between =
           let p = piece_of slice.kernel [] 0 None in
-          record {
-            pieces = b.pieces ++ p ∷ [];
-            rooms = b.rooms;
+          (p, record {
+              rooms = b.rooms;
             apart = b.apart;
-            turns = turns_on [] done b.pieces slice p b.turns (record { kernel_is = refl; steps = subst (λ x. MakesSteps x slice.steps [] None) (sym has_met) (refl, refl) });
-            each = skip_stands frames whole done b.pieces slice p refl 0 kernels (seats_from frames host present 0 kernels ts) (stops_of ts) stop refl refl stop_at b.each;
-            text = subst (λ (l : List ℕ). Appends old new l) (sym (flat_append piece_text b.pieces (p ∷ []) ∙ append-nil (flat_map piece_text b.pieces))) b.text;
-            counts = b.counts ∙ same_counts (counts_over (sites_in kernels) before b.pieces) _ _ (omega arith) refl ∙ sym (counts_on (sites_in kernels) before b.pieces p);
+            turns = turns_on [] done pieces slice p b.turns (record { kernel_is = refl; steps = subst (λ x. MakesSteps x slice.steps [] None) (sym has_met) (refl, refl) });
+            each = skip_stands frames whole done pieces slice p refl 0 kernels (seats_from frames host present 0 kernels ts) (stops_of ts) stop refl refl stop_at b.each;
+            text = subst (λ (l : List ℕ). Appends old new l) (sym (flat_append piece_text pieces (p ∷ []) ∙ append-nil (flat_map piece_text pieces))) b.text;
+            counts = b.counts ∙ same_counts (counts_over (sites_in kernels) before pieces) _ _ (omega arith) refl ∙ sym (counts_on (sites_in kernels) before pieces p);
             retired = (let was = b.retired in omega (arith, was, length-append done (slice ∷ [])));
-          }
+          })
 
     -- the sink has failed in the turn
     module _ (here : present ≡ slice.kernel) (dk : Kernel) (d : Tenant) (live : (get_or ts present d).stop ≡ None) (new' : Option (List ℕ))
@@ -282,19 +304,19 @@ module _ (kernels : List Kernel) (frames : ℕ) (whole done : List Slice) (ts : 
         is_mine : h.piece.kernel ≡ present
         is_mine = h.number_is ∙ sym here
 
-        began_here : BeganAlone m_here (reports_of present (b.pieces ++ h.piece ∷ [])) (own_text present (b.pieces ++ h.piece ∷ []))
+        began_here : BeganAlone m_here (reports_of present (pieces ++ h.piece ∷ [])) (own_text present (pieces ++ h.piece ∷ []))
         began_here =
             let at = is_here here dk d live in
             let fr = frames_are here dk d live in
             let run = stands_live here dk d live in
             let first = state_of of_roots m_here (get_or ts present d).guest host in
-            let on = began_on m_here (reports_of present b.pieces) h.piece.reports (get_or ts present d).guest.fills first h.last h.sets run.0
+            let on = began_on m_here (reports_of present pieces) h.piece.reports (get_or ts present d).guest.fills first h.last h.sets run.0
             (subst (λ (f : ℕ). Steps (alone (get_or kernels present dk) f) (state_of of_roots (alone (get_or kernels present dk) f) (get_or ts present d).guest host) h.sets h.piece.reports h.last) fr h.steps_are) in
             record {
               sets = on.sets;
               last = on.then_;
-              steps = subst (λ (r : List Report). Steps m_here (boot m_here) on.sets r on.then_) (sym (reports_on present h.piece is_mine b.pieces)) on.steps;
-              text_is = begun_as m_here (reports_of present b.pieces) h.piece (b.pieces ++ h.piece ∷ []) present h.last on.then_ (own_text present b.pieces) (reports_on present h.piece is_mine b.pieces) (text_on present h.piece is_mine b.pieces) run.2 (h.count ∙ on.count)
+              steps = subst (λ (r : List Report). Steps m_here (boot m_here) on.sets r on.then_) (sym (reports_on present h.piece is_mine pieces)) on.steps;
+              text_is = begun_as m_here (reports_of present pieces) h.piece (pieces ++ h.piece ∷ []) present h.last on.then_ (own_text present pieces) (reports_on present h.piece is_mine pieces) (text_on present h.piece is_mine pieces) run.2 (h.count ∙ on.count)
                   (subst (λ (f : ℕ). IfSome h.piece.stop (StopHolds (alone (get_or kernels present dk) f) h.last)) fr h.stops) on.stops;
             }
 
@@ -304,14 +326,14 @@ module _ (kernels : List Kernel) (frames : ℕ) (whole done : List Slice) (ts : 
           slice = slice;
           rest = next.rest;
           slices_are = next.whole_is;
-          pieces = b.pieces;
+          pieces = pieces;
           last = h.piece;
           turns = b.turns;
           kernel_is = h.number_is;
           few = h.few;
-          each = each_began frames whole done b.pieces slice h.piece h.number_is 0 kernels (seats_from frames host present 0 kernels ts) (stops_of ts) dk b.each
-              (λ j m is same. subst (λ (x : Kernel). BeganAlone (alone x frames) (reports_of m (b.pieces ++ h.piece ∷ [])) (own_text m (b.pieces ++ h.piece ∷ []))) (ap (λ (i : ℕ). get_or kernels i dk) (let z = here in omega (arith, is, same, z)))
-              (subst (λ (x : ℕ). BeganAlone m_here (reports_of x (b.pieces ++ h.piece ∷ [])) (own_text x (b.pieces ++ h.piece ∷ []))) (let z = here in omega (arith, same, z)) began_here));
+          each = each_began frames whole done pieces slice h.piece h.number_is 0 kernels (seats_from frames host present 0 kernels ts) (stops_of ts) dk b.each
+              (λ j m is same. subst (λ (x : Kernel). BeganAlone (alone x frames) (reports_of m (pieces ++ h.piece ∷ [])) (own_text m (pieces ++ h.piece ∷ []))) (ap (λ (i : ℕ). get_or kernels i dk) (let z = here in omega (arith, is, same, z)))
+              (subst (λ (x : ℕ). BeganAlone m_here (reports_of x (pieces ++ h.piece ∷ [])) (own_text x (pieces ++ h.piece ∷ []))) (let z = here in omega (arith, same, z)) began_here));
           between = new;
           text = b.text;
           front = h.front;

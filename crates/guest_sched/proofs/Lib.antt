@@ -26,6 +26,7 @@ pub mod Fronts
 pub mod Gone
 pub mod Rooms
 pub mod Ways
+pub mod Rounding
 pub mod LineEnds
 pub mod TaggedLines
 pub mod ReadAlone

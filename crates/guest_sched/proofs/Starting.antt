@@ -61,9 +61,8 @@ nothing_put (Some old) = ap (λ (z : List ℕ). Some z) (sym (append-nil old))
 
 pub begins : (kernels : List Kernel) (frames : ℕ) (tenants : List Tenant) (pool : Pool) (present : ℕ) (host : List ℕ) → IsAdmitted kernels frames tenants pool present host
     → 1 ≤ length kernels → length kernels ≤ 4 → (2048 ≤ frames) × (frames ≤ 16384)
-    → (whole : List Slice) (counts : Counts) (taken : Option (List ℕ)) → IsBetween kernels frames whole [] tenants pool present host counts counts taken taken
+    → (whole : List Slice) (counts : Counts) (taken : Option (List ℕ)) → IsBetween kernels frames whole [] [] tenants pool present host counts counts taken taken
 begins kernels frames tenants pool present host h some four size whole counts taken = record {
-  pieces = [];
   rooms = record {
     len = h.len;
     four = four;

@@ -6,6 +6,7 @@ use Rattle.run_trace.specs.declared.pause.Pause.{Pause}
 use Rattle.machine_model.specs.State.{Setting, State}
 use Rattle.wedge_core.specs.Counts.{Counts}
 use Rattle.guest_sched.specs.Between as between
+use Rattle.guest_sched.specs.Pieces.{Piece}
 use Rattle.guest_sched.specs.Turns as turns
 use Rattle.guest_sched.specs.Went as went
 use Rattle.guest_sched.specs.declared.kernel.Kernel.{Kernel}
@@ -20,9 +21,9 @@ abbrev pub HasTurned : Kernel → ℕ → ℕ → List ℕ → List ℕ → Tena
 HasTurned kernel number steps host host' old new before after taken tells =
     went.HasTurned kernel number steps host host' old new (record { before = before; after = after; told = taken; tells = tells })
 
-abbrev pub IsBetween : List Kernel → ℕ → List Slice → List Slice → List Tenant → Pool → ℕ → List ℕ → Counts → Counts → Option (List ℕ) → Option (List ℕ) → Type 0
-IsBetween kernels frames whole done tenants pool present host before now old new =
-    between.IsBetween kernels frames whole done (record { tenants = tenants; pool = pool; present = present; memory = host })
+abbrev pub IsBetween : List Kernel → ℕ → List Slice → List Slice → List Piece → List Tenant → Pool → ℕ → List ℕ → Counts → Counts → Option (List ℕ) → Option (List ℕ) → Type 0
+IsBetween kernels frames whole done pieces tenants pool present host before now old new =
+    between.IsBetween kernels frames whole done pieces (record { tenants = tenants; pool = pool; present = present; memory = host })
     (record { before = before; after = now; told = old; tells = new })
 
 abbrev pub StandsNext : List Kernel → ℕ → Slice → List Tenant → Pool → ℕ → List ℕ → Counts → Option (List ℕ) → Type 0

@@ -5,18 +5,18 @@ use Rattle.ia32_types.specs.declared.stop.Stop.{Stop}
 use Rattle.frame_pool.specs.Pool.{count_of}
 use Rattle.frame_pool.specs.declared.Pool.{Pool}
 use Rattle.pv_io.specs.Sink.{Appends}
-use Rattle.run_trace.specs.declared.items.End.{End}
-use Rattle.run_trace.specs.declared.items.End.TheVariants.{Bound, Stopped}
-use Rattle.run_trace.specs.declared.items.Ended.{Ended}
+use Rattle.run_trace.specs.declared.items.End.TheVariants.{Stopped}
 use Rattle.run_trace.specs.Text.{lines_of, text_of}
 use Rattle.machine_model.specs.Run.{trace_of}
 use Rattle.wedge_core.specs.OfRoots.{of_roots}
 use Rattle.wedge_step.specs.Standing.{state_of}
 use Rattle.wedge_core.specs.Slices.{Counts, Outward}
+use Rattle.guest_sched.specs.Admitting.{IsAdmitted}
 use Rattle.guest_sched.specs.Apart.{Seat, AreApart}
 use Rattle.guest_sched.specs.Legs.{HasRun, HasStopped}
 use Rattle.guest_sched.specs.Pieces.{Piece, AreTurns, has_stopped, piece_text, reports_of, own_text, counts_over}
 use Rattle.guest_sched.specs.Bounds.{bound_of}
+use Rattle.guest_sched.specs.Rounds.{GoesRound}
 use Rattle.guest_sched.specs.Schedules.{IsSchedule}
 use Rattle.guest_sched.specs.Seating.{seats_from}
 use Rattle.guest_sched.specs.Shared.{alone, sites_in, AllFit, FirstTooSmall}
@@ -28,14 +28,6 @@ use Rattle.guest_sched.specs.declared.kernel.SharedFault.TheVariants as fault
 use Rattle.guest_sched.specs.declared.schedule.Slice.{Slice}
 use Rattle.guest_sched.specs.declared.tenants.Tenant.{Tenant}
 use Rattle.guest_sched.specs.declared.tenants.Tenants.{Tenants}
-
--- how a kernel ends that has met this stop, or none
-abbrev pub end_with : Option Stop → End
-end_with None = Bound
-end_with (Some stop) = Stopped stop
-
-abbrev pub ended_of : Tenant → Ended
-ended_of tenant = record { steps = tenant.guest.step; end = end_with tenant.stop; fills = tenant.guest.fills }
 
 -- How far the run of a kernel alone has come by these turns, and its text. One that has met a stop goes no further.
 abbrev pub StandsSo : ℕ → ℕ → List Slice → List Slice → List Piece → Kernel → Seat → Option Stop → Type 0
@@ -69,8 +61,7 @@ pub record HaveRoom (kernels : List Kernel) (frames : ℕ) (tenants : List Tenan
 
 -- Between two turns of a whole schedule, of which some are done: the kernels are apart, each one's run alone has come so far, the
 -- sink has taken the text of the turns, and the host's counts follow them.
-pub record IsBetween (kernels : List Kernel) (frames : ℕ) (whole done : List Slice) (s : Stage) (out : Outward) : Type 0 where
-  pub pieces : List Piece
+pub record IsBetween (kernels : List Kernel) (frames : ℕ) (whole done : List Slice) (pieces : List Piece) (s : Stage) (out : Outward) : Type 0 where
   pub rooms : HaveRoom kernels frames s.tenants s.pool s.present s.memory
   pub apart : AreApart frames s.pool s.memory (seats_from frames s.memory s.present 0 kernels s.tenants)
   pub turns : AreTurns [] done pieces
@@ -89,24 +80,26 @@ pub record IsNext (count : ℕ) (whole done : List Slice) (slice : Slice) : Type
 pub record StandsNext (kernels : List Kernel) (frames : ℕ) (slice : Slice) (s : Stage) (now : Counts) (new : Option (List ℕ)) : Type 0 where
   pub whole : List Slice
   pub done : List Slice
+  pub pieces : List Piece
   pub before : Counts
   pub old : Option (List ℕ)
   pub next : IsNext (length kernels) whole done slice
-  pub between : IsBetween kernels frames whole done s (record { before = before; after = now; told = old; tells = new })
+  pub between : IsBetween kernels frames whole done pieces s (record { before = before; after = now; told = old; tells = new })
   pub few : before.retired ≤ 2 ^ 63
 
--- what is known between two turns goes on over this one
+-- This turn goes its round, and what is known between two turns goes on over it.
 abbrev pub TurnGoes : List Kernel → ℕ → Slice → Stage → Stage → Outward → Type 0
 TurnGoes kernels frames slice old new out =
-    (whole done : List Slice) (before : Counts) (was : Option (List ℕ)) → IsNext (length kernels) whole done slice
-    → IsBetween kernels frames whole done old (record { before = before; after = out.before; told = was; tells = out.told })
-    → IsBetween kernels frames whole (done ++ slice ∷ []) new (record { before = before; after = out.after; told = was; tells = out.tells })
+    (whole done : List Slice) (pieces : List Piece) (before : Counts) (was : Option (List ℕ)) → IsNext (length kernels) whole done slice
+    → IsBetween kernels frames whole done pieces old (record { before = before; after = out.before; told = was; tells = out.told })
+    → (p : Piece) × GoesRound kernels frames slice p old new
+    × IsBetween kernels frames whole (done ++ slice ∷ []) (pieces ++ p ∷ []) new (record { before = before; after = out.after; told = was; tells = out.tells })
 
 -- the sink has failed in it
 abbrev pub TurnFails : List Kernel → ℕ → Slice → Stage → Outward → Type 0
 TurnFails kernels frames slice old out =
-    (whole done : List Slice) (before : Counts) (was : Option (List ℕ)) → IsNext (length kernels) whole done slice
-    → IsBetween kernels frames whole done old (record { before = before; after = out.before; told = was; tells = out.told })
+    (whole done : List Slice) (pieces : List Piece) (before : Counts) (was : Option (List ℕ)) → IsNext (length kernels) whole done slice
+    → IsBetween kernels frames whole done pieces old (record { before = before; after = out.before; told = was; tells = out.told })
     → FailsInTurn kernels whole frames was out.tells
 
 -- Kernels that were admitted stand before the first turn of any schedule, with nothing put; or one of them has no room.
@@ -118,5 +111,6 @@ AdmitRefused kernels frames fault.Memory = Unit {0}
 abbrev pub AdmitsAs : List Kernel → ℕ → List ℕ → Result Tenants SharedFault → Type 0
 AdmitsAs kernels frames host (Ok tenants) =
     AllFit frames kernels × (tenants.frames ≡ frames)
-    × ((whole : List Slice) (counts : Counts) (taken : Option (List ℕ)) → IsBetween kernels frames whole [] (stage tenants host) (record { before = counts; after = counts; told = taken; tells = taken }))
+    × IsAdmitted kernels frames tenants.list.items tenants.pool tenants.present host
+    × ((whole : List Slice) (counts : Counts) (taken : Option (List ℕ)) → IsBetween kernels frames whole [] [] (stage tenants host) (record { before = counts; after = counts; told = taken; tells = taken }))
 AdmitsAs kernels frames host (Err refusal) = AdmitRefused kernels frames refusal

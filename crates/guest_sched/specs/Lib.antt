@@ -24,3 +24,4 @@ pub mod Went
 pub mod Between
 pub mod TaggedLines
 pub mod Admitting
+pub mod Rounds

@@ -9,9 +9,10 @@ use Rattle.guest_sched.specs.declared.schedule.Slice.{Slice}
 use Rattle.guest_sched.specs.Pieces.{Piece, AreTurns, piece_text, shared_text, counts_over}
 use Rattle.guest_sched.specs.Shared.{EachRan, sites_in, LinesAreAlone, EachBegan}
 use Rattle.guest_sched.specs.OwnEnds.{EachHasOwnEnd}
+use Rattle.guest_sched.specs.Rounds.{EndsRound}
 
 -- The turns are those of the schedule, in its order. Each kernel's turns make a run of it alone, with its own set at the end,
--- and the host's counts follow all of them.
+-- and the host's counts follow all of them. Before each turn no more parked kernels were released than it needed.
 pub record SharedRun (kernels : List Kernel) (slices : List Slice) (frames : ℕ) (before after : Counts) (memory text : List ℕ) (ended : List Ended) : Type 0 where
   pub pieces : List Piece
   pub turns : AreTurns [] slices pieces
@@ -20,6 +21,7 @@ pub record SharedRun (kernels : List Kernel) (slices : List Slice) (frames : ℕ
   pub text_is : text ≡ shared_text pieces ended
   pub lines : LinesAreAlone 0 text pieces ended
   pub counts : after ≡ counts_over (sites_in kernels) before pieces
+  pub rounds : EndsRound kernels frames slices pieces memory ended
 
 -- The sink has failed in a turn: it has taken the text of the turns before, and a front of what the first steps of this one
 -- give.

@@ -3,8 +3,8 @@
 ghost use Rattle.std.specs.Prelude.{◌≡◌, ◌≤◌, length, map, OnOk, OnErr};
 ghost use Rattle.pv_io.specs.Causes.{Rose};
 ghost use Rattle.pv_io.specs.Sink.{Appends, AppendsFront};
-ghost use Rattle.guest_sched.specs.Between.{ended_of};
 ghost use Rattle.guest_sched.specs.Pieces.{bound_texts};
+ghost use Rattle.guest_sched.specs.Stages.{ended_of};
 
 use crate::shared::end_of;
 use crate::tenants::Tenants;

@@ -8,10 +8,10 @@ ghost use Rattle.wedge_core.specs.Surroundings.{around};
 ghost use Rattle.wedge_core.specs.Counts.{counts_of};
 ghost use Rattle.wedge_core.specs.Sliced.{outward};
 ghost use Rattle.guest_sched.specs.Answers.{SharedAnswers};
-ghost use Rattle.guest_sched.specs.Between.{StandsNext, TurnFails, TurnGoes, end_with};
+ghost use Rattle.guest_sched.specs.Between.{StandsNext, TurnFails, TurnGoes};
 ghost use Rattle.guest_sched.specs.Schedules.{IsSchedule};
 ghost use Rattle.guest_sched.specs.Seating.{HasGoneOn, TakesTurn};
-ghost use Rattle.guest_sched.specs.Stages.{stage};
+ghost use Rattle.guest_sched.specs.Stages.{end_with, stage};
 ghost use Rattle.guest_sched.specs.Went.{HasFailed, HasTurned};
 
 use crate::admit::{admit_all, no_ends};

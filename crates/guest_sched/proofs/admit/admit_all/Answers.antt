@@ -22,7 +22,7 @@ returns-clause-admitted g c =
     let l = c.loop-kernel in
     let all : take l.kernel-index c.args.kernels.now.items ≡ c.args.kernels.now.items = take_all l.kernel-index c.args.kernels.now.items (let a = c.loop-kernel-test.false in let b = ap length c.deref-kernel-items.ensures.value in omega (arith, a, b)) in
     let is = subst (λ (ks : List Kernel). IsAdmitted ks c.args.frames l.tenants.list.items l.tenants.pool l.tenants.present (g.H.Host.bytes l.host)) all l.invariant.admitted in
-    (is.fits, l.invariant.frames, begins c.args.kernels.now.items c.args.frames l.tenants.list.items l.tenants.pool l.tenants.present (g.H.Host.bytes l.host) is c.requires.some.0 c.requires.some.1 c.requires.frames)
+    (is.fits, l.invariant.frames, is, begins c.args.kernels.now.items c.args.frames l.tenants.list.items l.tenants.pool l.tenants.present (g.H.Host.bytes l.host) is c.requires.some.0 c.requires.some.1 c.requires.frames)
 
 pub admit-requires-clause-so_far : goal.admit-requires-clause-so_far
 admit-requires-clause-so_far g c =

@@ -5,7 +5,7 @@ use Rattle.std.proofs.lemmas.Result.{err_from_is_err_and}
 use Rattle.std.proofs.Math.Bool.{not-not}
 use Rattle.pv_io.specs.Sink.{Appends}
 use Rattle.run_trace.specs.Text.{end_line}
-use Rattle.guest_sched.specs.Between.{ended_of}
+use Rattle.guest_sched.specs.Stages.{ended_of}
 use Rattle.guest_sched.specs.Pieces.{bound_texts}
 use Rattle.guest_sched.specs.Tags.{tag_of, tagged}
 use Rattle.guest_sched.specs.declared.tenants.Tenant.{Tenant}

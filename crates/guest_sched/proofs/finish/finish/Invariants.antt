@@ -1,6 +1,6 @@
 use Rattle.std.proofs.Common.{◌≡◌, length, map, take}
 use Rattle.pv_io.specs.Sink.{Appends}
-use Rattle.guest_sched.specs.Between.{ended_of}
+use Rattle.guest_sched.specs.Stages.{ended_of}
 use Rattle.guest_sched.specs.Pieces.{bound_texts}
 use Rattle.guest_sched.proofs.finish.finish.Given as goal
 

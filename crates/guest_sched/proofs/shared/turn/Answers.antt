@@ -1,5 +1,10 @@
-use Rattle.std.proofs.Common.{◌≡◌, true, ◌<◌, [], ◌∷◌, ◌++◌, length, set, get_or, None, refl, ap, sym, subst, ◌∙◌, arith}
+use Rattle.std.proofs.Common.{◌≡◌, inl, inr, true, ◌<◌, [], ◌∷◌, ◌++◌, length, set, get_or, Some, None, refl, ap, sym, subst, ◌∙◌, arith}
 use Rattle.board.specs.ScriptForm.{is_script}
+use Rattle.guest_sched.specs.Pieces.{Piece}
+use Rattle.guest_sched.specs.Releases.{IsRoomMade}
+use Rattle.guest_sched.specs.Rounds.{GoesRound}
+use Rattle.guest_sched.specs.Seating.{HasBrought}
+use Rattle.guest_sched.specs.Stages.{stage}
 use Rattle.guest_sched.specs.declared.kernel.Kernel.{Kernel}
 use Rattle.guest_sched.specs.declared.tenants.Tenant.{Tenant}
 use Rattle.guest_sched.proofs.Between.{next_slice}
@@ -17,10 +22,21 @@ index-requires g c =
     omega (arith, len, low)
 
 pub returns-then-is_some-clause-turned : goal.returns-then-is_some-clause-turned
-returns-then-is_some-clause-turned g c whole done before was next b =
+returns-then-is_some-clause-turned g c whole done pieces before was next b =
     let met = met_of c.index.result.now.stop c.is_some.result c.is_some.ensures c.if-is_some.true in
-    skipped_between c.args.kernels.now.items c.args.tenants.now.frames whole done c.args.tenants.now.list.items c.args.tenants.now.pool c.args.tenants.now.present (g.H.Host.bytes c.args.host.now) before (counts_of (g.H.Host.retired c.args.host.now) (g.H.Host.passed c.args.host.now)) was (g.O.Sink.taken c.args.out.now)
-    b c.args.slice.now next c.index.result.now met.0 (ap (λ (t : Tenant). t.stop) (sym c.index.ensures) ∙ met.1)
+    let is : c.index.result.now.stop ≡ Some met.0 = met.1 in
+    let low = (next_slice _ whole done c.args.slice.now next).known in
+    let n = b.rooms.len in
+    let x = skipped_between c.args.kernels.now.items c.args.tenants.now.frames whole done pieces c.args.tenants.now.list.items c.args.tenants.now.pool c.args.tenants.now.present (g.H.Host.bytes c.args.host.now) before (counts_of (g.H.Host.retired c.args.host.now) (g.H.Host.passed c.args.host.now)) was (g.O.Sink.taken c.args.out.now)
+    b c.args.slice.now next c.index.result.now met.0 (ap (λ (t : Tenant). t.stop) (sym c.index.ensures) ∙ is) in (
+      x.0,
+      inl (record {
+        stop = met.0;
+        met = λ d. ap (λ (t : Tenant). t.stop) (get_or_any c.args.tenants.now.list.items c.args.slice.now.kernel d c.index.result.now (omega (arith, n, low)) ∙ sym c.index.ensures) ∙ is;
+        same = refl;
+      }),
+      x.1,
+    )
 
 pub returns-then-is_some-clause-frames : goal.returns-then-is_some-clause-frames
 returns-then-is_some-clause-frames g c = refl
@@ -60,7 +76,7 @@ make_room-requires-clause-may g c =
     let len = s.between.rooms.len in
     let low = (next_slice _ s.whole s.done c.args.slice.now s.next).known in
     let lt : c.args.slice.now.kernel < length c.args.tenants.now.list.items = omega (arith, len, low) in
-    let b = brought_at c.args.kernels.now.items s.whole s.done s.before (counts_of (g.H.Host.retired c.args.host.now) (g.H.Host.passed c.args.host.now)) (counts_of (g.H.Host.retired c.bring.new.host) (g.H.Host.passed c.bring.new.host))
+    let b = brought_at c.args.kernels.now.items s.whole s.done s.pieces s.before (counts_of (g.H.Host.retired c.args.host.now) (g.H.Host.passed c.args.host.now)) (counts_of (g.H.Host.retired c.bring.new.host) (g.H.Host.passed c.bring.new.host))
     (counts_of (g.H.Host.retired c.bring.new.host) (g.H.Host.passed c.bring.new.host)) s.old (g.O.Sink.taken c.args.out.now) c.args.slice.now.kernel c.args.tenants.now c.bring.new.self c.bring.new.self
     (g.H.Host.bytes c.args.host.now) (g.H.Host.bytes c.bring.new.host) (g.H.Host.bytes c.bring.new.host) c.bring.ensures.brought c.bring.ensures.rest lt (counts_same _ _ _ _ c.bring.ensures.retired c.bring.ensures.passed) s.between in
     record {
@@ -76,7 +92,7 @@ index_mut-tenant-requires g c =
     let len = s.between.rooms.len in
     let low = (next_slice _ s.whole s.done c.args.slice.now s.next).known in
     let lt : c.args.slice.now.kernel < length c.args.tenants.now.list.items = omega (arith, len, low) in
-    let b = ready_at c.args.kernels.now.items s.whole s.done s.before (counts_of (g.H.Host.retired c.args.host.now) (g.H.Host.passed c.args.host.now)) (counts_of (g.H.Host.retired c.bring.new.host) (g.H.Host.passed c.bring.new.host))
+    let b = ready_at c.args.kernels.now.items s.whole s.done s.pieces s.before (counts_of (g.H.Host.retired c.args.host.now) (g.H.Host.passed c.args.host.now)) (counts_of (g.H.Host.retired c.bring.new.host) (g.H.Host.passed c.bring.new.host))
     (counts_of (g.H.Host.retired c.make_room.new.host) (g.H.Host.passed c.make_room.new.host)) s.old (g.O.Sink.taken c.args.out.now) c.args.slice.now.kernel c.args.tenants.now c.bring.new.self c.make_room.new.self
     (g.H.Host.bytes c.args.host.now) (g.H.Host.bytes c.bring.new.host) (g.H.Host.bytes c.make_room.new.host) c.bring.ensures.brought c.bring.ensures.rest lt (counts_same _ _ _ _ c.bring.ensures.retired c.bring.ensures.passed) s.between
     c.make_room.ensures.made c.make_room.ensures.theirs c.make_room.ensures.size c.make_room.ensures.apart c.make_room.ensures.stay c.make_room.ensures.rest (counts_same _ _ _ _ c.make_room.ensures.retired c.make_room.ensures.passed) in
@@ -100,13 +116,13 @@ go_on-requires-clause-takes g c =
     let len = s.between.rooms.len in
     let low = (next_slice _ s.whole s.done c.args.slice.now s.next).known in
     let lt : c.args.slice.now.kernel < length c.args.tenants.now.list.items = omega (arith, len, low) in
-    let b = ready_at c.args.kernels.now.items s.whole s.done s.before (counts_of (g.H.Host.retired c.args.host.now) (g.H.Host.passed c.args.host.now)) (counts_of (g.H.Host.retired c.bring.new.host) (g.H.Host.passed c.bring.new.host))
+    let b = ready_at c.args.kernels.now.items s.whole s.done s.pieces s.before (counts_of (g.H.Host.retired c.args.host.now) (g.H.Host.passed c.args.host.now)) (counts_of (g.H.Host.retired c.bring.new.host) (g.H.Host.passed c.bring.new.host))
     (counts_of (g.H.Host.retired c.make_room.new.host) (g.H.Host.passed c.make_room.new.host)) s.old (g.O.Sink.taken c.args.out.now) c.args.slice.now.kernel c.args.tenants.now c.bring.new.self c.make_room.new.self
     (g.H.Host.bytes c.args.host.now) (g.H.Host.bytes c.bring.new.host) (g.H.Host.bytes c.make_room.new.host) c.bring.ensures.brought c.bring.ensures.rest lt (counts_same _ _ _ _ c.bring.ensures.retired c.bring.ensures.passed) s.between
     c.make_room.ensures.made c.make_room.ensures.theirs c.make_room.ensures.size c.make_room.ensures.apart c.make_room.ensures.stay c.make_room.ensures.rest (counts_same _ _ _ _ c.make_room.ensures.retired c.make_room.ensures.passed) in
     let live0 = live_of c.index.result.now.stop c.is_some.result c.is_some.ensures c.if-is_some.false in
     let d = c.index_mut-tenant.result.now in
-    let kept = stop_same c.args.kernels.now.items s.whole s.done s.before (counts_of (g.H.Host.retired c.args.host.now) (g.H.Host.passed c.args.host.now)) (counts_of (g.H.Host.retired c.bring.new.host) (g.H.Host.passed c.bring.new.host))
+    let kept = stop_same c.args.kernels.now.items s.whole s.done s.pieces s.before (counts_of (g.H.Host.retired c.args.host.now) (g.H.Host.passed c.args.host.now)) (counts_of (g.H.Host.retired c.bring.new.host) (g.H.Host.passed c.bring.new.host))
     (counts_of (g.H.Host.retired c.make_room.new.host) (g.H.Host.passed c.make_room.new.host)) s.old (g.O.Sink.taken c.args.out.now) c.args.slice.now.kernel c.args.tenants.now c.bring.new.self c.make_room.new.self
     (g.H.Host.bytes c.args.host.now) (g.H.Host.bytes c.bring.new.host) (g.H.Host.bytes c.make_room.new.host) c.bring.ensures.brought c.bring.ensures.rest lt (counts_same _ _ _ _ c.bring.ensures.retired c.bring.ensures.passed) s.between
     c.make_room.ensures.made c.make_room.ensures.theirs c.make_room.ensures.size c.make_room.ensures.apart c.make_room.ensures.stay c.make_room.ensures.rest (counts_same _ _ _ _ c.make_room.ensures.retired c.make_room.ensures.passed) d in
@@ -118,7 +134,7 @@ go_on-requires-clause-takes g c =
     record {
       fresh = live;
       goes_on =
-          goes_on_at c.args.kernels.now.items c.args.tenants.now.frames s.whole s.done c.make_room.new.self.list.items c.make_room.new.self.pool (g.H.Host.bytes c.make_room.new.host) s.before (counts_of (g.H.Host.retired c.make_room.new.host) (g.H.Host.passed c.make_room.new.host)) s.old (g.O.Sink.taken c.args.out.now) c.args.slice.now b s.next
+          goes_on_at c.args.kernels.now.items c.args.tenants.now.frames s.whole s.done s.pieces c.make_room.new.self.list.items c.make_room.new.self.pool (g.H.Host.bytes c.make_room.new.host) s.before (counts_of (g.H.Host.retired c.make_room.new.host) (g.H.Host.passed c.make_room.new.host)) s.old (g.O.Sink.taken c.args.out.now) c.args.slice.now b s.next
           c.index-2.result.now d c.index-2.ensures c.index_mut-tenant.ensures.value live;
       enough = omega (arith, e, same, value);
     }
@@ -134,19 +150,19 @@ go_on-requires-clause-bound g c =
     let len = s.between.rooms.len in
     let low = (next_slice _ s.whole s.done c.args.slice.now s.next).known in
     let lt : c.args.slice.now.kernel < length c.args.tenants.now.list.items = omega (arith, len, low) in
-    let b = ready_at c.args.kernels.now.items s.whole s.done s.before (counts_of (g.H.Host.retired c.args.host.now) (g.H.Host.passed c.args.host.now)) (counts_of (g.H.Host.retired c.bring.new.host) (g.H.Host.passed c.bring.new.host))
+    let b = ready_at c.args.kernels.now.items s.whole s.done s.pieces s.before (counts_of (g.H.Host.retired c.args.host.now) (g.H.Host.passed c.args.host.now)) (counts_of (g.H.Host.retired c.bring.new.host) (g.H.Host.passed c.bring.new.host))
     (counts_of (g.H.Host.retired c.make_room.new.host) (g.H.Host.passed c.make_room.new.host)) s.old (g.O.Sink.taken c.args.out.now) c.args.slice.now.kernel c.args.tenants.now c.bring.new.self c.make_room.new.self
     (g.H.Host.bytes c.args.host.now) (g.H.Host.bytes c.bring.new.host) (g.H.Host.bytes c.make_room.new.host) c.bring.ensures.brought c.bring.ensures.rest lt (counts_same _ _ _ _ c.bring.ensures.retired c.bring.ensures.passed) s.between
     c.make_room.ensures.made c.make_room.ensures.theirs c.make_room.ensures.size c.make_room.ensures.apart c.make_room.ensures.stay c.make_room.ensures.rest (counts_same _ _ _ _ c.make_room.ensures.retired c.make_room.ensures.passed) in
     let live0 = live_of c.index.result.now.stop c.is_some.result c.is_some.ensures c.if-is_some.false in
     let d = c.index_mut-tenant.result.now in
-    let kept = stop_same c.args.kernels.now.items s.whole s.done s.before (counts_of (g.H.Host.retired c.args.host.now) (g.H.Host.passed c.args.host.now)) (counts_of (g.H.Host.retired c.bring.new.host) (g.H.Host.passed c.bring.new.host))
+    let kept = stop_same c.args.kernels.now.items s.whole s.done s.pieces s.before (counts_of (g.H.Host.retired c.args.host.now) (g.H.Host.passed c.args.host.now)) (counts_of (g.H.Host.retired c.bring.new.host) (g.H.Host.passed c.bring.new.host))
     (counts_of (g.H.Host.retired c.make_room.new.host) (g.H.Host.passed c.make_room.new.host)) s.old (g.O.Sink.taken c.args.out.now) c.args.slice.now.kernel c.args.tenants.now c.bring.new.self c.make_room.new.self
     (g.H.Host.bytes c.args.host.now) (g.H.Host.bytes c.bring.new.host) (g.H.Host.bytes c.make_room.new.host) c.bring.ensures.brought c.bring.ensures.rest lt (counts_same _ _ _ _ c.bring.ensures.retired c.bring.ensures.passed) s.between
     c.make_room.ensures.made c.make_room.ensures.theirs c.make_room.ensures.size c.make_room.ensures.apart c.make_room.ensures.stay c.make_room.ensures.rest (counts_same _ _ _ _ c.make_room.ensures.retired c.make_room.ensures.passed) d in
     let at0 = get_or_any c.args.tenants.now.list.items c.args.slice.now.kernel c.index.result.now d lt in
     let live : d.stop ≡ None = ap (λ (t : Tenant). t.stop) c.index_mut-tenant.ensures.value ∙ kept ∙ ap (λ (t : Tenant). t.stop) (sym at0) ∙ ap (λ (t : Tenant). t.stop) (sym c.index.ensures) ∙ live0 in
-    bound_at c.args.kernels.now.items c.args.tenants.now.frames s.whole s.done c.make_room.new.self.list.items c.make_room.new.self.pool (g.H.Host.bytes c.make_room.new.host) s.before (counts_of (g.H.Host.retired c.make_room.new.host) (g.H.Host.passed c.make_room.new.host)) s.old (g.O.Sink.taken c.args.out.now) c.args.slice.now b s.next
+    bound_at c.args.kernels.now.items c.args.tenants.now.frames s.whole s.done s.pieces c.make_room.new.self.list.items c.make_room.new.self.pool (g.H.Host.bytes c.make_room.new.host) s.before (counts_of (g.H.Host.retired c.make_room.new.host) (g.H.Host.passed c.make_room.new.host)) s.old (g.O.Sink.taken c.args.out.now) c.args.slice.now b s.next
     c.index-2.result.now d c.index-2.ensures c.index_mut-tenant.ensures.value live
 
 pub go_on-requires-clause-room : goal.go_on-requires-clause-room
@@ -155,7 +171,7 @@ go_on-requires-clause-room g c =
     let len = s.between.rooms.len in
     let low = (next_slice _ s.whole s.done c.args.slice.now s.next).known in
     let lt : c.args.slice.now.kernel < length c.args.tenants.now.list.items = omega (arith, len, low) in
-    let b = ready_at c.args.kernels.now.items s.whole s.done s.before (counts_of (g.H.Host.retired c.args.host.now) (g.H.Host.passed c.args.host.now)) (counts_of (g.H.Host.retired c.bring.new.host) (g.H.Host.passed c.bring.new.host))
+    let b = ready_at c.args.kernels.now.items s.whole s.done s.pieces s.before (counts_of (g.H.Host.retired c.args.host.now) (g.H.Host.passed c.args.host.now)) (counts_of (g.H.Host.retired c.bring.new.host) (g.H.Host.passed c.bring.new.host))
     (counts_of (g.H.Host.retired c.make_room.new.host) (g.H.Host.passed c.make_room.new.host)) s.old (g.O.Sink.taken c.args.out.now) c.args.slice.now.kernel c.args.tenants.now c.bring.new.self c.make_room.new.self
     (g.H.Host.bytes c.args.host.now) (g.H.Host.bytes c.bring.new.host) (g.H.Host.bytes c.make_room.new.host) c.bring.ensures.brought c.bring.ensures.rest lt (counts_same _ _ _ _ c.bring.ensures.retired c.bring.ensures.passed) s.between
     c.make_room.ensures.made c.make_room.ensures.theirs c.make_room.ensures.size c.make_room.ensures.apart c.make_room.ensures.stay c.make_room.ensures.rest (counts_same _ _ _ _ c.make_room.ensures.retired c.make_room.ensures.passed) in
@@ -172,21 +188,36 @@ returns-clause-turned g c =
     let lt : c.args.slice.now.kernel < length c.args.tenants.now.list.items = omega (arith, len, low) in
     let live0 = live_of c.index.result.now.stop c.is_some.result c.is_some.ensures c.if-is_some.false in
     let d = c.index_mut-tenant.result.now in
-    let kept = stop_same c.args.kernels.now.items s.whole s.done s.before (counts_of (g.H.Host.retired c.args.host.now) (g.H.Host.passed c.args.host.now)) (counts_of (g.H.Host.retired c.bring.new.host) (g.H.Host.passed c.bring.new.host))
+    let kept = stop_same c.args.kernels.now.items s.whole s.done s.pieces s.before (counts_of (g.H.Host.retired c.args.host.now) (g.H.Host.passed c.args.host.now)) (counts_of (g.H.Host.retired c.bring.new.host) (g.H.Host.passed c.bring.new.host))
     (counts_of (g.H.Host.retired c.make_room.new.host) (g.H.Host.passed c.make_room.new.host)) s.old (g.O.Sink.taken c.args.out.now) c.args.slice.now.kernel c.args.tenants.now c.bring.new.self c.make_room.new.self
     (g.H.Host.bytes c.args.host.now) (g.H.Host.bytes c.bring.new.host) (g.H.Host.bytes c.make_room.new.host) c.bring.ensures.brought c.bring.ensures.rest lt (counts_same _ _ _ _ c.bring.ensures.retired c.bring.ensures.passed) s.between
     c.make_room.ensures.made c.make_room.ensures.theirs c.make_room.ensures.size c.make_room.ensures.apart c.make_room.ensures.stay c.make_room.ensures.rest (counts_same _ _ _ _ c.make_room.ensures.retired c.make_room.ensures.passed) d in
     let at0 = get_or_any c.args.tenants.now.list.items c.args.slice.now.kernel c.index.result.now d lt in
     let live : d.stop ≡ None = ap (λ (t : Tenant). t.stop) c.index_mut-tenant.ensures.value ∙ kept ∙ ap (λ (t : Tenant). t.stop) (sym at0) ∙ ap (λ (t : Tenant). t.stop) (sym c.index.ensures) ∙ live0 in
-    on_ok_both c.go_on.result c.go_on.ensures.turned c.go_on.ensures.gone (λ turned gone whole done before was next b0.
-    let b = ready_at c.args.kernels.now.items whole done before (counts_of (g.H.Host.retired c.args.host.now) (g.H.Host.passed c.args.host.now)) (counts_of (g.H.Host.retired c.bring.new.host) (g.H.Host.passed c.bring.new.host))
+    on_ok_both c.go_on.result c.go_on.ensures.turned c.go_on.ensures.gone (λ turned gone whole done pieces before was next b0.
+    let b = ready_at c.args.kernels.now.items whole done pieces before (counts_of (g.H.Host.retired c.args.host.now) (g.H.Host.passed c.args.host.now)) (counts_of (g.H.Host.retired c.bring.new.host) (g.H.Host.passed c.bring.new.host))
     (counts_of (g.H.Host.retired c.make_room.new.host) (g.H.Host.passed c.make_room.new.host)) was (g.O.Sink.taken c.args.out.now) c.args.slice.now.kernel c.args.tenants.now c.bring.new.self c.make_room.new.self
     (g.H.Host.bytes c.args.host.now) (g.H.Host.bytes c.bring.new.host) (g.H.Host.bytes c.make_room.new.host) c.bring.ensures.brought c.bring.ensures.rest lt (counts_same _ _ _ _ c.bring.ensures.retired c.bring.ensures.passed) b0
     c.make_room.ensures.made c.make_room.ensures.theirs c.make_room.ensures.size c.make_room.ensures.apart c.make_room.ensures.stay c.make_room.ensures.rest (counts_same _ _ _ _ c.make_room.ensures.retired c.make_room.ensures.passed) in
-    subst (λ n. IsBetween c.args.kernels.now.items c.args.tenants.now.frames whole (done ++ c.args.slice.now ∷ []) (set c.make_room.new.self.list.items c.args.slice.now.kernel c.go_on.new.tenant) c.go_on.new.pool n (g.H.Host.bytes c.go_on.new.host) before
-    (counts_of (g.H.Host.retired c.go_on.new.host) (g.H.Host.passed c.go_on.new.host)) was (g.O.Sink.taken c.go_on.new.out)) (sym (c.make_room.ensures.rest.1 ∙ c.bring.ensures.rest.2))
-    (went_at c.args.kernels.now.items c.args.tenants.now.frames whole done c.make_room.new.self.list.items c.make_room.new.self.pool (g.H.Host.bytes c.make_room.new.host) before (counts_of (g.H.Host.retired c.make_room.new.host) (g.H.Host.passed c.make_room.new.host)) was (g.O.Sink.taken c.args.out.now) c.args.slice.now b next
-    c.index-2.result.now d c.index-2.ensures c.index_mut-tenant.ensures.value live c.go_on.new.tenant c.go_on.new.pool (g.H.Host.bytes c.go_on.new.host) (counts_of (g.H.Host.retired c.go_on.new.host) (g.H.Host.passed c.go_on.new.host)) (g.O.Sink.taken c.go_on.new.out) turned gone))
+    let x = went_at c.args.kernels.now.items c.args.tenants.now.frames whole done pieces c.make_room.new.self.list.items c.make_room.new.self.pool (g.H.Host.bytes c.make_room.new.host) before (counts_of (g.H.Host.retired c.make_room.new.host) (g.H.Host.passed c.make_room.new.host)) was (g.O.Sink.taken c.args.out.now) c.args.slice.now b next
+    c.index-2.result.now d c.index-2.ensures c.index_mut-tenant.ensures.value live c.go_on.new.tenant c.go_on.new.pool (g.H.Host.bytes c.go_on.new.host) (counts_of (g.H.Host.retired c.go_on.new.host) (g.H.Host.passed c.go_on.new.host)) (g.O.Sink.taken c.go_on.new.out) turned gone in
+    let there : c.make_room.new.self.present ≡ c.args.slice.now.kernel = c.make_room.ensures.rest.1 ∙ c.bring.ensures.rest.2 in
+    subst (λ n. (p : Piece) × GoesRound c.args.kernels.now.items c.args.tenants.now.frames c.args.slice.now p (stage c.args.tenants.now (g.H.Host.bytes c.args.host.now))
+    (record { tenants = set c.make_room.new.self.list.items c.args.slice.now.kernel c.go_on.new.tenant; pool = c.go_on.new.pool; present = n; memory = g.H.Host.bytes c.go_on.new.host })
+    × IsBetween c.args.kernels.now.items c.args.tenants.now.frames whole (done ++ c.args.slice.now ∷ []) (pieces ++ p ∷ []) (set c.make_room.new.self.list.items c.args.slice.now.kernel c.go_on.new.tenant) c.go_on.new.pool n (g.H.Host.bytes c.go_on.new.host) before
+    (counts_of (g.H.Host.retired c.go_on.new.host) (g.H.Host.passed c.go_on.new.host)) was (g.O.Sink.taken c.go_on.new.out)) (sym there) (
+      x.0,
+      inr (record {
+        live = λ e. ap (λ (t : Tenant). t.stop) (get_or_any c.args.tenants.now.list.items c.args.slice.now.kernel e c.index.result.now lt ∙ sym c.index.ensures) ∙ live0;
+        brought = stage c.bring.new.self (g.H.Host.bytes c.bring.new.host);
+        ready = record { tenants = c.make_room.new.self.list.items; pool = c.make_room.new.self.pool; present = c.args.slice.now.kernel; memory = g.H.Host.bytes c.make_room.new.host };
+        bring = subst (λ n. HasBrought c.args.tenants.now.frames (g.H.Host.bytes c.args.host.now) (g.H.Host.bytes c.bring.new.host) c.args.tenants.now.present n c.args.tenants.now.list.items c.bring.new.self.list.items) (sym c.bring.ensures.rest.2) c.bring.ensures.brought;
+        rest = (c.bring.ensures.rest.0, c.bring.ensures.rest.2);
+        room = subst (λ n. IsRoomMade (stage c.bring.new.self (g.H.Host.bytes c.bring.new.host)) (record { tenants = c.make_room.new.self.list.items; pool = c.make_room.new.self.pool; present = n; memory = g.H.Host.bytes c.make_room.new.host })) there c.make_room.ensures.released;
+        turn = x.1;
+      }),
+      x.2,
+    ))
 
 pub returns-clause-failed : goal.returns-clause-failed
 returns-clause-failed g c =
@@ -196,18 +227,18 @@ returns-clause-failed g c =
     let lt : c.args.slice.now.kernel < length c.args.tenants.now.list.items = omega (arith, len, low) in
     let live0 = live_of c.index.result.now.stop c.is_some.result c.is_some.ensures c.if-is_some.false in
     let d = c.index_mut-tenant.result.now in
-    let kept = stop_same c.args.kernels.now.items s.whole s.done s.before (counts_of (g.H.Host.retired c.args.host.now) (g.H.Host.passed c.args.host.now)) (counts_of (g.H.Host.retired c.bring.new.host) (g.H.Host.passed c.bring.new.host))
+    let kept = stop_same c.args.kernels.now.items s.whole s.done s.pieces s.before (counts_of (g.H.Host.retired c.args.host.now) (g.H.Host.passed c.args.host.now)) (counts_of (g.H.Host.retired c.bring.new.host) (g.H.Host.passed c.bring.new.host))
     (counts_of (g.H.Host.retired c.make_room.new.host) (g.H.Host.passed c.make_room.new.host)) s.old (g.O.Sink.taken c.args.out.now) c.args.slice.now.kernel c.args.tenants.now c.bring.new.self c.make_room.new.self
     (g.H.Host.bytes c.args.host.now) (g.H.Host.bytes c.bring.new.host) (g.H.Host.bytes c.make_room.new.host) c.bring.ensures.brought c.bring.ensures.rest lt (counts_same _ _ _ _ c.bring.ensures.retired c.bring.ensures.passed) s.between
     c.make_room.ensures.made c.make_room.ensures.theirs c.make_room.ensures.size c.make_room.ensures.apart c.make_room.ensures.stay c.make_room.ensures.rest (counts_same _ _ _ _ c.make_room.ensures.retired c.make_room.ensures.passed) d in
     let at0 = get_or_any c.args.tenants.now.list.items c.args.slice.now.kernel c.index.result.now d lt in
     let live : d.stop ≡ None = ap (λ (t : Tenant). t.stop) c.index_mut-tenant.ensures.value ∙ kept ∙ ap (λ (t : Tenant). t.stop) (sym at0) ∙ ap (λ (t : Tenant). t.stop) (sym c.index.ensures) ∙ live0 in
-    on_err_then c.go_on.result c.go_on.ensures.failed (λ failed whole done before was next b0.
-    let b = ready_at c.args.kernels.now.items whole done before (counts_of (g.H.Host.retired c.args.host.now) (g.H.Host.passed c.args.host.now)) (counts_of (g.H.Host.retired c.bring.new.host) (g.H.Host.passed c.bring.new.host))
+    on_err_then c.go_on.result c.go_on.ensures.failed (λ failed whole done pieces before was next b0.
+    let b = ready_at c.args.kernels.now.items whole done pieces before (counts_of (g.H.Host.retired c.args.host.now) (g.H.Host.passed c.args.host.now)) (counts_of (g.H.Host.retired c.bring.new.host) (g.H.Host.passed c.bring.new.host))
     (counts_of (g.H.Host.retired c.make_room.new.host) (g.H.Host.passed c.make_room.new.host)) was (g.O.Sink.taken c.args.out.now) c.args.slice.now.kernel c.args.tenants.now c.bring.new.self c.make_room.new.self
     (g.H.Host.bytes c.args.host.now) (g.H.Host.bytes c.bring.new.host) (g.H.Host.bytes c.make_room.new.host) c.bring.ensures.brought c.bring.ensures.rest lt (counts_same _ _ _ _ c.bring.ensures.retired c.bring.ensures.passed) b0
     c.make_room.ensures.made c.make_room.ensures.theirs c.make_room.ensures.size c.make_room.ensures.apart c.make_room.ensures.stay c.make_room.ensures.rest (counts_same _ _ _ _ c.make_room.ensures.retired c.make_room.ensures.passed) in
-    failed_at c.args.kernels.now.items c.args.tenants.now.frames whole done c.make_room.new.self.list.items c.make_room.new.self.pool (g.H.Host.bytes c.make_room.new.host) before (counts_of (g.H.Host.retired c.make_room.new.host) (g.H.Host.passed c.make_room.new.host)) was (g.O.Sink.taken c.args.out.now) c.args.slice.now b next
+    failed_at c.args.kernels.now.items c.args.tenants.now.frames whole done pieces c.make_room.new.self.list.items c.make_room.new.self.pool (g.H.Host.bytes c.make_room.new.host) before (counts_of (g.H.Host.retired c.make_room.new.host) (g.H.Host.passed c.make_room.new.host)) was (g.O.Sink.taken c.args.out.now) c.args.slice.now b next
     c.index-2.result.now d c.index-2.ensures c.index_mut-tenant.ensures.value live (g.O.Sink.taken c.go_on.new.out) failed)
 
 pub returns-clause-started : goal.returns-clause-started
