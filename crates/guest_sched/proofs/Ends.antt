@@ -17,7 +17,7 @@ use Rattle.guest_sched.specs.Apart.{AreSeated, IsSeated, Seat}
 use Rattle.guest_sched.specs.Between.{EachStands, StandsSo, stops_of}
 use Rattle.guest_sched.specs.Pieces.{Piece, piece_text, shared_text, reports_of, own_text, bound_line, bound_texts}
 use Rattle.guest_sched.specs.Bounds.{bound_of}
-use Rattle.guest_sched.specs.Rounds.{HasGoneRound}
+use Rattle.guest_sched.specs.Rounds.{EndsRound, HasGoneRound}
 use Rattle.guest_sched.specs.Seating.{seat_of, seats_from}
 use Rattle.guest_sched.specs.Shared.{EachRan, RanAlone, alone}
 use Rattle.guest_sched.specs.OwnEnds.{EachHasOwnEnd, HasOwnEnd}
@@ -81,6 +81,10 @@ module _ (kernels : List Kernel) (frames : ℕ) (whole : List Slice) (pieces : L
     each_ran : (each : EachRan 0 frames whole pieces kernels (map ended_of tenants)) × EachHasOwnEnd 0 frames whole pieces kernels (map ended_of tenants) each host
     each_ran = all_ran 0 frames pool host present whole pieces kernels tenants h.rooms.len h.each h.apart.seated
 
+    rounded : HasGoneRound kernels frames whole pieces (record { tenants = tenants; pool = pool; present = present; memory = host })
+        → EndsRound kernels frames whole pieces host (map ended_of tenants)
+    rounded gone = record { last = record { tenants = tenants; pool = pool; present = present; memory = host }; gone = gone; memory_is = refl; ended_are = refl }
+
     pub ends_shared : HasGoneRound kernels frames whole pieces (record { tenants = tenants; pool = pool; present = present; memory = host })
         → SharedRun kernels whole frames before now host (shared_text pieces (map ended_of tenants)) (map ended_of tenants)
     ends_shared gone = record {
@@ -91,17 +95,19 @@ module _ (kernels : List Kernel) (frames : ℕ) (whole : List Slice) (pieces : L
       text_is = refl;
       lines = lines_alone frames whole pieces kernels (map ended_of tenants) each_ran.0;
       counts = h.counts;
-      rounds = record { last = record { tenants = tenants; pool = pool; present = present; memory = host }; gone = gone; memory_is = refl; ended_are = refl };
+      rounds = rounded gone;
     }
 
     pub ends_put : (last : Option (List ℕ)) → Appends new last (bound_texts 0 (map ended_of tenants)) → Appends old last (shared_text pieces (map ended_of tenants))
     ends_put last put = both old new last (flat_map piece_text pieces) (bound_texts 0 (map ended_of tenants)) h.text put
 
-    pub ends_fail : (last : Option (List ℕ)) → AppendsFront new last (bound_texts 0 (map ended_of tenants)) → FailsAtEnd kernels whole frames old last
-    ends_fail last put = record {
+    pub ends_fail : HasGoneRound kernels frames whole pieces (record { tenants = tenants; pool = pool; present = present; memory = host })
+        → (last : Option (List ℕ)) → AppendsFront new last (bound_texts 0 (map ended_of tenants)) → FailsAtEnd kernels whole frames old last
+    ends_fail gone last put = record {
       pieces = pieces;
       ended = map ended_of tenants;
       turns = h.turns;
       each = each_ran.0;
+      rounds = (host, rounded gone);
       front = then_front old new last (flat_map piece_text pieces) (bound_texts 0 (map ended_of tenants)) h.text put;
     }

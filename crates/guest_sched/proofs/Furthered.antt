@@ -283,16 +283,18 @@ module _ (kernels : List Kernel) (frames : ℕ) (whole done : List Slice) (piece
 
       pub skipped_between : (p : Piece) × IsBetween kernels frames whole (done ++ slice ∷ []) (pieces ++ p ∷ []) ts pool present host before now old new
       skipped_between =
-          let p = piece_of slice.kernel [] 0 None in
-          (p, record {
+          let p = piece_of slice.kernel [] 0 None in (
+            p,
+            record {
               rooms = b.rooms;
-            apart = b.apart;
-            turns = turns_on [] done pieces slice p b.turns (record { kernel_is = refl; steps = subst (λ x. MakesSteps x slice.steps [] None) (sym has_met) (refl, refl) });
-            each = skip_stands frames whole done pieces slice p refl 0 kernels (seats_from frames host present 0 kernels ts) (stops_of ts) stop refl refl stop_at b.each;
-            text = subst (λ (l : List ℕ). Appends old new l) (sym (flat_append piece_text pieces (p ∷ []) ∙ append-nil (flat_map piece_text pieces))) b.text;
-            counts = b.counts ∙ same_counts (counts_over (sites_in kernels) before pieces) _ _ (omega arith) refl ∙ sym (counts_on (sites_in kernels) before pieces p);
-            retired = (let was = b.retired in omega (arith, was, length-append done (slice ∷ [])));
-          })
+              apart = b.apart;
+              turns = turns_on [] done pieces slice p b.turns (record { kernel_is = refl; steps = subst (λ x. MakesSteps x slice.steps [] None) (sym has_met) (refl, refl) });
+              each = skip_stands frames whole done pieces slice p refl 0 kernels (seats_from frames host present 0 kernels ts) (stops_of ts) stop refl refl stop_at b.each;
+              text = subst (λ (l : List ℕ). Appends old new l) (sym (flat_append piece_text pieces (p ∷ []) ∙ append-nil (flat_map piece_text pieces))) b.text;
+              counts = b.counts ∙ same_counts (counts_over (sites_in kernels) before pieces) _ _ (omega arith) refl ∙ sym (counts_on (sites_in kernels) before pieces p);
+              retired = (let was = b.retired in omega (arith, was, length-append done (slice ∷ [])));
+            },
+          )
 
     -- the sink has failed in the turn
     module _ (here : present ≡ slice.kernel) (dk : Kernel) (d : Tenant) (live : (get_or ts present d).stop ≡ None) (new' : Option (List ℕ))

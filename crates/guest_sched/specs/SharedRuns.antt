@@ -46,4 +46,5 @@ pub record FailsAtEnd (kernels : List Kernel) (slices : List Slice) (frames : �
   pub ended : List Ended
   pub turns : AreTurns [] slices pieces
   pub each : EachRan 0 frames slices pieces kernels ended
+  pub rounds : (memory : List ℕ) × EndsRound kernels frames slices pieces memory ended
   pub front : AppendsFront old new (shared_text pieces ended)

@@ -134,6 +134,7 @@ proved image script frames n name program events o mid puts e kept meant st has 
       stops = p.tells.stops;
       proved = subst (λ (t : List ℕ). IsProved program events frames n t e.end p.notes) text p.proved;
       are_notes = p.tells.are;
+      behind = p.tells.behind;
       comes = refl;
     } in
     let gives = gives_proof o.before.files image script frames n name program events (proved_as name r p.notes) has says (Ran h.2 proves) in

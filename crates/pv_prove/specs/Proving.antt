@@ -13,6 +13,7 @@ use Rattle.machine_model.specs.Run.{Set, Run}
 use Rattle.machine_model.specs.Notes.{AreTold, AreNotes}
 use Rattle.trace_check.specs.Form.{most_choices, choices_bytes}
 use Rattle.trace_check.specs.ChoicesTold.{choices_of}
+use Rattle.trace_check.specs.Noted.{AreHeldBehind}
 use Rattle.trace_check.specs.Runs.{StopsTold}
 use Rattle.trace_check.specs.Proved.{IsProved}
 use Rattle.pv_prove.specs.CertificateLines.{certificate_line, no_certificate_line}
@@ -51,6 +52,7 @@ pub record ProvesRun (frames n : ℕ) (name : List ℕ) (image : Image) (events 
   pub stops : StopsTold (wedge image events frames) last notes end
   pub proved : IsProved image events frames n (run_text (record { setting = wedge image events frames; sets = sets; reports = reports; last = last; end = end })) end notes
   pub are_notes : AreNotes (wedge image events frames) (boot (wedge image events frames)) sets last.step notes
+  pub behind : AreHeldBehind last notes
   pub comes : w ≡ proved_as name (record { setting = wedge image events frames; sets = sets; reports = reports; last = last; end = end }) notes
 
 -- what is printed first where the run's output fails: the text of a run, of which the notes aren't known

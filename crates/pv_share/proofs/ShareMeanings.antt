@@ -94,6 +94,7 @@ write_fails schedule frames names o kernels slices mid middle shared same fit ta
       turns = h.turns;
       each = h.each;
       lines = lines_alone frames slices h.pieces kernels h.ended h.each;
+      rounds = h.rounds;
       comes = refl;
     } in
     inl (
@@ -115,6 +116,7 @@ share_means schedule frames names o st kernels slices mid middle memory (Ok ende
       turns = run.turns;
       each = run.each;
       lines = subst (λ (t : List ℕ). LinesAreAlone 0 t run.pieces ended.items) run.text_is run.lines;
+      rounds = (memory, run.rounds);
       comes = refl;
     } in
     says_told (share_task schedule frames names) o w st (ended_is_end (status_of_all ended.items) (all_ended ended.items)) refl (by_shared o.before.files schedule frames names kernels slices w shared (Ran h.2 turns)) same

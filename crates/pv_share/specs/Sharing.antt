@@ -11,6 +11,7 @@ use Rattle.guest_sched.specs.declared.schedule.Slice.{Slice}
 use Rattle.guest_sched.specs.declared.fault.ScheduleCause.{ScheduleCause}
 use Rattle.guest_sched.specs.Texts.{schedule_of}
 use Rattle.guest_sched.specs.Pieces.{Piece, AreTurns, piece_text, shared_text, counts_over}
+use Rattle.guest_sched.specs.Rounds.{EndsRound}
 use Rattle.guest_sched.specs.Shared.{sites_in, EachRan, EachBegan, LinesAreAlone, FirstTooSmall, AllFit}
 use Rattle.pv_build.specs.Lines.{too_small_line}
 use Rattle.pv_share.specs.ScheduleLines.{schedule_line}
@@ -34,13 +35,14 @@ status_of_all ended = if list_any has_stopped ended then status.Stopped else sta
 
 -- The turns are those of the schedule, in its order. Each kernel's turns make a run of it alone, up to the sum of their steps.
 -- Their text is printed, with the kernel's number before each line: the lines with a kernel's number, without it, are the text
--- of its run.
+-- of its run. Before each turn no more parked kernels were released than it needed.
 pub record SharesTurns (frames : ℕ) (kernels : List Kernel) (slices : List Slice) (w : Outcome) : Type 0 where
   pub pieces : List Piece
   pub ended : List Ended
   pub turns : AreTurns [] slices pieces
   pub each : EachRan 0 frames slices pieces kernels ended
   pub lines : LinesAreAlone 0 (shared_text pieces ended) pieces ended
+  pub rounds : (memory : List ℕ) × EndsRound kernels frames slices pieces memory ended
   pub comes : w ≡ told (status_of_all ended) (shared_text pieces ended) (Turns (λ before. counts_over (sites_in kernels) before pieces))
 
 -- over what the schedule says: the first kernel for which there aren't frames enough is told, or they run

@@ -130,7 +130,7 @@ noted_put image script frames n old new counts counts_after a b c pages fills fi
         counts = h.counts;
         memory_is = memory_by m n h.last new h.end pause memory has h.ends;
         notes = h.notes;
-        tells = record { are_kept = h.tells_notes refl [] untold; told = told; are = are; stops = stops };
+        tells = record { are_kept = h.tells_notes refl [] untold; told = told; are = are; stops = stops; behind = noted.held };
         proved = record {
           is_judged = ap (judged image script frames n (choices_of h.notes)) (text_is h.reports new.step end ∙ ap (λ (k : ℕ). text_of (trace_of h.reports) k end) same) ∙ judges image script frames n h.sets h.reports h.last end h.notes bound run told stops;
           form = λ few. forms m (boot m) h.sets h.last.step h.notes (omega (arith, short, bound)) few are;

@@ -1,5 +1,7 @@
 -- What a patched run answers of which the notes are kept.
-use Rattle.std.specs.Prelude.{◌≡◌, ℕ, ◌≤◌, List, Result, Ok, Err}
+use Rattle.std.specs.Prelude.{◌≡◌, ℕ, ◌≤◌, true, List, Result, Ok, Err, IsSome}
+use Rattle.std.specs.FinMap.{get}
+use Rattle.std.specs.List.{list_any}
 use Rattle.pv_io.specs.Sink.{Appends}
 use Rattle.board.specs.Scripts.{Events}
 use Rattle.image_check.specs.Image.{Image}
@@ -12,7 +14,7 @@ use Rattle.run_trace.specs.Text.{text_of}
 use Rattle.machine_model.specs.State.{State, boot, wedge}
 use Rattle.machine_model.specs.Step.{Report}
 use Rattle.machine_model.specs.Run.{Set, Run, trace_of}
-use Rattle.machine_model.specs.Notes.{AreTold, AreNotes}
+use Rattle.machine_model.specs.Notes.{AreTold, AreNotes, is_dropped}
 use Rattle.wedge_core.specs.Surroundings.{Around, RefusedWedge}
 use Rattle.wedge_core.specs.Counts.{CountsOn}
 use Rattle.wedge_core.specs.Promises.{HasMemory, HasFills}
@@ -20,12 +22,17 @@ use Rattle.trace_check.specs.NotesKept.{KeptChoices, AreKept}
 use Rattle.trace_check.specs.Runs.{StopsTold}
 use Rattle.trace_check.specs.Proved.{IsProved}
 
+-- a page that is dropped behind the last step is one that the set which this step left holds
+abbrev pub AreHeldBehind : State → List Note → Type 0
+AreHeldBehind last notes = (page : ℕ) → list_any (is_dropped last.step page) notes ≡ true → IsSome (get last.set page)
+
 -- The notes tell the translations that each step of a run went by, the one that stops included, and are kept.
 pub record TellsSets (image : Image) (script : Events) (frames : ℕ) (sets : List Set) (last : State) (end : End) (kept : KeptChoices) (notes : List Note) : Type 0 where
   pub are_kept : AreKept kept notes
   pub told : AreTold (wedge image script frames) (boot (wedge image script frames)) sets notes
   pub are : AreNotes (wedge image script frames) (boot (wedge image script frames)) sets last.step notes
   pub stops : StopsTold (wedge image script frames) last notes end
+  pub behind : AreHeldBehind last notes
 
 -- One run from the start has this text, count of steps and end. The host completed exactly its direct instructions, and where
 -- it has done all its steps, its memory is the host's first frames with the text patched. Its notes are kept, and prove its

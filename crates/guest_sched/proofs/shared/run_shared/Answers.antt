@@ -28,8 +28,8 @@ loop-slice-init g c =
         [],
         record { first = stage s host; admitted = all.2; rounds = refl },
         subst (λ (now : Counts). IsBetween c.args.kernels.now.items c.args.frames c.args.schedule.now.list [] [] s.list.items s.pool s.present host before now old old)
-        (sym (counts_same (g.H.Host.retired c.admit_all.new.host) (g.H.Host.retired c.args.host.now) (g.H.Host.passed c.admit_all.new.host) (g.H.Host.passed c.args.host.now) c.in_ok-tenants.ensures.retired c.in_ok-tenants.ensures.passed))
-        (all.3 c.args.schedule.now.list before old),
+            (sym (counts_same (g.H.Host.retired c.admit_all.new.host) (g.H.Host.retired c.args.host.now) (g.H.Host.passed c.admit_all.new.host) (g.H.Host.passed c.args.host.now) c.in_ok-tenants.ensures.retired c.in_ok-tenants.ensures.passed))
+            (all.3 c.args.schedule.now.list before old),
       );
       frames = all.1;
       started = c.in_ok-tenants.ensures.started;
@@ -104,7 +104,7 @@ loop-slice-preserved g c =
               (subst (λ (n : ℕ). GoesRound c.args.kernels.now.items n (get_or c.deref-slice-items.result.now l.slice-index d) on.0 (stage l.tenants (g.H.Host.bytes l.host)) (stage c.turn.new.tenants (g.H.Host.bytes c.turn.new.host))) l.invariant.frames on.1));
         },
         subst (λ (n : ℕ). IsBetween c.args.kernels.now.items n whole (take (l.slice-index + 1) whole) (l.invariant.between.0 ++ on.0 ∷ []) c.turn.new.tenants.list.items c.turn.new.tenants.pool c.turn.new.tenants.present (g.H.Host.bytes c.turn.new.host) before then_ old (g.O.Sink.taken c.turn.new.out)) l.invariant.frames
-          (subst (λ (s : List Slice). IsBetween c.args.kernels.now.items l.tenants.frames whole s (l.invariant.between.0 ++ on.0 ∷ []) c.turn.new.tenants.list.items c.turn.new.tenants.pool c.turn.new.tenants.present (g.H.Host.bytes c.turn.new.host) before then_ old (g.O.Sink.taken c.turn.new.out)) done on.2),
+            (subst (λ (s : List Slice). IsBetween c.args.kernels.now.items l.tenants.frames whole s (l.invariant.between.0 ++ on.0 ∷ []) c.turn.new.tenants.list.items c.turn.new.tenants.pool c.turn.new.tenants.present (g.H.Host.bytes c.turn.new.host) before then_ old (g.O.Sink.taken c.turn.new.out)) done on.2),
       );
       frames = c.turn.ensures.frames ∙ l.invariant.frames;
       started = c.turn.ensures.started;
@@ -151,10 +151,11 @@ returns g c =
     let mid = g.O.Sink.taken l.out in
     let all : take l.slice-index whole ≡ whole = take_all l.slice-index whole (let a = c.loop-slice-test.false in let b = ap length same in omega (arith, a, b)) in
     let h = subst (λ (s : List Slice). IsBetween ks c.args.frames whole s l.invariant.between.0 ts l.tenants.pool l.tenants.present host before now old mid) all l.invariant.between.2 in
+    let gone = subst (λ (s : List Slice). HasGoneRound ks c.args.frames s l.invariant.between.0 (stage l.tenants host)) all l.invariant.between.1 in
     record {
       shared = (
         c.in_ok-tenants.ensures.admitted.0,
-        inr (ends_fail ks c.args.frames whole l.invariant.between.0 ts l.tenants.pool l.tenants.present host before now old mid h (g.O.Sink.taken c.finish.new.out) c.in-Err.ensures.failed),
+        inr (ends_fail ks c.args.frames whole l.invariant.between.0 ts l.tenants.pool l.tenants.present host before now old mid h gone (g.O.Sink.taken c.finish.new.out) c.in-Err.ensures.failed),
         rose_more (g.O.Sink.faults c.args.out.now) (g.O.Sink.faults l.out) (g.O.Sink.faults c.finish.new.out) l.invariant.kept c.in-Err.ensures.cause,
       );
     }

@@ -116,9 +116,14 @@ loop-kernel-preserved g c = elim c.if-kernel-self.branch [
             subst (λ (s : Tenants). FirstGiveWay (l.kernel + 1) (stage c.args.self.now (g.H.Host.bytes c.args.host.now)) (stage s (g.H.Host.bytes c.if-kernel-self.host))) (sym w.self-is)
             (subst (λ (b : List ℕ). FirstGiveWay (l.kernel + 1) (stage c.args.self.now (g.H.Host.bytes c.args.host.now)) (stage to b)) (sym (ap (λ (h : g.row.H.Denot). g.H.Host.bytes h) w.host-is))
             (gives_next l.kernel (stage c.args.self.now (g.H.Host.bytes c.args.host.now)) (stage l.self host) (stage to host') i.first
-            (record { present = r.rest.1; few = λ d. (let n0 = i.made.len in let there = c.requires.may.there in let same = i.present in let low = c.if-enough.false in
-            let all = frames_are l.self (g.H.Host.bytes l.host) d c.index.result.now c.free.result c.held.result (omega (arith, n0, there, same)) (c.free.ensures.count (g.H.Host.bytes l.host)) (c.held.ensures ∙ ap (λ (t : Tenant). t.guest.held) c.index.ensures) in
-            omega (arith, all, low)); here = λ e. absurd (w.if-kernel-self.true e); parked = λ ne. r.list })));
+            (record {
+              present = r.rest.1;
+              few = λ d. (let n0 = i.made.len in let there = c.requires.may.there in let same = i.present in let low = c.if-enough.false in
+                  let all = frames_are l.self (g.H.Host.bytes l.host) d c.index.result.now c.free.result c.held.result (omega (arith, n0, there, same)) (c.free.ensures.count (g.H.Host.bytes l.host)) (c.held.ensures ∙ ap (λ (t : Tenant). t.guest.held) c.index.ensures) in
+                  omega (arith, all, low));
+              here = λ e. absurd (w.if-kernel-self.true e);
+              parked = λ ne. r.list;
+            })));
         done = λ j d less ne.
             (let y = r.list d in
             subst (λ (s : Tenants). (get_or s.list.items j d).guest.held ≤ 2) (sym w.self-is)
@@ -147,9 +152,14 @@ loop-kernel-preserved g c = elim c.if-kernel-self.branch [
             subst (λ (s : Tenants). FirstGiveWay (l.kernel + 1) (stage c.args.self.now (g.H.Host.bytes c.args.host.now)) (stage s (g.H.Host.bytes c.if-kernel-self.host))) (sym w.self-is)
             (subst (λ (b : List ℕ). FirstGiveWay (l.kernel + 1) (stage c.args.self.now (g.H.Host.bytes c.args.host.now)) (stage l.self b)) (sym (ap (λ (h : g.row.H.Denot). g.H.Host.bytes h) w.host-is))
             (gives_next l.kernel (stage c.args.self.now (g.H.Host.bytes c.args.host.now)) (stage l.self (g.H.Host.bytes l.host)) (stage l.self (g.H.Host.bytes l.host)) i.first
-            (record { present = refl; few = λ d. (let n0 = i.made.len in let there = c.requires.may.there in let same = i.present in let low = c.if-enough.false in
-            let all = frames_are l.self (g.H.Host.bytes l.host) d c.index.result.now c.free.result c.held.result (omega (arith, n0, there, same)) (c.free.ensures.count (g.H.Host.bytes l.host)) (c.held.ensures ∙ ap (λ (t : Tenant). t.guest.held) c.index.ensures) in
-            omega (arith, all, low)); here = λ e. refl; parked = λ ne. absurd (ne w.if-kernel-self.false) })));
+            (record {
+              present = refl;
+              few = λ d. (let n0 = i.made.len in let there = c.requires.may.there in let same = i.present in let low = c.if-enough.false in
+                  let all = frames_are l.self (g.H.Host.bytes l.host) d c.index.result.now c.free.result c.held.result (omega (arith, n0, there, same)) (c.free.ensures.count (g.H.Host.bytes l.host)) (c.held.ensures ∙ ap (λ (t : Tenant). t.guest.held) c.index.ensures) in
+                  omega (arith, all, low));
+              here = λ e. refl;
+              parked = λ ne. absurd (ne w.if-kernel-self.false);
+            })));
         done = λ j d less ne.
             subst (λ (s : Tenants). (get_or s.list.items j d).guest.held ≤ 2) (sym w.self-is)
             (i.done j d (let is = w.if-kernel-self.false in let same = i.present in omega (arith, less, ne, is, same)) ne);
