@@ -322,4 +322,35 @@ refused 101 line 2
 $ store C
 $ 0 share C 2048 I B
 0 end steps 0
+$ : what a parked kernel has kept still leads it to the old frame of a page in its next turn
+$ store S
+_start:
+leal 0xc0000000(%ebx),%edi
+movl $0xaaaaaaaa,0x1000(%edi)
+movl $0xbbbbbbbb,0x2000(%edi)
+leal 0x1003(%ebx),%eax
+movl %eax,0x14(%edi)
+leal 3(%ebx),%eax
+movl %eax,0xc0001400
+movl 0x40005000,%eax
+outl %eax,$0x80
+addl $0x1000,0x14(%edi)
+movl 0x40005000,%eax
+outl %eax,$0x80
+hlt
+$ 0 burn S O
+object text 75 data 0 bss 0 sites 3
+$ 0 link K O
+image text 77 data 0 bss 0 sites 3
+$ store C
+0 10
+1 3
+0 30
+$ 0 share C 2048 K B I B
+0 8 out32 0080 aaaaaaaa
+1 2 out8 03f8 48
+1 2 tx 48
+0 14 out32 0080 aaaaaaaa
+0 end steps 40
+1 end steps 3
 ";
