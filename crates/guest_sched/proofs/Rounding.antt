@@ -1,5 +1,5 @@
 -- One round more.
-use Rattle.std.proofs.Common.{◌≡◌, ℕ, List, [], ◌∷◌, ◌++◌, refl, sym, subst}
+use Rattle.std.proofs.Common.{ℕ, List, [], ◌∷◌, ◌++◌, refl, subst}
 use Rattle.guest_sched.specs.Pieces.{Piece}
 use Rattle.guest_sched.specs.Rounds.{GoesRound, AreRounds}
 use Rattle.guest_sched.specs.Stages.{Stage}

@@ -1,5 +1,5 @@
 -- Which kernels gave way.
-use Rattle.std.proofs.Common.{◌≡◌, ◌≢◌, ℕ, suc, ◌+◌, ◌≤◌, ◌<◌, List, length, get_or, refl, ap, sym, subst, ◌∙◌, arith}
+use Rattle.std.proofs.Common.{◌≡◌, ℕ, suc, ◌+◌, ◌<◌, List, length, get_or, ap, subst, arith}
 use Rattle.frame_pool.specs.Pool.{free_list}
 use Rattle.guest_sched.specs.Releases.{frames_for, GivesWay, FirstGiveWay}
 use Rattle.guest_sched.specs.Stages.{Stage, stage}

@@ -1,8 +1,7 @@
 -- The turns of kernels that share a host, with what each does to all of them: who comes into the host's memory, which parked
 -- kernels are released, and how the one whose turn it is goes on.
-use Rattle.std.specs.Prelude.{◌≡◌, ◌⊎◌, ℕ, ◌+◌, List, [], ◌∷◌, map, slice_index_or, slice_set, Option, Some, None, Ok}
+use Rattle.std.specs.Prelude.{◌≡◌, ◌⊎◌, ℕ, ◌+◌, List, [], ◌∷◌, map, slice_index_or, slice_set, Some, None, Ok}
 use Rattle.ia32_types.specs.declared.stop.Stop.{Stop}
-use Rattle.frame_pool.specs.declared.Pool.{Pool}
 use Rattle.run_trace.specs.declared.items.Ended.{Ended}
 use Rattle.run_trace.specs.declared.pause.Pause.{Pause}
 use Rattle.shadow_cache.specs.Views as roots

@@ -1,9 +1,9 @@
-use Rattle.std.proofs.Common.{◌≡◌, ◌≢◌, ◌+◌, ◌*◌, ◌≤◌, ◌<◌, ℕ, List, length, get_or, refl, sym, ap, subst, ◌∙◌, arith}
+use Rattle.std.proofs.Common.{◌≡◌, ◌+◌, ◌*◌, ◌≤◌, ◌<◌, ℕ, List, length, get_or, refl, sym, ap, subst, ◌∙◌, arith}
 use Rattle.std.specs.List.{All}
 use Rattle.std.proofs.lemmas.List.{length-set}
 use Rattle.frame_pool.specs.Pool.{count_of}
 use Rattle.guest_sched.specs.Apart.{AreApart, EachStays}
-use Rattle.guest_sched.specs.Releases.{frames_for, FirstGiveWay}
+use Rattle.guest_sched.specs.Releases.{FirstGiveWay}
 use Rattle.guest_sched.specs.Seating.{seats_from, HasMadeRoom}
 use Rattle.guest_sched.specs.Stages.{stage}
 use Rattle.guest_sched.specs.declared.tenants.Tenant.{Tenant}
