@@ -1,5 +1,5 @@
 -- From a slice whose notes are kept, and the last line, to a run whose text is judged yes.
-use Rattle.std.proofs.Common.{◌≡◌, ℕ, zero, suc, ◌+◌, ◌*◌, ◌≤◌, ◌^◌, Bool, true, false, cond, List, [], ◌∷◌, ◌++◌, length, take, Option, Ok, refl, ap, subst, ◌∙◌, arith}
+use Rattle.std.proofs.Common.{◌≡◌, ℕ, zero, suc, ◌+◌, ◌*◌, ◌≤◌, ◌^◌, Bool, true, false, cond, List, [], ◌∷◌, ◌++◌, length, take, Option, Ok, refl, ap, sym, subst, ◌∙◌, arith}
 use Rattle.std.specs.Prelude.{◌==◌, nat_le}
 use Rattle.std.proofs.lemmas.Bool.{leb-true, leb-false, eqb-true, eqb-false}
 use Rattle.std.specs.List.{All, filter}
@@ -14,15 +14,16 @@ use Rattle.run_trace.specs.Notes.{Note}
 use Rattle.run_trace.specs.Pauses.{end_of, IfReached}
 use Rattle.run_trace.specs.Text.{lines_of, end_line, text_of}
 use Rattle.machine_model.specs.State.{Setting, State, boot, wedge}
-use Rattle.machine_model.specs.Run.{Set, Steps, Run, trace_of}
-use Rattle.machine_model.specs.Notes.{AreTold, AreNotes, step_in}
+use Rattle.machine_model.specs.Run.{Set, Steps, Run, trace_of, with_set}
+use Rattle.machine_model.specs.Notes.{AreTold, AreNotes, set_told, step_in}
 use Rattle.wedge_core.specs.Noted.{EndsTold, NotesOn}
 use Rattle.wedge_core.specs.Surroundings.{Around}
 use Rattle.wedge_core.specs.Counts.{Counts}
+use Rattle.wedge_core.specs.Guests.{HasGuest}
 use Rattle.wedge_core.specs.Promises.{with_patches}
 use Rattle.wedge_core.specs.Slices.{PausesAs}
 use Rattle.wedge_core.proofs.SlicedBy.{SliceAs}
-use Rattle.wedge_core.proofs.WholeRuns.{text_is, ends_by, count_by, memory_by, has_fills}
+use Rattle.wedge_core.proofs.WholeRuns.{Standing, text_is, ends_by, count_by, memory_by, has_fills}
 use Rattle.trace_check.specs.ChoicesTold.{choices_of}
 use Rattle.trace_check.specs.NotesKept.{KeptChoices, AreKept}
 use Rattle.trace_check.specs.Judged.{judged}
@@ -86,6 +87,12 @@ stops_told : (m : Setting) (last new : State) (notes : List Note) (pause : Pause
 stops_told m last new notes Reached h = tt
 stops_told m last new notes (Stopped stop) h = h
 
+-- a guest stands there that keeps what the notes leave
+left_by : (m : Setting) (n : ℕ) (last new : State) (end : Set) (notes : List Note) (pause : Pause) (filled : ℕ) (memory : List ℕ) → PausesAs m n last new end (Ok pause) → EndsTold m last new notes (Ok pause)
+    → IfReached (Ok pause) (Standing m new filled memory) → HasGuest m last (end_of pause) (set_told notes last.step last.set) filled memory
+left_by m n last new end notes Reached filled memory h e s = (s.0, s.1, s.2, s.3 ∙ h.1 ∙ ap (λ (set : Set). with_set last set) (sym (ap (λ (b : State). b.set) h.1) ∙ e), s.4)
+left_by m n last new end notes (Stopped stop) filled memory h e s = tt
+
 within : (m : Setting) (n : ℕ) (last new : State) (end : Set) (pause : Pause) → PausesAs m n last new end (Ok pause) → last.step ≤ n
 within m n last new end Reached h = let at = h.0 in omega (arith, at)
 within m n last new end (Stopped stop) h = let lt = h.0 in omega (arith, lt)
@@ -104,9 +111,10 @@ around_of old new before now counts counts_after =
 pub noted_put : (image : Image) (script : Events) (frames n : ℕ) (old new : State) (counts counts_after : Counts) (a b c : Option (List ℕ)) (pages fills filled : ℕ) (kept kept_after : KeptChoices) (begins : Type 0) (pause : Pause) (before mid now : ℕ) (memory : List ℕ)
     → NotesAreJudged → NotesAreChoices → n ≤ 2 ^ 40 → AreKept kept []
     → need image ≤ frames → old ≡ boot (wedge image script frames) → pages ≡ 0 → fills ≡ 0 → filled ≤ 128 * new.step → IfReached (Ok pause) (take (4096 * frames) memory ≡ with_patches image new.ram)
+    → IfReached (Ok pause) (Standing (wedge image script frames) new filled memory)
     → Sliced image script frames n old new counts counts_after a b pages fills filled kept kept_after begins pause → Appends b c (end_line new.step (end_of pause)) → mid ≡ before → now ≡ mid
     → NotedAnswers image script frames n kept_after (around_of a c before now counts counts_after) memory (Ok (record { steps = new.step; end = end_of pause; fills = filled }))
-noted_put image script frames n old new counts counts_after a b c pages fills filled kept kept_after begins pause before mid now memory judges forms bound untold fits is first none few has h put kept_so more =
+noted_put image script frames n old new counts counts_after a b c pages fills filled kept kept_after begins pause before mid now memory judges forms bound untold fits is first none few has stands h put kept_so more =
     let m = wedge image script frames in
     let end = end_of pause in
     let noted = h.told_notes refl in
@@ -131,6 +139,7 @@ noted_put image script frames n old new counts counts_after a b c pages fills fi
         memory_is = memory_by m n h.last new h.end pause memory has h.ends;
         notes = h.notes;
         tells = record { are_kept = h.tells_notes refl [] untold; told = told; are = are; stops = stops; behind = noted.held };
+        left = left_by m n h.last new h.end h.notes pause filled memory h.ends noted.ends stands;
         proved = record {
           is_judged = ap (judged image script frames n (choices_of h.notes)) (text_is h.reports new.step end ∙ ap (λ (k : ℕ). text_of (trace_of h.reports) k end) same) ∙ judges image script frames n h.sets h.reports h.last end h.notes bound run told stops;
           form = λ few. forms m (boot m) h.sets h.last.step h.notes (omega (arith, short, bound)) few are;

@@ -14,9 +14,10 @@ use Rattle.run_trace.specs.Text.{text_of}
 use Rattle.machine_model.specs.State.{State, boot, wedge}
 use Rattle.machine_model.specs.Step.{Report}
 use Rattle.machine_model.specs.Run.{Set, Run, trace_of}
-use Rattle.machine_model.specs.Notes.{AreTold, AreNotes, is_dropped}
+use Rattle.machine_model.specs.Notes.{AreTold, AreNotes, is_dropped, set_told}
 use Rattle.wedge_core.specs.Surroundings.{Around, RefusedWedge}
 use Rattle.wedge_core.specs.Counts.{CountsOn}
+use Rattle.wedge_core.specs.Guests.{HasGuest}
 use Rattle.wedge_core.specs.Promises.{HasMemory, HasFills}
 use Rattle.trace_check.specs.NotesKept.{KeptChoices, AreKept}
 use Rattle.trace_check.specs.Runs.{StopsTold}
@@ -35,8 +36,8 @@ pub record TellsSets (image : Image) (script : Events) (frames : ℕ) (sets : Li
   pub behind : AreHeldBehind last notes
 
 -- One run from the start has this text, count of steps and end. The host completed exactly its direct instructions, and where
--- it has done all its steps, its memory is the host's first frames with the text patched. Its notes are kept, and prove its
--- text.
+-- it has done all its steps, its memory is the host's first frames with the text patched, and a guest stands there that keeps what its
+-- notes leave of the last set. Its notes are kept, and prove its text.
 pub record NotedRun (image : Image) (script : Events) (frames n : ℕ) (text : List ℕ) (ended : Ended) (a : Around) (memory : List ℕ) (kept : KeptChoices) : Type 0 where
   pub sets : List Set
   pub reports : List Report
@@ -48,6 +49,7 @@ pub record NotedRun (image : Image) (script : Events) (frames n : ℕ) (text : L
   pub memory_is : HasMemory (wedge image script frames) last ended.end memory
   pub notes : List Note
   pub tells : TellsSets image script frames sets last ended.end kept notes
+  pub left : HasGuest (wedge image script frames) last ended.end (set_told notes last.step last.set) ended.fills memory
   pub proved : IsProved image script frames n text ended.end notes
 
 -- What stands after such a run, with the notes that are kept and the host's memory. Where no put failed the sink's

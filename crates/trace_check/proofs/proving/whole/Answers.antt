@@ -15,7 +15,7 @@ use Rattle.wedge_core.specs.Noted.{NotesOn}
 use Rattle.wedge_core.specs.Counts.{Counts}
 use Rattle.wedge_core.specs.Slices.{BeginsEmpty}
 use Rattle.wedge_core.proofs.SlicedBy.{SliceAs}
-use Rattle.wedge_core.proofs.WholeRuns.{whole_unput, whole_front}
+use Rattle.wedge_core.proofs.WholeRuns.{guest_held, whole_unput, whole_front}
 use Rattle.trace_check.specs.NotesKept.{KeptChoices, AreKept}
 use Rattle.trace_check.specs.Noted.{NotedAnswers}
 use Rattle.trace_check.proofs.NotedRuns.{around_of, noted_put}
@@ -87,7 +87,8 @@ returns-in-Ok-put_end g c =
     let put = subst (λ (k : ℕ). Appends (g.O.Sink.taken c.slice.new.out) (g.O.Sink.taken c.put_end.new.out) (end_line k (end_of pause))) c.step.ensures
     (subst (λ (x : End). Appends (g.O.Sink.taken c.slice.new.out) (g.O.Sink.taken c.put_end.new.out) (end_line c.step.result x)) c.end_of.ensures c.in-Ok-put_end.ensures.ok) in
     let done = noted_put image script r.frames c.args.n old new before after _ _ _ (pages_kept of_roots r.shadows memory) r.fills c.slice.new.self.fills c.args.notes.now c.slice.new.notes begins pause _ (g.O.Sink.faults c.slice.new.out) _ memory2
-    c.notes_are_judged.ensures.judged c.notes_are_judged.ensures.form c.requires.bound c.requires.untold c.requires.fits c.requires.first c.requires.none c.requires.unfilled c.in-Ok.ensures.leaves.few c.in-Ok.ensures.own.memory h put c.in-Ok.ensures.faults.kept c.in-Ok-put_end.ensures.kept in
+    c.notes_are_judged.ensures.judged c.notes_are_judged.ensures.form c.requires.bound c.requires.untold c.requires.fits c.requires.first c.requires.none c.requires.unfilled c.in-Ok.ensures.leaves.few c.in-Ok.ensures.own.memory
+    (guest_held pause image script r.frames c.slice.new.self c.slice.new.pool memory2 c.in-Ok.ensures.leaves.held) h put c.in-Ok.ensures.faults.kept c.in-Ok-put_end.ensures.kept in
     let here = around_of (g.O.Sink.taken c.args.out.now) (g.O.Sink.taken c.put_end.new.out) (g.O.Sink.faults c.args.out.now) (g.O.Sink.faults c.put_end.new.out) before after in
     record {
       whole = subst (λ (k : ℕ). NotedAnswers image script r.frames c.args.n c.slice.new.notes here memory2 (Ok (record { steps = k; end = c.end_of.result; fills = c.fills.result }))) (sym c.step.ensures)
