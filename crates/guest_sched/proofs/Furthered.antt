@@ -25,10 +25,11 @@ use Rattle.guest_sched.specs.Apart.{Seat, MayGoOn, IsSeated, AreApart, behind_as
 use Rattle.guest_sched.specs.Between.{EachStands, StandsSo, IsNext, stops_of}
 use Rattle.guest_sched.specs.Pieces.{Piece, MakesSteps, has_stopped, piece_text, counts_over, reports_of, own_text, stop_line}
 use Rattle.guest_sched.specs.Bounds.{bound_of}
-use Rattle.guest_sched.specs.Rounds.{MakesTurn}
+use Rattle.guest_sched.specs.Rounds.{HasGoneRound, MakesTurn}
 use Rattle.guest_sched.specs.Seating.{seats_from, HasGoneOn}
 use Rattle.guest_sched.specs.Shared.{alone, sites_in, IsBegun, BeganAlone, EachBegan}
 use Rattle.guest_sched.specs.SharedRuns.{FailsInTurn}
+use Rattle.guest_sched.specs.Stages.{Stage}
 use Rattle.guest_sched.specs.Tags.{tag_of}
 use Rattle.guest_sched.specs.Went.{EndsSo, HasFailed}
 use Rattle.guest_sched.specs.declared.kernel.Kernel.{Kernel}
@@ -298,7 +299,7 @@ module _ (kernels : List Kernel) (frames : ℕ) (whole done : List Slice) (piece
 
     -- the sink has failed in the turn
     module _ (here : present ≡ slice.kernel) (dk : Kernel) (d : Tenant) (live : (get_or ts present d).stop ≡ None) (new' : Option (List ℕ))
-        (h : HasFailed (get_or kernels present dk) slice.kernel slice.steps host (get_or ts present d) new new')
+        (h : HasFailed (get_or kernels present dk) slice.kernel slice.steps host (get_or ts present d) new new') (gone : (s : Stage) × HasGoneRound kernels frames done pieces s)
       where
         abbrev m_here : Setting
         m_here = alone (get_or kernels present dk) frames
@@ -339,4 +340,5 @@ module _ (kernels : List Kernel) (frames : ℕ) (whole done : List Slice) (piece
           between = new;
           text = b.text;
           front = h.front;
+          rounds = gone;
         }

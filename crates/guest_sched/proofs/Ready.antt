@@ -10,9 +10,10 @@ use Rattle.wedge_core.specs.Slices.{Counts}
 use Rattle.guest_sched.specs.Apart.{MayGoOn, AreApart, EachStays}
 use Rattle.guest_sched.specs.Between.{IsNext, stops_of}
 use Rattle.guest_sched.specs.Pieces.{Piece}
-use Rattle.guest_sched.specs.Rounds.{MakesTurn}
+use Rattle.guest_sched.specs.Rounds.{HasGoneRound, MakesTurn}
 use Rattle.guest_sched.specs.Seating.{seats_from, HasBrought, HasMadeRoom, GoesOn, HasGoneOn}
 use Rattle.guest_sched.specs.SharedRuns.{FailsInTurn}
+use Rattle.guest_sched.specs.Stages.{Stage}
 use Rattle.guest_sched.specs.Went.{HasFailed}
 use Rattle.guest_sched.specs.declared.kernel.Kernel.{Kernel}
 use Rattle.guest_sched.specs.declared.schedule.Slice.{Slice}
@@ -108,10 +109,10 @@ module _ (kernels : List Kernel) (frames : ℕ) (whole done : List Slice) (piece
         (subst (λ (x : Kernel). HasTurned x slice.kernel slice.steps host host' (get_or ts slice.kernel t) t' now now' new new') k_is (subst (λ (x : Tenant). HasTurned k slice.kernel slice.steps host host' x t' now now' new new') t_is turned))
         (subst (λ (x : Kernel). HasGoneOn x pool pool' host host' (get_or ts slice.kernel t) t') k_is (subst (λ (x : Tenant). HasGoneOn k pool pool' host host' x t') t_is gone))
 
-    pub failed_at : (new' : Option (List ℕ)) → HasFailed k slice.kernel slice.steps host t new new' → FailsInTurn kernels whole frames old new'
-    failed_at new' failed =
+    pub failed_at : (new' : Option (List ℕ)) → HasFailed k slice.kernel slice.steps host t new new' → ((s : Stage) × HasGoneRound kernels frames done pieces s) → FailsInTurn kernels whole frames old new'
+    failed_at new' failed gone =
         failed_between kernels frames whole done pieces ts pool slice.kernel host before now old new b slice next refl k t live_at new'
-        (subst (λ (x : Kernel). HasFailed x slice.kernel slice.steps host (get_or ts slice.kernel t) new new') k_is (subst (λ (x : Tenant). HasFailed k slice.kernel slice.steps host x new new') t_is failed))
+        (subst (λ (x : Kernel). HasFailed x slice.kernel slice.steps host (get_or ts slice.kernel t) new new') k_is (subst (λ (x : Tenant). HasFailed k slice.kernel slice.steps host x new new') t_is failed)) gone
 
 pub room_at : (retired : ℕ) (passed : ℕ) (before : Counts) (count : ℕ) (whole done : List Slice) (slice : Slice) → IsNext count whole done slice → retired ≤ before.retired + length done * 2 ^ 40 → before.retired ≤ 2 ^ 63 → retired + slice.steps < 2 ^ 64
 room_at retired passed before count whole done slice next up few =

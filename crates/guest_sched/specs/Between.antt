@@ -16,7 +16,7 @@ use Rattle.guest_sched.specs.Apart.{Seat, AreApart}
 use Rattle.guest_sched.specs.Legs.{HasRun, HasStopped}
 use Rattle.guest_sched.specs.Pieces.{Piece, AreTurns, has_stopped, piece_text, reports_of, own_text, counts_over}
 use Rattle.guest_sched.specs.Bounds.{bound_of}
-use Rattle.guest_sched.specs.Rounds.{GoesRound}
+use Rattle.guest_sched.specs.Rounds.{GoesRound, HasGoneRound}
 use Rattle.guest_sched.specs.Schedules.{IsSchedule}
 use Rattle.guest_sched.specs.Seating.{seats_from}
 use Rattle.guest_sched.specs.Shared.{alone, sites_in, AllFit, FirstTooSmall}
@@ -100,7 +100,7 @@ abbrev pub TurnFails : List Kernel → ℕ → Slice → Stage → Outward → T
 TurnFails kernels frames slice old out =
     (whole done : List Slice) (pieces : List Piece) (before : Counts) (was : Option (List ℕ)) → IsNext (length kernels) whole done slice
     → IsBetween kernels frames whole done pieces old (record { before = before; after = out.before; told = was; tells = out.told })
-    → FailsInTurn kernels whole frames was out.tells
+    → HasGoneRound kernels frames done pieces old → FailsInTurn kernels whole frames was out.tells
 
 -- Kernels that were admitted stand before the first turn of any schedule, with nothing put; or one of them has no room.
 abbrev pub AdmitRefused : List Kernel → ℕ → SharedFault → Type 0

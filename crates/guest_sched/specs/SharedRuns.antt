@@ -9,7 +9,8 @@ use Rattle.guest_sched.specs.declared.schedule.Slice.{Slice}
 use Rattle.guest_sched.specs.Pieces.{Piece, AreTurns, piece_text, shared_text, counts_over}
 use Rattle.guest_sched.specs.Shared.{EachRan, sites_in, LinesAreAlone, EachBegan}
 use Rattle.guest_sched.specs.OwnEnds.{EachHasOwnEnd}
-use Rattle.guest_sched.specs.Rounds.{EndsRound}
+use Rattle.guest_sched.specs.Rounds.{EndsRound, HasGoneRound}
+use Rattle.guest_sched.specs.Stages.{Stage}
 
 -- The turns are those of the schedule, in its order. Each kernel's turns make a run of it alone, with its own set at the end,
 -- and the host's counts follow all of them. Before each turn no more parked kernels were released than it needed.
@@ -39,6 +40,7 @@ pub record FailsInTurn (kernels : List Kernel) (slices : List Slice) (frames : �
   pub between : Option (List ℕ)
   pub text : Appends old between (flat_map piece_text pieces)
   pub front : AppendsFront between new (piece_text last)
+  pub rounds : (stage : Stage) × HasGoneRound kernels frames done pieces stage
 
 -- The sink has failed in the last lines, behind all turns.
 pub record FailsAtEnd (kernels : List Kernel) (slices : List Slice) (frames : ℕ) (old new : Option (List ℕ)) : Type 0 where

@@ -81,6 +81,7 @@ write_fails schedule frames names o kernels slices mid middle shared same fit ta
         few = h.few;
         each = h.each;
         text_is = refl;
+        rounds = h.rounds;
       };
       same = same;
       front = front_on o.before.taken mid o.after.taken text taken (front_behind o.before.taken h.between mid (flat_map piece_text h.pieces) (piece_text h.last) h.text h.front);

@@ -11,7 +11,8 @@ use Rattle.guest_sched.specs.declared.schedule.Slice.{Slice}
 use Rattle.guest_sched.specs.declared.fault.ScheduleCause.{ScheduleCause}
 use Rattle.guest_sched.specs.Texts.{schedule_of}
 use Rattle.guest_sched.specs.Pieces.{Piece, AreTurns, piece_text, shared_text, counts_over}
-use Rattle.guest_sched.specs.Rounds.{EndsRound}
+use Rattle.guest_sched.specs.Rounds.{EndsRound, HasGoneRound}
+use Rattle.guest_sched.specs.Stages.{Stage}
 use Rattle.guest_sched.specs.Shared.{sites_in, EachRan, EachBegan, LinesAreAlone, FirstTooSmall, AllFit}
 use Rattle.pv_build.specs.Lines.{too_small_line}
 use Rattle.pv_share.specs.ScheduleLines.{schedule_line}
@@ -79,6 +80,7 @@ pub record SharesText (files : Option FileMap) (schedule : List ℕ) (frames : �
   pub few : length last.reports ≤ slice.steps
   pub each : EachBegan 0 frames (pieces ++ last ∷ []) kernels
   pub text_is : text ≡ flat_map piece_text pieces ++ piece_text last
+  pub rounds : (stage : Stage) × HasGoneRound kernels frames done pieces stage
 
 -- what `share` asks for; it begins with the first turns
 abbrev pub share_task : List ℕ → ℕ → List KernelNames → Task

@@ -66,7 +66,8 @@ returns-then-is_err g c =
     let next = is_next (length c.args.kernels.now.items) whole c.deref-slice-items.result.now l.slice-index d same c.loop-slice-test.true c.requires.schedule in
     let yes = sym c.is_err.ensures.value ∙ c.if-is_err.true in
     let between = subst (λ (n : ℕ). IsBetween c.args.kernels.now.items n whole (take l.slice-index whole) l.invariant.between.0 l.tenants.list.items l.tenants.pool l.tenants.present (g.H.Host.bytes l.host) before now old (g.O.Sink.taken l.out)) (sym l.invariant.frames) l.invariant.between.2 in
-    let fails = on_err c.turn.result yes c.turn.ensures.failed whole (take l.slice-index whole) l.invariant.between.0 before old next between in
+    let gone = subst (λ (n : ℕ). HasGoneRound c.args.kernels.now.items n (take l.slice-index whole) l.invariant.between.0 (stage l.tenants (g.H.Host.bytes l.host))) (sym l.invariant.frames) l.invariant.between.1 in
+    let fails = on_err c.turn.result yes c.turn.ensures.failed whole (take l.slice-index whole) l.invariant.between.0 before old next between gone in
     record {
       shared = (
         c.in_ok-tenants.ensures.admitted.0,

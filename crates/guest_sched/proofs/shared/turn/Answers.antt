@@ -233,13 +233,13 @@ returns-clause-failed g c =
     c.make_room.ensures.made c.make_room.ensures.theirs c.make_room.ensures.size c.make_room.ensures.apart c.make_room.ensures.stay c.make_room.ensures.rest (counts_same _ _ _ _ c.make_room.ensures.retired c.make_room.ensures.passed) d in
     let at0 = get_or_any c.args.tenants.now.list.items c.args.slice.now.kernel c.index.result.now d lt in
     let live : d.stop ≡ None = ap (λ (t : Tenant). t.stop) c.index_mut-tenant.ensures.value ∙ kept ∙ ap (λ (t : Tenant). t.stop) (sym at0) ∙ ap (λ (t : Tenant). t.stop) (sym c.index.ensures) ∙ live0 in
-    on_err_then c.go_on.result c.go_on.ensures.failed (λ failed whole done pieces before was next b0.
+    on_err_then c.go_on.result c.go_on.ensures.failed (λ failed whole done pieces before was next b0 gone.
     let b = ready_at c.args.kernels.now.items whole done pieces before (counts_of (g.H.Host.retired c.args.host.now) (g.H.Host.passed c.args.host.now)) (counts_of (g.H.Host.retired c.bring.new.host) (g.H.Host.passed c.bring.new.host))
     (counts_of (g.H.Host.retired c.make_room.new.host) (g.H.Host.passed c.make_room.new.host)) was (g.O.Sink.taken c.args.out.now) c.args.slice.now.kernel c.args.tenants.now c.bring.new.self c.make_room.new.self
     (g.H.Host.bytes c.args.host.now) (g.H.Host.bytes c.bring.new.host) (g.H.Host.bytes c.make_room.new.host) c.bring.ensures.brought c.bring.ensures.rest lt (counts_same _ _ _ _ c.bring.ensures.retired c.bring.ensures.passed) b0
     c.make_room.ensures.made c.make_room.ensures.theirs c.make_room.ensures.size c.make_room.ensures.apart c.make_room.ensures.stay c.make_room.ensures.rest (counts_same _ _ _ _ c.make_room.ensures.retired c.make_room.ensures.passed) in
     failed_at c.args.kernels.now.items c.args.tenants.now.frames whole done pieces c.make_room.new.self.list.items c.make_room.new.self.pool (g.H.Host.bytes c.make_room.new.host) before (counts_of (g.H.Host.retired c.make_room.new.host) (g.H.Host.passed c.make_room.new.host)) was (g.O.Sink.taken c.args.out.now) c.args.slice.now b next
-    c.index-2.result.now d c.index-2.ensures c.index_mut-tenant.ensures.value live (g.O.Sink.taken c.go_on.new.out) failed)
+    c.index-2.result.now d c.index-2.ensures c.index_mut-tenant.ensures.value live (g.O.Sink.taken c.go_on.new.out) failed (stage c.args.tenants.now (g.H.Host.bytes c.args.host.now), gone))
 
 pub returns-clause-started : goal.returns-clause-started
 returns-clause-started g c = c.go_on.ensures.started
