@@ -37,10 +37,8 @@ pub fn sys_in<'g, B: Translations>(
     ensures guard { state.new.guard ≡ state.old.guard }
     ensures hidden { hidden state.old.guard state.old.control.frames ram.new ≡ hidden state.old.guard state.old.control.frames ram.old }
 {
-    let mut mem = StepMem::over(ram, kept, state);
-    let effect = sys(insn, len, cpu, &mut mem);
-    *state = mem.state();
-    effect
+    let mut mem = StepMem { ram, kept, state };
+    sys(insn, len, cpu, &mut mem)
 }
 
 /// Delivers an event. After a refusal the processor is as before.
@@ -65,8 +63,6 @@ pub fn deliver_in<'g, B: Translations>(
     ensures guard { state.new.guard ≡ state.old.guard }
     ensures hidden { hidden state.old.guard state.old.control.frames ram.new ≡ hidden state.old.guard state.old.control.frames ram.old }
 {
-    let mut mem = StepMem::over(ram, kept, state);
-    let result = deliver(cpu, &mut mem, vector, kind, code);
-    *state = mem.state();
-    result
+    let mut mem = StepMem { ram, kept, state };
+    deliver(cpu, &mut mem, vector, kind, code)
 }
