@@ -9,12 +9,10 @@ mod ranges;
 mod store;
 mod users;
 mod view;
-mod work;
 
 pub use agreement::plain_agrees;
 pub use instruction::{plain, reach_both};
 pub use laws::{divides, has_user_form};
-pub use memory::StepMem;
+pub use memory::{Memory, StepMemory};
 pub use ranges::is_refused;
 pub use users::user_outcome;
-pub use work::{deliver_in, sys_in};

@@ -1,19 +1,16 @@
 //! Translating the ranges of an instruction.
 
-ghost use Rattle.std.specs.Prelude.{◌≡◌, ◌+◌, ◌≤◌, OnOk, Option};
+ghost use Rattle.std.specs.Prelude.{◌≡◌, ◌+◌, ◌≤◌, OnOk, Option, false};
 ghost use Rattle.paging.specs.Gives.{Gives};
-ghost use Rattle.step_mem.specs.Sound.{IsSoundOver, StaysIn, space};
 ghost use Rattle.ia32_exec.specs.Short.{IsShort};
 ghost use Rattle.step_exec.specs.Plain.{reached, is_null, is_denied, is_refused};
-ghost use Rattle.step_exec.specs.Ready.{IsLast, IsReady, IsReadMade};
+ghost use Rattle.step_exec.specs.Ready.{IsLast, IsReadMade};
 ghost use Rattle.ia32_exec.specs.declared.access.Range.{Range as Bytes};
 
 use descriptors::{Cpu, by_level};
-use guest_ram::Ram;
 use ia32_exec::{Range, Ranges};
 use ia32_types::Seg;
-use paging::Touch;
-use step_mem::{StepState, Translations};
+use paging::{GuestMem, Touch};
 use sys_exec::Refusal;
 
 fn is_null(cpu: &Cpu, seg: Seg) -> bool
@@ -41,30 +38,26 @@ pub fn is_refused(cpu: &Cpu, ranges: &Ranges) -> bool
 
 /// Translates a range, if there is one.
 #[tactic(auto, unfolding(descriptors::specs::Access::reaching))]
-pub fn reach<B: Translations>(
-    ram: &mut Ram,
-    kept: &B,
-    state: &mut StepState,
+pub fn reach<M: GuestMem>(
+    mem: &mut M,
     cpu: &Cpu,
     write: bool,
     range: Option<Range>,
 ) -> Result<(), Refusal>
-    requires sound { IsSoundOver B.Translations kept.now ram.old state.old }
-    requires room { state.old.pages ≤ 62 }
+    requires room { (M.space mem.old).pages ≤ 62 }
     requires short { IsShort range }
-    ensures sound { IsSoundOver B.Translations kept.now ram.new state.new }
-    ensures gives { Gives result (space B.Translations kept.now ram.new state.new)
-        (reached cpu.now write range (space B.Translations kept.now ram.old state.old)) }
-    ensures last { OnOk result (IsLast range write state.new) }
-    ensures before { (other : Option Bytes) → IsReady other state.old → OnOk result (IsReadMade other range state.new) }
-    ensures pages { state.new.pages ≤ state.old.pages + 2 }
-    ensures stays { StaysIn state.old state.new ram.old ram.new }
+    ensures gives { Gives result (M.space mem.new)
+        (reached cpu.now write range (M.space mem.old)) }
+    ensures last { OnOk result (IsLast range write (M.space mem.new)) }
+    ensures before { (other : Option Bytes) → IsLast other false (M.space mem.old) → OnOk result (IsReadMade other range (M.space mem.new)) }
+    ensures pages { (M.space mem.new).pages ≤ (M.space mem.old).pages + 2 }
+    ensures frame { M.frame mem.new ≡ M.frame mem.old }
 {
     match range {
         None => Ok(()),
         Some(range) => {
             let access = by_level(cpu, write);
-            match step_mem::touch(ram, kept, state, range.at, range.len, access) {
+            match mem.touch(range.at, range.len, access) {
                 Touch::Ready => Ok(()),
                 Touch::Fault { code, at } => Err(Refusal::Fault { code, at }),
                 Touch::Stop(stop) => Err(Refusal::Stop(stop)),

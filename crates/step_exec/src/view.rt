@@ -3,17 +3,14 @@
 ghost use Rattle.std.specs.Prelude.{◌≡◌};
 ghost use Rattle.step_exec.specs.Plain.{is_in};
 
-use guest_ram::Ram;
+use crate::memory::StepMemory;
 use ia32_exec::{LinearBytes, Range, Ranges};
 use ia32_types::Size;
-use step_mem::{StepState, Translations};
 
 /// Memory with two translated ranges: what is read alone, as it was translated, and what is written.
 #[derive(Drop)]
-pub struct View<'a, B: Translations> {
-    pub ram: &'a Ram,
-    pub kept: &'a B,
-    pub state: &'a StepState<'a>,
+pub struct View<'a, M: StepMemory> {
+    pub mem: &'a M,
     pub ranges: Ranges,
 }
 
@@ -26,22 +23,21 @@ fn is_in(range: Option<Range>, at: u32) -> bool
     }
 }
 
-impl<B: Translations> LinearBytes for View<'_, B> {
-    ghost use Rattle.step_mem.specs.Sound.{IsSoundOver, space};
+impl<M: StepMemory> LinearBytes for View<'_, M> {
     ghost use Rattle.step_exec.specs.Divided.{byte_of};
     ghost use Rattle.step_exec.specs.Ready.{IsOpen};
 
-    ghost byte = { λ m at. byte_of m.ranges (space B.Translations m.kept.now m.ram.now m.state.now) at };
+    ghost byte = { λ v at. byte_of v.ranges (M.space v.mem.now) at };
 
-    ghost readable = { λ m at. IsSoundOver B.Translations m.kept.now m.ram.now m.state.now × IsOpen m.ranges m.state.now at };
+    ghost readable = { λ v at. IsOpen v.ranges (M.space v.mem.now) at };
 
-    ghost read_in_space = { λ m at h. h.1.space };
+    ghost read_in_space = { λ v at h. h.space };
 
     #[tactic(auto, unfolding(paging::specs::Space::loaded))]
     fn byte(&self, at: u32) -> u32 {
         if is_in(self.ranges.read, at) && self.ranges.write.is_some() {
-            return step_mem::load_earlier(self.ram, self.kept, self.state, at, Size::Byte);
+            return self.mem.read_earlier(at, Size::Byte);
         }
-        step_mem::load(self.ram, self.kept, self.state, at, Size::Byte)
+        self.mem.read(at, Size::Byte)
     }
 }

@@ -1,18 +1,19 @@
-use Rattle.std.proofs.Common.{ℕ, ◌<◌, ◌^◌, List, arith}
+use Rattle.std.proofs.Common.{◌<◌, ◌^◌, ap, ◌∙◌, arith}
 use Rattle.ia32_exec.specs.Commit.{list_of}
-use Rattle.step_mem.specs.Shown.{hidden}
-use Rattle.step_mem.specs.Sound.{space}
-use Rattle.step_exec.specs.Ready.{IsOpenTo}
-use Rattle.step_exec.proofs.Stored.{stored_in, with_more}
+use Rattle.paging.specs.Space.{Space}
+use Rattle.step_exec.specs.Ready.{IsWritableAt}
+use Rattle.step_exec.proofs.Stored.{stored_in, stored_pages, with_more}
 use Rattle.step_exec.proofs.store.store_all.Goals as goal
 
 pub write_all-requires-clause-open_to : goal.write_all-requires-clause-open_to
 write_all-requires-clause-open_to g c =
-    let s = c.args.state.now in
-    with_more (IsOpenTo s.ready.start s.ready.len s.ready.write) (λ at. at < 2 ^ 32) (λ at h. omega (arith, h.below, c.requires.sound.fits)) c.args.stores.now c.requires.open_to
+    with_more (IsWritableAt (g.M.GuestMem.space c.args.mem.now)) (λ at. at < 2 ^ 32) (λ at h. let fits = h.fits in omega (arith, fits)) c.args.stores.now c.requires
 
 pub returns : goal.returns
 returns g c =
-    let s = c.args.state.now in
-    let h = stored_in (λ (m : List ℕ). hidden s.guard s.control.frames m) (λ (m : List ℕ). space g.B.Translations c.args.kept.now m s) c.args.ram.now (list_of c.args.stores.now) c.write_all.new.memory c.write_all.ensures.written in
-    record { sound = c.write_all.ensures.stands; hidden = h.0; stored = h.1 }
+    let h = stored_in g.M.GuestMem.frame g.M.GuestMem.space c.args.mem.now (list_of c.args.stores.now) c.write_all.new.memory c.write_all.ensures.written in
+    record {
+      frame = h.0;
+      pages = ap (λ (s : Space). s.pages) h.1 ∙ stored_pages (g.M.GuestMem.space c.args.mem.now) (list_of c.args.stores.now);
+      stored = h.1;
+    }

@@ -3,13 +3,13 @@ use Rattle.std.proofs.Common.{arith, rules}
 use Rattle.std.proofs.lemmas.Grind.{common_steps}
 use Rattle.step_exec.proofs.view.ViewLinearBytes.byte.Goals as goal
 
-pub load_earlier-requires-clause-ready : goal.load_earlier-requires-clause-ready
+pub read_earlier-requires : goal.read_earlier-requires
 unfolding loaded
-load_earlier-requires-clause-ready g c = search rules
+read_earlier-requires g c = search rules
 
-pub load-requires-clause-ready : goal.load-requires-clause-ready
+pub read-requires : goal.read-requires
 unfolding loaded
-load-requires-clause-ready g c = search rules
+read-requires g c = search rules
 
 pub returns-clause-value : goal.returns-clause-value
 unfolding loaded
