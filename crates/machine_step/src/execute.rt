@@ -2,68 +2,57 @@
 
 ghost use Rattle.std.specs.Prelude.{◌≡◌, ◌+◌, ◌≤◌, List, ℕ, true};
 ghost use Rattle.ia32_rows.specs.Spells.{Spells};
-ghost use Rattle.step_mem.specs.Sound.{IsSoundOver, StaysIn, space};
 ghost use Rattle.sys_exec.specs.Sys.{told, told_refusal};
 ghost use Rattle.sys_exec.specs.Asked.{IsAsked};
 ghost use Rattle.machine_model.specs.Instruction.{is_plain, instructed, done_plainly};
 ghost use Rattle.step_exec.specs.Plain.{executed};
 ghost use Rattle.paging.specs.Space.{Space};
 
+use crate::memory::StepMemory;
 use descriptors::Cpu;
-use guest_ram::Ram;
 use ia32_types::{Insn, Op, sensitive};
-use step_exec::{plain, sys_in};
-use step_mem::{StepState, Translations};
-use sys_exec::{Refusal, SysEffect};
+use sys_exec::{Refusal, SysEffect, sys};
 
 /// Does an instruction that some bytes spell, and answers with its effect. Where it raises or stops, only CR2 may have
 /// changed of the processor.
 #[tactic(auto, unfolding(machine_model::specs::Instruction::instructed))]
-pub fn execute<B: Translations>(
+pub fn execute<M: StepMemory>(
     insn: &Insn,
     len: u8,
     cpu: &mut Cpu,
-    ram: &mut Ram,
-    kept: &B,
-    state: &mut StepState,
+    mem: &mut M,
 ) -> SysEffect
     requires spelled { (bytes : List ℕ) × Spells bytes insn.now }
-    requires sound { IsSoundOver B.Translations kept.now ram.old state.old }
-    requires room { state.old.pages ≤ 32 }
-    ensures sound { IsSoundOver B.Translations kept.now ram.new state.new }
-    ensures told { told cpu.old (instructed insn.now len cpu.old (space B.Translations kept.now ram.old state.old))
-        ≡ (result, cpu.new, space B.Translations kept.now ram.new state.new) }
-    ensures pages { state.new.pages ≤ state.old.pages + 16 }
-    ensures stays { StaysIn state.old state.new ram.old ram.new }
+    requires room { (M.space mem.old).pages ≤ 32 }
+    ensures told { told cpu.old (instructed insn.now len cpu.old (M.space mem.old))
+        ≡ (result, cpu.new, M.space mem.new) }
+    ensures pages { (M.space mem.new).pages ≤ (M.space mem.old).pages + 16 }
+    ensures frame { M.frame mem.new ≡ M.frame mem.old }
     ensures asked { IsAsked result }
 {
     if is_plain(insn) {
-        return execute_plain(insn, len, cpu, ram, kept, state);
+        return execute_plain(insn, len, cpu, mem);
     }
-    sys_in(insn, len, cpu, ram, kept, state)
+    sys(insn, len, cpu, mem)
 }
 
 // An insensitive instruction.
-fn execute_plain<B: Translations>(
+fn execute_plain<M: StepMemory>(
     insn: &Insn,
     len: u8,
     cpu: &mut Cpu,
-    ram: &mut Ram,
-    kept: &B,
-    state: &mut StepState,
+    mem: &mut M,
 ) -> SysEffect
     requires spelled { (bytes : List ℕ) × Spells bytes insn.now }
     requires plain { is_plain insn.now.op ≡ true }
-    requires sound { IsSoundOver B.Translations kept.now ram.old state.old }
-    requires room { state.old.pages ≤ 32 }
-    ensures sound { IsSoundOver B.Translations kept.now ram.new state.new }
-    ensures told { told cpu.old (done_plainly (executed insn.now len cpu.old (space B.Translations kept.now ram.old state.old)))
-        ≡ (result, cpu.new, space B.Translations kept.now ram.new state.new) }
-    ensures pages { state.new.pages ≤ state.old.pages + 16 }
-    ensures stays { StaysIn state.old state.new ram.old ram.new }
+    requires room { (M.space mem.old).pages ≤ 32 }
+    ensures told { told cpu.old (done_plainly (executed insn.now len cpu.old (M.space mem.old)))
+        ≡ (result, cpu.new, M.space mem.new) }
+    ensures pages { (M.space mem.new).pages ≤ (M.space mem.old).pages + 16 }
+    ensures frame { M.frame mem.new ≡ M.frame mem.old }
     ensures asked { IsAsked result }
 {
-    match plain(insn, len, cpu, ram, kept, state) {
+    match mem.plain(insn, len, cpu) {
         Ok(()) => SysEffect::Next,
         Err(refusal) => refused(cpu, refusal),
     }

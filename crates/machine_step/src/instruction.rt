@@ -2,8 +2,6 @@
 
 ghost use Rattle.std.specs.Prelude.{◌≡◌, ◌==◌, ◌≤◌, List, ℕ, IfOk, OnOk, OnErr, Ok, Some};
 ghost use Rattle.paging.specs.Space.{Space};
-ghost use Rattle.step_mem.specs.Shown.{hidden};
-ghost use Rattle.step_mem.specs.Sound.{IsSoundOver, StaysIn, space};
 ghost use Rattle.ia32_rows.specs.Spells.{Spells};
 ghost use Rattle.sys_exec.specs.Asked.{IsAsked};
 ghost use Rattle.machine_model.specs.State.{Setting, State as Whole};
@@ -17,150 +15,131 @@ ghost use Rattle.machine_step.specs.Worked.{ComesTo, IsDropped, answer_of, compl
 
 use crate::delivery::{enter, raise};
 use crate::execute::execute;
+use crate::memory::StepMemory;
 use crate::ports::{read, write};
 use crate::rules::{Rules, ended};
 use crate::worked::{Dropped, Seen, Worked};
 use board::Board;
 use descriptors::Cpu;
-use guest_ram::Ram;
 use ia32_decode::Decoded;
 use ia32_types::{Insn, Op, Stop};
 use machine_model::works_use;
-use step_mem::{StepState, Translations};
 use sys_exec::SysEffect;
 
 /// Does the instruction that was fetched, by this processor. INT and INT3 are deliveries.
-pub fn carry_out<B: Translations>(
+pub fn carry_out<M: StepMemory>(
     rules: &Rules,
     insn: &Insn,
     len: u8,
     cpu: &Cpu,
     board: &mut Board,
-    ram: &mut Ram,
-    kept: &B,
-    state: &mut StepState,
+    mem: &mut M,
 ) -> Result<Worked, Stop>
     requires spelled { (bytes : List ℕ) × Spells bytes insn.now }
-    requires sound { IsSoundOver B.Translations kept.now ram.old state.old }
-    requires pages { state.old.pages ≤ 8 }
-    ensures sound { IsSoundOver B.Translations kept.now ram.new state.new }
-    ensures uses { OnOk result (UsesBy cpu.now (space B.Translations kept.now ram.old state.old)
-        (space B.Translations kept.now ram.new state.new)) }
+    requires pages { (M.space mem.old).pages ≤ 8 }
+    ensures uses { OnOk result (UsesBy cpu.now (M.space mem.old)
+        (M.space mem.new)) }
     ensures step { (m : Setting) (b : Whole) → IsRuled m rules.now → ComesTo
         (by_decoded m (record b { cpu = cpu.now; board = board.old }) (Decoded.Insn insn.now len)
-        (space B.Translations kept.now ram.old state.old))
-        b result board.new (space B.Translations kept.now ram.new state.new) }
+        (M.space mem.old))
+        b result board.new (M.space mem.new) }
     ensures stopped { OnErr result (board.new ≡ board.old) }
     ensures dropped { IfOk result (λ w. IsDropped w.dropped) }
     ensures roots { IfOk result (RootsAs cpu.now) }
-    ensures control { state.new.control ≡ state.old.control }
-    ensures guard { state.new.guard ≡ state.old.guard }
-    ensures hidden { hidden state.old.guard state.old.control.frames ram.new ≡ hidden state.old.guard state.old.control.frames ram.old }
+    ensures frame { M.frame mem.new ≡ M.frame mem.old }
 {
     let mut worked = Worked::at(cpu);
-    match carry_out_at(rules, insn, len, &mut worked, board, ram, kept, state) {
+    match carry_out_at(rules, insn, len, &mut worked, board, mem) {
         Ok(()) => Ok(worked),
         Err(stop) => Err(stop),
     }
 }
 
 /// The same, where the step is told in its place.
-pub fn carry_out_at<B: Translations>(
+pub fn carry_out_at<M: StepMemory>(
     rules: &Rules,
     insn: &Insn,
     len: u8,
     worked: &mut Worked,
     board: &mut Board,
-    ram: &mut Ram,
-    kept: &B,
-    state: &mut StepState,
+    mem: &mut M,
 ) -> Result<(), Stop>
     requires spelled { (bytes : List ℕ) × Spells bytes insn.now }
-    requires sound { IsSoundOver B.Translations kept.now ram.old state.old }
-    requires pages { state.old.pages ≤ 8 }
-    ensures sound { IsSoundOver B.Translations kept.now ram.new state.new }
-    ensures uses { OnOk result (UsesBy worked.old.cpu (space B.Translations kept.now ram.old state.old)
-        (space B.Translations kept.now ram.new state.new)) }
+    requires pages { (M.space mem.old).pages ≤ 8 }
+    ensures uses { OnOk result (UsesBy worked.old.cpu (M.space mem.old)
+        (M.space mem.new)) }
     ensures step { (m : Setting) (b : Whole) → IsRuled m rules.now → ComesTo
         (by_decoded m (record b { cpu = worked.old.cpu; board = board.old }) (Decoded.Insn insn.now len)
-        (space B.Translations kept.now ram.old state.old))
-        b (answer_of result worked.new) board.new (space B.Translations kept.now ram.new state.new) }
+        (M.space mem.old))
+        b (answer_of result worked.new) board.new (M.space mem.new) }
     ensures stopped { OnErr result (board.new ≡ board.old) }
     ensures dropped { IfOk (answer_of result worked.new) (λ w. IsDropped w.dropped) }
     ensures roots { IfOk (answer_of result worked.new) (RootsAs worked.old.cpu) }
-    ensures stays { StaysIn state.old state.new ram.old ram.new }
+    ensures frame { M.frame mem.new ≡ M.frame mem.old }
 {
     let before = worked.cpu;
     match insn.op {
         Op::Int => {
             let vector = (insn.imm % 256) as u8;
-            enter(rules, insn, len, &before, worked, ram, kept, state, vector)
+            enter(rules, insn, len, &before, worked, mem, vector)
         }
-        Op::Int3 => enter(rules, insn, len, &before, worked, ram, kept, state, 3),
-        _ => perform(rules, insn, len, &before, worked, board, ram, kept, state),
+        Op::Int3 => enter(rules, insn, len, &before, worked, mem, 3),
+        _ => perform(rules, insn, len, &before, worked, board, mem),
     }
 }
 
 /// Does an instruction by its row.
-fn perform<B: Translations>(
+fn perform<M: StepMemory>(
     rules: &Rules,
     insn: &Insn,
     len: u8,
     before: &Cpu,
     worked: &mut Worked,
     board: &mut Board,
-    ram: &mut Ram,
-    kept: &B,
-    state: &mut StepState,
+    mem: &mut M,
 ) -> Result<(), Stop>
     requires spelled { (bytes : List ℕ) × Spells bytes insn.now }
-    requires sound { IsSoundOver B.Translations kept.now ram.old state.old }
-    requires pages { state.old.pages ≤ 8 }
+    requires pages { (M.space mem.old).pages ≤ 8 }
     requires same { worked.old.cpu ≡ before.now }
-    ensures sound { IsSoundOver B.Translations kept.now ram.new state.new }
-    ensures uses { OnOk result (UsesBy before.now (space B.Translations kept.now ram.old state.old)
-        (space B.Translations kept.now ram.new state.new)) }
+    ensures uses { OnOk result (UsesBy before.now (M.space mem.old)
+        (M.space mem.new)) }
     ensures step { (m : Setting) (b : Whole) → IsRuled m rules.now → ComesTo
         (after_instruction m (record b { cpu = before.now; board = board.old }) (completed_of (done_by insn.now before.now))
-        (instructed insn.now len before.now (space B.Translations kept.now ram.old state.old)))
-        b (answer_of result worked.new) board.new (space B.Translations kept.now ram.new state.new) }
+        (instructed insn.now len before.now (M.space mem.old)))
+        b (answer_of result worked.new) board.new (M.space mem.new) }
     ensures stopped { OnErr result (board.new ≡ board.old) }
     ensures dropped { IfOk (answer_of result worked.new) (λ w. IsDropped w.dropped) }
     ensures roots { IfOk (answer_of result worked.new) (RootsAs before.now) }
-    ensures stays { StaysIn state.old state.new ram.old ram.new }
+    ensures frame { M.frame mem.new ≡ M.frame mem.old }
 {
     works_use();
-    let effect = execute(insn, len, &mut worked.cpu, ram, kept, state);
-    follow(rules, insn, before, effect, worked, board, ram, kept, state)
+    let effect = execute(insn, len, &mut worked.cpu, mem);
+    follow(rules, insn, before, effect, worked, board, mem)
 }
 
 /// What an instruction's effect comes to, which this processor began. The processor behind it stands in the step's place.
-fn follow<B: Translations>(
+fn follow<M: StepMemory>(
     rules: &Rules,
     insn: &Insn,
     before: &Cpu,
     effect: SysEffect,
     worked: &mut Worked,
     board: &mut Board,
-    ram: &mut Ram,
-    kept: &B,
-    state: &mut StepState,
+    mem: &mut M,
 ) -> Result<(), Stop>
-    requires sound { IsSoundOver B.Translations kept.now ram.old state.old }
-    requires pages { state.old.pages ≤ 48 }
+    requires pages { (M.space mem.old).pages ≤ 48 }
     requires asked { IsAsked effect }
     requires roots { EffectRoots (done_by insn.now before.now) before.now effect worked.old.cpu }
-    ensures sound { IsSoundOver B.Translations kept.now ram.new state.new }
-    ensures uses { (s : Space) → AtEffect (before.now.cpl == 3) s effect (space B.Translations kept.now ram.old state.old)
-        → OnOk result (UsesBy before.now s (space B.Translations kept.now ram.new state.new)) }
+    ensures uses { (s : Space) → AtEffect (before.now.cpl == 3) s effect (M.space mem.old)
+        → OnOk result (UsesBy before.now s (M.space mem.new)) }
     ensures step { (m : Setting) (b : Whole) → IsRuled m rules.now → ComesTo
         (after_effect m (record b { cpu = before.now; board = board.old }) (completed_of (done_by insn.now before.now)) effect
-        worked.old.cpu (space B.Translations kept.now ram.old state.old))
-        b (answer_of result worked.new) board.new (space B.Translations kept.now ram.new state.new) }
+        worked.old.cpu (M.space mem.old))
+        b (answer_of result worked.new) board.new (M.space mem.new) }
     ensures stopped { OnErr result (board.new ≡ board.old) }
     ensures dropped { IfOk (answer_of result worked.new) (λ w. IsDropped w.dropped) }
     ensures roots { IfOk (answer_of result worked.new) (RootsAs before.now) }
-    ensures stays { StaysIn state.old state.new ram.old ram.new }
+    ensures frame { M.frame mem.new ≡ M.frame mem.old }
 {
     match effect {
         SysEffect::Next => ended(rules, insn, before, worked),
@@ -172,7 +151,7 @@ fn follow<B: Translations>(
         SysEffect::PortOut { port, wide, value } => {
             write(insn, before, worked, board, port, wide, value)
         }
-        SysEffect::Raise { vector, code } => raise(rules, worked, ram, kept, state, vector, code),
+        SysEffect::Raise { vector, code } => raise(rules, worked, mem, vector, code),
         SysEffect::Stop(stop) => Err(stop),
     }
 }

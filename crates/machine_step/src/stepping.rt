@@ -18,6 +18,7 @@ ghost use Rattle.machine_step.specs.Worked.{ComesTo, IsDropped, answer_of};
 use crate::delivery::{deliver, refuse_at};
 use crate::fetch::fetch;
 use crate::instruction::carry_out_at;
+use crate::memory::Memory;
 use crate::rules::{Rules, stands_well};
 use crate::worked::{Dropped, Seen, Worked};
 use board::Board;
@@ -186,7 +187,7 @@ fn step_at<B: Translations>(
     worked.cpu.held = false;
     match taken {
         None => work(rules, worked, board, ram, kept, state),
-        Some(vector) => deliver(rules, worked, board, ram, kept, state, vector),
+        Some(vector) => deliver(rules, worked, board, &mut Memory { ram, kept, state }, vector),
     }
 }
 
@@ -238,9 +239,9 @@ fn work<B: Translations>(
     let user = worked.cpu.cpl == 3;
     match fetch(ram, kept, state, user, worked.cpu.regs.eip) {
         Ok(Decoded::Insn(insn, len)) => {
-            carry_out_at(rules, &insn, len, worked, board, ram, kept, state)
+            carry_out_at(rules, &insn, len, worked, board, &mut Memory { ram, kept, state })
         }
         Ok(_) => Err(Stop::Unsupported),
-        Err(refusal) => refuse_at(rules, worked, ram, kept, state, refusal),
+        Err(refusal) => refuse_at(rules, worked, &mut Memory { ram, kept, state }, refusal),
     }
 }

@@ -2,7 +2,6 @@ use Rattle.std.proofs.Common.{[], None, sym, subst}
 use Rattle.descriptors.specs.declared.cpu.Cpu.{Cpu}
 use Rattle.event_entry.specs.declared.refusal.NotDelivered.{NotDelivered}
 use Rattle.paging.specs.Work.{Outcome}
-use Rattle.step_mem.specs.Sound.{space}
 use Rattle.machine_model.specs.Step.{after_delivery}
 use Rattle.machine_step.specs.Worked.{ComesTo, answer_of}
 use Rattle.machine_step.proofs.Used.{if_ok, entered_uses}
@@ -12,19 +11,19 @@ use Rattle.machine_step.proofs.delivery.raise.Goals as goal
 
 pub returns-in-Ok-clause-step : goal.returns-in-Ok-clause-step
 returns-in-Ok-clause-step g c = λ m b k.
-    let s = space g.B.Translations c.args.kept.now c.deliver_in.new.ram c.deliver_in.new.state in
+    let s = g.M.GuestMem.space c.deliver.new.mem in
     subst (λ (o : Outcome NotDelivered Cpu). ComesTo (after_delivery m [] b b.board o) b (answer_of c.entered.result c.entered.new.worked) b.board s)
-    (sym (rw (c.in-Ok.is, c.code_of.ensures) at c.deliver_in.ensures.delivers)) (c.entered.ensures.step m b b.board s k)
+    (sym (rw (c.in-Ok.is, c.code_of.ensures) at c.deliver.ensures.gives)) (c.entered.ensures.step m b b.board s k)
 
 pub returns-in-Ok-clause-uses : goal.returns-in-Ok-clause-uses
 returns-in-Ok-clause-uses g c = λ user.
-    let s = space g.B.Translations c.args.kept.now c.args.ram.now c.args.state.now in
-    let t = space g.B.Translations c.args.kept.now c.deliver_in.new.ram c.deliver_in.new.state in
-    if_ok c.entered.result (entered_uses c.works_use.ensures.delivered user _ _ _ _ _ s t (rw c.in-Ok.is at c.deliver_in.ensures.delivers))
+    let s = g.M.GuestMem.space c.args.mem.now in
+    let t = g.M.GuestMem.space c.deliver.new.mem in
+    if_ok c.entered.result (entered_uses c.works_use.ensures.delivered user _ _ _ _ _ s t (rw c.in-Ok.is at c.deliver.ensures.gives))
 
 pub returns-in-Ok-clause-ends : goal.returns-in-Ok-clause-ends
 returns-in-Ok-clause-ends g c =
     let cpu = c.args.worked.now.cpu in
-    let after = c.deliver_in.new.cpu in
+    let after = c.deliver.new.cpu in
     if_ok_as (EndsWith None after) (EndsWith None cpu) (answer_of c.entered.result c.entered.new.worked)
-    (λ w k. ends_on None cpu after w (entered_keeps cpu after _ _ _ _ _ (rw c.in-Ok.is at c.deliver_in.ensures.delivers)) k) c.entered.ensures.ends
+    (λ w k. ends_on None cpu after w (entered_keeps cpu after _ _ _ _ _ (rw c.in-Ok.is at c.deliver.ensures.gives)) k) c.entered.ensures.ends

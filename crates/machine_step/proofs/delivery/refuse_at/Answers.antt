@@ -1,5 +1,4 @@
 use Rattle.std.proofs.Common.{None, refl}
-use Rattle.step_mem.specs.Sound.{space}
 use Rattle.machine_step.proofs.Used.{if_ok_on}
 use Rattle.std.specs.Prelude.{Bool, ◌==◌}
 use Rattle.machine_step.specs.Roots.{RootsAs, EndsWith}
@@ -22,15 +21,15 @@ returns-in-Fault-clause-uses g c = c.raise-in-Fault.ensures.uses (c.args.worked.
 pub returns-in-Raise-clause-goes_on : goal.returns-in-Raise-clause-goes_on
 returns-in-Raise-clause-goes_on g c = λ s h.
     let user : Bool = c.args.worked.now.cpu.cpl == 3 in
-    let t = space g.B.Translations c.args.kept.now c.args.ram.now c.args.state.now in
-    let u = space g.B.Translations c.args.kept.now c.raise.new.ram c.raise.new.state in
+    let t = g.M.GuestMem.space c.args.mem.now in
+    let u = g.M.GuestMem.space c.raise.new.mem in
     if_ok_on user s t u c.raise.result (rw c.in-Raise.is at h) (c.raise.ensures.uses user)
 
 pub returns-in-Fault-clause-goes_on : goal.returns-in-Fault-clause-goes_on
 returns-in-Fault-clause-goes_on g c = λ s h.
     let user : Bool = c.args.worked.now.cpu.cpl == 3 in
-    let t = space g.B.Translations c.args.kept.now c.args.ram.now c.args.state.now in
-    let u = space g.B.Translations c.args.kept.now c.raise-in-Fault.new.ram c.raise-in-Fault.new.state in
+    let t = g.M.GuestMem.space c.args.mem.now in
+    let u = g.M.GuestMem.space c.raise-in-Fault.new.mem in
     if_ok_on user s t u c.raise-in-Fault.result (rw c.in-Fault.is at h) (c.raise-in-Fault.ensures.uses user)
 
 pub returns-in-Raise-clause-roots : goal.returns-in-Raise-clause-roots

@@ -1,9 +1,8 @@
 use Rattle.ia32_rows.proofs.ShapeLaws.{shaped}
-use Rattle.step_mem.specs.Sound.{space}
 use Rattle.machine_step.proofs.execute.execute_plain.Goals as goal
 
 pub plain-requires-clause-shape : goal.plain-requires-clause-shape
 plain-requires-clause-shape g c = shaped c.requires.spelled.0 c.args.insn.now c.requires.spelled.1
 
 pub returns-in-Err-clause-told : goal.returns-in-Err-clause-told
-returns-in-Err-clause-told g c = rw c.in-Err.ensures.does (rw c.in-Err.ensures.refused at (c.refused.ensures.told (space g.B.Translations c.args.kept.now c.plain.new.ram c.plain.new.state)))
+returns-in-Err-clause-told g c = rw c.in-Err.ensures.does (rw c.in-Err.ensures.refused at (c.refused.ensures.told (g.M.GuestMem.space c.plain.new.self)))

@@ -1,6 +1,5 @@
 use Rattle.std.proofs.Common.{◌&&◌, refl, sym, ap, subst}
 use Rattle.ia32_types.specs.declared.insn.Op.{Op}
-use Rattle.step_mem.specs.Sound.{space}
 use Rattle.machine_model.specs.Step.{by_op}
 use Rattle.machine_step.specs.Worked.{ComesTo, answer_of}
 use Rattle.machine_step.proofs.Used.{on_err}
@@ -10,13 +9,13 @@ use Rattle.machine_step.proofs.instruction.carry_out_at.Goals as goal
 pub returns-in-Int-clause-step : goal.returns-in-Int-clause-step
 returns-in-Int-clause-step g c = λ m b k.
     let here = record b { cpu = c.args.worked.now.cpu; board = c.args.board.now } in
-    subst (λ (o : Op). ComesTo (by_op m o here c.args.insn.now c.args.len (space g.B.Translations c.args.kept.now c.args.ram.now c.args.state.now)) b (answer_of c.enter.result c.enter.new.worked) c.args.board.now (space g.B.Translations c.args.kept.now c.enter.new.ram c.enter.new.state))
+    subst (λ (o : Op). ComesTo (by_op m o here c.args.insn.now c.args.len (g.M.GuestMem.space c.args.mem.now)) b (answer_of c.enter.result c.enter.new.worked) c.args.board.now (g.M.GuestMem.space c.enter.new.mem))
     (sym c.in-Int.is) (c.enter.ensures.step m here k)
 
 pub returns-in-Int3-clause-step : goal.returns-in-Int3-clause-step
 returns-in-Int3-clause-step g c = λ m b k.
     let here = record b { cpu = c.args.worked.now.cpu; board = c.args.board.now } in
-    subst (λ (o : Op). ComesTo (by_op m o here c.args.insn.now c.args.len (space g.B.Translations c.args.kept.now c.args.ram.now c.args.state.now)) b (answer_of c.enter-in-Int3.result c.enter-in-Int3.new.worked) c.args.board.now (space g.B.Translations c.args.kept.now c.enter-in-Int3.new.ram c.enter-in-Int3.new.state))
+    subst (λ (o : Op). ComesTo (by_op m o here c.args.insn.now c.args.len (g.M.GuestMem.space c.args.mem.now)) b (answer_of c.enter-in-Int3.result c.enter-in-Int3.new.worked) c.args.board.now (g.M.GuestMem.space c.enter-in-Int3.new.mem))
     (sym c.in-Int3.is) (c.enter-in-Int3.ensures.step m here k)
 
 pub enter-requires-clause-no_load : goal.enter-requires-clause-no_load

@@ -1,4 +1,3 @@
-use Rattle.step_mem.specs.Sound.{space}
 use Rattle.machine_step.proofs.Used.{if_ok, on_err, if_ok_on}
 use Rattle.std.specs.Prelude.{Bool, ◌==◌}
 use Rattle.std.proofs.Common.{Some, None, refl}
@@ -9,18 +8,18 @@ use Rattle.machine_step.proofs.instruction.follow.Goals as goal
 
 pub returns-in-PortIn-clause-step : goal.returns-in-PortIn-clause-step
 returns-in-PortIn-clause-step g c = λ m b k.
-    rw c.in-PortIn.is (c.read.ensures.step (record b { cpu = c.args.before.now; board = c.args.board.now }) (space g.B.Translations c.args.kept.now c.args.ram.now c.args.state.now))
+    rw c.in-PortIn.is (c.read.ensures.step (record b { cpu = c.args.before.now; board = c.args.board.now }) (g.M.GuestMem.space c.args.mem.now))
 
 pub returns-in-PortOut-clause-step : goal.returns-in-PortOut-clause-step
 returns-in-PortOut-clause-step g c = λ m b k.
-    rw c.in-PortOut.is (c.write.ensures.step (record b { cpu = c.args.before.now; board = c.args.board.now }) (space g.B.Translations c.args.kept.now c.args.ram.now c.args.state.now))
+    rw c.in-PortOut.is (c.write.ensures.step (record b { cpu = c.args.before.now; board = c.args.board.now }) (g.M.GuestMem.space c.args.mem.now))
 
 pub returns-in-Raise-clause-step : goal.returns-in-Raise-clause-step
 returns-in-Raise-clause-step g c = λ m b k. rw c.in-Raise.is (c.raise.ensures.step m (record b { cpu = c.args.before.now; board = c.args.board.now }) k)
 
 pub returns-in-Next-clause-step : goal.returns-in-Next-clause-step
 returns-in-Next-clause-step g c = λ m b k.
-    rw c.in-Next.is (c.ended.ensures.step m (record b { board = c.args.board.now }) (space g.B.Translations c.args.kept.now c.args.ram.now c.args.state.now) k)
+    rw c.in-Next.is (c.ended.ensures.step m (record b { board = c.args.board.now }) (g.M.GuestMem.space c.args.mem.now) k)
 
 pub returns-in-Next-clause-uses : goal.returns-in-Next-clause-uses
 returns-in-Next-clause-uses g c = λ s h. if_ok c.ended.result (rw c.in-Next.is at h)
@@ -46,8 +45,8 @@ returns-in-PortOut-clause-uses g c = λ s h. if_ok c.write.result (rw c.in-PortO
 pub returns-in-Raise-clause-uses : goal.returns-in-Raise-clause-uses
 returns-in-Raise-clause-uses g c = λ s h.
     let user : Bool = c.args.before.now.cpl == 3 in
-    let t = space g.B.Translations c.args.kept.now c.args.ram.now c.args.state.now in
-    let u = space g.B.Translations c.args.kept.now c.raise.new.ram c.raise.new.state in
+    let t = g.M.GuestMem.space c.args.mem.now in
+    let u = g.M.GuestMem.space c.raise.new.mem in
     if_ok_on user s t u c.raise.result (rw c.in-Raise.is at h) (c.raise.ensures.uses user)
 
 pub returns-in-Next-clause-roots : goal.returns-in-Next-clause-roots

@@ -2,7 +2,6 @@ use Rattle.std.proofs.Common.{refl, sym, subst}
 use Rattle.descriptors.specs.declared.cpu.Cpu.{Cpu}
 use Rattle.paging.specs.Space.{Space}
 use Rattle.sys_exec.specs.declared.effect.SysEffect.{SysEffect}
-use Rattle.step_mem.specs.Sound.{space}
 use Rattle.machine_model.specs.Step.{effect_on}
 use Rattle.machine_step.specs.Worked.{ComesTo, answer_of, completed_of, done_by}
 use Rattle.machine_step.proofs.Used.{told_uses}
@@ -14,14 +13,14 @@ pub returns-clause-step : goal.returns-clause-step
 returns-clause-step g c = λ m b k.
     let here = record b { cpu = c.args.before.now; board = c.args.board.now } in
     let told = rw c.requires.same at c.execute-effect.ensures.told in
-    subst (λ (told : SysEffect × Cpu × Space). ComesTo (effect_on m here (completed_of (done_by c.args.insn.now c.args.before.now)) told) b (answer_of c.follow.result c.follow.new.worked) c.follow.new.board (space g.B.Translations c.args.kept.now c.follow.new.ram c.follow.new.state))
+    subst (λ (told : SysEffect × Cpu × Space). ComesTo (effect_on m here (completed_of (done_by c.args.insn.now c.args.before.now)) told) b (answer_of c.follow.result c.follow.new.worked) c.follow.new.board (g.M.GuestMem.space c.follow.new.mem))
     (sym told) (c.follow.ensures.step m here k)
 
 pub returns-clause-uses : goal.returns-clause-uses
 returns-clause-uses g c =
     let cpu = c.args.before.now in
-    let s = space g.B.Translations c.args.kept.now c.args.ram.now c.args.state.now in
-    let t = space g.B.Translations c.args.kept.now c.execute-effect.new.ram c.execute-effect.new.state in
+    let s = g.M.GuestMem.space c.args.mem.now in
+    let t = g.M.GuestMem.space c.execute-effect.new.mem in
     c.follow.ensures.uses s (told_uses (cpu.cpl == 3) cpu s t _ _ _ (rw c.requires.same at c.execute-effect.ensures.told) (c.works_use.ensures.instructed c.args.insn.now c.args.len cpu s))
 
 pub follow-requires-clause-roots : goal.follow-requires-clause-roots
