@@ -9,11 +9,6 @@ use Rattle.paging.specs.declared.entry.Touch.{Touch}
 use Rattle.paging.specs.Space.{Space, place}
 use Rattle.paging.specs.Uses.{with_front, with_back, fetches}
 use Rattle.paging.specs.Work.{Outcome, on_value}
-use Rattle.step_mem.specs.declared.guard.Guard.{Guard}
-use Rattle.step_mem.specs.declared.state.StepState.{StepState}
-use Rattle.step_mem.specs.declared.walking.Control.{Control}
-use Rattle.step_mem.specs.Shown.{hidden}
-use Rattle.step_mem.specs.Sound.{StaysIn, FetchesIn}
 use Rattle.sys_exec.specs.declared.effect.Refusal.{Refusal}
 use Rattle.std.specs.Prelude.{if◌then◌else◌}
 use Rattle.ia32_types.specs.declared.stop.Stop.TheVariants.{NotAStart}
@@ -76,26 +71,6 @@ second_owned eip insn len more t u same h =
 -- bytes of two pages, one behind the other
 pub joined : (front more first both slice : List ℕ) → first ≡ [] ++ front → both ≡ first ++ more → slice ≡ both → slice ≡ front ++ more
 joined front more first both slice a b e = e ∙ (b ∙ ap (λ (l : List ℕ). l ++ more) a)
-
--- what is kept from the guest goes by the text alone
-pub hidden_on : (old new : Guard) (k l : Control) (a b : List ℕ) → new.text ≡ old.text → l ≡ k → hidden new l.frames b ≡ hidden new l.frames a → hidden old k.frames b ≡ hidden old k.frames a
-hidden_on old new k l a b e f h = rw (f, e) at h
-
--- an access leaves the text, as it leaves all rules
-pub as_fetch : (a b : StepState) (r s : List ℕ) → StaysIn a b r s → FetchesIn a b r s
-as_fetch a b r s h = (h.0, ap (λ (x : Guard). x.text) h.1, h.2)
-
--- one part of a step behind another
-pub fetches_on : (a b c : StepState) (r s t : List ℕ) → FetchesIn a b r s → FetchesIn b c s t → FetchesIn a c r t
-fetches_on a b c r s t h k = (k.0 ∙ h.0, k.1 ∙ h.1, hidden_on a.guard b.guard a.control b.control s t h.1 h.0 k.2 ∙ h.2)
-
--- an access behind bytes that became the instruction's own, which leaves memory as it is
-pub behind_own : (a b c : StepState) (r s : List ℕ) → b.control ≡ a.control → b.guard.text ≡ a.guard.text → StaysIn b c r s → FetchesIn a c r s
-behind_own a b c r s control text h = fetches_on a b c r r s (control, text, refl) (as_fetch b c r s h)
-
--- bytes become the instruction's own behind an access
-pub own_behind : (a b c : StepState) (r s : List ℕ) → FetchesIn a b r s → c.control ≡ b.control → c.guard.text ≡ b.guard.text → FetchesIn a c r s
-own_behind a b c r s h control text = fetches_on a b c r s s h (control, text, refl)
 
 -- a processor that is awake and stands well fetches its instruction
 pub works_on : (m : Setting) (b : State) (s : Space) → b.cpu.halted ≡ false → stands_well m b.cpu ≡ true → worked m b s ≡ fetches_next m b s

@@ -1,10 +1,15 @@
 //! The guest's memory within one step, as one value.
 
 ghost use Rattle.std.proofs.Props.{props};
-ghost use Rattle.std.specs.Prelude.{◌≡◌, ◌+◌, ◌≤◌, OnErr};
+ghost use Rattle.std.specs.Prelude.{◌≡◌, ◌+◌, ◌%◌, ◌≤◌, ◌++◌, length, false, OnErr};
 ghost use Rattle.descriptors.specs.Leaves.{Leaves};
 ghost use Rattle.ia32_types.specs.Shape.{IsDone, IsShaped};
+ghost use Rattle.paging.specs.Ready.{Readied};
+ghost use Rattle.paging.specs.Space.{place};
+ghost use Rattle.paging.specs.Uses.{fetches, with_back, with_front};
 ghost use Rattle.step_exec.specs.Plain.{executed};
+ghost use Rattle.step_mem.specs.Changes.{HasEntry};
+ghost use Rattle.step_mem.specs.Pages.{bytes_from};
 ghost use Rattle.step_mem.specs.Shown.{hidden};
 ghost use Rattle.step_mem.specs.Sound.{IsSoundOver, space};
 
@@ -12,7 +17,7 @@ use descriptors::Cpu;
 use guest_ram::Ram;
 use ia32_types::{Insn, Size};
 use paging::{Access, GuestMem, Touch};
-use step_mem::{Control, StepState, Text, Translations};
+use step_mem::{Bytes, Control, StepState, Text, Translations};
 use sys_exec::Refusal;
 
 /// A step's memory: what the step does there beside what any instruction asks of a guest's memory.
@@ -25,6 +30,38 @@ pub trait StepMemory: GuestMem {
         ensures does { Leaves result cpu.new (Self.space self.new) (executed insn.now len cpu.old (Self.space self.old)) }
         ensures refused { OnErr result (cpu.new ≡ cpu.old) }
         ensures pages { (Self.space self.new).pages ≤ (Self.space self.old).pages + 4 }
+        ensures frame { Self.frame self.new ≡ Self.frame self.old };
+
+    /// Translates a fetch, which lies in one page.
+    fn fetch(&mut self, at: u32, len: u32, user: bool) -> Touch
+        requires room { (Self.space self.old).pages ≤ 63 }
+        requires one { at % 4096 + len ≤ 4096 }
+        ensures fetches { fetches (Self.space self.old) at len user ≡ (result, Self.space self.new) }
+        ensures pages { (Self.space self.new).pages ≤ (Self.space self.old).pages + 1 }
+        ensures ready { Readied (Self.space self.new) at len false result }
+        ensures frame { Self.frame self.new ≡ Self.frame self.old };
+
+    /// The bytes that lie in one page, where the last touch or fetch was ready.
+    fn bytes(&self, at: u32, len: u32) -> Bytes<'_>
+        requires found { HasEntry (Self.space self.now).set at }
+        requires one { at % 4096 + len ≤ 4096 }
+        ensures bytes { result.text.now ++ result.ram.now ≡ bytes_from (Self.space self.now) at len }
+        ensures len { length result.text.now + length result.ram.now ≡ len };
+
+    /// The bytes at an address are those of this step's instruction in its first page, and so far its only ones.
+    fn own_front(&mut self, at: u32, len: u32)
+        requires found { HasEntry (Self.space self.old).set at }
+        ensures owns { Self.space self.new ≡ record (Self.space self.old) {
+          mode = with_front (Self.space self.old).mode (place (Self.space self.old) at) len;
+        } }
+        ensures frame { Self.frame self.new ≡ Self.frame self.old };
+
+    /// The bytes at an address are those of this step's instruction in its second page.
+    fn own_back(&mut self, at: u32, len: u32)
+        requires found { HasEntry (Self.space self.old).set at }
+        ensures owns { Self.space self.new ≡ record (Self.space self.old) {
+          mode = with_back (Self.space self.old).mode (place (Self.space self.old) at) len;
+        } }
         ensures frame { Self.frame self.new ≡ Self.frame self.old };
 }
 
@@ -73,5 +110,20 @@ impl<'a, 'k, 'g, B: Translations> GuestMem for Memory<'a, 'k, 'g, B> {
 impl<'a, 'k, 'g, B: Translations> StepMemory for Memory<'a, 'k, 'g, B> {
     fn plain(&mut self, insn: &Insn, len: u8, cpu: &mut Cpu) -> Result<(), Refusal> {
         step_exec::plain(insn, len, cpu, self.ram, self.kept, self.state)
+    }
+    fn fetch(&mut self, at: u32, len: u32, user: bool) -> Touch {
+        step_mem::fetch(self.ram, self.kept, self.state, at, len, user)
+    }
+
+    fn bytes(&self, at: u32, len: u32) -> Bytes<'_> {
+        step_mem::bytes(self.ram, self.kept, self.state, at, len)
+    }
+
+    fn own_front(&mut self, at: u32, len: u32) {
+        step_mem::own_front(self.ram, self.kept, self.state, at, len);
+    }
+
+    fn own_back(&mut self, at: u32, len: u32) {
+        step_mem::own_back(self.ram, self.kept, self.state, at, len);
     }
 }

@@ -18,7 +18,7 @@ ghost use Rattle.machine_step.specs.Worked.{ComesTo, IsDropped, answer_of};
 use crate::delivery::{deliver, refuse_at};
 use crate::fetch::fetch;
 use crate::instruction::carry_out_at;
-use crate::memory::Memory;
+use crate::memory::{Memory, StepMemory};
 use crate::rules::{Rules, stands_well};
 use crate::worked::{Dropped, Seen, Worked};
 use board::Board;
@@ -59,7 +59,7 @@ pub fn step_again<'g, B: Translations>(
     ensures stays { FetchesIn (begun (control_of frames worked.old.cpu) guard.entry) state.new ram.old ram.new }
 {
     begin_again(&worked.cpu, ram, kept, frames, guard, state);
-    step_at(rules, worked, board, ram, kept, state)
+    step_at(rules, worked, board, &mut Memory { ram, kept, state })
 }
 
 /// What a walk goes by: the frames, the directory, and the two flags.
@@ -130,31 +130,25 @@ pub fn begin_again<'g, B: Translations>(
 }
 
 /// One step in its memory, of which nothing was used yet.
-pub fn step_in<B: Translations>(
+pub fn step_in<M: StepMemory>(
     rules: &Rules,
     cpu: &Cpu,
     board: &mut Board,
-    ram: &mut Ram,
-    kept: &B,
-    state: &mut StepState,
+    mem: &mut M,
 ) -> Result<Worked, Stop>
-    requires sound { IsSoundOver B.Translations kept.now ram.old state.old }
-    requires pages { state.old.pages ≡ 0 }
-    ensures sound { IsSoundOver B.Translations kept.now ram.new state.new }
-    ensures uses { OnOk result (UsesBy cpu.now (space B.Translations kept.now ram.old state.old)
-        (space B.Translations kept.now ram.new state.new)) }
+    requires pages { (M.space mem.old).pages ≡ 0 }
+    ensures uses { OnOk result (UsesBy cpu.now (M.space mem.old)
+        (M.space mem.new)) }
     ensures step { (m : Setting) (b : Whole) → IsRuled m rules.now → ComesTo
-        (stepped_in m (record b { cpu = cpu.now; board = board.old }) (space B.Translations kept.now ram.old state.old))
-        b result board.new (space B.Translations kept.now ram.new state.new) }
+        (stepped_in m (record b { cpu = cpu.now; board = board.old }) (M.space mem.old))
+        b result board.new (M.space mem.new) }
     ensures stopped { OnErr result (board.new ≡ taken_by (interrupt_of cpu.now board.old) board.old) }
     ensures dropped { IfOk result (λ w. IsDropped w.dropped) }
     ensures roots { IfOk result (RootsAs cpu.now) }
-    ensures control { state.new.control ≡ state.old.control }
-    ensures text { state.new.guard.text ≡ state.old.guard.text }
-    ensures hidden { hidden state.old.guard state.old.control.frames ram.new ≡ hidden state.old.guard state.old.control.frames ram.old }
+    ensures frame { M.frame mem.new ≡ M.frame mem.old }
 {
     let mut worked = Worked::at(cpu);
-    match step_at(rules, &mut worked, board, ram, kept, state) {
+    match step_at(rules, &mut worked, board, mem) {
         Ok(()) => Ok(worked),
         Err(stop) => Err(stop),
     }
@@ -162,32 +156,28 @@ pub fn step_in<B: Translations>(
 
 /// The same, where the step is told in its place: an interrupt is delivered, or the processor works. A hold lasts for one
 /// step.
-fn step_at<B: Translations>(
+fn step_at<M: StepMemory>(
     rules: &Rules,
     worked: &mut Worked,
     board: &mut Board,
-    ram: &mut Ram,
-    kept: &B,
-    state: &mut StepState,
+    mem: &mut M,
 ) -> Result<(), Stop>
-    requires sound { IsSoundOver B.Translations kept.now ram.old state.old }
-    requires pages { state.old.pages ≡ 0 }
-    ensures sound { IsSoundOver B.Translations kept.now ram.new state.new }
-    ensures uses { OnOk result (UsesBy worked.old.cpu (space B.Translations kept.now ram.old state.old)
-        (space B.Translations kept.now ram.new state.new)) }
+    requires pages { (M.space mem.old).pages ≡ 0 }
+    ensures uses { OnOk result (UsesBy worked.old.cpu (M.space mem.old)
+        (M.space mem.new)) }
     ensures step { (m : Setting) (b : Whole) → IsRuled m rules.now → ComesTo
-        (stepped_in m (record b { cpu = worked.old.cpu; board = board.old }) (space B.Translations kept.now ram.old state.old))
-        b (answer_of result worked.new) board.new (space B.Translations kept.now ram.new state.new) }
+        (stepped_in m (record b { cpu = worked.old.cpu; board = board.old }) (M.space mem.old))
+        b (answer_of result worked.new) board.new (M.space mem.new) }
     ensures stopped { OnErr result (board.new ≡ taken_by (interrupt_of worked.old.cpu board.old) board.old) }
     ensures dropped { IfOk (answer_of result worked.new) (λ w. IsDropped w.dropped) }
     ensures roots { IfOk (answer_of result worked.new) (RootsAs worked.old.cpu) }
-    ensures stays { FetchesIn state.old state.new ram.old ram.new }
+    ensures frame { M.frame mem.new ≡ M.frame mem.old }
 {
     let taken = interrupt(&worked.cpu, board);
     worked.cpu.held = false;
     match taken {
-        None => work(rules, worked, board, ram, kept, state),
-        Some(vector) => deliver(rules, worked, board, &mut Memory { ram, kept, state }, vector),
+        None => work(rules, worked, board, mem),
+        Some(vector) => deliver(rules, worked, board, mem, vector),
     }
 }
 
@@ -205,26 +195,22 @@ pub fn interrupt(cpu: &Cpu, board: &Board) -> Option<u8>
 
 /// A halted processor does nothing, and another does the instruction at EIP.
 #[tactic(auto, unfolding(machine_model::specs::Step::worked))]
-fn work<B: Translations>(
+fn work<M: StepMemory>(
     rules: &Rules,
     worked: &mut Worked,
     board: &mut Board,
-    ram: &mut Ram,
-    kept: &B,
-    state: &mut StepState,
+    mem: &mut M,
 ) -> Result<(), Stop>
-    requires sound { IsSoundOver B.Translations kept.now ram.old state.old }
-    requires pages { state.old.pages ≡ 0 }
-    ensures sound { IsSoundOver B.Translations kept.now ram.new state.new }
-    ensures uses { OnOk result (UsesBy worked.old.cpu (space B.Translations kept.now ram.old state.old)
-        (space B.Translations kept.now ram.new state.new)) }
+    requires pages { (M.space mem.old).pages ≡ 0 }
+    ensures uses { OnOk result (UsesBy worked.old.cpu (M.space mem.old)
+        (M.space mem.new)) }
     ensures step { (m : Setting) (b : Whole) → IsRuled m rules.now → ComesTo
-        (steps.worked m (record b { cpu = worked.old.cpu; board = board.old }) (space B.Translations kept.now ram.old state.old))
-        b (answer_of result worked.new) board.new (space B.Translations kept.now ram.new state.new) }
+        (steps.worked m (record b { cpu = worked.old.cpu; board = board.old }) (M.space mem.old))
+        b (answer_of result worked.new) board.new (M.space mem.new) }
     ensures stopped { OnErr result (board.new ≡ board.old) }
     ensures dropped { IfOk (answer_of result worked.new) (λ w. IsDropped w.dropped) }
     ensures roots { IfOk (answer_of result worked.new) (RootsAs worked.old.cpu) }
-    ensures stays { FetchesIn state.old state.new ram.old ram.new }
+    ensures frame { M.frame mem.new ≡ M.frame mem.old }
 {
     if worked.cpu.halted {
         worked.seen = Seen::Nothing;
@@ -237,11 +223,11 @@ fn work<B: Translations>(
         return Err(Stop::NotAStart);
     }
     let user = worked.cpu.cpl == 3;
-    match fetch(ram, kept, state, user, worked.cpu.regs.eip) {
+    match fetch(mem, user, worked.cpu.regs.eip) {
         Ok(Decoded::Insn(insn, len)) => {
-            carry_out_at(rules, &insn, len, worked, board, &mut Memory { ram, kept, state })
+            carry_out_at(rules, &insn, len, worked, board, mem)
         }
         Ok(_) => Err(Stop::Unsupported),
-        Err(refusal) => refuse_at(rules, worked, &mut Memory { ram, kept, state }, refusal),
+        Err(refusal) => refuse_at(rules, worked, mem, refusal),
     }
 }

@@ -1,41 +1,26 @@
 use Rattle.std.proofs.Common.{◌∙◌, rules}
 use Rattle.ia32_decode.specs.declared.answer.Decoded.TheVariants as begins
 use Rattle.step_mem.specs.Pages.{bytes_from}
-use Rattle.step_mem.specs.Sound.{space}
-use Rattle.machine_step.proofs.Fetched.{first_denied, first_read, first_owned, as_fetch, own_behind}
+use Rattle.machine_step.proofs.Fetched.{first_denied, first_read, first_owned}
 use Rattle.machine_step.proofs.fetch.fetch_pages.Goals as goal
 
 pub returns-in_err-fetch_page-clause-fetched : goal.returns-in_err-fetch_page-clause-fetched
 returns-in_err-fetch_page-clause-fetched g c =
-    let s = space g.B.Translations c.args.kept.now c.args.ram.now c.args.state.now in
-    let t = space g.B.Translations c.args.kept.now c.fetch_page.new.ram c.fetch_page.new.state in
+    let s = g.M.GuestMem.space c.args.mem.now in
+    let t = g.M.GuestMem.space c.fetch_page.new.mem in
     rw (first_denied c.args.user c.args.at c.front_len-front.result _ s t c.front_len-front.ensures.len c.in_err-fetch_page.ensures.fetching) (search rules)
 
 pub returns-in-Insn-clause-fetched : goal.returns-in-Insn-clause-fetched
 returns-in-Insn-clause-fetched g c =
-    let s = space g.B.Translations c.args.kept.now c.args.ram.now c.args.state.now in
-    let t = space g.B.Translations c.args.kept.now c.fetch_page.new.ram c.fetch_page.new.state in
-    let u = space g.B.Translations c.args.kept.now c.fetch_page.new.ram c.own_front.new.state in
+    let s = g.M.GuestMem.space c.args.mem.now in
+    let t = g.M.GuestMem.space c.fetch_page.new.mem in
+    let u = g.M.GuestMem.space c.own_front.new.self in
     let front = bytes_from t c.args.at c.front_len-front.result in
     first_read c.args.user c.args.at c.front_len-front.result front (begins.Insn c.in-Insn.insn c.in-Insn.len) s t c.front_len-front.ensures.len c.in_ok-fetch_page.ensures.fetching c.in-Insn.ensures.exact
     ∙ first_owned c.args.user c.args.at front c.in-Insn.insn c.in-Insn.len c.from.result t u c.from.ensures c.own_front.ensures.owns
 
 pub returns-in-Outside-clause-fetched : goal.returns-in-Outside-clause-fetched
 returns-in-Outside-clause-fetched g c =
-    let s = space g.B.Translations c.args.kept.now c.args.ram.now c.args.state.now in
-    let t = space g.B.Translations c.args.kept.now c.fetch_page.new.ram c.fetch_page.new.state in
+    let s = g.M.GuestMem.space c.args.mem.now in
+    let t = g.M.GuestMem.space c.fetch_page.new.mem in
     first_read c.args.user c.args.at c.front_len-front.result (bytes_from t c.args.at c.front_len-front.result) begins.Outside s t c.front_len-front.ensures.len c.in_ok-fetch_page.ensures.fetching c.in-Outside.ensures.exact
-
-pub returns-in_err-fetch_page-clause-stays : goal.returns-in_err-fetch_page-clause-stays
-returns-in_err-fetch_page-clause-stays g c =
-    as_fetch c.args.state.now c.fetch_page.new.state c.args.ram.now c.fetch_page.new.ram c.fetch_page.ensures.stays
-
-pub returns-in-Outside-clause-stays : goal.returns-in-Outside-clause-stays
-returns-in-Outside-clause-stays g c =
-    as_fetch c.args.state.now c.fetch_page.new.state c.args.ram.now c.fetch_page.new.ram c.fetch_page.ensures.stays
-
-pub returns-in-Insn-clause-stays : goal.returns-in-Insn-clause-stays
-returns-in-Insn-clause-stays g c =
-    own_behind c.args.state.now c.fetch_page.new.state c.own_front.new.state c.args.ram.now c.fetch_page.new.ram
-    (as_fetch c.args.state.now c.fetch_page.new.state c.args.ram.now c.fetch_page.new.ram c.fetch_page.ensures.stays)
-    c.own_front.ensures.control c.own_front.ensures.text

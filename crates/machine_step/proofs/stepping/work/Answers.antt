@@ -2,51 +2,38 @@ use Rattle.std.proofs.Common.{refl, sym, ap, subst, ◌∙◌}
 use Rattle.std.specs.Prelude.{◌==◌}
 use Rattle.machine_model.specs.Step as steps
 use Rattle.machine_model.specs.Step.{after_fetch}
-use Rattle.step_mem.specs.Sound.{space}
 use Rattle.machine_step.specs.Worked.{ComesTo, answer_of}
-use Rattle.machine_step.proofs.Fetched.{as_fetch, fetches_on, works_on}
+use Rattle.machine_step.proofs.Fetched.{works_on}
 use Rattle.machine_step.proofs.Used.{if_ok_on, on_err}
 use Rattle.machine_step.proofs.stepping.work.Goals as goal
 
 pub returns-in-Ok-Insn-clause-uses : goal.returns-in-Ok-Insn-clause-uses
 returns-in-Ok-Insn-clause-uses g c =
-    let s = space g.B.Translations c.args.kept.now c.args.ram.now c.args.state.now in
-    let t = space g.B.Translations c.args.kept.now c.fetch.new.ram c.fetch.new.state in
-    let u = space g.B.Translations c.args.kept.now c.carry_out_at.new.ram c.carry_out_at.new.state in
+    let s = g.M.GuestMem.space c.args.mem.now in
+    let t = g.M.GuestMem.space c.fetch.new.mem in
+    let u = g.M.GuestMem.space c.carry_out_at.new.mem in
     if_ok_on (c.args.worked.now.cpu.cpl == 3) s t u c.carry_out_at.result c.in-Ok-Insn.ensures.uses c.carry_out_at.ensures.uses
 
 pub returns-in-Err-clause-uses : goal.returns-in-Err-clause-uses
 returns-in-Err-clause-uses g c =
-    let s = space g.B.Translations c.args.kept.now c.args.ram.now c.args.state.now in
+    let s = g.M.GuestMem.space c.args.mem.now in
     c.refuse_at.ensures.goes_on s c.in-Err.ensures.refused
 
 pub returns-in-Ok-Insn-clause-step : goal.returns-in-Ok-Insn-clause-step
 returns-in-Ok-Insn-clause-step g c = λ m b k.
     let here = record b { cpu = c.args.worked.now.cpu; board = c.args.board.now } in
-    let s = space g.B.Translations c.args.kept.now c.args.ram.now c.args.state.now in
+    let s = g.M.GuestMem.space c.args.mem.now in
     let goes = works_on m here s c.if-worked.false (sym (c.stands_well-well.ensures m k) ∙ c.if-not-well.false) ∙ ap (after_fetch m here) (rw c.in-Ok-Insn.field-0-is at c.in-Ok-Insn.ensures.fetched) in
-    subst (λ (r : steps.Result). ComesTo r b (answer_of c.carry_out_at.result c.carry_out_at.new.worked) c.carry_out_at.new.board (space g.B.Translations c.args.kept.now c.carry_out_at.new.ram c.carry_out_at.new.state)) (sym goes)
+    subst (λ (r : steps.Result). ComesTo r b (answer_of c.carry_out_at.result c.carry_out_at.new.worked) c.carry_out_at.new.board (g.M.GuestMem.space c.carry_out_at.new.mem)) (sym goes)
     (c.carry_out_at.ensures.step m here k)
 
 pub returns-in-Err-clause-step : goal.returns-in-Err-clause-step
 returns-in-Err-clause-step g c = λ m b k.
     let here = record b { cpu = c.args.worked.now.cpu; board = c.args.board.now } in
-    let s = space g.B.Translations c.args.kept.now c.args.ram.now c.args.state.now in
+    let s = g.M.GuestMem.space c.args.mem.now in
     let goes = works_on m here s c.if-worked.false (sym (c.stands_well-well.ensures m k) ∙ c.if-not-well.false) ∙ ap (after_fetch m here) c.in-Err.ensures.fetched in
-    subst (λ (r : steps.Result). ComesTo r b (answer_of c.refuse_at.result c.refuse_at.new.worked) c.args.board.now (space g.B.Translations c.args.kept.now c.refuse_at.new.ram c.refuse_at.new.state)) (sym goes)
+    subst (λ (r : steps.Result). ComesTo r b (answer_of c.refuse_at.result c.refuse_at.new.worked) c.args.board.now (g.M.GuestMem.space c.refuse_at.new.mem)) (sym goes)
     (c.refuse_at.ensures.step m here k)
-
-pub returns-in-Ok-Insn-clause-stays : goal.returns-in-Ok-Insn-clause-stays
-returns-in-Ok-Insn-clause-stays g c =
-    fetches_on c.args.state.now c.fetch.new.state c.carry_out_at.new.state c.args.ram.now c.fetch.new.ram c.carry_out_at.new.ram
-    (c.fetch.ensures.control, c.fetch.ensures.text, c.fetch.ensures.hidden)
-    (as_fetch c.fetch.new.state c.carry_out_at.new.state c.fetch.new.ram c.carry_out_at.new.ram c.carry_out_at.ensures.stays)
-
-pub returns-in-Err-clause-stays : goal.returns-in-Err-clause-stays
-returns-in-Err-clause-stays g c =
-    fetches_on c.args.state.now c.fetch.new.state c.refuse_at.new.state c.args.ram.now c.fetch.new.ram c.refuse_at.new.ram
-    (c.fetch.ensures.control, c.fetch.ensures.text, c.fetch.ensures.hidden)
-    (as_fetch c.fetch.new.state c.refuse_at.new.state c.fetch.new.ram c.refuse_at.new.ram c.refuse_at.ensures.stays)
 
 pub returns-in-Err-clause-stopped : goal.returns-in-Err-clause-stopped
 returns-in-Err-clause-stopped g c = on_err c.refuse_at.result refl
