@@ -59,7 +59,7 @@ pub fn step_again<'g, B: Translations>(
     ensures stays { FetchesIn (begun (control_of frames worked.old.cpu) guard.entry) state.new ram.old ram.new }
 {
     begin_again(&worked.cpu, ram, kept, frames, guard, state);
-    step_at(rules, worked, board, &mut Memory { ram, kept, state })
+    step_at(rules, worked, board, ram, kept, state)
 }
 
 /// What a walk goes by: the frames, the directory, and the two flags.
@@ -130,33 +130,63 @@ pub fn begin_again<'g, B: Translations>(
 }
 
 /// One step in its memory, of which nothing was used yet.
-pub fn step_in<M: StepMemory>(
+pub fn step_in<B: Translations>(
     rules: &Rules,
     cpu: &Cpu,
     board: &mut Board,
-    mem: &mut M,
+    ram: &mut Ram,
+    kept: &B,
+    state: &mut StepState,
 ) -> Result<Worked, Stop>
-    requires pages { (M.space mem.old).pages ≡ 0 }
-    ensures uses { OnOk result (UsesBy cpu.now (M.space mem.old)
-        (M.space mem.new)) }
+    requires sound { IsSoundOver B.Translations kept.now ram.old state.old }
+    requires pages { state.old.pages ≡ 0 }
+    ensures sound { IsSoundOver B.Translations kept.now ram.new state.new }
+    ensures uses { OnOk result (UsesBy cpu.now (space B.Translations kept.now ram.old state.old)
+        (space B.Translations kept.now ram.new state.new)) }
     ensures step { (m : Setting) (b : Whole) → IsRuled m rules.now → ComesTo
-        (stepped_in m (record b { cpu = cpu.now; board = board.old }) (M.space mem.old))
-        b result board.new (M.space mem.new) }
+        (stepped_in m (record b { cpu = cpu.now; board = board.old }) (space B.Translations kept.now ram.old state.old))
+        b result board.new (space B.Translations kept.now ram.new state.new) }
     ensures stopped { OnErr result (board.new ≡ taken_by (interrupt_of cpu.now board.old) board.old) }
     ensures dropped { IfOk result (λ w. IsDropped w.dropped) }
     ensures roots { IfOk result (RootsAs cpu.now) }
-    ensures frame { M.frame mem.new ≡ M.frame mem.old }
+    ensures control { state.new.control ≡ state.old.control }
+    ensures text { state.new.guard.text ≡ state.old.guard.text }
+    ensures hidden { hidden state.old.guard state.old.control.frames ram.new ≡ hidden state.old.guard state.old.control.frames ram.old }
 {
     let mut worked = Worked::at(cpu);
-    match step_at(rules, &mut worked, board, mem) {
+    match step_at(rules, &mut worked, board, ram, kept, state) {
         Ok(()) => Ok(worked),
         Err(stop) => Err(stop),
     }
 }
 
-/// The same, where the step is told in its place: an interrupt is delivered, or the processor works. A hold lasts for one
-/// step.
-fn step_at<M: StepMemory>(
+/// The same, where the step is told in its place. From here on the parts of its memory are one value.
+fn step_at<B: Translations>(
+    rules: &Rules,
+    worked: &mut Worked,
+    board: &mut Board,
+    ram: &mut Ram,
+    kept: &B,
+    state: &mut StepState,
+) -> Result<(), Stop>
+    requires sound { IsSoundOver B.Translations kept.now ram.old state.old }
+    requires pages { state.old.pages ≡ 0 }
+    ensures sound { IsSoundOver B.Translations kept.now ram.new state.new }
+    ensures uses { OnOk result (UsesBy worked.old.cpu (space B.Translations kept.now ram.old state.old)
+        (space B.Translations kept.now ram.new state.new)) }
+    ensures step { (m : Setting) (b : Whole) → IsRuled m rules.now → ComesTo
+        (stepped_in m (record b { cpu = worked.old.cpu; board = board.old }) (space B.Translations kept.now ram.old state.old))
+        b (answer_of result worked.new) board.new (space B.Translations kept.now ram.new state.new) }
+    ensures stopped { OnErr result (board.new ≡ taken_by (interrupt_of worked.old.cpu board.old) board.old) }
+    ensures dropped { IfOk (answer_of result worked.new) (λ w. IsDropped w.dropped) }
+    ensures roots { IfOk (answer_of result worked.new) (RootsAs worked.old.cpu) }
+    ensures stays { FetchesIn state.old state.new ram.old ram.new }
+{
+    step_over(rules, worked, board, &mut Memory { ram, kept, state })
+}
+
+/// An interrupt is delivered, or the processor works. A hold lasts for one step.
+fn step_over<M: StepMemory>(
     rules: &Rules,
     worked: &mut Worked,
     board: &mut Board,

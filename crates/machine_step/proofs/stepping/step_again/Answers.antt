@@ -1,4 +1,4 @@
-use Rattle.std.proofs.Common.{◌≡◌, ap, rules, subst}
+use Rattle.std.proofs.Common.{subst}
 use Rattle.paging.specs.Space.{Space}
 use Rattle.step_mem.specs.Guard.{mode_of}
 use Rattle.step_mem.specs.Shown.{shown}
@@ -12,19 +12,11 @@ use Rattle.machine_step.proofs.stepping.step_again.Goals as goal
 pub returns-clause-step : goal.returns-clause-step
 returns-clause-step g c = λ s b k.
     let a = c.args in
-    let n = c.step_at.new.mem in
     let m = record s { mode = mode_of a.guard; frames = a.frames } in
     let here = record b { cpu = a.worked.now.cpu; ram = shown a.guard a.frames a.ram.now; set = g.B.Translations.entries a.kept.now a.ram.now; board = a.board.now } in
-    let kept : n.kept.now ≡ a.kept.now = ap (λ f. f.2) c.step_at.ensures.frame in
-    let ram : n.ram.now ≡ c.ram-1.given.0 = search rules in
-    let state : n.state.now ≡ c.state-1.given.0 = search rules in
-    rw (kept, ram, state) at (subst (λ (x : Space). ComesTo (by_interrupt m (interrupt_of a.worked.now.cpu a.board.now) (unheld here) x) b (answer_of c.step_at.result c.step_at.new.worked) c.step_at.new.board (space g.B.Translations n.kept.now n.ram.now n.state.now))
-    c.begin_again.ensures.space (c.step_at.ensures.step m here k))
+    subst (λ (x : Space). ComesTo (by_interrupt m (interrupt_of a.worked.now.cpu a.board.now) (unheld here) x) b (answer_of c.step_at.result c.step_at.new.worked) c.step_at.new.board (space g.B.Translations a.kept.now c.step_at.new.ram c.step_at.new.state))
+    c.begin_again.ensures.space (c.step_at.ensures.step m here k)
 
 pub returns-clause-uses : goal.returns-clause-uses
 returns-clause-uses g c =
-    let n = c.step_at.new.mem in
-    let kept : n.kept.now ≡ c.args.kept.now = ap (λ f. f.2) c.step_at.ensures.frame in
-    let ram : n.ram.now ≡ c.ram-1.given.0 = search rules in
-    let state : n.state.now ≡ c.state-1.given.0 = search rules in
-    rw (kept, ram, state) at (subst (λ (x : Space). IfOk c.step_at.result (λ _. Uses (c.args.worked.now.cpu.cpl == 3) x (space g.B.Translations n.kept.now n.ram.now n.state.now))) c.begin_again.ensures.space c.step_at.ensures.uses)
+    subst (λ (x : Space). IfOk c.step_at.result (λ _. Uses (c.args.worked.now.cpu.cpl == 3) x (space g.B.Translations c.args.kept.now c.step_at.new.ram c.step_at.new.state))) c.begin_again.ensures.space c.step_at.ensures.uses
