@@ -39,7 +39,7 @@ use ia32_exec::Outcome;
 use ia32_types::{Insn, Op, Stop, sensitive};
 use image_check::Checked;
 use machine_model::works_use;
-use machine_step::{Rules, Seen, Worked, carry_out, fetch_at, refuse};
+use machine_step::{Memory, Rules, Seen, StepMemory, Worked, carry_out, fetch_at, refuse};
 use shadow_cache::Reloads;
 use shadow_tables::Shadows;
 use step_exec::{reach_both, user_outcome};
@@ -245,7 +245,8 @@ fn drop_dirs<S: Shadows>(shadows: &mut S, ram: &mut Ram)
     }
 }
 
-/// Fetches the instruction. None where the host is to do it: its ranges are translated, and its effect is done.
+/// Fetches the instruction. None where the host is to do it: its ranges are translated, and its effect is done. From here
+/// on the parts of the step's memory are one value.
 fn try_native<B: Translations>(
     rules: &Rules,
     cpu: &Cpu,
@@ -266,13 +267,31 @@ fn try_native<B: Translations>(
     ensures roots { IfOk result (λ o. IfSome o (λ w. RootsAs cpu.now w)) }
     ensures stays { FetchesIn state.old state.new ram.old ram.new }
 {
-    match fetch_at(ram, kept, state, cpu.cpl == 3, cpu.regs.eip) {
-        Err(refusal) => gone(refuse(rules, cpu, ram, kept, state, refusal)),
+    try_over(rules, cpu, board, &mut Memory { ram, kept, state })
+}
+
+fn try_over<M: NativeMemory>(
+    rules: &Rules,
+    cpu: &Cpu,
+    board: &mut Board,
+    mem: &mut M,
+) -> Result<Option<Worked>, Stop>
+    requires able { IsAble cpu.now }
+    requires pages { (M.space mem.old).pages ≡ 0 }
+    ensures uses { IfOk result (λ _. Uses (cpu.now.cpl == 3) (M.space mem.old) (M.space mem.new)) }
+    ensures tries { (m : Setting) (b : Whole) → IsRuled m rules.now → TriesAs m (record b { cpu = cpu.now; board = board.old })
+        (M.space mem.old) result board.new (M.space mem.new) }
+    ensures dropped { IfOk result (λ o. IfSome o (λ w. IsDropped w.dropped)) }
+    ensures roots { IfOk result (λ o. IfSome o (λ w. RootsAs cpu.now w)) }
+    ensures frame { M.frame mem.new ≡ M.frame mem.old }
+{
+    match fetch_at(mem, cpu.cpl == 3, cpu.regs.eip) {
+        Err(refusal) => gone(refuse(rules, cpu, mem, refusal)),
         Ok(Decoded::Insn(insn, len)) => {
             if is_native(&insn, cpu) {
-                prepare(rules, &insn, len, cpu, ram, kept, state)
+                prepare(rules, &insn, len, cpu, mem)
             } else {
-                gone(carry_out(rules, &insn, len, cpu, board, ram, kept, state))
+                gone(carry_out(rules, &insn, len, cpu, board, mem))
             }
         }
         Ok(_) => Err(Stop::Unsupported),
@@ -290,32 +309,48 @@ fn gone(worked: Result<Worked, Stop>) -> Result<Option<Worked>, Stop>
 }
 
 /// Prepares an instruction that was fetched for the host. Where it raises or stops, the step goes on so.
-fn prepare<B: Translations>(
+fn prepare<M: NativeMemory>(
     rules: &Rules,
     insn: &Insn,
     len: u8,
     cpu: &Cpu,
-    ram: &mut Ram,
-    kept: &B,
-    state: &mut StepState,
+    mem: &mut M,
 ) -> Result<Option<Worked>, Stop>
     requires spelled { (bytes : List ℕ) × Spells bytes insn.now }
     requires native { is_native (cpu.now.cpl == 3) insn.now.op ≡ true }
     requires able { IsAble cpu.now }
-    requires sound { IsSoundOver B.Translations kept.now ram.old state.old }
-    requires pages { state.old.pages ≤ 8 }
-    ensures sound { IsSoundOver B.Translations kept.now ram.new state.new }
-    ensures uses { IfOk result (λ _. Uses (cpu.now.cpl == 3) (space B.Translations kept.now ram.old state.old)
-        (space B.Translations kept.now ram.new state.new)) }
+    requires pages { (M.space mem.old).pages ≤ 8 }
+    ensures uses { IfOk result (λ _. Uses (cpu.now.cpl == 3) (M.space mem.old) (M.space mem.new)) }
     ensures prepares { (m : Setting) (b : Whole) → IsRuled m rules.now → PreparesAs m (record b { cpu = cpu.now }) insn.now len
-        (space B.Translations kept.now ram.old state.old) result (space B.Translations kept.now ram.new state.new) }
+        (M.space mem.old) result (M.space mem.new) }
     ensures dropped { IfOk result (λ o. IfSome o (λ w. IsDropped w.dropped)) }
     ensures roots { IfOk result (λ o. IfSome o (λ w. RootsAs cpu.now w)) }
-    ensures stays { StaysIn state.old state.new ram.old ram.new }
+    ensures frame { M.frame mem.new ≡ M.frame mem.old }
 {
-    match weigh(insn, len, cpu, ram, kept, state) {
+    match mem.weigh(insn, len, cpu) {
         Ok(()) => Ok(None),
-        Err(refusal) => gone(refuse(rules, cpu, ram, kept, state, refusal)),
+        Err(refusal) => gone(refuse(rules, cpu, mem, refusal)),
+    }
+}
+
+/// A step's memory, beside what the machine's step asks of it.
+trait NativeMemory: StepMemory {
+    /// Translates the ranges of an instruction and finds its effect, of which nothing is done. What refuses a range, or raises
+    /// or stops in its place, is the refusal.
+    fn weigh(&mut self, insn: &Insn, len: u8, cpu: &Cpu) -> Result<(), Refusal>
+        requires spelled { (bytes : List ℕ) × Spells bytes insn.now }
+        requires native { is_native (cpu.now.cpl == 3) insn.now.op ≡ true }
+        requires pages { (Self.space self.old).pages ≤ 8 }
+        ensures uses { IfOk result (λ _. Uses (cpu.now.cpl == 3) (Self.space self.old) (Self.space self.new)) }
+        ensures refused { IfErr result (λ refusal. AtRefusal (cpu.now.cpl == 3) (Self.space self.old) refusal (Self.space self.new)) }
+        ensures prepared { Gives result (Self.space self.new) (prepared insn.now len cpu.now (Self.space self.old)) }
+        ensures pages { (Self.space self.new).pages ≤ (Self.space self.old).pages + 4 }
+        ensures frame { Self.frame self.new ≡ Self.frame self.old };
+}
+
+impl<'a, 'k, 'g, B: Translations> NativeMemory for Memory<'a, 'k, 'g, B> {
+    fn weigh(&mut self, insn: &Insn, len: u8, cpu: &Cpu) -> Result<(), Refusal> {
+        weigh(insn, len, cpu, self.ram, self.kept, self.state)
     }
 }
 

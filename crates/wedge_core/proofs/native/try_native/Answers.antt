@@ -1,84 +1,19 @@
-use Rattle.std.proofs.Common.{◌==◌, sym, ap, subst, ◌∙◌, arith}
-use Rattle.std.specs.Prelude.{IfOk, IfSome, Option, Result}
-use Rattle.ia32_types.specs.declared.stop.Stop.{Stop}
-use Rattle.step_mem.specs.Sound.{space}
-use Rattle.step_mem.specs.declared.guard.Guard.{Guard}
-use Rattle.step_mem.specs.declared.walking.Control.{Control}
-use Rattle.machine_model.specs.UsedPages.{Uses}
-use Rattle.machine_step.specs.Roots.{RootsAs}
-use Rattle.machine_step.specs.Worked.{IsDropped}
-use Rattle.machine_step.specs.declared.worked.Worked.{Worked}
-use Rattle.machine_step.proofs.Used.{if_ok_on}
-use Rattle.wedge_core.specs.Tries.{TriesAs}
-use Rattle.wedge_core.proofs.Trying.{hidden_on, if_gone, of_gone, tried_refused, tried_prepared, tried_other}
+use Rattle.std.proofs.Common.{◌≡◌, ap, rules}
 use Rattle.wedge_core.proofs.native.try_native.Goals as goal
 
-pub refuse-requires : goal.refuse-requires
-refuse-requires g c = record { sound = c.fetch.ensures.sound; pages = (let p = c.fetch.ensures.pages in let q = c.requires.pages in omega (arith, p, q)) }
+-- the parts are as the value left them
+pub returns-clause-tries : goal.returns-clause-tries
+returns-clause-tries g c =
+    let n = c.try_over.new.mem in
+    let kept : n.kept.now ≡ c.args.kept.now = ap (λ f. f.2) c.try_over.ensures.frame in
+    let ram : n.ram.now ≡ c.ram-1.given.0 = search rules in
+    let state : n.state.now ≡ c.state-1.given.0 = search rules in
+    rw (kept, ram, state) at c.try_over.ensures.tries
 
-pub prepare-requires : goal.prepare-requires
-prepare-requires g c = record { spelled = (rw c.in-Ok-Insn.field-0-is at c.in-Ok-Insn.ensures.spelled); native = sym c.is_native.ensures ∙ c.if-is_native.true; able = c.requires.able; sound = c.fetch.ensures.sound; pages = (let p = c.fetch.ensures.pages in let q = c.requires.pages in omega (arith, p, q)) }
-
-pub carry_out-requires : goal.carry_out-requires
-carry_out-requires g c = record { spelled = (rw c.in-Ok-Insn.field-0-is at c.in-Ok-Insn.ensures.spelled); sound = c.fetch.ensures.sound; pages = (let p = c.fetch.ensures.pages in let q = c.requires.pages in omega (arith, p, q)) }
-
-pub returns-in-Err : goal.returns-in-Err
-returns-in-Err g c =
-    let start = space g.B.Translations c.args.kept.now c.args.ram.now c.args.state.now in
-    let after_fetch = space g.B.Translations c.args.kept.now c.fetch.new.ram c.fetch.new.state in
-    let after = space g.B.Translations c.args.kept.now c.refuse.new.ram c.refuse.new.state in
-    let is = sym c.gone.ensures in
-    record {
-      sound = c.refuse.ensures.sound;
-      uses = subst (λ (r : Result (Option Worked) Stop). IfOk r (λ _. Uses (c.args.cpu.now.cpl == 3) start after)) is (if_gone (Uses (c.args.cpu.now.cpl == 3) start after) c.refuse.result (c.refuse.ensures.goes_on start c.in-Err.ensures.refused));
-      tries = λ m b k. let here = record b { cpu = c.args.cpu.now; board = c.args.board.now } in
-          subst (λ (r : Result (Option Worked) Stop). TriesAs m here start r c.args.board.now after) is (tried_refused m here start c.in-Err.refusal after_fetch c.refuse.result c.args.board.now after c.in-Err.ensures.fetched (c.refuse.ensures.step m here k));
-      dropped = subst (λ (r : Result (Option Worked) Stop). IfOk r (λ o. IfSome o (λ w. IsDropped w.dropped))) is (of_gone (λ (w : Worked). IsDropped w.dropped) c.refuse.result c.refuse.ensures.dropped);
-      roots = subst (λ (r : Result (Option Worked) Stop). IfOk r (λ o. IfSome o (λ w. RootsAs c.args.cpu.now w))) is (of_gone (λ (w : Worked). RootsAs c.args.cpu.now w) c.refuse.result c.refuse.ensures.roots);
-      stays = (
-        c.refuse.ensures.control ∙ c.fetch.ensures.control,
-        ap (λ (k : Guard). k.text) c.refuse.ensures.guard ∙ c.fetch.ensures.text,
-        hidden_on c.args.state.now.guard.text.now c.fetch.new.state.guard.text.now c.args.state.now.control.frames c.fetch.new.state.control.frames c.args.ram.now c.fetch.new.ram c.refuse.new.ram
-            (ap (λ (t : _). t.now) c.fetch.ensures.text) (ap (λ (k : Control). k.frames) c.fetch.ensures.control) c.fetch.ensures.hidden c.refuse.ensures.hidden,
-      );
-    }
-
-pub returns-then-is_native : goal.returns-then-is_native
-returns-then-is_native g c =
-    let start = space g.B.Translations c.args.kept.now c.args.ram.now c.args.state.now in
-    let after_fetch = space g.B.Translations c.args.kept.now c.fetch.new.ram c.fetch.new.state in
-    let after = space g.B.Translations c.args.kept.now c.prepare.new.ram c.prepare.new.state in
-    record {
-      sound = c.prepare.ensures.sound;
-      uses = if_ok_on (c.args.cpu.now.cpl == 3) start after_fetch after c.prepare.result c.in-Ok-Insn.ensures.uses c.prepare.ensures.uses;
-      tries = λ m b k. let here = record b { cpu = c.args.cpu.now; board = c.args.board.now } in tried_prepared m here start c.in-Ok-Insn.insn c.in-Ok-Insn.len after_fetch (rw c.in-Ok-Insn.field-0-is at c.in-Ok-Insn.ensures.fetched) c.prepare.result after (sym c.is_native.ensures ∙ c.if-is_native.true) (c.prepare.ensures.prepares m here k);
-      dropped = c.prepare.ensures.dropped;
-      roots = c.prepare.ensures.roots;
-      stays = (
-        c.prepare.ensures.stays.0 ∙ c.fetch.ensures.control,
-        ap (λ (k : Guard). k.text) c.prepare.ensures.stays.1 ∙ c.fetch.ensures.text,
-        hidden_on c.args.state.now.guard.text.now c.fetch.new.state.guard.text.now c.args.state.now.control.frames c.fetch.new.state.control.frames c.args.ram.now c.fetch.new.ram c.prepare.new.ram
-            (ap (λ (t : _). t.now) c.fetch.ensures.text) (ap (λ (k : Control). k.frames) c.fetch.ensures.control) c.fetch.ensures.hidden c.prepare.ensures.stays.2,
-      );
-    }
-
-pub returns-else-is_native : goal.returns-else-is_native
-returns-else-is_native g c =
-    let start = space g.B.Translations c.args.kept.now c.args.ram.now c.args.state.now in
-    let after_fetch = space g.B.Translations c.args.kept.now c.fetch.new.ram c.fetch.new.state in
-    let after = space g.B.Translations c.args.kept.now c.carry_out.new.ram c.carry_out.new.state in
-    let is = sym c.gone-else-is_native.ensures in
-    record {
-      sound = c.carry_out.ensures.sound;
-      uses = subst (λ (r : Result (Option Worked) Stop). IfOk r (λ _. Uses (c.args.cpu.now.cpl == 3) start after)) is (if_gone (Uses (c.args.cpu.now.cpl == 3) start after) c.carry_out.result (if_ok_on (c.args.cpu.now.cpl == 3) start after_fetch after c.carry_out.result c.in-Ok-Insn.ensures.uses c.carry_out.ensures.uses));
-      tries = λ m b k. let here = record b { cpu = c.args.cpu.now; board = c.args.board.now } in
-          subst (λ (r : Result (Option Worked) Stop). TriesAs m here start r c.carry_out.new.board after) is (tried_other m here start c.in-Ok-Insn.insn c.in-Ok-Insn.len after_fetch (rw c.in-Ok-Insn.field-0-is at c.in-Ok-Insn.ensures.fetched) c.carry_out.result c.carry_out.new.board after (sym c.is_native.ensures ∙ c.if-is_native.false) (c.carry_out.ensures.step m here k));
-      dropped = subst (λ (r : Result (Option Worked) Stop). IfOk r (λ o. IfSome o (λ w. IsDropped w.dropped))) is (of_gone (λ (w : Worked). IsDropped w.dropped) c.carry_out.result c.carry_out.ensures.dropped);
-      roots = subst (λ (r : Result (Option Worked) Stop). IfOk r (λ o. IfSome o (λ w. RootsAs c.args.cpu.now w))) is (of_gone (λ (w : Worked). RootsAs c.args.cpu.now w) c.carry_out.result c.carry_out.ensures.roots);
-      stays = (
-        c.carry_out.ensures.control ∙ c.fetch.ensures.control,
-        ap (λ (k : Guard). k.text) c.carry_out.ensures.guard ∙ c.fetch.ensures.text,
-        hidden_on c.args.state.now.guard.text.now c.fetch.new.state.guard.text.now c.args.state.now.control.frames c.fetch.new.state.control.frames c.args.ram.now c.fetch.new.ram c.carry_out.new.ram
-            (ap (λ (t : _). t.now) c.fetch.ensures.text) (ap (λ (k : Control). k.frames) c.fetch.ensures.control) c.fetch.ensures.hidden c.carry_out.ensures.hidden,
-      );
-    }
+pub returns-clause-uses : goal.returns-clause-uses
+returns-clause-uses g c =
+    let n = c.try_over.new.mem in
+    let kept : n.kept.now ≡ c.args.kept.now = ap (λ f. f.2) c.try_over.ensures.frame in
+    let ram : n.ram.now ≡ c.ram-1.given.0 = search rules in
+    let state : n.state.now ≡ c.state-1.given.0 = search rules in
+    rw (kept, ram, state) at c.try_over.ensures.uses
