@@ -12,7 +12,6 @@ ghost use Rattle.machine_step.specs.Roots.{RootsAs, EndsWith};
 ghost use Rattle.machine_step.specs.Ruled.{IsRuled};
 ghost use Rattle.machine_step.specs.Worked.{ComesTo, IsDropped, answer_of, completed_of, done_by};
 
-use crate::memory::StepMemory;
 use crate::rules::{Rules, entered};
 use crate::worked::{Completed, Seen, Worked};
 use board::Board;
@@ -21,6 +20,7 @@ use event_entry::{Kind, NotDelivered};
 use ia32_types::{Insn, Stop};
 use machine_model::works_use;
 use run_trace::What;
+use step_exec::StepMemory;
 use sys_exec::{Refusal, past};
 
 /// Acknowledges an external interrupt and delivers it.
@@ -34,8 +34,7 @@ pub fn deliver<M: StepMemory>(
 ) -> Result<(), Stop>
     requires pending { vector_of board.old ≡ Some vector }
     requires pages { (M.space mem.old).pages ≤ 48 }
-    ensures uses { OnOk result (UsesBy worked.old.cpu (M.space mem.old)
-        (M.space mem.new)) }
+    ensures uses { OnOk result (UsesBy worked.old.cpu (M.space mem.old) (M.space mem.new)) }
     ensures step { (m : Setting) (b : Whole) → IsRuled m rules.now → ComesTo
         (interrupted m (record b { cpu = worked.old.cpu; board = board.old }) vector (M.space mem.old))
         b (answer_of result worked.new) board.new (M.space mem.new) }
@@ -46,13 +45,7 @@ pub fn deliver<M: StepMemory>(
 {
     works_use();
     let _vector = board.acknowledge();
-    match event_entry::deliver(
-        &mut worked.cpu,
-        mem,
-        vector,
-        Kind::External,
-        None,
-    ) {
+    match event_entry::deliver(&mut worked.cpu, mem, vector, Kind::External, None) {
         Ok(()) => entered(rules, Seen::One(What::Irq(vector)), None, worked),
         Err(refused) => Err(stop_of(refused)),
     }
@@ -70,12 +63,10 @@ pub fn enter<M: StepMemory>(
 ) -> Result<(), Stop>
     requires pages { (M.space mem.old).pages ≤ 32 }
     requires no_load { is_load (Some (completed_of (done_by insn.now before.now))) ≡ false }
-    ensures uses { OnOk result (UsesBy before.now (M.space mem.old)
-        (M.space mem.new)) }
+    ensures uses { OnOk result (UsesBy before.now (M.space mem.old) (M.space mem.new)) }
     ensures step { (m : Setting) (b : Whole) → IsRuled m rules.now → ComesTo
         (interrupts_by m (record b { cpu = before.now }) (completed_of (done_by insn.now before.now)) len vector
-        (M.space mem.old))
-        b (answer_of result worked.new) b.board (M.space mem.new) }
+        (M.space mem.old)) b (answer_of result worked.new) b.board (M.space mem.new) }
     ensures dropped { IfOk (answer_of result worked.new) (λ w. IsDropped w.dropped) }
     ensures roots { IfOk (answer_of result worked.new) (RootsAs before.now) }
     ensures frame { M.frame mem.new ≡ M.frame mem.old }
@@ -89,13 +80,7 @@ pub fn enter<M: StepMemory>(
         }
         Err(NotDelivered::Privilege) => {
             worked.cpu = *before;
-            raise(
-                rules,
-                worked,
-                mem,
-                13,
-                8 * u32::from(vector) + 2,
-            )
+            raise(rules, worked, mem, 13, 8 * u32::from(vector) + 2)
         }
         Err(NotDelivered::Stop(stop)) => Err(stop),
     }
@@ -109,8 +94,7 @@ pub fn refuse<M: StepMemory>(
     refusal: Refusal,
 ) -> Result<Worked, Stop>
     requires pages { (M.space mem.old).pages ≤ 48 }
-    ensures uses { OnOk result (UsesBy cpu.now (M.space mem.old)
-        (M.space mem.new)) }
+    ensures uses { OnOk result (UsesBy cpu.now (M.space mem.old) (M.space mem.new)) }
     ensures goes_on { (s : Space) → AtRefusal (cpu.now.cpl == 3) s refusal (M.space mem.old)
         → OnOk result (UsesBy cpu.now s (M.space mem.new)) }
     ensures step { (m : Setting) (b : Whole) → IsRuled m rules.now → ComesTo
@@ -135,8 +119,7 @@ pub fn refuse_at<M: StepMemory>(
     refusal: Refusal,
 ) -> Result<(), Stop>
     requires pages { (M.space mem.old).pages ≤ 48 }
-    ensures uses { OnOk result (UsesBy worked.old.cpu (M.space mem.old)
-        (M.space mem.new)) }
+    ensures uses { OnOk result (UsesBy worked.old.cpu (M.space mem.old) (M.space mem.new)) }
     ensures goes_on { (s : Space) → AtRefusal (worked.old.cpu.cpl == 3) s refusal (M.space mem.old)
         → OnOk result (UsesBy worked.old.cpu s (M.space mem.new)) }
     ensures step { (m : Setting) (b : Whole) → IsRuled m rules.now → ComesTo
@@ -165,8 +148,7 @@ pub fn raise<M: StepMemory>(
     code: u32,
 ) -> Result<(), Stop>
     requires pages { (M.space mem.old).pages ≤ 48 }
-    ensures uses { (user : Bool) → OnOk result (Uses user
-        (M.space mem.old) (M.space mem.new)) }
+    ensures uses { (user : Bool) → OnOk result (Uses user (M.space mem.old) (M.space mem.new)) }
     ensures step { (m : Setting) (b : Whole) → IsRuled m rules.now → ComesTo
         (raised m b worked.old.cpu vector code (M.space mem.old))
         b (answer_of result worked.new) b.board (M.space mem.new) }

@@ -8,20 +8,15 @@ ghost use Rattle.machine_model.specs.Instruction.{is_plain, instructed, done_pla
 ghost use Rattle.step_exec.specs.Plain.{executed};
 ghost use Rattle.paging.specs.Space.{Space};
 
-use crate::memory::StepMemory;
 use descriptors::Cpu;
 use ia32_types::{Insn, Op, sensitive};
+use step_exec::{StepMemory, plain};
 use sys_exec::{Refusal, SysEffect, sys};
 
 /// Does an instruction that some bytes spell, and answers with its effect. Where it raises or stops, only CR2 may have
 /// changed of the processor.
 #[tactic(auto, unfolding(machine_model::specs::Instruction::instructed))]
-pub fn execute<M: StepMemory>(
-    insn: &Insn,
-    len: u8,
-    cpu: &mut Cpu,
-    mem: &mut M,
-) -> SysEffect
+pub fn execute<M: StepMemory>(insn: &Insn, len: u8, cpu: &mut Cpu, mem: &mut M) -> SysEffect
     requires spelled { (bytes : List ℕ) × Spells bytes insn.now }
     requires room { (M.space mem.old).pages ≤ 32 }
     ensures told { told cpu.old (instructed insn.now len cpu.old (M.space mem.old))
@@ -37,12 +32,7 @@ pub fn execute<M: StepMemory>(
 }
 
 // An insensitive instruction.
-fn execute_plain<M: StepMemory>(
-    insn: &Insn,
-    len: u8,
-    cpu: &mut Cpu,
-    mem: &mut M,
-) -> SysEffect
+fn execute_plain<M: StepMemory>(insn: &Insn, len: u8, cpu: &mut Cpu, mem: &mut M) -> SysEffect
     requires spelled { (bytes : List ℕ) × Spells bytes insn.now }
     requires plain { is_plain insn.now.op ≡ true }
     requires room { (M.space mem.old).pages ≤ 32 }
@@ -52,7 +42,7 @@ fn execute_plain<M: StepMemory>(
     ensures frame { M.frame mem.new ≡ M.frame mem.old }
     ensures asked { IsAsked result }
 {
-    match mem.plain(insn, len, cpu) {
+    match plain(insn, len, cpu, mem) {
         Ok(()) => SysEffect::Next,
         Err(refusal) => refused(cpu, refusal),
     }

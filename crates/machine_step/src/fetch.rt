@@ -11,28 +11,21 @@ ghost use Rattle.machine_model.specs.Instruction.{fetching, fetched_on, fetched,
 ghost use Rattle.machine_model.specs.UsedPages.{Uses, AtRefusal};
 ghost use Rattle.machine_step.specs.Fetches.{GivesAs};
 
-use crate::memory::StepMemory;
 use arrayvec::ArrayVec;
 use ia32_decode::{Bytes, Decoded, LONGEST, append, decode, decode_joined, front_len, next_page};
 use ia32_types::Stop;
 use machine_model::works_use;
 use paging::Touch;
+use step_exec::StepMemory;
 use sys_exec::Refusal;
 
 /// The instruction at a linear address. Where the bytes of the first page are a proper prefix of a spelling, the
 /// second page is reached too.
-pub fn fetch<M: StepMemory>(
-    mem: &mut M,
-    user: bool,
-    at: u32,
-) -> Result<Decoded, Refusal>
+pub fn fetch<M: StepMemory>(mem: &mut M, user: bool, at: u32) -> Result<Decoded, Refusal>
     requires room { (M.space mem.old).pages ≤ 62 }
-    ensures uses { OnOk result (Uses user (M.space mem.old)
-        (M.space mem.new)) }
-    ensures refused { IfErr result (λ refusal. AtRefusal user (M.space mem.old) refusal
-        (M.space mem.new)) }
-    ensures fetched { Gives result (M.space mem.new)
-        (fetched user at (M.space mem.old)) }
+    ensures uses { OnOk result (Uses user (M.space mem.old) (M.space mem.new)) }
+    ensures refused { IfErr result (λ refusal. AtRefusal user (M.space mem.old) refusal (M.space mem.new)) }
+    ensures fetched { Gives result (M.space mem.new) (fetched user at (M.space mem.old)) }
     ensures spelled { IfOk result IsSpelled }
     ensures pages { (M.space mem.new).pages ≤ (M.space mem.old).pages + 2 }
     ensures frame { M.frame mem.new ≡ M.frame mem.old }
@@ -43,14 +36,9 @@ pub fn fetch<M: StepMemory>(
 
 // From the first page, or both.
 #[tactic(auto, unfolding(machine_model::specs::Instruction::fetched, machine_model::specs::Instruction::owning_front))]
-fn fetch_pages<M: StepMemory>(
-    mem: &mut M,
-    user: bool,
-    at: u32,
-) -> Result<Decoded, Refusal>
+fn fetch_pages<M: StepMemory>(mem: &mut M, user: bool, at: u32) -> Result<Decoded, Refusal>
     requires room { (M.space mem.old).pages ≤ 62 }
-    ensures fetched { Gives result (M.space mem.new)
-        (fetched user at (M.space mem.old)) }
+    ensures fetched { Gives result (M.space mem.new) (fetched user at (M.space mem.old)) }
     ensures spelled { IfOk result IsSpelled }
     ensures pages { (M.space mem.new).pages ≤ (M.space mem.old).pages + 2 }
     ensures frame { M.frame mem.new ≡ M.frame mem.old }
@@ -71,12 +59,7 @@ fn fetch_pages<M: StepMemory>(
 }
 
 // With bytes of the second page too, behind those that the first page has now.
-fn fetch_on<M: StepMemory>(
-    mem: &mut M,
-    user: bool,
-    at: u32,
-    next: u32,
-) -> Result<Decoded, Refusal>
+fn fetch_on<M: StepMemory>(mem: &mut M, user: bool, at: u32, next: u32) -> Result<Decoded, Refusal>
     requires room { (M.space mem.old).pages ≤ 63 }
     requires found { HasEntry (M.space mem.old).set at }
     requires next { next ≡ next_page at }
@@ -105,12 +88,7 @@ fn fetch_on<M: StepMemory>(
 }
 
 // Translates the page of a fetch.
-fn fetch_page<M: StepMemory>(
-    mem: &mut M,
-    user: bool,
-    at: u32,
-    len: u32,
-) -> Result<(), Refusal>
+fn fetch_page<M: StepMemory>(mem: &mut M, user: bool, at: u32, len: u32) -> Result<(), Refusal>
     requires room { (M.space mem.old).pages ≤ 63 }
     requires some { 0 < len }
     requires one { at % 4096 + len ≤ 4096 }
@@ -128,11 +106,7 @@ fn fetch_page<M: StepMemory>(
 }
 
 // What the bytes of a page begin with, from an address on.
-fn decode_page<M: StepMemory>(
-    mem: &M,
-    at: u32,
-    len: u32,
-) -> Decoded
+fn decode_page<M: StepMemory>(mem: &M, at: u32, len: u32) -> Decoded
     requires found { HasEntry (M.space mem.now).set at }
     requires few { len ≤ 11 }
     requires one { at % 4096 + len ≤ 4096 }
@@ -159,12 +133,7 @@ fn decode_pieces(front: &[u8], back: &[u8]) -> Decoded
 }
 
 // Puts the bytes of a page, from an address on, behind others.
-fn read_page<M: StepMemory>(
-    mem: &M,
-    at: u32,
-    len: u32,
-    to: &mut Bytes,
-)
+fn read_page<M: StepMemory>(mem: &M, at: u32, len: u32, to: &mut Bytes)
     requires found { HasEntry (M.space mem.now).set at }
     requires one { at % 4096 + len ≤ 4096 }
     requires room { length to.old.items + len ≤ 32 }

@@ -15,7 +15,6 @@ ghost use Rattle.machine_step.specs.Worked.{ComesTo, IsDropped, answer_of, compl
 
 use crate::delivery::{enter, raise};
 use crate::execute::execute;
-use crate::memory::StepMemory;
 use crate::ports::{read, write};
 use crate::rules::{Rules, ended};
 use crate::worked::{Dropped, Seen, Worked};
@@ -24,6 +23,7 @@ use descriptors::Cpu;
 use ia32_decode::Decoded;
 use ia32_types::{Insn, Op, Stop};
 use machine_model::works_use;
+use step_exec::StepMemory;
 use sys_exec::SysEffect;
 
 /// Does the instruction that was fetched, by this processor. INT and INT3 are deliveries.
@@ -37,12 +37,10 @@ pub fn carry_out<M: StepMemory>(
 ) -> Result<Worked, Stop>
     requires spelled { (bytes : List ℕ) × Spells bytes insn.now }
     requires pages { (M.space mem.old).pages ≤ 8 }
-    ensures uses { OnOk result (UsesBy cpu.now (M.space mem.old)
-        (M.space mem.new)) }
+    ensures uses { OnOk result (UsesBy cpu.now (M.space mem.old) (M.space mem.new)) }
     ensures step { (m : Setting) (b : Whole) → IsRuled m rules.now → ComesTo
         (by_decoded m (record b { cpu = cpu.now; board = board.old }) (Decoded.Insn insn.now len)
-        (M.space mem.old))
-        b result board.new (M.space mem.new) }
+        (M.space mem.old)) b result board.new (M.space mem.new) }
     ensures stopped { OnErr result (board.new ≡ board.old) }
     ensures dropped { IfOk result (λ w. IsDropped w.dropped) }
     ensures roots { IfOk result (RootsAs cpu.now) }
@@ -66,12 +64,10 @@ pub fn carry_out_at<M: StepMemory>(
 ) -> Result<(), Stop>
     requires spelled { (bytes : List ℕ) × Spells bytes insn.now }
     requires pages { (M.space mem.old).pages ≤ 8 }
-    ensures uses { OnOk result (UsesBy worked.old.cpu (M.space mem.old)
-        (M.space mem.new)) }
+    ensures uses { OnOk result (UsesBy worked.old.cpu (M.space mem.old) (M.space mem.new)) }
     ensures step { (m : Setting) (b : Whole) → IsRuled m rules.now → ComesTo
         (by_decoded m (record b { cpu = worked.old.cpu; board = board.old }) (Decoded.Insn insn.now len)
-        (M.space mem.old))
-        b (answer_of result worked.new) board.new (M.space mem.new) }
+        (M.space mem.old)) b (answer_of result worked.new) board.new (M.space mem.new) }
     ensures stopped { OnErr result (board.new ≡ board.old) }
     ensures dropped { IfOk (answer_of result worked.new) (λ w. IsDropped w.dropped) }
     ensures roots { IfOk (answer_of result worked.new) (RootsAs worked.old.cpu) }
@@ -101,8 +97,7 @@ fn perform<M: StepMemory>(
     requires spelled { (bytes : List ℕ) × Spells bytes insn.now }
     requires pages { (M.space mem.old).pages ≤ 8 }
     requires same { worked.old.cpu ≡ before.now }
-    ensures uses { OnOk result (UsesBy before.now (M.space mem.old)
-        (M.space mem.new)) }
+    ensures uses { OnOk result (UsesBy before.now (M.space mem.old) (M.space mem.new)) }
     ensures step { (m : Setting) (b : Whole) → IsRuled m rules.now → ComesTo
         (after_instruction m (record b { cpu = before.now; board = board.old }) (completed_of (done_by insn.now before.now))
         (instructed insn.now len before.now (M.space mem.old)))

@@ -18,7 +18,6 @@ ghost use Rattle.machine_step.specs.Worked.{ComesTo, IsDropped, answer_of};
 use crate::delivery::{deliver, refuse_at};
 use crate::fetch::fetch;
 use crate::instruction::carry_out_at;
-use crate::memory::{Memory, StepMemory};
 use crate::rules::{Rules, stands_well};
 use crate::worked::{Dropped, Seen, Worked};
 use board::Board;
@@ -26,6 +25,7 @@ use descriptors::Cpu;
 use guest_ram::Ram;
 use ia32_decode::Decoded;
 use ia32_types::Stop;
+use step_exec::{Memory, StepMemory};
 use step_mem::{Control, Guard, Own, StepState, Text, Translations};
 
 /// One step, or the stop that it meets. Its state, with what it changed of the translations, takes the place of an earlier
@@ -193,8 +193,7 @@ fn step_over<M: StepMemory>(
     mem: &mut M,
 ) -> Result<(), Stop>
     requires pages { (M.space mem.old).pages ≡ 0 }
-    ensures uses { OnOk result (UsesBy worked.old.cpu (M.space mem.old)
-        (M.space mem.new)) }
+    ensures uses { OnOk result (UsesBy worked.old.cpu (M.space mem.old) (M.space mem.new)) }
     ensures step { (m : Setting) (b : Whole) → IsRuled m rules.now → ComesTo
         (stepped_in m (record b { cpu = worked.old.cpu; board = board.old }) (M.space mem.old))
         b (answer_of result worked.new) board.new (M.space mem.new) }
@@ -232,8 +231,7 @@ fn work<M: StepMemory>(
     mem: &mut M,
 ) -> Result<(), Stop>
     requires pages { (M.space mem.old).pages ≡ 0 }
-    ensures uses { OnOk result (UsesBy worked.old.cpu (M.space mem.old)
-        (M.space mem.new)) }
+    ensures uses { OnOk result (UsesBy worked.old.cpu (M.space mem.old) (M.space mem.new)) }
     ensures step { (m : Setting) (b : Whole) → IsRuled m rules.now → ComesTo
         (steps.worked m (record b { cpu = worked.old.cpu; board = board.old }) (M.space mem.old))
         b (answer_of result worked.new) board.new (M.space mem.new) }
@@ -254,9 +252,7 @@ fn work<M: StepMemory>(
     }
     let user = worked.cpu.cpl == 3;
     match fetch(mem, user, worked.cpu.regs.eip) {
-        Ok(Decoded::Insn(insn, len)) => {
-            carry_out_at(rules, &insn, len, worked, board, mem)
-        }
+        Ok(Decoded::Insn(insn, len)) => { carry_out_at(rules, &insn, len, worked, board, mem) }
         Ok(_) => Err(Stop::Unsupported),
         Err(refusal) => refuse_at(rules, worked, mem, refusal),
     }

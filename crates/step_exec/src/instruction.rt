@@ -21,17 +21,11 @@ use sys_exec::Refusal;
 
 /// Does an insensitive instruction. Both its ranges are tested for null segments before one is translated, and both
 /// are translated before a byte is read or written. Where it is not done the processor is as before.
-pub fn plain<M: StepMemory>(
-    insn: &Insn,
-    len: u8,
-    cpu: &mut Cpu,
-    mem: &mut M,
-) -> Result<(), Refusal>
+pub fn plain<M: StepMemory>(insn: &Insn, len: u8, cpu: &mut Cpu, mem: &mut M) -> Result<(), Refusal>
     requires kind { IsDone insn.now.op }
     requires shape { IsShaped insn.now }
     requires room { (M.space mem.old).pages ≤ 60 }
-    ensures does { Leaves result cpu.new (M.space mem.new)
-        (executed insn.now len cpu.old (M.space mem.old)) }
+    ensures does { Leaves result cpu.new (M.space mem.new) (executed insn.now len cpu.old (M.space mem.old)) }
     ensures refused { OnErr result (cpu.new ≡ cpu.old) }
     ensures pages { (M.space mem.new).pages ≤ (M.space mem.old).pages + 4 }
     ensures frame { M.frame mem.new ≡ M.frame mem.old }
@@ -40,17 +34,11 @@ pub fn plain<M: StepMemory>(
 }
 
 #[tactic(auto, unfolding(crate::specs::Divided::divided))]
-fn in_parts<M: StepMemory>(
-    insn: &Insn,
-    len: u8,
-    cpu: &mut Cpu,
-    mem: &mut M,
-) -> Result<(), Refusal>
+fn in_parts<M: StepMemory>(insn: &Insn, len: u8, cpu: &mut Cpu, mem: &mut M) -> Result<(), Refusal>
     requires kind { IsDone insn.now.op }
     requires shape { IsShaped insn.now }
     requires room { (M.space mem.old).pages ≤ 60 }
-    ensures does { Leaves result cpu.new (M.space mem.new)
-        (divided insn.now len cpu.old (M.space mem.old)) }
+    ensures does { Leaves result cpu.new (M.space mem.new) (divided insn.now len cpu.old (M.space mem.old)) }
     ensures refused { OnErr result (cpu.new ≡ cpu.old) }
     ensures pages { (M.space mem.new).pages ≤ (M.space mem.old).pages + 4 }
     ensures frame { M.frame mem.new ≡ M.frame mem.old }
@@ -61,11 +49,7 @@ fn in_parts<M: StepMemory>(
 }
 
 /// Translates both ranges of an instruction, unless a null segment denies one, and does nothing else.
-pub fn reach_both<M: StepMemory>(
-    insn: &Insn,
-    cpu: &Cpu,
-    mem: &mut M,
-) -> Result<(), Refusal>
+pub fn reach_both<M: StepMemory>(insn: &Insn, cpu: &Cpu, mem: &mut M) -> Result<(), Refusal>
     requires shape { IsShaped insn.now }
     requires room { (M.space mem.old).pages ≤ 60 }
     ensures gives { Gives result (M.space mem.new)
@@ -80,15 +64,10 @@ pub fn reach_both<M: StepMemory>(
 
 /// Translates two ranges, unless a null segment denies one.
 #[tactic(auto, unfolding(crate::specs::Divided::both_reached))]
-fn reach_in<M: StepMemory>(
-    ranges: &Ranges,
-    cpu: &Cpu,
-    mem: &mut M,
-) -> Result<(), Refusal>
+fn reach_in<M: StepMemory>(ranges: &Ranges, cpu: &Cpu, mem: &mut M) -> Result<(), Refusal>
     requires short { IsShort ranges.now.read × IsShort ranges.now.write }
     requires room { (M.space mem.old).pages ≤ 60 }
-    ensures gives { Gives result (M.space mem.new)
-        (both_reached cpu.now ranges.now (M.space mem.old)) }
+    ensures gives { Gives result (M.space mem.new) (both_reached cpu.now ranges.now (M.space mem.old)) }
     ensures made { OnOk result (AreMade ranges.now (M.space mem.new)) }
     ensures pages { (M.space mem.new).pages ≤ (M.space mem.old).pages + 4 }
     ensures frame { M.frame mem.new ≡ M.frame mem.old }
@@ -116,8 +95,7 @@ fn complete_in<M: StepMemory>(
     requires kind { IsDone insn.now.op }
     requires shape { IsShaped insn.now }
     requires made { AreMade (ranges_of insn.now cpu.old.regs) (M.space mem.old) }
-    ensures does { Leaves result cpu.new (M.space mem.new)
-        (completed insn.now len cpu.old (M.space mem.old)) }
+    ensures does { Leaves result cpu.new (M.space mem.new) (completed insn.now len cpu.old (M.space mem.old)) }
     ensures refused { OnErr result (cpu.new ≡ cpu.old) }
     ensures pages { (M.space mem.new).pages ≡ (M.space mem.old).pages }
     ensures frame { M.frame mem.new ≡ M.frame mem.old }
@@ -133,13 +111,7 @@ fn complete_in<M: StepMemory>(
     }
 }
 
-fn outcome<M: StepMemory>(
-    ranges: &Ranges,
-    insn: &Insn,
-    len: u8,
-    cpu: &Cpu,
-    mem: &M,
-) -> Outcome
+fn outcome<M: StepMemory>(ranges: &Ranges, insn: &Insn, len: u8, cpu: &Cpu, mem: &M) -> Outcome
     requires ranges { ranges.now ≡ ranges_of insn.now cpu.now.regs }
     requires kind { IsDone insn.now.op }
     requires shape { IsShaped insn.now }

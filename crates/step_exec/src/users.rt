@@ -26,12 +26,7 @@ fn selectors_of(cpu: &Cpu) -> Selectors
 }
 
 /// The effect of an instruction whose ranges are both translated, as at level 3 and IOPL 0. Nothing is written.
-pub fn user_outcome<M: StepMemory>(
-    insn: &Insn,
-    len: u8,
-    cpu: &Cpu,
-    mem: &M,
-) -> Outcome
+pub fn user_outcome<M: StepMemory>(insn: &Insn, len: u8, cpu: &Cpu, mem: &M) -> Outcome
     requires kind { IsUserDone insn.now.op }
     requires shape { IsShaped insn.now }
     requires made { AreMade (ranges_of insn.now cpu.now.regs) (M.space mem.now) }

@@ -2,16 +2,16 @@
 
 use bare_mem::Cached;
 use descriptors::{Cpu, Hidden, Table, Task};
-use event_entry::{Kind, NotDelivered};
+use event_entry::{Kind, NotDelivered, deliver};
 use guest_ram::Ram;
 use ia32_decode::{Decoded, decode};
 use ia32_types::{Flags, Insn, Op, Operand, Regs, Size};
 use machine_step::{begin_again, first_state};
 use std::alloc::{AllocError, Global};
 use std::process::Abort;
-use step_exec::{deliver_in, sys_in};
+use step_exec::Memory;
 use step_mem::{Guard, Own, Text};
-use sys_exec::SysEffect;
+use sys_exec::{SysEffect, sys};
 use xlate_buffer::Buffer;
 
 /// Where the tables, the stacks and an operand lie. Each page is mapped to the frame of its number.
@@ -265,19 +265,20 @@ fn performed(cpu: &mut Cpu, ram: &mut Ram, what: &What) -> Answer {
     let frames = ram.len() / 4096;
     let mut state = first_state(&text);
     begin_again(cpu, ram, &kept, frames, guard, &mut state);
+    let mut mem = Memory {
+        ram,
+        kept: &kept,
+        state: &mut state,
+    };
     match what {
         What::Insn(bytes) => match decode(bytes) {
-            Decoded::Insn(insn, len) => {
-                Answer::Asks(sys_in(&insn, len, cpu, ram, &kept, &mut state))
-            }
+            Decoded::Insn(insn, len) => { Answer::Asks(sys(&insn, len, cpu, &mut mem)) }
             _ => Answer::NotRead,
         },
-        What::Event(kind, code) => {
-            Answer::Delivered(deliver_in(cpu, ram, &kept, &mut state, 0x21, *kind, *code))
-        }
+        What::Event(kind, code) => { Answer::Delivered(deliver(cpu, &mut mem, 0x21, *kind, *code)) }
         What::Back(kind) => {
-            match deliver_in(cpu, ram, &kept, &mut state, 0x21, *kind, None) {
-                Ok(()) => Answer::Asks(sys_in(&IRET, 1, cpu, ram, &kept, &mut state)),
+            match deliver(cpu, &mut mem, 0x21, *kind, None) {
+                Ok(()) => Answer::Asks(sys(&IRET, 1, cpu, &mut mem)),
                 refused => Answer::Delivered(refused),
             }
         }

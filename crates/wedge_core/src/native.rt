@@ -10,7 +10,7 @@ ghost use Rattle.shadow_tables.specs.Entries.{entries_of};
 ghost use Rattle.ia32_rows.specs.Spells.{Spells};
 ghost use Rattle.image_check.specs.Image.{Image};
 ghost use Rattle.paging.specs.Gives.{Gives};
-ghost use Rattle.step_mem.specs.Sound.{FetchesIn, IsSoundOver, StaysIn, space};
+ghost use Rattle.step_mem.specs.Sound.{FetchesIn, IsSoundOver, space};
 ghost use Rattle.machine_model.specs.Alone.{is_native};
 ghost use Rattle.machine_model.specs.State.{Setting, State as Whole};
 ghost use Rattle.machine_model.specs.UsedPages.{AtRefusal, Uses};
@@ -39,10 +39,10 @@ use ia32_exec::Outcome;
 use ia32_types::{Insn, Op, Stop, sensitive};
 use image_check::Checked;
 use machine_model::works_use;
-use machine_step::{Memory, Rules, Seen, StepMemory, Worked, carry_out, fetch_at, refuse};
+use machine_step::{Rules, Seen, Worked, carry_out, fetch_at, refuse};
 use shadow_cache::Reloads;
 use shadow_tables::Shadows;
-use step_exec::{reach_both, user_outcome};
+use step_exec::{Memory, StepMemory, reach_both, user_outcome};
 use step_mem::{StepState, Text, Translations};
 use sys_exec::Refusal;
 use wedge_mem::Lent;
@@ -270,7 +270,7 @@ fn try_native<B: Translations>(
     try_over(rules, cpu, board, &mut Memory { ram, kept, state })
 }
 
-fn try_over<M: NativeMemory>(
+fn try_over<M: StepMemory>(
     rules: &Rules,
     cpu: &Cpu,
     board: &mut Board,
@@ -309,7 +309,7 @@ fn gone(worked: Result<Worked, Stop>) -> Result<Option<Worked>, Stop>
 }
 
 /// Prepares an instruction that was fetched for the host. Where it raises or stops, the step goes on so.
-fn prepare<M: NativeMemory>(
+fn prepare<M: StepMemory>(
     rules: &Rules,
     insn: &Insn,
     len: u8,
@@ -327,61 +327,31 @@ fn prepare<M: NativeMemory>(
     ensures roots { IfOk result (λ o. IfSome o (λ w. RootsAs cpu.now w)) }
     ensures frame { M.frame mem.new ≡ M.frame mem.old }
 {
-    match mem.weigh(insn, len, cpu) {
+    match weigh(insn, len, cpu, mem) {
         Ok(()) => Ok(None),
         Err(refusal) => gone(refuse(rules, cpu, mem, refusal)),
-    }
-}
-
-/// A step's memory, beside what the machine's step asks of it.
-trait NativeMemory: StepMemory {
-    /// Translates the ranges of an instruction and finds its effect, of which nothing is done. What refuses a range, or raises
-    /// or stops in its place, is the refusal.
-    fn weigh(&mut self, insn: &Insn, len: u8, cpu: &Cpu) -> Result<(), Refusal>
-        requires spelled { (bytes : List ℕ) × Spells bytes insn.now }
-        requires native { is_native (cpu.now.cpl == 3) insn.now.op ≡ true }
-        requires pages { (Self.space self.old).pages ≤ 8 }
-        ensures uses { IfOk result (λ _. Uses (cpu.now.cpl == 3) (Self.space self.old) (Self.space self.new)) }
-        ensures refused { IfErr result (λ refusal. AtRefusal (cpu.now.cpl == 3) (Self.space self.old) refusal (Self.space self.new)) }
-        ensures prepared { Gives result (Self.space self.new) (prepared insn.now len cpu.now (Self.space self.old)) }
-        ensures pages { (Self.space self.new).pages ≤ (Self.space self.old).pages + 4 }
-        ensures frame { Self.frame self.new ≡ Self.frame self.old };
-}
-
-impl<'a, 'k, 'g, B: Translations> NativeMemory for Memory<'a, 'k, 'g, B> {
-    fn weigh(&mut self, insn: &Insn, len: u8, cpu: &Cpu) -> Result<(), Refusal> {
-        weigh(insn, len, cpu, self.ram, self.kept, self.state)
     }
 }
 
 /// Translates the ranges of an instruction and finds its effect, of which nothing is done. What refuses a range, or raises
 /// or stops in its place, is the refusal.
 #[tactic(auto, unfolding(crate::specs::Prepared::prepared))]
-fn weigh<B: Translations>(
-    insn: &Insn,
-    len: u8,
-    cpu: &Cpu,
-    ram: &mut Ram,
-    kept: &B,
-    state: &mut StepState,
-) -> Result<(), Refusal>
+fn weigh<M: StepMemory>(insn: &Insn, len: u8, cpu: &Cpu, mem: &mut M) -> Result<(), Refusal>
     requires spelled { (bytes : List ℕ) × Spells bytes insn.now }
     requires native { is_native (cpu.now.cpl == 3) insn.now.op ≡ true }
-    requires sound { IsSoundOver B.Translations kept.now ram.old state.old }
-    requires pages { state.old.pages ≤ 8 }
-    ensures sound { IsSoundOver B.Translations kept.now ram.new state.new }
-    ensures uses { IfOk result (λ _. Uses (cpu.now.cpl == 3) (space B.Translations kept.now ram.old state.old)
-        (space B.Translations kept.now ram.new state.new)) }
-    ensures refused { IfErr result (λ refusal. AtRefusal (cpu.now.cpl == 3) (space B.Translations kept.now ram.old state.old) refusal
-        (space B.Translations kept.now ram.new state.new)) }
-    ensures prepared { Gives result (space B.Translations kept.now ram.new state.new)
-        (prepared insn.now len cpu.now (space B.Translations kept.now ram.old state.old)) }
-    ensures pages { state.new.pages ≤ state.old.pages + 4 }
-    ensures stays { StaysIn state.old state.new ram.old ram.new }
+    requires pages { (M.space mem.old).pages ≤ 8 }
+    ensures uses { IfOk result (λ _. Uses (cpu.now.cpl == 3) (M.space mem.old)
+        (M.space mem.new)) }
+    ensures refused { IfErr result (λ refusal. AtRefusal (cpu.now.cpl == 3) (M.space mem.old) refusal
+        (M.space mem.new)) }
+    ensures prepared { Gives result (M.space mem.new)
+        (prepared insn.now len cpu.now (M.space mem.old)) }
+    ensures pages { (M.space mem.new).pages ≤ (M.space mem.old).pages + 4 }
+    ensures frame { M.frame mem.new ≡ M.frame mem.old }
 {
     works_use();
-    reach_both(insn, cpu, ram, kept, state)?;
-    match user_outcome(insn, len, cpu, ram, kept, state) {
+    reach_both(insn, cpu, mem)?;
+    match user_outcome(insn, len, cpu, mem) {
         Outcome::Done(_, _) => Ok(()),
         Outcome::Raise(vector, code) => Err(Refusal::Raise { vector, code }),
         Outcome::Stop(stop) => Err(Refusal::Stop(stop)),

@@ -21,7 +21,7 @@ returns-in-Ok g c = record {
 pub returns-in-Err : goal.returns-in-Err
 returns-in-Err g c =
     let before = g.M.GuestMem.space c.args.mem.now in
-    let refused = g.M.GuestMem.space c.weigh.new.self in
+    let refused = g.M.GuestMem.space c.weigh.new.mem in
     let after = g.M.GuestMem.space c.refuse.new.mem in
     let is = sym c.gone.ensures in
     record {

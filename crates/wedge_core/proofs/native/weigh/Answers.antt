@@ -50,14 +50,8 @@ returns-in-Raise-clause-prepared g c = reached c.args.insn.now c.args.len c.args
 pub returns-in-Stop-clause-prepared : goal.returns-in-Stop-clause-prepared
 returns-in-Stop-clause-prepared g c = reached c.args.insn.now c.args.len c.args.cpu.now _ _ _ _ c.in_ok-reach_both.ensures.gives (sym c.in-Stop.is ∙ c.user_outcome.ensures)
 
-pub reach_both-requires-clause-sound : goal.reach_both-requires-clause-sound
-reach_both-requires-clause-sound g c = c.requires.sound
-
 pub user_outcome-requires-clause-made : goal.user_outcome-requires-clause-made
 user_outcome-requires-clause-made g c = c.in_ok-reach_both.ensures.made
-
-pub user_outcome-requires-clause-sound : goal.user_outcome-requires-clause-sound
-user_outcome-requires-clause-sound g c = c.in_ok-reach_both.ensures.sound
 
 pub returns-in-Stop-clause-refused : goal.returns-in-Stop-clause-refused
 returns-in-Stop-clause-refused g c = tt
@@ -71,40 +65,28 @@ returns-in-Raise-clause-uses g c = tt
 pub returns-in-Stop-clause-uses : goal.returns-in-Stop-clause-uses
 returns-in-Stop-clause-uses g c = tt
 
-pub returns-in-Done-clause-sound : goal.returns-in-Done-clause-sound
-returns-in-Done-clause-sound g c = c.in_ok-reach_both.ensures.sound
-
 pub returns-in-Done-clause-pages : goal.returns-in-Done-clause-pages
 returns-in-Done-clause-pages g c = c.in_ok-reach_both.ensures.pages
-
-pub returns-in-Raise-clause-sound : goal.returns-in-Raise-clause-sound
-returns-in-Raise-clause-sound g c = c.in_ok-reach_both.ensures.sound
 
 pub returns-in-Raise-clause-pages : goal.returns-in-Raise-clause-pages
 returns-in-Raise-clause-pages g c = c.in_ok-reach_both.ensures.pages
 
-pub returns-in-Stop-clause-sound : goal.returns-in-Stop-clause-sound
-returns-in-Stop-clause-sound g c = c.in_ok-reach_both.ensures.sound
-
 pub returns-in-Stop-clause-pages : goal.returns-in-Stop-clause-pages
 returns-in-Stop-clause-pages g c = c.in_ok-reach_both.ensures.pages
 
-pub returns-in-Done-clause-stays : goal.returns-in-Done-clause-stays
-returns-in-Done-clause-stays g c = let e = c.in_ok-reach_both.ensures in (e.control, e.guard, e.hidden)
+pub returns-in-Done-clause-frame : goal.returns-in-Done-clause-frame
+returns-in-Done-clause-frame g c = c.in_ok-reach_both.ensures.frame
 
-pub returns-in-Raise-clause-stays : goal.returns-in-Raise-clause-stays
-returns-in-Raise-clause-stays g c = let e = c.in_ok-reach_both.ensures in (e.control, e.guard, e.hidden)
+pub returns-in-Raise-clause-frame : goal.returns-in-Raise-clause-frame
+returns-in-Raise-clause-frame g c = c.in_ok-reach_both.ensures.frame
 
-pub returns-in-Stop-clause-stays : goal.returns-in-Stop-clause-stays
-returns-in-Stop-clause-stays g c = let e = c.in_ok-reach_both.ensures in (e.control, e.guard, e.hidden)
+pub returns-in-Stop-clause-frame : goal.returns-in-Stop-clause-frame
+returns-in-Stop-clause-frame g c = c.in_ok-reach_both.ensures.frame
 
 -- ---- a range is refused
 
 pub reach_both-requires-clause-room : goal.reach_both-requires-clause-room
 reach_both-requires-clause-room g c = few_pages _ c.requires.pages
-
-pub returns-in_err-reach_both-clause-sound : goal.returns-in_err-reach_both-clause-sound
-returns-in_err-reach_both-clause-sound g c = c.in_err-reach_both.ensures.sound
 
 pub returns-in_err-reach_both-clause-prepared : goal.returns-in_err-reach_both-clause-prepared
 returns-in_err-reach_both-clause-prepared g c = rw (denied c.args.insn.now c.args.len c.args.cpu.now _ _ _ c.in_err-reach_both.ensures.gives) (search rules)
@@ -112,5 +94,5 @@ returns-in_err-reach_both-clause-prepared g c = rw (denied c.args.insn.now c.arg
 pub returns-in_err-reach_both-clause-pages : goal.returns-in_err-reach_both-clause-pages
 returns-in_err-reach_both-clause-pages g c = c.in_err-reach_both.ensures.pages
 
-pub returns-in_err-reach_both-clause-stays : goal.returns-in_err-reach_both-clause-stays
-returns-in_err-reach_both-clause-stays g c = let e = c.in_err-reach_both.ensures in (e.control, e.guard, e.hidden)
+pub returns-in_err-reach_both-clause-frame : goal.returns-in_err-reach_both-clause-frame
+returns-in_err-reach_both-clause-frame g c = c.in_err-reach_both.ensures.frame
