@@ -121,6 +121,11 @@ pub parts_len : (row : Row) (wide : Bool) (insn : Insn) → (parts_for row wide 
 unfolding parts_for
 parts_len row wide insn = refl
 
+-- a row that suits an instruction is of its name
+pub suits_name : (row : Row) (wide : Wide) (insn : Insn) → Suits row wide insn → row.op ≡ insn.op
+unfolding insn_of
+suits_name row wide insn s = ap (λ (i : Insn). i.op) s.means
+
 -- what the three tests together tell
 pub suits_iff : (row : Row) (wide : Wide) (insn : Insn) (p : Parts) (m f w r : Bool) → p ≡ parts_for row wide.disp insn → IsTrue m ↔ (insn_of row p ≡ insn) → f ≡ form_fits row.form p → w ≡ widths_fit wide p.disp_len (imm_len row.form.immediate) → r ≡ (m && f && w) → IsTrue r ↔ Suits row wide insn
 suits_iff row wide insn p m f w r e em ef ew er = (

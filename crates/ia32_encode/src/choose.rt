@@ -28,6 +28,13 @@ pub struct Wide {
 #[error("no row spells the instruction with these widths")]
 pub struct NoForm;
 
+/// Whether the row is of an instruction of this name. No other row has it, with any parts.
+fn is_of(row: &Row, insn: &Insn) -> bool
+    ensures { IsTrue result ↔ (row.now.op ≡ insn.now.op) }
+{
+    row.op == insn.op
+}
+
 fn immediate_is_long(row: &Row) -> bool
     ensures { result ≡ imm_len row.now.form.immediate == 4 }
 {
@@ -73,6 +80,9 @@ fn choose(table: &[Row], insn: &Insn, wide: Wide) -> Result<ArrayBytes, NoForm>
     ensures { MatchResult result (λ chosen. IsChosen wide insn.now chosen × AreBytes chosen.bytes) (λ _. NoneSuits wide insn.now) }
 {
     for row in table {
+        if !is_of(row, insn) {
+            continue;
+        }
         let parts = parts(row, wide.disp, insn);
         if suits(row, wide, insn, &parts) {
             return Ok(text(&row.form, &parts));
