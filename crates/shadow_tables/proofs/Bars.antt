@@ -278,7 +278,17 @@ word-still m r index frame first last few h page low high =
     let below : page % 1024 < last = omega (arith, few, low, high) in
     subst (λ d. barred_word frame (by_dir m (dir m r d) (page % 1024)) ≡ by_dir m (dir m r d) (page % 1024)) (sym place) (h (page % 1024) from below)
 
--- and so does what is kept of it
+-- and is 0 where those are
+pub word-none : (m : List ℕ) (r index first last : ℕ) → last ≤ 1024 → ((i : ℕ) → first ≤ i → i < last → by_dir m (dir m r index) i ≡ 0)
+    → (page : ℕ) → 1024 * index + first ≤ page → page < 1024 * index + last → at m r page ≡ 0
+unfolding at
+word-none m r index first last few h page low high =
+    let place : page / 1024 ≡ index = omega (arith, few, low, high) in
+    let from : first ≤ page % 1024 = omega (arith, few, low, high) in
+    let below : page % 1024 < last = omega (arith, few, low, high) in
+    subst (λ d. by_dir m (dir m r d) (page % 1024) ≡ 0) (sym place) (h (page % 1024) from below)
+
+-- what is kept of a page stays where its words do
 pub page-still : (s : Shadow) (m : List ℕ) (page frame : ℕ) → IsShadow s m → page < 2 ^ 20
     → barred_word frame (at m s.kernel page) ≡ at m s.kernel page → barred_word frame (at m s.user page) ≡ at m s.user page
     → slot_at s m page ≡ without s m frame page

@@ -1,6 +1,6 @@
 //! Taking the right to write from all pages of a frame.
 
-ghost use Rattle.std.specs.Prelude.{◌≡◌, ◌≢◌, ℕ, ◌+◌, ◌*◌, ◌/◌, ◌≤◌, ◌<◌, ◌^◌, List, [], ◌∷◌, None, false, length};
+ghost use Rattle.std.specs.Prelude.{◌≡◌, ◌≢◌, ℕ, ◌+◌, ◌*◌, ◌/◌, ◌≤◌, ◌<◌, ◌^◌, List, [], ◌∷◌, false, length};
 ghost use Rattle.frame_pool.specs.Held.{Holds, Writes};
 ghost use Rattle.shadow_views.specs.Tables.{at, by_dir, owned, IsIn, IsView, Puts};
 ghost use Rattle.shadow_tables.specs.Slots.{barred, barred_word, held, slot_at, IsShadow, Becomes, LosesWrites};
@@ -10,7 +10,7 @@ ghost use Rattle.shadow_tables.specs.Sweeps.{Sweeps};
 use crate::shadow::Shadow;
 use crate::words::Side;
 use guest_ram::{FRAME, Ram};
-use shadow_views::{are_none, dir, look, next_dir, next_pair, set, word_in};
+use shadow_views::{are_none, dir, look, next_pair, set, word_in};
 
 /// The word gives the right to write to this frame.
 fn gives(word: u32, frame: u32) -> bool
@@ -99,19 +99,6 @@ impl Shadow {
             self.bar_page(ram, 1024 * index + word, frame);
             word = self.next_to_bar(ram, index, frame, word + 1);
         }
-    }
-
-    /// A directory index, this one or behind it, before which neither view has another table; 1,024 where there is none.
-    fn next_opened(&self, ram: &Ram, from: u32) -> u32
-        requires shadow { IsShadow self.now ram.now }
-        requires from { from ≤ 1024 }
-        ensures behind { from ≤ result }
-        ensures within { result ≤ 1024 }
-        ensures none { (page : ℕ) → page < 2 ^ 20 → 1024 * from ≤ page → page < 1024 * result → slot_at self.now ram.now page ≡ None }
-    {
-        let kernel = self.root(Side::Kernel);
-        let user = self.root(Side::User);
-        next_dir(ram, kernel, from).min(next_dir(ram, user, from))
     }
 
     /// Takes the right to write from every page of this frame.

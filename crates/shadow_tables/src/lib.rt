@@ -3,6 +3,7 @@
 
 mod barring;
 mod calls;
+mod opened;
 mod shadow;
 mod shadows;
 mod words;

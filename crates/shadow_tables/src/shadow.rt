@@ -153,8 +153,10 @@ impl Shadow {
         ensures moves { (p : Pool) → Owns p ram.old (held self.old ram.old)
             → Moves p p ram.old ram.new (held self.old ram.old) (held self.old ram.new) }
     {
-        for word in 0..1024 {
+        let mut word = self.next_kept(ram, index, 0);
+        while word < 1024 {
             self.drop_page(ram, 1024 * index + word);
+            word = self.next_kept(ram, index, word + 1);
         }
     }
 
