@@ -57,6 +57,15 @@ pub trait Reloads: Shadows {
         ensures owns { Owns pool.new ram.new (Self.frames self.new ram.new) }
         ensures moves { Moves pool.old pool.new ram.old ram.new (Self.frames self.old ram.old) (Self.frames self.new ram.new) };
 
+    /// A directory index, this one or behind it, before which no page of another is kept; 1,024 where there is none.
+    fn next_opened(&self, ram: &Ram, from: u32) -> u32
+        requires stands { ∥ Self.stands self.now ram.now ∥₁ }
+        requires from { from ≤ 1024 }
+        ensures behind { from ≤ result }
+        ensures within { result ≤ 1024 }
+        ensures none { (page : ℕ) → page < 2 ^ 20 → 1024 * from ≤ page → page < 1024 * result
+            → Self.slots self.now ram.now page ≡ None };
+
     /// At most eight values are kept, the present one among them.
     ghost few: { (s : Self) (m : List ℕ) → ∥ Self.stands s m ∥₁ → length (Self.other_roots s m) ≤ 7 };
 
@@ -80,5 +89,9 @@ impl Reloads for Roots {
 
     fn renew(&mut self, ram: &mut Ram, pool: &mut Pool) {
         Roots::drop_all(self, ram, pool);
+    }
+
+    fn next_opened(&self, ram: &Ram, from: u32) -> u32 {
+        Roots::next_opened(self, ram, from)
     }
 }

@@ -1,6 +1,6 @@
 //! The views of the present value of CR3, and of values that may come back.
 
-ghost use Rattle.std.specs.Prelude.{◌≡◌, ℕ, ◌+◌, ◌/◌, ◌≤◌, ◌<◌, ◌^◌, Bool, List, [], ◌∷◌, ◌++◌, length, Some, None, false, IfOk, OnErr};
+ghost use Rattle.std.specs.Prelude.{◌≡◌, ℕ, ◌+◌, ◌*◌, ◌/◌, ◌≤◌, ◌<◌, ◌^◌, Bool, List, [], ◌∷◌, ◌++◌, length, Some, None, false, IfOk, OnErr};
 ghost use Rattle.std.specs.FinMap.{empty, remove};
 ghost use Rattle.frame_pool.specs.Pool.{free_list, Stands};
 ghost use Rattle.frame_pool.specs.declared.Pool.{Pool};
@@ -151,6 +151,19 @@ impl Roots {
     {
         let mut shadow = self.present.shadow;
         shadow.drop_dir(ram, index);
+    }
+
+    /// A directory index, this one or behind it, before which the present pair keeps no page of another; 1,024 where there is
+    /// none.
+    pub fn next_opened(&self, ram: &Ram, from: u32) -> u32
+        requires stands { ∥ IsRoots (pairs_of self.now) ram.now ∥₁ }
+        requires from { from ≤ 1024 }
+        ensures behind { from ≤ result }
+        ensures within { result ≤ 1024 }
+        ensures none { (page : ℕ) → page < 2 ^ 20 → 1024 * from ≤ page → page < 1024 * result
+            → slots_of (pairs_of self.now) ram.now page ≡ None }
+    {
+        self.present.shadow.next_opened(ram, from)
     }
 
     /// Fills the page in the present pair, without the right to write where the tables of any pair were read from its

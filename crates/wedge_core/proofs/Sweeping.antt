@@ -1,5 +1,6 @@
 -- What is kept, when the pages of one directory index after the other leave.
-use Rattle.std.proofs.Common.{◌≡◌, ℕ, ◌+◌, ◌/◌, ◌^◌, ◌<◌, ◌≤◌, Option, None, ◌∙◌, inl, inr, arith}
+use Rattle.std.proofs.Common.{◌≡◌, ℕ, ◌+◌, ◌*◌, ◌/◌, ◌^◌, ◌<◌, ◌≤◌, Option, None, ◌∙◌, inl, inr, arith}
+use Rattle.std.proofs.lemmas.Bool.{cases_lt}
 use Rattle.std.proofs.lemmas.Bool.Decides.{eqb_tells}
 use Rattle.shadow_tables.specs.Slots.{Slot, LosesDir}
 
@@ -15,6 +16,15 @@ next_below old new index l gone page lt below =
     elim (eqb_tells (page / 1024) index) [
       | inl e ↦ l.gone page lt e.1
       | inr n ↦ let other = n.1 in l.others page lt other ∙ gone page lt (omega (arith, below, other))
+    ]
+
+-- and of more, where nothing is kept of those
+pub none_between : (slots : ℕ → Option Slot) (index next : ℕ) → ((page : ℕ) → page < 2 ^ 20 → 1024 * index ≤ page → page < 1024 * next → slots page ≡ None)
+    → GoneBelow index slots → GoneBelow next slots
+none_between slots index next none gone page lt below =
+    elim (cases_lt (page / 1024) index) [
+      | inl l ↦ gone page lt l
+      | inr h ↦ none page lt (omega (arith, h)) (omega (arith, below))
     ]
 
 pub all_below : (slots : ℕ → Option Slot) (index : ℕ) → 1024 ≤ index → GoneBelow index slots → (page : ℕ) → page < 2 ^ 20 → slots page ≡ None

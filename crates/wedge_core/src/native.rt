@@ -163,7 +163,7 @@ fn eip_fits(cpu: &Cpu)
 
 /// All translations leave before a step for whose pages frames may lack, and those that are present before one that clashes.
 /// Before another they stay.
-fn make_room<S: Shadows + Drop>(
+fn make_room<S: Reloads + Drop>(
     running: &mut Running<S>,
     pool: &mut Pool,
     ram: &mut Ram,
@@ -209,7 +209,7 @@ fn drop_kept<S: Shadows + Drop>(running: &mut Running<S>, pool: &mut Pool, ram: 
 }
 
 /// What is present leaves before a step that clashes; what is kept for other values of CR3 stays. It is noted.
-fn drop_present<S: Shadows + Drop>(running: &mut Running<S>, ram: &mut Ram)
+fn drop_present<S: Reloads + Drop>(running: &mut Running<S>, ram: &mut Ram)
     requires held { (image : Image) × (pool : Pool)
         × IsHeldIn S.Shadows (ground image running.old.frames) (scene running.old pool ram.old) }
     ensures held { (pool : Pool) → StaysHeld S.Shadows (scene running.old pool ram.old) (scene running.new pool ram.new) }
@@ -225,8 +225,8 @@ fn drop_present<S: Shadows + Drop>(running: &mut Running<S>, ram: &mut Ram)
     running.lost.before = true;
 }
 
-/// Drops every page of each directory index. What is kept for other values of CR3, and what was noted, stays.
-fn drop_dirs<S: Shadows>(shadows: &mut S, ram: &mut Ram)
+/// Drops every page of each directory index of which any may be kept. What is kept for other values of CR3, and what was noted, stays.
+fn drop_dirs<S: Reloads>(shadows: &mut S, ram: &mut Ram)
     requires stands { ∥ S.stands shadows.old ram.old ∥₁ }
     ensures stands { ∥ S.stands shadows.new ram.new ∥₁ }
     ensures none { (page : ℕ) → page < 2 ^ 20 → S.slots shadows.new ram.new page ≡ None }
@@ -240,8 +240,10 @@ fn drop_dirs<S: Shadows>(shadows: &mut S, ram: &mut Ram)
     ensures frames { S.frames shadows.new ram.new ≡ S.frames shadows.old ram.old }
     ensures moves { MovesInEach S.Shadows shadows.old shadows.new ram.old ram.new }
 {
-    for index in 0..1024 {
+    let mut index = shadows.next_opened(ram, 0);
+    while index < 1024 {
         shadows.drop_dir(ram, index);
+        index = shadows.next_opened(ram, index + 1);
     }
 }
 

@@ -1,14 +1,15 @@
-use Rattle.std.proofs.Common.{◌∙◌, refl}
+use Rattle.std.proofs.Common.{◌+◌, ◌∙◌, refl}
 use Rattle.frame_pool.proofs.Held.{Owns-moves, Moves-refl, Moves-trans}
 use Rattle.shadow_tables.proofs.OtherRoots.{same-refl, same-trans}
 use Rattle.shadow_tables.specs.Laws.Entries.{entries_of-none}
-use Rattle.wedge_core.proofs.Sweeping.{none_below, next_below, all_below}
+use Rattle.wedge_core.proofs.Sweeping.{none_below, next_below, none_between, all_below}
 use Rattle.wedge_core.proofs.native.drop_dirs.Goals as goal
 
 pub loop-index-init : goal.loop-index-init
 loop-index-init g c = record {
   stands = c.requires.stands;
-  gone = none_below _;
+  within = c.next_opened-index.ensures.within;
+  gone = none_between _ 0 c.next_opened-index.result c.next_opened-index.ensures.none (none_below _);
   read_from = λ f. refl;
   stale = refl;
   cr3 = refl;
@@ -23,11 +24,14 @@ loop-index-preserved g c =
     let l = c.loop-index in
     let e = c.drop_dir.ensures in
     let n = c.drop_dir.new in
+    let next = c.next_opened-index-in-loop-index.ensures in
     let slots = g.S.Shadows.slots in
     let other_roots = g.S.Shadows.other_roots in
     record {
       stands = e.stands;
-      gone = next_below (slots l.shadows l.ram) (slots n.self n.ram) l.index e.loses l.invariant.gone;
+      within = next.within;
+      gone = none_between (slots n.self n.ram) (l.index + 1) c.next_opened-index-in-loop-index.result next.none
+          (next_below (slots l.shadows l.ram) (slots n.self n.ram) l.index e.loses l.invariant.gone);
       read_from = λ f. e.beside.read_from f ∙ l.invariant.read_from f;
       stale = e.beside.stale ∙ l.invariant.stale;
       cr3 = e.beside.cr3 ∙ l.invariant.cr3;
