@@ -18,6 +18,7 @@ use xlate_buffer::Cache;
 
 /// Passes the steps in which a halted processor has nothing to do and nothing can come to the board, up to the bound,
 /// in one go.
+#[inline(always)]
 pub fn rest<C: Cache>(machine: &mut BareMachine<C>, script: &Script, n: u64)
     requires script { is_script script.now.list ≡ true }
     requires kept { IsKept machine.old.frames (state_of C.entries machine.old) }

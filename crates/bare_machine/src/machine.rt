@@ -40,6 +40,7 @@ pub static NO_TEXT: Option<Text<'static>> = None;
 /// One step, or the stop that it meets. Its state and what it comes to take the places of the step's before. After a stop
 /// the machine must not go on.
 #[tactic(auto, unfolding(machine_model::specs::Step::step_of))]
+#[inline(always)]
 pub fn step<C: Cache>(
     machine: &mut BareMachine<C>,
     script: &Script,

@@ -68,6 +68,7 @@ impl Board {
     }
 
     /// Gives the devices the events of a step, in the script's order.
+    #[inline(always)]
     pub fn begin(&mut self, script: &Script, step: u64)
         requires { is_script script.now.list ≡ true }
         ensures { self.new ≡ given self.old script.now.list step }

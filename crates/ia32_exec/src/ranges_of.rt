@@ -91,6 +91,7 @@ fn element(seg: Seg, n: usize, insn: &Insn, regs: &Regs) -> Option<Range>
 
 /// What the registers alone say of an instruction's accesses.
 #[tactic(auto, unfolding(crate::specs::Effect::ranges_of))]
+#[inline(always)]
 pub fn ranges(insn: &Insn, regs: &Regs) -> Ranges
     ensures ranges { result ≡ ranges_of insn.now regs.now }
     ensures short { IsShort result.read × IsShort result.write }

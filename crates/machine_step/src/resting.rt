@@ -40,6 +40,7 @@ fn quiet_steps(board: &Board, script: &Script, step: u64, most: u64) -> u64
 
 /// How many steps, up to a number, a halted processor waits: until an edge or an event can come. One that isn't halted, or that an
 /// interrupt wakes, waits for none. The events of the step before were given.
+#[inline(always)]
 pub fn resting_steps(cpu: &Cpu, board: &Board, script: &Script, step: u64, most: u64) -> u64
     requires script { is_script script.now.list ≡ true }
     requires begun { 0 < step }

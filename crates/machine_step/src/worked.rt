@@ -104,6 +104,7 @@ pub fn items_of(step: u64, seen: Seen) -> StepItems
 
 /// Puts the lines of what a step let be seen, which mostly is nothing. Where they were put the sink's count of faults is as
 /// it was, and where one was not it rose.
+#[inline(always)]
 pub fn put_seen<O: Sink>(step: u64, seen: Seen, out: &mut O) -> Result<(), Failed>
     ensures ok { OnOk result (Appends (O.taken out.old) (O.taken out.new) (lines_of (items_at step (whats seen)))) }
     ensures failed { OnErr result (AppendsFront (O.taken out.old) (O.taken out.new) (lines_of (items_at step (whats seen)))) }
@@ -113,5 +114,16 @@ pub fn put_seen<O: Sink>(step: u64, seen: Seen, out: &mut O) -> Result<(), Faile
     if let Seen::Nothing = seen {
         return Ok(());
     }
+    put_some(step, seen, out)
+}
+
+/// The same where it is something.
+#[inline(never)]
+fn put_some<O: Sink>(step: u64, seen: Seen, out: &mut O) -> Result<(), Failed>
+    ensures ok { OnOk result (Appends (O.taken out.old) (O.taken out.new) (lines_of (items_at step (whats seen)))) }
+    ensures failed { OnErr result (AppendsFront (O.taken out.old) (O.taken out.new) (lines_of (items_at step (whats seen)))) }
+    ensures kept { OnOk result (O.faults out.new ≡ O.faults out.old) }
+    ensures cause { OnErr result (Rose (O.faults out.old) (O.faults out.new)) }
+{
     put_step(&items_of(step, seen), out)
 }

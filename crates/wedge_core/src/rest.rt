@@ -16,6 +16,7 @@ use shadow_tables::Shadows;
 use wedge_step::Running;
 
 /// Passes the steps in which a halted processor has nothing to do and nothing can come to the board, up to the bound, in one go.
+#[inline(always)]
 pub fn rest<S: Shadows + Drop>(running: &mut Running<S>, script: &Script, bound: u64)
     requires script { is_script script.now.list ≡ true }
     requires begun { 0 < running.old.step }

@@ -3,7 +3,7 @@ use Rattle.pv_io.specs.Sink.{Appends, AppendsFront}
 use Rattle.run_trace.specs.declared.items.Item.{Item}
 use Rattle.run_trace.specs.Text.{lines_of}
 use Rattle.std.specs.Prelude.{OnOk, OnErr}
-use Rattle.machine_step.proofs.worked.put_seen.Goals as goal
+use Rattle.machine_step.proofs.worked.put_some.Goals as goal
 
 pub returns-clause-ok : goal.returns-clause-ok
 returns-clause-ok g c =
