@@ -151,4 +151,3 @@ module _ (stay : InsensitiveStay) (cpu : Cpu) (able : IsAble cpu) where
   pub plainly_left : (o : Outcome Refusal Cpu) → Ends (Suits cpu) o → Ends (IsLeftAble cpu) (done_plainly o)
   plainly_left (Ok x) h = record { suits = h; stays = tt }
   plainly_left (Err refused) h = tt
-

@@ -157,7 +157,6 @@ module _ (stay : InsensitiveStay) (cpu : Cpu) (whole : IsWhole cpu) where
         };
         four = length-set with_code 2 stack.hidden ∙ still;
       }
-
   is_whole awake d (Left.control_0 known len v t) =
       let given = and_parts (bit_and v control_0_needed == control_0_needed) _ t in
       controlled (record (past cpu len) { cr0 = bit_or v 0x10 }) (record {

@@ -48,7 +48,6 @@ pub record IsBeside (cpu : Cpu) (f : Flags) (new : Cpu) : Type 0 where
   pub cr4 : new.cr4 ≡ cpu.cr4
   pub halted : new.halted ≡ cpu.halted
 
-
 abbrev pub drops_all : SysEffect → Bool
 drops_all effects.DropAll = true
 drops_all e = false
@@ -70,7 +69,6 @@ pub data Left (cpu : Cpu) (load : Bool) : SysOutcome → Type 0 where
   control_3 : load ≡ true → (len : ℕ) (v : ℕ) → (bit_and v control_3_refused == 0) ≡ true → Left cpu load (record { cpu = record (past cpu len) { cr3 = v }; effect = effects.DropAll })
   control_4 : load ≡ false → (len : ℕ) (v : ℕ) → (v == 0 || v == 0x10) ≡ true
       → Left cpu load (record { cpu = record (past cpu len) { cr4 = v }; effect = cond (changes_pse (past cpu len) v) effects.DropAll effects.Next })
-
 
 module _ (cpu : Cpu) (load : Bool) (none : load ≡ false) where
   abbrev IsReturned : Cpu → Type 0
@@ -260,4 +258,3 @@ module _ (cpu : Cpu) (load : Bool) where
   pub sys_left : (insn : Insn) (len : ℕ) → load ≡ (is_write insn.op && is_control_3 insn.a) → Yields (Left cpu load) (sys_work insn len cpu)
   unfolding sys_work
   sys_left insn len e = row_left insn.op insn len e
-
