@@ -31,13 +31,8 @@ pub mod TrackedPlain
 pub mod TrackedSteps
 pub mod Counted
 pub mod Texts
-pub mod Made
-pub mod MadeParts
-pub mod MadeRows
 pub mod MadeTracks
-pub mod MadeDeliveries
 pub mod MadeUses
-pub mod MadeAgrees
 pub mod Finding
 pub mod Leaving
 pub mod AbleLeft

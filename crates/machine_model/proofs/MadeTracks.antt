@@ -9,11 +9,11 @@ use Rattle.sys_exec.specs.Sys.{sys_work}
 use Rattle.machine_model.specs.Reloading.{Leaves}
 use Rattle.machine_model.proofs.Tracking.{Tracks, IsOpen, LeavesOpen, open_on, writes_within, reaching_tracks, reaching_opens}
 use Rattle.machine_model.proofs.Following.{same_follows}
-use Rattle.machine_model.proofs.Made.{Made, Room, Steps}
+use Rattle.descriptors.proofs.Made.{Made, Room, Steps}
 use Rattle.event_entry.specs.declared.refusal.Kind.{Kind}
 use Rattle.event_entry.specs.Deliver.{delivered}
-use Rattle.machine_model.proofs.MadeRows.{sys_steps}
-use Rattle.machine_model.proofs.MadeDeliveries.{delivered_steps}
+use Rattle.sys_exec.proofs.MadeRows.{sys_steps}
+use Rattle.event_entry.proofs.MadeDeliveries.{delivered_steps}
 
 none_open : (s : Space) → IsOpen 0 0 s
 none_open s = record { noted = λ byte low high. absurd (omega (arith, high)) }

@@ -11,9 +11,9 @@ use Rattle.event_entry.specs.declared.refusal.Kind.{Kind}
 use Rattle.event_entry.specs.Access as event
 use Rattle.event_entry.specs.Deliver.{delivered}
 use Rattle.machine_model.proofs.UsingWorks.{is_stop, is_end, Keeps, then_keeps, gives_keeps, refuses_keeps, unless_keeps, reads_keeps, reads_earlier_keeps, writes_keeps, if_keeps, reaching_keeps}
-use Rattle.machine_model.proofs.Made.{Made, Room}
-use Rattle.machine_model.proofs.MadeRows.{sys_steps}
-use Rattle.machine_model.proofs.MadeDeliveries.{delivered_steps}
+use Rattle.descriptors.proofs.Made.{Made, Room}
+use Rattle.sys_exec.proofs.MadeRows.{sys_steps}
+use Rattle.event_entry.proofs.MadeDeliveries.{delivered_steps}
 
 keeps : {E : Type 0} {d : Denials E} {user : Bool} {A : Type 0} {r t : Room} {w : Work E A} (ends : E → Bool) → ((stop : reason.Stop) → ends (d.stop stop) ≡ true) → Made d user A r t w → Keeps ends user w
 keeps ends stops (Made.follows h k) = then_keeps (keeps ends stops h) (λ x. keeps ends stops (k x))

@@ -15,7 +15,7 @@ use Rattle.event_entry.specs.declared.refusal.Kind.{Kind}
 use Rattle.event_entry.specs.declared.delivery.Stack.{Stack}
 use Rattle.event_entry.specs.Access.{failed, denials}
 use Rattle.event_entry.specs.Deliver.{admitted, entry_of, as_code, code_marking, as_data, data_marking, inner_stack, stack_of, push_code, push_return, push_outer, pushed, push_frame, delivered}
-use Rattle.machine_model.proofs.Made.{Made, Steps, steps, refuses_steps, opened_then, pair_steps, mark_steps}
+use Rattle.descriptors.proofs.Made.{Made, Steps, steps, refuses_steps, opened_then, pair_steps, mark_steps}
 
 reach : (user : Bool) (at len : ℕ) (write : Bool) → 1 ≤ len → Steps denials user (reaching denials at len (by_processor write))
 reach user at len write some = Made.reached at len (by_processor write) (λ low. refl) some

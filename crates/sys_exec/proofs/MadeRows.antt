@@ -25,8 +25,8 @@ use Rattle.descriptors.specs.Access.{by_level}
 use Rattle.sys_exec.specs.declared.effect.SysEffect.TheVariants as effects
 use Rattle.sys_exec.specs.Access.{denials}
 use Rattle.sys_exec.specs.Operand.{past}
-use Rattle.machine_model.proofs.Made.{Made, Steps, then_steps, refuses_steps, opened_then}
-use Rattle.machine_model.proofs.MadeParts.{parts, operand_4, operand_opens}
+use Rattle.descriptors.proofs.Made.{Made, Steps, then_steps, refuses_steps, opened_then}
+use Rattle.sys_exec.proofs.MadeParts.{parts, operand_4, operand_opens}
 
 cli : (len : ℕ) (cpu : Cpu) → Steps denials (cpu.cpl == 3) (clear_interrupts len cpu)
 unfolding clear_interrupts

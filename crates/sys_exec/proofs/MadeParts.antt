@@ -17,7 +17,7 @@ use Rattle.sys_exec.specs.Segment.{protection, selected, data_tests, find_data, 
 use Rattle.sys_exec.specs.Iret.{popped, popped_outer, return_same, return_outer, interrupt_return}
 use Rattle.ia32_types.specs.declared.size.Size.TheVariants.{Long}
 use Rattle.ia32_exec.specs.Stack.{esp_below}
-use Rattle.machine_model.proofs.Made.{Made, Steps, steps, then_steps, unless_steps, refuses_steps, opened_then, pair_steps, byte_steps, mark_steps}
+use Rattle.descriptors.proofs.Made.{Made, Steps, steps, then_steps, unless_steps, refuses_steps, opened_then, pair_steps, byte_steps, mark_steps}
 
 reach : (cpu : Cpu) (at len : ℕ) (write : Bool) → 1 ≤ len → Steps denials (cpu.cpl == 3) (reaching at len (by_level cpu write))
 reach cpu at len write some = Made.reached at len (by_level cpu write) (λ low. low) some
