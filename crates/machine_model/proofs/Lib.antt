@@ -36,4 +36,3 @@ pub mod MadeUses
 pub mod Finding
 pub mod Leaving
 pub mod AbleLeft
-pub mod RootsTrial

@@ -44,7 +44,7 @@ use Rattle.sys_exec.specs.Branch.{return_to, jump_to, called_through, call_to}
 use Rattle.sys_exec.specs.Sys.{told, row, sys_work}
 use Rattle.machine_model.specs.Instruction.{is_plain, done_plainly, instructed}
 use Rattle.machine_model.specs.Taken.{is_load, is_write, is_control_3}
-use Rattle.machine_model.proofs.AbleRows.{flags_tested}
+use Rattle.machine_model.proofs.Leaving.{Left, drops_all, sys_left}
 use Rattle.machine_model.proofs.Yielding.{Ends, Yields, then_yields, any_yields, gives_yields, if_yields, by_yields}
 use Rattle.machine_step.specs.declared.worked.Completed.{Completed}
 use Rattle.machine_step.specs.declared.worked.Dropped.TheVariants as drops
@@ -109,148 +109,9 @@ delivery_keeps cpu vector kind code =
 pub entered_keeps : (cpu after : Cpu) (vector : ℕ) (kind : Kind) (code : Option ℕ) (s t : Space) → delivered cpu vector kind code s ≡ Ok (after, t) → KeepsRoots cpu after
 entered_keeps cpu after vector kind code s t e = subst (λ (o : Outcome NotDelivered Cpu). Ends (KeepsRoots cpu) o) e ((delivery_keeps cpu vector kind code).each s)
 
--- ---- instructions other than MOV to a control register
-
-record Stays (before : Cpu) (d : SysOutcome) : Type 0 where
-  roots : KeepsRoots before d.cpu
-  some : is_all (dropped_by d.effect) ≡ false
+-- ---- plain instructions
 
 module _ (cpu : Cpu) where
-  goes_on : (new : Cpu) → new.cr0 ≡ cpu.cr0 → new.cr3 ≡ cpu.cr3 → new.cr4 ≡ cpu.cr4 → Yields (Stays cpu) (next new)
-  goes_on new a b c = gives_yields (record { roots = record { cr0 = a; cr3 = b; cr4 = c }; some = refl })
-
-  of_cli : (len : ℕ) → Yields (Stays cpu) (clear_interrupts len cpu)
-  unfolding clear_interrupts
-  of_cli len = any_yields (unless protection_0 (is_within cpu)) (λ done. goes_on _ refl refl refl)
-
-  of_sti : (len : ℕ) → Yields (Stays cpu) (set_interrupts len cpu)
-  unfolding set_interrupts
-  of_sti len = any_yields (unless protection_0 (is_within cpu)) (λ done. goes_on _ refl refl refl)
-
-  of_hlt : (len : ℕ) → Yields (Stays cpu) (halt len cpu)
-  unfolding halt
-  of_hlt len = any_yields (kernel_alone cpu) (λ done. gives_yields (record { roots = record { cr0 = refl; cr3 = refl; cr4 = refl }; some = refl }))
-
-  of_pushf : (len : ℕ) → Yields (Stays cpu) (push_flags len cpu)
-  unfolding push_flags
-  of_pushf len = any_yields (pushed cpu cpu.regs.flags.bits) (λ done. goes_on _ refl refl refl)
-
-  of_popf : (len : ℕ) → Yields (Stays cpu) (pop_flags len cpu)
-  unfolding pop_flags
-  of_popf len = any_yields (pulled cpu) (λ image. any_yields (flags_tested image) (λ done. goes_on _ refl refl refl))
-
-  -- ---- IRET
-
-  of_same : (p : Popped) (code : Loading) → Yields (KeepsRoots cpu) (return_same cpu p code)
-  unfolding return_same
-  of_same p code = any_yields (flags_tested p.flags) (λ one. any_yields (marked cpu code) (λ two. gives_yields (record { cr0 = refl; cr3 = refl; cr4 = refl })))
-
-  of_outer : (p : Popped) (code : Loading) → Yields (KeepsRoots cpu) (return_outer cpu p code)
-  unfolding return_outer
-  of_outer p code =
-      any_yields (popped_outer cpu) (λ outer. any_yields (find_stack cpu (p.sel % 4) outer.sel) (λ stack. any_yields (flags_tested p.flags) (λ one.
-      any_yields (marked cpu code) (λ two. any_yields (marked cpu stack) (λ three. gives_yields (record { cr0 = refl; cr3 = refl; cr4 = refl }))))))
-
-  of_iret : Yields (KeepsRoots cpu) (interrupt_return cpu)
-  unfolding interrupt_return
-  of_iret = any_yields (popped cpu) (λ p. any_yields (find_return cpu p.sel) (λ code. if_yields (nat_lt cpu.cpl (p.sel % 4)) (of_outer p code) (of_same p code)))
-
-  -- ---- control registers read, and tables
-
-  of_read_control : (a b : Operand) (len : ℕ) → Yields (Stays cpu) (read_control a b len cpu)
-  unfolding read_control
-  of_read_control (operands.Register k) (operands.Control number) len = any_yields (kernel_alone cpu) (λ done. any_yields (control_of cpu number) (λ v. goes_on _ refl refl refl))
-  of_read_control a b len = record { each = λ s. tt }
-
-  of_gdt : (a : Operand) (len : ℕ) → Yields (Stays cpu) (load_gdt a len cpu)
-  unfolding load_gdt
-  of_gdt a len = any_yields (kernel_alone cpu) (λ done. any_yields (table_at cpu a) (λ table. goes_on _ refl refl refl))
-
-  of_idt : (a : Operand) (len : ℕ) → Yields (Stays cpu) (load_idt a len cpu)
-  unfolding load_idt
-  of_idt a len = any_yields (kernel_alone cpu) (λ done. any_yields (table_at cpu a) (λ table. goes_on _ refl refl refl))
-
-  of_tr : (a : Operand) (len : ℕ) → Yields (Stays cpu) (load_tr a len cpu)
-  unfolding load_tr
-  of_tr a len = any_yields (kernel_alone cpu) (λ done. any_yields (selector cpu a) (λ sel. any_yields (load_task cpu sel) (λ task. goes_on _ refl refl refl)))
-
-  not_all : (pse : Bool) (at : ℕ) → is_all (dropped_by (drop_at pse at)) ≡ false
-  not_all true at = refl
-  not_all false at = refl
-
-  of_dropped : (len : ℕ) (a : Operand) → Yields (Stays cpu) (dropped len cpu a)
-  of_dropped len (operands.Memory a) = gives_yields (record { roots = record { cr0 = refl; cr3 = refl; cr4 = refl }; some = not_all (pse_of cpu) (address_of a cpu.regs) })
-  of_dropped len a = record { each = λ s. tt }
-
-  of_drop_page : (a : Operand) (len : ℕ) → Yields (Stays cpu) (drop_page a len cpu)
-  unfolding drop_page
-  of_drop_page a len = any_yields (kernel_alone cpu) (λ done. of_dropped len a)
-
-  -- ---- segment registers
-
-  of_kept : (len sel : ℕ) (a : Operand) → Yields (Stays cpu) (selector_kept len cpu sel a)
-  unfolding selector_kept
-  of_kept len sel (operands.Register k) = goes_on _ refl refl refl
-  of_kept len sel (operands.Memory a) = any_yields (operand_reached cpu a 2 true) (λ one. any_yields (writes (address_of a cpu.regs) Word sel) (λ two. goes_on (past cpu len) refl refl refl))
-  of_kept len sel a = record { each = λ s. tt }
-
-  of_read_seg : (insn : Insn) (b : Operand) (len : ℕ) → Yields (Stays cpu) (read_seg insn b len cpu)
-  unfolding read_seg
-  of_read_seg insn (operands.Segment seg) len = of_kept len _ insn.a
-  of_read_seg insn b len = record { each = λ s. tt }
-
-  of_load : (after : Cpu) (sel : ℕ) (seg : Seg) → KeepsRoots cpu after → Yields (Stays cpu) (load_by after cpu sel seg)
-  unfolding load_by
-  of_load after sel Cs k = record { each = λ s. tt }
-  of_load after sel Ss k = any_yields (find_stack cpu cpu.cpl sel) (λ load. any_yields (marked cpu load) (λ done. goes_on (record after { seg = slice_set after.seg 2 load.hidden; held = true }) k.cr0 k.cr3 k.cr4))
-  of_load after sel Ds k = any_yields (load_data cpu sel) (λ hidden. goes_on (record after { seg = slice_set after.seg 3 hidden }) k.cr0 k.cr3 k.cr4)
-  of_load after sel Es k = any_yields (load_data cpu sel) (λ hidden. goes_on (record after { seg = slice_set after.seg 0 hidden }) k.cr0 k.cr3 k.cr4)
-
-  of_load_seg : (insn : Insn) (a : Operand) (len : ℕ) → Yields (Stays cpu) (load_seg insn a len cpu)
-  unfolding load_seg
-  of_load_seg insn (operands.Segment seg) len = any_yields (selector cpu insn.b) (λ sel. of_load (past cpu len) sel seg (record { cr0 = refl; cr3 = refl; cr4 = refl }))
-  of_load_seg insn a len = record { each = λ s. tt }
-
-  of_push_seg : (a : Operand) (len : ℕ) → Yields (Stays cpu) (push_seg a len cpu)
-  unfolding push_seg
-  of_push_seg (operands.Segment seg) len = any_yields (pushed cpu (selector_in cpu seg)) (λ done. goes_on _ refl refl refl)
-  of_push_seg a len = record { each = λ s. tt }
-
-  of_pop_seg : (a : Operand) (len : ℕ) → Yields (Stays cpu) (pop_seg a len cpu)
-  unfolding pop_seg
-  of_pop_seg (operands.Segment seg) len = any_yields (pulled cpu) (λ v. of_load (past_pop cpu len) (v % 65536) seg (record { cr0 = refl; cr3 = refl; cr4 = refl }))
-  of_pop_seg a len = record { each = λ s. tt }
-
-  of_far_jump : (insn : Insn) → Yields (Stays cpu) (far_jump insn cpu)
-  unfolding far_jump
-  of_far_jump insn = any_yields (find_jump cpu insn.sel) (λ code. any_yields (marked cpu code) (λ done. goes_on _ refl refl refl))
-
-  -- ---- ports and branches
-
-  of_port_in : (insn : Insn) (len : ℕ) → Yields (Stays cpu) (port_in insn len cpu)
-  unfolding port_in
-  of_port_in insn len = any_yields (unless protection_0 (is_within cpu)) (λ done. gives_yields (record { roots = record { cr0 = refl; cr3 = refl; cr4 = refl }; some = refl }))
-
-  of_port_out : (insn : Insn) (len : ℕ) → Yields (Stays cpu) (port_out insn len cpu)
-  unfolding port_out
-  of_port_out insn len = any_yields (unless protection_0 (is_within cpu)) (λ done. gives_yields (record { roots = record { cr0 = refl; cr3 = refl; cr4 = refl }; some = refl }))
-
-  of_return : (more : ℕ) → Yields (Stays cpu) (return_to more cpu)
-  unfolding return_to
-  of_return more = any_yields (pulled cpu) (λ target. goes_on _ refl refl refl)
-
-  of_jump : (a : Operand) → Yields (Stays cpu) (jump_to a cpu)
-  unfolding jump_to
-  of_jump a = any_yields (long_of cpu a) (λ target. goes_on _ refl refl refl)
-
-  of_call : (a : Operand) (len : ℕ) → Yields (Stays cpu) (call_to a len cpu)
-  unfolding call_to
-  of_call (operands.Register k) len = any_yields (pushed cpu (past cpu len).regs.eip) (λ done. goes_on _ refl refl refl)
-  of_call (operands.Memory a) len = any_yields (called_through a len cpu) (λ target. goes_on _ refl refl refl)
-  of_call a len = record { each = λ s. tt }
-
-  -- ---- plain instructions
-
   of_finished : (s : Space) (o : exec.Outcome) → Ends (KeepsRoots cpu) (finished cpu s o)
   of_finished s (outcomes.Done regs stores) = record { cr0 = refl; cr3 = refl; cr4 = refl }
   of_finished s (outcomes.Raise vector code) = tt
@@ -268,10 +129,6 @@ module _ (cpu : Cpu) where
   unfolding executed
   of_plain insn len =
       any_yields (unless (refusals.Raise 13 0) (not (is_refused cpu (ranges_of insn cpu.regs)))) (λ done. record { each = λ s. of_reads insn len (reached cpu false (ranges_of insn cpu.regs).read s) })
-
-  plainly_stays : (o : Outcome Refusal Cpu) → Ends (KeepsRoots cpu) o → Ends (Stays cpu) (done_plainly o)
-  plainly_stays (Ok x) h = record { roots = h; some = refl }
-  plainly_stays (Err refused) h = tt
 
 -- ---- each instruction
 
@@ -296,13 +153,6 @@ module _ (completed : Completed) (cpu : Cpu) where
   stays_left (effects.Raise vector code) new none k some = k
   stays_left (effects.Stop stop) new none k some = tt
   stays_left e new none k some = plain_roots cpu (record { seen = seen.Nothing; completed = Some completed; cpu = new; dropped = dropped_by e }) none k some
-
-  ends_left : (o : Outcome Refusal SysOutcome) → load ≡ false → Ends (Stays cpu) o → Ends IsLeft o
-  ends_left (Ok x) none h = stays_left x.0.effect x.0.cpu none h.roots h.some
-  ends_left (Err refused) none h = tt
-
-  quiet : (w : Work Refusal SysOutcome) → load ≡ false → Yields (Stays cpu) w → Yields IsLeft w
-  quiet w none h = record { each = λ s. ends_left (w s) none (h.each s) }
 
   -- ---- MOV to a control register
 
@@ -337,57 +187,33 @@ module _ (completed : Completed) (cpu : Cpu) where
     page_size = λ ne. absurd (ne (ap (λ (x : ℕ). x == 1) (eqb-true (new.cr4 / 0x10 % 2) (cpu.cr4 / 0x10 % 2) (not-false _ t))));
   }
 
-  of_load_control : (len number v : ℕ) → load ≡ (number == 3) → Yields IsLeft (load_control (past cpu len) number v)
-  unfolding load_control
-  of_load_control len number v e =
-      let after = past cpu len in
-      by_yields (number == 0) (λ zero. any_yields (unless control_stop (bit_and v control_0_needed == control_0_needed && bit_and v control_0_refused == 0)) (λ done.
-      gives_yields {x = record { cpu = record after { cr0 = bit_or v 0x10 }; effect = effects.Next }} (of_0 (record after { cr0 = bit_or v 0x10 }) (other 0 zero refl) refl refl)))
-      (λ _. by_yields (number == 2) (λ two. gives_yields {x = record { cpu = record after { cr2 = v }; effect = effects.Next }} (of_0 (record after { cr2 = v }) (other 2 two refl) refl refl))
-      (λ _. by_yields (number == 3) (λ three. any_yields (unless control_stop (bit_and v control_3_refused == 0)) (λ done.
-      gives_yields {x = record { cpu = record after { cr3 = v }; effect = effects.DropAll }} (of_3 (record after { cr3 = v }) (e ∙ three) refl refl)))
-      (λ _. by_yields (number == 4) (λ four. any_yields (unless control_stop (v == 0 || v == 0x10)) (λ done.
-      gives_yields {x = record { cpu = record after { cr4 = v }; effect = cond (changes_pse after v) effects.DropAll effects.Next }} (of_4 (record after { cr4 = v }) (changes_pse cpu v) refl (other 4 four refl) refl)))
-      (λ _. record { each = λ s. tt }))))
-    where
-      other : (n : ℕ) → (number == n) ≡ true → (n == 3) ≡ false → load ≡ false
-      other n t apart = e ∙ ap (λ (x : ℕ). x == 3) (eqb-true number n t) ∙ apart
+  -- ---- the rows, by how they leave the processor
 
-  of_write_control : (a b : Operand) (len : ℕ) → load ≡ is_control_3 a → Yields IsLeft (write_control a b len cpu)
-  unfolding write_control
-  of_write_control (operands.Control number) (operands.Register k) len e = any_yields (kernel_alone cpu) (λ done. of_load_control len number (reg_at cpu k) e)
-  of_write_control a b len e = record { each = λ s. tt }
+  none_dropped : (e : SysEffect) → drops_all e ≡ false → is_all (dropped_by e) ≡ false
+  none_dropped effects.DropAll h = absurd (let f : true ≡ false = h in cc)
+  none_dropped e h = refl
 
-  -- ---- the rows
+  row_roots : (d : SysOutcome) → Left cpu load d → IsLeft d
+  row_roots d (Left.beside none new e some h) = stays_left e new none (record { cr0 = h.cr0; cr3 = h.cr3; cr4 = h.cr4 }) (none_dropped e some)
+  row_roots d (Left.interrupts none new b w h) = stays_left effects.Next new none (record { cr0 = h.cr0; cr3 = h.cr3; cr4 = h.cr4 }) refl
+  row_roots d (Left.popped_flags none new image h) = stays_left effects.Next new none (record { cr0 = h.cr0; cr3 = h.cr3; cr4 = h.cr4 }) refl
+  row_roots d (Left.halts none len t) = stays_left effects.Halted d.cpu none (record { cr0 = refl; cr3 = refl; cr4 = refl }) refl
+  row_roots d (Left.stack none after h w k) = stays_left effects.Next d.cpu none (record { cr0 = w.cr0; cr3 = w.cr3; cr4 = w.cr4 }) refl
+  row_roots d (Left.of_data none after place h w one two k) = stays_left effects.Next d.cpu none (record { cr0 = w.cr0; cr3 = w.cr3; cr4 = w.cr4 }) refl
+  row_roots d (Left.code none eip h k) = stays_left effects.Next d.cpu none (record { cr0 = refl; cr3 = refl; cr4 = refl }) refl
+  row_roots d (Left.same_level none p l h inward) = stays_left effects.Next d.cpu none (record { cr0 = refl; cr3 = refl; cr4 = refl }) refl
+  row_roots d (Left.outer_level none p top l s h k) = stays_left effects.Next d.cpu none (record { cr0 = refl; cr3 = refl; cr4 = refl }) refl
+  row_roots d (Left.control_0 none len v t) = of_0 d.cpu none refl refl
+  row_roots d (Left.control_3 is len v t) = of_3 d.cpu is refl refl
+  row_roots d (Left.control_4 none len v t) = of_4 (record (past cpu len) { cr4 = v }) (changes_pse (past cpu len) v) refl none refl
 
-  row_left : (o : Op) (insn : Insn) (len : ℕ) → load ≡ (is_write o && is_control_3 insn.a) → Yields IsLeft (row o insn len cpu)
-  row_left ops.Cli insn len e = quiet _ e (of_cli cpu len)
-  row_left ops.Sti insn len e = quiet _ e (of_sti cpu len)
-  row_left ops.Hlt insn len e = quiet _ e (of_hlt cpu len)
-  row_left ops.PushFlags insn len e = quiet _ e (of_pushf cpu len)
-  row_left ops.PopFlags insn len e = quiet _ e (of_popf cpu len)
-  row_left ops.Iret insn len e = quiet _ e (then_yields (of_iret cpu) (λ returned k. goes_on cpu returned k.cr0 k.cr3 k.cr4))
-  row_left ops.ReadControl insn len e = quiet _ e (of_read_control cpu insn.a insn.b len)
-  row_left ops.WriteControl insn len e = of_write_control insn.a insn.b len e
-  row_left ops.LoadGdt insn len e = quiet _ e (of_gdt cpu insn.a len)
-  row_left ops.LoadIdt insn len e = quiet _ e (of_idt cpu insn.a len)
-  row_left ops.LoadTask insn len e = quiet _ e (of_tr cpu insn.a len)
-  row_left ops.DropPage insn len e = quiet _ e (of_drop_page cpu insn.a len)
-  row_left ops.ReadSeg insn len e = quiet _ e (of_read_seg cpu insn insn.b len)
-  row_left ops.LoadSeg insn len e = quiet _ e (of_load_seg cpu insn insn.a len)
-  row_left ops.PushSeg insn len e = quiet _ e (of_push_seg cpu insn.a len)
-  row_left ops.PopSeg insn len e = quiet _ e (of_pop_seg cpu insn.a len)
-  row_left ops.FarJump insn len e = quiet _ e (of_far_jump cpu insn)
-  row_left ops.PortIn insn len e = quiet _ e (of_port_in cpu insn len)
-  row_left ops.PortOut insn len e = quiet _ e (of_port_out cpu insn len)
-  row_left ops.Return insn len e = quiet _ e (of_return cpu insn.imm)
-  row_left ops.JumpTo insn len e = quiet _ e (of_jump cpu insn.a)
-  row_left ops.CallTo insn len e = quiet _ e (of_call cpu insn.a len)
-  row_left o insn len e = record { each = λ s. tt }
+  ends_left : (o : Outcome Refusal SysOutcome) → Ends (Left cpu load) o → Ends IsLeft o
+  ends_left (Ok x) h = row_roots x.0 h
+  ends_left (Err refused) h = tt
 
-  sys_left : (insn : Insn) (len : ℕ) → load ≡ (is_write insn.op && is_control_3 insn.a) → Yields IsLeft (sys_work insn len cpu)
-  unfolding sys_work
-  sys_left insn len e = row_left insn.op insn len e
+  plainly_left : (o : Outcome Refusal Cpu) → load ≡ false → Ends (KeepsRoots cpu) o → Ends IsLeft (done_plainly o)
+  plainly_left (Ok x) none h = stays_left effects.Next x.0 none h refl
+  plainly_left (Err refused) none h = tt
 
   not_write : (o : Op) → is_plain o ≡ true → is_write o ≡ false
   not_write ops.WriteControl e = absurd (let f : false ≡ true = e in cc)
@@ -402,8 +228,8 @@ module _ (completed : Completed) (cpu : Cpu) where
   left insn len s is =
       let e : load ≡ (is_write insn.op && is_control_3 insn.a) = ap (λ (i : Insn). is_write i.op && is_control_3 i.a) is in
       choice (is_plain insn.op) (done_plainly (executed insn len cpu s)) (sys_work insn len cpu s)
-      (λ plain. ends_left (done_plainly (executed insn len cpu s)) (e ∙ ap (λ (b : Bool). b && is_control_3 insn.a) (not_write insn.op plain)) (plainly_stays cpu (executed insn len cpu s) ((of_plain cpu insn len).each s)))
-      ((sys_left insn len e).each s)
+      (λ plain. plainly_left (executed insn len cpu s) (e ∙ ap (λ (b : Bool). b && is_control_3 insn.a) (not_write insn.op plain)) ((of_plain cpu insn len).each s))
+      (ends_left (sys_work insn len cpu s) ((sys_left cpu load insn len e).each s))
 
   -- ---- what is told of it
 
