@@ -16,3 +16,5 @@ mod named;
 mod numbers;
 #[cfg(test)]
 mod spelled;
+#[cfg(test)]
+mod texts;
