@@ -48,7 +48,8 @@ pub fn reach<M: GuestMem>(
     requires short { IsShort range }
     ensures gives { Gives result (M.space mem.new) (reached cpu.now write range (M.space mem.old)) }
     ensures last { OnOk result (IsLast range write (M.space mem.new)) }
-    ensures before { (other : Option Bytes) → IsLast other false (M.space mem.old) → OnOk result (IsReadMade other range (M.space mem.new)) }
+    ensures before { (other : Option Bytes) → IsLast other false (M.space mem.old)
+        → OnOk result (IsReadMade other range (M.space mem.new)) }
     ensures pages { (M.space mem.new).pages ≤ (M.space mem.old).pages + 2 }
     ensures frame { M.frame mem.new ≡ M.frame mem.old }
 {
