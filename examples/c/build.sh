@@ -3,8 +3,8 @@
 #
 #     examples/c/build.sh [--stored | --keep] NAME ..
 #
-# 1. gcc compiles NAME/*.c to assembler sources, with the flags below; lib/k.c too where a kernel uses it. lib/lower.awk
-#    rewrites shifts of double length, which burn doesn't take.
+# 1. gcc compiles NAME/*.c to assembler sources, with the flags below; lib/k.c and lib/console.c too where a kernel uses them.
+#    lib/lower.awk rewrites what burn doesn't take.
 # 2. pv burns each source to an object. start.s stands before them where the kernel has no entry.s of its own.
 # 3. pv links the objects, checks the image, and runs it on the bare machine and patched on a host.
 # 4. What it sent by the serial port is printed, and compared with NAME/console.txt; both traces are compared.
@@ -73,8 +73,10 @@ sources_of() { # folder
         sources+=("$work/image.s")
     fi
     if grep -q '"../lib/k.h"' "$1"/*.c; then
-        compile "$here/lib/k.c" "$work/k.s" || return
-        sources+=("$work/k.s")
+        for c in k console; do
+            compile "$here/lib/$c.c" "$work/$c.s" || return
+            sources+=("$work/$c.s")
+        done
     fi
 }
 

@@ -5,7 +5,15 @@ static inline void outb(uint16_t port, uint8_t value) {
     __asm__ volatile("outb %0, %1" : : "a"(value), "Nd"(port));
 }
 
+static inline uint8_t inb(uint16_t port) {
+    uint8_t value;
+    __asm__ volatile("inb %1, %0" : "=a"(value) : "Nd"(port));
+    return value;
+}
+
 static void putch(int c) {
+    while (!(inb(0x3fd) & 0x20)) /* the transmitter's holding register is empty */
+        ;
     outb(0x3f8, c);
 }
 

@@ -3,50 +3,74 @@
 	.p2align 4
 	.type	put_number, @function
 put_number:
-	subl	$12, %esp
+	pushl	%edi
+	pushl	%esi
+	pushl	%ebx
+	movl	%eax, %ebx
+	subl	$4, %esp
 	cmpl	$9, %eax
-	movl	%ebx, (%esp)
-	movl	%eax, %ecx
-	movl	%esi, 4(%esp)
-	movl	%edi, 8(%esp)
-	ja	.L6
+	ja	.L15
 .L2:
 	movl	$-858993459, %eax
-	mull	%ecx
+	mull	%ebx
 	shrl	$3, %edx
 	leal	(%edx,%edx,4), %eax
-	movl	$1016, %edx
+	movl	$1021, %edx
 	addl	%eax, %eax
-	subl	%eax, %ecx
-	leal	48(%ecx), %eax
+	subl	%eax, %ebx
+	leal	48(%ebx), %ecx
+	.p2align 4
+	.p2align 3
+.L6:
+#APP
+# 10 "count.c" 1
+	inb %dx, %al
+# 0 "" 2
+#NO_APP
+	andb	$32, %al
+	je	.L6
+	movl	$1016, %edx
+	movb	%cl, %al
 #APP
 # 5 "count.c" 1
 	outb %al, %dx
 # 0 "" 2
 #NO_APP
-	movl	(%esp), %ebx
-	movl	4(%esp), %esi
-	movl	8(%esp), %edi
-	addl	$12, %esp
+	popl	%eax
+	popl	%ebx
+	popl	%esi
+	popl	%edi
 	ret
 	.p2align 4,,10
 	.p2align 3
-.L6:
+.L15:
 	movl	$-858993459, %esi
 	mull	%esi
-	movl	%edx, %ebx
-	shrl	$3, %ebx
-	cmpl	$99, %ecx
-	ja	.L7
+	movl	%edx, %ecx
+	shrl	$3, %ecx
+	cmpl	$99, %ebx
+	ja	.L16
 .L3:
 	movl	$-858993459, %eax
-	mull	%ebx
+	mull	%ecx
 	shrl	$3, %edx
 	leal	(%edx,%edx,4), %eax
-	movl	$1016, %edx
+	movl	$1021, %edx
 	addl	%eax, %eax
-	subl	%eax, %ebx
-	leal	48(%ebx), %eax
+	subl	%eax, %ecx
+	addl	$48, %ecx
+	.p2align 4
+	.p2align 3
+.L5:
+#APP
+# 10 "count.c" 1
+	inb %dx, %al
+# 0 "" 2
+#NO_APP
+	andb	$32, %al
+	je	.L5
+	movl	$1016, %edx
+	movb	%cl, %al
 #APP
 # 5 "count.c" 1
 	outb %al, %dx
@@ -55,8 +79,8 @@ put_number:
 	jmp	.L2
 	.p2align 4,,10
 	.p2align 3
-.L7:
-	movl	%ebx, %eax
+.L16:
+	movl	%ecx, %eax
 	mull	%esi
 	movl	%edx, %edi
 	shrl	$3, %edi
@@ -64,10 +88,23 @@ put_number:
 	mull	%esi
 	shrl	$3, %edx
 	leal	(%edx,%edx,4), %eax
-	movl	$1016, %edx
+	movl	$1021, %edx
 	addl	%eax, %eax
 	subl	%eax, %edi
 	leal	48(%edi), %eax
+	movl	%eax, (%esp)
+	.p2align 4
+	.p2align 3
+.L4:
+#APP
+# 10 "count.c" 1
+	inb %dx, %al
+# 0 "" 2
+#NO_APP
+	andb	$32, %al
+	je	.L4
+	movzbl	(%esp), %eax
+	movl	$1016, %edx
 #APP
 # 5 "count.c" 1
 	outb %al, %dx
@@ -80,71 +117,108 @@ put_number:
 	.globl	main
 	.type	main, @function
 main:
+	pushl	%ebp
+	movl	$-858993459, %ebp
 	pushl	%edi
-	movl	$-858993459, %edi
+	movl	$1016, %edi
 	pushl	%esi
-	movl	$1016, %esi
+	movl	$1, %esi
 	pushl	%ebx
-	movl	$1, %ebx
-	movl	%ebx, %ecx
-	imull	%ebx, %ecx
-	cmpl	$9, %ecx
-	ja	.L15
+	movl	$1021, %ebx
+	subl	$4, %esp
 	.p2align 4
 	.p2align 3
-.L9:
+.L23:
+	movl	%esi, %ecx
+	imull	%esi, %ecx
+	cmpl	$9, %ecx
+	ja	.L33
+.L18:
 	movl	%ecx, %eax
-	mull	%edi
+	mull	%ebp
 	shrl	$3, %edx
 	leal	(%edx,%edx,4), %eax
-	movl	%esi, %edx
 	addl	%eax, %eax
 	subl	%eax, %ecx
-	leal	48(%ecx), %eax
-#APP
-# 5 "count.c" 1
-	outb %al, %dx
-# 0 "" 2
-#NO_APP
-	cmpl	$9, %ebx
-	je	.L13
-	movb	$32, %al
-#APP
-# 5 "count.c" 1
-	outb %al, %dx
-# 0 "" 2
-#NO_APP
-	incl	%ebx
-	movl	%ebx, %ecx
-	imull	%ebx, %ecx
-	cmpl	$9, %ecx
-	jbe	.L9
-.L15:
-	movl	%ecx, %eax
-	mull	%edi
-	shrl	$3, %edx
-	leal	48(%edx), %eax
-	movl	%esi, %edx
-#APP
-# 5 "count.c" 1
-	outb %al, %dx
-# 0 "" 2
-#NO_APP
-	jmp	.L9
-	.p2align 4,,10
+	addl	$48, %ecx
+	.p2align 4
 	.p2align 3
-.L13:
-	movb	$10, %al
+.L20:
+	movl	%ebx, %edx
+#APP
+# 10 "count.c" 1
+	inb %dx, %al
+# 0 "" 2
+#NO_APP
+	andb	$32, %al
+	je	.L20
+	movb	%cl, %al
+	movl	%edi, %edx
 #APP
 # 5 "count.c" 1
 	outb %al, %dx
 # 0 "" 2
 #NO_APP
-	popl	%ebx
+	cmpl	$9, %esi
+	setne	%cl
+	decb	%cl
+	andb	$-22, %cl
+	addb	$32, %cl
+	.p2align 4
+	.p2align 3
+.L22:
+	movl	%ebx, %edx
+#APP
+# 10 "count.c" 1
+	inb %dx, %al
+# 0 "" 2
+#NO_APP
+	andb	$32, %al
+	je	.L22
+	movb	%cl, %al
+	movl	%edi, %edx
+#APP
+# 5 "count.c" 1
+	outb %al, %dx
+# 0 "" 2
+#NO_APP
+	incl	%esi
+	cmpl	$10, %esi
+	jne	.L23
+	popl	%edx
 	xorl	%eax, %eax
+	popl	%ebx
 	popl	%esi
 	popl	%edi
+	popl	%ebp
 	ret
+	.p2align 4,,10
+	.p2align 3
+.L33:
+	movl	%ecx, %eax
+	mull	%ebp
+	shrl	$3, %edx
+	leal	48(%edx), %eax
+	movl	%eax, (%esp)
+	.p2align 4
+	.p2align 3
+.L19:
+	movl	%ebx, %edx
+#APP
+# 10 "count.c" 1
+	inb %dx, %al
+# 0 "" 2
+#NO_APP
+	andb	$32, %al
+	je	.L19
+	movzbl	(%esp), %eax
+	movl	%edi, %edx
+#APP
+# 5 "count.c" 1
+	outb %al, %dx
+# 0 "" 2
+#NO_APP
+	jmp	.L18
 	.size	main, .-main
 	.ident	"GCC: (Debian 12.2.0-14+deb12u1) 12.2.0"
 	.section	.note.GNU-stack,"",@progbits

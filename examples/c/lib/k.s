@@ -71,7 +71,7 @@ div64:
 	movl	%eax, %esi
 	movl	%ebx, %eax
 #APP
-# 249 "k.c" 1
+# 241 "k.c" 1
 	divl %edi
 # 0 "" 2
 #NO_APP
@@ -85,40 +85,27 @@ div64:
 	ret
 	.size	div64, .-div64
 	.p2align 4
-	.globl	putch
-	.type	putch, @function
-putch:
-	movl	4(%esp), %eax
-	movl	$1016, %edx
-#APP
-# 5 "k.c" 1
-	outb %al, %dx
-# 0 "" 2
-#NO_APP
-	ret
-	.size	putch, .-putch
-	.p2align 4
 	.globl	put
 	.type	put, @function
 put:
-	movl	4(%esp), %ecx
-	movzbl	(%ecx), %eax
+	subl	$28, %esp
+	movl	%ebx, 24(%esp)
+	movl	32(%esp), %ebx
+	movsbl	(%ebx), %eax
 	testb	%al, %al
-	je	.L11
-	movl	$1016, %edx
+	je	.L10
 	.p2align 4
 	.p2align 3
-.L13:
-	incl	%ecx
-#APP
-# 5 "k.c" 1
-	outb %al, %dx
-# 0 "" 2
-#NO_APP
-	movzbl	(%ecx), %eax
+.L12:
+	movl	%eax, (%esp)
+	incl	%ebx
+	call	putch
+	movsbl	(%ebx), %eax
 	testb	%al, %al
-	jne	.L13
-.L11:
+	jne	.L12
+.L10:
+	movl	24(%esp), %ebx
+	addl	$28, %esp
 	ret
 	.size	put, .-put
 	.p2align 4
@@ -1157,21 +1144,16 @@ kprintf:
 	movl	%eax, 4(%esp)
 	call	kvformat
 	movl	%eax, %esi
-	movzbl	16(%esp), %eax
+	movsbl	16(%esp), %eax
 	testb	%al, %al
 	je	.L279
-	movl	%ebx, %ecx
-	movl	$1016, %edx
 	.p2align 4
 	.p2align 3
 .L281:
-	incl	%ecx
-#APP
-# 5 "k.c" 1
-	outb %al, %dx
-# 0 "" 2
-#NO_APP
-	movzbl	(%ecx), %eax
+	movl	%eax, (%esp)
+	incl	%ebx
+	call	putch
+	movsbl	(%ebx), %eax
 	testb	%al, %al
 	jne	.L281
 .L279:

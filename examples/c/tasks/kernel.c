@@ -37,8 +37,9 @@ enum { DIRECT = 0xC0000000, USER = 0x40000000, USER_STACK = 0x50000000 };
 
 /* Vectors, and the ports of the controllers, the timer and the serial port. */
 enum { DIVIDE = 0, OPCODE = 6, PROTECTION = 13, PAGE = 14, TIMER = 32, SERIAL = 36, CALL = 0x80 };
+enum { SPURIOUS_MASTER = 39, SPURIOUS_SLAVE = 47 };
 enum { PIC = 0x20, PIC_MASK = 0x21, SLAVE = 0xa0, SLAVE_MASK = 0xa1, COUNT = 0x40, COUNT_MODE = 0x43 };
-enum { DATA = 0x3f8, RECEIVE_INTERRUPT = 0x3f9, LINE_STATUS = 0x3fd };
+enum { DATA = 0x3f8, RECEIVE_INTERRUPT = 0x3f9, LINE_CONTROL = 0x3fb, LINE_STATUS = 0x3fd };
 
 /* What a task asks for, in EAX: put the character in EBX, get one, let the other task go on, end. */
 enum { PUT, GET, PASS, END };
@@ -62,7 +63,7 @@ struct segment_task {
 };
 
 extern void on_divide(void), on_opcode(void), on_protection(void), on_page(void), on_timer(void),
-    on_serial(void), on_call(void), leave_trap(void);
+    on_serial(void), on_call(void), on_spurious_master(void), on_spurious_slave(void), leave_trap(void);
 extern void change_stack(uint32_t *save, uint32_t load);
 extern const uint8_t user_image[];
 extern const uint32_t user_image_size;
@@ -75,6 +76,14 @@ static uint32_t idt[256][2] __attribute__((aligned(8)));
 static uint32_t next_frame, ticks, switches;
 static uint8_t typed[16];
 static unsigned typed_n;
+
+/* The serial port: 115,200 bits a second, eight bits a byte. This machine's sends without, others cut a byte to five bits. */
+static void line(void) {
+    outb(LINE_CONTROL, 0x83);
+    outb(DATA, 1);
+    outb(RECEIVE_INTERRUPT, 0);
+    outb(LINE_CONTROL, 3);
+}
 
 static void putch(int c) {
     while (!(inb(LINE_STATUS) & 0x20))
@@ -151,6 +160,8 @@ static void tables(void) {
     gate(TIMER, on_timer, 0);
     gate(SERIAL, on_serial, 0);
     gate(CALL, on_call, 3);
+    gate(SPURIOUS_MASTER, on_spurious_master, 0);
+    gate(SPURIOUS_SLAVE, on_spurious_slave, 0);
     load_table("idt", idt, sizeof idt - 1);
     __asm__ volatile("ltr %w0" : : "r"(0x28));
 }
@@ -318,6 +329,7 @@ void on_trap(struct trap *f) {
 
 void kernel_main(uint32_t memory, uint32_t first_free) {
     next_frame = first_free;
+    line();
     put("memory ");
     put_number(memory >> 20);
     put(" MB, free from ");

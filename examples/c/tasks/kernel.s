@@ -973,16 +973,45 @@ on_trap:
 	.type	kernel_main, @function
 kernel_main:
 	pushl	%ebp
-	movb	$109, %cl
+	movl	$1019, %ecx
 	pushl	%edi
-	movl	$1016, %edi
+	movb	$-125, %al
 	pushl	%esi
-	movl	$.LC13, %esi
+	movl	%ecx, %edx
 	pushl	%ebx
-	movl	$1021, %ebx
 	subl	$60, %esp
 	movl	84(%esp), %ebp
 	movl	%ebp, next_frame
+#APP
+# 10 "kernel.c" 1
+	outb %al, %dx
+# 0 "" 2
+#NO_APP
+	movb	$1, %al
+	movl	$1016, %edx
+#APP
+# 10 "kernel.c" 1
+	outb %al, %dx
+# 0 "" 2
+#NO_APP
+	xorl	%eax, %eax
+	movl	$1017, %edx
+#APP
+# 10 "kernel.c" 1
+	outb %al, %dx
+# 0 "" 2
+#NO_APP
+	movb	$3, %al
+	movl	%ecx, %edx
+#APP
+# 10 "kernel.c" 1
+	outb %al, %dx
+# 0 "" 2
+#NO_APP
+	movb	$109, %cl
+	movl	$.LC13, %esi
+	movl	$1021, %ebx
+	movl	$1016, %edi
 	.p2align 4
 	.p2align 3
 .L164:
@@ -1125,7 +1154,7 @@ kernel_main:
 	orl	$35072, %eax
 	movl	%eax, gdt+44
 #APP
-# 124 "kernel.c" 1
+# 133 "kernel.c" 1
 	lgdt (%edx)
 # 0 "" 2
 #NO_APP
@@ -1177,18 +1206,32 @@ kernel_main:
 	movl	%ecx, idt+288
 	movzwl	%ax, %ecx
 	andl	$-65536, %eax
-	orl	$524288, %ecx
 	orl	$60928, %eax
-	movl	%ecx, idt+1024
+	orl	$524288, %ecx
 	movl	%eax, idt+1028
+	movl	$on_spurious_master, %eax
+	movl	%ecx, idt+1024
+	movzwl	%ax, %ecx
+	andl	$-65536, %eax
+	orl	$36352, %eax
+	orl	$524288, %ecx
+	movl	%eax, idt+316
+	movl	$on_spurious_slave, %eax
+	movl	%ecx, idt+312
+	movzwl	%ax, %ecx
+	andl	$-65536, %eax
+	orl	$524288, %ecx
+	orl	$36352, %eax
+	movl	%ecx, idt+376
+	movl	%eax, idt+380
 #APP
-# 126 "kernel.c" 1
+# 135 "kernel.c" 1
 	lidt (%edx)
 # 0 "" 2
 #NO_APP
 	movl	$40, %eax
 #APP
-# 155 "kernel.c" 1
+# 166 "kernel.c" 1
 	ltr %ax
 # 0 "" 2
 #NO_APP
