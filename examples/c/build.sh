@@ -49,7 +49,8 @@ user_image() { # folder, assembler file
     {
         printf '# The bytes of user_start.s and user.c, made by build.sh.\n\t.section .rodata\n\t.globl user_image\n\t.balign 4\nuser_image:\n'
         od -An -v -tu1 -w32 "$work/user.bin" | sed 's/^ */\t.byte /; s/  */,/g; s/^\t.byte,/\t.byte /'
-        printf '\t.globl user_image_size\n\t.balign 4\nuser_image_size:\n\t.long %d\n' "$(stat -c %s "$work/user.bin")"
+        printf '\t.globl %s\n\t.balign 4\n%s:\n\t.long %d\n' user_image_size user_image_size "$(stat -c %s "$work/user.bin")" \
+            user_memory_size user_memory_size "$(stat -c %s "$work/user.bin")"
     } >"$2"
     [ "$mode" != keep ] || cp "$2" "$1/image.s"
 }

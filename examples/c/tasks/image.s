@@ -59,3 +59,7 @@ user_image:
 	.balign 4
 user_image_size:
 	.long 1648
+	.globl user_memory_size
+	.balign 4
+user_memory_size:
+	.long 1648

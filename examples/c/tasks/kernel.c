@@ -41,8 +41,13 @@ enum { SPURIOUS_MASTER = 39, SPURIOUS_SLAVE = 47 };
 enum { PIC = 0x20, PIC_MASK = 0x21, SLAVE = 0xa0, SLAVE_MASK = 0xa1, COUNT = 0x40, COUNT_MODE = 0x43 };
 enum { DATA = 0x3f8, RECEIVE_INTERRUPT = 0x3f9, LINE_CONTROL = 0x3fb, LINE_STATUS = 0x3fd };
 
-/* What a task asks for, in EAX: put the character in EBX, get one, let the other task go on, end. */
-enum { PUT, GET, PASS, END };
+/* What a task asks for, in EAX: put the character in EBX, get one, let the other task go on, end; put a line, at EBX and of ECX
+   bytes, with the task's number before it, that no other task's output parts (the packages of examples/packages do). */
+enum { PUT, GET, PASS, END, LINE };
+
+#ifndef STACK_PAGES
+#define STACK_PAGES 1
+#endif
 
 /* What entry.s and the processor have pushed when on_trap is called, lowest address first. */
 struct trap {
@@ -66,7 +71,7 @@ extern void on_divide(void), on_opcode(void), on_protection(void), on_page(void)
     on_serial(void), on_call(void), on_spurious_master(void), on_spurious_slave(void), leave_trap(void);
 extern void change_stack(uint32_t *save, uint32_t load);
 extern const uint8_t user_image[];
-extern const uint32_t user_image_size;
+extern const uint32_t user_image_size, user_memory_size;
 
 static struct task tasks[2], *now;
 static uint32_t idle_stack;
@@ -203,14 +208,15 @@ static void make(struct task *t, int number) {
     uint32_t *old = direct(read_cr3() & ~0xfffu);
     for (int i = 0; i < 1024; i++)
         t->directory[i] = old[i];
-    for (uint32_t at = 0; at < user_image_size; at += 4096) {
+    for (uint32_t at = 0; at < user_memory_size; at += 4096) {
         uint32_t f = frame();
         uint8_t *p = direct(f);
         for (uint32_t i = 0; i < 4096 && at + i < user_image_size; i++)
             p[i] = user_image[at + i];
         map(t, USER + at, f, 6);
     }
-    map(t, USER_STACK - 4096, frame(), 6);
+    for (int i = 1; i <= STACK_PAGES; i++)
+        map(t, USER_STACK - 4096 * i, frame(), 6);
     struct trap *f = (struct trap *)(t->kernel_stack + sizeof t->kernel_stack) - 1;
     *f = (struct trap){.es = 0x23,
         .ds = 0x23,
@@ -270,6 +276,11 @@ static void end(const char *why, struct trap *f) {
     go_on();
 }
 
+/* A byte of the task's own memory, or 0: the kernel reads no other for a task. */
+static uint8_t user_byte(uint32_t at) {
+    return at >= USER && at < USER_STACK ? *(uint8_t *)at : 0;
+}
+
 void on_trap(struct trap *f) {
     switch (f->vector) {
     case TIMER:
@@ -307,6 +318,12 @@ void on_trap(struct trap *f) {
             break;
         case END:
             end("as it wanted", f);
+            break;
+        case LINE:
+            put_number(now->number);
+            putch(' ');
+            for (uint32_t i = 0; i < f->ecx; i++)
+                putch(user_byte(f->ebx + i));
             break;
         default:
             end("an unknown call", f);
