@@ -1,5 +1,5 @@
 #!/usr/bin/env bash
-# The whole way from a kernel in C to both traces. For each kernel NAME, which is a folder beside this script:
+# The whole way from a kernel in C to both traces. For each kernel NAME, which is a folder beside this script, or any other folder:
 #
 #     examples/c/build.sh [--stored | --keep] NAME ..
 #
@@ -7,10 +7,14 @@
 #    lib/lower.awk rewrites what burn doesn't take.
 # 2. pv burns each source to an object. start.s stands before them where the kernel has no entry.s of its own.
 # 3. pv links the objects, checks the image, and runs it on the bare machine and patched on a host.
-# 4. What it sent by the serial port is printed, and compared with NAME/console.txt; both traces are compared.
+# 4. What it sent by the serial port is printed, and compared with NAME/console.txt, if it is there; both traces are compared.
+#
+# A kernel needs no more than its sources. NAME/steps has the number of its steps, which is 1,000,000 without it, or $STEPS, and
+# NAME/script what comes from outside. Where something is refused, a run stops, or the console or a trace is another, this is told,
+# what was printed is shown, and the files are kept.
 #
 # --stored takes the assembler sources that stand here, so that no compiler is needed; --keep puts those that are made here.
-# The program is ../../pv, or $PV. Where $KEEP names a folder, the image and both traces are left there.
+# The program is ../../pv, or $PV. Where $KEEP names a folder, the image, its objects and both traces are left there.
 here=$(cd "$(dirname "${BASH_SOURCE[0]}")" && pwd) || exit 2
 pv=${PV:-$here/../../pv}
 mode=compile
@@ -23,14 +27,15 @@ flags="-m32 -march=i386 -mtune=pentiumpro -O2 -ffreestanding -fno-pic -fno-pie -
     -fno-asynchronous-unwind-tables -fcf-protection=none -mno-sse -mno-mmx -msoft-float -fno-tree-loop-distribute-patterns"
 
 work=$(mktemp -d) || exit 2
-trap 'rm -rf "$work"' EXIT
+kept=
+trap '[ -n "$kept" ] || rm -rf "$work"' EXIT
 
 # A source in C to one in assembly, or the one that stands beside it.
 compile() { # C file, assembler file
     if [ "$mode" = stored ]; then
         cp "${1%.c}.s" "$2"
     else
-        (cd "$(dirname "$1")" && gcc $flags -S "$(basename "$1")" -o "$work/as.gcc") &&
+        (cd "$(dirname "$1")" && gcc $flags -iquote "$here/lib" -S "$(basename "$1")" -o "$work/as.gcc") &&
             awk -f "$here/lib/lower.awk" "$work/as.gcc" >"$2" && { [ "$mode" != keep ] || cp "$2" "${1%.c}.s"; }
     fi
 }
@@ -42,7 +47,7 @@ user_image() { # folder, assembler file
         cp "$1/image.s" "$2"
         return
     fi
-    (cd "$1" && gcc $flags -S user.c -o "$work/user.s") || return
+    (cd "$1" && gcc $flags -iquote "$here/lib" -S user.c -o "$work/user.s") || return
     as --32 "$1/user_start.s" -o "$work/user_start.o" && as --32 "$work/user.s" -o "$work/user.o" || return
     ld -m elf_i386 -N -Ttext=0x40000000 -e _start "$work/user_start.o" "$work/user.o" -o "$work/user.elf" 2>"$work/ld" || { cat "$work/ld" >&2; return 1; }
     objcopy -O binary --set-section-flags .bss=alloc,load,contents "$work/user.elf" "$work/user.bin" || return
@@ -73,7 +78,7 @@ sources_of() { # folder
         user_image "$1" "$work/image.s" || return
         sources+=("$work/image.s")
     fi
-    if grep -q '"../lib/k.h"' "$1"/*.c; then
+    if grep -qE '"(../lib/)?k.h"' "$1"/*.c; then
         for c in k console; do
             compile "$here/lib/$c.c" "$work/$c.s" || return
             sources+=("$work/$c.s")
@@ -87,34 +92,73 @@ console() {
         $2 == "tx" { printf "%c", 16 * digit(substr($3, 1, 1)) + digit(substr($3, 2, 1)) }' "$1"
 }
 
-build_and_run() { # name
-    local folder=$here/$1 source objects=() steps script machine status
-    steps=$(cat "$folder/steps") || return
-    script=$folder/script
-    [ -e "$script" ] || script=/dev/null
-    sources_of "$folder" || { echo "$1: gcc"; return 1; }
-    for source in "${sources[@]}"; do
-        "$pv" burn "$source" "$work/$(basename "$source" .s).o" >"$work/said" || { echo "$1: burn $(basename "$source"): $(cat "$work/said")"; return 1; }
-        objects+=("$work/$(basename "$source" .s).o")
-    done
-    "$pv" link "$work/$1.img" "${objects[@]}" >"$work/said" || { echo "$1: link: $(cat "$work/said")"; return 1; }
-    "$pv" check "$work/$1.img" || return
-    [ -z "${KEEP:-}" ] || cp "$work/$1.img" "$KEEP/$1.img"
-    for machine in bare wedge; do
-        "$pv" run "--$machine" "$work/$1.img" "$script" 2048 "$steps" >"$work/$machine"
-        status=$?
-        [ -z "${KEEP:-}" ] || cp "$work/$machine" "$KEEP/$1.$machine"
-        [ "$status" = 0 ] || { echo "$1: run --$machine: status $status: $(tail -n 1 "$work/$machine")"; return 1; }
-        console "$work/$machine" >"$work/$machine.console"
-        cmp -s "$work/$machine.console" "$folder/console.txt" || { echo "$1: run --$machine: another console:"; cat "$work/$machine.console"; return 1; }
-    done
-    cmp "$work/bare" "$work/wedge" || return
-    cat "$work/bare.console"
-    echo "$1: $(($(wc -l <"$work/bare") - 1)) items in $steps steps, the same on both machines"
+# Says what is wrong, and has the files kept.
+wrong() { # name, text
+    echo "$1: $2"
+    kept=yes
 }
 
-result=0
+# Burns, links and checks the sources of a kernel.
+build() { # name, folder
+    local source said
+    objects=()
+    sources_of "$2" || { wrong "$1" gcc; return 1; }
+    for source in "${sources[@]}"; do
+        said=$("$pv" burn "$source" "$work/$(basename "$source" .s).o") || {
+            wrong "$1" "burn $(basename "$source"): $said"
+            [[ $said != *line* ]] || echo "    $(sed -n "${said##* }p" "$source")"
+            echo "    tools/refusals $source lists all that burn refuses"
+            return 1
+        }
+        objects+=("$work/$(basename "$source" .s).o")
+    done
+    said=$("$pv" link "$work/$1.img" "${objects[@]}") || { wrong "$1" "link: $said"; return 1; }
+    "$pv" check "$work/$1.img" || { wrong "$1" "check refuses the image"; return 1; }
+}
+
+# Runs a kernel on one machine, and tells how it ended where it didn't come to its bound.
+run_on() { # machine, name, folder, script, steps
+    local trace=$work/$2.$1
+    "$pv" run "--$1" "$work/$2.img" "$4" 2048 "$5" >"$trace" || wrong "$2" "run --$1: status $?: $(tail -n 1 "$trace")"
+    console "$trace" >"$trace.console"
+    [ ! -e "$3/console.txt" ] || cmp -s "$trace.console" "$3/console.txt" || wrong "$2" "run --$1: another console than console.txt"
+}
+
+# Where to go on looking.
+point_to_files() { # name, script
+    local step
+    echo "$1: its files are in $work; the objects in their order: $(basename -a "${objects[@]}" | tr '\n' ' ')"
+    step=$(sed -n 's/^end steps \([0-9]*\) stop .*/\1/p' "$work/$1.bare" "$work/$1.wedge" | head -n 1)
+    [ -z "$step" ] || echo "    docs/TROUBLESHOOTING.md, 'Stops', has what a stop means, and how its instruction is found"
+    [ ! -x "$here/../../look" ] || echo "    ./look state $work/$1.img $2 2048 ${step:-N}"
+    [ ! -x "$here/../../tools/gdb" ] || echo "    gdb, and in it: target remote | tools/gdb $work/$1.img $2 2048"
+}
+
+build_and_run() { # name or folder
+    local folder=$here/$1 name objects=() steps=1000000 script=/dev/null machine
+    [ -d "$folder" ] || folder=$1
+    [ -d "$folder" ] || { echo "$1: there is no such folder"; return 1; }
+    name=$(basename "$folder")
+    [ ! -e "$folder/steps" ] || steps=$(cat "$folder/steps")
+    steps=${STEPS:-$steps}
+    [ ! -e "$folder/script" ] || script=$folder/script
+    kept=
+    build "$name" "$folder" || { echo "$name: its files are in $work"; return 1; }
+    for machine in bare wedge; do
+        run_on "$machine" "$name" "$folder" "$script" "$steps"
+    done
+    [ -z "${KEEP:-}" ] || cp "$work/$name.img" "$work/$name.bare" "$work/$name.wedge" "${objects[@]}" "$KEEP"
+    cat "$work/$name.bare.console"
+    cmp -s "$work/$name.bare.console" "$work/$name.wedge.console" || { wrong "$name" "run --wedge sent this:"; cat "$work/$name.wedge.console"; }
+    cmp "$work/$name.bare" "$work/$name.wedge" || wrong "$name" "the traces differ"
+    [ -z "$kept" ] || { point_to_files "$name" "$script"; return 1; }
+    echo "$name: $(($(wc -l <"$work/$name.bare") - 1)) items in $steps steps, the same on both machines"
+}
+
+result=0 any=
 for name in "$@"; do
     build_and_run "$name" || result=1
+    any=$any$kept
 done
+kept=$any
 exit "$result"
