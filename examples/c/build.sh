@@ -22,21 +22,30 @@ case ${1:-} in --stored | --keep) mode=${1#--}; shift ;; esac
 [ $# -gt 0 ] || { echo "usage: build.sh [--stored | --keep] NAME .." >&2; exit 2; }
 
 # i386 alone (no CMOV, BSWAP, CMPXCHG); no library, position independence, guards or tables of the stack; no MMX, SSE or x87; no
-# calls of memset that are made of loops; and, by the tuning, few operations of 16 bits.
+# calls of memset that are made of loops; no arithmetic of 16 bits, and no aliases of functions. docs/C.md says what each cures.
 flags="-m32 -march=i386 -mtune=pentiumpro -O2 -ffreestanding -fno-pic -fno-pie -fno-stack-protector
-    -fno-asynchronous-unwind-tables -fcf-protection=none -mno-sse -mno-mmx -msoft-float -fno-tree-loop-distribute-patterns"
+    -fno-asynchronous-unwind-tables -fcf-protection=none -mno-sse -mno-mmx -msoft-float -fno-tree-loop-distribute-patterns
+    -fdisable-rtl-combine -fno-expensive-optimizations -fno-store-merging -fno-ipa-icf"
 
 work=$(mktemp -d) || exit 2
 kept=
 trap '[ -n "$kept" ] || rm -rf "$work"' EXIT
 
-# A source in C to one in assembly, or the one that stands beside it.
+# A source in C to one in assembly. GCC notes each pass that is off: that is no warning.
+lowered() { # C file, assembler file
+    local status
+    (cd "$(dirname "$1")" && gcc $flags -iquote "$here/lib" -S "$(basename "$1")" -o "$work/as.gcc") 2>"$work/notes"
+    status=$?
+    grep -v ': note: disable pass' "$work/notes" >&2
+    [ "$status" = 0 ] && awk -f "$here/lib/lower.awk" "$work/as.gcc" >"$2"
+}
+
+# The same, or the one that stands beside it.
 compile() { # C file, assembler file
     if [ "$mode" = stored ]; then
         cp "${1%.c}.s" "$2"
     else
-        (cd "$(dirname "$1")" && gcc $flags -iquote "$here/lib" -S "$(basename "$1")" -o "$work/as.gcc") &&
-            awk -f "$here/lib/lower.awk" "$work/as.gcc" >"$2" && { [ "$mode" != keep ] || cp "$2" "${1%.c}.s"; }
+        lowered "$1" "$2" && { [ "$mode" != keep ] || cp "$2" "${1%.c}.s"; }
     fi
 }
 
@@ -47,7 +56,7 @@ user_image() { # folder, assembler file
         cp "$1/image.s" "$2"
         return
     fi
-    (cd "$1" && gcc $flags -iquote "$here/lib" -S user.c -o "$work/user.s") || return
+    lowered "$1/user.c" "$work/user.s" || return
     as --32 "$1/user_start.s" -o "$work/user_start.o" && as --32 "$work/user.s" -o "$work/user.o" || return
     ld -m elf_i386 -N -Ttext=0x40000000 -e _start "$work/user_start.o" "$work/user.o" -o "$work/user.elf" 2>"$work/ld" || { cat "$work/ld" >&2; return 1; }
     objcopy -O binary --set-section-flags .bss=alloc,load,contents "$work/user.elf" "$work/user.bin" || return
