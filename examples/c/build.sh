@@ -50,15 +50,21 @@ compile() { # C file, assembler file
 }
 
 # The program of level 3 as data of the kernel: burn has one text, which level 3 can't fetch from, so this one is assembled and
-# linked by GNU's tools for the address at which the kernel maps it, and its bytes go into a source of data.
+# linked by GNU's tools for the address at which the kernel maps it, and its bytes go into a source of data. It is burnt before,
+# only to see that no line is refused: what no row spells would be stop 1 in the middle of the program. GNU as fills text up
+# to an alignment with such bytes (66 90), so the lines that ask for it go.
 user_image() { # folder, assembler file
+    local source said
     if [ "$mode" = stored ]; then
         cp "$1/image.s" "$2"
         return
     fi
-    lowered "$1/user.c" "$work/user.s" || return
+    lowered "$1/user.c" "$work/user.all" && sed '/^\t\.p2align/d' "$work/user.all" >"$work/user.s" || return
+    for source in "$1/user_start.s" "$work/user.s"; do
+        said=$("$pv" burn "$source" "$work/user.o") || { echo "burn $(basename "$source"): $said: $(sed -n "${said##* }p" "$source")" >&2; return 1; }
+    done
     as --32 "$1/user_start.s" -o "$work/user_start.o" && as --32 "$work/user.s" -o "$work/user.o" || return
-    ld -m elf_i386 -N -Ttext=0x40000000 -e _start "$work/user_start.o" "$work/user.o" -o "$work/user.elf" 2>"$work/ld" || { cat "$work/ld" >&2; return 1; }
+    ld -m elf_i386 -T "$here/lib/user.ld" "$work/user_start.o" "$work/user.o" -o "$work/user.elf" 2>"$work/ld" || { cat "$work/ld" >&2; return 1; }
     objcopy -O binary --set-section-flags .bss=alloc,load,contents "$work/user.elf" "$work/user.bin" || return
     {
         printf '# The bytes of user_start.s and user.c, made by build.sh.\n\t.section .rodata\n\t.globl user_image\n\t.balign 4\nuser_image:\n'
