@@ -2,6 +2,7 @@
 # The whole way from a kernel in C to both traces. For each kernel NAME, which is a folder beside this script, or any other folder:
 #
 #     examples/c/build.sh [--stored | --keep] NAME ..
+#     examples/c/build.sh --flags
 #
 # 1. gcc compiles NAME/*.c to assembler sources, with the flags below; lib/k.c and lib/console.c too where a kernel uses them.
 #    lib/lower.awk rewrites what burn doesn't take.
@@ -14,18 +15,20 @@
 # what was printed is shown, and the files are kept.
 #
 # --stored takes the assembler sources that stand here, so that no compiler is needed; --keep puts those that are made here.
-# The program is ../../pv, or $PV. Where $KEEP names a folder, the image, its objects and both traces are left there.
+# --flags prints the flags for gcc alone. The program is ../../pv, or $PV. Where $KEEP names a folder, the image, its objects, both
+# traces, and the program of level 3 with its names (NAME.user.elf) are left there.
 here=$(cd "$(dirname "${BASH_SOURCE[0]}")" && pwd) || exit 2
 pv=${PV:-$here/../../pv}
 mode=compile
-case ${1:-} in --stored | --keep) mode=${1#--}; shift ;; esac
-[ $# -gt 0 ] || { echo "usage: build.sh [--stored | --keep] NAME .." >&2; exit 2; }
+case ${1:-} in --stored | --keep | --flags) mode=${1#--}; shift ;; esac
+[ $# -gt 0 ] || [ "$mode" = flags ] || { echo "usage: build.sh [--stored | --keep] NAME .. or build.sh --flags" >&2; exit 2; }
 
 # i386 alone (no CMOV, BSWAP, CMPXCHG); no library, position independence, guards or tables of the stack; no MMX, SSE or x87; no
 # calls of memset that are made of loops; no arithmetic of 16 bits, and no aliases of functions. docs/C.md says what each cures.
 flags="-m32 -march=i386 -mtune=pentiumpro -O2 -ffreestanding -fno-pic -fno-pie -fno-stack-protector
     -fno-asynchronous-unwind-tables -fcf-protection=none -mno-sse -mno-mmx -msoft-float -fno-tree-loop-distribute-patterns
     -fdisable-rtl-combine -fno-expensive-optimizations -fno-store-merging -fno-ipa-icf"
+[ "$mode" != flags ] || { sed 's/^ *//' <<<"$flags"; exit; }
 
 work=$(mktemp -d) || exit 2
 kept=
@@ -65,6 +68,7 @@ user_image() { # folder, assembler file
     done
     as --32 "$1/user_start.s" -o "$work/user_start.o" && as --32 "$work/user.s" -o "$work/user.o" || return
     ld -m elf_i386 -T "$here/lib/user.ld" "$work/user_start.o" "$work/user.o" -o "$work/user.elf" 2>"$work/ld" || { cat "$work/ld" >&2; return 1; }
+    [ -z "${KEEP:-}" ] || cp "$work/user.elf" "$KEEP/$(basename "$1").user.elf"
     objcopy -O binary --set-section-flags .bss=alloc,load,contents "$work/user.elf" "$work/user.bin" || return
     {
         printf '# The bytes of user_start.s and user.c, made by build.sh.\n\t.section .rodata\n\t.globl user_image\n\t.balign 4\nuser_image:\n'
@@ -117,7 +121,7 @@ wrong() { # name, text
 build() { # name, folder
     local source said
     objects=()
-    sources_of "$2" || { wrong "$1" gcc; return 1; }
+    sources_of "$2" || { wrong "$1" "its sources weren't made"; return 1; }
     for source in "${sources[@]}"; do
         said=$("$pv" burn "$source" "$work/$(basename "$source" .s).o") || {
             wrong "$1" "burn $(basename "$source"): $said"
