@@ -1,5 +1,5 @@
 # Takes two faults and a call by handlers of its own. That of a division by 0 shows where the instruction stands, and goes
-# on behind it; that of a page fault shows the error code and CR2, and goes on behind it; that of INT shows where it goes on.
+# on after it; that of a page fault shows the error code and CR2, and goes on after it; that of INT shows where it goes on.
 	.text
 	.globl _start
 _start:

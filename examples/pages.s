@@ -1,5 +1,5 @@
-# Maps a page, reads it, gives it another frame, and reads it again before and behind an INVLPG: the word of the old frame
-# is seen until the page is dropped.
+# Maps a page, reads it, gives it another frame, and reads it again before and after an INVLPG: the old frame is read,
+# by a stale translation, until the page is dropped.
 	.text
 	.globl _start
 _start:

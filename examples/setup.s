@@ -1,4 +1,4 @@
-# What several kernels begin with: an IDT, a GDT with a task, and the interrupt controllers. It is linked behind a kernel,
+# What several kernels begin with: an IDT, a GDT with a TSS, and the interrupt controllers. It is linked after a kernel,
 # whose data then begins at 0x11000000.
 	.data
 	.p2align 3
@@ -10,20 +10,20 @@ gdt_register:
 	.word 0x2f
 	.long gdt
 	.p2align 3
-gdt:				# as at boot, and a task
+gdt:				# as at boot, and a TSS
 	.long 0, 0
 	.long 0xffff, 0xcf9b00
 	.long 0xffff, 0xcf9300
 	.long 0xffff, 0xcffa00
 	.long 0xffff, 0xcff200
-task_descriptor:
+tss_descriptor:
 	.long 0x67, 0x8900	# limit 0x67, available; the base is put in at the start
 	.bss
 	.p2align 3
 	.globl idt
 idt:
 	.zero 2048
-task:
+tss:
 	.zero 104
 	.text
 
@@ -36,21 +36,21 @@ set_gate:
 	movw %cx,4(%edi)
 	ret
 
-# What code at level 3 needs: the first page of data may be used there, a task says which stack level 0 has, and the IDT
+# What code at level 3 needs: the first page of data may be used there, a TSS says which stack level 0 has, and the IDT
 # is loaded.
 	.globl load_tables
 load_tables:
-	# U/S in the directory's entry and in the table's
+	# U/S in the PDE and in the PTE
 	orl $4,0xc0001110
 	orl $4,0xc0018000
-	# the task's stack of level 0, and its descriptor
-	movl $0xc0100000,task+4
-	movl $0x10,task+8
-	movl $task,%eax
-	movw %ax,task_descriptor+2
+	# ESP0 and SS0 of the TSS, and its descriptor
+	movl $0xc0100000,tss+4
+	movl $0x10,tss+8
+	movl $tss,%eax
+	movw %ax,tss_descriptor+2
 	shrl $16,%eax
-	movb %al,task_descriptor+4
-	movb %ah,task_descriptor+7
+	movb %al,tss_descriptor+4
+	movb %ah,tss_descriptor+7
 	lgdt gdt_register
 	movl $0x28,%eax
 	ltr %ax

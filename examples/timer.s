@@ -1,4 +1,4 @@
-# Lets the timer interrupt the NOPs behind a PUSHF, shows where it did, and goes on behind them.
+# Lets the timer interrupt the NOPs of a PUSHF's padding, shows where it did, and goes on after them.
 	.text
 	.globl _start
 _start:

@@ -2,7 +2,7 @@
    int $0x80; the console and the keyboard at the serial port; a task that faults is ended.
 
    From top to bottom: instructions that C has no words for; what the processor finds in memory (the frame of a trap, the
-   task's state, the tables); the console; frames and tables; a task; changes from task to task; what each trap does. */
+   TSS, the tables); the console; frames and tables; a task; changes from task to task; what each trap does. */
 #include <stdint.h>
 #include <stddef.h>
 
@@ -38,10 +38,10 @@ enum { DIRECT = 0xC0000000, USER = 0x40000000, USER_STACK = 0x50000000 };
 /* Vectors, and the ports of the controllers, the timer and the serial port. */
 enum { DIVIDE = 0, OPCODE = 6, PROTECTION = 13, PAGE = 14, TIMER = 32, SERIAL = 36, CALL = 0x80 };
 enum { SPURIOUS_MASTER = 39, SPURIOUS_SLAVE = 47 };
-enum { PIC = 0x20, PIC_MASK = 0x21, SLAVE = 0xa0, SLAVE_MASK = 0xa1, COUNT = 0x40, COUNT_MODE = 0x43 };
+enum { PIC = 0x20, PIC_MASK = 0x21, SLAVE = 0xa0, SLAVE_MASK = 0xa1, COUNT = 0x40, COUNT_MODE = 0x43, EOI = 0x20 };
 enum { DATA = 0x3f8, RECEIVE_INTERRUPT = 0x3f9, LINE_CONTROL = 0x3fb, LINE_STATUS = 0x3fd };
 
-/* What a task asks for, in EAX: put the character in EBX, get one, let the other task go on, end; put a line, at EBX and of ECX
+/* What a task wants of the kernel, in EAX: put the character in EBX, get one, let the other task go on, end; put a line, at EBX and of ECX
    bytes, with the task's number before it, that no other task's output parts (the packages of examples/packages do). */
 enum { PUT, GET, PASS, END, LINE };
 
@@ -62,8 +62,8 @@ struct task {
     uint8_t kernel_stack[4096] __attribute__((aligned(16)));
 };
 
-/* The processor's own task: where the stack of level 0 is, when it comes from level 3. */
-struct segment_task {
+/* The TSS: where the stack of level 0 is, when the processor comes from level 3. */
+struct tss {
     uint32_t back, esp0, ss0, rest[23];
 };
 
@@ -75,7 +75,7 @@ extern const uint32_t user_image_size, user_memory_size;
 
 static struct task tasks[2], *now;
 static uint32_t idle_stack;
-static struct segment_task the_task;
+static struct tss tss;
 static uint64_t gdt[6] __attribute__((aligned(8)));
 static uint32_t idt[256][2] __attribute__((aligned(8)));
 static uint32_t next_frame, ticks, switches;
@@ -147,16 +147,16 @@ static void gate(int vector, void (*handler)(void), int level) {
     idt[vector][1] = (at & 0xffff0000) | 0x8e00 | level << 13;
 }
 
-/* Flat code and data of both levels, as at boot, and a task; the gates; both tables loaded. */
+/* Flat code and data of both levels, as at boot, and a TSS; the gates; both tables loaded. */
 static void tables(void) {
     gdt[1] = 0x00cf9a000000ffffull;
     gdt[2] = 0x00cf92000000ffffull;
     gdt[3] = 0x00cffa000000ffffull;
     gdt[4] = 0x00cff2000000ffffull;
-    uint32_t base = (uint32_t)&the_task, *d = (uint32_t *)&gdt[5];
-    d[0] = base << 16 | (sizeof the_task - 1);
+    uint32_t base = (uint32_t)&tss, *d = (uint32_t *)&gdt[5];
+    d[0] = base << 16 | (sizeof tss - 1);
     d[1] = (base & 0xff000000) | 0x8900 | (base >> 16 & 0xff);
-    the_task.ss0 = 0x10;
+    tss.ss0 = 0x10;
     load_table("gdt", gdt, sizeof gdt - 1);
     gate(DIVIDE, on_divide, 0);
     gate(OPCODE, on_opcode, 0);
@@ -199,8 +199,8 @@ static void map(struct task *t, uint32_t at, uint32_t physical, uint32_t rights)
 }
 
 /* A task: a copy of the kernel's directory, its program and its stack in frames of its own, and on its stack of level 0 what
-   leave_trap pops, so that it begins as if it came back from a trap. The flags are IF alone: a monitor asks for IF 1 and
-   IOPL 0 at level 3. */
+   leave_trap pops, so that it begins as if it came back from a trap. The flags are IF alone: a kernel that
+   runs patched returns to level 3 with IF 1 and IOPL 0. */
 static void make(struct task *t, int number) {
     t->number = number;
     t->cr3 = frame();
@@ -240,13 +240,13 @@ static void go(struct task *to) {
     now = to;
     switches++;
     if (to) {
-        the_task.esp0 = (uint32_t)(to->kernel_stack + sizeof to->kernel_stack);
+        tss.esp0 = (uint32_t)(to->kernel_stack + sizeof to->kernel_stack);
         write_cr3(to->cr3);
     }
     change_stack(from ? &from->stack : &idle_stack, to ? to->stack : idle_stack);
 }
 
-/* The other task if it goes on, else the same; behind the last one kernel_main. */
+/* The other task if it goes on, else the same; after the last one kernel_main. */
 static void go_on(void) {
     int i = now ? now->number : 0;
     struct task *other = &tasks[!i];
@@ -284,7 +284,7 @@ static uint8_t user_byte(uint32_t at) {
 void on_trap(struct trap *f) {
     switch (f->vector) {
     case TIMER:
-        outb(PIC, 0x20);
+        outb(PIC, EOI);
         ticks++;
         if (now) {
             now->ticks++;
@@ -292,7 +292,7 @@ void on_trap(struct trap *f) {
         }
         break;
     case SERIAL:
-        outb(PIC, 0x20);
+        outb(PIC, EOI);
         while (inb(LINE_STATUS) & 1) {
             uint8_t c = inb(DATA);
             if (typed_n < sizeof typed)

@@ -309,7 +309,7 @@ go_on:
 .L47:
 	movl	%eax, now
 	addl	$4128, %eax
-	movl	%eax, the_task+4
+	movl	%eax, tss+4
 	movl	%ecx, %eax
 	sall	$7, %eax
 	incl	switches
@@ -1189,7 +1189,7 @@ kernel_main:
 # 0 "" 2
 #NO_APP
 	movl	$13603328, %eax
-	movl	$the_task, %edx
+	movl	$tss, %edx
 	movl	%eax, gdt+20
 	movl	$65535, %eax
 	movl	$65535, %esi
@@ -1218,7 +1218,7 @@ kernel_main:
 	movl	%ecx, 44(%esp)
 	orl	%edx, %eax
 	movl	$16, %edx
-	movl	%edx, the_task+8
+	movl	%edx, tss+8
 	leal	42(%esp), %edx
 	orl	$35072, %eax
 	movl	%eax, gdt+44
@@ -1405,7 +1405,7 @@ kernel_main:
 	movl	tasks+4, %edx
 	incl	switches
 	movl	%ecx, now
-	movl	%ebx, the_task+4
+	movl	%ebx, tss+4
 #APP
 # 32 "kernel.c" 1
 	movl %edx, %cr3
@@ -1559,8 +1559,8 @@ kernel_main:
 	.comm	idt,2048,8
 	.local	gdt
 	.comm	gdt,48,8
-	.local	the_task
-	.comm	the_task,104,32
+	.local	tss
+	.comm	tss,104,32
 	.local	idle_stack
 	.comm	idle_stack,4,4
 	.local	now
