@@ -14,7 +14,8 @@ put_number:
 	movl	$-858993459, %eax
 	mull	%ebx
 	shrl	$3, %edx
-	leal	(%edx,%edx,4), %eax
+	leal	0(,%edx,4), %eax
+	addl	%edx, %eax
 	movl	$1021, %edx
 	addl	%eax, %eax
 	subl	%eax, %ebx
@@ -54,7 +55,8 @@ put_number:
 	movl	$-858993459, %eax
 	mull	%ecx
 	shrl	$3, %edx
-	leal	(%edx,%edx,4), %eax
+	leal	0(,%edx,4), %eax
+	addl	%edx, %eax
 	movl	$1021, %edx
 	addl	%eax, %eax
 	subl	%eax, %ecx
@@ -87,7 +89,8 @@ put_number:
 	movl	%edi, %eax
 	mull	%esi
 	shrl	$3, %edx
-	leal	(%edx,%edx,4), %eax
+	leal	0(,%edx,4), %eax
+	addl	%edx, %eax
 	movl	$1021, %edx
 	addl	%eax, %eax
 	subl	%eax, %edi
@@ -137,7 +140,8 @@ main:
 	movl	%ecx, %eax
 	mull	%ebp
 	shrl	$3, %edx
-	leal	(%edx,%edx,4), %eax
+	leal	0(,%edx,4), %eax
+	addl	%edx, %eax
 	addl	%eax, %eax
 	subl	%eax, %ecx
 	addl	$48, %ecx

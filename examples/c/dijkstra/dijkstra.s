@@ -74,31 +74,31 @@ main:
 	incl	%eax
 	cmpl	$64, %eax
 	jne	.L5
-	movb	%bl, 23(%esp)
-	xorl	%eax, %eax
+	xorl	%esi, %esi
+	xorl	%edi, %edi
+	movl	%esi, far(,%ebx,4)
 	movl	$1, %edx
-	movl	%eax, far(,%ebx,4)
-	xorl	%eax, %eax
-	movw	%ax, where(%ebx,%ebx)
 	movb	%bl, %al
+	movb	%bl, 23(%esp)
+	movw	%di, where(%ebx,%ebx)
 	movl	%edx, 32(%esp)
 	movl	%ebx, 16(%esp)
 	.p2align 4
 	.p2align 3
 .L19:
 	decl	32(%esp)
-	xorl	%esi, %esi
+	xorl	%edx, %edx
 	movzbl	23(%esp), %ebx
+	movl	$-2, %ecx
 	movb	%al, heap
 	movl	32(%esp), %edi
 	movb	%bl, heap(%edi)
 	decl	%edi
 	movzbl	heap, %eax
-	movw	%si, where(%eax,%eax)
+	movw	%dx, where(%eax,%eax)
 	movb	%al, 28(%esp)
 	movl	%eax, 40(%esp)
-	movl	$-2, %eax
-	movw	%ax, where(%ebx,%ebx)
+	movw	%cx, where(%ebx,%ebx)
 	jle	.L48
 	movl	40(%esp), %eax
 	movl	$1, %edi
@@ -121,21 +121,23 @@ main:
 	cmpl	%edi, %ecx
 	jnb	.L10
 .L50:
-	movzbl	44(%esp), %ebx
-	movl	40(%esp), %edi
-	movb	%bl, heap(%edx)
+	movzbl	44(%esp), %ecx
+	leal	(%eax,%eax), %edi
 	movzbl	28(%esp), %ebx
+	incl	%edi
+	movl	40(%esp), %esi
+	cmpl	%edi, 32(%esp)
+	movb	%cl, heap(%edx)
 	movb	%bl, heap(%eax)
 	movzbl	heap(%edx), %ecx
 	movw	%dx, where(%ecx,%ecx)
-	movw	%ax, where(%edi,%edi)
-	leal	1(%eax,%eax), %edi
-	cmpl	%edi, 32(%esp)
+	movw	%ax, where(%esi,%esi)
 	jle	.L10
 	movl	%eax, %edx
 .L11:
+	leal	1(%edx), %eax
 	movzbl	heap(%edi), %ebx
-	leal	2(%edx,%edx), %eax
+	addl	%eax, %eax
 	cmpl	%eax, 32(%esp)
 	movb	%bl, 44(%esp)
 	movl	far(,%ebx,4), %ecx
@@ -147,75 +149,75 @@ main:
 	jb	.L50
 .L10:
 	movl	24(%esp), %ebx
-	movl	first(,%ebx,4), %edx
-	testl	%edx, %edx
+	movl	first(,%ebx,4), %ecx
+	testl	%ecx, %ecx
 	js	.L24
-.L45:
-	movl	%ebx, 28(%esp)
 	.p2align 4
 	.p2align 3
 .L17:
-	movl	28(%esp), %edi
-	movzwl	roads+2(,%edx,8), %esi
-	movzbl	roads+1(,%edx,8), %ecx
-	movl	far(,%edi,4), %ebx
-	addl	%ebx, %esi
-	cmpl	far(,%ecx,4), %esi
+	movzwl	roads+2(,%ecx,8), %edx
+	movl	far(,%ebx,4), %edi
+	movzbl	roads+1(,%ecx,8), %esi
+	addl	%edi, %edx
+	cmpl	far(,%esi,4), %edx
+	movl	%esi, %eax
 	jnb	.L12
-	movl	%esi, far(,%ecx,4)
-	movswl	where(%ecx,%ecx), %esi
-	movzbl	23(%esp), %ebx
-	cmpl	$-1, %esi
-	movb	%bl, before(%ecx)
+	movl	%edx, far(,%esi,4)
+	movzbl	23(%esp), %edx
+	movb	%dl, before(%esi)
+	movswl	where(%esi,%esi), %edx
+	cmpl	$-1, %edx
 	jne	.L13
 	movl	32(%esp), %edi
-	movb	%cl, heap(%edi)
-	movswl	%di, %esi
+	movb	%al, heap(%edi)
+	movswl	%di, %edx
 	incl	%edi
-	movw	%si, where(%ecx,%ecx)
+	movw	%dx, where(%esi,%esi)
 	movl	%edi, 32(%esp)
 .L13:
-	testl	%esi, %esi
-	movl	%esi, %ecx
+	testl	%edx, %edx
+	movl	%edx, %eax
 	je	.L12
-	movl	%edx, 24(%esp)
-	movzbl	heap(%esi), %edi
+	movl	%ecx, 28(%esp)
+	movzbl	heap(%edx), %edi
+	movl	%ebx, 24(%esp)
 	movl	%edi, 36(%esp)
-	movl	%edi, %eax
-	movb	%al, 40(%esp)
-	movl	far(,%edi,4), %eax
-	movl	%eax, 44(%esp)
+	movl	far(,%edi,4), %esi
+	movl	%edi, %edx
+	movb	%dl, 40(%esp)
+	movl	%esi, 44(%esp)
 	jmp	.L15
 	.p2align 4,,10
 	.p2align 3
 .L16:
-	movb	%bl, heap(%edx)
+	movb	%bl, heap(%ecx)
 	movzbl	40(%esp), %ebx
-	testl	%ecx, %ecx
-	movb	%bl, heap(%eax)
-	movzbl	heap(%edx), %eax
-	movw	%dx, where(%eax,%eax)
-	movl	36(%esp), %eax
-	movw	%cx, where(%eax,%eax)
+	testl	%eax, %eax
+	movl	36(%esp), %esi
+	movb	%bl, heap(%edx)
+	movzbl	heap(%ecx), %edx
+	movw	%cx, where(%edx,%edx)
+	movw	%ax, where(%esi,%esi)
 	je	.L44
 .L15:
-	movl	%ecx, %edx
-	movl	44(%esp), %edi
-	leal	-1(%ecx), %ecx
-	movl	%ecx, %eax
-	shrl	$31, %eax
-	addl	%ecx, %eax
-	sarl	%eax
-	movzbl	heap(%eax), %esi
 	movl	%eax, %ecx
+	decl	%eax
+	movl	44(%esp), %edi
+	movl	%eax, %edx
+	shrl	$31, %edx
+	addl	%eax, %edx
+	sarl	%edx
+	movzbl	heap(%edx), %esi
+	movl	%edx, %eax
 	cmpl	far(,%esi,4), %edi
 	movl	%esi, %ebx
 	jb	.L16
 .L44:
-	movl	24(%esp), %edx
+	movl	28(%esp), %ecx
+	movl	24(%esp), %ebx
 .L12:
-	movl	roads+4(,%edx,8), %edx
-	testl	%edx, %edx
+	movl	roads+4(,%ecx,8), %ecx
+	testl	%ecx, %ecx
 	jns	.L17
 .L8:
 	movl	32(%esp), %edx
@@ -273,9 +275,9 @@ main:
 	popl	%ebp
 	ret
 .L48:
-	movl	first(,%ebx,4), %edx
-	testl	%edx, %edx
-	jns	.L45
+	movl	first(,%ebx,4), %ecx
+	testl	%ecx, %ecx
+	jns	.L17
 	jmp	.L8
 	.size	main, .-main
 	.local	count

@@ -40,9 +40,9 @@ run:
 	pushl	%ebp
 	xorl	%edx, %edx
 	pushl	%edi
-	xorl	%ecx, %ecx
+	xorl	%ebp, %ebp
 	pushl	%esi
-	xorl	%esi, %esi
+	xorl	%ecx, %ecx
 	pushl	%ebx
 	movl	%eax, %ebx
 	subl	$44, %esp
@@ -50,18 +50,18 @@ run:
 	movl	%edx, 20(%esp)
 	.p2align 4
 	.p2align 3
-.L7:
-	leal	1(%eax), %edi
-	incl	%esi
+.L6:
+	leal	1(%eax), %esi
+	incl	%ebp
 	cmpb	$20, (%ebx,%eax)
-	ja	.L8
+	ja	.L7
 	movzbl	(%ebx,%eax), %edx
-	jmp	*.L10(,%edx,4)
+	movl	.L9(,%edx,4), %edx
+	jmp	*%edx
 	.section	.rodata
 	.align 4
 	.align 4
-.L10:
-	.long	.L30
+.L9:
 	.long	.L29
 	.long	.L28
 	.long	.L27
@@ -71,8 +71,8 @@ run:
 	.long	.L23
 	.long	.L22
 	.long	.L21
-	.long	.L35
-	.long	.L19
+	.long	.L20
+	.long	.L34
 	.long	.L18
 	.long	.L17
 	.long	.L16
@@ -81,173 +81,190 @@ run:
 	.long	.L13
 	.long	.L12
 	.long	.L11
-	.long	.L6
+	.long	.L10
+	.long	.L5
 	.text
-.L8:
+.L7:
 	movl	$.LC2, (%esp)
 	call	put
-.L6:
+.L5:
 	addl	$44, %esp
-	movl	%esi, %eax
+	movl	%ebp, %eax
 	popl	%ebx
 	popl	%esi
 	popl	%edi
 	popl	%ebp
 	ret
-.L19:
+.L18:
 	decl	%ecx
 	addl	$2, %eax
 	cmpl	$0, stack(,%ecx,4)
-	je	.L7
-.L35:
-	movzbl	(%ebx,%edi), %eax
-	jmp	.L7
-.L11:
+	je	.L6
+.L34:
+	movzbl	(%ebx,%esi), %eax
+	jmp	.L6
+.L10:
 	leal	-2(%ecx), %edx
-	movzbl	stack-4(,%ecx,4), %eax
+	decl	%ecx
+	movzbl	stack(,%ecx,4), %eax
 	movl	stack(,%edx,4), %ecx
 	movl	%ecx, memory(,%eax,4)
-	movl	%edi, %eax
+	movl	%esi, %eax
 	movl	%edx, %ecx
-	jmp	.L7
-.L12:
-	movzbl	stack-4(,%ecx,4), %eax
-	movl	memory(,%eax,4), %eax
-	movl	%eax, stack-4(,%ecx,4)
-	movl	%edi, %eax
-	jmp	.L7
-.L13:
-	leal	-1(%ecx), %edx
-	movl	stack(,%edx,4), %eax
-	movl	%eax, 24(%esp)
-	leal	-2(%ecx), %eax
-	movl	stack(,%eax,4), %ebp
-	movl	%ebp, stack(,%edx,4)
-	movl	24(%esp), %edx
+	jmp	.L6
+.L11:
+	leal	-1(%ecx), %eax
+	movzbl	stack(,%eax,4), %edx
+	movl	memory(,%edx,4), %edx
 	movl	%edx, stack(,%eax,4)
-	movl	%edi, %eax
-	jmp	.L7
-.L14:
+	movl	%esi, %eax
+	jmp	.L6
+.L12:
+	leal	-1(%ecx), %edx
+	movl	stack(,%edx,4), %edi
+	leal	-2(%ecx), %eax
+	movl	%edi, 24(%esp)
+	movl	stack(,%eax,4), %edi
+	movl	%edi, stack(,%edx,4)
+	movl	24(%esp), %edi
+	movl	%edi, stack(,%eax,4)
+	movl	%esi, %eax
+	jmp	.L6
+.L13:
 	decl	%ecx
-	movl	%edi, %eax
-	jmp	.L7
-.L21:
-	movl	stack-4(,%ecx,4), %eax
-	cmpl	%eax, stack-8(,%ecx,4)
+	movl	%esi, %eax
+	jmp	.L6
+.L20:
+	leal	-1(%ecx), %edx
+	subl	$2, %ecx
+	movl	stack(,%ecx,4), %eax
+	cmpl	stack(,%edx,4), %eax
 	sete	%al
 	movzbl	%al, %eax
-	movl	%eax, stack-8(,%ecx,4)
-	movl	%edi, %eax
-	decl	%ecx
-	jmp	.L7
-.L22:
-	movl	stack-4(,%ecx,4), %eax
-	cmpl	%eax, stack-8(,%ecx,4)
+	movl	%eax, stack(,%ecx,4)
+	movl	%esi, %eax
+	movl	%edx, %ecx
+	jmp	.L6
+.L21:
+	leal	-1(%ecx), %edx
+	subl	$2, %ecx
+	movl	stack(,%ecx,4), %eax
+	cmpl	stack(,%edx,4), %eax
 	setl	%al
 	movzbl	%al, %eax
-	movl	%eax, stack-8(,%ecx,4)
-	movl	%edi, %eax
-	decl	%ecx
-	jmp	.L7
-.L15:
-	movl	stack-4(,%ecx,4), %eax
+	movl	%eax, stack(,%ecx,4)
+	movl	%esi, %eax
+	movl	%edx, %ecx
+	jmp	.L6
+.L14:
+	leal	-1(%ecx), %eax
+	movl	stack(,%eax,4), %eax
 	movl	%eax, stack(,%ecx,4)
 	incl	%ecx
-	movl	%edi, %eax
-	jmp	.L7
-.L16:
+	movl	%esi, %eax
+	jmp	.L6
+.L15:
 	decl	%ecx
-	movzbl	(%ebx,%edi), %edx
+	movzbl	(%ebx,%esi), %edx
 	addl	$2, %eax
 	movl	%eax, 28(%esp)
-	movl	stack(,%ecx,4), %edi
+	movl	stack(,%ecx,4), %esi
 	movl	%ecx, 24(%esp)
-	movl	%edi, (%esp)
-	call	*outs(,%edx,4)
+	movl	outs(,%edx,4), %edx
+	movl	%esi, (%esp)
+	call	*%edx
 	movl	24(%esp), %ecx
 	movl	28(%esp), %eax
-	jmp	.L7
-.L17:
+	jmp	.L6
+.L16:
 	decl	20(%esp)
 	movl	20(%esp), %eax
 	movl	frame(,%eax,4), %eax
-	jmp	.L7
-.L18:
-	movl	20(%esp), %edx
+	jmp	.L6
+.L17:
+	movl	20(%esp), %edi
 	addl	$2, %eax
-	movl	%eax, frame(,%edx,4)
-	movzbl	(%ebx,%edi), %eax
-	leal	1(%edx), %edi
-	movl	%edi, 20(%esp)
-	jmp	.L7
-.L23:
-	leal	-1(%ecx), %ebp
+	movl	%eax, frame(,%edi,4)
+	leal	1(%edi), %edx
+	movzbl	(%ebx,%esi), %eax
+	movl	%edx, 20(%esp)
+	jmp	.L6
+.L22:
+	leal	-1(%ecx), %edi
 	subl	$2, %ecx
 	movl	stack(,%ecx,4), %eax
 	cltd
-	idivl	stack(,%ebp,4)
-	movl	%edi, %eax
+	idivl	stack(,%edi,4)
+	movl	%esi, %eax
 	movl	%edx, stack(,%ecx,4)
-	movl	%ebp, %ecx
-	jmp	.L7
-.L24:
-	leal	-2(%ecx), %edx
-	movl	stack(,%edx,4), %eax
-	imull	stack-4(,%ecx,4), %eax
-	decl	%ecx
-	movl	%eax, stack(,%edx,4)
-	movl	%edi, %eax
-	jmp	.L7
-.L25:
-	leal	-2(%ecx), %edx
-	movl	stack(,%edx,4), %eax
-	subl	stack-4(,%ecx,4), %eax
-	decl	%ecx
-	movl	%eax, stack(,%edx,4)
-	movl	%edi, %eax
-	jmp	.L7
-.L26:
+	movl	%edi, %ecx
+	jmp	.L6
+.L23:
 	leal	-1(%ecx), %edx
-	movl	stack(,%edx,4), %eax
-	addl	%eax, stack-8(,%ecx,4)
-	movl	%edi, %eax
+	subl	$2, %ecx
+	movl	stack(,%ecx,4), %eax
+	imull	stack(,%edx,4), %eax
+	movl	%eax, stack(,%ecx,4)
+	movl	%esi, %eax
 	movl	%edx, %ecx
-	jmp	.L7
-.L27:
+	jmp	.L6
+.L24:
+	leal	-1(%ecx), %edx
+	subl	$2, %ecx
+	movl	stack(,%ecx,4), %eax
+	subl	stack(,%edx,4), %eax
+	movl	%eax, stack(,%ecx,4)
+	movl	%esi, %eax
+	movl	%edx, %ecx
+	jmp	.L6
+.L25:
+	leal	-1(%ecx), %edx
+	subl	$2, %ecx
+	movl	stack(,%ecx,4), %eax
+	addl	stack(,%edx,4), %eax
+	movl	%eax, stack(,%ecx,4)
+	movl	%esi, %eax
+	movl	%edx, %ecx
+	jmp	.L6
+.L26:
 	decl	%ecx
-	movzbl	(%ebx,%edi), %edx
+	movzbl	(%ebx,%esi), %edx
 	addl	$2, %eax
-	movl	stack(,%ecx,4), %edi
-	movl	%edi, memory(,%edx,4)
-	jmp	.L7
+	movl	stack(,%ecx,4), %esi
+	movl	%esi, memory(,%edx,4)
+	jmp	.L6
+.L27:
+	movzbl	(%ebx,%esi), %esi
+	leal	1(%ecx), %edx
+	addl	$2, %eax
+	movl	memory(,%esi,4), %esi
+	movl	%esi, stack(,%ecx,4)
+	movl	%edx, %ecx
+	jmp	.L6
 .L28:
-	movzbl	(%ebx,%edi), %edx
-	addl	$2, %eax
-	movl	memory(,%edx,4), %edx
-	movl	%edx, stack(,%ecx,4)
-	incl	%ecx
-	jmp	.L7
-.L29:
-	movzbl	2(%ebx,%eax), %edx
-	movzbl	3(%ebx,%eax), %ebp
-	movzbl	(%ebx,%edi), %edi
-	sall	$8, %edx
-	sall	$16, %ebp
-	orl	%ebp, %edx
+	leal	1(%ecx), %edi
+	movzbl	3(%ebx,%eax), %edx
+	movl	%edi, 24(%esp)
+	movzbl	2(%ebx,%eax), %edi
+	movzbl	(%ebx,%esi), %esi
+	sall	$16, %edx
+	sall	$8, %edi
 	orl	%edi, %edx
-	movzbl	4(%ebx,%eax), %edi
+	orl	%esi, %edx
+	movzbl	4(%ebx,%eax), %esi
 	addl	$5, %eax
-	sall	$24, %edi
-	orl	%edi, %edx
+	sall	$24, %esi
+	orl	%esi, %edx
 	movl	%edx, stack(,%ecx,4)
-	incl	%ecx
-	jmp	.L7
-.L30:
-	movsbl	(%ebx,%edi), %edx
+	movl	24(%esp), %ecx
+	jmp	.L6
+.L29:
+	movsbl	(%ebx,%esi), %esi
+	leal	1(%ecx), %edx
 	addl	$2, %eax
-	movl	%edx, stack(,%ecx,4)
-	incl	%ecx
-	jmp	.L7
+	movl	%esi, stack(,%ecx,4)
+	movl	%edx, %ecx
+	jmp	.L6
 	.size	run, .-run
 	.p2align 4
 	.type	out_char, @function
