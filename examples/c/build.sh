@@ -11,7 +11,7 @@
 # 4. What it sent by the serial port is printed, and compared with NAME/console.txt, if it is there; both traces are compared.
 #
 # A kernel needs no more than its sources. NAME/steps has the number of its steps, which is 1,000,000 without it, or $STEPS, and
-# NAME/script what comes from outside. Where something is refused, a run stops, or the console or a trace is another, this is told,
+# NAME/script what comes from outside. Where something is refused, a run stops, or the console or a trace differs, this is reported,
 # what was printed is shown, and the files are kept.
 #
 # --stored takes the assembler sources that stand here, so that no compiler is needed; --keep puts those that are made here.
@@ -135,7 +135,7 @@ build() { # name, folder
     "$pv" check "$work/$1.img" || { wrong "$1" "check refuses the image"; return 1; }
 }
 
-# Runs a kernel on one machine, and tells how it ended where it didn't come to its bound.
+# Runs a kernel on one machine, and reports how it ended where it didn't reach its bound.
 run_on() { # machine, name, folder, script, steps
     local trace=$work/$2.$1
     "$pv" run "--$1" "$work/$2.img" "$4" 2048 "$5" >"$trace" || wrong "$2" "run --$1: status $?: $(tail -n 1 "$trace")"
