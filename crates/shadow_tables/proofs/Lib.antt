@@ -6,3 +6,4 @@ pub mod Sweeps
 pub mod Bars
 pub mod OtherRoots
 pub mod Sides
+pub mod Seeing

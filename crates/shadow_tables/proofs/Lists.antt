@@ -6,14 +6,13 @@ use Rattle.std.proofs.lemmas.Bool.{and_parts}
 use Rattle.std.proofs.lemmas.Option.{same_Some}
 use Rattle.paging.specs.declared.entry.Entry.{Entry}
 use Rattle.guest_ram.specs.Among.{is_among}
-use Rattle.shadow_tables.specs.Slots.{Slot, filled, barred, entry_in, is_side, is_adequate, permits, Turns, LosesDir, LosesWrites}
+use Rattle.shadow_tables.specs.Slots.{Slot, filled, barred, entry_in, is_side, is_adequate, permits, LosesWrites}
 use Rattle.shadow_tables.specs.Steps.{after, after_call}
 use Rattle.shadow_tables.specs.Calls.{IsFit, AreFit, fill_count, fills, Concerns, LeaveAlone, LastFill, IsEntryAfter, IsAdequateAfter, IsWithin, Follows}
 use Rattle.shadow_tables.specs.declared.words.Side.{Side}
 use Rattle.shadow_tables.specs.declared.words.Side.TheVariants.{Kernel, User}
 use Rattle.shadow_tables.specs.declared.calls.Call.{Call}
 use Rattle.shadow_tables.specs.declared.calls.Call.TheVariants.{Fill, DropPage, DropDir, DropAll, Note, Written}
-use Rattle.shadow_tables.proofs.OtherRoots.{barred-none}
 
 -- ---- a list up to a place
 
@@ -242,49 +241,13 @@ follows cs page o now h =
 
 -- ---- one call
 
-fill-turned : (f f' : ℕ → Option Slot) (x y : Slot) (at page : ℕ) → Turns f f' at (Some x) → IsWithin (Some x) (Some y) → page < 2 ^ 20 → IsWithin (f' page) (cond (eqb page at) (Some y) (f page))
-fill-turned f f' x y at page t h l =
-    elim (eqb_tells page at) [
-      | inl e ↦ subst (λ b. IsWithin (f' page) (cond b (Some y) (f page))) (sym e.0) (subst (λ z. IsWithin z (Some y)) (sym (ap f' e.1 ∙ t.there)) h)
-      | inr n ↦ subst (λ b. IsWithin (f' page) (cond b (Some y) (f page))) (sym n.0) (within-same (f' page) (f page) (t.others page l n.1))
-    ]
-
 pub only-less : (b p : Bool) → (not b && p) ≡ true → p ≡ true
 only-less true p e = cc
 only-less false p e = e
 
-pub fill-within : (f f' : ℕ → Option Slot) (b : Bool) (side : Side) (entry : Entry) (wp : Bool) (page : ℕ) → Turns f f' entry.page (Some (filled b side entry wp)) → page < 2 ^ 20 → IsWithin (f' page) (after_call (Fill side entry wp) page (f page))
-fill-within f f' b side entry wp page t l =
-    fill-turned f f' (filled b side entry wp) (filled false side entry wp) entry.page page t (refl, refl, refl, only-less b (permits side entry true wp)) l
-
-turned : (f f' : ℕ → Option Slot) (o : Option Slot) (at page : ℕ) → Turns f f' at o → page < 2 ^ 20 → f' page ≡ cond (eqb page at) o (f page)
-turned f f' o at page t l =
-    elim (eqb_tells page at) [
-      | inl e ↦ ap f' e.1 ∙ t.there ∙ sym (ap (λ b. cond b o (f page)) e.0)
-      | inr n ↦ t.others page l n.1 ∙ sym (ap (λ b. cond b o (f page)) n.0)
-    ]
-
-pub fill-exact : (f f' : ℕ → Option Slot) (write_protected : List ℕ) (side : Side) (entry : Entry) (wp : Bool) (page : ℕ) → write_protected ≡ [] → Turns f f' entry.page (Some (filled (is_among entry.frame write_protected) side entry wp)) → page < 2 ^ 20 → f' page ≡ after_call (Fill side entry wp) page (f page)
-fill-exact f f' write_protected side entry wp page e t l =
-    turned f f' (Some (filled (is_among entry.frame write_protected) side entry wp)) entry.page page t l
-    ∙ ap (λ (fs : List ℕ). cond (eqb page entry.page) (Some (filled (is_among entry.frame fs) side entry wp)) (f page)) e
-
-pub drop-exact : (f f' : ℕ → Option Slot) (dropped page : ℕ) → Turns f f' dropped None → page < 2 ^ 20 → f' page ≡ after_call (DropPage dropped) page (f page)
-drop-exact f f' dropped page t l = turned f f' None dropped page t l
-
-pub dir-exact : (f f' : ℕ → Option Slot) (index page : ℕ) → LosesDir f f' index → page < 2 ^ 20 → f' page ≡ after_call (DropDir index) page (f page)
-dir-exact f f' index page t l =
-    elim (eqb_tells (page / 1024) index) [
-      | inl e ↦ t.gone page l e.1 ∙ sym (ap (λ b. cond b None (f page)) e.0)
-      | inr n ↦ t.others page l n.1 ∙ sym (ap (λ b. cond b None (f page)) n.0)
-    ]
-
-barred-within : (write_protected : List ℕ) (o : Option Slot) → IsWithin (barred write_protected o) o
+pub barred-within : (write_protected : List ℕ) (o : Option Slot) → IsWithin (barred write_protected o) o
 barred-within write_protected None = tt
 barred-within write_protected (Some slot) = (refl, refl, refl, (λ e. (and_parts slot.writes (not (is_among slot.entry.frame write_protected)) e).0))
 
 pub note-within : (f f' : ℕ → Option Slot) (write_protected : List ℕ) (page : ℕ) → LosesWrites f f' write_protected → page < 2 ^ 20 → IsWithin (f' page) (f page)
 note-within f f' write_protected page t l = subst (λ x. IsWithin x (f page)) (sym (t page l)) (barred-within write_protected (f page))
-
-pub note-exact : (f f' : ℕ → Option Slot) (write_protected : List ℕ) (page : ℕ) → write_protected ≡ [] → LosesWrites f f' write_protected → page < 2 ^ 20 → f' page ≡ f page
-note-exact f f' write_protected page e t l = t page l ∙ ap (λ (fs : List ℕ). barred fs (f page)) e ∙ barred-none (f page)

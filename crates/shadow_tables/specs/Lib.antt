@@ -9,3 +9,4 @@ pub mod Sweeps
 pub mod Steps
 pub mod Calls
 pub mod Sight
+pub mod Seen

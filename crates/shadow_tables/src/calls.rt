@@ -4,8 +4,8 @@ ghost use Rattle.std.specs.Prelude.{◌≡◌, ◌+◌, ◌≤◌, ◌<◌, [], 
 ghost use Rattle.frame_pool.specs.Pool.{free_list};
 ghost use Rattle.frame_pool.specs.Held.{Owns, Moves};
 ghost use Rattle.shadow_tables.specs.Calls.{IsFit, AreFit, fill_count, fills, BeginsWithFill};
-ghost use Rattle.shadow_tables.specs.Steps.{ProtectsNone, IsWithinCall, IsAfterCall, IsAfterAll, AllFollow, AllAdequateAfter};
-ghost use Rattle.shadow_tables.specs.Slots.{SameSlots};
+ghost use Rattle.shadow_tables.specs.Steps.{ProtectsNone, IsAfterAll, AllFollow, AllAdequateAfter};
+ghost use Rattle.shadow_tables.specs.Seen.{after_one, after_calls};
 
 use crate::shadows::Shadows;
 use crate::words::Side;
@@ -34,10 +34,8 @@ fn apply<S: Shadows>(shadows: &mut S, ram: &mut Ram, pool: &mut Pool, call: Call
     ensures done { fill_count call ≤ length (free_list pool.old ram.old) → IsTrue result }
     ensures undone { (IsTrue result → ⊥) → (fill_count call ≡ 1) × (free_list pool.new ram.new ≡ []) }
     ensures left { length (free_list pool.old ram.old) ≤ length (free_list pool.new ram.new) + fill_count call }
-    ensures same { (IsTrue result → ⊥) → SameSlots (S.slots shadows.old ram.old) (S.slots shadows.new ram.new) }
-    ensures within { IsTrue result → IsWithinCall call (S.slots shadows.old ram.old) (S.slots shadows.new ram.new) }
-    ensures slots { IsTrue result → ProtectsNone S.write_protected
-        → IsAfterCall call (S.slots shadows.old ram.old) (S.slots shadows.new ram.new) }
+    ensures same { (IsTrue result → ⊥) → S.sight shadows.new ram.new ≡ S.sight shadows.old ram.old }
+    ensures sight { IsTrue result → S.sight shadows.new ram.new ≡ after_one call (S.sight shadows.old ram.old) }
 {
     match call {
         Call::Fill(side, entry, wp) => {
@@ -69,6 +67,7 @@ pub fn replay<S: Shadows>(shadows: &mut S, ram: &mut Ram, pool: &mut Pool, calls
     ensures some { result ≤ length calls.now }
     ensures all { fills calls.now ≤ length (free_list pool.old ram.old) → result ≡ length calls.now }
     ensures stopped { result < length calls.now → BeginsWithFill (drop result calls.now) × (free_list pool.new ram.new ≡ []) }
+    ensures sight { S.sight shadows.new ram.new ≡ after_calls (take result calls.now) (S.sight shadows.old ram.old) }
     ensures law { AllFollow (take result calls.now) (S.slots shadows.old ram.old) (S.slots shadows.new ram.new) }
     ensures slots { ProtectsNone S.write_protected
         → IsAfterAll (take result calls.now) (S.slots shadows.old ram.old) (S.slots shadows.new ram.new) }

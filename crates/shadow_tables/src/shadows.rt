@@ -1,6 +1,6 @@
 //! What keeps the translations of a guest for its host.
 
-ghost use Rattle.std.specs.Prelude.{◌≡◌, ℕ, ◌+◌, ◌*◌, ◌/◌, ◌≤◌, ◌<◌, ◌^◌, List, [], ◌∷◌, length, drop, Bool, Option, Some, None, IfSome, true, false};
+ghost use Rattle.std.specs.Prelude.{◌≡◌, ℕ, ◌+◌, ◌*◌, ◌/◌, ◌≤◌, ◌<◌, ◌^◌, refl, List, [], ◌∷◌, length, drop, Bool, Option, Some, None, IfSome, true, false};
 ghost use Rattle.std.specs.FinMap.{get, insert, remove, empty};
 ghost use Rattle.frame_pool.specs.Pool.{base_of, free_list};
 ghost use Rattle.frame_pool.specs.declared.Pool.{Pool};
@@ -11,6 +11,7 @@ ghost use Rattle.shadow_tables.specs.OtherRoot.{OtherRoot, AreSame, LoseWrites, 
 ghost use Rattle.shadow_tables.specs.Entries.{FillsSlot, entries_of};
 ghost use Rattle.shadow_tables.specs.Host.{lent};
 ghost use Rattle.shadow_tables.specs.Known.{KnowsNoMore, KnowsRead, KnowsWritten, SameBeside};
+ghost use Rattle.shadow_tables.specs.Seen.{Seen, alone, protects, seen_of, page_dropped, dir_dropped, page_filled, emptied, noted, told_written};
 ghost use Rattle.guest_ram.specs.Among.{is_among};
 ghost use Rattle.shadow_tables.specs.Opened.{HasOpened};
 ghost use Rattle.shadow_tables.specs.Slots.{Slot, filled, entry_in, is_adequate, Turns, LosesDir, LosesWrites, SameSlots, Becomes, IsShadow, held, slot_at, root_of};
@@ -56,6 +57,10 @@ pub trait Shadows {
     /// What they keep for each page.
     ghost slots: { Self → List ℕ → ℕ → Option Slot };
 
+    /// What they show, as one value: what they keep for each page, from which frames the present tables were read, whether
+    /// these are stale, their value of CR3, and what is kept for other values. What is write-protected follows from it.
+    ghost sight: { Self → List ℕ → Seen };
+
     /// The root of a view.
     ghost directory: { Self → Side → ℕ };
 
@@ -82,6 +87,7 @@ pub trait Shadows {
         requires stands { ∥ stands self.old ram.old ∥₁ }
         requires page { page < 2 ^ 20 }
         ensures stands { ∥ stands self.new ram.new ∥₁ }
+        ensures sight { sight self.new ram.new ≡ page_dropped page (sight self.old ram.old) }
         ensures turns { Turns (slots self.old ram.old) (slots self.new ram.new) page None }
         ensures entries { entries_of (slots self.new ram.new) ≡ remove (entries_of (slots self.old ram.old)) page }
         ensures beside { SameBeside read_from stale cr3 write_protected other_roots self.old self.new ram.old ram.new }
@@ -98,6 +104,7 @@ pub trait Shadows {
         requires stands { ∥ stands self.old ram.old ∥₁ }
         requires index { index < 1024 }
         ensures stands { ∥ stands self.new ram.new ∥₁ }
+        ensures sight { sight self.new ram.new ≡ dir_dropped index (sight self.old ram.old) }
         ensures loses { LosesDir (slots self.old ram.old) (slots self.new ram.new) index }
         ensures entries { entries_of (slots self.new ram.new) ≡ without_dir (entries_of (slots self.old ram.old)) index }
         ensures beside { SameBeside read_from stale cr3 write_protected other_roots self.old self.new ram.old ram.new }
@@ -117,6 +124,7 @@ pub trait Shadows {
         requires free { 1 ≤ length (free_list pool.old ram.old) }
         requires fits { (entry.page < 2 ^ 20) × (entry.frame < 2 ^ 20) }
         ensures stands { ∥ stands self.new ram.new ∥₁ }
+        ensures sight { sight self.new ram.new ≡ page_filled side entry wp (sight self.old ram.old) }
         ensures fills { FillsSlot (write_protected self.old) side entry wp (slots self.old ram.old) (slots self.new ram.new) }
         ensures beside { SameBeside read_from stale cr3 write_protected other_roots self.old self.new ram.old ram.new }
         ensures has_tables_under { (indices : ℕ → Bool) → indices (entry.page / 1024) ≡ true
@@ -131,6 +139,7 @@ pub trait Shadows {
         requires stands { ∥ stands self.old ram.old ∥₁ }
         requires owns { Owns pool.old ram.old (frames self.old ram.old) }
         ensures stands { ∥ stands self.new ram.new ∥₁ }
+        ensures sight { sight self.new ram.new ≡ emptied (sight self.old ram.old) }
         ensures none { (page : ℕ) → page < 2 ^ 20 → slots self.new ram.new page ≡ None }
         ensures entries { entries_of (slots self.new ram.new) ≡ empty }
         ensures known { KnowsNoMore read_from stale cr3 write_protected self.old self.new }
@@ -148,6 +157,7 @@ pub trait Shadows {
         requires stands { ∥ stands self.old ram.old ∥₁ }
         requires frame { frame < 16384 }
         ensures stands { ∥ stands self.new ram.new ∥₁ }
+        ensures sight { sight self.new ram.new ≡ noted frame (sight self.old ram.old) }
         ensures slots { LosesWrites (slots self.old ram.old) (slots self.new ram.new) (write_protected self.new) }
         ensures entries { entries_of (slots self.new ram.new) ≡ entries_of (slots self.old ram.old) }
         ensures known { KnowsRead read_from stale cr3 write_protected frame self.old self.new }
@@ -165,6 +175,7 @@ pub trait Shadows {
         requires stands { ∥ stands self.old ram.old ∥₁ }
         requires owns { Owns pool.old ram.old (frames self.old ram.old) }
         ensures stands { ∥ stands self.new ram.new ∥₁ }
+        ensures sight { sight self.new ram.new ≡ told_written frame (sight self.old ram.old) }
         ensures slots { SameSlots (slots self.old ram.old) (slots self.new ram.new) }
         ensures entries { entries_of (slots self.new ram.new) ≡ entries_of (slots self.old ram.old) }
         ensures known { KnowsWritten read_from stale cr3 write_protected frame self.old self.new }
@@ -175,6 +186,13 @@ pub trait Shadows {
         ensures fewer { length (free_list pool.old ram.old) ≤ length (free_list pool.new ram.new) }
         ensures owns { Owns pool.new ram.new (frames self.new ram.new) }
         ensures moves { Moves pool.old pool.new ram.old ram.new (frames self.old ram.old) (frames self.new ram.new) };
+
+    /// What they show is what the members above say, of each page up to the last.
+    ghost seen: { (s : Self) (m : List ℕ) → sight s m
+        ≡ seen_of (slots s m) (read_from s) (stale s) (cr3 s) (other_roots s m) };
+
+    /// The frames to which no access may write are just those from which tables that may come back were read.
+    ghost protected: { (s : Self) (m : List ℕ) (frame : ℕ) → is_among frame (write_protected s) ≡ protects (sight s m) frame };
 
     /// Their frames lie in memory, each once.
     ghost holds: { (s : Self) (m : List ℕ) → ∥ stands s m ∥₁ → Holds m (frames s m) };
@@ -271,7 +289,13 @@ impl Shadows for Shadow {
 
     ghost slots = { λ s m page. slot_at s m page };
 
+    ghost sight = { λ s m. alone (slot_at s m) };
+
     ghost directory = { λ s side. root_of s side };
+
+    ghost seen = { λ s m. refl };
+
+    ghost protected = { λ s m frame. refl };
 
     ghost holds = { λ s m h. laws.lies s m h };
 
