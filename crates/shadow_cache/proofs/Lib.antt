@@ -1,4 +1,5 @@
 pub mod Small
+pub mod SeenCache
 pub mod AloneRoots
 pub mod Keys
 pub mod Leaving
@@ -25,3 +26,4 @@ pub mod Places
 pub mod OthersAfter
 pub mod Reloading
 pub mod Openings
+mod LoadSeen

@@ -5,6 +5,7 @@ use Rattle.std.proofs.Math.Logic.{∥∥₁_elim, ∥∥₁_map}
 use Rattle.std.proofs.lemmas.Bool.Decides.{eqb_tells}
 use Rattle.std.proofs.lemmas.Grind.{merely}
 use Rattle.std.specs.Coded.{Unit-prop}
+use Rattle.std.specs.List.{list_any}
 use mathlib.Core.HLevel.{Π_prop, ×_prop}
 use Rattle.frame_pool.specs.Held.{times, Holds, SameIn}
 use Rattle.frame_pool.proofs.Lengths.{times-append}
@@ -23,7 +24,8 @@ use Rattle.shadow_tables.specs.Laws as below
 use Rattle.shadow_tables.specs.Laws.Views.{in-root, held-stays, slot_at-stays, IsShadow-stays}
 use Rattle.shadow_tables.specs.Laws.Props.{IsShadow-prop}
 use Rattle.shadow_cache.specs.Pairs.{reads, any_reads, places_from, tables_of, frames_of, AreShadows, AreSized, BarsWrites, AllBarWrites, AreUnmarked, OthersUnmarked, IsRoots}
-use Rattle.shadow_tables.specs.OtherRoot.{AreSame, AllFit, AllBarred, AllProtected}
+use Rattle.shadow_tables.specs.Seen.{of_roots, protects, seen_of}
+use Rattle.shadow_tables.specs.OtherRoot.{OtherRoot, AreSame, AllFit, AllBarred, AllProtected}
 use Rattle.shadow_cache.specs.OtherRoots.{other_roots_of}
 use Rattle.shadow_tables.specs.Laws.Openings.{only-same, held-size}
 use Rattle.shadow_tables.proofs.OtherRoots.{among-append}
@@ -161,6 +163,13 @@ tables-any (p ∷ ps) f =
     among-append f (places_from 0 p.tables) (tables_of ps)
     ∙ ap (λ b. b || is_among f (tables_of ps)) (places-are f 0 f p.tables (omega arith))
     ∙ ap (λ b. reads p f || b) (tables-any ps f)
+
+any-roots : (frame : ℕ) (ps : List Pair) (m : List ℕ) → list_any (λ (a : OtherRoot). a.tables frame) (of_roots (other_roots_of ps m)) ≡ any_reads ps frame
+any-roots frame [] m = refl
+any-roots frame (p ∷ ps) m = ap (λ b. reads p frame || b) (any-roots frame ps m)
+
+pub protects-is : (p : Pair) (ps : List Pair) (m : List ℕ) (f : ℕ → Option Slot) (frame : ℕ) → is_among frame (tables_of (p ∷ ps)) ≡ protects (seen_of f (reads p) p.stale (Some p.cr3) (other_roots_of ps m)) frame
+protects-is p ps m f frame = tables-any (p ∷ ps) frame ∙ sym (ap (λ b. reads p frame || b) (any-roots frame ps m))
 
 -- ---- the laws
 

@@ -14,3 +14,4 @@ pub mod Reloaded
 pub mod Views
 pub mod Opening
 pub mod Called
+pub mod Loading

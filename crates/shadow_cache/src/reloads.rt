@@ -11,6 +11,8 @@ ghost use Rattle.shadow_tables.specs.OtherRoot.{IsSame, AreSame};
 ghost use Rattle.shadow_tables.specs.Known.{KnowsNothing};
 ghost use Rattle.shadow_tables.specs.Slots.{ArePart};
 ghost use Rattle.shadow_cache.specs.Laws as laws;
+ghost use Rattle.shadow_tables.specs.Seen.{emptied};
+ghost use Rattle.shadow_cache.specs.Loading.{switched};
 ghost use Rattle.shadow_cache.specs.Reloaded.{put_by, coming, staying};
 
 use crate::roots::Roots;
@@ -28,6 +30,7 @@ pub trait Reloads: Shadows {
         requires owns { Owns pool.old ram.old (Self.frames self.old ram.old) }
         requires free { 2 ≤ length (free_list pool.old ram.old) }
         ensures stands { ∥ Self.stands self.new ram.new ∥₁ }
+        ensures sight { Self.sight self.new ram.new ≡ switched cr3 (Self.sight self.old ram.old) }
         ensures loads { Self.cr3 self.new ≡ Some cr3 }
         ensures stale { Self.stale self.new ≡ false }
         ensures present { IsSame (coming cr3 (put_by (Self.cr3 self.old) (Self.stale self.old) (Self.read_from self.old)
@@ -47,6 +50,7 @@ pub trait Reloads: Shadows {
         requires stands { ∥ Self.stands self.old ram.old ∥₁ }
         requires owns { Owns pool.old ram.old (Self.frames self.old ram.old) }
         ensures stands { ∥ Self.stands self.new ram.new ∥₁ }
+        ensures sight { Self.sight self.new ram.new ≡ emptied (Self.sight self.old ram.old) }
         ensures none { (page : ℕ) → page < 2 ^ 20 → Self.slots self.new ram.new page ≡ None }
         ensures entries { entries_of (Self.slots self.new ram.new) ≡ empty }
         ensures known { KnowsNothing Self.read_from Self.stale Self.cr3 Self.write_protected self.old self.new }

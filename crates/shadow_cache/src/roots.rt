@@ -257,6 +257,8 @@ impl Shadows for Roots {
     ghost use Rattle.shadow_cache.specs.Laws as laws;
     ghost use Rattle.shadow_cache.specs.OtherRoots.{other_roots_of};
     ghost use Rattle.shadow_cache.specs.Pairs.{reads};
+    ghost use Rattle.std.specs.Prelude.{refl};
+    ghost use Rattle.shadow_tables.specs.Seen.{seen_of};
     ghost use Rattle.shadow_cache.specs.Opening.{AllOpenedOnly};
 
     ghost stands = { λ r m. IsRoots (pairs_of r) m };
@@ -277,7 +279,14 @@ impl Shadows for Roots {
 
     ghost slots = { λ r m page. slot_at r.present.shadow m page };
 
+    ghost sight = { λ r m. seen_of (slot_at r.present.shadow m) (reads r.present) r.present.stale (Some r.present.cr3)
+        (other_roots_of r.others m) };
+
     ghost directory = { λ r side. root_of r.present.shadow side };
+
+    ghost seen = { λ r m. refl };
+
+    ghost protected = { λ r m frame. laws.protects-is r.present r.others m (slot_at r.present.shadow m) frame };
 
     ghost holds = { λ r m h. laws.lies (pairs_of r) m h };
 

@@ -2,7 +2,17 @@ use Rattle.shadow_cache.specs.Roots.{pairs_of}
 use Rattle.shadow_cache.specs.Laws.{had}
 use Rattle.shadow_cache.proofs.Reloading.{reloaded, reloaded-write_protected}
 use Rattle.shadow_cache.proofs.Openings.{loaded-has_tables_under}
+use Rattle.shadow_tables.specs.Slots.{slot_at}
+use Rattle.shadow_cache.specs.Pairs.{reads}
+use Rattle.shadow_cache.specs.OtherRoots.{other_roots_of}
+use Rattle.shadow_cache.proofs.LoadSeen.{loaded_seen}
 use Rattle.shadow_cache.proofs.reloads.RootsReloads.switch.Goals as goal
+
+pub returns-clause-sight : goal.returns-clause-sight
+returns-clause-sight c =
+    let r = c.args.self.now in
+    let x = reloaded c.args.cr3 r.present r.others (pairs_of c.switch.new.self) c.args.ram.now c.switch.new.ram (had (pairs_of r) c.args.ram.now c.requires.stands).unmarked c.switch.ensures.switched in
+    loaded_seen c.args.cr3 r.present.cr3 r.present.stale _ (reads r.present) _ (slot_at r.present.shadow c.args.ram.now) _ (other_roots_of r.others c.args.ram.now) _ _ x.value x.stale x.present x.other_roots
 
 pub returns-clause-loads : goal.returns-clause-loads
 returns-clause-loads c =

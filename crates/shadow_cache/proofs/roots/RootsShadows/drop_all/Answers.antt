@@ -2,7 +2,21 @@ use Rattle.shadow_cache.specs.Roots.{pairs_of}
 use Rattle.shadow_cache.proofs.OthersAfter.{none-beside}
 use Rattle.shadow_cache.proofs.Noted.{emptied-reads, emptied-stale, emptied-value}
 use Rattle.shadow_cache.proofs.Openings.{emptied-has_tables_under}
+use Rattle.std.proofs.Common.{List, ap, ◌∙◌}
+use Rattle.std.proofs.Math.Path.{fun_ext}
+use Rattle.shadow_tables.specs.Seen.{of_roots}
+use Rattle.shadow_tables.proofs.Seeing.{no_pages}
+use Rattle.shadow_cache.specs.declared.pair.Pair.{Pair}
+use Rattle.shadow_cache.specs.After.{mark_of, noted_of}
+use Rattle.shadow_cache.proofs.SeenCache.{same_seen}
+use Rattle.shadow_cache.proofs.Beside.{no-reads}
 use Rattle.shadow_cache.proofs.roots.RootsShadows.drop_all.Goals as goal
+
+pub returns-clause-sight : goal.returns-clause-sight
+returns-clause-sight c =
+    let r = c.args.self.now in let n = c.drop_all.new in let e = c.drop_all.ensures in
+    same_seen _ _ (no_pages _ e.none) (fun_ext (λ f. ap (λ (ps : List Pair). noted_of ps f) e.pairs ∙ no-reads f)) (ap mark_of e.pairs) (emptied-value r.present r.others (pairs_of n.self) e.pairs)
+    (ap of_roots (none-beside r.present r.others (pairs_of n.self) n.ram e.pairs))
 
 pub returns-clause-known : goal.returns-clause-known
 returns-clause-known c = let r = c.args.self.now in record {

@@ -2,9 +2,18 @@ use Rattle.std.proofs.Common.{ap}
 use Rattle.shadow_cache.specs.Pairs.{tables_of}
 use Rattle.shadow_cache.specs.Roots.{pairs_of}
 use Rattle.shadow_cache.proofs.OthersAfter.{others-kept}
-use Rattle.shadow_cache.specs.After.{mark_of, noted_of, value_of}
+use Rattle.shadow_cache.specs.After.{mark_of, noted_of, value_of, slots_of}
 use Rattle.shadow_cache.proofs.Openings.{dropped-has_tables_under}
+use Rattle.shadow_tables.proofs.Seeing.{lost_pages}
+use Rattle.shadow_cache.proofs.SeenCache.{same_seen, same_roots}
 use Rattle.shadow_cache.proofs.roots.RootsShadows.drop_dir.Goals as goal
+
+pub returns-clause-sight : goal.returns-clause-sight
+returns-clause-sight c =
+    let r = c.args.self.now in let n = c.drop_dir.new in let e = c.drop_dir.ensures in
+    let f = slots_of (pairs_of r) c.args.ram.now in let f' = slots_of (pairs_of n.self) n.ram in
+    same_seen _ _ (lost_pages f f' c.args.index c.requires.index e.loses) (ap noted_of e.same.0) (ap mark_of e.same.0) (ap value_of e.same.0)
+    (same_roots _ _ (others-kept r.present r.others (pairs_of n.self) c.args.ram.now n.ram e.same.0 e.same.1))
 
 pub returns-clause-beside : goal.returns-clause-beside
 returns-clause-beside c = let r = c.args.self.now in record {

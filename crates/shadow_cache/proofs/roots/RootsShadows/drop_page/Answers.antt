@@ -1,10 +1,19 @@
-use Rattle.std.proofs.Common.{ap}
+use Rattle.std.proofs.Common.{ap, None}
 use Rattle.shadow_cache.specs.Pairs.{tables_of}
 use Rattle.shadow_cache.specs.Roots.{pairs_of}
 use Rattle.shadow_cache.proofs.OthersAfter.{others-kept}
-use Rattle.shadow_cache.specs.After.{mark_of, noted_of, value_of}
+use Rattle.shadow_cache.specs.After.{mark_of, noted_of, value_of, slots_of}
 use Rattle.shadow_cache.proofs.Openings.{dropped-has_tables_under}
+use Rattle.shadow_tables.proofs.Seeing.{turned_pages}
+use Rattle.shadow_cache.proofs.SeenCache.{same_seen, same_roots}
 use Rattle.shadow_cache.proofs.roots.RootsShadows.drop_page.Goals as goal
+
+pub returns-clause-sight : goal.returns-clause-sight
+returns-clause-sight c =
+    let r = c.args.self.now in let n = c.drop_page.new in let e = c.drop_page.ensures in
+    let f = slots_of (pairs_of r) c.args.ram.now in let f' = slots_of (pairs_of n.self) n.ram in
+    same_seen _ _ (turned_pages f f' c.args.page None c.requires.page e.turns) (ap noted_of e.same.0) (ap mark_of e.same.0) (ap value_of e.same.0)
+    (same_roots _ _ (others-kept r.present r.others (pairs_of n.self) c.args.ram.now n.ram e.same.0 e.same.1))
 
 pub returns-clause-beside : goal.returns-clause-beside
 returns-clause-beside c = let r = c.args.self.now in record {
