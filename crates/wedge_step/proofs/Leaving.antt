@@ -1,8 +1,7 @@
 -- What the end of a step makes of what is kept.
-use Rattle.std.proofs.Common.{◌≡◌, ℕ, ◌+◌, ◌^◌, ◌<◌, ◌≤◌, List, [], length, take, take-suc, get_or, add-one, Bool, true, false, ◌||◌, not, Option, Some, None, sym, ap, subst, ◌∙◌, arith}
+use Rattle.std.proofs.Common.{◌≡◌, ℕ, ◌≤◌, List, [], length, Bool, true, false, ◌||◌, not, Option, Some, None, sym, ap, subst, ◌∙◌, arith}
 use Rattle.std.specs.Prelude.{MatchOption, is_none}
 use Rattle.std.specs.FinMap.{empty}
-use Rattle.std.proofs.lemmas.List.{take_all}
 use Rattle.std.specs.List.{list_any}
 use Rattle.frame_pool.specs.Pool.{free_list}
 use Rattle.frame_pool.specs.declared.Pool.{Pool}
@@ -10,11 +9,9 @@ use Rattle.descriptors.specs.declared.cpu.Cpu.{Cpu}
 use Rattle.shadow_tables.specs.OtherRoot.{AreSame, LoseWrites, all_spared}
 use Rattle.shadow_tables.specs.Entries.{entries_of}
 use Rattle.guest_ram.specs.Among.{is_among}
-use Rattle.shadow_tables.specs.Slots.{Slot}
 use Rattle.shadow_tables.proofs.OtherRoots.{same-refl}
 use Rattle.shadow_tables.specs.declared.shadows.Shadows as shadows
 use Rattle.wedge_mem.specs.Told.{guest_frames, read_by}
-use Rattle.wedge_mem.proofs.Lists.{not-both}
 use Rattle.machine_model.specs.Run.{Set}
 use Rattle.machine_step.specs.declared.worked.Dropped.{Dropped}
 use Rattle.machine_step.specs.Worked.{dropping}
@@ -28,19 +25,6 @@ pub no_way : (changed all : Bool) → changed ≡ false → all ≡ true → (ch
 no_way true all c a h = let f : true ≡ false = c in cc
 no_way false true c a h = let f : false ≡ true = h in cc
 no_way false false c a h = let f : false ≡ true = a in cc
-
--- ---- pages that are dropped one behind the other
-
--- none of the first i + 1 is none of the first i, and not the next
-among_before : (x : ℕ) (xs : List ℕ) (i : ℕ) → i < length xs → is_among x (take (i + 1) xs) ≡ false → (is_among x (take i xs) ≡ false) × (x ≡ get_or xs i 0 → ⊥)
-among_before x xs i l h = not-both x (take i xs) (get_or xs i 0) (sym (ap (is_among x) (rw add-one (take-suc xs i 0 l))) ∙ h)
-
-pub none_of_all : (x : ℕ) (xs : List ℕ) (i : ℕ) → length xs ≤ i → is_among x xs ≡ false → is_among x (take i xs) ≡ false
-none_of_all x xs i l h = ap (is_among x) (take_all i xs l) ∙ h
-
-pub next_stays : (old mid new : ℕ → Option Slot) (xs : List ℕ) (i : ℕ) → i < length xs → ((other : ℕ) → other < 2 ^ 20 → (other ≡ get_or xs i 0 → ⊥) → new other ≡ mid other)
-    → ((page : ℕ) → page < 2 ^ 20 → is_among page (take i xs) ≡ false → mid page ≡ old page) → (page : ℕ) → page < 2 ^ 20 → is_among page (take (i + 1) xs) ≡ false → new page ≡ old page
-next_stays old mid new xs i l rest before page lt h = let k = among_before page xs i l h in rest page lt k.1 ∙ before page lt k.0
 
 -- ---- the same is kept beside what is present
 

@@ -1,12 +1,21 @@
 -- What becomes of what shadows show.
-use Rattle.std.specs.Prelude.{◌≡◌, ℕ, ◌^◌, ◌<◌, Bool, true, false, None, List, []}
+use Rattle.std.specs.Prelude.{◌≡◌, ℕ, ◌^◌, ◌<◌, nat_lt, ◌&&◌, if◌then◌else◌, Bool, true, false, None, List, []}
 use Rattle.image_check.specs.Image.{Image}
 use Rattle.shadow_tables.specs.OtherRoot.{OtherRoot}
+use Rattle.shadow_tables.specs.Seen.{Seen, page_dropped}
 use Rattle.shadow_tables.specs.Sight.{Sight, StaysBeside}
 use Rattle.guest_ram.specs.Among.{is_among}
 use Rattle.kept_laws.specs.OverSteps.{put_under}
 use Rattle.wedge_step.specs.Ready.{AllOpen}
 use Rattle.wedge_step.specs.Standing.{AreOpen}
+
+-- this page was dropped, if it is one of the address space
+abbrev pub one_dropped : ℕ → Seen → Seen
+one_dropped page v = if nat_lt page (2 ^ 20) then page_dropped page v else v
+
+-- these pages were, those of them that are
+abbrev pub pages_dropped : List ℕ → Seen → Seen
+pages_dropped pages v = record v { slots = λ page. if is_among page pages && nat_lt page (2 ^ 20) then None else v.slots page }
 
 -- what is kept for other values once what is present is put by
 abbrev pub with_present : Sight → List OtherRoot

@@ -1,6 +1,6 @@
 //! The end of a step, for what is kept of the translations.
 
-ghost use Rattle.std.specs.Prelude.{◌≡◌, ◌⊎◌, ◌&&◌, ◌||◌, not, ℕ, List, Bool, true, false, ◌+◌, ◌*◌, ◌/◌, ◌≤◌, ◌<◌, ◌^◌, is_none, IfSome, None};
+ghost use Rattle.std.specs.Prelude.{◌≡◌, ◌&&◌, ◌||◌, not, ℕ, List, Bool, true, false, ◌+◌, ◌*◌, ◌/◌, ◌≤◌, is_none, IfSome};
 ghost use Rattle.std.specs.FinMap.{empty};
 ghost use Rattle.frame_pool.specs.Held.{Owns, Moves};
 ghost use Rattle.frame_pool.specs.Pool.{base_of};
@@ -9,7 +9,6 @@ ghost use Rattle.descriptors.specs.Controls.{pse_of, wp_of};
 ghost use Rattle.descriptors.specs.declared.cpu.Cpu.{Cpu};
 ghost use Rattle.image_check.specs.Image.{Image};
 ghost use Rattle.image_load.specs.Boot.{text_pages};
-ghost use Rattle.shadow_tables.specs.OtherRoot.{AreSame};
 ghost use Rattle.guest_ram.specs.Among.{is_among};
 ghost use Rattle.machine_step.specs.Worked.{dropping, IsDropped};
 ghost use Rattle.machine_model.specs.State.{Setting};
@@ -17,7 +16,7 @@ ghost use Rattle.wedge_step.specs.Parts.{left_of};
 ghost use Rattle.wedge_step.specs.Ready.{AllOpen, is_all, leaving, left_out};
 ghost use Rattle.wedge_step.specs.Standing.{AreOpen};
 ghost use Rattle.shadow_tables.specs.Sight.{StaysBeside, sight};
-ghost use Rattle.wedge_step.specs.Sight.{IsBare, Sheds, StayOpen};
+ghost use Rattle.wedge_step.specs.Sight.{IsBare, Sheds, StayOpen, one_dropped, pages_dropped};
 ghost use Rattle.kept_laws.specs.OverSteps.{Tells};
 ghost use Rattle.wedge_step.specs.Leaving.{ChangesRules, Leaves, Loads, RulesSame};
 ghost use Rattle.wedge_step.specs.Stand.{AreFoundIn, ClosesIn, IsFilledBy, IsOwned, IsReadyBehindIn, IsReadyButIn, IsReadyIn, IsSoundIn, KeepsRules, MayCloseIn, Moved, OpensFor, OpensNoMore, count_in, free_in, pages_through, room_in, set_behind, set_in, stand};
@@ -127,13 +126,7 @@ fn is_all(dropped: Dropped) -> bool
 fn drop_one<S: Shadows>(shadows: &mut S, ram: &mut Ram, page: u32)
     requires stands { ∥ S.stands shadows.old ram.old ∥₁ }
     ensures stands { ∥ S.stands shadows.new ram.new ∥₁ }
-    ensures gone { page < 2 ^ 20 → S.slots shadows.new ram.new page ≡ None }
-    ensures others { (other : ℕ) → other < 2 ^ 20 → (other ≡ page → ⊥)
-        → S.slots shadows.new ram.new other ≡ S.slots shadows.old ram.old other }
-    ensures read_from { (f : ℕ) → S.read_from shadows.new f ≡ S.read_from shadows.old f }
-    ensures stale { S.stale shadows.new ≡ S.stale shadows.old }
-    ensures cr3 { S.cr3 shadows.new ≡ S.cr3 shadows.old }
-    ensures other_roots { AreSame (S.other_roots shadows.old ram.old) (S.other_roots shadows.new ram.new) }
+    ensures sight { S.sight shadows.new ram.new ≡ one_dropped page (S.sight shadows.old ram.old) }
     ensures has_tables_under { (indices : ℕ → Bool) → S.has_tables_under shadows.old ram.old indices
         → S.has_tables_under shadows.new ram.new indices }
     ensures moves { (p : Pool) → Owns p ram.old (S.frames shadows.old ram.old)
@@ -148,15 +141,7 @@ fn drop_one<S: Shadows>(shadows: &mut S, ram: &mut Ram, page: u32)
 fn drop_pages<S: Shadows>(shadows: &mut S, ram: &mut Ram, pages: &[u32])
     requires stands { ∥ S.stands shadows.old ram.old ∥₁ }
     ensures stands { ∥ S.stands shadows.new ram.new ∥₁ }
-    ensures gone { (page : ℕ) → page < 2 ^ 20 → is_among page pages.now ≡ true → S.slots shadows.new ram.new page ≡ None }
-    ensures stays { (page : ℕ) → page < 2 ^ 20 → is_among page pages.now ≡ false
-        → S.slots shadows.new ram.new page ≡ S.slots shadows.old ram.old page }
-    ensures others { (page : ℕ) → page < 2 ^ 20
-        → (S.slots shadows.new ram.new page ≡ None) ⊎ (S.slots shadows.new ram.new page ≡ S.slots shadows.old ram.old page) }
-    ensures read_from { (f : ℕ) → S.read_from shadows.new f ≡ S.read_from shadows.old f }
-    ensures stale { S.stale shadows.new ≡ S.stale shadows.old }
-    ensures cr3 { S.cr3 shadows.new ≡ S.cr3 shadows.old }
-    ensures other_roots { AreSame (S.other_roots shadows.old ram.old) (S.other_roots shadows.new ram.new) }
+    ensures sight { S.sight shadows.new ram.new ≡ pages_dropped pages.now (S.sight shadows.old ram.old) }
     ensures has_tables_under { (indices : ℕ → Bool) → S.has_tables_under shadows.old ram.old indices
         → S.has_tables_under shadows.new ram.new indices }
     ensures moves { (p : Pool) → Owns p ram.old (S.frames shadows.old ram.old)

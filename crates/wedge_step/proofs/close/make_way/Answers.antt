@@ -6,6 +6,7 @@ use Rattle.guest_ram.specs.Among.{is_among}
 use Rattle.wedge_step.proofs.Memories.{front_same, shown_same}
 use Rattle.shadow_tables.specs.OtherRoot.{OtherRoot}
 use Rattle.wedge_step.specs.Ready.{AllOpen}
+use Rattle.wedge_step.proofs.Dropping.{Drops, drops}
 use Rattle.wedge_step.proofs.Opening.{none_open, some_open}
 use Rattle.wedge_step.proofs.Readying.{fewer_ready, none_ready, none_pages}
 use Rattle.wedge_step.proofs.Returning.{fewer_pages, some_part, chosen_out}
@@ -38,6 +39,9 @@ spare g c m =
       | else-notes_wanted w ↦ (let enough = ltb-false _ _ (sym w.value-is ∙ c.if-free-lt2.false) in let count = w.free.ensures.count m in omega (arith, enough, count))
     ]
 
+dropped : (g : Over) (c : goal.After-drop_pages g) → Drops g.S.Shadows c.args.pages.now c.args.shadows.now c.drop_pages.new.shadows c.args.ram.now c.drop_pages.new.ram
+dropped g c = drops g.S.Shadows g.met.S.Shadows.seen _ _ _ _ _ c.drop_pages.ensures.sight
+
 pub returns-then-free-lt2-clause-room : goal.returns-then-free-lt2-clause-room
 returns-then-free-lt2-clause-room g c =
     let two = c.drop_all.ensures.two in let lengths = c.drop_all.ensures.moves.lengths in let enough = c.requires.enough in omega (arith, two, lengths, enough)
@@ -47,13 +51,14 @@ returns-else-free-lt2-clause-room g c = spare g c c.drop_pages.new.ram
 
 pub returns-else-free-lt2-clause-ready : goal.returns-else-free-lt2-clause-ready
 returns-else-free-lt2-clause-ready g c = λ m cpu low h.
-    let d = c.drop_pages in
-    let moves = d.ensures.moves c.args.pool.now c.requires.owned.owns in
-    let front = front_same m.frames c.args.pool.now c.args.pool.now c.args.ram.now d.new.ram _ _ low c.requires.owned.owns moves in
-    fewer_ready g.S.Shadows (λ page. is_among page c.args.pages.now) (λ page. false) m cpu c.args.shadows.now d.new.shadows c.args.ram.now d.new.ram d.ensures.cr3
-    (λ un. sym d.ensures.stale ∙ un) (λ f n. d.ensures.read_from f ∙ n)
-    (λ page lt o. chosen_out (is_among page c.args.pages.now) _ _ (d.ensures.gone page lt) (d.ensures.others page lt))
-    (same_shed _ _ d.ensures.other_roots) (shown_same m c.args.ram.now d.new.ram front) h
+    let d = dropped g c in
+    let n = c.drop_pages.new in
+    let moves = c.drop_pages.ensures.moves c.args.pool.now c.requires.owned.owns in
+    let front = front_same m.frames c.args.pool.now c.args.pool.now c.args.ram.now n.ram _ _ low c.requires.owned.owns moves in
+    fewer_ready g.S.Shadows (λ page. is_among page c.args.pages.now) (λ page. false) m cpu c.args.shadows.now n.shadows c.args.ram.now n.ram d.cr3
+    (λ un. sym d.stale ∙ un) (λ f n. d.read_from f ∙ n)
+    (λ page lt o. chosen_out (is_among page c.args.pages.now) _ _ (d.gone page lt) (d.others page lt))
+    (same_shed _ _ d.other_roots) (shown_same m c.args.ram.now n.ram front) h
 
 pub returns-then-free-lt2-clause-ready : goal.returns-then-free-lt2-clause-ready
 returns-then-free-lt2-clause-ready g c = λ m cpu low h.
@@ -64,7 +69,7 @@ returns-then-free-lt2-clause-fewer g c =
     let none = none_pages g.S.Shadows c.drop_all.new.self c.drop_all.new.ram c.drop_all.ensures.entries c.drop_all.ensures.other_roots in omega (arith, none)
 
 pub returns-else-free-lt2-clause-fewer : goal.returns-else-free-lt2-clause-fewer
-returns-else-free-lt2-clause-fewer g c = fewer_pages _ _ _ _ (some_part _ _ c.drop_pages.ensures.others) (same_shed _ _ c.drop_pages.ensures.other_roots)
+returns-else-free-lt2-clause-fewer g c = fewer_pages _ _ _ _ (some_part _ _ (dropped g c).others) (same_shed _ _ (dropped g c).other_roots)
 
 pub drop_all-requires-clause-stands : goal.drop_all-requires-clause-stands
 drop_all-requires-clause-stands g c = c.requires.owned.stands
@@ -82,7 +87,7 @@ pub returns-then-free-lt2-clause-has_tables_under : goal.returns-then-free-lt2-c
 returns-then-free-lt2-clause-has_tables_under g c = c.drop_all.ensures.has_tables_under
 
 pub returns-else-free-lt2-clause-cr3 : goal.returns-else-free-lt2-clause-cr3
-returns-else-free-lt2-clause-cr3 g c = c.drop_pages.ensures.cr3
+returns-else-free-lt2-clause-cr3 g c = (dropped g c).cr3
 
 pub returns-else-free-lt2-clause-has_tables_under : goal.returns-else-free-lt2-clause-has_tables_under
 returns-else-free-lt2-clause-has_tables_under g c = c.drop_pages.ensures.has_tables_under
@@ -97,7 +102,7 @@ pub returns-else-free-lt2-clause-moved : goal.returns-else-free-lt2-clause-moved
 returns-else-free-lt2-clause-moved g c = record { stands = c.drop_pages.ensures.stands; owns = Owns-moves _ _ _ _ _ _ c.requires.owned.owns (c.drop_pages.ensures.moves c.args.pool.now c.requires.owned.owns); moves = c.drop_pages.ensures.moves c.args.pool.now c.requires.owned.owns }
 
 pub returns-else-free-lt2-clause-shown : goal.returns-else-free-lt2-clause-shown
-returns-else-free-lt2-clause-shown g c = λ image wp. record { present = λ h. some_open image wp _ _ c.drop_pages.ensures.others h; others = λ h. open_shed image wp _ _ (same_shed _ _ c.drop_pages.ensures.other_roots) h }
+returns-else-free-lt2-clause-shown g c = λ image wp. record { present = λ h. some_open image wp _ _ (dropped g c).others h; others = λ h. open_shed image wp _ _ (same_shed _ _ (dropped g c).other_roots) h }
 
 pub returns-then-free-lt2-clause-emptied : goal.returns-then-free-lt2-clause-emptied
 returns-then-free-lt2-clause-emptied g c = λ w. record { none = c.drop_all.ensures.none; alone = c.drop_all.ensures.other_roots }
@@ -109,4 +114,4 @@ pub returns-then-free-lt2-clause-sheds : goal.returns-then-free-lt2-clause-sheds
 returns-then-free-lt2-clause-sheds g c = λ unwished enough. absurd (lacking g c unwished enough)
 
 pub returns-else-free-lt2-clause-sheds : goal.returns-else-free-lt2-clause-sheds
-returns-else-free-lt2-clause-sheds g c = λ unwished enough. let e = c.drop_pages.ensures in record { stay = stays_by _ _ e.read_from e.stale e.other_roots; gone = e.gone; others = e.stays }
+returns-else-free-lt2-clause-sheds g c = λ unwished enough. let e = dropped g c in record { stay = stays_by _ _ e.read_from e.stale e.other_roots; gone = e.gone; others = e.stays }
