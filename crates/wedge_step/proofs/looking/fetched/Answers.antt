@@ -9,7 +9,7 @@ use Rattle.paging.specs.Fresh.{fresh}
 use Rattle.paging.specs.Uses.{usable}
 use Rattle.machine_model.specs.State.{Setting, State}
 use Rattle.native_steps.specs.Looking.{found_by, seen, seen_by}
-use Rattle.wedge_step.specs.Looked.{bytes_of, ground_of, looked_at}
+use Rattle.wedge_step.specs.Looked.{ground_of, looked_at}
 use Rattle.wedge_step.proofs.looking.fetched.Goals as goal
 
 module _ (m : Setting) (b : State) (page : ℕ) (access : Access) (wp : Bool) (level : access ≡ by_level b.cpu false) (protects : wp ≡ wp_of b.cpu) where

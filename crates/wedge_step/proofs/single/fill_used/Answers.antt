@@ -1,4 +1,4 @@
-use Rattle.std.proofs.Common.{◌≡◌, ℕ, ◌+◌, ◌<◌, ◌≤◌, ◌^◌, true, false, refl, ap, subst, arith}
+use Rattle.std.proofs.Common.{◌≡◌, true, false, refl, ap, subst, arith}
 use Rattle.std.proofs.lemmas.Bool.{both_ways}
 use Rattle.shadow_tables.specs.declared.words.Side.{Side}
 use Rattle.wedge_step.specs.Stand.{FillsIn, stand}

@@ -3,7 +3,7 @@ use Rattle.board.specs.Boards.{board_step}
 use Rattle.descriptors.specs.declared.cpu.Cpu.{Cpu}
 use Rattle.descriptors.specs.Controls.{wp_of}
 use Rattle.native_steps.specs.Mirrors.{shown}
-use Rattle.frame_pool.specs.Pool.{base_of, free_list}
+use Rattle.frame_pool.specs.Pool.{free_list}
 use Rattle.frame_pool.proofs.Held.{Moves-trans}
 use Rattle.wedge_mem.specs.Settled.{pages_of}
 use Rattle.wedge_step.specs.Ending.{HasFilled}

@@ -1,4 +1,4 @@
-use Rattle.std.proofs.Common.{◌≡◌, ℕ, ◌≤◌, ◌<◌, sym, ap, ◌∙◌, subst, arith}
+use Rattle.std.proofs.Common.{◌≡◌, ℕ, ◌≤◌, ◌<◌, sym, ap, ◌∙◌, subst}
 use Rattle.shadow_views.specs.Tables.{dir, by_dir, IsView}
 use Rattle.shadow_views.proofs.Changes.{IsView-from_Holds}
 use Rattle.shadow_tables.specs.Slots.{roots}
