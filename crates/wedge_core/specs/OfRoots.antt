@@ -3,6 +3,7 @@ use Rattle.shadow_cache.specs.Pairs.{tables_of}
 use Rattle.shadow_cache.specs.Roots.{pairs_of}
 use Rattle.shadow_cache.specs.Views as roots
 use Rattle.shadow_cache.specs.declared.roots.Roots.{Roots}
+use Rattle.shadow_tables.specs.Seen.{seen_of}
 use Rattle.shadow_tables.specs.Slots.{root_of}
 use Rattle.shadow_tables.specs.declared.shadows.Shadows as shadows
 
@@ -17,5 +18,6 @@ of_roots = record {
   other_roots = roots.other_roots;
   has_tables_under = roots.has_tables_under;
   slots = roots.slots;
+  sight = λ r m. seen_of (roots.slots r m) (roots.read_from r) (roots.stale r) (roots.cr3 r) (roots.other_roots r m);
   directory = λ r side. root_of r.present.shadow side;
 }
