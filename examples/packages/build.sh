@@ -1,0 +1,318 @@
+#!/usr/bin/env bash
+# A package of Debian as a kernel. For each NAME, which is a folder beside this script:
+#
+#     examples/packages/build.sh [WAY] NAME ..
+#
+# Without a WAY:
+#
+# 1. apt-get fetches the package's sources, as NAME/recipe says, with lists of its own: the machine's stay as they are.
+# 2. gcc compiles all of the package's library for the host, with NAME/main.c and the C library in lib/; ld says which files it
+#    takes. This program's output is what the kernel has to print.
+# 3. gcc compiles the library to assembler sources, by the flags in lib/flags; lower.awk rewrites what burn doesn't take. pv burns
+#    those that the host's link took, with main.c, lib/ and the library of the examples in C, links them and checks the image.
+# 4. pv runs the image on the bare machine and patched on a host. Both traces are compared, and the text sent by the serial port
+#    with the host's output.
+#
+# The ways:
+#
+#   --move     the run is saved twice and goes on on the other machine, bare, patched, bare, and the other way: the joined traces
+#              are that of one run
+#   --prove    the patched run's choices are stored and replayed, with its trace, and with one in which a byte is changed
+#   --share    two packages, NAME OTHER, run patched on one host in turns: each has its own trace
+#   --refused  what burn refuses of all that gcc writes for the libraries, by number and instruction: with the flags up to -fno-tree-..
+#              alone, with lower.awk too, and with all flags and lower.awk
+#   --level3   the package is the program of both tasks of the teaching kernel, examples/c/tasks, at level 3 in address spaces of
+#              their own; the timer changes between them
+#
+# All is done in out/NAME: source, image k.img, traces bare and wedge, console, and row, the line of README.md's table. It wants
+# gcc, binutils, time and Python 3 beside apt; nothing is installed. The program is ../../pv, or $PV; the mirror is $MIRROR.
+here=$(cd "$(dirname "${BASH_SOURCE[0]}")" && pwd) || exit 2
+top=$here/../..
+pv=$(realpath "${PV:-$top/pv}")
+kernels=$(realpath "$here/../c/lib")
+script=$(realpath "$here/../none.script")
+frames=8192
+way=run
+case ${1:-} in --move | --prove | --share | --level3 | --refused) way=${1#--}; shift ;; esac
+[ $# -gt 0 ] || { echo "usage: build.sh [--move | --prove | --share | --level3 | --refused] NAME .." >&2; exit 2; }
+
+headers=(-nostdinc -isystem "$(gcc -print-file-name=include)" -I "$here/lib/include" -I "$here/lib" -I "$kernels")
+# The host counts fractions by its processor, in the same precision.
+native=(-m32 -O2 -march=i686 -msse2 -mfpmath=sse -ffp-contract=off -ffreestanding -fno-pic -fno-pie -fno-stack-protector
+    -fno-asynchronous-unwind-tables -fcf-protection=none -fno-tree-loop-distribute-patterns -w)
+# Attributes of symbols become directives that burn doesn't know.
+machine=(@"$here/lib/flags" '-Dvisibility(x)=' '-D__visibility__(x)=' -w)
+
+# The upstream part of the source package, at the version of the recipe, or else at the one that the mirror has.
+fetch() {
+    [ ! -d "$source" ] || return 0
+    local lists=$here/out/apt options
+    mkdir -p "$lists/partial" "$room/fetched" || return
+    echo "deb-src ${MIRROR:-http://deb.debian.org/debian} bookworm main" >"$here/out/sources.list"
+    options=(-qq -o Dir::Etc::sourcelist="$here/out/sources.list" -o Dir::Etc::sourceparts=- -o Dir::State::lists="$lists" -o APT::Sandbox::User=)
+    [ -n "$(find "$lists" -name '*Sources*')" ] || apt-get "${options[@]}" update || return
+    (cd "$room/fetched" && { apt-get "${options[@]}" --tar-only source "$package=$version" || apt-get "${options[@]}" --tar-only source "$package"; }) || return
+    mkdir "$room/unpacked" && tar xf "$room"/fetched/*.orig.tar.* --strip-components=1 -C "$room/unpacked" && mv "$room/unpacked" "$source"
+}
+
+word() { # name, number
+    printf '\t.globl %s\n\t.balign 4\n%s:\n\t.long %d\n' "$1" "$1" "$2"
+}
+
+# The bytes of a file as data of a kernel: NAME, and NAME_size.
+embed() { # name, file
+    printf '\t.section .rodata\n\t.globl %s\n\t.balign 4\n%s:\n' "$1" "$1"
+    od -An -v -tu1 -w32 "$2" | sed 's/^ */\t.byte /; s/  */,/g; s/^\t.byte,/\t.byte /'
+    word "$1_size" "$(stat -c %s "$2")"
+}
+
+# A name of its own for each file of the library.
+named() { # path
+    local name=${1//\//__}
+    echo "${name%.c}"
+}
+
+# Whether a file is newer than all others that are named, and than the recipe.
+is_current() { # made, made of ..
+    local made=$1 file
+    for file in "$folder/recipe" "${@:2}"; do
+        [ "$made" -nt "$file" ] || return
+    done
+}
+
+# All of the library for the host, as an archive; the program; and in used the files of the library that it took.
+compile_natively() {
+    local file objects=()
+    mkdir -p "$room/native" || return
+    for file in "${library[@]}"; do
+        objects+=("$room/native/$(named "$file").o")
+        is_current "${objects[-1]}" "$file" || gcc "${native[@]}" "${options[@]}" "${headers[@]}" -c "$file" -o "${objects[-1]}" || return
+    done
+    rm -f "$room/native/library.a" && ar rcs "$room/native/library.a" "${objects[@]}" || return
+    objects=()
+    for file in "$folder/main.c" "$kernels/k.c" "$here"/lib/{memory,stdio,stdlib,string,native}.c; do
+        gcc "${native[@]}" "${options[@]}" "${headers[@]}" -c "$file" -o "$room/native/$(basename "$file" .c).own.o" || return
+        objects+=("$room/native/$(basename "$file" .c).own.o")
+    done
+    for file in "$here/lib/native_start.s" "$room/data.s"; do
+        [ ! -e "$file" ] || { as --32 "$file" -o "$room/native/$(basename "$file" .s).own.o" && objects+=("$room/native/$(basename "$file" .s).own.o"); } || return
+    done
+    ld -m elf_i386 -z noexecstack -t -t -o "$room/program" "${objects[@]}" "$room/native/library.a" >"$room/native/linked" || return
+    used=()
+    for file in "${library[@]}"; do
+        ! grep -q "[)]$(named "$file")\.o\$" "$room/native/linked" || used+=("$file")
+    done
+    "$room/program" >"$room/expected"
+}
+
+lower() { # C file, assembler file
+    # GCC notes each pass that lib/flags leaves out
+    gcc "${machine[@]}" "${options[@]}" "${headers[@]}" -S "$1" -o "$room/as.gcc" 2>"$room/said" || { cat "$room/said" >&2; return 1; }
+    awk -f "$kernels/lower.awk" "$room/as.gcc" >"$2"
+}
+
+burn() { # assembler file
+    local object=$room/objects/$(basename "$1" .s).o
+    "$pv" burn "$1" "$object" >"$room/said" || { echo "$name: burn $1: $(cat "$room/said")"; return 1; }
+    objects+=("$object")
+}
+
+# The kernel: its beginning, the package, main, the C library.
+build() {
+    local file made objects=()
+    mkdir -p "$room/package" "$room/own" "$room/objects" || return
+    burn "$kernels/start.s" || return
+    for file in "${library[@]}"; do
+        made=$room/package/$(named "$file").s
+        is_current "$made" "$file" "$here/lib/flags" "$kernels/lower.awk" || lower "$file" "$made" || return
+    done
+    for file in "${used[@]}"; do
+        burn "$room/package/$(named "$file").s" || return
+    done
+    for file in "$folder/main.c" "$kernels"/{k,console}.c "$here"/lib/{memory,stdio,stdlib,string,soft_double,machine}.c; do
+        lower "$file" "$room/own/$(basename "$file" .c).s" && burn "$room/own/$(basename "$file" .c).s" || return
+    done
+    [ ! -e "$room/data.s" ] || burn "$room/data.s" || return
+    "$pv" link "$room/k.img" "${objects[@]}" && "$pv" check "$room/k.img"
+}
+
+# The text that a trace sent by the serial port.
+console() {
+    LC_ALL=C awk 'function digit(c) { return index("0123456789abcdef", c) - 1 }
+        $2 == "tx" { printf "%c", 16 * digit(substr($3, 1, 1)) + digit(substr($3, 2, 1)) }' "$1"
+}
+
+# Both runs. Behind the last item the processor is halted, up to the bound.
+run() {
+    local which
+    for which in bare wedge; do
+        /usr/bin/time -f '%U s, %M KB' -o "$room/$which.time" "$pv" run "--$which" "$room/k.img" "$script" "$frames" "$steps" >"$room/$which" ||
+            { echo "$name: run --$which: status $?: $(tail -n 1 "$room/$which")"; return 1; }
+        console "$room/$which" >"$room/console"
+        cmp "$room/console" "$room/expected" || return
+    done
+    cmp "$room/bare" "$room/wedge" || return
+    functions=$("$here/refused.py" "$pv" "$room"/package/*.s | tail -n 1)
+    echo "| $name | $package $version | $functions | $(count_of "$room/bare") | $about | yes | $(cat "$room/bare.time") | $(cat "$room/wedge.time") |" >"$room/row"
+    echo "$name: $(wc -c <"$room/expected") bytes printed in $(count_of "$room/bare") steps, the same natively and on both machines; bare $(cat "$room/bare.time"); patched $(cat "$room/wedge.time")"
+}
+
+# How many steps there are up to the last item of a trace.
+count_of() { # trace
+    local last
+    last=$(tail -n 2 "$1" | head -n 1)
+    echo "$((${last%% *} + 1))"
+}
+
+# Items without the last line, which tells how the part ended.
+items() {
+    sed '$d' "$1"
+}
+
+move() {
+    local one other last=$(($(count_of "$room/bare") / 3))
+    for one in bare wedge; do
+        other=wedge
+        [ $one = bare ] || other=bare
+        "$pv" save "--$one" "$room/k.img" "$script" "$frames" "$last" "$room/first" >"$room/part1" &&
+            "$pv" save "--$other" "$room/k.img" "$script" from "$room/first" $((2 * last)) "$room/second" >"$room/part2" &&
+            "$pv" continue "--$one" "$room/k.img" "$script" "$room/second" "$steps" >"$room/part3" || return
+        { items "$room/part1"; items "$room/part2"; cat "$room/part3"; } | cmp - "$room/bare" || return
+        rm "$room/first" "$room/second" "$room"/part?
+        echo "$name: $one, after $last steps $other, after $((2 * last)) steps $one: the trace is that of one run"
+    done
+}
+
+prove() {
+    local said
+    "$pv" prove "$room/k.img" "$script" "$frames" "$steps" "$room/certificate" >"$room/part" || return
+    items "$room/part" | cmp - "$room/wedge" || return
+    said=$("$pv" replay "$room/k.img" "$script" "$frames" "$steps" "$room/certificate" "$room/wedge")
+    [ "$said" = yes ] || { echo "$name: replay says '$said'"; return 1; }
+    sed '500s/[0-9a-f]$/x/' "$room/wedge" >"$room/part"
+    said=$("$pv" replay "$room/k.img" "$script" "$frames" "$steps" "$room/certificate" "$room/part")
+    [ "$said" != yes ] || { echo "$name: replay accepts a changed trace"; return 1; }
+    echo "$name: proved and replayed, certificate of $(stat -c %s "$room/certificate") bytes; with line 500 changed: $said"
+    rm "$room/certificate" "$room/part"
+}
+
+# Two kernels in a hundred turns each.
+share() { # the other's name
+    local other=$here/out/$1 i mine theirs
+    mine=$(($(count_of "$room/bare") / 99)) theirs=$(($(count_of "$other/bare") / 99))
+    for ((i = 0; i < 100; i++)); do
+        printf '0 %d\n1 %d\n' "$mine" "$theirs"
+    done >"$room/turns"
+    "$pv" share "$room/turns" "$frames" "$room/k.img" "$script" "$other/k.img" "$script" >"$room/part" || return
+    sed -n 's/^0 //p' "$room/part" | sed '$d' | cmp - <(items "$room/wedge") &&
+        sed -n 's/^1 //p' "$room/part" | sed '$d' | cmp - <(items "$other/wedge") || return
+    rm "$room/part"
+    echo "$name and $1: in 200 turns on one host, each has the trace that it has alone"
+}
+
+# The package for level 3: by the same flags and lower.awk, then by GNU's tools, since burn makes a text of level 0. Each source is
+# burnt nevertheless, for what it refuses, which would be a stop in the midst of the run; and the fills of GNU as are left out, since
+# they hold instructions that the machine hasn't.
+compile_for_level3() {
+    local file memory_end
+    rm -rf "$room/user" && mkdir "$room/user" || return
+    for file in "${used[@]}"; do
+        user_object "$file" "$(named "$file")" || return
+    done
+    for file in "$folder/main.c" "$kernels/k.c" "$here"/lib/{memory,stdio,stdlib,string,soft_double,user}.c; do
+        user_object "$file" "$(basename "$file" .c)" || return
+    done
+    as --32 "$kernels/../tasks/user_start.s" -o "$room/user/user_start.o" || return
+    [ ! -e "$room/data.s" ] || as --32 "$room/data.s" -o "$room/user/data.o" || return
+    ld -m elf_i386 -z noexecstack -T "$here/lib/user.ld" -o "$room/user.elf" "$room"/user/*.o &&
+        objcopy -O binary -R .bss "$room/user.elf" "$room/user.bin" || return
+    memory_end=$(nm "$room/user.elf" | sed -n 's/^\([0-9a-f]*\) . memory_end$/\1/p')
+    {
+        embed user_image "$room/user.bin"
+        word user_memory_size $((0x$memory_end - 0x40000000))
+    } >"$room/user/image.s"
+}
+
+user_object() { # C file, name
+    local at=$room/user/$2
+    lower "$1" "$at.s" && "$pv" burn "$at.s" "$at.o" >"$room/said" || { echo "$name: burn $at.s: $(cat "$room/said")"; return 1; }
+    sed '/^\t\.p2align/d' "$at.s" | as --32 -o "$at.o" -
+}
+
+level3() {
+    local file objects=() task which
+    options+=(-DHEAP=4194304)
+    compile_for_level3 || return
+    rm -f "$room"/objects/*
+    options+=(-DSTACK_PAGES=32)
+    lower "$kernels/../tasks/kernel.c" "$room/user/kernel.s" || return
+    for file in "$kernels/../tasks/entry.s" "$room/user/kernel.s" "$room/user/image.s"; do
+        burn "$file" || return
+    done
+    "$pv" link "$room/level3.img" "${objects[@]}" && "$pv" check "$room/level3.img" || return
+    for which in bare wedge; do
+        /usr/bin/time -f '%U s, %M KB' -o "$room/level3.$which.time" "$pv" run "--$which" "$room/level3.img" "$script" "$frames" $((3 * steps)) >"$room/level3.$which" || return
+        console "$room/level3.$which" >"$room/console"
+        for task in 0 1; do
+            sed -n "s/^$task //p" "$room/console" | cmp - "$room/expected" || return
+        done
+    done
+    cmp "$room/level3.bare" "$room/level3.wedge" || return
+    echo "$name: two tasks at level 3, $(count_of "$room/level3.bare") steps, $(grep -c ' irq 20$' "$room/level3.bare") interrupts of the timer; each printed what it does natively, and both machines the same; bare $(cat "$room/level3.bare.time"); patched $(cat "$room/level3.wedge.time")"
+}
+
+# Each file of the library by three sets of flags.
+refused() {
+    local file which flags
+    for which in flags lowered all; do
+        mkdir -p "$room/$which" || return
+        flags=(@"$here/lib/flags")
+        # what lib/flags leaves out of GCC's passes is done again
+        [ $which = all ] || flags=($(sed '$d' "$here/lib/flags"))
+        for file in "${library[@]}"; do
+            gcc "${flags[@]}" "${machine[@]:1}" "${options[@]}" "${headers[@]}" -S "$file" -o "$room/as.gcc" 2>/dev/null || return
+            if [ $which = flags ]; then
+                cp "$room/as.gcc" "$room/$which/$(named "$file").s"
+            else
+                awk -f "$kernels/lower.awk" "$room/as.gcc" >"$room/$which/$(named "$file").s"
+            fi
+        done
+    done
+}
+
+all_of() { # name, and the other of two that share
+    name=$1 folder=$here/$1 room=$here/out/$1 source=$here/out/$1/source
+    local package version about steps options=() library=() used=() functions
+    unset -f prepare
+    [ -e "$folder/recipe" ] || { echo "$name: no such package" >&2; return 1; }
+    mkdir -p "$room"
+    # the patterns of the recipe are meant within the sources, so it is read again there
+    . "$folder/recipe" && fetch && cd "$source" && . "$folder/recipe" || return
+    [ ! -d "$folder/include" ] || options=("-I$folder/include" "${options[@]}")
+    ! declare -F prepare >/dev/null || prepare || return
+    case $way in
+    run) compile_natively && build && run ;;
+    level3) compile_natively && level3 ;;
+    *) "$way" "${@:2}" ;;
+    esac
+}
+
+# the same date in each program that prints when it was compiled
+export SOURCE_DATE_EPOCH=1700000000
+
+result=0
+if [ "$way" = share ]; then
+    (all_of "$@")
+    exit
+fi
+for name in "$@"; do
+    [ "$way" != refused ] || (cd "$here/out/$name" 2>/dev/null && rm -rf flags lowered all)
+    (all_of "$name") || { echo "$name: failed"; result=1; }
+done
+if [ "$way" = refused ]; then
+    for which in flags lowered all; do
+        echo "$which:"
+        "$here/refused.py" "$pv" $(for name in "$@"; do find "$here/out/$name/$which" -name '*.s'; done)
+    done
+fi
+exit "$result"

@@ -1,0 +1,4 @@
+#ifndef MATH_H
+#define MATH_H
+#define isnan(x) __builtin_isnan(x)
+#endif
