@@ -17,10 +17,11 @@
 #
 #   --move     the run is saved twice and goes on on the other machine, bare, patched, bare, and the other way: the joined traces
 #              are that of one run
-#   --prove    the patched run's choices are stored and replayed, with its trace, and with one in which a byte is changed
+#   --prove    the patched run's choices are stored and replayed, with its trace, and with one in which a byte is changed; the run at
+#              level 3 too, where there was one
 #   --share    two packages, NAME OTHER, run patched on one host in turns: each has its own trace
-#   --refused  what burn refuses of all that gcc writes for the libraries, by number and instruction: with the flags up to -fno-tree-..
-#              alone, with lower.awk too, and with all flags and lower.awk
+#   --refused  what burn refuses of all that gcc writes for the libraries, by number and instruction: with the flags but the last line
+#              ('flags'), with lower.awk too ('lowered'), and with all flags and lower.awk ('package')
 #   --level3   the package is the program of both tasks of the teaching kernel, examples/c/tasks, at level 3 in address spaces of
 #              their own; the timer changes between them
 #
@@ -183,17 +184,24 @@ move() {
     done
 }
 
+# The kernel, and the two tasks at level 3 where they have been run.
 prove() {
-    local said
-    "$pv" prove "$room/k.img" "$script" "$frames" "$steps" "$room/certificate" >"$room/part" || return
-    items "$room/part" | cmp - "$room/wedge" || return
-    said=$("$pv" replay "$room/k.img" "$script" "$frames" "$steps" "$room/certificate" "$room/wedge")
+    prove_image k wedge "$steps" || return
+    [ ! -e "$room/level3.wedge" ] || prove_image level3 level3.wedge $((3 * steps))
+}
+
+prove_image() { # image, trace, bound
+    local certificate=$room/certificate said
+    "$pv" prove "$room/$1.img" "$script" "$frames" "$3" "$certificate" >"$room/part" || return
+    items "$room/part" | cmp - "$room/$2" || return
+    echo "$name: $1.img proved: $(tail -n 1 "$room/part"), $(stat -c %s "$certificate") bytes"
+    said=$("$pv" replay "$room/$1.img" "$script" "$frames" "$3" "$certificate" "$room/$2")
     [ "$said" = yes ] || { echo "$name: replay says '$said'"; return 1; }
-    sed '500s/[0-9a-f]$/x/' "$room/wedge" >"$room/part"
-    said=$("$pv" replay "$room/k.img" "$script" "$frames" "$steps" "$room/certificate" "$room/part")
-    [ "$said" != yes ] || { echo "$name: replay accepts a changed trace"; return 1; }
-    echo "$name: proved and replayed, certificate of $(stat -c %s "$room/certificate") bytes; with line 500 changed: $said"
-    rm "$room/certificate" "$room/part"
+    sed '500s/[0-9a-f]$/x/' "$room/$2" >"$room/part"
+    said="yes, with line 500 changed $("$pv" replay "$room/$1.img" "$script" "$frames" "$3" "$certificate" "$room/part")"
+    [ "$said" = "yes, with line 500 changed no line 500" ] || { echo "$name: replay says '$said'"; return 1; }
+    echo "$name: $1.img replayed: $said"
+    rm "$certificate" "$room/part"
 }
 
 # Two kernels in a hundred turns each.
@@ -224,8 +232,8 @@ compile_for_level3() {
     done
     as --32 "$kernels/../tasks/user_start.s" -o "$room/user/user_start.o" || return
     [ ! -e "$room/data.s" ] || as --32 "$room/data.s" -o "$room/user/data.o" || return
-    ld -m elf_i386 -z noexecstack -T "$here/lib/user.ld" -o "$room/user.elf" "$room"/user/*.o &&
-        objcopy -O binary -R .bss "$room/user.elf" "$room/user.bin" || return
+    ld -m elf_i386 -N -z noexecstack -T "$here/lib/user.ld" -o "$room/user.elf" "$room"/user/*.o 2>"$room/said" || { cat "$room/said" >&2; return 1; }
+    objcopy -O binary -R .bss "$room/user.elf" "$room/user.bin" || return
     memory_end=$(nm "$room/user.elf" | sed -n 's/^\([0-9a-f]*\) . memory_end$/\1/p')
     {
         embed user_image "$room/user.bin"
@@ -261,22 +269,18 @@ level3() {
     echo "$name: two tasks at level 3, $(count_of "$room/level3.bare") steps, $(grep -c ' irq 20$' "$room/level3.bare") interrupts of the timer; each printed what it does natively, and both machines the same; bare $(cat "$room/level3.bare.time"); patched $(cat "$room/level3.wedge.time")"
 }
 
-# Each file of the library by three sets of flags.
+# Each file of the library by the flags without the last line, which leaves out some of GCC's passes, and that by lower.awk; what
+# all flags and lower.awk give is in package.
 refused() {
-    local file which flags
-    for which in flags lowered all; do
-        mkdir -p "$room/$which" || return
-        flags=(@"$here/lib/flags")
-        # what lib/flags leaves out of GCC's passes is done again
-        [ $which = all ] || flags=($(sed '$d' "$here/lib/flags"))
-        for file in "${library[@]}"; do
-            gcc "${flags[@]}" "${machine[@]:1}" "${options[@]}" "${headers[@]}" -S "$file" -o "$room/as.gcc" 2>/dev/null || return
-            if [ $which = flags ]; then
-                cp "$room/as.gcc" "$room/$which/$(named "$file").s"
-            else
-                awk -f "$kernels/lower.awk" "$room/as.gcc" >"$room/$which/$(named "$file").s"
-            fi
-        done
+    local file at flags
+    mkdir -p "$room/flags" "$room/lowered" "$room/package" || return
+    flags=($(sed '$d' "$here/lib/flags"))
+    for file in "${library[@]}"; do
+        at=$(named "$file").s
+        is_current "$room/flags/$at" "$file" "$here/lib/flags" ||
+            gcc "${flags[@]}" "${machine[@]:1}" "${options[@]}" "${headers[@]}" -S "$file" -o "$room/flags/$at" || return
+        awk -f "$kernels/lower.awk" "$room/flags/$at" >"$room/lowered/$at" || return
+        is_current "$room/package/$at" "$file" "$here/lib/flags" "$kernels/lower.awk" || lower "$file" "$room/package/$at" || return
     done
 }
 
@@ -306,11 +310,10 @@ if [ "$way" = share ]; then
     exit
 fi
 for name in "$@"; do
-    [ "$way" != refused ] || (cd "$here/out/$name" 2>/dev/null && rm -rf flags lowered all)
     (all_of "$name") || { echo "$name: failed"; result=1; }
 done
 if [ "$way" = refused ]; then
-    for which in flags lowered all; do
+    for which in flags lowered package; do
         echo "$which:"
         "$here/refused.py" "$pv" $(for name in "$@"; do find "$here/out/$name/$which" -name '*.s'; done)
     done
