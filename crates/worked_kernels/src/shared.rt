@@ -354,3 +354,137 @@ $ 0 share C 2048 K B I B
 0 end steps 40
 1 end steps 3
 ";
+
+/// Parked kernels are released where a kernel's turn would have fewer than 16 frames. A kernel K of a number N reads a page under
+/// each of N directory indices, and then gives the first of them another frame, without INVLPG; in its next two steps it reads
+/// this page again and shows what it finds. What it kept leads it to the first frame, with aaaaaaaa; a walk leads it to the other,
+/// with bbbbbbbb. It makes 8 N + 9 steps up to there. It holds 5 + N frames of the pool's 512: two, and one for each directory
+/// index, of its text, its data, its own memory and the N. One that hasn't begun holds two.
+pub const RELEASES: &str = "\
+$ build
+nop
+$ store S
+_start: movl $0xaaaaaaaa,0xC0300000
+movl $0xbbbbbbbb,0xC0301000
+movl $0xC0001200,%edi
+movl $0x20003,%eax
+movl count,%ecx
+a: movl %eax,(%edi)
+addl $4,%edi
+decl %ecx
+jnz a
+movl $0x300003,0xC0020000
+movl count,%ecx
+movl $0x20000000,%edi
+c: movl (%edi),%eax
+addl $0x400000,%edi
+decl %ecx
+jnz c
+movl $0x301003,0xC0020000
+movl 0x20000000,%eax
+outl %eax,$0x80
+hlt
+$ 0 burn S K
+object text 109 data 0 bss 0 sites 2
+$ store S
+.data
+.globl count
+count: .long 1
+$ 0 burn S P
+object text 0 data 4 bss 0 sites 0
+$ 0 link K1 P K
+image text 111 data 4 bss 0 sites 2
+$ store S
+.data
+.globl count
+count: .long 489
+$ 0 burn S P
+object text 0 data 4 bss 0 sites 0
+$ 0 link K489 P K
+image text 111 data 4 bss 0 sites 2
+$ store S
+.data
+.globl count
+count: .long 490
+$ 0 burn S P
+object text 0 data 4 bss 0 sites 0
+$ 0 link K490 P K
+image text 111 data 4 bss 0 sites 2
+$ store S
+.data
+.globl count
+count: .long 491
+$ 0 burn S P
+object text 0 data 4 bss 0 sites 0
+$ 0 link K491 P K
+image text 111 data 4 bss 0 sites 2
+$ store S
+.data
+.globl count
+count: .long 492
+$ 0 burn S P
+object text 0 data 4 bss 0 sites 0
+$ 0 link K492 P K
+image text 111 data 4 bss 0 sites 2
+$ : 16 frames, of which its own are 6: none is released
+$ store C
+0 17
+1 3937
+0 2
+1 2
+$ 0 share C 2048 K1 B K491 B
+0 18 out32 0080 aaaaaaaa
+1 3938 out32 0080 aaaaaaaa
+0 end steps 19
+1 end steps 3939
+$ : 15, of which its own are 6: the parked one is released, and it keeps its own
+$ store C
+0 17
+1 3945
+0 2
+1 2
+$ 0 share C 2048 K1 B K492 B
+0 18 out32 0080 aaaaaaaa
+1 3946 out32 0080 bbbbbbbb
+0 end steps 19
+1 end steps 3947
+$ : 12, and 16 once the first is released: the second keeps its own
+$ store C
+0 17
+1 3921
+2 1
+1 2
+0 2
+$ 0 share C 2048 K1 B K489 B I B
+1 3922 out32 0080 aaaaaaaa
+0 18 out32 0080 bbbbbbbb
+0 end steps 19
+1 end steps 3923
+2 end steps 1
+$ : 11, and 15 once the first is released: so is the second
+$ store C
+0 17
+1 3929
+2 1
+1 2
+0 2
+$ 0 share C 2048 K1 B K490 B I B
+1 3930 out32 0080 bbbbbbbb
+0 18 out32 0080 bbbbbbbb
+0 end steps 19
+1 end steps 3931
+2 end steps 1
+$ : 16 and then 12: the first is released, though the second would give frames enough
+$ store C
+0 3921
+1 17
+2 1
+0 2
+1 2
+$ 0 share C 2048 K489 B K1 B I B
+0 3922 out32 0080 bbbbbbbb
+1 18 out32 0080 aaaaaaaa
+0 end steps 3923
+1 end steps 19
+2 end steps 1
+";

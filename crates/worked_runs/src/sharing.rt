@@ -7,7 +7,7 @@ use std::alloc::Global;
 use std::process::Abort;
 use worked_kernels::{
     ARE_TOO_LARGE, COUNTS_AT_LEVEL_3, FOUR_IN_TURNS, FOUR_TIMES, GOES_OVER_MANY_TABLES,
-    IS_HELD_OFF, IS_INTERRUPTED, SENDS_A_BYTE, SHARED, TURNS_END_HELD_OFF,
+    IS_HELD_OFF, IS_INTERRUPTED, RELEASES, SENDS_A_BYTE, SHARED, TURNS_END_HELD_OFF,
 };
 
 /// A kernel with its number, its source, what links its image from the object O, and what runs all of its steps.
@@ -236,4 +236,9 @@ static LARGE_KERNELS: [Tenant<'static>; 4] = [
 fn kernels_that_need_more_than_the_pool_give_up_frames(rt: HostRuntime) {
     let turns = repeated(&rt, rt.alloc(), b"", b"0 1400\n1 1400\n2 1400\n3 1400\n", 2);
     each_as_alone(&rt, rt.alloc(), &LARGE_KERNELS, &turns, 0);
+}
+
+#[test]
+fn parked_kernels_are_released_in_their_order(rt: HostRuntime) {
+    follow(&rt, rt.alloc(), RELEASES);
 }
