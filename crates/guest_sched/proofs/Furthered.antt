@@ -10,6 +10,8 @@ use Rattle.frame_pool.specs.declared.Pool.{Pool}
 use Rattle.pv_io.specs.Sink.{Appends}
 use Rattle.run_trace.specs.declared.items.End.TheVariants.{Stopped}
 use Rattle.run_trace.specs.declared.pause.Pause.{Pause}
+use Rattle.run_trace.specs.declared.pause.Pause.TheVariants as pauses
+use Rattle.run_trace.specs.Pauses.{end_of}
 use Rattle.run_trace.specs.Text.{lines_of, text_of, end_line}
 use Rattle.machine_model.specs.Counts.{direct_count, passed_digest}
 use Rattle.machine_model.specs.Run.{Steps, StopHolds, trace_of}
@@ -25,11 +27,11 @@ use Rattle.guest_sched.specs.Apart.{Seat, MayGoOn, IsSeated, AreApart, behind_as
 use Rattle.guest_sched.specs.Between.{EachStands, StandsSo, IsNext, stops_of}
 use Rattle.guest_sched.specs.Pieces.{Piece, MakesSteps, has_stopped, piece_text, counts_over, reports_of, own_text, stop_line}
 use Rattle.guest_sched.specs.Bounds.{bound_of}
-use Rattle.guest_sched.specs.Rounds.{HasGoneRound, MakesTurn}
+use Rattle.guest_sched.specs.Rounds.{BeginsTurn, HasBegunRound, MakesTurn}
 use Rattle.guest_sched.specs.Seating.{seats_from, HasGoneOn}
 use Rattle.guest_sched.specs.Shared.{alone, sites_in, IsBegun, BeganAlone, EachBegan}
 use Rattle.guest_sched.specs.SharedRuns.{FailsInTurn}
-use Rattle.guest_sched.specs.Stages.{Stage}
+use Rattle.guest_sched.specs.Stages.{end_with}
 use Rattle.guest_sched.specs.Tags.{tag_of}
 use Rattle.guest_sched.specs.Went.{EndsSo, HasFailed}
 use Rattle.guest_sched.specs.declared.kernel.Kernel.{Kernel}
@@ -45,6 +47,11 @@ use Rattle.guest_sched.proofs.Stands.{went_stands, skip_stands}
 use Rattle.guest_sched.proofs.Wide.{HasTurned, IsBetween, TurnAs}
 use Rattle.guest_sched.proofs.Turned.{seat_here, piece_of, turned, Turned, whole_text}
 use Rattle.guest_sched.proofs.Turning.{flat_append, turns_on, counts_on, reports_on, text_on, reports_off, text_off}
+
+-- a kernel has met the stop at which its turn paused, or none
+stops_so : (number : ℕ) (t : Tenant) (taken tells : Option (List ℕ)) (pause : Pause) → EndsSo number t taken tells pause → end_with t.stop ≡ end_of pause
+stops_so number t taken tells pauses.Reached ends = ap end_with ends.0
+stops_so number t taken tells (pauses.Stopped stop) ends = ap end_with ends.0
 
 -- the turn over the kernel's own setting
 at_frames : (k : Kernel) (number steps : ℕ) (host host' : List ℕ) (t t' : Tenant) (now now' : Counts) (new between : Option (List ℕ)) (pause : Pause) (frames n : ℕ) → t.guest.frames ≡ frames → number ≡ n
@@ -251,11 +258,15 @@ module _ (kernels : List Kernel) (frames : ℕ) (whole done : List Slice) (piece
           others = refl;
           ram = went.ram;
           keeps = went.keeps;
-          out = record { before = now; after = now'; told = new; tells = h.between };
+          sets = turn.sets;
+          last = turn.last;
+          end = turn.end;
           pause = h.pause;
-          turn = turn;
-          reports = refl;
-          ends = (refl, refl);
+          steps = turn.steps;
+          ends = turn.ends;
+          filled = turn.each_filled;
+          piece = (refl, refl);
+          stop_is = stops_so slice.kernel t' h.between new' h.pause h.ends;
         }
 
         pub went_between : (p : Piece) × MakesTurn kernels frames slice p (record { tenants = ts; pool = pool; present = present; memory = host }) (record { tenants = set ts present t'; pool = pool'; present = present; memory = host' })
@@ -299,7 +310,8 @@ module _ (kernels : List Kernel) (frames : ℕ) (whole done : List Slice) (piece
 
     -- the sink has failed in the turn
     module _ (here : present ≡ slice.kernel) (dk : Kernel) (d : Tenant) (live : (get_or ts present d).stop ≡ None) (new' : Option (List ℕ))
-        (h : HasFailed (get_or kernels present dk) slice.kernel slice.steps host (get_or ts present d) new new') (gone : (s : Stage) × HasGoneRound kernels frames done pieces s)
+        (h : HasFailed (get_or kernels present dk) slice.kernel slice.steps host (get_or ts present d) new new')
+        (rounds : (p : Piece) → BeginsTurn kernels frames p (record { tenants = ts; pool = pool; present = present; memory = host }) → HasBegunRound kernels frames done pieces slice p)
       where
         abbrev m_here : Setting
         m_here = alone (get_or kernels present dk) frames
@@ -323,6 +335,22 @@ module _ (kernels : List Kernel) (frames : ℕ) (whole done : List Slice) (piece
                   (subst (λ (f : ℕ). IfSome h.piece.stop (StopHolds (alone (get_or kernels present dk) f) h.last)) fr h.stops) on.stops;
             }
 
+        begins_here : BeginsTurn kernels frames h.piece (record { tenants = ts; pool = pool; present = present; memory = host })
+        begins_here =
+            let fr = frames_are here dk d live in
+            record {
+              number = is_mine;
+              kernel = get_or kernels present dk;
+              kernel_is = λ e. get_or_any kernels present e dk (let n = b.rooms.len in let lt = b.rooms.there in omega (arith, n, lt));
+              tenant = get_or ts present d;
+              tenant_is = λ e. get_or_any ts present e d b.rooms.there;
+              sets = h.sets;
+              last = h.last;
+              steps = subst (λ (f : ℕ). Steps (alone (get_or kernels present dk) f) (state_of of_roots (alone (get_or kernels present dk) f) (get_or ts present d).guest host) h.sets h.piece.reports h.last) fr h.steps_are;
+              count = h.count;
+              stops = subst (λ (f : ℕ). IfSome h.piece.stop (StopHolds (alone (get_or kernels present dk) f) h.last)) fr h.stops;
+            }
+
         pub failed_between : FailsInTurn kernels whole frames old new'
         failed_between = record {
           done = done;
@@ -340,5 +368,5 @@ module _ (kernels : List Kernel) (frames : ℕ) (whole done : List Slice) (piece
           between = new;
           text = b.text;
           front = h.front;
-          rounds = gone;
+          rounds = rounds h.piece begins_here;
         }

@@ -10,10 +10,11 @@ use Rattle.wedge_core.specs.Slices.{Counts}
 use Rattle.guest_sched.specs.Apart.{MayGoOn, AreApart, EachStays}
 use Rattle.guest_sched.specs.Between.{IsNext, stops_of}
 use Rattle.guest_sched.specs.Pieces.{Piece}
-use Rattle.guest_sched.specs.Rounds.{HasGoneRound, MakesTurn}
+use Rattle.guest_sched.specs.Releases.{IsRoomMade}
+use Rattle.guest_sched.specs.Rounds.{BeginsTurn, ComesIn, HasBegunRound, MakesTurn}
 use Rattle.guest_sched.specs.Seating.{seats_from, HasBrought, HasMadeRoom, GoesOn, HasGoneOn}
 use Rattle.guest_sched.specs.SharedRuns.{FailsInTurn}
-use Rattle.guest_sched.specs.Stages.{Stage}
+use Rattle.guest_sched.specs.Stages.{stage}
 use Rattle.guest_sched.specs.Went.{HasFailed}
 use Rattle.guest_sched.specs.declared.kernel.Kernel.{Kernel}
 use Rattle.guest_sched.specs.declared.schedule.Slice.{Slice}
@@ -78,6 +79,19 @@ pub met_of : (o : Option Stop) (b : Bool) → b ≡ is_some o → b ≡ true →
 met_of None b e f = absurd (cc)
 met_of (Some stop) b e f = (stop, refl)
 
+-- the kernel whose turn it is comes in
+pub comes_in : (slice : Slice) (s0 s1 s2 : Tenants) (host0 host1 host2 : List ℕ) → ((e : Tenant) → (get_or s0.list.items slice.kernel e).stop ≡ None)
+    → HasBrought s0.frames host0 host1 s0.present slice.kernel s0.list.items s1.list.items → s1.pool ≡ s0.pool → s1.present ≡ slice.kernel → s2.present ≡ slice.kernel → IsRoomMade (stage s1 host1) (stage s2 host2)
+    → ComesIn s0.frames slice (stage s0 host0) (record { tenants = s2.list.items; pool = s2.pool; present = slice.kernel; memory = host2 })
+comes_in slice s0 s1 s2 host0 host1 host2 live brought pool present there room = record {
+  live = live;
+  brought = stage s1 host1;
+  bring = subst (λ (n : ℕ). HasBrought s0.frames host0 host1 s0.present n s0.list.items s1.list.items) (sym present) brought;
+  same_pool = pool;
+  present = present;
+  room = subst (λ (n : ℕ). IsRoomMade (stage s1 host1) (record { tenants = s2.list.items; pool = s2.pool; present = n; memory = host2 })) there room;
+}
+
 -- a kernel between turns, in the host's memory, whose turn comes next
 module _ (kernels : List Kernel) (frames : ℕ) (whole done : List Slice) (pieces : List Piece) (ts : List Tenant) (pool : Pool) (host : List ℕ) (before now : Counts) (old new : Option (List ℕ)) (slice : Slice)
     (b : IsBetween kernels frames whole done pieces ts pool slice.kernel host before now old new) (next : IsNext (length kernels) whole done slice)
@@ -109,10 +123,11 @@ module _ (kernels : List Kernel) (frames : ℕ) (whole done : List Slice) (piece
         (subst (λ (x : Kernel). HasTurned x slice.kernel slice.steps host host' (get_or ts slice.kernel t) t' now now' new new') k_is (subst (λ (x : Tenant). HasTurned k slice.kernel slice.steps host host' x t' now now' new new') t_is turned))
         (subst (λ (x : Kernel). HasGoneOn x pool pool' host host' (get_or ts slice.kernel t) t') k_is (subst (λ (x : Tenant). HasGoneOn k pool pool' host host' x t') t_is gone))
 
-    pub failed_at : (new' : Option (List ℕ)) → HasFailed k slice.kernel slice.steps host t new new' → ((s : Stage) × HasGoneRound kernels frames done pieces s) → FailsInTurn kernels whole frames old new'
-    failed_at new' failed gone =
+    pub failed_at : (new' : Option (List ℕ)) → HasFailed k slice.kernel slice.steps host t new new'
+        → ((p : Piece) → BeginsTurn kernels frames p (record { tenants = ts; pool = pool; present = slice.kernel; memory = host }) → HasBegunRound kernels frames done pieces slice p) → FailsInTurn kernels whole frames old new'
+    failed_at new' failed rounds =
         failed_between kernels frames whole done pieces ts pool slice.kernel host before now old new b slice next refl k t live_at new'
-        (subst (λ (x : Kernel). HasFailed x slice.kernel slice.steps host (get_or ts slice.kernel t) new new') k_is (subst (λ (x : Tenant). HasFailed k slice.kernel slice.steps host x new new') t_is failed)) gone
+        (subst (λ (x : Kernel). HasFailed x slice.kernel slice.steps host (get_or ts slice.kernel t) new new') k_is (subst (λ (x : Tenant). HasFailed k slice.kernel slice.steps host x new new') t_is failed)) rounds
 
 pub room_at : (retired : ℕ) (passed : ℕ) (before : Counts) (count : ℕ) (whole done : List Slice) (slice : Slice) → IsNext count whole done slice → retired ≤ before.retired + length done * 2 ^ 40 → before.retired ≤ 2 ^ 63 → retired + slice.steps < 2 ^ 64
 room_at retired passed before count whole done slice next up few =

@@ -21,9 +21,9 @@ abbrev pub FirstGiveWay : ℕ → Stage → Stage → Type 0
 FirstGiveWay zero old new = new ≡ old
 FirstGiveWay (suc n) old new = (between : Stage) × FirstGiveWay n old between × GivesWay n between new
 
--- They give way in their order until there are 16 frames, or to the last of them.
+-- They give way in their order until there are 16 frames, and no further.
 pub record IsRoomMade (old new : Stage) : Type 0 where
   pub count : ℕ
   pub within : count ≤ length old.tenants
   pub first : FirstGiveWay count old new
-  pub enough : count < length old.tenants → (d : Tenant) → 16 ≤ frames_for d new
+  pub enough : (d : Tenant) → 16 ≤ frames_for d new

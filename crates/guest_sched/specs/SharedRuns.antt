@@ -9,8 +9,7 @@ use Rattle.guest_sched.specs.declared.schedule.Slice.{Slice}
 use Rattle.guest_sched.specs.Pieces.{Piece, AreTurns, piece_text, shared_text, counts_over}
 use Rattle.guest_sched.specs.Shared.{EachRan, sites_in, LinesAreAlone, EachBegan}
 use Rattle.guest_sched.specs.OwnEnds.{EachHasOwnEnd}
-use Rattle.guest_sched.specs.Rounds.{EndsRound, HasGoneRound}
-use Rattle.guest_sched.specs.Stages.{Stage}
+use Rattle.guest_sched.specs.Rounds.{EndsRound, HasBegunRound}
 
 -- The turns are those of the schedule, in its order. Each kernel's turns make a run of it alone, with its own set at the end,
 -- and the host's counts follow all of them. Before each turn no more parked kernels were released than it needed.
@@ -25,7 +24,7 @@ pub record SharedRun (kernels : List Kernel) (slices : List Slice) (frames : ℕ
   pub rounds : EndsRound kernels frames slices pieces memory ended
 
 -- The sink has failed in a turn: it has taken the text of the turns before, and a front of what the first steps of this one
--- give.
+-- give. Before this turn too no more parked kernels were released than it needed.
 pub record FailsInTurn (kernels : List Kernel) (slices : List Slice) (frames : ℕ) (old new : Option (List ℕ)) : Type 0 where
   pub done : List Slice
   pub slice : Slice
@@ -40,7 +39,7 @@ pub record FailsInTurn (kernels : List Kernel) (slices : List Slice) (frames : �
   pub between : Option (List ℕ)
   pub text : Appends old between (flat_map piece_text pieces)
   pub front : AppendsFront between new (piece_text last)
-  pub rounds : (stage : Stage) × HasGoneRound kernels frames done pieces stage
+  pub rounds : HasBegunRound kernels frames done pieces slice last
 
 -- The sink has failed in the last lines, behind all turns.
 pub record FailsAtEnd (kernels : List Kernel) (slices : List Slice) (frames : ℕ) (old new : Option (List ℕ)) : Type 0 where

@@ -1,10 +1,10 @@
 //! Kernels that share a host: who stands in its memory, and the frames of the pool that they hold.
 
-ghost use Rattle.std.specs.Prelude.{◌≡◌, ◌+◌, ◌*◌, ◌≤◌, ◌<◌, length, slice_index_or, true};
+ghost use Rattle.std.specs.Prelude.{◌≡◌, ◌*◌, ◌≤◌, ◌<◌, length, slice_index_or, true};
 ghost use Rattle.std.specs.List.{All};
 ghost use Rattle.guest_ram.specs.Bytes.{part, with_part};
 ghost use Rattle.frame_pool.specs.Held.{Owns};
-ghost use Rattle.frame_pool.specs.Pool.{count_of, free_list};
+ghost use Rattle.frame_pool.specs.Pool.{count_of};
 ghost use Rattle.shadow_cache.specs.Views as roots;
 ghost use Rattle.guest_sched.specs.Releases.{IsRoomMade};
 ghost use Rattle.guest_sched.specs.Seating.{HasBrought, HasExchanged, HasMadeRoom, HasReleased, KeepsMachines, MayMakeRoom, OneReleased, StaysApart};
@@ -118,8 +118,6 @@ impl Tenants {
     pub fn make_room<H: Host>(&mut self, host: &mut H)
         requires started { H.is_started host.old ≡ true }
         requires may { MayMakeRoom self.old.frames (stage self.old (H.bytes host.old)) }
-        ensures enough { (d : Tenant) → 16 ≤ length (free_list self.new.pool (H.bytes host.new))
-            + (slice_index_or self.new.list.items self.old.present d).guest.held }
         ensures released { IsRoomMade (stage self.old (H.bytes host.old)) (stage self.new (H.bytes host.new)) }
         ensures apart { StaysApart self.old.frames (stage self.old (H.bytes host.old)) (stage self.new (H.bytes host.new)) }
         ensures made { HasMadeRoom self.old.present self.old.list.items self.new.list.items }

@@ -11,8 +11,7 @@ use Rattle.guest_sched.specs.declared.schedule.Slice.{Slice}
 use Rattle.guest_sched.specs.declared.fault.ScheduleCause.{ScheduleCause}
 use Rattle.guest_sched.specs.Texts.{schedule_of}
 use Rattle.guest_sched.specs.Pieces.{Piece, AreTurns, piece_text, shared_text, counts_over}
-use Rattle.guest_sched.specs.Rounds.{EndsRound, HasGoneRound}
-use Rattle.guest_sched.specs.Stages.{Stage}
+use Rattle.guest_sched.specs.Rounds.{EndsRound, HasBegunRound}
 use Rattle.guest_sched.specs.Shared.{sites_in, EachRan, EachBegan, LinesAreAlone, FirstTooSmall, AllFit}
 use Rattle.pv_build.specs.Lines.{too_small_line}
 use Rattle.pv_share.specs.ScheduleLines.{schedule_line}
@@ -63,7 +62,7 @@ pub data Shares (files : Option FileMap) (schedule : List ℕ) (frames : ℕ) (n
       → Shares files schedule frames names w
 
 -- The text of the turns of the first slices, and of the first steps of one more: where the output fails in a turn, it fails
--- within such a text.
+-- within such a text. Before each of these turns, that one too, no more parked kernels were released than it needed.
 pub record SharesText (files : Option FileMap) (schedule : List ℕ) (frames : ℕ) (names : List KernelNames) (text : List ℕ) : Type 0 where
   pub kernels : List Kernel
   pub slices : List Slice
@@ -80,7 +79,7 @@ pub record SharesText (files : Option FileMap) (schedule : List ℕ) (frames : �
   pub few : length last.reports ≤ slice.steps
   pub each : EachBegan 0 frames (pieces ++ last ∷ []) kernels
   pub text_is : text ≡ flat_map piece_text pieces ++ piece_text last
-  pub rounds : (stage : Stage) × HasGoneRound kernels frames done pieces stage
+  pub rounds : HasBegunRound kernels frames done pieces slice last
 
 -- what `share` asks for; it begins with the first turns
 abbrev pub share_task : List ℕ → ℕ → List KernelNames → Task

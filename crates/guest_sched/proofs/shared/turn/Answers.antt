@@ -1,16 +1,14 @@
 use Rattle.std.proofs.Common.{◌≡◌, inl, inr, true, ◌<◌, [], ◌∷◌, ◌++◌, length, set, get_or, Some, None, refl, ap, sym, subst, ◌∙◌, arith}
 use Rattle.board.specs.ScriptForm.{is_script}
 use Rattle.guest_sched.specs.Pieces.{Piece}
-use Rattle.guest_sched.specs.Releases.{IsRoomMade}
 use Rattle.guest_sched.specs.Rounds.{GoesRound}
-use Rattle.guest_sched.specs.Seating.{HasBrought}
 use Rattle.guest_sched.specs.Stages.{stage}
 use Rattle.guest_sched.specs.declared.kernel.Kernel.{Kernel}
 use Rattle.guest_sched.specs.declared.tenants.Tenant.{Tenant}
 use Rattle.guest_sched.proofs.Between.{next_slice}
 use Rattle.guest_sched.proofs.Brought.{get_or_any}
 use Rattle.guest_sched.proofs.Furthered.{skipped_between}
-use Rattle.guest_sched.proofs.Ready.{counts_of, counts_same, live_of, met_of, brought_at, ready_at, stop_same, goes_on_at, bound_at, room_at, went_at, failed_at, on_ok_both, on_err_then}
+use Rattle.guest_sched.proofs.Ready.{counts_of, counts_same, live_of, met_of, brought_at, ready_at, stop_same, goes_on_at, bound_at, room_at, comes_in, went_at, failed_at, on_ok_both, on_err_then}
 use Rattle.guest_sched.proofs.shared.turn.Goals as goal
 use Rattle.guest_sched.proofs.Wide.{IsBetween}
 
@@ -128,8 +126,8 @@ go_on-requires-clause-takes g c =
     c.make_room.ensures.made c.make_room.ensures.theirs c.make_room.ensures.size c.make_room.ensures.apart c.make_room.ensures.stay c.make_room.ensures.rest (counts_same _ _ _ _ c.make_room.ensures.retired c.make_room.ensures.passed) d in
     let at0 = get_or_any c.args.tenants.now.list.items c.args.slice.now.kernel c.index.result.now d lt in
     let live : d.stop ≡ None = ap (λ (t : Tenant). t.stop) c.index_mut-tenant.ensures.value ∙ kept ∙ ap (λ (t : Tenant). t.stop) (sym at0) ∙ ap (λ (t : Tenant). t.stop) (sym c.index.ensures) ∙ live0 in
-    let e = c.make_room.ensures.enough d in
-    let same = ap (λ n. (get_or c.make_room.new.self.list.items n d).guest.held) c.bring.ensures.rest.2 in
+    let e = c.make_room.ensures.released.enough d in
+    let same = ap (λ n. (get_or c.make_room.new.self.list.items n d).guest.held) (c.make_room.ensures.rest.1 ∙ c.bring.ensures.rest.2) in
     let value = ap (λ (t : Tenant). t.guest.held) c.index_mut-tenant.ensures.value in
     record {
       fresh = live;
@@ -208,12 +206,10 @@ returns-clause-turned g c =
     (counts_of (g.H.Host.retired c.go_on.new.host) (g.H.Host.passed c.go_on.new.host)) was (g.O.Sink.taken c.go_on.new.out)) (sym there) (
       x.0,
       inr (record {
-        live = λ e. ap (λ (t : Tenant). t.stop) (get_or_any c.args.tenants.now.list.items c.args.slice.now.kernel e c.index.result.now lt ∙ sym c.index.ensures) ∙ live0;
-        brought = stage c.bring.new.self (g.H.Host.bytes c.bring.new.host);
         ready = record { tenants = c.make_room.new.self.list.items; pool = c.make_room.new.self.pool; present = c.args.slice.now.kernel; memory = g.H.Host.bytes c.make_room.new.host };
-        bring = subst (λ n. HasBrought c.args.tenants.now.frames (g.H.Host.bytes c.args.host.now) (g.H.Host.bytes c.bring.new.host) c.args.tenants.now.present n c.args.tenants.now.list.items c.bring.new.self.list.items) (sym c.bring.ensures.rest.2) c.bring.ensures.brought;
-        rest = (c.bring.ensures.rest.0, c.bring.ensures.rest.2);
-        room = subst (λ n. IsRoomMade (stage c.bring.new.self (g.H.Host.bytes c.bring.new.host)) (record { tenants = c.make_room.new.self.list.items; pool = c.make_room.new.self.pool; present = n; memory = g.H.Host.bytes c.make_room.new.host })) there c.make_room.ensures.released;
+        comes = comes_in c.args.slice.now c.args.tenants.now c.bring.new.self c.make_room.new.self (g.H.Host.bytes c.args.host.now) (g.H.Host.bytes c.bring.new.host) (g.H.Host.bytes c.make_room.new.host)
+            (λ e. ap (λ (t : Tenant). t.stop) (get_or_any c.args.tenants.now.list.items c.args.slice.now.kernel e c.index.result.now lt ∙ sym c.index.ensures) ∙ live0)
+            c.bring.ensures.brought c.bring.ensures.rest.0 c.bring.ensures.rest.2 there c.make_room.ensures.released;
         turn = x.1;
       }),
       x.2,
@@ -239,7 +235,15 @@ returns-clause-failed g c =
     (g.H.Host.bytes c.args.host.now) (g.H.Host.bytes c.bring.new.host) (g.H.Host.bytes c.make_room.new.host) c.bring.ensures.brought c.bring.ensures.rest lt (counts_same _ _ _ _ c.bring.ensures.retired c.bring.ensures.passed) b0
     c.make_room.ensures.made c.make_room.ensures.theirs c.make_room.ensures.size c.make_room.ensures.apart c.make_room.ensures.stay c.make_room.ensures.rest (counts_same _ _ _ _ c.make_room.ensures.retired c.make_room.ensures.passed) in
     failed_at c.args.kernels.now.items c.args.tenants.now.frames whole done pieces c.make_room.new.self.list.items c.make_room.new.self.pool (g.H.Host.bytes c.make_room.new.host) before (counts_of (g.H.Host.retired c.make_room.new.host) (g.H.Host.passed c.make_room.new.host)) was (g.O.Sink.taken c.args.out.now) c.args.slice.now b next
-    c.index-2.result.now d c.index-2.ensures c.index_mut-tenant.ensures.value live (g.O.Sink.taken c.go_on.new.out) failed (stage c.args.tenants.now (g.H.Host.bytes c.args.host.now), gone))
+    c.index-2.result.now d c.index-2.ensures c.index_mut-tenant.ensures.value live (g.O.Sink.taken c.go_on.new.out) failed (λ p begins. record {
+      between = stage c.args.tenants.now (g.H.Host.bytes c.args.host.now);
+      gone = gone;
+      ready = record { tenants = c.make_room.new.self.list.items; pool = c.make_room.new.self.pool; present = c.args.slice.now.kernel; memory = g.H.Host.bytes c.make_room.new.host };
+      comes = comes_in c.args.slice.now c.args.tenants.now c.bring.new.self c.make_room.new.self (g.H.Host.bytes c.args.host.now) (g.H.Host.bytes c.bring.new.host) (g.H.Host.bytes c.make_room.new.host)
+          (λ e. ap (λ (t : Tenant). t.stop) (get_or_any c.args.tenants.now.list.items c.args.slice.now.kernel e c.index.result.now lt ∙ sym c.index.ensures) ∙ live0)
+          c.bring.ensures.brought c.bring.ensures.rest.0 c.bring.ensures.rest.2 (c.make_room.ensures.rest.1 ∙ c.bring.ensures.rest.2) c.make_room.ensures.released;
+      turn = begins;
+    }))
 
 pub returns-clause-started : goal.returns-clause-started
 returns-clause-started g c = c.go_on.ensures.started

@@ -166,29 +166,23 @@ loop-kernel-preserved g c = elim c.if-kernel-self.branch [
       }
 ]
 
-pub returns-clause-enough : goal.returns-clause-enough
-returns-clause-enough g c d =
+pub returns-clause-released : goal.returns-clause-released
+returns-clause-released g c =
     let l = c.loop-kernel in
     let i = l.invariant in
     let a = i.apart c.requires.may.apart.0 c.requires.may.apart.1 c.requires.may.apart.2 in
     let n = i.made.len in let stop = c.loop-kernel-test.false in let e = c.len-kernel-end.ensures in let same = i.present in
     let four = c.requires.may.pool.0 in let count = i.count in let all = a.all in
-    let b = held_bound l.self.frames l.self.pool (g.H.Host.bytes l.host) l.self.present 0 c.requires.may.apart.0 l.self.list.items d (get_or l.self.list.items l.self.present d).guest.held (c.requires.may.apart.1 ∙ sym n) a.seated
-    (λ j m is lt ne. i.done j d (omega (arith, n, stop, e, lt)) (λ x. ne (omega (arith, is, x, same))))
-    (λ j m is lt eq. (let z = ap (λ k. (get_or l.self.list.items k d).guest.held) (let t : j ≡ l.self.present = omega (arith, is, eq) in t) in omega (arith, z))) in
-    let most = b.0 in
-    let there = ap (λ k. (get_or l.self.list.items k d).guest.held) same in
-    omega (arith, most, n, four, count, all, there)
-
-pub returns-clause-released : goal.returns-clause-released
-returns-clause-released g c =
-    let l = c.loop-kernel in
-    let n = l.invariant.made.len in let stop = c.loop-kernel-test.false in let e = c.len-kernel-end.ensures in
     record {
       count = l.kernel;
       within = omega (arith, n, e);
-      first = l.invariant.first;
-      enough = λ lt. absurd (omega (arith, lt, n, stop, e));
+      first = i.first;
+      enough = λ d.
+          (let b = held_bound l.self.frames l.self.pool (g.H.Host.bytes l.host) l.self.present 0 c.requires.may.apart.0 l.self.list.items d (get_or l.self.list.items l.self.present d).guest.held (c.requires.may.apart.1 ∙ sym n) a.seated
+          (λ j m is lt ne. i.done j d (omega (arith, n, stop, e, lt)) (λ x. ne (omega (arith, is, x, same))))
+          (λ j m is lt eq. (let z = ap (λ k. (get_or l.self.list.items k d).guest.held) (let t : j ≡ l.self.present = omega (arith, is, eq) in t) in omega (arith, z))) in
+          let most = b.0 in
+          omega (arith, most, n, four, count, all));
     }
 
 pub returns-then-enough-clause-released : goal.returns-then-enough-clause-released
@@ -200,7 +194,7 @@ returns-then-enough-clause-released g c =
       count = l.kernel;
       within = omega (arith, n, lt, e);
       first = i.first;
-      enough = λ less d.
+      enough = λ d.
           (let all = frames_are l.self (g.H.Host.bytes l.host) d c.index.result.now c.free.result c.held.result (omega (arith, n, there, same)) (c.free.ensures.count (g.H.Host.bytes l.host)) (c.held.ensures ∙ ap (λ (t : Tenant). t.guest.held) c.index.ensures) in
           let high = c.if-enough.true in
           omega (arith, all, high));
