@@ -102,12 +102,12 @@ module _ (kernels : List Kernel) (frames : ℕ) (whole : List Slice) (pieces : L
     ends_put last put = both old new last (flat_map piece_text pieces) (bound_texts 0 (map ended_of tenants)) h.text put
 
     pub ends_fail : HasGoneRound kernels frames whole pieces (record { tenants = tenants; pool = pool; present = present; memory = host })
-        → (last : Option (List ℕ)) → AppendsFront new last (bound_texts 0 (map ended_of tenants)) → FailsAtEnd kernels whole frames old last
+        → (last : Option (List ℕ)) → AppendsFront new last (bound_texts 0 (map ended_of tenants)) → FailsAtEnd kernels whole frames host old last
     ends_fail gone last put = record {
       pieces = pieces;
       ended = map ended_of tenants;
       turns = h.turns;
       each = each_ran.0;
-      rounds = (host, rounded gone);
+      rounds = rounded gone;
       front = then_front old new last (flat_map piece_text pieces) (bound_texts 0 (map ended_of tenants)) h.text put;
     }

@@ -12,17 +12,17 @@ use Rattle.guest_sched.specs.declared.kernel.SharedFault.{SharedFault}
 use Rattle.guest_sched.specs.declared.kernel.SharedFault.TheVariants as fault
 use Rattle.guest_sched.specs.declared.schedule.Slice.{Slice}
 
--- what stands after a refusal
-abbrev pub SharedRefused : List Kernel → List Slice → ℕ → Around → SharedFault → Type 0
-SharedRefused kernels slices frames a fault.Write =
-    AllFit frames kernels × (FailsInTurn kernels slices frames a.taken a.taken_after ⊎ FailsAtEnd kernels slices frames a.taken a.taken_after)
+-- what stands after a refusal, with the host's memory
+abbrev pub SharedRefused : List Kernel → List Slice → ℕ → Around → List ℕ → SharedFault → Type 0
+SharedRefused kernels slices frames a memory fault.Write =
+    AllFit frames kernels × (FailsInTurn kernels slices frames a.taken a.taken_after ⊎ FailsAtEnd kernels slices frames memory a.taken a.taken_after)
     × Rose a.faults a.faults_after
-SharedRefused kernels slices frames a (fault.TooSmall small) = FirstTooSmall frames kernels small × IsUntouched a
-SharedRefused kernels slices frames a fault.Memory = IsUntouched a
+SharedRefused kernels slices frames a memory (fault.TooSmall small) = FirstTooSmall frames kernels small × IsUntouched a
+SharedRefused kernels slices frames a memory fault.Memory = IsUntouched a
 
 -- what stands after the turns, with the host's memory
 abbrev pub SharedAnswers : List Kernel → List Slice → ℕ → Around → List ℕ → Result (Vec Ended Global) SharedFault → Type 0
 SharedAnswers kernels slices frames a memory (Ok ended) =
     (text : List ℕ) × SharedRun kernels slices frames a.counts a.counts_after memory text ended.items × AllFit frames kernels
     × Appends a.taken a.taken_after text × (a.faults_after ≡ a.faults)
-SharedAnswers kernels slices frames a memory (Err refusal) = SharedRefused kernels slices frames a refusal
+SharedAnswers kernels slices frames a memory (Err refusal) = SharedRefused kernels slices frames a memory refusal

@@ -41,11 +41,11 @@ pub record FailsInTurn (kernels : List Kernel) (slices : List Slice) (frames : �
   pub front : AppendsFront between new (piece_text last)
   pub rounds : HasBegunRound kernels frames done pieces slice last
 
--- The sink has failed in the last lines, behind all turns.
-pub record FailsAtEnd (kernels : List Kernel) (slices : List Slice) (frames : ℕ) (old new : Option (List ℕ)) : Type 0 where
+-- The sink has failed in the last lines, after all turns.
+pub record FailsAtEnd (kernels : List Kernel) (slices : List Slice) (frames : ℕ) (memory : List ℕ) (old new : Option (List ℕ)) : Type 0 where
   pub pieces : List Piece
   pub ended : List Ended
   pub turns : AreTurns [] slices pieces
   pub each : EachRan 0 frames slices pieces kernels ended
-  pub rounds : (memory : List ℕ) × EndsRound kernels frames slices pieces memory ended
+  pub rounds : EndsRound kernels frames slices pieces memory ended
   pub front : AppendsFront old new (shared_text pieces ended)

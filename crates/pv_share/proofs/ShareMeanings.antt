@@ -58,10 +58,10 @@ front_behind (Some old) between new first text appends h =
     record { front = first ++ h.front; rest = h.rest; whole = append_assoc first h.front h.rest ∙ ap (λ (t : List ℕ). first ++ t) h.whole; taken = here ∙ ap (λ (t : List ℕ). Some t) (append_assoc old first h.front) }
 
 -- the output failed in a turn, or in the last lines
-write_fails : (schedule : List ℕ) (frames : ℕ) (names : List KernelNames) (o : Outside) (kernels : List Kernel) (slices : List Slice) (mid : Option (List ℕ)) (middle : ℕ)
+write_fails : (schedule : List ℕ) (frames : ℕ) (names : List KernelNames) (o : Outside) (kernels : List Kernel) (slices : List Slice) (mid : Option (List ℕ)) (middle : ℕ) (memory : List ℕ)
     → IsShared o.before.files schedule names kernels slices → o.after.files ≡ o.before.files → AllFit frames kernels → o.after.taken ≡ mid → o.after.puts ≡ middle → Rose o.before.puts middle
-    → (FailsInTurn kernels slices frames o.before.taken mid ⊎ FailsAtEnd kernels slices frames o.before.taken mid) → Means (share_task schedule frames names) o status.WriteFault
-write_fails schedule frames names o kernels slices mid middle shared same fit taken count rose (inl h) =
+    → (FailsInTurn kernels slices frames o.before.taken mid ⊎ FailsAtEnd kernels slices frames memory o.before.taken mid) → Means (share_task schedule frames names) o status.WriteFault
+write_fails schedule frames names o kernels slices mid middle memory shared same fit taken count rose (inl h) =
     let text = flat_map piece_text h.pieces ++ piece_text h.last in
     inr (record {
       text = text;
@@ -87,7 +87,7 @@ write_fails schedule frames names o kernels slices mid middle shared same fit ta
       front = front_on o.before.taken mid o.after.taken text taken (front_behind o.before.taken h.between mid (flat_map piece_text h.pieces) (piece_text h.last) h.text h.front);
       rose = rose_on o.before.puts middle o.after.puts count rose;
     })
-write_fails schedule frames names o kernels slices mid middle shared same fit taken count rose (inr h) =
+write_fails schedule frames names o kernels slices mid middle memory shared same fit taken count rose (inr h) =
     let w = told (status_of_all h.ended) (shared_text h.pieces h.ended) (Turns (λ before. counts_over (sites_in kernels) before h.pieces)) in
     let turns : SharesTurns frames kernels slices w = record {
       pieces = h.pieces;
@@ -95,7 +95,7 @@ write_fails schedule frames names o kernels slices mid middle shared same fit ta
       turns = h.turns;
       each = h.each;
       lines = lines_alone frames slices h.pieces kernels h.ended h.each;
-      rounds = h.rounds;
+      rounds = (memory, h.rounds);
       comes = refl;
     } in
     inl (
@@ -123,7 +123,7 @@ share_means schedule frames names o st kernels slices mid middle memory (Ok ende
     says_told (share_task schedule frames names) o w st (ended_is_end (status_of_all ended.items) (all_ended ended.items)) refl (by_shared o.before.files schedule frames names kernels slices w shared (Ran h.2 turns)) same
     (λ end. run.counts) (Whole said.0 (appends_on o.before.taken mid o.after.taken w.text said.1 (subst (λ (t : List ℕ). Appends o.before.taken mid t) run.text_is h.3)) (said.2 ∙ h.4))
 share_means schedule frames names o st kernels slices mid middle memory (Err fault.Write) shared same h said =
-    subst (λ (s : Status). Means (share_task schedule frames names) o s) (sym said.0) (write_fails schedule frames names o kernels slices mid middle shared same h.0 said.1 said.2 h.2 h.1)
+    subst (λ (s : Status). Means (share_task schedule frames names) o s) (sym said.0) (write_fails schedule frames names o kernels slices mid middle memory shared same h.0 said.1 said.2 h.2 h.1)
 share_means schedule frames names o st kernels slices mid middle memory (Err (fault.TooSmall small)) shared same h (inl said) =
     let line = too_small_line small.need small.have in
     says_told (share_task schedule frames names) o (refused line) st tt refl (by_shared o.before.files schedule frames names kernels slices (refused line) shared (Small small h.0 refl)) same (λ end. h.1.2)
