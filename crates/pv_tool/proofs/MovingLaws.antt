@@ -1,5 +1,5 @@
 -- A kernel that moves has one run.
-use Rattle.std.proofs.Common.{◌≡◌, ℕ, ◌*◌, List, [], ◌∷◌, ◌++◌, length, Option, Some, None, Result, Ok, Err, refl, sym, ap, subst, ◌∙◌, append_assoc, arith}
+use Rattle.std.proofs.Common.{◌≡◌, ℕ, ◌*◌, List, [], ◌∷◌, ◌++◌, length, Option, Some, None, Result, Ok, Err, refl, sym, ap, subst, ◌∙◌, append_assoc, arith, inl, inr}
 use Rattle.std.specs.List.{flat_map}
 use Rattle.std.specs.FinMap.{empty}
 use Rattle.std.proofs.lemmas.List.{append-nil}
@@ -7,7 +7,7 @@ use Rattle.board.specs.Scripts.{Events}
 use Rattle.image_check.specs.Image.{Image}
 use Rattle.run_trace.specs.declared.items.End.{End}
 use Rattle.run_trace.specs.declared.items.End.TheVariants.{Bound, Stopped as StoppedAt}
-use Rattle.run_trace.specs.Text.{lines_of}
+use Rattle.run_trace.specs.Text.{lines_of, text_of}
 use Rattle.machine_model.specs.State as model
 use Rattle.machine_model.specs.State.{Setting, boot}
 use Rattle.machine_model.specs.Step.{Report, Went, step_of}
@@ -24,6 +24,7 @@ use Rattle.checkpoint.specs.Legs.{Leg, Legs, Parts, in_mode, rested, sets_of, re
 use Rattle.pv_save.specs.Checkpoints.{HasState}
 use Rattle.pv_build.specs.declared.status.Status.{Status}
 use Rattle.pv_build.specs.declared.status.Status.TheVariants as status
+use Rattle.pv_build.specs.Statuses.{status_of}
 use Rattle.pv_tasks.specs.Outcome.{Outcome, refused, HasEnded}
 use Rattle.pv_save.specs.Saving.{SavesRun, Rested, Stopped, SavesBoot, SavesOn, WhereFits, OnState, FromFile, setting_on, frames_of, is_wedge}
 use Rattle.pv_save.specs.Continuing.{ContinuesOn}
@@ -129,6 +130,56 @@ next_leg program events frames mid s move t is size h =
     let framed = subst (λ (f : ℕ). SavesRun move.on (setting_on move.on program events f) move.n (rested_from s) move.new move.work) (frames_are frames mid s is size) goes in
     leg_of program events frames (rested mid) move t
     (subst (λ (x : State). SavesRun move.on (setting_on move.on program events frames) move.n (rested_from x) move.new move.work) is framed) h.leaves
+
+-- ---- the last command
+
+-- A run goes on from the state to an end, its text is printed, and the status is that of its end.
+record EndsRun (on : RunMode) (n : ℕ) (program : Image) (events : Events) (s : State) (w : Outcome) : Type 0 where
+  sets : List Set
+  reports : List Report
+  last : model.State
+  end : End
+  run : Run (setting_on on program events (frames_of s)) n (rested_from s) sets reports last end
+  text : w.text ≡ text_of (trace_of reports) last.step end
+  status_is : w.status ≡ status_of end
+
+continued_run : (on : RunMode) (n : ℕ) (program : Image) (events : Events) (s : State) (w : Outcome) → ContinuesOn on n program events s w → EndsRun on n program events s w
+continued_run on n program events s w h = record {
+  sets = h.sets;
+  reports = h.reports;
+  last = h.last;
+  end = h.end;
+  run = h.run;
+  text = ap (λ (v : Outcome). v.text) h.comes;
+  status_is = ap (λ (v : Outcome). v.status) h.comes;
+}
+
+-- a run that was to be saved, and wasn't
+stopped_run : (on : RunMode) (n : ℕ) (name : List ℕ) (program : Image) (events : Events) (s : State) (w : Outcome) → w.status ≡ status.Stopped → SavesOn on n name program events s w → EndsRun on n program events s w
+stopped_run on n name program events s w stopped (Rested h) = absurd (stopped_so w.status stopped (ap (λ (v : Outcome). v.status) h.comes))
+stopped_run on n name program events s w stopped (Stopped h) = record {
+  sets = h.sets;
+  reports = h.reports;
+  last = h.last;
+  end = StoppedAt h.stop;
+  run = h.run;
+  text = ap (λ (v : Outcome). v.text) h.comes;
+  status_is = ap (λ (v : Outcome). v.status) h.comes;
+}
+
+stop_ended : (st : Status) → st ≡ status.Stopped → HasEnded st
+stop_ended st is = subst HasEnded (sym is) tt
+
+last_run : (program : Image) (events : Events) (s : State) (move : Move) → IsLast program events s move → EndsRun move.on move.n program events s move.work
+last_run program events s move last = elim last.ends [
+  | inl h ↦
+      let from = reads_both (FromFile (ContinuesOn move.on move.n) move.on move.n (Some move.told) move.file) move.told move.image move.script program events move.work last.over.image_held last.over.script_held h.gives in
+      continued_run move.on move.n program events s move.work (from_ended (ContinuesOn move.on move.n) program events s move last.state_held from h.ended)
+  | inr h ↦
+      let from = reads_both (FromFile (SavesOn move.on move.n move.new) move.on move.n (Some move.told) move.file) move.told move.image move.script program events move.work last.over.image_held last.over.script_held h.gives in
+      stopped_run move.on move.n move.new program events s move.work h.stopped
+      (from_ended (SavesOn move.on move.n move.new) program events s move last.state_held from (stop_ended move.work.status h.stopped))
+]
 
 -- ---- legs, one behind the other
 
@@ -302,8 +353,7 @@ at_last : LegsAreARun → LegsAreParts → (program : Image) (events : Events) (
     → IsLast program events t move → AreOneRun program events frames moves move (lines ++ move.work.text)
 at_last law parts program events frames moves lines t move h last =
     let m = bare program events frames in
-    let from = reads_both (FromFile (ContinuesOn move.on move.n) move.on move.n (Some move.told) move.file) move.told move.image move.script program events move.work last.over.image_held last.over.script_held last.gives in
-    let goes = from_ended (ContinuesOn move.on move.n) program events t move last.state_held from last.ended in
+    let goes = last_run program events t move last in
     let at_frames = subst (λ (f : ℕ). Run (setting_on move.on program events f) move.n (rested_from t) goes.sets goes.reports goes.last goes.end) (frames_are frames h.mid t h.state_is h.size) goes.run in
     let at_mid = subst (λ (x : State). Run (setting_on move.on program events frames) move.n (rested_from x) goes.sets goes.reports goes.last goes.end) h.state_is at_frames in
     let l : Leg = record { mode = rules_of move.on program events frames; sets = goes.sets; reports = goes.reports } in
@@ -313,7 +363,6 @@ at_last law parts program events frames moves lines t move h last =
     let pieces = parts m move.n h.legs l h.mid goes.last goes.end before run in
     let last_one = with_set goes.last pieces.0 in
     let each = parts_of program events frames moves (boot m) h.mid (boot m) last_one h.legs l h.are refl pieces.1 in
-    let text = ap (λ (v : Outcome). v.text) goes.comes in
     let sets = sets_of h.legs ++ goes.sets in
     let reports = reports_of h.legs ++ goes.reports in
     record {
@@ -327,15 +376,15 @@ at_last law parts program events frames moves lines t move h last =
       ended = record {
         rules = refl;
         run = record { steps = each.steps; ends = pieces.2 };
-        text = text;
-        status_is = ap (λ (v : Outcome). v.status) goes.comes;
+        text = goes.text;
+        status_is = goes.status_is;
       };
       bare_run =
           subst (λ (n : ℕ). Run m n (boot m) sets reports (with_set goes.last whole.0) (end_on_bare goes.end))
           (same_bound move.n goes.last pieces.0 goes.end) whole.1;
       text =
           ap (λ (x : List ℕ). x ++ move.work.text) h.lines_are
-          ∙ (ap (λ (x : List ℕ). lines_of (trace_of (reports_of h.legs)) ++ x) text
+          ∙ (ap (λ (x : List ℕ). lines_of (trace_of (reports_of h.legs)) ++ x) goes.text
           ∙ sym (text_behind (reports_of h.legs) goes.reports goes.last.step goes.end));
     }
 

@@ -1,6 +1,6 @@
 -- A kernel that moves: it is saved, goes on from what was saved and is saved anew, on either machine each time, and at last goes
--- on to its end.
-use Rattle.std.specs.Prelude.{◌≡◌, ℕ, List, [], ◌∷◌, ◌++◌, Some, Ok}
+-- on to its end, or to a stop before it could be saved again.
+use Rattle.std.specs.Prelude.{◌≡◌, ◌⊎◌, ℕ, List, [], ◌∷◌, ◌++◌, Some, Ok}
 use Rattle.std.specs.List.{flat_map}
 use Rattle.pv_io.specs.Files.{FileMap}
 use Rattle.board.specs.Scripts.{Events}
@@ -68,12 +68,21 @@ abbrev pub AreNext : Image → Events → State → List Move → State → Type
 AreNext program events s [] t = t ≡ s
 AreNext program events s (move ∷ moves) t = (mid : State) × IsNext program events s move mid × AreNext program events mid moves t
 
--- and the last: it goes on to its end
+-- it goes on to its end
+pub record GoesOn (move : Move) : Type 0 where
+  pub gives : (task_of (Continue move.on move.image move.script move.file move.n)).gives (Some move.told) move.work
+  pub ended : HasEnded move.work.status
+
+-- or it is to be saved anew, and a stop comes before
+pub record StopsShort (move : Move) : Type 0 where
+  pub gives : (task_of (SaveFrom move.on move.image move.script move.file move.n move.new)).gives (Some move.told) move.work
+  pub stopped : move.work.status ≡ status.Stopped
+
+-- and the last, behind which nothing is stored
 pub record IsLast (program : Image) (events : Events) (s : State) (move : Move) : Type 0 where
   pub over : IsOver program events move
   pub state_held : HasState (Some move.told) move.file s
-  pub gives : (task_of (Continue move.on move.image move.script move.file move.n)).gives (Some move.told) move.work
-  pub ended : HasEnded move.work.status
+  pub ends : GoesOn move ⊎ StopsShort move
 
 -- the rules of a machine
 abbrev pub rules_of : RunMode → Image → Events → ℕ → Mode
@@ -101,7 +110,7 @@ AreParts program events frames (move ∷ moves) old (part ∷ parts) new =
     × AreParts program events frames moves mid parts new
 AreParts program events frames _ old _ new = ⊥
 
--- The part of the command that goes on to the end.
+-- The part of the last command.
 pub record IsLastPart (program : Image) (events : Events) (frames : ℕ) (move : Move) (old : model.State) (part : Leg)
     (last : model.State) (end : End) : Type 0 where
   -- it goes by the rules of the command's machine
@@ -113,7 +122,7 @@ pub record IsLastPart (program : Image) (events : Events) (frames : ℕ) (move :
   -- and its status is that of this end
   pub status_is : move.work.status ≡ status_of end
 
--- Commands that save, and one that goes on to the end, have one run from boot.
+-- Commands that save, and one that goes on to the end or to a stop, have one run from boot.
 pub record AreOneRun (program : Image) (events : Events) (frames : ℕ) (moves : List Move) (move : Move)
     (printed : List ℕ) : Type 0 where
   pub parts : List Leg

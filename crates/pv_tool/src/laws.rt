@@ -37,9 +37,10 @@ pub fn chains()
 {}
 
 /// A kernel that is saved, goes on and is saved again, any number of times and on either machine each time, and at last
-/// goes on to its end, has one run from boot. What its commands print, but for the lines that tell of a file, is that
-/// run's text. Each command has a part of it: steps of its own machine, from where the command before ended, in which is
-/// seen what it printed itself. That of one that saves ends after as many steps in all as it names.
+/// goes on to its end, or to a stop before it could be saved again, has one run from boot. What its commands print, but for
+/// the lines that tell of a file, is that run's text. Each command has a part of it: steps of its own machine, from where
+/// the command before ended, in which is seen what it printed itself. That of one that saves ends after as many steps in
+/// all as it names.
 pub fn moved()
     ensures { MovesAreOneRun }
 {
