@@ -1,5 +1,5 @@
 -- From a slice of a patched run and the last line to the rest of a run.
-use Rattle.std.proofs.Common.{◌≡◌, ℕ, ◌*◌, List, [], ◌++◌, take, Option, Ok, Err, refl, sym, ap, subst, ◌∙◌}
+use Rattle.std.proofs.Common.{◌≡◌, ℕ, ◌*◌, ◌≤◌, List, [], ◌++◌, take, Option, Ok, Err, refl, sym, ap, subst, ◌∙◌}
 use Rattle.std.proofs.lemmas.List.{append-nil}
 use Rattle.pv_io.specs.declared.answer.Failed.{Failed}
 use Rattle.pv_io.specs.Causes.{Rose}
@@ -15,18 +15,20 @@ use Rattle.machine_model.proofs.Ending.{each_ends}
 use Rattle.machine_model.proofs.Texts.{text_join}
 use Rattle.machine_model.proofs.Runs.{steps_join}
 use Rattle.bare_machine.specs.Answers.{RunsTo}
-use Rattle.wedge_core.specs.Promises.{HasMemory, with_patches}
+use Rattle.wedge_core.specs.Promises.{HasFills, HasMemory, with_patches}
 use Rattle.wedge_core.specs.Slices.{Filling, Noting, Outward, SliceAs}
 use Rattle.wedge_core.proofs.WholeRuns.{text_is, ends_by, count_by, memory_by}
 use Rattle.checkpoint.specs.Continued.{PromiseFrom}
+use Rattle.checkpoint.proofs.Filling.{filled_in}
 
 module _ {m : Setting} {n : ℕ} {old new : State} {out : Outward} {filling : Filling} {noting : Noting} {begins : Type 0} where
   -- all lines and the last one were put
-  pub went_on : (c : Option (List ℕ)) (pause : Pause) (before mid now : ℕ) (memory : List ℕ) (steps : ℕ) (end : End)
-      → steps ≡ new.step → end ≡ end_of pause → IfReached (Ok pause) (take (4096 * m.frames) memory ≡ with_patches m.image new.ram)
+  pub went_on : (c : Option (List ℕ)) (pause : Pause) (before mid now : ℕ) (memory : List ℕ) (steps : ℕ) (end : End) (fills : ℕ)
+      → fills ≡ filling.filled → filling.pages ≤ filling.fills → filling.filled ≤ 128 * new.step → steps ≡ new.step → end ≡ end_of pause → IfReached (Ok pause) (take (4096 * m.frames) memory ≡ with_patches m.image new.ram)
       → SliceAs m n old new out filling noting begins (Ok pause) → Appends out.tells c (end_line steps end) → mid ≡ before → now ≡ mid
-      → (text : List ℕ) × PromiseFrom m n old text steps end out.before out.after memory × Appends out.told c text × (now ≡ before)
-  went_on c pause before mid now memory steps end steps_is end_is has h put same more = (
+      → (text : List ℕ) × (run : PromiseFrom m n old text steps end out.before out.after memory) × Appends out.told c text × (now ≡ before)
+      × HasFills m run.sets run.last fills
+  went_on c pause before mid now memory steps end fills fills_is were few steps_is end_is has h put same more = (
     lines_of (trace_of h.reports) ++ end_line steps end,
     record {
       sets = h.sets;
@@ -40,6 +42,7 @@ module _ {m : Setting} {n : ℕ} {old new : State} {out : Outward} {filling : Fi
     },
     appends_both out.told out.tells c _ _ h.text put,
     more ∙ same,
+    subst (HasFills m h.sets h.last) (sym fills_is) (filled_in pause were few h),
   )
 
   -- all lines and a front of the last one

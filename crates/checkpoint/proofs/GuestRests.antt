@@ -1,5 +1,5 @@
 -- From a slice of a patched run to a run that rests or stops.
-use Rattle.std.proofs.Common.{◌≡◌, ℕ, ◌*◌, List, ◌++◌, Option, Result, Ok, Err, length, refl, sym, ap, subst, ◌∙◌}
+use Rattle.std.proofs.Common.{◌≡◌, ℕ, ◌*◌, ◌≤◌, List, ◌++◌, Option, Result, Ok, Err, length, refl, sym, ap, subst, ◌∙◌}
 use Rattle.pv_io.specs.declared.answer.Failed.{Failed}
 use Rattle.pv_io.specs.Sink.{Appends, AppendsFront}
 use Rattle.pv_io.proofs.Pieces.{appends_both}
@@ -14,11 +14,13 @@ use Rattle.machine_model.specs.StaysFit.{RunsKeepFit}
 use Rattle.machine_model.specs.Run.{Run, trace_of}
 use Rattle.machine_model.proofs.Texts.{text_is}
 use Rattle.wedge_core.specs.Slices.{Filling, Noting, Outward, SliceAs}
+use Rattle.wedge_core.specs.Promises.{HasFills}
 use Rattle.wedge_core.proofs.WholeRuns.{ends_by, count_by}
 use Rattle.checkpoint.specs.InForm.{IsInForm}
 use Rattle.checkpoint.specs.Moved.{kept_of}
 use Rattle.checkpoint.specs.Rested.{RestsTo}
 use Rattle.checkpoint.specs.RestAnswers.{RestsWith, host_counts}
+use Rattle.checkpoint.proofs.Filling.{filled_in}
 use Rattle.checkpoint.proofs.Resting.{FailsIn, fails_in_lines, fails_at_end}
 
 module _ {m : Setting} {old new : State} {out : Outward} {filling : Filling} {noting : Noting} {begins : Type 0} where
@@ -55,11 +57,12 @@ module _ {m : Setting} {n : ℕ} {old new : State} {out : Outward} {filling : Fi
       → Run m n old h.sets h.reports h.last (ends.Stopped stop)
   stopped_run stop h = record { steps = h.steps; ends = ends_by m n h.last new h.end (Stopped stop) h.ends }
 
-  pub guest_stops : (c : Option (List ℕ)) (stop : stops.Stop) (steps : ℕ) → steps ≡ new.step
+  pub guest_stops : (c : Option (List ℕ)) (stop : stops.Stop) (steps fills : ℕ) → fills ≡ filling.filled
+      → filling.pages ≤ filling.fills → filling.filled ≤ 128 * new.step → steps ≡ new.step
       → SliceAs m n old new out filling noting begins (Ok (Stopped stop)) → Appends out.tells c (end_line steps (ends.Stopped stop))
-      → (last : State) × (text : List ℕ) × RestsTo m n old (host_counts m out.before out.after) text last (ends.Stopped stop)
-      × (steps ≡ last.step) × Appends out.told c text
-  guest_stops c stop steps steps_is h put =
+      → (last : State) × (text : List ℕ) × (rests : RestsTo m n old (host_counts m out.before out.after) text last (ends.Stopped stop))
+      × (steps ≡ last.step) × Appends out.told c text × HasFills m rests.sets last fills
+  guest_stops c stop steps fills fills_is were few steps_is h put =
       let same = steps_is ∙ count_by m n h.last new h.end (Stopped stop) h.ends in (
         h.last,
         lines_of (trace_of h.reports) ++ end_line steps (ends.Stopped stop),
@@ -72,6 +75,7 @@ module _ {m : Setting} {n : ℕ} {old new : State} {out : Outward} {filling : Fi
         },
         same,
         appends_both out.told out.tells c _ _ h.text put,
+        subst (HasFills m h.sets h.last) (sym fills_is) (filled_in (Stopped stop) were few h),
       )
 
   pub guest_unput : (c : Option (List ℕ)) (stop : stops.Stop) (steps : ℕ) → steps ≡ new.step

@@ -9,6 +9,7 @@ pub mod Changes
 pub mod Joining
 pub mod Seats
 pub mod GuestForms
+pub mod Filling
 pub mod Continuing
 pub mod Resting
 pub mod BareRests

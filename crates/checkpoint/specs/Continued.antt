@@ -13,7 +13,7 @@ use Rattle.machine_model.specs.Run.{Set, Run, trace_of}
 use Rattle.bare_machine.specs.Answers.{RunsTo}
 use Rattle.wedge_core.specs.Surroundings.{Around, IsUntouched}
 use Rattle.wedge_core.specs.Counts.{Counts, CountsOn}
-use Rattle.wedge_core.specs.Promises.{HasMemory}
+use Rattle.wedge_core.specs.Promises.{HasFills, HasMemory}
 
 -- One run from a state has this text, count of steps and end. The host completed exactly its direct instructions, and where
 -- it has done all its steps, its memory is the host's first frames with the text patched.
@@ -28,11 +28,11 @@ pub record PromiseFrom (m : Setting) (n : ℕ) (first : State) (text : List ℕ)
   pub memory_is : HasMemory m last end memory
 
 -- What stands after it: the sink's bytes, its count of faults, which is as it was where no put failed and rose where one
--- did, and the host's counts and memory.
+-- did, and the host's counts and memory. As many pages were filled as bound the run's sets.
 abbrev pub WedgeGoesTo : Setting → ℕ → State → Around → List ℕ → Result Ended RunFault → Type 0
 WedgeGoesTo m n first a memory (Ok ended) =
-    (text : List ℕ) × PromiseFrom m n first text ended.steps ended.end a.counts a.counts_after memory × Appends a.taken a.taken_after text
-    × (a.faults_after ≡ a.faults)
+    (text : List ℕ) × (run : PromiseFrom m n first text ended.steps ended.end a.counts a.counts_after memory) × Appends a.taken a.taken_after text
+    × (a.faults_after ≡ a.faults) × HasFills m run.sets run.last ended.fills
 -- the sink failed, and has taken a front of the text of some run
 WedgeGoesTo m n first a memory (Err fault.Write) =
     (text : List ℕ) × (count : ℕ) × (end : End) × RunsTo m n first text count end × AppendsFront a.taken a.taken_after text

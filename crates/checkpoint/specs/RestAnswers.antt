@@ -10,7 +10,10 @@ use Rattle.run_trace.specs.declared.items.End.{End}
 use Rattle.run_trace.specs.declared.items.End.TheVariants as ends
 use Rattle.machine_model.specs.State as model
 use Rattle.machine_model.specs.State.{Setting, boot}
+use Rattle.machine_model.specs.Run.{Set}
+use Rattle.paging.specs.Space.{Mode, Bare, Wedge}
 use Rattle.wedge_core.specs.Counts.{Counts, CountsOn}
+use Rattle.wedge_core.specs.Promises.{HasFills}
 use Rattle.checkpoint.specs.declared.rested.Rested.{Rested}
 use Rattle.checkpoint.specs.declared.rested.Rested.TheVariants.{At, Stopped}
 use Rattle.checkpoint.specs.InForm.{IsInForm}
@@ -39,12 +42,18 @@ pub record RestsWith (m : Setting) (n : ℕ) (first : model.State) (counts : Cou
   pub put : Appends old new text
   pub kept : now ≡ before
 
+-- how many pages were filled in a run by these rules: none on the bare machine, and by a monitor's as many as bound its sets
+abbrev pub AreFilled : Mode → Setting → List Set → model.State → ℕ → Type 0
+AreFilled Bare m sets last fills = fills ≡ 0
+AreFilled (Wedge text count own) m sets last fills = HasFills m sets last fills
+
 abbrev pub RestsAs : Setting → ℕ → model.State → Counting → Option (List ℕ) → Option (List ℕ) → ℕ → ℕ → Result Rested RunFault → Type 0
 RestsAs m n first counts old new before now (Ok (At state)) =
     (last : model.State) × RestsWith m n first counts old new before now last × (state ≡ kept_of last)
 RestsAs m n first counts old new before now (Ok (Stopped ended)) =
-    (last : model.State) × (stop : stops.Stop) × (text : List ℕ) × RestsTo m n first counts text last (ends.Stopped stop)
+    (last : model.State) × (stop : stops.Stop) × (text : List ℕ) × (rests : RestsTo m n first counts text last (ends.Stopped stop))
     × (ended.steps ≡ last.step) × (ended.end ≡ ends.Stopped stop) × Appends old new text × (now ≡ before)
+    × AreFilled m.mode m rests.sets last ended.fills
 -- the sink failed, and has taken a front of what some run puts
 RestsAs m n first counts old new before now (Err fault.Write) =
     (last : model.State) × (end : End) × (text : List ℕ) × RestsTo m n first no_counts text last end × AppendsFront old new text × Rose before now

@@ -6,8 +6,9 @@ ghost use Rattle.ia32_types.specs.declared.addresses.TheConstants.{TEXT_PLACE};
 ghost use Rattle.board.specs.ScriptForm.{is_script};
 ghost use Rattle.machine_model.specs.Fit.{Fit};
 ghost use Rattle.machine_model.specs.State.{wedge};
+ghost use Rattle.wedge_step.specs.Filled.{WereFilled};
 ghost use Rattle.wedge_step.specs.Leaves.{IsBetween};
-ghost use Rattle.wedge_step.specs.Scene.{scene, state_in};
+ghost use Rattle.wedge_step.specs.Scene.{kept_in, scene, state_in};
 ghost use Rattle.wedge_step.specs.Standing.{IsAble};
 ghost use Rattle.wedge_core.specs.Counts.{counts_of};
 ghost use Rattle.wedge_core.specs.OfRoots.{of_roots};
@@ -111,6 +112,7 @@ pub fn rest_wedge<H: Host, O: Sink>(
     requires between { IsBetween of_roots image.now (scene guest pool.old (H.bytes host.old)) }
     requires able { IsAble guest.cpu }
     requires fit { Fit guest.cpu }
+    requires filled { WereFilled (kept_in of_roots (scene guest pool.old (H.bytes host.old))) guest.fills }
     requires script { is_script script.now.list ≡ true }
     requires begun { guest.step ≤ n }
     requires bound { n ≤ 2 ^ 40 }

@@ -6,8 +6,9 @@ ghost use Rattle.ia32_types.specs.declared.addresses.TheConstants.{TEXT_PLACE};
 ghost use Rattle.board.specs.ScriptForm.{is_script};
 ghost use Rattle.machine_model.specs.State.{wedge};
 ghost use Rattle.run_trace.specs.Pauses.{end_of};
+ghost use Rattle.wedge_step.specs.Filled.{WereFilled};
 ghost use Rattle.wedge_step.specs.Leaves.{IsBetween};
-ghost use Rattle.wedge_step.specs.Scene.{scene, state_in};
+ghost use Rattle.wedge_step.specs.Scene.{kept_in, scene, state_in};
 ghost use Rattle.wedge_step.specs.Standing.{IsAble};
 ghost use Rattle.wedge_core.specs.Surroundings.{around};
 ghost use Rattle.wedge_core.specs.OfRoots.{of_roots};
@@ -70,6 +71,7 @@ fn whole<H: Host, O: Sink>(
     requires started { H.is_started host.old ≡ true }
     requires between { IsBetween of_roots image.now (scene guest.old pool.old (H.bytes host.old)) }
     requires able { IsAble guest.old.cpu }
+    requires filled { WereFilled (kept_in of_roots (scene guest.old pool.old (H.bytes host.old))) guest.old.fills }
     requires script { is_script script.now.list ≡ true }
     requires begun { guest.old.step ≤ n }
     requires bound { n ≤ 2 ^ 40 }

@@ -134,7 +134,7 @@ pub rests_counted : (m : Setting) (n : ℕ) (first : model.State) (counts counts
     → RestsAs m n first counts old new before now r → RestsAs m n first counts2 old new before now r
 rests_counted m n first counts counts2 old new before now (Ok (rest.At state)) all h = (h.0, rests_with m n first counts counts2 old new before now h.0 all h.1, h.2)
 rests_counted m n first counts counts2 old new before now (Ok (rest.Stopped ended)) all h =
-    (h.0, h.1, h.2, record { sets = h.3.sets; reports = h.3.reports; run = h.3.run; text_is = h.3.text_is; counted = all h.3.reports }, h.4, h.5, h.6, h.7)
+    (h.0, h.1, h.2, record { sets = h.3.sets; reports = h.3.reports; run = h.3.run; text_is = h.3.text_is; counted = all h.3.reports }, h.4, h.5, h.6, h.7, h.8)
 rests_counted m n first counts counts2 old new before now (Err fault.Write) all h = h
 rests_counted m n first counts counts2 old new before now (Err (fault.TooSmall small)) all h = h
 rests_counted m n first counts counts2 old new before now (Err fault.Memory) all (inl none) = inl (nothing_done counts counts2 old new before now all none)

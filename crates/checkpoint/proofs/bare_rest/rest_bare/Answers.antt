@@ -83,5 +83,5 @@ returns g c = record {
       let stopped = subst (λ (p : Pause). SliceAs m exact c.args.n old new told tells (Ok p)) c.in-Stopped.is h in
       let put = subst (λ (k : ℕ). Appends tells (g.O.Sink.taken c.put_end.new.out) (end_line k (ends.Stopped c.in-Stopped.stop))) c.step-steps.ensures c.in-Ok-put_end.ensures.ok in
       let r = bare_stops m exact c.args.n old new told tells _ c.in-Stopped.stop stopped put in
-      (r.0, c.in-Stopped.stop, r.1, r.2, c.step-steps.ensures ∙ r.3, refl, r.4, c.in-Ok-put_end.ensures.kept ∙ c.in-Ok.ensures.count);
+      (r.0, c.in-Stopped.stop, r.1, r.2, c.step-steps.ensures ∙ r.3, refl, r.4, c.in-Ok-put_end.ensures.kept ∙ c.in-Ok.ensures.count, refl);
 }

@@ -56,5 +56,6 @@ returns g c =
     let asked = c.step.ensures in
     let is : c.args.guest.step + (c.args.n - c.step.result) ≡ c.args.n = omega (arith, asked, c.requires.begun) in
     let stopped = paused_so _ _ _ c.in-Stopped.is (at_bound _ c.args.n _ is c.in-Ok.ensures.slice) in
-    let t = guest_stops _ c.in-Stopped.stop c.step-in-Stopped.result c.step-in-Stopped.ensures stopped c.in-Ok-put_end.ensures.ok in
-    record { rests = (t.0, c.in-Stopped.stop, t.1, t.2, t.3, refl, t.4, c.in-Ok-put_end.ensures.kept ∙ c.in-Ok.ensures.faults.kept) }
+    let t = guest_stops _ c.in-Stopped.stop c.step-in-Stopped.result c.fills.result c.fills.ensures c.requires.filled c.in-Ok.ensures.leaves.few
+    c.step-in-Stopped.ensures stopped c.in-Ok-put_end.ensures.ok in
+    record { rests = (t.0, c.in-Stopped.stop, t.1, t.2, t.3, refl, t.4, c.in-Ok-put_end.ensures.kept ∙ c.in-Ok.ensures.faults.kept, t.5) }

@@ -19,6 +19,9 @@ rest_wedge-requires-clause-between g c =
     let enough : 16 ≤ free new + new.guest.held = omega (arith, all, count) in
     between c.args.image.now c.args.frames new b.held c.in-Ok.ensures.ready enough
 
+pub rest_wedge-requires-clause-filled : goal.rest_wedge-requires-clause-filled
+rest_wedge-requires-clause-filled g c = c.in-Ok.ensures.filled
+
 pub returns-in-Ok : goal.returns-in-Ok
 returns-in-Ok g c =
     let image = c.args.image.now in

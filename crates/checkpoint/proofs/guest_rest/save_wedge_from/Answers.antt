@@ -12,6 +12,9 @@ use Rattle.checkpoint.proofs.guest_rest.save_wedge_from.Goals as goal
 pub rest_wedge-requires-clause-between : goal.rest_wedge-requires-clause-between
 rest_wedge-requires-clause-between g c = seated_between _ _ _ _ c.in-Ok.ensures.goes_on
 
+pub rest_wedge-requires-clause-filled : goal.rest_wedge-requires-clause-filled
+rest_wedge-requires-clause-filled g c = c.in-Ok.ensures.goes_on.filled
+
 pub returns-in-Ok : goal.returns-in-Ok
 returns-in-Ok g c =
     let image = c.args.image.now in

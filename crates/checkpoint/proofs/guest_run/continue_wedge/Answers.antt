@@ -13,6 +13,9 @@ use Rattle.checkpoint.proofs.guest_run.continue_wedge.Goals as goal
 pub whole-requires-clause-between : goal.whole-requires-clause-between
 whole-requires-clause-between g c = seated_between _ _ _ _ c.in-Ok.ensures.goes_on
 
+pub whole-requires-clause-filled : goal.whole-requires-clause-filled
+whole-requires-clause-filled g c = c.in-Ok.ensures.goes_on.filled
+
 pub returns-in-Err : goal.returns-in-Err
 returns-in-Err g c = record {
   run = (refl, refl, λ i. record { retired = c.guest_from.ensures.counts.retired i; passed = c.guest_from.ensures.counts.passed i });
