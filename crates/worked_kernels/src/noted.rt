@@ -25,6 +25,90 @@ Differs(1)|s|8|0|2 out8 03f8 48/2 tx 48/end steps 2 stop 16 CodeIsTable/
 Differs(3)|s|8|0|2 out8 03f8 48/2 tx 48/end steps 9 stop 16 CodeIsTable/
 ";
 
+/// A page is read in step 4 and shown in step 5. Its table word is changed in step 9, and CR0.WP in step 14; in step 17 it is read
+/// again. An OUT has three NOPs after it, and a MOV of a control register two.
+pub const CHANGES_WRITE_PROTECTION: &str = "\
+_start: movl $1,0xC0400000
+movl $2,0xC0401000
+movl $0x20007,0xC0001114
+movl $0x00400007,0xC0020000
+movl 0x11400000,%eax
+outl %eax,$0x80
+movl $0x00401007,0xC0020000
+movl %cr0,%eax
+xorl $0x10000,%eax
+movl %eax,%cr0
+movl 0x11400000,%eax
+outl %eax,$0x80
+";
+
+/// What it shows in 20 steps. A monitor drops all translations after the change of CR0.WP, so the second read finds the
+/// changed word.
+pub const SHOWN_AFTER_THE_CHANGE: &str = "\
+5 out32 0080 00000001
+18 out32 0080 00000002
+end steps 20
+";
+
+/// What is said of that text by one entry: its step, its page and its kind. The page is the one that is read, 0x11400. On the bare
+/// machine its translation stays, unless it is dropped between the two reads, or all are.
+pub const WITH_ONE_DROP: &str = "\
+yes|15 0 1
+yes|5 0 1
+yes|17 0 1
+yes|15 70656 0
+no line 2|4 0 1
+no line 2|18 0 1
+no line 2|15 70657 0
+";
+
+/// Twice adds 1 to a page that 600 directory words lead to, by each of them, and shows it. Each word's table takes a frame of the
+/// monitor's pool. Of its 512 frames the roots hold two, and the text and the first 4 MB one each. So 7 are left after the 501st
+/// addition, and all is dropped before the next, which is step 2407 + 4 * 501. At the round's end 99 tables and the text's are
+/// held, so that 410 frames are left, and 7 after the 403rd addition of the second round, whose first is step 4811: all is
+/// dropped before step 4811 + 4 * 403.
+pub const GOES_OVER_600_TABLES: &str = "\
+_start: movl $0xC0001200,%edi
+movl $0x20007,%eax
+movl $600,%ecx
+a: movl %eax,(%edi)
+addl $4,%edi
+decl %ecx
+jnz a
+movl $0x400007,0xC0020000
+movl $2,%ebx
+b: movl $600,%ecx
+movl $0x20000000,%edi
+c: incl (%edi)
+addl $0x400000,%edi
+decl %ecx
+jnz c
+decl %ebx
+jnz b
+movl 0x20000000,%eax
+outl %eax,$0x80
+hlt
+";
+
+/// What it shows in 8,000 steps.
+pub const SHOWN_AFTER_600_TABLES: &str = "\
+7214 out32 0080 000004b0
+end steps 8000
+";
+
+/// The place that is told of its certificate where the byte there is 255. The first entry's step is 4411, which is 0x113B, and
+/// the second's 6423, 0x1917: a step that falls is told at its first byte, and a page beside kind 1 at the kind.
+pub const SPOILED_SECOND: &str = "\
+9 24
+10 24
+15 24
+32 36
+35 32
+36 36
+37 37
+39 39
+";
+
 /// Of an image that needs 2,305 frames and a certificate C: that is read before, and X is none.
 pub const NEEDS_MORE_FRAMES: &str = "\
 $ build

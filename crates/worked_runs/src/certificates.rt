@@ -1,14 +1,18 @@
 //! What `prove` stores and prints is judged yes by `replay`, and what else is given to it is refused or told by its place.
 
 use crate::commands::{
-    answer, are_same, built, byte_in, cut, digits, holds, is_so, joined, number_in, place_in,
+    answer, are_same, built, byte_in, cut, digits, file, holds, is_so, joined, number_in, place_in,
     split, store, text_of,
 };
 use crate::sessions::follow_over;
 use pv_io::MemFiles;
 use std::alloc::Global;
 use std::process::Abort;
-use worked_kernels::{GOES_OVER_FORTY_TABLES, NEEDS_MORE_FRAMES, READS_ITS_TEXT, SENDS_A_BYTE};
+use worked_kernels::{
+    CHANGES_WRITE_PROTECTION, GOES_OVER_600_TABLES, GOES_OVER_FORTY_TABLES, NEEDS_MORE_FRAMES,
+    READS_ITS_TEXT, SENDS_A_BYTE, SHOWN_AFTER_600_TABLES, SHOWN_AFTER_THE_CHANGE, SPOILED_SECOND,
+    WITH_ONE_DROP,
+};
 
 const HAS_A_LARGE_PAGE: &str = "\
 _start: movl $16,%eax; movl %eax,%cr4; movl $0x400083,0xC0001114; movl $0x5a,0x11400010
@@ -65,18 +69,27 @@ const SPOILED: &str = "\
 23 23
 ";
 
-/// The bytes of a certificate with this entry.
-fn with_entry(rt: &impl Abort, alloc: Global, entry: &str) -> Vec<u8> {
+/// The bytes of an entry: its step, its page and its kind.
+fn entry_of(rt: &impl Abort, alloc: Global, entry: &str) -> Vec<u8> {
     let (step, rest) = split(rt, entry);
     let (page, kind) = split(rt, rest);
     let step = number_in(rt, step).to_le_bytes();
     let page = number_in(rt, page).to_le_bytes();
     let kind = [byte_in(rt, kind), 0, 0, 0];
-    joined(
-        rt,
-        alloc,
-        &[b"PVT1\x01\x00\x00\x00", &step, &page[..4], &kind],
-    )
+    joined(rt, alloc, &[&step, &page[..4], &kind])
+}
+
+/// The bytes of a certificate with this entry.
+fn with_entry(rt: &impl Abort, alloc: Global, entry: &str) -> Vec<u8> {
+    let entry = entry_of(rt, alloc, entry);
+    joined(rt, alloc, &[b"PVT1\x01\x00\x00\x00", &entry])
+}
+
+/// The bytes of a certificate with these two entries.
+fn with_two(rt: &impl Abort, alloc: Global, first: &str, second: &str) -> Vec<u8> {
+    let first = entry_of(rt, alloc, first);
+    let second = entry_of(rt, alloc, second);
+    joined(rt, alloc, &[b"PVT1\x02\x00\x00\x00", &first, &second])
 }
 
 /// The lines of a text.
@@ -273,6 +286,77 @@ fn what_is_proved_is_judged_yes(rt: HostRuntime) {
     is_proved(&rt, alloc, READS_ITS_TEXT, "8", 4, "yes before stop 9\n");
     is_proved(&rt, alloc, GOES_OVER_FORTY_TABLES, "2000", 0, "yes\n");
     is_proved(&rt, alloc, HAS_A_LARGE_PAGE, "13", 0, "yes\n");
+}
+
+/// `prove` prints this text and then how many entries it stored, and C is this certificate. The text is T from here on.
+fn stores(
+    rt: &impl Abort,
+    alloc: Global,
+    files: &mut MemFiles,
+    bound: &str,
+    text: &str,
+    last: &str,
+    certificate: &[u8],
+) {
+    let command = text_of(rt, alloc, &["prove I B 2048 ", bound, " C"]);
+    let lines = text_of(rt, alloc, &[text, last, "\n"]);
+    let printed = comes_to(rt, alloc, files, &command, 0, lines.as_bytes());
+    is_so(rt, &command, printed);
+    is_so(
+        rt,
+        last,
+        are_same(&file(rt, alloc, files, "C"), certificate),
+    );
+    store(rt, files, "T", text.as_bytes());
+}
+
+#[test]
+fn a_change_of_write_protection_is_an_entry(rt: HostRuntime) {
+    let alloc = rt.alloc();
+    let mut files = built(&rt, alloc, CHANGES_WRITE_PROTECTION.as_bytes());
+    let certificate = with_entry(&rt, alloc, "15 0 1");
+    let text = SHOWN_AFTER_THE_CHANGE;
+    let last = "certificate 1 entries";
+    stores(&rt, alloc, &mut files, "20", text, last, &certificate);
+    for line in WITH_ONE_DROP.lines() {
+        drop_is_told(&rt, alloc, &mut files, line);
+    }
+    store(&rt, &mut files, "C", b"PVT1\x00\x00\x00\x00");
+    is_judged(&rt, alloc, &mut files, "20", "no line 2\n");
+}
+
+/// What a line says is said of the text of 20 steps by its entry.
+fn drop_is_told(rt: &impl Abort, alloc: Global, files: &mut MemFiles, line: &str) {
+    let (told, entry) = cut(rt, line, '|');
+    store(rt, files, "C", &with_entry(rt, alloc, entry));
+    let told = text_of(rt, alloc, &[told, "\n"]);
+    is_judged(rt, alloc, files, "20", &told);
+}
+
+#[test]
+fn a_pool_that_runs_out_twice_gives_two_entries(rt: HostRuntime) {
+    let alloc = rt.alloc();
+    let mut files = built(&rt, alloc, GOES_OVER_600_TABLES.as_bytes());
+    let certificate = with_two(&rt, alloc, "4411 0 1", "6423 0 1");
+    let text = SHOWN_AFTER_600_TABLES;
+    let last = "certificate 2 entries";
+    stores(&rt, alloc, &mut files, "8000", text, last, &certificate);
+    is_judged(&rt, alloc, &mut files, "8000", "yes\n");
+    is_cut_after_one(&rt, alloc, &mut files, &certificate);
+    for line in SPOILED_SECOND.lines() {
+        is_spoiled(&rt, alloc, &mut files, &certificate, line);
+    }
+    let bad = with_two(&rt, alloc, "4411 0 1", "6423 262145 2");
+    store(&rt, &mut files, "C", &bad);
+    is_judged(&rt, alloc, &mut files, "8000", "no entry 1\n");
+}
+
+/// A certificate with two entries is refused at each length from the first one's end on.
+fn is_cut_after_one(rt: &impl Abort, alloc: Global, files: &mut MemFiles, bytes: &[u8]) {
+    for len in 24..40 {
+        let shorter = bytes.get(..len).expect(rt, "short");
+        is_refused(rt, alloc, files, shorter, len);
+    }
 }
 
 #[test]
