@@ -46,7 +46,7 @@ pub record IsProof (program : Image) (events : Events) (frames n : ℕ) (certifi
   -- than a file has room for, as there never are in so few steps.
   pub printed : Appends o.before.taken o.after.taken (text_of (trace_of reports) last.step end ++ certificate_told notes)
   pub stored : IsStored (certificate_file certificate notes) o.before.files o.after.files
-  pub few : n < 16384 → are_few notes ≡ true
+  pub few : n < 524288 → are_few notes ≡ true
   -- The choices are read back from the file, and by them the run's text is judged yes, or yes before a stop of the monitor's own.
   pub read_back : are_few notes ≡ true → choices_in (choices_bytes (choices_of notes)) ≡ Ok (choices_of notes)
   pub yes : judged program events frames n (choices_of notes) (text_of (trace_of reports) last.step end) ≡ verdict_of end

@@ -68,7 +68,7 @@ none_before (note ∷ notes) = by (nat_le (step_in note) 0) (step_in note == 0) 
     by false true p r h = absurd (let a = eqb-true (step_in note) 0 r in let b = leb-false (step_in note) 0 p in omega (arith, a, b))
     by false false p r h = h
 
-few_up_to : (k : ℕ) (notes : List Note) → ((step : ℕ) → length (of_step step notes) ≤ 64) → up_to k notes ≤ 64 * (k + 1)
+few_up_to : (k : ℕ) (notes : List Note) → ((step : ℕ) → length (of_step step notes) ≤ 2) → up_to k notes ≤ 2 * (k + 1)
 few_up_to zero notes few = omega (arith, none_before notes, few 0)
 few_up_to (suc k) notes few = omega (arith, next k notes, few (suc k), few_up_to k notes few)
 
@@ -126,7 +126,7 @@ noted_put image script frames n old new counts counts_after a b c pages fills fi
     let text = lines_of (trace_of h.reports) ++ end_line new.step end in
     let short : h.last.step ≤ n = within m n h.last new h.end pause h.ends in
     let so_many : up_to h.last.step h.notes ≡ length h.notes = all_up_to h.last.step h.notes are.until in
-    let at_most : up_to h.last.step h.notes ≤ 64 * (h.last.step + 1) = few_up_to h.last.step h.notes are.few in (
+    let at_most : up_to h.last.step h.notes ≤ 2 * (h.last.step + 1) = few_up_to h.last.step h.notes noted.two in (
       text,
       record {
         sets = h.sets;

@@ -408,6 +408,7 @@ reached m bound old now a b told tells pages fills filled notes_wanted notes_on 
   told_notes = λ w. record {
     told = are_told m old g.sets g.notes (g.by w);
     are = are_notes m old g.sets now.step g.notes (tried_none old.step now.step g.notes g.so_far);
+    two = g.so_far.few;
     held = none_held old.step now.step g.notes g.whole (tried_none old.step now.step g.notes g.so_far);
     ends = g.kept w;
   };
@@ -439,6 +440,7 @@ stopped m bound old now new lost stop a b told tells pages fills mid filled note
       told_notes = λ w. record {
         told = are_told m old g.sets notes (by_then m old now a b told tells pages fills mid notes_wanted notes_on begins carried g lost.before w);
         are = are_notes m old g.sets now.step notes (tried m old now a b told tells pages fills mid notes_wanted notes_on begins carried g lost.before);
+        two = (tried m old now a b told tells pages fills mid notes_wanted notes_on begins carried g lost.before).few;
         held = none_held old.step now.step notes g.whole (tried m old now a b told tells pages fills mid notes_wanted notes_on begins carried g lost.before);
         ends = subst (λ (x : Set). step_of m (with_set now g.whole) x ≡ Halts stop) (told_set w) halts;
       };
@@ -466,6 +468,7 @@ failed m bound old now new seen fault a b told tells last pages fills filled not
   told_notes = λ w. record {
     told = are_told m old s.sets s.notes (s.by w);
     are = are_notes m old s.sets new.step s.notes (tried_none old.step new.step s.notes s.so_far);
+    two = s.so_far.few;
     held = none_held old.step new.step s.notes s.whole (tried_none old.step new.step s.notes s.so_far);
     ends = tt;
   };

@@ -1,6 +1,6 @@
 -- Which translations the steps of a slice go by, and what is told of those that it loses.
-use Rattle.std.specs.Prelude.{◌≡◌, ℕ, ◌+◌, Bool, true, false, List, [], ◌∷◌, ◌++◌, Result, Ok, Err, IsSome}
-use Rattle.std.specs.List.{list_any}
+use Rattle.std.specs.Prelude.{◌≡◌, ℕ, ◌+◌, ◌≤◌, ◌==◌, Bool, true, false, List, [], ◌∷◌, ◌++◌, length, Result, Ok, Err, IsSome}
+use Rattle.std.specs.List.{list_any, filter}
 use Rattle.std.specs.FinMap.{get}
 use Rattle.pv_io.specs.declared.answer.Failed.{Failed}
 use Rattle.run_trace.specs.declared.pause.Pause.{Pause}
@@ -9,7 +9,7 @@ use Rattle.run_trace.specs.Notes.{Note, emptied_at}
 use Rattle.machine_model.specs.State.{Setting, State}
 use Rattle.machine_model.specs.Step.{Halts, step_of}
 use Rattle.machine_model.specs.Run.{Set}
-use Rattle.machine_model.specs.Notes.{AreTold, AreNotes, is_dropped, set_told}
+use Rattle.machine_model.specs.Notes.{AreTold, AreNotes, step_in, is_dropped, set_told}
 use Rattle.wedge_step.specs.declared.running.Lost.{Lost}
 
 -- What is kept at the end, or what the step that stops goes by: what the last step left, but for what the notes tell.
@@ -19,10 +19,12 @@ EndsTold m last new notes (Ok (Stopped stop)) = step_of m last (set_told notes l
 EndsTold m last new notes (Err failed) = Unit {0}
 
 -- Before each step of a slice the translations are those that the step before left, without those that were dropped by
--- these notes; and so at its end. A page that is dropped behind the last step is one that the set which this step left holds.
+-- these notes; and so at its end. At most two are told of a step. A page that is dropped behind the last step is one that the
+-- set which this step left holds.
 pub record IsNoted (m : Setting) (old new : State) (sets : List Set) (last : State) (notes : List Note) (result : Result Pause Failed) : Type 0 where
   pub told : AreTold m old sets notes
   pub are : AreNotes m old sets last.step notes
+  pub two : (step : ℕ) → length (filter (λ (note : Note). step_in note == step) notes) ≤ 2
   pub held : (page : ℕ) → list_any (is_dropped last.step page) notes ≡ true → IsSome (get last.set page)
   pub ends : EndsTold m last new notes result
 
