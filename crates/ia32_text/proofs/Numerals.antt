@@ -6,7 +6,8 @@ use Rattle.std.specs.Char.{is_ascii_hexdigit}
 use Rattle.std.proofs.lemmas.Bool.{ltb-true, and_parts, and_from}
 use Rattle.asm_lex.specs.Bytes.{is_letter, is_word}
 use Rattle.asm_argument.specs.Terminals.{digit_of, digits_value, number_value}
-use Rattle.ia32_text.specs.Numbers.{hex_digit, hex2, hex4, short2, short4, short8}
+use Rattle.run_trace.specs.Text.{hex_digit, hex2, hex4}
+use Rattle.ia32_text.specs.Numbers.{short2, short4, short8}
 
 each_16 : (P : ℕ → Type 0) → P 0 → P 1 → P 2 → P 3 → P 4 → P 5 → P 6 → P 7 → P 8 → P 9 → P 10 → P 11 → P 12 → P 13 → P 14 → P 15 → (n : ℕ) → n < 16 → P n
 each_16 P h0 h1 h2 h3 h4 h5 h6 h7 h8 h9 h10 h11 h12 h13 h14 h15 zero l = h0

@@ -1,18 +1,7 @@
 -- Numbers in hexadecimal, with lower-case digits and without leading zeros.
 use Rattle.std.specs.Prelude.{ℕ, ◌+◌, ◌-◌, ◌/◌, ◌%◌, ◌^◌, ℤ, pos, negsuc, List, [], ◌∷◌, ◌++◌, codes, nat_lt, if◌then◌else◌}
-
--- one digit, and two, four and eight of them
-abbrev pub hex_digit : ℕ → ℕ
-hex_digit n = if nat_lt n 10 then n + 48 else n + 87
-
-abbrev pub hex2 : ℕ → List ℕ
-hex2 n = hex_digit (n / 16) ∷ hex_digit (n % 16) ∷ []
-
-abbrev pub hex4 : ℕ → List ℕ
-hex4 n = hex2 (n / 256) ++ hex2 (n % 256)
-
-abbrev pub hex8 : ℕ → List ℕ
-hex8 n = hex4 (n / 65536) ++ hex4 (n % 65536)
+use Rattle.ia32_types.specs.declared.addresses.TheConstants.{TEXT_ADDRESS}
+use Rattle.run_trace.specs.Text.{hex_digit, hex2, hex4}
 
 -- at most two, four and eight of them, of which the first is 0 in the number 0 alone
 abbrev pub short2 : ℕ → List ℕ
@@ -32,3 +21,7 @@ number_text (negsuc n) = codes "-0x" ++ short8 (n + 1)
 -- the signed number that 32 bits stand for
 abbrev pub signed_long : ℕ → ℤ
 signed_long n = if nat_lt n (2 ^ 31) then pos n else negsuc (2 ^ 32 - 1 - n)
+
+-- a number of 32 bits as a distance from the first byte of the text
+abbrev pub from_text : ℕ → ℤ
+from_text n = if nat_lt n TEXT_ADDRESS then negsuc (TEXT_ADDRESS - 1 - n) else pos (n - TEXT_ADDRESS)

@@ -6,7 +6,8 @@ use Rattle.asm_source.specs.declared.tree.Form.{Form}
 use Rattle.asm_source.specs.declared.tree.Form.TheVariants as form
 use Rattle.asm_source.specs.declared.tree.Argument.{Argument}
 use Rattle.ia32_text.specs.Numbers.{number_text}
-use Rattle.ia32_text.specs.Statement.{Statement, statement_of}
+use Rattle.ia32_text.specs.declared.style.Style.{Style}
+use Rattle.ia32_text.specs.Statement.{Statement, statement_with}
 
 -- the constant behind a name
 abbrev pub constant_text : ℤ → List ℕ
@@ -71,6 +72,6 @@ rep_text false = []
 unfoldable pub text_of : Statement → List ℕ
 text_of s = rep_text s.rep ++ s.name ++ arguments_text s.arguments
 
--- an instruction as text, at an address, with its length
-unfoldable pub instruction_text : Insn → ℕ → ℕ → List ℕ
-instruction_text i at len = text_of (statement_of i at len)
+-- an instruction as text, at an address, with its length, by how numbers are written
+unfoldable pub instruction_text : Style → Insn → ℕ → ℕ → List ℕ
+instruction_text style i at len = text_of (statement_with style i at len)

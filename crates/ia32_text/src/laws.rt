@@ -12,7 +12,8 @@ ghost use Rattle.asm_instruction.specs.declared.assembled.Assembled.{Assembled};
 ghost use Rattle.asm_instruction.specs.Assembled.{assembled};
 ghost use Rattle.ia32_text.specs.Statement.{statement_of};
 ghost use Rattle.ia32_text.specs.Operands.{target};
-ghost use Rattle.ia32_text.specs.Arguments.{label_of};
+ghost use Rattle.ia32_text.specs.Arguments.{label_of, labels};
+ghost use Rattle.ia32_text.specs.Text.{instruction_text, text_of};
 ghost use Rattle.ia32_text.specs.Again.{AssemblesTo, BranchesTo};
 
 /// The statement that an instruction is assembles to it again, in its chosen spelling: of each that bytes spell, and of each that a
@@ -30,4 +31,10 @@ pub fn branches_again()
     ensures call { (distance at len : ℕ) → BranchesTo (statement_of (by_distance Call 0 distance) at len) (label_of (target distance at len)) (by_distance Call 0 distance) }
     ensures jcc { (condition distance at len : ℕ) → condition < 16 →
         BranchesTo (statement_of (by_distance Jcc condition distance) at len) (label_of (target distance at len)) (by_distance Jcc condition distance) }
+{}
+
+/// Where numbers stand as they are and targets by their labels, the text of an instruction is that of its statement.
+#[tactic(auto, unfolding(crate::specs::Text::instruction_text, crate::specs::Statement::statement_with, crate::specs::Statement::statement_of, crate::specs::Arguments::arguments_of))]
+pub fn statements_as_text()
+    ensures { (insn : Insn) (at len : ℕ) → instruction_text labels insn at len ≡ text_of (statement_of insn at len) }
 {}

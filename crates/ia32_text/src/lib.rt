@@ -9,10 +9,13 @@ mod numbers;
 mod operands;
 mod put;
 mod registers;
+mod style;
 
 pub use kinds::{Ending, Layout, ending_of, layout_of};
-pub use laws::{assembles_again, branches_again};
-pub use line::{Line, ROOM};
+pub use laws::{assembles_again, branches_again, statements_as_text};
+pub use line::{Line, ROOM, add};
 pub use names::stem;
+pub use numbers::{eight_digits, two_digits};
 pub use operands::{Operands, Written, operands_of};
 pub use put::put_text;
+pub use style::{Style, Target};

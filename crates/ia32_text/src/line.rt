@@ -5,14 +5,14 @@ ghost use Rattle.std.specs.Prelude.{◌≡◌, ◌+◌, ◌++◌, ◌≤◌, len
 use arrayvec::ArrayVec;
 
 /// How many bytes a line has room for.
-pub const ROOM: usize = 256;
+pub const ROOM: usize = 320;
 
 /// The bytes of a line.
 pub type Line = ArrayVec<u8, ROOM>;
 
 /// Puts the text behind the line.
 pub fn add(text: &[u8], line: &mut Line)
-    requires { length line.old.items + length text.now ≤ 256 }
+    requires { length line.old.items + length text.now ≤ 320 }
     ensures { line.new.items ≡ line.old.items ++ text.now }
 {
     for byte in text {

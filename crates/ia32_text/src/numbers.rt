@@ -1,28 +1,33 @@
 //! Numbers in hexadecimal.
 
 ghost use Rattle.std.specs.Prelude.{◌≡◌, ◌+◌, ◌++◌, ◌≤◌, ◌<◌, ◌/◌, ◌%◌, ◌^◌, length, pos};
+ghost use Rattle.run_trace.specs.Text.{hex_digit, hex2, hex4, hex8};
 ghost use Rattle.ia32_text.specs.Numbers as spec;
+ghost use Rattle.ia32_text.specs.Arguments.{by_label};
+ghost use Rattle.ia32_text.specs.Text.{constant_text, value_text};
 
 use crate::line::{Line, add};
+use ia32_types::TEXT_ADDRESS;
 
 fn digit(n: u8) -> u8
     requires { n < 16 }
-    ensures { result ≡ spec.hex_digit n }
+    ensures { result ≡ hex_digit n }
 {
     if n < 10 { n + 48 } else { n + 87 }
 }
 
-fn two_digits(n: u8, line: &mut Line)
-    requires { length line.old.items ≤ 240 }
-    ensures text { line.new.items ≡ line.old.items ++ spec.hex2 n }
+/// Both digits.
+pub fn two_digits(n: u8, line: &mut Line)
+    requires { length line.old.items ≤ 300 }
+    ensures text { line.new.items ≡ line.old.items ++ hex2 n }
     ensures len { length line.new.items ≡ length line.old.items + 2 }
 {
     add(&[digit(n / 16), digit(n % 16)], line);
 }
 
 fn four_digits(n: u16, line: &mut Line)
-    requires { length line.old.items ≤ 230 }
-    ensures text { line.new.items ≡ line.old.items ++ spec.hex4 n }
+    requires { length line.old.items ≤ 295 }
+    ensures text { line.new.items ≡ line.old.items ++ hex4 n }
     ensures len { length line.new.items ≡ length line.old.items + 4 }
 {
     two_digits((n / 256) as u8, line);
@@ -31,8 +36,8 @@ fn four_digits(n: u16, line: &mut Line)
 
 /// All eight digits.
 pub fn eight_digits(n: u32, line: &mut Line)
-    requires { length line.old.items ≤ 220 }
-    ensures text { line.new.items ≡ line.old.items ++ spec.hex8 n }
+    requires { length line.old.items ≤ 290 }
+    ensures text { line.new.items ≡ line.old.items ++ hex8 n }
     ensures len { length line.new.items ≡ length line.old.items + 8 }
 {
     four_digits((n / 65536) as u16, line);
@@ -40,7 +45,7 @@ pub fn eight_digits(n: u32, line: &mut Line)
 }
 
 fn short_byte(n: u8, line: &mut Line)
-    requires { length line.old.items ≤ 230 }
+    requires { length line.old.items ≤ 295 }
     ensures text { line.new.items ≡ line.old.items ++ spec.short2 n }
     ensures len { length line.new.items ≤ length line.old.items + 2 }
 {
@@ -52,7 +57,7 @@ fn short_byte(n: u8, line: &mut Line)
 }
 
 fn short_word(n: u16, line: &mut Line)
-    requires { length line.old.items ≤ 220 }
+    requires { length line.old.items ≤ 290 }
     ensures text { line.new.items ≡ line.old.items ++ spec.short4 n }
     ensures len { length line.new.items ≤ length line.old.items + 4 }
 {
@@ -65,7 +70,7 @@ fn short_word(n: u16, line: &mut Line)
 }
 
 fn short_long(n: u32, line: &mut Line)
-    requires { length line.old.items ≤ 210 }
+    requires { length line.old.items ≤ 285 }
     ensures text { line.new.items ≡ line.old.items ++ spec.short8 n }
     ensures len { length line.new.items ≤ length line.old.items + 8 }
 {
@@ -80,7 +85,7 @@ fn short_long(n: u32, line: &mut Line)
 /// The number, without leading zeros.
 #[tactic(auto, unfolding(crate::specs::Numbers::number_text))]
 pub fn plain(n: u32, line: &mut Line)
-    requires { length line.old.items ≤ 200 }
+    requires { length line.old.items ≤ 280 }
     ensures text { line.new.items ≡ line.old.items ++ spec.number_text (pos n) }
     ensures len { length line.new.items ≤ length line.old.items + 10 }
 {
@@ -91,7 +96,7 @@ pub fn plain(n: u32, line: &mut Line)
 /// The signed number that 32 bits stand for, without leading zeros.
 #[tactic(auto, unfolding(crate::specs::Numbers::number_text))]
 pub fn signed(n: u32, line: &mut Line)
-    requires { length line.old.items ≤ 190 }
+    requires { length line.old.items ≤ 270 }
     ensures text { line.new.items ≡ line.old.items ++ spec.number_text (spec.signed_long n) }
     ensures len { length line.new.items ≤ length line.old.items + 11 }
 {
@@ -101,4 +106,31 @@ pub fn signed(n: u32, line: &mut Line)
         add(b"-", line);
         plain(u32::MAX - n + 1, line);
     }
+}
+
+/// The distance from the text's first byte as a constant behind its label.
+#[tactic(auto, unfolding(crate::specs::Numbers::number_text))]
+fn distance(n: u32, line: &mut Line)
+    requires { length line.old.items ≤ 270 }
+    ensures text { line.new.items ≡ line.old.items ++ constant_text (spec.from_text n) }
+    ensures len { length line.new.items ≤ length line.old.items + 11 }
+{
+    if n < TEXT_ADDRESS {
+        add(b"-", line);
+        plain(TEXT_ADDRESS - n, line);
+    } else if n > TEXT_ADDRESS {
+        add(b"+", line);
+        plain(n - TEXT_ADDRESS, line);
+    }
+}
+
+/// The number by the label of the text's first byte.
+pub fn by_label(n: u32, line: &mut Line)
+    requires { length line.old.items ≤ 260 }
+    ensures text { line.new.items ≡ line.old.items ++ value_text (by_label n) }
+    ensures len { length line.new.items ≤ length line.old.items + 20 }
+{
+    add(b"L", line);
+    eight_digits(TEXT_ADDRESS, line);
+    distance(n, line);
 }

@@ -2,7 +2,7 @@
 
 ghost use Rattle.std.specs.Prelude.{◌≡◌, ◌+◌, ◌++◌, ◌≤◌, length, codes, Bool};
 ghost use Rattle.std.specs.Option.{option_map};
-ghost use Rattle.ia32_text.specs.Arguments.{reg_name, displacement_of, form_of, argument, arguments_of};
+ghost use Rattle.ia32_text.specs.Arguments.{mark_of, reg_name, displacement_of, displacement_with, immediate_with, form_with, arguments_with};
 ghost use Rattle.ia32_text.specs.Kinds.{ending_of};
 ghost use Rattle.ia32_text.specs.Statement as statement;
 ghost use Rattle.ia32_text.specs.Text as spec;
@@ -10,9 +10,10 @@ ghost use Rattle.ia32_text.specs.Text as spec;
 use crate::kinds::{Ending, ending_of};
 use crate::line::{Line, add};
 use crate::names::{condition_name, stem};
-use crate::numbers::{eight_digits, plain, signed};
+use crate::numbers::{by_label, eight_digits, plain, signed};
 use crate::operands::{Operands, Written, operands_of};
 use crate::registers::{control_name, long_name, register_name, segment_name};
+use crate::style::{Style, Target};
 use ia32_types::{Address, Insn, Reg, Size};
 
 fn letter(size: Size) -> &'static [u8]
@@ -27,7 +28,7 @@ fn letter(size: Size) -> &'static [u8]
 }
 
 fn put_end(insn: &Insn, line: &mut Line)
-    requires { length line.old.items ≤ 240 }
+    requires { length line.old.items ≤ 300 }
     ensures text { line.new.items ≡ line.old.items ++ statement.end_of (ending_of insn.now.op) insn.now }
     ensures len { length line.new.items ≤ length line.old.items + 2 }
 {
@@ -44,7 +45,7 @@ fn put_end(insn: &Insn, line: &mut Line)
 
 #[tactic(auto, unfolding(crate::specs::Statement::name_of))]
 fn put_name(insn: &Insn, line: &mut Line)
-    requires { length line.old.items ≤ 200 }
+    requires { length line.old.items ≤ 280 }
     ensures text { line.new.items ≡ line.old.items ++ statement.name_of insn.now }
     ensures len { length line.new.items ≤ length line.old.items + 10 }
 {
@@ -53,7 +54,7 @@ fn put_name(insn: &Insn, line: &mut Line)
 }
 
 fn put_register(name: &[u8], line: &mut Line)
-    requires room { length line.old.items ≤ 240 }
+    requires room { length line.old.items ≤ 300 }
     requires short { length name.now ≤ 3 }
     ensures text { line.new.items ≡ line.old.items ++ spec.register_text name.now }
     ensures len { length line.new.items ≤ length line.old.items + 4 }
@@ -75,7 +76,7 @@ fn scale(scale: u8) -> &'static [u8]
 }
 
 fn put_base(base: Option<Reg>, line: &mut Line)
-    requires { length line.old.items ≤ 240 }
+    requires { length line.old.items ≤ 300 }
     ensures text { line.new.items ≡ line.old.items ++ spec.base_text (option_map reg_name base) }
     ensures len { length line.new.items ≤ length line.old.items + 4 }
 {
@@ -85,7 +86,7 @@ fn put_base(base: Option<Reg>, line: &mut Line)
 }
 
 fn put_indexed(base: Option<Reg>, index: Reg, by: u8, line: &mut Line)
-    requires { length line.old.items ≤ 220 }
+    requires { length line.old.items ≤ 280 }
     ensures text { line.new.items ≡ line.old.items ++
         (codes "(" ++ spec.base_text (option_map reg_name base) ++ codes "," ++ spec.register_text (reg_name index) ++ codes "," ++ spec.scale_text by ++ codes ")") }
     ensures len { length line.new.items ≤ length line.old.items + 13 }
@@ -100,7 +101,7 @@ fn put_indexed(base: Option<Reg>, index: Reg, by: u8, line: &mut Line)
 }
 
 fn put_based(base: Reg, line: &mut Line)
-    requires { length line.old.items ≤ 220 }
+    requires { length line.old.items ≤ 280 }
     ensures text { line.new.items ≡ line.old.items ++ (codes "(" ++ spec.register_text (reg_name base) ++ codes ")") }
     ensures len { length line.new.items ≤ length line.old.items + 6 }
 {
@@ -110,7 +111,7 @@ fn put_based(base: Reg, line: &mut Line)
 }
 
 fn put_place(address: &Address, line: &mut Line)
-    requires { length line.old.items ≤ 220 }
+    requires { length line.old.items ≤ 280 }
     ensures text { line.new.items ≡ line.old.items ++
         spec.place_text (option_map reg_name address.now.base) (option_map reg_name address.now.index) address.now.scale }
     ensures len { length line.new.items ≤ length line.old.items + 13 }
@@ -122,8 +123,8 @@ fn put_place(address: &Address, line: &mut Line)
     }
 }
 
-fn put_displacement(address: &Address, line: &mut Line)
-    requires { length line.old.items ≤ 180 }
+fn put_signed(address: &Address, line: &mut Line)
+    requires { length line.old.items ≤ 260 }
     ensures text { line.new.items ≡ line.old.items ++ spec.displacement_text (displacement_of address.now) }
     ensures len { length line.new.items ≤ length line.old.items + 11 }
 {
@@ -134,88 +135,121 @@ fn put_displacement(address: &Address, line: &mut Line)
     }
 }
 
-#[tactic(auto, unfolding(crate::specs::Text::form_text))]
-fn put_memory(address: &Address, line: &mut Line)
-    requires { length line.old.items ≤ 170 }
-    ensures text { line.new.items ≡ line.old.items ++ spec.form_text (form_of (Written.Memory address.now)) }
-    ensures len { length line.new.items ≤ length line.old.items + 24 }
+fn put_displacement(address: &Address, named: bool, line: &mut Line)
+    requires { length line.old.items ≤ 250 }
+    ensures text { line.new.items ≡ line.old.items ++ spec.displacement_text (displacement_with named address.now) }
+    ensures len { length line.new.items ≤ length line.old.items + 20 }
 {
-    put_displacement(address, line);
+    if named {
+        by_label(address.disp, line);
+    } else {
+        put_signed(address, line);
+    }
+}
+
+#[tactic(auto, unfolding(crate::specs::Text::form_text))]
+fn put_memory(address: &Address, style: Style, line: &mut Line)
+    requires { length line.old.items ≤ 240 }
+    ensures text { line.new.items ≡ line.old.items ++ spec.form_text (form_with style (Written.Memory address.now)) }
+    ensures len { length line.new.items ≤ length line.old.items + 33 }
+{
+    put_displacement(address, style.named.disp, line);
     put_place(address, line);
 }
 
-#[tactic(auto, unfolding(crate::specs::Text::form_text))]
-fn put_immediate(number: u32, line: &mut Line)
-    requires { length line.old.items ≤ 190 }
-    ensures text { line.new.items ≡ line.old.items ++ spec.form_text (form_of (Written.Immediate number)) }
-    ensures len { length line.new.items ≤ length line.old.items + 11 }
+fn put_number(number: u32, named: bool, line: &mut Line)
+    requires { length line.old.items ≤ 250 }
+    ensures text { line.new.items ≡ line.old.items ++ spec.value_text (immediate_with named number) }
+    ensures len { length line.new.items ≤ length line.old.items + 20 }
 {
-    add(b"$", line);
-    plain(number, line);
+    if named {
+        by_label(number, line);
+    } else {
+        plain(number, line);
+    }
 }
 
 #[tactic(auto, unfolding(crate::specs::Text::form_text))]
-fn put_label(address: u32, line: &mut Line)
-    requires { length line.old.items ≤ 200 }
-    ensures text { line.new.items ≡ line.old.items ++ spec.form_text (form_of (Written.Label address)) }
-    ensures len { length line.new.items ≤ length line.old.items + 9 }
+fn put_immediate(number: u32, style: Style, line: &mut Line)
+    requires { length line.old.items ≤ 240 }
+    ensures text { line.new.items ≡ line.old.items ++ spec.form_text (form_with style (Written.Immediate number)) }
+    ensures len { length line.new.items ≤ length line.old.items + 21 }
 {
-    add(b"L", line);
+    add(b"$", line);
+    put_number(number, style.named.imm, line);
+}
+
+fn mark(target: Target) -> &'static [u8]
+    ensures mark { result.now ≡ mark_of target }
+    ensures len { length result.now ≤ 2 }
+{
+    match target {
+        Target::Label => b"L",
+        Target::Address => b"0x",
+    }
+}
+
+#[tactic(auto, unfolding(crate::specs::Text::form_text))]
+fn put_target(address: u32, style: Style, line: &mut Line)
+    requires { length line.old.items ≤ 240 }
+    ensures text { line.new.items ≡ line.old.items ++ spec.form_text (form_with style (Written.Label address)) }
+    ensures len { length line.new.items ≤ length line.old.items + 10 }
+{
+    add(mark(style.target), line);
     eight_digits(address, line);
 }
 
 #[tactic(auto, unfolding(crate::specs::Text::form_text))]
-fn put_written(written: Written, line: &mut Line)
-    requires { length line.old.items ≤ 170 }
-    ensures text { line.new.items ≡ line.old.items ++ spec.form_text (form_of written) }
-    ensures len { length line.new.items ≤ length line.old.items + 24 }
+fn put_written(written: Written, style: Style, line: &mut Line)
+    requires { length line.old.items ≤ 240 }
+    ensures text { line.new.items ≡ line.old.items ++ spec.form_text (form_with style written) }
+    ensures len { length line.new.items ≤ length line.old.items + 33 }
 {
     match written {
         Written::Register(size, number) => put_register(register_name(size, number), line),
         Written::Segment(segment) => put_register(segment_name(segment), line),
         Written::Control(number) => put_register(control_name(number), line),
-        Written::Memory(address) => put_memory(&address, line),
-        Written::Immediate(number) => put_immediate(number, line),
+        Written::Memory(address) => put_memory(&address, style, line),
+        Written::Immediate(number) => put_immediate(number, style, line),
         Written::Port => add(b"(%dx)", line),
-        Written::Label(address) => put_label(address, line),
+        Written::Label(address) => put_target(address, style, line),
     }
 }
 
 /// An operand behind what stands before it.
-fn put_behind(front: &[u8], written: Written, line: &mut Line)
-    requires room { length line.old.items ≤ 160 }
+fn put_behind(front: &[u8], written: Written, style: Style, line: &mut Line)
+    requires room { length line.old.items ≤ 230 }
     requires short { length front.now ≤ 2 }
-    ensures text { line.new.items ≡ line.old.items ++ (front.now ++ spec.form_text (form_of written)) }
-    ensures len { length line.new.items ≤ length line.old.items + 26 }
+    ensures text { line.new.items ≡ line.old.items ++ (front.now ++ spec.form_text (form_with style written)) }
+    ensures len { length line.new.items ≤ length line.old.items + 35 }
 {
     add(front, line);
-    put_written(written, line);
+    put_written(written, style, line);
 }
 
-#[tactic(auto, unfolding(crate::specs::Arguments::arguments_of))]
-fn put_operands(operands: Operands, line: &mut Line)
-    requires { length line.old.items ≤ 100 }
-    ensures text { line.new.items ≡ line.old.items ++ spec.arguments_text (arguments_of operands) }
-    ensures len { length line.new.items ≤ length line.old.items + 78 }
+fn put_operands(operands: Operands, style: Style, line: &mut Line)
+    requires { length line.old.items ≤ 120 }
+    ensures text { line.new.items ≡ line.old.items ++ spec.arguments_text (arguments_with style operands) }
+    ensures len { length line.new.items ≤ length line.old.items + 105 }
 {
     match operands {
         Operands::Nothing => {}
-        Operands::One(only) => put_behind(b" ", only, line),
-        Operands::Starred(only) => put_behind(b" *", only, line),
+        Operands::One(only) => put_behind(b" ", only, style, line),
+        Operands::Starred(only) => put_behind(b" *", only, style, line),
         Operands::Two(first, second) => {
-            put_behind(b" ", first, line);
-            put_behind(b",", second, line);
+            put_behind(b" ", first, style, line);
+            put_behind(b",", second, style, line);
         }
         Operands::Three(first, second, third) => {
-            put_behind(b" ", first, line);
-            put_behind(b",", second, line);
-            put_behind(b",", third, line);
+            put_behind(b" ", first, style, line);
+            put_behind(b",", second, style, line);
+            put_behind(b",", third, style, line);
         }
     }
 }
 
 fn put_repeat(rep: bool, line: &mut Line)
-    requires { length line.old.items ≤ 200 }
+    requires { length line.old.items ≤ 300 }
     ensures text { line.new.items ≡ line.old.items ++ spec.rep_text rep }
     ensures len { length line.new.items ≤ length line.old.items + 4 }
 {
@@ -224,15 +258,14 @@ fn put_repeat(rep: bool, line: &mut Line)
     }
 }
 
-/// Puts the text of the instruction that stands at this address and has this length. A direct branch names
-/// its target by the label of its address.
-#[tactic(auto, unfolding(crate::specs::Text::instruction_text, crate::specs::Text::text_of, crate::specs::Statement::statement_of))]
-pub fn put_text(insn: &Insn, at: u32, len: u8, line: &mut Line)
-    requires { length line.old.items ≤ 80 }
-    ensures text { line.new.items ≡ line.old.items ++ spec.instruction_text insn.now at len }
-    ensures len { length line.new.items ≤ length line.old.items + 92 }
+/// Puts the text of the instruction that stands at this address and has this length.
+#[tactic(auto, unfolding(crate::specs::Text::instruction_text, crate::specs::Text::text_of, crate::specs::Statement::statement_with))]
+pub fn put_text(insn: &Insn, at: u32, len: u8, style: Style, line: &mut Line)
+    requires { length line.old.items ≤ 100 }
+    ensures text { line.new.items ≡ line.old.items ++ spec.instruction_text style insn.now at len }
+    ensures len { length line.new.items ≤ length line.old.items + 119 }
 {
     put_repeat(insn.rep, line);
     put_name(insn, line);
-    put_operands(operands_of(insn, at, len), line);
+    put_operands(operands_of(insn, at, len), style, line);
 }
