@@ -1,0 +1,11 @@
+pub mod SiteNames
+pub mod Spelling
+pub mod Here
+pub mod Sweeping
+pub mod Parts
+pub mod Room
+pub mod Labels
+pub mod Lines
+pub mod Listing
+pub mod Words
+pub mod Looking
