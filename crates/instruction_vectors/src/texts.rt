@@ -10,7 +10,8 @@ use self::strings::STRINGS;
 use self::unary::UNARY;
 use arrayvec::ArrayVec;
 use ia32_decode::{Decoded, decode};
-use ia32_text::{Line, put_text};
+use ia32_encode::Wide;
+use ia32_text::{Line, Style, Target, put_text};
 use std::process::Abort;
 
 mod arithmetic;
@@ -24,6 +25,15 @@ mod unary;
 
 /// Where each instruction stands.
 const PLACE: u32 = 0x1000_0000;
+
+/// A direct branch by a label, and each number as a number.
+const STYLE: Style = Style {
+    target: Target::Label,
+    named: Wide {
+        disp: false,
+        imm: false,
+    },
+};
 
 /// The bytes of a spelling, of which the longest has 11.
 type Spelling = ArrayVec<u8, 16>;
@@ -47,7 +57,7 @@ fn text_of(bytes: &[u8]) -> Option<Line> {
     match decode(bytes) {
         Decoded::Insn(insn, len) if usize::from(len) == bytes.len() => {
             let mut line = Line::new();
-            put_text(&insn, PLACE, len, &mut line);
+            put_text(&insn, PLACE, len, STYLE, &mut line);
             Some(line)
         }
         _ => None,
