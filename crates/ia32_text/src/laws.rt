@@ -27,10 +27,13 @@ pub fn assembles_again()
 
 /// The statement that a direct branch is assembles to the distance to its target's label.
 pub fn branches_again()
-    ensures jmp { (distance at len : ℕ) → BranchesTo (statement_of (by_distance Jmp 0 distance) at len) (label_of (target distance at len)) (by_distance Jmp 0 distance) }
-    ensures call { (distance at len : ℕ) → BranchesTo (statement_of (by_distance Call 0 distance) at len) (label_of (target distance at len)) (by_distance Call 0 distance) }
+    ensures jmp { (distance at len : ℕ) → BranchesTo (statement_of (by_distance Jmp 0 distance) at len)
+        (label_of (target distance at len)) (by_distance Jmp 0 distance) }
+    ensures call { (distance at len : ℕ) → BranchesTo (statement_of (by_distance Call 0 distance) at len)
+        (label_of (target distance at len)) (by_distance Call 0 distance) }
     ensures jcc { (condition distance at len : ℕ) → condition < 16 →
-        BranchesTo (statement_of (by_distance Jcc condition distance) at len) (label_of (target distance at len)) (by_distance Jcc condition distance) }
+        BranchesTo (statement_of (by_distance Jcc condition distance) at len)
+        (label_of (target distance at len)) (by_distance Jcc condition distance) }
 {}
 
 /// Where numbers stand as they are and targets by their labels, the text of an instruction is that of its statement.

@@ -88,7 +88,8 @@ fn put_base(base: Option<Reg>, line: &mut Line)
 fn put_indexed(base: Option<Reg>, index: Reg, by: u8, line: &mut Line)
     requires { length line.old.items ≤ 280 }
     ensures text { line.new.items ≡ line.old.items ++
-        (codes "(" ++ spec.base_text (option_map reg_name base) ++ codes "," ++ spec.register_text (reg_name index) ++ codes "," ++ spec.scale_text by ++ codes ")") }
+        (codes "(" ++ spec.base_text (option_map reg_name base) ++ codes "," ++ spec.register_text (reg_name index) ++ codes ","
+        ++ spec.scale_text by ++ codes ")") }
     ensures len { length line.new.items ≤ length line.old.items + 13 }
 {
     add(b"(", line);
