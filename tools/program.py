@@ -7,7 +7,7 @@ of both; NAME.list, its files and folders; and NAME.seen, what tools/program.sh 
 the program, or somebody has put it there, its time decides: it is current where no source and no folder of sources is newer.
 
 The build is the gate's, a plain rt ci, over a copy of the crates that the program stands on, without their must-fail edits. It
-proves independent crates side by side: one for each processor that has 3 GB of free memory, or as many as PV_JOBS says. Each is told
+proves independent crates side by side: one for each processor that has 3 GB of free memory, or as many as PV_JOBS says. Each is reported
 on standard error with its number and the time that is gone. A kit whose rt ci keeps what it has proved keeps it for each checkout on
 this machine: a build that was stopped goes on from there when it is begun again, and .ci/run takes it over.
 """
@@ -175,7 +175,7 @@ def copy_to(room, crates):
 
 
 def prove(rt, room, jobs, count, tell):
-    """Runs the gate in the room, and tells each crate that has passed."""
+    """Runs the gate in the room, and reports each crate that has passed."""
     said, done = [], 0
     how = {"cwd": room, "env": {**os.environ, "RT_JOBS": str(jobs)}, "text": True, "errors": "replace", "start_new_session": True}
     streams = {"stdin": subprocess.DEVNULL, "stdout": subprocess.PIPE, "stderr": subprocess.STDOUT}
@@ -224,7 +224,7 @@ def build(rt):
         os.replace(new, PROGRAM)
         store(f"{PROGRAM}.made", f"{program} {sources}\n")
     finally:
-        # a second Ctrl-C leaves nothing behind
+        # a second Ctrl-C leaves no copy
         were = {it: signal.signal(it, signal.SIG_IGN) for it in (signal.SIGINT, signal.SIGTERM)}
         shutil.rmtree(room, ignore_errors=True)
         for it, how in were.items():

@@ -4,7 +4,7 @@
 #   program  the crate of the program, whose name it has, as pv_main
 #   forms    the forms of its words, a line each; none where the program itself says what is wrong with them
 #   top      the top of the repository
-# and reads this file. Words of no form, and a file that isn't there or can't be read, are told on standard error. Then the
+# and reads this file. Words of no form, and a file that isn't there or can't be read, are reported on standard error. Then the
 # program takes the place of this process: what it prints, its status and its signals are its own.
 #
 # Whether it is out of date is asked twice. The quick test compares the time of the last change (ctime), the size and the inode of
