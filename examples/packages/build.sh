@@ -44,7 +44,7 @@ native=(-m32 -O2 -march=i686 -msse2 -mfpmath=sse -ffp-contract=off -ffreestandin
 # Attributes of symbols become directives that burn doesn't know.
 machine=(@"$here/lib/flags" '-Dvisibility(x)=' '-D__visibility__(x)=' -w)
 
-# The upstream part of the source package, at the version of the recipe, or else at the one that the mirror has.
+# The upstream part of the source package, at the version of the recipe, or else at the one that the mirror has; found says which.
 fetch() {
     [ ! -d "$source" ] || return 0
     local lists=$here/out/apt options
@@ -52,7 +52,12 @@ fetch() {
     echo "deb-src ${MIRROR:-http://deb.debian.org/debian} bookworm main" >"$here/out/sources.list"
     options=(-qq -o Dir::Etc::sourcelist="$here/out/sources.list" -o Dir::Etc::sourceparts=- -o Dir::State::lists="$lists" -o APT::Sandbox::User=)
     [ -n "$(find "$lists" -name '*Sources*')" ] || apt-get "${options[@]}" update || return
-    (cd "$room/fetched" && { apt-get "${options[@]}" --tar-only source "$package=$version" || apt-get "${options[@]}" --tar-only source "$package"; }) || return
+    cd "$room/fetched" || return
+    if apt-get "${options[@]}" --tar-only source "$package=$version"; then
+        echo "$version" >"$room/found"
+    else
+        apt-get "${options[@]}" --tar-only source "$package" && echo "other than $version" >"$room/found" || return
+    fi
     mkdir "$room/unpacked" && tar xf "$room"/fetched/*.orig.tar.* --strip-components=1 -C "$room/unpacked" && mv "$room/unpacked" "$source"
 }
 
@@ -131,7 +136,8 @@ build() {
         burn "$room/package/$(named "$file").s" || return
     done
     for file in "$folder/main.c" "$kernels"/{k,console}.c "$here"/lib/{memory,stdio,stdlib,string,soft_double,machine}.c; do
-        lower "$file" "$room/own/$(basename "$file" .c).s" && burn "$room/own/$(basename "$file" .c).s" || return
+        made=$room/own/own.$(basename "$file" .c).s
+        lower "$file" "$made" && burn "$made" || return
     done
     [ ! -e "$room/data.s" ] || burn "$room/data.s" || return
     "$pv" link "$room/k.img" "${objects[@]}" && "$pv" check "$room/k.img"
@@ -154,7 +160,7 @@ run() {
     done
     cmp "$room/bare" "$room/wedge" || return
     functions=$("$here/refused.py" "$pv" "$room"/package/*.s | tail -n 1)
-    echo "| $name | $package $version | $functions | $(count_of "$room/bare") | $about | yes | $(cat "$room/bare.time") | $(cat "$room/wedge.time") |" >"$room/row"
+    echo "| $name | $package $(cat "$room/found") | $functions | $(count_of "$room/bare") | $about | yes | $(cat "$room/bare.time") | $(cat "$room/wedge.time") |" >"$room/row"
     echo "$name: $(wc -c <"$room/expected") bytes printed in $(count_of "$room/bare") steps, the same natively and on both machines; bare $(cat "$room/bare.time"); patched $(cat "$room/wedge.time")"
 }
 
@@ -228,7 +234,7 @@ compile_for_level3() {
         user_object "$file" "$(named "$file")" || return
     done
     for file in "$folder/main.c" "$kernels/k.c" "$here"/lib/{memory,stdio,stdlib,string,soft_double,user}.c; do
-        user_object "$file" "$(basename "$file" .c)" || return
+        user_object "$file" "own.$(basename "$file" .c)" || return
     done
     as --32 "$kernels/../tasks/user_start.s" -o "$room/user/user_start.o" || return
     [ ! -e "$room/data.s" ] || as --32 "$room/data.s" -o "$room/user/data.o" || return
@@ -293,12 +299,14 @@ all_of() { # name, and the other of two that share
     # the patterns of the recipe are meant within the sources, so it is read again there
     . "$folder/recipe" && fetch && cd "$source" && . "$folder/recipe" || return
     [ ! -d "$folder/include" ] || options=("-I$folder/include" "${options[@]}")
-    ! declare -F prepare >/dev/null || prepare || return
     case $way in
-    run) compile_natively && build && run ;;
-    level3) compile_natively && level3 ;;
-    *) "$way" "${@:2}" ;;
+    run | level3)
+        ! declare -F prepare >/dev/null || prepare || return
+        compile_natively || return
+        [ "$way" = level3 ] || build || return
+        ;;
     esac
+    "$way" "${@:2}"
 }
 
 # the same date in each program that prints when it was compiled
