@@ -79,9 +79,7 @@ class Source:
             out.append(f'# {line} "{os.path.abspath(self.path)}"\n')
             if labels:
                 self.paired = False
-            out += [f"{it}:\n" for it in labels]
-            if statement:
-                out.append(f"\t{self.statement(statement, i)}\n")
+            out.append("".join(f"{it}: " for it in labels) + "\t" + (self.statement(statement, i) if statement else "") + "\n")
         return "".join(out)
 
     def statement(self, it, i):
