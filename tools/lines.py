@@ -19,8 +19,9 @@ SENSITIVE = re.compile(r"(cli|sti|hlt|pushfl?|popfl?|iret|lgdtl?|lidtl?|ltrw?|in
                        r"|(mov|push|pop)[lw]?\s.*%(cr[0-9]|[ecsd]s\b)|(jmp|call)l?\s*\*")
 BRANCH = re.compile(r"(j[a-z]+|call)l?\s+(?![*\s])")
 SEGMENT_MOVE = re.compile(r"mov[lw]?\s.*%[ecsd]s\b")
-EXCHANGE = re.compile(r"xchgl?\s*%(e[a-ds][xpi])\s*,\s*%(e[a-ds][xpi])$")
-REGISTERS = ["eax", "ecx", "edx", "ebx", "esp", "ebp", "esi", "edi"]
+LONG = ["eax", "ecx", "edx", "ebx", "esp", "ebp", "esi", "edi"]
+BYTE = ["al", "cl", "dl", "bl", "ah", "ch", "dh", "bh"]
+EXCHANGE = re.compile(r"xchg[bl]?\s*%(\w+)\s*,\s*%(\w+)$")
 LABEL = re.compile(r"\s*([A-Za-z_.$][\w.$]*)\s*:")
 SKIPPED = re.compile(r"\.(file|type|size|ident|code32|loc|cfi_\w+)\b")
 UNREAD = re.compile(r"\.(note|comment|debug|eh_frame)")
@@ -31,7 +32,7 @@ def statements(text):
     """The number of its line and each statement, without comments: split at newlines and semicolons that stand in no string."""
     found, now, line, at = [], "", 1, 0
     first = line
-    token = re.compile(r'"(?:[^"\\\n]|\\.)*"|/\*.*?\*/|#[^\n]*|\'(?:\\.|.)|[\n;]|[^"/#\'\n;]+|.', re.S)
+    token = re.compile(r'"(?:[^"\\\n]|\\.)*"|/\*.*?\*/|#[^\n]*|\'.|[\n;]|[^"/#\'\n;]+|.', re.S)
     while at < len(text):
         part = token.match(text, at).group()
         at += len(part)
@@ -121,7 +122,7 @@ class Source:
         if SEGMENT_MOVE.match(it):
             it = re.sub(r"^mov[lw]", "mov", it)
         if (exchange := EXCHANGE.match(it)):
-            return self.exchange(*(REGISTERS.index(name) for name in exchange.groups()))
+            return self.exchange(it, *exchange.groups())
         if re.match(r"int\s*\$0*3$", it):
             return ".byte 0xcd,3"
         if re.match(r"retl?\s*\$0+$", it):
@@ -146,9 +147,14 @@ class Source:
         return False
 
     @staticmethod
-    def exchange(a, b):
-        low, high = min(a, b), max(a, b)
-        return f".byte {0x90 + high:#x}" if low == 0 < high else f".byte 0x87,{0xc0 + 8 * high + low:#x}"
+    def exchange(it, *names):
+        """XCHG of two registers: r/m names that of the lower number."""
+        for registers, opcode in ((LONG, 0x87), (BYTE, 0x86)):
+            if set(names) <= set(registers):
+                low, high = sorted(registers.index(name) for name in names)
+                short = opcode == 0x87 and low == 0 < high
+                return f".byte {0x90 + high:#x}" if short else f".byte {opcode:#x},{0xc0 + 8 * high + low:#x}"
+        return it
 
 
 def command(words, what):
@@ -194,8 +200,8 @@ def assembled_alike(source, made, wanted):
             got, has = made.contents(section), wanted.part(place)
             at = next((k for k in range(min(len(got), len(has))) if got[k] != has[k] and k not in filled), None)
             if at is not None:
-                raise Other(f"{source}: it isn't the source of {wanted.path}, or GNU as spells it otherwise: {place} differs first at offset "
-                            f"{at:#x}: from the source {got[at:at + 8].hex(' ')}, in the object {has[at:at + 8].hex(' ')}")
+                raise Other(f"{source}: it isn't the source of {wanted.path}, or GNU as spells it otherwise: {place} differs first "
+                            f"at offset {at:#x}: from the source {got[at:at + 8].hex(' ')}, in the object {has[at:at + 8].hex(' ')}")
         if size != wanted.size(place):
             raise Other(f"{source}: it isn't the source of {wanted.path}: {size} bytes of {place} from the source, "
                         f"{wanted.size(place)} in the object")

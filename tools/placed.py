@@ -128,6 +128,8 @@ class Object(Elf):
             return
         if section.type not in (1, 8):
             self.bad(f"the section {section.name} is allocated, and of type {section.type}")
+        if section.align & section.align - 1 or section.align > 4096 and not section.flags & 4:
+            self.bad(f"the section {section.name} has the alignment {section.align}")
         place = "bss" if section.type == 8 else "text" if section.flags & 4 else "data"
         self.place[i] = place
         if place == "text":
@@ -204,7 +206,8 @@ class Placed:
             for symbol in it.symbols:
                 if symbol.binding == GLOBAL and symbol.place:
                     if symbol.name in found:
-                        raise Other(f"{it.path}: the global name {symbol.name} is defined in {self.objects[found[symbol.name][0]].path} too")
+                        first = self.objects[found[symbol.name][0]].path
+                        raise Other(f"{it.path}: the global name {symbol.name} is defined in {first} too")
                     found[symbol.name] = (i, symbol)
         return found
 
@@ -248,7 +251,8 @@ class Placed:
                         f"from the objects, at {image.memory:#x} in the image")
         entry = self.address(*self.globals["_start"]) if "_start" in self.globals else TEXT
         if entry != image.entry:
-            raise Other(f"{image.path}: these aren't its objects: the entry is {entry:08x} from the objects, {image.entry:08x} in the image")
+            raise Other(f"{image.path}: these aren't its objects: the entry is {entry:08x} from the objects, "
+                        f"{image.entry:08x} in the image")
 
     def labels(self):
         """A short name for each object: its file's, and its number where two are alike."""
