@@ -1,5 +1,8 @@
 //! A processor with memory, in which one instruction is done or one event is delivered.
 
+ghost use Rattle.std.specs.Prelude.{◌≡◌};
+ghost use Rattle.step_mem.specs.Sound.{IsSoundOver};
+
 use bare_mem::Cached;
 use descriptors::{Cpu, Hidden, Table, Task};
 use event_entry::{Kind, NotDelivered, deliver};
@@ -7,10 +10,11 @@ use guest_ram::Ram;
 use ia32_decode::{Decoded, decode};
 use ia32_types::{Flags, Insn, Op, Operand, Regs, Size};
 use machine_step::{begin_again, first_state};
+use paging::GuestMem;
 use std::alloc::{AllocError, Global};
 use std::process::Abort;
 use step_exec::Memory;
-use step_mem::{Guard, Own, Text};
+use step_mem::{Guard, Own, StepState, Text, Translations};
 use sys_exec::{SysEffect, sys};
 use xlate_buffer::Buffer;
 
@@ -265,23 +269,36 @@ fn performed(cpu: &mut Cpu, ram: &mut Ram, what: &What) -> Answer {
     let frames = ram.len() / 4096;
     let mut state = first_state(&text);
     begin_again(cpu, ram, &kept, frames, guard, &mut state);
-    let mut mem = Memory {
-        ram,
-        kept: &kept,
-        state: &mut state,
-    };
+    performed_over(cpu, ram, &kept, &mut state, what)
+}
+
+fn performed_over<B: Translations>(
+    cpu: &mut Cpu,
+    ram: &mut Ram,
+    kept: &B,
+    state: &mut StepState,
+    what: &What,
+) -> Answer
+    requires sound { IsSoundOver B.Translations kept.now ram.old state.old }
+    requires pages { state.old.pages ≡ 0 }
+{
+    performed_in(cpu, &mut Memory { ram, kept, state }, what)
+}
+
+/// What comes of it in a memory of which nothing was used yet.
+fn performed_in<M: GuestMem>(cpu: &mut Cpu, mem: &mut M, what: &What) -> Answer
+    requires { (M.space mem.old).pages ≡ 0 }
+{
     match what {
         What::Insn(bytes) => match decode(bytes) {
-            Decoded::Insn(insn, len) => { Answer::Asks(sys(&insn, len, cpu, &mut mem)) }
+            Decoded::Insn(insn, len) => Answer::Asks(sys(&insn, len, cpu, mem)),
             _ => Answer::NotRead,
         },
-        What::Event(kind, code) => { Answer::Delivered(deliver(cpu, &mut mem, 0x21, *kind, *code)) }
-        What::Back(kind) => {
-            match deliver(cpu, &mut mem, 0x21, *kind, None) {
-                Ok(()) => Answer::Asks(sys(&IRET, 1, cpu, &mut mem)),
-                refused => Answer::Delivered(refused),
-            }
-        }
+        What::Event(kind, code) => Answer::Delivered(deliver(cpu, mem, 0x21, *kind, *code)),
+        What::Back(kind) => match deliver(cpu, mem, 0x21, *kind, None) {
+            Ok(()) => Answer::Asks(sys(&IRET, 1, cpu, mem)),
+            refused => Answer::Delivered(refused),
+        },
     }
 }
 
