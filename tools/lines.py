@@ -166,8 +166,13 @@ def command(words, what):
 
 
 def script_of(placed, files):
-    """Each part of each object at its place, whatever alignment GNU as gave its sections."""
+    """Each part of each object at its place, whatever alignment GNU as gave its sections. One without bytes can have names: it
+    gets a section of its own, which `. = .` keeps."""
     out = ["SECTIONS {"]
+    for place in ("text", "data", "bss"):
+        for i, file in enumerate(files):
+            if not placed.objects[i].size(place):
+                out.append(f' .no_{place}_{i} {placed.at[place][i]:#x} : SUBALIGN(1) {{ . = .; "{file}"(.{place}) }}')
     for place, first in (("text", TEXT), ("data", DATA), ("bss", DATA + len(placed.data))):
         out.append(f" .{place} {first:#x} : SUBALIGN(1) {{")
         for i, file in enumerate(files):
@@ -226,7 +231,8 @@ def compare(image, placed, made):
             theirs.add((made.string(strings, name), value))
     for i, it in enumerate(placed.objects):
         for symbol in it.symbols:
-            if symbol.place and symbol.name and not symbol.name.startswith(".L") and (symbol.name, placed.address(i, symbol)) not in theirs:
+            shown = symbol.place and symbol.name and not symbol.name.startswith(".L")
+            if shown and (symbol.name, placed.address(i, symbol)) not in theirs:
                 raise Other(f"{it.path}: {symbol.name} stands at {placed.address(i, symbol):08x}, and not so by the sources")
 
 

@@ -2,7 +2,8 @@
 
 Not proved. It is written again from docs/FORMATS.md (Objects, Images), apart from the proved program, and rests on nothing but
 Python. That it is right for a given image is compared each time: `same` makes all text and data from the objects by itself, with
-every relocation done, and asks that each byte is the image's.
+every relocation done, and asks that each byte is the image's. Zeroed data has no bytes: its end is compared, and each address of it that
+text or data hold.
 """
 import functools
 import os
