@@ -8,7 +8,7 @@
 # 1. apt-get fetches the package's sources, as NAME/recipe says, with lists of its own: the machine's stay as they are.
 # 2. gcc compiles all of the package's library for the host, with NAME/main.c and the C library in lib/; ld says which files it
 #    takes. This program's output is what the kernel has to print.
-# 3. gcc compiles the library to assembler sources, by the flags in lib/flags; lower.awk rewrites what burn doesn't take. pv burns
+# 3. gcc compiles the library to assembler sources, by the flags of ../c/build.sh; lower.awk rewrites what burn doesn't take. pv burns
 #    those that the host's link took, with main.c, lib/ and the library of the examples in C, links them and checks the image.
 # 4. pv runs the image on the bare machine and patched on a host. Both traces are compared, and the text sent by the serial port
 #    with the host's output.
@@ -31,6 +31,7 @@ here=$(cd "$(dirname "${BASH_SOURCE[0]}")" && pwd) || exit 2
 top=$here/../..
 pv=$(realpath "${PV:-$top/pv}")
 kernels=$(realpath "$here/../c/lib")
+flags=$("$here/../c/build.sh" --flags) || exit 2
 script=$(realpath "$here/../none.script")
 frames=8192
 way=run
@@ -42,7 +43,8 @@ headers=(-nostdinc -isystem "$(gcc -print-file-name=include)" -I "$here/lib/incl
 native=(-m32 -O2 -march=i686 -msse2 -mfpmath=sse -ffp-contract=off -ffreestanding -fno-pic -fno-pie -fno-stack-protector
     -fno-asynchronous-unwind-tables -fcf-protection=none -fno-tree-loop-distribute-patterns -w)
 # Attributes of symbols become directives that burn doesn't know.
-machine=(@"$here/lib/flags" '-Dvisibility(x)=' '-D__visibility__(x)=' -w)
+attributes=('-Dvisibility(x)=' '-D__visibility__(x)=' -w)
+machine=($flags "${attributes[@]}")
 
 # The upstream part of the source package, at the version of the recipe, or else at the one that the mirror has; found says which.
 fetch() {
@@ -112,7 +114,7 @@ compile_natively() {
 }
 
 lower() { # C file, assembler file
-    # GCC notes each pass that lib/flags leaves out
+    # GCC notes each pass that the flags leave out
     gcc "${machine[@]}" "${options[@]}" "${headers[@]}" -S "$1" -o "$room/as.gcc" 2>"$room/said" || { cat "$room/said" >&2; return 1; }
     awk -f "$kernels/lower.awk" "$room/as.gcc" >"$2"
 }
@@ -130,7 +132,7 @@ build() {
     burn "$kernels/start.s" || return
     for file in "${library[@]}"; do
         made=$room/package/$(named "$file").s
-        is_current "$made" "$file" "$here/lib/flags" "$kernels/lower.awk" || lower "$file" "$made" || return
+        is_current "$made" "$file" "$here/../c/build.sh" "$kernels/lower.awk" || lower "$file" "$made" || return
     done
     for file in "${used[@]}"; do
         burn "$room/package/$(named "$file").s" || return
@@ -238,7 +240,7 @@ compile_for_level3() {
     done
     as --32 "$kernels/../tasks/user_start.s" -o "$room/user/user_start.o" || return
     [ ! -e "$room/data.s" ] || as --32 "$room/data.s" -o "$room/user/data.o" || return
-    ld -m elf_i386 -N -z noexecstack -T "$here/lib/user.ld" -o "$room/user.elf" "$room"/user/*.o 2>"$room/said" || { cat "$room/said" >&2; return 1; }
+    ld -m elf_i386 -N -z noexecstack -T "$kernels/user.ld" -o "$room/user.elf" "$room"/user/*.o 2>"$room/said" || { cat "$room/said" >&2; return 1; }
     objcopy -O binary -R .bss "$room/user.elf" "$room/user.bin" || return
     memory_end=$(nm "$room/user.elf" | sed -n 's/^\([0-9a-f]*\) . memory_end$/\1/p')
     {
@@ -278,15 +280,15 @@ level3() {
 # Each file of the library by the flags without the last line, which leaves out some of GCC's passes, and that by lower.awk; what
 # all flags and lower.awk give is in package.
 refused() {
-    local file at flags
+    local file at fewer
     mkdir -p "$room/flags" "$room/lowered" "$room/package" || return
-    flags=($(sed '$d' "$here/lib/flags"))
+    fewer=($(sed '$d' <<<"$flags"))
     for file in "${library[@]}"; do
         at=$(named "$file").s
-        is_current "$room/flags/$at" "$file" "$here/lib/flags" ||
-            gcc "${flags[@]}" "${machine[@]:1}" "${options[@]}" "${headers[@]}" -S "$file" -o "$room/flags/$at" || return
+        is_current "$room/flags/$at" "$file" "$here/../c/build.sh" ||
+            gcc "${fewer[@]}" "${attributes[@]}" "${options[@]}" "${headers[@]}" -S "$file" -o "$room/flags/$at" || return
         awk -f "$kernels/lower.awk" "$room/flags/$at" >"$room/lowered/$at" || return
-        is_current "$room/package/$at" "$file" "$here/lib/flags" "$kernels/lower.awk" || lower "$file" "$room/package/$at" || return
+        is_current "$room/package/$at" "$file" "$here/../c/build.sh" "$kernels/lower.awk" || lower "$file" "$room/package/$at" || return
     done
 }
 

@@ -7,5 +7,6 @@ SECTIONS
     .text : { *user_start.o(.text) *(.text .text.*) }
     .data : { *(.rodata .rodata.*) *(.data .data.*) }
     .bss : { *(.bss .bss.*) *(COMMON) }
+    memory_end = .;
     /DISCARD/ : { *(.comment .note .note.*) }
 }
