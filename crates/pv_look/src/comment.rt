@@ -2,8 +2,6 @@
 
 ghost use Rattle.std.specs.Prelude.{◌≡◌, ◌+◌, ◌*◌, ◌++◌, ◌≤◌, ◌<◌, length};
 ghost use Rattle.image_check.specs.Places.{linear};
-ghost use Rattle.ia32_types.specs.declared.addresses.TheConstants.{TEXT_ADDRESS};
-ghost use Rattle.sites.specs.Patched.{patch_bytes};
 ghost use Rattle.pv_look.specs.Lines as spec;
 ghost use Rattle.pv_look.specs.Room.{IsShort};
 

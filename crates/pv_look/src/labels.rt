@@ -1,9 +1,8 @@
 //! The labels that the instructions of a listing name.
 
-ghost use Rattle.std.specs.Prelude.{◌≡◌, ◌+◌, ◌<◌, ◌≤◌, ◌^◌, ℕ, false, length, slice_index_or, IfOk, ◌||◌};
+ghost use Rattle.std.specs.Prelude.{◌≡◌, ◌+◌, ◌<◌, ◌≤◌, ℕ, false, length, slice_index_or, IfOk, ◌||◌};
 ghost use Rattle.ia32_types.specs.Branches.{is_direct_branch};
-ghost use Rattle.image_check.specs.Pieces.{target_of};
-ghost use Rattle.pv_look.specs.Here.{swept, bytes_of};
+ghost use Rattle.pv_look.specs.Here.{swept};
 ghost use Rattle.pv_look.specs.Labels as spec;
 
 use crate::here::{Here, bytes_at, instruction_at};

@@ -1,8 +1,6 @@
 //! What a listing says of one instruction.
 
 ghost use Rattle.std.specs.Prelude.{◌≡◌, ◌+◌, ◌++◌, ◌≤◌, ◌<◌, [], length};
-ghost use Rattle.std.specs.List.{Contains};
-ghost use Rattle.image_check.specs.Standing.{swept_of};
 ghost use Rattle.pv_look.specs.Here.{swept, bytes_of};
 ghost use Rattle.pv_look.specs.Lines as spec;
 

@@ -1,8 +1,6 @@
 //! What an instruction is to a listing.
 
-ghost use Rattle.std.specs.Prelude.{◌≡◌, ◌+◌, ◌≤◌, ◌<◌, ◌^◌, length};
-ghost use Rattle.std.specs.List.{Contains};
-ghost use Rattle.image_check.specs.Standing.{swept_of};
+ghost use Rattle.std.specs.Prelude.{◌≡◌};
 ghost use Rattle.pv_look.specs.Here.{swept};
 ghost use Rattle.pv_look.specs.Parts as spec;
 ghost use Rattle.pv_look.specs.Room.{IsShort};
