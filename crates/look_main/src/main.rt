@@ -1,62 +1,73 @@
 //! Looks into images and runs: it makes the real files and the real output, and ends with the status.
 #![tactic(auto)]
 
+ghost use Rattle.std.specs.Prelude.{◌≡◌, ◌≢◌, ◌⊎◌, drop, IfErr};
+ghost use Rattle.std.specs.Process.{exit_status};
+ghost use Rattle.pv_build.specs.Numbers.{status_number};
+
 use pv_build::Status;
 use pv_io::{DiskFiles, StdSink};
 use pv_look::look;
-use std::alloc::Global;
 use std::env::{self, Env};
 use std::io::ErrorKind;
 use std::process::ExitCode;
 
 /// The words behind the program's own name. A word that is no UTF-8 makes no command line.
-fn words_of<R: Env + AllocGlobal>(rt: &R) -> Result<Vec<String>, Status> {
-    let all = match env::args(rt) {
-        Ok(all) => all,
-        Err(fault) => {
-            return if fault.kind() == ErrorKind::InvalidData {
-                Err(Status::Words)
-            } else {
-                Err(Status::Memory)
-            };
-        }
-    };
-    let mut words = Vec::new(rt.alloc());
-    let mut first = true;
-    for word in all {
-        if first {
-            first = false;
-        } else {
-            match words.push(word) {
-                Ok(()) => {}
-                Err(_) => return Err(Status::Memory),
-            }
-        }
+fn words_of<R: Env + AllocGlobal>(rt: &R) -> Result<Vec<String>, Status>
+    ensures { IfErr result (λ status. (status ≡ Status.Words) ⊎ (status ≡ Status.Memory)) }
+{
+    match env::args(rt) {
+        Err(fault) => Err(unread(fault.kind())),
+        Ok(all) => match all.collect(rt.alloc()) {
+            Err(_) => Err(Status::Memory),
+            Ok(all) => Ok(after_first(all)),
+        },
     }
-    Ok(words)
 }
 
-/// Says the forms on standard error where the words are none of them.
-fn tell<R: Eprint>(rt: &R, status: Status) {
+/// Why there are no words: one of them is no UTF-8, or no memory was found for them.
+fn unread(kind: ErrorKind) -> Status
+    ensures either { (result ≡ Status.Words) ⊎ (result ≡ Status.Memory) }
+    ensures words { kind ≡ ErrorKind.InvalidData → result ≡ Status.Words }
+    ensures memory { kind ≢ ErrorKind.InvalidData → result ≡ Status.Memory }
+{
+    match kind {
+        ErrorKind::InvalidData => Status::Words,
+        _ => Status::Memory,
+    }
+}
+
+/// The words after the first, each as it is.
+fn after_first(all: Vec<String>) -> Vec<String>
+    ensures { result.items ≡ drop 1 all.items }
+{
+    let mut words = all;
+    if !words.is_empty() {
+        words.remove(0);
+    }
+    words
+}
+
+/// Ends with the status. Where the words are no form, the forms are said on standard error.
+fn ended<R: Eprint>(rt: &R, status: Status) -> ExitCode
+    ensures { exit_status result ≡ status_number status }
+{
     if let Status::Words = status {
         let _ = eprintln!(rt; "usage: look list IMG");
     }
+    ExitCode::from(status.number())
 }
 
 fn main(rt: HostRuntime) -> ExitCode {
     let words = match words_of(&rt) {
         Ok(words) => words,
-        Err(status) => {
-            tell(&rt, status);
-            return ExitCode::from(status.number());
-        }
+        Err(status) => return ended(&rt, status),
     };
     let Ok(system) = rt.clone() else {
-        return ExitCode::from(Status::Memory.number());
+        return ended(&rt, Status::Memory);
     };
     let mut files = DiskFiles::new(system);
     let mut out = StdSink::new(rt.stdout());
     let status = look(rt.alloc(), &words, &mut files, &mut out);
-    tell(&rt, status);
-    ExitCode::from(status.number())
+    ended(&rt, status)
 }
