@@ -1,61 +1,24 @@
-//! Looks into images and runs: it makes the real files and the real output, and ends with the status.
+//! Looks into images: it makes the real files and the real output, and ends with the status.
 #![tactic(auto)]
 
-ghost use Rattle.std.specs.Prelude.{◌≡◌, ◌≢◌, ◌⊎◌, drop, IfErr};
+ghost use Rattle.std.specs.Prelude.{◌≡◌};
 ghost use Rattle.std.specs.Process.{exit_status};
 ghost use Rattle.pv_build.specs.Numbers.{status_number};
 
 use pv_build::Status;
 use pv_io::{DiskFiles, StdSink};
 use pv_look::look;
-use std::env::{self, Env};
-use std::io::ErrorKind;
+use pv_start::{code_of, words_of};
 use std::process::ExitCode;
 
-/// The words behind the program's own name. A word that is no UTF-8 makes no command line.
-fn words_of<R: Env + AllocGlobal>(rt: &R) -> Result<Vec<String>, Status>
-    ensures { IfErr result (λ status. (status ≡ Status.Words) ⊎ (status ≡ Status.Memory)) }
-{
-    match env::args(rt) {
-        Err(fault) => Err(unread(fault.kind())),
-        Ok(all) => match all.collect(rt.alloc()) {
-            Err(_) => Err(Status::Memory),
-            Ok(all) => Ok(after_first(all)),
-        },
-    }
-}
-
-/// Why there are no words: one of them is no UTF-8, or no memory was found for them.
-fn unread(kind: ErrorKind) -> Status
-    ensures either { (result ≡ Status.Words) ⊎ (result ≡ Status.Memory) }
-    ensures words { kind ≡ ErrorKind.InvalidData → result ≡ Status.Words }
-    ensures memory { kind ≢ ErrorKind.InvalidData → result ≡ Status.Memory }
-{
-    match kind {
-        ErrorKind::InvalidData => Status::Words,
-        _ => Status::Memory,
-    }
-}
-
-/// The words after the first, each as it is.
-fn after_first(all: Vec<String>) -> Vec<String>
-    ensures { result.items ≡ drop 1 all.items }
-{
-    let mut words = all;
-    if !words.is_empty() {
-        words.remove(0);
-    }
-    words
-}
-
-/// Ends with the status. Where the words are no form, the forms are said on standard error.
+/// Ends with the status. Where the words are no form, the forms are printed on standard error.
 fn ended<R: Eprint>(rt: &R, status: Status) -> ExitCode
     ensures { exit_status result ≡ status_number status }
 {
     if let Status::Words = status {
         let _ = eprintln!(rt; "usage: look list IMG");
     }
-    ExitCode::from(status.number())
+    code_of(status)
 }
 
 fn main(rt: HostRuntime) -> ExitCode {
