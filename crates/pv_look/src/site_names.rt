@@ -5,6 +5,7 @@ ghost use Rattle.pv_look.specs.SiteNames as spec;
 
 use ia32_types::SiteKind;
 
+/// The name of a kind of sites, as in docs/LOOK.md.
 #[tactic(auto, unfolding(crate::specs::SiteNames::site_name))]
 pub fn site_name(kind: SiteKind) -> &'static [u8]
     ensures name { result.now ≡ spec.site_name kind }
