@@ -53,7 +53,7 @@ pub stays : (names : List (List ℕ)) (f : Fault) (items : List SourceItem) → 
 stays names f [] = refl
 stays names f (i ∷ items) = stays names f items
 
--- Nothing is made behind the first item that is refused.
+-- Nothing is made after the first item that is refused.
 stopped : (names : List (List ℕ)) (start : Result ObjectSoFar Fault) (items : List SourceItem) (k : ℕ) (d : SourceItem) (st : ObjectSoFar) (c : BurnCause) → k < length items → fold (next_made names) start (take k items) ≡ Ok st → item_made names st (get_or items k d).body ≡ Err c
     → fold (next_made names) start items ≡ Err (record { line = (get_or items k d).line; cause = c })
 stopped names start items k d st c lt so e =

@@ -61,7 +61,7 @@ sound_fresh names = record {
   sti_text = λ e. cc;
 }
 
--- ---- labels and directives, behind which nothing is an STI's
+-- ---- labels and directives, after which nothing is an STI's
 
 pub sound_parted : (n : ℕ) (st : ObjectSoFar) → IsSound n st → IsSound n (parted st)
 sound_parted n st s = sound_kept n st (parted st) s refl refl refl refl (omega arith) (omega arith) refl

@@ -95,7 +95,7 @@ sound_added names st args a short fields spelled held s =
       sti_text = λ e. let four = sti_padded kind len e in omega (arith, four, site_room);
     }
 
--- ---- HLT behind STI
+-- ---- HLT after STI
 
 apart_last : (from k to : ℕ) (sites : List Site) → k + 1 ≡ length sites → AreApart from sites to → AreApart from (set sites k (pair_site (get_or sites k no_site))) to
 apart_last from k to [] e h = absurd (omega arith)

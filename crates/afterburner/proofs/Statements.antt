@@ -19,7 +19,7 @@ statement_reason names st rep name args refusal.RefusedInstruction e = IsReason.
 statement_reason names st rep name args refusal.Operands e = IsReason.no_row (refused_reason rep name args refusal.Operands e)
 statement_reason names st rep name args refusal.ValueRange e = let both = refused_reason rep name args refusal.ValueRange e in IsReason.number both.1
 
--- ---- where a condition holds, its cause or a lower one is told
+-- ---- where a condition holds, its cause or a lower one is reported
 
 abbrev pub ToldOf : Result Assembled Refusal → ℕ → Type 0
 ToldOf a n = (r : Refusal) × (a ≡ Err r) × (cause_number (cause_of r) ≤ n)

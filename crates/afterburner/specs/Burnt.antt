@@ -14,7 +14,7 @@ use Rattle.afterburner.specs.Instructions.{instruction}
 use Rattle.afterburner.specs.Directives.{directive_of, directed}
 use Rattle.afterburner.specs.Objects.{object}
 
--- A label and a directive part an STI before them from an HLT behind them.
+-- A label and a directive part an STI before them from an HLT after them.
 abbrev pub parted : ObjectSoFar → ObjectSoFar
 parted st = record st { after_sti = false }
 
@@ -48,7 +48,7 @@ abbrev pub at_line : ℕ → Result ObjectSoFar BurnCause → Result ObjectSoFar
 at_line line (Err c) = Err (record { line = line; cause = c })
 at_line line (Ok st) = Ok st
 
--- Nothing is made behind an item that is refused.
+-- Nothing is made after an item that is refused.
 abbrev pub next_made : List (List ℕ) → Result ObjectSoFar Fault → SourceItem → Result ObjectSoFar Fault
 next_made names (Err f) i = Err f
 next_made names (Ok st) i = at_line i.line (item_made names st i.body)

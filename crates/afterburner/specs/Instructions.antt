@@ -56,7 +56,7 @@ added names st args a =
       after_sti = is_sti kind;
     }
 
--- HLT directly behind STI takes the place of the first of its four NOPs, and the two are one site.
+-- HLT directly after STI takes the place of the first of its four NOPs, and the two are one site.
 abbrev pub pair_site : Site → Site
 pair_site s = record s { kind = site.StiHlt; len = 2; total = 5 }
 

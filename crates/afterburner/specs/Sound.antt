@@ -23,7 +23,7 @@ AreApart from [] to = from ≤ to
 AreApart from (s ∷ sites) to = (from ≤ s.at) × (1 ≤ s.len) × (s.len ≤ 11) × (s.total ≡ max 5 s.len) × AreApart (s.at + s.total) sites to
 
 -- Each name has a definition, relocations and sites lie in their sections, and there are no more relocations than
--- bytes. Behind an STI of its own the text ends with its site.
+-- bytes. After an STI of its own the text ends with its site.
 pub record IsSound (count : ℕ) (st : ObjectSoFar) : Type 0 where
   pub definitions : length st.definitions ≡ count
   pub text_relocs : All (IsRelocIn true (length st.text) count) st.text_relocs

@@ -113,7 +113,7 @@ pub fn burn(alloc: Global, source: &Source) -> Result<Object, BurnFault>
     requires { IsReadable source.now }
     // The object, or the first refusal, is this function of the items.
     ensures exact { Gives result (burnt source.now) }
-    // What is refused is the first item of which a cause's condition holds, for the lowest such cause.
+    // What is refused is the first item that meets a cause's condition, for the lowest such cause.
     ensures first { Refuses source.now result }
     // Where an item is refused first in these words, the source is refused so, unless memory runs out.
     ensures first_only { (line : ℕ) (cause : CauseView)

@@ -8,7 +8,7 @@ use std::alloc::{AllocError, AllocFailed};
 use std::fmt;
 use thiserror::Error;
 
-/// Why an item is refused. Of several causes of one item the first of these is told.
+/// Why an item is refused. Of several causes of one item the first of these is reported.
 #[derive(Clone, Copy, Debug)]
 pub enum BurnCause {
     /// No instruction has the name.

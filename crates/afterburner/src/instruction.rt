@@ -126,7 +126,7 @@ fn spelled(assembled: &Assembled) -> &[u8]
     &assembled.spelling.bytes[..assembled.spelling.len as usize]
 }
 
-/// The bytes of an instruction, and the NOPs behind them.
+/// The bytes of an instruction, and the NOPs after them.
 fn put_bytes(
     out: &mut Vec<u8>,
     kind: Option<SiteKind>,
@@ -182,7 +182,7 @@ impl Assembly {
         Ok(())
     }
 
-    /// HLT directly behind STI.
+    /// HLT directly after STI.
     #[tactic(auto, unfolding(crate::specs::Instructions::paired))]
     fn pair(&mut self)
         requires text { 4 ≤ length self.old.text }

@@ -1,4 +1,4 @@
-//! What the relocations of an object name, and which cause is told of an item.
+//! What the relocations of an object name, and which cause is reported of an item.
 
 ghost use Rattle.std.specs.Prelude.{◌≡◌, ℕ, List, length, slice_get, Some, Ok, Err};
 ghost use Rattle.asm_source.specs.declared.tree.Body.{Body as BodyView};
@@ -21,7 +21,8 @@ pub fn relocations_name_their_symbols()
         ≡ Some (symbol name (definition_of ds k)) }
 {}
 
-/// Of the causes whose conditions hold of an item the lowest is told, and an item of which none holds is made.
+/// Of the causes whose conditions hold of an item the lowest is reported, and an item of which none
+/// holds is made.
 pub fn lowest_cause_is_told()
     ensures told { (names : List (List ℕ)) (so_far : ObjectSoFar) (body : BodyView) (cause : CauseView)
         → item_made names so_far body ≡ Err cause → IsLowestReason names so_far body cause }

@@ -9,7 +9,7 @@ use crate::assembly::Assembly;
 use crate::fault::{BurnCause, ItemFault};
 use sites::{INIT_LIMIT, SITE_LIMIT, TEXT_LIMIT};
 
-/// Tests the limits behind an item.
+/// Tests the limits after an item.
 #[tactic(auto, unfolding(crate::specs::Burnt::limited))]
 pub fn limited(made: &Assembly) -> Result<(), ItemFault>
     ensures makes { Makes made.now result (limited made.now) }

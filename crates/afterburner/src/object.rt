@@ -90,7 +90,7 @@ fn one_if(counted: bool) -> usize
     if counted { 1 } else { 0 }
 }
 
-/// The number of a symbol behind so many local and global ones, where there are `all` local ones.
+/// The number of a symbol after so many local and global ones, where there are `all` local ones.
 fn ordered(global: bool, all: usize, locals: usize, globals: usize) -> u32
     requires locals { locals < 2 ^ 32 }
     requires globals { all + globals < 2 ^ 32 }

@@ -11,11 +11,11 @@ use asm_source::{Name, Names, SYMBOL_LIMIT};
 use elf_form::{Place, Reloc, pad};
 use std::alloc::AllocError;
 
-/// How far a name reaches, by the strongest directive that spoke of it. A name of which none spoke
+/// How far a name reaches, by the strongest directive that gives its binding. A name that has none
 /// is local, unless it is undefined.
 #[derive(Clone, Copy)]
 pub enum Binding {
-    /// No directive spoke of it.
+    /// No directive gives its binding.
     Unsaid,
     /// `.comm`: global.
     Common,

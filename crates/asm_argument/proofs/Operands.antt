@@ -120,7 +120,7 @@ value_runs sh place.Immediate ss v (IsValue.name {n} t) = (partial.Name place.Im
 value_runs sh place.Immediate ss v (IsValue.sum {n} {ss = rest} {z} t u c) = (partial.Number place.Immediate (named n z), rw (u, operand_run) (constant_runs sh place.Immediate n false rest z c), inl refl)
 value_runs sh place.Immediate ss v (IsValue.difference {n} {ss = rest} {z} t u c) = (partial.Number place.Immediate (named n z), rw (u, operand_run) (constant_runs sh place.Immediate n true rest z c), inl refl)
 
--- the parentheses behind a value or nothing
+-- the parentheses after a value or nothing
 address_runs : (sh : Shape) (v : Option Value) (ss : List Terminal) (b i : Option (List ℕ)) (s : ℕ) → IsAddress (terminal.Open ∷ ss) b i s → operand_run sh (partial.Open v) ss ≡ Ok (partial.Whole (form.Memory v b i s))
 address_runs sh v ss b i s (IsAddress.base r) = rw (r, operand_run) refl
 address_runs sh v ss b i s (IsAddress.index r) = rw (r, operand_run) refl
@@ -329,7 +329,7 @@ Spelled sh (partial.Index v b i) ss = WithAddress sh (partial.Index v b i) ss
 Spelled sh (partial.Scale v b i) ss = WithAddress sh (partial.Scale v b i) ss
 Spelled sh (partial.Scaled v b i s) ss = WithAddress sh (partial.Scaled v b i s) ss
 
--- what has been read inside or behind the parentheses
+-- what has been read inside or after the parentheses
 from_inside : (sh : Shape) (q : Partial) (ss : List Terminal) → WithAddress sh q ss → Spelled sh q ss
 from_inside sh (partial.Whole f) ss w = from_value w.values w.parts w.front w.is_value w.whole w.inside
   where
@@ -365,7 +365,7 @@ address_more sh p s q ss w e = from_inside sh q (ss ++ s ∷ []) (record {
   whole = ending _ _ s w.whole ∙ append_assoc w.values w.parts (s ∷ []);
 })
 
--- a parenthesis behind a value
+-- a parenthesis after a value
 opens : (sh : Shape) (p : ValuePlace) (v : Value) (vs ss : List Terminal) (q : Partial) → IsValue sh vs v → ss ≡ lead p ++ vs → open_paren sh p v ≡ ok q → Spelled sh q (ss ++ terminal.Open ∷ [])
 opens sh place.Memory v vs ss q val e h =
     let g = allowed_ok (is_operand sh) (partial.Open (Some v)) q h in

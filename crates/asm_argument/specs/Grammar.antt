@@ -8,7 +8,7 @@ use Rattle.asm_source.specs.declared.tree.Form.{Form}
 use Rattle.asm_source.specs.declared.tree.Form.TheVariants as form
 use Rattle.asm_argument.specs.Shapes.{signed, named, plain, is_operand, takes_names, takes_sums, takes_minus, takes_numbers, takes_text, takes_absent, fits, is_low, is_register, is_scale}
 
--- A number behind a sign, true for a minus. It may have a minus of its own.
+-- A number after a sign, true for a minus. It may have a minus of its own.
 pub data IsConstant : Bool → List Terminal → ℤ → Type 0 where
   bare : {negative : Bool} {n : ℕ} → IsConstant negative (terminal.Number n ∷ []) (signed negative n)
   minus : {negative : Bool} {n : ℕ} → is_low n ≡ true → IsConstant negative (terminal.Minus ∷ terminal.Number n ∷ []) (signed (not negative) n)

@@ -51,7 +51,7 @@ takes_absent _ = false
 abbrev pub is_alignment : ℕ → Bool
 is_alignment n = list_any (λ k. k == n) (1 ∷ 2 ∷ 4 ∷ 8 ∷ 16 ∷ 32 ∷ 64 ∷ 128 ∷ 256 ∷ 512 ∷ 1024 ∷ 2048 ∷ 4096 ∷ [])
 
--- whether a number, or one behind a minus, is of those that may stand there: no count is negative
+-- whether a number, or one after a minus, is of those that may stand there: no count is negative
 abbrev pub fits : Shape → Bool → ℕ → Bool
 fits shape.Count false n = true
 fits shape.Count true n = n == 0

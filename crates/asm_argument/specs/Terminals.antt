@@ -14,7 +14,7 @@ abbrev pub digits_value : ℕ → ℕ → List ℕ → ℕ
 digits_value base so_far [] = so_far
 digits_value base so_far (b ∷ bs) = digits_value base (so_far * base + digit_of b) bs
 
--- what a number behind its first byte says
+-- what a number after its first byte says
 abbrev pub tail_value : ℕ → List ℕ → ℕ
 tail_value first [] = digit_of first
 tail_value first (b ∷ bs) =

@@ -17,7 +17,7 @@ fn is_scale(n: u32) -> bool
     n == 1 || n == 2 || n == 4 || n == 8
 }
 
-/// A terminal behind an opening parenthesis.
+/// A terminal after an opening parenthesis.
 fn open_step(value: Option<Value>, terminal: Terminal) -> Result<Partial, SourceCause>
     ensures { result ≡ spec.address_step (partial.Open value) terminal }
 {
@@ -28,7 +28,7 @@ fn open_step(value: Option<Value>, terminal: Terminal) -> Result<Partial, Source
     }
 }
 
-/// A terminal behind the `%` of a base.
+/// A terminal after the `%` of a base.
 fn base_percent_step(value: Option<Value>, terminal: Terminal) -> Result<Partial, SourceCause>
     ensures { result ≡ spec.address_step (partial.BasePercent value) terminal }
 {
@@ -41,7 +41,7 @@ fn base_percent_step(value: Option<Value>, terminal: Terminal) -> Result<Partial
     }
 }
 
-/// A terminal behind a base.
+/// A terminal after a base.
 fn base_step(value: Option<Value>, base: Name, terminal: Terminal) -> Result<Partial, SourceCause>
     ensures { result ≡ spec.address_step (partial.Base value base) terminal }
 {
@@ -55,7 +55,7 @@ fn base_step(value: Option<Value>, base: Name, terminal: Terminal) -> Result<Par
     }
 }
 
-/// A terminal behind the comma of an index.
+/// A terminal after the comma of an index.
 fn index_comma_step(
     value: Option<Value>,
     base: Option<Name>,
@@ -69,7 +69,7 @@ fn index_comma_step(
     }
 }
 
-/// A terminal behind the `%` of an index.
+/// A terminal after the `%` of an index.
 fn index_percent_step(
     value: Option<Value>,
     base: Option<Name>,
@@ -93,7 +93,7 @@ fn index_percent_step(
     }
 }
 
-/// A terminal behind an index.
+/// A terminal after an index.
 fn index_step(
     value: Option<Value>,
     base: Option<Name>,
@@ -109,7 +109,7 @@ fn index_step(
     }
 }
 
-/// A terminal behind the comma of a scale.
+/// A terminal after the comma of a scale.
 fn scale_step(
     value: Option<Value>,
     base: Option<Name>,
@@ -135,7 +135,7 @@ fn scale_step(
     }
 }
 
-/// A terminal behind a scale.
+/// A terminal after a scale.
 fn scaled_step(
     value: Option<Value>,
     base: Option<Name>,

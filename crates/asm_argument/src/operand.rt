@@ -34,13 +34,13 @@ pub enum Partial {
         place: ValuePlace,
         name: Name,
     },
-    /// Behind a sign.
+    /// After a sign.
     Sign {
         place: ValuePlace,
         name: Name,
         negative: bool,
     },
-    /// Behind a sign and a minus.
+    /// After a sign and a minus.
     SignMinus {
         place: ValuePlace,
         name: Name,
@@ -69,7 +69,7 @@ pub enum Partial {
         base: Option<Name>,
         index: Name,
     },
-    /// Behind the comma of a scale.
+    /// After the comma of a scale.
     Scale {
         value: Option<Value>,
         base: Option<Name>,
@@ -223,14 +223,14 @@ fn first(shape: Shape, terminal: Terminal) -> Result<Partial, SourceCause>
     }
 }
 
-/// Whether a number may stand behind a minus.
+/// Whether a number may stand after a minus.
 fn is_low(n: u32) -> bool
     ensures { result ≡ shapes.is_low n }
 {
     n <= 2147483648
 }
 
-/// A number behind a minus.
+/// A number after a minus.
 fn lowered(n: u32, fits: bool, then: Partial) -> Result<Partial, SourceCause>
     ensures { result ≡ spec.lowered n fits then }
 {
@@ -254,7 +254,7 @@ pub fn registered(is: bool, then: Partial) -> Result<Partial, SourceCause>
     }
 }
 
-/// A terminal behind the `%` of an operand.
+/// A terminal after the `%` of an operand.
 fn percent_step(shape: Shape, terminal: Terminal) -> Result<Partial, SourceCause>
     ensures { result ≡ spec.next_terminal shape partial.Percent terminal }
 {
@@ -267,7 +267,7 @@ fn percent_step(shape: Shape, terminal: Terminal) -> Result<Partial, SourceCause
     }
 }
 
-/// A terminal behind a `$`.
+/// A terminal after a `$`.
 fn dollar_step(shape: Shape, terminal: Terminal) -> Result<Partial, SourceCause>
     ensures { result ≡ spec.next_terminal shape partial.Dollar terminal }
 {
@@ -285,7 +285,7 @@ fn dollar_step(shape: Shape, terminal: Terminal) -> Result<Partial, SourceCause>
     }
 }
 
-/// A terminal behind the minus of a number.
+/// A terminal after the minus of a number.
 fn minus_step(shape: Shape, place: ValuePlace, terminal: Terminal) -> Result<Partial, SourceCause>
     ensures { result ≡ spec.next_terminal shape (partial.Minus place) terminal }
 {
@@ -302,7 +302,7 @@ fn minus_step(shape: Shape, place: ValuePlace, terminal: Terminal) -> Result<Par
     }
 }
 
-/// A terminal behind a name.
+/// A terminal after a name.
 fn name_step(
     shape: Shape,
     place: ValuePlace,
@@ -333,7 +333,7 @@ fn name_step(
     }
 }
 
-/// A terminal behind a name and a sign.
+/// A terminal after a name and a sign.
 fn sign_step(
     shape: Shape,
     place: ValuePlace,
@@ -357,7 +357,7 @@ fn sign_step(
     }
 }
 
-/// A terminal behind a name, a sign and a minus.
+/// A terminal after a name, a sign and a minus.
 fn sign_minus_step(
     shape: Shape,
     place: ValuePlace,
@@ -380,7 +380,7 @@ fn sign_minus_step(
     }
 }
 
-/// A terminal behind a number.
+/// A terminal after a number.
 fn number_step(
     shape: Shape,
     place: ValuePlace,

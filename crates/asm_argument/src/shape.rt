@@ -52,7 +52,7 @@ impl Shape {
         }
     }
 
-    /// Whether a name may have a constant behind it.
+    /// Whether a name may have a constant after it.
     pub(crate) fn takes_sums(self) -> bool
         ensures { result ≡ shapes.takes_sums self }
     {
@@ -93,7 +93,7 @@ impl Shape {
         }
     }
 
-    /// Whether a number, or one behind a minus, is of those that may stand there.
+    /// Whether a number, or one after a minus, is of those that may stand there.
     pub(crate) fn fits(self, negative: bool, n: u32) -> bool
         ensures { result ≡ shapes.fits self negative n }
     {

@@ -30,7 +30,7 @@ pub enum Family {
     System(System),
 }
 
-/// A name that is known, and the suffix behind it.
+/// A name that is known, and the suffix after it.
 #[derive(Clone, Copy)]
 pub struct Mnemonic {
     pub family: Family,

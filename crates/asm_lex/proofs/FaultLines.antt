@@ -77,7 +77,7 @@ pub byte_leaves : (n : Next) (at line b : ℕ) (bs : List ℕ) → (let r : Toke
 byte_leaves (Goes n) at line b bs = refl
 byte_leaves (Stops l c) at line b bs = refl
 
--- what one byte and those behind it leave
+-- what one byte and those after it leave
 data Byte (m : Mode) (at line b : ℕ) : Type 0 where
   halts : (l : ℕ) (c : SourceCause) → l ≡ line → ((bs : List ℕ) → ends m at line (b ∷ bs) ≡ Stops l c) → Byte m at line b
   runs : (n : Mode) → (stepped m at line b).next ≡ Goes n → ((bs : List ℕ) → ends m at line (b ∷ bs) ≡ ends n (at + 1) (line_after line b) bs) → Byte m at line b

@@ -31,7 +31,7 @@ use Rattle.asm_lex.proofs.Found.{Closes, body_more, star_source, string_more, es
 abbrev Ends : Next → ℕ → SourceCause → Type 0
 Ends n l c = (n ≡ Stops l c) ⊎ ((n ≡ Goes (mode.Block l)) × (c ≡ cause.OpenComment))
 
--- the cause of a byte in a string, or behind a backslash in it
+-- the cause of a byte in a string, or after a backslash in it
 abbrev InText : Bool → ℕ → SourceCause → Type 0
 InText false next c = (((next == 10) ≡ true) × (c ≡ cause.OpenString)) ⊎ ((is_source next ≡ false) × (c ≡ cause.NotAscii))
 InText true next c = (((next == 10) ≡ true) × (c ≡ cause.OpenString)) ⊎ (((next == 10) ≡ false) × (is_escape next ≡ false) × (c ≡ cause.BadEscape))
@@ -39,7 +39,7 @@ InText true next c = (((next == 10) ≡ true) × (c ≡ cause.OpenString)) ⊎ (
 abbrev InString : Bool → List ℕ → ℕ → SourceCause → Type 0
 InString escaped piece next c = (last : Bool) × IsInString escaped piece last × InText last next c
 
--- bytes behind what is open, and the next one, which has this cause
+-- bytes after what is open, and the next one, which has this cause
 abbrev Breaks : Mode → List ℕ → ℕ → SourceCause → Type 0
 Breaks mode.Between piece next c = (piece ≡ []) × IsWrong [] next c
 Breaks mode.Slash [] next c = ((next == 42) ≡ false) × (c ≡ cause.BadCharacter)

@@ -73,7 +73,7 @@ same (b ∷ bs) m seen at line e h = from_next (stepped m at line b) (sound m at
         by_next (Goes n) is = joined s _ _ sd (rw is (ih n (subst (Starts (at + 1)) is sd.next)))
         by_next (Stops l c) is = joined s _ _ sd (rw is (record { tokens = refl; ending = refl }))
 
--- behind a newline nothing is open but a comment
+-- after a newline nothing is open but a comment
 abbrev pub IsClosed : Next → Type 0
 IsClosed (Goes mode.Between) = Unit {0}
 IsClosed (Goes (mode.Block l)) = Unit {0}

@@ -1,4 +1,4 @@
--- What a reader comes to that takes a source's tokens as its bytes close and end them.
+-- The result of a reader that takes a source's tokens as its bytes close and end them.
 use Rattle.std.specs.Prelude.{◌≡◌, ℕ, ◌+◌, ◌≤◌, List, [], ◌∷◌, ◌++◌, length, Option, Some, None, Result, Ok, Err}
 use Rattle.std.specs.Option.{option_to_list}
 use Rattle.std.specs.Global.{Vec}
@@ -16,7 +16,7 @@ abbrev pub Fits : List ℕ → Option Token → Type 0
 Fits seen None = Unit {0}
 Fits seen (Some t) = t.at + t.len ≤ length seen
 
--- what one byte comes to, by the reader, the bytes up to and including it, its line, and what it does
+-- the result of one byte, by the reader, the bytes up to and including it, its line, and what it does
 abbrev pub Takes : Type 0 → Type 1
 Takes R = R → List ℕ → ℕ → Stepped → Result (R × Mode) SourceFault → Type 0
 
@@ -29,7 +29,7 @@ ReadsTo {R} takes r m seen at line (b ∷ bs) result =
       | Err f ↦ result ≡ Err f
     ])
 
--- a list takes the tokens of a byte behind those that it has, unless memory runs out
+-- a list takes the tokens of a byte after those that it has, unless memory runs out
 abbrev pub Lists : Vec Token → Stepped → Result (Vec Token × Mode) SourceFault → Type 0
 Lists v s (Ok x) = (x.0.items ≡ v.items ++ (option_to_list s.first ++ option_to_list s.second)) × (s.next ≡ Goes x.1)
 Lists v s (Err (fault.At l c)) = s.next ≡ Stops l c

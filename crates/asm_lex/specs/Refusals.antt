@@ -7,18 +7,18 @@ use Rattle.asm_lex.specs.declared.fault.SourceCause.TheVariants as cause
 use Rattle.asm_lex.specs.Bytes.{class_of, is_source, is_word, is_escape}
 use Rattle.asm_lex.specs.Source.{is_inside_line, is_numeral}
 
--- bytes behind `/*`, or behind a star in a comment, in which no `*/` stands
+-- bytes after `/*`, or after a star in a comment, in which no `*/` stands
 abbrev pub is_unclosed : Bool → List ℕ → Bool
 is_unclosed star [] = true
 is_unclosed star (b ∷ bs) = (is_source b && not (star && (b == 47))) && is_unclosed (b == 42) bs
 
--- Bytes behind a string's first quote, or behind a backslash in it, that don't end it; and whether their last is such a backslash.
+-- Bytes after a string's first quote, or after a backslash in it, that don't end it; and whether their last is such a backslash.
 abbrev pub IsInString : Bool → List ℕ → Bool → Type 0
 IsInString escaped [] last = escaped ≡ last
 IsInString false (b ∷ bs) last = (is_inside_line b ≡ true) × ((b == 34) ≡ false) × IsInString (b == 92) bs last
 IsInString true (b ∷ bs) last = (is_escape b ≡ true) × IsInString false bs last
 
--- Behind these bytes, which begin a token or a comment, the next byte has this cause.
+-- After these bytes, which begin a token or a comment, the next byte has this cause.
 pub data IsWrong : List ℕ → ℕ → SourceCause → Type 0 where
   foreign : {next : ℕ} → class_of next ≡ class.Foreign → IsWrong [] next cause.NotAscii
   other : {next : ℕ} → class_of next ≡ class.Other → IsWrong [] next cause.BadCharacter

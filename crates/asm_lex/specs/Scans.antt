@@ -10,7 +10,7 @@ use Rattle.asm_lex.specs.Words.{Word, line_after}
 abbrev pub token_of : Word → Token
 token_of w = record { kind = w.kind; at = w.at; len = length w.bytes }
 
--- words, and what they leave open or the first fault behind them
+-- words, and what they leave open or the first fault after them
 pub record Scan : Type 0 where
   pub words : List Word
   pub ending : Next

@@ -24,7 +24,7 @@ pub enum SourceCause {
     /// A word that begins with a digit and is no number, a `'` that begins none, or a number out
     /// of range.
     BadNumber,
-    /// A `%` without a register behind it.
+    /// A `%` without a register after it.
     BadRegister,
     /// A token with which no statement can go on.
     BadOperand,

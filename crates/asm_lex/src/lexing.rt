@@ -40,7 +40,7 @@ pub fn push_both<T: Drop>(
     Ok(())
 }
 
-/// The line behind a byte.
+/// The line after a byte.
 #[tactic(auto, unfolding(crate::specs::Words::line_after))]
 pub fn line_after(line: u32, b: u8) -> u32
     requires { line < 4294967295 }

@@ -16,7 +16,7 @@ pub trait Reader: Sized {
     ghost use Rattle.asm_lex.specs.declared.machine.Mode.{Mode};
     ghost use Rattle.asm_lex.specs.declared.machine.Stepped.{Stepped};
 
-    /// What one byte comes to: with the bytes up to and including it, its line, and what it does.
+    /// The result of one byte: with the bytes up to and including it, its line, and what it does.
     ghost takes: { Self → List ℕ → ℕ → Stepped → Result (Self × Mode) SourceFault → Type 0 };
 
     /// Takes the tokens that a byte of this line closes or ends, and says what the byte leaves open. `seen` has the
@@ -28,7 +28,7 @@ pub trait Reader: Sized {
         ensures next { IfOk result (λ x. stepped.next ≡ Goes x.1) };
 }
 
-/// What a reader comes to over a source, and what is open at its end; or the first fault.
+/// The reader after a source, and what is open at its end; or the first fault.
 pub fn read_bytes<R: Reader>(reader: R, source: &[u8]) -> Result<(R, Mode), SourceFault>
     requires { length source.now < 4294967295 }
     ensures { ReadsTo R.takes reader Between [] 0 1 source.now result }

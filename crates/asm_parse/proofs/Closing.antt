@@ -1,4 +1,4 @@
--- A line behind which nothing is dead goes on: an open comment ends, and then the statement.
+-- A line after which nothing is dead goes on: an open comment ends, and then the statement.
 use Rattle.std.proofs.Common.{◌≡◌, ℕ, ◌+◌, Bool, true, false, cond, List, [], ◌∷◌, ◌++◌, length, None, Result, Ok, refl, ap, subst, ◌∙◌, append_assoc}
 use Rattle.std.proofs.lemmas.List.{length-append}
 use Rattle.std.specs.Prelude.{◌==◌, nat_lt, ◌^◌}
@@ -129,7 +129,7 @@ closes sc st (mode.Quote a) seen at line k = absurd k
 closes sc st (mode.Text a) seen at line k = absurd k
 closes sc st (mode.Escape a) seen at line k = absurd k
 
--- behind a comment, or none
+-- after a comment, or none
 between_goes_on : (p : List ℕ) (t : Running) → run start p ≡ Ok t → t.mode ≡ mode.Between → doom t.scope t.state ≡ None → (more : List ℕ) × IsRead (p ++ more)
 between_goes_on p t h between alive =
     let l = link p start t h in

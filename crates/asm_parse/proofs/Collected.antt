@@ -147,7 +147,7 @@ plain_more sc0 sc st p ps w z inside no_name b h = elim (word_goes sc st w z h) 
     both : {t : Bool} → t ≡ true → t ≡ false → ⊥
     both e f = absurd cc
 
--- a terminal behind a section's name
+-- a terminal after a section's name
 name_terminal : (sc0 sc : ScopeView) (b : ℕ) (n m : List ℕ) (e : ℕ) (p : Word) (ps : List Word) (w : Word) (y : ScopeView × StatementState) → sc0 ≡ sc → InName sc0 (p ∷ ps) b n m e → (s : Terminal) → terminal_of w.kind w.bytes ≡ s
     → next_step sc (state.Sectioned b n m e) w.line s ≡ Ok y → HeldBy sc0 (ending_at (w.at + length w.bytes) y.1) p (ps ++ w ∷ []) y.0
 name_terminal sc0 sc b n m e p ps w y same g terminal.End is h =
@@ -179,7 +179,7 @@ flags_stay sc0 sc b n m p ps w y same g s is inside k =
     λ rest ss end inner. subst (λ (x : List Word). IsStatement sc0 (p ∷ x) (sectioned sc0 b n m)) (sym (append_assoc ps (w ∷ []) rest)) (g (w ∷ rest) (s ∷ ss) (rw (is, end) refl) (rw inside inner)) in
     subst (λ (z : ScopeView × StatementState). HeldBy sc0 (ending_at (w.at + length w.bytes) z.1) p (ps ++ w ∷ []) z.0) k (same, st)
 
--- a terminal behind a section's name and a comma
+-- a terminal after a section's name and a comma
 flags_terminal : (sc0 sc : ScopeView) (b : ℕ) (n m : List ℕ) (p : Word) (ps : List Word) (w : Word) (y : ScopeView × StatementState) → sc0 ≡ sc → InFlags sc0 (p ∷ ps) b n m → (s : Terminal) → terminal_of w.kind w.bytes ≡ s
     → next_step sc (state.Flags b n m) w.line s ≡ Ok y → HeldBy sc0 (ending_at (w.at + length w.bytes) y.1) p (ps ++ w ∷ []) y.0
 flags_terminal sc0 sc b n m p ps w y same g terminal.End is h =

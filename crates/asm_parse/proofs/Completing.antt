@@ -325,7 +325,7 @@ definable sc g spent = by_room (nat_lt (length sc.names) 65536) refl
           absurd (omega (arith, le, few (nat_lt (length sc.defined) 65536) refl spent, ltb-false (length sc.names) 65536 e))
     ]
 
--- ---- behind a name
+-- ---- after a name
 
 text_known : is_section text_section ≡ true
 unfolding is_known

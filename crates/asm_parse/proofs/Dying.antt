@@ -191,7 +191,7 @@ dead_line text line c h other more (t, g) = at_line line (dies text start (line,
     at_line zero w g = absurd (omega (arith, w.not_before))
     at_line (suc n) w g = w.dead n (omega arith) more t g
 
--- Each line before the fault's goes on, and nothing is open behind it but a comment and a statement.
+-- Each line before the fault's goes on, and nothing is open after it but a comment and a statement.
 pub alive_line : (text : List ℕ) (f : Fault) → read text ≡ Err f → (f.1 ≡ OpenComment → ⊥) → (n : ℕ) → n < f.0
     → (s : Running) × (run start (first_lines n text) ≡ Ok s) × (doom s.scope s.state ≡ None) × IsClosed (Goes s.mode)
 unfolding read

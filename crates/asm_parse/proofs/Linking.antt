@@ -18,7 +18,7 @@ use Rattle.asm_statement.specs.Running.{Running, closed, goes_on, second_does, b
 use Rattle.asm_parse.proofs.Words.{read_words}
 use Rattle.asm_parse.proofs.Lines.{bind_ok, run_ok}
 
--- a token that may be there, and the words behind it
+-- a token that may be there, and the words after it
 token_read : (sc : ScopeView) (st : StatementState) (seen : List ℕ) (line : ℕ) (t : Option Token) (s : Scan) (y : ScopeView × StatementState) → fed sc st seen line t ≡ Ok y
     → read_words sc st (with_token seen line t s).words ≡ read_words y.0 y.1 s.words
 token_read sc st seen line None s y h = let e : (sc, st) ≡ y = cc in ap (λ (z : ScopeView × StatementState). read_words z.0 z.1 s.words) e

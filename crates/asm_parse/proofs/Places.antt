@@ -47,7 +47,7 @@ use Rattle.asm_parse.proofs.Completing.{finish}
 use Rattle.asm_parse.proofs.Written.{terminals_of}
 use Rattle.asm_parse.proofs.Quiet.{Answer}
 
--- ---- behind a name
+-- ---- after a name
 
 scope_fails : (sc : ScopeView) (r : Result StatementState SourceCause) (c : SourceCause) → ◌≡◌ {A = Answer} (with_scope sc r) (Err c) → r ≡ Err c
 scope_fails sc (Ok st) c h = absurd cc

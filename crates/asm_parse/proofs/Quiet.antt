@@ -77,7 +77,7 @@ named_stops sc b line n terminal.Percent x sk dotted dir taken h =
     err_ok (strayed (fault_line sc (state.Named b n) line) (other_behind sc b n terminal.Percent)) (ap (strayed (fault_line sc (state.Named b n) line)) (unknown_behind sc b n terminal.Percent sk dotted dir)) h
 named_stops sc b line n s x sk dotted dir taken h = err_ok (other_behind sc b n s) (unknown_behind sc b n s sk dotted dir) h
 
--- What is dead stays so: behind a `%` what was said is of no more use.
+-- What is dead stays so: after a `%` what was said is of no more use.
 abbrev pub Dead : ℕ → ScopeView × StatementState → Type 0
 Dead l x = (c : SourceCause) × (x ≡ (fresh, state.Stray l c))
 

@@ -116,7 +116,7 @@ module _ (sc0 sc : ScopeView) (w : Word) (z : ScopeView × StatementState) where
   inner_or terminal.End = inl refl
   inner_or s = inr refl
 
-  -- an end leads behind the statement
+  -- an end leads after the statement
   name_ended : (line a : ℕ) (k l : List ℕ) (x b : ℕ) (n m : List ℕ) (y : ScopeView × StatementState) → next_step sc (state.Sectioned a k l x) line terminal.End ≡ Ok y → y.1 ≡ state.Flags b n m → ⊥
   name_ended line a k l x b n m y h e = let g : (sectioned sc a k l, state.Start) ≡ y = cc in let f : state.Start ≡ state.Flags b n m = ap (λ (v : ScopeView × StatementState). v.1) g ∙ e in absurd cc
 

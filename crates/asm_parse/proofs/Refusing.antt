@@ -150,7 +150,7 @@ operand_name _ m n q never h e = absurd cc
 
 -- ---- an argument of a directive
 
--- the cause behind what has been read of it, by how that ends
+-- the cause after what has been read of it, by how that ends
 abbrev pub value_by : Bool → Bool → Terminal → SourceCause
 value_by minus sign terminal.Big = cause.BadNumber
 value_by minus sign (terminal.Number n) = cond minus (cond (is_low n) cause.BadArgument cause.BadNumber) cause.BadOperand

@@ -126,7 +126,7 @@ inners_prefix (s ∷ ss) ys sc st y h = by_step (inner sc st s) h (λ z k. inner
     by_step (Ok z) k ih = ih z k
     by_step (Err c) k ih = absurd cc
 
--- behind whole arguments: nothing has been read of the next one
+-- after whole arguments: nothing has been read of the next one
 record Fresh (line : ℕ) (h : Head) (done : List Argument) (sc : ScopeView) (x : Pair) : Type 0 where
   so_far : Partial
   is : x ≡ (sc, state.Arguments (open_at line h done false so_far))
@@ -306,7 +306,7 @@ module _ (sc0 : ScopeView) (line : ℕ) (h : Head) (lead front : List Terminal) 
       unnamed (inl e) = ap named_in e
       unnamed (inr (sh, may, e)) = ap named_in e ∙ begun_unnamed sh
 
-  -- an argument of this shape, a star behind which is read already or stands first
+  -- an argument of this shape, a star after which is read already or stands first
   shaped : (sh : Shape) → shape_at h (length done) ≡ Some sh → (ss later : List Terminal) (a : Argument) (p : Partial) (fin : Pair) → p ≡ begun sh → (xs : List Terminal) → xs ≡ ss ++ later → IsArgument sh xs a
       → inners behind (state.Arguments (open_at line h done false p)) ss ≡ Ok fin → Reached sc0 line h done behind ss fin
   shaped sh may ss later a p fin is xs e (IsArgument.plain {f} form) k =
@@ -344,7 +344,7 @@ module _ (sc0 : ScopeView) (line : ℕ) (h : Head) (lead front : List Terminal) 
       }
   opened o arg may (Opens.some {sh} later a is) p begins either fin k = shaped sh may arg later a p fin (begins sh may) (arg ++ later) refl is k
 
-  -- What has been read behind the lead suits the place.
+  -- What has been read after the lead suits the place.
   pub arguments_reached : (arg : List Terminal) → Opens (shape_at h (length done)) arg → (fin : Pair) → inners sc0 (state.Arguments (nothing_yet line h)) (front ++ arg) ≡ Ok fin → Suits sc0 (StatementPlace.argument h done behind arg) fin.0 fin.1
   arguments_reached arg opens fin k =
       let two = inners_prefix front arg sc0 (state.Arguments (nothing_yet line h)) fin k in

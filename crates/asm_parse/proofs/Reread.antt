@@ -118,7 +118,7 @@ skip_stays (w ∷ ws) sc fin inside h alive =
     let next : o.next ≡ (sc, state.Skip) = sym (same_pair (sc, skip (terminal_of w.kind w.bytes)) o.next o.goes) ∙ ap (λ (x : StatementState). (sc, x)) (skip_inner (terminal_of w.kind w.bytes) p.0) in
     skip_stays ws sc fin p.1 (sym (ap (λ (x : Pair). read_words x.0 (ending_at (w.at + length w.bytes) x.1) ws) next) ∙ o.rest) alive
 
--- ---- behind a section's name
+-- ---- after a section's name
 
 flags_go : (sc : ScopeView) (b : ℕ) (n m : List ℕ) (line : ℕ) (s : Terminal) (y : Pair) → is_inner s ≡ true → step sc (state.Flags b n m) line s ≡ Ok y → y ≡ (sc, state.Flags b n m)
 flags_go sc b n m line terminal.End y inside h = absurd cc

@@ -307,7 +307,7 @@ fresh_arguments sc0 line lead h leads ends = record {
   whole = sym (append-nil lead);
 }
 
--- ---- behind a name
+-- ---- after a name
 
 -- the rest isn't read
 skip_begun : (sc : ScopeView) (line : ℕ) (n : List ℕ) (s : Terminal) (y : ScopeView × StatementState) → ((ss : List Terminal) → is_unlabelled ss ≡ true → list_all is_inner ss ≡ true → Statement sc line (terminal.Name n ∷ (ss ++ terminal.End ∷ [])) sc)

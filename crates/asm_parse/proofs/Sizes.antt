@@ -140,7 +140,7 @@ pub record StatementPays (sc sc2 : ScopeView) (ss : List Terminal) : Type 0 wher
   pub size : items_size sc2.items + 1 ≤ items_size sc.items + costs ss
   pub count : items_count sc2.items + 1 ≤ items_count sc.items + length ss
 
--- an item behind those of a scope that has the same
+-- an item after those of a scope that has the same
 pushed_pays : (sc sc1 sc2 : ScopeView) (x : SourceItem) (ss : List Terminal) → sc1.items ≡ sc.items → sc2.items ≡ sc1.items ++ x ∷ [] → body_size x.body + 1 ≤ costs ss → body_count x.body + 1 ≤ length ss → StatementPays sc sc2 ss
 pushed_pays sc sc1 sc2 x ss same new size count =
     let e : sc2.items ≡ sc.items ++ x ∷ [] = new ∙ ap (λ (xs : List SourceItem). xs ++ x ∷ []) same in

@@ -62,7 +62,7 @@ inner_step sc (state.Flags b n m) line s y h = h
 inner_step sc (state.Arguments o) line s y h = h
 inner_step sc (state.Stray l c) line s y h = absurd cc
 
--- what goes on goes on behind a `%` too
+-- what goes on goes on after a `%` too
 pub step_next : (sc : ScopeView) (st : StatementState) (line : ℕ) (s : Terminal) (y : ScopeView × StatementState) → step sc st line s ≡ Ok y → next_step sc st line s ≡ Ok y
 step_next sc st line terminal.Percent y h = ap (strayed (fault_line sc st line)) h
 step_next sc st line _ y h = h

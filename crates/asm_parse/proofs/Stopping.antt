@@ -272,7 +272,7 @@ module _ (sc0 : ScopeView) (line : ℕ) (o : Open) (ss : List Terminal) (sc : Sc
       by_step (Err d) e k = value_step sh s d c i may cut e k (is_unbegun o.so_far) refl
       by_step (Ok q) e k = value_said sh s q c i may (operand_next sh o.so_far s q e) k (is_unbegun o.so_far) refl
 
-  -- a comma or an end behind a whole argument, or where none has been read
+  -- a comma or an end after a whole argument, or where none has been read
   whole_read : (s : Terminal) → is_cut s ≡ true → is_finished o.so_far ≡ true → value_cause o.head o.arguments w.behind w.arg s ≡ cause.BadArgument
   whole_read s cut fin = elim w.spelled [
     | inl (e, f) ↦ let g : is_finished partial.Nothing ≡ true = sym (ap is_finished e) ∙ fin in absurd cc

@@ -1,4 +1,4 @@
--- Whatever place words lead to, what is refused behind them has the cause of that place.
+-- Whatever place words lead to, what is refused after them has the cause of that place.
 use Rattle.std.proofs.Common.{◌≡◌, ℕ, ◌+◌, true, false, List, [], ◌∷◌, ◌++◌, length, Some, None, Ok, Err, refl, sym, ap, subst, ◌∙◌}
 use Rattle.std.specs.List.{list_all}
 use Rattle.asm_lex.specs.Words.{Word}
@@ -68,7 +68,7 @@ not_colon : (sc : ScopeView) (b line : ℕ) (n : List ℕ) (s : Terminal) (ss : 
 not_colon sc b line n terminal.Colon ss never = absurd (never tt)
 not_colon sc b line n s ss never = refl
 
--- behind a name that leads to arguments
+-- after a name that leads to arguments
 behind_name : (w : Word) (ws : List Word) (sc : ScopeView) (n : List ℕ) (h : Head) (body : List Terminal) (fin : Pair) → terminal_of w.kind w.bytes ≡ terminal.Name n → terminals ws ≡ body → (body ≡ [] → ⊥) → list_all is_inner body ≡ true → (IsColon body → ⊥)
     → ((s : Terminal) → other_behind sc w.line n s ≡ argument_step sc (nothing_yet w.line h) s) → read_words sc state.Start (w ∷ ws) ≡ Ok fin → doom fin.0 fin.1 ≡ None → inners sc (state.Arguments (nothing_yet w.line h)) body ≡ Ok fin
 behind_name w [] sc n h body fin name rest some inside never goes k alive = absurd (some (sym rest))
@@ -124,7 +124,7 @@ stands_suits {sc} (LeadsTo.skipped {line} {ss} may) ps fin e k alive =
     suits_at sc StatementPlace.skipped (sc, state.Skip) fin (sym last) (skip_suits sc sc)
 stands_suits {sc} (LeadsTo.argument {h} {sc2} {done} s t ss lead front arg whole leads sep opens) ps fin e k alive = at_argument ps sc s t ss lead front arg fin e whole leads sep opens k alive
 
--- What the reader refuses behind these words has the cause of each place to which they lead.
+-- What the reader refuses after these words has the cause of each place to which they lead.
 pub reaches_suits : (ws : List Word) (sc0 : ScopeView) (p : StatementPlace) (fin : Pair) → Reaches ws sc0 p → read_words fresh state.Start ws ≡ Ok fin → doom fin.0 fin.1 ≡ None → Suits sc0 p fin.0 fin.1
 reaches_suits ws sc0 p fin r k alive =
     stands_suits r.stands r.begun fin refl

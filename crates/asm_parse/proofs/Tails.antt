@@ -117,7 +117,7 @@ address_ends (IsAddress.scaled r t) = record { first = _; rest = _; whole = refl
 address_ends (IsAddress.base_index r t) = record { first = _; rest = _; whole = refl; tail = record { percent_is = refl; index_is = refl; minus_is = refl; sign_is = refl; free_is = refl } }
 address_ends (IsAddress.base_scaled r t u) = record { first = _; rest = _; whole = refl; tail = record { percent_is = refl; index_is = refl; minus_is = refl; sign_is = refl; free_is = refl } }
 
--- the same behind what is clear
+-- the same after what is clear
 ends_longer : (f ss : List Terminal) (a b c d e : Bool) → Clear f → Ends ss a b c d e → Ends (f ++ ss) a b c d e
 ends_longer [] ss a b c d e k n = n
 ends_longer (x ∷ f) ss a b c d e k n = record { first = x; rest = f ++ ss; whole = refl; tail = after (x ∷ f) ss a b c d e k n }

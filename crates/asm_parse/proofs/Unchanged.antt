@@ -98,7 +98,7 @@ two_colons n Passed.label e = absurd cc
 two_colons n (Passed.named ss go u h) e = let f : ss ++ terminal.End ∷ [] ≡ terminal.Colon ∷ terminal.Colon ∷ terminal.End ∷ [] = cc in colon_first ss (terminal.Colon ∷ terminal.End ∷ []) u f
 two_colons n (Passed.nameless {s} ss sk k h) e = let f : s ≡ terminal.Name n = cc in name_not s n k f
 
--- behind a name: what may follow, none of it a colon first
+-- after a name: what may follow, none of it a colon first
 record Behind (sc : ScopeView) (n : List ℕ) (ss : List Terminal) : Type 0 where
   goes : (line : ℕ) (s : Terminal) → other_behind sc line n s ≡ Ok (sc, skip s)
   unlabelled : is_unlabelled ss ≡ true

@@ -89,7 +89,7 @@ word_fails sc st w c h = by_test (is_longer st w.at w.kind w.bytes) h
     by_test true h = absurd cc
     by_test false h = by_result (next_step sc st w.line (terminal_of w.kind w.bytes)) h
 
--- behind a `%` that may not stand there
+-- after a `%` that may not stand there
 pub stray_fault : (sc : ScopeView) (l : ℕ) (c : SourceCause) (ws : List Word) (e : Ending) (f : Fault) → is_place c ≡ true → fault_in sc (state.Stray l c) ws e ≡ Some f → f ≡ (l, percent_cause c (terminals ws))
 stray_fault sc l c [] e f is h = by_end e h
   where
@@ -178,7 +178,7 @@ placed_in line ws e r = elim (placed line r) [ Ok y ↦ fault_in y.0 y.1 ws e | 
 named_start : (b : ℕ) (n : List ℕ) → state.Named b n ≡ state.Start → ⊥
 named_start b n e = absurd cc
 
--- behind a name with which no statement begins
+-- after a name with which no statement begins
 pub name_fault : (sc : ScopeView) (b : ℕ) (n : List ℕ) (ws : List Word) (e : Ending) (f : Fault) → GoodIn Any sc → doom sc (state.Named b n) ≡ Some b → fault_in sc (state.Named b n) ws e ≡ Some f → f ≡ (b, first_name_cause sc n (terminals ws))
 name_fault sc b n [] Ending.whole f good d h = absurd cc
 name_fault sc b n [] (Ending.broken l c) f good d h =

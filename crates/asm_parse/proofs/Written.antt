@@ -1,4 +1,4 @@
--- Tokens with a blank behind each, and the words that they are.
+-- Tokens with a blank after each, and the words that they are.
 use Rattle.std.proofs.Common.{◌≡◌, ℕ, ◌+◌, true, List, [], ◌∷◌, ◌++◌, length, refl, ap}
 use Rattle.std.specs.List.{list_all}
 use Rattle.asm_lex.specs.declared.bytes.Class.TheVariants as class

@@ -30,7 +30,7 @@ use Rattle.asm_argument.specs.Terminals.{terminal_of}
 
 -- ---- the words of a text, of which the last may be followed by what is no token
 
--- Behind the words comes the text's end, a byte with which no token goes on, with its line and cause, or a comment that began in this line and doesn't end.
+-- After the words comes the text's end, a byte with which no token goes on, with its line and cause, or a comment that began in this line and doesn't end.
 pub data Ending : Type 0 where
   whole : Ending
   broken : ℕ → SourceCause → Ending
@@ -69,8 +69,8 @@ pub data Opens : Option Shape → List Terminal → Type 0 where
   nothing : {o : Option Shape} → Opens o []
   some : {sh : Shape} {ss : List Terminal} (more : List Terminal) (a : Argument) → IsArgument sh (ss ++ more) a → Opens (Some sh) ss
 
--- At the statement's beginning; behind its first name; behind the name of a section; where any token may stand up to the statement's end;
--- or behind these terminals of an argument, these whole arguments in front of it, and what is said then.
+-- At the statement's beginning; after its first name; after the name of a section; where any token may stand up to the statement's end;
+-- or after these terminals of an argument, these whole arguments in front of it, and what is said then.
 pub data StatementPlace : Type 0 where
   first : StatementPlace
   named : List ℕ → StatementPlace
@@ -117,7 +117,7 @@ is_sign (Some terminal.Minus) = true
 is_sign (Some terminal.Plus) = true
 is_sign _ = false
 
--- where an operand's terminal may stand: first, or behind `$` or `*`
+-- where an operand's terminal may stand: first, or after `$` or `*`
 abbrev pub is_for_terminal : Option Terminal → Bool
 is_for_terminal None = true
 is_for_terminal (Some terminal.Dollar) = true
@@ -167,13 +167,13 @@ value_cause h done sc (t ∷ ts) terminal.Comma = if is_sign (last_of (t ∷ ts)
 value_cause h done sc (t ∷ ts) terminal.End = if is_sign (last_of (t ∷ ts)) then cause.BadOperand else cause.BadArgument
 value_cause h done sc (t ∷ ts) s = cause.BadOperand
 
--- behind the name of a directive
+-- after the name of a directive
 abbrev pub directive_cause : Option Directive → ScopeView → List ℕ → Terminal → SourceCause
 directive_cause None sc n s = cause.UnknownDirective
 directive_cause (Some kind.Section) sc n s = misplaced s
 directive_cause (Some k) sc n s = value_cause (head.Directive k n) [] sc [] s
 
--- behind the first name of a statement
+-- after the first name of a statement
 abbrev pub named_cause : ScopeView → List ℕ → Terminal → SourceCause
 named_cause sc n terminal.Colon = name_cause sc true n
 named_cause sc n s =
@@ -187,7 +187,7 @@ cause_at sc (StatementPlace.named n) s = named_cause sc n s
 cause_at sc (StatementPlace.argument h done sc2 arg) s = if is_instruction h then operand_cause arg s else value_cause h done sc2 arg s
 cause_at sc _ s = other_cause s
 
--- Where a `%` may not stand its own cause comes first: no register stands behind it.
+-- Where a `%` may not stand its own cause comes first: no register stands after it.
 abbrev pub percent_cause : SourceCause → List Terminal → SourceCause
 percent_cause cause.BadOperand (terminal.Name n ∷ rest) = if is_register n then cause.BadOperand else cause.BadRegister
 percent_cause cause.BadArgument (terminal.Name n ∷ rest) = if is_register n then cause.BadArgument else cause.BadRegister
@@ -199,14 +199,14 @@ abbrev pub behind_cause : ScopeView → StatementPlace → Terminal → List Ter
 behind_cause sc p terminal.Percent rest = percent_cause (cause_at sc p terminal.Percent) rest
 behind_cause sc p s rest = cause_at sc p s
 
--- The cause of a word in this place that is refused, with these terminals behind it. A name with which no statement begins is by the
--- terminal behind it no label or no directive.
+-- The cause of a word in this place that is refused, with these terminals after it. A name with which no statement begins is by the
+-- terminal after it no label or no directive.
 abbrev pub refused_cause : ScopeView → StatementPlace → Terminal → List Terminal → SourceCause
 refused_cause sc StatementPlace.first (terminal.Name n) [] = if is_none (directive_of n) then cause.UnknownDirective else cause.TooManySymbols
 refused_cause sc StatementPlace.first (terminal.Name n) (s ∷ rest) = behind_cause sc (StatementPlace.named n) s rest
 refused_cause sc p s rest = behind_cause sc p s rest
 
--- Where a byte can't go on with any token, what stands before may have an earlier cause: no register behind a `%`, or an unknown directive.
+-- Where a byte can't go on with any token, what stands before may have an earlier cause: no register after a `%`, or an unknown directive.
 abbrev pub byte_cause : ScopeView → StatementPlace → SourceCause → SourceCause
 byte_cause sc (StatementPlace.named n) c = if is_dotted n && not sc.skipping && is_none (directive_of n) then cause.UnknownDirective else c
 byte_cause sc (StatementPlace.argument h done sc2 arg) c = if is_percent (last_of arg) then cause.BadRegister else c

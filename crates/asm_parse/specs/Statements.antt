@@ -47,7 +47,7 @@ pub record IsNext (h : Head) (sc : ScopeView) (before : List Argument) (ss : Lis
   pub is : IsArgument shape ss a
   pub sees : Sees sc (defines h (length before)) (symbol_in a.form) sc2
 
--- arguments with a comma behind each
+-- arguments with a comma after each
 pub data Separated (h : Head) (sc : ScopeView) : List Terminal → List Argument → ScopeView → Type 0 where
   none : Separated h sc [] [] sc
   more : {ss ts : List Terminal} {before : List Argument} {a : Argument} {sc1 sc2 : ScopeView} → Separated h sc ss before sc1 → IsNext h sc1 before ts a sc2
@@ -65,7 +65,7 @@ abbrev pub is_inner : Terminal → Bool
 is_inner terminal.End = false
 is_inner _ = true
 
--- what a skipped statement may go on with behind its name: no colon first, which would make it a label
+-- what a skipped statement may go on with after its name: no colon first, which would make it a label
 abbrev pub is_unlabelled : List Terminal → Bool
 is_unlabelled (terminal.Colon ∷ ss) = false
 is_unlabelled _ = true

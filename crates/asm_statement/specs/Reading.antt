@@ -22,7 +22,7 @@ abbrev pub is_longer : StatementState → ℕ → TokenKind → List ℕ → Boo
 is_longer (state.Sectioned b n m e) at k bytes = (e == at) && is_part k bytes
 is_longer st at k bytes = false
 
--- the name with these bytes behind it, which end at this place
+-- the name with these bytes after it, which end at this place
 abbrev pub longer : StatementState → ℕ → List ℕ → StatementState
 longer (state.Sectioned b n m e) end bytes = state.Sectioned b n (m ++ bytes) end
 longer st end bytes = st

@@ -16,6 +16,6 @@ Comes (Ok x) r = r ≡ Ok (x.0.scope, x.0.state, x.1)
 Comes (Err (fault.At l c)) r = r ≡ Err (l, c)
 Comes (Err fault.Memory) r = Unit {0}
 
--- what the tokens of a byte come to
+-- the result of the tokens of a byte
 abbrev pub Reads : Reading → List ℕ → ℕ → Stepped → Result (Reading × Mode) SourceFault → Type 0
 Reads r seen line s x = Comes x (byte_does r.scope r.state seen line s)

@@ -115,12 +115,12 @@ Makes (Err step_fault.Memory) r = Unit {0}
 abbrev pub nothing_yet : ℕ → Head → Open
 nothing_yet line h = record { line = line; head = h; arguments = []; star = false; so_far = partial.Nothing }
 
--- an argument of this shape behind these
+-- an argument of this shape after these
 abbrev pub argument_of : ℕ → Head → List Argument → Option Shape → Result StatementState SourceCause
 argument_of line h done None = Err cause.BadArgument
 argument_of line h done (Some sh) = Ok (state.Arguments (record { line = line; head = h; arguments = done; star = false; so_far = begun sh }))
 
--- a comma behind a whole argument
+-- a comma after a whole argument
 abbrev pub next_argument : ℕ → Head → List Argument → Argument → Result StatementState SourceCause
 next_argument line h done last = argument_of line h (done ++ last ∷ []) (shape_at h (length (done ++ last ∷ [])))
 
@@ -170,13 +170,13 @@ labelled line n (Err c) = Err c
 abbrev pub label : ScopeView → ℕ → List ℕ → Result (ScopeView × StatementState) SourceCause
 label sc line n = labelled line n (noting sc true n)
 
--- a terminal behind `rep`
+-- a terminal after `rep`
 abbrev pub rep_step : ScopeView → ℕ → Terminal → Result (ScopeView × StatementState) SourceCause
 rep_step sc line (terminal.Name m) = Ok (sc, state.Arguments (nothing_yet line (head.Instruction true m)))
 rep_step sc line terminal.Big = Err cause.BadNumber
 rep_step sc line _ = Err cause.BadOperand
 
--- a terminal behind an instruction's name
+-- a terminal after an instruction's name
 abbrev pub instruction_step : ScopeView → ℕ → List ℕ → Terminal → Result (ScopeView × StatementState) SourceCause
 instruction_step sc line n s = if is_rep n then rep_step sc line s else argument_step sc (nothing_yet line (head.Instruction false n)) s
 
@@ -190,7 +190,7 @@ of_directive (Some directive.Skipped) sc line n s = Ok (sc, skip s)
 of_directive (Some directive.Section) sc line n s = with_scope sc (section_name line n s)
 of_directive (Some k) sc line n s = argument_step sc (nothing_yet line (head.Directive k n)) s
 
--- a terminal behind a directive's name
+-- a terminal after a directive's name
 abbrev pub directive_step : ScopeView → ℕ → List ℕ → Terminal → Result (ScopeView × StatementState) SourceCause
 directive_step sc line n s = of_directive (directive_of n) sc line n s
 
@@ -207,11 +207,11 @@ start_step sc line (terminal.Name n) = Ok (state.Named line n)
 start_step sc line terminal.Big = unless_skipping sc.skipping cause.BadNumber
 start_step sc line _ = unless_skipping sc.skipping cause.BadOperand
 
--- a colon behind a name
+-- a colon after a name
 abbrev pub colon_behind : ScopeView → ℕ → List ℕ → Result (ScopeView × StatementState) SourceCause
 colon_behind sc begun n = if sc.skipping then Ok (sc, state.Start) else label sc begun n
 
--- another terminal behind a name
+-- another terminal after a name
 abbrev pub other_behind : ScopeView → ℕ → List ℕ → Terminal → Result (ScopeView × StatementState) SourceCause
 other_behind sc begun n s =
     if is_passed sc n then Ok (sc, skip s)
@@ -222,19 +222,19 @@ abbrev pub named_step : ScopeView → ℕ → List ℕ → Terminal → Result (
 named_step sc begun n terminal.Colon = colon_behind sc begun n
 named_step sc begun n s = other_behind sc begun n s
 
--- a terminal behind a section's name
+-- a terminal after a section's name
 abbrev pub sectioned_step : ScopeView → ℕ → List ℕ → List ℕ → Terminal → Result (ScopeView × StatementState) SourceCause
 sectioned_step sc begun n m terminal.End = section sc begun n m
 sectioned_step sc begun n m terminal.Comma = Ok (sc, state.Flags begun n m)
 sectioned_step sc begun n m terminal.Big = Err cause.BadNumber
 sectioned_step sc begun n m _ = Err cause.BadOperand
 
--- a terminal behind a section's name and a comma
+-- a terminal after a section's name and a comma
 abbrev pub flags_step : ScopeView → ℕ → List ℕ → List ℕ → Terminal → Result (ScopeView × StatementState) SourceCause
 flags_step sc begun n m terminal.End = section sc begun n m
 flags_step sc begun n m _ = Ok (sc, state.Flags begun n m)
 
--- what stands behind a `%` that may not stand there: a register, or the `%` has that cause of its own
+-- what stands after a `%` that may not stand there: a register, or the `%` has that cause of its own
 abbrev pub stray_cause : SourceCause → Terminal → SourceCause
 stray_cause c (terminal.Name n) = if is_register n then c else cause.BadRegister
 stray_cause c _ = cause.BadRegister

@@ -175,7 +175,7 @@ fn ended(begun: Open) -> Option<(u32, Head, Arguments, Argument)>
     }
 }
 
-/// A comma behind a whole argument.
+/// A comma after a whole argument.
 fn next_argument(
     line: u32,
     head: Head,
@@ -234,7 +234,7 @@ fn complete(
     }
 }
 
-/// The end of a directive or an instruction behind a last argument.
+/// The end of a directive or an instruction after a last argument.
 fn complete_with(
     scope: &mut Scope,
     line: u32,
@@ -263,7 +263,7 @@ fn takes_star(begun: &Open) -> bool
     is_nothing(&begun.so_far) && !begun.star && is_instruction(&begun.head)
 }
 
-/// A comma behind what has been read.
+/// A comma after what has been read.
 fn comma_step(alloc: Global, scope: &mut Scope, begun: Open) -> Result<StatementState, StepFault>
     ensures { spec.Does scope.new result (spec.argument_step scope.old begun terminal.Comma) }
 {

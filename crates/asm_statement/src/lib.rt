@@ -1,4 +1,4 @@
-//! The statements of an assembler's source, one token at a time, and what a text comes to that is read from left to
+//! The statements of an assembler's source, one token at a time, and the result of a text that is read from left to
 //! right.
 #![tactic(auto)]
 

@@ -99,7 +99,7 @@ fn longer(state: StatementState, end: usize, bytes: &[u8]) -> Result<StatementSt
     }
 }
 
-/// The place behind the first token of a section's name.
+/// The place after the first token of a section's name.
 fn ending_at(end: usize, state: StatementState) -> StatementState
     ensures { result ≡ spec.ending_at end state }
 {
@@ -189,7 +189,7 @@ fn feed(
     }
 }
 
-/// The token that ends with a byte, and what comes behind it.
+/// The token that ends with a byte, and what comes after it.
 fn second_token(
     alloc: Global,
     scope: &mut Scope,

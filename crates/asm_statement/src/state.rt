@@ -31,21 +31,21 @@ pub enum StatementState {
     },
     /// The rest of the statement isn't read.
     Skip,
-    /// A change to a named section: the directive, the section's name so far, and the place behind it.
+    /// A change to a named section: the directive, the section's name so far, and the place after it.
     Sectioned {
         line: u32,
         name: Name,
         section: Name,
         end: usize,
     },
-    /// The same, behind a comma.
+    /// The same, after a comma.
     Flags {
         line: u32,
         name: Name,
         section: Name,
     },
     Arguments(Open),
-    /// Behind a `%` that may not stand in its place: its line, and why.
+    /// After a `%` that may not stand in its place: its line, and why.
     Stray {
         line: u32,
         cause: SourceCause,

@@ -42,7 +42,7 @@ fn label(
     Ok(StatementState::Start)
 }
 
-/// A terminal behind `rep`.
+/// A terminal after `rep`.
 fn rep_step(
     alloc: Global,
     scope: &mut Scope,
@@ -62,7 +62,7 @@ fn rep_step(
     }
 }
 
-/// A terminal behind an instruction's name.
+/// A terminal after an instruction's name.
 fn instruction_step(
     alloc: Global,
     scope: &mut Scope,
@@ -107,7 +107,7 @@ fn section_name(line: u32, name: Name, terminal: Terminal) -> Result<StatementSt
     }
 }
 
-/// A terminal behind a directive's name.
+/// A terminal after a directive's name.
 fn directive_step(
     alloc: Global,
     scope: &mut Scope,
@@ -176,7 +176,7 @@ fn start_step(scope: &Scope, line: u32, terminal: Terminal) -> Result<StatementS
     }
 }
 
-/// A colon behind a name.
+/// A colon after a name.
 fn colon_behind(
     alloc: Global,
     scope: &mut Scope,
@@ -192,7 +192,7 @@ fn colon_behind(
     }
 }
 
-/// Another terminal behind a name.
+/// Another terminal after a name.
 fn other_behind(
     alloc: Global,
     scope: &mut Scope,
@@ -226,7 +226,7 @@ fn named_step(
     }
 }
 
-/// A terminal behind a section's name.
+/// A terminal after a section's name.
 fn sectioned_step(
     alloc: Global,
     scope: &mut Scope,
@@ -249,7 +249,7 @@ fn sectioned_step(
     }
 }
 
-/// A terminal behind a section's name and a comma.
+/// A terminal after a section's name and a comma.
 fn flags_step(
     alloc: Global,
     scope: &mut Scope,

@@ -46,7 +46,7 @@ behind reports c = record c { reports = reports ++ c.reports }
 pub behind_join : (xs ys : List Report) (c : Course) → behind (xs ++ ys) c ≡ behind xs (behind ys c)
 behind_join xs ys c = ap (λ (l : List Report). record c { reports = l }) (append_assoc xs ys c.reports)
 
--- the set that a state holds does not tell
+-- the set that a state holds makes no difference
 pub same_course : (s : Setting) (k : ℕ) (b : State) (set : Set) → fresh_course s k (with_set b set) ≡ fresh_course s k b
 unfolding fresh_course
 same_course s zero b set = refl
@@ -121,7 +121,7 @@ text_behind reports c =
     ap (λ (l : List ℕ). l ++ end_line c.count c.end) (reported reports c.reports)
     ∙ append_assoc (lines_of (trace_of reports)) (lines_of (trace_of c.reports)) (end_line c.count c.end)
 
--- the course behind a slice of one step
+-- the course after a slice of one step
 slice_course : (s : Setting) (exact : Bool) (n : ℕ) (old now last : State) (reports later : List Report) → now.set ≡ empty → now.step < n → last.step ≤ now.step + 1
     → Passes s exact now later last → up_to s n old ≡ behind reports (up_to s n now) → up_to s n old ≡ behind (reports ++ later) (up_to s n last)
 slice_course s exact n old now last reports later clear less most p is =

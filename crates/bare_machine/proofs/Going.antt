@@ -15,7 +15,7 @@ use Rattle.bare_machine.specs.declared.machine.BareMachine as machines
 use Rattle.bare_machine.proofs.Runs.{part_allowed, part_same, same_step, no_steps, steps_on, steps_join, by_none, by_on, by_join, trace_on, trace_join}
 use Rattle.pv_io.proofs.Pieces.{appends_both, front_of, appends_none}
 
--- some steps were done, the next one goes by what is cached, and the lines were put
+-- some steps were done, the next one uses what is cached, and the lines were put
 pub record Going (s : Setting) (exact : Bool) (old now : State) (told tells : Option (List ℕ)) : Type 0 where
   pub sets : List Set
   pub reports : List Report

@@ -33,7 +33,7 @@ loss_goes_on s old now reports set l h = record {
   loosened = record { each = λ page e is. held s now l.whole page e l.loosened (h.each page e is) };
 }
 
--- the set that the steps begin with does not tell in them
+-- the set that the steps begin with makes no difference in them
 from_whole : (s : Setting) (now new : State) (whole set : Set) (sets : List Set) (reports : List Report)
     → Loosened s (with_set now whole) now.set → set ≡ now.set → Steps s now (set ∷ sets) reports new → Steps s (with_set now whole) (set ∷ sets) reports new
 unfolding Steps

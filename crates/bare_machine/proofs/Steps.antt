@@ -1,4 +1,4 @@
--- What a step comes to, from what its parts did.
+-- The outcome of a step, from what its parts did.
 use Rattle.std.proofs.Common.{ℕ, ◌/◌, None, refl, sym, ◌∙◌, inl, inr}
 use Rattle.std.proofs.lemmas.Bool.Decides.{eqb_tells}
 use Rattle.std.specs.FinMap.{FinMap, empty}

@@ -26,7 +26,7 @@ pub record Goes (result : steps.Result) (step : ℕ) (whats : List What) (exact 
   pub all : exact ≡ true → new.set ≡ whole
   pub items : report.items ≡ items_at step whats
 
--- what a step came to, from the count of steps before it and the state after it
+-- the outcome of a step, from the count of steps before it and the state after it
 abbrev pub StepAs : steps.Result → Result Seen Stop → ℕ → Bool → State → Type 0
 StepAs result (Ok seen) step exact new = Goes result step (whats seen) exact new
 StepAs result (Err stop) step exact new = result ≡ Halts stop
@@ -56,14 +56,14 @@ StepsBy s choose old (now ∷ later) new = (mid : State) × (step_of s old (choo
 abbrev pub translations_of : State → Set
 translations_of b = b.set
 
--- the first step goes by this set
+-- the first step uses this set
 abbrev pub FirstIs : Set → List Set → Type 0
 FirstIs set [] = Unit {0}
 FirstIs set (first ∷ sets) = first ≡ set
 
 -- Some steps with these reports lead from one state to another. The first, which is the next one where there was none,
--- goes by what is cached. Between two steps, and behind the last, cached translations may be lost, but not from an exact
--- cache: then each step goes by what is left.
+-- uses what is cached. Between two steps, and after the last, cached translations may be lost, but not from an exact
+-- cache: then each step uses what is left.
 pub record Passes (s : Setting) (exact : Bool) (old : State) (reports : List Report) (new : State) : Type 0 where
   pub sets : List Set
   pub whole : Set

@@ -16,7 +16,7 @@ use machine_model::halted_steps_rest;
 use machine_step::resting_steps;
 use xlate_buffer::Cache;
 
-/// Passes the steps in which a halted processor has nothing to do and nothing can come to the board, up to the bound,
+/// Passes the steps in which a halted processor has nothing to do and nothing can reach the board, up to the bound,
 /// in one go.
 #[inline(always)]
 pub fn rest<C: Cache>(machine: &mut BareMachine<C>, script: &Script, n: u64)
@@ -28,7 +28,7 @@ pub fn rest<C: Cache>(machine: &mut BareMachine<C>, script: &Script, n: u64)
     ensures rests { (image : Image) (whole : Set) → IsPartOf (C.entries machine.old.kept.cache) whole
         → Rests (bare image script.now.list machine.old.frames) (state_of C.entries machine.old) whole (state_of C.entries machine.new) }
     ensures goes_on { GoesOn C.entries C.is_exact machine.old machine.new }
-    // Short of the bound it ends only where something comes to the board in the next step.
+    // Short of the bound it ends only where something reaches the board in the next step.
     ensures furthest { machine.old.cpu.halted ≡ true → machine.old.cpu.held ≡ false
         → interrupt_of machine.old.cpu machine.old.board ≡ None → machine.new.step < n
         → comes_within machine.old.board script.now.list (machine.old.step - 1) (machine.new.step - machine.old.step + 1) ≡ true }

@@ -37,7 +37,7 @@ pub struct BareMachine<C: Cache> {
 /// The bare machine keeps no text from the guest.
 pub static NO_TEXT: Option<Text<'static>> = None;
 
-/// One step, or the stop that it meets. Its state and what it comes to take the places of the step's before. After a stop
+/// One step, or the stop that it meets. Its state and its outcome take the places of the step's before. After a stop
 /// the machine must not go on.
 #[tactic(auto, unfolding(machine_model::specs::Step::step_of))]
 #[inline(always)]
@@ -77,7 +77,7 @@ pub fn step<C: Cache>(
     }
 }
 
-/// What a step comes to, by no rules and over no text that is kept from the guest. Its translations are still to be kept.
+/// The outcome of a step, by no rules and over no text that is kept from the guest. Its translations are still to be kept.
 fn tried<C: Cache>(
     worked: &mut Worked,
     board: &mut Board,

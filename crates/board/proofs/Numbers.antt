@@ -13,7 +13,7 @@ use Rattle.board.specs.Texts.{decimal_after, number_upto, cut_at, event_in}
 use Rattle.board.specs.declared.fault.ScriptCause.TheVariants.{NoForm}
 use Rattle.board.specs.Cuts.{IsCut}
 
--- the number that a word says behind the digits that said n
+-- the number that a word says after the digits that said n
 unfoldable pub number_after : ℕ → ℕ → List ℕ → Option ℕ
 number_after limit n word =
     if list_all is_ascii_digit word && nat_le (decimal_after n word) limit then Some (decimal_after n word) else None

@@ -183,7 +183,7 @@ three f {a} {a'} {b} {b'} {c} {c'} p q r = ap (λ x. f x b c) p ∙ ap (λ y. f 
 two : {A B D : Type 0} (f : A → B → D) {a a' : A} {b b' : B} → a ≡ a' → b ≡ b' → f a b ≡ f a' b'
 two f {a} {a'} {b} {b'} p q = ap (λ x. f x b) p ∙ ap (λ y. f a' y) q
 
--- a timer behind fourteen bytes
+-- a timer after fourteen bytes
 timer_back : (front : Board) (timer : Timer) → is_count timer.count ≡ true →
     timer_at (chip_bytes front.pics.master ++ chip_bytes front.pics.slave ++ timer_bytes timer) ≡ timer
 timer_back front timer fits =

@@ -1,4 +1,4 @@
--- One step of the board, what comes to it from outside, and the interrupt that it asks for.
+-- One step of the board, what reaches it from outside, and the interrupt that it requests.
 use Rattle.std.specs.Prelude.{ℕ, Bool, ◌&&◌, not, ◌==◌, [], ◌∷◌, Option, if◌then◌else◌}
 use Rattle.pic8259.specs.Chips.{unstarted}
 use Rattle.pic8259.specs.Pairs.{with_edge, vector as pics_vector, acknowledged as pics_acknowledged}

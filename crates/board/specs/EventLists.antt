@@ -1,4 +1,4 @@
--- A script as contracts see it, and its events behind a step.
+-- A script as contracts see it, and its events after a step.
 use Rattle.std.specs.Prelude.{◌≡◌, ℕ, nat_le, [], ◌∷◌, if◌then◌else◌}
 use Rattle.board.specs.declared.devices.Board.{Board}
 use Rattle.board.specs.Scripts.{Events}

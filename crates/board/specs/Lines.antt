@@ -1,4 +1,4 @@
--- The lines of a script's text, each by itself behind those before it: which are good, and what they say.
+-- The lines of a script's text, each by itself after those before it: which are good, and what they say.
 use Rattle.std.specs.Prelude.{◌≡◌, ℕ, ◌+◌, ◌<◌, nat_lt, nat_le, List, [], ◌∷◌, length, take, slice_index_or, fold, Option, Some, None, Result, Ok, Err, if◌then◌else◌}
 use Rattle.std.specs.List.{flat_map}
 use Rattle.board.specs.declared.script.Event.{Event}
@@ -24,7 +24,7 @@ events_on lines = flat_map (λ line. said (event_of_line line)) lines
 abbrev pub last_step : Events → ℕ
 last_step events = fold (λ step event. event.0) 0 events
 
--- why a line is bad behind these events, or None where it is good
+-- why a line is bad after these events, or None where it is good
 abbrev pub badness : Events → Result (Option (ℕ × Event)) ScriptCause → Option ScriptCause
 badness before (Err cause) = Some cause
 badness before (Ok None) = None
@@ -33,7 +33,7 @@ badness before (Ok (Some event)) =
     else if nat_le max_events (length before) then Some TooMany
     else None
 
--- the same of line i, counted from 0, behind the lines before it
+-- the same of line i, counted from 0, after the lines before it
 abbrev pub badness_of : List (List ℕ) → ℕ → Option ScriptCause
 badness_of lines i = badness (events_on (take i lines)) (event_of_line (slice_index_or lines i []))
 

@@ -1,4 +1,4 @@
--- Steps of the board, how soon something comes to it, and steps in which nothing does.
+-- Steps of the board, how soon something reaches it, and steps in which nothing does.
 use Rattle.std.specs.Prelude.{◌≡◌, ℕ, zero, suc, ◌+◌, Bool, false, ◌&&◌, ◌||◌, nat_lt, nat_le, [], ◌∷◌}
 use Rattle.pit8254.specs.Edges.{edge_within}
 use Rattle.board.specs.declared.devices.Board.{Board}

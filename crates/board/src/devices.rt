@@ -1,4 +1,4 @@
-//! The board: its devices, what comes to them, their ports and their interrupts.
+//! The board: its devices, what reaches them, their ports and their interrupts.
 
 ghost use Rattle.std.specs.Prelude.{◌≡◌, ◌<◌, false, true, not, ◌&&◌, Some, IsSome};
 ghost use Rattle.board.specs.ScriptForm.{event_fits, is_script};

@@ -1,4 +1,4 @@
-//! The devices of the board, and the script of what comes to them from outside.
+//! The devices of the board, and the script of what reaches them from outside.
 #![tactic(auto)]
 
 mod devices;

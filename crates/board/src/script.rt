@@ -10,7 +10,7 @@ ghost use Rattle.board.specs.Quiet.{event_within};
 
 use std::marker::Model;
 
-/// What comes to the board from outside.
+/// What reaches the board from outside.
 #[derive(Clone, Copy, PartialEq, Eq)]
 pub enum Event {
     /// A byte at the serial line.
@@ -19,7 +19,7 @@ pub enum Event {
     Line(u8),
 }
 
-/// What comes to the board from outside in a run. Each call that takes one has the condition that it is as
+/// What reaches the board from outside in a run. Each call that takes one has the condition that it is as
 /// `read_script` gives it.
 #[derive(Drop)]
 pub struct Script {

@@ -126,7 +126,7 @@ ends_so front =
 pub text_is : (body : List Chunk) (c : Coded) → IsCoded c → c.bytes ≡ 0xEB ∷ 0xFE ∷ [] → chunks_text (body ++ (Alone c ∷ [])) ≡ chunks_text body ++ (0xEB ∷ 0xFE ∷ [])
 text_is body c h e = text_append body (Alone c ∷ []) ∙ ap (λ xs. chunks_text body ++ xs) (append-nil (chunk_text (Alone c)) ∙ jump_text c h e)
 
--- ---- the tests before that of targets, and behind it
+-- ---- the tests before that of targets, and after it
 
 right_place : (n m : ℕ) → n ≡ m → then_some {T = ℕ} (not (n == m)) 0 ≡ None
 right_place n m e = ap (λ b. then_some {T = ℕ} (not b) 0) (eq-eqb n m e)

@@ -64,7 +64,7 @@ module _ (Plain : Type 0) where
   bound_labels : (cs : List Chunk) (ds : List Definition) (k : ℕ) (b : Binding) → All (IsLabel cs) ds → All (IsLabel cs) (with_binding ds k b)
   bound_labels cs ds k b h = All-set (IsLabel cs) ds k (record (definition_of ds k) { binding = stronger (definition_of ds k).binding b }) (label_of cs ds k h) h
 
-  -- ---- states that are behind no STI
+  -- ---- states that are after no STI
 
   with_names : (st new : ObjectSoFar) (cs : List Chunk) → IsMade Plain st cs → IsSameText st new → new.data_relocs ≡ st.data_relocs → All (IsLabel cs) new.definitions → IsMade Plain new cs
   with_names st new cs h s d labels = same_made Plain st new cs h s (subst (λ (rs : List Reloc). All (λ (r : Reloc). r.in_text ≡ false) rs) (sym d) h.in_data) labels

@@ -41,7 +41,7 @@ use Rattle.built_images.proofs.Entrances.{text_append, sites_append}
 use Rattle.built_images.proofs.Joining.{nop_chunks, nop_chunks_are, nop_chunks_text, nop_chunks_sites, nop_chunks_relocs, nop_chunks_fields, nop_chunks_linked, nop_chunks_alone, edge_left}
 use Rattle.built_images.proofs.Assembling.{IsFielded, assembled_fielded}
 
--- ---- what holds of the state behind each item
+-- ---- what holds of the state after each item
 
 -- a chunk that is read so; that its numbers are bytes is known of the whole object
 pub record IsReadCoded (c : Coded) : Type 0 where
@@ -64,7 +64,7 @@ pub record EndsInSti (cs : List Chunk) : Type 0 where
   pub parts : cs ≡ before ++ (Alone last ∷ [])
   pub kind : sensitive_kind (insn_in last) ≡ Some site.Sti
 
--- a state with another section, other data or other names, behind no STI
+-- a state with another section, other data or other names, after no STI
 pub record IsSameText (st new : ObjectSoFar) : Type 0 where
   pub text : new.text ≡ st.text
   pub sites : new.sites ≡ st.sites
@@ -103,7 +103,7 @@ module _ (Plain : Type 0) where
   abbrev pub Made : ObjectSoFar → Type 0
   Made st = (cs : List Chunk) × IsMade st cs
 
-  -- ---- lists of chunks one behind the other
+  -- ---- lists of chunks one after the other
 
   by_chunk_join : (P : Chunk → Type 0) (a b : List Chunk) → AllByRecursion P a → AllByRecursion P b → AllByRecursion P (a ++ b)
   by_chunk_join P [] b h k = k
@@ -290,7 +290,7 @@ module _ (Plain : Type 0) where
         alone = λ p. by_chunk_join IsAlone cs (Alone c ∷ []) (h.alone p) (alone p, tt);
       }
 
-  -- ---- HLT behind STI
+  -- ---- HLT after STI
 
   sti_chunk : (c : Coded) → IsReadCoded c → sensitive_kind (insn_in c) ≡ Some site.Sti → c.bytes ≡ 0xFB ∷ []
   sti_chunk c h e = sti_read c.row c.parts c.bytes h.listed h.read (ap kind_of (sym (row_op c)) ∙ e)

@@ -146,7 +146,7 @@ site_begins p k at ps e h =
     ∙ not_first (is_sti (role.Site k) && has_hlt all) (here.Makes (pair p)) (by_role p all (role.Site k)) (no_pair k at (5 - p.len) ps h)
     ∙ first_is (has_nops (max 5 p.len - p.len) all) (here.Makes (single p k)) here.Lacks (ap (λ m. has_nops m all) n ∙ has_more at (5 - p.len) ps)
 
--- what a chunk adds to what is found behind it
+-- what a chunk adds to what is found after it
 abbrev found_with : List Site → List Piece → Found
 found_with sites ps = record { sites = sites ++ (found_behind 0 ps).sites; lacking = (found_behind 0 ps).lacking }
 

@@ -175,7 +175,7 @@ pub record FromObject (Good : ℕ → Type 0) (os : List ObjectParts) (i : ℕ) 
 abbrev gap : ObjectParts → ℕ
 gap o = pad 16 (length o.text)
 
--- an object with the NOPs behind it
+-- an object with the NOPs after it
 first_part : List Chunk → ℕ → List Chunk
 first_part cs n = cs ++ nop_chunks n
 

@@ -1,5 +1,5 @@
 -- Texts as burning makes them: instructions, of which the sensitive ones are followed by NOPs up to five bytes; and STI with
--- HLT behind it.
+-- HLT after it.
 use Rattle.std.specs.Prelude.{◌≡◌, ℕ, ◌+◌, List, [], ◌∷◌, ◌++◌, length, replicate}
 use Rattle.std.specs.List.{flat_map, AllByRecursion, Contains}
 use Rattle.ia32_types.specs.declared.insn.Insn.{Insn}
@@ -31,7 +31,7 @@ pub record IsCoded (c : Coded) : Type 0 where
   pub listed : Contains rows c.row
   pub spelled : SpellsBy c.row c.parts c.bytes (insn_in c)
 
--- An instruction with the NOPs that it asks for, or STI, HLT and three NOPs.
+-- An instruction with the NOPs that it needs, or STI, HLT and three NOPs.
 pub data Chunk : Type 0 where
   Alone : Coded → Chunk
   Pair : Chunk

@@ -6,7 +6,7 @@ ghost use Rattle.image_check.specs.Accepts.{IsEntrance, sites_of};
 ghost use Rattle.image_check.specs.Pieces.{piece_of};
 ghost use Rattle.built_images.specs.Chunks.{Chunk, AreChunks, Begins, chunks_text, chunk_sites, chunks_swept};
 
-/// A text of instructions of which each sensitive one is followed by NOPs up to five bytes, or is STI with HLT and three
+/// A text of instructions, where each sensitive one is followed by NOPs up to five bytes, or is STI with HLT and three
 /// NOPs, has the sweep of these and their sites, and control may come in where one begins.
 pub fn padded()
     ensures sweep { (cs : List Chunk) → AreChunks cs → Sweep (chunks_text cs) (chunks_swept 0 cs) }

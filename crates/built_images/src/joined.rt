@@ -1,4 +1,4 @@
-//! Sweeps of texts that stand one behind the other.
+//! Sweeps of texts that stand one after the other.
 
 ghost use Rattle.std.specs.Prelude.{◌++◌, ◌∷◌, [], ℕ, List, length, map, replicate};
 ghost use Rattle.ia32_rows.specs.Spells.{Spells};
@@ -6,7 +6,7 @@ ghost use Rattle.image_check.specs.Sweep.{Swept};
 ghost use Rattle.image_check.specs.SweptTexts.{Sweep};
 ghost use Rattle.built_images.specs.Joined.{swept_later, nop, sti, hlt, jump_to_itself, nops_at};
 
-/// The sweep of two texts, one behind the other, is that of the first and then that of the second, further on by the
+/// The sweep of two texts, one after the other, is that of the first and then that of the second, further on by the
 /// length of the first; and what bytes of NOPs, `FB`, `F4` and `EB FE` spell.
 pub fn sweeps()
     ensures joined { (a b : List ℕ) (first second : List Swept) → Sweep a first → Sweep b second

@@ -154,7 +154,7 @@ none_from_groups there h g =
       g_is = ap (λ (xs : List ℕ). first_bad there (zero_demands 192 xs)) g.rest ∙ zeros_none there 192 64;
     })
 
--- where the frames were told they are so many
+-- where the frames were given they are so many
 pub counts_from_none : (there : ℕ) (h : Head) → 8 ≤ there → first_bad there (demands h) ≡ None → (2048 ≤ h.frames) × (h.frames ≤ 16384)
 unfolding demands first_bad
 counts_from_none there h far none =

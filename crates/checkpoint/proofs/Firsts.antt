@@ -104,7 +104,7 @@ pub zeros_end : (at there i : ℕ) (bytes : List ℕ) → length bytes ≤ i →
 unfolding first_bad
 zeros_end at there i bytes h = ap (λ (xs : List ℕ). first_bad there (zero_demands (at + i) xs)) (drop_all i bytes h)
 
--- several lists, one behind the other
+-- several lists, one after the other
 
 pub joined : (there : ℕ) (xs ys : List Demand) (x y r : Option ℕ) → x ≡ first_bad there xs → y ≡ first_bad there ys → r ≡ earlier x y →
     r ≡ first_bad there (xs ++ ys)

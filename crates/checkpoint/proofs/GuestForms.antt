@@ -1,4 +1,4 @@
--- A checkpoint can be made of what a guest comes to.
+-- A checkpoint can be made of the state that a guest reaches.
 use Rattle.std.proofs.Common.{◌≡◌, List, ℕ, ◌+◌, ◌*◌, ◌^◌, ◌≤◌, length, sym, subst, arith}
 use Rattle.frame_pool.specs.declared.Pool.{Pool}
 use Rattle.board.specs.Scripts.{Events}

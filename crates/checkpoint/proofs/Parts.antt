@@ -1,4 +1,4 @@
--- Parts one behind the other, and what stands at their places.
+-- Parts one after the other, and what stands at their places.
 use Rattle.std.proofs.Common.{◌≡◌, ℕ, zero, suc, ◌+◌, ◌*◌, ◌<◌, ◌≤◌, ◌^◌, List, [], ◌∷◌, ◌++◌, length, get_or, take, drop, refl, ap, sym, ◌∙◌, arith, length-append, append_assoc}
 use Rattle.std.specs.List.{concat, flat_map}
 use Rattle.std.specs.Int.{w16, w32, w64, from_le_bytes}
@@ -178,14 +178,14 @@ segments_again m a (suc n) are room =
     ∙ ap (λ (xs : List ℕ). xs ++ part m (a + 4) (4 * n)) (segment_again m a are (omega arith))
     ∙ part-append m a 4 (4 * n) ∙ ap (part m a) count
 
--- ---- what is put one behind the other
+-- ---- what is put one after the other
 
 flat_map-one : {T : Type 0} (f : T → List ℕ) (xs : List T) (x : T) → flat_map f (xs ++ x ∷ []) ≡ flat_map f xs ++ f x
 flat_map-one f [] x = append-nil (f x)
 flat_map-one f (y ∷ xs) x =
     ap (λ (l : List ℕ). f y ++ l) (flat_map-one f xs x) ∙ sym (append_assoc (f y) (flat_map f xs) (f x))
 
--- the bytes of one more of a list, behind those of the ones before it
+-- the bytes of one more of a list, after those of the ones before it
 pub put_more : {T : Type 0} (f : T → List ℕ) (xs : List T) (k : ℕ) (d : T) (initial old new bytes : List ℕ) → k < length xs →
     old ≡ initial ++ flat_map f (take k xs) → new ≡ old ++ bytes → bytes ≡ f (get_or xs k d) → new ≡ initial ++ flat_map f (take (k + 1) xs)
 put_more f xs k d initial old new bytes lt so_far put is =

@@ -12,7 +12,7 @@ unfoldable pub first_bad : ℕ → List Demand → Option ℕ
 first_bad there [] = None
 first_bad there (d ∷ demands) = earlier (bad_in there d) (first_bad there demands)
 
--- of a field at a place, which so many bytes tell
+-- of a field at a place, which so many bytes hold
 abbrev pub of_field : ℕ → ℕ → Bool → Demand
 of_field at size met = record { at = at; end = at + size; met = met }
 

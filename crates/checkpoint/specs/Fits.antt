@@ -9,7 +9,7 @@ use Rattle.checkpoint.specs.declared.state.State.{State}
 use Rattle.checkpoint.specs.declared.state.CheckpointCause.{CheckpointCause}
 use Rattle.checkpoint.specs.declared.state.CheckpointCause.TheVariants.{TextChanged, UserFlags, StepsPast}
 
--- the memory has this byte at an offset of the text's place, which no byte behind its end is
+-- the memory has this byte at an offset of the text's place, which no byte past its end is
 abbrev pub has_at : List ℕ → ℕ → ℕ → Bool
 has_at ram k b = nat_lt (TEXT_PLACE + k) (length ram) && byte ram (TEXT_PLACE + k) == b
 

@@ -3,9 +3,9 @@
 --   0, 4, 8         50 56 43 31; how many frames the memory has (4); how many steps were done (8)
 --   16, 48, 52      the eight registers by their numbers (4 each); EIP; EFLAGS
 --   56, 60, 64, 68  CR0; CR2; CR3; CR4
---   72, 76, 80, 84  the bases of the GDT, the IDT and the task; the limit of the task
---   88, 90, 92      the limits of the GDT and the IDT (2 each); the task's selector (2)
---   94, 95          whether a task was loaded; the level of privilege
+--   72, 76, 80, 84  the bases of the GDT, the IDT and the TSS; the limit of the TSS
+--   88, 90, 92      the limits of the GDT and the IDT (2 each); the selector in TR (2)
+--   94, 95          whether TR was loaded; the level of privilege
 --   96              ES, CS, SS, DS: the selector (2), whether it is null, the level of its descriptor
 --   112, 113        whether the processor is halted; whether deliveries are held off
 --   114             14 zeros

@@ -4,7 +4,7 @@ use Rattle.std.specs.List.{All, Contains, filter_map}
 use Rattle.checkpoint.specs.declared.demand.Demand.{Demand}
 use Rattle.checkpoint.specs.Demands.{bad_in, first_bad}
 
--- the places of the fields that are told and bad
+-- the places of the fields that are tested and bad
 abbrev pub bad_places : ℕ → List Demand → List ℕ
 bad_places there demands = filter_map (bad_in there) demands
 

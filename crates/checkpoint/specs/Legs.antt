@@ -23,7 +23,7 @@ in_mode m mode = record m { mode = mode }
 abbrev pub rested : State → State
 rested b = with_set b empty
 
--- legs one behind the other, each from where the one before ended
+-- legs one after the other, each from where the one before ended
 unfoldable pub Legs : Setting → State → List Leg → State → Type 0
 Legs m old [] new = new ≡ old
 Legs m old (leg ∷ legs) new = (mid : State) × Steps (in_mode m leg.mode) (rested old) leg.sets leg.reports mid × Legs m mid legs new
@@ -39,7 +39,7 @@ sets_of legs = flat_map (λ (leg : Leg). leg.sets) legs
 abbrev pub reports_of : List Leg → List Report
 reports_of legs = flat_map (λ (leg : Leg). leg.reports) legs
 
--- legs are steps of the bare machine, which may have translations behind the last one
+-- legs are steps of the bare machine, which may have translations after the last one
 abbrev pub LegsAreSteps : Type 0
 LegsAreSteps =
     (m : Setting) (old new : State) (legs : List Leg)
@@ -61,7 +61,7 @@ LegsAreParts =
     → Legs m (boot m) legs mid → Run (in_mode m leg.mode) n (rested mid) leg.sets leg.reports last end
     → (whole : Set) × Parts m (boot m) (legs ++ leg ∷ []) (with_set last whole) × EndsIn (in_mode m leg.mode) n (with_set last whole) end
 
--- and what was seen in it is what was seen in the legs, one behind the other
+-- and what was seen in it is what was seen in the legs, one after the other
 abbrev pub TracesJoin : Type 0
 TracesJoin =
     (legs : List Leg) (leg : Leg)

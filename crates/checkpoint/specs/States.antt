@@ -48,7 +48,7 @@ head_of cpu board step frames = record {
   rest = replicate 64 0;
 }
 
--- the 256 bytes, and the memory behind them
+-- the 256 bytes, and the memory after them
 unfoldable pub checkpoint_bytes : State → List ℕ
 checkpoint_bytes s = spelled (head_of s.cpu (saved s.board) s.step (length s.ram / 4096)) ++ s.ram
 

@@ -4,7 +4,7 @@ ghost use Rattle.std.specs.Prelude.{◌≡◌, ◌+◌, ◌<◌, ◌^◌, length
 ghost use Rattle.board.specs.Earlier.{earlier};
 ghost use Rattle.checkpoint.specs.Demands.{bad_in, first_bad, of_field, zero_demands};
 
-/// What a field at a place is to meet. It is told by the bytes before `end`, and is asked only where they are there.
+/// What a field at a place has to meet. It is read from the bytes before `end`, and is tested only where they are there.
 #[derive(Clone, Copy)]
 pub struct Demand {
     /// The offset of the field's first byte in the file.

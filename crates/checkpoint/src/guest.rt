@@ -28,7 +28,7 @@ use wedge_core::{Guest, Running};
 /// The frames of a guest's pool.
 pub const POOL_FRAMES: u32 = 512;
 
-/// A checkpoint's memory at the front of the host's, and a pool behind it.
+/// A checkpoint's memory at the front of the host's, and a pool after it.
 fn seated(memory: &mut Ram, ram: &Ram, frames: u32) -> Pool
     requires few { frames ≤ 16384 }
     requires frames { length ram.now ≡ 4096 * frames }
@@ -43,7 +43,7 @@ fn seated(memory: &mut Ram, ram: &Ram, frames: u32) -> Pool
     Pool::new(memory, frames, POOL_FRAMES)
 }
 
-/// The host is started with the checkpoint's memory in front and 512 frames behind it, and the guest goes on from there with no
+/// The host is started with the checkpoint's memory in front and 512 frames after it, and the guest goes on from there with no
 /// translation. One slice then leads to any later count of steps.
 pub fn guest_from<H: Host>(
     alloc: Global,

@@ -9,7 +9,7 @@ ghost use Rattle.checkpoint.specs.Ranges.{AreBelow, AreSelectors, FrontIsSized, 
 use guest_ram::{byte, half, word};
 use std::alloc::AllocError;
 
-// Places in the file of fields that are tested or told. Each has four bytes, unless it says otherwise.
+// Places in the file of fields that are tested or reported. Each has four bytes, unless it says otherwise.
 
 /// The count of frames.
 pub const FRAMES_PLACE: u32 = 4;
@@ -29,7 +29,7 @@ pub const CR3_PLACE: u32 = 64;
 /// CR4.
 pub const CR4_PLACE: u32 = 68;
 
-/// Whether the task register is loaded, in one byte.
+/// Whether TR is loaded, in one byte.
 pub const TASK_LOADED_PLACE: u32 = 94;
 
 /// The current privilege level, in one byte.
@@ -77,7 +77,7 @@ pub struct Head {
     /// Bytes without a name.
     pub unnamed: [u8; 14],
     pub board: [u8; 64],
-    /// The same behind the board.
+    /// The same after the board.
     pub rest: [u8; 64],
 }
 

@@ -5,7 +5,7 @@ ghost use Rattle.checkpoint.specs.Legs.{LegsAreSteps, LegsAreARun, LegsAreParts,
 
 use machine_model::{runs_agree, steps_join};
 
-/// The first bad field is the least place of a demand that is told and isn't met.
+/// The first bad field is the least place of a demand that is tested and isn't met.
 #[tactic(auto, using(crate::proofs::Leasts::first_bad_least))]
 pub fn first_bad_is_least()
     ensures { FirstBadIsLeast }

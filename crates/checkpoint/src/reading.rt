@@ -54,7 +54,7 @@ fn fault_of(head: &Head, there: usize) -> Option<u32>
     misses(there, head.frames)
 }
 
-/// The memory behind the first 256 bytes.
+/// The memory after the first 256 bytes.
 fn memory(alloc: Global, bytes: &[u8], frames: u32) -> Result<Ram, AllocError>
     requires frames { (2048 ≤ frames) × (frames ≤ 16384) }
     requires size { length bytes.now ≡ size frames }

@@ -3,7 +3,7 @@
 use crate::state::State;
 use run_trace::Ended;
 
-/// What a run that is to be saved comes to: its state, once all its steps are done, or its end at a stop before.
+/// The outcome of a run that is to be saved: its state, once all its steps are done, or its end at a stop before.
 #[derive(Drop)]
 pub enum Rested {
     At(State),

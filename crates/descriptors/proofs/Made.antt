@@ -1,5 +1,5 @@
 -- What work on memory is made of: its accesses, one after another. What holds of each access holds of the work, by a walk over
--- this. The rooms are the range that is open for writes before the work and behind it; (0, 0) is none.
+-- this. The rooms are the range that is open for writes before the work and after it; (0, 0) is none.
 use Rattle.std.proofs.Common.{◌≡◌, ℕ, ◌+◌, ◌≤◌, Bool, true, false, cond, refl, Option, Some, None, arith}
 use Rattle.ia32_types.specs.declared.size.Size.{Size}
 use Rattle.ia32_types.specs.declared.size.Size.TheVariants.{Byte}

@@ -1,4 +1,4 @@
--- Accesses to descriptors, gates and the task, for any way to refuse: a denied one ends the work.
+-- Accesses to descriptors, gates and the TSS, for any way to refuse: a denied one ends the work.
 use Rattle.std.specs.Prelude.{ℕ, ◌+◌, ◌%◌, ◌^◌, Bool, true, false, Option, Some, None, Ok, Err, ◌==◌}
 use Rattle.ia32_types.specs.declared.size.Size.TheVariants.{Byte, Long}
 use Rattle.ia32_types.specs.declared.stop.Stop as reason

@@ -1,4 +1,4 @@
-//! Accesses to descriptors, gates and the task, for any way to refuse.
+//! Accesses to descriptors, gates and the TSS, for any way to refuse.
 
 ghost use Rattle.std.specs.Prelude.{◌≡◌, ◌+◌, ◌≤◌, OnOk};
 ghost use Rattle.paging.specs.Gives.{Gives};

@@ -17,7 +17,7 @@ chain_parts o a b c d e f = simp append_assoc
 pub chain_file : (o a b c d e : List ℕ) → ((((o ++ a) ++ b) ++ c) ++ d) ++ e ≡ o ++ (a ++ (b ++ (c ++ (d ++ e))))
 chain_file o a b c d e = simp append_assoc
 
--- the parts of a file by what stands before and behind each
+-- the parts of a file by what stands before and after each
 module _ (h l z s : List ℕ) where
   pub behind_front : (b : List ℕ) → (h ++ (l ++ (z ++ b))) ++ s ≡ h ++ (l ++ (z ++ (b ++ s)))
   behind_front b = simp append_assoc

@@ -23,7 +23,7 @@ use Rattle.elf_form.specs.Reasons.{IsOf, in_pages, IsTooMuch, IsSymbolTable, IsR
 use Rattle.elf_form.proofs.Lowest.{has_first, has_later, Finds, finds_as, finds_at, finds_lower, finds_else, finds_bad, finds_field, finds_if, finds_some, finds_first_entry, entry_from}
 use Rattle.elf_form.proofs.BadSections.{role_is, is_role}
 
--- ---- sizes that come to too much together
+-- ---- sizes whose sum is too large
 
 abbrev Over : Role → List ℕ → ℕ → List ℕ → ℕ → Type 0
 Over r bytes total ss k = (before : List ℕ) × (s : ℕ) × (later : List ℕ) × (ss ≡ before ++ s ∷ later) × (role_of (names bytes) bytes s ≡ r) × (4294967296 ≤ total + sum_by (in_pages bytes) (filter (has_role r (names bytes) bytes) (before ++ s ∷ []))) × (k ≡ s + 20)
@@ -36,7 +36,7 @@ abbrev tail_of : List ℕ → List ℕ
 tail_of [] = []
 tail_of (x ∷ xs) = xs
 
--- the first of some, or one behind it
+-- the first of some, or one after it
 split_head : (x : ℕ) (xs before : List ℕ) (s : ℕ) (later : List ℕ) → x ∷ xs ≡ before ++ s ∷ later → ((before ≡ []) × (x ≡ s)) ⊎ ((b : List ℕ) × (before ≡ x ∷ b) × (xs ≡ b ++ s ∷ later))
 split_head x xs [] s later e = inl (refl, ap (head_of 0) e)
 split_head x xs (y ∷ b) s later e = inr (b, ap (λ (z : ℕ). z ∷ b) (sym (ap (head_of 0) e)), ap tail_of e)
@@ -59,7 +59,7 @@ module _ (r : Role) (bytes : List ℕ) where
   not_nil [] ys x e = absurd cc
   not_nil (y ∷ xs) ys x e = absurd cc
 
-  -- of what is left, behind a section that fits or has another role
+  -- of what is left, after a section that fits or has another role
   step_to : (at : ℕ) (rest : List ℕ) (total more k : ℕ) → ((b : List ℕ) → sum_of (at ∷ b) + total ≡ more + sum_of b) → Over r bytes more rest k → Over r bytes total (at ∷ rest) k
   step_to at rest total more k sums (before, s, later, e, is, over, place) =
       (at ∷ before, s, later, ap (λ (xs : List ℕ). at ∷ xs) e, is, omega (arith, over, sums (before ++ s ∷ [])), place)

@@ -41,7 +41,7 @@ module _ (r : Role) (names bytes : List ℕ) (at n i : ℕ) where
   unfolding starts
   starts-add end lt has = ap (starts r names bytes end) (entries-more at 40 n i lt) ∙ cond-true _ _ _ has
 
-  -- where a section ends, behind an end
+  -- where a section ends, after an end
   abbrev on : ℕ → ℕ → ℕ
   on end s = up (alignment bytes s) end + size bytes s
 

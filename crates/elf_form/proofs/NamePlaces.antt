@@ -17,7 +17,7 @@ use Rattle.elf_form.specs.ObjectLayout.{names_of}
 use Rattle.elf_form.specs.Symbols.{name_in}
 use Rattle.elf_form.proofs.StringLaws.{else_last, place_in-append}
 
--- ---- a name that has a place stands there, and a zero byte behind it
+-- ---- a name that has a place stands there, and a zero byte after it
 
 pub record StandsAt (names : List (List ℕ)) (name : List ℕ) (at : ℕ) : Type 0 where
   pub rest : List ℕ

@@ -150,7 +150,7 @@ starts-take : (r : Role) (f : List ℕ) (end a s : ℕ) (rest xs : List ℕ) →
 unfolding starts
 starts-take r f end a s rest xs e aligned then = cond-true _ _ _ e ∙ rw aligned (ap (λ (x : List ℕ). up a end % 2 ^ 32 ∷ x) then)
 
--- where a section ends, behind an end
+-- where a section ends, after an end
 abbrev ended : List ℕ → ℕ → ℕ → ℕ
 ended f end s = up (alignment f s) end + size f s
 

@@ -190,7 +190,7 @@ length-before_text o = length-header o
 pub text_part : (o : ObjectParts) → part (object_bytes o) 52 (length o.text) ≡ o.text
 text_part o = rw (file-text o) (part-middle (before_text o) o.text (after_text o) 52 (length o.text) (length-before_text o) (refl))
 
--- the front grows by a part and the zero bytes behind it
+-- the front grows by a part and the zero bytes after it
 grown : (f before x p rest : List ℕ) → f ≡ before ++ (x ++ (p ++ rest)) → f ≡ (before ++ (x ++ p)) ++ rest
 grown f before x p rest e = e ∙ ap (λ (t : List ℕ). before ++ t) (sym (append_assoc x p rest)) ∙ sym (append_assoc before (x ++ p) rest)
 

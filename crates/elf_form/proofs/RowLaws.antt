@@ -11,7 +11,7 @@ pub part-middle : (a b c : List ℕ) (n k : ℕ) → length a ≡ n → length b
 unfolding part
 part-middle a b c n k la lb = ap (take k) (drop_at a (b ++ c) n la) ∙ take_at b c k lb
 
--- a number behind other bytes
+-- a number after other bytes
 pub word32-behind : (a b : List ℕ) (n k : ℕ) → length a + k ≡ n → word32 (a ++ b) n ≡ word32 b k
 unfolding word32 part
 word32-behind a b n k e =
@@ -32,7 +32,7 @@ row_word (n ∷ ns) after (suc k) lt small =
     ∙ word32-behind (to_le_bytes w32 n) (longs ns ++ after) (4 * suc k) (4 * k) (omega arith)
     ∙ row_word ns after k (omega arith) small
 
--- the number k of a row that stands behind other bytes
+-- the number k of a row that stands after other bytes
 pub row_behind : (before ns after : List ℕ) (k at : ℕ) → k < length ns → get_or ns k 0 < 2 ^ 32 → length before + 4 * k ≡ at → word32 (before ++ (longs ns ++ after)) at ≡ get_or ns k 0
 row_behind before ns after k at lt small e = word32-behind before (longs ns ++ after) at (4 * k) e ∙ row_word ns after k lt small
 

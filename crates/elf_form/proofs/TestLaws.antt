@@ -80,7 +80,7 @@ module _ (A : Type 0) (wrong : ElfCause → Option ℕ) where
   sound_tested [] x h = refl
   sound_tested (c ∷ cs) x h = rw (h c) (sound_tested cs x h)
 
-  -- the tests of two lists of causes, one behind the other
+  -- the tests of two lists of causes, one after the other
   tested-append : (cs ds : List ElfCause) (x : A) → (tested wrong cs (tt {0}) >>= λ _. tested wrong ds x) ≡ tested wrong (cs ++ ds) x
   unfolding tested
   tested-append [] ds x = refl

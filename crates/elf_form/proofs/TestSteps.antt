@@ -1,4 +1,4 @@
--- What a function gives that makes one test after the other: the fault of one that fails, and what is behind one that passes.
+-- What a function gives that makes one test after the other: the fault of one that fails, and what follows one that passes.
 use Rattle.std.proofs.Common.{◌≡◌, ℕ, Option, Result, Ok, Err, IsErrAnd, sym, ap, ◌∙◌, subst}
 use Rattle.elf_form.specs.declared.cause.ElfCause.{ElfCause}
 use Rattle.elf_form.specs.declared.cause.ElfFault.{ElfFault}

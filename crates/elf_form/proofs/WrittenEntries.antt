@@ -34,7 +34,7 @@ pub record IsSymbolAt (names : List (List ℕ)) (f : List ℕ) (y : ℕ) (s : Sy
   pub section : word16 f (y + 14) ≡ place_number s.place
   pub whole : IsWholeSymbol names s
 
--- a number of two bytes behind other bytes
+-- a number of two bytes after other bytes
 word16-behind : (a b : List ℕ) (n k : ℕ) → length a + k ≡ n → word16 (a ++ b) n ≡ word16 b k
 unfolding word16 part
 word16-behind a b n k e =

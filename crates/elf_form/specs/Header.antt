@@ -51,7 +51,7 @@ cut bytes = option_map (λ part. part.0) (find (λ part. passes bytes part.0 par
 abbrev pub wrong_half : ℕ → ℕ → List ℕ → Option ℕ
 wrong_half field wanted bytes = then_some (not (word16 bytes field == wanted)) field
 
--- Where a file of a type (ET_REL an object, ET_EXEC an image) is wrong by a cause, if it is. Each field of the header that is asked for has one value. What follows the header is told for the other causes.
+-- Where a file of a type (ET_REL an object, ET_EXEC an image) is wrong by a cause, if it is. Each field of the header that is tested has one value. The other causes are given for what follows the header.
 abbrev pub wrong_file : ℕ → (ElfCause → Option ℕ) → List ℕ → ElfCause → Option ℕ
 wrong_file wanted other bytes Truncated = cut bytes
 wrong_file wanted other bytes Magic = then_some (not (word32 bytes 0 == ELFMAG)) 0

@@ -16,7 +16,7 @@ use Rattle.elf_form.specs.StringTable.{with_name, table_bytes, name_place}
 unfoldable pub next : ℕ → ℕ
 next n = n + pad 4 n
 
--- the names of the symbols, each once, in the order of their first use, behind the empty one; and the string table that has them
+-- the names of the symbols, each once, in the order of their first use, after the empty one; and the string table that has them
 unfoldable pub names_of : List Symbol → List (List ℕ)
 names_of symbols = fold (λ names s. with_name names s.name) ([] ∷ []) symbols
 
@@ -27,7 +27,7 @@ strings_of symbols = table_bytes (names_of symbols)
 abbrev pub is_of : Bool → Reloc → Bool
 is_of in_text r = if in_text then r.in_text else not r.in_text
 
--- where the parts begin: the text behind the header, and each other at the next multiple of 4
+-- where the parts begin: the text after the header, and each other at the next multiple of 4
 unfoldable pub layout : ObjectParts → Layout
 layout o =
     let init = next (EHDR_SIZE + length o.text) in

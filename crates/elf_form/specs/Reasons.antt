@@ -31,7 +31,7 @@ IsSectionAt bytes s = Contains (sections bytes) s
 abbrev pub IsOf : Role → List ℕ → ℕ → Type 0
 IsOf r bytes s = IsSectionAt bytes s × (role_of (names bytes) bytes s ≡ r)
 
--- one of some sections, behind another of them
+-- one of some sections, after another of them
 abbrev pub IsSecond : (ℕ → Type 0) → ℕ → Type 0
 IsSecond P s = P s × (t : ℕ) × P t × (t < s)
 
@@ -45,7 +45,7 @@ IsNamedSites bytes s = IsSectionAt bytes s × (is_sites (names bytes) bytes s �
 abbrev pub in_pages : List ℕ → ℕ → ℕ
 in_pages bytes s = size bytes s + pad 4096 (size bytes s)
 
--- A section with which those that are read as this come to 2^32 bytes or more together.
+-- A section with which those that are read as this take 2^32 bytes or more together.
 pub record IsTooMuch (r : Role) (bytes : List ℕ) (s : ℕ) : Type 0 where
   pub before : List ℕ
   pub later : List ℕ
@@ -145,7 +145,7 @@ pub data IsBadSymbol (bytes : List ℕ) (at : ℕ) : Type 0 where
   bound : (y : ℕ) → IsNeeded bytes y → is_file bytes y ≡ false → has_binding bytes y ≡ false → at ≡ y + ST_INFO → IsBadSymbol bytes at
   placed : (y : ℕ) → IsNeeded bytes y → is_file bytes y ≡ false → has_place (names bytes) bytes y ≡ false → at ≡ y + ST_SHNDX → IsBadSymbol bytes at
 
--- Relocations go by another section than the symbol table (at sh_link), a field isn't inside its section (at r_offset), a relocation is of another type than R_386_32 and R_386_PC32, or names no symbol (at r_info).
+-- Relocations use another section than the symbol table (at sh_link), a field isn't inside its section (at r_offset), a relocation is of another type than R_386_32 and R_386_PC32, or names no symbol (at r_info).
 pub data IsBadReloc (bytes : List ℕ) (at : ℕ) : Type 0 where
   link : (s : ℕ) → IsRelocs bytes s → is_linked (table_of bytes) (names bytes) bytes s ≡ false → at ≡ s + SH_LINK → IsBadReloc bytes at
   outside : (e : Entry) → IsReloc bytes e → is_outside (names bytes) bytes e ≡ true → at ≡ e.at → IsBadReloc bytes at
@@ -158,7 +158,7 @@ pub data IsBadReloc (bytes : List ℕ) (at : ℕ) : Type 0 where
 abbrev pub IsBadVersion : List ℕ → ℕ → Type 0
 IsBadVersion bytes at = ((byte bytes EI_VERSION ≢ EV_CURRENT) × (at ≡ EI_VERSION)) ⊎ ((word32 bytes E_VERSION ≢ EV_CURRENT) × (at ≡ E_VERSION))
 
--- A file of a type (ET_REL an object, ET_EXEC an image) is bad by a cause at this place. What follows the header is told for the other causes.
+-- A file of a type (ET_REL an object, ET_EXEC an image) is bad by a cause at this place. The other causes are given for what follows the header.
 abbrev pub IsBadFile : ℕ → (ElfCause → ℕ → Type 0) → List ℕ → ElfCause → ℕ → Type 0
 IsBadFile wanted inner bytes Truncated at = IsPast (length bytes) (named_parts bytes) at
 IsBadFile wanted inner bytes Magic at = (word32 bytes 0 ≢ ELFMAG) × (at ≡ 0)

@@ -22,7 +22,7 @@ role_by kind flags =
     else (if kind == SHT_NOBITS then Bss else (if kind == SHT_NOTE then Ignored else Foreign)))
     else (if kind == SHT_SYMTAB then Symbols else (if kind == SHT_REL then Relocs else Ignored))
 
--- The section of sites goes by its name.
+-- The section of sites is found by its name.
 unfoldable pub role : List ℕ → List ℕ → ℕ → Role
 role names bytes s = if is_null bytes s then Ignored else (if is_sites names bytes s then Sites else role_by (word32 bytes (s + SH_TYPE)) (word32 bytes (s + SH_FLAGS)))
 
@@ -65,7 +65,7 @@ is_misaligned names bytes s = (has_role Init names bytes s || has_role Bss names
 unfoldable pub misaligned : List ℕ → List ℕ → Option ℕ
 misaligned names bytes = further SH_ADDRALIGN (find (is_misaligned names bytes) (sections bytes))
 
--- the size field of the first section with which the sizes, in whole pages of 4,096 bytes, come to 2 ^ 32 or more
+-- the size field of the first section with which the sizes, in whole pages of 4,096 bytes, sum to 2 ^ 32 or more
 unfoldable pub joined_fault : Role → List ℕ → List ℕ → ℕ → List ℕ → Option ℕ
 joined_fault r names bytes total [] = None
 joined_fault r names bytes total (s ∷ rest) =
@@ -73,7 +73,7 @@ joined_fault r names bytes total (s ∷ rest) =
     then (if nat_lt (total + (size bytes s + pad 4096 (size bytes s))) 4294967296 then joined_fault r names bytes (total + (size bytes s + pad 4096 (size bytes s))) rest else Some (s + SH_SIZE))
     else joined_fault r names bytes total rest
 
--- where each section begins among those of a role, behind the end so far; 0 for the others
+-- where each section begins among those of a role, after the end so far; 0 for the others
 unfoldable pub starts : Role → List ℕ → List ℕ → ℕ → List ℕ → List ℕ
 starts r names bytes end [] = []
 starts r names bytes end (s ∷ rest) =
@@ -88,6 +88,6 @@ joined_end r names bytes end ss = fold (λ end s. up (alignment bytes s) end + s
 unfoldable pub with_section : List ℕ → List ℕ → ℕ → List ℕ
 with_section bytes init s = init ++ (replicate (up (alignment bytes s) (length init) - length init) 0 ++ contents bytes s)
 
--- the bytes of the data, each section behind zeros up to its alignment
+-- the bytes of the data, each section after zeros up to its alignment
 unfoldable pub joined : List ℕ → List ℕ → List ℕ → List ℕ → List ℕ
 joined names bytes init ss = fold (with_section bytes) init (filter (has_role Init names bytes) ss)

@@ -34,7 +34,7 @@ abbrev pub table_at : List ℕ → Found → Table
 table_at bytes Nothing = record { section = 0; at = 0; count = 0 }
 table_at bytes found = let s = first_of found in record { section = s; at = word32 bytes (s + SH_OFFSET); count = length (contents bytes s) / SYM_SIZE }
 
--- the symbols behind the null one
+-- the symbols after the null one
 abbrev pub symbols_of : Table → List ℕ
 symbols_of table = entries (table.at + SYM_SIZE) SYM_SIZE (table.count - 1)
 
@@ -125,7 +125,7 @@ symbol_test Globals strings names bytes y = global_fault names bytes y
 unfoldable pub symbols_fault : SymbolTest → Table → List ℕ → List ℕ → List ℕ → Option ℕ
 symbols_fault test table strings names bytes = first_some (symbol_test test strings names bytes) (symbols_of table)
 
--- the number of the symbol that a relocation names; whether the table has it, behind the null one
+-- the number of the symbol that a relocation names; whether the table has it, after the null one
 abbrev pub named_symbol : List ℕ → ℕ → ℕ
 named_symbol bytes y = word32 bytes (y + R_INFO) / 256
 
@@ -188,7 +188,7 @@ symbol_at strings names bytes y = record {
   global = binding bytes y == STB_GLOBAL;
 }
 
--- how many symbols that are listed come before each symbol, behind n
+-- how many symbols that are listed come before each symbol, after n
 unfoldable pub numbers : List ℕ → List ℕ → ℕ → List ℕ → List ℕ
 numbers names bytes n [] = []
 numbers names bytes n (y ∷ ys) = n ∷ numbers names bytes (if is_listed names bytes y then n + 1 else n) ys

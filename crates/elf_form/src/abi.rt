@@ -88,7 +88,7 @@ pub const SH_OFFSET: usize = 16;
 /// How long a section is, a long (4, Sections).
 pub const SH_SIZE: usize = 20;
 
-/// Another section that a section goes by, as a symbol table by its strings, a long (4, Sections).
+/// Another section that a section uses, as a symbol table uses its strings, a long (4, Sections).
 pub const SH_LINK: usize = 24;
 
 /// A number whose meaning the type gives: the section that relocations fill, a long (4, Sections).
@@ -112,7 +112,7 @@ pub const SHT_PROGBITS: u32 = 1;
 /// The type of a symbol table (4, Sections).
 pub const SHT_SYMTAB: u32 = 2;
 
-/// The type of a table of names, each with a zero byte behind it (4, Sections).
+/// The type of a table of names, each with a zero byte after it (4, Sections).
 pub const SHT_STRTAB: u32 = 3;
 
 /// The type of a note, which marks a file (4, Sections).

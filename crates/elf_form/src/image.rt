@@ -3,7 +3,7 @@
 use std::marker::Model;
 
 /// A linked program: its bytes, where its text and data are to stand, and where it begins. All
-/// addresses are linear. `bss` counts the zeroed bytes behind the data, and `sites` is the
+/// addresses are linear. `bss` counts the zeroed bytes after the data, and `sites` is the
 /// annotation section.
 #[derive(Drop)]
 pub struct Image {

@@ -30,7 +30,8 @@ pub fn misaligned(names: &[u8], bytes: &[u8]) -> Option<usize>
     None
 }
 
-/// The size of the first section with which those of a role come to 2^32 bytes, in whole pages.
+/// The size of the first section with which those of a role take 2^32 bytes or more, in whole
+/// pages.
 pub fn joined_fault(role: Role, names: &[u8], bytes: &[u8]) -> Option<usize>
     requires { IsWhole bytes.now }
     ensures place { result ≡ joined_fault role names.now bytes.now 0 (sections bytes.now) }

@@ -105,7 +105,7 @@ fn contents_or<'a>(absent: &'a [u8], bytes: &'a [u8], found: Found) -> &'a [u8]
 /// The section of annotations of an object that has none: one of no sites.
 const NO_SITES: [u8; 8] = *b"PVS1\0\0\0\0";
 
-/// Adds the relocations of an object's text, and behind them those of its data.
+/// Adds the relocations of an object's text, and after them those of its data.
 #[tactic(auto, unfolding(crate::specs::ObjectReading::object_at))]
 fn put_kept(
     out: &mut Vec<Reloc>,

@@ -26,7 +26,7 @@ use crate::segments::{FILE_LIMIT, Found, loads, order, sizes};
 use guest_ram::word;
 use std::alloc::Global;
 
-/// The sections of sites, which go by their name.
+/// The sections of sites, which are found by their name.
 fn sites_sections(bytes: &[u8]) -> Found
     requires { IsWhole bytes.now }
     ensures found { result ≡ sites_sections bytes.now }
@@ -55,7 +55,7 @@ fn section_tested(bytes: &[u8]) -> Result<(usize, usize, usize), ElfFault>
     Ok((headers.first(), headers.second(), sites.first()))
 }
 
-/// The tests of the header in their order, and those behind them.
+/// The tests of the header in their order, and those after them.
 #[tactic(auto, unfolding(crate::specs::Faults::tested, crate::specs::Reading::wrong_image))]
 fn header_tested(bytes: &[u8]) -> Result<(usize, usize, usize), ElfFault>
     requires { IsWhole bytes.now }

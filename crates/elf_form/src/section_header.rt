@@ -55,7 +55,7 @@ pub const NO_SECTION: SectionHeader = SectionHeader {
     entry_size: 0,
 };
 
-/// Text, in an object and in an image. Its name is the first behind a zero byte.
+/// Text, in an object and in an image. Its name is the first after a zero byte.
 pub const TEXT_SECTION: SectionHeader = SectionHeader {
     name: 1,
     kind: SHT_PROGBITS,

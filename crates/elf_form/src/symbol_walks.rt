@@ -26,7 +26,7 @@ pub fn sections_fault(test: SectionTest, table: Table, names: &[u8], bytes: &[u8
     None
 }
 
-/// The first place that a test of the symbols behind the null one gives.
+/// The first place that a test of the symbols after the null one gives.
 pub fn symbols_fault(
     test: SymbolTest,
     table: Table,

@@ -1,4 +1,4 @@
--- Sites of one text behind those of others.
+-- Sites of one text after those of others.
 use Rattle.std.proofs.Common.{◌≡◌, ℕ, zero, suc, ◌+◌, ◌<◌, ◌≤◌, ◌^◌, max, List, [], ◌∷◌, ◌++◌, subst, arith}
 use Rattle.std.specs.Prelude.{All, map}
 use Rattle.sites.specs.declared.site.Site.{Site}

@@ -29,7 +29,7 @@ init_room o = round_up 4096 (init_size o)
 abbrev pub bss_room : ObjectParts → ℕ
 bss_room o = round_up 4096 (bss_size o)
 
--- Where the parts of object i begin: texts behind the first text, data behind the first data, and zeroed bytes behind all data.
+-- Where the parts of object i begin: texts after the first text, data after the first data, and zeroed bytes after all data.
 abbrev pub text_at : List ObjectParts → ℕ → ℕ
 text_at os i = sum_by text_room (take i os)
 

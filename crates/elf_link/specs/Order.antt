@@ -31,7 +31,7 @@ up_to os p = take (p.0 + 1) os
 abbrev pub symbol_count : List ObjectParts → ℕ
 symbol_count os = sum_by (λ o. length o.symbols) os
 
--- their text with the jump behind it, their data and zeroed bytes, and their symbols keep to their limits
+-- their text with the jump after it, their data and zeroed bytes, and their symbols keep to their limits
 abbrev pub TextFits : List ObjectParts → ℕ × ObjectParts → Type 0
 TextFits os p = text_end (up_to os p) + 2 ≤ TEXT_LIMIT
 

@@ -39,7 +39,7 @@ pub record IsWithin (t : Totals) : Type 0 where
   pub symbols : t.symbols ≤ SYMBOL_LIMIT
   pub sites : t.sites ≤ SITE_LIMIT
 
--- An object breaks no limit behind objects with these sums.
+-- An object breaks no limit after objects with these sums.
 pub record HasRoom (t : Totals) (o : ObjectParts) : Type 0 where
   pub text : t.text + length o.text + 2 ≤ TEXT_LIMIT
   pub memory : t.memory + init_room o + bss_room o ≤ INIT_LIMIT
@@ -51,11 +51,11 @@ size_cause t o =
     (option_or (then_some (nat_lt INIT_LIMIT (t.memory + init_room o + bss_room o)) InitTooLarge)
     (then_some (nat_lt SYMBOL_LIMIT (t.symbols + length o.symbols)) TooManySymbols))
 
--- sites behind others, in a text that wants format 2 and in which they can't be written so
+-- sites after others, in a text that wants format 2 and in which they can't be written so
 abbrev pub is_crowded : Totals → List Site → ℕ → List Site → Bool
 is_crowded t before text sites = nat_lt SHORT_TEXT (t.text + text + 2) && not (are_gapped 0 (before ++ map (moved t.text) sites))
 
--- An object's own sites are malformed or misplaced, or too many behind a number of others.
+-- An object's own sites are malformed or misplaced, or too many after a number of others.
 abbrev pub own_sites_wrong : ℕ → ObjectParts → Bool
 own_sites_wrong before o = misplaced (length o.text) (sites_in o.sites) || nat_lt SITE_LIMIT (before + length (sites_of o))
 
@@ -73,7 +73,7 @@ step_cause t before gs p =
 abbrev pub tested : Option Refused → Result (Unit {0}) Refused
 tested r = unless r tt
 
--- the sites of object i, behind a number of others; and behind others that are known
+-- the sites of object i, after a number of others; and after others that are known
 unfoldable pub own_sites : ℕ → ℕ → ObjectParts → Result (List Site) Refused
 own_sites i before o = if own_sites_wrong before o then Err (record { object = i; cause = SitesForm }) else Ok (sites_of o)
 

@@ -1,4 +1,4 @@
-//! Each object tested behind those before it, and what is kept of it.
+//! Each object tested after those before it, and what is kept of it.
 
 ghost use Rattle.std.specs.Prelude.{◌≡◌, ◌+◌, ◌≤◌, ◌<◌, ◌^◌, ◌++◌, [], All, length, map, nat_lt, Ok, OnOk, IfOk};
 ghost use Rattle.std.specs.List.{list_any};
@@ -59,7 +59,7 @@ fn pass_end(sites: &[Site], text: usize) -> bool
         .any(|s| text < s.at as usize + s.total as usize)
 }
 
-/// The sites of an object, behind a number of other sites. They are refused where they do not have
+/// The sites of an object, after a number of other sites. They are refused where they do not have
 /// their form, pass the end of the text, or are too many.
 #[tactic(auto, unfolding(crate::specs::Steps::own_sites, crate::specs::Sites::sites_of))]
 fn own_sites(alloc: Global, number: u32, before: usize, object: &Object) -> Result<Sites, LinkFault>
@@ -104,7 +104,7 @@ fn put_moved(out: &mut Vec<Site>, sites: &[Site], by: u32) -> Result<(), AllocEr
     Ok(())
 }
 
-/// Whether sites behind others would have to be written in format 2, for the length of the text, and
+/// Whether sites after others would have to be written in format 2, for the length of the text, and
 /// can't be.
 fn are_crowded(
     alloc: Global,
@@ -124,7 +124,7 @@ fn are_crowded(
     Ok(!are_gapped(&joined))
 }
 
-/// The sites of an object behind all others. They are also refused where they are crowded.
+/// The sites of an object after all others. They are also refused where they are crowded.
 #[tactic(auto, unfolding(crate::specs::Steps::placed_sites, crate::specs::Steps::own_sites, crate::specs::Steps::sites_wrong_by))]
 fn placed_sites(
     alloc: Global,

@@ -24,7 +24,7 @@ ghost use Rattle.elf_link.specs.Refusals.{Refused, first_doubled, holds, object_
 ghost use Rattle.elf_link.specs.Doubled.{IsFirstDoubled};
 ghost use Rattle.elf_link.specs.Linked.{linked_text, linked_init};
 
-/// No two objects' parts overlap, and all zeroed bytes stand behind all data.
+/// No two objects' parts overlap, and all zeroed bytes stand after all data.
 pub fn parts_apart()
     ensures text { (os : List ObjectParts) (i j : ℕ) (o : ObjectParts) → slice_get os i ≡ Some o → i < j
         → text_at os i + length o.text ≤ text_at os j }
@@ -71,7 +71,7 @@ pub fn relocations_refused()
         ≡ (if r.in_text && r.relative && not (is_text t.place) then Some (NotText r.at) else None) }
 {}
 
-/// A name is told as defined twice exactly where it stands behind itself: it is the first of an
+/// A name is reported as defined twice exactly where it was defined before: it is the first of an
 /// object's names that an object before it, or an earlier symbol of its own, defines too.
 pub fn names_doubled()
     ensures found { (others names : List (List ℕ)) (name : List ℕ) → first_doubled others names ≡ Some name
@@ -80,7 +80,7 @@ pub fn names_doubled()
         → slice_get names k ≡ Some name → holds (others ++ take k names) name ≡ false }
 {}
 
-/// Each object is tested by itself, the first that is refused is told, and none before it is
+/// Each object is tested by itself, the first that is refused is reported, and none before it is
 /// refused by any cause.
 pub fn objects_in_order()
     ensures found { (os : List ObjectParts) (r : Refused) → first_some (object_refusal os) (numbered os) ≡ Some r
@@ -105,7 +105,7 @@ pub fn causes_in_order()
         → SymbolsFit os p → sites_wrong os p ≡ false → object_cause os p ≡ doubled_cause (doubled os p) }
 {}
 
-/// An object's sites are wrong exactly where their section is malformed, one of them ends behind
+/// An object's sites are wrong exactly where their section is malformed, one of them ends past
 /// the text, there are more than 262,144 in the objects up to and with this one, or a long text's
 /// sites can't be written by the gaps between them.
 pub fn sites_refused()
@@ -122,8 +122,8 @@ pub fn sites_refused()
         → sites_wrong os p ≡ false }
 {}
 
-/// The first object with a relocation that is refused is told, with the cause of the first of its
-/// relocations that is; none before it is refused.
+/// The first object with a relocation that is refused is reported, with the cause of the first of
+/// its relocations that is; none before it is refused.
 pub fn relocations_in_order()
     ensures object { (os : List ObjectParts) (r : Refused) → first_some (relocs_refusal os) (numbered os) ≡ Some r
         → IsFirstRefused (λ p. first_some (reloc_cause (globals os) p) p.1.relocs) os r }

@@ -18,7 +18,7 @@ struct Span {
     end: usize,
 }
 
-/// A span with a part of n bytes behind it.
+/// A span with a part of n bytes after it.
 fn behind(span: Span, n: usize) -> Span
     requires small { span.room + n < 2 ^ 63 }
     ensures { result ≡ behind span n }

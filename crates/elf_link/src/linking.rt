@@ -37,7 +37,7 @@ fn put_padded(out: &mut Vec<u8>, bytes: &[u8], to: usize, fill: u8) -> Result<()
     Ok(())
 }
 
-/// Each text behind the one before, with NOPs between them, and a jump to itself.
+/// Each text after the one before, with NOPs between them, and a jump to itself.
 #[tactic(auto, unfolding(crate::specs::Linked::linked_text))]
 fn linked_text(alloc: Global, objects: &Vec<Object>, plan: &Plan) -> Result<Vec<u8>, AllocError>
     requires few { length objects.now.items ≤ 64 }
@@ -56,7 +56,7 @@ fn linked_text(alloc: Global, objects: &Vec<Object>, plan: &Plan) -> Result<Vec<
     Ok(out)
 }
 
-/// Each data behind the one before, with zeros between them.
+/// Each data after the one before, with zeros between them.
 #[tactic(auto, unfolding(crate::specs::Linked::linked_init))]
 fn linked_init(alloc: Global, objects: &Vec<Object>, plan: &Plan) -> Result<Vec<u8>, AllocError>
     requires few { length objects.now.items ≤ 64 }

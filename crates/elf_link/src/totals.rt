@@ -9,7 +9,7 @@ use crate::fault::LinkCause;
 use elf_form::{Object, SYMBOL_LIMIT, pad};
 use sites::{INIT_LIMIT, SITE_LIMIT, TEXT_LIMIT};
 
-/// What some objects take: bytes of text and of data with zeroed bytes, each with the gap behind
+/// What some objects take: bytes of text and of data with zeroed bytes, each with the gap after
 /// it, and numbers of symbols and sites.
 #[derive(Clone, Copy)]
 pub struct Totals {

@@ -74,7 +74,7 @@ outer cpu start len at false low high = Made.given tt
 outer cpu start len at true low high =
     Made.follows (Made.writing (at + 12) Long (slice_index cpu.regs.r 4) (omega (arith, low)) (omega (arith, high))) (λ done. Made.writing (at + 16) Long (seg_of cpu 2).sel (omega (arith, low)) (omega (arith, high)))
 
--- behind the error code
+-- after the error code
 rest : {user : Bool} (cpu : Cpu) (top start len at : ℕ) (inner : Bool) → start ≤ at → at + 12 + cond inner 8 0 ≤ start + len → Made denials user ℕ (start, len) (start, len) (push_return cpu at >>= (λ done. push_outer cpu inner at >>= (λ done. gives top)))
 rest cpu top start len at inner low high =
     Made.follows (returned cpu start len at low (omega (arith, high))) (λ done. Made.follows (outer cpu start len at inner low high) (λ done. Made.given top))

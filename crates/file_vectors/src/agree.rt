@@ -31,12 +31,12 @@ pub fn list(rt: &impl Abort, alloc: Global, bytes: &[u8]) -> Vec<u8>
     Vec::from_slice(alloc, bytes).expect(rt, "memory")
 }
 
-/// Puts the piece behind the bytes.
+/// Puts the piece after the bytes.
 pub fn add(rt: &impl Abort, bytes: &mut Vec<u8>, piece: &[u8]) {
     bytes.extend_from_slice(piece).expect(rt, "memory");
 }
 
-/// Puts the piece so many times behind the bytes.
+/// Puts the piece so many times after the bytes.
 pub fn put_times(rt: &impl Abort, bytes: &mut Vec<u8>, piece: &[u8], count: u32) {
     for _ in 0..count {
         add(rt, bytes, piece);

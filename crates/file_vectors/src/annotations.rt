@@ -10,7 +10,7 @@ use sites::{Site, Sites, SitesFault, are_gapped, patch, read_sites, write_sites}
 use std::alloc::Global;
 use std::process::Abort;
 
-/// OUT at 7 and HLT at 12, each with four NOPs behind it.
+/// OUT at 7 and HLT at 12, each with four NOPs after it.
 const OUT_AND_HLT: [Site; 2] = [
     Site {
         at: 7,
@@ -68,10 +68,10 @@ fn worked_annotations_are_written_and_read(rt: HostRuntime) {
     }
 }
 
-/// A number of sites, the head that tells it, and what read_sites answers.
+/// A number of sites, the head that states it, and what read_sites answers.
 type Counted = (u32, &'static [u8], Result<usize, u32>);
 
-// 256 times CLI behind the longest gap: the last one ends at 256 * (2^24 - 1 + 5).
+// 256 times CLI after the longest gap: the last one ends at 256 * (2^24 - 1 + 5).
 static COUNTED: [Counted; 2] = [
     (255, b"PVS2\xFF\0\0\0", Ok(255)),
     (256, b"PVS2\0\x01\0\0", Err(1283)),
@@ -89,7 +89,7 @@ fn answer(alloc: Global, bytes: &[u8]) -> Result<usize, u32> {
     }
 }
 
-/// That head, and so many times CLI behind the longest gap.
+/// That head, and so many times CLI after the longest gap.
 fn counted(rt: &impl Abort, alloc: Global, head: &[u8], count: u32) -> Vec<u8> {
     let mut bytes = list(rt, alloc, head);
     put_times(rt, &mut bytes, &[0xFF, 0xFF, 0xFF, 1, 1], count);
@@ -132,7 +132,7 @@ fn names_the_first_bad_byte(rt: HostRuntime) {
     }
 }
 
-/// CLI with four NOPs behind it, and LIDT, which has 7 bytes.
+/// CLI with four NOPs after it, and LIDT, which has 7 bytes.
 const CLI_AND_LIDT: [Site; 2] = [
     Site {
         at: 0,
@@ -148,7 +148,7 @@ const CLI_AND_LIDT: [Site; 2] = [
     },
 ];
 
-/// Their text, with a byte behind each, and the same once they are patched.
+/// Their text, with a byte after each, and the same once they are patched.
 static UNPATCHED: [u8; 14] = [
     0xFA, 0x90, 0x90, 0x90, 0x90, 0x40, 0x0F, 0x01, 0x1D, 0x10, 0, 0, 0x11, 0x41,
 ];

@@ -56,10 +56,10 @@ fn are_answered(
     }
 }
 
-/// Calls that follow one another, and the bytes that are loaded behind them.
+/// Calls that follow one another, and the bytes that are loaded after them.
 type Round = (&'static [Call], &'static [u8]);
 
-/// Each call is answered so, and the bytes behind those that stand before are these.
+/// Each call is answered so, and the bytes after those that stand before are these.
 fn are_rounds(
     rt: &impl Abort,
     files: &mut impl Files,

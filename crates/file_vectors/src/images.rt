@@ -51,7 +51,7 @@ fn file(rt: &impl Abort, alloc: Global, parts: &Parts<'_>) -> Vec<u8> {
         &mut out,
         &[0x464C_457F, 0x0001_0101, 0, 0, 0x0003_0002, 1],
     );
-    // The section headers stand behind the names. How many entries the tables have, and how long these are.
+    // The section headers stand after the names. How many entries the tables have, and how long these are.
     put(rt, &mut out, &[parts.entry, 52, names_at + 21, 0]);
     put(rt, &mut out, &[0x0020_0034, 0x0028_0002, 0x0002_0003]);
     put(

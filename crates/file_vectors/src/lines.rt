@@ -177,7 +177,7 @@ fn puts(out: &mut MemSink, sends: bool) -> bool {
     put_step(&items, out).is_ok()
 }
 
-/// Whether a step has those items, whether they are taken, and what the sink has behind them.
+/// Whether a step has those items, whether they are taken, and what the sink has after them.
 static STEPS: [(bool, bool, &[u8]); 3] = [
     (false, true, b""),
     (true, true, b"2 out8 03f8 48\n2 tx 48\n"),

@@ -8,7 +8,7 @@ use elf_link::{LinkCause, LinkFault, are_linkable, link, linked};
 use std::alloc::Global;
 use std::process::Abort;
 
-/// What is told of objects, if they can be linked at all.
+/// What is returned for objects, if they can be linked at all.
 type Outcome = Option<Result<Image, LinkFault>>;
 
 fn outcome(alloc: Global, objects: &Vec<Object>) -> Outcome {
@@ -58,7 +58,7 @@ const CALL_AND_CALLED: [Parts; 2] = [
     },
 ];
 
-/// Their text, and its site. g is 16 bytes behind the call, whose field is at 1: 16 - 4 - 1.
+/// Their text, and its site. g is 16 bytes after the call, whose field is at 1: 16 - 4 - 1.
 const CALLED_TEXT: &[u8] =
     b"\xE8\x0B\0\0\0\x90\x90\x90\x90\x90\x90\x90\x90\x90\x90\x90\xF4\x90\x90\x90\x90\xC3\xEB\xFE";
 
@@ -150,13 +150,13 @@ static MAKING: [Making; 6] = [
     (&[SWITCH], &SWITCHED),
 ];
 
-/// What is told of the objects of these parts.
+/// What is returned for the objects of these parts.
 fn made(rt: &impl Abort, alloc: Global, parts: &[Parts]) -> Outcome {
     let objects = objects(rt, alloc, parts);
     outcome(alloc, &objects)
 }
 
-/// An image is told, and it holds all of these.
+/// An image is returned, and it holds all of these.
 fn is_image(rt: &impl Abort, found: &Outcome, all: &[Held]) {
     match found {
         Some(Ok(image)) => are_held(rt, image, all),
@@ -201,7 +201,7 @@ fn writes_the_file_of_no_object(rt: HostRuntime) {
     assert!(rt; has_file(rt.alloc()));
 }
 
-/// What the cause of a refusal tells.
+/// What the cause of a refusal says.
 #[derive(Clone, Copy)]
 enum Cause {
     Number(u8),
@@ -223,7 +223,7 @@ fn tells(cause: &LinkCause, told: &Cause) -> bool {
     }
 }
 
-/// Whether objects are refused at one of them, by a cause that tells this.
+/// Whether objects are refused at one of them, by a cause that says this.
 fn are_refused(found: &Outcome, at: u32, told: &Cause) -> bool {
     match found {
         Some(Err(LinkFault::At { object, cause })) => *object == at && tells(cause, told),
@@ -270,7 +270,7 @@ const PAST: [Parts; 2] = [
     },
 ];
 
-/// Objects, the one at which they are refused, and what the cause tells.
+/// Objects, the one at which they are refused, and what the cause says.
 type Refused = (&'static [Parts], u32, Cause);
 
 static REFUSED: [Refused; 7] = [
@@ -389,7 +389,7 @@ fn is_limited(found: &Outcome, want: &Limited) -> bool {
     }
 }
 
-/// What is told of such large objects.
+/// What is returned for such large objects.
 fn made_large(rt: &impl Abort, alloc: Global, all: &[Much]) -> Outcome {
     let objects = all_large(rt, alloc, all);
     outcome(alloc, &objects)

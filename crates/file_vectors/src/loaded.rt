@@ -17,7 +17,7 @@ fn zeroed(rt: &impl Abort, alloc: Global, bss: u32) -> Checked {
     checked(rt, alloc, &parts)
 }
 
-// An image in a memory of so many frames, with what is told of it.
+// An image in a memory of so many frames, with what `load` returns for it.
 fn started(
     rt: &impl Abort,
     alloc: Global,
@@ -32,7 +32,7 @@ fn started(
     (ram, told)
 }
 
-/// Whether it is told that the memory has too few frames.
+/// Whether it is reported that the memory has too few frames.
 fn is_too_small(told: &Result<Boot, TooSmall>, need: u32, have: u32) -> bool {
     match told {
         Err(small) => small.need == need && small.have == have,

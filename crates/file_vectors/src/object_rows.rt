@@ -56,7 +56,7 @@ fn symbol(rt: &impl Abort, alloc: Global, row: &Named) -> Symbol
     }
 }
 
-/// Puts the symbol behind the others. The bytes of the names add up.
+/// Puts the symbol after the others. The bytes of the names add up.
 #[tactic(auto, using(std::proofs::lemmas::List::Sums::sum_by_push))]
 pub fn put_symbol(rt: &impl Abort, alloc: Global, symbols: &mut Vec<Symbol>, row: &Named)
     ensures count { length symbols.new.items ≡ length symbols.old.items + 1 }
@@ -122,7 +122,7 @@ pub fn are_relocs(object: &Object, relocs: &[Reloc]) -> bool {
     object.relocs.as_slice() == relocs
 }
 
-/// The object has these parts. That of an other one is told: text, data, zeroed bytes, annotations, symbols and relocations are
+/// The object has these parts. One that differs is reported: text, data, zeroed bytes, annotations, symbols and relocations are
 /// the rows 0 to 5.
 fn are_parts(rt: &impl Abort, object: &Object, parts: &Parts) {
     holds(rt, 0, are_same(&object.text, parts.text));

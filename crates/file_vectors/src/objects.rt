@@ -116,7 +116,7 @@ fn names_the_first_fault(rt: HostRuntime) {
     }
 }
 
-/// The worked object with the header of the text first, the null one behind it; the symbol has index 0 (SHN_UNDEF).
+/// The worked object with the header of the text first, the null one after it; the symbol has index 0 (SHN_UNDEF).
 fn with_text_first(rt: &impl Abort, alloc: Global) -> Vec<u8> {
     changed(
         rt,
@@ -189,7 +189,7 @@ fn header(from: usize) -> Option<&'static [u8]> {
 }
 
 /// The worked object with that field. Header 0 is that of the string table, which is named by its index or by a reserved
-/// one. With 65,535 headers each index has one: those behind the tenth are all like header 0.
+/// one. With 65,535 headers each index has one: those after the tenth are all like header 0.
 fn with_index(rt: &impl Abort, alloc: Global, row: &Index) -> Vec<u8> {
     let (field, index, from, count, _) = *row;
     let header = header(from).expect(rt, "a header");

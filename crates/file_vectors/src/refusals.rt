@@ -75,10 +75,10 @@ static TEXTS: [Told; 33] = [
         0,
     ),
     (&[0xFB, 0xF4, 0x90, 0x90, 0xEB, 0xFE], PAIR_FIRST, 68, 0),
-    // RDTSC behind bytes that are no instruction, and before them
+    // RDTSC after bytes that are no instruction, and before them
     (&[0x0F, 0xFF, 0x0F, 0x31], CUT, 66, 0),
     (&[0x0F, 0x31, 0x0F, 0xFF], CUT, 65, 0),
-    // no end; annotations that are cut; CLI without NOPs, behind a branch that leads nowhere
+    // no end; annotations that are cut; CLI without NOPs, after a branch that leads nowhere
     (&[0xEB, 0x7F, 0xFA, 0x90], CUT, 67, 3),
     (&[0xEB, 0x7F, 0xFA, 0xEB, 0xFE], CUT, 69, 7),
     (&[0xEB, 0x7F, 0xFA, 0xEB, 0xFE], NO_SITES, 68, 2),
@@ -121,7 +121,7 @@ const EMPTY: (&[u8], &[u8]) = (&[], NO_SITES);
 
 const RDTSC: (&[u8], &[u8]) = (&[0x0F, 0x31], NO_SITES);
 
-/// A branch to no instruction, and one to the end behind it.
+/// A branch to no instruction, and one to the end after it.
 const NOWHERE: (&[u8], &[u8]) = (&[0xEB, 0x7F, 0xEB, 0xFE], NO_SITES);
 
 const BEHIND: (&[u8], &[u8]) = (&[0xEB, 0, 0xEB, 0xFE], NO_SITES);
@@ -137,7 +137,7 @@ static PLACED: [Placed; 21] = [
     (NOP, TEXT, DATA, 0, 1, 0, 0),
     (NOP, TEXT, DATA, 0, 2, 71, 2),
     (NOP, TEXT, DATA, 0, 3, 64, 0),
-    // The parts have their places and sizes. The last entries are behind the text, in an instruction, in padding, and at a
+    // The parts have their places and sizes. The last entries are past the text, in an instruction, in padding, and at a
     // start.
     (WORKED, 0x1000_1000, 0, 0, 0, 60, 0),
     (WORKED, TEXT, 0, 0, 0, 61, 0),
@@ -175,7 +175,7 @@ fn parts_stand_in_their_places(rt: HostRuntime) {
     }
 }
 
-/// How many zeros stand behind RDTSC, and the number of the answer.
+/// How many zeros follow RDTSC, and the number of the answer.
 static ZEROS: [(u32, u32); 2] = [(16_777_214, 65), (16_777_215, 62)];
 
 /// RDTSC and so many zeros.

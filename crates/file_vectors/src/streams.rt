@@ -52,7 +52,7 @@ static PIECES: [Piece; 4] = [
     (0, None, false, 1),
 ];
 
-/// Whether a piece of four bytes is written so, behind an empty one.
+/// Whether a piece of four bytes is written so, after an empty one.
 fn is_written(alloc: Global, row: &Piece) -> bool {
     let (room, end, written, faults) = *row;
     let mut taken = Vec::new(alloc);

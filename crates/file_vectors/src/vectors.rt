@@ -32,10 +32,10 @@ pub static GCC_OBJECT: [u8; 672] = [
 ];
 
 /// The worked example's text: `movl $0x3f8,%edx`, `movb $0x48,%al`, OUT at 7 and HLT at 12, each of
-/// these two with four NOPs behind it.
+/// these two with four NOPs after it.
 pub const WORKED_TEXT: &[u8] = b"\xBA\xF8\x03\0\0\xB0\x48\xEE\x90\x90\x90\x90\xF4\x90\x90\x90\x90";
 
-/// The same with the end of an image behind it.
+/// The same with the end of an image after it.
 pub const WORKED_ENDED: &[u8] =
     b"\xBA\xF8\x03\0\0\xB0\x48\xEE\x90\x90\x90\x90\xF4\x90\x90\x90\x90\xEB\xFE";
 

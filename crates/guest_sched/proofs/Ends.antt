@@ -1,4 +1,4 @@
--- Behind all turns, the last lines end the text of several kernels.
+-- After all turns, the last lines end the text of several kernels.
 use Rattle.std.proofs.Common.{◌≡◌, ℕ, suc, ◌*◌, List, [], ◌∷◌, ◌++◌, Option, Some, None, is_none, length, drop, map, refl, ap, sym, subst, ◌∙◌, arith, append-nil}
 use Rattle.std.specs.List.{flat_map}
 use Rattle.ia32_types.specs.declared.stop.Stop.{Stop}

@@ -83,7 +83,7 @@ met_stop : (n frames : ℕ) (whole done : List Slice) (pieces : List Piece) (k :
 met_stop n frames whole done pieces k s stop None is h = absurd (cc)
 met_stop n frames whole done pieces k s stop (Some other) is h = h.2
 
--- the text of first steps, with the line of the stop behind them if there is one
+-- the text of first steps, with the line of the stop after them if there is one
 begun_as : (m : Setting) (reports : List Report) (p : Piece) (pieces : List Piece) (n : ℕ) (last then_ : State) (text : List ℕ) → reports_of n pieces ≡ reports ++ p.reports → own_text n pieces ≡ text ++ (lines_of (trace_of p.reports) ++ stop_line p.steps p.stop)
     → text ≡ lines_of (trace_of reports) → p.steps ≡ then_.step → IfSome p.stop (StopHolds m last) → ((stop : Stop) → StopHolds m last stop → StopHolds m then_ stop) → IsBegun m (reports_of n pieces) then_ (own_text n pieces)
 begun_as m reports p pieces n last then_ text r t is count stops on = begun p.stop refl stops

@@ -37,7 +37,7 @@ module _ (frames : ℕ) (host host' : List ℕ) (present : ℕ) where
       ap (λ s. s ∷ seats_from frames host' present (suc i) ks ts) (parked i k t (λ e. absurd (omega (arith, less, e))) (theirs 0 t (omega arith)))
       ∙ ap (λ l. behind_as frames host' (seat_of frames host present i k t) ∷ l) (all_parked (suc i) ks ts (omega (arith, less)) (λ j e l. theirs (suc j) e (omega (arith, l))))
 
-  -- those before the present one, it, and those behind it
+  -- those before the present one, it, and those after it
   pub record Split (k : Kernel) (t t' : Tenant) (n : ℕ) (seats seats' : List Seat) : Type 0 where
     pub before : List Seat
     pub after : List Seat

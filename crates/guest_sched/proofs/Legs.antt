@@ -116,7 +116,7 @@ module _ (m : Setting) (tag : List ℕ) (bound : ℕ) (old new : State) (out : O
           own = refl;
         }
 
--- some steps more, and what stops behind them
+-- some steps more, and what stops after them
 pub record BeganOn (m : Setting) (reports : List Report) (last : State) : Type 0 where
   pub sets : List Set
   pub then_ : State

@@ -63,7 +63,7 @@ module _ (frames : ℕ) (whole done : List Slice) (pieces : List Piece) (slice :
         | inr o ↦ (let none = for_another n slice o.0 in omega (arith, sum, none))
       ]) h
 
-  -- those behind it
+  -- those after it
   rest_on : (n : ℕ) (ks : List Kernel) (ss ss' : List Seat) (stops : List (Option Stop)) → slice.kernel < n → EachStays frames ss ss' → EachStands n frames whole done pieces ks ss stops
       → EachStands n frames whole (done ++ slice ∷ []) (pieces ++ p ∷ []) ks ss' stops
   rest_on n [] [] [] [] less same h = tt
@@ -76,7 +76,7 @@ module _ (frames : ℕ) (whole done : List Slice) (pieces : List Piece) (slice :
   rest_on n (k ∷ ks) (s ∷ ss) (s' ∷ ss') (t ∷ stops) less same h =
       (other_on n k s s' t (λ e. absurd (omega (arith, less, e))) same.0 h.0, rest_on (suc n) ks ss ss' stops (omega (arith, less)) same.1 h.1)
 
-  -- the kernel whose turn it was, between those before and behind it
+  -- the kernel whose turn it was, between those before and after it
   pub went_stands : (i m : ℕ) (befores befores' afters afters' : List Seat) (s s' : Seat) (ks : List Kernel) (stops : List (Option Stop)) (dk : Kernel) (dt new : Option Stop) → m ≡ length befores → slice.kernel ≡ i + m
       → EachStays frames befores befores' → EachStays frames afters afters' → EachStands i frames whole done pieces ks (befores ++ s ∷ afters) stops
       → ((k : Kernel) → k ≡ get_or ks m dk → StandsSo slice.kernel frames whole done pieces k s (get_or stops m dt) → StandsSo slice.kernel frames whole (done ++ slice ∷ []) (pieces ++ p ∷ []) k s' new)

@@ -11,7 +11,7 @@ pub bound_append : (kernel : ℕ) (xs ys : List Slice) → bound_of kernel (xs +
 bound_append kernel [] ys = omega arith
 bound_append kernel (x ∷ xs) ys = let rest = bound_append kernel xs ys in omega (arith, rest)
 
--- the slice at i, and those behind it
+-- the slice at i, and those after it
 pub bound_at : (kernel : ℕ) (slices : List Slice) (i : ℕ) (other : Slice) → i < length slices →
     bound_of kernel (drop i slices) ≡ steps_for kernel (get_or slices i other) + bound_of kernel (drop (i + 1) slices)
 bound_at kernel slices i other within = rw (add-one, drop-cons slices i other within) refl

@@ -7,7 +7,7 @@ use Rattle.std.specs.Prelude.{◌==◌, if◌then◌else◌}
 use Rattle.guest_sched.specs.Tags.{due_behind, tagged_from}
 use Rattle.guest_sched.specs.Dues.{due_after, line_len, has_end}
 
--- from a place on: the line goes on behind a byte that ends none, and ends behind one that does
+-- from a place on: the line goes on after a byte that ends none, and ends after one that does
 
 pub line_on : (text : List ℕ) (i : ℕ) → i < length text → get_or text i 0 ≢ 10 → line_len (drop i text) ≡ suc (line_len (drop (i + 1) text))
 line_on text i within other =
@@ -31,7 +31,7 @@ line_past text i past = rw (drop_all i text past) refl
 pub end_past : (text : List ℕ) (i : ℕ) → length text ≤ i → has_end (drop i text) ≡ false
 end_past text i past = rw (drop_all i text past) refl
 
--- one text behind another
+-- one text after another
 pub tagged_append : (tag due xs ys : List ℕ) → tagged_from tag due (xs ++ ys) ≡ tagged_from tag due xs ++ tagged_from tag (due_after tag due xs) ys
 tagged_append tag due [] ys = refl
 tagged_append tag due (b ∷ xs) ys =

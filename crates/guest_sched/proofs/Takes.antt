@@ -21,7 +21,7 @@ appends_at (Some old) new bytes before h is =
 pub rose_more : (a b c : ℕ) → b ≡ a → Rose b c → Rose a c
 rose_more a b c same rose = subst (λ (z : ℕ). Rose z c) same rose
 
--- a put that failed has taken a front of what came behind the text
+-- a put that failed has taken a front of what came after the text
 fails : (new : Option (List ℕ)) (before done front rest all : List ℕ) → all ≡ done ++ (front ++ rest) → new ≡ Some ((before ++ done) ++ front) →
     new ≡ Some (before ++ take (size new - length before) all)
 fails new before done front rest all whole is =

@@ -75,7 +75,7 @@ module _ (name name' : ℕ) (tag tag' : List ℕ) (faults faults' : ℕ) (was wa
         λ before is. subst (λ (z : List ℕ). now ≡ Some (before ++ tagged z text)) s.tag_is (t.whole refl before (s.was_is ∙ is)) in
         subst (λ (z : List ℕ). Appends was now (tagged tag z)) s.text_is (whole_taken tag text was now whole)
 
--- an end that isn't told
+-- an end that isn't reported
 pub unpaused : (m : Setting) (bound : ℕ) (last new : State) (end : Set) (result : Result Pause Failed) (f : Failed) → PausesAs m bound last new end result → PausesAs m bound last new end (Err f)
 unpaused m bound last new end (Ok pause.Reached) f h = let is = h.0 in omega (arith, is)
 unpaused m bound last new end (Ok (pause.Stopped stop)) f h = let is = h.0 in omega (arith, is)

@@ -46,7 +46,7 @@ pub record IsSeated (frames : ℕ) (pool : Pool) (s : Seat) : Type 0 where
   pub holds : HoldsFrames frames pool s
   pub goes_on : s.live ≡ true → MayGoOn frames pool s
 
--- so of each kernel; and each one's memory goes on behind its own as the host's does
+-- so of each kernel; and each one's memory goes on past its own as the host's does
 abbrev pub AreSeated : ℕ → Pool → List ℕ → List Seat → Type 0
 AreSeated frames pool host [] = Unit {0}
 AreSeated frames pool host (s ∷ seats) =
@@ -61,7 +61,7 @@ abbrev pub all_held : List Seat → ℕ
 all_held [] = 0
 all_held (s ∷ seats) = length (held_by s) + all_held seats
 
--- No frame is held by two kernels, and those that are held are, with the free ones, all of the pool, which lies behind the
+-- No frame is held by two kernels, and those that are held are, with the free ones, all of the pool, which lies past the
 -- kernels' memory.
 pub record AreApart (frames : ℕ) (pool : Pool) (host : List ℕ) (seats : List Seat) : Type 0 where
   pub seated : AreSeated frames pool host seats
@@ -70,7 +70,7 @@ pub record AreApart (frames : ℕ) (pool : Pool) (host : List ℕ) (seats : List
   pub few : count_of pool ≤ 512
   pub behind : frames ≤ base_of pool
 
--- the kernel's memory where the host's has become another behind the kernels'
+-- the kernel's memory where the host's has become another past the kernels'
 abbrev pub behind_as : ℕ → List ℕ → Seat → Seat
 behind_as frames host s = record s { memory = take (4096 * frames) s.memory ++ drop (4096 * frames) host }
 

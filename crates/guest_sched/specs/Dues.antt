@@ -1,8 +1,8 @@
--- What is due behind a text of lines with tags, and the first line of a text.
+-- What is due after a text of lines with tags, and the first line of a text.
 use Rattle.std.specs.Prelude.{ℕ, suc, Bool, true, false, ◌==◌, List, [], ◌∷◌, if◌then◌else◌}
 use Rattle.guest_sched.specs.Tags.{due_behind}
 
--- what is due behind a text, where so much is due before it
+-- what is due after a text, where so much is due before it
 abbrev pub due_after : List ℕ → List ℕ → List ℕ → List ℕ
 due_after tag due [] = due
 due_after tag due (b ∷ rest) = due_after tag (due_behind tag b) rest

@@ -8,7 +8,7 @@ use Rattle.machine_model.specs.Step.{Report}
 use Rattle.machine_model.specs.Run.{Set, Steps, StopHolds, with_set}
 use Rattle.wedge_core.specs.Promises.{HasFills}
 
--- steps from the start with these reports, behind which the kernel stands in this state: with translations that a run may go on
+-- steps from the start with these reports, after which the kernel stands in this state: with translations that a run may go on
 -- with. So many pages were filled by then.
 pub record HasRun (m : Setting) (reports : List Report) (fills : ℕ) (state : State) : Type 0 where
   pub sets : List Set
@@ -20,7 +20,7 @@ pub record HasRun (m : Setting) (reports : List Report) (fills : ℕ) (state : S
   pub enough : All (λ (set : Set). len set ≤ fills) (sets ++ end ∷ [])
   pub few : fills ≤ 128 * last.step
 
--- such steps, behind which the next one stops, by the set to which the fills are compared
+-- such steps, after which the next one stops, by the set to which the fills are compared
 pub record HasStopped (m : Setting) (n : ℕ) (reports : List Report) (fills : ℕ) (stop : Stop) (count : ℕ) : Type 0 where
   pub sets : List Set
   pub last : State

@@ -1,4 +1,4 @@
--- The lines of a schedule's text, each by itself behind those before it: which are good, and what they say.
+-- The lines of a schedule's text, each by itself after those before it: which are good, and what they say.
 use Rattle.std.specs.Prelude.{◌≡◌, ℕ, ◌+◌, ◌<◌, nat_lt, nat_le, List, [], ◌∷◌, length, take, slice_index_or, Option, Some, None, Result, Ok, Err, if◌then◌else◌}
 use Rattle.std.specs.List.{flat_map}
 use Rattle.guest_sched.specs.declared.schedule.Slice.{Slice}
@@ -20,7 +20,7 @@ said (Ok (Some slice)) = slice ∷ []
 abbrev pub slices_on : ℕ → List (List ℕ) → List Slice
 slices_on kernels lines = flat_map (λ line. said (slice_of_line kernels line)) lines
 
--- why a line is bad behind these slices, or None where it is good
+-- why a line is bad after these slices, or None where it is good
 abbrev pub badness : List Slice → Result (Option Slice) ScheduleCause → Option ScheduleCause
 badness before (Err cause) = Some cause
 badness before (Ok None) = None
@@ -29,7 +29,7 @@ badness before (Ok (Some slice)) =
     else if nat_le max_slices (length before) then Some TooMany
     else None
 
--- the same of line i, counted from 0, behind the lines before it
+-- the same of line i, counted from 0, after the lines before it
 abbrev pub badness_of : ℕ → List (List ℕ) → ℕ → Option ScheduleCause
 badness_of kernels lines i = badness (slices_on kernels (take i lines)) (slice_of_line kernels (slice_index_or lines i []))
 

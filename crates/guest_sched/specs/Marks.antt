@@ -8,7 +8,7 @@ abbrev pub size : Option (List ℕ) → ℕ
 size None = 0
 size (Some bytes) = length bytes
 
--- Where it is told, the text was taken with the tag before each line, behind what had been taken then; and where a put has
+-- Where it is told, the text was taken with the tag before each line, after what had been taken then; and where a put has
 -- failed, a front of it. Where no put has failed the count of faults is as it was, and where one has failed it rose.
 pub record IsTaken (tag : List ℕ) (begun failed : Bool) (text : List ℕ) (was now : Option (List ℕ)) (faults_then faults_now : ℕ) : Type 0 where
   pub whole : failed ≡ false → (before : List ℕ) → was ≡ Some before → now ≡ Some (before ++ tagged tag text)

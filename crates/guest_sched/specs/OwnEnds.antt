@@ -12,8 +12,8 @@ use Rattle.guest_sched.specs.Bounds.{bound_of}
 use Rattle.guest_sched.specs.Pieces.{Piece}
 use Rattle.guest_sched.specs.Shared.{alone, EachRan}
 
--- The set at the end of such a run: that by which it stops, or behind its last step the guest's own. The guest stands there
--- over the kernel's memory, which goes on behind its frames as the host's does, and has filled so many pages.
+-- The set at the end of such a run: that by which it stops, or after its last step the guest's own. The guest stands there
+-- over the kernel's memory, which goes on past its frames as the host's does, and has filled so many pages.
 abbrev pub HasOwnEnd : (m : Setting) (n : ℕ) (last : State) (end : End) → EndsIn m n last end → Set → ℕ → List ℕ → Type 0
 HasOwnEnd m n last Bound ends set fills host =
     (memory : List ℕ) × (drop (4096 * m.frames) memory ≡ drop (4096 * m.frames) host) × HasGuest m last Bound set fills memory

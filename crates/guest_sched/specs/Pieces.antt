@@ -15,8 +15,8 @@ use Rattle.wedge_core.specs.Counts.{Counts}
 use Rattle.guest_sched.specs.Tags.{tag_of, tagged}
 use Rattle.guest_sched.specs.declared.schedule.Slice.{Slice}
 
--- A kernel's turn: what its steps reported, how many steps the kernel has made behind it, and the stop that it met there.
--- In the turns behind a stop the kernel does nothing.
+-- A kernel's turn: what its steps reported, how many steps the kernel has made after it, and the stop that it met there.
+-- In the turns after a stop the kernel does nothing.
 pub record Piece : Type 0 where
   pub kernel : ℕ
   pub reports : List Report
@@ -36,7 +36,7 @@ MakesSteps true steps reports stop = (reports ≡ []) × (stop ≡ None)
 MakesSteps false steps reports None = length reports ≡ steps
 MakesSteps false steps reports (Some stop) = length reports < steps
 
--- the turn of a slice, behind these turns
+-- the turn of a slice, after these turns
 pub record IsTurn (before : List Piece) (slice : Slice) (p : Piece) : Type 0 where
   pub kernel_is : p.kernel ≡ slice.kernel
   pub steps : MakesSteps (has_stopped slice.kernel before) slice.steps p.reports p.stop
@@ -89,7 +89,7 @@ counts_over sites c [] = c
 counts_over sites c (p ∷ pieces) =
     counts_over sites (record { retired = c.retired + direct_count (sites p.kernel) p.reports; passed = passed_digest (sites p.kernel) c.passed p.reports }) pieces
 
--- What is read of the bytes: the lines of a text that begin with a kernel's tag, each without it. The part behind the last
+-- What is read of the bytes: the lines of a text that begin with a kernel's tag, each without it. The part after the last
 -- line's end is empty.
 abbrev pub begins_with : List ℕ → List ℕ → Bool
 begins_with [] line = true

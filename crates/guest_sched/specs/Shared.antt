@@ -49,7 +49,7 @@ LinesAreAlone number text pieces [] = Unit {0}
 LinesAreAlone number text pieces (ended ∷ more) =
     (lines_of_kernel number text ≡ text_of (trace_of (reports_of number pieces)) ended.steps ended.end) × LinesAreAlone (suc number) text pieces more
 
--- a kernel's first steps, as if it were alone, and their lines: with the last one where it met a stop behind them
+-- a kernel's first steps, as if it were alone, and their lines: with the last one where it met a stop after them
 abbrev pub IsBegun : Setting → List Report → State → List ℕ → Type 0
 IsBegun m reports last text =
     (text ≡ lines_of (trace_of reports)) ⊎ ((stop : Stop) × StopHolds m last stop × (text ≡ text_of (trace_of reports) last.step (Stopped stop)))

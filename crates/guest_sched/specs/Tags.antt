@@ -5,7 +5,7 @@ use Rattle.std.specs.Prelude.{ℕ, ◌+◌, ◌==◌, List, [], ◌∷◌, ◌++
 abbrev pub tag_of : ℕ → List ℕ
 tag_of kernel = (48 + kernel) ∷ 32 ∷ []
 
--- what is due behind a byte of a text: the tag behind a line's end, and else nothing
+-- what is due after a byte of a text: the tag after a line's end, and else nothing
 abbrev pub due_behind : List ℕ → ℕ → List ℕ
 due_behind tag b = if b == 10 then tag else []
 

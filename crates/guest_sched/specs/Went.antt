@@ -21,7 +21,7 @@ abbrev pub EndsSo : ℕ → Tenant → Option (List ℕ) → Option (List ℕ) �
 EndsSo number new taken tells Reached = (new.stop ≡ None) × (tells ≡ taken)
 EndsSo number new taken tells (Stopped stop) = (new.stop ≡ Some stop) × Appends taken tells (tagged (tag_of number) (end_line new.guest.step (end.Stopped stop)))
 
--- The steps of a turn were made, all of them or those up to a stop, whose line stands behind theirs.
+-- The steps of a turn were made, all of them or those up to a stop, whose line stands after theirs.
 pub record HasTurned (kernel : Kernel) (number steps : ℕ) (host host' : List ℕ) (old new : Tenant) (out : Outward) : Type 0 where
   pub pause : Pause
   pub between : Option (List ℕ)
@@ -37,7 +37,7 @@ pub record HasTurned (kernel : Kernel) (number steps : ℕ) (host host' : List �
   pub ends : EndsSo number new between out.tells pause
   pub few : new.guest.fills ≤ 128 * new.guest.step
 
--- The sink has failed: some first steps of the turn, and the stop behind them if its line was begun, with a front of their text.
+-- The sink has failed: some first steps of the turn, and the stop after them if its line was begun, with a front of their text.
 pub record HasFailed (kernel : Kernel) (number steps : ℕ) (host : List ℕ) (old : Tenant) (taken tells : Option (List ℕ)) : Type 0 where
   pub sets : List Set
   pub piece : Piece

@@ -91,7 +91,7 @@ fn begin<H: Host>(
 }
 
 impl Tenants {
-    /// Starts the host with a pool behind the kernels' memory, and no kernel yet.
+    /// Starts the host with a pool after the kernels' memory, and no kernel yet.
     pub fn start<H: Host>(alloc: Global, frames: u32, host: &mut H) -> Result<Tenants, SharedFault>
         requires frames { (2048 ≤ frames) × (frames ≤ 16384) }
         ensures admitted { IfOk result (λ tenants.

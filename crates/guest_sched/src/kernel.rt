@@ -5,7 +5,7 @@ use image_check::Checked;
 use image_load::TooSmall;
 use thiserror::Error;
 
-/// A kernel that shares the host: its image, and what comes to its board.
+/// A kernel that shares the host: its image, and what reaches its board.
 #[derive(Drop)]
 pub struct Kernel {
     pub image: Checked,

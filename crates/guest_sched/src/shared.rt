@@ -27,7 +27,7 @@ use run_trace::{End, Ended, Pause};
 use std::alloc::Global;
 
 /// Runs several kernels on one host with one pool, in the turns of a schedule, and puts the text of each with the kernel's
-/// number before each line. Tells how each of them ended, in their order.
+/// number before each line. Returns how each of them ended, in their order.
 pub fn run_shared<H: Host, O: Sink>(
     alloc: Global,
     kernels: &Vec<Kernel>,

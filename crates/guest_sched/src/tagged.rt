@@ -51,7 +51,7 @@ impl<'a, O: Sink> Tagged<'a, O> {
         self.failed
     }
 
-    /// Puts the first line of a text, and tells how long it is.
+    /// Puts the first line of a text, and returns its length.
     fn put_line(&mut self, text: &[u8]) -> Result<usize, Failed>
         requires some { 1 ≤ length text.now }
         requires live { self.old.failed ≡ false }

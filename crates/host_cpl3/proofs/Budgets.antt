@@ -169,7 +169,7 @@ worked_not v m r insn len =
     (λ _. then_not (access_met m v true (ranges_of insn r).write) (λ _. last) (access_not m v true (ranges_of insn r).write)
     (λ _. finished_not v insn.op m (user_effect (selectors_of v) insn len r (byte_at m v.root)))))))
 
--- behind the test of the window
+-- after the test of the window
 inside_not : (v : View) (m : List ℕ) (r : Regs) → NotBudget (fetched m v.root r.eip >>= (λ begun. spelled begun >>= (λ read. worked v m r read.0 read.1)))
 inside_not v m r =
     let rest : Decoded → Met (Completion × List ℕ) = λ begun. spelled begun >>= (λ read. worked v m r read.0 read.1) in

@@ -25,7 +25,7 @@ found_at false true true d e x y p q s t e' = absurd cc
 found_at false true false false e x y p q s t e' = absurd cc
 found_at false true false true true x y p q s t e' = absurd cc
 
--- where a walk found the table's word
+-- where a walk found the PTE
 pub word_of : (m : List ℕ) (n cr3 page : ℕ) (entry : Entry) (d w : ℕ) → fresh m n cr3 false page ≡ Found entry d w → word_place (word32 m (dir_place cr3 page)) page ≡ w
 unfolding fresh
 word_of m n cr3 page entry d w e =
@@ -33,7 +33,7 @@ word_of m n cr3 page entry d w e =
     let word : ℕ = word32 m (word_place dir page) in
     found_at (leb n (cr3 / 4096)) (has dir 1) (leb n (dir / 4096)) (has word 1) (leb n (word / 4096)) (entry_of page dir word) entry (dir_place cr3 page) (word_place dir page) d w e
 
--- the frame of the table that a walk found is that of the directory's word
+-- the frame of the table that a walk found is that of the PDE
 pub table_found : (m : List ℕ) (n root page : ℕ) (entry : Entry) (d w : ℕ) → fresh m n (4096 * root) false page ≡ Found entry d w → w / 4096 ≡ table_of m root page
 table_found m n root page entry d w e =
     let is = word_of m n (4096 * root) page entry d w e in

@@ -10,7 +10,7 @@ use Rattle.host_cpl3.specs.HostStep.{host_step}
 use Rattle.host_cpl3.specs.HostRun.{Standing}
 use Rattle.host_cpl3.specs.RunsTo.{RunsTo}
 
--- the tables have no page behind the last of the address space, so what is done began below its end
+-- the tables have no page after the last of the address space, so what is done began below its end
 abbrev pub BeginsBelow : Type 0
 BeginsBelow = (v : View) (memory : List ℕ) (r : Regs) (x : Completion × List ℕ) → host_step v memory r ≡ Ok x → r.eip < 2 ^ 32
 

@@ -17,7 +17,7 @@ fetching m root at len = do
   frame ← page_met m root false at
   gives (part m (4096 * frame + at % 4096) len)
 
--- with bytes of the next page behind those of the first
+-- with bytes of the next page after those of the first
 unfoldable pub fetched_on : List ℕ → ℕ → ℕ → List ℕ → Met Decoded
 fetched_on m root eip front = do
   more ← fetching m root (eip / 4096 * 4096 + 4096) longest

@@ -12,7 +12,7 @@ use Rattle.host_cpl3.specs.declared.exit.Exit.{Exit}
 use Rattle.host_cpl3.specs.declared.exit.Exit.TheVariants as exits
 use Rattle.host_cpl3.specs.Met.{Met}
 
--- behind the last page of the address space there is none
+-- after the last page of the address space there is none
 abbrev pub walked : List ℕ → ℕ → ℕ → Walk
 walked m root page = if nat_lt page (2 ^ 20) then fresh m (length m / 4096) (4096 * root) false page else Absent
 

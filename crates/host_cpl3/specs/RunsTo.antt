@@ -1,4 +1,4 @@
--- A run in other words: some instructions that completed, one behind the other, and then what ends it.
+-- A run in other words: some instructions that completed, one after the other, and then what ends it.
 use Rattle.std.specs.Prelude.{◌≡◌, ℕ, zero, suc, ◌+◌, ◌<◌, ◌⊎◌, List, Ok, Err}
 use Rattle.ia32_types.specs.declared.flags.Regs.{Regs}
 use Rattle.host_cpl3.specs.declared.view.View.{View}

@@ -1,4 +1,4 @@
--- What CF and OF tell of a sum and of a difference.
+-- What CF and OF say of a sum and of a difference.
 use Rattle.std.specs.Prelude.{◌≡◌, ℕ, ◌+◌, pos, ◌+ℤ◌, ◌-ℤ◌, false, not, nat_lt}
 use Rattle.ia32_types.specs.declared.flags.Flags.{Flags}
 use Rattle.ia32_types.specs.declared.size.Size.{Size}

@@ -15,14 +15,14 @@ ghost use Rattle.ia32_alu.specs.Range.{TellsSum, TellsDifference};
 ghost use Rattle.ia32_alu.specs.Division.{Divides, DividesSigned};
 ghost use Rattle.ia32_alu.specs.Compare.{TellsCompared};
 
-/// After ADD and ADC, CF and OF tell exactly whether the unsigned and the signed sum are out of range.
+/// After ADD and ADC, CF and OF say exactly whether the unsigned and the signed sum are out of range.
 pub fn sums_in_range()
     ensures add { (s : Size) (a b : ℕ) (f : Flags) → TellsSum s (low s a) (low s b) 0 (alu Add s a b f).0 (alu Add s a b f).1 }
     ensures with_carry { (s : Size) (a b : ℕ) (f : Flags) →
         TellsSum s (low s a) (low s b) (worth (bit f.bits carry_at)) (alu Adc s a b f).0 (alu Adc s a b f).1 }
 {}
 
-/// After SUB and SBB, CF and OF tell exactly whether the unsigned and the signed difference are out of range.
+/// After SUB and SBB, CF and OF say exactly whether the unsigned and the signed difference are out of range.
 pub fn differences_in_range()
     ensures subtract { (s : Size) (a b : ℕ) (f : Flags) → TellsDifference s (low s a) (low s b) 0 (alu Sub s a b f).0 (alu Sub s a b f).1 }
     ensures with_borrow { (s : Size) (a b : ℕ) (f : Flags) →
@@ -56,7 +56,7 @@ pub fn quotients_found()
         divide false s high below by ≡ Some (q, r) }
 {}
 
-/// The flags of CMP tell the order of the operands, as unsigned and as signed numbers, and their difference's sign,
+/// The flags of CMP give the order of the operands, as unsigned and as signed numbers, and their difference's sign,
 /// parity and range.
 pub fn comparisons()
     ensures { (s : Size) (a b : ℕ) (f : Flags) → TellsCompared s (low s a) (low s b) (alu Cmp s a b f).1 }

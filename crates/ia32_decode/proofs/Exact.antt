@@ -75,7 +75,7 @@ one_answer answer.Outside b bytes h k = sym ((exactly_outside b bytes k).1 h)
 pub exact : (a : Decoded) (bytes : List ℕ) → AreBytes bytes → Answers a bytes → a ≡ decoded bytes
 exact a bytes fit h = one_answer a (decoded bytes) bytes h (answered bytes fit)
 
--- a row that reads is behind one that meets a wrong byte
+-- a row that reads is after one that meets a wrong byte
 later : (bytes : List ℕ) (r s : Row) (left : List Row) (p : Parts) (rest : List ℕ) → parts_at r.form bytes ≡ Ok (p, rest) → parts_at s.form bytes ≡ Err Outside → Contains (s ∷ left) r → Contains left r
 later bytes r s left p rest e out c =
     elim (split bytes s r left out c.0 c.1 c.2) [

@@ -67,7 +67,7 @@ list_is_part starts numbers k = in_order starts k && ends_within starts numbers 
 abbrev pub lists_are_parts : List ℕ → List ℕ → Bool
 lists_are_parts starts numbers = all_under 512 (list_is_part starts numbers)
 
--- a row is listed where there is no byte, and one behind 0F where there is no second
+-- a row is listed where there is no byte, and one after 0F where there is no second
 abbrev pub first_is_listed : List ℕ → List ℕ → Row → Bool
 first_is_listed starts numbers other =
     nat_lt 0 (length (listed starts numbers 0)) && nat_lt 0 (length (listed starts numbers 0x0f)) && is_escape (first_row (listed starts numbers 0x0f) other).form.lead
@@ -97,7 +97,7 @@ if_passed : {A : Type 0} (t : Bool) (b : ℕ) (bytes : List ℕ) (f : ℕ → Re
 if_passed true b bytes f h = h refl
 if_passed false b bytes f h = refl
 
--- bytes of which each row that they may begin tells that one is missing are left out
+-- bytes for which each row that they may begin reports that one is missing are left out
 abbrev Enough : List ℕ → Type 0
 Enough [] = ⊥
 Enough (b ∷ []) = (b == 0x0f) ≡ true → ⊥

@@ -6,7 +6,7 @@ use Rattle.ia32_rows.specs.declared.row.Row.{Row}
 use Rattle.ia32_rows.specs.Spelling.{parts_at}
 use Rattle.ia32_rows.specs.Rows.{rows}
 
--- The first byte, or behind 0F the second and 256. No byte counts as 0.
+-- The first byte, or after 0F the second and 256. No byte counts as 0.
 abbrev pub key : List ℕ → ℕ
 key [] = 0
 key (first ∷ []) = first

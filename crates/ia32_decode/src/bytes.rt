@@ -10,7 +10,7 @@ use arrayvec::ArrayVec;
 /// The bytes of an instruction, as far as they were read.
 pub type Bytes = ArrayVec<u8, 32>;
 
-/// Puts these bytes behind those that were read.
+/// Puts these bytes after those that were read.
 pub fn append(from: &[u8], to: &mut Bytes)
     requires { length to.old.items + length from.now ≤ 32 }
     ensures { to.new.items ≡ to.old.items ++ from.now }

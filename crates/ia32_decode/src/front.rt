@@ -19,7 +19,7 @@ pub fn front_len(at: u32) -> u32
     LONGEST.min(4096 - at % 4096)
 }
 
-/// Where the page behind that of an address begins. The last page has none, and an access doesn't go on at 0 (profile).
+/// Where the page after that of an address begins. The last page has none, and an access doesn't go on at 0 (profile).
 pub fn next_page(at: u32) -> Option<u32>
     ensures next { MatchOption result (at / 4096 ≡ LAST_PAGE)
         (λ next. (at / 4096 < LAST_PAGE) × (next ≡ at / 4096 * 4096 + 4096)) }

@@ -34,8 +34,8 @@ pub static STARTS: [u16; 513] = [
     322, 322, 322, 322, 322, 322, 322, 322, 322, 322, 322, 322, 322, 322,
 ];
 
-/// The numbers of the rows that may begin with a byte, or behind 0F with a byte. Those of the byte 0F alone are one
-/// row of a longer opcode, which tells that a byte is missing.
+/// The numbers of the rows that may begin with a byte, or after 0F with a byte. Those of the byte 0F alone are one
+/// row of a longer opcode, which reports that a byte is missing.
 pub static NUMBERS: [u8; 322] = [
     5, 6, 7, 8, 1, 2, 208, 212, 14, 15, 16, 17, 10, 11, 209, 90, 23, 24, 25, 26, 19, 20, 210, 213,
     32, 33, 34, 35, 28, 29, 211, 214, 41, 42, 43, 44, 37, 38, 50, 51, 52, 53, 46, 47, 59, 60, 61,

@@ -195,7 +195,7 @@ unfolding base_at
 sib_base m mode a em er eb fit more =
     rw (er, em) (ap (λ b. read b more) (sib_back mode a.base a.index a.scale eb fit))
 
--- a memory operand behind its ModRM byte
+-- a memory operand after its ModRM byte
 memory_then : (m : ℕ) (bytes mid more : List ℕ) (a : Address) (len mode : ℕ) → mod_of m ≡ mode → base_at m bytes ≡ read (base_record a.base a.index a.scale) mid → disp_at (cond (is_none a.base) 2 mode) mid ≡ read (a.disp, len) more → memory_at m bytes ≡ read (operand.Memory a, len) more
 unfolding memory_at
 memory_then m bytes mid more a len mode em eb ed = rw (eb, em, ed) refl

@@ -1,4 +1,4 @@
--- The bytes that are put one behind the other are those of the spelling, and they spell the instruction.
+-- The bytes that are put one after the other are those of the spelling, and they spell the instruction.
 use Rattle.std.proofs.Common.{◌≡◌, ℕ, suc, ◌+◌, ◌-◌, ◌<◌, ◌≤◌, Bool, true, false, cond, List, [], ◌∷◌, ◌++◌, length, get_or, set, take, replicate, refl, sym, ap, subst, zero-add, add-zero, ◌∙◌, append_assoc, arith}
 use Rattle.std.specs.Prelude.{◌==◌, ◌&&◌, ◌||◌, not, nat_lt, IsTrue, ◌↔◌}
 use Rattle.std.specs.Cmp.Derive.{both_true}
@@ -41,7 +41,7 @@ pushed_len a (x ∷ xs) = omega (arith, pushed_len (pushed a x) xs)
 abbrev array : List ℕ → ℕ → ArrayBytes
 array bytes len = record { bytes = bytes; len = len; disp_at = 0; imm_at = 0 }
 
--- a write behind the front
+-- a write after the front
 set_behind : (front : List ℕ) (c b : ℕ) (rest : List ℕ) → set (front ++ c ∷ rest) (length front) b ≡ front ++ b ∷ rest
 set_behind [] c b rest = refl
 set_behind (f ∷ front) c b rest = ap (λ xs. f ∷ xs) (set_behind front c b rest)
@@ -126,7 +126,7 @@ pub suits_name : (row : Row) (wide : Wide) (insn : Insn) → Suits row wide insn
 unfolding insn_of
 suits_name row wide insn s = ap (λ (i : Insn). i.op) s.means
 
--- what the three tests together tell
+-- what the three tests together say
 pub suits_iff : (row : Row) (wide : Wide) (insn : Insn) (p : Parts) (m f w r : Bool) → p ≡ parts_for row wide.disp insn → IsTrue m ↔ (insn_of row p ≡ insn) → f ≡ form_fits row.form p → w ≡ widths_fit wide p.disp_len (imm_len row.form.immediate) → r ≡ (m && f && w) → IsTrue r ↔ Suits row wide insn
 suits_iff row wide insn p m f w r e em ef ew er = (
   λ t.

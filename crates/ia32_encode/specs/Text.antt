@@ -112,7 +112,7 @@ head_bytes form p = lead_bytes form.lead ++ (p.code ∷ addressing_bytes form.ad
 abbrev pub form_bytes : Form → Parts → List ℕ
 form_bytes form p = head_bytes form p ++ immediate_bytes form.immediate p
 
--- the bytes in an array, zeros behind them, and where displacement and immediate stand
+-- the bytes in an array, zeros after them, and where displacement and immediate stand
 abbrev pub laid_out : Form → Parts → ArrayBytes
 laid_out form p = record {
   bytes = form_bytes form p ++ replicate (16 - length (form_bytes form p)) 0;

@@ -1,4 +1,4 @@
--- What an instruction comes to is the same over bytes that are the same in its ranges.
+-- The outcome of an instruction is the same over bytes that are the same in its ranges.
 use Rattle.std.proofs.Common.{◌≡◌, ℕ, ◌+◌, ◌*◌, ◌/◌, ◌<◌, ◌^◌, ◌%◌, Bool, true, false, cond, refl, sym, ap, subst, ◌∙◌, Some, None, [], ◌∷◌, arith}
 use Rattle.std.specs.Prelude.{slice_index, if◌then◌else◌}
 use Rattle.std.specs.Option.{option_or}

@@ -78,7 +78,7 @@ row PushFlags i len r b = flags_pushed len r
 row PopFlags i len r b = flags_popped len r b
 row _ i len r b = Stop Unsupported
 
--- what an instruction comes to, from its length, the registers and the bytes of memory
+-- the outcome of an instruction, from its length, the registers and the bytes of memory
 unfoldable pub effect : Insn → ℕ → Regs → (ℕ → ℕ) → Outcome
 effect i len r b = row i.op i len r b
 

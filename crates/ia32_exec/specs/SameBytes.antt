@@ -1,4 +1,4 @@
--- What an instruction comes to over bytes that are the same in its ranges.
+-- The outcome of an instruction over bytes that are the same in its ranges.
 use Rattle.std.specs.Prelude.{◌≡◌, ℕ}
 use Rattle.ia32_types.specs.declared.flags.Regs.{Regs}
 use Rattle.ia32_types.specs.declared.insn.Insn.{Insn}

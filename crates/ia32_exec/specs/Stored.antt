@@ -3,7 +3,7 @@ use Rattle.std.specs.Prelude.{ℕ, zero, suc, ◌+◌, ◌*◌, ◌/◌, ◌%◌
 use Rattle.ia32_types.specs.Size.{width}
 use Rattle.ia32_exec.specs.declared.outcome.Store.{Store}
 
--- memory after a byte was written, where a test tells the addresses that lead to one byte
+-- memory after a byte was written, where a test says which addresses lead to one byte
 abbrev pub with_byte : (ℕ → ℕ → Bool) → (ℕ → ℕ) → ℕ → ℕ → ℕ → ℕ
 with_byte same b at v x = if same at x then v else b x
 

@@ -13,7 +13,7 @@ gone_to target r = record r { eip = target }
 abbrev pub ret : (target more : ℕ) → Regs → Regs
 ret target more r = gone_to target (with_pop (4 + more) r)
 
--- CALL of a target, and the number that it pushes: EIP behind it
+-- CALL of a target, and the number that it pushes: EIP after it
 abbrev pub call : ℕ → Regs → Regs
 call target r = gone_to target (with_push r)
 

@@ -1,4 +1,4 @@
--- What an instruction comes to at CPL 3 and IOPL 0, where nothing but registers, selectors and memory decide: the
+-- The outcome of an instruction at CPL 3 and IOPL 0, where nothing but registers, selectors and memory decide: the
 -- insensitive rows, PUSHF and POPF, and those of the sites that a user's code does by itself.
 use Rattle.std.specs.Prelude.{ℕ}
 use Rattle.ia32_types.specs.declared.flags.Regs.{Regs}

@@ -16,7 +16,7 @@ pub fn system_flags_stay()
     ensures insensitive { InsensitiveStay }
 {}
 
-/// An instruction comes to the same over bytes that are the same in its ranges.
+/// An instruction has the same outcome over bytes that are the same in its ranges.
 pub fn same_over_ranges()
     ensures { SameOverRanges }
 {}

@@ -1,4 +1,4 @@
-//! What an instruction accesses in memory, told by the registers alone.
+//! What an instruction accesses in memory, determined by the registers alone.
 
 ghost use Rattle.std.specs.Prelude.{◌≡◌, ◌<◌, ◌≤◌, ◌+◌, slice_index};
 ghost use Rattle.ia32_types.specs.declared.size.Size.TheVariants.{Long};

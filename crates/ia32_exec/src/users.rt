@@ -1,4 +1,4 @@
-//! What an instruction comes to as user code does it by itself.
+//! The outcome of an instruction that user code does by itself.
 
 ghost use Rattle.std.specs.Prelude.{◌≡◌};
 ghost use Rattle.ia32_types.specs.Shape.{IsShaped};
@@ -13,7 +13,7 @@ use crate::selectors::{Selectors, selector_pushed, selector_read};
 use crate::transfers::{called_through, jumped_through, returned};
 use ia32_types::{Insn, Op, Regs};
 
-/// What an instruction comes to at CPL 3 and IOPL 0, with these selectors.
+/// The outcome of an instruction at CPL 3 and IOPL 0, with these selectors.
 #[tactic(auto, unfolding(crate::specs::UserEffect::user_effect, crate::specs::Effect::ranges_of))]
 pub fn user_effect<M: LinearBytes>(
     selectors: &Selectors,

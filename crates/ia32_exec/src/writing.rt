@@ -17,7 +17,7 @@ pub trait Writer {
     /// What is written into.
     type Memory;
 
-    /// What holds of a memory before a write and behind it.
+    /// What holds of a memory before a write and after it.
     ghost stands: { Self → Self.Memory → Type 0 };
 
     /// The byte at an address may be written.

@@ -49,7 +49,7 @@ rm_place : (m : ℕ) (bytes : List ℕ) (x : Operand × ℕ) (rest : List ℕ) �
 unfolding rm_at
 rm_place m bytes x rest e = rm_place_by (mod_of m == 3) m bytes x rest e
 
--- behind a ModRM byte the r/m operand is a place
+-- after a ModRM byte the r/m operand is a place
 abbrev HasPlace : Addressing → Operand → Type 0
 HasPlace (addressing.Modrm form) rm = IsPlace rm
 HasPlace _ rm = Unit {0}

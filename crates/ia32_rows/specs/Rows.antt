@@ -66,7 +66,7 @@ form l n p a i = record { lead = l; opcode = n; plus = p; addressing = a; immedi
 abbrev pub row : Lead → ℕ → Plus → Addressing → Immediate → Op → Size → Operands → Row
 row l n p a i o s x = record { form = form l n p a i; op = o; size = s; operands = x }
 
--- an opcode with nothing behind it
+-- an opcode with nothing after it
 abbrev pub alone : ℕ → Op → Row
 alone n o = row lead.Nothing n plus.Nothing no_modrm immediate.Nothing o size.Long operands.Nothing
 

@@ -48,7 +48,7 @@ pub fn site_kinds()
         (sensitive_kind insn ≡ Some kind) ↔ IsSite bytes insn kind }
 {}
 
-/// The bytes of a row are its pieces, one behind the other.
+/// The bytes of a row are its pieces, one after the other.
 pub fn in_pieces()
     ensures { (row : Row) → Contains rows row → (p : Parts) (bytes : List ℕ) →
         (parts_at row.form bytes ≡ Ok (p, [])) ↔ IsLaidOut row.form p bytes }

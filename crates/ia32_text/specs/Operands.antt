@@ -52,7 +52,7 @@ product i = product_by i.b i
 abbrev pub returned : Insn → Operands
 returned i = if i.imm == 0 then operands.Nothing else operands.One (written.Immediate i.imm)
 
--- where a direct branch at an address leads: behind the instruction, by its distance
+-- where a direct branch at an address leads: after the instruction, by its distance
 abbrev pub target : ℕ → ℕ → ℕ → ℕ
 target distance at len = (at + len + distance) % 2 ^ 32
 

@@ -9,7 +9,7 @@ use Rattle.ia32_text.specs.Numbers.{number_text}
 use Rattle.ia32_text.specs.declared.style.Style.{Style}
 use Rattle.ia32_text.specs.Statement.{Statement, statement_with}
 
--- the constant behind a name
+-- the constant after a name
 abbrev pub constant_text : ℤ → List ℕ
 constant_text (pos n) = if n == 0 then [] else (codes "+" ++ number_text (pos n))
 constant_text (negsuc n) = number_text (negsuc n)

@@ -10,7 +10,7 @@ pub const ROOM: usize = 320;
 /// The bytes of a line.
 pub type Line = ArrayVec<u8, ROOM>;
 
-/// Puts the text behind the line.
+/// Puts the text after the line.
 pub fn add(text: &[u8], line: &mut Line)
     requires { length line.old.items + length text.now ≤ 320 }
     ensures { line.new.items ≡ line.old.items ++ text.now }

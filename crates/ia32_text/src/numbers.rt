@@ -108,7 +108,7 @@ pub fn signed(n: u32, line: &mut Line)
     }
 }
 
-/// The distance from the text's first byte as a constant behind its label.
+/// The distance from the text's first byte as a constant after its label.
 #[tactic(auto, unfolding(crate::specs::Numbers::number_text))]
 fn distance(n: u32, line: &mut Line)
     requires { length line.old.items ≤ 270 }

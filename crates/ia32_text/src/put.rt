@@ -217,7 +217,7 @@ fn put_written(written: Written, style: Style, line: &mut Line)
     }
 }
 
-/// An operand behind what stands before it.
+/// An operand after what stands before it.
 fn put_behind(front: &[u8], written: Written, style: Style, line: &mut Line)
     requires room { length line.old.items ≤ 230 }
     requires short { length front.now ≤ 2 }

@@ -17,17 +17,17 @@ pub const DATA_PAGE: u32 = 0x1_1000;
 /// The linear address of the first byte of the wedge window, in which each site has an address.
 pub const WINDOW_ADDRESS: u32 = 0x0400_0000;
 
-/// The linear address behind the wedge window.
+/// The linear address just past the wedge window.
 pub const WINDOW_END: u32 = 0x0600_0000;
 
 /// How far the address in the wedge window to which a site's jump leads lies below the site's own:
-/// the bytes E9 F4 F4 F4 F4 say a distance of -0x0B0B_0B0C from behind them.
+/// the bytes E9 F4 F4 F4 F4 say a distance of -0x0B0B_0B0C from their end.
 pub const WINDOW_BELOW: u32 = 0x0B0B_0B07;
 
 /// Where the text's first byte lies in the guest's memory.
 pub const TEXT_PLACE: u32 = 0x10_0000;
 
-/// The frame of the text's first byte, behind those of the tables.
+/// The frame of the text's first byte, after those of the tables.
 pub const TEXT_FRAME: u32 = 0x100;
 
 /// How many pages the linear addresses fill.

@@ -32,7 +32,7 @@ pub chain : List CheckCause → ImageParts → Result (List Swept) ℕ → Resul
 chain [] parts swept sites = Ok tt
 chain (c ∷ later) parts swept sites = test c (wrong_by c parts swept sites) >>= λ _. chain later parts swept sites
 
--- the tests one behind the other, whatever follows them
+-- the tests one after the other, whatever follows them
 five : (a b c d e : Option ℕ) (k : Result Image Refusal)
     → told ((test TextPlace a >>= λ _. (test InitPlace b >>= λ _. (test TextSize c >>= λ _. (test InitSize d >>= λ _. test EntryPlace e)))) >>= λ _. k)
     ≡ (test TextPlace a >>= λ _. (test InitPlace b >>= λ _. (test TextSize c >>= λ _. (test InitSize d >>= λ _. (test EntryPlace e >>= λ _. told k)))))
@@ -43,7 +43,7 @@ five None None None (Some d) e k = refl
 five None None None None (Some e) k = refl
 five None None None None None k = refl
 
--- what comes behind the sweep
+-- what comes after the sweep
 abbrev behind : ImageParts → List Piece → Result (List Site) ℕ → Result Image Refusal
 behind parts ps sites =
     (test TextEnd (text_end parts.text ps) >>= λ _. (as_sites sites >>= λ ss. (test SiteWrong (site_wrong ss ps) >>= λ _. Ok ss)))

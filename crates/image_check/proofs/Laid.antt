@@ -186,7 +186,7 @@ record IsFiller (hlt : Bool) (from n : ℕ) (s : Swept) : Type 0 where
   one : s.len ≡ 1
   is : Filler hlt from s
 
--- What is found behind so many instructions that fill a site up.
+-- What is found after so many instructions that fill a site up.
 pub record Behind (hlt : Bool) (n from : ℕ) (swept : List Swept) (sites : List Site) (to : ℕ) : Type 0 where
   apart : AreApart (from + n) sites to
   totals : (site : Site) → Contains sites site → site.total ≡ max 5 site.len

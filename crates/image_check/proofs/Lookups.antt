@@ -22,7 +22,7 @@ ordered from (s ∷ sites) to h i zero d lt in_it = absurd (omega arith)
 ordered from (s ∷ sites) to h zero (suc j) d lt in_it = (apart_bounds (s.at + s.total) sites to h.2 (get_or sites j d) (Contains-get_or sites j d (omega arith))).0
 ordered from (s ∷ sites) to h (suc i) (suc j) d lt in_it = ordered (s.at + s.total) sites to h.2 i j d (omega arith) (omega arith)
 
--- Sites before one place end before the offset, and those from another on begin behind it.
+-- Sites before one place end before the offset, and those from another on begin after it.
 pub record IsSought (sites : List Site) (at low high : ℕ) : Type 0 where
   pub below : (k : ℕ) (d : Site) → k < low → (get_or sites k d).at + (get_or sites k d).total ≤ at
   pub above : (k : ℕ) (d : Site) → high ≤ k → k < length sites → at < (get_or sites k d).at

@@ -14,7 +14,7 @@ use Rattle.image_check.specs.Pieces.{piece_of, pieces_of, pieces_in, stop_cause}
 use Rattle.image_check.specs.Stops.{piece_as}
 use Rattle.image_check.proofs.SweepLaws.{step_is, ends}
 
--- more instructions behind some
+-- more instructions after some
 abbrev pub behind : List Piece → Result (List Piece) Refusal → Result (List Piece) Refusal
 behind ps (Ok more) = Ok (ps ++ more)
 behind ps (Err refusal) = Err refusal

@@ -60,7 +60,7 @@ pub record Accepts (file : List ℕ) (image : Image) : Type 0 where
   pub image_is : image ≡ image_with parts image.sites
   pub accepted : IsAccepted image
 
--- Flags tell for each offset whether an instruction of the text stands there.
+-- Flags say for each offset whether an instruction of the text stands there.
 abbrev pub AreStarts : List ℕ → List Bool → Type 0
 AreStarts text flags = (i : ℕ) → slice_index_or flags i false ≡ is_among i (starts_of text)
 

@@ -6,7 +6,7 @@ use Rattle.ia32_types.specs.Site.{sensitive_kind}
 use Rattle.sites.specs.declared.site.Site.{Site}
 use Rattle.image_check.specs.Sweep.{Swept}
 
--- Sites of five bytes at least that lie one behind the other, from one offset on and before another.
+-- Sites of five bytes at least that lie one after the other, from one offset on and before another.
 abbrev pub AreApart : ℕ → List Site → ℕ → Type 0
 AreApart from [] to = from ≤ to
 AreApart from (s ∷ sites) to = (from ≤ s.at) × (5 ≤ s.total) × AreApart (s.at + s.total) sites to
@@ -17,7 +17,7 @@ pub record IsAlone (site : Site) (s : Swept) : Type 0 where
   pub len : s.len ≡ site.len
   pub kind : sensitive_kind s.insn ≡ Some site.kind
 
--- STI, and the HLT behind it, of a pair.
+-- STI, and the HLT after it, of a pair.
 pub record IsPairSti (site : Site) (s : Swept) : Type 0 where
   pub pair : (site.kind ≡ StiHlt) × (site.len ≡ 2)
   pub place : s.at ≡ site.at
@@ -30,7 +30,7 @@ pub record IsPairHlt (site : Site) (s : Swept) : Type 0 where
   pub len : s.len ≡ 1
   pub kind : sensitive_kind s.insn ≡ Some Hlt
 
--- A NOP behind the sensitive part of a site.
+-- A NOP after the sensitive part of a site.
 pub record IsPadding (site : Site) (s : Swept) : Type 0 where
   pub behind : site.at + site.len ≤ s.at
   pub len : s.len ≡ 1

@@ -49,7 +49,7 @@ NextDiffer [] (t ∷ ts) at = at ≡ t.at
 NextDiffer (s ∷ ss) [] at = at ≡ s.at
 NextDiffer (s ∷ ss) (t ∷ ts) at = (s ≢ t) × (at ≡ min s.at t.at)
 
--- Two lists of sites first differ, behind those with which both begin.
+-- Two lists of sites first differ, after those with which both begin.
 pub record FirstDiffer (a b : List Site) (at : ℕ) : Type 0 where
   pub both : List Site
   pub rest_a : List Site

@@ -1,4 +1,4 @@
--- The sweep of a text: the instructions that stand in it, one directly behind the other.
+-- The sweep of a text: the instructions that stand in it, one directly after the other.
 use Rattle.std.specs.Prelude.{ℕ, zero, suc, ◌+◌, List, [], ◌∷◌, length, drop, map, Result, Ok, Err}
 use Rattle.std.specs.Result.{result_unwrap_or}
 use Rattle.ia32_types.specs.declared.insn.Insn.{Insn}

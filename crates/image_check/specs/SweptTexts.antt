@@ -14,7 +14,7 @@ SweepsTo from bytes (s ∷ swept) to rest = (s.at ≡ from) × Begins bytes s.in
 abbrev pub Sweep : List ℕ → List Swept → Type 0
 Sweep text swept = SweepsTo 0 text swept (length text) []
 
--- Behind some instructions no spelling begins the bytes that are left, although some are.
+-- After some instructions no spelling begins the bytes that are left, although some are.
 pub record SweepStops (text : List ℕ) (at : ℕ) : Type 0 where
   pub swept : List Swept
   pub rest : List ℕ

@@ -48,7 +48,7 @@ abbrev pub by_role : Piece → List Piece → Role → Here
 by_role p ps (role.Site kind) = padded p ps kind
 by_role p ps _ = here.Nothing
 
--- the site that an instruction begins, by those behind it; or that it is sensitive, and lacks its NOPs
+-- the site that an instruction begins, by those after it; or that it is sensitive, and lacks its NOPs
 unfoldable pub begun_by : Piece → List Piece → Here
 begun_by p ps = if is_sti p.role && has_hlt ps then here.Makes (pair p) else by_role p ps p.role
 
@@ -60,13 +60,13 @@ pub record Found : Type 0 where
 abbrev pub with_site : Site → Found → Found
 with_site s found = record { sites = s ∷ found.sites; lacking = found.lacking }
 
--- by what an instruction begins, and by what is found behind so many further ones, which belong to its site
+-- by what an instruction begins, and by what is found after so many further ones, which belong to its site
 abbrev pub found_by : Piece → (ℕ → Found) → Here → Found
 found_by p behind here.Nothing = behind 0
 found_by p behind here.Lacks = record { sites = []; lacking = Some p.at }
 found_by p behind (here.Makes s) = with_site s (behind (s.total - p.len))
 
--- Each instruction of a site behind its first is one byte: a NOP, or the HLT of a pair.
+-- Each instruction of a site after its first is one byte: a NOP, or the HLT of a pair.
 unfoldable pub found_behind : ℕ → List Piece → Found
 found_behind skipped [] = record { sites = []; lacking = None }
 found_behind (suc skipped) (p ∷ ps) = found_behind skipped ps

@@ -91,7 +91,7 @@ impl Checked {
         &self.init
     }
 
-    /// The number of zeroed bytes behind the data.
+    /// The number of zeroed bytes after the data.
     pub fn bss(&self) -> u32
         ensures { result ≡ self.now.bss }
     {
@@ -111,7 +111,7 @@ impl Checked {
         ensures format { result.now.format ≡ self.now.format }
         // Each has five bytes at least, and lies in the text.
         ensures inside { AreInside (length self.now.text) 0 self.now.sites }
-        // They lie one behind the other.
+        // They lie one after the other.
         ensures apart { AreApart 0 self.now.sites (length self.now.text) }
     {
         &self.sites

@@ -90,7 +90,7 @@ fn single(piece: Piece, kind: SiteKind) -> Site
     }
 }
 
-/// What an instruction begins, by those behind it.
+/// What an instruction begins, by those after it.
 #[tactic(auto, unfolding(crate::specs::TextSites::begun_by))]
 fn begun_by(piece: Piece, rest: &[Piece]) -> Here
     ensures { result ≡ begun_by piece rest.now }

@@ -70,7 +70,7 @@ fn piece_at(text: &[u8], at: usize) -> Result<Piece, CheckFault>
     }
 }
 
-/// The instructions of a text, one directly behind the other.
+/// The instructions of a text, one directly after the other.
 pub fn sweep(alloc: Global, text: &[u8]) -> Result<Swept, CheckFault>
     requires { length text.now ≤ TEXT_LIMIT }
     ensures pieces { Gives (λ swept. swept.pieces.items) result (pieces_in text.now) }

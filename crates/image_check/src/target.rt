@@ -8,7 +8,7 @@ use crate::piece::{Piece, Role};
 use sites::Site;
 use std::alloc::{AllocError, Global};
 
-/// Clears the flags behind an offset and before another.
+/// Clears the flags after an offset and before another.
 fn clear(flags: &mut Vec<bool>, behind: usize, before: usize)
     requires { behind < usize.MAX }
     ensures flags { (i : ℕ) → slice_index_or flags.new.items i false

@@ -40,7 +40,7 @@ no_jump site s (PairHlt a) is = jump_kind s.insn.op Hlt is a.kind
 no_jump site s (Padding a) is = jump_nop s.insn.op is a.nop
 
 module _ (image : Image) (h : IsAccepted image) where
-  -- behind each part of a site an instruction begins
+  -- after each part of a site an instruction begins
   part_next : (site : Site) (s : Swept) → StandsInside image site s → is_start image.text (s.at + s.len) ≡ true
   part_next site s is =
       elim (next_start image h s is.stands) [
@@ -58,7 +58,7 @@ module _ (image : Image) (h : IsAccepted image) where
     most : 5 ≤ site.total
     most = (apart_bounds 0 image.sites (length image.text) (apart image h) site c).1
 
-    -- behind STI
+    -- after STI
     sti_next : (s : Swept) → StandsInside image site s → BeginsSite site s → site.kind ≡ StiHlt → is_start image.text (site.at + 1) ≡ true
     sti_next s is (inl alone) pair = absurd (never_pair s.insn.op (alone.kind ∙ ap some_kind pair))
     sti_next s is (inr sti) pair =
@@ -70,7 +70,7 @@ module _ (image : Image) (h : IsAccepted image) where
     pub hlt_start : site.kind ≡ StiHlt → is_start image.text (site.at + 1) ≡ true
     hlt_start pair = let f = first_part image h site c in sti_next f.0 f.1 f.2 pair
 
-    -- behind HLT
+    -- after HLT
     hlt_next : (s : Swept) → StandsInside image site s → s.at ≡ site.at + 1 → site.len ≡ 2 → PartOf site s → is_start image.text (site.at + site.len) ≡ true
     hlt_next s is at two (Alone a) = let place = a.place in absurd (omega (arith, place, at))
     hlt_next s is at two (PairSti a) = let place = a.place in absurd (omega (arith, place, at))
@@ -80,7 +80,7 @@ module _ (image : Image) (h : IsAccepted image) where
         let end : s.at + s.len ≡ site.at + site.len = omega (arith, at, one, two) in
         subst (λ k. is_start image.text k ≡ true) end (part_next site s is)
 
-    -- behind the sensitive part
+    -- after the sensitive part
     sensitive_next : (s : Swept) → StandsInside image site s → BeginsSite site s → is_start image.text (site.at + site.len) ≡ true
     sensitive_next s is (inl alone) =
         let place = alone.place in
@@ -91,7 +91,7 @@ module _ (image : Image) (h : IsAccepted image) where
         let t = part_there site c (site.at + 1) (omega arith) (omega (arith, most)) (sti_next s is (inr sti) sti.pair.0) in
         hlt_next t.0 t.1 t.2 sti.pair.1 (held image h site t.0 t.1).0
 
-    -- behind a NOP
+    -- after a NOP
     nop_next : (s : Swept) → StandsInside image site s → site.at + site.len ≤ s.at → PartOf site s → is_start image.text (s.at + 1) ≡ true
     nop_next s is le (Alone a) =
         let place = a.place in

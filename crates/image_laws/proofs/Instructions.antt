@@ -65,7 +65,7 @@ one_there from bytes (u ∷ swept) to left h s t c d same =
         let there : u.at ≡ w.at = ap (λ (v : Swept). v.at) e in
         omega (arith, above, some, at, there, is)
 
--- Behind it the sweep ends, or the next one stands.
+-- After it the sweep ends, or the next one stands.
 pub next_there : (from : ℕ) (bytes : List ℕ) (swept : List Swept) (to : ℕ) (left : List ℕ) → SweepsTo from bytes swept to left → (s : Swept) → Contains swept s → (s.at + s.len ≡ to) ⊎ ((t : Swept) × Contains swept t × (t.at ≡ s.at + s.len))
 next_there from bytes [] to left h s c = absurd (none_in s c)
 next_there from bytes (u ∷ swept) to left h s c =

@@ -18,7 +18,7 @@ one_patched : (m : List ℕ) (at : ℕ) (s : Site) (sites : List Site) → patch
 unfolding patched
 one_patched m at s sites = refl
 
--- what a patched site asks for
+-- what a patched site needs
 module _ (m : List ℕ) (at from : ℕ) (s : Site) (sites : List Site) (to : ℕ) (h : AreApart from (s ∷ sites) to) (room : at + to ≤ length m) where
   long : length (patch_bytes s.total) ≡ s.total
   long = let most = h.1 in length-patch_bytes s.total (omega (arith, most))

@@ -20,7 +20,7 @@ ghost use Rattle.image_laws.specs.WaysIn.{IsWayIn, IsLast};
 
 use ia32_exec::eip_goes_on;
 
-/// Behind an instruction of the text the next one begins, or it is the last one, which jumps to itself.
+/// After an instruction of the text the next one begins, or it is the last one, which jumps to itself.
 /// Outside sites the next one is no inner part of a site, and neither is where a direct branch leads, or where the
 /// entry is.
 pub fn ways_on()

@@ -48,7 +48,7 @@ pub fn outside_sites()
 {}
 
 /// Sites lie in order and apart in the text. Each begins where an instruction does, and is made of its
-/// sensitive instruction, or of STI and HLT, with NOPs behind it.
+/// sensitive instruction, or of STI and HLT, with NOPs after it.
 pub fn inside_sites()
     ensures apart { (image : Image) → IsAccepted image → AreApart 0 image.sites (length image.text) }
     ensures total { (image : Image) → IsAccepted image → (site : Site) → Contains image.sites site → site.total ≡ max 5 site.len }

@@ -18,7 +18,7 @@ ghost use Rattle.image_check.specs.Places.{linear};
 ghost use Rattle.image_check.specs.Standing.{site_at};
 ghost use Rattle.image_laws.specs.Patches.{jump_out, window_at};
 
-/// Outside sites the patched text is the text, and a site is E9 with F4 behind it. Patching a memory in
+/// Outside sites the patched text is the text, and a site is E9 with F4 after it. Patching a memory in
 /// which the text stands makes the patched text of it, and changes no other byte; and the text laid over
 /// it again is the memory as it was.
 pub fn patching()

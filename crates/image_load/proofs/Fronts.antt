@@ -25,7 +25,7 @@ laid_part n whole front rest a bs h l =
       len = length-with_part front a bs room ∙ l.len;
     }
 
--- zeros behind zeros
+-- zeros after zeros
 pub laid_zeros : (n m : ℕ) → n ≤ m → Laid n (replicate m 0) (replicate n 0) (drop n (replicate m 0))
 laid_zeros n m h = record {
   is = same_lists _ _ (grind (arith, places)) (λ k d i. grind (arith, places));

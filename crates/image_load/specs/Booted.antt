@@ -1,4 +1,4 @@
--- What is told of a machine that is started: its processor, where its text stands, and its first free place.
+-- What is reported of a machine that is started: its processor, where its text stands, and its first free place.
 use Rattle.std.specs.Prelude.{ℕ, ◌*◌}
 use Rattle.ia32_types.specs.declared.addresses.TheConstants.{TEXT_PLACE}
 use Rattle.image_check.specs.Image.{Image}

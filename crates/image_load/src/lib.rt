@@ -23,7 +23,7 @@ const DESCRIPTORS: [u8; 40] = [
     0xFF, 0xFF, 0, 0, 0, 0xFA, 0xCF, 0, 0xFF, 0xFF, 0, 0, 0, 0xF2, 0xCF, 0,
 ];
 
-/// Puts an image into the first frames of a memory that is zero, with tables that map it. What lies behind those frames
+/// Puts an image into the first frames of a memory that is zero, with tables that map it. What lies after those frames
 /// stays.
 pub fn load(image: &Checked, ram: &mut Ram, frames: u32) -> Result<Boot, TooSmall>
     requires zero { ram.old ≡ replicate (length ram.old) 0 }

@@ -61,7 +61,7 @@ const BELOW: Option<Range> = Some(Range {
     seg: Seg::Ss,
 });
 
-/// 8 bytes above ESP, before a pop has raised it and behind.
+/// 8 bytes above ESP, before a pop has raised it and after.
 const ABOVE: Option<Range> = Some(Range {
     at: 0x0400_0008,
     len: 4,
@@ -257,7 +257,7 @@ static STRINGS: [Row; 8] = [
     row!("rep lodsb", [0xf3, 0xac], SOURCE_1, None),
 ];
 
-/// What concerns flags alone; and instructions of the system, of which registers tell no access, not even of an
+/// What concerns flags alone; and system instructions, for which registers give no access, not even of an
 /// operand or the stack (profile).
 static NOTHING: [Row; 18] = [
     row!("clc", [0xf8], None, None),

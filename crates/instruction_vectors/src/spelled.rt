@@ -1,6 +1,6 @@
 //! The bytes of an instruction, kept in the row of a table itself.
 
-/// At most 12 bytes, with zeros behind them.
+/// At most 12 bytes, with zeros after them.
 pub struct Spelled {
     pub all: [u8; 12],
     pub len: usize,

@@ -135,7 +135,7 @@ page_went s fetch page at access = by (usable (get s.set page) access s.wp)
       either_wrote (is_barred s.mode fetch access.user page entry.frame) (Stop stops.TextMapped) Ready (record s { pages = s.pages + 1; visited = s.visited ++ page ∷ [] }) s.wrote refl,
     )
 
--- memory behind a fetch
+-- memory after a fetch
 record AfterFetch (s t : Space) (page : ℕ) : Type 0 where
   bytes : AreBytes s.ram → AreBytes t.ram
   visited : t.visited ≡ s.visited ++ page ∷ []
@@ -348,7 +348,7 @@ clashes_agree follow over m b steps kept others room fit sub found h =
     both-true (has_instruction m b) (instruction_clashes m (record b { set = kept })) (instruction_clashes m (record b { set = others }))
     (instructions_agree follow over m b (was_read steps) kept others room fit sub (none_beyond m b b.cpu.cr3 steps others found) (λ q small e there. (found q e there).1)) h
 
--- ---- behind a load of CR3
+-- ---- after a load of CR3
 
 pub clashes_are_judged : FetchesFollow → FoundOver → ClashesAreJudged
 clashes_are_judged follow over m steps t b kept old left since loads room fit value found o sub h =

@@ -80,6 +80,6 @@ but_more c (x ∷ xs) ys q h = by (x == c) (but_more c xs ys q) h
       | inr m ↦ member-next x (but c (xs ++ ys)) q (k m)
     ]
 
--- with more behind them they are no fewer
+-- with more after them they are no fewer
 pub few_front : (c : ℕ) (xs ys : List ℕ) → distinct_count eqb (but c xs) ≤ distinct_count eqb (but c (xs ++ ys))
 few_front c xs ys = fewer (but c xs) (but c (xs ++ ys)) (but_more c xs ys)

@@ -43,7 +43,7 @@ known_still m steps b v v' kept stay k = record {
   next = k.next;
 }
 
--- ---- behind a step
+-- ---- after a step
 
 next_over : NextIsKept → (m : Setting) (steps : List Taken) (t : Taken) (kept : Set) → IsReadyFor m steps t t.after kept → IsNextKept m (steps ++ t ∷ []) t.after kept
 next_over law m steps t kept r set h = law m steps t t.after set kept r h
@@ -52,7 +52,7 @@ next_over law m steps t kept r set h = law m steps t t.after set kept r h
 abbrev IsLeft : Taken → Set → Type 0
 IsLeft t kept = loads_root t ≡ false → (kept ≡ t.after.set) ⊎ ((kept ≡ empty) × (changes_protection t ≡ true))
 
--- and behind a load what is owed with the loaded value
+-- and after a load what is owed with the loaded value
 abbrev IsBack : Setting → List Taken → Taken → Set → Type 0
 IsBack m steps t kept = loads_root t ≡ true → (old : List Taken) (left : Taken) (since : List Taken) → IsOwed m (steps ++ t ∷ []) t.after t.after.cpu.cr3 old left since → ComesFrom left kept
 
@@ -147,7 +147,7 @@ left_empty m t kept step lost is plain = elim (same_or (wp_of t.after.cpu) (wp_o
   | inr other ↦ inr (is, changed (wp_of t.before.cpu) (wp_of t.after.cpu) other)
 ]
 
--- ---- what a step was told
+-- ---- what was given of a step
 
 lose_same : (frames : List ℕ) (xs ys zs : List OtherRoot) → LoseWrites frames xs ys → AreSame ys zs → LoseWrites frames xs zs
 lose_same frames [] [] [] h k = tt
@@ -174,7 +174,7 @@ told_over t v between v' told stay = record {
 
 -- ---- a step that was settled
 
--- nothing is owed behind a change of the rules
+-- nothing is owed after a change of the rules
 emptied : (m : Setting) (steps : List Taken) (t : Taken) (v v' : Sight) → loads_root t ≡ false → (RulesStay t → ⊥)
     → EmptiesBeside v v' → IsRemembered m (steps ++ t ∷ []) t.after v → IsRemembered m (steps ++ t ∷ []) t.after v'
 emptied m steps t v v' plain lost none r =

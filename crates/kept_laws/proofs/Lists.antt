@@ -10,7 +10,7 @@ use Rattle.kept_laws.specs.Remembered.{was_read, Unwritten}
 
 -- ---- splits
 
--- one more behind a split
+-- one more after a split
 pub split_more : (l : List Taken) (x : Taken) (a : List Taken) (y : Taken) (b : List Taken) → l ≡ a ++ y ∷ b → l ++ x ∷ [] ≡ a ++ y ∷ (b ++ x ∷ [])
 split_more l x a y b e = ap (λ (k : List Taken). k ++ x ∷ []) e ∙ append_assoc a (y ∷ b) (x ∷ [])
 

@@ -1,4 +1,4 @@
--- The next step of a run goes by what the rule for kept translations asks.
+-- The next step of a run uses what the rule for kept translations asks for.
 use Rattle.std.proofs.Common.{◌≡◌, ℕ, ◌/◌, ◌≤◌, List, [], ◌∷◌, ◌++◌, Bool, true, false, eqb, refl, sym, subst, ◌∙◌, ◌⊎◌, inl, inr, arith}
 use Rattle.std.specs.Prelude.{map, nat_le}
 use Rattle.std.proofs.lemmas.Bool.Decides.{nat_tests}
@@ -18,7 +18,7 @@ use Rattle.kept_laws.proofs.Holding.{held_stays, last_first}
 use Rattle.kept_laws.proofs.OwedStays.{returned}
 use Rattle.kept_laws.proofs.Clashing.{clashes_are_judged}
 
--- ---- behind a step that doesn't load CR3
+-- ---- after a step that doesn't load CR3
 
 -- it is judged by what was left
 judged : (m : Setting) (steps : List Taken) (t : Taken) (b : State) → loads_root t ≡ false → clashes_from m (record b { set = b.set }) ≡ true → clashes m (steps ++ t ∷ []) b ≡ true
@@ -32,7 +32,7 @@ stays m steps t now set kept plain (inl same) (inr k) =
 stays m steps t now set kept plain (inr lost) (inl is) = inr (is ∙ lost.0, inr lost.1)
 stays m steps t now set kept plain (inr lost) (inr k) = inr (k.0, inr lost.1)
 
--- ---- behind a load
+-- ---- after a load
 
 reloads : FetchesFollow → FoundOver → (m : Setting) (steps : List Taken) (t : Taken) (now : State) (set kept : Set) → loads_root t ≡ true → IsReadyFor m steps t now kept
     → (set ≡ kept) ⊎ ((set ≡ empty) × (clashes_from m (record now { set = kept }) ≡ true)) → Reloads (clashes m (steps ++ t ∷ []) now) m (steps ++ t ∷ []) t now set

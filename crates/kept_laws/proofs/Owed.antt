@@ -1,4 +1,4 @@
--- What is owed before the last of some steps, and behind it.
+-- What is owed before the last of some steps, and after it.
 use Rattle.std.proofs.Common.{◌≡◌, ℕ, ◌≤◌, List, [], ◌∷◌, ◌++◌, false, ◌&&◌, ◌==◌, eqb, sym, ap, subst, ◌∙◌, inl, inr, arith}
 use Rattle.std.specs.List.{All}
 use Rattle.std.specs.Set.{distinct_count}

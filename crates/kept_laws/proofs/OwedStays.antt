@@ -177,7 +177,7 @@ put_read steps c v h k = by v.stale
     by true = k
     by false = (h, k)
 
--- a step that loads CR3 loads the value that it has behind it
+-- a step that loads CR3 loads the value that it has after it
 loaded_last : (left t : Taken) (before : List Taken) → loads_root t ≡ true → is_member eqb (roots_in (left ∷ before ++ t ∷ [])) t.after.cpu.cr3 ≡ true
 loaded_last left t before loads =
     subst (λ (l : List ℕ). is_member eqb l t.after.cpu.cr3 ≡ true) (sym (roots_more (left ∷ before) t))
@@ -263,7 +263,7 @@ loads_remember m steps t v between v' loads r told has loaded =
           subst (ComesFrom left) (sym slots) (coming_there w left (roots_in (left ∷ since)) all h.0),
     )
 
--- what the rule asks behind a load is owed before the next step
+-- what the rule asks after a load is owed before the next step
 pub returned : (m : Setting) (earlier : List Taken) (now : State) (c : ℕ) (old : List Taken) (left : Taken) (since : List Taken) → Returns m earlier now c old left since → IsOwed m earlier now c old left since
 returned m earlier now c old left since h = record {
   split = h.split;

@@ -300,7 +300,7 @@ pub record Fetched (d : Decoded) (t : Space) (o : Outcome Refusal Decoded) : Typ
 pub then_is : {A B : Type 0} (o : Outcome Refusal A) (f : A → Work Refusal B) (x : A) (u : Space) → o ≡ Ok (x, u) → on_value o f ≡ f x u
 then_is o f x u e = ap (λ p. on_value p f) e
 
--- the second page, behind the first
+-- the second page, after the first
 owned_again : (eip : ℕ) (d e : Decoded) (s t : Space) (T : Set) (Y : List ℕ) (E : Earlier) → place (other s T Y E) (next_page eip) ≡ place s (next_page eip) → owned eip d s ≡ Ok (e, t) → Fetched e t (owned eip d (other s T Y E))
 owned_again eip (begins.Insn insn len) e s t T Y E p h =
     let n : ℕ = len - front_len eip in

@@ -1,4 +1,4 @@
--- What a run knows between two steps, and that its next step then goes by what the rule for kept translations asks.
+-- What a run knows between two steps, and that its next step then uses what the rule for kept translations asks for.
 use Rattle.std.specs.Prelude.{◌≡◌, ◌⊎◌, ℕ, ◌+◌, ◌*◌, ◌/◌, ◌≤◌, true, false, eqb, List, [], ◌∷◌, ◌++◌, length, map}
 use Rattle.std.specs.Set.{is_member, distinct_count}
 use Rattle.std.specs.FinMap.{empty}
@@ -11,7 +11,7 @@ use Rattle.machine_model.specs.Keeping.{Roomy, pages_in, IsKept}
 use Rattle.kept_laws.specs.Remembered.{ComesFrom, IsOwed}
 use Rattle.kept_laws.specs.Judged.{IsFoundStill}
 
--- Behind a step, what is kept: all that it left, or nothing where it changed CR0.WP; and behind a load of CR3 what was left
+-- After a step, what is kept: all that it left, or nothing where it changed CR0.WP; and after a load of CR3 what was left
 -- with the loaded value, if it is owed. What is owed is found in memory as it is.
 pub record IsReadyFor (m : Setting) (steps : List Taken) (t : Taken) (b : State) (kept : Set) : Type 0 where
   pub stays : loads_root t ≡ false → (kept ≡ b.set) ⊎ ((kept ≡ empty) × (changes_protection t ≡ true))
@@ -21,7 +21,7 @@ pub record IsReadyFor (m : Setting) (steps : List Taken) (t : Taken) (b : State)
   pub room : loads_root t ≡ true → 4096 * m.frames ≤ length b.ram
   pub bytes : loads_root t ≡ true → AreBytes b.ram
 
--- The next step goes by what is kept, or by nothing where it clashes by that.
+-- The next step uses what is kept, or nothing where it clashes by that.
 abbrev pub NextIsKept : Type 0
 NextIsKept =
     (m : Setting) (steps : List Taken) (t : Taken) (now : State) (set kept : Set) → IsReadyFor m steps t now kept

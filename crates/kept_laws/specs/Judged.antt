@@ -14,17 +14,17 @@ use Rattle.machine_model.specs.Keeping.{leaves, held, clashes}
 use Rattle.machine_model.specs.Reloading.{IsFoundBy}
 use Rattle.kept_laws.specs.Remembered.{was_read, Unwritten, IsOwed}
 
--- with one step more, the steps that a run takes have that step behind them
+-- with one step more, the steps that a run takes have that step after them
 abbrev pub TakenOn : Type 0
 TakenOn =
     (m : Setting) (old mid new : State) (sets : List Set) (set : Set) (reports : List Report) (report : Report) → Steps m old sets reports mid → step_of m mid set ≡ Went report new
     → steps_by m old (sets ++ set ∷ []) ≡ steps_by m old sets ++ record { before = mid; set = set; report = report; after = new } ∷ []
 
--- Behind a step that doesn't load CR3 a step is judged by the translations that were left; so is the first.
+-- After a step that doesn't load CR3 a step is judged by the translations that were left; so is the first.
 abbrev pub HeldStays : Type 0
 HeldStays = (steps : List Taken) (t : Taken) (b : State) → loads_root t ≡ false → held (steps ++ t ∷ []) b ≡ b.set
 
--- Behind a load, by those before the last step that left the loaded value.
+-- After a load, by those before the last step that left the loaded value.
 abbrev pub HeldBack : Type 0
 HeldBack =
     (steps : List Taken) (t : Taken) (b : State) (old : List Taken) (left : Taken) (since : List Taken) → loads_root t ≡ true → steps ++ t ∷ [] ≡ old ++ left ∷ since
@@ -39,7 +39,7 @@ AllFound m b c steps set = (page : ℕ) → ForSome (get set page) (λ e. (page 
 pub record IsFoundStill (m : Setting) (steps : List Taken) (now : State) : Type 0 where
   pub each : (c : ℕ) (old : List Taken) (left : Taken) (since : List Taken) → IsOwed m steps now c old left since → AllFound m now c steps left.set
 
--- At first nothing is owed. With each step it stays so, where a step that loads CR3 went by translations that are found.
+-- At first nothing is owed. With each step it stays so, where a step that loads CR3 used translations that are found.
 abbrev pub FoundAtStart : Type 0
 FoundAtStart = (m : Setting) (now : State) → IsFoundStill m [] now
 
@@ -57,7 +57,7 @@ ClashesAgree =
     → ((page : ℕ) → ForSome (get kept page) (λ e. get others page ≡ Some e)) → AllFound m b b.cpu.cr3 steps others
     → clashes_from m (record b { set = kept }) ≡ true → clashes_from m (record b { set = others }) ≡ true
 
--- So behind a load of CR3 a run that drops all, since the next step clashes by what came back, has a cause by the rule.
+-- So after a load of CR3 a run that drops all, since the next step clashes by what came back, has a cause by the rule.
 abbrev pub ClashesAreJudged : Type 0
 ClashesAreJudged =
     (m : Setting) (steps : List Taken) (t : Taken) (b : State) (kept : Set) (old : List Taken) (left : Taken) (since : List Taken) → loads_root t ≡ true → 4096 * m.frames ≤ length b.ram → AreBytes b.ram

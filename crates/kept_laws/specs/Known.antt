@@ -15,7 +15,7 @@ use Rattle.kept_laws.specs.Remembered.{ComesFrom, IsRemembered, Unwritten}
 use Rattle.kept_laws.specs.OverSteps.{IsTold, IsLoaded, IsUnused}
 use Rattle.kept_laws.specs.Judged.{AllFound, IsFoundStill}
 
--- The next step goes as the rule asks, where it goes by what is kept, or by nothing where it clashes by that.
+-- The next step goes as the rule asks, where it uses what is kept, or nothing where it clashes by that.
 abbrev pub IsNextKept : Setting → List Taken → State → Set → Type 0
 IsNextKept m steps b kept =
     (set : Set) → (set ≡ kept) ⊎ ((set ≡ empty) × (clashes_from m (record b { set = kept }) ≡ true)) → IsKept m steps b set
@@ -40,7 +40,7 @@ pub record ReloadsRoot (t : Taken) (v v' : Sight) : Type 0 where
   pub comes : ComesFrom t (entries_of between.slots)
   pub loaded : IsLoaded t between v'
 
--- What a step made of what was kept up to its end: it was told what the step read and wrote. Then a step that doesn't load
+-- What a step made of what was kept up to its end: it was given what the step read and wrote. Then a step that doesn't load
 -- CR3 left the rest as it was, or dropped all where CR0.WP or CR4.PSE changed, and a load put by and brought back.
 pub record IsOver (t : Taken) (v v' : Sight) : Type 0 where
   pub between : Sight
@@ -74,13 +74,13 @@ abbrev pub KnownStill : Type 0
 KnownStill =
     (m : Setting) (steps : List Taken) (b : State) (v v' : Sight) (kept : Set) → StaysBeside v v' → IsKnown m steps b v kept → IsKnown m steps b v' kept
 
--- A step in which the run has no part: the same is kept behind it, and of translations what it left.
+-- A step in which the run has no part: the same is kept after it, and of translations what it left.
 abbrev pub KnownQuiet : Type 0
 KnownQuiet =
     (m : Setting) (steps : List Taken) (t : Taken) (v : Sight) (kept : Set) → IsPast m t
     → IsKnown m steps t.before v kept → IsKnown m (steps ++ t ∷ []) t.after v t.after.set
 
--- A step that the run has settled. What it went by was found from the directory in use, if it loads CR3.
+-- A step that the run has settled. What it used was found from the directory in use, if it loads CR3.
 abbrev pub KnownOn : Type 0
 KnownOn =
     (m : Setting) (steps : List Taken) (t : Taken) (v v' : Sight) (kept : Set) → IsStep m t

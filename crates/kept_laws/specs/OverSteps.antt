@@ -44,13 +44,13 @@ StillRemembers =
     (m : Setting) (steps : List Taken) (now : State) (v v' : Sight) → StaysBeside v v'
     → IsRemembered m steps now v → IsRemembered m steps now v'
 
--- A step that doesn't load CR3, and behind which the same is kept, keeps it: so each step that the host does by itself.
+-- A step that doesn't load CR3, and after which the same is kept, keeps it: so each step that the host does by itself.
 abbrev pub SameRemembers : Type 0
 SameRemembers =
     (m : Setting) (steps : List Taken) (t : Taken) (v : Sight) → loads_root t ≡ false → t.after.cpu.cr3 ≡ t.before.cpu.cr3
     → IsRemembered m steps t.before v → IsRemembered m (steps ++ t ∷ []) t.after v
 
--- What is kept was told which frames a step read as tables, and then which it wrote.
+-- What is kept was given the frames that a step read as tables, and then those that it wrote.
 pub record Tells (tables wrote : List ℕ) (v v' : Sight) : Type 0 where
   pub notes : (frame : ℕ) → v'.read_from frame ≡ true → read_by v.read_from tables frame ≡ true
   pub marks : v'.stale ≡ (v.stale || list_any (read_by v.read_from tables) wrote)
@@ -88,7 +88,7 @@ pub record IsCause (m : Setting) (steps : List Taken) (t : Taken) : Type 0 where
   pub through : loads_root t ≡ false
   pub by : (clashes m steps t.before ≡ true) ⊎ ((t.after.cpu.cr0 ≡ t.before.cpu.cr0) × (t.after.cpu.cr4 ≡ t.before.cpu.cr4) → ⊥)
 
--- Behind such a step nothing is owed.
+-- After such a step nothing is owed.
 abbrev pub CausesOweNothing : Type 0
 CausesOweNothing =
     (m : Setting) (steps : List Taken) (t : Taken) → IsCause m steps t → (c : ℕ) (old : List Taken) (left : Taken) (since : List Taken)
@@ -117,7 +117,7 @@ LoadsRemember =
     → IsRemembered m (steps ++ t ∷ []) t.after v'
     × ((old : List Taken) (left : Taken) (since : List Taken) → IsOwed m (steps ++ t ∷ []) t.after t.after.cpu.cr3 old left since → ComesFrom left (entries_of v'.slots))
 
--- So the next step goes by what the rule asks behind a load, where it goes by all that is then kept.
+-- So the next step uses what the rule asks for after a load, where it uses all that is then kept.
 abbrev pub LoadsBringBack : Type 0
 LoadsBringBack =
     (m : Setting) (steps : List Taken) (t : Taken) (set : Set) (slots : ℕ → Option Slot) → set ≡ entries_of slots

@@ -22,8 +22,8 @@ abbrev pub Unwritten : List Taken → Type 0
 Unwritten steps =
     (front : List Taken) (t : Taken) (back : List Taken) → steps ≡ front ++ t ∷ back → All (λ frame. was_read (front ++ t ∷ []) frame ≡ false) t.report.wrote
 
--- Before a step from this state, behind these steps: what was left with the value c of CR3 is owed, should c be loaded.
--- The last step that loaded CR3 while CR3 was c is `left`, behind `old` and before `since`, and the conditions hold so
+-- Before a step from this state, after these steps: what was left with the value c of CR3 is owed, should c be loaded.
+-- The last step that loaded CR3 while CR3 was c is `left`, after `old` and before `since`, and the conditions hold so
 -- far under which its translations come back.
 pub record IsOwed (m : Setting) (steps : List Taken) (now : State) (c : ℕ) (old : List Taken) (left : Taken) (since : List Taken) : Type 0 where
   pub split : steps ≡ old ++ left ∷ since

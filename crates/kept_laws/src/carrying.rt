@@ -4,7 +4,7 @@ ghost use Rattle.kept_laws.specs.Carried.{NextIsKept, RoomyBefore, RoomyIsFew, I
 
 use machine_model::{accesses_follow, found_follows};
 
-/// The next step goes by what the rule asks, where it goes by what is kept, or by nothing where it clashes by that.
+/// The next step uses what the rule asks for, where it uses what is kept, or nothing where it clashes by that.
 pub fn next_is_kept()
     ensures { NextIsKept }
 {

@@ -30,13 +30,13 @@ pub fn dropped_remembers()
     ensures { DroppedRemembers }
 {}
 
-/// Behind a step that clashes, or that changes CR0 or CR4, nothing is owed.
+/// After a step that clashes, or that changes CR0 or CR4, nothing is owed.
 pub fn causes_owe_nothing()
     ensures { CausesOweNothing }
 {}
 
-/// A step that loads CR3 keeps what is owed for the other values, and what is owed for the loaded one is present behind it.
-/// The next step then goes by what the rule for kept translations asks.
+/// A step that loads CR3 keeps what is owed for the other values, and what is owed for the loaded one is present after it.
+/// The next step then uses what the rule for kept translations asks for.
 pub fn loads_remember()
     ensures remember { LoadsRemember }
     ensures back { LoadsBringBack }

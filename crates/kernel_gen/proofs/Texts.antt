@@ -25,7 +25,7 @@ pub text_none : (number : ℕ) → text_of (head ++ body number 0) ≡ text_of h
 unfolding body
 text_none number = refl
 
--- the lines of one more number behind those of the others
+-- the lines of one more number after those of the others
 pub text_more : (number n : ℕ) (old new : List ℕ) →
     old ≡ text_of (head ++ body number n) → new ≡ old ++ text_of (lines_of (next (x_of number n))) →
     new ≡ text_of (head ++ body number (n + 1))

@@ -27,7 +27,7 @@ lines_in kind x =
 unfoldable pub lines_of : ℕ → List (List ℕ)
 lines_of x = lines_in ((x / 2 ^ 24) % 6) x
 
--- the lines of the first n numbers behind the kernel's own
+-- the lines of the first n numbers after the kernel's own
 unfoldable pub body : ℕ → ℕ → List (List ℕ)
 body number n = flat_map lines_of (map (x_of number) (range_with_len 1 n))
 

@@ -32,7 +32,7 @@ use Rattle.machine_model.specs.Able.{IsAble}
 use Rattle.machine_model.specs.Instruction.{done_plainly}
 use Rattle.machine_model.proofs.Yielding.{Ends, Yields, any_yields}
 
--- The processor behind an instruction. A user's flags stay open; that they are where the level rises is left to the
+-- The processor after an instruction. A user's flags stay open; that they are where the level rises is left to the
 -- monitor's own test.
 pub record Suits (old new : Cpu) : Type 0 where
   pub level : IsLevel new.cpl
@@ -40,7 +40,7 @@ pub record Suits (old new : Cpu) : Type 0 where
   pub stack : (seg_of new 2).null ≡ false
   pub users : old.cpl ≡ 3 → is_open new ≡ true
 
--- behind other effects than going on the level is the same
+-- after other effects than going on the level is the same
 abbrev pub LevelStays : Cpu → Cpu → SysEffect → Type 0
 LevelStays old new effects.Next = Unit {0}
 LevelStays old new e = new.cpl ≡ old.cpl

@@ -100,7 +100,7 @@ module _ (m : Setting) (b : State) where
   of_refusal (refusal.Raise vector code) s = of_raised b.cpu vector code s
   of_refusal (refusal.Stop stop) s = tt
 
--- ---- what an instruction comes to
+-- ---- the outcome of an instruction
 
 -- at the level that was the processor is able again
 at_level : (old new : Cpu) → Suits old new → new.cpl ≡ old.cpl → IsAble new

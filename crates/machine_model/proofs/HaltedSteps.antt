@@ -1,4 +1,4 @@
--- Steps of a halted processor, one behind the other.
+-- Steps of a halted processor, one after the other.
 use Rattle.std.proofs.Common.{◌≡◌, ℕ, zero, suc, ◌+◌, Bool, true, false, cond, [], ◌∷◌, replicate, Option, None, refl, ap, subst, ◌∙◌, inl, arith}
 use Rattle.std.specs.Prelude.{◌&&◌, not, if◌then◌else◌}
 use Rattle.board.specs.declared.devices.Board.{Board}

@@ -52,7 +52,7 @@ abbrev pub drops_all : SysEffect → Bool
 drops_all effects.DropAll = true
 drops_all e = false
 
--- `load` tells a load of CR3
+-- `load` says whether CR3 is loaded
 pub data Left (cpu : Cpu) (load : Bool) : SysOutcome → Type 0 where
   beside : load ≡ false → (new : Cpu) (e : SysEffect) → drops_all e ≡ false → IsBeside cpu cpu.regs.flags new → Left cpu load (record { cpu = new; effect = e })
   interrupts : load ≡ false → (new : Cpu) (b : Bool) → is_within cpu ≡ true → IsBeside cpu (flag_put cpu.regs.flags interrupt_at b) new → Left cpu load (record { cpu = new; effect = effects.Next })

@@ -1,4 +1,4 @@
--- Runs, one behind the other, and the steps that they take.
+-- Runs, one after the other, and the steps that they take.
 use Rattle.std.proofs.Common.{◌≡◌, ℕ, ◌+◌, ◌*◌, ◌%◌, ◌^◌, List, [], ◌∷◌, ◌++◌, length, map, refl, sym, ap, subst, ◌∙◌, append_assoc, length-append}
 use Rattle.std.proofs.lemmas.Grind.{flat_map-append}
 use Rattle.sites.specs.declared.site.Site.{Site}
@@ -53,7 +53,7 @@ pub digests_join : DigestsJoin
 digests_join sites p reports later =
     ap (passed_on p) (addresses_join sites reports later) ∙ passed_join p (direct_addresses sites reports) (direct_addresses sites later)
 
--- one step, and those behind it
+-- one step, and those after it
 pub taken_first : (m : Setting) (b after : State) (set : Set) (sets : List Set) (report : Report) → step_of m b set ≡ Went report after
     → steps_by m b (set ∷ sets) ≡ record { before = b; set = set; report = report; after = after } ∷ steps_by m after sets
 taken_first m b after set sets report is = ap (λ (r : Result). behind b set r (λ a. steps_by m a sets)) is

@@ -1,7 +1,7 @@
--- Splits of a list: its front, one of it, and what stands behind that.
+-- Splits of a list: its front, one of it, and what stands after that.
 use Rattle.std.proofs.Common.{◌≡◌, List, [], ◌∷◌, ◌++◌, refl, sym, ap, ◌∙◌}
 
--- a split of a list with one more behind it is at that one, or is a split of the list
+-- a split of a list with one more after it is at that one, or is a split of the list
 pub data Split {X : Type 0} (l : List X) (x : X) (a : List X) (y : X) (b : List X) : Type 0 where
   At_end : a ≡ l → y ≡ x → b ≡ [] → Split l x a y b
   Within : (c : List X) → l ≡ a ++ y ∷ c → b ≡ c ++ x ∷ [] → Split l x a y b

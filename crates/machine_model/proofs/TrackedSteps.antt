@@ -120,7 +120,7 @@ instructed_follows insn len cpu s =
 pub delivered_follows : DeliveredFollows
 delivered_follows cpu vector kind code s = (delivered_tracks cpu vector kind code).each s
 
--- ---- what a step comes to
+-- ---- the outcome of a step
 
 abbrev IsLeft : Space → Result → Type 0
 IsLeft s (Went report b) = IsLeftBy s report b

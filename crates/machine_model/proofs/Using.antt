@@ -59,7 +59,7 @@ Fits mode user page o = ForSome o (λ e. may_use mode user page e.frame ≡ true
 absent_fits : (mode : Mode) (user : Bool) (page : ℕ) → Fits mode user page None
 absent_fits mode user page e is = absurd (let f : ◌≡◌ {A = Option Entry} None (Some e) = is in cc)
 
--- memory behind the use of one page, whose translation is now this
+-- memory after the use of one page, whose translation is now this
 record AfterPage (user : Bool) (s t : Space) (page : ℕ) : Type 0 where
   mode : t.mode ≡ s.mode
   visited : t.visited ≡ s.visited ++ page ∷ []
@@ -250,7 +250,7 @@ fetch_lets mode false page frame e = given_or (is_given mode page frame) _ e
     given_or true b e = refl
     given_or false b e = absurd (let f : true ≡ false = e in cc)
 
--- a page that data at level 0 may touch: any on the bare machine, and else one behind the window
+-- a page that data at level 0 may touch: any on the bare machine, and else one past the window
 abbrev IsBehind : Mode → ℕ → Type 0
 IsBehind Bare page = Unit {0}
 IsBehind (Wedge text count own) page = nat_le 0x11000 page ≡ true
@@ -332,7 +332,7 @@ pages_met user at len access s some behind =
 page_far : (at page : ℕ) → nat_le 285212672 at ≡ true → at / 4096 ≤ page → nat_le 0x11000 page ≡ true
 page_far at page g above = grind (arith, nat_tests)
 
--- the windows keep data at level 0 behind the text
+-- the windows keep data at level 0 past the text
 behind_window : (mode : Mode) (access : Access) (at : ℕ) → window_stop mode access at ≡ None → access.user ≡ false → (page : ℕ) → at / 4096 ≤ page → IsBehind mode page
 behind_window Bare access at none low page above = tt
 behind_window (Wedge text count own) access at none low page above = far (nat_le 285212672 at) refl

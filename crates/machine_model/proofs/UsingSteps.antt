@@ -143,7 +143,7 @@ instructed_uses insn len cpu s = told_refusal (cpu.cpl == 3) s (instructed insn 
 pub delivered_uses : DeliveredUses
 delivered_uses user cpu vector kind code s = told_delivery user s (delivered cpu vector kind code s) ((delivered_keeps user cpu vector kind code).each s)
 
--- ---- what a step comes to
+-- ---- the outcome of a step
 
 abbrev IsUsed : Bool → Space → Result → Type 0
 IsUsed user s (Went report b) = IsUsedBy user s report b

@@ -117,7 +117,7 @@ instructed_agrees laws insn len cpu s =
     (plainly_told cpu (executed insn len cpu s) (executed insn len cpu (bare s)) ((laws.plain insn len cpu).at_each s))
     (laws.rows insn len cpu s)
 
--- What a step comes to.
+-- The outcome of a step.
 
 abbrev Agree : Result → Result → Type 0
 Agree r p = (is_extra r ≡ true) ⊎ (p ≡ r)

@@ -53,6 +53,6 @@ keeps X (Err e) h = tt
 pub keeps_yields : {E A : Type 0} {X : Type 0} (w : Work E A) → X → Yields (λ a. X) w
 keeps_yields {X = X} w h = record { each = λ s. keeps X (w s) h }
 
--- the value, told of the work
+-- a claim about the value of the work
 abbrev pub OfValue : {E A : Type 0} → Work E A → (A → Type 0) → Type 0
 OfValue w P = Yields P w

@@ -91,7 +91,7 @@ pub record ExamplesHold : Type 0 where
   pub closed_flags : (cpu : Cpu) (own : Own) → may_leave (Wedge 0x100 1 own) (with_bits cpu 0 2) (with_bits cpu 3 2) ≡ false
   pub port_flags : (cpu : Cpu) (own : Own) → may_leave (Wedge 0x100 1 own) (with_bits cpu 0 2) (with_bits cpu 3 0x1202) ≡ false
   pub same_level : (cpu : Cpu) (own : Own) → may_leave (Wedge 0x100 1 own) (with_bits cpu 0 2) (with_bits cpu 0 2) ≡ true
-  -- NOP and a jump to itself: the jump's second byte is no start, and neither is what lies before or behind the text
+  -- NOP and a jump to itself: the jump's second byte is no start, and neither is what lies before or after the text
   pub at_nop : is_start (image_of (0x90 ∷ 0xEB ∷ 0xFE ∷ [])) 0x10000000 ≡ true
   pub at_jump : is_start (image_of (0x90 ∷ 0xEB ∷ 0xFE ∷ [])) 0x10000001 ≡ true
   pub in_jump : is_start (image_of (0x90 ∷ 0xEB ∷ 0xFE ∷ [])) 0x10000002 ≡ false

@@ -32,7 +32,7 @@ InstructedFollows = (insn : Insn) (len : ℕ) (cpu : Cpu) (s : Space) → Leaves
 abbrev pub DeliveredFollows : Type 0
 DeliveredFollows = (cpu : Cpu) (vector : ℕ) (kind : Kind) (code : Option ℕ) (s : Space) → Leaves s (delivered cpu vector kind code s)
 
--- What a step that went left: memory behind the last of its accesses, from whose set the instruction itself may have
+-- What a step that went left: memory after the last of its accesses, from whose set the instruction itself may have
 -- dropped entries.
 pub record IsLeftBy (s : Space) (report : Report) (b : State) : Type 0 where
   pub last : Space
@@ -60,7 +60,7 @@ OthersStay =
     (m : Setting) (b : State) (set : Set) (report : Report) (b2 : State) (at : ℕ) → step_of m b set ≡ Went report b2 → ArePages report.pages → at < length b.ram
     → (Contains report.wrote (at / 4096) → ⊥) → (Contains report.tables (at / 4096) → ⊥) → byte b2.ram at ≡ byte b.ram at
 
--- Where a step writes no frame of which the test holds, what a walk finds by words in such frames it finds behind the
+-- Where a step writes no frame of which the test holds, what a walk finds by words in such frames it finds after the
 -- step, whatever value CR3 has meanwhile.
 abbrev pub WordsStayFound : Type 0
 WordsStayFound =
@@ -69,7 +69,7 @@ WordsStayFound =
     → IsFoundBy b.ram m.frames cr3 pse tables page e → IsFoundBy b2.ram m.frames cr3 pse tables page e
 
 -- Where a step writes none of the frames that it reports as tables, each translation that it leaves was among those that
--- it went by, or is what a walk finds behind it by words in these frames.
+-- it used, or is what a walk finds after it by words in these frames.
 abbrev pub SetsAreFound : Type 0
 SetsAreFound =
     (m : Setting) (b : State) (set : Set) (report : Report) (b2 : State) → 4096 * m.frames ≤ length b.ram → step_of m b set ≡ Went report b2

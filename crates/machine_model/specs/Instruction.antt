@@ -55,7 +55,7 @@ owned eip (begins.Insn insn len) = do
   gives (begins.Insn insn len)
 owned eip read = gives read
 
--- With bytes of the next page behind those of the first. While it is translated, those of the first are the
+-- With bytes of the next page after those of the first. While it is translated, those of the first are the
 -- instruction's own.
 unfoldable pub fetched_on : Bool → ℕ → List ℕ → Work Refusal Decoded
 fetched_on user eip front = do

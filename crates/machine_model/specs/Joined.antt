@@ -1,4 +1,4 @@
--- Laws of runs, one behind the other, and of the steps that they take.
+-- Laws of runs, one after the other, and of the steps that they take.
 use Rattle.std.specs.Prelude.{◌≡◌, ℕ, ◌+◌, List, [], ◌∷◌, ◌++◌, map}
 use Rattle.sites.specs.declared.site.Site.{Site}
 use Rattle.machine_model.specs.State.{Setting, State}

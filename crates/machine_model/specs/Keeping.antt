@@ -34,12 +34,12 @@ abbrev pub held_by : List Taken → Set → Set
 held_by [] set = set
 held_by (t ∷ past) set = if loads_root t then set_left t.after.cpu.cr3 (t ∷ past) else set
 
--- the entries by which a step behind these is asked whether it clashes: those that the step before it left, or,
--- behind a load of CR3, those of the set before the last step that left the loaded value
+-- the entries by which a step after these is asked whether it clashes: those that the step before it left, or,
+-- after a load of CR3, those of the set before the last step that left the loaded value
 abbrev pub held : List Taken → State → Set
 held earlier b = held_by (reverse earlier) b.set
 
--- the step from this state clashes, behind these steps
+-- the step from this state clashes, after these steps
 abbrev pub clashes : Setting → List Taken → State → Bool
 clashes m earlier b = clashes_from m (record b { set = held earlier b })
 
@@ -54,7 +54,7 @@ roots_in steps = flat_map root_in steps
 abbrev pub tables_in : List Taken → List ℕ
 tables_in steps = flat_map (λ (t : Taken). t.report.tables) steps
 
--- The step before the state now loaded CR3 with c. The last step that loaded CR3 while CR3 was c is `left`, behind `old` and
+-- The step before the state now loaded CR3 with c. The last step that loaded CR3 while CR3 was c is `left`, after `old` and
 -- before `since`, and these things hold.
 pub record Returns (m : Setting) (earlier : List Taken) (now : State) (c : ℕ) (old : List Taken) (left : Taken) (since : List Taken) : Type 0 where
   pub split : earlier ≡ old ++ left ∷ since
@@ -62,7 +62,7 @@ pub record Returns (m : Setting) (earlier : List Taken) (now : State) (c : ℕ) 
   pub is_last : All (λ t. leaves c t ≡ false) since
   -- at most seven other values were loaded from that step on
   pub few : distinct_count eqb (filter (λ value. not (value == c)) (roots_in (left ∷ since))) ≤ 7
-  -- no step behind it clashes
+  -- no step after it clashes
   pub apart : (front : List Taken) (t : Taken) (back : List Taken) → since ≡ front ++ t ∷ back → clashes m (old ++ left ∷ front) t.before ≡ false
   -- CR0 and CR4 have not changed since
   pub same : All (λ (t : Taken). (t.before.cpu.cr0 ≡ left.before.cpu.cr0) × (t.before.cpu.cr4 ≡ left.before.cpu.cr4)) since
@@ -76,7 +76,7 @@ abbrev pub HasEntriesOf : Taken → Set → Type 0
 HasEntriesOf left set =
     (page : ℕ) (e : Entry) → get left.set page ≡ Some e → is_among page left.report.pages ≡ false → get set page ≡ Some e
 
--- behind a load of CR3: entries that a run may always add, and all of those that were left with the value, where the next
+-- after a load of CR3: entries that a run may always add, and all of those that were left with the value, where the next
 -- step doesn't clash either
 abbrev pub Reloads : (clashing : Bool) → Setting → List Taken → Taken → State → Set → Type 0
 Reloads clashing m earlier last now set =
@@ -98,12 +98,12 @@ KeptBehind clashing m earlier (last ∷ past) now set =
 abbrev pub IsKept : Setting → List Taken → State → Set → Type 0
 IsKept m earlier now set = KeptBehind (clashes m earlier now) m earlier (reverse earlier) now set
 
--- So of each of these sets, which are those of steps one behind the other, up to which the run is roomy. The step of a set
+-- So of each of these sets, which are those of steps one after the other, up to which the run is roomy. The step of a set
 -- is made from the state to which the sets before it lead. The last of them may stop.
 pub record Kept (m : Setting) (old : State) (sets : List Set) : Type 0 where
   pub each : (front : List Set) (set : Set) (back : List Set) (reports : List Report) (now : State) → sets ≡ front ++ set ∷ back → Steps m old front reports now
       → Roomy (steps_by m old front) → IsKept m (steps_by m old front) now set
 
--- What a run keeps behind these steps, before it is known whether the next one clashes: what is said where that doesn't.
+-- What a run keeps after these steps, before it is known whether the next one clashes: what is said where that doesn't.
 abbrev pub IsLeftBehind : Setting → List Taken → State → Set → Type 0
 IsLeftBehind m earlier now set = KeptBehind false m earlier (reverse earlier) now set

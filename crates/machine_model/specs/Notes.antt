@@ -1,5 +1,5 @@
--- What a monitor may tell of the translations that a run goes by: that all of them, or that of one page, were dropped
--- before a step. With notes told, nothing else changes them between two steps.
+-- What a monitor may report of the translations that a run uses: that all of them, or that of one page, were dropped
+-- before a step. With notes reported, nothing else changes them between two steps.
 use Rattle.std.specs.Prelude.{◌≡◌, ℕ, ◌≤◌, ◌<◌, ◌^◌, Bool, true, false, ◌==◌, ◌&&◌, nat_le, List, [], ◌∷◌, ◌++◌, length, if◌then◌else◌, IsSome}
 use Rattle.std.specs.List.{list_any, filter, All}
 use Rattle.std.specs.FinMap.{get, empty, remove}
@@ -30,7 +30,7 @@ without step set (dropped_at s page ∷ notes) = without step (if s == step then
 abbrev pub set_told : List Note → ℕ → Set → Set
 set_told notes step left = if list_any (is_emptied step) notes then empty else without step left notes
 
--- the sets of a run are those that its notes tell
+-- the sets of a run are those that its notes report
 pub record AreTold (m : Setting) (old : State) (sets : List Set) (notes : List Note) : Type 0 where
   pub each : (earlier : List Taken) (now : Taken) (later : List Taken) → steps_by m old sets ≡ earlier ++ now ∷ later → now.set ≡ set_told notes now.before.step now.before.set
 
@@ -44,7 +44,7 @@ IsPage (emptied_at step) = Unit {0}
 IsPage (dropped_at step page) = page < 2 ^ 20
 
 -- Of steps from `first` up to but not including `last`: the notes stand in the order of their steps, which lie from the
--- first to the one after the last; their pages are pages; at most 64 are told for a step; and a page is dropped before
+-- first to the one after the last; their pages are pages; at most 64 are reported for a step; and a page is dropped before
 -- a step only where the set that was left holds it, and once.
 pub record AreNotes (m : Setting) (old : State) (sets : List Set) (last : ℕ) (notes : List Note) : Type 0 where
   pub ordered : is_ordered old.step notes ≡ true

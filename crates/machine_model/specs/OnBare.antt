@@ -6,7 +6,7 @@ use Rattle.run_trace.specs.declared.items.End.{End}
 use Rattle.run_trace.specs.declared.items.End.TheVariants.{Bound, Stopped}
 use Rattle.machine_model.specs.State.{Setting, State}
 
--- what a run goes by, without the monitor's rules
+-- what a run uses, without the monitor's rules
 abbrev pub on_bare : Setting → Setting
 on_bare m = record m { mode = Bare }
 

@@ -22,7 +22,7 @@ pub record HasMoreFlags (old new : ℕ) : Type 0 where
   pub accessed : has old 0x20 ≡ true → has new 0x20 ≡ true
   pub dirty : has old 0x40 ≡ true → has new 0x40 ≡ true
 
--- Memory behind accesses that wrote to these frames and, as walks do, set flags. Outside these frames each word has at
+-- Memory after accesses that wrote to these frames and, as walks do, set flags. Outside these frames each word has at
 -- most flags more.
 pub record MemoryFollows (wrote : List ℕ) (old new : List ℕ) : Type 0 where
   pub long : length old ≤ length new

@@ -13,7 +13,7 @@ pub record IsResting (cpu : Cpu) (board : Board) : Type 0 where
   pub halted : cpu.halted ≡ true
   pub none : interrupt_of (record cpu { held = false }) board ≡ None
 
--- the state with such a processor, behind a step that holds off nothing
+-- the state with such a processor, after a step that holds off nothing
 abbrev pub resting : Cpu → List ℕ → Set → Board → ℕ → State
 resting cpu ram set board step = record { cpu = record cpu { held = false }; ram = ram; set = set; board = board; step = step }
 

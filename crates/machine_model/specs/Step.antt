@@ -1,4 +1,4 @@
--- One step of a machine, as a function of its state and of the translations that it may go by.
+-- One step of a machine, as a function of its state and of the translations that it may use.
 use Rattle.std.specs.Prelude.{ℕ, ◌+◌, ◌*◌, ◌%◌, Bool, true, false, nat_le, ◌&&◌, not, ◌==◌, List, [], ◌∷◌, Option, Some, None, Ok, Err, if◌then◌else◌}
 use Rattle.std.specs.FinMap.{FinMap, empty, remove}
 use Rattle.std.specs.Ordering.{nat_cmp}
@@ -57,7 +57,7 @@ pub record Report : Type 0 where
   pub tables : List ℕ
   pub wrote : List ℕ
 
--- what a step comes to: a report and the state after it, or a stop
+-- the outcome of a step: a report and the state after it, or a stop
 pub data Result : Type 0 where
   Went : Report → State → Result
   Halts : Stop → Result
@@ -120,7 +120,7 @@ raised m b cpu vector code s = after_delivery m [] b b.board (delivered cpu vect
 abbrev pub ended : Setting → Completed → State → Cpu → Space → Result
 ended m completed b cpu s = if may_leave m.mode b.cpu cpu then concluded [] (Some completed) b cpu b.board s else Halts stops.UserFlags
 
--- what an instruction comes to: its effect, the processor and memory
+-- the outcome of an instruction: its effect, the processor and memory
 abbrev pub after_effect : Setting → State → Completed → SysEffect → Cpu → Space → Result
 after_effect m b completed effects.Next cpu s = ended m completed b cpu s
 after_effect m b completed effects.Halted cpu s = concluded [] (Some completed) b cpu b.board s
@@ -140,7 +140,7 @@ effect_on m b completed told = after_effect m b completed told.0 told.1 told.2
 abbrev pub after_instruction : Setting → State → Completed → Outcome Refusal SysOutcome → Result
 after_instruction m b completed outcome = effect_on m b completed (told b.cpu outcome)
 
--- INT enters the handler with the EIP behind it. A gate that this level may not use raises #GP at the instruction.
+-- INT enters the handler with the EIP after it. A gate that this level may not use raises #GP at the instruction.
 abbrev pub after_software : Setting → State → Completed → ℕ → Outcome NotDelivered Cpu → Result
 after_software m b completed vector (Ok done) = entered m [] (Some completed) b done.0 b.board done.1
 after_software m b completed vector (Err (not_delivered.Privilege, s)) = raised m b b.cpu 13 (8 * vector + 2) s

@@ -9,7 +9,7 @@ use Rattle.machine_model.specs.State.{Setting, State}
 use Rattle.machine_model.specs.Step.{Completed, Report, Result, Went, Halts, step_of}
 use Rattle.machine_model.specs.Run.{Set}
 
--- a step: the state before it, the translations that it went by, its report, and the state after it
+-- a step: the state before it, the translations that it used, its report, and the state after it
 pub record Taken : Type 0 where
   pub before : State
   pub set : Set

@@ -23,7 +23,7 @@ use Rattle.machine_model.specs.Step.{Report, Went, step_of}
 use Rattle.machine_model.specs.Run.{Set}
 
 -- Where a page that a step uses may lead. At level 3 to no text. At level 0 the page is one of the text window, with the
--- frame that the loader gave it, or lies behind the window, where the data begins, and leads to no text.
+-- frame that the loader gave it, or lies past the window, where the data begins, and leads to no text.
 abbrev pub may_use : Mode → (user : Bool) → ℕ → ℕ → Bool
 may_use mode true page frame = not (is_text mode frame)
 may_use mode false page frame = is_given mode page frame || (nat_le DATA_PAGE page && not (is_text mode frame))
@@ -71,7 +71,7 @@ InstructedUses = (insn : Insn) (len : ℕ) (cpu : Cpu) (s : Space) → Uses_on (
 abbrev pub DeliveredUses : Type 0
 DeliveredUses = (user : Bool) (cpu : Cpu) (vector : ℕ) (kind : Kind) (code : Option ℕ) (s : Space) → Delivers user s (delivered cpu vector kind code s)
 
--- What a step that went left: memory behind the last of its accesses, from whose translations the instruction itself may
+-- What a step that went left: memory after the last of its accesses, from whose translations the instruction itself may
 -- have dropped some.
 pub record IsUsedBy (user : Bool) (s : Space) (report : Report) (b : State) : Type 0 where
   pub last : Space
@@ -85,7 +85,7 @@ StepsUse =
     (m : Setting) (b : State) (set : Set) (report : Report) (after : State) → step_of m b set ≡ Went report after
     → IsUsedBy (b.cpu.cpl == 3) (space_at_start m.mode m.frames b.cpu b.ram set) report after
 
--- So each page that a step used, and that has a translation behind it, leads where it may.
+-- So each page that a step used, and that has a translation after it, leads where it may.
 abbrev pub UsedPagesLeadWell : Type 0
 UsedPagesLeadWell =
     (m : Setting) (b : State) (set : Set) (report : Report) (after : State) → step_of m b set ≡ Went report after → (page : ℕ) → Contains report.pages page

@@ -1,9 +1,9 @@
-//! Laws of steps that stand one behind the other.
+//! Laws of steps that stand one after the other.
 
 ghost use Rattle.machine_model.specs.Joined.{StepsJoin, TakenJoin, CountsJoin, DigestsJoin, StepsAreTaken, KeptOn, KeptBefore};
 
-/// Steps of a run, and others behind them, are steps of a run: those that are taken stand one
-/// behind the other, what is counted of them is a sum, and the digest goes on.
+/// Steps of a run, and others after them, are steps of a run: those that are taken stand one
+/// after the other, what is counted of them is a sum, and the digest goes on.
 pub fn steps_join()
     ensures steps { StepsJoin }
     ensures taken { TakenJoin }

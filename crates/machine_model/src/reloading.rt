@@ -43,7 +43,7 @@ pub fn memory_follows()
     ensures others { OthersStay }
 {}
 
-/// What a walk finds by words in frames that a step doesn't write is found behind it.
+/// What a walk finds by words in frames that a step doesn't write is found after it.
 pub fn words_stay_found()
     ensures { WordsStayFound }
 {}

@@ -17,8 +17,8 @@ pub fn steps_use()
     ensures { StepsUse }
 {}
 
-/// Each page that a step used, and that has a translation behind it, leads at level 3 to no text; at level 0 it is of the
-/// text window, with the frame that the loader gave it, or lies behind the window and leads to no text.
+/// Each page that a step used, and that has a translation after it, leads at level 3 to no text; at level 0 it is of the
+/// text window, with the frame that the loader gave it, or lies past the window and leads to no text.
 pub fn used_pages_are_open()
     ensures { UsedPagesLeadWell }
 {}

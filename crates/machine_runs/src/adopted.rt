@@ -40,7 +40,7 @@ fn first(rt: &impl Abort, alloc: Global, image: &Checked) -> Bare<Buffer>
     begun(rt, alloc, image)
 }
 
-/// The bare machine behind its first `k` steps.
+/// The bare machine after its first `k` steps.
 pub fn bare_after(rt: &impl Abort, alloc: Global, image: &Checked, k: u64) -> Bare<Buffer>
     requires bound { k ≤ 2 ^ 40 }
     ensures fit { Fit result.cpu }
@@ -67,7 +67,7 @@ fn lay(rt: &impl Abort, ram: &mut Ram, from: &Ram, image: &Checked)
     ram.put(TEXT_AT, image.text());
 }
 
-/// The same, with a pool of the frames behind them.
+/// The same, with a pool of the frames after them.
 fn lay_with_pool(rt: &impl Abort, ram: &mut Ram, from: &Ram, image: &Checked) -> Pool
     ensures len { length ram.new ≡ 10485760 }
     ensures short { length image.now.text ≤ 4096 }

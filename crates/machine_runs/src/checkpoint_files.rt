@@ -111,7 +111,7 @@ fn a_file_of_another_length_is_refused(rt: HostRuntime) {
     }
     add(&rt, &mut bytes, &[0]);
     is_cut_at(&rt, rt.alloc(), &bytes, SIZE + 1, 8_388_864);
-    // a field that is bad before the file ends is told, and one that isn't whole is not
+    // a field that is bad before the file ends is reported, and one that isn't whole is not
     set(&mut bytes, 57, 0x02);
     set(&mut bytes, 59, 0);
     is_cut_at(&rt, rt.alloc(), &bytes, 59, 59);

@@ -9,7 +9,7 @@ use pv_io::MemSink;
 use std::alloc::Global;
 use std::process::Abort;
 
-/// What a row of a table or a number tells apart holds.
+/// What a row of a table or a number identifies holds.
 pub fn holds(rt: &impl Abort, row: usize, held: bool) {
     assert!(rt; held, "row {row}");
 }
@@ -34,18 +34,18 @@ pub fn took(rt: &impl Abort, out: &MemSink, text: &[u8]) {
     is_so(rt, "what the sink took", are_same(out.bytes(), text));
 }
 
-/// What a line says before and behind its next `|`.
+/// What a line says before and after its next `|`.
 pub fn field<'a>(rt: &impl Abort, line: &'a str) -> (&'a str, &'a str) {
     line.split_once('|').expect(rt, "a field")
 }
 
-/// The number that a line begins with, and what stands behind it.
+/// The number that a line begins with, and what stands after it.
 pub fn number<'a>(rt: &impl Abort, line: &'a str) -> (usize, &'a str) {
     let (number, rest) = line.split_once(' ').unwrap_or((line, ""));
     (number.parse().expect(rt, "a number"), rest)
 }
 
-/// Puts these bytes behind the others.
+/// Puts these bytes after the others.
 pub fn add(rt: &impl Abort, bytes: &mut Vec<u8>, piece: &[u8]) {
     bytes.extend_from_slice(piece).expect(rt, "memory");
 }

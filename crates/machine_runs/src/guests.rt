@@ -60,7 +60,7 @@ pub fn guest_steps_on(
     }
 }
 
-/// A guest behind its first `k` steps, and its pool, on this host.
+/// A guest after its first `k` steps, and its pool, on this host.
 pub fn guest_after(
     rt: &impl Abort,
     alloc: Global,
@@ -116,7 +116,7 @@ fn is_memory(mine: &Ram, yours: &Ram) -> bool {
         )
 }
 
-/// Both machines stand behind so many steps, with one processor.
+/// Both machines stand after so many steps, with one processor.
 fn stand_alike(rt: &impl Abort, guest: &Guest, bare: &Bare<Buffer>, step: u64)
     ensures steps { (guest.now.step ≡ step) × (bare.now.step ≡ step) }
 {
@@ -190,7 +190,7 @@ fn patched_slices_print_the_same_and_both_machines_go_on_alike(rt: HostRuntime) 
     side_by_side(&rt, alloc, &image);
 }
 
-/// A slice of eight steps fails, whose second line does. It ends behind that line's step, and the first line went out.
+/// A slice of eight steps fails, whose second line does. It ends after that line's step, and the first line went out.
 fn ends_at_the_line_that_fails(
     rt: &impl Abort,
     alloc: Global,

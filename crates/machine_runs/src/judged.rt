@@ -16,7 +16,7 @@ use trace_check::{
 };
 use worked_kernels::{JUDGED, READS_ITS_TEXT, SENDS_A_BYTE};
 
-/// Puts a choice behind those of a file: its step has 8 bytes, its page 4, and its kind the fifth of the last 8.
+/// Puts a choice after those of a file: its step has 8 bytes, its page 4, and its kind the fifth of the last 8.
 fn put_choice(rt: &impl Abort, file: &mut Vec<u8>, choice: &str) {
     let (step, rest) = number(rt, choice);
     let (page, rest) = number(rt, rest);
@@ -75,7 +75,7 @@ fn bound_of(rt: &impl Abort, bound: &str) -> u64
     n as u64
 }
 
-/// The verdict on what a line says behind it: the kernel's letter, the bound, the choices and the text.
+/// The verdict on what a line says after it: the kernel's letter, the bound, the choices and the text.
 fn verdict_on(rt: &impl Abort, alloc: Global, line: &str) -> Verdict {
     let (letter, rest) = field(rt, line);
     let (bound, rest) = field(rt, rest);
@@ -175,7 +175,7 @@ fn replayed(
     replay(alloc, image, script, 2048, 8, choices, text).expect(rt, "a verdict")
 }
 
-/// The verdict on the text of a patched run of eight steps, which is this, by the choices that its notes tell.
+/// The verdict on the text of a patched run of eight steps, which is this, by the choices that its notes give.
 fn noted(rt: &impl Abort, alloc: Global, source: &str, text: &[u8]) -> Verdict {
     let image = image_of(rt, alloc, source);
     replayed(rt, alloc, &image, &no_event(rt, alloc), text)

@@ -71,7 +71,7 @@ fn is_left(rt: &impl Abort, alloc: Global, left: &Left) -> bool {
     )
 }
 
-/// The same memory of the bare machine, behind that kernel's copy.
+/// The same memory of the bare machine, after that kernel's copy.
 fn bare_memory(rt: &impl Abort, alloc: Global) -> Vec<u8> {
     let image = image_of(rt, alloc, COPIES_WITHIN_A_STALE_PAGE);
     let bare = bare_after(rt, alloc, &image, 9);
@@ -137,7 +137,7 @@ fn fills_of_spaces(rt: &impl Abort, alloc: Global, on: &str, pool: u32) -> u64
 // A step that the wedge does itself, at a site or inside one, fills those of its pages that aren't kept with their rights, and
 // so does an instruction that the host can't do before. The writes of the beginning fill nine pages and the text's: 10. A load
 // of CR3 drops the text's page from the space that it leaves, so each of the nine turns fills it again: 9. The change fills
-// its page, the first space's turn behind it 2, since its pages have left by then, and the third's the text's. These are 23. A
+// its page, the first space's turn after it 2, since its pages have left by then, and the third's the text's. These are 23. A
 // turn in a round fills 1 more where its page isn't kept: in three turns, or in all nine and for both reads of the third space
 // at the end.
 #[test]

@@ -29,7 +29,7 @@ fn kernel_of(rt: &impl Abort, alloc: Global, letter: u8) -> Kernel
     }
 }
 
-/// Puts the kernel of a letter behind the others.
+/// Puts the kernel of a letter after the others.
 fn add_kernel(rt: &impl Abort, alloc: Global, kernels: &mut Vec<Kernel>, letter: u8)
     requires scripts { All (λ kernel. is_script kernel.script.list ≡ true) kernels.old.items }
     ensures len { length kernels.new.items ≡ length kernels.old.items + 1 }

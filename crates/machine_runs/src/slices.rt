@@ -186,7 +186,7 @@ fn a_large_image_is_told_with_both_numbers_of_frames(rt: HostRuntime) {
     took(&rt, &out, b"");
 }
 
-/// A slice of eight steps fails, whose second line does, and ends behind that line's step.
+/// A slice of eight steps fails, whose second line does, and ends after that line's step.
 fn ends_at_the_line_that_fails(
     rt: &impl Abort,
     machine: &mut Bare<Buffer>,

@@ -1,4 +1,4 @@
--- An insensitive instruction's step, divided behind its ranges.
+-- An insensitive instruction's step, divided after its ranges.
 use Rattle.std.proofs.Common.{◌≡◌, ℕ, Bool, true, cond, Ok, Err, refl, ap, ◌∙◌}
 use Rattle.ia32_types.specs.declared.insn.Insn.{Insn}
 use Rattle.ia32_exec.specs.Effect.{ranges_of}

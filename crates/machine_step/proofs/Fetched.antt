@@ -68,7 +68,7 @@ second_owned eip insn len more t u same h =
     ap (λ (n : ℕ). Ok (begins.Insn insn len, owns_back (next_page eip) n t)) (sym same)
     ∙ ap (λ (x : Space). Ok (begins.Insn insn len, x)) (sym h)
 
--- bytes of two pages, one behind the other
+-- bytes of two pages, one after the other
 pub joined : (front more first both slice : List ℕ) → first ≡ [] ++ front → both ≡ first ++ more → slice ≡ both → slice ≡ front ++ more
 joined front more first both slice a b e = e ∙ (b ∙ ap (λ (l : List ℕ). l ++ more) a)
 

@@ -231,7 +231,7 @@ module _ (completed : Completed) (cpu : Cpu) where
       (λ plain. plainly_left (executed insn len cpu s) (e ∙ ap (λ (b : Bool). b && is_control_3 insn.a) (not_write insn.op plain)) ((of_plain cpu insn len).each s))
       (ends_left (sys_work insn len cpu s) ((sys_left cpu load insn len e).each s))
 
-  -- ---- what is told of it
+  -- ---- what is recorded of it
 
   refusal_roots : (r : Refusal) (s t : Space) (e : SysEffect) (after : Cpu) → told cpu (Err (r, s)) ≡ (e, after, t) → EffectRoots completed cpu e after
   refusal_roots (refusals.Fault code at) s t e after g =

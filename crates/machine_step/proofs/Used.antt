@@ -1,4 +1,4 @@
--- Memory within a step that goes on, by what a part of the step comes to.
+-- Memory within a step that goes on, by the outcome of a part of the step.
 use Rattle.std.proofs.Common.{◌≡◌, ℕ, Bool, Option, Ok, Err, Result, ap, subst}
 use Rattle.std.specs.Prelude.{IfOk, IfErr, OnErr}
 use Rattle.descriptors.specs.declared.cpu.Cpu.{Cpu}

@@ -19,7 +19,7 @@ use Rattle.machine_model.specs.UsedPages.{Uses}
 abbrev pub control_of : ℕ → Cpu → Control
 control_of frames cpu = record { frames = frames; cr3 = cpu.cr3; pse = pse_of cpu; wp = wp_of cpu }
 
--- the board behind an interrupt that is taken, or as it was where none is
+-- the board after an interrupt that is taken, or as it was where none is
 abbrev pub taken_by : Option ℕ → Board → Board
 taken_by None board = board
 taken_by (Some vector) board = acknowledged board

@@ -14,7 +14,7 @@ use Rattle.machine_model.specs.UsedPages.{Uses}
 abbrev pub first_space : {B : Type 0} → translations.Ghosts B → B → List ℕ → Guard → ℕ → Cpu → Space
 first_space g base ram guard frames cpu = space_at_start (mode_of guard) frames cpu (shown guard frames ram) (g.entries base ram)
 
--- what a run goes by, with this step's rules and frames
+-- what a run uses, with this step's rules and frames
 abbrev pub under : Setting → Guard → ℕ → Setting
 under m guard frames = record m { mode = mode_of guard; frames = frames }
 

@@ -1,4 +1,4 @@
--- What one step comes to, as a value, in the words of the definitions.
+-- The outcome of one step, as a value, in the words of the definitions.
 use Rattle.std.specs.Prelude.{◌≡◌, ◌==◌, ◌<◌, ◌^◌, Bool, true, false, List, [], ◌∷◌, Option, Some, None, Result, Ok, Err}
 use Rattle.std.specs.FinMap.{FinMap, remove, empty}
 use Rattle.std.specs.Ordering.{nat_cmp}
@@ -59,12 +59,12 @@ abbrev pub went_as : State → Worked → Board → Space → steps.Result
 went_as b worked board s =
     steps.concluded (whats worked.seen) (completed_by worked.completed) b worked.cpu board (record s { set = dropping worked.dropped s.set })
 
--- what a step from this state comes to, by the definitions, is what was answered
+-- the outcome of a step from this state, by the definitions, is what was answered
 abbrev pub ComesTo : steps.Result → State → Result Worked Stop → Board → Space → Type 0
 ComesTo result b (Ok worked) board s = result ≡ went_as b worked board s
 ComesTo result b (Err stop) board s = result ≡ steps.Halts stop
 
--- the answer, where a step that went is told in its place
+-- the answer, where a step that went is recorded in its place
 abbrev pub answer_of : Result (Unit {0}) Stop → Worked → Result Worked Stop
 answer_of (Ok done) worked = Ok worked
 answer_of (Err stop) worked = Err stop

@@ -51,7 +51,7 @@ pub fn deliver<M: StepMemory>(
     }
 }
 
-/// INT enters the handler with the EIP behind it. Where the gate may not be used at this level, #GP is raised at the instruction.
+/// INT enters the handler with the EIP after it. Where the gate may not be used at this level, #GP is raised at the instruction.
 pub fn enter<M: StepMemory>(
     rules: &Rules,
     insn: &Insn,
@@ -111,7 +111,7 @@ pub fn refuse<M: StepMemory>(
     }
 }
 
-/// The same, where the step is told in its place.
+/// The same, where the step is recorded in its place.
 pub fn refuse_at<M: StepMemory>(
     rules: &Rules,
     worked: &mut Worked,

@@ -1,4 +1,4 @@
-//! What an instruction other than INT and INT3 comes to.
+//! The outcome of an instruction other than INT and INT3.
 
 ghost use Rattle.std.specs.Prelude.{◌≡◌, ◌+◌, ◌≤◌, List, ℕ, true};
 ghost use Rattle.ia32_rows.specs.Spells.{Spells};

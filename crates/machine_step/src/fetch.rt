@@ -58,7 +58,7 @@ fn fetch_pages<M: StepMemory>(mem: &mut M, user: bool, at: u32) -> Result<Decode
     }
 }
 
-// With bytes of the second page too, behind those that the first page has now.
+// With bytes of the second page too, after those that the first page has now.
 fn fetch_on<M: StepMemory>(mem: &mut M, user: bool, at: u32, next: u32) -> Result<Decoded, Refusal>
     requires room { (M.space mem.old).pages ≤ 63 }
     requires found { HasEntry (M.space mem.old).set at }
@@ -132,7 +132,7 @@ fn decode_pieces(front: &[u8], back: &[u8]) -> Decoded
     decode_joined(front, back)
 }
 
-// Puts the bytes of a page, from an address on, behind others.
+// Puts the bytes of a page, from an address on, after others.
 fn read_page<M: StepMemory>(mem: &M, at: u32, len: u32, to: &mut Bytes)
     requires found { HasEntry (M.space mem.now).set at }
     requires one { at % 4096 + len ≤ 4096 }

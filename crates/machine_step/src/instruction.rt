@@ -1,4 +1,4 @@
-//! What an instruction that was fetched comes to.
+//! The outcome of an instruction that was fetched.
 
 ghost use Rattle.std.specs.Prelude.{◌≡◌, ◌==◌, ◌≤◌, List, ℕ, IfOk, OnOk, OnErr, Ok, Some};
 ghost use Rattle.paging.specs.Space.{Space};
@@ -53,7 +53,7 @@ pub fn carry_out<M: StepMemory>(
     }
 }
 
-/// The same, where the step is told in its place.
+/// The same, where the step is recorded in its place.
 pub fn carry_out_at<M: StepMemory>(
     rules: &Rules,
     insn: &Insn,
@@ -112,7 +112,7 @@ fn perform<M: StepMemory>(
     follow(rules, insn, before, effect, worked, board, mem)
 }
 
-/// What an instruction's effect comes to, which this processor began. The processor behind it stands in the step's place.
+/// The outcome of an instruction's effect, which this processor began. The processor after it stands in the step's place.
 fn follow<M: StepMemory>(
     rules: &Rules,
     insn: &Insn,

@@ -1,4 +1,4 @@
-//! What one step of a machine comes to, over any keeper of translations and under a monitor's rules or none.
+//! The outcome of one step of a machine, over any keeper of translations and under a monitor's rules or none.
 #![tactic(auto)]
 
 mod delivery;

@@ -29,7 +29,7 @@ use step_exec::{Memory, StepMemory};
 use step_mem::{Control, Guard, Own, StepState, Text, Translations};
 
 /// One step, or the stop that it meets. Its state, with what it changed of the translations, takes the place of an earlier
-/// step's; and what it comes to is told in its place.
+/// step's; and its outcome is recorded in its place.
 pub fn step_again<'g, B: Translations>(
     rules: &Rules,
     worked: &mut Worked,
@@ -62,7 +62,7 @@ pub fn step_again<'g, B: Translations>(
     step_at(rules, worked, board, ram, kept, state)
 }
 
-/// What a walk goes by: the frames, the directory, and the two flags.
+/// What a walk uses: the frames, the directory, and the two flags.
 fn control(cpu: &Cpu, frames: u32) -> Control
     ensures { result ≡ control_of frames cpu.now }
 {
@@ -160,7 +160,7 @@ pub fn step_in<B: Translations>(
     }
 }
 
-/// The same, where the step is told in its place. From here on the parts of its memory are one value.
+/// The same, where the step is recorded in its place. From here on the parts of its memory are one value.
 fn step_at<B: Translations>(
     rules: &Rules,
     worked: &mut Worked,

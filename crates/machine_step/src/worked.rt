@@ -1,4 +1,4 @@
-//! What one step comes to.
+//! The outcome of one step.
 
 ghost use Rattle.std.specs.Prelude.{◌≡◌, ◌≤◌, None, Some, OnOk, OnErr};
 ghost use Rattle.pv_io.specs.Causes.{Rose};
@@ -63,7 +63,7 @@ impl Completed {
 }
 
 impl Worked {
-    /// A place in which steps are told, where nothing is told yet but the processor.
+    /// A place in which steps are recorded, where nothing is recorded yet but the processor.
     pub fn at(cpu: &Cpu) -> Worked
         ensures { result ≡ record { seen = Seen.Nothing; completed = None; cpu = cpu.now; dropped = Dropped.Nothing } }
     {

@@ -1,4 +1,4 @@
--- A run of the host, one instruction behind the other, beside the guest.
+-- A run of the host, one instruction after the other, beside the guest.
 use Rattle.std.proofs.Common.{◌≡◌, ℕ, zero, suc, ◌-◌, ◌≤◌, List, [], ◌∷◌, ◌++◌, length, replicate, Bool, true, false, Option, Some, None, Ok, Err, refl, sym, ap, subst, ◌∙◌, inl, arith}
 use Rattle.std.specs.List.{All}
 use Rattle.std.proofs.lemmas.Bool.{cond-true, and_parts, both_ways}
@@ -227,7 +227,7 @@ module _ (laws : Laws) (m : Setting) (v : View) (w : IsWedge m) where
             ∙ (shown_length m w ram follows.stands.host ∙ (sym (shown_length m w s.ram h.stands.host) ∙ sym (ap (λ (l : List ℕ). length l) h.stands.ram)));
       }
 
-      -- with the steps behind it
+      -- with the steps after it
       quiet_more : (n : ℕ) → All IsQuiet (steps_by m after (replicate n after.set)) → All IsQuiet (steps_by m b (replicate (suc n) b.set))
       unfolding taken
       quiet_more n rest =

@@ -112,7 +112,7 @@ module _ (m : Setting) (b : State) (kernel : Bool) (mode : m.mode ≡ wedge_mode
       let other : eip / 4096 ≡ 1048575 → ⊥ = λ e. both_ways (eip / 4096 == 1048575) not_last (eq-eqb (eip / 4096) 1048575 e) in
       omega (arith, small, other)
 
-  -- ---- behind a fetch of the first page
+  -- ---- after a fetch of the first page
 
   module _ (front : List ℕ) (first : Space) (reads : fetching (not kernel) eip (front_len eip) start ≡ Ok (front, first)) where
     one : FetchSeen (not kernel) start first eip (front_len eip) front
@@ -173,7 +173,7 @@ module _ (m : Setting) (b : State) (kernel : Bool) (mode : m.mode ≡ wedge_mode
       to_after y (Some e) g = g
       to_after y None g = found_after b.ram first.ram m.frames b.cpu.cr3 (pse_of b.cpu) m.mode next access (wp_of b.cpu) y through.through.marks (next_small not_last) room g
 
-      -- ---- behind a fetch of both
+      -- ---- after a fetch of both
 
       module _ (more : List ℕ) (after : Space) (reads_more : fetching (not kernel) (next_page eip) longest before ≡ Ok (more, after)) where
         second : FetchSeen (not kernel) before after (next_page eip) longest more

@@ -30,7 +30,7 @@ module _ (quiet : StepsAreQuiet) (m : Setting) (b after : State) (h : IsLater m 
       let r = quiet (board_now m b) m.script b.step k q.1 in
       ap (λ (x : Board). given x m.script after.step) h.board ∙ ap (given (board_step (board_now m b)) m.script) h.count ∙ r.no_event (board_step (board_now m b))
 
-  -- the steps behind it are quiet too
+  -- the steps after it are quiet too
   pub quiet_on : (k : ℕ) → AreQuiet m b (suc k) → AreQuiet m after k
   quiet_on zero q = tt
   quiet_on (suc k) q =
@@ -40,7 +40,7 @@ module _ (quiet : StepsAreQuiet) (m : Setting) (b after : State) (h : IsLater m 
         ap (λ (x : Board). comes_within x m.script after.step k) now ∙ ap (λ t. comes_within (board_step (board_now m b)) m.script t k) h.count ∙ r.later,
       )
 
-  -- and the board behind them is that of one step more
+  -- and the board after them is that of one step more
   pub board_on : (k n : ℕ) → n ≤ k → AreQuiet m b (suc k) → board_after m after n ≡ board_after m b (suc n)
   unfolding board_steps
   board_on k zero le q = h.board

@@ -75,7 +75,7 @@ decided_clear s fetch page at access e = by_text (walks_text s page) e
     by_text true x = absurd cc
     by_text false x = refl
 
--- the tests of a walk, one behind the other
+-- the tests of a walk, one after the other
 pub decided_ready : (s : Tables) (fetch : Bool) (page at : ℕ) (access : Access) (e : Entry) (d t : ℕ) → walks_text s page ≡ false → fresh s.ram s.frames s.cr3 s.pse page ≡ Found e d t
     → grants e access s.wp ≡ true → is_barred s.mode fetch access.user e.page e.frame ≡ false → marks_own s d t access.write ≡ false → (decided s fetch page at access).met ≡ Ready
 unfolding decided

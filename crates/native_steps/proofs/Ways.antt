@@ -28,6 +28,6 @@ pub record IsAcross (P : ℕ → ℕ → Type 0) (ram : List ℕ) (eip : ℕ) (i
   pub next_page : P (eip / 4096 + 1) next
   pub is : decoded (front_at ram frame eip ++ back_at ram next) ≡ begins.Insn insn len
 
--- the instruction's bytes, where P tells the frames of pages
+-- the instruction's bytes, where P gives the frames of pages
 abbrev pub Way : (ℕ → ℕ → Type 0) → List ℕ → ℕ → Insn → ℕ → Type 0
 Way P ram eip insn len = IsFront P ram eip insn len ⊎ IsAcross P ram eip insn len

@@ -1,4 +1,4 @@
--- What the laws of instructions say of what one comes to.
+-- What the laws of instructions say of the outcome of one.
 use Rattle.ia32_exec.specs.FlagsAfter.{SystemFlagsStay}
 use Rattle.ia32_exec.specs.SameBytes.{SameOverRanges}
 use Rattle.sys_exec.specs.Agreement.{UserFlagsAgree}

@@ -39,7 +39,7 @@ pub record IsNext (m : Setting) (kernel : Bool) (b : State) : Type 0 where
   pub outside : kernel ≡ true → site_at m.image.sites (b.cpu.regs.eip - TEXT_ADDRESS) ≡ None
 
 -- The guest's step goes, with nothing seen and no walk. Its instruction counts, loads no CR3, and leaves these registers and, over
--- this memory, the guest's. Nothing else changes but the board, and that a hold ends; IF stays. Of the host's memory nothing behind the
+-- this memory, the guest's. Nothing else changes but the board, and that a hold ends; IF stays. Of the host's memory nothing past the
 -- guest's frames has changed, and of the guest's no frame to which the tables let no write pass.
 pub record Follows (m : Setting) (v : View) (b : State) (memory : List ℕ) (regs : Regs) (after_memory : List ℕ) : Type 0 where
   pub report : step.Report

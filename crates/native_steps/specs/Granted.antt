@@ -50,7 +50,7 @@ pub record AreGranted (image : Image) (kernel wp : Bool) (s : Space) (pages : Li
 
 pub record Leaves (m : Setting) (v : View) (b : State) (insn : Insn) (len : ℕ) (fetch write : Space) : Type 0 where
   pub granted : AreGranted m.image v.kernel (wp_of b.cpu) write fetch.visited (ranges_of insn b.cpu.regs)
-  -- what the instruction comes to over the step's memory is its effect over the state that is left
+  -- the outcome of the instruction over the step's memory is its effect over the state that is left
   pub effect : user_effect (selectors_of b.cpu) insn len b.cpu.regs (byte_of (ranges_of insn b.cpu.regs) write) ≡ effect_of v (settled b write) insn len
   -- and the step goes on by it, whether it is done, raises or stops
   pub step : stepped m b ≡ after_instruction m (unheld b) (begun b insn) (user_finished (unheld b).cpu (effect_of v (settled b write) insn len) write)

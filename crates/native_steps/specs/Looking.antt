@@ -82,7 +82,7 @@ uses_on b ram front (Some x) =
     fetch_uses b (b.cpu.regs.eip / 4096 ∷ next_page b.cpu.regs.eip / 4096 ∷ [])
     ++ range_uses b (decoded (front ++ bytes_seen (marked ram x.marks) x (next_page b.cpu.regs.eip) longest))
 
--- behind the bytes of the first page
+-- after the bytes of the first page
 abbrev pub uses_behind : Setting → State → Seen → List ℕ → Decoded → List Use
 uses_behind m b x front (begins.Insn insn len) = fetch_uses b (b.cpu.regs.eip / 4096 ∷ []) ++ range_uses b (begins.Insn insn len)
 uses_behind m b x front begins.Outside = fetch_uses b (b.cpu.regs.eip / 4096 ∷ [])

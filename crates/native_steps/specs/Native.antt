@@ -19,7 +19,7 @@ use Rattle.native_steps.specs.Lends.{AreKept}
 abbrev pub byte_of : State → ℕ → ℕ
 byte_of b at = byte b.ram (place_by (get b.set (at / 4096)) at)
 
--- what the instruction comes to, over the guest's bytes
+-- the outcome of the instruction, over the guest's bytes
 abbrev pub effect_of : View → State → Insn → ℕ → exec.Outcome
 effect_of v b insn len = user_effect (selectors_of v) insn len b.cpu.regs (byte_of b)
 

@@ -1,4 +1,4 @@
--- A stretch: instructions that the host completes one behind the other, over tables that lend no more than the guest's
+-- A stretch: instructions that the host completes one after the other, over tables that lend no more than the guest's
 -- translations whatever its frames hold, are as many steps of the guest, each with the translations that are there.
 use Rattle.std.specs.Prelude.{◌≡◌, ℕ, zero, suc, ◌+◌, ◌*◌, ◌≤◌, false, true, List, [], length, replicate, drop, Some, None}
 use Rattle.std.specs.List.{All}
@@ -25,7 +25,7 @@ use Rattle.native_steps.specs.Lends.{Lends, IsUnlent, AreKept}
 use Rattle.native_steps.specs.Mirrors.{IsWedge, Mirrors}
 use Rattle.native_steps.specs.Forward.{IsEntrance}
 
--- the same memory behind the guest's frames
+-- the same memory past the guest's frames
 pub record SameBehind (m : Setting) (old new : List ℕ) : Type 0 where
   pub size : length new ≡ length old
   pub beyond : drop (4096 * m.frames) new ≡ drop (4096 * m.frames) old
@@ -60,7 +60,7 @@ abbrev pub board_after : Setting → State → ℕ → Board
 board_after m b zero = b.board
 board_after m b (suc n) = board_steps (suc n) (board_now m b)
 
--- What the exit leaves: all as it was behind the last completed instruction, but at a site, where the jump into the
+-- What the exit leaves: all as it was after the last completed instruction, but at a site, where the jump into the
 -- window was done.
 abbrev pub EndsAs : Setting → View → Exit → Standing → Standing → Type 0
 EndsAs m v (exits.Entry at) last t =
@@ -83,7 +83,7 @@ pub record IsQuiet (t : Taken) : Type 0 where
 
 -- The host completes n instructions, and stands at last. The guest has done n steps by then, with the translations that
 -- it had, which none of them changes: all of them count, none loads CR3 or changes a control register, nothing is seen in
--- them, no walk is done, and both stand beside one another again. Of the host's memory nothing behind the guest's frames has
+-- them, no walk is done, and both stand beside one another again. Of the host's memory nothing past the guest's frames has
 -- changed, and of the guest's no frame to which the tables let no write pass.
 pub record Advanced (m : Setting) (v : View) (b : State) (k : ℕ) (s : Standing) (exit : Exit) (t : Standing) : Type 0 where
   pub n : ℕ

@@ -58,11 +58,11 @@ pub record Tables : Type 0 where
 abbrev pub tables_of : Space → Tables
 tables_of s = record { ram = s.ram; frames = s.frames; cr3 = s.cr3; pse = s.pse; wp = s.wp; mode = s.mode }
 
--- the table that a directory word names stands in a frame that holds text
+-- the table that a PDE names stands in a frame that holds text
 abbrev pub table_is_text : Mode → Bool → ℕ → Bool
 table_is_text mode pse dir = has dir 1 && (not (is_large pse dir) && is_text mode (dir / 4096))
 
--- a walk reads a directory word or a table word in a frame that holds text
+-- a walk reads a PDE or a PTE in a frame that holds text
 unfoldable pub walks_text : Tables → ℕ → Bool
 walks_text s page =
     is_text s.mode (s.cr3 / 4096)

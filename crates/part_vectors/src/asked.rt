@@ -1,4 +1,4 @@
-//! What tests ask, in one place, and what is told where it does not hold.
+//! What tests ask, in one place, and what is printed where it does not hold.
 
 ghost use Rattle.std.specs.Prelude.{◌≡◌, true};
 
@@ -21,7 +21,7 @@ pub fn given(rt: &impl Abort, said: &str, held: bool)
     assert!(rt; held, "{said}");
 }
 
-/// A step, of those that show what is said, comes to what it says.
+/// A step, of those that show what is said, has the result that it states.
 pub fn comes_so(rt: &impl Abort, shown: &str, step: usize, held: bool) {
     assert!(rt; held, "{shown}: step {step}");
 }

@@ -41,7 +41,7 @@ fn taken(board: &mut Board) -> Option<u8> {
     Some(board.acknowledge())
 }
 
-/// What is done to a board, and what it comes to.
+/// What is done to a board, and its result.
 enum Step {
     Sent(u16, u8),
     Advance(u64),
@@ -49,7 +49,7 @@ enum Step {
     Taken(Option<u8>),
 }
 
-/// Whether a step comes to what it says; a byte that is sent is taken.
+/// Whether a step has the result that it states; a byte that is sent is taken.
 fn does(board: &mut Board, step: &Step) -> bool {
     match *step {
         Step::Sent(port, v) => sent(board, port, v) == Did::Done,
@@ -256,12 +256,12 @@ fn scripts_are_refused(rt: HostRuntime) {
     }
 }
 
-/// Puts the piece behind the text.
+/// Puts the piece after the text.
 fn add(rt: &impl Abort, text: &mut Vec<u8>, piece: &[u8]) {
     text.extend_from_slice(piece).expect(rt, "memory");
 }
 
-/// So many lines of a byte that comes at the last step, and a line behind them.
+/// So many lines of a byte that comes at the last step, and a line after them.
 fn long_script(rt: &impl Abort, alloc: Global, count: u32, last: &[u8]) -> Vec<u8> {
     let mut text = Vec::new(alloc);
     for _ in 0..count {

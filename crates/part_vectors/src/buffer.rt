@@ -1,4 +1,4 @@
-//! The buffer of translations.
+//! The TLB.
 
 use crate::asked::comes_so;
 use paging::Entry;
@@ -32,7 +32,7 @@ const NEXT: Entry = Entry {
     ..FIRST
 };
 
-/// What is done to the buffer, or found in it.
+/// What is done to the TLB, or found in it.
 enum Step {
     Keep(Entry),
     DropPage(u32),
@@ -41,7 +41,7 @@ enum Step {
     Find(u32, Option<Entry>),
 }
 
-/// Whether a step comes to what it says.
+/// Whether a step has the result that it states.
 fn does(buffer: &mut Buffer, step: &Step) -> bool {
     match *step {
         Step::Keep(entry) => buffer.keep(entry),

@@ -106,7 +106,7 @@ fn stays_within_one_walk_and_ends_at_the_budget(rt: HostRuntime) {
     is_so(&rt, "a thousand jumps", stays(&mut machine));
 }
 
-/// What is seen behind a run.
+/// What is seen after a run.
 enum Shown {
     Register(usize, u32),
     Eip(u32),
@@ -140,7 +140,7 @@ fn are_shown(rt: &impl Abort, machine: &Machine, regs: &Regs, all: &[Shown])
     }
 }
 
-/// A run on this machine comes to this exit.
+/// A run on this machine ends with this exit.
 fn exits(
     rt: &impl Abort,
     machine: &mut Machine,
@@ -316,7 +316,7 @@ fn reads_both(machine: &mut Machine) -> bool
     is_exit(exit, Exit::Soft(3)) && regs.r[0] == 5 && regs.r[1] == 6
 }
 
-// The third instruction reads through the table word that the second one wrote.
+// The third instruction reads through the PTE that the second one wrote.
 #[test]
 fn sees_a_table_that_it_writes(rt: HostRuntime) {
     let code =

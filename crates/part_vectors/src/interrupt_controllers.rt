@@ -13,7 +13,7 @@ const SLAVE: u16 = 0xA0;
 
 const SLAVE_DATA: u16 = 0xA1;
 
-/// What is done to both, and what it comes to.
+/// What is done to both, and its result.
 enum Step {
     Edge(u8),
     Write(u16, u8, Did),
@@ -28,7 +28,7 @@ fn taken(pics: &mut Pics) -> Option<u8> {
     Some(pics.acknowledge())
 }
 
-/// Whether a step comes to what it says.
+/// Whether a step has the result that it states.
 fn does(pics: &mut Pics, step: &Step) -> bool {
     match *step {
         Step::Edge(line) => {

@@ -26,7 +26,7 @@ fn fits(len: u32, at: u32, count: usize) -> bool
     count <= 8 && count as u32 <= len && at <= len - count as u32
 }
 
-/// Whether a step comes to what it says.
+/// Whether a step has the result that it states.
 fn does(ram: &mut Ram, step: &Step) -> bool {
     let len = ram.len();
     match *step {

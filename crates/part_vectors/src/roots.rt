@@ -289,7 +289,7 @@ fn filled(frame: u32) -> RootsCall
 /// frames are free then.
 type Told = (Option<Entry>, bool, usize, u32);
 
-/// What is told of these calls over a memory and its pool.
+/// What is reported of these calls over a memory and its pool.
 fn replayed(
     rt: &impl Abort,
     alloc: Global,
@@ -310,7 +310,7 @@ fn replayed(
     )
 }
 
-/// What is told of these calls over a pool of so many frames.
+/// What is reported of these calls over a pool of so many frames.
 fn told(rt: &impl Abort, alloc: Global, frames: u32, calls: &[RootsCall]) -> Told
     requires fit { AreFitCalls calls.now }
     requires frames { 2 ≤ frames × frames ≤ 64 }
@@ -324,7 +324,7 @@ fn is_told(told: &Told, want: &Told) -> bool {
     told == want
 }
 
-/// These calls are told so.
+/// These calls are reported so.
 fn are_told(rt: &impl Abort, alloc: Global, frames: u32, calls: &[RootsCall], want: Told)
     requires fit { AreFitCalls calls.now }
     requires frames { 2 ≤ frames × frames ≤ 64 }

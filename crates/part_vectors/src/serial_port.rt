@@ -5,7 +5,7 @@ use ia32_types::Did;
 use std::process::Abort;
 use uart16550::Uart;
 
-/// What is done to the port, and what it comes to.
+/// What is done to the port, and its result.
 #[derive(Clone, Copy)]
 enum Step {
     Receive(u8),
@@ -14,7 +14,7 @@ enum Step {
     Line(bool),
 }
 
-/// Whether a step comes to what it says.
+/// Whether a step has the result that it states.
 fn does(uart: &mut Uart, step: Step) -> bool {
     match step {
         Step::Receive(v) => {
@@ -39,7 +39,7 @@ const NO_MORE: [Step; 3] = [
     Step::Read(0x3F8, 0),
 ];
 
-/// Enables the receiver's interrupt, and writes that to the register of the buffers.
+/// Enables the receiver's interrupt, and writes that to the FIFO control register.
 fn enable(rt: &impl Abort, uart: &mut Uart, buffers: u8) {
     let begin = [
         Step::Write(0x3F9, 1, Did::Done),
@@ -64,7 +64,7 @@ fn read_received(rt: &impl Abort, uart: &mut Uart, v: u8) {
     follow(rt, "a byte", uart, &received);
 }
 
-/// Sixteen of seventeen bytes are received, whatever was written to the register of the buffers.
+/// Sixteen of seventeen bytes are received, whatever was written to the FIFO control register.
 fn receive_sixteen(rt: &impl Abort, enabled: u8) {
     let mut uart = Uart::new();
     enable(rt, &mut uart, enabled);
@@ -77,7 +77,7 @@ fn receive_sixteen(rt: &impl Abort, enabled: u8) {
 
 #[test]
 fn receiver_keeps_sixteen_bytes_and_loses_the_seventeenth(rt: HostRuntime) {
-    // as at the start; with the buffers, and with their marks at 1 and 14 bytes; emptied at once
+    // as at the start; with the FIFOs, and with their trigger levels at 1 and 14 bytes; emptied at once
     for enabled in [0x00u8, 0x01, 0xC1, 0xC7] {
         receive_sixteen(&rt, enabled);
     }

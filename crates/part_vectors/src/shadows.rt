@@ -173,7 +173,7 @@ struct Plain {
     wp: bool,
 }
 
-// Eight pages under four directory words.
+// Eight pages under four PDEs.
 fn page_of(k: u32) -> u32
     requires { k < 8 }
     ensures { result < 2 ^ 20 }
@@ -297,7 +297,7 @@ fn replay_one(ram: &mut Ram, pool: &mut Pool, shadow: &mut Shadow, call: Call) -
     done == 1
 }
 
-/// Whether a call is done, and what is kept behind it is what the plain map keeps.
+/// Whether a call is done, and what is kept after it is what the plain map keeps.
 fn is_kept(
     ram: &mut Ram,
     pool: &mut Pool,

@@ -131,7 +131,7 @@ fn used(rt: &impl Abort, entries: u32, told: Option<u32>) {
     is_so(rt, "entries", told == Some(entries));
 }
 
-/// The instruction is fetched from two pages, the second behind the first, then its operands are reached. The next step only
+/// The instruction is fetched from two pages, the second after the first, then its operands are reached. The next step only
 /// reads, and the one after it does nothing.
 fn step<S: Shadows>(rt: &impl Abort, ram: &mut Ram, pool: &mut Pool, shadows: &mut S)
     requires stands { ∥ S.stands shadows.old ram.old ∥₁ }

@@ -45,14 +45,14 @@ fn a_count_is_eight_steps_a_tick(rt: HostRuntime) {
     }
 }
 
-/// What is done to the timer, and what it comes to.
+/// What is done to the timer, and its result.
 enum Step {
     Write(u16, u8, Did),
     Left(Option<u64>),
     Pass(u64, bool),
 }
 
-/// Whether a step comes to what it says.
+/// Whether a step has the result that it states.
 fn does(pit: &mut Pit, step: &Step) -> bool {
     match *step {
         Step::Write(port, v, did) => pit.write(port, v) == did,

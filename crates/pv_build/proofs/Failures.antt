@@ -10,13 +10,13 @@ none_here before now (halt.Refused line) same = same
 none_here before now halt.ReadFault same = tt
 none_here before now halt.Memory same = same
 
--- none failed before those that tell so
+-- none failed before those that say so
 pub none_since : (before mid now : ℕ) (h : Halt) → mid ≡ before → NoneFailed mid now h → NoneFailed before now h
 none_since before mid now (halt.Refused line) same none = none ∙ same
 none_since before mid now halt.ReadFault same none = none
 none_since before mid now halt.Memory same none = none ∙ same
 
--- the same of what the work comes to
+-- the same of the outcome of the work
 pub none_in : {F T : Type 0} (f : disk.Ghosts F) (a b : F) (r : Result T Halt) → f.load_faults b ≡ f.load_faults a → NoneFailedIn f a b r
 none_in f a b (Ok found) same = same
 none_in f a b (Err h) same = none_here (f.load_faults a) (f.load_faults b) h same

@@ -14,7 +14,7 @@ one_more files [] (p ∷ os) name o all has = absurd all
 one_more files (n ∷ names) [] name o all has = absurd all
 one_more files (n ∷ names) (p ∷ os) name o all has = (all.0, one_more files names os name o all.1 has)
 
--- a file behind them that is no object
+-- a file after them that is no object
 pub first_fault : (files : Option FileMap) (before : List (List ℕ)) (os : List ObjectParts) (name : List ℕ) (later : List (List ℕ)) (fault : Fault)
     → HasObjects files before os → HasNoObject files name fault → FirstFault files (before ++ name ∷ later) (length before) fault
 first_fault files [] os name later fault all has = has
@@ -38,7 +38,7 @@ taken_length f [] i lt = absurd (omega arith)
 taken_length f (y ∷ ys) zero lt = refl
 taken_length f (y ∷ ys) (suc i) lt = ap suc (taken_length f ys i (omega arith))
 
--- the name behind names that hold objects is held where each name that is reached is
+-- the name after names that hold objects is held where each name that is reached is
 pub found_at : (files : Option FileMap) (before : List (List ℕ)) (os : List ObjectParts) (name : List ℕ) (later : List (List ℕ))
     → HasObjects files before os → FindsObjects files (before ++ name ∷ later) → IsHeld files name
 found_at files [] os name later all finds = finds.0

@@ -1,4 +1,4 @@
--- What `work` tells of its two runs.
+-- What `work` reports of its two runs.
 use Rattle.std.specs.Prelude.{ℕ, ◌-◌, List, length}
 use Rattle.image_check.specs.Image.{Image}
 use Rattle.pv_build.specs.Lines.{work_line}

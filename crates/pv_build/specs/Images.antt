@@ -11,7 +11,7 @@ use Rattle.image_check.specs.Refusals.{Refusal}
 use Rattle.image_check.specs.Checking.{image_of}
 use Rattle.pv_build.specs.Lines.{sizes_line}
 
--- text, data, zeroed bytes, and the count of sites that the annotations tell
+-- text, data, zeroed bytes, and the count of sites that the annotations give
 abbrev pub image_made_line : ImageParts → List ℕ
 image_made_line p = sizes_line (codes "image") (length p.text) (length p.init) p.bss (told_count p.sites) (codes "")
 

@@ -94,7 +94,7 @@ cause_line number object _ = object_line number object
 abbrev pub link_line : ℕ → LinkCause → List ℕ
 link_line object cause = cause_line (number cause) object cause
 
--- what `work` tells: the number, how many bytes of text and how many sites the image has, how many items there were in the
+-- what `work` prints: the number, how many bytes of text and how many sites the image has, how many items there were in the
 -- second run's trace, and how many fills
 abbrev pub work_line : ℕ → ℕ → ℕ → ℕ → ℕ → List ℕ
 work_line number text sites items fills =

@@ -16,7 +16,7 @@ use Rattle.pv_build.specs.Lines.{sizes_line, refusal_at_line}
 abbrev pub burn_line : burning.Fault → List ℕ
 burn_line fault = refusal_at_line (burn_number fault.cause) fault.line
 
--- text, data, zeroed bytes, and the count of sites that the annotations tell
+-- text, data, zeroed bytes, and the count of sites that the annotations give
 abbrev pub object_made_line : ObjectParts → List ℕ
 object_made_line o = sizes_line (codes "object") (length o.text) (length o.init) o.bss (told_count o.sites) (codes "")
 

@@ -1,4 +1,4 @@
--- How the end of a run is told as a status.
+-- How the end of a run is reported as a status.
 use Rattle.run_trace.specs.declared.items.End.{End}
 use Rattle.run_trace.specs.declared.items.End.TheVariants.{Bound, Stopped}
 use Rattle.pv_build.specs.declared.status.Status.{Status}

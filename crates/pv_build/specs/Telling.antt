@@ -1,4 +1,4 @@
--- How the work of a command is told to the outside.
+-- How the work of a command is reported to the outside.
 use Rattle.std.specs.Prelude.{◌≡◌, ◌⊎◌, ℕ, Bool, true, List, ◌++◌, Option, Result, Ok, Err}
 use Rattle.pv_io.specs.Causes.{Rose}
 use Rattle.pv_io.specs.Sink.{Appends, AppendsFront}
@@ -42,7 +42,7 @@ RefusesAs told (halt.Refused line) = told line
 RefusesAs told halt.ReadFault = ⊥
 RefusesAs told halt.Memory = Unit {0}
 
--- How a run's answer is told: its text was put before, or a refusal's line is, unless no memory is found for it.
+-- How a run's answer is reported: its text was put before, or a refusal's line is, unless no memory is found for it.
 abbrev pub ToldAs : Result Ended RunFault → Option (List ℕ) → Option (List ℕ) → ℕ → ℕ → Status → Type 0
 ToldAs (Ok ended) old new before now result = (result ≡ status_of ended.end) × (new ≡ old) × (now ≡ before)
 ToldAs (Err fault.Write) old new before now result = (result ≡ status.WriteFault) × (new ≡ old) × (now ≡ before)

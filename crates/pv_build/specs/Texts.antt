@@ -20,7 +20,7 @@ DifferBehind (a ∷ rest) [] n = n ≡ 0
 DifferBehind (a ∷ rest) (b ∷ bs) zero = a ≢ b
 DifferBehind (a ∷ rest) (b ∷ bs) (suc n) = (a ≡ b) × DifferBehind rest bs n
 
--- what is told of two texts: they are the same, or the first of their lines, from 1, that differs or is missing in one
+-- what is printed of two texts: they are the same, or the first of their lines, from 1, that differs or is missing in one
 pub data Compares (first second told : List ℕ) : Type 0 where
   Same : first ≡ second → told ≡ same_line → Compares first second told
   Differ : (n : ℕ) → DifferBehind (lines first) (lines second) n → told ≡ differ_line (n + 1) → Compares first second told

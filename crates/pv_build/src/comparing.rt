@@ -1,4 +1,4 @@
-//! What `work` tells of its two runs.
+//! What `work` reports of its two runs.
 
 ghost use Rattle.std.specs.Prelude.{IfOk, ◌++◌};
 ghost use Rattle.pv_build.specs.Texts.{Compares};

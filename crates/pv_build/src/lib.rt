@@ -1,4 +1,5 @@
-//! What a command does without a machine: files are read, objects and images are built of what they hold, and lines are told.
+//! What a command does without a machine: files are read, objects and images are built of what they
+//! hold, and lines are printed.
 #![tactic(auto)]
 
 mod build;

@@ -123,7 +123,7 @@ pub fn link_line(alloc: Global, object: u32, cause: &LinkCause) -> Result<Line, 
     }
 }
 
-/// What `work` tells of a kernel.
+/// What `work` prints of a kernel.
 #[derive(Clone, Copy)]
 pub struct Told {
     pub number: u32,

@@ -1,4 +1,4 @@
-//! Files are read, and what the work of a command came to is told.
+//! Files are read, and the outcome of a command's work is printed.
 
 ghost use Rattle.std.specs.Prelude.{◌≡◌, Ok, IfOk, IfErr};
 ghost use Rattle.pv_io.specs.Files.{Holds, IsHeld};

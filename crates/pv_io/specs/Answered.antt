@@ -5,7 +5,7 @@ use Rattle.pv_io.specs.declared.answer.IoAnswer.TheVariants.{Failed, Memory}
 use Rattle.pv_io.specs.Causes.{Rose}
 use Rattle.pv_io.specs.Files.{FileMap, Holds}
 
--- what a load has read: the bytes that the name holds, behind what was there
+-- what a load has read: the bytes that the name holds, after what was there
 abbrev pub Loads : Option FileMap → List ℕ → List ℕ → List ℕ → Type 0
 Loads files name old new = (bytes : List ℕ) × (new ≡ old ++ bytes) × Holds files name bytes
 

@@ -53,7 +53,7 @@ pub trait Files {
             (store_faults self.new ≡ store_faults self.old) × (IsErrOf result IoAnswer.Failed → ⊥) };
 }
 
-/// A file's bytes, behind what was there.
+/// A file's bytes, after what was there.
 pub(crate) fn append(into: &mut Vec<u8>, bytes: &[u8]) -> Result<(), IoAnswer>
     ensures ok { OnOk result (into.new.items ≡ into.old.items ++ bytes.now) }
     ensures err { OnErr result (into.new.items ≡ into.old.items) }

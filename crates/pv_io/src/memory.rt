@@ -153,7 +153,7 @@ fn insert(
     }
 }
 
-/// Files that are kept in memory, of which nothing fails but a load of a name that isn't held.
+/// Files that are kept in memory, where nothing fails but a load of a name that isn't held.
 #[derive(Drop)]
 pub struct SureFiles {
     alloc: Global,

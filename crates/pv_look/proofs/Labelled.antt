@@ -31,7 +31,7 @@ one_named image s old new done h marked same = record {
   len = same ∙ h.len;
 }
 
--- behind the last one they are all
+-- after the last one they are all
 pub all_named : (image : Image) (flags : List Bool) (at : ℕ) (done rest : List Swept) → Reached image.text at done rest → length image.text ≤ at → AreNamed image flags done
     → (i : ℕ) → i < length image.text → slice_index_or flags i false ≡ is_named image i
 unfolding is_named

@@ -71,7 +71,7 @@ stands text h at done rest r g =
     subst (λ (xs : List Swept). Contains xs (swept h)) (ap (λ (xs : List Swept). done ++ xs) (sym g.whole) ∙ r.whole)
     (Contains-append_right done (swept h ∷ g.more) (swept h) (0, omega arith, refl))
 
--- it comes to the front of the text before the first one, and to its end behind the last
+-- it comes to the front of the text before the first one, and to its end after the last
 pub begun : (image : Image) → Sweep image.text (swept_of image.text) → Reached image.text 0 [] (swept_of image.text)
 begun image sweeps = record { whole = refl; on = sweeps }
 

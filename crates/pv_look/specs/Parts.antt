@@ -26,7 +26,7 @@ part_at at NotAStart = part.Alone
 abbrev pub part_of : Image → Swept → Part
 part_of image s = if s.at + s.len == length image.text then part.End else part_at s.at (place_of image s.at)
 
--- HLT directly behind the site of an STI alone. A source that wrote it with no label between would make one site of both.
+-- HLT directly after the site of an STI alone. A source that wrote it with no label between would make one site of both.
 abbrev pub is_hlt : Op → Bool
 is_hlt op.Hlt = true
 is_hlt _ = false

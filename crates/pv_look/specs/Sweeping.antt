@@ -6,7 +6,7 @@ use Rattle.image_check.specs.Standing.{swept_of}
 use Rattle.pv_look.specs.declared.here.Here.{Here}
 use Rattle.pv_look.specs.Here.{swept}
 
--- The sweep comes to the offset behind these instructions, and the others are those from there to the end of the text.
+-- The sweep comes to the offset after these instructions, and the others are those from there to the end of the text.
 pub record Reached (text : List ℕ) (at : ℕ) (done rest : List Swept) : Type 0 where
   pub whole : done ++ rest ≡ swept_of text
   pub on : SweepsTo at (drop at text) rest (length text) []
@@ -14,7 +14,7 @@ pub record Reached (text : List ℕ) (at : ℕ) (done rest : List Swept) : Type 
 abbrev pub IsReached : List ℕ → ℕ → Type 0
 IsReached text at = (done : List Swept) × (rest : List Swept) × Reached text at done rest
 
--- Of the others this one is the first, and behind it the sweep goes on.
+-- Of the others this one is the first, and after it the sweep goes on.
 pub record GoesOn (text : List ℕ) (h : Here) (done rest : List Swept) : Type 0 where
   pub more : List Swept
   pub whole : rest ≡ swept h ∷ more

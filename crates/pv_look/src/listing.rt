@@ -77,7 +77,7 @@ fn put_listing<S: Sink>(image: &Checked, labels: &[bool], out: &mut S) -> Status
     }
 }
 
-/// Prints the text of an image as a source, or tells why the image is not accepted.
+/// Prints the text of an image as a source, or why the image is not accepted.
 pub fn list<F: Files, S: Sink>(alloc: Global, name: &str, files: &mut F, out: &mut S) -> Status
     ensures meaning { (completed : HostCounts) (memory : List ℕ)
         → Means (list_task name.now) (beside F.Files S.Sink (files.old, files.new) (out.old, out.new) completed memory) result }

@@ -79,7 +79,7 @@ fn is_sti_at(place: AtOffset) -> bool
     }
 }
 
-/// Whether it is HLT directly behind the site of an STI alone.
+/// Whether it is HLT directly after the site of an STI alone.
 pub fn is_kept_apart(image: &Checked, here: &Here) -> bool
     ensures { result ≡ spec.is_kept_apart image.now (swept here.now) }
 {

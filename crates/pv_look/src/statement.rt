@@ -57,7 +57,7 @@ fn pad(to: usize, line: &mut Line)
     }
 }
 
-/// Puts the statement, and blanks behind it up to the column of the comments.
+/// Puts the statement, and blanks after it up to the column of the comments.
 pub fn put_column(part: Part, fields: Option<Wide>, here: &Here, line: &mut Line)
     requires near { here.now.at < 0x1000_0000 }
     requires room { length line.old.items ≤ 90 }

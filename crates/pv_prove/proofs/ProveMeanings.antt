@@ -74,11 +74,11 @@ line_told task o w line mid puts st end gives stored does first kept same (Cut i
     subst (λ (s : Status). Means task o s) (sym is)
     (inl (w, gives, NoPut mid stored first (subst (λ (t : List ℕ). AppendsFront mid o.after.taken t) same front) (subst (λ (k : ℕ). Rose k o.after.puts) kept rose)))
 
--- the outside of what is told behind a run whose text was put
+-- the outside of what is reported after a run whose text was put
 abbrev pub behind : Outside → Option (List ℕ) → ℕ → Outside
 behind o mid puts = record o { before = record (o.before) { taken = mid; puts = puts; completed = o.after.completed; memory = o.after.memory } }
 
--- what was told of the certificate of a run whose text was put
+-- what was reported of the certificate of a run whose text was put
 certified : (image script : List ℕ) (frames n : ℕ) (name : List ℕ) (r : HostedRun) (notes : List Note) (o : Outside) (mid : Option (List ℕ)) (puts : ℕ) (st : Status)
     → (prove_task image script frames n name).gives o.before.files (proved_as name r notes) → HostDoes (proved_as name r notes) o → Appends o.before.taken mid (run_text r) → puts ≡ o.before.puts
     → Certifies name notes (status_of r.end) (behind o mid puts) st → Means (prove_task image script frames n name) o st
@@ -109,12 +109,12 @@ certified image script frames n name r notes o mid puts st gives does first kept
 
 -- ---- the run
 
--- what a run with an image and events comes to
+-- the outcome of a run with an image and events
 gives_proof : (files : Option FileMap) (image script : List ℕ) (frames n : ℕ) (name : List ℕ) (program : Image) (events : Events) (w : Outcome) → HasImage files image program → HasScript files script events
     → RunsOn (ProvesRun frames n name program events) program frames w → (prove_task image script frames n name).gives files w
 gives_proof files image script frames n name program events w has says h = with_both (WithFrames (ProvesRun frames n name) frames) files image script program events w has says h
 
--- a run that was printed, and what was told of its notes
+-- a run that was printed, and what was reported of its notes
 pub proved : (image script : List ℕ) (frames n : ℕ) (name : List ℕ) (program : Image) (events : Events) (o : Outside) (mid : Option (List ℕ)) (puts : ℕ) (e : Ended) (kept : KeptChoices) (meant st : Status)
     → HasImage o.before.files image program → HasScript o.before.files script events → NotedAnswers program events frames n kept (around_of o.before.taken mid o.before.puts puts o.before.completed o.after.completed) o.after.memory (Ok e) → meant ≡ status_of e.end
     → ((told : List Note) → AreKept kept told → Certifies name told meant (behind o mid puts) st)

@@ -1,4 +1,4 @@
--- What `prove` and `replay` come to.
+-- The outcomes of `prove` and `replay`.
 use Rattle.std.proofs.Common.{◌≡◌, ℕ, Bool, true, false, List, Option, Some, None, Result, Ok, Err, refl, sym, subst, ◌∙◌, arith}
 use Rattle.std.specs.Prelude.{if◌then◌else◌}
 use Rattle.pv_io.specs.Files.{FileMap}
@@ -34,7 +34,7 @@ proves_saved frames n name image events w h =
 
 -- ---- `replay`
 
--- what holds of each refusal and of each verdict holds of what a replay comes to
+-- what holds of each refusal and of each verdict holds of the outcome of a replay
 judges_all : (P : Outcome → Type 0) (frames n : ℕ) (image : Image) (events : Events) (list : List Choice) (text : List ℕ) (w : Outcome)
     → ((line : List ℕ) → P (refused line)) → ((line : List ℕ) → P (printed line)) → Judges frames n image events list text w → P w
 judges_all P frames n image events list text w of_line of_verdict (Ran fits is) = subst P (sym is) (of_verdict (verdict_line (judged image events frames n list text)))
@@ -60,7 +60,7 @@ pub replays_refusal : (frames n : ℕ) (files : Option FileMap) (certificate tex
 replays_refusal frames n files certificate text image events w h =
     replays_all IsRefusal frames n files certificate text image events w (λ line is. refl) (λ line. ended_refusal (printed line) tt) h
 
--- they come to one thing only
+-- they have one outcome only
 judges_once : (frames n : ℕ) (image : Image) (events : Events) (list : List Choice) (text : List ℕ) (w v : Outcome)
     → Judges frames n image events list text w → Judges frames n image events list text v → v ≡ w
 judges_once frames n image events list text w v (Ran fits one) (Ran fits2 two) = two ∙ sym one

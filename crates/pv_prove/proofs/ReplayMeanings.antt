@@ -61,7 +61,7 @@ pub judges_puts : (frames n : ℕ) (image : Image) (events : Events) (list : Lis
 judges_puts frames n image events list text old new before now st (inl (w, h, said)) = puts_said w.text w.status old new before now st said
 judges_puts frames n image events list text old new before now st (inr (is, put, count)) = λ write. count
 
--- what was told of what the files hold
+-- what was reported of what the files hold
 pub replay_means : (image script certificate text : List ℕ) (frames n : ℕ) (o : Outside) (st : Status) (program : Image) (events : Events) (list : List Choice) (bytes : List ℕ)
     → HasImage o.before.files image program → HasScript o.before.files script events → HasChoices o.before.files certificate list → Holds o.before.files text bytes → o.after.files ≡ o.before.files → o.after.completed ≡ o.before.completed
     → JudgesAs frames n program events list bytes (taking_of o.before.taken o.after.taken o.before.puts o.after.puts) st → Means (replay_task image script frames n certificate text) o st

@@ -1,4 +1,4 @@
--- How the notes of a run are stored and told.
+-- How the notes of a run are stored and reported.
 use Rattle.std.specs.Prelude.{◌≡◌, ℕ, true, false, List, length}
 use Rattle.run_trace.specs.Notes.{Note}
 use Rattle.trace_check.specs.Form.{choices_bytes}
@@ -10,7 +10,7 @@ use Rattle.pv_tasks.specs.Outside.{Outside}
 use Rattle.pv_tasks.specs.Delivery.{Delivers}
 use Rattle.pv_prove.specs.Proving.{are_few}
 
--- There are too many notes, and that was told; or their file was delivered.
+-- There are too many notes, and that was reported; or their file was delivered.
 pub data Certifies (name : List ℕ) (notes : List Note) (meant : Status) (o : Outside) (result : Status) : Type 0 where
   TooMany : are_few notes ≡ false → o.after.files ≡ o.before.files
       → Says no_certificate_line meant o.before.taken o.after.taken o.before.puts o.after.puts result

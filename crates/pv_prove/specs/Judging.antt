@@ -1,4 +1,4 @@
--- What is answered of a text that is judged, and how it is told.
+-- What is answered of a text that is judged, and how it is reported.
 use Rattle.std.specs.Prelude.{◌≡◌, ◌⊎◌, ℕ, List}
 use Rattle.pv_io.specs.Taking.{Taking}
 use Rattle.board.specs.Scripts.{Events}
@@ -10,7 +10,7 @@ use Rattle.pv_build.specs.declared.status.Status.TheVariants as status
 use Rattle.pv_tasks.specs.Outcome.{Outcome}
 use Rattle.pv_prove.specs.Replaying.{Judges}
 
--- The line of what a text comes to was put, or no memory was found.
+-- The line of the outcome of a text was put, or no memory was found.
 abbrev pub JudgesAs : ℕ → ℕ → Image → Events → List Choice → List ℕ → Taking → Status → Type 0
 JudgesAs frames n image events list text out result =
     ((w : Outcome) × Judges frames n image events list text w × Says w.text w.status out.old out.new out.faults out.faults_after result)

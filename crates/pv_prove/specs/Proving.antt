@@ -39,8 +39,8 @@ certificate_told notes = if are_few notes then certificate_line (length notes) e
 abbrev pub proved_as : List ℕ → HostedRun → List Note → Outcome
 proved_as name r notes = record { status = status_of r.end; first = run_text r; stored = certificate_file name notes; text = certificate_told notes; hosted = EndedRun r }
 
--- A run from boot goes by the translations that these notes tell; so does its step that stops. Its text is judged yes by their
--- choices, or yes before a stop of the monitor's own.
+-- A run from boot uses the translations that these notes report; so does its step that stops. Its text is judged yes by
+-- their choices, or yes before a stop of the monitor's own.
 pub record ProvesRun (frames n : ℕ) (name : List ℕ) (image : Image) (events : Events) (w : Outcome) : Type 0 where
   pub sets : List Set
   pub reports : List Report

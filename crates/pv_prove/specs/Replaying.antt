@@ -1,4 +1,4 @@
--- The work of `replay`: a text is judged by the run of the bare machine that goes by a certificate.
+-- The work of `replay`: a text is judged by the run of the bare machine that follows a certificate.
 use Rattle.std.specs.Prelude.{◌≡◌, ℕ, List, Option, Result, Ok, Err}
 use Rattle.pv_io.specs.Files.{FileMap, Holds}
 use Rattle.board.specs.Scripts.{Events}
@@ -12,16 +12,16 @@ use Rattle.pv_tasks.specs.Tasks.{Task, plain}
 use Rattle.pv_tasks.specs.Running.{RunsOn, Reads}
 use Rattle.pv_prove.specs.Certificates.{FindsReplay}
 
--- the verdict is told, where the image has room
+-- the verdict is printed, where the image has room
 abbrev pub Judges : ℕ → ℕ → Image → Events → List Choice → List ℕ → Outcome → Type 0
 Judges frames n image events list text w = RunsOn (λ v. v ≡ printed (verdict_line (judged image events frames n list text))) image frames w
 
--- over what the certificate's file says: the text is read behind it
+-- over what the certificate's file says: the text is read after it
 abbrev pub ByChoices : ℕ → ℕ → Option FileMap → List ℕ → Image → Events → Result (List Choice) ℕ → Outcome → Type 0
 ByChoices frames n files text image events (Ok list) w = (file : List ℕ) × Holds files text file × Judges frames n image events list file w
 ByChoices frames n files text image events (Err at) w = w ≡ refused (certificate_refusal at)
 
--- what an image and events come to
+-- the outcome of an image and events
 abbrev pub Replays : ℕ → ℕ → Option FileMap → List ℕ → List ℕ → Image → Events → Outcome → Type 0
 Replays frames n files certificate text image events w =
     (file : List ℕ) × Holds files certificate file × ByChoices frames n files text image events (choices_in file) w

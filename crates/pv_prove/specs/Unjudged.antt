@@ -8,7 +8,7 @@ use Rattle.pv_prove.specs.CertificateLines.{certificate_refusal}
 use Rattle.pv_build.specs.Images.{HasImage}
 use Rattle.pv_build.specs.Scripts.{HasScript, NoRun}
 
--- the name holds a file that is no list of choices, told by its first bad field
+-- the name holds a file that is no list of choices, reported by its first bad field
 abbrev pub HasNoChoices : Option FileMap → List ℕ → ℕ → Type 0
 HasNoChoices files name at = (file : List ℕ) × Holds files name file × (choices_in file ≡ Err at)
 

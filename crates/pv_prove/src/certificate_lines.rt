@@ -1,4 +1,4 @@
-//! The lines that tell of certificates.
+//! The lines printed about certificates.
 
 ghost use Rattle.std.specs.Prelude.{◌≡◌, IfOk};
 ghost use Rattle.pv_prove.specs.CertificateLines.{certificate_line, stop_number, verdict_line};

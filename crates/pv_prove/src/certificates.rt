@@ -28,7 +28,7 @@ pub struct Replayable {
     pub text: Vec<u8>,
 }
 
-/// What files hold for a replay. They are read in this order, and none behind one that is refused.
+/// What files hold for a replay. They are read in this order, and none after one that is refused.
 #[tactic(auto, using(pv_build::proofs::Failures::none_here, pv_build::proofs::Failures::none_since, pv_build::proofs::Failures::none_in))]
 pub fn replayable_in_files<F: Files>(
     alloc: Global,

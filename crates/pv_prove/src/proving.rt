@@ -32,7 +32,7 @@ use run_trace::End;
 use std::alloc::Global;
 use trace_check::{KeptNotes, run_noted};
 
-/// Runs a patched image on a host, prints its trace, and stores what is told of its translations.
+/// Runs a patched image on a host, prints its trace, and stores what is reported of its translations.
 pub fn prove<F: Files, S: Sink, H: Host>(
     alloc: Global,
     words: RunWords<'_>,
@@ -116,7 +116,7 @@ fn status_of(end: End) -> Status
     }
 }
 
-// Stores the certificate of notes, and tells of it. The status is the one that is meant unless that fails.
+// Stores the certificate of notes, and reports it. The status is the one that is meant unless that fails.
 fn certify<F: Files, S: Sink>(
     alloc: Global,
     notes: &KeptNotes,

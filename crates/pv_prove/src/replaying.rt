@@ -20,7 +20,7 @@ use pv_words::RunWords;
 use std::alloc::Global;
 use trace_check::{ReplayFault, replay as replay_text};
 
-/// Tells whether a text is that of the run of the bare machine that goes by a certificate.
+/// Prints whether a text is that of the run of the bare machine that follows a certificate.
 pub fn replay<F: Files, S: Sink>(
     alloc: Global,
     words: RunWords<'_>,
@@ -42,7 +42,7 @@ pub fn replay<F: Files, S: Sink>(
     }
 }
 
-// Judges what was found, and tells the verdict.
+// Judges what was found, and prints the verdict.
 fn judge<S: Sink>(alloc: Global, found: &Replayable, frames: u32, n: u64, out: &mut S) -> Status
     requires script { is_script found.now.runnable.script.list ≡ true }
     requires limits { (2048 ≤ frames) × (frames ≤ 16384) × (n ≤ 2 ^ 40) }

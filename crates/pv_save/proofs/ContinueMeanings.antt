@@ -1,4 +1,4 @@
--- The meaning of `continue`, and what `save` and `continue` come to where there is nothing to go on from.
+-- The meaning of `continue`, and the outcomes of `save` and `continue` where there is nothing to go on from.
 use Rattle.std.proofs.Common.{◌≡◌, inl, inr, Bool, ℕ, List, Option, Result, Ok, Err, refl, sym, ap, subst, ◌∙◌}
 use Rattle.pv_io.specs.Files.{FileMap}
 use Rattle.pv_io.specs.Sink.{Appends, AppendsFront}
@@ -89,7 +89,7 @@ continued_wedge image events n s old mid new before middle now (Err fault.Write)
 continued_wedge image events n s old mid new before middle now (Err (fault.TooSmall small)) c c2 memory st h said = absurd h
 continued_wedge image events n s old mid new before middle now (Err fault.Memory) c c2 memory st h said = inr (said.0, said.1 ∙ h.0, h.2, said.2 ∙ h.1)
 
--- what was answered on a machine was told
+-- what was answered on a machine was reported
 pub continued : (on : RunMode) (image : Image) (events : Events) (n : ℕ) (s : State) (old mid new : Option (List ℕ)) (before middle now : ℕ) (r : Result Ended RunFault) (c c2 : Counts) (memory : List ℕ) (st : Status)
     → AnswersOnwards on n image events s (around_of old mid before middle c c2) memory r → ToldAs r mid new middle now st
     → RanAs (ContinuesOn on n image events s) (around_of old new before now c c2) memory st

@@ -1,4 +1,4 @@
--- What `save` comes to over its files, what it counts, and what it leaves.
+-- The outcome of `save` over its files, what it counts, and what it leaves.
 use Rattle.std.proofs.Common.{◌≡◌, ℕ, ◌<◌, ◌≤◌, List, [], Option, Result, Ok, Err, refl, sym, ap, subst, ◌∙◌, inl, inr}
 use Rattle.pv_io.specs.Files.{FileMap}
 use Rattle.pv_io.specs.declared.files.Files as disk

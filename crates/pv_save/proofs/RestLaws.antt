@@ -1,4 +1,4 @@
--- What `save` and `continue` come to.
+-- The outcomes of `save` and `continue`.
 use Rattle.std.proofs.Common.{◌≡◌, false, ℕ, List, Option, Some, Result, Ok, Err, refl, sym, subst, ◌∙◌}
 use Rattle.pv_io.specs.Files.{FileMap}
 use Rattle.board.specs.Scripts.{Events}
@@ -58,7 +58,7 @@ state_all : (P : Outcome → Type 0) (goes : State → Outcome → Type 0) (on :
 state_all P goes on n image (Ok s) w of_line of_work h = fits_all P goes s (fits_of s image (is_wedge on) n) w of_line of_work h
 state_all P goes on n image (Err at) w of_line of_work h = subst P (sym h) (of_line (place_line (checkpoint_number checkpoint.Form) at))
 
--- what holds of each refusal and of all that the work goes on to holds of what it comes to
+-- what holds of each refusal and of all that the work goes on to holds of its outcome
 pub from_all : (P : Outcome → Type 0) (goes : Image → Events → State → Outcome → Type 0) (on : RunMode) (n : ℕ) (files : Option FileMap) (name : List ℕ) (image : Image) (events : Events) (w : Outcome)
     → ((line : List ℕ) → P (refused line)) → ((image : Image) (events : Events) (s : State) (w : Outcome) → goes image events s w → P w) → FromFile goes on n files name image events w → P w
 from_all P goes on n files name image events w of_line of_work h = state_all P (goes image events) on n image (checkpoint_in h.0) w of_line (of_work image events) h.2

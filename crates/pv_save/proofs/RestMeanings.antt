@@ -86,7 +86,7 @@ delivered_behind task o w name bytes line mid middle files sure loads stores c s
 
 -- ---- a run that is to be saved
 
--- what such a task comes to, and what it prints where the output fails
+-- the outcome of such a task, and what it prints where the output fails
 pub record Saves (task : Task) (o : Outside) (on : RunMode) (m : Setting) (n : ℕ) (old : model.State) (name : List ℕ) : Type 0 where
   pub gives : (w : Outcome) → SavesRun on m n old name w → task.gives o.before.files w
   pub begins : (text : List ℕ) → RestsText m n old text → task.begins o.before.files text
@@ -179,12 +179,12 @@ starts_kept m n counts old new before now (Err (fault.TooSmall small)) h = inl h
 starts_kept m n counts old new before now (Err fault.Memory) (inl none) = inl none.1
 starts_kept m n counts old new before now (Err fault.Memory) (inr (fits, lines)) = inl lines.1.kept
 
--- and that is told as a write fault
+-- and that is reported as a write fault
 pub left_kept : (before now : ℕ) (r : Result Rested RunFault) (name : List ℕ) (o : Outside) (st : Status) → (now ≡ before) ⊎ (r ≡ Err fault.Write) → LeavesAs r name o st → (now ≡ before) ⊎ (st ≡ status.WriteFault)
 left_kept before now r name o st (inl same) left = inl same
 left_kept before now r name o st (inr is) left = let cut = subst (λ (x : Result Rested RunFault). LeavesAs x name o st) is left in inr cut.0.0
 
--- what a run answers, and how that is told
+-- what a run answers, and how that is reported
 pub rested_means : (task : Task) (o : Outside) (on : RunMode) (m : Setting) (n : ℕ) (old : model.State) (name : List ℕ) (mid : Option (List ℕ)) (middle : ℕ) (files : Option FileMap) (sure : Bool) (loads stores : ℕ) (c : Counts) (r : Result Rested RunFault) (st : Status)
     → Saves task o on m n old name → files ≡ o.before.files → sure ≡ o.before.sure → stores ≡ o.before.stores → RestsAs m n old (Did on m o) o.before.taken mid o.before.puts middle r
     → LeavesAs r name (record o { before = record (o.before) { files = files; sure = sure; loads = loads; stores = stores; taken = mid; puts = middle; completed = c; memory = o.after.memory } }) st → Means task o st

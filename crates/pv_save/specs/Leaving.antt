@@ -11,8 +11,8 @@ use Rattle.pv_build.specs.declared.status.Status.TheVariants as status
 use Rattle.pv_tasks.specs.Outside.{Outside}
 use Rattle.pv_tasks.specs.Delivery.{Delivers}
 
--- The state is stored and told, and is read back from what was stored; or no memory was found for its file. A run that doesn't
--- rest is told as it ended, and changes no file.
+-- The state is stored and reported, and is read back from what was stored; or no memory was found for its file. A run that
+-- doesn't rest is reported as it ended, and changes no file.
 abbrev pub LeavesAs : Result Rested RunFault → List ℕ → Outside → Status → Type 0
 LeavesAs (Ok (rest.At state)) name o result =
     (Delivers name (checkpoint_bytes state) (saved_line state.step) status.Done o result × (checkpoint_in (checkpoint_bytes state) ≡ Ok state))

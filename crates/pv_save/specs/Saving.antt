@@ -39,7 +39,7 @@ abbrev pub steps_on : RunMode → Setting → List Report → HostPart
 steps_on mode.Bare m reports = Nothing
 steps_on mode.Wedge m reports = SomeSteps m reports
 
--- the lines are printed, then the file is stored, and then it is told after how many steps
+-- the lines are printed, then the file is stored, and then it is printed after how many steps
 abbrev pub saved_as : List ℕ → List ℕ → ℕ → List ℕ → HostPart → Outcome
 saved_as name bytes steps lines hosted = record { status = status.Done; first = lines; stored = Some (name, bytes); text = saved_line steps; hosted = hosted }
 
@@ -100,7 +100,7 @@ OnState goes on n image (Err at) w = w ≡ refused (place_line (checkpoint_numbe
 abbrev pub FromState : Type 1
 FromState = Image → Events → State → Outcome → Type 0
 
--- what an image and events come to that go on so from the checkpoint that a name holds
+-- the outcome of an image and events that go on so from the checkpoint that a name holds
 abbrev pub FromFile : FromState → RunMode → ℕ → Option FileMap → List ℕ → Image → Events → Outcome → Type 0
 FromFile goes on n files name image events w = (file : List ℕ) × Holds files name file × OnState (goes image events) on n image (checkpoint_in file) w
 

@@ -73,7 +73,7 @@ pub fn resumable_in_files<F: Files>(
     })
 }
 
-// Tells whether a state fits the image, the machine and the count of steps, and why not.
+// Says whether a state fits the image, the machine and the count of steps, and why not.
 fn test_fit(alloc: Global, state: &State, image: &Checked, wedge: bool, n: u64) -> Result<(), Halt>
     requires { IsInForm state.now }
     ensures fits { IfOk result (λ _. fits_of state.now image.now wedge n ≡ Ok tt) }

@@ -152,7 +152,7 @@ fn rest_again<S: Sink, H: Host>(
     }
 }
 
-// Stores the state of a run that rests, and prints the line for it; or tells how a run ended that doesn't.
+// Stores the state of a run that rests, and prints the line for it; or reports how a run ended that doesn't.
 #[tactic(auto, using(pv_tasks::proofs::Faults::ends_none, pv_tasks::proofs::Faults::puts_told))]
 fn leave<F: Files, S: Sink>(
     alloc: Global,

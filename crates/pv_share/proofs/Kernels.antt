@@ -34,7 +34,7 @@ pairs_none f [] lt = refl
 pairs_none f (z ∷ []) lt = refl
 pairs_none f (z ∷ w ∷ xs) lt = absurd (omega (arith, lt))
 
--- ---- what is behind
+-- ---- what is after
 
 abbrev HasForm : Kernel → Type 0
 HasForm kernel = is_script kernel.script.list ≡ true
@@ -50,7 +50,7 @@ pub none_behind : (files : Option FileMap) (names : List KernelNames) (before : 
 none_behind files names before none =
     ([], sym (append-nil before), subst (λ (l : List KernelNames). AreKernels files l []) (sym none) (record { has = tt; scripts = form_none }))
 
--- one kernel and those behind it
+-- one kernel and those after it
 pub all_behind : (r : Result (Vec Kernel Global) Halt) (files now : Option FileMap) (before items : List Kernel) (kernel : Kernel) (names : KernelNames) (more all : List KernelNames)
     → all ≡ names ∷ more → now ≡ files → items ≡ before ++ kernel ∷ [] → HasKernel files names kernel → is_script kernel.script.list ≡ true
     → IfOk r (λ ks. (x : List Kernel) × (ks.items ≡ items ++ x) × AreKernels now more x)

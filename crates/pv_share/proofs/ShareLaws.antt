@@ -1,4 +1,4 @@
--- What `share` comes to.
+-- The outcome of `share`.
 use Rattle.std.specs.Prelude.{if◌then◌else◌}
 use Rattle.std.specs.List.{list_any}
 use Rattle.std.proofs.Common.{◌≡◌, inl, inr, ℕ, Bool, true, false, List, [], ◌∷◌, Option, Some, Result, Ok, Err, length, refl, sym, ap, subst, ◌∙◌, arith}
@@ -145,7 +145,7 @@ kernels_same told (n ∷ more) (p ∷ a) (q ∷ b) h k =
     let rest = kernels_same told more a b h.1 k.1 in
     cc (first, rest)
 
--- ---- what is refused comes to nothing else
+-- ---- what is refused has no other outcome
 
 small_same : (frames : ℕ) (kernels : List Kernel) (a b : TooSmall) → FirstTooSmall frames kernels a → FirstTooSmall frames kernels b → a ≡ b
 small_same frames [] a b h k = absurd h

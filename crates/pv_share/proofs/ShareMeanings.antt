@@ -44,13 +44,13 @@ none_shared files schedule frames names line (NoneRead text holds none) = NoneSh
 none_shared files schedule frames names line (NoSchedule text kernels at cause holds has says is) =
     AllRead text kernels holds has (subst (λ (r : Result (List Slice) (ℕ × ScheduleCause)). BySchedule frames kernels r (refused line)) (sym says) (ap refused is))
 
--- what was read comes to such an outcome
+-- what was read has such an outcome
 by_shared : (files : Option FileMap) (schedule : List ℕ) (frames : ℕ) (names : List KernelNames) (kernels : List Kernel) (slices : List Slice) (w : Outcome)
     → IsShared files schedule names kernels slices → SharesOn frames kernels slices w → Shares files schedule frames names w
 by_shared files schedule frames names kernels slices w shared h =
     AllRead shared.text kernels shared.holds shared.has (subst (λ (r : Result (List Slice) (ℕ × ScheduleCause)). BySchedule frames kernels r w) (sym shared.says) h)
 
--- a front of a text behind another one is a front of both
+-- a front of a text after another one is a front of both
 front_behind : (old between new : Option (List ℕ)) (first text : List ℕ) → Appends old between first → AppendsFront between new text → AppendsFront old new (first ++ text)
 front_behind None between new first text appends h = record { front = first ++ h.front; rest = h.rest; whole = append_assoc first h.front h.rest ∙ ap (λ (t : List ℕ). first ++ t) h.whole; taken = tt }
 front_behind (Some old) between new first text appends h =
@@ -104,7 +104,7 @@ write_fails schedule frames names o kernels slices mid middle memory shared same
       NoPut o.before.taken same (none_first w o.before.taken refl) (front_on o.before.taken mid o.after.taken w.text taken h.front) (rose_on o.before.puts middle o.after.puts count rose),
     )
 
--- what was answered was told
+-- what was answered was reported
 pub share_means : (schedule : List ℕ) (frames : ℕ) (names : List KernelNames) (o : Outside) (st : Status) (kernels : List Kernel) (slices : List Slice) (mid : Option (List ℕ)) (middle : ℕ) (memory : List ℕ) (r : Result (Vec Ended Global) SharedFault)
     → IsShared o.before.files schedule names kernels slices → o.after.files ≡ o.before.files → SharedAnswers kernels slices frames o.before.taken mid o.before.puts middle o.before.completed o.after.completed memory r
     → SharedToldAs r mid o.after.taken middle o.after.puts st → Means (share_task schedule frames names) o st
@@ -144,7 +144,7 @@ share_puts frames o st kernels slices mid middle memory (Err (fault.TooSmall sma
 share_puts frames o st kernels slices mid middle memory (Err (fault.TooSmall small)) h (inr none) = λ write. none.2 ∙ h.1.1
 share_puts frames o st kernels slices mid middle memory (Err fault.Memory) h said = λ write. said.2 ∙ h.1
 
--- a fault is told as that of one run
+-- a fault is reported as that of one run
 pub told_fault : (fault : SharedFault) (old new : Option (List ℕ)) (before now : ℕ) (st : Status) (one : RunFault) → one ≡ run_fault fault → ToldAs (Err one) old new before now st → SharedToldAs (Err fault) old new before now st
 told_fault fault.Write old new before now st one is h = subst (λ (f : RunFault). ToldAs (Err f) old new before now st) is h
 told_fault (fault.TooSmall small) old new before now st one is h = subst (λ (f : RunFault). ToldAs (Err f) old new before now st) is h
@@ -187,7 +187,7 @@ kernels_few files words kernels pairs h =
     let a = few.0 in let b = few.1 in let c = two.0 in let d = two.1 in
     (omega (arith, a, b, c, d, same), omega (arith, a, b, c, d, same))
 
--- a kernel at a place that ended at a stop, and those behind it
+-- a kernel at a place that ended at a stop, and those after it
 pub stopped_at : (ended : List Ended) (i : ℕ) (other : Ended) → i < length ended → list_any has_stopped (drop i ended) ≡ (has_stopped (get_or ended i other) || list_any has_stopped (drop (i + 1) ended))
 stopped_at ended i other within = rw (add-one, drop-cons ended i other within) refl
 

@@ -28,7 +28,7 @@ abbrev pub NoKernel : Option FileMap → List KernelNames → List ℕ → Type 
 NoKernel files [] line = ⊥
 NoKernel files (names ∷ more) line = NoRun files names.image names.script line ⊎ ((kernel : Kernel) × HasKernel files names kernel × NoKernel files more line)
 
--- with their schedule, which is loaded before them and read behind them
+-- with their schedule, which is loaded before them and read after them
 pub record IsShared (files : Option FileMap) (schedule : List ℕ) (names : List KernelNames) (kernels : List Kernel) (slices : List Slice) : Type 0 where
   pub text : List ℕ
   pub holds : Holds files schedule text

@@ -45,7 +45,7 @@ pub record SharesTurns (frames : ℕ) (kernels : List Kernel) (slices : List Sli
   pub rounds : (memory : List ℕ) × EndsRound kernels frames slices pieces memory ended
   pub comes : w ≡ told (status_of_all ended) (shared_text pieces ended) (Turns (λ before. counts_over (sites_in kernels) before pieces))
 
--- over what the schedule says: the first kernel for which there aren't frames enough is told, or they run
+-- over what the schedule says: the first kernel for which there aren't frames enough is printed, or they run
 pub data SharesOn (frames : ℕ) (kernels : List Kernel) (slices : List Slice) (w : Outcome) : Type 0 where
   Ran : AllFit frames kernels → SharesTurns frames kernels slices w → SharesOn frames kernels slices w
   Small : (small : TooSmall) → FirstTooSmall frames kernels small → w ≡ refused (too_small_line small.need small.have) → SharesOn frames kernels slices w

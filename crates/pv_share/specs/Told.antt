@@ -1,4 +1,4 @@
--- How the answer of several kernels is told.
+-- How the answer of several kernels is reported.
 use Rattle.std.specs.Prelude.{◌≡◌, ◌⊎◌, ℕ, List, Option, Result, Ok, Err, Vec}
 use Rattle.std.specs.declared.alloc.Global.{Global}
 use Rattle.image_load.specs.declared.fault.RunFault.{RunFault}
@@ -18,7 +18,8 @@ run_fault fault.Write = alone.Write
 run_fault (fault.TooSmall small) = alone.TooSmall small
 run_fault fault.Memory = alone.Memory
 
--- How the answer of several kernels is told: their text was put before, or a refusal's line is, unless no memory is found for it.
+-- How the answer of several kernels is reported: their text was put before, or a refusal's line is, unless no memory is
+-- found for it.
 abbrev pub SharedToldAs : Result (Vec Ended Global) SharedFault → Option (List ℕ) → Option (List ℕ) → ℕ → ℕ → Status → Type 0
 SharedToldAs (Ok ended) old new before now result = (result ≡ status_of_all ended.items) × (new ≡ old) × (now ≡ before)
 SharedToldAs (Err fault.Write) old new before now result = (result ≡ status.WriteFault) × (new ≡ old) × (now ≡ before)

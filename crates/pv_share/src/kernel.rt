@@ -56,7 +56,7 @@ pub fn shared_in_files<F: Files>(
     }
 }
 
-// The kernels that files hold, behind those that were read.
+// The kernels that files hold, after those that were read.
 fn kernels_behind<F: Files>(
     alloc: Global,
     kernels: Vec<Kernel>,

@@ -62,7 +62,7 @@ fn tell_shared<S: Sink>(alloc: Global, ran: Result<Vec<Ended>, SharedFault>, out
     }
 }
 
-// Why the run of several kernels has no end, told as that of one.
+// Why the run of several kernels has no end, reported as that of one.
 fn run_fault(fault: SharedFault) -> RunFault
     ensures { result ≡ run_fault fault }
 {

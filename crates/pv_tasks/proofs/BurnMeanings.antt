@@ -16,7 +16,7 @@ use Rattle.pv_tasks.specs.Outcome.{Outcome, refused, stored_as}
 use Rattle.pv_tasks.specs.Burning.{HasBurnt, written, burned, Burns}
 use Rattle.pv_tasks.proofs.SameFiles.{same_file}
 
--- what the text of a file comes to
+-- the outcome of the text of a file
 
 pub no_source : (files : Option FileMap) (name object line : List ℕ) → (at : ℕ) × (cause : SourceCause) × HasNoSource files name (at, cause) × (line ≡ source_line at cause) → Burns files name object (refused line)
 no_source files name object line h = record { text = h.2.0; holds = h.2.1; said = Err (h.0, h.1); says = h.2.2; comes = ap refused h.3 }
@@ -62,7 +62,7 @@ said_once text (Ok i) (Err g) h k = absurd (read_or_not text i g h k)
 said_once text (Err f) (Ok j) h k = absurd (read_or_not text j f k h)
 said_once text (Err f) (Err g) h k = ap (λ (x : ℕ × SourceCause). Err x) (fault_once text f g h k)
 
--- `burn` comes to one thing
+-- `burn` has one outcome
 pub burns_once : (told : FileMap) (source object : List ℕ) (w v : Outcome) → Burns (Some told) source object w → Burns (Some told) source object v → v ≡ w
 burns_once told source object w v h k =
     let same = same_file told source k.text h.text k.holds h.holds in

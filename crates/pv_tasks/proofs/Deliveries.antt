@@ -1,4 +1,4 @@
--- From what was told to the outside to what the program's status means.
+-- From what was reported to the outside to what the program's status means.
 use Rattle.std.proofs.Common.{◌≡◌, inl, inr, ℕ, ◌≤◌, Bool, List, [], ◌++◌, Option, Some, None, refl, sym, ap, subst, ◌∙◌, arith}
 use Rattle.pv_io.specs.Files.{FileMap, Stores}
 use Rattle.pv_io.specs.Sink.{Appends}
@@ -40,7 +40,7 @@ prints task o w status.ReadFault is end gives stored appends does = absurd end
 prints task o w status.WriteFault is end gives stored appends does = absurd end
 prints task o w status.Memory is end gives stored appends does = absurd end
 
--- an outcome whose text was told, before which nothing is printed
+-- an outcome whose text was printed, before which nothing is printed
 pub says : (task : Task) (o : Outside) (w : Outcome) (st : Status) → IsEnd w.status → w.first ≡ []
     → task.gives o.before.files w → IsStored w.stored o.before.files o.after.files → (st ≡ w.status → HostDoes w o)
     → Says w.text w.status o.before.taken o.after.taken o.before.puts o.after.puts st → Means task o st

@@ -21,12 +21,12 @@ pub puts_since : (before mid now : ℕ) (st : Status) → (mid ≡ before) ⊎ (
 puts_since before mid now st (inl same) h = λ write. h write ∙ same
 puts_since before mid now st (inr is) h = λ write. absurd (write is)
 
--- a text was told
+-- a text was printed
 pub puts_said : (text : List ℕ) (meant : Status) (old new : Option (List ℕ)) (before now : ℕ) (st : Status) → Says text meant old new before now st → PutsEnd before now st
 puts_said text meant old new before now st (Whole is appends same) = λ write. same
 puts_said text meant old new before now st (Cut is front rose) = λ write. absurd (write is)
 
--- a run's answer was told
+-- a run's answer was reported
 pub puts_told : (r : Result Ended RunFault) (old new : Option (List ℕ)) (before now : ℕ) (st : Status) → ToldAs r old new before now st → PutsEnd before now st
 puts_told (Ok ended) old new before now st told = λ write. told.2
 puts_told (Err fault.Write) old new before now st told = λ write. told.2

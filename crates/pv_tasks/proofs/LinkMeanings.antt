@@ -78,7 +78,7 @@ first_once told (n ∷ names) (suc i) (suc j) f g h k =
     let rest = first_once told names i j f g h.2 k.2 in
     (ap suc rest.0, rest.1)
 
--- `link` comes to one thing
+-- `link` has one outcome
 pub links_once : (told : FileMap) (image : List ℕ) (names : List (List ℕ)) (w v : Outcome) → Links (Some told) image names w → Links (Some told) image names v → v ≡ w
 links_once told image names w v (AllRead os all is) (AllRead ps every be) =
     be ∙ (ap (λ (x : List ObjectParts). linked image (linked_image x)) (objects_once told names ps os every all) ∙ sym is)

@@ -77,7 +77,7 @@ too_small ran image frames old new before now c c2 memory small st lt is none sa
       λ end. none,
     )
 
--- what the bare machine answered was told
+-- what the bare machine answered was reported
 ran_bare : (image : Image) (events : Events) (frames n : ℕ) (old mid new : Option (List ℕ)) (before middle now : ℕ) (r : Result Ended RunFault) (c : Counts) (memory : List ℕ) (st : Status)
     → RunAnswers image events frames n old mid before middle r → ToldAs r mid new middle now st
     → RanAs (RunsOn (RunsBare frames n image events) image frames) (around_of old new before now c c) memory st
@@ -110,7 +110,7 @@ no_write (Stopped stop) is = cc
 pub text_at : (reports : List Report) (text : List ℕ) (count last : ℕ) (end : End) → text ≡ text_of (trace_of reports) count end → count ≡ last → text ≡ text_of (trace_of reports) last end
 text_at reports text count last end is same = is ∙ ap (λ (n : ℕ). text_of (trace_of reports) n end) same
 
--- what was answered of a patched run was told
+-- what was answered of a patched run was reported
 ran_patched : (image : Image) (events : Events) (frames n : ℕ) (old mid new : Option (List ℕ)) (before middle now : ℕ) (r : Result Ended RunFault) (c c2 : Counts) (memory : List ℕ) (st : Status)
     → WedgeAnswers image events frames n 512 old mid before middle c c2 memory r → ToldAs r mid new middle now st
     → RanAs (RunsOn (RunsPatched frames n image events) image frames) (around_of old new before now c c2) memory st
@@ -140,12 +140,12 @@ ran_patched image events frames n old mid new before middle now (Err (fault.TooS
 ran_patched image events frames n old mid new before middle now (Err (fault.TooSmall small)) c c2 memory st h (inr none) = inr (none.0, none.1 ∙ h.2.0, h.2.2, none.2 ∙ h.2.1)
 ran_patched image events frames n old mid new before middle now (Err fault.Memory) c c2 memory st h told = inr (told.0, told.1 ∙ h.0, h.2, told.2 ∙ h.1)
 
--- what runs come to on a machine
+-- the outcomes of runs on a machine
 abbrev pub runs_of : RunMode → ℕ → ℕ → Image → Events → Outcome → Type 0
 runs_of mode.Bare frames n image events w = RunsBare frames n image events w
 runs_of mode.Wedge frames n image events w = RunsPatched frames n image events w
 
--- what was answered on a machine was told
+-- what was answered on a machine was reported
 pub ran_on : (on : RunMode) (image : Image) (events : Events) (frames n : ℕ) (old mid new : Option (List ℕ)) (before middle now : ℕ) (r : Result Ended RunFault) (c c2 : Counts) (memory : List ℕ) (st : Status)
     → AnswersOn on frames n image events (around_of old mid before middle c c2) memory r → ToldAs r mid new middle now st
     → RanAs (RunsOn (runs_of on frames n image events) image frames) (around_of old new before now c c2) memory st
@@ -167,7 +167,7 @@ pub run_puts : (on : RunMode) (image : Image) (events : Events) (frames n : ℕ)
 run_puts on image events frames n old mid new before middle now r c c2 memory st h told =
     ran_puts (RunsOn (runs_of on frames n image events) image frames) (around_of old new before now c c2) memory st (ran_on on image events frames n old mid new before middle now r c c2 memory st h told)
 
--- ---- what runs come to
+-- ---- the outcomes of runs
 
 pub has_ended : (end : End) → HasEnded (status_of end)
 has_ended Bound = tt

@@ -52,7 +52,7 @@ second_ran image events old text before now c c2 memory ended none first answers
     let moved = subst (λ (t : List ℕ). (run : Promise m 100000 512 t ended.steps ended.end c c2 memory) × HasOwnFills m 100000 512 run.sets run.last ended.end run.run.ends ended.fills) is (h.1, h.3) in
     (ended.steps, ended.end, moved.0, moved.1)
 
--- ---- what is told
+-- ---- what is printed
 
 -- work that has ended with a refusal, or without memory
 pub work_ends : (number : ℕ) (told : List ℕ → Type 0) (h : Halt) (old new : Option (List ℕ)) (before now : ℕ) (c c2 : Counts) (memory : List ℕ) (st : Status) → RefusesAs told h
@@ -69,7 +69,7 @@ refuses_kernel number line h = record { made = Err line; builds = h; comes = ref
 pub too_large : (number : ℕ) (image : Image) (c c2 : Counts) (line : List ℕ) → Builds (kernel_text number) (Ok image) → IsTooLarge image c c2 line → Works number (refused line) × (c2 ≡ c)
 too_large number image c c2 line h large = (record { made = Ok image; builds = h; comes = Small large.0 (ap refused large.1) }, large.2)
 
--- both runs were told
+-- both runs were reported
 pub work_tells : (number : ℕ) (image : Image) (first second : List ℕ) (fills : ℕ) (old new : Option (List ℕ)) (before now : ℕ) (c c2 : Counts) (memory : List ℕ) (st : Status)
     → Builds (kernel_text number) (Ok image) → HasTexts image first second fills c c2 memory → TellsBoth (told_line number image second fills) first second old new before now st
     → WorkedAs number (around_of old new before now c c2) memory st
@@ -133,7 +133,7 @@ on_once number (Ok image) w v is (Small lt one) (Ran fits run) = absurd (omega (
 on_once number (Ok image) w v is (Ran fits run) other = absurd (not_refused (sym (ap (λ (u : Outcome). u.status) run.comes) ∙ is))
 on_once number (Err line) w v is one two = two ∙ sym one
 
--- `work` that is refused comes to nothing else
+-- `work` that is refused has no other outcome
 pub works_once : (number : ℕ) (w v : Outcome) → w.status ≡ status.Refused → Works number w → Works number v → v ≡ w
 works_once number w v is h k =
     let same = builds_once (kernel_text number) h.made k.made h.builds k.builds in

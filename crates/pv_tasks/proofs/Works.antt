@@ -105,13 +105,13 @@ run_or_none : (told : FileMap) (image script line : List ℕ) (program : Image) 
 run_or_none told image script line program events (NoImage r h is) has says = image_or_none told image program r has h
 run_or_none told image script line program events (NoScript p at cause also h is) has says = script_or_none told script events (at, cause) says h
 
--- what holds of each refusal and of all that the work goes on to holds of what it comes to
+-- what holds of each refusal and of all that the work goes on to holds of its outcome
 pub reads_all : (P : Outcome → Type 0) (goes : Image → Events → Outcome → Type 0) (files : Option FileMap) (image script : List ℕ) (w : Outcome)
     → ((line : List ℕ) → P (refused line)) → ((image : Image) (events : Events) (w : Outcome) → goes image events w → P w) → Reads goes files image script w → P w
 reads_all P goes files image script w of_line of_work (Unread line none is) = subst P (sym is) (of_line line)
 reads_all P goes files image script w of_line of_work (BothRead program events has says h) = of_work program events w h
 
--- what is refused comes to nothing else
+-- what is refused has no other outcome
 abbrev pub IsOnce : (Image → Events → Outcome → Type 0) → Type 0
 IsOnce goes = (image : Image) (events : Events) (w v : Outcome) → w.status ≡ status.Refused → goes image events w → goes image events v → v ≡ w
 
@@ -165,7 +165,7 @@ WithFrames runs frames image events w = RunsOn (runs image events) image frames 
 abbrev pub AreEnds : (Image → Events → Outcome → Type 0) → Type 0
 AreEnds runs = (image : Image) (events : Events) (w : Outcome) → runs image events w → HasEnded w.status
 
--- what holds of each refusal and of each run holds of what they come to
+-- what holds of each refusal and of each run holds of their outcomes
 pub frames_all : (P : Outcome → Type 0) (runs : Image → Events → Outcome → Type 0) (frames : ℕ) (image : Image) (events : Events) (w : Outcome)
     → ((line : List ℕ) → P (refused line)) → ((image : Image) (events : Events) (w : Outcome) → runs image events w → P w) → WithFrames runs frames image events w → P w
 frames_all P runs frames image events w of_line of_run (Ran fits ran) = of_run image events w ran

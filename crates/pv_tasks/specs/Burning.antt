@@ -20,7 +20,7 @@ abbrev pub burned : List ℕ → Result (List SourceItem) (ℕ × SourceCause) �
 burned name (Ok items) = written name (burnt items)
 burned name (Err (line, cause)) = refused (source_line line cause)
 
--- what the source's file comes to
+-- the outcome of the source's file
 pub record Burns (files : Option FileMap) (source object : List ℕ) (w : Outcome) : Type 0 where
   pub text : List ℕ
   pub holds : Holds files source text

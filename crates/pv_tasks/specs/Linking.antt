@@ -17,7 +17,7 @@ abbrev pub linked : List ℕ → Result ImageParts Refused → Outcome
 linked name (Ok p) = stored_as name (image_bytes p) (image_made_line p)
 linked name (Err fault) = refused (link_line fault.object fault.cause)
 
--- what the objects' files come to
+-- the outcome of the objects' files
 pub data Links (files : Option FileMap) (image : List ℕ) (objects : List (List ℕ)) (w : Outcome) : Type 0 where
   AllRead : (os : List ObjectParts) → HasObjects files objects os → w ≡ linked image (linked_image os) → Links files image objects w
   NoObject : (i : ℕ) (fault : Fault) → FirstFault files objects i fault → w ≡ refused (object_place_line (form_number fault.cause) i fault.at) → Links files image objects w

@@ -1,4 +1,4 @@
--- What the work of a command comes to over the files that it reads.
+-- The outcome of the work of a command over the files that it reads.
 use Rattle.std.specs.Prelude.{◌≡◌, ℕ, List, [], ◌++◌, Option, Some, None}
 use Rattle.run_trace.specs.declared.items.End.{End}
 use Rattle.run_trace.specs.Text.{text_of}
@@ -12,7 +12,7 @@ use Rattle.pv_build.specs.Statuses.{status_of}
 use Rattle.pv_build.specs.declared.status.Status.{Status}
 use Rattle.pv_build.specs.declared.status.Status.TheVariants as status
 
--- A run whose direct instructions are the host's: what it runs with, the translations that its steps went by, what they report,
+-- A run whose direct instructions are the host's: what it runs with, the translations that its steps used, what they report,
 -- its last state, and its end.
 pub record HostedRun : Type 0 where
   pub setting : Setting
@@ -30,7 +30,7 @@ pub data HostPart : Type 0 where
   EndedRun : HostedRun → HostPart
   -- steps
   SomeSteps : (setting : Setting) (reports : List Report) → HostPart
-  -- the turns of several kernels: what the host's counts are behind them, by what they were before
+  -- the turns of several kernels: what the host's counts are after them, by what they were before
   Turns : (counts_behind : Counts → Counts) → HostPart
 
 -- What the host has done. Of a run it completed the direct instructions, and the run's memory is its own; the sets of a run
@@ -42,7 +42,7 @@ HostDid (EndedRun r) completed completed2 memory2 = CountsOn r.setting r.reports
 HostDid (SomeSteps setting reports) completed completed2 memory2 = CountsOn setting reports completed completed2
 HostDid (Turns counts_behind) completed completed2 memory2 = completed2 ≡ counts_behind completed
 
--- how it ends; the text that is printed first; the name and the bytes of a file that is stored behind it; the text that is
+-- how it ends; the text that is printed first; the name and the bytes of a file that is stored after it; the text that is
 -- printed then; and the host's part
 pub record Outcome : Type 0 where
   pub status : Status
@@ -76,7 +76,7 @@ run_text r = text_of (trace_of r.reports) r.last.step r.end
 abbrev pub ended_on_host : HostedRun → List Set → Outcome
 ended_on_host r stopping = told (status_of r.end) (run_text r) (KeptRun r stopping)
 
--- what is told of two runs, of which one is on the host; `work` is done however they ended
+-- what is printed of two runs, of which one is on the host; `work` is done however they ended
 abbrev pub compared : HostedRun → List Set → List ℕ → Outcome
 compared r stopping text = told status.Done text (KeptRun r stopping)
 

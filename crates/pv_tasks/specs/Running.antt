@@ -34,13 +34,13 @@ pub record RunsPatched (frames n : ℕ) (image : Image) (events : Events) (w : O
   pub run : Run (wedge image events frames) n (boot (wedge image events frames)) sets reports last end
   pub comes : w ≡ ended_on_host (record { setting = wedge image events frames; sets = sets; reports = reports; last = last; end = end }) (stopping (wedge image events frames) n last end run.ends)
 
--- what a run comes to, or a refusal where the image needs more frames than there are
+-- the outcome of a run, or a refusal where the image needs more frames than there are
 pub data RunsOn (ran : Outcome → Type 0) (image : Image) (frames : ℕ) (w : Outcome) : Type 0 where
   Ran : need image ≤ frames → ran w → RunsOn ran image frames w
   Small : frames < need image → w ≡ refused (too_small_line (need image) frames) → RunsOn ran image frames w
 
--- What the files of an image and a script come to, where work goes on so with what they hold: that there is nothing to run is
--- told, or it goes on.
+-- The outcome of the files of an image and a script, where work goes on so with what they hold: that there is nothing to run is
+-- reported, or it goes on.
 pub data Reads (goes : Image → Events → Outcome → Type 0) (files : Option FileMap) (image script : List ℕ) (w : Outcome)
     : Type 0 where
   Unread : (line : List ℕ) → NoRun files image script line → w ≡ refused line → Reads goes files image script w

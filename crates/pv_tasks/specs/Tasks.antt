@@ -10,17 +10,17 @@ use Rattle.pv_tasks.specs.Outcome.{Outcome, HostDid}
 
 -- what a command asks for
 pub record Task : Type 1 where
-  -- what its work may come to over these files
+  -- what outcomes its work may have over these files
   pub gives : Option FileMap → Outcome → Type 0
   -- each file that it reaches is held
   pub finds : Option FileMap → Type 0
   -- the name that it stores at
   pub saved : Option (List ℕ)
-  -- where it is done, of what the files hold before and behind it: a file is read back as what was made
+  -- where it is done, of what the files hold before and after it: a file is read back as what was made
   pub leaves : Option FileMap → Option FileMap → Type 0
   -- it prints a run before it stores
   pub runs_first : Bool
-  -- the text with which it begins before it stores a file, or before its work has come to an end
+  -- the text with which it begins before it stores a file, or before its work has ended
   pub begins : Option FileMap → List ℕ → Type 0
   -- what it may have done where no memory was found, if not nothing
   pub half_done : Outside → Type 0
@@ -57,13 +57,13 @@ IsStored (Some file) old new = Stores old new file.0 file.1
 abbrev pub HostDoes : Outcome → Outside → Type 0
 HostDoes w o = HostDid w.hosted o.before.completed o.after.completed o.after.memory
 
--- what the work came to was stored and printed, with its status, and the host has done its part
+-- the outcome of the work was stored and printed, with its status, and the host has done its part
 abbrev pub ComesTo : Outcome → Outside → Status → Type 0
 ComesTo w o status =
     (status ≡ w.status) × IsStored w.stored o.before.files o.after.files
     × Appends o.before.taken o.after.taken (w.first ++ w.text) × HostDoes w o
 
--- the work came to such an outcome
+-- the work had such an outcome
 abbrev pub ComesToOne : (Outcome → Type 0) → Outside → Status → Type 0
 ComesToOne comes o status = (w : Outcome) × comes w × ComesTo w o status
 
@@ -72,7 +72,7 @@ abbrev pub TakesFirst : Bool → Option (List ℕ) → Option (List ℕ) → Lis
 TakesFirst true old new first = Appends old new first
 TakesFirst false old new first = new ≡ old
 
--- The store failed, and nothing was printed behind what is printed first. Or the output failed behind that, and has taken a
+-- The store failed, and nothing was printed after what is printed first. Or the output failed after that, and has taken a
 -- front of the text.
 pub data Fails (task : Task) (w : Outcome) (o : Outside) : Type 0 where
   NoStore : (name bytes : List ℕ) → w.stored ≡ Some (name, bytes) → ChangesAt o.before.files o.after.files name

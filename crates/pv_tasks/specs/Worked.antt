@@ -1,4 +1,4 @@
--- What the parts of `work` answer, and how it is told.
+-- What the parts of `work` answer, and how it is reported.
 use Rattle.std.specs.Prelude.{◌≡◌, ◌⊎◌, ℕ, ◌≤◌, ◌<◌, List}
 use Rattle.image_check.specs.Image.{Image}
 use Rattle.image_load.specs.Boot.{need}

@@ -27,7 +27,7 @@ first_text image = course_text (fresh_run image [] 4096 100000)
 abbrev pub second_setting : Image → Setting
 second_setting image = wedge image [] 4096
 
--- a run under the monitor's rules, whose direct instructions are the host's, and the two lines, of which the first tells the
+-- a run under the monitor's rules, whose direct instructions are the host's, and the two lines, of which the first gives the
 -- pages that were filled in this run
 pub record RunsTwice (number : ℕ) (image : Image) (w : Outcome) : Type 0 where
   pub sets : List Set
@@ -48,7 +48,7 @@ abbrev pub WorksOn : ℕ → Result Image (List ℕ) → Outcome → Type 0
 WorksOn number (Ok image) w = RunsOn (RunsTwice number image) image 4096 w
 WorksOn number (Err line) w = w ≡ refused line
 
--- what `work` of a number comes to
+-- the outcome of `work` of a number
 pub record Works (number : ℕ) (w : Outcome) : Type 0 where
   pub made : Result Image (List ℕ)
   pub builds : Builds (kernel_text number) made

@@ -21,7 +21,7 @@ use pv_build::{Halt, Made, Status, end, object_file, refusal_at_line, refused, s
 use pv_io::{Files, Sink};
 use std::alloc::Global;
 
-/// Makes an object of a source, stores it and tells what it has.
+/// Makes an object of a source, stores it and prints what it has.
 pub fn burn<F: Files, S: Sink>(
     alloc: Global,
     source: &str,

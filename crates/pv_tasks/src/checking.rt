@@ -11,7 +11,7 @@ use pv_build::{Status, accepted, accepted_line, end, print};
 use pv_io::{Files, Sink};
 use std::alloc::Global;
 
-/// Tells what an image has, or why it is not accepted.
+/// Prints what an image has, or why it is not accepted.
 pub fn check<F: Files, S: Sink>(alloc: Global, name: &str, files: &mut F, out: &mut S) -> Status
     ensures meaning { (completed : HostCounts) (memory : List ℕ)
         → Means (check_task name.now) (beside F.Files S.Sink (files.old, files.new) (out.old, out.new) completed memory) result }

@@ -21,7 +21,7 @@ use pv_build::{Halt, Made, Status, end, image_file, link_line, objects_in, refus
 use pv_io::{Files, Sink};
 use std::alloc::Global;
 
-/// Makes an image of objects, stores it and tells what it has.
+/// Makes an image of objects, stores it and prints what it has.
 pub fn link<F: Files, S: Sink>(
     alloc: Global,
     image: &str,

@@ -29,7 +29,7 @@ const FRAMES: u32 = 4096;
 /// How many steps each run does at most.
 const STEPS: u64 = 100_000;
 
-/// Builds the kernel of a number, runs it on the bare machine and patched on a host, and tells whether both print the same.
+/// Builds the kernel of a number, runs it on the bare machine and patched on a host, and says whether both print the same.
 pub fn work<S: Sink, H: Host>(alloc: Global, number: u32, out: &mut S, host: &mut H) -> Status
     requires room { H.retired host.old ≤ 2 ^ 63 }
     ensures { WorkedAs number (around H.Host S.Sink host.old host.new out.old out.new) (H.bytes host.new) result }

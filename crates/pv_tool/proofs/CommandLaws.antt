@@ -167,7 +167,7 @@ no_store None stored o n bytes saved is none rose unsure = subst (λ (s : Option
 no_store (Some name) stored o n bytes saved is (inl none) rose unsure = none rose
 no_store (Some name) stored o n bytes saved is (inr sure) rose unsure = unsure sure
 
--- where no fault came and memory was found, the work's outcome was told
+-- where no fault came and memory was found, the work's outcome was reported
 pub came_to : (command : Command) (o : Outside) (st : Status) → NoFault (task_of command) o → st ≢ status.Memory → Means (task_of command) o st → ComesToOne ((task_of command).gives o.before.files) o st
 came_to command o status.Done none found h = h
 came_to command o status.Stopped none found h = h
@@ -180,7 +180,7 @@ came_to command o status.WriteFault none found (inr h) = absurd (none.puts h.ros
 came_to command o status.Memory none found h = absurd (found refl)
 came_to command o status.Words none found h = absurd h
 
--- work that can come to one thing only comes to that
+-- work that can have one outcome only has that one
 pub comes_to : (command : Command) (o : Outside) (told : FileMap) (w : Outcome) (st : Status) → o.before.files ≡ Some told
     → ((v : Outcome) → (task_of command).gives (Some told) v → v ≡ w) → NoFault (task_of command) o → st ≢ status.Memory → Means (task_of command) o st → ComesTo w o st
 comes_to command o told w st files only none found h =
@@ -189,12 +189,12 @@ comes_to command o told w st files only none found h =
 
 -- ---- refusals
 
--- a run that is refused comes to nothing else, on either machine
+-- a run that is refused has no other outcome, on either machine
 run_once : (runs : Image → Events → Outcome → Type 0) (frames : ℕ) (told : FileMap) (image script : List ℕ) (w v : Outcome) → AreEnds runs → w.status ≡ status.Refused
     → Runs runs frames (Some told) image script w → Runs runs frames (Some told) image script v → v ≡ w
 run_once runs frames told image script w v are is h k = reads_once (WithFrames runs frames) told image script w v (frames_once runs frames are) is h k
 
--- work that is refused comes to nothing else
+-- work that is refused has no other outcome
 pub refused_once : (command : Command) (told : FileMap) (w : Outcome) → w.status ≡ status.Refused → (task_of command).gives (Some told) w → (v : Outcome) → (task_of command).gives (Some told) v → v ≡ w
 refused_once (Burn source object) told w is h v k = burns_once told source object w v h k
 refused_once (Link image objects) told w is h v k = links_once told image objects w v h k
@@ -331,7 +331,7 @@ held_objects told [] (o ∷ os) h = absurd h
 held_objects told (name ∷ names) [] h = absurd h
 held_objects told (name ∷ names) (o ∷ os) h = ((object_bytes o, h.0.0, h.0.2 h.0.1), held_objects told names os h.1)
 
--- where the work comes to something, each file that it reaches is held
+-- where the work has an outcome, each file that it reaches is held
 pub gives_found : (command : Command) (told : FileMap) (w : Outcome) → (task_of command).gives (Some told) w → (task_of command).finds (Some told)
 gives_found (Burn source object) told w h = (h.text, h.holds)
 gives_found (Link image objects) told w h = links_found told image objects w h

@@ -30,7 +30,7 @@ no_difference (x ∷ xs) (suc n) h = no_difference xs n h.1
 differ_is_not_same : (n : ℕ) → differ_line n ≡ same_line → ⊥
 differ_is_not_same n is = cc
 
--- texts are told to be the same exactly where they are
+-- texts are reported to be the same exactly where they are
 pub same_exactly : (first second told : List ℕ) → Compares first second told → (told ≡ same_line) ↔ (first ≡ second)
 same_exactly first second told (Same same is) = (λ line. same, λ again. is)
 same_exactly first second told (Differ n differ is) = (
@@ -88,7 +88,7 @@ of_done agree number o (w, works, came) =
 pub has_comparison : RunsAgree → (number : ℕ) (o : Outside) (st : Status) → st ≡ status.Done → Means (task_of (Work number)) o st → HasComparison number o
 has_comparison agree number o st done h = of_done agree number o (subst (λ (s : Status). Means (task_of (Work number)) o s) done h)
 
--- where no put failed and memory was found, the work's outcome was told
+-- where no put failed and memory was found, the work's outcome was reported
 came_to_work : (number : ℕ) (o : Outside) (st : Status) → (Rose o.before.puts o.after.puts → ⊥) → st ≢ status.Memory → st ≢ status.ReadFault → Means (task_of (Work number)) o st → ComesToOne (Works number) o st
 came_to_work number o status.Done none found read h = h
 came_to_work number o status.Stopped none found read h = h
@@ -115,7 +115,7 @@ work_completes agree number program o st builds le none found read h =
     let run = ran_twice number program c.0 le (subst (λ (m : Result Image (List ℕ)). WorksOn number m c.0) made c.1.comes) in
     (c.2.0 ∙ ap (λ (v : Outcome). v.status) run.comes, is_comparison agree number program o st c.0 run c.2)
 
--- a refusal of the kernel is told
+-- a refusal of the kernel is reported
 pub work_refuses : (number : ℕ) (w : Outcome) (o : Outside) (st : Status) → Works number w → w.status ≡ status.Refused
     → (Rose o.before.puts o.after.puts → ⊥) → st ≢ status.Memory → st ≢ status.ReadFault → Means (task_of (Work number)) o st → ComesTo w o st
 work_refuses number w o st works is none found read h =

@@ -181,7 +181,7 @@ last_run program events s move last = elim last.ends [
       (from_ended (SavesOn move.on move.n move.new) program events s move last.state_held from (stop_ended move.work.status h.stopped))
 ]
 
--- ---- legs, one behind the other
+-- ---- legs, one after the other
 
 -- a leg for each command, each from where the one before ended, but without its translations
 abbrev LegsOf : Image → Events → ℕ → List Move → model.State → List Leg → model.State → Type 0
@@ -247,7 +247,7 @@ as_far m old before mid now sets reports same one other =
     same_kept m old before.set mid now sets reports reports one
     (subst (λ (b : model.State). Steps m b sets reports now) (with_own before old same) other)
 
--- the parts of one run, behind which one leg more is a part
+-- the parts of one run, after which one leg more is a part
 record PartsAnd (program : Image) (events : Events) (frames : ℕ) (moves : List Move) (old : model.State)
     (legs : List Leg) (leg : Leg) (new : model.State) : Type 0 where
   mid : model.State

@@ -74,7 +74,7 @@ pub record HasVerdict (image script : List ℕ) (frames n : ℕ) (certificate te
   pub fits : need program ≤ frames
   pub printed : Appends o.before.taken o.after.taken (verdict_line (judged program events frames n list bytes))
   pub same : o.after.files ≡ o.before.files
-  -- A text that is judged yes is that of the run of the bare machine which goes by the choices; before a stop its items are,
+  -- A text that is judged yes is that of the run of the bare machine which follows the choices; before a stop its items are,
   -- and as many steps.
   pub yes : judged program events frames n list bytes ≡ Yes → IsRunText program events frames n list bytes
   pub before : (stop : Stop) → judged program events frames n list bytes ≡ YesBefore stop

@@ -26,7 +26,7 @@ pub record IsComparison (number : ℕ) (program : Image) (o : Outside) : Type 0 
   -- how many pages were filled in it
   pub fills : ℕ
   -- The second line is `same` exactly where the first run's text, which is a function of the image, is equal to the second's.
-  -- Else it tells the first line that differs or is missing.
+  -- Else it names the first line that differs or is missing.
   pub told : List ℕ
   pub same : (told ≡ same_line) ↔ (first_text program ≡ second)
   pub compares : Compares (first_text program) second told

@@ -29,7 +29,7 @@ use Rattle.pv_tool.specs.Asked.{task_of}
 use Rattle.pv_words.specs.declared.mode.RunMode.{RunMode}
 
 -- A command of such a chain: its machine, the names of image, script and checkpoint, the count of steps up to which it goes, and
--- the name at which it stores; what the files hold then, and what its work comes to.
+-- the name at which it stores; what the files hold then, and the outcome of its work.
 pub record Move : Type 0 where
   pub on : RunMode
   pub image : List ℕ
@@ -78,7 +78,7 @@ pub record StopsShort (move : Move) : Type 0 where
   pub gives : (task_of (SaveFrom move.on move.image move.script move.file move.n move.new)).gives (Some move.told) move.work
   pub stopped : move.work.status ≡ status.Stopped
 
--- and the last, behind which nothing is stored
+-- and the last, after which nothing is stored
 pub record IsLast (program : Image) (events : Events) (s : State) (move : Move) : Type 0 where
   pub over : IsOver program events move
   pub state_held : HasState (Some move.told) move.file s
@@ -91,7 +91,7 @@ rules_of on program events frames = (setting_on on program events frames).mode
 -- The part that a command that saves has of a run.
 pub record IsPart (program : Image) (events : Events) (frames : ℕ) (move : Move) (old : model.State) (part : Leg)
     (new : model.State) : Type 0 where
-  -- it goes by the rules of the command's machine
+  -- it follows the rules of the command's machine
   pub rules : part.mode ≡ rules_of move.on program events frames
   -- by which its steps lead on
   pub steps : Steps (in_mode (bare program events frames) part.mode) old part.sets part.reports new
@@ -113,7 +113,7 @@ AreParts program events frames _ old _ new = ⊥
 -- The part of the last command.
 pub record IsLastPart (program : Image) (events : Events) (frames : ℕ) (move : Move) (old : model.State) (part : Leg)
     (last : model.State) (end : End) : Type 0 where
-  -- it goes by the rules of the command's machine
+  -- it follows the rules of the command's machine
   pub rules : part.mode ≡ rules_of move.on program events frames
   -- by which it ends, at the number of steps that the command names or at a stop before
   pub run : Run (in_mode (bare program events frames) part.mode) move.n old part.sets part.reports last end
@@ -135,10 +135,10 @@ pub record AreOneRun (program : Image) (events : Events) (frames : ℕ) (moves :
   pub saved : AreParts program events frames moves (boot (bare program events frames)) parts mid
   -- and the part of the last
   pub ended : IsLastPart program events frames move mid part last end
-  -- their steps, one behind the other, are a run of the bare machine, up to a stop of the monitor's own
+  -- their steps, one after the other, are a run of the bare machine, up to a stop of the monitor's own
   pub bare_run : Run (bare program events frames) (bound_on_bare move.n last end) (boot (bare program events frames))
       (sets_of parts ++ part.sets) (reports_of parts ++ part.reports) (with_set last whole) (end_on_bare end)
-  -- and what they all print, but for the lines that tell of a file, is the text of what is seen in it and of the end
+  -- and what they all print, but for the lines about a file, is the text of what is seen in it and of the end
   pub text : printed ≡ text_of (trace_of (reports_of parts ++ part.reports)) last.step end
 
 -- so it is of each such chain over one image and script, whose commands go on from what the one before stored

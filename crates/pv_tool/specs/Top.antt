@@ -59,7 +59,7 @@ abbrev pub CountsFaults : List (List ℕ) → Outside → Type 0
 CountsFaults words o = (command : Command) → Asks words command → FaultCounts (task_of command) o
 
 -- A load that failed ends the work as a read fault, a store or a put that failed as a write fault. Where the work ends otherwise
--- the count is as it was. A count that stands at its type's end before can't tell.
+-- the count is as it was. A count that stands at its type's end before can't show it.
 abbrev pub EndsAtFaults : Outside → Status → Type 0
 EndsAtFaults o st =
     (st ≢ status.ReadFault → o.after.loads ≡ o.before.loads)
@@ -78,7 +78,7 @@ pub record Unhindered (words : List (List ℕ)) (command : Command) (told : File
   pub no_fault : NoFault (task_of command) o
   pub memory : st ≢ status.Memory
 
--- work that is refused is told so by its line, and changes no file
+-- work that is refused is reported so by its line, and changes no file
 abbrev pub RefusesWork : List (List ℕ) → Outside → Status → Type 0
 RefusesWork words o st =
     (command : Command) (told : FileMap) (w : Outcome)
@@ -137,7 +137,7 @@ LinksAll words o st =
     → Unhindered words (Link image objects) told o st → HasObjects (Some told) objects os → linked_image os ≡ Ok p
     → ComesTo (stored_as image (image_bytes p) (image_made_line p)) o st
 
--- an accepted image is told as one
+-- an accepted image is reported as one
 abbrev pub ChecksAll : List (List ℕ) → Outside → Status → Type 0
 ChecksAll words o st =
     (image : List ℕ) (told : FileMap) (program : Image)

@@ -18,7 +18,7 @@ ghost use Rattle.pv_tool.specs.Moving.{MovesAreOneRun};
 
 use checkpoint::legs_are_a_run;
 
-/// Where the work of a command comes to something over the files, each file that it reaches is held. After a store the name
+/// Where the work of a command has an outcome over the files, each file that it reaches is held. After a store the name
 /// holds what was stored, and each other name what it held. Names at which objects were stored hold these objects, whatever
 /// else is held. A name at which a linked image was stored holds the image that its parts are checked as, with its text, data
 /// and entry: `check` and `run` go on with that.
@@ -38,7 +38,7 @@ pub fn chains()
 
 /// A kernel that is saved, goes on and is saved again, any number of times and on either machine each time, and at last
 /// goes on to its end, or to a stop before it could be saved again, has one run from boot. What its commands print, but for
-/// the lines that tell of a file, is that run's text. Each command has a part of it: steps of its own machine, from where
+/// the lines about a file, is that run's text. Each command has a part of it: steps of its own machine, from where
 /// the command before ended, in which is seen what it printed itself. That of one that saves ends after as many steps in
 /// all as it names.
 pub fn moved()

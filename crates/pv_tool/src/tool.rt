@@ -93,7 +93,7 @@ pub fn top<F: Files, S: Sink, H: Host>(
     ensures complete_link { LinksAll (map string_bytes words.now.items)
         (outside F.Files S.Sink H.Host (files.old, files.new) (out.old, out.new) (host.old, host.new)) result }
 
-    // An accepted image is told as one.
+    // An accepted image is reported as one.
     ensures complete_check { ChecksAll (map string_bytes words.now.items)
         (outside F.Files S.Sink H.Host (files.old, files.new) (out.old, out.new) (host.old, host.new)) result }
 
@@ -121,7 +121,7 @@ pub fn top<F: Files, S: Sink, H: Host>(
         (outside F.Files S.Sink H.Host (files.old, files.new) (out.old, out.new) (host.old, host.new)) result }
 
     // Where `replay` is done, it has said exactly what is judged of the text. A text that is judged yes is that of the run of the
-    // bare machine which goes by the certificate's choices.
+    // bare machine which follows the certificate's choices.
     ensures replayed { Judges (map string_bytes words.now.items)
         (outside F.Files S.Sink H.Host (files.old, files.new) (out.old, out.new) (host.old, host.new)) result }
 

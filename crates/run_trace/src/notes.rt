@@ -1,11 +1,11 @@
-//! What a run tells of the translations that it loses.
+//! What a run reports of the translations that it loses.
 
 ghost use Rattle.std.specs.Prelude.{◌≡◌, ◌++◌, ◌∷◌, [], List, Bool, false};
 ghost use Rattle.run_trace.specs.Notes.{Note, emptied_at, dropped_at};
 
 /// Takes notes of the translations that a run loses between its steps.
 pub trait Notes {
-    /// The run is to tell them. It is the same at any time.
+    /// The run is to report them. It is the same at any time.
     ghost wants: { Self → Bool };
 
     /// These are the notes so far, where that is told.
@@ -25,7 +25,7 @@ pub trait Notes {
         ensures wants { wants self.new ≡ wants self.old };
 }
 
-/// Wants no notes and tells none.
+/// Wants no notes and reports none.
 #[derive(Clone, Copy)]
 pub struct NoNotes;
 

@@ -13,7 +13,7 @@ use pv_io::{Failed, Sink};
 /// The items of one step, of which it has at most two: an interrupt alone, or a write of a port and a sent byte.
 #[derive(Clone, Copy)]
 pub struct StepItems {
-    /// The items, and behind them whatever.
+    /// The items, and after them whatever.
     pub list: [Item; 2],
     /// How many there are.
     pub len: u8,

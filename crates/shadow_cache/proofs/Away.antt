@@ -77,7 +77,7 @@ fronts-none : (p : Past) (vs : List ℕ) (qs : List Past) → Fronts p vs qs →
 fronts-none p vs [] f = refl
 fronts-none p vs (q ∷ qs) f = or_from (eqb q.value p.value) (has_value p.value qs) f.1 (fronts-none p vs qs f.2)
 
--- ---- lists in which it stands behind some
+-- ---- lists in which it stands after some
 
 of-front : (v : ℕ) (fs ps : List Past) (q : Past) → of_value v fs ≡ Some q → of_value v (fs ++ ps) ≡ Some q
 of-front v [] ps q e = cc
@@ -164,7 +164,7 @@ module _ (p : Past) (vs : List ℕ) (few : length vs ≤ 7) (v : ℕ) (among : i
   behind : has_value v fs ≡ false → of_value v (fs ++ p ∷ rest) ≡ of_value v rest
   behind n = of-behind v fs (p ∷ rest) n ∙ ap (λ b. cond b (Some p) (of_value v rest)) not-it
 
-  -- of those behind it
+  -- of those after it
   from-rest : has_value v fs ≡ false → (q : Past) → of_value v rest ≡ Some q → Away p vs (after_switch v (fs ++ p ∷ rest))
   from-rest n q e =
       let is = of-is v rest q e in

@@ -46,7 +46,7 @@ LoadsAmong values [] = Unit {0}
 LoadsAmong values (Shared call ∷ cs) = LoadsAmong values cs
 LoadsAmong values (Switch value ∷ cs) = (is_among value values ≡ true) × LoadsAmong values cs
 
--- it is the present pair, and others are behind it
+-- it is the present pair, and others are after it
 pub record IsPresent (p : Past) (ps : List Past) : Type 0 where
   pub others : List Past
   pub first : ps ≡ p ∷ others

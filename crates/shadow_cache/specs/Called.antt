@@ -22,7 +22,7 @@ SamePairs ps ps' m m' = (ps' ≡ ps) × AreKept (beside ps) m m'
 abbrev pub KeepsPool : (ps ps' : List Pair) → (m m' : List ℕ) → Type 0
 KeepsPool ps ps' m m' = (p : Pool) → Owns p m (frames_of ps m) → Moves p p m m' (frames_of ps m) (frames_of ps' m')
 
--- Pairs that were those of `new` with a value and some calls are now those of the same with this call behind them.
+-- Pairs that were those of `new` with a value and some calls are now those of the same with this call after them.
 abbrev pub GoesOn : RootsCall → (ps ps' : List Pair) → (m m' : List ℕ) → Type 0
 GoesOn call ps ps' m m' =
     (value : ℕ) (calls : List RootsCall) → Agree value calls ps m → Agree value (calls ++ call ∷ []) ps' m'

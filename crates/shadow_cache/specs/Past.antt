@@ -1,4 +1,4 @@
--- Pairs of views told by what was done in them: a list with the present one first, from `new` on.
+-- Pairs of views described by what was done in them: a list with the present one first, from `new` on.
 use Rattle.std.specs.Prelude.{ℕ, suc, ◌==◌, ◌/◌, ◌&&◌, not, if◌then◌else◌, Bool, true, false, Option, Some, None, List, [], ◌∷◌, ◌++◌, take, filter}
 use Rattle.std.specs.List.{list_any, find}
 use Rattle.guest_ram.specs.Among.{is_among}

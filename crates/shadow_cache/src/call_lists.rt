@@ -88,7 +88,7 @@ fn apply(roots: &mut Roots, ram: &mut Ram, pool: &mut Pool, call: RootsCall) -> 
     }
 }
 
-/// Does the calls in order up to one for which too few frames are free, and tells how many were done.
+/// Does the calls in order up to one for which too few frames are free, and returns how many were done.
 fn follow(roots: &mut Roots, ram: &mut Ram, pool: &mut Pool, calls: &[RootsCall]) -> usize
     requires stands { ∥ IsRoots (pairs_of roots.old) ram.old ∥₁ }
     requires owns { Owns pool.old ram.old (frames_of (pairs_of roots.old) ram.old) }

@@ -61,7 +61,7 @@ pub trait Reloads: Shadows {
         ensures owns { Owns pool.new ram.new (Self.frames self.new ram.new) }
         ensures moves { Moves pool.old pool.new ram.old ram.new (Self.frames self.old ram.old) (Self.frames self.new ram.new) };
 
-    /// A directory index, this one or behind it, before which no page of another is kept; 1,024 where there is none.
+    /// A directory index, this one or a later one, before which no page of another is kept; 1,024 where there is none.
     fn next_opened(&self, ram: &Ram, from: u32) -> u32
         requires stands { ∥ Self.stands self.now ram.now ∥₁ }
         requires from { from ≤ 1024 }

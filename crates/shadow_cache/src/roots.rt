@@ -153,7 +153,7 @@ impl Roots {
         shadow.drop_dir(ram, index);
     }
 
-    /// A directory index, this one or behind it, before which the present pair keeps no page of another; 1,024 where there is
+    /// A directory index, this one or a later one, before which the present pair keeps no page of another; 1,024 where there is
     /// none.
     pub fn next_opened(&self, ram: &Ram, from: u32) -> u32
         requires stands { ∥ IsRoots (pairs_of self.now) ram.now ∥₁ }

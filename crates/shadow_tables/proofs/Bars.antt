@@ -263,7 +263,7 @@ dirs-none s m first last a b page l low high =
     let below : page / 1024 < last = omega (arith, high) in
     dir-none s m (page / 1024) page (a (page / 1024) from below) (b (page / 1024) from below) refl
 
--- the table that a directory word names lies in the memory
+-- the table that a PDE names lies in the memory
 pub table-lies : (m : List ℕ) (r index w : ℕ) → IsView m r → index < 1024 → w ≡ dir m r index → w ≢ 0 → 4096 * (w / 4096) + 4096 ≤ length m
 table-lies m r index w v l e ne = subst (λ x. 4096 * (x / 4096) + 4096 ≤ length m) (sym e) (v.table index l (λ z. ne (e ∙ z)))
 

@@ -8,7 +8,7 @@ worth-le : (b : Bool) → worth b ≤ 1
 worth-le true = omega arith
 worth-le false = omega arith
 
--- a number of one bit tells whether it is worth 1
+-- a number of one bit says whether it is worth 1
 is-worth : (n : ℕ) (b : Bool) → n ≡ worth b → eqb n 1 ≡ b
 is-worth n true e = ap (λ x. eqb x 1) e
 is-worth n false e = ap (λ x. eqb x 1) e

@@ -1,4 +1,4 @@
--- The sides, kernel and user, told apart.
+-- The sides, kernel and user, are distinguished.
 use Rattle.std.proofs.Common.{◌≡◌, true, refl}
 use Rattle.shadow_tables.specs.declared.words.Side.{Side}
 use Rattle.shadow_tables.specs.declared.words.Side.TheVariants.{Kernel, User}

@@ -53,7 +53,7 @@ sweeps-over s m m' first n last f a le low h =
       others = λ page l out. a.others page l (λ x y. out x (omega (arith, y, le)));
     }
 
--- one pass behind the other
+-- one pass after the other
 pub sweeps-trans : (s : Shadow) (m m1 m2 : List ℕ) (first n last : ℕ) (f g : ℕ → Option Slot) → first ≤ n → n ≤ last → Sweeps s m m1 first n f → Sweeps s m1 m2 n last g → ((page : ℕ) → page < 2 ^ 20 → n ≤ page → page < last → g page ≡ f page) → Sweeps s m m2 first last f
 sweeps-trans s m m1 m2 first n last f g x y a b e =
     record {

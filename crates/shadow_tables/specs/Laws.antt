@@ -46,7 +46,7 @@ owned-above p m m' limit fs fs' o l e size same = subst (Owns p m') (sym same) (
 
 -- ---- laws of `Shadow`
 
--- what holds of its memory, of which only was told that it does
+-- what holds of its memory, where only the fact that it does is given
 pub had : (s : Shadow) (m : List ℕ) → ∥ IsShadow s m ∥₁ → IsShadow s m
 had s m h = ∥∥₁_elim h (IsShadow-prop s m) (λ x. x)
 

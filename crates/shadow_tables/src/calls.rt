@@ -53,7 +53,7 @@ fn apply<S: Shadows>(shadows: &mut S, ram: &mut Ram, pool: &mut Pool, call: Call
     true
 }
 
-/// Does the calls in order up to a fill for which no frame is free, and tells how many were done. All are done at least
+/// Does the calls in order up to a fill for which no frame is free, and returns how many were done. All are done at least
 /// where as many frames are free as there are fills. A page's entry is then that of its last fill which no later drop
 /// took away. A read is adequate exactly where this fill was on that side and let the read pass, and so is a write where
 /// the shadows track no frame; where they do, a write is adequate at most then.

@@ -1,4 +1,4 @@
-//! The tables of both views that stand, and the words in them that aren't 0: a pass over what is kept goes by these.
+//! The tables of both views that stand, and the words in them that aren't 0: a pass over what is kept follows these.
 
 ghost use Rattle.std.specs.Prelude.{◌≡◌, ◌≢◌, ℕ, ◌+◌, ◌*◌, ◌/◌, ◌≤◌, ◌<◌, ◌^◌, length, None};
 ghost use Rattle.guest_ram.specs.Bytes.{word32};
@@ -32,8 +32,8 @@ fn next_pair_in(ram: &Ram, first: u32, second: u32, from: u32) -> u32
     512
 }
 
-/// A word, this one or behind it, before which no other of both tables is another than 0; 1,024 where there is none. The tables
-/// are those that two directory words name.
+/// A word, this one or a later one, before which no other of both tables is another than 0; 1,024 where there is none. The
+/// tables are those that two PDEs name.
 fn next_word(ram: &Ram, kernel: u32, user: u32, from: u32) -> u32
     requires kernel { kernel ≢ 0 → 4096 * (kernel / 4096) + 4096 ≤ length ram.now }
     requires user { user ≢ 0 → 4096 * (user / 4096) + 4096 ≤ length ram.now }
@@ -52,7 +52,7 @@ fn next_word(ram: &Ram, kernel: u32, user: u32, from: u32) -> u32
 }
 
 impl Shadow {
-    /// A page of a directory index by its word, this one or behind it, before which neither view keeps another; 1,024 where
+    /// A page of a directory index by its word, this one or a later one, before which neither view keeps another; 1,024 where
     /// there is none.
     pub fn next_kept(&self, ram: &Ram, index: u32, from: u32) -> u32
         requires shadow { IsShadow self.now ram.now }
@@ -68,7 +68,7 @@ impl Shadow {
         next_word(ram, kernel, user, from)
     }
 
-    /// A directory index, this one or behind it, before which neither view has another table; 1,024 where there is none.
+    /// A directory index, this one or a later one, before which neither view has another table; 1,024 where there is none.
     pub fn next_opened(&self, ram: &Ram, from: u32) -> u32
         requires shadow { IsShadow self.now ram.now }
         requires from { from ≤ 1024 }

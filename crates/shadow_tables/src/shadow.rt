@@ -39,7 +39,7 @@ fn taken(ram: &mut Ram, pool: &mut Pool) -> u32
     }
 }
 
-/// Takes a frame for the table of a directory word, where none is there.
+/// Takes a frame for the table of a PDE, where none is there.
 fn open(ram: &mut Ram, pool: &mut Pool, root: u32, index: u32)
     requires view { IsView ram.old root }
     requires index { index < 1024 }

@@ -33,7 +33,7 @@ pub at-some : (m : List ℕ) (r page : ℕ) → dir m r (page / 1024) ≢ 0 → 
 unfolding at
 at-some m r page ne = by_dir-some m (dir m r (page / 1024)) (page % 1024) ne
 
--- the word of a page is the same where the directory word is, and the table's frame
+-- the word of a page is the same where the PDE is, and the table's frame
 pub at-same : (m m' : List ℕ) (r page : ℕ) → dir m' r (page / 1024) ≡ dir m r (page / 1024) → (dir m r (page / 1024) ≢ 0 → frame m' (dir m r (page / 1024) / 4096) ≡ frame m (dir m r (page / 1024) / 4096)) → at m' r page ≡ at m r page
 at-same m m' r page e f =
     elim (eqb_tells (dir m r (page / 1024)) 0) [

@@ -80,7 +80,7 @@ tables-same m m' r (suc n) h =
     ap (λ w. with_table w (tables m' r n)) (h n (omega arith))
     ∙ ap (with_table (dir m r n)) (tables-same m m' r n (λ d l. h d (omega (arith, l))))
 
--- one more table, under the directory word e
+-- one more table, under the PDE e
 pub tables-grow : (m m' : List ℕ) (r n e f : ℕ) → e < n → ((d : ℕ) → d < n → d ≢ e → dir m' r d ≡ dir m r d) → dir m r e ≡ 0 → dir m' r e ≢ 0 → times f (tables m' r n) ≡ hit f (dir m' r e / 4096) + times f (tables m r n)
 unfolding tables
 tables-grow m m' r zero e f l h z s = absurd (omega (arith, l))
@@ -154,7 +154,7 @@ owned-both m r s d (t ∷ rs) i j l ne e =
       ]
     ]
 
--- a table is of one directory word alone
+-- a table is of one PDE alone
 pub owned-sole : (m : List ℕ) (f r s d e : ℕ) (rs : List ℕ) → IsIn r rs → IsIn s rs → d < 1024 → e < 1024 → dir m r d ≢ 0 → f ≡ dir m r d / 4096 → dir m s e ≢ 0 → f ≡ dir m s e / 4096 → times f (owned m rs) ≤ 1 → (s ≡ r) × (e ≡ d)
 owned-sole m f r s d e [] i j ld le a b a' b' once = absurd i
 owned-sole m f r s d e (t ∷ rs) i j ld le a b a' b' once =

@@ -43,7 +43,7 @@ is-zero n w e t = elim (eqb_tells w 0) [ inl u ↦ sym e ∙ u.1 | inr u ↦ abs
 pub zero-is : (n w : ℕ) → w ≡ n → n ≡ 0 → eqb w 0 ≡ true
 zero-is n w e z = rw (e ∙ z)
 
--- the pair of words of a frame that isn't none at all, as two directory words
+-- the pair of words of a frame that isn't none at all, as two PDEs
 pub dirs-there : (m : List ℕ) (r p d : ℕ) → p ≡ d / 2 → (IsNoneAt m (4096 * r + 8 * p) → ⊥)
     → dir m r (2 * (d / 2)) ≡ 0 → dir m r (2 * (d / 2) + 1) ≡ 0 → ⊥
 unfolding dir
@@ -71,7 +71,7 @@ none-pairs m f first pair n h j low high =
       | inr t ↦ pair-none m (4096 * f + 8 * pair) f (2 * pair) j (omega arith) n t (omega (arith, high))
     ]
 
--- so many directory words are
+-- so many PDEs are
 abbrev pub NoDirs : List ℕ → ℕ → ℕ → ℕ → Type 0
 NoDirs m r first last = (d : ℕ) → first ≤ d → d < last → dir m r d ≡ 0
 

@@ -8,11 +8,11 @@ use Rattle.frame_pool.specs.Pool.{free_list, Takes, SameFrames, SameBut}
 use Rattle.frame_pool.specs.declared.Pool.{Pool}
 use Rattle.frame_pool.specs.Held.{Owns, Writes, Moves}
 
--- the directory word d of the view with the root r
+-- the PDE d of the view with the root r
 unfoldable pub dir : List ℕ → ℕ → ℕ → ℕ
 dir m r d = word32 m (4096 * r + 4 * d)
 
--- the word i of the table that a directory word names, or 0 where it names none
+-- the word i of the table that a PDE names, or 0 where it names none
 abbrev pub by_dir : List ℕ → ℕ → ℕ → ℕ
 by_dir m zero i = 0
 by_dir m (suc w) i = word32 m (4096 * (suc w / 4096) + 4 * i)
@@ -21,12 +21,12 @@ by_dir m (suc w) i = word32 m (4096 * (suc w / 4096) + 4 * i)
 unfoldable pub at : List ℕ → ℕ → ℕ → ℕ
 at m r page = by_dir m (dir m r (page / 1024)) (page % 1024)
 
--- and of the table that a directory word names
+-- and of the table that a PDE names
 abbrev pub with_table : ℕ → List ℕ → List ℕ
 with_table zero fs = fs
 with_table (suc w) fs = (suc w / 4096) ∷ fs
 
--- the tables of the first n directory words
+-- the tables of the first n PDEs
 unfoldable pub tables : List ℕ → ℕ → ℕ → List ℕ
 tables m r zero = []
 tables m r (suc n) = with_table (dir m r n) (tables m r n)
@@ -57,7 +57,7 @@ pub record Puts (m m' rs : List ℕ) (r page v : ℕ) : Type 0 where
   pub there : at m' r page ≡ v
   pub others : (s q : ℕ) → IsIn s rs → q < 2 ^ 20 → (s ≡ r → q ≡ page → ⊥) → at m' s q ≡ at m s q
 
--- no word of a page changed, and the table of directory word d in the view r is there
+-- no word of a page changed, and the table of PDE d in the view r is there
 pub record Opens (p p' : Pool) (m m' rs : List ℕ) (r d : ℕ) : Type 0 where
   pub moves : Moves p p' m m' (owned m rs) (owned m' rs)
   pub some : dir m' r d ≢ 0
@@ -65,14 +65,14 @@ pub record Opens (p p' : Pool) (m m' rs : List ℕ) (r d : ℕ) : Type 0 where
   pub dirs : (s e : ℕ) → IsIn s rs → e < 1024 → (dir m' s e ≡ dir m s e) ⊎ (dir m' s e % 4096 ≡ 7)
   pub words : (s q : ℕ) → IsIn s rs → q < 2 ^ 20 → at m' s q ≡ at m s q
 
--- a free frame became the table of directory word d
+-- a free frame became the table of PDE d
 pub record Grows (p p' : Pool) (m m' : List ℕ) (r d : ℕ) : Type 0 where
   pub frame : ℕ
   pub zeroed : List ℕ
   pub takes : Takes p p' m zeroed frame
   pub memory : m' ≡ with_word32 zeroed (4096 * r + 4 * d) (4096 * frame + 7)
 
--- directory word d names no table, and the frame of its table became the first free one; no other frame changed
+-- PDE d names no table, and the frame of its table became the first free one; no other frame changed
 pub record Shrinks (p p' : Pool) (m m' : List ℕ) (r d : ℕ) : Type 0 where
   pub cleared : List ℕ
   pub memory : cleared ≡ with_word32 m (4096 * r + 4 * d) 0
@@ -86,13 +86,13 @@ pub record IsOwned (p : Pool) (m : List ℕ) (r : ℕ) : Type 0 where
   pub owns : Owns p m (owned m all)
   pub root : IsIn r all
 
--- the directory word d of the view r names no table, and no other directory word changed
+-- the PDE d of the view r names no table, and no other PDE changed
 pub record Closes (p p' : Pool) (m m' rs : List ℕ) (r d : ℕ) : Type 0 where
   pub moves : Moves p p' m m' (owned m rs) (owned m' rs)
   pub gone : dir m' r d ≡ 0
   pub dirs : (s e : ℕ) → IsIn s rs → e < 1024 → (s ≡ r → e ≡ d → ⊥) → dir m' s e ≡ dir m s e
 
--- the first n directory words of the view r name no table, and none of another view changed
+-- the first n PDEs of the view r name no table, and none of another view changed
 pub record Empties (p p' : Pool) (m m' rs : List ℕ) (r n : ℕ) : Type 0 where
   pub moves : Moves p p' m m' (owned m rs) (owned m' rs)
   pub gone : (e : ℕ) → e < n → dir m' r e ≡ 0

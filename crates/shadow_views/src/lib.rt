@@ -10,7 +10,7 @@ ghost use Rattle.shadow_views.specs.Tables.{dir, at, by_dir, owned, IsIn, IsView
 use frame_pool::Pool;
 use guest_ram::{FRAME, Ram};
 
-/// A directory word.
+/// A PDE.
 #[tactic(auto, unfolding(crate::specs::Tables::dir))]
 pub fn dir(ram: &Ram, root: u32, d: u32) -> u32
     requires view { IsView ram.now root }
@@ -21,7 +21,7 @@ pub fn dir(ram: &Ram, root: u32, d: u32) -> u32
     ram.read32(FRAME * root + 4 * d)
 }
 
-/// A word of the table that a directory word names, or 0 where it names none.
+/// A word of the table that a PDE names, or 0 where it names none.
 pub fn word_in(ram: &Ram, table: u32, i: u32) -> u32
     requires lies { table ≢ 0 → 4096 * (table / 4096) + 4096 ≤ length ram.now }
     requires index { i < 1024 }
@@ -61,7 +61,7 @@ pub fn next_pair(ram: &Ram, frame: u32, from: u32) -> u32
     512
 }
 
-/// A directory word, this one or behind it, before which no other names a table: it or the other of its pair (2 k and 2 k + 1)
+/// A PDE, this one or a later one, before which no other names a table: it or the other of its pair (2 k and 2 k + 1)
 /// does. 1,024 where there is no such pair.
 pub fn next_dir(ram: &Ram, root: u32, from: u32) -> u32
     requires view { IsView ram.now root }
@@ -83,7 +83,7 @@ pub fn look(ram: &Ram, root: u32, page: u32) -> u32
     word_in(ram, dir(ram, root, page / 1024), page % 1024)
 }
 
-/// A directory word names a table.
+/// A PDE names a table.
 pub fn has_table(ram: &Ram, root: u32, d: u32) -> bool
     requires view { IsView ram.now root }
     requires index { d < 1024 }
@@ -118,7 +118,7 @@ pub fn clear(ram: &mut Ram, root: u32, page: u32)
     }
 }
 
-/// Takes a frame for the table of a directory word, where none is there.
+/// Takes a frame for the table of a PDE, where none is there.
 pub fn open(ram: &mut Ram, pool: &mut Pool, root: u32, d: u32)
     requires view { IsView ram.old root }
     requires index { d < 1024 }
@@ -138,7 +138,7 @@ pub fn open(ram: &mut Ram, pool: &mut Pool, root: u32, d: u32)
     }
 }
 
-/// Gives the table of a directory word back, where there is one.
+/// Gives the table of a PDE back, where there is one.
 pub fn close(ram: &mut Ram, pool: &mut Pool, root: u32, d: u32)
     requires view { IsView ram.old root }
     requires owned { IsOwned pool.old ram.old root }

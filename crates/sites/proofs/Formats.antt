@@ -73,7 +73,7 @@ read_spelled bytes s fits e = by (eqb (byte bytes 3) 50) (in_either bytes s (eqb
     by true h = let was = gapped_was bytes s fits h in (was.0 ∙ sym (spelling_second s was.2), inr (was.2, was.1))
     by false h = let was = placed_was bytes s fits h in (was.0 ∙ sym (spelling_first s was.2), inl (was.2, was.1))
 
--- ---- the format that is told
+-- ---- the format that the bytes give
 
 first_is : (bytes : List ℕ) (s : SitesParts) → placed_in bytes ≡ Ok s → s.format ≡ 1
 unfolding placed_in
@@ -106,7 +106,7 @@ pub if_told : (bytes : List ℕ) (r : Result SitesParts SitesFault) → Gives r 
 if_told bytes (Ok s) given = told bytes s given
 if_told bytes (Err e) given = tt
 
--- ---- the count that is told
+-- ---- the count that the bytes give
 
 length-sites_at : (bytes : List ℕ) (n a : ℕ) → length (sites_at bytes n a) ≡ n
 unfolding sites_at

@@ -28,7 +28,7 @@ use Rattle.sites.proofs.Inverse.{kind_numbered-number, number-kind, byte-behind,
 three : (from at : ℕ) → from ≤ at → at < from + 2 ^ 24 → from + ((at - from) % 256 + 256 * ((at - from) / 256 % 256) + 65536 * ((at - from) / 256 / 256)) ≡ at
 three from at le lt = omega arith
 
--- the fields of a site that stands behind other bytes, and behind a site that ends at `from`
+-- the fields of a site that stands after other bytes, and after a site that ends at `from`
 record Follows (bytes : List ℕ) (from a : ℕ) (s : Site) : Type 0 where
   room : a + 5 ≤ length bytes
   at : from + gap_at bytes a ≡ s.at

@@ -73,7 +73,7 @@ pub word32-behind : (front rest : List ℕ) (a : ℕ) → length front ≡ a →
 unfolding word32 part
 word32-behind front rest a e = ap (λ (x : List ℕ). from_le_bytes w32 (take 4 x)) (drop_at front rest a e)
 
--- the fields of a site that stands behind other bytes
+-- the fields of a site that stands after other bytes
 record SiteAt (bytes : List ℕ) (a : ℕ) (s : Site) : Type 0 where
   room : a + 8 ≤ length bytes
   at : word32 bytes a ≡ s.at

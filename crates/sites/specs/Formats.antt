@@ -7,7 +7,7 @@ use Rattle.sites.specs.SitesParts.{SitesParts}
 use Rattle.sites.specs.Reading.{placed_in}
 use Rattle.sites.specs.Gapped.{gapped_in}
 
--- The fourth byte tells the format: "PVS2" begins format 2, and all else is read as format 1.
+-- The fourth byte gives the format: "PVS2" begins format 2, and all else is read as format 1.
 unfoldable pub told_format : List ℕ → ℕ
 told_format bytes = if byte bytes 3 == 50 then 2 else 1
 
@@ -21,6 +21,6 @@ list_of read = result_map_both (λ sites. sites.list) (λ at. at) read
 abbrev pub listed : List ℕ → Result (List Site) ℕ
 listed bytes = list_of (sites_in bytes)
 
--- the count in four bytes behind the first four, in both formats
+-- the count in four bytes after the first four, in both formats
 unfoldable pub told_count : List ℕ → ℕ
 told_count bytes = if nat_lt (length bytes) 8 then 0 else word32 bytes 4

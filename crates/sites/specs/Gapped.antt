@@ -14,7 +14,7 @@ use Rattle.sites.specs.Reading.{cut_before, has_no_kind, head_fault, unless}
 abbrev pub gap_at : List ℕ → ℕ → ℕ
 gap_at bytes a = byte bytes a + 256 * byte bytes (a + 1) + 65536 * byte bytes (a + 2)
 
--- where the site at a ends, behind one that ends at `from`; where its length isn't there, the least end that it can have
+-- where the site at a ends, after one that ends at `from`; where its length isn't there, the least end that it can have
 abbrev pub end_at : List ℕ → ℕ → ℕ → ℕ
 end_at bytes from a = from + gap_at bytes a + max 5 (byte bytes (a + 4))
 

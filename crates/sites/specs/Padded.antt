@@ -1,4 +1,4 @@
--- The site of one sensitive instruction, which has NOPs behind it up to five bytes.
+-- The site of one sensitive instruction, which has NOPs after it up to five bytes.
 use Rattle.std.specs.Prelude.{ℕ, max}
 use Rattle.ia32_types.specs.declared.site.SiteKind.{SiteKind}
 use Rattle.sites.specs.declared.site.Site.{Site}

@@ -116,7 +116,7 @@ pub fn gapped_in(alloc: Global, bytes: &[u8]) -> Result<Sites, SitesFault>
     Ok(Sites { list, format: 2 })
 }
 
-/// A site in format 2, behind one that ends at `from`.
+/// A site in format 2, after one that ends at `from`.
 fn put_gap(out: &mut Vec<u8>, from: u64, s: &Site) -> Result<(), AllocError>
     requires rises { from ≤ s.now.at }
     requires near { s.now.at < from + 2 ^ 24 }

@@ -134,7 +134,7 @@ fn placed_in(alloc: Global, bytes: &[u8]) -> Result<Sites, SitesFault>
     Ok(Sites { list, format: 1 })
 }
 
-/// The sites in the format that the fourth byte tells.
+/// The sites in the format that the fourth byte gives.
 #[tactic(auto, unfolding(crate::specs::Formats::sites_in))]
 fn sites_in(alloc: Global, bytes: &[u8]) -> Result<Sites, SitesFault>
     requires { length bytes.now < 2 ^ 32 }
@@ -149,11 +149,11 @@ fn sites_in(alloc: Global, bytes: &[u8]) -> Result<Sites, SitesFault>
 /// The sites that the bytes spell in one of the two formats, or the first bad byte.
 pub fn read_sites(alloc: Global, bytes: &[u8]) -> Result<Sites, SitesFault>
     requires { length bytes.now < 2 ^ 32 }
-    // The bytes are the one spelling of the value, of which the format is part.
+    // The bytes are the one spelling of the value, and the format is part of the value.
     ensures spelled { IfOk result (λ s. (bytes.now ≡ spelling s) × IsInForm s) }
     // The offsets rise in both formats.
     ensures rising { IfOk result (λ s. AreInForm 0 s.list) }
-    // The fourth byte tells the format.
+    // The fourth byte gives the format.
     ensures told { IfOk result (λ s. s.format ≡ told_format bytes.now) }
     ensures count { IfOk result (λ s. length s.list ≡ told_count bytes.now) }
     // What is spelled is read, unless memory runs out.
@@ -163,7 +163,7 @@ pub fn read_sites(alloc: Global, bytes: &[u8]) -> Result<Sites, SitesFault>
     sites_in(alloc, bytes)
 }
 
-/// The count that annotations tell: that of their sites, where they are read.
+/// The count that annotations give: that of their sites, where they are read.
 #[tactic(auto, unfolding(crate::specs::Formats::told_count))]
 pub fn count(bytes: &[u8]) -> u32
     ensures { result ≡ told_count bytes.now }

@@ -9,7 +9,7 @@ use std::marker::Model;
 use thiserror::Error;
 
 /// A site: its offset in its text, the kind of its instruction, and how many bytes are sensitive
-/// and in all (with the NOPs behind them).
+/// and in all (with the NOPs after them).
 #[derive(Clone, Copy, PartialEq, Eq)]
 pub struct Site {
     pub at: u32,

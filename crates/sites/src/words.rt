@@ -3,7 +3,7 @@
 ghost use Rattle.std.specs.Prelude.{◌≡◌};
 ghost use Rattle.guest_ram.specs.Bytes.{byte};
 
-/// The byte there, or 0 behind the end.
+/// The byte there, or 0 past the end.
 #[tactic(auto, unfolding(guest_ram::specs::Bytes::byte))]
 pub fn byte_or_zero(bytes: &[u8], at: usize) -> u8
     ensures { result ≡ byte bytes.now at }

@@ -1,4 +1,4 @@
-//! Statements, and the bytes that they come to.
+//! Statements, and the bytes that they assemble to.
 
 use self::arithmetic::ARITHMETIC;
 use self::control::CONTROL;
@@ -22,7 +22,7 @@ mod refusals;
 mod shifts;
 mod stack;
 
-// A row is a statement, the bytes that it comes to, and the fields that name symbols: the field, its place, the number of
+// A row is a statement, its bytes, and the fields that name symbols: the field, its place, the number of
 // its argument, and whether it is relative.
 
 fn take_named(rest: &mut Rest<'_>, alloc: Global, field: &str, named: &Option<Named>) {
@@ -32,7 +32,7 @@ fn take_named(rest: &mut Rest<'_>, alloc: Global, field: &str, named: &Option<Na
     }
 }
 
-/// Whether that stands behind the arrow of a row.
+/// Whether that stands after the arrow of a row.
 fn is_spelling(alloc: Global, found: &Assembled, listed: &str) -> bool {
     let mut rest = Rest::new(listed.as_bytes());
     let len = usize::from(found.spelling.len).min(found.spelling.bytes.len());

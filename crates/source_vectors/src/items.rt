@@ -26,7 +26,7 @@ impl<'a> Rest<'a> {
         }
     }
 
-    /// The parts with these marks before, between and behind them.
+    /// The parts with these marks before, between and after them.
     fn take_form(&mut self, alloc: Global, form: &Form) {
         match form {
             Form::Absent => self.take(b"_"),
@@ -97,7 +97,7 @@ impl<'a> Rest<'a> {
         }
     }
 
-    /// Each item with its line and a `;` behind it.
+    /// Each item with its line and a `;` after it.
     fn take_items(&mut self, alloc: Global, items: &[SourceItem]) {
         for item in items {
             self.take_number(alloc, i64::from(item.line));

@@ -48,7 +48,7 @@ impl<'a> Rest<'a> {
     }
 }
 
-/// What stands before the arrow of a row, and what stands behind it.
+/// What stands before the arrow of a row, and what stands after it.
 pub fn sides(row: &str) -> (&str, &str) {
     match row.split_once(" =>") {
         Some((text, listed)) => (text, listed.strip_prefix(' ').unwrap_or(listed)),
@@ -77,12 +77,12 @@ pub fn holds(rt: &impl Abort, row: usize, held: bool) {
     assert!(rt; held, "row {row}");
 }
 
-/// Puts the piece behind the bytes.
+/// Puts the piece after the bytes.
 pub fn add(rt: &impl Abort, bytes: &mut Vec<u8>, piece: &[u8]) {
     bytes.extend_from_slice(piece).expect(rt, "memory");
 }
 
-/// Puts the piece so many times behind the bytes.
+/// Puts the piece so many times after the bytes.
 pub fn put_times(rt: &impl Abort, bytes: &mut Vec<u8>, piece: &[u8], count: u32) {
     for _ in 0..count {
         add(rt, bytes, piece);

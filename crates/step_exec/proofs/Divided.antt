@@ -1,4 +1,4 @@
--- A plain instruction divides behind its ranges.
+-- A plain instruction divides after its ranges.
 use Rattle.std.proofs.Common.{◌≡◌, ℕ, Bool, true, false, not, cond, ◌==◌, refl, sym, ap, Option, Some, None, Ok, Err}
 use Rattle.ia32_types.specs.declared.insn.Insn.{Insn}
 use Rattle.ia32_exec.specs.declared.access.Range.{Range}

@@ -91,7 +91,7 @@ module _ (s : Space) (at n : ℕ) (all : AreAll (IsWritableAt s) at n) where
         apart = λ byte from to. (found_at byte from to).apart byte (omega arith) (omega arith);
       }
 
--- what was ready for a read is, behind a touch, what was ready before it
+-- what was ready for a read is, after a touch, what was ready before it
 pub before_last : (other : Option Range) (s t : Space) → t.earlier ≡ earlier_of s → IsLast other false s → IsMadeEarlier other t
 before_last None s t e h = tt
 before_last (Some r) s t e h = record {

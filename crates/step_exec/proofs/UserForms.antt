@@ -55,7 +55,7 @@ use Rattle.step_exec.specs.Plain.{is_null, byte_by}
 use Rattle.step_exec.specs.Users.{selectors_of, user_finished, user_form, user_executed, IsUserSite, IsUser, HasUserForm}
 use Rattle.step_exec.proofs.UserReads.{number_read, uses_earlier, earlier_read}
 
--- ---- accesses, one behind the other
+-- ---- accesses, one after the other
 
 after_read : (o : Outcome Refusal (Unit {0})) (at : ℕ) (h : Space → Outcome Refusal SysOutcome) (k : ℕ → Work Refusal SysOutcome) → ((s : Space) → k (loaded s at Long) s ≡ h s)
     → on_value (on_value o (λ _. reads at Long)) k ≡ on_value o (λ _. h)
@@ -151,7 +151,7 @@ pushs_form (Register k) len cpu s n null = absurd n
 pushs_form (Memory a) len cpu s n null = absurd n
 pushs_form (Control k) len cpu s n null = absurd n
 
--- what POPF comes to
+-- the outcome of POPF
 popped_case : (foreign : Bool) (cpu : Cpu) (s : Space) (len : ℕ) (f g : Flags) → f ≡ g
     → on_value (unless (refusal.Stop stops.FlagBits) (not foreign) s) (λ _. next (with_flags (past_pop cpu len) f))
     ≡ user_finished cpu (cond foreign (outcomes.Stop stops.FlagBits) (outcomes.Done (eip_past len (with_whole 4 (esp_above 4 cpu.regs) (record cpu.regs { flags = g }))) Nothing)) s

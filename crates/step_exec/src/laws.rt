@@ -1,4 +1,4 @@
-//! Laws of what instructions come to by their pure effect.
+//! Laws of the outcomes of instructions by their pure effect.
 
 ghost use Rattle.step_exec.specs.Divided.{Divides};
 ghost use Rattle.step_exec.specs.Users.{HasUserForm};
@@ -9,7 +9,7 @@ pub fn has_user_form()
     ensures { HasUserForm }
 {}
 
-/// A plain instruction divides behind its ranges.
+/// A plain instruction divides after its ranges.
 pub fn divides()
     ensures { Divides }
 {}

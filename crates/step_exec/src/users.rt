@@ -1,4 +1,4 @@
-//! What an instruction that a user's code does by itself comes to.
+//! The outcome of an instruction that a user's code does by itself.
 
 ghost use Rattle.std.specs.Prelude.{◌≡◌};
 ghost use Rattle.ia32_types.specs.Shape.{IsShaped};

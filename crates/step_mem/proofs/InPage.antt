@@ -1,4 +1,4 @@
--- Places of addresses behind one another in a page.
+-- Places of addresses one after another in a page.
 use Rattle.std.proofs.Common.{◌≡◌, ℕ, ◌+◌, ◌/◌, ◌%◌, ◌<◌, Option, Some, None, IsSome, arith}
 use Rattle.std.specs.FinMap.{FinMap, get}
 use Rattle.std.specs.Ordering.{nat_cmp}

@@ -189,7 +189,7 @@ same_dir kept own frames ram cr3 pse page dir room laid h =
     let apart : is_text (mode_by kept own) (at / 4096) ≡ false = rw frame (table_apart (mode_by kept own) pse dir p large h) in
     ap (by_word frames cr3 page dir) (shown_word kept own frames ram at room laid within one apart))))
 
--- where the directory word lies
+-- where the PDE lies
 dir_apart : (mode : Mode) (cr3 page : ℕ) → page < 2 ^ 20 → is_text mode (cr3 / 4096) ≡ false → is_text mode (dir_place cr3 page / 4096) ≡ false
 dir_apart mode cr3 page small h = let frame : dir_place cr3 page / 4096 ≡ cr3 / 4096 = omega arith in rw frame h
 
@@ -200,7 +200,7 @@ pub record WalksApart (kept : Option Text) (own : Own) (frames : ℕ) (ram : Lis
   pub root : is_text (mode_by kept own) (cr3 / 4096) ≡ false
   pub dir : cr3 / 4096 < frames → table_is_text (mode_by kept own) pse (word32 ram (dir_place cr3 page)) ≡ false
 
--- the directory word is the same
+-- the PDE is the same
 same_word : (kept : Option Text) (own : Own) (frames : ℕ) (ram : List ℕ) (cr3 page : ℕ) → 4096 * frames ≤ length ram → IsLaid kept frames → page < 2 ^ 20 → is_text (mode_by kept own) (cr3 / 4096) ≡ false → cr3 / 4096 < frames
     → word32 (shown_by kept frames ram) (dir_place cr3 page) ≡ word32 ram (dir_place cr3 page)
 same_word kept own frames ram cr3 page room laid small root in_frames =

@@ -103,7 +103,7 @@ page_met : (s : Space) (fetch : Bool) (page at : ℕ) (access : Access) → (pag
 unfolding page_uses
 page_met s fetch page at access = entry_by_met s fetch page at access (usable (get s.set page) access s.wp)
 
--- ---- one list of tests behind another
+-- ---- one list of tests after another
 
 -- what is met, or where that is ready what is met next
 abbrev next : Touch → Touch → Touch

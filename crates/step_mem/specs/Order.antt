@@ -1,4 +1,4 @@
--- In which order a translation is tested: the first test that holds tells what is met, and where none holds it is ready.
+-- In which order a translation is tested: the first test that holds says what is met, and where none holds it is ready.
 -- The numbers are those of the stops in docs/FORMATS.md, which gives the order in words.
 use Rattle.std.specs.Prelude.{◌≡◌, ℕ, ◌+◌, ◌-◌, ◌*◌, ◌/◌, ◌^◌, List, [], ◌∷◌, ◌++◌, Bool, true, false, ◌==◌, nat_lt, nat_le, ◌&&◌, ◌||◌, not, if◌then◌else◌, Option, Some, None}
 use Rattle.std.specs.FinMap.{get}
@@ -23,14 +23,14 @@ met_by (t ∷ ts) = if t.0 then t.1 else met_by ts
 
 -- ---- what the tables say of a page
 
--- the directory word of a page, and the word of the table that it names
+-- the PDE of a page, and the word of the table that it names
 abbrev pub directory_word : Tables → ℕ → ℕ
 directory_word s page = word32 s.ram (dir_place s.cr3 page)
 
 abbrev pub table_word : Tables → ℕ → ℕ
 table_word s page = word32 s.ram (word_place (directory_word s page) page)
 
--- the directory word maps a page of 4 MB by itself
+-- the PDE maps a page of 4 MB by itself
 abbrev pub maps_large : Tables → ℕ → Bool
 maps_large s page = is_large s.pse (directory_word s page)
 
@@ -57,7 +57,7 @@ last_place s page = if maps_large s page then dir_place s.cr3 page else word_pla
 
 -- ---- the tests
 
--- Of a fresh walk: 14 of the directory word, 2 of the directory, 5, 14 of the table word, 2, a denial, 13, 16.
+-- Of a fresh walk: 14 of the PDE, 2 of the directory, 5, 14 of the PTE, 2, a denial, 13, 16.
 abbrev pub walk_tests : Tables → (fetch : Bool) → ℕ → ℕ → Access → List Test
 walk_tests s fetch page at access =
     (is_text s.mode (s.cr3 / 4096), Stop stops.TableInText)

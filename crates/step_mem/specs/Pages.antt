@@ -1,4 +1,4 @@
--- A range, what translating a page of it goes by, and what that leaves.
+-- A range, what the translation of a page of it depends on, and what that leaves.
 use Rattle.std.specs.Prelude.{◌≡◌, ◌≢◌, ℕ, ◌+◌, ◌*◌, ◌≤◌, ◌<◌, ◌^◌, List, length, take}
 use Rattle.std.specs.FinMap.{FinMap, get}
 use Rattle.std.specs.Ordering.{nat_cmp}
@@ -22,7 +22,7 @@ pub record IsShortRange (at len : ℕ) : Type 0 where
   pub short : len ≤ 32
   pub fits : at + len ≤ 2 ^ 32
 
--- bytes one behind the other, from the place of an address on
+-- bytes one after the other, from the place of an address on
 abbrev pub bytes_from : Space → ℕ → ℕ → List ℕ
 bytes_from s at len = part s.ram (place s at) len
 

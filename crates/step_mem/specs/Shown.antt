@@ -20,7 +20,7 @@ shown_by (Some text) frames ram = laid text.bytes.now text.first frames ram
 abbrev pub shown : Guard → ℕ → List ℕ → List ℕ
 shown guard frames ram = shown_by guard.text.now frames ram
 
--- What a step doesn't reach: the frames that hold the text, as RAM has them, and what stands behind the guest's frames.
+-- What a step doesn't reach: the frames that hold the text, as RAM has them, and what stands after the guest's frames.
 unfoldable pub beyond : ℕ → ℕ → ℕ → List ℕ → List ℕ
 beyond first count frames ram = part ram (4096 * first) (4096 * count) ++ drop (4096 * frames) ram
 

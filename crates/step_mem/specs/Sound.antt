@@ -65,7 +65,7 @@ space g base ram state = space_at (g.entries base) ram state
 abbrev pub IsSoundOver : {B : Type 0} → translations.Ghosts B → B → List ℕ → StepState → Type 0
 IsSoundOver g base ram state = IsSound (g.entries base) (g.floor base) (g.stands base) ram state
 
--- An access leaves what a walk goes by and all memory that a step doesn't reach, and the rules of the step.
+-- An access leaves what a walk depends on and all memory that a step doesn't reach, and the rules of the step.
 abbrev pub StaysIn : StepState → StepState → List ℕ → List ℕ → Type 0
 StaysIn old new ram ram2 =
     (new.control ≡ old.control) × (new.guard ≡ old.guard)

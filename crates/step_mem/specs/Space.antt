@@ -45,6 +45,6 @@ one_more rest page = record rest { pages = rest.pages + 1; visited = rest.visite
 abbrev pub with_tables : Rest → List ℕ → Rest
 with_tables rest tables = record rest { tables = tables }
 
--- behind one page more, with other tables read
+-- after one page more, with other tables read
 abbrev pub after_page : Rest → ℕ → List ℕ → Rest
 after_page rest page tables = with_tables (one_more rest page) tables

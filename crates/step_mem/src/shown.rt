@@ -12,7 +12,7 @@ use crate::guard::Guard;
 use guest_ram::Ram;
 use paging::set_flags;
 
-/// Bytes one behind the other: those that stand in the original text, and then those in RAM.
+/// Bytes one after the other: those that stand in the original text, and then those in RAM.
 #[derive(Clone, Copy)]
 pub struct Bytes<'a> {
     pub text: &'a [u8],

@@ -26,7 +26,7 @@ pub struct Control {
     pub wp: bool,
 }
 
-/// The directory word maps a page of 4 MB by itself.
+/// The PDE maps a page of 4 MB by itself.
 fn is_large(pse: bool, dir: u32) -> bool
     ensures { result ≡ is_large pse dir }
 {

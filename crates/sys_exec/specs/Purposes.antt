@@ -9,7 +9,7 @@ use Rattle.sys_exec.specs.declared.segment.Purpose.{Purpose}
 use Rattle.sys_exec.specs.declared.segment.Purpose.TheVariants as purposes
 use Rattle.sys_exec.specs.Segment.{loading, data_tests, find_data, stack_tests, find_stack, return_tests, find_return, jump_tests, find_jump}
 
--- what a load comes to by the descriptor that was read, for each
+-- the result of a load, by the descriptor that was read, for each
 abbrev pub data_loading : ℕ → ℕ → ℕ → Descriptor → Work Refusal Loading
 data_loading cpl sel high d = do
   _ ← data_tests cpl sel d

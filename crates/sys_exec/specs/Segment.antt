@@ -111,7 +111,7 @@ find_jump cpu sel = do
   _ ← jump_tests cpu.cpl sel (descriptor_of pair.0 pair.1)
   gives (loading (sel / 4 * 4 + cpu.cpl % 4) pair.1 (descriptor_of pair.0 pair.1))
 
--- a task, which must be available
+-- a TSS, which must be available
 abbrev pub as_task : ℕ → Descriptor → Work Refusal Task
 as_task sel (forms.Task base limit present busy) = do
   _ ← ends_if (protection sel) busy
@@ -119,7 +119,7 @@ as_task sel (forms.Task base limit present busy) = do
   gives (record { sel = sel; base = base; limit = limit; loaded = true })
 as_task sel _ = refuses (protection sel)
 
--- the task register: type 1, a task of 16 bits, is not told; the task becomes busy
+-- the task register, TR: type 1, a TSS of 16 bits, is a stop; the TSS becomes busy
 unfoldable pub load_task : Cpu → ℕ → Work Refusal Task
 load_task cpu sel = do
   _ ← ends_if protection_0 (nat_lt sel 4)

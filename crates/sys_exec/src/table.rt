@@ -1,4 +1,4 @@
-//! The registers of the descriptor tables and of the task, and INVLPG.
+//! The registers of the descriptor tables, TR, and INVLPG.
 
 ghost use Rattle.std.specs.Prelude.{◌≡◌, ◌+◌, ◌*◌, ◌≤◌, ◌<◌, ◌^◌, OnOk};
 ghost use Rattle.paging.specs.Gives.{Gives};

@@ -34,7 +34,7 @@ equal a b e = elim (eqb_tells a b) [ inl is ↦ is.1 | inr isnt ↦ absurd (let 
 
 -- ---- what a delivery leaves
 
--- the stack in use at level 0, and the task's at level 3
+-- the stack in use at level 0, and the TSS's at level 3
 pub record IsStackOf (cpu : Cpu) (stack : Stack) : Type 0 where
   pub same : cpu.cpl ≡ 0 → stack.top ≡ slice_index cpu.regs.r 4
   pub named : cpu.cpl ≡ 0 → stack.sel ≡ (seg_of cpu 2).sel

@@ -42,7 +42,7 @@ past Q (Err e) f h = tt
 pub skip : {E A B : Type 0} {Q : B → Type 0} {w : Work E A} {f : A → Work E B} → Any w → ((x : A) → Ends Q (f x)) → Ends Q (w >>= f)
 skip {Q = Q} {w = w} {f = f} a h = record { at_each = λ s. past Q (w s) f h }
 
--- a test that holds behind it
+-- a test that holds after it
 of_test : {E : Type 0} (e : E) (test : Bool) → Ends (λ x. test ≡ true) (unless e test)
 of_test e true = record { at_each = λ s. refl }
 of_test e false = record { at_each = λ s. tt }

@@ -12,7 +12,7 @@ const TARGET: u32 = 0x8765_4321;
 
 const TOP: u32 = 0x1357_9BDF;
 
-/// What a branch comes to.
+/// The outcome of a branch.
 #[derive(Clone, Copy)]
 enum Comes {
     /// EIP and ESP then.
@@ -27,7 +27,7 @@ enum Comes {
     Wraps,
 }
 
-/// The bytes of the instruction, lowest first, the level, ESP, EAX, and what it comes to.
+/// The bytes of the instruction, lowest first, the level, ESP, EAX, and its outcome.
 type Row = (u64, u8, u32, u32, Comes);
 
 const RETURNS_AND_JUMPS: [Row; 25] = [
@@ -175,7 +175,7 @@ fn calls_push_where_they_come_back(rt: HostRuntime) {
     }
 }
 
-// DS is null: an operand that goes by it is denied before a range is translated, and no other.
+// DS is null: an operand that uses it is denied before a range is translated, and no other.
 const THROUGH_NULL: [Row; 9] = [
     (0x20FF, 0, 0x6FF0, OPERAND, Comes::Protects),
     (0x20FF, 3, 0x8FF0, 0xFFFF_FFFD, Comes::Protects),
@@ -208,7 +208,7 @@ const OPERAND_ENTRY: u32 = 0x2028;
 
 const STACK_ENTRY: u32 = 0x2020;
 
-/// EAX, ESP, what a call through EAX comes to at level 0, and both entries then.
+/// EAX, ESP, the outcome of a call through EAX at level 0, and both entries then.
 type Walk = (u32, u32, Comes, u32, u32);
 
 // The operand's page is translated first, then the stack's, and then the target is read.

@@ -105,7 +105,7 @@ const REFUSED: [Row; 61] = [
     (3, But::Table(0xEFF4)),
     (0, But::Word(GDT_ENTRY, GDT_ABSENT)),
     (3, But::Word(GDT_ENTRY, GDT_ABSENT)),
-    // data, of level 3, not present, a task, conforming
+    // data, of level 3, not present, a TSS, conforming
     (0, But::Word(GATE, 0x0010_5678)),
     (0, But::Word(GATE, 0x0018_5678)),
     (3, But::Word(GATE, 0x001B_5678)),
@@ -113,7 +113,7 @@ const REFUSED: [Row; 61] = [
     (0, But::Word(GATE, 0x0070_5678)),
     (0, But::Word(GATE, 0x0098_5678)),
     (0, But::Word(GATE, 0x0068_5678)),
-    // the task
+    // the TSS
     (3, But::NoTask),
     (3, But::TaskLimit(8)),
     (3, But::TaskLimit(0)),
@@ -131,7 +131,7 @@ const REFUSED: [Row; 61] = [
     (3, But::FarStack(0xC000)),
     (3, But::FarStack(0xFFF8)),
     (3, But::FarStack(0xA000)),
-    // level 3, code, not present, a task, one that expands down
+    // level 3, code, not present, a TSS, one that expands down
     (3, But::Word(TASK + 8, 0x0000_0020)),
     (3, But::Word(TASK + 8, 0x0000_0008)),
     (3, But::Word(TASK + 8, 0x0000_0050)),
@@ -163,7 +163,7 @@ fn deliveries_meet_their_tests(rt: HostRuntime) {
     }
 }
 
-// A range that passes the last address, which is told as such: the gate, a descriptor, the task, what is pushed.
+// A range that passes the last address, which is reported as such: the gate, a descriptor, the TSS, what is pushed.
 const WRAPS: [Row; 8] = [
     (0, But::Gates(0xFFFF_FEF4)),
     (0, But::Table(0xFFFF_FFF4)),

@@ -9,10 +9,10 @@ use descriptors::{Cpu, Task};
 use ia32_types::Stop;
 use sys_exec::SysEffect;
 
-/// The level, the limit of the global table, the selector, and what the load comes to.
+/// The level, the limit of the global table, the selector, and the outcome of the load.
 type Row = (u8, u16, u16, Load);
 
-/// What a load comes to.
+/// The outcome of a load.
 #[derive(Clone, Copy)]
 pub enum Load {
     /// The register is null.
@@ -21,7 +21,7 @@ pub enum Load {
     Loads(u16, u8, u8),
     /// This exception, with this error code.
     Raises(u8, u32),
-    /// A form of segment that is not told.
+    /// A form of segment that is not described.
     Form,
 }
 
@@ -34,7 +34,7 @@ pub fn effect_of(load: Load) -> SysEffect {
     }
 }
 
-// selector below 4; local table; limit; task or system; foreign or code; level below CPL or RPL; not present; loads
+// selector below 4; local table; limit; TSS or system; foreign or code; level below CPL or RPL; not present; loads
 const DATA: [Row; 40] = [
     (0, ALL, 0x00, Load::Null),
     (0, ALL, 0x03, Load::Null),
@@ -78,7 +78,7 @@ const DATA: [Row; 40] = [
     (0, 0x47, 0x43, Load::Loads(0x43, 3, 0xF3)),
 ];
 
-// selector below 4; local table; limit; task or system; foreign; RPL, code or level; not present; loads
+// selector below 4; local table; limit; TSS or system; foreign; RPL, code or level; not present; loads
 const STACK: [Row; 34] = [
     (0, ALL, 0x00, Load::Raises(13, 0)),
     (3, ALL, 0x03, Load::Raises(13, 0)),
@@ -116,7 +116,7 @@ const STACK: [Row; 34] = [
     (3, ALL, 0x43, Load::Loads(0x43, 3, 0xF3)),
 ];
 
-// selector below 4; local table; limit; task, system or foreign; data, RPL or level; not present; loads
+// selector below 4; local table; limit; TSS, system or foreign; data, RPL or level; not present; loads
 const JUMP: [Row; 36] = [
     (0, ALL, 0x00, Load::Raises(13, 0)),
     (3, ALL, 0x03, Load::Raises(13, 0)),
@@ -298,7 +298,7 @@ fn task_denied(entry: u32, code: u32, at: u32) -> Case {
     case
 }
 
-// LTR of CX, after which the task is busy.
+// LTR of CX, after which the TSS is busy.
 fn task_loaded() -> Case {
     let mut cpu = with(with_limit(cpu_at(0), 0x77), 1, 0x70);
     cpu.task.loaded = false;
@@ -356,12 +356,12 @@ fn tasks_meet_their_tests(rt: HostRuntime) {
         comes_out(&rt, alloc, k, &task_refused(*row));
     }
     comes_out(&rt, alloc, 0, &task_loaded());
-    // the descriptor is read, and the task made busy, by the supervisor
+    // the descriptor is read, and the TSS made busy, by the supervisor
     comes_out(&rt, alloc, 0, &task_denied(GDT_ABSENT, 0, 0x3070));
     comes_out(&rt, alloc, 0, &task_denied(GDT_READ_ONLY, 3, 0x3075));
 }
 
-/// The level, the table's base, CR0, what MOV of 30 or 43 to ES comes to, and CR2 then.
+/// The level, the table's base, CR0, the outcome of MOV of 30 or 43 to ES, and CR2 then.
 type Reach = (u8, u32, u32, SysEffect, u32);
 
 // The supervisor reads the table, and marks it, at each level.

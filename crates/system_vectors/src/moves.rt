@@ -86,7 +86,7 @@ fn selectors_are_told(rt: HostRuntime) {
     }
 }
 
-// An instruction whose operand in memory goes by DS, which is null.
+// An instruction whose operand in memory uses DS, which is null.
 fn through_null(bytes: [u8; 8]) -> Case {
     let cpu = with_segment(cpu_at(0), 3, null(0));
     refused(

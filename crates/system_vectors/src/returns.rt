@@ -60,7 +60,7 @@ fn outer(cpu: Cpu, before: Words, code: u16, stack: u16) -> Case {
 /// The level, the limit of the global table, CS, SS, and what comes.
 type Refused = (u8, u16, u16, u16, Load);
 
-// CS: selector below 4; local table; limit; task or
+// CS: selector below 4; local table; limit; TSS or
 // system; foreign; data, RPL or level; not present. Then SS, at the level that is returned to.
 const TESTS: [Refused; 51] = [
     (0, ALL, 0x00, 0x23, Load::Raises(13, 0)),
@@ -116,7 +116,7 @@ const TESTS: [Refused; 51] = [
     (0, ALL, 0x3B, 0x63, Load::Raises(12, 0x60)),
 ];
 
-// The image of the flags would be the test behind these.
+// The image of the flags would be the test after these.
 fn tested(row: Refused) -> Case {
     let (cpl, limit, code, stack, load) = row;
     let cpu = with_limit(at_top(cpl), limit);
@@ -361,7 +361,7 @@ const REACHES: [Reach; 7] = [
         },
         ABSENT,
     ),
-    // CS is tested before the eight bytes behind are read
+    // CS is tested before the next eight bytes are read
     (
         0,
         0xEFF4,

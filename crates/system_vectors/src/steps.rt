@@ -12,7 +12,7 @@ use std::process::Abort;
 use step_mem::{Guard, Text};
 use xlate_buffer::Buffer;
 
-/// What a step comes to.
+/// The outcome of a step.
 enum Comes {
     /// EIP goes on by so many bytes, and nothing is seen.
     Goes(u32),
@@ -21,7 +21,7 @@ enum Comes {
     Stops(Stop),
 }
 
-/// The bytes at EIP, as a word, and what their step comes to. AL is 0xA0.
+/// The bytes at EIP, as a word, and the outcome of their step. AL is 0xA0.
 static STEPS: [(u32, Comes); 5] = [
     // nop
     (0x90, Comes::Goes(1)),

@@ -65,7 +65,7 @@ fn tables_are_loaded(rt: HostRuntime) {
     }
 }
 
-/// EBP, what LGDT through it comes to, and CR2 then. Its six bytes are one range.
+/// EBP, the outcome of LGDT through it, and CR2 then. Its six bytes are one range.
 type Reach = (u32, SysEffect, u32);
 
 const REACHES: [Reach; 5] = [
@@ -90,7 +90,7 @@ const REACHES: [Reach; 5] = [
     (0xFFFF_FFFB, SysEffect::Stop(Stop::WrapAccess), 0xBAD0_0000),
 ];
 
-// EBP goes by SS, and DS may be null.
+// EBP uses SS, and DS may be null.
 fn reached(row: Reach) -> Case {
     let (at, effect, cr2) = row;
     let cpu = with(with_segment(cpu_at(0), 3, null(0)), 5, at);

@@ -24,7 +24,7 @@ pub const GDT: u32 = 0x3000;
 /// The interrupt descriptor table.
 pub const IDT: u32 = 0x4000;
 
-/// The task state segment.
+/// The task-state segment (TSS).
 pub const TASK: u32 = 0x5000;
 
 /// The top of the stack of level 0.
@@ -42,7 +42,7 @@ pub const ABSENT: u32 = 0xF000;
 
 /// Where the instruction begins.
 pub const EIP: u32 = 0x1234_5600;
-/// The limit of the global table, behind which two descriptors lie.
+/// The limit of the global table, past which two descriptors lie.
 pub const ALL: u16 = 0xAF;
 
 /// Its limit with those two.
@@ -65,16 +65,16 @@ const FLAT: [u32; 12] = [
 /// The two words of the other descriptors, from selector 68 on.
 const OTHER: [(u32, u32); 11] = [
     (0x5000_0067, 0x0000_8200), // 68 a local table
-    (0x5000_0067, 0x0000_8900), // 70 a task
-    (0x5000_0067, 0x0000_8B00), // 78 a busy task
-    (0x5000_0067, 0x0000_0900), // 80 a task that is not present
-    (0x5000_002B, 0x0000_8100), // 88 a task of 16 bits
+    (0x5000_0067, 0x0000_8900), // 70 a TSS
+    (0x5000_0067, 0x0000_8B00), // 78 a busy TSS
+    (0x5000_0067, 0x0000_0900), // 80 a TSS that is not present
+    (0x5000_002B, 0x0000_8100), // 88 a TSS of 16 bits
     (0x0000_FFFF, 0x00CF_9600), // 90 data that expands down
     (0x0000_FFFF, 0x00CF_9E00), // 98 conforming code
-    (0x5000_002B, 0x0000_8300), // A0 a busy task of 16 bits
+    (0x5000_002B, 0x0000_8300), // A0 a busy TSS of 16 bits
     (0x0008_0000, 0x0000_8C00), // A8 a call gate
-    (0x5000_0067, 0x0000_0B00), // B0 a busy task that is not present
-    (0x5000_002B, 0x0000_0100), // B8 a task of 16 bits that is not present
+    (0x5000_0067, 0x0000_0B00), // B0 a busy TSS that is not present
+    (0x5000_002B, 0x0000_0100), // B8 a TSS of 16 bits that is not present
 ];
 
 /// What is done: the instruction that begins the bytes, or an event with its error code, by vector 0x21; or such an
@@ -345,7 +345,7 @@ pub fn refused(cpu: Cpu, before: Words, bytes: [u8; 8], effect: SysEffect) -> Ca
     }
 }
 
-/// The processor behind an instruction of so many bytes.
+/// The processor after an instruction of so many bytes.
 pub fn past(cpu: Cpu, len: u32) -> Cpu {
     let mut then = cpu;
     then.regs.eip = cpu.regs.eip.wrapping_add(len);

@@ -123,7 +123,7 @@ at_place s b list at set le h =
 pub untouched : (s : Setting) (b : State) (list : List Choice) (at : ℕ) (set : Set) → at ≤ length list → AreBelow b.step (take at list) → AreFrom (b.step + 1) (drop at list) → chosen s b 0 list set ≡ Ok set
 untouched s b list at set le below from = at_place s b list at set le below ∙ none_due s b (drop at list) at set from
 
--- the next choice isn't of this step, so none behind it is
+-- the next choice isn't of this step, so none after it is
 pub from_next : (step at : ℕ) (list : List Choice) → AreFrom step (drop at list) → due step (slice_get list at) ≡ None → AreFrom (step + 1) (drop at list)
 from_next step at list h none = by (slice_get list at) refl none
   where
@@ -137,7 +137,7 @@ from_next step at list h none = by (slice_get list at) refl none
 
 -- ---- the next choice is made
 
--- the set that a state holds does not tell
+-- the set that a state holds makes no difference
 made_same : (s : Setting) (b : State) (kind : ChoiceKind) (page : ℕ) (x set : Set) → made s (with_set b x) kind page set ≡ made s b kind page set
 made_same s b Drop page x set = refl
 made_same s b Empty page x set = refl

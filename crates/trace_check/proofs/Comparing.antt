@@ -58,7 +58,7 @@ all_of text whole m k given none =
       | inr some ↦ absurd (not_both m.wrong none some)
     ]
 
--- the difference that is told is that of the whole
+-- the difference that is reported is that of the whole
 pub compared : (text whole : List ℕ) (m : Matched) (r : Option ℕ) → Known text whole m → DiffersAs m r → differing 1 (lines whole) (lines text) ≡ r
 compared text whole m None k h = ap (λ (l : List ℕ). differing 1 (lines l) (lines text)) (all_of text whole m k h.0 h.1) ∙ none_differs 1 (lines text)
 compared text whole m (Some line) k h =
@@ -133,7 +133,7 @@ pub then_from : (text first second : List ℕ) (start mid m : Matched) (r : Resu
 then_from text first second start mid m r is before ok failed rose matched =
     known_then text first second mid m r (subst (λ (x : Matched). Appends (Some (taken_by x)) (Some (taken_by mid)) first) is before) ok failed rose matched
 
--- a run whose text goes on behind a failure
+-- a run whose text goes on after a failure
 pub failed_from : (text front rest : List ℕ) (first m : Matched) → first ≡ fresh_of text → AppendsFront (Some (taken_by first)) (Some (taken_by m)) front → Rose first.faults m.faults → IsMatched m → Known text (front ++ rest) m
 failed_from text front rest first m is h rose matched =
     let h = subst (λ (x : Matched). AppendsFront (Some (taken_by x)) (Some (taken_by m)) front) is h in

@@ -63,7 +63,7 @@ with_byte b n ((x ∷ line) ∷ xs) [] p q = ap (λ (e : Bool). cond (e && false
 with_byte b n ((x ∷ line) ∷ xs) ([] ∷ ys) p q = absurd q
 with_byte b n ((x ∷ line) ∷ xs) ((y ∷ other) ∷ ys) p q = ap (λ (e : Bool). cond (e && bytes_eq (x ∷ line) (y ∷ other)) (differing (n + 1) xs ys) (Some n)) (eqb_self b)
 
--- ---- two texts that part behind a common front
+-- ---- two texts that part after a common front
 
 -- they part at once
 abbrev Part : List ℕ → List ℕ → Type 0

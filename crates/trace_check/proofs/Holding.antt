@@ -36,7 +36,7 @@ get_cleared words page e = get_entries words page ∙ ap (entry_in page) e
 pub get_same : (old new : List ℕ) (page : ℕ) → get_or new page 0 ≡ get_or old page 0 → get (entries_of new) page ≡ get (entries_of old) page
 get_same old new page e = get_entries new page ∙ ap (entry_in page) e ∙ sym (get_entries old page)
 
--- a page behind all words has none
+-- a page past all words has none
 behind : (words : List ℕ) (page : ℕ) → length words ≤ page → get_or words page 0 ≡ 0
 behind [] page le = refl
 behind (w ∷ words) zero le = absurd (omega arith)

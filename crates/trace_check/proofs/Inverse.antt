@@ -70,7 +70,7 @@ pub word64-behind : (front rest : List ℕ) (a : ℕ) → length front ≡ a →
 unfolding word64 part
 word64-behind front rest a e = ap (λ (x : List ℕ). from_le_bytes w64 (take 8 x)) (drop_at front rest a e)
 
--- the fields of a choice that stands behind other bytes
+-- the fields of a choice that stands after other bytes
 record ChoiceAt (bytes : List ℕ) (a : ℕ) (c : Choice) : Type 0 where
   room : a + 16 ≤ length bytes
   step : word64 bytes a ≡ c.step

@@ -1,4 +1,4 @@
--- The first of some notes, with one more told.
+-- The first of some notes, with one more reported.
 use Rattle.std.proofs.Common.{◌≡◌, ℕ, ◌<◌, ◌≤◌, Bool, true, false, ltb, List, [], ◌∷◌, ◌++◌, length, take, sym, ap, ◌∙◌, arith, inl, inr}
 use Rattle.std.proofs.lemmas.Bool.{lt-ltb, le-ltb, ltb-false, ltb-true, cases_lt}
 use Rattle.std.proofs.lemmas.List.{take_all, take-append-le, length-take, length-append, length-map, map-append}
@@ -11,7 +11,7 @@ use Rattle.trace_check.specs.NotesKept.{KeptChoices, AreKept}
 abbrev kept_as : List Choice → Bool → KeptChoices
 kept_as list more = record { list = list; more = more }
 
--- what is told of the first m of some choices
+-- what is claimed of the first m of some choices
 record Firsts (m : ℕ) (kept : KeptChoices) (all : List Choice) : Type 0 where
   list : kept.list ≡ take m all
   more : kept.more ≡ ltb m (length all)

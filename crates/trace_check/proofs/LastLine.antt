@@ -51,7 +51,7 @@ left_grows n i text = grows n (take_while is_ascii_digit (drop i text))
 
 -- ---- the last line
 
--- the last place behind a newline that something follows
+-- the last place after a newline that something follows
 abbrev pub first_or : Option ℕ → ℕ → List ℕ → Option ℕ
 first_or (Some p) b rest = Some (p + 1)
 first_or None b [] = None
@@ -108,7 +108,7 @@ ends_none i start text le = ap (λ (l : List ℕ). place_of (cut l) i start) (dr
 
 -- ---- what a function's call says
 
--- no number is told, one that is too large, or the stop by it
+-- no number is reported, one that is too large, or the stop by it
 pub none_by : (n : ℕ) (line : List ℕ) → n < steps_told line → stop_told n line ≡ None
 unfolding stop_told
 none_by n line lt = ap (λ (b : Bool). cond b (find (λ stop. bytes_eq line (end_line (steps_told line) (Stopped stop))) monitor_stops) None) (lt-leb (steps_told line) n lt)

@@ -1,4 +1,4 @@
--- The course by the choices that a run's notes tell is that run.
+-- The course by the choices that a run's notes report is that run.
 use Rattle.std.proofs.Common.{◌≡◌, ℕ, suc, ◌+◌, ◌-◌, ◌<◌, ◌≤◌, ◌^◌, Bool, true, false, cond, ◌||◌, List, [], ◌∷◌, ◌++◌, Option, Some, None, Result, Ok, refl, sym, ap, ◌∙◌, arith, inl, inr}
 use Rattle.std.specs.Prelude.{◌==◌}
 use Rattle.std.specs.List.{list_any}
@@ -38,7 +38,7 @@ use Rattle.trace_check.specs.RunLaws.{NotesAreJudged}
 use Rattle.trace_check.proofs.Differing.{none_differs}
 use Rattle.trace_check.proofs.Telling.{steps_back, told_of, stop_back, text_last, text_before}
 
--- ---- what the notes' choices make is the set that the notes tell
+-- ---- what the notes' choices make is the set that the notes report
 
 abbrev none_set : Set
 none_set = empty

@@ -1,4 +1,4 @@
--- The choices that a run's notes tell have the form of a file.
+-- The choices that a run's notes report have the form of a file.
 use Rattle.std.proofs.Common.{◌≡◌, ℕ, suc, ◌<◌, ◌≤◌, ◌^◌, true, List, [], ◌∷◌, length, refl, ap, arith}
 use Rattle.std.specs.Prelude.{nat_le}
 use Rattle.std.specs.List.{All}
@@ -14,7 +14,7 @@ as_many : (notes : List Note) → length (choices_of notes) ≡ length notes
 as_many [] = refl
 as_many (note ∷ notes) = ap suc (as_many notes)
 
--- what holds of each note holds of the first, and of each behind it
+-- what holds of each note holds of the first, and of each after it
 pub first_of : (P : Note → Type 0) (note : Note) (notes : List Note) → All P (note ∷ notes) → P note
 first_of P note notes h = h 0 note (omega arith)
 

@@ -1,4 +1,4 @@
--- What the last line of a run's text tells, and where it stands in the text.
+-- What the last line of a run's text reports, and where it stands in the text.
 use Rattle.std.proofs.Common.{◌≡◌, ℕ, ◌+◌, ◌*◌, ◌-◌, ◌/◌, ◌%◌, ◌<◌, ◌≤◌, ◌^◌, Bool, true, false, cond, eqb, List, [], ◌∷◌, ◌++◌, Option, Some, None, refl, sym, ap, subst, ◌∙◌, arith, inl, inr, append_assoc}
 use Rattle.std.specs.Prelude.{◌==◌, ◌&&◌, nat_le, find, take_while, decimal, codes}
 use Rattle.std.specs.Str.{bytes_eq}
@@ -46,7 +46,7 @@ more_back n ds le h rest =
 reads_back : (n : ℕ) → n < 2 ^ 64 → ReadsBack n (decimal n)
 reads_back n lt = decimal_by_steps ReadsBack one_back more_back n lt
 
--- what stands behind the number
+-- what stands after the number
 abbrev behind_number : End → List ℕ
 behind_number end = end_text end ++ codes "\n"
 
@@ -83,7 +83,7 @@ find_same : (p q : Stop → Bool) → ((x : Stop) → p x ≡ q x) → (xs : Lis
 find_same p q is [] = refl
 find_same p q is (x ∷ xs) = ap (λ (e : Bool). cond e (Some x) (find p xs)) (is x) ∙ ap (λ (o : Option Stop). cond (q x) (Some x) o) (find_same p q is xs)
 
--- the stop that a last line tells, where it is one of a monitor's own
+-- the stop that a last line reports, where it is one of a monitor's own
 abbrev pub told_of : End → Option Stop
 told_of Bound = None
 told_of (Stopped stop) = cond (is_extra_stop stop) (Some stop) None
@@ -118,7 +118,7 @@ stop_back n k end le lt =
     ∙ find_same (λ (stop : Stop). bytes_eq line (end_line k (Stopped stop))) (λ (stop : Stop). bytes_eq (behind_number end) (behind_number (Stopped stop))) (λ x. lines_same k end (Stopped x)) monitor_stops
     ∙ found_there end
 
--- ---- the lines of a text that goes on behind a newline
+-- ---- the lines of a text that goes on after a newline
 
 lines_none : lines [] ≡ []
 unfolding lines

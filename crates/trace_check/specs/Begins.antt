@@ -24,7 +24,7 @@ use Rattle.trace_check.specs.Courses.{Course, course_of}
 use Rattle.trace_check.specs.Judged.{unless_differs, judged_whole}
 use Rattle.trace_check.specs.Replayed.{ReplayFails}
 
--- the set that a machine with a whole set goes by
+-- the set that a machine with a whole set uses
 abbrev pub whole_entries : Set → Set
 whole_entries set = set
 
@@ -52,7 +52,7 @@ abbrev pub end_verdict : End → Stop → ℕ → Verdict
 end_verdict Bound stop line = YesBefore stop
 end_verdict (Stopped other) stop line = Differs line
 
--- the verdict on the front of a text, whose last line tells this stop
+-- the verdict on the front of a text, whose last line reports this stop
 abbrev pub before_by : Stop → List ℕ → Course → CourseEnd → Verdict
 before_by stop front c (BadAt at) = BadEntry at
 before_by stop front c (Ended end) = unless_differs (differing 1 (lines (lines_of (trace_of c.reports))) (lines front)) (end_verdict end stop (line_behind front))

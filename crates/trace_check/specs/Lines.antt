@@ -1,4 +1,4 @@
--- Texts, line by line, and the stop that a text's last line tells.
+-- Texts, line by line, and the stop that a text's last line reports.
 use Rattle.std.specs.Prelude.{ℕ, ◌+◌, ◌==◌, nat_le, if◌then◌else◌, List, [], ◌∷◌, drop, Option, Some, None, find}
 use Rattle.std.specs.List.{take_while}
 use Rattle.std.specs.Str.{bytes_eq}
@@ -46,11 +46,11 @@ monitor_stops = stops.TextTouched ∷ stops.WedgeTouched ∷ stops.LowTouched �
 abbrev pub number_of : List ℕ → ℕ
 number_of text = decimal_after 0 (take_while is_ascii_digit text)
 
--- the number that stands in the place of the count of steps, behind "end steps "
+-- the number that stands in the place of the count of steps, after "end steps "
 abbrev pub steps_told : List ℕ → ℕ
 steps_told line = number_of (drop 10 line)
 
--- the stop that the line tells, behind at most n steps
+-- the stop that the line reports, after at most n steps
 unfoldable pub stop_told : ℕ → List ℕ → Option Stop
 stop_told n line =
     if nat_le (steps_told line) n then find (λ stop. bytes_eq line (end_line (steps_told line) (Stopped stop))) monitor_stops else None

@@ -23,11 +23,11 @@ use Rattle.trace_check.specs.NotesKept.{KeptChoices, AreKept}
 use Rattle.trace_check.specs.Runs.{StopsTold}
 use Rattle.trace_check.specs.Proved.{IsProved}
 
--- a page that is dropped behind the last step is one that the set which this step left holds
+-- a page that is dropped after the last step is one that the set which this step left holds
 abbrev pub AreHeldBehind : State → List Note → Type 0
 AreHeldBehind last notes = (page : ℕ) → list_any (is_dropped last.step page) notes ≡ true → IsSome (get last.set page)
 
--- The notes tell the translations that each step of a run went by, the one that stops included, and are kept.
+-- The notes report the translations that each step of a run used, the one that stops included, and are kept.
 pub record TellsSets (image : Image) (script : Events) (frames : ℕ) (sets : List Set) (last : State) (end : End) (kept : KeptChoices) (notes : List Note) : Type 0 where
   pub are_kept : AreKept kept notes
   pub told : AreTold (wedge image script frames) (boot (wedge image script frames)) sets notes

@@ -17,7 +17,7 @@ use Rattle.trace_check.specs.ChoicesTold.{choices_of}
 use Rattle.trace_check.specs.Judged.{judged}
 use Rattle.trace_check.specs.Runs.{IsRunText, AreItemsBefore, verdict_of, StopsTold}
 
--- Where the judgement is yes, the run of the bare machine that goes by the choices has the text.
+-- Where the judgement is yes, the run of the bare machine that follows the choices has the text.
 abbrev pub YesIsARun : Type 0
 YesIsARun =
     (image : Image) (script : Events) (frames n : ℕ) (list : List Choice) (text : List ℕ)
@@ -30,7 +30,7 @@ YesBeforeIsSteps =
     (image : Image) (script : Events) (frames n : ℕ) (list : List Choice) (text : List ℕ) (stop : Stop)
     → judged image script frames n list text ≡ YesBefore stop → AreItemsBefore image script frames n list stop text
 
--- The text of a run under a monitor's rules is judged yes by the choices that its notes tell, or yes before a stop of the
+-- The text of a run under a monitor's rules is judged yes by the choices that its notes report, or yes before a stop of the
 -- monitor's own. (A bound is at most 2 ^ 40, as of every run.)
 abbrev pub NotesAreJudged : Type 0
 NotesAreJudged =
@@ -41,7 +41,7 @@ NotesAreJudged =
     → StopsTold (wedge image script frames) last notes end
     → judged image script frames n (choices_of notes) (text_of (trace_of reports) last.step end) ≡ verdict_of end
 
--- The choices that a run's notes tell have the form of a file, where they are few enough.
+-- The choices that a run's notes report have the form of a file, where they are few enough.
 abbrev pub NotesAreChoices : Type 0
 NotesAreChoices =
     (m : Setting) (old : State) (sets : List Set) (last : ℕ) (notes : List Note)

@@ -29,7 +29,7 @@ abbrev pub StopsBy : Setting → List Choice → State → End → Type 0
 StopsBy m list last Bound = Unit {0}
 StopsBy m list last (Stopped stop) = (set : Set) × (chosen m last 0 list last.set ≡ Ok set) × (step_of m last set ≡ Halts stop)
 
--- the text is that of the run of at most n steps of the bare machine which goes by these choices
+-- the text is that of the run of at most n steps of the bare machine which follows these choices
 pub record IsRunText (image : Image) (script : Events) (frames n : ℕ) (list : List Choice) (text : List ℕ) : Type 0 where
   pub count : ℕ
   pub end : End
@@ -37,8 +37,8 @@ pub record IsRunText (image : Image) (script : Events) (frames n : ℕ) (list : 
   pub by_choices : AreChosen (bare image script frames) list (boot (bare image script frames)) given.sets
   pub stops : StopsBy (bare image script frames) list given.last end
 
--- some steps of the bare machine, by these choices, have these items, and the text goes on with a last line that tells the
--- stop behind them
+-- some steps of the bare machine, by these choices, have these items, and the text goes on with a last line that reports the
+-- stop after them
 pub record AreItemsBefore (image : Image) (script : Events) (frames n : ℕ) (list : List Choice) (stop : Stop) (text : List ℕ) : Type 0 where
   pub sets : List Set
   pub reports : List Report
@@ -55,7 +55,7 @@ abbrev pub verdict_of : End → Verdict
 verdict_of Bound = Yes
 verdict_of (Stopped stop) = cond (is_extra_stop stop) (YesBefore stop) Yes
 
--- the step that stops goes by the set that the notes tell
+-- the step that stops uses the set that the notes report
 abbrev pub StopsTold : Setting → State → List Note → End → Type 0
 StopsTold m last notes Bound = Unit {0}
 StopsTold m last notes (Stopped stop) = step_of m last (set_told notes last.step last.set) ≡ Halts stop

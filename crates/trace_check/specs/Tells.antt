@@ -16,7 +16,7 @@ abbrev pub IsNumber : ℕ → Option ℕ → Type 0
 IsNumber value None = 2 ^ 40 < value
 IsNumber value (Some n) = n ≡ value
 
--- the last line tells this stop, or none
+-- the last line reports this stop, or none
 abbrev pub TellsAs : List ℕ → ℕ → Option Told → Type 0
 TellsAs text n None = stop_told n (last_of (lines text)) ≡ None
 TellsAs text n (Some told) =

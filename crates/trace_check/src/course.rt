@@ -98,7 +98,7 @@ fn make<C: Cache>(machine: &mut Bare<C>, choice: &Choice) -> bool
     }
 }
 
-/// Makes the choices of the machine's step, the first of which stands at a place of the list. The place of those behind
+/// Makes the choices of the machine's step, the first of which stands at a place of the list. The place of those after
 /// them, or that of the first that can't be made.
 fn make_all<C: Cache>(machine: &mut Bare<C>, list: &[Choice], at: usize) -> Result<usize, u32>
     requires kept { IsKept machine.old.frames (state_of C.entries machine.old) }

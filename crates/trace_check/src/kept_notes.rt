@@ -32,7 +32,7 @@ impl Model for KeptNotes {
 }
 
 impl KeptNotes {
-    /// No note was told. Room for all that are kept is taken here.
+    /// No note was reported. Room for all that are kept is taken here.
     pub fn new(alloc: Global) -> Result<KeptNotes, AllocError>
         ensures none { IfOk result (λ kept. AreKept kept []) }
     {
@@ -42,7 +42,7 @@ impl KeptNotes {
         })
     }
 
-    /// The choices that the notes tell; None exactly where more were told than a file has room for.
+    /// The choices that the notes report; None exactly where more were reported than a file has room for.
     pub fn choices(&self) -> Option<&Choices>
         ensures told { (notes : List Note) → AreKept self.now notes
             → MatchOption result (most_choices < length notes) (λ choices. (length notes ≤ most_choices) × (choices.now.list ≡ choices_of notes)) }

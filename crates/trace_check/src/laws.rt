@@ -5,7 +5,7 @@ ghost use Rattle.trace_check.specs.RunLaws.{YesIsARun, YesBeforeIsSteps, NotesAr
 use machine_model::steps_agree;
 
 /// Where a text is judged yes, a run of the bare machine has it: before each step its set of translations is one that the
-/// bare machine may go by. Where it is judged yes before a stop, steps of the bare machine have its items; the stop isn't
+/// bare machine may use. Where it is judged yes before a stop, steps of the bare machine have its items; the stop isn't
 /// judged.
 pub fn judgements_are_runs()
     ensures yes { YesIsARun }
@@ -16,7 +16,7 @@ pub fn judgements_are_runs()
 /// own, it is right before that stop.
 pub fn notes_are_judged()
     ensures judged { NotesAreJudged }
-    // They have the form that a replay asks for.
+    // They have the form that a replay needs.
     ensures form { NotesAreChoices }
 {
     steps_agree();

@@ -1,4 +1,4 @@
-//! Certificates: the translations that a run went by, as a list of changes of its set, in a file and in a run of the bare
+//! Certificates: the translations that a run used, as a list of changes of its set, in a file and in a run of the bare
 //! machine.
 #![tactic(auto)]
 

@@ -91,7 +91,7 @@ impl<'a> Matching<'a> {
     }
 }
 
-/// The line, counted from 1, of the place behind a text.
+/// The line, counted from 1, of the place after a text.
 pub fn line_behind(text: &[u8]) -> u64
     ensures { result ≡ line_behind text.now }
 {

@@ -30,7 +30,7 @@ use wedge_core::Guest;
 const POOL: u32 = 512;
 
 /// Runs an image's patched text for at most so many steps, puts the text of its trace, and keeps its notes. None were
-/// told before.
+/// reported before.
 pub fn run_noted<H: Host, O: Sink>(
     alloc: Global,
     image: &Checked,

@@ -1,4 +1,4 @@
-//! Whether the run that goes by some choices has a text.
+//! Whether the run that follows some choices has a text.
 
 ghost use Rattle.std.specs.Prelude.{◌≡◌, ◌≤◌, ◌^◌, true};
 ghost use Rattle.board.specs.ScriptForm.{is_script};
@@ -64,7 +64,7 @@ fn end_alone(
     }
 }
 
-/// The verdict on a text that differs at a line: a choice that can't be made, behind it, comes first.
+/// The verdict on a text that differs at a line: a choice that can't be made, after it, comes first.
 fn differs_unless_bad(
     alloc: Global,
     image: &Checked,
@@ -107,7 +107,7 @@ fn end_verdict(end: End, stop: Stop, line: u64) -> Verdict
 }
 
 /// What the course of the choices says of a text, or the line at which the text differs before the course's end. With a stop
-/// the text is what stands before a last line that tells this stop of a monitor's own.
+/// the text is what stands before a last line that reports this stop of a monitor's own.
 fn compare(
     machine: &mut Bare<WholeSet>,
     script: &Script,
@@ -151,7 +151,8 @@ fn compare(
     }
 }
 
-/// The judgement of a text. With a stop the text is what stands before a last line that tells this stop of a monitor's own.
+/// The judgement of a text. With a stop the text is what stands before a last line that reports this stop of a monitor's
+/// own.
 fn judge(
     alloc: Global,
     image: &Checked,

@@ -1,4 +1,4 @@
-//! The last line of a text, and the stop that it tells.
+//! The last line of a text, and the stop that it reports.
 
 ghost use Rattle.std.specs.Prelude.{◌≡◌, ◌<◌, ◌≤◌, ◌^◌, length, drop, find};
 ghost use Rattle.std.specs.Str.{bytes_eq};
@@ -26,7 +26,7 @@ const MONITOR_STOPS: [Stop; 8] = [
     Stop::CodeIsTable,
 ];
 
-/// What the last line of a text tells of a run that a monitor ended: after how many steps and at which stop, and where
+/// What the last line of a text reports of a run that a monitor ended: after how many steps and at which stop, and where
 /// the line begins.
 #[derive(Clone, Copy)]
 pub struct Told {
@@ -49,7 +49,7 @@ fn last_line(text: &[u8]) -> usize
     start
 }
 
-/// The line behind its first ten bytes.
+/// The line after its first ten bytes.
 fn behind_ten(line: &[u8]) -> &[u8]
     ensures { result.now ≡ drop 10 line.now }
 {
@@ -107,7 +107,7 @@ fn first_stop(line: &[u8], steps: u64, stops: &[Stop]) -> Option<Stop>
         .find(|stop| is_end_line(line, steps, *stop))
 }
 
-/// The stop of a monitor's own that the last line of a text tells, behind at most n steps.
+/// The stop of a monitor's own that the last line of a text reports, after at most n steps.
 pub fn read_told(text: &[u8], n: u64) -> Option<Told>
     requires { n ≤ 2 ^ 40 }
     ensures { TellsAs text.now n result }

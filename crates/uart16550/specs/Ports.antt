@@ -26,7 +26,7 @@ divisor_latch_access r = bit r.line_control 7
 abbrev pub waits : Registers → Bool
 waits r = nat_lt 0 (length r.kept)
 
--- the port asks for an interrupt
+-- the port requests an interrupt
 abbrev pub interrupt_line : Registers → Bool
 interrupt_line r = r.interrupt_enable && waits r
 
@@ -67,7 +67,7 @@ written r port v =
     else (Done, r)
 
 -- Reads, by register. Offset 0, the receiver buffer register: the oldest byte, or 0 where there is none. Offset 2, the
--- interrupt identification register: 4 says that received data is there, and 1 that nothing asks for an interrupt.
+-- interrupt identification register: 4 says that received data is there, and 1 that nothing requests an interrupt.
 -- Offset 5, the line status register: the transmitter is always empty. Offset 6, the modem status register: carrier
 -- detect, data set ready and clear to send are always there. A port that isn't this one's reads all ones
 unfoldable pub read_at : Registers → ℕ → ℕ

@@ -191,7 +191,7 @@ impl Uart {
         }
     }
 
-    /// Whether the port asks for an interrupt.
+    /// Whether the port requests an interrupt.
     pub fn line(&self) -> bool
         ensures { result ≡ interrupt_line self.now }
     {

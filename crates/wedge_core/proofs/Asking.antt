@@ -104,7 +104,7 @@ after_few visited (Some r) = choice ((r.at + r.len - 1) / 4096 == r.at / 4096)
         let y = length-append (visited ++ (r.at / 4096) ∷ []) (((r.at + r.len - 1) / 4096) ∷ []) in
         omega (arith, x, y)
 
--- what came before a range is told by what came with it
+-- what came before a range follows from what came with it
 after_cancel : (xs ys : List ℕ) (o : Option Range) → went_after xs o ≡ went_after ys o → xs ≡ ys
 unfolding went_after went_by
 after_cancel xs ys None e = e

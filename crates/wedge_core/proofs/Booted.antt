@@ -1,4 +1,4 @@
--- The memory in which a guest starts, behind which its pool was made.
+-- The memory in which a guest starts, past which its pool was made.
 use Rattle.std.proofs.Common.{◌≡◌, ℕ, ◌*◌, ◌≤◌, List, length, take, replicate, refl, sym, ap, ◌∙◌, inl, arith}
 use Rattle.std.proofs.Math.ListN.{length-replicate}
 use Rattle.std.proofs.lemmas.List.{length-append, length-drop, length-take}
@@ -39,7 +39,7 @@ text_there image frames fits =
     part-with_part_below (with_part z 0x100000 image.text) (4096 * data_frame image) image.init 0x100000 (length image.text) (omega (arith, with_text, fits)) (omega arith)
     ∙ part-with_part z 0x100000 image.text (length image.text) (omega (arith, long, fits)) refl
 
--- a pool behind the frames leaves them as they were
+-- a pool past the frames leaves them as they were
 pub front_stands : (image : Image) (frames count : ℕ) (old new : List ℕ) → SameOutside frames count old new → take (frames * 4096) old ≡ boot_ram image frames → take (4096 * frames) new ≡ boot_ram image frames
 front_stands image frames count old new same is =
     let e : 4096 * frames ≡ frames * 4096 = omega arith in

@@ -32,7 +32,7 @@ use Rattle.wedge_core.proofs.Going.{DropClashes, StepCarries, eventful}
 use Rattle.wedge_core.proofs.Passed.{CarriesPast}
 
 module _ {S : Type 0} (shows : shadows.Ghosts S) where
-  -- all is known, where the next step goes by this set
+  -- all is known, where the next step uses this set
   abbrev pub CarriedWith : Setting → S → List ℕ → Set → List Taken → State → Type 0
   CarriedWith m s memory kept steps b = IsCarriedBy shows m steps b kept s memory
 

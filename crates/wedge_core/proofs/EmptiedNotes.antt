@@ -1,4 +1,4 @@
--- Notes of the steps before which all translations were dropped, as they are told one behind the other.
+-- Notes of the steps before which all translations were dropped, as they are reported one after the other.
 use Rattle.std.proofs.Common.{◌≡◌, ℕ, ◌+◌, ◌≤◌, ◌<◌, Bool, true, false, ◌==◌, ◌&&◌, ◌||◌, cond, nat_le, List, [], ◌∷◌, ◌++◌, length, refl, sym, ap, subst, ◌∙◌, inl, inr, arith, length-append}
 use Rattle.std.specs.List.{list_any, filter, All}
 use Rattle.std.proofs.lemmas.Bool.Decides.{eqb_tells}
@@ -89,7 +89,7 @@ count_other : (b : Bool) (s n : ℕ) → (n == s) ≡ false → notes_of s (empt
 count_other true s n o = ap (λ (x : Bool). length (cond {A = List Note} x (emptied_at n ∷ []) [])) o
 count_other false s n o = refl
 
--- none is of a step behind
+-- none is of a later step
 none_above : (n s : ℕ) (notes : List Note) → n < s → All (IsUpTo n) notes → notes_of s notes ≡ 0
 none_above n s [] lt h = refl
 none_above n s (x ∷ xs) lt h =
@@ -138,7 +138,7 @@ go_next b first now notes le h =
       next = (let join = count_join (now + 1) notes (emptied_if b (now + 1)) in let one = count_if b (now + 1) (now + 1) in omega (arith, join, one, above));
     }
 
--- nothing is told of some steps
+-- nothing is reported of some steps
 pub so_far_later : (first now later : ℕ) (notes : List Note) → now < later → SoFar first now notes → SoFar first later notes
 so_far_later first now later notes lt h = record {
   ordered = h.ordered;
@@ -150,7 +150,7 @@ so_far_later first now later notes lt h = record {
 pub tried_none : (first now : ℕ) (notes : List Note) → SoFar first now notes → TriedNotes first now notes
 tried_none first now notes h = record { ordered = h.ordered; until = h.until; few = h.few }
 
--- ---- no page is told alone
+-- ---- no page is reported alone
 
 no_pages : (n s page : ℕ) (notes : List Note) → All (IsUpTo n) notes → filter (is_dropped s page) notes ≡ []
 no_pages n s page [] h = refl
@@ -175,7 +175,7 @@ are_pages n notes h = All-weaker (IsUpTo n) IsPage (note_page n) notes h
 pub steps_until : (n : ℕ) (notes : List Note) → All (IsUpTo n) notes → All (λ (note : Note). step_in note ≤ n) notes
 steps_until n notes h = All-weaker (IsUpTo n) (λ (note : Note). step_in note ≤ n) (step_up_to n) notes h
 
--- ---- what they tell of a set
+-- ---- what they report of a set
 
 -- without single pages a set stays or is empty
 without_none : (n s : ℕ) (set : Set) (notes : List Note) → All (IsUpTo n) notes → without s set notes ≡ set
@@ -193,7 +193,7 @@ none_emptied n s (emptied_at step ∷ xs) lt h =
     ap (λ (b : Bool). b || list_any (is_emptied s) xs) (not_equal step s (omega (arith, le, lt))) ∙ none_emptied n s xs lt (All-tail (IsUpTo n) (emptied_at step) xs h)
 none_emptied n s (dropped_at step page ∷ xs) lt h = absurd (All-head (IsUpTo n) (dropped_at step page) xs h)
 
--- of a step behind nothing was told yet
+-- of a later step nothing was reported yet
 pub told_none : (n s : ℕ) (set : Set) (notes : List Note) → n < s → All (IsUpTo n) notes → set_told notes s set ≡ set
 told_none n s set notes lt h = told_is n s set notes h ∙ ap (λ (b : Bool). left_of b set) (none_emptied n s notes lt h)
 
@@ -210,7 +210,7 @@ left_either true true set = refl
 left_either true false set = refl
 left_either false b set = refl
 
--- of the next step one more thing is told
+-- of the next step one more thing is reported
 pub told_more : (b : Bool) (n : ℕ) (set : Set) (notes : List Note) → All (IsUpTo n) notes → set_told (notes ++ emptied_if b n) n set ≡ left_of b (set_told notes n set)
 told_more b n set notes h =
     told_is n n set (notes ++ emptied_if b n) (up_to_more b n notes h)
@@ -221,7 +221,7 @@ or_none : (a b : Bool) → b ≡ false → (a || b) ≡ a
 or_none true b h = refl
 or_none false b h = h
 
--- which tells nothing of those before
+-- which says nothing of those before
 pub told_before : (b : Bool) (n s : ℕ) (set : Set) (notes : List Note) → s < n → All (IsUpTo n) notes → set_told (notes ++ emptied_if b n) s set ≡ set_told notes s set
 told_before b n s set notes lt h =
     told_is n s set (notes ++ emptied_if b n) (up_to_more b n notes h)

@@ -49,9 +49,9 @@ use Rattle.wedge_core.proofs.ToldSteps.{ToldBy, told_nothing, told_one, told_joi
 abbrev pub EachFilled : ℕ → ℕ → ℕ → List Set → Type 0
 EachFilled pages before after sets = All (λ (set : Set). CountsFills pages (len set) before after) sets
 
--- Some steps were done. Where the run begins so, they went by the rule for kept translations, and all is known behind them
+-- Some steps were done. Where the run begins so, they followed the rule for kept translations, and all is known after them
 -- while it is roomy. What is kept a run may go on with; where notes are wanted, it is what they left, but for what the
--- notes tell, by which they went too. Their lines were put, and the counts follow.
+-- notes report, by which they went too. Their lines were put, and the counts follow.
 pub record Going (m : Setting) (old now : State) (before after : Counts) (told tells : Option (List ℕ)) (pages fills filled : ℕ) (notes_wanted : Bool) (notes_on : List Note → Type 0) (begins : Type 0) (carried : Set → List Taken → State → Type 0) : Type 0 where
   pub sets : List Set
   pub reports : List Report
@@ -94,7 +94,7 @@ going_none m b counts told pages fills notes_wanted notes_on begins carried none
   counts = counts_none m counts;
 }
 
--- none of them is behind the first
+-- none of them is after the first
 pub none_behind : (m : Setting) (old now : State) (a b : Counts) (told tells : Option (List ℕ)) (pages fills filled : ℕ) (notes_wanted : Bool) (notes_on : List Note → Type 0) (begins : Type 0) (carried : Set → List Taken → State → Type 0) → (g : Going m old now a b told tells pages fills filled notes_wanted notes_on begins carried) → old.step + length g.sets ≡ now.step
 none_behind m old now a b told tells pages fills filled notes_wanted notes_on begins carried g = sym (steps_counted m old g.sets g.reports (with_set now g.whole) g.steps)
 
@@ -388,7 +388,7 @@ are_notes m old sets last notes h = record {
   held = λ earlier now later page e is. absurd (let no : false ≡ true = sym (none_dropped last now.before.step page notes h.until) ∙ is in cc);
 }
 
--- no page is told behind the last step
+-- no page is reported after the last step
 none_held : (first last : ℕ) (notes : List Note) (set : Set) → TriedNotes first last notes → (page : ℕ) → list_any (is_dropped last page) notes ≡ true → IsSome (get set page)
 none_held first last notes set h page is = absurd (let no : false ≡ true = sym (none_dropped last last page notes h.until) ∙ is in cc)
 
@@ -485,7 +485,7 @@ counted retired passed = record { retired = retired; passed = passed }
 pub counts_same : (retired retired' passed passed' : ℕ) → retired' ≡ retired → passed' ≡ passed → counted retired' passed' ≡ counted retired passed
 counts_same retired retired' passed passed' r p = λ i. counted (r i) (p i)
 
--- a step behind an empty stretch, whose events were given
+-- a step after an empty stretch, whose events were given
 pub turned : (m : Setting) (now mid new : State) (board : Board) (lost : Lost) (result : Result Seen Stop) (a b c : Counts) → mid ≡ record now { board = board } → board ≡ given now.board m.script now.step → b ≡ a
     → StepAs m mid lost result new b c → StepAs m (eventful m now) lost result new a c
 turned m now mid new board lost result a b c is events same step =

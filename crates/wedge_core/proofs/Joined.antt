@@ -1,4 +1,4 @@
--- Runs, one behind the other: their steps, what was seen in them, and how many of their instructions were direct.
+-- Runs, one after the other: their steps, what was seen in them, and how many of their instructions were direct.
 use Rattle.std.proofs.Common.{◌≡◌, ℕ, ◌+◌, List, [], ◌++◌, length, sym, ap, ◌∙◌, length-append, refl, arith}
 use Rattle.machine_model.specs.State.{Setting}
 use Rattle.machine_model.specs.Step.{Report}

@@ -57,9 +57,9 @@ use Rattle.wedge_core.proofs.Counting.{none_counts, one_counts}
 use Rattle.wedge_step.proofs.Keeping.{keeps_join, keeps_above}
 use Rattle.wedge_step.proofs.Opening.{same_open}
 
--- ---- what the host's call comes to
+-- ---- the outcome of the host's call
 
--- a host that completes an instruction, and was let do one, stops behind it
+-- a host that completes an instruction, and was let do one, stops after it
 one_run : (v : View) (s : Standing) (regs : Regs) (after : List ℕ) → Rattle.host_cpl3.specs.HostStep.host_step v s.ram s.regs ≡ Ok (Rattle.host_cpl3.specs.declared.exit.Completion.TheVariants.Completed regs, after)
     → host_run v 1 s ≡ (Budget, counted s regs after)
 unfolding host_run
@@ -109,7 +109,7 @@ counts_one m v b memory regs after_memory before after f retired passed =
     record { retired = retired ∙ c.retired; passed = passed ∙ c.passed }
 
 module _ {S : Type 0} (shows : shadows.Ghosts S) where
-  -- what the guest stands for behind it
+  -- what the guest stands for after it
   after_is : (m : Setting) (v : View) (old new : Running S) (memory now : List ℕ) (regs : Regs) (after_memory : List ℕ) → (f : Follows m v (state_of shows m old memory) memory regs after_memory)
       → new ≡ record old { cpu = record old.cpu { regs = regs; held = false }; board = board_step old.board; step = old.step + 1 } → now ≡ after_memory → entries_of (shows.slots old.shadows now) ≡ entries_of (shows.slots old.shadows memory)
       → f.after ≡ state_of shows m new now
@@ -134,7 +134,7 @@ module _ {S : Type 0} (shows : shadows.Ghosts S) where
 
   -- ---- what is held
 
-  -- what the host writes in the guest's frames leaves all that lies behind them
+  -- what the host writes in the guest's frames leaves all that lies past them
   pub held_done : (image : Image) (n : ℕ) (g : Running S) (cpu : Cpu) (board : Board) (step : ℕ) (pool : Pool) (old now : List ℕ)
       → drop (4096 * n) now ≡ drop (4096 * n) old → length now ≡ length old → IsHost (ground image n) now
       → ∥ shows.stands g.shadows now ∥₁ → Owns pool now (shows.frames g.shadows now) → shows.frames g.shadows now ≡ shows.frames g.shadows old
@@ -272,7 +272,7 @@ module _ {S : Type 0} (shows : shadows.Ghosts S) where
         let c = cpu_is in
         (ap (λ (g : Running S). g.cpu.cr3) e ∙ ap (λ (x : Cpu). x.cr3) c, ap (λ (g : Running S). pse_of g.cpu) e ∙ ap pse_of c, ap (λ (g : Running S). wp_of g.cpu) e ∙ ap wp_of c)
 
-    -- It is the step of a run that goes by what was left: it loads no CR3, leaves the control registers, and leaves what is
+    -- It is the step of a run that uses what was left: it loads no CR3, leaves the control registers, and leaves what is
     -- kept, and this memory.
     pub once_taken : (script : Events) (t : Taken) → IsTakenFrom (wedge image script g0.frames) (state_of shows (wedge image script g0.frames) g0 m0) t → t.set ≡ left_of g1.lost.before (entries_of (shows.slots g0.shadows m0))
         → (is_load t.report.completed ≡ false) × ((t.after.cpu.cr0 ≡ g0.cpu.cr0) × (t.after.cpu.cr3 ≡ g0.cpu.cr3) × (t.after.cpu.cr4 ≡ g0.cpu.cr4)) × (t.after.set ≡ entries_of (shows.slots g1.shadows m1)) × (t.after.ram ≡ shown (ground image g0.frames) m2)

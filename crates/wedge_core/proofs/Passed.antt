@@ -1,4 +1,4 @@
--- Steps in which a run has no part, and what it knows behind them.
+-- Steps in which a run has no part, and what it knows after them.
 use Rattle.std.proofs.Common.{◌≡◌, ℕ, ◌*◌, ◌≤◌, zero, suc, replicate, length, List, [], ◌∷◌, ◌++◌, refl, sym, ap, subst, append_assoc, inl, arith}
 use Rattle.std.specs.List.{All}
 use Rattle.std.proofs.lemmas.List.Elements.{All-head, All-tail}
@@ -13,14 +13,14 @@ use Rattle.kept_laws.specs.Known.{IsNextKept, IsPast}
 use Rattle.wedge_step.specs.CarryLaws.{CarryLaws}
 use Rattle.wedge_core.proofs.Joined.{steps_join, steps_one}
 
--- What is known, with what is kept: it is what the rule lets be left, the next step that goes by it goes by the rule, and a
+-- What is known, with what is kept: it is what the rule lets be left, the next step that uses it follows the rule, and a
 -- step that the run has no part in goes on with it.
 pub record CarriesPast (m : Setting) (carried : Set → List Taken → State → Type 0) : Type 0 where
   pub next : (kept : Set) (steps : List Taken) (b : State) → carried kept steps b → IsNextKept m steps b kept
   pub left : (kept : Set) (steps : List Taken) (b : State) → carried kept steps b → IsLeftBehind m steps b kept
   pub past : (kept : Set) (steps : List Taken) (t : Taken) → IsPast m t → carried kept steps t.before → carried t.after.set (steps ++ t ∷ []) t.after
 
--- The steps so far went by the rule, and all is known behind them while the run is roomy.
+-- The steps so far followed the rule, and all is known after them while the run is roomy.
 pub record SoFarKept (m : Setting) (carried : Set → List Taken → State → Type 0) (old : State) (sets : List Set) (b : State) (kept : Set) : Type 0 where
   pub rule : Kept m old sets
   pub carries : Roomy (steps_by m old sets) → carried kept (steps_by m old sets) b

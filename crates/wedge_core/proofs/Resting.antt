@@ -41,7 +41,7 @@ given_quiet board t j (x ∷ xs) h =
     false≢true (sym parts.0 ∙ and_from (nat_lt t x.0) (nat_le x.0 (t + suc j)) (lt-ltb t x.0 (omega (arith, same))) (le-leb x.0 (t + suc j) (omega (arith, same))))) in
     rw other (given_quiet board t j xs parts.1)
 
--- nothing comes to the board in some steps: neither in the first of them, nor in the others
+-- nothing reaches the board in some steps: neither in the first of them, nor in the others
 pub record Quiet (board : Board) (script : Events) (t j : ℕ) : Type 0 where
   pub no_event : given board script (t + 1) ≡ board
   pub no_edge : edge_comes board.pit ≡ false

@@ -1,4 +1,4 @@
--- A slice by each thing that it tells of.
+-- A slice by each thing that it reports.
 use Rattle.std.proofs.Common.{ℕ, Bool, List, Option, Result}
 use Rattle.pv_io.specs.declared.answer.Failed.{Failed}
 use Rattle.run_trace.specs.declared.pause.Pause.{Pause}

@@ -1,4 +1,4 @@
--- A guest behind a run of its host: its steps, and that it is held as before.
+-- A guest after a run of its host: its steps, and that it is held as before.
 use Rattle.std.proofs.Common.{◌≡◌, ℕ, zero, suc, ◌+◌, ◌-◌, ◌*◌, ◌/◌, ◌%◌, ◌≤◌, ◌<◌, ◌^◌, ◌==◌, Bool, true, false, ◌||◌, not, List, [], length, drop, replicate, refl, sym, ap, subst, ◌∙◌, arith}
 use Rattle.std.specs.FinMap.{get}
 use Rattle.guest_ram.specs.Bytes.{frame}
@@ -101,7 +101,7 @@ module _ {S : Type 0} (shows : shadows.Ghosts S) where
     abbrev kept : List ℕ → Set
     kept m = entries_of (shows.slots g.shadows m)
 
-    -- ---- memory that is the same behind the guest's frames
+    -- ---- memory that is the same past the guest's frames
 
     module _ (new : List ℕ) (same : SameBehind (ground image f) memory new) where
       pub limit : 4096 * f ≤ 4096 * base_of pool
@@ -165,7 +165,7 @@ module _ {S : Type 0} (shows : shadows.Ghosts S) where
             open_to = has_tables_under;
           }
 
-    -- ---- behind a run of the host
+    -- ---- after a run of the host
 
     module _ (views : ViewsLend) (sees : ViewsSee) (advances : Advances) (able : IsAble g.cpu) (may : MayRun g.cpu g.board image) (unheld : g.cpu.held ≡ false) (retired passed k done : ℕ) (now : Running S) (after_memory : List ℕ) (retired_then passed_then : ℕ)
         (r : Ran (view_by (shows.directory g.shadows) g.cpu) k (standing g.cpu.regs memory retired passed) g done now after_memory retired_then passed_then)
@@ -186,7 +186,7 @@ module _ {S : Type 0} (shows : shadows.Ghosts S) where
             by zero a b = ap (λ (x : Running S). x.shadows) (a refl)
             by (suc n) a b = ap (λ (x : Running S). x.shadows) (b (omega arith))
 
-        -- what walks go by, beside memory
+        -- what walks use, beside memory
         pub rules_then : (now.cpu.cr3 ≡ g.cpu.cr3) × (pse_of now.cpu ≡ pse_of g.cpu) × (wp_of now.cpu ≡ wp_of g.cpu)
         rules_then = by done r.none r.some
           where

@@ -1,4 +1,4 @@
--- Steps that go by what the ones before left, but for what notes tell.
+-- Steps that use what the ones before left, but for what notes report.
 use Rattle.std.proofs.Common.{◌≡◌, ℕ, ◌+◌, ◌≤◌, ◌<◌, List, [], ◌∷◌, ◌++◌, length, refl, sym, subst, ◌∙◌, arith}
 use Rattle.std.specs.List.{All}
 use Rattle.run_trace.specs.Notes.{Note}
@@ -14,7 +14,7 @@ use Rattle.wedge_core.proofs.EmptiedNotes.{IsUpTo, told_none, told_before}
 use Rattle.machine_model.proofs.Runs.{went_there}
 use Rattle.machine_model.proofs.Counted.{counted_by, same_step}
 
--- before each step the translations are those that the one before left, but for what the notes tell
+-- before each step the translations are those that the one before left, but for what the notes report
 pub ToldBy : Setting → State → List Set → List Note → Type 0
 ToldBy m b [] notes = Unit {0}
 ToldBy m b (set ∷ sets) notes = (set ≡ set_told notes b.step b.set) × ((now : Report) (mid : State) → step_of m b set ≡ Went now mid → ToldBy m mid sets notes)
@@ -28,7 +28,7 @@ pub told_one : (m : Setting) (b : State) (set : Set) (notes : List Note) → set
 unfolding ToldBy
 told_one m b set notes is = (is, λ now mid e. tt)
 
--- some steps and those behind them
+-- some steps and those after them
 pub told_join : (m : Setting) (old mid : State) (sets more : List Set) (reports : List Report) (notes : List Note) → Steps m old sets reports mid
     → ToldBy m old sets notes → ToldBy m mid more notes → ToldBy m old (sets ++ more) notes
 unfolding ToldBy Steps
@@ -40,7 +40,7 @@ told_join m old mid (set ∷ sets) more reports notes s first rest = (
       told_join m then mid sets more s.2 notes (subst (λ (b : State). Steps m b sets s.2 mid) there s.5) (first.1 now then is) rest,
 )
 
--- what is told of the next step changes nothing for those before
+-- what is reported of the next step changes nothing for those before
 pub told_on : (b : _) (m : Setting) (old : State) (sets : List Set) (notes : List Note) (n : ℕ) → old.step + length sets ≤ n → All (IsUpTo n) notes → ToldBy m old sets notes → ToldBy m old sets (notes ++ emptied_if b n)
 unfolding ToldBy
 told_on b m old [] notes n le up h = tt
@@ -49,7 +49,7 @@ told_on b m old (set ∷ sets) notes n le up h = (
   λ now mid is. let one = counted_by m old mid set now is in told_on b m mid sets notes n (omega (arith, le, one)) up (h.1 now mid is),
 )
 
--- steps of which nothing is told
+-- steps of which nothing is reported
 left_told : (m : Setting) (b : State) (sets : List Set) (notes : List Note) (n : ℕ) → n < b.step → All (IsUpTo n) notes → AreLeft m b sets → ToldBy m b sets notes
 unfolding ToldBy
 left_told m b [] notes n lt up h = tt

@@ -1,4 +1,4 @@
--- What a try at the instruction at EIP comes to, from what its fetch came to.
+-- The outcome of a try at the instruction at EIP, from the outcome of its fetch.
 use Rattle.std.proofs.Common.{◌≡◌, ℕ, ◌==◌, List, true, false, refl, ap, subst, ◌∙◌, Option, Some, None, Ok, Err}
 use Rattle.std.specs.Prelude.{Result, IfOk, IfSome}
 use Rattle.ia32_types.specs.declared.insn.Insn.{Insn}
@@ -48,7 +48,7 @@ module _ (m : Setting) (b : State) (s : Space) where
     tried_other (Ok worked) board t native came = (next_is ∙ came, λ others sites. others_uncounted m b insn len u native (others insn len u e native) worked board t came sites)
     tried_other (Err stop) board t native came = next_is ∙ came
 
--- what is refused behind the fetch, where the host would have done it
+-- what is refused after the fetch, where the host would have done it
 pub prepares_refused : (m : Setting) (b : State) (insn : Insn) (len : ℕ) (s : Space) → IsAble b.cpu → is_native (b.cpu.cpl == 3) insn.op ≡ true → ((found : List ℕ) × Spells found insn)
     → (r : Refusal) (u : Space) (w : Result Worked Stop) (t : Space) → prepared insn len b.cpu s ≡ Err (r, u) → ComesTo (after_refusal m b r u) b w b.board t → PreparesAs m b insn len s (gone w) t
 prepares_refused m b insn len s able native spelled r u (Ok worked) t e came = (refused_as m b insn len s able native spelled r u e ∙ came, refused_none m b r u worked b.board t came)

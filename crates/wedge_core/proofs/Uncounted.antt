@@ -108,7 +108,7 @@ module _ (cpu : Cpu) (user : cpu.cpl ≡ 3) (open_flags : is_open cpu ≡ true) 
   barred op.PortOut insn len s e = first_refused _ (is_within cpu) _ s not_within
   barred o insn len s e = absurd (let f : false ≡ true = e in cc)
 
--- ---- what a step comes to
+-- ---- the outcome of a step
 
 module _ (m : Setting) (b : State) (P : Option Completed → Type 0) (none : P None) where
   of_entered : (whats : List What) (c : Option Completed) (cpu : Cpu) (board : Board) (s : Space) → P c → CompletesAs P (entered m whats c b cpu board s)

@@ -1,4 +1,4 @@
--- What an attempt at a step whose instruction the host may do comes to: the step went, or the host is to do it.
+-- The outcome of an attempt at a step whose instruction the host may do: the step went, or the host is to do it.
 use Rattle.std.specs.Prelude.{◌≡◌, ℕ, List, [], Bool, false, Result, Ok, Err}
 use Rattle.ia32_types.specs.declared.flags.Regs.{Regs}
 use Rattle.ia32_types.specs.declared.stop.Stop.{Stop}

@@ -25,7 +25,7 @@ use Rattle.wedge_core.specs.Promises.{with_patches}
 use Rattle.wedge_core.specs.Scenes.{IsHeldIn, IsReadyIn, StaysHeld}
 use Rattle.wedge_core.specs.Starts.{IsAsNew}
 
--- The host's memory has the image's text in its place at the front, and a pool behind the guest's frames, of which two are free.
+-- The host's memory has the image's text in its place at the front, and a pool past the guest's frames, of which two are free.
 pub record MayAdopt (image : Image) (frames : ℕ) (pool : Pool) (memory : List ℕ) : Type 0 where
   pub size : (2048 ≤ frames) × (frames ≤ 16384)
   pub room : 4096 * frames ≤ length memory
@@ -61,7 +61,7 @@ pub record BeginsSlice (old new : Scene Roots) : Type 0 where
   pub fewer : kept_in of_roots new ≤ kept_in of_roots old
   pub anew : old.guest.held ≡ 2 → IsAsNew of_roots new.guest.shadows new.memory
 
--- Behind a slice: where all steps were done the front of the host's memory is the guest's, with the text patched. However the
+-- After a slice: where all steps were done the front of the host's memory is the guest's, with the text patched. However the
 -- slice ended its frames are its own, and no more pages are kept than were filled, if that was so before.
 pub record GuestLeaves (image : Image) (script : Events) (old new : Scene Roots) (result : Result Pause Failed) : Type 0 where
   pub memory : IfReached result

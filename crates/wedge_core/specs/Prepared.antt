@@ -44,7 +44,7 @@ abbrev pub gone : Result Worked Stop → Result (Option Worked) Stop
 gone (Ok worked) = Ok (Some worked)
 gone (Err stop) = Err stop
 
--- Behind the fetch the instruction raised, so that the step went and completed nothing; or it stopped; or it is prepared.
+-- After the fetch the instruction raised, so that the step went and completed nothing; or it stopped; or it is prepared.
 abbrev pub PreparesAs : Setting → State → Insn → ℕ → Space → Result (Option Worked) Stop → Space → Type 0
 PreparesAs m b insn len s (Ok (Some worked)) t = (steps.by_decoded m b (begins.Insn insn len) s ≡ went_as b worked b.board t) × (completed_by worked.completed ≡ None)
 PreparesAs m b insn len s (Ok None) t = prepared insn len b.cpu s ≡ Ok (tt, t)

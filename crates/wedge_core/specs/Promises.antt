@@ -46,7 +46,7 @@ pub record HasFills (m : Setting) (sets : List Set) (last : State) (fills : ℕ)
   pub enough : All (λ (set : Set). len set ≤ fills) (sets ++ end ∷ [])
   pub few : fills ≤ 128 * last.step
 
--- The set at the end of a run from the start: that by which it stops, or behind its last step the guest's own, which with a
+-- The set at the end of a run from the start: that by which it stops, or after its last step the guest's own, which with a
 -- pool of 512 frames is what the rule for kept translations lets be left.
 abbrev pub IsEnd : (m : Setting) (n pool : ℕ) (sets : List Set) (last : State) (end : End) → EndsIn m n last end → Set → Type 0
 IsEnd m n pool sets last Bound ends set = pool ≡ 512 → Roomy (steps_by m (boot m) sets) → IsLeftBehind m (steps_by m (boot m) sets) last set

@@ -11,7 +11,7 @@ use Rattle.host_cpl3.specs.HostRun.{Standing, host_run}
 use Rattle.host_cpl3.specs.declared.host.Host as hosts
 use Rattle.wedge_step.specs.declared.running.Running.{Running}
 
--- The guest's registers behind an exit: a jump into the window is taken back, so that EIP is the site's.
+-- The guest's registers after an exit: a jump into the window is taken back, so that EIP is the site's.
 abbrev pub landed : Exit → Regs → Regs
 landed (exits.Entry at) regs = record regs { eip = at + WINDOW_BELOW }
 landed (exits.Fault vector code cr2) regs = regs

@@ -27,7 +27,7 @@ outward h o host host2 out out2 = record { before = counts_of h host; after = co
 abbrev pub noting : {L : Type 0} → notes.Ghosts L → L → L → Noting
 noting n old new = record { notes_wanted = n.wants old; on = NotesOn (n.wants old) (n.tells old) (n.tells new) }
 
--- Notes are wanted as before, and where none are, none is told.
+-- Notes are wanted as before, and where none are, none is reported.
 pub record StaysSilent {L : Type 0} (n : notes.Ghosts L) (old new : L) : Type 0 where
   pub wants : n.wants new ≡ n.wants old
   pub silent : n.wants old ≡ false → new ≡ old

@@ -18,7 +18,7 @@ use Rattle.wedge_core.specs.Noted.{IsNoted}
 use Rattle.run_trace.specs.Pauses.{IfReached, PutsAs}
 
 -- All steps were done, and these translations are kept, which a run may go on with; or the next step stops, by these
--- translations, which it may go by. The sink may fail before.
+-- translations, which it may use. The sink may fail before.
 abbrev pub PausesAs : Setting → ℕ → State → State → Set → Result Pause Failed → Type 0
 PausesAs m bound last new end (Ok Reached) = (last.step ≡ bound) × (new ≡ with_set last end) × Loosened m last end
 PausesAs m bound last new end (Ok (Stopped stop)) = (last.step < bound) × (new.step ≡ last.step) × Loosened m last end × (step_of m last end ≡ Halts stop)
@@ -37,17 +37,17 @@ pub record Filling : Type 0 where
   pub fills : ℕ
   pub filled : ℕ
 
--- whether notes are wanted, and which are told behind those that were
+-- whether notes are wanted, and which are reported after those that were
 pub record Noting : Type 1 where
   pub notes_wanted : Bool
   pub on : List Note → Type 0
 
 -- Steps under the monitor's rules, up to the bound or to a stop, led from the old state to the last. The lines of what
--- was seen in them were put, and the host completed their direct instructions. Where notes are wanted, they go by what is
--- left of translations, but for those that these notes tell to be dropped. Each of their sets, and the one behind them, has
+-- was seen in them were put, and the host completed their direct instructions. Where notes are wanted, they use what is
+-- left of translations, but for those that these notes report as dropped. Each of their sets, and the one after them, has
 -- no more pages than were kept at first and were filled since. Where the slice begins so, the sets keep the rule for kept
--- translations, and so does the one behind them: the next step stops by it, or a run may go on with it. Where all steps were
--- done that is what the rule lets be left behind them.
+-- translations, and so does the one after them: the next step stops by it, or a run may go on with it. Where all steps were
+-- done that is what the rule lets be left after them.
 pub record SliceAs (m : Setting) (bound : ℕ) (old new : State) (out : Outward) (filling : Filling) (noting : Noting) (begins : Type 0) (result : Result Pause Failed) : Type 0 where
   pub sets : List Set
   pub reports : List Report

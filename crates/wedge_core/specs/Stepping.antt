@@ -1,4 +1,4 @@
--- What one step of a patched run comes to, and some of them.
+-- The outcome of one step of a patched run, and some of them.
 use Rattle.std.specs.Prelude.{◌≡◌, ℕ, List, [], ◌∷◌, replicate, Result, Ok, Err}
 use Rattle.std.specs.List.{All}
 use Rattle.ia32_types.specs.declared.stop.Stop.{Stop}
@@ -33,7 +33,7 @@ abbrev pub StepAs : Setting → State → Lost → Result Seen Stop → State �
 StepAs m b lost (Ok seen) new before after = Goes m b lost seen new before after
 StepAs m b lost (Err stop) new before after = StepHalts m b lost stop
 
--- Some steps in which nothing is seen lead from one state to another. Each goes by the same translations, which the one
+-- Some steps in which nothing is seen lead from one state to another. Each uses the same translations, which the one
 -- before left. None loads CR3, or changes another control register.
 pub record Passes (m : Setting) (b new : State) (before after : Counts) : Type 0 where
   pub n : ℕ

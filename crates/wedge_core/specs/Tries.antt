@@ -1,4 +1,4 @@
--- What a try at the instruction at EIP comes to, of a processor that takes no interrupt and is awake: the step went, or the
+-- The outcome of a try at the instruction at EIP, of a processor that takes no interrupt and is awake: the step went, or the
 -- instruction is prepared for the host.
 use Rattle.std.specs.Prelude.{◌≡◌, ◌⊎◌, ℕ, ◌==◌, List, [], true, false, Option, Some, None, Result, Ok, Err}
 use Rattle.ia32_types.specs.declared.stop.Stop.{Stop}

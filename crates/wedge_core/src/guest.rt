@@ -103,7 +103,7 @@ impl Guest {
     }
 
     /// Makes `k` steps, or ends before a step that stops. The lines of a step go to the sink at its end. Where notes are
-    /// wanted, it is told before which steps all translations were dropped.
+    /// wanted, they say before which steps all translations were dropped.
     pub fn slice<H: Host, O: Sink, L: Notes>(
         &mut self,
         image: &Checked,

@@ -1,4 +1,4 @@
-//! What a slice tells of the translations that it loses.
+//! What a slice reports of the translations that it loses.
 
 ghost use Rattle.std.specs.Prelude.{◌≡◌, ◌<◌, ◌^◌, false};
 ghost use Rattle.wedge_core.specs.Noted.{NotesOn, emptied_if, notes_then};
@@ -6,7 +6,7 @@ ghost use Rattle.wedge_core.specs.Noted.{NotesOn, emptied_if, notes_then};
 use run_trace::Notes;
 use wedge_step::Lost;
 
-/// Tells, where notes are wanted, that all translations were dropped before a step, if they were.
+/// Reports, where notes are wanted, that all translations were dropped before a step, if they were.
 pub fn tell<L: Notes>(notes: &mut L, dropped: bool, step: u64)
     ensures told { NotesOn (L.wants notes.old) (L.tells notes.old) (L.tells notes.new) (emptied_if dropped step) }
     ensures wants { L.wants notes.new ≡ L.wants notes.old }
@@ -17,7 +17,7 @@ pub fn tell<L: Notes>(notes: &mut L, dropped: bool, step: u64)
     }
 }
 
-/// Tells the same of a step that went, and of the next one.
+/// Reports the same of a step that went, and of the next one.
 pub fn tell_both<L: Notes>(notes: &mut L, lost: Lost, step: u64)
     requires { step < 2 ^ 40 }
     ensures told { NotesOn (L.wants notes.old) (L.tells notes.old) (L.tells notes.new) (notes_then lost step) }

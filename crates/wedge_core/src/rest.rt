@@ -15,7 +15,7 @@ use machine_step::resting_steps;
 use shadow_tables::Shadows;
 use wedge_step::Running;
 
-/// Passes the steps in which a halted processor has nothing to do and nothing can come to the board, up to the bound, in one go.
+/// Passes the steps in which a halted processor has nothing to do and nothing can reach the board, up to the bound, in one go.
 #[inline(always)]
 pub fn rest<S: Shadows + Drop>(running: &mut Running<S>, script: &Script, bound: u64)
     requires script { is_script script.now.list ≡ true }
@@ -27,7 +27,7 @@ pub fn rest<S: Shadows + Drop>(running: &mut Running<S>, script: &Script, bound:
         (state_of S.Shadows (wedge image script.now.list running.old.frames) running.old memory)
         (state_of S.Shadows (wedge image script.now.list running.old.frames) running.new memory) counts counts }
     ensures same { running.new ≡ record running.old { board = running.new.board; step = running.new.step } }
-    // Short of the bound it ends only where something comes to the board in the next step.
+    // Short of the bound it ends only where something reaches the board in the next step.
     ensures furthest { running.old.cpu.halted ≡ true → running.old.cpu.held ≡ false
         → interrupt_of running.old.cpu running.old.board ≡ None → running.new.step < bound
         → comes_within running.old.board script.now.list (running.old.step - 1) (running.new.step - running.old.step + 1) ≡ true }

@@ -23,7 +23,7 @@ use shadow_cache::Reloads;
 use wedge_step::{Running, carry_laws, original};
 
 /// Steps up to a count of steps, or to a stop. The lines of a step go to the sink at its end. Before which steps all
-/// translations were dropped is told, where notes are wanted; then no translations are kept for another value of CR3.
+/// translations were dropped is reported, where notes are wanted; then no translations are kept for another value of CR3.
 pub fn steps_to<S: Reloads + Drop, H: Host, O: Sink, L: Notes>(
     running: &mut Running<S>,
     image: &Checked,

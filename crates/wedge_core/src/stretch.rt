@@ -1,4 +1,4 @@
-//! Instructions that the host does one behind the other.
+//! Instructions that the host does one after the other.
 
 ghost use Rattle.std.specs.Prelude.{◌≡◌, ℕ, ◌+◌, ◌-◌, ◌*◌, ◌/◌, ◌%◌, ◌==◌, ◌≤◌, ◌<◌, ◌^◌, true, false};
 ghost use Rattle.frame_pool.specs.declared.Pool.{Pool as Frames};
@@ -56,7 +56,7 @@ fn view_of<S: Shadows>(cpu: &Cpu, shadows: &S) -> View
     }
 }
 
-/// The registers behind an exit. A jump into the window is taken back, so that EIP is the site's.
+/// The registers after an exit. A jump into the window is taken back, so that EIP is the site's.
 fn landed(exit: Exit, regs: Regs) -> Regs
     requires { LeadsLow exit }
     ensures { result ≡ landed exit regs }
@@ -99,7 +99,7 @@ pub fn run_on<S: Shadows + Drop, H: Host>(running: &mut Running<S>, host: &mut H
 }
 
 /// A stretch up to the bound, the next edge or the next event: of so many instructions the host does as many as it can one
-/// behind the other, and none where the next one doesn't run there. The events of this step were given.
+/// after the other, and none where the next one doesn't run there. The events of this step were given.
 pub fn stretch<S: Shadows + Drop, H: Host>(
     running: &mut Running<S>,
     host: &mut H,
@@ -139,7 +139,7 @@ fn steps_until_next(board: &Board, script: &Script, step: u64, most: u64) -> u64
     requires script { is_script script.now.list ≡ true }
     ensures most { result ≤ most }
     ensures quiet { 0 < result → comes_within board.now script.now.list step (result - 1) ≡ false }
-    // Fewer than that number only where something comes behind them.
+    // Fewer than that number only where something comes after them.
     ensures furthest { result < most → comes_within board.now script.now.list step result ≡ true }
 {
     match board.next_event(script, step) {

@@ -84,7 +84,7 @@ changed-told cs q x e =
 unchanged-told : (cs : List Change) (q : ℕ) → last_change None cs q ≡ None → is_among q (map page_of cs) ≡ false
 unchanged-told cs q e = elim (cases_Bool (is_among q (map page_of cs))) [ inl t ↦ absurd (changed-some None cs q t e) | inr n ↦ n ]
 
--- ---- its entry behind the step
+-- ---- its entry after the step
 
 module _ (kept : ℕ → Option Slot) (cs : List Change) (page : ℕ) where
   pub entry-changed : (x : Option Entry) → last_change None cs page ≡ Some x → get (changed (entries_of kept) cs) page ≡ x

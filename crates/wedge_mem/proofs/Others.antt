@@ -43,7 +43,7 @@ fetch_others s at len user q n =
     let used = page_uses (unready s) true (at / 4096) at access in
     ap (λ (set : FinMap nat_cmp Entry). get set q) (ready_set used.0 used.1 at len) ∙ page_others (unready s) true (at / 4096) at access q n
 
--- the same of what a step did so far, before the fetch and behind it
+-- the same of what a step did so far, before the fetch and after it
 pub others_after : (kept : List ℕ → FinMap nat_cmp Entry) (ram ram2 : List ℕ) (before after : StepState) (p p2 : Progress) (at len : ℕ) (user : Bool) (met : Touch)
     → before ≡ state_by before.guard p → fetches (space_at kept ram before) at len user ≡ (met, space_at kept ram2 after) → after ≡ state_by after.guard p2
     → (page : ℕ) → page ≢ at / 4096 → get (space_in kept ram2 p2).set page ≡ get (space_in kept ram p).set page

@@ -1,4 +1,4 @@
--- Three calls in a row: frames are only noted, then told, then filled.
+-- Three calls in a row: frames are only noted, then reported, then filled.
 use Rattle.std.proofs.Common.{◌≡◌, ℕ, List}
 use Rattle.frame_pool.specs.Held.{Owns, Moves, Writes}
 use Rattle.frame_pool.specs.declared.Pool.{Pool}

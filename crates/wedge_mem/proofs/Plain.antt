@@ -108,7 +108,7 @@ pub left_within : (result : Option ℕ) (left set : FinMap nat_cmp Entry) (frame
 left_within None left set frames e w = λ page. none_within (get left page) page frames (ap (λ (s : FinMap nat_cmp Entry). get s page) e ∙ get-empty nat_cmp page)
 left_within (Some n) left set frames e w = subst (λ s. AreWithin frames s) (sym e) w
 
--- a pool of which frames moved still lies behind the guest's frames
+-- a pool of which frames moved still lies after the guest's frames
 pub room_left : (p p' : Pool) (m m' fs fs' : List ℕ) (frames : ℕ) → Moves p p' m m' fs fs' → 4096 * frames ≤ length m → 4096 * frames ≤ 4096 * p.base → (4096 * frames ≤ length m') × (4096 * frames ≤ 4096 * p'.base)
 room_left p p' m m' fs fs' frames v room low = let size = v.size in let same = v.same.0 in (omega (arith, size, room), omega (arith, same, low))
 

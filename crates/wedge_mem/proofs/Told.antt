@@ -1,4 +1,4 @@
--- Frame after frame is noted, or told to be written.
+-- Frame after frame is noted, or reported as written.
 use Rattle.std.proofs.Common.{◌≡◌, ℕ, ◌+◌, ◌<◌, List, [], ◌∷◌, ◌++◌, length, take, get_or, Bool, true, false, not, cond, eqb, ◌||◌, refl, sym, ap, ◌∙◌, subst, inl, inr, arith}
 use Rattle.std.proofs.Math.Dec.{leb}
 use Rattle.std.proofs.lemmas.Bool.{cases_Bool, or_right}
@@ -121,7 +121,7 @@ more-spared fs i xs ys zs l h k =
     subst (λ (ws : List OtherRoot). AreSame ws zs) (spared-more (take i fs) x xs ∙ ap (λ (gs : List ℕ). all_spared gs xs) (sym (take_more fs i 0 l)))
     (same-trans (spared x (all_spared (take i fs) xs)) (spared x ys) zs (spared-same x (all_spared (take i fs) xs) ys h) k)
 
--- ---- first noted, then told, then filled
+-- ---- first noted, then reported, then filled
 
 pub all-told : (wrote tables : List ℕ) (xs ys zs us : List OtherRoot) → LoseWrites (guest_frames tables) xs ys → AreSame (all_spared wrote ys) zs → AreSame zs us → LoseWrites (guest_frames tables) (all_spared wrote xs) us
 all-told wrote tables xs ys zs us h k s =

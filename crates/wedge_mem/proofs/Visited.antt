@@ -15,7 +15,7 @@ use Rattle.step_mem.specs.declared.changes.Change.{Change}
 use Rattle.wedge_mem.specs.Settled.{Fills, has_entry, pages_of, used}
 use Rattle.wedge_mem.proofs.Lists.{used-cons}
 
--- ---- a page more behind the others: it counts where it isn't one of them
+-- ---- a page more after the others: it counts where it isn't one of them
 
 none : (h : Bool) → cond {A = ℕ} (h && false) 1 0 ≡ 0
 none true = refl
@@ -72,7 +72,7 @@ module _ (set : FinMap nat_cmp Entry) where
   left : (a b : Bool) → a ≡ true → (a || b) ≡ true
   left a b e = ap (λ (x : Bool). x || b) e
 
-  -- those that come behind are among the first
+  -- those that come after are among the first
   used-told : (pages more : List ℕ) → ((q : ℕ) → is_among q more ≡ true → is_among q pages ≡ true) → length (used set (pages ++ more)) ≡ length (used set pages)
   used-told pages [] h = ap (λ (ys : List ℕ). length (used set ys)) (append-nil pages)
   used-told pages (x ∷ more) h =

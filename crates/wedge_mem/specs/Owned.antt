@@ -1,4 +1,4 @@
--- Parts of what is told of a keeper.
+-- Parts of what is stated of a keeper.
 use Rattle.std.specs.Prelude.{ℕ, List}
 use Rattle.std.proofs.Math.Logic.{∥∥₁_elim, ∥∥₁_prop}
 use Rattle.std.proofs.lemmas.Grind.{merely}

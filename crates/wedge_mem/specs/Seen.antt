@@ -31,7 +31,7 @@ module _ {S : Type 0} (g : shadows.Ghosts S) where
   abbrev pub StandsOver : S → Pool → List ℕ → Type 0
   StandsOver s pool m = (∥ g.stands s m ∥₁) × Owns pool m (g.frames s m)
 
-  -- the step is sound, and all frames of the pool lie behind the guest's
+  -- the step is sound, and all frames of the pool lie after the guest's
   abbrev pub IsSoundBy : S → Pool → List ℕ → StepState → Type 0
   IsSoundBy s pool ram state = IsSound (λ m. entries_of (g.slots s m)) (4096 * base_of pool) (StandsOver s pool) ram state
 

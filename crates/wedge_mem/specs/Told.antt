@@ -1,4 +1,4 @@
--- What a step tells the shadows: the frames that it read as tables, and those that it wrote.
+-- What a step reports to the shadows: the frames that it read as tables, and those that it wrote.
 use Rattle.std.specs.Prelude.{ℕ, nat_le, not, ◌||◌, Bool, List, filter}
 use Rattle.guest_ram.specs.Among.{is_among}
 

@@ -23,7 +23,7 @@ pub struct Lent<'a, S: Shadows> {
 impl<'a, S: Shadows> Translations for Lent<'a, S> {
     ghost entries = { λ k ram. entries_of (S.slots k.shadows.now ram) };
 
-    /// All frames of the pool lie behind the guest's.
+    /// All frames of the pool lie after the guest's.
     ghost floor = { λ k. 4096 * base_of k.pool.now };
 
     ghost stands = { λ k ram. (∥ S.stands k.shadows.now ram ∥₁) × Owns k.pool.now ram (S.frames k.shadows.now ram) };

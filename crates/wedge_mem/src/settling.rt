@@ -21,7 +21,7 @@ use step_mem::StepState;
 /// Settles the shadows to the set that a step left: every page that the step went through is held with its entry on that
 /// side, or dropped where it has none. It is filled only where the step changed its entry, or where what is kept doesn't
 /// let the host do there all that the entry does. The frames that the step's walks read are noted before, and only then
-/// those that it wrote are told: the present tables are marked where one of them is both. What is kept for another value
+/// those that it wrote are reported: the present tables are marked where one of them is both. What is kept for another value
 /// of CR3 goes where the step wrote a frame of its tables. Answers how many pages were filled. None where fewer frames are
 /// free than the pages have entries: all is dropped then.
 pub fn settle<S: Shadows>(

@@ -1,4 +1,4 @@
--- What a try at an instruction leaves of what a guest holds, and what is held behind it.
+-- What a try at an instruction leaves of what a guest holds, and what is held after it.
 use Rattle.std.proofs.Common.{◌≡◌, ℕ, ◌+◌, ◌*◌, ◌%◌, ◌≤◌, ◌<◌, ◌^◌, List, length, drop, refl, ap, ◌∙◌, arith}
 use Rattle.descriptors.specs.Controls.{wp_of}
 use Rattle.board.specs.Scripts.{Events}

@@ -1,4 +1,4 @@
--- A step that goes by the rules alone.
+-- A step that follows the rules alone.
 use Rattle.std.proofs.Common.{◌≡◌, ℕ, ◌+◌, List, refl, sym, ap, ◌∙◌}
 use Rattle.board.specs.declared.devices.Board.{Board}
 use Rattle.board.specs.Boards.{board_step}

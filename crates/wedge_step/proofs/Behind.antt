@@ -1,4 +1,4 @@
--- What is kept may be used again behind the accesses of a step.
+-- What is kept may be used again after the accesses of a step.
 use Rattle.std.proofs.Common.{◌≡◌, ◌⊎◌, ℕ, ◌*◌, ◌/◌, ◌^◌, ◌<◌, ◌≤◌, ◌==◌, List, [], ◌∷◌, length, Bool, true, false, ◌||◌, not, cond, Option, Some, None, refl, sym, ap, subst, ◌∙◌, inl, inr, arith}
 use Rattle.std.proofs.lemmas.Bool.Decides.{eqb_tells}
 use Rattle.std.specs.Prelude.{nat_le}
@@ -100,7 +100,7 @@ roots_behind wrote m cpu ram then (o ∷ os) (n ∷ ns) room follows same h = (
 )
 
 module _ {S : Type 0} (shows : shadows.Ghosts S) where
-  -- what a step's memory stands for before its first access and behind its last
+  -- what a step's memory stands for before its first access and after its last
   pub record IsStep (m : Setting) (cpu : Cpu) (s : S) (memory then : List ℕ) (first last : Space) : Type 0 where
     pub follows : Follows first last
     pub ram : first.ram ≡ shown m memory

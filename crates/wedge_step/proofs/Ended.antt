@@ -1,4 +1,4 @@
--- What a run knows behind a step that was settled and ended, and behind one that the host is to do.
+-- What a run knows after a step that was settled and ended, and after one that the host is to do.
 use Rattle.std.proofs.Common.{◌≡◌, ℕ, ◌*◌, ◌/◌, ◌≤◌, Bool, true, false, ◌==◌, eqb, ◌||◌, List, [], ◌∷◌, ◌++◌, length, Option, Some, None, refl, sym, ap, subst, ◌∙◌, arith}
 use Rattle.std.specs.List.{Contains}
 use Rattle.std.specs.Set.{is_member}
@@ -83,7 +83,7 @@ index_used grow steps t visited changes pages told page h =
 -- ---- what is known
 
 module _ {S : Type 0} (shows : shadows.Ghosts S) where
-  -- A step of a run, from what shadows keep over a memory, and the memory behind its accesses.
+  -- A step of a run, from what shadows keep over a memory, and the memory after its accesses.
   pub record IsDone (image : Image) (script : Events) (n : ℕ) (t : Taken) (b : State) (s : S) (memory then : List ℕ) : Type 0 where
     pub taken : IsTakenFrom (wedge image script n) b t
     pub by : t.set ≡ b.set
@@ -106,7 +106,7 @@ module _ {S : Type 0} (shows : shadows.Ghosts S) where
       known_then : IsKnown m steps t.before (sight shows s then) kept
       known_then = still m steps t.before (sight shows s memory) (sight shows s then) kept (record { notes = λ frame e. e; marks = λ e. e; others = d.same }) known
 
-      -- behind a step that was ended
+      -- after a step that was ended
       pub known_went : (w : Worked) (board : Board) (last : Space) (changes : List Change) → stepped m b ≡ went_as b w board last → RootsAs b.cpu w → IsReady shows (ground image n) b.cpu s memory
           → last.set ≡ changed (entries_of (shows.slots s then)) changes → AreToldIn last.visited changes → 4096 * n ≤ length last.ram → AreBytes last.ram
           → Ends w.dropped b.cpu w.cpu (pages_of last.visited changes) last.tables last.wrote last.set (sight shows s then) v'
@@ -121,7 +121,7 @@ module _ {S : Type 0} (shows : shadows.Ghosts S) where
           (over tells comes t b.cpu w last (shows.cr3 s) base changes a d.taken.cpu roots ready.cr3_is set base_is told (shows.slots s memory) (d.by ∙ d.set) (sight shows s then) v' refl ends)
           known_then
 
-      -- behind one that the host does, and that loads no CR3 and leaves the rules and the translations
+      -- after one that the host does, and that loads no CR3 and leaves the rules and the translations
       pub known_asked : (tables wrote : List ℕ) → t.report.tables ≡ tables → t.report.wrote ≡ wrote → is_load t.report.completed ≡ false
           → (t.after.cpu.cr0 ≡ b.cpu.cr0) × (t.after.cpu.cr3 ≡ b.cpu.cr3) × (t.after.cpu.cr4 ≡ b.cpu.cr4) → t.after.set ≡ entries_of v'.slots → 4096 * n ≤ length t.after.ram → AreBytes t.after.ram
           → Tells tables wrote (sight shows s then) v'

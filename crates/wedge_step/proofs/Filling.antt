@@ -167,7 +167,7 @@ fills_within pages few new before after le f = let e = f.enough in record { rise
 pub empty_few : (set : Set) → set ≡ empty → len set ≡ 0
 empty_few set is = ap (λ (s : Set). len s) is ∙ len-empty nat_cmp Entry
 
--- nothing was dropped behind a step, in either of two ways
+-- nothing was dropped after a step, in either of two ways
 pub unlost_first : (P : Bool → Type 0) (kept left : Bool) → (kept || left) ≡ false → P kept → P false
 unlost_first P true left unlost p = absurd (let f : true ≡ false = unlost in cc)
 unlost_first P false left unlost p = p

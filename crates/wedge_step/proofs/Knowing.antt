@@ -91,7 +91,7 @@ all_dropped (dropped.Page page) set e = absurd (let f : false ≡ true = e in cc
 all_dropped (dropped.Dir index) set e = absurd (let f : false ≡ true = e in cc)
 all_dropped dropped.All set e = refl
 
--- it was told what the step read and wrote
+-- it was given what the step read and wrote
 pub told_by : SettlingTells → (t : Taken) (v v' : Sight) (tables wrote : List ℕ) → t.report.tables ≡ tables → t.report.wrote ≡ wrote
     → Tells tables wrote v v' → IsTold t v v'
 told_by tells t v v' tables wrote tables_are wrote_are told =

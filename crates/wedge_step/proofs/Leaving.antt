@@ -31,7 +31,7 @@ no_way false false c a h = let f : false ≡ true = a in cc
 pub stays_by : (v v' : Sight) → ((frame : ℕ) → v'.read_from frame ≡ v.read_from frame) → v'.stale ≡ v.stale → AreSame v.other_roots v'.other_roots → StaysBeside v v'
 stays_by v v' n m a = record { notes = λ frame h. sym (n frame) ∙ h; marks = λ h. sym m ∙ h; others = a }
 
--- what a step that was settled was told
+-- what was given of a step that was settled
 pub tells_by : (v v' : Sight) (tables wrote : List ℕ) (result : Option ℕ) → ((frame : ℕ) → v'.read_from frame ≡ true → read_by v.read_from tables frame ≡ true)
     → MatchOption result (v'.stale ≡ true → v.stale ≡ true) (λ n. v'.stale ≡ (v.stale || list_any (read_by v.read_from tables) wrote))
     → MatchOption result (v'.other_roots ≡ []) (λ n. LoseWrites (guest_frames tables) (all_spared wrote v.other_roots) v'.other_roots) → is_none result ≡ false → Tells tables wrote v v'

@@ -81,7 +81,7 @@ host_left m count old new few l h =
       text = sym (here new) ∙ (ap (λ (l : List ℕ). part l 0 n) l.text ∙ (here old ∙ h.text));
     }
 
--- the same, as a step of a guest's memory tells it
+-- the same, as a step of a guest's memory states it
 pub step_leaves : (image : Image) (frames first count : ℕ) (old new : List ℕ) → 0x100 + text_pages image ≤ frames → 4096 * frames ≤ length old → 4096 * frames ≤ length new → first ≡ 256 → count ≡ text_pages image
     → beyond first count frames new ≡ beyond first count frames old → Leaves (text_pages image) frames old new
 step_leaves image frames first count old new room fits fits_new f k e =

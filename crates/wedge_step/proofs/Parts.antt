@@ -74,7 +74,7 @@ dropping_empty (dropped.Dir index) =
     retained none index q ∙ (ap (λ (o : Option Entry). cond stays o None) (get-empty nat_cmp q) ∙ (cond_none stays ∙ sym (get-empty nat_cmp q))))
 dropping_empty dropped.All = refl
 
--- all may leave before some of them do, and behind that
+-- all may leave before some of them do, and after that
 pub left_twice : (d : Dropped) (first second : Bool) (set mid new : Set) → mid ≡ left_of first set → new ≡ left_of second (dropping d mid) → new ≡ left_of (first || second) (dropping d set)
 left_twice d true true set mid new is then = then
 left_twice d true false set mid new is then = then ∙ (ap (dropping d) is ∙ dropping_empty d)

@@ -1,4 +1,4 @@
--- What is kept may be used again: behind drops, fills and loads of CR3.
+-- What is kept may be used again: after drops, fills and loads of CR3.
 use Rattle.std.proofs.Common.{◌≡◌, ◌⊎◌, ℕ, ◌^◌, ◌<◌, ◌≤◌, List, [], ◌∷◌, Bool, true, false, Option, Some, None, refl, sym, ap, subst, ◌∙◌, inl, inr, arith}
 use Rattle.std.specs.Option.{ForSome}
 use Rattle.std.specs.FinMap.{get, empty, len}
@@ -81,7 +81,7 @@ module _ {S : Type 0} (shows : shadows.Ghosts S) where
           subst (λ (r : List ℕ). IsFoundBy r m.frames cpu.cr3 (pse_of cpu) (shows.read_from new) page slot.entry) (sym ram)
           (found_tables (shown m memory) m.frames cpu.cr3 (pse_of cpu) (shows.read_from old) (shows.read_from new) page slot.entry wider (h.present (unmarked un) page lt k.0 slot e)))
 
-  -- ---- behind the accesses of a step
+  -- ---- after the accesses of a step
 
   -- all that the step left is kept
   pub settled_ready : (out : ℕ → Bool) (m : Setting) (cpu : Cpu) (old new : S) (memory then : List ℕ) (set : Set) (tables wrote : List ℕ)

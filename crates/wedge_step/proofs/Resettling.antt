@@ -1,4 +1,4 @@
--- What is kept behind a step whose pages were settled, or for which frames lacked: for each value of CR3.
+-- What is kept after a step whose pages were settled, or for which frames lacked: for each value of CR3.
 use Rattle.std.proofs.Common.{◌≡◌, ℕ, ◌+◌, ◌^◌, ◌<◌, ◌≤◌, List, [], Bool, true, false, ◌||◌, Option, Some, None, refl, sym, ap, subst, ◌∙◌, arith}
 use Rattle.std.specs.Prelude.{MatchOption, IfSome, IsSome, is_none}
 use Rattle.std.specs.FinMap.{get, empty, get-empty, len}

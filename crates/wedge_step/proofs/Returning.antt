@@ -71,7 +71,7 @@ module _ (m : Setting) (cpu : Cpu) (ram : List ℕ) (cr3 : ℕ) (tables : ℕ �
         inr (record { page_in = s.0; dir_at = there.dir_at; word_at = there.word_at; dirty = there.dirty; found = there.found; accessed = there.accessed; is_dirty = there.is_dirty });
   }
 
--- what is left behind a step
+-- what is left after a step
 pub is_left : (m : Setting) (new : State) (whole : Set) (lost : Lost) → (lost.reloaded ≡ false → new.set ≡ left_of lost.after whole) → (lost.reloaded ≡ true → Loosened m (with_set new whole) new.set) → IsLeft m new whole lost
 is_left m new whole lost exact back = record { allowed = by lost.reloaded refl; exact = exact }
   where

@@ -49,7 +49,7 @@ marked_fit ram (p ∷ ps) n e within fit =
 pub are_in : (n k : ℕ) (marks : List ℕ) → k ≡ n → All (λ at. at < n) marks → All (λ at. at < k) marks
 are_in n k marks e h = subst (λ j. All (λ at. at < j) marks) (sym e) h
 
--- bytes behind bytes of a part
+-- bytes after bytes of a part
 pub part_none : (m xs : List ℕ) (a : ℕ) → xs ≡ xs ++ part m a 0
 unfolding part
 part_none m xs a = sym (append-nil xs)

@@ -1,4 +1,4 @@
--- What is kept may be used again behind the accesses of a step that went, and of one of which nothing more is done.
+-- What is kept may be used again after the accesses of a step that went, and of one of which nothing more is done.
 use Rattle.std.proofs.Common.{◌≡◌, ◌⊎◌, ℕ, ◌+◌, ◌^◌, ◌<◌, ◌≤◌, ◌==◌, List, map, Bool, true, false, cond, not, Some, None, refl, sym, ap, ◌∙◌, inl, inr, arith}
 use Rattle.std.proofs.lemmas.Bool.Decides.{eqb_tells}
 use Rattle.std.specs.Option.{ForSome}
@@ -58,7 +58,7 @@ unfolding step_of
 ground_step image n b = ap (λ (d : Board). stepped (ground image n) (record b { board = d })) (none_given b.board b.step)
 
 module _ {S : Type 0} (shows : shadows.Ghosts S) where
-  -- what a guest's memory and shadows are before a step and behind its accesses
+  -- what a guest's memory and shadows are before a step and after its accesses
   pub record Steps (image : Image) (n : ℕ) (b : State) (s : S) (memory then : List ℕ) : Type 0 where
     pub wedge : IsWedge (ground image n)
     pub host : IsHost (ground image n) memory

@@ -1,4 +1,4 @@
--- What a step comes to of which the host did nothing.
+-- The outcome of a step of which the host did nothing.
 use Rattle.std.specs.Prelude.{◌≡◌, Result, Ok, Err}
 use Rattle.ia32_types.specs.declared.stop.Stop.{Stop}
 use Rattle.machine_step.specs.declared.worked.Seen.{Seen}

@@ -19,13 +19,13 @@ pub record IsTakenFrom (m : Setting) (b : State) (t : Taken) : Type 0 where
   pub stepped : stepped m (with_set b t.set) ≡ Went t.report t.after
 
 module _ {S : Type 0} (g : shadows.Ghosts S) where
-  -- Behind these steps, with what the shadows keep, all is known; and they have tables only under directory indices of pages
+  -- After these steps, with what the shadows keep, all is known; and they have tables only under directory indices of pages
   -- that these steps used.
   pub record IsCarried (m : Setting) (steps : List Taken) (b : State) (s : S) (memory : List ℕ) : Type 0 where
     pub known : IsKnown m steps b (sight g s memory) (entries_of (g.slots s memory))
     pub opened_to : g.has_tables_under s memory (λ index. is_member eqb (indices_in steps) index)
 
-  -- The same of steps behind which a step goes by other translations than what is present.
+  -- The same of steps after which a step uses other translations than what is present.
   pub record IsCarriedBy (m : Setting) (steps : List Taken) (b : State) (kept : Set) (s : S) (memory : List ℕ) : Type 0 where
     pub known : IsKnown m steps b (sight g s memory) kept
     pub opened_to : g.has_tables_under s memory (λ index. is_member eqb (indices_in steps) index)

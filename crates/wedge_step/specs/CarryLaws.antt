@@ -5,7 +5,7 @@ use Rattle.kept_laws.specs.Judged.{TakenOn}
 use Rattle.kept_laws.specs.Known.{KnownAtStart, KnownStill, KnownOn, KnownQuiet}
 use Rattle.kept_laws.specs.OverSteps.{SettlingTells, DroppedComesFrom}
 
--- What is known goes on over a step that the run has settled and ended, by what the shadows were told of it and by what was
+-- What is known goes on over a step that the run has settled and ended, by what the shadows were given of it and by what was
 -- dropped before CR3 was loaded. It stays while the same is kept. A run that is roomy was so before, and its pages lie
 -- under few directory indices, which grow with each step.
 pub record KnownLaws : Type 0 where

@@ -17,7 +17,7 @@ use Rattle.wedge_step.specs.declared.running.Running.{Running}
 abbrev pub standing : {S : Type 0} → Scene S → Stand S
 standing c = stand c.guest.shadows c.pool c.memory
 
--- a step drops no page beyond the address space, and went by the processor's rules
+-- a step drops no page beyond the address space, and followed the processor's rules
 pub record IsWorked (before : Cpu) (state : StepState) (worked : Worked) : Type 0 where
   pub page : IsDropped worked.dropped
   pub rules : state.control.wp ≡ wp_of before
@@ -49,7 +49,7 @@ module _ {S : Type 0} (g : shadows.Ghosts S) where
     pub bound : c.guest.step < 2 ^ 40
     pub enough : 4 ≤ free c + length (frames_in g c)
 
-  -- So many pages were filled behind a step: none where all were dropped.
+  -- So many pages were filled after a step: none where all were dropped.
   abbrev pub HasFilled : Bool → Scene S → StepState → ℕ → Type 0
   HasFilled true c state n = n ≡ 0
   HasFilled false c state n = FillsIn g (side_of (c.guest.cpu.cpl == 3)) (standing c) state n

@@ -34,12 +34,12 @@ module _ {S : Type 0} (g : shadows.Ghosts S) where
     pub filled : CountsFills (kept_in g old) (kept_in g new) old.guest.fills new.guest.fills
     pub frames : new.guest.frames ≡ old.guest.frames
 
-  -- behind these steps, all is known with what the shadows keep
+  -- after these steps, all is known with what the shadows keep
   abbrev pub IsCarriedIn : Image → Events → List Taken → State → Scene S → Type 0
   IsCarriedIn image script steps b c =
       IsCarried g (wedge image script c.guest.frames) steps b c.guest.shadows c.memory
 
-  -- With a whole pool and no notes wanted, what is known of a run goes on over its next step, which goes by this set.
+  -- With a whole pool and no notes wanted, what is known of a run goes on over its next step, which uses this set.
   abbrev pub CarriesOn : Image → Bool → Set → Scene S → Scene S → Type 0
   CarriesOn image notes_wanted set old new =
       (script : Events) (steps : List Taken) (t : Taken) → notes_wanted ≡ false → free old + old.guest.held ≡ 512 → Roomy (steps ++ t ∷ [])

@@ -15,7 +15,7 @@ use Rattle.machine_step.specs.Worked.{dropping}
 use Rattle.wedge_step.specs.Ready.{is_all}
 use Rattle.wedge_step.specs.Sight.{Sheds, with_present}
 
--- The value of CR3 is the same; and unless all was dropped, what is kept was told.
+-- The value of CR3 is the same; and unless all was dropped, what is kept was given these frames.
 pub record IsToldOf (tables wrote : List ℕ) (dropped : Bool) (v v' : Sight) : Type 0 where
   pub same_cr3 : v'.cr3 ≡ v.cr3
   pub tells : dropped ≡ false → Tells tables wrote v v'
@@ -49,7 +49,7 @@ pub record Leaves (worked : Worked) (before : Cpu) (pages : List ℕ) (notes_wan
   pub lost : (RulesSame before worked.cpu → ⊥) → worked.cpu.cr3 ≡ before.cr3 → EmptiesBeside v v' × (entries_of v'.slots ≡ empty)
   pub loads : RulesSame before worked.cpu → is_all worked.dropped ≡ true → notes_wanted ≡ false → 2 ≤ free → Loads worked.cpu.cr3 pages v v'
 
--- How a step that went ends: what is kept was told what it read and wrote, and is then this set. Where the rules and CR3
+-- How a step that went ends: what is kept was given what it read and wrote, and is then this set. Where the rules and CR3
 -- stay, what the instruction drops leaves. Where the rules change, all does. Where CR3 is loaded, these pages leave, and
 -- what is present is put by.
 pub record Ends (dropped : Dropped) (before after : Cpu) (pages tables wrote : List ℕ) (set : Set) (v v' : Sight) : Type 0 where

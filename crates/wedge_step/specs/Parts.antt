@@ -10,7 +10,7 @@ use Rattle.wedge_step.specs.declared.running.Lost.{Lost}
 abbrev pub left_of : Bool → Set → Set
 left_of dropped set = if dropped then empty else set
 
--- What is kept in a state behind a step that left a set: all of it, or nothing where all were dropped. Where the step loaded
+-- What is kept in a state after a step that left a set: all of it, or nothing where all were dropped. Where the step loaded
 -- CR3 and what was kept under the value came back, it is what a run may go on with.
 pub record IsLeft (m : Setting) (new : State) (whole : Set) (lost : Lost) : Type 0 where
   pub allowed : Loosened m (with_set new whole) new.set

@@ -69,7 +69,7 @@ module _ {S : Type 0} (g : shadows.Ghosts S) where
   abbrev pub IsReady : Setting → Cpu → S → List ℕ → Type 0
   IsReady m cpu s memory = IsReadyBut (λ page. false) m cpu s memory
 
-  -- The same behind the accesses of a step, for the translations that it left: it has read these frames as tables, and
+  -- The same after the accesses of a step, for the translations that it left: it has read these frames as tables, and
   -- written those.
   pub record IsReadyBehind (out : ℕ → Bool) (m : Setting) (cpu : Cpu) (s : S) (memory : List ℕ) (set : Set) (tables wrote : List ℕ) : Type 0 where
     pub cr3_is : g.cr3 s ≡ Some cpu.cr3

@@ -101,7 +101,7 @@ module _ {S : Type 0} (g : bound.Ghosts S) where
       Closes (g.slots old.shadows old.memory) (g.slots new.shadows new.memory) (set_behind old state) (pages_through state) side
       state.control.wp (g.write_protected new.shadows) state.wrote
 
-  -- So many pages are filled behind a step, on this side: of those that it went through, each once that has an entry, if the
+  -- So many pages are filled after a step, on this side: of those that it went through, each once that has an entry, if the
   -- step changed that or what is kept doesn't let the host do there all that it does.
   abbrev pub FillsIn : Side → Stand S → StepState → ℕ → Type 0
   FillsIn side c state n =
@@ -126,7 +126,7 @@ module _ {S : Type 0} (g : bound.Ghosts S) where
   abbrev pub IsReadyIn : Setting → Cpu → Stand S → Type 0
   IsReadyIn m cpu c = IsReady g m cpu c.shadows c.memory
 
-  -- so it is behind a step, of what the step left
+  -- so it is after a step, of what the step left
   abbrev pub IsReadyBehindIn : (ℕ → Bool) → Setting → Cpu → Stand S → StepState → Type 0
   IsReadyBehindIn out m cpu c state =
       IsReadyBehind g out m cpu c.shadows c.memory (set_behind c state) state.tables state.wrote

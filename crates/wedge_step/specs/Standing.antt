@@ -53,7 +53,7 @@ module _ {S : Type 0} (g : shadows.Ghosts S) where
   abbrev pub state_of : Setting → Running S → List ℕ → State
   state_of m r memory = record { cpu = r.cpu; ram = shown m memory; set = set_of r memory; board = r.board; step = r.step }
 
-  -- The host's memory has the patched text in the guest's frames, and behind them the pool, of which the guest holds
+  -- The host's memory has the patched text in the guest's frames, and after them the pool, of which the guest holds
   -- its shadows' frames.
   pub record IsHeld (m : Setting) (r : Running S) (pool : Pool) (memory : List ℕ) : Type 0 where
     pub wedge : IsWedge m

@@ -108,7 +108,7 @@ fn uses<S: Shadows>(cpu: &Cpu, shadows: &S, view: &GuestView<'_>) -> Uses
     uses
 }
 
-/// Adds the uses that the bytes of the first page tell of, and those of the next page where an instruction goes on there.
+/// Adds the uses that the bytes of the first page show, and those of the next page where an instruction goes on there.
 fn add_first<S: Shadows>(cpu: &Cpu, shadows: &S, view: &GuestView<'_>, first: Seen, uses: &mut Uses)
     requires stands { ∥ S.stands shadows.now view.now.ram.now ∥₁ }
     requires kept { AreWithin view.now.frames (set_at S.Shadows shadows.now view.now) }
@@ -133,7 +133,7 @@ fn add_first<S: Shadows>(cpu: &Cpu, shadows: &S, view: &GuestView<'_>, first: Se
     }
 }
 
-/// Adds the uses that the bytes of the next page tell of.
+/// Adds the uses that the bytes of the next page show.
 fn add_next<S: Shadows>(
     cpu: &Cpu,
     shadows: &S,

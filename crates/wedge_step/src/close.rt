@@ -97,7 +97,7 @@ pub fn drop_from<S: Shadows>(shadows: &mut S, pool: &mut Pool, ram: &mut Ram, dr
     }
 }
 
-/// What is kept behind a step that is done, but for what the instruction itself drops: nothing, where all were dropped;
+/// What is kept after a step that is done, but for what the instruction itself drops: nothing, where all were dropped;
 /// what was kept under the value of CR3 that it loaded came back.
 #[derive(Clone, Copy)]
 pub struct Left {

@@ -1,19 +1,19 @@
 //! Objects, images and scripts that are cut and spoiled. A line with `--` says what comes.
 
-/// The lengths from one up to another, and the line that `link` tells. The section table begins at 212 and ends the file.
+/// The lengths from one up to another, and the line that `link` prints. The section table begins at 212 and ends the file.
 pub const CUT_OBJECTS: &str = "\
 0 52 refused 40 object 0 at 0
 52 612 refused 40 object 0 at 212
 ";
 
-/// The same that `check` tells. The program headers begin at 52, and the section table ends the file at 8,496.
+/// The same that `check` prints. The program headers begin at 52, and the section table ends the file at 8,496.
 pub const CUT_IMAGES: &str = "\
 0 52 refused 40 at 0
 52 116 refused 40 at 52
 116 8496 refused 40 at 8256
 ";
 
-/// A field, the cause by which the object is refused where it is 0xFFFFFFFF, and the place that is told. The section headers: null
+/// A field, the cause by which the object is refused where it is 0xFFFFFFFF, and the place printed. The section headers: null
 /// at 212, .text at 252, .data at 292, .bss at 332, .pv_sites at 372, .rel.text at 412, .rel.data at 452, .symtab at 492, .strtab
 /// at 532, .shstrtab at 572. Addresses, sh_info and what a null header has are ignored.
 pub const OBJECT_FIELDS: &str = "\
@@ -125,7 +125,7 @@ pub const IMAGE_FIELDS: &str = "\
 8476 40 8216
 ";
 
-/// `cut`, or the byte that stands in the place of another; from where up to where; and the line that is told. A byte that is no
+/// `cut`, or the byte that stands in the place of another; from where up to where; and the line printed. A byte that is no
 /// ASCII in the place of a newline belongs to the line that goes on. 65 is a hexadecimal digit, and no decimal one.
 pub const DAMAGED_SCRIPTS: &str = "\
 cut 0 1 end steps 0

@@ -5,7 +5,7 @@
 pub const HALTS: &str = "_start: hlt\n";
 
 /// Lines: the call of the files that fails, counted from 0, or `-` for none; the put that fails; the status; how many calls of
-/// the files are made; the command. No put fails: where nothing is to be printed the first would, and behind a refusal any
+/// the files are made; the command. No put fails: where nothing is to be printed the first would, and after a refusal any
 /// other. Only `prove` has printed a line where its store fails. A line with `--` says what comes.
 pub const CALLS: &str = "\
 -- Of each command each of its calls fails, and is the last; the store behind what was saved is tried with checkpoints.

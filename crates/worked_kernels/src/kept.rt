@@ -1,8 +1,8 @@
-//! Runs that go by translations which are kept, up to their last step.
+//! Runs that use translations which are kept, up to their last step.
 
-/// Each goes by a translation that is kept, where a walk of the tables as they are would stop. The fourth reads a page, changes
-/// its table word and makes ES null: MOVSL within that page raises #GP before it translates either range, so the handler,
-/// which reads the page in step 20 and shows the word in the next, finds the old frame.
+/// Each uses a translation that is kept, where a walk of the tables as they are would stop. The fourth reads a page, changes
+/// its PTE and makes ES null: MOVSL within that page raises #GP before it translates either range, so the handler,
+/// which reads the page in step 20 and shows the PTE in the next, finds the old frame.
 pub const KEPT_TO_THE_END: &str = "\
 $ : the table word of the text's page names another frame
 $ build

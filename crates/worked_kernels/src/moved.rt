@@ -29,7 +29,7 @@ $ 0 continue --wedge I B N 8
 end steps 8
 ";
 
-/// The file and the name for what is saved behind it may be one.
+/// The file and the name for what is saved after it may be one.
 pub const SAVED_IN_PLACE: &str = "\
 $ copy N C
 $ 0 save --bare I B from N 5 N
@@ -55,7 +55,7 @@ pub const HEAD: &str = "\
 96 10 00 00 00 08 00 00 00 10 00 00 00 10 00 00 00
 ";
 
-/// The same behind these: of the board, of which all other bytes are 0, and where the memory begins that holds the text.
+/// The same after these: of the board, of which all other bytes are 0, and where the memory begins that holds the text.
 pub const BEHIND_HEAD: &str = "\
 132 ff
 139 ff
@@ -121,9 +121,9 @@ pub const SPOILED: &str = "\
 255 1 255
 ";
 
-/// By its place among the kernels that are told of interrupts, or those with users: a count of steps, an offset of what is saved then,
+/// By its place among the kernels that receive interrupts, or those with users: a count of steps, an offset of what is saved then,
 /// and the bytes there. A count of which the high byte is awaited, and the count that runs, of which one step is done; a byte that waits
-/// in the serial port; a processor behind STI, and one that is halted; a user.
+/// in the serial port; a processor after STI, and one that is halted; a user.
 pub const BETWEEN_STEPS: &str = "\
 1 38 142 02 02
 1 49 142 01 00 02 00 00 00 00 00 00 00 0f 00
@@ -133,7 +133,7 @@ pub const BETWEEN_STEPS: &str = "\
 4 40 95 03
 ";
 
-/// Over an image of which IRET to level 3 loads flags with IF 0: a monitor doesn't run this user, and is told so.
+/// Over an image whose IRET to level 3 loads flags with IF 0: a monitor doesn't run this user, and reports it.
 pub const USER_WITHOUT_INTERRUPTS: &str = "\
 $ 0 save --bare I B 2048 40 C
 saved steps 40
@@ -150,7 +150,7 @@ end steps 39 stop 15 UserFlags
 $ lost N
 ";
 
-/// Of a source S: the text has all of the memory behind its first megabyte, and goes on from what was saved.
+/// Of a source S: the text has all of the memory past its first megabyte, and goes on from what was saved.
 pub const FILLS_MEMORY: &str = "\
 $ store B
 $ 0 burn S O

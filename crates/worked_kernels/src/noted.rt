@@ -1,4 +1,4 @@
-//! Runs whose translations are told in a certificate.
+//! Runs whose translations are listed in a certificate.
 
 /// A kernel that a monitor stops.
 pub const READS_ITS_TEXT: &str = "_start: movl 0x10000000,%eax\n";
@@ -25,7 +25,7 @@ Differs(1)|s|8|0|2 out8 03f8 48/2 tx 48/end steps 2 stop 16 CodeIsTable/
 Differs(3)|s|8|0|2 out8 03f8 48/2 tx 48/end steps 9 stop 16 CodeIsTable/
 ";
 
-/// A page is read in step 4 and shown in step 5. Its table word is changed in step 9, and CR0.WP in step 14; in step 17 it is read
+/// A page is read in step 4 and shown in step 5. Its PTE is changed in step 9, and CR0.WP in step 14; in step 17 it is read
 /// again. An OUT has three NOPs after it, and a MOV of a control register two.
 pub const CHANGES_WRITE_PROTECTION: &str = "\
 _start: movl $1,0xC0400000
@@ -62,7 +62,7 @@ no line 2|18 0 1
 no line 2|15 70657 0
 ";
 
-/// Twice adds 1 to a page that 600 directory words lead to, by each of them, and shows it. Each word's table takes a frame of the
+/// Twice adds 1 to a page that 600 PDEs lead to, by each of them, and shows it. Each PDE's table takes a frame of the
 /// monitor's pool. Of its 512 frames the roots hold two, and the text and the first 4 MB one each. So 7 are left after the 501st
 /// addition, and all is dropped before the next, which is step 2407 + 4 * 501. At the round's end 99 tables and the text's are
 /// held, so that 410 frames are left, and 7 after the 403rd addition of the second round, whose first is step 4811: all is
@@ -96,8 +96,8 @@ pub const SHOWN_AFTER_600_TABLES: &str = "\
 end steps 8000
 ";
 
-/// The place that is told of its certificate where the byte there is 255. The first entry's step is 4411, which is 0x113B, and
-/// the second's 6423, 0x1917: a step that falls is told at its first byte, and a page beside kind 1 at the kind.
+/// The place printed for its certificate where the byte there is 255. The first entry's step is 4411, which is 0x113B, and
+/// the second's 6423, 0x1917: a step that falls is reported at its first byte, and a page beside kind 1 at the kind.
 pub const SPOILED_SECOND: &str = "\
 9 24
 10 24

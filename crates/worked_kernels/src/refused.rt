@@ -1,4 +1,4 @@
-//! Sources, objects and images that are refused, by the line that tells why.
+//! Sources, objects and images that are refused, by the line that says why.
 
 /// No object or image is stored where a source or an object is refused; both machines refuse an image or a script.
 pub const REFUSED: &str = "\

@@ -2,7 +2,7 @@
 
 /// What a line shows; the kernels, `s` one that sends a byte, and `t` one that reads its text; the call of the sink that fails,
 /// counted from 0, or `-` for none; what is printed; of each kernel its steps, `bound` or its stop, and its fills; and the
-/// turns. Lines of a text end at each `/`. Where a sink fails nothing is told of ends. A kernel goes through the page of its text
+/// turns. Lines of a text end at each `/`. Where a sink fails no end is printed. A kernel goes through the page of its text
 /// alone, which its first step fills; a step that stops fills none.
 pub const SHARES: &str = "\
 each line has its kernel's number|ss|-|0 2 out8 03f8 48/0 2 tx 48/1 2 out8 03f8 48/1 2 tx 48/\
@@ -32,7 +32,7 @@ pushl $0x11400000
 iret
 ";
 
-/// Twice adds 1 to a page that 166 directory words lead to, by each of them, and loads CR3 behind each round. So it holds more
+/// Twice adds 1 to a page that 166 PDEs lead to, by each of them, and loads CR3 after each round. So it holds more
 /// than 166 frames, and three of it leave fewer than 16 of the pool's 512.
 pub const GOES_OVER_MANY_TABLES: &str = "\
 _start: movl $0xC0001200,%edi
@@ -60,8 +60,8 @@ hlt
 ";
 
 /// A kernel as I, with its script B, whose interrupts come while they are held off. STI is step 35, at 0x10000050, and a MOV to
-/// SS is step 53, at 0x10000055. A NOP behind each is a step still, so the interrupt is the step but one behind, and the saved
-/// EIP, which is shown, that of the NOP behind the first or of the next one.
+/// SS is step 53, at 0x10000055. A NOP after each is a step still, so the interrupt is the step but one after, and the saved
+/// EIP, which is shown, that of the NOP after the first or of the next one.
 pub const IS_HELD_OFF: &str = "\
 $ build
 .data
@@ -115,7 +115,7 @@ $ runs 0 70
 end steps 70
 ";
 
-/// It shares a host with a kernel that sends a byte, J. One of its turns ends behind STI, and one behind the MOV.
+/// It shares a host with a kernel that sends a byte, J. One of its turns ends after STI, and one after the MOV.
 pub const TURNS_END_HELD_OFF: &str = "\
 $ store S
 _start: movl $0x3f8,%edx; movb $0x48,%al; outb %al,%dx; hlt
@@ -148,8 +148,8 @@ $ 0 share C 2048 I B J E
 1 end steps 8
 ";
 
-/// Turns in which it shares a host with itself, four times: those of the first end behind STI, of the second behind the NOP, of
-/// the third before STI, of the last behind the MOV.
+/// Turns in which it shares a host with itself, four times: those of the first end after STI, of the second after the NOP, of
+/// the third before STI, of the last after the MOV.
 pub const FOUR_IN_TURNS: &str = "\
 0 36
 1 37
@@ -213,7 +213,7 @@ pub const FOUR_TIMES: &str = "\
 3 end steps 70
 ";
 
-/// Images that need 2,305 and 2,306 frames, L and M, and a small one, I: the first one that has too few is told, in one put, and
+/// Images that need 2,305 and 2,306 frames, L and M, and a small one, I: the first one that has too few is named, in one put, and
 /// nothing else is written. What the schedule says is tested before.
 pub const ARE_TOO_LARGE: &str = "\
 $ build

@@ -1,6 +1,6 @@
 //! Kernels whose translations stay, or leave.
 
-/// A page is read, its table word is changed to another frame, and a MOVSL copies within the page.
+/// A page is read, its PTE is changed to another frame, and a MOVSL copies within the page.
 pub const COPIES_WITHIN_A_STALE_PAGE: &str = "\
 movl $1,0xC0400000
 movl $2,0xC0401000
@@ -13,7 +13,7 @@ movl $0x11400004,%edi
 movsl
 ";
 
-/// A page is read, its table word is changed to another frame, and it is read before and after an INVLPG.
+/// A page is read, its PTE is changed to another frame, and it is read before and after an INVLPG.
 pub const READS_A_STALE_PAGE: &str = "\
 movl $1,0xC0400000
 movl $2,0xC0401000
@@ -29,7 +29,7 @@ movl 0x11400000,%eax
 outl %eax,$0x80
 ";
 
-/// The same for a page whose place in the buffer of the bare machine, its number modulo 64, no other page of the kernel has.
+/// The same for a page whose place in the TLB of the bare machine, its number modulo 64, no other page of the kernel has.
 pub const READS_A_STALE_PAGE_ALONE: &str = "\
 movl $1,0xC0400000
 movl $2,0xC0401000
@@ -135,7 +135,7 @@ movl 0xC0023000,%eax
 outl %eax,$0x80
 ";
 
-/// Behind a load of CR3 stand two NOPs and behind an OUT three. So a space takes 12 steps with its OUT as the sixth, a
+/// After a load of CR3 stand two NOPs and after an OUT three. So a space takes 12 steps with its OUT as the sixth, a
 /// round 1 + 36 + 3, and round r begins at 17 + 40 r: space s shows its page at 23 + 40 r + 12 s. The change is step
 /// 137. What is shown then is 0x33 of the third space and 1, and the word with the accessed and the dirty flag, which the
 /// first space's walk set in it.

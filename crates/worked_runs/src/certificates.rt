@@ -1,4 +1,4 @@
-//! What `prove` stores and prints is judged yes by `replay`, and what else is given to it is refused or told by its place.
+//! What `prove` stores and prints is judged yes by `replay`, and anything else is refused, or reported by its place.
 
 use crate::commands::{
     answer, are_same, built, byte_in, cut, digits, file, holds, is_so, joined, number_in, place_in,
@@ -42,8 +42,8 @@ yes|3 65536 0
 yes|3 0 1
 ";
 
-/// The same of the kernel with a large page, whose directory word is written in step 4 and walked in step 5: it has no table
-/// word, so its accessed flag is the only one.
+/// The same of the kernel with a large page, whose PDE is written in step 4 and walked in step 5: it has no PTE,
+/// so its accessed flag is the only one.
 const LARGE_ENTRIES: &str = "\
 no entry 0|4 70656 2
 no entry 0|5 70656 2
@@ -51,7 +51,7 @@ yes|6 70656 2
 yes|8 70656 2
 ";
 
-/// The place that is told of a certificate with one entry where the byte there is 255.
+/// The place that is reported for a certificate with one entry where the byte there is 255.
 const SPOILED: &str = "\
 0 0
 1 0
@@ -103,13 +103,13 @@ fn lines(rt: &impl Abort, alloc: Global, text: &str) -> Vec<u8> {
     bytes
 }
 
-/// What `replay` of eight steps comes to.
+/// Whether `replay` of eight steps returns this status and prints this line.
 fn replays(rt: &impl Abort, alloc: Global, files: &mut MemFiles, status: u8, told: &str) -> bool {
     let line = joined(rt, alloc, &[told.as_bytes(), b"\n"]);
     comes_to(rt, alloc, files, "replay I B 2048 8 C T", status, &line)
 }
 
-/// Whether a command comes to this status and prints these lines.
+/// Whether a command returns this status and prints these lines.
 fn comes_to(
     rt: &impl Abort,
     alloc: Global,
@@ -231,7 +231,7 @@ fn spoiled_at(rt: &impl Abort, alloc: Global, bytes: &[u8], at: usize) -> Vec<u8
     spoiled
 }
 
-/// What `prove` printed, without its last line, which tells of the certificate.
+/// What `prove` printed, without its last line, which reports the certificate.
 fn trace_of(rt: &impl Abort, alloc: Global, printed: &[u8]) -> Vec<u8> {
     let (trace, last) = trace_and_last(rt, printed);
     is_so(rt, last, last.starts_with("certificate "));
@@ -245,14 +245,14 @@ fn trace_and_last<'a>(rt: &impl Abort, printed: &'a [u8]) -> (&'a str, &'a str) 
     printed.trim_end().rsplit_once('\n').expect(rt, "two lines")
 }
 
-/// `prove` comes to a status, and its trace is T from here on.
+/// `prove` returns a status, and its trace is T from here on.
 fn proves(rt: &impl Abort, alloc: Global, files: &mut MemFiles, bound: &str, status: u8) {
     let command = text_of(rt, alloc, &["prove I B 2048 ", bound, " C"]);
     let trace = printed_trace(rt, alloc, files, &command, status);
     store(rt, files, "T", &trace);
 }
 
-/// The trace that the command prints that comes to this status.
+/// The trace that the command prints that returns this status.
 fn printed_trace(
     rt: &impl Abort,
     alloc: Global,

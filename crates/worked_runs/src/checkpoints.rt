@@ -93,7 +93,7 @@ fn refuses_with(
     refuses(rt, alloc, files, bytes, printed);
 }
 
-/// A line has an offset, a value for its byte, and the place at which the file is refused with it. A field that is bad is told
+/// A line has an offset, a value for its byte, and the place at which the file is refused with it. A bad field is reported
 /// before a file that is cut, so the first 256 bytes serve.
 fn is_spoiled(
     rt: &impl Abort,
@@ -131,14 +131,14 @@ fn a_file_of_another_length_or_text_is_refused(rt: HostRuntime) {
     is_refused_as_it_changes(&rt, rt.alloc(), &mut files, &mut bytes);
 }
 
-/// One byte too many, which is gone behind it.
+/// One byte too many, which is gone afterwards.
 fn is_too_long(rt: &impl Abort, alloc: Global, files: &mut MemFiles, bytes: &mut Vec<u8>) {
     bytes.push(0).expect(rt, "memory");
     refuses(rt, alloc, files, bytes, "refused 110 at 8388864\n");
     let _ = bytes.pop();
 }
 
-/// Each change comes to those before it.
+/// Each change is added to those before it.
 fn is_refused_as_it_changes(
     rt: &impl Abort,
     alloc: Global,
@@ -158,7 +158,7 @@ fn long_source(rt: &impl Abort, alloc: Global, nops: usize) -> Vec<u8> {
     repeated(rt, alloc, &pages, b"nop\n", nops)
 }
 
-/// What was saved with 2,049 frames, as if there had been one less: the fourth byte behind the file's name is the low one of their
+/// What was saved with 2,049 frames, as if there had been one less: the fourth byte after the file's name is the low one of their
 /// number, and the last page is left out.
 fn loses_a_page(rt: &impl Abort, alloc: Global, files: &mut MemFiles, name: &str) {
     let mut bytes = file(rt, alloc, files, name);
@@ -200,7 +200,7 @@ fn a_store_that_fails_leaves_what_was_printed(rt: HostRuntime) {
     follow_over(&rt, rt.alloc(), &mut files, "$ lost D\n");
 }
 
-/// The store of a command fails, which stands behind so many loads, and this was printed before.
+/// The store that a command does after so many loads fails, and this was printed before.
 fn fails_to_store(
     rt: &impl Abort,
     alloc: Global,
@@ -215,7 +215,7 @@ fn fails_to_store(
     is_so(rt, command, number == 6 && same);
 }
 
-/// A kernel as a session tells it: what makes its image and its script, the bound of its runs, and what they print.
+/// A kernel as a session describes it: what makes its image and its script, the bound of its runs, and what they print.
 #[derive(Clone, Copy)]
 struct Told<'a> {
     made: &'a str,
@@ -223,13 +223,13 @@ struct Told<'a> {
     printed: &'a str,
 }
 
-/// What is told behind so many other kernels of a session.
+/// What a session says after so many other kernels.
 fn text_behind<'a>(rt: &impl Abort, session: &'a str, behind: usize) -> &'a str {
     let mut kernels = session.split("$ : ").skip(1);
     kernels.nth(behind).expect(rt, "a kernel")
 }
 
-/// The kernel behind so many others of a session.
+/// The kernel after so many others of a session.
 fn kernel_behind<'a>(rt: &impl Abort, session: &'a str, behind: usize) -> Told<'a> {
     let (_told, kernel) = cut(rt, text_behind(rt, session, behind), '\n');
     let (made, run) = kernel.split_once("$ runs 0 ").expect(rt, "a run");
@@ -241,7 +241,7 @@ fn kernel_behind<'a>(rt: &impl Abort, session: &'a str, behind: usize) -> Told<'
     }
 }
 
-/// The kernels that are told of interrupts, and behind these the one with a user.
+/// The kernels that receive interrupts, and after these the one with a user.
 fn numbered(rt: &impl Abort, number: usize) -> Told<'static> {
     if number < 4 {
         kernel_behind(rt, EVENTS, number)
@@ -264,7 +264,7 @@ fn goes_on(
     add_before(rt, command, text, out.bytes(), last);
 }
 
-/// What a command printed ends with that line, and what stands before it is put behind the text.
+/// What a command printed ends with that line, and what stands before it is put after the text.
 fn add_before(rt: &impl Abort, command: &str, text: &mut Vec<u8>, bytes: &[u8], last: &str) {
     let len = bytes.len().saturating_sub(last.len());
     is_so(rt, command, are_same(&bytes[len..], last.as_bytes()));
@@ -276,7 +276,7 @@ fn machine_of(row: usize) -> &'static str {
     if row % 2 == 0 { "--bare" } else { "--wedge" }
 }
 
-/// A command is done that saves behind so many steps, which it tells.
+/// A command is done that saves after so many steps, and prints their number.
 fn saves(
     rt: &impl Abort,
     alloc: Global,
@@ -316,7 +316,7 @@ fn ends(
     goes_on(rt, alloc, files, &command, "", text);
 }
 
-/// A kernel moves to the other machine behind each of these counts of steps.
+/// A kernel moves to the other machine after each of these counts of steps.
 fn moves_at(
     rt: &impl Abort,
     alloc: Global,
@@ -400,7 +400,7 @@ fn is_saved_by_host(
     saves(rt, alloc, files, &command, n, text);
 }
 
-/// What is saved has the bytes at the offset of which this tells.
+/// What is saved has the bytes at the offset that the place names.
 fn is_saved_so(rt: &impl Abort, alloc: Global, files: &mut MemFiles, place: &str) -> bool {
     let (at, wanted) = split(rt, place);
     let wanted = listed(rt, alloc, wanted);

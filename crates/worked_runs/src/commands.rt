@@ -1,4 +1,4 @@
-//! Commands over files in memory, what they come to, and the files that they leave.
+//! Commands over files in memory, their results, and the files that they leave.
 
 ghost use Rattle.std.specs.Prelude.{◌≤◌, ◌^◌};
 
@@ -10,7 +10,7 @@ use pv_tool::top;
 use std::alloc::Global;
 use std::process::Abort;
 
-/// What a row of a table or a number tells apart holds.
+/// What a row of a table or a number identifies holds.
 pub fn holds(rt: &impl Abort, row: usize, held: bool) {
     assert!(rt; held, "row {row}");
 }
@@ -41,12 +41,12 @@ pub fn is_word(word: &str, other: &str) -> bool {
     word == other
 }
 
-/// A line's first word, and what stands behind the space after it.
+/// A line's first word, and what follows the space after it.
 pub fn split<'a>(rt: &impl Abort, line: &'a str) -> (&'a str, &'a str) {
     line.split_once(' ').expect(rt, "two words")
 }
 
-/// What stands before a text's first mark, and what stands behind it.
+/// What stands before a text's first mark, and what stands after it.
 pub fn cut<'a>(rt: &impl Abort, text: &'a str, mark: char) -> (&'a str, &'a str) {
     text.split_once(mark).expect(rt, "a mark")
 }
@@ -77,7 +77,7 @@ fn words(rt: &impl Abort, alloc: Global, command: &str) -> Vec<String> {
     words
 }
 
-/// Puts a word behind the others.
+/// Puts a word after the others.
 fn add_word(rt: &impl Abort, alloc: Global, words: &mut Vec<String>, word: &str) {
     let word = if is_word(word, "''") { "" } else { word };
     let word = text_of(rt, alloc, &[word]);
@@ -118,7 +118,7 @@ pub fn printed(rt: &impl Abort, alloc: Global, files: &mut MemFiles, command: &s
     out
 }
 
-/// The call of the files fails that stands behind so many others.
+/// The call of the files after so many others fails.
 pub fn fail_behind(rt: &impl Abort, files: &mut MemFiles, calls: u64) {
     let call = files.calls.wrapping_add(calls);
     files.fail.push(call).expect(rt, "memory");
@@ -138,7 +138,7 @@ pub fn all_held(rt: &impl Abort, alloc: Global, files: &MemFiles) -> Vec<u8> {
     held
 }
 
-/// Puts a name and what it holds behind the bytes.
+/// Puts a name and what it holds after the bytes.
 fn add_held(rt: &impl Abort, held: &mut Vec<u8>, name: &str, bytes: &[u8]) {
     add(rt, held, name.as_bytes());
     add(rt, held, b" ");
@@ -160,7 +160,7 @@ pub fn store(rt: &impl Abort, files: &mut MemFiles, name: &str, bytes: &[u8]) {
     assert!(rt; files.store(name, bytes).is_ok());
 }
 
-/// Puts the piece behind the bytes.
+/// Puts the piece after the bytes.
 pub fn add(rt: &impl Abort, bytes: &mut Vec<u8>, piece: &[u8]) {
     bytes.extend_from_slice(piece).expect(rt, "memory");
 }
@@ -179,7 +179,7 @@ pub fn digits(rt: &impl Abort, alloc: Global, number: usize) -> String {
     format!(in alloc; "{number}").expect(rt, "memory")
 }
 
-/// The pieces, one behind the other.
+/// The pieces, one after the other.
 pub fn joined(rt: &impl Abort, alloc: Global, pieces: &[&[u8]]) -> Vec<u8> {
     let mut bytes = Vec::new(alloc);
     for piece in pieces {
@@ -188,7 +188,7 @@ pub fn joined(rt: &impl Abort, alloc: Global, pieces: &[&[u8]]) -> Vec<u8> {
     bytes
 }
 
-/// The piece so many times behind the bytes.
+/// The piece so many times after the bytes.
 pub fn repeated(
     rt: &impl Abort,
     alloc: Global,

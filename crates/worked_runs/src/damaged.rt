@@ -17,7 +17,7 @@ const CHECK: &str = "check D";
 
 const RUN: &str = "run --bare I D 2048 0";
 
-/// A command tells this line of a file with these bytes, of which the place tells them apart. Files aren't changed where it
+/// A command prints this line for a file with these bytes, which the place distinguishes. Files aren't changed where it
 /// is refused.
 fn is_told(
     rt: &impl Abort,
@@ -35,7 +35,7 @@ fn is_told(
     holds(rt, at, told);
 }
 
-/// The number that a row begins with, and what stands behind it.
+/// The number that a row begins with, and what stands after it.
 fn first<'a>(rt: &impl Abort, row: &'a str) -> (usize, &'a str) {
     let (number, rest) = split(rt, row);
     (place_in(rt, number), rest)
@@ -103,7 +103,7 @@ fn spoiled(
 }
 
 /// The fields from one place up to another, each of which is 0xFFFFFFFF in turn, with the rows of those by which the file is
-/// refused, what a refusal names, and what is told where another one is spoiled.
+/// refused, what a refusal names, and what is printed where another one is spoiled.
 struct Fields<'a> {
     command: &'a str,
     from: usize,
@@ -127,7 +127,7 @@ fn are_fields(
     }
 }
 
-/// What is told where the field at this place is spoiled.
+/// What is printed where the field at this place is spoiled.
 fn told_of(rt: &impl Abort, alloc: Global, fields: &Fields<'_>, at: usize) -> String {
     match refusal(rt, fields.rows, at) {
         Some((cause, place)) => {

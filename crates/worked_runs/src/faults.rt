@@ -45,7 +45,7 @@ fn calls_of<'a>(rt: &impl Abort, line: &'a str) -> Calls<'a> {
     }
 }
 
-/// A command comes to its status, and no put fails.
+/// A command returns its status, and no put fails.
 fn comes_to_status(
     rt: &impl Abort,
     alloc: Global,
@@ -57,7 +57,7 @@ fn comes_to_status(
     is_so(rt, line, number == made.status && out.faults() == 0);
 }
 
-/// It makes these calls of the files, of which one fails where a line names one. A load that fails is told by the status.
+/// It makes these calls of the files, of which one fails where a line names one. A load that fails is reported by the status.
 fn makes_calls(rt: &impl Abort, alloc: Global, files: &mut MemFiles, made: &Calls<'_>, line: &str) {
     let (calls, faults) = (files.calls, files.load_faults);
     if let Some(call) = made.call {
@@ -69,7 +69,7 @@ fn makes_calls(rt: &impl Abort, alloc: Global, files: &mut MemFiles, made: &Call
     is_so(rt, line, faults == u64::from(made.status == 5));
 }
 
-/// None of their names holds other bytes behind it. A line that begins with `--` says what comes.
+/// None of their names holds other bytes afterwards. A line that begins with `--` says what comes.
 fn leaves_all(rt: &impl Abort, alloc: Global, files: &mut MemFiles, line: &str) {
     if line.starts_with("--") {
         return;
@@ -103,7 +103,7 @@ fn comes_to(rt: &impl Abort, alloc: Global, files: &mut SureFiles, line: &str) {
     is_so(rt, line, byte_in(rt, number) == answered);
 }
 
-/// What a command comes to that prints to a sure sink.
+/// The status of a command that prints to a sure sink.
 fn sure_status(rt: &impl Abort, alloc: Global, files: &mut SureFiles, command: &str) -> u8 {
     let mut out = SureSink::new();
     status(rt, alloc, command, files, &mut out, &mut Machine::new())
@@ -124,7 +124,7 @@ fn sure_files_and_a_sure_sink_never_fail(rt: HostRuntime) {
     }
 }
 
-/// Each command over these files comes to what its line says, and no load fails.
+/// Each command over these files has the result that its line states, and no load fails.
 fn never_fail(rt: &impl Abort, alloc: Global, row: usize, files: &mut SureFiles) {
     for line in NEVER_FAILING.lines() {
         comes_to(rt, alloc, files, line);

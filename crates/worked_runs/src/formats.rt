@@ -7,7 +7,7 @@ use std::alloc::Global;
 use std::process::Abort;
 use worked_kernels::{BY_GAPS, CUT_SITES, LONG, ONE_SITE, SENDS_A_BYTE};
 
-/// OUT at 7 and HLT at 12, each with four NOPs behind it, by their gaps.
+/// OUT at 7 and HLT at 12, each with four NOPs after it, by their gaps.
 const GAPS: &[u8] = &[
     0x50, 0x56, 0x53, 0x32, 2, 0, 0, 0, 7, 0, 0, 0x14, 1, 0, 0, 0, 4, 1,
 ];
@@ -37,7 +37,7 @@ fn put_at(file: &mut [u8], at: usize, with: &[u8]) {
     }
 }
 
-/// Annotations of that image, and what is told of it then.
+/// Annotations of that image, and what is printed for it then.
 static ANNOTATED: [(&[u8], &str); 3] = [(GAPS, BY_GAPS), (ONE, ONE_SITE), (b"PV", CUT_SITES)];
 
 #[test]

@@ -43,7 +43,7 @@ fn read(rt: &impl Abort, alloc: Global, lines: &str) -> Parts {
     parts
 }
 
-/// Puts the bytes of a line behind those of its part.
+/// Puts the bytes of a line after those of its part.
 fn read_line(rt: &impl Abort, parts: &mut Parts, line: &str) {
     let (part, bytes) = split(rt, line);
     if is_word(part, "text") {
@@ -88,7 +88,7 @@ fn sizes_of(parts: &Parts, bss: u32) -> Sizes {
     }
 }
 
-/// Puts the header. The section headers stand behind the names. How many entries the tables have, and how long these are.
+/// Puts the header. The section headers stand after the names. How many entries the tables have, and how long these are.
 fn put_header(rt: &impl Abort, out: &mut Vec<u8>, sizes: Sizes) {
     let sections = sizes.names_at().wrapping_add(21);
     put(rt, out, &[0x464C_457F, 0x0001_0101, 0, 0]);

@@ -45,7 +45,7 @@ fn count(lines: &[u8]) -> u64 {
 }
 
 /// The bytes of text and the sites of the image of 7, by GNU as: `as --32` makes 9,543 bytes of the source where each of its
-/// 1,161 sensitive instructions is filled up to five with NOPs, and the link puts two behind these.
+/// 1,161 sensitive instructions is filled up to five with NOPs, and the link puts two after these.
 const MADE_OF_7: (usize, usize) = (9545, 1161);
 
 /// The two lines, of the image and the patched run of that kernel.

@@ -1,4 +1,4 @@
-//! Which instructions of a patched run the host does, and what both machines show of a page whose table word has changed.
+//! Which instructions of a patched run the host does, and what both machines show of a page whose PTE has changed.
 
 use crate::commands::{answer, are_same, built, holds, is_so, sink, status, took};
 use crate::watched::{Begun, Watched};
@@ -26,7 +26,7 @@ const BOOTED: Regs = Regs {
     flags: Flags { bits: 2 },
 };
 
-/// Behind its first MOV, and behind both.
+/// After its first MOV, and after both.
 const MOVED: Regs = Regs {
     r: [0x80_0000, 0, 0x3F8, 0x10_1000, 0xC010_0000, 0, 0, 0],
     eip: 0x1000_0005,
@@ -61,7 +61,7 @@ fn watched(rt: &impl Abort, alloc: Global, source: &[u8], run: &str, lines: &[u8
     host_of(rt, alloc, &mut files, run, lines)
 }
 
-/// The registers behind so many of its two MOVs.
+/// The registers after so many of its two MOVs.
 fn behind(moves: u64) -> Regs {
     match moves {
         0 => BOOTED,
@@ -80,7 +80,7 @@ fn the_host_does_two_instructions_of_four(rt: HostRuntime) {
     ended_so(&rt, &host, 2, 0x04F4_F500);
 }
 
-/// Each run began behind as many of the two MOVs as the host had done, and there was one.
+/// Each run began after as many of the two MOVs as the host had done, and there was one.
 fn begin_behind_moves(rt: &impl Abort, runs: &[Begun]) {
     holds(rt, 0, !runs.is_empty());
     for (k, begun) in runs.iter().enumerate() {
@@ -109,7 +109,7 @@ fn a_site_at_the_start_enters_at_its_place_in_the_window(rt: HostRuntime) {
 }
 
 /// A kernel, a run, and what it may print beside the old read. The first kernel's page shares its place in the bare machine's
-/// buffer with the text, whose fetches drop it; nothing drops that of the second.
+/// TLB with the text, whose fetches drop it; nothing drops that of the second.
 static STALE: [(&str, &str, &[u8]); 3] = [
     (READS_A_STALE_PAGE, "run --bare I B 2048 40", NEW),
     (READS_A_STALE_PAGE, "run --wedge I B 2048 40", OLD),

@@ -1,4 +1,4 @@
-//! Commands over files in memory, and what they come to, read from the lines of a text.
+//! Commands over files in memory, and their results, read from the lines of a text.
 //!
 //! A line that begins with `$ ` is an action. What follows up to the next such line belongs to it, each line with its end:
 //!
@@ -6,7 +6,7 @@
 //! - `$ store NAME`: the name holds these lines from here on.
 //! - `$ build`: the same of the source S, which is burnt to O and linked to I; the script B is then empty.
 //! - `$ image N`: I is the image of these parts and N zeroed bytes: a line begins with `text`, `data` or `site`.
-//! - `$ STATUS COMMAND`: a command comes to this status, and prints exactly these lines. Where it is refused or fails, each
+//! - `$ STATUS COMMAND`: a command returns this status, and prints exactly these lines. Where it is refused or fails, each
 //!   name holds what it held, byte for byte. An empty word is written ''; `$ STATUS` has no words at all.
 //! - `$ cut PUT STATUS COMMAND`: so does one of which this put fails, counted from 0.
 //! - `$ bare STATUS BOUND`, `$ wedge STATUS BOUND`: the run of the image I with the script B and 2,048 frames prints them.
@@ -24,7 +24,7 @@ use pv_io::{Files, MemFiles};
 use std::alloc::Global;
 use std::process::Abort;
 
-/// Does what the text says, over these files. What comes to something else is told by its line.
+/// Does what the text says, over these files. An action with another result is reported by its line.
 pub fn follow_over(rt: &impl Abort, alloc: Global, files: &mut MemFiles, session: &str) {
     let session = session.strip_prefix("$ ").unwrap_or(session);
     let session = session.strip_suffix('\n').unwrap_or(session);
@@ -33,7 +33,7 @@ pub fn follow_over(rt: &impl Abort, alloc: Global, files: &mut MemFiles, session
     }
 }
 
-/// An action, and the lines behind it, of which the last has lost its end.
+/// An action, and the lines after it, the last one without its end.
 fn follow_part(rt: &impl Abort, alloc: Global, files: &mut MemFiles, part: &str) {
     match part.split_once('\n') {
         None => is_so(rt, part, does(rt, alloc, files, part, "")),
@@ -41,20 +41,20 @@ fn follow_part(rt: &impl Abort, alloc: Global, files: &mut MemFiles, part: &str)
     }
 }
 
-/// An action, and the lines behind it without the last one's end.
+/// An action, and the lines after it without the last one's end.
 fn follow_lines(rt: &impl Abort, alloc: Global, files: &mut MemFiles, action: &str, rest: &str) {
     let lines = text_of(rt, alloc, &[rest, "\n"]);
     is_so(rt, action, does(rt, alloc, files, action, &lines));
 }
 
-/// The same over no files, and what is held behind it.
+/// The same over no files, and what is held after it.
 pub fn follow(rt: &impl Abort, alloc: Global, session: &str) -> MemFiles {
     let mut files = no_files(rt, alloc);
     follow_over(rt, alloc, &mut files, session);
     files
 }
 
-/// Whether an action comes to what it says.
+/// Whether an action has the result that it states.
 fn does(rt: &impl Abort, alloc: Global, files: &mut MemFiles, action: &str, lines: &str) -> bool {
     let (verb, rest) = action.split_once(' ').unwrap_or((action, ""));
     if is_word(verb, ":") {
@@ -128,8 +128,8 @@ fn has_bytes(
     }
 }
 
-/// Whether a command that comes to this status leaves all files as they were: one that is refused or fails does, but for a
-/// store that failed, and a sink that fails behind it.
+/// Whether a command that returns this status leaves all files as they were: one that is refused or fails does, but for a
+/// store that failed, and a sink that fails after it.
 fn leaves_files(status: u8, command: &str) -> bool {
     let stores = command.starts_with("burn ") || command.starts_with("link ");
     let saves = command.starts_with("save ");
@@ -137,7 +137,7 @@ fn leaves_files(status: u8, command: &str) -> bool {
     status != 0 && !(status == 6 && (stores || saves || proves)) && !(status == 4 && proves)
 }
 
-/// Whether a command of whose puts those of a list fail comes to a status, and its sink takes these lines. One put has failed
+/// Whether a command, of whose puts those of a list fail, returns a status, and its sink takes these lines. One put has failed
 /// where the status says so. Where it is refused, each name holds what it held.
 pub fn tells(
     rt: &impl Abort,
@@ -180,7 +180,7 @@ fn is_cut(rt: &impl Abort, alloc: Global, files: &mut MemFiles, rest: &str, line
     tells(rt, alloc, files, status, command, &[put], lines)
 }
 
-/// Whether a machine comes to the status and prints these lines, with the bound behind it.
+/// Whether a machine returns the status and prints these lines, with the bound after it.
 fn runs(
     rt: &impl Abort,
     alloc: Global,

@@ -24,7 +24,7 @@ const SHARE_ALL: &str = "share C 2048 I0 B I1 B I2 B I3 B";
 /// The lines with a number, without it.
 fn lines_of(rt: &impl Abort, alloc: Global, text: &[u8], number: u8) -> Vec<u8> {
     let mut lines = Vec::new(alloc);
-    // 0 at a line's first byte, 1 at its second, 2 behind these in a line of the number, 3 in another's
+    // 0 at a line's first byte, 1 at its second, 2 after these in a line of the number, 3 in another's
     let mut place = 0u8;
     for b in text {
         if place == 2 {
@@ -35,7 +35,7 @@ fn lines_of(rt: &impl Abort, alloc: Global, text: &[u8], number: u8) -> Vec<u8> 
     lines
 }
 
-/// The place behind a byte of a line.
+/// The place after a byte of a line.
 fn place_behind(place: u8, b: u8, number: u8) -> u8 {
     match place {
         0 => { if b == number { 1 } else { 3 } }
@@ -65,7 +65,7 @@ fn is_as_alone(
     is_so(rt, run, !mine.is_empty());
 }
 
-/// A command over these files comes to a status, and its sink.
+/// A command over these files returns a status, and its sink.
 fn comes_to(
     rt: &impl Abort,
     alloc: Global,
@@ -127,7 +127,7 @@ fn a_schedule_has_its_limits(rt: HostRuntime) {
     has_turns(&rt, rt.alloc(), &mut files, 1025, MORE);
 }
 
-/// What is told of 1,024 turns, and of one more.
+/// What is printed for 1,024 turns, and for one more.
 const MOST: &str = "$ 0 share C 2048 I B\n0 2 out8 03f8 48\n0 2 tx 48\n0 end steps 1024\n";
 
 const MORE: &str = "$ 3 share C 2048 I B\nrefused 102 line 1025\n";

@@ -1,4 +1,4 @@
--- The map of the buffer after calls, page by page.
+-- The map of the TLB after calls, page by page.
 use Rattle.std.proofs.Common.{◌≡◌, ℕ, ◌/◌, ◌%◌, Bool, cond, not, eqb, List, [], ◌∷◌, sym, ap, ◌∙◌, Option, Some, None, inl, inr}
 use Rattle.std.proofs.lemmas.Bool.Decides.{eqb_tells}
 use Rattle.std.proofs.lemmas.Cmp.{nat_cmp_total}

@@ -1,4 +1,4 @@
--- Calls of the buffer, one after another, and what they leave of a page.
+-- Calls of the TLB, one after another, and what they leave of a page.
 use Rattle.std.specs.Prelude.{ℕ, ◌/◌, ◌%◌, ◌==◌, not, if◌then◌else◌, List, [], ◌∷◌, Option, Some, None}
 use Rattle.std.specs.FinMap.{FinMap, empty, insert, remove, retain_keys}
 use Rattle.std.specs.Ordering.{nat_cmp}

@@ -1,4 +1,4 @@
-//! What keeps translations for a machine, as a trait, and the buffer as one.
+//! What keeps translations for a machine, as a trait, and the TLB as one.
 
 ghost use Rattle.std.specs.Prelude.{◌≡◌, ◌≢◌, ℕ, ◌/◌, ◌<◌, ◌^◌, Bool, true, false, Some, None};
 ghost use Rattle.std.specs.FinMap.{FinMap, get};

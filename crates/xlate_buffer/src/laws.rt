@@ -1,4 +1,4 @@
-//! What calls of the buffer, one after another, leave.
+//! What calls of the TLB, one after another, leave.
 
 ghost use Rattle.std.specs.Prelude.{◌≡◌, ℕ, List};
 ghost use Rattle.std.specs.FinMap.{get};

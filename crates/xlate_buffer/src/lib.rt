@@ -1,4 +1,4 @@
-//! A buffer of 64 translations, at most one for each remainder of a page's number by 64.
+//! A TLB of 64 translations, at most one for each remainder of a page's number by 64.
 #![tactic(auto)]
 
 ghost use Rattle.std.specs.Prelude.{◌≡◌, ◌<◌, ◌^◌, ◌/◌, ◌%◌, ◌==◌, not};

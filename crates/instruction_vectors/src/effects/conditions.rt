@@ -121,7 +121,7 @@ const CONDITIONS: [Condition; 112] = [
     (15, 0xac6, false),
 ];
 
-/// SETcc gives that, and Jcc goes by it; neither changes a flag.
+/// SETcc gives that, and Jcc uses it; neither changes a flag.
 fn agrees(row: &Condition) -> bool {
     let (sel, bits, holds) = *row;
     let set = Insn {

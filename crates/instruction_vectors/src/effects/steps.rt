@@ -5,7 +5,7 @@ use ia32_exec::{Effect, ranges};
 use ia32_types::{Address, Insn, Op, Operand, Reg, Regs, Size};
 use std::process::Abort;
 
-/// An instruction of so many bytes, and what it comes to; a register that is set; or what is seen: registers, EIP, flags,
+/// An instruction of so many bytes, and its outcome; a register that is set; or what is seen: registers, EIP, flags,
 /// a word of the memory, and where an instruction is going to write.
 enum Step {
     Done(Insn, u8, Effect),
@@ -25,7 +25,7 @@ fn is_written_at(insn: &Insn, regs: &Regs, at: u32) -> bool {
     }
 }
 
-/// Whether a step comes to what it says.
+/// Whether a step has the result that it states.
 fn holds(regs: &mut Regs, mem: &mut Flat, row: &Step) -> bool {
     match *row {
         Step::Done(insn, len, effect) => step(&insn, len, regs, mem) == Some(effect),

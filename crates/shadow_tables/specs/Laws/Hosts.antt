@@ -32,7 +32,7 @@ lent-by n page (suc k) zero Kernel write h = refl
 lent-by n page (suc k) zero User write h = lent-none n write
 lent-by n page (suc k) (suc u) side write h = absurd (elim h [ inl e ↦ (omega (arith, e)) | inr e ↦ (omega (arith, e)) ])
 
--- what the rights come to, by the bits of both words, of which those of the directory word are set
+-- the rights that result, by the bits of both words, of which those of the PDE are set
 rights : (f page c d : ℕ) (r h below dirty write : Bool) → (h ≡ true → r ≡ true) →
     reached_by write (cond (not r) Absent (cond below Beyond (Found (record { page = page; frame = f; user = true; write = h; dirty = dirty }) c d))) ≡ cond (cond write h r) (cond {A = Option ℕ} below None (Some f)) None
 rights f page c d true true true dirty true k = refl
@@ -61,7 +61,7 @@ by_word-bits n c page w v write w4 w2 v4 v1 both =
     ∙ ap (walk true true true) v1
     ∙ rights f page x y r h b (has v 0x40) write both
 
--- a word of a page under a directory word with all rights
+-- a word of a page under a PDE with all rights
 by_word-is : (n c page w v : ℕ) (write : Bool) → w % 4096 ≡ 7 → (v ≢ 0 → IsMarked v) → reached_by write (by_word n c page w v) ≡ lent_word n v write
 by_word-is n c page w v write s k =
     elim (eqb_tells v 0) [

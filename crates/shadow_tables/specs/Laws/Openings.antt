@@ -19,7 +19,7 @@ use Rattle.shadow_tables.specs.declared.words.Side.TheVariants.{Kernel, User}
 
 -- ---- the tables of one view
 
--- how many a directory word adds
+-- how many a PDE adds
 count : ℕ → ℕ
 count zero = 0
 count (suc w) = 1

@@ -36,7 +36,7 @@ pub at-side : (s : Shadow) (m : List ℕ) (side : Side) (q : ℕ) → at m (root
 at-side s m Kernel q = refl
 at-side s m User q = refl
 
--- one of both is 0, told in two ways
+-- one of both is 0, stated in two ways
 pub one-none : (k u : ℕ) → (k ≢ 0 → u ≡ 0) → (k ≡ 0) ⊎ (u ≡ 0)
 one-none k u h = elim (eqb_tells k 0) [ inl t ↦ inl t.1 | inr n ↦ inr (h n.1) ]
 

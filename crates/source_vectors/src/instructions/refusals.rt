@@ -54,7 +54,7 @@ loop foo
 cli.
 ";
 
-/// Names of instructions that are refused, whatever stands behind them.
+/// Names of instructions that are refused, whatever follows them.
 const REFUSED: &str = "\
 rdtsc
 cpuid

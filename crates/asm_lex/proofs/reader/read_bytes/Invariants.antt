@@ -6,7 +6,7 @@ use Rattle.asm_lex.specs.Machine.{start_of}
 use Rattle.asm_lex.specs.Readers.{ReadsTo}
 use Rattle.asm_lex.proofs.reader.read_bytes.Given as goal
 
--- what the bytes from here come to, the source comes to
+-- the result of the bytes from here is that of the source
 abbrev pub invariant-loop-i : goal.invariant-loop-i
 invariant-loop-i g l = record {
   so_far : (result : Result (g.row.R.Denot × Mode) SourceFault) → ReadsTo g.R.Reader.takes l.reader l.mode (take l.i l.source) l.i l.line (drop l.i l.source) result

@@ -9,7 +9,7 @@ returns-clause-memory g c = rw c.step_again.ensures.stays.1 refl
 pub returns-clause-comes : goal.returns-clause-comes
 returns-clause-comes g c = λ image script b. c.step_again.ensures.step (bare image script c.args.frames) b (record { has = refl; over = tt })
 
--- nothing that lies behind the frames changed, so memory is as long as it was
+-- nothing that lies past the frames changed, so memory is as long as it was
 pub returns-clause-size : goal.returns-clause-size
 returns-clause-size g c =
     let n = 4096 * c.args.frames in

@@ -7,7 +7,7 @@ use Rattle.elf_form.specs.Stages.{identified}
 use Rattle.elf_form.proofs.TestSteps.{test_fails, test_passes}
 use Rattle.elf_form.proofs.header.identified.Goals as goal
 
--- where the header is wrong by a cause, and the tests behind one
+-- where the header is wrong by a cause, and the tests after one
 abbrev wrong : ℕ → List ℕ → ElfCause → Option ℕ
 wrong wanted bytes = wrong_file wanted (λ _. None) bytes
 

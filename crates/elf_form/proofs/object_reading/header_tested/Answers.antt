@@ -9,7 +9,7 @@ use Rattle.elf_form.proofs.FormLaws.{tested_none}
 use Rattle.elf_form.proofs.TestSteps.{gives_err, fails_first, test_fails, test_passes, passes_first}
 use Rattle.elf_form.proofs.object_reading.header_tested.Goals as goal
 
--- the tests behind one, and the object
+-- the tests after one, and the object
 abbrev later : List ℕ → List ElfCause → Result ObjectParts Fault
 later bytes causes = tested (wrong_object bytes) causes (object_at bytes)
 

@@ -8,7 +8,7 @@ use Rattle.elf_form.proofs.LowerPlaces.{below_as}
 use Rattle.elf_form.proofs.TestSteps.{test_fails, test_passes}
 use Rattle.elf_form.proofs.object_reading.kept_tested.Goals as goal
 
--- the tests behind one, and the object
+-- the tests after one, and the object
 abbrev later : List ℕ → List ElfCause → Result ObjectParts Fault
 later bytes causes = tested (wrong_object bytes) causes (object_at bytes)
 

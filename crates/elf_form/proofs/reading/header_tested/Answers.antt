@@ -11,7 +11,7 @@ use Rattle.elf_form.proofs.FormLaws.{tested_none}
 use Rattle.elf_form.proofs.TestSteps.{gives_err, fails_first, test_fails, test_passes, passes_first}
 use Rattle.elf_form.proofs.reading.header_tested.Goals as goal
 
--- the tests behind one, and the image
+-- the tests after one, and the image
 abbrev later : List ℕ → List ElfCause → Result ImageParts Fault
 later bytes causes = tested (wrong_image bytes) causes (image_at bytes)
 

@@ -19,7 +19,7 @@ use Rattle.guest_sched.specs.declared.tenants.Tenant.{Tenant}
 use Rattle.guest_sched.proofs.Failing.{on_err, failed_in_steps, failed_at_stop}
 use Rattle.guest_sched.proofs.shared.go_on.Goals as goal
 
--- behind the steps of a turn the kernel holds its frames, and may go on where it met no stop
+-- after the steps of a turn the kernel holds its frames, and may go on where it met no stop
 gone_on : (kernel : Kernel) (bound : ℕ) (p p' : Pool) (host host' : List ℕ) (old new : Tenant) (paused : Pause)
     → SliceLeaves of_roots kernel.image bound (scene old.guest p host) (scene new.guest p' host') (Ok paused)
     → GuestLeaves kernel.image kernel.script.list (scene old.guest p host) (scene new.guest p' host') (Ok paused)

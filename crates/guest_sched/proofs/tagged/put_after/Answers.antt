@@ -6,7 +6,7 @@ use Rattle.guest_sched.proofs.Puts.{both, then_front, front_of_both}
 use Rattle.guest_sched.proofs.Takes.{rose_more}
 use Rattle.guest_sched.proofs.tagged.put_after.Goals as goal
 
--- behind a first put that was done
+-- after a first put that was done
 both_done : {T E : Type 0} (result : Result T E) (old mid new : Option (List ℕ)) (xs ys : List ℕ) → Appends old mid xs → OnOk result (Appends mid new ys) → OnOk result (Appends old new (xs ++ ys))
 both_done (Ok done) old mid new xs ys first second = both old mid new xs ys first second
 both_done (Err failed) old mid new xs ys first second = tt

@@ -13,7 +13,7 @@ use Rattle.guest_sched.specs.Tags.{tag_of, tagged}
 use Rattle.guest_sched.proofs.ToldPuts.{same_name, turn_failed, turn_all, unpaused, no_faults}
 use Rattle.guest_sched.proofs.turn.steps_on.Goals as goal
 
--- where the sink has failed, the step reached isn't told
+-- where the sink has failed, the step reached isn't reported
 unpaused_leaves : {S : Type 0} (s : shadows.Ghosts S) (image : Image) (bound : ℕ) (old new : Scene S) (result : Result Pause Failed) (failed : Failed) → SliceLeaves s image bound old new result
     → SliceLeaves s image bound old new (Err failed)
 unpaused_leaves s image bound old new result failed h = record { reached = tt; held = tt; ready = tt; able = tt; counted = h.counted; stands = h.stands; pool = h.pool; few = h.few; filled = h.filled; frames = h.frames }

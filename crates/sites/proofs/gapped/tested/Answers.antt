@@ -5,7 +5,7 @@ use Rattle.sites.specs.Gapped.{is_gapped}
 use Rattle.sites.proofs.Gaps.{test_not, test_more, test_end}
 use Rattle.sites.proofs.gapped.tested.Goals as goal
 
--- a site in place of one behind the end
+-- a site in place of one past the end
 abbrev none : Site
 none = record { at = 0; kind = Cli; len = 0; total = 0 }
 

@@ -4,7 +4,7 @@ use Rattle.std.proofs.lemmas.List.{append_assoc}
 use Rattle.trace_check.specs.Form.{kind_number}
 use Rattle.trace_check.proofs.writing.put_choice.Goals as goal
 
--- three parts, one behind the other
+-- three parts, one after the other
 put_three : (old one two three x y z a b c : List ℕ) → one ≡ old ++ x → two ≡ one ++ y → three ≡ two ++ z → x ≡ a → y ≡ b → z ≡ c → three ≡ old ++ (a ++ (b ++ c))
 put_three old one two three x y z a b c first second third a_is b_is c_is =
     rw (third, second, first, a_is, b_is, c_is) (append_assoc (old ++ a) b c ∙ append_assoc old a (b ++ c))

@@ -22,7 +22,7 @@ use Rattle.wedge_core.proofs.WholeRuns.{whole_put, whole_unput, whole_front, fro
 use Rattle.wedge_core.proofs.run.whole.Given.{Over}
 use Rattle.wedge_core.proofs.run.whole.Goals as goal
 
--- what is told of notes that are not wanted
+-- what is claimed of notes that are not wanted
 abbrev no_notes : List Note → Type 0
 no_notes notes = NotesOn false (λ so_far. ⊥) (λ so_far. ⊥) notes
 

@@ -80,7 +80,7 @@ still_below old mid done bound limit n none lt b = omega (arith, n, none, lt, b)
 room_for_one : (retired then old done bound limit : ℕ) → retired + (bound - old) < limit → old < bound → then ≡ retired + done → done ≤ 0 → then + 1 < limit
 room_for_one retired then old done bound limit h lt e none = omega (arith, h, lt, e, none)
 
--- and the one step behind it
+-- and the one step after it
 begun : (mid new : ℕ) → new ≡ mid + 1 → 0 < new
 begun mid new h = omega (arith, h)
 

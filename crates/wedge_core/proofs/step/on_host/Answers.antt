@@ -213,7 +213,7 @@ module _ (g : Over) (c : goal.After-ram g) where
   lost_same : r2.lost ≡ r1.lost
   lost_same = lost_is g.S.Shadows _ _ _ _ _ _ _ _ _ _ _ once
 
-  -- what is kept is behind the guest's frames, where the host wrote nothing
+  -- what is kept is past the guest's frames, where the host wrote nothing
   under : 4096 * n ≤ 4096 * base_of c.begin_native.new.pool
   under = let low = attempts.leaves.held.behind in omega (arith, low)
 

@@ -18,7 +18,7 @@ first_bytes : (b : State) (x : Seen) (none into : List ℕ) (n : ℕ) → none �
 first_bytes b x none into n e read len = read ∙ (λ j. e j ++ part (marked b.ram x.marks) (4096 * x.frame + b.cpu.regs.eip % 4096) (len j))
 
 module _ (m : Setting) (b : State) (x : Seen) (bytes list : List ℕ) (same : list ≡ bytes) (is : bytes ≡ bytes_seen (marked b.ram x.marks) x b.cpu.regs.eip (front_len b.cpu.regs.eip)) where
-  -- what they tell of
+  -- what they show
   behind : (d : Decoded) → d ≡ decoded list → uses_behind m b x bytes d ≡ uses_from m b (Some x)
   behind d told = ap (uses_behind m b x bytes) (told ∙ ap decoded same) ∙ ap (λ (l : List ℕ). uses_behind m b x l (decoded l)) is
 
