@@ -7,6 +7,7 @@ mod files;
 mod memory;
 mod memory_sinks;
 mod sink;
+mod storing;
 
 pub use answer::{Failed, IoAnswer};
 pub use disk::{DiskFiles, StdSink, read_all};
